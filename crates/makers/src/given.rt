@@ -22,7 +22,9 @@ pub(crate) const FILE: &[u8] = b"from f\n";
 const ROOM: usize = 1000;
 
 /// The expression of a text.
-pub(crate) fn expression_of(alloc: Global, text: &[u8]) -> Result<Expr> {
+pub(crate) fn expression_of(alloc: Global, text: &[u8]) -> Result<Expr>
+    ensures { IfOk result (λ e. length e.nodes ≤ 1000) }
+{
     match sedre::read(alloc, Kind::Basic, text, None, NODES) {
         Ok(expr) => Ok(expr),
         Err(fault) => bail!("the expression is refused: {fault:?}"),

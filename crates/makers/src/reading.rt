@@ -6,6 +6,7 @@ use anyhow::Result;
 use sedmatch::{Occurrences, Scratch, TableMatcher, TableRoom};
 use sedre::{Expr, ExprFault, Kind, Steps};
 use sedscript::{Script, ScriptFault};
+use std::slice;
 
 /// The most bytes of a text that is searched.
 const TEXT: usize = 100;
@@ -18,7 +19,7 @@ pub(crate) fn make(rt: &HostRuntime, name: &str, text: &str) -> Result<bool> {
         "script" => script(rt, text.as_bytes())?,
         "add_part" => add_part(rt, text.as_bytes())?,
         "Scratch::new" => scratch(rt)?,
-        "Occurrences::new" => occurrences(rt)?,
+        "Occurrences::new" => occurrences(rt, text.as_bytes())?,
         "TableMatcher::new" => matcher(rt, text.as_bytes())?,
         _ => return Ok(false),
     }
@@ -82,10 +83,15 @@ fn scratch(rt: &HostRuntime) -> Result<()> {
     Ok(())
 }
 
-fn occurrences(rt: &HostRuntime) -> Result<()> {
+fn occurrences(rt: &HostRuntime, text: &[u8]) -> Result<()> {
+    let expr = expression_of(rt.alloc(), text)?;
+    let room = TableRoom::ample();
+    let matcher = TableMatcher::new(rt.alloc(), &expr, room, &mut Steps::new())?;
     begin(rt);
-    let is_made = Occurrences::new(rt.alloc(), TEXT, NODES).is_ok();
+    let is_made = Occurrences::new(rt.alloc(), TEXT, NODES, slice::from_ref(&matcher)).is_ok();
     end(rt);
+    // by a call: what is let go of where it stands is proved field by field
+    drop(matcher);
     println!(rt; "{is_made}")?;
     Ok(())
 }

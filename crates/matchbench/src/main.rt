@@ -2,20 +2,23 @@
 //!
 //!     matchbench CALL KIND EXPRESSION LENGTH ROUNDS < TEXT
 //!
-//! CALL is `find`, `span` or `match`, by tables that are kept from call to call, or `find-once`, `span-once` or
+//! CALL is `find` or `span`, the first occurrence with its groups or without, or `match`, by tables that are kept from call to call, or `find-once`, `span-once` or
 //! `match-once`, by the calls that keep nothing. KIND is `basic` or `extended`. The text is cut into pieces of LENGTH bytes, the
 //! last one maybe shorter. Each round makes the call once for each piece, from its beginning on. What is printed is
 //! the number of calls with a hit, so it depends on the words and the text alone: `bench/matching` takes the times.
 #![tactic(auto)]
 
-ghost use Rattle.std.specs.Prelude.{◌≡◌, ◌<◌, ◌≤◌, length};
+ghost use Rattle.std.specs.Prelude.{◌≡◌, ◌<◌, ◌≤◌, ◌^◌, None, IfOk, IfSome, length};
+ghost use Rattle.sedre.specs.Arena.{tree};
+ghost use Rattle.sedmatch.specs.Following.{Occurs};
+ghost use Rattle.matchbench.specs.Ready.{IsReady};
 
 use anyhow::{Context, Result, bail, ensure};
-use sedmatch::{Scratch, TableMatcher, TableRoom, Text, find, find_span, is_match};
+use sedmatch::{Occurrences, Scratch, TableMatcher, TableRoom, Text, find, find_span, is_match};
 use sedre::{Expr, Kind, Steps, read};
 use std::alloc::Global;
-use std::env;
 use std::io::Read;
+use std::{env, slice};
 
 /// The longest piece, in bytes.
 const MAX_LENGTH: usize = 1 << 20;
@@ -26,9 +29,9 @@ const MAX_NODES: usize = 16384;
 /// A call of the matcher.
 #[derive(Clone, Copy)]
 enum Call {
-    /// The match and its groups, by tables.
+    /// The first occurrence and its groups, by tables.
     Find,
-    /// Where the match begins and ends, by tables.
+    /// Where the first occurrence begins and ends, by tables.
     Span,
     /// Whether there is one, by tables.
     Match,
@@ -55,25 +58,19 @@ impl Call {
     }
 
     /// Makes the call from the beginning of a piece on, and says whether it has a hit.
-    fn hits(
-        self,
-        expr: &Expr,
-        tables: &mut TableMatcher,
-        piece: &[u8],
-        scratch: &mut Scratch,
-    ) -> bool
-        requires text { length piece.now ≤ scratch.old.text }
-        requires nodes { length expr.now.nodes ≤ scratch.old.nodes }
-        requires tables { length tables.old.nodes ≤ scratch.old.nodes }
-        ensures tables { tables.new ≡ tables.old }
-        ensures scratch { scratch.new ≡ scratch.old }
+    fn hits(self, expr: &Expr, searcher: &mut Searcher, piece: &[u8]) -> bool
+        requires piece { length piece.now ≤ searcher.old.size }
+        requires ready { IsReady expr.now searcher.old }
+        ensures ready { IsReady expr.now searcher.new }
+        ensures size { searcher.new.size ≡ searcher.old.size }
     {
         let text = Text::new(piece);
         let mut steps = Steps::new();
+        let scratch = &mut searcher.scratch;
         match self {
-            Call::Find => tables.find(&text, 0, scratch, &mut steps).is_some(),
-            Call::Span => tables.find_span(&text, 0, scratch, &mut steps).is_some(),
-            Call::Match => tables.is_match(&text, 0, scratch, &mut steps),
+            Call::Find => searcher.finds(expr, &text),
+            Call::Span => searcher.first(expr, &text).is_some(),
+            Call::Match => searcher.tables.is_match(&text, 0, scratch, &mut steps),
             Call::FindOnce => find(expr, &text, 0, scratch, &mut steps).is_some(),
             Call::SpanOnce => find_span(expr, &text, 0, scratch, &mut steps).is_some(),
             Call::MatchOnce => is_match(expr, &text, 0, scratch, &mut steps),
@@ -81,24 +78,15 @@ impl Call {
     }
 
     /// In how many pieces of a text the call has a hit.
-    fn round(
-        self,
-        expr: &Expr,
-        tables: &mut TableMatcher,
-        text: &[u8],
-        size: usize,
-        scratch: &mut Scratch,
-    ) -> u64
-        requires some { 0 < size }
-        requires text { size ≤ scratch.old.text }
-        requires nodes { length expr.now.nodes ≤ scratch.old.nodes }
-        requires tables { length tables.old.nodes ≤ scratch.old.nodes }
-        ensures tables { tables.new ≡ tables.old }
-        ensures scratch { scratch.new ≡ scratch.old }
+    fn round(self, expr: &Expr, searcher: &mut Searcher, text: &[u8]) -> u64
+        requires some { 0 < searcher.old.size }
+        requires ready { IsReady expr.now searcher.old }
+        ensures ready { IsReady expr.now searcher.new }
+        ensures size { searcher.new.size ≡ searcher.old.size }
     {
         let mut hits = 0u64;
-        for piece in text.chunks(size) {
-            if self.hits(expr, tables, piece, scratch) {
+        for piece in text.chunks(searcher.size) {
+            if self.hits(expr, searcher, piece) {
                 hits = hits.saturating_add(1);
             }
         }
@@ -106,25 +94,74 @@ impl Call {
     }
 
     /// The hits of so many rounds, none of them left out.
-    fn rounds(
-        self,
-        count: u32,
-        expr: &Expr,
-        tables: &mut TableMatcher,
-        text: &[u8],
-        size: usize,
-        scratch: &mut Scratch,
-    ) -> u64
-        requires some { 0 < size }
-        requires text { size ≤ scratch.old.text }
-        requires nodes { length expr.now.nodes ≤ scratch.old.nodes }
-        requires tables { length tables.old.nodes ≤ scratch.old.nodes }
+    fn rounds(self, count: u32, expr: &Expr, searcher: &mut Searcher, text: &[u8]) -> u64
+        requires some { 0 < searcher.old.size }
+        requires ready { IsReady expr.now searcher.old }
     {
         let mut hits = 0u64;
         for _ in 0..count {
-            hits = hits.saturating_add(self.round(expr, tables, text, size, scratch));
+            hits = hits.saturating_add(self.round(expr, searcher, text));
         }
         hits
+    }
+}
+
+/// What pieces are searched with.
+#[derive(Drop)]
+struct Searcher {
+    tables: TableMatcher,
+    seeking: Occurrences,
+    scratch: Scratch,
+    /// How many bytes a piece has at most.
+    size: usize,
+}
+
+impl Searcher {
+    /// Room to search pieces of at most so many bytes.
+    fn new(alloc: Global, expr: &Expr, size: usize) -> Result<Searcher>
+        requires size { size ≤ 2 ^ 20 }
+        requires nodes { length expr.now.nodes ≤ 16384 }
+        ensures { IfOk result (λ s. IsReady expr.now s × (s.size ≡ size)) }
+    {
+        let scratch = Scratch::new(alloc, size, MAX_NODES)?;
+        let tables = TableMatcher::new(alloc, expr, TableRoom::ample(), &mut Steps::new())?;
+        let seeking = Occurrences::new(alloc, size, MAX_NODES, slice::from_ref(&tables))?;
+        Ok(Searcher {
+            tables,
+            seeking,
+            scratch,
+            size,
+        })
+    }
+
+    /// Where the first occurrence begins and ends.
+    fn first(&mut self, expr: &Expr, text: &Text) -> Option<(usize, usize)>
+        requires text { length text.now ≤ self.old.size }
+        requires ready { IsReady expr.now self.old }
+        ensures ready { IsReady expr.now self.new }
+        ensures size { self.new.size ≡ self.old.size }
+        ensures occurs { IfSome result (Occurs (tree expr.now) text.now None) }
+    {
+        self.seeking.begin(0);
+        let scratch = &mut self.scratch;
+        self.tables
+            .next_occurrence(text, None, &mut self.seeking, scratch, &mut Steps::new())
+    }
+
+    /// Tells the groups of the first occurrence, and whether there is one.
+    fn finds(&mut self, expr: &Expr, text: &Text) -> bool
+        requires text { length text.now ≤ self.old.size }
+        requires ready { IsReady expr.now self.old }
+        ensures ready { IsReady expr.now self.new }
+        ensures size { self.new.size ≡ self.old.size }
+    {
+        let Some((start, end)) = self.first(expr, text) else {
+            return false;
+        };
+        let scratch = &mut self.scratch;
+        self.tables
+            .groups_of(text, start, end, scratch, &mut Steps::new());
+        true
     }
 }
 
@@ -176,20 +213,12 @@ impl Job {
         );
         let nodes = self.expr.nodes();
         ensure!(nodes <= MAX_NODES, "EXPRESSION has too many nodes");
-        let mut scratch = Scratch::new(alloc, self.size, MAX_NODES)?;
-        let mut steps = Steps::new();
-        let room = TableRoom::ample();
-        let mut tables = TableMatcher::new(alloc, &self.expr, room, &mut steps)?;
-        let hits = self.call.rounds(
-            self.rounds,
-            &self.expr,
-            &mut tables,
-            text,
-            self.size,
-            &mut scratch,
-        );
+        let mut searcher = Searcher::new(alloc, &self.expr, self.size)?;
+        let hits = self
+            .call
+            .rounds(self.rounds, &self.expr, &mut searcher, text);
         // by a call: what is let go of where it stands is proved field by field
-        drop(tables);
+        drop(searcher);
         Ok(hits)
     }
 }

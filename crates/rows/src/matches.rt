@@ -1,18 +1,20 @@
 //! Expressions over texts: the match and its groups. The head of the table tells its fields.
 //!
-//! `find_span` and `is_match` have to tell the same as `find`. All this has to hold by tables as well: of 64 states, of
-//! two, which are emptied again and again, and of none.
+//! `find_span` and `is_match` have to tell the same as `find`. By tables `is_match` has to, and from the text's beginning on the
+//! first occurrence and its groups: by tables of 513 states, of 64, of two, which are emptied again and again, and of none.
 
-ghost use Rattle.std.specs.Prelude.{◌≡◌, ◌≤◌, length};
+ghost use Rattle.std.specs.Prelude.{◌≡◌, ◌≤◌, ◌^◌, [], ◌∷◌, length};
+ghost use Rattle.sedmatch.specs.Occurrences.{RoomFor};
 ghost use Rattle.sedmatch.specs.SearchRoom.{FitInto};
 
 use crate::expressions::kind_named;
+use crate::occurrences::room_to_seek;
 use crate::options::Options;
 use crate::report::{NO_MEMORY, Report};
 use crate::sheet::Sheet;
 use crate::table::Row;
 use sedmatch::{
-    Found, Scratch, StateLimit, TableMatcher, TableRoom, Text, find, find_span, is_match,
+    Found, Occurrences, Scratch, TableMatcher, TableRoom, Text, find, find_span, is_match,
 };
 use sedre::{Expr, Steps, read};
 
@@ -50,6 +52,7 @@ fn run_over(row: &Row, expr: &Expr, text: &[u8], from: usize, report: &mut Repor
     };
     let answers = by_marks(expr, text, from, &mut scratch);
     compare(row, &answers, expr.groups(), report);
+    run_table(row, expr, 513, text, from, &mut scratch, report);
     run_table(row, expr, 64, text, from, &mut scratch, report);
     run_table(row, expr, 2, text, from, &mut scratch, report);
     run_table(row, expr, 0, text, from, &mut scratch, report);
@@ -84,38 +87,82 @@ fn run_table(
 )
     requires from { from ≤ length text.now }
     requires fits { FitInto (length text.now) (length expr.now.nodes) scratch.old }
+    requires text { length text.now ≤ 2 ^ 20 }
+    requires some { 1 ≤ length expr.now.nodes }
     ensures { scratch.new ≡ scratch.old }
 {
     if !report.is_empty() {
         return;
     }
     let room = TableRoom {
-        states: StateLimit::new(states),
+        states,
         bytes: states.saturating_mul(1 << 20),
-        ..TableRoom::ample()
     };
     let made = TableMatcher::new(row.alloc, expr, room, &mut Steps::new());
     let Ok(mut matcher) = made else {
         return report.tell(NO_MEMORY);
     };
-    let answers = by_tables(&mut matcher, text, from, scratch);
+    let is_match = matcher.is_match(&Text::new(text), from, scratch, &mut Steps::new());
+    if is_match == (row.field(4) == b"none".as_slice()) {
+        report.tell("is_match tells otherwise");
+    }
+    if from == 0 {
+        compare_first(row, expr, &mut matcher, text, is_match, scratch, report);
+    }
     // by a call, since letting it go at the end would be proved here field by field
     drop(matcher);
-    compare(row, &answers, expr.groups(), report);
     report.note(" by tables of at most so many states: ", states);
 }
 
-/// What a matcher answers; `find` comes last, with the states that the other calls left.
-fn by_tables(matcher: &mut TableMatcher, text: &[u8], from: usize, scratch: &mut Scratch) -> Answers
-    requires from { from ≤ length text.now }
+/// Whether the first occurrence by tables is what the row says.
+fn compare_first(
+    row: &Row,
+    expr: &Expr,
+    matcher: &mut TableMatcher,
+    text: &[u8],
+    is_match: bool,
+    scratch: &mut Scratch,
+    report: &mut Report,
+)
+    requires matcher { matcher.old ≡ expr.now }
     requires fits { FitInto (length text.now) (length matcher.old.nodes) scratch.old }
+    requires text { length text.now ≤ 2 ^ 20 }
+    requires some { 1 ≤ length expr.now.nodes }
+    ensures { scratch.new ≡ scratch.old }
+{
+    match room_to_seek(row.alloc, expr, matcher, text) {
+        Ok(mut seeking) => {
+            let answers = first_by_tables(matcher, text, is_match, &mut seeking, scratch);
+            compare(row, &answers, expr.groups(), report);
+        }
+        Err(_) => report.tell(NO_MEMORY),
+    }
+}
+
+/// The first occurrence and its groups, as a matcher tells them.
+fn first_by_tables(
+    matcher: &mut TableMatcher,
+    text: &[u8],
+    is_match: bool,
+    seeking: &mut Occurrences,
+    scratch: &mut Scratch,
+) -> Answers
+    requires fits { FitInto (length text.now) (length matcher.old.nodes) scratch.old }
+    requires room { RoomFor (length text.now) (matcher.old ∷ []) seeking.old }
     ensures { scratch.new ≡ scratch.old }
 {
     let text = Text::new(text);
-    let span = matcher.find_span(&text, from, scratch, &mut Steps::new());
-    let is_match = matcher.is_match(&text, from, scratch, &mut Steps::new());
     let mut steps = Steps::new();
-    let found = matcher.find(&text, from, scratch, &mut steps);
+    seeking.begin(0);
+    let span = matcher.next_occurrence(&text, None, seeking, scratch, &mut steps);
+    let found = match span {
+        None => None,
+        Some((start, end)) => Some(Found {
+            start,
+            end,
+            groups: matcher.groups_of(&text, start, end, scratch, &mut steps),
+        }),
+    };
     Answers {
         found,
         steps: steps.count(),

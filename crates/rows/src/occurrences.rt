@@ -1,8 +1,8 @@
 //! Expressions over texts: all occurrences, one after another, each with its groups. The head of the table tells its fields.
 //!
-//! They are found by `next_occurrence` and their groups by `groups_of`, with tables of 64 states, of two and of none.
+//! They are found by `next_occurrence` and their groups by `groups_of`, with tables of 513 states, of 64, of two and of none.
 
-ghost use Rattle.std.specs.Prelude.{◌≡◌, ◌≤◌, ◌^◌, length};
+ghost use Rattle.std.specs.Prelude.{◌≡◌, ◌≤◌, ◌^◌, [], ◌∷◌, IfOk, length};
 ghost use Rattle.sedmatch.specs.Occurrences.{RoomFor};
 ghost use Rattle.sedmatch.specs.SearchRoom.{FitInto};
 
@@ -11,8 +11,10 @@ use crate::matches::{compare_steps, put_spans};
 use crate::report::{NO_MEMORY, Report};
 use crate::sheet::Sheet;
 use crate::table::Row;
-use sedmatch::{Occurrences, Scratch, StateLimit, TableMatcher, TableRoom, Text};
+use sedmatch::{Occurrences, Scratch, TableMatcher, TableRoom, Text};
 use sedre::{Expr, Steps, read};
+use std::alloc::{AllocError, Global};
+use std::slice;
 
 /// What going over all occurrences comes to.
 #[derive(Clone, Copy)]
@@ -45,9 +47,25 @@ fn run_over(row: &Row, expr: &Expr, text: &[u8], report: &mut Report) {
     let Ok(mut scratch) = Scratch::new(row.alloc, text.len(), nodes) else {
         return report.tell(NO_MEMORY);
     };
+    run_table(row, expr, 513, text, &mut scratch, report);
     run_table(row, expr, 64, text, &mut scratch, report);
     run_table(row, expr, 2, text, &mut scratch, report);
     run_table(row, expr, 0, text, &mut scratch, report);
+}
+
+/// Room to seek occurrences of an expression in a text, by one matcher.
+pub(crate) fn room_to_seek(
+    alloc: Global,
+    expr: &Expr,
+    matcher: &TableMatcher,
+    text: &[u8],
+) -> Result<Occurrences, AllocError>
+    requires matcher { matcher.now ≡ expr.now }
+    requires text { length text.now ≤ 2 ^ 20 }
+    requires some { 1 ≤ length expr.now.nodes }
+    ensures { IfOk result (RoomFor (length text.now) (matcher.now ∷ [])) }
+{
+    Occurrences::new(alloc, text.len(), expr.nodes(), slice::from_ref(matcher))
 }
 
 /// Goes over the text with tables of at most so many states, where nothing was told before.
@@ -61,22 +79,21 @@ fn run_table(
 )
     requires fits { FitInto (length text.now) (length expr.now.nodes) scratch.old }
     requires text { length text.now ≤ 2 ^ 20 }
-    requires nodes { length expr.now.nodes ≤ 65536 }
+    requires some { 1 ≤ length expr.now.nodes }
     ensures { scratch.new ≡ scratch.old }
 {
     if !report.is_empty() {
         return;
     }
     let room = TableRoom {
-        states: StateLimit::new(states),
+        states,
         bytes: states.saturating_mul(1 << 20),
-        ..TableRoom::ample()
     };
     let made = TableMatcher::new(row.alloc, expr, room, &mut Steps::new());
     let Ok(mut matcher) = made else {
         return report.tell(NO_MEMORY);
     };
-    match Occurrences::new(row.alloc, text.len(), expr.nodes()) {
+    match room_to_seek(row.alloc, expr, &matcher, text) {
         Ok(mut seeking) => {
             let groups = expr.groups();
             compare(
@@ -107,7 +124,7 @@ fn compare(
     report: &mut Report,
 )
     requires fits { FitInto (length text.now) (length matcher.old.nodes) scratch.old }
-    requires room { RoomFor (length text.now) (length matcher.old.nodes) seeking.old }
+    requires room { RoomFor (length text.now) (matcher.old ∷ []) seeking.old }
     ensures { scratch.new ≡ scratch.old }
 {
     let mut came = Sheet::new(row.alloc);
@@ -146,14 +163,14 @@ fn all_of(
     scratch: &mut Scratch,
 ) -> All
     requires fits { FitInto (length text.now) (length matcher.old.nodes) scratch.old }
-    requires room { RoomFor (length text.now) (length matcher.old.nodes) seeking.old }
+    requires room { RoomFor (length text.now) (matcher.old ∷ []) seeking.old }
     ensures { scratch.new ≡ scratch.old }
 {
     let mut steps = Steps::new();
     let mut group_steps = Steps::new();
     let mut last = None;
     let mut count = 0usize;
-    seeking.begin(matcher, text, scratch);
+    seeking.begin(0);
     'occurrences: for _ in 0..text.len() + 2 {
         let Some((start, end)) = matcher.next_occurrence(text, last, seeking, scratch, &mut steps)
         else {

@@ -1,7 +1,6 @@
 -- The expressions of a script, and their sizes.
-use Rattle.std.proofs.Common.{Result, Ok, Err, Bool, true, false, true≢false, Option, None, ⊎_elim, ◌≡◌, ℕ, ◌+◌, ◌<◌, ◌≤◌, List, [], ◌∷◌, ◌++◌, Some, length, take, get_or, sym, ap, subst, refl, ◌∙◌, arith}
-use Rattle.std.specs.Prelude.{slice_get, IsTrue, IfSome, IfOk, nat_lt, ◌||◌, ◌-◌, if◌then◌else◌}
-use Rattle.std.proofs.lemmas.Bool.Decides.{nat_tests}
+use Rattle.std.proofs.Common.{Result, Ok, Err, ⊎_elim, ◌≡◌, ℕ, ◌+◌, ◌<◌, ◌≤◌, List, [], ◌∷◌, ◌++◌, Some, length, take, get_or, sym, ap, subst, refl, ◌∙◌, arith}
+use Rattle.std.specs.Prelude.{slice_get, IfOk}
 use Rattle.std.proofs.lemmas.Bool.{cases_eq, cases_lt}
 use Rattle.std.proofs.Math.Seq.{take-length}
 use Rattle.std.proofs.lemmas.List.{take_more}
@@ -9,9 +8,8 @@ use Rattle.std.proofs.lemmas.List.Elements.{All-append, All-from_get_or, All-get
 use Rattle.std.proofs.lemmas.Option.{get_or_from_slice_get, slice_get-get_or, slice_get_within}
 use Rattle.sedre.specs.Arena.{Written}
 use Rattle.sedmatch.specs.declared.occurrences.Occurrences.{Occurrences}
-use Rattle.sedmatch.specs.Occurrences.{RoomFor}
-use Rattle.sedscript.specs.declared.substitution.Substitution.{Substitution}
-use Rattle.sedengine.specs.Fitting.{AllFit, RoomToSeek, Seek, seeks_more}
+use Rattle.sedmatch.specs.Occurrences.{KeepsRoom}
+use Rattle.sedengine.specs.Fitting.{AllFit, Seek}
 
 -- the expression of a number fits
 pub fits_at : (most : ℕ) (es : List Written) (k : ℕ) (e : Written) → k < length es → e ≡ get_or es k e → AllFit most es → length e.nodes ≤ most
@@ -69,22 +67,6 @@ fits_all most (e ∷ es) each =
     All-from_get_or (λ (x : Written). length x.nodes ≤ most) (e ∷ es) e
     (λ i inside. each i (get_or (e ∷ es) i e) (slice_get-get_or (e ∷ es) i e inside))
 
--- room for longer texts and larger expressions is room for these
-pub room_within : (text more nodes most : ℕ) (o : Occurrences) → text ≤ more → nodes ≤ most → RoomFor more most o → RoomFor text nodes o
-room_within text more nodes most o short few h = record {
-  places = let p = h.places in omega arith;
-  blocks = let b = h.blocks in omega arith;
-  some = h.some;
-  narrow = h.narrow;
-  rows_there = h.rows_there;
-  edges_fit = λ q inside. let wide = h.edges_fit q inside in omega arith;
-  rows_fit = λ q inside. let wide = h.rows_fit q inside in omega arith;
-}
-
-pub room_if : (text nodes : ℕ) (last : Option ℕ) (o : Occurrences) → RoomFor text nodes o → IfSome last (λ (q : ℕ). RoomFor text nodes o)
-room_if text nodes None o has = tt
-room_if text nodes (Some q) o has = has
-
 pub lower : (i k : ℕ) → i < k + 1 → (i ≡ k → ⊥) → i < k
 lower i k low ne = ⊎_elim (λ (lt : i < k). lt) (λ (ge : k ≤ i). absurd (ne (omega arith))) (cases_lt i k)
 
@@ -103,62 +85,16 @@ most_next es k most more x at before grown here i e low is =
     some_same : (x e : Written) → Some x ≡ Some e → x ≡ e
     some_same x e h = cc
 
--- room for the longest text where a substitution seeks more than one occurrence
-pub room_for_all : (ss : List Substitution) (es : List Written) (text most : ℕ) (o : Occurrences) (more : Bool) →
-    (more ≡ false → (k : ℕ) (s : Substitution) → slice_get ss k ≡ Some s → seeks_more s ≡ false) →
-    ((i : ℕ) (e : Written) → slice_get es i ≡ Some e → length e.nodes ≤ most) → RoomFor (if more then text else 0) most o →
-    RoomToSeek ss es text o
-room_for_all ss es text most o true none few has k s is seeks i e at = room_within text text (length e.nodes) most o (omega arith) (few i e at) has
-room_for_all ss es text most o false none few has k s is seeks i e at = absurd (true≢false (sym seeks ∙ none refl k s is))
-
-or_left : (a b : Bool) → a ≡ true → (a || b) ≡ true
-or_left true b h = refl
-or_left false b h = absurd (true≢false (sym h))
-
-or_right : (a b : Bool) → b ≡ true → (a || b) ≡ true
-or_right true b h = refl
-or_right false b h = h
-
--- a substitution of all occurrences, or of one that isn't the first, seeks more than one
-pub more_of_all : (s : Substitution) → s.global ≡ true → IsTrue (seeks_more s)
-more_of_all s all = or_left s.global (nat_lt 1 s.number) all
-
-pub more_of_later : (s : Substitution) → 1 < s.number → IsTrue (seeks_more s)
-more_of_later s later = or_right s.global (nat_lt 1 s.number) (grind (arith, nat_tests))
-
--- one of the first alone doesn't
-neither : (a b : Bool) → a ≡ false → b ≡ false → (a || b) ≡ false
-neither false b none other = other
-neither true b none other = absurd (true≢false none)
-
-pub not_more : (s : Substitution) → s.global ≡ false → s.number ≤ 1 → seeks_more s ≡ false
-not_more s one first = neither s.global (nat_lt 1 s.number) one (grind (arith, nat_tests))
-
--- there is room after an occurrence, where the substitution is for a later one than the first
-pub room_later : (s : Substitution) (text nodes : ℕ) (last : Option ℕ) (o : Occurrences) → (s.number - 1 ≡ 0 → last ≡ None) →
-    (IsTrue (seeks_more s) → RoomFor text nodes o) → IfSome last (λ (q : ℕ). RoomFor text nodes o)
-room_later s text nodes None o none has = tt
-room_later s text nodes (Some q) o none has =
-    ⊎_elim
-    (λ (later : 1 < s.number). has (more_of_later s later))
-    (λ (first : s.number ≤ 1). let never : Some q ≡ None = none (omega arith) in cc)
-    (cases_lt 1 s.number)
-
--- none of the first substitutions seeks more than one, and one more doesn't
-pub none_more : (ss : List Substitution) (k : ℕ) (x : Substitution) → slice_get ss k ≡ Some x → seeks_more x ≡ false →
-    ((i : ℕ) (s : Substitution) → i < k → slice_get ss i ≡ Some s → seeks_more s ≡ false) →
-    (i : ℕ) (s : Substitution) → i < k + 1 → slice_get ss i ≡ Some s → seeks_more s ≡ false
-none_more ss k x at one_no before i s low is =
-    ⊎_elim
-    (λ (same : i ≡ k).
-    let one : x ≡ s = some_same x s (sym at ∙ ap (λ (j : ℕ). slice_get ss j) (sym same) ∙ is) in
-    subst (λ (v : Substitution). seeks_more v ≡ false) one one_no)
-    (λ (other : i ≡ k → ⊥). before i s (lower i k low other) is)
-    (cases_eq i k)
-  where
-    some_same : (x s : Substitution) → Some x ≡ Some s → x ≡ s
-    some_same x s h = cc
-
 pub ok_with : {A E : Type 0} {P Q : A → Type 0} (r : Result A E) → ((a : A) → P a → Q a) → IfOk r P → IfOk r Q
 ok_with (Ok a) more has = more a has
 ok_with (Err e) more has = tt
+
+-- as much room as before a call is there after the next one too
+pub keeps_trans : (e : Written) (old mid new : Occurrences) → KeepsRoom e old mid → KeepsRoom e mid new → KeepsRoom e old new
+keeps_trans e old mid new first next =
+    (next.0 ∙ first.0, λ text es at room. next.1 text es (rw first.0 at) (first.1 text es at room))
+
+pub kept_on : (e e' e'' : Written) (old skipped first new : Occurrences) → e' ≡ e → e'' ≡ e' → KeepsRoom e old skipped → KeepsRoom e' skipped first →
+    KeepsRoom e'' first new → KeepsRoom e old new
+kept_on e e' e'' old skipped first new same same' one two three =
+    keeps_trans e old first new (keeps_trans e old skipped first one (rw same at two)) (rw (same', same) at three)

@@ -1,10 +1,10 @@
 -- What a substitution does is a move.
-use Rattle.std.proofs.Common.{◌≡◌, ℕ, zero, suc, ◌<◌, ◌≤◌, Bool, true, false, cond, List, [], ◌∷◌, length, Option, Some, Result, Ok, Err, refl, subst, sym, ap, ◌∙◌, arith, Vec, Global}
+use Rattle.std.proofs.Common.{◌≡◌, ℕ, zero, suc, ◌<◌, ◌≤◌, Bool, true, false, cond, List, [], ◌∷◌, length, get_or, Option, Some, Result, Ok, Err, refl, subst, sym, ap, ◌∙◌, arith, Vec, Global}
 use Rattle.std.specs.Prelude.{slice_get}
 use Rattle.std.specs.Option.{option_or}
 use Rattle.sedre.specs.Arena.{Written}
 use Rattle.sedmatch.specs.SearchRoom.{SearchRoom}
-use Rattle.sedmatch.specs.Occurrences.{KeepsRoom}
+use Rattle.sedmatch.specs.Occurrences.{KeepsRoom, RoomFor}
 use Rattle.sedmatch.specs.declared.occurrences.Occurrences.{Occurrences}
 use Rattle.sedscript.specs.declared.substitution.Substitution.{Substitution}
 use Rattle.sedspace.specs.Spaces.{Contents}
@@ -20,6 +20,7 @@ use Rattle.sedengine.specs.Calls.{Puts}
 use Rattle.sedengine.specs.Run.{RunState, at_lines, search_in, setting}
 use Rattle.sedengine.specs.Steps.{Reaches, Moves, Performs}
 use Rattle.sedengine.specs.SubstituteCalls.{Makes, ReplacesIn, same_but_replaced}
+use Rattle.sedengine.specs.Fitting.{RoomToSeek}
 use Rattle.sedengine.specs.Inside.{run_of, tasks_of, IsConsistent, IsEmptied}
 use Rattle.sedengine.specs.declared.machine.Machine.TheInside.{Inside}
 use Rattle.sedengine.specs.declared.place.Place.{Place}
@@ -29,7 +30,8 @@ use Rattle.sedengine.specs.declared.ends.Ended.TheVariants.{PatternFull, NoPrevi
 use Rattle.sedengine.proofs.Writing.{Puts-append, Puts-left}
 use Rattle.sedengine.proofs.Moves.{moves_writing, ran_quietly, stopped_here}
 use Rattle.sedengine.proofs.Tasks.{fits_of}
-use Rattle.sedengine.proofs.Tried.{standing}
+use Rattle.sedengine.proofs.Fitting.{sought, sought_at}
+use Rattle.sedengine.proofs.Tried.{matcher_at, standing}
 
 -- Where a command is reached the pattern space needn't be empty.
 may_hold : (p : Place) (bytes : List ℕ) → reaches (tasks_of p) ≡ true → IsEmptied p bytes
@@ -41,9 +43,9 @@ may_hold p.Ended bytes h = tt
 
 -- the fields of the engine after a substitution with the expression e
 pub replaced_is_run : (a : Inside) (pattern build : Contents) (scratch : SearchRoom) (seeking : Occurrences) (matchers : Vec Written Global) (e : ℕ) (replaced : Bool) → IsConsistent a → reaches (tasks_of a.place) ≡ true → e < length a.script.expressions →
-    pattern.limit ≡ a.pattern.limit → length pattern.bytes ≤ pattern.limit → build.limit ≡ a.build.limit → scratch ≡ a.scratch → KeepsRoom a.seeking seeking → matchers.items ≡ a.matchers.items →
+    pattern.limit ≡ a.pattern.limit → length pattern.bytes ≤ pattern.limit → build.limit ≡ a.build.limit → scratch ≡ a.scratch → RoomToSeek a.script.substitutions a.script.expressions a.limits.space seeking → matchers.items ≡ a.matchers.items →
     IsConsistent (record a { pattern = pattern; build = build; scratch = scratch; seeking = seeking; matchers = matchers; used = Some e; replaced = replaced })
-replaced_is_run a pattern build scratch seeking matchers e replaced i at within limit fits limit' same kept same' = record {
+replaced_is_run a pattern build scratch seeking matchers e replaced i at within limit fits limit' same room same' = record {
   number = i.number;
   turns = i.turns;
   pattern_limit = limit ∙ i.pattern_limit;
@@ -62,10 +64,25 @@ replaced_is_run a pattern build scratch seeking matchers e replaced i at within 
   scratch_text = λ some. ap (λ (r : SearchRoom). r.text) same ∙ i.scratch_text some;
   scratch_nodes = rw (same, same') i.scratch_nodes;
   matchers = rw same' i.matchers;
-  seeking = λ k s is more j x at. kept a.limits.space (length x.nodes) (i.seeking k s is more j x at);
+  seeking = room;
   nodes = i.nodes;
   idle = i.idle;
 }
+
+-- what seeks the expression of a number
+pub one_sought : (a : Inside) (e : ℕ) (m : Written) → IsConsistent a → e < length a.script.expressions → m ≡ get_or a.matchers.items e m →
+    slice_get a.script.expressions e ≡ Some m
+one_sought a e m i within is =
+    let es = a.script.expressions in
+    let there = sought_at es a.limits.nodes a.matchers.items e i.matchers within in
+    subst (λ (xs : List Written). slice_get xs e ≡ Some m) (sought es a.limits.nodes a.matchers.items i.matchers) (matcher_at a.matchers.items e m there is)
+
+-- there is room to seek as before after a call that began with the expression of a number
+pub room_kept : (a : Inside) (e : ℕ) (m : Written) (begun after : Occurrences) → IsConsistent a → slice_get a.script.expressions e ≡ Some m →
+    ((text : ℕ) (es : List Written) → RoomFor text es a.seeking → RoomFor text es begun) → begun.number ≡ e → KeepsRoom m begun after →
+    RoomToSeek a.script.substitutions a.script.expressions a.limits.space after
+room_kept a e m begun after i at room number kept some =
+    kept.1 a.limits.space a.script.expressions (rw number at) (room a.limits.space a.script.expressions (i.seeking some))
 
 -- a move whose pattern space has no room for what it makes
 leads_full : (s : State) (t : Substitution) (ms : List Occurrence) (space : ℕ) → 0 < length ms → space < length (replaced_from s.pattern t.replacement 0 ms) →

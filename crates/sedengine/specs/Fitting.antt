@@ -1,6 +1,6 @@
 -- Private to the proofs: no contract of a public item cites what stands here.
 -- What seeks the expressions of a script.
-use Rattle.std.specs.Prelude.{◌≡◌, ℕ, ◌≤◌, Bool, ◌||◌, List, length, slice_get, Some, IsTrue, nat_lt}
+use Rattle.std.specs.Prelude.{◌≡◌, ℕ, ◌<◌, ◌≤◌, List, length}
 use Rattle.std.specs.List.{All}
 use Rattle.sedre.specs.Arena.{Written}
 use Rattle.sedmatch.specs.declared.occurrences.Occurrences.{Occurrences}
@@ -15,13 +15,6 @@ AllFit most es = All (λ e. length e.nodes ≤ most) es
 unfoldable pub Seek : List Written → ℕ → List Written → Type 0
 Seek es most ms = (ms ≡ es) × AllFit most ms
 
--- whether a substitution seeks more than one occurrence
-abbrev pub seeks_more : Substitution → Bool
-seeks_more s = s.global || nat_lt 1 s.number
-
--- Where one of the substitutions seeks more than one occurrence, there is room for that in texts of so many bytes, for each
--- of the expressions.
+-- where there are substitutions, there is room to seek occurrences of these expressions in texts of so many bytes
 abbrev pub RoomToSeek : List Substitution → List Written → ℕ → Occurrences → Type 0
-RoomToSeek ss es text o =
-    (k : ℕ) (s : Substitution) → slice_get ss k ≡ Some s → IsTrue (seeks_more s) →
-    (i : ℕ) (e : Written) → slice_get es i ≡ Some e → RoomFor text (length e.nodes) o
+RoomToSeek ss es text o = 0 < length ss → RoomFor text es o

@@ -81,7 +81,7 @@ SeeksAsBefore old new before after = (new ≡ old) × (after ≡ before)
 
 -- there is as much room as before, and what is kept serves to search after the occurrences skipped, if there are so many
 abbrev pub ServesAfter : Written → List ℕ → Option (Option ℕ) → Occurrences → Occurrences → Type 0
-ServesAfter e w skipped old new = KeepsRoom old new × IfSome skipped (λ last. Serves e w last new)
+ServesAfter e w skipped old new = KeepsRoom e old new × IfSome skipped (λ last. Serves e w last new)
 
 -- the steps that the searches may still take after the occurrences skipped: none where there are fewer
 abbrev pub owed_skipped : ℕ → ℕ → Option (Option ℕ) → Occurrences → ℕ

@@ -46,7 +46,7 @@ pub(crate) struct Machine {
     build: Space,
     queue: Queue,
     scratch: Scratch,
-    // How far a substitution that seeks more than one occurrence has searched.
+    // How far a substitution has searched.
     seeking: Occurrences,
     // For each regular expression of the script, what seeks it.
     matchers: Vec<TableMatcher>,

@@ -1,38 +1,13 @@
 //! What seeks the expressions of a script.
-ghost use Rattle.std.specs.Prelude.{◌≡◌, ◌<◌, ◌≤◌, ℕ, false, IfOk, Some, length, slice_get};
+ghost use Rattle.std.specs.Prelude.{◌≡◌, ◌<◌, ◌≤◌, ℕ, IfOk, Some, length, slice_get};
 ghost use Rattle.sedre.specs.Arena.{Written};
-ghost use Rattle.sedscript.specs.declared.substitution.Substitution.{Substitution};
-ghost use Rattle.sedengine.specs.Fitting.{AllFit, RoomToSeek, Seek, seeks_more};
+ghost use Rattle.sedengine.specs.Fitting.{AllFit, RoomToSeek, Seek};
 
 use crate::limits::Limits;
-use sedmatch::{Occurrences, Scratch, StateLimit, TableMatcher, TableRoom};
+use sedmatch::{Occurrences, Scratch, TableMatcher, TableRoom};
 use sedre::Steps;
 use sedscript::Script;
 use std::alloc::{AllocError, Global};
-
-/// How many states all tables of one sort have together, as long as none has fewer than [`FEWEST_STATES`].
-const STATES_OF_ALL: usize = 16_384;
-
-/// A script with more expressions than this has no tables.
-const MOST_EXPRESSIONS: usize = 16_384;
-
-/// The most states that a table has.
-const MOST_STATES: usize = 64;
-
-/// With fewer states than this a table fills up so soon that it saves hardly any time.
-const FEWEST_STATES: usize = 8;
-
-/// How many states each table has in a script of this many expressions: fewer where there are many, and none where even
-/// the fewest for each would be too many.
-fn states_for(expressions: usize) -> usize
-    ensures { result ≤ 64 }
-{
-    if expressions > MOST_EXPRESSIONS {
-        return 0;
-    }
-    let each = STATES_OF_ALL / expressions.max(1);
-    each.clamp(FEWEST_STATES, MOST_STATES)
-}
 
 /// A matcher for each expression of the script, in its order. What one finds out at a line serves at all later lines. Where there
 /// is room for the tables of some expressions alone, these are the first.
@@ -46,15 +21,13 @@ pub(crate) fn matchers_of(
     ensures { IfOk result (λ ms. Seek script.now.expressions most_nodes ms.items) }
 {
     let count = script.expressions();
-    let states = StateLimit::new(states_for(count));
-    let mut bytes = TableRoom::ample().bytes;
+    let mut room = TableRoom::ample();
     // What is found out once is counted, and the count let go of.
     let mut steps = Steps::new();
     let mut matchers = Vec::with_capacity(alloc, count)?;
     for k in 0..count {
-        let room = TableRoom { states, bytes };
         let matcher = TableMatcher::new(alloc, script.expr(k), room, &mut steps)?;
-        bytes = bytes.saturating_sub(matcher.size_of_tables());
+        room.bytes = room.bytes.saturating_sub(matcher.size_of_tables());
         matchers.push(matcher)?;
     }
     Ok(matchers)
@@ -95,22 +68,7 @@ pub(crate) fn room_to_search(
     Scratch::new(alloc, longest, most)
 }
 
-/// Whether a substitution of the script seeks more than one occurrence.
-fn seeks_more_than_one(script: &Script) -> bool
-    ensures { result ≡ false → (k : ℕ) (s : Substitution) → slice_get script.now.substitutions k ≡ Some s →
-        seeks_more s ≡ false }
-{
-    for k in 0..script.substitutions() {
-        let substitution = script.substitution(k);
-        if substitution.global || substitution.number > 1 {
-            return true;
-        }
-    }
-    false
-}
-
-/// Room to seek several occurrences in a text as long as a space may be: little where no substitution of the script seeks
-/// more than one.
+/// Room to seek occurrences in a text as long as a space may be: little where the script has no substitution.
 pub(crate) fn room_to_seek(
     alloc: Global,
     script: &Script,
@@ -121,11 +79,8 @@ pub(crate) fn room_to_seek(
     ensures { IfOk result (RoomToSeek script.now.substitutions script.now.expressions limits.now.space) }
 {
     let most = most_nodes(matchers, limits.nodes());
-    let space = limits.space();
-    let longest = if seeks_more_than_one(script) {
-        space
-    } else {
-        0
-    };
-    Occurrences::new(alloc, longest, most)
+    if script.substitutions() == 0 {
+        return Occurrences::new(alloc, 0, most, &[]);
+    }
+    Occurrences::new(alloc, limits.space(), most, matchers)
 }

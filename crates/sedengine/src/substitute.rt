@@ -4,14 +4,13 @@ ghost use Rattle.sedre.specs.Arena.{tree};
 ghost use Rattle.sedmatch.specs.Costs.{Pays};
 ghost use Rattle.sedre.specs.Steps.{Takes};
 ghost use Rattle.sedmatch.specs.Following.{EndsWithin, LiesOn};
-ghost use Rattle.sedmatch.specs.Occurrences.{KeepsRoom, RoomFor, Serves, ServesOn, owed, owed_after};
+ghost use Rattle.sedmatch.specs.Occurrences.{KeepsRoom, Serves, ServesOn, owed, owed_after};
 ghost use Rattle.sedmatch.specs.SearchRoom.{FitInto};
 ghost use Rattle.sedmatch.specs.Matching.{report};
 ghost use Rattle.sedmatch.specs.Parts.{part_of, span_of};
 ghost use Rattle.sedmatch.specs.Spans.{Spans};
 ghost use Rattle.sedscript.specs.Replacement.{GroupsWithin, pieces_in};
 ghost use Rattle.sedengine.specs.Substitute.{to_replace, occurrences, put_for, replaced_from};
-ghost use Rattle.sedengine.specs.Fitting.{seeks_more};
 ghost use Rattle.sedengine.specs.Run.{search_for};
 ghost use Rattle.sedengine.specs.SubstituteParts.{Appends, GroupsIn, GroupsOf, IsNext, Replaces};
 ghost use Rattle.sedengine.specs.SubstituteParts.{SeeksAsBefore, ServesAfter, Skips, has_group, later_cost, owed_skipped};
@@ -43,15 +42,14 @@ pub(crate) fn build_text(
     requires fits { FitInto (length text.now) (length matcher.old.nodes) scratch.old }
     requires short { length text.now ≤ build.old.limit }
     requires number { 1 ≤ substitution.now.number }
-    requires more { IsTrue (seeks_more substitution.now) →
-        RoomFor (length text.now) (length matcher.old.nodes) seeking.old }
+    requires serves { Serves matcher.old text.now None seeking.old }
     ensures replaces { Replaces text.now substitution.now.replacement
         (to_replace substitution.now.number substitution.now.global
         (occurrences (search_for (Some matcher.old) text.now) (length text.now)))
         build.old.limit build.new.bytes result }
     ensures limit { build.new.limit ≡ build.old.limit }
     ensures same { SeeksAsBefore matcher.old matcher.new scratch.old scratch.new }
-    ensures kept { KeepsRoom seeking.old seeking.new }
+    ensures kept { KeepsRoom matcher.old seeking.old seeking.new }
     ensures cost { Takes steps.old steps.new (416 * length matcher.old.nodes * (length text.now + 1)) }
     ensures group_cost { let m = length matcher.old.nodes in let n = length text.now in
         Takes group_steps.old group_steps.new (51 * m * m * (n + 1) * (n + 1)
@@ -60,7 +58,6 @@ pub(crate) fn build_text(
     ensures linear_group_cost { let m = length matcher.old.nodes in let n = length text.now in
         Takes group_steps.old group_steps.new (172 * m * m * (n + 1)) }
 {
-    seeking.begin(matcher, &Text::new(text), scratch);
     let skipped = substitution.number - 1;
     let Some(last) = end_of_skipped(matcher, text, skipped, seeking, scratch, steps, group_steps)
     else {
@@ -108,12 +105,8 @@ fn end_of_skipped(
     group_steps: &mut Steps,
 ) -> Option<Option<usize>>
     requires fits { FitInto (length text.now) (length matcher.old.nodes) scratch.old }
-    requires more { 0 < count → RoomFor (length text.now) (length matcher.old.nodes) seeking.old }
     requires serves { Serves matcher.old text.now None seeking.old }
-    requires owed { owed (length matcher.old.nodes) (length text.now) None seeking.old
-        ≡ 416 * length matcher.old.nodes * (length text.now + 1) }
     ensures skips { Skips matcher.old text.now count result }
-    ensures none { count ≡ 0 → result ≡ Some None }
     ensures same { SeeksAsBefore matcher.old matcher.new scratch.old scratch.new }
     ensures serves { ServesAfter matcher.old text.now result seeking.old seeking.new }
     ensures cost { let m = length matcher.old.nodes in let n = length text.now in
@@ -168,7 +161,6 @@ fn next_occurrence(
 ) -> Option<(usize, usize)>
     requires last { EndsWithin (length text.now) last }
     requires fits { FitInto (length text.now) (length matcher.old.nodes) scratch.old }
-    requires more { IfSome last (λ _. RoomFor (length text.now) (length matcher.old.nodes) seeking.old) }
     requires serves { Serves matcher.old text.now last seeking.old }
     ensures next { IsNext matcher.old text.now last result }
     ensures groups { GroupsOf matcher.old text.now wanted result groups.new }
@@ -234,14 +226,12 @@ fn append_replaced(
     requires lies { LiesOn (length text.now) None first }
     requires groups { GroupsOf matcher.old text.now (has_group substitution.now.replacement) (Some first) groups.old }
     requires groups_in { GroupsIn (length text.now) groups.old }
-    requires more { IsTrue substitution.now.global →
-        RoomFor (length text.now) (length matcher.old.nodes) seeking.old }
     requires serves { Serves matcher.old text.now (Some first.1) seeking.old }
     ensures appends { Appends build.old build.new
         (replaced_from text.now substitution.now.replacement 0
         (pending matcher.old text.now substitution.now.global (Some first))) result }
     ensures same { SeeksAsBefore matcher.old matcher.new scratch.old scratch.new }
-    ensures kept { KeepsRoom seeking.old seeking.new }
+    ensures kept { KeepsRoom matcher.old seeking.old seeking.new }
     ensures cost { let m = length matcher.old.nodes in let n = length text.now in
         Takes steps.old steps.new (owed m n (Some first.1) seeking.old) }
     ensures group_cost { let m = length matcher.old.nodes in let n = length text.now in

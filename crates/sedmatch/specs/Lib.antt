@@ -7,14 +7,7 @@ pub use Rattle.sedmarks.specs.SearchRoom
 pub use Rattle.sedmarks.specs.Costs
 pub use Rattle.sedmarks.specs.NextMatch
 pub use Rattle.sedmarks.specs.Following
-pub mod Tables
-pub mod Longest
-pub mod Linear
-pub mod Ready
-pub mod Between
-pub mod Trail
-pub mod Sight
+pub mod Direct
 pub mod Candidates
-pub mod BackPass
+pub mod Passes
 pub mod Occurrences
-pub mod GroupMatcher

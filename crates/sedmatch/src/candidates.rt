@@ -7,30 +7,11 @@ ghost use Rattle.sedre.specs.Tree.{Tree};
 ghost use Rattle.sedre.specs.Steps.{Takes};
 ghost use Rattle.sedneedles.specs.Needed.{IsNeeded};
 ghost use Rattle.sedmatch.specs.Candidates.{NoMatchBefore};
-ghost use Rattle.sedmatch.specs.Sight.{IsSight};
 
-use crate::sight::{Sight, find_first};
-use sedmarks::counted::{Text, are_bytes};
+use sedmarks::counted::Text;
 use sedneedles::lookups::find_literal;
 use sedneedles::needed::Needed;
 use sedre::Steps;
-
-/// A place of the text before which no line has a match that looks like this, or None where no line has one.
-pub fn sight_candidate(sight: &Sight, text: &Text, steps: &mut Steps) -> Option<usize>
-    ensures before { (e : Tree) → IsSight e sight.now → NoMatchBefore e text.now result }
-    ensures cost { Takes steps.old steps.new (25 * (length text.now + 1)) }
-{
-    are_bytes(text);
-    match sight {
-        Sight::One(first) => find_first(first, text, 0, steps),
-        Sight::Led(first, _) => find_first(first, text, 0, steps),
-        Sight::Trail(_, last) => find_first(last, text, 0, steps),
-        Sight::Between(between) => between.start(text, 0, steps),
-        Sight::Word(word) => word.start(text, 0, steps),
-        Sight::Choice(choice) => choice.start(text, 0, steps),
-        Sight::Run(_) | Sight::Times(_, _) => Some(0),
-    }
-}
 
 /// A place of the text before which no line has a match that holds the literal, or None where no line has one.
 pub fn needed_candidate(needed: &Option<Needed>, text: &Text, steps: &mut Steps) -> Option<usize>

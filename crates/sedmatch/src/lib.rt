@@ -1,47 +1,33 @@
 //! The search for the match that begins earliest and of those is the longest, with its groups (XBD 9.1).
 //!
-//! [`find`] answers it whole, [`find_span`] without the groups, [`is_match`] only whether there is one. They go over
-//! the text with marks at the nodes of the expression, without backtracking, so that their steps are bounded for every
-//! expression and text: with `m` nodes and `n` bytes at most `64 * m * (n + 1)` where there is no match,
-//! `96 * m * (n + 1)` for a match without groups, and `64 * m * m * (n + 1) * (n + 1)` for one with groups. A step is
-//! one look at a node, a byte, a mark or a cell of a table. They work in the room of a [`Scratch`] and take no memory.
-//! They stand in `sedmarks`.
+//! A [`TableMatcher`] seeks an expression that is used many times. An expression whose matches a look at the text tells, as a
+//! literal, is sought so ([`direct`]); any other by passes over the text, whose tables remember what was found out at one place
+//! for all others and for later texts ([`passes`], over `sedpass`). Whether there is a match takes at most `64 * m * (n + 1)`
+//! steps, with `m` nodes and `n` bytes. [`TableMatcher::next_occurrence`] goes over all occurrences in one text: at most
+//! `416 * m * (n + 1)` steps together, and each of them `64 * m * m * (n + 1) * (n + 1)` ([`Occurrences`]).
+//! [`TableMatcher::groups_of`] tells the groups of one of them, in steps in proportion to its length. A step is one look at a node,
+//! a byte, a mark or a cell of a table.
 //!
-//! A [`TableMatcher`] keeps what such a search finds out of an expression, and looks it up in the next one: at nearly
-//! every place that is one cell of a table in place of all nodes. Where a match begins and ends then takes at most
-//! `128 * m * (n + 1)` steps, whatever the answer. What an expression tells of all
-//! its matches is found out once, when such a matcher is made: a literal that they hold, the rarest bytes at fixed
-//! distances after their beginning (both in `sedneedles`), and whether they are seen at the first look.
+//! [`find`] seeks an expression that is used once, with its groups; [`find_span`] without them, and [`is_match`] only whether
+//! there is a match. They stand in `sedmarks`.
 //!
-//! [`TableMatcher::next_occurrence`] goes over all occurrences in one text. They take at most `416 * m * (n + 1)`
-//! steps together, whatever the answers: where searches look far past their matches, one pass from the text's end
-//! tells the later ones where to stop ([`Occurrences`]). [`TableMatcher::groups_of`] tells the groups of one of them.
+//! All of them work in the room of a [`Scratch`], and take no memory.
 #![tactic(auto)]
 
-mod anywhere;
-mod back_pass;
-mod backwards;
-mod between;
 mod candidates;
-mod classes;
-mod group_matcher;
-mod linear;
+mod direct;
 mod occurrences;
-mod ready;
+mod passes;
+mod runs_back;
 mod scratch;
-mod sight;
-mod state_limit;
 mod table_matcher;
 mod table_room;
-mod tables;
-mod trail;
 mod whole;
 mod word;
 
 pub use occurrences::Occurrences;
 pub use scratch::Scratch;
 pub use sedmarks::{Found, Marks, Text, found_law, groups_law, spans_law};
-pub use state_limit::StateLimit;
 pub use table_matcher::TableMatcher;
 pub use table_room::TableRoom;
 pub use whole::{find, find_span, is_match};

@@ -1,306 +1,318 @@
 //! All occurrences in one text, one after another.
-ghost use Rattle.std.specs.Prelude.{◌≡◌, ℕ, false, ◌+◌, ◌-◌, ◌*◌, ◌^◌, ◌<◌, ◌≤◌, length, nat_lt, if◌then◌else◌, None, Some, IfOk, IfSome, IsTrue};
-ghost use Rattle.sedre.specs.Arena.{tree};
-ghost use Rattle.sedmarks.specs.Following.{EndsWithin, LiesOn, Occurs, next_span};
-ghost use Rattle.sedmarks.specs.Matching.{found, report};
-ghost use Rattle.sedmatch.specs.BackPass.{HasBackPass, KeepsBackPass, Served};
-ghost use Rattle.sedmatch.specs.Occurrences.{Keeps, KeepsOn, KeepsRoom, RoomFor, Serves, ServesOn};
-ghost use Rattle.sedmatch.specs.Occurrences.{owed, owed_after, owed_apart, owed_met, owed_together};
-ghost use Rattle.sedmarks.specs.Nodes.{IsRoot};
-ghost use Rattle.sedmarks.specs.Parts.{SpanIn, span_of};
-ghost use Rattle.sedmarks.specs.Spans.{Spans};
-ghost use Rattle.sedmarks.specs.SearchRoom.{FitInto};
+ghost use Rattle.std.specs.Prelude.{◌≡◌, ℕ, List, false, ◌+◌, ◌-◌, ◌*◌, ◌/◌, ◌^◌, ◌<◌, ◌≤◌, length, IfOk, IfSome, IsTrue, slice_get, Some};
+ghost use Rattle.sedre.specs.Arena.{Written, tree};
+ghost use Rattle.sedre.specs.Steps.{Takes, TakesAtLeast};
+ghost use Rattle.sedmarks.specs.Answer.{SpanAnswer};
 ghost use Rattle.sedmarks.specs.Costs.{Pays};
-ghost use Rattle.sedre.specs.Steps.{Takes};
+ghost use Rattle.sedmarks.specs.Following.{EndsWithin, Occurs, next_span};
+ghost use Rattle.sedmarks.specs.Matching.{found};
+ghost use Rattle.sedpass.specs.Kept.{SameSpace};
+ghost use Rattle.sedpass.specs.Occurrences.{owed_behind};
+ghost use Rattle.sedpass.specs.Search.{Serves as SearchServes, owed_after as owed_after_search};
+ghost use Rattle.sedpass.specs.Table.{IsAhead, IsRoomy, SameShape};
+ghost use Rattle.sedpass.specs.declared.table.Table.{Table};
+ghost use Rattle.sedmatch.specs.Occurrences.{AreTables, HasTable, IsBack, KeepsRoom, RoomAt, RoomFor, Serves, ServesOn, SetsTable, TableIs, owed, owed_after, owed_search};
+ghost use Rattle.sedmatch.specs.Passes.{IsSought};
 
-use crate::back_pass::{BackPass, is_null_at, keep_back_pass, new_back_pass, next_after};
-use crate::group_matcher::groups_told;
-use crate::scratch::Scratch;
+use crate::passes::{Sought, has_blocks};
 use crate::table_matcher::TableMatcher;
 use sedmarks::counted::Text;
-use sedmarks::groups::report;
-use sedre::{Expr, Steps};
+use sedpass::kept::{Kept, Subject};
+use sedpass::nodes::Prepared;
+use sedpass::occurrences::{begin_text, next_after};
+use sedpass::rows::Way;
+use sedpass::search::{Seeking, next_match};
+use sedpass::table::Table;
+use sedpass::width::width_for;
+use sedre::Steps;
 use std::alloc::{AllocError, Global};
+
+/// How many expressions have a table of their own at most.
+const MOST_OWN: usize = 256;
+
+/// How many states such a table has.
+const OWN_STATES: usize = 513;
+
+/// The way of passes from the text's end, of which each place's state is kept.
+const BACK: Way = Way {
+    mirrored: true,
+    sweeps: true,
+    keeps: true,
+};
 
 /// How the searches for all occurrences in one text go on.
 ///
-/// A search may look far past the match that it finds, so a search for each occurrence could cost steps in the square of
-/// the text's length. Therefore the steps of all searches in one text are counted. When they pass 32 for each node and
-/// place, one pass from the text's end is made; after it no search looks further than to the end of the match that it
-/// finds. Most texts never need that pass. All searches in one text together take at most 416 steps for each node and
-/// place, whatever the expression and the text.
+/// A search that goes from each place where a match can begin may look far past the match that it finds, so that a search for each
+/// occurrence could cost steps in the square of the text's length. Where the searches in a text went over many places that are in no
+/// match, one pass from the text's end is made, of which the state of each place is kept: it tells where matches begin and how far one
+/// leads.
 ///
-/// All room is taken in [`Occurrences::new`]: a bit for each byte of the longest text, rows of a bit for each node,
-/// about twice as many as the square root of that length, and 24 KiB of marks.
+/// All room is taken in [`Occurrences::new`]: two bytes for each byte of the longest text, which memory is touched only where such a
+/// pass is made, and a table for each of the first expressions that have tables, besides one that serves all others.
 #[derive(Drop)]
 pub struct Occurrences {
-    back_pass: BackPass,
-    /// How many steps the searches in this text may still take before a pass from its end is made.
-    left: usize,
-    /// Whether a pass from the text's end was made.
-    met: bool,
+    seeking: Seeking,
+    tables: BackTables,
+    // The expression that is sought,
+    number: usize,
+    // and the table that serves it.
+    at: usize,
+    // Whether nothing was sought in the text by passes yet.
+    is_fresh: bool,
 }
 
-/// How many steps the searches may take before a pass from the text's end is made.
-fn allowance(nodes: usize, len: usize) -> usize
-    requires some { 1 ≤ nodes }
-    requires nodes { nodes ≤ 65536 }
-    requires len { len ≤ 2 ^ 30 }
-    ensures is { result ≡ 32 * nodes * (len + 1) }
-    ensures some { 0 < result }
+/// Tables of passes from the text's end.
+#[derive(Drop)]
+pub struct BackTables {
+    /// The first one serves each expression that has none of its own.
+    pub all: Vec<Table>,
+    /// For each expression by its number which table serves it.
+    pub slots: Vec<usize>,
+}
+
+/// Adds a table for the expression of a number, if it is one of the first and has tables of its own, and says which serves it.
+fn add_table(
+    alloc: Global,
+    number: usize,
+    matcher: &TableMatcher,
+    all: &mut Vec<Table>,
+) -> Result<usize, AllocError>
+    requires some { 0 < length all.old.items }
+    ensures slot { IfOk result (λ k. k < length all.new.items) }
+    ensures own { IfOk result (λ k. 0 < k → TableIs all.new.items k (IsBack matcher.now) × (length all.old.items ≤ k)) }
+    ensures longer { length all.old.items ≤ length all.new.items }
+    ensures kept { (k : ℕ) (t : Table) → slice_get all.old.items k ≡ Some t → slice_get all.new.items k ≡ Some t }
 {
-    32 * nodes * (len + 1)
+    if number >= MOST_OWN {
+        return Ok(0);
+    }
+    let Some(prepared) = matcher.prepared() else {
+        return Ok(0);
+    };
+    let slot = all.len();
+    let table = Table::new(alloc, prepared, BACK, OWN_STATES)?;
+    all.push(table)?;
+    Ok(slot)
+}
+
+/// Tables for each of the first expressions that have tables of their own, after one that serves all others.
+fn new_tables(
+    alloc: Global,
+    shared: Table,
+    matchers: &[TableMatcher],
+) -> Result<BackTables, AllocError>
+    ensures { IfOk result (AreTables matchers.now shared) }
+{
+    let mut all = Vec::new(alloc);
+    all.push(shared)?;
+    let mut slots = Vec::with_capacity(alloc, matchers.len())?;
+    for x in 0..matchers.len() {
+        let slot = add_table(alloc, x, &matchers[x], &mut all)?;
+        slots.push(slot)?;
+    }
+    Ok(BackTables { all, slots })
 }
 
 impl Occurrences {
-    /// Room for texts of at most `max_text` bytes, which is 2^30 or less, and expressions of at most `max_nodes` nodes,
-    /// 65,536 or less. Fails only where a request for memory was refused.
-    pub fn new(alloc: Global, max_text: usize, max_nodes: usize) -> Result<Occurrences, AllocError>
+    /// Room for texts of at most `max_text` bytes, which is 2^30 or less, and for these expressions, each by its number among them,
+    /// of at most `max_nodes` nodes each, 1 to 65,536. Fails only where a request for memory was refused.
+    pub fn new(
+        alloc: Global,
+        max_text: usize,
+        max_nodes: usize,
+        matchers: &[TableMatcher],
+    ) -> Result<Occurrences, AllocError>
         requires text { max_text ≤ 2 ^ 30 }
+        requires some_node { 1 ≤ max_nodes }
         requires nodes { max_nodes ≤ 65536 }
-        ensures { IfOk result (λ o. RoomFor max_text max_nodes o) }
+        requires fit { (x : ℕ) (e : Written) → slice_get matchers.now x ≡ Some e → length e.nodes ≤ max_nodes }
+        ensures { IfOk result (RoomFor max_text matchers.now) }
     {
+        let width = width_for(max_text);
+        let kept = Kept::new(alloc, max_text, max_text / width + 1, max_nodes)?;
+        let shared = Table::with_room(alloc, BACK, width + 1, max_nodes)?;
+        let tables = new_tables(alloc, shared, matchers)?;
         Ok(Occurrences {
-            back_pass: new_back_pass(alloc, max_text, max_nodes)?,
-            left: 0,
-            met: false,
+            seeking: Seeking {
+                kept,
+                begun: false,
+                tried: 0,
+            },
+            tables,
+            number: 0,
+            at: 0,
+            is_fresh: true,
         })
     }
 
-    /// Begins anew, for this expression and text.
-    pub fn begin(&mut self, matcher: &TableMatcher, text: &Text, scratch: &Scratch)
-        requires fits { FitInto (length text.now) (length matcher.now.nodes) scratch.now }
-        ensures room { KeepsRoom self.old self.new }
-        ensures serves { Serves matcher.now text.now None self.new }
-        ensures owed { let m = length matcher.now.nodes in let n = length text.now in
-            owed m n None self.new ≡ 416 * m * (n + 1) }
+    /// Begins anew, for the expression of this number in a text.
+    pub fn begin(&mut self, number: usize)
+        ensures room { (text : ℕ) (es : List Written) → RoomFor text es self.old → RoomFor text es self.new }
+        ensures serves { (w : List ℕ) (es : List Written) (e : Written) → slice_get es number ≡ Some e → RoomFor (length w) es self.old →
+            Serves e w None self.new }
+        ensures number { self.new.number ≡ number }
     {
-        scratch.bounds();
-        self.left = allowance(matcher.root + 1, text.len());
-        self.met = false;
+        self.number = number;
+        self.is_fresh = true;
+    }
+
+    /// Chooses the table that serves the expression, where nothing was sought by passes yet.
+    fn make_ready(&mut self, prepared: &Prepared, text: &Text)
+        requires room { RoomAt (length text.now) self.old.number prepared.now.expr self.old }
+        requires used { self.old.is_fresh ≡ false → HasTable prepared.now.expr text.now self.old }
+        ensures room { KeepsRoom prepared.now.expr self.old self.new }
+        ensures at { RoomAt (length text.now) self.new.number prepared.now.expr self.new }
+        ensures ready { self.new.is_fresh ≡ false }
+        ensures used { HasTable prepared.now.expr text.now self.new }
+        ensures same { self.old.is_fresh ≡ false → self.new ≡ self.old }
+        ensures owed { let m = length prepared.now.expr.nodes in let n = length text.now in
+            IsTrue self.old.is_fresh → owed_behind m n self.new.seeking 0 + 42 * m ≤ 306 * m * (n + 1) }
+    {
+        if !self.is_fresh {
+            return;
+        }
+        let at = own_table(&self.tables, self.number, &self.seeking.kept, text.len());
+        fit_first(&mut self.tables, at, prepared);
+        self.at = at;
+        let subject = Subject { prepared, text };
+        begin_text(subject, &self.tables.all[self.at], &mut self.seeking);
+        self.is_fresh = false;
     }
 }
 
-/// Makes the pass from the text's end, if it hasn't been made yet.
-fn see_met(
-    expr: &Expr,
-    root: usize,
-    text: &Text,
-    at: usize,
-    occurrences: &mut Occurrences,
-    steps: &mut Steps,
-)
-    requires root { IsRoot expr.now.nodes root }
-    requires at { at ≤ length text.now }
-    requires room { HasBackPass (length text.now) (length expr.now.nodes) occurrences.old.back_pass }
-    requires serves { IsTrue occurrences.old.met → Served expr.now text.now root at occurrences.old.back_pass }
-    ensures kept { KeepsBackPass occurrences.old.back_pass occurrences.new.back_pass }
-    ensures met { IsTrue occurrences.new.met × (occurrences.new.left ≡ occurrences.old.left) }
-    ensures served { Served expr.now text.now root at occurrences.new.back_pass }
-    ensures cost { let m = length expr.now.nodes in let n = length text.now in
-        Pays steps.old steps.new (owed_together m n at occurrences.old) (owed_met m n at occurrences.new) }
+/// The table of the expression of this number, where it has its own and what is kept has room for the blocks of its passes over a text
+/// of so many bytes; else the first one.
+fn own_table(tables: &BackTables, number: usize, kept: &Kept, bytes: usize) -> usize
+    requires number { number < length tables.now.slots.items }
+    requires within { (k : ℕ) → slice_get tables.now.slots.items number ≡ Some k → 0 < k → k < length tables.now.all.items }
+    requires states { (k : ℕ) (t : Table) → slice_get tables.now.slots.items number ≡ Some k → 0 < k → slice_get tables.now.all.items k ≡ Some t →
+        (2 ≤ t.room) × (t.room ≤ 65535) }
+    requires few { length kept.now.edges ≤ 65536 }
+    ensures own { 0 < result → slice_get tables.now.slots.items number ≡ Some result }
+    ensures room { 0 < result → (t : Table) → slice_get tables.now.all.items result ≡ Some t → bytes < length kept.now.edges / 2 * (t.room - 1) }
 {
-    if occurrences.met {
-        return;
+    let slot = tables.slots[number];
+    if slot > 0 && has_blocks(kept, tables.all[slot].room, bytes) {
+        slot
+    } else {
+        0
     }
-    keep_back_pass(expr, text, root, &mut occurrences.back_pass, steps);
-    occurrences.met = true;
 }
 
-impl TableMatcher {
-    /// The next match where the null string at `at` doesn't count: the one sought one byte further on, if the text goes on.
-    // It is seldom called, and so kept out of its caller.
-    #[inline(never)]
-    fn past_null(
-        &mut self,
-        text: &Text,
-        at: usize,
-        scratch: &mut Scratch,
-        steps: &mut Steps,
-    ) -> Option<(usize, usize)>
-        requires at { at ≤ length text.now }
-        requires fits { FitInto (length text.now) (length self.old.nodes) scratch.old }
-        ensures same { self.new ≡ self.old }
-        ensures scratch { scratch.new ≡ scratch.old }
-        ensures next { result ≡ if nat_lt at (length text.now) then found (tree self.old) text.now (at + 1) else None }
-        ensures lies { IfSome result (λ f. (at < f.0) × (f.0 ≤ f.1) × (f.1 ≤ length text.now)) }
-        ensures cost { Takes steps.old steps.new (128 * length self.old.nodes * (length text.now + 1)) }
-    {
-        if at >= text.len() {
-            return None;
-        }
-        self.find_span(text, at + 1, scratch, steps)
+/// Has the first table serve the expression, where it is to.
+fn fit_first(tables: &mut BackTables, at: usize, prepared: &Prepared)
+    requires first { at ≡ 0 → TableIs tables.old.all.items 0 (λ t. IsRoomy (length prepared.now.expr.nodes) t) }
+    ensures others { 0 < at → tables.new ≡ tables.old }
+    ensures first { at ≡ 0 → SetsTable prepared.now 0 tables.old tables.new }
+{
+    if at == 0 {
+        tables.all[0].fit(prepared);
     }
+}
 
-    /// The next occurrence by one search after another.
-    #[inline(always)]
-    fn next_apart(
-        &mut self,
-        text: &Text,
-        last: Option<usize>,
-        scratch: &mut Scratch,
-        steps: &mut Steps,
-    ) -> Option<(usize, usize)>
-        requires last { EndsWithin (length text.now) last }
-        requires fits { FitInto (length text.now) (length self.old.nodes) scratch.old }
-        ensures same { self.new ≡ self.old }
-        ensures scratch { scratch.new ≡ scratch.old }
-        ensures next { result ≡ next_span (found (tree self.old) text.now) (length text.now) last }
-        ensures lies { IfSome result (LiesOn (length text.now) last) }
-        ensures cost { Takes steps.old steps.new (256 * length self.old.nodes * (length text.now + 1)) }
-    {
-        let at = last.unwrap_or(0);
-        let first = self.find_span(text, at, scratch, steps);
-        if last.is_none() || !is_null_at(first, at) {
-            return first;
-        }
-        self.past_null(text, at, scratch, steps)
+/// The next occurrence after the one that ended at `last`, or the first one, by these tables.
+fn next_with(
+    sought: &Sought,
+    text: &Text,
+    ahead: &mut Table,
+    back: &mut Table,
+    seeking: &mut Seeking,
+    last: Option<usize>,
+    steps: &mut Steps,
+) -> Option<(usize, usize)>
+    requires sought { IsSought sought.now.prepared.expr sought.now }
+    requires ahead { IsAhead sought.now.prepared ahead.old }
+    requires last { EndsWithin (length text.now) last }
+    requires serves { SearchServes sought.now.prepared text.now back.old seeking.old }
+    ensures ahead { IsAhead sought.now.prepared ahead.new }
+    ensures ahead_shape { SameShape ahead.old ahead.new }
+    ensures back_shape { SameShape back.old back.new }
+    ensures space { SameSpace seeking.old.kept seeking.new.kept }
+    ensures serves { SearchServes sought.now.prepared text.now back.new seeking.new }
+    ensures next { result ≡ next_span (found (tree sought.now.prepared.expr) text.now) (length text.now) last }
+    ensures occurs { IfSome result (Occurs (tree sought.now.prepared.expr) text.now last) }
+    ensures cost { let m = length sought.now.prepared.expr.nodes in let n = length text.now in
+        Pays steps.old steps.new (owed_search m n last seeking.old) (owed_after_search (owed_behind m n seeking.new) result) }
+    ensures once { let m = length sought.now.prepared.expr.nodes in let n = length text.now in
+        Takes steps.old steps.new (64 * m * m * (n + 1) * (n + 1)) }
+    ensures counts { IfSome result (λ f. TakesAtLeast steps.old steps.new (f.1 - f.0)) }
+{
+    let subject = Subject {
+        prepared: &sought.prepared,
+        text,
+    };
+    match last {
+        None => first_with(sought, text, ahead, back, seeking, steps),
+        Some(at) => next_after(subject, &sought.begins, ahead, back, seeking, at, steps),
     }
+}
 
-    /// The next occurrence by one search after another; the steps that it took to find one are taken off those that are
-    /// left. Where there is none, no search follows, and none are taken off.
-    #[inline(always)]
-    fn next_counted(
-        &mut self,
-        text: &Text,
-        last: Option<usize>,
-        occurrences: &mut Occurrences,
-        scratch: &mut Scratch,
-        steps: &mut Steps,
-    ) -> Option<(usize, usize)>
-        requires last { EndsWithin (length text.now) last }
-        requires fits { FitInto (length text.now) (length self.old.nodes) scratch.old }
-        requires left { (occurrences.old.met ≡ false) × (0 < occurrences.old.left) }
-        ensures same { self.new ≡ self.old }
-        ensures scratch { scratch.new ≡ scratch.old }
-        ensures kept { (occurrences.new.met ≡ false) × (occurrences.new.back_pass ≡ occurrences.old.back_pass) }
-        ensures next { result ≡ next_span (found (tree self.old) text.now) (length text.now) last }
-        ensures lies { IfSome result (LiesOn (length text.now) last) }
-        ensures cost { let m = length self.old.nodes in let n = length text.now in
-            Pays steps.old steps.new (owed_apart m n occurrences.old.left) (owed_after m n result occurrences.new) }
-    {
-        scratch.bounds();
-        let before = steps.count();
-        let (start, end) = self.next_apart(text, last, scratch, steps)?;
-        let taken = (steps.count() - before) as usize;
-        occurrences.left = occurrences.left.saturating_sub(taken);
-        Some((start, end))
-    }
+/// The first occurrence, by these tables.
+fn first_with(
+    sought: &Sought,
+    text: &Text,
+    ahead: &mut Table,
+    back: &mut Table,
+    seeking: &mut Seeking,
+    steps: &mut Steps,
+) -> Option<(usize, usize)>
+    requires sought { IsSought sought.now.prepared.expr sought.now }
+    requires ahead { IsAhead sought.now.prepared ahead.old }
+    requires serves { SearchServes sought.now.prepared text.now back.old seeking.old }
+    ensures ahead { IsAhead sought.now.prepared ahead.new }
+    ensures ahead_shape { SameShape ahead.old ahead.new }
+    ensures back_shape { SameShape back.old back.new }
+    ensures space { SameSpace seeking.old.kept seeking.new.kept }
+    ensures serves { SearchServes sought.now.prepared text.now back.new seeking.new }
+    ensures answer { SpanAnswer (tree sought.now.prepared.expr) text.now 0 result }
+    ensures cost { let m = length sought.now.prepared.expr.nodes in let n = length text.now in
+        Pays steps.old steps.new (owed_search m n None seeking.old) (owed_after_search (owed_behind m n seeking.new) result) }
+    ensures once { let m = length sought.now.prepared.expr.nodes in let n = length text.now in
+        Takes steps.old steps.new (64 * m * m * (n + 1) * (n + 1)) }
+    ensures counts { IfSome result (λ f. TakesAtLeast steps.old steps.new (f.1 - f.0)) }
+{
+    let start = sought.hints.first_place(text, 0, steps)?;
+    let subject = Subject {
+        prepared: &sought.prepared,
+        text,
+    };
+    next_match(subject, &sought.begins, ahead, back, seeking, start, steps)
+}
 
-    /// The next occurrence by a pass from the text's end.
-    #[inline(never)]
-    fn next_together(
-        &mut self,
-        text: &Text,
-        at: usize,
-        occurrences: &mut Occurrences,
-        scratch: &mut Scratch,
-        steps: &mut Steps,
-    ) -> Option<(usize, usize)>
-        requires at { at ≤ length text.now }
-        requires fits { FitInto (length text.now) (length self.old.nodes) scratch.old }
-        requires room_fits { RoomFor (length text.now) (length self.old.nodes) occurrences.old }
-        requires keeps { Keeps self.old text.now at occurrences.old }
-        ensures same { self.new ≡ self.old }
-        ensures scratch { scratch.new ≡ scratch.old }
-        ensures next { result ≡ next_span (found (tree self.old) text.now) (length text.now) (Some at) }
-        ensures lies { IfSome result (LiesOn (length text.now) (Some at)) }
-        ensures keeps { KeepsOn self.old text.now result occurrences.old occurrences.new }
-        ensures cost { let m = length self.old.nodes in let n = length text.now in
-            Pays steps.old steps.new (owed_together m n at occurrences.old) (owed_after m n result occurrences.new) }
-    {
-        see_met(&self.expr, self.root, text, at, occurrences, steps);
-        next_after(
-            &self.expr,
-            self.root,
-            text,
-            at,
-            &mut occurrences.back_pass,
-            &mut scratch.marks.sets,
-            steps,
-        )
-    }
-
-    /// The next occurrence in the text after the one that ended at `last`, where there was one: the leftmost-longest
-    /// match from there on, or one byte further where that is the null string at `last`.
-    ///
-    /// All calls for one text, from [`Occurrences::begin`] on, take at most 416 steps for each node and place together.
-    /// Conditions: `begin` was called for this matcher and text, `last` is what the call before answered, `None` in the first
-    /// one, and after that the occurrences have room for the text and the expression; the scratch has it in every call.
-    /// After `None` begin anew.
-    #[inline(always)]
-    pub fn next_occurrence(
-        &mut self,
-        text: &Text,
-        last: Option<usize>,
-        occurrences: &mut Occurrences,
-        scratch: &mut Scratch,
-        steps: &mut Steps,
-    ) -> Option<(usize, usize)>
-        requires last { EndsWithin (length text.now) last }
-        requires fits { FitInto (length text.now) (length self.old.nodes) scratch.old }
-        requires room_fits { IfSome last (λ _. RoomFor (length text.now) (length self.old.nodes) occurrences.old) }
-        requires serves { Serves self.old text.now last occurrences.old }
-        ensures same { self.new ≡ self.old }
-        ensures scratch { scratch.new ≡ scratch.old }
-        ensures next { result ≡ next_span (found (tree self.old) text.now) (length text.now) last }
-        ensures occurs { IfSome result (Occurs (tree self.old) text.now last) }
-        ensures serves { ServesOn self.old text.now result occurrences.old occurrences.new }
-        ensures cost { let m = length self.old.nodes in let n = length text.now in
-            Pays steps.old steps.new (owed m n last occurrences.old) (owed_after m n result occurrences.new) }
-    {
-        if let Some(at) = last {
-            if occurrences.left == 0 {
-                return self.next_together(text, at, occurrences, scratch, steps);
-            }
-        }
-        self.next_counted(text, last, occurrences, scratch, steps)
-    }
-
-    /// What each group reports of a match that begins and ends at these places. Entry 0 is the whole match.
-    pub fn groups_of(
-        &mut self,
-        text: &Text,
-        start: usize,
-        end: usize,
-        scratch: &mut Scratch,
-        steps: &mut Steps,
-    ) -> [Option<(usize, usize)>; 10]
-        requires order { start ≤ end }
-        requires inside { end ≤ length text.now }
-        requires spans { Spans (tree self.old) text.now start end }
-        requires fits { FitInto (length text.now) (length self.old.nodes) scratch.old }
-        ensures same { self.new ≡ self.old }
-        ensures scratch { scratch.new ≡ scratch.old }
-        ensures groups { result ≡ report (tree self.old) text.now start end }
-        ensures lies { (k : ℕ) → SpanIn (length text.now) (span_of result k) }
-        ensures none_cost { self.old.groups ≡ 0 → steps.new ≡ steps.old }
-        ensures cost { let m = length self.old.nodes in let n = length text.now in
-            Takes steps.old steps.new (51 * m * m * (n + 1) * (n + 1)) }
-        ensures linear_cost { let m = length self.old.nodes in
-            Takes steps.old steps.new (172 * m * (m - 1) * (end - start) + 2 * m) }
-    {
-        let told = groups_told(
-            &self.expr,
-            &mut self.groups,
-            text,
-            (start, end),
-            &mut scratch.desk,
-            steps,
-        );
-        if let Some(spans) = told {
-            return spans;
-        }
-        report(
-            &self.expr,
-            self.known.flat,
-            text,
-            start,
-            end,
-            &mut scratch.marks.plan,
-            &mut scratch.marks.sets,
-            &mut scratch.marks.places,
-            steps,
-        )
-    }
+/// The next occurrence after the one that ended at `last`, or the first one.
+pub fn next_by(
+    sought: &Sought,
+    text: &Text,
+    ahead: &mut Table,
+    occurrences: &mut Occurrences,
+    last: Option<usize>,
+    steps: &mut Steps,
+) -> Option<(usize, usize)>
+    requires sought { IsSought sought.now.prepared.expr sought.now }
+    requires ahead { IsAhead sought.now.prepared ahead.old }
+    requires last { EndsWithin (length text.now) last }
+    requires serves { Serves sought.now.prepared.expr text.now last occurrences.old }
+    ensures ahead { IsAhead sought.now.prepared ahead.new }
+    ensures ahead_shape { SameShape ahead.old ahead.new }
+    ensures next { result ≡ next_span (found (tree sought.now.prepared.expr) text.now) (length text.now) last }
+    ensures occurs { IfSome result (Occurs (tree sought.now.prepared.expr) text.now last) }
+    ensures serves { ServesOn sought.now.prepared.expr text.now result occurrences.old occurrences.new }
+    ensures cost { let m = length sought.now.prepared.expr.nodes in let n = length text.now in
+        Pays steps.old steps.new (owed m n last occurrences.old) (owed_after m n result occurrences.new) }
+    ensures once { let m = length sought.now.prepared.expr.nodes in let n = length text.now in
+        Takes steps.old steps.new (64 * m * m * (n + 1) * (n + 1)) }
+    ensures counts { IfSome result (λ f. TakesAtLeast steps.old steps.new (f.1 - f.0)) }
+{
+    occurrences.make_ready(&sought.prepared, text);
+    let at = occurrences.at;
+    let back = &mut occurrences.tables.all[at];
+    next_with(
+        sought,
+        text,
+        ahead,
+        back,
+        &mut occurrences.seeking,
+        last,
+        steps,
+    )
 }

@@ -1,18 +1,22 @@
 //! The room that searches work in, made once.
 ghost use Rattle.std.specs.Prelude.{◌≡◌, ◌^◌, ◌≤◌, IfOk};
-ghost use Rattle.sedmatch.specs.GroupMatcher.{IsDesk};
+ghost use Rattle.sedmatch.specs.Passes.{IsDesk};
 
+use crate::passes::ANY;
 use sedpass::groups::{GroupRoom, GroupTables};
+use sedpass::table::Table;
 use sedpass::width::width_for;
 use std::alloc::{AllocError, Global};
 use std::marker::Model;
 
-/// Where groups are decided: the room for it, and tables that serve each expression that has none of its own.
+/// Where passes are made: the room for them, and tables that serve each expression that has none of its own.
 #[derive(Drop)]
 pub struct Desk {
     /// The room.
     pub room: GroupRoom,
-    /// The tables.
+    /// The table of passes forwards in which every place is a start.
+    pub any: Table,
+    /// The tables of passes forwards from one start, and for groups.
     pub shared: GroupTables,
     /// How many bytes a text has at most,
     pub max_text: usize,
@@ -25,7 +29,7 @@ pub struct Desk {
 pub struct Scratch {
     /// The room of searches by marks.
     pub(crate) marks: sedmarks::Scratch,
-    /// Where groups are decided.
+    /// Where passes are made.
     pub(crate) desk: Desk,
 }
 
@@ -35,14 +39,14 @@ impl Model for Scratch {
     ghost Value = { SearchRoom };
 
     ghost use Rattle.std.specs.Prelude.{◌≡◌};
-    ghost use Rattle.sedmatch.specs.GroupMatcher.{IsDesk};
+    ghost use Rattle.sedmatch.specs.Passes.{IsDesk};
 
     ghost view = { λ s. s.marks };
 
     ghost invariant = { λ s. IsDesk s.desk × (s.desk.max_text ≡ s.marks.text) × (s.desk.max_nodes ≡ s.marks.nodes) };
 }
 
-/// Where the groups of expressions of at most so many nodes are decided, in texts of at most so many bytes.
+/// Where passes are made for expressions of at most so many nodes, over texts of at most so many bytes.
 fn new_desk(alloc: Global, max_text: usize, max_nodes: usize) -> Result<Desk, AllocError>
     requires text { max_text ≤ 2 ^ 30 }
     requires some_node { 1 ≤ max_nodes }
@@ -51,9 +55,11 @@ fn new_desk(alloc: Global, max_text: usize, max_nodes: usize) -> Result<Desk, Al
 {
     let block = width_for(max_text);
     let room = GroupRoom::new(alloc, max_text, max_text / block + 1, max_nodes)?;
+    let any = Table::with_room(alloc, ANY, block + 1, max_nodes)?;
     let shared = GroupTables::with_room(alloc, block + 1, max_nodes)?;
     Ok(Desk {
         room,
+        any,
         shared,
         max_text,
         max_nodes,

@@ -2,10 +2,9 @@
 //!
 //! The search for it tells the whole match, so that no table is looked at.
 ghost use Rattle.std.specs.Prelude.{◌≡◌, ℕ, List, ◌+◌, ◌<◌, ◌≤◌, ◌-◌, length, IfOk, IfSome};
-ghost use Rattle.sedneedles.specs.Needed.{FirstLiteral};
+ghost use Rattle.sedneedles.specs.Needed.{FirstLiteral, passed_to};
 ghost use Rattle.sedneedles.specs.Word.{AllWord};
-ghost use Rattle.sedmarks.specs.Costs.{Pays};
-ghost use Rattle.sedre.specs.Steps.{Takes};
+ghost use Rattle.sedre.specs.Steps.{Takes, Counted};
 
 use memchr::memmem::Finder;
 use sedmarks::counted::Text;
@@ -51,11 +50,13 @@ pub fn word_of(alloc: Global, expr: &Expr, steps: &mut Steps) -> Result<Option<W
 
 impl Word {
     /// The first place from `from` on at which a match begins.
+    /// Counts a look for each byte from `from` to the match's end, or to the end where there is none.
     #[inline(never)]
     pub fn start(&self, text: &Text, from: usize, steps: &mut Steps) -> Option<usize>
         requires from { from ≤ length text.now }
         ensures first { FirstLiteral text.now self.now from result }
-        ensures cost { Pays steps.old steps.new (length text.now) from }
+        ensures cost { Takes steps.old steps.new (passed_to (length text.now) from (length self.now) result) }
+        ensures counts { Counted steps.old steps.new (passed_to (length text.now) from (length self.now) result) }
     {
         find_literal(text, &self.finder, from, steps)
     }

@@ -1,5 +1,5 @@
 -- A choice of literals.
-use Rattle.std.proofs.Common.{◌≡◌, ℕ, ◌+◌, ◌<◌, ◌≤◌, ◌⊎◌, ◌↔◌, Bool, true, false, List, [], ◌∷◌, ◌++◌, length, Some, refl, sym, ap, ◌∙◌, subst, inl, inr, ⊎_elim, arith, length-append, Option, None, true≢false}
+use Rattle.std.proofs.Common.{◌≡◌, ℕ, zero, suc, ◌+◌, ◌<◌, ◌≤◌, ◌⊎◌, ◌↔◌, Bool, true, false, List, [], ◌∷◌, ◌++◌, length, Some, refl, sym, ap, ◌∙◌, subst, inl, inr, ⊎_elim, arith, length-append, Option, None, true≢false}
 use Rattle.std.specs.Prelude.{slice_get, slice_index_or, slice_set, slice_index, is_some}
 use Rattle.std.proofs.lemmas.Bool.{cases_lt, cases_eq}
 use Rattle.std.proofs.lemmas.List.{get_or_append_left, get_or_push, get_or-set_same, get_or-set_other}
@@ -11,7 +11,7 @@ use Rattle.sedre.specs.declared.types.Node.TheVariants.{Alt, Group}
 use Rattle.sedmarks.specs.Spans.{IsIn}
 use Rattle.sedmarks.specs.Reach.{At}
 use Rattle.sedneedles.specs.Word.{WordSpans, AllWord}
-use Rattle.sedneedles.specs.Choice.{ChoiceAt, ChoiceSpans, ChoiceOr, AllChoice, BranchesOf, HeadsIn, AreHeads, FewHeads, LongestAt, FirstChoice, bytes_in}
+use Rattle.sedneedles.specs.Choice.{ChoiceAt, ChoiceSpans, ChoiceOr, AllChoice, BranchesOf, HeadsIn, AreHeads, AreShort, FewHeads, LongestAt, FirstChoice, bytes_in}
 use Rattle.sedneedles.specs.Few.{FewAt, FirstFew}
 use Rattle.sedneedles.specs.declared.few.Few.{Few}
 use Rattle.sedneedles.specs.declared.choice.Branches.TheVariants.{Both, Inner}
@@ -63,6 +63,16 @@ pub more_bytes : (words : List (List ℕ)) (literal : List ℕ) → bytes_in (wo
 unfolding bytes_in
 more_bytes [] literal = omega arith
 more_bytes (other ∷ words) literal = let rest = more_bytes words literal in omega (arith, rest)
+
+-- a literal has at most as many bytes as all have together
+literal_short : (words : List (List ℕ)) (k : ℕ) (literal : List ℕ) → slice_get words k ≡ Some literal → length literal ≤ bytes_in words
+unfolding bytes_in
+literal_short [] k literal is = let inside = slice_get_within [] k literal is in absurd (omega (arith, inside))
+literal_short (other ∷ words) zero literal is = let same : other ≡ literal = cc in omega (arith, ap length same)
+literal_short (other ∷ words) (suc k) literal is = let rest = literal_short words k literal is in omega (arith, rest)
+
+pub spans_short : (words : List (List ℕ)) (w : List ℕ) (i j : ℕ) → AreShort words → ChoiceSpans words w i j → j ≤ i + 20
+spans_short words w i j short s = let few = literal_short words s.1 s.0 s.2 in omega (arith, few, short, s.4)
 
 module _ (nodes : List Node) (x : ℕ) where
   -- the branches of a node

@@ -7,7 +7,6 @@ use Rattle.std.proofs.lemmas.Option.{slice_get_within, get_or_from_slice_get, sl
 use Rattle.memchr.specs.Find.{Passes, IsFirstByte, is_byte, is_byte2, is_byte3}
 use Rattle.sedre.specs.Sets.{has}
 use Rattle.sedmarks.specs.Spans.{IsIn}
-use Rattle.sedmarks.specs.Bytes.{looked_at}
 use Rattle.sedneedles.specs.Few.{HasFew, FewAt, FirstFew, Gathered, AreMembers}
 use Rattle.sedneedles.specs.declared.few.Few.{Few}
 use Rattle.sedneedles.specs.declared.few.Few.TheVariants.{One, Two, Three}
@@ -94,11 +93,6 @@ module _ (few : Few) (w rest : List ℕ) (p : ℕ) (from : p ≤ length w) (e : 
 -- a place at which one stands is in the text
 pub few_inside : (few : Few) (w : List ℕ) (i : ℕ) → FewAt few w i → i < length w
 few_inside few w i at = slice_get_within w i at.0 at.1
-
--- the bytes looked at up to that place, or to the end
-pub few_looked : (few : Few) (w : List ℕ) (p s0 s1 : ℕ) (r : Option ℕ) → p ≤ length w → FirstFew few w p r → s1 ≤ s0 + looked_at (length w) p r → s1 + p ≤ s0 + (length w + 1)
-few_looked few w p s0 s1 None from none cost = omega (arith, cost)
-few_looked few w p s0 s1 (Some k) from first cost = let inside = few_inside few w k first.1 in omega (arith, first.0, inside, cost)
 
 -- the members of a set among the first bytes are those gathered
 abbrev pub AllGathered : List Bool → ℕ → Option Few → Type 0

@@ -1,3 +1,4 @@
+pub mod CountLemmas
 pub mod TimesLemmas
 pub mod NeededLemmas
 pub mod ChoiceLemmas

@@ -1,10 +1,10 @@
 -- Literals that the spans of an expression hold.
-use Rattle.std.proofs.Common.{◌≡◌, ℕ, ◌+◌, ◌-◌, ◌<◌, ◌≤◌, ◌⊎◌, ◌↔◌, Bool, List, [], ◌∷◌, ◌++◌, length, take, drop, Option, Some, None, IsTrue, refl, sym, ap, ◌∙◌, subst, inl, inr, ⊎_elim, arith, length-append, length-drop, length-take}
+use Rattle.std.proofs.Common.{◌≡◌, ℕ, ◌+◌, ◌-◌, ◌<◌, ◌≤◌, ◌⊎◌, Bool, List, [], ◌∷◌, ◌++◌, length, take, drop, Option, Some, None, IsTrue, refl, sym, ap, ◌∙◌, subst, inl, inr, ⊎_elim, arith, length-append, length-drop}
 use Rattle.std.specs.Prelude.{IfSome, slice_get, slice_index}
 use Rattle.std.proofs.lemmas.Bool.{cases_lt}
-use Rattle.std.proofs.lemmas.List.{take_rest, get_or-drop, get_or_append_left, get_or-append-add, get_or_push, get_or-take}
+use Rattle.std.proofs.lemmas.List.{take_rest, get_or-drop, get_or_append_left, get_or-append-add, get_or_push}
 use Rattle.std.proofs.lemmas.Option.{slice_get_within, get_or_from_slice_get, slice_get-get_or}
-use Rattle.memchr.specs.Find.{OccursAt, Nowhere, NoneBefore as FirstOf, NoneAfter as LastOf}
+use Rattle.memchr.specs.Find.{OccursAt, Nowhere, NoneBefore as FirstOf}
 use Rattle.sedre.specs.Tree.{Tree}
 use Rattle.sedre.specs.Arena.{IsArena, tree_at}
 use Rattle.sedre.specs.declared.types.Node.{Node}
@@ -14,10 +14,10 @@ use Rattle.sedmarks.specs.Spans.{NotFound}
 use Rattle.sedmarks.specs.Reach.{At}
 use Rattle.sedmarks.specs.Beginnings.{CanBegin}
 use Rattle.sedmarks.specs.declared.beginnings.Begins.TheVariants.{WithSet}
-use Rattle.sedneedles.specs.Needed.{IsOfSet, LinksTo, BeginsAs, IsLiteral, GoesOnAs, IsSole, LastLiteral, AllHold, AllEndWith, IsNeeded, FirstLiteral, Narrowed}
+use Rattle.sedneedles.specs.Needed.{IsOfSet, LinksTo, IsLiteral, GoesOnAs, IsSole, AllHold, AllEndWith, IsNeeded, FirstLiteral, Narrowed}
 use Rattle.sedneedles.specs.declared.needed.Needed.{Needed}
 use Rattle.sedneedles.specs.declared.needed.Literal.{Literal}
-use Rattle.sedneedles.specs.declared.needed.Link.TheVariants.{OneOf, Last, Inner}
+use Rattle.sedneedles.specs.declared.needed.Link.TheVariants.{OneOf, Inner}
 use Rattle.sedmarks.proofs.ReachLemmas.{open_at, close_at}
 use Rattle.sedmarks.proofs.SpanLemmas.{Spans-forward, Spans-within}
 
@@ -101,20 +101,6 @@ occurs_less w bytes i byte here =
     )
 
 module _ (nodes : List Node) (x : ℕ) where
-  -- the last byte
-  pub begins_last : (bytes : List ℕ) (s : List Bool) (y byte : ℕ) → BeginsAs nodes x bytes y → LinksTo nodes y (Last s) → IsSole s byte →
-      (w : List ℕ) (i j : ℕ) → i ≤ length w → At nodes w x i j ↔ (OccursAt w (bytes ++ byte ∷ []) i × (i + length (bytes ++ byte ∷ []) ≡ j))
-  begins_last bytes s y byte begins link sole w i j within =
-      let long = length-append bytes (byte ∷ []) in (
-        (λ at.
-            let h = (begins w i j within).0 at in
-            let k = (link w (i + length bytes) j).0 h.1 in
-            (occurs_more w bytes i byte h.0 (sole_stands s byte w (i + length bytes) sole k.0), omega (arith, long, k.1))),
-        (λ h.
-            let less = occurs_less w bytes i byte h.0 in
-            (begins w i j within).1 (less.0, (link w (i + length bytes) j).1 ((byte, less.1, sole.1), omega (arith, long, h.1)))),
-      )
-
   -- the longer of what it holds and what a part at its end begins with
   pub hold_longer : (y : ℕ) (l : Literal) (these result : List ℕ) → AllEndWith nodes x y → IsLiteral nodes y l → AllHold nodes x these →
       (result ≡ these) ⊎ (result ≡ l.bytes.items) → AllHold nodes x result
@@ -168,43 +154,6 @@ module _ (w rest : List ℕ) (p : ℕ) (from : p ≤ length w) (e : rest ≡ tak
 
   pub literal_some : (k : ℕ) → FirstOf (OccursAt rest literal) 0 (length rest + 1) k → OccursAt rest literal k → FirstLiteral w literal p (Some (p + k))
   literal_some k least here = (omega arith, from_rest k here, λ h low high is. least.before (h - p) (omega arith) (omega arith) (to_rest h low is))
-
-module _ (w part : List ℕ) (p q : ℕ) (from : p ≤ q) (to : q ≤ length w) (e : part ≡ take (q - p) (drop p w)) (literal : List ℕ) where
-  length-part : length part ≡ q - p
-  length-part = ap length e ∙ length-take (q - p) (drop p w) ∙ (let long = length-drop p w in omega (arith, long))
-
-  part_at : (k : ℕ) → k < q - p → slice_index part k ≡ slice_index w (p + k)
-  part_at k lt = ap (λ l. slice_index l k) e ∙ get_or-take (q - p) (drop p w) k 0 lt ∙ get_or-drop p w k 0
-
-  -- where the literal stands in the text from p to q, it does in the part
-  to_part : (k : ℕ) → p ≤ k → k + length literal ≤ q → OccursAt w literal k → OccursAt part literal (k - p)
-  to_part k low high here = record {
-    fits = omega (arith, length-part);
-    reads = λ j lt. part_at (k - p + j) (omega arith) ∙ ap (λ v. slice_index w v) (let same : p + (k - p + j) ≡ k + j = omega arith in same) ∙ here.reads j lt;
-  }
-
-  -- and the other way round
-  from_part : (k : ℕ) → OccursAt part literal k → OccursAt w literal (p + k)
-  from_part k here =
-      let fits = here.fits in
-      record {
-        fits = omega (arith, fits, length-part);
-        reads = λ j lt. ap (λ v. slice_index w v) (let same : p + k + j ≡ p + (k + j) = omega arith in same) ∙ sym (part_at (k + j) (omega (arith, fits, length-part))) ∙ here.reads j lt;
-      }
-
-  pub last_none : Nowhere (OccursAt part literal) 0 (length part + 1) → LastLiteral w literal p q None
-  last_none none k low high here =
-      let there = to_part k low high here in
-      none (k - p) (omega arith) (omega (arith, there.fits)) there
-
-  pub last_some : (k : ℕ) → LastOf (OccursAt part literal) 0 (length part + 1) k → OccursAt part literal k → LastLiteral w literal p q (Some (p + k))
-  last_some k most here =
-      let fits = here.fits in (
-        omega arith,
-        omega (arith, fits, length-part),
-        from_part k here,
-        λ h low high is. let there = to_part h (omega arith) high is in most.after (h - p) (omega arith) (omega (arith, there.fits)) there,
-      )
 
 module _ (e : Tree) (w : List ℕ) (p : ℕ) (n : Needed) (holds : IsNeeded e (Some n)) where
   -- a text without the literal has no match

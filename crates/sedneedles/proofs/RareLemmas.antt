@@ -1,5 +1,5 @@
 -- Few bytes of which one stands at a fixed distance after the beginning of every match.
-use Rattle.std.proofs.Common.{◌≡◌, ℕ, ◌+◌, ◌-◌, ◌*◌, ◌<◌, ◌≤◌, ◌↔◌, ◌⊎◌, Bool, List, length, Option, Some, None, sym, ap, subst, inl, inr, ⊎_elim, arith, mul-le-mul_left}
+use Rattle.std.proofs.Common.{◌≡◌, ℕ, ◌+◌, ◌-◌, ◌*◌, ◌<◌, ◌≤◌, ◌↔◌, ◌⊎◌, Bool, List, length, Option, Some, None, sym, subst, inl, inr, ⊎_elim, arith}
 use Rattle.std.specs.Prelude.{IfSome, slice_get}
 use Rattle.std.proofs.lemmas.Bool.{cases_lt}
 use Rattle.sedre.specs.Tree.{Tree}
@@ -7,8 +7,6 @@ use Rattle.sedre.specs.Arena.{IsArena, tree_at}
 use Rattle.sedre.specs.declared.types.Node.{Node}
 use Rattle.sedre.specs.declared.types.NodeId.{NodeId}
 use Rattle.sedre.specs.declared.types.Node.TheVariants.{Alt}
-use Rattle.sedmarks.specs.Ahead.{LeadsTo}
-use Rattle.sedmarks.specs.declared.ahead.Lead.{Lead}
 use Rattle.sedneedles.specs.declared.few.Few.{Few}
 use Rattle.sedneedles.specs.declared.needed.Link.TheVariants.{OneOf, Last}
 use Rattle.sedneedles.specs.declared.rare.Fixed.{Fixed}
@@ -16,11 +14,11 @@ use Rattle.sedneedles.specs.declared.rare.Rare.{Rare}
 use Rattle.sedmarks.specs.Bytes.{looked_at}
 use Rattle.sedneedles.specs.Few.{HasFew, FewAt, FirstFew}
 use Rattle.sedmarks.specs.Bytes.{AreBytes}
-use Rattle.sedneedles.specs.Needed.{LinksTo}
+use Rattle.sedneedles.specs.Needed.{LinksTo, Narrowed}
 use Rattle.sedneedles.specs.Rare.{StandsAt, HeldAt, RareAt, FirstFixed, FirstRare, RareNowhere, AllStand, AllHave, AllHeld, AllRare, AllSecond}
 use Rattle.sedmarks.specs.Reach.{At}
-use Rattle.sedmarks.specs.Search.{NoneIn, Sought}
-use Rattle.sedmarks.specs.Spans.{Spans, NotFound, IsIn}
+use Rattle.sedmarks.specs.Search.{NoneIn}
+use Rattle.sedmarks.specs.Spans.{Spans, IsIn}
 use Rattle.sedneedles.proofs.FewLemmas.{few_inside}
 use Rattle.sedmarks.proofs.ReachLemmas.{open_at}
 
@@ -79,6 +77,11 @@ pub rare_looked : (r : Rare) (w : List ℕ) (p q s0 s1 s2 : ℕ) (o : Option ℕ
 rare_looked r w p q s0 s1 s2 None low within none pass near = omega (arith, pass, near)
 rare_looked r w p q s0 s1 s2 (Some k) low within first pass near = omega (arith, first.0, pass, near)
 
+-- a search behind another one
+pub rare_paid : (n p q s0 s1 s2 : ℕ) (o : Option ℕ) → p ≤ q → q ≤ n → IfSome o (λ k. k < n) → s1 + p ≤ s0 + n → s2 ≤ s1 + 2 * looked_at n q o → s2 + 3 * p ≤ s0 + 3 * n
+rare_paid n p q s0 s1 s2 None low within lies before more = omega (arith, before, more)
+rare_paid n p q s0 s1 s2 (Some k) low within lies before more = omega (arith, lies, before, more)
+
 -- few bytes of a set
 pub have_few : (e : Tree) (offset : ℕ) (s : List Bool) (few : Few) → AllHave e offset s → ((c : ℕ) → c < 256 → HasFew few c ↔ IsIn c s) → AllStand e (record { offset = offset; few = few })
 have_few e offset s few all same w bytes i j spans =
@@ -108,73 +111,17 @@ module _ (e : Tree) (w : List ℕ) (bytes : AreBytes w) (from p : ℕ) (r : Rare
       held_at None is = tt
       held_at (Some f) is = is w bytes i j s
 
-  -- no match begins before p, none where the bytes are lacking
-  pub rare_step : (start q : ℕ) → ((i : ℕ) → p ≤ i → i < start → RareAt r w i → ⊥) → NoneIn e w start q → NoneIn e w from q
-  rare_step start q passed after i k low high s =
-      ⊎_elim
-      (λ (early : i < p). before i k low early s)
-      (λ (late : p ≤ i). ⊎_elim
-      (λ (lt : i < start). passed i late lt (rare_at i k s))
-      (λ (ge : start ≤ i). after i k ge high s)
-      (cases_lt i start))
-      (cases_lt i p)
-
-  -- they stand nowhere from p on
-  pub rare_nowhere : FirstRare r w p None → NotFound e w from
-  rare_nowhere none i k low within s =
-      ⊎_elim (λ (early : i < p). before i k low early s) (λ (late : p ≤ i). none i late (rare_at i k s)) (cases_lt i p)
-
-  -- they stand after a place at which a match may begin
-  pub rare_sought : (start : ℕ) (lead : Lead) → FirstRare r w p (Some start) → from ≤ p → LeadsTo (length w) (Spans e w start) lead → Sought e w from (Some (start, lead))
-  rare_sought start lead first low leads =
+  -- the place after which they stand, or none
+  pub rare_narrowed : (o : Option ℕ) → FirstRare r w p o → from ≤ p → Narrowed e w from o
+  rare_narrowed None none low = λ i k after within s.
+      ⊎_elim (λ (early : i < p). before i k after early s) (λ (late : p ≤ i). none i late (rare_at i k s)) (cases_lt i p)
+  rare_narrowed (Some start) first low =
       let inside = fixed_inside r.sought w start first.1.0 in (
         omega (arith, first.0),
         omega (arith, inside),
-        rare_step start start first.2 (λ i k lo hi s. absurd (omega arith)),
-        leads,
+        λ i k after less s.
+            ⊎_elim (λ (early : i < p). before i k after early s) (λ (late : p ≤ i). first.2 i late less (rare_at i k s)) (cases_lt i p),
       )
-
--- places that are looked at: two looks for each byte passed over, and what comes first in a match
-pub rare_looks : (m from at start s0 s s1 s2 : ℕ) → 2 ≤ m → at ≤ start →
-    s + 8 * m * from ≤ s0 + 8 * m * at → s1 + 2 * at ≤ s + 2 * (start + 1) → s2 ≤ s1 + 7 * m → s2 + 8 * m * from ≤ s0 + 8 * m * (start + 1)
-rare_looks m from at start s0 s s1 s2 two low before skip look =
-    let d = start + 1 - at in
-    let e : start + 1 ≡ at + d = omega arith in
-    let one : 1 ≤ d = omega arith in
-    let most = mul-le-mul_left d two in
-    let grown = mul-le-mul_left m one in
-    let all : 8 * m * (start + 1) ≡ 8 * m * (at + d) = ap (λ v. 8 * m * v) e in
-    omega (arith, most, grown, all)
-
--- a start up to which bytes are passed over, and which isn't looked at further, or is in a text of some length
-module _ (m n from at start s0 s s1 : ℕ) (some : 0 < m) (low : at ≤ start) (inside : start < n) (before : s + 8 * m * from ≤ s0 + 8 * m * at) (skip : s1 + 2 * at ≤ s + 2 * (start + 1)) where
-  pub rare_start : s1 + 8 * m * from ≤ s0 + 8 * m * start + m * n + 1
-  rare_start =
-      let d = start - at in
-      let e : start ≡ at + d = omega arith in
-      let one : 1 ≤ n = omega arith in
-      let most = mul-le-mul_left d some in
-      let length = mul-le-mul_left m one in
-      let all : 8 * m * start ≡ 8 * m * (at + d) = ap (λ v. 8 * m * v) e in
-      omega (arith, most, length, all)
-
-  pub rare_look : (s2 : ℕ) → 8 ≤ n → s2 ≤ s1 + 7 * m → s2 + 8 * m * from ≤ s0 + 8 * m * start + m * n + 1
-  rare_look s2 long look =
-      let d = start - at in
-      let e : start ≡ at + d = omega arith in
-      let most = mul-le-mul_left d some in
-      let length = mul-le-mul_left m long in
-      let all : 8 * m * start ≡ 8 * m * (at + d) = ap (λ v. 8 * m * v) e in
-      omega (arith, most, length, all)
-
--- up to the end of the text
-pub rare_end : (m n from at s0 s s1 : ℕ) → 0 < m → at ≤ n → s + 8 * m * from ≤ s0 + 8 * m * at → s1 + 2 * at ≤ s + 2 * n → s1 + 8 * m * from ≤ s0 + 8 * m * n + m * n + 1
-rare_end m n from at s0 s s1 some low before skip =
-    let d = n - at in
-    let e : n ≡ at + d = omega arith in
-    let most = mul-le-mul_left d some in
-    let all : 8 * m * n ≡ 8 * m * (at + d) = ap (λ v. 8 * m * v) e in
-    omega (arith, most, all)
 
 -- what stands second
 module _ (nodes : List Node) (x : ℕ) (s t : List Bool) (y : ℕ) (link : LinksTo nodes x (OneOf s y)) where

@@ -5,3 +5,4 @@ pub mod Choice
 pub mod Openings
 pub mod Few
 pub mod Rare
+pub mod Hints

@@ -43,11 +43,6 @@ IsLiteral nodes x l = (w : List ℕ) (i j : ℕ) → i ≤ length w → At nodes
 abbrev pub IsSole : List Bool → ℕ → Type 0
 IsSole s byte = ((c : ℕ) → IsIn c s → c ≡ byte) × IsIn byte s
 
--- the last place from p on at which the literal stands and ends by q, if there is one
-abbrev pub LastLiteral : List ℕ → List ℕ → ℕ → ℕ → Option ℕ → Type 0
-LastLiteral w literal p q None = (k : ℕ) → p ≤ k → k + length literal ≤ q → OccursAt w literal k → ⊥
-LastLiteral w literal p q (Some k) = (p ≤ k) × (k + length literal ≤ q) × OccursAt w literal k × ((h : ℕ) → k < h → h + length literal ≤ q → OccursAt w literal h → ⊥)
-
 -- each span of the node x holds the literal
 abbrev pub AllHold : List Node → ℕ → List ℕ → Type 0
 AllHold nodes x literal = (w : List ℕ) (i j : ℕ) → i ≤ length w → At nodes w x i j → (k : ℕ) × (i ≤ k) × OccursAt w literal k

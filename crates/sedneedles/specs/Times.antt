@@ -1,6 +1,6 @@
 -- Private to the proofs: no contract that `sedmatch` makes public cites what stands here.
 -- A set repeated a fixed number of times: bytes of it one after another, always as many.
-use Rattle.std.specs.Prelude.{◌≡◌, ℕ, ◌+◌, ◌<◌, ◌≤◌, ◌↔◌, Bool, List, length, slice_index, Option, Some, None}
+use Rattle.std.specs.Prelude.{◌≡◌, ℕ, ◌+◌, ◌-◌, ◌<◌, ◌≤◌, ◌↔◌, Bool, List, length, slice_index, Option, Some, None}
 use Rattle.sedre.specs.declared.types.Node.{Node}
 use Rattle.sedmarks.specs.Reach.{At}
 use Rattle.sedmarks.specs.Spans.{IsIn}
@@ -29,6 +29,16 @@ AreWidths nodes members widths = (x : ℕ) → x < length widths → AllTimes no
 abbrev pub LastOutside : List Bool → List ℕ → ℕ → ℕ → Option ℕ → Type 0
 LastOutside members w p q None = Repeated members w p q
 LastOutside members w p q (Some k) = (p ≤ k) × (k < q) × (CanBegin (WithSet members) w k → ⊥) × Repeated members w (k + 1) q
+
+-- how many bytes are looked at from the one before place q down to the place found, or to p where there is none
+abbrev pub looked_back : ℕ → ℕ → Option ℕ → ℕ
+looked_back p q None = q - p
+looked_back p q (Some k) = q - k
+
+-- the end of the `count` bytes found, or the end n of the text
+abbrev pub passed_times : ℕ → ℕ → Option ℕ → ℕ
+passed_times n count None = n
+passed_times n count (Some k) = k + count
 
 -- the first place from p on from which `count` bytes are in the set, if there is one
 abbrev pub FirstTimes : List Bool → ℕ → List ℕ → ℕ → Option ℕ → Type 0

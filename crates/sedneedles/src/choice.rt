@@ -10,6 +10,7 @@ ghost use Rattle.sedneedles.specs.Word.{AllWord};
 ghost use Rattle.sedneedles.specs.Choice.{AllChoice, AreHeads, AreShort, BranchesOf, ChoiceAt, ChoiceEnd, FirstChoice, Longer, LongestAt, RareHeads};
 ghost use Rattle.sedneedles.specs.Few.{Gathered, HasFew};
 ghost use Rattle.sedneedles.specs.Openings.{PairAt};
+ghost use Rattle.sedmarks.specs.Bytes.{looked_at};
 ghost use Rattle.sedmarks.specs.Nodes.{IsNode};
 ghost use Rattle.sedre.specs.Steps.{Takes, Counted};
 
@@ -340,7 +341,7 @@ fn rare_choice(
     requires literals { AreShort literals.now }
     requires from { from ≤ length text.now }
     ensures first { FirstChoice literals.now text.now from result }
-    ensures cost { Takes steps.old steps.new (21 * (length text.now + 1)) }
+    ensures cost { Takes steps.old steps.new (21 * looked_at (length text.now) from result) }
 {
     let mut place = from;
     while let Some(at) = find_few(text, few, place, steps) {
@@ -357,7 +358,7 @@ impl Choice {
     pub fn start(&self, text: &Text, from: usize, steps: &mut Steps) -> Option<usize>
         requires from { from ≤ length text.now }
         ensures first { FirstChoice self.now text.now from result }
-        ensures cost { Takes steps.old steps.new (22 * (length text.now + 1)) }
+        ensures cost { Takes steps.old steps.new (22 * looked_at (length text.now) from result) }
     {
         let literals = &self.literals;
         match (&self.rare, &self.openings) {
@@ -373,7 +374,9 @@ impl Choice {
     pub fn end(&self, text: &Text, start: usize, steps: &mut Steps) -> usize
         requires can { ChoiceAt self.now text.now start }
         ensures end { ChoiceEnd self.now text.now start result }
+        ensures short { result ≤ start + 20 }
         ensures cost { Takes steps.old steps.new 20 }
+        ensures counts { Counted steps.old steps.new 20 }
     {
         match longest_choice(text, &self.literals, start, steps) {
             Some(len) => text.after(start, len),

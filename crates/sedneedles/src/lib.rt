@@ -8,6 +8,7 @@
 mod apart;
 pub mod choice;
 pub mod few;
+pub mod hints;
 pub mod lookups;
 pub mod needed;
 mod openings;

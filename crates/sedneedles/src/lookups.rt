@@ -98,7 +98,7 @@ pub fn find_choice(
     requires literals { AreShort literals.now }
     requires from { from ≤ length text.now }
     ensures first { FirstChoice literals.now text.now from result }
-    ensures cost { Takes steps.old steps.new (21 * (length text.now + 1)) }
+    ensures cost { Takes steps.old steps.new (21 * looked_at (length text.now) from result) }
     ensures counts { Counted steps.old steps.new (21 * looked_at (length text.now) from result) }
 {
     let bytes = uncounted(text);
@@ -131,7 +131,7 @@ pub fn find_opened(
     requires literals { AreShort literals.now }
     requires from { from ≤ length text.now }
     ensures first { FirstChoice literals.now text.now from result }
-    ensures cost { Takes steps.old steps.new (22 * (length text.now + 1)) }
+    ensures cost { Takes steps.old steps.new (22 * looked_at (length text.now) from result) }
     ensures counts { Counted steps.old steps.new (22 * looked_at (length text.now) from result) }
 {
     let bytes = uncounted(text);

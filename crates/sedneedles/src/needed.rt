@@ -223,6 +223,7 @@ pub fn narrowed(
 ) -> Option<usize>
     requires from { from ≤ length text.now }
     ensures narrowed { (e : Tree) → IsNeeded e needed.now → Narrowed e text.now from result }
+    ensures lies { IfSome result (λ q. (from ≤ q) × (q ≤ length text.now)) }
     ensures cost { Pays steps.old steps.new (length text.now) from }
 {
     match needed {

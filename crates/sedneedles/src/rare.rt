@@ -1,5 +1,5 @@
-//! A few bytes, one of which stands at a fixed distance after the beginning of every match: the rarest are sought, the
-//! next rarest are compared with what stands there, and after them the nodes that come first in a match.
+//! A few bytes, one of which stands at a fixed distance after the beginning of every match: the rarest are sought, and the
+//! next rarest are compared with what stands there.
 ghost use Rattle.std.specs.Prelude.{ℕ, ◌+◌, ◌*◌, ◌<◌, ◌≤◌, ◌↔◌, ◌⊎◌, Some, length, IfSome, IsTrue};
 ghost use Rattle.sedre.specs.Arena.{tree, tree_at};
 ghost use Rattle.sedre.specs.Tree.{Tree};
@@ -8,7 +8,6 @@ ghost use Rattle.sedneedles.specs.Rare.{StandsAt, HeldAt, FirstFixed, FirstRare,
 ghost use Rattle.sedneedles.specs.Few.{HasFew};
 ghost use Rattle.sedmarks.specs.Spans.{IsIn};
 ghost use Rattle.sedmarks.specs.Beginnings.{AllBegin};
-ghost use Rattle.sedmarks.specs.Search.{Sought, sought_to};
 ghost use Rattle.sedmarks.specs.Nodes.{IsNode};
 ghost use Rattle.sedmarks.specs.Costs.{Pays};
 ghost use Rattle.sedre.specs.Steps.{Takes};
@@ -16,16 +15,9 @@ ghost use Rattle.sedre.specs.Steps.{Takes};
 use crate::few::{Few, few_of, members_of};
 use crate::lookups::{find_few, pass_apart};
 use crate::needed::{Link, link_of};
-use sedmarks::ahead::{Lead, look_ahead};
-use sedmarks::beginnings::{Begins, next_start};
-use sedmarks::counted::{Text, are_bytes};
+use sedmarks::beginnings::Begins;
+use sedmarks::counted::Text;
 use sedre::{ByteSet, Expr, Node, Steps};
-
-/// How many bytes a search by a table passes in the time of one look ahead.
-const FAR: usize = 24;
-
-/// How many more looks ahead are made if two bytes stand where they do in a match.
-const SPARE: usize = 4;
 
 /// How often bytes stand in a thousand that are sought one by one in less time than by vectors.
 const RARE: usize = 21;
@@ -169,7 +161,7 @@ impl Rare {
 
     /// The first place from `from` on at which a match can begin as far as these bytes tell, if there is one. Vectors
     /// pass over the text before each place of the rarest is looked at.
-    fn find(&self, text: &Text, from: usize, steps: &mut Steps) -> Option<usize>
+    pub fn find(&self, text: &Text, from: usize, steps: &mut Steps) -> Option<usize>
         requires from { from ≤ length text.now }
         ensures first { FirstRare self.now text.now from result }
         ensures lies { IfSome result (λ k. k < length text.now) }
@@ -177,18 +169,6 @@ impl Rare {
     {
         let place = self.pass(text, from, steps);
         self.find_near(text, place, steps)
-    }
-
-    /// Whether one more look ahead, after `looks` others, is paid for by the time that was saved where `passed` bytes
-    /// were passed over.
-    fn is_worth(&self, passed: usize, looks: usize) -> bool {
-        // At the place where a search begins a literal was mostly found before, which a table tells in less time.
-        let spare = if passed > 0 && self.held.is_some() {
-            SPARE
-        } else {
-            0
-        };
-        looks < passed / FAR + spare
     }
 }
 
@@ -344,74 +324,6 @@ pub fn rare_of(expr: &Expr, begins: &Begins, steps: &mut Steps) -> Option<Rare>
         None => {
             let held = second_of_two(expr, steps);
             with_held(rare_first(begins), held)
-        }
-    }
-}
-
-/// Whether looks ahead stay within the steps that a search may take, in a text of `bytes` bytes and for an expression
-/// of `nodes` nodes.
-fn is_large(nodes: usize, bytes: usize) -> bool
-    ensures { IsTrue result → (2 ≤ nodes) × (8 ≤ bytes) }
-{
-    nodes >= 2 && bytes >= 8
-}
-
-/// The first place from `from` on at which a match can begin, if there is one, and what a look ahead tells of it. Its
-/// rarest bytes are sought, and as long as that is worth it, a look ahead follows at each place found.
-fn rare_place(
-    expr: &Expr,
-    rare: &Rare,
-    text: &Text,
-    from: usize,
-    steps: &mut Steps,
-) -> Option<(usize, Lead)>
-    requires from { from ≤ length text.now }
-    requires rare { AllRare (tree expr.now) (Some rare.now) }
-    ensures sought { Sought (tree expr.now) text.now from result }
-    ensures cost { let m = length expr.now.nodes in let n = length text.now in
-        Pays steps.old steps.new (8 * m * sought_to n result + m * n + 1) (8 * m * from) }
-{
-    let large = is_large(expr.nodes(), text.len());
-    are_bytes(text);
-    let mut place = from;
-    let mut looks = 0usize;
-    while let Some(start) = rare.find(text, place, steps) {
-        if !large || !rare.is_worth(start.saturating_sub(from), looks) {
-            return Some((start, Lead::Unknown));
-        }
-        match look_ahead(expr, text, start, steps) {
-            Lead::Nowhere => {
-                place = start + 1;
-                looks = looks.saturating_add(1);
-            }
-            lead => return Some((start, lead)),
-        }
-    }
-    None
-}
-
-/// The first place from `from` on at which a match can begin, if there is one, and what a look ahead tells of it.
-pub fn first_place(
-    expr: &Expr,
-    begins: &Begins,
-    rare: &Option<Rare>,
-    text: &Text,
-    from: usize,
-    steps: &mut Steps,
-) -> Option<(usize, Lead)>
-    requires some { 0 < length expr.now.nodes }
-    requires from { from ≤ length text.now }
-    requires begins { AllBegin (tree expr.now) begins.now }
-    requires rare { AllRare (tree expr.now) rare.now }
-    ensures sought { Sought (tree expr.now) text.now from result }
-    ensures cost { let m = length expr.now.nodes in let n = length text.now in
-        Pays steps.old steps.new (8 * m * sought_to n result + m * n + 1) (8 * m * from) }
-{
-    match rare {
-        Some(rare) => rare_place(expr, rare, text, from, steps),
-        None => {
-            let start = next_start(begins, text, from, steps)?;
-            Some((start, Lead::Unknown))
         }
     }
 }

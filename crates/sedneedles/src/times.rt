@@ -4,9 +4,9 @@
 //! The last of these bytes is looked at first. Where it isn't in the set, no match begins before it, and those before
 //! it aren't looked at: where such bytes are rare, most of a text is passed over unseen.
 ghost use Rattle.std.specs.Prelude.{◌≡◌, ◌+◌, ◌<◌, ◌≤◌, ◌-◌, length, Some, IfOk, IfSome, IsTrue};
-ghost use Rattle.sedneedles.specs.Times.{SameBytes, AllTimes, AreWidths, LastOutside, FirstTimes};
+ghost use Rattle.sedneedles.specs.Times.{SameBytes, AllTimes, AreWidths, LastOutside, FirstTimes, looked_back, passed_times};
 ghost use Rattle.sedmarks.specs.Costs.{Pays};
-ghost use Rattle.sedre.specs.Steps.{Takes, Counted};
+ghost use Rattle.sedre.specs.Steps.{Takes, Counted, TakesAtLeast};
 
 use crate::few::members_of;
 use sedmarks::counted::Text;
@@ -102,6 +102,7 @@ fn last_outside(
     requires to { to ≤ length text.now }
     ensures last { LastOutside set.now text.now from to result }
     ensures cost { Pays steps.old steps.new to from }
+    ensures counts { TakesAtLeast steps.old steps.new (looked_back from to result) }
 {
     for place in (from..to).rev() {
         let byte = text.byte(place, steps);
@@ -113,6 +114,7 @@ fn last_outside(
 }
 
 /// The first place from `from` on at which `count` bytes in a row begin that are in the set, if there is one.
+/// Counts at most a look for each byte from `from` to their end, and at least one for each of them.
 #[inline(never)]
 pub fn find_times(
     set: &ByteSet,
@@ -123,7 +125,8 @@ pub fn find_times(
 ) -> Option<usize>
     requires from { from ≤ length text.now }
     ensures first { FirstTimes set.now count text.now from result }
-    ensures cost { Pays steps.old steps.new (length text.now) from }
+    ensures cost { Pays steps.old steps.new (passed_times (length text.now) count result) from }
+    ensures counts { IfSome result (λ _. TakesAtLeast steps.old steps.new count) }
 {
     let mut start = from;
     let mut seen = from;

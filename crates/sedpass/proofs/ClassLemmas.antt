@@ -1,5 +1,5 @@
 -- How classes of bytes are found.
-use Rattle.std.proofs.Common.{◌≡◌, ℕ, ◌+◌, ◌*◌, ◌<◌, ◌≤◌, ◌⊎◌, Bool, true, false, List, length, length-set, Some, IsTrue, refl, sym, ap, ◌∙◌, subst, inl, inr, ⊎_elim, true≢false, arith}
+use Rattle.std.proofs.Common.{◌≡◌, ℕ, ◌+◌, ◌*◌, ◌<◌, ◌≤◌, ◌⊎◌, Bool, true, false, List, length, length-set, Some, refl, sym, ap, ◌∙◌, subst, inl, inr, ⊎_elim, arith}
 use Rattle.std.specs.Prelude.{slice_get, slice_index_or, slice_set, eqb, cond}
 use Rattle.std.proofs.lemmas.List.{get_or-set_same, get_or-set_other}
 use Rattle.std.proofs.lemmas.Bool.{cases_eq, eqb-true, eq-eqb}
@@ -160,35 +160,6 @@ sides c d false true e = absurd (omega arith)
 pub finer : (classes keys of : List ℕ) (members : List Bool) (count : ℕ) → AreKeys (side_key classes members) 256 keys → IsNumbered keys of count → IsFiner classes members of
 finer classes keys of members count are numbered a b less less' e =
     sides (at classes a) (at classes b) (has members a) (has members b) (sym (are a less).0 ∙ numbered.alike a b less less' e ∙ (are b less').0)
-
-pub parted_finer : (alone : List Bool) (old new : List ℕ) (set members : List Bool) → IsFiner old set new → AreParted alone old members → AreParted alone new members
-parted_finer alone old new set members finer parted a b less less' free free' e = parted a b less less' free free' (finer a b less less' e).0
-
-pub parted_here : (alone : List Bool) (old new : List ℕ) (set : List Bool) → IsFiner old set new → AreParted alone new set
-parted_here alone old new set finer a b less less' free free' e = (finer a b less less' e).1
-
-alone_other : (alone after : List Bool) (byte b : ℕ) → byte < length alone → after ≡ slice_set alone byte true → slice_index_or after b false ≡ false → (b ≡ byte → ⊥) × (slice_index_or alone b false ≡ false)
-alone_other alone after byte b inside is free =
-    ⊎_elim
-    (λ (e : b ≡ byte).
-    let here : slice_index_or after b false ≡ true = ap (λ n. slice_index_or after n false) e ∙ ap (λ l. slice_index_or l byte false) is ∙ get_or-set_same alone byte true false inside in
-    absurd (true≢false (sym here ∙ free)))
-    (λ (ne : b ≡ byte → ⊥). (ne, sym (ap (λ l. slice_index_or l b false) is ∙ get_or-set_other alone byte b true false ne) ∙ free))
-    (cases_eq b byte)
-
-pub parted_alone : (alone after : List Bool) (byte : ℕ) (classes : List ℕ) (members : List Bool) → byte < length alone → after ≡ slice_set alone byte true → AreParted alone classes members → AreParted after classes members
-parted_alone alone after byte classes members inside is parted a b less less' free free' =
-    parted a b less less' (alone_other alone after byte a inside is free).1 (alone_other alone after byte b inside is free').1
-
-none_has : (members : List Bool) (byte b : ℕ) → ((c : ℕ) → IsTrue (slice_index_or members c false) → c ≡ byte) → (b ≡ byte → ⊥) → has members b ≡ false
-none_has members byte b only ne = elim (slice_index_or members b false) as (λ v. (v ≡ true → b ≡ byte) → v ≡ false) [
-  | true ↦ λ tell. absurd (ne (tell refl))
-  | false ↦ λ tell. refl
-] (only b)
-
-pub parted_sole : (alone after : List Bool) (byte : ℕ) (classes : List ℕ) (members : List Bool) → byte < length alone → after ≡ slice_set alone byte true → ((c : ℕ) → IsTrue (slice_index_or members c false) → c ≡ byte) → AreParted after classes members
-parted_sole alone after byte classes members inside is only a b less less' free free' e =
-    none_has members byte a only (alone_other alone after byte a inside is free).0 ∙ sym (none_has members byte b only (alone_other alone after byte b inside is free').0)
 
 own_same : (s t : Bool) (a b c d : ℕ) → c < 256 → d < 256 → cond s (256 + a) c ≡ cond t (256 + b) d → (a ≡ b) ⊎ ((s ≡ false) × (t ≡ false) × (c ≡ d))
 own_same true true a b c d low low' e = inl (omega arith)

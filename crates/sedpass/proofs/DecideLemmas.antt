@@ -20,11 +20,9 @@ use Rattle.sedre.specs.Arena.{IsArena}
 use Rattle.sedmarks.specs.Spans.{Spans, Copies, no_copy}
 use Rattle.sedmarks.proofs.SpanLemmas.{Spans-forward}
 use Rattle.sedpass.specs.Decide.{found, undecided, HasAll, flags_of, told_of, nodes_in, text_in, EndsIn, IsDesk, HasDesk, IsSetAt, AreGroupTables, AreRoomy, HasSpace, SameRooms, SameTables, owed_in}
-use Rattle.sedpass.specs.Find.{HasGroupRoom}
 use Rattle.sedpass.specs.Kept.{AllMarked, CeasesAt, IsKept, SameKept, SameSpace, ends_told}
 use Rattle.sedpass.specs.Regions.{IsLastIn, all_of, Reaches, StopsAt, RunsTo, IsRunOf, repeated, in_group}
 use Rattle.sedpass.specs.Table.{IsAhead, IsTable, SameRoom, SameShape, MayBegin}
-use Rattle.sedpass.specs.declared.find.Tables.{Tables}
 use Rattle.sedpass.specs.declared.groups.GroupRoom.{GroupRoom}
 use Rattle.sedpass.specs.declared.groups.GroupTables.{GroupTables}
 use Rattle.sedpass.specs.declared.groups.Matched.{Matched}
@@ -422,9 +420,9 @@ least_no_byte s t i j up none = omega (arith, up, none)
 -- Costs.
 
 -- looks into a region from where the match begins that ends with it
-pub owed_here : (s : Subject) (tables : GroupTables) (r : Region) (here : Matched) → EndsIn s r here → owed_in s tables r here.start ≤ 100 * length (nodes_in s) * (here.stop - here.start)
-owed_here s tables r here ends =
-    subst (λ v. owed_in s tables r here.start ≤ 100 * length (nodes_in s) * (v - here.start)) (sym ends.1) (owed_small (length (nodes_in s)) (tables.inside.room - 1) r here.start)
+pub owed_here : (s : Subject) (r : Region) (here : Matched) → EndsIn s r here → owed_in s r here.start ≤ 100 * length (nodes_in s) * (here.stop - here.start)
+owed_here s r here ends =
+    subst (λ v. owed_in s r here.start ≤ 100 * length (nodes_in s) * (v - here.start)) (sym ends.1) (owed_small (length (nodes_in s)) r here.start)
 
 pub not_empty : (i j : ℕ) → i ≤ j → (i ≡ j → ⊥) → i < j
 not_empty i j up other = ⊎_elim (λ (e : i ≡ j). absurd (other e)) (λ (ne : i ≡ j → ⊥). omega (arith, up, ne)) (cases_eq i j)
@@ -494,15 +492,6 @@ has_desk s t r text blocks nodes tables space short cut few = record {
     single = ap (λ v. v.sweeps) tables.ways.ahead;
     brief = ap (λ v. v.keeps) tables.ways.ahead;
   };
-}
-
--- and a match found with its groups
-pub has_group_room : (s : Subject) (t : Tables) (r : GroupRoom) (text blocks nodes : ℕ) → AreGroupTables s.prepared.now t.groups → HasSpace text blocks nodes r →
-    length (text_in s) ≤ text → length (text_in s) < blocks * (t.groups.inside.room - 1) → length (nodes_in s) ≤ nodes → HasGroupRoom s t r
-has_group_room s t r text blocks nodes tables space short cut few = record {
-  desk = has_desk s t.groups r text blocks nodes tables space short cut few;
-  none = space.none;
-  tasks = (let h = space.tasks in omega (arith, h, few));
 }
 
 -- Tables that serve one expression after another.

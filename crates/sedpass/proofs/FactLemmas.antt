@@ -1,27 +1,26 @@
 -- What is told of each node once, and what it means for passes.
 use Rattle.std.proofs.Common.{◌≡◌, ℕ, zero, suc, ◌+◌, ◌-◌, ◌<◌, ◌≤◌, ◌⊎◌, ◌↔◌, Bool, true, false, ◌&&◌, List, [], ◌∷◌, ◌++◌, length, length-append, get_or, Option, Some, None, IsTrue, refl, sym, ap, ◌∙◌, subst, inl, inr, ⊎_elim, true≢false, arith}
-use Rattle.std.specs.Prelude.{slice_get, nat_lt, eqb, IfSome, cond, slice_index_or}
-use Rattle.std.proofs.lemmas.Bool.{and_from, cases_lt, eqb-true, eq-eqb, lt-ltb}
+use Rattle.std.specs.Prelude.{slice_get, eqb, IfSome, cond}
+use Rattle.std.proofs.lemmas.Bool.{cases_lt}
 use Rattle.std.proofs.lemmas.Option.{slice_get_within, slice_get_read}
 use Rattle.sedre.specs.Tree.{Tree, empty, set, begin, end, seq, alt, group, star, opt, size}
 use Rattle.sedre.specs.Arena.{Written, IsExpr, IsPart, FollowsParts, tree_of, tree_at}
-use Rattle.sedre.specs.Mirror.{mirror, mirror_node, seen}
+use Rattle.sedre.specs.Mirror.{mirror, seen}
 use Rattle.sedre.specs.declared.types.Node.{Node}
 use Rattle.sedre.specs.declared.types.NodeId.{NodeId}
 use Rattle.sedre.specs.declared.types.Node.TheVariants.{Empty, Set, Begin, End, Seq, Alt, Group, Star, Opt}
 use Rattle.sedre.proofs.TreeLemmas.{tree_at-node}
 use Rattle.sedre.proofs.Written.{size_positive}
-use Rattle.sedre.proofs.MirrorLemmas.{tree_at-mirror, seen-length, old_node}
+use Rattle.sedre.proofs.MirrorLemmas.{tree_at-mirror, seen-length}
 use Rattle.sedmarks.specs.Spans.{Spans, no_copy}
 use Rattle.sedmarks.specs.Places.{IsPlace}
 use Rattle.sedmarks.proofs.SpanLemmas.{Spans-forward}
 use Rattle.sedmarks.proofs.OpenLemmas.{node_at}
-use Rattle.sedpass.specs.Groups.{reported, holds, has_group}
-use Rattle.sedpass.specs.Overlay.{HasGroup}
+use Rattle.sedpass.specs.Groups.{reported, has_group}
 use Rattle.sedpass.specs.Regions.{IsRunOf, repeated, in_group}
 use Rattle.sedpass.specs.Lengths.{length_of, sum_of, same_of}
-use Rattle.sedpass.specs.Prepared.{nullable, null_in, null_at, is_set, run_of, IsFacts, AreFacts, IsLeaf, IsOfEachKind, IsShort, AreClasses}
-use Rattle.sedpass.specs.Rows.{at_begin, at_end, IsRange, AreNull, SameBytes}
+use Rattle.sedpass.specs.Prepared.{nullable, null_in, null_at, is_set, run_of, IsFacts, AreFacts, IsLeaf, IsOfEachKind, IsShort, SameNulls}
+use Rattle.sedpass.specs.Rows.{at_begin, at_end, IsRange, AreNull}
 use Rattle.sedpass.specs.declared.nodes.Facts.{Facts}
 use Rattle.sedpass.specs.declared.nodes.Kind.{Kind}
 use Rattle.sedpass.specs.declared.nodes.Null.{Null}
@@ -78,7 +77,7 @@ null_tells true e kind w p there c low =
     (λ h. law.0 (same ∙ h), λ h. sym same ∙ law.1 h)
 
 -- where no node tells a kind from another, each place will do
-pub null_anywhere : (mirrored : Bool) (e : Written) (kind : Kind) → ((x : ℕ) (first last : Bool) → x < length e.nodes → nullable first last (tree_at e.nodes x) ≡ nullable false false (tree_at e.nodes x)) →
+pub null_anywhere : (mirrored : Bool) (e : Written) (kind : Kind) → SameNulls e.nodes →
     (w : List ℕ) (p : ℕ) (first last : Bool) → IsPlace w p first last → AreNull (seen mirrored e).nodes w p (null_in e.nodes kind)
 null_anywhere false e kind same w p first last there c low =
     let law = nullable_is w p first last there (tree_at e.nodes c) in
@@ -300,43 +299,13 @@ fact_at (f ∷ told) (suc x) inside = fact_at told x (omega (arith, inside))
 
 -- where no node is told of one kind alone
 pub told_anywhere : (nodes : List Node) (told : List Facts) → length told ≡ length nodes → AreFacts nodes told → ((x : ℕ) (here : Facts) → slice_get told x ≡ Some here → IsOfEachKind here.null) →
-    (x : ℕ) (first last : Bool) → x < length nodes → nullable first last (tree_at nodes x) ≡ nullable false false (tree_at nodes x)
+    SameNulls nodes
 told_anywhere nodes told all facts each x first last inside =
     let here = fact_at told x (omega arith) in
     let fact = facts x here.0 here.1 in
     sym (fact.null first last) ∙ each x here.0 here.1 first last ∙ fact.null false false
 
-set_seen : (node : Node) (members : List Bool) → mirror_node node ≡ Set members → node ≡ Set members
-set_seen (Set m) members e = e
-set_seen Empty members e = absurd cc
-set_seen Begin members e = absurd cc
-set_seen End members e = absurd cc
-set_seen (Seq a b) members e = absurd cc
-set_seen (Alt a b) members e = absurd cc
-set_seen (Group k a) members e = absurd cc
-set_seen (Star a first) members e = absurd cc
-set_seen (Opt a first) members e = absurd cc
-
 -- what facts mean, in the words of regions, groups and rows
-
-pub has_group_is : (t : Tree) (k : ℕ) → IsTrue (has_group t k) ↔ HasGroup t k
-has_group_is empty k = not_true ⊥ (λ h. h)
-has_group_is (set members) k = not_true ⊥ (λ h. h)
-has_group_is begin k = not_true ⊥ (λ h. h)
-has_group_is end k = not_true ⊥ (λ h. h)
-has_group_is (seq a b) k = or_truth (has_group a k) (has_group b k) (HasGroup a k) (HasGroup b k) (has_group_is a k) (has_group_is b k)
-has_group_is (alt a b) k = or_truth (has_group a k) (has_group b k) (HasGroup a k) (HasGroup b k) (has_group_is a k) (has_group_is b k)
-has_group_is (group n a) k = or_truth (eqb n k) (has_group a k) (n ≡ k) (HasGroup a k) (eqb-true n k, eq-eqb n k) (has_group_is a k)
-has_group_is (star a first) k = has_group_is a k
-has_group_is (opt a first) k = has_group_is a k
-
--- the groups from 1 to 9 that are told of a node are those in its tree
-pub told_groups : (t : Tree) (x : ℕ) (facts : Facts) → IsFacts t x facts → (k : ℕ) → 1 ≤ k → k ≤ 9 → IsTrue (holds facts.groups k) ↔ HasGroup t k
-told_groups t x facts told k low high =
-    let one : reported k ≡ true = and_from (nat_lt 0 k) (nat_lt k 10) (lt-ltb 0 k (omega arith)) (lt-ltb k 10 (omega arith)) in
-    let same : holds facts.groups k ≡ has_group t k = told.groups k ∙ ap (λ b. b && has_group t k) one in
-    let law = has_group_is t k in
-    (λ h. law.0 (sym same ∙ h), λ h. same ∙ law.1 h)
 
 module _ (nodes : List Node) (groups : ℕ) (expr : IsExpr nodes groups) where
   set_node : (a : ℕ) (node : Node) → slice_get nodes a ≡ Some node → is_set (tree_of (tree_at nodes) node) ≡ true → (members : List Bool) × (slice_get nodes a ≡ Some (Set members))
@@ -393,14 +362,3 @@ module _ (nodes : List Node) (groups : ℕ) (expr : IsExpr nodes groups) where
   run_by (suc n) x c small inside run =
       let here = node_at nodes x inside in
       by_node x c (λ y less in_y told. run_by n y c (omega arith) in_y told) here.0 here.1 (sym (ap (λ t. run_of t x) (tree_at-node nodes x here.0 expr.arena here.1)) ∙ run)
-
-  -- a node of which a run is told repeats that set, in groups or not
-  pub told_run : (x c : ℕ) (facts : Facts) → x < length nodes → IsFacts (tree_at nodes x) x facts → facts.run ≡ Some c → IsRunOf nodes c x × ((members : List Bool) × (slice_get nodes c ≡ Some (Set members)))
-  told_run x c facts inside told run = run_by (x + 1) x c (omega arith) inside (sym told.run ∙ run)
-
--- bytes of one class are in the same sets, of the mirrored expression too
-pub same_class : (mirrored : Bool) (e : Written) (of : List ℕ) (columns a b : ℕ) → AreClasses e.nodes of columns → a < 256 → b < 256 → slice_index_or of a 0 ≡ slice_index_or of b 0 → SameBytes (seen mirrored e).nodes (Some a) (Some b)
-same_class false e of columns a b classes less less' same x members is = classes.alike a b less less' same x members is
-same_class true e of columns a b classes less less' same x members is =
-    let old = old_node e.nodes x (Set members) is in
-    classes.alike a b less less' same x members (old.1 ∙ ap (λ n. Some n) (set_seen old.0 members old.2))

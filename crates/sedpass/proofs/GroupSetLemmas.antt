@@ -6,7 +6,7 @@ use Rattle.std.proofs.Math.Pow.{pow_mono}
 use Rattle.std.proofs.Math.Nat.{mod-eq_of_lt}
 use Rattle.std.proofs.lemmas.Nat.Bits.{bit_at_or, bit_at_and, bit_at_not, bit_at-lt, bit_at-zero, bit_at-pow_same, bit_at-pow_other, bit_at_above, bit_at_ones, bit_at-trailing_zeros}
 use Rattle.std.proofs.lemmas.Nat.{and_le_r}
-use Rattle.std.proofs.lemmas.Bool.{and_parts, and_from, cases_lt, cases_eq, eqb-true, eq-eqb, lt-ltb, le-ltb, ltb-true}
+use Rattle.std.proofs.lemmas.Bool.{and_parts, and_from, cases_lt, cases_eq, eqb-true, eq-eqb, lt-ltb, ltb-true}
 use Rattle.sedpass.specs.Groups.{reported, holds}
 use Rattle.sedpass.specs.declared.group_set.GroupSet.{GroupSet}
 
@@ -66,9 +66,6 @@ and_false : (b : Bool) → (b && false) ≡ false
 and_false true = refl
 and_false false = refl
 
-pub holds_none : (k : ℕ) → holds (of_bits 0) k ≡ false
-holds_none k = ap (λ x. nat_lt k 10 && eqb x 1) (bit_at-zero k) ∙ and_false (nat_lt k 10)
-
 pub holds_one : (k n : ℕ) → 1 ≤ k → k ≤ 9 → holds (of_bits (1 * 2 ^ k % 65536)) n ≡ (reported n && eqb k n)
 holds_one k n low high =
     let most : 2 ^ k ≤ 2 ^ 9 = pow_mono high in
@@ -85,17 +82,6 @@ holds_one k n low high =
     let bit : bit_at (2 ^ k) n ≡ 0 = bit_at-pow_other k n ne in
     let other : eqb k n ≡ false = apart k n (λ e. ne (sym e)) in
     ap (λ x. nat_lt n 10 && eqb x 1) bit ∙ and_false (nat_lt n 10) ∙ sym (ap (λ x. reported n && x) other ∙ and_false (reported n)))
-    (cases_eq n k)
-
-pub reported_beyond : (k n : ℕ) → (k < 1) ⊎ (9 < k) → (reported n && eqb k n) ≡ false
-reported_beyond k n out =
-    ⊎_elim
-    (λ (e : n ≡ k).
-    ⊎_elim
-    (λ (low : k < 1). let none : nat_lt 0 n ≡ false = le-ltb 0 n (omega arith) in rw none refl)
-    (λ (high : 9 < k). let none : nat_lt n 10 ≡ false = le-ltb n 10 (omega arith) in ap (λ b. (nat_lt 0 n && b) && eqb k n) none ∙ ap (λ b. b && eqb k n) (and_false (nat_lt 0 n)))
-    out)
-    (λ (ne : n ≡ k → ⊥). ap (λ x. reported n && x) (apart k n (λ e. ne (sym e))) ∙ and_false (reported n))
     (cases_eq n k)
 
 bit_true : (n k : ℕ) → eqb (bit_at n k) 1 ≡ true → bit_at n k ≡ 1

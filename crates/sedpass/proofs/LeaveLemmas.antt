@@ -1,7 +1,7 @@
 -- How a part is left, by what follows it in its node, and what a node is left to that nothing follows.
-use Rattle.std.proofs.Common.{◌≡◌, ℕ, ◌+◌, ◌-◌, ◌<◌, ◌≤◌, ◌⊎◌, ◌↔◌, Bool, true, false, ◌&&◌, ◌||◌, List, length, reverse, Some, refl, sym, ap, ◌∙◌, subst, inl, inr, ⊎_elim, arith}
-use Rattle.std.specs.Prelude.{slice_get, slice_index_or}
-use Rattle.std.proofs.lemmas.Bool.{and_parts, and_from, or_cases, or_left, or_right, cases_lt}
+use Rattle.std.proofs.Common.{◌≡◌, ℕ, ◌+◌, ◌-◌, ◌<◌, ◌≤◌, ◌⊎◌, ◌↔◌, true, List, length, reverse, Some, refl, sym, ap, ◌∙◌, subst, inl, inr, ⊎_elim, arith}
+use Rattle.std.specs.Prelude.{slice_get}
+use Rattle.std.proofs.lemmas.Bool.{cases_lt}
 use Rattle.sedre.specs.Arena.{Written, IsArena, IsPart, HasTwoParts, tree_at}
 use Rattle.sedre.specs.Mirror.{mirror_node, seen}
 use Rattle.sedre.proofs.MirrorLemmas.{seen-node, old_node}
@@ -10,9 +10,8 @@ use Rattle.sedre.specs.declared.types.NodeId.{NodeId}
 use Rattle.sedre.specs.declared.types.Node.TheVariants.{Empty, Set, Begin, End, Seq, Alt, Group, Star, Opt}
 use Rattle.sedmarks.specs.declared.passes.Starts.{Starts}
 use Rattle.sedmarks.specs.Spans.{no_copy}
-use Rattle.sedmarks.specs.Search.{starts_to}
-use Rattle.sedmarks.specs.Reach.{At, BeginsWith, IsStart, one_start, Enters, at_root, with_whole, after_left, again, Ends, TellNull, TellEnded, TellBegun}
-use Rattle.sedpass.specs.Regions.{EndsWith, Leaves, at_end, with_end, before_right, before_copies, Reaches, EndsAt, Opposite, TellEnds, TellReached, IsLastPart, IsLastIn, all_of, last_of}
+use Rattle.sedmarks.specs.Reach.{At, BeginsWith, IsStart, one_start, Enters, at_root, with_whole, after_left, again, Ends}
+use Rattle.sedpass.specs.Regions.{EndsWith, Leaves, at_end, with_end, before_right, before_copies, Reaches, EndsAt, Opposite, IsLastPart, IsLastIn, all_of, last_of}
 use Rattle.sedmarks.proofs.SpanLemmas.{Spans-forward}
 use Rattle.sedmarks.proofs.ReachLemmas.{close_at}
 use Rattle.sedmarks.proofs.MirrorLemmas.{At-mirror}
@@ -187,10 +186,6 @@ alt_looks nodes w r j x i a b arena last is = (
   reaches_last nodes w r j b.index i arena (last_of x b.index (Alt a b) is (inr refl) last),
 )
 
-pub right_looks : (nodes : List Node) (w : List ℕ) (r j x k : ℕ) (a b : NodeId) → IsArena nodes → IsLastIn nodes r x → slice_get nodes x ≡ Some (Seq a b) →
-    Reaches nodes w r (one_start j) b.index k ↔ At nodes w b.index k j
-right_looks nodes w r j x k a b arena last is = reaches_last nodes w r j b.index k arena (last_of x b.index (Seq a b) is refl last)
-
 -- a node ends with a byte or without
 pub ends_at : (nodes : List Node) (w : List ℕ) (r x q : ℕ) (s : Starts) → EndsAt nodes w r s x q ↔ (Ends nodes w r s x q ⊎ (Enters nodes w r s x q × At nodes w x q q))
 ends_at nodes w r x q s = (
@@ -207,24 +202,6 @@ ends_at nodes w r x q s = (
       (λ (null : Enters nodes w r s x q × At nodes w x q q). (q, null.0, null.1))
       h,
 )
-
--- so the marks of today's passes tell it
-pub row_ends : (nodes : List Node) (w : List ℕ) (r q : ℕ) (s : Starts) (ended begun null row : List Bool) → TellEnded nodes w r s q ended → TellBegun nodes w r s q begun → TellNull nodes w r q null →
-    ((x : ℕ) → x < r + 1 → slice_index_or row x false ≡ (slice_index_or ended x false || (slice_index_or begun x false && slice_index_or null x false))) → TellEnds nodes w r s q row
-row_ends nodes w r q s ended begun null row ends begins nulls is x low =
-    let e = slice_index_or ended x false in
-    let b = slice_index_or begun x false in
-    let n = slice_index_or null x false in
-    let law = ends_at nodes w r x q s in (
-      λ h. law.1 (⊎_elim
-          (λ (l : e ≡ true). inl ((ends x low).0 l))
-          (λ (m : (b && n) ≡ true). let both = and_parts b n m in inr ((begins x low).0 both.0, (nulls x low).0 both.1))
-          (or_cases e (b && n) (sym (is x low) ∙ h))),
-      λ h. is x low ∙ ⊎_elim
-          (λ (l : Ends nodes w r s x q). or_left e (b && n) ((ends x low).1 l))
-          (λ (m : Enters nodes w r s x q × At nodes w x q q). or_right e (b && n) (and_from b n ((begins x low).1 m.0) ((nulls x low).1 m.1)))
-          (law.0 h),
-    )
 
 -- a part that begins where the mirrored node does ends where the node does
 begins-ends : (node : Node) (c : ℕ) → BeginsWith node c → EndsWith (mirror_node node) c
@@ -317,25 +294,3 @@ module _ (e : Written) (w : List ℕ) (r : ℕ) (s t : Starts) (arena : IsArena 
         let end : k + h.0 ≡ length w = omega arith in
         (k, (At-mirror e (seen true e) w (reverse w) x p k d h.0 refl refl sum end).1 h.2, Leaves-unmirror x h.0 k end h.1),
   )
-
--- the marks of that pass tell what is marked
-tell_reached : (e : Written) (w : List ℕ) (r : ℕ) (s t : Starts) (p d : ℕ) (marks : List Bool) → IsArena e.nodes → Opposite (length w) s t → t.last ≤ length w → p + d ≡ length w →
-    TellEnds (seen true e).nodes (reverse w) r s d marks → TellReached e.nodes w r t p marks
-tell_reached e w r s t p d marks arena opposite inside sum tells x low =
-    let one = tells x low in
-    let same = reaches_mirror e w r s t arena opposite inside x p d sum in
-    (λ h. same.1 (one.0 h), λ reaches. one.1 (same.0 reaches))
-
-pub kept_one : (e : Written) (w : List ℕ) (r j b p d : ℕ) (marks : List Bool) → IsArena e.nodes → j + b ≡ length w → p + d ≡ length w →
-    TellEnds (seen true e).nodes (reverse w) r (one_start b) d marks → TellReached e.nodes w r (one_start j) p marks
-kept_one e w r j b p d marks arena end sum =
-    tell_reached e w r (one_start b) (one_start j) p d marks arena
-    (λ i c at. (λ (start : IsStart (one_start b) c). (omega arith, omega arith), λ (stop : IsStart (one_start j) i). (omega arith, omega arith)))
-    (omega arith) sum
-
-pub kept_all : (e : Written) (w : List ℕ) (r p d : ℕ) (marks : List Bool) → IsArena e.nodes → p + d ≡ length w →
-    TellEnds (seen true e).nodes (reverse w) r (starts_to 0 (length w)) d marks → TellReached e.nodes w r (starts_to 0 (length w)) p marks
-kept_all e w r p d marks arena sum =
-    tell_reached e w r (starts_to 0 (length w)) (starts_to 0 (length w)) p d marks arena
-    (λ i c at. (λ start. (omega arith, omega arith), λ stop. (omega arith, omega arith)))
-    (omega arith) sum

@@ -3,6 +3,7 @@ pub mod CellLemmas
 pub mod ClassLemmas
 pub mod CountLemmas
 pub mod DecideLemmas
+pub mod ExpressionLemmas
 pub mod FactLemmas
 pub mod ForwardLemmas
 pub mod GroupSetLemmas

@@ -10,14 +10,14 @@ use Rattle.sedre.specs.declared.types.Node.TheVariants.{Empty, Set, Begin, End, 
 use Rattle.sedmarks.specs.declared.passes.Starts.{Starts}
 use Rattle.sedmarks.specs.Spans.{Copies, no_copy, one_more}
 use Rattle.sedmarks.specs.Caps.{LastCut, LastCopy, only, then}
-use Rattle.sedmarks.specs.PartEnds.{GreatestBelow, Repeats}
+use Rattle.sedmarks.specs.PartEnds.{Repeats}
 use Rattle.sedmarks.specs.Reach.{At, BeginsWith, IsStart, one_start, Enters, at_root, with_whole, after_left, again}
-use Rattle.sedpass.specs.Regions.{Leaves, with_end, before_right, before_copies, Reaches, IsLastIn, all_of, Meets, TellReached, TellSets, HaveCommon, GoesOn, StopsAt, RunsTo, NextCopy, IsRunOf, repeated, in_group}
+use Rattle.sedpass.specs.Regions.{Leaves, with_end, before_right, before_copies, Reaches, IsLastIn, all_of, Meets, GoesOn, StopsAt, RunsTo, NextCopy, IsRunOf, repeated, in_group}
 use Rattle.sedmarks.proofs.SpanLemmas.{Spans-forward, Copies-forward, Copies-append}
 use Rattle.sedmarks.proofs.ReachLemmas.{open_at, close_at, Enters-inside}
 use Rattle.sedmarks.proofs.OpenLemmas.{node_at}
 use Rattle.sedmarks.proofs.TailLemmas.{star_copies}
-use Rattle.sedpass.proofs.LeaveLemmas.{OutOf, Leaves-part, Leaves-to, last_inside, last-leaves, Leaves-last, right_looks}
+use Rattle.sedpass.proofs.LeaveLemmas.{OutOf, Leaves-part, Leaves-to, last_inside, last-leaves, Leaves-last}
 
 -- copies that pass j have one that passes it, and copies lead from its end to theirs
 Copies-cross : (R : ℕ → ℕ → Type 0) (P : ℕ → Type 0) (G : Type 0) (j k : ℕ) →
@@ -244,19 +244,6 @@ set_early nodes w r c p t members arena is h =
 pub meets_early : (nodes : List Node) (w : List ℕ) (r a p : ℕ) (s t : Starts) → IsArena nodes → Meets nodes w r t a s p → p < t.last
 meets_early nodes w r a p s t arena h = set_early nodes w r h.0 p t h.1 arena h.2 h.4
 
--- two rows of marks tell whether they meet
-pub rows_meet : (nodes : List Node) (w : List ℕ) (r a p : ℕ) (s t : Starts) (front behind : List Bool) → IsArena nodes → a ≤ r →
-    TellSets nodes w a s p front → TellReached nodes w r t p behind → HaveCommon front behind ↔ Meets nodes w r t a s p
-rows_meet nodes w r a p s t front behind arena within fronts behinds = (
-  λ h.
-      let e = (fronts h.0).0 h.1 in
-      let low = Enters-inside nodes w a s arena h.0 p e.2 in
-      (h.0, e.0, e.1, e.2, (behinds h.0 (omega arith)).0 h.2),
-  λ h.
-      let low = Enters-inside nodes w a s arena h.0 p h.3 in
-      (h.0, (fronts h.0).1 (h.1, h.2, h.3), (behinds h.0 (omega arith)).1 h.4),
-)
-
 -- the first place from i on after which A and B hold of none is the greatest of which they do
 first_stop : (A B M : ℕ → Type 0) (i p k : ℕ) → i ≤ k → A k → B k → i ≤ p → ((q : ℕ) → i ≤ q → q ≤ p → M q ↔ ((l : ℕ) × (q < l) × A l × B l)) →
     ((q : ℕ) → i ≤ q → q < p → M q) → (M p → ⊥) → A p × B p × ((l : ℕ) → A l → B l → l ≤ p)
@@ -318,31 +305,6 @@ module _ (nodes : List Node) (w : List ℕ) (r j x : ℕ) (a b : NodeId) (arena 
   -- so a pass over a that goes on while they meet stops at the greatest cut
   pub stops_at_cut : (i p : ℕ) → At nodes w x i j → StopsAt nodes w r j a.index i p → LastCut (At nodes w a.index) (At nodes w b.index) i j p
   stops_at_cut i p at stops = cut_at i p (Meets nodes w r (one_start j) a.index (one_start i)) at stops.0 (λ q low up. meets-cut i q low) stops.1 stops.2
-
-  -- and before it they meet, after it they don't
-  pub meets-before : (i k p : ℕ) → LastCut (At nodes w a.index) (At nodes w b.index) i j k → i ≤ p → Meets nodes w r (one_start j) a.index (one_start i) p ↔ (p < k)
-  meets-before i k p cut low = (
-    λ h.
-        let g = (meets-cut i p low).0 h in
-        let lt = g.1 in
-        let top = cut.greatest g.0 g.2 g.3 in
-        omega arith,
-    λ lt. (meets-cut i p low).1 (k, lt, cut.left, cut.right),
-  )
-
-  -- the last place up to p at which a ends and b is marked is the greatest cut, if they don't meet at p
-  pub last_seen : (i p k : ℕ) → i ≤ p → (Meets nodes w r (one_start j) a.index (one_start i) p → ⊥) →
-      GreatestBelow (λ l. At nodes w a.index i l × Reaches nodes w r (one_start j) b.index l) (p + 1) (Some k) → LastCut (At nodes w a.index) (At nodes w b.index) i j k
-  last_seen i p k low over greatest =
-      let here = greatest.1 in
-      record {
-        left = here.0;
-        right = (right_looks nodes w r j x k a b arena last is).0 here.1;
-        greatest = λ l left right. ⊎_elim
-            (λ (lt : p < l). absurd (over ((meets-cut i p low).1 (l, lt, left, right))))
-            (λ (ge : l ≤ p). greatest.2 l (omega arith) (left, (right_looks nodes w r j x l a b arena last is).1 right))
-            (cases_lt p l);
-      }
 
 module _ (nodes : List Node) (w : List ℕ) (r j x : ℕ) (a : NodeId) (first : Bool) (arena : IsArena nodes) (last : IsLastIn nodes r x) (is : slice_get nodes x ≡ Some (Star a first)) where
   -- a copy is left exactly where copies lead on to the end

@@ -9,7 +9,7 @@ use Rattle.sedmarks.specs.Following.{LiesOn}
 use Rattle.sedmarks.specs.Matching.{found}
 use Rattle.sedmarks.specs.NextMatch.{unless_null_at}
 use Rattle.sedmarks.proofs.MatchingLemmas.{found-iff, not_found-iff}
-use Rattle.sedpass.specs.Occurrences.{further_cost, owed_next}
+use Rattle.sedpass.specs.Occurrences.{further_cost, owed_behind}
 use Rattle.sedpass.specs.Search.{owed_after, owed_kept, owed_search, search_cost}
 use Rattle.sedpass.specs.declared.search.Seeking.{Seeking}
 use Rattle.sedpass.proofs.OwedLemmas.{owed_falls}
@@ -52,32 +52,28 @@ pub lies_further : (n at : ℕ) (r : Option (ℕ × ℕ)) → IfSome r (λ f. (a
 lies_further n at None lies = tt
 lies_further n at (Some f) lies = let low = lies.0 in let on = lies.1 in (on, lies.2, (omega arith, omega arith))
 
-pub lies_first : (n : ℕ) (r : Option (ℕ × ℕ)) → IfSome r (λ f. (0 ≤ f.0) × (f.0 ≤ f.1) × (f.1 ≤ n)) → IfSome r (LiesOn n None)
-lies_first n None lies = tt
-lies_first n (Some f) lies = (lies.1, lies.2, tt)
-
 -- What it costs.
 
 -- less from a later place
-pub search_falls : (m n width : ℕ) (s : Seeking) (i k : ℕ) → i ≤ k → owed_search m n width s k ≤ owed_search m n width s i
-search_falls m n width s i k up =
+pub search_falls : (m n : ℕ) (s : Seeking) (i k : ℕ) → i ≤ k → owed_search m n s k ≤ owed_search m n s i
+search_falls m n s i k up =
     let rest : n - k ≤ n - i = omega arith in
-    let kept = owed_falls m width s.kept.region i k up in
+    let kept = owed_falls m s.kept.region i k up in
     let passed = mul-le-mul_left (42 * m) rest in
     let tried = mul-le-mul_left (142 * m) rest in
     by s.begun (omega (arith, kept, passed)) (omega (arith, tried))
   where
-    by : (b : Bool) → owed_kept m n width s.kept.region k ≤ owed_kept m n width s.kept.region i →
+    by : (b : Bool) → owed_kept m n s.kept.region k ≤ owed_kept m n s.kept.region i →
         40 * m * (2 * n + 1 - s.tried) + 142 * m * (n - k) ≤ 40 * m * (2 * n + 1 - s.tried) + 142 * m * (n - i) →
-        (if b then owed_kept m n width s.kept.region k else 40 * m * (2 * n + 1 - s.tried) + 142 * m * (n - k))
-        ≤ (if b then owed_kept m n width s.kept.region i else 40 * m * (2 * n + 1 - s.tried) + 142 * m * (n - i))
+        (if b then owed_kept m n s.kept.region k else 40 * m * (2 * n + 1 - s.tried) + 142 * m * (n - k))
+        ≤ (if b then owed_kept m n s.kept.region i else 40 * m * (2 * n + 1 - s.tried) + 142 * m * (n - i))
     by true kept tried = kept
     by false kept tried = tried
 
 -- before the first search
-pub begun_owed : (m n width : ℕ) (s : Seeking) → s.begun ≡ false → owed_next m n width None s ≤ 416 * m * (n + 1)
-begun_owed m n width s is =
-    let owed = unbegun m n width s 0 is in
+pub begun_owed : (m n : ℕ) (s : Seeking) → s.begun ≡ false → owed_behind m n s 0 + 42 * m ≤ 306 * m * (n + 1)
+begun_owed m n s is =
+    let owed = unbegun m n s 0 is in
     let few : 2 * n + 1 - s.tried ≤ 2 * n + 1 = omega arith in
     let tried = mul-le-mul_left (40 * m) few in
     let e1 : n - 0 ≡ n = omega arith in
@@ -102,13 +98,6 @@ behind_paid m n at o s t due None low lies pays =
     omega (arith, all, pays)
 behind_paid m n at o s t due (Some f) low lies pays =
     let all = rest_paid m n at f.1 (let h = lies.2.1 in omega (arith, h)) lies.1 in
-    omega (arith, all, pays)
-
-pub first_paid : (m n o s t : ℕ) (due : ℕ → ℕ) (r : Option (ℕ × ℕ)) → t + owed_after due r ≤ s + (o + 42 * m) → t + owed_after (λ q. due q + 84 * m * (n + 1 - q)) r ≤ s + (o + 84 * m * (n + 1 - 0) + 42 * m)
-first_paid m n o s t due None pays = omega (arith, pays)
-first_paid m n o s t due (Some f) pays =
-    let less : n + 1 - f.1 ≤ n + 1 - 0 = omega arith in
-    let all = mul-le-mul_left (84 * m) less in
     omega (arith, all, pays)
 
 -- two searches, of which the first one found the null string at the place

@@ -6,7 +6,7 @@ use Rattle.std.proofs.lemmas.List.{get_or-set_other}
 use Rattle.sedre.specs.Tree.{Tree, empty, set, begin, end, seq, alt, group, star, opt}
 use Rattle.sedmarks.specs.Caps.{Groups, forget, Caps, no_groups}
 use Rattle.sedmarks.specs.Matching.{caps}
-use Rattle.sedpass.specs.Overlay.{Overlay, lay, over, touch, erased, State, state_of, is_due, settle, drop_groups, Back, HasGroup, NoneDue, all_due, pick, OverlayLaw, BackLaw, BackReportLaw, StartLaw, WantedLaw, UntouchedLaw, EachBackLaw, LeftLaw, LeftAtOnceLaw, StaysLaw}
+use Rattle.sedpass.specs.Overlay.{Overlay, lay, over, touch, erased, State, state_of, is_due, settle, drop_groups, Back, HasGroup, NoneDue, pick, BackReportLaw, StartLaw, WantedLaw, UntouchedLaw, EachBackLaw, LeftLaw, LeftAtOnceLaw, StaysLaw}
 use Rattle.sedmarks.proofs.CapsLemmas.{Caps-unique}
 use Rattle.sedmarks.proofs.MatchingLemmas.{caps-is}
 
@@ -314,13 +314,6 @@ goes_back (opt a first) w i j before groups (inr (inr h)) old = (old, inr (inr (
 pub each_back : EachBackLaw
 each_back e w i j old s = goes_back e w i j no_groups (caps e w i j no_groups) (caps-is e w i j no_groups s) old
 
-pub overlay : OverlayLaw
-overlay e w i j old new h =
-    let start = all_due 0 0 in
-    let way = goes_back e w i j old new h start in
-    let one = changes e w i j start way.0 way.1 in
-    (one.0, Caps-unique e w i j old new (lay one.0 old) h (one.2 old), one.2)
-
 pick-same : (due : List Bool) (g : Groups) → pick due g g ≡ g
 pick-same [] g = refl
 pick-same (b ∷ due) [] = refl
@@ -336,12 +329,6 @@ put-picks (true ∷ due) (None ∷ ds) (v ∷ g) = ap (λ h. v ∷ h) (put-picks
 put-picks (false ∷ due) (None ∷ ds) (v ∷ g) = ap (λ h. v ∷ h) (put-picks due ds g)
 put-picks (true ∷ due) (Some u ∷ ds) (v ∷ g) = ap (λ h. u ∷ h) (put-picks due ds g)
 put-picks (false ∷ due) (Some u ∷ ds) (v ∷ g) = ap (λ h. v ∷ h) (put-picks due ds g)
-
-pub back_picks : BackLaw
-back_picks e w i j old new groups back is =
-    let one = changes e w i j old new back in
-    ap (λ s. s.spans) one.1 ∙ put-picks old.due one.0 old.spans
-    ∙ ap (λ g. pick old.due g old.spans) (sym (Caps-unique e w i j old.spans groups (lay one.0 old.spans) is (one.2 old.spans)))
 
 -- what isn't in the expression stays
 forget-other : (t : Tree) (k : ℕ) (g : Groups) → (HasGroup t k → ⊥) → slice_index_or (forget t g) k None ≡ slice_index_or g k None

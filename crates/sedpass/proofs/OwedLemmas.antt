@@ -73,19 +73,19 @@ again_cost m low to end s a t some within first inside pass =
 
 -- What is owed.
 
-owed_below : (m w : ℕ) (r : Region) (i : ℕ) → i < r.low → owed m w r i ≡ 100 * m * (r.end - i)
-owed_below m w r i low = lt_then i r.low (100 * m * (r.end - i)) (again m (r.end - due_place r i)) low
+owed_below : (m : ℕ) (r : Region) (i : ℕ) → i < r.low → owed m r i ≡ 100 * m * (r.end - i)
+owed_below m r i low = lt_then i r.low (100 * m * (r.end - i)) (again m (r.end - due_place r i)) low
 
-owed_above : (m w : ℕ) (r : Region) (i : ℕ) → r.low ≤ i → owed m w r i ≡ again m (r.end - due_place r i)
-owed_above m w r i low = lt_else i r.low (100 * m * (r.end - i)) (again m (r.end - due_place r i)) low
+owed_above : (m : ℕ) (r : Region) (i : ℕ) → r.low ≤ i → owed m r i ≡ again m (r.end - due_place r i)
+owed_above m r i low = lt_else i r.low (100 * m * (r.end - i)) (again m (r.end - due_place r i)) low
 
 -- never more than for the whole rest of the region
-pub owed_small : (m w : ℕ) (r : Region) (i : ℕ) → owed m w r i ≤ 100 * m * (r.end - i)
-owed_small m w r i =
+pub owed_small : (m : ℕ) (r : Region) (i : ℕ) → owed m r i ≤ 100 * m * (r.end - i)
+owed_small m r i =
     ⊎_elim
-    (λ (il : i < r.low). let a = owed_below m w r i il in omega (arith, a))
+    (λ (il : i < r.low). let a = owed_below m r i il in omega (arith, a))
     (λ (il : r.low ≤ i).
-    let a = owed_above m w r i il in
+    let a = owed_above m r i il in
     let up : i ≤ due_place r i = live_above r.from r.to i in
     let h = again_small m (r.end - due_place r i) in
     let g = mul-le-mul_left (100 * m) (rest_falls r.end i (due_place r i) up) in
@@ -95,18 +95,18 @@ owed_small m w r i =
     rest_falls : (end d k : ℕ) → d ≤ k → end - k ≤ end - d
     rest_falls end d k up = omega arith
 
-pub owed_falls : (m w : ℕ) (r : Region) (i k : ℕ) → i ≤ k → owed m w r k ≤ owed m w r i
-owed_falls m w r i k up =
+pub owed_falls : (m : ℕ) (r : Region) (i k : ℕ) → i ≤ k → owed m r k ≤ owed m r i
+owed_falls m r i k up =
     ⊎_elim
     (λ (il : i < r.low).
-    let a = owed_below m w r i il in
-    let h = owed_small m w r k in
+    let a = owed_below m r i il in
+    let h = owed_small m r k in
     let less : r.end - k ≤ r.end - i = omega arith in
     let g = mul-le-mul_left (100 * m) less in
     omega (arith, a, h, g))
     (λ (il : r.low ≤ i).
-    let a = owed_above m w r i il in
-    let b = owed_above m w r k (omega arith) in
+    let a = owed_above m r i il in
+    let b = owed_above m r k (omega arith) in
     let rest : due_place r i ≤ due_place r k = live_falls r.from r.to i k up in
     let h = again_falls m (r.end - due_place r k) (r.end - due_place r i) (omega (arith, rest)) in
     omega (arith, a, b, h))
@@ -116,22 +116,22 @@ owed_falls m w r i k up =
 made_cost : (m c d s t : ℕ) → c + 1 ≤ d → t ≤ s + (33 * m + 39 * m * d) → t + again m c ≤ s + 100 * m * d
 made_cost m c d s t less cost = let h = again_few m c in let g = mul-le-mul_left (59 * m) less in omega (arith, h, g, cost)
 
-pub owed_made : (m w : ℕ) (old new : Region) (place s t : ℕ) → place < old.low → place < old.end → new.low ≡ place → new.from ≡ place → place < new.to → new.end ≡ old.end → s ≤ t →
-    t ≤ s + (33 * m + 39 * m * (old.end - place)) → Pays s t (owed m w old place) (owed m w new place)
-owed_made m w old new place s t below before low from to end grows cost =
-    let a = owed_below m w old place below in
-    let b = owed_above m w new place (omega (arith, low)) in
+pub owed_made : (m : ℕ) (old new : Region) (place s t : ℕ) → place < old.low → place < old.end → new.low ≡ place → new.from ≡ place → place < new.to → new.end ≡ old.end → s ≤ t →
+    t ≤ s + (33 * m + 39 * m * (old.end - place)) → Pays s t (owed m old place) (owed m new place)
+owed_made m old new place s t below before low from to end grows cost =
+    let a = owed_below m old place below in
+    let b = owed_above m new place (omega (arith, low)) in
     let due : due_place new place ≡ new.to = live_place new.from new.to place (omega (arith, from)) to in
     let less : (new.end - due_place new place) + 1 ≤ old.end - place = omega (arith, due, end, to, before) in
     let h = made_cost m (new.end - due_place new place) (old.end - place) s t less cost in
     (grows, omega (arith, a, b, h))
 
 -- the rest of the place's block is made again
-pub owed_again : (m w : ℕ) (old new : Region) (place s t : ℕ) → old.low ≤ place → (place < old.from) ⊎ (old.to ≤ place) → new.low ≡ old.low → new.end ≡ old.end → new.from ≡ place → place < new.to →
-    Pays s t (again m (old.end - place)) (again m (old.end - new.to)) → Pays s t (owed m w old place) (owed m w new place)
-owed_again m w old new place s t above out low end from to paid =
-    let a = owed_above m w old place above in
-    let b = owed_above m w new place (omega (arith, above, low)) in
+pub owed_again : (m : ℕ) (old new : Region) (place s t : ℕ) → old.low ≤ place → (place < old.from) ⊎ (old.to ≤ place) → new.low ≡ old.low → new.end ≡ old.end → new.from ≡ place → place < new.to →
+    Pays s t (again m (old.end - place)) (again m (old.end - new.to)) → Pays s t (owed m old place) (owed m new place)
+owed_again m old new place s t above out low end from to paid =
+    let a = owed_above m old place above in
+    let b = owed_above m new place (omega (arith, above, low)) in
     let was : due_place old place ≡ place = dead_place old.from old.to place out in
     let due : due_place new place ≡ new.to = live_place new.from new.to place (omega (arith, from)) to in
     let before : again m (old.end - due_place old place) ≡ again m (old.end - place) = ap (λ d. again m (old.end - d)) was in
@@ -139,9 +139,9 @@ owed_again m w old new place s t above out low end from to paid =
     (paid.0, let h = paid.1 in omega (arith, a, b, before, after, h))
 
 -- as a call left what is kept
-pub owed_left : (m w : ℕ) (old : Region) (place s t u : ℕ) (k other : Kept) → other ≡ k → u ≡ t → Pays s t (owed m w old place) (owed m w k.region place) → Pays s u (owed m w old place) (owed m w other.region place)
-owed_left m w old place s t u k other same count paid =
-    subst (λ x. Pays s x (owed m w old place) (owed m w other.region place)) (sym count) (subst (λ x. Pays s t (owed m w old place) (owed m w x.region place)) (sym same) paid)
+pub owed_left : (m : ℕ) (old : Region) (place s t u : ℕ) (k other : Kept) → other ≡ k → u ≡ t → Pays s t (owed m old place) (owed m k.region place) → Pays s u (owed m old place) (owed m other.region place)
+owed_left m old place s t u k other same count paid =
+    subst (λ x. Pays s x (owed m old place) (owed m other.region place)) (sym count) (subst (λ x. Pays s t (owed m old place) (owed m x.region place)) (sym same) paid)
 
 -- places are passed, or the search ends at one
 pub seek_on : (o a b e s s0 s1 s2 from place found : ℕ) → s + a + 2 * from ≤ s0 + o + 2 * place → s1 + b ≤ s + a → s2 + place ≤ s1 + (found + 1) → e ≤ b → place < found → s2 + e + 2 * from ≤ s0 + o + 2 * found

@@ -3,28 +3,26 @@ use Rattle.std.proofs.Common.{length-set, ◌≡◌, ℕ, zero, suc, ◌+◌, �
 use Rattle.std.specs.Prelude.{slice_get, slice_index_or, slice_set, eqb, nat_lt, reverse}
 use Rattle.std.proofs.Math.Path.{fun_ext}
 use Rattle.std.proofs.lemmas.Option.{slice_get_within}
-use Rattle.std.proofs.lemmas.List.{length-reverse, get_or-set_same, get_or-set_other}
+use Rattle.std.proofs.lemmas.List.{get_or-set_same, get_or-set_other}
 use Rattle.std.proofs.lemmas.Bool.{and_parts, and_from, or_cases, or_left, or_right, cases_lt, cases_eq, eqb-true, eq-eqb, lt-ltb, le-ltb}
 use Rattle.sedre.specs.Arena.{Written, IsArena, IsPart, tree_at}
 use Rattle.sedre.specs.Mirror.{mirror_node, seen}
 use Rattle.sedre.specs.Packed.{PartsBelow}
-use Rattle.sedre.proofs.MirrorLemmas.{seen-arena, seen-length, seen-node, old_node}
+use Rattle.sedre.proofs.MirrorLemmas.{seen-node, old_node}
 use Rattle.sedre.specs.declared.types.Node.{Node}
 use Rattle.sedre.specs.declared.types.NodeId.{NodeId}
 use Rattle.sedre.specs.declared.types.Node.TheVariants.{Empty, Set, Begin, End, Seq, Alt, Group, Star, Opt}
 use Rattle.sedmarks.specs.declared.passes.Starts.{Starts}
 use Rattle.sedmarks.specs.Spans.{Copies, no_copy}
 use Rattle.sedmarks.specs.Matching.{takes}
-use Rattle.sedmarks.specs.Search.{starts_to}
-use Rattle.sedmarks.specs.PartMarks.{null_of, enter_parts}
-use Rattle.sedmarks.specs.Places.{IsPlace, takes_any}
+use Rattle.sedmarks.specs.PartMarks.{enter_parts}
+use Rattle.sedmarks.specs.Places.{takes_any}
 use Rattle.sedmarks.specs.Words.{AgreeBelow}
 use Rattle.sedmarks.specs.Reach.{At, IsStart, one_start, SomeSpan, BeginsWith, Marked, Enters, at_root, with_whole, after_left, again, Ends}
-use Rattle.sedpass.specs.Regions.{EndsAt, TellEnds, TellSets, Opposite, Reaches, Meets}
+use Rattle.sedpass.specs.Regions.{EndsAt, Opposite, Reaches, Meets}
 use Rattle.sedpass.specs.Rows.{Took, NullBy, EndsBy, EntersBy, SameBytes, SameKind, SameLeaves, NoneEntered, InTree, is_tree, part_of, IsRange, TreeBelow, TreeFrom, AreNull, ended_by, leaf_looks, part_looks, enter_looks, bits, TellTook, RowAt, RowFrom, LeadsTo}
 use Rattle.sedmarks.proofs.SpanLemmas.{Spans-forward, Spans-within, Copies-append, Copies-last}
-use Rattle.sedmarks.proofs.ReachLemmas.{open_at, close_at, takes_some, null_of-At, FromNode, Enters-from, Enters-part, Enters-inside, Enters-root, Enters-loose}
-use Rattle.sedmarks.proofs.MirrorLemmas.{At-mirror}
+use Rattle.sedmarks.proofs.ReachLemmas.{open_at, close_at, takes_some, FromNode, Enters-from, Enters-part, Enters-inside, Enters-root, Enters-loose}
 use Rattle.sedmarks.proofs.OpenLemmas.{node_at}
 use Rattle.sedpass.proofs.LeaveLemmas.{ends_at, reaches_mirror}
 use Rattle.sedpass.proofs.MeetingLemmas.{meets_whole}
@@ -302,14 +300,6 @@ module _ (nodes : List Node) (w v : List ℕ) (r p q : ℕ) (s t : Starts) (aren
       (λ (null : Enters nodes w r s c p × At nodes w c p p). inr (entered_same (r + 1) c low (omega arith) null.0, null_same nodes w v p q arena first last (c + 1) c (omega arith) (omega arith) null.1))
       ((ends_at nodes w r c p s).0 h))
 
-pub null_kind : (nodes : List Node) (w v : List ℕ) (x p q : ℕ) → IsArena nodes → x < length nodes → ((p ≡ 0) → (q ≡ 0)) → ((p ≡ length w) → (q ≡ length v)) → At nodes w x p p → At nodes v x q q
-null_kind nodes w v x p q arena inside first last = null_same nodes w v p q arena first last (x + 1) x (omega arith) inside
-
--- the bits of a kind of place
-pub null_bit : (nodes : List Node) (w : List ℕ) (x p : ℕ) (node : Node) (begin end : Bool) (null : ℕ → Bool) → IsArena nodes → slice_get nodes x ≡ Some node → IsPlace w p begin end →
-    ((c : ℕ) → c < x → IsTrue (null c) ↔ At nodes w c p p) → IsTrue (null_of begin end null node) ↔ At nodes w x p p
-null_bit nodes w x p node begin end null arena is there parts = null_of-At nodes w 0 (one_start 0) arena p x node is begin end there.0 there.1 null parts
-
 -- from one place to the next, one way
 module _ (nodes : List Node) (w v : List ℕ) (r p q : ℕ) (s t : Starts) (arena : IsArena nodes) (inside : r < length nodes)
     (leaves : (c : ℕ) (members : List Bool) → slice_get nodes c ≡ Some (Set members) → Enters nodes w r s c p → Enters nodes v r t c q)
@@ -392,39 +382,15 @@ dead nodes w r p i k s arena inside none start low high at =
     let met = (meets_whole nodes w r p s (one_start k) arena inside).1 (i, k, start, low, high, at, (omega arith, omega arith)) in
     none met.0 met.1 met.2 met.3
 
--- nothing ends with a byte at the next place, and if that is no start nothing is entered there
+-- nothing ends with a byte at the next place
 module _ (nodes : List Node) (w : List ℕ) (r p : ℕ) (s : Starts) (arena : IsArena nodes) (inside : r < length nodes) (none : NoneEntered nodes w r s p) where
   dead_ended : (x : ℕ) → x ≤ r → Ends nodes w r s x (p + 1) → ⊥
   dead_ended x low h =
       none_ended nodes w r x (p + 1) (one_start (p + 2)) (omega arith)
       (ended_next nodes w w r p p s (one_start (p + 2)) arena inside (λ c m is e. absurd (none c m is e)) (λ x m is. refl) (λ e. e) (λ e. e) (x + 1) x (omega arith) low h)
 
-  dead_entered : (IsStart s (p + 1) → ⊥) → (x : ℕ) → x ≤ r → Enters nodes w r s x (p + 1) → ⊥
-  dead_entered later x low h =
-      let up = Enters-from nodes w r (one_start (p + 2)) x (p + 1)
-      (entered_same nodes w w r (p + 1) (p + 1) s (one_start (p + 2)) arena inside (λ e. e) (λ e. e) (λ e. absurd (later e)) (λ c le e. absurd (dead_ended c le e)) (r + 1) x low (omega arith) h) in
-      omega arith
-
-  dead_next : (IsStart s (p + 1) → ⊥) → (c : ℕ) → (Enters nodes w r s c (p + 1) → ⊥) × (EndsAt nodes w r s c (p + 1) → ⊥)
-  dead_next later c =
-      let none_entered : Enters nodes w r s c (p + 1) → ⊥ = λ h. dead_entered later c (Enters-inside nodes w r s arena c (p + 1) h) h in (
-        none_entered,
-        λ h. ⊎_elim
-            (λ (end : Ends nodes w r s c (p + 1)). dead_ended c (Enters-inside nodes w r s arena c end.0 end.2) end)
-            (λ (null : Enters nodes w r s c (p + 1) × At nodes w c (p + 1) (p + 1)). none_entered null.0)
-            ((ends_at nodes w r c (p + 1) s).0 h),
-      )
-
--- so nothing is entered later, if no start comes
+-- the same of the places after it
 module _ (nodes : List Node) (w : List ℕ) (r p : ℕ) (s : Starts) (arena : IsArena nodes) (inside : r < length nodes) (none : NoneEntered nodes w r s p) where
-  dead_leaves : s.last ≤ p → (d k : ℕ) → k ≡ p + d → NoneEntered nodes w r s k
-  dead_leaves late zero k at = subst (λ n. NoneEntered nodes w r s n) (omega arith) none
-  dead_leaves late (suc d) k at =
-      let k' = p + d in
-      let next : k' + 1 ≡ k = omega arith in
-      subst (λ n. NoneEntered nodes w r s n) next
-      (λ x m is h. (dead_next nodes w r k' s arena inside (dead_leaves late d k' refl) (λ e. let high = e.1 in omega arith) x).0 h)
-
   -- at a later place no leaf is entered that isn't at p, if p is a start and the text goes on
   stopped_leaves : IsStart s p → (d k : ℕ) → k ≡ p + d → k < length w ⊎ (k ≡ p) → NoneEntered nodes w r s k
   stopped_leaves start zero k at more = subst (λ n. NoneEntered nodes w r s n) (omega arith) none
@@ -447,14 +413,6 @@ module _ (nodes : List Node) (w : List ℕ) (r p : ℕ) (s : Starts) (arena : Is
       null_same nodes w w (k + 1) (length w) arena (λ e. absurd (omega arith)) (λ e. refl) (r + 1) r (omega arith) inside null.1)
       ((ends_at nodes w r r (k + 1) s).0 h)
 
-pub dead_on : (nodes : List Node) (w : List ℕ) (r p q c : ℕ) (s : Starts) → IsArena nodes → r < length nodes → NoneEntered nodes w r s p → s.last ≤ p → p < q →
-    (Enters nodes w r s c q → ⊥) × (EndsAt nodes w r s c q → ⊥)
-dead_on nodes w r p q c s arena inside none late lt =
-    let k = q - 1 in
-    let next : k + 1 ≡ q = omega arith in
-    subst (λ n. (Enters nodes w r s c n → ⊥) × (EndsAt nodes w r s c n → ⊥)) next
-    (dead_next nodes w r k s arena inside (dead_leaves nodes w r p s arena inside none late (k - p) k (omega arith)) (λ e. let high = e.1 in omega arith) c)
-
 -- where no leaf is entered at a start no match ends later but a null one at the text's end
 pub stopped : (nodes : List Node) (w : List ℕ) (r p i j : ℕ) (s : Starts) → IsArena nodes → r < length nodes → NoneEntered nodes w r s p → IsStart s p →
     (At nodes w r (length w) (length w) → ⊥) → IsStart s i → i ≤ length w → p < j → At nodes w r i j → ⊥
@@ -464,22 +422,6 @@ stopped nodes w r p i j s arena inside none start not_null begin low lt at =
     let next : k + 1 ≡ j = omega arith in
     not_null (stopped_ends nodes w r p s arena inside none start k (omega arith) (omega arith)
     (subst (λ n. EndsAt nodes w r s r n) (sym next) (i, at_root r i refl begin, at)))
-
--- the same of a pass backwards
-pub stopped_back : (e : Written) (w : List ℕ) (r p d i j : ℕ) → IsArena e.nodes → r < length e.nodes → p + d ≡ length w → NoneEntered (seen true e).nodes (reverse w) r (starts_to 0 (length w)) d →
-    (At e.nodes w r 0 0 → ⊥) → i < p → j ≤ length w → At e.nodes w r i j → ⊥
-stopped_back e w r p d i j arena inside sum none not_null lt high at =
-    let n = length w in
-    let a = n - i in
-    let b = n - j in
-    let on = Spans-forward (tree_at e.nodes r) w i j at in
-    let left : i + a ≡ n = omega arith in
-    let right : j + b ≡ n = omega arith in
-    let long : length (reverse w) ≡ n = length-reverse w in
-    let at' : At (seen true e).nodes (reverse w) r b a = (At-mirror e (seen true e) w (reverse w) r i j a b refl refl left right).0 at in
-    stopped (seen true e).nodes (reverse w) r d b a (starts_to 0 n) (seen-arena true e arena) (subst (λ m. r < m) (sym (seen-length true e)) inside) none (omega arith, omega arith)
-    (λ null. not_null ((At-mirror e (seen true e) w (reverse w) r 0 0 n n refl refl (omega arith) (omega arith)).1 (subst (λ m. At (seen true e).nodes (reverse w) r m m) long null)))
-    (omega arith, omega arith) (omega arith) (omega arith) at'
 
 -- What the loops of `close` keep.
 
@@ -809,12 +751,6 @@ row_took nodes w r x p s keeps entered ended byte m row same is = (
       (sym (same x m is) ∙ subst (λ i. IsTrue (takes (slice_get w i) m)) at h.3),
 )
 
--- places of which the same is true have one row
-bit_same : (a b : Bool) → (IsTrue a → IsTrue b) → (IsTrue b → IsTrue a) → a ≡ b
-bit_same true b to from = sym (to refl)
-bit_same false true to from = from refl
-bit_same false false to from = refl
-
 -- the same of two places
 abbrev pub Alike : List Node → ℕ → List ℕ → Starts → ℕ → List ℕ → Starts → ℕ → Type 0
 Alike nodes r w s p v t q = (c : ℕ) → c ≤ r → (Enters nodes w r s c p ↔ Enters nodes v r t c q) × (EndsAt nodes w r s c p ↔ EndsAt nodes v r t c q)
@@ -833,28 +769,12 @@ module _ (nodes : List Node) (w v : List ℕ) (r p q : ℕ) (s t : Starts) (keep
         );
       }
 
--- and a place has one row
-pub row_once : (nodes : List Node) (w : List ℕ) (r p : ℕ) (s : Starts) (keeps : Bool) (first first_ended second second_ended : ℕ → Bool) → RowAt nodes w r s keeps p first first_ended → RowAt nodes w r s keeps p second second_ended →
-    (c : ℕ) → (first c ≡ second c) × (first_ended c ≡ second_ended c)
-row_once nodes w r p s keeps first first_ended second second_ended one other c = (
-  bit_same (first c) (second c) (λ h. (other.leaves c).1 ((one.leaves c).0 h)) (λ h. (one.leaves c).1 ((other.leaves c).0 h)),
-  bit_same (first_ended c) (second_ended c) (λ h. (other.ends c).1 ((one.ends c).0 h)) (λ h. (one.ends c).1 ((other.ends c).0 h)),
-)
-
 -- one row tells the same leaves
 same_leaves : (nodes : List Node) (w v : List ℕ) (r p q : ℕ) (s t : Starts) (keeps : Bool) (entered ended : ℕ → Bool) → RowAt nodes w r s keeps p entered ended → RowAt nodes v r t keeps q entered ended → SameLeaves nodes r w s p v t q
 same_leaves nodes w v r p q s t keeps entered ended one other c m is = (
   λ h. ((other.leaves c).0 ((one.leaves c).1 (m, is, h))).2,
   λ h. ((one.leaves c).0 ((other.leaves c).1 (m, is, h))).2,
 )
-
-pub next_rows : (nodes : List Node) (w v : List ℕ) (r p q : ℕ) (s t : Starts) (keeps : Bool) (entered ended first first_ended second second_ended : ℕ → Bool) → IsArena nodes → r < length nodes →
-    RowAt nodes w r s keeps p entered ended → RowAt nodes v r t keeps q entered ended →
-    SameBytes nodes (slice_get w p) (slice_get v q) → SameKind w (p + 1) v (q + 1) → (IsStart s (p + 1) ↔ IsStart t (q + 1)) →
-    RowAt nodes w r s keeps (p + 1) first first_ended → RowAt nodes v r t keeps (q + 1) second second_ended → (c : ℕ) → (first c ≡ second c) × (first_ended c ≡ second_ended c)
-next_rows nodes w v r p q s t keeps entered ended first first_ended second second_ended arena inside one other bytes kind starts next next' =
-    let alike = next_same nodes w v r p q s t arena inside (same_leaves nodes w v r p q s t keeps entered ended one other) bytes kind starts in
-    row_once nodes v r (q + 1) t keeps first first_ended second second_ended (row_moves nodes w v r (p + 1) (q + 1) s t keeps arena alike first first_ended next) next'
 
 pub cell : (nodes : List Node) (w : List ℕ) (r p : ℕ) (s : Starts) (keeps end start : Bool) (entered ended after after_ended : ℕ → Bool) → IsArena nodes → r < length nodes →
     RowAt nodes w r s keeps p entered ended → RowAt nodes w r s keeps (p + 1) after after_ended → (IsTrue end ↔ (p + 1 ≡ length w)) → (IsTrue start ↔ IsStart s (p + 1)) →
@@ -874,13 +794,6 @@ first_row nodes w v r p q s t keeps entered ended arena inside early early' kind
 pub class_row : (nodes : List Node) (r : ℕ) (keeps end start : Bool) (entered ended after after_ended : ℕ → Bool) (byte other : Option ℕ) → SameBytes nodes other byte →
     LeadsTo nodes r keeps entered ended byte end start after after_ended → LeadsTo nodes r keeps entered ended other end start after after_ended
 class_row nodes r keeps end start entered ended after after_ended byte other same leads w s p at = leads w s p (λ x m is. at x m is ∙ same x m is)
-
--- what a row tells, in the words of regions
-pub row_sets : (nodes : List Node) (w : List ℕ) (r p : ℕ) (s : Starts) (keeps : Bool) (front : List Bool) (ended : ℕ → Bool) → RowAt nodes w r s keeps p (λ c. slice_index_or front c false) ended → TellSets nodes w r s p front
-row_sets nodes w r p s keeps front ended row = row.leaves
-
-pub row_tells : (nodes : List Node) (w : List ℕ) (r p : ℕ) (s : Starts) (entered : ℕ → Bool) (row : List Bool) → RowAt nodes w r s true p entered (λ c. slice_index_or row c false) → TellEnds nodes w r s p row
-row_tells nodes w r p s entered row at c low = (λ h. ((at.ends c).0 h).1, λ h. (at.ends c).1 (inl refl, h))
 
 pub row_root : (nodes : List Node) (w : List ℕ) (r p : ℕ) (s : Starts) (keeps : Bool) (entered ended : ℕ → Bool) → IsArena nodes → RowAt nodes w r s keeps p entered ended → IsTrue (ended r) ↔ SomeSpan nodes w r s p
 row_root nodes w r p s keeps entered ended arena row =
@@ -982,12 +895,6 @@ out_of_mirror e r c (part_of y _ node is part up) =
 
 pub mirror_range : (e : Written) (low r : ℕ) → IsRange e.nodes low r → IsRange (seen true e).nodes low r
 mirror_range e low r range c = (λ h. in_mirror e r c ((range c).0 h), λ h. (range c).1 (out_of_mirror e r c h))
-
-pub mirror_null : (e : Written) (w : List ℕ) (p d : ℕ) (null : ℕ → Bool) → p + d ≡ length w → AreNull e.nodes w p null → AreNull (seen true e).nodes (reverse w) d null
-mirror_null e w p d null sum nulls c low =
-    let old = nulls c (subst (λ m. c < m) (seen-length true e) low) in
-    let law = At-mirror e (seen true e) w (reverse w) c p p d d refl refl sum sum in
-    (λ h. law.0 (old.0 h), λ h. old.1 (law.1 h))
 
 -- what the row of a kept pass backwards tells
 pub behind_reaches : (e : Written) (w : List ℕ) (r x p d : ℕ) (u t : Starts) (entered ended : ℕ → Bool) → IsArena e.nodes → Opposite (length w) u t → t.last ≤ length w → p + d ≡ length w →

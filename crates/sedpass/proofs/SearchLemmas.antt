@@ -284,9 +284,9 @@ pub begun_each : (m n from s t o after : ℕ) → o ≤ 142 * m * (n - from) →
 begun_each m n from s t o after few pays = omega (arith, few, pays)
 
 -- and of all from a place on
-pub kept_small : (m n width : ℕ) (r : Region) (place : ℕ) → r.end ≤ n → owed_kept m n width r place ≤ 142 * m * (n - place)
-kept_small m n width r place inside =
-    let small = owed_small m width r place in
+pub kept_small : (m n : ℕ) (r : Region) (place : ℕ) → r.end ≤ n → owed_kept m n r place ≤ 142 * m * (n - place)
+kept_small m n r place inside =
+    let small = owed_small m r place in
     let less : r.end - place ≤ n - place = omega arith in
     let all = mul-le-mul_left (100 * m) less in
     omega (arith, small, all)
@@ -339,15 +339,15 @@ later_answer e w from k (Some f) low none is =
     )
 
 -- what searches by trials may still take
-pub unbegun : (m n width : ℕ) (s : Seeking) (place : ℕ) → s.begun ≡ false → owed_search m n width s place ≡ 40 * m * (2 * n + 1 - s.tried) + 142 * m * (n - place)
-unbegun m n width s place is = ap (λ b. if b then owed_kept m n width s.kept.region place else 40 * m * (2 * n + 1 - s.tried) + 142 * m * (n - place)) is
+pub unbegun : (m n : ℕ) (s : Seeking) (place : ℕ) → s.begun ≡ false → owed_search m n s place ≡ 40 * m * (2 * n + 1 - s.tried) + 142 * m * (n - place)
+unbegun m n s place is = ap (λ b. if b then owed_kept m n s.kept.region place else 40 * m * (2 * n + 1 - s.tried) + 142 * m * (n - place)) is
 
 -- and what was counted before counts too
 pub found_since : (s a b : ℕ) (r : Option (ℕ × ℕ)) → s ≤ a → IfSome r (λ f. TakesAtLeast a b (f.1 - f.0)) → IfSome r (λ f. TakesAtLeast s b (f.1 - f.0))
 found_since s a b None grows least = tt
 found_since s a b (Some f) grows least = least_since s a b (f.1 - f.0) grows least
 
--- What a whole match takes, by the cost of the search and that of the groups.
+-- What a search takes at most.
 
 square : (n : ℕ) → n ≤ n * n
 square zero = omega arith
@@ -360,37 +360,3 @@ alone_square m n some =
     let a = mul-le-mul_left m inner in
     let b = mul-le-mul_left (m * (64 * (n + 1) * (n + 1))) some in
     omega (arith, a, b)
-
-pub alone_linear : (m n : ℕ) → 1 ≤ m → m * (192 * n + 48) ≤ 192 * m * m * (n + 1)
-alone_linear m n some =
-    let b = mul-le-mul_left (m * (192 * (n + 1))) some in
-    omega (arith, b)
-
-groups_most : (m k n long : ℕ) → m ≡ k + 1 → long ≤ n → m * (192 * n + 48) + (172 * m * (m - 1) * long + 2 * m) ≤ m * (172 * (k * n) + 192 * n + 50)
-groups_most m k n long is few =
-    let e : m - 1 ≡ k = omega arith in
-    let a : 172 * m * (m - 1) * long ≡ 172 * m * k * long = ap (λ v. 172 * m * v * long) e in
-    let b = mul-le-mul_left (172 * m * k) few in
-    omega (arith, a, b)
-
-pub groups_square : (m n long : ℕ) → 1 ≤ m → long ≤ n → m * (192 * n + 48) + (172 * m * (m - 1) * long + 2 * m) ≤ 64 * m * m * (n + 1) * (n + 1)
-groups_square m n long some few =
-    let k = m - 1 in
-    let is : m ≡ k + 1 = omega arith in
-    let sq = square n in
-    let ksq = mul-le-mul_left k sq in
-    let inner : 172 * (k * n) + 192 * n + 50 ≤ 64 * (k + 1) * (n + 1) * (n + 1) = omega (arith, sq, ksq) in
-    let a = mul-le-mul_left m inner in
-    let b : 64 * m * m * (n + 1) * (n + 1) ≡ 64 * m * (k + 1) * (n + 1) * (n + 1) = ap (λ v. 64 * m * v * (n + 1) * (n + 1)) is in
-    let most = groups_most m k n long is few in
-    omega (arith, a, b, most)
-
-pub groups_linear : (m n long : ℕ) → 1 ≤ m → long ≤ n → m * (192 * n + 48) + (172 * m * (m - 1) * long + 2 * m) ≤ 192 * m * m * (n + 1)
-groups_linear m n long some few =
-    let k = m - 1 in
-    let is : m ≡ k + 1 = omega arith in
-    let inner : 172 * (k * n) + 192 * n + 50 ≤ 192 * (k + 1) * (n + 1) = omega arith in
-    let a = mul-le-mul_left m inner in
-    let b : 192 * m * m * (n + 1) ≡ 192 * m * (k + 1) * (n + 1) = ap (λ v. 192 * m * v * (n + 1)) is in
-    let most = groups_most m k n long is few in
-    omega (arith, a, b, most)

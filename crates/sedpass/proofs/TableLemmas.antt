@@ -1,9 +1,9 @@
 -- Tables of states.
-use Rattle.std.proofs.Common.{◌≡◌, ◌≢◌, ℕ, zero, suc, ◌+◌, ◌*◌, ◌/◌, ◌%◌, ◌^◌, ◌<◌, ◌≤◌, ◌⊎◌, ◌↔◌, Bool, true, false, ◌&&◌, ◌||◌, List, length, Option, Some, None, IsTrue, refl, sym, ap, ◌∙◌, subst, ⊎_elim, inl, inr, arith, mul-le-mul_left}
+use Rattle.std.proofs.Common.{◌≡◌, ◌≢◌, ℕ, zero, suc, ◌+◌, ◌*◌, ◌/◌, ◌%◌, ◌^◌, ◌<◌, ◌≤◌, ◌↔◌, Bool, true, false, ◌&&◌, ◌||◌, List, length, Option, Some, None, IsTrue, refl, sym, ap, ◌∙◌, subst, ⊎_elim, arith, mul-le-mul_left}
 use Rattle.std.specs.Prelude.{slice_index_or, slice_set, nat_lt, eqb, replicate}
 use Rattle.std.proofs.Math.Path.{fun_ext}
 use Rattle.std.proofs.Math.Nat.{pow-le-pow_right}
-use Rattle.std.proofs.lemmas.Bool.{cases_eq, cases_lt, cases_Bool, lt-ltb, le-ltb, both_ways}
+use Rattle.std.proofs.lemmas.Bool.{cases_eq, cases_lt, lt-ltb, le-ltb}
 use Rattle.std.proofs.lemmas.List.{get_or-set_same, get_or-set_other}
 use Rattle.std.proofs.lemmas.Nat.{shl-shr, shl_whole, shl_below}
 use Rattle.sedre.specs.Arena.{Written, IsExpr}
@@ -12,9 +12,9 @@ use Rattle.sedre.proofs.MirrorLemmas.{old_node}
 use Rattle.sedre.specs.declared.types.Node.{Node}
 use Rattle.sedre.specs.declared.types.Node.TheVariants.{Empty, Set, Begin, End, Seq, Alt, Group, Star, Opt}
 use Rattle.sedmarks.specs.Words.{AgreeBelow, row_of}
-use Rattle.sedpass.specs.Prepared.{AreClasses}
+use Rattle.sedpass.specs.Prepared.{SameNulls}
 use Rattle.sedpass.specs.Rows.{nodes_of, at_begin, at_end, bits, SameBytes, LeadsTo, IsFirst}
-use Rattle.sedpass.specs.Cells.{stops, code_of, ColumnAt, EdgeFits, IsLayout, IsColumn}
+use Rattle.sedpass.specs.Cells.{stops, code_of, ColumnAt, EdgeApart, EdgeFits, IsLayout, IsColumn}
 use Rattle.sedpass.specs.Table.{State, state_of, IsTold, HasRow, LeadsOn, BeginsIn, Names, IsOffset, cell_of, LeadsBy, kind_number, beginning_at, beginning_of, MayBegin, HasRoom, IsRoomy, IsTable, SameRoom, SameShape, AddsStates}
 use Rattle.sedpass.specs.declared.cells.Flags.{Flags}
 use Rattle.sedpass.specs.declared.cells.Layout.{Layout}
@@ -86,28 +86,29 @@ cells_apart size q k p j small low same =
 
 -- Columns.
 
-pub column_below : (columns width class k : ℕ) (anchors edge : Bool) (first : Option ℕ) → columns ≤ width → EdgeFits columns width anchors first → class < columns → ColumnAt first class edge k → k < width
-column_below columns width class k anchors false first low fits small is = omega arith
-column_below columns width class k anchors true None low fits small is = absurd is
-column_below columns width class k anchors true (Some f) low fits small is = let most = fits.0 in omega arith
+pub column_below : (columns width class k : ℕ) (edge : Bool) (first : Option ℕ) → columns ≤ width → EdgeFits columns width first → class < columns → ColumnAt first class edge k → k < width
+column_below columns width class k false first low fits small is = omega arith
+column_below columns width class k true None low fits small is = absurd is
+column_below columns width class k true (Some f) low fits small is = omega arith
 
-pub column_same : (columns width class other k : ℕ) (anchors edge edge' : Bool) (first : Option ℕ) → EdgeFits columns width anchors first → class < columns → other < columns →
-    ColumnAt first class edge k → ColumnAt first other edge' k → (other ≡ class) × ((edge' ≡ edge) ⊎ (anchors ≡ false))
-column_same columns width class other k anchors false false first fits small small' is is' = (omega arith, inl refl)
-column_same columns width class other k anchors true true None fits small small' is is' = absurd is
-column_same columns width class other k anchors true true (Some f) fits small small' is is' = (omega arith, inl refl)
-column_same columns width class other k anchors false true None fits small small' is is' = absurd is'
-column_same columns width class other k anchors false true (Some f) fits small small' is is' =
-    ⊎_elim
-    (λ (h : (f ≡ 0) × (anchors ≡ false)). let none = h.0 in (omega arith, inr h.1))
-    (λ (h : columns ≤ f). absurd (omega arith))
-    fits.1
-column_same columns width class other k anchors true false None fits small small' is is' = absurd is
-column_same columns width class other k anchors true false (Some f) fits small small' is is' =
-    ⊎_elim
-    (λ (h : (f ≡ 0) × (anchors ≡ false)). let none = h.0 in (omega arith, inr h.1))
-    (λ (h : columns ≤ f). absurd (omega arith))
-    fits.1
+-- a column is of one class, at the edge or elsewhere, if the edge's columns are apart
+column_apart : (columns class other k : ℕ) (edge edge' : Bool) (first : Option ℕ) → EdgeApart columns first → class < columns → other < columns →
+    ColumnAt first class edge k → ColumnAt first other edge' k → (other ≡ class) × (edge' ≡ edge)
+column_apart columns class other k false false first apart small small' is is' = (omega arith, refl)
+column_apart columns class other k true true None apart small small' is is' = absurd is
+column_apart columns class other k true true (Some f) apart small small' is is' = (omega arith, refl)
+column_apart columns class other k false true None apart small small' is is' = absurd is'
+column_apart columns class other k false true (Some f) apart small small' is is' = absurd (omega arith)
+column_apart columns class other k true false None apart small small' is is' = absurd is
+column_apart columns class other k true false (Some f) apart small small' is is' = absurd (omega arith)
+
+-- it is of one class, if the edge's columns are those of other places
+column_within : (class k : ℕ) (edge : Bool) (first : Option ℕ) → first ≡ Some 0 → ColumnAt first class edge k → k ≡ class
+column_within class k edge first within is = at edge (subst (λ f. ColumnAt f class edge k) within is)
+  where
+    at : (end : Bool) → ColumnAt (Some 0) class end k → k ≡ class
+    at false is = is
+    at true is = omega (arith, is)
 
 -- Bytes of one class, however the expression is seen.
 
@@ -209,7 +210,7 @@ module _ (p : Prepared) (t t' : Table) (adds : AddsStates (length p.expr.nodes) 
   leads_more q k there b leads byte edge small column =
       subst (λ w. LeadsOn (nodes_of w p.expr) w (state_of m t' q) byte edge b) (sym adds.shape.0)
       (subst (λ a. LeadsOn (nodes_of t.way p.expr) t.way a byte edge b) (sym (adds.kept epoch q there))
-      (leads byte edge small (subst (λ l. IsColumn l p.classes byte edge k) adds.shape.2 column)))
+      (leads byte edge small (subst (λ (l : Layout). IsColumn l byte edge k) adds.shape.2 column)))
 
   filled_more : (q k v : ℕ) → q < t.count → Names m t (LeadsBy p t q k) v → Names m t' (LeadsBy p t' q k) v
   filled_more q k v there n = names_map m t' (LeadsBy p t q k) (LeadsBy p t' q k) v (leads_more q k there) (names_more (LeadsBy p t q k) v n)
@@ -240,7 +241,7 @@ module _ (p : Prepared) (t t' : Table) (adds : AddsStates (length p.expr.nodes) 
   one_more table room count begins before clear root told = record {
     expr = table.expr;
     room = room;
-    layout = subst (λ l. IsLayout m p.anchors l) (sym adds.shape.2) table.layout;
+    layout = subst (λ l. IsLayout p.expr.nodes l) (sym adds.shape.2) table.layout;
     roots = λ q there. ⊎_elim
         (λ (e : q ≡ t.count). subst (λ x. (state_of m t' x).root < m) (sym e) root)
         (λ (ne : q ≢ t.count). let less : q < t.count = omega (arith, ne) in subst (λ (a : State). a.root < m) (sym (adds.kept epoch q less)) (table.roots q less))
@@ -262,38 +263,35 @@ module _ (p : Prepared) (t t' : Table) (adds : AddsStates (length p.expr.nodes) 
   }
 
   -- one more cell is filled
-  pub note_cell : IsTable p t → HasRoom m t' → t'.count ≡ t.count → t'.beginnings ≡ t.beginnings → AreClasses p.expr.nodes p.classes p.columns → (q k v byte : ℕ) (edge : Bool) →
-      q < t.count → byte < 256 → IsColumn t.layout p.classes byte edge k → t'.cells.items ≡ slice_set t.cells.items (q * 2 ^ t.layout.shift + k) v →
+  pub note_cell : IsTable p t → HasRoom m t' → t'.count ≡ t.count → t'.beginnings ≡ t.beginnings → (q k v byte : ℕ) (edge : Bool) →
+      q < t.count → byte < 256 → IsColumn t.layout byte edge k → t'.cells.items ≡ slice_set t.cells.items (q * 2 ^ t.layout.shift + k) v →
       Names m t (LeadsOn (nodes_of t.way p.expr) t.way (state_of m t q) byte edge) v →
-      (p.anchors ≡ false → Names m t (λ b. (end : Bool) → LeadsOn (nodes_of t.way p.expr) t.way (state_of m t q) byte end b) v) →
+      (SameNulls p.expr.nodes → Names m t (λ b. (end : Bool) → LeadsOn (nodes_of t.way p.expr) t.way (state_of m t q) byte end b) v) →
       IsTable p t'
-  note_cell table room count begins classes q k v byte edge there small column cells leads anywhere =
+  note_cell table room count begins q k v byte edge there small column cells leads anywhere =
       let size = 2 ^ t.layout.shift in
       let wide = table.layout.fits in
-      let narrow : k < t.layout.width = column_below t.layout.columns t.layout.width (slice_index_or p.classes byte 0) k p.anchors edge t.layout.edge table.layout.columns table.layout.edge column.0 column.1 in
+      let class = slice_index_or t.layout.classes byte 0 in
+      let narrow : k < t.layout.width = column_below t.layout.columns t.layout.width class k edge t.layout.edge table.layout.columns table.layout.edge column.0 column.1 in
       let inside : q * size + k < length t.cells.items = cell_inside size q k t.count t.layout.width (length t.cells.items) there narrow wide table.room.cells in
-      let other : (b : State) (o : ℕ) (end : Bool) → o < 256 → IsColumn t.layout p.classes o end k → ((end ≡ edge) ⊎ (p.anchors ≡ false) → LeadsOn (nodes_of t.way p.expr) t.way (state_of m t q) byte end b) →
-      LeadsOn (nodes_of t.way p.expr) t.way (state_of m t q) o end b =
-      (λ b o end low at from.
-      let one = column_same t.layout.columns t.layout.width (slice_index_or p.classes byte 0) (slice_index_or p.classes o 0) k p.anchors edge end t.layout.edge table.layout.edge column.0 at.0 column.1 at.1 in
-      leads_same p.expr t.way (state_of m t q) b byte o end (classes.alike o byte low small one.0) (from one.1)) in
       let here : Names m t (LeadsBy p t q k) v =
       ⊎_elim
-      (λ (is : p.anchors ≡ true).
-      names_map m t (LeadsOn (nodes_of t.way p.expr) t.way (state_of m t q) byte edge) (LeadsBy p t q k) v
-      (λ b on o end low at. other b o end low at (λ same.
-      ⊎_elim
-      (λ (e : end ≡ edge). subst (λ x. LeadsOn (nodes_of t.way p.expr) t.way (state_of m t q) byte x b) (sym e) on)
-      (λ (none : p.anchors ≡ false). absurd (both_ways p.anchors none is))
-      same)) leads)
-      (λ (none : p.anchors ≡ false).
+      (λ (within : (t.layout.edge ≡ Some 0) × SameNulls p.expr.nodes).
       names_map m t (λ b. (end : Bool) → LeadsOn (nodes_of t.way p.expr) t.way (state_of m t q) byte end b) (LeadsBy p t q k) v
-      (λ b on o end low at. other b o end low at (λ same. on end)) (anywhere none))
-      (cases_Bool p.anchors) in
+      (λ b on o end low at.
+      let one = sym (column_within (slice_index_or t.layout.classes o 0) k end t.layout.edge within.0 at.1) ∙ column_within class k edge t.layout.edge within.0 column.1 in
+      leads_same p.expr t.way (state_of m t q) b byte o end (table.layout.classes o byte low small one) (on end)) (anywhere within.1))
+      (λ (apart : EdgeApart t.layout.columns t.layout.edge).
+      names_map m t (LeadsOn (nodes_of t.way p.expr) t.way (state_of m t q) byte edge) (LeadsBy p t q k) v
+      (λ b on o end low at.
+      let one = column_apart t.layout.columns class (slice_index_or t.layout.classes o 0) k edge end t.layout.edge apart column.0 at.0 column.1 at.1 in
+      leads_same p.expr t.way (state_of m t q) b byte o end (table.layout.classes o byte low small one.0)
+      (subst (λ x. LeadsOn (nodes_of t.way p.expr) t.way (state_of m t q) byte x b) (sym one.1) on)) leads)
+      table.layout.apart in
       record {
         expr = table.expr;
         room = room;
-        layout = subst (λ l. IsLayout m p.anchors l) (sym adds.shape.2) table.layout;
+        layout = subst (λ l. IsLayout p.expr.nodes l) (sym adds.shape.2) table.layout;
         roots = λ x low. let less : x < t.count = omega arith in subst (λ (a : State). a.root < m) (sym (adds.kept epoch x less)) (table.roots x less);
         told = λ x low. let less : x < t.count = omega arith in subst (λ (a : State). IsTold a) (sym (adds.kept epoch x less)) (table.told x less);
         filled = λ x j low col some.
@@ -327,7 +325,7 @@ module _ (p : Prepared) (t t' : Table) (adds : AddsStates (length p.expr.nodes) 
       record {
         expr = table.expr;
         room = room;
-        layout = subst (λ l. IsLayout m p.anchors l) (sym adds.shape.2) table.layout;
+        layout = subst (λ l. IsLayout p.expr.nodes l) (sym adds.shape.2) table.layout;
         roots = λ q low. let less : q < t.count = omega arith in subst (λ (a : State). a.root < m) (sym (adds.kept epoch q less)) (table.roots q less);
         told = λ q low. let less : q < t.count = omega arith in subst (λ (a : State). IsTold a) (sym (adds.kept epoch q less)) (table.told q less);
         filled = λ q k low col some.
@@ -360,7 +358,7 @@ noted_all P items at epoch code inside here all i =
     (cases_eq i at)
 
 -- a table without states
-pub no_states : (p : Prepared) (t : Table) → IsExpr p.expr.nodes p.expr.groups → HasRoom (length p.expr.nodes) t → IsLayout (length p.expr.nodes) p.anchors t.layout → t.count ≡ 0 →
+pub no_states : (p : Prepared) (t : Table) → IsExpr p.expr.nodes p.expr.groups → HasRoom (length p.expr.nodes) t → IsLayout p.expr.nodes t.layout → t.count ≡ 0 →
     ((i : ℕ) → (beginning_of t i).epoch < t.epoch) → IsTable p t
 no_states p t expr room layout none past = record {
   expr = expr;
@@ -483,9 +481,9 @@ module _ (p : Prepared) (t : Table) (table : IsTable p t) (P : State → Type 0)
   names_small = omega (arith, offset_is, small_offset)
 
 -- what stands in a cell
-module _ (p : Prepared) (t : Table) (table : IsTable p t) (offset byte k : ℕ) (edge : Bool) (at : IsOffset t offset) (column : IsColumn t.layout p.classes byte edge k) where
+module _ (p : Prepared) (t : Table) (table : IsTable p t) (offset byte k : ℕ) (edge : Bool) (at : IsOffset t offset) (column : IsColumn t.layout byte edge k) where
   column_inside : k < t.layout.width
-  column_inside = column_below t.layout.columns t.layout.width (slice_index_or p.classes byte 0) k p.anchors edge t.layout.edge table.layout.columns table.layout.edge column.0 column.1
+  column_inside = column_below t.layout.columns t.layout.width (slice_index_or t.layout.classes byte 0) k edge t.layout.edge table.layout.columns table.layout.edge column.0 column.1
 
   pub cell_there : offset + k < length t.cells.items
   cell_there =
@@ -548,7 +546,7 @@ pub table_roomy : (m : ℕ) (p : Prepared) (t : Table) → IsTable p t → 256 *
 table_roomy m p t table wide marks layout small = room_laid (length p.expr.nodes) m t layout table.room wide marks small
 
 abbrev widest : Layout
-widest = record { columns = 0; edge = None; width = 0; shift = 8 }
+widest = record { classes = replicate 256 0; columns = 0; edge = None; width = 0; shift = 8 }
 
 -- so it has it again, after one expression
 pub roomy_still : (m : ℕ) (p : Prepared) (t t' : Table) → IsRoomy m t → SameRoom t t' → IsTable p t' → IsRoomy m t'
@@ -578,16 +576,6 @@ adds_then m a b c one two epoch count = record {
   kept = λ e q low. let g = one.grows (sym epoch ∙ e) in let up = g.0 in two.kept epoch q (omega arith) ∙ one.kept (sym epoch ∙ e) q low;
   full = λ room. epoch ∙ one.full room;
   forgot = λ ne. let few = one.forgot (λ e. ne (epoch ∙ e)) in omega arith;
-}
-
--- from an emptied table
-pub adds_first : (m : ℕ) (a b c : Table) → SameShape a b → a.count ≡ a.room → b.count ≡ 0 → (b.epoch ≡ a.epoch → ⊥) → AddsStates m b c → c.epoch ≡ b.epoch → AddsStates m a c
-adds_first m a b c shape full none other adds epoch = record {
-  shape = (adds.shape.0 ∙ shape.0, adds.shape.1 ∙ shape.1, adds.shape.2 ∙ shape.2, adds.shape.3 ∙ shape.3, adds.shape.4 ∙ shape.4);
-  grows = λ e. absurd (other (sym epoch ∙ e));
-  kept = λ e. absurd (other (sym epoch ∙ e));
-  full = λ room. absurd (omega arith);
-  forgot = λ ne. let few = (adds.grows epoch).1 in omega arith;
 }
 
 -- nothing happened

@@ -12,11 +12,11 @@ use Rattle.sedre.proofs.TreeLemmas.{tree_at-node}
 use Rattle.sedmarks.specs.Reach.{At, one_start}
 use Rattle.sedpass.specs.Regions.{Reaches, IsLastIn, last_of}
 use Rattle.sedmarks.specs.Caps.{LastCut, LastCopy, only, then}
-use Rattle.sedpass.specs.Overlay.{State, is_due, settle, drop_groups, Back, HasGroup, NoneDue, all_due}
+use Rattle.sedpass.specs.Overlay.{State, is_due, settle, drop_groups, Back, HasGroup, NoneDue}
 use Rattle.sedpass.specs.declared.groups.Task.{Task}
 use Rattle.sedpass.specs.declared.groups.Task.TheVariants.{Apart, Forget}
 use Rattle.sedmarks.specs.Work.{parts_of}
-use Rattle.sedpass.specs.Turns.{AreReady, weights, IsTurn, IsHere, HasGroupAt, Blank, LeaveTurn, LeafTurn, SeqTurn, AltTurn, GroupTurn, StarTurn, OptTurn, EmptyTurn, SeqSpine, RunSpine, AltSpine, PartSpine, StarSpine, SeqParts, AltParts, StarParts, OptParts, TurnedLaw, ForgottenLaw, BeginLaw, RoomLaw, GroupsAtLaw, DropLaw, BlankLaw}
+use Rattle.sedpass.specs.Turns.{AreReady, weights, IsTurn, IsHere, HasGroupAt, Blank, LeaveTurn, LeafTurn, SeqTurn, AltTurn, GroupTurn, StarTurn, OptTurn, EmptyTurn, SeqSpine, RunSpine, AltSpine, PartSpine, StarSpine, SeqParts, StarParts, OptParts, TurnedLaw, BeginLaw, RoomLaw, GroupsAtLaw, DropLaw}
 use Rattle.sedmarks.proofs.ReachLemmas.{open_at, close_at}
 use Rattle.sedpass.proofs.LeaveLemmas.{alt_looks, reaches_last}
 use Rattle.sedpass.proofs.MeetingLemmas.{stops_at_cut, stops_at_copy, run_stops}
@@ -100,13 +100,6 @@ pub none_there : (n k : ℕ) → slice_index_or {A = Option (ℕ × ℕ)} (repli
 none_there zero k = refl
 none_there (suc n) zero = refl
 none_there (suc n) (suc k) = none_there n k
-
-start_blank : (i j : ℕ) → Blank (all_due i j)
-start_blank i j zero is = absurd (true≢false (sym is))
-start_blank i j (suc k) is = none_there 9 k
-
-pub blanks : BlankLaw
-blanks = (start_blank, settle_blank, drop_blank)
 
 set_spans : (k : ℕ) (s : State) → Blank s → (settle k None s).spans ≡ s.spans
 set_spans k s blank =
@@ -356,13 +349,6 @@ seq_parts nodes w x i j left right a b here left_is right_is =
     let inside = here.inside in
     (omega arith, omega arith, rw (left_is, right_is) (open_at nodes w x (Seq a b) here.arena here.is i j here.at))
 
-pub alt_parts : AltParts
-alt_parts nodes w x i j left right a b here left_is right_is =
-    let low = here.arena.below x a.index (Alt a b) here.is (inl refl) in
-    let low' = here.arena.below x b.index (Alt a b) here.is (inr refl) in
-    let inside = here.inside in
-    (omega arith, omega arith, rw (left_is, right_is) (open_at nodes w x (Alt a b) here.arena here.is i j here.at))
-
 pub star_parts : StarParts
 star_parts nodes w x i j part a first here part_is =
     let low = here.arena.below x a.index (Star a first) here.is refl in
@@ -416,9 +402,6 @@ turned nodes w x i j old new tasks rest turn ready = (
   ready-append nodes w tasks rest turn.ready ready.4,
   omega (arith, turn.less, weights-append nodes tasks rest),
 )
-
-pub forgotten : ForgottenLaw
-forgotten nodes w x old rest ready = (λ f run. run, ready.1, omega arith)
 
 pub begins : BeginLaw
 begins nodes w x i j old new start run = back_report (tree_at nodes x) w i j old new start (subst (Back (tree_at nodes x) w i j old) (sym run.2) run.1)

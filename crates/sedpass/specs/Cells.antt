@@ -1,6 +1,8 @@
 -- Private to the proofs: no contract that `sedmatch` makes public cites what stands here.
 -- Codes of states, and where the cells of a state stand.
-use Rattle.std.specs.Prelude.{◌≡◌, ℕ, ◌+◌, ◌*◌, ◌^◌, ◌<◌, ◌≤◌, ◌⊎◌, Bool, true, false, not, ◌&&◌, ◌||◌, List, slice_index_or, Option, Some, None}
+use Rattle.std.specs.Prelude.{◌≡◌, ℕ, ◌+◌, ◌*◌, ◌^◌, ◌<◌, ◌≤◌, ◌⊎◌, Bool, true, false, not, ◌&&◌, ◌||◌, List, length, slice_index_or, Option, Some, None}
+use Rattle.sedre.specs.declared.types.Node.{Node}
+use Rattle.sedpass.specs.Prepared.{AreAlike, SameNulls}
 use Rattle.sedpass.specs.declared.rows.Way.{Way}
 use Rattle.sedpass.specs.declared.cells.Flags.{Flags}
 use Rattle.sedpass.specs.declared.cells.Layout.{Layout}
@@ -20,19 +22,27 @@ ColumnAt edge class false k = k ≡ class
 ColumnAt None class true k = ⊥
 ColumnAt (Some first) class true k = k ≡ first + class
 
--- where the edge's columns begin: with the others if places are all of one kind, else after them
-abbrev pub EdgeFits : ℕ → ℕ → Bool → Option ℕ → Type 0
-EdgeFits columns width anchors None = Unit {0}
-EdgeFits columns width anchors (Some first) = (first + columns ≤ width) × (((first ≡ 0) × (anchors ≡ false)) ⊎ (columns ≤ first))
+-- the edge's columns are apart from the others
+abbrev pub EdgeApart : ℕ → Option ℕ → Type 0
+EdgeApart columns None = Unit {0}
+EdgeApart columns (Some first) = columns ≤ first
 
--- the cells of m nodes' states are few, and have room
-pub record IsLayout (m : ℕ) (anchors : Bool) (layout : Layout) : Type 0 where
-  pub few : layout.width ≤ 2 * m
+-- and have room
+abbrev pub EdgeFits : ℕ → ℕ → Option ℕ → Type 0
+EdgeFits columns width None = Unit {0}
+EdgeFits columns width (Some first) = first + columns ≤ width
+
+-- the cells of a state are few for the nodes, and have room; bytes of one class are in the same sets, and the edge's columns are those of other
+-- places only where these are all of one kind
+pub record IsLayout (nodes : List Node) (layout : Layout) : Type 0 where
+  pub few : layout.width ≤ 2 * length nodes
   pub columns : layout.columns ≤ layout.width
-  pub edge : EdgeFits layout.columns layout.width anchors layout.edge
+  pub classes : AreAlike nodes layout.classes
+  pub edge : EdgeFits layout.columns layout.width layout.edge
+  pub apart : ((layout.edge ≡ Some 0) × SameNulls nodes) ⊎ EdgeApart layout.columns layout.edge
   pub small : layout.shift ≤ 8
   pub fits : layout.width ≤ 2 ^ layout.shift
 
 -- the column is the byte's
-abbrev pub IsColumn : Layout → List ℕ → ℕ → Bool → ℕ → Type 0
-IsColumn layout classes byte edge k = (slice_index_or classes byte 0 < layout.columns) × ColumnAt layout.edge (slice_index_or classes byte 0) edge k
+abbrev pub IsColumn : Layout → ℕ → Bool → ℕ → Type 0
+IsColumn layout byte edge k = (slice_index_or layout.classes byte 0 < layout.columns) × ColumnAt layout.edge (slice_index_or layout.classes byte 0) edge k

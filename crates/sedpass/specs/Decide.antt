@@ -166,8 +166,8 @@ abbrev pub IsSetAt : List Node → ℕ → Type 0
 IsSetAt nodes x = (members : List Bool) × (slice_get nodes x ≡ Some (Set members))
 
 -- the steps that looks into a region from a place on may take
-abbrev pub owed_in : Subject → GroupTables → Region → ℕ → ℕ
-owed_in s tables r place = owed (length (nodes_in s)) (tables.inside.room - 1) r place
+abbrev pub owed_in : Subject → Region → ℕ → ℕ
+owed_in s r place = owed (length (nodes_in s)) r place
 
 -- how many bytes the match has
 abbrev pub long_of : Matched → ℕ

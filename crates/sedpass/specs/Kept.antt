@@ -139,5 +139,5 @@ again m (suc places) = 59 * m * (suc places) + 13 * m
 
 -- the steps that looks into the region from a place on may take: to make what isn't made yet, of which a place at least is then in the
 -- table, and each of the others once again
-abbrev pub owed : ℕ → ℕ → Region → ℕ → ℕ
-owed m width r place = if nat_lt place r.low then 100 * m * (r.end - place) else again m (r.end - due_place r place)
+abbrev pub owed : ℕ → Region → ℕ → ℕ
+owed m r place = if nat_lt place r.low then 100 * m * (r.end - place) else again m (r.end - due_place r place)

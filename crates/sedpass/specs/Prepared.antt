@@ -72,11 +72,19 @@ abbrev pub IsOfEachKind : Null → Type 0
 IsOfEachKind null = (first last : Bool) → null_at null first last ≡ null_at null false false
 
 -- bytes of one class are in the same sets
+abbrev pub AreAlike : List Node → List ℕ → Type 0
+AreAlike nodes classes = (one other : ℕ) → one < 256 → other < 256 → slice_index_or classes one 0 ≡ slice_index_or classes other 0 → SameBytes nodes (Some one) (Some other)
+
+-- each node matches the null string at places of each kind, or at none
+abbrev pub SameNulls : List Node → Type 0
+SameNulls nodes = (x : ℕ) (first last : Bool) → x < length nodes → nullable first last (tree_at nodes x) ≡ nullable false false (tree_at nodes x)
+
+-- each byte has a class, of as many as there are columns
 pub record AreClasses (nodes : List Node) (classes : List ℕ) (columns : ℕ) : Type 0 where
   pub some : 1 ≤ columns
   pub few : columns ≤ 256
   pub below : (byte : ℕ) → byte < 256 → slice_index_or classes byte 0 < columns
-  pub alike : (one other : ℕ) → one < 256 → other < 256 → slice_index_or classes one 0 ≡ slice_index_or classes other 0 → SameBytes nodes (Some one) (Some other)
+  pub alike : AreAlike nodes classes
 
 -- what is told of an expression
 pub record IsPrepared (e : Written) (root : ℕ) (told : List Facts) (of : List ℕ) (columns : ℕ) (anchors : Bool) : Type 0 where
@@ -84,4 +92,4 @@ pub record IsPrepared (e : Written) (root : ℕ) (told : List Facts) (of : List 
   pub all : length told ≡ length e.nodes
   pub facts : AreFacts e.nodes told
   pub classes : AreClasses e.nodes of columns
-  pub anywhere : anchors ≡ false → (x : ℕ) (first last : Bool) → x < length e.nodes → nullable first last (tree_at e.nodes x) ≡ nullable false false (tree_at e.nodes x)
+  pub anywhere : anchors ≡ false → SameNulls e.nodes

@@ -77,13 +77,13 @@ abbrev pub search_cost : ℕ → ℕ → ℕ → ℕ
 search_cost m n from = m * (5 * n + 142 * (n - from) + 40 * (n - from - 1) + 42)
 
 -- the steps that searches from a place on may still take, over what one search takes besides: by the pass from the text's end,
-abbrev pub owed_kept : ℕ → ℕ → ℕ → Region → ℕ → ℕ
-owed_kept m n width r place = owed m width r place + 42 * m * (n - place)
+abbrev pub owed_kept : ℕ → ℕ → Region → ℕ → ℕ
+owed_kept m n r place = owed m r place + 42 * m * (n - place)
 
 -- by that or by trials,
-abbrev pub owed_search : ℕ → ℕ → ℕ → Seeking → ℕ → ℕ
-owed_search m n width s place =
-    if s.begun then owed_kept m n width s.kept.region place else 40 * m * (2 * n + 1 - s.tried) + 142 * m * (n - place)
+abbrev pub owed_search : ℕ → ℕ → Seeking → ℕ → ℕ
+owed_search m n s place =
+    if s.begun then owed_kept m n s.kept.region place else 40 * m * (2 * n + 1 - s.tried) + 142 * m * (n - place)
 
 -- and after an answer: none where there is no match
 abbrev pub owed_after : (ℕ → ℕ) → Option (ℕ × ℕ) → ℕ

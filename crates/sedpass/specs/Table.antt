@@ -80,7 +80,7 @@ cell_of t q k = slice_index_or t.cells.items (q * 2 ^ t.layout.shift + k) 0
 
 -- each byte of the column leads from the state of number q to this one
 abbrev pub LeadsBy : Prepared → Table → ℕ → ℕ → State → Type 0
-LeadsBy p t q k b = (byte : ℕ) (edge : Bool) → byte < 256 → IsColumn t.layout p.classes byte edge k →
+LeadsBy p t q k b = (byte : ℕ) (edge : Bool) → byte < 256 → IsColumn t.layout byte edge k →
     LeadsOn (nodes_of t.way p.expr) t.way (state_of (length p.expr.nodes) t q) byte edge b
 
 -- Beginnings.
@@ -134,7 +134,7 @@ IsRoomy m t = (layout : Layout) → layout.shift ≤ 8 → HasRoom m (record t {
 pub record IsTable (p : Prepared) (t : Table) : Type 0 where
   pub expr : IsExpr p.expr.nodes p.expr.groups
   pub room : HasRoom (length p.expr.nodes) t
-  pub layout : IsLayout (length p.expr.nodes) p.anchors t.layout
+  pub layout : IsLayout p.expr.nodes t.layout
   pub roots : (q : ℕ) → q < t.count → (state_of (length p.expr.nodes) t q).root < length p.expr.nodes
   pub told : (q : ℕ) → q < t.count → IsTold (state_of (length p.expr.nodes) t q)
   pub filled : (q k : ℕ) → q < t.count → k < t.layout.width → 0 < cell_of t q k → Names (length p.expr.nodes) t (LeadsBy p t q k) (cell_of t q k)

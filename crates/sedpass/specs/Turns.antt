@@ -1,6 +1,6 @@
 -- Private to the proofs: no contract that `sedmatch` makes public cites what stands here.
 -- What is left to do while the groups of a match are decided from its end.
-use Rattle.std.specs.Prelude.{◌≡◌, ℕ, ◌+◌, ◌-◌, ◌*◌, ◌<◌, ◌≤◌, ◌⊎◌, ◌↔◌, Bool, true, List, [], ◌∷◌, ◌++◌, length, slice_get, slice_index_or, Option, None, Some, IsTrue}
+use Rattle.std.specs.Prelude.{◌≡◌, ℕ, ◌+◌, ◌-◌, ◌*◌, ◌<◌, ◌≤◌, ◌⊎◌, ◌↔◌, Bool, true, List, [], ◌∷◌, ◌++◌, length, slice_get, slice_index_or, None, Some, IsTrue}
 use Rattle.sedre.specs.Arena.{IsArena, tree_at}
 use Rattle.sedre.specs.Tree.{Tree, size}
 use Rattle.sedre.specs.declared.types.Node.{Node}
@@ -15,7 +15,7 @@ use Rattle.sedmarks.specs.Spans.{Copies}
 use Rattle.sedmarks.specs.Caps.{LastCut, LastCopy, IsReport}
 use Rattle.sedmarks.specs.Work.{parts_of}
 use Rattle.sedpass.specs.Regions.{Reaches, IsLastIn, StopsAt, RunsTo, NextCopy, IsRunOf}
-use Rattle.sedpass.specs.Overlay.{State, is_due, settle, drop_groups, Back, HasGroup, NoneDue, IsStart, all_due}
+use Rattle.sedpass.specs.Overlay.{State, is_due, settle, drop_groups, Back, HasGroup, NoneDue, IsStart}
 
 -- the tasks, the first one first, bring the state `old` to the state `new`
 abbrev pub Runs : List Node → List ℕ → List Task → State → State → Type 0
@@ -148,10 +148,6 @@ abbrev pub SeqParts : Type 0
 SeqParts = (nodes : List Node) (w : List ℕ) (x i j left right : ℕ) (a b : NodeId) → IsHere nodes w x i j (Seq a b) → left ≡ a.index → right ≡ b.index →
     (left < length nodes) × (right < length nodes) × ((k : ℕ) × At nodes w left i k × At nodes w right k j)
 
-abbrev pub AltParts : Type 0
-AltParts = (nodes : List Node) (w : List ℕ) (x i j left right : ℕ) (a b : NodeId) → IsHere nodes w x i j (Alt a b) → left ≡ a.index → right ≡ b.index →
-    (left < length nodes) × (right < length nodes) × (At nodes w left i j ⊎ At nodes w right i j)
-
 abbrev pub StarParts : Type 0
 StarParts = (nodes : List Node) (w : List ℕ) (x i j part : ℕ) (a : NodeId) (first : Bool) → IsHere nodes w x i j (Star a first) → part ≡ a.index →
     (part < length nodes) × Copies (At nodes w part) j i
@@ -191,11 +187,6 @@ abbrev pub TurnedLaw : Type 0
 TurnedLaw = (nodes : List Node) (w : List ℕ) (x i j : ℕ) (old new : State) (tasks rest : List Task) → IsTurn nodes w x i j old new tasks →
     AreReady nodes w (Apart x i j ∷ rest) → Reduces nodes w (Apart x i j ∷ rest) old (tasks ++ rest) new
 
--- the same after groups were forgotten
-abbrev pub ForgottenLaw : Type 0
-ForgottenLaw = (nodes : List Node) (w : List ℕ) (x : ℕ) (old : State) (rest : List Task) → AreReady nodes w (Forget x ∷ rest) →
-    Reduces nodes w (Forget x ∷ rest) old rest (drop_groups (tree_at nodes x) old)
-
 -- what the tasks that are left give is the report, when the match alone is to be decided
 abbrev pub BeginLaw : Type 0
 BeginLaw = (nodes : List Node) (w : List ℕ) (x i j : ℕ) (old new : State) → IsStart (tree_at nodes x) i j old → Runs nodes w (Apart x i j ∷ []) old new → IsReport (tree_at nodes x) w i j new.spans
@@ -212,7 +203,3 @@ GroupsAtLaw = (nodes : List Node) (x k : ℕ) (node : Node) → IsArena nodes �
 abbrev pub DropLaw : Type 0
 DropLaw = (t : Tree) (s new : State) → Blank s → new.spans ≡ s.spans → length new.due ≡ length s.due →
     ((k : ℕ) → IsTrue (is_due new k) ↔ (IsTrue (is_due s k) × (HasGroup t k → ⊥))) → new ≡ drop_groups t s
-
--- that stays so
-abbrev pub BlankLaw : Type 0
-BlankLaw = ((i j : ℕ) → Blank (all_due i j)) × ((k : ℕ) (v : Option (ℕ × ℕ)) (s : State) → Blank s → Blank (settle k v s)) × ((t : Tree) (s : State) → Blank s → Blank (drop_groups t s))

@@ -1,7 +1,7 @@
 //! How a table names its states by codes, and lays out their cells.
 ghost use Rattle.std.specs.Prelude.{◌≡◌, ℕ, Bool, false, ◌+◌, ◌*◌, ◌^◌, ◌<◌, ◌≤◌, length, slice_index_or, IfSome, vec_len, vec_capacity};
 ghost use Rattle.sedre.specs.Steps.{Takes};
-ghost use Rattle.sedpass.specs.Cells.{stops, code_of, IsLayout, ColumnAt};
+ghost use Rattle.sedpass.specs.Cells.{stops, code_of, IsLayout, IsColumn};
 
 use crate::nodes::Prepared;
 use crate::rows::Way;
@@ -26,8 +26,10 @@ pub struct Flags {
 }
 
 /// How the cells of a state are laid out.
-#[derive(Clone, Copy)]
+#[derive(Drop)]
 pub struct Layout {
+    /// The class of each byte: bytes of one class are in the same sets.
+    pub classes: [u8; 256],
     /// How many classes of bytes have cells; what a byte of another one leads to is found out anew each time.
     pub columns: usize,
     /// Where the cells begin for a byte after which the text's edge comes; None: it is found out anew each time.
@@ -93,7 +95,7 @@ fn shift_for(width: usize) -> u32
 impl Layout {
     /// The cells of a state for an expression: few for each node, so that a new state costs little.
     pub fn new(prepared: &Prepared) -> Layout
-        ensures { IsLayout (length prepared.now.expr.nodes) prepared.now.anchors result }
+        ensures { IsLayout prepared.now.expr.nodes result }
     {
         let most = MOST_CELLS.min(CELLS_A_NODE * prepared.nodes());
         let columns = prepared.columns.min(most);
@@ -105,6 +107,7 @@ impl Layout {
             (None, columns)
         };
         Layout {
+            classes: prepared.classes,
             columns,
             edge,
             width,
@@ -117,6 +120,7 @@ impl Layout {
         ensures { result.shift ≡ 8 }
     {
         Layout {
+            classes: [0; 256],
             columns: 0,
             edge: None,
             width: 0,
@@ -124,11 +128,12 @@ impl Layout {
         }
     }
 
-    /// The column of a class of bytes, if its cells are kept. `edge` says whether the text's edge comes after the byte.
+    /// The column of a byte, if the cells of its class are kept. `edge` says whether the text's edge comes after the byte.
     #[inline(always)]
-    pub fn column(self, class: usize, edge: bool) -> Option<usize>
-        ensures { IfSome result (λ k. (class < self.columns) × ColumnAt self.edge class edge k) }
+    pub fn column(&self, byte: u8, edge: bool) -> Option<usize>
+        ensures { IfSome result (IsColumn self.now byte edge) }
     {
+        let class = self.classes[byte as usize] as usize;
         if class >= self.columns {
             return None;
         }

@@ -222,8 +222,8 @@ fn meeting_end(
     ensures desk { IsDesk subject.entry tables.new kept.new }
     ensures shape { SameTables tables.old tables.new }
     ensures space { SameSpace kept.old kept.new }
-    ensures cost { Pays steps.old steps.new (owed_in subject.entry tables.old kept.old.region from + 36 * length (nodes_in subject.entry) * (result + 1))
-        (owed_in subject.entry tables.new kept.new.region result + 36 * length (nodes_in subject.entry) * from) }
+    ensures cost { Pays steps.old steps.new (owed_in subject.entry kept.old.region from + 36 * length (nodes_in subject.entry) * (result + 1))
+        (owed_in subject.entry kept.new.region result + 36 * length (nodes_in subject.entry) * from) }
     ensures counts { TakesAtLeast steps.old steps.new (2 * (result - from) + 1) }
 {
     kept.cut(
@@ -255,7 +255,7 @@ fn run_end(
     ensures desk { IsDesk subject.entry tables.new kept.new }
     ensures shape { SameTables tables.old tables.new }
     ensures space { SameSpace kept.old kept.new }
-    ensures cost { Pays steps.old steps.new (owed_in subject.entry tables.old kept.old.region from + 2 * result + 2) (owed_in subject.entry tables.new kept.new.region result + 2 * from) }
+    ensures cost { Pays steps.old steps.new (owed_in subject.entry kept.old.region from + 2 * result + 2) (owed_in subject.entry kept.new.region result + 2 * from) }
     ensures counts { TakesAtLeast steps.old steps.new (result - from) }
 {
     kept.seek(subject, &mut tables.inside, leaf, from, false, steps)

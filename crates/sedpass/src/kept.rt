@@ -112,7 +112,7 @@ impl Kept {
         ensures root { self.new.region.root ≡ root }
         ensures end { self.new.region.end ≡ end }
         ensures space { SameSpace self.old self.new }
-        ensures owed { (i : ℕ) → i ≤ end → owed (length subject.entry.prepared.now.expr.nodes) (table.now.room - 1) self.new.region i
+        ensures owed { (i : ℕ) → i ≤ end → owed (length subject.entry.prepared.now.expr.nodes) self.new.region i
             ≤ 100 * length subject.entry.prepared.now.expr.nodes * (end - i) }
     {
         extend_states(&mut self.states, subject.text.len());
@@ -411,8 +411,8 @@ impl Kept {
         ensures same { SameKept self.old self.new }
         ensures from { self.new.region.from ≤ place }
         ensures to { (result ≡ self.new.region.to) × (place < result) }
-        ensures cost { let m = length subject.entry.prepared.now.expr.nodes in let width = table.old.room - 1 in
-            Pays steps.old steps.new (owed m width self.old.region place) (owed m width self.new.region place) }
+        ensures cost { let m = length subject.entry.prepared.now.expr.nodes in
+            Pays steps.old steps.new (owed m self.old.region place) (owed m self.new.region place) }
     {
         if place < self.region.low {
             self.make(subject, table, place, steps);
@@ -439,8 +439,8 @@ impl Kept {
         ensures shape { SameShape table.old table.new }
         ensures same { SameKept self.old self.new }
         ensures spans { IsTrue result ↔ At subject.entry.prepared.now.expr.nodes subject.entry.text.now x place self.old.region.end }
-        ensures cost { let m = length subject.entry.prepared.now.expr.nodes in let width = table.old.room - 1 in
-            Pays steps.old steps.new (owed m width self.old.region place + 1) (owed m width self.new.region place) }
+        ensures cost { let m = length subject.entry.prepared.now.expr.nodes in
+            Pays steps.old steps.new (owed m self.old.region place + 1) (owed m self.new.region place) }
         ensures counts { TakesAtLeast steps.old steps.new 1 }
     {
         if place == self.region.end {
@@ -474,8 +474,8 @@ impl Kept {
             (ends_told table.old.way.sweeps (length subject.entry.text.now) self.old.region.end) x (not marked) from result }
         ensures found { result < self.old.region.end → IsTrue marked ↔ Reaches subject.entry.prepared.now.expr.nodes subject.entry.text.now self.old.region.root
             (ends_told table.old.way.sweeps (length subject.entry.text.now) self.old.region.end) x result }
-        ensures cost { let m = length subject.entry.prepared.now.expr.nodes in let width = table.old.room - 1 in
-            Pays steps.old steps.new (owed m width self.old.region from + 2 * result + 2) (owed m width self.new.region result + 2 * from) }
+        ensures cost { let m = length subject.entry.prepared.now.expr.nodes in
+            Pays steps.old steps.new (owed m self.old.region from + 2 * result + 2) (owed m self.new.region result + 2 * from) }
         ensures counts { TakesAtLeast steps.old steps.new (result - from) }
     {
         let mut place = from;
@@ -544,8 +544,8 @@ impl Kept {
         ensures within { result ≤ self.old.region.end }
         ensures ceases { CeasesAt subject.entry.prepared.now.expr.nodes subject.entry.text.now self.old.region.root
             (ends_told table.old.way.sweeps (length subject.entry.text.now) self.old.region.end) a from result }
-        ensures cost { let m = length subject.entry.prepared.now.expr.nodes in let width = table.old.room - 1 in
-            Pays steps.old steps.new (owed m width self.old.region from + 36 * m * (result + 1)) (owed m width self.new.region result + 36 * m * from) }
+        ensures cost { let m = length subject.entry.prepared.now.expr.nodes in
+            Pays steps.old steps.new (owed m self.old.region from + 36 * m * (result + 1)) (owed m self.new.region result + 36 * m * from) }
         ensures counts { TakesAtLeast steps.old steps.new (2 * (result - from) + 1) }
     {
         let kind = kind_of(from, subject.text.len());

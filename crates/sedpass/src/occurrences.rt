@@ -5,13 +5,13 @@ ghost use Rattle.std.specs.Prelude.{◌≡◌, ℕ, false, Option, None, Some, �
 ghost use Rattle.sedmarks.specs.Answer.{SpanAnswer};
 ghost use Rattle.sedmarks.specs.Beginnings.{AllBegin};
 ghost use Rattle.sedmarks.specs.Costs.{Pays};
-ghost use Rattle.sedmarks.specs.Following.{EndsWithin, LiesOn, Occurs, next_span};
+ghost use Rattle.sedmarks.specs.Following.{LiesOn, next_span};
 ghost use Rattle.sedmarks.specs.Matching.{found};
 ghost use Rattle.sedmarks.specs.NextMatch.{unless_null_at};
 ghost use Rattle.sedre.specs.Arena.{tree};
 ghost use Rattle.sedre.specs.Steps.{Takes, TakesAtLeast};
-ghost use Rattle.sedpass.specs.Kept.{KeptRoom};
-ghost use Rattle.sedpass.specs.Occurrences.{further_cost, owed_behind, owed_next};
+ghost use Rattle.sedpass.specs.Kept.{KeptRoom, SameSpace};
+ghost use Rattle.sedpass.specs.Occurrences.{further_cost, owed_behind};
 ghost use Rattle.sedpass.specs.Search.{Serves, owed_after, owed_search};
 ghost use Rattle.sedpass.specs.Table.{IsAhead, IsTable, SameShape};
 
@@ -31,14 +31,14 @@ pub fn begin_text(subject: Subject, back: &Table, seeking: &mut Seeking)
     ensures tried { seeking.new.tried ≡ 0 }
     ensures serves { Serves subject.entry.prepared.now subject.entry.text.now back.now seeking.new }
     ensures owed { let m = length subject.entry.prepared.now.expr.nodes in let n = length subject.entry.text.now in
-        owed_next m n (back.now.room - 1) None seeking.new ≤ 416 * m * (n + 1) }
+        owed_behind m n seeking.new 0 + 42 * m ≤ 306 * m * (n + 1) }
 {
     seeking.begun = false;
     seeking.tried = 0;
 }
 
 /// Whether a match is that of the null string at a place.
-fn is_null_at(span: Option<(usize, usize)>, at: usize) -> bool
+pub fn is_null_at(span: Option<(usize, usize)>, at: usize) -> bool
     ensures passed { (other : Option (ℕ × ℕ)) → unless_null_at (λ (f : ℕ × ℕ). f) at span other ≡ if result then other else span }
     ensures null { IsTrue result → span ≡ Some (at, at) }
     ensures after { result ≡ false → IfSome span (λ f. at ≤ f.0 → f.0 ≤ f.1 → at < f.1) }
@@ -66,12 +66,14 @@ fn past_null(
     requires ahead { IsAhead subject.prepared.now ahead.old }
     requires serves { Serves subject.prepared.now subject.text.now back.old seeking.old }
     ensures ahead { IsAhead subject.entry.prepared.now ahead.new }
+    ensures ahead_shape { SameShape ahead.old ahead.new }
+    ensures space { SameSpace seeking.old.kept seeking.new.kept }
     ensures serves { Serves subject.entry.prepared.now subject.entry.text.now back.new seeking.new }
     ensures shape { SameShape back.old back.new }
     ensures next { result ≡ if nat_lt at (length subject.entry.text.now) then found (tree subject.entry.prepared.now.expr) subject.entry.text.now (at + 1) else None }
     ensures lies { IfSome result (λ f. (at < f.0) × (f.0 ≤ f.1) × (f.1 ≤ length subject.entry.text.now)) }
-    ensures cost { let m = length subject.entry.prepared.now.expr.nodes in let n = length subject.entry.text.now in let width = back.old.room - 1 in
-        Pays steps.old steps.new (owed_search m n width seeking.old (at + 1) + 42 * m) (owed_after (owed_search m n width seeking.new) result) }
+    ensures cost { let m = length subject.entry.prepared.now.expr.nodes in let n = length subject.entry.text.now in
+        Pays steps.old steps.new (owed_search m n seeking.old (at + 1) + 42 * m) (owed_after (owed_search m n seeking.new) result) }
     ensures once { Takes steps.old steps.new (further_cost (length subject.entry.prepared.now.expr.nodes) (length subject.entry.text.now) at) }
     ensures counts { IfSome result (λ f. TakesAtLeast steps.old steps.new (f.1 - f.0)) }
 {
@@ -81,8 +83,13 @@ fn past_null(
     next_match(subject, begins, ahead, back, seeking, at + 1, steps)
 }
 
-/// The next occurrence after the one that ended at a place.
-fn next_after(
+/// The next occurrence in a text after one that ended at `at`: the leftmost of the longest matches from there on, or one byte
+/// further where that is the null string at `at`.
+///
+/// All searches in one text, from [`begin_text`] on, take at most 306 steps for each node and place together: that for the first
+/// occurrence, by [`next_match`], and a call for each that follows. Conditions: `at` is where the occurrence before ended. After
+/// `None` begin anew.
+pub fn next_after(
     subject: Subject,
     begins: &Begins,
     ahead: &mut Table,
@@ -96,12 +103,14 @@ fn next_after(
     requires ahead { IsAhead subject.prepared.now ahead.old }
     requires serves { Serves subject.prepared.now subject.text.now back.old seeking.old }
     ensures ahead { IsAhead subject.entry.prepared.now ahead.new }
+    ensures ahead_shape { SameShape ahead.old ahead.new }
+    ensures space { SameSpace seeking.old.kept seeking.new.kept }
     ensures serves { Serves subject.entry.prepared.now subject.entry.text.now back.new seeking.new }
     ensures shape { SameShape back.old back.new }
     ensures next { result ≡ next_span (found (tree subject.entry.prepared.now.expr) subject.entry.text.now) (length subject.entry.text.now) (Some at) }
     ensures lies { IfSome result (LiesOn (length subject.entry.text.now) (Some at)) }
-    ensures cost { let m = length subject.entry.prepared.now.expr.nodes in let n = length subject.entry.text.now in let width = back.old.room - 1 in
-        Pays steps.old steps.new (owed_behind m n width seeking.old at) (owed_after (owed_behind m n width seeking.new) result) }
+    ensures cost { let m = length subject.entry.prepared.now.expr.nodes in let n = length subject.entry.text.now in
+        Pays steps.old steps.new (owed_behind m n seeking.old at) (owed_after (owed_behind m n seeking.new) result) }
     ensures once { let m = length subject.entry.prepared.now.expr.nodes in let n = length subject.entry.text.now in
         Takes steps.old steps.new (64 * m * m * (n + 1) * (n + 1)) }
     ensures counts { IfSome result (λ f. TakesAtLeast steps.old steps.new (f.1 - f.0)) }
@@ -111,39 +120,4 @@ fn next_after(
         return first;
     }
     past_null(subject, begins, ahead, back, seeking, at, steps)
-}
-
-/// The next occurrence in a text after the one that ended at `last`, where there was one: the leftmost of the longest matches from
-/// there on, or one byte further where that is the null string at `last`.
-///
-/// All calls for one text, from [`begin_text`] on, take at most 416 steps for each node and place together. Conditions: `last` is
-/// what the call before answered, `None` in the first one. After `None` begin anew.
-pub fn next_occurrence(
-    subject: Subject,
-    begins: &Begins,
-    ahead: &mut Table,
-    back: &mut Table,
-    seeking: &mut Seeking,
-    last: Option<usize>,
-    steps: &mut Steps,
-) -> Option<(usize, usize)>
-    requires last { EndsWithin (length subject.text.now) last }
-    requires begins { AllBegin (tree subject.prepared.now.expr) begins.now }
-    requires ahead { IsAhead subject.prepared.now ahead.old }
-    requires serves { Serves subject.prepared.now subject.text.now back.old seeking.old }
-    ensures ahead { IsAhead subject.entry.prepared.now ahead.new }
-    ensures serves { Serves subject.entry.prepared.now subject.entry.text.now back.new seeking.new }
-    ensures shape { SameShape back.old back.new }
-    ensures next { result ≡ next_span (found (tree subject.entry.prepared.now.expr) subject.entry.text.now) (length subject.entry.text.now) last }
-    ensures occurs { IfSome result (Occurs (tree subject.entry.prepared.now.expr) subject.entry.text.now last) }
-    ensures cost { let m = length subject.entry.prepared.now.expr.nodes in let n = length subject.entry.text.now in let width = back.old.room - 1 in
-        Pays steps.old steps.new (owed_next m n width last seeking.old) (owed_after (owed_behind m n width seeking.new) result) }
-    ensures once { let m = length subject.entry.prepared.now.expr.nodes in let n = length subject.entry.text.now in
-        Takes steps.old steps.new (64 * m * m * (n + 1) * (n + 1)) }
-    ensures counts { IfSome result (λ f. TakesAtLeast steps.old steps.new (f.1 - f.0)) }
-{
-    match last {
-        None => next_match(subject, begins, ahead, back, seeking, 0, steps),
-        Some(at) => next_after(subject, begins, ahead, back, seeking, at, steps),
-    }
 }

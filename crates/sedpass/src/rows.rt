@@ -13,7 +13,7 @@ ghost use Rattle.sedmarks.specs.Matching.{takes};
 ghost use Rattle.sedmarks.specs.PartMarks.{enter_parts};
 ghost use Rattle.sedmarks.specs.Places.{takes_any};
 ghost use Rattle.sedmarks.specs.Reach.{IsStart, Ends, Marked};
-ghost use Rattle.sedpass.specs.Prepared.{null_in};
+ghost use Rattle.sedpass.specs.Prepared.{null_in, SameNulls};
 ghost use Rattle.sedpass.specs.Rows.{nodes_of, at_begin, at_end, bits, LeadsTo, IsFirst, RowAt};
 ghost use Rattle.sedpass.specs.Rows.{InTree, AreNull, TellTook, ended_by, leaf_looks, part_looks, enter_looks};
 
@@ -263,7 +263,7 @@ pub fn step(
         (bits (length prepared.now.expr.nodes) work.old.leaves) before (Some byte) edge way.sweeps
         (bits (length prepared.now.expr.nodes) work.new.leaves) (bits (length prepared.now.expr.nodes) work.new.ends) }
     // Where no node is null at places of one kind alone, it is the row at the text's edge and before it.
-    ensures anywhere { prepared.now.anchors ≡ false → (end : Bool) (before : ℕ → Bool) → LeadsTo (nodes_of way prepared.now.expr) root way.keeps
+    ensures anywhere { SameNulls prepared.now.expr.nodes → (end : Bool) (before : ℕ → Bool) → LeadsTo (nodes_of way prepared.now.expr) root way.keeps
         (bits (length prepared.now.expr.nodes) work.old.leaves) before (Some byte) end way.sweeps
         (bits (length prepared.now.expr.nodes) work.new.leaves) (bits (length prepared.now.expr.nodes) work.new.ends) }
     ensures cost { Takes steps.old steps.new (17 * length prepared.now.expr.nodes - 3) }

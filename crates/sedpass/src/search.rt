@@ -169,8 +169,8 @@ fn next_kept(
     ensures ahead_shape { SameShape ahead.old ahead.new }
     ensures space { SameSpace kept.old kept.new }
     ensures next { IsNext subject.entry.prepared.now subject.entry.text.now from back.old back.new kept.new steps.old steps.new result }
-    ensures cost { let m = length subject.entry.prepared.now.expr.nodes in let n = length subject.entry.text.now in let width = back.old.room - 1 in
-        Pays steps.old steps.new (owed_kept m n width kept.old.region from + 42 * m) (owed_after (λ q. owed_kept m n width kept.new.region q) result) }
+    ensures cost { let m = length subject.entry.prepared.now.expr.nodes in let n = length subject.entry.text.now in
+        Pays steps.old steps.new (owed_kept m n kept.old.region from + 42 * m) (owed_after (λ q. owed_kept m n kept.new.region q) result) }
 {
     let root = subject.prepared.root;
     let start = kept.seek(subject, back, root, from, true, steps);
@@ -199,8 +199,8 @@ fn next_begun(
     ensures ahead_shape { SameShape ahead.old ahead.new }
     ensures space { SameSpace kept.old kept.new }
     ensures next { IsNext subject.entry.prepared.now subject.entry.text.now from back.old back.new kept.new steps.old steps.new result }
-    ensures cost { let m = length subject.entry.prepared.now.expr.nodes in let n = length subject.entry.text.now in let width = back.old.room - 1 in
-        Pays steps.old steps.new (142 * m * (n - from) + 42 * m) (owed_after (λ q. owed_kept m n width kept.new.region q) result) }
+    ensures cost { let m = length subject.entry.prepared.now.expr.nodes in let n = length subject.entry.text.now in
+        Pays steps.old steps.new (142 * m * (n - from) + 42 * m) (owed_after (λ q. owed_kept m n kept.new.region q) result) }
 {
     let length = subject.text.len();
     kept.begin(subject, back, subject.prepared.root, length);
@@ -227,8 +227,8 @@ pub fn next_match(
     ensures serves { Serves subject.entry.prepared.now subject.entry.text.now back.new seeking.new }
     ensures shape { SameShape back.old back.new }
     ensures answer { SpanAnswer (tree subject.entry.prepared.now.expr) subject.entry.text.now from result }
-    ensures cost { let m = length subject.entry.prepared.now.expr.nodes in let n = length subject.entry.text.now in let width = back.old.room - 1 in
-        Pays steps.old steps.new (owed_search m n width seeking.old from + 42 * m) (owed_after (owed_search m n width seeking.new) result) }
+    ensures cost { let m = length subject.entry.prepared.now.expr.nodes in let n = length subject.entry.text.now in
+        Pays steps.old steps.new (owed_search m n seeking.old from + 42 * m) (owed_after (owed_search m n seeking.new) result) }
     ensures each { Takes steps.old steps.new (search_cost (length subject.entry.prepared.now.expr.nodes) (length subject.entry.text.now) from) }
     ensures counts { IfSome result (λ f. TakesAtLeast steps.old steps.new (f.1 - f.0)) }
 {

@@ -6,6 +6,7 @@
 ghost use Rattle.std.specs.Prelude.{◌≡◌, ℕ, Bool, false, ◌+◌, ◌*◌, ◌/◌, ◌^◌, ◌<◌, ◌≤◌, length, slice_index_or, IfOk, IfSome, vec_len};
 ghost use Rattle.sedmarks.specs.Words.{row_of};
 ghost use Rattle.sedre.specs.Steps.{Takes, TakesAtLeast};
+ghost use Rattle.sedpass.specs.Prepared.{SameNulls};
 ghost use Rattle.sedpass.specs.Rows.{nodes_of, bits};
 ghost use Rattle.sedpass.specs.Cells.{stops, code_of};
 ghost use Rattle.sedpass.specs.declared.nodes.Kind.{Kind};
@@ -367,15 +368,14 @@ impl Table {
         requires table { IsTable prepared.now self.old }
         requires offset { IsOffset self.old offset }
         requires leads { NamesNext prepared.now self.old self.old offset byte edge next }
-        requires anywhere { prepared.now.anchors ≡ false → Names (length prepared.now.expr.nodes) self.old (λ b. (end : Bool) → LeadsOn (nodes_of self.old.way prepared.now.expr) self.old.way
+        requires anywhere { SameNulls prepared.now.expr.nodes → Names (length prepared.now.expr.nodes) self.old (λ b. (end : Bool) → LeadsOn (nodes_of self.old.way prepared.now.expr) self.old.way
             (state_of (length prepared.now.expr.nodes) self.old (offset / 2 ^ self.old.layout.shift)) byte end b) next }
         ensures table { IsTable prepared.now self.new }
         ensures adds { AddsStates (length prepared.now.expr.nodes) self.old self.new }
         ensures epoch { self.new.epoch ≡ self.old.epoch }
         ensures count { self.new.count ≡ self.old.count }
     {
-        let class = prepared.classes[byte as usize] as usize;
-        if let Some(column) = self.layout.column(class, edge) {
+        if let Some(column) = self.layout.column(byte, edge) {
             self.cells[offset + column] = next;
         }
     }
@@ -419,8 +419,7 @@ impl Table {
         requires offset { IsOffset self.now offset }
         ensures { 0 < result → NamesNext prepared.now self.now self.now offset byte edge result }
     {
-        let class = prepared.classes[byte as usize] as usize;
-        match self.layout.column(class, edge) {
+        match self.layout.column(byte, edge) {
             Some(column) => self.cells[offset + column],
             None => 0,
         }

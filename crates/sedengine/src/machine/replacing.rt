@@ -70,6 +70,7 @@ impl Machine {
         // A limit is known to be within its range from its call on.
         let _ = (self.limits.nodes(), self.limits.space());
         self.used = Some(e);
+        self.seeking.begin(e);
         let built = build_text(
             self.script.substitution(k),
             &mut self.matchers[e],

@@ -1,10 +1,11 @@
 use Rattle.std.proofs.Common.{◌≡◌}
+use Rattle.matchbench.specs.Ready.{IsReady}
 use Rattle.matchbench.proofs.Call.round.Given as goal
 
--- the pieces have the size that was asked for, and the expression and the room stay as they are
+-- the pieces have the size that was asked for, and can be searched
 abbrev pub invariant-loop-piece : goal.invariant-loop-piece
 invariant-loop-piece l = record {
-  size : l.piece-iterator.size ≡ l.fn.size;
-  tables : l.tables ≡ l.fn.tables;
-  scratch : l.scratch ≡ l.fn.scratch;
+  pieces : l.piece-iterator.size ≡ l.fn.searcher.size;
+  size : l.searcher.size ≡ l.fn.searcher.size;
+  ready : IsReady l.expr l.searcher;
 }

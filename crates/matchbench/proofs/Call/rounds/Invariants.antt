@@ -1,6 +1,7 @@
 use Rattle.std.proofs.Common.{◌≡◌}
+use Rattle.matchbench.specs.Ready.{IsReady}
 use Rattle.matchbench.proofs.Call.rounds.Given as goal
 
--- the expression and the room stay as they are
+-- pieces of the same size can still be searched
 abbrev pub invariant-loop : goal.invariant-loop
-invariant-loop l = (l.tables ≡ l.fn.tables) × (l.scratch ≡ l.fn.scratch)
+invariant-loop l = (l.searcher.size ≡ l.fn.searcher.size) × IsReady l.expr l.searcher

@@ -3,6 +3,7 @@ use Rattle.std.specs.Prelude.{slice_range}
 use Rattle.sedengine.specs.SubstituteParts.{GroupsOf, has_group}
 use Rattle.sedengine.proofs.Due.{appended, due_after, due_cut, due_full, due_next, due_rest}
 use Rattle.sedengine.proofs.Due.{groups_paid, lies_on, more_pending, none_pending}
+use Rattle.sedengine.proofs.Fitting.{keeps_trans}
 use Rattle.sedengine.proofs.substitute.append_replaced.Goals as goal
 
 pub returns-in_err-append-clause-appends : goal.returns-in_err-append-clause-appends
@@ -49,7 +50,7 @@ occurrences-preserved-then-substitution c =
     record {
       matcher = next.ensures.same.0 ∙ i.matcher;
       scratch = next.ensures.same.1 ∙ i.scratch;
-      kept = λ text nodes has. next.ensures.serves.0 text nodes (i.kept text nodes has);
+      kept = keeps_trans e c.args.seeking.now l.seeking _ i.kept (rw i.matcher at next.ensures.serves.0);
       serves = rw i.matcher at next.ensures.serves.1;
       grows = omega (arith, i.grows, next.ensures.cost.0);
       cost =
@@ -114,8 +115,3 @@ returns-clause-appends c =
     due_rest c.args.build.now l.build new _ c.args.matcher.now w s.replacement s.global l.copied l.occurrence
     c.append-2.result c.in_default.is (i.limit, i.made)
     (appended l.build new rest rest c.append-2.result refl a.ok a.full a.err)
-
-pub next_occurrence-occurrence-requires-clause-more : goal.next_occurrence-occurrence-requires-clause-more
-next_occurrence-occurrence-requires-clause-more c =
-    let i = c.occurrences.invariant in
-    rw i.matcher (i.kept _ _ (c.requires.more c.if-substitution.true))

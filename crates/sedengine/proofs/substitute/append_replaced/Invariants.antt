@@ -13,7 +13,7 @@ abbrev pub invariant-occurrences : goal.invariant-occurrences
 invariant-occurrences l = record {
   matcher : l.matcher ≡ l.fn.matcher;
   scratch : l.scratch ≡ l.fn.scratch;
-  kept : KeepsRoom l.fn.seeking l.seeking;
+  kept : KeepsRoom l.fn.matcher l.fn.seeking l.seeking;
   serves : IfSome l.occurrence (λ f. Serves l.fn.matcher l.text (Some f.1) l.seeking);
   grows : l.fn.steps ≤ l.steps;
   cost : l.steps + owed_after (length l.fn.matcher.nodes) (length l.text) l.occurrence l.seeking

@@ -1,5 +1,5 @@
 use Rattle.std.proofs.Common.{Some, None, length, arith}
-use Rattle.sedengine.proofs.Fitting.{more_of_all, more_of_later, room_later}
+use Rattle.sedengine.proofs.Fitting.{keeps_trans, kept_on}
 use Rattle.sedengine.specs.SubstituteParts.{pending}
 use Rattle.sedengine.proofs.Due.{to_replace_is, groups_took, replaces_full, replaces_made}
 use Rattle.sedengine.proofs.Telling.{all_took}
@@ -34,40 +34,20 @@ returns-clause-replaces c =
     replaces_made w s.replacement _ (pending e w s.global first) c.args.build.now c.clear.new.self c.append_replaced.new.build
     same (omega arith) c.clear.ensures (rw (c.in-Some-next_occurrence.ensures.same.0, c.in-Some.ensures.same.0) at c.in_ok-append_replaced.ensures.appends)
 
-pub end_of_skipped-requires-clause-more : goal.end_of_skipped-requires-clause-more
-end_of_skipped-requires-clause-more c = λ some.
-    c.begin.ensures.room _ _ (c.requires.more (more_of_later c.args.substitution.now (omega (arith, some))))
-
-pub returns-in_default-clause-kept : goal.returns-in_default-clause-kept
-returns-in_default-clause-kept c = λ text nodes has.
-    c.in_default.ensures.serves.0 text nodes (c.begin.ensures.room text nodes has)
-
-pub next_occurrence-requires-clause-more : goal.next_occurrence-requires-clause-more
-next_occurrence-requires-clause-more c =
-    rw c.in-Some.ensures.same.0
-    (room_later c.args.substitution.now (length c.args.text.now) (length c.args.matcher.now.nodes) c.in-Some.last c.end_of_skipped.new.seeking
-    (λ first. let none = c.in-Some.ensures.none first in cc)
-    (λ more. c.in-Some.ensures.serves.0 _ _ (c.begin.ensures.room _ _ (c.requires.more more))))
-
 pub returns-in_default-next_occurrence-clause-kept : goal.returns-in_default-next_occurrence-clause-kept
-returns-in_default-next_occurrence-clause-kept c = λ text nodes has.
-    c.in_default-next_occurrence.ensures.serves.0 text nodes (c.in-Some.ensures.serves.0 text nodes (c.begin.ensures.room text nodes has))
-
-pub append_replaced-requires-clause-more : goal.append_replaced-requires-clause-more
-append_replaced-requires-clause-more c = λ all.
-    rw (c.in-Some-next_occurrence.ensures.same.0, c.in-Some.ensures.same.0)
-    (c.in-Some-next_occurrence.ensures.serves.0 _ _ (c.in-Some.ensures.serves.0 _ _ (c.begin.ensures.room _ _
-    (c.requires.more (more_of_all c.args.substitution.now all)))))
+returns-in_default-next_occurrence-clause-kept c =
+    keeps_trans c.args.matcher.now c.args.seeking.now c.end_of_skipped.new.seeking _ c.in-Some.ensures.serves.0
+    (rw c.in-Some.ensures.same.0 at c.in_default-next_occurrence.ensures.serves.0)
 
 pub returns-in_err-append_replaced-clause-kept : goal.returns-in_err-append_replaced-clause-kept
-returns-in_err-append_replaced-clause-kept c = λ text nodes has.
-    c.in_err-append_replaced.ensures.kept text nodes (c.in-Some-next_occurrence.ensures.serves.0 text nodes
-    (c.in-Some.ensures.serves.0 text nodes (c.begin.ensures.room text nodes has)))
+returns-in_err-append_replaced-clause-kept c =
+    kept_on c.args.matcher.now _ _ c.args.seeking.now _ _ _ c.in-Some.ensures.same.0 c.in-Some-next_occurrence.ensures.same.0
+    c.in-Some.ensures.serves.0 c.in-Some-next_occurrence.ensures.serves.0 c.in_err-append_replaced.ensures.kept
 
 pub returns-clause-kept : goal.returns-clause-kept
-returns-clause-kept c = λ text nodes has.
-    c.in_ok-append_replaced.ensures.kept text nodes (c.in-Some-next_occurrence.ensures.serves.0 text nodes
-    (c.in-Some.ensures.serves.0 text nodes (c.begin.ensures.room text nodes has)))
+returns-clause-kept c =
+    kept_on c.args.matcher.now _ _ c.args.seeking.now _ _ _ c.in-Some.ensures.same.0 c.in-Some-next_occurrence.ensures.same.0
+    c.in-Some.ensures.serves.0 c.in-Some-next_occurrence.ensures.serves.0 c.in_ok-append_replaced.ensures.kept
 
 pub returns-in_err-append_replaced-clause-group_cost : goal.returns-in_err-append_replaced-clause-group_cost
 returns-in_err-append_replaced-clause-group_cost c =

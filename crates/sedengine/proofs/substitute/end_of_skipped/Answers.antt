@@ -1,5 +1,5 @@
-use Rattle.std.proofs.Common.{◌≡◌, ℕ, None, length, arith}
-use Rattle.sedengine.proofs.Fitting.{room_if}
+use Rattle.std.proofs.Common.{◌≡◌, ℕ, None, arith}
+use Rattle.sedengine.proofs.Fitting.{keeps_trans}
 use Rattle.sedengine.proofs.Occurrences.{ends_in, skips_none, skips_one}
 use Rattle.sedengine.proofs.substitute.end_of_skipped.Goals as goal
 
@@ -17,8 +17,7 @@ occurrences-preserved c =
     record {
       matcher = cc;
       scratch = cc;
-      none = λ zero. absurd (omega (arith, zero));
-      kept = λ text nodes has. c.in_ok-end.ensures.serves.0 text nodes (l.invariant.kept text nodes has);
+      kept = keeps_trans c.args.matcher.now c.args.seeking.now l.seeking _ l.invariant.kept (rw l.invariant.matcher at c.in_ok-end.ensures.serves.0);
       serves = rw l.invariant.matcher at c.in_ok-end.ensures.serves.1;
       grows = omega (arith, l.invariant.grows, c.in_ok-end.ensures.cost.0);
       no_groups = omega (arith, l.invariant.no_groups, c.in_ok-end.ensures.group_cost.0, c.in_ok-end.ensures.group_cost.1);
@@ -28,14 +27,8 @@ occurrences-preserved c =
           (rw l.invariant.matcher at c.in_ok-end.ensures.next.0);
     }
 
-pub next_occurrence-requires-clause-more : goal.next_occurrence-requires-clause-more
-next_occurrence-requires-clause-more c =
-    let l = c.occurrences in
-    let w = c.args.text.now in
-    rw l.invariant.matcher
-    (room_if (length w) (length c.args.matcher.now.nodes) l.last l.seeking (l.invariant.kept _ _ (c.requires.more (omega arith))))
-
 pub returns-in_err-end-clause-serves : goal.returns-in_err-end-clause-serves
 returns-in_err-end-clause-serves c =
     let none : c.from_residual.result ≡ None = cc in
-    (λ text nodes has. c.in_err-end.ensures.serves.0 text nodes (c.occurrences.invariant.kept text nodes has), rw none tt)
+    let i = c.occurrences.invariant in
+    (keeps_trans c.args.matcher.now c.args.seeking.now c.occurrences.seeking _ i.kept (rw i.matcher at c.in_err-end.ensures.serves.0), rw none tt)

@@ -9,8 +9,7 @@ invariant-occurrences l = record {
   matcher : l.matcher ≡ l.fn.matcher;
   scratch : l.scratch ≡ l.fn.scratch;
   last : EndsWithin (length l.text) l.last;
-  none : l.counter ≡ 0 → l.last ≡ None;
-  kept : KeepsRoom l.fn.seeking l.seeking;
+  kept : KeepsRoom l.fn.matcher l.fn.seeking l.seeking;
   serves : Serves l.fn.matcher l.text l.last l.seeking;
   grows : l.fn.steps ≤ l.steps;
   no_groups : l.group_steps ≡ l.fn.group_steps;

@@ -1,6 +1,5 @@
 use Rattle.std.proofs.Common.{◌≡◌, ◌-◌, None, length, sym, ◌∙◌, arith}
-use Rattle.sedmatch.proofs.BetweenLemmas.{none_of}
-use Rattle.sedmatch.proofs.SightLemmas.{all_word}
+use Rattle.sedmatch.proofs.DirectLemmas.{all_word, none_of}
 use Rattle.sedmatch.proofs.word.word_of.Goals as goal
 
 pub returns-clause-word : goal.returns-clause-word

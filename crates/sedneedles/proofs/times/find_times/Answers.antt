@@ -1,5 +1,6 @@
-use Rattle.std.proofs.Common.{arith}
+use Rattle.std.proofs.Common.{◌-◌, arith}
 use Rattle.sedmarks.specs.Spans.{no_copy}
+use Rattle.sedneedles.proofs.CountLemmas.{least_none, least_since, least_less, least_both}
 use Rattle.sedneedles.proofs.TimesLemmas.{times_missed, times_none, times_here}
 use Rattle.sedneedles.proofs.times.find_times.Goals as goal
 
@@ -11,6 +12,7 @@ loop-start-init c = record {
   within = c.requires.from;
   grows = omega arith;
   cost = omega arith;
+  counts = least_none c.args.steps.now (c.args.from - c.args.from) (omega arith);
   copies = no_copy;
   missed = λ h low high. absurd (omega arith);
 }
@@ -30,6 +32,7 @@ loop-start-preserved c =
       within = omega arith;
       grows = omega arith;
       cost = omega arith;
+      counts = least_since c.args.steps.now c.loop-start.steps c.last_outside.new.steps _ c.loop-start.invariant.grows (least_less _ _ _ _ c.in-Some.ensures.counts (omega arith));
       copies = last.3;
       missed = times_missed c.args.set.now c.args.count c.args.text.now c.args.from c.loop-start.start c.in-Some.place (omega (arith, last.0)) (omega (arith, last.1)) last.2 c.loop-start.invariant.missed;
     }
@@ -37,3 +40,7 @@ loop-start-preserved c =
 pub returns-clause-first : goal.returns-clause-first
 returns-clause-first c =
     times_none c.args.set.now c.args.count c.args.text.now c.args.from c.loop-start.start (omega arith) c.loop-start.invariant.missed
+
+pub returns-in-None-clause-counts : goal.returns-in-None-clause-counts
+returns-in-None-clause-counts c =
+    least_both c.args.steps.now c.loop-start.steps c.last_outside.new.steps (c.loop-start.seen - c.loop-start.start) _ c.args.count c.loop-start.invariant.counts c.in-None.ensures.counts (omega arith)

@@ -1,4 +1,5 @@
 use Rattle.std.proofs.Common.{ℕ, ◌+◌, ◌-◌, ◌<◌, ◌≤◌, length}
+use Rattle.sedre.specs.Steps.{TakesAtLeast}
 use Rattle.sedmarks.specs.RunsAhead.{Repeated}
 use Rattle.sedneedles.proofs.times.find_times.Given as goal
 
@@ -10,6 +11,7 @@ invariant-loop-start l = record {
   within : l.seen ≤ length l.text;
   grows : l.initial.steps ≤ l.steps;
   cost : l.steps + l.from ≤ l.initial.steps + l.seen;
+  counts : TakesAtLeast l.initial.steps l.steps (l.seen - l.start);
   copies : Repeated l.set l.text l.start l.seen;
   missed : (h : ℕ) → l.from ≤ h → h < l.start → Repeated l.set l.text h (h + l.count) → ⊥;
 }

@@ -1,6 +1,8 @@
 use Rattle.std.proofs.Common.{◌≡◌, ◌-◌, subst, arith}
+use Rattle.sedre.specs.Steps.{TakesAtLeast}
 use Rattle.sedmarks.specs.Spans.{no_copy}
 use Rattle.sedmarks.specs.RunsAhead.{Repeated}
+use Rattle.sedneedles.proofs.CountLemmas.{least_none, least_one}
 use Rattle.sedneedles.proofs.TimesLemmas.{repeated_more}
 use Rattle.sedneedles.proofs.times.last_outside.Goals as goal
 
@@ -9,6 +11,7 @@ loop-place-init c = record {
   grows = omega arith;
   cost = omega arith;
   low = omega arith;
+  counts = least_none c.args.steps.now (c.args.to - c.args.to) (omega arith);
   copies = no_copy;
 }
 
@@ -17,6 +20,7 @@ loop-place-preserved c = record {
   grows = omega arith;
   cost = omega arith;
   low = omega arith;
+  counts = least_one c.args.steps.now c.loop-place.steps c.byte-byte.new.steps (c.args.to - c.loop-place.place) _ c.loop-place.invariant.counts c.byte-byte.ensures.counts (omega arith);
   copies = repeated_more c.args.set.now c.args.text.now (c.loop-place.place - 1) c.loop-place.place c.args.to c.byte-byte.result c.has.result
       (omega arith) c.byte-byte.ensures.byte c.has.ensures.is (cc) c.loop-place.invariant.copies;
 }
@@ -31,3 +35,12 @@ returns-clause-cost c = (
   omega arith,
   omega arith,
 )
+
+pub returns-clause-counts : goal.returns-clause-counts
+returns-clause-counts c =
+    let end : c.loop-place.place ≡ c.args.from = omega arith in
+    subst (λ v. TakesAtLeast c.args.steps.now c.loop-place.steps (c.args.to - v)) end c.loop-place.invariant.counts
+
+pub returns-then-not-has-clause-counts : goal.returns-then-not-has-clause-counts
+returns-then-not-has-clause-counts c =
+    least_one c.args.steps.now c.loop-place.steps c.byte-byte.new.steps (c.args.to - c.loop-place.place) _ c.loop-place.invariant.counts c.byte-byte.ensures.counts (omega arith)

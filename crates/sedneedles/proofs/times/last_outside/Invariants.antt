@@ -1,4 +1,5 @@
-use Rattle.std.proofs.Common.{◌+◌, ◌≤◌}
+use Rattle.std.proofs.Common.{◌+◌, ◌-◌, ◌≤◌}
+use Rattle.sedre.specs.Steps.{TakesAtLeast}
 use Rattle.sedmarks.specs.RunsAhead.{Repeated}
 use Rattle.sedneedles.proofs.times.last_outside.Given as goal
 
@@ -7,5 +8,6 @@ invariant-loop-place l = record {
   grows : l.initial.steps ≤ l.steps;
   cost : l.steps + l.place ≤ l.initial.steps + l.to;
   low : l.from ≤ l.place;
+  counts : TakesAtLeast l.initial.steps l.steps (l.to - l.place);
   copies : Repeated l.set l.text l.place l.to;
 }

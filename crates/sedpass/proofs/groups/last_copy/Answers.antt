@@ -103,7 +103,7 @@ returns-clause-desk c = c.copies.invariant.desk
 pub returns-clause-cost : goal.returns-clause-cost
 returns-clause-cost c =
     let cost = c.copies.invariant.cost in
-    let owed_is = owed_here c.args.subject c.args.tables.now c.args.kept.now.region c.args.here c.requires.ends in
+    let owed_is = owed_here c.args.subject c.args.kept.now.region c.args.here c.requires.ends in
     (cost.0, omega (arith, cost.1, owed_is))
 
 pub returns-in-Some-clause-counts : goal.returns-in-Some-clause-counts

@@ -18,8 +18,8 @@ invariant-copies l = record {
   rest : Copies (At (nodes_in l.subject) (text_in l.subject) l.part) l.here.stop l.end;
   walk : (c : ℕ) → ((l.end < l.here.stop) × LastCopy (At (nodes_in l.subject) (text_in l.subject) l.part) l.here.stop l.end c) ⊎ ((l.end ≡ l.here.stop) × (c ≡ l.copy)) →
       LastCopy (At (nodes_in l.subject) (text_in l.subject) l.part) l.here.stop l.here.start c;
-  cost : Pays l.initial.steps l.steps (owed_in l.subject l.initial.tables l.initial.kept.region l.here.start + 72 * length (nodes_in l.subject) * (l.here.stop - l.here.start))
-      (owed_in l.subject l.tables l.kept.region l.end + 72 * length (nodes_in l.subject) * (l.here.stop - l.end));
+  cost : Pays l.initial.steps l.steps (owed_in l.subject l.initial.kept.region l.here.start + 72 * length (nodes_in l.subject) * (l.here.stop - l.here.start))
+      (owed_in l.subject l.kept.region l.end + 72 * length (nodes_in l.subject) * (l.here.stop - l.end));
   low : l.here.start ≤ l.end;
   counts : TakesAtLeast l.initial.steps l.steps (l.end - l.here.start);
 }

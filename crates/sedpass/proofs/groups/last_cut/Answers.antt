@@ -43,7 +43,7 @@ returns-in-Some-run_at-clause-cost c =
     let on = c.run_end.ensures.within in
     let ends = c.requires.ends.1 in
     let some = not_empty c.args.here.start c.args.here.stop c.requires.here.up (c.fixed_cut.ensures.some c.in_default.is) in
-    let owed_is = owed_here c.args.subject c.args.tables.now c.args.kept.now.region c.args.here c.requires.ends in
+    let owed_is = owed_here c.args.subject c.args.kept.now.region c.args.here c.requires.ends in
     (c.run_end.ensures.cost.0, run_paid m c.args.steps.now c.run_end.new.steps _ _ c.args.here.start c.run_end.result c.args.here.stop (omega (arith, inside)) some (omega (arith, on, ends)) owed_is c.run_end.ensures.cost.1)
 
 pub returns-clause-cut : goal.returns-clause-cut
@@ -63,7 +63,7 @@ returns-clause-cost c =
     let on = c.meeting_end.ensures.within in
     let ends = c.requires.ends.1 in
     let some = not_empty c.args.here.start c.args.here.stop c.requires.here.up (c.fixed_cut.ensures.some c.in_default.is) in
-    let owed_is = owed_here c.args.subject c.args.tables.now c.args.kept.now.region c.args.here c.requires.ends in
+    let owed_is = owed_here c.args.subject c.args.kept.now.region c.args.here c.requires.ends in
     (c.meeting_end.ensures.cost.0, meet_paid m c.args.steps.now c.meeting_end.new.steps _ _ c.args.here.start c.meeting_end.result c.args.here.stop some (omega (arith, on, ends)) owed_is c.meeting_end.ensures.cost.1)
 
 pub returns-in-Some-clause-counts : goal.returns-in-Some-clause-counts

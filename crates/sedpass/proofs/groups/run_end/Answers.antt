@@ -1,8 +1,6 @@
-use Rattle.std.proofs.Common.{refl, sym, subst, ◌+◌, ◌-◌, ◌*◌, length}
+use Rattle.std.proofs.Common.{refl}
 use Rattle.std.proofs.lemmas.Option.{slice_get_within}
-use Rattle.sedmarks.specs.Costs.{Pays}
 use Rattle.sedpass.specs.Decide.{nodes_in}
-use Rattle.sedpass.specs.Kept.{owed}
 use Rattle.sedpass.proofs.KeptLemmas.{kept_space}
 use Rattle.sedpass.proofs.DecideLemmas.{runs_to, desk_still}
 use Rattle.sedpass.proofs.groups.run_end.Goals as goal
@@ -19,13 +17,6 @@ returns-clause-desk c =
     let t = c.args.tables.now in
     let desk = c.requires.desk in
     desk_still c.args.subject t.inside t.ahead c.seek.new.table t.ahead c.seek.new.self c.seek.ensures.kept desk.ahead.table desk.one_end desk.ahead c.seek.ensures.shape (refl, refl, refl, refl, refl)
-
-pub returns-clause-cost : goal.returns-clause-cost
-returns-clause-cost c =
-    let m = length (nodes_in c.args.subject) in
-    let t = c.args.tables.now in
-    subst (λ room. Pays c.args.steps.now c.seek.new.steps (owed m (t.inside.room - 1) c.args.kept.now.region c.args.from + 2 * c.seek.result + 2) (owed m (room - 1) c.seek.new.self.region c.seek.result + 2 * c.args.from))
-    (sym c.seek.ensures.shape.1) c.seek.ensures.cost
 
 pub returns-clause-space : goal.returns-clause-space
 returns-clause-space c = kept_space c.args.kept.now c.seek.new.self c.seek.ensures.same

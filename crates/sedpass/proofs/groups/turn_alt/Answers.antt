@@ -56,13 +56,13 @@ returns-else-spans-clause-desk c =
 pub returns-then-spans-clause-cost : goal.returns-then-spans-clause-cost
 returns-then-spans-clause-cost c =
     let m = length (nodes_in c.args.subject) in
-    let owed_is = owed_here c.args.subject c.args.tables.now c.args.kept.now.region c.args.here c.requires.ends in
+    let owed_is = owed_here c.args.subject c.args.kept.now.region c.args.here c.requires.ends in
     let paid = c.spans-spans.ensures.cost in
     (paid.0, look_paid m c.args.steps.now c.spans-spans.new.steps _ _ (c.args.here.stop - c.args.here.start) owed_is paid.1)
 
 pub returns-else-spans-clause-cost : goal.returns-else-spans-clause-cost
 returns-else-spans-clause-cost c =
     let m = length (nodes_in c.args.subject) in
-    let owed_is = owed_here c.args.subject c.args.tables.now c.args.kept.now.region c.args.here c.requires.ends in
+    let owed_is = owed_here c.args.subject c.args.kept.now.region c.args.here c.requires.ends in
     let paid = c.spans-spans.ensures.cost in
     (paid.0, look_paid m c.args.steps.now c.spans-spans.new.steps _ _ (c.args.here.stop - c.args.here.start) owed_is paid.1)

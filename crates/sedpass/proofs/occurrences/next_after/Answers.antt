@@ -1,8 +1,8 @@
-use Rattle.std.proofs.Common.{ℕ, ◌+◌, ◌-◌, ◌*◌, ◌≤◌, true, false, Option, None, length, refl, subst, arith}
+use Rattle.std.proofs.Common.{ℕ, ◌+◌, true, false, Option, None, length, refl, arith}
 use Rattle.std.specs.Prelude.{nat_lt, if◌then◌else◌}
 use Rattle.sedre.specs.Arena.{tree}
 use Rattle.sedmarks.specs.Matching.{found}
-use Rattle.sedpass.specs.Search.{owed_after, owed_search}
+use Rattle.sedpass.specs.Search.{owed_search}
 use Rattle.sedpass.proofs.SearchLemmas.{found_since}
 use Rattle.sedpass.proofs.OccurrenceLemmas.{answer_found, answer_lies, behind_paid, both_paid, both_square, lies_behind, lies_further, one_square, passed_by, search_falls}
 use Rattle.sedpass.proofs.occurrences.next_after.Goals as goal
@@ -26,12 +26,11 @@ returns-then-not-is_null_at-clause-cost c =
     let m = length c.args.subject.prepared.now.expr.nodes in
     let w = c.args.subject.text.now in
     let n = length w in
-    let width = c.args.back.now.room - 1 in
     let first = c.next_match-first.result in
     let lies = lies_behind n c.args.at first (answer_lies (tree c.args.subject.prepared.now.expr) w c.args.at first c.next_match-first.ensures.answer) (c.is_null_at.ensures.after (cc)) in
     let cost = c.next_match-first.ensures.cost in (
       cost.0,
-      behind_paid m n c.args.at (owed_search m n width c.args.seeking.now c.args.at) c.args.steps.now c.next_match-first.new.steps (owed_search m n width c.next_match-first.new.seeking) first c.requires.at lies
+      behind_paid m n c.args.at (owed_search m n c.args.seeking.now c.args.at) c.args.steps.now c.next_match-first.new.steps (owed_search m n c.next_match-first.new.seeking) first c.requires.at lies
           (let pays = cost.1 in omega (arith, pays)),
     )
 
@@ -59,21 +58,16 @@ returns-clause-cost c =
     let m = length c.args.subject.prepared.now.expr.nodes in
     let n = length c.args.subject.text.now in
     let at = c.args.at in
-    let width = c.args.back.now.room - 1 in
     let old = c.args.seeking.now in
     let mid = c.next_match-first.new.seeking in
     let first = c.next_match-first.result in
     let lies = lies_further n at c.past_null.result c.past_null.ensures.lies in
-    let falls = search_falls m n width mid at (at + 1) (omega arith) in
+    let falls = search_falls m n mid at (at + 1) (omega arith) in
     let one = c.next_match-first.ensures.cost in
     let two = c.past_null.ensures.cost in
-    let second : c.past_null.new.steps + owed_after (owed_search m n width c.past_null.new.seeking) c.past_null.result ≤ c.next_match-first.new.steps + (owed_search m n width mid (at + 1) + 42 * m) =
-    subst
-    (λ r. c.past_null.new.steps + owed_after (owed_search m n (r - 1) c.past_null.new.seeking) c.past_null.result ≤ c.next_match-first.new.steps + (owed_search m n (r - 1) mid (at + 1) + 42 * m))
-    c.next_match-first.ensures.shape.1 two.1 in
-    let both = both_paid m at (owed_search m n width old at) (owed_search m n width mid (at + 1)) c.args.steps.now c.next_match-first.new.steps c.past_null.new.steps (owed_search m n width mid) (owed_search m n width c.past_null.new.seeking) first
-    c.past_null.result (c.is_null_at.ensures.null (cc)) falls one.1 second in
-    (omega (arith, one.0, two.0), behind_paid m n at (owed_search m n width old at) c.args.steps.now c.past_null.new.steps (owed_search m n width c.past_null.new.seeking) c.past_null.result c.requires.at lies both)
+    let both = both_paid m at (owed_search m n old at) (owed_search m n mid (at + 1)) c.args.steps.now c.next_match-first.new.steps c.past_null.new.steps (owed_search m n mid) (owed_search m n c.past_null.new.seeking) first
+    c.past_null.result (c.is_null_at.ensures.null (cc)) falls one.1 two.1 in
+    (omega (arith, one.0, two.0), behind_paid m n at (owed_search m n old at) c.args.steps.now c.past_null.new.steps (owed_search m n c.past_null.new.seeking) c.past_null.result c.requires.at lies both)
 
 pub returns-clause-once : goal.returns-clause-once
 returns-clause-once c =

@@ -23,11 +23,11 @@ returns-clause-leads c before w s p bytes is_end is_start row =
     c.descend.ensures.row w s (p + 1) nulls (c.ascend.ensures.ended w s (p + 1) nulls told) is_start
 
 pub returns-clause-anywhere : goal.returns-clause-anywhere
-returns-clause-anywhere c none end before w s p bytes is_end is_start row =
+returns-clause-anywhere c same end before w s p bytes is_end is_start row =
     let e = c.args.prepared.now.expr in
     let way = c.args.way in
     let there : IsPlace w (p + 1) false end = ((λ h. absurd (true≢false (sym h)), λ at. absurd (omega arith)), is_end) in
-    let nulls = null_anywhere way.mirrored e c.edge_kind-kind.result (c.args.prepared.now.is_prepared.anywhere none) w (p + 1) false end there in
+    let nulls = null_anywhere way.mirrored e c.edge_kind-kind.result same w (p + 1) false end there in
     let told : TellTook (nodes_of way e) w c.args.root s (p + 1) (Some c.args.byte) c.args.work.now.leaves =
     took_bits (nodes_of way e) w c.args.root p s way.keeps (length e.nodes) c.args.work.now.leaves before (Some c.args.byte) (seen-length way.mirrored e) bytes row in
     c.descend.ensures.row w s (p + 1) nulls (c.ascend.ensures.ended w s (p + 1) nulls told) is_start

@@ -7,6 +7,6 @@ pub returns-clause-cost : goal.returns-clause-cost
 returns-clause-cost c =
     let m = length c.args.subject.prepared.now.expr.nodes in
     let from = c.args.from in
-    let o = owed m (c.args.back.now.room - 1) c.begin.new.self.region from in
+    let o = owed m c.begin.new.self.region from in
     let begins : o ≤ 100 * m * (length c.args.subject.text.now - from) = subst (λ n. o ≤ 100 * m * (n - from)) c.len-length.ensures.is (c.begin.ensures.owed from (omega (arith, c.len-length.ensures.is, c.requires.from))) in
     (c.next_kept.ensures.cost.0, begun_cost m _ from c.args.steps.now c.next_kept.new.steps o _ begins c.next_kept.ensures.cost.1)

@@ -1,5 +1,4 @@
-use Rattle.std.proofs.Common.{◌+◌, ◌-◌, ◌*◌, ◌≤◌, length, ap, ◌∙◌, subst, arith}
-use Rattle.sedpass.specs.Kept.{owed}
+use Rattle.std.proofs.Common.{◌+◌, ◌-◌, ◌*◌, ◌≤◌, length, ap, ◌∙◌, arith}
 use Rattle.sedpass.proofs.CountLemmas.{least_fewer, least_since}
 use Rattle.sedpass.proofs.SearchLemmas.{begins_some, kept_cost, kept_found, kept_none, none_cost}
 use Rattle.sedpass.proofs.search.next_kept.Goals as goal
@@ -53,9 +52,7 @@ returns-clause-cost c =
     let cut = c.cut-end.ensures.cost in (
       omega (arith, seek, null, cut),
       kept_cost m n c.args.from c.seek-start.result c.cut-end.result c.args.steps.now c.seek-start.new.steps c.begins_there.new.steps c.cut-end.new.steps _ _ _ (omega (arith, last)) c.seek-start.ensures.after on
-          (omega (arith, stop, c.seek-start.ensures.same.end, region.inside)) seek.1 null.1
-          (subst (λ r. c.cut-end.new.steps + (owed m (r - 1) c.cut-end.new.self.region c.cut-end.result + 36 * m * c.seek-start.result) ≤ c.begins_there.new.steps + (owed m (r - 1) c.seek-start.new.self.region c.seek-start.result + 36 * m * (c.cut-end.result + 1)))
-          c.seek-start.ensures.shape.1 cut.1),
+          (omega (arith, stop, c.seek-start.ensures.same.end, region.inside)) seek.1 null.1 cut.1,
     )
 
 pub returns-then-not-begins_there-clause-cost : goal.returns-then-not-begins_there-clause-cost

@@ -1,4 +1,4 @@
-use Rattle.std.proofs.Common.{◌≡◌, ◌-◌, ◌≤◌, false, length, arith}
+use Rattle.std.proofs.Common.{◌≡◌, ◌≤◌, false, length, arith}
 use Rattle.sedre.specs.Arena.{tree}
 use Rattle.sedmarks.proofs.SpanLemmas.{Spans-forward}
 use Rattle.sedpass.specs.Search.{owed_kept}
@@ -9,11 +9,10 @@ pub returns-then-seeking-clause-each : goal.returns-then-seeking-clause-each
 returns-then-seeking-clause-each c =
     let m = length c.args.subject.prepared.now.expr.nodes in
     let n = length c.args.subject.text.now in
-    let width = c.args.back.now.room - 1 in
     let region = c.args.seeking.now.kept.region in
     let kept = c.requires.serves.kept c.if-seeking.true in
     let cost = c.next_kept.ensures.cost in
-    (cost.0, begun_each m n c.args.from c.args.steps.now c.next_kept.new.steps (owed_kept m n width region c.args.from) _ (kept_small m n width region c.args.from kept.region.inside) cost.1)
+    (cost.0, begun_each m n c.args.from c.args.steps.now c.next_kept.new.steps (owed_kept m n region c.args.from) _ (kept_small m n region c.args.from kept.region.inside) cost.1)
 
 pub returns-in-Hit-clause-answer : goal.returns-in-Hit-clause-answer
 returns-in-Hit-clause-answer c =
@@ -30,8 +29,8 @@ returns-in-Hit-clause-cost c =
     let begun : c.args.seeking.now.begun ≡ false = cc in
     let few = c.in-Hit.ensures.few in
     let low : c.args.seeking.now.tried ≤ n = omega (arith, c.if-seeking-len.false, c.len.ensures.is) in
-    let old = unbegun m n (c.args.back.now.room - 1) c.args.seeking.now c.args.from begun in
-    let new = unbegun m n (c.args.back.now.room - 1) (record c.args.seeking.now { kept = record c.args.seeking.now.kept { work = c.try_all.new.work }; tried = c.try_all.new.tried }) c.in-Hit.end begun in
+    let old = unbegun m n c.args.seeking.now c.args.from begun in
+    let new = unbegun m n (record c.args.seeking.now { kept = record c.args.seeking.now.kept { work = c.try_all.new.work }; tried = c.try_all.new.tried }) c.in-Hit.end begun in
     let cost = hit_cost m n c.args.from c.in-Hit.start c.in-Hit.end c.args.seeking.now.tried c.try_all.new.tried c.args.steps.now c.try_all.new.steps (omega (arith, last)) answer.0.after on answer.1 low
     (omega (arith, few, low)) c.in-Hit.ensures.cost.1 in
     (c.in-Hit.ensures.cost.0, omega (arith, cost, old, new))
@@ -57,7 +56,7 @@ returns-in-Nothing-clause-cost c =
     let begun : c.args.seeking.now.begun ≡ false = cc in
     let few = c.in-Nothing.ensures.few in
     let low : c.args.seeking.now.tried ≤ n = omega (arith, c.if-seeking-len.false, c.len.ensures.is) in
-    let old = unbegun m n (c.args.back.now.room - 1) c.args.seeking.now c.args.from begun in
+    let old = unbegun m n c.args.seeking.now c.args.from begun in
     let cost = nothing_cost m n c.args.from c.args.seeking.now.tried c.try_all.new.tried c.args.steps.now c.try_all.new.steps (omega (arith, last)) c.requires.from low (omega (arith, few, low)) c.in-Nothing.ensures.cost.1 in
     (c.in-Nothing.ensures.cost.0, omega (arith, cost, old))
 
@@ -84,7 +83,7 @@ returns-in-Tired-clause-cost c =
     let begun : c.args.seeking.now.begun ≡ false = cc in
     let few = c.in-Tired.ensures.few in
     let low : c.args.seeking.now.tried ≤ n = omega (arith, c.if-seeking-len.false, c.len.ensures.is) in
-    let old = unbegun m n (c.args.back.now.room - 1) c.args.seeking.now c.args.from begun in
+    let old = unbegun m n c.args.seeking.now c.args.from begun in
     let first = c.in-Tired.ensures.cost in
     let then = c.next_begun-in-Tired.ensures.cost in
     let cost = tired_cost m n c.args.from c.in-Tired.start c.args.seeking.now.tried c.try_all.new.tried c.args.steps.now c.try_all.new.steps c.next_begun-in-Tired.new.steps _ (omega (arith, last)) answer.0 answer.1 low

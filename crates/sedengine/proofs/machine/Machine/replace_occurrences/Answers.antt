@@ -1,15 +1,15 @@
-use Rattle.std.proofs.Common.{◌≡◌, ◌<◌, ◌∙◌, ℕ, List, Some, Ok, Err, length, ap, subst, true, false, arith, get_or, rules}
+use Rattle.std.proofs.Common.{◌≡◌, ◌<◌, ◌∙◌, ℕ, List, Some, Ok, Err, length, ap, true, false, arith, get_or, rules}
 use Rattle.std.proofs.lemmas.Grind.{elements}
 use Rattle.std.specs.Prelude.{slice_get}
-use Rattle.sedre.specs.Arena.{Written}
 use Rattle.sedscript.specs.declared.substitution.Substitution.{Substitution}
 use Rattle.sedengine.specs.Ends.{reaches}
 use Rattle.sedengine.specs.Run.{RunState, at_lines, search_in}
 use Rattle.sedengine.specs.Substitute.{to_replace, occurrences}
 use Rattle.sedengine.specs.SubstituteCalls.{ReplacesIn}
-use Rattle.sedengine.proofs.Fitting.{fits_at, room_within, sought, sought_at}
-use Rattle.sedengine.proofs.SubstituteMoves.{makes_full, makes_none, makes_some, replaced_is_run, stands}
-use Rattle.sedengine.proofs.Tried.{matcher_at, matchers_kept, replaces_by}
+use Rattle.sedmatch.proofs.RoomLemmas.{room_within}
+use Rattle.sedengine.proofs.Fitting.{fits_at, sought, sought_at}
+use Rattle.sedengine.proofs.SubstituteMoves.{makes_full, makes_none, makes_some, one_sought, replaced_is_run, room_kept, stands}
+use Rattle.sedengine.proofs.Tried.{matchers_kept, replaces_by}
 use Rattle.sedengine.proofs.machine.Machine.replace_occurrences.Goals as goal
 
 pub index_mut-requires : goal.index_mut-requires
@@ -32,8 +32,8 @@ build_text-built-requires-clause-fits c =
     let short = c.self.invariant.pattern in
     (omega (arith, same, text, short), fits_at a.scratch.nodes a.matchers.items c.in-Some.e m there is_m c.self.invariant.scratch_nodes)
 
-pub build_text-built-requires-clause-more : goal.build_text-built-requires-clause-more
-build_text-built-requires-clause-more c = λ more.
+pub build_text-built-requires-clause-serves : goal.build_text-built-requires-clause-serves
+build_text-built-requires-clause-serves c =
     let a = c.self.inside in
     let inside : c.in-Some.e < length c.self.inside.script.expressions = search rules in
     let there = sought_at a.script.expressions a.limits.nodes a.matchers.items c.in-Some.e c.self.invariant.matchers inside in
@@ -41,11 +41,9 @@ build_text-built-requires-clause-more c = λ more.
     let h = c.index_mut.ensures.value in
     let is_m : m ≡ get_or a.matchers.items c.in-Some.e m = grind (arith, elements) in
     let same = ap (λ (w : List ℕ). length w) c.bytes.ensures.value in
-    let text = c.self.invariant.scratch_text (omega arith) in
     let short = c.self.invariant.pattern in
-    let at = subst (λ (xs : List Written). slice_get xs c.in-Some.e ≡ Some m) (sought a.script.expressions a.limits.nodes a.matchers.items c.self.invariant.matchers) (matcher_at a.matchers.items c.in-Some.e m there is_m) in
-    room_within (length c.bytes.result.now) a.limits.space (length m.nodes) (length m.nodes) a.seeking (omega (arith, same, short))
-    (omega arith) (c.self.invariant.seeking c.args.k c.substitution-2.result.now c.substitution-2.ensures.is more c.in-Some.e m at)
+    c.begin.ensures.serves c.bytes.result.now a.script.expressions m (one_sought a c.in-Some.e m c.self.invariant inside is_m)
+    (room_within (length c.bytes.result.now) a.limits.space a.script.expressions a.seeking (omega (arith, same, short)) (c.self.invariant.seeking (search rules)))
 
 pub invariant_of-self : goal.invariant_of-self
 invariant_of-self c =
@@ -55,8 +53,10 @@ invariant_of-self c =
     let m = c.index_mut.result.now in
     let h = c.index_mut.ensures.value in
     let is_m : m ≡ get_or a.matchers.items c.in-Some.e m = grind (arith, elements) in
+    let at = one_sought a c.in-Some.e m c.self.invariant inside is_m in
     replaced_is_run a _ _ _ _ _ c.in-Some.e true c.self.invariant
-    (ap (λ (e : RunState). reaches e.state.tasks) c.self.view_is ∙ c.requires.at) inside (search rules) (search rules) (search rules) (search rules) c.build_text-built.ensures.kept (matchers_kept a.matchers.items c.in-Some.e m c.build_text-built.new.matcher is_m c.build_text-built.ensures.same.0)
+    (ap (λ (e : RunState). reaches e.state.tasks) c.self.view_is ∙ c.requires.at) inside (search rules) (search rules) (search rules) (search rules) (room_kept a c.in-Some.e m c.begin.new.self _ c.self.invariant at c.begin.ensures.room c.begin.ensures.number c.build_text-built.ensures.kept)
+    (matchers_kept a.matchers.items c.in-Some.e m c.build_text-built.new.matcher is_m c.build_text-built.ensures.same.0)
 
 pub invariant_of-self-in-Ok-false : goal.invariant_of-self-in-Ok-false
 invariant_of-self-in-Ok-false c =
@@ -66,8 +66,10 @@ invariant_of-self-in-Ok-false c =
     let m = c.index_mut.result.now in
     let h = c.index_mut.ensures.value in
     let is_m : m ≡ get_or a.matchers.items c.in-Some.e m = grind (arith, elements) in
+    let at = one_sought a c.in-Some.e m c.self.invariant inside is_m in
     replaced_is_run a _ _ _ _ _ c.in-Some.e a.replaced c.self.invariant
-    (ap (λ (e : RunState). reaches e.state.tasks) c.self.view_is ∙ c.requires.at) inside (search rules) (search rules) (search rules) (search rules) c.build_text-built.ensures.kept (matchers_kept a.matchers.items c.in-Some.e m c.build_text-built.new.matcher is_m c.build_text-built.ensures.same.0)
+    (ap (λ (e : RunState). reaches e.state.tasks) c.self.view_is ∙ c.requires.at) inside (search rules) (search rules) (search rules) (search rules) (room_kept a c.in-Some.e m c.begin.new.self _ c.self.invariant at c.begin.ensures.room c.begin.ensures.number c.build_text-built.ensures.kept)
+    (matchers_kept a.matchers.items c.in-Some.e m c.build_text-built.new.matcher is_m c.build_text-built.ensures.same.0)
 
 pub invariant_of-self-in-Err : goal.invariant_of-self-in-Err
 invariant_of-self-in-Err c =
@@ -77,8 +79,10 @@ invariant_of-self-in-Err c =
     let m = c.index_mut.result.now in
     let h = c.index_mut.ensures.value in
     let is_m : m ≡ get_or a.matchers.items c.in-Some.e m = grind (arith, elements) in
+    let at = one_sought a c.in-Some.e m c.self.invariant inside is_m in
     replaced_is_run a _ _ _ _ _ c.in-Some.e a.replaced c.self.invariant
-    (ap (λ (e : RunState). reaches e.state.tasks) c.self.view_is ∙ c.requires.at) inside (search rules) (search rules) (search rules) (search rules) c.build_text-built.ensures.kept (matchers_kept a.matchers.items c.in-Some.e m c.build_text-built.new.matcher is_m c.build_text-built.ensures.same.0)
+    (ap (λ (e : RunState). reaches e.state.tasks) c.self.view_is ∙ c.requires.at) inside (search rules) (search rules) (search rules) (search rules) (room_kept a c.in-Some.e m c.begin.new.self _ c.self.invariant at c.begin.ensures.room c.begin.ensures.number c.build_text-built.ensures.kept)
+    (matchers_kept a.matchers.items c.in-Some.e m c.build_text-built.new.matcher is_m c.build_text-built.ensures.same.0)
 
 pub returns-in-Ok-true-clause-makes : goal.returns-in-Ok-true-clause-makes
 returns-in-Ok-true-clause-makes c = λ t is files ls.

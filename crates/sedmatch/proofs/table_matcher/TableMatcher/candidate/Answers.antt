@@ -1,15 +1,14 @@
-use Rattle.std.proofs.Common.{subst}
-use Rattle.sedre.specs.Arena.{Written, tree}
+use Rattle.std.proofs.Common.{◌≡◌, ◌∙◌, ap, subst, sym}
+use Rattle.sedre.specs.Arena.{tree}
 use Rattle.sedmatch.specs.Candidates.{NoMatchBefore}
-use Rattle.sedmatch.specs.Sight.{IsSightOf}
+use Rattle.sedmatch.specs.Passes.{ArePasses, IsEngine, written_of}
+use Rattle.sedmatch.specs.declared.passes.Passes.{Passes}
 use Rattle.sedmatch.proofs.table_matcher.TableMatcher.candidate.Goals as goal
 
-pub returns-in-Some-clause-before : goal.returns-in-Some-clause-before
-returns-in-Some-clause-before c =
-    let P : Written → Type 0 = λ e. NoMatchBefore (tree e) c.args.text.now c.sight_candidate.result in
-    subst P c.self.view_is (c.sight_candidate.ensures.before (tree c.self.inside.expr) (subst (IsSightOf (tree c.self.inside.expr)) c.in-Some.is c.self.invariant.sight_so))
-
-pub returns-in-None-clause-before : goal.returns-in-None-clause-before
-returns-in-None-clause-before c =
-    let P : Written → Type 0 = λ e. NoMatchBefore (tree e) c.args.text.now c.needed_candidate.result in
-    subst P c.self.view_is (c.needed_candidate.ensures.before (tree c.self.inside.expr) c.self.invariant.known_so.1)
+pub returns-in-Passes-clause-before : goal.returns-in-Passes-clause-before
+returns-in-Passes-clause-before c =
+    let inv = subst IsEngine c.in-Passes.is c.self.invariant in
+    let value = c.deref.ensures in
+    let is : c.deref.result.now.sought.prepared.expr ≡ c.args.self.now = ap (λ (x : Passes). x.sought.prepared.expr) value ∙ sym (ap written_of c.in-Passes.is) ∙ c.self.view_is in
+    let are = subst (λ (x : Passes). ArePasses x.sought.prepared.expr x) (sym value) inv in
+    subst (λ v. NoMatchBefore (tree v) c.args.text.now c.needed_candidate.result) is (c.needed_candidate.ensures.before (tree c.deref.result.now.sought.prepared.expr) are.0.hints.0)

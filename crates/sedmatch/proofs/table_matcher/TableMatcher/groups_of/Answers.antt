@@ -1,35 +1,61 @@
-use Rattle.std.proofs.Common.{◌+◌, ◌-◌, ◌*◌, length, subst, arith}
-use Rattle.sedmarks.specs.Caps.{IsReport}
+use Rattle.std.proofs.Common.{◌≡◌, ◌∙◌, ◌+◌, ◌-◌, ◌*◌, length, ap, subst, sym, arith}
 use Rattle.sedre.specs.Arena.{tree}
-use Rattle.sedre.specs.Steps.{Takes}
+use Rattle.sedre.specs.Steps.{Takes, TakesAtLeast}
+use Rattle.sedre.specs.Arena.{IsExpr}
+use Rattle.sedmarks.specs.Caps.{IsReport}
 use Rattle.sedmarks.proofs.MatchingLemmas.{report-iff}
 use Rattle.sedmarks.proofs.PartLemmas.{report_lies}
-use Rattle.sedmatch.proofs.GroupMatcherLemmas.{groups_within}
+use Rattle.sedpass.specs.Decide.{found}
+use Rattle.sedmatch.specs.Passes.{IsEngine, written_of}
+use Rattle.sedmatch.specs.declared.passes.Passes.{Passes}
+use Rattle.sedmatch.proofs.MatcherLemmas.{direct_is, groups_within, written_is}
+use Rattle.sedmatch.proofs.PassLemmas.{one_alone}
 use Rattle.sedmatch.proofs.table_matcher.TableMatcher.groups_of.Goals as goal
+use Rattle.sedmatch.proofs.table_matcher.TableMatcher.groups_of.Goals.{in-Direct, in-Passes}
 
-pub returns-in-Some-clause-groups : goal.returns-in-Some-clause-groups
-returns-in-Some-clause-groups c =
-    (report-iff (tree c.args.self.now) c.args.text.now c.args.start c.args.end c.in-Some.spans c.requires.spans).1
-    (subst (λ e. IsReport (tree e) c.args.text.now c.args.start c.args.end c.in-Some.spans) c.self.view_is c.in-Some.ensures.report)
-
-pub returns-in-Some-clause-lies : goal.returns-in-Some-clause-lies
-returns-in-Some-clause-lies c =
-    report_lies (length c.args.text.now) (tree c.args.self.now) c.args.text.now c.args.start c.args.end c.in-Some.spans c.requires.order c.requires.inside
-    (subst (λ e. IsReport (tree e) c.args.text.now c.args.start c.args.end c.in-Some.spans) c.self.view_is c.in-Some.ensures.report)
+reported : (c : goal.Joined-self) → IsReport (tree c.args.self.now) c.args.text.now c.args.start c.args.end c.match-self.result
+reported c =
+    let t = c.args.text.now in
+    elim c.match-self.branch [
+      | in-Direct w ↦
+          let is = direct_is c.self.inside.engine c.args.self.now w.in-Direct.expr w.in-Direct.field-1 c.self.view_is c.self.invariant w.in-Direct.is in
+          let same = written_is c.self.inside.engine c.args.self.now w.in-Direct.expr w.in-Direct.field-1 c.self.view_is w.in-Direct.is in
+          let expr = subst (λ v. IsExpr v.nodes v.groups) same w.groups-groups.ensures.expr in
+          subst (IsReport (tree c.args.self.now) t c.args.start c.args.end) (sym w.result-is) (w.whole_alone.ensures.report c.args.self.now t expr is.1 c.requires.spans)
+      | in-Passes w ↦
+          let inv = subst IsEngine w.in-Passes.is c.self.invariant in
+          let value = w.deref_mut.ensures.value in
+          let is : w.deref_mut.result.now.sought.prepared.expr ≡ c.args.self.now = ap (λ (x : Passes). x.sought.prepared.expr) value ∙ sym (ap written_of w.in-Passes.is) ∙ c.self.view_is in
+          subst (IsReport (tree c.args.self.now) t c.args.start c.args.end) (sym w.result-is) (subst (λ v. IsReport (tree v) t c.args.start c.args.end w.groups_by.result) is w.groups_by.ensures.report)
+    ]
 
 pub returns-clause-groups : goal.returns-clause-groups
-returns-clause-groups c =
-    (report-iff (tree c.args.self.now) c.args.text.now c.args.start c.args.end c.report.result c.requires.spans).1
-    (subst (λ e. IsReport (tree e) c.args.text.now c.args.start c.args.end c.report.result) c.self.view_is c.report.ensures.report)
+returns-clause-groups c = (report-iff (tree c.args.self.now) c.args.text.now c.args.start c.args.end c.match-self.result c.requires.spans).1 (reported c)
 
 pub returns-clause-lies : goal.returns-clause-lies
-returns-clause-lies c =
-    report_lies (length c.args.text.now) (tree c.args.self.now) c.args.text.now c.args.start c.args.end c.report.result c.requires.order c.requires.inside
-    (subst (λ e. IsReport (tree e) c.args.text.now c.args.start c.args.end c.report.result) c.self.view_is c.report.ensures.report)
+returns-clause-lies c = report_lies (length c.args.text.now) (tree c.args.self.now) c.args.text.now c.args.start c.args.end c.match-self.result c.requires.order c.requires.inside (reported c)
 
-pub returns-in-Some-clause-cost : goal.returns-in-Some-clause-cost
-returns-in-Some-clause-cost c =
+pub returns-clause-cost : goal.returns-clause-cost
+returns-clause-cost c =
     let n = length c.args.text.now in
-    let most = groups_within (length c.self.inside.expr.nodes) n (c.args.end - c.args.start) (omega (arith, c.self.invariant.whole)) (omega (arith, c.requires.order, c.requires.inside)) in
-    let cost = c.groups_told-told.ensures.cost in
-    subst (λ e. Takes c.args.steps.now c.groups_told-told.new.steps (51 * length e.nodes * length e.nodes * (n + 1) * (n + 1))) c.self.view_is (cost.0, omega (arith, cost.1, most))
+    let m = length c.args.self.now.nodes in
+    let s = c.args.steps.now in
+    elim c.match-self.branch [
+      | in-Direct w ↦ subst (λ v. Takes s v (51 * m * m * (n + 1) * (n + 1))) (sym w.steps-is) (omega arith, omega arith)
+      | in-Passes w ↦
+          let inv = subst IsEngine w.in-Passes.is c.self.invariant in
+          let value = w.deref_mut.ensures.value in
+          let is : w.deref_mut.result.now.sought.prepared.expr ≡ c.args.self.now = ap (λ (x : Passes). x.sought.prepared.expr) value ∙ sym (ap written_of w.in-Passes.is) ∙ c.self.view_is in
+          let cost = subst (λ v. Takes s w.groups_by.new.steps (172 * length v.nodes * (length v.nodes - 1) * (c.args.end - c.args.start) + 2 * length v.nodes)) is w.groups_by.ensures.cost in
+          let last = w.deref_mut.result.now.sought.prepared.is_prepared.last in
+          let some = ap (λ v. length v.nodes) is in
+          let most = groups_within m n (c.args.end - c.args.start) (omega (arith, last, some)) (let i = c.requires.inside in omega (arith, i)) in
+          subst (λ v. Takes s v (51 * m * m * (n + 1) * (n + 1))) (sym w.steps-is) (cost.0, omega (arith, cost.1, most))
+    ]
+
+pub returns-clause-counts : goal.returns-clause-counts
+returns-clause-counts c =
+    elim c.match-self.branch [
+      | in-Direct w ↦ subst (λ v. TakesAtLeast c.args.steps.now v (found c.match-self.result - 1)) (sym w.steps-is) (subst (λ r. TakesAtLeast c.args.steps.now c.args.steps.now (found r - 1)) (sym w.result-is) (one_alone c.args.steps.now (found w.whole_alone.result) w.whole_alone.ensures.one))
+      | in-Passes w ↦ subst (λ v. TakesAtLeast c.args.steps.now v (found c.match-self.result - 1)) (sym w.steps-is) (subst (λ r. TakesAtLeast c.args.steps.now w.groups_by.new.steps (found r - 1)) (sym w.result-is) w.groups_by.ensures.counts)
+    ]

@@ -1,14 +1,43 @@
+use Rattle.std.proofs.Common.{◌≡◌, ◌∙◌, ◌↔◌, ◌+◌, ◌*◌, length, IsTrue, ap, subst, sym, arith}
 use Rattle.sedre.specs.Arena.{tree}
-use Rattle.sedmatch.proofs.LinearLemmas.{test_of}
-use Rattle.sedmatch.proofs.StartLemmas.{sight_is}
+use Rattle.sedre.specs.Steps.{Takes}
+use Rattle.sedmarks.specs.Spans.{SomeFound}
+use Rattle.sedmarks.proofs.MatchingLemmas.{same_test}
+use Rattle.sedmatch.specs.Passes.{IsEngine, written_of}
+use Rattle.sedmatch.specs.declared.passes.Passes.{Passes}
+use Rattle.sedmatch.specs.Direct.{rate}
+use Rattle.sedmatch.proofs.MatcherLemmas.{direct_is, few_of}
 use Rattle.sedmatch.proofs.table_matcher.TableMatcher.is_match.Goals as goal
-
-pub returns-in-Some-clause-computed : goal.returns-in-Some-clause-computed
-returns-in-Some-clause-computed c =
-    let e = tree c.self.inside.expr in
-    let is = sight_is e c.self.inside.sight c.in-Some.sight c.in-Some.is c.self.invariant.sight_so in
-    test_of c.self.inside.expr c.args.self.now c.args.text.now c.args.from c.sight_matches.result c.self.view_is c.requires.from (c.sight_matches.ensures.matches e is)
+use Rattle.sedmatch.proofs.table_matcher.TableMatcher.is_match.Goals.{in-Direct, in-Passes}
 
 pub returns-clause-computed : goal.returns-clause-computed
 returns-clause-computed c =
-    test_of c.self.inside.expr c.args.self.now c.args.text.now c.args.from c.some_by.result c.self.view_is c.requires.from c.some_by.ensures.matches
+    let t = c.args.text.now in
+    elim c.match-self.branch [
+      | in-Direct w ↦
+          let is = direct_is c.self.inside.engine c.args.self.now w.in-Direct.field-0 w.in-Direct.form c.self.view_is c.self.invariant w.in-Direct.is in
+          w.result-is ∙ same_test w.direct_matches.result (tree c.args.self.now) t c.args.from c.requires.from (w.direct_matches.ensures.matches c.args.self.now is)
+      | in-Passes w ↦
+          let inv = subst IsEngine w.in-Passes.is c.self.invariant in
+          let value = w.deref_mut.ensures.value in
+          let is : w.deref_mut.result.now.sought.prepared.expr ≡ c.args.self.now = ap (λ (x : Passes). x.sought.prepared.expr) value ∙ sym (ap written_of w.in-Passes.is) ∙ c.self.view_is in
+          w.result-is ∙ same_test w.matches_by.result (tree c.args.self.now) t c.args.from c.requires.from (subst (λ v. IsTrue w.matches_by.result ↔ SomeFound (tree v) t c.args.from) is w.matches_by.ensures.matches)
+    ]
+
+pub returns-clause-cost : goal.returns-clause-cost
+returns-clause-cost c =
+    let n = length c.args.text.now in
+    let m = length c.args.self.now.nodes in
+    elim c.match-self.branch [
+      | in-Direct w ↦
+          let is = direct_is c.self.inside.engine c.args.self.now w.in-Direct.field-0 w.in-Direct.form c.self.view_is c.self.invariant w.in-Direct.is in
+          let cost = w.direct_matches.ensures.cost in
+          let less = few_of m (n + 1) (rate w.in-Direct.form) is.2 in
+          subst (λ v. Takes c.args.steps.now v (64 * m * (n + 1))) (sym w.steps-is) (cost.0, omega (arith, cost.1, less))
+      | in-Passes w ↦
+          let inv = subst IsEngine w.in-Passes.is c.self.invariant in
+          let value = w.deref_mut.ensures.value in
+          let is : w.deref_mut.result.now.sought.prepared.expr ≡ c.args.self.now = ap (λ (x : Passes). x.sought.prepared.expr) value ∙ sym (ap written_of w.in-Passes.is) ∙ c.self.view_is in
+          let cost = subst (λ v. Takes c.args.steps.now w.matches_by.new.steps (44 * length v.nodes * (n + 1))) is w.matches_by.ensures.cost in
+          subst (λ v. Takes c.args.steps.now v (64 * m * (n + 1))) (sym w.steps-is) (cost.0, omega (arith, cost.1))
+    ]

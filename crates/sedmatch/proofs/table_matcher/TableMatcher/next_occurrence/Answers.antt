@@ -1,17 +1,86 @@
-use Rattle.std.proofs.Common.{IfSome, Option, ℕ, Some, length, sym, subst, rules}
+use Rattle.std.proofs.Common.{◌≡◌, ◌∙◌, ◌+◌, ◌*◌, length, IfSome, ap, subst, sym, arith}
 use Rattle.sedre.specs.Arena.{tree}
-use Rattle.sedmarks.specs.Following.{EndsWithin, Occurs}
+use Rattle.sedre.specs.Steps.{Takes}
+use Rattle.sedmarks.specs.Costs.{Pays}
+use Rattle.sedmarks.specs.Following.{Occurs}
 use Rattle.sedmarks.proofs.FollowingLemmas.{if_occurs}
+use Rattle.sedmatch.specs.Passes.{IsEngine, written_of}
+use Rattle.sedmatch.specs.declared.passes.Passes.{Passes}
+use Rattle.sedmatch.specs.Occurrences.{ServesOn, owed, owed_after}
+use Rattle.sedmatch.proofs.MatcherLemmas.{direct_is, direct_once, direct_owed, serves_same}
 use Rattle.sedmatch.proofs.table_matcher.TableMatcher.next_occurrence.Goals as goal
-use Rattle.sedmatch.proofs.table_matcher.TableMatcher.next_occurrence.Goals.{in-Some+else-occurrences-eq0, in_default}
-
-pub returns-then-occurrences-eq0-clause-occurs : goal.returns-then-occurrences-eq0-clause-occurs
-returns-then-occurrences-eq0-clause-occurs c =
-    subst (λ (last : Option ℕ). IfSome c.next_together.result (Occurs (tree c.args.self.now) c.args.text.now last)) (sym c.in-Some.is)
-    (if_occurs (tree c.args.self.now) c.args.text.now (Some c.in-Some.at) c.next_together.result
-    (subst (EndsWithin (length c.args.text.now)) c.in-Some.is c.requires.last) c.next_together.ensures.next c.next_together.ensures.lies)
+use Rattle.sedmatch.proofs.table_matcher.TableMatcher.next_occurrence.Goals.{in-Direct, in-Passes}
 
 pub returns-clause-occurs : goal.returns-clause-occurs
 returns-clause-occurs c =
-    if_occurs (tree c.args.self.now) c.args.text.now c.args.last c.next_counted.result c.requires.last
-    (search rules) (search rules)
+    let t = c.args.text.now in
+    elim c.match-self.branch [
+      | in-Direct w ↦
+          let is = direct_is c.self.inside.engine c.args.self.now w.in-Direct.field-0 w.in-Direct.form c.self.view_is c.self.invariant w.in-Direct.is in
+          let next = w.next_direct.ensures in
+          subst (λ r. IfSome r (Occurs (tree c.args.self.now) t c.args.last)) (sym w.result-is) (if_occurs (tree c.args.self.now) t c.args.last w.next_direct.result c.requires.last (next.next c.args.self.now is) next.lies)
+      | in-Passes w ↦
+          let inv = subst IsEngine w.in-Passes.is c.self.invariant in
+          let value = w.deref_mut.ensures.value in
+          let is : w.deref_mut.result.now.sought.prepared.expr ≡ c.args.self.now = ap (λ (x : Passes). x.sought.prepared.expr) value ∙ sym (ap written_of w.in-Passes.is) ∙ c.self.view_is in
+          subst (λ r. IfSome r (Occurs (tree c.args.self.now) t c.args.last)) (sym w.result-is) (subst (λ v. IfSome w.next_by_passes.result (Occurs (tree v) t c.args.last)) is w.next_by_passes.ensures.occurs)
+    ]
+
+pub returns-clause-serves : goal.returns-clause-serves
+returns-clause-serves c =
+    let t = c.args.text.now in
+    elim c.match-self.branch [
+      | in-Direct w ↦
+          subst (λ r. ServesOn c.args.self.now t r c.args.occurrences.now c.match-self.occurrences) (sym w.result-is)
+          (subst (λ o. ServesOn c.args.self.now t w.next_direct.result c.args.occurrences.now o) (sym w.occurrences-is) (serves_same c.args.self.now t c.args.last c.args.occurrences.now w.next_direct.result c.requires.serves))
+      | in-Passes w ↦
+          let inv = subst IsEngine w.in-Passes.is c.self.invariant in
+          let value = w.deref_mut.ensures.value in
+          let is : w.deref_mut.result.now.sought.prepared.expr ≡ c.args.self.now = ap (λ (x : Passes). x.sought.prepared.expr) value ∙ sym (ap written_of w.in-Passes.is) ∙ c.self.view_is in
+          subst (λ r. ServesOn c.args.self.now t r c.args.occurrences.now c.match-self.occurrences) (sym w.result-is)
+          (subst (λ o. ServesOn c.args.self.now t w.next_by_passes.result c.args.occurrences.now o) (sym w.occurrences-is)
+          (subst (λ v. ServesOn v t w.next_by_passes.result c.args.occurrences.now w.next_by_passes.new.occurrences) is w.next_by_passes.ensures.serves))
+    ]
+
+pub returns-clause-cost : goal.returns-clause-cost
+returns-clause-cost c =
+    let n = length c.args.text.now in
+    let m = length c.args.self.now.nodes in
+    let s = c.args.steps.now in
+    let o = c.args.occurrences.now in
+    elim c.match-self.branch [
+      | in-Direct w ↦
+          let is = direct_is c.self.inside.engine c.args.self.now w.in-Direct.field-0 w.in-Direct.form c.self.view_is c.self.invariant w.in-Direct.is in
+          let next = w.next_direct.ensures in
+          subst (λ r. Pays s c.match-self.steps (owed m n c.args.last o) (owed_after m n r c.match-self.occurrences)) (sym w.result-is)
+          (subst (λ v. Pays s v (owed m n c.args.last o) (owed_after m n w.next_direct.result c.match-self.occurrences)) (sym w.steps-is)
+          (subst (λ v. Pays s w.next_direct.new.steps (owed m n c.args.last o) (owed_after m n w.next_direct.result v)) (sym w.occurrences-is)
+          (direct_owed m n c.args.last o w.next_direct.result s w.next_direct.new.steps c.requires.serves.fresh next.lies (next.cost c.args.self.now is))))
+      | in-Passes w ↦
+          let inv = subst IsEngine w.in-Passes.is c.self.invariant in
+          let value = w.deref_mut.ensures.value in
+          let is : w.deref_mut.result.now.sought.prepared.expr ≡ c.args.self.now = ap (λ (x : Passes). x.sought.prepared.expr) value ∙ sym (ap written_of w.in-Passes.is) ∙ c.self.view_is in
+          subst (λ r. Pays s c.match-self.steps (owed m n c.args.last o) (owed_after m n r c.match-self.occurrences)) (sym w.result-is)
+          (subst (λ v. Pays s v (owed m n c.args.last o) (owed_after m n w.next_by_passes.result c.match-self.occurrences)) (sym w.steps-is)
+          (subst (λ v. Pays s w.next_by_passes.new.steps (owed m n c.args.last o) (owed_after m n w.next_by_passes.result v)) (sym w.occurrences-is)
+          (subst (λ v. Pays s w.next_by_passes.new.steps (owed (length v.nodes) n c.args.last o) (owed_after (length v.nodes) n w.next_by_passes.result w.next_by_passes.new.occurrences)) is w.next_by_passes.ensures.cost)))
+    ]
+
+pub returns-clause-once : goal.returns-clause-once
+returns-clause-once c =
+    let n = length c.args.text.now in
+    let m = length c.args.self.now.nodes in
+    let s = c.args.steps.now in
+    elim c.match-self.branch [
+      | in-Direct w ↦
+          let is = direct_is c.self.inside.engine c.args.self.now w.in-Direct.field-0 w.in-Direct.form c.self.view_is c.self.invariant w.in-Direct.is in
+          let cost = w.next_direct.ensures.once c.args.self.now is in
+          let most = direct_once m n in
+          subst (λ v. Takes s v (64 * m * m * (n + 1) * (n + 1))) (sym w.steps-is) (cost.0, omega (arith, cost.1, most))
+      | in-Passes w ↦
+          let inv = subst IsEngine w.in-Passes.is c.self.invariant in
+          let value = w.deref_mut.ensures.value in
+          let is : w.deref_mut.result.now.sought.prepared.expr ≡ c.args.self.now = ap (λ (x : Passes). x.sought.prepared.expr) value ∙ sym (ap written_of w.in-Passes.is) ∙ c.self.view_is in
+          subst (λ v. Takes s v (64 * m * m * (n + 1) * (n + 1))) (sym w.steps-is)
+          (subst (λ v. Takes s w.next_by_passes.new.steps (64 * length v.nodes * length v.nodes * (n + 1) * (n + 1))) is w.next_by_passes.ensures.once)
+    ]

@@ -1,7 +1,6 @@
 use Rattle.std.proofs.Common.{◌≡◌, ◌-◌, ◌*◌, ◌<◌, ◌≤◌, ◌↔◌, ⊎_elim, refl, sym, subst, IsTrue, arith}
 use Rattle.std.specs.Prelude.{length}
 use Rattle.std.proofs.lemmas.Bool.{cases_lt}
-use Rattle.sedmarks.specs.Costs.{Pays}
 use Rattle.sedmarks.specs.Reach.{one_start}
 use Rattle.sedpass.specs.Kept.{SameKept, ends_told, owed}
 use Rattle.sedpass.specs.Regions.{Meets}
@@ -51,8 +50,6 @@ loop-place-preserved c =
     let same = same_kept _ c.loop-place.self c.ready-to.new.self before.same ready.same in
     let root : c.args.a ≤ c.ready-to.new.self.region.root = (let h = c.requires.a in let g = same.root in omega (arith, h, g)) in
     let on = meet.meets c.args.a c.args.from root before.above before.follows in
-    let paid = subst (λ r. Pays c.loop-place.steps c.ready-to.new.steps (owed m (r - 1) c.loop-place.self.region c.loop-place.place) (owed m (r - 1) c.ready-to.new.self.region c.loop-place.place)) before.shape.1 ready.cost in
-    let width = c.args.table.now.room - 1 in
     record {
       above = (let h = before.above in omega (arith, h, up));
       below = (let h = ready.kept.region.within in let g = meet.same.end in omega (arith, h, g, at));
@@ -68,9 +65,9 @@ loop-place-preserved c =
           (λ (ge : c.loop-place.place ≤ q). told_as (λ r t. Meets p.expr.nodes w r t c.args.a (one_start c.args.from) q) (length w) c.args.table.now c.ready-to.new.table _ c.ready-to.new.self shape same (on.1 q ge under))
           (cases_lt q c.loop-place.place);
       grows = (let h = before.grows in let g = ready.cost.0 in let f = meet.cost.0 in omega (arith, h, g, f));
-      cost = cut_on m (owed m width c.args.self.now.region c.args.from) (owed m width c.loop-place.self.region c.loop-place.place) (owed m width c.ready-to.new.self.region c.loop-place.place) (owed m width c.meet-reached.new.self.region reached)
-          c.loop-place.steps _ c.ready-to.new.steps c.meet-reached.new.steps c.args.from c.loop-place.place reached before.cost paid.1 (meet.whole at).1
-          (subst (λ r. owed m width r reached ≤ owed m width c.ready-to.new.self.region c.loop-place.place) (sym meet.region) (owed_falls m width c.ready-to.new.self.region c.loop-place.place reached (omega (arith, up))));
+      cost = cut_on m (owed m c.args.self.now.region c.args.from) (owed m c.loop-place.self.region c.loop-place.place) (owed m c.ready-to.new.self.region c.loop-place.place) (owed m c.meet-reached.new.self.region reached)
+          c.loop-place.steps _ c.ready-to.new.steps c.meet-reached.new.steps c.args.from c.loop-place.place reached before.cost ready.cost.1 (meet.whole at).1
+          (subst (λ r. owed m r reached ≤ owed m c.ready-to.new.self.region c.loop-place.place) (sym meet.region) (owed_falls m c.ready-to.new.self.region c.loop-place.place reached (omega (arith, up))));
       counts = least_both _ c.loop-place.steps _ _ (2 * (reached - c.loop-place.place)) _ before.counts (least_since _ c.ready-to.new.steps _ _ ready.cost.0 meet.counts) (let h = before.above in omega (arith, h, up));
     }
 
@@ -107,13 +104,11 @@ returns-then-place-to-clause-cost c =
     let ready = c.ready-to.ensures in
     let meet = c.meet-reached.ensures in
     let first = c.first-code.ensures.cost in
-    let reached = c.meet-reached.result.0 in
-    let width = c.args.table.now.room - 1 in
-    let paid = subst (λ r. Pays c.loop-place.steps c.ready-to.new.steps (owed m (r - 1) c.loop-place.self.region c.loop-place.place) (owed m (r - 1) c.ready-to.new.self.region c.loop-place.place)) before.shape.1 ready.cost in (
+    let reached = c.meet-reached.result.0 in (
       (let h = before.grows in let g = ready.cost.0 in let f = meet.cost.0 in let e = first.0 in omega (arith, h, g, f, e)),
-      cut_at m (owed m width c.args.self.now.region c.args.from) (owed m width c.loop-place.self.region c.loop-place.place) (owed m width c.ready-to.new.self.region c.loop-place.place) (owed m width c.meet-reached.new.self.region reached)
-          c.loop-place.steps c.args.steps.now c.first-code.new.steps c.ready-to.new.steps c.meet-reached.new.steps c.args.from c.loop-place.place reached first.1 before.cost paid.1 meet.cost.1
-          (subst (λ r. owed m width r reached ≤ owed m width c.ready-to.new.self.region c.loop-place.place) (sym meet.region) (owed_falls m width c.ready-to.new.self.region c.loop-place.place reached meet.after)),
+      cut_at m (owed m c.args.self.now.region c.args.from) (owed m c.loop-place.self.region c.loop-place.place) (owed m c.ready-to.new.self.region c.loop-place.place) (owed m c.meet-reached.new.self.region reached)
+          c.loop-place.steps c.args.steps.now c.first-code.new.steps c.ready-to.new.steps c.meet-reached.new.steps c.args.from c.loop-place.place reached first.1 before.cost ready.cost.1 meet.cost.1
+          (subst (λ r. owed m r reached ≤ owed m c.ready-to.new.self.region c.loop-place.place) (sym meet.region) (owed_falls m c.ready-to.new.self.region c.loop-place.place reached meet.after)),
     )
 
 pub returns-then-place-to-clause-counts : goal.returns-then-place-to-clause-counts

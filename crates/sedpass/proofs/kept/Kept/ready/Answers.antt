@@ -16,8 +16,8 @@ returns-clause-cost c =
     elim c.if-place-self.branch [
       | then-place-self w ↦
           let now = w.make.ensures in
-          owed_left m width old place s w.make.new.steps _ w.make.new.self _ w.self-is w.steps-is
-          (owed_made m width old w.make.new.self.region place s w.make.new.steps w.if-place-self.true c.requires.place now.low now.from now.to now.same.end now.cost.0 now.cost.1)
+          owed_left m old place s w.make.new.steps _ w.make.new.self _ w.self-is w.steps-is
+          (owed_made m old w.make.new.self.region place s w.make.new.steps w.if-place-self.true c.requires.place now.low now.from now.to now.same.end now.cost.0 now.cost.1)
       | else-place-self+then-place-self-2 w ↦
           let out : (place < old.from) ⊎ (old.to ≤ place) = elim w.then-place-self-2.branch [
             | then-place-self-2-via-then-place-self-2 v ↦ inl v.if-place-self-2.true
@@ -26,8 +26,8 @@ returns-clause-cost c =
           let now = w.remake.ensures in
           let after : place < place / width * width + width = lt-div-mul-add (omega (arith, room)) in
           let to : place < w.remake.new.self.region.to = (let h = c.requires.place in let g = now.to in omega (arith, h, g, after)) in
-          owed_left m width old place s w.remake.new.steps _ w.remake.new.self _ w.self-is w.steps-is
-          (owed_again m width old w.remake.new.self.region place s w.remake.new.steps w.if-place-self.false out now.low now.same.end now.from to now.cost)
+          owed_left m old place s w.remake.new.steps _ w.remake.new.self _ w.self-is w.steps-is
+          (owed_again m old w.remake.new.self.region place s w.remake.new.steps w.if-place-self.false out now.low now.same.end now.from to now.cost)
       | else-place-self+else-place-self-2+else-self-place w ↦
-          owed_left m width old place s s _ c.args.self.now _ w.self-is w.steps-is (omega arith, omega arith)
+          owed_left m old place s s _ c.args.self.now _ w.self-is w.steps-is (omega arith, omega arith)
     ]

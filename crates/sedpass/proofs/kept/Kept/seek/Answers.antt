@@ -1,6 +1,5 @@
 use Rattle.std.proofs.Common.{◌≡◌, ◌-◌, refl, subst, ◌↔◌, IsTrue, arith}
 use Rattle.std.specs.Prelude.{length, not}
-use Rattle.sedmarks.specs.Costs.{Pays}
 use Rattle.sedre.specs.Steps.{TakesAtLeast}
 use Rattle.sedpass.specs.Kept.{AllMarked, SameKept, ends_told, owed}
 use Rattle.sedpass.specs.Table.{SameShape}
@@ -39,8 +38,6 @@ loop-place-preserved c =
     let more : AllMarked nodes w c.args.self.now.region.root (ends_told c.args.table.now.way.sweeps (length w) c.args.self.now.region.end) c.args.x (not c.args.marked) c.loop-place.place c.ready-to.result =
     told_as (λ r t. AllMarked nodes w r t c.args.x (not c.args.marked) c.loop-place.place c.ready-to.result) (length w) c.args.table.now c.ready-to.new.table c.args.self.now c.ready-to.new.self shape same
     (subst (λ y. AllMarked nodes w c.ready-to.new.self.region.root (ends_told c.ready-to.new.table.way.sweeps (length w) c.ready-to.new.self.region.end) c.args.x (not c.args.marked) c.loop-place.place y) at seek.passed) in
-    let paid = subst (λ r. Pays c.loop-place.steps c.ready-to.new.steps (owed m (r - 1) c.loop-place.self.region c.loop-place.place) (owed m (r - 1) c.ready-to.new.self.region c.loop-place.place)) before.shape.1 ready.cost in
-    let width = c.args.table.now.room - 1 in
     record {
       above = (let h = before.above in omega (arith, h, up));
       below = (let h = ready.kept.region.within in omega (arith, h, is));
@@ -49,9 +46,9 @@ loop-place-preserved c =
       same = same;
       passed = marked_then nodes w c.args.self.now.region.root c.args.x (ends_told c.args.table.now.way.sweeps (length w) c.args.self.now.region.end) (not c.args.marked) c.args.from c.loop-place.place c.ready-to.result before.passed more;
       grows = (let h = before.grows in let g = ready.cost.0 in let f = seek.cost.0 in omega (arith, h, g, f));
-      cost = seek_on (owed m width c.args.self.now.region c.args.from) (owed m width c.loop-place.self.region c.loop-place.place) (owed m width c.ready-to.new.self.region c.loop-place.place)
-          (owed m width c.ready-to.new.self.region c.ready-to.result) c.loop-place.steps c.args.steps.now c.ready-to.new.steps c.seek_in-found.new.steps c.args.from c.loop-place.place c.ready-to.result
-          before.cost paid.1 (let h = seek.cost.1 in omega (arith, h, at)) (owed_falls m width c.ready-to.new.self.region c.loop-place.place c.ready-to.result (omega (arith, up))) up;
+      cost = seek_on (owed m c.args.self.now.region c.args.from) (owed m c.loop-place.self.region c.loop-place.place) (owed m c.ready-to.new.self.region c.loop-place.place)
+          (owed m c.ready-to.new.self.region c.ready-to.result) c.loop-place.steps c.args.steps.now c.ready-to.new.steps c.seek_in-found.new.steps c.args.from c.loop-place.place c.ready-to.result
+          before.cost ready.cost.1 (let h = seek.cost.1 in omega (arith, h, at)) (owed_falls m c.ready-to.new.self.region c.loop-place.place c.ready-to.result (omega (arith, up))) up;
       counts = least_both _ c.loop-place.steps _ _ (c.ready-to.result - c.loop-place.place) _ before.counts
           (least_since _ c.ready-to.new.steps _ _ ready.cost.0 (subst (λ y. TakesAtLeast c.ready-to.new.steps c.seek_in-found.new.steps (y - c.loop-place.place)) at seek.counts)) (let h = before.above in omega (arith, h, up));
     }
@@ -84,13 +81,11 @@ returns-then-found-to-clause-cost c =
     let before = c.loop-place.invariant in
     let ready = c.ready-to.ensures in
     let seek = c.seek_in-found.ensures in
-    let found = c.seek_in-found.result in
-    let width = c.args.table.now.room - 1 in
-    let paid = subst (λ r. Pays c.loop-place.steps c.ready-to.new.steps (owed m (r - 1) c.loop-place.self.region c.loop-place.place) (owed m (r - 1) c.ready-to.new.self.region c.loop-place.place)) before.shape.1 ready.cost in (
+    let found = c.seek_in-found.result in (
       (let h = before.grows in let g = ready.cost.0 in let f = seek.cost.0 in omega (arith, h, g, f)),
-      seek_at (owed m width c.args.self.now.region c.args.from) (owed m width c.loop-place.self.region c.loop-place.place) (owed m width c.ready-to.new.self.region c.loop-place.place)
-          (owed m width c.ready-to.new.self.region found) c.loop-place.steps c.args.steps.now c.ready-to.new.steps c.seek_in-found.new.steps c.args.from c.loop-place.place found
-          before.cost paid.1 seek.cost.1 (owed_falls m width c.ready-to.new.self.region c.loop-place.place found seek.after) seek.after,
+      seek_at (owed m c.args.self.now.region c.args.from) (owed m c.loop-place.self.region c.loop-place.place) (owed m c.ready-to.new.self.region c.loop-place.place)
+          (owed m c.ready-to.new.self.region found) c.loop-place.steps c.args.steps.now c.ready-to.new.steps c.seek_in-found.new.steps c.args.from c.loop-place.place found
+          before.cost ready.cost.1 seek.cost.1 (owed_falls m c.ready-to.new.self.region c.loop-place.place found seek.after) seek.after,
     )
 
 pub returns-then-found-to-clause-counts : goal.returns-then-found-to-clause-counts

@@ -15,8 +15,8 @@ invariant-loop-place l = record {
   passed : AllMarked l.subject.prepared.now.expr.nodes l.subject.text.now l.initial.self.region.root
       (ends_told l.initial.table.way.sweeps (length l.subject.text.now) l.initial.self.region.end) l.x (not l.marked) l.from l.place;
   grows : l.initial.steps ≤ l.steps;
-  cost : l.steps + owed (length l.subject.prepared.now.expr.nodes) (l.initial.table.room - 1) l.self.region l.place + 2 * l.from
-      ≤ l.initial.steps + owed (length l.subject.prepared.now.expr.nodes) (l.initial.table.room - 1) l.initial.self.region l.from + 2 * l.place;
+  cost : l.steps + owed (length l.subject.prepared.now.expr.nodes) l.self.region l.place + 2 * l.from
+      ≤ l.initial.steps + owed (length l.subject.prepared.now.expr.nodes) l.initial.self.region l.from + 2 * l.place;
   counts : TakesAtLeast l.initial.steps l.steps (l.place - l.from);
 }
 

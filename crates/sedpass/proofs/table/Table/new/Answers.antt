@@ -1,4 +1,4 @@
-use Rattle.std.proofs.Common.{length, sym, subst}
+use Rattle.std.proofs.Common.{sym, subst}
 use Rattle.sedpass.specs.Cells.{IsLayout}
 use Rattle.sedpass.specs.Table.{HasRoom}
 use Rattle.sedpass.proofs.TableLemmas.{no_states}
@@ -10,4 +10,4 @@ returns-clause-table c =
     let t = c.in_ok-empty.empty in
     let made = c.in_ok-empty.ensures in
     no_states p t c.nodes-nodes.ensures.expr (subst (λ n. HasRoom n t) c.nodes-nodes.ensures.value made.has)
-    (subst (λ l. IsLayout (length p.expr.nodes) p.anchors l) (sym made.layout) c.new-layout.ensures) made.none made.begun
+    (subst (λ l. IsLayout p.expr.nodes l) (sym made.layout) c.new-layout.ensures) made.none made.begun

@@ -43,7 +43,7 @@ returns-in-Some-clause-table c =
       early = old.early;
     } in
     let q = c.args.offset / 2 ^ T.layout.shift in
-    note_cell c.args.prepared.now T N (adds_same m T N (refl, refl, refl, refl, refl) refl refl (λ x. refl)) refl c.requires.table room refl refl c.args.prepared.now.is_prepared.classes
+    note_cell c.args.prepared.now T N (adds_same m T N (refl, refl, refl, refl, refl) refl refl (λ x. refl)) refl c.requires.table room refl refl
     q c.in-Some.column c.args.next c.args.byte c.args.edge c.requires.offset.0 (omega arith) c.in-Some.ensures
     (ap (λ x. slice_set T.cells.items (x + c.in-Some.column) c.args.next) c.requires.offset.1) c.requires.leads c.requires.anywhere
 

@@ -1,0 +1,330 @@
+-- Expressions whose matches a look at the text tells.
+use Rattle.std.proofs.Common.{◌≡◌, ℕ, ◌+◌, ◌-◌, ◌*◌, ◌<◌, ◌≤◌, ◌↔◌, Bool, true, false, List, length, Option, Some, None, Result, Ok, Err, IsTrue, refl, sym, ◌∙◌, subst, true≢false, ⊎_elim, arith}
+use Rattle.std.specs.Prelude.{slice_get, IfOk, IfSome, is_some}
+use Rattle.std.proofs.lemmas.Bool.{cases_lt}
+use Rattle.std.proofs.lemmas.Option.{slice_get_within}
+use Rattle.sedre.specs.Tree.{set}
+use Rattle.sedre.specs.Arena.{IsArena, Written, tree, tree_at}
+use Rattle.sedre.specs.declared.types.Node.{Node}
+use Rattle.sedre.specs.declared.types.NodeId.{NodeId}
+use Rattle.sedre.specs.declared.types.Node.TheVariants.{Set, Begin, End, Seq}
+use Rattle.sedre.specs.Steps.{TakesAtLeast}
+use Rattle.sedmarks.specs.Answer.{SpanAnswer}
+use Rattle.sedmarks.specs.Beginnings.{CanBegin, NextStart}
+use Rattle.sedmarks.specs.Bytes.{AreBytes, looked_at}
+use Rattle.sedmarks.specs.Reach.{At}
+use Rattle.sedmarks.specs.RunsAhead.{Repeated, AllRepeat, IsRun}
+use Rattle.sedmarks.specs.Spans.{Spans, SomeFound, IsIn, no_copy}
+use Rattle.sedmarks.specs.declared.beginnings.Begins.TheVariants.{WithSet}
+use Rattle.sedneedles.specs.Choice.{FirstChoice}
+use Rattle.sedneedles.specs.Few.{FirstFew}
+use Rattle.sedneedles.specs.Needed.{IsLiteral, GoesOnAs, FirstLiteral}
+use Rattle.sedneedles.specs.Times.{FirstTimes}
+use Rattle.sedneedles.specs.Word.{WordSpans, AllWord}
+use Rattle.sedneedles.specs.declared.few.Few.{Few}
+use Rattle.sedneedles.specs.declared.needed.Literal.{Literal as Bytes}
+use Rattle.sedmatch.specs.Direct.{ComesFirst, StartsWith, RunsTo, FormSpans, SpannedAs, rate, IsDirect, CanStart, StartsFrom, FirstWith, FirstStart, FirstSpan, RunBegins}
+use Rattle.sedmatch.specs.declared.direct.First.{First}
+use Rattle.sedmatch.specs.declared.direct.First.TheVariants.{Among, Member}
+use Rattle.sedmatch.specs.declared.direct.DirectForm.{DirectForm}
+use Rattle.sedmatch.specs.declared.direct.DirectForm.TheVariants.{Anchor, OneByte, Run, ByteThenRun, RunThenByte, Times, Literal, Choice}
+use Rattle.sedmarks.proofs.ReachLemmas.{open_at, close_at}
+use Rattle.sedmarks.proofs.RunLemmas.{run_longest}
+use Rattle.sedmarks.proofs.SpanLemmas.{Copies-forward}
+use Rattle.sedneedles.proofs.CountLemmas.{least_none}
+use Rattle.sedneedles.proofs.TimesLemmas.{repeated_cut, repeated_in}
+
+-- what comes first, where its bytes are those of the set
+abbrev AreFirst : First → List Bool → Type 0
+AreFirst first members = (c : ℕ) → c < 256 → ComesFirst first c ↔ IsIn c members
+
+-- a span of a set
+set_spans : (members : List Bool) (first : First) → AreFirst first members → (w : List ℕ) → AreBytes w → (i j : ℕ) →
+    Spans (set members) w i j ↔ (StartsWith first w i × (j ≡ i + 1))
+set_spans members first same w bytes i j = (
+  (λ s. ((s.0, s.1, (same s.0 (bytes i s.0 s.1)).1 s.2), s.3)),
+  (λ h. (h.0.0, h.0.1, (same h.0.0 (bytes i h.0.0 h.0.1)).0 h.0.2, h.1)),
+)
+
+-- a run before a byte that isn't in the set holds no such byte
+run_lacks : (members these : List Bool) (last : First) → AreFirst last these → ((c : ℕ) → c < 256 → IsIn c members → IsIn c these → ⊥) →
+    (w : List ℕ) → AreBytes w → (i k h : ℕ) → Repeated members w i k → i ≤ h → h < k → StartsWith last w h → ⊥
+run_lacks members these last same apart w bytes i k h run low lt stands =
+    let can = repeated_in members w i h k low lt run in
+    let small = bytes h can.0 can.1 in
+    let one : stands.0 ≡ can.0 = cc (stands.1, can.1) in
+    apart can.0 small can.2 ((same can.0 small).0 (subst (ComesFirst last) one stands.2))
+
+module _ (nodes : List Node) (arena : IsArena nodes) (x last : ℕ) (whole : last ≡ x) where
+  to_node : (w : List ℕ) (i j : ℕ) → Spans (tree_at nodes last) w i j → At nodes w x i j
+  to_node w i j s = subst (λ v. At nodes w v i j) whole s
+
+  from_node : (w : List ℕ) (i j : ℕ) → At nodes w x i j → Spans (tree_at nodes last) w i j
+  from_node w i j at = subst (λ v. At nodes w v i j) (sym whole) at
+
+  -- anchors
+  pub form_begin : slice_get nodes x ≡ Some Begin → SpannedAs (tree_at nodes last) (Anchor (record { at_start = true; at_end = false }))
+  form_begin is w bytes i j within = (
+    (λ s. let h = open_at nodes w x Begin arena is i j (to_node w i j s) in (((λ t. h.0), (λ f. absurd (true≢false (sym f)))), h.1 ∙ sym h.0)),
+    (λ h. let first = h.0.0 refl in from_node w i j (close_at nodes w x Begin arena is i j (first, h.1 ∙ first))),
+  )
+
+  pub form_end : slice_get nodes x ≡ Some End → SpannedAs (tree_at nodes last) (Anchor (record { at_start = false; at_end = true }))
+  form_end is w bytes i j within = (
+    (λ s. let h = open_at nodes w x End arena is i j (to_node w i j s) in (((λ f. absurd (true≢false (sym f))), (λ t. h.0)), h.1 ∙ sym h.0)),
+    (λ h. let last = h.0.1 refl in from_node w i j (close_at nodes w x End arena is i j (last, h.1 ∙ last))),
+  )
+
+  pub form_whole : (a b : NodeId) → slice_get nodes x ≡ Some (Seq a b) → slice_get nodes a.index ≡ Some Begin → slice_get nodes b.index ≡ Some End →
+      SpannedAs (tree_at nodes last) (Anchor (record { at_start = true; at_end = true }))
+  form_whole a b is these those w bytes i j within = (
+    (λ s.
+        let f = open_at nodes w x (Seq a b) arena is i j (to_node w i j s) in
+        let l = open_at nodes w a.index Begin arena these i f.0 f.1 in
+        let r = open_at nodes w b.index End arena those f.0 j f.2 in
+        (((λ t. l.0), (λ t. l.0 ∙ sym l.1 ∙ r.0)), r.1 ∙ sym r.0 ∙ l.1 ∙ sym l.0)),
+    (λ h.
+        let first = h.0.0 refl in
+        let last = h.0.1 refl in
+        from_node w i j (close_at nodes w x (Seq a b) arena is i j (i, close_at nodes w a.index Begin arena these i i (first, first), close_at nodes w b.index End arena those i j (last, h.1 ∙ last)))),
+  )
+
+  -- a set
+  pub form_byte : (members : List Bool) (first : First) → slice_get nodes x ≡ Some (Set members) → AreFirst first members → SpannedAs (tree_at nodes last) (OneByte first)
+  form_byte members first is same w bytes i j within =
+      let spans = set_spans members first same w bytes i j in (
+        (λ s. spans.0 (open_at nodes w x (Set members) arena is i j (to_node w i j s))),
+        (λ h. from_node w i j (close_at nodes w x (Set members) arena is i j (spans.1 h))),
+      )
+
+  -- a byte of a set, and a run
+  pub form_byte_run : (a b : NodeId) (these : List Bool) (first : First) (y : ℕ) (members : List Bool) → slice_get nodes x ≡ Some (Seq a b) → slice_get nodes a.index ≡ Some (Set these) → y ≡ b.index →
+      AreFirst first these → AllRepeat nodes y members → SpannedAs (tree_at nodes last) (ByteThenRun first members)
+  form_byte_run a b these first y members is there y_is same repeats w bytes i j within = (
+    (λ s.
+        let f = open_at nodes w x (Seq a b) arena is i j (to_node w i j s) in
+        let h = (set_spans these first same w bytes i f.0).0 (open_at nodes w a.index (Set these) arena there i f.0 f.1) in
+        (h.0, (repeats w (i + 1) j).0 (subst (λ v. At nodes w v (i + 1) j) (sym y_is) (subst (λ v. At nodes w b.index v j) h.1 f.2)))),
+    (λ h.
+        let left : At nodes w a.index i (i + 1) = close_at nodes w a.index (Set these) arena there i (i + 1) ((set_spans these first same w bytes i (i + 1)).1 (h.0, refl)) in
+        let right : At nodes w b.index (i + 1) j = subst (λ v. At nodes w v (i + 1) j) y_is ((repeats w (i + 1) j).1 h.1) in
+        from_node w i j (close_at nodes w x (Seq a b) arena is i j (i + 1, left, right))),
+  )
+
+  -- a run, and the byte that ends it
+  pub form_run_byte : (a b : NodeId) (y : ℕ) (members these : List Bool) (first : First) → slice_get nodes x ≡ Some (Seq a b) → y ≡ a.index → slice_get nodes b.index ≡ Some (Set these) →
+      AllRepeat nodes y members → AreFirst first these → ((c : ℕ) → c < 256 → IsIn c members → IsIn c these → ⊥) → SpannedAs (tree_at nodes last) (RunThenByte members first)
+  form_run_byte a b y members these first is y_is there repeats same apart w bytes i j within = (
+    (λ s.
+        let f = open_at nodes w x (Seq a b) arena is i j (to_node w i j s) in
+        let h = (set_spans these first same w bytes f.0 j).0 (open_at nodes w b.index (Set these) arena there f.0 j f.2) in
+        let run = (repeats w i f.0).0 (subst (λ v. At nodes w v i f.0) (sym y_is) f.1) in
+        (f.0, (run, h.0, λ k low lt stands. run_lacks members these first same apart w bytes i f.0 k run low lt stands), h.1)),
+    (λ h.
+        let left : At nodes w a.index i h.0 = subst (λ v. At nodes w v i h.0) y_is ((repeats w i h.0).1 h.1.0) in
+        let right : At nodes w b.index h.0 j = close_at nodes w b.index (Set these) arena there h.0 j ((set_spans these first same w bytes h.0 j).1 (h.1.1, h.2)) in
+        from_node w i j (close_at nodes w x (Seq a b) arena is i j (h.0, left, right))),
+  )
+
+-- a literal after which nothing is left
+pub none_of : (r : Option ℕ) → is_some r ≡ false → r ≡ None
+none_of None missing = refl
+none_of (Some t) missing = absurd (true≢false missing)
+
+pub all_word : (nodes : List Node) (x last : ℕ) (l : Bytes) (literal : List ℕ) → last ≡ x → literal ≡ l.bytes.items → IsLiteral nodes x l → l.rest ≡ None → AllWord nodes last literal
+all_word nodes x last l literal whole same is none w i j within =
+    subst (λ v. At nodes w last i j ↔ WordSpans v w i j) (sym same) (subst (λ v. At nodes w v i j ↔ WordSpans l.bytes.items w i j) (sym whole) (
+      (λ at. let h = (is w i j within).0 at in (h.0, sym (subst (GoesOnAs nodes w (i + length l.bytes.items) j) none h.1))),
+      (λ h. (is w i j within).1 (h.0, subst (GoesOnAs nodes w (i + length l.bytes.items) j) (sym none) (sym h.1))),
+    ))
+
+-- with no groups the form is that of the expression
+pub is_direct : {E : Type 0} (e : Written) (r : Result (Option DirectForm) E) → e.groups ≡ 0 → IfOk r (λ o. IfSome o (λ f. SpannedAs (tree e) f)) →
+    IfOk r (λ o. IfSome o (λ f. rate f ≤ 14 * length e.nodes)) → IfOk r (λ o. IfSome o (IsDirect e))
+is_direct e (Err x) none spans pays = tt
+is_direct e (Ok None) none spans pays = tt
+is_direct e (Ok (Some form)) none spans pays = (spans, none, pays)
+
+-- the byte that is sought
+pub first_few : (few : Few) (w : List ℕ) (p : ℕ) (r : Option ℕ) → FirstFew few w p r → FirstWith (Among few) w p r
+first_few few w p None none = none
+first_few few w p (Some k) first = first
+
+pub first_member : (s : List Bool) (w : List ℕ) (p : ℕ) (r : Option ℕ) → NextStart (WithSet s) w p r → IfSome r (λ k. CanBegin (WithSet s) w k) → FirstWith (Member s) w p r
+first_member s w p None none here = λ k low starts. none k low (let inside = slice_get_within w k starts.0 starts.1 in omega arith) starts
+first_member s w p (Some k) next here = (next.0, here, λ h low lt starts. next.2 h low lt starts)
+
+starts_inside : (first : First) (w : List ℕ) (i : ℕ) → StartsWith first w i → i < length w
+starts_inside first w i starts = slice_get_within w i starts.0 starts.1
+
+-- no more bytes are looked at than there are
+pub first_looked : (first : First) (w : List ℕ) (p : ℕ) (r : Option ℕ) → FirstWith first w p r → looked_at (length w) p r ≤ length w
+first_looked first w p None none = omega arith
+first_looked first w p (Some k) here = let inside = starts_inside first w k here.1 in omega (arith, inside)
+
+-- what can come first tells where a match begins
+pub start_byte : (first : First) (w : List ℕ) (p : ℕ) (r : Option ℕ) → FirstWith first w p r → FirstStart (OneByte first) w p r
+start_byte first w p None none = λ k low within starts. none k low starts
+start_byte first w p (Some k) here = (here.0, (let inside = starts_inside first w k here.1 in omega arith), here.1, here.2)
+
+pub start_byte_run : (first : First) (members : List Bool) (w : List ℕ) (p : ℕ) (r : Option ℕ) → FirstWith first w p r → FirstStart (ByteThenRun first members) w p r
+start_byte_run first members w p None none = λ k low within starts. none k low starts
+start_byte_run first members w p (Some k) here = (here.0, (let inside = starts_inside first w k here.1 in omega arith), here.1, here.2)
+
+pub start_times : (members : List Bool) (count : ℕ) (w : List ℕ) (p : ℕ) (r : Option ℕ) → FirstTimes members count w p r → FirstStart (Times members count) w p r
+start_times members count w p None none = none
+start_times members count w p (Some k) here = (here.0, (let inside = here.1 in omega arith), here.2, here.3)
+
+pub start_literal : (literal w : List ℕ) (p : ℕ) (r : Option ℕ) → FirstLiteral w literal p r → FirstStart (Literal literal) w p r
+start_literal literal w p None none = λ k low within can. none k low can
+start_literal literal w p (Some k) here = (here.0, (let fits = here.1.fits in omega arith), here.1, here.2)
+
+pub start_choice : (literals : List (List ℕ)) (w : List ℕ) (p : ℕ) (r : Option ℕ) → FirstChoice literals w p r → FirstStart (Choice literals) w p r
+start_choice literals w p None none = λ k low within can. none k low can
+start_choice literals w p (Some k) here = (here.0, (let inside = here.1 in omega arith), here.2, here.3)
+
+-- where the longest ends
+pub span_byte : (first : First) (w : List ℕ) (p i j : ℕ) → FirstWith first w p (Some i) → j ≡ i + 1 → FirstSpan (OneByte first) w p (Some (i, j))
+span_byte first w p i j here is =
+    (start_byte first w p (Some i) here, ((here.1, is), (let inside = starts_inside first w i here.1 in omega (arith, inside, is)), λ k h. omega (arith, h.1, is)))
+
+pub span_run : (members : List Bool) (w : List ℕ) (p k : ℕ) → p ≤ length w → IsRun members w p k → FirstSpan (Run members) w p (Some (p, k))
+span_run members w p k within run =
+    let far = run_longest members w p k run in
+    (((omega arith), within, tt, λ h low lt can. omega (arith, low, lt)), (far.1, far.0, far.2))
+
+pub span_byte_run : (first : First) (members : List Bool) (w : List ℕ) (p i b k : ℕ) → FirstWith first w p (Some i) → b ≡ i + 1 → IsRun members w b k → FirstSpan (ByteThenRun first members) w p (Some (i, k))
+span_byte_run first members w p i b k here is run =
+    let far = run_longest members w (i + 1) k (subst (λ v. IsRun members w v k) is run) in
+    (start_byte_run first members w p (Some i) here, ((here.1, far.1), far.0, λ j h. far.2 j h.1))
+
+-- a run and the byte that ends it
+module _ (members : List Bool) (last : First) (w : List ℕ) (p : ℕ) where
+  -- the first such byte ends the run before it
+  ends_run : (q : ℕ) → FirstWith last w p (Some q) → (i : ℕ) → p ≤ i → Repeated members w i q → RunsTo members last w i q
+  ends_run q first i low run = (run, first.1, λ h from lt stands. first.2 h (omega arith) lt stands)
+
+  -- no run from p on is ended by an earlier one
+  ends_behind : (q h k : ℕ) → FirstWith last w p (Some q) → p ≤ h → RunsTo members last w h k → q ≤ k
+  ends_behind q h k first low runs =
+      let on = Copies-forward (Spans (set members) w) k h runs.0 in
+      ⊎_elim
+      (λ (less : k < q). absurd (first.2 k (omega arith) less runs.1))
+      (λ (le : q ≤ k). le)
+      (cases_lt k q)
+
+  start_run_byte : (q i : ℕ) → FirstWith last w p (Some q) → RunBegins members w p q i → FirstStart (RunThenByte members last) w p (Some i)
+  start_run_byte q i first run =
+      let inside = starts_inside last w q first.1 in (
+        run.0,
+        omega (arith, run.1, inside),
+        (q, ends_run q first i run.0 run.2),
+        λ h low lt can.
+            let behind = ends_behind q h can.0 first low can.1 in
+            run.3 h low lt (repeated_cut members w q can.0 h (omega (arith, run.1)) behind can.1.0).0,
+      )
+
+  pub none_run_byte : FirstWith last w p None → FirstStart (RunThenByte members last) w p None
+  none_run_byte none h low within can =
+      let on = Copies-forward (Spans (set members) w) can.0 h can.1.0 in
+      none can.0 (omega arith) can.1.1
+
+  pub span_run_byte : (q i j : ℕ) → FirstWith last w p (Some q) → RunBegins members w p q i → j ≡ q + 1 → FirstSpan (RunThenByte members last) w p (Some (i, j))
+  span_run_byte q i j first run is =
+      let inside = starts_inside last w q first.1 in (
+        start_run_byte q i first run,
+        (
+          (q, ends_run q first i run.0 run.2, is),
+          omega (arith, inside, is),
+          λ k s.
+              ⊎_elim
+              (λ (more : q < s.0). absurd (s.1.2 q run.1 more first.1))
+              (λ (le : s.0 ≤ q). omega (arith, is, s.2, le))
+              (cases_lt q s.0),
+        ),
+      )
+
+  pub some_run_byte : (r : Option ℕ) → FirstWith last w p r → IsTrue (is_some r) ↔ StartsFrom (RunThenByte members last) w p
+  some_run_byte None none = ((λ h. absurd (true≢false (sym h))), (λ s. absurd (none_run_byte none s.0 s.1 s.2 s.3)))
+  some_run_byte (Some q) first =
+      let inside = starts_inside last w q first.1 in
+      ((λ h. (q, first.0, omega (arith, inside), (q, ends_run q first q first.0 no_copy))), (λ s. refl))
+
+-- a match begins from a place on where the first place is told
+some_from : (form : DirectForm) (w : List ℕ) (p : ℕ) (r : Option ℕ) → FirstStart form w p r → IsTrue (is_some r) ↔ StartsFrom form w p
+some_from form w p None none = ((λ h. absurd (true≢false (sym h))), (λ s. absurd (none s.0 s.1 s.2 s.3)))
+some_from form w p (Some k) start = ((λ h. (k, start.0, start.1, start.2)), (λ s. refl))
+
+pub told_from : (form like : DirectForm) (w : List ℕ) (p : ℕ) (found told : Bool) → form ≡ like → told ≡ found → IsTrue found ↔ StartsFrom like w p → IsTrue told ↔ StartsFrom form w p
+told_from form like w p found told same is starts =
+    subst (λ f. IsTrue told ↔ StartsFrom f w p) (sym same) (subst (λ v. IsTrue v ↔ StartsFrom like w p) (sym is) starts)
+
+pub some_start : (form like : DirectForm) (w : List ℕ) (p : ℕ) (r : Option ℕ) (told : Bool) → form ≡ like → told ≡ is_some r → FirstStart like w p r → IsTrue told ↔ StartsFrom form w p
+some_start form like w p r told same is start = told_from form like w p (is_some r) told same is (some_from like w p r start)
+
+-- a match begins where it can
+spans_start : (form : DirectForm) (w : List ℕ) (i j : ℕ) → FormSpans form w i j → CanStart form w i
+spans_start (Anchor anchors) w i j s = s.0
+spans_start (OneByte first) w i j s = s.0
+spans_start (Run members) w i j s = tt
+spans_start (ByteThenRun first members) w i j s = s.0
+spans_start (RunThenByte members last) w i j s = (s.0, s.1)
+spans_start (Times members count) w i j s = subst (Repeated members w i) s.1 s.0
+spans_start (Literal literal) w i j s = s.0
+spans_start (Choice literals) w i j s = (s.0, s.1, s.2, s.3)
+
+-- and where it can, one does
+start_spans : (form : DirectForm) (w : List ℕ) (i : ℕ) → CanStart form w i → (j : ℕ) × FormSpans form w i j
+start_spans (Anchor anchors) w i can = (i, (can, refl))
+start_spans (OneByte first) w i can = (i + 1, (can, refl))
+start_spans (Run members) w i can = (i, no_copy)
+start_spans (ByteThenRun first members) w i can = (i + 1, (can, no_copy))
+start_spans (RunThenByte members last) w i can = (can.0 + 1, (can.0, can.1, refl))
+start_spans (Times members count) w i can = (i + count, (can, refl))
+start_spans (Literal literal) w i can = (i + length literal, (can, refl))
+start_spans (Choice literals) w i can = (i + length can.0, (can.0, can.1, can.2, can.3, refl))
+
+-- a match ends where it begins or after it
+ends_on : (form : DirectForm) (w : List ℕ) (i j : ℕ) → FormSpans form w i j → i ≤ j
+ends_on (Anchor anchors) w i j s = omega (arith, s.1)
+ends_on (OneByte first) w i j s = omega (arith, s.1)
+ends_on (Run members) w i j s = Copies-forward (Spans (set members) w) j i s
+ends_on (ByteThenRun first members) w i j s = omega (arith, Copies-forward (Spans (set members) w) j (i + 1) s.1)
+ends_on (RunThenByte members last) w i j s = let on = Copies-forward (Spans (set members) w) s.0 i s.1.0 in omega (arith, on, s.2)
+ends_on (Times members count) w i j s = omega (arith, s.1)
+ends_on (Literal literal) w i j s = omega (arith, s.1)
+ends_on (Choice literals) w i j s = let long = s.4 in omega (arith, long)
+
+pub span_lies : (form : DirectForm) (w : List ℕ) (p : ℕ) (r : Option (ℕ × ℕ)) → FirstSpan form w p r → IfSome r (λ f. (p ≤ f.0) × (f.0 ≤ f.1) × (f.1 ≤ length w))
+span_lies form w p None none = tt
+span_lies form w p (Some f) span = (span.0.0, ends_on form w f.0 f.1 span.1.0, span.1.1)
+
+-- the null string takes no look
+pub null_counts : (s : ℕ) (r : Option (ℕ × ℕ)) → IfSome r (λ f. f.1 ≡ f.0) → IfSome r (λ f. TakesAtLeast s s (f.1 - f.0))
+null_counts s None null = tt
+null_counts s (Some f) null = least_none s (f.1 - f.0) (omega (arith, null))
+
+-- an expression of the form
+module _ (e : Written) (form : DirectForm) (is : IsDirect e form) (w : List ℕ) (bytes : AreBytes w) (p : ℕ) where
+  -- no match begins where none can
+  none_starts : (i k : ℕ) → i ≤ length w → (CanStart form w i → ⊥) → Spans (tree e) w i k → ⊥
+  none_starts i k within none s = none (spans_start form w i k ((is.0 w bytes i k within).0 s))
+
+  pub direct_some : StartsFrom form w p ↔ SomeFound (tree e) w p
+  direct_some = (
+    (λ s. let span = start_spans form w s.0 s.3 in (s.0, span.0, s.1, s.2, (is.0 w bytes s.0 span.0 s.2).1 span.1)),
+    (λ f. (f.0, f.2, f.3, spans_start form w f.0 f.1 ((is.0 w bytes f.0 f.1 f.3).0 f.4))),
+  )
+
+  pub direct_answer : (r : Option (ℕ × ℕ)) → FirstSpan form w p r → SpanAnswer (tree e) w p r
+  direct_answer None none = (tt, (λ i k low within s. none_starts i k within (none i low within) s), tt)
+  direct_answer (Some f) span = (
+    record {
+      after = span.0.0;
+      spans = (is.0 w bytes f.0 f.1 span.0.1).1 span.1.0;
+      longest = λ k s. span.1.2 k ((is.0 w bytes f.0 k span.0.1).0 s);
+      leftmost = λ h k low lt s. none_starts h k (let within = span.0.1 in omega (arith, within, lt)) (span.0.3 h low lt) s;
+    },
+    tt,
+    (ends_on form w f.0 f.1 span.1.0, span.1.1),
+  )

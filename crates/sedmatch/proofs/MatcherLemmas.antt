@@ -1,0 +1,189 @@
+-- A matcher: that what it answers is of the expression that it seeks, and what it costs.
+use Rattle.std.proofs.Common.{◌≡◌, ◌∙◌, ℕ, zero, suc, ◌+◌, ◌-◌, ◌*◌, ◌<◌, ◌≤◌, Bool, true, false, List, length, Option, Some, None, IfSome, IsTrue, refl, sym, ap, subst, true≢false, arith, mul-le-mul_left, mul-add}
+use Rattle.std.specs.Prelude.{is_some, nat_lt, not, if◌then◌else◌}
+use Rattle.std.specs.Option.{unwrap_or}
+use Rattle.std.proofs.lemmas.Bool.Decides.{nat_tests}
+use Rattle.sedre.specs.Arena.{Written}
+use Rattle.sedre.specs.Tree.{Tree}
+use Rattle.sedmarks.specs.Costs.{Pays}
+use Rattle.sedmarks.specs.Answer.{SpanAnswer}
+use Rattle.sedmarks.specs.Following.{EndsWithin, LiesOn, next_span}
+use Rattle.sedmarks.specs.Matching.{found}
+use Rattle.sedmarks.specs.NextMatch.{unless_null_at}
+use Rattle.sedpass.specs.Occurrences.{owed_behind}
+use Rattle.sedpass.proofs.OccurrenceLemmas.{answer_found, passed_by, search_falls}
+use Rattle.sedmatch.specs.Direct.{IsDirect, end_or}
+use Rattle.sedmatch.specs.Occurrences.{Serves, ServesOn, owed, owed_after, owed_direct, owed_direct_after}
+use Rattle.sedmatch.specs.Passes.{IsEngine, written_of}
+use Rattle.sedmatch.specs.declared.direct.DirectForm.{DirectForm}
+use Rattle.sedmatch.specs.declared.occurrences.Occurrences.{Occurrences}
+use Rattle.sedmatch.specs.declared.table_matcher.Engine.{Engine}
+use Rattle.sedmatch.specs.declared.table_matcher.Engine.TheVariants.{Direct}
+
+-- What the expression is.
+
+pub direct_is : (m : Engine) (v e : Written) (form : DirectForm) → written_of m ≡ v → IsEngine m → m ≡ Direct e form → IsDirect v form
+direct_is m v e form view inv is = subst (λ x. IsDirect x form) (sym (ap written_of is) ∙ view) (subst IsEngine is inv)
+
+pub written_is : (m : Engine) (v e : Written) (form : DirectForm) → written_of m ≡ v → m ≡ Direct e form → e ≡ v
+written_is m v e form view is = sym (ap written_of is) ∙ view
+
+-- What it finds and costs, by a look at the text.
+
+-- the match one byte further on
+pub further : (n at : ℕ) (r x : Option (ℕ × ℕ)) → (at < n → r ≡ x) → (n ≤ at → r ≡ None) → r ≡ (if nat_lt at n then x else None)
+further n at r x on off = by (nat_lt at n) refl
+  where
+    by : (b : Bool) → nat_lt at n ≡ b → r ≡ (if b then x else None)
+    by true is = on (grind (arith, nat_tests))
+    by false is = off (grind (arith, nat_tests))
+
+pub few_of : (m k r : ℕ) → r ≤ 14 * m → r * k ≤ 14 * m * k
+few_of m k r h = let a = mul-le-mul_left k h in omega (arith, a)
+
+pub none_of : (last : Option ℕ) (b : Bool) → is_some last ≡ not b → b ≡ true → last ≡ None
+none_of None b is yes' = refl
+none_of (Some q) b is yes' = absurd (true≢false (is ∙ ap not yes'))
+
+pub some_of : (last : Option ℕ) (b : Bool) (at : ℕ) → is_some last ≡ not b → b ≡ false → at ≡ unwrap_or last 0 → last ≡ Some at
+some_of None b at is no' at_is = absurd (true≢false (sym (is ∙ ap not no')))
+some_of (Some q) b at is no' at_is = ap (λ v. Some v) (sym at_is)
+
+pub within_at : (n : ℕ) (last : Option ℕ) (at : ℕ) → at ≡ unwrap_or last 0 → EndsWithin n last → at ≤ n
+within_at n None at is within = omega (arith, is)
+within_at n (Some q) at is within = omega (arith, is, within)
+
+-- the first occurrence, and one that is behind another or is moved on from the null string there
+pub first_next : (e : Tree) (w : List ℕ) (last : Option ℕ) (at : ℕ) (r : Option (ℕ × ℕ)) → last ≡ None → at ≡ unwrap_or last 0 → SpanAnswer e w at r → r ≡ next_span (found e w) (length w) last
+first_next e w None at r is at_is answer = answer_found e w 0 r (omega arith) (subst (λ v. SpanAnswer e w v r) at_is answer)
+first_next e w (Some q) at r is at_is answer = absurd (let h : Some q ≡ None = is in cc)
+
+pub next_by_null : (e : Tree) (w : List ℕ) (last : Option ℕ) (at : ℕ) (first r : Option (ℕ × ℕ)) (b b' : Bool) → last ≡ Some at → at ≤ length w → SpanAnswer e w at first →
+    ((other : Option (ℕ × ℕ)) → unless_null_at (λ (f : ℕ × ℕ). f) at first other ≡ (if b then other else first)) → b ≡ b' →
+    r ≡ (if b' then (if nat_lt at (length w) then found e w (at + 1) else None) else first) → r ≡ next_span (found e w) (length w) last
+next_by_null e w last at first r b b' is low answer passed same r_is =
+    let other : Option (ℕ × ℕ) = if nat_lt at (length w) then found e w (at + 1) else None in
+    subst (λ v. r ≡ next_span (found e w) (length w) v) (sym is) (passed_by at first (found e w at) other r b b' (answer_found e w at first low answer) (passed other) same r_is)
+
+-- the first look answers
+pub look_paid : (m n r s t : ℕ) (last : Option ℕ) (at : ℕ) (f : Option (ℕ × ℕ)) → r ≤ 14 * m → at ≡ unwrap_or last 0 → at ≤ n → Pays s t (r * (end_or n f + 1)) (r * at) → IfSome f (LiesOn n last) →
+    Pays s t (owed_direct m n last) (owed_direct_after m n f)
+look_paid m n r s t None at None small is low pays lies =
+    let a = few_of m (n + 1) r small in (pays.0, (let h = pays.1 in omega (arith, a, h)))
+look_paid m n r s t None at (Some f) small is low pays lies =
+    let rest : n + 1 ≡ n + 1 - f.1 + f.1 = (let on = lies.1 in omega (arith, on)) in
+    let a = few_of m (f.1 + 1) r small in
+    let b : 28 * m * (n + 1) ≡ 28 * m * (n + 1 - f.1) + 28 * m * f.1 = ap (λ x. 28 * m * x) rest ∙ mul-add (28 * m) (n + 1 - f.1) f.1 in
+    (pays.0, (let h = pays.1 in omega (arith, a, b, h)))
+look_paid m n r s t (Some q) at None small is low pays lies =
+    let rest : n + 1 ≡ q + (n + 1 - q) = omega (arith, is, low) in
+    let a = few_of m (n + 1 - q) r small in
+    let b : r * (n + 1) ≡ r * q + r * (n + 1 - q) = ap (λ x. r * x) rest ∙ mul-add r q (n + 1 - q) in
+    let c : r * at ≡ r * q = ap (λ x. r * x) is in
+    (pays.0, (let h = pays.1 in omega (arith, a, b, c, h)))
+look_paid m n r s t (Some q) at (Some f) small is low pays lies =
+    let after = lies.2.1 in
+    let on = lies.1 in
+    let one : f.1 + 1 ≡ q + (f.1 + 1 - q) = omega (arith, after) in
+    let two : n + 1 - q ≡ n + 1 - f.1 + (f.1 - q) = omega (arith, after, on) in
+    let twice : f.1 + 1 - q ≤ 2 * (f.1 - q) = omega (arith, after) in
+    let a = few_of m (f.1 + 1 - q) r small in
+    let b : r * (f.1 + 1) ≡ r * q + r * (f.1 + 1 - q) = ap (λ x. r * x) one ∙ mul-add r q (f.1 + 1 - q) in
+    let c : r * at ≡ r * q = ap (λ x. r * x) is in
+    let d : 28 * m * (n + 1 - q) ≡ 28 * m * (n + 1 - f.1) + 28 * m * (f.1 - q) = ap (λ x. 28 * m * x) two ∙ mul-add (28 * m) (n + 1 - f.1) (f.1 - q) in
+    let e = mul-le-mul_left (14 * m) twice in
+    (pays.0, (let h = pays.1 in omega (arith, a, b, c, d, e, h)))
+
+-- or the second one, after the null string at a place
+pub looks_paid : (m n r s u t q : ℕ) (f : Option (ℕ × ℕ)) → r ≤ 14 * m → q ≤ n → Pays s u (r * (q + 1)) (r * q) → Pays u t (r * (end_or n f + 1)) (r * (q + 1)) → IfSome f (λ g. (q < g.0) × (g.0 ≤ g.1) × (g.1 ≤ n)) →
+    Pays s t (owed_direct m n (Some q)) (owed_direct_after m n f)
+looks_paid m n r s u t q None small low one two lies =
+    let rest : n + 1 ≡ q + (n + 1 - q) = omega (arith, low) in
+    let a = few_of m (n + 1 - q) r small in
+    let b : r * (n + 1) ≡ r * q + r * (n + 1 - q) = ap (λ x. r * x) rest ∙ mul-add r q (n + 1 - q) in
+    (omega (arith, one.0, two.0), (let h = one.1 in let k = two.1 in omega (arith, a, b, h, k)))
+looks_paid m n r s u t q (Some f) small low one two lies =
+    let after = lies.0 in
+    let up = lies.1 in
+    let on = lies.2 in
+    let far : f.1 + 1 ≡ q + (f.1 + 1 - q) = omega (arith, after, up) in
+    let rest : n + 1 - q ≡ n + 1 - f.1 + (f.1 - q) = omega (arith, after, up, on) in
+    let twice : f.1 + 1 - q ≤ 2 * (f.1 - q) = omega (arith, after, up) in
+    let a = few_of m (f.1 + 1 - q) r small in
+    let b : r * (f.1 + 1) ≡ r * q + r * (f.1 + 1 - q) = ap (λ x. r * x) far ∙ mul-add r q (f.1 + 1 - q) in
+    let d : 28 * m * (n + 1 - q) ≡ 28 * m * (n + 1 - f.1) + 28 * m * (f.1 - q) = ap (λ x. 28 * m * x) rest ∙ mul-add (28 * m) (n + 1 - f.1) (f.1 - q) in
+    let e = mul-le-mul_left (14 * m) twice in
+    (omega (arith, one.0, two.0), (let h = one.1 in let k = two.1 in omega (arith, a, b, d, e, h, k)))
+
+pub end_low : (n : ℕ) (f : Option (ℕ × ℕ)) → IfSome f (λ g. g.1 ≤ n) → end_or n f ≤ n
+end_low n None h = omega arith
+end_low n (Some f) h = h
+
+-- What a search costs, by either way.
+
+least : (m n q : ℕ) (o : Occurrences) (f s t : ℕ) → q ≤ f → f ≤ n → t + owed_direct m n (Some f) ≤ s + owed_direct m n (Some q) → t + owed_behind m n o.seeking f ≤ s + owed_behind m n o.seeking q
+least m n q o f s t up on pays =
+    let rest : n + 1 - q ≡ n + 1 - f + (f - q) = omega (arith, up, on) in
+    let a : 28 * m * (n + 1 - q) ≡ 28 * m * (n + 1 - f) + 28 * m * (f - q) = ap (λ x. 28 * m * x) rest ∙ mul-add (28 * m) (n + 1 - f) (f - q) in
+    let b : 84 * m * (n + 1 - q) ≡ 84 * m * (n + 1 - f) + 84 * m * (f - q) = ap (λ x. 84 * m * x) rest ∙ mul-add (84 * m) (n + 1 - f) (f - q) in
+    let falls = search_falls m n o.seeking q f up in
+    omega (arith, a, b, falls, pays)
+
+pub direct_owed : (m n : ℕ) (last : Option ℕ) (o : Occurrences) (r : Option (ℕ × ℕ)) (s t : ℕ) → (last ≡ None → IsTrue o.is_fresh) → IfSome r (LiesOn n last) → Pays s t (owed_direct m n last) (owed_direct_after m n r) →
+    Pays s t (owed m n last o) (owed_after m n r o)
+direct_owed m n last o r s t fresh lies pays = (pays.0, by o.is_fresh refl)
+  where
+    open_to : (b : Bool) (q : ℕ) → o.is_fresh ≡ b → owed m n (Some q) o ≡ (if b then 372 * m * (n + 1) + owed_direct m n (Some q) else owed_behind m n o.seeking q)
+    open_to b q is = ap (λ (v : Bool). if v then 372 * m * (n + 1) + owed_direct m n (Some q) else owed_behind m n o.seeking q) is
+
+    to : (b : Bool) → o.is_fresh ≡ b → (last : Option ℕ) (r : Option (ℕ × ℕ)) → (last ≡ None → IsTrue o.is_fresh) → IfSome r (LiesOn n last) → t + owed_direct_after m n r ≤ s + owed_direct m n last → t + owed_after m n r o ≤ s + owed m n last o
+    to true is None None fresh lies h = omega (arith, h)
+    to true is None (Some f) fresh lies h = let a = open_to true f.1 is in omega (arith, a, h)
+    to true is (Some q) None fresh lies h = let a = open_to true q is in omega (arith, a, h)
+    to true is (Some q) (Some f) fresh lies h = let a = open_to true q is in let b = open_to true f.1 is in omega (arith, a, b, h)
+    to false is None r fresh lies h = absurd (true≢false (sym (fresh refl) ∙ is))
+    to false is (Some q) None fresh lies h =
+        let a = open_to false q is in
+        let b : 28 * m * (n + 1 - q) ≤ 84 * m * (n + 1 - q) = (let z : 0 ≤ m * (n + 1 - q) = omega arith in omega (arith, z)) in
+        omega (arith, a, b, h)
+    to false is (Some q) (Some f) fresh lies h =
+        let a = open_to false q is in
+        let b = open_to false f.1 is in
+        let after = lies.2.1 in
+        let c = least m n q o f.1 s t (omega (arith, after)) lies.1 h in
+        omega (arith, a, b, c)
+
+    by : (b : Bool) → o.is_fresh ≡ b → t + owed_after m n r o ≤ s + owed m n last o
+    by b is = to b is last r fresh lies pays.1
+
+pub direct_once : (m n : ℕ) → 28 * m * (n + 1) ≤ 64 * m * m * (n + 1) * (n + 1)
+direct_once zero n = omega arith
+direct_once (suc m) n =
+    let one : 1 ≤ n + 1 = omega arith in
+    let a = mul-le-mul_left (64 * suc m * suc m * (n + 1)) one in
+    let b : 1 ≤ suc m = omega arith in
+    let c = mul-le-mul_left (64 * suc m * (n + 1)) b in
+    omega (arith, a, c)
+
+-- what is kept serves on, where it was not looked at
+pub serves_same : (e : Written) (w : List ℕ) (last : Option ℕ) (o : Occurrences) (r : Option (ℕ × ℕ)) → Serves e w last o → ServesOn e w r o o
+serves_same e w last o None serves = ((refl, λ text es sought room. room), tt)
+serves_same e w last o (Some f) serves = ((refl, λ text es sought room. room), record { room = serves.room; fresh = λ h. cc; used = serves.used })
+
+square : (n : ℕ) → 4 * n ≤ (n + 1) * (n + 1)
+square zero = omega arith
+square (suc n) = omega arith
+
+-- the groups of a match of so many bytes, in a text of n bytes
+pub groups_within : (m n long : ℕ) → 1 ≤ m → long ≤ n → 172 * m * (m - 1) * long + 2 * m ≤ 51 * m * m * (n + 1) * (n + 1)
+groups_within m n long some few =
+    let k = m - 1 in
+    let is : m ≡ k + 1 = omega arith in
+    let sq = square n in
+    let ksq = mul-le-mul_left k sq in
+    let inner : 172 * (k * n) + 2 ≤ 51 * (k + 1) * (n + 1) * (n + 1) = omega (arith, sq, ksq) in
+    let a = mul-le-mul_left m inner in
+    let b : 51 * m * m * (n + 1) * (n + 1) ≡ 51 * m * (k + 1) * (n + 1) * (n + 1) = ap (λ v. 51 * m * v * (n + 1) * (n + 1)) is in
+    let c : 172 * m * (m - 1) * long ≡ 172 * m * k * long = ap (λ v. 172 * m * v * long) (omega arith) in
+    let d = mul-le-mul_left (172 * m * k) few in
+    omega (arith, a, b, c, d)

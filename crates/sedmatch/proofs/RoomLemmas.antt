@@ -1,0 +1,33 @@
+-- Room to seek all occurrences in a text.
+use Rattle.std.proofs.Common.{ℕ, ◌≤◌, List, arith}
+use Rattle.sedre.specs.Arena.{Written}
+use Rattle.sedmatch.specs.Occurrences.{RoomFor}
+use Rattle.sedmatch.specs.declared.occurrences.Occurrences.{Occurrences}
+
+-- room for longer texts is room for shorter ones
+pub room_within : (text more : ℕ) (es : List Written) (o : Occurrences) → text ≤ more → RoomFor more es o → RoomFor text es o
+room_within text more es o short h = record {
+  each = λ x e at.
+      let r = h.each x e at in
+      record {
+        shared = (
+          r.shared.0,
+          λ t is.
+              let s = r.shared.1 t is in
+              let k = s.2 in (
+                s.0,
+                s.1,
+                record {
+                  mirrored = k.mirrored;
+                  keeps = k.keeps;
+                  places = let all = k.places in omega (arith, all, short);
+                  blocks = λ b low. k.blocks b (omega (arith, low, short));
+                  marks = k.marks;
+                },
+              ),
+        );
+        few = r.few;
+        own = r.own;
+      };
+  apart = h.apart;
+}

@@ -1,0 +1,7 @@
+use Rattle.sedmatch.proofs.DirectLemmas.{direct_some}
+use Rattle.sedmatch.proofs.direct.direct_matches.Goals as goal
+
+pub returns-clause-matches : goal.returns-clause-matches
+returns-clause-matches c e is =
+    let some = direct_some e c.args.form.now is c.args.text.now c.are_bytes.ensures c.args.from in
+    ((λ h. some.0 (c.can_match.ensures.starts.0 h)), (λ f. c.can_match.ensures.starts.1 (some.1 f)))

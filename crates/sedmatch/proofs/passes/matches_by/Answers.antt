@@ -1,0 +1,28 @@
+use Rattle.std.proofs.Common.{length}
+use Rattle.sedre.specs.Arena.{tree}
+use Rattle.sedmatch.proofs.PassLemmas.{any_serves, matches_past, search_again}
+use Rattle.sedmatch.proofs.passes.matches_by.Goals as goal
+
+pub matches_with-requires-clause-from : goal.matches_with-requires-clause-from
+matches_with-requires-clause-from c = (c.in-Some.ensures.place (tree c.args.passes.now.sought.prepared.expr) c.requires.passes.0.hints).1
+
+pub returns-in-Some-own-clause-matches : goal.returns-in-Some-own-clause-matches
+returns-in-Some-own-clause-matches c =
+    let e = tree c.args.passes.now.sought.prepared.expr in
+    matches_past c.matches_with.result e c.args.text.now c.args.from c.in-Some.start (c.in-Some.ensures.place e c.requires.passes.0.hints) c.matches_with.ensures.matches
+
+pub fit-requires : goal.fit-requires
+fit-requires c = record { roomy = any_serves (length c.args.passes.now.sought.prepared.expr.nodes) c.args.desk.now c.requires.desk c.requires.few }
+
+pub matches_with-requires-2-clause-from : goal.matches_with-requires-2-clause-from
+matches_with-requires-2-clause-from c = (c.in-Some.ensures.place (tree c.args.passes.now.sought.prepared.expr) c.requires.passes.0.hints).1
+
+pub returns-clause-desk : goal.returns-clause-desk
+returns-clause-desk c =
+    search_again c.args.desk.now c.args.passes.now.sought.prepared c.matches_with-2.new.work c.fit.new.self c.matches_with-2.new.any c.fit-2.new.self c.matches_with-2.new.ahead c.requires.desk
+    c.fit.ensures.room c.matches_with-2.ensures.any_shape c.matches_with-2.ensures.any.table c.fit-2.ensures.room c.matches_with-2.ensures.ahead_shape c.matches_with-2.ensures.ahead.table
+
+pub returns-clause-matches : goal.returns-clause-matches
+returns-clause-matches c =
+    let e = tree c.args.passes.now.sought.prepared.expr in
+    matches_past c.matches_with-2.result e c.args.text.now c.args.from c.in-Some.start (c.in-Some.ensures.place e c.requires.passes.0.hints) c.matches_with-2.ensures.matches

@@ -1,0 +1,70 @@
+use Rattle.std.proofs.Common.{◌≡◌, ◌∙◌, ◌+◌, ◌*◌, ◌≤◌, true, false, IfSome, length, refl, sym, subst}
+use Rattle.std.specs.Option.{unwrap_or}
+use Rattle.sedre.specs.Arena.{tree}
+use Rattle.sedmarks.specs.Costs.{Pays}
+use Rattle.sedmarks.specs.Following.{LiesOn}
+use Rattle.sedpass.proofs.OccurrenceLemmas.{lies_behind}
+use Rattle.sedpass.proofs.SearchLemmas.{found_since}
+use Rattle.sedmatch.specs.Direct.{end_or, rate}
+use Rattle.sedmatch.specs.Occurrences.{owed_direct, owed_direct_after}
+use Rattle.sedmatch.proofs.MatcherLemmas.{first_next, look_paid, looks_paid, next_by_null, none_of, some_of, within_at}
+use Rattle.sedmatch.proofs.OccurrenceLemmas.{lies_first}
+use Rattle.sedmatch.proofs.table_matcher.next_direct.Goals as goal
+use Rattle.sedmatch.proofs.table_matcher.next_direct.Goals.{then-is_none-via-then-is_none, then-is_none-via-else-is_none+then-not-is_null_at}
+
+pub returns-then-is_none-clause-next : goal.returns-then-is_none-clause-next
+returns-then-is_none-clause-next c = λ e is.
+    let w = c.args.text.now in
+    let first = c.direct_span-first.result in
+    let at = c.unwrap_or-at.result in
+    let answer = c.direct_span-first.ensures.answer e is in
+    elim c.then-is_none.branch [
+      | then-is_none-via-then-is_none v ↦ first_next (tree e) w c.args.last at first (none_of c.args.last c.is_none.result c.is_none.ensures v.if-is_none.true) c.unwrap_or-at.ensures answer
+      | then-is_none-via-else-is_none+then-not-is_null_at v ↦
+          next_by_null (tree e) w c.args.last at first first v.is_null_at.result false (some_of c.args.last c.is_none.result at c.is_none.ensures v.if-is_none.false c.unwrap_or-at.ensures)
+          (within_at (length w) c.args.last at c.unwrap_or-at.ensures c.requires.last) answer v.is_null_at.ensures.passed (cc) refl
+    ]
+
+lies_in : (c : goal.Joined-then-is_none) → IfSome c.direct_span-first.result (LiesOn (length c.args.text.now) c.args.last)
+lies_in c =
+    let n = length c.args.text.now in
+    let first = c.direct_span-first.result in
+    let at = c.unwrap_or-at.result in
+    let lies = c.direct_span-first.ensures.lies in
+    elim c.then-is_none.branch [
+      | then-is_none-via-then-is_none v ↦
+          let none = none_of c.args.last c.is_none.result c.is_none.ensures v.if-is_none.true in
+          let zero : at ≡ 0 = c.unwrap_or-at.ensures ∙ subst (λ l. unwrap_or l 0 ≡ 0) (sym none) refl in
+          subst (λ l. IfSome first (LiesOn n l)) (sym none) (lies_first n first (subst (λ k. IfSome first (λ f. (k ≤ f.0) × (f.0 ≤ f.1) × (f.1 ≤ n))) zero lies))
+      | then-is_none-via-else-is_none+then-not-is_null_at v ↦
+          let some = some_of c.args.last c.is_none.result at c.is_none.ensures v.if-is_none.false c.unwrap_or-at.ensures in
+          subst (λ l. IfSome first (LiesOn n l)) (sym some) (lies_behind n at first lies (v.is_null_at.ensures.after (cc)))
+    ]
+
+pub returns-then-is_none-clause-cost : goal.returns-then-is_none-clause-cost
+returns-then-is_none-clause-cost c = λ e is.
+    let n = length c.args.text.now in
+    look_paid (length e.nodes) n (rate c.args.form.now) c.args.steps.now c.direct_span-first.new.steps c.args.last c.unwrap_or-at.result c.direct_span-first.result is.2 c.unwrap_or-at.ensures
+    (within_at n c.args.last c.unwrap_or-at.result c.unwrap_or-at.ensures c.requires.last) c.direct_span-first.ensures.cost (lies_in c)
+
+pub returns-clause-next : goal.returns-clause-next
+returns-clause-next c = λ e is.
+    let w = c.args.text.now in
+    let at = c.unwrap_or-at.result in
+    next_by_null (tree e) w c.args.last at c.direct_span-first.result c.past_null.result c.is_null_at.result true (some_of c.args.last c.is_none.result at c.is_none.ensures c.if-is_none.false c.unwrap_or-at.ensures)
+    (within_at (length w) c.args.last at c.unwrap_or-at.ensures c.requires.last) (c.direct_span-first.ensures.answer e is) c.is_null_at.ensures.passed c.if-not-is_null_at.false (c.past_null.ensures.next e is)
+
+pub returns-clause-cost : goal.returns-clause-cost
+returns-clause-cost c = λ e is.
+    let n = length c.args.text.now in
+    let m = length e.nodes in
+    let at = c.unwrap_or-at.result in
+    let r = rate c.args.form.now in
+    let some = some_of c.args.last c.is_none.result at c.is_none.ensures c.if-is_none.false c.unwrap_or-at.ensures in
+    let one : Pays c.args.steps.now c.direct_span-first.new.steps (r * (at + 1)) (r * at) =
+    subst (λ f. Pays c.args.steps.now c.direct_span-first.new.steps (r * (end_or n f + 1)) (r * at)) (c.is_null_at.ensures.null c.if-not-is_null_at.false) c.direct_span-first.ensures.cost in
+    subst (λ l. Pays c.args.steps.now c.past_null.new.steps (owed_direct m n l) (owed_direct_after m n c.past_null.result)) (sym some)
+    (looks_paid m n r c.args.steps.now c.direct_span-first.new.steps c.past_null.new.steps at c.past_null.result is.2 (within_at n c.args.last at c.unwrap_or-at.ensures c.requires.last) one c.past_null.ensures.cost c.past_null.ensures.lies)
+
+pub returns-clause-counts : goal.returns-clause-counts
+returns-clause-counts c = found_since c.args.steps.now c.direct_span-first.new.steps c.past_null.new.steps c.past_null.result c.direct_span-first.ensures.cost.0 c.past_null.ensures.counts

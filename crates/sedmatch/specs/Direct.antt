@@ -1,0 +1,101 @@
+-- Private to the proofs: no contract that `sedmatch` makes public cites what stands here.
+-- Expressions whose matches a look at the text tells.
+use Rattle.std.specs.Prelude.{◌≡◌, ℕ, ◌+◌, ◌*◌, ◌<◌, ◌≤◌, ◌↔◌, Bool, List, length, slice_get, Option, Some, None, IsTrue}
+use Rattle.memchr.specs.Find.{OccursAt}
+use Rattle.sedre.specs.Arena.{Written, tree}
+use Rattle.sedre.specs.Tree.{Tree}
+use Rattle.sedmarks.specs.Bytes.{AreBytes, FirstFrom}
+use Rattle.sedmarks.specs.RunsAhead.{Repeated}
+use Rattle.sedmarks.specs.Spans.{Spans, IsIn}
+use Rattle.sedneedles.specs.Choice.{ChoiceAt, ChoiceSpans}
+use Rattle.sedneedles.specs.Few.{HasFew}
+use Rattle.sedneedles.specs.Times.{HasTimes}
+use Rattle.sedneedles.specs.Word.{WordSpans}
+use Rattle.sedmatch.specs.declared.direct.Anchor.{Anchor as Anchors}
+use Rattle.sedmatch.specs.declared.direct.First.{First}
+use Rattle.sedmatch.specs.declared.direct.First.TheVariants.{Among, Member}
+use Rattle.sedmatch.specs.declared.direct.DirectForm.{DirectForm}
+use Rattle.sedmatch.specs.declared.direct.DirectForm.TheVariants.{Anchor, OneByte, Run, ByteThenRun, RunThenByte, Times, Literal, Choice}
+
+-- the byte can come first
+abbrev pub ComesFirst : First → ℕ → Type 0
+ComesFirst (Among few) c = HasFew few c
+ComesFirst (Member s) c = IsIn c s
+
+-- the byte at the place can come first
+abbrev pub StartsWith : First → List ℕ → ℕ → Type 0
+StartsWith first w i = (c : ℕ) × (slice_get w i ≡ Some c) × ComesFirst first c
+
+-- the anchors hold at the place
+abbrev pub Holds : Anchors → List ℕ → ℕ → Type 0
+Holds anchors w i = (IsTrue anchors.at_start → i ≡ 0) × (IsTrue anchors.at_end → i ≡ length w)
+
+-- bytes of the set lead from i to the first place at which the byte stands that ends them
+abbrev pub RunsTo : List Bool → First → List ℕ → ℕ → ℕ → Type 0
+RunsTo members last w i k = Repeated members w i k × StartsWith last w k × ((h : ℕ) → i ≤ h → h < k → StartsWith last w h → ⊥)
+
+-- what matches from i to j
+abbrev pub FormSpans : DirectForm → List ℕ → ℕ → ℕ → Type 0
+FormSpans (Anchor anchors) w i j = Holds anchors w i × (j ≡ i)
+FormSpans (OneByte first) w i j = StartsWith first w i × (j ≡ i + 1)
+FormSpans (Run members) w i j = Repeated members w i j
+FormSpans (ByteThenRun first members) w i j = StartsWith first w i × Repeated members w (i + 1) j
+FormSpans (RunThenByte members last) w i j = (k : ℕ) × RunsTo members last w i k × (j ≡ k + 1)
+FormSpans (Times members count) w i j = HasTimes members count w i j
+FormSpans (Literal literal) w i j = WordSpans literal w i j
+FormSpans (Choice literals) w i j = ChoiceSpans literals w i j
+
+-- the spans of the expression in a text of bytes are these
+abbrev pub SpannedAs : Tree → DirectForm → Type 0
+SpannedAs e form = (w : List ℕ) → AreBytes w → (i j : ℕ) → i ≤ length w → Spans e w i j ↔ FormSpans form w i j
+
+-- how many looks there are at most for each byte that is passed
+abbrev pub rate : DirectForm → ℕ
+rate (Choice literals) = 42
+rate other = 4
+
+-- the expression is of this form: its spans are those of the form, it has no groups, and its nodes pay for the looks
+abbrev pub IsDirect : Written → DirectForm → Type 0
+IsDirect e form = SpannedAs (tree e) form × (e.groups ≡ 0) × (rate form ≤ 14 * length e.nodes)
+
+-- what matches can begin at the place
+abbrev pub CanStart : DirectForm → List ℕ → ℕ → Type 0
+CanStart (Anchor anchors) w i = Holds anchors w i
+CanStart (OneByte first) w i = StartsWith first w i
+CanStart (Run members) w i = Unit {0}
+CanStart (ByteThenRun first members) w i = StartsWith first w i
+CanStart (RunThenByte members last) w i = (k : ℕ) × RunsTo members last w i k
+CanStart (Times members count) w i = Repeated members w i (i + count)
+CanStart (Literal literal) w i = OccursAt w literal i
+CanStart (Choice literals) w i = ChoiceAt literals w i
+
+-- a match begins at some place from p on
+abbrev pub StartsFrom : DirectForm → List ℕ → ℕ → Type 0
+StartsFrom form w p = (k : ℕ) × (p ≤ k) × (k ≤ length w) × CanStart form w k
+
+-- the first place from p on at which the byte can come first
+abbrev pub FirstWith : First → List ℕ → ℕ → Option ℕ → Type 0
+FirstWith first w = FirstFrom (StartsWith first w)
+
+-- the first place from p on at which a match begins
+abbrev pub FirstStart : DirectForm → List ℕ → ℕ → Option ℕ → Type 0
+FirstStart form w p None = (k : ℕ) → p ≤ k → k ≤ length w → CanStart form w k → ⊥
+FirstStart form w p (Some k) = (p ≤ k) × (k ≤ length w) × CanStart form w k × ((h : ℕ) → p ≤ h → h < k → CanStart form w h → ⊥)
+
+-- the longest match from i ends at j
+abbrev pub EndsAt : DirectForm → List ℕ → ℕ → ℕ → Type 0
+EndsAt form w i j = FormSpans form w i j × (j ≤ length w) × ((k : ℕ) → FormSpans form w i k → k ≤ j)
+
+-- the longest of the matches that begin first from p on, if there is one
+abbrev pub FirstSpan : DirectForm → List ℕ → ℕ → Option (ℕ × ℕ) → Type 0
+FirstSpan form w p None = FirstStart form w p None
+FirstSpan form w p (Some f) = FirstStart form w p (Some f.0) × EndsAt form w f.0 f.1
+
+-- where the match found ends, or the end n of the text
+abbrev pub end_or : ℕ → Option (ℕ × ℕ) → ℕ
+end_or n None = n
+end_or n (Some f) = f.1
+
+-- of the places from p on, i is the first from which all bytes up to but not including q are in the set
+abbrev pub RunBegins : List Bool → List ℕ → ℕ → ℕ → ℕ → Type 0
+RunBegins members w p q i = (p ≤ i) × (i ≤ q) × Repeated members w i q × ((h : ℕ) → p ≤ h → h < i → Repeated members w h q → ⊥)

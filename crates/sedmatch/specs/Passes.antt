@@ -1,0 +1,57 @@
+-- Private to the proofs: no contract of a public item cites what stands here.
+-- An expression that is searched by passes, with its tables, and the room for passes.
+use Rattle.std.specs.Prelude.{◌≡◌, ◌+◌, ◌-◌, ◌/◌, ◌≤◌, true, false, length, Option, Some, None}
+use Rattle.sedre.specs.Arena.{Written, tree}
+use Rattle.sedmarks.specs.Beginnings.{AllBegin}
+use Rattle.sedneedles.specs.Hints.{AreHints}
+use Rattle.sedpass.specs.Decide.{AreGroupTables, AreRoomy, HasSpace}
+use Rattle.sedpass.specs.Table.{IsRoomy, IsTable}
+use Rattle.sedpass.specs.declared.nodes.Prepared.{Prepared}
+use Rattle.sedpass.specs.declared.rows.Way.{Way}
+use Rattle.sedmatch.specs.Direct.{IsDirect}
+use Rattle.sedmatch.specs.declared.passes.OwnTables.{OwnTables}
+use Rattle.sedmatch.specs.declared.passes.Passes.{Passes}
+use Rattle.sedmatch.specs.declared.passes.Sought.{Sought}
+use Rattle.sedmatch.specs.declared.scratch.Desk.{Desk}
+use Rattle.sedmatch.specs.declared.table_matcher.Engine.{Engine}
+use Rattle.sedmatch.specs.declared.table_matcher.Engine.TheVariants.{Direct, Passes as ByPasses}
+
+-- the way of passes forwards in which every place is a start
+abbrev pub any_way : Way
+any_way = record { mirrored = false; sweeps = true; keeps = false }
+
+-- what was found out is right for the expression
+pub record IsSought (e : Written) (s : Sought) : Type 0 where
+  pub expr : s.prepared.expr ≡ e
+  pub begins : AllBegin (tree e) s.begins
+  pub hints : AreHints (tree e) s.hints
+
+-- the tables, where the expression has some of its own, are for it
+abbrev pub AreOwn : Prepared → Option OwnTables → Type 0
+AreOwn p None = Unit {0}
+AreOwn p (Some t) = IsTable p t.any × (t.any.way ≡ any_way) × AreGroupTables p t.groups
+
+abbrev pub ArePasses : Written → Passes → Type 0
+ArePasses e p = IsSought e p.sought × AreOwn p.sought.prepared p.own
+
+-- the expression that is searched, and that it is searched rightly
+abbrev pub written_of : Engine → Written
+written_of (Direct e form) = e
+written_of (ByPasses p) = p.value.sought.prepared.expr
+
+abbrev pub IsEngine : Engine → Type 0
+IsEngine (Direct e form) = IsDirect e form
+IsEngine (ByPasses p) = ArePasses p.value.sought.prepared.expr p.value
+
+-- Passes can be made there over texts of at most `max_text` bytes, for expressions of at most `max_nodes` nodes, by the tables that
+-- serve all.
+pub record IsDesk (d : Desk) : Type 0 where
+  pub space : HasSpace d.max_text (d.max_text / (d.shared.inside.room - 1) + 1) d.max_nodes d.room
+  pub any : IsRoomy d.max_nodes d.any
+  pub any_way : d.any.way ≡ any_way
+  pub shared : AreRoomy d.max_nodes d.shared
+  pub few : length d.room.kept.edges ≤ 65536
+
+-- it is for the same texts and expressions
+abbrev pub SameDesk : Desk → Desk → Type 0
+SameDesk old new = (new.max_text ≡ old.max_text) × (new.max_nodes ≡ old.max_nodes)

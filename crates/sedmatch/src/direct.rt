@@ -1,0 +1,497 @@
+//! Direct forms: expressions whose matches a look at the text tells. Anchors alone, a byte of a set, a run of such bytes, a
+//! byte and a run, a run and the byte that ends it, always as many bytes of a set, a literal, one of a few literals.
+//!
+//! Where such a match begins is told by its bytes, and where the longest ends by those that follow, so that nothing
+//! has to be found out of the expression in a search. What a search costs falls with the place from which it starts: all
+//! matches of a text together cost no more than one pass over it.
+ghost use Rattle.std.specs.Prelude.{◌≡◌, ℕ, ◌+◌, ◌-◌, ◌*◌, ◌<◌, ◌≤◌, ◌↔◌, length, slice_get, Some, IfOk, IfSome, IsTrue};
+ghost use Rattle.sedre.specs.Arena.{IsArena, Written, tree};
+ghost use Rattle.sedre.specs.Steps.{Takes, Counted, TakesAtLeast};
+ghost use Rattle.sedre.specs.declared.types.Node.TheVariants.{Seq};
+ghost use Rattle.sedmarks.specs.Answer.{SpanAnswer};
+ghost use Rattle.sedmarks.specs.Bytes.{looked_at};
+ghost use Rattle.sedmarks.specs.Costs.{Pays};
+ghost use Rattle.sedmarks.specs.Spans.{SomeFound, IsIn};
+ghost use Rattle.sedmatch.specs.Candidates.{NoMatchBefore};
+ghost use Rattle.sedmatch.specs.Direct.{ComesFirst, FirstWith, FirstStart, FirstSpan, IsDirect, SpannedAs, StartsFrom, end_or, rate};
+ghost use Rattle.sedmatch.specs.declared.direct.DirectForm.TheVariants.{Anchor as AnchorForm, OneByte, Run, ByteThenRun, RunThenByte, Times, Literal, Choice as ChoiceForm};
+
+use crate::runs_back::run_begin;
+use crate::word::{Word, word_of};
+use sedmarks::counted::{Text, are_bytes};
+use sedmarks::members::{find_member, run_end};
+use sedmarks::runs_ahead::star_set;
+use sedneedles::choice::{Choice, choice_of};
+use sedneedles::few::{Few, members_of};
+use sedneedles::lookups::find_few;
+use sedneedles::times::{find_times, times_of};
+use sedre::{ByteSet, Expr, Node, NodeId, Steps};
+use std::alloc::{AllocError, Global};
+
+/// The byte that comes first in a match, or another byte of it that is sought alike.
+#[derive(Clone, Copy)]
+pub enum First {
+    /// One of these few.
+    Among(Few),
+    /// One of this set.
+    Member(ByteSet),
+}
+
+impl First {
+    /// Whether it can be this byte.
+    pub fn has(&self, byte: u8) -> bool
+        ensures { IsTrue result ↔ ComesFirst self.now byte }
+    {
+        match self {
+            First::Among(few) => few.has(byte),
+            First::Member(set) => set.has(byte),
+        }
+    }
+}
+
+/// Which anchors have to hold at a place.
+#[derive(Clone, Copy)]
+pub struct Anchor {
+    /// The beginning of the text.
+    pub at_start: bool,
+    /// The end of the text.
+    pub at_end: bool,
+}
+
+/// How the matches of an expression look.
+#[derive(Drop)]
+pub enum DirectForm {
+    /// The null string where the anchors hold.
+    Anchor(Anchor),
+    /// One byte.
+    OneByte(First),
+    /// Bytes of the set, any number of them.
+    Run(ByteSet),
+    /// One byte, and bytes of the set, any number of them.
+    ByteThenRun(First, ByteSet),
+    /// Bytes of the set, any number of them, and the first byte that ends them and isn't in the set.
+    RunThenByte(ByteSet, First),
+    /// As many bytes of the set as the number says.
+    Times(ByteSet, usize),
+    /// A literal of two bytes or more.
+    Literal(Word),
+    /// One of a few literals.
+    Choice(Choice),
+}
+
+/// A member of a set, as it is sought.
+fn first_of(set: &ByteSet) -> First
+    ensures { (c : ℕ) → c < 256 → ComesFirst result c ↔ IsIn c set.now }
+{
+    match members_of(set) {
+        Some(few) => First::Among(few),
+        None => First::Member(*set),
+    }
+}
+
+/// Whether no byte is in both sets.
+fn are_disjoint(these: &ByteSet, those: &ByteSet) -> bool
+    ensures { IsTrue result → (c : ℕ) → c < 256 → IsIn c these.now → IsIn c those.now → ⊥ }
+{
+    for byte in 0..256usize {
+        if these.has(byte as u8) && those.has(byte as u8) {
+            return false;
+        }
+    }
+    true
+}
+
+/// How the matches of the expression look, if it is of anchors alone.
+fn anchor_form(expr: &Expr, steps: &mut Steps) -> Option<DirectForm>
+    ensures form { IfSome result (λ f. SpannedAs (tree expr.now) f) }
+    ensures rate { IfSome result (λ f. rate f ≤ 4) }
+    ensures cost { Takes steps.old steps.new 3 }
+{
+    match expr.look(expr.root(), steps) {
+        Node::Begin => Some(DirectForm::Anchor(Anchor {
+            at_start: true,
+            at_end: false,
+        })),
+        Node::End => Some(DirectForm::Anchor(Anchor {
+            at_start: false,
+            at_end: true,
+        })),
+        Node::Seq(a, b) => both_anchors(expr, a, b, steps),
+        _ => None,
+    }
+}
+
+/// How the matches of a concatenation of these parts look, if the beginning is one and the end the other.
+fn both_anchors(expr: &Expr, a: NodeId, b: NodeId, steps: &mut Steps) -> Option<DirectForm>
+    requires root { slice_get expr.now.nodes (length expr.now.nodes - 1) ≡ Some (Seq a b) }
+    requires arena { IsArena expr.now.nodes }
+    ensures form { IfSome result (λ f. SpannedAs (tree expr.now) f) }
+    ensures rate { IfSome result (λ f. rate f ≤ 4) }
+    ensures cost { Takes steps.old steps.new 2 }
+{
+    match (expr.look(a, steps), expr.look(b, steps)) {
+        (Node::Begin, Node::End) => Some(DirectForm::Anchor(Anchor {
+            at_start: true,
+            at_end: true,
+        })),
+        _ => None,
+    }
+}
+
+/// How the matches of a concatenation of these parts look, if each is a run and the byte after it, which isn't in the
+/// set of the run.
+fn run_then_byte(expr: &Expr, a: NodeId, b: NodeId, steps: &mut Steps) -> Option<DirectForm>
+    requires root { slice_get expr.now.nodes (length expr.now.nodes - 1) ≡ Some (Seq a b) }
+    requires arena { IsArena expr.now.nodes }
+    ensures form { IfSome result (λ f. SpannedAs (tree expr.now) f) }
+    ensures rate { IfSome result (λ f. rate f ≤ 4) }
+    ensures cost { Takes steps.old steps.new 4 }
+{
+    let members = star_set(expr, a.index(), steps)?;
+    match expr.look(b, steps) {
+        Node::Set(set) => {
+            if are_disjoint(&members, &set) {
+                Some(DirectForm::RunThenByte(members, first_of(&set)))
+            } else {
+                None
+            }
+        }
+        _ => None,
+    }
+}
+
+/// How the matches of the expression look, if they are of one byte, a run or both.
+fn run_form(expr: &Expr, steps: &mut Steps) -> Option<DirectForm>
+    ensures form { IfSome result (λ f. SpannedAs (tree expr.now) f) }
+    ensures rate { IfSome result (λ f. rate f ≤ 4) }
+    ensures cost { Takes steps.old steps.new 6 }
+{
+    let root = expr.root().index();
+    match expr.look(expr.id(root), steps) {
+        Node::Set(set) => Some(DirectForm::OneByte(first_of(&set))),
+        Node::Seq(a, b) => match expr.look(a, steps) {
+            Node::Set(set) => {
+                let members = star_set(expr, b.index(), steps)?;
+                Some(DirectForm::ByteThenRun(first_of(&set), members))
+            }
+            _ => run_then_byte(expr, a, b, steps),
+        },
+        _ => {
+            let members = star_set(expr, root, steps)?;
+            Some(DirectForm::Run(members))
+        }
+    }
+}
+
+/// How the matches of the expression look, if they are a few literals.
+fn choice_form(
+    alloc: Global,
+    expr: &Expr,
+    steps: &mut Steps,
+) -> Result<Option<DirectForm>, AllocError>
+    ensures form { IfOk result (λ r. IfSome r (λ f. SpannedAs (tree expr.now) f)) }
+    ensures rate { IfOk result (λ r. IfSome r (λ f. rate f ≤ 14 * length expr.now.nodes)) }
+    ensures cost { Takes steps.old steps.new 1114144 }
+{
+    if expr.nodes() < 3 {
+        return Ok(None);
+    }
+    match choice_of(alloc, expr, steps)? {
+        Some(choice) => Ok(Some(DirectForm::Choice(choice))),
+        None => Ok(None),
+    }
+}
+
+/// How the matches of the expression look, if a look at the text tells them.
+fn form_of(alloc: Global, expr: &Expr, steps: &mut Steps) -> Result<Option<DirectForm>, AllocError>
+    ensures form { IfOk result (λ r. IfSome r (λ f. SpannedAs (tree expr.now) f)) }
+    ensures rate { IfOk result (λ r. IfSome r (λ f. rate f ≤ 14 * length expr.now.nodes)) }
+    ensures cost { Takes steps.old steps.new 1572913 }
+{
+    let _some = expr.nodes();
+    if let Some(form) = anchor_form(expr, steps) {
+        return Ok(Some(form));
+    }
+    if let Some(form) = run_form(expr, steps) {
+        return Ok(Some(form));
+    }
+    if let Some(word) = word_of(alloc, expr, steps)? {
+        return Ok(Some(DirectForm::Literal(word)));
+    }
+    if let Some((set, count)) = times_of(alloc, expr, steps)? {
+        return Ok(Some(DirectForm::Times(set, count)));
+    }
+    choice_form(alloc, expr, steps)
+}
+
+/// The direct form of the expression, if it has one. It fails only where a request for memory was refused.
+pub fn direct_form_of(
+    alloc: Global,
+    expr: &Expr,
+    steps: &mut Steps,
+) -> Result<Option<DirectForm>, AllocError>
+    ensures form { IfOk result (λ r. IfSome r (IsDirect expr.now)) }
+    ensures cost { Takes steps.old steps.new 1572913 }
+{
+    if expr.groups() > 0 {
+        return Ok(None);
+    }
+    form_of(alloc, expr, steps)
+}
+
+/// The first place from `from` on whose byte can come first.
+/// Counts a look for each byte from `from` to that place, or to the end where there is none.
+#[inline(always)]
+fn find_first(first: &First, text: &Text, from: usize, steps: &mut Steps) -> Option<usize>
+    requires from { from ≤ length text.now }
+    ensures first { FirstWith first.now text.now from result }
+    ensures cost { Takes steps.old steps.new (looked_at (length text.now) from result) }
+    ensures counts { Counted steps.old steps.new (looked_at (length text.now) from result) }
+{
+    match first {
+        First::Among(few) => find_few(text, few, from, steps),
+        First::Member(set) => find_member(text, set, from, steps),
+    }
+}
+
+/// The first place from `from` on at which the anchors hold.
+#[inline(always)]
+fn anchor_place(anchor: Anchor, text: &Text, from: usize) -> Option<usize>
+    requires from { from ≤ length text.now }
+    ensures start { FirstStart (AnchorForm anchor) text.now from result }
+{
+    let place = if anchor.at_end { text.len() } else { from };
+    if anchor.at_start && place > 0 {
+        None
+    } else {
+        Some(place)
+    }
+}
+
+/// The null string at the first place from `from` on at which the anchors hold.
+#[inline(always)]
+fn anchor_span(anchor: Anchor, text: &Text, from: usize) -> Option<(usize, usize)>
+    requires from { from ≤ length text.now }
+    ensures span { FirstSpan (AnchorForm anchor) text.now from result }
+    ensures null { IfSome result (λ f. f.1 ≡ f.0) }
+{
+    match anchor_place(anchor, text, from) {
+        None => None,
+        Some(place) => Some((place, place)),
+    }
+}
+
+/// The first byte from `from` on that is one.
+#[inline(always)]
+fn byte_span(first: &First, text: &Text, from: usize, steps: &mut Steps) -> Option<(usize, usize)>
+    requires from { from ≤ length text.now }
+    ensures span { FirstSpan (OneByte first.now) text.now from result }
+    ensures cost { Pays steps.old steps.new (4 * (end_or (length text.now) result + 1)) (4 * from) }
+    ensures counts { IfSome result (λ f. TakesAtLeast steps.old steps.new (f.1 - f.0)) }
+{
+    match find_first(first, text, from, steps) {
+        None => None,
+        Some(start) => Some((start, text.after(start, 1))),
+    }
+}
+
+/// The bytes of the set from `from` on.
+#[inline(always)]
+fn run_span(
+    members: &ByteSet,
+    text: &Text,
+    from: usize,
+    steps: &mut Steps,
+) -> Option<(usize, usize)>
+    requires from { from ≤ length text.now }
+    ensures span { FirstSpan (Run members.now) text.now from result }
+    ensures cost { Pays steps.old steps.new (4 * (end_or (length text.now) result + 1)) (4 * from) }
+    ensures counts { IfSome result (λ f. TakesAtLeast steps.old steps.new (f.1 - f.0)) }
+{
+    Some((from, run_end(text, members, from, steps)))
+}
+
+/// The first byte from `from` on that is one, and the bytes of the set after it.
+#[inline(always)]
+fn byte_run_span(
+    first: &First,
+    members: &ByteSet,
+    text: &Text,
+    from: usize,
+    steps: &mut Steps,
+) -> Option<(usize, usize)>
+    requires from { from ≤ length text.now }
+    ensures span { FirstSpan (ByteThenRun first.now members.now) text.now from result }
+    ensures cost { Pays steps.old steps.new (4 * (end_or (length text.now) result + 1)) (4 * from) }
+    ensures counts { IfSome result (λ f. TakesAtLeast steps.old steps.new (f.1 - f.0)) }
+{
+    match find_first(first, text, from, steps) {
+        None => None,
+        Some(start) => Some((start, run_end(text, members, text.after(start, 1), steps))),
+    }
+}
+
+/// The first byte from `from` on that ends a run, with the bytes of the set before it.
+// As a part of a large function it would be slower by the byte.
+#[inline(never)]
+fn run_byte_span(
+    members: &ByteSet,
+    last: &First,
+    text: &Text,
+    from: usize,
+    steps: &mut Steps,
+) -> Option<(usize, usize)>
+    requires from { from ≤ length text.now }
+    ensures span { FirstSpan (RunThenByte members.now last.now) text.now from result }
+    ensures cost { Pays steps.old steps.new (4 * (end_or (length text.now) result + 1)) (4 * from) }
+    ensures counts { IfSome result (λ f. TakesAtLeast steps.old steps.new (f.1 - f.0)) }
+{
+    match find_first(last, text, from, steps) {
+        None => None,
+        Some(place) => Some((
+            run_begin(text, members, from, place, steps),
+            text.after(place, 1),
+        )),
+    }
+}
+
+/// The first bytes of the set from `from` on, as many as the number says.
+#[inline(always)]
+fn times_span(
+    set: &ByteSet,
+    count: usize,
+    text: &Text,
+    from: usize,
+    steps: &mut Steps,
+) -> Option<(usize, usize)>
+    requires from { from ≤ length text.now }
+    ensures span { FirstSpan (Times set.now count) text.now from result }
+    ensures cost { Pays steps.old steps.new (4 * (end_or (length text.now) result + 1)) (4 * from) }
+    ensures counts { IfSome result (λ f. TakesAtLeast steps.old steps.new (f.1 - f.0)) }
+{
+    match find_times(set, count, text, from, steps) {
+        None => None,
+        Some(start) => Some((start, text.after(start, count))),
+    }
+}
+
+/// The literal where it stands first from `from` on.
+#[inline(always)]
+fn literal_span(word: &Word, text: &Text, from: usize, steps: &mut Steps) -> Option<(usize, usize)>
+    requires from { from ≤ length text.now }
+    ensures span { FirstSpan (Literal word.now) text.now from result }
+    ensures cost { Pays steps.old steps.new (4 * (end_or (length text.now) result + 1)) (4 * from) }
+    ensures counts { IfSome result (λ f. TakesAtLeast steps.old steps.new (f.1 - f.0)) }
+{
+    match word.start(text, from, steps) {
+        None => None,
+        Some(start) => Some((start, word.end(text, start))),
+    }
+}
+
+/// The longest of the literals that stand first from `from` on.
+#[inline(always)]
+fn choice_span(
+    choice: &Choice,
+    text: &Text,
+    from: usize,
+    steps: &mut Steps,
+) -> Option<(usize, usize)>
+    requires from { from ≤ length text.now }
+    ensures span { FirstSpan (ChoiceForm choice.now) text.now from result }
+    ensures cost { Pays steps.old steps.new (42 * (end_or (length text.now) result + 1)) (42 * from) }
+    ensures counts { IfSome result (λ f. TakesAtLeast steps.old steps.new (f.1 - f.0)) }
+{
+    match choice.start(text, from, steps) {
+        None => None,
+        Some(start) => Some((start, choice.end(text, start, steps))),
+    }
+}
+
+/// The longest of the matches of this form that begin first from `from` on.
+// On short texts a call of its own costs as much as the search.
+#[inline(always)]
+fn form_span(
+    form: &DirectForm,
+    text: &Text,
+    from: usize,
+    steps: &mut Steps,
+) -> Option<(usize, usize)>
+    requires from { from ≤ length text.now }
+    ensures span { FirstSpan form.now text.now from result }
+    ensures cost { Pays steps.old steps.new (rate form.now * (end_or (length text.now) result + 1)) (rate form.now * from) }
+    ensures counts { IfSome result (λ f. TakesAtLeast steps.old steps.new (f.1 - f.0)) }
+{
+    match form {
+        DirectForm::Anchor(anchor) => anchor_span(*anchor, text, from),
+        DirectForm::OneByte(first) => byte_span(first, text, from, steps),
+        DirectForm::Run(members) => run_span(members, text, from, steps),
+        DirectForm::ByteThenRun(first, members) => byte_run_span(first, members, text, from, steps),
+        DirectForm::RunThenByte(members, last) => run_byte_span(members, last, text, from, steps),
+        DirectForm::Times(set, count) => times_span(set, *count, text, from, steps),
+        DirectForm::Literal(word) => literal_span(word, text, from, steps),
+        DirectForm::Choice(choice) => choice_span(choice, text, from, steps),
+    }
+}
+
+/// Where the leftmost-longest match that begins at `from` or later begins and ends.
+#[inline(always)]
+pub fn direct_span(
+    form: &DirectForm,
+    text: &Text,
+    from: usize,
+    steps: &mut Steps,
+) -> Option<(usize, usize)>
+    requires from { from ≤ length text.now }
+    ensures answer { (e : Written) → IsDirect e form.now → SpanAnswer (tree e) text.now from result }
+    ensures lies { IfSome result (λ f. (from ≤ f.0) × (f.0 ≤ f.1) × (f.1 ≤ length text.now)) }
+    ensures cost { Pays steps.old steps.new (rate form.now * (end_or (length text.now) result + 1)) (rate form.now * from) }
+    ensures counts { IfSome result (λ f. TakesAtLeast steps.old steps.new (f.1 - f.0)) }
+{
+    are_bytes(text);
+    form_span(form, text, from, steps)
+}
+
+/// Whether a match of this form begins at `from` or later.
+fn can_match(form: &DirectForm, text: &Text, from: usize, steps: &mut Steps) -> bool
+    requires from { from ≤ length text.now }
+    ensures starts { IsTrue result ↔ StartsFrom form.now text.now from }
+    ensures cost { Takes steps.old steps.new (rate form.now * (length text.now + 1)) }
+{
+    match form {
+        DirectForm::Anchor(anchor) => anchor_place(*anchor, text, from).is_some(),
+        DirectForm::OneByte(first) => find_first(first, text, from, steps).is_some(),
+        DirectForm::Run(_) => true,
+        DirectForm::ByteThenRun(first, _) => find_first(first, text, from, steps).is_some(),
+        DirectForm::RunThenByte(_, last) => find_first(last, text, from, steps).is_some(),
+        DirectForm::Times(set, count) => find_times(set, *count, text, from, steps).is_some(),
+        DirectForm::Literal(word) => word.start(text, from, steps).is_some(),
+        DirectForm::Choice(choice) => choice.start(text, from, steps).is_some(),
+    }
+}
+
+/// Whether any match begins at `from` or later.
+pub fn direct_matches(form: &DirectForm, text: &Text, from: usize, steps: &mut Steps) -> bool
+    requires from { from ≤ length text.now }
+    ensures matches { (e : Written) → IsDirect e form.now → IsTrue result ↔ SomeFound (tree e) text.now from }
+    ensures cost { Takes steps.old steps.new (rate form.now * (length text.now + 1)) }
+{
+    are_bytes(text);
+    can_match(form, text, from, steps)
+}
+
+/// A place of the text before which no line has a match of this form, or None where no line has one.
+pub fn direct_candidate(form: &DirectForm, text: &Text, steps: &mut Steps) -> Option<usize>
+    ensures before { (e : Written) → IsDirect e form.now → NoMatchBefore (tree e) text.now result }
+    ensures cost { Takes steps.old steps.new (25 * (length text.now + 1)) }
+{
+    are_bytes(text);
+    match form {
+        DirectForm::OneByte(first) => find_first(first, text, 0, steps),
+        DirectForm::ByteThenRun(first, _) => find_first(first, text, 0, steps),
+        DirectForm::RunThenByte(_, last) => find_first(last, text, 0, steps),
+        DirectForm::Literal(word) => word.start(text, 0, steps),
+        DirectForm::Choice(choice) => choice.start(text, 0, steps),
+        DirectForm::Anchor(_) | DirectForm::Run(_) | DirectForm::Times(_, _) => Some(0),
+    }
+}

@@ -1,0 +1,318 @@
+//! An expression that is searched by passes: what is found out of it once, its tables, and what they tell of a text.
+ghost use Rattle.std.specs.Prelude.{◌≡◌, ℕ, List, ◌+◌, ◌-◌, ◌*◌, ◌/◌, ◌<◌, ◌≤◌, ◌↔◌, [], length, vec_capacity, IfOk, IfSome, IsTrue};
+ghost use Rattle.sedre.specs.Arena.{IsExpr, Written, tree};
+ghost use Rattle.sedre.specs.Steps.{Takes, TakesAtLeast};
+ghost use Rattle.sedmarks.specs.Beginnings.{AllBegin};
+ghost use Rattle.sedmarks.specs.declared.beginnings.Begins.TheVariants.{AtStart};
+ghost use Rattle.sedpass.specs.Find.{IsSweep};
+ghost use Rattle.sedpass.specs.Table.{IsAhead, SameShape};
+ghost use Rattle.sedmarks.specs.Caps.{IsReport};
+ghost use Rattle.sedmarks.specs.Spans.{SomeFound, Spans};
+ghost use Rattle.sedpass.specs.Decide.{HasDesk, SameTables, found};
+ghost use Rattle.sedpass.specs.Kept.{SameSpace};
+ghost use Rattle.sedmatch.specs.Passes.{AreOwn, ArePasses, IsDesk, IsSought, SameDesk};
+
+use crate::scratch::Desk;
+use crate::table_room::TableRoom;
+use sedmarks::beginnings::{Begins, how_begins};
+use sedmarks::counted::Text;
+use sedneedles::hints::{Hints, find_hints};
+use sedpass::find::is_match;
+use sedpass::groups::{GroupRoom, GroupTables, all_groups, decide};
+use sedpass::kept::{Kept, Subject};
+use sedpass::nodes::Prepared;
+use sedpass::rows::{Way, Work};
+use sedpass::table::Table;
+use sedre::{Expr, Steps};
+use std::alloc::{AllocError, Global};
+
+/// What is found out of an expression once.
+#[derive(Drop)]
+pub struct Sought {
+    /// The expression, made ready for passes.
+    pub prepared: Prepared,
+    /// How its matches begin.
+    pub begins: Begins,
+    /// What they hold.
+    pub hints: Hints,
+}
+
+/// The tables of one expression.
+#[derive(Drop)]
+pub struct OwnTables {
+    /// Forwards, every place a start.
+    pub any: Table,
+    /// Forwards from one start, and those for groups.
+    pub groups: GroupTables,
+}
+
+/// An expression that is searched by passes.
+#[derive(Drop)]
+pub struct Passes {
+    /// What is found out of it once.
+    pub sought: Sought,
+    /// Its own tables, if there is room for them.
+    pub own: Option<OwnTables>,
+}
+
+/// The way of passes forwards in which every place is a start.
+pub const ANY: Way = Way {
+    mirrored: false,
+    sweeps: true,
+    keeps: false,
+};
+
+/// How many tables an expression has: three here, and one for all occurrences in a text.
+const TABLES: usize = 4;
+
+/// How many bytes so many states take in all tables of an expression, at most.
+fn size_of(nodes: usize, states: usize) -> usize {
+    let cells = 16 * nodes.min(64);
+    let state = cells + nodes / 4 + 64;
+    state.saturating_mul(TABLES).saturating_mul(states)
+}
+
+/// How many states each table has, of at least two.
+fn states_of(room: TableRoom) -> usize
+    ensures some { 2 ≤ result }
+    ensures few { result ≤ 513 }
+{
+    room.states.clamp(2, 513)
+}
+
+/// Finds out once what serves all searches for an expression.
+fn find_sought(alloc: Global, expr: &Expr, steps: &mut Steps) -> Result<Sought, AllocError>
+    ensures { IfOk result (IsSought expr.now) }
+{
+    let begins = how_begins(expr, steps);
+    let hints = find_hints(alloc, expr, &begins, steps)?;
+    let prepared = Prepared::new(alloc, expr, steps)?;
+    Ok(Sought {
+        prepared,
+        begins,
+        hints,
+    })
+}
+
+/// Tables for an expression.
+fn new_tables(alloc: Global, prepared: &Prepared, states: usize) -> Result<OwnTables, AllocError>
+    requires some { 2 ≤ states }
+    requires few { states ≤ 513 }
+    ensures { IfOk result (λ t. AreOwn prepared.now (Some t)) }
+{
+    let any = Table::new(alloc, prepared, ANY, states)?;
+    let groups = GroupTables::new(alloc, prepared, states)?;
+    Ok(OwnTables { any, groups })
+}
+
+/// Tables for an expression, if they don't take more room than there is.
+fn own_tables(
+    alloc: Global,
+    prepared: &Prepared,
+    room: TableRoom,
+) -> Result<Option<OwnTables>, AllocError>
+    ensures { IfOk result (AreOwn prepared.now) }
+{
+    let states = states_of(room);
+    if size_of(prepared.nodes(), states) > room.bytes {
+        return Ok(None);
+    }
+    match new_tables(alloc, prepared, states) {
+        Ok(tables) => Ok(Some(tables)),
+        Err(refused) => Err(refused),
+    }
+}
+
+/// An expression that is searched by passes, with its own tables if there is room for them.
+pub fn new_passes(
+    alloc: Global,
+    expr: &Expr,
+    room: TableRoom,
+    steps: &mut Steps,
+) -> Result<Passes, AllocError>
+    ensures { IfOk result (ArePasses expr.now) }
+{
+    let sought = find_sought(alloc, expr, steps)?;
+    let own = own_tables(alloc, &sought.prepared, room)?;
+    Ok(Passes { sought, own })
+}
+
+impl Passes {
+    /// How many bytes its own tables take at most.
+    pub fn size_of_tables(&self) -> usize {
+        match &self.own {
+            Some(own) => size_of(self.sought.prepared.nodes(), own.any.room),
+            None => 0,
+        }
+    }
+}
+
+/// Whether a match begins at the text's beginning, by a table of passes from one start.
+fn begins_match(subject: Subject, ahead: &mut Table, work: &mut Work, steps: &mut Steps) -> bool
+    requires begins { AllBegin (tree subject.prepared.now.expr) AtStart }
+    requires ahead { IsAhead subject.prepared.now ahead.old }
+    ensures ahead { IsAhead subject.entry.prepared.now ahead.new }
+    ensures shape { SameShape ahead.old ahead.new }
+    ensures matches { IsTrue result ↔ SomeFound (tree subject.entry.prepared.now.expr) subject.entry.text.now 0 }
+    ensures cost { Takes steps.old steps.new (40 * length subject.entry.prepared.now.expr.nodes * (length subject.entry.text.now + 1)) }
+{
+    let bytes = subject.text.forwards();
+    ahead
+        .run(subject.prepared, &bytes, 0, work, steps)
+        .end
+        .is_some()
+}
+
+/// Whether any match begins at a place or later, by these tables.
+fn matches_with(
+    sought: &Sought,
+    text: &Text,
+    any: &mut Table,
+    ahead: &mut Table,
+    from: usize,
+    work: &mut Work,
+    steps: &mut Steps,
+) -> bool
+    requires begins { AllBegin (tree sought.now.prepared.expr) sought.now.begins }
+    requires any { IsSweep sought.now.prepared any.old }
+    requires ahead { IsAhead sought.now.prepared ahead.old }
+    requires from { from ≤ length text.now }
+    ensures any { IsSweep sought.now.prepared any.new }
+    ensures any_shape { SameShape any.old any.new }
+    ensures ahead { IsAhead sought.now.prepared ahead.new }
+    ensures ahead_shape { SameShape ahead.old ahead.new }
+    ensures matches { IsTrue result ↔ SomeFound (tree sought.now.prepared.expr) text.now from }
+    ensures cost { Takes steps.old steps.new (41 * length sought.now.prepared.expr.nodes * (length text.now + 1)) }
+{
+    let subject = Subject {
+        prepared: &sought.prepared,
+        text,
+    };
+    match &sought.begins {
+        Begins::AtStart => from == 0 && begins_match(subject, ahead, work, steps),
+        _ => is_match(subject, &sought.begins, any, from, work, steps),
+    }
+}
+
+/// Whether any match begins at `from` or later.
+pub fn matches_by(
+    passes: &mut Passes,
+    text: &Text,
+    from: usize,
+    desk: &mut Desk,
+    steps: &mut Steps,
+) -> bool
+    requires from { from ≤ length text.now }
+    requires passes { ArePasses passes.old.sought.prepared.expr passes.old }
+    requires desk { IsDesk desk.old }
+    requires few { length passes.old.sought.prepared.expr.nodes ≤ desk.old.max_nodes }
+    ensures same { passes.new.sought ≡ passes.old.sought }
+    ensures own { AreOwn passes.new.sought.prepared passes.new.own }
+    ensures desk { IsDesk desk.new }
+    ensures most { SameDesk desk.old desk.new }
+    ensures matches { IsTrue result ↔ SomeFound (tree passes.old.sought.prepared.expr) text.now from }
+    ensures cost { Takes steps.old steps.new (44 * length passes.old.sought.prepared.expr.nodes * (length text.now + 1)) }
+{
+    let sought = &passes.sought;
+    let Some(start) = sought.hints.first_place(text, from, steps) else {
+        return false;
+    };
+    let work = &mut desk.room.kept.work;
+    if let Some(own) = &mut passes.own {
+        let ahead = &mut own.groups.ahead;
+        return matches_with(sought, text, &mut own.any, ahead, start, work, steps);
+    }
+    desk.any.fit(&sought.prepared);
+    desk.shared.ahead.fit(&sought.prepared);
+    let ahead = &mut desk.shared.ahead;
+    matches_with(sought, text, &mut desk.any, ahead, start, work, steps)
+}
+
+/// The groups of a match of an expression that has none.
+pub fn whole_alone(span: (usize, usize)) -> [Option<(usize, usize)>; 10]
+    ensures report { (e : Written) (w : List ℕ) → IsExpr e.nodes e.groups → e.groups ≡ 0 → Spans (tree e) w span.0 span.1 → IsReport (tree e) w span.0 span.1 result }
+    ensures one { found result ≡ 1 }
+{
+    let mut groups = [None; 10];
+    groups[0] = Some(span);
+    groups
+}
+
+/// Whether the rows that are kept of blocks are enough for a text of so many bytes, where a table has room for so many states.
+pub fn has_blocks(kept: &Kept, states: usize, bytes: usize) -> bool
+    requires some { 2 ≤ states }
+    requires few { states ≤ 65535 }
+    requires rows { length kept.now.edges ≤ 65536 }
+    ensures { IsTrue result → bytes < length kept.now.edges / 2 * (states - 1) }
+{
+    bytes < kept.edges.len() / 2 * (states - 1)
+}
+
+/// The groups of a match that begins and ends at these places, by tables for which there is room.
+fn groups_with(
+    subject: Subject,
+    tables: &mut GroupTables,
+    span: (usize, usize),
+    room: &mut GroupRoom,
+    steps: &mut Steps,
+) -> [Option<(usize, usize)>; 10]
+    requires order { span.0 ≤ span.1 }
+    requires inside { span.1 ≤ length subject.text.now }
+    requires spans { Spans (tree subject.prepared.now.expr) subject.text.now span.0 span.1 }
+    requires desk { HasDesk subject tables.old room.old.kept }
+    requires none { room.old.tasks.items ≡ [] }
+    requires tasks { 2 * length subject.prepared.now.expr.nodes ≤ vec_capacity room.old.tasks }
+    ensures desk { HasDesk subject.entry tables.new room.new.kept }
+    ensures shape { SameTables tables.old tables.new }
+    ensures space { SameSpace room.old.kept room.new.kept }
+    ensures none { room.new.tasks.items ≡ [] }
+    ensures tasks { vec_capacity room.old.tasks ≤ vec_capacity room.new.tasks }
+    ensures report { IsReport (tree subject.entry.prepared.now.expr) subject.entry.text.now span.0 span.1 result }
+    ensures cost { let m = length subject.entry.prepared.now.expr.nodes in
+        Takes steps.old steps.new (172 * m * (m - 1) * (span.1 - span.0) + 2 * m) }
+    ensures counts { TakesAtLeast steps.old steps.new (found result - 1) }
+{
+    let due = all_groups(subject.prepared);
+    decide(subject, tables, room, due, span.0, span.1, steps)
+}
+
+/// The groups of a match that begins and ends at these places.
+pub fn groups_by(
+    passes: &mut Passes,
+    text: &Text,
+    span: (usize, usize),
+    desk: &mut Desk,
+    steps: &mut Steps,
+) -> [Option<(usize, usize)>; 10]
+    requires order { span.0 ≤ span.1 }
+    requires inside { span.1 ≤ length text.now }
+    requires spans { Spans (tree passes.old.sought.prepared.expr) text.now span.0 span.1 }
+    requires passes { ArePasses passes.old.sought.prepared.expr passes.old }
+    requires desk { IsDesk desk.old }
+    requires short { length text.now ≤ desk.old.max_text }
+    requires few { length passes.old.sought.prepared.expr.nodes ≤ desk.old.max_nodes }
+    ensures same { passes.new.sought ≡ passes.old.sought }
+    ensures own { AreOwn passes.new.sought.prepared passes.new.own }
+    ensures desk { IsDesk desk.new }
+    ensures most { SameDesk desk.old desk.new }
+    ensures report { IsReport (tree passes.old.sought.prepared.expr) text.now span.0 span.1 result }
+    ensures none_cost { passes.old.sought.prepared.expr.groups ≡ 0 → steps.new ≡ steps.old }
+    ensures cost { let m = length passes.old.sought.prepared.expr.nodes in
+        Takes steps.old steps.new (172 * m * (m - 1) * (span.1 - span.0) + 2 * m) }
+    ensures counts { TakesAtLeast steps.old steps.new (found result - 1) }
+{
+    if passes.sought.prepared.expr.groups() == 0 {
+        return whole_alone(span);
+    }
+    let subject = Subject {
+        prepared: &passes.sought.prepared,
+        text: &*text,
+    };
+    if let Some(own) = &mut passes.own {
+        if has_blocks(&desk.room.kept, own.groups.inside.room, text.len()) {
+            return groups_with(subject, &mut own.groups, span, &mut desk.room, steps);
+        }
+    }
+    desk.shared.fit(subject.prepared);
+    groups_with(subject, &mut desk.shared, span, &mut desk.room, steps)
+}

@@ -1,0 +1,41 @@
+-- Counts of steps that stay at the largest: how many looks there were at least.
+use Rattle.std.proofs.Common.{◌≡◌, ℕ, ◌+◌, ◌≤◌, arith}
+use Rattle.sedre.specs.Steps.{Counted, TakesAtLeast}
+
+-- nothing is counted yet
+pub least_none : (s n : ℕ) → n ≡ 0 → TakesAtLeast s s n
+unfolding TakesAtLeast
+least_none s n e = omega (arith, e)
+
+-- one look more
+pub least_one : (s a b n m : ℕ) → TakesAtLeast s a n → Counted a b 1 → m ≤ n + 1 → TakesAtLeast s b m
+unfolding TakesAtLeast Counted
+least_one s a b n m before one is = omega (arith, before, one, is)
+
+-- one after the other
+pub least_both : (s a b n k m : ℕ) → TakesAtLeast s a n → TakesAtLeast a b k → m ≤ n + k → TakesAtLeast s b m
+unfolding TakesAtLeast
+least_both s a b n k m before more is = omega (arith, before, more, is)
+
+-- and others before them, or after them
+pub least_since : (s a b n : ℕ) → s ≤ a → TakesAtLeast a b n → TakesAtLeast s b n
+unfolding TakesAtLeast
+least_since s a b n grows after = omega (arith, grows, after)
+
+pub least_up : (s a b n : ℕ) → TakesAtLeast s a n → a ≤ b → TakesAtLeast s b n
+unfolding TakesAtLeast
+least_up s a b n before grows = omega (arith, before, grows)
+
+pub least_less : (s t n k : ℕ) → TakesAtLeast s t n → k ≤ n → TakesAtLeast s t k
+unfolding TakesAtLeast
+least_less s t n k before less = omega (arith, before, less)
+
+-- as many looks as were counted, or fewer
+pub least_counted : (s t n m : ℕ) → Counted s t n → m ≤ n → TakesAtLeast s t m
+unfolding TakesAtLeast Counted
+least_counted s t n m is few = omega (arith, is, few)
+
+-- no more than were counted
+pub most_counted : (s t n : ℕ) → Counted s t n → t ≤ s + n
+unfolding Counted
+most_counted s t n is = omega (arith, is)
