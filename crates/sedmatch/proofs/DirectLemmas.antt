@@ -27,7 +27,7 @@ use Rattle.sedmatch.specs.Direct.{ComesFirst, StartsWith, RunsTo, FormSpans, Spa
 use Rattle.sedmatch.specs.declared.direct.First.{First}
 use Rattle.sedmatch.specs.declared.direct.First.TheVariants.{Among, Member}
 use Rattle.sedmatch.specs.declared.direct.DirectForm.{DirectForm}
-use Rattle.sedmatch.specs.declared.direct.DirectForm.TheVariants.{Anchor, OneByte, Run, ByteThenRun, RunThenByte, Times, Literal, Choice}
+use Rattle.sedmatch.specs.declared.direct.DirectForm.TheVariants.{Anchor, OneByte, Run, ByteThenRun, RunThenByte, RunAtEnd, Times, Literal, Choice}
 use Rattle.sedmarks.proofs.ReachLemmas.{open_at, close_at}
 use Rattle.sedmarks.proofs.RunLemmas.{run_longest}
 use Rattle.sedmarks.proofs.SpanLemmas.{Copies-forward}
@@ -124,6 +124,21 @@ module _ (nodes : List Node) (arena : IsArena nodes) (x last : ℕ) (whole : las
         let left : At nodes w a.index i h.0 = subst (λ v. At nodes w v i h.0) y_is ((repeats w i h.0).1 h.1.0) in
         let right : At nodes w b.index h.0 j = close_at nodes w b.index (Set these) arena there h.0 j ((set_spans these first same w bytes h.0 j).1 (h.1.1, h.2)) in
         from_node w i j (close_at nodes w x (Seq a b) arena is i j (h.0, left, right))),
+  )
+
+  -- a run before the end
+  pub form_run_end : (a b : NodeId) (y : ℕ) (members : List Bool) → slice_get nodes x ≡ Some (Seq a b) → y ≡ a.index → slice_get nodes b.index ≡ Some End → AllRepeat nodes y members →
+      SpannedAs (tree_at nodes last) (RunAtEnd members)
+  form_run_end a b y members is y_is there repeats w bytes i j within = (
+    (λ s.
+        let f = open_at nodes w x (Seq a b) arena is i j (to_node w i j s) in
+        let h = open_at nodes w b.index End arena there f.0 j f.2 in
+        let run = (repeats w i f.0).0 (subst (λ v. At nodes w v i f.0) (sym y_is) f.1) in
+        (subst (Repeated members w i) (h.0 ∙ sym h.1) run, h.1)),
+    (λ h.
+        let left : At nodes w a.index i j = subst (λ v. At nodes w v i j) y_is ((repeats w i j).1 h.0) in
+        let right : At nodes w b.index j j = close_at nodes w b.index End arena there j j (h.1, h.1) in
+        from_node w i j (close_at nodes w x (Seq a b) arena is i j (j, left, right))),
   )
 
 -- a literal after which nothing is left
@@ -250,6 +265,15 @@ module _ (members : List Bool) (last : First) (w : List ℕ) (p : ℕ) where
       let inside = starts_inside last w q first.1 in
       ((λ h. (q, first.0, omega (arith, inside), (q, ends_run q first q first.0 no_copy))), (λ s. refl))
 
+-- a run at the end of the text
+pub span_run_end : (members : List Bool) (w : List ℕ) (p i n : ℕ) → n ≡ length w → RunBegins members w p n i → FirstSpan (RunAtEnd members) w p (Some (i, n))
+span_run_end members w p i n is run =
+    let run' = subst (λ v. RunBegins members w p v i) is run in
+    ((run'.0, run'.1, run'.2, λ h low lt can. run'.3 h low lt can), ((run.2, is), omega (arith, is), λ k s. omega (arith, s.1, is)))
+
+pub from_run_end : (form : DirectForm) (members : List Bool) (w : List ℕ) (p : ℕ) → form ≡ RunAtEnd members → p ≤ length w → StartsFrom form w p
+from_run_end form members w p is within = subst (λ f. StartsFrom f w p) (sym is) (length w, within, omega arith, no_copy)
+
 -- a match begins from a place on where the first place is told
 some_from : (form : DirectForm) (w : List ℕ) (p : ℕ) (r : Option ℕ) → FirstStart form w p r → IsTrue (is_some r) ↔ StartsFrom form w p
 some_from form w p None none = ((λ h. absurd (true≢false (sym h))), (λ s. absurd (none s.0 s.1 s.2 s.3)))
@@ -269,6 +293,7 @@ spans_start (OneByte first) w i j s = s.0
 spans_start (Run members) w i j s = tt
 spans_start (ByteThenRun first members) w i j s = s.0
 spans_start (RunThenByte members last) w i j s = (s.0, s.1)
+spans_start (RunAtEnd members) w i j s = subst (Repeated members w i) s.1 s.0
 spans_start (Times members count) w i j s = subst (Repeated members w i) s.1 s.0
 spans_start (Literal literal) w i j s = s.0
 spans_start (Choice literals) w i j s = (s.0, s.1, s.2, s.3)
@@ -280,6 +305,7 @@ start_spans (OneByte first) w i can = (i + 1, (can, refl))
 start_spans (Run members) w i can = (i, no_copy)
 start_spans (ByteThenRun first members) w i can = (i + 1, (can, no_copy))
 start_spans (RunThenByte members last) w i can = (can.0 + 1, (can.0, can.1, refl))
+start_spans (RunAtEnd members) w i can = (length w, (can, refl))
 start_spans (Times members count) w i can = (i + count, (can, refl))
 start_spans (Literal literal) w i can = (i + length literal, (can, refl))
 start_spans (Choice literals) w i can = (i + length can.0, (can.0, can.1, can.2, can.3, refl))
@@ -291,6 +317,7 @@ ends_on (OneByte first) w i j s = omega (arith, s.1)
 ends_on (Run members) w i j s = Copies-forward (Spans (set members) w) j i s
 ends_on (ByteThenRun first members) w i j s = omega (arith, Copies-forward (Spans (set members) w) j (i + 1) s.1)
 ends_on (RunThenByte members last) w i j s = let on = Copies-forward (Spans (set members) w) s.0 i s.1.0 in omega (arith, on, s.2)
+ends_on (RunAtEnd members) w i j s = Copies-forward (Spans (set members) w) j i s.0
 ends_on (Times members count) w i j s = omega (arith, s.1)
 ends_on (Literal literal) w i j s = omega (arith, s.1)
 ends_on (Choice literals) w i j s = let long = s.4 in omega (arith, long)

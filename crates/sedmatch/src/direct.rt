@@ -1,5 +1,6 @@
 //! Direct forms: expressions whose matches a look at the text tells. Anchors alone, a byte of a set, a run of such bytes, a
-//! byte and a run, a run and the byte that ends it, always as many bytes of a set, a literal, one of a few literals.
+//! byte and a run, a run and the byte that ends it, a run at the end of the text, always as many bytes of a set, a literal, one
+//! of a few literals.
 //!
 //! Where such a match begins is told by its bytes, and where the longest ends by those that follow, so that nothing
 //! has to be found out of the expression in a search. What a search costs falls with the place from which it starts: all
@@ -14,7 +15,7 @@ ghost use Rattle.sedmarks.specs.Costs.{Pays};
 ghost use Rattle.sedmarks.specs.Spans.{SomeFound, IsIn};
 ghost use Rattle.sedmatch.specs.Candidates.{NoMatchBefore};
 ghost use Rattle.sedmatch.specs.Direct.{ComesFirst, FirstWith, FirstStart, FirstSpan, IsDirect, SpannedAs, StartsFrom, end_or, rate};
-ghost use Rattle.sedmatch.specs.declared.direct.DirectForm.TheVariants.{Anchor as AnchorForm, OneByte, Run, ByteThenRun, RunThenByte, Times, Literal, Choice as ChoiceForm};
+ghost use Rattle.sedmatch.specs.declared.direct.DirectForm.TheVariants.{Anchor as AnchorForm, OneByte, Run, ByteThenRun, RunThenByte, RunAtEnd, Times, Literal, Choice as ChoiceForm};
 
 use crate::runs_back::run_begin;
 use crate::word::{Word, word_of};
@@ -71,6 +72,8 @@ pub enum DirectForm {
     ByteThenRun(First, ByteSet),
     /// Bytes of the set, any number of them, and the first byte that ends them and isn't in the set.
     RunThenByte(ByteSet, First),
+    /// Bytes of the set up to the end of the text, any number of them.
+    RunAtEnd(ByteSet),
     /// As many bytes of the set as the number says.
     Times(ByteSet, usize),
     /// A literal of two bytes or more.
@@ -138,9 +141,9 @@ fn both_anchors(expr: &Expr, a: NodeId, b: NodeId, steps: &mut Steps) -> Option<
     }
 }
 
-/// How the matches of a concatenation of these parts look, if each is a run and the byte after it, which isn't in the
-/// set of the run.
-fn run_then_byte(expr: &Expr, a: NodeId, b: NodeId, steps: &mut Steps) -> Option<DirectForm>
+/// How the matches of a concatenation of these parts look, if each is a run and what ends it: the end of the text, or a byte that
+/// isn't in the set of the run.
+fn run_then(expr: &Expr, a: NodeId, b: NodeId, steps: &mut Steps) -> Option<DirectForm>
     requires root { slice_get expr.now.nodes (length expr.now.nodes - 1) ≡ Some (Seq a b) }
     requires arena { IsArena expr.now.nodes }
     ensures form { IfSome result (λ f. SpannedAs (tree expr.now) f) }
@@ -156,6 +159,7 @@ fn run_then_byte(expr: &Expr, a: NodeId, b: NodeId, steps: &mut Steps) -> Option
                 None
             }
         }
+        Node::End => Some(DirectForm::RunAtEnd(members)),
         _ => None,
     }
 }
@@ -174,7 +178,7 @@ fn run_form(expr: &Expr, steps: &mut Steps) -> Option<DirectForm>
                 let members = star_set(expr, b.index(), steps)?;
                 Some(DirectForm::ByteThenRun(first_of(&set), members))
             }
-            _ => run_then_byte(expr, a, b, steps),
+            _ => run_then(expr, a, b, steps),
         },
         _ => {
             let members = star_set(expr, root, steps)?;
@@ -355,6 +359,23 @@ fn run_byte_span(
     }
 }
 
+/// The bytes of the set that stand before the end of the text, from `from` on.
+#[inline(always)]
+fn run_end_span(
+    members: &ByteSet,
+    text: &Text,
+    from: usize,
+    steps: &mut Steps,
+) -> Option<(usize, usize)>
+    requires from { from ≤ length text.now }
+    ensures span { FirstSpan (RunAtEnd members.now) text.now from result }
+    ensures cost { Pays steps.old steps.new (4 * (end_or (length text.now) result + 1)) (4 * from) }
+    ensures counts { IfSome result (λ f. TakesAtLeast steps.old steps.new (f.1 - f.0)) }
+{
+    let end = text.len();
+    Some((run_begin(text, members, from, end, steps), end))
+}
+
 /// The first bytes of the set from `from` on, as many as the number says.
 #[inline(always)]
 fn times_span(
@@ -428,6 +449,7 @@ fn form_span(
         DirectForm::Run(members) => run_span(members, text, from, steps),
         DirectForm::ByteThenRun(first, members) => byte_run_span(first, members, text, from, steps),
         DirectForm::RunThenByte(members, last) => run_byte_span(members, last, text, from, steps),
+        DirectForm::RunAtEnd(members) => run_end_span(members, text, from, steps),
         DirectForm::Times(set, count) => times_span(set, *count, text, from, steps),
         DirectForm::Literal(word) => literal_span(word, text, from, steps),
         DirectForm::Choice(choice) => choice_span(choice, text, from, steps),
@@ -464,6 +486,7 @@ fn can_match(form: &DirectForm, text: &Text, from: usize, steps: &mut Steps) -> 
         DirectForm::Run(_) => true,
         DirectForm::ByteThenRun(first, _) => find_first(first, text, from, steps).is_some(),
         DirectForm::RunThenByte(_, last) => find_first(last, text, from, steps).is_some(),
+        DirectForm::RunAtEnd(_) => true,
         DirectForm::Times(set, count) => find_times(set, *count, text, from, steps).is_some(),
         DirectForm::Literal(word) => word.start(text, from, steps).is_some(),
         DirectForm::Choice(choice) => choice.start(text, from, steps).is_some(),
@@ -492,6 +515,9 @@ pub fn direct_candidate(form: &DirectForm, text: &Text, steps: &mut Steps) -> Op
         DirectForm::RunThenByte(_, last) => find_first(last, text, 0, steps),
         DirectForm::Literal(word) => word.start(text, 0, steps),
         DirectForm::Choice(choice) => choice.start(text, 0, steps),
-        DirectForm::Anchor(_) | DirectForm::Run(_) | DirectForm::Times(_, _) => Some(0),
+        DirectForm::Anchor(_)
+        | DirectForm::Run(_)
+        | DirectForm::RunAtEnd(_)
+        | DirectForm::Times(_, _) => Some(0),
     }
 }

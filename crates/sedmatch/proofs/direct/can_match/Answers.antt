@@ -1,7 +1,7 @@
-use Rattle.std.proofs.Common.{arith}
+use Rattle.std.proofs.Common.{refl, arith}
 use Rattle.std.specs.Prelude.{is_some}
 use Rattle.sedmatch.specs.declared.direct.DirectForm.TheVariants.{OneByte, ByteThenRun, RunThenByte, Times, Literal, Choice}
-use Rattle.sedmatch.proofs.DirectLemmas.{first_looked, some_run_byte, some_start, start_byte, start_byte_run, start_choice, start_literal, start_times, told_from}
+use Rattle.sedmatch.proofs.DirectLemmas.{first_looked, from_run_end, some_run_byte, some_start, start_byte, start_byte_run, start_choice, start_literal, start_times, told_from}
 use Rattle.sedmatch.proofs.direct.can_match.Goals as goal
 
 pub returns-in-OneByte-clause-starts : goal.returns-in-OneByte-clause-starts
@@ -48,3 +48,6 @@ pub returns-in-RunThenByte-clause-cost : goal.returns-in-RunThenByte-clause-cost
 returns-in-RunThenByte-clause-cost c =
     let looked = first_looked c.in-RunThenByte.last c.args.text.now c.args.from c.find_first-in-RunThenByte.result c.find_first-in-RunThenByte.ensures.first in
     (c.find_first-in-RunThenByte.ensures.cost.0, rw c.in-RunThenByte.is (omega (arith, looked, c.find_first-in-RunThenByte.ensures.cost.1)))
+
+pub returns-in-RunAtEnd-clause-starts : goal.returns-in-RunAtEnd-clause-starts
+returns-in-RunAtEnd-clause-starts c = ((λ h. from_run_end c.args.form.now c.in-RunAtEnd.field-0 c.args.text.now c.args.from c.in-RunAtEnd.is c.requires.from), (λ s. refl))

@@ -1,9 +1,9 @@
 use Rattle.std.proofs.Common.{◌≡◌, ◌-◌, length, Some, refl, arith}
 use Rattle.std.specs.Prelude.{slice_get}
-use Rattle.sedre.specs.declared.types.Node.TheVariants.{Set}
+use Rattle.sedre.specs.declared.types.Node.TheVariants.{End, Set}
 use Rattle.sedneedles.proofs.NeededLemmas.{seq_below}
-use Rattle.sedmatch.proofs.DirectLemmas.{form_run_byte}
-use Rattle.sedmatch.proofs.direct.run_then_byte.Goals as goal
+use Rattle.sedmatch.proofs.DirectLemmas.{form_run_byte, form_run_end}
+use Rattle.sedmatch.proofs.direct.run_then.Goals as goal
 
 pub star_set-requires : goal.star_set-requires
 star_set-requires c =
@@ -21,3 +21,9 @@ returns-then-are_disjoint-clause-form c =
     let there : slice_get nodes c.args.b.index ≡ Some (Set c.in-Set.set) = cc in
     form_run_byte nodes c.requires.arena (length nodes - 1) (length nodes - 1) refl c.args.a c.args.b c.index.result c.in_ok-members.members c.in-Set.set c.first_of.result
     c.requires.root c.index.ensures there c.in_ok-members.ensures.repeats c.first_of.ensures (c.are_disjoint.ensures c.if-are_disjoint.true)
+
+pub returns-in-End-clause-form : goal.returns-in-End-clause-form
+returns-in-End-clause-form c =
+    let nodes = c.args.expr.now.nodes in
+    let there : slice_get nodes c.args.b.index ≡ Some End = cc in
+    form_run_end nodes c.requires.arena (length nodes - 1) (length nodes - 1) refl c.args.a c.args.b c.index.result c.in_ok-members.members c.requires.root c.index.ensures there c.in_ok-members.ensures.repeats
