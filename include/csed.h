@@ -23,7 +23,7 @@
  * Threads. There is no state that calls share: any number of threads may call at once, each with its own output and report.
  * Don't call from a signal handler, or in the child of a fork of a process that has several threads.
  *
- * Stack. 128 KiB are enough; the tests run in 64 KiB.
+ * Stack. 128 KiB are enough; the tests run in 96 KiB.
  */
 #ifndef CSED_H
 #define CSED_H
