@@ -24,73 +24,84 @@ use sedspace::{Full, Space};
 /// The span of each group of an occurrence.
 type Groups = [Option<(usize, usize)>; 10];
 
+/// What a substitution replaces with, and the text in which it does.
+#[derive(Clone, Copy)]
+pub(crate) struct Replacing<'a> {
+    /// The substitution.
+    pub(crate) substitution: &'a Substitution,
+    /// The text.
+    pub(crate) text: &'a [u8],
+}
+
+/// What is told of the occurrences of one substitution, one after another, and what telling it took.
+#[derive(Drop)]
+pub(crate) struct Findings {
+    /// The groups of the last occurrence of which they were told.
+    groups: Groups,
+    /// The steps of the searches.
+    steps: Steps,
+    /// The steps of telling groups.
+    group_steps: Steps,
+}
+
+impl Findings {
+    /// Nothing was told yet.
+    pub(crate) fn new() -> Self
+        ensures { (result.steps ≡ 0) × (result.group_steps ≡ 0) }
+    {
+        Self {
+            groups: [None; 10],
+            steps: Steps::new(),
+            group_steps: Steps::new(),
+        }
+    }
+}
+
 /// Writes into `build` the text with the occurrences that the substitution chooses replaced, and answers whether there are
 /// any.
 ///
-/// Its searches together take steps in proportion to the text, counted in `steps`. Groups are told within each occurrence
-/// that is replaced; their steps, counted in `group_steps`, are in proportion to the text together too.
+/// Its searches together take steps in proportion to the text. Groups are told within each occurrence that is replaced; their
+/// steps, counted by themselves, are in proportion to the text together too.
 pub(crate) fn build_text(
-    substitution: &Substitution,
+    replacing: Replacing,
     matcher: &mut TableMatcher,
-    text: &[u8],
     build: &mut Space,
     seeking: &mut Occurrences,
     scratch: &mut Scratch,
-    steps: &mut Steps,
-    group_steps: &mut Steps,
+    findings: &mut Findings,
 ) -> Result<bool, Full>
-    requires fits { FitInto (length text.now) (length matcher.old.nodes) scratch.old }
-    requires short { length text.now ≤ build.old.limit }
-    requires number { 1 ≤ substitution.now.number }
-    requires serves { Serves matcher.old text.now None seeking.old }
-    ensures replaces { Replaces text.now substitution.now.replacement
-        (to_replace substitution.now.number substitution.now.global
-        (occurrences (search_for (Some matcher.old) text.now) (length text.now)))
+    requires fits { FitInto (length replacing.text.now) (length matcher.old.nodes) scratch.old }
+    requires short { length replacing.text.now ≤ build.old.limit }
+    requires number { 1 ≤ replacing.substitution.now.number }
+    requires serves { Serves matcher.old replacing.text.now None seeking.old }
+    ensures replaces { Replaces replacing.entry.text.now replacing.entry.substitution.now.replacement
+        (to_replace replacing.entry.substitution.now.number replacing.entry.substitution.now.global
+        (occurrences (search_for (Some matcher.old) replacing.entry.text.now) (length replacing.entry.text.now)))
         build.old.limit build.new.bytes result }
     ensures limit { build.new.limit ≡ build.old.limit }
     ensures same { SeeksAsBefore matcher.old matcher.new scratch.old scratch.new }
     ensures kept { KeepsRoom matcher.old seeking.old seeking.new }
-    ensures cost { Takes steps.old steps.new (416 * length matcher.old.nodes * (length text.now + 1)) }
-    ensures group_cost { let m = length matcher.old.nodes in let n = length text.now in
-        Takes group_steps.old group_steps.new (51 * m * m * (n + 1) * (n + 1)
-        * length (to_replace substitution.now.number substitution.now.global
-        (occurrences (search_for (Some matcher.old) text.now) n))) }
-    ensures linear_group_cost { let m = length matcher.old.nodes in let n = length text.now in
-        Takes group_steps.old group_steps.new (172 * m * m * (n + 1)) }
+    ensures cost { Takes findings.old.steps findings.new.steps (416 * length matcher.old.nodes * (length replacing.entry.text.now + 1)) }
+    ensures group_cost { let m = length matcher.old.nodes in let n = length replacing.entry.text.now in
+        Takes findings.old.group_steps findings.new.group_steps (51 * m * m * (n + 1) * (n + 1)
+        * length (to_replace replacing.entry.substitution.now.number replacing.entry.substitution.now.global
+        (occurrences (search_for (Some matcher.old) replacing.entry.text.now) n))) }
+    ensures linear_group_cost { let m = length matcher.old.nodes in let n = length replacing.entry.text.now in
+        Takes findings.old.group_steps findings.new.group_steps (172 * m * m * (n + 1)) }
 {
+    let Replacing { substitution, text } = replacing;
     let skipped = substitution.number - 1;
-    let Some(last) = end_of_skipped(matcher, text, skipped, seeking, scratch, steps, group_steps)
-    else {
+    let Some(last) = end_of_skipped(matcher, text, skipped, seeking, scratch, findings) else {
         return Ok(false);
     };
     let wanted = needs_groups(substitution.replacement.parts());
-    let mut groups = [None; 10];
-    let Some(first) = next_occurrence(
-        matcher,
-        text,
-        last,
-        wanted,
-        &mut groups,
-        seeking,
-        scratch,
-        steps,
-        group_steps,
-    ) else {
+    findings.groups = [None; 10];
+    let Some(first) = next_occurrence(matcher, text, last, wanted, seeking, scratch, findings)
+    else {
         return Ok(false);
     };
     build.clear();
-    append_replaced(
-        substitution,
-        matcher,
-        text,
-        first,
-        &mut groups,
-        build,
-        seeking,
-        scratch,
-        steps,
-        group_steps,
-    )?;
+    append_replaced(replacing, matcher, first, build, seeking, scratch, findings)?;
     Ok(true)
 }
 
@@ -101,8 +112,7 @@ fn end_of_skipped(
     count: u64,
     seeking: &mut Occurrences,
     scratch: &mut Scratch,
-    steps: &mut Steps,
-    group_steps: &mut Steps,
+    findings: &mut Findings,
 ) -> Option<Option<usize>>
     requires fits { FitInto (length text.now) (length matcher.old.nodes) scratch.old }
     requires serves { Serves matcher.old text.now None seeking.old }
@@ -110,23 +120,12 @@ fn end_of_skipped(
     ensures same { SeeksAsBefore matcher.old matcher.new scratch.old scratch.new }
     ensures serves { ServesAfter matcher.old text.now result seeking.old seeking.new }
     ensures cost { let m = length matcher.old.nodes in let n = length text.now in
-        Pays steps.old steps.new (416 * m * (n + 1)) (owed_skipped m n result seeking.new) }
-    ensures no_groups { group_steps.new ≡ group_steps.old }
+        Pays findings.old.steps findings.new.steps (416 * m * (n + 1)) (owed_skipped m n result seeking.new) }
+    ensures no_groups { findings.new.group_steps ≡ findings.old.group_steps }
 {
     let mut last = None;
     'occurrences: for _ in 0..count {
-        let groups = &mut [None; 10];
-        let (_, end) = next_occurrence(
-            matcher,
-            text,
-            last,
-            false,
-            groups,
-            seeking,
-            scratch,
-            steps,
-            group_steps,
-        )?;
+        let (_, end) = next_occurrence(matcher, text, last, false, seeking, scratch, findings)?;
         last = Some(end);
     }
     Some(last)
@@ -144,8 +143,7 @@ fn needs_groups(parts: &[Part]) -> bool
     false
 }
 
-/// The next occurrence, after the one that ended at `last`, if there was one. Its groups are put into `groups` if `wanted`
-/// says so.
+/// The next occurrence, after the one that ended at `last`, if there was one. Its groups are told if they are `wanted`.
 // Inlined, since on a line with many occurrences the cost of the call itself matters.
 #[inline(always)]
 fn next_occurrence(
@@ -153,30 +151,29 @@ fn next_occurrence(
     text: &[u8],
     last: Option<usize>,
     wanted: bool,
-    groups: &mut Groups,
     seeking: &mut Occurrences,
     scratch: &mut Scratch,
-    steps: &mut Steps,
-    group_steps: &mut Steps,
+    findings: &mut Findings,
 ) -> Option<(usize, usize)>
     requires last { EndsWithin (length text.now) last }
     requires fits { FitInto (length text.now) (length matcher.old.nodes) scratch.old }
     requires serves { Serves matcher.old text.now last seeking.old }
     ensures next { IsNext matcher.old text.now last result }
-    ensures groups { GroupsOf matcher.old text.now wanted result groups.new }
-    ensures groups_in { GroupsIn (length text.now) groups.old → GroupsIn (length text.now) groups.new }
+    ensures groups { GroupsOf matcher.old text.now wanted result findings.new.groups }
+    ensures groups_in { GroupsIn (length text.now) findings.old.groups → GroupsIn (length text.now) findings.new.groups }
     ensures same { SeeksAsBefore matcher.old matcher.new scratch.old scratch.new }
     ensures serves { ServesOn matcher.old text.now result seeking.old seeking.new }
     ensures cost { let m = length matcher.old.nodes in let n = length text.now in
-        Pays steps.old steps.new (owed m n last seeking.old) (owed_after m n result seeking.new) }
+        Pays findings.old.steps findings.new.steps (owed m n last seeking.old) (owed_after m n result seeking.new) }
     ensures group_cost { let m = length matcher.old.nodes in let n = length text.now in
-        Takes group_steps.old group_steps.new (told_cost result wanted (51 * m * m * (n + 1) * (n + 1))) }
+        Takes findings.old.group_steps findings.new.group_steps (told_cost result wanted (51 * m * m * (n + 1) * (n + 1))) }
     ensures linear_group_cost { let m = length matcher.old.nodes in let n = length text.now in
-        Pays group_steps.old group_steps.new (owed_groups m n last) (owed_groups_after m n result) }
+        Pays findings.old.group_steps findings.new.group_steps (owed_groups m n last) (owed_groups_after m n result) }
 {
+    let steps = &mut findings.steps;
     let span = matcher.next_occurrence(&Text::new(text), last, seeking, scratch, steps)?;
     if wanted {
-        tell_groups(matcher, text, span, groups, scratch, group_steps);
+        tell_groups(matcher, text, span, scratch, findings);
     }
     Some(span)
 }
@@ -188,79 +185,67 @@ fn tell_groups(
     matcher: &mut TableMatcher,
     text: &[u8],
     span: (usize, usize),
-    groups: &mut Groups,
     scratch: &mut Scratch,
-    steps: &mut Steps,
+    findings: &mut Findings,
 )
     requires text { length text.now ≤ scratch.old.text }
     requires nodes { length matcher.old.nodes ≤ scratch.old.nodes }
     requires lies { (span.0 ≤ span.1) × (span.1 ≤ length text.now) }
     requires spans { Spans (tree matcher.old) text.now span.0 span.1 }
     ensures same { matcher.new ≡ matcher.old }
-    ensures groups { groups.new ≡ report (tree matcher.old) text.now span.0 span.1 }
-    ensures groups_in { GroupsIn (length text.now) groups.new }
+    ensures groups { findings.new.groups ≡ report (tree matcher.old) text.now span.0 span.1 }
+    ensures groups_in { GroupsIn (length text.now) findings.new.groups }
+    ensures searches { findings.new.steps ≡ findings.old.steps }
     ensures scratch { scratch.new ≡ scratch.old }
     ensures cost { let m = length matcher.old.nodes in let n = length text.now in
-        Takes steps.old steps.new (51 * m * m * (n + 1) * (n + 1)) }
+        Takes findings.old.group_steps findings.new.group_steps (51 * m * m * (n + 1) * (n + 1)) }
     ensures linear_cost { let m = length matcher.old.nodes in
-        Takes steps.old steps.new (172 * m * (m - 1) * (span.1 - span.0) + 2 * m) }
+        Takes findings.old.group_steps findings.new.group_steps (172 * m * (m - 1) * (span.1 - span.0) + 2 * m) }
 {
-    let told = matcher.groups_of(&Text::new(text), span.0, span.1, scratch, steps);
-    *groups = told;
+    let steps = &mut findings.group_steps;
+    findings.groups = matcher.groups_of(&Text::new(text), span.0, span.1, scratch, steps);
 }
 
 /// Appends the text with the first occurrence and, with the flag `g`, all after it replaced.
 fn append_replaced(
-    substitution: &Substitution,
+    replacing: Replacing,
     matcher: &mut TableMatcher,
-    text: &[u8],
     first: (usize, usize),
-    groups: &mut Groups,
     build: &mut Space,
     seeking: &mut Occurrences,
     scratch: &mut Scratch,
-    steps: &mut Steps,
-    group_steps: &mut Steps,
+    findings: &mut Findings,
 ) -> Result<(), Full>
-    requires fits { FitInto (length text.now) (length matcher.old.nodes) scratch.old }
-    requires lies { LiesOn (length text.now) None first }
-    requires groups { GroupsOf matcher.old text.now (has_group substitution.now.replacement) (Some first) groups.old }
-    requires groups_in { GroupsIn (length text.now) groups.old }
-    requires serves { Serves matcher.old text.now (Some first.1) seeking.old }
+    requires fits { FitInto (length replacing.text.now) (length matcher.old.nodes) scratch.old }
+    requires lies { LiesOn (length replacing.text.now) None first }
+    requires groups { GroupsOf matcher.old replacing.text.now (has_group replacing.substitution.now.replacement) (Some first) findings.old.groups }
+    requires groups_in { GroupsIn (length replacing.text.now) findings.old.groups }
+    requires serves { Serves matcher.old replacing.text.now (Some first.1) seeking.old }
     ensures appends { Appends build.old build.new
-        (replaced_from text.now substitution.now.replacement 0
-        (pending matcher.old text.now substitution.now.global (Some first))) result }
+        (replaced_from replacing.entry.text.now replacing.entry.substitution.now.replacement 0
+        (pending matcher.old replacing.entry.text.now replacing.entry.substitution.now.global (Some first))) result }
     ensures same { SeeksAsBefore matcher.old matcher.new scratch.old scratch.new }
     ensures kept { KeepsRoom matcher.old seeking.old seeking.new }
-    ensures cost { let m = length matcher.old.nodes in let n = length text.now in
-        Takes steps.old steps.new (owed m n (Some first.1) seeking.old) }
-    ensures group_cost { let m = length matcher.old.nodes in let n = length text.now in
-        Takes group_steps.old group_steps.new (later_cost (51 * m * m * (n + 1) * (n + 1))
-        (pending matcher.old text.now substitution.now.global (Some first))) }
-    ensures linear_group_cost { let m = length matcher.old.nodes in let n = length text.now in
-        Takes group_steps.old group_steps.new (owed_groups m n (Some first.1)) }
+    ensures cost { let m = length matcher.old.nodes in let n = length replacing.entry.text.now in
+        Takes findings.old.steps findings.new.steps (owed m n (Some first.1) seeking.old) }
+    ensures group_cost { let m = length matcher.old.nodes in let n = length replacing.entry.text.now in
+        Takes findings.old.group_steps findings.new.group_steps (later_cost (51 * m * m * (n + 1) * (n + 1))
+        (pending matcher.old replacing.entry.text.now replacing.entry.substitution.now.global (Some first))) }
+    ensures linear_group_cost { let m = length matcher.old.nodes in let n = length replacing.entry.text.now in
+        Takes findings.old.group_steps findings.new.group_steps (owed_groups m n (Some first.1)) }
 {
+    let Replacing { substitution, text } = replacing;
     let parts = substitution.replacement.parts();
     let wanted = needs_groups(parts);
     let mut copied = 0;
     let mut occurrence = Some(first);
     'occurrences: while let Some(span) = occurrence {
         build.append(&text[copied..span.0])?;
-        put(parts, span, groups, text, build)?;
+        put(parts, span, &findings.groups, text, build)?;
         copied = span.1;
         let last = Some(copied);
         occurrence = if substitution.global {
-            next_occurrence(
-                matcher,
-                text,
-                last,
-                wanted,
-                groups,
-                seeking,
-                scratch,
-                steps,
-                group_steps,
-            )
+            next_occurrence(matcher, text, last, wanted, seeking, scratch, findings)
         } else {
             None
         };

@@ -15,8 +15,7 @@ use super::Machine;
 use crate::ends::Ended;
 use crate::meter::Sinks;
 use crate::place::Place;
-use crate::substitute::build_text;
-use sedre::Steps;
+use crate::substitute::{Findings, Replacing, build_text};
 use sedspace::Full;
 
 impl Machine {
@@ -72,14 +71,15 @@ impl Machine {
         self.used = Some(e);
         self.seeking.begin(e);
         let built = build_text(
-            self.script.substitution(k),
+            Replacing {
+                substitution: self.script.substitution(k),
+                text: self.pattern.bytes(),
+            },
             &mut self.matchers[e],
-            self.pattern.bytes(),
             &mut self.build,
             &mut self.seeking,
             &mut self.scratch,
-            &mut Steps::new(),
-            &mut Steps::new(),
+            &mut Findings::new(),
         );
         match built {
             Ok(true) => {

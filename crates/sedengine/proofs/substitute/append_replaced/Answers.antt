@@ -10,10 +10,10 @@ pub returns-in_err-append-clause-appends : goal.returns-in_err-append-clause-app
 returns-in_err-append-clause-appends c =
     let l = c.occurrences in
     let i = l.invariant in
-    let s = c.args.substitution.now in
-    let due = due_next c.args.build.now l.build _ c.args.matcher.now c.args.text.now s.replacement s.global l.copied
-    l.groups l.occurrence c.in-Some.span c.in-Some.is i.groups (i.limit, i.made) in
-    let before = slice_range c.args.text.now l.copied c.in-Some.span.0 in
+    let s = c.args.replacing.substitution.now in
+    let due = due_next c.args.build.now l.build _ c.args.matcher.now c.args.replacing.text.now s.replacement s.global l.copied
+    l.findings.groups l.occurrence c.in-Some.span c.in-Some.is i.groups (i.limit, i.made) in
+    let before = slice_range c.args.replacing.text.now l.copied c.in-Some.span.0 in
     let a = c.in_err-append.ensures in
     let f = c.in_err-append.field-0.0 in
     let full = appended l.build c.append.new.self before before (Err f) refl a.ok a.full a.err in
@@ -24,10 +24,10 @@ pub returns-in_err-put-clause-appends : goal.returns-in_err-put-clause-appends
 returns-in_err-put-clause-appends c =
     let l = c.occurrences in
     let i = l.invariant in
-    let s = c.args.substitution.now in
+    let s = c.args.replacing.substitution.now in
     let cut = c.append.new.self in
-    let due = due_cut c.args.build.now l.build cut _ c.args.matcher.now c.args.text.now s.replacement _ s.global l.copied
-    l.groups l.occurrence c.in-Some.span c.in-Some.is i.groups c.parts-parts.ensures.pieces (i.limit, i.made)
+    let due = due_cut c.args.build.now l.build cut _ c.args.matcher.now c.args.replacing.text.now s.replacement _ s.global l.copied
+    l.findings.groups l.occurrence c.in-Some.span c.in-Some.is i.groups c.parts-parts.ensures.pieces (i.limit, i.made)
     c.in_ok-append.ensures.ok in
     due_full c.args.build.now cut c.put.new.build _ _ _ c.in_err-put.field-0.0 c.from_residual-in_err-put.result
     c.from_residual-in_err-put.ensures.0 due c.in_err-put.ensures
@@ -37,14 +37,14 @@ occurrences-preserved-then-substitution c =
     let l = c.occurrences in
     let i = l.invariant in
     let e = c.args.matcher.now in
-    let w = c.args.text.now in
-    let s = c.args.substitution.now in
+    let w = c.args.replacing.text.now in
+    let s = c.args.replacing.substitution.now in
     let span = c.in-Some.span in
     let lies = rw c.in-Some.is at i.lies in
     let next = c.next_occurrence-occurrence in
     let more = more_pending e w s.global span.1 next.result c.if-substitution.true lies.2 (rw i.matcher at next.ensures.next.0) in
     let due = due_after c.args.build.now l.build c.append.new.self c.put.new.build _ e w s.replacement _ s.global
-    l.copied l.groups l.occurrence span _ c.in-Some.is i.groups c.parts-parts.ensures.pieces (i.limit, i.made)
+    l.copied l.findings.groups l.occurrence span _ c.in-Some.is i.groups c.parts-parts.ensures.pieces (i.limit, i.made)
     c.in_ok-append.ensures.ok c.in_ok-put.ensures more in
     let wanted = c.needs_groups-wanted.ensures ∙ ap has_group c.parts-parts.ensures.pieces in
     record {
@@ -67,7 +67,7 @@ occurrences-preserved-then-substitution c =
       limit = due.0;
       copied = lies.2;
       lies = lies_on (length w) span.1 next.result next.ensures.next.1;
-      groups = subst (λ (b : Bool). GroupsOf e w b next.result next.new.groups) wanted (rw i.matcher at next.ensures.groups);
+      groups = subst (λ (b : Bool). GroupsOf e w b next.result next.new.findings.groups) wanted (rw i.matcher at next.ensures.groups);
       groups_in = next.ensures.groups_in i.groups_in;
       made = due.1;
     }
@@ -77,13 +77,13 @@ occurrences-preserved c =
     let l = c.occurrences in
     let i = l.invariant in
     let e = c.args.matcher.now in
-    let w = c.args.text.now in
-    let s = c.args.substitution.now in
+    let w = c.args.replacing.text.now in
+    let s = c.args.replacing.substitution.now in
     let span = c.in-Some.span in
     let lies = rw c.in-Some.is at i.lies in
     let none = none_pending e w s.global span.1 c.if-substitution.false in
     let due = due_after c.args.build.now l.build c.append.new.self c.put.new.build _ e w s.replacement _ s.global
-    l.copied l.groups l.occurrence span _ c.in-Some.is i.groups c.parts-parts.ensures.pieces (i.limit, i.made)
+    l.copied l.findings.groups l.occurrence span _ c.in-Some.is i.groups c.parts-parts.ensures.pieces (i.limit, i.made)
     c.in_ok-append.ensures.ok c.in_ok-put.ensures none in
     record {
       matcher = i.matcher;
@@ -107,8 +107,8 @@ pub returns-clause-appends : goal.returns-clause-appends
 returns-clause-appends c =
     let l = c.occurrences in
     let i = l.invariant in
-    let w = c.args.text.now in
-    let s = c.args.substitution.now in
+    let w = c.args.replacing.text.now in
+    let s = c.args.replacing.substitution.now in
     let new = c.append-2.new.self in
     let a = c.append-2.ensures in
     let rest = take (length w - l.copied) (drop l.copied w) in

@@ -15,21 +15,21 @@ invariant-occurrences l = record {
   scratch : l.scratch ≡ l.fn.scratch;
   kept : KeepsRoom l.fn.matcher l.fn.seeking l.seeking;
   serves : IfSome l.occurrence (λ f. Serves l.fn.matcher l.text (Some f.1) l.seeking);
-  grows : l.fn.steps ≤ l.steps;
-  cost : l.steps + owed_after (length l.fn.matcher.nodes) (length l.text) l.occurrence l.seeking
-      ≤ l.fn.steps + owed (length l.fn.matcher.nodes) (length l.text) (Some l.fn.first.1) l.fn.seeking;
-  groups_grow : l.fn.group_steps ≤ l.group_steps;
-  group_cost : l.group_steps
+  grows : l.fn.findings.steps ≤ l.findings.steps;
+  cost : l.findings.steps + owed_after (length l.fn.matcher.nodes) (length l.text) l.occurrence l.seeking
+      ≤ l.fn.findings.steps + owed (length l.fn.matcher.nodes) (length l.text) (Some l.fn.first.1) l.fn.seeking;
+  groups_grow : l.fn.findings.group_steps ≤ l.findings.group_steps;
+  group_cost : l.findings.group_steps
       + later_cost (each (length l.fn.matcher.nodes) (length l.text)) (pending l.fn.matcher l.text l.substitution.global l.occurrence)
-      ≤ l.fn.group_steps
+      ≤ l.fn.findings.group_steps
       + later_cost (each (length l.fn.matcher.nodes) (length l.text)) (pending l.fn.matcher l.text l.substitution.global (Some l.fn.first));
-  linear_group_cost : l.group_steps + owed_groups_after (length l.fn.matcher.nodes) (length l.text) l.occurrence
-      ≤ l.fn.group_steps + owed_groups (length l.fn.matcher.nodes) (length l.text) (Some l.fn.first.1);
+  linear_group_cost : l.findings.group_steps + owed_groups_after (length l.fn.matcher.nodes) (length l.text) l.occurrence
+      ≤ l.fn.findings.group_steps + owed_groups (length l.fn.matcher.nodes) (length l.text) (Some l.fn.first.1);
   limit : l.build.limit ≡ l.fn.build.limit;
   copied : l.copied ≤ length l.text;
   lies : IfSome l.occurrence (λ span. (l.copied ≤ span.0) × (span.0 ≤ span.1) × (span.1 ≤ length l.text));
-  groups : GroupsOf l.fn.matcher l.text (has_group l.substitution.replacement) l.occurrence l.groups;
-  groups_in : GroupsIn (length l.text) l.groups;
+  groups : GroupsOf l.fn.matcher l.text (has_group l.substitution.replacement) l.occurrence l.findings.groups;
+  groups_in : GroupsIn (length l.text) l.findings.groups;
   made : l.build.bytes ++ replaced_from l.text l.substitution.replacement l.copied
       (pending l.fn.matcher l.text l.substitution.global l.occurrence)
       ≡ l.fn.build.bytes ++ replaced_from l.text l.substitution.replacement 0

@@ -7,15 +7,15 @@ use Rattle.sedengine.proofs.substitute.build_text.Goals as goal
 
 pub returns-in_default-next_occurrence-clause-replaces : goal.returns-in_default-next_occurrence-clause-replaces
 returns-in_default-next_occurrence-clause-replaces c =
-    let s = c.args.substitution.now in
-    to_replace_is c.args.matcher.now c.args.text.now s.number s.global c.in-Some.last None c.in-Some.ensures.skips
+    let s = c.args.replacing.substitution.now in
+    to_replace_is c.args.matcher.now c.args.replacing.text.now s.number s.global c.in-Some.last None c.in-Some.ensures.skips
     (rw c.in-Some.ensures.same.0 at c.in_default-next_occurrence.ensures.next.0)
 
 pub returns-in_err-append_replaced-clause-replaces : goal.returns-in_err-append_replaced-clause-replaces
 returns-in_err-append_replaced-clause-replaces c =
-    let s = c.args.substitution.now in
+    let s = c.args.replacing.substitution.now in
     let e = c.args.matcher.now in
-    let w = c.args.text.now in
+    let w = c.args.replacing.text.now in
     let first = Some c.in-Some-next_occurrence.first in
     let same = to_replace_is e w s.number s.global c.in-Some.last first c.in-Some.ensures.skips
     (rw c.in-Some.ensures.same.0 at c.in-Some-next_occurrence.ensures.next.0) in
@@ -25,9 +25,9 @@ returns-in_err-append_replaced-clause-replaces c =
 
 pub returns-clause-replaces : goal.returns-clause-replaces
 returns-clause-replaces c =
-    let s = c.args.substitution.now in
+    let s = c.args.replacing.substitution.now in
     let e = c.args.matcher.now in
-    let w = c.args.text.now in
+    let w = c.args.replacing.text.now in
     let first = Some c.in-Some-next_occurrence.first in
     let same = to_replace_is e w s.number s.global c.in-Some.last first c.in-Some.ensures.skips
     (rw c.in-Some.ensures.same.0 at c.in-Some-next_occurrence.ensures.next.0) in
@@ -51,9 +51,9 @@ returns-clause-kept c =
 
 pub returns-in_err-append_replaced-clause-group_cost : goal.returns-in_err-append_replaced-clause-group_cost
 returns-in_err-append_replaced-clause-group_cost c =
-    let s = c.args.substitution.now in
+    let s = c.args.replacing.substitution.now in
     let e = c.args.matcher.now in
-    let w = c.args.text.now in
+    let w = c.args.replacing.text.now in
     let first = c.in-Some-next_occurrence.first in
     let same = to_replace_is e w s.number s.global c.in-Some.last (Some first) c.in-Some.ensures.skips
     (rw c.in-Some.ensures.same.0 at c.in-Some-next_occurrence.ensures.next.0) in
@@ -63,9 +63,9 @@ returns-in_err-append_replaced-clause-group_cost c =
 
 pub returns-clause-group_cost : goal.returns-clause-group_cost
 returns-clause-group_cost c =
-    let s = c.args.substitution.now in
+    let s = c.args.replacing.substitution.now in
     let e = c.args.matcher.now in
-    let w = c.args.text.now in
+    let w = c.args.replacing.text.now in
     let first = c.in-Some-next_occurrence.first in
     let same = to_replace_is e w s.number s.global c.in-Some.last (Some first) c.in-Some.ensures.skips
     (rw c.in-Some.ensures.same.0 at c.in-Some-next_occurrence.ensures.next.0) in
@@ -75,12 +75,12 @@ returns-clause-group_cost c =
 
 pub returns-in_err-append_replaced-clause-linear_group_cost : goal.returns-in_err-append_replaced-clause-linear_group_cost
 returns-in_err-append_replaced-clause-linear_group_cost c =
-    all_took (length c.args.matcher.now.nodes) (length c.args.text.now) _ _ _ c.in-Some.last c.in-Some-next_occurrence.first
+    all_took (length c.args.matcher.now.nodes) (length c.args.replacing.text.now) _ _ _ c.in-Some.last c.in-Some-next_occurrence.first
     (rw (c.in-Some.ensures.same.0, c.in-Some.ensures.no_groups) at c.in-Some-next_occurrence.ensures.linear_group_cost)
     (rw (c.in-Some-next_occurrence.ensures.same.0, c.in-Some.ensures.same.0) at c.in_err-append_replaced.ensures.linear_group_cost)
 
 pub returns-clause-linear_group_cost : goal.returns-clause-linear_group_cost
 returns-clause-linear_group_cost c =
-    all_took (length c.args.matcher.now.nodes) (length c.args.text.now) _ _ _ c.in-Some.last c.in-Some-next_occurrence.first
+    all_took (length c.args.matcher.now.nodes) (length c.args.replacing.text.now) _ _ _ c.in-Some.last c.in-Some-next_occurrence.first
     (rw (c.in-Some.ensures.same.0, c.in-Some.ensures.no_groups) at c.in-Some-next_occurrence.ensures.linear_group_cost)
     (rw (c.in-Some-next_occurrence.ensures.same.0, c.in-Some.ensures.same.0) at c.in_ok-append_replaced.ensures.linear_group_cost)

@@ -11,9 +11,9 @@ invariant-occurrences l = record {
   last : EndsWithin (length l.text) l.last;
   kept : KeepsRoom l.fn.matcher l.fn.seeking l.seeking;
   serves : Serves l.fn.matcher l.text l.last l.seeking;
-  grows : l.fn.steps ≤ l.steps;
-  no_groups : l.group_steps ≡ l.fn.group_steps;
-  cost : l.steps + owed (length l.fn.matcher.nodes) (length l.text) l.last l.seeking
-      ≤ l.fn.steps + 416 * length l.fn.matcher.nodes * (length l.text + 1);
+  grows : l.fn.findings.steps ≤ l.findings.steps;
+  no_groups : l.findings.group_steps ≡ l.fn.findings.group_steps;
+  cost : l.findings.steps + owed (length l.fn.matcher.nodes) (length l.text) l.last l.seeking
+      ≤ l.fn.findings.steps + 416 * length l.fn.matcher.nodes * (length l.text + 1);
   skipped : drop l.counter (occurrences_after l.fn.matcher l.text None) ≡ occurrences_after l.fn.matcher l.text l.last;
 }
