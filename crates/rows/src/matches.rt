@@ -50,7 +50,7 @@ fn run_over(row: &Row, expr: &Expr, text: &[u8], from: usize, report: &mut Repor
     let Ok(mut scratch) = Scratch::new(row.alloc, text.len(), nodes) else {
         return report.tell(NO_MEMORY);
     };
-    let answers = by_marks(expr, text, from, &mut scratch);
+    let answers = used_once(expr, text, from, &mut scratch);
     compare(row, &answers, expr.groups(), report);
     run_table(row, expr, 513, text, from, &mut scratch, report);
     run_table(row, expr, 64, text, from, &mut scratch, report);
@@ -58,8 +58,8 @@ fn run_over(row: &Row, expr: &Expr, text: &[u8], from: usize, report: &mut Repor
     run_table(row, expr, 0, text, from, &mut scratch, report);
 }
 
-/// What the search by marks answers.
-fn by_marks(expr: &Expr, text: &[u8], from: usize, scratch: &mut Scratch) -> Answers
+/// What the searches of an expression that is used once answer.
+fn used_once(expr: &Expr, text: &[u8], from: usize, scratch: &mut Scratch) -> Answers
     requires from { from ≤ length text.now }
     requires fits { FitInto (length text.now) (length expr.now.nodes) scratch.old }
     ensures { scratch.new ≡ scratch.old }

@@ -1,5 +1,5 @@
 -- How the spans of a node begin, by the part that stands first in it.
-use Rattle.std.proofs.Common.{◌≡◌, ℕ, ◌+◌, ◌<◌, ◌≤◌, Bool, false, List, Some, None, IsTrue, refl, sym, ◌∙◌, subst, inl, ⊎_elim, arith, ◌⊎◌, ◌||◌, inr, ap, Option}
+use Rattle.std.proofs.Common.{◌≡◌, ℕ, ◌+◌, ◌<◌, ◌≤◌, Bool, false, List, Some, None, IsTrue, refl, sym, ◌∙◌, subst, inl, ⊎_elim, arith, ◌⊎◌, ◌||◌, inr, ap, Option, mul-le-mul_left, ◌*◌}
 use Rattle.std.proofs.lemmas.Bool.{both_ways, cases_lt, or_left, or_right}
 use Rattle.sedmarks.specs.declared.beginnings.Begins.TheVariants.{WithSet}
 use Rattle.std.proofs.lemmas.Option.{none-some}
@@ -132,3 +132,14 @@ leaf_either nodes arena x l r node begins leaf alts left right w i j at =
     let first = leaf.4 w i j at in
     let opens = alt_opens nodes arena leaf.0 node l r leaf.1 alts in
     ⊎_elim (λ (h : At nodes w l i first.0). left w i first.0 h) (λ (h : At nodes w r i first.0). right w i first.0 h) (opens.2 w i first.0 first.1)
+
+-- the looks at one alternative more, of at most four
+pub turn_cost : (m turn s0 s1 s t : ℕ) → 1 ≤ m → turn ≤ 3 → s1 ≤ s0 + m → s + 2 * m ≤ s1 + 2 * m * turn → t ≤ s + 1 + m → t ≤ s0 + 8 * m
+turn_cost m turn s0 s1 s t some few first before here =
+    let all = mul-le-mul_left (2 * m) few in
+    omega (arith, all)
+
+pub turns_cost : (m turn s0 s1 s : ℕ) → turn ≤ 4 → s1 ≤ s0 + m → s + 2 * m ≤ s1 + 2 * m * turn → s ≤ s0 + 8 * m
+turns_cost m turn s0 s1 s few first before =
+    let all = mul-le-mul_left (2 * m) few in
+    omega (arith, all)

@@ -1,10 +1,10 @@
 -- The lowest bits of words.
-use Rattle.std.proofs.Common.{◌≡◌, ◌≢◌, ℕ, ◌+◌, ◌-◌, ◌*◌, ◌/◌, ◌%◌, ◌^◌, ◌<◌, ◌≤◌, ◌⊎◌, ◌↔◌, Bool, true, false, List, IsTrue, refl, sym, ap, ◌∙◌, subst, ⊎_elim, true≢false, arith, bit_and, w64, min}
+use Rattle.std.proofs.Common.{◌≡◌, ◌≢◌, ℕ, ◌+◌, ◌-◌, ◌*◌, ◌/◌, ◌%◌, ◌^◌, ◌<◌, ◌≤◌, ◌↔◌, false, List, IsTrue, refl, sym, ap, ◌∙◌, subst, ⊎_elim, true≢false, arith, bit_and, w64, min}
 use Rattle.std.specs.Prelude.{eqb, slice_index_or}
 use Rattle.std.specs.Int.{bit_at, trailing_zeros}
 use Rattle.std.proofs.lemmas.Bool.{cases_lt, eqb-true}
 use Rattle.std.proofs.lemmas.Nat.{one_shl}
-use Rattle.std.proofs.lemmas.Nat.Bits.{bit_at-zero, bit_at_and, bit_at_ones, bit_at_ones_above, bit_at_above, bit_at-lt, bit_at-trailing_zeros}
+use Rattle.std.proofs.lemmas.Nat.Bits.{bit_at-zero, bit_at_and, bit_at_ones, bit_at_ones_above, bit_at-lt, bit_at-trailing_zeros}
 use Rattle.sedre.specs.Words.{is_set}
 
 pub lowest_inside : (word count k : ℕ) → count < 64 → k < count → bit_at (bit_and word (1 * 2 ^ count % 2 ^ 64 - 1)) k ≡ bit_at word k

@@ -1,17 +1,25 @@
 -- An expression without groups leaves all groups as they are.
-use Rattle.std.proofs.Common.{◌≡◌, ℕ, zero, suc, ◌+◌, ◌*◌, ◌<◌, ◌≤◌, Bool, true, false, List, [], ◌∷◌, length, None, Some, refl, sym, ap, ◌∙◌, subst, inl, inr, arith, mul-le-mul_left}
-use Rattle.std.specs.Prelude.{slice_get, slice_set, cond}
-use Rattle.sedre.specs.Tree.{Tree, empty, set, begin, end, seq, alt, group, star, opt, size}
+use Rattle.std.proofs.Common.{◌≡◌, ℕ, zero, suc, ◌<◌, Bool, true, false, List, length, Some, refl, sym, ap, ◌∙◌, subst, inl, inr, arith}
+use Rattle.std.specs.Prelude.{slice_get, cond}
+use Rattle.sedre.specs.Tree.{Tree, empty, set, begin, end, seq, alt, group, star, opt}
 use Rattle.sedmarks.specs.Spans.{Spans}
 use Rattle.sedre.specs.Arena.{IsExpr, tree_at, tree_of}
 use Rattle.sedre.specs.declared.types.Node.{Node}
 use Rattle.sedre.specs.declared.types.Node.TheVariants.{Empty, Set, Begin, End, Seq, Alt, Group, Star, Opt}
 use Rattle.sedre.proofs.TreeLemmas.{tree_at-node}
 use Rattle.sedmarks.specs.Caps.{Groups, Caps, forget}
-use Rattle.sedmarks.specs.Work.{NoGroups, has_span}
 use Rattle.sedmarks.specs.Matching.{caps, cut, last_start, spans}
-use Rattle.sedmarks.proofs.OpenLemmas.{node_at}
+use Rattle.sedmarks.proofs.NodeLemmas.{node_at}
 use Rattle.sedmarks.proofs.MatchingLemmas.{caps-is}
+
+-- there is no group in the tree
+abbrev pub NoGroups : Tree → Type 0
+NoGroups (seq a b) = NoGroups a × NoGroups b
+NoGroups (alt a b) = NoGroups a × NoGroups b
+NoGroups (group k a) = ⊥
+NoGroups (star a first) = NoGroups a
+NoGroups (opt a first) = NoGroups a
+NoGroups other = Unit {0}
 
 forget-none : (e : Tree) → NoGroups e → (g : Groups) → forget e g ≡ g
 forget-none empty none g = refl
@@ -23,24 +31,6 @@ forget-none (alt a b) none g = ap (forget b) (forget-none a none.0 g) ∙ forget
 forget-none (group k a) none g = absurd none
 forget-none (star a first) none g = forget-none a none g
 forget-none (opt a first) none g = forget-none a none g
-
--- where no group has a span, there is nothing to forget
-none_set : (g : Groups) (k : ℕ) → has_span g ≡ false → slice_set g k None ≡ g
-none_set [] k is = refl
-none_set (None ∷ gs) zero is = refl
-none_set (None ∷ gs) (suc k) is = ap (λ v. None ∷ v) (none_set gs k is)
-none_set (Some span ∷ gs) k is = cc
-
-pub forget-nothing : (e : Tree) (g : Groups) → has_span g ≡ false → forget e g ≡ g
-forget-nothing empty g is = refl
-forget-nothing (set has) g is = refl
-forget-nothing begin g is = refl
-forget-nothing end g is = refl
-forget-nothing (seq a b) g is = ap (forget b) (forget-nothing a g is) ∙ forget-nothing b g is
-forget-nothing (alt a b) g is = ap (forget b) (forget-nothing a g is) ∙ forget-nothing b g is
-forget-nothing (group k a) g is = ap (forget a) (none_set g k is) ∙ forget-nothing a g is
-forget-nothing (star a first) g is = forget-nothing a g is
-forget-nothing (opt a first) g is = forget-nothing a g is
 
 cond-same : (b : Bool) (x y g : Groups) → x ≡ g → y ≡ g → cond b x y ≡ g
 cond-same true x y g left right = left
@@ -88,25 +78,3 @@ module _ (nodes : List Node) (groups : ℕ) (expr : IsExpr nodes groups) (few : 
 
   pub no_groups_at : (x : ℕ) → x < length nodes → NoGroups (tree_at nodes x)
   no_groups_at x inside = none_below (suc x) x (omega arith) inside
-
--- no tree has more nodes than the expression
-pub sizes_fit : (nodes : List Node) (groups : ℕ) → IsExpr nodes groups → (x : ℕ) → x < length nodes → size (tree_at nodes x) ≤ length nodes
-sizes_fit nodes groups expr x inside = let fits = expr.sizes x inside in omega arith
-
--- a search that finds nothing costs no more than one that does
-pub miss_cost : (m n s t : ℕ) → 0 < m → t ≤ s + 48 * m * (n + 1) * (n + 1) → t ≤ s + 64 * m * m * (n + 1) * (n + 1)
-miss_cost m n s t some first =
-    let one : 1 ≤ m = omega arith in
-    let all = mul-le-mul_left (48 * m * (n + 1) * (n + 1)) one in
-    omega (arith, first, all)
-
-pub by_miss : (m n s t : ℕ) → 0 < m → t ≤ s + 64 * m * (n + 1) * (n + 1) → t ≤ s + 64 * m * m * (n + 1) * (n + 1)
-by_miss m n s t some first =
-    let one : 1 ≤ m = omega arith in
-    let all = mul-le-mul_left (64 * m * (n + 1) * (n + 1)) one in
-    omega (arith, first, all)
-
-pub by_cost : (m n s t u : ℕ) → 2 ≤ m → t ≤ s + 64 * m * (n + 1) * (n + 1) → u + 48 * m * (n + 1) * (n + 1) ≤ t + 51 * m * m * (n + 1) * (n + 1) → u ≤ s + 64 * m * m * (n + 1) * (n + 1)
-by_cost m n s t u two first rest =
-    let all = mul-le-mul_left (8 * m * (n + 1) * (n + 1)) two in
-    omega (arith, first, rest, all)

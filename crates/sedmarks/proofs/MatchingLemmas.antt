@@ -1,13 +1,12 @@
 -- The computed match is the one that the relations tell.
 use Rattle.std.proofs.Common.{◌≡◌, ℕ, zero, suc, ◌+◌, ◌-◌, ◌<◌, ◌≤◌, ◌⊎◌, ◌↔◌, Bool, true, false, ◌&&◌, ◌||◌, List, length, Option, Some, None, IsTrue, refl, sym, ap, ◌∙◌, subst, inl, inr, ⊎_elim, true≢false, arith}
-use Rattle.std.specs.Prelude.{cond, eqb, ltb, slice_get, slice_index_or, slice_set, is_some, unwrap_or, IfSome, IfNone}
+use Rattle.std.specs.Prelude.{cond, eqb, ltb, slice_get, slice_index_or, slice_set, is_some, unwrap_or}
 use Rattle.std.proofs.lemmas.Bool.{and_parts, and_from, or_cases, or_left, or_right, cases_lt, cases_eq, eqb-true, eq-eqb, ltb-true, lt-ltb, cases_Bool}
 use Rattle.std.proofs.lemmas.Bool.Decides.{same_from_decides}
 use Rattle.std.proofs.lemmas.Option.{slice_get_within, none-some}
 use Rattle.sedre.specs.Tree.{Tree, empty, set, begin, end, seq, alt, group, star, opt}
 use Rattle.sedmarks.specs.Spans.{Copies, no_copy, one_more, Spans, Found, NotFound, SomeFound}
 use Rattle.sedmarks.specs.Caps.{Groups, Caps, forget, LastCut, LastCopy, only, then}
-use Rattle.sedmarks.specs.PartEnds.{GreatestBelow}
 use Rattle.sedmarks.specs.Reach.{Longest}
 use Rattle.sedmarks.specs.Matching.{any, greatest, copies, takes, spans, longest, first_of, found_from, found, cut, first_copy, last_start, caps, report, SpansLaw, FoundLaw, NotFoundLaw, SomeFoundLaw, OneCapsLaw, CapsLaw, ReportLaw}
 use Rattle.sedmarks.specs.Caps.{no_groups}
@@ -31,6 +30,11 @@ any-from test (suc n) k lt h =
     (λ (e : k ≡ n). or_left (test n) (any test n) (subst (λ v. test v ≡ true) e h))
     (λ (ne : k ≡ n → ⊥). or_right (test n) (any test n) (any-from test n k (omega arith) h))
     (cases_eq k n)
+
+-- the greatest number below n of which P holds, if there is one
+abbrev pub GreatestBelow : (ℕ → Type 0) → ℕ → Option ℕ → Type 0
+GreatestBelow P n None = (k : ℕ) → k < n → P k → ⊥
+GreatestBelow P n (Some l) = (l < n) × P l × ((k : ℕ) → k < n → P k → k ≤ l)
 
 -- one more number is tried
 greatest-step : (test : ℕ → Bool) (n : ℕ) (b : Bool) (rest : Option ℕ) → test n ≡ b → GreatestBelow (λ k. test k ≡ true) n rest →
@@ -301,12 +305,6 @@ some_found-iff e w p fits = some_found-of e w p fits (found e w p) (found-is e w
 
 pub one_caps : OneCapsLaw
 one_caps = Caps-unique
-
--- an answer that is right is the computed one
-pub span_is : (e : Tree) (w : List ℕ) (p : ℕ) → p ≤ length w → (r : Option (ℕ × ℕ)) →
-    IfSome r (λ f. Found e w p f.0 f.1) → IfNone r (NotFound e w p) → r ≡ found e w p
-span_is e w p fits None some none = sym ((not_found-iff e w p fits).1 none)
-span_is e w p fits (Some f) some none = sym ((found-iff e w p f.0 f.1 fits).1 some)
 
 pub same_test : (t : Bool) (e : Tree) (w : List ℕ) (p : ℕ) → p ≤ length w → (IsTrue t ↔ SomeFound e w p) → t ≡ is_some (found e w p)
 same_test t e w p fits tells =

@@ -1,7 +1,7 @@
 -- The answer of a search.
 use Rattle.std.specs.Prelude.{◌≡◌, ℕ, ◌≤◌, List, length, Option, Some, None, IfSome, IfNone}
 use Rattle.sedre.specs.Tree.{Tree}
-use Rattle.sedmarks.specs.declared.matcher.Found.{Found}
+use Rattle.sedmarks.specs.declared.found.Found.{Found}
 use Rattle.sedmarks.specs.Spans.{Found as IsFound, NotFound}
 use Rattle.sedmarks.specs.Caps.{IsReport}
 use Rattle.sedmarks.specs.Parts.{SpanIn, span_of}

@@ -56,3 +56,7 @@ IsLeftmost nodes x node = (y : ℕ) × (slice_get nodes y ≡ Some node) × (y �
 abbrev pub alternatives : Node → Option (ℕ × ℕ)
 alternatives (Alt a b) = Some (a.index, b.index)
 alternatives other = None
+
+-- no place from p up to but not including q begins a match
+abbrev pub NoneIn : Tree → List ℕ → ℕ → ℕ → Type 0
+NoneIn e w p q = (i k : ℕ) → p ≤ i → i < q → Spans e w i k → ⊥

@@ -1,5 +1,5 @@
--- Where a text holds a byte, and in which order its bytes are read.
-use Rattle.std.specs.Prelude.{◌≡◌, ℕ, ◌+◌, ◌-◌, ◌<◌, ◌≤◌, Bool, true, false, List, reverse, slice_get, Option, Some, None}
+-- Where a text holds a byte.
+use Rattle.std.specs.Prelude.{◌≡◌, ℕ, ◌+◌, ◌-◌, ◌<◌, ◌≤◌, List, slice_get, Option, Some, None}
 
 -- the first place from p on of which P holds, if there is one
 abbrev pub FirstFrom : (ℕ → Type 0) → ℕ → Option ℕ → Type 0
@@ -14,11 +14,6 @@ FirstAt w byte = FirstFrom (λ k. slice_get w k ≡ Some byte)
 abbrev pub looked_at : ℕ → ℕ → Option ℕ → ℕ
 looked_at n p None = n - p
 looked_at n p (Some k) = k + 1 - p
-
--- the bytes, from the last to the first or as they are
-abbrev pub in_order : Bool → List ℕ → List ℕ
-in_order true w = reverse w
-in_order false w = w
 
 -- the text is of bytes
 abbrev pub AreBytes : List ℕ → Type 0

@@ -1,17 +1,30 @@
 -- Private to the proofs: no contract that `sedmatch` makes public cites what stands here.
--- Nodes of an expression by their indices.
-use Rattle.std.specs.Prelude.{◌≡◌, ℕ, ◌+◌, ◌<◌, ◌≤◌, List, length}
-use Rattle.sedre.specs.Arena.{IsArena}
+-- Nodes of an expression by their indices, and their parts.
+use Rattle.std.specs.Prelude.{◌≡◌, ℕ, ◌+◌, ◌<◌, ◌≤◌, Bool, List, [], ◌∷◌, length, slice_get, Some}
+use Rattle.sedre.specs.Arena.{tree_at}
+use Rattle.sedre.specs.Tree.{size}
 use Rattle.sedre.specs.declared.types.Node.{Node}
+use Rattle.sedre.specs.declared.types.NodeId.{NodeId}
+use Rattle.sedre.specs.declared.types.Node.TheVariants.{Seq, Alt, Group, Star, Opt}
 
 -- x is a node, and there are no more of them than an expression may have
 abbrev pub IsNode : List Node → ℕ → Type 0
 IsNode nodes x = (x < length nodes) × (length nodes ≤ 65536)
 
--- r is the last node, which is the root, and there are no more of them than an expression may have
-abbrev pub IsRoot : List Node → ℕ → Type 0
-IsRoot nodes r = (r + 1 ≡ length nodes) × (length nodes ≤ 65536)
+-- the parts of a node, the left one first
+abbrev pub parts_of : Node → List ℕ
+parts_of (Seq a b) = a.index ∷ b.index ∷ []
+parts_of (Alt a b) = a.index ∷ b.index ∷ []
+parts_of (Group k a) = a.index ∷ []
+parts_of (Star a first) = a.index ∷ []
+parts_of (Opt a first) = a.index ∷ []
+parts_of other = []
 
--- r is the last node of an arena, which is the root, and there are no more of them than an expression may have
-abbrev pub IsArenaRoot : List Node → ℕ → Type 0
-IsArenaRoot nodes r = IsArena nodes × IsRoot nodes r
+-- the node x is a repetition, and the node part is what it repeats
+abbrev pub Repeats : List Node → ℕ → ℕ → Type 0
+Repeats nodes x part = (a : NodeId) × (first : Bool) × (slice_get nodes x ≡ Some (Star a first)) × (a.index ≡ part)
+
+-- the sizes of the trees at the nodes
+abbrev pub sizes : List Node → List ℕ → ℕ
+sizes nodes [] = 0
+sizes nodes (x ∷ xs) = size (tree_at nodes x) + sizes nodes xs

@@ -1,14 +1,13 @@
 -- Private to the proofs: no contract that `sedmatch` makes public cites what stands here.
 -- At which places of a text the nodes of an expression can begin and end, in matches that begin at one of some starts.
-use Rattle.std.specs.Prelude.{◌≡◌, ℕ, ◌+◌, ◌<◌, ◌≤◌, Bool, false, ◌⊎◌, ◌↔◌, List, slice_get, slice_index_or, Option, Some, None, IsTrue}
+use Rattle.std.specs.Prelude.{◌≡◌, ℕ, ◌<◌, ◌≤◌, Bool, false, ◌⊎◌, ◌↔◌, List, slice_get, slice_index_or, Option, Some, None, IsTrue}
 use Rattle.sedre.specs.Tree.{Tree}
 use Rattle.sedmarks.specs.Spans.{Spans}
 use Rattle.sedre.specs.Arena.{tree_at, IsPart}
 use Rattle.sedre.specs.declared.types.Node.{Node}
 use Rattle.sedre.specs.declared.types.NodeId.{NodeId}
-use Rattle.sedmarks.specs.declared.passes.Starts.{Starts}
-use Rattle.sedmarks.specs.Matching.{takes}
-use Rattle.sedre.specs.declared.types.Node.TheVariants.{Set, Seq, Star}
+use Rattle.sedmarks.specs.declared.starts.Starts.{Starts}
+use Rattle.sedre.specs.declared.types.Node.TheVariants.{Seq, Star}
 
 -- c is a part that begins where the node does
 abbrev pub BeginsWith : Node → ℕ → Type 0
@@ -27,6 +26,10 @@ IsStart s i = (s.first ≤ i) × (i ≤ s.last)
 abbrev pub one_start : ℕ → Starts
 one_start start = record { first = start; last = start }
 
+-- the starts from one to another
+abbrev pub starts_to : ℕ → ℕ → Starts
+starts_to first last = record { first = first; last = last }
+
 -- in a match of the node r from one of the starts, the node can begin at the place
 pub data Enters (nodes : List Node) (w : List ℕ) (r : ℕ) (s : Starts) : ℕ → ℕ → Type 0 where
   at_root : (x i : ℕ) → x ≡ r → IsStart s i → Enters nodes w r s x i
@@ -38,33 +41,13 @@ pub data Enters (nodes : List Node) (w : List ℕ) (r : ℕ) (s : Starts) : ℕ 
 abbrev pub Ends : List Node → List ℕ → ℕ → Starts → ℕ → ℕ → Type 0
 Ends nodes w r s x j = (i : ℕ) × (i < j) × Enters nodes w r s x i × At nodes w x i j
 
--- the node can begin one byte before j
-abbrev pub Entered : List Node → List ℕ → ℕ → Starts → ℕ → ℕ → Type 0
-Entered nodes w r s x j = (i : ℕ) × (i + 1 ≡ j) × Enters nodes w r s x i
-
--- if a node from n on that takes the byte that comes can begin at the place, then more is true
-abbrev pub SetsFrom : List Node → List ℕ → ℕ → Starts → ℕ → ℕ → Option ℕ → Bool → Type 0
-SetsFrom nodes w r s place n next more = (c : ℕ) (set : List Bool) → n ≤ c → slice_get nodes c ≡ Some (Set set) → Enters nodes w r s c place → IsTrue (takes next set) → IsTrue more
-
 -- the node r matches from one of the starts to j
 abbrev pub SomeSpan : List Node → List ℕ → ℕ → Starts → ℕ → Type 0
 SomeSpan nodes w r s j = (i : ℕ) × IsStart s i × At nodes w r i j
 
--- if a match of the node r from one of the starts up to the place ends after the place, then more is true
-abbrev pub OpenAt : List Node → List ℕ → ℕ → Starts → ℕ → Bool → Type 0
-OpenAt nodes w r s place more = (i k : ℕ) → IsStart s i → i ≤ place → place < k → At nodes w r i k → IsTrue more
-
--- if a match of the node r from the start ends after the place, then more is true
-abbrev pub OpenFrom : List Node → List ℕ → ℕ → ℕ → ℕ → Bool → Type 0
-OpenFrom nodes w r start place more = (k : ℕ) → place < k → At nodes w r start k → IsTrue more
-
 -- the marks tell, of each place that S has, whether P holds of it
 abbrev pub Marked : List Bool → (ℕ → Type 0) → (ℕ → Type 0) → Type 0
 Marked marks S P = (c : ℕ) → S c → IsTrue (slice_index_or marks c false) ↔ P c
-
--- c is below n
-abbrev pub Below : ℕ → ℕ → Type 0
-Below n c = c < n
 
 -- c is r, or a part of a node from y to r
 abbrev pub PartFrom : List Node → ℕ → ℕ → ℕ → Type 0
@@ -74,28 +57,7 @@ PartFrom nodes r y c = (c ≡ r) ⊎ ((z : ℕ) × (node : Node) × (y ≤ z) ×
 abbrev pub IsLoose : List Node → ℕ → ℕ → Type 0
 IsLoose nodes r c = (z : ℕ) × (node : Node) × (r < z) × (slice_get nodes z ≡ Some node) × IsPart node c
 
--- a span from i no shorter than any that ends below n; None: none ends there
-abbrev pub LongestBelow : Tree → List ℕ → ℕ → ℕ → Option ℕ → Type 0
-LongestBelow e w i n None = (k : ℕ) → k < n → Spans e w i k → ⊥
-LongestBelow e w i n (Some j) = Spans e w i j × ((k : ℕ) → k < n → Spans e w i k → k ≤ j)
-
 -- the longest span from i, if there is one
 abbrev pub Longest : Tree → List ℕ → ℕ → Option ℕ → Type 0
 Longest e w i None = (k : ℕ) → Spans e w i k → ⊥
 Longest e w i (Some j) = Spans e w i j × ((k : ℕ) → Spans e w i k → k ≤ j)
-
--- the marks tell which nodes up to r match the null string at the place
-abbrev pub TellNull : List Node → List ℕ → ℕ → ℕ → List Bool → Type 0
-TellNull nodes w r place marks = Marked marks (Below (r + 1)) (λ c. At nodes w c place place)
-
--- the marks tell which nodes up to r could begin one byte before the place
-abbrev pub TellEntered : List Node → List ℕ → ℕ → Starts → ℕ → List Bool → Type 0
-TellEntered nodes w r s place marks = Marked marks (Below (r + 1)) (λ c. Entered nodes w r s c place)
-
--- the marks tell which nodes up to r can end at the place, after at least one byte
-abbrev pub TellEnded : List Node → List ℕ → ℕ → Starts → ℕ → List Bool → Type 0
-TellEnded nodes w r s place marks = Marked marks (Below (r + 1)) (λ c. Ends nodes w r s c place)
-
--- the marks tell which nodes up to r can begin at the place
-abbrev pub TellBegun : List Node → List ℕ → ℕ → Starts → ℕ → List Bool → Type 0
-TellBegun nodes w r s place marks = Marked marks (Below (r + 1)) (λ c. Enters nodes w r s c place)

@@ -9,7 +9,6 @@ ghost use Rattle.sedre.specs.Steps.{Takes};
 
 use crate::counted::Text;
 use crate::members::find_member;
-use crate::passes::takes_byte;
 use sedre::{ByteSet, Expr, Node, Steps};
 
 /// How every span of an expression begins.
@@ -26,7 +25,7 @@ pub enum Begins {
 }
 
 /// The part with which every span of a node begins, if the node has one.
-pub fn left_part(node: &Node) -> Option<usize>
+fn left_part(node: &Node) -> Option<usize>
     ensures { result ≡ left_part node.now }
 {
     match node {

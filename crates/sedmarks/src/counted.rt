@@ -3,8 +3,7 @@ ghost use Rattle.std.specs.Prelude.{◌≡◌, ℕ, Bool, false, true, List, ◌
 ghost use Rattle.std.specs.Prelude.{slice_index_or, slice_set, slice_get, Some, IfOk, replicate, eqb, ◌≢◌, ◌*◌, IsTrue, ◌↔◌};
 ghost use Rattle.std.specs.Prelude.{vec_len};
 ghost use Rattle.std.specs.Int.{bit_at};
-ghost use Rattle.std.specs.Prelude.{reverse};
-ghost use Rattle.sedmarks.specs.Bytes.{AreBytes, FirstAt, looked_at, in_order};
+ghost use Rattle.sedmarks.specs.Bytes.{AreBytes, FirstAt, looked_at};
 ghost use Rattle.sedmarks.specs.Words.{marks_of};
 ghost use Rattle.sedre.specs.Words.{is_set};
 ghost use Rattle.sedre.specs.Steps.{Takes, Counted};
@@ -57,24 +56,11 @@ impl<'a> Text<'a> {
         place + count
     }
 
-    /// Its bytes as they are.
+    /// Its bytes, for a loop that counts its looks in a tally.
     pub fn forwards(&self) -> Bytes<'a>
         ensures { result ≡ self.now }
     {
-        Bytes {
-            bytes: self.bytes,
-            backwards: false,
-        }
-    }
-
-    /// Its bytes from the last to the first.
-    pub fn backwards(&self) -> Bytes<'a>
-        ensures { result ≡ reverse self.now }
-    {
-        Bytes {
-            bytes: self.bytes,
-            backwards: true,
-        }
+        Bytes { bytes: self.bytes }
     }
 
     /// The byte at a place. Counts one look.
@@ -132,17 +118,16 @@ fn all_bytes(bytes: &[u8])
     let _count = bytes.len();
 }
 
-/// The bytes of a text, as they are or from the last to the first, looked at by calls that count.
+/// The bytes of a text, looked at by calls that count, in a tally too.
 #[derive(Drop)]
 pub struct Bytes<'a> {
     bytes: &'a [u8],
-    backwards: bool,
 }
 
 impl<'a> Model for Bytes<'a> {
     ghost Value = { List ℕ };
 
-    ghost view = { λ b. in_order b.backwards b.bytes.now };
+    ghost view = { λ b. b.bytes.now };
 }
 
 /// The bytes that one loop looks at, counted apart from the steps, to which they are added at its end: so the count
@@ -199,7 +184,7 @@ impl<'a> Bytes<'a> {
         ensures counts { Counted steps.old steps.new 1 }
     {
         steps.add(1);
-        self.at(i)
+        self.bytes[i]
     }
 
     /// The byte at a place. Counts one look in the tally.
@@ -210,19 +195,7 @@ impl<'a> Bytes<'a> {
         ensures cost { tally.new ≡ tally.old + 1 }
     {
         tally.add();
-        self.at(i)
-    }
-
-    /// The byte at a place, from whichever end.
-    fn at(&self, i: usize) -> u8
-        requires { i < length self.now }
-        ensures { slice_get self.now i ≡ Some result }
-    {
-        if self.backwards {
-            self.bytes[self.bytes.len() - 1 - i]
-        } else {
-            self.bytes[i]
-        }
+        self.bytes[i]
     }
 }
 

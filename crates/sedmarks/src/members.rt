@@ -1,6 +1,8 @@
-//! Bytes of a set in a text: the first one from a place on, and how far a run of them goes, by calls that count.
+//! Whether a byte is in a set; and bytes of a set in a text: the first one from a place on, and how far a run of them goes,
+//! by calls that count.
 ghost use Rattle.std.specs.Prelude.{◌≡◌, ◌+◌, ◌-◌, ◌<◌, ◌≤◌, length, min, slice_get, Some, IfSome};
-ghost use Rattle.sedmarks.specs.RunsAhead.{IsRun};
+ghost use Rattle.sedmarks.specs.Runs.{IsRun};
+ghost use Rattle.sedmarks.specs.Matching.{takes};
 ghost use Rattle.sedmarks.specs.Beginnings.{CanBegin, NextStart, skip_cost};
 ghost use Rattle.sedmarks.specs.Bytes.{looked_at};
 ghost use Rattle.sedmarks.specs.declared.beginnings.Begins.TheVariants.{WithSet};
@@ -9,6 +11,16 @@ ghost use Rattle.sedre.specs.Steps.{Takes, Counted};
 
 use crate::counted::{Text, uncounted};
 use sedre::{ByteSet, Steps};
+
+/// Whether a byte is there and in the set.
+pub fn takes_byte(set: &ByteSet, byte: Option<u8>) -> bool
+    ensures { result ≡ takes byte set.now }
+{
+    match byte {
+        None => false,
+        Some(b) => set.has(b),
+    }
+}
 
 /// The byte at a place.
 #[inline(always)]

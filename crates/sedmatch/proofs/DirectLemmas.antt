@@ -13,7 +13,7 @@ use Rattle.sedmarks.specs.Answer.{SpanAnswer}
 use Rattle.sedmarks.specs.Beginnings.{CanBegin, NextStart}
 use Rattle.sedmarks.specs.Bytes.{AreBytes, looked_at}
 use Rattle.sedmarks.specs.Reach.{At}
-use Rattle.sedmarks.specs.RunsAhead.{Repeated, AllRepeat, IsRun}
+use Rattle.sedmarks.specs.Runs.{Repeated, AllRepeat, IsRun}
 use Rattle.sedmarks.specs.Spans.{Spans, SomeFound, IsIn, no_copy}
 use Rattle.sedmarks.specs.declared.beginnings.Begins.TheVariants.{WithSet}
 use Rattle.sedneedles.specs.Choice.{FirstChoice}

@@ -5,6 +5,7 @@ pub mod CountLemmas
 pub mod DirectLemmas
 pub mod MatcherLemmas
 pub mod OccurrenceLemmas
+pub mod OnceLemmas
 pub mod RoomLemmas
 pub mod RunBackLemmas
 pub mod PassLemmas

@@ -25,7 +25,8 @@ use Rattle.std.specs.Prelude.{vec_capacity}
 use Rattle.sedmatch.proofs.PassLemmas.{blocks_suffice}
 use Rattle.sedmatch.specs.declared.occurrences.BackTables.{BackTables}
 use Rattle.sedmatch.specs.declared.occurrences.Occurrences.{Occurrences}
-use Rattle.sedmatch.specs.Occurrences.{AreApart, HasOwn, HasTable, IsBack, IsShared, RoomAt, RoomFor, Serves, SetsTable, TableIs, AreTables, back_way, owed, owed_after, owed_search}
+use Rattle.sedmatch.specs.Passes.{back_way}
+use Rattle.sedmatch.specs.Occurrences.{AreApart, HasOwn, HasTable, IsBack, IsShared, RoomAt, RoomFor, Serves, SetsTable, TableIs, AreTables, owed, owed_after, owed_search}
 
 -- Lists of tables.
 
@@ -120,7 +121,7 @@ module _ (p : Prepared) (k : ℕ) (o o' : Occurrences) (sets : SetsTable p k o.t
           (λ (other : 0 ≡ k → ⊥). space_still text nodes o.seeking.kept o'.seeking.kept x (at.1 x (there 0 x other is)) space)
           cases
 
-  own_still : (x : ℕ) (e : Written) → ((j : ℕ) → slice_get o.tables.slots.items x ≡ Some j → 0 < j → j ≡ k → p.expr ≡ e) → HasOwn x e o.tables → HasOwn x e o'.tables
+  own_still : (x : ℕ) (e : Written) → ((j : ℕ) → slice_get o.tables.slots.items x ≡ Some j → 0 < j → j ≡ k → p.arena.expr ≡ e) → HasOwn x e o.tables → HasOwn x e o'.tables
   own_still x e mine has = subst (λ slots. (x < length slots.items) × ((j : ℕ) → slice_get slots.items x ≡ Some j → 0 < j → TableIs after j (IsBack e))) (sym sets.slots)
       (has.0, λ j at some. let old = has.1 j at some in (omega (arith, old.0, long_still), λ t is. by j (cases_eq j k) at some old t is))
     where
@@ -135,25 +136,25 @@ module _ (p : Prepared) (k : ℕ) (o o' : Occurrences) (sets : SetsTable p k o.t
           (λ (other : j ≡ k → ⊥). old.1 t (there j t other is))
           cases
 
-  pub at_set : (text x : ℕ) (e : Written) → ((j : ℕ) → slice_get o.tables.slots.items x ≡ Some j → 0 < j → j ≡ k → p.expr ≡ e) → RoomAt text x e o → RoomAt text x e o'
+  pub at_set : (text x : ℕ) (e : Written) → ((j : ℕ) → slice_get o.tables.slots.items x ≡ Some j → 0 < j → j ≡ k → p.arena.expr ≡ e) → RoomAt text x e o → RoomAt text x e o'
   at_set text x e mine at = record {
     shared = first_still text (length e.nodes) at.shared;
     few = few_still o.seeking.kept o'.seeking.kept space at.few;
     own = own_still x e mine at.own;
   }
 
-  pub for_set : (text : ℕ) (es : List Written) → (k ≡ 0) ⊎ (slice_get o.tables.slots.items o.number ≡ Some k) → slice_get es o.number ≡ Some p.expr → RoomFor text es o → RoomFor text es o'
+  pub for_set : (text : ℕ) (es : List Written) → (k ≡ 0) ⊎ (slice_get o.tables.slots.items o.number ≡ Some k) → slice_get es o.number ≡ Some p.arena.expr → RoomFor text es o → RoomFor text es o'
   for_set text es choice sought room = record {
     each = λ x e is. at_set text x e (λ j at some same. whose x e j is at some same choice) (room.each x e is);
     apart = subst (λ slots. AreApart slots.items) (sym sets.slots) room.apart;
   }
     where
-      whose : (x : ℕ) (e : Written) (j : ℕ) → slice_get es x ≡ Some e → slice_get o.tables.slots.items x ≡ Some j → 0 < j → j ≡ k → (k ≡ 0) ⊎ (slice_get o.tables.slots.items o.number ≡ Some k) → p.expr ≡ e
+      whose : (x : ℕ) (e : Written) (j : ℕ) → slice_get es x ≡ Some e → slice_get o.tables.slots.items x ≡ Some j → 0 < j → j ≡ k → (k ≡ 0) ⊎ (slice_get o.tables.slots.items o.number ≡ Some k) → p.arena.expr ≡ e
       whose x e j is at some same choice = ⊎_elim
           (λ (none : k ≡ 0). absurd (omega (arith, some, same, none)))
           (λ (mine : slice_get o.tables.slots.items o.number ≡ Some k).
           let one : x ≡ o.number = room.apart x o.number j at (mine ∙ ap (λ v. Some v) (sym same)) some in
-          some_written p.expr e (sym sought ∙ sym (ap (λ v. slice_get es v) one) ∙ is))
+          some_written p.arena.expr e (sym sought ∙ sym (ap (λ v. slice_get es v) one) ∙ is))
           choice
 
 pub space_refl : (k : Kept) → SameSpace k k
@@ -165,7 +166,7 @@ space_by k k' is = subst (SameSpace k) (sym is) (space_refl k)
 -- Where a search begins: the table that is chosen.
 
 -- an expression's own table has some states
-pub own_states : (p : Prepared) (x : ℕ) (b : BackTables) → HasOwn x p.expr b → (k : ℕ) (t : Table) → slice_get b.slots.items x ≡ Some k → 0 < k → slice_get b.all.items k ≡ Some t → (2 ≤ t.room) × (t.room ≤ 65535)
+pub own_states : (p : Prepared) (x : ℕ) (b : BackTables) → HasOwn x p.arena.expr b → (k : ℕ) (t : Table) → slice_get b.slots.items x ≡ Some k → 0 < k → slice_get b.all.items k ≡ Some t → (2 ≤ t.room) × (t.room ≤ 65535)
 own_states p x b has k t at some there = let table = ((has.1 k at some).1 t there).1 p refl in (table.room.some, table.room.few)
 
 blocks_fit : (b w n e : ℕ) → b * w ≤ n → n < e / 2 * w → 2 * b + 1 < e
@@ -175,10 +176,10 @@ blocks_fit b w n e low enough =
     (λ (ge : e / 2 ≤ b). let more = mul-le-mul_left w ge in absurd (omega (arith, more, low, enough)))
     (cases_lt b (e / 2))
 
-module _ (p : Prepared) (n : ℕ) (o : Occurrences) (b : BackTables) (k : ℕ) (room : RoomAt n o.number p.expr o)
+module _ (p : Prepared) (n : ℕ) (o : Occurrences) (b : BackTables) (k : ℕ) (room : RoomAt n o.number p.arena.expr o)
     (own : 0 < k → slice_get o.tables.slots.items o.number ≡ Some k) (others : 0 < k → b ≡ o.tables) (first : k ≡ 0 → SetsTable p 0 o.tables b) where
   abbrev pub IsReady : Table → Type 0
-  IsReady t = IsTable p t × (t.way ≡ back_way) × KeptRoom (length p.expr.nodes) n t o.seeking.kept
+  IsReady t = IsTable p t × (t.way ≡ back_way) × KeptRoom (length p.arena.expr.nodes) n t o.seeking.kept
 
   own_ready : (some : 0 < k) (t : Table) → n < length o.seeking.kept.edges / 2 * (t.room - 1) → slice_get o.tables.all.items k ≡ Some t → IsReady t
   own_ready some t enough there =
@@ -203,7 +204,7 @@ module _ (p : Prepared) (n : ℕ) (o : Occurrences) (b : BackTables) (k : ℕ) (
       let was = room.shared.1 (get_or o.tables.all.items 0 t) old in
       let same = sets.same (get_or o.tables.all.items 0 t) old in
       let new : t ≡ sets.after = set_same o.tables.all.items 0 sets.after t room.shared.0 (sym (ap (λ ts. slice_get ts 0) sets.all) ∙ there) in
-      subst IsReady (sym new) (sets.is, same.0 ∙ was.1, kept_still n (length p.expr.nodes) o.seeking.kept o.seeking.kept (get_or o.tables.all.items 0 t) sets.after was.2 same.0 same.1 (space_refl o.seeking.kept))
+      subst IsReady (sym new) (sets.is, same.0 ∙ was.1, kept_still n (length p.arena.expr.nodes) o.seeking.kept o.seeking.kept (get_or o.tables.all.items 0 t) sets.after was.2 same.0 same.1 (space_refl o.seeking.kept))
 
   pub table_ready : (0 < k → (t : Table) → slice_get o.tables.all.items k ≡ Some t → n < length o.seeking.kept.edges / 2 * (t.room - 1)) → (t : Table) → slice_get b.all.items k ≡ Some t → IsReady t
   table_ready enough t there =
@@ -228,14 +229,14 @@ module _ (p : Prepared) (n : ℕ) (o : Occurrences) (b : BackTables) (k : ℕ) (
       (cases_lt 0 k)
 
   module _ (o' : Occurrences) (tables : o'.tables ≡ b) (space : SameSpace o.seeking.kept o'.seeking.kept) where
-    pub ready_at : RoomAt n o.number p.expr o'
+    pub ready_at : RoomAt n o.number p.arena.expr o'
     ready_at =
         ⊎_elim
-        (λ (some : 0 < k). at_same n o.number p.expr o o' (tables ∙ others some) space room)
-        (λ (none : k ≤ 0). at_set p 0 o o' (subst (SetsTable p 0 o.tables) (sym tables) (first (omega (arith, none)))) space n o.number p.expr (λ j at some same. refl) room)
+        (λ (some : 0 < k). at_same n o.number p.arena.expr o o' (tables ∙ others some) space room)
+        (λ (none : k ≤ 0). at_set p 0 o o' (subst (SetsTable p 0 o.tables) (sym tables) (first (omega (arith, none)))) space n o.number p.arena.expr (λ j at some same. refl) room)
         (cases_lt 0 k)
 
-    pub ready_for : (text : ℕ) (es : List Written) → slice_get es o.number ≡ Some p.expr → RoomFor text es o → RoomFor text es o'
+    pub ready_for : (text : ℕ) (es : List Written) → slice_get es o.number ≡ Some p.arena.expr → RoomFor text es o → RoomFor text es o'
     ready_for text es sought all =
         ⊎_elim
         (λ (some : 0 < k). for_same text es o o' (tables ∙ others some) space all)
@@ -243,7 +244,7 @@ module _ (p : Prepared) (n : ℕ) (o : Occurrences) (b : BackTables) (k : ℕ) (
         (cases_lt 0 k)
 
 -- a search that begins serves however the expression was made ready
-pub serves_each : (p : Prepared) (e : Written) (w : List ℕ) (t : Table) (s : Seeking) → p.expr ≡ e → SearchServes p w t s → (q : Prepared) → q.expr ≡ e → SearchServes q w t s
+pub serves_each : (p : Prepared) (e : Written) (w : List ℕ) (t : Table) (s : Seeking) → p.arena.expr ≡ e → SearchServes p w t s → (q : Prepared) → q.arena.expr ≡ e → SearchServes q w t s
 serves_each p e w t s is serves q is' = serves_for p q (is ∙ sym is') w t s serves
 
 -- What the searches cost.
@@ -289,24 +290,24 @@ paid m n last old mid new r s t some fresh same begun used pays =
 
 -- After a search.
 
-module _ (p : Prepared) (w : List ℕ) (o o' : Occurrences) (back : Table) (at : RoomAt (length w) o.number p.expr o) (has : HasTable p.expr w o) (used : o'.is_fresh ≡ false)
+module _ (p : Prepared) (w : List ℕ) (o o' : Occurrences) (back : Table) (at : RoomAt (length w) o.number p.arena.expr o) (has : HasTable p.arena.expr w o) (used : o'.is_fresh ≡ false)
     (number : o'.number ≡ o.number) (same_at : o'.at ≡ o.at) (slots : o'.tables.slots ≡ o.tables.slots) (all : o'.tables.all.items ≡ slice_set o.tables.all.items o.at back)
     (shape : (t : Table) → slice_get o.tables.all.items o.at ≡ Some t → SameRoom t back) (serves : SearchServes p w back o'.seeking) (space : SameSpace o.seeking.kept o'.seeking.kept) where
   is_set : SetsTable p o.at o.tables o'.tables
   is_set = record { after = back; is = serves.table; same = shape; all = all; slots = slots }
 
-  pub keeps_on : (text : ℕ) (es : List Written) → slice_get es o.number ≡ Some p.expr → RoomFor text es o → RoomFor text es o'
+  pub keeps_on : (text : ℕ) (es : List Written) → slice_get es o.number ≡ Some p.arena.expr → RoomFor text es o → RoomFor text es o'
   keeps_on text es sought room = for_set p o.at o o' is_set space text es has.choice sought room
 
-  serves_at : (last : ℕ) → Serves p.expr w (Some last) o'
+  serves_at : (last : ℕ) → Serves p.arena.expr w (Some last) o'
   serves_at last = record {
-    room = subst (λ x. RoomAt (length w) x p.expr o') (sym number) (at_set p o.at o o' is_set space (length w) o.number p.expr (λ j is some same. refl) at);
+    room = subst (λ x. RoomAt (length w) x p.arena.expr o') (sym number) (at_set p o.at o o' is_set space (length w) o.number p.arena.expr (λ j is some same. refl) at);
     fresh = λ h. cc;
     used = λ h. record {
       choice = subst (λ x. (x ≡ 0) ⊎ (slice_get o'.tables.slots.items o'.number ≡ Some x)) (sym same_at)
           (subst (λ v. (o.at ≡ 0) ⊎ (slice_get v.items o'.number ≡ Some o.at)) (sym slots) (subst (λ x. (o.at ≡ 0) ⊎ (slice_get o.tables.slots.items x ≡ Some o.at)) (sym number) has.choice));
-      serves = subst (λ x. TableIs o'.tables.all.items x (λ t. (q : Prepared) → q.expr ≡ p.expr → SearchServes q w t o'.seeking)) (sym same_at)
-          (subst (λ ts. TableIs ts o.at (λ t. (q : Prepared) → q.expr ≡ p.expr → SearchServes q w t o'.seeking)) (sym all) (
+      serves = subst (λ x. TableIs o'.tables.all.items x (λ t. (q : Prepared) → q.arena.expr ≡ p.arena.expr → SearchServes q w t o'.seeking)) (sym same_at)
+          (subst (λ ts. TableIs ts o.at (λ t. (q : Prepared) → q.arena.expr ≡ p.arena.expr → SearchServes q w t o'.seeking)) (sym all) (
             (let inside = has.serves.0 in let long = set_long o.tables.all.items o.at back in omega (arith, inside, long)),
             λ t is q expr.
                 subst (λ x. SearchServes q w x o'.seeking) (sym (set_same o.tables.all.items o.at back t has.serves.0 is)) (serves_for p q (sym expr) w back o'.seeking serves),
@@ -314,7 +315,7 @@ module _ (p : Prepared) (w : List ℕ) (o o' : Occurrences) (back : Table) (at :
     };
   }
 
-  pub serves_on : (r : Option (ℕ × ℕ)) → IfSome r (λ f. Serves p.expr w (Some f.1) o')
+  pub serves_on : (r : Option (ℕ × ℕ)) → IfSome r (λ f. Serves p.arena.expr w (Some f.1) o')
   serves_on None = tt
   serves_on (Some f) = serves_at f.1
 
@@ -467,7 +468,7 @@ first_square m n start s a t some looks each =
     omega (arith, looks, each, long, less, c, d)
 
 -- a table that was made for an expression
-pub back_made : (p : Prepared) (e : Written) (t : Table) → p.expr ≡ e → IsTable p t → t.way ≡ back_way → IsBack e t
+pub back_made : (p : Prepared) (e : Written) (t : Table) → p.arena.expr ≡ e → IsTable p t → t.way ≡ back_way → IsBack e t
 back_made p e t is table way = (way, λ q is'. table_for p q (is ∙ sym is') t table)
 
 pub lies_first : (n : ℕ) (r : Option (ℕ × ℕ)) → IfSome r (λ f. (0 ≤ f.0) × (f.0 ≤ f.1) × (f.1 ≤ n)) → IfSome r (LiesOn n None)

@@ -87,7 +87,7 @@ halves : (edges blocks : ℕ) → edges ≡ 2 * blocks → edges / 2 ≡ blocks
 halves edges blocks is = omega (arith, is)
 
 -- an expression's own tables decide groups there, where its blocks are enough
-pub own_decides : (s : Subject) (t : GroupTables) (d : Desk) (bytes : ℕ) → AreGroupTables s.prepared.now t → IsDesk d → length s.text.now ≤ d.max_text → length s.prepared.now.expr.nodes ≤ d.max_nodes →
+pub own_decides : (s : Subject) (t : GroupTables) (d : Desk) (bytes : ℕ) → AreGroupTables s.prepared.now t → IsDesk d → length s.text.now ≤ d.max_text → length s.prepared.now.arena.expr.nodes ≤ d.max_nodes →
     bytes ≡ length s.text.now → bytes < length d.room.kept.edges / 2 * (t.inside.room - 1) → HasDesk s t d.room.kept
 own_decides s t d bytes tables is short few long enough =
     let blocks = subst (λ v. v < length d.room.kept.edges / 2 * (t.inside.room - 1)) long enough in
@@ -104,7 +104,7 @@ blocks_suffice text room some =
 
 -- and those that serve all do, fitted to it
 pub shared_decides : (s : Subject) (fitted : GroupTables) (d : Desk) → AreGroupTables s.prepared.now fitted → SameRooms d.shared fitted → IsDesk d → length s.text.now ≤ d.max_text →
-    length s.prepared.now.expr.nodes ≤ d.max_nodes → HasDesk s fitted d.room.kept
+    length s.prepared.now.arena.expr.nodes ≤ d.max_nodes → HasDesk s fitted d.room.kept
 shared_decides s fitted d tables fit is short few =
     let all = d.max_text / (d.shared.inside.room - 1) + 1 in
     let some : 2 ≤ d.shared.inside.room = subst (λ v. 2 ≤ v) fit.inside.1 tables.inside.room.some in
@@ -141,7 +141,7 @@ groups_again d s fitted after room is fit used has same none grows =
 abbrev searched : Desk → Work → Table → Table → Desk
 searched d work any ahead = record d { room = record d.room { kept = record d.room.kept { work = work } }; any = any; shared = record d.shared { ahead = ahead } }
 
-table_again : (m : ℕ) (p : Prepared) (t fitted after : Table) → IsRoomy m t → SameRoom t fitted → SameShape fitted after → IsTable p after → IsRoomy m after
+pub table_again : (m : ℕ) (p : Prepared) (t fitted after : Table) → IsRoomy m t → SameRoom t fitted → SameShape fitted after → IsTable p after → IsRoomy m after
 table_again m p t fitted after roomy fit same table =
     roomy_still m p t after roomy (same.0 ∙ fit.0, same.1 ∙ fit.1, same.3 ∙ fit.2, same.4 ∙ fit.3) table
 

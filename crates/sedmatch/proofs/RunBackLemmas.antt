@@ -1,7 +1,7 @@
 -- Where a run of bytes of a set begins.
 use Rattle.std.proofs.Common.{◌≡◌, ℕ, ◌+◌, ◌≤◌, Bool, false, List, Some, sym, subst, arith}
 use Rattle.std.specs.Prelude.{slice_get, slice_index_or}
-use Rattle.sedmarks.specs.RunsAhead.{Repeated}
+use Rattle.sedmarks.specs.Runs.{Repeated}
 use Rattle.sedmatch.specs.Direct.{RunBegins}
 use Rattle.sedneedles.proofs.TimesLemmas.{repeated_in}
 use Rattle.sedmarks.proofs.BeginningLemmas.{member_step}

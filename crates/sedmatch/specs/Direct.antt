@@ -5,7 +5,7 @@ use Rattle.memchr.specs.Find.{OccursAt}
 use Rattle.sedre.specs.Arena.{Written, tree}
 use Rattle.sedre.specs.Tree.{Tree}
 use Rattle.sedmarks.specs.Bytes.{AreBytes, FirstFrom}
-use Rattle.sedmarks.specs.RunsAhead.{Repeated}
+use Rattle.sedmarks.specs.Runs.{Repeated}
 use Rattle.sedmarks.specs.Spans.{Spans, IsIn}
 use Rattle.sedneedles.specs.Choice.{ChoiceAt, ChoiceSpans}
 use Rattle.sedneedles.specs.Few.{HasFew}

@@ -8,19 +8,15 @@ use Rattle.sedpass.specs.Search.{Serves as SearchServes}
 use Rattle.sedpass.specs.Table.{IsRoomy, IsTable, SameRoom}
 use Rattle.sedpass.specs.declared.kept.Kept.{Kept}
 use Rattle.sedpass.specs.declared.nodes.Prepared.{Prepared}
-use Rattle.sedpass.specs.declared.rows.Way.{Way}
 use Rattle.sedpass.specs.declared.search.Seeking.{Seeking}
 use Rattle.sedpass.specs.declared.table.Table.{Table}
+use Rattle.sedmatch.specs.Passes.{back_way}
 use Rattle.sedmatch.specs.declared.occurrences.BackTables.{BackTables}
 use Rattle.sedmatch.specs.declared.occurrences.Occurrences.{Occurrences}
 
--- the way of passes from the text's end, of which each place's state is kept
-abbrev pub back_way : Way
-back_way = record { mirrored = true; sweeps = true; keeps = true }
-
 -- the table is for such passes over the expression, however that was made ready
 abbrev pub IsBack : Written → Table → Type 0
-IsBack e t = (t.way ≡ back_way) × ((p : Prepared) → p.expr ≡ e → IsTable p t)
+IsBack e t = (t.way ≡ back_way) × ((p : Prepared) → p.arena.expr ≡ e → IsTable p t)
 
 -- the table of this number in the list is there, and is such
 abbrev pub TableIs : List Table → ℕ → (Table → Type 0) → Type 0
@@ -71,7 +67,7 @@ KeepsRoom e old new = (new.number ≡ old.number) × ((text : ℕ) (es : List Wr
 -- the table in use is that of all or the expression's own, and serves it in the text
 pub record HasTable (e : Written) (w : List ℕ) (o : Occurrences) : Type 0 where
   pub choice : (o.at ≡ 0) ⊎ (slice_get o.tables.slots.items o.number ≡ Some o.at)
-  pub serves : TableIs o.tables.all.items o.at (λ t. (p : Prepared) → p.expr ≡ e → SearchServes p w t o.seeking)
+  pub serves : TableIs o.tables.all.items o.at (λ t. (p : Prepared) → p.arena.expr ≡ e → SearchServes p w t o.seeking)
 
 -- what is kept serves to search the text after an occurrence that ended at the place, if there is one
 pub record Serves (e : Written) (w : List ℕ) (last : Option ℕ) (o : Occurrences) : Type 0 where

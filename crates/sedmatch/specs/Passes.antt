@@ -1,6 +1,6 @@
 -- Private to the proofs: no contract of a public item cites what stands here.
 -- An expression that is searched by passes, with its tables, and the room for passes.
-use Rattle.std.specs.Prelude.{◌≡◌, ◌+◌, ◌-◌, ◌/◌, ◌≤◌, true, false, length, Option, Some, None}
+use Rattle.std.specs.Prelude.{◌≡◌, ◌+◌, ◌-◌, ◌/◌, ◌≤◌, true, false, length, vec_capacity, Option, Some, None}
 use Rattle.sedre.specs.Arena.{Written, tree}
 use Rattle.sedmarks.specs.Beginnings.{AllBegin}
 use Rattle.sedneedles.specs.Hints.{AreHints}
@@ -13,6 +13,7 @@ use Rattle.sedmatch.specs.declared.passes.OwnTables.{OwnTables}
 use Rattle.sedmatch.specs.declared.passes.Passes.{Passes}
 use Rattle.sedmatch.specs.declared.passes.Sought.{Sought}
 use Rattle.sedmatch.specs.declared.scratch.Desk.{Desk}
+use Rattle.sedmatch.specs.declared.scratch.Once.{Once}
 use Rattle.sedmatch.specs.declared.table_matcher.Engine.{Engine}
 use Rattle.sedmatch.specs.declared.table_matcher.Engine.TheVariants.{Direct, Passes as ByPasses}
 
@@ -20,9 +21,13 @@ use Rattle.sedmatch.specs.declared.table_matcher.Engine.TheVariants.{Direct, Pas
 abbrev pub any_way : Way
 any_way = record { mirrored = false; sweeps = true; keeps = false }
 
+-- the way of passes from the text's end, of which each place's state is kept
+abbrev pub back_way : Way
+back_way = record { mirrored = true; sweeps = true; keeps = true }
+
 -- what was found out is right for the expression
 pub record IsSought (e : Written) (s : Sought) : Type 0 where
-  pub expr : s.prepared.expr ≡ e
+  pub expr : s.prepared.arena.expr ≡ e
   pub begins : AllBegin (tree e) s.begins
   pub hints : AreHints (tree e) s.hints
 
@@ -37,11 +42,11 @@ ArePasses e p = IsSought e p.sought × AreOwn p.sought.prepared p.own
 -- the expression that is searched, and that it is searched rightly
 abbrev pub written_of : Engine → Written
 written_of (Direct e form) = e
-written_of (ByPasses p) = p.value.sought.prepared.expr
+written_of (ByPasses p) = p.value.sought.prepared.arena.expr
 
 abbrev pub IsEngine : Engine → Type 0
 IsEngine (Direct e form) = IsDirect e form
-IsEngine (ByPasses p) = ArePasses p.value.sought.prepared.expr p.value
+IsEngine (ByPasses p) = ArePasses p.value.sought.prepared.arena.expr p.value
 
 -- Passes can be made there over texts of at most `max_text` bytes, for expressions of at most `max_nodes` nodes, by the tables that
 -- serve all.
@@ -52,6 +57,14 @@ pub record IsDesk (d : Desk) : Type 0 where
   pub shared : AreRoomy d.max_nodes d.shared
   pub few : length d.room.kept.edges ≤ 65536
 
+-- an expression can be made ready there, and passes from the text's end be made, in the same texts
+pub record IsOnce (d : Desk) (o : Once) : Type 0 where
+  pub nodes : d.max_nodes ≤ o.prepared.arena.room
+  pub facts : d.max_nodes ≤ vec_capacity o.prepared.facts
+  pub back : IsRoomy d.max_nodes o.back
+  pub way : o.back.way ≡ back_way
+  pub room : o.back.room ≡ d.shared.inside.room
+
 -- it is for the same texts and expressions
 abbrev pub SameDesk : Desk → Desk → Type 0
-SameDesk old new = (new.max_text ≡ old.max_text) × (new.max_nodes ≡ old.max_nodes)
+SameDesk old new = (new.max_text ≡ old.max_text) × (new.max_nodes ≡ old.max_nodes) × (new.shared.inside.room ≡ old.shared.inside.room)

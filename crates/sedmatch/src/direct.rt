@@ -21,7 +21,7 @@ use crate::runs_back::run_begin;
 use crate::word::{Word, word_of};
 use sedmarks::counted::{Text, are_bytes};
 use sedmarks::members::{find_member, run_end};
-use sedmarks::runs_ahead::star_set;
+use sedmarks::repeats::star_set;
 use sedneedles::choice::{Choice, choice_of};
 use sedneedles::few::{Few, members_of};
 use sedneedles::lookups::find_few;

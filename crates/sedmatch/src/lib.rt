@@ -9,7 +9,7 @@
 //! a byte, a mark or a cell of a table.
 //!
 //! [`find`] seeks an expression that is used once, with its groups; [`find_span`] without them, and [`is_match`] only whether
-//! there is a match. They stand in `sedmarks`.
+//! there is a match. They make it ready for passes in the room of the scratch.
 //!
 //! All of them work in the room of a [`Scratch`], and take no memory.
 #![tactic(auto)]

@@ -14,13 +14,12 @@ ghost use Rattle.sedpass.specs.declared.table.Table.{Table};
 ghost use Rattle.sedmatch.specs.Occurrences.{AreTables, HasTable, IsBack, KeepsRoom, RoomAt, RoomFor, Serves, ServesOn, SetsTable, TableIs, owed, owed_after, owed_search};
 ghost use Rattle.sedmatch.specs.Passes.{IsSought};
 
-use crate::passes::{Sought, has_blocks};
+use crate::passes::{BACK, Sought, has_blocks};
 use crate::table_matcher::TableMatcher;
 use sedmarks::counted::Text;
 use sedpass::kept::{Kept, Subject};
 use sedpass::nodes::Prepared;
 use sedpass::occurrences::{begin_text, next_after};
-use sedpass::rows::Way;
 use sedpass::search::{Seeking, next_match};
 use sedpass::table::Table;
 use sedpass::width::width_for;
@@ -32,13 +31,6 @@ const MOST_OWN: usize = 256;
 
 /// How many states such a table has.
 const OWN_STATES: usize = 513;
-
-/// The way of passes from the text's end, of which each place's state is kept.
-const BACK: Way = Way {
-    mirrored: true,
-    sweeps: true,
-    keeps: true,
-};
 
 /// How the searches for all occurrences in one text go on.
 ///
@@ -158,14 +150,14 @@ impl Occurrences {
 
     /// Chooses the table that serves the expression, where nothing was sought by passes yet.
     fn make_ready(&mut self, prepared: &Prepared, text: &Text)
-        requires room { RoomAt (length text.now) self.old.number prepared.now.expr self.old }
-        requires used { self.old.is_fresh ≡ false → HasTable prepared.now.expr text.now self.old }
-        ensures room { KeepsRoom prepared.now.expr self.old self.new }
-        ensures at { RoomAt (length text.now) self.new.number prepared.now.expr self.new }
+        requires room { RoomAt (length text.now) self.old.number prepared.now.arena.expr self.old }
+        requires used { self.old.is_fresh ≡ false → HasTable prepared.now.arena.expr text.now self.old }
+        ensures room { KeepsRoom prepared.now.arena.expr self.old self.new }
+        ensures at { RoomAt (length text.now) self.new.number prepared.now.arena.expr self.new }
         ensures ready { self.new.is_fresh ≡ false }
-        ensures used { HasTable prepared.now.expr text.now self.new }
+        ensures used { HasTable prepared.now.arena.expr text.now self.new }
         ensures same { self.old.is_fresh ≡ false → self.new ≡ self.old }
-        ensures owed { let m = length prepared.now.expr.nodes in let n = length text.now in
+        ensures owed { let m = length prepared.now.arena.expr.nodes in let n = length text.now in
             IsTrue self.old.is_fresh → owed_behind m n self.new.seeking 0 + 42 * m ≤ 306 * m * (n + 1) }
     {
         if !self.is_fresh {
@@ -201,7 +193,7 @@ fn own_table(tables: &BackTables, number: usize, kept: &Kept, bytes: usize) -> u
 
 /// Has the first table serve the expression, where it is to.
 fn fit_first(tables: &mut BackTables, at: usize, prepared: &Prepared)
-    requires first { at ≡ 0 → TableIs tables.old.all.items 0 (λ t. IsRoomy (length prepared.now.expr.nodes) t) }
+    requires first { at ≡ 0 → TableIs tables.old.all.items 0 (λ t. IsRoomy (length prepared.now.arena.expr.nodes) t) }
     ensures others { 0 < at → tables.new ≡ tables.old }
     ensures first { at ≡ 0 → SetsTable prepared.now 0 tables.old tables.new }
 {
@@ -220,7 +212,7 @@ fn next_with(
     last: Option<usize>,
     steps: &mut Steps,
 ) -> Option<(usize, usize)>
-    requires sought { IsSought sought.now.prepared.expr sought.now }
+    requires sought { IsSought sought.now.prepared.arena.expr sought.now }
     requires ahead { IsAhead sought.now.prepared ahead.old }
     requires last { EndsWithin (length text.now) last }
     requires serves { SearchServes sought.now.prepared text.now back.old seeking.old }
@@ -229,11 +221,11 @@ fn next_with(
     ensures back_shape { SameShape back.old back.new }
     ensures space { SameSpace seeking.old.kept seeking.new.kept }
     ensures serves { SearchServes sought.now.prepared text.now back.new seeking.new }
-    ensures next { result ≡ next_span (found (tree sought.now.prepared.expr) text.now) (length text.now) last }
-    ensures occurs { IfSome result (Occurs (tree sought.now.prepared.expr) text.now last) }
-    ensures cost { let m = length sought.now.prepared.expr.nodes in let n = length text.now in
+    ensures next { result ≡ next_span (found (tree sought.now.prepared.arena.expr) text.now) (length text.now) last }
+    ensures occurs { IfSome result (Occurs (tree sought.now.prepared.arena.expr) text.now last) }
+    ensures cost { let m = length sought.now.prepared.arena.expr.nodes in let n = length text.now in
         Pays steps.old steps.new (owed_search m n last seeking.old) (owed_after_search (owed_behind m n seeking.new) result) }
-    ensures once { let m = length sought.now.prepared.expr.nodes in let n = length text.now in
+    ensures once { let m = length sought.now.prepared.arena.expr.nodes in let n = length text.now in
         Takes steps.old steps.new (64 * m * m * (n + 1) * (n + 1)) }
     ensures counts { IfSome result (λ f. TakesAtLeast steps.old steps.new (f.1 - f.0)) }
 {
@@ -256,7 +248,7 @@ fn first_with(
     seeking: &mut Seeking,
     steps: &mut Steps,
 ) -> Option<(usize, usize)>
-    requires sought { IsSought sought.now.prepared.expr sought.now }
+    requires sought { IsSought sought.now.prepared.arena.expr sought.now }
     requires ahead { IsAhead sought.now.prepared ahead.old }
     requires serves { SearchServes sought.now.prepared text.now back.old seeking.old }
     ensures ahead { IsAhead sought.now.prepared ahead.new }
@@ -264,10 +256,10 @@ fn first_with(
     ensures back_shape { SameShape back.old back.new }
     ensures space { SameSpace seeking.old.kept seeking.new.kept }
     ensures serves { SearchServes sought.now.prepared text.now back.new seeking.new }
-    ensures answer { SpanAnswer (tree sought.now.prepared.expr) text.now 0 result }
-    ensures cost { let m = length sought.now.prepared.expr.nodes in let n = length text.now in
+    ensures answer { SpanAnswer (tree sought.now.prepared.arena.expr) text.now 0 result }
+    ensures cost { let m = length sought.now.prepared.arena.expr.nodes in let n = length text.now in
         Pays steps.old steps.new (owed_search m n None seeking.old) (owed_after_search (owed_behind m n seeking.new) result) }
-    ensures once { let m = length sought.now.prepared.expr.nodes in let n = length text.now in
+    ensures once { let m = length sought.now.prepared.arena.expr.nodes in let n = length text.now in
         Takes steps.old steps.new (64 * m * m * (n + 1) * (n + 1)) }
     ensures counts { IfSome result (λ f. TakesAtLeast steps.old steps.new (f.1 - f.0)) }
 {
@@ -288,18 +280,18 @@ pub fn next_by(
     last: Option<usize>,
     steps: &mut Steps,
 ) -> Option<(usize, usize)>
-    requires sought { IsSought sought.now.prepared.expr sought.now }
+    requires sought { IsSought sought.now.prepared.arena.expr sought.now }
     requires ahead { IsAhead sought.now.prepared ahead.old }
     requires last { EndsWithin (length text.now) last }
-    requires serves { Serves sought.now.prepared.expr text.now last occurrences.old }
+    requires serves { Serves sought.now.prepared.arena.expr text.now last occurrences.old }
     ensures ahead { IsAhead sought.now.prepared ahead.new }
     ensures ahead_shape { SameShape ahead.old ahead.new }
-    ensures next { result ≡ next_span (found (tree sought.now.prepared.expr) text.now) (length text.now) last }
-    ensures occurs { IfSome result (Occurs (tree sought.now.prepared.expr) text.now last) }
-    ensures serves { ServesOn sought.now.prepared.expr text.now result occurrences.old occurrences.new }
-    ensures cost { let m = length sought.now.prepared.expr.nodes in let n = length text.now in
+    ensures next { result ≡ next_span (found (tree sought.now.prepared.arena.expr) text.now) (length text.now) last }
+    ensures occurs { IfSome result (Occurs (tree sought.now.prepared.arena.expr) text.now last) }
+    ensures serves { ServesOn sought.now.prepared.arena.expr text.now result occurrences.old occurrences.new }
+    ensures cost { let m = length sought.now.prepared.arena.expr.nodes in let n = length text.now in
         Pays steps.old steps.new (owed m n last occurrences.old) (owed_after m n result occurrences.new) }
-    ensures once { let m = length sought.now.prepared.expr.nodes in let n = length text.now in
+    ensures once { let m = length sought.now.prepared.arena.expr.nodes in let n = length text.now in
         Takes steps.old steps.new (64 * m * m * (n + 1) * (n + 1)) }
     ensures counts { IfSome result (λ f. TakesAtLeast steps.old steps.new (f.1 - f.0)) }
 {

@@ -62,6 +62,13 @@ pub const ANY: Way = Way {
     keeps: false,
 };
 
+/// The way of passes from the text's end, of which each place's state is kept.
+pub const BACK: Way = Way {
+    mirrored: true,
+    sweeps: true,
+    keeps: true,
+};
+
 /// How many tables an expression has: three here, and one for all occurrences in a text.
 const TABLES: usize = 4;
 
@@ -149,12 +156,12 @@ impl Passes {
 
 /// Whether a match begins at the text's beginning, by a table of passes from one start.
 fn begins_match(subject: Subject, ahead: &mut Table, work: &mut Work, steps: &mut Steps) -> bool
-    requires begins { AllBegin (tree subject.prepared.now.expr) AtStart }
+    requires begins { AllBegin (tree subject.prepared.now.arena.expr) AtStart }
     requires ahead { IsAhead subject.prepared.now ahead.old }
     ensures ahead { IsAhead subject.entry.prepared.now ahead.new }
     ensures shape { SameShape ahead.old ahead.new }
-    ensures matches { IsTrue result ↔ SomeFound (tree subject.entry.prepared.now.expr) subject.entry.text.now 0 }
-    ensures cost { Takes steps.old steps.new (40 * length subject.entry.prepared.now.expr.nodes * (length subject.entry.text.now + 1)) }
+    ensures matches { IsTrue result ↔ SomeFound (tree subject.entry.prepared.now.arena.expr) subject.entry.text.now 0 }
+    ensures cost { Takes steps.old steps.new (40 * length subject.entry.prepared.now.arena.expr.nodes * (length subject.entry.text.now + 1)) }
 {
     let bytes = subject.text.forwards();
     ahead
@@ -173,7 +180,7 @@ fn matches_with(
     work: &mut Work,
     steps: &mut Steps,
 ) -> bool
-    requires begins { AllBegin (tree sought.now.prepared.expr) sought.now.begins }
+    requires begins { AllBegin (tree sought.now.prepared.arena.expr) sought.now.begins }
     requires any { IsSweep sought.now.prepared any.old }
     requires ahead { IsAhead sought.now.prepared ahead.old }
     requires from { from ≤ length text.now }
@@ -181,8 +188,8 @@ fn matches_with(
     ensures any_shape { SameShape any.old any.new }
     ensures ahead { IsAhead sought.now.prepared ahead.new }
     ensures ahead_shape { SameShape ahead.old ahead.new }
-    ensures matches { IsTrue result ↔ SomeFound (tree sought.now.prepared.expr) text.now from }
-    ensures cost { Takes steps.old steps.new (41 * length sought.now.prepared.expr.nodes * (length text.now + 1)) }
+    ensures matches { IsTrue result ↔ SomeFound (tree sought.now.prepared.arena.expr) text.now from }
+    ensures cost { Takes steps.old steps.new (41 * length sought.now.prepared.arena.expr.nodes * (length text.now + 1)) }
 {
     let subject = Subject {
         prepared: &sought.prepared,
@@ -203,15 +210,15 @@ pub fn matches_by(
     steps: &mut Steps,
 ) -> bool
     requires from { from ≤ length text.now }
-    requires passes { ArePasses passes.old.sought.prepared.expr passes.old }
+    requires passes { ArePasses passes.old.sought.prepared.arena.expr passes.old }
     requires desk { IsDesk desk.old }
-    requires few { length passes.old.sought.prepared.expr.nodes ≤ desk.old.max_nodes }
+    requires few { length passes.old.sought.prepared.arena.expr.nodes ≤ desk.old.max_nodes }
     ensures same { passes.new.sought ≡ passes.old.sought }
     ensures own { AreOwn passes.new.sought.prepared passes.new.own }
     ensures desk { IsDesk desk.new }
     ensures most { SameDesk desk.old desk.new }
-    ensures matches { IsTrue result ↔ SomeFound (tree passes.old.sought.prepared.expr) text.now from }
-    ensures cost { Takes steps.old steps.new (44 * length passes.old.sought.prepared.expr.nodes * (length text.now + 1)) }
+    ensures matches { IsTrue result ↔ SomeFound (tree passes.old.sought.prepared.arena.expr) text.now from }
+    ensures cost { Takes steps.old steps.new (44 * length passes.old.sought.prepared.arena.expr.nodes * (length text.now + 1)) }
 {
     let sought = &passes.sought;
     let Some(start) = sought.hints.first_place(text, from, steps) else {
@@ -258,22 +265,50 @@ fn groups_with(
 ) -> [Option<(usize, usize)>; 10]
     requires order { span.0 ≤ span.1 }
     requires inside { span.1 ≤ length subject.text.now }
-    requires spans { Spans (tree subject.prepared.now.expr) subject.text.now span.0 span.1 }
+    requires spans { Spans (tree subject.prepared.now.arena.expr) subject.text.now span.0 span.1 }
     requires desk { HasDesk subject tables.old room.old.kept }
     requires none { room.old.tasks.items ≡ [] }
-    requires tasks { 2 * length subject.prepared.now.expr.nodes ≤ vec_capacity room.old.tasks }
+    requires tasks { 2 * length subject.prepared.now.arena.expr.nodes ≤ vec_capacity room.old.tasks }
     ensures desk { HasDesk subject.entry tables.new room.new.kept }
     ensures shape { SameTables tables.old tables.new }
     ensures space { SameSpace room.old.kept room.new.kept }
     ensures none { room.new.tasks.items ≡ [] }
     ensures tasks { vec_capacity room.old.tasks ≤ vec_capacity room.new.tasks }
-    ensures report { IsReport (tree subject.entry.prepared.now.expr) subject.entry.text.now span.0 span.1 result }
-    ensures cost { let m = length subject.entry.prepared.now.expr.nodes in
+    ensures report { IsReport (tree subject.entry.prepared.now.arena.expr) subject.entry.text.now span.0 span.1 result }
+    ensures cost { let m = length subject.entry.prepared.now.arena.expr.nodes in
         Takes steps.old steps.new (172 * m * (m - 1) * (span.1 - span.0) + 2 * m) }
     ensures counts { TakesAtLeast steps.old steps.new (found result - 1) }
 {
     let due = all_groups(subject.prepared);
     decide(subject, tables, room, due, span.0, span.1, steps)
+}
+
+/// The same by the tables that serve all.
+pub fn shared_groups(
+    subject: Subject,
+    span: (usize, usize),
+    desk: &mut Desk,
+    steps: &mut Steps,
+) -> [Option<(usize, usize)>; 10]
+    requires order { span.0 ≤ span.1 }
+    requires inside { span.1 ≤ length subject.text.now }
+    requires spans { Spans (tree subject.prepared.now.arena.expr) subject.text.now span.0 span.1 }
+    requires desk { IsDesk desk.old }
+    requires short { length subject.text.now ≤ desk.old.max_text }
+    requires few { length subject.prepared.now.arena.expr.nodes ≤ desk.old.max_nodes }
+    ensures desk { IsDesk desk.new }
+    ensures most { SameDesk desk.old desk.new }
+    ensures report { IsReport (tree subject.entry.prepared.now.arena.expr) subject.entry.text.now span.0 span.1 result }
+    ensures none_cost { subject.entry.prepared.now.arena.expr.groups ≡ 0 → steps.new ≡ steps.old }
+    ensures cost { let m = length subject.entry.prepared.now.arena.expr.nodes in
+        Takes steps.old steps.new (172 * m * (m - 1) * (span.1 - span.0) + 2 * m) }
+    ensures counts { TakesAtLeast steps.old steps.new (found result - 1) }
+{
+    if subject.prepared.arena.groups() == 0 {
+        return whole_alone(span);
+    }
+    desk.shared.fit(subject.prepared);
+    groups_with(subject, &mut desk.shared, span, &mut desk.room, steps)
 }
 
 /// The groups of a match that begins and ends at these places.
@@ -286,22 +321,22 @@ pub fn groups_by(
 ) -> [Option<(usize, usize)>; 10]
     requires order { span.0 ≤ span.1 }
     requires inside { span.1 ≤ length text.now }
-    requires spans { Spans (tree passes.old.sought.prepared.expr) text.now span.0 span.1 }
-    requires passes { ArePasses passes.old.sought.prepared.expr passes.old }
+    requires spans { Spans (tree passes.old.sought.prepared.arena.expr) text.now span.0 span.1 }
+    requires passes { ArePasses passes.old.sought.prepared.arena.expr passes.old }
     requires desk { IsDesk desk.old }
     requires short { length text.now ≤ desk.old.max_text }
-    requires few { length passes.old.sought.prepared.expr.nodes ≤ desk.old.max_nodes }
+    requires few { length passes.old.sought.prepared.arena.expr.nodes ≤ desk.old.max_nodes }
     ensures same { passes.new.sought ≡ passes.old.sought }
     ensures own { AreOwn passes.new.sought.prepared passes.new.own }
     ensures desk { IsDesk desk.new }
     ensures most { SameDesk desk.old desk.new }
-    ensures report { IsReport (tree passes.old.sought.prepared.expr) text.now span.0 span.1 result }
-    ensures none_cost { passes.old.sought.prepared.expr.groups ≡ 0 → steps.new ≡ steps.old }
-    ensures cost { let m = length passes.old.sought.prepared.expr.nodes in
+    ensures report { IsReport (tree passes.old.sought.prepared.arena.expr) text.now span.0 span.1 result }
+    ensures none_cost { passes.old.sought.prepared.arena.expr.groups ≡ 0 → steps.new ≡ steps.old }
+    ensures cost { let m = length passes.old.sought.prepared.arena.expr.nodes in
         Takes steps.old steps.new (172 * m * (m - 1) * (span.1 - span.0) + 2 * m) }
     ensures counts { TakesAtLeast steps.old steps.new (found result - 1) }
 {
-    if passes.sought.prepared.expr.groups() == 0 {
+    if passes.sought.prepared.arena.groups() == 0 {
         return whole_alone(span);
     }
     let subject = Subject {
@@ -313,6 +348,5 @@ pub fn groups_by(
             return groups_with(subject, &mut own.groups, span, &mut desk.room, steps);
         }
     }
-    desk.shared.fit(subject.prepared);
-    groups_with(subject, &mut desk.shared, span, &mut desk.room, steps)
+    shared_groups(subject, span, desk, steps)
 }

@@ -1,9 +1,11 @@
 //! The room that searches work in, made once.
-ghost use Rattle.std.specs.Prelude.{◌≡◌, ◌^◌, ◌≤◌, IfOk};
-ghost use Rattle.sedmatch.specs.Passes.{IsDesk};
+ghost use Rattle.std.specs.Prelude.{◌≡◌, ◌^◌, ◌≤◌, vec_capacity, IfOk};
+ghost use Rattle.sedpass.specs.Table.{IsRoomy};
+ghost use Rattle.sedmatch.specs.Passes.{IsDesk, back_way};
 
-use crate::passes::ANY;
+use crate::passes::{ANY, BACK};
 use sedpass::groups::{GroupRoom, GroupTables};
+use sedpass::nodes::Prepared;
 use sedpass::table::Table;
 use sedpass::width::width_for;
 use std::alloc::{AllocError, Global};
@@ -24,13 +26,22 @@ pub struct Desk {
     pub max_nodes: usize,
 }
 
+/// What serves an expression that is used once.
+#[derive(Drop)]
+pub struct Once {
+    /// Room to make it ready for passes.
+    pub prepared: Prepared,
+    /// The table of passes from the text's end.
+    pub back: Table,
+}
+
 /// The room for searches in texts, and for the groups of what they find: they take no other memory.
 #[derive(Drop)]
 pub struct Scratch {
-    /// The room of searches by marks.
-    pub(crate) marks: sedmarks::Scratch,
     /// Where passes are made.
     pub(crate) desk: Desk,
+    /// What serves an expression that is used once.
+    pub(crate) once: Once,
 }
 
 impl Model for Scratch {
@@ -38,12 +49,11 @@ impl Model for Scratch {
 
     ghost Value = { SearchRoom };
 
-    ghost use Rattle.std.specs.Prelude.{◌≡◌};
-    ghost use Rattle.sedmatch.specs.Passes.{IsDesk};
+    ghost use Rattle.sedmatch.specs.Passes.{IsDesk, IsOnce};
 
-    ghost view = { λ s. s.marks };
+    ghost view = { λ s. record { text = s.desk.max_text; nodes = s.desk.max_nodes } };
 
-    ghost invariant = { λ s. IsDesk s.desk × (s.desk.max_text ≡ s.marks.text) × (s.desk.max_nodes ≡ s.marks.nodes) };
+    ghost invariant = { λ s. IsDesk s.desk × IsOnce s.desk s.once };
 }
 
 /// Where passes are made for expressions of at most so many nodes, over texts of at most so many bytes.
@@ -52,6 +62,7 @@ fn new_desk(alloc: Global, max_text: usize, max_nodes: usize) -> Result<Desk, Al
     requires some_node { 1 ≤ max_nodes }
     requires nodes { max_nodes ≤ 65536 }
     ensures desk { IfOk result (λ d. IsDesk d × (d.max_text ≡ max_text) × (d.max_nodes ≡ max_nodes)) }
+    ensures states { IfOk result (λ d. (2 ≤ d.shared.inside.room) × (d.shared.inside.room ≤ 65535)) }
 {
     let block = width_for(max_text);
     let room = GroupRoom::new(alloc, max_text, max_text / block + 1, max_nodes)?;
@@ -66,6 +77,23 @@ fn new_desk(alloc: Global, max_text: usize, max_nodes: usize) -> Result<Desk, Al
     })
 }
 
+/// What serves an expression of at most so many nodes that is used once, with a table of so many states.
+fn new_once(alloc: Global, states: usize, max_nodes: usize) -> Result<Once, AllocError>
+    requires some_state { 2 ≤ states }
+    requires few_states { states ≤ 65535 }
+    requires some_node { 1 ≤ max_nodes }
+    requires nodes { max_nodes ≤ 65536 }
+    ensures nodes { IfOk result (λ o. max_nodes ≤ o.prepared.arena.room) }
+    ensures facts { IfOk result (λ o. max_nodes ≤ vec_capacity o.prepared.facts) }
+    ensures back { IfOk result (λ o. IsRoomy max_nodes o.back) }
+    ensures way { IfOk result (λ o. o.back.way ≡ back_way) }
+    ensures room { IfOk result (λ o. o.back.room ≡ states) }
+{
+    let prepared = Prepared::with_room(alloc, max_nodes)?;
+    let back = Table::with_room(alloc, BACK, states, max_nodes)?;
+    Ok(Once { prepared, back })
+}
+
 impl Scratch {
     /// Room for texts of at most `max_text` bytes, which is 2^30 or less, and expressions of at most `max_nodes` nodes,
     /// from 1 to 65,536. Fails only where a request for memory was refused.
@@ -76,15 +104,7 @@ impl Scratch {
         ensures { IfOk result (λ s. (s.text ≡ max_text) × (s.nodes ≡ max_nodes)) }
     {
         let desk = new_desk(alloc, max_text, max_nodes)?;
-        let marks = sedmarks::Scratch::new(alloc, max_text, max_nodes)?;
-        Ok(Scratch { marks, desk })
-    }
-
-    /// For proofs: how long a text and how large an expression can be.
-    pub fn bounds(&self)
-        ensures text { self.now.text ≤ 2 ^ 30 }
-        ensures nodes { self.now.nodes ≤ 65536 }
-    {
-        self.marks.bounds();
+        let once = new_once(alloc, desk.shared.inside.room, max_nodes)?;
+        Ok(Scratch { desk, once })
     }
 }

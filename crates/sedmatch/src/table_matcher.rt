@@ -108,21 +108,21 @@ fn next_by_passes(
     desk: &mut Desk,
     steps: &mut Steps,
 ) -> Option<(usize, usize)>
-    requires passes { ArePasses passes.old.sought.prepared.expr passes.old }
+    requires passes { ArePasses passes.old.sought.prepared.arena.expr passes.old }
     requires desk { IsDesk desk.old }
-    requires few { length passes.old.sought.prepared.expr.nodes ≤ desk.old.max_nodes }
+    requires few { length passes.old.sought.prepared.arena.expr.nodes ≤ desk.old.max_nodes }
     requires last { EndsWithin (length text.now) last }
-    requires serves { Serves passes.old.sought.prepared.expr text.now last occurrences.old }
+    requires serves { Serves passes.old.sought.prepared.arena.expr text.now last occurrences.old }
     ensures same { passes.new.sought ≡ passes.old.sought }
     ensures own { AreOwn passes.new.sought.prepared passes.new.own }
     ensures desk { IsDesk desk.new }
     ensures most { SameDesk desk.old desk.new }
-    ensures next { result ≡ next_span (found (tree passes.old.sought.prepared.expr) text.now) (length text.now) last }
-    ensures occurs { IfSome result (Occurs (tree passes.old.sought.prepared.expr) text.now last) }
-    ensures serves { ServesOn passes.old.sought.prepared.expr text.now result occurrences.old occurrences.new }
-    ensures cost { let m = length passes.old.sought.prepared.expr.nodes in let n = length text.now in
+    ensures next { result ≡ next_span (found (tree passes.old.sought.prepared.arena.expr) text.now) (length text.now) last }
+    ensures occurs { IfSome result (Occurs (tree passes.old.sought.prepared.arena.expr) text.now last) }
+    ensures serves { ServesOn passes.old.sought.prepared.arena.expr text.now result occurrences.old occurrences.new }
+    ensures cost { let m = length passes.old.sought.prepared.arena.expr.nodes in let n = length text.now in
         Pays steps.old steps.new (owed m n last occurrences.old) (owed_after m n result occurrences.new) }
-    ensures once { let m = length passes.old.sought.prepared.expr.nodes in let n = length text.now in
+    ensures once { let m = length passes.old.sought.prepared.arena.expr.nodes in let n = length text.now in
         Takes steps.old steps.new (64 * m * m * (n + 1) * (n + 1)) }
     ensures counts { IfSome result (λ f. TakesAtLeast steps.old steps.new (f.1 - f.0)) }
 {
@@ -170,7 +170,7 @@ impl TableMatcher {
 
     /// The expression made ready for passes, if it has tables of its own.
     pub(crate) fn prepared(&self) -> Option<&Prepared>
-        ensures { IfSome result (λ p. p.now.expr ≡ self.now) }
+        ensures { IfSome result (λ p. p.now.arena.expr ≡ self.now) }
     {
         match &self.engine {
             Engine::Direct(_, _) => None,

@@ -1,20 +1,80 @@
-//! Searches by marks, of an expression that is used once (XBD 9.1): they need no table.
-ghost use Rattle.std.specs.Prelude.{◌≡◌, ◌+◌, ◌*◌, ◌<◌, ◌≤◌, ◌↔◌, length, IfNone, IsTrue, is_some};
+//! Searches of an expression that is used once (XBD 9.1). They make it ready for passes in the room of the scratch.
+ghost use Rattle.std.specs.Prelude.{◌≡◌, ◌+◌, ◌-◌, ◌*◌, ◌≤◌, ◌↔◌, length, IfNone, IfSome, IsTrue, is_some};
 ghost use Rattle.sedre.specs.Arena.{tree};
 ghost use Rattle.sedmarks.specs.Spans.{SomeFound};
 ghost use Rattle.sedmarks.specs.Answer.{IsComputed, MatchAnswer, SpanAnswer};
 ghost use Rattle.sedmarks.specs.Matching.{found};
-ghost use Rattle.sedmarks.specs.Parts.{SpanIn, span_of, part_of};
 ghost use Rattle.sedmarks.specs.SearchRoom.{FitInto};
-ghost use Rattle.sedre.specs.Steps.{StepsWithin, Takes};
+ghost use Rattle.sedre.specs.Steps.{StepsWithin, Takes, TakesAtLeast};
+ghost use Rattle.sedmatch.specs.Passes.{IsDesk, IsOnce, SameDesk};
 
-use crate::scratch::Scratch;
+use crate::passes::shared_groups;
+use crate::scratch::{Desk, Once, Scratch};
+use sedmarks::beginnings::Begins;
 use sedmarks::{Found, Text};
+use sedpass::kept::Subject;
+use sedpass::nodes::Prepared;
+use sedpass::search::next_begun;
 use sedre::{Expr, Steps};
+
+/// Where the match begins and ends that [`find`] finds, of an expression that was made ready.
+fn first_span(
+    once: &mut Once,
+    text: &Text,
+    from: usize,
+    desk: &mut Desk,
+    steps: &mut Steps,
+) -> Option<(usize, usize)>
+    requires from { from ≤ length text.now }
+    requires desk { IsDesk desk.old }
+    requires once { IsOnce desk.old once.old }
+    requires short { length text.now ≤ desk.old.max_text }
+    requires few { length once.old.prepared.arena.expr.nodes ≤ desk.old.max_nodes }
+    ensures prepared { once.new.prepared ≡ once.old.prepared }
+    ensures desk { IsDesk desk.new }
+    ensures once { IsOnce desk.new once.new }
+    ensures same { SameDesk desk.old desk.new }
+    ensures answer { SpanAnswer (tree once.old.prepared.arena.expr) text.now from result }
+    ensures cost { let m = length once.old.prepared.arena.expr.nodes in
+        Takes steps.old steps.new (142 * m * length text.now + 42 * m) }
+    ensures counts { IfSome result (λ f. TakesAtLeast steps.old steps.new (f.1 - f.0)) }
+{
+    desk.shared.ahead.fit(&once.prepared);
+    once.back.fit(&once.prepared);
+    let subject = Subject {
+        prepared: &once.prepared,
+        text,
+    };
+    let ahead = &mut desk.shared.ahead;
+    let kept = &mut desk.room.kept;
+    next_begun(subject, ahead, &mut once.back, kept, from, steps)
+}
+
+/// Whether any match begins at a place or later, of an expression that was made ready.
+fn any_match(
+    prepared: &Prepared,
+    text: &Text,
+    from: usize,
+    desk: &mut Desk,
+    steps: &mut Steps,
+) -> bool
+    requires from { from ≤ length text.now }
+    requires desk { IsDesk desk.old }
+    requires few { length prepared.now.arena.expr.nodes ≤ desk.old.max_nodes }
+    ensures desk { IsDesk desk.new }
+    ensures same { SameDesk desk.old desk.new }
+    ensures matches { IsTrue result ↔ SomeFound (tree prepared.now.arena.expr) text.now from }
+    ensures cost { Takes steps.old steps.new (41 * length prepared.now.arena.expr.nodes * (length text.now + 1)) }
+{
+    desk.any.fit(prepared);
+    let subject = Subject { prepared, text };
+    let work = &mut desk.room.kept.work;
+    sedpass::find::is_match(subject, &Begins::Anyhow, &mut desk.any, from, work, steps)
+}
 
 /// The leftmost-longest match that begins at `from` or later, with its groups. `None` exactly where there is no match.
 ///
-/// It takes no memory, and its steps are bounded whatever the expression; where there is no match they are in
+/// It takes no memory, and its steps are bounded whatever the expression: where there is no match, and without groups, they are in
 /// proportion to the text. Conditions: `from` is at most the text's length, and the scratch has room for the text and the
 /// expression.
 pub fn find(
@@ -31,12 +91,26 @@ pub fn find(
     ensures computed { IsComputed (tree expr.now) text.now from result }
     ensures cost { let m = length expr.now.nodes in let n = length text.now in
         Takes steps.old steps.new (64 * m * m * (n + 1) * (n + 1)) }
+    ensures linear_cost { let m = length expr.now.nodes in let n = length text.now in
+        StepsWithin steps.old steps.new (172 * m * m * (n + 1)) }
     ensures cost_without_groups { let m = length expr.now.nodes in let n = length text.now in expr.now.groups ≡ 0 →
-        StepsWithin steps.old steps.new (64 * m * (n + 1) * (n + 1)) × StepsWithin steps.old steps.new (96 * m * (n + 1)) }
+        StepsWithin steps.old steps.new (64 * m * (n + 1) * (n + 1)) × StepsWithin steps.old steps.new (143 * m * (n + 1)) }
     ensures cost_of_none { let m = length expr.now.nodes in let n = length text.now in
-        IfNone result (StepsWithin steps.old steps.new (64 * m * (n + 1))) }
+        IfNone result (StepsWithin steps.old steps.new (64 * m * (n + 1) * (n + 1)) × StepsWithin steps.old steps.new (143 * m * (n + 1))) }
+    ensures counts { IfSome result (λ f. TakesAtLeast steps.old steps.new (f.end - f.start)) }
 {
-    sedmarks::find(expr, text, from, &mut scratch.marks, steps)
+    scratch.once.prepared.fit(expr, steps);
+    let span = first_span(&mut scratch.once, text, from, &mut scratch.desk, steps)?;
+    let subject = Subject {
+        prepared: &scratch.once.prepared,
+        text,
+    };
+    let groups = shared_groups(subject, span, &mut scratch.desk, steps);
+    Some(Found {
+        start: span.0,
+        end: span.1,
+        groups,
+    })
 }
 
 /// Where the leftmost-longest match that begins at `from` or later begins and ends. `None` exactly where there is no
@@ -56,11 +130,11 @@ pub fn find_span(
     ensures cost { let m = length expr.now.nodes in let n = length text.now in
         Takes steps.old steps.new (64 * m * (n + 1) * (n + 1)) }
     ensures linear_cost { let m = length expr.now.nodes in let n = length text.now in
-        StepsWithin steps.old steps.new (96 * m * (n + 1)) }
-    ensures cost_of_none { let m = length expr.now.nodes in let n = length text.now in
-        IfNone result (StepsWithin steps.old steps.new (64 * m * (n + 1))) }
+        StepsWithin steps.old steps.new (143 * m * (n + 1)) }
+    ensures counts { IfSome result (λ f. TakesAtLeast steps.old steps.new (f.1 - f.0)) }
 {
-    sedmarks::find_span(expr, text, from, &mut scratch.marks, steps)
+    scratch.once.prepared.fit(expr, steps);
+    first_span(&mut scratch.once, text, from, &mut scratch.desk, steps)
 }
 
 /// Whether any match begins at `from` or later. Its steps are in proportion to the text, whatever the expression.
@@ -79,5 +153,6 @@ pub fn is_match(
     ensures computed { result ≡ is_some (found (tree expr.now) text.now from) }
     ensures cost { Takes steps.old steps.new (64 * length expr.now.nodes * (length text.now + 1)) }
 {
-    sedmarks::is_match(expr, text, from, &mut scratch.marks, steps)
+    scratch.once.prepared.fit(expr, steps);
+    any_match(&scratch.once.prepared, text, from, &mut scratch.desk, steps)
 }

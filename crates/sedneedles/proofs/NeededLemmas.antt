@@ -1,9 +1,7 @@
 -- Literals that the spans of an expression hold.
-use Rattle.std.proofs.Common.{◌≡◌, ℕ, ◌+◌, ◌-◌, ◌<◌, ◌≤◌, ◌⊎◌, Bool, List, [], ◌∷◌, ◌++◌, length, take, drop, Option, Some, None, IsTrue, refl, sym, ap, ◌∙◌, subst, inl, inr, ⊎_elim, arith, length-append, length-drop}
+use Rattle.std.proofs.Common.{◌≡◌, ℕ, ◌+◌, ◌-◌, ◌<◌, ◌≤◌, ◌⊎◌, Bool, List, length, take, drop, Option, Some, None, IsTrue, refl, sym, ap, ◌∙◌, subst, inl, inr, ⊎_elim, arith, length-drop}
 use Rattle.std.specs.Prelude.{IfSome, slice_get, slice_index}
-use Rattle.std.proofs.lemmas.Bool.{cases_lt}
-use Rattle.std.proofs.lemmas.List.{take_rest, get_or-drop, get_or_append_left, get_or-append-add, get_or_push}
-use Rattle.std.proofs.lemmas.Option.{slice_get_within, get_or_from_slice_get, slice_get-get_or}
+use Rattle.std.proofs.lemmas.List.{take_rest, get_or-drop}
 use Rattle.memchr.specs.Find.{OccursAt, Nowhere, NoneBefore as FirstOf}
 use Rattle.sedre.specs.Tree.{Tree}
 use Rattle.sedre.specs.Arena.{IsArena, tree_at}
@@ -12,32 +10,12 @@ use Rattle.sedre.specs.declared.types.NodeId.{NodeId}
 use Rattle.sedre.specs.declared.types.Node.TheVariants.{Set, Seq, Group}
 use Rattle.sedmarks.specs.Spans.{NotFound}
 use Rattle.sedmarks.specs.Reach.{At}
-use Rattle.sedmarks.specs.Beginnings.{CanBegin}
-use Rattle.sedmarks.specs.declared.beginnings.Begins.TheVariants.{WithSet}
-use Rattle.sedneedles.specs.Needed.{IsOfSet, LinksTo, IsLiteral, GoesOnAs, IsSole, AllHold, AllEndWith, IsNeeded, FirstLiteral, Narrowed}
+use Rattle.sedneedles.specs.Needed.{IsOfSet, LinksTo, IsLiteral, GoesOnAs, AllHold, AllEndWith, IsNeeded, FirstLiteral, Narrowed}
 use Rattle.sedneedles.specs.declared.needed.Needed.{Needed}
 use Rattle.sedneedles.specs.declared.needed.Literal.{Literal}
 use Rattle.sedneedles.specs.declared.needed.Link.TheVariants.{OneOf, Inner}
 use Rattle.sedmarks.proofs.ReachLemmas.{open_at, close_at}
 use Rattle.sedmarks.proofs.SpanLemmas.{Spans-forward, Spans-within}
-
--- one more byte of a literal
-pub occurs_more : (w bytes : List ℕ) (i byte : ℕ) → OccursAt w bytes i → slice_get w (i + length bytes) ≡ Some byte → OccursAt w (bytes ++ byte ∷ []) i
-occurs_more w bytes i byte here is =
-    let inside = slice_get_within w (i + length bytes) byte is in
-    let long = length-append bytes (byte ∷ []) in
-    record {
-      fits = omega (arith, inside, long);
-      reads = λ j lt.
-          ⊎_elim
-          (λ (old : j < length bytes). here.reads j old ∙ sym (get_or_append_left bytes (byte ∷ []) 0 j old))
-          (λ (new : length bytes ≤ j).
-          let same : j ≡ length bytes + 0 = omega (arith, long) in
-          let read : slice_index w (i + length bytes) ≡ byte = get_or_from_slice_get w (i + length bytes) byte 0 is in
-          let there : slice_index w (i + j) ≡ byte = ap (λ v. slice_index w v) (let e : i + j ≡ i + length bytes = omega arith in e) ∙ read in
-          there ∙ sym (ap (λ v. slice_index (bytes ++ byte ∷ []) v) same ∙ get_or-append-add bytes (byte ∷ []) 0 0))
-          (cases_lt j (length bytes));
-    }
 
 module _ (nodes : List Node) (arena : IsArena nodes) (x : ℕ) where
   -- a set
@@ -83,22 +61,6 @@ module _ (nodes : List Node) (arena : IsArena nodes) (x : ℕ) where
   second_ends a b y is y_is w i j within at =
       let f = open_at nodes w x (Seq a b) arena is i j at in
       (f.0, Spans-forward (tree_at nodes a.index) w i f.0 f.1, Spans-within (tree_at nodes a.index) w i f.0 within f.1, subst (λ v. At nodes w v f.0 j) (sym y_is) f.2)
-
-sole_stands : (s : List Bool) (byte : ℕ) (w : List ℕ) (i : ℕ) → IsSole s byte → CanBegin (WithSet s) w i → slice_get w i ≡ Some byte
-sole_stands s byte w i sole can = subst (λ b. slice_get w i ≡ Some b) (sole.0 can.0 can.2) can.1
-
--- one byte less of a literal
-occurs_less : (w bytes : List ℕ) (i byte : ℕ) → OccursAt w (bytes ++ byte ∷ []) i → OccursAt w bytes i × (slice_get w (i + length bytes) ≡ Some byte)
-occurs_less w bytes i byte here =
-    let long = length-append bytes (byte ∷ []) in
-    let inside = here.fits in
-    let read : slice_index w (i + length bytes) ≡ byte = here.reads (length bytes) (omega (arith, long)) ∙ get_or_push bytes byte 0 (length bytes) refl in (
-      record {
-        fits = omega (arith, inside, long);
-        reads = λ j lt. here.reads j (omega (arith, long)) ∙ get_or_append_left bytes (byte ∷ []) 0 j lt;
-      },
-      slice_get-get_or w (i + length bytes) 0 (omega (arith, inside, long)) ∙ ap Some read,
-    )
 
 module _ (nodes : List Node) (x : ℕ) where
   -- the longer of what it holds and what a part at its end begins with

@@ -17,7 +17,7 @@ use Rattle.sedmarks.specs.Bytes.{AreBytes}
 use Rattle.sedneedles.specs.Needed.{LinksTo, Narrowed}
 use Rattle.sedneedles.specs.Rare.{StandsAt, HeldAt, RareAt, FirstFixed, FirstRare, RareNowhere, AllStand, AllHave, AllHeld, AllRare, AllSecond}
 use Rattle.sedmarks.specs.Reach.{At}
-use Rattle.sedmarks.specs.Search.{NoneIn}
+use Rattle.sedmarks.specs.Beginnings.{NoneIn}
 use Rattle.sedmarks.specs.Spans.{Spans, IsIn}
 use Rattle.sedneedles.proofs.FewLemmas.{few_inside}
 use Rattle.sedmarks.proofs.ReachLemmas.{open_at}

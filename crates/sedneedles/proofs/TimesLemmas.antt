@@ -8,7 +8,7 @@ use Rattle.sedre.specs.declared.types.Node.{Node}
 use Rattle.sedre.specs.declared.types.NodeId.{NodeId}
 use Rattle.sedre.specs.declared.types.Node.TheVariants.{Set, Seq, Group}
 use Rattle.sedmarks.specs.Spans.{Spans, Copies, no_copy, one_more}
-use Rattle.sedmarks.specs.RunsAhead.{Repeated}
+use Rattle.sedmarks.specs.Runs.{Repeated}
 use Rattle.sedmarks.specs.Beginnings.{CanBegin}
 use Rattle.sedmarks.specs.declared.beginnings.Begins.TheVariants.{WithSet}
 use Rattle.sedneedles.specs.Times.{SameBytes, HasTimes, AllTimes, AreWidths, FirstTimes}

@@ -7,8 +7,7 @@ use Rattle.sedre.specs.declared.types.Node.{Node}
 use Rattle.sedmarks.specs.Bytes.{FirstFrom}
 use Rattle.sedmarks.specs.Spans.{Spans, NotFound, IsIn}
 use Rattle.sedmarks.specs.Reach.{At}
-use Rattle.sedmarks.specs.Search.{NoneIn}
-use Rattle.sedmarks.specs.Beginnings.{CanBegin}
+use Rattle.sedmarks.specs.Beginnings.{CanBegin, NoneIn}
 use Rattle.sedmarks.specs.declared.beginnings.Begins.TheVariants.{WithSet}
 use Rattle.sedneedles.specs.declared.needed.Link.{Link}
 use Rattle.sedneedles.specs.declared.needed.Link.TheVariants.{OneOf, Last, Inner, Other}

@@ -5,7 +5,7 @@ use Rattle.sedre.specs.declared.types.Node.{Node}
 use Rattle.sedmarks.specs.Reach.{At}
 use Rattle.sedmarks.specs.Spans.{IsIn}
 use Rattle.sedmarks.specs.Bytes.{AreBytes}
-use Rattle.sedmarks.specs.RunsAhead.{Repeated}
+use Rattle.sedmarks.specs.Runs.{Repeated}
 use Rattle.sedmarks.specs.Beginnings.{CanBegin}
 use Rattle.sedmarks.specs.declared.beginnings.Begins.TheVariants.{WithSet}
 

@@ -36,10 +36,10 @@ bits_meet m front behind met tells = (
 
 -- and so whether the passes meet at the place
 pub meet_here : (p : Prepared) (w : List ℕ) (t ahead : Table) (k : Kept) (a i place offset : ℕ) (met : Bool) → IsKept p w t k → k.region.from ≤ place → place < k.region.to → Follows p w ahead a i place offset →
-    (IsTrue met ↔ ((c : ℕ) × (c < length p.expr.nodes) × IsTrue (slice_index_or (row_of ahead.leaves (offset / 2 ^ ahead.layout.shift)) c false) × IsTrue (slice_index_or (row_of t.ends (slice_index_or k.states.items place 0)) c false))) →
-    IsTrue met ↔ Meets p.expr.nodes w k.region.root (ends_told t.way.sweeps (length w) k.region.end) a (one_start i) place
+    (IsTrue met ↔ ((c : ℕ) × (c < length p.arena.expr.nodes) × IsTrue (slice_index_or (row_of ahead.leaves (offset / 2 ^ ahead.layout.shift)) c false) × IsTrue (slice_index_or (row_of t.ends (slice_index_or k.states.items place 0)) c false))) →
+    IsTrue met ↔ Meets p.arena.expr.nodes w k.region.root (ends_told t.way.sweeps (length w) k.region.end) a (one_start i) place
 meet_here p w t ahead k a i place offset met kept above before follows tells =
-    let m = length p.expr.nodes in
+    let m = length p.arena.expr.nodes in
     let region : IsRegion p w t k = kept.region in
     let s = slice_index_or k.states.items place 0 in
     let front = state_of m ahead (offset / 2 ^ ahead.layout.shift) in
@@ -47,23 +47,23 @@ meet_here p w t ahead k a i place offset met kept above before follows tells =
     let live : IsLive p w t k.region.root k.region.end k.states.items place = kept.live place above before in
     let there : place ≤ length w = (let h = region.within in let g = region.inside in omega (arith, h, g, before)) in
     let one : IsTrue met ↔ ((c : ℕ) × IsTrue (front.entered c) × IsTrue (behind.ended c)) = bits_meet m (row_of ahead.leaves (offset / 2 ^ ahead.layout.shift)) (row_of t.ends s) met tells in
-    let row : RowAt p.expr.nodes w a (one_start i) ahead.way.keeps place front.entered front.ended = subst (λ r. RowAt p.expr.nodes w r (one_start i) ahead.way.keeps place front.entered front.ended) follows.0 follows.1 in
-    let two = kept_meets p.expr w t.way.mirrored t.way.sweeps t.way.keeps ahead.way.keeps k.region.root a i k.region.end place front.entered front.ended behind.entered behind.ended
+    let row : RowAt p.arena.expr.nodes w a (one_start i) ahead.way.keeps place front.entered front.ended = subst (λ r. RowAt p.arena.expr.nodes w r (one_start i) ahead.way.keeps place front.entered front.ended) follows.0 follows.1 in
+    let two = kept_meets p.arena.expr w t.way.mirrored t.way.sweeps t.way.keeps ahead.way.keeps k.region.root a i k.region.end place front.entered front.ended behind.entered behind.ended
     region.table.expr.arena region.room.mirrored region.room.keeps there region.inside row live.1.1 in
     (λ h. two.0 (one.0 h), λ h. one.1 (two.1 h))
 
 -- a place more
-pub meet_on : (p : Prepared) (w : List ℕ) (t : Table) (k : Kept) (a i from place : ℕ) → Meet p w t k a i from place → Meets p.expr.nodes w k.region.root (ends_told t.way.sweeps (length w) k.region.end) a (one_start i) place →
+pub meet_on : (p : Prepared) (w : List ℕ) (t : Table) (k : Kept) (a i from place : ℕ) → Meet p w t k a i from place → Meets p.arena.expr.nodes w k.region.root (ends_told t.way.sweeps (length w) k.region.end) a (one_start i) place →
     Meet p w t k a i from (place + 1)
 meet_on p w t k a i from place met here q after before =
     ⊎_elim (λ (lt : q < place). met q after lt)
-    (λ (ge : place ≤ q). let e : place ≡ q = omega arith in subst (λ y. Meets p.expr.nodes w k.region.root (ends_told t.way.sweeps (length w) k.region.end) a (one_start i) y) e here) (cases_lt q place)
+    (λ (ge : place ≤ q). let e : place ≡ q = omega arith in subst (λ y. Meets p.arena.expr.nodes w k.region.root (ends_told t.way.sweeps (length w) k.region.end) a (one_start i) y) e here) (cases_lt q place)
 
 -- nowhere at the region's end
-pub meet_end : (p : Prepared) (w : List ℕ) (t : Table) (k : Kept) (a i : ℕ) → IsKept p w t k → Meets p.expr.nodes w k.region.root (ends_told t.way.sweeps (length w) k.region.end) a (one_start i) k.region.end → ⊥
+pub meet_end : (p : Prepared) (w : List ℕ) (t : Table) (k : Kept) (a i : ℕ) → IsKept p w t k → Meets p.arena.expr.nodes w k.region.root (ends_told t.way.sweeps (length w) k.region.end) a (one_start i) k.region.end → ⊥
 meet_end p w t k a i kept met =
     let before : k.region.end < (ends_told t.way.sweeps (length w) k.region.end).last =
-    meets_early p.expr.nodes w k.region.root a k.region.end (one_start i) (ends_told t.way.sweeps (length w) k.region.end) kept.region.table.expr.arena met in
+    meets_early p.arena.expr.nodes w k.region.root a k.region.end (one_start i) (ends_told t.way.sweeps (length w) k.region.end) kept.region.table.expr.arena met in
     last_told t.way.sweeps (length w) k.region.end kept.region.whole before
   where
     last_told : (sweeps : Bool) (n end : ℕ) → (IsTrue sweeps → end ≡ n) → end < (ends_told sweeps n end).last → ⊥
@@ -83,18 +83,18 @@ next_row e w false false keeps edge a i place byte entered ended after after_end
 
 pub follows_next : (p : Prepared) (w : List ℕ) (t after : Table) (a i place byte offset next : ℕ) (edge : Bool) → t.way.mirrored ≡ false → t.way.sweeps ≡ false → SameShape t after → i ≤ place → slice_get w place ≡ Some byte →
     (IsTrue edge ↔ (place + 1 ≡ length w)) →
-    LeadsOn (nodes_of t.way p.expr) t.way (state_of (length p.expr.nodes) t (offset / 2 ^ t.layout.shift)) byte edge (state_of (length p.expr.nodes) after (next / 2 ^ after.layout.shift)) →
+    LeadsOn (nodes_of t.way p.arena.expr) t.way (state_of (length p.arena.expr.nodes) t (offset / 2 ^ t.layout.shift)) byte edge (state_of (length p.arena.expr.nodes) after (next / 2 ^ after.layout.shift)) →
     Follows p w t a i place offset → Follows p w after a i (place + 1) next
 follows_next p w t after a i place byte offset next edge front one shape from got last leads follows =
-    let m = length p.expr.nodes in
+    let m = length p.arena.expr.nodes in
     let old = state_of m t (offset / 2 ^ t.layout.shift) in
     let new = state_of m after (next / 2 ^ after.layout.shift) in
     let root : new.root ≡ old.root = leads.0 in
-    let row : RowAt p.expr.nodes w old.root (one_start i) t.way.keeps (place + 1) new.entered new.ended =
-    next_row p.expr w t.way.mirrored t.way.sweeps t.way.keeps edge old.root i place byte old.entered old.ended new.entered new.ended front one from got last leads.1 follows.1 in (
+    let row : RowAt p.arena.expr.nodes w old.root (one_start i) t.way.keeps (place + 1) new.entered new.ended =
+    next_row p.arena.expr w t.way.mirrored t.way.sweeps t.way.keeps edge old.root i place byte old.entered old.ended new.entered new.ended front one from got last leads.1 follows.1 in (
       root ∙ follows.0,
-      subst (λ r. RowAt p.expr.nodes w r (one_start i) after.way.keeps (place + 1) new.entered new.ended) (sym root)
-          (subst (λ v. RowAt p.expr.nodes w old.root (one_start i) v (place + 1) new.entered new.ended) (sym (ap (λ v. v.keeps) shape.0)) row),
+      subst (λ r. RowAt p.arena.expr.nodes w r (one_start i) after.way.keeps (place + 1) new.entered new.ended) (sym root)
+          (subst (λ v. RowAt p.arena.expr.nodes w old.root (one_start i) v (place + 1) new.entered new.ended) (sym (ap (λ v. v.keeps) shape.0)) row),
     )
 
 first_row : (e : Written) (w : List ℕ) (mirrored keeps : Bool) (a i : ℕ) (kind : Kind) (entered ended : ℕ → Bool) → mirrored ≡ false → (IsTrue kind.begin ↔ (i ≡ 0)) → (IsTrue kind.end ↔ (i ≡ length w)) →
@@ -103,13 +103,13 @@ first_row e w true keeps a i kind entered ended front begins ends first = absurd
 first_row e w false keeps a i kind entered ended front begins ends first = first w (one_start i) (begins, ends) (omega arith)
 
 pub follows_first : (p : Prepared) (w : List ℕ) (t after : Table) (a i offset : ℕ) (kind : Kind) → t.way.mirrored ≡ false → after.way ≡ t.way → (IsTrue kind.begin ↔ (i ≡ 0)) → (IsTrue kind.end ↔ (i ≡ length w)) →
-    BeginsIn (nodes_of t.way p.expr) t.way a kind (state_of (length p.expr.nodes) after (offset / 2 ^ after.layout.shift)) → Follows p w after a i i offset
+    BeginsIn (nodes_of t.way p.arena.expr) t.way a kind (state_of (length p.arena.expr.nodes) after (offset / 2 ^ after.layout.shift)) → Follows p w after a i i offset
 follows_first p w t after a i offset kind front way begins ends first =
-    let s = state_of (length p.expr.nodes) after (offset / 2 ^ after.layout.shift) in
-    let row : RowAt p.expr.nodes w a (one_start i) t.way.keeps i s.entered s.ended = first_row p.expr w t.way.mirrored t.way.keeps a i kind s.entered s.ended front begins ends first.1 in (
+    let s = state_of (length p.arena.expr.nodes) after (offset / 2 ^ after.layout.shift) in
+    let row : RowAt p.arena.expr.nodes w a (one_start i) t.way.keeps i s.entered s.ended = first_row p.arena.expr w t.way.mirrored t.way.keeps a i kind s.entered s.ended front begins ends first.1 in (
       first.0,
-      subst (λ r. RowAt p.expr.nodes w r (one_start i) after.way.keeps i s.entered s.ended) (sym first.0)
-          (subst (λ v. RowAt p.expr.nodes w a (one_start i) v i s.entered s.ended) (sym (ap (λ v. v.keeps) way)) row),
+      subst (λ r. RowAt p.arena.expr.nodes w r (one_start i) after.way.keeps i s.entered s.ended) (sym first.0)
+          (subst (λ v. RowAt p.arena.expr.nodes w a (one_start i) v i s.entered s.ended) (sym (ap (λ v. v.keeps) way)) row),
     )
 
 -- What it costs.
@@ -120,11 +120,11 @@ place_cost m from place s a b c d some before one two three = omega (arith, some
 
 -- the same, as it is read
 pub meet_read : (p : Prepared) (w : List ℕ) (t ahead : Table) (k : Kept) (a i place offset n s b : ℕ) (met : Bool) → IsKept p w t k → k.region.from ≤ place → place < k.region.to → Follows p w ahead a i place offset →
-    n ≡ length p.expr.nodes → s ≡ offset / 2 ^ ahead.layout.shift → b ≡ slice_index_or k.states.items place 0 →
+    n ≡ length p.arena.expr.nodes → s ≡ offset / 2 ^ ahead.layout.shift → b ≡ slice_index_or k.states.items place 0 →
     (IsTrue met ↔ ((c : ℕ) × (c < n) × IsTrue (slice_index_or (row_of ahead.leaves s) c false) × IsTrue (slice_index_or (row_of t.ends b) c false))) →
-    IsTrue met ↔ Meets p.expr.nodes w k.region.root (ends_told t.way.sweeps (length w) k.region.end) a (one_start i) place
+    IsTrue met ↔ Meets p.arena.expr.nodes w k.region.root (ends_told t.way.sweeps (length w) k.region.end) a (one_start i) place
 meet_read p w t ahead k a i place offset n s b met kept above before follows count front behind tells =
     meet_here p w t ahead k a i place offset met kept above before follows
-    (subst (λ v. IsTrue met ↔ ((c : ℕ) × (c < length p.expr.nodes) × IsTrue (slice_index_or (row_of ahead.leaves (offset / 2 ^ ahead.layout.shift)) c false) × IsTrue (slice_index_or (row_of t.ends v) c false))) behind
-    (subst (λ v. IsTrue met ↔ ((c : ℕ) × (c < length p.expr.nodes) × IsTrue (slice_index_or (row_of ahead.leaves v) c false) × IsTrue (slice_index_or (row_of t.ends b) c false))) front
+    (subst (λ v. IsTrue met ↔ ((c : ℕ) × (c < length p.arena.expr.nodes) × IsTrue (slice_index_or (row_of ahead.leaves (offset / 2 ^ ahead.layout.shift)) c false) × IsTrue (slice_index_or (row_of t.ends v) c false))) behind
+    (subst (λ v. IsTrue met ↔ ((c : ℕ) × (c < length p.arena.expr.nodes) × IsTrue (slice_index_or (row_of ahead.leaves v) c false) × IsTrue (slice_index_or (row_of t.ends b) c false))) front
     (subst (λ v. IsTrue met ↔ ((c : ℕ) × (c < v) × IsTrue (slice_index_or (row_of ahead.leaves s) c false) × IsTrue (slice_index_or (row_of t.ends b) c false))) count tells)))

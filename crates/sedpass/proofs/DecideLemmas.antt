@@ -13,7 +13,7 @@ use Rattle.sedre.specs.declared.types.Node.{Node}
 use Rattle.sedre.specs.Steps.{TakesAtLeast}
 use Rattle.sedre.specs.declared.types.Node.TheVariants.{Empty, Set, Begin, End, Seq, Alt, Group, Star, Opt}
 use Rattle.sedre.proofs.TreeLemmas.{tree_at-node}
-use Rattle.sedmarks.proofs.OpenLemmas.{node_at}
+use Rattle.sedmarks.proofs.NodeLemmas.{node_at}
 use Rattle.sedmarks.specs.Caps.{Groups, LastCut, LastCopy}
 use Rattle.sedmarks.specs.Reach.{At, one_start}
 use Rattle.sedre.specs.Arena.{IsArena}

@@ -25,14 +25,14 @@ abbrev LiveIn : Written → List ℕ → Table → (root end place : ℕ) → St
 LiveIn e w t root end place a = (a.root ≡ root) × RowIn e w t.way root end place a.entered a.ended
 
 -- passes may begin for the same nodes
-begins_for : (p q : Prepared) → p.expr ≡ q.expr → (way : Way) (root : ℕ) → MayBegin p way root → MayBegin q way root
+begins_for : (p q : Prepared) → p.arena.expr ≡ q.arena.expr → (way : Way) (root : ℕ) → MayBegin p way root → MayBegin q way root
 begins_for p q same way root may =
     let old = p.is_prepared.last in
     let new = q.is_prepared.last in
-    let nodes : length p.expr.nodes ≡ length q.expr.nodes = ap (λ (e : Written). length e.nodes) same in
+    let nodes : length p.arena.expr.nodes ≡ length q.arena.expr.nodes = ap (λ (e : Written). length e.nodes) same in
     (omega (arith, may.0, nodes), λ sweeps. may.1 sweeps ∙ omega (arith, old, new, nodes))
 
-module _ (p q : Prepared) (same : p.expr ≡ q.expr) where
+module _ (p q : Prepared) (same : p.arena.expr ≡ q.arena.expr) where
   pub table_for : (t : Table) → IsTable p t → IsTable q t
   table_for t table = record {
     expr = subst (λ (e : Written). IsExpr e.nodes e.groups) same table.expr;
@@ -52,7 +52,7 @@ module _ (p q : Prepared) (same : p.expr ≡ q.expr) where
   pub sweep_for : (t : Table) → IsSweep p t → IsSweep q t
   sweep_for t sweep = record { table = table_for t sweep.table; forwards = sweep.forwards; sweeps = sweep.sweeps; brief = sweep.brief }
 
-  room_for : (n : ℕ) (t : Table) (k : Kept) → KeptRoom (length p.expr.nodes) n t k → KeptRoom (length q.expr.nodes) n t k
+  room_for : (n : ℕ) (t : Table) (k : Kept) → KeptRoom (length p.arena.expr.nodes) n t k → KeptRoom (length q.arena.expr.nodes) n t k
   room_for n t k room = subst (λ (e : Written). KeptRoom (length e.nodes) n t k) same room
 
   region_for : (w : List ℕ) (t : Table) (k : Kept) → IsRegion p w t k → IsRegion q w t k

@@ -15,7 +15,7 @@ use Rattle.sedre.proofs.MirrorLemmas.{tree_at-mirror, seen-length}
 use Rattle.sedmarks.specs.Spans.{Spans, no_copy}
 use Rattle.sedmarks.specs.Places.{IsPlace}
 use Rattle.sedmarks.proofs.SpanLemmas.{Spans-forward}
-use Rattle.sedmarks.proofs.OpenLemmas.{node_at}
+use Rattle.sedmarks.proofs.NodeLemmas.{node_at}
 use Rattle.sedpass.specs.Groups.{reported, has_group}
 use Rattle.sedpass.specs.Regions.{IsRunOf, repeated, in_group}
 use Rattle.sedpass.specs.Lengths.{length_of, sum_of, same_of}

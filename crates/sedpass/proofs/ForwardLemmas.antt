@@ -6,7 +6,7 @@ use Rattle.std.proofs.lemmas.Option.{slice_get_within}
 use Rattle.sedre.specs.Arena.{Written, IsArena, tree, tree_at}
 use Rattle.sedre.specs.Mirror.{seen}
 use Rattle.sedre.specs.declared.types.Node.{Node}
-use Rattle.sedmarks.specs.declared.passes.Starts.{Starts}
+use Rattle.sedmarks.specs.declared.starts.Starts.{Starts}
 use Rattle.sedmarks.specs.Matching.{takes}
 use Rattle.sedmarks.specs.Reach.{At, IsStart, SomeSpan, Longest}
 use Rattle.sedmarks.specs.Spans.{Spans, SomeFound}
@@ -76,7 +76,7 @@ end_below nodes w r s n (Some j) last = let low = last.0 in omega arith
 pub none_before : (p : Prepared) (way : Way) (w : List ℕ) (from : ℕ) → EndsBelow p way w from from None
 none_before p way w from k low some =
     let after = first_start way.sweeps from w some.0 some.1 in
-    let on = Spans-forward (tree_at (nodes_of way p.expr) p.root) w some.0 k some.2 in
+    let on = Spans-forward (tree_at (nodes_of way p.arena.expr) p.root) w some.0 k some.2 in
     omega arith
 
 -- Codes.
@@ -109,10 +109,10 @@ swept_end way f keeps sweeps is = swept_by way.keeps way.sweeps f.ends f.dead ke
 
 -- At a place.
 
-module _ (p : Prepared) (way : Way) (w : List ℕ) (start place : ℕ) (a : State) (keeps : way.keeps ≡ false) (arena : IsArena (nodes_of way p.expr)) (inside : p.root < length (nodes_of way p.expr))
+module _ (p : Prepared) (way : Way) (w : List ℕ) (start place : ℕ) (a : State) (keeps : way.keeps ≡ false) (arena : IsArena (nodes_of way p.arena.expr)) (inside : p.root < length (nodes_of way p.arena.expr))
     (after : start ≤ place) (within : place ≤ length w) (told : IsTold a) (here : Arrives p way w start place a) where
   abbrev N : List Node
-  N = nodes_of way p.expr
+  N = nodes_of way p.arena.expr
 
   abbrev S : Starts
   S = starts_of way.sweeps start w
@@ -153,18 +153,18 @@ module _ (p : Prepared) (way : Way) (w : List ℕ) (start place : ℕ) (a : Stat
 
 -- a code of the state of a place
 module _ (p : Prepared) (t : Table) (w : List ℕ) (start place code o : ℕ) (end : Option ℕ) (table : IsTable p t) (keeps : t.way.keeps ≡ false) (after : start ≤ place) (within : place ≤ length w)
-    (tells : (b : Bool) (u : ℕ) → u < 2147483647 → code ≡ code_of b u → o ≡ u) (n : Names (length p.expr.nodes) t (Arrives p t.way w start place) code) (last : EndsBelow p t.way w start place end) where
+    (tells : (b : Bool) (u : ℕ) → u < 2147483647 → code ≡ code_of b u → o ≡ u) (n : Names (length p.arena.expr.nodes) t (Arrives p t.way w start place) code) (last : EndsBelow p t.way w start place end) where
   abbrev q : ℕ
   q = o / 2 ^ t.layout.shift
 
   abbrev here : State
-  here = state_of (length p.expr.nodes) t q
+  here = state_of (length p.arena.expr.nodes) t q
 
-  arena : IsArena (nodes_of t.way p.expr)
-  arena = seen-arena t.way.mirrored p.expr table.expr.arena
+  arena : IsArena (nodes_of t.way p.arena.expr)
+  arena = seen-arena t.way.mirrored p.arena.expr table.expr.arena
 
-  inside : p.root < length (nodes_of t.way p.expr)
-  inside = (let root = p.is_prepared.last in omega (arith, root, seen-length t.way.mirrored p.expr))
+  inside : p.root < length (nodes_of t.way p.arena.expr)
+  inside = (let root = p.is_prepared.last in omega (arith, root, seen-length t.way.mirrored p.arena.expr))
 
   arrived : Arrives p t.way w start place here
   arrived = names_state p t table (Arrives p t.way w start place) code o n tells
@@ -203,7 +203,7 @@ module _ (p : Prepared) (t : Table) (w : List ℕ) (start place code o : ℕ) (e
         over = λ h. ⊎_elim
             (λ (sweeps : IsTrue t.way.sweeps).
             let end_is = ends (ap (λ (f : Flags). f.ends) same ∙ swept_ends p t.way w start place here keeps arena inside after within is_told arrived sweeps stop) in
-            subst (λ x. IsEnd t.way.sweeps (nodes_of t.way p.expr) w p.root (starts_of t.way.sweeps start w) x) (sym end_is)
+            subst (λ x. IsEnd t.way.sweeps (nodes_of t.way p.arena.expr) w p.root (starts_of t.way.sweeps start w) x) (sym end_is)
             (swept p t.way w start place here keeps arena inside after within is_told arrived sweeps stop))
             (λ (d : (t.way.sweeps ≡ false) × IsTrue flags.dead).
             dead_end p t.way w start place here keeps arena inside after within is_told arrived noted d.0 (sym (ap (λ (f : Flags). f.dead) same) ∙ d.1) all)
@@ -213,35 +213,35 @@ module _ (p : Prepared) (t : Table) (w : List ℕ) (start place code o : ℕ) (e
 -- Further on.
 
 pub arrives_next : (p : Prepared) (way : Way) (w : List ℕ) (start place byte : ℕ) (edge : Bool) (a b : State) → start ≤ place → slice_get w place ≡ Some byte → place < length w → (IsTrue edge ↔ (place + 1 ≡ length w)) →
-    Arrives p way w start place a → LeadsOn (nodes_of way p.expr) way a byte edge b → Arrives p way w start (place + 1) b
+    Arrives p way w start place a → LeadsOn (nodes_of way p.arena.expr) way a byte edge b → Arrives p way w start (place + 1) b
 arrives_next p way w start place byte edge a b after is inside edges here leads = (
   leads.0 ∙ here.0,
-  subst (λ r. StateAt (nodes_of way p.expr) w (starts_of way.sweeps start w) way.keeps (place + 1) (record { root = r; entered = b.entered; ended = b.ended; flags = b.flags })) (sym leads.0)
+  subst (λ r. StateAt (nodes_of way p.arena.expr) w (starts_of way.sweeps start w) way.keeps (place + 1) (record { root = r; entered = b.entered; ended = b.ended; flags = b.flags })) (sym leads.0)
       (leads.1 w (starts_of way.sweeps start w) place (λ x m set. ap (λ o. takes o m) is) edges (next_start way.sweeps start w place after inside) here.1),
 )
 
 -- a pass goes on, in the table as it was or in one that was added to
 pub goes_on : (p : Prepared) (t u : Table) (w : List ℕ) (start byte code : ℕ) (edge : Bool) (mid next : Passed) → u.way ≡ t.way → PassIs p t w start mid → slice_get w mid.place ≡ Some byte → (IsTrue edge ↔ (mid.place + 1 ≡ length w)) →
-    Names (length p.expr.nodes) u (LeadsOn (nodes_of t.way p.expr) t.way (state_of (length p.expr.nodes) t (mid.offset / 2 ^ t.layout.shift)) byte edge) code →
-    (start ≤ mid.place + 1 → mid.place + 1 ≤ length w → Names (length p.expr.nodes) u (Arrives p u.way w start (mid.place + 1)) code → EndsBelow p u.way w start (mid.place + 1) mid.end → PassIs p u w start next) → PassIs p u w start next
+    Names (length p.arena.expr.nodes) u (LeadsOn (nodes_of t.way p.arena.expr) t.way (state_of (length p.arena.expr.nodes) t (mid.offset / 2 ^ t.layout.shift)) byte edge) code →
+    (start ≤ mid.place + 1 → mid.place + 1 ≤ length w → Names (length p.arena.expr.nodes) u (Arrives p u.way w start (mid.place + 1)) code → EndsBelow p u.way w start (mid.place + 1) mid.end → PassIs p u w start next) → PassIs p u w start next
 goes_on p t u w start byte code edge mid next way pass is edges names arrive =
     let inside = slice_get_within w mid.place byte is in
     let after = pass.after in
-    let a = state_of (length p.expr.nodes) t (mid.offset / 2 ^ t.layout.shift) in
+    let a = state_of (length p.arena.expr.nodes) t (mid.offset / 2 ^ t.layout.shift) in
     arrive (omega arith) (omega arith)
-    (subst (λ (x : Way). Names (length p.expr.nodes) u (Arrives p x w start (mid.place + 1)) code) (sym way)
-    (names_map (length p.expr.nodes) u (LeadsOn (nodes_of t.way p.expr) t.way a byte edge) (Arrives p t.way w start (mid.place + 1)) code
+    (subst (λ (x : Way). Names (length p.arena.expr.nodes) u (Arrives p x w start (mid.place + 1)) code) (sym way)
+    (names_map (length p.arena.expr.nodes) u (LeadsOn (nodes_of t.way p.arena.expr) t.way a byte edge) (Arrives p t.way w start (mid.place + 1)) code
     (λ b leads. arrives_next p t.way w start mid.place byte edge a b after is inside edges pass.state leads) names))
     (subst (λ (x : Way). EndsBelow p x w start (mid.place + 1) mid.end) (sym way) pass.last)
 
 -- by a filled cell, before the text's last byte
 pub follows_on : (p : Prepared) (t : Table) (w : List ℕ) (start byte cell place : ℕ) (mid next : Passed) → mid.place ≡ place → place + 1 < length w → PassIs p t w start mid → slice_get w place ≡ Some byte →
-    Names (length p.expr.nodes) t (LeadsOn (nodes_of t.way p.expr) t.way (state_of (length p.expr.nodes) t (mid.offset / 2 ^ t.layout.shift)) byte false) cell →
-    (start ≤ place + 1 → place + 1 ≤ length w → Names (length p.expr.nodes) t (Arrives p t.way w start (place + 1)) cell → EndsBelow p t.way w start (place + 1) mid.end → PassIs p t w start next) → PassIs p t w start next
+    Names (length p.arena.expr.nodes) t (LeadsOn (nodes_of t.way p.arena.expr) t.way (state_of (length p.arena.expr.nodes) t (mid.offset / 2 ^ t.layout.shift)) byte false) cell →
+    (start ≤ place + 1 → place + 1 ≤ length w → Names (length p.arena.expr.nodes) t (Arrives p t.way w start (place + 1)) cell → EndsBelow p t.way w start (place + 1) mid.end → PassIs p t w start next) → PassIs p t w start next
 follows_on p t w start byte cell place mid next at inside pass is names arrive =
     goes_on p t t w start byte cell false mid next refl pass (subst (λ x. slice_get w x ≡ Some byte) (sym at) is)
     ((λ h. absurd (true≢false (sym h))), (λ e. absurd (omega (arith, e, at, inside)))) names
-    (subst (λ x. start ≤ x + 1 → x + 1 ≤ length w → Names (length p.expr.nodes) t (Arrives p t.way w start (x + 1)) cell → EndsBelow p t.way w start (x + 1) mid.end → PassIs p t w start next) (sym at) arrive)
+    (subst (λ x. start ≤ x + 1 → x + 1 ≤ length w → Names (length p.arena.expr.nodes) t (Arrives p t.way w start (x + 1)) cell → EndsBelow p t.way w start (x + 1) mid.end → PassIs p t w start next) (sym at) arrive)
 
 -- The beginning of a pass.
 
@@ -254,27 +254,27 @@ starts_order true from w low = low
 starts_order false from w low = omega arith
 
 pub arrives_first : (p : Prepared) (way : Way) (w : List ℕ) (from : ℕ) (kind : Kind) (a : State) → way.mirrored ≡ false → from ≤ length w → (IsTrue kind.begin ↔ (from ≡ 0)) → (IsTrue kind.end ↔ (from ≡ length w)) →
-    BeginsIn (nodes_of way p.expr) way p.root kind a → Arrives p way w from from a
+    BeginsIn (nodes_of way p.arena.expr) way p.root kind a → Arrives p way w from from a
 arrives_first p way w from kind a mirrored low begin end begins =
     let s = starts_of way.sweeps from w in
     let first = first_is way.sweeps from w in
     let place : IsPlace w s.first (at_begin way.mirrored kind) (at_end way.mirrored kind) =
     subst (λ b. IsPlace w s.first (at_begin b kind) (at_end b kind)) (sym mirrored) (subst (λ x. IsPlace w x kind.begin kind.end) (sym first) (begin, end)) in (
       begins.0,
-      subst (λ r. RowAt (nodes_of way p.expr) w r s way.keeps from a.entered a.ended) (sym begins.0)
-          (subst (λ x. RowAt (nodes_of way p.expr) w p.root s way.keeps x a.entered a.ended) first (begins.1 w s place (starts_order way.sweeps from w low))),
+      subst (λ r. RowAt (nodes_of way p.arena.expr) w r s way.keeps from a.entered a.ended) (sym begins.0)
+          (subst (λ x. RowAt (nodes_of way p.arena.expr) w p.root s way.keeps x a.entered a.ended) first (begins.1 w s place (starts_order way.sweeps from w low))),
     )
 
 -- The end of a pass.
 
 pub pass_end : (p : Prepared) (t : Table) (w : List ℕ) (start : ℕ) (at : Passed) → start ≤ length w → PassIs p t w start at → (at.over ≡ true) ⊎ (length w ≤ at.place) →
-    IsEnd t.way.sweeps (nodes_of t.way p.expr) w p.root (starts_of t.way.sweeps start w) at.end
+    IsEnd t.way.sweeps (nodes_of t.way p.arena.expr) w p.root (starts_of t.way.sweeps start w) at.end
 pass_end p t w start at low pass done =
     ⊎_elim
     (λ (over : at.over ≡ true). pass.over over)
     (λ (last : length w ≤ at.place).
     let s = starts_of t.way.sweeps start w in
-    let nodes = nodes_of t.way p.expr in
+    let nodes = nodes_of t.way p.arena.expr in
     all_below nodes w p.root s t.way.sweeps (at.place + 1) at.end
     (λ k late some.
     let within = Spans-within (tree_at nodes p.root) w some.0 k (last_start t.way.sweeps start w some.0 low some.1) some.2 in
@@ -308,16 +308,16 @@ module _ (e : Written) (r : ℕ) (w : List ℕ) (from : ℕ) (whole : r + 1 ≡ 
   end_found low (Some j) is = (λ h. let some = is.0 in (some.0, j, some.1.0, some.1.1, to_tree some.0 j some.2), λ some. refl)
 
 -- of a pass forwards
-module _ (p : Prepared) (way u : Way) (w : List ℕ) (from : ℕ) (end : Option ℕ) (same : u ≡ way) (mirrored : way.mirrored ≡ false) (is : IsEnd u.sweeps (nodes_of u p.expr) w p.root (starts_of u.sweeps from w) end) where
-  seen_end : IsEnd way.sweeps p.expr.nodes w p.root (starts_of way.sweeps from w) end
-  seen_end = subst (λ b. IsEnd way.sweeps (seen b p.expr).nodes w p.root (starts_of way.sweeps from w) end) mirrored
-      (subst (λ (x : Way). IsEnd x.sweeps (nodes_of x p.expr) w p.root (starts_of x.sweeps from w) end) same is)
+module _ (p : Prepared) (way u : Way) (w : List ℕ) (from : ℕ) (end : Option ℕ) (same : u ≡ way) (mirrored : way.mirrored ≡ false) (is : IsEnd u.sweeps (nodes_of u p.arena.expr) w p.root (starts_of u.sweeps from w) end) where
+  seen_end : IsEnd way.sweeps p.arena.expr.nodes w p.root (starts_of way.sweeps from w) end
+  seen_end = subst (λ b. IsEnd way.sweeps (seen b p.arena.expr).nodes w p.root (starts_of way.sweeps from w) end) mirrored
+      (subst (λ (x : Way). IsEnd x.sweeps (nodes_of x p.arena.expr) w p.root (starts_of x.sweeps from w) end) same is)
 
-  pub run_longest : way.sweeps ≡ false → Longest (tree p.expr) w from end
-  run_longest single = end_longest p.expr p.root w from p.is_prepared.last end (subst (λ b. IsEnd b p.expr.nodes w p.root (starts_of b from w) end) single seen_end)
+  pub run_longest : way.sweeps ≡ false → Longest (tree p.arena.expr) w from end
+  run_longest single = end_longest p.arena.expr p.root w from p.is_prepared.last end (subst (λ b. IsEnd b p.arena.expr.nodes w p.root (starts_of b from w) end) single seen_end)
 
-  pub run_found : from ≤ length w → IsTrue way.sweeps → IsTrue (is_some end) ↔ SomeFound (tree p.expr) w from
-  run_found low sweeps = end_found p.expr p.root w from p.is_prepared.last low end (subst (λ b. IsEnd b p.expr.nodes w p.root (starts_of b from w) end) sweeps seen_end)
+  pub run_found : from ≤ length w → IsTrue way.sweeps → IsTrue (is_some end) ↔ SomeFound (tree p.arena.expr) w from
+  run_found low sweeps = end_found p.arena.expr p.root w from p.is_prepared.last low end (subst (λ b. IsEnd b p.arena.expr.nodes w p.root (starts_of b from w) end) sweeps seen_end)
 
 -- Costs.
 

@@ -9,9 +9,8 @@ use Rattle.sedre.specs.Arena.{Written, IsArena}
 use Rattle.sedre.specs.Mirror.{seen}
 use Rattle.sedre.specs.declared.types.Node.{Node}
 use Rattle.sedmarks.specs.Matching.{takes}
-use Rattle.sedmarks.specs.declared.passes.Starts.{Starts}
-use Rattle.sedmarks.specs.Reach.{At, IsStart, one_start}
-use Rattle.sedmarks.specs.Search.{starts_to}
+use Rattle.sedmarks.specs.declared.starts.Starts.{Starts}
+use Rattle.sedmarks.specs.Reach.{At, IsStart, one_start, starts_to}
 use Rattle.sedmarks.specs.Places.{IsPlace}
 use Rattle.sedmarks.proofs.MirrorLemmas.{get-reverse}
 use Rattle.sedpass.specs.Regions.{IsLastIn, Opposite, Reaches, Meets}
@@ -110,34 +109,34 @@ kept_first e w true true keeps r end kind entered ended _ within whole begins en
 
 -- what was a place's state is it still, where the state stands as it stood
 pub live_kept : (p : Prepared) (w : List ℕ) (t after : Table) (root end : ℕ) (states : List ℕ) (q : ℕ) → after.way ≡ t.way → t.count ≤ after.count →
-    ((s : ℕ) → s < t.count → state_of (length p.expr.nodes) after s ≡ state_of (length p.expr.nodes) t s) → IsLive p w t root end states q → IsLive p w after root end states q
+    ((s : ℕ) → s < t.count → state_of (length p.arena.expr.nodes) after s ≡ state_of (length p.arena.expr.nodes) t s) → IsLive p w t root end states q → IsLive p w after root end states q
 live_kept p w t after root end states q way grows same live =
     let s = slice_index_or states q 0 in
     let low : s < t.count = live.0 in (
       omega arith,
-      subst (λ v. KeptAt p w v root end q (state_of (length p.expr.nodes) after s)) (sym way)
+      subst (λ v. KeptAt p w v root end q (state_of (length p.arena.expr.nodes) after s)) (sym way)
           (subst (λ a. KeptAt p w t.way root end q a) (sym (same s low)) live.1),
     )
 
 -- the number that was kept last is a place's state
-pub live_set : (p : Prepared) (w : List ℕ) (t : Table) (root end : ℕ) (states : List ℕ) (q s : ℕ) → q < length states → s < t.count → KeptAt p w t.way root end q (state_of (length p.expr.nodes) t s) → IsLive p w t root end (slice_set states q s) q
+pub live_set : (p : Prepared) (w : List ℕ) (t : Table) (root end : ℕ) (states : List ℕ) (q s : ℕ) → q < length states → s < t.count → KeptAt p w t.way root end q (state_of (length p.arena.expr.nodes) t s) → IsLive p w t root end (slice_set states q s) q
 live_set p w t root end states q s inside there at =
     let e : slice_index_or (slice_set states q s) q 0 ≡ s = get_or-set_same states q s 0 inside in
-    (rw e there, subst (λ v. KeptAt p w t.way root end q (state_of (length p.expr.nodes) t v)) (sym e) at)
+    (rw e there, subst (λ v. KeptAt p w t.way root end q (state_of (length p.arena.expr.nodes) t v)) (sym e) at)
 
 -- and those of other places are as they were
 pub live_other : (p : Prepared) (w : List ℕ) (t : Table) (root end : ℕ) (states : List ℕ) (place s q : ℕ) → place < q → IsLive p w t root end states q → IsLive p w t root end (slice_set states place s) q
 live_other p w t root end states place s q after live =
     let e : slice_index_or (slice_set states place s) q 0 ≡ slice_index_or states q 0 = get_or-set_other states place q s 0 (λ e. omega arith) in
-    (rw e live.0, subst (λ v. KeptAt p w t.way root end q (state_of (length p.expr.nodes) t v)) (sym e) live.1)
+    (rw e live.0, subst (λ v. KeptAt p w t.way root end q (state_of (length p.arena.expr.nodes) t v)) (sym e) live.1)
 
 -- the state of the next place
 pub kept_down : (p : Prepared) (w : List ℕ) (way : Way) (root end q byte : ℕ) (edge : Bool) (a b : State) → q < end → end ≤ length w → slice_get w q ≡ Some byte → (IsTrue edge ↔ (q ≡ 0)) →
-    LeadsOn (seen way.mirrored p.expr).nodes way a byte edge b → KeptAt p w way root end (q + 1) a → KeptAt p w way root end q b
+    LeadsOn (seen way.mirrored p.arena.expr).nodes way a byte edge b → KeptAt p w way root end (q + 1) a → KeptAt p w way root end q b
 kept_down p w way root end q byte edge a b before within got last leads at =
-    let leads-root : LeadsTo (seen way.mirrored p.expr).nodes root way.keeps a.entered a.ended (Some byte) edge way.sweeps b.entered b.ended =
-    subst (λ r. LeadsTo (seen way.mirrored p.expr).nodes r way.keeps a.entered a.ended (Some byte) edge way.sweeps b.entered b.ended) at.0 leads.1 in
-    (leads.0 ∙ at.0, kept_step p.expr w way.mirrored way.sweeps way.keeps edge root end q byte a.entered a.ended b.entered b.ended before within got last leads-root at.1)
+    let leads-root : LeadsTo (seen way.mirrored p.arena.expr).nodes root way.keeps a.entered a.ended (Some byte) edge way.sweeps b.entered b.ended =
+    subst (λ r. LeadsTo (seen way.mirrored p.arena.expr).nodes r way.keeps a.entered a.ended (Some byte) edge way.sweeps b.entered b.ended) at.0 leads.1 in
+    (leads.0 ∙ at.0, kept_step p.arena.expr w way.mirrored way.sweeps way.keeps edge root end q byte a.entered a.ended b.entered b.ended before within got last leads-root at.1)
 
 -- Going back by one byte.
 
@@ -157,7 +156,7 @@ pub region_kept : (p : Prepared) (w : List ℕ) (t after : Table) (k other : Kep
     other.region.root ≡ k.region.root → other.region.end ≡ k.region.end → other.region.to ≤ k.region.end → IsRegion p w t k → IsRegion p w after other
 region_kept p w t after k other shape table places long edges root end within region = record {
   table = table;
-  room = room_kept (length p.expr.nodes) (length w) t after k other shape places edges region.room;
+  room = room_kept (length p.arena.expr.nodes) (length w) t after k other shape places edges region.room;
   root = subst (λ v. MayBegin p v other.region.root) (sym shape.0) (subst (λ r. MayBegin p t.way r) (sym root) region.root);
   whole = λ h. end ∙ region.whole (subst (λ (v : Way). IsTrue v.sweeps) shape.0 h);
   inside = rw end region.inside;
@@ -167,15 +166,15 @@ region_kept p w t after k other shape table places long edges root end within re
 
 -- the pass is at the next place
 pub passes_down : (p : Prepared) (w : List ℕ) (t after : Table) (k other : Kept) (place offset next byte : ℕ) (edge : Bool) →
-    Passes p w t k (place + 1) offset → IsTable p after → AddsStates (length p.expr.nodes) t after →
+    Passes p w t k (place + 1) offset → IsTable p after → AddsStates (length p.arena.expr.nodes) t after →
     other.region.root ≡ k.region.root → other.region.end ≡ k.region.end → other.edges ≡ k.edges →
     vec_capacity other.states ≡ vec_capacity k.states → other.states.items ≡ slice_set k.states.items place (next / 2 ^ after.layout.shift) →
     ((after.epoch ≡ t.epoch → ⊥) × (other.region.to ≡ place + 1)) ⊎ ((after.epoch ≡ t.epoch) × (other.region.to ≡ k.region.to)) →
     IsOffset after next → slice_get w place ≡ Some byte → (IsTrue edge ↔ (place ≡ 0)) →
-    LeadsOn (nodes_of t.way p.expr) t.way (state_of (length p.expr.nodes) t (offset / 2 ^ t.layout.shift)) byte edge (state_of (length p.expr.nodes) after (next / 2 ^ after.layout.shift)) →
+    LeadsOn (nodes_of t.way p.arena.expr) t.way (state_of (length p.arena.expr.nodes) t (offset / 2 ^ t.layout.shift)) byte edge (state_of (length p.arena.expr.nodes) after (next / 2 ^ after.layout.shift)) →
     Passes p w after other place next
 passes_down p w t after k other place offset next byte edge old table adds root end edges places states to there got last leads =
-    let m = length p.expr.nodes in
+    let m = length p.arena.expr.nodes in
     let s = next / 2 ^ after.layout.shift in
     let low : place < k.region.end = (let h = old.within in omega arith) in
     let inside : place < length k.states.items = (let h = old.region.long in let g = old.region.inside in omega arith) in
@@ -220,14 +219,14 @@ row_copied m row mark leaf one two = bits_agree m row mark one ∙ bits_agree m 
 
 -- the block's edge is kept, and those of later blocks are as they were
 pub edges_more : (p : Prepared) (w : List ℕ) (way : Way) (root end width block : ℕ) (old mid new : List (List Bool)) (mark other leaf last : List Bool) → 1 ≤ width → 2 * block + 1 < length old → length mid ≡ length old →
-    AgreeBelow (length p.expr.nodes) (row_of mid (2 * block)) mark → AgreeBelow (length p.expr.nodes) mark leaf → ((q : ℕ) → q < length old → (q ≡ 2 * block → ⊥) → row_of mid q ≡ row_of old q) →
-    AgreeBelow (length p.expr.nodes) (row_of new (2 * block + 1)) other → AgreeBelow (length p.expr.nodes) other last → ((q : ℕ) → q < length mid → (q ≡ 2 * block + 1 → ⊥) → row_of new q ≡ row_of mid q) →
-    RowKept p w way root end (block * width + width) (bits (length p.expr.nodes) leaf) (bits (length p.expr.nodes) last) →
+    AgreeBelow (length p.arena.expr.nodes) (row_of mid (2 * block)) mark → AgreeBelow (length p.arena.expr.nodes) mark leaf → ((q : ℕ) → q < length old → (q ≡ 2 * block → ⊥) → row_of mid q ≡ row_of old q) →
+    AgreeBelow (length p.arena.expr.nodes) (row_of new (2 * block + 1)) other → AgreeBelow (length p.arena.expr.nodes) other last → ((q : ℕ) → q < length mid → (q ≡ 2 * block + 1 → ⊥) → row_of new q ≡ row_of mid q) →
+    RowKept p w way root end (block * width + width) (bits (length p.arena.expr.nodes) leaf) (bits (length p.arena.expr.nodes) last) →
     ((b : ℕ) → block * width + width < b * width + width → b * width + width < end → IsEdge p w way root end old width b) →
     ((b : ℕ) → b * width + width < end → 2 * b + 1 < length old) →
     (b : ℕ) → block * width < b * width + width → b * width + width < end → IsEdge p w way root end new width b
 edges_more p w way root end width block old mid new mark other leaf last some inside same one two kept three four as_was here later room b after before =
-    let m = length p.expr.nodes in
+    let m = length p.arena.expr.nodes in
     ⊎_elim
     (λ (lt : block < b).
     let up : block + 1 ≤ b = omega arith in
@@ -335,9 +334,9 @@ block_cost m low high s a t less edge pass =
 -- a pass begins at the place
 pub passes_first : (p : Prepared) (w : List ℕ) (t after : Table) (k other : Kept) (place offset : ℕ) → IsRegion p w t k → SameShape t after → IsTable p after → other.states ≡ k.states → other.edges ≡ k.edges →
     other.region.root ≡ k.region.root → other.region.end ≡ k.region.end → other.region.to ≡ place → place ≤ k.region.end → IsOffset after offset →
-    KeptAt p w after.way k.region.root k.region.end place (state_of (length p.expr.nodes) after (offset / 2 ^ after.layout.shift)) → Passes p w after other place offset
+    KeptAt p w after.way k.region.root k.region.end place (state_of (length p.arena.expr.nodes) after (offset / 2 ^ after.layout.shift)) → Passes p w after other place offset
 passes_first p w t after k other place offset region shape table states edges root end to within there at =
-    let m = length p.expr.nodes in
+    let m = length p.arena.expr.nodes in
     record {
       region = region_kept p w t after k other shape table (ap (λ v. vec_capacity v) states) (ap (λ v. length v.items) states) edges root end (rw to within) region;
       within = rw end within;
@@ -371,16 +370,16 @@ make_cost m low d place end s a t at is first pass =
 
 -- the state of the region's end
 pub first_at : (p : Prepared) (w : List ℕ) (t : Table) (k : Kept) (way : Way) (kind : Kind) (a : State) → IsRegion p w t k → way ≡ t.way →
-    (IsTrue kind.begin ↔ (k.region.end ≡ 0)) → (IsTrue kind.end ↔ (k.region.end ≡ length w)) → BeginsIn (nodes_of t.way p.expr) t.way k.region.root kind a →
+    (IsTrue kind.begin ↔ (k.region.end ≡ 0)) → (IsTrue kind.end ↔ (k.region.end ≡ length w)) → BeginsIn (nodes_of t.way p.arena.expr) t.way k.region.root kind a →
     KeptAt p w way k.region.root k.region.end k.region.end a
 first_at p w t k way kind a region same begins ends first =
     subst (λ v. KeptAt p w v k.region.root k.region.end k.region.end a) (sym same)
-    (first.0, kept_first p.expr w t.way.mirrored t.way.sweeps t.way.keeps k.region.root k.region.end kind a.entered a.ended region.room.mirrored region.inside region.whole begins ends first.1)
+    (first.0, kept_first p.arena.expr w t.way.mirrored t.way.sweeps t.way.keeps k.region.root k.region.end kind a.entered a.ended region.room.mirrored region.inside region.whole begins ends first.1)
 
 -- the state of a block's right end
 pub load_at : (p : Prepared) (w : List ℕ) (t : Table) (k : Kept) (way : Way) (block place : ℕ) (a : State) → EdgesFrom p w t k k.region.low → k.region.low < block * (t.room - 1) + (t.room - 1) →
     place ≡ min k.region.end (block * (t.room - 1) + (t.room - 1)) → (place ≡ k.region.end → ⊥) → way ≡ t.way →
-    HasRow k.region.root (bits (length p.expr.nodes) (row_of k.edges (2 * block))) (bits (length p.expr.nodes) (row_of k.edges (2 * block + 1))) a → KeptAt p w way k.region.root k.region.end place a
+    HasRow k.region.root (bits (length p.arena.expr.nodes) (row_of k.edges (2 * block))) (bits (length p.arena.expr.nodes) (row_of k.edges (2 * block + 1))) a → KeptAt p w way k.region.root k.region.end place a
 load_at p w t k way block place a edges some is other same row =
     let width = t.room - 1 in
     let root = k.region.root in
@@ -391,27 +390,27 @@ load_at p w t k way block place a edges some is other same row =
       row.0,
       subst (λ x. RowKept p w t.way root end x a.entered a.ended) (sym at)
           (subst (λ f. RowKept p w t.way root end (block * width + width) f a.ended) (sym row.1)
-          (subst (λ f. RowKept p w t.way root end (block * width + width) (bits (length p.expr.nodes) (row_of k.edges (2 * block))) f) (sym row.2) (edges block some before))),
+          (subst (λ f. RowKept p w t.way root end (block * width + width) (bits (length p.arena.expr.nodes) (row_of k.edges (2 * block))) f) (sym row.2) (edges block some before))),
     )
 
 -- What the marks tell.
 
 -- whether a node is marked at a place whose state is in the table
-pub kept_mark : (p : Prepared) (w : List ℕ) (t : Table) (k : Kept) (x q : ℕ) (mark : Bool) → IsKept p w t k → x < length p.expr.nodes → k.region.from ≤ q → q < k.region.to →
-    mark ≡ slice_index_or (row_of t.ends (slice_index_or k.states.items q 0)) x false → IsTrue mark ↔ Reaches p.expr.nodes w k.region.root (ends_told t.way.sweeps (length w) k.region.end) x q
+pub kept_mark : (p : Prepared) (w : List ℕ) (t : Table) (k : Kept) (x q : ℕ) (mark : Bool) → IsKept p w t k → x < length p.arena.expr.nodes → k.region.from ≤ q → q < k.region.to →
+    mark ≡ slice_index_or (row_of t.ends (slice_index_or k.states.items q 0)) x false → IsTrue mark ↔ Reaches p.arena.expr.nodes w k.region.root (ends_told t.way.sweeps (length w) k.region.end) x q
 kept_mark p w t k x q mark kept inside above before is =
-    let m = length p.expr.nodes in
+    let m = length p.arena.expr.nodes in
     let region : IsRegion p w t k = kept.region in
     let s = slice_index_or k.states.items q 0 in
     let live : IsLive p w t k.region.root k.region.end k.states.items q = kept.live q above before in
     let bit : bits m (row_of t.ends s) x ≡ mark = bits_here m (row_of t.ends s) x inside ∙ sym is in
     let there : q ≤ length w = (let h = region.within in let g = region.inside in omega (arith, h, g, before)) in
-    subst (λ b. IsTrue b ↔ Reaches p.expr.nodes w k.region.root (ends_told t.way.sweeps (length w) k.region.end) x q) bit
-    (kept_reaches p.expr w t.way.mirrored t.way.sweeps t.way.keeps k.region.root k.region.end q x (bits m (row_of t.leaves s)) (bits m (row_of t.ends s)) region.table.expr.arena region.room.mirrored region.room.keeps there region.inside live.1.1)
+    subst (λ b. IsTrue b ↔ Reaches p.arena.expr.nodes w k.region.root (ends_told t.way.sweeps (length w) k.region.end) x q) bit
+    (kept_reaches p.arena.expr w t.way.mirrored t.way.sweeps t.way.keeps k.region.root k.region.end q x (bits m (row_of t.leaves s)) (bits m (row_of t.ends s)) region.table.expr.arena region.room.mirrored region.room.keeps there region.inside live.1.1)
 
 -- where its state stands
 pub kept_row : (p : Prepared) (w : List ℕ) (t : Table) (k : Kept) (q : ℕ) → IsKept p w t k → k.region.from ≤ q → q < k.region.to →
-    (slice_index_or k.states.items q 0 < length t.ends) × (length p.expr.nodes ≤ length (row_of t.ends (slice_index_or k.states.items q 0))) × (q < length k.states.items)
+    (slice_index_or k.states.items q 0 < length t.ends) × (length p.arena.expr.nodes ≤ length (row_of t.ends (slice_index_or k.states.items q 0))) × (q < length k.states.items)
 kept_row p w t k q kept above before =
     let region : IsRegion p w t k = kept.region in
     let live = (kept.live q above before).0 in
@@ -446,22 +445,22 @@ marked_then nodes w r x t asked from place to passed more q after before =
     ⊎_elim (λ (lt : q < place). passed q after lt) (λ (ge : place ≤ q). more q ge before) (cases_lt q place)
 
 -- a node that is last in the region, at its end
-pub null_spans : (p : Prepared) (w : List ℕ) (kind : Kind) (x place : ℕ) (null : Bool) → x < length p.expr.nodes → (IsTrue kind.begin ↔ (place ≡ 0)) → (IsTrue kind.end ↔ (place ≡ length w)) →
-    null ≡ null_in p.expr.nodes kind x → IsTrue null ↔ At p.expr.nodes w x place place
+pub null_spans : (p : Prepared) (w : List ℕ) (kind : Kind) (x place : ℕ) (null : Bool) → x < length p.arena.expr.nodes → (IsTrue kind.begin ↔ (place ≡ 0)) → (IsTrue kind.end ↔ (place ≡ length w)) →
+    null ≡ null_in p.arena.expr.nodes kind x → IsTrue null ↔ At p.arena.expr.nodes w x place place
 null_spans p w kind x place null inside begins ends is =
-    subst (λ b. IsTrue b ↔ At p.expr.nodes w x place place) (sym is) (null_tells false p.expr kind w place (begins, ends) x inside)
+    subst (λ b. IsTrue b ↔ At p.arena.expr.nodes w x place place) (sym is) (null_tells false p.arena.expr kind w place (begins, ends) x inside)
 
 -- and before it
-pub mark_spans : (p : Prepared) (w : List ℕ) (t : Table) (k : Kept) (x q : ℕ) (mark : Bool) → IsKept p w t k → t.way.sweeps ≡ false → IsLastIn p.expr.nodes k.region.root x → k.region.from ≤ q → q < k.region.to →
-    mark ≡ slice_index_or (row_of t.ends (slice_index_or k.states.items q 0)) x false → IsTrue mark ↔ At p.expr.nodes w x q k.region.end
+pub mark_spans : (p : Prepared) (w : List ℕ) (t : Table) (k : Kept) (x q : ℕ) (mark : Bool) → IsKept p w t k → t.way.sweeps ≡ false → IsLastIn p.arena.expr.nodes k.region.root x → k.region.from ≤ q → q < k.region.to →
+    mark ≡ slice_index_or (row_of t.ends (slice_index_or k.states.items q 0)) x false → IsTrue mark ↔ At p.arena.expr.nodes w x q k.region.end
 mark_spans p w t k x q mark kept one last above before is =
     let arena = kept.region.table.expr.arena in
     let root = kept.region.root.0 in
-    let up = last_inside p.expr.nodes w k.region.root (one_start k.region.end) arena x last in
-    let tells : IsTrue mark ↔ Reaches p.expr.nodes w k.region.root (ends_told t.way.sweeps (length w) k.region.end) x q = kept_mark p w t k x q mark kept (omega (arith, root, up)) above before is in
-    let same : IsTrue mark ↔ Reaches p.expr.nodes w k.region.root (one_start k.region.end) x q =
-    subst (λ b. IsTrue mark ↔ Reaches p.expr.nodes w k.region.root (ends_told b (length w) k.region.end) x q) one tells in
-    let both = reaches_last p.expr.nodes w k.region.root k.region.end x q arena last in
+    let up = last_inside p.arena.expr.nodes w k.region.root (one_start k.region.end) arena x last in
+    let tells : IsTrue mark ↔ Reaches p.arena.expr.nodes w k.region.root (ends_told t.way.sweeps (length w) k.region.end) x q = kept_mark p w t k x q mark kept (omega (arith, root, up)) above before is in
+    let same : IsTrue mark ↔ Reaches p.arena.expr.nodes w k.region.root (one_start k.region.end) x q =
+    subst (λ b. IsTrue mark ↔ Reaches p.arena.expr.nodes w k.region.root (ends_told b (length w) k.region.end) x q) one tells in
+    let both = reaches_last p.arena.expr.nodes w k.region.root k.region.end x q arena last in
     (λ h. both.0 (same.0 h), λ h. same.1 (both.1 h))
 
 -- what is told of the region stays so over calls

@@ -4,6 +4,7 @@ pub mod ClassLemmas
 pub mod CountLemmas
 pub mod DecideLemmas
 pub mod ExpressionLemmas
+pub mod EmptyLemmas
 pub mod FactLemmas
 pub mod ForwardLemmas
 pub mod GroupSetLemmas

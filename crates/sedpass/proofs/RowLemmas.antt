@@ -12,7 +12,7 @@ use Rattle.sedre.proofs.MirrorLemmas.{seen-node, old_node}
 use Rattle.sedre.specs.declared.types.Node.{Node}
 use Rattle.sedre.specs.declared.types.NodeId.{NodeId}
 use Rattle.sedre.specs.declared.types.Node.TheVariants.{Empty, Set, Begin, End, Seq, Alt, Group, Star, Opt}
-use Rattle.sedmarks.specs.declared.passes.Starts.{Starts}
+use Rattle.sedmarks.specs.declared.starts.Starts.{Starts}
 use Rattle.sedmarks.specs.Spans.{Copies, no_copy}
 use Rattle.sedmarks.specs.Matching.{takes}
 use Rattle.sedmarks.specs.PartMarks.{enter_parts}
@@ -23,7 +23,7 @@ use Rattle.sedpass.specs.Regions.{EndsAt, Opposite, Reaches, Meets}
 use Rattle.sedpass.specs.Rows.{Took, NullBy, EndsBy, EntersBy, SameBytes, SameKind, SameLeaves, NoneEntered, InTree, is_tree, part_of, IsRange, TreeBelow, TreeFrom, AreNull, ended_by, leaf_looks, part_looks, enter_looks, bits, TellTook, RowAt, RowFrom, LeadsTo}
 use Rattle.sedmarks.proofs.SpanLemmas.{Spans-forward, Spans-within, Copies-append, Copies-last}
 use Rattle.sedmarks.proofs.ReachLemmas.{open_at, close_at, takes_some, FromNode, Enters-from, Enters-part, Enters-inside, Enters-root, Enters-loose}
-use Rattle.sedmarks.proofs.OpenLemmas.{node_at}
+use Rattle.sedmarks.proofs.NodeLemmas.{node_at}
 use Rattle.sedpass.proofs.LeaveLemmas.{ends_at, reaches_mirror}
 use Rattle.sedpass.proofs.MeetingLemmas.{meets_whole}
 

@@ -7,8 +7,7 @@ use Rattle.sedre.specs.declared.types.Node.TheVariants.{Empty, Set, Begin, End, 
 use Rattle.std.specs.Prelude.{IfSome, slice_index_or}
 use Rattle.sedre.specs.Steps.{Counted, Takes, TakesAtLeast}
 use Rattle.sedmarks.specs.Caps.{Groups, IsReport}
-use Rattle.sedmarks.proofs.OpenLemmas.{node_at}
-use Rattle.sedmarks.proofs.WorkLemmas.{size-pos}
+use Rattle.sedmarks.proofs.NodeLemmas.{node_at, size-pos}
 use Rattle.sedpass.specs.Decide.{nodes_in, text_in, told_of, LooksAt, undecided, GoesOn, EndsIn, IsMatch, Turns, next_of, waiting, part_cost, kind_cost, tasks_cost, long_of, IsSpent}
 use Rattle.sedpass.specs.Overlay.{State, Back, NoneDue, IsStart}
 use Rattle.sedpass.specs.Turns.{Runs, AreReady, AreWithin, AreShort, Reduces, weights, looks, descents, tasks_of}

@@ -184,9 +184,9 @@ code_by way a shift q = code_of (stops way a.flags) (q * 2 ^ shift)
 pub names_map : (m : ℕ) (t : Table) (P Q : State → Type 0) (v : ℕ) → ((a : State) → P a → Q a) → Names m t P v → Names m t Q v
 names_map m t P Q v up n = record { to = n.to; there = n.there; code = n.code; is = up (state_of m t n.to) n.is }
 
-module _ (p : Prepared) (t t' : Table) (adds : AddsStates (length p.expr.nodes) t t') (epoch : t'.epoch ≡ t.epoch) where
+module _ (p : Prepared) (t t' : Table) (adds : AddsStates (length p.arena.expr.nodes) t t') (epoch : t'.epoch ≡ t.epoch) where
   abbrev m : ℕ
-  m = length p.expr.nodes
+  m = length p.arena.expr.nodes
 
   pub names_more : (P : State → Type 0) (v : ℕ) → Names m t P v → Names m t' P v
   names_more P v n = record {
@@ -208,8 +208,8 @@ module _ (p : Prepared) (t t' : Table) (adds : AddsStates (length p.expr.nodes) 
 
   leads_more : (q k : ℕ) → q < t.count → (b : State) → LeadsBy p t q k b → LeadsBy p t' q k b
   leads_more q k there b leads byte edge small column =
-      subst (λ w. LeadsOn (nodes_of w p.expr) w (state_of m t' q) byte edge b) (sym adds.shape.0)
-      (subst (λ a. LeadsOn (nodes_of t.way p.expr) t.way a byte edge b) (sym (adds.kept epoch q there))
+      subst (λ w. LeadsOn (nodes_of w p.arena.expr) w (state_of m t' q) byte edge b) (sym adds.shape.0)
+      (subst (λ a. LeadsOn (nodes_of t.way p.arena.expr) t.way a byte edge b) (sym (adds.kept epoch q there))
       (leads byte edge small (subst (λ (l : Layout). IsColumn l byte edge k) adds.shape.2 column)))
 
   filled_more : (q k v : ℕ) → q < t.count → Names m t (LeadsBy p t q k) v → Names m t' (LeadsBy p t' q k) v
@@ -220,13 +220,13 @@ module _ (p : Prepared) (t t' : Table) (adds : AddsStates (length p.expr.nodes) 
 
   abbrev Begun : Table → Way → ℕ → Kind → Type 0
   Begun u way root kind = MayBegin p way root → (beginning_of u (beginning_at way.sweeps root kind)).epoch ≡ u.epoch →
-      Names m u (BeginsIn (nodes_of way p.expr) way root kind) (beginning_of u (beginning_at way.sweeps root kind)).code
+      Names m u (BeginsIn (nodes_of way p.arena.expr) way root kind) (beginning_of u (beginning_at way.sweeps root kind)).code
 
   begun_at : (root : ℕ) (kind : Kind) → beginning_of t' (beginning_at t.way.sweeps root kind) ≡ beginning_of t (beginning_at t.way.sweeps root kind) → Begun t t.way root kind → Begun t' t.way root kind
   begun_at root kind entry begun may is =
       let i = beginning_at t.way.sweeps root kind in
-      subst (λ (b : Beginning). Names m t' (BeginsIn (nodes_of t.way p.expr) t.way root kind) b.code) (sym entry)
-      (names_more (BeginsIn (nodes_of t.way p.expr) t.way root kind) (beginning_of t i).code
+      subst (λ (b : Beginning). Names m t' (BeginsIn (nodes_of t.way p.arena.expr) t.way root kind) b.code) (sym entry)
+      (names_more (BeginsIn (nodes_of t.way p.arena.expr) t.way root kind) (beginning_of t i).code
       (begun may (sym (ap (λ (b : Beginning). b.epoch) entry) ∙ is ∙ epoch)))
 
   begun_more : (root : ℕ) (kind : Kind) → t'.beginnings ≡ t.beginnings → Begun t t.way root kind → Begun t' t'.way root kind
@@ -241,7 +241,7 @@ module _ (p : Prepared) (t t' : Table) (adds : AddsStates (length p.expr.nodes) 
   one_more table room count begins before clear root told = record {
     expr = table.expr;
     room = room;
-    layout = subst (λ l. IsLayout p.expr.nodes l) (sym adds.shape.2) table.layout;
+    layout = subst (λ l. IsLayout p.arena.expr.nodes l) (sym adds.shape.2) table.layout;
     roots = λ q there. ⊎_elim
         (λ (e : q ≡ t.count). subst (λ x. (state_of m t' x).root < m) (sym e) root)
         (λ (ne : q ≢ t.count). let less : q < t.count = omega (arith, ne) in subst (λ (a : State). a.root < m) (sym (adds.kept epoch q less)) (table.roots q less))
@@ -265,8 +265,8 @@ module _ (p : Prepared) (t t' : Table) (adds : AddsStates (length p.expr.nodes) 
   -- one more cell is filled
   pub note_cell : IsTable p t → HasRoom m t' → t'.count ≡ t.count → t'.beginnings ≡ t.beginnings → (q k v byte : ℕ) (edge : Bool) →
       q < t.count → byte < 256 → IsColumn t.layout byte edge k → t'.cells.items ≡ slice_set t.cells.items (q * 2 ^ t.layout.shift + k) v →
-      Names m t (LeadsOn (nodes_of t.way p.expr) t.way (state_of m t q) byte edge) v →
-      (SameNulls p.expr.nodes → Names m t (λ b. (end : Bool) → LeadsOn (nodes_of t.way p.expr) t.way (state_of m t q) byte end b) v) →
+      Names m t (LeadsOn (nodes_of t.way p.arena.expr) t.way (state_of m t q) byte edge) v →
+      (SameNulls p.arena.expr.nodes → Names m t (λ b. (end : Bool) → LeadsOn (nodes_of t.way p.arena.expr) t.way (state_of m t q) byte end b) v) →
       IsTable p t'
   note_cell table room count begins q k v byte edge there small column cells leads anywhere =
       let size = 2 ^ t.layout.shift in
@@ -276,22 +276,22 @@ module _ (p : Prepared) (t t' : Table) (adds : AddsStates (length p.expr.nodes) 
       let inside : q * size + k < length t.cells.items = cell_inside size q k t.count t.layout.width (length t.cells.items) there narrow wide table.room.cells in
       let here : Names m t (LeadsBy p t q k) v =
       ⊎_elim
-      (λ (within : (t.layout.edge ≡ Some 0) × SameNulls p.expr.nodes).
-      names_map m t (λ b. (end : Bool) → LeadsOn (nodes_of t.way p.expr) t.way (state_of m t q) byte end b) (LeadsBy p t q k) v
+      (λ (within : (t.layout.edge ≡ Some 0) × SameNulls p.arena.expr.nodes).
+      names_map m t (λ b. (end : Bool) → LeadsOn (nodes_of t.way p.arena.expr) t.way (state_of m t q) byte end b) (LeadsBy p t q k) v
       (λ b on o end low at.
       let one = sym (column_within (slice_index_or t.layout.classes o 0) k end t.layout.edge within.0 at.1) ∙ column_within class k edge t.layout.edge within.0 column.1 in
-      leads_same p.expr t.way (state_of m t q) b byte o end (table.layout.classes o byte low small one) (on end)) (anywhere within.1))
+      leads_same p.arena.expr t.way (state_of m t q) b byte o end (table.layout.classes o byte low small one) (on end)) (anywhere within.1))
       (λ (apart : EdgeApart t.layout.columns t.layout.edge).
-      names_map m t (LeadsOn (nodes_of t.way p.expr) t.way (state_of m t q) byte edge) (LeadsBy p t q k) v
+      names_map m t (LeadsOn (nodes_of t.way p.arena.expr) t.way (state_of m t q) byte edge) (LeadsBy p t q k) v
       (λ b on o end low at.
       let one = column_apart t.layout.columns class (slice_index_or t.layout.classes o 0) k edge end t.layout.edge apart column.0 at.0 column.1 at.1 in
-      leads_same p.expr t.way (state_of m t q) b byte o end (table.layout.classes o byte low small one.0)
-      (subst (λ x. LeadsOn (nodes_of t.way p.expr) t.way (state_of m t q) byte x b) (sym one.1) on)) leads)
+      leads_same p.arena.expr t.way (state_of m t q) b byte o end (table.layout.classes o byte low small one.0)
+      (subst (λ x. LeadsOn (nodes_of t.way p.arena.expr) t.way (state_of m t q) byte x b) (sym one.1) on)) leads)
       table.layout.apart in
       record {
         expr = table.expr;
         room = room;
-        layout = subst (λ l. IsLayout p.expr.nodes l) (sym adds.shape.2) table.layout;
+        layout = subst (λ l. IsLayout p.arena.expr.nodes l) (sym adds.shape.2) table.layout;
         roots = λ x low. let less : x < t.count = omega arith in subst (λ (a : State). a.root < m) (sym (adds.kept epoch x less)) (table.roots x less);
         told = λ x low. let less : x < t.count = omega arith in subst (λ (a : State). IsTold a) (sym (adds.kept epoch x less)) (table.told x less);
         filled = λ x j low col some.
@@ -314,7 +314,7 @@ module _ (p : Prepared) (t t' : Table) (adds : AddsStates (length p.expr.nodes) 
   -- one more beginning is noted
   pub note_beginning : IsTable p t → HasRoom m t' → t'.count ≡ t.count → t'.cells ≡ t.cells → (root code : ℕ) (kind : Kind) →
       t'.beginnings.items ≡ slice_set t.beginnings.items (beginning_at t.way.sweeps root kind) (record { epoch = t.epoch; code = code }) →
-      MayBegin p t.way root → Names m t (BeginsIn (nodes_of t.way p.expr) t.way root kind) code → IsTable p t'
+      MayBegin p t.way root → Names m t (BeginsIn (nodes_of t.way p.arena.expr) t.way root kind) code → IsTable p t'
   note_beginning table room count cells root code kind is may begins =
       let none : Beginning = record { epoch = 0; code = 0 } in
       let fresh : Beginning = record { epoch = t.epoch; code = code } in
@@ -325,7 +325,7 @@ module _ (p : Prepared) (t t' : Table) (adds : AddsStates (length p.expr.nodes) 
       record {
         expr = table.expr;
         room = room;
-        layout = subst (λ l. IsLayout p.expr.nodes l) (sym adds.shape.2) table.layout;
+        layout = subst (λ l. IsLayout p.arena.expr.nodes l) (sym adds.shape.2) table.layout;
         roots = λ q low. let less : q < t.count = omega arith in subst (λ (a : State). a.root < m) (sym (adds.kept epoch q less)) (table.roots q less);
         told = λ q low. let less : q < t.count = omega arith in subst (λ (a : State). IsTold a) (sym (adds.kept epoch q less)) (table.told q less);
         filled = λ q k low col some.
@@ -339,9 +339,9 @@ module _ (p : Prepared) (t t' : Table) (adds : AddsStates (length p.expr.nodes) 
             ⊎_elim
             (λ (e : i ≡ at).
             let one = begin_apart t.way.sweeps p.root x root other kind may'.1 may.1 e in
-            subst (λ n. Names m t' (BeginsIn (nodes_of t.way p.expr) t.way x other) n) (sym (ap (λ n. (beginning_of t' n).code) e ∙ ap (λ (b : Beginning). b.code) here))
-            (subst (λ n. Names m t' (BeginsIn (nodes_of t.way p.expr) t.way n other) code) (sym one.0)
-            (subst (λ n. Names m t' (BeginsIn (nodes_of t.way p.expr) t.way root n) code) (sym one.1) (names_more (BeginsIn (nodes_of t.way p.expr) t.way root kind) code begins))))
+            subst (λ n. Names m t' (BeginsIn (nodes_of t.way p.arena.expr) t.way x other) n) (sym (ap (λ n. (beginning_of t' n).code) e ∙ ap (λ (b : Beginning). b.code) here))
+            (subst (λ n. Names m t' (BeginsIn (nodes_of t.way p.arena.expr) t.way n other) code) (sym one.0)
+            (subst (λ n. Names m t' (BeginsIn (nodes_of t.way p.arena.expr) t.way root n) code) (sym one.1) (names_more (BeginsIn (nodes_of t.way p.arena.expr) t.way root kind) code begins))))
             (λ (ne : i ≢ at). begun_at x other (apart i ne) (table.begun x other) may' now)
             (cases_eq i at));
       }
@@ -358,7 +358,7 @@ noted_all P items at epoch code inside here all i =
     (cases_eq i at)
 
 -- a table without states
-pub no_states : (p : Prepared) (t : Table) → IsExpr p.expr.nodes p.expr.groups → HasRoom (length p.expr.nodes) t → IsLayout p.expr.nodes t.layout → t.count ≡ 0 →
+pub no_states : (p : Prepared) (t : Table) → IsExpr p.arena.expr.nodes p.arena.expr.groups → HasRoom (length p.arena.expr.nodes) t → IsLayout p.arena.expr.nodes t.layout → t.count ≡ 0 →
     ((i : ℕ) → (beginning_of t i).epoch < t.epoch) → IsTable p t
 no_states p t expr room layout none past = record {
   expr = expr;
@@ -414,37 +414,37 @@ module _ (m : ℕ) (t t' : Table) (root : ℕ) (leaves ends : List Bool) (flags 
   }
 
 -- the next state, as it was added to the table or found there
-module _ (p : Prepared) (t u : Table) (way : Way) (q root byte v : ℕ) (loaded leaves ends : List Bool) (same_root : root ≡ (state_of (length p.expr.nodes) t q).root) (same : AgreeBelow (length p.expr.nodes) loaded (row_of t.leaves q))
-    (n : Names (length p.expr.nodes) u (HasRow root (bits (length p.expr.nodes) leaves) (bits (length p.expr.nodes) ends)) v) where
+module _ (p : Prepared) (t u : Table) (way : Way) (q root byte v : ℕ) (loaded leaves ends : List Bool) (same_root : root ≡ (state_of (length p.arena.expr.nodes) t q).root) (same : AgreeBelow (length p.arena.expr.nodes) loaded (row_of t.leaves q))
+    (n : Names (length p.arena.expr.nodes) u (HasRow root (bits (length p.arena.expr.nodes) leaves) (bits (length p.arena.expr.nodes) ends)) v) where
   abbrev Leads : Bool → Type 0
-  Leads edge = (before : ℕ → Bool) → LeadsTo (nodes_of way p.expr) root way.keeps (bits (length p.expr.nodes) loaded) before (Some byte) edge way.sweeps (bits (length p.expr.nodes) leaves) (bits (length p.expr.nodes) ends)
+  Leads edge = (before : ℕ → Bool) → LeadsTo (nodes_of way p.arena.expr) root way.keeps (bits (length p.arena.expr.nodes) loaded) before (Some byte) edge way.sweeps (bits (length p.arena.expr.nodes) leaves) (bits (length p.arena.expr.nodes) ends)
 
-  leads_state : (edge : Bool) → Leads edge → (b : State) → HasRow root (bits (length p.expr.nodes) leaves) (bits (length p.expr.nodes) ends) b → LeadsOn (nodes_of way p.expr) way (state_of (length p.expr.nodes) t q) byte edge b
+  leads_state : (edge : Bool) → Leads edge → (b : State) → HasRow root (bits (length p.arena.expr.nodes) leaves) (bits (length p.arena.expr.nodes) ends) b → LeadsOn (nodes_of way p.arena.expr) way (state_of (length p.arena.expr.nodes) t q) byte edge b
   leads_state edge leads b has =
-      let a = state_of (length p.expr.nodes) t q in (
+      let a = state_of (length p.arena.expr.nodes) t q in (
         has.0 ∙ same_root,
-        subst (λ x. LeadsTo (nodes_of way p.expr) a.root way.keeps a.entered a.ended (Some byte) edge way.sweeps b.entered x) (sym has.2)
-            (subst (λ x. LeadsTo (nodes_of way p.expr) a.root way.keeps a.entered a.ended (Some byte) edge way.sweeps x (bits (length p.expr.nodes) ends)) (sym has.1)
-            (subst (λ x. LeadsTo (nodes_of way p.expr) x way.keeps a.entered a.ended (Some byte) edge way.sweeps (bits (length p.expr.nodes) leaves) (bits (length p.expr.nodes) ends)) same_root
-            (subst (λ x. LeadsTo (nodes_of way p.expr) root way.keeps x a.ended (Some byte) edge way.sweeps (bits (length p.expr.nodes) leaves) (bits (length p.expr.nodes) ends)) (bits_agree (length p.expr.nodes) loaded (row_of t.leaves q) same)
+        subst (λ x. LeadsTo (nodes_of way p.arena.expr) a.root way.keeps a.entered a.ended (Some byte) edge way.sweeps b.entered x) (sym has.2)
+            (subst (λ x. LeadsTo (nodes_of way p.arena.expr) a.root way.keeps a.entered a.ended (Some byte) edge way.sweeps x (bits (length p.arena.expr.nodes) ends)) (sym has.1)
+            (subst (λ x. LeadsTo (nodes_of way p.arena.expr) x way.keeps a.entered a.ended (Some byte) edge way.sweeps (bits (length p.arena.expr.nodes) leaves) (bits (length p.arena.expr.nodes) ends)) same_root
+            (subst (λ x. LeadsTo (nodes_of way p.arena.expr) root way.keeps x a.ended (Some byte) edge way.sweeps (bits (length p.arena.expr.nodes) leaves) (bits (length p.arena.expr.nodes) ends)) (bits_agree (length p.arena.expr.nodes) loaded (row_of t.leaves q) same)
             (leads a.ended)))),
       )
 
-  pub names_leads : (edge : Bool) → Leads edge → Names (length p.expr.nodes) u (LeadsOn (nodes_of way p.expr) way (state_of (length p.expr.nodes) t q) byte edge) v
-  names_leads edge leads = names_map (length p.expr.nodes) u (HasRow root (bits (length p.expr.nodes) leaves) (bits (length p.expr.nodes) ends)) (LeadsOn (nodes_of way p.expr) way (state_of (length p.expr.nodes) t q) byte edge) v (leads_state edge leads) n
+  pub names_leads : (edge : Bool) → Leads edge → Names (length p.arena.expr.nodes) u (LeadsOn (nodes_of way p.arena.expr) way (state_of (length p.arena.expr.nodes) t q) byte edge) v
+  names_leads edge leads = names_map (length p.arena.expr.nodes) u (HasRow root (bits (length p.arena.expr.nodes) leaves) (bits (length p.arena.expr.nodes) ends)) (LeadsOn (nodes_of way p.arena.expr) way (state_of (length p.arena.expr.nodes) t q) byte edge) v (leads_state edge leads) n
 
-  pub names_anywhere : ((edge : Bool) → Leads edge) → Names (length p.expr.nodes) u (λ b. (edge : Bool) → LeadsOn (nodes_of way p.expr) way (state_of (length p.expr.nodes) t q) byte edge b) v
-  names_anywhere leads = names_map (length p.expr.nodes) u (HasRow root (bits (length p.expr.nodes) leaves) (bits (length p.expr.nodes) ends)) (λ b. (edge : Bool) → LeadsOn (nodes_of way p.expr) way (state_of (length p.expr.nodes) t q) byte edge b) v (λ b has edge. leads_state edge (leads edge) b has) n
+  pub names_anywhere : ((edge : Bool) → Leads edge) → Names (length p.arena.expr.nodes) u (λ b. (edge : Bool) → LeadsOn (nodes_of way p.arena.expr) way (state_of (length p.arena.expr.nodes) t q) byte edge b) v
+  names_anywhere leads = names_map (length p.arena.expr.nodes) u (HasRow root (bits (length p.arena.expr.nodes) leaves) (bits (length p.arena.expr.nodes) ends)) (λ b. (edge : Bool) → LeadsOn (nodes_of way p.arena.expr) way (state_of (length p.arena.expr.nodes) t q) byte edge b) v (λ b has edge. leads_state edge (leads edge) b has) n
 
 -- a first state
-pub names_first : (p : Prepared) (u : Table) (way : Way) (root v : ℕ) (kind : Kind) (leaves ends : List Bool) → Names (length p.expr.nodes) u (HasRow root (bits (length p.expr.nodes) leaves) (bits (length p.expr.nodes) ends)) v →
-    IsFirst (nodes_of way p.expr) root way.keeps (at_begin way.mirrored kind) (at_end way.mirrored kind) (bits (length p.expr.nodes) leaves) (bits (length p.expr.nodes) ends) → Names (length p.expr.nodes) u (BeginsIn (nodes_of way p.expr) way root kind) v
+pub names_first : (p : Prepared) (u : Table) (way : Way) (root v : ℕ) (kind : Kind) (leaves ends : List Bool) → Names (length p.arena.expr.nodes) u (HasRow root (bits (length p.arena.expr.nodes) leaves) (bits (length p.arena.expr.nodes) ends)) v →
+    IsFirst (nodes_of way p.arena.expr) root way.keeps (at_begin way.mirrored kind) (at_end way.mirrored kind) (bits (length p.arena.expr.nodes) leaves) (bits (length p.arena.expr.nodes) ends) → Names (length p.arena.expr.nodes) u (BeginsIn (nodes_of way p.arena.expr) way root kind) v
 names_first p u way root v kind leaves ends n first =
-    names_map (length p.expr.nodes) u (HasRow root (bits (length p.expr.nodes) leaves) (bits (length p.expr.nodes) ends)) (BeginsIn (nodes_of way p.expr) way root kind) v
+    names_map (length p.arena.expr.nodes) u (HasRow root (bits (length p.arena.expr.nodes) leaves) (bits (length p.arena.expr.nodes) ends)) (BeginsIn (nodes_of way p.arena.expr) way root kind) v
     (λ b has. (
       has.0,
-      subst (λ x. IsFirst (nodes_of way p.expr) root way.keeps (at_begin way.mirrored kind) (at_end way.mirrored kind) b.entered x) (sym has.2)
-          (subst (λ x. IsFirst (nodes_of way p.expr) root way.keeps (at_begin way.mirrored kind) (at_end way.mirrored kind) x (bits (length p.expr.nodes) ends)) (sym has.1) first),
+      subst (λ x. IsFirst (nodes_of way p.arena.expr) root way.keeps (at_begin way.mirrored kind) (at_end way.mirrored kind) b.entered x) (sym has.2)
+          (subst (λ x. IsFirst (nodes_of way p.arena.expr) root way.keeps (at_begin way.mirrored kind) (at_end way.mirrored kind) x (bits (length p.arena.expr.nodes) ends)) (sym has.1) first),
     )) n
 
 -- What a code names.
@@ -453,15 +453,15 @@ pub code_some : (b : Bool) (o v : ℕ) → v ≡ code_of b o → 0 < v
 code_some true o v is = omega arith
 code_some false o v is = omega arith
 
-module _ (p : Prepared) (t : Table) (table : IsTable p t) (P : State → Type 0) (v o : ℕ) (n : Names (length p.expr.nodes) t P v) (tells : (b : Bool) (u : ℕ) → u < 2147483647 → v ≡ code_of b u → o ≡ u) where
+module _ (p : Prepared) (t : Table) (table : IsTable p t) (P : State → Type 0) (v o : ℕ) (n : Names (length p.arena.expr.nodes) t P v) (tells : (b : Bool) (u : ℕ) → u < 2147483647 → v ≡ code_of b u → o ≡ u) where
   named : State
-  named = state_of (length p.expr.nodes) t n.to
+  named = state_of (length p.arena.expr.nodes) t n.to
 
   small_offset : n.to * 2 ^ t.layout.shift < 2147483647
   small_offset = few_offset n.to t.room t.layout.shift (let low = n.there in let most = table.room.count in omega arith) table.room.few table.layout.small
 
   offset_is : o ≡ n.to * 2 ^ t.layout.shift
-  offset_is = tells (stops t.way (state_of (length p.expr.nodes) t n.to).flags) (n.to * 2 ^ t.layout.shift) small_offset n.code
+  offset_is = tells (stops t.way (state_of (length p.arena.expr.nodes) t n.to).flags) (n.to * 2 ^ t.layout.shift) small_offset n.code
 
   back : o / 2 ^ t.layout.shift ≡ n.to
   back = ap (λ x. x / 2 ^ t.layout.shift) offset_is ∙ shl-shr n.to t.layout.shift
@@ -469,13 +469,13 @@ module _ (p : Prepared) (t : Table) (table : IsTable p t) (P : State → Type 0)
   pub names_offset : IsOffset t o
   names_offset = (subst (λ x. x < t.count) (sym back) n.there, offset_is ∙ ap (λ x. x * 2 ^ t.layout.shift) (sym back))
 
-  pub names_state : P (state_of (length p.expr.nodes) t (o / 2 ^ t.layout.shift))
-  names_state = subst (λ x. P (state_of (length p.expr.nodes) t x)) (sym back) n.is
+  pub names_state : P (state_of (length p.arena.expr.nodes) t (o / 2 ^ t.layout.shift))
+  names_state = subst (λ x. P (state_of (length p.arena.expr.nodes) t x)) (sym back) n.is
 
-  pub names_code : v ≡ code_of (stops t.way (state_of (length p.expr.nodes) t (o / 2 ^ t.layout.shift)).flags) o
+  pub names_code : v ≡ code_of (stops t.way (state_of (length p.arena.expr.nodes) t (o / 2 ^ t.layout.shift)).flags) o
   names_code = n.code
-      ∙ ap (λ x. code_of (stops t.way (state_of (length p.expr.nodes) t x).flags) (n.to * 2 ^ t.layout.shift)) (sym back)
-      ∙ ap (λ x. code_of (stops t.way (state_of (length p.expr.nodes) t (o / 2 ^ t.layout.shift)).flags) x) (sym offset_is)
+      ∙ ap (λ x. code_of (stops t.way (state_of (length p.arena.expr.nodes) t x).flags) (n.to * 2 ^ t.layout.shift)) (sym back)
+      ∙ ap (λ x. code_of (stops t.way (state_of (length p.arena.expr.nodes) t (o / 2 ^ t.layout.shift)).flags) x) (sym offset_is)
 
   pub names_small : o < 2147483647
   names_small = omega (arith, offset_is, small_offset)
@@ -492,12 +492,12 @@ module _ (p : Prepared) (t : Table) (table : IsTable p t) (offset byte k : ℕ) 
       let e = at.1 in
       omega (arith, inside, e)
 
-  pub known_cell : (v : ℕ) → byte < 256 → v ≡ slice_index_or t.cells.items (offset + k) 0 → 0 < v → Names (length p.expr.nodes) t (LeadsOn (nodes_of t.way p.expr) t.way (state_of (length p.expr.nodes) t (offset / 2 ^ t.layout.shift)) byte edge) v
+  pub known_cell : (v : ℕ) → byte < 256 → v ≡ slice_index_or t.cells.items (offset + k) 0 → 0 < v → Names (length p.arena.expr.nodes) t (LeadsOn (nodes_of t.way p.arena.expr) t.way (state_of (length p.arena.expr.nodes) t (offset / 2 ^ t.layout.shift)) byte edge) v
   known_cell v small is some =
       let q = offset / 2 ^ t.layout.shift in
       let same : v ≡ cell_of t q k = is ∙ ap (λ x. slice_index_or t.cells.items (x + k) 0) at.1 in
-      subst (λ x. Names (length p.expr.nodes) t (LeadsOn (nodes_of t.way p.expr) t.way (state_of (length p.expr.nodes) t q) byte edge) x) (sym same)
-      (names_map (length p.expr.nodes) t (LeadsBy p t q k) (LeadsOn (nodes_of t.way p.expr) t.way (state_of (length p.expr.nodes) t q) byte edge) (cell_of t q k) (λ b leads. leads byte edge small column)
+      subst (λ x. Names (length p.arena.expr.nodes) t (LeadsOn (nodes_of t.way p.arena.expr) t.way (state_of (length p.arena.expr.nodes) t q) byte edge) x) (sym same)
+      (names_map (length p.arena.expr.nodes) t (LeadsBy p t q k) (LeadsOn (nodes_of t.way p.arena.expr) t.way (state_of (length p.arena.expr.nodes) t q) byte edge) (cell_of t q k) (λ b leads. leads byte edge small column)
       (table.filled q k at.0 column_inside (subst (λ x. 0 < x) same some)))
 
 -- no beginning is noted at first
@@ -543,7 +543,7 @@ made_roomy m t room wide layout small = room_laid m m t layout room wide room.ma
 
 -- one that serves an expression has it for others
 pub table_roomy : (m : ℕ) (p : Prepared) (t : Table) → IsTable p t → 256 * t.room ≤ t.reserved → m ≤ t.marks → IsRoomy m t
-table_roomy m p t table wide marks layout small = room_laid (length p.expr.nodes) m t layout table.room wide marks small
+table_roomy m p t table wide marks layout small = room_laid (length p.arena.expr.nodes) m t layout table.room wide marks small
 
 abbrev widest : Layout
 widest = record { classes = replicate 256 0; columns = 0; edge = None; width = 0; shift = 8 }

@@ -15,13 +15,13 @@ use Rattle.sedmarks.specs.Caps.{LastCut, LastCopy, only, then}
 use Rattle.sedpass.specs.Overlay.{State, is_due, settle, drop_groups, Back, HasGroup, NoneDue}
 use Rattle.sedpass.specs.declared.groups.Task.{Task}
 use Rattle.sedpass.specs.declared.groups.Task.TheVariants.{Apart, Forget}
-use Rattle.sedmarks.specs.Work.{parts_of}
+use Rattle.sedmarks.specs.Nodes.{parts_of}
 use Rattle.sedpass.specs.Turns.{AreReady, weights, IsTurn, IsHere, HasGroupAt, Blank, LeaveTurn, LeafTurn, SeqTurn, AltTurn, GroupTurn, StarTurn, OptTurn, EmptyTurn, SeqSpine, RunSpine, AltSpine, PartSpine, StarSpine, SeqParts, StarParts, OptParts, TurnedLaw, BeginLaw, RoomLaw, GroupsAtLaw, DropLaw}
 use Rattle.sedmarks.proofs.ReachLemmas.{open_at, close_at}
 use Rattle.sedpass.proofs.LeaveLemmas.{alt_looks, reaches_last}
 use Rattle.sedpass.proofs.MeetingLemmas.{stops_at_cut, stops_at_copy, run_stops}
 use Rattle.sedmarks.proofs.SpanLemmas.{Spans-forward}
-use Rattle.sedmarks.proofs.WorkLemmas.{size-parts, size-pos}
+use Rattle.sedmarks.proofs.NodeLemmas.{size-parts, size-pos}
 use Rattle.sedpass.proofs.OverlayLemmas.{left_due, make-state, touch-due, settle-due, settle-not, settle-is, drop-is, drop-not, left_due-stays, left_at_once, stays, back_report}
 
 -- what is due after groups were settled or dropped

@@ -33,7 +33,7 @@ use Rattle.sedpass.specs.declared.nodes.Prepared.{Prepared}
 
 -- the nodes of the expression, and the text
 abbrev pub nodes_in : Subject → List Node
-nodes_in s = s.prepared.now.expr.nodes
+nodes_in s = s.prepared.now.arena.expr.nodes
 
 abbrev pub text_in : Subject → List ℕ
 text_in s = s.text.now
@@ -80,7 +80,7 @@ EndsIn s r here = IsLastIn (nodes_in s) r.root here.node × (here.stop ≡ r.end
 -- both tables serve the expression: the kept one for passes back from one end, the other for passes forwards from one start
 pub record HasDesk (s : Subject) (tables : GroupTables) (kept : Kept) : Type 0 where
   pub inside : IsTable s.prepared.now tables.inside
-  pub places : KeptRoom (length s.prepared.now.expr.nodes) (length s.text.now) tables.inside kept
+  pub places : KeptRoom (length s.prepared.now.arena.expr.nodes) (length s.text.now) tables.inside kept
   pub one_end : tables.inside.way.sweeps ≡ false
   pub ahead : IsAhead s.prepared.now tables.ahead
 

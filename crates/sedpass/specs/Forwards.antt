@@ -2,7 +2,7 @@
 -- Passes for the whole expression in which the root's ends alone are kept.
 use Rattle.std.specs.Prelude.{◌≡◌, ℕ, ◌+◌, ◌/◌, ◌^◌, ◌<◌, ◌≤◌, Bool, true, false, List, length, Option, Some, None, IsTrue}
 use Rattle.sedre.specs.declared.types.Node.{Node}
-use Rattle.sedmarks.specs.declared.passes.Starts.{Starts}
+use Rattle.sedmarks.specs.declared.starts.Starts.{Starts}
 use Rattle.sedmarks.specs.Reach.{SomeSpan}
 use Rattle.sedpass.specs.Rows.{nodes_of}
 use Rattle.sedpass.specs.Table.{State, state_of, StateAt}
@@ -28,16 +28,16 @@ IsEnd sweeps nodes w r s (Some j) = SomeSpan nodes w r s j × (sweeps ≡ false 
 
 -- the state is that of the place, in a pass from `start` for the whole expression
 abbrev pub Arrives : Prepared → Way → List ℕ → ℕ → ℕ → State → Type 0
-Arrives p way w start place a = (a.root ≡ p.root) × StateAt (nodes_of way p.expr) w (starts_of way.sweeps start w) way.keeps place a
+Arrives p way w start place a = (a.root ≡ p.root) × StateAt (nodes_of way p.arena.expr) w (starts_of way.sweeps start w) way.keeps place a
 
 -- the end is the last below the place, in such a pass
 abbrev pub EndsBelow : Prepared → Way → List ℕ → ℕ → ℕ → Option ℕ → Type 0
-EndsBelow p way w start place end = LastBelow (nodes_of way p.expr) w p.root (starts_of way.sweeps start w) place end
+EndsBelow p way w start place end = LastBelow (nodes_of way p.arena.expr) w p.root (starts_of way.sweeps start w) place end
 
 -- a pass from `start` is at a place: its state there, the last end so far, and whether it needn't go on
 pub record PassIs (p : Prepared) (t : Table) (w : List ℕ) (start : ℕ) (at : Passed) : Type 0 where
   pub after : start ≤ at.place
   pub within : at.place ≤ length w
-  pub state : Arrives p t.way w start at.place (state_of (length p.expr.nodes) t (at.offset / 2 ^ t.layout.shift))
+  pub state : Arrives p t.way w start at.place (state_of (length p.arena.expr.nodes) t (at.offset / 2 ^ t.layout.shift))
   pub last : EndsBelow p t.way w start (at.place + 1) at.end
-  pub over : IsTrue at.over → IsEnd t.way.sweeps (nodes_of t.way p.expr) w p.root (starts_of t.way.sweeps start w) at.end
+  pub over : IsTrue at.over → IsEnd t.way.sweeps (nodes_of t.way p.arena.expr) w p.root (starts_of t.way.sweeps start w) at.end

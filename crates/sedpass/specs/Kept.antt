@@ -2,9 +2,8 @@
 -- What is kept of a pass backwards over a region, and what looks into it may cost.
 use Rattle.std.specs.Prelude.{◌≡◌, ℕ, zero, suc, ◌+◌, ◌-◌, ◌*◌, ◌/◌, ◌^◌, ◌<◌, ◌≤◌, ◌↔◌, nat_le, nat_lt, ◌&&◌, Bool, true, false, if◌then◌else◌, List, length, reverse, slice_index_or, IsTrue, vec_capacity}
 use Rattle.sedre.specs.declared.types.Node.{Node}
-use Rattle.sedmarks.specs.declared.passes.Starts.{Starts}
-use Rattle.sedmarks.specs.Search.{starts_to}
-use Rattle.sedmarks.specs.Reach.{one_start}
+use Rattle.sedmarks.specs.declared.starts.Starts.{Starts}
+use Rattle.sedmarks.specs.Reach.{one_start, starts_to}
 use Rattle.sedmarks.specs.Words.{row_of}
 use Rattle.sedpass.specs.Regions.{Reaches, Meets}
 use Rattle.sedpass.specs.Rows.{nodes_of, bits, RowAt}
@@ -30,7 +29,7 @@ starts_told false n end = one_start (n - end)
 -- the row is that of the place in the pass, seen from the text's end
 abbrev pub RowKept : Prepared → List ℕ → Way → (root end place : ℕ) → (ℕ → Bool) → (ℕ → Bool) → Type 0
 RowKept p w way root end place entered ended =
-    RowAt (nodes_of way p.expr) (reverse w) root (starts_told way.sweeps (length w) end) way.keeps (length w - place) entered ended
+    RowAt (nodes_of way p.arena.expr) (reverse w) root (starts_told way.sweeps (length w) end) way.keeps (length w - place) entered ended
 
 -- the state is that of the place in the pass
 abbrev pub KeptAt : Prepared → List ℕ → Way → (root end place : ℕ) → State → Type 0
@@ -50,12 +49,12 @@ CeasesAt nodes w r t a i p =
 -- the number kept for a place is that of a state which is the place's
 abbrev pub IsLive : Prepared → List ℕ → Table → (root end : ℕ) → List ℕ → ℕ → Type 0
 IsLive p w t root end states q =
-    (slice_index_or states q 0 < t.count) × KeptAt p w t.way root end q (state_of (length p.expr.nodes) t (slice_index_or states q 0))
+    (slice_index_or states q 0 < t.count) × KeptAt p w t.way root end q (state_of (length p.arena.expr.nodes) t (slice_index_or states q 0))
 
 -- the rows kept for a block are that of its right end
 abbrev pub IsEdge : Prepared → List ℕ → Way → (root end : ℕ) → List (List Bool) → (width b : ℕ) → Type 0
 IsEdge p w way root end edges width b =
-    RowKept p w way root end (b * width + width) (bits (length p.expr.nodes) (row_of edges (2 * b))) (bits (length p.expr.nodes) (row_of edges (2 * b + 1)))
+    RowKept p w way root end (b * width + width) (bits (length p.arena.expr.nodes) (row_of edges (2 * b))) (bits (length p.arena.expr.nodes) (row_of edges (2 * b + 1)))
 
 -- there is room for a text of n bytes, cut into blocks of one place less than the table has room for states
 pub record KeptRoom (m n : ℕ) (t : Table) (k : Kept) : Type 0 where
@@ -68,7 +67,7 @@ pub record KeptRoom (m n : ℕ) (t : Table) (k : Kept) : Type 0 where
 -- a pass over the region may be made
 pub record IsRegion (p : Prepared) (w : List ℕ) (t : Table) (k : Kept) : Type 0 where
   pub table : IsTable p t
-  pub room : KeptRoom (length p.expr.nodes) (length w) t k
+  pub room : KeptRoom (length p.arena.expr.nodes) (length w) t k
   pub root : MayBegin p t.way k.region.root
   pub whole : IsTrue t.way.sweeps → k.region.end ≡ length w
   pub inside : k.region.end ≤ length w
@@ -90,7 +89,7 @@ pub record Passes (p : Prepared) (w : List ℕ) (t : Table) (k : Kept) (place of
   pub within : place ≤ k.region.end
   pub above : place ≤ k.region.to
   pub there : IsOffset t offset
-  pub at : KeptAt p w t.way k.region.root k.region.end place (state_of (length p.expr.nodes) t (offset / 2 ^ t.layout.shift))
+  pub at : KeptAt p w t.way k.region.root k.region.end place (state_of (length p.arena.expr.nodes) t (offset / 2 ^ t.layout.shift))
   pub live : LiveFrom p w t k place
 
 -- what is kept of the region is right
@@ -118,13 +117,13 @@ pub record SameKept (old new : Kept) : Type 0 where
 -- What a pass ahead over a node a from the place i is beside it: in the state whose cells begin at the offset.
 abbrev pub Follows : Prepared → List ℕ → Table → ℕ → ℕ → ℕ → ℕ → Type 0
 Follows p w t a i place offset =
-    let q = state_of (length p.expr.nodes) t (offset / 2 ^ t.layout.shift) in
-    (q.root ≡ a) × StateAt p.expr.nodes w (one_start i) t.way.keeps place q
+    let q = state_of (length p.arena.expr.nodes) t (offset / 2 ^ t.layout.shift) in
+    (q.root ≡ a) × StateAt p.arena.expr.nodes w (one_start i) t.way.keeps place q
 
 -- the two meet at each place from one up to another
 abbrev pub Meet : Prepared → List ℕ → Table → Kept → ℕ → ℕ → ℕ → ℕ → Type 0
 Meet p w t k a i from to = (q : ℕ) → from ≤ q → q < to →
-    Meets p.expr.nodes w k.region.root (ends_told t.way.sweeps (length w) k.region.end) a (one_start i) q
+    Meets p.arena.expr.nodes w k.region.root (ends_told t.way.sweeps (length w) k.region.end) a (one_start i) q
 
 -- What it may cost.
 

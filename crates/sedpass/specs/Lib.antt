@@ -4,6 +4,7 @@ pub mod Decide
 pub mod Find
 pub mod Forwards
 pub mod Groups
+pub mod Held
 pub mod Kept
 pub mod Lengths
 pub mod Occurrences

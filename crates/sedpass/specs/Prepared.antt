@@ -4,6 +4,7 @@ use Rattle.std.specs.Prelude.{◌≡◌, ℕ, ◌+◌, ◌-◌, ◌≤◌, ◌<�
 use Rattle.sedre.specs.Tree.{Tree, set, begin, end, seq, alt, group, star, size}
 use Rattle.sedre.specs.Arena.{Written, tree_at}
 use Rattle.sedre.specs.declared.types.Node.{Node}
+use Rattle.sedre.specs.declared.types.Node.TheVariants.{Set}
 use Rattle.sedpass.specs.Groups.{reported, holds, has_group}
 use Rattle.sedpass.specs.Lengths.{length_of}
 use Rattle.sedpass.specs.Rows.{SameBytes}
@@ -70,6 +71,10 @@ IsShort long = IfSome long (λ n. n ≤ 65536)
 -- null strings are matched at places of each kind, or at none
 abbrev pub IsOfEachKind : Null → Type 0
 IsOfEachKind null = (first last : Bool) → null_at null first last ≡ null_at null false false
+
+-- each set of the nodes is among these
+abbrev pub HaveSets : List Node → List (List Bool) → Type 0
+HaveSets nodes sets = (x : ℕ) (members : List Bool) → slice_get nodes x ≡ Some (Set members) → (k : ℕ) × (slice_get sets k ≡ Some members)
 
 -- bytes of one class are in the same sets
 abbrev pub AreAlike : List Node → List ℕ → Type 0

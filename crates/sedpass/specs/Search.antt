@@ -6,7 +6,7 @@ use Rattle.sedre.specs.Steps.{TakesAtLeast}
 use Rattle.sedre.specs.Tree.{Tree}
 use Rattle.sedmarks.specs.Answer.{SpanAnswer}
 use Rattle.sedmarks.specs.Reach.{Longest}
-use Rattle.sedmarks.specs.Search.{NoneIn}
+use Rattle.sedmarks.specs.Beginnings.{NoneIn}
 use Rattle.sedmarks.specs.Spans.{Found, NotFound}
 use Rattle.sedpass.specs.Table.{IsTable, SameShape}
 use Rattle.sedpass.specs.Kept.{IsKept, KeptRoom, owed}
@@ -22,7 +22,7 @@ use Rattle.sedpass.specs.declared.search.Trials.TheVariants.{Hit, Nothing, Tired
 -- there is room for a pass from the text's end, and what is kept of it is right if it was begun
 pub record Serves (p : Prepared) (w : List ℕ) (back : Table) (s : Seeking) : Type 0 where
   pub table : IsTable p back
-  pub room : KeptRoom (length p.expr.nodes) (length w) back s.kept
+  pub room : KeptRoom (length p.arena.expr.nodes) (length w) back s.kept
   pub sweeps : IsTrue back.way.sweeps
   pub kept : IsTrue s.begun → IsKept p w back s.kept
 
@@ -50,7 +50,7 @@ LooksAtHit before after other = Unit {0}
 pub record IsNext (p : Prepared) (w : List ℕ) (from : ℕ) (old back : Table) (k : Kept) (before after : ℕ) (r : Option (ℕ × ℕ)) : Type 0 where
   pub kept : IsKept p w back k
   pub shape : SameShape old back
-  pub answer : SpanAnswer (tree p.expr) w from r
+  pub answer : SpanAnswer (tree p.arena.expr) w from r
   pub counts : IfSome r (λ f. TakesAtLeast before after (f.1 - f.0))
 
 -- Costs, with m nodes in a text of n bytes.

@@ -3,7 +3,7 @@
 use Rattle.std.specs.Prelude.{◌≡◌, ℕ, ◌+◌, ◌*◌, ◌/◌, ◌^◌, ◌<◌, ◌≤◌, ◌↔◌, Bool, true, false, List, length, slice_index_or, Some, IsTrue, vec_capacity}
 use Rattle.sedre.specs.Arena.{IsExpr}
 use Rattle.sedre.specs.declared.types.Node.{Node}
-use Rattle.sedmarks.specs.declared.passes.Starts.{Starts}
+use Rattle.sedmarks.specs.declared.starts.Starts.{Starts}
 use Rattle.sedmarks.specs.Words.{row_of}
 use Rattle.sedpass.specs.Rows.{nodes_of, at_begin, at_end, bits, RowAt, LeadsTo, IsFirst}
 use Rattle.sedpass.specs.declared.nodes.Kind.{Kind}
@@ -70,7 +70,7 @@ IsOffset t offset = (offset / 2 ^ t.layout.shift < t.count) × (offset ≡ offse
 -- or doesn't
 abbrev pub NamesNext : Prepared → (old new : Table) → (offset byte : ℕ) → Bool → ℕ → Type 0
 NamesNext p old new offset byte edge v =
-    Names (length p.expr.nodes) new (LeadsOn (nodes_of old.way p.expr) old.way (state_of (length p.expr.nodes) old (offset / 2 ^ old.layout.shift)) byte edge) v
+    Names (length p.arena.expr.nodes) new (LeadsOn (nodes_of old.way p.arena.expr) old.way (state_of (length p.arena.expr.nodes) old (offset / 2 ^ old.layout.shift)) byte edge) v
 
 -- Cells.
 
@@ -81,7 +81,7 @@ cell_of t q k = slice_index_or t.cells.items (q * 2 ^ t.layout.shift + k) 0
 -- each byte of the column leads from the state of number q to this one
 abbrev pub LeadsBy : Prepared → Table → ℕ → ℕ → State → Type 0
 LeadsBy p t q k b = (byte : ℕ) (edge : Bool) → byte < 256 → IsColumn t.layout byte edge k →
-    LeadsOn (nodes_of t.way p.expr) t.way (state_of (length p.expr.nodes) t q) byte edge b
+    LeadsOn (nodes_of t.way p.arena.expr) t.way (state_of (length p.arena.expr.nodes) t q) byte edge b
 
 -- Beginnings.
 
@@ -101,7 +101,7 @@ beginning_of t i = slice_index_or t.beginnings.items i (record { epoch = 0; code
 
 -- passes for the node may begin: for any, but in a sweep for the root of the expression alone
 abbrev pub MayBegin : Prepared → Way → ℕ → Type 0
-MayBegin p way root = (root < length p.expr.nodes) × (IsTrue way.sweeps → root ≡ p.root)
+MayBegin p way root = (root < length p.arena.expr.nodes) × (IsTrue way.sweeps → root ≡ p.root)
 
 -- Tables.
 
@@ -132,14 +132,14 @@ IsRoomy m t = (layout : Layout) → layout.shift ≤ 8 → HasRoom m (record t {
 
 -- what a table says is right for the expression: of each state, each filled cell, and each beginning of this epoch
 pub record IsTable (p : Prepared) (t : Table) : Type 0 where
-  pub expr : IsExpr p.expr.nodes p.expr.groups
-  pub room : HasRoom (length p.expr.nodes) t
-  pub layout : IsLayout p.expr.nodes t.layout
-  pub roots : (q : ℕ) → q < t.count → (state_of (length p.expr.nodes) t q).root < length p.expr.nodes
-  pub told : (q : ℕ) → q < t.count → IsTold (state_of (length p.expr.nodes) t q)
-  pub filled : (q k : ℕ) → q < t.count → k < t.layout.width → 0 < cell_of t q k → Names (length p.expr.nodes) t (LeadsBy p t q k) (cell_of t q k)
+  pub expr : IsExpr p.arena.expr.nodes p.arena.expr.groups
+  pub room : HasRoom (length p.arena.expr.nodes) t
+  pub layout : IsLayout p.arena.expr.nodes t.layout
+  pub roots : (q : ℕ) → q < t.count → (state_of (length p.arena.expr.nodes) t q).root < length p.arena.expr.nodes
+  pub told : (q : ℕ) → q < t.count → IsTold (state_of (length p.arena.expr.nodes) t q)
+  pub filled : (q k : ℕ) → q < t.count → k < t.layout.width → 0 < cell_of t q k → Names (length p.arena.expr.nodes) t (LeadsBy p t q k) (cell_of t q k)
   pub begun : (root : ℕ) (kind : Kind) → MayBegin p t.way root → (beginning_of t (beginning_at t.way.sweeps root kind)).epoch ≡ t.epoch →
-      Names (length p.expr.nodes) t (BeginsIn (nodes_of t.way p.expr) t.way root kind) (beginning_of t (beginning_at t.way.sweeps root kind)).code
+      Names (length p.arena.expr.nodes) t (BeginsIn (nodes_of t.way p.arena.expr) t.way root kind) (beginning_of t (beginning_at t.way.sweeps root kind)).code
 
 -- what never changes
 abbrev pub SameRoom : Table → Table → Type 0

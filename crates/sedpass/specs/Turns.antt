@@ -13,7 +13,7 @@ use Rattle.sedpass.specs.declared.groups.Then.TheVariants.{Done, One, Two}
 use Rattle.sedmarks.specs.Reach.{At, one_start}
 use Rattle.sedmarks.specs.Spans.{Copies}
 use Rattle.sedmarks.specs.Caps.{LastCut, LastCopy, IsReport}
-use Rattle.sedmarks.specs.Work.{parts_of}
+use Rattle.sedmarks.specs.Nodes.{parts_of}
 use Rattle.sedpass.specs.Regions.{Reaches, IsLastIn, StopsAt, RunsTo, NextCopy, IsRunOf}
 use Rattle.sedpass.specs.Overlay.{State, is_due, settle, drop_groups, Back, HasGroup, NoneDue, IsStart}
 

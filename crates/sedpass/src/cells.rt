@@ -95,7 +95,7 @@ fn shift_for(width: usize) -> u32
 impl Layout {
     /// The cells of a state for an expression: few for each node, so that a new state costs little.
     pub fn new(prepared: &Prepared) -> Layout
-        ensures { IsLayout prepared.now.expr.nodes result }
+        ensures { IsLayout prepared.now.arena.expr.nodes result }
     {
         let most = MOST_CELLS.min(CELLS_A_NODE * prepared.nodes());
         let columns = prepared.columns.min(most);

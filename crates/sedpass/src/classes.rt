@@ -1,9 +1,10 @@
 //! Classes of bytes: those that no set of an expression tells apart are in one.
+ghost use Rattle.sedre.specs.declared.types.Node.{Node};
 ghost use Rattle.std.specs.Prelude.{◌≡◌, ℕ, Bool, List, ◌+◌, ◌*◌, ◌≤◌, ◌<◌, cond, slice_index_or};
 ghost use Rattle.sedpass.specs.Classes.{with_number, count_with, IsNumbered, AreKeys, IsFiner, side_key as side_at, own_key as own_at};
-ghost use Rattle.sedpass.specs.Prepared.{AreClasses};
+ghost use Rattle.sedpass.specs.Prepared.{AreClasses, HaveSets};
 
-use sedre::{ByteSet, Expr};
+use sedre::ByteSet;
 
 /// Classes of bytes.
 #[derive(Drop)]
@@ -97,13 +98,13 @@ fn own_keys(alone: &[bool; 256], classes: &[u8; 256]) -> [u16; 256]
     keys
 }
 
-/// The classes of bytes of an expression. A set of one byte costs nothing: at the end such bytes are classes of their own.
-pub fn find_classes(expr: &Expr) -> Classes
-    ensures { AreClasses expr.now.nodes result.of result.count }
+/// The classes of bytes of an expression with these sets. A set of one byte costs nothing: at the end such bytes are classes of
+/// their own.
+pub fn classes_of(sets: &[ByteSet]) -> Classes
+    ensures { (nodes : List Node) → HaveSets nodes sets.now → AreClasses nodes result.of result.count }
 {
     let mut classes = [0u8; 256];
     let mut alone = [false; 256];
-    let sets = expr.sets();
     for i in 0..sets.len() {
         match sets[i].sole() {
             Some(byte) => alone[byte as usize] = true,

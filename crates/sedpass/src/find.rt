@@ -23,12 +23,12 @@ pub fn is_match(
     steps: &mut Steps,
 ) -> bool
     requires from { from ≤ length subject.text.now }
-    requires begins { AllBegin (tree subject.prepared.now.expr) begins.now }
+    requires begins { AllBegin (tree subject.prepared.now.arena.expr) begins.now }
     requires any { IsSweep subject.prepared.now any.old }
     ensures any { IsSweep subject.entry.prepared.now any.new }
     ensures shape { SameShape any.old any.new }
-    ensures matches { IsTrue result ↔ SomeFound (tree subject.entry.prepared.now.expr) subject.entry.text.now from }
-    ensures cost { Takes steps.old steps.new (41 * length subject.entry.prepared.now.expr.nodes * (length subject.entry.text.now + 1)) }
+    ensures matches { IsTrue result ↔ SomeFound (tree subject.entry.prepared.now.arena.expr) subject.entry.text.now from }
+    ensures cost { Takes steps.old steps.new (41 * length subject.entry.prepared.now.arena.expr.nodes * (length subject.entry.text.now + 1)) }
 {
     match next_start(begins, subject.text, from, steps) {
         None => false,

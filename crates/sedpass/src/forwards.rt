@@ -50,11 +50,11 @@ impl Table {
         end: Option<usize>,
     ) -> Passed
         requires table { IsTable prepared.now self.now }
-        requires code { Names (length prepared.now.expr.nodes) self.now (λ a. Unit {0}) code }
+        requires code { Names (length prepared.now.arena.expr.nodes) self.now (λ a. Unit {0}) code }
         ensures place { result.place ≡ place }
         ensures offset { IsOffset self.now result.offset }
         ensures passes { self.now.way.keeps ≡ false → (start : ℕ) → start ≤ place → place ≤ length text.now →
-            Names (length prepared.now.expr.nodes) self.now (Arrives prepared.now self.now.way text.now start place) code →
+            Names (length prepared.now.arena.expr.nodes) self.now (Arrives prepared.now self.now.way text.now start place) code →
             EndsBelow prepared.now self.now.way text.now start place end →
             PassIs prepared.now self.now text.now start result }
     {
@@ -132,8 +132,8 @@ impl Table {
         ensures table { IsTable prepared.now self.new }
         ensures shape { SameShape self.old self.new }
         ensures names { NamesNext prepared.now self.old self.new offset byte edge result }
-        ensures cost { Takes steps.old steps.new (38 * length prepared.now.expr.nodes) }
-        ensures inside { edge ≡ false → Takes steps.old steps.new (37 * length prepared.now.expr.nodes) }
+        ensures cost { Takes steps.old steps.new (38 * length prepared.now.arena.expr.nodes) }
+        ensures inside { edge ≡ false → Takes steps.old steps.new (37 * length prepared.now.arena.expr.nodes) }
         ensures counts { TakesAtLeast steps.old steps.new 1 }
     {
         if edge {
@@ -162,7 +162,7 @@ impl Table {
         ensures after { from.place < result.place }
         ensures within { result.place ≤ length text.now }
         ensures passes { self.old.way.keeps ≡ false → (start : ℕ) → PassIs prepared.now self.old text.now start from → PassIs prepared.now self.new text.now start result }
-        ensures cost { Pays steps.old steps.new (40 * length prepared.now.expr.nodes * result.place) (40 * length prepared.now.expr.nodes * from.place) }
+        ensures cost { Pays steps.old steps.new (40 * length prepared.now.arena.expr.nodes * result.place) (40 * length prepared.now.arena.expr.nodes * from.place) }
         ensures counts { TakesAtLeast steps.old steps.new (2 * (result.place - from.place)) }
     {
         let last = text.len() - 1;
@@ -194,9 +194,9 @@ impl Table {
         ensures after { from ≤ result.place }
         ensures within { result.place ≤ length text.now }
         ensures reached { IfSome result.end (λ j. j ≤ result.place) }
-        ensures longest { self.old.way.sweeps ≡ false → Longest (tree prepared.now.expr) text.now from result.end }
-        ensures found { IsTrue self.old.way.sweeps → IsTrue (is_some result.end) ↔ SomeFound (tree prepared.now.expr) text.now from }
-        ensures cost { Pays steps.old steps.new (40 * length prepared.now.expr.nodes * (result.place + 1)) (40 * length prepared.now.expr.nodes * from) }
+        ensures longest { self.old.way.sweeps ≡ false → Longest (tree prepared.now.arena.expr) text.now from result.end }
+        ensures found { IsTrue self.old.way.sweeps → IsTrue (is_some result.end) ↔ SomeFound (tree prepared.now.arena.expr) text.now from }
+        ensures cost { Pays steps.old steps.new (40 * length prepared.now.arena.expr.nodes * (result.place + 1)) (40 * length prepared.now.arena.expr.nodes * from) }
         ensures counts { TakesAtLeast steps.old steps.new (2 * (result.place - from)) }
     {
         let kind = kind_of(from, text.len());

@@ -134,7 +134,7 @@ impl GroupTables {
 
     /// Begins to serve an expression, and forgets what was of another one.
     pub fn fit(&mut self, prepared: &Prepared)
-        requires roomy { AreRoomy (length prepared.now.expr.nodes) self.old }
+        requires roomy { AreRoomy (length prepared.now.arena.expr.nodes) self.old }
         ensures tables { AreGroupTables prepared.now self.new }
         ensures room { SameRooms self.old self.new }
     {
@@ -165,17 +165,17 @@ impl GroupRoom {
 
 /// What is told of a node.
 fn facts_at(prepared: &Prepared, x: usize) -> Facts
-    requires { x < length prepared.now.expr.nodes }
-    ensures { IsFacts (tree_at prepared.now.expr.nodes x) x result }
+    requires { x < length prepared.now.arena.expr.nodes }
+    ensures { IsFacts (tree_at prepared.now.arena.expr.nodes x) x result }
 {
     prepared.facts[x]
 }
 
 /// Whether a group of a node is due.
 fn is_due(prepared: &Prepared, x: usize, due: GroupSet) -> bool
-    requires inside { x < length prepared.now.expr.nodes }
+    requires inside { x < length prepared.now.arena.expr.nodes }
     requires whole { holds due 0 ≡ false }
-    ensures { result ≡ false → (spans : Groups) → NoneDue (tree_at prepared.now.expr.nodes x) (told_of due spans) }
+    ensures { result ≡ false → (spans : Groups) → NoneDue (tree_at prepared.now.arena.expr.nodes x) (told_of due spans) }
 {
     facts_at(prepared, x).groups.meets(due)
 }
@@ -195,11 +195,11 @@ fn settle_group(told: &mut Told, k: usize, span: (usize, usize))
 
 /// What is still due of a node's groups has no span.
 fn forget(prepared: &Prepared, told: &mut Told, x: usize)
-    requires inside { x < length prepared.now.expr.nodes }
+    requires inside { x < length prepared.now.arena.expr.nodes }
     requires told { IsTold told.old }
     ensures told { IsTold told.new }
     ensures spans { told.new.spans ≡ told.old.spans }
-    ensures state { told_of told.new.due told.new.spans ≡ drop_groups (tree_at prepared.now.expr.nodes x) (told_of told.old.due told.old.spans) }
+    ensures state { told_of told.new.due told.new.spans ≡ drop_groups (tree_at prepared.now.arena.expr.nodes x) (told_of told.old.due told.old.spans) }
 {
     told.due = told.due.without(facts_at(prepared, x).groups);
 }
@@ -318,8 +318,8 @@ fn fixed_cut(subject: Subject, here: Matched, left: usize, right: usize) -> Opti
 
 /// The set that a node repeats, if it repeats one.
 fn run_at(prepared: &Prepared, x: usize) -> Option<usize>
-    requires { x < length prepared.now.expr.nodes }
-    ensures { IfSome result (λ c. IsRunOf prepared.now.expr.nodes c x × IsSetAt prepared.now.expr.nodes c) }
+    requires { x < length prepared.now.arena.expr.nodes }
+    ensures { IfSome result (λ c. IsRunOf prepared.now.arena.expr.nodes c x × IsSetAt prepared.now.arena.expr.nodes c) }
 {
     // What always holds of an expression is told with the number of its nodes.
     let _nodes = prepared.nodes();
@@ -668,7 +668,7 @@ fn work(
 /// The groups of the whole expression.
 pub fn all_groups(prepared: &Prepared) -> GroupSet
     ensures whole { holds result 0 ≡ false }
-    ensures all { HasAll result (tree prepared.now.expr) }
+    ensures all { HasAll result (tree prepared.now.arena.expr) }
 {
     facts_at(prepared, prepared.root).groups
 }
@@ -690,8 +690,8 @@ pub fn decide(
     requires tasks { room.old.tasks.items ≡ [] }
     requires room { 2 * length (nodes_in subject) ≤ vec_capacity room.old.tasks }
     requires desk { HasDesk subject tables.old room.old.kept }
-    ensures report { HasAll due (tree subject.entry.prepared.now.expr) → IsReport (tree subject.entry.prepared.now.expr) (text_in subject.entry) start stop result }
-    ensures due { (groups : Groups) (k : ℕ) → IsReport (tree subject.entry.prepared.now.expr) (text_in subject.entry) start stop groups → IsTrue (holds due k) →
+    ensures report { HasAll due (tree subject.entry.prepared.now.arena.expr) → IsReport (tree subject.entry.prepared.now.arena.expr) (text_in subject.entry) start stop result }
+    ensures due { (groups : Groups) (k : ℕ) → IsReport (tree subject.entry.prepared.now.arena.expr) (text_in subject.entry) start stop groups → IsTrue (holds due k) →
         slice_index_or result k None ≡ slice_index_or groups k None }
     ensures tasks { room.new.tasks.items ≡ [] }
     ensures room { vec_capacity room.old.tasks ≤ vec_capacity room.new.tasks }

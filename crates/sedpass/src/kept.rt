@@ -104,7 +104,7 @@ impl Kept {
     #[inline(always)]
     pub fn begin(&mut self, subject: Subject, table: &Table, root: usize, end: usize)
         requires table { IsTable subject.prepared.now table.now }
-        requires room { KeptRoom (length subject.prepared.now.expr.nodes) (length subject.text.now) table.now self.old }
+        requires room { KeptRoom (length subject.prepared.now.arena.expr.nodes) (length subject.text.now) table.now self.old }
         requires root { MayBegin subject.prepared.now table.now.way root }
         requires whole { IsTrue table.now.way.sweeps → end ≡ length subject.text.now }
         requires end { end ≤ length subject.text.now }
@@ -112,8 +112,8 @@ impl Kept {
         ensures root { self.new.region.root ≡ root }
         ensures end { self.new.region.end ≡ end }
         ensures space { SameSpace self.old self.new }
-        ensures owed { (i : ℕ) → i ≤ end → owed (length subject.entry.prepared.now.expr.nodes) self.new.region i
-            ≤ 100 * length subject.entry.prepared.now.expr.nodes * (end - i) }
+        ensures owed { (i : ℕ) → i ≤ end → owed (length subject.entry.prepared.now.arena.expr.nodes) self.new.region i
+            ≤ 100 * length subject.entry.prepared.now.arena.expr.nodes * (end - i) }
     {
         extend_states(&mut self.states, subject.text.len());
         self.region = Region {
@@ -144,7 +144,7 @@ impl Kept {
         ensures edges { self.new.edges ≡ self.old.edges }
         ensures to { place < self.new.region.to }
         ensures steady { table.old.count < table.old.room → (self.new.region.to ≡ self.old.region.to) × (table.new.count ≤ table.old.count + 1) }
-        ensures cost { Takes steps.old steps.new (35 * length subject.entry.prepared.now.expr.nodes) }
+        ensures cost { Takes steps.old steps.new (35 * length subject.entry.prepared.now.arena.expr.nodes) }
         ensures counts { TakesAtLeast steps.old steps.new 2 }
     {
         let byte = subject.text.byte(place, steps);
@@ -185,7 +185,7 @@ impl Kept {
         ensures edges { self.new.edges ≡ self.old.edges }
         ensures to { low < self.new.region.to }
         ensures steady { table.old.count + (high - low) ≤ table.old.room → self.new.region.to ≡ self.old.region.to }
-        ensures cost { Pays steps.old steps.new (35 * length subject.entry.prepared.now.expr.nodes * high) (35 * length subject.entry.prepared.now.expr.nodes * low) }
+        ensures cost { Pays steps.old steps.new (35 * length subject.entry.prepared.now.arena.expr.nodes * high) (35 * length subject.entry.prepared.now.arena.expr.nodes * low) }
         ensures counts { TakesAtLeast steps.old steps.new (2 * (high - low)) }
     {
         let mut offset = offset;
@@ -210,7 +210,7 @@ impl Kept {
         ensures edges { EdgesFrom subject.entry.prepared.now subject.entry.text.now table.now self.new (block * (table.now.room - 1)) }
         ensures same { SameKept self.old self.new }
         ensures region { self.new.region ≡ self.old.region }
-        ensures cost { Takes steps.old steps.new (4 * length subject.entry.prepared.now.expr.nodes) }
+        ensures cost { Takes steps.old steps.new (4 * length subject.entry.prepared.now.arena.expr.nodes) }
     {
         let nodes = subject.prepared.nodes();
         let state = table.state_at(offset);
@@ -241,7 +241,7 @@ impl Kept {
         ensures edges { EdgesFrom subject.entry.prepared.now subject.entry.text.now table.now self.new (block * (table.now.room - 1)) }
         ensures same { SameKept self.old self.new }
         ensures region { self.new.region ≡ self.old.region }
-        ensures cost { Takes steps.old steps.new (4 * length subject.entry.prepared.now.expr.nodes) }
+        ensures cost { Takes steps.old steps.new (4 * length subject.entry.prepared.now.arena.expr.nodes) }
     {
         if place < self.region.end {
             self.keep_edge(subject, table, block, offset, steps);
@@ -270,7 +270,7 @@ impl Kept {
         ensures shape { SameShape table.old table.new }
         ensures same { SameKept self.old self.new }
         ensures to { result.0 < self.new.region.to }
-        ensures cost { Pays steps.old steps.new (39 * length subject.entry.prepared.now.expr.nodes * high) (39 * length subject.entry.prepared.now.expr.nodes * result.0) }
+        ensures cost { Pays steps.old steps.new (39 * length subject.entry.prepared.now.arena.expr.nodes * high) (39 * length subject.entry.prepared.now.arena.expr.nodes * result.0) }
         ensures counts { TakesAtLeast steps.old steps.new (2 * (high - result.0)) }
     {
         let width = table.room - 1;
@@ -285,14 +285,14 @@ impl Kept {
     fn last_state(&mut self, subject: Subject, table: &mut Table, steps: &mut Steps) -> usize
         requires region { IsRegion subject.prepared.now subject.text.now table.old self.old }
         ensures table { IsTable subject.entry.prepared.now table.new }
-        ensures adds { AddsStates (length subject.entry.prepared.now.expr.nodes) table.old table.new }
+        ensures adds { AddsStates (length subject.entry.prepared.now.arena.expr.nodes) table.old table.new }
         ensures region { self.new.region ≡ self.old.region }
         ensures edges { self.new.edges ≡ self.old.edges }
         ensures states { self.new.states ≡ self.old.states }
         ensures there { IsOffset table.new result }
         ensures at { KeptAt subject.entry.prepared.now subject.entry.text.now table.new.way self.old.region.root self.old.region.end self.old.region.end
-            (state_of (length subject.entry.prepared.now.expr.nodes) table.new (result / 2 ^ table.new.layout.shift)) }
-        ensures cost { Takes steps.old steps.new (33 * length subject.entry.prepared.now.expr.nodes) }
+            (state_of (length subject.entry.prepared.now.arena.expr.nodes) table.new (result / 2 ^ table.new.layout.shift)) }
+        ensures cost { Takes steps.old steps.new (33 * length subject.entry.prepared.now.arena.expr.nodes) }
         ensures counts { TakesAtLeast steps.old steps.new 1 }
     {
         let root = self.region.root;
@@ -312,7 +312,7 @@ impl Kept {
         ensures low { self.new.region.low ≡ low }
         ensures from { self.new.region.from ≡ low }
         ensures to { low < self.new.region.to }
-        ensures cost { let m = length subject.entry.prepared.now.expr.nodes in
+        ensures cost { let m = length subject.entry.prepared.now.arena.expr.nodes in
             Takes steps.old steps.new (33 * m + 39 * m * (self.old.region.end - low)) }
         ensures counts { TakesAtLeast steps.old steps.new (2 * (self.old.region.end - low)) }
     {
@@ -349,10 +349,10 @@ impl Kept {
         ensures states { self.new.states ≡ self.old.states }
         ensures there { IsOffset table.new result }
         ensures at { KeptAt subject.entry.prepared.now subject.entry.text.now table.new.way self.old.region.root self.old.region.end place
-            (state_of (length subject.entry.prepared.now.expr.nodes) table.new (result / 2 ^ table.new.layout.shift)) }
+            (state_of (length subject.entry.prepared.now.arena.expr.nodes) table.new (result / 2 ^ table.new.layout.shift)) }
         ensures one { table.new.count ≤ 1 }
-        ensures cost { Takes steps.old steps.new (37 * length subject.entry.prepared.now.expr.nodes) }
-        ensures inside { place < self.old.region.end → Takes steps.old steps.new (24 * length subject.entry.prepared.now.expr.nodes) }
+        ensures cost { Takes steps.old steps.new (37 * length subject.entry.prepared.now.arena.expr.nodes) }
+        ensures inside { place < self.old.region.end → Takes steps.old steps.new (24 * length subject.entry.prepared.now.arena.expr.nodes) }
     {
         table.empty(subject.prepared);
         if place == self.region.end {
@@ -382,7 +382,7 @@ impl Kept {
         ensures low { self.new.region.low ≡ self.old.region.low }
         ensures from { self.new.region.from ≡ place }
         ensures to { self.new.region.to ≡ min self.old.region.end (place / (table.old.room - 1) * (table.old.room - 1) + (table.old.room - 1)) }
-        ensures cost { let m = length subject.entry.prepared.now.expr.nodes in
+        ensures cost { let m = length subject.entry.prepared.now.arena.expr.nodes in
             Pays steps.old steps.new (again m (self.old.region.end - place)) (again m (self.old.region.end - self.new.region.to)) }
     {
         let width = table.room - 1;
@@ -411,7 +411,7 @@ impl Kept {
         ensures same { SameKept self.old self.new }
         ensures from { self.new.region.from ≤ place }
         ensures to { (result ≡ self.new.region.to) × (place < result) }
-        ensures cost { let m = length subject.entry.prepared.now.expr.nodes in
+        ensures cost { let m = length subject.entry.prepared.now.arena.expr.nodes in
             Pays steps.old steps.new (owed m self.old.region place) (owed m self.new.region place) }
     {
         if place < self.region.low {
@@ -433,13 +433,13 @@ impl Kept {
     ) -> bool
         requires kept { IsKept subject.prepared.now subject.text.now table.old self.old }
         requires sweeps { table.old.way.sweeps ≡ false }
-        requires last { IsLastIn subject.prepared.now.expr.nodes self.old.region.root x }
+        requires last { IsLastIn subject.prepared.now.arena.expr.nodes self.old.region.root x }
         requires place { place ≤ self.old.region.end }
         ensures kept { IsKept subject.entry.prepared.now subject.entry.text.now table.new self.new }
         ensures shape { SameShape table.old table.new }
         ensures same { SameKept self.old self.new }
-        ensures spans { IsTrue result ↔ At subject.entry.prepared.now.expr.nodes subject.entry.text.now x place self.old.region.end }
-        ensures cost { let m = length subject.entry.prepared.now.expr.nodes in
+        ensures spans { IsTrue result ↔ At subject.entry.prepared.now.arena.expr.nodes subject.entry.text.now x place self.old.region.end }
+        ensures cost { let m = length subject.entry.prepared.now.arena.expr.nodes in
             Pays steps.old steps.new (owed m self.old.region place + 1) (owed m self.new.region place) }
         ensures counts { TakesAtLeast steps.old steps.new 1 }
     {
@@ -463,18 +463,18 @@ impl Kept {
         steps: &mut Steps,
     ) -> usize
         requires kept { IsKept subject.prepared.now subject.text.now table.old self.old }
-        requires x { x < length subject.prepared.now.expr.nodes }
+        requires x { x < length subject.prepared.now.arena.expr.nodes }
         requires from { from ≤ self.old.region.end }
         ensures kept { IsKept subject.entry.prepared.now subject.entry.text.now table.new self.new }
         ensures shape { SameShape table.old table.new }
         ensures same { SameKept self.old self.new }
         ensures after { from ≤ result }
         ensures within { result ≤ self.old.region.end }
-        ensures passed { AllMarked subject.entry.prepared.now.expr.nodes subject.entry.text.now self.old.region.root
+        ensures passed { AllMarked subject.entry.prepared.now.arena.expr.nodes subject.entry.text.now self.old.region.root
             (ends_told table.old.way.sweeps (length subject.entry.text.now) self.old.region.end) x (not marked) from result }
-        ensures found { result < self.old.region.end → IsTrue marked ↔ Reaches subject.entry.prepared.now.expr.nodes subject.entry.text.now self.old.region.root
+        ensures found { result < self.old.region.end → IsTrue marked ↔ Reaches subject.entry.prepared.now.arena.expr.nodes subject.entry.text.now self.old.region.root
             (ends_told table.old.way.sweeps (length subject.entry.text.now) self.old.region.end) x result }
-        ensures cost { let m = length subject.entry.prepared.now.expr.nodes in
+        ensures cost { let m = length subject.entry.prepared.now.arena.expr.nodes in
             Pays steps.old steps.new (owed m self.old.region from + 2 * result + 2) (owed m self.new.region result + 2 * from) }
         ensures counts { TakesAtLeast steps.old steps.new (result - from) }
     {
@@ -501,14 +501,14 @@ impl Kept {
         steps: &mut Steps,
     ) -> usize
         requires kept { IsKept subject.prepared.now subject.text.now table.now self.now }
-        requires x { x < length subject.prepared.now.expr.nodes }
+        requires x { x < length subject.prepared.now.arena.expr.nodes }
         requires from { self.now.region.from ≤ from }
         requires to { from < self.now.region.to }
         ensures after { from ≤ result }
         ensures within { result ≤ self.now.region.to }
-        ensures passed { AllMarked subject.entry.prepared.now.expr.nodes subject.entry.text.now self.now.region.root
+        ensures passed { AllMarked subject.entry.prepared.now.arena.expr.nodes subject.entry.text.now self.now.region.root
             (ends_told table.now.way.sweeps (length subject.entry.text.now) self.now.region.end) x (not marked) from result }
-        ensures found { result < self.now.region.to → IsTrue marked ↔ Reaches subject.entry.prepared.now.expr.nodes subject.entry.text.now self.now.region.root
+        ensures found { result < self.now.region.to → IsTrue marked ↔ Reaches subject.entry.prepared.now.arena.expr.nodes subject.entry.text.now self.now.region.root
             (ends_told table.now.way.sweeps (length subject.entry.text.now) self.now.region.end) x result }
         ensures cost { Pays steps.old steps.new (result + 1) from }
         ensures counts { TakesAtLeast steps.old steps.new (result - from) }
@@ -542,9 +542,9 @@ impl Kept {
         ensures shape { SameShape table.old table.new × SameShape ahead.old ahead.new }
         ensures same { SameKept self.old self.new }
         ensures within { result ≤ self.old.region.end }
-        ensures ceases { CeasesAt subject.entry.prepared.now.expr.nodes subject.entry.text.now self.old.region.root
+        ensures ceases { CeasesAt subject.entry.prepared.now.arena.expr.nodes subject.entry.text.now self.old.region.root
             (ends_told table.old.way.sweeps (length subject.entry.text.now) self.old.region.end) a from result }
-        ensures cost { let m = length subject.entry.prepared.now.expr.nodes in
+        ensures cost { let m = length subject.entry.prepared.now.arena.expr.nodes in
             Pays steps.old steps.new (owed m self.old.region from + 36 * m * (result + 1)) (owed m self.new.region result + 36 * m * from) }
         ensures counts { TakesAtLeast steps.old steps.new (2 * (result - from) + 1) }
     {
@@ -592,10 +592,10 @@ impl Kept {
         ensures meets { (a i : ℕ) → a ≤ self.old.region.root → i ≤ from → Follows subject.entry.prepared.now subject.entry.text.now ahead.old a i from offset →
             Follows subject.entry.prepared.now subject.entry.text.now ahead.new a i result.0 result.1
             × Meet subject.entry.prepared.now subject.entry.text.now table.now self.old a i from result.0
-            × (result.0 < self.old.region.to → Meets subject.entry.prepared.now.expr.nodes subject.entry.text.now self.old.region.root
+            × (result.0 < self.old.region.to → Meets subject.entry.prepared.now.arena.expr.nodes subject.entry.text.now self.old.region.root
             (ends_told table.now.way.sweeps (length subject.entry.text.now) self.old.region.end) a (one_start i) result.0 → ⊥) }
-        ensures cost { let m = length subject.entry.prepared.now.expr.nodes in Pays steps.old steps.new (36 * m * result.0 + m) (36 * m * from) }
-        ensures whole { let m = length subject.entry.prepared.now.expr.nodes in result.0 ≡ self.old.region.to → Pays steps.old steps.new (36 * m * result.0) (36 * m * from) }
+        ensures cost { let m = length subject.entry.prepared.now.arena.expr.nodes in Pays steps.old steps.new (36 * m * result.0 + m) (36 * m * from) }
+        ensures whole { let m = length subject.entry.prepared.now.arena.expr.nodes in result.0 ≡ self.old.region.to → Pays steps.old steps.new (36 * m * result.0) (36 * m * from) }
         ensures counts { TakesAtLeast steps.old steps.new (2 * (result.0 - from)) }
     {
         let length = subject.text.len();

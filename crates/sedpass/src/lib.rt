@@ -1,5 +1,5 @@
-//! A matcher of one kind of pass. `sedmatch` decides groups by it; its searches, which are to take the place of those of `sedmarks`
-//! and `sedmatch`, aren't used yet.
+//! A matcher of one kind of pass. `sedmatch` searches by it for each expression that no look at the text tells, and decides groups
+//! by it.
 //!
 //! One act goes from the row of a place and the next byte to that of the next place ([`rows`]), forwards or from the text's end.
 //! A table remembers what acts found out ([`table`], [`cells`]); a pass forwards for the whole expression is in [`forwards`]. Of a pass
@@ -7,6 +7,7 @@
 //! end ([`groups`]). Searches stand over these: [`search`], [`occurrences`] and [`find`].
 #![tactic(auto)]
 
+pub mod arena;
 pub mod cells;
 pub mod classes;
 pub mod find;

@@ -1,6 +1,6 @@
 //! An expression made ready for passes: what is told of each node once, and the classes of bytes.
 
-ghost use Rattle.std.specs.Prelude.{◌≡◌, ℕ, Bool, true, false, ◌+◌, ◌<◌, ◌≤◌, ◌&&◌, ◌||◌, ◌↔◌, length, Some, slice_get, IfOk, IsTrue};
+ghost use Rattle.std.specs.Prelude.{◌≡◌, ℕ, Bool, true, false, ◌+◌, ◌<◌, ◌≤◌, ◌&&◌, ◌||◌, ◌↔◌, length, vec_capacity, Some, slice_get, IfOk, IsTrue};
 ghost use Rattle.std.proofs.Props.{props};
 ghost use Rattle.sedre.specs.Arena.{IsArena, IsExpr, tree_at};
 ghost use Rattle.sedre.specs.Mirror.{seen};
@@ -12,9 +12,10 @@ ghost use Rattle.sedpass.specs.Prepared.{IsPrepared, IsFacts, AreFacts, IsLeaf, 
 ghost use Rattle.sedpass.specs.Rows.{IsRange};
 ghost use Rattle.sedpass.specs.declared.nodes.Facts.{Facts};
 
-use crate::classes::{Classes, find_classes};
+use crate::arena::Arena;
+use crate::classes::{Classes, classes_of};
 use crate::group_set::GroupSet;
-use sedre::{Expr, Node, Nodes, Steps};
+use sedre::{Expr, Node, Steps};
 use std::alloc::{AllocError, Global};
 
 /// A kind of place: whether it is the text's beginning, and whether it is its end. An expression matches the null string
@@ -252,16 +253,15 @@ fn of_opt(part: Facts) -> Facts
 }
 
 /// What is told of a node, from what is told of those before it.
-fn facts_of(expr: &Expr, facts: &Vec<Facts>, x: usize, steps: &mut Steps) -> Facts
+pub fn facts_of(expr: &Expr, node: &Node, facts: &Vec<Facts>, x: usize) -> Facts
     requires expr { IsExpr expr.now.nodes expr.now.groups }
     requires inside { x < length expr.now.nodes }
+    requires node { slice_get expr.now.nodes x ≡ Some node.now }
     requires before { length facts.now.items ≡ x }
     requires facts { AreFacts expr.now.nodes facts.now.items }
-    ensures facts { IsFacts (tree_at expr.now.nodes x) x result }
-    ensures cost { Takes steps.old steps.new 1 }
-    ensures counts { Counted steps.old steps.new 1 }
+    ensures { IsFacts (tree_at expr.now.nodes x) x result }
 {
-    match expr.look(expr.id(x), steps) {
+    match *node {
         Node::Empty => of_leaf(x, Null::all(true), 0),
         Node::Set(_) => of_leaf(x, Null::all(false), 1),
         Node::Begin => of_leaf(x, Null::at_begin(), 0),
@@ -272,22 +272,6 @@ fn facts_of(expr: &Expr, facts: &Vec<Facts>, x: usize, steps: &mut Steps) -> Fac
         Node::Star(a, _) => of_star(a.index(), facts[a.index()]),
         Node::Opt(a, _) => of_opt(facts[a.index()]),
     }
-}
-
-/// What is told of all nodes.
-fn all_facts(alloc: Global, expr: &Expr, steps: &mut Steps) -> Result<Vec<Facts>, AllocError>
-    ensures all { IfOk result (λ facts. length facts.items ≡ length expr.now.nodes) }
-    ensures facts { IfOk result (λ facts. AreFacts expr.now.nodes facts.items) }
-    ensures cost { Takes steps.old steps.new (length expr.now.nodes) }
-    ensures counts { IfOk result (λ facts. TakesAtLeast steps.old steps.new (length expr.now.nodes)) }
-{
-    let _expr = expr.groups();
-    let mut facts = Vec::with_capacity(alloc, expr.nodes())?;
-    for x in 0..expr.nodes() {
-        let next = facts_of(expr, &facts, x, steps);
-        facts.push(next)?;
-    }
-    Ok(facts)
 }
 
 /// Whether some node is null at places of one kind alone, as an anchor is.
@@ -305,8 +289,8 @@ fn has_anchor(facts: &Vec<Facts>) -> bool
 /// An expression made ready for passes.
 #[derive(Drop)]
 pub struct Prepared {
-    /// The expression.
-    pub expr: Expr,
+    /// The nodes of the expression.
+    pub arena: Arena,
     /// Its last node, the whole of it.
     pub root: usize,
     /// What is told of each node.
@@ -317,65 +301,90 @@ pub struct Prepared {
     pub columns: usize,
     /// Whether some node is null at places of one kind alone, as an anchor is.
     pub anchors: bool,
-    pub ghost is_prepared: { IsPrepared expr root facts.items classes columns anchors } by { Prim.hlevel props },
+    pub ghost is_prepared: { IsPrepared arena.expr root facts.items classes columns anchors } by { Prim.hlevel props },
 }
 
 impl Prepared {
-    /// Makes a copy of an expression ready. Fails only where a request for memory was refused.
-    pub fn new(alloc: Global, expr: &Expr, steps: &mut Steps) -> Result<Prepared, AllocError>
-        ensures expr { IfOk result (λ p. p.expr ≡ expr.now) }
-        ensures cost { Takes steps.old steps.new (length expr.now.nodes) }
-        ensures counts { IfOk result (λ p. TakesAtLeast steps.old steps.new (length expr.now.nodes)) }
+    /// Room for expressions of at most `nodes` nodes, from 1 to 65,536. Until one is made ready in it, it is the expression that
+    /// matches the null string. Fails only where a request for memory was refused.
+    pub fn with_room(alloc: Global, nodes: usize) -> Result<Prepared, AllocError>
+        requires some { 1 ≤ nodes }
+        ensures nodes { IfOk result (λ p. nodes ≤ p.arena.room) }
+        ensures facts { IfOk result (λ p. nodes ≤ vec_capacity p.facts) }
     {
-        let copy = expr.copy(alloc)?;
-        let facts = all_facts(alloc, expr, steps)?;
-        let Classes { of, count } = find_classes(expr);
-        let anchors = has_anchor(&facts);
+        let arena = Arena::with_room(alloc, nodes)?;
+        let mut facts = Vec::with_capacity(alloc, nodes)?;
+        facts.push_reserved(of_leaf(0, Null::all(true), 0));
+        let Classes { of, count } = classes_of(&[]);
         Ok(Prepared {
-            root: expr.root().index(),
-            expr: copy,
+            arena,
+            root: 0,
             facts,
             classes: of,
             columns: count,
-            anchors,
+            anchors: false,
         })
+    }
+
+    /// Makes an expression ready, in the room that there is.
+    pub fn fit(&mut self, expr: &Expr, steps: &mut Steps)
+        requires nodes { length expr.now.nodes ≤ self.old.arena.room }
+        requires facts { length expr.now.nodes ≤ vec_capacity self.old.facts }
+        ensures expr { self.new.arena.expr ≡ expr.now }
+        ensures nodes_room { self.new.arena.room ≡ self.old.arena.room }
+        ensures facts_room { vec_capacity self.new.facts ≡ vec_capacity self.old.facts }
+        ensures cost { Takes steps.old steps.new (length expr.now.nodes) }
+        ensures counts { TakesAtLeast steps.old steps.new (length expr.now.nodes) }
+    {
+        self.arena.fill(expr, &mut self.facts, steps);
+        let Classes { of, count } = classes_of(expr.sets());
+        self.root = expr.root().index();
+        self.classes = of;
+        self.columns = count;
+        self.anchors = has_anchor(&self.facts);
+    }
+
+    /// Makes an expression ready in room of its own. Fails only where a request for memory was refused.
+    pub fn new(alloc: Global, expr: &Expr, steps: &mut Steps) -> Result<Prepared, AllocError>
+        ensures expr { IfOk result (λ p. p.arena.expr ≡ expr.now) }
+        ensures cost { Takes steps.old steps.new (length expr.now.nodes) }
+        ensures counts { IfOk result (λ p. TakesAtLeast steps.old steps.new (length expr.now.nodes)) }
+    {
+        let mut prepared = Prepared::with_room(alloc, expr.nodes())?;
+        prepared.fit(expr, steps);
+        Ok(prepared)
     }
 
     /// The node of an index, as it is or mirrored. Counts one look.
     #[inline(always)]
     pub fn look(&self, x: usize, mirrored: bool, steps: &mut Steps) -> Node
-        requires inside { x < length self.now.expr.nodes }
-        ensures node { slice_get (seen mirrored self.now.expr).nodes x ≡ Some result }
+        requires inside { x < length self.now.arena.expr.nodes }
+        ensures node { slice_get (seen mirrored self.now.arena.expr).nodes x ≡ Some result }
         ensures cost { Takes steps.old steps.new 1 }
         ensures counts { Counted steps.old steps.new 1 }
         ensures parts { PartsBelow x result }
-        ensures arena { IsArena (seen mirrored self.now.expr).nodes }
-        ensures few { length self.now.expr.nodes ≤ 65536 }
+        ensures arena { IsArena (seen mirrored self.now.arena.expr).nodes }
+        ensures few { length self.now.arena.expr.nodes ≤ 65536 }
     {
-        let nodes = if mirrored {
-            Nodes::mirrored(&self.expr)
-        } else {
-            Nodes::of(&self.expr)
-        };
-        nodes.look(nodes.id(x), steps)
+        self.arena.look(x, mirrored, steps)
     }
 
     /// The least index in a node's tree: its nodes are those from there to the node itself.
     #[inline(always)]
     pub fn low(&self, x: usize) -> usize
-        requires inside { x < length self.now.expr.nodes }
-        ensures size { result + size (tree_at self.now.expr.nodes x) ≡ x + 1 }
-        ensures range { (mirrored : Bool) → IsRange (seen mirrored self.now.expr).nodes result x }
+        requires inside { x < length self.now.arena.expr.nodes }
+        ensures size { result + size (tree_at self.now.arena.expr.nodes x) ≡ x + 1 }
+        ensures range { (mirrored : Bool) → IsRange (seen mirrored self.now.arena.expr).nodes result x }
     {
-        let _expr = self.expr.groups();
+        let _expr = self.arena.groups();
         self.facts[x].low
     }
 
     /// Whether a node matches the null string at a place of a kind. Counts one look.
     #[inline(always)]
     pub fn null_at(&self, x: usize, kind: Kind, steps: &mut Steps) -> bool
-        requires inside { x < length self.now.expr.nodes }
-        ensures null { result ≡ null_in self.now.expr.nodes kind x }
+        requires inside { x < length self.now.arena.expr.nodes }
+        ensures null { result ≡ null_in self.now.arena.expr.nodes kind x }
         ensures cost { Takes steps.old steps.new 1 }
         ensures counts { Counted steps.old steps.new 1 }
     {
@@ -386,11 +395,11 @@ impl Prepared {
     /// How many nodes there are.
     #[inline(always)]
     pub fn nodes(&self) -> usize
-        ensures value { result ≡ length self.now.expr.nodes }
-        ensures few { length self.now.expr.nodes ≤ 65536 }
-        ensures expr { IsExpr self.now.expr.nodes self.now.expr.groups }
+        ensures value { result ≡ length self.now.arena.expr.nodes }
+        ensures few { length self.now.arena.expr.nodes ≤ 65536 }
+        ensures expr { IsExpr self.now.arena.expr.nodes self.now.arena.expr.groups }
     {
-        let _expr = self.expr.groups();
+        let _expr = self.arena.groups();
         self.root + 1
     }
 }

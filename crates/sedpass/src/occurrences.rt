@@ -24,13 +24,13 @@ use sedre::Steps;
 /// Begins anew for a text: nothing was searched in it yet.
 pub fn begin_text(subject: Subject, back: &Table, seeking: &mut Seeking)
     requires table { IsTable subject.prepared.now back.now }
-    requires room { KeptRoom (length subject.prepared.now.expr.nodes) (length subject.text.now) back.now seeking.old.kept }
+    requires room { KeptRoom (length subject.prepared.now.arena.expr.nodes) (length subject.text.now) back.now seeking.old.kept }
     requires sweeps { IsTrue back.now.way.sweeps }
     ensures kept { seeking.new.kept ≡ seeking.old.kept }
     ensures begun { seeking.new.begun ≡ false }
     ensures tried { seeking.new.tried ≡ 0 }
     ensures serves { Serves subject.entry.prepared.now subject.entry.text.now back.now seeking.new }
-    ensures owed { let m = length subject.entry.prepared.now.expr.nodes in let n = length subject.entry.text.now in
+    ensures owed { let m = length subject.entry.prepared.now.arena.expr.nodes in let n = length subject.entry.text.now in
         owed_behind m n seeking.new 0 + 42 * m ≤ 306 * m * (n + 1) }
 {
     seeking.begun = false;
@@ -62,7 +62,7 @@ fn past_null(
     steps: &mut Steps,
 ) -> Option<(usize, usize)>
     requires at { at ≤ length subject.text.now }
-    requires begins { AllBegin (tree subject.prepared.now.expr) begins.now }
+    requires begins { AllBegin (tree subject.prepared.now.arena.expr) begins.now }
     requires ahead { IsAhead subject.prepared.now ahead.old }
     requires serves { Serves subject.prepared.now subject.text.now back.old seeking.old }
     ensures ahead { IsAhead subject.entry.prepared.now ahead.new }
@@ -70,11 +70,11 @@ fn past_null(
     ensures space { SameSpace seeking.old.kept seeking.new.kept }
     ensures serves { Serves subject.entry.prepared.now subject.entry.text.now back.new seeking.new }
     ensures shape { SameShape back.old back.new }
-    ensures next { result ≡ if nat_lt at (length subject.entry.text.now) then found (tree subject.entry.prepared.now.expr) subject.entry.text.now (at + 1) else None }
+    ensures next { result ≡ if nat_lt at (length subject.entry.text.now) then found (tree subject.entry.prepared.now.arena.expr) subject.entry.text.now (at + 1) else None }
     ensures lies { IfSome result (λ f. (at < f.0) × (f.0 ≤ f.1) × (f.1 ≤ length subject.entry.text.now)) }
-    ensures cost { let m = length subject.entry.prepared.now.expr.nodes in let n = length subject.entry.text.now in
+    ensures cost { let m = length subject.entry.prepared.now.arena.expr.nodes in let n = length subject.entry.text.now in
         Pays steps.old steps.new (owed_search m n seeking.old (at + 1) + 42 * m) (owed_after (owed_search m n seeking.new) result) }
-    ensures once { Takes steps.old steps.new (further_cost (length subject.entry.prepared.now.expr.nodes) (length subject.entry.text.now) at) }
+    ensures once { Takes steps.old steps.new (further_cost (length subject.entry.prepared.now.arena.expr.nodes) (length subject.entry.text.now) at) }
     ensures counts { IfSome result (λ f. TakesAtLeast steps.old steps.new (f.1 - f.0)) }
 {
     if at >= subject.text.len() {
@@ -99,7 +99,7 @@ pub fn next_after(
     steps: &mut Steps,
 ) -> Option<(usize, usize)>
     requires at { at ≤ length subject.text.now }
-    requires begins { AllBegin (tree subject.prepared.now.expr) begins.now }
+    requires begins { AllBegin (tree subject.prepared.now.arena.expr) begins.now }
     requires ahead { IsAhead subject.prepared.now ahead.old }
     requires serves { Serves subject.prepared.now subject.text.now back.old seeking.old }
     ensures ahead { IsAhead subject.entry.prepared.now ahead.new }
@@ -107,11 +107,11 @@ pub fn next_after(
     ensures space { SameSpace seeking.old.kept seeking.new.kept }
     ensures serves { Serves subject.entry.prepared.now subject.entry.text.now back.new seeking.new }
     ensures shape { SameShape back.old back.new }
-    ensures next { result ≡ next_span (found (tree subject.entry.prepared.now.expr) subject.entry.text.now) (length subject.entry.text.now) (Some at) }
+    ensures next { result ≡ next_span (found (tree subject.entry.prepared.now.arena.expr) subject.entry.text.now) (length subject.entry.text.now) (Some at) }
     ensures lies { IfSome result (LiesOn (length subject.entry.text.now) (Some at)) }
-    ensures cost { let m = length subject.entry.prepared.now.expr.nodes in let n = length subject.entry.text.now in
+    ensures cost { let m = length subject.entry.prepared.now.arena.expr.nodes in let n = length subject.entry.text.now in
         Pays steps.old steps.new (owed_behind m n seeking.old at) (owed_after (owed_behind m n seeking.new) result) }
-    ensures once { let m = length subject.entry.prepared.now.expr.nodes in let n = length subject.entry.text.now in
+    ensures once { let m = length subject.entry.prepared.now.arena.expr.nodes in let n = length subject.entry.text.now in
         Takes steps.old steps.new (64 * m * m * (n + 1) * (n + 1)) }
     ensures counts { IfSome result (λ f. TakesAtLeast steps.old steps.new (f.1 - f.0)) }
 {

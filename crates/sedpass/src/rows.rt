@@ -19,7 +19,8 @@ ghost use Rattle.sedpass.specs.Rows.{InTree, AreNull, TellTook, ended_by, leaf_l
 
 use crate::nodes::{Kind, Prepared};
 use sedmarks::counted::NodeMarks;
-use sedmarks::passes::{Starts, takes_byte};
+use sedmarks::members::takes_byte;
+use sedmarks::starts::Starts;
 use sedre::{Node, Steps};
 use std::alloc::{AllocError, Global};
 
@@ -82,9 +83,9 @@ fn ends_here(
     ended: &NodeMarks,
     steps: &mut Steps,
 ) -> bool
-    requires parts { PartsBelow (length prepared.now.expr.nodes) node.now }
-    requires few { length prepared.now.expr.nodes ≤ 65536 }
-    ensures mark { result ≡ ended_by took (null_in prepared.now.expr.nodes kind) (λ c. slice_index_or ended.now c false) node.now }
+    requires parts { PartsBelow (length prepared.now.arena.expr.nodes) node.now }
+    requires few { length prepared.now.arena.expr.nodes ≤ 65536 }
+    ensures mark { result ≡ ended_by took (null_in prepared.now.arena.expr.nodes kind) (λ c. slice_index_or ended.now c false) node.now }
     ensures cost { Takes steps.old steps.new (part_looks node.now) }
 {
     match node {
@@ -112,9 +113,9 @@ fn enter(
     entered: &mut NodeMarks,
     steps: &mut Steps,
 )
-    requires parts { PartsBelow (length prepared.now.expr.nodes) node.now }
-    requires few { length prepared.now.expr.nodes ≤ 65536 }
-    ensures marks { entered.new ≡ enter_parts here (null_in prepared.now.expr.nodes kind) (λ c. slice_index_or ended.now c false) node.now entered.old }
+    requires parts { PartsBelow (length prepared.now.arena.expr.nodes) node.now }
+    requires few { length prepared.now.arena.expr.nodes ≤ 65536 }
+    ensures marks { entered.new ≡ enter_parts here (null_in prepared.now.arena.expr.nodes kind) (λ c. slice_index_or ended.now c false) node.now entered.old }
     ensures cost { Takes steps.old steps.new (enter_looks node.now) }
 {
     match node {
@@ -175,12 +176,12 @@ fn ascend(
     work: &mut Work,
     steps: &mut Steps,
 )
-    requires root { root < length prepared.now.expr.nodes }
-    ensures ended { (w : List ℕ) (s : Starts) (place : ℕ) → AreNull (nodes_of way prepared.now.expr) w place (null_in prepared.now.expr.nodes kind) →
-        TellTook (nodes_of way prepared.now.expr) w root s place byte work.old.leaves →
-        Marked work.new.ended (InTree (nodes_of way prepared.now.expr) root) (λ c. Ends (nodes_of way prepared.now.expr) w root s c place) }
-    ensures cost { Takes steps.old steps.new (5 * length prepared.now.expr.nodes) }
-    ensures counts { TakesAtLeast steps.old steps.new (2 * size (tree_at prepared.now.expr.nodes root)) }
+    requires root { root < length prepared.now.arena.expr.nodes }
+    ensures ended { (w : List ℕ) (s : Starts) (place : ℕ) → AreNull (nodes_of way prepared.now.arena.expr) w place (null_in prepared.now.arena.expr.nodes kind) →
+        TellTook (nodes_of way prepared.now.arena.expr) w root s place byte work.old.leaves →
+        Marked work.new.ended (InTree (nodes_of way prepared.now.arena.expr) root) (λ c. Ends (nodes_of way prepared.now.arena.expr) w root s c place) }
+    ensures cost { Takes steps.old steps.new (5 * length prepared.now.arena.expr.nodes) }
+    ensures counts { TakesAtLeast steps.old steps.new (2 * size (tree_at prepared.now.arena.expr.nodes root)) }
 {
     let low = prepared.low(root);
     for x in low..root + 1 {
@@ -201,14 +202,14 @@ fn descend(
     work: &mut Work,
     steps: &mut Steps,
 )
-    requires root { root < length prepared.now.expr.nodes }
-    ensures row { (w : List ℕ) (s : Starts) (place : ℕ) → AreNull (nodes_of way prepared.now.expr) w place (null_in prepared.now.expr.nodes kind) →
-        Marked work.old.ended (InTree (nodes_of way prepared.now.expr) root) (λ c. Ends (nodes_of way prepared.now.expr) w root s c place) →
+    requires root { root < length prepared.now.arena.expr.nodes }
+    ensures row { (w : List ℕ) (s : Starts) (place : ℕ) → AreNull (nodes_of way prepared.now.arena.expr) w place (null_in prepared.now.arena.expr.nodes kind) →
+        Marked work.old.ended (InTree (nodes_of way prepared.now.arena.expr) root) (λ c. Ends (nodes_of way prepared.now.arena.expr) w root s c place) →
         (IsTrue first ↔ IsStart s place) →
-        RowAt (nodes_of way prepared.now.expr) w root s way.keeps place
-        (bits (length prepared.now.expr.nodes) work.new.leaves) (bits (length prepared.now.expr.nodes) work.new.ends) }
-    ensures cost { Takes steps.old steps.new (12 * length prepared.now.expr.nodes - 3) }
-    ensures counts { TakesAtLeast steps.old steps.new (2 * length prepared.now.expr.nodes + 6 * size (tree_at prepared.now.expr.nodes root)) }
+        RowAt (nodes_of way prepared.now.arena.expr) w root s way.keeps place
+        (bits (length prepared.now.arena.expr.nodes) work.new.leaves) (bits (length prepared.now.arena.expr.nodes) work.new.ends) }
+    ensures cost { Takes steps.old steps.new (12 * length prepared.now.arena.expr.nodes - 3) }
+    ensures counts { TakesAtLeast steps.old steps.new (2 * length prepared.now.arena.expr.nodes + 6 * size (tree_at prepared.now.arena.expr.nodes root)) }
 {
     let nodes = prepared.nodes();
     let low = prepared.low(root);
@@ -258,17 +259,17 @@ pub fn step(
     work: &mut Work,
     steps: &mut Steps,
 )
-    requires root { root < length prepared.now.expr.nodes }
-    ensures leads { (before : ℕ → Bool) → LeadsTo (nodes_of way prepared.now.expr) root way.keeps
-        (bits (length prepared.now.expr.nodes) work.old.leaves) before (Some byte) edge way.sweeps
-        (bits (length prepared.now.expr.nodes) work.new.leaves) (bits (length prepared.now.expr.nodes) work.new.ends) }
+    requires root { root < length prepared.now.arena.expr.nodes }
+    ensures leads { (before : ℕ → Bool) → LeadsTo (nodes_of way prepared.now.arena.expr) root way.keeps
+        (bits (length prepared.now.arena.expr.nodes) work.old.leaves) before (Some byte) edge way.sweeps
+        (bits (length prepared.now.arena.expr.nodes) work.new.leaves) (bits (length prepared.now.arena.expr.nodes) work.new.ends) }
     // Where no node is null at places of one kind alone, it is the row at the text's edge and before it.
-    ensures anywhere { SameNulls prepared.now.expr.nodes → (end : Bool) (before : ℕ → Bool) → LeadsTo (nodes_of way prepared.now.expr) root way.keeps
-        (bits (length prepared.now.expr.nodes) work.old.leaves) before (Some byte) end way.sweeps
-        (bits (length prepared.now.expr.nodes) work.new.leaves) (bits (length prepared.now.expr.nodes) work.new.ends) }
-    ensures cost { Takes steps.old steps.new (17 * length prepared.now.expr.nodes - 3) }
+    ensures anywhere { SameNulls prepared.now.arena.expr.nodes → (end : Bool) (before : ℕ → Bool) → LeadsTo (nodes_of way prepared.now.arena.expr) root way.keeps
+        (bits (length prepared.now.arena.expr.nodes) work.old.leaves) before (Some byte) end way.sweeps
+        (bits (length prepared.now.arena.expr.nodes) work.new.leaves) (bits (length prepared.now.arena.expr.nodes) work.new.ends) }
+    ensures cost { Takes steps.old steps.new (17 * length prepared.now.arena.expr.nodes - 3) }
     ensures counts { TakesAtLeast steps.old steps.new
-        (8 * size (tree_at prepared.now.expr.nodes root) + 2 * length prepared.now.expr.nodes) }
+        (8 * size (tree_at prepared.now.arena.expr.nodes root) + 2 * length prepared.now.arena.expr.nodes) }
 {
     let kind = edge_kind(way.mirrored, edge);
     ascend(prepared, way, root, Some(byte), kind, work, steps);
@@ -284,12 +285,12 @@ pub fn first(
     work: &mut Work,
     steps: &mut Steps,
 )
-    requires root { root < length prepared.now.expr.nodes }
-    ensures first { IsFirst (nodes_of way prepared.now.expr) root way.keeps (at_begin way.mirrored kind) (at_end way.mirrored kind)
-        (bits (length prepared.now.expr.nodes) work.new.leaves) (bits (length prepared.now.expr.nodes) work.new.ends) }
-    ensures cost { Takes steps.old steps.new (17 * length prepared.now.expr.nodes - 3) }
+    requires root { root < length prepared.now.arena.expr.nodes }
+    ensures first { IsFirst (nodes_of way prepared.now.arena.expr) root way.keeps (at_begin way.mirrored kind) (at_end way.mirrored kind)
+        (bits (length prepared.now.arena.expr.nodes) work.new.leaves) (bits (length prepared.now.arena.expr.nodes) work.new.ends) }
+    ensures cost { Takes steps.old steps.new (17 * length prepared.now.arena.expr.nodes - 3) }
     ensures counts { TakesAtLeast steps.old steps.new
-        (8 * size (tree_at prepared.now.expr.nodes root) + 2 * length prepared.now.expr.nodes) }
+        (8 * size (tree_at prepared.now.arena.expr.nodes root) + 2 * length prepared.now.arena.expr.nodes) }
 {
     ascend(prepared, way, root, None, kind, work, steps);
     descend(prepared, way, root, true, kind, work, steps);

@@ -65,13 +65,13 @@ fn try_next(
     steps: &mut Steps,
 ) -> Option<Trial>
     requires from { from ≤ length subject.text.now }
-    requires begins { AllBegin (tree subject.prepared.now.expr) begins.now }
+    requires begins { AllBegin (tree subject.prepared.now.arena.expr) begins.now }
     requires ahead { IsAhead subject.prepared.now ahead.old }
     ensures ahead { IsAhead subject.entry.prepared.now ahead.new }
     ensures ahead_shape { SameShape ahead.old ahead.new }
-    ensures none { IfNone result (NotFound (tree subject.entry.prepared.now.expr) subject.entry.text.now from) }
-    ensures trial { IfSome result (IsTrial (tree subject.entry.prepared.now.expr) subject.entry.text.now from) }
-    ensures cost { Pays steps.old steps.new (trial_cost (length subject.entry.prepared.now.expr.nodes) (length subject.entry.text.now) result) from }
+    ensures none { IfNone result (NotFound (tree subject.entry.prepared.now.arena.expr) subject.entry.text.now from) }
+    ensures trial { IfSome result (IsTrial (tree subject.entry.prepared.now.arena.expr) subject.entry.text.now from) }
+    ensures cost { Pays steps.old steps.new (trial_cost (length subject.entry.prepared.now.arena.expr.nodes) (length subject.entry.text.now) result) from }
     ensures counts { IfSome result (λ t. TakesAtLeast steps.old steps.new (2 * (t.place - t.start))) }
 {
     let start = next_start(begins, subject.text, from, steps)?;
@@ -106,14 +106,14 @@ fn try_all(
     steps: &mut Steps,
 ) -> Trials
     requires from { from ≤ length subject.text.now }
-    requires begins { AllBegin (tree subject.prepared.now.expr) begins.now }
+    requires begins { AllBegin (tree subject.prepared.now.arena.expr) begins.now }
     requires ahead { IsAhead subject.prepared.now ahead.old }
     requires tried { tried.old ≤ length subject.text.now }
     ensures ahead { IsAhead subject.entry.prepared.now ahead.new }
     ensures ahead_shape { SameShape ahead.old ahead.new }
-    ensures answer { TrialsAnswer (tree subject.entry.prepared.now.expr) subject.entry.text.now from result }
+    ensures answer { TrialsAnswer (tree subject.entry.prepared.now.arena.expr) subject.entry.text.now from result }
     ensures few { trials_room tried.new result ≤ max tried.old (length subject.entry.text.now / 8) + (length subject.entry.text.now + 1 - from) }
-    ensures cost { let m = length subject.entry.prepared.now.expr.nodes in
+    ensures cost { let m = length subject.entry.prepared.now.arena.expr.nodes in
         Pays steps.old steps.new (40 * m * tried.new + trials_cost m (length subject.entry.text.now) result) (40 * m * tried.old + from) }
     ensures counts { LooksAtHit steps.old steps.new result }
 {
@@ -141,7 +141,7 @@ fn begins_there(subject: Subject, start: usize, steps: &mut Steps) -> bool
     requires start { start ≤ length subject.text.now }
     ensures inside { start < length subject.entry.text.now → IsTrue result }
     ensures null { start ≡ length subject.entry.text.now → IsTrue result ↔
-        At subject.entry.prepared.now.expr.nodes subject.entry.text.now subject.entry.prepared.now.root start start }
+        At subject.entry.prepared.now.arena.expr.nodes subject.entry.text.now subject.entry.prepared.now.root start start }
     ensures cost { Takes steps.old steps.new 1 }
 {
     let length = subject.text.len();
@@ -169,7 +169,7 @@ fn next_kept(
     ensures ahead_shape { SameShape ahead.old ahead.new }
     ensures space { SameSpace kept.old kept.new }
     ensures next { IsNext subject.entry.prepared.now subject.entry.text.now from back.old back.new kept.new steps.old steps.new result }
-    ensures cost { let m = length subject.entry.prepared.now.expr.nodes in let n = length subject.entry.text.now in
+    ensures cost { let m = length subject.entry.prepared.now.arena.expr.nodes in let n = length subject.entry.text.now in
         Pays steps.old steps.new (owed_kept m n kept.old.region from + 42 * m) (owed_after (λ q. owed_kept m n kept.new.region q) result) }
 {
     let root = subject.prepared.root;
@@ -182,7 +182,7 @@ fn next_kept(
 }
 
 /// The same, of a text of which nothing is kept yet.
-fn next_begun(
+pub fn next_begun(
     subject: Subject,
     ahead: &mut Table,
     back: &mut Table,
@@ -193,13 +193,13 @@ fn next_begun(
     requires from { from ≤ length subject.text.now }
     requires ahead { IsAhead subject.prepared.now ahead.old }
     requires table { IsTable subject.prepared.now back.old }
-    requires room { KeptRoom (length subject.prepared.now.expr.nodes) (length subject.text.now) back.old kept.old }
+    requires room { KeptRoom (length subject.prepared.now.arena.expr.nodes) (length subject.text.now) back.old kept.old }
     requires sweeps { IsTrue back.old.way.sweeps }
     ensures ahead { IsAhead subject.entry.prepared.now ahead.new }
     ensures ahead_shape { SameShape ahead.old ahead.new }
     ensures space { SameSpace kept.old kept.new }
     ensures next { IsNext subject.entry.prepared.now subject.entry.text.now from back.old back.new kept.new steps.old steps.new result }
-    ensures cost { let m = length subject.entry.prepared.now.expr.nodes in let n = length subject.entry.text.now in
+    ensures cost { let m = length subject.entry.prepared.now.arena.expr.nodes in let n = length subject.entry.text.now in
         Pays steps.old steps.new (142 * m * (n - from) + 42 * m) (owed_after (λ q. owed_kept m n kept.new.region q) result) }
 {
     let length = subject.text.len();
@@ -218,7 +218,7 @@ pub fn next_match(
     steps: &mut Steps,
 ) -> Option<(usize, usize)>
     requires from { from ≤ length subject.text.now }
-    requires begins { AllBegin (tree subject.prepared.now.expr) begins.now }
+    requires begins { AllBegin (tree subject.prepared.now.arena.expr) begins.now }
     requires ahead { IsAhead subject.prepared.now ahead.old }
     requires serves { Serves subject.prepared.now subject.text.now back.old seeking.old }
     ensures ahead { IsAhead subject.entry.prepared.now ahead.new }
@@ -226,10 +226,10 @@ pub fn next_match(
     ensures space { SameSpace seeking.old.kept seeking.new.kept }
     ensures serves { Serves subject.entry.prepared.now subject.entry.text.now back.new seeking.new }
     ensures shape { SameShape back.old back.new }
-    ensures answer { SpanAnswer (tree subject.entry.prepared.now.expr) subject.entry.text.now from result }
-    ensures cost { let m = length subject.entry.prepared.now.expr.nodes in let n = length subject.entry.text.now in
+    ensures answer { SpanAnswer (tree subject.entry.prepared.now.arena.expr) subject.entry.text.now from result }
+    ensures cost { let m = length subject.entry.prepared.now.arena.expr.nodes in let n = length subject.entry.text.now in
         Pays steps.old steps.new (owed_search m n seeking.old from + 42 * m) (owed_after (owed_search m n seeking.new) result) }
-    ensures each { Takes steps.old steps.new (search_cost (length subject.entry.prepared.now.expr.nodes) (length subject.entry.text.now) from) }
+    ensures each { Takes steps.old steps.new (search_cost (length subject.entry.prepared.now.arena.expr.nodes) (length subject.entry.text.now) from) }
     ensures counts { IfSome result (λ f. TakesAtLeast steps.old steps.new (f.1 - f.0)) }
 {
     if seeking.begun {

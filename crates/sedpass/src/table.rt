@@ -179,7 +179,7 @@ impl Table {
 
     /// Begins to serve an expression: lays the cells out anew, and forgets all states.
     pub fn fit(&mut self, prepared: &Prepared)
-        requires roomy { IsRoomy (length prepared.now.expr.nodes) self.old }
+        requires roomy { IsRoomy (length prepared.now.arena.expr.nodes) self.old }
         ensures table { IsTable prepared.now self.new }
         ensures room { SameRoom self.old self.new }
     {
@@ -217,7 +217,7 @@ impl Table {
     fn code(&self, prepared: &Prepared, state: usize) -> u32
         requires table { IsTable prepared.now self.now }
         requires state { state < self.now.count }
-        ensures { result ≡ code_of (stops self.now.way (state_of (length prepared.now.expr.nodes) self.now state).flags) (state * 2 ^ self.now.layout.shift) }
+        ensures { result ≡ code_of (stops self.now.way (state_of (length prepared.now.arena.expr.nodes) self.now state).flags) (state * 2 ^ self.now.layout.shift) }
     {
         code_of(
             stops(self.way, self.flags[state]),
@@ -258,9 +258,9 @@ impl Table {
         requires table { IsTable prepared.now self.now }
         requires slot { slot < vec_len self.now.index }
         ensures there { IfSome result (λ q. q < self.now.count) }
-        ensures has { IfSome result (λ q. HasRow root (bits (length prepared.now.expr.nodes) work.now.leaves)
-            (bits (length prepared.now.expr.nodes) work.now.ends) (state_of (length prepared.now.expr.nodes) self.now q)) }
-        ensures cost { Takes steps.old steps.new (2 * length prepared.now.expr.nodes + 1) }
+        ensures has { IfSome result (λ q. HasRow root (bits (length prepared.now.arena.expr.nodes) work.now.leaves)
+            (bits (length prepared.now.arena.expr.nodes) work.now.ends) (state_of (length prepared.now.arena.expr.nodes) self.now q)) }
+        ensures cost { Takes steps.old steps.new (2 * length prepared.now.arena.expr.nodes + 1) }
     {
         steps.add(1);
         let nodes = prepared.nodes();
@@ -288,15 +288,15 @@ impl Table {
     ) -> u32
         requires table { IsTable prepared.now self.old }
         requires room { self.old.count < self.old.room }
-        requires root { root < length prepared.now.expr.nodes }
+        requires root { root < length prepared.now.arena.expr.nodes }
         requires slot { slot < vec_len self.old.index }
         ensures table { IsTable prepared.now self.new }
-        ensures adds { AddsStates (length prepared.now.expr.nodes) self.old self.new }
+        ensures adds { AddsStates (length prepared.now.arena.expr.nodes) self.old self.new }
         ensures epoch { self.new.epoch ≡ self.old.epoch }
         ensures count { self.new.count ≡ self.old.count + 1 }
-        ensures names { Names (length prepared.now.expr.nodes) self.new (HasRow root (bits (length prepared.now.expr.nodes) work.now.leaves)
-            (bits (length prepared.now.expr.nodes) work.now.ends)) result }
-        ensures cost { Takes steps.old steps.new (5 * length prepared.now.expr.nodes + 1) }
+        ensures names { Names (length prepared.now.arena.expr.nodes) self.new (HasRow root (bits (length prepared.now.arena.expr.nodes) work.now.leaves)
+            (bits (length prepared.now.arena.expr.nodes) work.now.ends)) result }
+        ensures cost { Takes steps.old steps.new (5 * length prepared.now.arena.expr.nodes + 1) }
     {
         let nodes = prepared.nodes();
         let state = self.count;
@@ -331,9 +331,9 @@ impl Table {
         requires table { IsTable prepared.now self.now }
         requires slot { slot + 1 < vec_len self.now.index }
         ensures there { IfSome result (λ q. q < self.now.count) }
-        ensures has { IfSome result (λ q. HasRow root (bits (length prepared.now.expr.nodes) work.now.leaves)
-            (bits (length prepared.now.expr.nodes) work.now.ends) (state_of (length prepared.now.expr.nodes) self.now q)) }
-        ensures cost { Takes steps.old steps.new (4 * length prepared.now.expr.nodes + 2) }
+        ensures has { IfSome result (λ q. HasRow root (bits (length prepared.now.arena.expr.nodes) work.now.leaves)
+            (bits (length prepared.now.arena.expr.nodes) work.now.ends) (state_of (length prepared.now.arena.expr.nodes) self.now q)) }
+        ensures cost { Takes steps.old steps.new (4 * length prepared.now.arena.expr.nodes + 2) }
     {
         match self.noted(prepared, root, slot, work, steps) {
             Some(state) => Some(state),
@@ -344,13 +344,13 @@ impl Table {
     /// The code of the state with this root and row, which is added unless it is found; a full table is emptied before.
     fn intern(&mut self, prepared: &Prepared, root: usize, work: &Work, steps: &mut Steps) -> u32
         requires table { IsTable prepared.now self.old }
-        requires root { root < length prepared.now.expr.nodes }
+        requires root { root < length prepared.now.arena.expr.nodes }
         ensures table { IsTable prepared.now self.new }
-        ensures adds { AddsStates (length prepared.now.expr.nodes) self.old self.new }
-        ensures names { Names (length prepared.now.expr.nodes) self.new (HasRow root (bits (length prepared.now.expr.nodes) work.now.leaves)
-            (bits (length prepared.now.expr.nodes) work.now.ends)) result }
-        ensures cost { Takes steps.old steps.new (11 * length prepared.now.expr.nodes + 3) }
-        ensures counts { TakesAtLeast steps.old steps.new (2 * length prepared.now.expr.nodes) }
+        ensures adds { AddsStates (length prepared.now.arena.expr.nodes) self.old self.new }
+        ensures names { Names (length prepared.now.arena.expr.nodes) self.new (HasRow root (bits (length prepared.now.arena.expr.nodes) work.now.leaves)
+            (bits (length prepared.now.arena.expr.nodes) work.now.ends)) result }
+        ensures cost { Takes steps.old steps.new (11 * length prepared.now.arena.expr.nodes + 3) }
+        ensures counts { TakesAtLeast steps.old steps.new (2 * length prepared.now.arena.expr.nodes) }
     {
         let slot = self.slot_of(prepared.nodes(), root, work, steps);
         if let Some(state) = self.find(prepared, root, slot, work, steps) {
@@ -368,10 +368,10 @@ impl Table {
         requires table { IsTable prepared.now self.old }
         requires offset { IsOffset self.old offset }
         requires leads { NamesNext prepared.now self.old self.old offset byte edge next }
-        requires anywhere { SameNulls prepared.now.expr.nodes → Names (length prepared.now.expr.nodes) self.old (λ b. (end : Bool) → LeadsOn (nodes_of self.old.way prepared.now.expr) self.old.way
-            (state_of (length prepared.now.expr.nodes) self.old (offset / 2 ^ self.old.layout.shift)) byte end b) next }
+        requires anywhere { SameNulls prepared.now.arena.expr.nodes → Names (length prepared.now.arena.expr.nodes) self.old (λ b. (end : Bool) → LeadsOn (nodes_of self.old.way prepared.now.arena.expr) self.old.way
+            (state_of (length prepared.now.arena.expr.nodes) self.old (offset / 2 ^ self.old.layout.shift)) byte end b) next }
         ensures table { IsTable prepared.now self.new }
-        ensures adds { AddsStates (length prepared.now.expr.nodes) self.old self.new }
+        ensures adds { AddsStates (length prepared.now.arena.expr.nodes) self.old self.new }
         ensures epoch { self.new.epoch ≡ self.old.epoch }
         ensures count { self.new.count ≡ self.old.count }
     {
@@ -394,10 +394,10 @@ impl Table {
         requires table { IsTable prepared.now self.old }
         requires offset { IsOffset self.old offset }
         ensures table { IsTable prepared.now self.new }
-        ensures adds { AddsStates (length prepared.now.expr.nodes) self.old self.new }
+        ensures adds { AddsStates (length prepared.now.arena.expr.nodes) self.old self.new }
         ensures names { NamesNext prepared.now self.old self.new offset byte edge result }
-        ensures cost { Takes steps.old steps.new (33 * length prepared.now.expr.nodes) }
-        ensures counts { TakesAtLeast steps.old steps.new (length prepared.now.expr.nodes) }
+        ensures cost { Takes steps.old steps.new (33 * length prepared.now.arena.expr.nodes) }
+        ensures counts { TakesAtLeast steps.old steps.new (length prepared.now.arena.expr.nodes) }
     {
         let state = self.state_at(offset);
         let root = self.roots[state];
@@ -440,9 +440,9 @@ impl Table {
         requires table { IsTable prepared.now self.old }
         requires offset { IsOffset self.old offset }
         ensures table { IsTable prepared.now self.new }
-        ensures adds { AddsStates (length prepared.now.expr.nodes) self.old self.new }
+        ensures adds { AddsStates (length prepared.now.arena.expr.nodes) self.old self.new }
         ensures names { NamesNext prepared.now self.old self.new offset byte edge result }
-        ensures cost { Takes steps.old steps.new (34 * length prepared.now.expr.nodes) }
+        ensures cost { Takes steps.old steps.new (34 * length prepared.now.arena.expr.nodes) }
         ensures counts { TakesAtLeast steps.old steps.new 1 }
     {
         steps.add(1);
@@ -467,9 +467,9 @@ impl Table {
     fn note_first(&mut self, prepared: &Prepared, root: usize, kind: Kind, code: u32)
         requires table { IsTable prepared.now self.old }
         requires root { MayBegin prepared.now self.old.way root }
-        requires begins { Names (length prepared.now.expr.nodes) self.old (BeginsIn (nodes_of self.old.way prepared.now.expr) self.old.way root kind) code }
+        requires begins { Names (length prepared.now.arena.expr.nodes) self.old (BeginsIn (nodes_of self.old.way prepared.now.arena.expr) self.old.way root kind) code }
         ensures table { IsTable prepared.now self.new }
-        ensures adds { AddsStates (length prepared.now.expr.nodes) self.old self.new }
+        ensures adds { AddsStates (length prepared.now.arena.expr.nodes) self.old self.new }
         ensures epoch { self.new.epoch ≡ self.old.epoch }
         ensures count { self.new.count ≡ self.old.count }
     {
@@ -495,9 +495,9 @@ impl Table {
         requires table { IsTable prepared.now self.old }
         requires root { MayBegin prepared.now self.old.way root }
         ensures table { IsTable prepared.now self.new }
-        ensures adds { AddsStates (length prepared.now.expr.nodes) self.old self.new }
-        ensures names { Names (length prepared.now.expr.nodes) self.new (BeginsIn (nodes_of self.old.way prepared.now.expr) self.old.way root kind) result }
-        ensures cost { Takes steps.old steps.new (32 * length prepared.now.expr.nodes) }
+        ensures adds { AddsStates (length prepared.now.arena.expr.nodes) self.old self.new }
+        ensures names { Names (length prepared.now.arena.expr.nodes) self.new (BeginsIn (nodes_of self.old.way prepared.now.arena.expr) self.old.way root kind) result }
+        ensures cost { Takes steps.old steps.new (32 * length prepared.now.arena.expr.nodes) }
     {
         first(prepared, self.way, root, kind, work, steps);
         let code = self.intern(prepared, root, work, steps);
@@ -518,9 +518,9 @@ impl Table {
         requires table { IsTable prepared.now self.old }
         requires root { MayBegin prepared.now self.old.way root }
         ensures table { IsTable prepared.now self.new }
-        ensures adds { AddsStates (length prepared.now.expr.nodes) self.old self.new }
-        ensures names { Names (length prepared.now.expr.nodes) self.new (BeginsIn (nodes_of self.old.way prepared.now.expr) self.old.way root kind) result }
-        ensures cost { Takes steps.old steps.new (33 * length prepared.now.expr.nodes) }
+        ensures adds { AddsStates (length prepared.now.arena.expr.nodes) self.old self.new }
+        ensures names { Names (length prepared.now.arena.expr.nodes) self.new (BeginsIn (nodes_of self.old.way prepared.now.arena.expr) self.old.way root kind) result }
+        ensures cost { Takes steps.old steps.new (33 * length prepared.now.arena.expr.nodes) }
         ensures counts { TakesAtLeast steps.old steps.new 1 }
     {
         steps.add(1);
@@ -543,16 +543,16 @@ impl Table {
         steps: &mut Steps,
     ) -> u32
         requires table { IsTable prepared.now self.old }
-        requires root { root < length prepared.now.expr.nodes }
+        requires root { root < length prepared.now.arena.expr.nodes }
         requires row { 2 * row + 1 < length edges.now }
-        requires leaf_marks { length prepared.now.expr.nodes ≤ length (row_of edges.now (2 * row)) }
-        requires end_marks { length prepared.now.expr.nodes ≤ length (row_of edges.now (2 * row + 1)) }
+        requires leaf_marks { length prepared.now.arena.expr.nodes ≤ length (row_of edges.now (2 * row)) }
+        requires end_marks { length prepared.now.arena.expr.nodes ≤ length (row_of edges.now (2 * row + 1)) }
         ensures table { IsTable prepared.now self.new }
-        ensures adds { AddsStates (length prepared.now.expr.nodes) self.old self.new }
-        ensures names { Names (length prepared.now.expr.nodes) self.new (HasRow root (bits (length prepared.now.expr.nodes) (row_of edges.now (2 * row)))
-            (bits (length prepared.now.expr.nodes) (row_of edges.now (2 * row + 1)))) result }
-        ensures cost { Takes steps.old steps.new (20 * length prepared.now.expr.nodes) }
-        ensures counts { TakesAtLeast steps.old steps.new (2 * length prepared.now.expr.nodes) }
+        ensures adds { AddsStates (length prepared.now.arena.expr.nodes) self.old self.new }
+        ensures names { Names (length prepared.now.arena.expr.nodes) self.new (HasRow root (bits (length prepared.now.arena.expr.nodes) (row_of edges.now (2 * row)))
+            (bits (length prepared.now.arena.expr.nodes) (row_of edges.now (2 * row + 1)))) result }
+        ensures cost { Takes steps.old steps.new (20 * length prepared.now.arena.expr.nodes) }
+        ensures counts { TakesAtLeast steps.old steps.new (2 * length prepared.now.arena.expr.nodes) }
     {
         let nodes = prepared.nodes();
         let _rows = edges.len();

@@ -3,8 +3,7 @@ use Rattle.std.specs.Prelude.{slice_get}
 use Rattle.sedmarks.specs.Reach.{At}
 use Rattle.sedmarks.specs.Beginnings.{CanBegin, alternatives}
 use Rattle.sedmarks.specs.declared.beginnings.Begins.TheVariants.{WithSet}
-use Rattle.sedmarks.proofs.CostLemmas.{turn_cost, turns_cost}
-use Rattle.sedmarks.proofs.BeginningLemmas.{alt_opens, begins_left, begins_right}
+use Rattle.sedmarks.proofs.BeginningLemmas.{alt_opens, begins_left, begins_right, turn_cost, turns_cost}
 use Rattle.sedmarks.proofs.beginnings.begins_either.Goals as goal
 
 pub first_set-requires-in-Some-alternatives : goal.first_set-requires-in-Some-alternatives

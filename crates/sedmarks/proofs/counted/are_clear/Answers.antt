@@ -1,4 +1,4 @@
-use Rattle.std.proofs.Common.{◌≡◌, ◌<◌, ◌∙◌, false, length, refl, true≢false, sym, arith}
+use Rattle.std.proofs.Common.{◌≡◌, ◌<◌, ◌∙◌, length, true≢false, sym, arith}
 use Rattle.std.specs.Prelude.{slice_index_or}
 use Rattle.sedmarks.proofs.BitLemmas.{clear_more, clear_not}
 use Rattle.sedmarks.proofs.MarkLemmas.{default_same}

@@ -1,6 +1,6 @@
 use Rattle.std.proofs.Common.{◌≡◌, length, subst, arith}
 use Rattle.sedmarks.specs.Spans.{no_copy}
-use Rattle.sedmarks.specs.RunsAhead.{IsRun}
+use Rattle.sedmarks.specs.Runs.{IsRun}
 use Rattle.sedmarks.proofs.RunLemmas.{longer_run, stops_behind}
 use Rattle.sedmarks.proofs.members.run_to.Goals as goal
 

@@ -1,4 +1,4 @@
-use Rattle.sedmarks.specs.RunsAhead.{Repeated}
+use Rattle.sedmarks.specs.Runs.{Repeated}
 use Rattle.sedmarks.proofs.members.run_to.Given as goal
 
 abbrev pub invariant-loop-place : goal.invariant-loop-place

@@ -7,17 +7,17 @@ use Rattle.sedmatch.proofs.OccurrenceLemmas.{first_paid, first_square}
 use Rattle.sedmatch.proofs.occurrences.first_with.Goals as goal
 
 pub next_match-requires-clause-from : goal.next_match-requires-clause-from
-next_match-requires-clause-from c = (c.in_ok-start.ensures.place (tree c.args.sought.now.prepared.expr) c.requires.sought.hints).1
+next_match-requires-clause-from c = (c.in_ok-start.ensures.place (tree c.args.sought.now.prepared.arena.expr) c.requires.sought.hints).1
 
 pub returns-clause-answer : goal.returns-clause-answer
 returns-clause-answer c =
-    let e = tree c.args.sought.now.prepared.expr in
+    let e = tree c.args.sought.now.prepared.arena.expr in
     let place = c.in_ok-start.ensures.place e c.requires.sought.hints in
     later_answer e c.args.text.now 0 c.in_ok-start.start c.next_match.result place.0 place.2 c.next_match.ensures.answer
 
 pub returns-clause-cost : goal.returns-clause-cost
 returns-clause-cost c =
-    let m = length c.args.sought.now.prepared.expr.nodes in
+    let m = length c.args.sought.now.prepared.arena.expr.nodes in
     let n = length c.args.text.now in
     let looks = c.first_place.ensures.cost in
     let pays = c.next_match.ensures.cost in
@@ -33,7 +33,7 @@ returns-clause-once c =
     let looks = c.first_place.ensures.cost in
     let each = c.next_match.ensures.each in (
       omega (arith, looks.0, each.0),
-      first_square (length c.args.sought.now.prepared.expr.nodes) (length c.args.text.now) c.in_ok-start.start c.args.steps.now c.first_place.new.steps c.next_match.new.steps (omega (arith, last)) (omega (arith, looks.1)) each.1,
+      first_square (length c.args.sought.now.prepared.arena.expr.nodes) (length c.args.text.now) c.in_ok-start.start c.args.steps.now c.first_place.new.steps c.next_match.new.steps (omega (arith, last)) (omega (arith, looks.1)) each.1,
     )
 
 pub returns-clause-counts : goal.returns-clause-counts

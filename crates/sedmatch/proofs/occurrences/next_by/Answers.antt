@@ -18,7 +18,7 @@ returns-clause-serves c =
         kept.0,
         λ text es sought room.
             keeps_on p w mid new c.next_with.new.back c.make_ready.ensures.at c.make_ready.ensures.used c.make_ready.ensures.ready refl refl refl refl shape c.next_with.ensures.serves c.next_with.ensures.space text es
-            (subst (λ x. slice_get es x ≡ Some p.expr) (sym kept.0) sought) (kept.1 text es sought room),
+            (subst (λ x. slice_get es x ≡ Some p.arena.expr) (sym kept.0) sought) (kept.1 text es sought room),
       ),
       serves_on p w mid new c.next_with.new.back c.make_ready.ensures.at c.make_ready.ensures.used c.make_ready.ensures.ready refl refl refl refl shape c.next_with.ensures.serves c.next_with.ensures.space c.next_with.result,
     )
@@ -29,5 +29,5 @@ returns-clause-cost c =
     let mid = c.make_ready.new.self in
     let new : Occurrences = record { seeking = c.next_with.new.seeking; tables = record { all = with_item mid.tables.all mid.at c.next_with.new.back; slots = mid.tables.slots }; number = mid.number; at = mid.at; is_fresh = mid.is_fresh } in
     let last = p.is_prepared.last in
-    paid (length p.expr.nodes) (length c.args.text.now) c.args.last c.args.occurrences.now mid new c.next_with.result c.args.steps.now c.next_with.new.steps (omega (arith, last)) c.requires.serves.fresh c.make_ready.ensures.same
+    paid (length p.arena.expr.nodes) (length c.args.text.now) c.args.last c.args.occurrences.now mid new c.next_with.result c.args.steps.now c.next_with.new.steps (omega (arith, last)) c.requires.serves.fresh c.make_ready.ensures.same
     c.make_ready.ensures.owed c.make_ready.ensures.ready c.next_with.ensures.cost

@@ -9,13 +9,13 @@ use Rattle.sedmatch.proofs.occurrences.next_with.Goals as goal
 
 pub returns-in-None-clause-next : goal.returns-in-None-clause-next
 returns-in-None-clause-next c =
-    let e = tree c.args.sought.now.prepared.expr in
+    let e = tree c.args.sought.now.prepared.arena.expr in
     let w = c.args.text.now in
     subst (λ (last : Option ℕ). c.first_with.result ≡ next_span (found e w) (length w) last) (sym c.in-None.is) (answer_found e w 0 c.first_with.result (omega arith) c.first_with.ensures.answer)
 
 pub returns-in-None-clause-occurs : goal.returns-in-None-clause-occurs
 returns-in-None-clause-occurs c =
-    let e = tree c.args.sought.now.prepared.expr in
+    let e = tree c.args.sought.now.prepared.arena.expr in
     let w = c.args.text.now in
     let r = c.first_with.result in
     subst (λ (last : Option ℕ). IfSome r (Occurs e w last)) (sym c.in-None.is)
@@ -23,7 +23,7 @@ returns-in-None-clause-occurs c =
 
 pub returns-in-Some-clause-occurs : goal.returns-in-Some-clause-occurs
 returns-in-Some-clause-occurs c =
-    let e = tree c.args.sought.now.prepared.expr in
+    let e = tree c.args.sought.now.prepared.arena.expr in
     let w = c.args.text.now in
     let r = c.next_after.result in
     let within : EndsWithin (length w) (Some c.in-Some.at) = subst (EndsWithin (length w)) c.in-Some.is c.requires.last in

@@ -1,5 +1,4 @@
-use Rattle.std.proofs.Common.{length}
-use Rattle.sedmatch.proofs.PassLemmas.{groups_again, one_alone, own_decides, room_again, shared_decides, shared_serves, there_own}
+use Rattle.sedmatch.proofs.PassLemmas.{one_alone, own_decides, room_again, there_own}
 use Rattle.sedmatch.proofs.passes.groups_by.Goals as goal
 
 pub returns-then-groups-eq0-clause-counts : goal.returns-then-groups-eq0-clause-counts
@@ -13,14 +12,3 @@ groups_with-requires-clause-desk c =
 pub returns-then-has_blocks-clause-desk : goal.returns-then-has_blocks-clause-desk
 returns-then-has_blocks-clause-desk c =
     room_again c.args.desk.now c.groups_with.new.room c.requires.desk c.groups_with.ensures.space c.groups_with.ensures.none c.groups_with.ensures.tasks
-
-pub fit-requires : goal.fit-requires
-fit-requires c = record { roomy = shared_serves (length c.args.passes.now.sought.prepared.expr.nodes) c.args.desk.now c.requires.desk c.requires.few }
-
-pub groups_with-requires-2-clause-desk : goal.groups_with-requires-2-clause-desk
-groups_with-requires-2-clause-desk c = shared_decides _ c.fit.new.self c.args.desk.now c.fit.ensures.tables c.fit.ensures.room c.requires.desk c.requires.short c.requires.few
-
-pub returns-clause-desk : goal.returns-clause-desk
-returns-clause-desk c =
-    groups_again c.args.desk.now _ c.fit.new.self c.groups_with-2.new.tables c.groups_with-2.new.room c.requires.desk c.fit.ensures.room c.groups_with-2.ensures.shape c.groups_with-2.ensures.desk
-    c.groups_with-2.ensures.space c.groups_with-2.ensures.none c.groups_with-2.ensures.tasks

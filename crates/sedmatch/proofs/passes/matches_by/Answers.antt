@@ -4,18 +4,18 @@ use Rattle.sedmatch.proofs.PassLemmas.{any_serves, matches_past, search_again}
 use Rattle.sedmatch.proofs.passes.matches_by.Goals as goal
 
 pub matches_with-requires-clause-from : goal.matches_with-requires-clause-from
-matches_with-requires-clause-from c = (c.in-Some.ensures.place (tree c.args.passes.now.sought.prepared.expr) c.requires.passes.0.hints).1
+matches_with-requires-clause-from c = (c.in-Some.ensures.place (tree c.args.passes.now.sought.prepared.arena.expr) c.requires.passes.0.hints).1
 
 pub returns-in-Some-own-clause-matches : goal.returns-in-Some-own-clause-matches
 returns-in-Some-own-clause-matches c =
-    let e = tree c.args.passes.now.sought.prepared.expr in
+    let e = tree c.args.passes.now.sought.prepared.arena.expr in
     matches_past c.matches_with.result e c.args.text.now c.args.from c.in-Some.start (c.in-Some.ensures.place e c.requires.passes.0.hints) c.matches_with.ensures.matches
 
 pub fit-requires : goal.fit-requires
-fit-requires c = record { roomy = any_serves (length c.args.passes.now.sought.prepared.expr.nodes) c.args.desk.now c.requires.desk c.requires.few }
+fit-requires c = record { roomy = any_serves (length c.args.passes.now.sought.prepared.arena.expr.nodes) c.args.desk.now c.requires.desk c.requires.few }
 
 pub matches_with-requires-2-clause-from : goal.matches_with-requires-2-clause-from
-matches_with-requires-2-clause-from c = (c.in-Some.ensures.place (tree c.args.passes.now.sought.prepared.expr) c.requires.passes.0.hints).1
+matches_with-requires-2-clause-from c = (c.in-Some.ensures.place (tree c.args.passes.now.sought.prepared.arena.expr) c.requires.passes.0.hints).1
 
 pub returns-clause-desk : goal.returns-clause-desk
 returns-clause-desk c =
@@ -24,5 +24,5 @@ returns-clause-desk c =
 
 pub returns-clause-matches : goal.returns-clause-matches
 returns-clause-matches c =
-    let e = tree c.args.passes.now.sought.prepared.expr in
+    let e = tree c.args.passes.now.sought.prepared.arena.expr in
     matches_past c.matches_with-2.result e c.args.text.now c.args.from c.in-Some.start (c.in-Some.ensures.place e c.requires.passes.0.hints) c.matches_with-2.ensures.matches

@@ -1,5 +1,5 @@
 use Rattle.std.proofs.Common.{◌≤◌}
-use Rattle.sedmarks.specs.RunsAhead.{Repeated}
+use Rattle.sedmarks.specs.Runs.{Repeated}
 use Rattle.sedmatch.proofs.runs_back.run_back.Given as goal
 
 abbrev pub invariant-loop-place : goal.invariant-loop-place

@@ -1,4 +1,4 @@
-use Rattle.std.proofs.Common.{refl}
+use Rattle.std.proofs.Common.{refl, arith}
 use Rattle.sedmatch.proofs.PassLemmas.{desk_made}
 use Rattle.sedmatch.proofs.scratch.new_desk.Goals as goal
 
@@ -10,4 +10,5 @@ returns c = record {
     refl,
     refl,
   );
+  states = (let is = c.in_ok-shared.ensures.room.0 in let least = c.width_for-block.ensures.least in let most = c.width_for-block.ensures.most in (omega arith, omega arith));
 }

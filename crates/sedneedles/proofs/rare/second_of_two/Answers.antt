@@ -1,20 +1,20 @@
-use Rattle.std.proofs.Common.{◌≡◌, ◌-◌, [], Some, length, arith}
+use Rattle.std.proofs.Common.{◌≡◌, ◌-◌, Some, length, arith}
 use Rattle.std.specs.Prelude.{slice_get}
 use Rattle.sedre.specs.declared.types.Node.TheVariants.{Alt}
-use Rattle.sedmarks.proofs.AheadLemmas.{alternatives_before}
+use Rattle.sedmarks.proofs.NodeLemmas.{alternatives_before}
 use Rattle.sedneedles.proofs.RareLemmas.{second_alternatives}
 use Rattle.sedneedles.proofs.rare.second_of_two.Goals as goal
 
 pub second_set-requires : goal.second_set-requires
 second_set-requires c =
     let is : slice_get c.args.expr.now.nodes c.index-root.result ≡ Some (Alt c.in-Alt.a c.in-Alt.b) = cc in
-    let before = alternatives_before c.args.expr.now.nodes c.root.ensures.arena [] c.index-root.result 0 c.in-Alt.a c.in-Alt.b is in
+    let before = alternatives_before c.args.expr.now.nodes c.root.ensures.arena c.index-root.result c.in-Alt.a c.in-Alt.b is in
     record { inside = omega (arith, before.0) }
 
 pub second_set-requires-in-Alt : goal.second_set-requires-in-Alt
 second_set-requires-in-Alt c =
     let is : slice_get c.args.expr.now.nodes c.index-root.result ≡ Some (Alt c.in-Alt.a c.in-Alt.b) = cc in
-    let before = alternatives_before c.args.expr.now.nodes c.root.ensures.arena [] c.index-root.result 0 c.in-Alt.a c.in-Alt.b is in
+    let before = alternatives_before c.args.expr.now.nodes c.root.ensures.arena c.index-root.result c.in-Alt.a c.in-Alt.b is in
     record { inside = omega (arith, before.1) }
 
 pub returns-in_ok-few-in-Alt-clause-second : goal.returns-in_ok-few-in-Alt-clause-second

@@ -1,6 +1,6 @@
 use Rattle.std.proofs.Common.{ℕ, ◌+◌, ◌-◌, ◌<◌, ◌≤◌, length}
 use Rattle.sedre.specs.Steps.{TakesAtLeast}
-use Rattle.sedmarks.specs.RunsAhead.{Repeated}
+use Rattle.sedmarks.specs.Runs.{Repeated}
 use Rattle.sedneedles.proofs.times.find_times.Given as goal
 
 abbrev pub invariant-loop-start : goal.invariant-loop-start

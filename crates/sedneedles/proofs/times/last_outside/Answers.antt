@@ -1,7 +1,7 @@
 use Rattle.std.proofs.Common.{◌≡◌, ◌-◌, subst, arith}
 use Rattle.sedre.specs.Steps.{TakesAtLeast}
 use Rattle.sedmarks.specs.Spans.{no_copy}
-use Rattle.sedmarks.specs.RunsAhead.{Repeated}
+use Rattle.sedmarks.specs.Runs.{Repeated}
 use Rattle.sedneedles.proofs.CountLemmas.{least_none, least_one}
 use Rattle.sedneedles.proofs.TimesLemmas.{repeated_more}
 use Rattle.sedneedles.proofs.times.last_outside.Goals as goal

@@ -83,8 +83,8 @@ returns-clause-report c = λ all.
     let empty : c.all.room.tasks.items ≡ [] = nil_from_length c.all.room.tasks.items (omega (arith, c.in_default.ensures.cases, c.all.room.tasks.ok)) in
     let run = c.all.invariant.run s (subst (λ ts. Runs (nodes_in c.args.subject) (text_in c.args.subject) ts s s) (sym (ap reverse empty)) refl) in
     let p = c.args.subject.prepared.now in
-    decides p.expr (text_in c.args.subject) p.root c.args.start c.args.stop (told_of c.args.due (undecided c.args.start c.args.stop)) s p.is_prepared.last
-    (starts_due (tree p.expr) c.args.start c.args.stop c.args.due c.requires.whole all) run
+    decides p.arena.expr (text_in c.args.subject) p.root c.args.start c.args.stop (told_of c.args.due (undecided c.args.start c.args.stop)) s p.is_prepared.last
+    (starts_due (tree p.arena.expr) c.args.start c.args.stop c.args.due c.requires.whole all) run
 
 pub returns-clause-due : goal.returns-clause-due
 returns-clause-due c = λ groups k report is.
@@ -92,7 +92,7 @@ returns-clause-due c = λ groups k report is.
     let empty : c.all.room.tasks.items ≡ [] = nil_from_length c.all.room.tasks.items (omega (arith, c.in_default.ensures.cases, c.all.room.tasks.ok)) in
     let run = c.all.invariant.run s (subst (λ ts. Runs (nodes_in c.args.subject) (text_in c.args.subject) ts s s) (sym (ap reverse empty)) refl) in
     let p = c.args.subject.prepared.now in
-    decides_due p.expr (text_in c.args.subject) p.root c.args.start c.args.stop k c.args.due s groups p.is_prepared.last c.requires.whole run report is
+    decides_due p.arena.expr (text_in c.args.subject) p.root c.args.start c.args.stop k c.args.due s groups p.is_prepared.last c.requires.whole run report is
 
 pub returns-clause-cost : goal.returns-clause-cost
 returns-clause-cost c =

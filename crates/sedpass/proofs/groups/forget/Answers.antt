@@ -9,7 +9,7 @@ use Rattle.sedpass.proofs.groups.forget.Goals as goal
 pub returns-clause-told : goal.returns-clause-told
 returns-clause-told c =
     let t = c.args.told.now in
-    let nodes = c.args.prepared.now.expr.nodes in
+    let nodes = c.args.prepared.now.arena.expr.nodes in
     let state = dropped nodes c.args.x c.facts_at.result t.due c.without-told.result t.spans c.facts_at.ensures c.requires.told.whole c.requires.told.blank c.without-told.ensures in
     record {
       blank = subst Blank (sym state) (drop_blank (tree_at nodes c.args.x) (told_of t.due t.spans) c.requires.told.blank);
@@ -19,4 +19,4 @@ returns-clause-told c =
 pub returns-clause-state : goal.returns-clause-state
 returns-clause-state c =
     let t = c.args.told.now in
-    dropped c.args.prepared.now.expr.nodes c.args.x c.facts_at.result t.due c.without-told.result t.spans c.facts_at.ensures c.requires.told.whole c.requires.told.blank c.without-told.ensures
+    dropped c.args.prepared.now.arena.expr.nodes c.args.x c.facts_at.result t.due c.without-told.result t.spans c.facts_at.ensures c.requires.told.whole c.requires.told.blank c.without-told.ensures

@@ -19,4 +19,4 @@ invariant-nodes l = record {
 }
 
 abbrev pub decreases-nodes : goal.decreases-nodes
-decreases-nodes l = weights l.subject.prepared.now.expr.nodes (waiting l.at l.room.tasks.items)
+decreases-nodes l = weights l.subject.prepared.now.arena.expr.nodes (waiting l.at l.room.tasks.items)

@@ -9,7 +9,7 @@ use Rattle.sedpass.proofs.occurrences.next_after.Goals as goal
 
 pub returns-then-not-is_null_at-clause-next : goal.returns-then-not-is_null_at-clause-next
 returns-then-not-is_null_at-clause-next c =
-    let e = tree c.args.subject.prepared.now.expr in
+    let e = tree c.args.subject.prepared.now.arena.expr in
     let w = c.args.subject.text.now in
     let first = c.next_match-first.result in
     let other : Option (ℕ × ℕ) = if nat_lt c.args.at (length w) then found e w (c.args.at + 1) else None in
@@ -19,15 +19,15 @@ pub returns-then-not-is_null_at-clause-lies : goal.returns-then-not-is_null_at-c
 returns-then-not-is_null_at-clause-lies c =
     let w = c.args.subject.text.now in
     let first = c.next_match-first.result in
-    lies_behind (length w) c.args.at first (answer_lies (tree c.args.subject.prepared.now.expr) w c.args.at first c.next_match-first.ensures.answer) (c.is_null_at.ensures.after (cc))
+    lies_behind (length w) c.args.at first (answer_lies (tree c.args.subject.prepared.now.arena.expr) w c.args.at first c.next_match-first.ensures.answer) (c.is_null_at.ensures.after (cc))
 
 pub returns-then-not-is_null_at-clause-cost : goal.returns-then-not-is_null_at-clause-cost
 returns-then-not-is_null_at-clause-cost c =
-    let m = length c.args.subject.prepared.now.expr.nodes in
+    let m = length c.args.subject.prepared.now.arena.expr.nodes in
     let w = c.args.subject.text.now in
     let n = length w in
     let first = c.next_match-first.result in
-    let lies = lies_behind n c.args.at first (answer_lies (tree c.args.subject.prepared.now.expr) w c.args.at first c.next_match-first.ensures.answer) (c.is_null_at.ensures.after (cc)) in
+    let lies = lies_behind n c.args.at first (answer_lies (tree c.args.subject.prepared.now.arena.expr) w c.args.at first c.next_match-first.ensures.answer) (c.is_null_at.ensures.after (cc)) in
     let cost = c.next_match-first.ensures.cost in (
       cost.0,
       behind_paid m n c.args.at (owed_search m n c.args.seeking.now c.args.at) c.args.steps.now c.next_match-first.new.steps (owed_search m n c.next_match-first.new.seeking) first c.requires.at lies
@@ -38,12 +38,12 @@ pub returns-then-not-is_null_at-clause-once : goal.returns-then-not-is_null_at-c
 returns-then-not-is_null_at-clause-once c =
     let last = c.args.subject.prepared.now.is_prepared.last in
     let each = c.next_match-first.ensures.each in
-    let most = one_square (length c.args.subject.prepared.now.expr.nodes) (length c.args.subject.text.now) c.args.at (omega (arith, last)) in
+    let most = one_square (length c.args.subject.prepared.now.arena.expr.nodes) (length c.args.subject.text.now) c.args.at (omega (arith, last)) in
     (each.0, omega (arith, each.1, most))
 
 pub returns-clause-next : goal.returns-clause-next
 returns-clause-next c =
-    let e = tree c.args.subject.prepared.now.expr in
+    let e = tree c.args.subject.prepared.now.arena.expr in
     let w = c.args.subject.text.now in
     let first = c.next_match-first.result in
     let other : Option (ℕ × ℕ) = if nat_lt c.args.at (length w) then found e w (c.args.at + 1) else None in
@@ -55,7 +55,7 @@ returns-clause-lies c = lies_further (length c.args.subject.text.now) c.args.at 
 
 pub returns-clause-cost : goal.returns-clause-cost
 returns-clause-cost c =
-    let m = length c.args.subject.prepared.now.expr.nodes in
+    let m = length c.args.subject.prepared.now.arena.expr.nodes in
     let n = length c.args.subject.text.now in
     let at = c.args.at in
     let old = c.args.seeking.now in
@@ -74,7 +74,7 @@ returns-clause-once c =
     let last = c.args.subject.prepared.now.is_prepared.last in
     let one = c.next_match-first.ensures.each in
     let two = c.past_null.ensures.once in
-    let most = both_square (length c.args.subject.prepared.now.expr.nodes) (length c.args.subject.text.now) c.args.at (omega (arith, last)) c.requires.at in
+    let most = both_square (length c.args.subject.prepared.now.arena.expr.nodes) (length c.args.subject.text.now) c.args.at (omega (arith, last)) c.requires.at in
     (omega (arith, one.0, two.0), omega (arith, one.1, two.1, most))
 
 pub returns-clause-counts : goal.returns-clause-counts

@@ -24,7 +24,7 @@ loop-x-init c = record {
 
 pub loop-x-preserved : goal.loop-x-preserved
 loop-x-preserved c =
-    let e = c.args.prepared.now.expr in
+    let e = c.args.prepared.now.arena.expr in
     let nodes = nodes_of c.args.way e in
     let x = c.loop-x.x in
     let node = c.look-node.result in

@@ -1,7 +1,7 @@
 use Rattle.std.proofs.Common.{◌≡◌, ℕ, ◌+◌, ◌-◌, ◌*◌, ◌≤◌, List}
 use Rattle.sedre.specs.Steps.{TakesAtLeast}
 use Rattle.sedmarks.specs.Reach.{Marked, Ends}
-use Rattle.sedmarks.specs.declared.passes.Starts.{Starts}
+use Rattle.sedmarks.specs.declared.starts.Starts.{Starts}
 use Rattle.sedpass.specs.Prepared.{null_in}
 use Rattle.sedpass.specs.Rows.{nodes_of, AreNull, TellTook, TreeBelow}
 use Rattle.sedpass.proofs.rows.ascend.Given as goal
@@ -13,7 +13,7 @@ invariant-loop-x l = record {
   cost : l.steps + 5 * l.low ≤ l.initial.steps + 5 * l.x;
   counts : TakesAtLeast l.initial.steps l.steps (2 * (l.x - l.low));
   kept : l.work.leaves ≡ l.initial.work.leaves;
-  ended : (w : List ℕ) (s : Starts) (place : ℕ) → AreNull (nodes_of l.way l.prepared.expr) w place (null_in l.prepared.expr.nodes l.kind) →
-      TellTook (nodes_of l.way l.prepared.expr) w l.root s place l.byte l.initial.work.leaves →
-      Marked l.work.ended (TreeBelow (nodes_of l.way l.prepared.expr) l.root l.x) (λ c. Ends (nodes_of l.way l.prepared.expr) w l.root s c place);
+  ended : (w : List ℕ) (s : Starts) (place : ℕ) → AreNull (nodes_of l.way l.prepared.arena.expr) w place (null_in l.prepared.arena.expr.nodes l.kind) →
+      TellTook (nodes_of l.way l.prepared.arena.expr) w l.root s place l.byte l.initial.work.leaves →
+      Marked l.work.ended (TreeBelow (nodes_of l.way l.prepared.arena.expr) l.root l.x) (λ c. Ends (nodes_of l.way l.prepared.arena.expr) w l.root s c place);
 }

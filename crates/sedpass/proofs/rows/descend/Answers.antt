@@ -12,7 +12,7 @@ use Rattle.sedpass.proofs.rows.descend.Goals as goal
 
 pub loop-x-init : goal.loop-x-init
 loop-x-init c =
-    let e = c.args.prepared.now.expr in
+    let e = c.args.prepared.now.arena.expr in
     let m = length e.nodes in
     let nodes = nodes_of c.args.way e in
     let arena = seen-arena c.args.way.mirrored e c.nodes-nodes.ensures.expr.arena in
@@ -29,7 +29,7 @@ loop-x-init c =
 
 pub loop-x-preserved : goal.loop-x-preserved
 loop-x-preserved c =
-    let e = c.args.prepared.now.expr in
+    let e = c.args.prepared.now.arena.expr in
     let m = length e.nodes in
     let nodes = nodes_of c.args.way e in
     let r = c.args.root in
@@ -83,7 +83,7 @@ loop-x-preserved c =
 
 pub returns-clause-row : goal.returns-clause-row
 returns-clause-row c w s place nulls ended begins =
-    let e = c.args.prepared.now.expr in
+    let e = c.args.prepared.now.arena.expr in
     let m = length e.nodes in
     row_done (nodes_of c.args.way e) w c.args.root place s c.args.way.keeps c.loop-x.x (bits m c.loop-x.work.leaves) (bits m c.loop-x.work.ends)
     (λ n there. let from = ((c.low-low.ensures.range c.args.way.mirrored n).1 there).0 in omega arith)
@@ -91,7 +91,7 @@ returns-clause-row c w s place nulls ended begins =
 
 pub returns-clause-counts : goal.returns-clause-counts
 returns-clause-counts c =
-    let m = length c.args.prepared.now.expr.nodes in
+    let m = length c.args.prepared.now.arena.expr.nodes in
     let first : c.nodes-nodes.result ≡ m = c.nodes-nodes.ensures.value in
     least_after c.args.steps.now c.clear.new.steps c.clear-2.new.steps c.set.new.steps c.loop-x.steps c.nodes-nodes.result (6 * (c.args.root + 1 - c.loop-x.x)) _
     c.clear.ensures.counts c.clear-2.ensures.counts (omega arith) c.loop-x.invariant.counts (omega arith)

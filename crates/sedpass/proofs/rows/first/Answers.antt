@@ -7,7 +7,7 @@ use Rattle.sedpass.proofs.rows.first.Goals as goal
 
 pub returns-clause-first : goal.returns-clause-first
 returns-clause-first c w s there some =
-    let e = c.args.prepared.now.expr in
+    let e = c.args.prepared.now.arena.expr in
     let way = c.args.way in
     let nulls = null_tells way.mirrored e c.args.kind w s.first there in
     c.descend.ensures.row w s s.first nulls (c.ascend.ensures.ended w s s.first nulls (first_bits (nodes_of way e) w c.args.root s c.args.work.now.leaves)) (λ h. (omega arith, some), λ h. refl)

@@ -10,7 +10,7 @@ use Rattle.sedpass.proofs.rows.step.Goals as goal
 
 pub returns-clause-leads : goal.returns-clause-leads
 returns-clause-leads c before w s p bytes is_end is_start row =
-    let e = c.args.prepared.now.expr in
+    let e = c.args.prepared.now.arena.expr in
     let way = c.args.way in
     let kind = c.edge_kind-kind.result in
     let begin = c.edge_kind-kind.ensures.begin in
@@ -24,7 +24,7 @@ returns-clause-leads c before w s p bytes is_end is_start row =
 
 pub returns-clause-anywhere : goal.returns-clause-anywhere
 returns-clause-anywhere c same end before w s p bytes is_end is_start row =
-    let e = c.args.prepared.now.expr in
+    let e = c.args.prepared.now.arena.expr in
     let way = c.args.way in
     let there : IsPlace w (p + 1) false end = ((λ h. absurd (true≢false (sym h)), λ at. absurd (omega arith)), is_end) in
     let nulls = null_anywhere way.mirrored e c.edge_kind-kind.result same w (p + 1) false end there in

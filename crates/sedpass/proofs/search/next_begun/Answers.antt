@@ -5,7 +5,7 @@ use Rattle.sedpass.proofs.search.next_begun.Goals as goal
 
 pub returns-clause-cost : goal.returns-clause-cost
 returns-clause-cost c =
-    let m = length c.args.subject.prepared.now.expr.nodes in
+    let m = length c.args.subject.prepared.now.arena.expr.nodes in
     let from = c.args.from in
     let o = owed m c.begin.new.self.region from in
     let begins : o ≤ 100 * m * (length c.args.subject.text.now - from) = subst (λ n. o ≤ 100 * m * (n - from)) c.len-length.ensures.is (c.begin.ensures.owed from (omega (arith, c.len-length.ensures.is, c.requires.from))) in

@@ -41,7 +41,7 @@ returns-clause-next c =
 
 pub returns-clause-cost : goal.returns-clause-cost
 returns-clause-cost c =
-    let m = length c.args.subject.prepared.now.expr.nodes in
+    let m = length c.args.subject.prepared.now.arena.expr.nodes in
     let n = length c.args.subject.text.now in
     let region = c.requires.kept.region in
     let last = c.args.subject.prepared.now.is_prepared.last in
@@ -63,6 +63,6 @@ returns-then-not-begins_there-clause-cost c =
     let seek = c.seek-start.ensures.cost in
     let null = c.begins_there.ensures.cost in (
       omega (arith, seek, null),
-      none_cost (length c.args.subject.prepared.now.expr.nodes) (length c.args.subject.text.now) c.args.from c.seek-start.result c.args.steps.now c.seek-start.new.steps c.begins_there.new.steps _ _ (omega (arith, last))
+      none_cost (length c.args.subject.prepared.now.arena.expr.nodes) (length c.args.subject.text.now) c.args.from c.seek-start.result c.args.steps.now c.seek-start.new.steps c.begins_there.new.steps _ _ (omega (arith, last))
           c.seek-start.ensures.after (omega (arith, within, region.inside)) seek.1 null.1,
     )

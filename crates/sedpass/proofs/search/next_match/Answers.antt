@@ -7,7 +7,7 @@ use Rattle.sedpass.proofs.search.next_match.Goals as goal
 
 pub returns-then-seeking-clause-each : goal.returns-then-seeking-clause-each
 returns-then-seeking-clause-each c =
-    let m = length c.args.subject.prepared.now.expr.nodes in
+    let m = length c.args.subject.prepared.now.arena.expr.nodes in
     let n = length c.args.subject.text.now in
     let region = c.args.seeking.now.kept.region in
     let kept = c.requires.serves.kept c.if-seeking.true in
@@ -17,15 +17,15 @@ returns-then-seeking-clause-each c =
 pub returns-in-Hit-clause-answer : goal.returns-in-Hit-clause-answer
 returns-in-Hit-clause-answer c =
     let answer = c.in-Hit.ensures.answer in
-    (answer.0, tt, (Spans-forward (tree c.args.subject.prepared.now.expr) c.args.subject.text.now c.in-Hit.start c.in-Hit.end answer.0.spans, answer.1))
+    (answer.0, tt, (Spans-forward (tree c.args.subject.prepared.now.arena.expr) c.args.subject.text.now c.in-Hit.start c.in-Hit.end answer.0.spans, answer.1))
 
 pub returns-in-Hit-clause-cost : goal.returns-in-Hit-clause-cost
 returns-in-Hit-clause-cost c =
-    let m = length c.args.subject.prepared.now.expr.nodes in
+    let m = length c.args.subject.prepared.now.arena.expr.nodes in
     let n = length c.args.subject.text.now in
     let last = c.args.subject.prepared.now.is_prepared.last in
     let answer = c.in-Hit.ensures.answer in
-    let on = Spans-forward (tree c.args.subject.prepared.now.expr) c.args.subject.text.now c.in-Hit.start c.in-Hit.end answer.0.spans in
+    let on = Spans-forward (tree c.args.subject.prepared.now.arena.expr) c.args.subject.text.now c.in-Hit.start c.in-Hit.end answer.0.spans in
     let begun : c.args.seeking.now.begun ≡ false = cc in
     let few = c.in-Hit.ensures.few in
     let low : c.args.seeking.now.tried ≤ n = omega (arith, c.if-seeking-len.false, c.len.ensures.is) in
@@ -37,20 +37,20 @@ returns-in-Hit-clause-cost c =
 
 pub returns-in-Hit-clause-each : goal.returns-in-Hit-clause-each
 returns-in-Hit-clause-each c =
-    let m = length c.args.subject.prepared.now.expr.nodes in
+    let m = length c.args.subject.prepared.now.arena.expr.nodes in
     let n = length c.args.subject.text.now in
     let i = c.in-Hit.start in
     let j = c.in-Hit.end in
     let last = c.args.subject.prepared.now.is_prepared.last in
     let answer = c.in-Hit.ensures.answer in
-    let on = Spans-forward (tree c.args.subject.prepared.now.expr) c.args.subject.text.now i j answer.0.spans in (
+    let on = Spans-forward (tree c.args.subject.prepared.now.arena.expr) c.args.subject.text.now i j answer.0.spans in (
       c.in-Hit.ensures.cost.0,
       hit_each m n c.args.from i j c.args.seeking.now.tried c.try_all.new.tried c.args.steps.now c.try_all.new.steps (omega (arith, last)) answer.0.after on answer.1 c.in-Hit.ensures.few c.in-Hit.ensures.cost.1,
     )
 
 pub returns-in-Nothing-clause-cost : goal.returns-in-Nothing-clause-cost
 returns-in-Nothing-clause-cost c =
-    let m = length c.args.subject.prepared.now.expr.nodes in
+    let m = length c.args.subject.prepared.now.arena.expr.nodes in
     let n = length c.args.subject.text.now in
     let last = c.args.subject.prepared.now.is_prepared.last in
     let begun : c.args.seeking.now.begun ≡ false = cc in
@@ -62,7 +62,7 @@ returns-in-Nothing-clause-cost c =
 
 pub returns-in-Nothing-clause-each : goal.returns-in-Nothing-clause-each
 returns-in-Nothing-clause-each c =
-    let m = length c.args.subject.prepared.now.expr.nodes in
+    let m = length c.args.subject.prepared.now.arena.expr.nodes in
     let n = length c.args.subject.text.now in
     let last = c.args.subject.prepared.now.is_prepared.last in (
       c.in-Nothing.ensures.cost.0,
@@ -72,11 +72,11 @@ returns-in-Nothing-clause-each c =
 pub returns-in-Tired-clause-answer : goal.returns-in-Tired-clause-answer
 returns-in-Tired-clause-answer c =
     let answer = c.in-Tired.ensures.answer in
-    later_answer (tree c.args.subject.prepared.now.expr) c.args.subject.text.now c.args.from c.in-Tired.start c.next_begun-in-Tired.result (omega (arith, answer.0)) answer.2 c.next_begun-in-Tired.ensures.next.answer
+    later_answer (tree c.args.subject.prepared.now.arena.expr) c.args.subject.text.now c.args.from c.in-Tired.start c.next_begun-in-Tired.result (omega (arith, answer.0)) answer.2 c.next_begun-in-Tired.ensures.next.answer
 
 pub returns-in-Tired-clause-cost : goal.returns-in-Tired-clause-cost
 returns-in-Tired-clause-cost c =
-    let m = length c.args.subject.prepared.now.expr.nodes in
+    let m = length c.args.subject.prepared.now.arena.expr.nodes in
     let n = length c.args.subject.text.now in
     let last = c.args.subject.prepared.now.is_prepared.last in
     let answer = c.in-Tired.ensures.answer in
@@ -92,7 +92,7 @@ returns-in-Tired-clause-cost c =
 
 pub returns-in-Tired-clause-each : goal.returns-in-Tired-clause-each
 returns-in-Tired-clause-each c =
-    let m = length c.args.subject.prepared.now.expr.nodes in
+    let m = length c.args.subject.prepared.now.arena.expr.nodes in
     let n = length c.args.subject.text.now in
     let last = c.args.subject.prepared.now.is_prepared.last in
     let answer = c.in-Tired.ensures.answer in

@@ -9,7 +9,7 @@ use Rattle.sedpass.proofs.search.try_all.Goals as goal
 
 pub returns-in-Some-end-clause-answer : goal.returns-in-Some-end-clause-answer
 returns-in-Some-end-clause-answer c =
-    let e = c.args.subject.prepared.now.expr in
+    let e = c.args.subject.prepared.now.arena.expr in
     let w = c.args.subject.text.now in
     let t = c.in-Some.trial in
     let is = c.in-Some.ensures.trial in
@@ -21,7 +21,7 @@ returns-in-Some-end-clause-answer c =
 
 pub returns-in-Some-end-clause-few : goal.returns-in-Some-end-clause-few
 returns-in-Some-end-clause-few c =
-    let e = c.args.subject.prepared.now.expr in
+    let e = c.args.subject.prepared.now.arena.expr in
     let w = c.args.subject.text.now in
     let t = c.in-Some.trial in
     let is = c.in-Some.ensures.trial in
@@ -32,7 +32,7 @@ returns-in-Some-end-clause-few c =
 
 pub returns-in-Some-end-clause-cost : goal.returns-in-Some-end-clause-cost
 returns-in-Some-end-clause-cost c =
-    let e = c.args.subject.prepared.now.expr in
+    let e = c.args.subject.prepared.now.arena.expr in
     let w = c.args.subject.text.now in
     let t = c.in-Some.trial in
     let is = c.in-Some.ensures.trial in
@@ -48,7 +48,7 @@ returns-in-Some-end-clause-cost c =
 
 pub returns-then-tried-length-clause-answer : goal.returns-then-tried-length-clause-answer
 returns-then-tried-length-clause-answer c =
-    let e = c.args.subject.prepared.now.expr in
+    let e = c.args.subject.prepared.now.arena.expr in
     let w = c.args.subject.text.now in
     let t = c.in-Some.trial in
     let is = c.in-Some.ensures.trial in

@@ -1,5 +1,5 @@
 use Rattle.std.proofs.Common.{◌+◌, ◌-◌, ◌*◌, ◌/◌, ◌≤◌, max, length}
-use Rattle.sedmarks.specs.Search.{NoneIn}
+use Rattle.sedmarks.specs.Beginnings.{NoneIn}
 use Rattle.sedre.specs.Arena.{tree}
 use Rattle.sedpass.specs.Table.{IsAhead, SameShape}
 use Rattle.sedpass.proofs.search.try_all.Given as goal
@@ -8,13 +8,13 @@ abbrev pub invariant-loop-start : goal.invariant-loop-start
 invariant-loop-start l = record {
   ahead : IsAhead l.subject.prepared.now l.ahead;
   ahead_shape : SameShape l.initial.ahead l.ahead;
-  none : NoneIn (tree l.subject.prepared.now.expr) l.subject.text.now l.from l.start;
+  none : NoneIn (tree l.subject.prepared.now.arena.expr) l.subject.text.now l.from l.start;
   after : l.from ≤ l.start;
   within : l.start ≤ length l.subject.text.now + 1;
   few : l.tried ≤ max l.initial.tried (length l.subject.text.now / 8);
   grows : l.initial.steps ≤ l.steps;
-  cost : l.steps + (40 * length l.subject.prepared.now.expr.nodes * l.initial.tried + l.from)
-      ≤ l.initial.steps + (40 * length l.subject.prepared.now.expr.nodes * l.tried + l.start);
+  cost : l.steps + (40 * length l.subject.prepared.now.arena.expr.nodes * l.initial.tried + l.from)
+      ≤ l.initial.steps + (40 * length l.subject.prepared.now.arena.expr.nodes * l.tried + l.start);
 }
 
 abbrev pub decreases-loop-start : goal.decreases-loop-start

@@ -1,4 +1,4 @@
-use Rattle.std.proofs.Common.{◌≡◌, ◌<◌, ◌∙◌, false, length, sym, ap, arith}
+use Rattle.std.proofs.Common.{◌∙◌, false, length, sym, ap, arith}
 use Rattle.std.specs.Prelude.{slice_index_or}
 use Rattle.sedmarks.proofs.WordLemmas.{length-marks_of, mark_bit}
 use Rattle.sedmarks.proofs.counted.Marks.is_clear.Goals as goal

@@ -1,4 +1,4 @@
-use Rattle.std.proofs.Common.{◌≡◌, ℕ, ◌*◌, ◌<◌}
+use Rattle.std.proofs.Common.{ℕ, ◌*◌, ◌<◌}
 use Rattle.sedmarks.proofs.BitLemmas.{Meet}
 use Rattle.sedmarks.proofs.counted.rows.words_meet.Given as goal
 

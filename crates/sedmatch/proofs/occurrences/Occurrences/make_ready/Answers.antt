@@ -43,7 +43,7 @@ returns-clause-used c = record {
     table_there c.args.prepared.now (length c.args.text.now) c.args.self.now c.fit_first.new.tables c.own_table-at.result c.requires.room c.own_table-at.ensures.own c.fit_first.ensures.others c.fit_first.ensures.first,
     λ t at.
         let same : c.index.result.now ≡ t = c.index.ensures ∙ get_or_from_slice_get c.fit_first.new.tables.all.items c.own_table-at.result t c.index.result.now at in
-        subst (λ v. (q : Prepared) → q.expr ≡ c.args.prepared.now.expr → SearchServes q c.args.text.now v c.begin_text.new.seeking) same
-        (serves_each c.args.prepared.now c.args.prepared.now.expr c.args.text.now c.index.result.now c.begin_text.new.seeking refl c.begin_text.ensures.serves),
+        subst (λ v. (q : Prepared) → q.arena.expr ≡ c.args.prepared.now.arena.expr → SearchServes q c.args.text.now v c.begin_text.new.seeking) same
+        (serves_each c.args.prepared.now c.args.prepared.now.arena.expr c.args.text.now c.index.result.now c.begin_text.new.seeking refl c.begin_text.ensures.serves),
   );
 }

@@ -9,6 +9,6 @@ pub returns-in-Passes-clause-before : goal.returns-in-Passes-clause-before
 returns-in-Passes-clause-before c =
     let inv = subst IsEngine c.in-Passes.is c.self.invariant in
     let value = c.deref.ensures in
-    let is : c.deref.result.now.sought.prepared.expr ≡ c.args.self.now = ap (λ (x : Passes). x.sought.prepared.expr) value ∙ sym (ap written_of c.in-Passes.is) ∙ c.self.view_is in
-    let are = subst (λ (x : Passes). ArePasses x.sought.prepared.expr x) (sym value) inv in
-    subst (λ v. NoMatchBefore (tree v) c.args.text.now c.needed_candidate.result) is (c.needed_candidate.ensures.before (tree c.deref.result.now.sought.prepared.expr) are.0.hints.0)
+    let is : c.deref.result.now.sought.prepared.arena.expr ≡ c.args.self.now = ap (λ (x : Passes). x.sought.prepared.arena.expr) value ∙ sym (ap written_of c.in-Passes.is) ∙ c.self.view_is in
+    let are = subst (λ (x : Passes). ArePasses x.sought.prepared.arena.expr x) (sym value) inv in
+    subst (λ v. NoMatchBefore (tree v) c.args.text.now c.needed_candidate.result) is (c.needed_candidate.ensures.before (tree c.deref.result.now.sought.prepared.arena.expr) are.0.hints.0)

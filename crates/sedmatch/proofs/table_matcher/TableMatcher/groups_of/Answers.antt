@@ -1,4 +1,4 @@
-use Rattle.std.proofs.Common.{◌≡◌, ◌∙◌, ◌+◌, ◌-◌, ◌*◌, length, ap, subst, sym, arith}
+use Rattle.std.proofs.Common.{◌≡◌, ◌∙◌, ◌+◌, ◌-◌, ◌*◌, length, ap, refl, subst, sym, arith}
 use Rattle.sedre.specs.Arena.{tree}
 use Rattle.sedre.specs.Steps.{Takes, TakesAtLeast}
 use Rattle.sedre.specs.Arena.{IsExpr}
@@ -10,6 +10,7 @@ use Rattle.sedmatch.specs.Passes.{IsEngine, written_of}
 use Rattle.sedmatch.specs.declared.passes.Passes.{Passes}
 use Rattle.sedmatch.proofs.MatcherLemmas.{direct_is, groups_within, written_is}
 use Rattle.sedmatch.proofs.PassLemmas.{one_alone}
+use Rattle.sedmatch.proofs.OnceLemmas.{once_still}
 use Rattle.sedmatch.proofs.table_matcher.TableMatcher.groups_of.Goals as goal
 use Rattle.sedmatch.proofs.table_matcher.TableMatcher.groups_of.Goals.{in-Direct, in-Passes}
 
@@ -25,7 +26,7 @@ reported c =
       | in-Passes w ↦
           let inv = subst IsEngine w.in-Passes.is c.self.invariant in
           let value = w.deref_mut.ensures.value in
-          let is : w.deref_mut.result.now.sought.prepared.expr ≡ c.args.self.now = ap (λ (x : Passes). x.sought.prepared.expr) value ∙ sym (ap written_of w.in-Passes.is) ∙ c.self.view_is in
+          let is : w.deref_mut.result.now.sought.prepared.arena.expr ≡ c.args.self.now = ap (λ (x : Passes). x.sought.prepared.arena.expr) value ∙ sym (ap written_of w.in-Passes.is) ∙ c.self.view_is in
           subst (IsReport (tree c.args.self.now) t c.args.start c.args.end) (sym w.result-is) (subst (λ v. IsReport (tree v) t c.args.start c.args.end w.groups_by.result) is w.groups_by.ensures.report)
     ]
 
@@ -45,7 +46,7 @@ returns-clause-cost c =
       | in-Passes w ↦
           let inv = subst IsEngine w.in-Passes.is c.self.invariant in
           let value = w.deref_mut.ensures.value in
-          let is : w.deref_mut.result.now.sought.prepared.expr ≡ c.args.self.now = ap (λ (x : Passes). x.sought.prepared.expr) value ∙ sym (ap written_of w.in-Passes.is) ∙ c.self.view_is in
+          let is : w.deref_mut.result.now.sought.prepared.arena.expr ≡ c.args.self.now = ap (λ (x : Passes). x.sought.prepared.arena.expr) value ∙ sym (ap written_of w.in-Passes.is) ∙ c.self.view_is in
           let cost = subst (λ v. Takes s w.groups_by.new.steps (172 * length v.nodes * (length v.nodes - 1) * (c.args.end - c.args.start) + 2 * length v.nodes)) is w.groups_by.ensures.cost in
           let last = w.deref_mut.result.now.sought.prepared.is_prepared.last in
           let some = ap (λ v. length v.nodes) is in
@@ -59,3 +60,8 @@ returns-clause-counts c =
       | in-Direct w ↦ subst (λ v. TakesAtLeast c.args.steps.now v (found c.match-self.result - 1)) (sym w.steps-is) (subst (λ r. TakesAtLeast c.args.steps.now c.args.steps.now (found r - 1)) (sym w.result-is) (one_alone c.args.steps.now (found w.whole_alone.result) w.whole_alone.ensures.one))
       | in-Passes w ↦ subst (λ v. TakesAtLeast c.args.steps.now v (found c.match-self.result - 1)) (sym w.steps-is) (subst (λ r. TakesAtLeast c.args.steps.now w.groups_by.new.steps (found r - 1)) (sym w.result-is) w.groups_by.ensures.counts)
     ]
+
+pub invariant_of-scratch : goal.invariant_of-scratch
+invariant_of-scratch c =
+    let old = c.scratch.invariant.1 in
+    (c.groups_by.ensures.desk, once_still c.scratch.inside.desk c.groups_by.new.desk c.scratch.inside.once c.scratch.inside.once.back c.groups_by.ensures.most old old.back (refl, refl, refl, refl))

@@ -1,4 +1,4 @@
-use Rattle.std.proofs.Common.{◌≡◌, ◌∙◌, ◌+◌, ◌*◌, length, IfSome, ap, subst, sym, arith}
+use Rattle.std.proofs.Common.{◌≡◌, ◌∙◌, ◌+◌, ◌*◌, length, IfSome, ap, refl, subst, sym, arith}
 use Rattle.sedre.specs.Arena.{tree}
 use Rattle.sedre.specs.Steps.{Takes}
 use Rattle.sedmarks.specs.Costs.{Pays}
@@ -8,6 +8,7 @@ use Rattle.sedmatch.specs.Passes.{IsEngine, written_of}
 use Rattle.sedmatch.specs.declared.passes.Passes.{Passes}
 use Rattle.sedmatch.specs.Occurrences.{ServesOn, owed, owed_after}
 use Rattle.sedmatch.proofs.MatcherLemmas.{direct_is, direct_once, direct_owed, serves_same}
+use Rattle.sedmatch.proofs.OnceLemmas.{once_still}
 use Rattle.sedmatch.proofs.table_matcher.TableMatcher.next_occurrence.Goals as goal
 use Rattle.sedmatch.proofs.table_matcher.TableMatcher.next_occurrence.Goals.{in-Direct, in-Passes}
 
@@ -22,7 +23,7 @@ returns-clause-occurs c =
       | in-Passes w ↦
           let inv = subst IsEngine w.in-Passes.is c.self.invariant in
           let value = w.deref_mut.ensures.value in
-          let is : w.deref_mut.result.now.sought.prepared.expr ≡ c.args.self.now = ap (λ (x : Passes). x.sought.prepared.expr) value ∙ sym (ap written_of w.in-Passes.is) ∙ c.self.view_is in
+          let is : w.deref_mut.result.now.sought.prepared.arena.expr ≡ c.args.self.now = ap (λ (x : Passes). x.sought.prepared.arena.expr) value ∙ sym (ap written_of w.in-Passes.is) ∙ c.self.view_is in
           subst (λ r. IfSome r (Occurs (tree c.args.self.now) t c.args.last)) (sym w.result-is) (subst (λ v. IfSome w.next_by_passes.result (Occurs (tree v) t c.args.last)) is w.next_by_passes.ensures.occurs)
     ]
 
@@ -36,7 +37,7 @@ returns-clause-serves c =
       | in-Passes w ↦
           let inv = subst IsEngine w.in-Passes.is c.self.invariant in
           let value = w.deref_mut.ensures.value in
-          let is : w.deref_mut.result.now.sought.prepared.expr ≡ c.args.self.now = ap (λ (x : Passes). x.sought.prepared.expr) value ∙ sym (ap written_of w.in-Passes.is) ∙ c.self.view_is in
+          let is : w.deref_mut.result.now.sought.prepared.arena.expr ≡ c.args.self.now = ap (λ (x : Passes). x.sought.prepared.arena.expr) value ∙ sym (ap written_of w.in-Passes.is) ∙ c.self.view_is in
           subst (λ r. ServesOn c.args.self.now t r c.args.occurrences.now c.match-self.occurrences) (sym w.result-is)
           (subst (λ o. ServesOn c.args.self.now t w.next_by_passes.result c.args.occurrences.now o) (sym w.occurrences-is)
           (subst (λ v. ServesOn v t w.next_by_passes.result c.args.occurrences.now w.next_by_passes.new.occurrences) is w.next_by_passes.ensures.serves))
@@ -59,7 +60,7 @@ returns-clause-cost c =
       | in-Passes w ↦
           let inv = subst IsEngine w.in-Passes.is c.self.invariant in
           let value = w.deref_mut.ensures.value in
-          let is : w.deref_mut.result.now.sought.prepared.expr ≡ c.args.self.now = ap (λ (x : Passes). x.sought.prepared.expr) value ∙ sym (ap written_of w.in-Passes.is) ∙ c.self.view_is in
+          let is : w.deref_mut.result.now.sought.prepared.arena.expr ≡ c.args.self.now = ap (λ (x : Passes). x.sought.prepared.arena.expr) value ∙ sym (ap written_of w.in-Passes.is) ∙ c.self.view_is in
           subst (λ r. Pays s c.match-self.steps (owed m n c.args.last o) (owed_after m n r c.match-self.occurrences)) (sym w.result-is)
           (subst (λ v. Pays s v (owed m n c.args.last o) (owed_after m n w.next_by_passes.result c.match-self.occurrences)) (sym w.steps-is)
           (subst (λ v. Pays s w.next_by_passes.new.steps (owed m n c.args.last o) (owed_after m n w.next_by_passes.result v)) (sym w.occurrences-is)
@@ -80,7 +81,12 @@ returns-clause-once c =
       | in-Passes w ↦
           let inv = subst IsEngine w.in-Passes.is c.self.invariant in
           let value = w.deref_mut.ensures.value in
-          let is : w.deref_mut.result.now.sought.prepared.expr ≡ c.args.self.now = ap (λ (x : Passes). x.sought.prepared.expr) value ∙ sym (ap written_of w.in-Passes.is) ∙ c.self.view_is in
+          let is : w.deref_mut.result.now.sought.prepared.arena.expr ≡ c.args.self.now = ap (λ (x : Passes). x.sought.prepared.arena.expr) value ∙ sym (ap written_of w.in-Passes.is) ∙ c.self.view_is in
           subst (λ v. Takes s v (64 * m * m * (n + 1) * (n + 1))) (sym w.steps-is)
           (subst (λ v. Takes s w.next_by_passes.new.steps (64 * length v.nodes * length v.nodes * (n + 1) * (n + 1))) is w.next_by_passes.ensures.once)
     ]
+
+pub invariant_of-scratch : goal.invariant_of-scratch
+invariant_of-scratch c =
+    let old = c.scratch.invariant.1 in
+    (c.next_by_passes.ensures.desk, once_still c.scratch.inside.desk c.next_by_passes.new.desk c.scratch.inside.once c.scratch.inside.once.back c.next_by_passes.ensures.most old old.back (refl, refl, refl, refl))

@@ -39,7 +39,7 @@ pub loop-place-preserved : goal.loop-place-preserved
 loop-place-preserved c =
     let p = c.args.subject.prepared.now in
     let w = c.args.subject.text.now in
-    let m = length p.expr.nodes in
+    let m = length p.arena.expr.nodes in
     let before = c.loop-place.invariant in
     let ready = c.ready-to.ensures in
     let meet = c.meet-reached.ensures in
@@ -62,7 +62,7 @@ loop-place-preserved c =
       follows = on.0;
       meets = λ q after under.
           ⊎_elim (λ (lt : q < c.loop-place.place). before.meets q after lt)
-          (λ (ge : c.loop-place.place ≤ q). told_as (λ r t. Meets p.expr.nodes w r t c.args.a (one_start c.args.from) q) (length w) c.args.table.now c.ready-to.new.table _ c.ready-to.new.self shape same (on.1 q ge under))
+          (λ (ge : c.loop-place.place ≤ q). told_as (λ r t. Meets p.arena.expr.nodes w r t c.args.a (one_start c.args.from) q) (length w) c.args.table.now c.ready-to.new.table _ c.ready-to.new.self shape same (on.1 q ge under))
           (cases_lt q c.loop-place.place);
       grows = (let h = before.grows in let g = ready.cost.0 in let f = meet.cost.0 in omega (arith, h, g, f));
       cost = cut_on m (owed m c.args.self.now.region c.args.from) (owed m c.loop-place.self.region c.loop-place.place) (owed m c.ready-to.new.self.region c.loop-place.place) (owed m c.meet-reached.new.self.region reached)
@@ -87,9 +87,9 @@ returns-then-place-to-clause-ceases c =
       (let h = before.above in let g = meet.after in omega (arith, h, g)),
       λ q after below.
           ⊎_elim (λ (lt : q < c.loop-place.place). before.meets q after lt)
-          (λ (ge : c.loop-place.place ≤ q). told_as (λ r t. Meets p.expr.nodes w r t c.args.a (one_start c.args.from) q) (length w) c.args.table.now c.ready-to.new.table c.args.self.now c.ready-to.new.self shape same (on.1 q ge below))
+          (λ (ge : c.loop-place.place ≤ q). told_as (λ r t. Meets p.arena.expr.nodes w r t c.args.a (one_start c.args.from) q) (length w) c.args.table.now c.ready-to.new.table c.args.self.now c.ready-to.new.self shape same (on.1 q ge below))
           (cases_lt q c.loop-place.place),
-      told_as (λ r t. Meets p.expr.nodes w r t c.args.a (one_start c.args.from) reached → ⊥) (length w) c.args.table.now c.ready-to.new.table c.args.self.now c.ready-to.new.self shape same (on.2 under),
+      told_as (λ r t. Meets p.arena.expr.nodes w r t c.args.a (one_start c.args.from) reached → ⊥) (length w) c.args.table.now c.ready-to.new.table c.args.self.now c.ready-to.new.self shape same (on.2 under),
     )
 
 pub returns-then-place-to-clause-same : goal.returns-then-place-to-clause-same
@@ -99,7 +99,7 @@ returns-then-place-to-clause-same c =
 
 pub returns-then-place-to-clause-cost : goal.returns-then-place-to-clause-cost
 returns-then-place-to-clause-cost c =
-    let m = length c.args.subject.prepared.now.expr.nodes in
+    let m = length c.args.subject.prepared.now.arena.expr.nodes in
     let before = c.loop-place.invariant in
     let ready = c.ready-to.ensures in
     let meet = c.meet-reached.ensures in
@@ -129,7 +129,7 @@ returns-clause-ceases c =
     let end = meet_end p w c.args.table.now c.args.self.now c.args.a c.args.from c.requires.kept in (
       last.above,
       last.meets,
-      subst (λ y. Meets p.expr.nodes w c.args.self.now.region.root (ends_told c.args.table.now.way.sweeps (length w) c.args.self.now.region.end) c.args.a (one_start c.args.from) y → ⊥) at end,
+      subst (λ y. Meets p.arena.expr.nodes w c.args.self.now.region.root (ends_told c.args.table.now.way.sweeps (length w) c.args.self.now.region.end) c.args.a (one_start c.args.from) y → ⊥) at end,
     )
 
 pub returns-clause-counts : goal.returns-clause-counts

@@ -18,8 +18,8 @@ invariant-loop-place l = record {
   follows : Follows l.subject.prepared.now l.subject.text.now l.ahead l.a l.from l.place l.offset;
   meets : Meet l.subject.prepared.now l.subject.text.now l.initial.table l.initial.self l.a l.from l.from l.place;
   grows : l.initial.steps ≤ l.steps;
-  cost : l.steps + owed (length l.subject.prepared.now.expr.nodes) l.self.region l.place + 36 * length l.subject.prepared.now.expr.nodes * l.from
-      ≤ l.initial.steps + owed (length l.subject.prepared.now.expr.nodes) l.initial.self.region l.from + 36 * length l.subject.prepared.now.expr.nodes * l.place;
+  cost : l.steps + owed (length l.subject.prepared.now.arena.expr.nodes) l.self.region l.place + 36 * length l.subject.prepared.now.arena.expr.nodes * l.from
+      ≤ l.initial.steps + owed (length l.subject.prepared.now.arena.expr.nodes) l.initial.self.region l.from + 36 * length l.subject.prepared.now.arena.expr.nodes * l.place;
   counts : TakesAtLeast l.initial.steps l.steps (2 * (l.place - l.from));
 }
 

@@ -9,7 +9,7 @@ pub returns-clause-edges : goal.returns-clause-edges
 returns-clause-edges c b after before =
     let t = c.args.table.now in
     let k = c.args.self.now in
-    let m = length c.args.subject.prepared.now.expr.nodes in
+    let m = length c.args.subject.prepared.now.arena.expr.nodes in
     let region : IsRegion c.args.subject.prepared.now c.args.subject.text.now t k = c.requires.passes.region in
     let q = c.args.offset / 2 ^ t.layout.shift in
     let some = region.table.room.some in

@@ -12,6 +12,6 @@ pub returns-clause-at : goal.returns-clause-at
 returns-clause-at c =
     let t = c.first-code.new.self in
     first_at c.args.subject.prepared.now c.args.subject.text.now c.args.table.now c.args.self.now t.way c.kind_of-kind.result
-    (state_of (length c.args.subject.prepared.now.expr.nodes) t (c.offset_of.result / 2 ^ t.layout.shift)) c.requires.region c.first-code.ensures.adds.shape.0
+    (state_of (length c.args.subject.prepared.now.arena.expr.nodes) t (c.offset_of.result / 2 ^ t.layout.shift)) c.requires.region c.first-code.ensures.adds.shape.0
     c.kind_of-kind.ensures.begin (subst (λ n. IsTrue c.kind_of-kind.result.end ↔ (c.args.self.now.region.end ≡ n)) c.len.ensures.is c.kind_of-kind.ensures.end)
     (names_state c.args.subject.prepared.now t c.first-code.ensures.table _ _ _ c.first-code.ensures.names c.offset_of.ensures)

@@ -17,7 +17,7 @@ invariant-loop-place l = record {
   same : SameKept l.initial.self l.self;
   to : l.place < l.end → l.place < l.self.region.to;
   grows : l.initial.steps ≤ l.steps;
-  cost : l.steps + 39 * length l.subject.prepared.now.expr.nodes * l.place ≤ l.initial.steps + 39 * length l.subject.prepared.now.expr.nodes * l.end;
+  cost : l.steps + 39 * length l.subject.prepared.now.arena.expr.nodes * l.place ≤ l.initial.steps + 39 * length l.subject.prepared.now.arena.expr.nodes * l.end;
   counts : TakesAtLeast l.initial.steps l.steps (2 * (l.end - l.place));
 }
 

@@ -90,7 +90,7 @@ loop-place-preserved c =
     let row = kept_row p w t k place c.requires.kept above before in
     let inside : place < length c.loop-place.self.states.items = subst (λ v. place < length v.items) (sym old.states) row.2 in
     let is : c.index.result.now ≡ slice_index_or k.states.items place 0 = c.index.ensures ∙ default_same c.loop-place.self.states.items place c.index.result.now 0 inside ∙ ap (λ v. slice_index_or v.items place 0) old.states in
-    let m = length p.expr.nodes in
+    let m = length p.arena.expr.nodes in
     let next = c.next-code.ensures in
     let some : 1 ≤ m = (let h = c.requires.kept.region.root.0 in omega (arith, h)) in
     let count = c.nodes-nodes.ensures.value in

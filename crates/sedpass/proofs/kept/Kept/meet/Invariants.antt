@@ -18,6 +18,6 @@ invariant-loop-place l = record {
   meets : (a i : ℕ) → a ≤ l.initial.self.region.root → i ≤ l.from → Follows l.subject.prepared.now l.subject.text.now l.initial.ahead a i l.from l.initial.offset →
       Follows l.subject.prepared.now l.subject.text.now l.ahead a i l.place l.offset × Meet l.subject.prepared.now l.subject.text.now l.table l.initial.self a i l.from l.place;
   grows : l.initial.steps ≤ l.steps;
-  cost : l.steps + 36 * length l.subject.prepared.now.expr.nodes * l.from ≤ l.initial.steps + 36 * length l.subject.prepared.now.expr.nodes * l.place;
+  cost : l.steps + 36 * length l.subject.prepared.now.arena.expr.nodes * l.from ≤ l.initial.steps + 36 * length l.subject.prepared.now.arena.expr.nodes * l.place;
   counts : TakesAtLeast l.initial.steps l.steps (2 * (l.place - l.from));
 }

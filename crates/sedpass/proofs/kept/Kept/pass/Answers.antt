@@ -42,6 +42,6 @@ loop-place-preserved c =
           let next = now.steady fits in
           (next.0 ∙ steady.0, (let f = steady.1 in let g = next.1 in omega arith));
       grows = (let g = before.grows in let f = now.cost.0 in omega arith);
-      cost = down_cost (35 * length c.args.subject.prepared.now.expr.nodes) (c.loop-place.place - 1) c.loop-place.place c.loop-place.steps c.go_back-offset.new.steps _ above now.cost.1 before.cost;
+      cost = down_cost (35 * length c.args.subject.prepared.now.arena.expr.nodes) (c.loop-place.place - 1) c.loop-place.place c.loop-place.steps c.go_back-offset.new.steps _ above now.cost.1 before.cost;
       counts = least_both _ _ _ _ 2 _ before.counts now.counts (omega arith);
     }

@@ -19,6 +19,6 @@ invariant-loop-place l = record {
   steady : l.initial.table.count + (l.high - l.low) ≤ l.initial.table.room →
       (l.self.region.to ≡ l.initial.self.region.to) × (l.table.count + (l.place - l.low) ≤ l.initial.table.room);
   grows : l.initial.steps ≤ l.steps;
-  cost : l.steps + 35 * length l.subject.prepared.now.expr.nodes * l.place ≤ l.initial.steps + 35 * length l.subject.prepared.now.expr.nodes * l.high;
+  cost : l.steps + 35 * length l.subject.prepared.now.arena.expr.nodes * l.place ≤ l.initial.steps + 35 * length l.subject.prepared.now.arena.expr.nodes * l.high;
   counts : TakesAtLeast l.initial.steps l.steps (2 * (l.high - l.place));
 }

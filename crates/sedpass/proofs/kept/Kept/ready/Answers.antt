@@ -7,7 +7,7 @@ use Rattle.sedpass.proofs.kept.Kept.ready.Goals.{then-place-self, else-place-sel
 
 pub returns-clause-cost : goal.returns-clause-cost
 returns-clause-cost c =
-    let m = length c.args.subject.prepared.now.expr.nodes in
+    let m = length c.args.subject.prepared.now.arena.expr.nodes in
     let width = c.args.table.now.room - 1 in
     let place = c.args.place in
     let old = c.args.self.now.region in

@@ -45,7 +45,7 @@ returns-clause-cost c =
     let one = c.right_end-offset.ensures.cost in
     let two = c.pass.ensures.cost in
     let to : c.pass.new.self.region.to ≡ c.min-to.result = c.pass.ensures.steady (omega (arith, from)) in
-    let m = length c.args.subject.prepared.now.expr.nodes in
+    let m = length c.args.subject.prepared.now.arena.expr.nodes in
     let end = c.args.self.now.region.end in (
       omega (arith, one.0, two.0),
       subst (λ v. c.pass.new.steps + again m (end - v) ≤ c.args.steps.now + again m (end - c.args.place)) (sym to)

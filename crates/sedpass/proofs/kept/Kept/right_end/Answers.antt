@@ -12,6 +12,6 @@ pub returns-clause-at : goal.returns-clause-at
 returns-clause-at c =
     let t = c.load-code.new.self in
     load_at c.args.subject.prepared.now c.args.subject.text.now c.args.table.now c.args.self.now t.way c.args.block c.args.place
-    (state_of (length c.args.subject.prepared.now.expr.nodes) t (c.offset_of.result / 2 ^ t.layout.shift)) c.requires.edges c.requires.some c.requires.place c.if-place-self.false
+    (state_of (length c.args.subject.prepared.now.arena.expr.nodes) t (c.offset_of.result / 2 ^ t.layout.shift)) c.requires.edges c.requires.some c.requires.place c.if-place-self.false
     (c.load-code.ensures.adds.shape.0 ∙ c.empty.ensures.shape.0)
     (names_state c.args.subject.prepared.now t c.load-code.ensures.table _ _ _ c.load-code.ensures.names c.offset_of.ensures)

@@ -24,7 +24,7 @@ loop-place-init c = record {
 
 pub loop-place-preserved : goal.loop-place-preserved
 loop-place-preserved c =
-    let nodes = c.args.subject.prepared.now.expr.nodes in
+    let nodes = c.args.subject.prepared.now.arena.expr.nodes in
     let w = c.args.subject.text.now in
     let m = length nodes in
     let before = c.loop-place.invariant in
@@ -55,7 +55,7 @@ loop-place-preserved c =
 
 pub returns-then-found-to-clause-passed : goal.returns-then-found-to-clause-passed
 returns-then-found-to-clause-passed c =
-    let nodes = c.args.subject.prepared.now.expr.nodes in
+    let nodes = c.args.subject.prepared.now.arena.expr.nodes in
     let w = c.args.subject.text.now in
     let before = c.loop-place.invariant in
     let ready = c.ready-to.ensures in
@@ -66,7 +66,7 @@ returns-then-found-to-clause-passed c =
 
 pub returns-then-found-to-clause-found : goal.returns-then-found-to-clause-found
 returns-then-found-to-clause-found c below =
-    let nodes = c.args.subject.prepared.now.expr.nodes in
+    let nodes = c.args.subject.prepared.now.arena.expr.nodes in
     let w = c.args.subject.text.now in
     let before = c.loop-place.invariant in
     let ready = c.ready-to.ensures in
@@ -77,7 +77,7 @@ returns-then-found-to-clause-found c below =
 
 pub returns-then-found-to-clause-cost : goal.returns-then-found-to-clause-cost
 returns-then-found-to-clause-cost c =
-    let m = length c.args.subject.prepared.now.expr.nodes in
+    let m = length c.args.subject.prepared.now.arena.expr.nodes in
     let before = c.loop-place.invariant in
     let ready = c.ready-to.ensures in
     let seek = c.seek_in-found.ensures in

@@ -12,13 +12,13 @@ use Rattle.sedpass.proofs.kept.Kept.spans.Goals as goal
 pub null_at-requires : goal.null_at-requires
 null_at-requires c =
     let root = c.requires.kept.region.root.0 in
-    let up = last_inside c.args.subject.prepared.now.expr.nodes c.args.subject.text.now c.args.self.now.region.root (one_start 0) c.requires.kept.region.table.expr.arena c.args.x c.requires.last in
+    let up = last_inside c.args.subject.prepared.now.arena.expr.nodes c.args.subject.text.now c.args.self.now.region.root (one_start 0) c.requires.kept.region.table.expr.arena c.args.x c.requires.last in
     record { inside = omega (arith, root, up) }
 
 pub returns-then-place-self-clause-spans : goal.returns-then-place-self-clause-spans
 returns-then-place-self-clause-spans c =
     let w = c.args.subject.text.now in
-    let nodes = c.args.subject.prepared.now.expr.nodes in
+    let nodes = c.args.subject.prepared.now.arena.expr.nodes in
     let root = c.requires.kept.region.root.0 in
     let up = last_inside nodes w c.args.self.now.region.root (one_start 0) c.requires.kept.region.table.expr.arena c.args.x c.requires.last in
     let kind = c.kind_of-kind.result in
@@ -44,7 +44,7 @@ get-requires-clause-inside c =
     let row = kept_row c.args.subject.prepared.now c.args.subject.text.now c.ready.new.table c.ready.new.self c.args.place c.ready.ensures.kept above (omega (arith, to.0, to.1)) in
     let is : c.index.result.now ≡ slice_index_or c.ready.new.self.states.items c.args.place 0 = c.index.ensures ∙ default_same c.ready.new.self.states.items c.args.place c.index.result.now 0 row.2 in
     let root = c.requires.kept.region.root.0 in
-    let up = last_inside c.args.subject.prepared.now.expr.nodes c.args.subject.text.now c.args.self.now.region.root (one_start 0) c.requires.kept.region.table.expr.arena c.args.x c.requires.last in
+    let up = last_inside c.args.subject.prepared.now.arena.expr.nodes c.args.subject.text.now c.args.self.now.region.root (one_start 0) c.requires.kept.region.table.expr.arena c.args.x c.requires.last in
     rw is (omega (arith, row.1, root, up))
 
 pub returns-clause-spans : goal.returns-clause-spans
@@ -60,8 +60,8 @@ returns-clause-spans c =
     let is : c.index.result.now ≡ slice_index_or k.states.items c.args.place 0 = c.index.ensures ∙ default_same k.states.items c.args.place c.index.result.now 0 row.2 in
     let mark : c.get.result ≡ slice_index_or (row_of t.ends (slice_index_or k.states.items c.args.place 0)) c.args.x false = subst (λ s. c.get.result ≡ slice_index_or (row_of t.ends s) c.args.x false) is c.get.ensures.mark in
     let one : t.way.sweeps ≡ false = ap (λ v. v.sweeps) c.ready.ensures.shape.0 ∙ c.requires.sweeps in
-    let last : IsLastIn p.expr.nodes k.region.root c.args.x = subst (λ r. IsLastIn p.expr.nodes r c.args.x) (sym c.ready.ensures.same.root) c.requires.last in
-    subst (λ e. IsTrue c.get.result ↔ At p.expr.nodes w c.args.x c.args.place e) c.ready.ensures.same.end
+    let last : IsLastIn p.arena.expr.nodes k.region.root c.args.x = subst (λ r. IsLastIn p.arena.expr.nodes r c.args.x) (sym c.ready.ensures.same.root) c.requires.last in
+    subst (λ e. IsTrue c.get.result ↔ At p.arena.expr.nodes w c.args.x c.args.place e) c.ready.ensures.same.end
     (mark_spans p w t k c.args.x c.args.place c.get.result c.ready.ensures.kept one last above before mark)
 
 pub returns-clause-counts : goal.returns-clause-counts

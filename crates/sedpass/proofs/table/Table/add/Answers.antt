@@ -47,7 +47,7 @@ pub returns-clause-table : goal.returns-clause-table
 returns-clause-table c =
     let T = c.args.self.now in
     let t = c.requires.table in
-    let m = length c.args.prepared.now.expr.nodes in
+    let m = length c.args.prepared.now.arena.expr.nodes in
     let L = c.args.work.now.leaves in
     let E = c.args.work.now.ends in
     let flags : Flags = record { ends = c.get.result; dead = c.is_clear.result } in
@@ -109,7 +109,7 @@ pub returns-clause-adds : goal.returns-clause-adds
 returns-clause-adds c =
     let T = c.args.self.now in
     let t = c.requires.table in
-    let m = length c.args.prepared.now.expr.nodes in
+    let m = length c.args.prepared.now.arena.expr.nodes in
     let L = c.args.work.now.leaves in
     let E = c.args.work.now.ends in
     let flags : Flags = record { ends = c.get.result; dead = c.is_clear.result } in
@@ -138,7 +138,7 @@ pub returns-clause-names : goal.returns-clause-names
 returns-clause-names c =
     let T = c.args.self.now in
     let t = c.requires.table in
-    let m = length c.args.prepared.now.expr.nodes in
+    let m = length c.args.prepared.now.arena.expr.nodes in
     let L = c.args.work.now.leaves in
     let E = c.args.work.now.ends in
     let flags : Flags = record { ends = c.get.result; dead = c.is_clear.result } in

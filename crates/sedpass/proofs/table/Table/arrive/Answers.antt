@@ -10,7 +10,7 @@ use Rattle.sedpass.proofs.table.Table.arrive.Goals as goal
 pub offset_of-offset-requires : goal.offset_of-offset-requires
 offset_of-offset-requires c =
     let T = c.args.self.now in
-    code_some (stops T.way (state_of (length c.args.prepared.now.expr.nodes) T c.requires.code.to).flags) (c.requires.code.to * 2 ^ T.layout.shift) c.args.code c.requires.code.code
+    code_some (stops T.way (state_of (length c.args.prepared.now.arena.expr.nodes) T c.requires.code.to).flags) (c.requires.code.to * 2 ^ T.layout.shift) c.args.code c.requires.code.code
 
 pub index-flags-requires : goal.index-flags-requires
 index-flags-requires c =

@@ -11,7 +11,7 @@ returns-clause-table c =
     let N : Table = record T { count = 0; epoch = c.next_epoch-self.result } in
     let old = c.requires.table.room in
     let later : (i : ℕ) → (beginning_of N i).epoch < c.next_epoch-self.result = λ i. c.next_epoch-self.ensures.later _ (old.past i) (old.early i) in
-    let room : HasRoom (length p.expr.nodes) N = record {
+    let room : HasRoom (length p.arena.expr.nodes) N = record {
       count = omega arith;
       some = old.some;
       few = old.few;

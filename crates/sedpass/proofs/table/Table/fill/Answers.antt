@@ -19,9 +19,9 @@ note_next-requires-clause-leads c =
     let root = c.index-root.result.now in
     let inside : q < length T.roots.items = omega (arith, c.requires.offset.0, c.requires.table.room.count, c.requires.table.room.roots) in
     let same_root : root ≡ slice_index_or T.roots.items q 0 = c.index-root.ensures ∙ ap (λ x. slice_index_or T.roots.items x root) c.state_at-state.ensures ∙ default_same T.roots.items q root 0 inside in
-    let same : AgreeBelow (length p.expr.nodes) c.load.new.marks (row_of T.leaves q) =
-    subst (λ x. AgreeBelow (length p.expr.nodes) c.load.new.marks (row_of T.leaves x)) c.state_at-state.ensures (subst (λ n. AgreeBelow n c.load.new.marks (row_of T.leaves c.state_at-state.result)) c.nodes.ensures.value c.load.ensures.same) in
-    names_moved p T S c.intern-next.ensures.adds c.if-self-epoch.true (λ w a b. LeadsOn (nodes_of w p.expr) w a c.args.byte c.args.edge b) c.args.offset c.intern-next.result c.requires.offset.0
+    let same : AgreeBelow (length p.arena.expr.nodes) c.load.new.marks (row_of T.leaves q) =
+    subst (λ x. AgreeBelow (length p.arena.expr.nodes) c.load.new.marks (row_of T.leaves x)) c.state_at-state.ensures (subst (λ n. AgreeBelow n c.load.new.marks (row_of T.leaves c.state_at-state.result)) c.nodes.ensures.value c.load.ensures.same) in
+    names_moved p T S c.intern-next.ensures.adds c.if-self-epoch.true (λ w a b. LeadsOn (nodes_of w p.arena.expr) w a c.args.byte c.args.edge b) c.args.offset c.intern-next.result c.requires.offset.0
     (names_leads p T S T.way q root c.args.byte c.intern-next.result c.load.new.marks c.step.new.work.leaves c.step.new.work.ends same_root same c.intern-next.ensures.names c.args.edge c.step.ensures.leads)
 
 pub note_next-requires-clause-anywhere : goal.note_next-requires-clause-anywhere
@@ -33,9 +33,9 @@ note_next-requires-clause-anywhere c none =
     let root = c.index-root.result.now in
     let inside : q < length T.roots.items = omega (arith, c.requires.offset.0, c.requires.table.room.count, c.requires.table.room.roots) in
     let same_root : root ≡ slice_index_or T.roots.items q 0 = c.index-root.ensures ∙ ap (λ x. slice_index_or T.roots.items x root) c.state_at-state.ensures ∙ default_same T.roots.items q root 0 inside in
-    let same : AgreeBelow (length p.expr.nodes) c.load.new.marks (row_of T.leaves q) =
-    subst (λ x. AgreeBelow (length p.expr.nodes) c.load.new.marks (row_of T.leaves x)) c.state_at-state.ensures (subst (λ n. AgreeBelow n c.load.new.marks (row_of T.leaves c.state_at-state.result)) c.nodes.ensures.value c.load.ensures.same) in
-    names_moved p T S c.intern-next.ensures.adds c.if-self-epoch.true (λ w a b. (end : Bool) → LeadsOn (nodes_of w p.expr) w a c.args.byte end b) c.args.offset c.intern-next.result c.requires.offset.0
+    let same : AgreeBelow (length p.arena.expr.nodes) c.load.new.marks (row_of T.leaves q) =
+    subst (λ x. AgreeBelow (length p.arena.expr.nodes) c.load.new.marks (row_of T.leaves x)) c.state_at-state.ensures (subst (λ n. AgreeBelow n c.load.new.marks (row_of T.leaves c.state_at-state.result)) c.nodes.ensures.value c.load.ensures.same) in
+    names_moved p T S c.intern-next.ensures.adds c.if-self-epoch.true (λ w a b. (end : Bool) → LeadsOn (nodes_of w p.arena.expr) w a c.args.byte end b) c.args.offset c.intern-next.result c.requires.offset.0
     (names_anywhere p T S T.way q root c.args.byte c.intern-next.result c.load.new.marks c.step.new.work.leaves c.step.new.work.ends same_root same c.intern-next.ensures.names (c.step.ensures.anywhere none))
 
 pub returns-then-self-epoch-clause-names : goal.returns-then-self-epoch-clause-names
@@ -47,9 +47,9 @@ returns-then-self-epoch-clause-names c =
     let root = c.index-root.result.now in
     let inside : q < length T.roots.items = omega (arith, c.requires.offset.0, c.requires.table.room.count, c.requires.table.room.roots) in
     let same_root : root ≡ slice_index_or T.roots.items q 0 = c.index-root.ensures ∙ ap (λ x. slice_index_or T.roots.items x root) c.state_at-state.ensures ∙ default_same T.roots.items q root 0 inside in
-    let same : AgreeBelow (length p.expr.nodes) c.load.new.marks (row_of T.leaves q) =
-    subst (λ x. AgreeBelow (length p.expr.nodes) c.load.new.marks (row_of T.leaves x)) c.state_at-state.ensures (subst (λ n. AgreeBelow n c.load.new.marks (row_of T.leaves c.state_at-state.result)) c.nodes.ensures.value c.load.ensures.same) in
-    names_more p S c.note_next.new.self c.note_next.ensures.adds c.note_next.ensures.epoch (LeadsOn (nodes_of T.way p.expr) T.way (state_of (length p.expr.nodes) T q) c.args.byte c.args.edge) c.intern-next.result
+    let same : AgreeBelow (length p.arena.expr.nodes) c.load.new.marks (row_of T.leaves q) =
+    subst (λ x. AgreeBelow (length p.arena.expr.nodes) c.load.new.marks (row_of T.leaves x)) c.state_at-state.ensures (subst (λ n. AgreeBelow n c.load.new.marks (row_of T.leaves c.state_at-state.result)) c.nodes.ensures.value c.load.ensures.same) in
+    names_more p S c.note_next.new.self c.note_next.ensures.adds c.note_next.ensures.epoch (LeadsOn (nodes_of T.way p.arena.expr) T.way (state_of (length p.arena.expr.nodes) T q) c.args.byte c.args.edge) c.intern-next.result
     (names_leads p T S T.way q root c.args.byte c.intern-next.result c.load.new.marks c.step.new.work.leaves c.step.new.work.ends same_root same c.intern-next.ensures.names c.args.edge c.step.ensures.leads)
 
 pub returns-else-self-epoch-clause-names : goal.returns-else-self-epoch-clause-names
@@ -61,20 +61,20 @@ returns-else-self-epoch-clause-names c =
     let root = c.index-root.result.now in
     let inside : q < length T.roots.items = omega (arith, c.requires.offset.0, c.requires.table.room.count, c.requires.table.room.roots) in
     let same_root : root ≡ slice_index_or T.roots.items q 0 = c.index-root.ensures ∙ ap (λ x. slice_index_or T.roots.items x root) c.state_at-state.ensures ∙ default_same T.roots.items q root 0 inside in
-    let same : AgreeBelow (length p.expr.nodes) c.load.new.marks (row_of T.leaves q) =
-    subst (λ x. AgreeBelow (length p.expr.nodes) c.load.new.marks (row_of T.leaves x)) c.state_at-state.ensures (subst (λ n. AgreeBelow n c.load.new.marks (row_of T.leaves c.state_at-state.result)) c.nodes.ensures.value c.load.ensures.same) in
+    let same : AgreeBelow (length p.arena.expr.nodes) c.load.new.marks (row_of T.leaves q) =
+    subst (λ x. AgreeBelow (length p.arena.expr.nodes) c.load.new.marks (row_of T.leaves x)) c.state_at-state.ensures (subst (λ n. AgreeBelow n c.load.new.marks (row_of T.leaves c.state_at-state.result)) c.nodes.ensures.value c.load.ensures.same) in
     names_leads p T S T.way q root c.args.byte c.intern-next.result c.load.new.marks c.step.new.work.leaves c.step.new.work.ends same_root same c.intern-next.ensures.names c.args.edge c.step.ensures.leads
 
 pub returns-then-self-epoch-clause-counts : goal.returns-then-self-epoch-clause-counts
 returns-then-self-epoch-clause-counts c =
-    let m = length c.args.prepared.now.expr.nodes in
+    let m = length c.args.prepared.now.arena.expr.nodes in
     let stepped = c.step.ensures.cost in
     let interned = c.intern-next.ensures.cost in
     least_up c.args.steps.now c.load.new.steps c.intern-next.new.steps m (subst (λ n. TakesAtLeast c.args.steps.now c.load.new.steps n) c.nodes.ensures.value (least_own c.args.steps.now c.load.new.steps c.nodes.result c.nodes.result (omega arith) c.load.ensures.counts)) (omega (arith, stepped, interned))
 
 pub returns-else-self-epoch-clause-counts : goal.returns-else-self-epoch-clause-counts
 returns-else-self-epoch-clause-counts c =
-    let m = length c.args.prepared.now.expr.nodes in
+    let m = length c.args.prepared.now.arena.expr.nodes in
     let stepped = c.step.ensures.cost in
     let interned = c.intern-next.ensures.cost in
     least_up c.args.steps.now c.load.new.steps c.intern-next.new.steps m (subst (λ n. TakesAtLeast c.args.steps.now c.load.new.steps n) c.nodes.ensures.value (least_own c.args.steps.now c.load.new.steps c.nodes.result c.nodes.result (omega arith) c.load.ensures.counts)) (omega (arith, stepped, interned))

@@ -14,9 +14,9 @@ pub arrive-requires-clause-code : goal.arrive-requires-clause-code
 arrive-requires-clause-code c =
     let p = c.args.prepared.now in
     let T = c.args.self.now in
-    let m = length p.expr.nodes in
+    let m = length p.arena.expr.nodes in
     let edge = nat_eq c.follow-at.result.place (c.len-last.result - 1) in
-    names_map m c.step_on-code.new.self (LeadsOn (nodes_of T.way p.expr) T.way (state_of m T (c.follow-at.result.offset / 2 ^ T.layout.shift)) c.byte-byte.result edge) (λ a. Unit {0}) c.step_on-code.result (λ a h. tt) c.step_on-code.ensures.names
+    names_map m c.step_on-code.new.self (LeadsOn (nodes_of T.way p.arena.expr) T.way (state_of m T (c.follow-at.result.offset / 2 ^ T.layout.shift)) c.byte-byte.result edge) (λ a. Unit {0}) c.step_on-code.result (λ a h. tt) c.step_on-code.ensures.names
 
 pub returns-clause-passes : goal.returns-clause-passes
 returns-clause-passes c keeps start pass =
@@ -33,11 +33,11 @@ returns-clause-passes c keeps start pass =
 pub returns-then-at-clause-cost : goal.returns-then-at-clause-cost
 returns-then-at-clause-cost c =
     let some = c.requires.table.expr.arena.nonempty in
-    (c.follow-at.ensures.cost.0, over_cost (length c.args.prepared.now.expr.nodes) c.args.from.place c.follow-at.result.place (c.len-last.result - 1) c.args.steps.now c.follow-at.new.steps (omega (arith, some)) (c.follow-at.ensures.moved c.if-at.true) c.follow-at.ensures.cost.1)
+    (c.follow-at.ensures.cost.0, over_cost (length c.args.prepared.now.arena.expr.nodes) c.args.from.place c.follow-at.result.place (c.len-last.result - 1) c.args.steps.now c.follow-at.new.steps (omega (arith, some)) (c.follow-at.ensures.moved c.if-at.true) c.follow-at.ensures.cost.1)
 
 pub returns-clause-cost : goal.returns-clause-cost
 returns-clause-cost c =
-    let m = length c.args.prepared.now.expr.nodes in
+    let m = length c.args.prepared.now.arena.expr.nodes in
     let some = c.requires.table.expr.arena.nonempty in
     let one : 1 ≤ m = omega (arith, some) in
     let mid = c.follow-at.result.place in

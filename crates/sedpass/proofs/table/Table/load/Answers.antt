@@ -10,7 +10,7 @@ use Rattle.sedpass.proofs.table.Table.load.Goals as goal
 
 pub returns-clause-names : goal.returns-clause-names
 returns-clause-names c =
-    let m = length c.args.prepared.now.expr.nodes in
+    let m = length c.args.prepared.now.arena.expr.nodes in
     let row = 2 * c.args.row in
     let nodes = c.nodes-nodes.ensures.value in
     let leaves : AgreeBelow m c.load.new.marks (row_of c.args.edges.now row) = subst (λ n. AgreeBelow n c.load.new.marks (row_of c.args.edges.now row)) nodes c.load.ensures.same in
@@ -21,7 +21,7 @@ returns-clause-names c =
 
 pub returns-clause-counts : goal.returns-clause-counts
 returns-clause-counts c =
-    let m = length c.args.prepared.now.expr.nodes in
+    let m = length c.args.prepared.now.arena.expr.nodes in
     let n = c.nodes-nodes.result in
     let twice = least_own c.args.steps.now c.load-2.new.steps (2 * n) (2 * n) (omega arith) (counted_twice c.args.steps.now c.load.new.steps c.load-2.new.steps n n n refl refl c.load.ensures.counts c.load-2.ensures.counts) in
     least_up c.args.steps.now c.load-2.new.steps c.intern.new.steps (2 * m) (subst (λ x. TakesAtLeast c.args.steps.now c.load-2.new.steps (2 * x)) c.nodes-nodes.ensures.value twice) c.intern.ensures.cost.0

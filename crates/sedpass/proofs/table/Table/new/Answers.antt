@@ -10,4 +10,4 @@ returns-clause-table c =
     let t = c.in_ok-empty.empty in
     let made = c.in_ok-empty.ensures in
     no_states p t c.nodes-nodes.ensures.expr (subst (λ n. HasRoom n t) c.nodes-nodes.ensures.value made.has)
-    (subst (λ l. IsLayout p.expr.nodes l) (sym made.layout) c.new-layout.ensures) made.none made.begun
+    (subst (λ l. IsLayout p.arena.expr.nodes l) (sym made.layout) c.new-layout.ensures) made.none made.begun

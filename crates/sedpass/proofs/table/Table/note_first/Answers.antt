@@ -10,7 +10,7 @@ use Rattle.sedpass.proofs.table.Table.note_first.Goals as goal
 pub returns-then-self-lt-LAST_EPOCHS-clause-table : goal.returns-then-self-lt-LAST_EPOCHS-clause-table
 returns-then-self-lt-LAST_EPOCHS-clause-table c =
     let p = c.args.prepared.now in
-    let m = length p.expr.nodes in
+    let m = length p.arena.expr.nodes in
     let T = c.args.self.now in
     let at = c.beginning_at-at.result in
     let fresh : Beginning = record { epoch = T.epoch; code = c.args.code } in
@@ -43,10 +43,10 @@ returns-then-self-lt-LAST_EPOCHS-clause-table c =
 pub returns-then-self-lt-LAST_EPOCHS-clause-adds : goal.returns-then-self-lt-LAST_EPOCHS-clause-adds
 returns-then-self-lt-LAST_EPOCHS-clause-adds c =
     let T = c.args.self.now in
-    let m = length c.args.prepared.now.expr.nodes in
+    let m = length c.args.prepared.now.arena.expr.nodes in
     let fresh : Beginning = record { epoch = T.epoch; code = c.args.code } in
     let N : Table = record T { beginnings = with_item T.beginnings c.beginning_at-at.result fresh } in
     adds_same m T N (refl, refl, refl, refl, refl) refl refl (λ x. refl)
 
 pub returns-else-self-lt-LAST_EPOCHS-clause-adds : goal.returns-else-self-lt-LAST_EPOCHS-clause-adds
-returns-else-self-lt-LAST_EPOCHS-clause-adds c = adds_none (length c.args.prepared.now.expr.nodes) c.args.self.now
+returns-else-self-lt-LAST_EPOCHS-clause-adds c = adds_none (length c.args.prepared.now.arena.expr.nodes) c.args.self.now

@@ -19,7 +19,7 @@ index_mut-requires c =
 pub returns-in-Some-clause-table : goal.returns-in-Some-clause-table
 returns-in-Some-clause-table c =
     let T = c.args.self.now in
-    let m = length c.args.prepared.now.expr.nodes in
+    let m = length c.args.prepared.now.arena.expr.nodes in
     let at = c.args.offset + c.in-Some.column in
     let N : Table = record T { cells = with_item T.cells at c.args.next } in
     let old = c.requires.table.room in
@@ -50,9 +50,9 @@ returns-in-Some-clause-table c =
 pub returns-in-Some-clause-adds : goal.returns-in-Some-clause-adds
 returns-in-Some-clause-adds c =
     let T = c.args.self.now in
-    let m = length c.args.prepared.now.expr.nodes in
+    let m = length c.args.prepared.now.arena.expr.nodes in
     let N : Table = record T { cells = with_item T.cells (c.args.offset + c.in-Some.column) c.args.next } in
     adds_same m T N (refl, refl, refl, refl, refl) refl refl (λ x. refl)
 
 pub returns-in_default-clause-adds : goal.returns-in_default-clause-adds
-returns-in_default-clause-adds c = adds_none (length c.args.prepared.now.expr.nodes) c.args.self.now
+returns-in_default-clause-adds c = adds_none (length c.args.prepared.now.arena.expr.nodes) c.args.self.now

@@ -7,7 +7,7 @@ use Rattle.sedpass.proofs.table.Table.noted.Goals as goal
 pub returns-then-same-2-clause-has : goal.returns-then-same-2-clause-has
 returns-then-same-2-clause-has c =
     let T = c.args.self.now in
-    let m = length c.args.prepared.now.expr.nodes in
+    let m = length c.args.prepared.now.arena.expr.nodes in
     let q = c.index.result.now.state in
     let inside : q < length T.roots.items = omega (arith, c.if-state-self.true, c.requires.table.room.count, c.requires.table.room.roots) in
     let leaves : AgreeBelow m (row_of T.leaves q) c.args.work.now.leaves = subst (λ n. AgreeBelow n (row_of T.leaves q) c.args.work.now.leaves) c.nodes-nodes.ensures.value (c.same.ensures.same c.if-same.true) in

@@ -12,7 +12,7 @@ use Rattle.sedpass.proofs.table.Table.run.Goals as goal
 pub loop-at-init : goal.loop-at-init
 loop-at-init c =
     let p = c.args.prepared.now in
-    let m = length p.expr.nodes in
+    let m = length p.arena.expr.nodes in
     let T = c.args.self.now in
     let S = c.first-code.new.self in
     let w = c.args.text.now in
@@ -23,7 +23,7 @@ loop-at-init c =
     let end = c.kind_of-kind.ensures.end in
     let is = c.len.ensures.is in
     let names = subst (λ (x : Way). Names m S (Arrives p x w from from) c.first-code.result) (sym way)
-    (names_map m S (BeginsIn (nodes_of T.way p.expr) T.way p.root kind) (Arrives p T.way w from from) c.first-code.result
+    (names_map m S (BeginsIn (nodes_of T.way p.arena.expr) T.way p.root kind) (Arrives p T.way w from from) c.first-code.result
     (λ a begins. arrives_first p T.way w from kind a c.requires.forwards c.requires.from c.kind_of-kind.ensures.begin ((λ h. end.0 h ∙ is), (λ e. end.1 (e ∙ sym is))) begins) c.first-code.ensures.names) in
     let cost = c.first-code.ensures.cost in
     record {

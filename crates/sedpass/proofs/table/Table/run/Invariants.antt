@@ -11,7 +11,7 @@ invariant-loop-at l = record {
   offset : IsOffset l.self l.at.offset;
   passes : PassIs l.prepared l.self l.text l.from l.at;
   grown : l.fn.steps ≤ l.steps;
-  cost : l.steps + 40 * length l.prepared.expr.nodes * l.from ≤ l.fn.steps + 40 * length l.prepared.expr.nodes * (l.at.place + 1);
+  cost : l.steps + 40 * length l.prepared.arena.expr.nodes * l.from ≤ l.fn.steps + 40 * length l.prepared.arena.expr.nodes * (l.at.place + 1);
   counts : TakesAtLeast l.fn.steps l.steps (2 * (l.at.place - l.from));
 }
 

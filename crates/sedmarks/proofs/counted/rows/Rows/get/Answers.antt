@@ -1,4 +1,4 @@
-use Rattle.std.proofs.Common.{◌≡◌, ◌+◌, ◌*◌, ◌/◌, ◌%◌, ◌<◌, ◌≤◌, ◌∙◌, length, sym, ap, arith}
+use Rattle.std.proofs.Common.{◌≡◌, ◌+◌, ◌*◌, ◌/◌, ◌%◌, ◌<◌, ◌∙◌, length, sym, ap, arith}
 use Rattle.std.specs.Prelude.{slice_index_or, eqb}
 use Rattle.std.specs.Int.{bit_at}
 use Rattle.sedmarks.proofs.BitLemmas.{set_at}

@@ -1,4 +1,4 @@
-use Rattle.std.proofs.Common.{◌≡◌, ℕ, ◌+◌, ◌*◌, ◌<◌, ◌≤◌, ◌∙◌, false, length, sym, ap, arith}
+use Rattle.std.proofs.Common.{◌≡◌, ℕ, ◌+◌, ◌*◌, ◌<◌, ◌∙◌, false, sym, arith}
 use Rattle.std.specs.Prelude.{slice_index_or}
 use Rattle.sedre.specs.Words.{is_set}
 use Rattle.sedmarks.specs.Words.{row_of}

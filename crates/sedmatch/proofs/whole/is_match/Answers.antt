@@ -1,0 +1,18 @@
+use Rattle.std.proofs.Common.{◌≡◌, ◌↔◌, IsTrue, refl, subst}
+use Rattle.sedre.specs.Arena.{Written, tree}
+use Rattle.sedmarks.specs.Spans.{SomeFound}
+use Rattle.sedmarks.proofs.MatchingLemmas.{same_test}
+use Rattle.sedmatch.proofs.OnceLemmas.{once_fitted, once_still}
+use Rattle.sedmatch.proofs.whole.is_match.Goals as goal
+
+pub invariant_of-scratch : goal.invariant_of-scratch
+invariant_of-scratch c =
+    let d = c.scratch.inside.desk in
+    let o = c.scratch.inside.once in
+    let fitted = once_fitted d o c.fit.new.self c.scratch.invariant.1 c.fit.ensures.nodes_room c.fit.ensures.facts_room in
+    (c.any_match.ensures.desk, once_still d c.any_match.new.desk (record o { prepared = c.fit.new.self }) o.back c.any_match.ensures.same fitted c.scratch.invariant.1.back (refl, refl, refl, refl))
+
+pub returns-clause-computed : goal.returns-clause-computed
+returns-clause-computed c =
+    same_test c.any_match.result (tree c.args.expr.now) c.args.text.now c.args.from c.requires.from
+    (subst (λ (e : Written). IsTrue c.any_match.result ↔ SomeFound (tree e) c.args.text.now c.args.from) c.fit.ensures.expr c.any_match.ensures.matches)

@@ -1,0 +1,52 @@
+use Rattle.std.proofs.Common.{◌≡◌, refl, ◌+◌, ◌++◌, ◌∷◌, [], length, ap, sym, subst, ◌∙◌, length-append, arith}
+use Rattle.std.specs.Prelude.{slice_get, take}
+use Rattle.std.proofs.lemmas.List.{take_more, take_all}
+use Rattle.std.proofs.lemmas.Option.{slice_get_within, get_or_from_slice_get}
+use Rattle.sedre.specs.Arena.{tree_at}
+use Rattle.sedpass.specs.Prepared.{IsFacts, AreFacts}
+use Rattle.sedpass.proofs.CountLemmas.{least_none, least_one}
+use Rattle.sedpass.proofs.FactLemmas.{facts_more}
+use Rattle.sedpass.proofs.arena.copy_nodes.Goals as goal
+
+pub loop-x-init : goal.loop-x-init
+loop-x-init c =
+    let none = ap length c.clear-2.ensures.items in
+    record {
+      grows = omega arith;
+      cost = omega arith;
+      counts = least_none c.args.steps.now 0 refl;
+      copied = c.clear.ensures.items;
+      all = omega (arith, none);
+      facts = λ x here is. let inside = slice_get_within c.clear-2.new.self.items x here is in absurd (omega (arith, none));
+      nodes_room = refl;
+      facts_room = refl;
+    }
+
+pub loop-x-preserved : goal.loop-x-preserved
+loop-x-preserved c =
+    let e = c.args.expr.now in
+    let told = c.loop-x.facts.items in
+    let next = c.facts_of-next.result in
+    let node = c.look-node.result in
+    let is = ap (slice_get e.nodes) (sym c.id.ensures) ∙ c.look-node.ensures.node in
+    let items = c.push_reserved-in-loop-x.ensures.items in
+    let at = sym c.loop-x.invariant.all in
+    record {
+      grows = omega arith;
+      cost = omega arith;
+      counts = least_one c.args.steps.now c.loop-x.steps c.look-node.new.steps c.loop-x.x (c.loop-x.x + 1) c.loop-x.invariant.counts c.look-node.ensures.counts refl;
+      copied = c.push_reserved.ensures.items ∙ ap (λ l. l ++ node ∷ []) c.loop-x.invariant.copied ∙ sym (take_more e.nodes c.loop-x.x node (omega arith) ∙ ap (λ n. take c.loop-x.x e.nodes ++ n ∷ []) (get_or_from_slice_get e.nodes c.loop-x.x node node is));
+      all = omega (arith, ap length items, length-append told (next ∷ []));
+      facts = subst (λ l. AreFacts e.nodes l) (sym items) (facts_more e.nodes e.groups c.groups-expr.ensures.expr told c.loop-x.invariant.facts next (subst (λ n. IsFacts (tree_at e.nodes n) n next) at c.facts_of-next.ensures));
+      nodes_room = c.push_reserved.ensures.capacity ∙ c.loop-x.invariant.nodes_room;
+      facts_room = c.push_reserved-in-loop-x.ensures.capacity ∙ c.loop-x.invariant.facts_room;
+    }
+
+pub returns-clause-copied : goal.returns-clause-copied
+returns-clause-copied c = c.loop-x.invariant.copied ∙ take_all c.loop-x.x c.args.expr.now.nodes (omega arith)
+
+pub returns-clause-nodes_room : goal.returns-clause-nodes_room
+returns-clause-nodes_room c = c.loop-x.invariant.nodes_room ∙ c.clear.ensures.capacity
+
+pub returns-clause-facts_room : goal.returns-clause-facts_room
+returns-clause-facts_room c = c.loop-x.invariant.facts_room ∙ c.clear-2.ensures.capacity

@@ -1,0 +1,8 @@
+-- What a contract sees of an expression that was copied into room made once.
+use Rattle.std.specs.Prelude.{ℕ}
+use Rattle.sedre.specs.Arena.{Written}
+
+-- the expression, and how many nodes there is room for
+pub record Held : Type 0 where
+  pub expr : Written
+  pub room : ℕ
