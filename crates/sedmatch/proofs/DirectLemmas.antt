@@ -1,5 +1,5 @@
 -- Expressions whose matches a look at the text tells.
-use Rattle.std.proofs.Common.{◌≡◌, ℕ, ◌+◌, ◌-◌, ◌*◌, ◌<◌, ◌≤◌, ◌↔◌, Bool, true, false, List, length, Option, Some, None, Result, Ok, Err, IsTrue, refl, sym, ◌∙◌, subst, true≢false, ⊎_elim, arith}
+use Rattle.std.proofs.Common.{◌≡◌, ℕ, max, min, ◌+◌, ◌-◌, ◌*◌, ◌<◌, ◌≤◌, ◌↔◌, Bool, true, false, List, length, Option, Some, None, Result, Ok, Err, IsTrue, refl, sym, ◌∙◌, subst, true≢false, ⊎_elim, arith}
 use Rattle.std.specs.Prelude.{slice_get, IfOk, IfSome, is_some}
 use Rattle.std.proofs.lemmas.Bool.{cases_lt}
 use Rattle.std.proofs.lemmas.Option.{slice_get_within}
@@ -8,10 +8,11 @@ use Rattle.sedre.specs.Arena.{IsArena, Written, tree, tree_at}
 use Rattle.sedre.specs.declared.types.Node.{Node}
 use Rattle.sedre.specs.declared.types.NodeId.{NodeId}
 use Rattle.sedre.specs.declared.types.Node.TheVariants.{Set, Begin, End, Seq}
-use Rattle.sedre.specs.Steps.{TakesAtLeast}
+use Rattle.sedre.specs.Steps.{Counted, Takes, TakesAtLeast}
 use Rattle.sedmarks.specs.Answer.{SpanAnswer}
 use Rattle.sedmarks.specs.Beginnings.{CanBegin, NextStart}
 use Rattle.sedmarks.specs.Bytes.{AreBytes, looked_at}
+use Rattle.sedmarks.specs.Costs.{Pays}
 use Rattle.sedmarks.specs.Reach.{At}
 use Rattle.sedmarks.specs.Runs.{Repeated, AllRepeat, IsRun}
 use Rattle.sedmarks.specs.Spans.{Spans, SomeFound, IsIn, no_copy}
@@ -27,11 +28,11 @@ use Rattle.sedmatch.specs.Direct.{ComesFirst, StartsWith, RunsTo, FormSpans, Spa
 use Rattle.sedmatch.specs.declared.direct.First.{First}
 use Rattle.sedmatch.specs.declared.direct.First.TheVariants.{Among, Member}
 use Rattle.sedmatch.specs.declared.direct.DirectForm.{DirectForm}
-use Rattle.sedmatch.specs.declared.direct.DirectForm.TheVariants.{Anchor, OneByte, Run, ByteThenRun, RunThenByte, RunAtEnd, Times, Literal, Choice}
+use Rattle.sedmatch.specs.declared.direct.DirectForm.TheVariants.{Anchor, OneByte, Run, ByteThenRun, RunThenByte, RunAtEnd, ByteThenRunAtEnd, Times, Literal, Choice}
 use Rattle.sedmarks.proofs.ReachLemmas.{open_at, close_at}
 use Rattle.sedmarks.proofs.RunLemmas.{run_longest}
 use Rattle.sedmarks.proofs.SpanLemmas.{Copies-forward}
-use Rattle.sedneedles.proofs.CountLemmas.{least_none}
+use Rattle.sedneedles.proofs.CountLemmas.{least_counted, least_none, least_up}
 use Rattle.sedneedles.proofs.TimesLemmas.{repeated_cut, repeated_in}
 
 -- what comes first, where its bytes are those of the set
@@ -124,6 +125,44 @@ module _ (nodes : List Node) (arena : IsArena nodes) (x last : ℕ) (whole : las
         let left : At nodes w a.index i h.0 = subst (λ v. At nodes w v i h.0) y_is ((repeats w i h.0).1 h.1.0) in
         let right : At nodes w b.index h.0 j = close_at nodes w b.index (Set these) arena there h.0 j ((set_spans these first same w bytes h.0 j).1 (h.1.1, h.2)) in
         from_node w i j (close_at nodes w x (Seq a b) arena is i j (h.0, left, right))),
+  )
+
+  -- one byte, a run and the end, one after another
+  pub form_byte_run_end : (a b c d : NodeId) (these : List Bool) (first : First) (y : ℕ) (members : List Bool) → slice_get nodes x ≡ Some (Seq a b) → slice_get nodes a.index ≡ Some (Set these) →
+      slice_get nodes b.index ≡ Some (Seq c d) → y ≡ c.index → slice_get nodes d.index ≡ Some End → AreFirst first these → AllRepeat nodes y members → SpannedAs (tree_at nodes last) (ByteThenRunAtEnd first members)
+  form_byte_run_end a b c d these first y members is there rest y_is ends same repeats w bytes i j within = (
+    (λ s.
+        let f = open_at nodes w x (Seq a b) arena is i j (to_node w i j s) in
+        let h = (set_spans these first same w bytes i f.0).0 (open_at nodes w a.index (Set these) arena there i f.0 f.1) in
+        let g = open_at nodes w b.index (Seq c d) arena rest f.0 j f.2 in
+        let e = open_at nodes w d.index End arena ends g.0 j g.2 in
+        let run = (repeats w f.0 g.0).0 (subst (λ v. At nodes w v f.0 g.0) (sym y_is) g.1) in
+        (h.0, subst (λ v. Repeated members w v j) h.1 (subst (Repeated members w f.0) (e.0 ∙ sym e.1) run), e.1)),
+    (λ h.
+        let left : At nodes w a.index i (i + 1) = close_at nodes w a.index (Set these) arena there i (i + 1) ((set_spans these first same w bytes i (i + 1)).1 (h.0, refl)) in
+        let run : At nodes w c.index (i + 1) j = subst (λ v. At nodes w v (i + 1) j) y_is ((repeats w (i + 1) j).1 h.1) in
+        let end : At nodes w d.index j j = close_at nodes w d.index End arena ends j j (h.2, h.2) in
+        let right : At nodes w b.index (i + 1) j = close_at nodes w b.index (Seq c d) arena rest (i + 1) j (j, run, end) in
+        from_node w i j (close_at nodes w x (Seq a b) arena is i j (i + 1, left, right))),
+  )
+
+  -- the same, the byte and the run first
+  pub form_byte_run_then_end : (a b c d : NodeId) (these : List Bool) (first : First) (y : ℕ) (members : List Bool) → slice_get nodes x ≡ Some (Seq a b) → slice_get nodes a.index ≡ Some (Seq c d) →
+      slice_get nodes c.index ≡ Some (Set these) → y ≡ d.index → slice_get nodes b.index ≡ Some End → AreFirst first these → AllRepeat nodes y members → SpannedAs (tree_at nodes last) (ByteThenRunAtEnd first members)
+  form_byte_run_then_end a b c d these first y members is both there y_is ends same repeats w bytes i j within = (
+    (λ s.
+        let f = open_at nodes w x (Seq a b) arena is i j (to_node w i j s) in
+        let e = open_at nodes w b.index End arena ends f.0 j f.2 in
+        let g = open_at nodes w a.index (Seq c d) arena both i f.0 f.1 in
+        let h = (set_spans these first same w bytes i g.0).0 (open_at nodes w c.index (Set these) arena there i g.0 g.1) in
+        let run = (repeats w g.0 f.0).0 (subst (λ v. At nodes w v g.0 f.0) (sym y_is) g.2) in
+        (h.0, subst (λ v. Repeated members w v j) h.1 (subst (Repeated members w g.0) (e.0 ∙ sym e.1) run), e.1)),
+    (λ h.
+        let byte : At nodes w c.index i (i + 1) = close_at nodes w c.index (Set these) arena there i (i + 1) ((set_spans these first same w bytes i (i + 1)).1 (h.0, refl)) in
+        let run : At nodes w d.index (i + 1) j = subst (λ v. At nodes w v (i + 1) j) y_is ((repeats w (i + 1) j).1 h.1) in
+        let left : At nodes w a.index i j = close_at nodes w a.index (Seq c d) arena both i j (i + 1, byte, run) in
+        let end : At nodes w b.index j j = close_at nodes w b.index End arena ends j j (h.2, h.2) in
+        from_node w i j (close_at nodes w x (Seq a b) arena is i j (j, left, end))),
   )
 
   -- a run before the end
@@ -274,6 +313,48 @@ span_run_end members w p i n is run =
 pub from_run_end : (form : DirectForm) (members : List Bool) (w : List ℕ) (p : ℕ) → form ≡ RunAtEnd members → p ≤ length w → StartsFrom form w p
 from_run_end form members w p is within = subst (λ f. StartsFrom f w p) (sym is) (length w, within, omega arith, no_copy)
 
+-- a byte, and a run at the end of the text, which begins at `begin`: what can come first is sought from the byte before it on
+module _ (first : First) (members : List Bool) (w : List ℕ) (p begin : ℕ) (run : RunBegins members w p (length w) begin) where
+  ends_from : (k : ℕ) → p ≤ k → Repeated members w (k + 1) (length w) → begin - 1 ≤ k
+  ends_from k low rest =
+      ⊎_elim
+      (λ (less : k + 1 < begin). absurd (run.3 (k + 1) (omega (arith, low)) less rest))
+      (λ (le : begin ≤ k + 1). omega (arith, le))
+      (cases_lt (k + 1) begin)
+
+  pub start_byte_run_end : (n start : ℕ) (r : Option ℕ) → n ≡ length w → start ≡ max (begin - 1) p → FirstWith first w start r → FirstStart (ByteThenRunAtEnd first members) w p r
+  start_byte_run_end n start None n_is is none = λ k low within can. let far = ends_from k low can.1 in none k (omega (arith, is, low, far)) can.0
+  start_byte_run_end n start (Some k) n_is is here =
+      let inside = starts_inside first w k here.1 in
+      let after = here.0 in (
+        (omega (arith, is, after)),
+        (omega (arith, inside)),
+        (here.1, (repeated_cut members w (k + 1) (length w) begin (omega (arith, is, after)) (omega (arith, inside)) run.2).1),
+        λ h low lt can. let far = ends_from h low can.1 in here.2 h (omega (arith, is, low, far)) lt can.0,
+      )
+
+-- what the two looks count, and what they cost
+looked_rest : (first : First) (w : List ℕ) (p : ℕ) (r : Option ℕ) → p ≤ length w → FirstWith first w p r → looked_at (length w) p r + p ≤ length w
+looked_rest first w p None within none = omega (arith, within)
+looked_rest first w p (Some k) within here = let inside = starts_inside first w k here.1 in let after = here.0 in omega (arith, inside, after)
+
+pub end_cost : (first : First) (w : List ℕ) (n p begin start s t u : ℕ) (r : Option ℕ) → n ≡ length w → p ≤ n → begin ≤ n → start ≡ max (begin - 1) p → FirstWith first w start r → Pays s t n p →
+    Takes t u (looked_at (length w) start r) → Pays s u (3 * length w) (3 * p)
+end_cost first w n p begin start s t u r is low within start_is here back on =
+    let rest = looked_rest first w start r (omega (arith, is, low, within, start_is)) here in
+    let a = back.0 in let b = back.1 in let c = on.0 in let d = on.1 in
+    (omega arith, omega (arith, is, low, start_is, rest, b, d))
+
+pub end_counts : (first : First) (w : List ℕ) (n p begin start s t u : ℕ) (r : Option ℕ) → n ≡ length w → p ≤ begin → start ≡ max (begin - 1) p → FirstWith first w start r → Counted s t (min (n + 1 - begin) (n - p)) → t ≤ u →
+    IfSome r (λ k. TakesAtLeast s u (length w - k))
+end_counts first w n p begin start s t u None is low start_is none counted grows = tt
+end_counts first w n p begin start s t u (Some k) is low start_is here counted grows =
+    let after = here.0 in
+    least_up s t u (length w - k) (least_counted s t (min (n + 1 - begin) (n - p)) (length w - k) counted (omega (arith, is, low, start_is, after))) grows
+
+pub span_byte_run_end : (first : First) (members : List Bool) (w : List ℕ) (p k n : ℕ) → n ≡ length w → FirstStart (ByteThenRunAtEnd first members) w p (Some k) → FirstSpan (ByteThenRunAtEnd first members) w p (Some (k, n))
+span_byte_run_end first members w p k n is start = (start, ((start.2.0, subst (Repeated members w (k + 1)) (sym is) start.2.1, is), omega (arith, is), λ j s. omega (arith, s.2, is)))
+
 -- a match begins from a place on where the first place is told
 some_from : (form : DirectForm) (w : List ℕ) (p : ℕ) (r : Option ℕ) → FirstStart form w p r → IsTrue (is_some r) ↔ StartsFrom form w p
 some_from form w p None none = ((λ h. absurd (true≢false (sym h))), (λ s. absurd (none s.0 s.1 s.2 s.3)))
@@ -294,6 +375,7 @@ spans_start (Run members) w i j s = tt
 spans_start (ByteThenRun first members) w i j s = s.0
 spans_start (RunThenByte members last) w i j s = (s.0, s.1)
 spans_start (RunAtEnd members) w i j s = subst (Repeated members w i) s.1 s.0
+spans_start (ByteThenRunAtEnd first members) w i j s = (s.0, subst (Repeated members w (i + 1)) s.2 s.1)
 spans_start (Times members count) w i j s = subst (Repeated members w i) s.1 s.0
 spans_start (Literal literal) w i j s = s.0
 spans_start (Choice literals) w i j s = (s.0, s.1, s.2, s.3)
@@ -306,6 +388,7 @@ start_spans (Run members) w i can = (i, no_copy)
 start_spans (ByteThenRun first members) w i can = (i + 1, (can, no_copy))
 start_spans (RunThenByte members last) w i can = (can.0 + 1, (can.0, can.1, refl))
 start_spans (RunAtEnd members) w i can = (length w, (can, refl))
+start_spans (ByteThenRunAtEnd first members) w i can = (length w, (can.0, can.1, refl))
 start_spans (Times members count) w i can = (i + count, (can, refl))
 start_spans (Literal literal) w i can = (i + length literal, (can, refl))
 start_spans (Choice literals) w i can = (i + length can.0, (can.0, can.1, can.2, can.3, refl))
@@ -318,6 +401,7 @@ ends_on (Run members) w i j s = Copies-forward (Spans (set members) w) j i s
 ends_on (ByteThenRun first members) w i j s = omega (arith, Copies-forward (Spans (set members) w) j (i + 1) s.1)
 ends_on (RunThenByte members last) w i j s = let on = Copies-forward (Spans (set members) w) s.0 i s.1.0 in omega (arith, on, s.2)
 ends_on (RunAtEnd members) w i j s = Copies-forward (Spans (set members) w) j i s.0
+ends_on (ByteThenRunAtEnd first members) w i j s = omega (arith, Copies-forward (Spans (set members) w) j (i + 1) s.1)
 ends_on (Times members count) w i j s = omega (arith, s.1)
 ends_on (Literal literal) w i j s = omega (arith, s.1)
 ends_on (Choice literals) w i j s = let long = s.4 in omega (arith, long)

@@ -15,7 +15,7 @@ use Rattle.sedmatch.specs.declared.direct.Anchor.{Anchor as Anchors}
 use Rattle.sedmatch.specs.declared.direct.First.{First}
 use Rattle.sedmatch.specs.declared.direct.First.TheVariants.{Among, Member}
 use Rattle.sedmatch.specs.declared.direct.DirectForm.{DirectForm}
-use Rattle.sedmatch.specs.declared.direct.DirectForm.TheVariants.{Anchor, OneByte, Run, ByteThenRun, RunThenByte, RunAtEnd, Times, Literal, Choice}
+use Rattle.sedmatch.specs.declared.direct.DirectForm.TheVariants.{Anchor, OneByte, Run, ByteThenRun, RunThenByte, RunAtEnd, ByteThenRunAtEnd, Times, Literal, Choice}
 
 -- the byte can come first
 abbrev pub ComesFirst : First → ℕ → Type 0
@@ -42,6 +42,7 @@ FormSpans (Run members) w i j = Repeated members w i j
 FormSpans (ByteThenRun first members) w i j = StartsWith first w i × Repeated members w (i + 1) j
 FormSpans (RunThenByte members last) w i j = (k : ℕ) × RunsTo members last w i k × (j ≡ k + 1)
 FormSpans (RunAtEnd members) w i j = Repeated members w i j × (j ≡ length w)
+FormSpans (ByteThenRunAtEnd first members) w i j = StartsWith first w i × Repeated members w (i + 1) j × (j ≡ length w)
 FormSpans (Times members count) w i j = HasTimes members count w i j
 FormSpans (Literal literal) w i j = WordSpans literal w i j
 FormSpans (Choice literals) w i j = ChoiceSpans literals w i j
@@ -67,6 +68,7 @@ CanStart (Run members) w i = Unit {0}
 CanStart (ByteThenRun first members) w i = StartsWith first w i
 CanStart (RunThenByte members last) w i = (k : ℕ) × RunsTo members last w i k
 CanStart (RunAtEnd members) w i = Repeated members w i (length w)
+CanStart (ByteThenRunAtEnd first members) w i = StartsWith first w i × Repeated members w (i + 1) (length w)
 CanStart (Times members count) w i = Repeated members w i (i + count)
 CanStart (Literal literal) w i = OccursAt w literal i
 CanStart (Choice literals) w i = ChoiceAt literals w i

@@ -1,6 +1,6 @@
 //! Direct forms: expressions whose matches a look at the text tells. Anchors alone, a byte of a set, a run of such bytes, a
-//! byte and a run, a run and the byte that ends it, a run at the end of the text, always as many bytes of a set, a literal, one
-//! of a few literals.
+//! byte and a run, a run and the byte that ends it, a run at the end of the text, a byte before one, always as many bytes of
+//! a set, a literal, one of a few literals.
 //!
 //! Where such a match begins is told by its bytes, and where the longest ends by those that follow, so that nothing
 //! has to be found out of the expression in a search. What a search costs falls with the place from which it starts: all
@@ -8,14 +8,14 @@
 ghost use Rattle.std.specs.Prelude.{◌≡◌, ℕ, ◌+◌, ◌-◌, ◌*◌, ◌<◌, ◌≤◌, ◌↔◌, length, slice_get, Some, IfOk, IfSome, IsTrue};
 ghost use Rattle.sedre.specs.Arena.{IsArena, Written, tree};
 ghost use Rattle.sedre.specs.Steps.{Takes, Counted, TakesAtLeast};
-ghost use Rattle.sedre.specs.declared.types.Node.TheVariants.{Seq};
+ghost use Rattle.sedre.specs.declared.types.Node.TheVariants.{Seq, Set};
 ghost use Rattle.sedmarks.specs.Answer.{SpanAnswer};
 ghost use Rattle.sedmarks.specs.Bytes.{looked_at};
 ghost use Rattle.sedmarks.specs.Costs.{Pays};
 ghost use Rattle.sedmarks.specs.Spans.{SomeFound, IsIn};
 ghost use Rattle.sedmatch.specs.Candidates.{NoMatchBefore};
 ghost use Rattle.sedmatch.specs.Direct.{ComesFirst, FirstWith, FirstStart, FirstSpan, IsDirect, SpannedAs, StartsFrom, end_or, rate};
-ghost use Rattle.sedmatch.specs.declared.direct.DirectForm.TheVariants.{Anchor as AnchorForm, OneByte, Run, ByteThenRun, RunThenByte, RunAtEnd, Times, Literal, Choice as ChoiceForm};
+ghost use Rattle.sedmatch.specs.declared.direct.DirectForm.TheVariants.{ByteThenRunAtEnd, Anchor as AnchorForm, OneByte, Run, ByteThenRun, RunThenByte, RunAtEnd, Times, Literal, Choice as ChoiceForm};
 
 use crate::runs_back::run_begin;
 use crate::word::{Word, word_of};
@@ -74,6 +74,8 @@ pub enum DirectForm {
     RunThenByte(ByteSet, First),
     /// Bytes of the set up to the end of the text, any number of them.
     RunAtEnd(ByteSet),
+    /// One byte, and bytes of the set up to the end of the text, any number of them.
+    ByteThenRunAtEnd(First, ByteSet),
     /// As many bytes of the set as the number says.
     Times(ByteSet, usize),
     /// A literal of two bytes or more.
@@ -164,20 +166,75 @@ fn run_then(expr: &Expr, a: NodeId, b: NodeId, steps: &mut Steps) -> Option<Dire
     }
 }
 
+/// How the matches of a concatenation of these parts look, the first of them one byte of the set, if the other is a run, or a run
+/// at the end of the text.
+fn byte_then(
+    expr: &Expr,
+    parts: (NodeId, NodeId),
+    set: &ByteSet,
+    steps: &mut Steps,
+) -> Option<DirectForm>
+    requires root { slice_get expr.now.nodes (length expr.now.nodes - 1) ≡ Some (Seq parts.0 parts.1) }
+    requires first { slice_get expr.now.nodes parts.0.index ≡ Some (Set set.now) }
+    requires arena { IsArena expr.now.nodes }
+    ensures form { IfSome result (λ f. SpannedAs (tree expr.now) f) }
+    ensures rate { IfSome result (λ f. rate f ≤ 4) }
+    ensures cost { Takes steps.old steps.new 5 }
+{
+    match expr.look(parts.1, steps) {
+        Node::Seq(copies, end) => match expr.look(end, steps) {
+            Node::End => {
+                let members = star_set(expr, copies.index(), steps)?;
+                Some(DirectForm::ByteThenRunAtEnd(first_of(set), members))
+            }
+            _ => None,
+        },
+        _ => {
+            let members = star_set(expr, parts.1.index(), steps)?;
+            Some(DirectForm::ByteThenRun(first_of(set), members))
+        }
+    }
+}
+
+/// How the matches of a concatenation of these parts look, the first of them a concatenation itself, if they are one byte, a run
+/// and the end of the text.
+fn byte_run_then(
+    expr: &Expr,
+    parts: (NodeId, NodeId),
+    inner: (NodeId, NodeId),
+    steps: &mut Steps,
+) -> Option<DirectForm>
+    requires root { slice_get expr.now.nodes (length expr.now.nodes - 1) ≡ Some (Seq parts.0 parts.1) }
+    requires first { slice_get expr.now.nodes parts.0.index ≡ Some (Seq inner.0 inner.1) }
+    requires arena { IsArena expr.now.nodes }
+    ensures form { IfSome result (λ f. SpannedAs (tree expr.now) f) }
+    ensures rate { IfSome result (λ f. rate f ≤ 4) }
+    ensures cost { Takes steps.old steps.new 5 }
+{
+    let Node::End = expr.look(parts.1, steps) else {
+        return None;
+    };
+    match expr.look(inner.0, steps) {
+        Node::Set(set) => {
+            let members = star_set(expr, inner.1.index(), steps)?;
+            Some(DirectForm::ByteThenRunAtEnd(first_of(&set), members))
+        }
+        _ => None,
+    }
+}
+
 /// How the matches of the expression look, if they are of one byte, a run or both.
 fn run_form(expr: &Expr, steps: &mut Steps) -> Option<DirectForm>
     ensures form { IfSome result (λ f. SpannedAs (tree expr.now) f) }
     ensures rate { IfSome result (λ f. rate f ≤ 4) }
-    ensures cost { Takes steps.old steps.new 6 }
+    ensures cost { Takes steps.old steps.new 7 }
 {
     let root = expr.root().index();
     match expr.look(expr.id(root), steps) {
         Node::Set(set) => Some(DirectForm::OneByte(first_of(&set))),
         Node::Seq(a, b) => match expr.look(a, steps) {
-            Node::Set(set) => {
-                let members = star_set(expr, b.index(), steps)?;
-                Some(DirectForm::ByteThenRun(first_of(&set), members))
-            }
+            Node::Set(set) => byte_then(expr, (a, b), &set, steps),
+            Node::Seq(byte, run) => byte_run_then(expr, (a, b), (byte, run), steps),
             _ => run_then(expr, a, b, steps),
         },
         _ => {
@@ -210,7 +267,7 @@ fn choice_form(
 fn form_of(alloc: Global, expr: &Expr, steps: &mut Steps) -> Result<Option<DirectForm>, AllocError>
     ensures form { IfOk result (λ r. IfSome r (λ f. SpannedAs (tree expr.now) f)) }
     ensures rate { IfOk result (λ r. IfSome r (λ f. rate f ≤ 14 * length expr.now.nodes)) }
-    ensures cost { Takes steps.old steps.new 1572913 }
+    ensures cost { Takes steps.old steps.new 1572914 }
 {
     let _some = expr.nodes();
     if let Some(form) = anchor_form(expr, steps) {
@@ -235,7 +292,7 @@ pub fn direct_form_of(
     steps: &mut Steps,
 ) -> Result<Option<DirectForm>, AllocError>
     ensures form { IfOk result (λ r. IfSome r (IsDirect expr.now)) }
-    ensures cost { Takes steps.old steps.new 1572913 }
+    ensures cost { Takes steps.old steps.new 1572914 }
 {
     if expr.groups() > 0 {
         return Ok(None);
@@ -376,6 +433,46 @@ fn run_end_span(
     Some((run_begin(text, members, from, end, steps), end))
 }
 
+/// The first byte from `from` on after which the rest of the text is bytes of the set.
+// As a part of a large function it would be slower by the byte.
+#[inline(never)]
+fn byte_run_end_start(
+    first: &First,
+    members: &ByteSet,
+    text: &Text,
+    from: usize,
+    steps: &mut Steps,
+) -> Option<usize>
+    requires from { from ≤ length text.now }
+    ensures start { FirstStart (ByteThenRunAtEnd first.now members.now) text.now from result }
+    ensures cost { Pays steps.old steps.new (3 * length text.now) (3 * from) }
+    ensures counts { IfSome result (λ k. TakesAtLeast steps.old steps.new (length text.now - k)) }
+{
+    let run = run_begin(text, members, from, text.len(), steps);
+    let start = run.saturating_sub(1).max(from);
+    find_first(first, text, start, steps)
+}
+
+/// That byte, and the bytes of the set after it.
+#[inline(always)]
+fn byte_run_end_span(
+    first: &First,
+    members: &ByteSet,
+    text: &Text,
+    from: usize,
+    steps: &mut Steps,
+) -> Option<(usize, usize)>
+    requires from { from ≤ length text.now }
+    ensures span { FirstSpan (ByteThenRunAtEnd first.now members.now) text.now from result }
+    ensures cost { Pays steps.old steps.new (4 * (end_or (length text.now) result + 1)) (4 * from) }
+    ensures counts { IfSome result (λ f. TakesAtLeast steps.old steps.new (f.1 - f.0)) }
+{
+    match byte_run_end_start(first, members, text, from, steps) {
+        None => None,
+        Some(start) => Some((start, text.len())),
+    }
+}
+
 /// The first bytes of the set from `from` on, as many as the number says.
 #[inline(always)]
 fn times_span(
@@ -450,6 +547,9 @@ fn form_span(
         DirectForm::ByteThenRun(first, members) => byte_run_span(first, members, text, from, steps),
         DirectForm::RunThenByte(members, last) => run_byte_span(members, last, text, from, steps),
         DirectForm::RunAtEnd(members) => run_end_span(members, text, from, steps),
+        DirectForm::ByteThenRunAtEnd(first, members) => {
+            byte_run_end_span(first, members, text, from, steps)
+        },
         DirectForm::Times(set, count) => times_span(set, *count, text, from, steps),
         DirectForm::Literal(word) => literal_span(word, text, from, steps),
         DirectForm::Choice(choice) => choice_span(choice, text, from, steps),
@@ -487,6 +587,9 @@ fn can_match(form: &DirectForm, text: &Text, from: usize, steps: &mut Steps) -> 
         DirectForm::ByteThenRun(first, _) => find_first(first, text, from, steps).is_some(),
         DirectForm::RunThenByte(_, last) => find_first(last, text, from, steps).is_some(),
         DirectForm::RunAtEnd(_) => true,
+        DirectForm::ByteThenRunAtEnd(first, members) => {
+            byte_run_end_start(first, members, text, from, steps).is_some()
+        },
         DirectForm::Times(set, count) => find_times(set, *count, text, from, steps).is_some(),
         DirectForm::Literal(word) => word.start(text, from, steps).is_some(),
         DirectForm::Choice(choice) => choice.start(text, from, steps).is_some(),
@@ -513,6 +616,7 @@ pub fn direct_candidate(form: &DirectForm, text: &Text, steps: &mut Steps) -> Op
         DirectForm::OneByte(first) => find_first(first, text, 0, steps),
         DirectForm::ByteThenRun(first, _) => find_first(first, text, 0, steps),
         DirectForm::RunThenByte(_, last) => find_first(last, text, 0, steps),
+        DirectForm::ByteThenRunAtEnd(first, _) => find_first(first, text, 0, steps),
         DirectForm::Literal(word) => word.start(text, 0, steps),
         DirectForm::Choice(choice) => choice.start(text, 0, steps),
         DirectForm::Anchor(_)

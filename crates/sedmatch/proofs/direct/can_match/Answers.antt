@@ -1,6 +1,6 @@
 use Rattle.std.proofs.Common.{refl, arith}
 use Rattle.std.specs.Prelude.{is_some}
-use Rattle.sedmatch.specs.declared.direct.DirectForm.TheVariants.{OneByte, ByteThenRun, RunThenByte, Times, Literal, Choice}
+use Rattle.sedmatch.specs.declared.direct.DirectForm.TheVariants.{OneByte, ByteThenRun, ByteThenRunAtEnd, RunThenByte, Times, Literal, Choice}
 use Rattle.sedmatch.proofs.DirectLemmas.{first_looked, from_run_end, some_run_byte, some_start, start_byte, start_byte_run, start_choice, start_literal, start_times, told_from}
 use Rattle.sedmatch.proofs.direct.can_match.Goals as goal
 
@@ -51,3 +51,7 @@ returns-in-RunThenByte-clause-cost c =
 
 pub returns-in-RunAtEnd-clause-starts : goal.returns-in-RunAtEnd-clause-starts
 returns-in-RunAtEnd-clause-starts c = ((λ h. from_run_end c.args.form.now c.in-RunAtEnd.field-0 c.args.text.now c.args.from c.in-RunAtEnd.is c.requires.from), (λ s. refl))
+
+pub returns-in-ByteThenRunAtEnd-clause-starts : goal.returns-in-ByteThenRunAtEnd-clause-starts
+returns-in-ByteThenRunAtEnd-clause-starts c =
+    some_start c.args.form.now (ByteThenRunAtEnd c.in-ByteThenRunAtEnd.first c.in-ByteThenRunAtEnd.members) c.args.text.now c.args.from c.byte_run_end_start.result c.is_some-in-ByteThenRunAtEnd.result c.in-ByteThenRunAtEnd.is c.is_some-in-ByteThenRunAtEnd.ensures c.byte_run_end_start.ensures.start

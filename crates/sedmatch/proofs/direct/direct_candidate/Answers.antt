@@ -1,7 +1,7 @@
 use Rattle.std.proofs.Common.{subst, arith}
 use Rattle.sedre.specs.Arena.{tree}
 use Rattle.sedmatch.specs.Direct.{SpannedAs}
-use Rattle.sedmatch.proofs.CandidateLemmas.{byte_before, byte_run_before, choice_before, literal_before, run_byte_before}
+use Rattle.sedmatch.proofs.CandidateLemmas.{byte_before, byte_run_before, byte_run_end_before, choice_before, literal_before, run_byte_before}
 use Rattle.sedmatch.proofs.DirectLemmas.{first_looked}
 use Rattle.sedmatch.proofs.direct.direct_candidate.Goals as goal
 
@@ -34,3 +34,11 @@ pub returns-in-RunThenByte-clause-cost : goal.returns-in-RunThenByte-clause-cost
 returns-in-RunThenByte-clause-cost c =
     let looked = first_looked c.in-RunThenByte.last c.args.text.now 0 c.find_first-in-RunThenByte.result c.find_first-in-RunThenByte.ensures.first in
     (c.find_first-in-RunThenByte.ensures.cost.0, omega (arith, looked, c.find_first-in-RunThenByte.ensures.cost.1))
+
+pub returns-in-ByteThenRunAtEnd-clause-before : goal.returns-in-ByteThenRunAtEnd-clause-before
+returns-in-ByteThenRunAtEnd-clause-before c = λ e is. byte_run_end_before (tree e) c.args.text.now c.are_bytes.ensures c.find_first-in-ByteThenRunAtEnd.result c.in-ByteThenRunAtEnd.first c.in-ByteThenRunAtEnd.field-1 c.find_first-in-ByteThenRunAtEnd.ensures.first (subst (SpannedAs (tree e)) c.in-ByteThenRunAtEnd.is is.0)
+
+pub returns-in-ByteThenRunAtEnd-clause-cost : goal.returns-in-ByteThenRunAtEnd-clause-cost
+returns-in-ByteThenRunAtEnd-clause-cost c =
+    let looked = first_looked c.in-ByteThenRunAtEnd.first c.args.text.now 0 c.find_first-in-ByteThenRunAtEnd.result c.find_first-in-ByteThenRunAtEnd.ensures.first in
+    (c.find_first-in-ByteThenRunAtEnd.ensures.cost.0, omega (arith, looked, c.find_first-in-ByteThenRunAtEnd.ensures.cost.1))
