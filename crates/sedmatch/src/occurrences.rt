@@ -1,14 +1,12 @@
 //! All occurrences in one text, one after another.
 ghost use Rattle.std.specs.Prelude.{◌≡◌, ℕ, List, false, ◌+◌, ◌-◌, ◌*◌, ◌/◌, ◌^◌, ◌<◌, ◌≤◌, length, IfOk, IfSome, IsTrue, slice_get, Some};
 ghost use Rattle.sedre.specs.Arena.{Written, tree};
-ghost use Rattle.sedre.specs.Steps.{Takes, TakesAtLeast};
 ghost use Rattle.sedmarks.specs.Answer.{SpanAnswer};
 ghost use Rattle.sedmarks.specs.Costs.{Pays};
 ghost use Rattle.sedmarks.specs.Following.{EndsWithin, Occurs, next_span};
 ghost use Rattle.sedmarks.specs.Matching.{found};
-ghost use Rattle.sedpass.specs.Kept.{SameSpace};
-ghost use Rattle.sedpass.specs.Occurrences.{owed_behind};
-ghost use Rattle.sedpass.specs.Search.{Serves as SearchServes, owed_after as owed_after_search};
+ghost use Rattle.sedpass.specs.Occurrences.{Looks, owed_behind};
+ghost use Rattle.sedpass.specs.Search.{MaySearch, Searched, owed_after as owed_after_search};
 ghost use Rattle.sedpass.specs.Table.{IsAhead, IsRoomy, SameShape};
 ghost use Rattle.sedpass.specs.declared.table.Table.{Table};
 ghost use Rattle.sedmatch.specs.Occurrences.{AreTables, HasTable, IsBack, KeepsRoom, RoomAt, RoomFor, Serves, ServesOn, SetsTable, TableIs, owed, owed_after, owed_search};
@@ -213,21 +211,14 @@ fn next_with(
     steps: &mut Steps,
 ) -> Option<(usize, usize)>
     requires sought { IsSought sought.now.prepared.arena.expr sought.now }
-    requires ahead { IsAhead sought.now.prepared ahead.old }
     requires last { EndsWithin (length text.now) last }
-    requires serves { SearchServes sought.now.prepared text.now back.old seeking.old }
-    ensures ahead { IsAhead sought.now.prepared ahead.new }
-    ensures ahead_shape { SameShape ahead.old ahead.new }
-    ensures back_shape { SameShape back.old back.new }
-    ensures space { SameSpace seeking.old.kept seeking.new.kept }
-    ensures serves { SearchServes sought.now.prepared text.now back.new seeking.new }
+    requires ready { MaySearch sought.now.prepared text.now sought.now.begins ahead.old back.old seeking.old }
+    ensures searched { Searched sought.now.prepared text.now ahead.old ahead.new back.old back.new seeking.old seeking.new }
     ensures next { result ≡ next_span (found (tree sought.now.prepared.arena.expr) text.now) (length text.now) last }
     ensures occurs { IfSome result (Occurs (tree sought.now.prepared.arena.expr) text.now last) }
     ensures cost { let m = length sought.now.prepared.arena.expr.nodes in let n = length text.now in
         Pays steps.old steps.new (owed_search m n last seeking.old) (owed_after_search (owed_behind m n seeking.new) result) }
-    ensures once { let m = length sought.now.prepared.arena.expr.nodes in let n = length text.now in
-        Takes steps.old steps.new (64 * m * m * (n + 1) * (n + 1)) }
-    ensures counts { IfSome result (λ f. TakesAtLeast steps.old steps.new (f.1 - f.0)) }
+    ensures looks { Looks (length sought.now.prepared.arena.expr.nodes) (length text.now) steps.old steps.new result }
 {
     let subject = Subject {
         prepared: &sought.prepared,
@@ -249,19 +240,12 @@ fn first_with(
     steps: &mut Steps,
 ) -> Option<(usize, usize)>
     requires sought { IsSought sought.now.prepared.arena.expr sought.now }
-    requires ahead { IsAhead sought.now.prepared ahead.old }
-    requires serves { SearchServes sought.now.prepared text.now back.old seeking.old }
-    ensures ahead { IsAhead sought.now.prepared ahead.new }
-    ensures ahead_shape { SameShape ahead.old ahead.new }
-    ensures back_shape { SameShape back.old back.new }
-    ensures space { SameSpace seeking.old.kept seeking.new.kept }
-    ensures serves { SearchServes sought.now.prepared text.now back.new seeking.new }
+    requires ready { MaySearch sought.now.prepared text.now sought.now.begins ahead.old back.old seeking.old }
+    ensures searched { Searched sought.now.prepared text.now ahead.old ahead.new back.old back.new seeking.old seeking.new }
     ensures answer { SpanAnswer (tree sought.now.prepared.arena.expr) text.now 0 result }
     ensures cost { let m = length sought.now.prepared.arena.expr.nodes in let n = length text.now in
         Pays steps.old steps.new (owed_search m n None seeking.old) (owed_after_search (owed_behind m n seeking.new) result) }
-    ensures once { let m = length sought.now.prepared.arena.expr.nodes in let n = length text.now in
-        Takes steps.old steps.new (64 * m * m * (n + 1) * (n + 1)) }
-    ensures counts { IfSome result (λ f. TakesAtLeast steps.old steps.new (f.1 - f.0)) }
+    ensures looks { Looks (length sought.now.prepared.arena.expr.nodes) (length text.now) steps.old steps.new result }
 {
     let start = sought.hints.first_place(text, 0, steps)?;
     let subject = Subject {
@@ -291,9 +275,7 @@ pub fn next_by(
     ensures serves { ServesOn sought.now.prepared.arena.expr text.now result occurrences.old occurrences.new }
     ensures cost { let m = length sought.now.prepared.arena.expr.nodes in let n = length text.now in
         Pays steps.old steps.new (owed m n last occurrences.old) (owed_after m n result occurrences.new) }
-    ensures once { let m = length sought.now.prepared.arena.expr.nodes in let n = length text.now in
-        Takes steps.old steps.new (64 * m * m * (n + 1) * (n + 1)) }
-    ensures counts { IfSome result (λ f. TakesAtLeast steps.old steps.new (f.1 - f.0)) }
+    ensures looks { Looks (length sought.now.prepared.arena.expr.nodes) (length text.now) steps.old steps.new result }
 {
     occurrences.make_ready(&sought.prepared, text);
     let at = occurrences.at;

@@ -10,6 +10,7 @@ ghost use Rattle.sedmarks.specs.SearchRoom.{FitInto};
 ghost use Rattle.sedmarks.specs.Spans.{SomeFound, Spans};
 ghost use Rattle.sedmatch.specs.Candidates.{NoMatchBefore};
 ghost use Rattle.sedpass.specs.Decide.{found as spans_in};
+ghost use Rattle.sedpass.specs.Occurrences.{Looks};
 ghost use Rattle.sedmatch.specs.Direct.{IsDirect, end_or, rate};
 ghost use Rattle.sedmatch.specs.Occurrences.{Serves, ServesOn, owed, owed_after, owed_direct, owed_direct_after};
 ghost use Rattle.sedmatch.specs.Passes.{AreOwn, ArePasses, IsDesk, SameDesk};
@@ -122,9 +123,7 @@ fn next_by_passes(
     ensures serves { ServesOn passes.old.sought.prepared.arena.expr text.now result occurrences.old occurrences.new }
     ensures cost { let m = length passes.old.sought.prepared.arena.expr.nodes in let n = length text.now in
         Pays steps.old steps.new (owed m n last occurrences.old) (owed_after m n result occurrences.new) }
-    ensures once { let m = length passes.old.sought.prepared.arena.expr.nodes in let n = length text.now in
-        Takes steps.old steps.new (64 * m * m * (n + 1) * (n + 1)) }
-    ensures counts { IfSome result (λ f. TakesAtLeast steps.old steps.new (f.1 - f.0)) }
+    ensures looks { Looks (length passes.old.sought.prepared.arena.expr.nodes) (length text.now) steps.old steps.new result }
 {
     let sought = &passes.sought;
     if let Some(own) = &mut passes.own {

@@ -1,6 +1,7 @@
 -- Private to the proofs: no contract that `sedmatch` makes public cites what stands here.
 -- What the searches for all occurrences in one text may cost together, with m nodes in a text of n bytes.
-use Rattle.std.specs.Prelude.{ℕ, ◌+◌, ◌-◌, ◌*◌, nat_lt, if◌then◌else◌}
+use Rattle.std.specs.Prelude.{ℕ, ◌+◌, ◌-◌, ◌*◌, nat_lt, if◌then◌else◌, Option, IfSome}
+use Rattle.sedre.specs.Steps.{Takes, TakesAtLeast}
 use Rattle.sedpass.specs.Search.{owed_search, search_cost}
 use Rattle.sedpass.specs.declared.search.Seeking.{Seeking}
 
@@ -12,3 +13,8 @@ owed_behind m n s place = owed_search m n s place + 84 * m * (n + 1 - place)
 -- the steps of the search one byte further on
 abbrev pub further_cost : ℕ → ℕ → ℕ → ℕ
 further_cost m n at = if nat_lt at n then search_cost m n (at + 1) else 0
+
+-- the steps in which an occurrence is sought: in the square of the text's length at most, and one at least for each of its bytes
+pub record Looks (m n before after : ℕ) (r : Option (ℕ × ℕ)) : Type 0 where
+  pub once : Takes before after (64 * m * m * (n + 1) * (n + 1))
+  pub counts : IfSome r (λ f. TakesAtLeast before after (f.1 - f.0))

@@ -6,10 +6,11 @@ use Rattle.sedre.specs.Steps.{TakesAtLeast}
 use Rattle.sedre.specs.Tree.{Tree}
 use Rattle.sedmarks.specs.Answer.{SpanAnswer}
 use Rattle.sedmarks.specs.Reach.{Longest}
-use Rattle.sedmarks.specs.Beginnings.{NoneIn}
+use Rattle.sedmarks.specs.Beginnings.{AllBegin, NoneIn}
 use Rattle.sedmarks.specs.Spans.{Found, NotFound}
-use Rattle.sedpass.specs.Table.{IsTable, SameShape}
-use Rattle.sedpass.specs.Kept.{IsKept, KeptRoom, owed}
+use Rattle.sedmarks.specs.declared.beginnings.Begins.{Begins}
+use Rattle.sedpass.specs.Table.{IsAhead, IsTable, SameShape}
+use Rattle.sedpass.specs.Kept.{IsKept, KeptRoom, SameSpace, owed}
 use Rattle.sedpass.specs.declared.nodes.Prepared.{Prepared}
 use Rattle.sedpass.specs.declared.table.Table.{Table}
 use Rattle.sedpass.specs.declared.kept.Kept.{Kept}
@@ -25,6 +26,25 @@ pub record Serves (p : Prepared) (w : List ℕ) (back : Table) (s : Seeking) : T
   pub room : KeptRoom (length p.arena.expr.nodes) (length w) back s.kept
   pub sweeps : IsTrue back.way.sweeps
   pub kept : IsTrue s.begun → IsKept p w back s.kept
+
+-- a search may be made: it is right where matches can begin, the table ahead is right, and what is kept serves
+pub record MaySearch (p : Prepared) (w : List ℕ) (first : Begins) (a b : Table) (s : Seeking) : Type 0 where
+  pub begins : AllBegin (tree p.arena.expr) first
+  pub ahead : IsAhead p a
+  pub serves : Serves p w b s
+
+-- from a and b, ahead and back, the tables came to be a' and b', of the same shapes, the one ahead is right, and there is as much room
+-- for what is kept
+pub record TablesStay (p : Prepared) (a a' b b' : Table) (k k' : Kept) : Type 0 where
+  pub ahead : IsAhead p a'
+  pub ahead_shape : SameShape a a'
+  pub back_shape : SameShape b b'
+  pub space : SameSpace k k'
+
+-- a search was made, which leaves all as the next one in the text needs it
+pub record Searched (p : Prepared) (w : List ℕ) (a a' b b' : Table) (s s' : Seeking) : Type 0 where
+  pub tables : TablesStay p a a' b b' s.kept s'.kept
+  pub serves : Serves p w b' s'
 
 -- no match begins from the place on before the trial's, and it tells the longest one from there
 pub record IsTrial (e : Tree) (w : List ℕ) (from : ℕ) (t : Trial) : Type 0 where
@@ -46,10 +66,9 @@ abbrev pub LooksAtHit : ℕ → ℕ → Trials → Type 0
 LooksAtHit before after (Hit i j) = TakesAtLeast before after (j - i)
 LooksAtHit before after other = Unit {0}
 
--- what is kept is right, the table has its shape, and the answer is the match from the place on, which was looked at byte by byte
-pub record IsNext (p : Prepared) (w : List ℕ) (from : ℕ) (old back : Table) (k : Kept) (before after : ℕ) (r : Option (ℕ × ℕ)) : Type 0 where
+-- what is kept is right, and the answer is the match from the place on, which was looked at byte by byte
+pub record IsNext (p : Prepared) (w : List ℕ) (from : ℕ) (back : Table) (k : Kept) (before after : ℕ) (r : Option (ℕ × ℕ)) : Type 0 where
   pub kept : IsKept p w back k
-  pub shape : SameShape old back
   pub answer : SpanAnswer (tree p.arena.expr) w from r
   pub counts : IfSome r (λ f. TakesAtLeast before after (f.1 - f.0))
 

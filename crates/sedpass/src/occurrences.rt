@@ -3,17 +3,16 @@
 //! A search for each occurrence, and one more a byte further on where the null string directly after an occurrence is passed over.
 ghost use Rattle.std.specs.Prelude.{◌≡◌, ℕ, false, Option, None, Some, ◌+◌, ◌-◌, ◌*◌, ◌<◌, ◌≤◌, length, nat_lt, if◌then◌else◌, IfSome, IsTrue};
 ghost use Rattle.sedmarks.specs.Answer.{SpanAnswer};
-ghost use Rattle.sedmarks.specs.Beginnings.{AllBegin};
 ghost use Rattle.sedmarks.specs.Costs.{Pays};
 ghost use Rattle.sedmarks.specs.Following.{LiesOn, next_span};
 ghost use Rattle.sedmarks.specs.Matching.{found};
 ghost use Rattle.sedmarks.specs.NextMatch.{unless_null_at};
 ghost use Rattle.sedre.specs.Arena.{tree};
 ghost use Rattle.sedre.specs.Steps.{Takes, TakesAtLeast};
-ghost use Rattle.sedpass.specs.Kept.{KeptRoom, SameSpace};
-ghost use Rattle.sedpass.specs.Occurrences.{further_cost, owed_behind};
-ghost use Rattle.sedpass.specs.Search.{Serves, owed_after, owed_search};
-ghost use Rattle.sedpass.specs.Table.{IsAhead, IsTable, SameShape};
+ghost use Rattle.sedpass.specs.Kept.{KeptRoom};
+ghost use Rattle.sedpass.specs.Occurrences.{Looks, further_cost, owed_behind};
+ghost use Rattle.sedpass.specs.Search.{MaySearch, Searched, Serves, owed_after, owed_search};
+ghost use Rattle.sedpass.specs.Table.{IsTable};
 
 use crate::kept::Subject;
 use crate::search::{Seeking, next_match};
@@ -62,14 +61,8 @@ fn past_null(
     steps: &mut Steps,
 ) -> Option<(usize, usize)>
     requires at { at ≤ length subject.text.now }
-    requires begins { AllBegin (tree subject.prepared.now.arena.expr) begins.now }
-    requires ahead { IsAhead subject.prepared.now ahead.old }
-    requires serves { Serves subject.prepared.now subject.text.now back.old seeking.old }
-    ensures ahead { IsAhead subject.entry.prepared.now ahead.new }
-    ensures ahead_shape { SameShape ahead.old ahead.new }
-    ensures space { SameSpace seeking.old.kept seeking.new.kept }
-    ensures serves { Serves subject.entry.prepared.now subject.entry.text.now back.new seeking.new }
-    ensures shape { SameShape back.old back.new }
+    requires ready { MaySearch subject.prepared.now subject.text.now begins.now ahead.old back.old seeking.old }
+    ensures searched { Searched subject.entry.prepared.now subject.entry.text.now ahead.old ahead.new back.old back.new seeking.old seeking.new }
     ensures next { result ≡ if nat_lt at (length subject.entry.text.now) then found (tree subject.entry.prepared.now.arena.expr) subject.entry.text.now (at + 1) else None }
     ensures lies { IfSome result (λ f. (at < f.0) × (f.0 ≤ f.1) × (f.1 ≤ length subject.entry.text.now)) }
     ensures cost { let m = length subject.entry.prepared.now.arena.expr.nodes in let n = length subject.entry.text.now in
@@ -99,21 +92,13 @@ pub fn next_after(
     steps: &mut Steps,
 ) -> Option<(usize, usize)>
     requires at { at ≤ length subject.text.now }
-    requires begins { AllBegin (tree subject.prepared.now.arena.expr) begins.now }
-    requires ahead { IsAhead subject.prepared.now ahead.old }
-    requires serves { Serves subject.prepared.now subject.text.now back.old seeking.old }
-    ensures ahead { IsAhead subject.entry.prepared.now ahead.new }
-    ensures ahead_shape { SameShape ahead.old ahead.new }
-    ensures space { SameSpace seeking.old.kept seeking.new.kept }
-    ensures serves { Serves subject.entry.prepared.now subject.entry.text.now back.new seeking.new }
-    ensures shape { SameShape back.old back.new }
+    requires ready { MaySearch subject.prepared.now subject.text.now begins.now ahead.old back.old seeking.old }
+    ensures searched { Searched subject.entry.prepared.now subject.entry.text.now ahead.old ahead.new back.old back.new seeking.old seeking.new }
     ensures next { result ≡ next_span (found (tree subject.entry.prepared.now.arena.expr) subject.entry.text.now) (length subject.entry.text.now) (Some at) }
     ensures lies { IfSome result (LiesOn (length subject.entry.text.now) (Some at)) }
     ensures cost { let m = length subject.entry.prepared.now.arena.expr.nodes in let n = length subject.entry.text.now in
         Pays steps.old steps.new (owed_behind m n seeking.old at) (owed_after (owed_behind m n seeking.new) result) }
-    ensures once { let m = length subject.entry.prepared.now.arena.expr.nodes in let n = length subject.entry.text.now in
-        Takes steps.old steps.new (64 * m * m * (n + 1) * (n + 1)) }
-    ensures counts { IfSome result (λ f. TakesAtLeast steps.old steps.new (f.1 - f.0)) }
+    ensures looks { Looks (length subject.entry.prepared.now.arena.expr.nodes) (length subject.entry.text.now) steps.old steps.new result }
 {
     let first = next_match(subject, begins, ahead, back, seeking, at, steps);
     if !is_null_at(first, at) {

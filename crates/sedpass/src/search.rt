@@ -12,8 +12,8 @@ ghost use Rattle.sedre.specs.Arena.{tree};
 ghost use Rattle.sedre.specs.Steps.{Takes, TakesAtLeast};
 ghost use Rattle.sedpass.specs.declared.search.Trials.TheVariants.{Nothing, Tired};
 ghost use Rattle.sedpass.specs.Table.{IsAhead, IsTable, SameShape};
-ghost use Rattle.sedpass.specs.Kept.{IsKept, KeptRoom, SameSpace, owed};
-ghost use Rattle.sedpass.specs.Search.{IsNext, IsTrial, LooksAtHit, Serves, TrialsAnswer, trial_cost, trials_cost, trials_room, owed_kept, owed_search, owed_after, search_cost};
+ghost use Rattle.sedpass.specs.Kept.{IsKept, KeptRoom, owed};
+ghost use Rattle.sedpass.specs.Search.{IsNext, IsTrial, LooksAtHit, MaySearch, Searched, TablesStay, TrialsAnswer, trial_cost, trials_cost, trials_room, owed_kept, owed_search, owed_after, search_cost};
 
 use crate::kept::{Kept, Subject};
 use crate::nodes::kind_of;
@@ -165,10 +165,8 @@ fn next_kept(
     requires ahead { IsAhead subject.prepared.now ahead.old }
     requires kept { IsKept subject.prepared.now subject.text.now back.old kept.old }
     requires sweeps { IsTrue back.old.way.sweeps }
-    ensures ahead { IsAhead subject.entry.prepared.now ahead.new }
-    ensures ahead_shape { SameShape ahead.old ahead.new }
-    ensures space { SameSpace kept.old kept.new }
-    ensures next { IsNext subject.entry.prepared.now subject.entry.text.now from back.old back.new kept.new steps.old steps.new result }
+    ensures tables { TablesStay subject.entry.prepared.now ahead.old ahead.new back.old back.new kept.old kept.new }
+    ensures next { IsNext subject.entry.prepared.now subject.entry.text.now from back.new kept.new steps.old steps.new result }
     ensures cost { let m = length subject.entry.prepared.now.arena.expr.nodes in let n = length subject.entry.text.now in
         Pays steps.old steps.new (owed_kept m n kept.old.region from + 42 * m) (owed_after (λ q. owed_kept m n kept.new.region q) result) }
 {
@@ -195,10 +193,8 @@ pub fn next_begun(
     requires table { IsTable subject.prepared.now back.old }
     requires room { KeptRoom (length subject.prepared.now.arena.expr.nodes) (length subject.text.now) back.old kept.old }
     requires sweeps { IsTrue back.old.way.sweeps }
-    ensures ahead { IsAhead subject.entry.prepared.now ahead.new }
-    ensures ahead_shape { SameShape ahead.old ahead.new }
-    ensures space { SameSpace kept.old kept.new }
-    ensures next { IsNext subject.entry.prepared.now subject.entry.text.now from back.old back.new kept.new steps.old steps.new result }
+    ensures tables { TablesStay subject.entry.prepared.now ahead.old ahead.new back.old back.new kept.old kept.new }
+    ensures next { IsNext subject.entry.prepared.now subject.entry.text.now from back.new kept.new steps.old steps.new result }
     ensures cost { let m = length subject.entry.prepared.now.arena.expr.nodes in let n = length subject.entry.text.now in
         Pays steps.old steps.new (142 * m * (n - from) + 42 * m) (owed_after (λ q. owed_kept m n kept.new.region q) result) }
 {
@@ -218,14 +214,8 @@ pub fn next_match(
     steps: &mut Steps,
 ) -> Option<(usize, usize)>
     requires from { from ≤ length subject.text.now }
-    requires begins { AllBegin (tree subject.prepared.now.arena.expr) begins.now }
-    requires ahead { IsAhead subject.prepared.now ahead.old }
-    requires serves { Serves subject.prepared.now subject.text.now back.old seeking.old }
-    ensures ahead { IsAhead subject.entry.prepared.now ahead.new }
-    ensures ahead_shape { SameShape ahead.old ahead.new }
-    ensures space { SameSpace seeking.old.kept seeking.new.kept }
-    ensures serves { Serves subject.entry.prepared.now subject.entry.text.now back.new seeking.new }
-    ensures shape { SameShape back.old back.new }
+    requires ready { MaySearch subject.prepared.now subject.text.now begins.now ahead.old back.old seeking.old }
+    ensures searched { Searched subject.entry.prepared.now subject.entry.text.now ahead.old ahead.new back.old back.new seeking.old seeking.new }
     ensures answer { SpanAnswer (tree subject.entry.prepared.now.arena.expr) subject.entry.text.now from result }
     ensures cost { let m = length subject.entry.prepared.now.arena.expr.nodes in let n = length subject.entry.text.now in
         Pays steps.old steps.new (owed_search m n seeking.old from + 42 * m) (owed_after (owed_search m n seeking.new) result) }

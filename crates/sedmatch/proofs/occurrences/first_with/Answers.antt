@@ -27,14 +27,15 @@ returns-clause-cost c =
           c.next_match.result less (omega (arith, looks.1)) pays.1,
     )
 
-pub returns-clause-once : goal.returns-clause-once
-returns-clause-once c =
+pub returns-clause-looks : goal.returns-clause-looks
+returns-clause-looks c =
     let last = c.args.sought.now.prepared.is_prepared.last in
     let looks = c.first_place.ensures.cost in
-    let each = c.next_match.ensures.each in (
-      omega (arith, looks.0, each.0),
-      first_square (length c.args.sought.now.prepared.arena.expr.nodes) (length c.args.text.now) c.in_ok-start.start c.args.steps.now c.first_place.new.steps c.next_match.new.steps (omega (arith, last)) (omega (arith, looks.1)) each.1,
-    )
-
-pub returns-clause-counts : goal.returns-clause-counts
-returns-clause-counts c = found_since c.args.steps.now c.first_place.new.steps c.next_match.new.steps c.next_match.result c.first_place.ensures.cost.0 c.next_match.ensures.counts
+    let each = c.next_match.ensures.each in
+    record {
+      once = (
+        omega (arith, looks.0, each.0),
+        first_square (length c.args.sought.now.prepared.arena.expr.nodes) (length c.args.text.now) c.in_ok-start.start c.args.steps.now c.first_place.new.steps c.next_match.new.steps (omega (arith, last)) (omega (arith, looks.1)) each.1,
+      );
+      counts = found_since c.args.steps.now c.first_place.new.steps c.next_match.new.steps c.next_match.result looks.0 c.next_match.ensures.counts;
+    }

@@ -12,15 +12,15 @@ returns-clause-serves c =
     let w = c.args.text.now in
     let mid = c.make_ready.new.self in
     let new : Occurrences = record { seeking = c.next_with.new.seeking; tables = record { all = with_item mid.tables.all mid.at c.next_with.new.back; slots = mid.tables.slots }; number = mid.number; at = mid.at; is_fresh = mid.is_fresh } in
-    let shape = λ (t : Table) (at : slice_get mid.tables.all.items mid.at ≡ Some t). room_at_shape mid.tables.all.items mid.at c.index_mut-back.result.now t c.next_with.new.back c.index_mut-back.ensures.value at c.next_with.ensures.back_shape in
+    let shape = λ (t : Table) (at : slice_get mid.tables.all.items mid.at ≡ Some t). room_at_shape mid.tables.all.items mid.at c.index_mut-back.result.now t c.next_with.new.back c.index_mut-back.ensures.value at c.next_with.ensures.searched.tables.back_shape in
     let kept = c.make_ready.ensures.room in (
       (
         kept.0,
         λ text es sought room.
-            keeps_on p w mid new c.next_with.new.back c.make_ready.ensures.at c.make_ready.ensures.used c.make_ready.ensures.ready refl refl refl refl shape c.next_with.ensures.serves c.next_with.ensures.space text es
+            keeps_on p w mid new c.next_with.new.back c.make_ready.ensures.at c.make_ready.ensures.used c.make_ready.ensures.ready refl refl refl refl shape c.next_with.ensures.searched.serves c.next_with.ensures.searched.tables.space text es
             (subst (λ x. slice_get es x ≡ Some p.arena.expr) (sym kept.0) sought) (kept.1 text es sought room),
       ),
-      serves_on p w mid new c.next_with.new.back c.make_ready.ensures.at c.make_ready.ensures.used c.make_ready.ensures.ready refl refl refl refl shape c.next_with.ensures.serves c.next_with.ensures.space c.next_with.result,
+      serves_on p w mid new c.next_with.new.back c.make_ready.ensures.at c.make_ready.ensures.used c.make_ready.ensures.ready refl refl refl refl shape c.next_with.ensures.searched.serves c.next_with.ensures.searched.tables.space c.next_with.result,
     )
 
 pub returns-clause-cost : goal.returns-clause-cost

@@ -16,10 +16,10 @@ next_begun-requires-clause-room c =
 
 pub returns-clause-desk : goal.returns-clause-desk
 returns-clause-desk c =
-    span_again c.args.desk.now c.args.once.now.prepared c.next_begun.new.kept c.fit.new.self c.next_begun.new.ahead c.requires.desk c.next_begun.ensures.space c.fit.ensures.room c.next_begun.ensures.ahead_shape c.next_begun.ensures.ahead.table
+    span_again c.args.desk.now c.args.once.now.prepared c.next_begun.new.kept c.fit.new.self c.next_begun.new.ahead c.requires.desk c.next_begun.ensures.tables.space c.fit.ensures.room c.next_begun.ensures.tables.ahead_shape c.next_begun.ensures.tables.ahead.table
 
 pub returns-clause-once : goal.returns-clause-once
 returns-clause-once c =
     let d = c.args.desk.now in
     let after : Desk = record d { room = record d.room { kept = c.next_begun.new.kept }; shared = record d.shared { ahead = c.next_begun.new.ahead } } in
-    once_again d after c.args.once.now c.args.once.now.prepared c.fit-2.new.self c.next_begun.new.back (refl, refl, refl) c.requires.once c.fit-2.ensures.room c.next_begun.ensures.next.shape c.next_begun.ensures.next.kept.region.table
+    once_again d after c.args.once.now c.args.once.now.prepared c.fit-2.new.self c.next_begun.new.back (refl, refl, refl) c.requires.once c.fit-2.ensures.room c.next_begun.ensures.tables.back_shape c.next_begun.ensures.next.kept.region.table

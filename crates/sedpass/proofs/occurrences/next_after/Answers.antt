@@ -34,12 +34,12 @@ returns-then-not-is_null_at-clause-cost c =
           (let pays = cost.1 in omega (arith, pays)),
     )
 
-pub returns-then-not-is_null_at-clause-once : goal.returns-then-not-is_null_at-clause-once
-returns-then-not-is_null_at-clause-once c =
+pub returns-then-not-is_null_at-clause-looks : goal.returns-then-not-is_null_at-clause-looks
+returns-then-not-is_null_at-clause-looks c =
     let last = c.args.subject.prepared.now.is_prepared.last in
     let each = c.next_match-first.ensures.each in
     let most = one_square (length c.args.subject.prepared.now.arena.expr.nodes) (length c.args.subject.text.now) c.args.at (omega (arith, last)) in
-    (each.0, omega (arith, each.1, most))
+    record { once = (each.0, omega (arith, each.1, most)); counts = c.next_match-first.ensures.counts }
 
 pub returns-clause-next : goal.returns-clause-next
 returns-clause-next c =
@@ -69,13 +69,13 @@ returns-clause-cost c =
     c.past_null.result (c.is_null_at.ensures.null (cc)) falls one.1 two.1 in
     (omega (arith, one.0, two.0), behind_paid m n at (owed_search m n old at) c.args.steps.now c.past_null.new.steps (owed_search m n c.past_null.new.seeking) c.past_null.result c.requires.at lies both)
 
-pub returns-clause-once : goal.returns-clause-once
-returns-clause-once c =
+pub returns-clause-looks : goal.returns-clause-looks
+returns-clause-looks c =
     let last = c.args.subject.prepared.now.is_prepared.last in
     let one = c.next_match-first.ensures.each in
     let two = c.past_null.ensures.once in
     let most = both_square (length c.args.subject.prepared.now.arena.expr.nodes) (length c.args.subject.text.now) c.args.at (omega (arith, last)) c.requires.at in
-    (omega (arith, one.0, two.0), omega (arith, one.1, two.1, most))
-
-pub returns-clause-counts : goal.returns-clause-counts
-returns-clause-counts c = found_since c.args.steps.now c.next_match-first.new.steps c.past_null.new.steps c.past_null.result c.next_match-first.ensures.each.0 c.past_null.ensures.counts
+    record {
+      once = (omega (arith, one.0, two.0), omega (arith, one.1, two.1, most));
+      counts = found_since c.args.steps.now c.next_match-first.new.steps c.past_null.new.steps c.past_null.result one.0 c.past_null.ensures.counts;
+    }

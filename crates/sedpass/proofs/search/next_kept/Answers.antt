@@ -1,5 +1,6 @@
 use Rattle.std.proofs.Common.{◌+◌, ◌-◌, ◌*◌, ◌≤◌, length, ap, ◌∙◌, arith}
 use Rattle.sedpass.proofs.CountLemmas.{least_fewer, least_since}
+use Rattle.sedpass.proofs.KeptLemmas.{same_shape}
 use Rattle.sedpass.proofs.SearchLemmas.{begins_some, kept_cost, kept_found, kept_none, none_cost}
 use Rattle.sedpass.proofs.search.next_kept.Goals as goal
 
@@ -10,7 +11,7 @@ returns-then-not-begins_there-clause-next c =
     let within = c.seek-start.ensures.within in
     let none = kept_none c.args.subject.prepared.now c.args.subject.text.now c.args.back.now.way.sweeps k.region.root k.region.end c.args.from c.seek-start.result c.begins_there.result
     region.table.expr.arena c.requires.sweeps (region.root.1 c.requires.sweeps) (omega (arith, within, region.inside)) c.seek-start.ensures.passed c.begins_there.ensures.inside c.begins_there.ensures.null (cc) in
-    record { kept = c.seek-start.ensures.kept; shape = c.seek-start.ensures.shape; answer = (tt, none, tt); counts = tt }
+    record { kept = c.seek-start.ensures.kept; answer = (tt, none, tt); counts = tt }
 
 pub returns-clause-next : goal.returns-clause-next
 returns-clause-next c =
@@ -28,15 +29,31 @@ returns-clause-next c =
     let seek = c.seek-start.ensures.cost in
     let null = c.begins_there.ensures.cost in
     let before = c.seek-start.ensures.shape in
-    let then = c.cut-end.ensures.shape.0 in
     let found = kept_found p w c.args.back.now.way.sweeps k.region.root k.region.end c.seek-start.new.table.way.sweeps c.seek-start.new.self.region.root c.seek-start.new.self.region.end c.args.from c.seek-start.result c.cut-end.result
     region.table.expr.arena c.requires.sweeps root (ap (λ v. v.sweeps) before.0 ∙ c.requires.sweeps) (c.seek-start.ensures.same.root ∙ root) c.seek-start.ensures.after low c.seek-start.ensures.passed begins c.cut-end.ensures.ceases in
     record {
       kept = c.cut-end.ensures.kept;
-      shape = (then.0 ∙ before.0, then.1 ∙ before.1, then.2 ∙ before.2, then.3 ∙ before.3, then.4 ∙ before.4);
       answer = (found, tt, (on, omega (arith, stop, c.seek-start.ensures.same.end, region.inside)));
       counts = least_since c.args.steps.now c.begins_there.new.steps c.cut-end.new.steps (c.cut-end.result - c.seek-start.result) (omega (arith, seek, null))
           (least_fewer c.begins_there.new.steps c.cut-end.new.steps (2 * (c.cut-end.result - c.seek-start.result) + 1) (c.cut-end.result - c.seek-start.result) (omega arith) c.cut-end.ensures.counts);
+    }
+
+pub returns-clause-tables : goal.returns-clause-tables
+returns-clause-tables c =
+    let ahead = c.cut-end.ensures.shape.1 in
+    let same = c.seek-start.ensures.same in
+    let then = c.cut-end.ensures.same in
+    let old = c.requires.ahead in
+    record {
+      ahead = record {
+        table = c.cut-end.ensures.ahead;
+        forwards = ap (λ v. v.mirrored) ahead.0 ∙ old.forwards;
+        single = ap (λ v. v.sweeps) ahead.0 ∙ old.single;
+        brief = ap (λ v. v.keeps) ahead.0 ∙ old.brief;
+      };
+      ahead_shape = ahead;
+      back_shape = same_shape c.args.back.now c.seek-start.new.table c.cut-end.new.table c.seek-start.ensures.shape c.cut-end.ensures.shape.0;
+      space = record { places = then.places ∙ same.places; edges = then.edges ∙ same.edges; marks = λ q. then.marks q ∙ same.marks q };
     }
 
 pub returns-clause-cost : goal.returns-clause-cost

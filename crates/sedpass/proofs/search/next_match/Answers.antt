@@ -10,7 +10,7 @@ returns-then-seeking-clause-each c =
     let m = length c.args.subject.prepared.now.arena.expr.nodes in
     let n = length c.args.subject.text.now in
     let region = c.args.seeking.now.kept.region in
-    let kept = c.requires.serves.kept c.if-seeking.true in
+    let kept = c.requires.ready.serves.kept c.if-seeking.true in
     let cost = c.next_kept.ensures.cost in
     (cost.0, begun_each m n c.args.from c.args.steps.now c.next_kept.new.steps (owed_kept m n region c.args.from) _ (kept_small m n region c.args.from kept.region.inside) cost.1)
 

@@ -83,7 +83,7 @@ returns-clause-once c =
           let value = w.deref_mut.ensures.value in
           let is : w.deref_mut.result.now.sought.prepared.arena.expr ≡ c.args.self.now = ap (λ (x : Passes). x.sought.prepared.arena.expr) value ∙ sym (ap written_of w.in-Passes.is) ∙ c.self.view_is in
           subst (λ v. Takes s v (64 * m * m * (n + 1) * (n + 1))) (sym w.steps-is)
-          (subst (λ v. Takes s w.next_by_passes.new.steps (64 * length v.nodes * length v.nodes * (n + 1) * (n + 1))) is w.next_by_passes.ensures.once)
+          (subst (λ v. Takes s w.next_by_passes.new.steps (64 * length v.nodes * length v.nodes * (n + 1) * (n + 1))) is w.next_by_passes.ensures.looks.once)
     ]
 
 pub invariant_of-scratch : goal.invariant_of-scratch
