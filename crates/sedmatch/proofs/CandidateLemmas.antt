@@ -5,11 +5,11 @@ use Rattle.std.proofs.lemmas.List.{get_or-append-add, get_or_append_left}
 use Rattle.std.proofs.lemmas.Option.{slice_get_within, slice_get-get_or, get_or_from_slice_get}
 use Rattle.memchr.specs.Find.{OccursAt}
 use Rattle.sedre.specs.Tree.{Tree}
-use Rattle.sedmarks.specs.Spans.{SomeFound}
-use Rattle.sedmarks.specs.Bytes.{AreBytes, FirstFrom}
-use Rattle.sedneedles.specs.Choice.{ChoiceAt, FirstChoice}
-use Rattle.sedneedles.specs.Needed.{FirstLiteral, IsNeeded}
-use Rattle.sedneedles.specs.declared.needed.Needed.{Needed}
+use Rattle.sedtext.specs.Spans.{SomeFound}
+use Rattle.sedtext.specs.Bytes.{AreBytes, FirstFrom}
+use Rattle.sedtext.specs.Choice.{ChoiceAt, FirstChoice}
+use Rattle.sedtext.specs.Needed.{FirstLiteral, IsNeeded}
+use Rattle.sedtext.specs.declared.needed.Needed.{Needed}
 use Rattle.sedmatch.specs.Direct.{FirstWith, FormSpans, SpannedAs, StartsWith}
 use Rattle.sedmatch.specs.Candidates.{IsBefore, NoMatchBefore}
 use Rattle.sedmatch.specs.declared.direct.First.{First}

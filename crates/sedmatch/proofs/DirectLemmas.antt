@@ -9,31 +9,31 @@ use Rattle.sedre.specs.declared.types.Node.{Node}
 use Rattle.sedre.specs.declared.types.NodeId.{NodeId}
 use Rattle.sedre.specs.declared.types.Node.TheVariants.{Set, Begin, End, Seq}
 use Rattle.sedre.specs.Steps.{Counted, Takes, TakesAtLeast}
-use Rattle.sedmarks.specs.Answer.{SpanAnswer}
-use Rattle.sedmarks.specs.Beginnings.{CanBegin, NextStart}
-use Rattle.sedmarks.specs.Bytes.{AreBytes, looked_at}
-use Rattle.sedmarks.specs.Costs.{Pays}
-use Rattle.sedmarks.specs.Reach.{At}
-use Rattle.sedmarks.specs.Runs.{Repeated, AllRepeat, IsRun}
-use Rattle.sedmarks.specs.Spans.{Spans, SomeFound, IsIn, no_copy}
-use Rattle.sedmarks.specs.declared.beginnings.Begins.TheVariants.{WithSet}
-use Rattle.sedneedles.specs.Choice.{FirstChoice}
-use Rattle.sedneedles.specs.Few.{FirstFew}
-use Rattle.sedneedles.specs.Needed.{IsLiteral, GoesOnAs, FirstLiteral}
-use Rattle.sedneedles.specs.Times.{FirstTimes}
-use Rattle.sedneedles.specs.Word.{WordSpans, AllWord}
-use Rattle.sedneedles.specs.declared.few.Few.{Few}
-use Rattle.sedneedles.specs.declared.needed.Literal.{Literal as Bytes}
-use Rattle.sedmatch.specs.Direct.{ComesFirst, StartsWith, RunsTo, FormSpans, SpannedAs, rate, IsDirect, CanStart, StartsFrom, FirstWith, FirstStart, FirstSpan, RunBegins}
+use Rattle.sedtext.specs.Answer.{SpanAnswer}
+use Rattle.sedtext.specs.Beginnings.{CanBegin, NextStart}
+use Rattle.sedtext.specs.Bytes.{AreBytes, looked_at}
+use Rattle.sedtext.specs.Costs.{Pays}
+use Rattle.sedtext.specs.Reach.{At}
+use Rattle.sedtext.specs.Runs.{Repeated, AllRepeat, IsRun, RunBegins}
+use Rattle.sedtext.specs.Spans.{Spans, SomeFound, IsIn, no_copy}
+use Rattle.sedtext.specs.declared.beginnings.Begins.TheVariants.{WithSet}
+use Rattle.sedtext.specs.Choice.{FirstChoice}
+use Rattle.sedtext.specs.Few.{FirstFew}
+use Rattle.sedtext.specs.Needed.{IsLiteral, GoesOnAs, FirstLiteral}
+use Rattle.sedtext.specs.Times.{FirstTimes}
+use Rattle.sedtext.specs.Word.{WordSpans, AllWord}
+use Rattle.sedtext.specs.declared.counted.few.Few.{Few}
+use Rattle.sedtext.specs.declared.needed.Literal.{Literal as Bytes}
+use Rattle.sedmatch.specs.Direct.{ComesFirst, StartsWith, RunsTo, FormSpans, SpannedAs, rate, IsDirect, CanStart, StartsFrom, FirstWith, FirstStart, FirstSpan}
 use Rattle.sedmatch.specs.declared.direct.First.{First}
 use Rattle.sedmatch.specs.declared.direct.First.TheVariants.{Among, Member}
 use Rattle.sedmatch.specs.declared.direct.DirectForm.{DirectForm}
 use Rattle.sedmatch.specs.declared.direct.DirectForm.TheVariants.{Anchor, OneByte, Run, ByteThenRun, RunThenByte, RunAtEnd, ByteThenRunAtEnd, Times, Literal, Choice}
-use Rattle.sedmarks.proofs.ReachLemmas.{open_at, close_at}
-use Rattle.sedmarks.proofs.RunLemmas.{run_longest}
-use Rattle.sedmarks.proofs.SpanLemmas.{Copies-forward}
-use Rattle.sedneedles.proofs.CountLemmas.{least_counted, least_none, least_up}
-use Rattle.sedneedles.proofs.TimesLemmas.{repeated_cut, repeated_in}
+use Rattle.sedtext.proofs.ReachLemmas.{open_at, close_at}
+use Rattle.sedtext.proofs.RunLemmas.{run_longest}
+use Rattle.sedtext.proofs.SpanLemmas.{Copies-forward}
+use Rattle.sedtext.proofs.CountLemmas.{least_counted, least_none, least_up}
+use Rattle.sedtext.proofs.TimesLemmas.{repeated_cut, repeated_in}
 
 -- what comes first, where its bytes are those of the set
 abbrev AreFirst : First → List Bool → Type 0

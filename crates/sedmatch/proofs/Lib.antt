@@ -1,5 +1,5 @@
-pub use Rattle.sedmarks.proofs.MatchingLemmas
-pub use Rattle.sedmarks.proofs.SpanLemmas
+pub use Rattle.sedtext.proofs.MatchingLemmas
+pub use Rattle.sedtext.proofs.SpanLemmas
 pub mod CandidateLemmas
 pub mod CountLemmas
 pub mod DirectLemmas
@@ -7,5 +7,4 @@ pub mod MatcherLemmas
 pub mod OccurrenceLemmas
 pub mod OnceLemmas
 pub mod RoomLemmas
-pub mod RunBackLemmas
 pub mod PassLemmas

@@ -5,11 +5,11 @@ use Rattle.std.specs.Option.{unwrap_or}
 use Rattle.std.proofs.lemmas.Bool.Decides.{nat_tests}
 use Rattle.sedre.specs.Arena.{Written}
 use Rattle.sedre.specs.Tree.{Tree}
-use Rattle.sedmarks.specs.Costs.{Pays}
-use Rattle.sedmarks.specs.Answer.{SpanAnswer}
-use Rattle.sedmarks.specs.Following.{EndsWithin, LiesOn, next_span}
-use Rattle.sedmarks.specs.Matching.{found}
-use Rattle.sedmarks.specs.NextMatch.{unless_null_at}
+use Rattle.sedtext.specs.Costs.{Pays}
+use Rattle.sedtext.specs.Answer.{SpanAnswer}
+use Rattle.sedtext.specs.Following.{EndsWithin, LiesOn, next_span}
+use Rattle.sedtext.specs.Matching.{found}
+use Rattle.sedtext.specs.NextMatch.{unless_null_at}
 use Rattle.sedpass.specs.Occurrences.{owed_behind}
 use Rattle.sedpass.proofs.OccurrenceLemmas.{answer_found, passed_by, search_falls}
 use Rattle.sedmatch.specs.Direct.{IsDirect, end_or}

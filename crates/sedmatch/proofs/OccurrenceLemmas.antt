@@ -5,8 +5,8 @@ use Rattle.std.proofs.lemmas.Bool.{cases_eq, cases_lt}
 use Rattle.std.proofs.lemmas.List.{get_or-append-add, get_or_append_left}
 use Rattle.std.proofs.lemmas.Option.{get_or_from_slice_get, slice_get-get_or, slice_get_read, slice_get_within}
 use Rattle.sedre.specs.Arena.{Written}
-use Rattle.sedmarks.specs.Costs.{Pays}
-use Rattle.sedmarks.specs.Following.{LiesOn}
+use Rattle.sedtext.specs.Costs.{Pays}
+use Rattle.sedtext.specs.Following.{LiesOn}
 use Rattle.sedpass.specs.Kept.{KeptRoom, SameSpace}
 use Rattle.sedpass.specs.Occurrences.{owed_behind}
 use Rattle.sedpass.specs.Search.{Serves as SearchServes, owed_after as owed_after_search}
@@ -20,7 +20,7 @@ use Rattle.sedpass.proofs.OccurrenceLemmas.{search_falls}
 use Rattle.sedpass.proofs.SearchLemmas.{search_long}
 use Rattle.sedpass.proofs.TableLemmas.{roomy_fewer, roomy_still}
 use Rattle.sedpass.specs.Search.{search_cost}
-use Rattle.sedmarks.specs.Words.{row_of}
+use Rattle.sedtext.specs.Words.{row_of}
 use Rattle.std.specs.Prelude.{vec_capacity}
 use Rattle.sedmatch.proofs.PassLemmas.{blocks_suffice}
 use Rattle.sedmatch.specs.declared.occurrences.BackTables.{BackTables}

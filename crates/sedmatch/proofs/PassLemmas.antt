@@ -6,10 +6,10 @@ use Rattle.std.proofs.Math.Nat.{lt-div-mul-add}
 use Rattle.sedre.specs.Arena.{IsExpr, Written, tree}
 use Rattle.sedre.specs.Steps.{TakesAtLeast}
 use Rattle.sedre.specs.Tree.{Tree}
-use Rattle.sedmarks.specs.Caps.{IsReport, no_groups}
-use Rattle.sedmarks.specs.Spans.{SomeFound, Spans}
-use Rattle.sedmarks.proofs.GroupLemmas.{Caps-none, no_groups_at}
-use Rattle.sedneedles.specs.Needed.{Narrowed}
+use Rattle.sedtext.specs.Caps.{IsReport, no_groups}
+use Rattle.sedtext.specs.Spans.{SomeFound, Spans}
+use Rattle.sedtext.proofs.GroupLemmas.{Caps-none, no_groups_at}
+use Rattle.sedtext.specs.Needed.{Narrowed}
 use Rattle.sedpass.specs.Decide.{AreGroupTables, AreRoomy, HasDesk, HasSpace, SameRooms, SameTables}
 use Rattle.sedpass.specs.Kept.{SameSpace}
 use Rattle.sedpass.specs.Table.{IsRoomy, IsTable, SameRoom, SameShape}

@@ -1,7 +1,7 @@
 -- What a look at a text of many lines tells of matches in its lines.
 use Rattle.std.specs.Prelude.{◌≡◌, ℕ, ◌+◌, ◌<◌, List, ◌++◌, length, Option, Some, None}
 use Rattle.sedre.specs.Tree.{Tree}
-use Rattle.sedmarks.specs.Spans.{SomeFound}
+use Rattle.sedtext.specs.Spans.{SomeFound}
 
 -- it is before the place, where one is told
 abbrev pub IsBefore : ℕ → Option ℕ → Type 0

@@ -4,13 +4,13 @@ use Rattle.std.specs.Prelude.{◌≡◌, ℕ, ◌+◌, ◌*◌, ◌<◌, ◌≤�
 use Rattle.memchr.specs.Find.{OccursAt}
 use Rattle.sedre.specs.Arena.{Written, tree}
 use Rattle.sedre.specs.Tree.{Tree}
-use Rattle.sedmarks.specs.Bytes.{AreBytes, FirstFrom}
-use Rattle.sedmarks.specs.Runs.{Repeated}
-use Rattle.sedmarks.specs.Spans.{Spans, IsIn}
-use Rattle.sedneedles.specs.Choice.{ChoiceAt, ChoiceSpans}
-use Rattle.sedneedles.specs.Few.{HasFew}
-use Rattle.sedneedles.specs.Times.{HasTimes}
-use Rattle.sedneedles.specs.Word.{WordSpans}
+use Rattle.sedtext.specs.Bytes.{AreBytes, FirstFrom}
+use Rattle.sedtext.specs.Runs.{Repeated}
+use Rattle.sedtext.specs.Spans.{Spans, IsIn}
+use Rattle.sedtext.specs.Choice.{ChoiceAt, ChoiceSpans}
+use Rattle.sedtext.specs.Few.{HasFew}
+use Rattle.sedtext.specs.Times.{HasTimes}
+use Rattle.sedtext.specs.Word.{WordSpans}
 use Rattle.sedmatch.specs.declared.direct.Anchor.{Anchor as Anchors}
 use Rattle.sedmatch.specs.declared.direct.First.{First}
 use Rattle.sedmatch.specs.declared.direct.First.TheVariants.{Among, Member}
@@ -99,7 +99,3 @@ FirstSpan form w p (Some f) = FirstStart form w p (Some f.0) × EndsAt form w f.
 abbrev pub end_or : ℕ → Option (ℕ × ℕ) → ℕ
 end_or n None = n
 end_or n (Some f) = f.1
-
--- of the places from p on, i is the first from which all bytes up to but not including q are in the set
-abbrev pub RunBegins : List Bool → List ℕ → ℕ → ℕ → ℕ → Type 0
-RunBegins members w p q i = (p ≤ i) × (i ≤ q) × Repeated members w i q × ((h : ℕ) → p ≤ h → h < i → Repeated members w h q → ⊥)

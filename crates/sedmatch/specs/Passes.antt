@@ -2,8 +2,8 @@
 -- An expression that is searched by passes, with its tables, and the room for passes.
 use Rattle.std.specs.Prelude.{◌≡◌, ◌+◌, ◌-◌, ◌/◌, ◌≤◌, true, false, length, vec_capacity, Option, Some, None}
 use Rattle.sedre.specs.Arena.{Written, tree}
-use Rattle.sedmarks.specs.Beginnings.{AllBegin}
-use Rattle.sedneedles.specs.Hints.{AreHints}
+use Rattle.sedtext.specs.Beginnings.{AllBegin}
+use Rattle.sedtext.specs.Hints.{AreHints}
 use Rattle.sedpass.specs.Decide.{AreGroupTables, AreRoomy, HasSpace}
 use Rattle.sedpass.specs.Table.{IsRoomy, IsTable}
 use Rattle.sedpass.specs.declared.nodes.Prepared.{Prepared}

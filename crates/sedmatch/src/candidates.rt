@@ -5,13 +5,13 @@
 ghost use Rattle.std.specs.Prelude.{◌+◌, ◌*◌, length};
 ghost use Rattle.sedre.specs.Tree.{Tree};
 ghost use Rattle.sedre.specs.Steps.{Takes};
-ghost use Rattle.sedneedles.specs.Needed.{IsNeeded};
+ghost use Rattle.sedtext.specs.Needed.{IsNeeded};
 ghost use Rattle.sedmatch.specs.Candidates.{NoMatchBefore};
 
-use sedmarks::counted::Text;
-use sedneedles::lookups::find_literal;
-use sedneedles::needed::Needed;
 use sedre::Steps;
+use sedtext::counted::Text;
+use sedtext::counted::lookups::find_literal;
+use sedtext::needed::Needed;
 
 /// A place of the text before which no line has a match that holds the literal, or None where no line has one.
 pub fn needed_candidate(needed: &Option<Needed>, text: &Text, steps: &mut Steps) -> Option<usize>

@@ -9,24 +9,23 @@ ghost use Rattle.std.specs.Prelude.{◌≡◌, ℕ, ◌+◌, ◌-◌, ◌*◌, �
 ghost use Rattle.sedre.specs.Arena.{IsArena, Written, tree};
 ghost use Rattle.sedre.specs.Steps.{Takes, Counted, TakesAtLeast};
 ghost use Rattle.sedre.specs.declared.types.Node.TheVariants.{Seq, Set};
-ghost use Rattle.sedmarks.specs.Answer.{SpanAnswer};
-ghost use Rattle.sedmarks.specs.Bytes.{looked_at};
-ghost use Rattle.sedmarks.specs.Costs.{Pays};
-ghost use Rattle.sedmarks.specs.Spans.{SomeFound, IsIn};
+ghost use Rattle.sedtext.specs.Answer.{SpanAnswer};
+ghost use Rattle.sedtext.specs.Bytes.{looked_at};
+ghost use Rattle.sedtext.specs.Costs.{Pays};
+ghost use Rattle.sedtext.specs.Spans.{SomeFound, IsIn};
 ghost use Rattle.sedmatch.specs.Candidates.{NoMatchBefore};
 ghost use Rattle.sedmatch.specs.Direct.{ComesFirst, FirstWith, FirstStart, FirstSpan, IsDirect, SpannedAs, StartsFrom, end_or, rate};
 ghost use Rattle.sedmatch.specs.declared.direct.DirectForm.TheVariants.{ByteThenRunAtEnd, Anchor as AnchorForm, OneByte, Run, ByteThenRun, RunThenByte, RunAtEnd, Times, Literal, Choice as ChoiceForm};
 
-use crate::runs_back::run_begin;
 use crate::word::{Word, word_of};
-use sedmarks::counted::{Text, are_bytes};
-use sedmarks::members::{find_member, run_end};
-use sedmarks::repeats::star_set;
-use sedneedles::choice::{Choice, choice_of};
-use sedneedles::few::{Few, members_of};
-use sedneedles::lookups::find_few;
-use sedneedles::times::{find_times, times_of};
 use sedre::{ByteSet, Expr, Node, NodeId, Steps};
+use sedtext::counted::choice::{Choice, choice_of};
+use sedtext::counted::few::{Few, members_of};
+use sedtext::counted::lookups::find_few;
+use sedtext::counted::members::{find_member, run_begin, run_end};
+use sedtext::counted::{Text, are_bytes};
+use sedtext::repeats::star_set;
+use sedtext::times::{find_times, times_of};
 use std::alloc::{AllocError, Global};
 
 /// The byte that comes first in a match, or another byte of it that is sought alike.

@@ -18,7 +18,6 @@ mod candidates;
 mod direct;
 mod occurrences;
 mod passes;
-mod runs_back;
 mod scratch;
 mod table_matcher;
 mod table_room;
@@ -27,7 +26,7 @@ mod word;
 
 pub use occurrences::Occurrences;
 pub use scratch::Scratch;
-pub use sedmarks::{Found, Marks, Text, found_law, groups_law, spans_law};
+pub use sedtext::{Found, Marks, Text, found_law, groups_law, spans_law};
 pub use table_matcher::TableMatcher;
 pub use table_room::TableRoom;
 pub use whole::{find, find_span, is_match};

@@ -1,10 +1,10 @@
 //! All occurrences in one text, one after another.
 ghost use Rattle.std.specs.Prelude.{◌≡◌, ℕ, List, false, ◌+◌, ◌-◌, ◌*◌, ◌/◌, ◌^◌, ◌<◌, ◌≤◌, length, IfOk, IfSome, IsTrue, slice_get, Some};
 ghost use Rattle.sedre.specs.Arena.{Written, tree};
-ghost use Rattle.sedmarks.specs.Answer.{SpanAnswer};
-ghost use Rattle.sedmarks.specs.Costs.{Pays};
-ghost use Rattle.sedmarks.specs.Following.{EndsWithin, Occurs, next_span};
-ghost use Rattle.sedmarks.specs.Matching.{found};
+ghost use Rattle.sedtext.specs.Answer.{SpanAnswer};
+ghost use Rattle.sedtext.specs.Costs.{Pays};
+ghost use Rattle.sedtext.specs.Following.{EndsWithin, Occurs, next_span};
+ghost use Rattle.sedtext.specs.Matching.{found};
 ghost use Rattle.sedpass.specs.Occurrences.{Looks, owed_behind};
 ghost use Rattle.sedpass.specs.Search.{MaySearch, Searched, owed_after as owed_after_search};
 ghost use Rattle.sedpass.specs.Table.{IsAhead, IsRoomy, SameShape};
@@ -14,7 +14,6 @@ ghost use Rattle.sedmatch.specs.Passes.{IsSought};
 
 use crate::passes::{BACK, Sought, has_blocks};
 use crate::table_matcher::TableMatcher;
-use sedmarks::counted::Text;
 use sedpass::kept::{Kept, Subject};
 use sedpass::nodes::Prepared;
 use sedpass::occurrences::{begin_text, next_after};
@@ -22,6 +21,7 @@ use sedpass::search::{Seeking, next_match};
 use sedpass::table::Table;
 use sedpass::width::width_for;
 use sedre::Steps;
+use sedtext::counted::Text;
 use std::alloc::{AllocError, Global};
 
 /// How many expressions have a table of their own at most.

@@ -2,21 +2,18 @@
 ghost use Rattle.std.specs.Prelude.{◌≡◌, ℕ, List, ◌+◌, ◌-◌, ◌*◌, ◌/◌, ◌<◌, ◌≤◌, ◌↔◌, [], length, vec_capacity, IfOk, IfSome, IsTrue};
 ghost use Rattle.sedre.specs.Arena.{IsExpr, Written, tree};
 ghost use Rattle.sedre.specs.Steps.{Takes, TakesAtLeast};
-ghost use Rattle.sedmarks.specs.Beginnings.{AllBegin};
-ghost use Rattle.sedmarks.specs.declared.beginnings.Begins.TheVariants.{AtStart};
+ghost use Rattle.sedtext.specs.Beginnings.{AllBegin};
+ghost use Rattle.sedtext.specs.declared.beginnings.Begins.TheVariants.{AtStart};
 ghost use Rattle.sedpass.specs.Find.{IsSweep};
 ghost use Rattle.sedpass.specs.Table.{IsAhead, SameShape};
-ghost use Rattle.sedmarks.specs.Caps.{IsReport};
-ghost use Rattle.sedmarks.specs.Spans.{SomeFound, Spans};
+ghost use Rattle.sedtext.specs.Caps.{IsReport};
+ghost use Rattle.sedtext.specs.Spans.{SomeFound, Spans};
 ghost use Rattle.sedpass.specs.Decide.{HasDesk, SameTables, found};
 ghost use Rattle.sedpass.specs.Kept.{SameSpace};
 ghost use Rattle.sedmatch.specs.Passes.{AreOwn, ArePasses, IsDesk, IsSought, SameDesk};
 
 use crate::scratch::Desk;
 use crate::table_room::TableRoom;
-use sedmarks::beginnings::{Begins, how_begins};
-use sedmarks::counted::Text;
-use sedneedles::hints::{Hints, find_hints};
 use sedpass::find::is_match;
 use sedpass::groups::{GroupRoom, GroupTables, all_groups, decide};
 use sedpass::kept::{Kept, Subject};
@@ -24,6 +21,9 @@ use sedpass::nodes::Prepared;
 use sedpass::rows::{Way, Work};
 use sedpass::table::Table;
 use sedre::{Expr, Steps};
+use sedtext::beginnings::{Begins, how_begins};
+use sedtext::counted::Text;
+use sedtext::hints::{Hints, find_hints};
 use std::alloc::{AllocError, Global};
 
 /// What is found out of an expression once.

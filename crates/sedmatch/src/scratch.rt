@@ -45,7 +45,7 @@ pub struct Scratch {
 }
 
 impl Model for Scratch {
-    ghost use Rattle.sedmarks.specs.SearchRoom.{SearchRoom};
+    ghost use Rattle.sedtext.specs.SearchRoom.{SearchRoom};
 
     ghost Value = { SearchRoom };
 

@@ -1,21 +1,21 @@
 //! Searches of an expression that is used once (XBD 9.1). They make it ready for passes in the room of the scratch.
 ghost use Rattle.std.specs.Prelude.{◌≡◌, ◌+◌, ◌-◌, ◌*◌, ◌≤◌, ◌↔◌, length, IfNone, IfSome, IsTrue, is_some};
 ghost use Rattle.sedre.specs.Arena.{tree};
-ghost use Rattle.sedmarks.specs.Spans.{SomeFound};
-ghost use Rattle.sedmarks.specs.Answer.{IsComputed, MatchAnswer, SpanAnswer};
-ghost use Rattle.sedmarks.specs.Matching.{found};
-ghost use Rattle.sedmarks.specs.SearchRoom.{FitInto};
+ghost use Rattle.sedtext.specs.Spans.{SomeFound};
+ghost use Rattle.sedtext.specs.Answer.{IsComputed, MatchAnswer, SpanAnswer};
+ghost use Rattle.sedtext.specs.Matching.{found};
+ghost use Rattle.sedtext.specs.SearchRoom.{FitInto};
 ghost use Rattle.sedre.specs.Steps.{StepsWithin, Takes, TakesAtLeast};
 ghost use Rattle.sedmatch.specs.Passes.{IsDesk, IsOnce, SameDesk};
 
 use crate::passes::shared_groups;
 use crate::scratch::{Desk, Once, Scratch};
-use sedmarks::beginnings::Begins;
-use sedmarks::{Found, Text};
 use sedpass::kept::Subject;
 use sedpass::nodes::Prepared;
 use sedpass::search::next_begun;
 use sedre::{Expr, Steps};
+use sedtext::beginnings::Begins;
+use sedtext::{Found, Text};
 
 /// Where the match begins and ends that [`find`] finds, of an expression that was made ready.
 fn first_span(

@@ -2,15 +2,15 @@
 //!
 //! The search for it tells the whole match, so that no table is looked at.
 ghost use Rattle.std.specs.Prelude.{◌≡◌, ℕ, List, ◌+◌, ◌<◌, ◌≤◌, ◌-◌, length, IfOk, IfSome};
-ghost use Rattle.sedneedles.specs.Needed.{FirstLiteral, passed_to};
-ghost use Rattle.sedneedles.specs.Word.{AllWord};
+ghost use Rattle.sedtext.specs.Needed.{FirstLiteral, passed_to};
+ghost use Rattle.sedtext.specs.Word.{AllWord};
 ghost use Rattle.sedre.specs.Steps.{Takes, Counted};
 
 use memchr::memmem::Finder;
-use sedmarks::counted::Text;
-use sedneedles::lookups::find_literal;
-use sedneedles::needed::{Literal, literal_from};
 use sedre::{Expr, Steps};
+use sedtext::counted::Text;
+use sedtext::counted::lookups::find_literal;
+use sedtext::needed::{Literal, literal_from};
 use std::alloc::{AllocError, Global};
 use std::marker::Model;
 

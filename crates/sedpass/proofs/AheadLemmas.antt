@@ -4,9 +4,9 @@ use Rattle.std.specs.Prelude.{slice_get, slice_index_or, nat_lt}
 use Rattle.std.proofs.lemmas.Bool.{and_from, and_parts, cases_lt, lt-ltb, ltb-true}
 use Rattle.sedre.specs.Arena.{Written}
 use Rattle.sedre.specs.Mirror.{seen}
-use Rattle.sedmarks.specs.Matching.{takes}
-use Rattle.sedmarks.specs.Reach.{one_start}
-use Rattle.sedmarks.specs.Words.{row_of}
+use Rattle.sedtext.specs.Matching.{takes}
+use Rattle.sedtext.specs.Reach.{one_start}
+use Rattle.sedtext.specs.Words.{row_of}
 use Rattle.sedpass.specs.Kept.{ends_told, Follows, IsKept, IsLive, IsRegion, Meet}
 use Rattle.sedpass.specs.Regions.{Meets}
 use Rattle.sedpass.specs.Rows.{bits, nodes_of, at_begin, at_end, RowAt, LeadsTo, IsFirst, SameBytes}

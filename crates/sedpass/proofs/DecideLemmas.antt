@@ -13,12 +13,12 @@ use Rattle.sedre.specs.declared.types.Node.{Node}
 use Rattle.sedre.specs.Steps.{TakesAtLeast}
 use Rattle.sedre.specs.declared.types.Node.TheVariants.{Empty, Set, Begin, End, Seq, Alt, Group, Star, Opt}
 use Rattle.sedre.proofs.TreeLemmas.{tree_at-node}
-use Rattle.sedmarks.proofs.NodeLemmas.{node_at}
-use Rattle.sedmarks.specs.Caps.{Groups, LastCut, LastCopy}
-use Rattle.sedmarks.specs.Reach.{At, one_start}
+use Rattle.sedtext.proofs.NodeLemmas.{node_at}
+use Rattle.sedtext.specs.Caps.{Groups, LastCut, LastCopy}
+use Rattle.sedtext.specs.Reach.{At, one_start}
 use Rattle.sedre.specs.Arena.{IsArena}
-use Rattle.sedmarks.specs.Spans.{Spans, Copies, no_copy}
-use Rattle.sedmarks.proofs.SpanLemmas.{Spans-forward}
+use Rattle.sedtext.specs.Spans.{Spans, Copies, no_copy}
+use Rattle.sedtext.proofs.SpanLemmas.{Spans-forward}
 use Rattle.sedpass.specs.Decide.{found, undecided, HasAll, flags_of, told_of, nodes_in, text_in, EndsIn, IsDesk, HasDesk, IsSetAt, AreGroupTables, AreRoomy, HasSpace, SameRooms, SameTables, owed_in}
 use Rattle.sedpass.specs.Kept.{AllMarked, CeasesAt, IsKept, SameKept, SameSpace, ends_told}
 use Rattle.sedpass.specs.Regions.{IsLastIn, all_of, Reaches, StopsAt, RunsTo, IsRunOf, repeated, in_group}

@@ -12,10 +12,10 @@ use Rattle.sedre.specs.declared.types.Node.TheVariants.{Empty, Set, Begin, End, 
 use Rattle.sedre.proofs.TreeLemmas.{tree_at-node}
 use Rattle.sedre.proofs.Written.{size_positive}
 use Rattle.sedre.proofs.MirrorLemmas.{tree_at-mirror, seen-length}
-use Rattle.sedmarks.specs.Spans.{Spans, no_copy}
-use Rattle.sedmarks.specs.Places.{IsPlace}
-use Rattle.sedmarks.proofs.SpanLemmas.{Spans-forward}
-use Rattle.sedmarks.proofs.NodeLemmas.{node_at}
+use Rattle.sedtext.specs.Spans.{Spans, no_copy}
+use Rattle.sedtext.specs.Places.{IsPlace}
+use Rattle.sedtext.proofs.SpanLemmas.{Spans-forward}
+use Rattle.sedtext.proofs.NodeLemmas.{node_at}
 use Rattle.sedpass.specs.Groups.{reported, has_group}
 use Rattle.sedpass.specs.Regions.{IsRunOf, repeated, in_group}
 use Rattle.sedpass.specs.Lengths.{length_of, sum_of, same_of}

@@ -6,12 +6,12 @@ use Rattle.std.proofs.lemmas.Option.{slice_get_within}
 use Rattle.sedre.specs.Arena.{Written, IsArena, tree, tree_at}
 use Rattle.sedre.specs.Mirror.{seen}
 use Rattle.sedre.specs.declared.types.Node.{Node}
-use Rattle.sedmarks.specs.declared.starts.Starts.{Starts}
-use Rattle.sedmarks.specs.Matching.{takes}
-use Rattle.sedmarks.specs.Reach.{At, IsStart, SomeSpan, Longest}
-use Rattle.sedmarks.specs.Spans.{Spans, SomeFound}
-use Rattle.sedmarks.proofs.SpanLemmas.{Spans-forward, Spans-within}
-use Rattle.sedmarks.specs.Places.{IsPlace}
+use Rattle.sedtext.specs.declared.starts.Starts.{Starts}
+use Rattle.sedtext.specs.Matching.{takes}
+use Rattle.sedtext.specs.Reach.{At, IsStart, SomeSpan, Longest}
+use Rattle.sedtext.specs.Spans.{Spans, SomeFound}
+use Rattle.sedtext.proofs.SpanLemmas.{Spans-forward, Spans-within}
+use Rattle.sedtext.specs.Places.{IsPlace}
 use Rattle.sedpass.specs.Rows.{nodes_of, at_begin, at_end, RowAt}
 use Rattle.sedpass.specs.Cells.{stops, code_of}
 use Rattle.sedpass.specs.Table.{State, state_of, IsTold, StateAt, LeadsOn, BeginsIn, Names, IsTable}

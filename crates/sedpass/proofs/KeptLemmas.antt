@@ -8,15 +8,15 @@ use Rattle.std.proofs.lemmas.List.{get_or-set_same, get_or-set_other}
 use Rattle.sedre.specs.Arena.{Written, IsArena}
 use Rattle.sedre.specs.Mirror.{seen}
 use Rattle.sedre.specs.declared.types.Node.{Node}
-use Rattle.sedmarks.specs.Matching.{takes}
-use Rattle.sedmarks.specs.declared.starts.Starts.{Starts}
-use Rattle.sedmarks.specs.Reach.{At, IsStart, one_start, starts_to}
-use Rattle.sedmarks.specs.Places.{IsPlace}
-use Rattle.sedmarks.proofs.MirrorLemmas.{get-reverse}
+use Rattle.sedtext.specs.Matching.{takes}
+use Rattle.sedtext.specs.declared.starts.Starts.{Starts}
+use Rattle.sedtext.specs.Reach.{At, IsStart, one_start, starts_to}
+use Rattle.sedtext.specs.Places.{IsPlace}
+use Rattle.sedtext.proofs.MirrorLemmas.{get-reverse}
 use Rattle.sedpass.specs.Regions.{IsLastIn, Opposite, Reaches, Meets}
 use Rattle.sedpass.specs.Prepared.{null_in}
 use Rattle.sedpass.specs.Rows.{bits, RowAt, LeadsTo, IsFirst, SameBytes, at_begin, at_end}
-use Rattle.sedmarks.specs.Words.{AgreeBelow, row_of}
+use Rattle.sedtext.specs.Words.{AgreeBelow, row_of}
 use Rattle.sedpass.specs.Kept.{starts_told, ends_told, RowKept, KeptAt, IsLive, KeptRoom, IsRegion, Passes, IsEdge, AllMarked, SameKept, SameSpace, EdgesFrom, IsKept}
 use Rattle.sedpass.specs.Table.{State, state_of, HasRow, LeadsOn, BeginsIn, IsTable, MayBegin, SameShape, AddsStates, IsOffset}
 use Rattle.sedpass.specs.declared.kept.Kept.{Kept}

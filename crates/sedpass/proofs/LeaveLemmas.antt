@@ -8,13 +8,13 @@ use Rattle.sedre.proofs.MirrorLemmas.{seen-node, old_node}
 use Rattle.sedre.specs.declared.types.Node.{Node}
 use Rattle.sedre.specs.declared.types.NodeId.{NodeId}
 use Rattle.sedre.specs.declared.types.Node.TheVariants.{Empty, Set, Begin, End, Seq, Alt, Group, Star, Opt}
-use Rattle.sedmarks.specs.declared.starts.Starts.{Starts}
-use Rattle.sedmarks.specs.Spans.{no_copy}
-use Rattle.sedmarks.specs.Reach.{At, BeginsWith, IsStart, one_start, Enters, at_root, with_whole, after_left, again, Ends}
+use Rattle.sedtext.specs.declared.starts.Starts.{Starts}
+use Rattle.sedtext.specs.Spans.{no_copy}
+use Rattle.sedtext.specs.Reach.{At, BeginsWith, IsStart, one_start, Enters, at_root, with_whole, after_left, again, Ends}
 use Rattle.sedpass.specs.Regions.{EndsWith, Leaves, at_end, with_end, before_right, before_copies, Reaches, EndsAt, Opposite, IsLastPart, IsLastIn, all_of, last_of}
-use Rattle.sedmarks.proofs.SpanLemmas.{Spans-forward}
-use Rattle.sedmarks.proofs.ReachLemmas.{close_at}
-use Rattle.sedmarks.proofs.MirrorLemmas.{At-mirror}
+use Rattle.sedtext.proofs.SpanLemmas.{Spans-forward}
+use Rattle.sedtext.proofs.ReachLemmas.{close_at}
+use Rattle.sedtext.proofs.MirrorLemmas.{At-mirror}
 
 -- how the part c of the node at y is left at i
 abbrev pub OutOf : List Node → List ℕ → ℕ → Starts → ℕ → ℕ → ℕ → Node → Type 0

@@ -2,10 +2,10 @@
 use Rattle.std.proofs.Common.{◌≡◌, ℕ, ◌+◌, ◌-◌, ◌<◌, ◌≤◌, Bool, true, false, List, Option, Some, None, cond, eqb, refl, sym, ap, ◌∙◌, subst, ⊎_elim, arith}
 use Rattle.std.proofs.lemmas.Bool.{cases_lt, eqb-true}
 use Rattle.sedre.specs.Tree.{Tree, empty, set, begin, end, seq, alt, group, star, opt}
-use Rattle.sedmarks.specs.Spans.{Copies, no_copy, one_more, Spans}
-use Rattle.sedmarks.specs.Caps.{LastCut, LastCopy, only, then}
+use Rattle.sedtext.specs.Spans.{Copies, no_copy, one_more, Spans}
+use Rattle.sedtext.specs.Caps.{LastCut, LastCopy, only, then}
 use Rattle.sedpass.specs.Lengths.{sum_of, same_of, length_of, AllLong}
-use Rattle.sedmarks.proofs.SpanLemmas.{Copies-forward}
+use Rattle.sedtext.proofs.SpanLemmas.{Copies-forward}
 
 -- the parts of a length that is known
 sum_parts : (first second : Option ℕ) (n : ℕ) → sum_of first second ≡ Some n → (m : ℕ) × (k : ℕ) × (first ≡ Some m) × (second ≡ Some k) × (n ≡ m + k)

@@ -7,15 +7,15 @@ use Rattle.sedre.specs.Arena.{IsArena, IsPart, tree_at}
 use Rattle.sedre.specs.declared.types.Node.{Node}
 use Rattle.sedre.specs.declared.types.NodeId.{NodeId}
 use Rattle.sedre.specs.declared.types.Node.TheVariants.{Empty, Set, Begin, End, Seq, Alt, Group, Star, Opt}
-use Rattle.sedmarks.specs.declared.starts.Starts.{Starts}
-use Rattle.sedmarks.specs.Spans.{Copies, no_copy, one_more}
-use Rattle.sedmarks.specs.Caps.{LastCut, LastCopy, only, then}
-use Rattle.sedmarks.specs.Nodes.{Repeats}
-use Rattle.sedmarks.specs.Reach.{At, BeginsWith, IsStart, one_start, Enters, at_root, with_whole, after_left, again}
+use Rattle.sedtext.specs.declared.starts.Starts.{Starts}
+use Rattle.sedtext.specs.Spans.{Copies, no_copy, one_more}
+use Rattle.sedtext.specs.Caps.{LastCut, LastCopy, only, then}
+use Rattle.sedtext.specs.Nodes.{Repeats}
+use Rattle.sedtext.specs.Reach.{At, BeginsWith, IsStart, one_start, Enters, at_root, with_whole, after_left, again}
 use Rattle.sedpass.specs.Regions.{Leaves, with_end, before_right, before_copies, Reaches, IsLastIn, all_of, Meets, GoesOn, StopsAt, RunsTo, NextCopy, IsRunOf, repeated, in_group}
-use Rattle.sedmarks.proofs.SpanLemmas.{Spans-forward, Copies-forward, Copies-append}
-use Rattle.sedmarks.proofs.ReachLemmas.{open_at, close_at, Enters-inside, star_copies}
-use Rattle.sedmarks.proofs.NodeLemmas.{node_at}
+use Rattle.sedtext.proofs.SpanLemmas.{Spans-forward, Copies-forward, Copies-append}
+use Rattle.sedtext.proofs.ReachLemmas.{open_at, close_at, Enters-inside, star_copies}
+use Rattle.sedtext.proofs.NodeLemmas.{node_at}
 use Rattle.sedpass.proofs.LeaveLemmas.{OutOf, Leaves-part, Leaves-to, last_inside, last-leaves, Leaves-last}
 
 -- copies that pass j have one that passes it, and copies lead from its end to theirs

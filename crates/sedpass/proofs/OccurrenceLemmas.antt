@@ -4,11 +4,11 @@ use Rattle.std.specs.Prelude.{nat_lt, if◌then◌else◌}
 use Rattle.std.proofs.lemmas.Bool.{cases_lt}
 use Rattle.std.proofs.lemmas.Bool.Decides.{nat_tests}
 use Rattle.sedre.specs.Tree.{Tree}
-use Rattle.sedmarks.specs.Answer.{SpanAnswer}
-use Rattle.sedmarks.specs.Following.{LiesOn}
-use Rattle.sedmarks.specs.Matching.{found}
-use Rattle.sedmarks.specs.NextMatch.{unless_null_at}
-use Rattle.sedmarks.proofs.MatchingLemmas.{found-iff, not_found-iff}
+use Rattle.sedtext.specs.Answer.{SpanAnswer}
+use Rattle.sedtext.specs.Following.{LiesOn}
+use Rattle.sedtext.specs.Matching.{found}
+use Rattle.sedtext.specs.NextMatch.{unless_null_at}
+use Rattle.sedtext.proofs.MatchingLemmas.{found-iff, not_found-iff}
 use Rattle.sedpass.specs.Occurrences.{further_cost, owed_behind}
 use Rattle.sedpass.specs.Search.{owed_after, owed_kept, owed_search, search_cost}
 use Rattle.sedpass.specs.declared.search.Seeking.{Seeking}

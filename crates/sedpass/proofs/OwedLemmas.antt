@@ -4,7 +4,7 @@ use Rattle.std.specs.Prelude.{cond}
 use Rattle.std.proofs.lemmas.Bool.{cases_lt}
 use Rattle.std.proofs.lemmas.Bool.Decides.{nat_tests}
 use Rattle.std.proofs.Math.Dec.{leb, ltb}
-use Rattle.sedmarks.specs.Costs.{Pays}
+use Rattle.sedtext.specs.Costs.{Pays}
 use Rattle.sedpass.specs.Kept.{again, due_place, owed}
 use Rattle.sedpass.specs.declared.kept.Kept.{Kept}
 use Rattle.sedpass.specs.declared.kept.Region.{Region}

@@ -12,18 +12,18 @@ use Rattle.sedre.proofs.MirrorLemmas.{seen-node, old_node}
 use Rattle.sedre.specs.declared.types.Node.{Node}
 use Rattle.sedre.specs.declared.types.NodeId.{NodeId}
 use Rattle.sedre.specs.declared.types.Node.TheVariants.{Empty, Set, Begin, End, Seq, Alt, Group, Star, Opt}
-use Rattle.sedmarks.specs.declared.starts.Starts.{Starts}
-use Rattle.sedmarks.specs.Spans.{Copies, no_copy}
-use Rattle.sedmarks.specs.Matching.{takes}
-use Rattle.sedmarks.specs.PartMarks.{enter_parts}
-use Rattle.sedmarks.specs.Places.{takes_any}
-use Rattle.sedmarks.specs.Words.{AgreeBelow}
-use Rattle.sedmarks.specs.Reach.{At, IsStart, one_start, SomeSpan, BeginsWith, Marked, Enters, at_root, with_whole, after_left, again, Ends}
+use Rattle.sedtext.specs.declared.starts.Starts.{Starts}
+use Rattle.sedtext.specs.Spans.{Copies, no_copy}
+use Rattle.sedtext.specs.Matching.{takes}
+use Rattle.sedtext.specs.PartMarks.{enter_parts}
+use Rattle.sedtext.specs.Places.{takes_any}
+use Rattle.sedtext.specs.Words.{AgreeBelow}
+use Rattle.sedtext.specs.Reach.{At, IsStart, one_start, SomeSpan, BeginsWith, Marked, Enters, at_root, with_whole, after_left, again, Ends}
 use Rattle.sedpass.specs.Regions.{EndsAt, Opposite, Reaches, Meets}
 use Rattle.sedpass.specs.Rows.{Took, NullBy, EndsBy, EntersBy, SameBytes, SameKind, SameLeaves, NoneEntered, InTree, is_tree, part_of, IsRange, TreeBelow, TreeFrom, AreNull, ended_by, leaf_looks, part_looks, enter_looks, bits, TellTook, RowAt, RowFrom, LeadsTo}
-use Rattle.sedmarks.proofs.SpanLemmas.{Spans-forward, Spans-within, Copies-append, Copies-last}
-use Rattle.sedmarks.proofs.ReachLemmas.{open_at, close_at, takes_some, FromNode, Enters-from, Enters-part, Enters-inside, Enters-root, Enters-loose}
-use Rattle.sedmarks.proofs.NodeLemmas.{node_at}
+use Rattle.sedtext.proofs.SpanLemmas.{Spans-forward, Spans-within, Copies-append, Copies-last}
+use Rattle.sedtext.proofs.ReachLemmas.{open_at, close_at, takes_some, FromNode, Enters-from, Enters-part, Enters-inside, Enters-root, Enters-loose}
+use Rattle.sedtext.proofs.NodeLemmas.{node_at}
 use Rattle.sedpass.proofs.LeaveLemmas.{ends_at, reaches_mirror}
 use Rattle.sedpass.proofs.MeetingLemmas.{meets_whole}
 

@@ -6,12 +6,12 @@ use Rattle.sedre.specs.Tree.{Tree}
 use Rattle.std.specs.Prelude.{IfSome, if◌then◌else◌}
 use Rattle.sedre.specs.Steps.{TakesAtLeast}
 use Rattle.sedpass.proofs.CountLemmas.{least_since}
-use Rattle.sedmarks.specs.Answer.{SpanAnswer}
-use Rattle.sedmarks.specs.declared.starts.Starts.{Starts}
-use Rattle.sedmarks.specs.Reach.{At, one_start, Longest, starts_to}
-use Rattle.sedmarks.specs.Beginnings.{NoneIn}
-use Rattle.sedmarks.specs.Spans.{Spans, Found, NotFound}
-use Rattle.sedmarks.proofs.SpanLemmas.{Spans-forward, Spans-within}
+use Rattle.sedtext.specs.Answer.{SpanAnswer}
+use Rattle.sedtext.specs.declared.starts.Starts.{Starts}
+use Rattle.sedtext.specs.Reach.{At, one_start, Longest, starts_to}
+use Rattle.sedtext.specs.Beginnings.{NoneIn}
+use Rattle.sedtext.specs.Spans.{Spans, Found, NotFound}
+use Rattle.sedtext.proofs.SpanLemmas.{Spans-forward, Spans-within}
 use Rattle.sedpass.specs.Kept.{AllMarked, CeasesAt, ends_told}
 use Rattle.sedpass.specs.Regions.{all_of, Reaches}
 use Rattle.sedpass.specs.Search.{TrialsAnswer, owed_kept, owed_search, search_cost}

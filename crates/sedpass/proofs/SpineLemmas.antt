@@ -6,8 +6,8 @@ use Rattle.sedre.specs.declared.types.Node.{Node}
 use Rattle.sedre.specs.declared.types.Node.TheVariants.{Empty, Set, Begin, End, Seq, Alt, Group, Star, Opt}
 use Rattle.std.specs.Prelude.{IfSome, slice_index_or}
 use Rattle.sedre.specs.Steps.{Counted, Takes, TakesAtLeast}
-use Rattle.sedmarks.specs.Caps.{Groups, IsReport}
-use Rattle.sedmarks.proofs.NodeLemmas.{node_at, size-pos}
+use Rattle.sedtext.specs.Caps.{Groups, IsReport}
+use Rattle.sedtext.proofs.NodeLemmas.{node_at, size-pos}
 use Rattle.sedpass.specs.Decide.{nodes_in, text_in, told_of, LooksAt, undecided, GoesOn, EndsIn, IsMatch, Turns, next_of, waiting, part_cost, kind_cost, tasks_cost, long_of, IsSpent}
 use Rattle.sedpass.specs.Overlay.{State, Back, NoneDue, IsStart}
 use Rattle.sedpass.specs.Turns.{Runs, AreReady, AreWithin, AreShort, Reduces, weights, looks, descents, tasks_of}

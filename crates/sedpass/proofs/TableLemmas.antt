@@ -11,7 +11,7 @@ use Rattle.sedre.specs.Mirror.{mirror_node, seen}
 use Rattle.sedre.proofs.MirrorLemmas.{old_node}
 use Rattle.sedre.specs.declared.types.Node.{Node}
 use Rattle.sedre.specs.declared.types.Node.TheVariants.{Empty, Set, Begin, End, Seq, Alt, Group, Star, Opt}
-use Rattle.sedmarks.specs.Words.{AgreeBelow, row_of}
+use Rattle.sedtext.specs.Words.{AgreeBelow, row_of}
 use Rattle.sedpass.specs.Prepared.{SameNulls}
 use Rattle.sedpass.specs.Rows.{nodes_of, at_begin, at_end, bits, SameBytes, LeadsTo, IsFirst}
 use Rattle.sedpass.specs.Cells.{stops, code_of, ColumnAt, EdgeApart, EdgeFits, IsLayout, IsColumn}

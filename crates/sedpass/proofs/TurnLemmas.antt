@@ -9,19 +9,19 @@ use Rattle.sedre.specs.declared.types.Node.{Node}
 use Rattle.sedre.specs.declared.types.NodeId.{NodeId}
 use Rattle.sedre.specs.declared.types.Node.TheVariants.{Empty, Set, Begin, End, Seq, Alt, Group, Star, Opt}
 use Rattle.sedre.proofs.TreeLemmas.{tree_at-node}
-use Rattle.sedmarks.specs.Reach.{At, one_start}
+use Rattle.sedtext.specs.Reach.{At, one_start}
 use Rattle.sedpass.specs.Regions.{Reaches, IsLastIn, last_of}
-use Rattle.sedmarks.specs.Caps.{LastCut, LastCopy, only, then}
+use Rattle.sedtext.specs.Caps.{LastCut, LastCopy, only, then}
 use Rattle.sedpass.specs.Overlay.{State, is_due, settle, drop_groups, Back, HasGroup, NoneDue}
 use Rattle.sedpass.specs.declared.groups.Task.{Task}
 use Rattle.sedpass.specs.declared.groups.Task.TheVariants.{Apart, Forget}
-use Rattle.sedmarks.specs.Nodes.{parts_of}
+use Rattle.sedtext.specs.Nodes.{parts_of}
 use Rattle.sedpass.specs.Turns.{AreReady, weights, IsTurn, IsHere, HasGroupAt, Blank, LeaveTurn, LeafTurn, SeqTurn, AltTurn, GroupTurn, StarTurn, OptTurn, EmptyTurn, SeqSpine, RunSpine, AltSpine, PartSpine, StarSpine, SeqParts, StarParts, OptParts, TurnedLaw, BeginLaw, RoomLaw, GroupsAtLaw, DropLaw}
-use Rattle.sedmarks.proofs.ReachLemmas.{open_at, close_at}
+use Rattle.sedtext.proofs.ReachLemmas.{open_at, close_at}
 use Rattle.sedpass.proofs.LeaveLemmas.{alt_looks, reaches_last}
 use Rattle.sedpass.proofs.MeetingLemmas.{stops_at_cut, stops_at_copy, run_stops}
-use Rattle.sedmarks.proofs.SpanLemmas.{Spans-forward}
-use Rattle.sedmarks.proofs.NodeLemmas.{size-parts, size-pos}
+use Rattle.sedtext.proofs.SpanLemmas.{Spans-forward}
+use Rattle.sedtext.proofs.NodeLemmas.{size-parts, size-pos}
 use Rattle.sedpass.proofs.OverlayLemmas.{left_due, make-state, touch-due, settle-due, settle-not, settle-is, drop-is, drop-not, left_due-stays, left_at_once, stays, back_report}
 
 -- what is due after groups were settled or dropped

@@ -7,9 +7,9 @@ use Rattle.sedre.specs.declared.types.NodeId.{NodeId}
 use Rattle.sedre.specs.declared.types.Node.TheVariants.{Set, Seq, Alt, Star}
 use Rattle.sedre.specs.Steps.{TakesAtLeast}
 use Rattle.sedre.specs.Tree.{Tree}
-use Rattle.sedmarks.specs.Caps.{Groups}
-use Rattle.sedmarks.specs.Costs.{Pays}
-use Rattle.sedmarks.specs.Words.{row_of}
+use Rattle.sedtext.specs.Caps.{Groups}
+use Rattle.sedtext.specs.Costs.{Pays}
+use Rattle.sedtext.specs.Words.{row_of}
 use Rattle.sedpass.specs.Groups.{holds}
 use Rattle.sedpass.specs.Kept.{IsKept, KeptRoom, owed}
 use Rattle.sedpass.specs.Lengths.{length_of}

@@ -2,9 +2,9 @@
 -- What is kept of a pass backwards over a region, and what looks into it may cost.
 use Rattle.std.specs.Prelude.{◌≡◌, ℕ, zero, suc, ◌+◌, ◌-◌, ◌*◌, ◌/◌, ◌^◌, ◌<◌, ◌≤◌, ◌↔◌, nat_le, nat_lt, ◌&&◌, Bool, true, false, if◌then◌else◌, List, length, reverse, slice_index_or, IsTrue, vec_capacity}
 use Rattle.sedre.specs.declared.types.Node.{Node}
-use Rattle.sedmarks.specs.declared.starts.Starts.{Starts}
-use Rattle.sedmarks.specs.Reach.{one_start, starts_to}
-use Rattle.sedmarks.specs.Words.{row_of}
+use Rattle.sedtext.specs.declared.starts.Starts.{Starts}
+use Rattle.sedtext.specs.Reach.{one_start, starts_to}
+use Rattle.sedtext.specs.Words.{row_of}
 use Rattle.sedpass.specs.Regions.{Reaches, Meets}
 use Rattle.sedpass.specs.Rows.{nodes_of, bits, RowAt}
 use Rattle.sedpass.specs.Table.{State, state_of, StateAt, IsOffset, IsTable, MayBegin}

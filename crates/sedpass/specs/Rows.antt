@@ -5,10 +5,10 @@ use Rattle.sedre.specs.Arena.{Written, IsPart}
 use Rattle.sedre.specs.Mirror.{seen}
 use Rattle.sedre.specs.declared.types.Node.{Node}
 use Rattle.sedre.specs.declared.types.Node.TheVariants.{Empty, Set, Begin, End, Seq, Alt, Group, Star, Opt}
-use Rattle.sedmarks.specs.declared.starts.Starts.{Starts}
-use Rattle.sedmarks.specs.Matching.{takes}
-use Rattle.sedmarks.specs.Places.{IsPlace}
-use Rattle.sedmarks.specs.Reach.{At, IsStart, Enters, PartFrom}
+use Rattle.sedtext.specs.declared.starts.Starts.{Starts}
+use Rattle.sedtext.specs.Matching.{takes}
+use Rattle.sedtext.specs.Places.{IsPlace}
+use Rattle.sedtext.specs.Reach.{At, IsStart, Enters, PartFrom}
 use Rattle.sedpass.specs.Regions.{EndsAt}
 use Rattle.sedpass.specs.declared.nodes.Kind.{Kind}
 use Rattle.sedpass.specs.declared.rows.Way.{Way}

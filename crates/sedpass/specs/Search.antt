@@ -4,11 +4,11 @@ use Rattle.std.specs.Prelude.{ℕ, ◌+◌, ◌-◌, ◌*◌, ◌<◌, ◌≤◌
 use Rattle.sedre.specs.Arena.{tree}
 use Rattle.sedre.specs.Steps.{TakesAtLeast}
 use Rattle.sedre.specs.Tree.{Tree}
-use Rattle.sedmarks.specs.Answer.{SpanAnswer}
-use Rattle.sedmarks.specs.Reach.{Longest}
-use Rattle.sedmarks.specs.Beginnings.{AllBegin, NoneIn}
-use Rattle.sedmarks.specs.Spans.{Found, NotFound}
-use Rattle.sedmarks.specs.declared.beginnings.Begins.{Begins}
+use Rattle.sedtext.specs.Answer.{SpanAnswer}
+use Rattle.sedtext.specs.Reach.{Longest}
+use Rattle.sedtext.specs.Beginnings.{AllBegin, NoneIn}
+use Rattle.sedtext.specs.Spans.{Found, NotFound}
+use Rattle.sedtext.specs.declared.beginnings.Begins.{Begins}
 use Rattle.sedpass.specs.Table.{IsAhead, IsTable, SameShape}
 use Rattle.sedpass.specs.Kept.{IsKept, KeptRoom, SameSpace, owed}
 use Rattle.sedpass.specs.declared.nodes.Prepared.{Prepared}

@@ -10,10 +10,10 @@ use Rattle.sedpass.specs.declared.groups.Task.{Task}
 use Rattle.sedpass.specs.declared.groups.Task.TheVariants.{Apart, Forget}
 use Rattle.sedpass.specs.declared.groups.Then.{Then}
 use Rattle.sedpass.specs.declared.groups.Then.TheVariants.{Done, One, Two}
-use Rattle.sedmarks.specs.Reach.{At, one_start}
-use Rattle.sedmarks.specs.Spans.{Copies}
-use Rattle.sedmarks.specs.Caps.{LastCut, LastCopy, IsReport}
-use Rattle.sedmarks.specs.Nodes.{parts_of}
+use Rattle.sedtext.specs.Reach.{At, one_start}
+use Rattle.sedtext.specs.Spans.{Copies}
+use Rattle.sedtext.specs.Caps.{LastCut, LastCopy, IsReport}
+use Rattle.sedtext.specs.Nodes.{parts_of}
 use Rattle.sedpass.specs.Regions.{Reaches, IsLastIn, StopsAt, RunsTo, NextCopy, IsRunOf}
 use Rattle.sedpass.specs.Overlay.{State, is_due, settle, drop_groups, Back, HasGroup, NoneDue, IsStart}
 

@@ -1,7 +1,7 @@
 //! Whether an expression matches in a text (XBD 9.1).
 ghost use Rattle.std.specs.Prelude.{◌+◌, ◌*◌, ◌≤◌, ◌↔◌, length, IsTrue};
-ghost use Rattle.sedmarks.specs.Beginnings.{AllBegin};
-ghost use Rattle.sedmarks.specs.Spans.{SomeFound};
+ghost use Rattle.sedtext.specs.Beginnings.{AllBegin};
+ghost use Rattle.sedtext.specs.Spans.{SomeFound};
 ghost use Rattle.sedre.specs.Arena.{tree};
 ghost use Rattle.sedre.specs.Steps.{Takes};
 ghost use Rattle.sedpass.specs.Find.{IsSweep};
@@ -10,8 +10,8 @@ ghost use Rattle.sedpass.specs.Table.{SameShape};
 use crate::kept::Subject;
 use crate::rows::Work;
 use crate::table::Table;
-use sedmarks::beginnings::{Begins, next_start};
 use sedre::Steps;
+use sedtext::beginnings::{Begins, next_start};
 
 /// Whether any match begins at `from` or later, by a table of passes in which every place is a start.
 pub fn is_match(

@@ -1,8 +1,8 @@
 //! Passes for the whole expression, which stop as soon as no later place matters.
 ghost use Rattle.std.specs.Prelude.{◌≡◌, ℕ, true, false, ◌+◌, ◌-◌, ◌*◌, ◌/◌, ◌^◌, ◌<◌, ◌≤◌, ◌↔◌, length, min, Some, IfSome, IsTrue, is_some};
-ghost use Rattle.sedmarks.specs.Costs.{Pays};
-ghost use Rattle.sedmarks.specs.Reach.{Longest};
-ghost use Rattle.sedmarks.specs.Spans.{SomeFound};
+ghost use Rattle.sedtext.specs.Costs.{Pays};
+ghost use Rattle.sedtext.specs.Reach.{Longest};
+ghost use Rattle.sedtext.specs.Spans.{SomeFound};
 ghost use Rattle.sedre.specs.Arena.{tree};
 ghost use Rattle.sedre.specs.Steps.{Takes, TakesAtLeast};
 ghost use Rattle.sedpass.specs.Rows.{nodes_of};
@@ -13,8 +13,8 @@ use crate::cells::{PLAIN, offset_of};
 use crate::nodes::{Prepared, kind_of};
 use crate::rows::Work;
 use crate::table::Table;
-use sedmarks::counted::{Bytes, Tally};
 use sedre::Steps;
+use sedtext::counted::{Bytes, Tally};
 
 /// Where a pass is.
 #[derive(Clone, Copy)]

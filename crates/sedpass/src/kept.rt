@@ -4,9 +4,9 @@
 //! right end is kept too. Where the states of a block are gone, since the table was emptied after it was made, they are made again
 //! from the block's end down to the place that is looked at, so that looks from left to right make each place again once at most.
 ghost use Rattle.std.specs.Prelude.{◌≡◌, ℕ, Bool, true, false, not, min, ◌+◌, ◌-◌, ◌*◌, ◌/◌, ◌^◌, ◌<◌, ◌≤◌, ◌↔◌, length, slice_index_or, vec_capacity, IfOk, IsTrue};
-ghost use Rattle.sedmarks.specs.Costs.{Pays};
-ghost use Rattle.sedmarks.specs.Reach.{At, one_start};
-ghost use Rattle.sedmarks.specs.Words.{row_of};
+ghost use Rattle.sedtext.specs.Costs.{Pays};
+ghost use Rattle.sedtext.specs.Reach.{At, one_start};
+ghost use Rattle.sedtext.specs.Words.{row_of};
 ghost use Rattle.sedre.specs.Steps.{Takes, TakesAtLeast};
 ghost use Rattle.sedpass.specs.Regions.{IsLastIn, Meets, Reaches};
 ghost use Rattle.sedpass.specs.Rows.{nodes_of};
@@ -17,8 +17,8 @@ use crate::cells::offset_of;
 use crate::nodes::{Prepared, kind_of};
 use crate::rows::Work;
 use crate::table::Table;
-use sedmarks::counted::{Rows, Text};
 use sedre::Steps;
+use sedtext::counted::{Rows, Text};
 use std::alloc::{AllocError, Global};
 
 /// An expression, and the text that is searched.

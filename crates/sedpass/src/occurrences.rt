@@ -2,11 +2,11 @@
 //!
 //! A search for each occurrence, and one more a byte further on where the null string directly after an occurrence is passed over.
 ghost use Rattle.std.specs.Prelude.{◌≡◌, ℕ, false, Option, None, Some, ◌+◌, ◌-◌, ◌*◌, ◌<◌, ◌≤◌, length, nat_lt, if◌then◌else◌, IfSome, IsTrue};
-ghost use Rattle.sedmarks.specs.Answer.{SpanAnswer};
-ghost use Rattle.sedmarks.specs.Costs.{Pays};
-ghost use Rattle.sedmarks.specs.Following.{LiesOn, next_span};
-ghost use Rattle.sedmarks.specs.Matching.{found};
-ghost use Rattle.sedmarks.specs.NextMatch.{unless_null_at};
+ghost use Rattle.sedtext.specs.Answer.{SpanAnswer};
+ghost use Rattle.sedtext.specs.Costs.{Pays};
+ghost use Rattle.sedtext.specs.Following.{LiesOn, next_span};
+ghost use Rattle.sedtext.specs.Matching.{found};
+ghost use Rattle.sedtext.specs.NextMatch.{unless_null_at};
 ghost use Rattle.sedre.specs.Arena.{tree};
 ghost use Rattle.sedre.specs.Steps.{Takes, TakesAtLeast};
 ghost use Rattle.sedpass.specs.Kept.{KeptRoom};
@@ -17,8 +17,8 @@ ghost use Rattle.sedpass.specs.Table.{IsTable};
 use crate::kept::Subject;
 use crate::search::{Seeking, next_match};
 use crate::table::Table;
-use sedmarks::beginnings::Begins;
 use sedre::Steps;
+use sedtext::beginnings::Begins;
 
 /// Begins anew for a text: nothing was searched in it yet.
 pub fn begin_text(subject: Subject, back: &Table, seeking: &mut Seeking)

@@ -9,19 +9,19 @@ ghost use Rattle.sedre.specs.Packed.{PartsBelow};
 ghost use Rattle.sedre.specs.Tree.{size};
 ghost use Rattle.sedre.specs.Steps.{Takes, TakesAtLeast};
 ghost use Rattle.sedre.specs.declared.types.Node.TheVariants.{Set};
-ghost use Rattle.sedmarks.specs.Matching.{takes};
-ghost use Rattle.sedmarks.specs.PartMarks.{enter_parts};
-ghost use Rattle.sedmarks.specs.Places.{takes_any};
-ghost use Rattle.sedmarks.specs.Reach.{IsStart, Ends, Marked};
+ghost use Rattle.sedtext.specs.Matching.{takes};
+ghost use Rattle.sedtext.specs.PartMarks.{enter_parts};
+ghost use Rattle.sedtext.specs.Places.{takes_any};
+ghost use Rattle.sedtext.specs.Reach.{IsStart, Ends, Marked};
 ghost use Rattle.sedpass.specs.Prepared.{null_in, SameNulls};
 ghost use Rattle.sedpass.specs.Rows.{nodes_of, at_begin, at_end, bits, LeadsTo, IsFirst, RowAt};
 ghost use Rattle.sedpass.specs.Rows.{InTree, AreNull, TellTook, ended_by, leaf_looks, part_looks, enter_looks};
 
 use crate::nodes::{Kind, Prepared};
-use sedmarks::counted::NodeMarks;
-use sedmarks::members::takes_byte;
-use sedmarks::starts::Starts;
 use sedre::{Node, Steps};
+use sedtext::counted::NodeMarks;
+use sedtext::counted::members::takes_byte;
+use sedtext::starts::Starts;
 use std::alloc::{AllocError, Global};
 
 /// In which way a pass goes.

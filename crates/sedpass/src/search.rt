@@ -3,11 +3,11 @@
 //! A trial is a pass from one place at which a match can begin. Where trials went over many places that are in no match, a pass
 //! from the text's end is kept for the rest of the text: it tells where matches begin, and how far one leads.
 ghost use Rattle.std.specs.Prelude.{◌≡◌, ℕ, false, max, ◌+◌, ◌-◌, ◌*◌, ◌/◌, ◌<◌, ◌≤◌, ◌↔◌, length, IfNone, IfSome, IsTrue};
-ghost use Rattle.sedmarks.specs.Answer.{SpanAnswer};
-ghost use Rattle.sedmarks.specs.Beginnings.{AllBegin};
-ghost use Rattle.sedmarks.specs.Costs.{Pays};
-ghost use Rattle.sedmarks.specs.Reach.{At};
-ghost use Rattle.sedmarks.specs.Spans.{NotFound};
+ghost use Rattle.sedtext.specs.Answer.{SpanAnswer};
+ghost use Rattle.sedtext.specs.Beginnings.{AllBegin};
+ghost use Rattle.sedtext.specs.Costs.{Pays};
+ghost use Rattle.sedtext.specs.Reach.{At};
+ghost use Rattle.sedtext.specs.Spans.{NotFound};
 ghost use Rattle.sedre.specs.Arena.{tree};
 ghost use Rattle.sedre.specs.Steps.{Takes, TakesAtLeast};
 ghost use Rattle.sedpass.specs.declared.search.Trials.TheVariants.{Nothing, Tired};
@@ -19,8 +19,8 @@ use crate::kept::{Kept, Subject};
 use crate::nodes::kind_of;
 use crate::rows::Work;
 use crate::table::Table;
-use sedmarks::beginnings::{Begins, next_start};
 use sedre::Steps;
+use sedtext::beginnings::{Begins, next_start};
 
 /// How the searches in one text go on.
 #[derive(Drop)]

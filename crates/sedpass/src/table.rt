@@ -4,7 +4,7 @@
 //! filled when it is first asked for, by one act. A full table is emptied, and the pass goes on: so an unlucky text costs
 //! an act and a state for each byte, never more.
 ghost use Rattle.std.specs.Prelude.{◌≡◌, ℕ, Bool, false, ◌+◌, ◌*◌, ◌/◌, ◌^◌, ◌<◌, ◌≤◌, length, slice_index_or, IfOk, IfSome, vec_len};
-ghost use Rattle.sedmarks.specs.Words.{row_of};
+ghost use Rattle.sedtext.specs.Words.{row_of};
 ghost use Rattle.sedre.specs.Steps.{Takes, TakesAtLeast};
 ghost use Rattle.sedpass.specs.Prepared.{SameNulls};
 ghost use Rattle.sedpass.specs.Rows.{nodes_of, bits};
@@ -15,8 +15,8 @@ ghost use Rattle.sedpass.specs.Table.{state_of, HasRow, LeadsOn, BeginsIn, Names
 use crate::cells::{Flags, Layout, code_of, empty_cells, stops};
 use crate::nodes::{Kind, Prepared};
 use crate::rows::{Way, Work, first, step};
-use sedmarks::counted::Rows;
 use sedre::Steps;
+use sedtext::counted::Rows;
 use std::alloc::{AllocError, Global};
 
 /// From this epoch on no beginning is noted or trusted: a table that comes to the greatest number goes to and fro between

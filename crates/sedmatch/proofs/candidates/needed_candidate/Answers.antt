@@ -1,5 +1,5 @@
 use Rattle.std.proofs.Common.{subst}
-use Rattle.sedneedles.specs.Needed.{IsNeeded}
+use Rattle.sedtext.specs.Needed.{IsNeeded}
 use Rattle.sedmatch.proofs.CandidateLemmas.{needed_before}
 use Rattle.sedmatch.proofs.candidates.needed_candidate.Goals as goal
 

@@ -1,5 +1,5 @@
 use Rattle.std.proofs.Common.{ℕ, ◌<◌}
-use Rattle.sedmarks.specs.Spans.{IsIn}
+use Rattle.sedtext.specs.Spans.{IsIn}
 use Rattle.sedmatch.proofs.direct.are_disjoint.Given as goal
 
 abbrev pub invariant-loop-byte : goal.invariant-loop-byte

@@ -1,5 +1,5 @@
 use Rattle.std.proofs.Common.{◌∙◌, ◌≤◌, max, ap, subst, sym}
-use Rattle.sedmatch.specs.Direct.{RunBegins}
+use Rattle.sedtext.specs.Runs.{RunBegins}
 use Rattle.sedmatch.proofs.DirectLemmas.{end_cost, end_counts, start_byte_run_end}
 use Rattle.sedmatch.proofs.direct.byte_run_end_start.Goals as goal
 

@@ -1,6 +1,6 @@
 use Rattle.std.proofs.Common.{◌+◌, ◌-◌, None, length, min, arith}
-use Rattle.sedmarks.proofs.RunLemmas.{run_forward}
-use Rattle.sedneedles.proofs.CountLemmas.{least_both, least_counted, most_counted}
+use Rattle.sedtext.proofs.RunLemmas.{run_forward}
+use Rattle.sedtext.proofs.CountLemmas.{least_both, least_counted, most_counted}
 use Rattle.sedmatch.proofs.DirectLemmas.{start_byte_run, span_byte_run}
 use Rattle.sedmatch.proofs.direct.byte_run_span.Goals as goal
 

@@ -1,7 +1,7 @@
 use Rattle.std.proofs.Common.{◌≡◌, ◌-◌, length, refl, Some, arith}
 use Rattle.std.specs.Prelude.{slice_get}
 use Rattle.sedre.specs.declared.types.Node.TheVariants.{End, Set}
-use Rattle.sedneedles.proofs.NeededLemmas.{seq_below}
+use Rattle.sedtext.proofs.NeededLemmas.{seq_below}
 use Rattle.sedmatch.proofs.DirectLemmas.{form_byte_run_then_end}
 use Rattle.sedmatch.proofs.direct.byte_run_then.Goals as goal
 

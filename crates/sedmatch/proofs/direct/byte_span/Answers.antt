@@ -1,5 +1,5 @@
 use Rattle.std.proofs.Common.{◌+◌, ◌-◌, None, arith}
-use Rattle.sedneedles.proofs.CountLemmas.{least_counted}
+use Rattle.sedtext.proofs.CountLemmas.{least_counted}
 use Rattle.sedmatch.proofs.DirectLemmas.{start_byte, span_byte}
 use Rattle.sedmatch.proofs.direct.byte_span.Goals as goal
 

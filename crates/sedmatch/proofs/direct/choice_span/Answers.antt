@@ -1,5 +1,5 @@
 use Rattle.std.proofs.Common.{◌-◌, None, arith}
-use Rattle.sedneedles.proofs.CountLemmas.{least_counted, least_since}
+use Rattle.sedtext.proofs.CountLemmas.{least_counted, least_since}
 use Rattle.sedmatch.proofs.DirectLemmas.{start_choice}
 use Rattle.sedmatch.proofs.direct.choice_span.Goals as goal
 

@@ -1,7 +1,7 @@
 use Rattle.std.proofs.Common.{length, sym, subst}
-use Rattle.sedmarks.specs.Bytes.{looked_at}
+use Rattle.sedtext.specs.Bytes.{looked_at}
 use Rattle.sedmatch.specs.Direct.{FirstWith}
-use Rattle.sedneedles.proofs.CountLemmas.{most_counted}
+use Rattle.sedtext.proofs.CountLemmas.{most_counted}
 use Rattle.sedmatch.proofs.DirectLemmas.{first_few, first_member}
 use Rattle.sedmatch.proofs.direct.find_first.Goals as goal
 

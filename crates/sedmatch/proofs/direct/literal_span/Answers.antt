@@ -1,5 +1,5 @@
 use Rattle.std.proofs.Common.{◌+◌, ◌-◌, None, length, arith}
-use Rattle.sedneedles.proofs.CountLemmas.{least_counted}
+use Rattle.sedtext.proofs.CountLemmas.{least_counted}
 use Rattle.sedmatch.proofs.DirectLemmas.{start_literal}
 use Rattle.sedmatch.proofs.direct.literal_span.Goals as goal
 

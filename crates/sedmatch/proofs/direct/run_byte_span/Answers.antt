@@ -1,5 +1,5 @@
 use Rattle.std.proofs.Common.{◌+◌, ◌-◌, arith}
-use Rattle.sedneedles.proofs.CountLemmas.{least_counted, least_up}
+use Rattle.sedtext.proofs.CountLemmas.{least_counted, least_up}
 use Rattle.sedmatch.proofs.DirectLemmas.{none_run_byte, span_run_byte}
 use Rattle.sedmatch.proofs.direct.run_byte_span.Goals as goal
 

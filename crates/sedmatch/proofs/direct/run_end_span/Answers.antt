@@ -1,6 +1,6 @@
 use Rattle.std.proofs.Common.{◌+◌, ◌-◌, arith}
 use Rattle.std.specs.Prelude.{min}
-use Rattle.sedneedles.proofs.CountLemmas.{least_counted}
+use Rattle.sedtext.proofs.CountLemmas.{least_counted}
 use Rattle.sedmatch.proofs.DirectLemmas.{span_run_end}
 use Rattle.sedmatch.proofs.direct.run_end_span.Goals as goal
 

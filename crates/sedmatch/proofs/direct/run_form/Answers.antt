@@ -1,7 +1,7 @@
 use Rattle.std.proofs.Common.{◌≡◌, ◌-◌, length, Some, subst, sym, arith}
 use Rattle.std.specs.Prelude.{slice_get}
 use Rattle.sedre.specs.declared.types.Node.TheVariants.{Set, Seq}
-use Rattle.sedneedles.proofs.NeededLemmas.{seq_below}
+use Rattle.sedtext.proofs.NeededLemmas.{seq_below}
 use Rattle.sedmatch.proofs.DirectLemmas.{form_byte}
 use Rattle.sedmatch.proofs.direct.run_form.Goals as goal
 

@@ -1,6 +1,6 @@
 use Rattle.std.proofs.Common.{◌+◌, ◌-◌, length, min, arith}
-use Rattle.sedmarks.proofs.RunLemmas.{run_forward}
-use Rattle.sedneedles.proofs.CountLemmas.{least_counted, most_counted}
+use Rattle.sedtext.proofs.RunLemmas.{run_forward}
+use Rattle.sedtext.proofs.CountLemmas.{least_counted, most_counted}
 use Rattle.sedmatch.proofs.DirectLemmas.{span_run}
 use Rattle.sedmatch.proofs.direct.run_span.Goals as goal
 

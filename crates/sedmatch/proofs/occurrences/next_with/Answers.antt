@@ -1,8 +1,8 @@
 use Rattle.std.proofs.Common.{◌≡◌, ℕ, Option, None, Some, IfSome, length, sym, subst, arith}
 use Rattle.sedre.specs.Arena.{tree}
-use Rattle.sedmarks.specs.Following.{EndsWithin, Occurs, next_span}
-use Rattle.sedmarks.specs.Matching.{found}
-use Rattle.sedmarks.proofs.FollowingLemmas.{if_occurs}
+use Rattle.sedtext.specs.Following.{EndsWithin, Occurs, next_span}
+use Rattle.sedtext.specs.Matching.{found}
+use Rattle.sedtext.proofs.FollowingLemmas.{if_occurs}
 use Rattle.sedpass.proofs.OccurrenceLemmas.{answer_found, answer_lies}
 use Rattle.sedmatch.proofs.OccurrenceLemmas.{lies_first}
 use Rattle.sedmatch.proofs.occurrences.next_with.Goals as goal

@@ -1,8 +1,8 @@
 use Rattle.std.proofs.Common.{◌≡◌, ◌∙◌, ◌+◌, ◌*◌, ◌≤◌, true, false, IfSome, length, refl, sym, subst}
 use Rattle.std.specs.Option.{unwrap_or}
 use Rattle.sedre.specs.Arena.{tree}
-use Rattle.sedmarks.specs.Costs.{Pays}
-use Rattle.sedmarks.specs.Following.{LiesOn}
+use Rattle.sedtext.specs.Costs.{Pays}
+use Rattle.sedtext.specs.Following.{LiesOn}
 use Rattle.sedpass.proofs.OccurrenceLemmas.{lies_behind}
 use Rattle.sedpass.proofs.SearchLemmas.{found_since}
 use Rattle.sedmatch.specs.Direct.{end_or, rate}

@@ -1,6 +1,6 @@
 use Rattle.std.proofs.Common.{◌+◌, length, arith}
 use Rattle.sedre.specs.Arena.{tree}
-use Rattle.sedmarks.specs.Matching.{found}
+use Rattle.sedtext.specs.Matching.{found}
 use Rattle.sedpass.proofs.OccurrenceLemmas.{answer_found}
 use Rattle.sedmatch.proofs.MatcherLemmas.{further}
 use Rattle.sedmatch.proofs.table_matcher.past_null.Goals as goal

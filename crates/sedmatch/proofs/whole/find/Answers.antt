@@ -1,11 +1,11 @@
 use Rattle.std.proofs.Common.{◌≡◌, ◌+◌, ◌-◌, ◌*◌, ◌∙◌, ℕ, None, Some, length, refl, ap, sym, subst, arith}
 use Rattle.sedre.specs.Arena.{Written, tree}
 use Rattle.sedre.specs.Steps.{Takes}
-use Rattle.sedmarks.specs.Answer.{IsComputed, SpanAnswer}
-use Rattle.sedmarks.specs.Caps.{IsReport}
-use Rattle.sedmarks.specs.Spans.{Found}
-use Rattle.sedmarks.proofs.MatchingLemmas.{found-iff, not_found-iff, report-iff}
-use Rattle.sedmarks.proofs.PartLemmas.{report_lies}
+use Rattle.sedtext.specs.Answer.{IsComputed, SpanAnswer}
+use Rattle.sedtext.specs.Caps.{IsReport}
+use Rattle.sedtext.specs.Spans.{Found}
+use Rattle.sedtext.proofs.MatchingLemmas.{found-iff, not_found-iff, report-iff}
+use Rattle.sedtext.proofs.PartLemmas.{report_lies}
 use Rattle.sedpass.proofs.CountLemmas.{least_since, least_up}
 use Rattle.sedmatch.proofs.OnceLemmas.{all_cost, bare_cost, if_none, none_cost, none_linear, once_still}
 use Rattle.sedmatch.proofs.whole.find.Goals as goal

@@ -1,7 +1,7 @@
 use Rattle.std.proofs.Common.{◌+◌, ◌*◌, length, subst}
 use Rattle.sedre.specs.Arena.{Written, tree}
 use Rattle.sedre.specs.Steps.{Takes}
-use Rattle.sedmarks.specs.Answer.{SpanAnswer}
+use Rattle.sedtext.specs.Answer.{SpanAnswer}
 use Rattle.sedpass.proofs.OccurrenceLemmas.{answer_found}
 use Rattle.sedmatch.proofs.OnceLemmas.{counts_since, span_cost, span_linear}
 use Rattle.sedmatch.proofs.whole.find_span.Goals as goal

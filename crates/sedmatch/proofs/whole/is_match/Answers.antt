@@ -1,7 +1,7 @@
 use Rattle.std.proofs.Common.{◌≡◌, ◌↔◌, IsTrue, refl, subst}
 use Rattle.sedre.specs.Arena.{Written, tree}
-use Rattle.sedmarks.specs.Spans.{SomeFound}
-use Rattle.sedmarks.proofs.MatchingLemmas.{same_test}
+use Rattle.sedtext.specs.Spans.{SomeFound}
+use Rattle.sedtext.proofs.MatchingLemmas.{same_test}
 use Rattle.sedmatch.proofs.OnceLemmas.{once_fitted, once_still}
 use Rattle.sedmatch.proofs.whole.is_match.Goals as goal
 

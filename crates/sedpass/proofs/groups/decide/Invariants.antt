@@ -1,6 +1,6 @@
 use Rattle.std.proofs.Common.{◌+◌, ◌-◌, ◌*◌, ◌≤◌, [], ◌∷◌, length, reverse, vec_capacity}
 use Rattle.sedre.specs.Steps.{TakesAtLeast}
-use Rattle.sedmarks.specs.Costs.{Pays}
+use Rattle.sedtext.specs.Costs.{Pays}
 use Rattle.sedpass.specs.Kept.{SameSpace}
 use Rattle.sedpass.specs.Decide.{nodes_in, text_in, told_of, undecided, found, IsTold, HasDesk, part_cost, tasks_cost, SameTables}
 use Rattle.sedpass.specs.Overlay.{State}

@@ -1,8 +1,8 @@
 use Rattle.std.proofs.Common.{sym, subst, arith}
 use Rattle.sedre.specs.Arena.{tree_at}
-use Rattle.sedmarks.specs.Caps.{LastCut}
-use Rattle.sedmarks.specs.Reach.{At}
-use Rattle.sedmarks.proofs.SpanLemmas.{Spans-forward}
+use Rattle.sedtext.specs.Caps.{LastCut}
+use Rattle.sedtext.specs.Reach.{At}
+use Rattle.sedtext.proofs.SpanLemmas.{Spans-forward}
 use Rattle.sedpass.specs.Decide.{nodes_in, text_in}
 use Rattle.sedpass.proofs.DecideLemmas.{null_cut, long_at, not_open}
 use Rattle.sedpass.proofs.LengthLemmas.{left_long, right_long}

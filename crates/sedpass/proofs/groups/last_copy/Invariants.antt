@@ -1,9 +1,9 @@
 use Rattle.std.proofs.Common.{◌≡◌, ◌⊎◌, ◌+◌, ◌-◌, ◌*◌, ◌<◌, ◌≤◌, ℕ, length}
-use Rattle.sedmarks.specs.Caps.{LastCopy}
+use Rattle.sedtext.specs.Caps.{LastCopy}
 use Rattle.sedre.specs.Steps.{TakesAtLeast}
-use Rattle.sedmarks.specs.Costs.{Pays}
-use Rattle.sedmarks.specs.Reach.{At}
-use Rattle.sedmarks.specs.Spans.{Copies}
+use Rattle.sedtext.specs.Costs.{Pays}
+use Rattle.sedtext.specs.Reach.{At}
+use Rattle.sedtext.specs.Spans.{Copies}
 use Rattle.sedpass.specs.Kept.{SameSpace}
 use Rattle.sedpass.specs.Decide.{nodes_in, text_in, EndsIn, IsDesk, owed_in, SameTables}
 use Rattle.sedpass.proofs.groups.last_copy.Given as goal

@@ -1,6 +1,6 @@
 use Rattle.std.proofs.Common.{◌-◌, length, refl, sym, subst, arith}
 use Rattle.std.proofs.lemmas.Bool.{both_ways}
-use Rattle.sedmarks.specs.Reach.{At}
+use Rattle.sedtext.specs.Reach.{At}
 use Rattle.sedpass.specs.Decide.{nodes_in, text_in}
 use Rattle.sedpass.proofs.DecideLemmas.{part_ends, desk_still, look_paid, owed_here}
 use Rattle.sedpass.proofs.TurnLemmas.{alt_turn, alt_spine}

@@ -1,5 +1,5 @@
 use Rattle.std.proofs.Common.{subst, ap, inl, false}
-use Rattle.sedmarks.specs.Nodes.{parts_of}
+use Rattle.sedtext.specs.Nodes.{parts_of}
 use Rattle.sedpass.specs.Decide.{nodes_in, text_in, Stands}
 use Rattle.sedpass.proofs.TurnLemmas.{leaf_turn, group_turn, part_spine}
 use Rattle.sedpass.proofs.groups.turn_node.Goals as goal

@@ -3,7 +3,7 @@ use Rattle.sedre.specs.Arena.{tree_at}
 use Rattle.sedre.specs.Tree.{star}
 use Rattle.sedpass.specs.Prepared.{IsFacts}
 use Rattle.sedre.specs.declared.types.Node.TheVariants.{Empty, Set, Begin, End, Seq, Alt, Group, Star, Opt}
-use Rattle.sedmarks.proofs.NodeLemmas.{parts_below}
+use Rattle.sedtext.proofs.NodeLemmas.{parts_below}
 use Rattle.sedpass.proofs.FactLemmas.{leaf_at, one_at, short_at, part_facts}
 use Rattle.sedpass.proofs.nodes.facts_of.Goals as goal
 

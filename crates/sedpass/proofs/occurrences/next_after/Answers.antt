@@ -1,7 +1,7 @@
 use Rattle.std.proofs.Common.{ℕ, ◌+◌, true, false, Option, None, length, refl, arith}
 use Rattle.std.specs.Prelude.{nat_lt, if◌then◌else◌}
 use Rattle.sedre.specs.Arena.{tree}
-use Rattle.sedmarks.specs.Matching.{found}
+use Rattle.sedtext.specs.Matching.{found}
 use Rattle.sedpass.specs.Search.{owed_search}
 use Rattle.sedpass.proofs.SearchLemmas.{found_since}
 use Rattle.sedpass.proofs.OccurrenceLemmas.{answer_found, answer_lies, behind_paid, both_paid, both_square, lies_behind, lies_further, one_square, passed_by, search_falls}

@@ -1,7 +1,7 @@
 use Rattle.std.proofs.Common.{◌+◌, ◌<◌, length, sym, subst, arith}
 use Rattle.sedre.specs.Arena.{tree}
 use Rattle.sedre.specs.Steps.{Takes}
-use Rattle.sedmarks.specs.Matching.{found}
+use Rattle.sedtext.specs.Matching.{found}
 use Rattle.sedpass.proofs.OccurrenceLemmas.{answer_found, answer_further, further, further_found}
 use Rattle.sedpass.proofs.occurrences.past_null.Goals as goal
 

@@ -1,6 +1,6 @@
 use Rattle.std.proofs.Common.{◌≡◌, ◌+◌, ◌-◌, ◌*◌, refl, Some, ap, ◌∙◌, sym, arith, ◌&&◌}
 use Rattle.std.specs.Prelude.{slice_get, slice_index_or, false}
-use Rattle.sedmarks.specs.Matching.{takes}
+use Rattle.sedtext.specs.Matching.{takes}
 use Rattle.sedpass.specs.Prepared.{null_in}
 use Rattle.sedpass.specs.Rows.{nodes_of, InTree}
 use Rattle.sedpass.proofs.CountLemmas.{least_none, least_two}

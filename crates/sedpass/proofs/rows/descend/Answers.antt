@@ -1,8 +1,8 @@
 use Rattle.std.proofs.Common.{◌≡◌, ◌+◌, ◌-◌, ◌*◌, Bool, Some, refl, ap, ◌∙◌, sym, subst, arith, ◌&&◌, ◌||◌, ℕ, length}
 use Rattle.std.specs.Prelude.{slice_get, slice_index_or, false, eqb}
 use Rattle.sedre.proofs.MirrorLemmas.{seen-arena, seen-length}
-use Rattle.sedmarks.specs.PartMarks.{enter_parts}
-use Rattle.sedmarks.specs.Reach.{Marked, Enters, Ends}
+use Rattle.sedtext.specs.PartMarks.{enter_parts}
+use Rattle.sedtext.specs.Reach.{Marked, Enters, Ends}
 use Rattle.sedpass.specs.Prepared.{null_in}
 use Rattle.sedpass.specs.Rows.{nodes_of, bits, InTree, TreeFrom, RowFrom}
 use Rattle.sedpass.proofs.CountLemmas.{least_none, least_six, least_after}

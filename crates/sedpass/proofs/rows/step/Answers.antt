@@ -1,7 +1,7 @@
 use Rattle.std.proofs.Common.{◌+◌, Some, length, ◌∙◌, sym, arith, true≢false}
 use Rattle.std.specs.Prelude.{false}
 use Rattle.sedre.proofs.MirrorLemmas.{seen-length}
-use Rattle.sedmarks.specs.Places.{IsPlace}
+use Rattle.sedtext.specs.Places.{IsPlace}
 use Rattle.sedpass.specs.Rows.{nodes_of, at_begin, at_end, TellTook}
 use Rattle.sedpass.proofs.CountLemmas.{least_both}
 use Rattle.sedpass.proofs.FactLemmas.{null_tells, null_anywhere}

@@ -1,6 +1,6 @@
 use Rattle.std.proofs.Common.{◌≡◌, ◌≤◌, false, length, arith}
 use Rattle.sedre.specs.Arena.{tree}
-use Rattle.sedmarks.proofs.SpanLemmas.{Spans-forward}
+use Rattle.sedtext.proofs.SpanLemmas.{Spans-forward}
 use Rattle.sedpass.specs.Search.{owed_kept}
 use Rattle.sedpass.proofs.SearchLemmas.{begun_each, found_since, hit_cost, hit_each, kept_small, later_answer, nothing_cost, nothing_each, tired_cost, tired_each, unbegun}
 use Rattle.sedpass.proofs.search.next_match.Goals as goal

@@ -1,7 +1,7 @@
 use Rattle.std.proofs.Common.{◌≡◌, ◌+◌, ◌-◌, ◌*◌, ◌≤◌, ℕ, length, Option, None, Some, subst, sym, arith}
-use Rattle.sedmarks.specs.Reach.{Longest}
+use Rattle.sedtext.specs.Reach.{Longest}
 use Rattle.sedre.specs.Arena.{tree}
-use Rattle.sedmarks.proofs.SpanLemmas.{Spans-forward, Spans-within}
+use Rattle.sedtext.proofs.SpanLemmas.{Spans-forward, Spans-within}
 use Rattle.std.specs.Prelude.{IfSome}
 use Rattle.sedpass.proofs.CountLemmas.{least_fewer, least_since}
 use Rattle.sedpass.proofs.SearchLemmas.{found_at, hit_paid, hit_room, none_more, none_on, tired_answer}

@@ -1,5 +1,5 @@
 use Rattle.std.proofs.Common.{◌+◌, ◌-◌, ◌*◌, ◌/◌, ◌≤◌, max, length}
-use Rattle.sedmarks.specs.Beginnings.{NoneIn}
+use Rattle.sedtext.specs.Beginnings.{NoneIn}
 use Rattle.sedre.specs.Arena.{tree}
 use Rattle.sedpass.specs.Table.{IsAhead, SameShape}
 use Rattle.sedpass.proofs.search.try_all.Given as goal

@@ -2,9 +2,9 @@ use Rattle.std.proofs.Common.{◌≡◌, ◌∙◌, ◌+◌, ◌-◌, ◌*◌, l
 use Rattle.sedre.specs.Arena.{tree}
 use Rattle.sedre.specs.Steps.{Takes, TakesAtLeast}
 use Rattle.sedre.specs.Arena.{IsExpr}
-use Rattle.sedmarks.specs.Caps.{IsReport}
-use Rattle.sedmarks.proofs.MatchingLemmas.{report-iff}
-use Rattle.sedmarks.proofs.PartLemmas.{report_lies}
+use Rattle.sedtext.specs.Caps.{IsReport}
+use Rattle.sedtext.proofs.MatchingLemmas.{report-iff}
+use Rattle.sedtext.proofs.PartLemmas.{report_lies}
 use Rattle.sedpass.specs.Decide.{found}
 use Rattle.sedmatch.specs.Passes.{IsEngine, written_of}
 use Rattle.sedmatch.specs.declared.passes.Passes.{Passes}

@@ -1,8 +1,8 @@
 use Rattle.std.proofs.Common.{◌≡◌, ◌∙◌, ◌↔◌, ◌+◌, ◌*◌, length, IsTrue, ap, refl, subst, sym, arith}
 use Rattle.sedre.specs.Arena.{tree}
 use Rattle.sedre.specs.Steps.{Takes}
-use Rattle.sedmarks.specs.Spans.{SomeFound}
-use Rattle.sedmarks.proofs.MatchingLemmas.{same_test}
+use Rattle.sedtext.specs.Spans.{SomeFound}
+use Rattle.sedtext.proofs.MatchingLemmas.{same_test}
 use Rattle.sedmatch.specs.Passes.{IsEngine, written_of}
 use Rattle.sedmatch.specs.declared.passes.Passes.{Passes}
 use Rattle.sedmatch.specs.Direct.{rate}

@@ -1,9 +1,9 @@
 use Rattle.std.proofs.Common.{◌≡◌, ◌∙◌, ◌+◌, ◌*◌, length, IfSome, ap, refl, subst, sym, arith}
 use Rattle.sedre.specs.Arena.{tree}
 use Rattle.sedre.specs.Steps.{Takes}
-use Rattle.sedmarks.specs.Costs.{Pays}
-use Rattle.sedmarks.specs.Following.{Occurs}
-use Rattle.sedmarks.proofs.FollowingLemmas.{if_occurs}
+use Rattle.sedtext.specs.Costs.{Pays}
+use Rattle.sedtext.specs.Following.{Occurs}
+use Rattle.sedtext.proofs.FollowingLemmas.{if_occurs}
 use Rattle.sedmatch.specs.Passes.{IsEngine, written_of}
 use Rattle.sedmatch.specs.declared.passes.Passes.{Passes}
 use Rattle.sedmatch.specs.Occurrences.{ServesOn, owed, owed_after}

@@ -5,7 +5,7 @@ use Rattle.sedre.specs.Arena.{Written, IsArena}
 use Rattle.sedre.specs.Mirror.{seen, node_seen}
 use Rattle.sedre.specs.declared.types.Node.{Node}
 use Rattle.sedre.proofs.MirrorLemmas.{seen-arena, seen-node}
-use Rattle.sedmarks.proofs.NodeLemmas.{parts_below}
+use Rattle.sedtext.proofs.NodeLemmas.{parts_below}
 use Rattle.sedpass.specs.Held.{Held}
 use Rattle.sedpass.proofs.arena.Arena.look.Goals as goal
 

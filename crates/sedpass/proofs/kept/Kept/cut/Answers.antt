@@ -1,7 +1,7 @@
 use Rattle.std.proofs.Common.{◌≡◌, ◌-◌, ◌*◌, ◌<◌, ◌≤◌, ◌↔◌, ⊎_elim, refl, sym, subst, IsTrue, arith}
 use Rattle.std.specs.Prelude.{length}
 use Rattle.std.proofs.lemmas.Bool.{cases_lt}
-use Rattle.sedmarks.specs.Reach.{one_start}
+use Rattle.sedtext.specs.Reach.{one_start}
 use Rattle.sedpass.specs.Kept.{SameKept, ends_told, owed}
 use Rattle.sedpass.specs.Regions.{Meets}
 use Rattle.sedpass.specs.Table.{SameShape}

@@ -1,6 +1,6 @@
 use Rattle.std.proofs.Common.{◌+◌, ◌-◌, ◌*◌, ◌/◌, ◌^◌, ◌<◌, refl, ◌∙◌, subst, arith}
 use Rattle.std.specs.Prelude.{length}
-use Rattle.sedmarks.specs.Words.{AgreeBelow, row_of}
+use Rattle.sedtext.specs.Words.{AgreeBelow, row_of}
 use Rattle.sedpass.specs.Kept.{IsRegion}
 use Rattle.sedpass.proofs.KeptLemmas.{edges_more, rows_long}
 use Rattle.sedpass.proofs.kept.Kept.keep_edge.Goals as goal

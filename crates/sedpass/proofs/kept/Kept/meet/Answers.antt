@@ -1,7 +1,7 @@
 use Rattle.std.proofs.Common.{◌≡◌, ◌+◌, ◌<◌, ◌≤◌, refl, sym, ap, ◌∙◌, subst, true≢false, arith}
 use Rattle.std.specs.Prelude.{length, slice_index_or}
 use Rattle.std.proofs.lemmas.Bool.{eqb-true, eq-eqb}
-use Rattle.sedmarks.proofs.MarkLemmas.{default_same}
+use Rattle.sedtext.proofs.MarkLemmas.{default_same}
 use Rattle.sedpass.specs.Kept.{Follows, Meet}
 use Rattle.sedpass.proofs.AheadLemmas.{follows_next, meet_on, meet_read, place_cost}
 use Rattle.sedpass.proofs.CountLemmas.{least_none, least_both, least_since, least_up}

@@ -1,7 +1,7 @@
 use Rattle.std.proofs.Common.{◌≡◌, ◌↔◌, false, ◌∙◌, subst, IsTrue, arith}
 use Rattle.std.specs.Prelude.{length, not, slice_index_or}
-use Rattle.sedmarks.proofs.MarkLemmas.{default_same}
-use Rattle.sedmarks.specs.Words.{row_of}
+use Rattle.sedtext.proofs.MarkLemmas.{default_same}
+use Rattle.sedtext.specs.Words.{row_of}
 use Rattle.sedpass.specs.Kept.{ends_told}
 use Rattle.sedpass.specs.Regions.{Reaches}
 use Rattle.sedpass.proofs.CountLemmas.{least_none, least_both, least_counted, least_up}

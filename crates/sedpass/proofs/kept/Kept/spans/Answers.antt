@@ -1,8 +1,8 @@
 use Rattle.std.proofs.Common.{◌≡◌, ◌<◌, ◌↔◌, sym, ap, ◌∙◌, subst, IsTrue, arith}
 use Rattle.std.specs.Prelude.{false, slice_index_or}
-use Rattle.sedmarks.proofs.MarkLemmas.{default_same}
-use Rattle.sedmarks.specs.Reach.{At, one_start}
-use Rattle.sedmarks.specs.Words.{row_of}
+use Rattle.sedtext.proofs.MarkLemmas.{default_same}
+use Rattle.sedtext.specs.Reach.{At, one_start}
+use Rattle.sedtext.specs.Words.{row_of}
 use Rattle.sedpass.specs.Regions.{IsLastIn}
 use Rattle.sedpass.proofs.LeaveLemmas.{last_inside}
 use Rattle.sedpass.proofs.CountLemmas.{least_counted, least_since}

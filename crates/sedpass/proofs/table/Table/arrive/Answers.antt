@@ -1,6 +1,6 @@
 use Rattle.std.proofs.Common.{◌*◌, ◌/◌, ◌^◌, ◌<◌, ◌∙◌, false, length, ap, inl, inr, arith}
 use Rattle.std.specs.Prelude.{slice_index_or}
-use Rattle.sedmarks.proofs.MarkLemmas.{default_same}
+use Rattle.sedtext.proofs.MarkLemmas.{default_same}
 use Rattle.sedpass.specs.Cells.{stops}
 use Rattle.sedpass.specs.Table.{state_of}
 use Rattle.sedpass.proofs.TableLemmas.{code_some, names_offset}

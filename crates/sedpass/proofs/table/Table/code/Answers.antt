@@ -1,6 +1,6 @@
 use Rattle.std.proofs.Common.{◌*◌, ◌%◌, ◌^◌, ◌<◌, ◌∙◌, length, ap, arith}
 use Rattle.std.specs.Prelude.{slice_index_or, false}
-use Rattle.sedmarks.proofs.MarkLemmas.{default_same}
+use Rattle.sedtext.proofs.MarkLemmas.{default_same}
 use Rattle.sedpass.specs.Cells.{stops, code_of}
 use Rattle.sedpass.proofs.TableLemmas.{shifted, few_offset}
 use Rattle.sedpass.proofs.table.Table.code.Goals as goal

@@ -1,9 +1,9 @@
 use Rattle.std.proofs.Common.{◌≡◌, Bool, ◌/◌, ◌^◌, ◌<◌, ◌∙◌, length, ap, subst, arith}
 use Rattle.std.specs.Prelude.{slice_index_or}
 use Rattle.sedre.specs.Steps.{TakesAtLeast}
-use Rattle.sedmarks.specs.Words.{AgreeBelow, row_of}
-use Rattle.sedmarks.proofs.MarkLemmas.{default_same}
-use Rattle.sedmarks.proofs.StepLemmas.{least_own}
+use Rattle.sedtext.specs.Words.{AgreeBelow, row_of}
+use Rattle.sedtext.proofs.MarkLemmas.{default_same}
+use Rattle.sedtext.proofs.StepLemmas.{least_own}
 use Rattle.sedpass.specs.Rows.{nodes_of}
 use Rattle.sedpass.specs.Table.{state_of, LeadsOn}
 use Rattle.sedpass.proofs.CountLemmas.{least_up}

@@ -1,5 +1,5 @@
 use Rattle.std.proofs.Common.{arith}
-use Rattle.sedmarks.proofs.StepLemmas.{least_own}
+use Rattle.sedtext.proofs.StepLemmas.{least_own}
 use Rattle.sedpass.proofs.CountLemmas.{least_up}
 use Rattle.sedpass.proofs.table.Table.first.Goals as goal
 

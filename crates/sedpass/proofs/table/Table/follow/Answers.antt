@@ -1,5 +1,5 @@
 use Rattle.std.proofs.Common.{◌+◌, ◌-◌, ◌*◌, ◌≤◌, refl, sym, ap, subst, arith}
-use Rattle.sedmarks.proofs.StepLemmas.{least_own, counted_twice}
+use Rattle.sedtext.proofs.StepLemmas.{least_own, counted_twice}
 use Rattle.sedpass.specs.Forwards.{PassIs}
 use Rattle.sedpass.specs.declared.forwards.Passed.{Passed}
 use Rattle.sedpass.proofs.ForwardLemmas.{follows_on}

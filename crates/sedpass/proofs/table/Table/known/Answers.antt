@@ -1,5 +1,5 @@
 use Rattle.std.proofs.Common.{◌+◌, ◌∙◌, arith}
-use Rattle.sedmarks.proofs.MarkLemmas.{default_same}
+use Rattle.sedtext.proofs.MarkLemmas.{default_same}
 use Rattle.sedpass.proofs.TableLemmas.{cell_there, known_cell}
 use Rattle.sedpass.proofs.table.Table.known.Goals as goal
 

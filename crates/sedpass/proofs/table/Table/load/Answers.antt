@@ -1,7 +1,7 @@
 use Rattle.std.proofs.Common.{◌+◌, ◌*◌, ◌∙◌, length, refl, subst, arith}
 use Rattle.sedre.specs.Steps.{TakesAtLeast}
-use Rattle.sedmarks.specs.Words.{AgreeBelow, row_of}
-use Rattle.sedmarks.proofs.StepLemmas.{least_own, counted_twice}
+use Rattle.sedtext.specs.Words.{AgreeBelow, row_of}
+use Rattle.sedtext.proofs.StepLemmas.{least_own, counted_twice}
 use Rattle.sedpass.specs.Rows.{bits}
 use Rattle.sedpass.specs.Table.{HasRow}
 use Rattle.sedpass.proofs.CountLemmas.{least_up}

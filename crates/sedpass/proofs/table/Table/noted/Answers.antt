@@ -1,6 +1,6 @@
 use Rattle.std.proofs.Common.{◌<◌, ◌∙◌, length, sym, subst, arith}
-use Rattle.sedmarks.specs.Words.{AgreeBelow, row_of}
-use Rattle.sedmarks.proofs.MarkLemmas.{default_same}
+use Rattle.sedtext.specs.Words.{AgreeBelow, row_of}
+use Rattle.sedtext.proofs.MarkLemmas.{default_same}
 use Rattle.sedpass.proofs.TableLemmas.{bits_agree}
 use Rattle.sedpass.proofs.table.Table.noted.Goals as goal
 

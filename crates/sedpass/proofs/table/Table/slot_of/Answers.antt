@@ -1,5 +1,5 @@
 use Rattle.std.proofs.Common.{◌*◌, refl, arith}
-use Rattle.sedmarks.proofs.StepLemmas.{least_own, counted_twice}
+use Rattle.sedtext.proofs.StepLemmas.{least_own, counted_twice}
 use Rattle.sedpass.proofs.table.Table.slot_of.Goals as goal
 
 pub returns-clause-counts : goal.returns-clause-counts

@@ -1,9 +1,0 @@
-use Rattle.std.proofs.Common.{ℕ, ◌<◌, ◌≤◌}
-use Rattle.sedmarks.specs.Beginnings.{CanBegin}
-use Rattle.sedmarks.specs.declared.beginnings.Begins.TheVariants.{WithSet}
-use Rattle.sedmarks.proofs.members.first_member.Given as goal
-
-abbrev pub invariant-loop-place : goal.invariant-loop-place
-invariant-loop-place l = record {
-  missed : (i : ℕ) → l.from ≤ i → i < l.place → CanBegin (WithSet l.set) l.bytes i → ⊥;
-}

@@ -1,7 +1,0 @@
-use Rattle.sedmarks.specs.Runs.{Repeated}
-use Rattle.sedmarks.proofs.members.run_to.Given as goal
-
-abbrev pub invariant-loop-place : goal.invariant-loop-place
-invariant-loop-place l = record {
-  copies : Repeated l.set l.bytes l.from l.place;
-}

@@ -1,8 +1,0 @@
-pub mod Needed
-pub mod Times
-pub mod Word
-pub mod Choice
-pub mod Openings
-pub mod Few
-pub mod Rare
-pub mod Hints

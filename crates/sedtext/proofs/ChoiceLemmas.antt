@@ -1,0 +1,223 @@
+-- A choice of literals.
+use Rattle.std.proofs.Common.{◌≡◌, ℕ, zero, suc, ◌+◌, ◌<◌, ◌≤◌, ◌⊎◌, ◌↔◌, Bool, true, false, List, [], ◌∷◌, ◌++◌, length, Some, refl, sym, ap, ◌∙◌, subst, inl, inr, ⊎_elim, arith, length-append, Option, None, true≢false}
+use Rattle.std.specs.Prelude.{slice_get, slice_index_or, slice_set, slice_index, is_some}
+use Rattle.std.proofs.lemmas.Bool.{cases_lt, cases_eq}
+use Rattle.std.proofs.lemmas.List.{get_or_append_left, get_or_push, get_or-set_same, get_or-set_other}
+use Rattle.std.proofs.lemmas.Option.{slice_get_within, get_or_from_slice_get, slice_get-get_or}
+use Rattle.sedre.specs.Arena.{IsArena}
+use Rattle.sedre.specs.declared.types.Node.{Node}
+use Rattle.sedre.specs.declared.types.NodeId.{NodeId}
+use Rattle.sedre.specs.declared.types.Node.TheVariants.{Alt, Group}
+use Rattle.sedtext.specs.Spans.{IsIn}
+use Rattle.sedtext.specs.Reach.{At}
+use Rattle.sedtext.specs.Word.{WordSpans, AllWord}
+use Rattle.sedtext.specs.Choice.{ChoiceAt, ChoiceSpans, ChoiceOr, AllChoice, BranchesOf, HeadsIn, AreHeads, AreShort, FewHeads, LongestAt, FirstChoice, bytes_in}
+use Rattle.sedtext.specs.Few.{FewAt, FirstFew}
+use Rattle.sedtext.specs.declared.counted.few.Few.{Few}
+use Rattle.sedtext.specs.declared.counted.choice.Branches.TheVariants.{Both, Inner}
+use Rattle.sedtext.proofs.ReachLemmas.{open_at, close_at}
+
+-- what stands in a list with one more at its end
+module _ {A : Type 0} (xs : List A) (y : A) where
+  pub get_old : (k : ℕ) (x : A) → slice_get xs k ≡ Some x → slice_get (xs ++ y ∷ []) k ≡ Some x
+  get_old k x is =
+      let inside = slice_get_within xs k x is in
+      let long = length-append xs (y ∷ []) in
+      slice_get-get_or (xs ++ y ∷ []) k x (omega (arith, inside, long)) ∙ ap Some (get_or_append_left xs (y ∷ []) x k inside ∙ get_or_from_slice_get xs k x x is)
+
+  pub get_new : slice_get (xs ++ y ∷ []) (length xs) ≡ Some y
+  get_new =
+      let long = length-append xs (y ∷ []) in
+      slice_get-get_or (xs ++ y ∷ []) (length xs) y (omega (arith, long)) ∙ ap Some (get_or_push xs y y (length xs) refl)
+
+  get_either : (k : ℕ) (x : A) → slice_get (xs ++ y ∷ []) k ≡ Some x → (slice_get xs k ≡ Some x) ⊎ (x ≡ y)
+  get_either k x is =
+      let inside = slice_get_within (xs ++ y ∷ []) k x is in
+      let long = length-append xs (y ∷ []) in
+      let read = get_or_from_slice_get (xs ++ y ∷ []) k x x is in
+      ⊎_elim
+      (λ (lt : k < length xs). inl (slice_get-get_or xs k x lt ∙ ap Some (sym (get_or_append_left xs (y ∷ []) x k lt) ∙ read)))
+      (λ (ge : length xs ≤ k). inr (sym read ∙ get_or_push xs y x k (omega (arith, inside, long))))
+      (cases_lt k (length xs))
+
+-- one more literal
+more_spans : (words : List (List ℕ)) (literal w : List ℕ) (i j : ℕ) → ChoiceSpans (words ++ literal ∷ []) w i j ↔ (ChoiceSpans words w i j ⊎ WordSpans literal w i j)
+more_spans words literal w i j = (
+  (λ s.
+      ⊎_elim
+      (λ (old : slice_get words s.1 ≡ Some s.0). inl (s.0, s.1, old, s.3, s.4))
+      (λ (new : s.0 ≡ literal). inr (subst (λ l. WordSpans l w i j) new (s.3, s.4)))
+      (get_either words literal s.1 s.0 s.2)),
+  (λ s.
+      ⊎_elim
+      (λ (old : ChoiceSpans words w i j). (old.0, old.1, get_old words literal old.1 old.0 old.2, old.3, old.4))
+      (λ (new : WordSpans literal w i j). (literal, length words, get_new words literal, new.0, new.1))
+      s),
+)
+
+pub no_bytes : bytes_in [] ≡ 0
+unfolding bytes_in
+no_bytes = refl
+
+pub more_bytes : (words : List (List ℕ)) (literal : List ℕ) → bytes_in (words ++ literal ∷ []) ≡ bytes_in words + length literal
+unfolding bytes_in
+more_bytes [] literal = omega arith
+more_bytes (other ∷ words) literal = let rest = more_bytes words literal in omega (arith, rest)
+
+-- a literal has at most as many bytes as all have together
+literal_short : (words : List (List ℕ)) (k : ℕ) (literal : List ℕ) → slice_get words k ≡ Some literal → length literal ≤ bytes_in words
+unfolding bytes_in
+literal_short [] k literal is = let inside = slice_get_within [] k literal is in absurd (omega (arith, inside))
+literal_short (other ∷ words) zero literal is = let same : other ≡ literal = cc in omega (arith, ap length same)
+literal_short (other ∷ words) (suc k) literal is = let rest = literal_short words k literal is in omega (arith, rest)
+
+pub spans_short : (words : List (List ℕ)) (w : List ℕ) (i j : ℕ) → AreShort words → ChoiceSpans words w i j → j ≤ i + 20
+spans_short words w i j short s = let few = literal_short words s.1 s.0 s.2 in omega (arith, few, short, s.4)
+
+module _ (nodes : List Node) (x : ℕ) where
+  -- the branches of a node
+  pub both_branches : IsArena nodes → (a b : NodeId) (y z : ℕ) → slice_get nodes x ≡ Some (Alt a b) → y ≡ a.index → z ≡ b.index → BranchesOf nodes x (Both y z)
+  both_branches arena a b y z is y_is z_is =
+      let below = arena.below x a.index (Alt a b) is (inl refl) in
+      let below' = arena.below x b.index (Alt a b) is (inr refl) in (
+        omega (arith, below, y_is),
+        omega (arith, below', z_is),
+        λ w i j. (
+          (λ at.
+              ⊎_elim
+              (λ (l : At nodes w a.index i j). inl (subst (λ v. At nodes w v i j) (sym y_is) l))
+              (λ (r : At nodes w b.index i j). inr (subst (λ v. At nodes w v i j) (sym z_is) r))
+              (open_at nodes w x (Alt a b) arena is i j at)),
+          (λ h.
+              close_at nodes w x (Alt a b) arena is i j (⊎_elim
+              (λ (l : At nodes w y i j). inl (subst (λ v. At nodes w v i j) y_is l))
+              (λ (r : At nodes w z i j). inr (subst (λ v. At nodes w v i j) z_is r))
+              h)),
+        ),
+      )
+
+  pub inner_branch : IsArena nodes → (g : ℕ) (a : NodeId) (y : ℕ) → slice_get nodes x ≡ Some (Group g a) → y ≡ a.index → BranchesOf nodes x (Inner y)
+  inner_branch arena g a y is y_is =
+      let below = arena.below x a.index (Group g a) is refl in (
+        omega (arith, below, y_is),
+        λ w i j. (
+          (λ at. subst (λ v. At nodes w v i j) (sym y_is) (open_at nodes w x (Group g a) arena is i j at)),
+          (λ h. close_at nodes w x (Group g a) arena is i j (subst (λ v. At nodes w v i j) y_is h)),
+        ),
+      )
+
+  -- one more literal, and what is left
+  pub choice_both : (words : List (List ℕ)) (literal : List ℕ) (y a b : ℕ) → ChoiceOr nodes x words y → BranchesOf nodes y (Both a b) → AllWord nodes a literal → ChoiceOr nodes x (words ++ literal ∷ []) b
+  choice_both words literal y a b choice both all w i j within =
+      let more = more_spans words literal w i j in (
+        (λ at.
+            ⊎_elim
+            (λ (s : ChoiceSpans words w i j). inl (more.1 (inl s)))
+            (λ (h : At nodes w y i j).
+            ⊎_elim
+            (λ (l : At nodes w a i j). inl (more.1 (inr ((all w i j within).0 l))))
+            (λ (r : At nodes w b i j). inr r)
+            ((both.2 w i j).0 h))
+            ((choice w i j within).0 at)),
+        (λ h.
+            (choice w i j within).1 (⊎_elim
+            (λ (s : ChoiceSpans (words ++ literal ∷ []) w i j).
+            ⊎_elim
+            (λ (old : ChoiceSpans words w i j). inl old)
+            (λ (new : WordSpans literal w i j). inr ((both.2 w i j).1 (inl ((all w i j within).1 new))))
+            (more.0 s))
+            (λ (r : At nodes w b i j). inr ((both.2 w i j).1 (inr r)))
+            h)),
+      )
+
+  -- the last literal
+  pub choice_last : (words after : List (List ℕ)) (literal : List ℕ) (y last : ℕ) → ChoiceOr nodes x words y → AllWord nodes y literal → after ≡ words ++ literal ∷ [] → last ≡ x → AllChoice nodes last after
+  choice_last words after literal y last choice all same whole w i j within =
+      subst (λ v. At nodes w last i j ↔ ChoiceSpans v w i j) (sym same) (subst (λ v. At nodes w v i j ↔ ChoiceSpans (words ++ literal ∷ []) w i j) (sym whole) (
+      let more = more_spans words literal w i j in (
+        (λ at.
+            more.1 (⊎_elim
+            (λ (s : ChoiceSpans words w i j). inl s)
+            (λ (h : At nodes w y i j). inr ((all w i j within).0 h))
+            ((choice w i j within).0 at))),
+        (λ s.
+            (choice w i j within).1 (⊎_elim
+            (λ (old : ChoiceSpans words w i j). inl old)
+            (λ (new : WordSpans literal w i j). inr ((all w i j within).1 new))
+            (more.0 s))),
+      )))
+
+-- the literal at a place of the list is the only one there
+same_literal : (words : List (List ℕ)) (x k : ℕ) (these those : List ℕ) → k ≡ x → slice_get words x ≡ Some these → slice_get words k ≡ Some those → those ≡ these
+same_literal words x k these those same is also =
+    sym (get_or_from_slice_get words k those [] also) ∙ ap (λ v. slice_index_or words v []) same ∙ get_or_from_slice_get words x these [] is
+
+-- one more byte is marked
+kept_mark : (heads : List Bool) (c b : ℕ) → c < length heads → IsIn b heads → IsIn b (slice_set heads c true)
+kept_mark heads c b inside is =
+    ⊎_elim
+    (λ (e : b ≡ c). subst (λ v. IsIn v (slice_set heads c true)) (sym e) (get_or-set_same heads c true false inside))
+    (λ (ne : b ≡ c → ⊥). get_or-set_other heads c b true false ne ∙ is)
+    (cases_eq b c)
+
+pub heads_more : (heads after : List Bool) (words : List (List ℕ)) (x c : ℕ) (literal : List ℕ) → HeadsIn heads words x → slice_get words x ≡ Some literal → slice_get literal 0 ≡ Some c →
+    c < length heads → after ≡ slice_set heads c true → HeadsIn after words (x + 1)
+heads_more heads after words x c literal are is first inside same k other lt there =
+    subst (λ h. (b : ℕ) × (slice_get other 0 ≡ Some b) × IsIn b h) (sym same)
+    (⊎_elim
+    (λ (old : k < x). let h = are k other old there in (h.0, h.1, kept_mark heads c h.0 inside h.2))
+    (λ (new : x ≤ k).
+    let e = same_literal words x k literal other (omega arith) is there in
+    (c, subst (λ l. slice_get l 0 ≡ Some c) (sym e) first, get_or-set_same heads c true false inside))
+    (cases_lt k x))
+
+-- a literal that stands at a place ends in the text
+pub choice_inside : (heads : List Bool) (words : List (List ℕ)) (w : List ℕ) (i : ℕ) → AreHeads heads words → ChoiceAt words w i → i < length w
+choice_inside heads words w i are at =
+    let h = are.1 at.1 at.0 (slice_get_within words at.1 at.0 at.2) at.2 in
+    let inside = slice_get_within at.0 0 h.0 h.1 in
+    let fits = at.3.fits in
+    omega (arith, inside, fits)
+
+-- one of the few bytes with which the literals begin stands where a literal does
+pub few_head : (few : Few) (words : List (List ℕ)) (w : List ℕ) (i : ℕ) → FewHeads (Some few) words (length words) → ChoiceAt words w i → FewAt few w i
+few_head few words w i are at =
+    let h = are at.1 at.0 (slice_get_within words at.1 at.0 at.2) at.2 in
+    let inside = slice_get_within at.0 0 h.0 h.1 in
+    let fits = at.3.fits in
+    let read : slice_index w i ≡ h.0 = ap (λ v. slice_index w v) (let e : i ≡ i + 0 = omega arith in e) ∙ at.3.reads 0 (omega (arith, inside)) ∙ get_or_from_slice_get at.0 0 h.0 0 h.1 in
+    (h.0, slice_get-get_or w i 0 (omega (arith, inside, fits)) ∙ ap Some read, h.2)
+
+-- a literal stands at none of the places passed where none of the few bytes does
+module _ (few : Few) (words : List (List ℕ)) (w : List ℕ) (from place : ℕ) (are : FewHeads (Some few) words (length words))
+    (missed : (i : ℕ) → from ≤ i → i < place → ChoiceAt words w i → ⊥) where
+  pub missed_to : (at : ℕ) → FirstFew few w place (Some at) → (i : ℕ) → from ≤ i → i < at → ChoiceAt words w i → ⊥
+  missed_to at first i low lt here =
+      ⊎_elim
+      (λ (old : i < place). missed i low old here)
+      (λ (new : place ≤ i). first.2 i new lt (few_head few words w i are here))
+      (cases_lt i place)
+
+  pub missed_on : (at : ℕ) (r : Option ℕ) → FirstFew few w place (Some at) → LongestAt words w at (length words) r → is_some r ≡ false → (i : ℕ) → from ≤ i → i < at + 1 → ChoiceAt words w i → ⊥
+  missed_on at (Some m) first longest none i low lt here = absurd (true≢false none)
+  missed_on at None first longest none i low lt here =
+      ⊎_elim
+      (λ (old : i < at). missed_to at first i low old here)
+      (λ (new : at ≤ i).
+      let there : ChoiceAt words w at = subst (ChoiceAt words w) (let e : i ≡ at = omega arith in e) here in
+      longest there.1 there.0 (slice_get_within words there.1 there.0 there.2) there.2 there.3)
+      (cases_lt i at)
+
+  pub missed_all : FirstFew few w place None → FirstChoice words w from None
+  missed_all none i low here =
+      ⊎_elim
+      (λ (old : i < place). missed i low old here)
+      (λ (new : place ≤ i). none i new (few_head few words w i are here))
+      (cases_lt i place)
+
+  pub missed_none : (at : ℕ) (r : Option ℕ) → from ≤ place → FirstFew few w place (Some at) → LongestAt words w at (length words) r → is_some r ≡ true → FirstChoice words w from (Some at)
+  missed_none at None low first longest some = absurd (true≢false (sym some))
+  missed_none at (Some m) low first longest some =
+      let past = first.0 in
+      let inside = slice_get_within w at first.1.0 first.1.1 in
+      (omega (arith, past), inside, (longest.0.0, longest.0.1, longest.0.2, longest.0.3), missed_to at first)

@@ -1,0 +1,112 @@
+-- A few bytes with which matches begin.
+use Rattle.std.proofs.Common.{◌≡◌, ℕ, ◌+◌, ◌-◌, ◌<◌, ◌≤◌, ◌↔◌, ◌⊎◌, ◌||◌, Bool, true, List, length, take, drop, Option, Some, None, sym, ap, ◌∙◌, inl, inr, ⊎_elim, arith, length-drop}
+use Rattle.std.specs.Prelude.{slice_index, eqb, IfSome}
+use Rattle.std.proofs.lemmas.Bool.{eqb-true, eq-eqb, or_left, or_right, or_cases}
+use Rattle.std.proofs.lemmas.List.{take_rest, get_or-drop}
+use Rattle.std.proofs.lemmas.Option.{slice_get_within, get_or_from_slice_get, slice_get-get_or}
+use Rattle.memchr.specs.Find.{Passes, IsFirstByte, is_byte, is_byte2, is_byte3}
+use Rattle.sedre.specs.Sets.{has}
+use Rattle.sedtext.specs.Spans.{IsIn}
+use Rattle.sedtext.specs.Few.{HasFew, FewAt, FirstFew, Gathered, AreMembers}
+use Rattle.sedtext.specs.declared.counted.few.Few.{Few}
+use Rattle.sedtext.specs.declared.counted.few.Few.TheVariants.{One, Two, Three}
+
+-- a test of bytes that is passed by the few alone
+module _ (few : Few) (test : ℕ → Bool) (yes : (c : ℕ) → HasFew few c → test c ≡ true) (no : (c : ℕ) → test c ≡ true → HasFew few c) (hay : List ℕ) where
+  passes_at : (k : ℕ) → FewAt few hay k → Passes test hay k
+  passes_at k at = ap test (get_or_from_slice_get hay k at.0 0 at.1) ∙ yes at.0 at.2
+
+  pub few_first : (r : Option ℕ) → IsFirstByte test hay r → FirstFew few hay 0 r
+  few_first None none = λ k low at. none k low (let inside = slice_get_within hay k at.0 at.1 in inside) (passes_at k at)
+  few_first (Some k) first = (
+    omega arith,
+    (slice_index hay k, slice_get-get_or hay k 0 first.0.high, no (slice_index hay k) first.1),
+    λ h low lt at. first.0.before h low lt (passes_at h at),
+  )
+
+one_yes : (a c : ℕ) → HasFew (One a) c → is_byte a c ≡ true
+one_yes a c has = eq-eqb c a has
+
+one_no : (a c : ℕ) → is_byte a c ≡ true → HasFew (One a) c
+one_no a c passes = eqb-true c a passes
+
+two_yes : (a b c : ℕ) → HasFew (Two a b) c → is_byte2 a b c ≡ true
+two_yes a b c has = ⊎_elim (λ (e : c ≡ a). or_left (eqb c a) (eqb c b) (eq-eqb c a e)) (λ (e : c ≡ b). or_right (eqb c a) (eqb c b) (eq-eqb c b e)) has
+
+two_no : (a b c : ℕ) → is_byte2 a b c ≡ true → HasFew (Two a b) c
+two_no a b c passes = ⊎_elim (λ (e : eqb c a ≡ true). inl (eqb-true c a e)) (λ (e : eqb c b ≡ true). inr (eqb-true c b e)) (or_cases (eqb c a) (eqb c b) passes)
+
+three_yes : (a b d c : ℕ) → HasFew (Three a b d) c → is_byte3 a b d c ≡ true
+three_yes a b d c has =
+    ⊎_elim (λ (e : c ≡ a). or_left (eqb c a || eqb c b) (eqb c d) (or_left (eqb c a) (eqb c b) (eq-eqb c a e)))
+    (λ (rest : (c ≡ b) ⊎ (c ≡ d)).
+    ⊎_elim (λ (e : c ≡ b). or_left (eqb c a || eqb c b) (eqb c d) (or_right (eqb c a) (eqb c b) (eq-eqb c b e)))
+    (λ (e : c ≡ d). or_right (eqb c a || eqb c b) (eqb c d) (eq-eqb c d e)) rest) has
+
+three_no : (a b d c : ℕ) → is_byte3 a b d c ≡ true → HasFew (Three a b d) c
+three_no a b d c passes =
+    ⊎_elim
+    (λ (first : (eqb c a || eqb c b) ≡ true).
+    ⊎_elim (λ (e : eqb c a ≡ true). inl (eqb-true c a e)) (λ (e : eqb c b ≡ true). inr (inl (eqb-true c b e))) (or_cases (eqb c a) (eqb c b) first))
+    (λ (e : eqb c d ≡ true). inr (inr (eqb-true c d e)))
+    (or_cases (eqb c a || eqb c b) (eqb c d) passes)
+
+pub one_first : (a : ℕ) (hay : List ℕ) (r : Option ℕ) → IsFirstByte (is_byte a) hay r → FirstFew (One a) hay 0 r
+one_first a hay r first = few_first (One a) (is_byte a) (one_yes a) (one_no a) hay r first
+
+pub two_first : (a b : ℕ) (hay : List ℕ) (r : Option ℕ) → IsFirstByte (is_byte2 a b) hay r → FirstFew (Two a b) hay 0 r
+two_first a b hay r first = few_first (Two a b) (is_byte2 a b) (two_yes a b) (two_no a b) hay r first
+
+pub three_first : (a b d : ℕ) (hay : List ℕ) (r : Option ℕ) → IsFirstByte (is_byte3 a b d) hay r → FirstFew (Three a b d) hay 0 r
+three_first a b d hay r first = few_first (Three a b d) (is_byte3 a b d) (three_yes a b d) (three_no a b d) hay r first
+
+-- from what is left of a text to the text
+module _ (few : Few) (w rest : List ℕ) (p : ℕ) (from : p ≤ length w) (e : rest ≡ take (length w - p) (drop p w)) where
+  same_rest : rest ≡ drop p w
+  same_rest = e ∙ take_rest w p
+
+  length-rest : length rest ≡ length w - p
+  length-rest = ap length same_rest ∙ length-drop p w
+
+  rest_at : (k : ℕ) → slice_index rest k ≡ slice_index w (p + k)
+  rest_at k = ap (λ l. slice_index l k) same_rest ∙ get_or-drop p w k 0
+
+  to_rest : (k : ℕ) → p ≤ k → FewAt few w k → FewAt few rest (k - p)
+  to_rest k low at =
+      let inside = slice_get_within w k at.0 at.1 in
+      let back : p + (k - p) ≡ k = omega arith in
+      let read : slice_index rest (k - p) ≡ at.0 = rest_at (k - p) ∙ ap (λ v. slice_index w v) back ∙ get_or_from_slice_get w k at.0 0 at.1 in
+      (at.0, slice_get-get_or rest (k - p) 0 (omega (arith, length-rest)) ∙ ap Some read, at.2)
+
+  from_rest : (k : ℕ) → FewAt few rest k → FewAt few w (p + k)
+  from_rest k at =
+      let inside = slice_get_within rest k at.0 at.1 in
+      let read : slice_index w (p + k) ≡ at.0 = sym (rest_at k) ∙ get_or_from_slice_get rest k at.0 0 at.1 in
+      (at.0, slice_get-get_or w (p + k) 0 (omega (arith, length-rest)) ∙ ap Some read, at.2)
+
+  pub few_none : FirstFew few rest 0 None → FirstFew few w p None
+  few_none none k low at = none (k - p) (omega arith) (to_rest k low at)
+
+  pub few_some : (k : ℕ) → FirstFew few rest 0 (Some k) → FirstFew few w p (Some (p + k))
+  few_some k first = (omega arith, from_rest k first.1, λ h low lt at. first.2 (h - p) (omega arith) (omega arith) (to_rest h low at))
+
+-- a place at which one stands is in the text
+pub few_inside : (few : Few) (w : List ℕ) (i : ℕ) → FewAt few w i → i < length w
+few_inside few w i at = slice_get_within w i at.0 at.1
+
+-- the members of a set among the first bytes are those gathered
+abbrev pub AllGathered : List Bool → ℕ → Option Few → Type 0
+AllGathered set n few = (c : ℕ) → Gathered few c ↔ ((c < n) × IsIn c set)
+
+-- the few of two sets
+pub few_of_both : (these those both : List Bool) → ((b : ℕ) → has both b ≡ (has these b || has those b)) → (r : Option Few) → IfSome r (AreMembers both) →
+    IfSome r (λ f. (c : ℕ) → c < 256 → HasFew f c ↔ (IsIn c these ⊎ IsIn c those))
+few_of_both these those both members None are = tt
+few_of_both these those both members (Some few) are = λ c small. (
+  (λ h. or_cases (has these c) (has those c) (sym (members c) ∙ (are c small).0 h)),
+  (λ h.
+      (are c small).1
+      (members c
+      ∙ ⊎_elim (λ (l : IsIn c these). or_left (has these c) (has those c) l)
+      (λ (r : IsIn c those). or_right (has these c) (has those c) r) h)),
+)

@@ -1,0 +1,80 @@
+-- An expression without groups leaves all groups as they are.
+use Rattle.std.proofs.Common.{◌≡◌, ℕ, zero, suc, ◌<◌, Bool, true, false, List, length, Some, refl, sym, ap, ◌∙◌, subst, inl, inr, arith}
+use Rattle.std.specs.Prelude.{slice_get, cond}
+use Rattle.sedre.specs.Tree.{Tree, empty, set, begin, end, seq, alt, group, star, opt}
+use Rattle.sedtext.specs.Spans.{Spans}
+use Rattle.sedre.specs.Arena.{IsExpr, tree_at, tree_of}
+use Rattle.sedre.specs.declared.types.Node.{Node}
+use Rattle.sedre.specs.declared.types.Node.TheVariants.{Empty, Set, Begin, End, Seq, Alt, Group, Star, Opt}
+use Rattle.sedre.proofs.TreeLemmas.{tree_at-node}
+use Rattle.sedtext.specs.Caps.{Groups, Caps, forget}
+use Rattle.sedtext.specs.Matching.{caps, cut, last_start, spans}
+use Rattle.sedtext.proofs.NodeLemmas.{node_at}
+use Rattle.sedtext.proofs.MatchingLemmas.{caps-is}
+
+-- there is no group in the tree
+abbrev pub NoGroups : Tree → Type 0
+NoGroups (seq a b) = NoGroups a × NoGroups b
+NoGroups (alt a b) = NoGroups a × NoGroups b
+NoGroups (group k a) = ⊥
+NoGroups (star a first) = NoGroups a
+NoGroups (opt a first) = NoGroups a
+NoGroups other = Unit {0}
+
+forget-none : (e : Tree) → NoGroups e → (g : Groups) → forget e g ≡ g
+forget-none empty none g = refl
+forget-none (set has) none g = refl
+forget-none begin none g = refl
+forget-none end none g = refl
+forget-none (seq a b) none g = ap (forget b) (forget-none a none.0 g) ∙ forget-none b none.1 g
+forget-none (alt a b) none g = ap (forget b) (forget-none a none.0 g) ∙ forget-none b none.1 g
+forget-none (group k a) none g = absurd none
+forget-none (star a first) none g = forget-none a none g
+forget-none (opt a first) none g = forget-none a none g
+
+cond-same : (b : Bool) (x y g : Groups) → x ≡ g → y ≡ g → cond b x y ≡ g
+cond-same true x y g left right = left
+cond-same false x y g left right = right
+
+caps-none : (e : Tree) → NoGroups e → (w : List ℕ) (i j : ℕ) (g : Groups) → caps e w i j g ≡ g
+unfolding caps
+caps-none empty none w i j g = refl
+caps-none (set has) none w i j g = refl
+caps-none begin none w i j g = refl
+caps-none end none w i j g = refl
+caps-none (seq a b) none w i j g =
+    let k = cut (spans a w) (spans b w) i j in
+    caps-none b none.1 w k j (caps a w i k g) ∙ caps-none a none.0 w i k g
+caps-none (alt a b) none w i j g = cond-same (spans a w i j) (caps a w i j g) (caps b w i j g) g (caps-none a none.0 w i j g) (caps-none b none.1 w i j g)
+caps-none (group k a) none w i j g = absurd none
+caps-none (star a first) none w i j g =
+    cond-same _ _ _ g (caps-none a none w (last_start j (spans a w) i j) j (forget a g) ∙ forget-none a none g)
+    (cond-same _ _ _ g (caps-none a none w i i (forget a g) ∙ forget-none a none g) refl)
+caps-none (opt a first) none w i j g =
+    cond-same _ _ _ g (caps-none a none w i j (forget a g) ∙ forget-none a none g)
+    (cond-same _ _ _ g (caps-none a none w i i (forget a g) ∙ forget-none a none g) refl)
+
+pub Caps-none : (e : Tree) → NoGroups e → (w : List ℕ) (i j : ℕ) (g : Groups) → Spans e w i j → Caps e w i j g g
+Caps-none e none w i j g s = subst (λ h. Caps e w i j g h) (caps-none e none w i j g) (caps-is e w i j g s)
+
+module _ (nodes : List Node) (groups : ℕ) (expr : IsExpr nodes groups) (few : groups ≡ 0) where
+  none_of : (part : ℕ → Tree) (x : ℕ) (node : Node) → slice_get nodes x ≡ Some node → ((c : ℕ) → c < x → NoGroups (part c)) → NoGroups (tree_of part node)
+  none_of part x Empty is each = tt
+  none_of part x (Set s) is each = tt
+  none_of part x Begin is each = tt
+  none_of part x End is each = tt
+  none_of part x (Seq a b) is each = (each a.index (expr.arena.below x a.index (Seq a b) is (inl refl)), each b.index (expr.arena.below x b.index (Seq a b) is (inr refl)))
+  none_of part x (Alt a b) is each = (each a.index (expr.arena.below x a.index (Alt a b) is (inl refl)), each b.index (expr.arena.below x b.index (Alt a b) is (inr refl)))
+  none_of part x (Group k a) is each = let number = expr.numbers x k a is in absurd (omega arith)
+  none_of part x (Star a first) is each = each a.index (expr.arena.below x a.index (Star a first) is refl)
+  none_of part x (Opt a first) is each = each a.index (expr.arena.below x a.index (Opt a first) is refl)
+
+  none_below : (n x : ℕ) → x < n → x < length nodes → NoGroups (tree_at nodes x)
+  none_below zero x low inside = absurd (omega arith)
+  none_below (suc n) x low inside =
+      let node = node_at nodes x inside in
+      subst NoGroups (sym (tree_at-node nodes x node.0 expr.arena node.1))
+      (none_of (tree_at nodes) x node.0 node.1 (λ c below. none_below n c (omega arith) (omega arith)))
+
+  pub no_groups_at : (x : ℕ) → x < length nodes → NoGroups (tree_at nodes x)
+  no_groups_at x inside = none_below (suc x) x (omega arith) inside

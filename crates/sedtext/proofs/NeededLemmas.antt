@@ -1,0 +1,134 @@
+-- Literals that the spans of an expression hold.
+use Rattle.std.proofs.Common.{◌≡◌, ℕ, ◌+◌, ◌-◌, ◌<◌, ◌≤◌, ◌⊎◌, Bool, List, length, take, drop, Option, Some, None, IsTrue, refl, sym, ap, ◌∙◌, subst, inl, inr, ⊎_elim, arith, length-drop}
+use Rattle.std.specs.Prelude.{IfSome, slice_get, slice_index}
+use Rattle.std.proofs.lemmas.List.{take_rest, get_or-drop}
+use Rattle.memchr.specs.Find.{OccursAt, Nowhere, NoneBefore as FirstOf}
+use Rattle.sedre.specs.Tree.{Tree}
+use Rattle.sedre.specs.Arena.{IsArena, tree_at}
+use Rattle.sedre.specs.declared.types.Node.{Node}
+use Rattle.sedre.specs.declared.types.NodeId.{NodeId}
+use Rattle.sedre.specs.declared.types.Node.TheVariants.{Set, Seq, Group}
+use Rattle.sedtext.specs.Spans.{NotFound}
+use Rattle.sedtext.specs.Reach.{At}
+use Rattle.sedtext.specs.Needed.{IsOfSet, LinksTo, IsLiteral, GoesOnAs, AllHold, AllEndWith, IsNeeded, FirstLiteral, Narrowed}
+use Rattle.sedtext.specs.declared.needed.Needed.{Needed}
+use Rattle.sedtext.specs.declared.needed.Literal.{Literal}
+use Rattle.sedtext.specs.declared.needed.Link.TheVariants.{OneOf, Inner}
+use Rattle.sedtext.proofs.ReachLemmas.{open_at, close_at}
+use Rattle.sedtext.proofs.SpanLemmas.{Spans-forward, Spans-within}
+
+module _ (nodes : List Node) (arena : IsArena nodes) (x : ℕ) where
+  -- a set
+  pub node_set : (s : List Bool) → slice_get nodes x ≡ Some (Set s) → IsOfSet nodes x s
+  node_set s is w i j = (
+    (λ at. let f = open_at nodes w x (Set s) arena is i j at in ((f.0, f.1, f.2), f.3)),
+    (λ h. close_at nodes w x (Set s) arena is i j (h.0.0, h.0.1, h.0.2, h.1)),
+  )
+
+  -- the parts of a concatenation stand before it
+  pub seq_below : (a b : NodeId) → slice_get nodes x ≡ Some (Seq a b) → (a.index < x) × (b.index < x)
+  seq_below a b is = (arena.below x a.index (Seq a b) is (inl refl), arena.below x b.index (Seq a b) is (inr refl))
+
+  -- a byte of a set, and what stands after it
+  pub set_links : (a b : NodeId) (y left : ℕ) (s : List Bool) → slice_get nodes x ≡ Some (Seq a b) → left ≡ a.index → y ≡ b.index → IsOfSet nodes left s → LinksTo nodes x (OneOf s y)
+  set_links a b y left s is left_is y_is first =
+      let below = seq_below a b is in (
+        omega (arith, below.1),
+        λ w i j. (
+          (λ at.
+              let f = open_at nodes w x (Seq a b) arena is i j at in
+              let h = (first w i f.0).0 (subst (λ v. At nodes w v i f.0) (sym left_is) f.1) in
+              (h.0, subst (λ p. At nodes w y p j) h.1 (subst (λ v. At nodes w v f.0 j) (sym y_is) f.2))),
+          (λ h.
+              close_at nodes w x (Seq a b) arena is i j
+              (i + 1, subst (λ v. At nodes w v i (i + 1)) left_is ((first w i (i + 1)).1 (h.0, refl)), subst (λ v. At nodes w v (i + 1) j) y_is h.1)),
+        ),
+      )
+
+  -- a group
+  pub group_links : (g : ℕ) (a : NodeId) (y : ℕ) → slice_get nodes x ≡ Some (Group g a) → y ≡ a.index → LinksTo nodes x (Inner y)
+  group_links g a y is y_is =
+      let below = arena.below x a.index (Group g a) is refl in (
+        omega (arith, below),
+        λ w i j. (
+          (λ at. subst (λ v. At nodes w v i j) (sym y_is) (open_at nodes w x (Group g a) arena is i j at)),
+          (λ h. close_at nodes w x (Group g a) arena is i j (subst (λ v. At nodes w v i j) y_is h)),
+        ),
+      )
+
+  -- the second part of a concatenation
+  pub second_ends : (a b : NodeId) (y : ℕ) → slice_get nodes x ≡ Some (Seq a b) → y ≡ b.index → AllEndWith nodes x y
+  second_ends a b y is y_is w i j within at =
+      let f = open_at nodes w x (Seq a b) arena is i j at in
+      (f.0, Spans-forward (tree_at nodes a.index) w i f.0 f.1, Spans-within (tree_at nodes a.index) w i f.0 within f.1, subst (λ v. At nodes w v f.0 j) (sym y_is) f.2)
+
+module _ (nodes : List Node) (x : ℕ) where
+  -- the longer of what it holds and what a part at its end begins with
+  pub hold_longer : (y : ℕ) (l : Literal) (these result : List ℕ) → AllEndWith nodes x y → IsLiteral nodes y l → AllHold nodes x these →
+      (result ≡ these) ⊎ (result ≡ l.bytes.items) → AllHold nodes x result
+  hold_longer y l these result ends literal first which =
+      ⊎_elim
+      (λ (e : result ≡ these). subst (AllHold nodes x) (sym e) first)
+      (λ (e : result ≡ l.bytes.items).
+      subst (AllHold nodes x) (sym e) (λ w i j within at. let f = ends w i j within at in (f.0, f.1, ((literal w f.0 j f.2).0 f.3).0)))
+      which
+
+  -- a part of the rest after a literal
+  pub ends_behind : (y r z : ℕ) (l : Literal) → l.rest ≡ Some r → AllEndWith nodes x y → IsLiteral nodes y l → AllEndWith nodes r z → AllEndWith nodes x z
+  ends_behind y r z l rest ends literal second w i j within at =
+      let f = ends w i j within at in
+      let h = (literal w f.0 j f.2).0 f.3 in
+      let there : At nodes w r (f.0 + length l.bytes.items) j = subst (GoesOnAs nodes w (f.0 + length l.bytes.items) j) rest h.1 in
+      let g = second w (f.0 + length l.bytes.items) j h.0.fits there in
+      (g.0, omega (arith, f.1, g.1), g.2, g.3)
+
+pub up_to_some : (x r : ℕ) (o : Option ℕ) → o ≡ Some r → IfSome o (λ y. y ≤ x) → r ≤ x
+up_to_some x r o e h = subst (λ p. IfSome p (λ y. y ≤ x)) e h
+
+module _ (w rest : List ℕ) (p : ℕ) (from : p ≤ length w) (e : rest ≡ take (length w - p) (drop p w)) (literal : List ℕ) where
+  same_rest : rest ≡ drop p w
+  same_rest = e ∙ take_rest w p
+
+  length-rest : length rest ≡ length w - p
+  length-rest = ap length same_rest ∙ length-drop p w
+
+  rest_at : (k : ℕ) → slice_index rest k ≡ slice_index w (p + k)
+  rest_at k = ap (λ l. slice_index l k) same_rest ∙ get_or-drop p w k 0
+
+  -- where the literal stands in the text from p on, it does in the rest
+  to_rest : (k : ℕ) → p ≤ k → OccursAt w literal k → OccursAt rest literal (k - p)
+  to_rest k low here = record {
+    fits = omega (arith, here.fits, length-rest);
+    reads = λ j lt. rest_at (k - p + j) ∙ ap (λ v. slice_index w v) (let same : p + (k - p + j) ≡ k + j = omega arith in same) ∙ here.reads j lt;
+  }
+
+  -- and the other way round
+  from_rest : (k : ℕ) → OccursAt rest literal k → OccursAt w literal (p + k)
+  from_rest k here = record {
+    fits = omega (arith, here.fits, length-rest);
+    reads = λ j lt. ap (λ v. slice_index w v) (let same : p + k + j ≡ p + (k + j) = omega arith in same) ∙ sym (rest_at (k + j)) ∙ here.reads j lt;
+  }
+
+  pub literal_none : Nowhere (OccursAt rest literal) 0 (length rest + 1) → FirstLiteral w literal p None
+  literal_none none k low here =
+      let there = to_rest k low here in
+      none (k - p) (omega arith) (omega (arith, there.fits)) there
+
+  pub literal_some : (k : ℕ) → FirstOf (OccursAt rest literal) 0 (length rest + 1) k → OccursAt rest literal k → FirstLiteral w literal p (Some (p + k))
+  literal_some k least here = (omega arith, from_rest k here, λ h low high is. least.before (h - p) (omega arith) (omega arith) (to_rest h low is))
+
+module _ (e : Tree) (w : List ℕ) (p : ℕ) (n : Needed) (holds : IsNeeded e (Some n)) where
+  -- a text without the literal has no match
+  pub needed_none : FirstLiteral w n.finder p None → NotFound e w p
+  needed_none none i k low within s = let h = holds w i k within s in none h.0 (omega (arith, h.1)) h.3
+
+  -- where each match begins with it, none begins before it
+  pub needed_first : (place : ℕ) → IsTrue n.leads → FirstLiteral w n.finder p (Some place) → Narrowed e w p (Some place)
+  needed_first place leads first =
+      let within : place ≤ length w = omega (arith, first.1.fits) in (
+        first.0,
+        within,
+        λ i k low lt s.
+            let h = holds w i k (omega arith) s in
+            first.2 i low lt (subst (OccursAt w n.finder) (h.2 leads) h.3),
+      )

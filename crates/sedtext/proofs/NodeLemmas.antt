@@ -1,0 +1,64 @@
+-- Nodes of an expression, and their parts.
+use Rattle.std.proofs.Common.{◌≡◌, ℕ, zero, suc, ◌+◌, ◌<◌, ◌≤◌, List, [], ◌∷◌, length, Some, refl, inl, inr, arith}
+use Rattle.std.specs.Prelude.{slice_get}
+use Rattle.sedre.specs.Arena.{IsArena, tree_at}
+use Rattle.sedre.specs.Packed.{PartsBelow}
+use Rattle.sedre.specs.Tree.{Tree, empty, set, begin, end, seq, alt, group, star, opt, size}
+use Rattle.sedre.specs.declared.types.Node.{Node}
+use Rattle.sedre.specs.declared.types.NodeId.{NodeId}
+use Rattle.sedre.specs.declared.types.Node.TheVariants.{Empty, Set, Begin, End, Seq, Alt, Group, Star, Opt}
+use Rattle.sedre.proofs.TreeLemmas.{tree_at-node}
+use Rattle.sedtext.specs.Nodes.{sizes, parts_of}
+
+-- there is a node at each place of the list
+pub node_at : (nodes : List Node) (x : ℕ) → x < length nodes → (node : Node) × (slice_get nodes x ≡ Some node)
+node_at [] x inside = absurd (omega arith)
+node_at (node ∷ nodes) zero inside = (node, refl)
+node_at (node ∷ nodes) (suc x) inside = node_at nodes x (omega arith)
+
+-- the parts of the node at x are below anything from x on
+pub parts_below : (nodes : List Node) → IsArena nodes → (x : ℕ) (node : Node) → slice_get nodes x ≡ Some node → (n : ℕ) → x ≤ n → PartsBelow n node
+parts_below nodes arena x Empty is n le = tt
+parts_below nodes arena x (Set s) is n le = tt
+parts_below nodes arena x Begin is n le = tt
+parts_below nodes arena x End is n le = tt
+parts_below nodes arena x (Seq a b) is n le =
+    let low = arena.below x a.index (Seq a b) is (inl refl) in
+    let low' = arena.below x b.index (Seq a b) is (inr refl) in
+    (omega arith, omega arith)
+parts_below nodes arena x (Alt a b) is n le =
+    let low = arena.below x a.index (Alt a b) is (inl refl) in
+    let low' = arena.below x b.index (Alt a b) is (inr refl) in
+    (omega arith, omega arith)
+parts_below nodes arena x (Group k a) is n le = let low = arena.below x a.index (Group k a) is refl in omega arith
+parts_below nodes arena x (Star a first) is n le = let low = arena.below x a.index (Star a first) is refl in omega arith
+parts_below nodes arena x (Opt a first) is n le = let low = arena.below x a.index (Opt a first) is refl in omega arith
+
+-- the alternatives stand before the node
+pub alternatives_before : (nodes : List Node) → IsArena nodes → (x : ℕ) (a b : NodeId) → slice_get nodes x ≡ Some (Alt a b) → (a.index < x) × (b.index < x)
+alternatives_before nodes arena x a b is = (arena.below x a.index (Alt a b) is (inl refl), arena.below x b.index (Alt a b) is (inr refl))
+
+-- a tree has a node
+pub size-pos : (t : Tree) → 1 ≤ size t
+size-pos empty = omega arith
+size-pos (set has) = omega arith
+size-pos begin = omega arith
+size-pos end = omega arith
+size-pos (seq a b) = omega arith
+size-pos (alt a b) = omega arith
+size-pos (group k a) = omega arith
+size-pos (star a first) = omega arith
+size-pos (opt a first) = omega arith
+
+-- and one more than its parts
+module _ (nodes : List Node) (arena : IsArena nodes) (x : ℕ) where
+  pub size-parts : (node : Node) → slice_get nodes x ≡ Some node → size (tree_at nodes x) ≡ 1 + sizes nodes (parts_of node)
+  size-parts Empty is = rw (tree_at-node nodes x Empty arena is) refl
+  size-parts (Set s) is = rw (tree_at-node nodes x (Set s) arena is) refl
+  size-parts Begin is = rw (tree_at-node nodes x Begin arena is) refl
+  size-parts End is = rw (tree_at-node nodes x End arena is) refl
+  size-parts (Seq a b) is = rw (tree_at-node nodes x (Seq a b) arena is) (omega arith)
+  size-parts (Alt a b) is = rw (tree_at-node nodes x (Alt a b) arena is) (omega arith)
+  size-parts (Group k a) is = rw (tree_at-node nodes x (Group k a) arena is) (omega arith)
+  size-parts (Star a first) is = rw (tree_at-node nodes x (Star a first) arena is) (omega arith)
+  size-parts (Opt a first) is = rw (tree_at-node nodes x (Opt a first) arena is) (omega arith)

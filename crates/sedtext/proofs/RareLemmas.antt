@@ -1,0 +1,144 @@
+-- Few bytes of which one stands at a fixed distance after the beginning of every match.
+use Rattle.std.proofs.Common.{◌≡◌, ℕ, ◌+◌, ◌-◌, ◌*◌, ◌<◌, ◌≤◌, ◌↔◌, ◌⊎◌, Bool, List, length, Option, Some, None, sym, subst, inl, inr, ⊎_elim, arith}
+use Rattle.std.specs.Prelude.{IfSome, slice_get}
+use Rattle.std.proofs.lemmas.Bool.{cases_lt}
+use Rattle.sedre.specs.Tree.{Tree}
+use Rattle.sedre.specs.Arena.{IsArena, tree_at}
+use Rattle.sedre.specs.declared.types.Node.{Node}
+use Rattle.sedre.specs.declared.types.NodeId.{NodeId}
+use Rattle.sedre.specs.declared.types.Node.TheVariants.{Alt}
+use Rattle.sedtext.specs.declared.counted.few.Few.{Few}
+use Rattle.sedtext.specs.declared.needed.Link.TheVariants.{OneOf, Last}
+use Rattle.sedtext.specs.declared.rare.Fixed.{Fixed}
+use Rattle.sedtext.specs.declared.rare.Rare.{Rare}
+use Rattle.sedtext.specs.Bytes.{looked_at, AreBytes}
+use Rattle.sedtext.specs.Few.{HasFew, FewAt, FirstFew}
+use Rattle.sedtext.specs.Needed.{LinksTo, Narrowed}
+use Rattle.sedtext.specs.Rare.{StandsAt, HeldAt, RareAt, FirstFixed, FirstRare, RareNowhere, AllStand, AllHave, AllHeld, AllRare, AllSecond}
+use Rattle.sedtext.specs.Reach.{At}
+use Rattle.sedtext.specs.Beginnings.{NoneIn}
+use Rattle.sedtext.specs.Spans.{Spans, IsIn}
+use Rattle.sedtext.proofs.FewLemmas.{few_inside}
+use Rattle.sedtext.proofs.ReachLemmas.{open_at}
+
+-- a place after which one stands is in the text
+pub fixed_inside : (f : Fixed) (w : List ℕ) (i : ℕ) → StandsAt f w i → i + f.offset < length w
+fixed_inside f w i at = few_inside f.few w (i + f.offset) at
+
+module _ (f : Fixed) (w : List ℕ) (p : ℕ) where
+  pub fixed_none : FirstFew f.few w (p + f.offset) None → FirstFixed f w p None
+  fixed_none none k low at = none (k + f.offset) (omega arith) at
+
+  pub fixed_some : (k : ℕ) → FirstFew f.few w (p + f.offset) (Some k) → FirstFixed f w p (Some (k - f.offset))
+  fixed_some k first =
+      let same : k ≡ k - f.offset + f.offset = omega (arith, first.0) in
+      (omega (arith, first.0), subst (FewAt f.few w) same first.1, λ h low lt at. first.2 (h + f.offset) (omega arith) (omega arith) at)
+
+-- a search for what is sought, as far as the place q
+module _ (r : Rare) (w : List ℕ) (p q : ℕ) (before : RareNowhere r w p q) where
+  -- where what is held is lacking
+  pub rare_lacks : (k : ℕ) → FirstFixed r.sought w q (Some k) → (HeldAt r.held w k → ⊥) → RareNowhere r w p (k + 1)
+  rare_lacks k first lacks h low lt at =
+      ⊎_elim
+      (λ (early : h < q). before h low early at)
+      (λ (late : q ≤ h). ⊎_elim
+      (λ (less : h < k). first.2 h late less at.0)
+      (λ (same : k ≤ h). lacks (subst (HeldAt r.held w) (let e : h ≡ k = omega arith in e) at.1))
+      (cases_lt h k))
+      (cases_lt h q)
+
+  pub rare_none : FirstFixed r.sought w q None → FirstRare r w p None
+  rare_none none h low at = ⊎_elim (λ (early : h < q). before h low early at) (λ (late : q ≤ h). none h late at.0) (cases_lt h q)
+
+  pub rare_some : (k : ℕ) → p ≤ q → FirstFixed r.sought w q (Some k) → HeldAt r.held w k → FirstRare r w p (Some k)
+  rare_some k low first held = (
+    omega (arith, first.0),
+    (first.1, held),
+    λ h after lt at.
+        ⊎_elim (λ (early : h < q). before h after early at) (λ (late : q ≤ h). first.2 h late lt at.0) (cases_lt h q),
+  )
+
+-- where it stands nowhere before the place from which on it is sought
+pub rare_later : (r : Rare) (w : List ℕ) (p q : ℕ) (o : Option ℕ) → p ≤ q → RareNowhere r w p q → FirstRare r w q o → FirstRare r w p o
+rare_later r w p q None low before none = λ h after at. ⊎_elim (λ (early : h < q). before h after early at) (λ (late : q ≤ h). none h late at) (cases_lt h q)
+rare_later r w p q (Some k) low before first = (
+  omega (arith, first.0),
+  first.1,
+  λ h after lt at. ⊎_elim (λ (early : h < q). before h after early at) (λ (late : q ≤ h). first.2 h late lt at) (cases_lt h q),
+)
+
+pub rare_lies : (r : Rare) (w : List ℕ) (q : ℕ) (o : Option ℕ) → FirstRare r w q o → IfSome o (λ k. k < length w)
+rare_lies r w q None none = tt
+rare_lies r w q (Some k) first = let inside = fixed_inside r.sought w k first.1.0 in omega (arith, inside)
+
+pub rare_looked : (r : Rare) (w : List ℕ) (p q s0 s1 s2 : ℕ) (o : Option ℕ) → p ≤ q → q ≤ length w → FirstRare r w q o →
+    s1 + 2 * p ≤ s0 + 2 * q → s2 ≤ s1 + 2 * looked_at (length w) q o → s2 ≤ s0 + 2 * looked_at (length w) p o
+rare_looked r w p q s0 s1 s2 None low within none pass near = omega (arith, pass, near)
+rare_looked r w p q s0 s1 s2 (Some k) low within first pass near = omega (arith, first.0, pass, near)
+
+-- a search behind another one
+pub rare_paid : (n p q s0 s1 s2 : ℕ) (o : Option ℕ) → p ≤ q → q ≤ n → IfSome o (λ k. k < n) → s1 + p ≤ s0 + n → s2 ≤ s1 + 2 * looked_at n q o → s2 + 3 * p ≤ s0 + 3 * n
+rare_paid n p q s0 s1 s2 None low within lies before more = omega (arith, before, more)
+rare_paid n p q s0 s1 s2 (Some k) low within lies before more = omega (arith, lies, before, more)
+
+-- few bytes of a set
+pub have_few : (e : Tree) (offset : ℕ) (s : List Bool) (few : Few) → AllHave e offset s → ((c : ℕ) → c < 256 → HasFew few c ↔ IsIn c s) → AllStand e (record { offset = offset; few = few })
+have_few e offset s few all same w bytes i j spans =
+    let h = all w i j spans in (h.0, h.1, (same h.0 (bytes (i + offset) h.0 h.1)).1 h.2)
+
+-- the spans of the node x go on as those of the node y so far after their beginning
+abbrev pub GoOnAs : List Node → ℕ → ℕ → ℕ → Type 0
+GoOnAs nodes x offset y = (w : List ℕ) (i j : ℕ) → At nodes w x i j → At nodes w y (i + offset) j
+
+module _ (nodes : List Node) (x : ℕ) where
+  module _ (offset y : ℕ) (on : GoOnAs nodes x offset y) where
+    pub on_set : (s : List Bool) (z : ℕ) → LinksTo nodes y (OneOf s z) → GoOnAs nodes x (offset + 1) z
+    on_set s z link w i j at = subst (λ v. At nodes w z v j) (let e : i + offset + 1 ≡ i + (offset + 1) = omega arith in e) ((link.1 w (i + offset) j).0 (on w i j at)).1
+
+    pub have_set : (s : List Bool) (z : ℕ) → LinksTo nodes y (OneOf s z) → AllHave (tree_at nodes x) offset s
+    have_set s z link w i j at = ((link.1 w (i + offset) j).0 (on w i j at)).0
+
+    pub have_last : (s : List Bool) → LinksTo nodes y (Last s) → AllHave (tree_at nodes x) offset s
+    have_last s link w i j at = ((link w (i + offset) j).0 (on w i j at)).0
+
+-- a text of bytes
+module _ (e : Tree) (w : List ℕ) (bytes : AreBytes w) (from p : ℕ) (r : Rare) (all : AllRare e (Some r)) (before : NoneIn e w from p) where
+  rare_at : (i j : ℕ) → Spans e w i j → RareAt r w i
+  rare_at i j s = (all.0 w bytes i j s, held_at r.held all.1)
+    where
+      held_at : (held : Option Fixed) → AllHeld e held → HeldAt held w i
+      held_at None is = tt
+      held_at (Some f) is = is w bytes i j s
+
+  -- the place after which they stand, or none
+  pub rare_narrowed : (o : Option ℕ) → FirstRare r w p o → from ≤ p → Narrowed e w from o
+  rare_narrowed None none low = λ i k after within s.
+      ⊎_elim (λ (early : i < p). before i k after early s) (λ (late : p ≤ i). none i late (rare_at i k s)) (cases_lt i p)
+  rare_narrowed (Some start) first low =
+      let inside = fixed_inside r.sought w start first.1.0 in (
+        omega (arith, first.0),
+        omega (arith, inside),
+        λ i k after less s.
+            ⊎_elim (λ (early : i < p). before i k after early s) (λ (late : p ≤ i). first.2 i late less (rare_at i k s)) (cases_lt i p),
+      )
+
+-- what stands second
+module _ (nodes : List Node) (x : ℕ) (s t : List Bool) (y : ℕ) (link : LinksTo nodes x (OneOf s y)) where
+  pub second_set : (z : ℕ) → LinksTo nodes y (OneOf t z) → AllSecond nodes x t
+  second_set z next w i j at = ((next.1 w (i + 1) j).0 ((link.1 w i j).0 at).1).0
+
+  pub second_last : LinksTo nodes y (Last t) → AllSecond nodes x t
+  second_last next w i j at = ((next w (i + 1) j).0 ((link.1 w i j).0 at).1).0
+
+-- of two alternatives
+pub second_alternatives : (nodes : List Node) → IsArena nodes → (x last : ℕ) (a b : NodeId) (y z : ℕ) (s t : List Bool) (few : Few) → last ≡ x → slice_get nodes x ≡ Some (Alt a b) → y ≡ a.index → z ≡ b.index →
+    AllSecond nodes y s → AllSecond nodes z t → ((c : ℕ) → c < 256 → HasFew few c ↔ (IsIn c s ⊎ IsIn c t)) → AllStand (tree_at nodes last) (record { offset = 1; few = few })
+second_alternatives nodes arena x last a b y z s t few whole is y_is z_is first second same w bytes i j spans =
+    ⊎_elim
+    (λ (h : At nodes w a.index i j).
+    let can = first w i j (subst (λ v. At nodes w v i j) (sym y_is) h) in
+    (can.0, can.1, (same can.0 (bytes (i + 1) can.0 can.1)).1 (inl can.2)))
+    (λ (h : At nodes w b.index i j).
+    let can = second w i j (subst (λ v. At nodes w v i j) (sym z_is) h) in
+    (can.0, can.1, (same can.0 (bytes (i + 1) can.0 can.1)).1 (inr can.2)))
+    (open_at nodes w x (Alt a b) arena is i j (subst (λ v. At nodes w v i j) whole spans))

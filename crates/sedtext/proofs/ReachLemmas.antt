@@ -1,0 +1,161 @@
+-- What a node spans by its parts, and where these are entered.
+use Rattle.std.proofs.Common.{◌≡◌, ◌≢◌, ℕ, ◌<◌, ◌≤◌, ◌⊎◌, ◌↔◌, Bool, false, List, Option, Some, None, IsTrue, refl, sym, ap, subst, inl, inr, true≢false, arith}
+use Rattle.std.specs.Prelude.{slice_get, slice_index_or}
+use Rattle.sedtext.specs.Spans.{Copies, no_copy, Spans}
+use Rattle.sedre.specs.Arena.{IsArena, IsPart, tree_of, tree_at}
+use Rattle.sedre.specs.declared.types.Node.{Node}
+use Rattle.sedre.specs.declared.types.Node.TheVariants.{Empty, Set, Begin, End, Seq, Alt, Group, Star, Opt}
+use Rattle.sedre.proofs.TreeLemmas.{tree_at-node}
+use Rattle.sedtext.specs.declared.starts.Starts.{Starts}
+use Rattle.sedtext.specs.Reach.{IsLoose, BeginsWith, At, IsStart, Enters, at_root, with_whole, after_left, again}
+use Rattle.sedtext.specs.Nodes.{Repeats}
+use Rattle.sedtext.specs.Matching.{takes}
+use Rattle.sedtext.proofs.SpanLemmas.{Spans-forward}
+
+-- what a node spans, by the trees of its parts
+abbrev pub NodeSpans : List Node → List ℕ → Node → ℕ → ℕ → Type 0
+NodeSpans nodes w node i j = Spans (tree_of (tree_at nodes) node) w i j
+
+pub open_at : (nodes : List Node) (w : List ℕ) (x : ℕ) (node : Node) → IsArena nodes → slice_get nodes x ≡ Some node → (i j : ℕ) → At nodes w x i j → NodeSpans nodes w node i j
+open_at nodes w x node arena is i j at = subst (λ t. Spans t w i j) (tree_at-node nodes x node arena is) at
+
+pub close_at : (nodes : List Node) (w : List ℕ) (x : ℕ) (node : Node) → IsArena nodes → slice_get nodes x ≡ Some node → (i j : ℕ) → NodeSpans nodes w node i j → At nodes w x i j
+close_at nodes w x node arena is i j at = subst (λ t. Spans t w i j) (sym (tree_at-node nodes x node arena is)) at
+
+-- a repetition matches copies of its part
+pub star_copies : (nodes : List Node) (w : List ℕ) (star part i j : ℕ) → IsArena nodes → Repeats nodes star part → At nodes w star i j ↔ Copies (At nodes w part) j i
+star_copies nodes w star part i j arena repeats = (
+  λ at. subst (λ p. Copies (At nodes w p) j i) repeats.3 (open_at nodes w star (Star repeats.0 repeats.1) arena repeats.2 i j at),
+  λ copies. close_at nodes w star (Star repeats.0 repeats.1) arena repeats.2 i j (subst (λ p. Copies (At nodes w p) j i) (sym repeats.3) copies),
+)
+
+-- how the part c of the node at y is entered at j
+abbrev pub FromNode : List Node → List ℕ → ℕ → Starts → ℕ → ℕ → ℕ → Node → Type 0
+FromNode nodes w r p y c j (Seq a b) =
+    ((a.index ≡ c) × Enters nodes w r p y j) ⊎ ((b.index ≡ c) × ((i : ℕ) × Enters nodes w r p y i × At nodes w a.index i j))
+FromNode nodes w r p y c j (Alt a b) = Enters nodes w r p y j
+FromNode nodes w r p y c j (Group k a) = Enters nodes w r p y j
+FromNode nodes w r p y c j (Star a first) = (i : ℕ) × Enters nodes w r p y i × At nodes w y i j
+FromNode nodes w r p y c j (Opt a first) = Enters nodes w r p y j
+FromNode nodes w r p y c j Empty = ⊥
+FromNode nodes w r p y c j (Set s) = ⊥
+FromNode nodes w r p y c j Begin = ⊥
+FromNode nodes w r p y c j End = ⊥
+
+BeginsWith-part : (node : Node) (c : ℕ) → BeginsWith node c → IsPart node c
+BeginsWith-part (Seq a b) c h = inl h
+BeginsWith-part (Alt a b) c h = h
+BeginsWith-part (Group k a) c h = h
+BeginsWith-part (Star a first) c h = h
+BeginsWith-part (Opt a first) c h = h
+BeginsWith-part Empty c h = h
+BeginsWith-part (Set s) c h = h
+BeginsWith-part Begin c h = h
+BeginsWith-part End c h = h
+
+-- a byte that is taken is there, and in the list
+pub takes_some : (byte : Option ℕ) (members : List Bool) → IsTrue (takes byte members) → (b : ℕ) × (byte ≡ Some b) × IsTrue (slice_index_or members b false)
+takes_some None members h = absurd (true≢false (sym h))
+takes_some (Some b) members h = (b, refl, h)
+
+-- nothing is entered before the first start
+pub Enters-from : (nodes : List Node) (w : List ℕ) (r : ℕ) (p : Starts) (x j : ℕ) → Enters nodes w r p x j → p.first ≤ j
+Enters-from nodes w r p x j (at_root _ _ _ e) = omega arith
+Enters-from nodes w r p x j (with_whole z _ _ other is' begins e) = Enters-from nodes w r p z j e
+Enters-from nodes w r p x j (after_left z _ i _ a b is' right e at) =
+    let early = Enters-from nodes w r p z i e in
+    let on = Spans-forward (tree_at nodes a.index) w i j at in
+    omega arith
+Enters-from nodes w r p x j (again z _ i _ a first is' inner e at) =
+    let early = Enters-from nodes w r p z i e in
+    let on = Spans-forward (tree_at nodes z) w i j at in
+    omega arith
+
+module _ (nodes : List Node) (w : List ℕ) (r : ℕ) (p : Starts) (arena : IsArena nodes) where
+  -- a part that begins where its node does
+  FromNode-with_whole : (y c j : ℕ) (node : Node) → slice_get nodes y ≡ Some node → BeginsWith node c → Enters nodes w r p y j → FromNode nodes w r p y c j node
+  FromNode-with_whole y c j (Seq a b) is begins e = inl (begins, e)
+  FromNode-with_whole y c j (Alt a b) is begins e = e
+  FromNode-with_whole y c j (Group k a) is begins e = e
+  FromNode-with_whole y c j (Star a first) is begins e =
+      (j, e, close_at nodes w y (Star a first) arena is j j no_copy)
+  FromNode-with_whole y c j (Opt a first) is begins e = e
+  FromNode-with_whole y c j Empty is begins e = begins
+  FromNode-with_whole y c j (Set s) is begins e = begins
+  FromNode-with_whole y c j Begin is begins e = begins
+  FromNode-with_whole y c j End is begins e = begins
+
+  -- two nodes with one part are one
+  same_node : (y z c : ℕ) (node other : Node) → slice_get nodes y ≡ Some node → slice_get nodes z ≡ Some other → IsPart node c → IsPart other c → (y ≡ z) × (node ≡ other)
+  same_node y z c node other is is' part part' =
+      let e : y ≡ z = arena.once y z c node other is is' part part' in
+      (e, let k : slice_get nodes y ≡ slice_get nodes z = ap (slice_get nodes) e in cc)
+
+  -- a part is entered through its node alone
+  pub Enters-part : (y : ℕ) → y ≤ r → (c j : ℕ) (node : Node) → slice_get nodes y ≡ Some node → IsPart node c → Enters nodes w r p c j → FromNode nodes w r p y c j node
+  Enters-part y le c j node is part (at_root _ _ last begin) =
+      let below : c < y = arena.below y c node is part in
+      absurd (omega arith)
+  Enters-part y le c j node is part (with_whole z _ _ other is' begins e) =
+      let both = same_node z y c other node is' is (BeginsWith-part other c begins) part in
+      subst (λ v. FromNode nodes w r p v c j node) both.0
+      (subst (λ n. FromNode nodes w r p z c j n) both.1 (FromNode-with_whole z c j other is' begins e))
+  Enters-part y le c j node is part (after_left z _ i _ a b is' right e at) =
+      let both = same_node z y c (Seq a b) node is' is (inr right) part in
+      subst (λ v. FromNode nodes w r p v c j node) both.0
+      (subst (λ n. FromNode nodes w r p z c j n) both.1 (inr (right, (i, e, at))))
+  Enters-part y le c j node is part (again z _ i _ a first is' inner e at) =
+      let both = same_node z y c (Star a first) node is' is inner part in
+      subst (λ v. FromNode nodes w r p v c j node) both.0
+      (subst (λ n. FromNode nodes w r p z c j n) both.1 (i, e, at))
+
+  -- only r and nodes below it are entered
+  pub Enters-inside : (x j : ℕ) → Enters nodes w r p x j → x ≤ r
+  Enters-inside x j (at_root _ _ last e) = omega arith
+  Enters-inside x j (with_whole z _ _ other is' begins e) =
+      let up = Enters-inside z j e in
+      let below : x < z = arena.below z x other is' (BeginsWith-part other x begins) in
+      omega arith
+  Enters-inside x j (after_left z _ i _ a b is' right e at) =
+      let up = Enters-inside z i e in
+      let below : x < z = arena.below z x (Seq a b) is' (inr right) in
+      omega arith
+  Enters-inside x j (again z _ i _ a first is' inner e at) =
+      let up = Enters-inside z i e in
+      let below : x < z = arena.below z x (Star a first) is' inner in
+      omega arith
+
+  -- the node r is entered at the starts alone
+  pub Enters-root : (x j : ℕ) → x ≡ r → Enters nodes w r p x j → IsStart p j
+  Enters-root x j last (at_root _ _ _ e) = e
+  Enters-root x j last (with_whole z _ _ other is' begins e) =
+      let up = Enters-inside z j e in
+      let below : x < z = arena.below z x other is' (BeginsWith-part other x begins) in
+      absurd (omega arith)
+  Enters-root x j last (after_left z _ i _ a b is' right e at) =
+      let up = Enters-inside z i e in
+      let below : x < z = arena.below z x (Seq a b) is' (inr right) in
+      absurd (omega arith)
+  Enters-root x j last (again z _ i _ a first is' inner e at) =
+      let up = Enters-inside z i e in
+      let below : x < z = arena.below z x (Star a first) is' inner in
+      absurd (omega arith)
+
+  -- a part of a node above r is not entered
+  pub Enters-loose : (c j : ℕ) → IsLoose nodes r c → c ≤ r → c ≢ r → Enters nodes w r p c j → ⊥
+  Enters-loose c j loose le ne (at_root _ _ last e) = ne last
+  Enters-loose c j loose le ne (with_whole z _ _ other is' begins e) =
+      let up = Enters-inside z j e in
+      let same : z ≡ loose.0 = arena.once z loose.0 c other loose.1 is' loose.3 (BeginsWith-part other c begins) loose.4 in
+      let high = loose.2 in
+      omega arith
+  Enters-loose c j loose le ne (after_left z _ i _ a b is' right e at) =
+      let up = Enters-inside z i e in
+      let same : z ≡ loose.0 = arena.once z loose.0 c (Seq a b) loose.1 is' loose.3 (inr right) loose.4 in
+      let high = loose.2 in
+      omega arith
+  Enters-loose c j loose le ne (again z _ i _ a first is' inner e at) =
+      let up = Enters-inside z i e in
+      let same : z ≡ loose.0 = arena.once z loose.0 c (Star a first) loose.1 is' loose.3 inner loose.4 in
+      let high = loose.2 in
+      omega arith

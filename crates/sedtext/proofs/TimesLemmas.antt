@@ -1,0 +1,132 @@
+-- Bytes of a set, always as many.
+use Rattle.std.proofs.Common.{◌≡◌, ℕ, ◌+◌, ◌<◌, ◌≤◌, Bool, List, length, Option, Some, None, IfSome, refl, sym, ap, subst, ◌∙◌, ⊎_elim, arith}
+use Rattle.std.specs.Prelude.{slice_get, slice_index, slice_index_or, false, IsTrue}
+use Rattle.std.proofs.lemmas.Bool.{cases_lt}
+use Rattle.sedre.specs.Tree.{set, star}
+use Rattle.sedre.specs.Arena.{IsArena}
+use Rattle.sedre.specs.declared.types.Node.{Node}
+use Rattle.sedre.specs.declared.types.NodeId.{NodeId}
+use Rattle.sedre.specs.declared.types.Node.TheVariants.{Set, Seq, Group}
+use Rattle.sedtext.specs.Spans.{Spans, Copies, no_copy, one_more}
+use Rattle.sedtext.specs.Runs.{Repeated}
+use Rattle.sedtext.specs.Beginnings.{CanBegin}
+use Rattle.sedtext.specs.declared.beginnings.Begins.TheVariants.{WithSet}
+use Rattle.sedtext.specs.Times.{SameBytes, HasTimes, AllTimes, AreWidths, FirstTimes}
+use Rattle.sedtext.proofs.SpanLemmas.{Spans-within}
+use Rattle.sedtext.proofs.MarkLemmas.{default_same}
+use Rattle.sedtext.proofs.ReachLemmas.{open_at, close_at}
+
+-- copies and more copies after them
+pub Copies-join : (R : ℕ → ℕ → Type 0) (j k i : ℕ) → Copies R k i → Copies R j k → Copies R j i
+Copies-join R j k i no_copy more = more
+Copies-join R j k i (one_more _ l lt r rest) more = one_more i l lt r (Copies-join R j k l rest more)
+
+module _ (members : List Bool) (w : List ℕ) where
+  abbrev R : ℕ → ℕ → Type 0
+  R = Spans (set members) w
+
+  -- bytes of the set can be cut at each place between them
+  pub repeated_cut : (m j i : ℕ) → i ≤ m → m ≤ j → Repeated members w i j → Repeated members w i m × Repeated members w m j
+  repeated_cut m j i low high no_copy = let same : j ≡ m = omega arith in subst (λ v. Copies R v j × Copies R j v) same (no_copy, no_copy)
+  repeated_cut m j i low high (one_more _ l lt r rest) =
+      ⊎_elim
+      (λ (more : i < m). let cut = repeated_cut m j l (omega (arith, r.3)) high rest in (one_more i l lt r cut.0, cut.1))
+      (λ (le : m ≤ i).
+      let same : i ≡ m = omega arith in
+      subst (λ v. Copies R v i × Copies R j v) same (no_copy, one_more i l lt r rest))
+      (cases_lt i m)
+
+  -- the first of them is in the set
+  pub repeated_first : (j p : ℕ) → p < j → Repeated members w p j → CanBegin (WithSet members) w p
+  repeated_first j p lt no_copy = absurd (omega arith)
+  repeated_first j p lt (one_more _ l on r rest) = (r.0, r.1, r.2)
+
+  -- and each other one
+  pub repeated_in : (i p j : ℕ) → i ≤ p → p < j → Repeated members w i j → CanBegin (WithSet members) w p
+  repeated_in i p j low lt all = let cut = repeated_cut p j i low (omega arith) all in repeated_first j p lt cut.1
+
+  -- one more of them before the others
+  pub repeated_before : (p j : ℕ) → CanBegin (WithSet members) w p → Repeated members w (p + 1) j → Repeated members w p j
+  repeated_before p j can rest = one_more p (p + 1) (omega arith) (can.0, can.1, can.2, refl) rest
+
+  -- they end in the text
+  pub repeated_within : (i j : ℕ) → i ≤ length w → Repeated members w i j → j ≤ length w
+  repeated_within i j within all = Spans-within (star (set members) false) w i j within all
+
+  -- those of one byte
+  pub repeated_one : (i j : ℕ) → Spans (set members) w i j → HasTimes members 1 w i j
+  repeated_one i j s = (one_more i j (omega (arith, s.3)) s no_copy, s.3)
+
+-- the same, where the byte was looked at
+pub repeated_more : (members : List Bool) (w : List ℕ) (before place to byte : ℕ) (has : Bool) → before + 1 ≡ place → slice_get w before ≡ Some byte → has ≡ slice_index_or members byte false → IsTrue has →
+    Repeated members w place to → Repeated members w before to
+repeated_more members w before place to byte has next is value holds rest =
+    repeated_before members w before to (byte, is, sym value ∙ holds) (subst (λ v. Repeated members w v to) (sym next) rest)
+
+module _ (nodes : List Node) (arena : IsArena nodes) (x : ℕ) (members : List Bool) where
+  -- a set with these bytes
+  pub times_set : (other : List Bool) → slice_get nodes x ≡ Some (Set other) → SameBytes other members → AllTimes nodes x members 1
+  times_set other is same w bytes i j = (
+    (λ at. let s = open_at nodes w x (Set other) arena is i j at in repeated_one members w i j (s.0, s.1, (same s.0 (bytes i s.0 s.1)).0 s.2, s.3)),
+    (λ h.
+        let can = repeated_first members w j i (omega (arith, h.1)) h.0 in
+        close_at nodes w x (Set other) arena is i j (can.0, can.1, (same can.0 (bytes i can.0 can.1)).1 can.2, h.1)),
+  )
+
+  -- a concatenation
+  pub times_seq : (a b : NodeId) (first second sum : ℕ) → slice_get nodes x ≡ Some (Seq a b) → sum ≡ first + second →
+      AllTimes nodes a.index members first → AllTimes nodes b.index members second → AllTimes nodes x members sum
+  times_seq a b first second sum is added left right w bytes i j = (
+    (λ at.
+        let f = open_at nodes w x (Seq a b) arena is i j at in
+        let these = (left w bytes i f.0).0 f.1 in
+        let those = (right w bytes f.0 j).0 f.2 in
+        (Copies-join (Spans (set members) w) j f.0 i these.0 those.0, omega (arith, these.1, those.1))),
+    (λ h.
+        let cut = repeated_cut members w (i + first) j i (omega arith) (omega (arith, h.1)) h.0 in
+        close_at nodes w x (Seq a b) arena is i j (i + first, (left w bytes i (i + first)).1 (cut.0, refl), (right w bytes (i + first) j).1 (cut.1, omega (arith, h.1)))),
+  )
+
+  -- a group
+  pub times_group : (g : ℕ) (a : NodeId) (count : ℕ) → slice_get nodes x ≡ Some (Group g a) → AllTimes nodes a.index members count → AllTimes nodes x members count
+  times_group g a count is inner w bytes i j = (
+    (λ at. (inner w bytes i j).0 (open_at nodes w x (Group g a) arena is i j at)),
+    (λ h. close_at nodes w x (Group g a) arena is i j ((inner w bytes i j).1 h)),
+  )
+
+-- a concatenation whose sum is known
+pub if_sum : (nodes : List Node) → IsArena nodes → (x : ℕ) (members : List Bool) (a b : NodeId) (first second : ℕ) (sum : Option ℕ) → slice_get nodes x ≡ Some (Seq a b) →
+    AllTimes nodes a.index members first → AllTimes nodes b.index members second → IfSome sum (λ s. s ≡ first + second) → IfSome sum (λ s. AllTimes nodes x members s)
+if_sum nodes arena x members a b first second None is left right added = tt
+if_sum nodes arena x members a b first second (Some sum) is left right added = times_seq nodes arena x members a b first second sum is added left right
+
+-- a width that is known
+pub width_at : (nodes : List Node) (members : List Bool) (widths : List ℕ) (x count : ℕ) → AreWidths nodes members widths → x < length widths →
+    (y : ℕ) → y ≡ x → count ≡ slice_index_or widths y count → AllTimes nodes x members count
+width_at nodes members widths x count are lt y there is =
+    let same : slice_index widths x ≡ count = sym (is ∙ ap (λ v. slice_index_or widths v count) there ∙ default_same widths x count 0 lt) in
+    subst (λ v. AllTimes nodes x members v) same (are x lt)
+
+module _ (members : List Bool) (count : ℕ) (w : List ℕ) (from : ℕ) where
+  -- no so many bytes begin up to a byte that isn't in the set and stands among those
+  pub times_missed : (start place : ℕ) → start ≤ place → place < start + count → (CanBegin (WithSet members) w place → ⊥) →
+      ((h : ℕ) → from ≤ h → h < start → Repeated members w h (h + count) → ⊥) → (h : ℕ) → from ≤ h → h < place + 1 → Repeated members w h (h + count) → ⊥
+  times_missed start place low high outside before h after lt all =
+      ⊎_elim
+      (λ (less : h < start). before h after less all)
+      (λ (le : start ≤ h). outside (repeated_in members w h place (h + count) (omega arith) (omega arith) all))
+      (cases_lt h start)
+
+  -- nor where the text is too short
+  pub times_none : (start : ℕ) → length w < start + count →
+      ((h : ℕ) → from ≤ h → h < start → Repeated members w h (h + count) → ⊥) → FirstTimes members count w from None
+  times_none start short before h after within all =
+      ⊎_elim
+      (λ (less : h < start). before h after less all)
+      (λ (le : start ≤ h). let inside = repeated_within members w h (h + count) within all in absurd (omega arith))
+      (cases_lt h start)
+
+  -- here they do
+  pub times_here : (start seen : ℕ) → from ≤ start → start + count ≤ length w → Repeated members w start seen → Repeated members w seen (start + count) →
+      ((h : ℕ) → from ≤ h → h < start → Repeated members w h (h + count) → ⊥) → FirstTimes members count w from (Some start)
+  times_here start seen after within these those before = (after, within, Copies-join (Spans (set members) w) (start + count) seen start these those, before)

@@ -1,0 +1,205 @@
+-- Marks as words of 64.
+use Rattle.std.proofs.Common.{◌≡◌, ◌≢◌, ℕ, zero, suc, ◌*◌, ◌+◌, ◌/◌, ◌%◌, ◌<◌, ◌≤◌, Bool, false, List, [], ◌∷◌, length, refl, sym, ap, ◌∙◌, ◌⊎◌, ⊎_elim, inl, inr, subst, mul-le-mul_left, arith}
+use Rattle.std.specs.Prelude.{eqb, slice_index_or, slice_set, replicate}
+use Rattle.std.specs.Int.{bit_at}
+use Rattle.sedre.specs.Words.{is_set}
+use Rattle.std.proofs.lemmas.Bool.{cases_eq, cases_lt}
+use Rattle.std.proofs.lemmas.List.{get_or-set_same, get_or-set_other}
+use Rattle.std.proofs.lemmas.Nat.Bits.{bit_at-zero}
+use Rattle.sedtext.specs.Words.{table, marks_of, row_at, rows_from, rows_of, row_of}
+
+length-table : (f : ℕ → Bool) (n : ℕ) → length (table f n) ≡ n
+unfolding table
+length-table f zero = refl
+length-table f (suc n) = omega (arith, length-table (λ k. f (suc k)) n)
+
+table-get : (f : ℕ → Bool) (n i : ℕ) → i < n → slice_index_or (table f n) i false ≡ f i
+unfolding table
+table-get f zero i lt = absurd (omega arith)
+table-get f (suc n) zero lt = refl
+table-get f (suc n) (suc i) lt = table-get (λ k. f (suc k)) n i (omega arith)
+
+table-same : (f g : ℕ → Bool) (n : ℕ) → ((k : ℕ) → k < n → f k ≡ g k) → table f n ≡ table g n
+unfolding table
+table-same f g zero same = refl
+table-same f g (suc n) same =
+    ap (λ v. v ∷ table (λ k. f (suc k)) n) (same 0 (omega arith))
+    ∙ ap (λ (l : List Bool). g 0 ∷ l) (table-same (λ k. f (suc k)) (λ k. g (suc k)) n (λ k lt. same (suc k) (omega arith)))
+
+table-set : (f g : ℕ → Bool) (n i : ℕ) (v : Bool) → i < n → g i ≡ v → ((k : ℕ) → k < n → k ≢ i → g k ≡ f k) → table g n ≡ slice_set (table f n) i v
+unfolding table
+table-set f g zero i v lt here other = absurd (omega arith)
+table-set f g (suc n) zero v lt here other =
+    ap (λ b. b ∷ table (λ k. g (suc k)) n) here
+    ∙ ap (λ (l : List Bool). v ∷ l) (table-same (λ k. g (suc k)) (λ k. f (suc k)) n (λ k low. other (suc k) (omega arith) (λ e. omega arith)))
+table-set f g (suc n) (suc i) v lt here other =
+    ap (λ b. b ∷ table (λ k. g (suc k)) n) (other 0 (omega arith) (λ e. omega arith))
+    ∙ ap (λ (l : List Bool). f 0 ∷ l) (table-set (λ k. f (suc k)) (λ k. g (suc k)) n i v (omega arith) here (λ k low apart. other (suc k) (omega arith) (λ e. apart (omega arith))))
+
+table-none : (f : ℕ → Bool) (n : ℕ) → ((k : ℕ) → k < n → f k ≡ false) → table f n ≡ replicate n false
+unfolding table
+table-none f zero none = refl
+table-none f (suc n) none =
+    ap (λ b. b ∷ table (λ k. f (suc k)) n) (none 0 (omega arith))
+    ∙ ap (λ (l : List Bool). false ∷ l) (table-none (λ k. f (suc k)) n (λ k lt. none (suc k) (omega arith)))
+
+pub length-marks_of : (words : List ℕ) (n : ℕ) → length (marks_of words n) ≡ n
+unfolding marks_of
+length-marks_of words n = length-table (is_set words) n
+
+pub marks_of-get : (words : List ℕ) (n i word : ℕ) → i < n → word ≡ slice_index_or words (i / 64) 0 → eqb (bit_at word (i % 64)) 1 ≡ slice_index_or (marks_of words n) i false
+unfolding marks_of is_set
+marks_of-get words n i word lt is = ap (λ v. eqb (bit_at v (i % 64)) 1) is ∙ sym (table-get (is_set words) n i lt)
+
+-- a mark is a bit
+pub mark_bit : (words : List ℕ) (n i : ℕ) → i < n → slice_index_or (marks_of words n) i false ≡ is_set words i
+unfolding marks_of
+mark_bit words n i lt = table-get (is_set words) n i lt
+
+zero_unmarked : (words : List ℕ) (i : ℕ) → slice_index_or words (i / 64) 0 ≡ 0 → is_set words i ≡ false
+unfolding is_set
+zero_unmarked words i is = ap (λ v. eqb (bit_at v (i % 64)) 1) is ∙ ap (λ v. eqb v 1) (bit_at-zero (i % 64))
+
+pub marks_of-clear : (words : List ℕ) (n i : ℕ) → i < n → slice_index_or words (i / 64) 0 ≡ 0 → slice_index_or (marks_of words n) i false ≡ false
+unfolding marks_of
+marks_of-clear words n i lt is = table-get (is_set words) n i lt ∙ zero_unmarked words i is
+
+pub marks_of-none : (words : List ℕ) (n : ℕ) → ((k : ℕ) → slice_index_or words k 0 ≡ 0) → marks_of words n ≡ replicate n false
+unfolding marks_of
+marks_of-none words n none = table-none (is_set words) n (λ k lt. zero_unmarked words k (none (k / 64)))
+
+pub zeros : (m k : ℕ) → slice_index_or (replicate {A = ℕ} m 0) k 0 ≡ 0
+zeros zero k = refl
+zeros (suc m) zero = refl
+zeros (suc m) (suc k) = zeros m k
+
+pub marks_of-set : (words after : List ℕ) (n i old word : ℕ) (v : Bool) → n ≤ 64 * length words → i < n → old ≡ slice_index_or words (i / 64) 0 →
+    after ≡ slice_set words (i / 64) word → eqb (bit_at word (i % 64)) 1 ≡ v → ((b : ℕ) → b < 64 → b ≢ i % 64 → bit_at word b ≡ bit_at old b) →
+    marks_of after n ≡ slice_set (marks_of words n) i v
+unfolding marks_of is_set
+marks_of-set words after n i old word v room lt is is_after same other =
+    let inside : i / 64 < length words = omega arith in
+    table-set (is_set words) (is_set after) n i v lt
+    (ap (λ (l : List ℕ). eqb (bit_at (slice_index_or l (i / 64) 0) (i % 64)) 1) is_after
+    ∙ ap (λ x. eqb (bit_at x (i % 64)) 1) (get_or-set_same words (i / 64) word 0 inside) ∙ same)
+    (λ k low apart.
+    ap (λ (l : List ℕ). eqb (bit_at (slice_index_or l (k / 64) 0) (k % 64)) 1) is_after
+    ∙ ⊎_elim
+    (λ (e : k / 64 ≡ i / 64).
+    let bit : k % 64 ≢ i % 64 = λ f. apart (omega arith) in
+    ap (λ x. eqb (bit_at (slice_index_or (slice_set words (i / 64) word) x 0) (k % 64)) 1) e
+    ∙ ap (λ x. eqb (bit_at x (k % 64)) 1) (get_or-set_same words (i / 64) word 0 inside)
+    ∙ ap (λ x. eqb x 1) (other (k % 64) (omega arith) bit)
+    ∙ ap (λ x. eqb (bit_at x (k % 64)) 1) is
+    ∙ ap (λ x. eqb (bit_at (slice_index_or words x 0) (k % 64)) 1) (sym e))
+    (λ (ne : k / 64 ≡ i / 64 → ⊥). ap (λ x. eqb (bit_at x (k % 64)) 1) (get_or-set_other words (i / 64) (k / 64) word 0 ne))
+    (cases_eq (k / 64) (i / 64)))
+
+-- at a place that is there, nothing stands in for an item
+pub index-default : (xs : List ℕ) (i d e : ℕ) → i < length xs → slice_index_or xs i d ≡ slice_index_or xs i e
+index-default [] i d e inside = absurd (omega arith)
+index-default (x ∷ xs) zero d e inside = refl
+index-default (x ∷ xs) (suc i) d e inside = index-default xs i d e (omega arith)
+
+pub marks_of-new : (words : List ℕ) (m n : ℕ) → words ≡ replicate m 0 → marks_of words n ≡ replicate n false
+marks_of-new words m n is = marks_of-none words n (λ k. ap (λ (l : List ℕ). slice_index_or l k 0) is ∙ zeros m k)
+
+-- a mark of a row
+pub length-row_at : (words : List ℕ) (width marks q : ℕ) → length (row_at words width marks q) ≡ marks
+unfolding row_at
+length-row_at words width marks q = length-table (λ k. is_set words (64 * (width * q) + k)) marks
+
+length-rows_from : (words : List ℕ) (width marks q n : ℕ) → length (rows_from words width marks q n) ≡ n
+unfolding rows_from
+length-rows_from words width marks q zero = refl
+length-rows_from words width marks q (suc n) = omega (arith, length-rows_from words width marks (suc q) n)
+
+pub length-rows_of : (words : List ℕ) (width marks n : ℕ) → length (rows_of words width marks n) ≡ n
+unfolding rows_of
+length-rows_of words width marks n = length-rows_from words width marks 0 n
+
+rows_from-get : (words : List ℕ) (width marks q n i : ℕ) → i < n → row_of (rows_from words width marks q n) i ≡ row_at words width marks (q + i)
+unfolding rows_from
+rows_from-get words width marks q zero i lt = absurd (omega arith)
+rows_from-get words width marks q (suc n) zero lt = ap (row_at words width marks) (let e : q ≡ q + 0 = omega arith in e)
+rows_from-get words width marks q (suc n) (suc i) lt =
+    rows_from-get words width marks (suc q) n i (omega arith) ∙ ap (row_at words width marks) (let e : suc q + i ≡ q + suc i = omega arith in e)
+
+pub rows_of-get : (words : List ℕ) (width marks n q : ℕ) → q < n → row_of (rows_of words width marks n) q ≡ row_at words width marks q
+unfolding rows_of
+rows_of-get words width marks n q lt = rows_from-get words width marks 0 n q lt ∙ ap (row_at words width marks) (let e : 0 + q ≡ q = omega arith in e)
+
+pub length-row : (words : List ℕ) (width marks n q : ℕ) → q < n → length (row_of (rows_of words width marks n) q) ≡ marks
+length-row words width marks n q lt = ap length (rows_of-get words width marks n q lt) ∙ length-row_at words width marks q
+
+-- the words of a row are there
+pub row_inside : (width rows q c len : ℕ) → q < rows → c ≤ width → width * rows ≤ len → width * q + c ≤ len
+row_inside width rows q c len lt low there =
+    let up : q + 1 ≤ rows = omega arith in
+    omega (arith, mul-le-mul_left width up, low, there)
+
+-- the same words, wherever they stand, have the same marks
+marked_same : (words other : List ℕ) (base i : ℕ) → slice_index_or words (base + i / 64) 0 ≡ slice_index_or other (i / 64) 0 → is_set words (64 * base + i) ≡ is_set other i
+unfolding is_set
+marked_same words other base i same =
+    let q : (64 * base + i) / 64 ≡ base + i / 64 = omega arith in
+    let k : (64 * base + i) % 64 ≡ i % 64 = omega arith in
+    ap (λ x. eqb (bit_at (slice_index_or words x 0) ((64 * base + i) % 64)) 1) q
+    ∙ ap (λ x. eqb (bit_at (slice_index_or words (base + i / 64) 0) x) 1) k
+    ∙ ap (λ v. eqb (bit_at v (i % 64)) 1) same
+
+pub row_agrees : (words other : List ℕ) (width marks n q count : ℕ) → count ≤ marks → count ≤ n →
+    ((k : ℕ) → k < count / 64 + 1 → 64 * k < count → slice_index_or words (width * q + k) 0 ≡ slice_index_or other k 0) →
+    (i : ℕ) → i < count → slice_index_or (row_at words width marks q) i false ≡ slice_index_or (marks_of other n) i false
+unfolding row_at marks_of
+row_agrees words other width marks n q count low high same i lt =
+    table-get (λ k. is_set words (64 * (width * q) + k)) marks i (omega arith)
+    ∙ marked_same words other (width * q) i (same (i / 64) (omega arith) (omega arith))
+    ∙ sym (table-get (is_set other) n i (omega arith))
+
+marked_kept : (words after : List ℕ) (i : ℕ) → slice_index_or after (i / 64) 0 ≡ slice_index_or words (i / 64) 0 → is_set after i ≡ is_set words i
+unfolding is_set
+marked_kept words after i same = ap (λ v. eqb (bit_at v (i % 64)) 1) same
+
+-- a row whose words are the same is the same
+pub row_kept : (words after : List ℕ) (width marks q : ℕ) → marks ≤ 64 * width →
+    ((k : ℕ) → k < width → slice_index_or after (width * q + k) 0 ≡ slice_index_or words (width * q + k) 0) → row_at after width marks q ≡ row_at words width marks q
+unfolding row_at
+row_kept words after width marks q low same =
+    table-same (λ k. is_set after (64 * (width * q) + k)) (λ k. is_set words (64 * (width * q) + k)) marks
+    (λ i lt.
+    let place : (64 * (width * q) + i) / 64 ≡ width * q + i / 64 = omega arith in
+    marked_kept words after (64 * (width * q) + i)
+    (subst (λ x. slice_index_or after x 0 ≡ slice_index_or words x 0) (sym place) (same (i / 64) (omega arith))))
+
+-- words of one row are not those of another
+pub row_apart : (width q p k c : ℕ) → k < width → c ≤ width → q ≢ p → (width * q + k < width * p) ⊎ (width * p + c ≤ width * q + k)
+row_apart width q p k c lt low apart =
+    ⊎_elim
+    (λ (less : q < p). inl (let up : q + 1 ≤ p = omega arith in omega (arith, mul-le-mul_left width up)))
+    (λ (more : p ≤ q). inr (let up : p + 1 ≤ q = omega arith in omega (arith, mul-le-mul_left width up)))
+    (cases_lt q p)
+
+-- what is known of the words of a row, for rows that contracts see as a list
+module _ (words : List ℕ) (width marks rows : ℕ) (seen : List (List Bool)) (is : rows_of words width marks rows ≡ seen) (wide : marks ≤ 64 * width) (long : width * rows ≤ length words) where
+  pub rows_seen : rows ≡ length seen
+  rows_seen = sym (length-rows_of words width marks rows) ∙ ap length is
+
+  pub row_seen : (q : ℕ) → q < length seen → row_at words width marks q ≡ row_of seen q
+  row_seen q lt = let few = rows_seen in sym (rows_of-get words width marks rows q (omega arith)) ∙ ap (λ l. row_of l q) is
+
+  pub marks_seen : (q : ℕ) → q < length seen → marks ≡ length (row_of seen q)
+  marks_seen q lt = sym (length-row_at words width marks q) ∙ ap length (row_seen q lt)
+
+  pub words_there : (q c : ℕ) → q < length seen → c ≤ length (row_of seen q) → width * q + (c + 63) / 64 ≤ length words
+  words_there q c lt low =
+      let few = rows_seen in
+      let all = marks_seen q lt in
+      let most : (c + 63) / 64 ≤ width = omega arith in
+      row_inside width rows q ((c + 63) / 64) (length words) (omega arith) most long
+
+  pub row_bit : (q i : ℕ) → q < length seen → i < length (row_of seen q) → slice_index_or (row_of seen q) i false ≡ is_set words (64 * (width * q) + i)
+  unfolding row_at
+  row_bit q i lt low =
+      let all = marks_seen q lt in
+      ap (λ l. slice_index_or l i false) (sym (row_seen q lt)) ∙ table-get (λ k. is_set words (64 * (width * q) + k)) marks i (omega arith)

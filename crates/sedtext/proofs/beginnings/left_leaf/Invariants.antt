@@ -1,0 +1,15 @@
+use Rattle.std.proofs.Common.{ℕ, ◌+◌, ◌<◌, ◌≤◌, List, length}
+use Rattle.sedtext.specs.Reach.{At}
+use Rattle.sedtext.proofs.beginnings.left_leaf.Given as goal
+
+abbrev pub invariant-loop-part : goal.invariant-loop-part
+invariant-loop-part l = record {
+  inside : l.index < length l.expr.nodes;
+  below : l.index ≤ l.from;
+  grows : l.initial.steps ≤ l.steps;
+  cost : l.steps + l.index ≤ l.initial.steps + l.from;
+  first : (w : List ℕ) (i j : ℕ) → At l.expr.nodes w l.from i j → (k : ℕ) × At l.expr.nodes w l.index i k;
+}
+
+abbrev pub decreases-loop-part : goal.decreases-loop-part
+decreases-loop-part l = l.index

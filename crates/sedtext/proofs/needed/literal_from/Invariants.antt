@@ -1,0 +1,15 @@
+use Rattle.std.proofs.Common.{◌+◌, ◌*◌, ◌<◌, ◌≤◌, length}
+use Rattle.sedtext.specs.Needed.{BeginsAs}
+use Rattle.sedtext.proofs.needed.literal_from.Given as goal
+
+abbrev pub invariant-loop-steps : goal.invariant-loop-steps
+invariant-loop-steps l = record {
+  inside : l.index < length l.expr.nodes;
+  below : l.index ≤ l.from;
+  grows : l.initial.steps ≤ l.steps;
+  cost : l.steps + 2 * l.index ≤ l.initial.steps + 2 * l.from;
+  begins : BeginsAs l.expr.nodes l.from l.bytes.items l.index;
+}
+
+abbrev pub decreases-loop-steps : goal.decreases-loop-steps
+decreases-loop-steps l = l.index

@@ -1,0 +1,20 @@
+use Rattle.std.proofs.Common.{ℕ, ◌+◌, ◌-◌, ◌<◌, ◌≤◌, length}
+use Rattle.sedre.specs.Steps.{TakesAtLeast}
+use Rattle.sedtext.specs.Runs.{Repeated}
+use Rattle.sedtext.proofs.times.find_times.Given as goal
+
+abbrev pub invariant-loop-start : goal.invariant-loop-start
+invariant-loop-start l = record {
+  after : l.from ≤ l.start;
+  ahead : l.start ≤ l.seen;
+  near : l.seen ≤ l.start + l.count;
+  within : l.seen ≤ length l.text;
+  grows : l.initial.steps ≤ l.steps;
+  cost : l.steps + l.from ≤ l.initial.steps + l.seen;
+  counts : TakesAtLeast l.initial.steps l.steps (l.seen - l.start);
+  copies : Repeated l.set l.text l.start l.seen;
+  missed : (h : ℕ) → l.from ≤ h → h < l.start → Repeated l.set l.text h (h + l.count) → ⊥;
+}
+
+abbrev pub decreases-loop-start : goal.decreases-loop-start
+decreases-loop-start l = length l.text + 1 - l.start

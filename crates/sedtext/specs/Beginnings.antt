@@ -1,0 +1,62 @@
+-- Private to the proofs: no contract that `sedmatch` makes public cites what stands here.
+-- From which places a match can begin.
+use Rattle.std.specs.Prelude.{◌≡◌, ℕ, ◌+◌, ◌<◌, ◌≤◌, List, length, slice_get, Option, Some, None}
+use Rattle.sedre.specs.Tree.{Tree}
+use Rattle.sedre.specs.declared.types.Node.{Node}
+use Rattle.sedre.specs.declared.types.Node.TheVariants.{Set, Begin, Seq, Alt, Group}
+use Rattle.sedtext.specs.Spans.{Spans, IsIn}
+use Rattle.sedtext.specs.declared.beginnings.Begins.{Begins}
+use Rattle.sedtext.specs.declared.beginnings.Begins.TheVariants.{Anyhow, AtStart, WithByte, WithSet}
+use Rattle.sedtext.specs.Reach.{At}
+
+-- a span that begins so can begin at the place
+abbrev pub CanBegin : Begins → List ℕ → ℕ → Type 0
+CanBegin Anyhow w i = Unit {0}
+CanBegin AtStart w i = i ≡ 0
+CanBegin (WithByte b) w i = slice_get w i ≡ Some b
+CanBegin (WithSet s) w i = (b : ℕ) × (slice_get w i ≡ Some b) × IsIn b s
+
+-- all spans of the expression begin so
+abbrev pub AllBegin : Tree → Begins → Type 0
+AllBegin e begins = (w : List ℕ) (i j : ℕ) → Spans e w i j → CanBegin begins w i
+
+-- all spans of the node x begin so
+abbrev pub AllAt : List Node → ℕ → Begins → Type 0
+AllAt nodes x begins = (w : List ℕ) (i j : ℕ) → At nodes w x i j → CanBegin begins w i
+
+-- the first place from p on at which a span that begins so can begin
+abbrev pub NextStart : Begins → List ℕ → ℕ → Option ℕ → Type 0
+NextStart begins w p None = (i : ℕ) → p ≤ i → i ≤ length w → CanBegin begins w i → ⊥
+NextStart begins w p (Some start) = (p ≤ start) × (start ≤ length w) × ((i : ℕ) → p ≤ i → i < start → CanBegin begins w i → ⊥)
+
+-- one more than the place up to which the text of n bytes was looked at
+abbrev pub skip_cost : ℕ → Option ℕ → ℕ
+skip_cost n None = n + 1
+skip_cost n (Some start) = start + 1
+
+-- the part with which every span of the node begins
+abbrev pub left_part : Node → Option ℕ
+left_part (Seq a b) = Some a.index
+left_part (Group k a) = Some a.index
+left_part other = None
+
+-- all spans of the node, which has no such part, begin so
+abbrev pub LeafBegins : Node → Begins → Type 0
+LeafBegins (Set s) begins = (w : List ℕ) (i : ℕ) → CanBegin (WithSet s) w i → CanBegin begins w i
+LeafBegins Begin begins = (w : List ℕ) (i : ℕ) → CanBegin AtStart w i → CanBegin begins w i
+LeafBegins (Seq a b) begins = Unit {0}
+LeafBegins (Group k a) begins = Unit {0}
+LeafBegins other begins = (w : List ℕ) (i : ℕ) → CanBegin begins w i
+
+-- the node has no part with which its spans begin, and each span of the node x begins with a span of it
+abbrev pub IsLeftmost : List Node → ℕ → Node → Type 0
+IsLeftmost nodes x node = (y : ℕ) × (slice_get nodes y ≡ Some node) × (y ≤ x) × (left_part node ≡ None) × ((w : List ℕ) (i j : ℕ) → At nodes w x i j → (k : ℕ) × At nodes w y i k)
+
+-- the two alternatives of a node
+abbrev pub alternatives : Node → Option (ℕ × ℕ)
+alternatives (Alt a b) = Some (a.index, b.index)
+alternatives other = None
+
+-- no place from p up to but not including q begins a match
+abbrev pub NoneIn : Tree → List ℕ → ℕ → ℕ → Type 0
+NoneIn e w p q = (i k : ℕ) → p ≤ i → i < q → Spans e w i k → ⊥

@@ -1,0 +1,57 @@
+-- Which span each group of a match has. XBD 9.1 says that parts match the longest from left to right, and that a null string
+-- goes before no match. How that is read here, where a concatenation is cut, which of several alternatives is taken, which
+-- copy is the last or empty, and which groups are forgotten, is this project's own.
+use Rattle.std.specs.Prelude.{◌≡◌, ℕ, ◌<◌, ◌≤◌, ◌⊎◌, List, replicate, slice_set, Option, Some, None, IsTrue}
+use Rattle.sedre.specs.Tree.{Tree, seq, alt, group, star, opt}
+use Rattle.sedtext.specs.Spans.{Copies, Spans}
+
+-- entry k is the span of group k; a group without an entry of its own is not kept
+abbrev pub Groups : Type 0
+Groups = List (Option (ℕ × ℕ))
+
+-- the groups inside the expression have no span
+abbrev pub forget : Tree → Groups → Groups
+forget (seq a b) g = forget b (forget a g)
+forget (alt a b) g = forget b (forget a g)
+forget (group k a) g = forget a (slice_set g k None)
+forget (star a first) g = forget a g
+forget (opt a first) g = forget a g
+forget other g = g
+
+-- k is the greatest place up to which A leads from i, and from which B leads to j
+pub record LastCut (A B : ℕ → ℕ → Type 0) (i j k : ℕ) : Type 0 where
+  pub left : A i k
+  pub right : B k j
+  pub greatest : (l : ℕ) → A i l → B l j → l ≤ k
+
+-- i..j is cut into copies of R that are not empty, each ending at the greatest place from which copies
+-- lead on to j; the last one begins at the second number
+pub data LastCopy (R : ℕ → ℕ → Type 0) (j : ℕ) : ℕ → ℕ → Type 0 where
+  only : (i : ℕ) → i < j → R i j → LastCopy R j i i
+  then : (i k c : ℕ) → i < k → k < j → R i k → Copies R j k → ((l : ℕ) → i < l → R i l → Copies R j l → l ≤ k) → LastCopy R j k c → LastCopy R j i c
+
+-- the expression matches i..j, and takes the groups from old to new
+abbrev pub Caps : Tree → List ℕ → ℕ → ℕ → Groups → Groups → Type 0
+Caps (seq a b) w i j old new =
+    (k : ℕ) × LastCut (Spans a w) (Spans b w) i j k × ((mid : Groups) × Caps a w i k old mid × Caps b w k j mid new)
+Caps (alt a b) w i j old new =
+    (Spans a w i j × Caps a w i j old new) ⊎ ((Spans a w i j → ⊥) × Caps b w i j old new)
+Caps (group k a) w i j old new =
+    (inner : Groups) × Caps a w i j (forget (group k a) old) inner × (new ≡ slice_set inner k (Some (i, j)))
+Caps (star a first) w i j old new =
+    ((i < j) × ((c : ℕ) × LastCopy (Spans a w) j i c × Caps a w c j (forget a old) new))
+    ⊎ (((i ≡ j) × IsTrue first × Spans a w i i × Caps a w i i (forget a old) new)
+    ⊎ ((i ≡ j) × ((IsTrue first → Spans a w i i → ⊥) × (new ≡ old))))
+Caps (opt a first) w i j old new =
+    ((i < j) × Caps a w i j (forget a old) new)
+    ⊎ (((i ≡ j) × IsTrue first × Spans a w i i × Caps a w i i (forget a old) new)
+    ⊎ ((i ≡ j) × ((IsTrue first → Spans a w i i → ⊥) × (new ≡ old))))
+Caps other w i j old new = new ≡ old
+
+-- before a match no group has a span
+abbrev pub no_groups : Groups
+no_groups = replicate 10 None
+
+-- the groups of a match of i..j as they are reported: entry 0 is the whole match
+abbrev pub IsReport : Tree → List ℕ → ℕ → ℕ → Groups → Type 0
+IsReport e w i j groups = (inner : Groups) × Caps e w i j no_groups inner × (groups ≡ slice_set inner 0 (Some (i, j)))

@@ -1,0 +1,49 @@
+-- Private to the proofs: no contract that `sedmatch` makes public cites what stands here.
+-- Up to three bytes, one of which is sought.
+use Rattle.std.specs.Prelude.{Bool, ◌≡◌, ◌⊎◌, ℕ, ◌<◌, ◌↔◌, List, length, slice_get, slice_index, Option, Some, None}
+use Rattle.sedtext.specs.Bytes.{AreBytes, FirstFrom}
+use Rattle.sedtext.specs.Spans.{IsIn}
+use Rattle.sedtext.specs.Beginnings.{CanBegin}
+use Rattle.sedtext.specs.declared.beginnings.Begins.{Begins}
+use Rattle.sedtext.specs.declared.counted.few.Few.{Few}
+use Rattle.sedtext.specs.declared.counted.few.Few.TheVariants.{One, Two, Three}
+
+-- the byte is one of the few
+abbrev pub HasFew : Few → ℕ → Type 0
+HasFew (One a) c = c ≡ a
+HasFew (Two a b) c = (c ≡ a) ⊎ (c ≡ b)
+HasFew (Three a b d) c = (c ≡ a) ⊎ ((c ≡ b) ⊎ (c ≡ d))
+
+-- of 32 lanes those are 0 that have the property
+abbrev pub ZerosWhere : (ℕ → Type 0) → List ℕ → Type 0
+ZerosWhere P zeros = (length zeros ≡ 32) × ((k : ℕ) → k < 32 → P k → slice_index zeros k ≡ 0)
+
+-- of 32 lanes those are 0 in which a byte with the property stands
+abbrev pub HasZeros : (ℕ → Type 0) → List ℕ → List ℕ → Type 0
+HasZeros P lanes zeros = ZerosWhere (λ k. P (slice_index lanes k)) zeros
+
+-- one of the few stands at the place
+abbrev pub FewAt : Few → List ℕ → ℕ → Type 0
+FewAt few w i = (c : ℕ) × (slice_get w i ≡ Some c) × HasFew few c
+
+-- the first place from p on at which one of the few stands, if there is one
+abbrev pub FirstFew : Few → List ℕ → ℕ → Option ℕ → Type 0
+FirstFew few w = FirstFrom (FewAt few w)
+
+-- the byte is one of those gathered before
+abbrev pub Gathered : Option Few → ℕ → Type 0
+Gathered None c = ⊥
+Gathered (Some few) c = HasFew few c
+
+-- the few are the members of the set
+abbrev pub AreMembers : List Bool → Few → Type 0
+AreMembers set few = (c : ℕ) → c < 256 → HasFew few c ↔ IsIn c set
+
+-- what can begin there, as `begins` says, begins with one of the few
+abbrev pub IsFewOf : Begins → Few → Type 0
+IsFewOf begins few = (w : List ℕ) → AreBytes w → (i : ℕ) → CanBegin begins w i → FewAt few w i
+
+-- what can begin there, as `begins` says, begins with one of the few, if there are such
+abbrev pub FewOf : Begins → Option Few → Type 0
+FewOf begins None = Unit {0}
+FewOf begins (Some few) = IsFewOf begins few

@@ -1,0 +1,27 @@
+-- All occurrences in one text, one after another (XCU sed, "s/BRE/replacement/flags"): which span comes next, and where it lies.
+use Rattle.std.specs.Prelude.{ℕ, ◌+◌, ◌≤◌, List, length, Option, Some, None}
+use Rattle.sedre.specs.Tree.{Tree}
+use Rattle.sedtext.specs.NextMatch.{next_match}
+use Rattle.sedtext.specs.Spans.{Spans}
+
+-- the span of the next match in a text of n bytes, after one that ended at a place, where there was one
+abbrev pub next_span : (ℕ → Option (ℕ × ℕ)) → ℕ → Option ℕ → Option (ℕ × ℕ)
+next_span search n last = next_match (λ f. f) search n last
+
+-- the place, if there is one, is in a text of n bytes, or its end
+abbrev pub EndsWithin : ℕ → Option ℕ → Type 0
+EndsWithin n None = Unit {0}
+EndsWithin n (Some q) = q ≤ n
+
+-- the span, if there is one, ends after the place, if there is one, and begins there or later
+abbrev pub LiesAfter : Option ℕ → Option (ℕ × ℕ) → Type 0
+LiesAfter (Some q) (Some f) = (q ≤ f.0) × (q + 1 ≤ f.1)
+LiesAfter last found = Unit {0}
+
+-- the span lies in a text of n bytes, after the last occurrence
+abbrev pub LiesOn : ℕ → Option ℕ → ℕ × ℕ → Type 0
+LiesOn n last f = (f.0 ≤ f.1) × (f.1 ≤ n) × LiesAfter last (Some f)
+
+-- the span is one that the expression matches, and lies in the text, after the last occurrence
+abbrev pub Occurs : Tree → List ℕ → Option ℕ → ℕ × ℕ → Type 0
+Occurs e w last f = Spans e w f.0 f.1 × LiesOn (length w) last f

@@ -1,0 +1,107 @@
+-- What is matched, computed by trying all places; the laws below say that it is what the relations tell.
+use Rattle.std.specs.Prelude.{◌≡◌, ℕ, zero, suc, ◌+◌, ◌-◌, ◌≤◌, Bool, false, ◌&&◌, ◌||◌, cond, eqb, ltb, List, length, slice_get, slice_index_or, slice_set, Option, Some, None, IsTrue, is_some, unwrap_or, ◌↔◌}
+use Rattle.sedre.specs.Tree.{Tree, empty, set, begin, end, seq, alt, group, star, opt}
+use Rattle.sedtext.specs.Spans.{Spans, Found, NotFound, SomeFound}
+use Rattle.sedtext.specs.Caps.{Groups, Caps, forget, no_groups, IsReport}
+
+-- some number below n passes the test
+unfoldable pub any : (ℕ → Bool) → ℕ → Bool
+any test zero = false
+any test (suc n) = test n || any test n
+
+-- the greatest number below n that passes the test
+unfoldable pub greatest : (ℕ → Bool) → ℕ → Option ℕ
+greatest test zero = None
+greatest test (suc n) = cond (test n) (Some n) (greatest test n)
+
+-- at most n copies, none of them empty, lead from i to j
+unfoldable pub copies : ℕ → (ℕ → ℕ → Bool) → ℕ → ℕ → Bool
+copies zero step i j = eqb i j
+copies (suc n) step i j = eqb i j || any (λ k. ltb i k && (step i k && copies n step k j)) (j + 1)
+
+-- the byte, if there is one, is in the set
+abbrev pub takes : Option ℕ → List Bool → Bool
+takes None members = false
+takes (Some byte) members = slice_index_or members byte false
+
+-- the expression matches i..j
+unfoldable pub spans : Tree → List ℕ → ℕ → ℕ → Bool
+spans empty w i j = eqb i j
+spans (set members) w i j = takes (slice_get w i) members && eqb j (i + 1)
+spans begin w i j = eqb i 0 && eqb j 0
+spans end w i j = eqb i (length w) && eqb j (length w)
+spans (seq a b) w i j = any (λ k. spans a w i k && spans b w k j) (j + 1)
+spans (alt a b) w i j = spans a w i j || spans b w i j
+spans (group k a) w i j = spans a w i j
+spans (star a first) w i j = copies j (spans a w) i j
+spans (opt a first) w i j = eqb i j || spans a w i j
+
+-- where the longest match from i ends
+unfoldable pub longest : Tree → List ℕ → ℕ → Option ℕ
+longest e w i = greatest (spans e w i) (length w + 1)
+
+abbrev pub first_of : ℕ → Option ℕ → Option (ℕ × ℕ) → Option (ℕ × ℕ)
+first_of i None rest = rest
+first_of i (Some j) rest = Some (i, j)
+
+-- the match at the first of n places from p on that has one
+unfoldable pub found_from : Tree → List ℕ → ℕ → ℕ → Option (ℕ × ℕ)
+found_from e w zero p = None
+found_from e w (suc n) p = first_of p (longest e w p) (found_from e w n (p + 1))
+
+-- the leftmost-longest match from p on
+unfoldable pub found : Tree → List ℕ → ℕ → Option (ℕ × ℕ)
+found e w p = found_from e w (length w + 1 - p) p
+
+-- how far a goes when a and b lead from i to j
+unfoldable pub cut : (ℕ → ℕ → Bool) → (ℕ → ℕ → Bool) → ℕ → ℕ → ℕ
+cut a b i j = unwrap_or (greatest (λ k. a i k && b k j) (j + 1)) i
+
+-- how far the first copy goes
+unfoldable pub first_copy : (ℕ → ℕ → Bool) → ℕ → ℕ → ℕ
+first_copy step i j = unwrap_or (greatest (λ k. ltb i k && (step i k && copies j step k j)) (j + 1)) i
+
+-- where the last of at most n copies begins
+unfoldable pub last_start : ℕ → (ℕ → ℕ → Bool) → ℕ → ℕ → ℕ
+last_start zero step i j = i
+last_start (suc n) step i j = cond (ltb (first_copy step i j) j) (last_start n step (first_copy step i j) j) i
+
+-- the groups after a match of i..j
+unfoldable pub caps : Tree → List ℕ → ℕ → ℕ → Groups → Groups
+caps (seq a b) w i j old = caps b w (cut (spans a w) (spans b w) i j) j (caps a w i (cut (spans a w) (spans b w) i j) old)
+caps (alt a b) w i j old = cond (spans a w i j) (caps a w i j old) (caps b w i j old)
+caps (group k a) w i j old = slice_set (caps a w i j (forget (group k a) old)) k (Some (i, j))
+caps (star a first) w i j old =
+    cond (ltb i j) (caps a w (last_start j (spans a w) i j) j (forget a old))
+    (cond (first && spans a w i i) (caps a w i i (forget a old)) old)
+caps (opt a first) w i j old =
+    cond (ltb i j) (caps a w i j (forget a old))
+    (cond (first && spans a w i i) (caps a w i i (forget a old)) old)
+caps other w i j old = old
+
+-- the groups of a match of i..j as they are reported
+unfoldable pub report : Tree → List ℕ → ℕ → ℕ → Groups
+report e w i j = slice_set (caps e w i j no_groups) 0 (Some (i, j))
+
+-- the computed match is the one that the relations tell
+abbrev pub SpansLaw : Type 0
+SpansLaw = (e : Tree) (w : List ℕ) (i j : ℕ) → IsTrue (spans e w i j) ↔ Spans e w i j
+
+abbrev pub FoundLaw : Type 0
+FoundLaw = (e : Tree) (w : List ℕ) (p i j : ℕ) → p ≤ length w → (found e w p ≡ Some (i, j)) ↔ Found e w p i j
+
+abbrev pub NotFoundLaw : Type 0
+NotFoundLaw = (e : Tree) (w : List ℕ) (p : ℕ) → p ≤ length w → (found e w p ≡ None) ↔ NotFound e w p
+
+abbrev pub SomeFoundLaw : Type 0
+SomeFoundLaw = (e : Tree) (w : List ℕ) (p : ℕ) → p ≤ length w → IsTrue (is_some (found e w p)) ↔ SomeFound e w p
+
+-- a match has one report of its groups alone
+abbrev pub OneCapsLaw : Type 0
+OneCapsLaw = (e : Tree) (w : List ℕ) (i j : ℕ) (old new other : Groups) → Caps e w i j old new → Caps e w i j old other → new ≡ other
+
+abbrev pub CapsLaw : Type 0
+CapsLaw = (e : Tree) (w : List ℕ) (i j : ℕ) (old new : Groups) → Spans e w i j → (new ≡ caps e w i j old) ↔ Caps e w i j old new
+
+abbrev pub ReportLaw : Type 0
+ReportLaw = (e : Tree) (w : List ℕ) (i j : ℕ) (groups : Groups) → Spans e w i j → (groups ≡ report e w i j) ↔ IsReport e w i j groups

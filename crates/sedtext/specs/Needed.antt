@@ -1,0 +1,70 @@
+-- Private to the proofs: no contract that `sedmatch` makes public cites what stands here.
+-- Literals that the spans of an expression hold.
+use Rattle.std.specs.Prelude.{◌≡◌, ℕ, ◌+◌, ◌-◌, ◌<◌, ◌≤◌, ◌↔◌, Bool, List, length, Option, Some, None, IsTrue}
+use Rattle.memchr.specs.Find.{OccursAt}
+use Rattle.sedre.specs.Tree.{Tree}
+use Rattle.sedre.specs.declared.types.Node.{Node}
+use Rattle.sedtext.specs.Bytes.{FirstFrom}
+use Rattle.sedtext.specs.Spans.{Spans, NotFound, IsIn}
+use Rattle.sedtext.specs.Reach.{At}
+use Rattle.sedtext.specs.Beginnings.{CanBegin, NoneIn}
+use Rattle.sedtext.specs.declared.beginnings.Begins.TheVariants.{WithSet}
+use Rattle.sedtext.specs.declared.needed.Link.{Link}
+use Rattle.sedtext.specs.declared.needed.Link.TheVariants.{OneOf, Last, Inner, Other}
+use Rattle.sedtext.specs.declared.needed.Literal.{Literal}
+use Rattle.sedtext.specs.declared.needed.Needed.{Needed}
+
+-- the spans of the node x are of one byte of the set
+abbrev pub IsOfSet : List Node → ℕ → List Bool → Type 0
+IsOfSet nodes x s = (w : List ℕ) (i j : ℕ) → At nodes w x i j ↔ (CanBegin (WithSet s) w i × (j ≡ i + 1))
+
+-- the spans of the node x are those that begin as the link says
+abbrev pub LinksTo : List Node → ℕ → Link → Type 0
+LinksTo nodes x (OneOf s y) = (y < x) × ((w : List ℕ) (i j : ℕ) → At nodes w x i j ↔ (CanBegin (WithSet s) w i × At nodes w y (i + 1) j))
+LinksTo nodes x (Last s) = IsOfSet nodes x s
+LinksTo nodes x (Inner y) = (y < x) × ((w : List ℕ) (i j : ℕ) → At nodes w x i j ↔ At nodes w y i j)
+LinksTo nodes x Other = Unit {0}
+
+-- the node y is spanned from i to j, or i is j if there is no such node
+abbrev pub GoesOnAs : List Node → List ℕ → ℕ → ℕ → Option ℕ → Type 0
+GoesOnAs nodes w i j None = i ≡ j
+GoesOnAs nodes w i j (Some y) = At nodes w y i j
+
+-- the spans of the node x are those that begin with the bytes, and go on after them as those of the node y
+abbrev pub BeginsAs : List Node → ℕ → List ℕ → ℕ → Type 0
+BeginsAs nodes x bytes y = (w : List ℕ) (i j : ℕ) → i ≤ length w → At nodes w x i j ↔ (OccursAt w bytes i × At nodes w y (i + length bytes) j)
+
+-- the spans of the node x are those that begin with the literal, and go on after it as the spans of the rest
+abbrev pub IsLiteral : List Node → ℕ → Literal → Type 0
+IsLiteral nodes x l = (w : List ℕ) (i j : ℕ) → i ≤ length w → At nodes w x i j ↔ (OccursAt w l.bytes.items i × GoesOnAs nodes w (i + length l.bytes.items) j l.rest)
+
+-- the byte is the only one of the set
+abbrev pub IsSole : List Bool → ℕ → Type 0
+IsSole s byte = ((c : ℕ) → IsIn c s → c ≡ byte) × IsIn byte s
+
+-- each span of the node x holds the literal
+abbrev pub AllHold : List Node → ℕ → List ℕ → Type 0
+AllHold nodes x literal = (w : List ℕ) (i j : ℕ) → i ≤ length w → At nodes w x i j → (k : ℕ) × (i ≤ k) × OccursAt w literal k
+
+-- each span of the node x ends with one of the node y
+abbrev pub AllEndWith : List Node → ℕ → ℕ → Type 0
+AllEndWith nodes x y = (w : List ℕ) (i j : ℕ) → i ≤ length w → At nodes w x i j → (k : ℕ) × (i ≤ k) × (k ≤ length w) × At nodes w y k j
+
+-- each span of the expression holds the literal, if there is one, and begins with it if it leads
+abbrev pub IsNeeded : Tree → Option Needed → Type 0
+IsNeeded e None = Unit {0}
+IsNeeded e (Some n) = (w : List ℕ) (i j : ℕ) → i ≤ length w → Spans e w i j → (k : ℕ) × (i ≤ k) × (IsTrue n.leads → k ≡ i) × OccursAt w n.finder k
+
+-- the first place from p on at which the literal stands, if there is one
+abbrev pub FirstLiteral : List ℕ → List ℕ → ℕ → Option ℕ → Type 0
+FirstLiteral w literal = FirstFrom (OccursAt w literal)
+
+-- how many bytes are passed from p to the end of the literal of m bytes, or to the end n of the text
+abbrev pub passed_to : ℕ → ℕ → ℕ → Option ℕ → ℕ
+passed_to n p m None = n - p
+passed_to n p m (Some k) = k + m - p
+
+-- a place from p on before which no match begins, or that none begins from p on
+abbrev pub Narrowed : Tree → List ℕ → ℕ → Option ℕ → Type 0
+Narrowed e w p None = NotFound e w p
+Narrowed e w p (Some q) = (p ≤ q) × (q ≤ length w) × NoneIn e w p q

@@ -1,0 +1,64 @@
+-- Private to the proofs: no contract that `sedmatch` makes public cites what stands here.
+-- A few bytes, one of which stands at a fixed distance after the beginning of every match.
+use Rattle.std.specs.Prelude.{ℕ, ◌+◌, ◌<◌, ◌≤◌, Bool, List, Option, Some, None}
+use Rattle.sedre.specs.Tree.{Tree}
+use Rattle.sedre.specs.declared.types.Node.{Node}
+use Rattle.sedtext.specs.Spans.{Spans}
+use Rattle.sedtext.specs.Reach.{At}
+use Rattle.sedtext.specs.Few.{FewAt}
+use Rattle.sedtext.specs.Bytes.{AreBytes, FirstFrom}
+use Rattle.sedtext.specs.Beginnings.{CanBegin}
+use Rattle.sedtext.specs.declared.beginnings.Begins.TheVariants.{WithSet}
+use Rattle.sedtext.specs.declared.rare.Fixed.{Fixed}
+use Rattle.sedtext.specs.declared.rare.Rare.{Rare}
+
+-- one of the bytes stands at the distance after the place
+abbrev pub StandsAt : Fixed → List ℕ → ℕ → Type 0
+StandsAt f w i = FewAt f.few w (i + f.offset)
+
+-- one of the next rarest bytes, if there are such, stands at their distance after the place
+abbrev pub HeldAt : Option Fixed → List ℕ → ℕ → Type 0
+HeldAt None w i = Unit {0}
+HeldAt (Some f) w i = StandsAt f w i
+
+-- one of the rarest bytes and one of the next rarest stand at their distances after the place
+abbrev pub RareAt : Rare → List ℕ → ℕ → Type 0
+RareAt r w i = StandsAt r.sought w i × HeldAt r.held w i
+
+-- the first place from p on after which one of the bytes stands at the distance, if there is one
+abbrev pub FirstFixed : Fixed → List ℕ → ℕ → Option ℕ → Type 0
+FirstFixed f w = FirstFrom (StandsAt f w)
+
+-- after no place from p up to but not including q one of each stands at its distance
+abbrev pub ApartIn : Fixed → Fixed → List ℕ → ℕ → ℕ → Type 0
+ApartIn f g w p q = (h : ℕ) → p ≤ h → h < q → StandsAt f w h → StandsAt g w h → ⊥
+
+-- after no place from p up to but not including q the rarest and the next rarest stand at their distances
+abbrev pub RareNowhere : Rare → List ℕ → ℕ → ℕ → Type 0
+RareNowhere r w p q = (h : ℕ) → p ≤ h → h < q → RareAt r w h → ⊥
+
+-- the first place from p on after which the rarest and the next rarest stand at their distances, if there is one
+abbrev pub FirstRare : Rare → List ℕ → ℕ → Option ℕ → Type 0
+FirstRare r w = FirstFrom (RareAt r w)
+
+-- one of the bytes stands at the distance after the beginning of each span of the expression
+abbrev pub AllStand : Tree → Fixed → Type 0
+AllStand e f = (w : List ℕ) → AreBytes w → (i j : ℕ) → Spans e w i j → StandsAt f w i
+
+-- one of the next rarest bytes, if there are such, stands at their distance after the beginning of each span
+abbrev pub AllHeld : Tree → Option Fixed → Type 0
+AllHeld e None = Unit {0}
+AllHeld e (Some f) = AllStand e f
+
+-- a byte of the set stands `offset` bytes after the beginning of each span of the expression
+abbrev pub AllHave : Tree → ℕ → List Bool → Type 0
+AllHave e offset s = (w : List ℕ) (i j : ℕ) → Spans e w i j → CanBegin (WithSet s) w (i + offset)
+
+-- the rarest and the next rarest, if there are such, stand at their distances after the beginning of each span
+abbrev pub AllRare : Tree → Option Rare → Type 0
+AllRare e None = Unit {0}
+AllRare e (Some r) = AllStand e r.sought × AllHeld e r.held
+
+-- a byte of the set stands second in each span of the node x
+abbrev pub AllSecond : List Node → ℕ → List Bool → Type 0
+AllSecond nodes x s = (w : List ℕ) (i j : ℕ) → At nodes w x i j → CanBegin (WithSet s) w (i + 1)

@@ -1,0 +1,63 @@
+-- Private to the proofs: no contract that `sedmatch` makes public cites what stands here.
+-- At which places of a text the nodes of an expression can begin and end, in matches that begin at one of some starts.
+use Rattle.std.specs.Prelude.{◌≡◌, ℕ, ◌<◌, ◌≤◌, Bool, false, ◌⊎◌, ◌↔◌, List, slice_get, slice_index_or, Option, Some, None, IsTrue}
+use Rattle.sedre.specs.Tree.{Tree}
+use Rattle.sedtext.specs.Spans.{Spans}
+use Rattle.sedre.specs.Arena.{tree_at, IsPart}
+use Rattle.sedre.specs.declared.types.Node.{Node}
+use Rattle.sedre.specs.declared.types.NodeId.{NodeId}
+use Rattle.sedtext.specs.declared.starts.Starts.{Starts}
+use Rattle.sedre.specs.declared.types.Node.TheVariants.{Seq, Star}
+
+-- c is a part that begins where the node does
+abbrev pub BeginsWith : Node → ℕ → Type 0
+BeginsWith (Seq a b) c = a.index ≡ c
+BeginsWith node c = IsPart node c
+
+-- the node x matches i..j
+abbrev pub At : List Node → List ℕ → ℕ → ℕ → ℕ → Type 0
+At nodes w x i j = Spans (tree_at nodes x) w i j
+
+-- the place is one of the starts
+abbrev pub IsStart : Starts → ℕ → Type 0
+IsStart s i = (s.first ≤ i) × (i ≤ s.last)
+
+-- the one start
+abbrev pub one_start : ℕ → Starts
+one_start start = record { first = start; last = start }
+
+-- the starts from one to another
+abbrev pub starts_to : ℕ → ℕ → Starts
+starts_to first last = record { first = first; last = last }
+
+-- in a match of the node r from one of the starts, the node can begin at the place
+pub data Enters (nodes : List Node) (w : List ℕ) (r : ℕ) (s : Starts) : ℕ → ℕ → Type 0 where
+  at_root : (x i : ℕ) → x ≡ r → IsStart s i → Enters nodes w r s x i
+  with_whole : (y c i : ℕ) (node : Node) → slice_get nodes y ≡ Some node → BeginsWith node c → Enters nodes w r s y i → Enters nodes w r s c i
+  after_left : (y c i j : ℕ) (a b : NodeId) → slice_get nodes y ≡ Some (Seq a b) → b.index ≡ c → Enters nodes w r s y i → At nodes w a.index i j → Enters nodes w r s c j
+  again : (y c i j : ℕ) (a : NodeId) (first : Bool) → slice_get nodes y ≡ Some (Star a first) → a.index ≡ c → Enters nodes w r s y i → At nodes w y i j → Enters nodes w r s c j
+
+-- in a match from one of the starts, the node can end at j after at least one byte
+abbrev pub Ends : List Node → List ℕ → ℕ → Starts → ℕ → ℕ → Type 0
+Ends nodes w r s x j = (i : ℕ) × (i < j) × Enters nodes w r s x i × At nodes w x i j
+
+-- the node r matches from one of the starts to j
+abbrev pub SomeSpan : List Node → List ℕ → ℕ → Starts → ℕ → Type 0
+SomeSpan nodes w r s j = (i : ℕ) × IsStart s i × At nodes w r i j
+
+-- the marks tell, of each place that S has, whether P holds of it
+abbrev pub Marked : List Bool → (ℕ → Type 0) → (ℕ → Type 0) → Type 0
+Marked marks S P = (c : ℕ) → S c → IsTrue (slice_index_or marks c false) ↔ P c
+
+-- c is r, or a part of a node from y to r
+abbrev pub PartFrom : List Node → ℕ → ℕ → ℕ → Type 0
+PartFrom nodes r y c = (c ≡ r) ⊎ ((z : ℕ) × (node : Node) × (y ≤ z) × (z ≤ r) × (slice_get nodes z ≡ Some node) × IsPart node c)
+
+-- c is a part of a node above r
+abbrev pub IsLoose : List Node → ℕ → ℕ → Type 0
+IsLoose nodes r c = (z : ℕ) × (node : Node) × (r < z) × (slice_get nodes z ≡ Some node) × IsPart node c
+
+-- the longest span from i, if there is one
+abbrev pub Longest : Tree → List ℕ → ℕ → Option ℕ → Type 0
+Longest e w i None = (k : ℕ) → Spans e w i k → ⊥
+Longest e w i (Some j) = Spans e w i j × ((k : ℕ) → Spans e w i k → k ≤ j)

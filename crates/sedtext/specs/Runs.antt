@@ -1,0 +1,25 @@
+-- Private to the proofs: no contract that `sedmatch` makes public cites what stands here.
+-- Bytes of a set, any number of them one after another.
+use Rattle.std.specs.Prelude.{◌<◌, ℕ, ◌≤◌, ◌↔◌, Bool, List, length}
+use Rattle.sedre.specs.Tree.{set}
+use Rattle.sedre.specs.declared.types.Node.{Node}
+use Rattle.sedtext.specs.Spans.{Spans, Copies}
+use Rattle.sedtext.specs.Reach.{At}
+use Rattle.sedtext.specs.Beginnings.{CanBegin}
+use Rattle.sedtext.specs.declared.beginnings.Begins.TheVariants.{WithSet}
+
+-- any number of bytes of the set lead from i to j
+abbrev pub Repeated : List Bool → List ℕ → ℕ → ℕ → Type 0
+Repeated members w i j = Copies (Spans (set members) w) j i
+
+-- the spans of the node x are those of a repetition of the set
+abbrev pub AllRepeat : List Node → ℕ → List Bool → Type 0
+AllRepeat nodes x members = (w : List ℕ) (i j : ℕ) → At nodes w x i j ↔ Repeated members w i j
+
+-- the bytes from place i up to k are in the set, and no more that follow
+abbrev pub IsRun : List Bool → List ℕ → ℕ → ℕ → Type 0
+IsRun members w i k = (k ≤ length w) × Repeated members w i k × (CanBegin (WithSet members) w k → ⊥)
+
+-- of the places from p on, i is the first from which all bytes up to but not including q are in the set
+abbrev pub RunBegins : List Bool → List ℕ → ℕ → ℕ → ℕ → Type 0
+RunBegins members w p q i = (p ≤ i) × (i ≤ q) × Repeated members w i q × ((h : ℕ) → p ≤ h → h < i → Repeated members w h q → ⊥)

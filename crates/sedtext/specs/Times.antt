@@ -1,0 +1,46 @@
+-- Private to the proofs: no contract that `sedmatch` makes public cites what stands here.
+-- A set repeated a fixed number of times: bytes of it one after another, always as many.
+use Rattle.std.specs.Prelude.{◌≡◌, ℕ, ◌+◌, ◌-◌, ◌<◌, ◌≤◌, ◌↔◌, Bool, List, length, slice_index, Option, Some, None}
+use Rattle.sedre.specs.declared.types.Node.{Node}
+use Rattle.sedtext.specs.Reach.{At}
+use Rattle.sedtext.specs.Spans.{IsIn}
+use Rattle.sedtext.specs.Bytes.{AreBytes}
+use Rattle.sedtext.specs.Runs.{Repeated}
+use Rattle.sedtext.specs.Beginnings.{CanBegin}
+use Rattle.sedtext.specs.declared.beginnings.Begins.TheVariants.{WithSet}
+
+-- the sets have the same bytes
+abbrev pub SameBytes : List Bool → List Bool → Type 0
+SameBytes these those = (c : ℕ) → c < 256 → IsIn c these ↔ IsIn c those
+
+-- `count` bytes of the set lead from i to j
+abbrev pub HasTimes : List Bool → ℕ → List ℕ → ℕ → ℕ → Type 0
+HasTimes members count w i j = Repeated members w i j × (j ≡ i + count)
+
+-- in a text of bytes the spans of the node x are those of `count` bytes of the set
+abbrev pub AllTimes : List Node → ℕ → List Bool → ℕ → Type 0
+AllTimes nodes x members count = (w : List ℕ) → AreBytes w → (i j : ℕ) → At nodes w x i j ↔ HasTimes members count w i j
+
+-- the spans of each node that has a width are those of as many bytes of the set
+abbrev pub AreWidths : List Node → List Bool → List ℕ → Type 0
+AreWidths nodes members widths = (x : ℕ) → x < length widths → AllTimes nodes x members (slice_index widths x)
+
+-- the last place from p up to but not including q whose byte isn't in the set, if there is one
+abbrev pub LastOutside : List Bool → List ℕ → ℕ → ℕ → Option ℕ → Type 0
+LastOutside members w p q None = Repeated members w p q
+LastOutside members w p q (Some k) = (p ≤ k) × (k < q) × (CanBegin (WithSet members) w k → ⊥) × Repeated members w (k + 1) q
+
+-- how many bytes are looked at from the one before place q down to the place found, or to p where there is none
+abbrev pub looked_back : ℕ → ℕ → Option ℕ → ℕ
+looked_back p q None = q - p
+looked_back p q (Some k) = q - k
+
+-- the end of the `count` bytes found, or the end n of the text
+abbrev pub passed_times : ℕ → ℕ → Option ℕ → ℕ
+passed_times n count None = n
+passed_times n count (Some k) = k + count
+
+-- the first place from p on from which `count` bytes are in the set, if there is one
+abbrev pub FirstTimes : List Bool → ℕ → List ℕ → ℕ → Option ℕ → Type 0
+FirstTimes members count w p None = (k : ℕ) → p ≤ k → k ≤ length w → Repeated members w k (k + count) → ⊥
+FirstTimes members count w p (Some k) = (p ≤ k) × (k + count ≤ length w) × Repeated members w k (k + count) × ((h : ℕ) → p ≤ h → h < k → Repeated members w h (h + count) → ⊥)

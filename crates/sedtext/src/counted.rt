@@ -1,0 +1,376 @@
+//! What can be looked at only by calls that count.
+//!
+//! The bytes of a text without a count are seen here alone and in the modules below: in [`lookups`] and [`members`], which count
+//! what they look at, and in what works for these two on bare bytes. A text gives them out nowhere.
+ghost use Rattle.std.specs.Prelude.{◌≡◌, ℕ, Bool, false, true, List, ◌+◌, ◌-◌, ◌^◌, ◌<◌, ◌≤◌, length};
+ghost use Rattle.std.specs.Prelude.{slice_index_or, slice_set, slice_get, Some, IfOk, replicate, eqb, ◌≢◌, ◌*◌, IsTrue, ◌↔◌};
+ghost use Rattle.std.specs.Prelude.{vec_len};
+ghost use Rattle.std.specs.Int.{bit_at};
+ghost use Rattle.sedtext.specs.Bytes.{AreBytes, FirstAt, looked_at};
+ghost use Rattle.sedtext.specs.Words.{marks_of};
+ghost use Rattle.sedre.specs.Words.{is_set};
+ghost use Rattle.sedre.specs.Steps.{Takes, Counted};
+
+mod apart;
+pub mod choice;
+pub mod few;
+pub mod lookups;
+pub mod members;
+mod node_marks;
+mod openings;
+mod rows;
+
+use memchr::memchr;
+pub use node_marks::NodeMarks;
+pub use rows::Rows;
+use sedre::Steps;
+use std::alloc::{AllocError, Global};
+use std::marker::Model;
+
+/// A text whose bytes are looked at by calls that count.
+#[derive(Drop)]
+pub struct Text<'a> {
+    bytes: &'a [u8],
+}
+
+impl<'a> Model for Text<'a> {
+    ghost Value = { List ℕ };
+
+    ghost view = { λ t. t.bytes.now };
+}
+
+impl<'a> Text<'a> {
+    /// The text of these bytes.
+    pub fn new(bytes: &'a [u8]) -> Text<'a>
+        ensures { result ≡ bytes.now }
+    {
+        Text { bytes }
+    }
+
+    /// How many bytes it has.
+    pub fn len(&self) -> usize
+        ensures is { result ≡ length self.now }
+        ensures short { result < 2 ^ 63 }
+    {
+        self.bytes.len()
+    }
+
+    /// The place `count` bytes after `place`, at most one past the text's end.
+    #[inline(always)]
+    pub fn after(&self, place: usize, count: usize) -> usize
+        requires { place + count ≤ length self.now + 1 }
+        ensures { result ≡ place + count }
+    {
+        let _most = self.bytes.len();
+        place + count
+    }
+
+    /// Its bytes, for a loop that counts its looks in a tally.
+    pub fn forwards(&self) -> Bytes<'a>
+        ensures { result ≡ self.now }
+    {
+        Bytes { bytes: self.bytes }
+    }
+
+    /// The byte at a place. Counts one look.
+    pub fn byte(&self, i: usize, steps: &mut Steps) -> u8
+        requires inside { i < length self.now }
+        ensures byte { slice_get self.now i ≡ Some result }
+        ensures cost { Takes steps.old steps.new 1 }
+        ensures counts { Counted steps.old steps.new 1 }
+    {
+        steps.add(1);
+        self.bytes[i]
+    }
+
+    /// The first place from `from` on that holds the byte.
+    /// Counts a look for each byte from `from` to that place, or to the end where there is none.
+    pub fn find_byte(&self, value: u8, from: usize, steps: &mut Steps) -> Option<usize>
+        requires from { from ≤ length self.now }
+        ensures first { FirstAt self.now value from result }
+        ensures cost { Takes steps.old steps.new (looked_at (length self.now) from result) }
+        ensures counts { Counted steps.old steps.new (looked_at (length self.now) from result) }
+    {
+        let rest = &self.bytes[from..];
+        match memchr(value, rest) {
+            None => {
+                steps.add(rest.len());
+                None
+            }
+            Some(k) => {
+                steps.add(k + 1);
+                Some(from + k)
+            }
+        }
+    }
+}
+
+/// The bytes of a text, for a lookup of a module below, which counts its looks itself.
+#[inline(always)]
+fn uncounted<'a>(text: &Text<'a>) -> &'a [u8]
+    ensures { result.now ≡ text.now }
+{
+    text.bytes
+}
+
+/// For proofs: each element of a text is below 256.
+pub fn are_bytes(text: &Text)
+    ensures { AreBytes text.now }
+{
+    all_bytes(text.bytes)
+}
+
+/// For proofs: what a slice of bytes holds are bytes.
+fn all_bytes(bytes: &[u8])
+    ensures { AreBytes bytes.now }
+{
+    let _count = bytes.len();
+}
+
+/// The bytes of a text, looked at by calls that count, in a tally too.
+#[derive(Drop)]
+pub struct Bytes<'a> {
+    bytes: &'a [u8],
+}
+
+impl<'a> Model for Bytes<'a> {
+    ghost Value = { List ℕ };
+
+    ghost view = { λ b. b.bytes.now };
+}
+
+/// The bytes that one loop looks at, counted apart from the steps, to which they are added at its end: so the count
+/// stays in a register.
+#[derive(Drop)]
+pub struct Tally {
+    count: usize,
+}
+
+impl Model for Tally {
+    ghost Value = { ℕ };
+
+    ghost view = { λ t. t.count };
+}
+
+impl Tally {
+    /// A count of no bytes yet.
+    pub fn new() -> Tally
+        ensures { result ≡ 0 }
+    {
+        Tally { count: 0 }
+    }
+
+    /// Counts a byte. Condition: one more fits.
+    pub fn add(&mut self)
+        requires { self.old + 1 < 2 ^ 64 }
+        ensures { self.new ≡ self.old + 1 }
+    {
+        self.count += 1;
+    }
+
+    /// How many bytes there were.
+    pub fn count(&self) -> usize
+        ensures { result ≡ self.now }
+    {
+        self.count
+    }
+}
+
+impl<'a> Bytes<'a> {
+    /// How many bytes there are.
+    pub fn len(&self) -> usize
+        ensures is { result ≡ length self.now }
+        ensures short { result < 2 ^ 63 }
+    {
+        self.bytes.len()
+    }
+
+    /// The byte at a place. Counts one look.
+    pub fn byte(&self, i: usize, steps: &mut Steps) -> u8
+        requires inside { i < length self.now }
+        ensures byte { slice_get self.now i ≡ Some result }
+        ensures cost { Takes steps.old steps.new 1 }
+        ensures counts { Counted steps.old steps.new 1 }
+    {
+        steps.add(1);
+        self.bytes[i]
+    }
+
+    /// The byte at a place. Counts one look in the tally.
+    pub fn tallied(&self, i: usize, tally: &mut Tally) -> u8
+        requires inside { i < length self.now }
+        requires fits { tally.old + 1 < 2 ^ 64 }
+        ensures byte { slice_get self.now i ≡ Some result }
+        ensures cost { tally.new ≡ tally.old + 1 }
+    {
+        tally.add();
+        self.bytes[i]
+    }
+}
+
+/// A list of marks, each set or not. A word holds 64 of them.
+#[derive(Drop)]
+pub struct Marks {
+    words: Vec<u64>,
+    count: usize,
+}
+
+impl Model for Marks {
+    ghost Value = { List Bool };
+
+    ghost view = { λ m. marks_of m.words.items m.count };
+
+    ghost invariant = { λ m. m.count ≤ 64 * length m.words.items };
+}
+
+impl Marks {
+    /// `len` marks, none of them set. Fails only where a request for memory was refused.
+    pub fn new(alloc: Global, len: usize) -> Result<Marks, AllocError>
+        ensures { IfOk result (λ m. m ≡ replicate len false) }
+    {
+        Ok(Marks {
+            words: zero_words(alloc, len / 64 + 1)?,
+            count: len,
+        })
+    }
+
+    /// How many marks there are.
+    pub fn len(&self) -> usize
+        ensures { result ≡ length self.now }
+    {
+        self.count
+    }
+
+    /// Whether the mark is set. Counts one look.
+    pub fn get(&self, i: usize, steps: &mut Steps) -> bool
+        requires inside { i < length self.now }
+        ensures mark { result ≡ slice_index_or self.now i false }
+        ensures cost { Takes steps.old steps.new 1 }
+        ensures counts { Counted steps.old steps.new 1 }
+    {
+        steps.add(1);
+        has_bit(self.words[i / 64], i % 64)
+    }
+
+    /// Sets the mark, or takes it away. Counts one look.
+    pub fn set(&mut self, i: usize, mark: bool, steps: &mut Steps)
+        requires inside { i < length self.old }
+        ensures marks { self.new ≡ slice_set self.old i mark }
+        ensures cost { Takes steps.old steps.new 1 }
+        ensures counts { Counted steps.old steps.new 1 }
+    {
+        steps.add(1);
+        let word = put_bit(self.words[i / 64], i % 64, mark);
+        self.words[i / 64] = word;
+    }
+
+    /// Takes the first `count` marks away, a word at a time; those after them may go too.
+    /// Counts a look for each of the `count`.
+    pub fn clear(&mut self, count: usize, steps: &mut Steps)
+        requires inside { count ≤ length self.old }
+        ensures len { length self.new ≡ length self.old }
+        ensures clear { (c : ℕ) → c < count → slice_index_or self.new c false ≡ false }
+        ensures cost { Takes steps.old steps.new count }
+        ensures counts { Counted steps.old steps.new count }
+    {
+        steps.add(count);
+        clear_words(&mut self.words, count.div_ceil(64));
+    }
+
+    /// Whether none of the first `count` marks is set, a word at a time. Counts a look for each of the `count`.
+    pub fn is_clear(&self, count: usize, steps: &mut Steps) -> bool
+        requires inside { count ≤ length self.now }
+        ensures clear { IsTrue result ↔ ((c : ℕ) → c < count → slice_index_or self.now c false ≡ false) }
+        ensures cost { Takes steps.old steps.new count }
+        ensures counts { Counted steps.old steps.new count }
+    {
+        steps.add(count);
+        are_clear(&self.words, count)
+    }
+
+    /// A number made of the first `count` marks and the rest of their last word.
+    /// Counts a look for each of the `count`.
+    pub fn digest(&self, count: usize, steps: &mut Steps) -> u64
+        requires inside { count ≤ length self.now }
+        ensures cost { Takes steps.old steps.new count }
+        ensures counts { Counted steps.old steps.new count }
+    {
+        steps.add(count);
+        digest_words(&self.words, count.div_ceil(64))
+    }
+}
+
+/// `count` words without a mark.
+fn zero_words(alloc: Global, count: usize) -> Result<Vec<u64>, AllocError>
+    ensures { IfOk result (λ v. v.items ≡ replicate count 0) }
+{
+    vec![in alloc; 0; count]
+}
+
+/// Whether the bit is set.
+fn has_bit(word: u64, k: usize) -> bool
+    requires { k < 64 }
+    ensures { result ≡ eqb (bit_at word k) 1 }
+{
+    (word >> k) & 1 == 1
+}
+
+/// The word with the bit set, or with it taken away.
+fn put_bit(word: u64, k: usize, mark: bool) -> u64
+    requires { k < 64 }
+    ensures same { eqb (bit_at result k) 1 ≡ mark }
+    ensures other { (i : ℕ) → i < 64 → i ≢ k → bit_at result i ≡ bit_at word i }
+{
+    if mark {
+        word | (1u64 << k)
+    } else {
+        word & !(1u64 << k)
+    }
+}
+
+/// Takes all marks of the first `count` words away.
+fn clear_words(words: &mut Vec<u64>, count: usize)
+    requires { count ≤ vec_len words.old }
+    ensures len { length words.new.items ≡ length words.old.items }
+    ensures clear { (k : ℕ) → k < count → slice_index_or words.new.items k 0 ≡ 0 }
+{
+    for x in 0..count {
+        words[x] = 0;
+    }
+}
+
+/// The lowest bits of a word, at most `count` of them.
+fn lowest(word: u64, count: usize) -> u64
+    ensures inside { (k : ℕ) → k < count → bit_at result k ≡ bit_at word k }
+    ensures none { (k : ℕ) → count ≤ k → bit_at result k ≡ 0 }
+{
+    if count < 64 {
+        word & ((1u64 << count) - 1)
+    } else {
+        word
+    }
+}
+
+/// Whether none of the first `count` bits of the words is set.
+fn are_clear(words: &Vec<u64>, count: usize) -> bool
+    requires { count ≤ 64 * vec_len words.now }
+    ensures { IsTrue result ↔ ((c : ℕ) → c < count → is_set words.now.items c ≡ false) }
+{
+    for x in 0..count.div_ceil(64) {
+        if lowest(words[x], count - 64 * x) != 0 {
+            return false;
+        }
+    }
+    true
+}
+
+/// A number made of the first `count` words.
+fn digest_words(words: &Vec<u64>, count: usize) -> u64
+    requires inside { count ≤ vec_len words.now }
+{
+    let mut digest = 0u64;
+    for x in 0..count {
+        digest = (digest.rotate_left(5) ^ words[x]).wrapping_mul(0x9E37_79B9_7F4A_7C15);
+    }
+    digest ^ (digest >> 32)
+}

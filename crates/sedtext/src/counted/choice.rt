@@ -1,0 +1,386 @@
+//! A choice of a few literals, as in `cat\|dog\|bird`: a match begins where one of them stands, and ends after the
+//! longest that does.
+//!
+//! The places at which a literal can stand are sought by the bytes with which they begin: by the first of each, where
+//! these are few and rare, else by the first two of each, or where one has a single byte, by a look at each byte of the
+//! text. At such a place the literals are compared.
+ghost use Rattle.std.specs.Prelude.{◌≡◌, ℕ, List, ◌+◌, ◌*◌, ◌<◌, ◌≤◌, ◌-◌, ◌↔◌, ◌⊎◌, length, IfOk, IfSome, IsTrue, slice_get, Some};
+ghost use Rattle.memchr.specs.Find.{OccursAt};
+ghost use Rattle.sedtext.specs.Word.{AllWord};
+ghost use Rattle.sedtext.specs.Choice.{AllChoice, AreHeads, AreShort, BranchesOf, ChoiceAt, ChoiceEnd, FirstChoice, Longer, LongestAt, RareHeads};
+ghost use Rattle.sedtext.specs.Few.{Gathered, HasFew};
+ghost use Rattle.sedtext.specs.Openings.{PairAt};
+ghost use Rattle.sedtext.specs.Bytes.{looked_at};
+ghost use Rattle.sedtext.specs.Nodes.{IsNode};
+ghost use Rattle.sedre.specs.Steps.{Takes, Counted};
+
+use super::Text;
+use super::few::{Few, with_byte};
+use super::lookups::{find_choice, find_few, find_opened, longest_choice};
+use super::openings::{Opening, openings_of};
+use crate::needed::{Literal, literal_from};
+use crate::rare::are_rare;
+use sedre::{Expr, Node, Steps};
+use std::alloc::{AllocError, Global};
+use std::marker::Model;
+
+/// The most literals of a choice.
+const MAX_LITERALS: usize = 8;
+
+/// The most bytes that the literals of a choice have together.
+pub(super) const MAX_BYTES: usize = 20;
+
+/// A literal of a choice.
+#[derive(Drop)]
+pub(super) struct Alternative {
+    bytes: Vec<u8>,
+}
+
+impl Model for Alternative {
+    ghost Value = { List ℕ };
+
+    ghost view = { λ a. a.bytes.items };
+}
+
+impl Alternative {
+    /// Its bytes.
+    #[inline(always)]
+    fn bytes(&self) -> &[u8]
+        ensures { result.now ≡ self.now }
+    {
+        &self.bytes
+    }
+
+    /// The two bytes with which it begins, if it has two.
+    pub(super) fn opening(&self) -> Option<Opening>
+        ensures { IfSome result (λ o. PairAt o self.now 0) }
+    {
+        if self.bytes.len() < 2 {
+            return None;
+        }
+        Some(Opening {
+            first: self.bytes[0],
+            second: self.bytes[1],
+        })
+    }
+
+    /// The byte with which it begins.
+    fn head(&self) -> Option<u8>
+        ensures { IfSome result (λ c. slice_get self.now 0 ≡ Some c) }
+    {
+        if self.bytes.is_empty() {
+            None
+        } else {
+            Some(self.bytes[0])
+        }
+    }
+}
+
+/// A few literals, one of which is sought.
+#[derive(Drop)]
+pub struct Choice {
+    // Whether a literal begins with the byte.
+    heads: Vec<bool>,
+    // The bytes with which the literals begin, if they are few and rare.
+    rare: Option<Few>,
+    // The first two bytes of each literal, if every one has two.
+    openings: Option<Vec<Opening>>,
+    literals: Vec<Alternative>,
+}
+
+impl Model for Choice {
+    ghost use Rattle.std.specs.Prelude.{ℕ, List, length, IfSome};
+    ghost use Rattle.sedtext.specs.Choice.{AreHeads, AreShort, RareHeads};
+    ghost use Rattle.sedtext.specs.Openings.{OpenLiterals};
+
+    ghost Value = { List (List ℕ) };
+
+    ghost view = { λ c. c.literals.items };
+
+    ghost invariant = { λ c. AreHeads c.heads.items c.literals.items × RareHeads c.rare c.literals.items × AreShort c.literals.items × IfSome c.openings (λ o. OpenLiterals o.items c.literals.items (length c.literals.items)) };
+}
+
+/// What the spans of a node are made of.
+#[derive(Clone, Copy)]
+pub enum Branches {
+    /// The spans of either node.
+    Both(usize, usize),
+    /// The spans of this node.
+    Inner(usize),
+    /// That isn't known.
+    Alone,
+}
+
+/// The alternatives of the node, or what stands in it where it is a group.
+fn branches_of(expr: &Expr, index: usize, steps: &mut Steps) -> Branches
+    requires inside { index < length expr.now.nodes }
+    ensures branches { BranchesOf expr.now.nodes index result }
+    ensures cost { Takes steps.old steps.new 1 }
+    ensures counts { Counted steps.old steps.new 1 }
+{
+    let node = expr.look(expr.id(index), steps);
+    match node {
+        Node::Alt(a, b) => Branches::Both(a.index(), b.index()),
+        Node::Group(_, a) => Branches::Inner(a.index()),
+        _ => Branches::Alone,
+    }
+}
+
+/// The literal that the node matches and nothing else, if there is one, of a byte or more and of at most `most`.
+fn literal_at(
+    alloc: Global,
+    expr: &Expr,
+    index: usize,
+    most: usize,
+    steps: &mut Steps,
+) -> Result<Option<Alternative>, AllocError>
+    requires inside { IsNode expr.now.nodes index }
+    ensures literal { IfOk result (λ r. IfSome r (λ a. AllWord expr.now.nodes index a)) }
+    ensures long { IfOk result (λ r. IfSome r (λ a. (0 < length a) × (length a ≤ most))) }
+    ensures cost { Takes steps.old steps.new 131074 }
+{
+    let Literal { bytes, rest } = literal_from(alloc, expr, index, steps)?;
+    if rest.is_some() || bytes.is_empty() || bytes.len() > most {
+        return Ok(None);
+    }
+    Ok(Some(Alternative { bytes }))
+}
+
+/// The literals that the expression matches and nothing else, if there are such and they are few and short.
+#[tactic(auto, using(crate::proofs::ChoiceLemmas::no_bytes, crate::proofs::ChoiceLemmas::more_bytes))]
+fn literals_of(
+    alloc: Global,
+    expr: &Expr,
+    steps: &mut Steps,
+) -> Result<Option<Vec<Alternative>>, AllocError>
+    ensures choice { IfOk result (λ r. IfSome r (λ v. AllChoice expr.now.nodes (length expr.now.nodes - 1) v.items)) }
+    ensures short { IfOk result (λ r. IfSome r (λ v. AreShort v.items)) }
+    ensures cost { Takes steps.old steps.new 1114144 }
+{
+    let mut literals = Vec::new(alloc);
+    let mut index = expr.root().index();
+    let mut left = MAX_BYTES;
+    while literals.len() < MAX_LITERALS - 1 {
+        match branches_of(expr, index, steps) {
+            Branches::Inner(part) => index = part,
+            Branches::Both(part, rest) => {
+                let Some(literal) = literal_at(alloc, expr, part, left, steps)? else {
+                    return Ok(None);
+                };
+                left -= literal.bytes().len();
+                literals.push(literal)?;
+                index = rest;
+            }
+            Branches::Alone => break,
+        }
+    }
+    let Some(last) = literal_at(alloc, expr, index, left, steps)? else {
+        return Ok(None);
+    };
+    literals.push(last)?;
+    Ok(Some(literals))
+}
+
+/// A mark for each byte, set at those with which a literal begins, if no literal is empty.
+fn heads_of(alloc: Global, literals: &[Alternative]) -> Result<Option<Vec<bool>>, AllocError>
+    ensures { IfOk result (λ r. IfSome r (λ h. AreHeads h.items literals.now)) }
+{
+    let mut heads = vec![in alloc; false; 256]?;
+    for x in 0..literals.len() {
+        let Some(byte) = literals[x].head() else {
+            return Ok(None);
+        };
+        heads[usize::from(byte)] = true;
+    }
+    Ok(Some(heads))
+}
+
+/// The bytes gathered before and one more, if they are still few.
+fn with_head(few: Option<Few>, byte: u8) -> Option<Few>
+    ensures { IfSome result (λ f. (c : ℕ) → (Gathered few c ⊎ (c ≡ byte)) → HasFew f c) }
+{
+    match few {
+        Some(few) if few.has(byte) => Some(few),
+        _ => with_byte(few, byte),
+    }
+}
+
+/// The bytes with which the literals begin, if they are few.
+fn few_heads(literals: &[Alternative]) -> Option<Few>
+    ensures { RareHeads result literals.now }
+{
+    let mut few = None;
+    for x in 0..literals.len() {
+        few = Some(with_head(few, literals[x].head()?)?);
+    }
+    few
+}
+
+/// The bytes with which the literals begin, if they are few and rare.
+fn rare_heads(literals: &[Alternative]) -> Option<Few>
+    ensures { RareHeads result literals.now }
+{
+    match few_heads(literals) {
+        Some(few) if are_rare(&few) => Some(few),
+        _ => None,
+    }
+}
+
+/// The two literals or more that the expression matches and nothing else, if there are such and they are few and short.
+pub fn choice_of(
+    alloc: Global,
+    expr: &Expr,
+    steps: &mut Steps,
+) -> Result<Option<Choice>, AllocError>
+    ensures choice { IfOk result (λ r. IfSome r (λ c. AllChoice expr.now.nodes (length expr.now.nodes - 1) c)) }
+    ensures cost { Takes steps.old steps.new 1114144 }
+{
+    let Some(literals) = literals_of(alloc, expr, steps)? else {
+        return Ok(None);
+    };
+    if literals.len() < 2 {
+        return Ok(None);
+    }
+    let Some(heads) = heads_of(alloc, &literals)? else {
+        return Ok(None);
+    };
+    let rare = rare_heads(&literals);
+    let openings = openings_of(alloc, &literals)?;
+    Ok(Some(Choice {
+        heads,
+        rare,
+        openings,
+        literals,
+    }))
+}
+
+/// Whether the literal stands at the place.
+#[inline(always)]
+fn stands(literal: &[u8], bytes: &[u8], at: usize) -> bool
+    requires { at ≤ length bytes.now }
+    ensures { IsTrue result ↔ OccursAt bytes.now literal.now at }
+{
+    if literal.len() > bytes.len() - at {
+        return false;
+    }
+    for x in 0..literal.len() {
+        if bytes[at + x] != literal[x] {
+            return false;
+        }
+    }
+    true
+}
+
+/// The length of the longer of two literals: of the longest before, if there is one, and of another one.
+#[inline(always)]
+fn longer(best: Option<usize>, other: usize) -> Option<usize>
+    ensures { Longer best other result }
+{
+    match best {
+        Some(len) if other <= len => Some(len),
+        _ => Some(other),
+    }
+}
+
+/// How long the longest of the literals is that stand at the place, if one does.
+pub(super) fn longest_at(literals: &[Alternative], bytes: &[u8], at: usize) -> Option<usize>
+    requires { at ≤ length bytes.now }
+    ensures { LongestAt literals.now bytes.now at (length literals.now) result }
+{
+    let mut best = None;
+    for x in 0..literals.len() {
+        let literal = literals[x].bytes();
+        if stands(literal, bytes, at) {
+            best = longer(best, literal.len());
+        }
+    }
+    best
+}
+
+/// Whether one of the literals stands at the place.
+#[inline(always)]
+fn one_stands(heads: &[bool], literals: &[Alternative], bytes: &[u8], at: usize) -> bool
+    requires heads { AreHeads heads.now literals.now }
+    requires inside { at < length bytes.now }
+    ensures { IsTrue result ↔ ChoiceAt literals.now bytes.now at }
+{
+    heads[usize::from(bytes[at])] && longest_at(literals, bytes, at).is_some()
+}
+
+/// The first place from `from` on at which one of the literals stands, if there is one.
+// As a part of a large function it would be slower by the byte.
+#[inline(never)]
+pub(super) fn first_choice(
+    heads: &[bool],
+    literals: &[Alternative],
+    bytes: &[u8],
+    from: usize,
+) -> Option<usize>
+    requires heads { AreHeads heads.now literals.now }
+    requires from { from ≤ length bytes.now }
+    ensures { FirstChoice literals.now bytes.now from result }
+{
+    for place in from..bytes.len() {
+        if one_stands(heads, literals, bytes, place) {
+            return Some(place);
+        }
+    }
+    None
+}
+
+/// The first place from `from` on at which one of the literals stands, if there is one, by a search for the few bytes
+/// with which they begin.
+fn rare_choice(
+    few: &Few,
+    literals: &[Alternative],
+    text: &Text,
+    from: usize,
+    steps: &mut Steps,
+) -> Option<usize>
+    requires heads { RareHeads (Some few.now) literals.now }
+    requires literals { AreShort literals.now }
+    requires from { from ≤ length text.now }
+    ensures first { FirstChoice literals.now text.now from result }
+    ensures cost { Takes steps.old steps.new (21 * looked_at (length text.now) from result) }
+{
+    let mut place = from;
+    while let Some(at) = find_few(text, few, place, steps) {
+        if longest_choice(text, literals, at, steps).is_some() {
+            return Some(at);
+        }
+        place = text.after(at, 1);
+    }
+    None
+}
+
+impl Choice {
+    /// The first place from `from` on at which a match begins, if there is one.
+    pub fn start(&self, text: &Text, from: usize, steps: &mut Steps) -> Option<usize>
+        requires from { from ≤ length text.now }
+        ensures first { FirstChoice self.now text.now from result }
+        ensures cost { Takes steps.old steps.new (22 * looked_at (length text.now) from result) }
+    {
+        let literals = &self.literals;
+        match (&self.rare, &self.openings) {
+            (Some(few), _) => rare_choice(few, literals, text, from, steps),
+            (None, Some(openings)) => {
+                find_opened(text, &self.heads, openings, literals, from, steps)
+            }
+            (None, None) => find_choice(text, &self.heads, literals, from, steps),
+        }
+    }
+
+    /// The end of the longest match that begins at `start`. Condition: one begins there.
+    pub fn end(&self, text: &Text, start: usize, steps: &mut Steps) -> usize
+        requires can { ChoiceAt self.now text.now start }
+        ensures end { ChoiceEnd self.now text.now start result }
+        ensures short { result ≤ start + 20 }
+        ensures cost { Takes steps.old steps.new 20 }
+        ensures counts { Counted steps.old steps.new 20 }
+    {
+        match longest_choice(text, &self.literals, start, steps) {
+            Some(len) => text.after(start, len),
+            None => unreachable!(),
+        }
+    }
+}

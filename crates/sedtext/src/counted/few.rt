@@ -1,0 +1,116 @@
+//! Up to three bytes, one of which is sought.
+ghost use Rattle.std.specs.Prelude.{◌≡◌, ℕ, ◌<◌, ◌↔◌, ◌⊎◌, IfSome, IsTrue};
+ghost use Rattle.sedtext.specs.Few.{FewOf, AreMembers, Gathered, HasFew, HasZeros, FirstFew};
+ghost use Rattle.sedtext.specs.declared.counted.few.Few.TheVariants.{Two, Three};
+
+use crate::beginnings::Begins;
+use memchr::{memchr, memchr2, memchr3};
+use sedre::ByteSet;
+use std::simd::prelude::*;
+
+/// Up to three bytes.
+#[derive(Clone, Copy)]
+pub enum Few {
+    /// One.
+    One(u8),
+    /// Two.
+    Two(u8, u8),
+    /// Three.
+    Three(u8, u8, u8),
+}
+
+impl Few {
+    /// Whether the byte is one of them.
+    pub fn has(&self, byte: u8) -> bool
+        ensures { IsTrue result ↔ HasFew self.now byte }
+    {
+        match self {
+            Few::One(first) => byte == *first,
+            Few::Two(first, second) => byte == *first || byte == *second,
+            Few::Three(first, second, third) => byte == *first || byte == *second || byte == *third,
+        }
+    }
+
+    /// The first place at which one of them stands, if there is one.
+    pub(super) fn find(&self, bytes: &[u8]) -> Option<usize>
+        ensures { FirstFew self.now bytes.now 0 result }
+    {
+        match self {
+            Few::One(first) => memchr(*first, bytes),
+            Few::Two(first, second) => memchr2(*first, *second, bytes),
+            Few::Three(first, second, third) => memchr3(*first, *second, *third, bytes),
+        }
+    }
+
+    /// Lanes that are 0 exactly where one of them stands.
+    #[inline(always)]
+    pub(super) fn zeros(&self, lanes: u8x32) -> u8x32
+        ensures { HasZeros (HasFew self.now) lanes result }
+    {
+        match self {
+            Few::One(first) => byte_zeros(*first, lanes),
+            Few::Two(first, second) => two_zeros(*first, *second, lanes),
+            Few::Three(first, second, third) => three_zeros(*first, *second, *third, lanes),
+        }
+    }
+}
+
+/// Lanes that are 0 exactly where the byte stands.
+#[inline(always)]
+pub(super) fn byte_zeros(byte: u8, lanes: u8x32) -> u8x32
+    ensures { HasZeros (λ c. c ≡ byte) lanes result }
+{
+    lanes ^ u8x32::splat(byte)
+}
+
+/// Lanes that are 0 exactly where one of the two bytes stands.
+#[inline(always)]
+fn two_zeros(first: u8, second: u8, lanes: u8x32) -> u8x32
+    ensures { HasZeros (HasFew (Two first second)) lanes result }
+{
+    byte_zeros(first, lanes).simd_min(byte_zeros(second, lanes))
+}
+
+/// Lanes that are 0 exactly where one of the three bytes stands.
+#[inline(always)]
+fn three_zeros(first: u8, second: u8, third: u8, lanes: u8x32) -> u8x32
+    ensures { HasZeros (HasFew (Three first second third)) lanes result }
+{
+    byte_zeros(first, lanes).simd_min(two_zeros(second, third, lanes))
+}
+
+/// The bytes gathered before and one more, if they are still few.
+pub(super) fn with_byte(few: Option<Few>, byte: u8) -> Option<Few>
+    ensures { IfSome result (λ f. (c : ℕ) → HasFew f c ↔ (Gathered few c ⊎ (c ≡ byte))) }
+{
+    match few {
+        None => Some(Few::One(byte)),
+        Some(Few::One(first)) => Some(Few::Two(first, byte)),
+        Some(Few::Two(first, second)) => Some(Few::Three(first, second, byte)),
+        Some(Few::Three(_, _, _)) => None,
+    }
+}
+
+/// The members of the set, if it has one to three.
+pub fn members_of(set: &ByteSet) -> Option<Few>
+    ensures { IfSome result (AreMembers set.now) }
+{
+    let mut few = None;
+    for byte in 0..256usize {
+        if set.has(byte as u8) {
+            few = Some(with_byte(few, byte as u8)?);
+        }
+    }
+    few
+}
+
+/// The bytes with which a match begins, if they are few.
+pub(crate) fn few_of(begins: &Begins) -> Option<Few>
+    ensures { FewOf begins.now result }
+{
+    match begins {
+        Begins::WithByte(byte) => Some(Few::One(*byte)),
+        Begins::WithSet(set) => members_of(set),
+        _ => None,
+    }
+}

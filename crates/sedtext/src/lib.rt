@@ -1,0 +1,28 @@
+//! What a text matches and how it is looked at: texts and marks that are looked at by calls that count, what is looked for in a
+//! text itself, and which match of an expression of `sedre` is sought and what its groups are (XBD 9.1), as definitions and laws.
+//!
+//! A [`Text`], its bytes and [`Marks`] are looked at by calls that count one step for each look. They stand in [`counted`], with
+//! what is looked for in a text's bytes: bytes of a set, a few bytes, a literal, a choice of literals. No bytes of a text are
+//! seen without a count outside of that module and those below it.
+//!
+//! [`beginnings`] tells from which places a match can begin at all, [`repeats`] which set of bytes a node repeats. [`needed`],
+//! [`rare`], [`times`] and [`hints`] find out once what an expression tells of all its matches, by which places are passed over
+//! at which none begins. No search for a match of any expression stands here.
+//!
+//! The public modules are for the two crates above; `sedmatch` passes on what a program calls, and decides what a matcher uses.
+#![tactic(auto)]
+
+pub mod beginnings;
+pub mod counted;
+mod found;
+pub mod hints;
+mod laws;
+pub mod needed;
+pub mod rare;
+pub mod repeats;
+pub mod starts;
+pub mod times;
+
+pub use counted::{Marks, Text};
+pub use found::Found;
+pub use laws::{found_law, groups_law, spans_law};

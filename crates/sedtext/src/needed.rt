@@ -1,0 +1,236 @@
+//! A literal that every match of an expression holds: a text without it has no match.
+//!
+//! A concatenation is followed from part to part, and single bytes that stand one after another in it are a literal.
+ghost use Rattle.std.specs.Prelude.{◌≡◌, ◌<◌, ◌≤◌, ◌⊎◌, length, IfOk, IfSome};
+ghost use Rattle.sedre.specs.Arena.{tree};
+ghost use Rattle.sedre.specs.Tree.{Tree};
+ghost use Rattle.sedtext.specs.Needed.{IsOfSet, LinksTo, IsLiteral, IsSole, AllHold, AllEndWith, IsNeeded, Narrowed};
+ghost use Rattle.sedtext.specs.Nodes.{IsNode};
+ghost use Rattle.sedtext.specs.Costs.{Pays};
+ghost use Rattle.sedre.specs.Steps.{Takes, Counted};
+
+use crate::counted::Text;
+use crate::counted::lookups::find_literal;
+use memchr::memmem::Finder;
+use sedre::{ByteSet, Expr, Node, Steps};
+use std::alloc::{AllocError, Global};
+
+/// The most bytes of a literal.
+const MAX_LITERAL: usize = 32;
+
+/// How the spans of a node begin.
+#[derive(Clone, Copy)]
+pub enum Link {
+    /// With a byte of this set, after which they go on as the spans of this node.
+    OneOf(ByteSet, usize),
+    /// They are of one byte of this set.
+    Last(ByteSet),
+    /// As the spans of this node.
+    Inner(usize),
+    /// That isn't known.
+    Other,
+}
+
+/// The bytes with which the spans of a node begin.
+#[derive(Drop)]
+pub struct Literal {
+    /// The bytes.
+    pub bytes: Vec<u8>,
+    /// The node whose spans follow these bytes. None where the spans end with the bytes.
+    pub rest: Option<usize>,
+}
+
+/// A literal that every match holds.
+#[derive(Drop)]
+pub struct Needed {
+    /// A search for it.
+    pub finder: Finder<'static>,
+    /// Whether every match begins with it.
+    pub leads: bool,
+}
+
+/// The set that the node at the index is, if it is one.
+fn set_of(expr: &Expr, index: usize, steps: &mut Steps) -> Option<ByteSet>
+    requires inside { index < length expr.now.nodes }
+    ensures set { IfSome result (λ s. IsOfSet expr.now.nodes index s) }
+    ensures cost { Takes steps.old steps.new 1 }
+    ensures counts { Counted steps.old steps.new 1 }
+{
+    match expr.look(expr.id(index), steps) {
+        Node::Set(set) => Some(set),
+        _ => None,
+    }
+}
+
+/// How the spans of the node begin.
+pub fn link_of(expr: &Expr, index: usize, steps: &mut Steps) -> Link
+    requires inside { index < length expr.now.nodes }
+    ensures links { LinksTo expr.now.nodes index result }
+    ensures cost { Takes steps.old steps.new 2 }
+{
+    let node = expr.look(expr.id(index), steps);
+    match node {
+        Node::Seq(a, b) => match set_of(expr, a.index(), steps) {
+            Some(set) => Link::OneOf(set, b.index()),
+            None => Link::Other,
+        },
+        Node::Group(_, a) => Link::Inner(a.index()),
+        _ => match set_of(expr, index, steps) {
+            Some(set) => Link::Last(set),
+            None => Link::Other,
+        },
+    }
+}
+
+/// The only byte of the set, if it has no other.
+fn sole_of(set: &ByteSet) -> Option<u8>
+    ensures { IfSome result (IsSole set.now) }
+{
+    match set.sole() {
+        Some(byte) if set.has(byte) => Some(byte),
+        _ => None,
+    }
+}
+
+/// The literal with which the spans of the node begin, and the node as whose spans they go on after it.
+pub fn literal_from(
+    alloc: Global,
+    expr: &Expr,
+    from: usize,
+    steps: &mut Steps,
+) -> Result<Literal, AllocError>
+    requires inside { IsNode expr.now.nodes from }
+    ensures literal { IfOk result (λ l. IsLiteral expr.now.nodes from l) }
+    ensures up_to { IfOk result (λ l. IfSome l.rest (λ y. y ≤ from)) }
+    ensures cost { Takes steps.old steps.new 131074 }
+{
+    let mut bytes = Vec::new(alloc);
+    let mut index = from;
+    while bytes.len() < MAX_LITERAL {
+        match link_of(expr, index, steps) {
+            Link::OneOf(set, next) => {
+                let Some(byte) = sole_of(&set) else {
+                    break;
+                };
+                bytes.push(byte)?;
+                index = next;
+            }
+            Link::Last(set) => {
+                let Some(byte) = sole_of(&set) else {
+                    break;
+                };
+                bytes.push(byte)?;
+                return Ok(Literal { bytes, rest: None });
+            }
+            Link::Inner(part) => index = part,
+            Link::Other => break,
+        }
+    }
+    Ok(Literal {
+        bytes,
+        rest: Some(index),
+    })
+}
+
+/// The second part of the node at the index, if it is a concatenation.
+fn second_of(expr: &Expr, index: usize, steps: &mut Steps) -> Option<usize>
+    requires inside { index < length expr.now.nodes }
+    ensures below { IfSome result (λ y. y < index) }
+    ensures ends { IfSome result (λ y. AllEndWith expr.now.nodes index y) }
+    ensures cost { Takes steps.old steps.new 1 }
+    ensures counts { Counted steps.old steps.new 1 }
+{
+    let node = expr.look(expr.id(index), steps);
+    match node {
+        Node::Seq(_, b) => Some(b.index()),
+        _ => None,
+    }
+}
+
+/// The longer of two literals.
+fn longer(first: Vec<u8>, second: Vec<u8>) -> Vec<u8>
+    ensures { (result.items ≡ first.items) ⊎ (result.items ≡ second.items) }
+{
+    if first.len() < second.len() {
+        second
+    } else {
+        first
+    }
+}
+
+/// The longest of the literals that the spans of the node hold one after another; empty where none is found.
+fn longest_literal(
+    alloc: Global,
+    expr: &Expr,
+    from: usize,
+    steps: &mut Steps,
+) -> Result<Vec<u8>, AllocError>
+    requires inside { IsNode expr.now.nodes from }
+    ensures holds { IfOk result (λ v. AllHold expr.now.nodes from v.items) }
+{
+    let mut best = Vec::new(alloc);
+    let mut index = from;
+    loop {
+        let Literal { bytes, rest } = literal_from(alloc, expr, index, steps)?;
+        best = longer(best, bytes);
+        let Some(rest) = rest else {
+            return Ok(best);
+        };
+        let Some(next) = second_of(expr, rest, steps) else {
+            return Ok(best);
+        };
+        index = next;
+    }
+}
+
+/// A search for the literal.
+fn search_for(alloc: Global, literal: &[u8], leads: bool) -> Result<Needed, AllocError>
+    ensures literal { IfOk result (λ n. n.finder ≡ literal.now) }
+    ensures leads { IfOk result (λ n. n.leads ≡ leads) }
+{
+    let finder = Finder::new(literal).into_owned(alloc)?;
+    Ok(Needed { finder, leads })
+}
+
+/// A literal that every match of the expression holds, if one is found: one of two bytes or more with which all begin,
+/// or else the longest that is found.
+pub fn find_needed(
+    alloc: Global,
+    expr: &Expr,
+    steps: &mut Steps,
+) -> Result<Option<Needed>, AllocError>
+    ensures needed { IfOk result (λ n. IsNeeded (tree expr.now) n) }
+{
+    let root = expr.root().index();
+    let first = literal_from(alloc, expr, root, steps)?;
+    if first.bytes.len() >= 2 {
+        return Ok(Some(search_for(alloc, &first.bytes, true)?));
+    }
+    let best = longest_literal(alloc, expr, root, steps)?;
+    if best.is_empty() {
+        return Ok(None);
+    }
+    Ok(Some(search_for(alloc, &best, false)?))
+}
+
+/// The first place from `from` on at which a match can begin, if there is one, as far as the literal tells that each
+/// match holds.
+pub fn narrowed(
+    needed: &Option<Needed>,
+    text: &Text,
+    from: usize,
+    steps: &mut Steps,
+) -> Option<usize>
+    requires from { from ≤ length text.now }
+    ensures narrowed { (e : Tree) → IsNeeded e needed.now → Narrowed e text.now from result }
+    ensures lies { IfSome result (λ q. (from ≤ q) × (q ≤ length text.now)) }
+    ensures cost { Pays steps.old steps.new (length text.now) from }
+{
+    match needed {
+        None => Some(from),
+        Some(needed) => {
+            let place = find_literal(text, &needed.finder, from, steps)?;
+            Some(if needed.leads { place } else { from })
+        }
+    }
+}

@@ -1,0 +1,329 @@
+//! A few bytes, one of which stands at a fixed distance after the beginning of every match: the rarest are sought, and the
+//! next rarest are compared with what stands there.
+ghost use Rattle.std.specs.Prelude.{ℕ, ◌+◌, ◌*◌, ◌<◌, ◌≤◌, ◌↔◌, ◌⊎◌, Some, length, IfSome, IsTrue};
+ghost use Rattle.sedre.specs.Arena.{tree, tree_at};
+ghost use Rattle.sedre.specs.Tree.{Tree};
+ghost use Rattle.sedtext.specs.Bytes.{looked_at};
+ghost use Rattle.sedtext.specs.Rare.{StandsAt, HeldAt, FirstFixed, FirstRare, RareNowhere, AllStand, AllHave, AllHeld, AllRare, AllSecond};
+ghost use Rattle.sedtext.specs.Few.{HasFew};
+ghost use Rattle.sedtext.specs.Spans.{IsIn};
+ghost use Rattle.sedtext.specs.Beginnings.{AllBegin};
+ghost use Rattle.sedtext.specs.Nodes.{IsNode};
+ghost use Rattle.sedtext.specs.Costs.{Pays};
+ghost use Rattle.sedre.specs.Steps.{Takes};
+
+use crate::beginnings::Begins;
+use crate::counted::Text;
+use crate::counted::few::{Few, few_of, members_of};
+use crate::counted::lookups::{find_few, pass_apart};
+use crate::needed::{Link, link_of};
+use sedre::{ByteSet, Expr, Node, Steps};
+
+/// How often bytes stand in a thousand that are sought one by one in less time than by vectors.
+const RARE: usize = 21;
+
+/// How many bytes after its beginning a match is followed.
+const MAX_OFFSET: usize = 32;
+
+/// How often each letter stands in a thousand bytes of ordinary text, that is prose, logs and programs.
+const LETTERS: [u8; 26] = [
+    65, 12, 30, 33, 95, 18, 16, 30, 60, 2, 7, 35, 22, 60, 60, 22, 1, 55, 55, 70, 25, 8, 12, 3, 12,
+    1,
+];
+
+/// How often the byte stands in a thousand bytes of ordinary text.
+fn weight(byte: u8) -> usize
+    ensures { result ≤ 255 }
+{
+    match byte {
+        b' ' => 150,
+        b'a'..=b'z' => LETTERS[(byte - b'a') as usize] as usize,
+        b'0'..=b'9' => 12,
+        b'A'..=b'Z' => 4,
+        b'!'..=b'~' => 6,
+        _ => 1,
+    }
+}
+
+/// A few bytes, one of which stands at a fixed distance after the beginning of every match.
+#[derive(Clone, Copy)]
+pub struct Fixed {
+    /// The distance.
+    pub offset: usize,
+    /// The bytes.
+    pub few: Few,
+}
+
+impl Fixed {
+    /// How often they stand in a thousand bytes of ordinary text.
+    fn weight(&self) -> usize {
+        match self.few {
+            Few::One(first) => weight(first),
+            Few::Two(first, second) => weight(first) + weight(second),
+            Few::Three(first, second, third) => weight(first) + weight(second) + weight(third),
+        }
+    }
+
+    /// Whether one of them stands at the distance after the place. Counts at most one look.
+    fn stands(&self, text: &Text, place: usize, steps: &mut Steps) -> bool
+        requires place { place ≤ length text.now }
+        ensures stands { IsTrue result ↔ StandsAt self.now text.now place }
+        ensures cost { Takes steps.old steps.new 1 }
+    {
+        if self.offset < text.len() - place {
+            let byte = text.byte(place + self.offset, steps);
+            self.few.has(byte)
+        } else {
+            false
+        }
+    }
+
+    /// The first place from `from` on after which one of them stands at the distance, if there is one.
+    fn find(&self, text: &Text, from: usize, steps: &mut Steps) -> Option<usize>
+        requires from { from ≤ length text.now }
+        ensures first { FirstFixed self.now text.now from result }
+        ensures cost { Takes steps.old steps.new (looked_at (length text.now) from result) }
+    {
+        if self.offset > text.len() - from {
+            return None;
+        }
+        let place = find_few(text, &self.few, from + self.offset, steps)?;
+        Some(place - self.offset)
+    }
+}
+
+/// Whether the bytes are so rare that they are sought one by one in less time than by a table.
+pub fn are_rare(few: &Few) -> bool {
+    let first = Fixed {
+        offset: 0,
+        few: *few,
+    };
+    first.weight() <= RARE
+}
+
+/// What stands after the beginning of every match.
+#[derive(Clone, Copy)]
+pub struct Rare {
+    /// The rarest bytes, which are sought.
+    pub sought: Fixed,
+    /// The next rarest, which are compared with what stands there.
+    pub held: Option<Fixed>,
+    /// Whether those sought are so frequent that vectors tell in less time where both stand.
+    pub often: bool,
+}
+
+impl Rare {
+    /// Whether the next rarest, if there are such, stand at their distance after the place. Counts at most one look.
+    fn holds(&self, text: &Text, place: usize, steps: &mut Steps) -> bool
+        requires place { place ≤ length text.now }
+        ensures holds { IsTrue result ↔ HeldAt self.now.held text.now place }
+        ensures cost { Takes steps.old steps.new 1 }
+    {
+        match &self.held {
+            None => true,
+            Some(held) => held.stands(text, place, steps),
+        }
+    }
+
+    /// A place such that no match begins from `from` up to it, as far as vectors tell.
+    fn pass(&self, text: &Text, from: usize, steps: &mut Steps) -> usize
+        requires from { from ≤ length text.now }
+        ensures after { from ≤ result }
+        ensures within { result ≤ length text.now }
+        ensures missed { RareNowhere self.now text.now from result }
+        ensures cost { Pays steps.old steps.new (2 * result) (2 * from) }
+    {
+        if !self.often {
+            return from;
+        }
+        match &self.held {
+            None => from,
+            Some(held) => pass_apart(text, &self.sought, held, from, steps),
+        }
+    }
+
+    /// The first place from `from` on at which a match can begin as far as these bytes tell, if there is one. Each
+    /// place of the rarest is looked at.
+    fn find_near(&self, text: &Text, from: usize, steps: &mut Steps) -> Option<usize>
+        requires from { from ≤ length text.now }
+        ensures first { FirstRare self.now text.now from result }
+        ensures cost { Takes steps.old steps.new (2 * looked_at (length text.now) from result) }
+    {
+        let mut place = from;
+        while let Some(start) = self.sought.find(text, place, steps) {
+            if self.holds(text, start, steps) {
+                return Some(start);
+            }
+            place = text.after(start, 1);
+        }
+        None
+    }
+
+    /// The first place from `from` on at which a match can begin as far as these bytes tell, if there is one. Vectors
+    /// pass over the text before each place of the rarest is looked at.
+    pub fn find(&self, text: &Text, from: usize, steps: &mut Steps) -> Option<usize>
+        requires from { from ≤ length text.now }
+        ensures first { FirstRare self.now text.now from result }
+        ensures lies { IfSome result (λ k. k < length text.now) }
+        ensures cost { Takes steps.old steps.new (2 * looked_at (length text.now) from result) }
+    {
+        let place = self.pass(text, from, steps);
+        self.find_near(text, place, steps)
+    }
+}
+
+/// The rarer of what was held, if there is such, and one more.
+fn rarer(held: Option<Fixed>, more: Fixed) -> Fixed
+    ensures { (e : Tree) → AllHeld e held → AllStand e more → AllStand e result }
+{
+    match held {
+        Some(held) => if held.weight() <= more.weight() {
+            held
+        } else {
+            more
+        },
+        None => more,
+    }
+}
+
+/// The two rarest of these and one more.
+fn with_fixed(rare: Option<Rare>, more: Fixed) -> Rare
+    ensures { (e : Tree) → AllRare e rare → AllStand e more → AllRare e (Some result) }
+{
+    match rare {
+        None => Rare {
+            sought: more,
+            held: None,
+            often: false,
+        },
+        Some(rare) => if more.weight() < rare.sought.weight() {
+            Rare {
+                sought: more,
+                held: Some(rare.sought),
+                often: more.weight() > RARE,
+            }
+        } else {
+            Rare {
+                sought: rare.sought,
+                held: Some(rarer(rare.held, more)),
+                often: rare.sought.weight() > RARE,
+            }
+        },
+    }
+}
+
+/// The two rarest of these and of the members of the set, one of which stands `offset` bytes after the beginning of
+/// every match. A set of many bytes is left out.
+fn with_set(rare: Option<Rare>, offset: usize, set: &ByteSet) -> Option<Rare>
+    ensures { (e : Tree) → AllRare e rare → AllHave e offset set.now → AllRare e result }
+{
+    match members_of(set) {
+        None => rare,
+        Some(few) => Some(with_fixed(rare, Fixed { offset, few })),
+    }
+}
+
+/// The rarest bytes that stand at a fixed distance after the beginning of every span of a node, if such bytes are
+/// found: a concatenation is followed as long as its parts are sets.
+fn rare_from(expr: &Expr, from: usize, steps: &mut Steps) -> Option<Rare>
+    requires inside { IsNode expr.now.nodes from }
+    ensures rare { AllRare (tree_at expr.now.nodes from) result }
+    ensures cost { Takes steps.old steps.new 131074 }
+{
+    let mut rare = None;
+    let mut offset = 0usize;
+    let mut index = from;
+    while offset < MAX_OFFSET {
+        match link_of(expr, index, steps) {
+            Link::OneOf(set, next) => {
+                rare = with_set(rare, offset, &set);
+                offset += 1;
+                index = next;
+            }
+            Link::Last(set) => return with_set(rare, offset, &set),
+            Link::Inner(part) => index = part,
+            Link::Other => return rare,
+        }
+    }
+    rare
+}
+
+/// The bytes with which every match begins, if they are few.
+fn rare_first(begins: &Begins) -> Option<Rare>
+    ensures { (e : Tree) → AllBegin e begins.now → AllRare e result }
+{
+    let few = few_of(begins)?;
+    Some(Rare {
+        sought: Fixed { offset: 0, few },
+        held: None,
+        often: false,
+    })
+}
+
+/// The set of which a byte stands second in every span of the node, if there is one.
+fn second_set(expr: &Expr, index: usize, steps: &mut Steps) -> Option<ByteSet>
+    requires inside { index < length expr.now.nodes }
+    ensures second { IfSome result (λ s. AllSecond expr.now.nodes index s) }
+    ensures cost { Takes steps.old steps.new 4 }
+{
+    match link_of(expr, index, steps) {
+        Link::OneOf(_, next) => match link_of(expr, next, steps) {
+            Link::OneOf(set, _) => Some(set),
+            Link::Last(set) => Some(set),
+            _ => None,
+        },
+        _ => None,
+    }
+}
+
+/// The bytes that stand second in every match, if the expression is two alternatives and these bytes are few.
+fn second_of_two(expr: &Expr, steps: &mut Steps) -> Option<Fixed>
+    ensures second { AllHeld (tree expr.now) result }
+    ensures cost { Takes steps.old steps.new 9 }
+{
+    let root = expr.root().index();
+    match expr.look(expr.id(root), steps) {
+        Node::Alt(a, b) => {
+            let first = second_set(expr, a.index(), steps)?;
+            let second = second_set(expr, b.index(), steps)?;
+            let few = few_of_two(first, second)?;
+            Some(Fixed { offset: 1, few })
+        }
+        _ => None,
+    }
+}
+
+/// The members of two sets together, if they are few.
+fn few_of_two(first: ByteSet, second: ByteSet) -> Option<Few>
+    ensures { IfSome result (λ f. (c : ℕ) → c < 256 → HasFew f c ↔ (IsIn c first ⊎ IsIn c second)) }
+{
+    members_of(&first.union(&second))
+}
+
+/// These bytes, if there are such, with `held` as the next rarest.
+fn with_held(rare: Option<Rare>, held: Option<Fixed>) -> Option<Rare>
+    ensures { (e : Tree) → AllRare e rare → AllHeld e held → AllRare e result }
+{
+    let sought = rare?.sought;
+    Some(Rare {
+        sought,
+        held,
+        often: held.is_some() && sought.weight() > RARE,
+    })
+}
+
+/// The rarest bytes that stand at a fixed distance after the beginning of every match, if such bytes are found.
+pub fn rare_of(expr: &Expr, begins: &Begins, steps: &mut Steps) -> Option<Rare>
+    requires begins { AllBegin (tree expr.now) begins.now }
+    ensures rare { AllRare (tree expr.now) result }
+    ensures cost { Takes steps.old steps.new 131083 }
+{
+    let root = expr.root().index();
+    match rare_from(expr, root, steps) {
+        Some(rare) => Some(rare),
+        None => {
+            let held = second_of_two(expr, steps);
+            with_held(rare_first(begins), held)
+        }
+    }
+}

@@ -1,0 +1,144 @@
+//! A set repeated a fixed number of times, as in `[0-9]\{6\}`: a match begins where that number of bytes in a row are
+//! in the set.
+//!
+//! The last of these bytes is looked at first. Where it isn't in the set, no match begins before it, and those before
+//! it aren't looked at: where such bytes are rare, most of a text is passed over unseen.
+ghost use Rattle.std.specs.Prelude.{◌≡◌, ◌+◌, ◌<◌, ◌≤◌, ◌-◌, length, Some, IfOk, IfSome, IsTrue};
+ghost use Rattle.sedtext.specs.Times.{SameBytes, AllTimes, AreWidths, LastOutside, FirstTimes, looked_back, passed_times};
+ghost use Rattle.sedtext.specs.Costs.{Pays};
+ghost use Rattle.sedre.specs.Steps.{Takes, Counted, TakesAtLeast};
+
+use crate::counted::Text;
+use crate::counted::few::members_of;
+use sedre::{ByteSet, Expr, Node, Steps};
+use std::alloc::{AllocError, Global};
+
+/// Whether the sets have the same bytes.
+fn same_bytes(these: &ByteSet, those: &ByteSet) -> bool
+    ensures { IsTrue result → SameBytes these.now those.now }
+{
+    for byte in 0..256usize {
+        if these.has(byte as u8) != those.has(byte as u8) {
+            return false;
+        }
+    }
+    true
+}
+
+/// The sum, if it fits.
+fn sum_of(first: usize, second: usize) -> Option<usize>
+    ensures { IfSome result (λ sum. sum ≡ first + second) }
+{
+    first.checked_add(second)
+}
+
+/// How many bytes the spans of the node at the index have, if they are all strings of that many bytes of the set.
+/// `widths` has this number for each node before it.
+fn width_of(
+    expr: &Expr,
+    index: usize,
+    set: &ByteSet,
+    widths: &Vec<usize>,
+    steps: &mut Steps,
+) -> Option<usize>
+    requires inside { index < length expr.now.nodes }
+    requires before { length widths.now.items ≡ index }
+    requires widths { AreWidths expr.now.nodes set.now widths.now.items }
+    ensures width { IfSome result (λ count. AllTimes expr.now.nodes index set.now count) }
+    ensures cost { Takes steps.old steps.new 1 }
+    ensures counts { Counted steps.old steps.new 1 }
+{
+    match expr.look(expr.id(index), steps) {
+        Node::Set(other) => {
+            if same_bytes(&other, set) {
+                Some(1)
+            } else {
+                None
+            }
+        }
+        Node::Seq(a, b) => sum_of(widths[a.index()], widths[b.index()]),
+        Node::Group(_, a) => Some(widths[a.index()]),
+        _ => None,
+    }
+}
+
+/// The set and the number such that the matches are all strings of that many bytes of the set, if there are such. Sets
+/// of few bytes are left out: these are sought faster one by one.
+pub fn times_of(
+    alloc: Global,
+    expr: &Expr,
+    steps: &mut Steps,
+) -> Result<Option<(ByteSet, usize)>, AllocError>
+    ensures times { IfOk result (λ r. IfSome r (λ t. AllTimes expr.now.nodes (length expr.now.nodes - 1) t.0 t.1)) }
+    ensures cost { Takes steps.old steps.new 65537 }
+{
+    let count = expr.nodes();
+    let Node::Set(set) = expr.look(expr.id(0), steps) else {
+        return Ok(None);
+    };
+    if members_of(&set).is_some() {
+        return Ok(None);
+    }
+    let mut widths = Vec::new(alloc);
+    while widths.len() < count {
+        let Some(width) = width_of(expr, widths.len(), &set, &widths, steps) else {
+            return Ok(None);
+        };
+        widths.push(width)?;
+    }
+    Ok(Some((set, widths[count - 1])))
+}
+
+/// The last place from `from` up to `to` whose byte isn't in the set, if there is one.
+#[inline(always)]
+fn last_outside(
+    set: &ByteSet,
+    text: &Text,
+    from: usize,
+    to: usize,
+    steps: &mut Steps,
+) -> Option<usize>
+    requires from { from ≤ to }
+    requires to { to ≤ length text.now }
+    ensures last { LastOutside set.now text.now from to result }
+    ensures cost { Pays steps.old steps.new to from }
+    ensures counts { TakesAtLeast steps.old steps.new (looked_back from to result) }
+{
+    for place in (from..to).rev() {
+        let byte = text.byte(place, steps);
+        if !set.has(byte) {
+            return Some(place);
+        }
+    }
+    None
+}
+
+/// The first place from `from` on at which `count` bytes in a row begin that are in the set, if there is one.
+/// Counts at most a look for each byte from `from` to their end, and at least one for each of them.
+#[inline(never)]
+pub fn find_times(
+    set: &ByteSet,
+    count: usize,
+    text: &Text,
+    from: usize,
+    steps: &mut Steps,
+) -> Option<usize>
+    requires from { from ≤ length text.now }
+    ensures first { FirstTimes set.now count text.now from result }
+    ensures cost { Pays steps.old steps.new (passed_times (length text.now) count result) from }
+    ensures counts { IfSome result (λ _. TakesAtLeast steps.old steps.new count) }
+{
+    let mut start = from;
+    let mut seen = from;
+    while count <= text.len() - start {
+        let end = start + count;
+        match last_outside(set, text, seen, end, steps) {
+            None => return Some(start),
+            Some(place) => {
+                start = place + 1;
+                seen = end;
+            }
+        }
+    }
+    None
+}
