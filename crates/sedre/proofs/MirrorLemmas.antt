@@ -6,10 +6,6 @@ use Rattle.std.proofs.lemmas.List.{length-map}
 use Rattle.sedre.specs.Tree.{Tree, empty, set, begin, end, seq, alt, group, star, opt, size}
 use Rattle.sedre.specs.Arena.{Written, IsArena, IsPart, HasTwoParts, tree, tree_of, tree_if, tree_within, tree_at}
 use Rattle.sedre.specs.Mirror.{mirror, mirror_node, node_seen, seen}
-use Rattle.sedre.specs.Packed.{node_of, node_at, FitsShape, Fits, mirror_kept, entry_seen}
-use Rattle.sedre.specs.declared.packed.Entry.{Entry}
-use Rattle.sedre.specs.declared.packed.Shape.{Shape}
-use Rattle.sedre.specs.declared.packed.Shape.TheVariants as shape
 use Rattle.sedre.specs.declared.types.Node.{Node}
 use Rattle.sedre.specs.declared.types.Node.TheVariants.{Empty, Set, Begin, End, Seq, Alt, Group, Star, Opt}
 
@@ -132,10 +128,6 @@ pub seen-arena : (back : Bool) (e : Written) → IsArena e.nodes → IsArena (se
 seen-arena true e arena = IsArena-mirror e.nodes arena
 seen-arena false e arena = arena
 
-pub seen-few : (back : Bool) (e : Written) → length e.nodes ≤ 65536 → length (seen back e).nodes ≤ 65536
-seen-few true e few = rw length-map few
-seen-few false e few = few
-
 pub seen-length : (back : Bool) (e : Written) → length (seen back e).nodes ≡ length e.nodes
 seen-length true e = length-map e.nodes mirror_node
 seen-length false e = refl
@@ -143,50 +135,3 @@ seen-length false e = refl
 pub seen-node : (back : Bool) (e : Written) (x : ℕ) (node : Node) → slice_get e.nodes x ≡ Some node → slice_get (seen back e).nodes x ≡ Some (node_seen back node)
 seen-node true e x node is = new_node e.nodes x node is
 seen-node false e x node is = is
-
-pub seen-tree : (e : Written) → tree (seen true e) ≡ mirror (tree e)
-seen-tree e = rw length-map (tree_at-mirror e.nodes (length e.nodes - 1))
-
--- what is kept of a mirrored node stands for the mirrored node
-node_of-mirror : (sets : List (List Bool)) (x : ℕ) (s : Shape) (left right : ℕ) → node_at sets x (mirror_kept s left right) ≡ mirror_node (node_of sets x s left right)
-node_of-mirror sets x shape.Empty left right = refl
-node_of-mirror sets x shape.Set left right = refl
-node_of-mirror sets x shape.Begin left right = refl
-node_of-mirror sets x shape.End left right = refl
-node_of-mirror sets x shape.Seq left right = refl
-node_of-mirror sets x shape.Alt left right = refl
-node_of-mirror sets x shape.Group left right = refl
-node_of-mirror sets x shape.FirstStar left right = refl
-node_of-mirror sets x shape.Star left right = refl
-node_of-mirror sets x shape.FirstOpt left right = refl
-node_of-mirror sets x shape.Opt left right = refl
-
-fits-mirror : (sets : List (List Bool)) (x : ℕ) (s : Shape) (left right : ℕ) → FitsShape sets x s left right → Fits sets x (mirror_kept s left right)
-fits-mirror sets x shape.Empty left right h = h
-fits-mirror sets x shape.Set left right h = h
-fits-mirror sets x shape.Begin left right h = h
-fits-mirror sets x shape.End left right h = h
-fits-mirror sets x shape.Seq left right h = (h.1, h.0)
-fits-mirror sets x shape.Alt left right h = h
-fits-mirror sets x shape.Group left right h = h
-fits-mirror sets x shape.FirstStar left right h = h
-fits-mirror sets x shape.Star left right h = h
-fits-mirror sets x shape.FirstOpt left right h = h
-fits-mirror sets x shape.Opt left right h = h
-
-pub node_at-seen : (back : Bool) (sets : List (List Bool)) (x : ℕ) (e : Entry) → node_at sets x (entry_seen back e) ≡ node_seen back (node_at sets x e)
-node_at-seen true sets x e = node_of-mirror sets x e.shape e.left e.right
-node_at-seen false sets x e = refl
-
-pub fits-seen : (back : Bool) (sets : List (List Bool)) (x : ℕ) (e : Entry) → Fits sets x e → Fits sets x (entry_seen back e)
-fits-seen true sets x e h = fits-mirror sets x e.shape e.left e.right h
-fits-seen false sets x e h = h
-
-as_it_is : (o : Option Node) → o ≡ option_map (node_seen false) o
-as_it_is None = refl
-as_it_is (Some node) = refl
-
--- the node seen, from the node there is
-pub some-seen : (back : Bool) (e : Written) (x : ℕ) (node : Node) → option_map (node_seen back) (slice_get e.nodes x) ≡ Some node → slice_get (seen back e).nodes x ≡ Some node
-some-seen true e x node is = slice_get-map mirror_node e.nodes x ∙ is
-some-seen false e x node is = as_it_is (slice_get e.nodes x) ∙ is

@@ -108,15 +108,3 @@ shifted d (node.Group k a) = node.Group k (id (a.index + d))
 shifted d (node.Star a first) = node.Star (id (a.index + d)) first
 shifted d (node.Opt a first) = node.Opt (id (a.index + d)) first
 shifted d other = other
-
--- what is kept of the mirrored node
-abbrev pub mirror_kept : Shape → ℕ → ℕ → Entry
-mirror_kept shape.Begin left right = entry shape.End left right
-mirror_kept shape.End left right = entry shape.Begin left right
-mirror_kept shape.Seq left right = entry shape.Seq right left
-mirror_kept other left right = entry other left right
-
--- what is kept of a node, or of the mirrored one
-abbrev pub entry_seen : Bool → Entry → Entry
-entry_seen true e = mirror_kept e.shape e.left e.right
-entry_seen false e = e

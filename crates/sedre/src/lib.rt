@@ -14,7 +14,6 @@ mod elements;
 mod intervals;
 mod items;
 pub mod laws;
-mod mirrored;
 mod packed;
 mod parts;
 mod reader;
@@ -28,7 +27,6 @@ mod types;
 
 pub use byte_set::ByteSet;
 pub use delimiter::delimited;
-pub use mirrored::Nodes;
 pub use reader::{read, read_folded};
 pub use steps::Steps;
 pub use table::Expr;

@@ -2,9 +2,8 @@
 ghost use Rattle.std.specs.Prelude.{◌≡◌, ◌≤◌, ◌<◌, ◌+◌, ◌-◌, ◌++◌, ◌∷◌, [], List, Bool, Some, IfOk, IfSome, OnOk};
 ghost use Rattle.std.specs.Prelude.{ℕ, length, map, take, drop, slice_get, vec_len};
 ghost use Rattle.sedre.specs.Packed.{node_at, nodes_from, Fits, FitFrom, star_shape, opt_shape, entry_of, HasNumber};
-ghost use Rattle.sedre.specs.Packed.{AddsSets, PartsBelow, numbered, shifted, entry_seen};
+ghost use Rattle.sedre.specs.Packed.{AddsSets, PartsBelow, numbered, shifted};
 ghost use Rattle.std.specs.Prelude.{option_map, true};
-ghost use Rattle.sedre.specs.Mirror.{node_seen};
 ghost use Rattle.sedre.specs.declared.types.Node.TheVariants.{Set};
 
 use crate::byte_set::ByteSet;
@@ -102,47 +101,6 @@ fn node_at(sets: &[ByteSet], at: usize, entry: Entry) -> Node
         Shape::FirstOpt => Node::Opt(right, true),
         Shape::Opt => Node::Opt(right, false),
     }
-}
-
-/// What is kept of the node, or of the mirrored node where it is to be `mirrored`.
-fn entry_seen(entry: Entry, mirrored: bool) -> Entry
-    ensures { result ≡ entry_seen mirrored entry }
-{
-    if mirrored { mirror_entry(entry) } else { entry }
-}
-
-/// What is kept of the mirrored node: the other anchor for an anchor, and two parts in the other order where they stand
-/// one after the other.
-fn mirror_entry(entry: Entry) -> Entry
-    ensures { result ≡ entry_seen true entry }
-{
-    let Entry { shape, left, right } = entry;
-    match shape {
-        Shape::Begin => Entry {
-            shape: Shape::End,
-            left,
-            right,
-        },
-        Shape::End => Entry {
-            shape: Shape::Begin,
-            left,
-            right,
-        },
-        Shape::Seq => Entry {
-            shape,
-            left: right,
-            right: left,
-        },
-        _ => entry,
-    }
-}
-
-/// The node that an entry at the index `at` stands for, or the mirrored node where it is to be `mirrored`.
-fn seen_at(sets: &[ByteSet], at: usize, entry: Entry, mirrored: bool) -> Node
-    requires { Fits sets.now at entry }
-    ensures { result ≡ node_seen mirrored (node_at sets.now at entry) }
-{
-    node_at(sets, at, entry_seen(entry, mirrored))
 }
 
 /// The number of a set, if it was added before and `numbers` leads to it. The set there is compared, so that nothing
@@ -293,14 +251,6 @@ impl Packed {
         ensures { slice_get self.now index ≡ Some result }
     {
         node_at(&self.sets, index, self.entries[index])
-    }
-
-    /// The node at an index, or the mirrored node where it is to be `mirrored`.
-    pub fn get_seen(&self, index: usize, mirrored: bool) -> Node
-        requires { index < length self.now }
-        ensures { option_map (node_seen mirrored) (slice_get self.now index) ≡ Some result }
-    {
-        seen_at(&self.sets, index, self.entries[index], mirrored)
     }
 
     /// Adds a node. It is kept as it is if its parts stand before it.

@@ -1,9 +1,7 @@
 //! Expressions as callers see them: nodes, each after its parts.
 ghost use Rattle.std.specs.Prelude.{◌≡◌, ◌<◌, ◌≤◌, ◌+◌, ℕ, Bool, List, Some, IfOk, length, slice_get};
 ghost use Rattle.sedre.specs.declared.types.Node.TheVariants.{Set};
-ghost use Rattle.std.specs.Prelude.{option_map};
 ghost use Rattle.sedre.specs.Arena.{Written, IsArena, IsExpr};
-ghost use Rattle.sedre.specs.Mirror.{node_seen};
 ghost use Rattle.sedre.specs.Steps.{Takes, Counted};
 
 use crate::byte_set::ByteSet;
@@ -105,16 +103,5 @@ impl Expr {
     {
         steps.add(1);
         self.nodes.get(id.index)
-    }
-
-    /// The node of an id, or the mirrored node where it is to be `mirrored`. This counts nothing: [`crate::Nodes`]
-    /// does.
-    pub(crate) fn seen(&self, id: NodeId, mirrored: bool) -> Node
-        requires { id.index < length self.now.nodes }
-        ensures node { option_map (node_seen mirrored) (slice_get self.now.nodes id.index) ≡ Some result }
-        ensures arena { IsArena self.now.nodes }
-        ensures few { length self.now.nodes ≤ 65536 }
-    {
-        self.nodes.get_seen(id.index, mirrored)
     }
 }
