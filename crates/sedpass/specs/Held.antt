@@ -1,3 +1,4 @@
+-- Private to the proofs: no contract that `sedmatch` makes public cites what stands here.
 -- What a contract sees of an expression that was copied into room made once.
 use Rattle.std.specs.Prelude.{ℕ}
 use Rattle.sedre.specs.Arena.{Written}
