@@ -24,7 +24,7 @@ use Rattle.sedtext.specs.Times.{FirstTimes}
 use Rattle.sedtext.specs.Word.{WordSpans, AllWord}
 use Rattle.sedtext.specs.declared.counted.few.Few.{Few}
 use Rattle.sedtext.specs.declared.needed.Literal.{Literal as Bytes}
-use Rattle.sedmatch.specs.Direct.{ComesFirst, StartsWith, RunsTo, FormSpans, SpannedAs, rate, IsDirect, CanStart, StartsFrom, FirstWith, FirstStart, FirstSpan}
+use Rattle.sedmatch.specs.Direct.{ComesFirst, StartsWith, RunsTo, FormSpans, SpannedAs, HasForm, IsDirect, CanStart, StartsFrom, FirstWith, FirstStart, FirstSpan}
 use Rattle.sedmatch.specs.declared.direct.First.{First}
 use Rattle.sedmatch.specs.declared.direct.First.TheVariants.{Among, Member}
 use Rattle.sedmatch.specs.declared.direct.DirectForm.{DirectForm}
@@ -193,11 +193,11 @@ all_word nodes x last l literal whole same is none w i j within =
     ))
 
 -- with no groups the form is that of the expression
-pub is_direct : {E : Type 0} (e : Written) (r : Result (Option DirectForm) E) → e.groups ≡ 0 → IfOk r (λ o. IfSome o (λ f. SpannedAs (tree e) f)) →
-    IfOk r (λ o. IfSome o (λ f. rate f ≤ 14 * length e.nodes)) → IfOk r (λ o. IfSome o (IsDirect e))
-is_direct e (Err x) none spans pays = tt
-is_direct e (Ok None) none spans pays = tt
-is_direct e (Ok (Some form)) none spans pays = (spans, none, pays)
+pub is_direct : {E : Type 0} (e : Written) (r : Result (Option DirectForm) E) → e.groups ≡ 0 → IfOk r (λ o. IfSome o (HasForm (tree e) (14 * length e.nodes))) →
+    IfOk r (λ o. IfSome o (IsDirect e))
+is_direct e (Err x) none has = tt
+is_direct e (Ok None) none has = tt
+is_direct e (Ok (Some form)) none has = (has.0, none, has.1)
 
 -- the byte that is sought
 pub first_few : (few : Few) (w : List ℕ) (p : ℕ) (r : Option ℕ) → FirstFew few w p r → FirstWith (Among few) w p r

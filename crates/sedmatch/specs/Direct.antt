@@ -56,6 +56,10 @@ abbrev pub rate : DirectForm → ℕ
 rate (Choice literals) = 42
 rate other = 4
 
+-- the spans of the expression are those of the form, for which there are so many looks at most for each byte that is passed
+abbrev pub HasForm : Tree → ℕ → DirectForm → Type 0
+HasForm e looks form = SpannedAs e form × (rate form ≤ looks)
+
 -- the expression is of this form: its spans are those of the form, it has no groups, and its nodes pay for the looks
 abbrev pub IsDirect : Written → DirectForm → Type 0
 IsDirect e form = SpannedAs (tree e) form × (e.groups ≡ 0) × (rate form ≤ 14 * length e.nodes)

@@ -14,7 +14,7 @@ ghost use Rattle.sedtext.specs.Bytes.{looked_at};
 ghost use Rattle.sedtext.specs.Costs.{Pays};
 ghost use Rattle.sedtext.specs.Spans.{SomeFound, IsIn};
 ghost use Rattle.sedmatch.specs.Candidates.{NoMatchBefore};
-ghost use Rattle.sedmatch.specs.Direct.{ComesFirst, FirstWith, FirstStart, FirstSpan, IsDirect, SpannedAs, StartsFrom, end_or, rate};
+ghost use Rattle.sedmatch.specs.Direct.{ComesFirst, FirstWith, FirstStart, FirstSpan, HasForm, IsDirect, StartsFrom, end_or, rate};
 ghost use Rattle.sedmatch.specs.declared.direct.DirectForm.TheVariants.{ByteThenRunAtEnd, Anchor as AnchorForm, OneByte, Run, ByteThenRun, RunThenByte, RunAtEnd, Times, Literal, Choice as ChoiceForm};
 
 use crate::word::{Word, word_of};
@@ -107,8 +107,7 @@ fn are_disjoint(these: &ByteSet, those: &ByteSet) -> bool
 
 /// How the matches of the expression look, if it is of anchors alone.
 fn anchor_form(expr: &Expr, steps: &mut Steps) -> Option<DirectForm>
-    ensures form { IfSome result (λ f. SpannedAs (tree expr.now) f) }
-    ensures rate { IfSome result (λ f. rate f ≤ 4) }
+    ensures form { IfSome result (HasForm (tree expr.now) 4) }
     ensures cost { Takes steps.old steps.new 3 }
 {
     match expr.look(expr.root(), steps) {
@@ -129,8 +128,7 @@ fn anchor_form(expr: &Expr, steps: &mut Steps) -> Option<DirectForm>
 fn both_anchors(expr: &Expr, a: NodeId, b: NodeId, steps: &mut Steps) -> Option<DirectForm>
     requires root { slice_get expr.now.nodes (length expr.now.nodes - 1) ≡ Some (Seq a b) }
     requires arena { IsArena expr.now.nodes }
-    ensures form { IfSome result (λ f. SpannedAs (tree expr.now) f) }
-    ensures rate { IfSome result (λ f. rate f ≤ 4) }
+    ensures form { IfSome result (HasForm (tree expr.now) 4) }
     ensures cost { Takes steps.old steps.new 2 }
 {
     match (expr.look(a, steps), expr.look(b, steps)) {
@@ -147,8 +145,7 @@ fn both_anchors(expr: &Expr, a: NodeId, b: NodeId, steps: &mut Steps) -> Option<
 fn run_then(expr: &Expr, a: NodeId, b: NodeId, steps: &mut Steps) -> Option<DirectForm>
     requires root { slice_get expr.now.nodes (length expr.now.nodes - 1) ≡ Some (Seq a b) }
     requires arena { IsArena expr.now.nodes }
-    ensures form { IfSome result (λ f. SpannedAs (tree expr.now) f) }
-    ensures rate { IfSome result (λ f. rate f ≤ 4) }
+    ensures form { IfSome result (HasForm (tree expr.now) 4) }
     ensures cost { Takes steps.old steps.new 4 }
 {
     let members = star_set(expr, a.index(), steps)?;
@@ -176,8 +173,7 @@ fn byte_then(
     requires root { slice_get expr.now.nodes (length expr.now.nodes - 1) ≡ Some (Seq parts.0 parts.1) }
     requires first { slice_get expr.now.nodes parts.0.index ≡ Some (Set set.now) }
     requires arena { IsArena expr.now.nodes }
-    ensures form { IfSome result (λ f. SpannedAs (tree expr.now) f) }
-    ensures rate { IfSome result (λ f. rate f ≤ 4) }
+    ensures form { IfSome result (HasForm (tree expr.now) 4) }
     ensures cost { Takes steps.old steps.new 5 }
 {
     match expr.look(parts.1, steps) {
@@ -206,8 +202,7 @@ fn byte_run_then(
     requires root { slice_get expr.now.nodes (length expr.now.nodes - 1) ≡ Some (Seq parts.0 parts.1) }
     requires first { slice_get expr.now.nodes parts.0.index ≡ Some (Seq inner.0 inner.1) }
     requires arena { IsArena expr.now.nodes }
-    ensures form { IfSome result (λ f. SpannedAs (tree expr.now) f) }
-    ensures rate { IfSome result (λ f. rate f ≤ 4) }
+    ensures form { IfSome result (HasForm (tree expr.now) 4) }
     ensures cost { Takes steps.old steps.new 5 }
 {
     let Node::End = expr.look(parts.1, steps) else {
@@ -224,8 +219,7 @@ fn byte_run_then(
 
 /// How the matches of the expression look, if they are of one byte, a run or both.
 fn run_form(expr: &Expr, steps: &mut Steps) -> Option<DirectForm>
-    ensures form { IfSome result (λ f. SpannedAs (tree expr.now) f) }
-    ensures rate { IfSome result (λ f. rate f ≤ 4) }
+    ensures form { IfSome result (HasForm (tree expr.now) 4) }
     ensures cost { Takes steps.old steps.new 7 }
 {
     let root = expr.root().index();
@@ -249,8 +243,7 @@ fn choice_form(
     expr: &Expr,
     steps: &mut Steps,
 ) -> Result<Option<DirectForm>, AllocError>
-    ensures form { IfOk result (λ r. IfSome r (λ f. SpannedAs (tree expr.now) f)) }
-    ensures rate { IfOk result (λ r. IfSome r (λ f. rate f ≤ 14 * length expr.now.nodes)) }
+    ensures form { IfOk result (λ r. IfSome r (HasForm (tree expr.now) (14 * length expr.now.nodes))) }
     ensures cost { Takes steps.old steps.new 1114144 }
 {
     if expr.nodes() < 3 {
@@ -264,8 +257,7 @@ fn choice_form(
 
 /// How the matches of the expression look, if a look at the text tells them.
 fn form_of(alloc: Global, expr: &Expr, steps: &mut Steps) -> Result<Option<DirectForm>, AllocError>
-    ensures form { IfOk result (λ r. IfSome r (λ f. SpannedAs (tree expr.now) f)) }
-    ensures rate { IfOk result (λ r. IfSome r (λ f. rate f ≤ 14 * length expr.now.nodes)) }
+    ensures form { IfOk result (λ r. IfSome r (HasForm (tree expr.now) (14 * length expr.now.nodes))) }
     ensures cost { Takes steps.old steps.new 1572914 }
 {
     let _some = expr.nodes();

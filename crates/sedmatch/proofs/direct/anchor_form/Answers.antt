@@ -9,11 +9,11 @@ returns-in-Begin-clause-form c =
     let nodes = c.args.expr.now.nodes in
     let last : length nodes - 1 ≡ c.root.result.index = omega arith in
     let is : slice_get nodes c.root.result.index ≡ Some Begin = cc in
-    form_begin nodes c.in-Begin.ensures.arena c.root.result.index (length nodes - 1) last is
+    (form_begin nodes c.in-Begin.ensures.arena c.root.result.index (length nodes - 1) last is, omega arith)
 
 pub returns-in-End-clause-form : goal.returns-in-End-clause-form
 returns-in-End-clause-form c =
     let nodes = c.args.expr.now.nodes in
     let last : length nodes - 1 ≡ c.root.result.index = omega arith in
     let is : slice_get nodes c.root.result.index ≡ Some End = cc in
-    form_end nodes c.in-End.ensures.arena c.root.result.index (length nodes - 1) last is
+    (form_end nodes c.in-End.ensures.arena c.root.result.index (length nodes - 1) last is, omega arith)

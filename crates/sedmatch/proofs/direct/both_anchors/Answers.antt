@@ -20,4 +20,4 @@ returns-in-Begin-End-clause-form c =
     let nodes = c.args.expr.now.nodes in
     let these : slice_get nodes c.args.a.index ≡ Some Begin = cc in
     let those : slice_get nodes c.args.b.index ≡ Some End = cc in
-    form_whole nodes c.requires.arena (length nodes - 1) (length nodes - 1) refl c.args.a c.args.b c.requires.root these those
+    (form_whole nodes c.requires.arena (length nodes - 1) (length nodes - 1) refl c.args.a c.args.b c.requires.root these those, omega arith)

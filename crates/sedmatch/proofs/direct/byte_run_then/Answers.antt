@@ -26,6 +26,8 @@ pub returns-in_ok-members-in-Set-clause-form : goal.returns-in_ok-members-in-Set
 returns-in_ok-members-in-Set-clause-form c =
     let nodes = c.args.expr.now.nodes in
     let there : slice_get nodes c.args.inner.0.index ≡ Some (Set c.in-Set.set) = cc in
-    let ends : slice_get nodes c.args.parts.1.index ≡ Some End = cc in
-    form_byte_run_then_end nodes c.requires.arena (length nodes - 1) (length nodes - 1) refl c.args.parts.0 c.args.parts.1 c.args.inner.0 c.args.inner.1 c.in-Set.set c.first_of.result c.index.result
-    c.in_ok-members-in-Set.members c.requires.root c.requires.first there c.index.ensures ends c.first_of.ensures c.in_ok-members-in-Set.ensures.repeats
+    let ends : slice_get nodes c.args.parts.1.index ≡ Some End = cc in (
+      form_byte_run_then_end nodes c.requires.arena (length nodes - 1) (length nodes - 1) refl c.args.parts.0 c.args.parts.1 c.args.inner.0 c.args.inner.1 c.in-Set.set c.first_of.result c.index.result
+          c.in_ok-members-in-Set.members c.requires.root c.requires.first there c.index.ensures ends c.first_of.ensures c.in_ok-members-in-Set.ensures.repeats,
+      omega arith,
+    )

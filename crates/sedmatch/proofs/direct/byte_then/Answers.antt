@@ -33,12 +33,16 @@ pub returns-in_ok-members-in-End-clause-form : goal.returns-in_ok-members-in-End
 returns-in_ok-members-in-End-clause-form c =
     let nodes = c.args.expr.now.nodes in
     let rest : slice_get nodes c.args.parts.1.index ≡ Some (Seq c.in-Seq.copies c.in-Seq.end) = cc in
-    let ends : slice_get nodes c.in-Seq.end.index ≡ Some End = cc in
-    form_byte_run_end nodes c.requires.arena (length nodes - 1) (length nodes - 1) refl c.args.parts.0 c.args.parts.1 c.in-Seq.copies c.in-Seq.end c.args.set.now c.first_of.result c.index.result c.in_ok-members-in-End.members
-    c.requires.root c.requires.first rest c.index.ensures ends c.first_of.ensures c.in_ok-members-in-End.ensures.repeats
+    let ends : slice_get nodes c.in-Seq.end.index ≡ Some End = cc in (
+      form_byte_run_end nodes c.requires.arena (length nodes - 1) (length nodes - 1) refl c.args.parts.0 c.args.parts.1 c.in-Seq.copies c.in-Seq.end c.args.set.now c.first_of.result c.index.result c.in_ok-members-in-End.members
+          c.requires.root c.requires.first rest c.index.ensures ends c.first_of.ensures c.in_ok-members-in-End.ensures.repeats,
+      omega arith,
+    )
 
 pub returns-in_ok-members-in_default-clause-form : goal.returns-in_ok-members-in_default-clause-form
 returns-in_ok-members-in_default-clause-form c =
-    let nodes = c.args.expr.now.nodes in
-    form_byte_run nodes c.requires.arena (length nodes - 1) (length nodes - 1) refl c.args.parts.0 c.args.parts.1 c.args.set.now c.first_of-in_default.result c.index-in_default.result c.in_ok-members-in_default.members
-    c.requires.root c.requires.first c.index-in_default.ensures c.first_of-in_default.ensures c.in_ok-members-in_default.ensures.repeats
+    let nodes = c.args.expr.now.nodes in (
+      form_byte_run nodes c.requires.arena (length nodes - 1) (length nodes - 1) refl c.args.parts.0 c.args.parts.1 c.args.set.now c.first_of-in_default.result c.index-in_default.result c.in_ok-members-in_default.members
+          c.requires.root c.requires.first c.index-in_default.ensures c.first_of-in_default.ensures c.in_ok-members-in_default.ensures.repeats,
+      omega arith,
+    )

@@ -5,4 +5,4 @@ use Rattle.std.proofs.Common.{◌≡◌, arith}
 pub returns-clause-form : goal.returns-clause-form
 returns-clause-form c =
     let none : c.args.expr.now.groups ≡ 0 = omega arith in
-    is_direct c.args.expr.now c.form_of.result none c.form_of.ensures.form c.form_of.ensures.rate
+    is_direct c.args.expr.now c.form_of.result none c.form_of.ensures.form

@@ -1,4 +1,4 @@
-use Rattle.std.proofs.Common.{◌≡◌, ◌-◌, length, Some, subst, sym, arith}
+use Rattle.std.proofs.Common.{◌≡◌, ◌-◌, length, Some, arith}
 use Rattle.std.specs.Prelude.{slice_get}
 use Rattle.sedre.specs.declared.types.Node.TheVariants.{Set, Seq}
 use Rattle.sedtext.proofs.NeededLemmas.{seq_below}
@@ -15,4 +15,4 @@ pub returns-in-Set-clause-form : goal.returns-in-Set-clause-form
 returns-in-Set-clause-form c =
     let last : length c.args.expr.now.nodes - 1 ≡ c.index-root.result = omega arith in
     let is : slice_get c.args.expr.now.nodes c.index-root.result ≡ Some (Set c.in-Set.set) = cc in
-    form_byte c.args.expr.now.nodes c.in-Set.ensures.arena c.index-root.result (length c.args.expr.now.nodes - 1) last c.in-Set.set c.first_of.result is c.first_of.ensures
+    (form_byte c.args.expr.now.nodes c.in-Set.ensures.arena c.index-root.result (length c.args.expr.now.nodes - 1) last c.in-Set.set c.first_of.result is c.first_of.ensures, omega arith)

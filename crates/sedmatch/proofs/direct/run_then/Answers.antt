@@ -18,12 +18,14 @@ look-requires c =
 pub returns-then-are_disjoint-clause-form : goal.returns-then-are_disjoint-clause-form
 returns-then-are_disjoint-clause-form c =
     let nodes = c.args.expr.now.nodes in
-    let there : slice_get nodes c.args.b.index ≡ Some (Set c.in-Set.set) = cc in
-    form_run_byte nodes c.requires.arena (length nodes - 1) (length nodes - 1) refl c.args.a c.args.b c.index.result c.in_ok-members.members c.in-Set.set c.first_of.result
-    c.requires.root c.index.ensures there c.in_ok-members.ensures.repeats c.first_of.ensures (c.are_disjoint.ensures c.if-are_disjoint.true)
+    let there : slice_get nodes c.args.b.index ≡ Some (Set c.in-Set.set) = cc in (
+      form_run_byte nodes c.requires.arena (length nodes - 1) (length nodes - 1) refl c.args.a c.args.b c.index.result c.in_ok-members.members c.in-Set.set c.first_of.result
+          c.requires.root c.index.ensures there c.in_ok-members.ensures.repeats c.first_of.ensures (c.are_disjoint.ensures c.if-are_disjoint.true),
+      omega arith,
+    )
 
 pub returns-in-End-clause-form : goal.returns-in-End-clause-form
 returns-in-End-clause-form c =
     let nodes = c.args.expr.now.nodes in
     let there : slice_get nodes c.args.b.index ≡ Some End = cc in
-    form_run_end nodes c.requires.arena (length nodes - 1) (length nodes - 1) refl c.args.a c.args.b c.index.result c.in_ok-members.members c.requires.root c.index.ensures there c.in_ok-members.ensures.repeats
+    (form_run_end nodes c.requires.arena (length nodes - 1) (length nodes - 1) refl c.args.a c.args.b c.index.result c.in_ok-members.members c.requires.root c.index.ensures there c.in_ok-members.ensures.repeats, omega arith)
