@@ -1,12 +1,11 @@
 -- An expression that is used once: the room for it, and what its searches cost.
-use Rattle.std.proofs.Common.{◌≡◌, ◌∙◌, ℕ, ◌+◌, ◌-◌, ◌*◌, ◌/◌, ◌<◌, ◌≤◌, length, vec_capacity, Option, Some, None, zero, suc, refl, sym, ap, subst, ⊎_elim, arith}
+use Rattle.std.proofs.Common.{◌≡◌, ◌∙◌, ℕ, ◌+◌, ◌-◌, ◌*◌, ◌/◌, ◌<◌, ◌≤◌, vec_capacity, Option, Some, None, zero, suc, sym, ap, subst, ⊎_elim, arith}
 use Rattle.std.proofs.lemmas.Bool.{cases_lt}
 use Rattle.std.proofs.Math.Nat.{mul-le-mul_left, mul-le-mul_right}
 use Rattle.std.specs.Prelude.{IfNone, IfSome}
 use Rattle.sedre.specs.Steps.{StepsWithin, Takes, TakesAtLeast}
-use Rattle.sedpass.specs.Decide.{HasSpace}
 use Rattle.sedpass.specs.Kept.{KeptRoom, SameSpace}
-use Rattle.sedpass.specs.Table.{IsAhead, IsRoomy, IsTable, SameRoom, SameShape}
+use Rattle.sedpass.specs.Table.{IsRoomy, IsTable, SameRoom, SameShape}
 use Rattle.sedpass.specs.declared.kept.Kept.{Kept}
 use Rattle.sedpass.specs.declared.nodes.Prepared.{Prepared}
 use Rattle.sedpass.specs.declared.rows.Work.{Work}

@@ -4,7 +4,6 @@ use Rattle.std.proofs.lemmas.Option.{same_Some, none-some}
 use Rattle.std.specs.Prelude.{slice_get}
 use Rattle.sedre.specs.Arena.{IsArena, IsExpr, IsPart, HasTwoParts, FollowsParts, GroupsWithin, tree_at, tree_within}
 use Rattle.sedre.specs.Tree.{empty, size}
-use Rattle.sedre.specs.declared.types.NodeId.{NodeId}
 use Rattle.sedre.specs.declared.types.Node.{Node}
 use Rattle.sedre.specs.declared.types.Node.TheVariants.{Empty, Set, Group}
 use Rattle.sedpass.specs.declared.nodes.Facts.{Facts}

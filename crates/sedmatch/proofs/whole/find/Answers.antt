@@ -3,7 +3,6 @@ use Rattle.sedre.specs.Arena.{Written, tree}
 use Rattle.sedre.specs.Steps.{Takes}
 use Rattle.sedtext.specs.Answer.{IsComputed, SpanAnswer}
 use Rattle.sedtext.specs.Caps.{IsReport}
-use Rattle.sedtext.specs.Spans.{Found}
 use Rattle.sedtext.proofs.MatchingLemmas.{found-iff, not_found-iff, report-iff}
 use Rattle.sedtext.proofs.PartLemmas.{report_lies}
 use Rattle.sedpass.proofs.CountLemmas.{least_since, least_up}

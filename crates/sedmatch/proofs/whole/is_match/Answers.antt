@@ -1,4 +1,4 @@
-use Rattle.std.proofs.Common.{◌≡◌, ◌↔◌, IsTrue, refl, subst}
+use Rattle.std.proofs.Common.{◌↔◌, IsTrue, refl, subst}
 use Rattle.sedre.specs.Arena.{Written, tree}
 use Rattle.sedtext.specs.Spans.{SomeFound}
 use Rattle.sedtext.proofs.MatchingLemmas.{same_test}
