@@ -5,7 +5,7 @@ abbrev pub invariant-loop-width : goal.invariant-loop-width
 invariant-loop-width l = record {
   least : 512 ≤ l.width;
   most : l.width ≤ 65536;
-  no_wider : 512 < l.width → l.width * l.width ≤ 4 * l.max_text;
+  no_wider : 512 < l.width → 16384 * l.width ≤ l.max_text;
 }
 
 abbrev pub decreases-loop-width : goal.decreases-loop-width
