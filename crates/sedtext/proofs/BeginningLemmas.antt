@@ -1,15 +1,16 @@
 -- How the spans of a node begin, by the part that stands first in it.
-use Rattle.std.proofs.Common.{◌≡◌, ℕ, ◌+◌, ◌<◌, ◌≤◌, Bool, false, List, Some, None, IsTrue, refl, sym, ◌∙◌, subst, inl, ⊎_elim, arith, ◌⊎◌, ◌||◌, inr, ap, Option, mul-le-mul_left, ◌*◌}
+use Rattle.std.proofs.Common.{length, ◌≡◌, ℕ, ◌+◌, ◌<◌, ◌≤◌, Bool, false, List, Some, None, IsTrue, refl, sym, ◌∙◌, subst, inl, ⊎_elim, arith, ◌⊎◌, ◌||◌, inr, ap, Option, mul-le-mul_left, ◌*◌}
 use Rattle.std.proofs.lemmas.Bool.{both_ways, cases_lt, or_left, or_right}
-use Rattle.sedtext.specs.declared.beginnings.Begins.TheVariants.{WithSet}
-use Rattle.std.proofs.lemmas.Option.{none-some}
+use Rattle.sedtext.specs.declared.beginnings.Begins.TheVariants.{WithByte, WithSet}
+use Rattle.std.proofs.lemmas.Option.{none-some, slice_get_within}
 use Rattle.std.specs.Prelude.{slice_get, slice_index_or}
 use Rattle.sedre.specs.Arena.{IsArena}
 use Rattle.sedre.specs.Sets.{has}
 use Rattle.sedre.specs.declared.types.Node.{Node}
 use Rattle.sedre.specs.declared.types.Node.TheVariants.{Empty, Set, Begin, End, Seq, Alt, Group, Star, Opt}
+use Rattle.sedtext.specs.Bytes.{FirstAt}
 use Rattle.sedtext.specs.Reach.{At}
-use Rattle.sedtext.specs.Beginnings.{CanBegin, left_part, LeafBegins, AllAt, IsLeftmost, alternatives}
+use Rattle.sedtext.specs.Beginnings.{CanBegin, NextStart, left_part, LeafBegins, AllAt, IsLeftmost, alternatives}
 use Rattle.sedtext.specs.declared.beginnings.Begins.{Begins}
 use Rattle.sedtext.proofs.ReachLemmas.{open_at}
 
@@ -143,3 +144,10 @@ pub turns_cost : (m turn s0 s1 s : ℕ) → turn ≤ 4 → s1 ≤ s0 + m → s +
 turns_cost m turn s0 s1 s few first before =
     let all = mul-le-mul_left (2 * m) few in
     omega (arith, all)
+
+-- the first place that holds the byte with which every span begins
+pub starts_with_byte : (w : List ℕ) (byte p : ℕ) (r : Option ℕ) → FirstAt w byte p r → NextStart (WithByte byte) w p r
+starts_with_byte w byte p None first = λ i low within begins. first i low begins
+starts_with_byte w byte p (Some k) first =
+    let inside = slice_get_within w k byte first.1 in
+    (first.0, omega (arith, inside), first.2)

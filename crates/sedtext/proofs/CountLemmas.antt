@@ -1,6 +1,7 @@
 -- Counts of steps that stay at the largest: how many looks there were at least.
-use Rattle.std.proofs.Common.{◌≡◌, ℕ, ◌+◌, ◌≤◌, arith}
+use Rattle.std.proofs.Common.{◌≡◌, ℕ, ◌+◌, ◌-◌, ◌≤◌, Option, None, Some, IfSome, arith}
 use Rattle.sedre.specs.Steps.{Counted, TakesAtLeast}
+use Rattle.sedtext.specs.Bytes.{looked_at}
 
 -- nothing is counted yet
 pub least_none : (s n : ℕ) → n ≡ 0 → TakesAtLeast s s n
@@ -39,3 +40,13 @@ least_counted s t n m is few = omega (arith, is, few)
 pub most_counted : (s t n : ℕ) → Counted s t n → t ≤ s + n
 unfolding Counted
 most_counted s t n is = omega (arith, is)
+
+-- a place that is found by looks at each byte from p on
+pub least_looked : (s t n p looks : ℕ) (r : Option ℕ) → Counted s t looks → looked_at n p r ≤ looks → IfSome r (λ k. TakesAtLeast s t (k - p))
+least_looked s t n p looks None is few = tt
+least_looked s t n p looks (Some k) is few = least_counted s t looks (k - p) is (omega (arith, few))
+
+-- and one that is found from a later place q on
+pub least_later : (s a b p q : ℕ) (r : Option ℕ) → TakesAtLeast s a (q - p) → IfSome r (λ k. TakesAtLeast a b (k - q)) → IfSome r (λ k. TakesAtLeast s b (k - p))
+least_later s a b p q None before after = tt
+least_later s a b p q (Some k) before after = least_both s a b (q - p) (k - q) (k - p) before after (omega arith)

@@ -1,5 +1,5 @@
 -- All occurrences in one text, one after another (XCU sed, "s/BRE/replacement/flags"): which span comes next, and where it lies.
-use Rattle.std.specs.Prelude.{ℕ, ◌+◌, ◌≤◌, List, length, Option, Some, None}
+use Rattle.std.specs.Prelude.{ℕ, ◌+◌, ◌-◌, ◌<◌, ◌≤◌, List, length, Option, Some, None}
 use Rattle.sedre.specs.Tree.{Tree}
 use Rattle.sedtext.specs.NextMatch.{next_match}
 use Rattle.sedtext.specs.Spans.{Spans}
@@ -25,3 +25,13 @@ LiesOn n last f = (f.0 ≤ f.1) × (f.1 ≤ n) × LiesAfter last (Some f)
 -- the span is one that the expression matches, and lies in the text, after the last occurrence
 abbrev pub Occurs : Tree → List ℕ → Option ℕ → ℕ × ℕ → Type 0
 Occurs e w last f = Spans e w f.0 f.1 × LiesOn (length w) last f
+
+-- the expression has a match that ends before the text does: so the search for one goes over the text from its beginning
+abbrev pub CanEndEarly : Tree → Type 0
+CanEndEarly e = (w : List ℕ) × (i : ℕ) × (j : ℕ) × (j < length w) × Spans e w i j
+
+-- how many bytes there are up to the end of an occurrence, or between the end of the last one, or the byte that is passed over there,
+-- and that end
+abbrev pub bytes_passed : Option ℕ → ℕ × ℕ → ℕ
+bytes_passed None f = f.1
+bytes_passed (Some q) f = f.1 - (q + 1)

@@ -1,6 +1,6 @@
 -- Private to the proofs: no contract that `sedmatch` makes public cites what stands here.
 -- A set repeated a fixed number of times: bytes of it one after another, always as many.
-use Rattle.std.specs.Prelude.{◌≡◌, ℕ, ◌+◌, ◌-◌, ◌<◌, ◌≤◌, ◌↔◌, Bool, List, length, slice_index, Option, Some, None}
+use Rattle.std.specs.Prelude.{◌≡◌, ℕ, ◌+◌, ◌<◌, ◌≤◌, ◌↔◌, Bool, List, length, slice_index, Option, Some, None}
 use Rattle.sedre.specs.declared.types.Node.{Node}
 use Rattle.sedtext.specs.Reach.{At}
 use Rattle.sedtext.specs.Spans.{IsIn}
@@ -29,11 +29,6 @@ AreWidths nodes members widths = (x : ℕ) → x < length widths → AllTimes no
 abbrev pub LastOutside : List Bool → List ℕ → ℕ → ℕ → Option ℕ → Type 0
 LastOutside members w p q None = Repeated members w p q
 LastOutside members w p q (Some k) = (p ≤ k) × (k < q) × (CanBegin (WithSet members) w k → ⊥) × Repeated members w (k + 1) q
-
--- how many bytes are looked at from the one before place q down to the place found, or to p where there is none
-abbrev pub looked_back : ℕ → ℕ → Option ℕ → ℕ
-looked_back p q None = q - p
-looked_back p q (Some k) = q - k
 
 -- the end of the `count` bytes found, or the end n of the text
 abbrev pub passed_times : ℕ → ℕ → Option ℕ → ℕ

@@ -1,10 +1,10 @@
 //! From which places a match can begin at all, so that the others are passed over.
-ghost use Rattle.std.specs.Prelude.{◌≡◌, ◌+◌, ◌*◌, ◌<◌, ◌≤◌, length, IfSome};
+ghost use Rattle.std.specs.Prelude.{◌≡◌, ◌+◌, ◌-◌, ◌*◌, ◌<◌, ◌≤◌, length, IfSome};
 ghost use Rattle.sedre.specs.Arena.{IsArena, tree};
 ghost use Rattle.sedtext.specs.declared.beginnings.Begins.TheVariants.{WithSet};
 ghost use Rattle.sedtext.specs.Beginnings.{AllBegin, AllAt, NextStart, skip_cost, left_part, LeafBegins, IsLeftmost, alternatives};
 ghost use Rattle.sedtext.specs.Costs.{Pays};
-ghost use Rattle.sedre.specs.Steps.{Takes};
+ghost use Rattle.sedre.specs.Steps.{Takes, TakesAtLeast};
 
 use crate::counted::Text;
 use crate::counted::members::find_member;
@@ -140,6 +140,7 @@ pub fn next_start(begins: &Begins, text: &Text, from: usize, steps: &mut Steps) 
     requires from { from ≤ length text.now }
     ensures next { NextStart begins.now text.now from result }
     ensures cost { Pays steps.old steps.new (skip_cost (length text.now) result) from }
+    ensures counts { IfSome result (λ k. TakesAtLeast steps.old steps.new (k - from)) }
 {
     match begins {
         Begins::Anyhow => Some(from),

@@ -1,7 +1,8 @@
 //! What all matches of an expression hold, by which places are passed over at which none begins: a literal, and the rarest
 //! bytes at fixed distances after their beginning.
-ghost use Rattle.std.specs.Prelude.{◌*◌, ◌≤◌, length, IfOk};
+ghost use Rattle.std.specs.Prelude.{◌-◌, ◌*◌, ◌≤◌, length, IfOk, IfSome};
 ghost use Rattle.sedre.specs.Arena.{tree};
+ghost use Rattle.sedre.specs.Steps.{TakesAtLeast};
 ghost use Rattle.sedre.specs.Tree.{Tree};
 ghost use Rattle.sedtext.specs.Beginnings.{AllBegin};
 ghost use Rattle.sedtext.specs.Costs.{Pays};
@@ -47,6 +48,7 @@ impl Hints {
         requires from { from ≤ length text.now }
         ensures place { (e : Tree) → AreHints e self.now → Narrowed e text.now from result }
         ensures cost { Pays steps.old steps.new (3 * length text.now) (3 * from) }
+        ensures counts { IfSome result (λ k. TakesAtLeast steps.old steps.new (k - from)) }
     {
         are_bytes(text);
         let place = narrowed(&self.needed, text, from, steps)?;

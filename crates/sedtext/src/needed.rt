@@ -1,13 +1,13 @@
 //! A literal that every match of an expression holds: a text without it has no match.
 //!
 //! A concatenation is followed from part to part, and single bytes that stand one after another in it are a literal.
-ghost use Rattle.std.specs.Prelude.{◌≡◌, ◌<◌, ◌≤◌, ◌⊎◌, length, IfOk, IfSome};
+ghost use Rattle.std.specs.Prelude.{◌≡◌, ◌-◌, ◌<◌, ◌≤◌, ◌⊎◌, length, IfOk, IfSome};
 ghost use Rattle.sedre.specs.Arena.{tree};
 ghost use Rattle.sedre.specs.Tree.{Tree};
 ghost use Rattle.sedtext.specs.Needed.{IsOfSet, LinksTo, IsLiteral, IsSole, AllHold, AllEndWith, IsNeeded, Narrowed};
 ghost use Rattle.sedtext.specs.Nodes.{IsNode};
 ghost use Rattle.sedtext.specs.Costs.{Pays};
-ghost use Rattle.sedre.specs.Steps.{Takes, Counted};
+ghost use Rattle.sedre.specs.Steps.{Takes, Counted, TakesAtLeast};
 
 use crate::counted::Text;
 use crate::counted::lookups::find_literal;
@@ -225,6 +225,7 @@ pub fn narrowed(
     ensures narrowed { (e : Tree) → IsNeeded e needed.now → Narrowed e text.now from result }
     ensures lies { IfSome result (λ q. (from ≤ q) × (q ≤ length text.now)) }
     ensures cost { Pays steps.old steps.new (length text.now) from }
+    ensures counts { IfSome result (λ q. TakesAtLeast steps.old steps.new (q - from)) }
 {
     match needed {
         None => Some(from),

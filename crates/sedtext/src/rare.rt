@@ -1,6 +1,6 @@
 //! A few bytes, one of which stands at a fixed distance after the beginning of every match: the rarest are sought, and the
 //! next rarest are compared with what stands there.
-ghost use Rattle.std.specs.Prelude.{ℕ, ◌+◌, ◌*◌, ◌<◌, ◌≤◌, ◌↔◌, ◌⊎◌, Some, length, IfSome, IsTrue};
+ghost use Rattle.std.specs.Prelude.{ℕ, ◌+◌, ◌-◌, ◌*◌, ◌<◌, ◌≤◌, ◌↔◌, ◌⊎◌, Some, length, IfSome, IsTrue};
 ghost use Rattle.sedre.specs.Arena.{tree, tree_at};
 ghost use Rattle.sedre.specs.Tree.{Tree};
 ghost use Rattle.sedtext.specs.Bytes.{looked_at};
@@ -10,7 +10,7 @@ ghost use Rattle.sedtext.specs.Spans.{IsIn};
 ghost use Rattle.sedtext.specs.Beginnings.{AllBegin};
 ghost use Rattle.sedtext.specs.Nodes.{IsNode};
 ghost use Rattle.sedtext.specs.Costs.{Pays};
-ghost use Rattle.sedre.specs.Steps.{Takes};
+ghost use Rattle.sedre.specs.Steps.{Takes, TakesAtLeast};
 
 use crate::beginnings::Begins;
 use crate::counted::Text;
@@ -83,6 +83,7 @@ impl Fixed {
         requires from { from ≤ length text.now }
         ensures first { FirstFixed self.now text.now from result }
         ensures cost { Takes steps.old steps.new (looked_at (length text.now) from result) }
+        ensures counts { IfSome result (λ k. TakesAtLeast steps.old steps.new (k + 1 - from)) }
     {
         if self.offset > text.len() - from {
             return None;
@@ -132,6 +133,7 @@ impl Rare {
         ensures within { result ≤ length text.now }
         ensures missed { RareNowhere self.now text.now from result }
         ensures cost { Pays steps.old steps.new (2 * result) (2 * from) }
+        ensures counts { TakesAtLeast steps.old steps.new (result - from) }
     {
         if !self.often {
             return from;
@@ -148,6 +150,7 @@ impl Rare {
         requires from { from ≤ length text.now }
         ensures first { FirstRare self.now text.now from result }
         ensures cost { Takes steps.old steps.new (2 * looked_at (length text.now) from result) }
+        ensures counts { IfSome result (λ k. TakesAtLeast steps.old steps.new (k - from)) }
     {
         let mut place = from;
         while let Some(start) = self.sought.find(text, place, steps) {
@@ -166,6 +169,7 @@ impl Rare {
         ensures first { FirstRare self.now text.now from result }
         ensures lies { IfSome result (λ k. k < length text.now) }
         ensures cost { Takes steps.old steps.new (2 * looked_at (length text.now) from result) }
+        ensures counts { IfSome result (λ k. TakesAtLeast steps.old steps.new (k - from)) }
     {
         let place = self.pass(text, from, steps);
         self.find_near(text, place, steps)

@@ -4,7 +4,7 @@
 //! The last of these bytes is looked at first. Where it isn't in the set, no match begins before it, and those before
 //! it aren't looked at: where such bytes are rare, most of a text is passed over unseen.
 ghost use Rattle.std.specs.Prelude.{◌≡◌, ◌+◌, ◌<◌, ◌≤◌, ◌-◌, length, Some, IfOk, IfSome, IsTrue};
-ghost use Rattle.sedtext.specs.Times.{SameBytes, AllTimes, AreWidths, LastOutside, FirstTimes, looked_back, passed_times};
+ghost use Rattle.sedtext.specs.Times.{SameBytes, AllTimes, AreWidths, LastOutside, FirstTimes, passed_times};
 ghost use Rattle.sedtext.specs.Costs.{Pays};
 ghost use Rattle.sedre.specs.Steps.{Takes, Counted, TakesAtLeast};
 
@@ -89,7 +89,8 @@ pub fn times_of(
     Ok(Some((set, widths[count - 1])))
 }
 
-/// The last place from `from` up to `to` whose byte isn't in the set, if there is one.
+/// The last place from `from` up to `to` whose byte isn't in the set, if there is one. The bytes before it count as looked at,
+/// since they are passed over.
 #[inline(always)]
 fn last_outside(
     set: &ByteSet,
@@ -102,11 +103,12 @@ fn last_outside(
     requires to { to ≤ length text.now }
     ensures last { LastOutside set.now text.now from to result }
     ensures cost { Pays steps.old steps.new to from }
-    ensures counts { TakesAtLeast steps.old steps.new (looked_back from to result) }
+    ensures counts { TakesAtLeast steps.old steps.new (to - from) }
 {
     for place in (from..to).rev() {
         let byte = text.byte(place, steps);
         if !set.has(byte) {
+            steps.add(place - from);
             return Some(place);
         }
     }
@@ -114,7 +116,7 @@ fn last_outside(
 }
 
 /// The first place from `from` on at which `count` bytes in a row begin that are in the set, if there is one.
-/// Counts at most a look for each byte from `from` to their end, and at least one for each of them.
+/// Counts a look for each byte from `from` to their end.
 #[inline(never)]
 pub fn find_times(
     set: &ByteSet,
@@ -126,7 +128,7 @@ pub fn find_times(
     requires from { from ≤ length text.now }
     ensures first { FirstTimes set.now count text.now from result }
     ensures cost { Pays steps.old steps.new (passed_times (length text.now) count result) from }
-    ensures counts { IfSome result (λ _. TakesAtLeast steps.old steps.new count) }
+    ensures counts { IfSome result (λ k. TakesAtLeast steps.old steps.new (k + count - from)) }
 {
     let mut start = from;
     let mut seen = from;

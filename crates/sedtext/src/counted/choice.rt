@@ -12,7 +12,7 @@ ghost use Rattle.sedtext.specs.Few.{Gathered, HasFew};
 ghost use Rattle.sedtext.specs.Openings.{PairAt};
 ghost use Rattle.sedtext.specs.Bytes.{looked_at};
 ghost use Rattle.sedtext.specs.Nodes.{IsNode};
-ghost use Rattle.sedre.specs.Steps.{Takes, Counted};
+ghost use Rattle.sedre.specs.Steps.{Takes, Counted, TakesAtLeast};
 
 use super::Text;
 use super::few::{Few, with_byte};
@@ -342,6 +342,7 @@ fn rare_choice(
     requires from { from ≤ length text.now }
     ensures first { FirstChoice literals.now text.now from result }
     ensures cost { Takes steps.old steps.new (21 * looked_at (length text.now) from result) }
+    ensures counts { IfSome result (λ k. TakesAtLeast steps.old steps.new (k - from)) }
 {
     let mut place = from;
     while let Some(at) = find_few(text, few, place, steps) {
@@ -359,6 +360,7 @@ impl Choice {
         requires from { from ≤ length text.now }
         ensures first { FirstChoice self.now text.now from result }
         ensures cost { Takes steps.old steps.new (22 * looked_at (length text.now) from result) }
+        ensures counts { IfSome result (λ k. TakesAtLeast steps.old steps.new (k - from)) }
     {
         let literals = &self.literals;
         match (&self.rare, &self.openings) {

@@ -1,6 +1,6 @@
-use Rattle.std.proofs.Common.{◌-◌, arith}
+use Rattle.std.proofs.Common.{◌+◌, ◌-◌, arith}
 use Rattle.sedtext.specs.Spans.{no_copy}
-use Rattle.sedtext.proofs.CountLemmas.{least_none, least_since, least_less, least_both}
+use Rattle.sedtext.proofs.CountLemmas.{least_none, least_both}
 use Rattle.sedtext.proofs.TimesLemmas.{times_missed, times_none, times_here}
 use Rattle.sedtext.proofs.times.find_times.Goals as goal
 
@@ -32,7 +32,7 @@ loop-start-preserved c =
       within = omega arith;
       grows = omega arith;
       cost = omega arith;
-      counts = least_since c.args.steps.now c.loop-start.steps c.last_outside.new.steps _ c.loop-start.invariant.grows (least_less _ _ _ _ c.in-Some.ensures.counts (omega arith));
+      counts = least_both c.args.steps.now c.loop-start.steps c.last_outside.new.steps (c.loop-start.seen - c.args.from) _ (c.loop-start.start + c.args.count - c.args.from) c.loop-start.invariant.counts c.last_outside.ensures.counts (omega arith);
       copies = last.3;
       missed = times_missed c.args.set.now c.args.count c.args.text.now c.args.from c.loop-start.start c.in-Some.place (omega (arith, last.0)) (omega (arith, last.1)) last.2 c.loop-start.invariant.missed;
     }
@@ -43,4 +43,4 @@ returns-clause-first c =
 
 pub returns-in-None-clause-counts : goal.returns-in-None-clause-counts
 returns-in-None-clause-counts c =
-    least_both c.args.steps.now c.loop-start.steps c.last_outside.new.steps (c.loop-start.seen - c.loop-start.start) _ c.args.count c.loop-start.invariant.counts c.in-None.ensures.counts (omega arith)
+    least_both c.args.steps.now c.loop-start.steps c.last_outside.new.steps (c.loop-start.seen - c.args.from) _ (c.loop-start.start + c.args.count - c.args.from) c.loop-start.invariant.counts c.last_outside.ensures.counts (omega arith)

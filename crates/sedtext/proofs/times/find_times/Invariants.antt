@@ -11,7 +11,7 @@ invariant-loop-start l = record {
   within : l.seen ≤ length l.text;
   grows : l.initial.steps ≤ l.steps;
   cost : l.steps + l.from ≤ l.initial.steps + l.seen;
-  counts : TakesAtLeast l.initial.steps l.steps (l.seen - l.start);
+  counts : TakesAtLeast l.initial.steps l.steps (l.seen - l.from);
   copies : Repeated l.set l.text l.start l.seen;
   missed : (h : ℕ) → l.from ≤ h → h < l.start → Repeated l.set l.text h (h + l.count) → ⊥;
 }

@@ -2,7 +2,7 @@ use Rattle.std.proofs.Common.{◌≡◌, ◌-◌, subst, arith}
 use Rattle.sedre.specs.Steps.{TakesAtLeast}
 use Rattle.sedtext.specs.Spans.{no_copy}
 use Rattle.sedtext.specs.Runs.{Repeated}
-use Rattle.sedtext.proofs.CountLemmas.{least_none, least_one}
+use Rattle.sedtext.proofs.CountLemmas.{least_none, least_one, least_both, least_counted}
 use Rattle.sedtext.proofs.TimesLemmas.{repeated_more}
 use Rattle.sedtext.proofs.times.last_outside.Goals as goal
 
@@ -43,4 +43,6 @@ returns-clause-counts c =
 
 pub returns-then-not-has-clause-counts : goal.returns-then-not-has-clause-counts
 returns-then-not-has-clause-counts c =
-    least_one c.args.steps.now c.loop-place.steps c.byte-byte.new.steps (c.args.to - c.loop-place.place) _ c.loop-place.invariant.counts c.byte-byte.ensures.counts (omega arith)
+    let looked = least_one c.args.steps.now c.loop-place.steps c.byte-byte.new.steps (c.args.to - c.loop-place.place) (c.args.to - (c.loop-place.place - 1)) c.loop-place.invariant.counts c.byte-byte.ensures.counts (omega arith) in
+    let passed = least_counted c.byte-byte.new.steps c.add.new.self _ (c.loop-place.place - 1 - c.args.from) c.add.ensures.counts (omega arith) in
+    least_both c.args.steps.now c.byte-byte.new.steps c.add.new.self _ _ _ looked passed (omega arith)

@@ -1,5 +1,6 @@
 use Rattle.std.proofs.Common.{length, subst, arith}
 use Rattle.sedtext.specs.Rare.{AllRare}
+use Rattle.sedtext.proofs.CountLemmas.{least_later}
 use Rattle.sedtext.proofs.RareLemmas.{rare_narrowed, rare_paid}
 use Rattle.sedtext.proofs.hints.Hints.first_place.Goals as goal
 
@@ -21,3 +22,6 @@ returns-in-Some-clause-cost c =
     let paid = rare_paid (length c.args.text.now) c.args.from c.in_ok-place.place c.args.steps.now c.narrowed.new.steps c.find.new.steps c.find.result
     lies.0 lies.1 c.find.ensures.lies c.in_ok-place.ensures.cost.1 c.find.ensures.cost.1 in
     (omega arith, omega (arith, paid))
+
+pub returns-in-Some-clause-counts : goal.returns-in-Some-clause-counts
+returns-in-Some-clause-counts c = least_later c.args.steps.now c.narrowed.new.steps c.find.new.steps c.args.from c.in_ok-place.place c.find.result c.in_ok-place.ensures.counts c.find.ensures.counts

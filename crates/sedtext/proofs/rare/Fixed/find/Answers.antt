@@ -1,4 +1,5 @@
-use Rattle.std.proofs.Common.{◌≡◌, None}
+use Rattle.std.proofs.Common.{◌≡◌, None, arith}
+use Rattle.sedtext.proofs.CountLemmas.{least_counted}
 use Rattle.sedtext.proofs.RareLemmas.{fixed_none, fixed_some}
 use Rattle.sedtext.proofs.rare.Fixed.find.Goals as goal
 
@@ -9,3 +10,6 @@ returns-in_err-place-clause-first c =
 
 pub returns-clause-first : goal.returns-clause-first
 returns-clause-first c = fixed_some c.args.self.now c.args.text.now c.args.from c.in_ok-place.place c.in_ok-place.ensures.first
+
+pub returns-clause-counts : goal.returns-clause-counts
+returns-clause-counts c = least_counted c.args.steps.now c.find_few.new.steps _ _ c.in_ok-place.ensures.counts (omega (arith, c.in_ok-place.ensures.first.0))

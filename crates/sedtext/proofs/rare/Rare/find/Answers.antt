@@ -1,4 +1,5 @@
 use Rattle.std.proofs.Common.{arith}
+use Rattle.sedtext.proofs.CountLemmas.{least_later}
 use Rattle.sedtext.proofs.RareLemmas.{rare_later, rare_lies, rare_looked}
 use Rattle.sedtext.proofs.rare.Rare.find.Goals as goal
 
@@ -14,3 +15,6 @@ returns-clause-cost c =
     let paid = rare_looked c.args.self.now c.args.text.now c.args.from c.pass-place.result c.args.steps.now c.pass-place.new.steps c.find_near.new.steps c.find_near.result
     c.pass-place.ensures.after c.pass-place.ensures.within c.find_near.ensures.first c.pass-place.ensures.cost.1 c.find_near.ensures.cost.1 in
     (omega arith, omega (arith, paid))
+
+pub returns-clause-counts : goal.returns-clause-counts
+returns-clause-counts c = least_later c.args.steps.now c.pass-place.new.steps c.find_near.new.steps c.args.from c.pass-place.result c.find_near.result c.pass-place.ensures.counts c.find_near.ensures.counts

@@ -1,4 +1,5 @@
-use Rattle.std.proofs.Common.{◌∙◌, sym, true≢false, arith}
+use Rattle.std.proofs.Common.{◌∙◌, ◌-◌, sym, true≢false, arith}
+use Rattle.sedtext.proofs.CountLemmas.{least_none, least_both, least_up}
 use Rattle.sedtext.proofs.RareLemmas.{fixed_inside, rare_lacks, rare_none, rare_some}
 use Rattle.sedtext.proofs.rare.Rare.find_near.Goals as goal
 
@@ -21,6 +22,8 @@ loop-start-preserved c =
       after = omega (arith, first.0);
       within = omega (arith, inside);
       cost = omega (arith, first.0, c.in-Some.ensures.cost.1);
+      counts = least_both c.args.steps.now c.loop-start.steps c.holds.new.steps (c.loop-start.place - c.args.from) _ _ c.loop-start.invariant.counts
+          (least_up c.loop-start.steps c.find.new.steps c.holds.new.steps _ c.in-Some.ensures.counts c.holds.ensures.cost.0) (omega (arith, first.0));
       missed = rw c.after-place.ensures (rare_lacks c.args.self.now c.args.text.now c.args.from c.loop-start.place c.loop-start.invariant.missed
           c.in-Some.start first (λ held. true≢false (sym (c.holds.ensures.holds.1 held) ∙ c.if-holds.false)));
     }
@@ -28,3 +31,23 @@ loop-start-preserved c =
 pub returns-clause-first : goal.returns-clause-first
 returns-clause-first c =
     rare_none c.args.self.now c.args.text.now c.args.from c.loop-start.place c.loop-start.invariant.missed c.in_default.ensures.first
+
+pub loop-start-init : goal.loop-start-init
+loop-start-init c = record {
+  grows = omega arith;
+  after = omega arith;
+  within = c.requires.from;
+  cost = omega arith;
+  counts = least_none c.args.steps.now (c.args.from - c.args.from) (omega arith);
+  missed = λ h low high. absurd (omega arith);
+}
+
+pub holds-requires : goal.holds-requires
+holds-requires c =
+    let inside = fixed_inside c.args.self.now.sought c.args.text.now c.in-Some.start c.in-Some.ensures.first.1 in
+    omega (arith, inside)
+
+pub returns-then-holds-clause-counts : goal.returns-then-holds-clause-counts
+returns-then-holds-clause-counts c =
+    let after = least_up c.loop-start.steps c.find.new.steps c.holds.new.steps _ c.in-Some.ensures.counts c.holds.ensures.cost.0 in
+    least_both c.args.steps.now c.loop-start.steps c.holds.new.steps (c.loop-start.place - c.args.from) _ _ c.loop-start.invariant.counts after (omega arith)

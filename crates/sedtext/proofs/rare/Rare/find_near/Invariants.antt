@@ -1,4 +1,5 @@
 use Rattle.std.proofs.Common.{◌+◌, ◌-◌, ◌*◌, ◌≤◌, length}
+use Rattle.sedre.specs.Steps.{TakesAtLeast}
 use Rattle.sedtext.specs.Rare.{RareNowhere}
 use Rattle.sedtext.proofs.rare.Rare.find_near.Given as goal
 
@@ -8,6 +9,7 @@ invariant-loop-start l = record {
   after : l.from ≤ l.place;
   within : l.place ≤ length l.text;
   cost : l.steps + 2 * l.from ≤ l.initial.steps + 2 * l.place;
+  counts : TakesAtLeast l.initial.steps l.steps (l.place - l.from);
   missed : RareNowhere l.self l.text l.from l.place;
 }
 

@@ -1,7 +1,17 @@
-use Rattle.std.proofs.Common.{subst}
+use Rattle.std.proofs.Common.{◌-◌, subst, arith}
 use Rattle.sedtext.specs.Rare.{HeldAt}
+use Rattle.sedtext.proofs.CountLemmas.{least_none, least_counted}
 use Rattle.sedtext.proofs.rare.Rare.pass.Goals as goal
 
 pub returns-in-Some-clause-missed : goal.returns-in-Some-clause-missed
 returns-in-Some-clause-missed c h low high at =
     c.pass_apart.ensures.apart h low high at.0 (subst (λ held. HeldAt held c.args.text.now h) c.in-Some.is at.1)
+
+pub returns-then-not-self-clause-counts : goal.returns-then-not-self-clause-counts
+returns-then-not-self-clause-counts c = least_none c.args.steps.now (c.args.from - c.args.from) (omega arith)
+
+pub returns-in-None-clause-counts : goal.returns-in-None-clause-counts
+returns-in-None-clause-counts c = least_none c.args.steps.now (c.args.from - c.args.from) (omega arith)
+
+pub returns-in-Some-clause-counts : goal.returns-in-Some-clause-counts
+returns-in-Some-clause-counts c = least_counted c.args.steps.now c.pass_apart.new.steps _ _ c.pass_apart.ensures.counts (omega arith)
