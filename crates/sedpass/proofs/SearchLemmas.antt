@@ -5,7 +5,7 @@ use Rattle.sedre.specs.Arena.{Written, IsArena, tree, tree_at}
 use Rattle.sedre.specs.Tree.{Tree}
 use Rattle.std.specs.Prelude.{IfSome, if◌then◌else◌}
 use Rattle.sedre.specs.Steps.{TakesAtLeast}
-use Rattle.sedpass.proofs.CountLemmas.{least_since}
+use Rattle.sedpass.proofs.CountLemmas.{least_both, least_fewer, least_since}
 use Rattle.sedtext.specs.Answer.{SpanAnswer}
 use Rattle.sedtext.specs.declared.starts.Starts.{Starts}
 use Rattle.sedtext.specs.Reach.{At, one_start, Longest, starts_to}
@@ -14,7 +14,7 @@ use Rattle.sedtext.specs.Spans.{Spans, Found, NotFound}
 use Rattle.sedtext.proofs.SpanLemmas.{Spans-forward, Spans-within}
 use Rattle.sedpass.specs.Kept.{AllMarked, CeasesAt, ends_told}
 use Rattle.sedpass.specs.Regions.{all_of, Reaches}
-use Rattle.sedpass.specs.Search.{TrialsAnswer, owed_kept, owed_search, search_cost}
+use Rattle.sedpass.specs.Search.{LooksFrom, LooksInTrials, TrialsAnswer, owed_kept, owed_search, search_cost}
 use Rattle.sedpass.specs.declared.kept.Region.{Region}
 use Rattle.sedpass.proofs.OwedLemmas.{owed_small}
 use Rattle.sedpass.specs.declared.search.Seeking.{Seeking}
@@ -342,10 +342,28 @@ later_answer e w from k (Some f) low none is =
 pub unbegun : (m n : ℕ) (s : Seeking) (place : ℕ) → s.begun ≡ false → owed_search m n s place ≡ 40 * m * (2 * n + 1 - s.tried) + 142 * m * (n - place)
 unbegun m n s place is = ap (λ b. if b then owed_kept m n s.kept.region place else 40 * m * (2 * n + 1 - s.tried) + 142 * m * (n - place)) is
 
--- and what was counted before counts too
-pub found_since : (s a b : ℕ) (r : Option (ℕ × ℕ)) → s ≤ a → IfSome r (λ f. TakesAtLeast a b (f.1 - f.0)) → IfSome r (λ f. TakesAtLeast s b (f.1 - f.0))
-found_since s a b None grows least = tt
-found_since s a b (Some f) grows least = least_since s a b (f.1 - f.0) grows least
+-- looks of trials up to the place where they ended
+pub looks_tired : (from k n s a : ℕ) (r : Trials) → TakesAtLeast s a (k - from) → (k ≤ n → r ≡ Tired k) × (n < k → r ≡ Nothing) → LooksInTrials from s a r
+looks_tired from k n s a r looks is =
+    ⊎_elim
+    (λ (late : n < k). subst (LooksInTrials from s a) (sym (is.1 late)) tt)
+    (λ (within : k ≤ n). subst (LooksInTrials from s a) (sym (is.0 within)) looks)
+    (cases_lt n k)
+
+-- looks up to a later place count too
+pub looks_later : (from k s a b : ℕ) (r : Option (ℕ × ℕ)) → TakesAtLeast s a (k - from) → LooksFrom k a b r → LooksFrom from s b r
+looks_later from k s a b None before after = tt
+looks_later from k s a b (Some f) before after = least_both s a b (k - from) (f.1 + 1 - k) (f.1 + 1 - from) before after (omega arith)
+
+-- those up to the end alone
+pub looks_to_end : (from s a : ℕ) (r : Option (ℕ × ℕ)) → LooksFrom from s a r → IfSome r (λ f. TakesAtLeast s a (f.1 - from))
+looks_to_end from s a None looks = tt
+looks_to_end from s a (Some f) looks = least_fewer s a (f.1 + 1 - from) (f.1 - from) (omega arith) looks
+
+-- and those of a search that went on one byte further
+pub looks_past : (at s a b : ℕ) (r : Option (ℕ × ℕ)) → s ≤ a → LooksFrom (at + 1) a b r → IfSome r (λ f. TakesAtLeast s b (f.1 - at))
+looks_past at s a b None grows after = tt
+looks_past at s a b (Some f) grows after = least_since s a b (f.1 - at) grows (least_fewer a b (f.1 + 1 - (at + 1)) (f.1 - at) (omega arith) after)
 
 -- What a search takes at most.
 

@@ -14,7 +14,8 @@ owed_behind m n s place = owed_search m n s place + 84 * m * (n + 1 - place)
 abbrev pub further_cost : ℕ → ℕ → ℕ → ℕ
 further_cost m n at = if nat_lt at n then search_cost m n (at + 1) else 0
 
--- the steps in which an occurrence is sought: in the square of the text's length at most, and one at least for each of its bytes
-pub record Looks (m n before after : ℕ) (r : Option (ℕ × ℕ)) : Type 0 where
+-- the steps in which an occurrence is sought from a place on: in the square of the text's length at most, and one at least for each
+-- byte from that place on up to its end
+pub record Looks (m n from before after : ℕ) (r : Option (ℕ × ℕ)) : Type 0 where
   pub once : Takes before after (64 * m * m * (n + 1) * (n + 1))
-  pub counts : IfSome r (λ f. TakesAtLeast before after (f.1 - f.0))
+  pub counts : IfSome r (λ f. TakesAtLeast before after (f.1 - from))

@@ -61,16 +61,21 @@ TrialsAnswer e w from (Hit i j) = Found e w from i j × (j ≤ length w)
 TrialsAnswer e w from Nothing = NotFound e w from
 TrialsAnswer e w from (Tired k) = (from < k) × (k ≤ length w) × NoneIn e w from k
 
--- a match found was looked at byte by byte
-abbrev pub LooksAtHit : ℕ → ℕ → Trials → Type 0
-LooksAtHit before after (Hit i j) = TakesAtLeast before after (j - i)
-LooksAtHit before after other = Unit {0}
+-- each byte from the place on up to a match's end was looked at, and one look more was made
+abbrev pub LooksFrom : ℕ → ℕ → ℕ → Option (ℕ × ℕ) → Type 0
+LooksFrom from before after r = IfSome r (λ f. TakesAtLeast before after (f.1 + 1 - from))
 
--- what is kept is right, and the answer is the match from the place on, which was looked at byte by byte
+-- so it is where trials found one, and each byte before the place that they came to was looked at
+abbrev pub LooksInTrials : ℕ → ℕ → ℕ → Trials → Type 0
+LooksInTrials from before after (Hit i j) = LooksFrom from before after (Some (i, j))
+LooksInTrials from before after (Tired k) = TakesAtLeast before after (k - from)
+LooksInTrials from before after Nothing = Unit {0}
+
+-- what is kept is right, and the answer is the match from the place on, up to whose end each byte was looked at
 pub record IsNext (p : Prepared) (w : List ℕ) (from : ℕ) (back : Table) (k : Kept) (before after : ℕ) (r : Option (ℕ × ℕ)) : Type 0 where
   pub kept : IsKept p w back k
   pub answer : SpanAnswer (tree p.arena.expr) w from r
-  pub counts : IfSome r (λ f. TakesAtLeast before after (f.1 - f.0))
+  pub counts : LooksFrom from before after r
 
 -- Costs, with m nodes in a text of n bytes.
 

@@ -197,7 +197,7 @@ impl Table {
         ensures longest { self.old.way.sweeps ≡ false → Longest (tree prepared.now.arena.expr) text.now from result.end }
         ensures found { IsTrue self.old.way.sweeps → IsTrue (is_some result.end) ↔ SomeFound (tree prepared.now.arena.expr) text.now from }
         ensures cost { Pays steps.old steps.new (40 * length prepared.now.arena.expr.nodes * (result.place + 1)) (40 * length prepared.now.arena.expr.nodes * from) }
-        ensures counts { TakesAtLeast steps.old steps.new (2 * (result.place - from)) }
+        ensures counts { TakesAtLeast steps.old steps.new (2 * (result.place - from) + 1) }
     {
         let kind = kind_of(from, text.len());
         let code = self.first(prepared, prepared.root, kind, work, steps);

@@ -1,17 +1,17 @@
 //! All occurrences in one text, one after another.
 //!
 //! A search for each occurrence, and one more a byte further on where the null string directly after an occurrence is passed over.
-ghost use Rattle.std.specs.Prelude.{◌≡◌, ℕ, false, Option, None, Some, ◌+◌, ◌-◌, ◌*◌, ◌<◌, ◌≤◌, length, nat_lt, if◌then◌else◌, IfSome, IsTrue};
+ghost use Rattle.std.specs.Prelude.{◌≡◌, ℕ, false, Option, None, Some, ◌+◌, ◌*◌, ◌<◌, ◌≤◌, length, nat_lt, if◌then◌else◌, IfSome, IsTrue};
 ghost use Rattle.sedtext.specs.Answer.{SpanAnswer};
 ghost use Rattle.sedtext.specs.Costs.{Pays};
 ghost use Rattle.sedtext.specs.Following.{LiesOn, next_span};
 ghost use Rattle.sedtext.specs.Matching.{found};
 ghost use Rattle.sedtext.specs.NextMatch.{unless_null_at};
 ghost use Rattle.sedre.specs.Arena.{tree};
-ghost use Rattle.sedre.specs.Steps.{Takes, TakesAtLeast};
+ghost use Rattle.sedre.specs.Steps.{Takes};
 ghost use Rattle.sedpass.specs.Kept.{KeptRoom};
 ghost use Rattle.sedpass.specs.Occurrences.{Looks, further_cost, owed_behind};
-ghost use Rattle.sedpass.specs.Search.{MaySearch, Searched, Serves, owed_after, owed_search};
+ghost use Rattle.sedpass.specs.Search.{LooksFrom, MaySearch, Searched, Serves, owed_after, owed_search};
 ghost use Rattle.sedpass.specs.Table.{IsTable};
 
 use crate::kept::Subject;
@@ -68,7 +68,7 @@ fn past_null(
     ensures cost { let m = length subject.entry.prepared.now.arena.expr.nodes in let n = length subject.entry.text.now in
         Pays steps.old steps.new (owed_search m n seeking.old (at + 1) + 42 * m) (owed_after (owed_search m n seeking.new) result) }
     ensures once { Takes steps.old steps.new (further_cost (length subject.entry.prepared.now.arena.expr.nodes) (length subject.entry.text.now) at) }
-    ensures counts { IfSome result (λ f. TakesAtLeast steps.old steps.new (f.1 - f.0)) }
+    ensures counts { LooksFrom (at + 1) steps.old steps.new result }
 {
     if at >= subject.text.len() {
         return None;
@@ -98,7 +98,7 @@ pub fn next_after(
     ensures lies { IfSome result (LiesOn (length subject.entry.text.now) (Some at)) }
     ensures cost { let m = length subject.entry.prepared.now.arena.expr.nodes in let n = length subject.entry.text.now in
         Pays steps.old steps.new (owed_behind m n seeking.old at) (owed_after (owed_behind m n seeking.new) result) }
-    ensures looks { Looks (length subject.entry.prepared.now.arena.expr.nodes) (length subject.entry.text.now) steps.old steps.new result }
+    ensures looks { Looks (length subject.entry.prepared.now.arena.expr.nodes) (length subject.entry.text.now) at steps.old steps.new result }
 {
     let first = next_match(subject, begins, ahead, back, seeking, at, steps);
     if !is_null_at(first, at) {

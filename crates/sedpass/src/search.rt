@@ -13,7 +13,7 @@ ghost use Rattle.sedre.specs.Steps.{Takes, TakesAtLeast};
 ghost use Rattle.sedpass.specs.declared.search.Trials.TheVariants.{Nothing, Tired};
 ghost use Rattle.sedpass.specs.Table.{IsAhead, IsTable, SameShape};
 ghost use Rattle.sedpass.specs.Kept.{IsKept, KeptRoom, owed};
-ghost use Rattle.sedpass.specs.Search.{IsNext, IsTrial, LooksAtHit, MaySearch, Searched, TablesStay, TrialsAnswer, trial_cost, trials_cost, trials_room, owed_kept, owed_search, owed_after, search_cost};
+ghost use Rattle.sedpass.specs.Search.{IsNext, IsTrial, LooksFrom, LooksInTrials, MaySearch, Searched, TablesStay, TrialsAnswer, trial_cost, trials_cost, trials_room, owed_kept, owed_search, owed_after, search_cost};
 
 use crate::kept::{Kept, Subject};
 use crate::nodes::kind_of;
@@ -72,7 +72,7 @@ fn try_next(
     ensures none { IfNone result (NotFound (tree subject.entry.prepared.now.arena.expr) subject.entry.text.now from) }
     ensures trial { IfSome result (IsTrial (tree subject.entry.prepared.now.arena.expr) subject.entry.text.now from) }
     ensures cost { Pays steps.old steps.new (trial_cost (length subject.entry.prepared.now.arena.expr.nodes) (length subject.entry.text.now) result) from }
-    ensures counts { IfSome result (λ t. TakesAtLeast steps.old steps.new (2 * (t.place - t.start))) }
+    ensures counts { IfSome result (λ t. TakesAtLeast steps.old steps.new (t.start - from + 2 * (t.place - t.start) + 1)) }
 {
     let start = next_start(begins, subject.text, from, steps)?;
     let bytes = subject.text.forwards();
@@ -115,7 +115,7 @@ fn try_all(
     ensures few { trials_room tried.new result ≤ max tried.old (length subject.entry.text.now / 8) + (length subject.entry.text.now + 1 - from) }
     ensures cost { let m = length subject.entry.prepared.now.arena.expr.nodes in
         Pays steps.old steps.new (40 * m * tried.new + trials_cost m (length subject.entry.text.now) result) (40 * m * tried.old + from) }
-    ensures counts { LooksAtHit steps.old steps.new result }
+    ensures counts { LooksInTrials from steps.old steps.new result }
 {
     let length = subject.text.len();
     let mut start = from;
@@ -220,7 +220,7 @@ pub fn next_match(
     ensures cost { let m = length subject.entry.prepared.now.arena.expr.nodes in let n = length subject.entry.text.now in
         Pays steps.old steps.new (owed_search m n seeking.old from + 42 * m) (owed_after (owed_search m n seeking.new) result) }
     ensures each { Takes steps.old steps.new (search_cost (length subject.entry.prepared.now.arena.expr.nodes) (length subject.entry.text.now) from) }
-    ensures counts { IfSome result (λ f. TakesAtLeast steps.old steps.new (f.1 - f.0)) }
+    ensures counts { LooksFrom from steps.old steps.new result }
 {
     if seeking.begun {
         return next_kept(subject, ahead, back, &mut seeking.kept, from, steps);

@@ -3,7 +3,7 @@ use Rattle.std.specs.Prelude.{nat_lt, if◌then◌else◌}
 use Rattle.sedre.specs.Arena.{tree}
 use Rattle.sedtext.specs.Matching.{found}
 use Rattle.sedpass.specs.Search.{owed_search}
-use Rattle.sedpass.proofs.SearchLemmas.{found_since}
+use Rattle.sedpass.proofs.SearchLemmas.{looks_past, looks_to_end}
 use Rattle.sedpass.proofs.OccurrenceLemmas.{answer_found, answer_lies, behind_paid, both_paid, both_square, lies_behind, lies_further, one_square, passed_by, search_falls}
 use Rattle.sedpass.proofs.occurrences.next_after.Goals as goal
 
@@ -39,7 +39,7 @@ returns-then-not-is_null_at-clause-looks c =
     let last = c.args.subject.prepared.now.is_prepared.last in
     let each = c.next_match-first.ensures.each in
     let most = one_square (length c.args.subject.prepared.now.arena.expr.nodes) (length c.args.subject.text.now) c.args.at (omega (arith, last)) in
-    record { once = (each.0, omega (arith, each.1, most)); counts = c.next_match-first.ensures.counts }
+    record { once = (each.0, omega (arith, each.1, most)); counts = looks_to_end c.args.at c.args.steps.now c.next_match-first.new.steps c.next_match-first.result c.next_match-first.ensures.counts }
 
 pub returns-clause-next : goal.returns-clause-next
 returns-clause-next c =
@@ -77,5 +77,5 @@ returns-clause-looks c =
     let most = both_square (length c.args.subject.prepared.now.arena.expr.nodes) (length c.args.subject.text.now) c.args.at (omega (arith, last)) c.requires.at in
     record {
       once = (omega (arith, one.0, two.0), omega (arith, one.1, two.1, most));
-      counts = found_since c.args.steps.now c.next_match-first.new.steps c.past_null.new.steps c.past_null.result one.0 c.past_null.ensures.counts;
+      counts = looks_past c.args.at c.args.steps.now c.next_match-first.new.steps c.past_null.new.steps c.past_null.result one.0 c.past_null.ensures.counts;
     }

@@ -1,5 +1,5 @@
 use Rattle.std.proofs.Common.{◌+◌, ◌-◌, ◌*◌, ◌≤◌, length, ap, ◌∙◌, arith}
-use Rattle.sedpass.proofs.CountLemmas.{least_fewer, least_since}
+use Rattle.sedpass.proofs.CountLemmas.{least_both, least_up}
 use Rattle.sedpass.proofs.KeptLemmas.{same_shape}
 use Rattle.sedpass.proofs.SearchLemmas.{begins_some, kept_cost, kept_found, kept_none, none_cost}
 use Rattle.sedpass.proofs.search.next_kept.Goals as goal
@@ -34,8 +34,8 @@ returns-clause-next c =
     record {
       kept = c.cut-end.ensures.kept;
       answer = (found, tt, (on, omega (arith, stop, c.seek-start.ensures.same.end, region.inside)));
-      counts = least_since c.args.steps.now c.begins_there.new.steps c.cut-end.new.steps (c.cut-end.result - c.seek-start.result) (omega (arith, seek, null))
-          (least_fewer c.begins_there.new.steps c.cut-end.new.steps (2 * (c.cut-end.result - c.seek-start.result) + 1) (c.cut-end.result - c.seek-start.result) (omega arith) c.cut-end.ensures.counts);
+      counts = least_both c.args.steps.now c.begins_there.new.steps c.cut-end.new.steps (c.seek-start.result - c.args.from) (2 * (c.cut-end.result - c.seek-start.result) + 1) (c.cut-end.result + 1 - c.args.from)
+          (least_up c.args.steps.now c.seek-start.new.steps c.begins_there.new.steps (c.seek-start.result - c.args.from) c.seek-start.ensures.counts null.0) c.cut-end.ensures.counts (omega (arith, on));
     }
 
 pub returns-clause-tables : goal.returns-clause-tables

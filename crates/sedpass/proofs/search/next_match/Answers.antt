@@ -2,7 +2,7 @@ use Rattle.std.proofs.Common.{◌≡◌, ◌≤◌, false, length, arith}
 use Rattle.sedre.specs.Arena.{tree}
 use Rattle.sedtext.proofs.SpanLemmas.{Spans-forward}
 use Rattle.sedpass.specs.Search.{owed_kept}
-use Rattle.sedpass.proofs.SearchLemmas.{begun_each, found_since, hit_cost, hit_each, kept_small, later_answer, nothing_cost, nothing_each, tired_cost, tired_each, unbegun}
+use Rattle.sedpass.proofs.SearchLemmas.{begun_each, hit_cost, hit_each, kept_small, later_answer, looks_later, nothing_cost, nothing_each, tired_cost, tired_each, unbegun}
 use Rattle.sedpass.proofs.search.next_match.Goals as goal
 
 pub returns-then-seeking-clause-each : goal.returns-then-seeking-clause-each
@@ -104,4 +104,6 @@ returns-in-Tired-clause-each c =
     )
 
 pub returns-in-Tired-clause-counts : goal.returns-in-Tired-clause-counts
-returns-in-Tired-clause-counts c = found_since c.args.steps.now c.try_all.new.steps _ c.next_begun-in-Tired.result c.in-Tired.ensures.cost.0 c.next_begun-in-Tired.ensures.next.counts
+returns-in-Tired-clause-counts c =
+    let answer = c.in-Tired.ensures.answer in
+    looks_later c.args.from c.in-Tired.start c.args.steps.now c.try_all.new.steps c.next_begun-in-Tired.new.steps c.next_begun-in-Tired.result c.in-Tired.ensures.counts c.next_begun-in-Tired.ensures.next.counts

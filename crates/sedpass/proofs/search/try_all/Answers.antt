@@ -1,10 +1,11 @@
-use Rattle.std.proofs.Common.{◌≡◌, ◌+◌, ◌-◌, ◌*◌, ◌≤◌, ℕ, length, Option, None, Some, subst, sym, arith}
+use Rattle.std.proofs.Common.{◌≡◌, ◌+◌, ◌-◌, ◌*◌, ◌≤◌, ℕ, length, Option, None, Some, refl, subst, sym, arith}
 use Rattle.sedtext.specs.Reach.{Longest}
 use Rattle.sedre.specs.Arena.{tree}
 use Rattle.sedtext.proofs.SpanLemmas.{Spans-forward, Spans-within}
 use Rattle.std.specs.Prelude.{IfSome}
-use Rattle.sedpass.proofs.CountLemmas.{least_fewer, least_since}
-use Rattle.sedpass.proofs.SearchLemmas.{found_at, hit_paid, hit_room, none_more, none_on, tired_answer}
+use Rattle.sedpass.proofs.CountLemmas.{least_none, least_both}
+use Rattle.sedpass.proofs.KeptLemmas.{same_shape}
+use Rattle.sedpass.proofs.SearchLemmas.{found_at, hit_paid, hit_room, looks_tired, none_more, none_on, tired_answer}
 use Rattle.sedpass.proofs.search.try_all.Goals as goal
 
 pub returns-in-Some-end-clause-answer : goal.returns-in-Some-end-clause-answer
@@ -66,5 +67,47 @@ returns-in-Some-end-clause-counts c =
     let t = c.in-Some.trial in
     let is = c.in-Some.ensures.trial in
     let reached : c.in-Some-end.end ≤ t.place = subst (λ (o : Option ℕ). IfSome o (λ j. j ≤ t.place)) c.in-Some-end.is is.reached in
-    least_since c.args.steps.now c.loop-start.steps c.try_next.new.steps (c.in-Some-end.end - t.start) c.loop-start.invariant.grows
-    (least_fewer c.loop-start.steps c.try_next.new.steps (2 * (t.place - t.start)) (c.in-Some-end.end - t.start) (omega (arith, reached)) c.in-Some.ensures.counts)
+    least_both c.args.steps.now c.loop-start.steps c.try_next.new.steps (c.loop-start.start - c.args.from) (t.start - c.loop-start.start + 2 * (t.place - t.start) + 1) (c.in-Some-end.end + 1 - c.args.from)
+    c.loop-start.invariant.counts c.in-Some.ensures.counts (omega (arith, reached, is.after, is.passed))
+
+pub returns-then-tried-length-clause-counts : goal.returns-then-tried-length-clause-counts
+returns-then-tried-length-clause-counts c =
+    let t = c.in-Some.trial in
+    let is = c.in-Some.ensures.trial in
+    let looks = least_both c.args.steps.now c.loop-start.steps c.try_next.new.steps (c.loop-start.start - c.args.from) (t.start - c.loop-start.start + 2 * (t.place - t.start) + 1) (t.start + 1 - c.args.from)
+    c.loop-start.invariant.counts c.in-Some.ensures.counts (omega (arith, is.after)) in
+    looks_tired c.args.from (t.start + 1) c.len-length.result c.args.steps.now c.try_next.new.steps c.tired_at.result looks c.tired_at.ensures
+
+pub loop-start-init : goal.loop-start-init
+loop-start-init c = record {
+  ahead = c.requires.ahead;
+  ahead_shape = (refl, refl, refl, refl, refl);
+  none = λ h k low high. absurd (omega arith);
+  after = omega arith;
+  within = omega arith;
+  few = omega arith;
+  grows = omega arith;
+  counts = least_none c.args.steps.now (c.args.from - c.args.from) (omega arith);
+  cost = omega arith;
+}
+
+pub loop-start-preserved : goal.loop-start-preserved
+loop-start-preserved c =
+    let e = c.args.subject.prepared.now.arena.expr in
+    let w = c.args.subject.text.now in
+    let t = c.in-Some.trial in
+    let is = c.in-Some.ensures.trial in
+    let i = c.loop-start.invariant in
+    let none : t.end ≡ None = cc in
+    record {
+      ahead = c.in-Some.ensures.ahead;
+      ahead_shape = same_shape c.args.ahead.now c.loop-start.ahead c.try_next.new.ahead i.ahead_shape c.in-Some.ensures.ahead_shape;
+      none = none_more e w c.args.from t.start (none_on e w c.args.from c.loop-start.start t.start i.none is.none) (subst (Longest (tree e) w t.start) none is.longest);
+      after = omega (arith, i.after, is.after);
+      within = omega (arith, is.passed, is.within);
+      few = omega (arith, c.if-tried-length.false, c.len-length.ensures.is);
+      grows = omega (arith, i.grows, c.in-Some.ensures.cost);
+      counts = least_both c.args.steps.now c.loop-start.steps c.try_next.new.steps (c.loop-start.start - c.args.from) (t.start - c.loop-start.start + 2 * (t.place - t.start) + 1) (t.start + 1 - c.args.from)
+          i.counts c.in-Some.ensures.counts (omega (arith, is.after));
+      cost = omega (arith, i.cost, c.in-Some.ensures.cost.1);
+    }

@@ -1,6 +1,7 @@
 use Rattle.std.proofs.Common.{◌+◌, ◌-◌, ◌*◌, ◌/◌, ◌≤◌, max, length}
 use Rattle.sedtext.specs.Beginnings.{NoneIn}
 use Rattle.sedre.specs.Arena.{tree}
+use Rattle.sedre.specs.Steps.{TakesAtLeast}
 use Rattle.sedpass.specs.Table.{IsAhead, SameShape}
 use Rattle.sedpass.proofs.search.try_all.Given as goal
 
@@ -13,6 +14,7 @@ invariant-loop-start l = record {
   within : l.start ≤ length l.subject.text.now + 1;
   few : l.tried ≤ max l.initial.tried (length l.subject.text.now / 8);
   grows : l.initial.steps ≤ l.steps;
+  counts : TakesAtLeast l.initial.steps l.steps (l.start - l.from);
   cost : l.steps + (40 * length l.subject.prepared.now.arena.expr.nodes * l.initial.tried + l.from)
       ≤ l.initial.steps + (40 * length l.subject.prepared.now.arena.expr.nodes * l.tried + l.start);
 }

@@ -33,7 +33,7 @@ loop-at-init c =
       passes = c.arrive-at.ensures.passes (subst (λ (x : Way). x.keeps ≡ false) (sym way) c.requires.keeps) from (omega arith) c.requires.from names (none_before p S.way w from);
       grown = cost.0;
       cost = omega (arith, cost, ap (λ x. 40 * m * (x + 1)) here);
-      counts = least_fewer c.args.steps.now c.first-code.new.steps 1 (2 * (c.arrive-at.result.place - from)) (omega (arith, here)) c.first-code.ensures.counts;
+      counts = least_fewer c.args.steps.now c.first-code.new.steps 1 (2 * (c.arrive-at.result.place - from) + 1) (omega (arith, here)) c.first-code.ensures.counts;
     }
 
 pub loop-at-preserved : goal.loop-at-preserved
@@ -52,7 +52,7 @@ loop-at-preserved c =
       passes = go.passes (subst (λ (x : Way). x.keeps ≡ false) (sym i.shape.0) c.requires.keeps) c.args.from i.passes;
       grown = omega (arith, grown, cost);
       cost = omega (arith, before, cost);
-      counts = least_both c.args.steps.now c.loop-at.steps c.go_on-at.new.steps (2 * (c.loop-at.at.place - c.args.from)) (2 * (c.go_on-at.result.place - c.loop-at.at.place)) (2 * (c.go_on-at.result.place - c.args.from)) i.counts go.counts (omega (arith, after, moved));
+      counts = least_both c.args.steps.now c.loop-at.steps c.go_on-at.new.steps (2 * (c.loop-at.at.place - c.args.from) + 1) (2 * (c.go_on-at.result.place - c.loop-at.at.place)) (2 * (c.go_on-at.result.place - c.args.from) + 1) i.counts go.counts (omega (arith, after, moved));
     }
 
 pub returns-else-at-len-clause-longest : goal.returns-else-at-len-clause-longest

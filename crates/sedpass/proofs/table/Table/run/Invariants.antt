@@ -12,7 +12,7 @@ invariant-loop-at l = record {
   passes : PassIs l.prepared l.self l.text l.from l.at;
   grown : l.fn.steps ≤ l.steps;
   cost : l.steps + 40 * length l.prepared.arena.expr.nodes * l.from ≤ l.fn.steps + 40 * length l.prepared.arena.expr.nodes * (l.at.place + 1);
-  counts : TakesAtLeast l.fn.steps l.steps (2 * (l.at.place - l.from));
+  counts : TakesAtLeast l.fn.steps l.steps (2 * (l.at.place - l.from) + 1);
 }
 
 abbrev pub decreases-loop-at : goal.decreases-loop-at
