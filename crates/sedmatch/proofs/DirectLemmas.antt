@@ -3,7 +3,7 @@ use Rattle.std.proofs.Common.{◌≡◌, ℕ, max, min, ◌+◌, ◌-◌, ◌*�
 use Rattle.std.specs.Prelude.{slice_get, IfOk, IfSome, is_some}
 use Rattle.std.proofs.lemmas.Bool.{cases_lt}
 use Rattle.std.proofs.lemmas.Option.{slice_get_within}
-use Rattle.sedre.specs.Tree.{set}
+use Rattle.sedre.specs.Tree.{Tree, set}
 use Rattle.sedre.specs.Arena.{IsArena, Written, tree, tree_at}
 use Rattle.sedre.specs.declared.types.Node.{Node}
 use Rattle.sedre.specs.declared.types.NodeId.{NodeId}
@@ -13,6 +13,7 @@ use Rattle.sedtext.specs.Answer.{SpanAnswer}
 use Rattle.sedtext.specs.Beginnings.{CanBegin, NextStart}
 use Rattle.sedtext.specs.Bytes.{AreBytes, looked_at}
 use Rattle.sedtext.specs.Costs.{Pays}
+use Rattle.sedtext.specs.Following.{CanEndEarly}
 use Rattle.sedtext.specs.Reach.{At}
 use Rattle.sedtext.specs.Runs.{Repeated, AllRepeat, IsRun, RunBegins}
 use Rattle.sedtext.specs.Spans.{Spans, SomeFound, IsIn, no_copy}
@@ -24,15 +25,16 @@ use Rattle.sedtext.specs.Times.{FirstTimes}
 use Rattle.sedtext.specs.Word.{WordSpans, AllWord}
 use Rattle.sedtext.specs.declared.counted.few.Few.{Few}
 use Rattle.sedtext.specs.declared.needed.Literal.{Literal as Bytes}
-use Rattle.sedmatch.specs.Direct.{ComesFirst, StartsWith, RunsTo, FormSpans, SpannedAs, HasForm, IsDirect, CanStart, StartsFrom, FirstWith, FirstStart, FirstSpan}
+use Rattle.sedmatch.specs.Direct.{ComesFirst, EndsText, StartsWith, RunsTo, FormSpans, SpannedAs, HasForm, IsDirect, CanStart, StartsFrom, FirstWith, FirstStart, FirstSpan, looked_for}
+use Rattle.sedmatch.specs.declared.direct.Anchor.{Anchor as Anchors}
 use Rattle.sedmatch.specs.declared.direct.First.{First}
 use Rattle.sedmatch.specs.declared.direct.First.TheVariants.{Among, Member}
 use Rattle.sedmatch.specs.declared.direct.DirectForm.{DirectForm}
 use Rattle.sedmatch.specs.declared.direct.DirectForm.TheVariants.{Anchor, OneByte, Run, ByteThenRun, RunThenByte, RunAtEnd, ByteThenRunAtEnd, Times, Literal, Choice}
 use Rattle.sedtext.proofs.ReachLemmas.{open_at, close_at}
 use Rattle.sedtext.proofs.RunLemmas.{run_longest}
-use Rattle.sedtext.proofs.SpanLemmas.{Copies-forward}
-use Rattle.sedtext.proofs.CountLemmas.{least_counted, least_none, least_up}
+use Rattle.sedtext.proofs.SpanLemmas.{Copies-forward, Spans-forward}
+use Rattle.sedtext.proofs.CountLemmas.{least_counted, least_less, least_none, least_up}
 use Rattle.sedtext.proofs.TimesLemmas.{repeated_cut, repeated_in}
 
 -- what comes first, where its bytes are those of the set
@@ -411,9 +413,76 @@ span_lies form w p None none = tt
 span_lies form w p (Some f) span = (span.0.0, ends_on form w f.0 f.1 span.1.0, span.1.1)
 
 -- the null string takes no look
-pub null_counts : (s : ℕ) (r : Option (ℕ × ℕ)) → IfSome r (λ f. f.1 ≡ f.0) → IfSome r (λ f. TakesAtLeast s s (f.1 - f.0))
-null_counts s None null = tt
-null_counts s (Some f) null = least_none s (f.1 - f.0) (omega (arith, null))
+pub null_counts : (s : ℕ) (anchors : Anchors) (p : ℕ) (r : Option (ℕ × ℕ)) → IfSome r (λ f. TakesAtLeast s s (looked_for (Anchor anchors) p f))
+null_counts s anchors p None = tt
+null_counts s anchors p (Some f) = least_none s 0 refl
+
+-- how many bytes of a match are looked at
+looked_bytes : (form : DirectForm) (w : List ℕ) (p i j : ℕ) → FirstSpan form w p (Some (i, j)) → j - i ≤ looked_for form p (i, j)
+looked_bytes (Anchor anchors) w p i j span = omega (arith, span.1.0.1)
+looked_bytes (OneByte first) w p i j span = omega (arith, span.0.0)
+looked_bytes (Run members) w p i j span = omega (arith, span.0.0)
+looked_bytes (ByteThenRun first members) w p i j span = omega (arith, span.0.0)
+looked_bytes (RunThenByte members last) w p i j span = omega (arith, span.0.0)
+looked_bytes (RunAtEnd members) w p i j span = omega arith
+looked_bytes (ByteThenRunAtEnd first members) w p i j span = omega arith
+looked_bytes (Times members count) w p i j span = omega (arith, span.0.0)
+looked_bytes (Literal literal) w p i j span = omega (arith, span.0.0)
+looked_bytes (Choice literals) w p i j span = omega (arith, span.0.0)
+
+-- anchors that hold anywhere but at the end hold where they are sought
+anchored : (anchors : Anchors) (w : List ℕ) (p i : ℕ) → (IsTrue anchors.at_end → ⊥) → FirstStart (Anchor anchors) w p (Some i) → i ≤ p
+anchored anchors w p i free first =
+    ⊎_elim
+    (λ (later : p < i). absurd (first.3 p (omega arith) later ((λ start. let zero = first.2.0 start in omega (arith, zero, later)), (λ end. absurd (free end)))))
+    (λ (here : i ≤ p). here)
+    (cases_lt p i)
+
+-- and how many from the place on from which it is sought
+bytes_from : (form : DirectForm) (w : List ℕ) (p i j : ℕ) → (EndsText form → ⊥) → FirstSpan form w p (Some (i, j)) → j - p ≤ looked_for form p (i, j)
+bytes_from (Anchor anchors) w p i j free span = let low = anchored anchors w p i free span.0 in omega (arith, low, span.1.0.1)
+bytes_from (OneByte first) w p i j free span = omega arith
+bytes_from (Run members) w p i j free span = omega arith
+bytes_from (ByteThenRun first members) w p i j free span = omega arith
+bytes_from (RunThenByte members last) w p i j free span = omega arith
+bytes_from (RunAtEnd members) w p i j free span = absurd (free tt)
+bytes_from (ByteThenRunAtEnd first members) w p i j free span = absurd (free tt)
+bytes_from (Times members count) w p i j free span = omega arith
+bytes_from (Literal literal) w p i j free span = omega arith
+bytes_from (Choice literals) w p i j free span = omega arith
+
+pub looks_at_match : (form : DirectForm) (w : List ℕ) (p s t : ℕ) (r : Option (ℕ × ℕ)) → FirstSpan form w p r → IfSome r (λ f. TakesAtLeast s t (looked_for form p f)) →
+    IfSome r (λ f. TakesAtLeast s t (f.1 - f.0))
+looks_at_match form w p s t None span looks = tt
+looks_at_match form w p s t (Some (i, j)) span looks = least_less s t (looked_for form p (i, j)) (j - i) looks (looked_bytes form w p i j span)
+
+-- a form whose matches end with the text is no form of an expression that has others
+ends_early : (e : Tree) (form : DirectForm) → SpannedAs e form → CanEndEarly e → EndsText form → ⊥
+ends_early e (Anchor anchors) is (w, bytes, i, j, early, span) ends =
+    let low = Spans-forward e w i j span in
+    let at = (is w bytes i j (omega (arith, low, early))).0 span in
+    let end = at.0.1 ends in
+    omega (arith, early, end, at.1)
+ends_early e (RunAtEnd members) is (w, bytes, i, j, early, span) ends =
+    let low = Spans-forward e w i j span in
+    let at = (is w bytes i j (omega (arith, low, early))).0 span in
+    omega (arith, early, at.1)
+ends_early e (ByteThenRunAtEnd first members) is (w, bytes, i, j, early, span) ends =
+    let low = Spans-forward e w i j span in
+    let at = (is w bytes i j (omega (arith, low, early))).0 span in
+    omega (arith, early, at.2)
+ends_early e (OneByte first) is early ends = absurd ends
+ends_early e (Run members) is early ends = absurd ends
+ends_early e (ByteThenRun first members) is early ends = absurd ends
+ends_early e (RunThenByte members last) is early ends = absurd ends
+ends_early e (Times members count) is early ends = absurd ends
+ends_early e (Literal literal) is early ends = absurd ends
+ends_early e (Choice literals) is early ends = absurd ends
+
+pub looks_from : (e : Tree) (form : DirectForm) (w : List ℕ) (p s t : ℕ) (r : Option (ℕ × ℕ)) → SpannedAs e form → CanEndEarly e → FirstSpan form w p r →
+    IfSome r (λ f. TakesAtLeast s t (looked_for form p f)) → IfSome r (λ f. TakesAtLeast s t (f.1 - p))
+looks_from e form w p s t None is early span looks = tt
+looks_from e form w p s t (Some (i, j)) is early span looks = least_less s t (looked_for form p (i, j)) (j - p) looks (bytes_from form w p i j (ends_early e form is early) span)
 
 -- an expression of the form
 module _ (e : Written) (form : DirectForm) (is : IsDirect e form) (w : List ℕ) (bytes : AreBytes w) (p : ℕ) where

@@ -1,12 +1,15 @@
 -- The tables by which all occurrences are found, and what the searches cost.
 use Rattle.std.proofs.Common.{◌≡◌, [], ◌∷◌, ◌++◌, length-append, ℕ, zero, suc, ◌+◌, ◌-◌, ◌*◌, ◌/◌, ◌<◌, ◌≤◌, ◌⊎◌, Bool, true, false, List, length, get_or, Option, Some, None, IfSome, IsTrue, refl, sym, ap, ◌∙◌, subst, ⊎_elim, inl, inr, arith, mul-le-mul_left, length-set, get_or-set_same, get_or-set_other}
+use Rattle.std.specs.Option.{unwrap_or}
 use Rattle.std.specs.Prelude.{slice_get, slice_set, if◌then◌else◌}
 use Rattle.std.proofs.lemmas.Bool.{cases_eq, cases_lt}
 use Rattle.std.proofs.lemmas.List.{get_or-append-add, get_or_append_left}
 use Rattle.std.proofs.lemmas.Option.{get_or_from_slice_get, slice_get-get_or, slice_get_read, slice_get_within}
 use Rattle.sedre.specs.Arena.{Written}
 use Rattle.sedtext.specs.Costs.{Pays}
-use Rattle.sedtext.specs.Following.{LiesOn}
+use Rattle.sedre.specs.Steps.{TakesAtLeast}
+use Rattle.sedre.specs.Tree.{Tree}
+use Rattle.sedtext.specs.Following.{LiesOn, Occurs, bytes_passed}
 use Rattle.sedpass.specs.Kept.{KeptRoom, SameSpace}
 use Rattle.sedpass.specs.Occurrences.{owed_behind}
 use Rattle.sedpass.specs.Search.{Serves as SearchServes, owed_after as owed_after_search}
@@ -15,6 +18,7 @@ use Rattle.sedpass.specs.declared.search.Seeking.{Seeking}
 use Rattle.sedpass.specs.declared.kept.Kept.{Kept}
 use Rattle.sedpass.specs.declared.nodes.Prepared.{Prepared}
 use Rattle.sedpass.specs.declared.table.Table.{Table}
+use Rattle.sedpass.proofs.CountLemmas.{least_fewer, least_since}
 use Rattle.sedpass.proofs.ExpressionLemmas.{serves_for, table_for}
 use Rattle.sedpass.proofs.OccurrenceLemmas.{search_falls}
 use Rattle.sedpass.proofs.SearchLemmas.{search_long}
@@ -474,3 +478,20 @@ back_made p e t is table way = (way, λ q is'. table_for p q (is ∙ sym is') t 
 pub lies_first : (n : ℕ) (r : Option (ℕ × ℕ)) → IfSome r (λ f. (0 ≤ f.0) × (f.0 ≤ f.1) × (f.1 ≤ n)) → IfSome r (LiesOn n None)
 lies_first n None lies = tt
 lies_first n (Some f) lies = (lies.1, lies.2, tt)
+
+-- What is looked at at least, where an occurrence is sought after the last one.
+
+pub looks_at_occurrence : (e : Tree) (w : List ℕ) (last : Option ℕ) (s t : ℕ) (r : Option (ℕ × ℕ)) → IfSome r (Occurs e w last) → IfSome r (λ f. TakesAtLeast s t (f.1 - unwrap_or last 0)) →
+    IfSome r (λ f. TakesAtLeast s t (f.1 - f.0))
+looks_at_occurrence e w last s t None occurs looks = tt
+looks_at_occurrence e w None s t (Some f) occurs looks = least_fewer s t (f.1 - 0) (f.1 - f.0) (omega arith) looks
+looks_at_occurrence e w (Some q) s t (Some f) occurs looks = least_fewer s t (f.1 - q) (f.1 - f.0) (omega (arith, occurs.1.2.0)) looks
+
+pub looks_passed : (last : Option ℕ) (s t : ℕ) (r : Option (ℕ × ℕ)) → IfSome r (λ f. TakesAtLeast s t (f.1 - unwrap_or last 0)) → IfSome r (λ f. TakesAtLeast s t (bytes_passed last f))
+looks_passed last s t None looks = tt
+looks_passed None s t (Some f) looks = least_fewer s t (f.1 - 0) f.1 (omega arith) looks
+looks_passed (Some q) s t (Some f) looks = least_fewer s t (f.1 - q) (f.1 - (q + 1)) (omega arith) looks
+
+pub looks_since : (passed : ℕ × ℕ → ℕ) (s t u : ℕ) (r : Option (ℕ × ℕ)) → s ≤ t → IfSome r (λ f. TakesAtLeast t u (passed f)) → IfSome r (λ f. TakesAtLeast s u (passed f))
+looks_since passed s t u None grows looks = tt
+looks_since passed s t u (Some f) grows looks = least_since s t u (passed f) grows looks

@@ -1,16 +1,19 @@
 -- An expression that is used once: the room for it, and what its searches cost.
-use Rattle.std.proofs.Common.{◌≡◌, ◌∙◌, ℕ, ◌+◌, ◌-◌, ◌*◌, ◌/◌, ◌<◌, ◌≤◌, vec_capacity, Option, Some, None, zero, suc, sym, ap, subst, ⊎_elim, arith}
+use Rattle.std.proofs.Common.{◌≡◌, ◌∙◌, ℕ, ◌+◌, ◌-◌, ◌*◌, ◌/◌, ◌<◌, ◌≤◌, vec_capacity, List, Option, Some, None, zero, suc, sym, ap, subst, ⊎_elim, arith}
 use Rattle.std.proofs.lemmas.Bool.{cases_lt}
 use Rattle.std.proofs.Math.Nat.{mul-le-mul_left, mul-le-mul_right}
 use Rattle.std.specs.Prelude.{IfNone, IfSome}
 use Rattle.sedre.specs.Steps.{StepsWithin, Takes, TakesAtLeast}
+use Rattle.sedre.specs.Tree.{Tree}
+use Rattle.sedtext.specs.Answer.{SpanAnswer}
+use Rattle.sedpass.specs.Search.{LooksFrom}
 use Rattle.sedpass.specs.Kept.{KeptRoom, SameSpace}
 use Rattle.sedpass.specs.Table.{IsRoomy, IsTable, SameRoom, SameShape}
 use Rattle.sedpass.specs.declared.kept.Kept.{Kept}
 use Rattle.sedpass.specs.declared.nodes.Prepared.{Prepared}
 use Rattle.sedpass.specs.declared.rows.Work.{Work}
 use Rattle.sedpass.specs.declared.table.Table.{Table}
-use Rattle.sedpass.proofs.CountLemmas.{least_since}
+use Rattle.sedpass.proofs.CountLemmas.{least_fewer, least_since}
 use Rattle.sedpass.proofs.DecideLemmas.{space_again}
 use Rattle.sedpass.proofs.TableLemmas.{roomy_fewer}
 use Rattle.sedmatch.specs.Passes.{IsDesk, IsOnce, SameDesk}
@@ -161,6 +164,11 @@ module _ (n l s t u v : ℕ) (low : l ≤ n) where
 pub bare_cost : (m n s t u v : ℕ) → Takes s t m → Takes t u (142 * m * n + 42 * m) → v ≡ u → StepsWithin s v (64 * m * (n + 1) * (n + 1)) × StepsWithin s v (143 * m * (n + 1))
 bare_cost m n s t u v ready sought same =
     subst (λ x. StepsWithin s x (64 * m * (n + 1) * (n + 1)) × StepsWithin s x (143 * m * (n + 1))) (sym same) ((span_cost m n s t u ready sought).1, span_linear m n s t u ready sought)
+
+-- a look for each byte of the match, which was sought by passes
+pub looks_at_span : (e : Tree) (w : List ℕ) (from s t : ℕ) (r : Option (ℕ × ℕ)) → SpanAnswer e w from r → LooksFrom from s t r → IfSome r (λ f. TakesAtLeast s t (f.1 - f.0))
+looks_at_span e w from s t None answer looks = tt
+looks_at_span e w from s t (Some f) answer looks = least_fewer s t (f.1 + 1 - from) (f.1 - f.0) (omega (arith, answer.0.after)) looks
 
 -- a look for each byte of the match
 pub counts_since : (r : Option (ℕ × ℕ)) (s t u : ℕ) → s ≤ t → IfSome r (λ f. TakesAtLeast t u (f.1 - f.0)) → IfSome r (λ f. TakesAtLeast s u (f.1 - f.0))

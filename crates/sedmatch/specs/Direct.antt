@@ -1,6 +1,6 @@
 -- Private to the proofs: no contract that `sedmatch` makes public cites what stands here.
 -- Expressions whose matches a look at the text tells.
-use Rattle.std.specs.Prelude.{◌≡◌, ℕ, ◌+◌, ◌*◌, ◌<◌, ◌≤◌, ◌↔◌, Bool, List, length, slice_get, Option, Some, None, IsTrue}
+use Rattle.std.specs.Prelude.{◌≡◌, ℕ, ◌+◌, ◌-◌, ◌*◌, ◌<◌, ◌≤◌, ◌↔◌, Bool, List, length, slice_get, Option, Some, None, IsTrue}
 use Rattle.memchr.specs.Find.{OccursAt}
 use Rattle.sedre.specs.Arena.{Written, tree}
 use Rattle.sedre.specs.Tree.{Tree}
@@ -50,6 +50,21 @@ FormSpans (Choice literals) w i j = ChoiceSpans literals w i j
 -- the spans of the expression in a text of bytes are these
 abbrev pub SpannedAs : Tree → DirectForm → Type 0
 SpannedAs e form = (w : List ℕ) → AreBytes w → (i j : ℕ) → i ≤ length w → Spans e w i j ↔ FormSpans form w i j
+
+-- all matches end where the text does
+abbrev pub EndsText : DirectForm → Type 0
+EndsText (Anchor anchors) = IsTrue anchors.at_end
+EndsText (RunAtEnd members) = Unit {0}
+EndsText (ByteThenRunAtEnd first members) = Unit {0}
+EndsText other = ⊥
+
+-- how many bytes are looked at at least where such a match is found from p on: those of the match alone where it is sought from the
+-- text's end, and none where no byte decides
+abbrev pub looked_for : DirectForm → ℕ → ℕ × ℕ → ℕ
+looked_for (Anchor anchors) p f = 0
+looked_for (RunAtEnd members) p f = f.1 - f.0
+looked_for (ByteThenRunAtEnd first members) p f = f.1 - f.0
+looked_for other p f = f.1 - p
 
 -- how many looks there are at most for each byte that is passed
 abbrev pub rate : DirectForm → ℕ

@@ -12,9 +12,10 @@ ghost use Rattle.sedre.specs.declared.types.Node.TheVariants.{Seq, Set};
 ghost use Rattle.sedtext.specs.Answer.{SpanAnswer};
 ghost use Rattle.sedtext.specs.Bytes.{looked_at};
 ghost use Rattle.sedtext.specs.Costs.{Pays};
+ghost use Rattle.sedtext.specs.Following.{CanEndEarly};
 ghost use Rattle.sedtext.specs.Spans.{SomeFound, IsIn};
 ghost use Rattle.sedmatch.specs.Candidates.{NoMatchBefore};
-ghost use Rattle.sedmatch.specs.Direct.{ComesFirst, FirstWith, FirstStart, FirstSpan, HasForm, IsDirect, StartsFrom, end_or, rate};
+ghost use Rattle.sedmatch.specs.Direct.{ComesFirst, FirstWith, FirstStart, FirstSpan, HasForm, IsDirect, StartsFrom, end_or, looked_for, rate};
 ghost use Rattle.sedmatch.specs.declared.direct.DirectForm.TheVariants.{ByteThenRunAtEnd, Anchor as AnchorForm, OneByte, Run, ByteThenRun, RunThenByte, RunAtEnd, Times, Literal, Choice as ChoiceForm};
 
 use crate::word::{Word, word_of};
@@ -339,7 +340,7 @@ fn byte_span(first: &First, text: &Text, from: usize, steps: &mut Steps) -> Opti
     requires from { from ≤ length text.now }
     ensures span { FirstSpan (OneByte first.now) text.now from result }
     ensures cost { Pays steps.old steps.new (4 * (end_or (length text.now) result + 1)) (4 * from) }
-    ensures counts { IfSome result (λ f. TakesAtLeast steps.old steps.new (f.1 - f.0)) }
+    ensures counts { IfSome result (λ f. TakesAtLeast steps.old steps.new (f.1 - from)) }
 {
     match find_first(first, text, from, steps) {
         None => None,
@@ -358,7 +359,7 @@ fn run_span(
     requires from { from ≤ length text.now }
     ensures span { FirstSpan (Run members.now) text.now from result }
     ensures cost { Pays steps.old steps.new (4 * (end_or (length text.now) result + 1)) (4 * from) }
-    ensures counts { IfSome result (λ f. TakesAtLeast steps.old steps.new (f.1 - f.0)) }
+    ensures counts { IfSome result (λ f. TakesAtLeast steps.old steps.new (f.1 - from)) }
 {
     Some((from, run_end(text, members, from, steps)))
 }
@@ -375,7 +376,7 @@ fn byte_run_span(
     requires from { from ≤ length text.now }
     ensures span { FirstSpan (ByteThenRun first.now members.now) text.now from result }
     ensures cost { Pays steps.old steps.new (4 * (end_or (length text.now) result + 1)) (4 * from) }
-    ensures counts { IfSome result (λ f. TakesAtLeast steps.old steps.new (f.1 - f.0)) }
+    ensures counts { IfSome result (λ f. TakesAtLeast steps.old steps.new (f.1 - from)) }
 {
     match find_first(first, text, from, steps) {
         None => None,
@@ -396,7 +397,7 @@ fn run_byte_span(
     requires from { from ≤ length text.now }
     ensures span { FirstSpan (RunThenByte members.now last.now) text.now from result }
     ensures cost { Pays steps.old steps.new (4 * (end_or (length text.now) result + 1)) (4 * from) }
-    ensures counts { IfSome result (λ f. TakesAtLeast steps.old steps.new (f.1 - f.0)) }
+    ensures counts { IfSome result (λ f. TakesAtLeast steps.old steps.new (f.1 - from)) }
 {
     match find_first(last, text, from, steps) {
         None => None,
@@ -476,7 +477,7 @@ fn times_span(
     requires from { from ≤ length text.now }
     ensures span { FirstSpan (Times set.now count) text.now from result }
     ensures cost { Pays steps.old steps.new (4 * (end_or (length text.now) result + 1)) (4 * from) }
-    ensures counts { IfSome result (λ f. TakesAtLeast steps.old steps.new (f.1 - f.0)) }
+    ensures counts { IfSome result (λ f. TakesAtLeast steps.old steps.new (f.1 - from)) }
 {
     match find_times(set, count, text, from, steps) {
         None => None,
@@ -490,7 +491,7 @@ fn literal_span(word: &Word, text: &Text, from: usize, steps: &mut Steps) -> Opt
     requires from { from ≤ length text.now }
     ensures span { FirstSpan (Literal word.now) text.now from result }
     ensures cost { Pays steps.old steps.new (4 * (end_or (length text.now) result + 1)) (4 * from) }
-    ensures counts { IfSome result (λ f. TakesAtLeast steps.old steps.new (f.1 - f.0)) }
+    ensures counts { IfSome result (λ f. TakesAtLeast steps.old steps.new (f.1 - from)) }
 {
     match word.start(text, from, steps) {
         None => None,
@@ -509,7 +510,7 @@ fn choice_span(
     requires from { from ≤ length text.now }
     ensures span { FirstSpan (ChoiceForm choice.now) text.now from result }
     ensures cost { Pays steps.old steps.new (42 * (end_or (length text.now) result + 1)) (42 * from) }
-    ensures counts { IfSome result (λ f. TakesAtLeast steps.old steps.new (f.1 - f.0)) }
+    ensures counts { IfSome result (λ f. TakesAtLeast steps.old steps.new (f.1 - from)) }
 {
     match choice.start(text, from, steps) {
         None => None,
@@ -529,7 +530,7 @@ fn form_span(
     requires from { from ≤ length text.now }
     ensures span { FirstSpan form.now text.now from result }
     ensures cost { Pays steps.old steps.new (rate form.now * (end_or (length text.now) result + 1)) (rate form.now * from) }
-    ensures counts { IfSome result (λ f. TakesAtLeast steps.old steps.new (f.1 - f.0)) }
+    ensures counts { IfSome result (λ f. TakesAtLeast steps.old steps.new (looked_for form.now from f)) }
 {
     match form {
         DirectForm::Anchor(anchor) => anchor_span(*anchor, text, from),
@@ -560,6 +561,7 @@ pub fn direct_span(
     ensures lies { IfSome result (λ f. (from ≤ f.0) × (f.0 ≤ f.1) × (f.1 ≤ length text.now)) }
     ensures cost { Pays steps.old steps.new (rate form.now * (end_or (length text.now) result + 1)) (rate form.now * from) }
     ensures counts { IfSome result (λ f. TakesAtLeast steps.old steps.new (f.1 - f.0)) }
+    ensures passes { (e : Written) → IsDirect e form.now → CanEndEarly (tree e) → IfSome result (λ f. TakesAtLeast steps.old steps.new (f.1 - from)) }
 {
     are_bytes(text);
     form_span(form, text, from, steps)

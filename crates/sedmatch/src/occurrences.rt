@@ -1,5 +1,6 @@
 //! All occurrences in one text, one after another.
 ghost use Rattle.std.specs.Prelude.{◌≡◌, ℕ, List, false, ◌+◌, ◌-◌, ◌*◌, ◌/◌, ◌^◌, ◌<◌, ◌≤◌, length, IfOk, IfSome, IsTrue, slice_get, Some};
+ghost use Rattle.std.specs.Option.{unwrap_or};
 ghost use Rattle.sedre.specs.Arena.{Written, tree};
 ghost use Rattle.sedtext.specs.Answer.{SpanAnswer};
 ghost use Rattle.sedtext.specs.Costs.{Pays};
@@ -218,7 +219,7 @@ fn next_with(
     ensures occurs { IfSome result (Occurs (tree sought.now.prepared.arena.expr) text.now last) }
     ensures cost { let m = length sought.now.prepared.arena.expr.nodes in let n = length text.now in
         Pays steps.old steps.new (owed_search m n last seeking.old) (owed_after_search (owed_behind m n seeking.new) result) }
-    ensures looks { Looks (length sought.now.prepared.arena.expr.nodes) (length text.now) steps.old steps.new result }
+    ensures looks { Looks (length sought.now.prepared.arena.expr.nodes) (length text.now) (unwrap_or last 0) steps.old steps.new result }
 {
     let subject = Subject {
         prepared: &sought.prepared,
@@ -245,7 +246,7 @@ fn first_with(
     ensures answer { SpanAnswer (tree sought.now.prepared.arena.expr) text.now 0 result }
     ensures cost { let m = length sought.now.prepared.arena.expr.nodes in let n = length text.now in
         Pays steps.old steps.new (owed_search m n None seeking.old) (owed_after_search (owed_behind m n seeking.new) result) }
-    ensures looks { Looks (length sought.now.prepared.arena.expr.nodes) (length text.now) steps.old steps.new result }
+    ensures looks { Looks (length sought.now.prepared.arena.expr.nodes) (length text.now) 0 steps.old steps.new result }
 {
     let start = sought.hints.first_place(text, 0, steps)?;
     let subject = Subject {
@@ -275,7 +276,7 @@ pub fn next_by(
     ensures serves { ServesOn sought.now.prepared.arena.expr text.now result occurrences.old occurrences.new }
     ensures cost { let m = length sought.now.prepared.arena.expr.nodes in let n = length text.now in
         Pays steps.old steps.new (owed m n last occurrences.old) (owed_after m n result occurrences.new) }
-    ensures looks { Looks (length sought.now.prepared.arena.expr.nodes) (length text.now) steps.old steps.new result }
+    ensures looks { Looks (length sought.now.prepared.arena.expr.nodes) (length text.now) (unwrap_or last 0) steps.old steps.new result }
 {
     occurrences.make_ready(&sought.prepared, text);
     let at = occurrences.at;

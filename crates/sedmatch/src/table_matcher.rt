@@ -1,9 +1,10 @@
 //! An expression that is sought many times.
 ghost use Rattle.std.specs.Prelude.{◌≡◌, ℕ, ◌+◌, ◌-◌, ◌*◌, ◌<◌, ◌≤◌, ◌↔◌, length, IfOk, IfSome, IsTrue, is_some, nat_lt, if◌then◌else◌, None, List};
+ghost use Rattle.std.specs.Option.{unwrap_or};
 ghost use Rattle.sedre.specs.Arena.{Written, tree};
 ghost use Rattle.sedre.specs.Steps.{Takes, TakesAtLeast};
 ghost use Rattle.sedtext.specs.Costs.{Pays};
-ghost use Rattle.sedtext.specs.Following.{EndsWithin, LiesOn, Occurs, next_span};
+ghost use Rattle.sedtext.specs.Following.{CanEndEarly, EndsWithin, LiesOn, Occurs, bytes_passed, next_span};
 ghost use Rattle.sedtext.specs.Matching.{found, report};
 ghost use Rattle.sedtext.specs.Parts.{SpanIn, span_of};
 ghost use Rattle.sedtext.specs.SearchRoom.{FitInto};
@@ -69,6 +70,7 @@ fn past_null(form: &DirectForm, text: &Text, at: usize, steps: &mut Steps) -> Op
     ensures lies { IfSome result (λ f. (at < f.0) × (f.0 ≤ f.1) × (f.1 ≤ length text.now)) }
     ensures cost { Pays steps.old steps.new (rate form.now * (end_or (length text.now) result + 1)) (rate form.now * (at + 1)) }
     ensures counts { IfSome result (λ f. TakesAtLeast steps.old steps.new (f.1 - f.0)) }
+    ensures passes { (e : Written) → IsDirect e form.now → CanEndEarly (tree e) → IfSome result (λ f. TakesAtLeast steps.old steps.new (f.1 - (at + 1))) }
 {
     if at >= text.len() {
         return None;
@@ -91,6 +93,7 @@ fn next_direct(
         Pays steps.old steps.new (owed_direct m n last) (owed_direct_after m n result) }
     ensures once { (e : Written) → IsDirect e form.now → Takes steps.old steps.new (28 * length e.nodes * (length text.now + 1)) }
     ensures counts { IfSome result (λ f. TakesAtLeast steps.old steps.new (f.1 - f.0)) }
+    ensures passes { (e : Written) → IsDirect e form.now → CanEndEarly (tree e) → IfSome result (λ f. TakesAtLeast steps.old steps.new (bytes_passed last f)) }
 {
     let at = last.unwrap_or(0);
     let first = direct_span(form, text, at, steps);
@@ -123,7 +126,7 @@ fn next_by_passes(
     ensures serves { ServesOn passes.old.sought.prepared.arena.expr text.now result occurrences.old occurrences.new }
     ensures cost { let m = length passes.old.sought.prepared.arena.expr.nodes in let n = length text.now in
         Pays steps.old steps.new (owed m n last occurrences.old) (owed_after m n result occurrences.new) }
-    ensures looks { Looks (length passes.old.sought.prepared.arena.expr.nodes) (length text.now) steps.old steps.new result }
+    ensures looks { Looks (length passes.old.sought.prepared.arena.expr.nodes) (length text.now) (unwrap_or last 0) steps.old steps.new result }
 {
     let sought = &passes.sought;
     if let Some(own) = &mut passes.own {
@@ -253,6 +256,7 @@ impl TableMatcher {
         ensures once { let m = length self.old.nodes in let n = length text.now in
             Takes steps.old steps.new (64 * m * m * (n + 1) * (n + 1)) }
         ensures counts { IfSome result (λ f. TakesAtLeast steps.old steps.new (f.1 - f.0)) }
+        ensures passes { CanEndEarly (tree self.old) → IfSome result (λ f. TakesAtLeast steps.old steps.new (bytes_passed last f)) }
     {
         match &mut self.engine {
             Engine::Direct(_, form) => next_direct(form, text, last, steps),

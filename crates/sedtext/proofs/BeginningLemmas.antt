@@ -1,5 +1,5 @@
 -- How the spans of a node begin, by the part that stands first in it.
-use Rattle.std.proofs.Common.{length, ◌≡◌, ℕ, ◌+◌, ◌<◌, ◌≤◌, Bool, false, List, Some, None, IsTrue, refl, sym, ◌∙◌, subst, inl, ⊎_elim, arith, ◌⊎◌, ◌||◌, inr, ap, Option, mul-le-mul_left, ◌*◌}
+use Rattle.std.proofs.Common.{◌≡◌, ℕ, ◌+◌, ◌<◌, ◌≤◌, Bool, false, List, Some, None, IsTrue, refl, sym, ◌∙◌, subst, inl, ⊎_elim, arith, ◌⊎◌, ◌||◌, inr, ap, Option, mul-le-mul_left, ◌*◌}
 use Rattle.std.proofs.lemmas.Bool.{both_ways, cases_lt, or_left, or_right}
 use Rattle.sedtext.specs.declared.beginnings.Begins.TheVariants.{WithByte, WithSet}
 use Rattle.std.proofs.lemmas.Option.{none-some, slice_get_within}

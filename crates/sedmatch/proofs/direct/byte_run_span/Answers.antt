@@ -20,7 +20,7 @@ returns-in-Some-clause-cost c =
 pub returns-in-Some-clause-counts : goal.returns-in-Some-clause-counts
 returns-in-Some-clause-counts c =
     let on = run_forward c.args.members.now c.args.text.now c.after.result c.run_end.result c.run_end.ensures.run in
-    least_both c.args.steps.now c.find_first.new.steps c.run_end.new.steps 1 (c.run_end.result - c.after.result) (c.run_end.result - c.in-Some.start)
-    (least_counted c.args.steps.now c.find_first.new.steps (c.in-Some.start + 1 - c.args.from) 1 c.in-Some.ensures.counts (omega (arith, c.in-Some.ensures.first.0)))
+    least_both c.args.steps.now c.find_first.new.steps c.run_end.new.steps (c.in-Some.start + 1 - c.args.from) (c.run_end.result - c.after.result) (c.run_end.result - c.args.from)
+    (least_counted c.args.steps.now c.find_first.new.steps (c.in-Some.start + 1 - c.args.from) (c.in-Some.start + 1 - c.args.from) c.in-Some.ensures.counts (omega arith))
     (least_counted c.find_first.new.steps c.run_end.new.steps (min (c.run_end.result + 1) (length c.args.text.now) - c.after.result) (c.run_end.result - c.after.result) c.run_end.ensures.counts (omega (arith, on, c.run_end.ensures.run.0)))
     (omega arith)

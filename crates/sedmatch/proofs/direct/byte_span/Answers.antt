@@ -11,4 +11,4 @@ returns-in-Some-clause-span c = span_byte c.args.first.now c.args.text.now c.arg
 
 pub returns-in-Some-clause-counts : goal.returns-in-Some-clause-counts
 returns-in-Some-clause-counts c =
-    least_counted c.args.steps.now c.find_first.new.steps (c.in-Some.start + 1 - c.args.from) (c.after.result - c.in-Some.start) c.in-Some.ensures.counts (omega (arith, c.in-Some.ensures.first.0))
+    least_counted c.args.steps.now c.find_first.new.steps (c.in-Some.start + 1 - c.args.from) (c.after.result - c.args.from) c.in-Some.ensures.counts (omega (arith, c.in-Some.ensures.first.0))

@@ -8,5 +8,5 @@ returns-in-None-clause-span c = start_literal c.args.word.now c.args.text.now c.
 
 pub returns-in-Some-clause-counts : goal.returns-in-Some-clause-counts
 returns-in-Some-clause-counts c =
-    least_counted c.args.steps.now c.start.new.steps (c.in-Some.start + length c.args.word.now - c.args.from) (c.end.result - c.in-Some.start) c.in-Some.ensures.counts
+    least_counted c.args.steps.now c.start.new.steps (c.in-Some.start + length c.args.word.now - c.args.from) (c.end.result - c.args.from) c.in-Some.ensures.counts
     (omega (arith, c.in-Some.ensures.first.0, c.end.ensures))

@@ -12,6 +12,6 @@ returns-in-Some-clause-span c =
 
 pub returns-in-Some-clause-counts : goal.returns-in-Some-clause-counts
 returns-in-Some-clause-counts c =
-    least_up c.args.steps.now c.find_first.new.steps c.run_begin.new.steps (c.after.result - c.run_begin.result)
-    (least_counted c.args.steps.now c.find_first.new.steps (c.in-Some.place + 1 - c.args.from) (c.after.result - c.run_begin.result) c.in-Some.ensures.counts (omega (arith, c.run_begin.ensures.begins.0)))
+    least_up c.args.steps.now c.find_first.new.steps c.run_begin.new.steps (c.after.result - c.args.from)
+    (least_counted c.args.steps.now c.find_first.new.steps (c.in-Some.place + 1 - c.args.from) (c.after.result - c.args.from) c.in-Some.ensures.counts (omega (arith, c.run_begin.ensures.begins.0)))
     c.run_begin.ensures.cost.0

@@ -2,7 +2,7 @@ use Rattle.std.proofs.Common.{length, arith}
 use Rattle.sedre.specs.Arena.{tree}
 use Rattle.sedpass.specs.Search.{owed_search}
 use Rattle.sedpass.proofs.OccurrenceLemmas.{search_falls}
-use Rattle.sedpass.proofs.SearchLemmas.{found_since, later_answer}
+use Rattle.sedpass.proofs.SearchLemmas.{later_answer, looks_later, looks_to_end}
 use Rattle.sedmatch.proofs.OccurrenceLemmas.{first_paid, first_square}
 use Rattle.sedmatch.proofs.occurrences.first_with.Goals as goal
 
@@ -37,5 +37,6 @@ returns-clause-looks c =
         omega (arith, looks.0, each.0),
         first_square (length c.args.sought.now.prepared.arena.expr.nodes) (length c.args.text.now) c.in_ok-start.start c.args.steps.now c.first_place.new.steps c.next_match.new.steps (omega (arith, last)) (omega (arith, looks.1)) each.1,
       );
-      counts = found_since c.args.steps.now c.first_place.new.steps c.next_match.new.steps c.next_match.result looks.0 c.next_match.ensures.counts;
+      counts = looks_to_end 0 c.args.steps.now c.next_match.new.steps c.next_match.result
+          (looks_later 0 c.in_ok-start.start c.args.steps.now c.first_place.new.steps c.next_match.new.steps c.next_match.result c.in_ok-start.ensures.counts c.next_match.ensures.counts);
     }

@@ -1,8 +1,10 @@
 use Rattle.std.proofs.Common.{◌≡◌, ℕ, Option, None, Some, IfSome, length, sym, subst, arith}
+use Rattle.std.specs.Option.{unwrap_or}
 use Rattle.sedre.specs.Arena.{tree}
 use Rattle.sedtext.specs.Following.{EndsWithin, Occurs, next_span}
 use Rattle.sedtext.specs.Matching.{found}
 use Rattle.sedtext.proofs.FollowingLemmas.{if_occurs}
+use Rattle.sedpass.specs.Occurrences.{Looks}
 use Rattle.sedpass.proofs.OccurrenceLemmas.{answer_found, answer_lies}
 use Rattle.sedmatch.proofs.OccurrenceLemmas.{lies_first}
 use Rattle.sedmatch.proofs.occurrences.next_with.Goals as goal
@@ -28,3 +30,15 @@ returns-in-Some-clause-occurs c =
     let r = c.next_after.result in
     let within : EndsWithin (length w) (Some c.in-Some.at) = subst (EndsWithin (length w)) c.in-Some.is c.requires.last in
     subst (λ (last : Option ℕ). IfSome r (Occurs e w last)) (sym c.in-Some.is) (if_occurs e w (Some c.in-Some.at) r within c.next_after.ensures.next c.next_after.ensures.lies)
+
+pub returns-in-None-clause-looks : goal.returns-in-None-clause-looks
+returns-in-None-clause-looks c =
+    let m = length c.args.sought.now.prepared.arena.expr.nodes in
+    let n = length c.args.text.now in
+    subst (λ (last : Option ℕ). Looks m n (unwrap_or last 0) c.args.steps.now c.first_with.new.steps c.first_with.result) (sym c.in-None.is) c.first_with.ensures.looks
+
+pub returns-in-Some-clause-looks : goal.returns-in-Some-clause-looks
+returns-in-Some-clause-looks c =
+    let m = length c.args.sought.now.prepared.arena.expr.nodes in
+    let n = length c.args.text.now in
+    subst (λ (last : Option ℕ). Looks m n (unwrap_or last 0) c.args.steps.now c.next_after.new.steps c.next_after.result) (sym c.in-Some.is) c.next_after.ensures.looks

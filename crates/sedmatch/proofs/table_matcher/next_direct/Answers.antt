@@ -1,14 +1,15 @@
-use Rattle.std.proofs.Common.{◌≡◌, ◌∙◌, ◌+◌, ◌*◌, ◌≤◌, true, false, IfSome, length, refl, sym, subst}
+use Rattle.std.proofs.Common.{◌≡◌, ◌∙◌, ◌+◌, ◌-◌, ◌*◌, ◌≤◌, true, false, IfSome, length, refl, sym, subst}
 use Rattle.std.specs.Option.{unwrap_or}
 use Rattle.sedre.specs.Arena.{tree}
+use Rattle.sedre.specs.Steps.{TakesAtLeast}
 use Rattle.sedtext.specs.Costs.{Pays}
-use Rattle.sedtext.specs.Following.{LiesOn}
+use Rattle.sedtext.specs.Following.{LiesOn, bytes_passed}
 use Rattle.sedpass.proofs.OccurrenceLemmas.{lies_behind}
-use Rattle.sedpass.proofs.SearchLemmas.{found_since}
 use Rattle.sedmatch.specs.Direct.{end_or, rate}
 use Rattle.sedmatch.specs.Occurrences.{owed_direct, owed_direct_after}
 use Rattle.sedmatch.proofs.MatcherLemmas.{first_next, look_paid, looks_paid, next_by_null, none_of, some_of, within_at}
-use Rattle.sedmatch.proofs.OccurrenceLemmas.{lies_first}
+use Rattle.sedmatch.proofs.OccurrenceLemmas.{lies_first, looks_passed, looks_since}
+use Rattle.sedmatch.proofs.OnceLemmas.{counts_since}
 use Rattle.sedmatch.proofs.table_matcher.next_direct.Goals as goal
 use Rattle.sedmatch.proofs.table_matcher.next_direct.Goals.{then-is_none-via-then-is_none, then-is_none-via-else-is_none+then-not-is_null_at}
 
@@ -67,4 +68,17 @@ returns-clause-cost c = λ e is.
     (looks_paid m n r c.args.steps.now c.direct_span-first.new.steps c.past_null.new.steps at c.past_null.result is.2 (within_at n c.args.last at c.unwrap_or-at.ensures c.requires.last) one c.past_null.ensures.cost c.past_null.ensures.lies)
 
 pub returns-clause-counts : goal.returns-clause-counts
-returns-clause-counts c = found_since c.args.steps.now c.direct_span-first.new.steps c.past_null.new.steps c.past_null.result c.direct_span-first.ensures.cost.0 c.past_null.ensures.counts
+returns-clause-counts c = counts_since c.past_null.result c.args.steps.now c.direct_span-first.new.steps c.past_null.new.steps c.direct_span-first.ensures.cost.0 c.past_null.ensures.counts
+
+pub returns-then-is_none-clause-passes : goal.returns-then-is_none-clause-passes
+returns-then-is_none-clause-passes c = λ e is early.
+    let first = c.direct_span-first.result in
+    looks_passed c.args.last c.args.steps.now c.direct_span-first.new.steps first
+    (subst (λ p. IfSome first (λ f. TakesAtLeast c.args.steps.now c.direct_span-first.new.steps (f.1 - p))) c.unwrap_or-at.ensures (c.direct_span-first.ensures.passes e is early))
+
+pub returns-clause-passes : goal.returns-clause-passes
+returns-clause-passes c = λ e is early.
+    let at = c.unwrap_or-at.result in
+    let some = some_of c.args.last c.is_none.result at c.is_none.ensures c.if-is_none.false c.unwrap_or-at.ensures in
+    let later = looks_since (λ f. f.1 - (at + 1)) c.args.steps.now c.direct_span-first.new.steps c.past_null.new.steps c.past_null.result c.direct_span-first.ensures.cost.0 (c.past_null.ensures.passes e is early) in
+    subst (λ l. IfSome c.past_null.result (λ f. TakesAtLeast c.args.steps.now c.past_null.new.steps (bytes_passed l f))) (sym some) later

@@ -1,7 +1,8 @@
 use Rattle.std.proofs.Common.{length, refl}
+use Rattle.sedre.specs.Arena.{tree}
 use Rattle.sedmatch.specs.declared.scratch.Desk.{Desk}
 use Rattle.sedmatch.proofs.PassLemmas.{shared_serves}
-use Rattle.sedmatch.proofs.OnceLemmas.{once_again, once_room, once_serves, span_again}
+use Rattle.sedmatch.proofs.OnceLemmas.{looks_at_span, once_again, once_room, once_serves, span_again}
 use Rattle.sedmatch.proofs.whole.first_span.Goals as goal
 
 pub fit-requires : goal.fit-requires
@@ -23,3 +24,8 @@ returns-clause-once c =
     let d = c.args.desk.now in
     let after : Desk = record d { room = record d.room { kept = c.next_begun.new.kept }; shared = record d.shared { ahead = c.next_begun.new.ahead } } in
     once_again d after c.args.once.now c.args.once.now.prepared c.fit-2.new.self c.next_begun.new.back (refl, refl, refl) c.requires.once c.fit-2.ensures.room c.next_begun.ensures.tables.back_shape c.next_begun.ensures.next.kept.region.table
+
+pub returns-clause-counts : goal.returns-clause-counts
+returns-clause-counts c =
+    let next = c.next_begun.ensures.next in
+    looks_at_span (tree c.args.once.now.prepared.arena.expr) c.args.text.now c.args.from c.args.steps.now c.next_begun.new.steps c.next_begun.result next.answer next.counts

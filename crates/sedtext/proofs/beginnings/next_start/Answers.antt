@@ -11,7 +11,7 @@ pub returns-then-from-eq0-clause-counts : goal.returns-then-from-eq0-clause-coun
 returns-then-from-eq0-clause-counts c = least_none c.args.steps.now (0 - c.args.from) (omega arith)
 
 pub returns-in-WithByte-clause-next : goal.returns-in-WithByte-clause-next
-returns-in-WithByte-clause-next c = 
+returns-in-WithByte-clause-next c =
     subst (λ b. NextStart b c.args.text.now c.args.from c.find_byte.result) (sym c.in-WithByte.is)
     (starts_with_byte c.args.text.now c.in-WithByte.byte c.args.from c.find_byte.result c.find_byte.ensures.first)
 

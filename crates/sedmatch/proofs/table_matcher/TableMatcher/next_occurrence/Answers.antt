@@ -1,13 +1,14 @@
-use Rattle.std.proofs.Common.{◌≡◌, ◌∙◌, ◌+◌, ◌*◌, length, IfSome, ap, refl, subst, sym, arith}
+use Rattle.std.proofs.Common.{◌≡◌, ◌∙◌, ◌+◌, ◌-◌, ◌*◌, length, IfSome, ap, refl, subst, sym, arith}
 use Rattle.sedre.specs.Arena.{tree}
-use Rattle.sedre.specs.Steps.{Takes}
+use Rattle.sedre.specs.Steps.{Takes, TakesAtLeast}
 use Rattle.sedtext.specs.Costs.{Pays}
-use Rattle.sedtext.specs.Following.{Occurs}
+use Rattle.sedtext.specs.Following.{Occurs, bytes_passed}
 use Rattle.sedtext.proofs.FollowingLemmas.{if_occurs}
 use Rattle.sedmatch.specs.Passes.{IsEngine, written_of}
 use Rattle.sedmatch.specs.declared.passes.Passes.{Passes}
 use Rattle.sedmatch.specs.Occurrences.{ServesOn, owed, owed_after}
 use Rattle.sedmatch.proofs.MatcherLemmas.{direct_is, direct_once, direct_owed, serves_same}
+use Rattle.sedmatch.proofs.OccurrenceLemmas.{looks_at_occurrence, looks_passed}
 use Rattle.sedmatch.proofs.OnceLemmas.{once_still}
 use Rattle.sedmatch.proofs.table_matcher.TableMatcher.next_occurrence.Goals as goal
 use Rattle.sedmatch.proofs.table_matcher.TableMatcher.next_occurrence.Goals.{in-Direct, in-Passes}
@@ -84,6 +85,35 @@ returns-clause-once c =
           let is : w.deref_mut.result.now.sought.prepared.arena.expr ≡ c.args.self.now = ap (λ (x : Passes). x.sought.prepared.arena.expr) value ∙ sym (ap written_of w.in-Passes.is) ∙ c.self.view_is in
           subst (λ v. Takes s v (64 * m * m * (n + 1) * (n + 1))) (sym w.steps-is)
           (subst (λ v. Takes s w.next_by_passes.new.steps (64 * length v.nodes * length v.nodes * (n + 1) * (n + 1))) is w.next_by_passes.ensures.looks.once)
+    ]
+
+pub returns-clause-counts : goal.returns-clause-counts
+returns-clause-counts c =
+    let s = c.args.steps.now in
+    let t = c.args.text.now in
+    elim c.match-self.branch [
+      | in-Direct w ↦
+          subst (λ r. IfSome r (λ f. TakesAtLeast s c.match-self.steps (f.1 - f.0))) (sym w.result-is)
+          (subst (λ v. IfSome w.next_direct.result (λ f. TakesAtLeast s v (f.1 - f.0))) (sym w.steps-is) w.next_direct.ensures.counts)
+      | in-Passes w ↦
+          let next = w.next_by_passes.ensures in
+          subst (λ r. IfSome r (λ f. TakesAtLeast s c.match-self.steps (f.1 - f.0))) (sym w.result-is)
+          (subst (λ v. IfSome w.next_by_passes.result (λ f. TakesAtLeast s v (f.1 - f.0))) (sym w.steps-is)
+          (looks_at_occurrence (tree w.deref_mut.result.now.sought.prepared.arena.expr) t c.args.last s w.next_by_passes.new.steps w.next_by_passes.result next.occurs next.looks.counts))
+    ]
+
+pub returns-clause-passes : goal.returns-clause-passes
+returns-clause-passes c = λ early.
+    let s = c.args.steps.now in
+    elim c.match-self.branch [
+      | in-Direct w ↦
+          let is = direct_is c.self.inside.engine c.args.self.now w.in-Direct.field-0 w.in-Direct.form c.self.view_is c.self.invariant w.in-Direct.is in
+          subst (λ r. IfSome r (λ f. TakesAtLeast s c.match-self.steps (bytes_passed c.args.last f))) (sym w.result-is)
+          (subst (λ v. IfSome w.next_direct.result (λ f. TakesAtLeast s v (bytes_passed c.args.last f))) (sym w.steps-is) (w.next_direct.ensures.passes c.args.self.now is early))
+      | in-Passes w ↦
+          subst (λ r. IfSome r (λ f. TakesAtLeast s c.match-self.steps (bytes_passed c.args.last f))) (sym w.result-is)
+          (subst (λ v. IfSome w.next_by_passes.result (λ f. TakesAtLeast s v (bytes_passed c.args.last f))) (sym w.steps-is)
+          (looks_passed c.args.last s w.next_by_passes.new.steps w.next_by_passes.result w.next_by_passes.ensures.looks.counts))
     ]
 
 pub invariant_of-scratch : goal.invariant_of-scratch
