@@ -1,0 +1,12 @@
+use Rattle.std.proofs.Common.{arith}
+use Rattle.sedpass.proofs.width.width_for.Goals as goal
+
+pub loop-width-preserved : goal.loop-width-preserved
+loop-width-preserved c =
+    let least = c.loop-width.invariant.least in
+    record {
+      least = omega (arith, least);
+      most = omega arith;
+      no_wider = λ some few. let narrow = (c.is_narrow.ensures.short (omega arith)).0 c.if-is_narrow.true in omega (arith, narrow);
+      still = λ long. let narrow = (c.is_narrow.ensures.long (omega arith)).0 c.if-is_narrow.true in omega (arith, narrow);
+    }
