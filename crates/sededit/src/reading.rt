@@ -3,6 +3,7 @@ ghost use Rattle.std.specs.Prelude.{◌≡◌, ◌≤◌, ◌∷◌, ℕ, List, 
 ghost use Rattle.sededit.specs.CommandLine.{given};
 ghost use Rattle.sededit.specs.Program.{GivesScript, MakesText, kind_with};
 ghost use Rattle.sededit.specs.Reading.{OnlyReadsScripts};
+ghost use Rattle.sededit.specs.declared.reading.NoScript.TheVariants.{NoMemory};
 
 use crate::asked::{Line, Part};
 use crate::inputs::Inputs;
@@ -24,6 +25,8 @@ pub(crate) enum NoScript<'a> {
 }
 
 impl<'a> From<AllocError> for NoScript<'a> {
+    ghost from_gives = { λ e r. r ≡ NoMemory };
+
     fn from(_error: AllocError) -> NoScript<'a> {
         NoScript::NoMemory
     }

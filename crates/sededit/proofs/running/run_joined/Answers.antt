@@ -1,4 +1,4 @@
-use Rattle.std.proofs.Common.{inl, inr, refl, rules}
+use Rattle.std.proofs.Common.{inl, inr, refl}
 use Rattle.sedengine.proofs.Metering.{Cause-as}
 use Rattle.sededit.proofs.RunLemmas.{GainsBy-same, WritesAll-same, WritesBeginning-same, none_failed, none_refused, sink_failed, sink_flushed, some_refused, source_kept}
 use Rattle.sededit.proofs.running.run_joined.Goals as goal
@@ -37,7 +37,7 @@ returns-clause-cause g c is =
     ]
 
 pub returns-in-Err-clause-stopped : goal.returns-in-Err-clause-stopped
-returns-in-Err-clause-stopped g c = search rules
+returns-in-Err-clause-stopped g c = λ stopped. absurd (cc)
 
 pub returns-in-Err-clause-cause : goal.returns-in-Err-clause-cause
-returns-in-Err-clause-cause g c = search rules
+returns-in-Err-clause-cause g c = λ stopped. absurd (cc)

@@ -1,4 +1,4 @@
-use Rattle.std.proofs.Common.{◌≡◌, ◌<◌, refl, length, arith}
+use Rattle.std.proofs.Common.{rules, ◌≡◌, ◌<◌, refl, length, arith}
 use Rattle.sededit.proofs.joined.Joined.read_file.Goals as goal
 use Rattle.sededit.proofs.JoinLemmas.{file_read, file_closed}
 
@@ -13,3 +13,6 @@ returns-clause-bytes g c =
     let none : c.in_ok-count.count ≡ 0 = omega arith in
     let some : 0 < length c.read.new.buf = omega arith in
     (file_closed g.I.Inputs.current _ _ _ c.read.new.buf _ c.self.view_is c.if-not-self.false c.if-not-self-2.false some none r.bytes.0 (r.bytes.1 none some), λ _ _. refl)
+
+pub returns-then-not-self-2-clause-bytes : goal.returns-then-not-self-2-clause-bytes
+returns-then-not-self-2-clause-bytes g c = search rules
