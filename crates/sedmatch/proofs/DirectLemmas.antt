@@ -13,19 +13,19 @@ use Rattle.sedtext.specs.Answer.{SpanAnswer}
 use Rattle.sedtext.specs.Beginnings.{CanBegin, NextStart}
 use Rattle.sedtext.specs.Bytes.{AreBytes, looked_at}
 use Rattle.sedtext.specs.Costs.{Pays}
-use Rattle.sedtext.specs.Following.{CanEndEarly}
+use Rattle.sedtext.specs.Following.{CanEndEarly, PassesOver}
 use Rattle.sedtext.specs.Reach.{At}
 use Rattle.sedtext.specs.Runs.{Repeated, AllRepeat, IsRun, RunBegins}
 use Rattle.sedtext.specs.Spans.{Spans, SomeFound, IsIn, no_copy}
 use Rattle.sedtext.specs.declared.beginnings.Begins.TheVariants.{WithSet}
-use Rattle.sedtext.specs.Choice.{FirstChoice}
+use Rattle.sedtext.specs.Choice.{ChoiceSpans, FirstChoice}
 use Rattle.sedtext.specs.Few.{FirstFew}
-use Rattle.sedtext.specs.Needed.{IsLiteral, GoesOnAs, FirstLiteral}
+use Rattle.sedtext.specs.Needed.{IsLiteral, GoesOnAs, FirstLiteral, passed_to}
 use Rattle.sedtext.specs.Times.{FirstTimes}
 use Rattle.sedtext.specs.Word.{WordSpans, AllWord}
 use Rattle.sedtext.specs.declared.counted.few.Few.{Few}
 use Rattle.sedtext.specs.declared.needed.Literal.{Literal as Bytes}
-use Rattle.sedmatch.specs.Direct.{ComesFirst, EndsText, StartsWith, RunsTo, FormSpans, SpannedAs, HasForm, IsDirect, CanStart, StartsFrom, FirstWith, FirstStart, FirstSpan, looked_for}
+use Rattle.sedmatch.specs.Direct.{ComesFirst, EndsText, StartsWith, RunsTo, FormPasses, FormSpans, SpannedAs, HasForm, IsDirect, CanStart, StartsFrom, FirstWith, FirstStart, FirstSpan, bytes_looked_at}
 use Rattle.sedmatch.specs.declared.direct.Anchor.{Anchor as Anchors}
 use Rattle.sedmatch.specs.declared.direct.First.{First}
 use Rattle.sedmatch.specs.declared.direct.First.TheVariants.{Among, Member}
@@ -413,12 +413,12 @@ span_lies form w p None none = tt
 span_lies form w p (Some f) span = (span.0.0, ends_on form w f.0 f.1 span.1.0, span.1.1)
 
 -- the null string takes no look
-pub null_counts : (s : ℕ) (anchors : Anchors) (p : ℕ) (r : Option (ℕ × ℕ)) → IfSome r (λ f. TakesAtLeast s s (looked_for (Anchor anchors) p f))
+pub null_counts : (s : ℕ) (anchors : Anchors) (p : ℕ) (r : Option (ℕ × ℕ)) → IfSome r (λ f. TakesAtLeast s s (bytes_looked_at (Anchor anchors) p f))
 null_counts s anchors p None = tt
 null_counts s anchors p (Some f) = least_none s 0 refl
 
 -- how many bytes of a match are looked at
-looked_bytes : (form : DirectForm) (w : List ℕ) (p i j : ℕ) → FirstSpan form w p (Some (i, j)) → j - i ≤ looked_for form p (i, j)
+looked_bytes : (form : DirectForm) (w : List ℕ) (p i j : ℕ) → FirstSpan form w p (Some (i, j)) → j - i ≤ bytes_looked_at form p (i, j)
 looked_bytes (Anchor anchors) w p i j span = omega (arith, span.1.0.1)
 looked_bytes (OneByte first) w p i j span = omega (arith, span.0.0)
 looked_bytes (Run members) w p i j span = omega (arith, span.0.0)
@@ -439,7 +439,7 @@ anchored anchors w p i free first =
     (cases_lt p i)
 
 -- and how many from the place on from which it is sought
-bytes_from : (form : DirectForm) (w : List ℕ) (p i j : ℕ) → (EndsText form → ⊥) → FirstSpan form w p (Some (i, j)) → j - p ≤ looked_for form p (i, j)
+bytes_from : (form : DirectForm) (w : List ℕ) (p i j : ℕ) → (EndsText form → ⊥) → FirstSpan form w p (Some (i, j)) → j - p ≤ bytes_looked_at form p (i, j)
 bytes_from (Anchor anchors) w p i j free span = let low = anchored anchors w p i free span.0 in omega (arith, low, span.1.0.1)
 bytes_from (OneByte first) w p i j free span = omega arith
 bytes_from (Run members) w p i j free span = omega arith
@@ -451,10 +451,10 @@ bytes_from (Times members count) w p i j free span = omega arith
 bytes_from (Literal literal) w p i j free span = omega arith
 bytes_from (Choice literals) w p i j free span = omega arith
 
-pub looks_at_match : (form : DirectForm) (w : List ℕ) (p s t : ℕ) (r : Option (ℕ × ℕ)) → FirstSpan form w p r → IfSome r (λ f. TakesAtLeast s t (looked_for form p f)) →
+pub looks_at_match : (form : DirectForm) (w : List ℕ) (p s t : ℕ) (r : Option (ℕ × ℕ)) → FirstSpan form w p r → IfSome r (λ f. TakesAtLeast s t (bytes_looked_at form p f)) →
     IfSome r (λ f. TakesAtLeast s t (f.1 - f.0))
 looks_at_match form w p s t None span looks = tt
-looks_at_match form w p s t (Some (i, j)) span looks = least_less s t (looked_for form p (i, j)) (j - i) looks (looked_bytes form w p i j span)
+looks_at_match form w p s t (Some (i, j)) span looks = least_less s t (bytes_looked_at form p (i, j)) (j - i) looks (looked_bytes form w p i j span)
 
 -- a form whose matches end with the text is no form of an expression that has others
 ends_early : (e : Tree) (form : DirectForm) → SpannedAs e form → CanEndEarly e → EndsText form → ⊥
@@ -480,9 +480,106 @@ ends_early e (Literal literal) is early ends = absurd ends
 ends_early e (Choice literals) is early ends = absurd ends
 
 pub looks_from : (e : Tree) (form : DirectForm) (w : List ℕ) (p s t : ℕ) (r : Option (ℕ × ℕ)) → SpannedAs e form → CanEndEarly e → FirstSpan form w p r →
-    IfSome r (λ f. TakesAtLeast s t (looked_for form p f)) → IfSome r (λ f. TakesAtLeast s t (f.1 - p))
+    IfSome r (λ f. TakesAtLeast s t (bytes_looked_at form p f)) → IfSome r (λ f. TakesAtLeast s t (f.1 - p))
 looks_from e form w p s t None is early span looks = tt
-looks_from e form w p s t (Some (i, j)) is early span looks = least_less s t (looked_for form p (i, j)) (j - p) looks (bytes_from form w p i j (ends_early e form is early) span)
+looks_from e form w p s t (Some (i, j)) is early span looks = least_less s t (bytes_looked_at form p (i, j)) (j - p) looks (bytes_from form w p i j (ends_early e form is early) span)
+
+-- where the looks from p on went as far as a match ends, they pass over it
+passes_far : (form : DirectForm) (w : List ℕ) (p i j s t : ℕ) → p ≤ i → i ≤ j → j ≤ length w → FormSpans form w i j → TakesAtLeast s t (j - p) → FormPasses form w p s t
+passes_far form w p i j s t low up within spans looks = record {
+  start = i;
+  end = j;
+  later = low;
+  up = up;
+  within = within;
+  spans = spans;
+  bytes = least_less s t (j - p) (j - i) looks (omega (arith, low));
+  passed = λ free. looks;
+}
+
+-- they do so by form, where the first place of one is told
+pub passes_byte : (first : First) (w : List ℕ) (p s t : ℕ) (r : Option ℕ) → FirstWith first w p r → Counted s t (looked_at (length w) p r) → IfSome r (λ k. FormPasses (OneByte first) w p s t)
+passes_byte first w p s t None none counted = tt
+passes_byte first w p s t (Some k) here counted =
+    passes_far (OneByte first) w p k (k + 1) s t here.0 (omega arith) (let inside = starts_inside first w k here.1 in omega (arith, inside)) (here.1, refl) (least_counted s t (k + 1 - p) (k + 1 - p) counted (omega arith))
+
+pub passes_byte_run : (first : First) (members : List Bool) (w : List ℕ) (p s t : ℕ) (r : Option ℕ) → FirstWith first w p r → Counted s t (looked_at (length w) p r) → IfSome r (λ k. FormPasses (ByteThenRun first members) w p s t)
+passes_byte_run first members w p s t None none counted = tt
+passes_byte_run first members w p s t (Some k) here counted =
+    passes_far (ByteThenRun first members) w p k (k + 1) s t here.0 (omega arith) (let inside = starts_inside first w k here.1 in omega (arith, inside)) (here.1, no_copy) (least_counted s t (k + 1 - p) (k + 1 - p) counted (omega arith))
+
+pub passes_run_byte : (members : List Bool) (last : First) (w : List ℕ) (p s t : ℕ) (r : Option ℕ) → FirstWith last w p r → Counted s t (looked_at (length w) p r) → IfSome r (λ k. FormPasses (RunThenByte members last) w p s t)
+passes_run_byte members last w p s t None none counted = tt
+passes_run_byte members last w p s t (Some k) here counted =
+    passes_far (RunThenByte members last) w p k (k + 1) s t here.0 (omega arith) (let inside = starts_inside last w k here.1 in omega (arith, inside))
+    (k, ends_run members last w p k here k here.0 no_copy, refl) (least_counted s t (k + 1 - p) (k + 1 - p) counted (omega arith))
+
+pub passes_byte_run_end : (first : First) (members : List Bool) (w : List ℕ) (p s t : ℕ) (r : Option ℕ) → FirstStart (ByteThenRunAtEnd first members) w p r → IfSome r (λ k. TakesAtLeast s t (length w - k)) →
+    IfSome r (λ k. FormPasses (ByteThenRunAtEnd first members) w p s t)
+passes_byte_run_end first members w p s t None none looks = tt
+passes_byte_run_end first members w p s t (Some k) here looks = record {
+  start = k;
+  end = length w;
+  later = here.0;
+  up = here.1;
+  within = omega arith;
+  spans = (here.2.0, here.2.1, refl);
+  bytes = looks;
+  passed = λ free. absurd (free tt);
+}
+
+pub passes_times : (members : List Bool) (count : ℕ) (w : List ℕ) (p s t : ℕ) (r : Option ℕ) → FirstTimes members count w p r → IfSome r (λ k. TakesAtLeast s t (k + count - p)) →
+    IfSome r (λ k. FormPasses (Times members count) w p s t)
+passes_times members count w p s t None none looks = tt
+passes_times members count w p s t (Some k) here looks = passes_far (Times members count) w p k (k + count) s t here.0 (omega arith) (let inside = here.1 in omega arith) (here.2, refl) looks
+
+pub passes_literal : (literal w : List ℕ) (p s t : ℕ) (r : Option ℕ) → FirstLiteral w literal p r → Counted s t (passed_to (length w) p (length literal) r) → IfSome r (λ k. FormPasses (Literal literal) w p s t)
+passes_literal literal w p s t None none counted = tt
+passes_literal literal w p s t (Some k) here counted =
+    passes_far (Literal literal) w p k (k + length literal) s t here.0 (omega arith) (let fits = here.1.fits in omega arith) (here.1, refl)
+    (least_counted s t (k + length literal - p) (k + length literal - p) counted (omega arith))
+
+pub passes_choice : (literals : List (List ℕ)) (w : List ℕ) (p s t : ℕ) (r : Option ℕ) → FirstChoice literals w p r → IfSome r (λ k. (j : ℕ) → ChoiceSpans literals w k j → TakesAtLeast s t (j - p)) →
+    IfSome r (λ k. FormPasses (Choice literals) w p s t)
+passes_choice literals w p s t None none looks = tt
+passes_choice literals w p s t (Some k) here looks =
+    let can = here.2 in
+    let span : ChoiceSpans literals w k (k + length can.0) = (can.0, can.1, can.2, can.3, refl) in
+    passes_far (Choice literals) w p k (k + length can.0) s t here.0 (omega arith) (let fits = can.3.fits in omega arith) span (looks (k + length can.0) span)
+
+-- and where none is sought, they pass over the null string
+pub passes_anchor : (anchors : Anchors) (w : List ℕ) (p s : ℕ) (r : Option ℕ) → FirstStart (Anchor anchors) w p r → IfSome r (λ k. FormPasses (Anchor anchors) w p s s)
+passes_anchor anchors w p s None none = tt
+passes_anchor anchors w p s (Some k) here = record {
+  start = k;
+  end = k;
+  later = here.0;
+  up = omega arith;
+  within = here.1;
+  spans = (here.2, refl);
+  bytes = least_none s (k - k) (omega arith);
+  passed = λ free. let low = anchored anchors w p k free here in least_none s (k - p) (omega (arith, low));
+}
+
+pub passes_run : (members : List Bool) (w : List ℕ) (p s : ℕ) → p ≤ length w → FormPasses (Run members) w p s s
+passes_run members w p s within = passes_far (Run members) w p p p s s (omega arith) (omega arith) within no_copy (least_none s (p - p) (omega arith))
+
+pub passes_run_end : (members : List Bool) (w : List ℕ) (p s : ℕ) → p ≤ length w → FormPasses (RunAtEnd members) w p s s
+passes_run_end members w p s within = record {
+  start = length w;
+  end = length w;
+  later = within;
+  up = omega arith;
+  within = omega arith;
+  spans = (no_copy, refl);
+  bytes = least_none s (length w - length w) (omega arith);
+  passed = λ free. absurd (free tt);
+}
+
+-- where a place was found, they passed over a match of the form
+pub passes_some : (form like : DirectForm) (w : List ℕ) (p s t : ℕ) (r : Option ℕ) (told : Bool) → form ≡ like → told ≡ is_some r → IfSome r (λ k. FormPasses like w p s t) → IsTrue told → FormPasses form w p s t
+passes_some form like w p s t None told same is over h = absurd (true≢false (sym h ∙ is))
+passes_some form like w p s t (Some k) told same is over h = subst (λ f. FormPasses f w p s t) (sym same) over
 
 -- an expression of the form
 module _ (e : Written) (form : DirectForm) (is : IsDirect e form) (w : List ℕ) (bytes : AreBytes w) (p : ℕ) where
@@ -495,6 +592,20 @@ module _ (e : Written) (form : DirectForm) (is : IsDirect e form) (w : List ℕ)
     (λ s. let span = start_spans form w s.0 s.3 in (s.0, span.0, s.1, s.2, (is.0 w bytes s.0 span.0 s.2).1 span.1)),
     (λ f. (f.0, f.2, f.3, spans_start form w f.0 f.1 ((is.0 w bytes f.0 f.1 f.3).0 f.4))),
   )
+
+  pub direct_passes : (s t : ℕ) → FormPasses form w p s t → PassesOver (tree e) w p s t
+  direct_passes s t over =
+      let up = over.up in
+      let within = over.within in
+      record {
+        start = over.start;
+        end = over.end;
+        later = over.later;
+        within = within;
+        spans = (is.0 w bytes over.start over.end (omega (arith, up, within))).1 over.spans;
+        bytes = over.bytes;
+        passed = λ early. over.passed (ends_early (tree e) form is.0 early);
+      }
 
   pub direct_answer : (r : Option (ℕ × ℕ)) → FirstSpan form w p r → SpanAnswer (tree e) w p r
   direct_answer None none = (tt, (λ i k low within s. none_starts i k within (none i low within) s), tt)

@@ -6,6 +6,7 @@ use Rattle.std.specs.Prelude.{IfNone, IfSome}
 use Rattle.sedre.specs.Steps.{StepsWithin, Takes, TakesAtLeast}
 use Rattle.sedre.specs.Tree.{Tree}
 use Rattle.sedtext.specs.Answer.{SpanAnswer}
+use Rattle.sedtext.specs.Following.{PassesOver}
 use Rattle.sedpass.specs.Search.{LooksFrom}
 use Rattle.sedpass.specs.Kept.{KeptRoom, SameSpace}
 use Rattle.sedpass.specs.Table.{IsRoomy, IsTable, SameRoom, SameShape}
@@ -178,3 +179,15 @@ counts_since (Some f) s t u grows counts = least_since s t u (f.1 - f.0) grows c
 pub if_none : {X : Type 0} (o : Option X) (P : Type 0) → P → IfNone o P
 if_none None P h = h
 if_none (Some x) P h = tt
+
+-- looks before those that pass over a match take none of it away
+pub passes_since : (e : Tree) (w : List ℕ) (p s t u : ℕ) → s ≤ t → PassesOver e w p t u → PassesOver e w p s u
+passes_since e w p s t u grows over = record {
+  start = over.start;
+  end = over.end;
+  later = over.later;
+  within = over.within;
+  spans = over.spans;
+  bytes = least_since s t u (over.end - over.start) grows over.bytes;
+  passed = λ early. least_since s t u (over.end - p) grows (over.passed early);
+}

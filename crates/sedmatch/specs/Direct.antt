@@ -3,6 +3,7 @@
 use Rattle.std.specs.Prelude.{◌≡◌, ℕ, ◌+◌, ◌-◌, ◌*◌, ◌<◌, ◌≤◌, ◌↔◌, Bool, List, length, slice_get, Option, Some, None, IsTrue}
 use Rattle.memchr.specs.Find.{OccursAt}
 use Rattle.sedre.specs.Arena.{Written, tree}
+use Rattle.sedre.specs.Steps.{TakesAtLeast}
 use Rattle.sedre.specs.Tree.{Tree}
 use Rattle.sedtext.specs.Bytes.{AreBytes, FirstFrom}
 use Rattle.sedtext.specs.Runs.{Repeated}
@@ -60,11 +61,23 @@ EndsText other = ⊥
 
 -- how many bytes are looked at at least where such a match is found from p on: those of the match alone where it is sought from the
 -- text's end, and none where no byte decides
-abbrev pub looked_for : DirectForm → ℕ → ℕ × ℕ → ℕ
-looked_for (Anchor anchors) p f = 0
-looked_for (RunAtEnd members) p f = f.1 - f.0
-looked_for (ByteThenRunAtEnd first members) p f = f.1 - f.0
-looked_for other p f = f.1 - p
+abbrev pub bytes_looked_at : DirectForm → ℕ → ℕ × ℕ → ℕ
+bytes_looked_at (Anchor anchors) p f = 0
+bytes_looked_at (RunAtEnd members) p f = f.1 - f.0
+bytes_looked_at (ByteThenRunAtEnd first members) p f = f.1 - f.0
+bytes_looked_at other p f = f.1 - p
+
+-- looks counted from the one number to the other pass over a match of this form that begins at p or later: one look at least for each of
+-- its bytes and, unless all matches end where the text does, for each byte from p to its end
+pub record FormPasses (form : DirectForm) (w : List ℕ) (p before after : ℕ) : Type 0 where
+  pub start : ℕ
+  pub end : ℕ
+  pub later : p ≤ start
+  pub up : start ≤ end
+  pub within : end ≤ length w
+  pub spans : FormSpans form w start end
+  pub bytes : TakesAtLeast before after (end - start)
+  pub passed : (EndsText form → ⊥) → TakesAtLeast before after (end - p)
 
 -- how many looks there are at most for each byte that is passed
 abbrev pub rate : DirectForm → ℕ

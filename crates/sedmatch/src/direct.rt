@@ -12,10 +12,10 @@ ghost use Rattle.sedre.specs.declared.types.Node.TheVariants.{Seq, Set};
 ghost use Rattle.sedtext.specs.Answer.{SpanAnswer};
 ghost use Rattle.sedtext.specs.Bytes.{looked_at};
 ghost use Rattle.sedtext.specs.Costs.{Pays};
-ghost use Rattle.sedtext.specs.Following.{CanEndEarly};
+ghost use Rattle.sedtext.specs.Following.{CanEndEarly, PassesOver};
 ghost use Rattle.sedtext.specs.Spans.{SomeFound, IsIn};
 ghost use Rattle.sedmatch.specs.Candidates.{NoMatchBefore};
-ghost use Rattle.sedmatch.specs.Direct.{ComesFirst, FirstWith, FirstStart, FirstSpan, HasForm, IsDirect, StartsFrom, end_or, looked_for, rate};
+ghost use Rattle.sedmatch.specs.Direct.{ComesFirst, FirstWith, FirstStart, FirstSpan, FormPasses, HasForm, IsDirect, StartsFrom, end_or, bytes_looked_at, rate};
 ghost use Rattle.sedmatch.specs.declared.direct.DirectForm.TheVariants.{ByteThenRunAtEnd, Anchor as AnchorForm, OneByte, Run, ByteThenRun, RunThenByte, RunAtEnd, Times, Literal, Choice as ChoiceForm};
 
 use crate::word::{Word, word_of};
@@ -530,7 +530,7 @@ fn form_span(
     requires from { from ≤ length text.now }
     ensures span { FirstSpan form.now text.now from result }
     ensures cost { Pays steps.old steps.new (rate form.now * (end_or (length text.now) result + 1)) (rate form.now * from) }
-    ensures counts { IfSome result (λ f. TakesAtLeast steps.old steps.new (looked_for form.now from f)) }
+    ensures counts { IfSome result (λ f. TakesAtLeast steps.old steps.new (bytes_looked_at form.now from f)) }
 {
     match form {
         DirectForm::Anchor(anchor) => anchor_span(*anchor, text, from),
@@ -571,6 +571,7 @@ pub fn direct_span(
 fn can_match(form: &DirectForm, text: &Text, from: usize, steps: &mut Steps) -> bool
     requires from { from ≤ length text.now }
     ensures starts { IsTrue result ↔ StartsFrom form.now text.now from }
+    ensures passes { IsTrue result → FormPasses form.now text.now from steps.old steps.new }
     ensures cost { Takes steps.old steps.new (rate form.now * (length text.now + 1)) }
 {
     match form {
@@ -593,6 +594,7 @@ fn can_match(form: &DirectForm, text: &Text, from: usize, steps: &mut Steps) -> 
 pub fn direct_matches(form: &DirectForm, text: &Text, from: usize, steps: &mut Steps) -> bool
     requires from { from ≤ length text.now }
     ensures matches { (e : Written) → IsDirect e form.now → IsTrue result ↔ SomeFound (tree e) text.now from }
+    ensures passes { (e : Written) → IsDirect e form.now → IsTrue result → PassesOver (tree e) text.now from steps.old steps.new }
     ensures cost { Takes steps.old steps.new (rate form.now * (length text.now + 1)) }
 {
     are_bytes(text);

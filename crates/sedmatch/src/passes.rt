@@ -4,6 +4,7 @@ ghost use Rattle.sedre.specs.Arena.{IsExpr, Written, tree};
 ghost use Rattle.sedre.specs.Steps.{Takes, TakesAtLeast};
 ghost use Rattle.sedtext.specs.Beginnings.{AllBegin};
 ghost use Rattle.sedtext.specs.declared.beginnings.Begins.TheVariants.{AtStart};
+ghost use Rattle.sedtext.specs.Following.{PassesOver};
 ghost use Rattle.sedpass.specs.Find.{IsSweep};
 ghost use Rattle.sedpass.specs.Table.{IsAhead, SameShape};
 ghost use Rattle.sedtext.specs.Caps.{IsReport};
@@ -161,6 +162,7 @@ fn begins_match(subject: Subject, ahead: &mut Table, work: &mut Work, steps: &mu
     ensures ahead { IsAhead subject.entry.prepared.now ahead.new }
     ensures shape { SameShape ahead.old ahead.new }
     ensures matches { IsTrue result ↔ SomeFound (tree subject.entry.prepared.now.arena.expr) subject.entry.text.now 0 }
+    ensures passes { IsTrue result → PassesOver (tree subject.entry.prepared.now.arena.expr) subject.entry.text.now 0 steps.old steps.new }
     ensures cost { Takes steps.old steps.new (40 * length subject.entry.prepared.now.arena.expr.nodes * (length subject.entry.text.now + 1)) }
 {
     let bytes = subject.text.forwards();
@@ -189,6 +191,7 @@ fn matches_with(
     ensures ahead { IsAhead sought.now.prepared ahead.new }
     ensures ahead_shape { SameShape ahead.old ahead.new }
     ensures matches { IsTrue result ↔ SomeFound (tree sought.now.prepared.arena.expr) text.now from }
+    ensures passes { IsTrue result → PassesOver (tree sought.now.prepared.arena.expr) text.now from steps.old steps.new }
     ensures cost { Takes steps.old steps.new (41 * length sought.now.prepared.arena.expr.nodes * (length text.now + 1)) }
 {
     let subject = Subject {
@@ -218,6 +221,7 @@ pub fn matches_by(
     ensures desk { IsDesk desk.new }
     ensures most { SameDesk desk.old desk.new }
     ensures matches { IsTrue result ↔ SomeFound (tree passes.old.sought.prepared.arena.expr) text.now from }
+    ensures passes { IsTrue result → PassesOver (tree passes.old.sought.prepared.arena.expr) text.now from steps.old steps.new }
     ensures cost { Takes steps.old steps.new (44 * length passes.old.sought.prepared.arena.expr.nodes * (length text.now + 1)) }
 {
     let sought = &passes.sought;

@@ -4,7 +4,7 @@ ghost use Rattle.std.specs.Option.{unwrap_or};
 ghost use Rattle.sedre.specs.Arena.{Written, tree};
 ghost use Rattle.sedre.specs.Steps.{Takes, TakesAtLeast};
 ghost use Rattle.sedtext.specs.Costs.{Pays};
-ghost use Rattle.sedtext.specs.Following.{CanEndEarly, EndsWithin, LiesOn, Occurs, bytes_passed, next_span};
+ghost use Rattle.sedtext.specs.Following.{CanEndEarly, EndsWithin, LiesOn, Occurs, PassesOver, bytes_passed, next_span};
 ghost use Rattle.sedtext.specs.Matching.{found, report};
 ghost use Rattle.sedtext.specs.Parts.{SpanIn, span_of};
 ghost use Rattle.sedtext.specs.SearchRoom.{FitInto};
@@ -220,6 +220,7 @@ impl TableMatcher {
         ensures scratch { scratch.new ≡ scratch.old }
         ensures matches { IsTrue result ↔ SomeFound (tree self.old) text.now from }
         ensures computed { result ≡ is_some (found (tree self.old) text.now from) }
+        ensures passes { IsTrue result → PassesOver (tree self.old) text.now from steps.old steps.new }
         ensures cost { Takes steps.old steps.new (64 * length self.old.nodes * (length text.now + 1)) }
     {
         match &mut self.engine {

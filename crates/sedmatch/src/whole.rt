@@ -2,6 +2,7 @@
 ghost use Rattle.std.specs.Prelude.{◌≡◌, ◌+◌, ◌-◌, ◌*◌, ◌≤◌, ◌↔◌, length, IfNone, IfSome, IsTrue, is_some};
 ghost use Rattle.sedre.specs.Arena.{tree};
 ghost use Rattle.sedtext.specs.Spans.{SomeFound};
+ghost use Rattle.sedtext.specs.Following.{PassesOver};
 ghost use Rattle.sedtext.specs.Answer.{IsComputed, MatchAnswer, SpanAnswer};
 ghost use Rattle.sedtext.specs.Matching.{found};
 ghost use Rattle.sedtext.specs.SearchRoom.{FitInto};
@@ -64,6 +65,7 @@ fn any_match(
     ensures desk { IsDesk desk.new }
     ensures same { SameDesk desk.old desk.new }
     ensures matches { IsTrue result ↔ SomeFound (tree prepared.now.arena.expr) text.now from }
+    ensures passes { IsTrue result → PassesOver (tree prepared.now.arena.expr) text.now from steps.old steps.new }
     ensures cost { Takes steps.old steps.new (41 * length prepared.now.arena.expr.nodes * (length text.now + 1)) }
 {
     desk.any.fit(prepared);
@@ -151,6 +153,7 @@ pub fn is_match(
     ensures scratch { scratch.new ≡ scratch.old }
     ensures matches { IsTrue result ↔ SomeFound (tree expr.now) text.now from }
     ensures computed { result ≡ is_some (found (tree expr.now) text.now from) }
+    ensures passes { IsTrue result → PassesOver (tree expr.now) text.now from steps.old steps.new }
     ensures cost { Takes steps.old steps.new (64 * length expr.now.nodes * (length text.now + 1)) }
 {
     scratch.once.prepared.fit(expr, steps);

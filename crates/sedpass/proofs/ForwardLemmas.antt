@@ -7,6 +7,8 @@ use Rattle.sedre.specs.Arena.{Written, IsArena, tree, tree_at}
 use Rattle.sedre.specs.Mirror.{seen}
 use Rattle.sedre.specs.declared.types.Node.{Node}
 use Rattle.sedtext.specs.declared.starts.Starts.{Starts}
+use Rattle.sedre.specs.Steps.{TakesAtLeast}
+use Rattle.sedtext.specs.Following.{PassesOver}
 use Rattle.sedtext.specs.Matching.{takes}
 use Rattle.sedtext.specs.Reach.{At, IsStart, SomeSpan, Longest}
 use Rattle.sedtext.specs.Spans.{Spans, SomeFound}
@@ -22,6 +24,7 @@ use Rattle.sedpass.specs.declared.nodes.Prepared.{Prepared}
 use Rattle.sedpass.specs.declared.rows.Way.{Way}
 use Rattle.sedpass.specs.declared.table.Table.{Table}
 use Rattle.sedpass.specs.declared.forwards.Passed.{Passed}
+use Rattle.sedpass.proofs.CountLemmas.{least_less}
 use Rattle.sedpass.proofs.RowLemmas.{dead, row_root, row_empty}
 use Rattle.sedpass.proofs.TableLemmas.{names_state, names_offset, names_code, names_small, names_map}
 use Rattle.sedre.proofs.MirrorLemmas.{seen-arena, seen-length}
@@ -307,6 +310,22 @@ module _ (e : Written) (r : ℕ) (w : List ℕ) (from : ℕ) (whole : r + 1 ≡ 
   end_found low None none = (λ h. absurd (true≢false (sym h)), λ some. absurd (none some.1 (some.0, (some.2, some.3), from_tree some.0 some.1 some.4)))
   end_found low (Some j) is = (λ h. let some = is.0 in (some.0, j, some.1.0, some.1.1, to_tree some.0 j some.2), λ some. refl)
 
+  pub end_passes : (sweeps : Bool) (s t place : ℕ) → from ≤ length w → (end : Option ℕ) → IsEnd sweeps e.nodes w r (starts_of sweeps from w) end → IfSome end (λ j. j ≤ place) →
+      TakesAtLeast s t (2 * (place - from) + 1) → IfSome end (λ j. PassesOver (tree e) w from s t)
+  end_passes sweeps s t place low None is ended looks = tt
+  end_passes sweeps s t place low (Some j) is ended looks =
+      let some = is.0 in
+      let after = first_start sweeps from w some.0 some.1 in
+      record {
+        start = some.0;
+        end = j;
+        later = after;
+        within = Spans-within (tree_at e.nodes r) w some.0 j (last_start sweeps from w some.0 low some.1) some.2;
+        spans = to_tree some.0 j some.2;
+        bytes = least_less s t (2 * (place - from) + 1) (j - some.0) looks (omega (arith, ended, after));
+        passed = λ early. least_less s t (2 * (place - from) + 1) (j - from) looks (omega (arith, ended));
+      }
+
 -- of a pass forwards
 module _ (p : Prepared) (way u : Way) (w : List ℕ) (from : ℕ) (end : Option ℕ) (same : u ≡ way) (mirrored : way.mirrored ≡ false) (is : IsEnd u.sweeps (nodes_of u p.arena.expr) w p.root (starts_of u.sweeps from w) end) where
   seen_end : IsEnd way.sweeps p.arena.expr.nodes w p.root (starts_of way.sweeps from w) end
@@ -318,6 +337,9 @@ module _ (p : Prepared) (way u : Way) (w : List ℕ) (from : ℕ) (end : Option 
 
   pub run_found : from ≤ length w → IsTrue way.sweeps → IsTrue (is_some end) ↔ SomeFound (tree p.arena.expr) w from
   run_found low sweeps = end_found p.arena.expr p.root w from p.is_prepared.last low end (subst (λ b. IsEnd b p.arena.expr.nodes w p.root (starts_of b from w) end) sweeps seen_end)
+
+  pub run_passes : (s t place : ℕ) → from ≤ length w → IfSome end (λ j. j ≤ place) → TakesAtLeast s t (2 * (place - from) + 1) → IfSome end (λ j. PassesOver (tree p.arena.expr) w from s t)
+  run_passes s t place low ended looks = end_passes p.arena.expr p.root w from p.is_prepared.last way.sweeps s t place low end seen_end ended looks
 
 -- Costs.
 

@@ -565,6 +565,7 @@ fn turn(
     ensures told { IsTold told.new }
     ensures cost { Takes steps.old steps.new (kind_cost subject.entry here (next_of result) + 1) }
     ensures counts { TakesAtLeast steps.old steps.new (found told.new.spans - found told.old.spans) }
+    ensures entered { (NoneDue (tree_at (nodes_in subject.entry) here.node) (told_of told.old.due told.old.spans) → ⊥) → TakesAtLeast steps.old steps.new 1 }
     ensures looks { (node : Node) → slice_get (nodes_in subject.entry) here.node ≡ Some node → (NoneDue (tree_at (nodes_in subject.entry) here.node) (told_of told.old.due told.old.spans) → ⊥) →
         LooksAt subject.entry here node (next_of result) steps.old steps.new }
 {

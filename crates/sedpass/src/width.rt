@@ -23,7 +23,7 @@ pub fn width_for(max_text: usize) -> usize
     ensures least { 16 ≤ result }
     ensures most { result ≤ 65534 }
     ensures no_wider { 16 < result → result < 1024 → 4 * result * result ≤ max_text }
-    ensures still { 1024 ≤ result → 16384 * result ≤ max_text }
+    ensures no_wider_long { 1024 ≤ result → 16384 * result ≤ max_text }
     ensures blocks { max_text ≤ 2 ^ 30 → max_text / result + 1 ≤ 32768 }
 {
     let mut width = 16;

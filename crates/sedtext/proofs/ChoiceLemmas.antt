@@ -1,10 +1,12 @@
 -- A choice of literals.
 use Rattle.std.proofs.Common.{◌≡◌, ℕ, zero, suc, ◌+◌, ◌<◌, ◌≤◌, ◌⊎◌, ◌↔◌, Bool, true, false, List, [], ◌∷◌, ◌++◌, length, Some, refl, sym, ap, ◌∙◌, subst, inl, inr, ⊎_elim, arith, length-append, Option, None, true≢false}
-use Rattle.std.specs.Prelude.{slice_get, slice_index_or, slice_set, slice_index, is_some}
+use Rattle.std.specs.Prelude.{◌-◌, ◌*◌, slice_get, slice_index_or, slice_set, slice_index, IfSome, is_some}
 use Rattle.std.proofs.lemmas.Bool.{cases_lt, cases_eq}
 use Rattle.std.proofs.lemmas.List.{get_or_append_left, get_or_push, get_or-set_same, get_or-set_other}
 use Rattle.std.proofs.lemmas.Option.{slice_get_within, get_or_from_slice_get, slice_get-get_or}
 use Rattle.sedre.specs.Arena.{IsArena}
+use Rattle.sedre.specs.Steps.{Counted, TakesAtLeast}
+use Rattle.sedtext.specs.Bytes.{looked_at}
 use Rattle.sedre.specs.declared.types.Node.{Node}
 use Rattle.sedre.specs.declared.types.NodeId.{NodeId}
 use Rattle.sedre.specs.declared.types.Node.TheVariants.{Alt, Group}
@@ -15,6 +17,7 @@ use Rattle.sedtext.specs.Choice.{ChoiceAt, ChoiceSpans, ChoiceOr, AllChoice, Bra
 use Rattle.sedtext.specs.Few.{FewAt, FirstFew}
 use Rattle.sedtext.specs.declared.counted.few.Few.{Few}
 use Rattle.sedtext.specs.declared.counted.choice.Branches.TheVariants.{Both, Inner}
+use Rattle.sedtext.proofs.CountLemmas.{least_ahead, least_less}
 use Rattle.sedtext.proofs.ReachLemmas.{open_at, close_at}
 
 -- what stands in a list with one more at its end
@@ -73,6 +76,18 @@ literal_short (other ∷ words) (suc k) literal is = let rest = literal_short wo
 
 pub spans_short : (words : List (List ℕ)) (w : List ℕ) (i j : ℕ) → AreShort words → ChoiceSpans words w i j → j ≤ i + 20
 spans_short words w i j short s = let few = literal_short words s.1 s.0 s.2 in omega (arith, few, short, s.4)
+
+-- twenty looks more than up to a place are a look for each byte up to the end of any match that begins there
+pub counts_to_end : (words : List (List ℕ)) (w : List ℕ) (p s t : ℕ) (r : Option ℕ) → AreShort words → IfSome r (λ k. TakesAtLeast s t (k + 20 - p)) →
+    IfSome r (λ k. (j : ℕ) → ChoiceSpans words w k j → TakesAtLeast s t (j - p))
+counts_to_end words w p s t None short looks = tt
+counts_to_end words w p s t (Some k) short looks = λ j spans. let near = spans_short words w k j short spans in least_less s t (k + 20 - p) (j - p) looks (omega (arith, near))
+
+-- such are those of a search that looks twenty times at each place
+pub counts_ahead : (words : List (List ℕ)) (w : List ℕ) (p s t looks : ℕ) (r : Option ℕ) → AreShort words → FirstChoice words w p r → Counted s t looks → 20 * looked_at (length w) p r ≤ looks →
+    IfSome r (λ k. (j : ℕ) → ChoiceSpans words w k j → TakesAtLeast s t (j - p))
+counts_ahead words w p s t looks None short first counted few = tt
+counts_ahead words w p s t looks (Some k) short first counted few = counts_to_end words w p s t (Some k) short (least_ahead s t (length w) p looks (Some k) first.0 counted few)
 
 module _ (nodes : List Node) (x : ℕ) where
   -- the branches of a node

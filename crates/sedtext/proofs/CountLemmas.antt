@@ -1,5 +1,5 @@
 -- Counts of steps that stay at the largest: how many looks there were at least.
-use Rattle.std.proofs.Common.{◌≡◌, ℕ, ◌+◌, ◌-◌, ◌≤◌, Option, None, Some, IfSome, arith}
+use Rattle.std.proofs.Common.{◌≡◌, ℕ, ◌+◌, ◌-◌, ◌*◌, ◌≤◌, Option, None, Some, IfSome, arith}
 use Rattle.sedre.specs.Steps.{Counted, TakesAtLeast}
 use Rattle.sedtext.specs.Bytes.{looked_at}
 
@@ -45,6 +45,11 @@ most_counted s t n is = omega (arith, is)
 pub least_looked : (s t n p looks : ℕ) (r : Option ℕ) → Counted s t looks → looked_at n p r ≤ looks → IfSome r (λ k. TakesAtLeast s t (k - p))
 least_looked s t n p looks None is few = tt
 least_looked s t n p looks (Some k) is few = least_counted s t looks (k - p) is (omega (arith, few))
+
+-- where each of these looks is twenty
+pub least_ahead : (s t n p looks : ℕ) (r : Option ℕ) → IfSome r (λ k. p ≤ k) → Counted s t looks → 20 * looked_at n p r ≤ looks → IfSome r (λ k. TakesAtLeast s t (k + 20 - p))
+least_ahead s t n p looks None low is few = tt
+least_ahead s t n p looks (Some k) low is few = least_counted s t looks (k + 20 - p) is (omega (arith, low, few))
 
 -- and one that is found from a later place q on
 pub least_later : (s a b p q : ℕ) (r : Option ℕ) → TakesAtLeast s a (q - p) → IfSome r (λ k. TakesAtLeast a b (k - q)) → IfSome r (λ k. TakesAtLeast s b (k - p))

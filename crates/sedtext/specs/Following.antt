@@ -1,5 +1,6 @@
 -- All occurrences in one text, one after another (XCU sed, "s/BRE/replacement/flags"): which span comes next, and where it lies.
 use Rattle.std.specs.Prelude.{ℕ, ◌+◌, ◌-◌, ◌<◌, ◌≤◌, List, length, Option, Some, None}
+use Rattle.sedre.specs.Steps.{TakesAtLeast}
 use Rattle.sedre.specs.Tree.{Tree}
 use Rattle.sedtext.specs.Bytes.{AreBytes}
 use Rattle.sedtext.specs.NextMatch.{next_match}
@@ -36,3 +37,14 @@ CanEndEarly e = (w : List ℕ) × AreBytes w × (i : ℕ) × (j : ℕ) × (j < l
 abbrev pub bytes_passed : Option ℕ → ℕ × ℕ → ℕ
 bytes_passed None f = f.1
 bytes_passed (Some q) f = f.1 - (q + 1)
+
+-- looks counted from the one number to the other pass over some match that begins at place p or later: one look at least for each of its
+-- bytes and, where the expression can match before a text's end, for each byte from p to the match's end
+pub record PassesOver (e : Tree) (w : List ℕ) (p before after : ℕ) : Type 0 where
+  pub start : ℕ
+  pub end : ℕ
+  pub later : p ≤ start
+  pub within : end ≤ length w
+  pub spans : Spans e w start end
+  pub bytes : TakesAtLeast before after (end - start)
+  pub passed : CanEndEarly e → TakesAtLeast before after (end - p)

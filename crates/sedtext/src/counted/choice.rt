@@ -7,7 +7,7 @@
 ghost use Rattle.std.specs.Prelude.{◌≡◌, ℕ, List, ◌+◌, ◌*◌, ◌<◌, ◌≤◌, ◌-◌, ◌↔◌, ◌⊎◌, length, IfOk, IfSome, IsTrue, slice_get, Some};
 ghost use Rattle.memchr.specs.Find.{OccursAt};
 ghost use Rattle.sedtext.specs.Word.{AllWord};
-ghost use Rattle.sedtext.specs.Choice.{AllChoice, AreHeads, AreShort, BranchesOf, ChoiceAt, ChoiceEnd, FirstChoice, Longer, LongestAt, RareHeads};
+ghost use Rattle.sedtext.specs.Choice.{AllChoice, AreHeads, AreShort, BranchesOf, ChoiceAt, ChoiceEnd, ChoiceSpans, FirstChoice, Longer, LongestAt, RareHeads};
 ghost use Rattle.sedtext.specs.Few.{Gathered, HasFew};
 ghost use Rattle.sedtext.specs.Openings.{PairAt};
 ghost use Rattle.sedtext.specs.Bytes.{looked_at};
@@ -342,7 +342,7 @@ fn rare_choice(
     requires from { from ≤ length text.now }
     ensures first { FirstChoice literals.now text.now from result }
     ensures cost { Takes steps.old steps.new (21 * looked_at (length text.now) from result) }
-    ensures counts { IfSome result (λ k. TakesAtLeast steps.old steps.new (k - from)) }
+    ensures counts { IfSome result (λ k. TakesAtLeast steps.old steps.new (k + 20 - from)) }
 {
     let mut place = from;
     while let Some(at) = find_few(text, few, place, steps) {
@@ -360,7 +360,7 @@ impl Choice {
         requires from { from ≤ length text.now }
         ensures first { FirstChoice self.now text.now from result }
         ensures cost { Takes steps.old steps.new (22 * looked_at (length text.now) from result) }
-        ensures counts { IfSome result (λ k. TakesAtLeast steps.old steps.new (k - from)) }
+        ensures counts { IfSome result (λ k. (j : ℕ) → ChoiceSpans self.now text.now k j → TakesAtLeast steps.old steps.new (j - from)) }
     {
         let literals = &self.literals;
         match (&self.rare, &self.openings) {

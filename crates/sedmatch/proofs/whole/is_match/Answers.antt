@@ -1,8 +1,9 @@
 use Rattle.std.proofs.Common.{◌↔◌, IsTrue, refl, subst}
 use Rattle.sedre.specs.Arena.{Written, tree}
+use Rattle.sedtext.specs.Following.{PassesOver}
 use Rattle.sedtext.specs.Spans.{SomeFound}
 use Rattle.sedtext.proofs.MatchingLemmas.{same_test}
-use Rattle.sedmatch.proofs.OnceLemmas.{once_fitted, once_still}
+use Rattle.sedmatch.proofs.OnceLemmas.{once_fitted, once_still, passes_since}
 use Rattle.sedmatch.proofs.whole.is_match.Goals as goal
 
 pub invariant_of-scratch : goal.invariant_of-scratch
@@ -16,3 +17,8 @@ pub returns-clause-computed : goal.returns-clause-computed
 returns-clause-computed c =
     same_test c.any_match.result (tree c.args.expr.now) c.args.text.now c.args.from c.requires.from
     (subst (λ (e : Written). IsTrue c.any_match.result ↔ SomeFound (tree e) c.args.text.now c.args.from) c.fit.ensures.expr c.any_match.ensures.matches)
+
+pub returns-clause-passes : goal.returns-clause-passes
+returns-clause-passes c = λ h.
+    passes_since (tree c.args.expr.now) c.args.text.now c.args.from c.args.steps.now c.fit.new.steps c.any_match.new.steps c.fit.ensures.cost.0
+    (subst (λ (e : Written). PassesOver (tree e) c.args.text.now c.args.from c.fit.new.steps c.any_match.new.steps) c.fit.ensures.expr (c.any_match.ensures.passes h))

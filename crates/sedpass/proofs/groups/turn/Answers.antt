@@ -33,3 +33,10 @@ returns-then-is_due-clause-looks c = λ node is due.
 
 pub returns-else-is_due-clause-looks : goal.returns-else-is_due-clause-looks
 returns-else-is_due-clause-looks c = λ node is due. absurd (due (c.is_due.ensures c.if-is_due.false c.args.told.now.spans))
+
+pub returns-then-is_due-clause-entered : goal.returns-then-is_due-clause-entered
+returns-then-is_due-clause-entered c = λ due.
+    least_look c.args.steps.now c.look-node.new.steps c.turn_node.new.steps 0 1 c.look-node.ensures.counts c.turn_node.ensures.cost.0 (omega arith)
+
+pub returns-else-is_due-clause-entered : goal.returns-else-is_due-clause-entered
+returns-else-is_due-clause-entered c = λ due. absurd (due (c.is_due.ensures c.if-is_due.false c.args.told.now.spans))

@@ -8,5 +8,5 @@ loop-width-preserved c =
       least = omega (arith, least);
       most = omega arith;
       no_wider = λ some few. let narrow = (c.is_narrow.ensures.short (omega arith)).0 c.if-is_narrow.true in omega (arith, narrow);
-      still = λ long. let narrow = (c.is_narrow.ensures.long (omega arith)).0 c.if-is_narrow.true in omega (arith, narrow);
+      no_wider_long = λ long. let narrow = (c.is_narrow.ensures.long (omega arith)).0 c.if-is_narrow.true in omega (arith, narrow);
     }

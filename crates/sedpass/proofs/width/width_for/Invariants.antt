@@ -6,7 +6,7 @@ invariant-loop-width l = record {
   least : 16 ≤ l.width;
   most : l.width ≤ 65536;
   no_wider : 16 < l.width → l.width < 1024 → 4 * l.width * l.width ≤ l.max_text;
-  still : 1024 ≤ l.width → 16384 * l.width ≤ l.max_text;
+  no_wider_long : 1024 ≤ l.width → 16384 * l.width ≤ l.max_text;
 }
 
 abbrev pub decreases-loop-width : goal.decreases-loop-width

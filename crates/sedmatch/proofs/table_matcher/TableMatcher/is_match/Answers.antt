@@ -1,6 +1,7 @@
 use Rattle.std.proofs.Common.{◌≡◌, ◌∙◌, ◌↔◌, ◌+◌, ◌*◌, length, IsTrue, ap, refl, subst, sym, arith}
 use Rattle.sedre.specs.Arena.{tree}
 use Rattle.sedre.specs.Steps.{Takes}
+use Rattle.sedtext.specs.Following.{PassesOver}
 use Rattle.sedtext.specs.Spans.{SomeFound}
 use Rattle.sedtext.proofs.MatchingLemmas.{same_test}
 use Rattle.sedmatch.specs.Passes.{IsEngine, written_of}
@@ -59,4 +60,18 @@ returns-clause-matches c =
           let value = w.deref_mut.ensures.value in
           let is : w.deref_mut.result.now.sought.prepared.arena.expr ≡ c.args.self.now = ap (λ (x : Passes). x.sought.prepared.arena.expr) value ∙ sym (ap written_of w.in-Passes.is) ∙ c.self.view_is in
           subst (λ b. IsTrue b ↔ SomeFound (tree c.args.self.now) t c.args.from) (sym w.result-is) (subst (λ v. IsTrue w.matches_by.result ↔ SomeFound (tree v) t c.args.from) is w.matches_by.ensures.matches)
+    ]
+
+pub returns-clause-passes : goal.returns-clause-passes
+returns-clause-passes c =
+    let t = c.args.text.now in
+    elim c.match-self.branch [
+      | in-Direct w ↦
+          let is = direct_is c.self.inside.engine c.args.self.now w.in-Direct.field-0 w.in-Direct.form c.self.view_is c.self.invariant w.in-Direct.is in
+          λ h. subst (λ v. PassesOver (tree c.args.self.now) t c.args.from c.args.steps.now v) (sym w.steps-is) (w.direct_matches.ensures.passes c.args.self.now is (sym w.result-is ∙ h))
+      | in-Passes w ↦
+          let value = w.deref_mut.ensures.value in
+          let is : w.deref_mut.result.now.sought.prepared.arena.expr ≡ c.args.self.now = ap (λ (x : Passes). x.sought.prepared.arena.expr) value ∙ sym (ap written_of w.in-Passes.is) ∙ c.self.view_is in
+          λ h. subst (λ v. PassesOver (tree c.args.self.now) t c.args.from c.args.steps.now v) (sym w.steps-is)
+              (subst (λ v. PassesOver (tree v) t c.args.from c.args.steps.now w.matches_by.new.steps) is (w.matches_by.ensures.passes (sym w.result-is ∙ h)))
     ]

@@ -58,5 +58,6 @@ longest_choice-requires-clause-at c =
 pub returns-then-is_some-clause-counts : goal.returns-then-is_some-clause-counts
 returns-then-is_some-clause-counts c =
     let looked = least_counted c.loop-at.steps c.find_few.new.steps _ (c.in-Some.at - c.loop-at.place) c.in-Some.ensures.counts (omega arith) in
-    let after = least_up c.loop-at.steps c.find_few.new.steps c.longest_choice.new.steps _ looked c.longest_choice.ensures.cost.0 in
-    least_both c.args.steps.now c.loop-at.steps c.longest_choice.new.steps (c.loop-at.place - c.args.from) _ _ c.loop-at.invariant.counts after (omega arith)
+    let compared = least_counted c.find_few.new.steps c.longest_choice.new.steps 20 20 c.longest_choice.ensures.counts (omega arith) in
+    let here = least_both c.loop-at.steps c.find_few.new.steps c.longest_choice.new.steps (c.in-Some.at - c.loop-at.place) 20 (c.in-Some.at - c.loop-at.place + 20) looked compared (omega arith) in
+    least_both c.args.steps.now c.loop-at.steps c.longest_choice.new.steps (c.loop-at.place - c.args.from) _ _ c.loop-at.invariant.counts here (omega arith)
