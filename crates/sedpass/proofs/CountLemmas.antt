@@ -1,5 +1,5 @@
 -- Counts of steps that stay at the largest.
-use Rattle.std.proofs.Common.{◌≡◌, ℕ, ◌+◌, ◌-◌, ◌*◌, ◌≤◌, Bool, false, List, Option, None, Some, IsTrue, IfSome, sym, ◌∙◌, true≢false, arith}
+use Rattle.std.proofs.Common.{◌≡◌, ℕ, ◌+◌, ◌-◌, ◌*◌, ◌≤◌, Bool, List, Option, None, Some, IsTrue, IfSome, sym, ◌∙◌, true≢false, arith}
 use Rattle.std.specs.Prelude.{is_some}
 use Rattle.sedre.specs.Steps.{Counted, TakesAtLeast}
 use Rattle.sedre.specs.Tree.{Tree}

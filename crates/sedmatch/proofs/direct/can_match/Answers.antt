@@ -1,6 +1,6 @@
 use Rattle.std.proofs.Common.{refl, subst, sym, arith}
 use Rattle.std.specs.Prelude.{is_some}
-use Rattle.sedmatch.specs.declared.direct.DirectForm.TheVariants.{Anchor, OneByte, Run, ByteThenRun, RunAtEnd, ByteThenRunAtEnd, RunThenByte, Times, Literal, Choice}
+use Rattle.sedmatch.specs.declared.direct.DirectForm.TheVariants.{Anchor, OneByte, ByteThenRun, ByteThenRunAtEnd, RunThenByte, Times, Literal, Choice}
 use Rattle.sedmatch.specs.Direct.{FormPasses}
 use Rattle.sedmatch.proofs.DirectLemmas.{first_looked, from_run_end, passes_anchor, passes_byte, passes_byte_run, passes_byte_run_end, passes_choice, passes_literal, passes_run, passes_run_byte, passes_run_end, passes_some, passes_times, some_run_byte, some_start, start_byte, start_byte_run, start_choice, start_literal, start_times, told_from}
 use Rattle.sedmatch.proofs.direct.can_match.Goals as goal
