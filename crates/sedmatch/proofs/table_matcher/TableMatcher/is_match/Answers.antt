@@ -73,5 +73,5 @@ returns-clause-passes c =
           let value = w.deref_mut.ensures.value in
           let is : w.deref_mut.result.now.sought.prepared.arena.expr ≡ c.args.self.now = ap (λ (x : Passes). x.sought.prepared.arena.expr) value ∙ sym (ap written_of w.in-Passes.is) ∙ c.self.view_is in
           λ h. subst (λ v. PassesOver (tree c.args.self.now) t c.args.from c.args.steps.now v) (sym w.steps-is)
-              (subst (λ v. PassesOver (tree v) t c.args.from c.args.steps.now w.matches_by.new.steps) is (w.matches_by.ensures.passes (sym w.result-is ∙ h)))
+          (subst (λ v. PassesOver (tree v) t c.args.from c.args.steps.now w.matches_by.new.steps) is (w.matches_by.ensures.passes (sym w.result-is ∙ h)))
     ]
