@@ -158,6 +158,7 @@ pub(crate) fn run<I: Inputs, O: Sinks, T: Texts, E: Write>(
     };
     let mut joined = Joined::over(&mut *inputs, task.names, missed);
     let status = run_joined(alloc, task, &mut joined, sinks, texts, errors);
+    // They give the inputs back, and what became of these is known.
     let _inputs = joined.into_inputs();
     status
 }
