@@ -12,7 +12,7 @@ use Rattle.std.specs.Option.{option_map}
 use Rattle.sededit.specs.Editing.{start_over}
 use Rattle.sededit.specs.Joined.{joined}
 use Rattle.sededit.specs.Opening.{KeepsFiles, WereRefused, contents}
-use Rattle.sededit.specs.Program.{GainsBy, DevicesAtEnd, SinkAtEnd, SinkFailed, StopsEarly, WritesAll, WritesBeginning}
+use Rattle.sededit.specs.Program.{GainsBy, DevicesAtEnd, SinkAtEnd, SinkFailed, StatusMeans, StopsEarly, WritesAll, WritesBeginning}
 
 -- what sinks gained stands where they hold the same afterwards
 pub Gained-same : (old mid new : ℕ → Option (List ℕ)) (out : List (ℕ × ℕ)) → ((k : ℕ) → new k ≡ mid k) → Gained old mid out → Gained old new out
@@ -68,6 +68,18 @@ module _ (l : Limits) (p : Program) (texts : ℕ → Option (List ℕ)) (by : En
   cause_moved x y a b a' b' input before after (inl h) = inl (rw (input, before, after) (rest_as x a b h))
   cause_moved x y a b a' b' input before after (inr h) = inr (rw (input, before, after) h)
 
+-- what a status says, of the same input and numbers under other names
+pub means_moved : (l : Limits) (p : Program) (texts s0 s1 : ℕ → Option (List ℕ)) (n0 n1 : ℕ → ℕ) (q r : Option (List ℕ) → Type 0) (gives : (more : Option (List ℕ)) → q more → r more) (status : ℕ) (x y : Option (List ℕ)) (f0 f1 a b f0' f1' a' b' : ℕ) →
+    y ≡ x → f0' ≡ f0 → f1' ≡ f1 → a' ≡ a → b' ≡ b →
+    StatusMeans l (record { refusals = f0; reads = a; contents = s0; failures = n0 }) (record { refusals = f1; reads = b; contents = s1; failures = n1 }) q status p x texts →
+    StatusMeans l (record { refusals = f0'; reads = a'; contents = s0; failures = n0 }) (record { refusals = f1'; reads = b'; contents = s1; failures = n1 }) r status p y texts
+means_moved l p texts s0 s1 n0 n1 q r gives status x y f0 f1 a b f0' f1' a' b' input refused refused' before after h = record {
+  whole = λ is. rw (input, refused, refused', before, after) (h.whole is);
+  missed = λ is. rw (input, refused, refused', before, after) (h.missed is);
+  stopped = λ is. rw input (h.stopped is);
+  cause = λ is. cause_moved l p texts (GainsBy l s0 s1) (Gained s0 s1) n0 n1 (SinkFailed n0 n1) q r gives x y a b a' b' input before after (h.cause is);
+}
+
 -- a run over what was made ready for it, said of how things stood before
 pub record Ready (files0 files1 : Option (List (Option (List ℕ)))) (texts0 texts1 sinks0 sinks1 : ℕ → Option (List ℕ)) : Type 0 where
   pub kept : KeepsFiles files0 files1
@@ -121,3 +133,14 @@ cause-from l p q f0 f1 t0 t1 s0 s1 new i0 i1 i n0 n1 n r is same (inl h) = inl (
       (w.0, Cause-as l _ _ _ _ h.0 w.0 (λ out sent. GainsBy-from l s0 s1 new h.0 out r.same_sinks sent) w.1, subst P (told f0 f1 bytes r.kept known ∙ sym known) w.2),
 )
 cause-from l p q f0 f1 t0 t1 s0 s1 new i0 i1 i n0 n1 n r is same (inr h) = inr (WritesAll-from p f0 f1 t0 t1 s0 s1 new r h.0, sink_failed n0 n1 n same h.1, h.2 ∙ is)
+
+pub means-from : (l : Limits) (p : Program) (q : Option (List ℕ) → Type 0) (status : ℕ) (f0 f1 : Option (List (Option (List ℕ)))) (t0 t1 s0 s1 new : ℕ → Option (List ℕ)) (r0 r1 r i0 i1 i : ℕ) (n0 n1 n : ℕ → ℕ) →
+    Ready f0 f1 t0 t1 s0 s1 → r1 ≡ r0 → i1 ≡ i0 → ((k : ℕ) → n1 k ≡ n0 k) →
+    StatusMeans l (record { refusals = r1; reads = i1; contents = s1; failures = n1 }) (record { refusals = r; reads = i; contents = new; failures = n }) q status p (all_joined f1) t1 →
+    StatusMeans l (record { refusals = r0; reads = i0; contents = s0; failures = n0 }) (record { refusals = r; reads = i; contents = new; failures = n }) q status p (all_joined f0) t0
+means-from l p q status f0 f1 t0 t1 s0 s1 new r0 r1 r i0 i1 i n0 n1 n ready refused read same h = record {
+  whole = λ is. let w = h.whole is in (WritesAll-from p f0 f1 t0 t1 s0 s1 new ready w.0, w.1 ∙ refused, w.2 ∙ read);
+  missed = λ is. let w = h.missed is in (WritesAll-from p f0 f1 t0 t1 s0 s1 new ready w.0, rw (← refused) w.1, w.2 ∙ read);
+  stopped = λ is. WritesBeginning-from p f0 f1 t0 t1 s0 s1 new ready (h.stopped is);
+  cause = λ is. cause-from l p q f0 f1 t0 t1 s0 s1 new i0 i1 i n0 n1 n ready read same (h.cause is);
+}

@@ -1,5 +1,5 @@
 -- What the program does with the words of its command line (XCU sed, "Options", "Operands", "Exit Status").
-use Rattle.std.specs.Prelude.{◌≡◌, ◌≢◌, ◌||◌, ℕ, Bool, true, false, List, [], ◌∷◌, map, Option, Some, None, Err, slice_get}
+use Rattle.std.specs.Prelude.{◌≡◌, ◌≢◌, ◌⊎◌, ◌||◌, ℕ, Bool, true, false, List, [], ◌∷◌, map, Option, Some, None, Err, slice_get}
 use Rattle.std.specs.Option.{ForSome, option_map, option_map_or}
 use Rattle.std.specs.String.{string_bytes}
 use Rattle.clap.specs.Words.{IsAmong, Text, fault_of, matches_of, takes}
@@ -9,7 +9,7 @@ use Rattle.sedscript.specs.Script.{Means, Program}
 use Rattle.sedscript.specs.ScriptText.{with_part}
 use Rattle.sedre.specs.declared.types.Kind.{Kind}
 use Rattle.sedre.specs.declared.types.Kind.TheVariants.{Basic, Extended}
-use Rattle.sedengine.specs.Devices.{GainedWithin, SourceAtEnd}
+use Rattle.sedengine.specs.Devices.{Gained, GainedWithin, SourceAtEnd}
 use Rattle.sedengine.specs.Ends.{Cause}
 use Rattle.sedengine.specs.Limits.{Limits}
 use Rattle.sedengine.specs.Move.{to_sink}
@@ -119,6 +119,39 @@ StopsEarly limits p input rest texts gained devices =
 abbrev pub SinkFailed : (ℕ → ℕ) → (ℕ → ℕ) → Type 0
 SinkFailed old new = (k : ℕ) × Rose (old k) (new k)
 
+-- What is observed of the devices of a run, before it or after it: how many openings of files the inputs have refused, how
+-- many reads of the input have failed, what each sink holds, where it is told, and how often it has failed.
+pub record Observed : Type 0 where
+  pub refusals : ℕ
+  pub reads : ℕ
+  pub contents : ℕ → Option (List ℕ)
+  pub failures : ℕ → ℕ
+
+-- the same, by what these functions say of inputs and of sinks
+abbrev pub observe : {I O : Type 0} → (refusals reads : I → ℕ) → (O → ℕ → Option (List ℕ)) → (O → ℕ → ℕ) → I → O → Observed
+observe refusals reads contents failures inputs sinks =
+    record { refusals = refusals inputs; reads = reads inputs; contents = contents sinks; failures = failures sinks }
+
+-- What the exit status of a run of a script says (XCU sed, "Exit Status"; which number above 0 is this project's own), by what
+-- is observed before the run and after it; `rest` says what the input has still to give.
+pub record StatusMeans (limits : Limits) (old new : Observed) (rest : Option (List ℕ) → Type 0) (status : ℕ)
+    (p : Program) (input : Option (List ℕ)) (texts : ℕ → Option (List ℕ)) : Type 0 where
+  -- 0: all was written that the script writes, no input file was missed, and no read of the input failed
+  pub whole : status ≡ 0 → WritesAll p input texts (Gained old.contents new.contents)
+      × (new.refusals ≡ old.refusals) × (new.reads ≡ old.reads)
+  -- 2: all was written, no read of the input failed, and an input file couldn't be opened
+  pub missed : status ≡ 2 → WritesAll p input texts (Gained old.contents new.contents)
+      × Rose old.refusals new.refusals × (new.reads ≡ old.reads)
+  -- 4: a beginning was written,
+  pub stopped : status ≡ 4 → WritesBeginning p input texts (Gained old.contents new.contents)
+  -- and the run stopped for a cause, within the limits, and a device that this cause names has failed in this call, the input
+  -- for no other cause, and then no whole line is lost; or all was written, no read of the input failed, and some sink did
+  -- when it was flushed
+  pub cause : status ≡ 4 → StopsEarly limits p input rest texts (GainsBy limits old.contents new.contents)
+      (DevicesAtEnd limits.output old.reads new.reads old.failures new.failures)
+      ⊎ (WritesAll p input texts (Gained old.contents new.contents)
+      × SinkFailed old.failures new.failures × (new.reads ≡ old.reads))
+
 -- clap doesn't take the words, since they ask for help (this project's own)
 abbrev pub AsksHelp : List Text → Type 0
 AsksHelp words = (takes sed_command words ≡ false) × IsAmong DisplayHelp (fault_of sed_command words)
@@ -126,3 +159,10 @@ AsksHelp words = (takes sed_command words ≡ false) × IsAmong DisplayHelp (fau
 -- the sinks have gained a text, all of it for sink 0 (this project's own). Which text help is, clap alone says
 abbrev pub WritesHelp : (List (ℕ × ℕ) → Type 0) → Type 0
 WritesHelp gained = (text : List ℕ) × gained (to_sink 0 text)
+
+-- What the exit status says where help was asked for, by what the sinks gained and how often each had failed: it is 0 or 4, a
+-- text was written, for sink 0 alone, and at 4 a sink has failed (this project's own).
+pub record HelpMeans (gained : List (ℕ × ℕ) → Type 0) (failures_old failures_new : ℕ → ℕ) (status : ℕ) : Type 0 where
+  pub either : (status ≡ 0) ⊎ (status ≡ 4)
+  pub help : WritesHelp gained
+  pub failed : status ≡ 4 → SinkFailed failures_old failures_new

@@ -146,6 +146,7 @@ pub(crate) fn edit_ahead<R: ByteSource, O: Outputs, T: Texts>(
     let mut lines = Lines::over(&mut *source, room);
     let end = engine.run(&mut lines, outputs, texts);
     let ahead = lines.ahead_len();
+    // The lines give the source back, and what became of it is known.
     let _source = lines.into_source();
     drop(engine);
     Ok(Edited { end, ahead })

@@ -7,8 +7,7 @@ ghost use Rattle.sedengine.specs.Move.{to_sink};
 ghost use Rattle.clap.specs.Words.{kind_of};
 ghost use Rattle.sededit.specs.FilesInTurn.{StillGives};
 ghost use Rattle.sededit.specs.MemoryFiles.{dash};
-ghost use Rattle.sededit.specs.Program.{AsksHelp, GainsBy, DevicesAtEnd, Runs, RunsLine, SinkFailed, StopsEarly, WritesAll, WritesBeginning};
-ghost use Rattle.sededit.specs.Program.{WritesHelp, or_standard, texts_of};
+ghost use Rattle.sededit.specs.Program.{AsksHelp, HelpMeans, Runs, RunsLine, StatusMeans, observe, or_standard, texts_of};
 ghost use Rattle.sededit.specs.Reading.{OnlyReadsScripts};
 ghost use Rattle.sededit.specs.Sinks.{Creates, CreatesFirst, CreatesUpTo};
 
@@ -59,41 +58,18 @@ pub fn command<S: AsStr, I: Inputs, O: Sinks, N: Names, E: Write>(
     requires sinks { O.count sinks.old ≡ 1 }
     requires names { N.named names.old ≡ 0 }
     ensures status { (result ≡ SUCCESS) ⊎ ((result ≡ REFUSED) ⊎ ((result ≡ MISSED) ⊎ (result ≡ STOPPED))) }
-    // Status 0 says that all was written that the script writes, that no input file was missed, and that no read of the
-    // input failed; or that help was asked for and written, to the standard output alone.
-    ensures whole { result ≡ SUCCESS →
-        (Runs (I.text inputs.old) (I.ahead inputs.old) (N.file names.old) (N.text names.old) limits.nodes
+    // Another status than 1 says what became of the run of the script; or help was asked for, a text was written to the
+    // standard output alone, and no input was touched.
+    ensures means { result ≢ REFUSED →
+        Runs (I.text inputs.old) (I.ahead inputs.old) (N.file names.old) (N.text names.old) limits.nodes
         (map S.text words.now) (Creates (O.names sinks.old) (O.names sinks.new))
-        (λ p input texts. WritesAll p input texts (Gained (O.contents sinks.old) (O.contents sinks.new)))
-        × (I.refusals inputs.new ≡ I.refusals inputs.old) × (I.failures inputs.new ≡ I.failures inputs.old))
-        ⊎ (AsksHelp (map S.text words.now) × WritesHelp (Gained (O.contents sinks.old) (O.contents sinks.new))
+        (StatusMeans limits (observe I.refusals I.failures O.contents O.failures inputs.old sinks.old)
+        (observe I.refusals I.failures O.contents O.failures inputs.new sinks.new)
+        (StillGives I.current I.ahead inputs.new) result)
+        ⊎ (AsksHelp (map S.text words.now)
+        × HelpMeans (Gained (O.contents sinks.old) (O.contents sinks.new)) (O.failures sinks.old) (O.failures sinks.new) result
         × (O.names sinks.new ≡ O.names sinks.old) × (inputs.new ≡ inputs.old)) }
-    // Status 2 says that all was written, that no read of the input failed, and that an input file couldn't be opened.
-    ensures missed { result ≡ MISSED →
-        Runs (I.text inputs.old) (I.ahead inputs.old) (N.file names.old) (N.text names.old) limits.nodes
-        (map S.text words.now) (Creates (O.names sinks.old) (O.names sinks.new))
-        (λ p input texts. WritesAll p input texts (Gained (O.contents sinks.old) (O.contents sinks.new)))
-        × Rose (I.refusals inputs.old) (I.refusals inputs.new) × (I.failures inputs.new ≡ I.failures inputs.old) }
-    // A run that stopped has written a beginning. Where help was asked for, a text was written to the standard output alone,
-    // and no input was touched.
-    ensures stopped { result ≡ STOPPED →
-        Runs (I.text inputs.old) (I.ahead inputs.old) (N.file names.old) (N.text names.old) limits.nodes
-        (map S.text words.now) (Creates (O.names sinks.old) (O.names sinks.new))
-        (λ p input texts. WritesBeginning p input texts (Gained (O.contents sinks.old) (O.contents sinks.new)))
-        ⊎ (AsksHelp (map S.text words.now) × WritesHelp (Gained (O.contents sinks.old) (O.contents sinks.new))
-        × (O.names sinks.new ≡ O.names sinks.old) × (inputs.new ≡ inputs.old)) }
-    // It stopped for a cause, within the limits, and a device that this cause names has failed in this call, the input for no
-    // other cause, and then no whole line is lost; or all was written, no read of the input failed, and some sink did when it
-    // was flushed; or a sink failed as help was written.
-    ensures cause { result ≡ STOPPED →
-        Runs (I.text inputs.old) (I.ahead inputs.old) (N.file names.old) (N.text names.old) limits.nodes
-        (map S.text words.now) (Creates (O.names sinks.old) (O.names sinks.new))
-        (λ p input texts. StopsEarly limits p input (StillGives I.current I.ahead inputs.new) texts (GainsBy limits (O.contents sinks.old) (O.contents sinks.new))
-        (DevicesAtEnd limits.output (I.failures inputs.old) (I.failures inputs.new) (O.failures sinks.old) (O.failures sinks.new))
-        ⊎ (WritesAll p input texts (Gained (O.contents sinks.old) (O.contents sinks.new))
-        × SinkFailed (O.failures sinks.old) (O.failures sinks.new) × (I.failures inputs.new ≡ I.failures inputs.old)))
-        ⊎ (AsksHelp (map S.text words.now) × SinkFailed (O.failures sinks.old) (O.failures sinks.new)) }
-    // At every other status no sink has failed, neither when it was flushed nor as help was written.
+    // At every status but 4 no sink has failed, neither when it was flushed nor as help was written.
     ensures no_sink { result ≢ STOPPED → (k : ℕ) → O.failures sinks.new k ≡ O.failures sinks.old k }
     // A refusal writes nothing, opens no input file and reads none of the input, and of the files that the script writes it
     // leaves the first ones created, if any.
@@ -124,27 +100,12 @@ fn run_line<I: Inputs, O: Sinks, N: Names, E: Write>(
     requires sinks { O.count sinks.old ≡ 1 }
     requires names { N.named names.old ≡ 0 }
     ensures status { (result ≡ SUCCESS) ⊎ ((result ≡ REFUSED) ⊎ ((result ≡ MISSED) ⊎ (result ≡ STOPPED))) }
-    ensures whole { result ≡ SUCCESS →
+    ensures means { result ≢ REFUSED →
         RunsLine (I.text inputs.old) (I.ahead inputs.old) (N.file names.old) (N.text names.old) limits.nodes line.now
         (Creates (O.names sinks.old) (O.names sinks.new))
-        (λ p input texts. WritesAll p input texts (Gained (O.contents sinks.old) (O.contents sinks.new)))
-        × (I.refusals inputs.new ≡ I.refusals inputs.old) × (I.failures inputs.new ≡ I.failures inputs.old) }
-    ensures missed { result ≡ MISSED →
-        RunsLine (I.text inputs.old) (I.ahead inputs.old) (N.file names.old) (N.text names.old) limits.nodes line.now
-        (Creates (O.names sinks.old) (O.names sinks.new))
-        (λ p input texts. WritesAll p input texts (Gained (O.contents sinks.old) (O.contents sinks.new)))
-        × Rose (I.refusals inputs.old) (I.refusals inputs.new) × (I.failures inputs.new ≡ I.failures inputs.old) }
-    ensures stopped { result ≡ STOPPED →
-        RunsLine (I.text inputs.old) (I.ahead inputs.old) (N.file names.old) (N.text names.old) limits.nodes line.now
-        (Creates (O.names sinks.old) (O.names sinks.new))
-        (λ p input texts. WritesBeginning p input texts (Gained (O.contents sinks.old) (O.contents sinks.new))) }
-    ensures cause { result ≡ STOPPED →
-        RunsLine (I.text inputs.old) (I.ahead inputs.old) (N.file names.old) (N.text names.old) limits.nodes line.now
-        (Creates (O.names sinks.old) (O.names sinks.new))
-        (λ p input texts. StopsEarly limits p input (StillGives I.current I.ahead inputs.new) texts (GainsBy limits (O.contents sinks.old) (O.contents sinks.new))
-        (DevicesAtEnd limits.output (I.failures inputs.old) (I.failures inputs.new) (O.failures sinks.old) (O.failures sinks.new))
-        ⊎ (WritesAll p input texts (Gained (O.contents sinks.old) (O.contents sinks.new))
-        × SinkFailed (O.failures sinks.old) (O.failures sinks.new) × (I.failures inputs.new ≡ I.failures inputs.old))) }
+        (StatusMeans limits (observe I.refusals I.failures O.contents O.failures inputs.old sinks.old)
+        (observe I.refusals I.failures O.contents O.failures inputs.new sinks.new)
+        (StillGives I.current I.ahead inputs.new) result) }
     ensures refused { result ≡ REFUSED → (k : ℕ) → O.contents sinks.new k ≡ O.contents sinks.old k }
     ensures no_sink { result ≢ STOPPED → (k : ℕ) → O.failures sinks.new k ≡ O.failures sinks.old k }
     ensures unread { result ≡ REFUSED →
@@ -207,8 +168,8 @@ fn answer_words<O: Sinks, E: Write>(
     requires { 0 < O.count sinks.old }
     ensures status { (result ≡ SUCCESS) ⊎ ((result ≡ REFUSED) ⊎ (result ≡ STOPPED)) }
     ensures asked { result ≢ REFUSED → kind_of error.now ≡ ErrorKind.DisplayHelp }
-    ensures failed { result ≡ STOPPED → SinkFailed (O.failures sinks.old) (O.failures sinks.new) }
-    ensures help { result ≢ REFUSED → WritesHelp (Gained (O.contents sinks.old) (O.contents sinks.new)) }
+    ensures means { result ≢ REFUSED → HelpMeans (Gained (O.contents sinks.old) (O.contents sinks.new))
+        (O.failures sinks.old) (O.failures sinks.new) result }
     ensures names { O.names sinks.new ≡ O.names sinks.old }
     ensures refused { result ≡ REFUSED → sinks.new ≡ sinks.old }
     ensures no_sink { result ≢ STOPPED → (k : ℕ) → O.failures sinks.new k ≡ O.failures sinks.old k }

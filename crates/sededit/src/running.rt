@@ -1,10 +1,8 @@
 //! The run of a script over the files of a command line, and the status that it gives.
 ghost use Rattle.std.specs.Prelude.{◌≡◌, ◌≢◌, ◌<◌, ◌≤◌, ◌⊎◌, ◌∷◌, ℕ, length, map, true, false};
 ghost use Rattle.std.specs.String.{string_bytes};
-ghost use Rattle.sedspace.specs.Failures.{Rose};
-ghost use Rattle.sedengine.specs.Devices.{Gained};
 ghost use Rattle.sededit.specs.FilesInTurn.{StillGives, joined_files, left};
-ghost use Rattle.sededit.specs.Program.{GainsBy, DevicesAtEnd, SinkFailed, StopsEarly, WritesAll, WritesBeginning};
+ghost use Rattle.sededit.specs.Program.{SinkFailed, StatusMeans, observe};
 
 use crate::editing::{Edited, edit_ahead};
 use crate::inputs::Inputs;
@@ -101,24 +99,16 @@ fn run_joined<I: Inputs, O: Sinks, T: Texts, E: Write>(
     requires sinks { length task.script.wfiles < O.count sinks.old }
     requires nodes { task.script.max_nodes ≤ task.limits.nodes }
     ensures status { (result ≡ SUCCESS) ⊎ ((result ≡ REFUSED) ⊎ ((result ≡ MISSED) ⊎ (result ≡ STOPPED))) }
-    ensures whole { result ≡ SUCCESS → WritesAll task.entry.script (left I.current I.ahead joined.old)
-        (T.text texts.old) (Gained (O.contents sinks.old) (O.contents sinks.new))
-        × (I.refusals joined.new.inputs ≡ joined.new.start)
-        × (I.failures joined.new.inputs ≡ I.failures joined.old.inputs) }
-    ensures missed { result ≡ MISSED → WritesAll task.entry.script (left I.current I.ahead joined.old)
-        (T.text texts.old) (Gained (O.contents sinks.old) (O.contents sinks.new))
-        × Rose joined.new.start (I.refusals joined.new.inputs)
-        × (I.failures joined.new.inputs ≡ I.failures joined.old.inputs) }
-    ensures stopped { result ≡ STOPPED → WritesBeginning task.entry.script (left I.current I.ahead joined.old)
-        (T.text texts.old) (Gained (O.contents sinks.old) (O.contents sinks.new)) }
-    ensures cause { result ≡ STOPPED → StopsEarly task.entry.limits task.entry.script (left I.current I.ahead joined.old)
-        (λ more. more ≡ left I.current I.ahead joined.new) (T.text texts.old) (GainsBy task.entry.limits (O.contents sinks.old) (O.contents sinks.new))
-        (DevicesAtEnd task.entry.limits.output (I.failures joined.old.inputs) (I.failures joined.new.inputs)
-        (O.failures sinks.old) (O.failures sinks.new))
-        ⊎ (WritesAll task.entry.script (left I.current I.ahead joined.old)
-        (T.text texts.old) (Gained (O.contents sinks.old) (O.contents sinks.new))
-        × SinkFailed (O.failures sinks.old) (O.failures sinks.new)
-        × (I.failures joined.new.inputs ≡ I.failures joined.old.inputs)) }
+    ensures means { result ≢ REFUSED → StatusMeans task.entry.limits
+        (record {
+          refusals = joined.new.start;
+          reads = I.failures joined.old.inputs;
+          contents = O.contents sinks.old;
+          failures = O.failures sinks.old;
+        })
+        (observe I.refusals I.failures O.contents O.failures joined.new.inputs sinks.new)
+        (λ more. more ≡ left I.current I.ahead joined.new) result
+        task.entry.script (left I.current I.ahead joined.old) (T.text texts.old) }
     ensures refused { result ≡ REFUSED → sinks.new ≡ sinks.old }
     ensures no_sink { result ≢ STOPPED → (k : ℕ) → O.failures sinks.new k ≡ O.failures sinks.old k }
     ensures unread { result ≡ REFUSED → joined.new ≡ joined.old }
@@ -153,23 +143,11 @@ pub(crate) fn run<I: Inputs, O: Sinks, T: Texts, E: Write>(
     requires sinks { length task.script.wfiles < O.count sinks.old }
     requires nodes { task.script.max_nodes ≤ task.limits.nodes }
     ensures status { (result ≡ SUCCESS) ⊎ ((result ≡ REFUSED) ⊎ ((result ≡ MISSED) ⊎ (result ≡ STOPPED))) }
-    ensures whole { result ≡ SUCCESS → WritesAll task.entry.script (joined_files I.ahead inputs.old (map string_bytes task.entry.names.now))
-        (T.text texts.old) (Gained (O.contents sinks.old) (O.contents sinks.new))
-        × (I.refusals inputs.new ≡ I.refusals inputs.old) × (I.failures inputs.new ≡ I.failures inputs.old) }
-    ensures missed { result ≡ MISSED → WritesAll task.entry.script (joined_files I.ahead inputs.old (map string_bytes task.entry.names.now))
-        (T.text texts.old) (Gained (O.contents sinks.old) (O.contents sinks.new))
-        × Rose (I.refusals inputs.old) (I.refusals inputs.new) × (I.failures inputs.new ≡ I.failures inputs.old) }
-    ensures stopped { result ≡ STOPPED → WritesBeginning task.entry.script
-        (joined_files I.ahead inputs.old (map string_bytes task.entry.names.now))
-        (T.text texts.old) (Gained (O.contents sinks.old) (O.contents sinks.new)) }
-    ensures cause { result ≡ STOPPED → StopsEarly task.entry.limits task.entry.script
-        (joined_files I.ahead inputs.old (map string_bytes task.entry.names.now)) (StillGives I.current I.ahead inputs.new)
-        (T.text texts.old) (GainsBy task.entry.limits (O.contents sinks.old) (O.contents sinks.new))
-        (DevicesAtEnd task.entry.limits.output (I.failures inputs.old) (I.failures inputs.new) (O.failures sinks.old) (O.failures sinks.new))
-        ⊎ (WritesAll task.entry.script (joined_files I.ahead inputs.old (map string_bytes task.entry.names.now))
-        (T.text texts.old) (Gained (O.contents sinks.old) (O.contents sinks.new))
-        × SinkFailed (O.failures sinks.old) (O.failures sinks.new)
-        × (I.failures inputs.new ≡ I.failures inputs.old)) }
+    ensures means { result ≢ REFUSED → StatusMeans task.entry.limits
+        (observe I.refusals I.failures O.contents O.failures inputs.old sinks.old)
+        (observe I.refusals I.failures O.contents O.failures inputs.new sinks.new)
+        (StillGives I.current I.ahead inputs.new) result
+        task.entry.script (joined_files I.ahead inputs.old (map string_bytes task.entry.names.now)) (T.text texts.old) }
     ensures no_sink { result ≢ STOPPED → (k : ℕ) → O.failures sinks.new k ≡ O.failures sinks.old k }
     ensures refused { result ≡ REFUSED → sinks.new ≡ sinks.old }
     ensures unread { result ≡ REFUSED → inputs.new ≡ inputs.old }
@@ -180,6 +158,7 @@ pub(crate) fn run<I: Inputs, O: Sinks, T: Texts, E: Write>(
     };
     let mut joined = Joined::over(&mut *inputs, task.names, missed);
     let status = run_joined(alloc, task, &mut joined, sinks, texts, errors);
+    // They give the inputs back, and what became of these is known.
     let _inputs = joined.into_inputs();
     status
 }

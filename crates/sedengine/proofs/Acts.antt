@@ -45,11 +45,8 @@ tested e target goes = record e { state = cond goes (record e.state { tasks = do
 abbrev pub translated : RunState → Option (List ℕ) → RunState
 translated e table = record e { state = record e.state { pattern = map (in_table table) e.state.pattern } }
 
--- A command of an engine with the fields a that is seen as e.
-module _ (a : Inside) (e : RunState) (seen : run_of a ≡ e) (i : IsConsistent a) (ls : List (List ℕ)) (g : Setting) (old new : SinkView) (o : Option Move) where
-  fits : WithinLimits e.limits (at_lines e ls)
-  fits = let Q : RunState → Type 0 = λ e. WithinLimits e.limits (at_lines e ls) in subst Q seen (fits_of a ls i)
-
+-- A command of an engine within its limits.
+module _ (e : RunState) (ls : List (List ℕ)) (fits : WithinLimits e.limits (at_lines e ls)) (g : Setting) (old new : SinkView) (o : Option Move) where
   -- one that writes alone
   pub acts_writing : (out : List (ℕ × ℕ)) (r : Result Unit Ended) → o ≡ writing out (at_lines e ls) → Puts (Sent old new) out r → Performs e.limits g o (at_lines e ls) (at_lines e ls) (Sent old new) r
   acts_writing out r is put = λ s c first. moves_writing e.limits g s (at_lines e ls) old new out r c.fits (first ∙ is) fits c.lines put

@@ -7,12 +7,9 @@ use Rattle.sedengine.specs.Meters.{Sent, SinkView}
 use Rattle.sedengine.specs.Run.{RunState, at_lines}
 use Rattle.sedengine.specs.Steps.{Performs}
 use Rattle.sedengine.specs.Holding.{BecomesOrFull}
-use Rattle.sedengine.specs.Inside.{run_of, IsConsistent}
-use Rattle.sedengine.specs.declared.machine.Machine.TheInside.{Inside}
 use Rattle.sedengine.specs.declared.ends.Ended.{Ended}
 use Rattle.sedengine.specs.declared.ends.Ended.TheVariants.{PatternFull, HoldFull}
 use Rattle.sedengine.proofs.Moves.{stopped_here}
-use Rattle.sedengine.proofs.Tasks.{fits_of}
 use Rattle.sedengine.proofs.Acts.{acts_leading}
 use Rattle.sedengine.proofs.SubstituteMoves.{reached_line}
 
@@ -20,17 +17,14 @@ use Rattle.sedengine.proofs.SubstituteMoves.{reached_line}
 abbrev pub holding : RunState → List ℕ → List ℕ → RunState
 holding e pattern hold = record e { state = record e.state { pattern = pattern; hold = hold } }
 
--- A command of an engine with the fields a that is seen as e.
-module _ (a : Inside) (e : RunState) (seen : run_of a ≡ e) (i : IsConsistent a) (ls : List (List ℕ)) (g : Setting) (sinks : SinkView) (o : Option Move) where
-  fits : WithinLimits e.limits (at_lines e ls)
-  fits = let Q : RunState → Type 0 = λ e. WithinLimits e.limits (at_lines e ls) in subst Q seen (fits_of a ls i)
-
+-- A command of an engine within its limits.
+module _ (e : RunState) (ls : List (List ℕ)) (fits : WithinLimits e.limits (at_lines e ls)) (g : Setting) (sinks : SinkView) (o : Option Move) where
   -- one that leads to these contents, which fit
   leads : (pattern hold : List ℕ) (e' : RunState) → e' ≡ holding e pattern hold → length pattern ≤ e.limits.space → length hold ≤ e.limits.space → o ≡ quietly (at_lines (holding e pattern hold) ls) →
       Performs e.limits g o (at_lines e ls) (at_lines e' ls) (Sent sinks sinks) (Ok tt)
   leads pattern hold e' same short short' is =
       let Q : RunState → Type 0 = λ e'. Performs e.limits g o (at_lines e ls) (at_lines e' ls) (Sent sinks sinks) (Ok tt) in
-      subst Q (sym same) (acts_leading a e seen i ls g sinks sinks o (holding e pattern hold) (record { pattern = short; hold = short'; queue = fits.queue; turns = fits.turns }) is)
+      subst Q (sym same) (acts_leading e ls fits g sinks sinks o (holding e pattern hold) (record { pattern = short; hold = short'; queue = fits.queue; turns = fits.turns }) is)
 
   -- `g`
   pub acts_copying : (e' : RunState) → e' ≡ holding e e.state.hold e.state.hold → o ≡ quietly (at_lines (holding e e.state.hold e.state.hold) ls) →

@@ -29,7 +29,6 @@ use Rattle.sedengine.specs.declared.ends.Ended.{Ended}
 use Rattle.sedengine.specs.declared.ends.Ended.TheVariants.{PatternFull, NoPrevious}
 use Rattle.sedengine.proofs.Writing.{Puts-append, Puts-left}
 use Rattle.sedengine.proofs.Moves.{moves_writing, ran_quietly, stopped_here}
-use Rattle.sedengine.proofs.Tasks.{fits_of}
 use Rattle.sedengine.proofs.Fitting.{sought, sought_at}
 use Rattle.sedengine.proofs.Tried.{matcher_at, standing}
 
@@ -131,11 +130,8 @@ reached_line s (print_pattern ∷ rest) h = cc
 reached_line s (empty_pattern ∷ rest) h = cc
 reached_line s (flush ∷ rest) h = cc
 
--- The engine with the fields a, which is seen as r, was led to the engine r' by a call that makes the move o of a substitution.
-module _ (a : Inside) (r r' : RunState) (seen : run_of a ≡ r) (i : IsConsistent a) (same : r' ≡ same_but_replaced r r'.state) (within : length r'.state.pattern ≤ r'.limits.space) (ls : List (List ℕ)) (g : Setting) (old new : SinkView) (o : Option Move) (t : Substitution) where
-  before : WithinLimits r.limits (at_lines r ls)
-  before = let Q : RunState → Type 0 = λ r. WithinLimits r.limits (at_lines r ls) in subst Q seen (fits_of a ls i)
-
+-- An engine within its limits, r, was led to the engine r' by a call that makes the move o of a substitution.
+module _ (r r' : RunState) (ls : List (List ℕ)) (before : WithinLimits r.limits (at_lines r ls)) (same : r' ≡ same_but_replaced r r'.state) (within : length r'.state.pattern ≤ r'.limits.space) (g : Setting) (old new : SinkView) (o : Option Move) (t : Substitution) where
   there : WithinLimits r.limits (at_lines r' ls)
   there =
       let limits : r'.limits ≡ r.limits = ap (λ (r : RunState). r.limits) same in

@@ -39,6 +39,14 @@ impl Model for Engine {
         × (length s.meter.sent ≡ length s.machine.script.wfiles + 1) };
 }
 
+/// For proofs: no more is read ahead than `look`.
+#[inline(always)]
+fn is_within_look<R: ByteSource>(lines: &Lines<R>)
+    ensures { length lines.now.ahead ≤ lines.now.look }
+{
+    let _len = lines.ahead_len();
+}
+
 impl Engine {
     /// Makes an engine at the start of its run. All the memory that the run takes is reserved here, with a count for each
     /// sink that the script names.
@@ -109,8 +117,8 @@ impl Engine {
             meter: &mut self.meter,
         };
         let progress = self.machine.cycle(lines, &mut sinks, texts);
-        // No sink has gained more than the limit, and no more is ahead than `look`.
-        let _ = (self.meter.limit(), lines.ahead_len());
+        self.meter.is_within_limit();
+        is_within_look(lines);
         progress
     }
 
@@ -153,8 +161,8 @@ impl Engine {
             meter: &mut self.meter,
         };
         let end = self.machine.run(lines, &mut sinks, texts);
-        // No sink has gained more than the limit, and no more is ahead than `look`.
-        let _ = (self.meter.limit(), lines.ahead_len());
+        self.meter.is_within_limit();
+        is_within_look(lines);
         end
     }
 

@@ -15,6 +15,7 @@ mod addresses;
 mod commands;
 mod deleting;
 mod holding;
+mod known;
 mod moves;
 mod next;
 mod parts;

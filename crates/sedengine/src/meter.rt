@@ -38,12 +38,12 @@ impl Meter {
         Ok(Meter { limit, counts })
     }
 
-    /// The limit, which no sink has passed.
-    pub(crate) fn limit(&self) -> Option<u64>
-        ensures value { result ≡ self.now.most }
-        ensures within { InLimit self.now.most self.now.sent }
+    /// For proofs: no sink has gained more than the limit.
+    #[inline(always)]
+    pub(crate) fn is_within_limit(&self)
+        ensures { InLimit self.now.most self.now.sent }
     {
-        self.limit
+        let _limit = self.limit;
     }
 
     /// How many of `bytes` bytes the sink may still take.

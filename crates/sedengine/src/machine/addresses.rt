@@ -125,8 +125,7 @@ impl Machine {
         requires turn { self.old.state.turns < self.old.limits.turns }
         ensures { self.new ≡ reached_with self.old k self.old.state.ranges self.old.state.used }
     {
-        // The limit fits its type, so there is room for one more.
-        let _most = self.limits.turns();
+        self.turns_fit();
         self.turns += 1;
         self.place = Place::Do(k + 1);
     }

@@ -134,8 +134,7 @@ impl Machine {
         ensures same { KeepsRun self.old self.new }
         ensures kept { (j : ℕ) → Keeps (T.text texts.old j) (T.text texts.new j) }
     {
-        // The engine is open from here on, so its state is known to be within the limits.
-        let _ = &self.turns;
+        self.is_within_limits();
         match action {
             Action::Change(text) => self.act_change(text, tells, outputs, texts),
             Action::Delete => self.act_delete(outputs, texts),
@@ -163,8 +162,7 @@ impl Machine {
         ensures falls { weight self.new ≤ weight self.old + 8 }
         ensures same { KeepsRun self.old self.new }
     {
-        // The engine is open from here on, so its state is known to be within the limits.
-        let _ = &self.turns;
+        self.is_within_limits();
         match action {
             Action::Append(_) => self.act_queue(k),
             Action::ReadFile(_) => self.act_queue(k),

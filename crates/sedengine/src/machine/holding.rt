@@ -23,8 +23,7 @@ impl Machine {
         ensures falls { weight self.new ≤ weight self.old + 8 }
         ensures same { KeepsRun self.old self.new }
     {
-        // The engine is open from here on, so its state is known to be within the limits.
-        let _ = &self.turns;
+        self.is_within_limits();
         match action {
             Action::CopyHold => {
                 self.act_copy_hold();

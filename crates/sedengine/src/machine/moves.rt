@@ -61,8 +61,7 @@ impl Machine {
         ensures same { KeepsRun self.old self.new }
         ensures kept { (j : ℕ) → Keeps (T.text texts.old j) (T.text texts.new j) }
     {
-        // The engine is open from here on, so its state is known to be within the limits.
-        let _ = &self.turns;
+        self.is_within_limits();
         'moves: loop {
             if let Err(end) = self.pass_over(lines, outputs) {
                 return end;
@@ -100,8 +99,7 @@ impl Machine {
         ensures same { KeepsRun self.old self.new }
         ensures kept { (j : ℕ) → Keeps (T.text texts.old j) (T.text texts.new j) }
     {
-        // The engine is open from here on, so its state is known to be within the limits.
-        let _ = &self.turns;
+        self.is_within_limits();
         'moves: loop {
             if let Err(end) = self.step(lines, outputs, texts) {
                 return Progress::Ended(end);

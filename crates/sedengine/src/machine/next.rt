@@ -92,9 +92,8 @@ impl Machine {
         ensures falls { weight self.new ≤ weight self.old }
         ensures same { KeepsRun self.old self.new }
     {
+        self.turns_fit();
         self.pattern.clear();
-        // There are more turns than lines, so the next number fits.
-        let _turns = self.turns;
         let got = bring_line(&mut self.pattern, lines, self.number + 1)?;
         self.go_on(got);
         Ok(())
@@ -108,8 +107,7 @@ impl Machine {
     {
         match got {
             Got::Line => {
-                // There are more turns than lines, so the number fits.
-                let _turns = self.turns;
+                self.turns_fit();
                 self.number += 1;
                 self.replaced = false;
             }
@@ -157,8 +155,7 @@ impl Machine {
         ensures falls { weight self.new ≤ weight self.old }
         ensures same { KeepsRun self.old self.new }
     {
-        // There are more turns than lines, so the next number fits.
-        let _turns = self.turns;
+        self.turns_fit();
         let got = join_line(&mut self.pattern, lines, self.number + 1)?;
         self.go_on(got);
         Ok(())

@@ -109,8 +109,7 @@ impl Machine {
         requires judged { IsOneOf (length self.old.script.expressions) block.judged }
         ensures { self.new ≡ counted_block self.old block }
     {
-        // The limit fits its type, so there is room for these turns.
-        let _most = self.limits.turns();
+        self.turns_fit();
         self.number += block.lines;
         self.turns += block.lines * (block.reached as u64 + 1);
         self.replaced = false;
@@ -153,8 +152,8 @@ impl Machine {
         ensures falls { OnOk result (weight self.new ≤ weight self.old) }
         ensures same { KeepsRun self.old self.new }
     {
-        // The engine is open from here on, so its state is known to be within the limits.
-        let _ = &self.turns;
+        self.is_within_limits();
+        self.is_emptied();
         let ahead = lines.ahead();
         let Some(block) = self.find_block(ahead) else {
             return Ok(());
@@ -197,8 +196,7 @@ impl Machine {
         ensures falls { OnOk result (weight self.new ≤ weight self.old) }
         ensures same { KeepsRun self.old self.new }
     {
-        // The engine is open from here on, so its state is known to be within the limits.
-        let _ = &self.turns;
+        self.is_within_limits();
         if self.may_pass() {
             return self.pass_ahead(lines, outputs);
         }

@@ -12,6 +12,7 @@ ghost use Rattle.sedengine.specs.Steps.{KeepsRun, Performs, weight};
 ghost use Rattle.sedengine.specs.SubstituteCalls.{Makes, same_but_replaced};
 
 use super::Machine;
+use super::known::is_within;
 use crate::ends::Ended;
 use crate::meter::Sinks;
 use crate::place::Place;
@@ -39,8 +40,7 @@ impl Machine {
         ensures falls { weight self.new ≤ weight self.old }
         ensures same { KeepsRun self.old self.new }
     {
-        // The engine is open from here on, so its state is known to be within the limits.
-        let _ = &self.turns;
+        self.is_within_limits();
         if self.replace_occurrences(k)? {
             self.write_replaced(k, outputs)
         } else {
@@ -66,8 +66,7 @@ impl Machine {
         let Some(e) = self.script.substitution(k).expression.or(self.used) else {
             return Err(Ended::NoPrevious(self.number));
         };
-        // A limit is known to be within its range from its call on.
-        let _ = (self.limits.nodes(), self.limits.space());
+        self.limits.are_in_range();
         self.used = Some(e);
         self.seeking.begin(e);
         let built = build_text(
@@ -83,8 +82,7 @@ impl Machine {
         );
         match built {
             Ok(true) => {
-                // What a space holds is within its limit.
-                let _ = self.build.len();
+                is_within(&self.build);
                 self.pattern.swap(&mut self.build);
                 self.replaced = true;
                 Ok(true)

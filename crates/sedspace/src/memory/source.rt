@@ -106,7 +106,6 @@ impl MemorySource {
         ensures within { result ≤ length self.now.bytes }
         ensures start { self.now.taken ≤ result }
     {
-        let _taken = self.taken;
         for cut in &self.cuts {
             if *cut > self.taken && *cut < self.bytes.len() {
                 return *cut;

@@ -2,40 +2,11 @@ use Rattle.std.proofs.Common.{◌∙◌, inr, map, rules}
 use Rattle.std.specs.String.{string_bytes}
 use Rattle.sededit.specs.Program.{or_standard, texts_of}
 use Rattle.sededit.proofs.ProgramLemmas.{all_first}
-use Rattle.sededit.proofs.RunLemmas.{Ready, WritesAll-from, WritesBeginning-from, cause-from}
+use Rattle.sededit.proofs.RunLemmas.{Ready, means-from}
 use Rattle.sededit.proofs.program.run_line.Goals as goal
 
-pub returns-clause-whole : goal.returns-clause-whole
-returns-clause-whole g c is =
-    let w = c.run.ensures.whole is in
-    let names = or_standard (map string_bytes c.args.line.now.operands.items) in
-    let ready : Ready (g.I.Inputs.ahead c.args.inputs.now names) (g.I.Inputs.ahead c.read_script.new.inputs (map string_bytes c.operands_of-operands.result.now))
-    (texts_of (g.N.Names.file c.args.names.now) (g.N.Texts.text c.args.names.now) c.in-Ok-read_script.script) (g.N.Texts.text c.name_files.new.names)
-    (g.O.Outputs.contents c.args.sinks.now) (g.O.Outputs.contents c.create_files.new.sinks) =
-    record { kept = rw c.operands_of-operands.ensures (c.in-Ok-read_script.ensures.inputs.same_ahead names); same_texts = c.in_default-name_files.ensures; same_sinks = c.create_files.ensures.contents } in
-    ((c.in-Ok-read_script.script, rw (← c.nodes.ensures.value) c.in-Ok-read_script.ensures.gives, c.run.ensures.names ∙ c.create_files.ensures.names (search rules), WritesAll-from c.in-Ok-read_script.script _ _ _ _ _ _ _ ready w.0), w.1 ∙ c.in-Ok-read_script.ensures.inputs.refused, w.2 ∙ c.in-Ok-read_script.ensures.inputs.failed)
-
-pub returns-clause-missed : goal.returns-clause-missed
-returns-clause-missed g c is =
-    let w = c.run.ensures.missed is in
-    let names = or_standard (map string_bytes c.args.line.now.operands.items) in
-    let ready : Ready (g.I.Inputs.ahead c.args.inputs.now names) (g.I.Inputs.ahead c.read_script.new.inputs (map string_bytes c.operands_of-operands.result.now))
-    (texts_of (g.N.Names.file c.args.names.now) (g.N.Texts.text c.args.names.now) c.in-Ok-read_script.script) (g.N.Texts.text c.name_files.new.names)
-    (g.O.Outputs.contents c.args.sinks.now) (g.O.Outputs.contents c.create_files.new.sinks) =
-    record { kept = rw c.operands_of-operands.ensures (c.in-Ok-read_script.ensures.inputs.same_ahead names); same_texts = c.in_default-name_files.ensures; same_sinks = c.create_files.ensures.contents } in
-    ((c.in-Ok-read_script.script, rw (← c.nodes.ensures.value) c.in-Ok-read_script.ensures.gives, c.run.ensures.names ∙ c.create_files.ensures.names (search rules), WritesAll-from c.in-Ok-read_script.script _ _ _ _ _ _ _ ready w.0), rw (← c.in-Ok-read_script.ensures.inputs.refused) w.1, w.2 ∙ c.in-Ok-read_script.ensures.inputs.failed)
-
-pub returns-clause-stopped : goal.returns-clause-stopped
-returns-clause-stopped g c is =
-    let names = or_standard (map string_bytes c.args.line.now.operands.items) in
-    let ready : Ready (g.I.Inputs.ahead c.args.inputs.now names) (g.I.Inputs.ahead c.read_script.new.inputs (map string_bytes c.operands_of-operands.result.now))
-    (texts_of (g.N.Names.file c.args.names.now) (g.N.Texts.text c.args.names.now) c.in-Ok-read_script.script) (g.N.Texts.text c.name_files.new.names)
-    (g.O.Outputs.contents c.args.sinks.now) (g.O.Outputs.contents c.create_files.new.sinks) =
-    record { kept = rw c.operands_of-operands.ensures (c.in-Ok-read_script.ensures.inputs.same_ahead names); same_texts = c.in_default-name_files.ensures; same_sinks = c.create_files.ensures.contents } in
-    (c.in-Ok-read_script.script, rw (← c.nodes.ensures.value) c.in-Ok-read_script.ensures.gives, c.run.ensures.names ∙ c.create_files.ensures.names (search rules), WritesBeginning-from c.in-Ok-read_script.script _ _ _ _ _ _ _ ready (c.run.ensures.stopped is))
-
-pub returns-clause-cause : goal.returns-clause-cause
-returns-clause-cause g c is =
+pub returns-clause-means : goal.returns-clause-means
+returns-clause-means g c = λ runs.
     let names = or_standard (map string_bytes c.args.line.now.operands.items) in
     let ready : Ready (g.I.Inputs.ahead c.args.inputs.now names) (g.I.Inputs.ahead c.read_script.new.inputs (map string_bytes c.operands_of-operands.result.now))
     (texts_of (g.N.Names.file c.args.names.now) (g.N.Texts.text c.args.names.now) c.in-Ok-read_script.script) (g.N.Texts.text c.name_files.new.names)
@@ -44,7 +15,7 @@ returns-clause-cause g c is =
       c.in-Ok-read_script.script,
       rw (← c.nodes.ensures.value) c.in-Ok-read_script.ensures.gives,
       c.run.ensures.names ∙ c.create_files.ensures.names (search rules),
-      cause-from c.args.limits c.in-Ok-read_script.script _ _ _ _ _ _ _ _ _ _ _ _ _ _ ready c.in-Ok-read_script.ensures.inputs.failed c.create_files.ensures.failed (c.run.ensures.cause is),
+      means-from c.args.limits c.in-Ok-read_script.script _ _ _ _ _ _ _ _ _ _ _ _ _ _ _ _ _ _ ready c.in-Ok-read_script.ensures.inputs.refused c.in-Ok-read_script.ensures.inputs.failed c.create_files.ensures.failed (c.run.ensures.means runs),
     )
 
 pub returns-in-Err-name_files-clause-created : goal.returns-in-Err-name_files-clause-created

@@ -12,7 +12,7 @@ returns-clause-cycles g c = λ fresh sound ls known files told.
     let N : RunState → Type 0 = λ e. IsNone e.ended in
     let unended = subst N (sym c.self.view_is) fresh in
     cycles_metered g.O.Outputs.contents machine c.cycle-progress.new.self c.self.inside.meter c.cycle-progress.new.outputs.meter.now c.args.self.now c.args.outputs.now c.cycle-progress.new.outputs.outputs.now _ _ _ _ _ files ls _ _
-    c.self.view_is c.self.invariant.0 (search rules) (ap (λ (f : Frame). f.most) w.same_devices.1) refl c.limit.ensures.within _ _ (w.output unended).full
+    c.self.view_is c.self.invariant.0 (search rules) (ap (λ (f : Frame). f.most) w.same_devices.1) refl c.is_within_limit.ensures _ _ (w.output unended).full
     (w.cycles unended sound ls known files told)
 
 pub returns-clause-output : goal.returns-clause-output

@@ -12,7 +12,7 @@ returns-clause-ends g c = λ fresh sound ls known files told.
     let N : RunState → Type 0 = λ e. IsNone e.ended in
     let unended = subst N (sym c.self.view_is) fresh in
     ending_metered g.O.Outputs.contents machine c.run-end.new.self c.self.inside.meter c.run-end.new.outputs.meter.now c.args.self.now c.args.outputs.now c.run-end.new.outputs.outputs.now _ _ _ _ _ files ls _ _
-    c.self.view_is c.self.invariant.0 (search rules) (ap (λ (f : Frame). f.most) w.same_devices.1) refl c.limit.ensures.within _ (w.output unended).full
+    c.self.view_is c.self.invariant.0 (search rules) (ap (λ (f : Frame). f.most) w.same_devices.1) refl c.is_within_limit.ensures _ (w.output unended).full
     (w.ends unended sound ls known files told)
 
 pub returns-clause-output : goal.returns-clause-output

@@ -1,12 +1,14 @@
-use Rattle.std.proofs.Common.{◌*◌, ◌+◌, arith}
+use Rattle.std.proofs.Common.{◌*◌, ◌+◌, ap, arith}
+use Rattle.sedengine.specs.Run.{RunState}
 use Rattle.sedengine.proofs.Passes.{le_mul, turns_fit}
 use Rattle.sedengine.proofs.machine.Machine.count_block.Goals as goal
 
 pub overflow_add-self : goal.overflow_add-self
 overflow_add-self c =
     let turns = turns_fit c.self.inside c.args.self.now (c.args.block.lines * (c.args.block.reached + 1)) c.self.view_is c.requires.turns in
+    let limit = ap (λ (e : RunState). e.limits.turns) c.self.view_is in
     let lines = le_mul c.args.block.lines c.args.block.reached in
-    omega (arith, turns, lines, c.self.invariant.number, c.turns-most.ensures, c.turns-most.type_inv)
+    omega (arith, turns, lines, c.self.invariant.number, limit, c.turns_fit.ensures.fit)
 
 pub overflow_add-self-2 : goal.overflow_add-self-2
 overflow_add-self-2 c = omega (arith, c.requires.few)
@@ -14,9 +16,11 @@ overflow_add-self-2 c = omega (arith, c.requires.few)
 pub overflow_mul-self : goal.overflow_mul-self
 overflow_mul-self c =
     let turns = turns_fit c.self.inside c.args.self.now (c.args.block.lines * (c.args.block.reached + 1)) c.self.view_is c.requires.turns in
-    omega (arith, turns, c.turns-most.ensures, c.turns-most.type_inv)
+    let limit = ap (λ (e : RunState). e.limits.turns) c.self.view_is in
+    omega (arith, turns, limit, c.turns_fit.ensures.fit)
 
 pub overflow_add-self-3 : goal.overflow_add-self-3
 overflow_add-self-3 c =
     let turns = turns_fit c.self.inside c.args.self.now (c.args.block.lines * (c.args.block.reached + 1)) c.self.view_is c.requires.turns in
-    omega (arith, turns, c.turns-most.ensures, c.turns-most.type_inv)
+    let limit = ap (λ (e : RunState). e.limits.turns) c.self.view_is in
+    omega (arith, turns, limit, c.turns_fit.ensures.fit)

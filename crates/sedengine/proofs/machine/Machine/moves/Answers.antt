@@ -1,11 +1,8 @@
-use Rattle.std.proofs.Common.{Err, ap, refl, subst}
-use Rattle.sedengine.specs.Ends.{WithinLimits}
-use Rattle.sedengine.specs.Run.{RunState, at_lines}
+use Rattle.std.proofs.Common.{Err, ap, refl}
 use Rattle.sedengine.proofs.Writing.{Delivers-none, Delivers-then}
 use Rattle.sedengine.proofs.Streams.{Reads-none, Reads-then}
 use Rattle.sedengine.proofs.Runs.{Reached-none, KeepsRun-then, step_on, stop_on}
 use Rattle.sedengine.proofs.PassingRuns.{pass_on, pass_stop}
-use Rattle.sedengine.proofs.Tasks.{fits_of}
 use Rattle.std.proofs.KnownBytes.{Keeps-refl, Keeps-trans}
 use Rattle.sedengine.proofs.Entries.{tells_on}
 use Rattle.sedengine.proofs.machine.Machine.moves.Goals as goal
@@ -17,8 +14,7 @@ moves-init g c = record {
   output = Delivers-none _ _ _;
   kept = λ j. Keeps-refl _;
   reached = λ sound ls known files told.
-      let P : RunState → Type 0 = λ e. WithinLimits e.limits (at_lines e ls) in
-      Reached-none _ _ _ _ c.args.self.now ls _ known (subst P c.self.view_is (fits_of c.self.inside ls c.self.invariant));
+      Reached-none _ _ _ _ c.args.self.now ls _ known (c.is_within_limits.ensures ls);
 }
 
 pub returns-in-Err-clause-input : goal.returns-in-Err-clause-input

@@ -1,12 +1,10 @@
-use Rattle.std.proofs.Common.{◌∙◌, Err, refl, sym, ap, subst, arith}
+use Rattle.std.proofs.Common.{◌∙◌, Err, refl, sym, ap, arith}
 use Rattle.sedengine.specs.State.{State}
-use Rattle.sedengine.specs.Ends.{WithinLimits}
-use Rattle.sedengine.specs.Run.{RunState, at_lines, setting, starts_cycle}
+use Rattle.sedengine.specs.Run.{at_lines, setting, starts_cycle}
 use Rattle.sedengine.proofs.Writing.{Delivers-none, Delivers-then}
 use Rattle.sedengine.proofs.Streams.{Reads-none, Reads-then}
 use Rattle.sedengine.proofs.Moves.{InOneCycle-more}
 use Rattle.sedengine.proofs.Runs.{Reached, Reached-none, KeepsRun-then, step_on, stop_on, one_on, some_on, one_stop, cycled}
-use Rattle.sedengine.proofs.Tasks.{fits_of}
 use Rattle.std.proofs.KnownBytes.{Keeps-refl, Keeps-trans}
 use Rattle.sedengine.proofs.Entries.{tells_on}
 use Rattle.sedengine.proofs.machine.Machine.moves_of_cycle.Goals as goal
@@ -18,8 +16,7 @@ moves-init g c = record {
   output = Delivers-none _ _ _;
   kept = λ j. Keeps-refl _;
   reached = λ sound ls known files told.
-      let P : RunState → Type 0 = λ e. WithinLimits e.limits (at_lines e ls) in
-      (Reached-none _ _ _ _ c.args.self.now ls _ known (subst P c.self.view_is (fits_of c.self.inside ls c.self.invariant)), λ k some lt. absurd (omega arith));
+      (Reached-none _ _ _ _ c.args.self.now ls _ known (c.is_within_limits.ensures ls), λ k some lt. absurd (omega arith));
 }
 
 pub returns-in-Err-clause-input : goal.returns-in-Err-clause-input

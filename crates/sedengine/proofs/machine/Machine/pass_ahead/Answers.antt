@@ -1,30 +1,24 @@
 use Rattle.std.proofs.Common.{List, ℕ, length-drop, subst, take, arith}
 use Rattle.sedspace.specs.Lines.{AreWholeLines}
-use Rattle.sedengine.specs.Ends.{WithinLimits}
-use Rattle.sedengine.specs.Run.{RunState, at_lines}
-use Rattle.sedengine.proofs.Tasks.{begins_empty, fits_of}
 use Rattle.sedengine.proofs.Passes.{breaks_seen, nothing_passed, passes_seen, reads_ahead, reads_broken}
 use Rattle.sedengine.proofs.machine.Machine.pass_ahead.Goals as goal
 
 pub returns-in_default-clause-steps : goal.returns-in_default-clause-steps
 returns-in_default-clause-steps g c = λ ls known files.
-    let P : RunState → Type 0 = λ e. WithinLimits e.limits (at_lines e ls) in
-    nothing_passed g.R.ByteSource.remaining c.args.lines.now ls c.args.self.now c.find_block.new.self _ _ known (subst P c.self.view_is (fits_of c.self.inside ls c.self.invariant)) c.in_default.ensures.same
+    nothing_passed g.R.ByteSource.remaining c.args.lines.now ls c.args.self.now c.find_block.new.self _ _ known (c.is_within_limits.ensures ls) c.in_default.ensures.same
 
 pub returns-in-Ok-clause-steps : goal.returns-in-Ok-clause-steps
 returns-in-Ok-clause-steps g c = λ ls known files.
-    let P : RunState → Type 0 = λ e. WithinLimits e.limits (at_lines e ls) in
     passes_seen g.R.ByteSource.remaining c.args.lines.now c.take_lines.new.self ls c.args.self.now c.find_block.new.self c.count_block.new.self files c.in-Some.block c.ahead-ahead.result.now _ _ known c.in-Some.ensures.same c.ahead-ahead.ensures.value c.in-Some.ensures.block
-    (subst P c.self.view_is (fits_of c.self.inside ls c.self.invariant)) c.requires.begins (begins_empty c.self.inside c.args.self.now c.self.view_is c.self.invariant c.requires.begins) c.take_lines.ensures.taken c.count_block.ensures c.in-Ok.ensures.writes
+    (c.is_within_limits.ensures ls) c.requires.begins c.is_emptied.ensures c.take_lines.ensures.taken c.count_block.ensures c.in-Ok.ensures.writes
 
 pub returns-in-Ok-clause-input : goal.returns-in-Ok-clause-input
 returns-in-Ok-clause-input g c = reads_ahead g.R.ByteSource.remaining g.R.ByteSource.failures g.R.ByteSource.reference c.args.lines.now c.take_lines.new.self _ _ c.take_lines.ensures.taken (omega (arith, length-drop c.in-Some.block.bytes c.args.lines.now.ahead)) (λ is. cc)
 
 pub returns-in-Err-clause-steps : goal.returns-in-Err-clause-steps
 returns-in-Err-clause-steps g c = λ ls known files.
-    let P : RunState → Type 0 = λ e. WithinLimits e.limits (at_lines e ls) in
     breaks_seen g.R.ByteSource.remaining c.args.lines.now c.break_off.new.lines ls c.args.self.now c.find_block.new.self c.break_off.new.self files c.in-Some.block c.ahead-ahead.result.now c.in-Err.cut _ _ known c.in-Some.ensures.same c.ahead-ahead.ensures.value c.in-Some.ensures.block
-    (subst P c.self.view_is (fits_of c.self.inside ls c.self.invariant)) c.requires.begins (begins_empty c.self.inside c.args.self.now c.self.view_is c.self.invariant c.requires.begins) c.break_off.ensures c.in-Err.ensures.writes
+    (c.is_within_limits.ensures ls) c.requires.begins c.is_emptied.ensures c.break_off.ensures c.in-Err.ensures.writes
 
 pub returns-in-Err-clause-input : goal.returns-in-Err-clause-input
 returns-in-Err-clause-input g c = reads_broken g.R.ByteSource.remaining g.R.ByteSource.failures g.R.ByteSource.reference c.args.lines.now c.break_off.new.lines c.find_block.new.self c.break_off.new.self c.in-Err.cut.done c.in-Some.block.bytes c.in-Err.cut.end c.break_off.ensures c.in-Err.ensures.writes.1.1

@@ -1,9 +1,7 @@
 use Rattle.std.proofs.Common.{subst}
-use Rattle.sedengine.specs.Ends.{WithinLimits}
 use Rattle.sedengine.specs.Meters.{Sent}
 use Rattle.sedengine.specs.Run.{RunState, at_lines, setting}
 use Rattle.sedengine.specs.Passing.{StepsPassing}
-use Rattle.sedengine.proofs.Tasks.{fits_of}
 use Rattle.sedengine.proofs.Passes.{nothing_passed}
 use Rattle.sedengine.proofs.machine.Machine.pass_over.Goals as goal
 
@@ -14,5 +12,4 @@ returns-then-may_pass-clause-steps g c = λ ls known files.
 
 pub returns-clause-steps : goal.returns-clause-steps
 returns-clause-steps g c = λ ls known files.
-    let P : RunState → Type 0 = λ e. WithinLimits e.limits (at_lines e ls) in
-    nothing_passed g.R.ByteSource.remaining c.args.lines.now ls c.args.self.now c.may_pass.new.self _ _ known (subst P c.self.view_is (fits_of c.self.inside ls c.self.invariant)) c.may_pass.ensures.same
+    nothing_passed g.R.ByteSource.remaining c.args.lines.now ls c.args.self.now c.may_pass.new.self _ _ known (c.is_within_limits.ensures ls) c.may_pass.ensures.same
