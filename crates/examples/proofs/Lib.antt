@@ -48,6 +48,7 @@ mod NestedStarRunExamples
 mod OccurrenceExamples
 pub mod PieceReading
 mod ProgramExamples
+mod ReadFunctions
 mod RepeatedBytes
 mod ReportExamples
 mod RunExamples

@@ -224,7 +224,7 @@ mapped_none : (x : ℕ) (o : Option ℕ) → option_map (spanned x) o ≡ None �
 mapped_none x None e = refl
 mapped_none x (Some to) e = let no : ◌≡◌ {A = Option (ℕ × ℕ)} (Some (x, to)) None = e in absurd cc
 
-none_there : (script : List ℕ) (from : ℕ) → text_from script from ≡ None → HasNoText script from
+pub none_there : (script : List ℕ) (from : ℕ) → text_from script from ≡ None → HasNoText script from
 unfolding text_from
 none_there script from e = by_form (is_byte 92 (slice_get script from) && is_byte 10 (slice_get script (from + 1))) refl e
   where

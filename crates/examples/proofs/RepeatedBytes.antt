@@ -1,24 +1,16 @@
 -- Bytes that stand twice in the first string of a `y`.
-use Rattle.std.proofs.Common.{◌≡◌, ◌⊎◌, inl, inr, ℕ, zero, suc, ◌+◌, ◌-◌, ◌==◌, ◌||◌, not, Bool, true, false, if◌then◌else◌, List, [], ◌∷◌, ◌++◌, length, drop, Option, Some, None, Result, Ok, Err, slice_get, refl, sym, ap, ◌∙◌}
+use Rattle.std.proofs.Common.{◌≡◌, ◌⊎◌, inl, inr, ℕ, zero, suc, ◌+◌, ◌==◌, ◌||◌, not, Bool, true, false, if◌then◌else◌, List, [], ◌∷◌, ◌++◌, length, Option, Some, None, slice_get, refl, sym, ap, ◌∙◌}
 use Rattle.std.proofs.lemmas.Bool.{eqb-true, eq-eqb}
-use Rattle.std.specs.Option.{option_or}
 use Rattle.sedscript.specs.declared.types.ScriptFault.{ScriptFault}
-use Rattle.sedscript.specs.declared.types.Reason.{Reason}
-use Rattle.sedscript.specs.declared.types.Reason.TheVariants.{RepeatedByte, BadEscape, LengthsDiffer, TrailingBytes, OpenDelimiter, BadDelimiter}
+use Rattle.sedscript.specs.declared.types.Reason.TheVariants.{RepeatedByte, LengthsDiffer}
 use Rattle.sedscript.specs.declared.transliteration.Char.{Char}
 use Rattle.sedscript.specs.declared.items.Strings.{Strings}
-use Rattle.sedscript.specs.declared.items.Function.{Function}
-use Rattle.sedscript.specs.declared.items.Function.TheVariants.{Transliterate}
-use Rattle.sedscript.specs.declared.bytes.Sort.TheVariants.{Blank}
-use Rattle.sedscript.specs.Bytes.{past, bytes_between}
-use Rattle.sedscript.specs.Functions.{fault, ended, may_end, ◌>>=◌ as ◌then◌}
-use Rattle.sedscript.specs.Strings.{string_end, escapes}
-use Rattle.sedscript.specs.Targets.{fault_if}
+use Rattle.sedscript.specs.Bytes.{bytes_between}
+use Rattle.sedscript.specs.Functions.{◌>>=◌ as ◌then◌}
 use Rattle.sedscript.specs.Transliteration.{chars_of, bytes_of, is_among, repeated_in, repeated_fault, string_fault, strings_fault}
-use Rattle.sedscript.specs.Between.{own_delimiter, strings_to, strings_after, transliterate_strings, unless_fault, transliterate_at}
 use Rattle.examples.specs.Strings.{NoneTwice, RepeatsFirst}
 use Rattle.examples.proofs.BackslashLemmas.{same_byte}
-use Rattle.examples.proofs.FaultLemmas.{or_none, unless_wrong, Another, another_if, past_another, no_other}
+use Rattle.examples.proofs.FaultLemmas.{or_none, unless_wrong}
 
 -- ---- the bytes
 
@@ -123,22 +115,22 @@ repeats_first cs place r = let s = stood r.stood in record {
     stood (inl e) = let no : false ≡ true = e in absurd cc
     stood (inr p) = p
 
--- ---- the command
+pub first_repeated : (cs : List Char) (place : ℕ) → repeated_in [] cs ≡ Some place → RepeatsFirst cs place
+first_repeated cs place e = repeats_first cs place (repeated [] cs place e)
+
+-- ---- the strings of a `y`
 
 no_repeated : (o : Option ℕ) → repeated_fault o ≡ None → o ≡ None
 no_repeated None e = refl
 no_repeated (Some place) e = let no : ◌≡◌ {A = Option ScriptFault} (Some (record { place = place; reason = RepeatedByte })) None = e in absurd cc
 
-abbrev Found : Type 0
-Found = Result (Function × ℕ) ScriptFault
-
 -- what the strings of an accepted `y` are
-abbrev Pairs : List ℕ → Strings → Type 0
+abbrev pub Pairs : List ℕ → Strings → Type 0
 Pairs text s =
     NoneTwice (bytes_of (chars_of text s.delimiter s.from s.middle))
     × (length (chars_of text s.delimiter s.from s.middle) ≡ length (chars_of text s.delimiter (s.middle + 1) s.to))
 
-pairs : (text : List ℕ) (at : ℕ) (s : Strings) → strings_fault text s.delimiter at s.from s.middle s.to ≡ None → Pairs text s
+pub pairs : (text : List ℕ) (at : ℕ) (s : Strings) → strings_fault text s.delimiter at s.from s.middle s.to ≡ None → Pairs text s
 pairs text at s e =
     let one = or_none (string_fault s.delimiter false s.from (bytes_between text s.from s.middle)) _ e in
     let two = or_none (string_fault s.delimiter false (s.middle + 1) (bytes_between text (s.middle + 1) s.to)) _ one.1 in
@@ -150,109 +142,3 @@ pairs text at s e =
     holds : (t : Bool) → not t ≡ false → t ≡ true
     holds true e = refl
     holds false e = cc
-
-same_strings : (s x : Strings) (n to : ℕ) → ◌≡◌ {A = Found} (Ok (Transliterate s, n)) (Ok (Transliterate x, to)) → s ≡ x
-same_strings s x n to e =
-    let both : ◌≡◌ {A = Function × ℕ} (Transliterate s, n) (Transliterate x, to) = cc in
-    let same : Transliterate s ≡ Transliterate x = ap (λ (z : Function × ℕ). z.0) both in cc
-
-ended_same : (text : List ℕ) (s x : Strings) (at to : ℕ) → ended text (Transliterate s) at ≡ Ok (Transliterate x, to) → s ≡ x
-ended_same text s x at to e = by_end (may_end (slice_get text (past Blank text at))) e
-  where
-    by_end : (t : Bool) → ◌≡◌ {A = Found} (if t then Ok (Transliterate s, past Blank text at) else fault TrailingBytes (past Blank text at)) (Ok (Transliterate x, to)) → s ≡ x
-    by_end true e = same_strings s x (past Blank text at) to e
-    by_end false e = absurd cc
-
-abbrev taken : List ℕ → ℕ → Strings → Found
-taken text at s = unless_fault (strings_fault text s.delimiter at s.from s.middle s.to) (ended text (Transliterate s) (s.to + 1))
-
-pub strings_accepted : (text : List ℕ) (at to : ℕ) (s : Strings) → transliterate_at text at ≡ Ok (Transliterate s, to) → Pairs text s
-unfolding transliterate_at
-strings_accepted text at to s e = by_strings (transliterate_strings text (at + 1) (own_delimiter (slice_get text (at + 1)))) e
-  where
-    by_fault : (x : Strings) (o : Option ScriptFault) → strings_fault text x.delimiter at x.from x.middle x.to ≡ o → unless_fault o (ended text (Transliterate x) (x.to + 1)) ≡ Ok (Transliterate s, to) → Pairs text s
-    by_fault x None is e = rw (← ended_same text x s (x.to + 1) to e) (pairs text at x is)
-    by_fault x (Some f) is e = absurd cc
-
-    by_strings : (r : Result Strings ScriptFault) → ◌then◌ r (taken text at) ≡ Ok (Transliterate s, to) → Pairs text s
-    by_strings (Ok x) e = by_fault x (strings_fault text x.delimiter at x.from x.middle x.to) refl e
-    by_strings (Err f) e = absurd cc
-
--- ---- the fault
-
-another : (r : Reason) (place : ℕ) (f : ScriptFault) → (r ≡ RepeatedByte → ⊥) → ◌≡◌ {A = Found} (fault r place) (Err f) → f.reason ≡ RepeatedByte → ⊥
-another r place f other e is =
-    let same : ◌≡◌ {A = ScriptFault} (record { place = place; reason = r }) f = cc in
-    other (ap (λ (x : ScriptFault). x.reason) same ∙ is)
-
--- a string's own fault is another one
-escape_fault : (d : ℕ) (escaped : Bool) (at : ℕ) (bs : List ℕ) → Another RepeatedByte (string_fault d escaped at bs)
-escape_fault d escaped at [] = tt
-escape_fault d escaped at (b ∷ bs) = by_test _ (escape_fault d (escapes escaped b) (suc at) bs)
-  where
-    by_test : (t : Bool) → Another RepeatedByte (string_fault d (escapes escaped b) (suc at) bs) → Another RepeatedByte (if t then Some (record { place = at - 1; reason = BadEscape }) else string_fault d (escapes escaped b) (suc at) bs)
-    by_test true rest = λ e. absurd cc
-    by_test false rest = rest
-
-no_string : (text : List ℕ) (place : ℕ) (o : Option ℕ) (f : ScriptFault) → transliterate_strings text place o ≡ Err f → f.reason ≡ RepeatedByte → ⊥
-no_string text place None f e = stopped BadDelimiter place f (λ no. absurd cc) e
-  where
-    stopped : (r : Reason) (at : ℕ) (f : ScriptFault) → (r ≡ RepeatedByte → ⊥) → ◌≡◌ {A = Result Strings ScriptFault} (fault r at) (Err f) → f.reason ≡ RepeatedByte → ⊥
-    stopped r at f other e is =
-        let same : ◌≡◌ {A = ScriptFault} (record { place = at; reason = r }) f = cc in
-        other (ap (λ (x : ScriptFault). x.reason) same ∙ is)
-no_string text place (Some d) f e = by_middle (string_end false d false (place + 1) (drop (place + 1) text)) e
-  where
-    open_at : (at : ℕ) → ◌≡◌ {A = Result Strings ScriptFault} (fault OpenDelimiter at) (Err f) → f.reason ≡ RepeatedByte → ⊥
-    open_at at e is =
-        let same : ◌≡◌ {A = ScriptFault} (record { place = at; reason = OpenDelimiter }) f = cc in
-        let no : OpenDelimiter ≡ RepeatedByte = ap (λ (x : ScriptFault). x.reason) same ∙ is in absurd cc
-
-    by_end : (middle : ℕ) (o : Option ℕ) → strings_to d (place + 1) middle o ≡ Err f → f.reason ≡ RepeatedByte → ⊥
-    by_end middle None e = open_at middle e
-    by_end middle (Some to) e = absurd cc
-
-    by_middle : (o : Option ℕ) → strings_after text false d place o ≡ Err f → f.reason ≡ RepeatedByte → ⊥
-    by_middle None e = open_at place e
-    by_middle (Some middle) e = by_end middle (string_end false d false (middle + 1) (drop (middle + 1) text)) e
-
-repeats : (text : List ℕ) (at : ℕ) (s : Strings) (f : ScriptFault) → f.reason ≡ RepeatedByte → strings_fault text s.delimiter at s.from s.middle s.to ≡ Some f →
-    RepeatsFirst (chars_of text s.delimiter s.from s.middle) f.place
-repeats text at s f is e =
-    by_found (repeated_in [] (chars_of text s.delimiter s.from s.middle)) refl
-    (past_another RepeatedByte (string_fault s.delimiter false (s.middle + 1) (bytes_between text (s.middle + 1) s.to)) _ f (escape_fault s.delimiter false (s.middle + 1) (bytes_between text (s.middle + 1) s.to)) is
-    (past_another RepeatedByte (string_fault s.delimiter false s.from (bytes_between text s.from s.middle)) _ f (escape_fault s.delimiter false s.from (bytes_between text s.from s.middle)) is e))
-  where
-    by_found : (o : Option ℕ) → repeated_in [] (chars_of text s.delimiter s.from s.middle) ≡ o →
-        option_or (repeated_fault o) (fault_if (not (length (chars_of text s.delimiter s.from s.middle) == length (chars_of text s.delimiter (s.middle + 1) s.to))) LengthsDiffer at) ≡ Some f →
-        RepeatsFirst (chars_of text s.delimiter s.from s.middle) f.place
-    by_found None found e = absurd (no_other RepeatedByte _ f (another_if RepeatedByte LengthsDiffer (not (length (chars_of text s.delimiter s.from s.middle) == length (chars_of text s.delimiter (s.middle + 1) s.to))) at (λ no. absurd cc)) is e)
-    by_found (Some place) found e =
-        let same : ◌≡◌ {A = ScriptFault} (record { place = place; reason = RepeatedByte }) f = cc in
-        let there : place ≡ f.place = ap (λ (x : ScriptFault). x.place) same in
-        rw (← there) (repeats_first (chars_of text s.delimiter s.from s.middle) place (repeated [] (chars_of text s.delimiter s.from s.middle) place found))
-
-pub repeated_byte : (text : List ℕ) (at : ℕ) (f : ScriptFault) → transliterate_at text at ≡ Err f → f.reason ≡ RepeatedByte →
-    (s : Strings) × (transliterate_strings text (at + 1) (own_delimiter (slice_get text (at + 1))) ≡ Ok s) × RepeatsFirst (chars_of text s.delimiter s.from s.middle) f.place
-unfolding transliterate_at
-repeated_byte text at f e is = by_strings (transliterate_strings text (at + 1) (own_delimiter (slice_get text (at + 1)))) refl e
-  where
-    Answer : Type 0
-    Answer = (s : Strings) × (transliterate_strings text (at + 1) (own_delimiter (slice_get text (at + 1))) ≡ Ok s) × RepeatsFirst (chars_of text s.delimiter s.from s.middle) f.place
-
-    by_end : (t : Bool) (s : Strings) (n : ℕ) → ◌≡◌ {A = Found} (if t then Ok (Transliterate s, n) else fault TrailingBytes n) (Err f) → ⊥
-    by_end true s n e = absurd cc
-    by_end false s n e = another TrailingBytes n f (λ no. absurd cc) e is
-
-    by_fault : (s : Strings) (o : Option ScriptFault) → transliterate_strings text (at + 1) (own_delimiter (slice_get text (at + 1))) ≡ Ok s → strings_fault text s.delimiter at s.from s.middle s.to ≡ o →
-        unless_fault o (ended text (Transliterate s) (s.to + 1)) ≡ Err f → Answer
-    by_fault s None read found e = absurd (by_end (may_end (slice_get text (past Blank text (s.to + 1)))) s (past Blank text (s.to + 1)) e)
-    by_fault s (Some g) read found e =
-        let same : ◌≡◌ {A = ScriptFault} g f = cc in
-        (s, read, repeats text at s f is (found ∙ ap (λ (x : ScriptFault). Some x) same))
-
-    by_strings : (r : Result Strings ScriptFault) → transliterate_strings text (at + 1) (own_delimiter (slice_get text (at + 1))) ≡ r → ◌then◌ r (taken text at) ≡ Err f → Answer
-    by_strings (Ok s) read e = by_fault s (strings_fault text s.delimiter at s.from s.middle s.to) read refl e
-    by_strings (Err g) read e =
-        let same : ◌≡◌ {A = ScriptFault} g f = cc in
-        absurd (no_string text (at + 1) (own_delimiter (slice_get text (at + 1))) f (read ∙ ap (λ (x : ScriptFault). Err x) same) is)

@@ -1,6 +1,14 @@
 -- Bytes and backslashes of texts (XCU sed, "Editing Commands in sed": `a`, `i` and `c`).
 use Rattle.std.specs.Prelude.{◌≡◌, ◌≤◌, ◌⊎◌, ℕ, ◌+◌, List, [], ◌∷◌, length, Some, None, slice_get}
+use Rattle.sedscript.specs.declared.items.TextUse.{TextUse}
+use Rattle.sedscript.specs.declared.items.TextUse.TheVariants.{Append, Insert, Change}
 use Rattle.examples.specs.Backslashes.{IsUnescaped, NoneUnescaped}
+
+-- the letter of the function
+abbrev pub letter_of : TextUse → ℕ
+letter_of Append = 97
+letter_of Insert = 105
+letter_of Change = 99
 
 -- each byte with a backslash before it
 abbrev pub backslashed : List ℕ → List ℕ

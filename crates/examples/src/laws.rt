@@ -14,14 +14,13 @@ ghost use Rattle.sedscript.specs.declared.items.Function.TheVariants.{Open, Clos
 ghost use Rattle.sedscript.specs.declared.items.TextUse.{TextUse};
 ghost use Rattle.sedscript.specs.declared.letters.Shape.TheVariants.{TakesText};
 ghost use Rattle.sedscript.specs.declared.items.Item.{Item};
-ghost use Rattle.sedscript.specs.Between.{own_delimiter, transliterate_strings, transliterate_at};
 ghost use Rattle.sedscript.specs.Bytes.{past, bytes_between};
 ghost use Rattle.sedscript.specs.Flags.{flags_from, no_flags};
 ghost use Rattle.sedscript.specs.Functions.{fault, name_from, text_from};
 ghost use Rattle.sedscript.specs.Items.{function_of};
 ghost use Rattle.sedscript.specs.declared.substitution.Piece.{Piece};
 ghost use Rattle.sedscript.specs.Replacement.{pieces_of, replacement_fault, GroupsWithin};
-ghost use Rattle.sedscript.specs.Script.{unescaped_from, Program, Means};
+ghost use Rattle.sedscript.specs.Script.{unescaped_from, Program, Means, Faulty};
 ghost use Rattle.sedscript.specs.Strings.{string_end};
 ghost use Rattle.sedscript.specs.Targets.{block_end, commands_in, target_fault};
 ghost use Rattle.sedscript.specs.Transliteration.{table_of, chars_from, chars_of, bytes_of, is_among, string_fault};
@@ -29,8 +28,8 @@ ghost use Rattle.examples.specs.Backslashes.{IsUnescaped, NoneUnescaped};
 ghost use Rattle.examples.specs.Escapes.{FirstWrong, wrong_in_string, wrong_in_replacement};
 ghost use Rattle.examples.specs.Blocks.{BracesMatch, IsStray, IsOpen};
 ghost use Rattle.examples.specs.Labels.{EndsLabel};
-ghost use Rattle.examples.specs.Texts.{HasNoText, backslashed};
-ghost use Rattle.examples.specs.Strings.{NoneTwice, RepeatsFirst, written};
+ghost use Rattle.examples.specs.Texts.{HasNoText, letter_of, backslashed};
+ghost use Rattle.examples.specs.Strings.{NoneTwice, IsTransliterate, RepeatsFirst, written};
 ghost use Rattle.examples.specs.Names.{EachOnce, names_of};
 ghost use Rattle.examples.specs.Numbers.{NumberAmong};
 ghost use Rattle.examples.specs.Lists.{ArePlain};
@@ -52,6 +51,15 @@ pub fn text_missing()
         (f.place ≡ at) × (f.reason ≡ MissingText) × HasNoText script (past Blank script (at + 1)))
         × (HasNoText script (past Blank script (at + 1)) →
         function_of script (TakesText t) at ≡ fault MissingText at) }
+{}
+
+/// A script that is refused for want of a text has an `a`, `i` or `c` at the fault's place, and no text stands after that and
+/// blanks.
+pub fn text_fault()
+    ensures { (kind : Kind) (max_nodes : ℕ) (text : List ℕ) (f : ScriptFault) → Faulty text kind max_nodes f →
+        f.reason ≡ MissingText →
+        (t : TextUse) × (slice_get text f.place ≡ Some (letter_of t))
+        × HasNoText text (past Blank text (f.place + 1)) }
 {}
 
 /// A label holds no newline, semicolon, blank or closing brace, and one of these stands after it, or the script ends
@@ -96,21 +104,23 @@ pub fn table_keeps()
         ((place : ℕ) → slice_get string1 place ≡ Some b → ⊥) → slice_get (table_of string1 string2) b ≡ Some b }
 {}
 
-/// A `y` that is accepted has no byte twice in its first string, and as many bytes in its second.
+/// A `y` of an accepted script has no byte twice in its first string, and as many bytes in its second.
 pub fn strings_accepted()
-    ensures { (script : List ℕ) (at to : ℕ) (s : Strings) → transliterate_at script at ≡ Ok (Transliterate s, to) →
-        NoneTwice (bytes_of (chars_of script s.delimiter s.from s.middle))
-        × (length (chars_of script s.delimiter s.from s.middle)
-        ≡ length (chars_of script s.delimiter (s.middle + 1) s.to)) }
+    ensures { (kind : Kind) (max_nodes : ℕ) (text : List ℕ) (script : Program)
+        (means : Means text kind max_nodes script) (k : ℕ) (i : Item) (s : Strings) →
+        slice_get means.items k ≡ Some i → i.function ≡ Transliterate s →
+        NoneTwice (bytes_of (chars_of text s.delimiter s.from s.middle))
+        × (length (chars_of text s.delimiter s.from s.middle)
+        ≡ length (chars_of text s.delimiter (s.middle + 1) s.to)) }
 {}
 
-/// Where a `y` is refused for a byte that stands twice in its first string, it is told at the first place at which one stands
-/// for the second time.
+/// A script that is refused for a byte that stands twice has a `y`, and the fault's place is the first in its first string at
+/// which a byte stands for the second time.
 pub fn repeated_byte()
-    ensures { (script : List ℕ) (at : ℕ) (f : ScriptFault) → transliterate_at script at ≡ Err f →
+    ensures { (kind : Kind) (max_nodes : ℕ) (text : List ℕ) (f : ScriptFault) → Faulty text kind max_nodes f →
         f.reason ≡ RepeatedByte →
-        (s : Strings) × (transliterate_strings script (at + 1) (own_delimiter (slice_get script (at + 1))) ≡ Ok s)
-        × RepeatsFirst (chars_of script s.delimiter s.from s.middle) f.place }
+        (at : ℕ) × (s : Strings) × IsTransliterate text at s
+        × RepeatsFirst (chars_of text s.delimiter s.from s.middle) f.place }
 {}
 
 /// A string of a `y` that is written out is read as its bytes, unless its delimiter is an `n`.

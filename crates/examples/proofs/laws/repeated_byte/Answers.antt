@@ -1,4 +1,4 @@
-use Rattle.examples.proofs.RepeatedBytes.{repeated_byte as law}
+use Rattle.examples.proofs.ReadFunctions.{repeated_byte as law}
 use Rattle.examples.proofs.laws.repeated_byte.Goals as goal
 
 pub returns : goal.returns

@@ -1,4 +1,4 @@
-use Rattle.examples.proofs.RepeatedBytes.{strings_accepted as law}
+use Rattle.examples.proofs.ReadFunctions.{strings_accepted as law}
 use Rattle.examples.proofs.laws.strings_accepted.Goals as goal
 
 pub returns : goal.returns
