@@ -319,6 +319,6 @@ is_open_one items place u = record {
   there = u.there;
 }
 
-pub brace_faults : (text : List ℕ) (items : Items) (f : ScriptFault) → target_fault text items ≡ Some f →
+pub braces_at_fault : (text : List ℕ) (items : Items) (f : ScriptFault) → target_fault text items ≡ Some f →
     (f.reason ≡ StrayClose → IsStray items f.place) × (f.reason ≡ OpenBlock → IsOpen items f.place)
-brace_faults text items f e = (λ is. is_stray items f.place (stray text items [] 0 items f is e), λ is. is_open_one items f.place (unclosed text items [] 0 items f is e))
+braces_at_fault text items f e = (λ is. is_stray items f.place (stray text items [] 0 items f is e), λ is. is_open_one items f.place (unclosed text items [] 0 items f is e))

@@ -59,6 +59,7 @@ mod SearchExamples
 mod SpaceRunExamples
 mod StandardExamples
 mod StringEnds
+mod StringPlaces
 pub mod StringReading
 mod SubstitutionFaultExamples
 mod SubstitutionRunExamples

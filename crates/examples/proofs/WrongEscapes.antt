@@ -26,7 +26,7 @@ scan wrong escaped at [] = None
 scan wrong true at (b ∷ bs) = option_or (option_map (fault_at (at - 1)) (wrong b)) (scan wrong false (suc at) bs)
 scan wrong false at (b ∷ bs) = scan wrong (b == 92) (suc at) bs
 
-no_escape : (t : Bool) → (t && false) ≡ false
+pub no_escape : (t : Bool) → (t && false) ≡ false
 no_escape true = refl
 no_escape false = refl
 
@@ -86,7 +86,7 @@ replacement_scan d limit false at (b ∷ bs) = replacement_scan d limit (b == 92
 -- ---- where the answer stands
 
 -- a backslash that none escapes and a byte after it, where so many backslashes stand before the bytes
-record Escape (n : ℕ) (bs : List ℕ) (k b : ℕ) : Type 0 where
+pub record Escape (n : ℕ) (bs : List ℕ) (k b : ℕ) : Type 0 where
   pub free : Free 92 n bs k
   pub byte : slice_get bs (suc k) ≡ Some b
 
@@ -106,7 +106,7 @@ Scanned wrong n at bs (Some f) = Wrong wrong n at bs f
 tail_of : (n b k c : ℕ) (bs : List ℕ) → Escape n (b ∷ bs) (suc k) c → Escape (next n b) bs k c
 tail_of n b k c bs e = record { free = behind 92 n b k bs e.free; byte = e.byte }
 
-onto_one : (n b k c : ℕ) (bs : List ℕ) → Escape (next n b) bs k c → Escape n (b ∷ bs) (suc k) c
+pub onto_one : (n b k c : ℕ) (bs : List ℕ) → Escape (next n b) bs k c → Escape n (b ∷ bs) (suc k) c
 onto_one n b k c bs e = record { free = onto 92 n b k bs e.free; byte = e.byte }
 
 -- a byte before them with which nothing is wrong
@@ -159,7 +159,7 @@ scanned wrong n at (b ∷ c ∷ cs) even =
 
 -- ---- of a script
 
-get_take : (m k : ℕ) (xs : List ℕ) → k < m → slice_get (take m xs) k ≡ slice_get xs k
+pub get_take : (m k : ℕ) (xs : List ℕ) → k < m → slice_get (take m xs) k ≡ slice_get xs k
 get_take zero k xs low = absurd (omega (arith, low))
 get_take (suc m) k [] low = refl
 get_take (suc m) zero (x ∷ xs) low = refl
@@ -176,10 +176,10 @@ escape_in text from to at b e = record {
       ∙ (get_drop text from (suc (at - from)) ∙ (ap (slice_get text) (let n : from + suc (at - from) ≡ at + 1 = omega (arith, e.begins) in n) ∙ e.next));
 }
 
-within : (text : List ℕ) (from to k b : ℕ) → slice_get (bytes_between text from to) k ≡ Some b → k < to - from
+pub within : (text : List ℕ) (from to k b : ℕ) → slice_get (bytes_between text from to) k ≡ Some b → k < to - from
 within text from to k b e = omega (arith, slice_get_within (bytes_between text from to) k b e, length-take (to - from) (drop from text))
 
-escape_out : (text : List ℕ) (from to k b : ℕ) → Escape 0 (bytes_between text from to) k b → IsEscape text from to (from + k) b
+pub escape_out : (text : List ℕ) (from to k b : ℕ) → Escape 0 (bytes_between text from to) k b → IsEscape text from to (from + k) b
 escape_out text from to k b e =
     let low = within text from to (suc k) b e.byte in record {
       begins = omega arith;

@@ -1,13 +1,19 @@
 -- Bytes that may not stand after a backslash, and the first one that does (XCU sed, "Editing Commands in sed": `s` and
 -- `y`).
 use Rattle.std.specs.Prelude.{◌≡◌, ◌≤◌, ◌<◌, ℕ, ◌+◌, ◌-◌, List, Option, Some, None, slice_get}
-use Rattle.std.specs.Prelude.{if◌then◌else◌, ◌==◌, ◌&&◌, ◌||◌, not}
+use Rattle.std.specs.Prelude.{if◌then◌else◌, ◌==◌, ◌&&◌, ◌||◌, not, Bool, Ok}
+use Rattle.sedre.specs.declared.types.Kind.{Kind}
+use Rattle.sedre.specs.Arena.{Written}
 use Rattle.sedscript.specs.declared.types.ScriptFault.{ScriptFault}
 use Rattle.sedscript.specs.declared.types.Reason.{Reason}
 use Rattle.sedscript.specs.declared.types.Reason.TheVariants.{BadEscape, GroupAbsent}
+use Rattle.sedscript.specs.declared.items.Strings.{Strings}
+use Rattle.sedscript.specs.Between.{own_delimiter, substitute_strings}
 use Rattle.sedscript.specs.Bytes.{is_digit}
+use Rattle.sedscript.specs.Expressions.{IsRead}
 use Rattle.sedscript.specs.Replacement.{is_letter, exceeds}
 use Rattle.examples.specs.Backslashes.{IsUnescaped}
+use Rattle.examples.specs.Strings.{IsTransliterate}
 
 -- what is wrong with a byte after a backslash in a string of `y`: it is none of the delimiter, a backslash, `n` and `t`
 -- (`t`, and that others are refused: this project's own)
@@ -43,3 +49,30 @@ pub record IsFirstWrong (wrong : ℕ → Option Reason) (text : List ℕ) (from 
 abbrev pub FirstWrong : (wrong : ℕ → Option Reason) → List ℕ → (from to : ℕ) → Option ScriptFault → Type 0
 FirstWrong wrong text from to None = (at b : ℕ) → IsEscape text from to at b → wrong b ≡ None
 FirstWrong wrong text from to (Some f) = IsFirstWrong wrong text from to f
+
+-- an `s` stands at a place, and these strings after it
+abbrev pub IsSubstitute : List ℕ → ℕ → Strings → Type 0
+IsSubstitute text at s =
+    (slice_get text at ≡ Some 115)
+    × (substitute_strings text (at + 1) (own_delimiter (slice_get text (at + 1))) ≡ Ok s)
+
+-- the expression of an `s` has so many groups; the empty one sets no limit to them
+abbrev pub HasGroups : Kind → ℕ → List ℕ → Strings → Option ℕ → Type 0
+HasGroups kind max_nodes text s None = s.middle ≡ s.from
+HasGroups kind max_nodes text s (Some groups) =
+    (folded : Bool) × (e : Written)
+    × IsRead text kind max_nodes
+    (record { from = s.from; to = s.middle; delimiter = s.delimiter; folded = folded })
+    e
+    × (groups ≡ e.groups)
+
+-- the fault is that of the first wrong escape in a string of a `y`, or in the replacement of an `s`
+pub data IsWrongEscape (kind : Kind) (max_nodes : ℕ) (text : List ℕ) (f : ScriptFault) : Type 0 where
+  in_first : (at : ℕ) (s : Strings) → IsTransliterate text at s →
+      IsFirstWrong (wrong_in_string s.delimiter) text s.from s.middle f → IsWrongEscape kind max_nodes text f
+  in_second : (at : ℕ) (s : Strings) → IsTransliterate text at s →
+      IsFirstWrong (wrong_in_string s.delimiter) text (s.middle + 1) s.to f → IsWrongEscape kind max_nodes text f
+  in_replacement : (at : ℕ) (s : Strings) (groups : Option ℕ) → IsSubstitute text at s →
+      HasGroups kind max_nodes text s groups →
+      IsFirstWrong (wrong_in_replacement s.delimiter groups) text (s.middle + 1) s.to f →
+      IsWrongEscape kind max_nodes text f

@@ -4,7 +4,8 @@ use Rattle.sedscript.specs.declared.items.FileUse.{FileUse}
 use Rattle.sedscript.specs.declared.items.Item.{Item}
 use Rattle.sedscript.specs.Files.{file_at, name_in}
 
--- the names of files that the items read, or write, one after the other
+-- the names of files that the items read, or write, one after the other. That of the standard output isn't a file's,
+-- where it is written to
 abbrev pub names_of : FileUse → List ℕ → List Item → List (List ℕ)
 names_of u text items = filter_map (λ i. file_at u text (name_in u i.function)) items
 

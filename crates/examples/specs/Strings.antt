@@ -15,7 +15,7 @@ IsTransliterate text at s =
     (slice_get text at ≡ Some 121)
     × (transliterate_strings text (at + 1) (own_delimiter (slice_get text (at + 1))) ≡ Ok s)
 
--- a byte of the string stands at this place for the second time, and none does so before it
+-- a byte of the string stands at this place for the second time, and none does so at an earlier one
 pub record RepeatsFirst (chars : List Char) (place : ℕ) : Type 0 where
   pub before : List Char
   pub second : Char

@@ -2,17 +2,19 @@
 
 ghost use Rattle.std.specs.Prelude.{◌≡◌, ◌≤◌, ◌<◌, ◌⊎◌, ℕ, ◌+◌, Bool, true, false, List, ◌∷◌, ◌++◌, Option, Some, None, Ok, Err, All, length, drop, slice_get};
 ghost use Rattle.sedre.specs.declared.types.Kind.{Kind};
+ghost use Rattle.sedre.specs.Arena.{Written};
 ghost use Rattle.sedre.specs.Sets.{set_of, matching, complement};
 ghost use Rattle.sedre.specs.Brackets.{list_at};
 ghost use Rattle.sedscript.specs.declared.bytes.Sort.TheVariants.{Blank, Name};
 ghost use Rattle.sedscript.specs.declared.types.ScriptFault.{ScriptFault};
-ghost use Rattle.sedscript.specs.declared.types.Reason.TheVariants.{MissingText, RepeatedByte, OpenBlock, StrayClose};
+ghost use Rattle.sedscript.specs.declared.types.Reason.TheVariants.{MissingText, RepeatedByte, BadEscape, GroupAbsent, OpenBlock, StrayClose};
 ghost use Rattle.sedscript.specs.declared.items.FileUse.TheVariants.{Read, Write};
 ghost use Rattle.sedscript.specs.declared.items.Flags.{Flags};
 ghost use Rattle.sedscript.specs.declared.items.Strings.{Strings};
-ghost use Rattle.sedscript.specs.declared.items.Function.TheVariants.{Open, Close, Transliterate};
+ghost use Rattle.sedscript.specs.declared.items.Function.TheVariants.{Open, Close, Substitute, Transliterate};
 ghost use Rattle.sedscript.specs.declared.items.TextUse.{TextUse};
 ghost use Rattle.sedscript.specs.declared.letters.Shape.TheVariants.{TakesText};
+ghost use Rattle.sedscript.specs.declared.transliteration.Char.{Char};
 ghost use Rattle.sedscript.specs.declared.items.Item.{Item};
 ghost use Rattle.sedscript.specs.Bytes.{past, bytes_between};
 ghost use Rattle.sedscript.specs.Flags.{flags_from, no_flags};
@@ -20,12 +22,12 @@ ghost use Rattle.sedscript.specs.Functions.{fault, name_from, text_from};
 ghost use Rattle.sedscript.specs.Items.{function_of};
 ghost use Rattle.sedscript.specs.declared.substitution.Piece.{Piece};
 ghost use Rattle.sedscript.specs.Replacement.{pieces_of, replacement_fault, GroupsWithin};
-ghost use Rattle.sedscript.specs.Script.{unescaped_from, Program, Means, Faulty};
+ghost use Rattle.sedscript.specs.Script.{unescaped_from, CutScript, IsEnd, Program, Means, Faulty};
 ghost use Rattle.sedscript.specs.Strings.{string_end};
-ghost use Rattle.sedscript.specs.Targets.{block_end, commands_in, target_fault};
-ghost use Rattle.sedscript.specs.Transliteration.{table_of, chars_from, chars_of, bytes_of, is_among, string_fault};
+ghost use Rattle.sedscript.specs.Targets.{block_end, commands_in};
+ghost use Rattle.sedscript.specs.Transliteration.{table_of, escaped_byte, chars_from, chars_of, bytes_of, is_among, string_fault};
 ghost use Rattle.examples.specs.Backslashes.{IsUnescaped, NoneUnescaped};
-ghost use Rattle.examples.specs.Escapes.{FirstWrong, wrong_in_string, wrong_in_replacement};
+ghost use Rattle.examples.specs.Escapes.{FirstWrong, IsEscape, HasGroups, IsWrongEscape, wrong_in_string, wrong_in_replacement};
 ghost use Rattle.examples.specs.Blocks.{BracesMatch, IsStray, IsOpen};
 ghost use Rattle.examples.specs.Labels.{EndsLabel};
 ghost use Rattle.examples.specs.Texts.{HasNoText, letter_of, backslashed};
@@ -43,8 +45,9 @@ pub fn text_ends()
         × ((end ≡ length script) ⊎ IsUnescaped 10 script begin end) }
 {}
 
-/// `a`, `i` and `c` are refused exactly where they have no text, at their letter: where the line ends after it and blanks, or
-/// where no newline ends the text and the script ends in a backslash in force, or in one and a newline.
+/// `a`, `i` and `c` are refused exactly where they have no text, at their letter: where the line ends after it and
+/// blanks, or where no newline ends the text and the script ends in a backslash that none escapes, or in such a one and
+/// a newline.
 pub fn text_missing()
     ensures { (script : List ℕ) (at : ℕ) (t : TextUse) →
         ((f : ScriptFault) → function_of script (TakesText t) at ≡ Err f →
@@ -53,8 +56,8 @@ pub fn text_missing()
         function_of script (TakesText t) at ≡ fault MissingText at) }
 {}
 
-/// A script that is refused for want of a text has an `a`, `i` or `c` at the fault's place, and no text stands after that and
-/// blanks.
+/// A script that is refused for want of a text has an `a`, `i` or `c` at the fault's place, and no text stands after that
+/// and blanks.
 pub fn text_fault()
     ensures { (kind : Kind) (max_nodes : ℕ) (text : List ℕ) (f : ScriptFault) → Faulty text kind max_nodes f →
         f.reason ≡ MissingText →
@@ -104,6 +107,14 @@ pub fn table_keeps()
         ((place : ℕ) → slice_get string1 place ≡ Some b → ⊥) → slice_get (table_of string1 string2) b ≡ Some b }
 {}
 
+/// A byte of a string of a `y` has the place at which it stands, or that of the backslash of its escape.
+pub fn string_places()
+    ensures { (text : List ℕ) (delimiter from to k : ℕ) (c : Char) →
+        slice_get (chars_of text delimiter from to) k ≡ Some c →
+        (slice_get text c.place ≡ Some c.byte)
+        ⊎ ((b : ℕ) × IsEscape text from to c.place b × (escaped_byte delimiter b ≡ Some c.byte)) }
+{}
+
 /// A `y` of an accepted script has no byte twice in its first string, and as many bytes in its second.
 pub fn strings_accepted()
     ensures { (kind : Kind) (max_nodes : ℕ) (text : List ℕ) (script : Program)
@@ -114,8 +125,8 @@ pub fn strings_accepted()
         ≡ length (chars_of text s.delimiter (s.middle + 1) s.to)) }
 {}
 
-/// A script that is refused for a byte that stands twice has a `y`, and the fault's place is the first in its first string at
-/// which a byte stands for the second time.
+/// A script that is refused for a byte that stands twice has a `y`, and the fault's place is the first in its first
+/// string at which a byte stands for the second time.
 pub fn repeated_byte()
     ensures { (kind : Kind) (max_nodes : ℕ) (text : List ℕ) (f : ScriptFault) → Faulty text kind max_nodes f →
         f.reason ≡ RepeatedByte →
@@ -143,12 +154,31 @@ pub fn string_faultless()
         string_fault delimiter false at (written delimiter bytes) ≡ None }
 {}
 
-/// The fault of a string of a `y` is that of the first backslash in force before a byte which is none of the delimiter, a
-/// backslash, `n` and `t`. Where no backslash stands so, it has none.
+/// The fault of a string of a `y` is that of the first backslash, escaped by none, before a byte which is none of the
+/// delimiter, a backslash, `n` and `t`. Where no backslash stands so, it has none.
 pub fn string_fault_first()
     ensures { (script : List ℕ) (delimiter from to : ℕ) →
         FirstWrong (wrong_in_string delimiter) script from to
         (string_fault delimiter false from (bytes_between script from to)) }
+{}
+
+/// A script that is refused for an escape has a `y` or an `s` with the fault's backslash in it: the first with which
+/// something is wrong in a string of the `y`, or in the replacement of the `s`.
+pub fn escape_fault()
+    ensures { (kind : Kind) (max_nodes : ℕ) (text : List ℕ) (f : ScriptFault) → Faulty text kind max_nodes f →
+        (f.reason ≡ BadEscape) ⊎ (f.reason ≡ GroupAbsent) → IsWrongEscape kind max_nodes text f }
+{}
+
+/// Nothing is wrong with an escape in a string of a `y` of an accepted script, and in the replacement of an `s`.
+pub fn escapes_accepted()
+    ensures { (kind : Kind) (max_nodes : ℕ) (text : List ℕ) (script : Program)
+        (means : Means text kind max_nodes script) (k : ℕ) (i : Item) → slice_get means.items k ≡ Some i →
+        ((s : Strings) → i.function ≡ Transliterate s →
+        FirstWrong (wrong_in_string s.delimiter) text s.from s.middle None
+        × FirstWrong (wrong_in_string s.delimiter) text (s.middle + 1) s.to None)
+        × ((s : Strings) (e : Option ℕ) (f : Flags) → i.function ≡ Substitute s e f →
+        (groups : Option ℕ) × HasGroups kind max_nodes text s groups
+        × FirstWrong (wrong_in_replacement s.delimiter groups) text (s.middle + 1) s.to None) }
 {}
 
 /// A replacement that is written out is read as its pieces, unless its delimiter is a digit.
@@ -173,8 +203,9 @@ pub fn replacement_faultless()
         replacement_fault delimiter (Some groups) false at (written_pieces delimiter pieces) ≡ None }
 {}
 
-/// The fault of a replacement is that of the first backslash in force before a letter other than `n` and `t`, or before the
-/// digit of a group that the expression hasn't, where these aren't the delimiter. Where no backslash stands so, it has none.
+/// The fault of a replacement is that of the first backslash, escaped by none, before a letter other than `n` and `t`, or
+/// before the digit of a group that the expression hasn't, where these aren't the delimiter. Where no backslash stands
+/// so, it has none.
 pub fn replacement_fault_first()
     ensures { (script : List ℕ) (delimiter : ℕ) (groups : Option ℕ) (from to : ℕ) →
         FirstWrong (wrong_in_replacement delimiter groups) script from to
@@ -230,8 +261,8 @@ pub fn others_match()
         ≡ Ok (complement (matching folded (set_of (λ c. is_among bytes c))), length before + length bytes + 3) }
 {}
 
-/// The files that an accepted script reads, and those that it writes, are the names that stand in it, each once, in the order
-/// in which they first stand there.
+/// The files that an accepted script reads, and those that it writes, are the names that stand in it, each once, in the
+/// order in which they first stand there.
 pub fn files_once()
     ensures { (kind : Kind) (max_nodes : ℕ) (text : List ℕ) (script : Program)
         (means : Means text kind max_nodes script) →
@@ -252,9 +283,14 @@ pub fn block_leads()
         j.function ≡ Close → block_end before (inner ++ j ∷ after) ≡ Some (commands_in (before ++ i ∷ inner)) }
 {}
 
-/// Where a brace is at fault, it is the first that closes nothing, or the first that nothing closes, and up to it all braces
-/// match.
+/// A script that is refused for a brace is cut to its end, and the fault's place is the first closing brace that closes
+/// nothing, or the first opening one that nothing closes: up to it all braces match.
 pub fn brace_faults()
-    ensures { (text : List ℕ) (items : List Item) (f : ScriptFault) → target_fault text items ≡ Some f →
-        (f.reason ≡ StrayClose → IsStray items f.place) × (f.reason ≡ OpenBlock → IsOpen items f.place) }
+    ensures { (kind : Kind) (max_nodes : ℕ) (text : List ℕ) (f : ScriptFault) → Faulty text kind max_nodes f →
+        (f.reason ≡ StrayClose →
+        (items : List Item) × (expressions : List Written) × (to : ℕ)
+        × CutScript text kind max_nodes 0 0 items expressions to × IsEnd text to × IsStray items f.place)
+        × (f.reason ≡ OpenBlock →
+        (items : List Item) × (expressions : List Written) × (to : ℕ)
+        × CutScript text kind max_nodes 0 0 items expressions to × IsEnd text to × IsOpen items f.place) }
 {}

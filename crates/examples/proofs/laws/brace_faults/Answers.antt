@@ -1,4 +1,4 @@
-use Rattle.examples.proofs.BracesMatched.{brace_faults as law}
+use Rattle.examples.proofs.ReadFunctions.{brace_faults as law}
 use Rattle.examples.proofs.laws.brace_faults.Goals as goal
 
 pub returns : goal.returns
