@@ -30,10 +30,3 @@ past_another r None y f differs is e = e
 past_another r (Some g) y f differs is e =
     let same : ◌≡◌ {A = ScriptFault} g f = cc in
     absurd (differs (ap (λ (x : ScriptFault). x.reason) same ∙ is))
-
--- a fault for another reason isn't one for this
-pub no_other : (r : Reason) (x : Option ScriptFault) (f : ScriptFault) → Another r x → f.reason ≡ r → x ≡ Some f → ⊥
-no_other r None f differs is e = cc
-no_other r (Some g) f differs is e =
-    let same : ◌≡◌ {A = ScriptFault} g f = cc in
-    differs (ap (λ (x : ScriptFault). x.reason) same ∙ is)
