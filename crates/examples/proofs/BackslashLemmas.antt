@@ -1,5 +1,6 @@
 -- Where a byte stands that no backslash escapes.
-use Rattle.std.proofs.Common.{◌≡◌, ℕ, zero, suc, ◌+◌, ◌-◌, ◌<◌, ◌≤◌, ◌==◌, ◌%◌, ◌⊎◌, inl, inr, Bool, true, if◌then◌else◌, List, [], ◌∷◌, length, take, drop, Option, Some, slice_get, refl, sym, ap, ◌∙◌, arith}
+use Rattle.std.proofs.Common.{◌≡◌, ℕ, zero, suc, ◌+◌, ◌-◌, ◌<◌, ◌≤◌, ◌==◌, ◌%◌, ◌⊎◌, inl, inr, Bool, true, false, if◌then◌else◌, List, [], ◌∷◌, length, take, drop, Option, Some, slice_get, refl, sym, ap, ◌∙◌, arith}
+use Rattle.std.proofs.lemmas.Bool.{eqb-true, eqb-false}
 use Rattle.examples.specs.Backslashes.{backslashes, IsUnescaped, NoneUnescaped}
 
 -- how many backslashes stand before a byte, after another one
@@ -55,13 +56,13 @@ get_drop xs zero k = let e : 0 + k ≡ k = omega arith in ap (slice_get xs) (sym
 get_drop [] (suc n) k = let e : suc n + k ≡ suc (n + k) = omega arith in sym (ap (slice_get {X = ℕ} []) e)
 get_drop (x ∷ xs) (suc n) k = let e : suc n + k ≡ suc (n + k) = omega arith in get_drop xs n k ∙ sym (ap (slice_get (x ∷ xs)) e)
 
-free_between : (byte : ℕ) (text : List ℕ) (from at k : ℕ) → at ≡ from + k → IsUnescaped byte text from at → Free byte 0 (drop from text) k
+pub free_between : (byte : ℕ) (text : List ℕ) (from at k : ℕ) → at ≡ from + k → IsUnescaped byte text from at → Free byte 0 (drop from text) k
 free_between byte text from at k e u = record {
   stands = get_drop text from k ∙ (ap (slice_get text) (sym e) ∙ u.stands);
   even = let d : at - from ≡ k = omega (arith, e) in sym (ap (λ (m : ℕ). backslashes 0 (take m (drop from text)) % 2) d) ∙ u.even;
 }
 
-between_free : (byte : ℕ) (text : List ℕ) (from at k : ℕ) → at ≡ from + k → Free byte 0 (drop from text) k → IsUnescaped byte text from at
+pub between_free : (byte : ℕ) (text : List ℕ) (from at k : ℕ) → at ≡ from + k → Free byte 0 (drop from text) k → IsUnescaped byte text from at
 between_free byte text from at k e f = record {
   stands = ap (slice_get text) e ∙ (sym (get_drop text from k) ∙ f.stands);
   even = let d : at - from ≡ k = omega (arith, e) in ap (λ (m : ℕ). backslashes 0 (take m (drop from text)) % 2) d ∙ f.even;
@@ -83,3 +84,37 @@ odd_more n h = omega arith
 
 pub even_more : (n : ℕ) → n % 2 ≡ 1 → suc n % 2 ≡ 0
 even_more n h = omega arith
+
+-- ---- one byte after the other
+
+pub same_byte : (a b : ℕ) → ◌≡◌ {A = Option ℕ} (Some a) (Some b) → a ≡ b
+same_byte a b e = cc
+
+pub behind : (byte n b k : ℕ) (bs : List ℕ) → Free byte n (b ∷ bs) (suc k) → Free byte (next n b) bs k
+behind byte n b k bs f = record { stands = f.stands; even = f.even }
+
+pub onto : (byte n b k : ℕ) (bs : List ℕ) → Free byte (next n b) bs k → Free byte n (b ∷ bs) (suc k)
+onto byte n b k bs f = record { stands = f.stands; even = f.even }
+
+-- another byte stands first
+pub not_first : (byte n b : ℕ) (bs : List ℕ) → (b == byte) ≡ false → Free byte n (b ∷ bs) 0 → ⊥
+not_first byte n b bs is f = eqb-false b byte is (same_byte b byte f.stands)
+
+-- none stands so right after a backslash that none escapes
+pub escaped_first : (byte n b c : ℕ) (cs : List ℕ) → (b == 92) ≡ true → n % 2 ≡ 0 → Free byte (next n b) (c ∷ cs) 0 → ⊥
+escaped_first byte n b c cs is even f =
+    let odd : next n b % 2 ≡ 1 = rw is (odd_more n even) in
+    let no : ◌≡◌ {A = ℕ} 1 0 = sym odd ∙ f.even in cc
+
+pub even_again : (n b c : ℕ) → (b == 92) ≡ true → n % 2 ≡ 0 → next (next n b) c % 2 ≡ 0
+even_again n b c is even = rw is (by_test (c == 92))
+  where
+    by_test : (t : Bool) → (if t then suc (suc n) else 0) % 2 ≡ 0
+    by_test true = even_more (suc n) (odd_more n even)
+    by_test false = refl
+
+pub even_plain : (n b : ℕ) → (b == 92) ≡ false → next n b % 2 ≡ 0
+even_plain n b is = rw is refl
+
+pub backslash_here : (n b : ℕ) (bs : List ℕ) → (b == 92) ≡ true → n % 2 ≡ 0 → Free 92 n (b ∷ bs) 0
+backslash_here n b bs is even = record { stands = ap (λ (x : ℕ). Some x) (eqb-true b 92 is); even = even }

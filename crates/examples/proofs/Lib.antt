@@ -1,6 +1,7 @@
 mod AddressFaultExamples
 mod AddressRunExamples
 mod BackslashLemmas
+mod BracesMatched
 mod CaseRunExamples
 mod ClassExamples
 mod CommandLineExamples
@@ -16,6 +17,7 @@ mod EndRunExamples
 mod ExampleWords
 mod ExpressionMemoryFaultExamples
 mod FaultExamples
+mod FaultLemmas
 mod FlagReading
 mod FoldedExamples
 mod FunctionFaultExamples
@@ -37,13 +39,17 @@ mod ManyGroupsExamples
 mod MatchExamples
 mod MatchingExamples
 mod MissedExamples
+mod MissingText
 mod MoveExamples
+mod NamesOnce
 mod NestedGroupExamples
 mod NestedStarExamples
 mod NestedStarRunExamples
 mod OccurrenceExamples
 pub mod PieceReading
 mod ProgramExamples
+mod ReadFunctions
+mod RepeatedBytes
 mod ReportExamples
 mod RunExamples
 mod ScriptExamples
@@ -53,6 +59,7 @@ mod SearchExamples
 mod SpaceRunExamples
 mod StandardExamples
 mod StringEnds
+mod StringPlaces
 pub mod StringReading
 mod SubstitutionFaultExamples
 mod SubstitutionRunExamples
@@ -61,6 +68,7 @@ mod TextEnds
 mod TextExamples
 mod TextReading
 mod TextRunExamples
+mod WrongEscapes
 pub mod WrittenEnds
 mod WrittenExamples
 pub mod WrittenFaults

@@ -1,4 +1,7 @@
 pub mod Backslashes
+pub mod Blocks
+pub mod Escapes
+pub mod Names
 pub mod Labels
 pub mod Texts
 pub mod Strings

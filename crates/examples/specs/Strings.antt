@@ -1,9 +1,30 @@
 -- The strings of `y` as they are written (XCU sed, "Editing Commands in sed": `y`).
-use Rattle.std.specs.Prelude.{◌≡◌, ℕ, List, [], ◌∷◌, ◌++◌, Some, slice_get, if◌then◌else◌, ◌==◌, ◌||◌}
+use Rattle.std.specs.Prelude.{◌≡◌, ℕ, ◌+◌, List, [], ◌∷◌, ◌++◌, Some, slice_get, if◌then◌else◌, ◌==◌, ◌||◌, Ok}
+use Rattle.sedscript.specs.declared.items.Strings.{Strings}
+use Rattle.sedscript.specs.Between.{own_delimiter, transliterate_strings}
+use Rattle.sedscript.specs.declared.transliteration.Char.{Char}
+use Rattle.sedscript.specs.Transliteration.{bytes_of}
 
 -- no byte stands at two places
 abbrev pub NoneTwice : List ℕ → Type 0
 NoneTwice bytes = (i j b : ℕ) → slice_get bytes i ≡ Some b → slice_get bytes j ≡ Some b → i ≡ j
+
+-- a `y` stands at a place, and these strings after it
+abbrev pub IsTransliterate : List ℕ → ℕ → Strings → Type 0
+IsTransliterate text at s =
+    (slice_get text at ≡ Some 121)
+    × (transliterate_strings text (at + 1) (own_delimiter (slice_get text (at + 1))) ≡ Ok s)
+
+-- a byte of the string stands at this place for the second time, and none does so at an earlier one
+pub record RepeatsFirst (chars : List Char) (place : ℕ) : Type 0 where
+  pub before : List Char
+  pub second : Char
+  pub after : List Char
+  pub are : chars ≡ before ++ second ∷ after
+  pub first : ℕ
+  pub stands : slice_get (bytes_of before) first ≡ Some second.byte
+  pub none_before : NoneTwice (bytes_of before)
+  pub there : place ≡ second.place
 
 -- a byte in a string between these delimiters: `\n` for a newline, a backslash before the delimiter and a backslash
 abbrev pub written_byte : ℕ → ℕ → List ℕ

@@ -1,22 +1,38 @@
 //! Laws of the definitions, in the subject's own words. The calls do nothing.
 
-ghost use Rattle.std.specs.Prelude.{◌≡◌, ◌≤◌, ◌<◌, ◌⊎◌, ℕ, ◌+◌, Bool, true, false, List, ◌∷◌, ◌++◌, Option, Some, None, Ok, All, length, drop, slice_get};
+ghost use Rattle.std.specs.Prelude.{◌≡◌, ◌≤◌, ◌<◌, ◌⊎◌, ℕ, ◌+◌, Bool, true, false, List, ◌∷◌, ◌++◌, Option, Some, None, Ok, Err, All, length, drop, slice_get};
+ghost use Rattle.sedre.specs.declared.types.Kind.{Kind};
+ghost use Rattle.sedre.specs.Arena.{Written};
 ghost use Rattle.sedre.specs.Sets.{set_of, matching, complement};
 ghost use Rattle.sedre.specs.Brackets.{list_at};
-ghost use Rattle.sedscript.specs.declared.bytes.Sort.TheVariants.{Name};
+ghost use Rattle.sedscript.specs.declared.bytes.Sort.TheVariants.{Blank, Name};
+ghost use Rattle.sedscript.specs.declared.types.ScriptFault.{ScriptFault};
+ghost use Rattle.sedscript.specs.declared.types.Reason.TheVariants.{MissingText, RepeatedByte, BadEscape, GroupAbsent, OpenBlock, StrayClose};
+ghost use Rattle.sedscript.specs.declared.items.FileUse.TheVariants.{Read, Write};
 ghost use Rattle.sedscript.specs.declared.items.Flags.{Flags};
+ghost use Rattle.sedscript.specs.declared.items.Strings.{Strings};
+ghost use Rattle.sedscript.specs.declared.items.Function.TheVariants.{Open, Close, Substitute, Transliterate};
+ghost use Rattle.sedscript.specs.declared.items.TextUse.{TextUse};
+ghost use Rattle.sedscript.specs.declared.letters.Shape.TheVariants.{TakesText};
+ghost use Rattle.sedscript.specs.declared.transliteration.Char.{Char};
+ghost use Rattle.sedscript.specs.declared.items.Item.{Item};
 ghost use Rattle.sedscript.specs.Bytes.{past, bytes_between};
 ghost use Rattle.sedscript.specs.Flags.{flags_from, no_flags};
-ghost use Rattle.sedscript.specs.Functions.{name_from, text_from};
+ghost use Rattle.sedscript.specs.Functions.{fault, name_from, text_from};
+ghost use Rattle.sedscript.specs.Items.{function_of};
 ghost use Rattle.sedscript.specs.declared.substitution.Piece.{Piece};
 ghost use Rattle.sedscript.specs.Replacement.{pieces_of, replacement_fault, GroupsWithin};
-ghost use Rattle.sedscript.specs.Script.{unescaped_from};
+ghost use Rattle.sedscript.specs.Script.{unescaped_from, CutScript, IsEnd, Program, Means, Faulty};
 ghost use Rattle.sedscript.specs.Strings.{string_end};
-ghost use Rattle.sedscript.specs.Transliteration.{table_of, chars_from, bytes_of, is_among, string_fault};
+ghost use Rattle.sedscript.specs.Targets.{block_end, commands_in};
+ghost use Rattle.sedscript.specs.Transliteration.{table_of, escaped_byte, chars_from, chars_of, bytes_of, is_among, string_fault};
 ghost use Rattle.examples.specs.Backslashes.{IsUnescaped, NoneUnescaped};
+ghost use Rattle.examples.specs.Escapes.{FirstWrong, IsEscape, HasGroups, IsWrongEscape, wrong_in_string, wrong_in_replacement};
+ghost use Rattle.examples.specs.Blocks.{BracesMatch, IsStray, IsOpen};
 ghost use Rattle.examples.specs.Labels.{EndsLabel};
-ghost use Rattle.examples.specs.Texts.{backslashed};
-ghost use Rattle.examples.specs.Strings.{NoneTwice, written};
+ghost use Rattle.examples.specs.Texts.{HasNoText, letter_of, backslashed};
+ghost use Rattle.examples.specs.Strings.{NoneTwice, IsTransliterate, RepeatsFirst, written};
+ghost use Rattle.examples.specs.Names.{EachOnce, names_of};
 ghost use Rattle.examples.specs.Numbers.{NumberAmong};
 ghost use Rattle.examples.specs.Lists.{ArePlain};
 ghost use Rattle.examples.specs.WrittenReplacements.{written_pieces};
@@ -27,6 +43,26 @@ pub fn text_ends()
     ensures { (script : List ℕ) (from begin end : ℕ) → text_from script from ≡ Some (begin, end) →
         (begin ≤ end) × (end ≤ length script) × NoneUnescaped 10 script begin end
         × ((end ≡ length script) ⊎ IsUnescaped 10 script begin end) }
+{}
+
+/// `a`, `i` and `c` are refused exactly where they have no text, at their letter: where the line ends after it and
+/// blanks, or where no newline ends the text and the script ends in a backslash that none escapes, or in such a one and
+/// a newline.
+pub fn text_missing()
+    ensures { (script : List ℕ) (at : ℕ) (t : TextUse) →
+        ((f : ScriptFault) → function_of script (TakesText t) at ≡ Err f →
+        (f.place ≡ at) × (f.reason ≡ MissingText) × HasNoText script (past Blank script (at + 1)))
+        × (HasNoText script (past Blank script (at + 1)) →
+        function_of script (TakesText t) at ≡ fault MissingText at) }
+{}
+
+/// A script that is refused for want of a text has an `a`, `i` or `c` at the fault's place, and no text stands after that
+/// and blanks.
+pub fn text_fault()
+    ensures { (kind : Kind) (max_nodes : ℕ) (text : List ℕ) (f : ScriptFault) → Faulty text kind max_nodes f →
+        f.reason ≡ MissingText →
+        (t : TextUse) × (slice_get text f.place ≡ Some (letter_of t))
+        × HasNoText text (past Blank text (f.place + 1)) }
 {}
 
 /// A label holds no newline, semicolon, blank or closing brace, and one of these stands after it, or the script ends
@@ -71,6 +107,33 @@ pub fn table_keeps()
         ((place : ℕ) → slice_get string1 place ≡ Some b → ⊥) → slice_get (table_of string1 string2) b ≡ Some b }
 {}
 
+/// A byte of a string of a `y` has the place at which it stands, or that of the backslash of its escape.
+pub fn string_places()
+    ensures { (text : List ℕ) (delimiter from to k : ℕ) (c : Char) →
+        slice_get (chars_of text delimiter from to) k ≡ Some c →
+        (slice_get text c.place ≡ Some c.byte)
+        ⊎ ((b : ℕ) × IsEscape text from to c.place b × (escaped_byte delimiter b ≡ Some c.byte)) }
+{}
+
+/// A `y` of an accepted script has no byte twice in its first string, and as many bytes in its second.
+pub fn strings_accepted()
+    ensures { (kind : Kind) (max_nodes : ℕ) (text : List ℕ) (script : Program)
+        (means : Means text kind max_nodes script) (k : ℕ) (i : Item) (s : Strings) →
+        slice_get means.items k ≡ Some i → i.function ≡ Transliterate s →
+        NoneTwice (bytes_of (chars_of text s.delimiter s.from s.middle))
+        × (length (chars_of text s.delimiter s.from s.middle)
+        ≡ length (chars_of text s.delimiter (s.middle + 1) s.to)) }
+{}
+
+/// A script that is refused for a byte that stands twice has a `y`, and the fault's place is the first in its first
+/// string at which a byte stands for the second time.
+pub fn repeated_byte()
+    ensures { (kind : Kind) (max_nodes : ℕ) (text : List ℕ) (f : ScriptFault) → Faulty text kind max_nodes f →
+        f.reason ≡ RepeatedByte →
+        (at : ℕ) × (s : Strings) × IsTransliterate text at s
+        × RepeatsFirst (chars_of text s.delimiter s.from s.middle) f.place }
+{}
+
 /// A string of a `y` that is written out is read as its bytes, unless its delimiter is an `n`.
 pub fn string_read()
     ensures { (delimiter : ℕ) (bytes : List ℕ) (at : ℕ) → (delimiter ≡ 110 → ⊥) →
@@ -89,6 +152,33 @@ pub fn string_whole()
 pub fn string_faultless()
     ensures { (delimiter : ℕ) (bytes : List ℕ) (at : ℕ) →
         string_fault delimiter false at (written delimiter bytes) ≡ None }
+{}
+
+/// The fault of a string of a `y` is that of the first backslash, escaped by none, before a byte which is none of the
+/// delimiter, a backslash, `n` and `t`. Where no backslash stands so, it has none.
+pub fn string_fault_first()
+    ensures { (script : List ℕ) (delimiter from to : ℕ) →
+        FirstWrong (wrong_in_string delimiter) script from to
+        (string_fault delimiter false from (bytes_between script from to)) }
+{}
+
+/// A script that is refused for an escape has a `y` or an `s` with the fault's backslash in it: the first with which
+/// something is wrong in a string of the `y`, or in the replacement of the `s`.
+pub fn escape_fault()
+    ensures { (kind : Kind) (max_nodes : ℕ) (text : List ℕ) (f : ScriptFault) → Faulty text kind max_nodes f →
+        (f.reason ≡ BadEscape) ⊎ (f.reason ≡ GroupAbsent) → IsWrongEscape kind max_nodes text f }
+{}
+
+/// Nothing is wrong with an escape in a string of a `y` of an accepted script, and in the replacement of an `s`.
+pub fn escapes_accepted()
+    ensures { (kind : Kind) (max_nodes : ℕ) (text : List ℕ) (script : Program)
+        (means : Means text kind max_nodes script) (k : ℕ) (i : Item) → slice_get means.items k ≡ Some i →
+        ((s : Strings) → i.function ≡ Transliterate s →
+        FirstWrong (wrong_in_string s.delimiter) text s.from s.middle None
+        × FirstWrong (wrong_in_string s.delimiter) text (s.middle + 1) s.to None)
+        × ((s : Strings) (e : Option ℕ) (f : Flags) → i.function ≡ Substitute s e f →
+        (groups : Option ℕ) × HasGroups kind max_nodes text s groups
+        × FirstWrong (wrong_in_replacement s.delimiter groups) text (s.middle + 1) s.to None) }
 {}
 
 /// A replacement that is written out is read as its pieces, unless its delimiter is a digit.
@@ -111,6 +201,15 @@ pub fn replacement_faultless()
     ensures { (delimiter groups : ℕ) (pieces : List Piece) (at : ℕ) → GroupsWithin 9 pieces →
         GroupsWithin groups pieces →
         replacement_fault delimiter (Some groups) false at (written_pieces delimiter pieces) ≡ None }
+{}
+
+/// The fault of a replacement is that of the first backslash, escaped by none, before a letter other than `n` and `t`, or
+/// before the digit of a group that the expression hasn't, where these aren't the delimiter. Where no backslash stands
+/// so, it has none.
+pub fn replacement_fault_first()
+    ensures { (script : List ℕ) (delimiter : ℕ) (groups : Option ℕ) (from to : ℕ) →
+        FirstWrong (wrong_in_replacement delimiter groups) script from to
+        (replacement_fault delimiter groups false from (bytes_between script from to)) }
 {}
 
 /// Where flags of `s` are read without a file, `g` is among them exactly where a `g` stands among the bytes that were
@@ -160,4 +259,38 @@ pub fn others_match()
         ArePlain delimiter bytes →
         list_at folded delimiter (before ++ 91 ∷ 94 ∷ (bytes ++ 93 ∷ after)) (length before)
         ≡ Ok (complement (matching folded (set_of (λ c. is_among bytes c))), length before + length bytes + 3) }
+{}
+
+/// The files that an accepted script reads, and those that it writes, are the names that stand in it, each once, in the
+/// order in which they first stand there.
+pub fn files_once()
+    ensures { (kind : Kind) (max_nodes : ℕ) (text : List ℕ) (script : Program)
+        (means : Means text kind max_nodes script) →
+        EachOnce (names_of Read text means.items) script.rfiles
+        × EachOnce (names_of Write text means.items) script.wfiles }
+{}
+
+/// In an accepted script each opening brace has its closing one, and each closing brace its opening one.
+pub fn braces_match()
+    ensures { (kind : Kind) (max_nodes : ℕ) (text : List ℕ) (script : Program)
+        (means : Means text kind max_nodes script) → BracesMatch means.items }
+{}
+
+/// A block ends at the brace that closes it: before the command after it stand those up to the opening brace, and those
+/// within.
+pub fn block_leads()
+    ensures { (before inner after : List Item) (i j : Item) → i.function ≡ Open → BracesMatch inner →
+        j.function ≡ Close → block_end before (inner ++ j ∷ after) ≡ Some (commands_in (before ++ i ∷ inner)) }
+{}
+
+/// A script that is refused for a brace is cut to its end, and the fault's place is the first closing brace that closes
+/// nothing, or the first opening one that nothing closes: up to it all braces match.
+pub fn brace_faults()
+    ensures { (kind : Kind) (max_nodes : ℕ) (text : List ℕ) (f : ScriptFault) → Faulty text kind max_nodes f →
+        (f.reason ≡ StrayClose →
+        (items : List Item) × (expressions : List Written) × (to : ℕ)
+        × CutScript text kind max_nodes 0 0 items expressions to × IsEnd text to × IsStray items f.place)
+        × (f.reason ≡ OpenBlock →
+        (items : List Item) × (expressions : List Written) × (to : ℕ)
+        × CutScript text kind max_nodes 0 0 items expressions to × IsEnd text to × IsOpen items f.place) }
 {}

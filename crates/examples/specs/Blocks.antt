@@ -1,0 +1,35 @@
+-- Blocks (XCU sed, "Editing Commands in sed": `{`).
+use Rattle.std.specs.Prelude.{◌≡◌, ℕ, List, [], ◌∷◌, ◌++◌, false}
+use Rattle.sedscript.specs.declared.items.Function.TheVariants.{Open, Close}
+use Rattle.sedscript.specs.declared.items.Item.{Item}
+use Rattle.sedscript.specs.Targets.{is_open, is_close}
+
+-- each opening brace among the items has its closing one, and each closing one its opening one
+pub data BracesMatch : List Item → Type 0 where
+  none : BracesMatch []
+  other : (i : Item) (rest : List Item) → is_open i.function ≡ false → is_close i.function ≡ false → BracesMatch rest →
+      BracesMatch (i ∷ rest)
+  block : (i j : Item) (inner rest : List Item) → i.function ≡ Open → BracesMatch inner → j.function ≡ Close →
+      BracesMatch rest → BracesMatch (i ∷ inner ++ j ∷ rest)
+
+-- the closing brace at this place is the first that closes nothing
+pub record IsStray (items : List Item) (place : ℕ) : Type 0 where
+  pub before : List Item
+  pub brace : Item
+  pub after : List Item
+  pub are : items ≡ before ++ brace ∷ after
+  pub closes : brace.function ≡ Close
+  pub match : BracesMatch before
+  pub there : place ≡ brace.place
+
+-- the opening brace at this place is the first that nothing closes, and so the outermost of them
+pub record IsOpen (items : List Item) (place : ℕ) : Type 0 where
+  pub before : List Item
+  pub brace : Item
+  pub after : List Item
+  pub are : items ≡ before ++ brace ∷ after
+  pub opens : brace.function ≡ Open
+  pub match : BracesMatch before
+  pub never : (inner rest : List Item) (j : Item) → after ≡ inner ++ j ∷ rest → BracesMatch inner →
+      j.function ≡ Close → ⊥
+  pub there : place ≡ brace.place
