@@ -8,8 +8,9 @@ use sedmatch::{TableMatcher, Text};
 use sedre::Steps;
 use sedspace::whole_lines;
 
-/// Bytes whose newlines are counted in one byte: the count then fits, and a vector counts in each of its lanes.
-const PART: usize = 240;
+/// Bytes whose newlines are counted in one byte: the count then fits, and a vector counts in each of its lanes. They are whole
+/// vectors, two at a time.
+const PART: usize = 224;
 
 /// The first lines of a block.
 #[derive(Clone, Copy)]
@@ -23,7 +24,7 @@ pub(crate) struct Extent {
 /// How many newlines a few bytes hold.
 #[inline(always)]
 fn count_few(bytes: &[u8]) -> u8
-    requires { length bytes.now ≤ 240 }
+    requires { length bytes.now ≤ 224 }
     ensures { result ≡ count_by is_newline bytes.now }
 {
     let mut count = 0;

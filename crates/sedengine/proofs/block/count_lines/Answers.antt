@@ -5,7 +5,7 @@ use Rattle.sedengine.proofs.block.count_lines.Goals as goal
 pub parts-preserved : goal.parts-preserved
 parts-preserved c = record {
   within = omega arith;
-  count = let more = count_more c.args.bytes.now c.parts.place (c.parts.place + 240) (omega arith) in omega (arith, more, c.parts.invariant.count, c.count_few.ensures);
+  count = let more = count_more c.args.bytes.now c.parts.place (c.parts.place + 224) (omega arith) in omega (arith, more, c.parts.invariant.count, c.count_few.ensures);
 }
 
 pub returns : goal.returns
