@@ -6,11 +6,12 @@ ghost use Rattle.sedengine.specs.Devices.{Gained};
 ghost use Rattle.sedengine.specs.Move.{to_sink};
 ghost use Rattle.clap.specs.Words.{kind_of};
 ghost use Rattle.sededit.specs.FilesInTurn.{StillGives};
-ghost use Rattle.sededit.specs.MemoryFiles.{dash};
+ghost use Rattle.sededit.specs.ToldFiles.{dash};
 ghost use Rattle.sededit.specs.Program.{AsksHelp, GainsBy, DevicesAtEnd, Runs, RunsLine, SinkFailed, StopsEarly, WritesAll, WritesBeginning};
 ghost use Rattle.sededit.specs.Program.{WritesHelp, or_standard, texts_of};
 ghost use Rattle.sededit.specs.Reading.{OnlyReadsScripts};
-ghost use Rattle.sededit.specs.Sinks.{Creates, CreatesFirst, CreatesUpTo};
+ghost use Rattle.sededit.specs.Sinks.{Creates, CreatesFirst};
+ghost use Rattle.sededit.specs.AddedSinks.{CreatesUpTo};
 
 use crate::asked::{Line, Refused};
 use crate::command_line::line;
