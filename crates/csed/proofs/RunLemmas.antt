@@ -1,12 +1,12 @@
 -- From what an edit's one sink gained to the bytes that a caller gets.
 use Rattle.std.proofs.Common.{◌≡◌, ◌≢◌, ◌≤◌, ◌+◌, ◌==◌, ℕ, zero, suc, true, false, List, [], ◌∷◌, Option, Some, None, Result, Err, if◌then◌else◌, length, take, nat_eq, refl, sym, ap, arith}
-use Rattle.sedscript.specs.Script.{Program}
+use Rattle.sedscript.specs.Program.{Program}
 use Rattle.sedengine.specs.Limits.{Limits}
 use Rattle.sedengine.specs.State.{Setting, State}
 use Rattle.sedengine.specs.Move.{written, to_sink}
 use Rattle.sedengine.specs.Devices.{part, Gained, GainedWithin, SourceAtEnd}
 use Rattle.sedengine.specs.Ends.{WholeOrBrokenOff, named_sink}
-use Rattle.sedengine.specs.Run.{setting_of}
+use Rattle.sedengine.specs.ScriptSetting.{setting_of}
 use Rattle.sedengine.specs.declared.ends.Ended.{Ended}
 use Rattle.sedengine.specs.declared.ends.Ended.TheVariants.{Done, PatternFull, HoldFull, QueueFull, TurnsSpent, NoPrevious, InputBroken, OutputBroken, OutputFull}
 use Rattle.sedengine.proofs.Metering.{Cause-as}

@@ -1,12 +1,15 @@
 -- What a call does with a script's text over bytes in memory (this project's own).
 use Rattle.std.specs.Prelude.{◌≡◌, ◌≢◌, ◌<◌, ◌≤◌, ◌⊎◌, ◌||◌, ◌==◌, not, ℕ, Bool, List, [], length, Some, bit_and}
-use Rattle.sedscript.specs.Script.{Faulty, Means, Program}
+use Rattle.sedscript.specs.Script.{Means}
+use Rattle.sedscript.specs.FirstFault.{Faulty}
+use Rattle.sedscript.specs.Program.{Program}
 use Rattle.sedscript.specs.declared.types.ScriptFault.{ScriptFault}
-use Rattle.sedengine.specs.Limits.{AreLimits, Limits, limits_of}
+use Rattle.sedengine.specs.Limits.{Limits}
+use Rattle.sedengine.specs.LimitRanges.{AreLimits, limits_of}
 use Rattle.sedengine.specs.State.{Setting, State}
 use Rattle.sedengine.specs.Move.{to_sink}
 use Rattle.sedengine.specs.Ends.{Cause}
-use Rattle.sedengine.specs.Run.{setting_of}
+use Rattle.sedengine.specs.ScriptSetting.{setting_of}
 use Rattle.sedengine.specs.declared.ends.Ended.{Ended}
 use Rattle.sedengine.specs.declared.ends.Ended.TheVariants.{Done, InputBroken, OutputBroken}
 use Rattle.sededit.specs.Editing.{GainsAll, GainsBeginning, start_over}

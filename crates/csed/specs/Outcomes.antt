@@ -1,9 +1,10 @@
 -- Private to the proofs: no contract of a public item cites what stands here.
 -- What calls come to, before it is told in numbers.
 use Rattle.std.specs.Prelude.{◌≡◌, ℕ, ℤ, pos, List, Some, take, length}
-use Rattle.sedscript.specs.Script.{Faulty, Program}
+use Rattle.sedscript.specs.FirstFault.{Faulty}
+use Rattle.sedscript.specs.Program.{Program}
 use Rattle.sedengine.specs.Limits.{Limits}
-use Rattle.sedengine.specs.Run.{setting_of}
+use Rattle.sedengine.specs.ScriptSetting.{setting_of}
 use Rattle.sedengine.specs.declared.ends.Ended.{Ended}
 use Rattle.sedengine.specs.declared.ends.Ended.TheVariants as ends
 use Rattle.sededit.specs.Editing.{GainsAll, start_over}

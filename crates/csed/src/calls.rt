@@ -1,6 +1,6 @@
 //! The calls.
 ghost use Rattle.std.specs.Prelude.{◌≡◌, ◌≢◌, ◌≤◌, ◌⊎◌, drop, length, take};
-ghost use Rattle.sedscript.specs.Script.{Program};
+ghost use Rattle.sedscript.specs.Program.{Program};
 ghost use Rattle.csed.specs.Reports.{blank, of_bytes};
 ghost use Rattle.csed.specs.Calls.{GivesScript, IsBeginning, IsRefused, IsStopped, IsWhole, MayAsk, MayNotAsk, asked_by};
 ghost use Rattle.csed.specs.Outcomes.{ChecksTo, EditsTo, written_of};

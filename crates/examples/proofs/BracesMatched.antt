@@ -10,7 +10,8 @@ use Rattle.sedscript.specs.declared.items.Function.{Function}
 use Rattle.sedscript.specs.declared.items.Function.TheVariants.{Open, Close, Label, Branch}
 use Rattle.sedscript.specs.declared.items.Item.{Item}
 use Rattle.sedscript.specs.Bytes.{bytes_between}
-use Rattle.sedscript.specs.Script.{Program, Means}
+use Rattle.sedscript.specs.Script.{Means}
+use Rattle.sedscript.specs.Program.{Program}
 use Rattle.sedscript.specs.Targets.{leaves, counted, commands_in, label_in, is_open, is_close, depth_after, close_in, block_end, fault_if, target_fault_at, target_fault_in, target_fault}
 use Rattle.sedscript.proofs.Labels.{counted_in}
 use Rattle.examples.specs.Blocks.{BracesMatch, none, other, block, IsStray, IsOpen}

@@ -3,12 +3,12 @@
 use Rattle.std.proofs.Common.{◌≡◌, ℕ, zero, suc, true, List, [], ◌++◌, Option, Some, None, refl, ap, sym, ◌∙◌, append_assoc, append-nil}
 use Rattle.sedre.specs.declared.types.Kind.{Kind}
 use Rattle.sedre.specs.declared.types.Kind.TheVariants.{Basic}
-use Rattle.sedscript.specs.Script.{Program}
+use Rattle.sedscript.specs.Program.{Program}
 use Rattle.examples.proofs.ComputedScript.{Script}
 use Rattle.sedspace.specs.Lines.{lines}
 use Rattle.sedengine.specs.State.{State, Move, Setting}
 use Rattle.sedengine.specs.Move.{move, after, written, next_or_stay, writes_of, start, to_sink}
-use Rattle.sedengine.specs.Run.{setting_of}
+use Rattle.sedengine.specs.ScriptSetting.{setting_of}
 
 -- what moves write, and the state that they lead to
 pub record Course : Type 0 where

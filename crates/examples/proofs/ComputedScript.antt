@@ -3,7 +3,7 @@
 use Rattle.std.proofs.Common.{◌≡◌, ◌≤◌, ℕ, zero, suc, ◌+◌, List, [], ◌∷◌, ◌++◌, length, Option, Some, None, Ok, Err, refl, subst, sym, arith}
 use Rattle.std.specs.Prelude.{slice_get}
 use Rattle.sedre.specs.declared.types.Kind.{Kind}
-use Rattle.sedre.specs.Arena.{Written}
+use Rattle.sedre.specs.Written.{Written}
 use Rattle.sedre.specs.Grammar.{ReadsAs}
 use Rattle.sedre.specs.Tree.{Tree}
 use Rattle.examples.proofs.ComputedReading.{Outcome, outcome, reads, faulty as bad_expression, unfinished, Holds, outcome_holds, written, tree_of_written, nodes_of_written, fault_either_way, no_fault_within}
@@ -15,11 +15,13 @@ use Rattle.sedscript.specs.declared.items.FileUse.TheVariants.{Read, Write}
 use Rattle.sedscript.specs.declared.bytes.Sort.TheVariants.{Separator}
 use Rattle.sedscript.specs.Bytes.{bytes_between, past}
 use Rattle.sedscript.specs.Reading.{Pattern, Reading, plainly, expression}
-use Rattle.sedscript.specs.Expressions.{IsRead, in_script, Gives, value, after_expression, Fails, own, no_expression, later}
+use Rattle.sedscript.specs.Expressions.{IsRead, Gives, value, after_expression}
+use Rattle.sedscript.specs.FirstFault.{in_script, Fails, own, no_expression, later, Faulty, early, afterwards}
 use Rattle.sedscript.specs.Items.{item_at}
 use Rattle.sedscript.specs.Files.{files_in}
 use Rattle.sedscript.specs.Targets.{target_fault}
-use Rattle.sedscript.specs.Script.{Program, CutScript, done, IsEnd, texts_of, none_counted, substitutions_of, tables_of, commands_of, is_quiet, Means, Faulty, early, afterwards}
+use Rattle.sedscript.specs.Script.{CutScript, done, IsEnd, texts_of, none_counted, substitutions_of, tables_of, commands_of, is_quiet, Means}
+use Rattle.sedscript.specs.Program.{Program}
 use Rattle.sedscript.proofs.Cuts.{cut_more}
 
 -- what reading comes to: expressions and a value, or a fault

@@ -11,7 +11,8 @@ use Rattle.sedre.specs.Intervals.{interval}
 use Rattle.sedre.specs.Grammar.{ReadsAs}
 use Rattle.examples.proofs.ComputedReading.{Outcome, reads, faulty, unfinished, outcome, rest_of, outcome_holds, Holds}
 use Rattle.sedmatch.specs.Spans.{Found, NotFound}
-use Rattle.sedmatch.specs.Caps.{Groups, IsReport}
+use Rattle.sedmatch.specs.Caps.{IsReport}
+use Rattle.sedmatch.specs.Groups.{Groups}
 use Rattle.sedmatch.specs.Matching.{any, greatest, copies, spans, longest, found_from, found, cut, first_copy, last_start, caps, report}
 use Rattle.sedmatch.proofs.MatchingLemmas.{found-iff, not_found-iff, report-iff}
 

@@ -7,12 +7,15 @@ use Rattle.sedscript.specs.Addresses.{address_at, second_at, addresses_at}
 use Rattle.sedscript.specs.Bytes.{past}
 use Rattle.sedscript.specs.Functions.{name_from, text_from}
 use Rattle.sedscript.specs.Items.{function_at, item_at}
-use Rattle.sedscript.specs.Script.{Program}
+use Rattle.sedscript.specs.Program.{Program}
 use Rattle.sedspace.specs.Lines.{lines, is_newline, HasNoNewline}
 use Rattle.sedengine.specs.Ends.{Cause, reads}
-use Rattle.sedengine.specs.Limits.{Limits, limits_of}
+use Rattle.sedengine.specs.Limits.{Limits}
+use Rattle.sedengine.specs.LimitRanges.{limits_of}
 use Rattle.sedengine.specs.Move.{move, after, start, to_sink, written}
-use Rattle.sedengine.specs.Run.{BreaksInLine, Cycled, Ending, LosesPartAfter, TakesInput, setting_of, size_of}
+use Rattle.sedengine.specs.Run.{Cycled, Ending}
+use Rattle.sedengine.specs.TakenInput.{BreaksInLine, LosesPartAfter, TakesInput, size_of}
+use Rattle.sedengine.specs.ScriptSetting.{setting_of}
 use Rattle.sedengine.specs.Select.{selects}
 use Rattle.sedengine.specs.State.{Setting, State}
 use Rattle.sedengine.specs.declared.ends.Ended.TheVariants.{InputBroken}

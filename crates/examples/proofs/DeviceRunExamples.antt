@@ -6,7 +6,7 @@ use Rattle.std.specs.Prelude.{codes, ltb, leb, nat_eq}
 use Rattle.std.proofs.lemmas.Bool.{leb-true, ltb-true}
 use Rattle.sedre.specs.declared.types.Kind.TheVariants.{Basic}
 use Rattle.examples.proofs.ComputedScript.{verdict, cutting, walked, is_script}
-use Rattle.sedscript.specs.Script.{Program}
+use Rattle.sedscript.specs.Program.{Program}
 use Rattle.sedscript.specs.Addresses.{address_at, second_at, addresses_at}
 use Rattle.sedscript.specs.Bytes.{past}
 use Rattle.sedscript.specs.Functions.{name_from, text_from}

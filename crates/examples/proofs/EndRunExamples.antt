@@ -3,7 +3,7 @@
 use Rattle.std.proofs.Common.{ℕ, refl}
 use Rattle.std.specs.Prelude.{codes}
 use Rattle.examples.proofs.ComputedReading.{outcome, rest_of}
-use Rattle.sedre.specs.Arena.{tree_at, tree_within}
+use Rattle.sedre.specs.Written.{tree_at, tree_within}
 use Rattle.sedre.specs.Brackets.{list_at, list_end}
 use Rattle.sedre.specs.Delimited.{delimiter_at}
 use Rattle.sedre.specs.Intervals.{interval}
@@ -21,7 +21,8 @@ use Rattle.sedengine.specs.Move.{move}
 use Rattle.sedengine.specs.Select.{selects}
 use Rattle.sedengine.specs.Substitute.{occurrences_from}
 use Rattle.examples.proofs.ComputedRun.{course, course, plain, no_files}
-use Rattle.sedengine.specs.Limits.{Limits, limits_of}
+use Rattle.sedengine.specs.Limits.{Limits}
+use Rattle.sedengine.specs.LimitRanges.{limits_of}
 use Rattle.sedengine.specs.declared.ends.Ended.TheVariants.{Done, PatternFull, HoldFull, QueueFull, TurnsSpent, NoPrevious}
 use Rattle.examples.proofs.ComputedEnds.{all_fit, stops_after, EndsBy}
 use Rattle.examples.proofs.LimitWords.{turns}

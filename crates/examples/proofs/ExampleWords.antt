@@ -3,7 +3,8 @@ use Rattle.std.proofs.Common.{◌≡◌, ℕ, zero, suc, ◌+◌, List, [], ◌�
 use Rattle.sedre.specs.declared.types.Kind.{Kind}
 use Rattle.sedre.specs.declared.types.ExprFault.{ExprFault}
 use Rattle.sedre.specs.declared.byte_set.ByteSet.{ByteSet}
-use Rattle.sedre.specs.Tree.{Tree, set, size}
+use Rattle.sedre.specs.Tree.{Tree, set}
+use Rattle.sedre.specs.Sizes.{size}
 use Rattle.sedre.specs.Sets.{only, any_byte}
 use Rattle.sedre.specs.Repeats.{concatenation}
 use Rattle.sedre.specs.Grammar.{ReadsAs}

@@ -4,7 +4,7 @@ use Rattle.std.proofs.Common.{refl}
 use Rattle.std.specs.Prelude.{codes}
 use Rattle.sedre.specs.declared.types.Kind.TheVariants.{Basic}
 use Rattle.sedscript.specs.declared.types.Reason.TheVariants as fault
-use Rattle.sedscript.specs.Script.{Faulty}
+use Rattle.sedscript.specs.FirstFault.{Faulty}
 use Rattle.examples.proofs.ComputedScript.{verdict, cutting, walked, has_fault}
 use Rattle.examples.proofs.ScriptWords.{fault_at}
 use Rattle.sedre.specs.Items.{item_at as expression_item_at}

@@ -4,7 +4,8 @@ use Rattle.std.specs.Prelude.{codes, slice_set}
 use Rattle.sedre.specs.Sets.{set_of, only}
 use Rattle.sedre.specs.Tree.{Tree, set, alt, group, star}
 use Rattle.sedmatch.specs.Spans.{Spans, IsIn, no_copy, one_more}
-use Rattle.sedmatch.specs.Caps.{LastCopy, only as only_copy, then, no_groups, IsReport}
+use Rattle.sedmatch.specs.Caps.{LastCopy, only as only_copy, then, IsReport}
+use Rattle.sedmatch.specs.Groups.{no_groups}
 
 -- a group of an a in a group, or a b
 abbrev either : Tree

@@ -12,11 +12,11 @@ use Rattle.sedscript.specs.Addresses.{address_at, second_at, addresses_at}
 use Rattle.sedscript.specs.Bytes.{past}
 use Rattle.sedscript.specs.Functions.{name_from, text_from}
 use Rattle.sedscript.specs.Items.{function_at, item_at}
-use Rattle.sedscript.specs.Script.{Program}
+use Rattle.sedscript.specs.Program.{Program}
 use Rattle.sedspace.specs.Lines.{is_newline, lines}
 use Rattle.sedengine.specs.Ends.{WithinLimits}
 use Rattle.sedengine.specs.Move.{line_to, move, start, to_sink}
-use Rattle.sedengine.specs.Run.{setting_of}
+use Rattle.sedengine.specs.ScriptSetting.{setting_of}
 use Rattle.sedengine.specs.Select.{selects}
 use Rattle.sedengine.specs.State.{begin, do_at, flush, join, rebegin, Setting, State, Task}
 use Rattle.sedengine.specs.declared.ends.Ended.TheVariants.{Done}

@@ -1,6 +1,6 @@
 -- Which numbers are limits, and what may be held by them.
 use Rattle.std.proofs.Common.{◌≡◌, arith, refl}
-use Rattle.sedengine.specs.Limits.{AreLimits, limits_of}
+use Rattle.sedengine.specs.LimitRanges.{AreLimits, limits_of}
 use Rattle.sedengine.specs.Held.{bound_of, total_of}
 
 -- the program's own: bytes of a space, entries of the queue, bytes read ahead, turns, nodes of an expression

@@ -1,6 +1,7 @@
 -- Limits of the examples.
 use Rattle.std.proofs.Common.{ℕ}
-use Rattle.sedengine.specs.Limits.{Limits, limits_of}
+use Rattle.sedengine.specs.Limits.{Limits}
+use Rattle.sedengine.specs.LimitRanges.{limits_of}
 
 -- the program's own, but for the turns
 abbrev pub turns : ℕ → Limits

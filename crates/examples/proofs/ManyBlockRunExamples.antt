@@ -9,7 +9,7 @@ use Rattle.sedscript.specs.declared.types.Command.{Command}
 use Rattle.sedspace.specs.Lines.{lines}
 use Rattle.sedengine.specs.Ends.{WithinLimits}
 use Rattle.sedengine.specs.Move.{after, move, start, to_sink, written}
-use Rattle.sedengine.specs.Run.{setting_of}
+use Rattle.sedengine.specs.ScriptSetting.{setting_of}
 use Rattle.sedengine.specs.Select.{selects}
 use Rattle.sedengine.specs.State.{do_at, State, Setting}
 use Rattle.sedengine.specs.declared.ends.Ended.{Ended}

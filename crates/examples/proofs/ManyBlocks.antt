@@ -21,7 +21,8 @@ use Rattle.sedscript.specs.Files.{files_in}
 use Rattle.sedscript.specs.Functions.{may_end}
 use Rattle.sedscript.specs.Items.{function_at, item_at}
 use Rattle.sedscript.specs.Reading.{Reading, plainly}
-use Rattle.sedscript.specs.Script.{CutScript, done, item, IsEnd, Program, Means, commands_of, is_quiet, none_counted, substitutions_of, tables_of, texts_of}
+use Rattle.sedscript.specs.Script.{CutScript, done, item, IsEnd, Means, commands_of, is_quiet, none_counted, substitutions_of, tables_of, texts_of}
+use Rattle.sedscript.specs.Program.{Program}
 use Rattle.sedscript.specs.Targets.{block_end, close_in, commands_in, leaves, target_fault_in}
 use Rattle.examples.proofs.ManyBracesExamples.{opening, openings, braces, stays, no_addresses, gives_opening}
 use Rattle.examples.proofs.ScriptWords.{always}

@@ -18,7 +18,8 @@ use Rattle.sedscript.specs.Bytes.{belongs, past}
 use Rattle.sedscript.specs.Expressions.{Gives, value}
 use Rattle.sedscript.specs.Items.{function_at, item_at}
 use Rattle.sedscript.specs.Reading.{Reading, plainly}
-use Rattle.sedscript.specs.Script.{CutScript, done, item, IsEnd, Faulty, afterwards}
+use Rattle.sedscript.specs.Script.{CutScript, done, item, IsEnd}
+use Rattle.sedscript.specs.FirstFault.{Faulty, afterwards}
 use Rattle.sedscript.specs.Targets.{close_in, target_fault}
 use Rattle.examples.proofs.ScriptWords.{fault_at}
 

@@ -10,7 +10,8 @@ use Rattle.sedre.specs.Grammar.{ReadsAs}
 use Rattle.examples.proofs.ComputedReading.{outcome, rest_of, reads_as}
 use Rattle.examples.proofs.ExampleWords.{times}
 use Rattle.sedmatch.specs.Spans.{Spans, Found}
-use Rattle.sedmatch.specs.Caps.{Caps, Groups, forget, no_groups, IsReport}
+use Rattle.sedmatch.specs.Caps.{Caps, IsReport}
+use Rattle.sedmatch.specs.Groups.{Groups, forget, no_groups}
 use Rattle.examples.proofs.ComputedSearch.{Finds, spans_are}
 
 abbrev text : List ℕ

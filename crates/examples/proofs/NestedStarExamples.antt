@@ -11,7 +11,8 @@ use Rattle.sedre.specs.Items.{item_at}
 use Rattle.sedre.specs.Grammar.{ReadsAs}
 use Rattle.examples.proofs.ComputedReading.{outcome, rest_of, reads_as}
 use Rattle.sedmatch.specs.Spans.{Spans, IsIn, Copies, no_copy, one_more, Found}
-use Rattle.sedmatch.specs.Caps.{LastCopy, only as only_copy, then, no_groups, IsReport}
+use Rattle.sedmatch.specs.Caps.{LastCopy, only as only_copy, then, IsReport}
+use Rattle.sedmatch.specs.Groups.{no_groups}
 use Rattle.examples.proofs.ComputedSearch.{Finds, FindsNothing, spans_are}
 
 abbrev a : Tree

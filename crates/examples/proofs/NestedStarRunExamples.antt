@@ -2,7 +2,7 @@
 use Rattle.std.proofs.Common.{◌≡◌, ℕ, List, [], ◌∷◌, ◌++◌, Bool, false, Option, Some, None, refl, sym, ap, subst, arith}
 use Rattle.std.specs.Prelude.{codes, is_some, replicate}
 use Rattle.sedre.specs.declared.types.Kind.TheVariants.{Extended}
-use Rattle.sedre.specs.Arena.{Written, tree}
+use Rattle.sedre.specs.Written.{Written, tree}
 use Rattle.sedre.specs.Delimited.{delimiter_at}
 use Rattle.sedre.specs.Items.{item_at as expression_item_at}
 use Rattle.sedre.specs.Tree.{Tree}
@@ -19,7 +19,7 @@ use Rattle.sedscript.specs.Functions.{name_from, text_from}
 use Rattle.sedscript.specs.Items.{substitute_at, function_at, item_at}
 use Rattle.sedspace.specs.Lines.{lines}
 use Rattle.sedengine.specs.Move.{move, start, to_sink}
-use Rattle.sedengine.specs.Run.{finds_in, match_with_span as occurrence_of, search_in}
+use Rattle.sedengine.specs.ScriptSetting.{finds_in, match_with_span as occurrence_of, search_in}
 use Rattle.sedengine.specs.Select.{selects}
 use Rattle.sedengine.specs.State.{Setting}
 use Rattle.sedengine.specs.Substitute.{Occurrence, occurrences_from}

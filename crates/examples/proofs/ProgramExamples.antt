@@ -6,7 +6,7 @@ use Rattle.sedre.specs.declared.types.Kind.{Kind}
 use Rattle.sedre.specs.declared.types.Kind.TheVariants.{Basic}
 use Rattle.sedre.specs.Delimited.{delimiter_at}
 use Rattle.examples.proofs.ComputedScript.{verdict, cutting, walked, Script, is_script}
-use Rattle.sedscript.specs.Script.{Program}
+use Rattle.sedscript.specs.Program.{Program}
 use Rattle.sedscript.specs.Addresses.{match_at, address_at, second_at, addresses_at}
 use Rattle.sedscript.specs.Bytes.{past}
 use Rattle.sedscript.specs.Functions.{name_from, text_from}
@@ -14,7 +14,8 @@ use Rattle.sedscript.specs.Items.{function_at, item_at}
 use Rattle.sedspace.specs.Lines.{HasNoNewline, lines}
 use Rattle.sedengine.specs.Ends.{Cause}
 use Rattle.sedengine.specs.Move.{after, move, to_sink}
-use Rattle.sedengine.specs.Run.{BreaksInLine, LosesPartAfter, setting_of}
+use Rattle.sedengine.specs.TakenInput.{BreaksInLine, LosesPartAfter}
+use Rattle.sedengine.specs.ScriptSetting.{setting_of}
 use Rattle.sedengine.specs.Select.{selects}
 use Rattle.sedengine.specs.declared.ends.Ended.{Ended}
 use Rattle.sedengine.specs.declared.ends.Ended.TheVariants.{Done, NoPrevious, InputBroken, OutputBroken}

@@ -5,7 +5,7 @@ use Rattle.std.specs.Option.{option_or, option_len}
 use Rattle.std.proofs.lemmas.Bool.{eqb-true}
 use Rattle.std.proofs.lemmas.Bool.Decides.{nat_tests}
 use Rattle.sedre.specs.declared.types.Kind.{Kind}
-use Rattle.sedre.specs.Arena.{Written}
+use Rattle.sedre.specs.Written.{Written}
 use Rattle.sedre.specs.Delimited.{delimiter_at}
 use Rattle.sedscript.specs.declared.bytes.Sort.TheVariants.{Blank, Name, Digit, Separator}
 use Rattle.sedscript.specs.declared.types.ScriptFault.{ScriptFault}
@@ -39,8 +39,10 @@ use Rattle.sedscript.specs.Replacement.{exceeds, replacement_fault, is_letter}
 use Rattle.sedscript.specs.Transliteration.{chars_of, repeated_in, repeated_fault, string_fault, strings_fault}
 use Rattle.sedscript.specs.Between.{own_delimiter, strings_to, strings_after, substitute_strings, transliterate_strings, unless_fault, transliterate_at, flags_after, substituted}
 use Rattle.sedscript.specs.Items.{substitute_with, substitute_at, function_of, function_with, function_at, function_after, item_with, item_from, item_at}
-use Rattle.sedscript.specs.Expressions.{Gives, value, after_expression, Fails, own, no_expression, later, IsRead}
-use Rattle.sedscript.specs.Script.{CutScript, done, item, Program, Means, Faulty, early, afterwards, IsEnd}
+use Rattle.sedscript.specs.Expressions.{Gives, value, after_expression, own, no_expression, later, IsRead}
+use Rattle.sedscript.specs.FirstFault.{Fails, Faulty}
+use Rattle.sedscript.specs.Script.{CutScript, done, item, Means, early, afterwards, IsEnd}
+use Rattle.sedscript.specs.Program.{Program}
 use Rattle.examples.specs.Blocks.{IsStray, IsOpen}
 use Rattle.examples.specs.Escapes.{wrong_in_string, wrong_in_replacement, IsFirstWrong, FirstWrong, HasGroups, IsSubstitute, IsWrongEscape, in_first, in_second, in_replacement}
 use Rattle.examples.specs.Strings.{IsTransliterate, RepeatsFirst}

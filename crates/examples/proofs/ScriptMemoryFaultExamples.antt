@@ -16,7 +16,7 @@ use Rattle.sedscript.specs.Bytes.{past}
 use Rattle.sedscript.specs.Faults.{number_of, name_of}
 use Rattle.sedscript.specs.Functions.{name_from, text_from}
 use Rattle.sedscript.specs.Items.{function_at, item_at}
-use Rattle.sedscript.specs.Script.{Faulty}
+use Rattle.sedscript.specs.FirstFault.{Faulty}
 use Rattle.examples.proofs.ComputedScript.{Script, verdict, cutting, walked, is_script, has_fault}
 use Rattle.sedscript.proofs.Exclusive.{ReadsAsOne, means_no_fault}
 use Rattle.sedscript.proofs.OneFault.{OneExprFault, one_fault}

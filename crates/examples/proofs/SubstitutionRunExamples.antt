@@ -3,7 +3,7 @@
 use Rattle.std.proofs.Common.{[], ◌∷◌, refl}
 use Rattle.std.specs.Prelude.{codes}
 use Rattle.examples.proofs.ComputedReading.{outcome, rest_of}
-use Rattle.sedre.specs.Arena.{tree_at, tree_within}
+use Rattle.sedre.specs.Written.{tree_at, tree_within}
 use Rattle.sedre.specs.Brackets.{list_at, list_end}
 use Rattle.sedre.specs.Delimited.{delimiter_at}
 use Rattle.sedre.specs.Intervals.{interval}

@@ -2,7 +2,8 @@
 use Rattle.std.proofs.Common.{◌≡◌, true, false, None, refl}
 use Rattle.std.specs.Prelude.{codes}
 use Rattle.sedre.specs.declared.types.Kind.TheVariants.{Basic, Extended}
-use Rattle.sedre.specs.Tree.{empty, seq, alt, group, star, opt, depth}
+use Rattle.sedre.specs.Tree.{empty, seq, alt, group, star, opt}
+use Rattle.sedre.specs.Sizes.{depth}
 use Rattle.sedre.specs.Items.{item_at}
 use Rattle.sedre.specs.Intervals.{interval}
 use Rattle.sedre.specs.Grammar.{ReadsAs}

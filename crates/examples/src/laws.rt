@@ -2,7 +2,7 @@
 
 ghost use Rattle.std.specs.Prelude.{◌≡◌, ◌≤◌, ◌<◌, ◌⊎◌, ℕ, ◌+◌, Bool, true, false, List, ◌∷◌, ◌++◌, Option, Some, None, Ok, Err, All, length, drop, slice_get};
 ghost use Rattle.sedre.specs.declared.types.Kind.{Kind};
-ghost use Rattle.sedre.specs.Arena.{Written};
+ghost use Rattle.sedre.specs.Written.{Written};
 ghost use Rattle.sedre.specs.Sets.{set_of, matching, complement};
 ghost use Rattle.sedre.specs.Brackets.{list_at};
 ghost use Rattle.sedscript.specs.declared.bytes.Sort.TheVariants.{Blank, Name};
@@ -22,7 +22,9 @@ ghost use Rattle.sedscript.specs.Functions.{fault, name_from, text_from};
 ghost use Rattle.sedscript.specs.Items.{function_of};
 ghost use Rattle.sedscript.specs.declared.substitution.Piece.{Piece};
 ghost use Rattle.sedscript.specs.Replacement.{pieces_of, replacement_fault, GroupsWithin};
-ghost use Rattle.sedscript.specs.Script.{unescaped_from, CutScript, IsEnd, Program, Means, Faulty};
+ghost use Rattle.sedscript.specs.Script.{unescaped_from, CutScript, IsEnd, Means};
+ghost use Rattle.sedscript.specs.Program.{Program};
+ghost use Rattle.sedscript.specs.FirstFault.{Faulty};
 ghost use Rattle.sedscript.specs.Strings.{string_end};
 ghost use Rattle.sedscript.specs.Targets.{block_end, commands_in};
 ghost use Rattle.sedscript.specs.Transliteration.{table_of, escaped_byte, chars_from, chars_of, bytes_of, is_among, string_fault};

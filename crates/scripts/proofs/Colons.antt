@@ -3,7 +3,7 @@ use Rattle.std.proofs.Common.{◌≡◌, ℕ, zero, suc, ◌+◌, ◌&&◌, ◌|
 use Rattle.std.specs.Option.{option_len}
 use Rattle.std.proofs.lemmas.Bool.Decides.{nat_tests}
 use Rattle.sedre.specs.declared.types.Kind.{Kind}
-use Rattle.sedre.specs.Arena.{Written}
+use Rattle.sedre.specs.Written.{Written}
 use Rattle.sedscript.specs.declared.bytes.Sort.TheVariants.{Blank, Name, Separator}
 use Rattle.sedscript.specs.declared.types.ScriptFault.{ScriptFault}
 use Rattle.sedscript.specs.declared.items.Addresses.{Addresses}

@@ -2,11 +2,11 @@
 use Rattle.std.proofs.Common.{◌≡◌, inl, inr, ℕ, ◌<◌, Bool, true, false, List, [], ◌∷◌, ◌++◌, length, refl, subst, sym, ap, ◌∙◌, append_assoc, arith}
 use Rattle.std.specs.List.{slice_split, onto_first}
 use Rattle.std.proofs.lemmas.List.Splits.{slice_split-cons_yes, slice_split-cons_no, length-slice_split}
-use Rattle.sedscript.specs.Script.{Program}
+use Rattle.sedscript.specs.Program.{Program}
 use Rattle.sedspace.specs.Lines.{lines, is_newline, without_empty_last}
 use Rattle.sedspace.proofs.LineLemmas.{lines_nil, lines_none}
 use Rattle.sedengine.specs.Move.{start}
-use Rattle.sedengine.specs.Run.{setting_of}
+use Rattle.sedengine.specs.ScriptSetting.{setting_of}
 use Rattle.scripts.specs.Alone.{EachLooksAtLine, EndsLine}
 use Rattle.scripts.specs.Edited.{Ends, RunsTo}
 use Rattle.scripts.proofs.Apart.{one_after_other}

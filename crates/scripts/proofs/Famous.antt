@@ -2,7 +2,7 @@
 use Rattle.std.proofs.Common.{◌≡◌, ◌≢◌, ◌⊎◌, inl, inr, ap₂, append-nil, append_assoc, ℕ, zero, suc, ◌+◌, ◌-◌, ◌^◌, ◌<◌, List, [], ◌∷◌, ◌++◌, length, map, take, drop, Bool, true, false, not, None, Some, refl, sym, ap, subst, ◌∙◌, arith}
 use Rattle.std.specs.Prelude.{codes, decimal, reverse}
 use Rattle.std.specs.List.{filter, flat_map}
-use Rattle.sedre.specs.Arena.{Written, tree}
+use Rattle.sedre.specs.Written.{Written, tree}
 use Rattle.sedre.specs.Tree.{Tree}
 use Rattle.sedre.specs.declared.types.Kind.TheVariants.{Basic}
 use Rattle.sedscript.specs.declared.types.Action.TheVariants as action
@@ -13,7 +13,8 @@ use Rattle.sedscript.specs.Bytes.{past}
 use Rattle.sedscript.specs.Functions.{name_from, text_from}
 use Rattle.sedscript.specs.Items.{function_at, item_at, substitute_at}
 use Rattle.sedscript.specs.Replacement.{GroupsWithin}
-use Rattle.sedscript.specs.Script.{Program, Means}
+use Rattle.sedscript.specs.Script.{Means}
+use Rattle.sedscript.specs.Program.{Program}
 use Rattle.sedspace.specs.Lines.{lines}
 use Rattle.sedengine.specs.Move.{line_to, newline, start, to_sink}
 use Rattle.std.specs.List.{list_any}
@@ -23,7 +24,7 @@ use Rattle.sedspace.specs.Lines.{is_newline}
 use Rattle.sedengine.specs.Devices.{part}
 use Rattle.sedengine.specs.Substitute.{Occurrence}
 use Rattle.sedengine.proofs.Gains.{part-append, part-same, part-other}
-use Rattle.sedengine.specs.Run.{finds_in, match_with_span, search_in}
+use Rattle.sedengine.specs.ScriptSetting.{finds_in, match_with_span, search_in}
 use Rattle.sedengine.specs.Substitute.{occurrences, replaced_from}
 use Rattle.std.proofs.Math.Path.{fun_ext}
 use Rattle.sedre.specs.Delimited.{delimiter_at}

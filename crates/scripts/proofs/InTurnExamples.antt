@@ -7,7 +7,7 @@ use Rattle.sedre.specs.Intervals.{interval}
 use Rattle.sedre.specs.Items.{item_at as expression_item_at}
 use Rattle.sedre.specs.Sets.{only, set_of}
 use Rattle.sedre.specs.Tree.{Tree, set}
-use Rattle.sedre.specs.Arena.{tree_at, tree_within}
+use Rattle.sedre.specs.Written.{tree_at, tree_within}
 use Rattle.sedre.specs.Brackets.{list_at, list_end}
 use Rattle.sedre.specs.declared.types.Kind.TheVariants.{Basic}
 use Rattle.sedscript.specs.declared.types.Action.TheVariants as action
@@ -19,7 +19,9 @@ use Rattle.sedscript.specs.Between.{substituted, transliterate_at}
 use Rattle.sedscript.specs.Bytes.{past}
 use Rattle.sedscript.specs.Functions.{name_from, text_from}
 use Rattle.sedscript.specs.Items.{function_at, item_at, substitute_at}
-use Rattle.sedscript.specs.Script.{Faulty, Program, Means}
+use Rattle.sedscript.specs.Script.{Means}
+use Rattle.sedscript.specs.FirstFault.{Faulty}
+use Rattle.sedscript.specs.Program.{Program}
 use Rattle.sedscript.specs.Transliteration.{table_of}
 use Rattle.sedmatch.specs.Matching.{any, caps, copies, cut, first_copy, found, found_from, greatest, last_start, longest, report, spans}
 use Rattle.sedspace.specs.Lines.{is_newline, lines}

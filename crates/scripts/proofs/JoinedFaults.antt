@@ -17,7 +17,8 @@ use Rattle.sedscript.specs.declared.items.Function.{Function}
 use Rattle.sedscript.specs.declared.items.Function.TheVariants.{Plain, Open, Close, Label, Branch, Text, File, Comment, Substitute, Transliterate}
 use Rattle.sedscript.specs.Bytes.{bytes_between}
 use Rattle.sedscript.specs.Targets.{leaves, counted, commands_in, is_close, is_label, label_in, depth_after, close_in, fault_if, target_fault_at, target_fault_in}
-use Rattle.sedscript.specs.Script.{Program, substitution_of, sink_of, with_substitution, substitutions_of, counts_with, action_of, with_action, commands_of}
+use Rattle.sedscript.specs.Script.{substitution_of, sink_of, with_substitution, substitutions_of, counts_with, action_of, with_action, commands_of}
+use Rattle.sedscript.specs.Program.{Program}
 use Rattle.examples.proofs.ComputedEnds.{both}
 use Rattle.scripts.specs.InTurn.{edits, is_own, replaces_only}
 use Rattle.sedscript.proofs.Labels.{counted_in}

@@ -19,7 +19,8 @@ use Rattle.sedscript.specs.declared.items.Function.TheVariants.{Plain, Open, Clo
 use Rattle.sedscript.specs.Bytes.{bytes_between}
 use Rattle.sedscript.specs.Files.{distinct, files_in, number_in}
 use Rattle.sedscript.specs.Targets.{leaves, commands_in, is_label, label_in, target_fault_in, depth_after, target_fault_at}
-use Rattle.sedscript.specs.Script.{CutScript, IsEnd, Program, Means, action_of, with_action, commands_of, counts_with, none_counted, texts_of, substitutions_of, tables_of, is_quiet, branch_action}
+use Rattle.sedscript.specs.Script.{CutScript, IsEnd, Means, action_of, with_action, commands_of, counts_with, none_counted, texts_of, substitutions_of, tables_of, is_quiet, branch_action}
+use Rattle.sedscript.specs.Program.{Program}
 use Rattle.scripts.specs.InTurn.{all_of, command_behind, substitution_behind, in_turn}
 use Rattle.scripts.specs.OneText.{leads_inside, LeadsInside, ShareNoFile, apart as apart_names, ShareNoLabel}
 use Rattle.scripts.proofs.LongerText.{between_on}

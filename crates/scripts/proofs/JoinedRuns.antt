@@ -3,7 +3,7 @@ use Rattle.std.proofs.Common.{◌≡◌, ℕ, List, [], ◌∷◌, ◌++◌, map
 use Rattle.std.specs.List.{list_all}
 use Rattle.std.proofs.Math.Path.{fun_ext}
 use Rattle.std.proofs.lemmas.Option.{slice_get-map}
-use Rattle.sedre.specs.Arena.{Written, tree}
+use Rattle.sedre.specs.Written.{Written, tree}
 use Rattle.sedre.specs.Tree.{Tree}
 use Rattle.sedre.specs.declared.types.Kind.{Kind}
 use Rattle.sedre.specs.declared.types.Kind.TheVariants.{Basic}
@@ -11,12 +11,13 @@ use Rattle.sedmatch.specs.Matching.{found}
 use Rattle.sedscript.specs.declared.types.Action.{Action}
 use Rattle.sedscript.specs.declared.types.Action.TheVariants.{Branch, Test}
 use Rattle.sedscript.specs.declared.types.Command.{Command}
-use Rattle.sedscript.specs.Script.{Program, Means, none_counted}
+use Rattle.sedscript.specs.Script.{Means, none_counted}
+use Rattle.sedscript.specs.Program.{Program}
 use Rattle.sedspace.specs.Lines.{lines}
 use Rattle.sedengine.specs.State.{Setting}
 use Rattle.sedengine.specs.Substitute.{Occurrence}
 use Rattle.sedengine.specs.Move.{start, to_sink}
-use Rattle.sedengine.specs.Run.{finds_in, search_in, has_match, search_for}
+use Rattle.sedengine.specs.ScriptSetting.{finds_in, search_in, has_match, search_for}
 use Rattle.examples.proofs.ComputedEnds.{both}
 use Rattle.sedscript.specs.ScriptText.{with_part}
 use Rattle.scripts.specs.Edited.{Ends, RunsTo, Sends}

@@ -1,18 +1,19 @@
 -- From the bytes of a script to its runs.
 use Rattle.std.proofs.Common.{◌≡◌, ℕ, List, [], ◌∷◌, map, Bool, ◌||◌, Option, None, Some, refl, ap, subst, ◌∙◌}
 use Rattle.std.proofs.Math.Path.{fun_ext}
-use Rattle.sedre.specs.Arena.{Written, tree}
+use Rattle.sedre.specs.Written.{Written, tree}
 use Rattle.sedre.specs.Tree.{Tree}
 use Rattle.sedre.specs.declared.types.Kind.{Kind}
 use Rattle.sedre.specs.declared.types.Kind.TheVariants.{Basic}
 use Rattle.sedmatch.specs.Matching.{found}
 use Rattle.sedscript.specs.declared.types.Command.{Command}
 use Rattle.sedscript.specs.declared.substitution.Substitution.{Substitution}
-use Rattle.sedscript.specs.Script.{Program, Means}
+use Rattle.sedscript.specs.Script.{Means}
+use Rattle.sedscript.specs.Program.{Program}
 use Rattle.sedspace.specs.Lines.{lines}
 use Rattle.sedengine.specs.State.{State, Setting}
 use Rattle.sedengine.specs.Move.{start}
-use Rattle.sedengine.specs.Run.{match_with_span, search_in, finds_in}
+use Rattle.sedengine.specs.ScriptSetting.{match_with_span, search_in, finds_in}
 use Rattle.scripts.specs.Edited.{Ends, Sends}
 use Rattle.scripts.specs.Words.{match_with}
 

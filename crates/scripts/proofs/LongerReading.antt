@@ -2,7 +2,7 @@
 use Rattle.std.proofs.Common.{◌≡◌, ℕ, zero, suc, ◌+◌, ◌<◌, ◌≤◌, ◌&&◌, ◌==◌, Bool, true, false, List, [], ◌∷◌, ◌++◌, length, Option, Some, None, Result, Ok, Err, refl, sym, ap, ap₂, subst, ◌∙◌, arith, if◌then◌else◌, slice_get, nat_lt}
 use Rattle.std.specs.Option.{option_len}
 use Rattle.sedre.specs.declared.types.Kind.{Kind}
-use Rattle.sedre.specs.Arena.{Written}
+use Rattle.sedre.specs.Written.{Written}
 use Rattle.sedre.specs.Delimited.{delimiter_at}
 use Rattle.std.proofs.lemmas.Option.{slice_get_within}
 use Rattle.sedscript.specs.declared.bytes.Sort.TheVariants.{Blank, Bang, Digit, Separator}

@@ -2,7 +2,8 @@
 use Rattle.std.proofs.Common.{◌≡◌, ℕ, List, [], false, subst}
 use Rattle.sedre.specs.declared.types.Kind.TheVariants.{Basic}
 use Rattle.sedscript.specs.declared.types.Command.{Command}
-use Rattle.sedscript.specs.Script.{Program, Means}
+use Rattle.sedscript.specs.Script.{Means}
+use Rattle.sedscript.specs.Program.{Program}
 use Rattle.examples.proofs.ComputedScript.{verdict, means, Verdict, IsSo, verdict_so}
 
 -- a script of these commands, without expressions and strings, that writes to these files

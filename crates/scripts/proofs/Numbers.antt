@@ -23,7 +23,7 @@ use Rattle.sedscript.specs.Script.{IsEnd, Means, item, done, is_quiet}
 use Rattle.sedscript.specs.Functions.{ended, item_of}
 use Rattle.sedscript.specs.Expressions.{Gives, value}
 use Rattle.sedscript.specs.Targets.{target_fault}
-use Rattle.sedre.specs.Arena.{Written}
+use Rattle.sedre.specs.Written.{Written}
 use Rattle.sedre.specs.declared.types.Kind.TheVariants.{Basic}
 use Rattle.sedscript.specs.declared.items.Function.{Function}
 use Rattle.examples.proofs.ComputedScript.{program_of}

@@ -4,7 +4,7 @@ use Rattle.std.specs.Prelude.{slice_get, ◌==◌}
 use Rattle.std.specs.List.{prefix_len}
 use Rattle.std.proofs.Math.Seq.{drop-append_seam, take-append_seam}
 use Rattle.std.proofs.lemmas.Bool.Decides.{nat_tests}
-use Rattle.sedre.specs.Arena.{Written}
+use Rattle.sedre.specs.Written.{Written}
 use Rattle.sedre.specs.Delimited.{delimiter_at}
 use Rattle.sedre.specs.Tree.{Tree}
 use Rattle.sedre.specs.declared.types.Kind.TheVariants.{Basic}
@@ -23,7 +23,8 @@ use Rattle.sedscript.specs.Expressions.{IsRead, Gives, value, after_expression}
 use Rattle.sedscript.specs.Functions.{item_of}
 use Rattle.sedscript.specs.Items.{function_after, function_at, item_at, item_with}
 use Rattle.sedscript.specs.Reading.{Pattern, Reading, plainly, expression, ◌>>=◌}
-use Rattle.sedscript.specs.Script.{Program, Means}
+use Rattle.sedscript.specs.Script.{Means}
+use Rattle.sedscript.specs.Program.{Program}
 use Rattle.examples.proofs.ComputedReading.{written, tree_of_written, nodes_of_written, no_fault_within}
 use Rattle.scripts.specs.Slashed.{IsSlashed}
 use Rattle.examples.proofs.ScriptWords.{at, unless}

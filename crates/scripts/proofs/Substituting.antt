@@ -23,7 +23,8 @@ use Rattle.sedscript.specs.Items.{function_at, item_at, substitute_at}
 use Rattle.sedscript.specs.Reading.{Reading, plainly, expression, ◌>>=◌}
 use Rattle.sedscript.specs.Replacement.{GroupsWithin, pieces_of, replacement_fault}
 use Rattle.sedscript.specs.Flags.{flags_from, no_flags}
-use Rattle.sedscript.specs.Script.{Program, Means}
+use Rattle.sedscript.specs.Script.{Means}
+use Rattle.sedscript.specs.Program.{Program}
 use Rattle.sedscript.specs.Strings.{string_end}
 use Rattle.examples.specs.WrittenReplacements.{written_pieces}
 use Rattle.examples.proofs.ComputedReading.{written}

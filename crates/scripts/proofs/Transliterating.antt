@@ -18,7 +18,8 @@ use Rattle.sedscript.specs.Bytes.{bytes_between}
 use Rattle.sedscript.specs.Functions.{item_of}
 use Rattle.sedscript.specs.Items.{function_at, item_at}
 use Rattle.sedscript.specs.Reading.{plainly, ◌>>=◌}
-use Rattle.sedscript.specs.Script.{Program, Means}
+use Rattle.sedscript.specs.Script.{Means}
+use Rattle.sedscript.specs.Program.{Program}
 use Rattle.sedscript.specs.Strings.{string_end}
 use Rattle.sedscript.specs.Transliteration.{bytes_of, chars_from, is_among, repeated_in, strings_fault, table_of}
 use Rattle.examples.specs.Strings.{written}

@@ -2,7 +2,8 @@
 use Rattle.std.proofs.Common.{◌≡◌, ℕ, zero, suc, ◌+◌, ◌-◌, ◌*◌, ◌<◌, ◌≤◌, Bool, true, false, List, [], ◌∷◌, ◌++◌, length, length-append, Option, None, refl, sym, ap, subst, ◌∙◌, append-nil, append_assoc, arith}
 use Rattle.std.specs.Prelude.{codes, reverse}
 use Rattle.sedre.specs.declared.types.Kind.TheVariants.{Basic}
-use Rattle.sedscript.specs.Script.{Program, Means}
+use Rattle.sedscript.specs.Script.{Means}
+use Rattle.sedscript.specs.Program.{Program}
 use Rattle.std.specs.List.{onto_first}
 use Rattle.sedspace.specs.Lines.{is_newline, lines}
 use Rattle.sedspace.proofs.LineLemmas.{lines_nil}
@@ -12,7 +13,8 @@ use Rattle.sedengine.specs.State.{Task, begin, flush, empty_pattern, State, Sett
 use Rattle.sedengine.specs.Substitute.{Occurrence}
 use Rattle.sedengine.specs.Select.{selects}
 use Rattle.sedengine.specs.Move.{after, at_end, line_to, move, newline, start, to_sink, writing, written}
-use Rattle.sedengine.specs.Run.{finds_in, search_in, setting_of, size_of}
+use Rattle.sedengine.specs.ScriptSetting.{finds_in, search_in, setting_of}
+use Rattle.sedengine.specs.TakenInput.{size_of}
 use Rattle.sedengine.specs.Ends.{WithinLimits, Within, Cause}
 use Rattle.sedengine.specs.declared.ends.Ended.{Ended}
 use Rattle.sedengine.specs.declared.ends.Ended.TheVariants.{Done}

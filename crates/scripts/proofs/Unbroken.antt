@@ -8,7 +8,7 @@ use Rattle.sedspace.proofs.LineLemmas.{lines_nil}
 use Rattle.sedre.specs.Tree.{Tree}
 use Rattle.std.proofs.lemmas.List.{length-map}
 use Rattle.sedmatch.specs.Matching.{found}
-use Rattle.sedmatch.specs.Parts.{part_of, span_of}
+use Rattle.sedmatch.specs.Groups.{part_of, span_of}
 use Rattle.sedscript.specs.declared.substitution.Piece.{Piece}
 use Rattle.sedscript.specs.declared.substitution.Piece.TheVariants.{Literal, Whole, Group}
 use Rattle.sedengine.specs.Substitute.{Occurrence, occurrences, put_for, replaced_from}

@@ -4,7 +4,8 @@ use Rattle.std.specs.Prelude.{codes, reverse}
 use Rattle.std.proofs.lemmas.Grind.{reverse_onto}
 use Rattle.std.proofs.lemmas.Option.{slice_get_within}
 use Rattle.sedre.specs.declared.types.Kind.TheVariants.{Basic}
-use Rattle.sedscript.specs.Script.{Program, Means}
+use Rattle.sedscript.specs.Script.{Means}
+use Rattle.sedscript.specs.Program.{Program}
 use Rattle.sedspace.specs.Lines.{lines}
 use Rattle.sedspace.specs.Failures.{Rose}
 use Rattle.sedengine.specs.Limits.{Limits}
@@ -12,7 +13,8 @@ use Rattle.sedengine.specs.State.{State, Setting}
 use Rattle.sedengine.specs.Move.{after, newline, to_sink, written}
 use Rattle.sedengine.specs.Devices.{GainedWithin, SinksAtEnd, SourceAtEnd, part}
 use Rattle.sedengine.specs.Ends.{BrokenOff, Cause}
-use Rattle.sedengine.specs.Run.{setting_of, size_of}
+use Rattle.sedengine.specs.ScriptSetting.{setting_of}
+use Rattle.sedengine.specs.TakenInput.{size_of}
 use Rattle.sedengine.specs.declared.ends.Ended.{Ended}
 use Rattle.sedengine.specs.declared.ends.Ended.TheVariants.{Done, PatternFull, HoldFull, QueueFull, TurnsSpent, NoPrevious, InputBroken, OutputBroken, OutputFull}
 use Rattle.sedengine.proofs.Gains.{part-same}

@@ -7,7 +7,7 @@ use Rattle.sedscript.specs.declared.types.Command.{Command}
 use Rattle.sedscript.specs.declared.types.Action.{Action}
 use Rattle.sedscript.specs.declared.types.Action.TheVariants.{AppendHold, AppendNext, CopyHold, Exchange, Hold, HoldMore, LineNumber, NextLine, Quit, Substitute}
 use Rattle.sedscript.specs.declared.substitution.Substitution.{Substitution}
-use Rattle.sedscript.specs.Script.{Program}
+use Rattle.sedscript.specs.Program.{Program}
 
 -- no address, or `/RE/` with an expression of its own: no number, no `$`, no empty expression
 abbrev pub asks_text : Option Address → Bool

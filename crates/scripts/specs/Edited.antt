@@ -1,11 +1,12 @@
 -- What a script makes of an input, from the bytes of both (XCU sed, Extended Description).
 use Rattle.std.specs.Prelude.{◌≡◌, ℕ, Bool, ◌||◌, List, [], ◌∷◌, ◌++◌}
 use Rattle.sedre.specs.declared.types.Kind.TheVariants.{Basic}
-use Rattle.sedscript.specs.Script.{Program, Means}
+use Rattle.sedscript.specs.Script.{Means}
+use Rattle.sedscript.specs.Program.{Program}
 use Rattle.sedspace.specs.Lines.{lines}
 use Rattle.sedengine.specs.State.{State, Setting}
 use Rattle.sedengine.specs.Move.{newline, after, start, to_sink, written}
-use Rattle.sedengine.specs.Run.{setting_of}
+use Rattle.sedengine.specs.ScriptSetting.{setting_of}
 
 -- a run from a state comes to its end, and has written these bytes, each to its sink
 pub record Ends (g : Setting) (s : State) (out : List (ℕ × ℕ)) : Type 0 where

@@ -11,7 +11,7 @@ use Rattle.sedscript.specs.declared.types.Action.TheVariants.{Append, Block, Bra
 use Rattle.sedscript.specs.declared.substitution.Piece.{Piece}
 use Rattle.sedscript.specs.declared.substitution.Piece.TheVariants.{Literal}
 use Rattle.sedscript.specs.declared.substitution.Substitution.{Substitution}
-use Rattle.sedscript.specs.Script.{Program}
+use Rattle.sedscript.specs.Program.{Program}
 use Rattle.sedengine.specs.Move.{in_table}
 
 -- an expression of the script's own

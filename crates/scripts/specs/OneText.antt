@@ -2,7 +2,7 @@
 use Rattle.std.specs.Prelude.{◌≡◌, ℕ, Bool, true, false, not, Some, List, [], ◌∷◌, length, nat_eq, nat_lt}
 use Rattle.std.specs.List.{ends_with, list_all, list_any}
 use Rattle.std.specs.Str.{bytes_eq}
-use Rattle.sedre.specs.Arena.{Written}
+use Rattle.sedre.specs.Written.{Written}
 use Rattle.sedre.specs.declared.types.Kind.{Kind}
 use Rattle.sedre.specs.declared.types.Kind.TheVariants.{Basic}
 use Rattle.sedscript.specs.declared.types.Command.{Command}
@@ -10,7 +10,8 @@ use Rattle.sedscript.specs.declared.types.Action.{Action}
 use Rattle.sedscript.specs.declared.types.Action.TheVariants.{Branch, Test}
 use Rattle.sedscript.specs.declared.items.Item.{Item}
 use Rattle.sedscript.specs.Targets.{label_in}
-use Rattle.sedscript.specs.Script.{CutScript, IsEnd, Means, Program}
+use Rattle.sedscript.specs.Script.{CutScript, IsEnd, Means}
+use Rattle.sedscript.specs.Program.{Program}
 use Rattle.scripts.specs.InTurn.{BreaksNoLine, OnlyEdits}
 
 -- `b` and `t` lead to one of the commands, and not to the end

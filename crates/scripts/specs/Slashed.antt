@@ -1,7 +1,8 @@
 -- Expressions between slashes.
 use Rattle.std.specs.Prelude.{◌≡◌, ◌≤◌, ◌<◌, ℕ, ◌+◌, List, ◌∷◌, ◌++◌, false, Some, length}
 use Rattle.sedre.specs.declared.types.Kind.TheVariants.{Basic}
-use Rattle.sedre.specs.Tree.{Tree, size, depth}
+use Rattle.sedre.specs.Tree.{Tree}
+use Rattle.sedre.specs.Sizes.{size, depth}
 use Rattle.sedre.specs.Grammar.{ReadsAs}
 use Rattle.sedre.specs.Delimited.{first_delimiter}
 

@@ -2,7 +2,7 @@
 //! "Input Files", "Output Files").
 ghost use Rattle.std.specs.Prelude.{◌≡◌, ◌-◌, ◌^◌, ◌⊎◌, map};
 ghost use Rattle.std.specs.String.{string_bytes};
-ghost use Rattle.sedengine.specs.Limits.{limits_of};
+ghost use Rattle.sedengine.specs.LimitRanges.{limits_of};
 ghost use Rattle.sededit.specs.CommandLine.{IsCommandLine};
 ghost use Rattle.sededit.specs.Program.{AsksHelp};
 

@@ -4,17 +4,19 @@ use Rattle.std.proofs.Math.Seq.{take-length}
 use Rattle.std.specs.Prelude.{IfSome}
 use Rattle.std.specs.Io.KnownBytes.{prepend_known}
 use Rattle.sedspace.specs.Lines.{lines}
-use Rattle.sedscript.specs.Script.{Program}
+use Rattle.sedscript.specs.Program.{Program}
 use Rattle.sedengine.specs.Limits.{Limits}
 use Rattle.sedengine.specs.State.{State, Setting}
 use Rattle.sedengine.specs.Move.{start, written}
 use Rattle.sedengine.specs.Devices.{part, FillsSink, GainedWithin}
 use Rattle.sedengine.specs.Ends.{WholeOrBrokenOff}
-use Rattle.sedengine.specs.Run.{RunState, Ending, Input, Sends, at_lines, setting, setting_of}
+use Rattle.sedengine.specs.Run.{RunState, Ending, Input, Sends, at_lines, setting}
+use Rattle.sedengine.specs.ScriptSetting.{setting_of}
 use Rattle.sedengine.specs.declared.ends.Ended.{Ended}
 use Rattle.sedengine.specs.declared.ends.Ended.TheVariants.{Done, OutputFull}
 use Rattle.sedengine.proofs.Metering.{Cause-as}
-use Rattle.sededit.specs.Editing.{Edits, GainsAll, GainsBeginning, LeavesAhead, nothing_before, start_over}
+use Rattle.sededit.specs.Editing.{Edits, GainsAll, GainsBeginning, nothing_before, start_over}
+use Rattle.sededit.specs.Ahead.{LeavesAhead}
 
 -- an engine that was opened
 abbrev pub opened : Limits → Program → RunState

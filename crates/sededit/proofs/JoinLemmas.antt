@@ -9,8 +9,9 @@ use Rattle.std.specs.Option.{option_map, is_none}
 use Rattle.std.specs.Fmt.{option_append}
 use Rattle.std.specs.Io.KnownBytes.{Consumes, IsAtEnd}
 use Rattle.sededit.specs.Joined.{due_after, with_newline, joined}
-use Rattle.sededit.specs.Opening.{Opens, KeepsFiles, contents}
-use Rattle.sededit.specs.FilesInTurn.{Joining, left, left_of_current, NotesMissed, OnlyLastGives, Opened, OpensNext}
+use Rattle.sededit.specs.Opening.{Opens, NotesMissed, OnlyLastGives, Opened, OpensNext}
+use Rattle.sededit.specs.ToldFiles.{KeepsFiles, contents}
+use Rattle.sededit.specs.FilesInTurn.{Joining, left, left_of_current}
 
 due_after-append : (due : Bool) (a b : List ℕ) → due_after due (a ++ b) ≡ due_after (due_after due a) b
 due_after-append due [] b = refl

@@ -2,7 +2,7 @@
 use Rattle.std.proofs.Common.{◌≡◌, ◌∙◌, ℕ, List, [], ◌∷◌, Option, Some, None}
 use Rattle.std.proofs.KnownBytes.{Keeps-trans}
 use Rattle.sedscript.specs.ScriptText.{with_part}
-use Rattle.sededit.specs.Opening.{KeepsFiles}
+use Rattle.sededit.specs.ToldFiles.{KeepsFiles}
 use Rattle.sededit.specs.Reading.{OnlyReadsScripts}
 use Rattle.sededit.specs.CommandLine.{Given, file, text}
 use Rattle.sededit.specs.Program.{MakesText}

@@ -1,17 +1,19 @@
 -- From the end of an edit to the status of the program.
 use Rattle.std.proofs.Common.{◌≡◌, ◌∙◌, ◌≤◌, ◌⊎◌, inl, inr, ℕ, Bool, true, false, List, Option, Some, None, Err, arith, subst, sym}
 use Rattle.sedspace.specs.Failures.{Rose}
-use Rattle.sedscript.specs.Script.{Program}
+use Rattle.sedscript.specs.Program.{Program}
 use Rattle.sedengine.specs.Limits.{Limits}
 use Rattle.sedengine.specs.Devices.{FailedSink, Gained, SinksAtEnd, SourceAtEnd}
 use Rattle.sedengine.specs.declared.ends.Ended.{Ended}
 use Rattle.sedengine.specs.declared.ends.Ended.TheVariants.{Done, InputBroken, OutputBroken, OutputFull}
-use Rattle.sedengine.specs.Run.{BreaksInLine, setting_of}
+use Rattle.sedengine.specs.TakenInput.{BreaksInLine}
+use Rattle.sedengine.specs.ScriptSetting.{setting_of}
 use Rattle.sedengine.proofs.Metering.{Cause-as}
 use Rattle.std.specs.Option.{option_map}
 use Rattle.sededit.specs.Editing.{start_over}
 use Rattle.sededit.specs.Joined.{joined}
-use Rattle.sededit.specs.Opening.{KeepsFiles, WereRefused, contents}
+use Rattle.sededit.specs.Opening.{WereRefused}
+use Rattle.sededit.specs.ToldFiles.{KeepsFiles, contents}
 use Rattle.sededit.specs.Program.{GainsBy, DevicesAtEnd, SinkAtEnd, SinkFailed, StatusMeans, StopsEarly, WritesAll, WritesBeginning}
 
 -- what sinks gained stands where they hold the same afterwards

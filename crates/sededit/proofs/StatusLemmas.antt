@@ -2,7 +2,7 @@
 use Rattle.std.proofs.Common.{◌≡◌, ◌≢◌, ◌⊎◌, inl, inr, ℕ, List, Option}
 use Rattle.clap.specs.Words.{Text}
 use Rattle.sedspace.specs.Failures.{Rose}
-use Rattle.sedscript.specs.Script.{Program}
+use Rattle.sedscript.specs.Program.{Program}
 use Rattle.sedengine.specs.Devices.{Gained}
 use Rattle.sedengine.specs.Limits.{Limits}
 use Rattle.sededit.specs.Program.{AsksHelp, DevicesAtEnd, GainsBy, HelpMeans, Observed, Runs, SinkFailed, StatusMeans, StopsEarly, WritesAll, WritesBeginning, WritesHelp}

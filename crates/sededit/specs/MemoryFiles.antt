@@ -4,6 +4,7 @@ use Rattle.std.specs.Option.{option_map}
 use Rattle.std.specs.Str.{bytes_eq}
 use Rattle.sededit.specs.declared.memory_inputs.Current.{Current}
 use Rattle.sededit.specs.declared.memory_inputs.Current.TheVariants.{Nothing, Standard, Number}
+use Rattle.sededit.specs.ToldFiles.{dash}
 
 -- a file over memory: its name, as bytes of UTF-8, and its bytes
 pub record File : Type 0 where
@@ -21,10 +22,6 @@ pub record Files : Type 0 where
   pub fails_at : Option ℕ
   pub failures : ℕ
   pub refusals : ℕ
-
--- the name of the standard input, `-` (this project's own)
-abbrev pub dash : List ℕ
-dash = 45 ∷ []
 
 -- the bytes of the first file of this name
 abbrev pub file_of : List File → List ℕ → Option (List ℕ)

@@ -1,7 +1,8 @@
--- Files that are opened one after another. A file is told as its bytes, or as None where it can't be opened.
-use Rattle.std.specs.Prelude.{◌≡◌, ℕ, Bool, true, false, List, [], ◌∷◌, map, Option, None, Some, unwrap_or, ⊤}
-use Rattle.std.specs.Option.{is_some}
+-- Files that are opened one after another.
+use Rattle.std.specs.Prelude.{◌≡◌, ℕ, Bool, true, false, List, [], ◌∷◌, map, Option, None, Some, unwrap_or, ⊤, ◌++◌, ◌+◌, length, not}
+use Rattle.std.specs.Option.{is_some, is_none}
 use Rattle.sedspace.specs.Failures.{Rose, raised}
+use Rattle.sededit.specs.FilesInTurn.{Joining}
 
 -- An opening, where the file and those after it are told: whether it can be opened is answered, it is the one being
 -- read, and those after it are still ahead. One that can't be opened gives nothing.
@@ -10,20 +11,6 @@ Opens None answer current ahead = ⊤
 Opens (Some []) answer current ahead = ⊥
 Opens (Some (file ∷ files)) answer current ahead =
     (answer ≡ is_some file) × (current ≡ Some (unwrap_or file [])) × (ahead ≡ Some files)
-
--- files that are told stay as they are
-abbrev pub KeepsFiles : Option (List (Option (List ℕ))) → Option (List (Option (List ℕ))) → Type 0
-KeepsFiles None new = ⊤
-KeepsFiles (Some files) new = new ≡ Some files
-
--- what files give: one that can't be opened is as an empty one (this project's own)
-abbrev pub contents : List (Option (List ℕ)) → List (List ℕ)
-contents files = map (λ file. unwrap_or file []) files
-
--- a file that is read whole gives its bytes, or nothing where it can't be read
-abbrev pub GivesWhole : Option (Option (List ℕ)) → Option (List ℕ) → Type 0
-GivesWhole None given = ⊤
-GivesWhole (Some file) given = given ≡ file
 
 -- the number of openings that were refused rises with each that is
 abbrev pub CountsRefusal : Bool → ℕ → ℕ → Type 0
@@ -34,3 +21,34 @@ CountsRefusal false old new = new ≡ raised old
 abbrev pub WereRefused : Bool → ℕ → ℕ → Type 0
 WereRefused true old new = Rose old new
 WereRefused false old new = new ≡ old
+
+-- only the last of the files gives bytes, if any
+abbrev pub OnlyLastGives : List (Option (List ℕ)) → Type 0
+OnlyLastGives (file ∷ next ∷ files) = (unwrap_or file [] ≡ []) × OnlyLastGives (next ∷ files)
+OnlyLastGives files = ⊤
+
+-- Where the files ahead are told, the first ones were opened, each but the last of these at its end: it is noted of each
+-- whether it was missed. A file that the run doesn't reach isn't opened, and doesn't count as missed (this
+-- project's own).
+abbrev pub NotesMissed : Option (List (Option (List ℕ))) → Option (List (Option (List ℕ))) → List Bool → List Bool → Type 0
+NotesMissed None new before after = ⊤
+NotesMissed (Some files) new before after =
+    (first : List (Option (List ℕ))) × (rest : List (Option (List ℕ))) × (files ≡ first ++ rest) × (new ≡ Some rest)
+    × (after ≡ before ++ map is_none first) × OnlyLastGives first
+
+-- the files of the first names were opened, each noted as missed or not
+abbrev pub Opened : {I : Type 0} → (I → List (List ℕ) → Option (List (Option (List ℕ)))) → Joining I → Joining I → Type 0
+Opened ahead old new =
+    ((first : List (List ℕ)) × (old.names ≡ first ++ new.names) × (length new.missed ≡ length old.missed + length first))
+    × NotesMissed (ahead old.inputs old.names) (ahead new.inputs new.names) old.missed new.missed
+
+-- the next file was opened: it is the one being read, and noted as missed or not
+pub record OpensNext {I : Type 0} (current : I → Option (List ℕ)) (ahead : I → List (List ℕ) → Option (List (Option (List ℕ))))
+    (old new : Joining I) : Type 0 where
+  pub name : List ℕ
+  pub names : old.names ≡ name ∷ new.names
+  pub answer : Bool
+  pub missed : new.missed ≡ old.missed ++ not answer ∷ []
+  pub opens : Opens (ahead old.inputs old.names) answer (current new.inputs) (ahead new.inputs new.names)
+  pub reading : new.reading ≡ true
+  pub due : new.due ≡ false

@@ -1,7 +1,7 @@
 -- What reading the files of -f leaves as it is.
 use Rattle.std.specs.Prelude.{◌≡◌, ℕ, List, Option}
 use Rattle.std.specs.Io.KnownBytes.{Keeps}
-use Rattle.sededit.specs.Opening.{KeepsFiles}
+use Rattle.sededit.specs.ToldFiles.{KeepsFiles}
 
 -- no file was opened and none of the input read
 pub record OnlyReadsScripts {I : Type 0} (current : I → Option (List ℕ)) (ahead : I → List (List ℕ) → Option (List (Option (List ℕ))))

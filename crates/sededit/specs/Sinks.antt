@@ -1,17 +1,6 @@
--- Sinks that files are added to (XCU sed, "w wfile"). That a sink is empty before it is created is how contracts tell that
--- it is created empty.
-use Rattle.std.specs.Prelude.{◌≡◌, ◌≤◌, ℕ, ◌+◌, Bool, true, false, List, [], ◌∷◌, ◌++◌, take, slice_get, Some, Result, Ok, Err}
-use Rattle.sedspace.specs.Failures.{Rose}
-
--- a sink more where one was added
-abbrev pub AddsSink : Bool → ℕ → ℕ → Type 0
-AddsSink true old new = new ≡ old + 1
-AddsSink false old new = new ≡ old
-
--- the name of a file more where one was added, the last
-abbrev pub AddsName : Bool → List ℕ → List (List ℕ) → List (List ℕ) → Type 0
-AddsName true name old new = new ≡ old ++ name ∷ []
-AddsName false name old new = new ≡ old
+-- Files that are created for sinks (XCU sed, "w wfile"). That a sink is empty before it is created is how contracts tell
+-- that it is created empty.
+use Rattle.std.specs.Prelude.{◌≡◌, ℕ, List, ◌++◌, take}
 
 -- files of these names were created in this order, after those that were there
 abbrev pub Creates : List (List ℕ) → List (List ℕ) → List (List ℕ) → Type 0
@@ -20,12 +9,3 @@ Creates old new names = new ≡ old ++ names
 -- files of the first of these names, perhaps of none, were created in this order, after those that were there
 abbrev pub CreatesFirst : List (List ℕ) → List (List ℕ) → List (List ℕ) → Type 0
 CreatesFirst old new names = (count : ℕ) × Creates old new (take count names)
-
--- files of the names before this one were created in their order, after those that were there
-abbrev pub CreatesUpTo : List (List ℕ) → List (List ℕ) → List (List ℕ) → List ℕ → Type 0
-CreatesUpTo old new names name = (k : ℕ) × (slice_get names k ≡ Some name) × Creates old new (take k names)
-
--- No sink failed at an Ok, and the one that an Err names did. No number of failures falls.
-abbrev pub FailsFlush : Result Unit ℕ → (ℕ → ℕ) → (ℕ → ℕ) → Type 0
-FailsFlush (Ok u) old new = (k : ℕ) → new k ≡ old k
-FailsFlush (Err k) old new = Rose (old k) (new k) × ((j : ℕ) → old j ≤ new j)

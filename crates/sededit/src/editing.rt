@@ -2,11 +2,13 @@
 ghost use Rattle.std.specs.Prelude.{◌≡◌, ◌<◌, ◌≤◌, ◌⊎◌, ℕ, List, Ok, Err, IfOk, OnOk, OnErr, IfErr, length};
 ghost use Rattle.std.specs.Option.{ForSome};
 ghost use Rattle.std.specs.Io.KnownBytes.{Keeps};
-ghost use Rattle.sedscript.specs.Script.{Faulty, Means};
+ghost use Rattle.sedscript.specs.Script.{Means};
+ghost use Rattle.sedscript.specs.FirstFault.{Faulty};
 ghost use Rattle.sedscript.specs.declared.types.ScriptFault.{ScriptFault};
 ghost use Rattle.sedengine.specs.Devices.{Gained, GainedWithin, SameSinks, SinksAtEnd, SourceAtEnd};
-ghost use Rattle.sedengine.specs.Run.{TellsFiles, setting_of};
-ghost use Rattle.sededit.specs.Editing.{Edits, GainsAll, GainsBeginning, LeavesAhead, nothing_before, start_over};
+ghost use Rattle.sedengine.specs.ScriptSetting.{TellsFiles, setting_of};
+ghost use Rattle.sededit.specs.Editing.{Edits, GainsAll, GainsBeginning, nothing_before, start_over};
+ghost use Rattle.sededit.specs.Ahead.{LeavesAhead};
 
 use sedengine::{Ended, Engine, Limits};
 use sedscript::{Kind, NO_MEMORY, Script, ScriptFault};

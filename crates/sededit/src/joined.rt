@@ -6,7 +6,8 @@ ghost use Rattle.std.specs.Prelude.{◌≡◌, ◌<◌, ◌⊎◌, [], ◌∷◌
 ghost use Rattle.std.specs.Io.{ReadsAtMost};
 ghost use Rattle.std.specs.Io.KnownBytes.{IsAtEnd, ReadConsumes};
 ghost use Rattle.sedspace.specs.Failures.{FailsAtErr};
-ghost use Rattle.sededit.specs.Opening.{KeepsFiles, WereRefused};
+ghost use Rattle.sededit.specs.Opening.{WereRefused};
+ghost use Rattle.sededit.specs.ToldFiles.{KeepsFiles};
 
 use super::Inputs;
 use sedspace::{Broken, ByteSource};
@@ -48,7 +49,8 @@ impl<'a, I: Inputs> Model for Joined<'a, I> {
 }
 
 impl<'a, I: Inputs> Joined<'a, I> {
-    ghost use Rattle.sededit.specs.FilesInTurn.{Joining, joined_files, left, left_of_current, OpensNext};
+    ghost use Rattle.sededit.specs.FilesInTurn.{Joining, joined_files, left, left_of_current};
+    ghost use Rattle.sededit.specs.Opening.{OpensNext};
 
     /// Makes a source of the files of these names, of which none is opened yet. Where a request for memory is refused,
     /// the inputs are dropped: lend them to keep them.
@@ -187,7 +189,8 @@ impl<'a, I: Inputs> Joined<'a, I> {
 }
 
 impl<'a, I: Inputs> ByteSource for Joined<'a, I> {
-    ghost use Rattle.sededit.specs.FilesInTurn.{Joining, left, left_of_current, Opened};
+    ghost use Rattle.sededit.specs.FilesInTurn.{Joining, left, left_of_current};
+    ghost use Rattle.sededit.specs.Opening.{Opened};
 
     ghost remaining = { λ j. left I.current I.ahead j };
 

@@ -1,7 +1,7 @@
 //! The standard output and files in memory, for tests and for callers that have all bytes at hand.
 ghost use Rattle.std.specs.Prelude.{◌≡◌, ◌+◌, ◌<◌, ◌≤◌, ℕ, Some, length, map, replicate, take, true, IfOk, IfSome, if◌then◌else◌, slice_get, slice_set};
 ghost use Rattle.sedspace.specs.Memory.{new_sink, sink_bytes, sink_failures};
-ghost use Rattle.sededit.specs.Sinks.{AddsName, FailsFlush};
+ghost use Rattle.sededit.specs.AddedSinks.{AddsName, FailsFlush};
 ghost use Rattle.sededit.specs.MemorySinks.{FlushesFirst, contents_of, is_next};
 ghost use Rattle.sededit.specs.MemorySinkLaws.{absent_holds_nothing};
 

@@ -1,6 +1,6 @@
 //! The files that a script writes, as sinks that are added to the standard output.
 ghost use Rattle.std.specs.Prelude.{◌≡◌, ◌≤◌, ℕ, [], IfSome};
-ghost use Rattle.sededit.specs.Sinks.{AddsName, AddsSink, FailsFlush};
+ghost use Rattle.sededit.specs.AddedSinks.{AddsName, AddsSink, FailsFlush};
 
 use sedspace::Outputs;
 

@@ -6,7 +6,8 @@ use Rattle.std.proofs.lemmas.List.{length-map}
 use Rattle.sedscript.specs.declared.types.Command.{Command}
 use Rattle.sedscript.specs.declared.types.Action.{Action}
 use Rattle.sedscript.specs.declared.types.Action.TheVariants.{Block}
-use Rattle.sedspace.specs.Stream.{Stream, TakesAtMost, left, lines_left}
+use Rattle.sedspace.specs.Stream.{Stream, left, lines_left}
+use Rattle.sedspace.specs.Lines.{TakesAtMost}
 use Rattle.sedengine.specs.Limits.{Limits}
 use Rattle.sedengine.specs.State.{Entry, Task, do_at, State, Move, Setting}
 use Rattle.sedengine.specs.Select.{Selection, selects}

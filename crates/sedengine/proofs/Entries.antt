@@ -8,7 +8,8 @@ use Rattle.sedengine.specs.Meters.{Sent, SinkView}
 use Rattle.sedengine.specs.Calls.{Puts}
 use Rattle.sedengine.specs.Ends.{WithinLimits, Within}
 use Rattle.sedengine.specs.Held.{SameLengths}
-use Rattle.sedengine.specs.Run.{InOneCycle, TellsFiles, starts_cycle}
+use Rattle.sedengine.specs.Run.{InOneCycle, starts_cycle}
+use Rattle.sedengine.specs.ScriptSetting.{TellsFiles}
 use Rattle.sedengine.specs.Steps.{Ran, Moves}
 use Rattle.sedengine.specs.Flushing.{CopiesEntry}
 use Rattle.sedengine.specs.declared.ends.Ended.{Ended}

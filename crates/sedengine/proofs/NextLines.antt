@@ -2,7 +2,8 @@
 use Rattle.std.proofs.Common.{◌≡◌, ℕ, ◌+◌, ◌<◌, ◌≤◌, Bool, true, false, List, [], ◌∷◌, ◌++◌, length, Option, Some, None, Result, Ok, Err, refl, subst, sym, ap, ◌∙◌, arith, length-append, append_assoc}
 use Rattle.std.proofs.lemmas.Bool.{false≢true}
 use Rattle.sedspace.specs.Spaces.{Contents}
-use Rattle.sedspace.specs.Stream.{Stream, left, lines_left, GivesLine, LosesPart, NoneLeft, TakesAtMost, TakesLine}
+use Rattle.sedspace.specs.Stream.{Stream, left, lines_left, GivesLine, LosesPart, NoneLeft, TakesLine}
+use Rattle.sedspace.specs.Lines.{TakesAtMost}
 use Rattle.sedspace.specs.declared.lines.Got.{Got}
 use Rattle.sedspace.specs.declared.lines.Got.TheVariants.{Line, End}
 use Rattle.sedengine.specs.Limits.{Limits}
@@ -12,7 +13,8 @@ use Rattle.sedengine.specs.Move.{move, acts, newline, none_left, quietly, then_d
 use Rattle.sedengine.specs.Ends.{WithinLimits, IsCause, named_sink, line_at, reads, takes_turn}
 use Rattle.sedengine.specs.Held.{SameLengths}
 use Rattle.sedengine.specs.Meters.{Sent, SinkView}
-use Rattle.sedengine.specs.Run.{RunState, at_lines, setting, size_of, starts_cycle, lost}
+use Rattle.sedengine.specs.Run.{RunState, at_lines, setting, starts_cycle, lost}
+use Rattle.sedengine.specs.TakenInput.{size_of}
 use Rattle.sedengine.specs.Steps.{Moves, PerformsSteps, Ran, StepsFrom, TakesLines}
 use Rattle.sedengine.specs.Bringing.{Brings, brought}
 use Rattle.sedengine.specs.Choose.{TellsLine}

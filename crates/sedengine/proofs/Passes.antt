@@ -12,7 +12,7 @@ use Rattle.std.specs.Borrow.{GName}
 use Rattle.std.specs.List.{All}
 use Rattle.std.specs.Option.{option_map}
 use Rattle.std.specs.Io.KnownBytes.{prepend_known}
-use Rattle.sedre.specs.Arena.{Written}
+use Rattle.sedre.specs.Written.{Written}
 use Rattle.sedspace.specs.Lines.{is_newline, lines, AreWholeLines, HasNoNewline}
 use Rattle.sedspace.specs.Stream.{Stream, left, lines_left}
 use Rattle.sedspace.proofs.LineLemmas.{lines_at, lines_nil, lines_none}
@@ -22,8 +22,8 @@ use Rattle.sedengine.specs.Move.{newline, none_left, to_sink}
 use Rattle.sedengine.specs.Meters.{Sent, SinkView}
 use Rattle.sedengine.specs.Ends.{WithinLimits, named_sink}
 use Rattle.sedengine.specs.Calls.{Reads}
-use Rattle.sedengine.specs.Devices.{FailedSource}
-use Rattle.sedengine.specs.Run.{RunState, at_lines, finds_in, setting}
+use Rattle.sedengine.specs.Run.{RunState, at_lines, setting, FailedSource}
+use Rattle.sedengine.specs.ScriptSetting.{finds_in}
 use Rattle.sedengine.specs.Passing.{AllowsLines, BlockLeftAlone, BreaksOff, BreaksOffBy, ClearTo, HaltedPassing, IsClear, IsExtent, IsIdleOf, IsLineOf, PassesOver, RangesIdle, StepsPassing, WritesLines, bytes_of, counted_block, engine_after, judged, line_brought}
 use Rattle.sedengine.specs.Inside.{IsConsistent, entries_of, run_of}
 use Rattle.sedengine.specs.declared.block.Extent.{Extent}

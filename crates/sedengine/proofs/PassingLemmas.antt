@@ -8,9 +8,9 @@ use Rattle.std.specs.List.{All}
 use Rattle.std.proofs.lemmas.List.{set-get_or, take-append-le}
 use Rattle.std.proofs.lemmas.List.Elements.{All-cons, All-head, All-nil, All-tail}
 use Rattle.std.proofs.lemmas.Bool.Decides.{nat_tests}
-use Rattle.sedre.specs.Arena.{Written, tree}
+use Rattle.sedre.specs.Written.{Written, tree}
 use Rattle.sedmatch.specs.Matching.{found}
-use Rattle.sedscript.specs.Script.{Program}
+use Rattle.sedscript.specs.Program.{Program}
 use Rattle.sedscript.specs.declared.types.Address.{Address}
 use Rattle.sedscript.specs.declared.types.Address.TheVariants.{Line, Last, Match}
 use Rattle.sedscript.specs.declared.types.Command.{Command}
@@ -28,7 +28,7 @@ use Rattle.sedengine.specs.declared.ends.Ended.{Ended}
 use Rattle.sedengine.specs.declared.idle.Need.{Need}
 use Rattle.sedengine.specs.declared.idle.Need.TheVariants.{NoMatch, OtherNumber, NotLast, Nothing}
 use Rattle.sedengine.proofs.Writing.{slice_get-append_add}
-use Rattle.sedengine.specs.Run.{has_match, match_with_span, search_for, setting_of}
+use Rattle.sedengine.specs.ScriptSetting.{has_match, match_with_span, search_for, setting_of}
 use Rattle.sedengine.specs.Passing.{need_of_address, need_of_substitution, need_of_action, need_of, behind_by, behind, place_at, need_at, judged_by, judged, IsIdleIn, judged_in, Meets, LeftAlone, AllLeftAlone, BlockLeftAlone, FindsAsItSearches, bytes_of, passed_out, passed, moves_of, line_due, Went, CanPass, Passed, StoppedPassing}
 use Rattle.sedengine.proofs.Gains.{to_sink-append}
 use Rattle.sedengine.proofs.Moves.{after-add, written-add, Within-add, move_at, within_none, after_none, written_none}

@@ -3,7 +3,7 @@ use Rattle.std.proofs.Common.{◌≡◌, ℕ, suc, ◌+◌, ◌<◌, List, [], �
 use Rattle.std.proofs.Common.{sym, subst, ap, ◌∙◌, add-one, append_assoc, append-nil}
 use Rattle.std.specs.Prelude.{slice_range}
 use Rattle.std.proofs.Math.Seq.{drop-cons}
-use Rattle.sedmatch.specs.Caps.{Groups}
+use Rattle.sedmatch.specs.Groups.{Groups}
 use Rattle.sedscript.specs.declared.substitution.Piece.{Piece}
 use Rattle.sedscript.specs.declared.substitution.Piece.TheVariants.{Literal as literal, Whole as whole, Group as group}
 use Rattle.sedscript.specs.Replacement.{pieces_in, GroupsWithin}

@@ -4,7 +4,7 @@ use Rattle.std.specs.Prelude.{slice_get, slice_index}
 use Rattle.std.specs.Option.{unwrap_or}
 use Rattle.std.proofs.lemmas.List.{drop_more}
 use Rattle.sedscript.specs.declared.types.Command.{Command}
-use Rattle.sedscript.specs.Script.{Program}
+use Rattle.sedscript.specs.Program.{Program}
 use Rattle.sedscript.specs.declared.types.Action.TheVariants.{Append, ReadFile}
 use Rattle.sedengine.specs.State.{Entry, text, file}
 use Rattle.sedengine.specs.Inside.{AllQueue, Queues, entries_of, entry_by, entry_for}

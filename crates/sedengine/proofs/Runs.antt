@@ -1,14 +1,17 @@
 -- A run: calls that make moves, one after another, up to the end.
 use Rattle.std.proofs.Common.{◌≡◌, ℕ, ◌<◌, ◌+◌, ◌≤◌, inl, inr, true, List, ◌++◌, length, [], Option, Some, None, Ok, Err, subst, sym, ap, ◌∙◌, arith, append_assoc}
 use Rattle.std.specs.Prelude.{max}
-use Rattle.sedspace.specs.Stream.{Stream, left, lines_left, TakesAtMost}
+use Rattle.sedspace.specs.Stream.{Stream, left, lines_left}
+use Rattle.sedspace.specs.Lines.{TakesAtMost}
 use Rattle.sedengine.specs.Limits.{Limits}
 use Rattle.sedengine.specs.State.{State, Setting}
 use Rattle.sedengine.specs.Move.{after, written}
 use Rattle.sedengine.specs.Meters.{Sent, SinkView}
 use Rattle.sedengine.specs.Ends.{WithinLimits, Within, named_sink}
 use Rattle.sedengine.specs.Held.{HoldsAt, SameLengths}
-use Rattle.sedengine.specs.Run.{RunState, setting, setting_of, at_lines, size_of, lost, more_at, LosesPartAfter, Input, input_of, TakesLeft, Ending, EndingInCycle, Cycled, InOneCycle, starts_cycle}
+use Rattle.sedengine.specs.Run.{RunState, setting, at_lines, lost, Input, input_of, TakesLeft, Ending, EndingInCycle, Cycled, InOneCycle, starts_cycle}
+use Rattle.sedengine.specs.ScriptSetting.{setting_of}
+use Rattle.sedengine.specs.TakenInput.{size_of, more_at, LosesPartAfter}
 use Rattle.sedengine.specs.Steps.{Ran, TakesLines, Halted, Steps, KeepsRun}
 use Rattle.sedengine.specs.declared.ends.Ended.{Ended}
 use Rattle.sedengine.specs.declared.ends.Ended.TheVariants.{PatternFull, InputBroken}

@@ -10,11 +10,11 @@ use Rattle.std.proofs.Math.Seq.{drop-append-add}
 use Rattle.std.proofs.lemmas.List.{drop-drop, drop_all}
 use Rattle.std.proofs.lemmas.List.Elements.{All-drop}
 use Rattle.std.proofs.lemmas.List.Splits.{slice_split-cons_yes, slice_split-cons_no, length-slice_split}
-use Rattle.sedspace.specs.Lines.{lines, is_newline, without_empty_last, HasNoNewline}
-use Rattle.sedspace.specs.Stream.{Stream, left, lines_left, GivesLine, NoneLeft, KeepsLines, LosesPart, TakesLine, TakesAtMost, TellsLast}
+use Rattle.sedspace.specs.Lines.{lines, is_newline, without_empty_last, HasNoNewline, TakesAtMost}
+use Rattle.sedspace.specs.Stream.{Stream, left, lines_left, GivesLine, NoneLeft, KeepsLines, LosesPart, TakesLine, TellsLast}
 use Rattle.sedengine.specs.Calls.{Reads}
-use Rattle.sedengine.specs.Devices.{FailedSource}
-use Rattle.sedengine.specs.Run.{LosesPartAfter, size_of}
+use Rattle.sedengine.specs.Run.{FailedSource}
+use Rattle.sedengine.specs.TakenInput.{LosesPartAfter, size_of}
 use Rattle.sedengine.specs.Steps.{TakesLines}
 use Rattle.sedengine.specs.declared.ends.Ended.{Ended}
 use Rattle.sedengine.specs.declared.ends.Ended.TheVariants.{InputBroken}

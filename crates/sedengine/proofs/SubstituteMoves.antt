@@ -2,7 +2,7 @@
 use Rattle.std.proofs.Common.{◌≡◌, ℕ, zero, suc, ◌<◌, ◌≤◌, Bool, true, false, cond, List, [], ◌∷◌, length, get_or, Option, Some, Result, Ok, Err, refl, subst, sym, ap, ◌∙◌, arith, Vec, Global}
 use Rattle.std.specs.Prelude.{slice_get}
 use Rattle.std.specs.Option.{option_or}
-use Rattle.sedre.specs.Arena.{Written}
+use Rattle.sedre.specs.Written.{Written}
 use Rattle.sedmatch.specs.SearchRoom.{SearchRoom}
 use Rattle.sedmatch.specs.Occurrences.{KeepsRoom, RoomFor}
 use Rattle.sedmatch.specs.declared.occurrences.Occurrences.{Occurrences}
@@ -17,7 +17,8 @@ use Rattle.sedengine.specs.Ends.{WithinLimits, Leads, reaches, line_at}
 use Rattle.sedengine.specs.Held.{SameLengths}
 use Rattle.sedengine.specs.Meters.{Sent, SinkView}
 use Rattle.sedengine.specs.Calls.{Puts}
-use Rattle.sedengine.specs.Run.{RunState, at_lines, search_in, setting}
+use Rattle.sedengine.specs.Run.{RunState, at_lines, setting}
+use Rattle.sedengine.specs.ScriptSetting.{search_in}
 use Rattle.sedengine.specs.Steps.{Reaches, Moves, Performs}
 use Rattle.sedengine.specs.SubstituteCalls.{Makes, ReplacesIn, same_but_replaced}
 use Rattle.sedengine.specs.Fitting.{RoomToSeek}

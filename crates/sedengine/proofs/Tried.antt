@@ -3,7 +3,7 @@ use Rattle.std.proofs.Common.{◌≡◌, ℕ, ◌<◌, Bool, List, length, get_o
 use Rattle.std.specs.Prelude.{option_and_then}
 use Rattle.std.specs.Option.{option_or}
 use Rattle.std.proofs.lemmas.Option.{slice_get_read}
-use Rattle.sedre.specs.Arena.{Written}
+use Rattle.sedre.specs.Written.{Written}
 use Rattle.sedscript.specs.Ranges.{AddressWithin, IsOneOf}
 use Rattle.sedscript.specs.declared.types.Address.TheVariants.{Match}
 use Rattle.sedscript.specs.declared.substitution.Substitution.{Substitution}
@@ -13,7 +13,8 @@ use Rattle.sedengine.specs.Inside.{run_of, IsConsistent}
 use Rattle.std.specs.Prelude.{slice_get, slice_set}
 use Rattle.std.proofs.lemmas.List.{set-get_or}
 use Rattle.sedengine.specs.SubstituteParts.{Replaces}
-use Rattle.sedengine.specs.Run.{RunState, finds_in, search_for, search_in}
+use Rattle.sedengine.specs.Run.{RunState}
+use Rattle.sedengine.specs.ScriptSetting.{finds_in, search_for, search_in}
 use Rattle.sedengine.specs.Select.{Answer, answer, stands_for}
 use Rattle.sedengine.specs.Substitute.{to_replace, occurrences}
 use Rattle.sedengine.specs.declared.machine.Machine.TheInside.{Inside}

@@ -2,8 +2,10 @@
 -- What the engine's calls do to the devices that they are given.
 use Rattle.std.specs.Prelude.{◌≡◌, ℕ, ◌<◌, ◌≤◌, max, Option, Some, None, Result, Ok, Err, OnOk, List, [], length, take, slice_get}
 use Rattle.std.specs.Borrow.{GName}
-use Rattle.sedspace.specs.Stream.{Stream, TakesAtMost}
-use Rattle.sedengine.specs.Devices.{FailedSink, FailedSource}
+use Rattle.sedspace.specs.Stream.{Stream}
+use Rattle.sedspace.specs.Lines.{TakesAtMost}
+use Rattle.sedengine.specs.Devices.{FailedSink}
+use Rattle.sedengine.specs.Run.{FailedSource}
 use Rattle.sedengine.specs.Ends.{named_sink}
 use Rattle.sedengine.specs.Meters.{SinkView, FullSink}
 use Rattle.sedengine.specs.Move.{to_sink}

@@ -7,7 +7,8 @@ use Rattle.sedscript.specs.declared.types.Command.{Command}
 use Rattle.sedengine.specs.Select.{Current, Answer, Selection, answer, ends_at_once, selects}
 use Rattle.sedengine.specs.State.{do_at}
 use Rattle.sedengine.specs.Ends.{names_last}
-use Rattle.sedengine.specs.Run.{RunState, finds_in}
+use Rattle.sedengine.specs.Run.{RunState}
+use Rattle.sedengine.specs.ScriptSetting.{finds_in}
 use Rattle.sedengine.specs.declared.ends.Ended.{Ended}
 use Rattle.sedengine.specs.declared.ends.Ended.TheVariants.{NoPrevious, InputBroken}
 use Rattle.sedengine.specs.declared.select.Chosen.{Chosen}

@@ -1,10 +1,8 @@
 -- What a run does to its devices: the bytes that sinks gain, and the failures, whether devices tell their bytes or not
 -- (this project's own).
-use Rattle.std.specs.Prelude.{◌≡◌, ◌≢◌, ℕ, ◌+◌, ◌≤◌, Option, Some, None, Result, Ok, Err, IfSome, List, [], ◌∷◌, length, nat_eq, if◌then◌else◌}
-use Rattle.std.specs.Borrow.{GName}
+use Rattle.std.specs.Prelude.{◌≡◌, ◌≢◌, ℕ, ◌+◌, ◌≤◌, Option, Some, None, Result, Err, IfSome, List, [], ◌∷◌, length, nat_eq, if◌then◌else◌}
 use Rattle.std.specs.Io.KnownBytes.{Appends}
 use Rattle.sedspace.specs.Failures.{Rose}
-use Rattle.sedspace.specs.Stream.{Stream}
 use Rattle.sedengine.specs.declared.ends.Ended.{Ended}
 use Rattle.sedengine.specs.declared.ends.Ended.TheVariants.{InputBroken, OutputBroken, OutputFull}
 
@@ -49,15 +47,6 @@ SinksAtEnd most old new r = FailedSink old new r × LimitIsSet most r
 abbrev pub SourceAtEnd : ℕ → ℕ → Ended → Type 0
 SourceAtEnd old new InputBroken = Rose old new
 SourceAtEnd old new other = new ≡ old
-
--- The source hasn't failed where the run goes on; at an end it has exactly where the end says so.
-abbrev pub FailedSource : {T : Type 0} → ℕ → ℕ → Result T Ended → Type 0
-FailedSource old new (Ok x) = new ≡ old
-FailedSource old new (Err end) = SourceAtEnd old new end
-
--- Lines are read ahead as far as before, and the source holds the same references.
-abbrev pub SameLines : {R : Type 0} → (R → List GName) → Stream R → Stream R → Type 0
-SameLines reference old new = (new.look ≡ old.look) × (reference new.source ≡ reference old.source)
 
 -- There are as many sinks as before, and the files among them have the same names.
 abbrev pub SameSinks : {O : Type 0} → (O → ℕ) → (O → List (List ℕ)) → O → O → Type 0

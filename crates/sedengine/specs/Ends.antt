@@ -82,7 +82,7 @@ named_sink (OutputBroken k) = Some k
 named_sink (OutputFull k) = Some k
 named_sink other = None
 
--- The cause of an end, at the state where it comes. For a broken or a full output it is in what the sinks gained.
+-- The cause of an end that names no sink, at the state where it comes; `BrokenOff` is that of a broken or a full output.
 abbrev pub IsCause : Limits → Setting → State → Ended → Type 0
 IsCause l g s Done = s.tasks ≡ []
 IsCause l g s (PatternFull n) =
@@ -94,8 +94,7 @@ IsCause l g s (QueueFull n) =
 IsCause l g s TurnsSpent = (s.turns ≡ l.turns) × (takes_turn g s s.tasks ≡ true)
 IsCause l g s (NoPrevious n) = (n ≡ s.number) × HasTurn l g s × (reaches s.tasks ≡ true) × (move g s ≡ None)
 IsCause l g s InputBroken = reads g s.tasks ≡ true
-IsCause l g s (OutputBroken k) = Unit {0}
-IsCause l g s (OutputFull k) = Unit {0}
+IsCause l g s other = ⊥
 
 -- The end comes after t moves. The sinks have gained all that these moves write.
 pub record Whole (l : Limits) (g : Setting) (s : State) (gained : List (ℕ × ℕ) → Type 0) (end : Ended) (t : ℕ) : Type 0 where
@@ -103,7 +102,7 @@ pub record Whole (l : Limits) (g : Setting) (s : State) (gained : List (ℕ × �
   pub sinks : gained (written g s t)
   pub cause : IsCause l g (after g s t) end
 
--- The end comes in the next move. The sinks have gained the first b of the bytes, and the next one is for sink k.
+-- The end comes in the next move, and names sink k. The sinks have gained the first b of the bytes, and the next one is for it.
 pub record BrokenOff (l : Limits) (g : Setting) (s : State) (gained : List (ℕ × ℕ) → Type 0) (k : ℕ) (t : ℕ) : Type 0 where
   pub within : Within l g s (suc t)
   pub b : ℕ

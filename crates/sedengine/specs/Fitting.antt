@@ -2,7 +2,7 @@
 -- What seeks the expressions of a script.
 use Rattle.std.specs.Prelude.{◌≡◌, ℕ, ◌<◌, ◌≤◌, List, length}
 use Rattle.std.specs.List.{All}
-use Rattle.sedre.specs.Arena.{Written}
+use Rattle.sedre.specs.Written.{Written}
 use Rattle.sedmatch.specs.declared.occurrences.Occurrences.{Occurrences}
 use Rattle.sedmatch.specs.Occurrences.{RoomFor}
 use Rattle.sedscript.specs.declared.substitution.Substitution.{Substitution}

@@ -6,7 +6,7 @@ use Rattle.sedscript.specs.declared.types.Command.{Command}
 use Rattle.sedscript.specs.declared.types.Action.{Action}
 use Rattle.sedscript.specs.declared.types.Action.TheVariants.{Append, Exchange, Hold, HoldMore, ReadFile}
 use Rattle.sedscript.specs.Ranges.{IsOneOf}
-use Rattle.sedscript.specs.Script.{Program}
+use Rattle.sedscript.specs.Program.{Program}
 use Rattle.sedengine.specs.State.{Entry, text, file, Task, begin, rebegin, do_at, print_pattern, flush}
 use Rattle.sedengine.specs.Run.{RunState}
 use Rattle.sedengine.specs.Fitting.{AllFit, RoomToSeek, Seek}

@@ -9,6 +9,7 @@ pub mod Held
 pub mod Holding
 pub mod Inside
 pub mod Limits
+pub mod LimitRanges
 pub mod Listing
 pub mod ListingParts
 pub mod Meters
@@ -16,6 +17,8 @@ pub mod Move
 pub mod Parts
 pub mod Passing
 pub mod Queueing
+pub mod ScriptSetting
+pub mod TakenInput
 pub mod Run
 pub mod Select
 pub mod State

@@ -1,7 +1,7 @@
 -- Private to the proofs: no contract of a public item cites what stands here.
 -- The parts of a machine at the start of a run.
 use Rattle.std.specs.Prelude.{◌≡◌, ◌<◌, ◌≤◌, false, [], length, replicate, IfSome}
-use Rattle.sedscript.specs.Script.{Program}
+use Rattle.sedscript.specs.Program.{Program}
 use Rattle.sedengine.specs.Limits.{Limits}
 use Rattle.sedengine.specs.Fitting.{AllFit, RoomToSeek, Seek}
 use Rattle.sedengine.specs.Inside.{FillsHold}

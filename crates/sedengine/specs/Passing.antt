@@ -11,8 +11,8 @@ use Rattle.sedscript.specs.declared.types.Action.{Action}
 use Rattle.sedscript.specs.declared.types.Action.TheVariants.{Block, Branch, Substitute, Test}
 use Rattle.sedscript.specs.declared.substitution.Substitution.{Substitution}
 use Rattle.sedscript.specs.Ranges.{IsOneOf}
-use Rattle.sedscript.specs.Script.{Program}
-use Rattle.sedre.specs.Arena.{Written}
+use Rattle.sedscript.specs.Program.{Program}
+use Rattle.sedre.specs.Written.{Written}
 use Rattle.sedspace.specs.Lines.{lines, AreWholeLines, HasNoNewline}
 use Rattle.sedengine.specs.Limits.{Limits}
 use Rattle.sedengine.specs.State.{begin, do_at, State, Setting}
@@ -21,7 +21,9 @@ use Rattle.sedengine.specs.Calls.{WritesPart}
 use Rattle.sedengine.specs.declared.meter.Cut.{Cut}
 use Rattle.sedengine.specs.Ends.{Cause, WithinLimits, Within, named_sink}
 use Rattle.sedengine.specs.Held.{HoldsAt}
-use Rattle.sedengine.specs.Run.{RunState, LosesPartAfter, at_lines, finds_in, lost, size_of}
+use Rattle.sedengine.specs.Run.{RunState, at_lines, lost}
+use Rattle.sedengine.specs.TakenInput.{LosesPartAfter, size_of}
+use Rattle.sedengine.specs.ScriptSetting.{finds_in}
 use Rattle.sedengine.specs.Steps.{TakesLines}
 use Rattle.sedengine.specs.declared.ends.Ended.{Ended}
 use Rattle.sedengine.specs.declared.idle.Need.{Need}

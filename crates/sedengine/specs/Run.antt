@@ -1,20 +1,19 @@
 -- The engine as its callers see it, and how a run of it ends (this project's own).
-use Rattle.std.specs.Prelude.{◌≡◌, ℕ, ◌+◌, ◌<◌, ◌≤◌, Bool, true, false, Option, Some, None, Result, Ok, Err, List, [], ◌∷◌, ◌++◌, length, drop, is_some, slice_get, get_or, IfSome, ⊤}
-use Rattle.sedre.specs.Arena.{Written, tree}
-use Rattle.sedmatch.specs.Matching.{found, report}
-use Rattle.sedscript.specs.Script.{Program}
-use Rattle.sedspace.specs.Lines.{HasNoNewline}
-use Rattle.sedspace.specs.Stream.{Stream, TakesAtMost, left}
+use Rattle.std.specs.Prelude.{◌≡◌, ℕ, ◌+◌, ◌<◌, Bool, true, false, Option, Some, None, Result, Ok, Err, List, ◌∷◌, length, get_or, IfSome}
+use Rattle.std.specs.Borrow.{GName}
+use Rattle.sedscript.specs.Program.{Program}
+use Rattle.sedspace.specs.Stream.{Stream, left}
 use Rattle.sedengine.specs.Limits.{Limits}
 use Rattle.sedengine.specs.State.{Task, begin, rebegin, State, Setting}
-use Rattle.sedengine.specs.Substitute.{Occurrence}
 use Rattle.sedengine.specs.Move.{after, written}
-use Rattle.sedengine.specs.Devices.{part, GainedWithin}
+use Rattle.sedengine.specs.Devices.{part, GainedWithin, SourceAtEnd}
 use Rattle.sedengine.specs.Ends.{Within, Cause, named_sink}
 use Rattle.sedengine.specs.Held.{HoldsAt}
 use Rattle.sedengine.specs.declared.ends.Ended.{Ended}
 use Rattle.sedengine.specs.declared.ends.Ended.TheVariants.{PatternFull, InputBroken}
 use Rattle.sedengine.specs.declared.ends.Progress.{Progress}
+use Rattle.sedengine.specs.TakenInput.{BreaksInLine, LosesPartAfter, TakesInput, more_at, size_of}
+use Rattle.sedengine.specs.ScriptSetting.{setting_of}
 use Rattle.sedengine.specs.declared.ends.Progress.TheVariants as progress
 
 -- an engine: its script, its limits, its state without the lines, how many bytes each sink has gained since it was opened,
@@ -39,85 +38,15 @@ pub record Sends (e e' : RunState) (old new : ℕ → Option (List ℕ)) (r : Re
 abbrev pub at_lines : RunState → List (List ℕ) → State
 at_lines e ls = record e.state { lines = ls }
 
--- whether an expression has a match in a text (XBD 9.1)
-abbrev pub has_match : Option Written → List ℕ → Bool
-has_match None w = false
-has_match (Some e) w = is_some (found (tree e) w 0)
-
--- whether the expression of a number has a match in a text
-abbrev pub finds_in : List Written → ℕ → List ℕ → Bool
-finds_in expressions k w = has_match (slice_get expressions k) w
-
--- the match of an expression in a text, by its span, with its groups (XBD 9.1)
-abbrev pub match_with_span : Written → List ℕ → Option (ℕ × ℕ) → Option Occurrence
-match_with_span e w None = None
-match_with_span e w (Some span) = Some (record { start = span.0; end = span.1; groups = report (tree e) w span.0 span.1 })
-
--- the leftmost-longest match of an expression that begins at a place or later
-abbrev pub search_for : Option Written → List ℕ → ℕ → Option Occurrence
-search_for None w from = None
-search_for (Some e) w from = match_with_span e w (found (tree e) w from)
-
--- the leftmost-longest match of the expression of a number that begins at a place or later
-abbrev pub search_in : List Written → ℕ → List ℕ → ℕ → Option Occurrence
-search_in expressions k w from = search_for (slice_get expressions k) w from
-
-abbrev pub setting_of : Program → (ℕ → List ℕ) → Setting
-setting_of p files = record {
-  commands = p.commands;
-  texts = p.texts;
-  substitutions = p.substitutions;
-  tables = p.tables;
-  finds = finds_in p.expressions;
-  search = search_in p.expressions;
-  quiet = p.quiet;
-  files = files;
-}
-
 -- what doesn't change in its run
 abbrev pub setting : RunState → (ℕ → List ℕ) → Setting
 setting e files = setting_of e.script files
-
--- the texts tell these files
-abbrev pub TellsFiles : (ℕ → Option (List ℕ)) → (ℕ → List ℕ) → Type 0
-TellsFiles texts files = (k : ℕ) → texts k ≡ Some (files k)
-
--- the bytes of lines, a newline counted with each
-abbrev pub size_of : List (List ℕ) → ℕ
-size_of [] = 0
-size_of (line ∷ lines) = length line + 1 + size_of lines
-
--- The first t moves took these lines. Their bytes were taken from the source, and at most `more` besides.
-pub record TakesInput (g : Setting) (s : State) (old new : Option (List ℕ)) (more : ℕ) (t : ℕ) : Type 0 where
-  pub lines : List (List ℕ)
-  pub are : s.lines ≡ lines ++ (after g s t).lines
-  pub bytes : TakesAtMost old new (size_of lines + more)
 
 -- how many bytes of a line that isn't given may be gone at an end
 abbrev pub lost : Limits → Ended → ℕ
 lost l (PatternFull n) = l.space
 lost l InputBroken = l.space
 lost l other = 0
-
--- How many bytes may be taken besides the lines: those that are read ahead and, where the run may have stopped in the middle
--- of a line, those of that line, at most one more than a space holds.
-abbrev pub more_at : Limits → Ended → ℕ
-more_at l (PatternFull n) = l.space + 1 + l.look
-more_at l InputBroken = l.space + 1 + l.look
-more_at l other = l.look
-
--- known bytes lose at most n + m from the front, and of these what comes after the first n holds no newline
-abbrev pub LosesPartAfter : Option (List ℕ) → Option (List ℕ) → ℕ → ℕ → Type 0
-LosesPartAfter None new n m = ⊤
-LosesPartAfter (Some xs) None n m = ⊥
-LosesPartAfter (Some xs) (Some ys) n m =
-    (gone : List ℕ) × (xs ≡ gone ++ ys) × HasNoNewline (drop n gone) × (length gone ≤ n + m)
-
--- Where the source failed, what it gave after the last line that the first t moves took holds no newline: it is a part of
--- one line, of at most `space` bytes.
-abbrev pub BreaksInLine : Setting → State → Option (List ℕ) → Option (List ℕ) → ℕ → ℕ → Type 0
-BreaksInLine g s old new space t =
-    (lines : List (List ℕ)) × (s.lines ≡ lines ++ (after g s t).lines) × LosesPartAfter old new (size_of lines) space
 
 -- what is still to come: from the source, and in all, with the bytes that are ahead
 pub record Input : Type 0 where
@@ -194,3 +123,12 @@ outcome (progress.Ended end) = Err end
 pub record SameRun (old new : RunState) : Type 0 where
   pub script : new.script ≡ old.script
   pub limits : new.limits ≡ old.limits
+
+-- The source hasn't failed where the run goes on; at an end it has exactly where the end says so.
+abbrev pub FailedSource : {T : Type 0} → ℕ → ℕ → Result T Ended → Type 0
+FailedSource old new (Ok x) = new ≡ old
+FailedSource old new (Err end) = SourceAtEnd old new end
+
+-- Lines are read ahead as far as before, and the source holds the same references.
+abbrev pub SameLines : {R : Type 0} → (R → List GName) → Stream R → Stream R → Type 0
+SameLines reference old new = (new.look ≡ old.look) × (reference new.source ≡ reference old.source)

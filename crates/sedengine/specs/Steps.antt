@@ -1,7 +1,8 @@
 -- Private to the proofs: no contract of a public item cites what stands here.
 -- Moves of the engine, and what its calls promise one another.
 use Rattle.std.specs.Prelude.{◌≡◌, ℕ, true, ◌+◌, ◌*◌, ◌-◌, ◌<◌, Bool, false, Option, Some, None, Result, Ok, Err, List, [], ◌∷◌, ◌++◌}
-use Rattle.sedspace.specs.Stream.{Stream, left, lines_left, TakesAtMost}
+use Rattle.sedspace.specs.Stream.{Stream, left, lines_left}
+use Rattle.sedspace.specs.Lines.{TakesAtMost}
 use Rattle.sedscript.specs.declared.types.Command.{Command}
 use Rattle.sedscript.specs.declared.types.Action.{Action}
 use Rattle.sedscript.specs.declared.types.Action.TheVariants.{Append, AppendHold, AppendNext, Block, Branch, CopyHold, Exchange, Hold, HoldMore, NextLine, Quit, ReadFile, Test, Transliterate}
@@ -11,7 +12,8 @@ use Rattle.sedengine.specs.Meters.{Sent, SinkView}
 use Rattle.sedengine.specs.Move.{acts, move, after, written}
 use Rattle.sedengine.specs.Ends.{WithinLimits, HasTurn, Within, Cause, named_sink, reaches, reads}
 use Rattle.sedengine.specs.Held.{HoldsAt, SameLengths}
-use Rattle.sedengine.specs.Run.{RunState, InOneCycle, LosesPartAfter, at_lines, lost, setting, size_of}
+use Rattle.sedengine.specs.Run.{RunState, InOneCycle, at_lines, lost, setting}
+use Rattle.sedengine.specs.TakenInput.{LosesPartAfter, size_of}
 use Rattle.sedengine.specs.declared.ends.Ended.{Ended}
 
 -- Moves were made, which led to this state. Only the last of them may have led to the start of a cycle.

@@ -1,9 +1,8 @@
 -- What the function `s` makes of a text (XCU sed, "s/BRE/replacement/flags").
 use Rattle.std.specs.Prelude.{ℕ, zero, suc, ◌+◌, ◌-◌, List, [], ◌∷◌, ◌++◌, Bool, Option, Some, None, drop, take}
 use Rattle.std.specs.Prelude.{slice_range, if◌then◌else◌}
-use Rattle.sedmatch.specs.Caps.{Groups}
+use Rattle.sedmatch.specs.Groups.{Groups, span_of, part_of}
 use Rattle.sedmatch.specs.NextMatch.{next_match}
-use Rattle.sedmatch.specs.Parts.{span_of, part_of}
 use Rattle.sedscript.specs.declared.substitution.Piece.{Piece}
 use Rattle.sedscript.specs.declared.substitution.Piece.TheVariants.{Literal as literal, Whole as whole, Group as group}
 

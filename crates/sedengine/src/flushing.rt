@@ -6,7 +6,7 @@ ghost use Rattle.sedengine.specs.Meters.{Sent};
 ghost use Rattle.sedengine.specs.Calls.{Delivers};
 ghost use Rattle.sedengine.specs.Ends.{WithinLimits};
 ghost use Rattle.sedengine.specs.Held.{SameLengths};
-ghost use Rattle.sedengine.specs.Run.{TellsFiles};
+ghost use Rattle.sedengine.specs.ScriptSetting.{TellsFiles};
 ghost use Rattle.sedengine.specs.Inside.{AllQueue, Queues, entries_of, entry_by};
 ghost use Rattle.sedengine.specs.Flushing.{CopiesEntry, Flushes};
 

@@ -1,6 +1,6 @@
 //! The limits of a run.
 ghost use Rattle.std.specs.Prelude.{◌≡◌, ◌≤◌, ◌<◌, ◌^◌, IfSome, IsNone, Some};
-ghost use Rattle.sedengine.specs.Limits.{limits_of, AreLimits};
+ghost use Rattle.sedengine.specs.LimitRanges.{limits_of, AreLimits};
 
 use std::marker::Model;
 
@@ -16,7 +16,8 @@ pub struct Limits {
 }
 
 impl Model for Limits {
-    ghost use Rattle.sedengine.specs.Limits.{Limits, AreLimits, limits_of};
+    ghost use Rattle.sedengine.specs.Limits.{Limits};
+    ghost use Rattle.sedengine.specs.LimitRanges.{AreLimits, limits_of};
 
     ghost Value = { Limits };
 

@@ -1,17 +1,17 @@
 //! The command `s` (XCU sed, "Editing Commands in sed"): which occurrences it replaces, and the text that it makes.
 ghost use Rattle.std.specs.Prelude.{◌≡◌, ◌+◌, ◌-◌, ◌*◌, ◌<◌, ◌≤◌, [], ◌∷◌, length, true, Some, None, IfSome, IsTrue};
-ghost use Rattle.sedre.specs.Arena.{tree};
+ghost use Rattle.sedre.specs.Written.{tree};
 ghost use Rattle.sedmatch.specs.Costs.{Pays};
 ghost use Rattle.sedre.specs.Steps.{Takes};
 ghost use Rattle.sedmatch.specs.Following.{EndsWithin, LiesOn};
 ghost use Rattle.sedmatch.specs.Occurrences.{KeepsRoom, Serves, ServesOn, owed, owed_after};
 ghost use Rattle.sedmatch.specs.SearchRoom.{FitInto};
 ghost use Rattle.sedmatch.specs.Matching.{report};
-ghost use Rattle.sedmatch.specs.Parts.{part_of, span_of};
+ghost use Rattle.sedmatch.specs.Groups.{part_of, span_of};
 ghost use Rattle.sedmatch.specs.Spans.{Spans};
 ghost use Rattle.sedscript.specs.Replacement.{GroupsWithin, pieces_in};
 ghost use Rattle.sedengine.specs.Substitute.{to_replace, occurrences, put_for, replaced_from};
-ghost use Rattle.sedengine.specs.Run.{search_for};
+ghost use Rattle.sedengine.specs.ScriptSetting.{search_for};
 ghost use Rattle.sedengine.specs.SubstituteParts.{Appends, GroupsIn, GroupsOf, IsNext, Replaces};
 ghost use Rattle.sedengine.specs.SubstituteParts.{SeeksAsBefore, ServesAfter, Skips, has_group, later_cost, owed_skipped};
 ghost use Rattle.sedengine.specs.SubstituteParts.{owed_groups, owed_groups_after, pending, told_cost, with_groups};

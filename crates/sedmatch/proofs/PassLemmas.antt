@@ -3,10 +3,12 @@ use Rattle.std.proofs.Common.{◌≡◌, ◌∙◌, ℕ, ◌+◌, ◌-◌, ◌*�
 use Rattle.std.specs.Prelude.{slice_set}
 use Rattle.std.proofs.lemmas.Bool.{cases_lt}
 use Rattle.std.proofs.Math.Nat.{lt-div-mul-add}
-use Rattle.sedre.specs.Arena.{IsExpr, Written, tree}
+use Rattle.sedre.specs.Arena.{IsExpr}
+use Rattle.sedre.specs.Written.{Written, tree}
 use Rattle.sedre.specs.Steps.{TakesAtLeast}
 use Rattle.sedre.specs.Tree.{Tree}
-use Rattle.sedtext.specs.Caps.{IsReport, no_groups}
+use Rattle.sedtext.specs.Caps.{IsReport}
+use Rattle.sedtext.specs.Groups.{no_groups}
 use Rattle.sedtext.specs.Spans.{SomeFound, Spans}
 use Rattle.sedtext.proofs.GroupLemmas.{Caps-none, no_groups_at}
 use Rattle.sedtext.specs.Needed.{Narrowed}

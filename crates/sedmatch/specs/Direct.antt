@@ -2,7 +2,7 @@
 -- Expressions whose matches a look at the text tells.
 use Rattle.std.specs.Prelude.{◌≡◌, ℕ, ◌+◌, ◌-◌, ◌*◌, ◌<◌, ◌≤◌, ◌↔◌, Bool, List, length, slice_get, Option, Some, None, IsTrue}
 use Rattle.memchr.specs.Find.{OccursAt}
-use Rattle.sedre.specs.Arena.{Written, tree}
+use Rattle.sedre.specs.Written.{Written, tree}
 use Rattle.sedre.specs.Steps.{TakesAtLeast}
 use Rattle.sedre.specs.Tree.{Tree}
 use Rattle.sedtext.specs.Bytes.{AreBytes, FirstFrom}

@@ -1,6 +1,6 @@
 pub use Rattle.sedtext.specs.Spans
 pub use Rattle.sedtext.specs.Caps
-pub use Rattle.sedtext.specs.Parts
+pub use Rattle.sedtext.specs.Groups
 pub use Rattle.sedtext.specs.Answer
 pub use Rattle.sedtext.specs.Matching
 pub use Rattle.sedtext.specs.SearchRoom

@@ -6,7 +6,8 @@
 //! has to be found out of the expression in a search. What a search costs falls with the place from which it starts: all
 //! matches of a text together cost no more than one pass over it.
 ghost use Rattle.std.specs.Prelude.{◌≡◌, ℕ, ◌+◌, ◌-◌, ◌*◌, ◌<◌, ◌≤◌, ◌↔◌, length, slice_get, Some, IfOk, IfSome, IsTrue};
-ghost use Rattle.sedre.specs.Arena.{IsArena, Written, tree};
+ghost use Rattle.sedre.specs.Arena.{IsArena};
+ghost use Rattle.sedre.specs.Written.{Written, tree};
 ghost use Rattle.sedre.specs.Steps.{Takes, Counted, TakesAtLeast};
 ghost use Rattle.sedre.specs.declared.types.Node.TheVariants.{Seq, Set};
 ghost use Rattle.sedtext.specs.Answer.{SpanAnswer};

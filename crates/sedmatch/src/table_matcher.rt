@@ -1,12 +1,12 @@
 //! An expression that is sought many times.
 ghost use Rattle.std.specs.Prelude.{◌≡◌, ℕ, ◌+◌, ◌-◌, ◌*◌, ◌<◌, ◌≤◌, ◌↔◌, length, IfOk, IfSome, IsTrue, is_some, nat_lt, if◌then◌else◌, None, List};
 ghost use Rattle.std.specs.Option.{unwrap_or};
-ghost use Rattle.sedre.specs.Arena.{Written, tree};
+ghost use Rattle.sedre.specs.Written.{Written, tree};
 ghost use Rattle.sedre.specs.Steps.{Takes, TakesAtLeast};
 ghost use Rattle.sedtext.specs.Costs.{Pays};
 ghost use Rattle.sedtext.specs.Following.{CanEndEarly, EndsWithin, LiesOn, Occurs, PassesOver, bytes_passed, next_span};
 ghost use Rattle.sedtext.specs.Matching.{found, report};
-ghost use Rattle.sedtext.specs.Parts.{SpanIn, span_of};
+ghost use Rattle.sedtext.specs.Groups.{SpanIn, span_of};
 ghost use Rattle.sedtext.specs.SearchRoom.{FitInto};
 ghost use Rattle.sedtext.specs.Spans.{SomeFound, Spans};
 ghost use Rattle.sedmatch.specs.Candidates.{NoMatchBefore};
@@ -49,7 +49,7 @@ pub struct TableMatcher {
 }
 
 impl Model for TableMatcher {
-    ghost use Rattle.sedre.specs.Arena.{Written};
+    ghost use Rattle.sedre.specs.Written.{Written};
 
     ghost Value = { Written };
 

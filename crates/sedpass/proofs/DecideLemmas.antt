@@ -8,13 +8,15 @@ use Rattle.std.proofs.lemmas.List.{get_or-set_other, length-set}
 use Rattle.std.proofs.Math.Dec.{ltb}
 use Rattle.std.proofs.Math.Nat.{mul-le-mul_right}
 use Rattle.sedre.specs.Tree.{Tree, empty, set, begin, end, seq, alt, group, star, opt}
-use Rattle.sedre.specs.Arena.{Written, IsExpr, IsPart, AreRanges, tree_at, tree}
+use Rattle.sedre.specs.Arena.{IsExpr, IsPart, AreRanges}
+use Rattle.sedre.specs.Written.{Written, tree_at, tree}
 use Rattle.sedre.specs.declared.types.Node.{Node}
 use Rattle.sedre.specs.Steps.{TakesAtLeast}
 use Rattle.sedre.specs.declared.types.Node.TheVariants.{Empty, Set, Begin, End, Seq, Alt, Group, Star, Opt}
 use Rattle.sedre.proofs.TreeLemmas.{tree_at-node}
 use Rattle.sedtext.proofs.NodeLemmas.{node_at}
-use Rattle.sedtext.specs.Caps.{Groups, LastCut, LastCopy}
+use Rattle.sedtext.specs.Caps.{LastCut, LastCopy}
+use Rattle.sedtext.specs.Groups.{Groups}
 use Rattle.sedtext.specs.Reach.{At, one_start}
 use Rattle.sedre.specs.Arena.{IsArena}
 use Rattle.sedtext.specs.Spans.{Spans, Copies, no_copy}

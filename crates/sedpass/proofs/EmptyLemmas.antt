@@ -2,8 +2,10 @@
 use Rattle.std.proofs.Common.{◌≡◌, ℕ, zero, suc, ◌+◌, ◌<◌, ◌≤◌, Bool, true, false, true≢false, List, [], ◌∷◌, Some, refl, sym, ◌∙◌, ap, subst, arith}
 use Rattle.std.proofs.lemmas.Option.{same_Some, none-some}
 use Rattle.std.specs.Prelude.{slice_get}
-use Rattle.sedre.specs.Arena.{IsArena, IsExpr, IsPart, HasTwoParts, FollowsParts, GroupsWithin, tree_at, tree_within}
-use Rattle.sedre.specs.Tree.{empty, size}
+use Rattle.sedre.specs.Arena.{IsArena, IsExpr, IsPart, HasTwoParts, FollowsParts, GroupsWithin}
+use Rattle.sedre.specs.Written.{tree_at, tree_within}
+use Rattle.sedre.specs.Tree.{empty}
+use Rattle.sedre.specs.Sizes.{size}
 use Rattle.sedre.specs.declared.types.Node.{Node}
 use Rattle.sedre.specs.declared.types.Node.TheVariants.{Empty, Set, Group}
 use Rattle.sedpass.specs.declared.nodes.Facts.{Facts}

@@ -1,7 +1,8 @@
 -- What a table says, and what is kept of a pass, depends on the expression alone: made ready once more, it holds as before.
 use Rattle.std.proofs.Common.{◌≡◌, ℕ, ◌+◌, ◌-◌, ◌*◌, ◌<◌, Bool, List, length, ap, sym, ◌∙◌, subst, arith}
 use Rattle.std.specs.Prelude.{reverse, slice_index_or}
-use Rattle.sedre.specs.Arena.{Written, IsExpr}
+use Rattle.sedre.specs.Arena.{IsExpr}
+use Rattle.sedre.specs.Written.{Written}
 use Rattle.sedtext.specs.Words.{row_of}
 use Rattle.sedpass.specs.Cells.{IsLayout, IsColumn}
 use Rattle.sedpass.specs.Find.{IsSweep}

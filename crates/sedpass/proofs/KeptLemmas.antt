@@ -5,7 +5,8 @@ use Rattle.std.proofs.Math.Bool.{beq}
 use Rattle.std.proofs.lemmas.List.{length-reverse}
 use Rattle.std.specs.Prelude.{min, not, reverse, slice_get, slice_index_or, slice_set, vec_capacity}
 use Rattle.std.proofs.lemmas.List.{get_or-set_same, get_or-set_other}
-use Rattle.sedre.specs.Arena.{Written, IsArena}
+use Rattle.sedre.specs.Arena.{IsArena}
+use Rattle.sedre.specs.Written.{Written}
 use Rattle.sedre.specs.Mirror.{seen}
 use Rattle.sedre.specs.declared.types.Node.{Node}
 use Rattle.sedtext.specs.Matching.{takes}

@@ -4,7 +4,8 @@ use Rattle.std.specs.Prelude.{if◌then◌else◌, slice_set, slice_index_or, re
 use Rattle.std.proofs.lemmas.Bool.{cases_Bool}
 use Rattle.std.proofs.lemmas.List.{get_or-set_other}
 use Rattle.sedre.specs.Tree.{Tree, empty, set, begin, end, seq, alt, group, star, opt}
-use Rattle.sedtext.specs.Caps.{Groups, forget, Caps, no_groups}
+use Rattle.sedtext.specs.Caps.{Caps}
+use Rattle.sedtext.specs.Groups.{Groups, forget, no_groups}
 use Rattle.sedtext.specs.Matching.{caps}
 use Rattle.sedpass.specs.Overlay.{Overlay, lay, over, touch, erased, State, state_of, is_due, settle, drop_groups, Back, HasGroup, NoneDue, pick, BackReportLaw, StartLaw, WantedLaw, UntouchedLaw, EachBackLaw, LeftLaw, LeftAtOnceLaw, StaysLaw}
 use Rattle.sedtext.proofs.CapsLemmas.{Caps-unique}

@@ -1,7 +1,8 @@
 -- What the pass from the text's end tells of matches of the whole expression, and what searches cost.
 use Rattle.std.proofs.Common.{◌≡◌, ℕ, zero, suc, ◌+◌, ◌-◌, ◌*◌, ◌/◌, ◌<◌, ◌≤◌, ◌↔◌, Bool, true, false, max, List, length, Option, Some, None, IsTrue, refl, sym, ap, ◌∙◌, subst, ⊎_elim, true≢false, arith, mul-le-mul_left}
 use Rattle.std.proofs.lemmas.Bool.{cases_lt}
-use Rattle.sedre.specs.Arena.{Written, IsArena, tree, tree_at}
+use Rattle.sedre.specs.Arena.{IsArena}
+use Rattle.sedre.specs.Written.{Written, tree, tree_at}
 use Rattle.sedre.specs.Tree.{Tree}
 use Rattle.std.specs.Prelude.{IfSome, if◌then◌else◌}
 use Rattle.sedre.specs.Steps.{TakesAtLeast}

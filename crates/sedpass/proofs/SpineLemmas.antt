@@ -1,12 +1,14 @@
 -- What holds while a spine is followed from node to node, and while tasks wait.
 use Rattle.std.proofs.Common.{◌≡◌, ℕ, zero, suc, true, false, true≢false, ◌+◌, ◌-◌, ◌*◌, ◌≤◌, List, [], ◌∷◌, ◌++◌, reverse, length, Option, None, Some, refl, sym, ap, ◌∙◌, subst, arith, mul-le-mul_left}
-use Rattle.sedre.specs.Tree.{size}
-use Rattle.sedre.specs.Arena.{Written, IsArena, tree_at, tree}
+use Rattle.sedre.specs.Sizes.{size}
+use Rattle.sedre.specs.Arena.{IsArena}
+use Rattle.sedre.specs.Written.{Written, tree_at, tree}
 use Rattle.sedre.specs.declared.types.Node.{Node}
 use Rattle.sedre.specs.declared.types.Node.TheVariants.{Empty, Set, Begin, End, Seq, Alt, Group, Star, Opt}
 use Rattle.std.specs.Prelude.{IfSome, slice_index_or}
 use Rattle.sedre.specs.Steps.{Counted, Takes, TakesAtLeast}
-use Rattle.sedtext.specs.Caps.{Groups, IsReport}
+use Rattle.sedtext.specs.Caps.{IsReport}
+use Rattle.sedtext.specs.Groups.{Groups}
 use Rattle.sedtext.proofs.NodeLemmas.{node_at, size-pos}
 use Rattle.sedpass.specs.Decide.{nodes_in, text_in, told_of, LooksAt, undecided, GoesOn, EndsIn, IsMatch, Turns, next_of, waiting, part_cost, kind_cost, tasks_cost, long_of, IsSpent}
 use Rattle.sedpass.specs.Overlay.{State, Back, NoneDue, IsStart}

@@ -1,7 +1,7 @@
 -- Private to the proofs: no contract that `sedmatch` makes public cites what stands here.
 -- Searches in one text, from places that don't fall: what they find, and what they may cost.
 use Rattle.std.specs.Prelude.{ℕ, ◌+◌, ◌-◌, ◌*◌, ◌<◌, ◌≤◌, if◌then◌else◌, List, length, Option, Some, None, IfSome, IsTrue}
-use Rattle.sedre.specs.Arena.{tree}
+use Rattle.sedre.specs.Written.{tree}
 use Rattle.sedre.specs.Steps.{TakesAtLeast}
 use Rattle.sedre.specs.Tree.{Tree}
 use Rattle.sedtext.specs.Answer.{SpanAnswer}

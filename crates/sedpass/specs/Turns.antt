@@ -1,8 +1,10 @@
 -- Private to the proofs: no contract that `sedmatch` makes public cites what stands here.
 -- What is left to do while the groups of a match are decided from its end.
 use Rattle.std.specs.Prelude.{◌≡◌, ℕ, ◌+◌, ◌-◌, ◌*◌, ◌<◌, ◌≤◌, ◌⊎◌, ◌↔◌, Bool, true, List, [], ◌∷◌, ◌++◌, length, slice_get, slice_index_or, None, Some, IsTrue}
-use Rattle.sedre.specs.Arena.{IsArena, tree_at}
-use Rattle.sedre.specs.Tree.{Tree, size}
+use Rattle.sedre.specs.Arena.{IsArena}
+use Rattle.sedre.specs.Written.{tree_at}
+use Rattle.sedre.specs.Tree.{Tree}
+use Rattle.sedre.specs.Sizes.{size}
 use Rattle.sedre.specs.declared.types.Node.{Node}
 use Rattle.sedre.specs.declared.types.NodeId.{NodeId}
 use Rattle.sedre.specs.declared.types.Node.TheVariants.{Set, Seq, Alt, Group, Star, Opt}

@@ -3,12 +3,14 @@
 //! A spine goes from a node to what ends where the node does, in one region of the kept pass, and writes the groups that
 //! are due. What stands left of it waits as a task.
 ghost use Rattle.std.specs.Prelude.{◌≡◌, ℕ, false, [], ◌∷◌, ◌++◌, reverse, ◌+◌, ◌-◌, ◌*◌, ◌^◌, ◌<◌, ◌≤◌, ◌↔◌, length, IsTrue, Option, Some, None, IfOk, IfSome, slice_index_or, vec_len, vec_capacity, slice_get};
-ghost use Rattle.sedre.specs.Arena.{IsArena, tree_at, tree};
+ghost use Rattle.sedre.specs.Arena.{IsArena};
+ghost use Rattle.sedre.specs.Written.{tree_at, tree};
 ghost use Rattle.sedre.specs.Steps.{Takes, TakesAtLeast};
 ghost use Rattle.sedpass.specs.Regions.{StopsAt, RunsTo, IsRunOf};
 ghost use Rattle.sedre.specs.declared.types.Node.{Node};
 ghost use Rattle.sedre.specs.declared.types.Node.TheVariants.{Seq, Alt, Star, Opt};
-ghost use Rattle.sedtext.specs.Caps.{Groups, LastCut, LastCopy, IsReport};
+ghost use Rattle.sedtext.specs.Caps.{LastCut, LastCopy, IsReport};
+ghost use Rattle.sedtext.specs.Groups.{Groups};
 ghost use Rattle.sedtext.specs.Costs.{Pays};
 ghost use Rattle.sedtext.specs.Places.{InOrder};
 ghost use Rattle.sedtext.specs.Reach.{At};

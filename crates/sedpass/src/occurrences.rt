@@ -7,7 +7,7 @@ ghost use Rattle.sedtext.specs.Costs.{Pays};
 ghost use Rattle.sedtext.specs.Following.{LiesOn, next_span};
 ghost use Rattle.sedtext.specs.Matching.{found};
 ghost use Rattle.sedtext.specs.NextMatch.{unless_null_at};
-ghost use Rattle.sedre.specs.Arena.{tree};
+ghost use Rattle.sedre.specs.Written.{tree};
 ghost use Rattle.sedre.specs.Steps.{Takes};
 ghost use Rattle.sedpass.specs.Kept.{KeptRoom};
 ghost use Rattle.sedpass.specs.Occurrences.{Looks, further_cost, owed_behind};

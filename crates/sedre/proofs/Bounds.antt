@@ -3,7 +3,8 @@ use Rattle.std.proofs.Common.{◌≡◌, ℕ, ◌+◌, ◌-◌, ◌*◌, ◌<◌
 use Rattle.std.proofs.lemmas.List.{take_more}
 use Rattle.sedre.specs.declared.intervals.Interval.{Interval}
 use Rattle.sedre.specs.Intervals.{decimal}
-use Rattle.sedre.specs.Items.{repeats, interval_item, IsAfter}
+use Rattle.sedre.specs.Items.{repeats, interval_item}
+use Rattle.sedre.specs.Finished.{IsAfter}
 
 decimal-append : (n d : ℕ) (xs : List ℕ) → decimal n (xs ++ d ∷ []) ≡ 10 * decimal n xs + (d - 48)
 decimal-append n d [] = refl

@@ -11,8 +11,10 @@ use Rattle.sedre.specs.declared.syntax.Here.TheVariants.{Is, Ends}
 use Rattle.sedre.specs.declared.syntax.Item.{Item}
 use Rattle.sedre.specs.declared.syntax.Item.TheVariants.{Byte, Open, Close, Bar, Repeat, AtBegin, AtEnd}
 use Rattle.sedre.specs.Items.{item_at}
-use Rattle.sedre.specs.Tree.{Tree, size, depth}
-use Rattle.sedre.specs.Arena.{Written, tree, IsExpr}
+use Rattle.sedre.specs.Tree.{Tree}
+use Rattle.sedre.specs.Sizes.{size, depth}
+use Rattle.sedre.specs.Arena.{IsExpr}
+use Rattle.sedre.specs.Written.{Written, tree}
 use Rattle.sedre.specs.Grammar.{ReadsAs, FaultyWith}
 use Rattle.sedre.specs.Stacks.{Nesting, CanTake, whole, Stored, postorder, written, part_of}
 use Rattle.sedre.specs.Finished.{Numbered, IsFinished, IsOverLimit}

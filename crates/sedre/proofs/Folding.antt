@@ -12,7 +12,8 @@ use Rattle.sedre.specs.declared.syntax.Here.{Here}
 use Rattle.sedre.specs.declared.syntax.Here.TheVariants.{Is, Ends, Bad}
 use Rattle.sedre.specs.declared.syntax.Item.{Item}
 use Rattle.sedre.specs.declared.syntax.Item.TheVariants.{Byte, Open, Close, Bar, Repeat, AtBegin, AtEnd}
-use Rattle.sedre.specs.Tree.{Tree, size, depth, alternatives_depth}
+use Rattle.sedre.specs.Tree.{Tree}
+use Rattle.sedre.specs.Sizes.{size, depth, alternatives_depth}
 use Rattle.sedre.specs.Tree as t
 use Rattle.sedre.specs.Repeats.{concatenation, alternation, copies, optional, further, repetition}
 use Rattle.sedre.specs.Brackets.{ListedBytes, judged, list_at, listed, elements_from, is_negated}

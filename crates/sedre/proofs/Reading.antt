@@ -7,7 +7,8 @@ use Rattle.sedre.specs.declared.types.Reason.TheVariants.{StrayClose, OpenGroup,
 use Rattle.sedre.specs.declared.syntax.Here.TheVariants.{Is, Ends, Bad}
 use Rattle.sedre.specs.declared.syntax.Item.{Item}
 use Rattle.sedre.specs.declared.syntax.Item.TheVariants.{Byte, Open, Close, Bar, Repeat, AtBegin, AtEnd}
-use Rattle.sedre.specs.Tree.{Tree, set, size, depth}
+use Rattle.sedre.specs.Tree.{Tree, set}
+use Rattle.sedre.specs.Sizes.{size, depth}
 use Rattle.sedre.specs.Repeats.{alternation, repetition}
 use Rattle.sedre.specs.Items.{item_at, is_repeatable}
 use Rattle.sedre.specs.Grammar.{none, byte, begin_anchor, end_anchor, Cut, done, item, open_groups, ReadsAs, bad, stray, unclosed, deep, large, FaultyWith}

@@ -14,7 +14,7 @@ use Rattle.sedre.specs.declared.syntax.Symbol.{Symbol}
 use Rattle.sedre.specs.declared.syntax.Symbol.TheVariants.{Literal, AnyByte, Opening, Closing, Parting, Star, Plus, Question, Interval, IntervalEnd, BracketOpening, Caret, Dollar, Unknown}
 use Rattle.sedre.specs.declared.syntax.Item.{Item}
 use Rattle.sedre.specs.declared.syntax.Item.TheVariants.{Byte, Open, Close, Bar, Repeat, AtBegin, AtEnd}
-use Rattle.sedre.specs.Repeats.{IsInterval}
+use Rattle.sedre.specs.Stacks.{IsInterval}
 use Rattle.sedre.specs.Brackets.{list_at}
 use Rattle.sedre.specs.Symbols.{symbol}
 use Rattle.sedre.specs.Intervals.{numeral, begins, closes, limit, after_least, interval}

@@ -1,15 +1,10 @@
--- An expression as a list of nodes, each after its parts: what contracts see of it.
-use Rattle.std.specs.Prelude.{◌≡◌, ◌≢◌, ℕ, zero, suc, ◌+◌, ◌-◌, ◌<◌, ◌≤◌, ◌⊎◌, List, length, slice_get, Option, Some}
-use Rattle.std.specs.Prelude.{None}
-use Rattle.sedre.specs.Tree.{Tree, empty, set, begin, end, seq, alt, group, star, opt, size}
+-- What always holds of the nodes of an expression.
+use Rattle.std.specs.Prelude.{◌≡◌, ◌≢◌, ℕ, ◌+◌, ◌-◌, ◌<◌, ◌≤◌, ◌⊎◌, List, length, slice_get, Some}
+use Rattle.sedre.specs.Sizes.{size}
 use Rattle.sedre.specs.declared.types.NodeId.{NodeId}
 use Rattle.sedre.specs.declared.types.Node.{Node}
-use Rattle.sedre.specs.declared.types.Node.TheVariants.{Empty, Set, Begin, End, Seq, Alt, Group, Star, Opt}
-
--- what a contract sees of an expression
-pub record Written : Type 0 where
-  pub nodes : List Node
-  pub groups : ℕ
+use Rattle.sedre.specs.declared.types.Node.TheVariants.{Seq, Alt, Group, Star, Opt}
+use Rattle.sedre.specs.Written.{tree_at}
 
 -- c is a part of the node
 abbrev pub IsPart : Node → ℕ → Type 0
@@ -34,35 +29,6 @@ pub record IsArena (nodes : List Node) : Type 0 where
   pub once : (x y c : ℕ) (node other : Node) → slice_get nodes x ≡ Some node → slice_get nodes y ≡ Some other →
       IsPart node c → IsPart other c → x ≡ y
   pub each : (c : ℕ) → c + 1 < length nodes → (x : ℕ) × (node : Node) × (slice_get nodes x ≡ Some node) × IsPart node c
-
--- the tree at a node, given the trees of its parts
-abbrev pub tree_of : (ℕ → Tree) → Node → Tree
-tree_of part Empty = empty
-tree_of part (Set s) = set s
-tree_of part Begin = begin
-tree_of part End = end
-tree_of part (Seq a b) = seq (part a.index) (part b.index)
-tree_of part (Alt a b) = alt (part a.index) (part b.index)
-tree_of part (Group k a) = group k (part a.index)
-tree_of part (Star a first) = star (part a.index) first
-tree_of part (Opt a first) = opt (part a.index) first
-
-abbrev pub tree_if : (ℕ → Tree) → Option Node → Tree
-tree_if part None = empty
-tree_if part (Some node) = tree_of part node
-
--- the tree at the node x, following parts at most n deep
-unfoldable pub tree_within : ℕ → List Node → ℕ → Tree
-tree_within zero nodes x = empty
-tree_within (suc n) nodes x = tree_if (tree_within n nodes) (slice_get nodes x)
-
--- the tree at the node x
-unfoldable pub tree_at : List Node → ℕ → Tree
-tree_at nodes x = tree_within (suc x) nodes x
-
--- the tree of a whole expression
-abbrev pub tree : Written → Tree
-tree e = tree_at e.nodes (length e.nodes - 1)
 
 -- the tree at a node has no more nodes than there are up to it
 abbrev pub SizesFit : List Node → Type 0

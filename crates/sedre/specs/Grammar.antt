@@ -9,7 +9,8 @@ use Rattle.sedre.specs.declared.types.Reason.{Reason}
 use Rattle.sedre.specs.declared.types.Reason.TheVariants.{StrayClose, OpenGroup, TooDeep, TooManyNodes}
 use Rattle.sedre.specs.declared.syntax.Here.TheVariants.{Is, Ends, Bad}
 use Rattle.sedre.specs.Items.{item_at}
-use Rattle.sedre.specs.Tree.{Tree, set, begin, end, group, size, depth}
+use Rattle.sedre.specs.Tree.{Tree, set, begin, end, group}
+use Rattle.sedre.specs.Sizes.{size, depth}
 use Rattle.sedre.specs.Repeats.{concatenation, alternation, repetition}
 
 -- Groups are numbered by their openings from 1 (XBD 9.3.6): each fact holds from a count of the openings before the

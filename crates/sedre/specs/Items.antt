@@ -1,5 +1,5 @@
 -- The items of a text: bytes and sets of bytes, anchors, groups, alternations and repetitions (XBD 9.3, 9.4).
-use Rattle.std.specs.Prelude.{ℕ, ◌+◌, ◌<◌, ◌≤◌, List, drop, Bool, true, false, not, ◌&&◌, Option, Some, None, Result}
+use Rattle.std.specs.Prelude.{ℕ, ◌+◌, List, drop, Bool, true, false, not, ◌&&◌, Option, Some, None, Result}
 use Rattle.std.specs.Prelude.{Ok, Err}
 use Rattle.sedre.specs.Sets.{only, any_byte, matching}
 use Rattle.sedre.specs.Brackets.{list_at}
@@ -116,9 +116,3 @@ item_for kind folded delimiter text before at (Some (Unknown reason, n)) = fault
 unfoldable pub item_at : Kind → (folded : Bool) → Option ℕ → List ℕ → Option Item → (at : ℕ) → Here
 item_at kind folded delimiter text before at =
     item_for kind folded delimiter text before at (symbol kind delimiter (drop at text))
-
--- an item ends after its place, and a fault is reported within the text
-abbrev pub IsAfter : (at len : ℕ) → Here → Type 0
-IsAfter at len (Is i next) = (at < next) × (next ≤ len)
-IsAfter at len Ends = Unit {0}
-IsAfter at len (Bad f) = f.place ≤ len

@@ -1,5 +1,7 @@
 pub mod Tree
+pub mod Sizes
 pub mod Repeats
+pub mod Written
 pub mod Arena
 pub mod Sets
 pub mod Classes

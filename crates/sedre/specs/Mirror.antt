@@ -1,7 +1,7 @@
 -- An expression read from its end: it matches what the expression itself matches, from the last byte to the first.
 use Rattle.std.specs.Prelude.{Bool, true, false, map}
 use Rattle.sedre.specs.Tree.{Tree, begin, end, seq, alt, group, star, opt}
-use Rattle.sedre.specs.Arena.{Written}
+use Rattle.sedre.specs.Written.{Written}
 use Rattle.sedre.specs.declared.types.Node.{Node}
 use Rattle.sedre.specs.declared.types.Node.TheVariants.{Begin, End, Seq}
 

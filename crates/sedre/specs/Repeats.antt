@@ -1,5 +1,5 @@
 -- What concatenations, alternations and repetitions are written out to (XBD 9.3.6, 9.4.6, 9.4.7).
-use Rattle.std.specs.Prelude.{ℕ, zero, suc, ◌-◌, ◌≤◌, List, [], ◌∷◌, Bool, false, Option, Some, None, nat_eq}
+use Rattle.std.specs.Prelude.{ℕ, zero, suc, ◌-◌, List, [], ◌∷◌, Bool, false, Option, Some, None, nat_eq}
 use Rattle.sedre.specs.Tree.{Tree, empty, seq, alt, star, opt}
 
 -- pieces one after the other; where there are none, in an empty text, group or alternative, they match the null string
@@ -34,8 +34,3 @@ further (suc n) e first = optional n e first ∷ []
 abbrev pub repetition : ℕ → Option ℕ → Tree → Tree
 repetition least None e = concatenation (copies least e (star e (nat_eq least 0) ∷ []))
 repetition least (Some most) e = concatenation (copies least e (further (most - least) e (nat_eq least 0)))
-
--- at least so many copies are no more than at most so many
-abbrev pub IsInterval : ℕ → Option ℕ → Type 0
-IsInterval least None = Unit {0}
-IsInterval least (Some most) = least ≤ most

@@ -1,7 +1,7 @@
 -- Private to the proofs: no contract of a public item cites what stands here.
 -- What the reader holds while it reads.
 use Rattle.std.specs.Prelude.{◌≡◌, ◌≢◌, ℕ, suc, ◌+◌, ◌-◌, ◌<◌, ◌≤◌, min, take, length, List, [], ◌∷◌, ◌++◌, Bool, true}
-use Rattle.std.specs.Prelude.{false, nat_lt, if◌then◌else◌}
+use Rattle.std.specs.Prelude.{false, nat_lt, if◌then◌else◌, Option, Some, None}
 use Rattle.sedre.specs.declared.types.Node.{Node}
 use Rattle.sedre.specs.declared.types.Node.TheVariants as node
 use Rattle.sedre.specs.declared.syntax.Item.{Item}
@@ -13,8 +13,9 @@ use Rattle.sedre.specs.declared.parts.Cover.TheVariants as cover
 use Rattle.sedre.specs.declared.stack.Stack.{Stack}
 use Rattle.sedre.specs.declared.builder.Builder.{Builder}
 use Rattle.sedre.specs.Packed.{id, PartsBelow}
-use Rattle.sedre.specs.Tree.{Tree, empty, set, begin, end, seq, alt, group, star, opt, size, depth, alternatives_depth}
-use Rattle.sedre.specs.Repeats.{concatenation, alternation, repetition, IsInterval}
+use Rattle.sedre.specs.Tree.{Tree, empty, set, begin, end, seq, alt, group, star, opt}
+use Rattle.sedre.specs.Sizes.{size, depth, alternatives_depth}
+use Rattle.sedre.specs.Repeats.{concatenation, alternation, repetition}
 
 -- the finished alternatives of an open group, and the pieces of the one that is read
 pub record Level : Type 0 where
@@ -193,6 +194,11 @@ pub record Represents (limit : ℕ) (b : Builder) (s : Nesting) : Type 0 where
   pub opened : b.opened ≡ s.opened
   pub top : b.top ≡ mark_of s.top s.below
   pub below : b.below.items ≡ marks_of s.below
+
+-- at least so many copies are no more than at most so many
+abbrev pub IsInterval : ℕ → Option ℕ → Type 0
+IsInterval least None = Unit {0}
+IsInterval least (Some most) = least ≤ most
 
 -- the item may stand here
 abbrev pub CanTake : Item → Nesting → Type 0

@@ -1,5 +1,5 @@
--- Expressions written out as trees, how many nodes they have and how deep they nest.
-use Rattle.std.specs.Prelude.{ℕ, ◌+◌, max, List, Bool}
+-- Expressions written out as trees.
+use Rattle.std.specs.Prelude.{ℕ, List, Bool}
 
 pub data Tree : Type 0 where
   -- the null string
@@ -18,32 +18,3 @@ pub data Tree : Type 0 where
   -- any number of copies, and at most one; the mark, this project's own, says that no copy stands before it
   star : Tree → Bool → Tree
   opt : Tree → Bool → Tree
-
--- how many nodes it has
-abbrev pub size : Tree → ℕ
-size (seq a b) = 1 + size a + size b
-size (alt a b) = 1 + size a + size b
-size (group k a) = 1 + size a
-size (star a first) = 1 + size a
-size (opt a first) = 1 + size a
-size other = 1
-
--- how deep it nests: a group and a repetition add one, an alternation adds one for all its alternatives together (this
--- project's own)
-abbrev mutual
-  pub depth : Tree → ℕ
-  depth (seq a b) = max (depth a) (depth b)
-  depth (alt a b) = 1 + max (depth a) (alternatives_depth b)
-  depth (group k a) = 1 + depth a
-  depth (star a first) = 1 + depth a
-  depth (opt a first) = 1 + depth a
-  depth other = 0
-
-  -- of the alternatives after the first
-  pub alternatives_depth : Tree → ℕ
-  alternatives_depth (seq a b) = max (depth a) (depth b)
-  alternatives_depth (alt a b) = max (depth a) (alternatives_depth b)
-  alternatives_depth (group k a) = 1 + depth a
-  alternatives_depth (star a first) = 1 + depth a
-  alternatives_depth (opt a first) = 1 + depth a
-  alternatives_depth other = 0

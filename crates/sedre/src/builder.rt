@@ -18,8 +18,8 @@ pub struct Builder {
 
 impl Builder {
     ghost use Rattle.sedre.specs.Tree.{Tree};
-    ghost use Rattle.sedre.specs.Repeats.{IsInterval};
     ghost use Rattle.sedre.specs.Stacks.{Represents, Nesting, TakesItem, start, CanTake, Stored, IsLeaf, with_piece, whole};
+    ghost use Rattle.sedre.specs.Stacks.{IsInterval};
 
     /// A builder to which nothing was added. The limit is one more than the nodes allowed.
     pub fn new(alloc: Global, limit: usize) -> Self

@@ -6,7 +6,8 @@ ghost use Rattle.sedre.specs.Symbols.{symbol};
 ghost use Rattle.sedre.specs.Intervals.{interval};
 ghost use Rattle.sedre.specs.Items.{is_first, is_repeatable, is_repeat, ends_alternative, fault, repeats};
 ghost use Rattle.sedre.specs.Items.{interval_item, list_item, star_item, question_item, caret_item, dollar_item};
-ghost use Rattle.sedre.specs.Items.{item_at, IsAfter};
+ghost use Rattle.sedre.specs.Items.{item_at};
+ghost use Rattle.sedre.specs.Finished.{IsAfter};
 
 use crate::brackets::list_at;
 use crate::byte_set::ByteSet;

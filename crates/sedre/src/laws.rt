@@ -2,7 +2,8 @@
 ghost use Rattle.std.specs.Prelude.{◌≡◌, ◌≤◌, ℕ, List, length, Bool, Option};
 ghost use Rattle.sedre.specs.declared.types.Kind.{Kind};
 ghost use Rattle.sedre.specs.declared.types.Reason.{Reason};
-ghost use Rattle.sedre.specs.Tree.{Tree, size, depth};
+ghost use Rattle.sedre.specs.Tree.{Tree};
+ghost use Rattle.sedre.specs.Sizes.{size, depth};
 ghost use Rattle.sedre.specs.Grammar.{ReadsAs, ExprFaulty};
 
 /// A text reads as one expression at most, with one number of groups, and as one at most where letters match without

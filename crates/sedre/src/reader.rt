@@ -4,8 +4,8 @@ ghost use Rattle.std.specs.Prelude.{OnOk, IfOk, IfErr, vec_len};
 ghost use Rattle.std.specs.Bool.{OnTrue, OnFalse};
 ghost use Rattle.sedre.specs.declared.types.Reason.{Reason};
 ghost use Rattle.sedre.specs.Grammar.{ReadsAs, FaultyWith, ExprFaulty};
-ghost use Rattle.sedre.specs.Arena.{tree};
-ghost use Rattle.sedre.specs.Tree.{size};
+ghost use Rattle.sedre.specs.Written.{tree};
+ghost use Rattle.sedre.specs.Sizes.{size};
 ghost use Rattle.sedre.specs.Stacks.{Nesting, Represents, whole};
 ghost use Rattle.sedre.specs.Finished.{Numbered, IsFinished, IsOverLimit};
 

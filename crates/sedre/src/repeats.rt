@@ -17,8 +17,8 @@ fn is_first(first: bool, held: usize, count: usize) -> bool
 
 impl Stack {
     ghost use Rattle.sedre.specs.Tree.{Tree};
-    ghost use Rattle.sedre.specs.Repeats.{copies, optional, repetition, IsInterval};
-    ghost use Rattle.sedre.specs.Stacks.{Stored, LastBecomes};
+    ghost use Rattle.sedre.specs.Repeats.{copies, optional, repetition};
+    ghost use Rattle.sedre.specs.Stacks.{Stored, LastBecomes, IsInterval};
 
     /// Puts `count` copies of the last tree after it.
     fn copies(&mut self, count: usize) -> Result<(), AllocError>

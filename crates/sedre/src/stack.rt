@@ -59,7 +59,8 @@ pub struct Stack {
 }
 
 impl Stack {
-    ghost use Rattle.sedre.specs.Tree.{Tree, size, depth};
+    ghost use Rattle.sedre.specs.Tree.{Tree};
+    ghost use Rattle.sedre.specs.Sizes.{size, depth};
     ghost use Rattle.sedre.specs.Repeats.{concatenation, alternation};
     ghost use Rattle.sedre.specs.Packed.{shifted};
     ghost use Rattle.sedre.specs.Stacks.{Stored, LastBecomes, Joins, IsLeaf, Puts, last_end, pair, chain, covered};

@@ -1,7 +1,8 @@
 //! Expressions as callers see them: nodes, each after its parts.
 ghost use Rattle.std.specs.Prelude.{◌≡◌, ◌<◌, ◌≤◌, ◌+◌, ℕ, Bool, List, Some, IfOk, length, slice_get};
 ghost use Rattle.sedre.specs.declared.types.Node.TheVariants.{Set};
-ghost use Rattle.sedre.specs.Arena.{Written, IsArena, IsExpr};
+ghost use Rattle.sedre.specs.Arena.{IsArena, IsExpr};
+ghost use Rattle.sedre.specs.Written.{Written};
 ghost use Rattle.sedre.specs.Steps.{Takes, Counted};
 
 use crate::byte_set::ByteSet;
@@ -20,7 +21,8 @@ pub struct Expr {
 }
 
 impl Model for Expr {
-    ghost use Rattle.sedre.specs.Arena.{Written, IsExpr};
+    ghost use Rattle.sedre.specs.Arena.{IsExpr};
+    ghost use Rattle.sedre.specs.Written.{Written};
 
     ghost Value = { Written };
 

@@ -5,7 +5,7 @@ use Rattle.std.specs.Str.{bytes_eq}
 use Rattle.std.proofs.lemmas.Slice.Eq.{bytes_eq-Decides}
 use Rattle.std.proofs.lemmas.List.FromFn.{length-map-range_with_len}
 use Rattle.sedre.specs.declared.types.Kind.{Kind}
-use Rattle.sedre.specs.Arena.{Written}
+use Rattle.sedre.specs.Written.{Written}
 use Rattle.sedre.specs.Delimited.{delimiter_at}
 use Rattle.sedscript.specs.declared.bytes.Sort.TheVariants.{Blank, Name, Bang, Digit, Separator}
 use Rattle.sedscript.specs.declared.types.ScriptFault.{ScriptFault}
@@ -44,7 +44,11 @@ use Rattle.sedscript.specs.Expressions.{Gives, value, after_expression}
 use Rattle.sedscript.specs.Targets.{leaves, counted, commands_in, label_in, is_label, close_in, is_close, depth_after, block_end}
 use Rattle.sedscript.specs.declared.script.Named.{Named}
 use Rattle.sedscript.specs.Parts.{program_of, IsNamed}
-use Rattle.sedscript.specs.Script.{CutScript, done, item, is_quiet, with_text, texts_of, with_substitution, substitutions_of, with_table, tables_of, substitution_of, table_between, counts_with, none_counted, action_of, simple_action, text_action, branch_action, file_action, sink_of, with_action, commands_of, Judged, Means, Program}
+use Rattle.sedscript.specs.Script.{CutScript, done, item, is_quiet, with_text, texts_of, with_substitution}
+use Rattle.sedscript.specs.Script.{substitutions_of, with_table, tables_of, substitution_of, table_between, counts_with}
+use Rattle.sedscript.specs.Script.{none_counted, action_of, simple_action, text_action, branch_action, file_action}
+use Rattle.sedscript.specs.Script.{sink_of, with_action, commands_of, Judged, Means}
+use Rattle.sedscript.specs.Program.{Program}
 use Rattle.sedscript.specs.declared.substitution.Substitution.{Substitution}
 use Rattle.sedscript.specs.Ranges.{Sizes, sizes_of, IsOneOf, SinkWithin, AddressWithin, ActionWithin, CommandWithin, SubstitutionWithin, InRange}
 use Rattle.sedscript.specs.Letters.{verb_of}

@@ -4,7 +4,7 @@ use Rattle.std.proofs.lemmas.Bool.Decides.{eqb_tells}
 use Rattle.std.specs.Result.{IsErrAnd}
 use Rattle.std.proofs.lemmas.List.{append-nil}
 use Rattle.sedre.specs.declared.types.Kind.{Kind}
-use Rattle.sedre.specs.Arena.{Written}
+use Rattle.sedre.specs.Written.{Written}
 use Rattle.sedre.specs.declared.types.ExprFault.{ExprFault}
 use Rattle.sedre.specs.declared.types.Reason.{Reason as ExprReason}
 use Rattle.sedre.specs.declared.types.Reason.TheVariants.{NoMemory}
@@ -33,7 +33,8 @@ use Rattle.sedscript.specs.declared.letters.Shape.{Shape}
 use Rattle.sedscript.specs.Items.{item_at, item_from, function_after, substitute_with, substitute_at, function_of, function_with, function_at, item_with}
 use Rattle.sedscript.specs.Functions.{allowed, item_of}
 use Rattle.sedscript.specs.declared.items.Addresses.{Addresses}
-use Rattle.sedscript.specs.Expressions.{IsRead, Gives, value, after_expression, Fails, own, no_expression, later, in_script}
+use Rattle.sedscript.specs.Expressions.{IsRead, Gives, value, after_expression}
+use Rattle.sedscript.specs.FirstFault.{Fails, own, no_expression, later, in_script}
 use Rattle.sedscript.specs.Answers.{as_here, as_function, as_groups, as_addressed, Comes, Agrees, IsAfter, IsHere, is_no_memory, fault_of}
 
 not_equal : (a b : ℕ) → a ≢ b → (a == b) ≡ false

@@ -1,7 +1,7 @@
 -- A text that means a script has no fault.
 use Rattle.std.proofs.Common.{Bool, ◌≡◌, ℕ, suc, ◌+◌, List, [], ◌∷◌, length, Option, Some, None, refl, sym, ap, subst, ◌∙◌, arith, length-append}
 use Rattle.sedre.specs.declared.types.Kind.{Kind}
-use Rattle.sedre.specs.Arena.{Written, tree}
+use Rattle.sedre.specs.Written.{Written, tree}
 use Rattle.sedre.specs.Tree.{Tree}
 use Rattle.sedre.specs.Grammar.{ReadsAs}
 use Rattle.sedscript.specs.declared.types.ScriptFault.{ScriptFault}
@@ -12,8 +12,10 @@ use Rattle.sedscript.specs.declared.bytes.Sort.TheVariants.{Separator}
 use Rattle.sedscript.specs.Bytes.{past, bytes_between}
 use Rattle.sedscript.specs.Reading.{Pattern, Reading}
 use Rattle.sedscript.specs.Items.{item_at, item_from}
-use Rattle.sedscript.specs.Expressions.{IsRead, Gives, value, after_expression, Fails, no_expression, later}
-use Rattle.sedscript.specs.Script.{CutScript, done, item, IsEnd, Means, Faulty, early, afterwards, Program, Judged}
+use Rattle.sedscript.specs.Expressions.{IsRead, Gives, value, after_expression}
+use Rattle.sedscript.specs.FirstFault.{Fails, no_expression, later, Faulty, early, afterwards}
+use Rattle.sedscript.specs.Script.{CutScript, done, item, IsEnd, Means, Judged}
+use Rattle.sedscript.specs.Program.{Program}
 use Rattle.sedscript.specs.Targets.{target_fault}
 
 -- a text reads as one expression, with one number of groups

@@ -3,7 +3,7 @@ use Rattle.std.proofs.Common.{◌≡◌, ℕ, ◌+◌, List, length, Option, Som
 use Rattle.sedre.specs.declared.types.Kind.{Kind}
 use Rattle.sedre.specs.declared.types.Reason.{Reason as ExprReason}
 use Rattle.sedre.specs.declared.types.ExprFault.{ExprFault}
-use Rattle.sedre.specs.Arena.{Written}
+use Rattle.sedre.specs.Written.{Written}
 use Rattle.sedre.specs.Grammar.{ExprFaulty}
 use Rattle.sedscript.specs.declared.types.ScriptFault.{ScriptFault}
 use Rattle.sedscript.specs.declared.items.Item.{Item}
@@ -11,8 +11,8 @@ use Rattle.sedscript.specs.declared.items.Here.TheVariants.{Is}
 use Rattle.sedscript.specs.Bytes.{bytes_between}
 use Rattle.sedscript.specs.Reading.{Reading}
 use Rattle.sedscript.specs.Items.{item_at}
-use Rattle.sedscript.specs.Expressions.{Fails, own, no_expression, later, in_script}
-use Rattle.sedscript.specs.Script.{CutScript, done, item, Faulty, early, afterwards}
+use Rattle.sedscript.specs.FirstFault.{Fails, own, no_expression, later, in_script, Faulty, early, afterwards}
+use Rattle.sedscript.specs.Script.{CutScript, done, item}
 use Rattle.sedscript.specs.Targets.{target_fault}
 use Rattle.sedscript.proofs.Exclusive.{ReadsAsOne, as_other, gives_one, no_fails, is_next, cut_no_fault, cut_same}
 

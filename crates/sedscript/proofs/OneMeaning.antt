@@ -2,7 +2,7 @@
 use Rattle.std.proofs.Common.{◌≡◌, ℕ, ◌+◌, List, [], ◌∷◌, ◌++◌, length, map, refl, sym, ap, subst, ◌∙◌, Some}
 use Rattle.std.proofs.lemmas.List.{map-append}
 use Rattle.sedre.specs.declared.types.Kind.{Kind}
-use Rattle.sedre.specs.Arena.{Written, tree}
+use Rattle.sedre.specs.Written.{Written, tree}
 use Rattle.sedscript.specs.declared.items.Here.{Here}
 use Rattle.sedscript.specs.declared.items.Here.TheVariants.{Is, Ends}
 use Rattle.sedscript.specs.declared.items.Item.{Item}
@@ -10,7 +10,9 @@ use Rattle.sedscript.specs.Bytes.{bytes_between}
 use Rattle.sedscript.specs.Reading.{Reading}
 use Rattle.sedscript.specs.Items.{item_at}
 use Rattle.sedscript.specs.Expressions.{Gives, value, after_expression}
-use Rattle.sedscript.specs.Script.{CutScript, done, item, IsEnd, Program, Means, commands_of, none_counted, texts_of, substitutions_of, tables_of}
+use Rattle.sedscript.specs.Script.{CutScript, done, item, IsEnd, Means, commands_of, none_counted, texts_of}
+use Rattle.sedscript.specs.Script.{substitutions_of, tables_of}
+use Rattle.sedscript.specs.Program.{Program}
 use Rattle.sedscript.specs.declared.items.FileUse.TheVariants.{Read, Write}
 use Rattle.sedscript.specs.Files.{files_in}
 use Rattle.sedscript.proofs.Exclusive.{ReadsAsOne, gives_one, end_gives, is_next, cut_same}

@@ -3,7 +3,7 @@ use Rattle.std.proofs.Common.{◌≡◌, ℕ, zero, suc, ◌+◌, ◌-◌, ◌<�
 use Rattle.std.specs.Option.{option_len, option_or}
 use Rattle.sedre.specs.declared.types.Kind.{Kind}
 use Rattle.sedre.specs.declared.types.Reason.{Reason as ExprReason}
-use Rattle.sedre.specs.Arena.{Written}
+use Rattle.sedre.specs.Written.{Written}
 use Rattle.sedre.specs.Grammar.{ExprFaulty}
 use Rattle.sedre.specs.Delimited.{first_delimiter, next_place, delimiter_at}
 use Rattle.sedscript.specs.declared.bytes.Sort.{Sort}
@@ -43,9 +43,10 @@ use Rattle.sedscript.specs.Between.{own_delimiter, strings_to, strings_after, su
 use Rattle.sedscript.specs.Reading.{Reading, plainly, expression, ◌>>=◌}
 use Rattle.sedscript.specs.Addresses.{Addressed, Headed, headed, line_of, folds_at, past_flag, match_to, match_at, own_match, address_of, address_at, with_second, second_at, after_first, addresses_at, with_bang}
 use Rattle.sedscript.specs.Items.{substitute_with, substitute_at, function_of, function_with, function_at, function_after, item_with, item_from, item_at}
-use Rattle.sedscript.specs.Expressions.{Gives, value, after_expression, Fails, own, no_expression, later}
+use Rattle.sedscript.specs.Expressions.{Gives, value, after_expression}
+use Rattle.sedscript.specs.FirstFault.{Fails, own, no_expression, later, Faulty, early, afterwards}
 use Rattle.sedscript.specs.Targets.{fault_if, target_fault_at, target_fault_in, depth_after, block_end, label_in}
-use Rattle.sedscript.specs.Script.{CutScript, done, item, Faulty, early, afterwards}
+use Rattle.sedscript.specs.Script.{CutScript, done, item}
 
 -- places
 

@@ -7,7 +7,7 @@ use Rattle.sedre.specs.declared.types.Kind.{Kind}
 use Rattle.sedre.specs.declared.types.Reason.{Reason as ExprReason}
 use Rattle.sedre.specs.declared.types.Reason.TheVariants.{NoMemory}
 use Rattle.sedre.specs.declared.types.ExprFault.{ExprFault}
-use Rattle.sedre.specs.Arena.{Written}
+use Rattle.sedre.specs.Written.{Written}
 use Rattle.sedscript.specs.declared.types.ScriptFault.{ScriptFault}
 use Rattle.sedscript.specs.declared.types.TheConstants.{NO_MEMORY}
 use Rattle.sedscript.specs.declared.types.Address.{Address}
@@ -26,7 +26,8 @@ use Rattle.sedscript.specs.Replacement.{Piece, literal, pieces_in}
 use Rattle.sedscript.specs.Transliteration.{is_among}
 use Rattle.sedscript.specs.Reading.{Reading}
 use Rattle.sedscript.specs.Addresses.{Addressed, Headed}
-use Rattle.sedscript.specs.Expressions.{Gives, Fails, in_script}
+use Rattle.sedscript.specs.Expressions.{Gives}
+use Rattle.sedscript.specs.FirstFault.{Fails, in_script}
 use Rattle.sedscript.specs.Script.{IsEnd, Judged}
 
 -- what a function answered is what reading gives, and the expressions grew by those that were read,

@@ -13,7 +13,9 @@ pub mod Items
 pub mod Expressions
 pub mod Targets
 pub mod Files
+pub mod Program
 pub mod Script
+pub mod FirstFault
 pub mod Ranges
 pub mod Parts
 pub mod Answers

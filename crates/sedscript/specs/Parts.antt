@@ -1,13 +1,14 @@
 -- Private to the proofs: no contract of a public item cites what stands here.
 -- The parts that a script is kept in.
 use Rattle.std.specs.Prelude.{◌≡◌, ℕ, List, Bool, map}
-use Rattle.sedre.specs.Arena.{Written}
+use Rattle.sedre.specs.Written.{Written}
 use Rattle.sedscript.specs.declared.items.Item.{Item}
 use Rattle.sedscript.specs.declared.types.Command.{Command}
 use Rattle.sedscript.specs.declared.script.Named.{Named}
 use Rattle.sedscript.specs.declared.items.FileUse.TheVariants.{Read, Write}
 use Rattle.sedscript.specs.Files.{files_in}
-use Rattle.sedscript.specs.Script.{Program, texts_of, substitutions_of, tables_of}
+use Rattle.sedscript.specs.Script.{texts_of, substitutions_of, tables_of}
+use Rattle.sedscript.specs.Program.{Program}
 
 -- the script of these parts
 abbrev pub program_of : List Command → Named → Bool → ℕ → Program

@@ -1,6 +1,6 @@
 -- The numbers of a script are in range.
 use Rattle.std.specs.Prelude.{◌≡◌, ◌<◌, ◌≤◌, ℕ, List, length, Option, Some, None, slice_get}
-use Rattle.sedre.specs.Arena.{Written}
+use Rattle.sedre.specs.Written.{Written}
 use Rattle.sedscript.specs.declared.types.Address.{Address}
 use Rattle.sedscript.specs.declared.types.Address.TheVariants.{Line, Match}
 use Rattle.sedscript.specs.declared.types.Action.{Action}
@@ -8,7 +8,7 @@ use Rattle.sedscript.specs.declared.types.Action.TheVariants.{Block, Branch, Tes
 use Rattle.sedscript.specs.declared.types.Action.TheVariants.{Transliterate, ReadFile, WriteFile}
 use Rattle.sedscript.specs.declared.types.Command.{Command}
 use Rattle.sedscript.specs.declared.substitution.Substitution.{Substitution}
-use Rattle.sedscript.specs.Script.{Program}
+use Rattle.sedscript.specs.Program.{Program}
 
 -- how many of each a script has
 pub record Sizes : Type 0 where

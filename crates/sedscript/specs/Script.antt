@@ -1,10 +1,9 @@
--- What a script means, and its first fault (XCU sed, "Extended Description").
+-- What a script means (XCU sed, "Extended Description").
 use Rattle.std.specs.Prelude.{◌≡◌, ℕ, suc, ◌+◌, List, [], ◌∷◌, ◌++◌, length, Bool, true, false, not, ◌&&◌, Option, Some}
 use Rattle.std.specs.Prelude.{None, if◌then◌else◌, ◌==◌, slice_get, unwrap_or}
 use Rattle.sedre.specs.declared.types.Kind.{Kind}
-use Rattle.sedre.specs.Arena.{Written}
+use Rattle.sedre.specs.Written.{Written}
 use Rattle.sedscript.specs.declared.bytes.Sort.TheVariants.{Separator}
-use Rattle.sedscript.specs.declared.types.ScriptFault.{ScriptFault}
 use Rattle.sedscript.specs.declared.types.Action.{Action}
 use Rattle.sedscript.specs.declared.types.Action.TheVariants as action
 use Rattle.sedscript.specs.declared.types.Command.{Command}
@@ -30,23 +29,12 @@ use Rattle.sedscript.specs.declared.items.Strings.{Strings}
 use Rattle.sedscript.specs.declared.items.Here.TheVariants.{Is}
 use Rattle.sedscript.specs.Bytes.{bytes_between, past}
 use Rattle.sedscript.specs.Items.{item_at}
-use Rattle.sedscript.specs.Expressions.{Gives, Fails}
+use Rattle.sedscript.specs.Expressions.{Gives}
 use Rattle.sedscript.specs.Replacement.{pieces_of}
 use Rattle.sedscript.specs.Transliteration.{chars_of, bytes_of, table_of}
 use Rattle.sedscript.specs.Files.{files_in, number_in}
 use Rattle.sedscript.specs.Targets.{commands_in, label_in, block_end, target_fault}
-
--- a script as its callers see it
-pub record Program : Type 0 where
-  pub commands : List Command
-  pub expressions : List Written
-  pub texts : List (List ℕ)
-  pub substitutions : List Substitution
-  pub tables : List (List ℕ)
-  pub rfiles : List (List ℕ)
-  pub wfiles : List (List ℕ)
-  pub quiet : Bool
-  pub max_nodes : ℕ
+use Rattle.sedscript.specs.Program.{Program}
 
 -- the text has these items and expressions from one place, with so many expressions before it, up to another
 pub data CutScript (text : List ℕ) (kind : Kind) (max_nodes : ℕ) : ℕ → ℕ → List Item → List Written → ℕ → Type 0 where
@@ -214,14 +202,3 @@ pub record Means (text : List ℕ) (kind : Kind) (max_nodes : ℕ) (s : Program)
   pub wfiles : s.wfiles ≡ files_in Write text items
   pub quiet : s.quiet ≡ is_quiet text
   pub nodes : s.max_nodes ≡ max_nodes
-
--- the first fault of the text; its place, and which fault comes first, are this project's own
-pub data Faulty (text : List ℕ) (kind : Kind) (max_nodes : ℕ) : ScriptFault → Type 0 where
-  -- that of the item after these, which have none
-  early : {f : ScriptFault} (items : List Item) (es : List Written) (to : ℕ) →
-      CutScript text kind max_nodes 0 0 items es to → Fails text kind max_nodes (item_at text (length es) to) f →
-      Faulty text kind max_nodes f
-  -- that of the labels and blocks of a text which is cut to its end
-  afterwards : {f : ScriptFault} (items : List Item) (es : List Written) (to : ℕ) →
-      CutScript text kind max_nodes 0 0 items es to → IsEnd text to → target_fault text items ≡ Some f →
-      Faulty text kind max_nodes f

@@ -3,7 +3,7 @@
 ghost use Rattle.std.specs.Prelude.{◌≡◌, ◌≢◌, ◌≤◌, ◌<◌, ◌+◌, ◌++◌, ◌∷◌, [], ◌⊎◌, ℕ, Ok, Some, length, IfOk, IfErr, OnOk};
 ghost use Rattle.sedre.specs.declared.types.Reason.{Reason as ExprReason};
 ghost use Rattle.sedre.specs.declared.types.TheConstants.{NO_MEMORY as NO_EXPR_MEMORY};
-ghost use Rattle.sedre.specs.Arena.{tree};
+ghost use Rattle.sedre.specs.Written.{tree};
 ghost use Rattle.sedre.specs.Grammar.{ReadsAs, ExprFaulty};
 ghost use Rattle.sedscript.specs.Bytes.{bytes_between};
 ghost use Rattle.sedscript.specs.Reading.{plainly, expression};

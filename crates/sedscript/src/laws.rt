@@ -2,8 +2,10 @@
 
 ghost use Rattle.std.specs.Prelude.{◌≡◌, ℕ, List, map};
 ghost use Rattle.sedre.specs.declared.types.Kind.{Kind};
-ghost use Rattle.sedre.specs.Arena.{tree};
-ghost use Rattle.sedscript.specs.Script.{Program, Means, Faulty};
+ghost use Rattle.sedre.specs.Written.{tree};
+ghost use Rattle.sedscript.specs.Script.{Means};
+ghost use Rattle.sedscript.specs.Program.{Program};
+ghost use Rattle.sedscript.specs.FirstFault.{Faulty};
 ghost use Rattle.sedscript.specs.Ranges.{InRange};
 ghost use Rattle.sedscript.specs.declared.types.ScriptFault.{ScriptFault};
 

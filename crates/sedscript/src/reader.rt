@@ -1,7 +1,8 @@
 //! The reader of scripts.
 
 ghost use Rattle.std.specs.Prelude.{◌≡◌, ◌≤◌, ◌⊎◌, [], IfOk, IfErr, OnOk, length};
-ghost use Rattle.sedscript.specs.Script.{CutScript, IsEnd, Means, Faulty};
+ghost use Rattle.sedscript.specs.Script.{CutScript, IsEnd, Means};
+ghost use Rattle.sedscript.specs.FirstFault.{Faulty};
 ghost use Rattle.sedscript.specs.Answers.{IsJudged};
 ghost use Rattle.sedscript.specs.Parts.{IsNamed};
 ghost use Rattle.sedscript.specs.Tables.{TargetsAre, FilesAre};

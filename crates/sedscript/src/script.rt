@@ -34,7 +34,7 @@ pub struct Script {
 }
 
 impl Model for Script {
-    ghost use Rattle.sedscript.specs.Script.{Program};
+    ghost use Rattle.sedscript.specs.Program.{Program};
     ghost use Rattle.sedscript.specs.Ranges.{InRange};
     ghost use Rattle.sedscript.specs.Parts.{program_of};
 
@@ -46,7 +46,7 @@ impl Model for Script {
 }
 
 impl Script {
-    ghost use Rattle.sedscript.specs.Script.{Program};
+    ghost use Rattle.sedscript.specs.Program.{Program};
     ghost use Rattle.sedscript.specs.Ranges.{InRange, CommandWithin, SubstitutionWithin, sizes_of};
     ghost use Rattle.sedscript.specs.Parts.{program_of};
 

@@ -3,13 +3,13 @@ use Rattle.std.proofs.Common.{◌≡◌, ℕ, ◌+◌, ◌-◌, ◌<◌, ◌≤�
 use Rattle.std.proofs.Math.Seq.{take-append_seam}
 use Rattle.std.specs.List.{before_first}
 use Rattle.std.specs.Io.KnownBytes.{prepend_known, Consumes, IsAtEnd}
-use Rattle.sedspace.specs.Lines.{lines, is_newline, HasNoNewline}
+use Rattle.sedspace.specs.Lines.{lines, is_newline, HasNoNewline, TakesAtMost}
 use Rattle.sedspace.specs.Spaces.{Contents}
 use Rattle.sedspace.specs.declared.lines.Got.{Got}
 use Rattle.sedspace.specs.declared.lines.Got.TheVariants.{Line, End}
 use Rattle.sedspace.specs.declared.errors.LineFault.{LineFault}
 use Rattle.sedspace.specs.declared.errors.LineFault.TheVariants.{Broken, TooLong}
-use Rattle.sedspace.specs.Stream.{Stream, left, lines_left, TakesLine, TakesAtMost, GivesLine, NoneLeft, FirstIsLonger, SeesEnd, LosesPart, TellsLast}
+use Rattle.sedspace.specs.Stream.{Stream, left, lines_left, TakesLine, GivesLine, NoneLeft, FirstIsLonger, SeesEnd, LosesPart, TellsLast}
 use Rattle.sedspace.specs.Gathering.{Gathers}
 use Rattle.sedspace.proofs.LineLemmas.{lines_at, lines_last, lines_nil, lines_none, lines_first, length-before_first-append}
 

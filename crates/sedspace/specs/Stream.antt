@@ -60,12 +60,6 @@ TakesLine (Some xs) None line = ⊥
 TakesLine (Some xs) (Some ys) line =
     HasNoNewline line × ((xs ≡ line ++ 10 ∷ ys) ⊎ ((xs ≡ line) × (ys ≡ []) × (0 < length line)))
 
--- known bytes lose at most n from the front
-abbrev pub TakesAtMost : Option (List ℕ) → Option (List ℕ) → ℕ → Type 0
-TakesAtMost None new n = ⊤
-TakesAtMost (Some xs) None n = ⊥
-TakesAtMost (Some xs) (Some ys) n = (taken : List ℕ) × (xs ≡ taken ++ ys) × (length taken ≤ n)
-
 -- where known bytes hold no newline, the end was seen
 abbrev pub SeesEnd : Option (List ℕ) → Bool → Type 0
 SeesEnd None ended = ⊤

@@ -97,7 +97,8 @@ impl<R: ByteSource> Model for Lines<R> {
 }
 
 impl<R: ByteSource> Lines<R> {
-    ghost use Rattle.sedspace.specs.Stream.{Stream, left, lines_left, GivesLine, GivesLines, TakesLine, TakesAtMost, FirstIsLonger, NoneLeft, SeesEnd, LosesPart, FailsIfBroken, TellsLast, KeepsLines, KeepsFault, ReadsForBytes, ReadsOn, RisesAtMost};
+    ghost use Rattle.sedspace.specs.Stream.{Stream, left, lines_left, GivesLine, GivesLines, TakesLine, FirstIsLonger, NoneLeft, SeesEnd, LosesPart, FailsIfBroken, TellsLast, KeepsLines, KeepsFault, ReadsForBytes, ReadsOn, RisesAtMost};
+    ghost use Rattle.sedspace.specs.Lines.{TakesAtMost};
     ghost use Rattle.sedspace.specs.Gathering.{Gathers};
 
     /// Makes the lines of the source, and reserves memory to read ahead by at most `look` bytes, from 1 to 2^30. Nothing

@@ -3,7 +3,8 @@ use Rattle.std.proofs.Common.{◌≡◌, ℕ, ◌≤◌, ◌⊎◌, List, Some, 
 use Rattle.std.specs.Prelude.{slice_set}
 use Rattle.sedre.specs.Tree.{Tree, empty, set, begin, end, seq, alt, group, star, opt}
 use Rattle.sedtext.specs.Spans.{no_copy, Spans}
-use Rattle.sedtext.specs.Caps.{Groups, forget, Caps, LastCut, LastCopy, only, then}
+use Rattle.sedtext.specs.Caps.{Caps, LastCut, LastCopy, only, then}
+use Rattle.sedtext.specs.Groups.{Groups, forget}
 
 LastCut-unique : (A B : ℕ → ℕ → Type 0) (i j k l : ℕ) → LastCut A B i j k → LastCut A B i j l → k ≡ l
 LastCut-unique A B i j k l one other =

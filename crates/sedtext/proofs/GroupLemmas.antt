@@ -3,11 +3,13 @@ use Rattle.std.proofs.Common.{◌≡◌, ℕ, zero, suc, ◌<◌, Bool, true, fa
 use Rattle.std.specs.Prelude.{slice_get, cond}
 use Rattle.sedre.specs.Tree.{Tree, empty, set, begin, end, seq, alt, group, star, opt}
 use Rattle.sedtext.specs.Spans.{Spans}
-use Rattle.sedre.specs.Arena.{IsExpr, tree_at, tree_of}
+use Rattle.sedre.specs.Arena.{IsExpr}
+use Rattle.sedre.specs.Written.{tree_at, tree_of}
 use Rattle.sedre.specs.declared.types.Node.{Node}
 use Rattle.sedre.specs.declared.types.Node.TheVariants.{Empty, Set, Begin, End, Seq, Alt, Group, Star, Opt}
 use Rattle.sedre.proofs.TreeLemmas.{tree_at-node}
-use Rattle.sedtext.specs.Caps.{Groups, Caps, forget}
+use Rattle.sedtext.specs.Caps.{Caps}
+use Rattle.sedtext.specs.Groups.{Groups, forget}
 use Rattle.sedtext.specs.Matching.{caps, cut, last_start, spans}
 use Rattle.sedtext.proofs.NodeLemmas.{node_at}
 use Rattle.sedtext.proofs.MatchingLemmas.{caps-is}

@@ -6,9 +6,11 @@ use Rattle.std.proofs.lemmas.Bool.Decides.{same_from_decides}
 use Rattle.std.proofs.lemmas.Option.{slice_get_within, none-some}
 use Rattle.sedre.specs.Tree.{Tree, empty, set, begin, end, seq, alt, group, star, opt}
 use Rattle.sedtext.specs.Spans.{Copies, no_copy, one_more, Spans, Found, NotFound, SomeFound}
-use Rattle.sedtext.specs.Caps.{Groups, Caps, forget, LastCut, LastCopy, only, then, no_groups}
+use Rattle.sedtext.specs.Caps.{Caps, LastCut, LastCopy, only, then}
+use Rattle.sedtext.specs.Groups.{Groups, forget, no_groups}
 use Rattle.sedtext.specs.Reach.{Longest}
-use Rattle.sedtext.specs.Matching.{any, greatest, copies, takes, spans, longest, first_of, found_from, found, cut, first_copy, last_start, caps, report, SpansLaw, FoundLaw, NotFoundLaw, SomeFoundLaw, OneCapsLaw, CapsLaw, ReportLaw}
+use Rattle.sedtext.specs.Matching.{any, greatest, copies, takes, spans, longest, first_of, found_from, found, cut, first_copy, last_start, caps, report}
+use Rattle.sedtext.specs.MatchingLaws.{SpansLaw, FoundLaw, NotFoundLaw, SomeFoundLaw, OneCapsLaw, CapsLaw, ReportLaw}
 use Rattle.sedtext.proofs.SpanLemmas.{Copies-forward, Spans-forward, Spans-within}
 use Rattle.sedtext.proofs.CapsLemmas.{Caps-unique}
 

@@ -5,8 +5,8 @@ use Rattle.std.proofs.lemmas.Bool.{cases_lt, cases_eq}
 use Rattle.std.proofs.lemmas.List.{get_or-set_same, get_or-set_other, set_past}
 use Rattle.sedre.specs.Tree.{Tree, empty, set, begin, end, seq, alt, group, star, opt}
 use Rattle.sedtext.specs.Spans.{Spans}
-use Rattle.sedtext.specs.Caps.{Groups, forget, Caps, LastCopy, only, then, no_groups, IsReport}
-use Rattle.sedtext.specs.Parts.{span_of, SpanIn}
+use Rattle.sedtext.specs.Caps.{Caps, LastCopy, only, then, IsReport}
+use Rattle.sedtext.specs.Groups.{Groups, forget, no_groups, span_of, SpanIn}
 use Rattle.sedtext.proofs.SpanLemmas.{Spans-forward}
 
 -- all spans lie in a text of n bytes

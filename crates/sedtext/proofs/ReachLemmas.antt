@@ -2,7 +2,8 @@
 use Rattle.std.proofs.Common.{◌≡◌, ◌≢◌, ℕ, ◌<◌, ◌≤◌, ◌⊎◌, ◌↔◌, Bool, false, List, Option, Some, None, IsTrue, refl, sym, ap, subst, inl, inr, true≢false, arith}
 use Rattle.std.specs.Prelude.{slice_get, slice_index_or}
 use Rattle.sedtext.specs.Spans.{Copies, no_copy, Spans}
-use Rattle.sedre.specs.Arena.{IsArena, IsPart, tree_of, tree_at}
+use Rattle.sedre.specs.Arena.{IsArena, IsPart}
+use Rattle.sedre.specs.Written.{tree_of, tree_at}
 use Rattle.sedre.specs.declared.types.Node.{Node}
 use Rattle.sedre.specs.declared.types.Node.TheVariants.{Empty, Set, Begin, End, Seq, Alt, Group, Star, Opt}
 use Rattle.sedre.proofs.TreeLemmas.{tree_at-node}

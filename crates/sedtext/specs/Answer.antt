@@ -4,7 +4,7 @@ use Rattle.sedre.specs.Tree.{Tree}
 use Rattle.sedtext.specs.declared.found.Found.{Found}
 use Rattle.sedtext.specs.Spans.{Found as IsFound, NotFound}
 use Rattle.sedtext.specs.Caps.{IsReport}
-use Rattle.sedtext.specs.Parts.{SpanIn, span_of}
+use Rattle.sedtext.specs.Groups.{SpanIn, span_of}
 use Rattle.sedtext.specs.Matching.{found, report}
 
 -- where the match begins and ends, if there is one

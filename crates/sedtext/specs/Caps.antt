@@ -1,22 +1,10 @@
 -- Which span each group of a match has. XBD 9.1 says that parts match the longest from left to right, and that a null string
 -- goes before no match. How that is read here, where a concatenation is cut, which of several alternatives is taken, which
 -- copy is the last or empty, and which groups are forgotten, is this project's own.
-use Rattle.std.specs.Prelude.{◌≡◌, ℕ, ◌<◌, ◌≤◌, ◌⊎◌, List, replicate, slice_set, Option, Some, None, IsTrue}
+use Rattle.std.specs.Prelude.{◌≡◌, ℕ, ◌<◌, ◌≤◌, ◌⊎◌, List, slice_set, Some, IsTrue}
 use Rattle.sedre.specs.Tree.{Tree, seq, alt, group, star, opt}
 use Rattle.sedtext.specs.Spans.{Copies, Spans}
-
--- entry k is the span of group k; a group without an entry of its own is not kept
-abbrev pub Groups : Type 0
-Groups = List (Option (ℕ × ℕ))
-
--- the groups inside the expression have no span
-abbrev pub forget : Tree → Groups → Groups
-forget (seq a b) g = forget b (forget a g)
-forget (alt a b) g = forget b (forget a g)
-forget (group k a) g = forget a (slice_set g k None)
-forget (star a first) g = forget a g
-forget (opt a first) g = forget a g
-forget other g = g
+use Rattle.sedtext.specs.Groups.{Groups, forget, no_groups}
 
 -- k is the greatest place up to which A leads from i, and from which B leads to j
 pub record LastCut (A B : ℕ → ℕ → Type 0) (i j k : ℕ) : Type 0 where
@@ -47,10 +35,6 @@ Caps (opt a first) w i j old new =
     ⊎ (((i ≡ j) × IsTrue first × Spans a w i i × Caps a w i i (forget a old) new)
     ⊎ ((i ≡ j) × ((IsTrue first → Spans a w i i → ⊥) × (new ≡ old))))
 Caps other w i j old new = new ≡ old
-
--- before a match no group has a span
-abbrev pub no_groups : Groups
-no_groups = replicate 10 None
 
 -- the groups of a match of i..j as they are reported: entry 0 is the whole match
 abbrev pub IsReport : Tree → List ℕ → ℕ → ℕ → Groups → Type 0

@@ -1,8 +1,9 @@
 pub mod Spans
+pub mod Groups
 pub mod Caps
-pub mod Parts
 pub mod Answer
 pub mod Matching
+pub mod MatchingLaws
 pub mod Bytes
 pub mod SearchRoom
 pub mod Costs

@@ -1,8 +1,7 @@
--- What is matched, computed by trying all places; the laws below say that it is what the relations tell.
-use Rattle.std.specs.Prelude.{◌≡◌, ℕ, zero, suc, ◌+◌, ◌-◌, ◌≤◌, Bool, false, ◌&&◌, ◌||◌, cond, eqb, ltb, List, length, slice_get, slice_index_or, slice_set, Option, Some, None, IsTrue, is_some, unwrap_or, ◌↔◌}
+-- What is matched, computed by trying all places. That it is what the relations tell, MatchingLaws says.
+use Rattle.std.specs.Prelude.{ℕ, zero, suc, ◌+◌, ◌-◌, Bool, false, ◌&&◌, ◌||◌, cond, eqb, ltb, List, length, slice_get, slice_index_or, slice_set, Option, Some, None, unwrap_or}
 use Rattle.sedre.specs.Tree.{Tree, empty, set, begin, end, seq, alt, group, star, opt}
-use Rattle.sedtext.specs.Spans.{Spans, Found, NotFound, SomeFound}
-use Rattle.sedtext.specs.Caps.{Groups, Caps, forget, no_groups, IsReport}
+use Rattle.sedtext.specs.Groups.{Groups, forget, no_groups}
 
 -- some number below n passes the test
 unfoldable pub any : (ℕ → Bool) → ℕ → Bool
@@ -14,7 +13,8 @@ unfoldable pub greatest : (ℕ → Bool) → ℕ → Option ℕ
 greatest test zero = None
 greatest test (suc n) = cond (test n) (Some n) (greatest test n)
 
--- at most n copies, none of them empty, lead from i to j
+-- at most n copies, none of them empty, lead from i to j. Each goes a byte further at least, so between i and j there are no
+-- more than j of them: with n = j this is any number
 unfoldable pub copies : ℕ → (ℕ → ℕ → Bool) → ℕ → ℕ → Bool
 copies zero step i j = eqb i j
 copies (suc n) step i j = eqb i j || any (λ k. ltb i k && (step i k && copies n step k j)) (j + 1)
@@ -82,26 +82,3 @@ caps other w i j old = old
 -- the groups of a match of i..j as they are reported
 unfoldable pub report : Tree → List ℕ → ℕ → ℕ → Groups
 report e w i j = slice_set (caps e w i j no_groups) 0 (Some (i, j))
-
--- the computed match is the one that the relations tell
-abbrev pub SpansLaw : Type 0
-SpansLaw = (e : Tree) (w : List ℕ) (i j : ℕ) → IsTrue (spans e w i j) ↔ Spans e w i j
-
-abbrev pub FoundLaw : Type 0
-FoundLaw = (e : Tree) (w : List ℕ) (p i j : ℕ) → p ≤ length w → (found e w p ≡ Some (i, j)) ↔ Found e w p i j
-
-abbrev pub NotFoundLaw : Type 0
-NotFoundLaw = (e : Tree) (w : List ℕ) (p : ℕ) → p ≤ length w → (found e w p ≡ None) ↔ NotFound e w p
-
-abbrev pub SomeFoundLaw : Type 0
-SomeFoundLaw = (e : Tree) (w : List ℕ) (p : ℕ) → p ≤ length w → IsTrue (is_some (found e w p)) ↔ SomeFound e w p
-
--- a match has one report of its groups alone
-abbrev pub OneCapsLaw : Type 0
-OneCapsLaw = (e : Tree) (w : List ℕ) (i j : ℕ) (old new other : Groups) → Caps e w i j old new → Caps e w i j old other → new ≡ other
-
-abbrev pub CapsLaw : Type 0
-CapsLaw = (e : Tree) (w : List ℕ) (i j : ℕ) (old new : Groups) → Spans e w i j → (new ≡ caps e w i j old) ↔ Caps e w i j old new
-
-abbrev pub ReportLaw : Type 0
-ReportLaw = (e : Tree) (w : List ℕ) (i j : ℕ) (groups : Groups) → Spans e w i j → (groups ≡ report e w i j) ↔ IsReport e w i j groups

@@ -1,7 +1,7 @@
 //! What all matches of an expression hold, by which places are passed over at which none begins: a literal, and the rarest
 //! bytes at fixed distances after their beginning.
 ghost use Rattle.std.specs.Prelude.{◌-◌, ◌*◌, ◌≤◌, length, IfOk, IfSome};
-ghost use Rattle.sedre.specs.Arena.{tree};
+ghost use Rattle.sedre.specs.Written.{tree};
 ghost use Rattle.sedre.specs.Steps.{TakesAtLeast};
 ghost use Rattle.sedre.specs.Tree.{Tree};
 ghost use Rattle.sedtext.specs.Beginnings.{AllBegin};

@@ -1,5 +1,5 @@
 //! The computed match is the one that the relations tell.
-ghost use Rattle.sedtext.specs.Matching.{SpansLaw, FoundLaw, NotFoundLaw, SomeFoundLaw, OneCapsLaw, CapsLaw, ReportLaw};
+ghost use Rattle.sedtext.specs.MatchingLaws.{SpansLaw, FoundLaw, NotFoundLaw, SomeFoundLaw, OneCapsLaw, CapsLaw, ReportLaw};
 
 /// An expression spans a part of a text exactly where the computed test says so.
 pub fn spans_law()

@@ -13,7 +13,8 @@ ghost use Rattle.sedengine.specs.Move.{acts, passes, line_to, tells_at, to_sink}
 ghost use Rattle.sedengine.specs.Ends.{reaches, is_next};
 ghost use Rattle.sedengine.specs.Meters.{Sent, SinkView};
 ghost use Rattle.sedengine.specs.Calls.{NoSinkFailed, Puts, Reads, Delivers};
-ghost use Rattle.sedengine.specs.Run.{TellsFiles, at_lines, setting};
+ghost use Rattle.sedengine.specs.Run.{at_lines, setting};
+ghost use Rattle.sedengine.specs.ScriptSetting.{TellsFiles};
 ghost use Rattle.sedengine.specs.Steps.{ActsQuietly, HasAction, KeepsRun, Performs, PerformsSteps, Steps, writes_nothing, takes_line, weight};
 
 use super::Machine;

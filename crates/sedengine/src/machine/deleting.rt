@@ -5,7 +5,8 @@ ghost use Rattle.sedscript.specs.declared.types.Action.TheVariants.{Change, Dele
 ghost use Rattle.sedengine.specs.Move.{acts};
 ghost use Rattle.sedengine.specs.Meters.{Sent};
 ghost use Rattle.sedengine.specs.Calls.{Delivers};
-ghost use Rattle.sedengine.specs.Run.{TellsFiles, at_lines, setting};
+ghost use Rattle.sedengine.specs.Run.{at_lines, setting};
+ghost use Rattle.sedengine.specs.ScriptSetting.{TellsFiles};
 ghost use Rattle.sedengine.specs.Steps.{KeepsRun, Performs, weight};
 
 use super::Machine;

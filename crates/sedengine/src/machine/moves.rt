@@ -5,7 +5,8 @@ ghost use Rattle.std.specs.Io.KnownBytes.{Keeps};
 ghost use Rattle.sedspace.specs.Stream.{lines_left};
 ghost use Rattle.sedengine.specs.Meters.{Sent};
 ghost use Rattle.sedengine.specs.Calls.{Reads, Delivers};
-ghost use Rattle.sedengine.specs.Run.{Cycles, Ending, TellsFiles, at_lines, setting, starts_cycle, outcome, input_of};
+ghost use Rattle.sedengine.specs.Run.{Cycles, Ending, at_lines, setting, starts_cycle, outcome, input_of};
+ghost use Rattle.sedengine.specs.ScriptSetting.{TellsFiles};
 ghost use Rattle.sedengine.specs.Steps.{KeepsRun, Steps, weight};
 
 use super::Machine;

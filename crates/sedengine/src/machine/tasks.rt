@@ -6,7 +6,8 @@ ghost use Rattle.sedspace.specs.Stream.{lines_left};
 ghost use Rattle.sedengine.specs.State.{begin, rebegin, do_at, print_pattern, flush};
 ghost use Rattle.sedengine.specs.Meters.{Sent, SinkView};
 ghost use Rattle.sedengine.specs.Calls.{NoSinkFailed, Reads, Delivers};
-ghost use Rattle.sedengine.specs.Run.{TellsFiles, at_lines, setting};
+ghost use Rattle.sedengine.specs.Run.{at_lines, setting};
+ghost use Rattle.sedengine.specs.ScriptSetting.{TellsFiles};
 ghost use Rattle.sedengine.specs.Steps.{KeepsRun, Moves, Steps, weight};
 
 use super::Machine;

@@ -1,5 +1,5 @@
 use Rattle.std.proofs.Common.{subst, arith}
-use Rattle.sedre.specs.Arena.{tree}
+use Rattle.sedre.specs.Written.{tree}
 use Rattle.sedmatch.specs.Direct.{SpannedAs}
 use Rattle.sedmatch.proofs.CandidateLemmas.{byte_before, byte_run_before, byte_run_end_before, choice_before, literal_before, run_byte_before}
 use Rattle.sedmatch.proofs.DirectLemmas.{first_looked}

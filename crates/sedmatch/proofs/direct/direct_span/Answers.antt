@@ -1,4 +1,4 @@
-use Rattle.sedre.specs.Arena.{tree}
+use Rattle.sedre.specs.Written.{tree}
 use Rattle.sedmatch.proofs.DirectLemmas.{direct_answer, looks_at_match, looks_from, span_lies}
 use Rattle.sedmatch.proofs.direct.direct_span.Goals as goal
 

@@ -1,5 +1,5 @@
 use Rattle.std.proofs.Common.{◌+◌, ◌*◌, length, subst}
-use Rattle.sedre.specs.Arena.{Written, tree}
+use Rattle.sedre.specs.Written.{Written, tree}
 use Rattle.sedre.specs.Steps.{Takes}
 use Rattle.sedtext.specs.Answer.{SpanAnswer}
 use Rattle.sedpass.proofs.OccurrenceLemmas.{answer_found}

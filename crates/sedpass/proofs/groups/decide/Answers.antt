@@ -2,8 +2,8 @@ use Rattle.std.proofs.Common.{◌≡◌, ◌+◌, ◌-◌, ◌*◌, ◌<◌, ◌
 use Rattle.std.proofs.lemmas.List.{nil_from_length, reverse-append}
 use Rattle.sedpass.specs.Decide.{nodes_in, text_in, told_of, undecided, found, part_cost, tasks_cost}
 use Rattle.sedpass.specs.Turns.{Runs, AreReady, AreShort, weights}
-use Rattle.sedre.specs.Tree.{size}
-use Rattle.sedre.specs.Arena.{tree_at, tree}
+use Rattle.sedre.specs.Sizes.{size}
+use Rattle.sedre.specs.Written.{tree_at, tree}
 use Rattle.sedpass.specs.declared.groups.Task.{Task}
 use Rattle.sedpass.specs.declared.groups.Task.TheVariants.{Apart}
 use Rattle.sedpass.proofs.SpineLemmas.{decides, decides_due, all_paid, first_paid, least_same, least_on}

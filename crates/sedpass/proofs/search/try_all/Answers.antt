@@ -1,6 +1,6 @@
 use Rattle.std.proofs.Common.{◌≡◌, ◌+◌, ◌-◌, ◌*◌, ◌≤◌, ℕ, length, Option, None, Some, refl, subst, sym, arith}
 use Rattle.sedtext.specs.Reach.{Longest}
-use Rattle.sedre.specs.Arena.{tree}
+use Rattle.sedre.specs.Written.{tree}
 use Rattle.sedtext.proofs.SpanLemmas.{Spans-forward, Spans-within}
 use Rattle.std.specs.Prelude.{IfSome}
 use Rattle.sedpass.proofs.CountLemmas.{least_none, least_both}

@@ -1,7 +1,8 @@
 use Rattle.std.proofs.Common.{◌≡◌, ◌∙◌, ◌+◌, ◌-◌, sym, ap, subst, arith, length, drop}
 use Rattle.std.proofs.lemmas.List.{length-take}
 use Rattle.sedre.specs.declared.syntax.Here.{Here}
-use Rattle.sedre.specs.Items.{IsAfter, repeats}
+use Rattle.sedre.specs.Items.{repeats}
+use Rattle.sedre.specs.Finished.{IsAfter}
 use Rattle.sedre.proofs.Bounds.{interval_after}
 use Rattle.sedre.proofs.items.item_at.Goals as goal
 

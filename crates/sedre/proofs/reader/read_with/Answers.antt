@@ -3,8 +3,9 @@ use Rattle.sedre.specs.declared.syntax.Here.TheVariants.{Is}
 use Rattle.sedre.specs.declared.syntax.Item.{Item}
 use Rattle.sedre.specs.declared.syntax.Item.TheVariants.{Close}
 use Rattle.sedre.specs.declared.syntax.Here.{Here}
-use Rattle.sedre.specs.Items.{item_at, IsAfter}
-use Rattle.sedre.specs.Tree.{size}
+use Rattle.sedre.specs.Items.{item_at}
+use Rattle.sedre.specs.Finished.{IsAfter}
+use Rattle.sedre.specs.Sizes.{size}
 use Rattle.sedre.specs.Stacks.{Nesting, start, step}
 use Rattle.sedre.proofs.Represented.{represents_count}
 use Rattle.sedre.proofs.Reading.{reading_start, reading_step, reading_bad, reading_stray, reading_unclosed, reading_whole}

@@ -1,6 +1,6 @@
 use Rattle.std.proofs.Common.{arith, ◌≡◌, inl, sym, subst, ◌∙◌, ◌⊎◌, length}
 use Rattle.sedscript.specs.declared.types.TheConstants.{NO_MEMORY}
-use Rattle.sedscript.specs.Expressions.{Fails}
+use Rattle.sedscript.specs.FirstFault.{Fails}
 use Rattle.sedscript.specs.Reading.{Reading}
 use Rattle.sedscript.specs.Answers.{as_addressed}
 use Rattle.sedscript.specs.Addresses.{Addressed}

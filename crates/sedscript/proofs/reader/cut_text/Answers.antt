@@ -1,6 +1,6 @@
 use Rattle.std.proofs.Common.{inl, inr, length, arith}
 use Rattle.std.proofs.lemmas.Result.{err_from_is_err_and}
-use Rattle.sedscript.specs.Script.{early}
+use Rattle.sedscript.specs.FirstFault.{early}
 use Rattle.sedscript.proofs.Cuts.{cut_next, cut_ends, end_here, next_here, cut_start}
 use Rattle.sedscript.proofs.reader.cut_text.Goals as goal
 

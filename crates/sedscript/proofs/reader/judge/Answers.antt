@@ -1,5 +1,5 @@
 use Rattle.std.proofs.Common.{inl, sym, ◌∙◌}
-use Rattle.sedscript.specs.Script.{afterwards}
+use Rattle.sedscript.specs.FirstFault.{afterwards}
 use Rattle.sedscript.proofs.reader.judge.Goals as goal
 
 pub returns-in-Some-clause-fault : goal.returns-in-Some-clause-fault

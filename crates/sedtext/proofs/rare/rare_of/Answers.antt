@@ -1,4 +1,4 @@
-use Rattle.sedre.specs.Arena.{tree}
+use Rattle.sedre.specs.Written.{tree}
 use Rattle.sedtext.proofs.rare.rare_of.Goals as goal
 
 pub returns-in-None-clause-rare : goal.returns-in-None-clause-rare

@@ -2,7 +2,8 @@ use Rattle.std.proofs.Common.{◌≡◌, ◌+◌, ℕ, List, None, Some, Ok}
 use Rattle.std.specs.Io.KnownBytes.{Keeps}
 use Rattle.sedspace.specs.Stream.{lines_left}
 use Rattle.sedengine.specs.Calls.{Reads, Delivers}
-use Rattle.sedengine.specs.Run.{InOneCycle, TellsFiles, setting, at_lines}
+use Rattle.sedengine.specs.Run.{InOneCycle, setting, at_lines}
+use Rattle.sedengine.specs.ScriptSetting.{TellsFiles}
 use Rattle.sedengine.specs.Steps.{KeepsRun, weight}
 use Rattle.sedengine.proofs.Runs.{Reached}
 use Rattle.sedengine.proofs.machine.Machine.moves_of_cycle.Given as goal

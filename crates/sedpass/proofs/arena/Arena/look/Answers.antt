@@ -1,7 +1,8 @@
 use Rattle.std.proofs.Common.{◌≡◌, ℕ, ◌<◌, ◌≤◌, ◌∙◌, Bool, get_or, refl, ap, sym, Some, subst, arith}
 use Rattle.std.specs.Prelude.{slice_get, length}
 use Rattle.std.proofs.lemmas.Option.{slice_get_read}
-use Rattle.sedre.specs.Arena.{Written, IsArena}
+use Rattle.sedre.specs.Arena.{IsArena}
+use Rattle.sedre.specs.Written.{Written}
 use Rattle.sedre.specs.Mirror.{seen, node_seen}
 use Rattle.sedre.specs.declared.types.Node.{Node}
 use Rattle.sedre.proofs.MirrorLemmas.{seen-arena, seen-node}

@@ -1,6 +1,6 @@
 use Rattle.std.proofs.Common.{◌≡◌, ◌∙◌, ◌<◌, ◌≤◌, ap, sym, subst, Some, length, slice_get}
 use Rattle.std.proofs.lemmas.Option.{slice_get-get_or}
-use Rattle.sedscript.specs.Script.{Program}
+use Rattle.sedscript.specs.Program.{Program}
 use Rattle.sedscript.proofs.script.Script.expr.Goals as goal
 
 pub returns-clause-is : goal.returns-clause-is

@@ -1,0 +1,23 @@
+-- Private to the proofs: no contract of a public item cites what stands here.
+-- What an edit leaves ahead, as its caller tells the input where `q` ends the run.
+use Rattle.std.specs.Prelude.{◌≡◌, ℕ, Option, List, [], ◌++◌, length}
+use Rattle.std.specs.Io.KnownBytes.{prepend_known}
+use Rattle.sedspace.specs.Lines.{lines}
+use Rattle.sedengine.specs.Limits.{Limits}
+use Rattle.sedengine.specs.State.{State, Setting}
+use Rattle.sedengine.specs.Move.{after}
+use Rattle.sedengine.specs.Run.{lost}
+use Rattle.sedengine.specs.TakenInput.{LosesPartAfter, size_of}
+use Rattle.sedengine.specs.declared.ends.Ended.{Ended}
+use Rattle.sedengine.specs.declared.ends.Ended.TheVariants.{Done}
+
+-- An edit left so many bytes ahead at this end: where they still come, no more is gone than the lines that some moves took and,
+-- at an end in the middle of a line, a part of that line. At the ordinary end these are all moves of the run.
+pub record LeavesAhead (l : Limits) (g : Setting) (s : State) (old new : Option (List ℕ)) (count : ℕ) (end : Ended) : Type 0 where
+  pub t : ℕ
+  pub over : end ≡ Done → (after g s t).tasks ≡ []
+  pub lines : List (List ℕ)
+  pub are : s.lines ≡ lines ++ (after g s t).lines
+  pub ahead : List ℕ
+  pub counts : count ≡ length ahead
+  pub gone : LosesPartAfter old (prepend_known ahead new) (size_of lines) (lost l end)

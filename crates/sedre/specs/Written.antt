@@ -1,0 +1,39 @@
+-- An expression as a list of nodes, each after its parts, and the tree that it is.
+use Rattle.std.specs.Prelude.{ℕ, List, Option, Some, None, zero, suc, slice_get, ◌-◌, length}
+use Rattle.sedre.specs.declared.types.Node.{Node}
+use Rattle.sedre.specs.Tree.{Tree, empty, set, begin, end, seq, alt, group, star, opt}
+use Rattle.sedre.specs.declared.types.Node.TheVariants.{Empty, Set, Begin, End, Seq, Alt, Group, Star, Opt}
+
+-- what a contract sees of an expression
+pub record Written : Type 0 where
+  pub nodes : List Node
+  pub groups : ℕ
+
+-- the tree at a node, given the trees of its parts
+abbrev pub tree_of : (ℕ → Tree) → Node → Tree
+tree_of part Empty = empty
+tree_of part (Set s) = set s
+tree_of part Begin = begin
+tree_of part End = end
+tree_of part (Seq a b) = seq (part a.index) (part b.index)
+tree_of part (Alt a b) = alt (part a.index) (part b.index)
+tree_of part (Group k a) = group k (part a.index)
+tree_of part (Star a first) = star (part a.index) first
+tree_of part (Opt a first) = opt (part a.index) first
+
+abbrev pub tree_if : (ℕ → Tree) → Option Node → Tree
+tree_if part None = empty
+tree_if part (Some node) = tree_of part node
+
+-- the tree at the node x, following parts at most n deep
+unfoldable pub tree_within : ℕ → List Node → ℕ → Tree
+tree_within zero nodes x = empty
+tree_within (suc n) nodes x = tree_if (tree_within n nodes) (slice_get nodes x)
+
+-- the tree at the node x
+unfoldable pub tree_at : List Node → ℕ → Tree
+tree_at nodes x = tree_within (suc x) nodes x
+
+-- the tree of a whole expression
+abbrev pub tree : Written → Tree
+tree e = tree_at e.nodes (length e.nodes - 1)

@@ -1,0 +1,17 @@
+-- A script as its callers see it.
+use Rattle.std.specs.Prelude.{ℕ, List, Bool}
+use Rattle.sedre.specs.Written.{Written}
+use Rattle.sedscript.specs.declared.types.Command.{Command}
+use Rattle.sedscript.specs.declared.substitution.Substitution.{Substitution}
+
+-- a script as its callers see it
+pub record Program : Type 0 where
+  pub commands : List Command
+  pub expressions : List Written
+  pub texts : List (List ℕ)
+  pub substitutions : List Substitution
+  pub tables : List (List ℕ)
+  pub rfiles : List (List ℕ)
+  pub wfiles : List (List ℕ)
+  pub quiet : Bool
+  pub max_nodes : ℕ
