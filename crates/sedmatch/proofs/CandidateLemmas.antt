@@ -1,15 +1,17 @@
 -- Where in a text of many lines a line may have a match.
-use Rattle.std.proofs.Common.{◌≡◌, ℕ, ◌+◌, ◌<◌, ◌≤◌, Bool, List, ◌++◌, length, length-append, get_or, Option, Some, None, sym, subst, ap, ◌∙◌, arith}
-use Rattle.std.specs.Prelude.{slice_get}
+use Rattle.std.proofs.Common.{◌≡◌, ℕ, ◌+◌, ◌-◌, ◌<◌, ◌≤◌, Bool, List, ◌++◌, length, length-append, get_or, Option, Some, None, refl, sym, subst, ap, ◌∙◌, arith}
+use Rattle.std.specs.Prelude.{slice_get, IfSome}
 use Rattle.std.proofs.lemmas.List.{get_or-append-add, get_or_append_left}
 use Rattle.std.proofs.lemmas.Option.{slice_get_within, slice_get-get_or, get_or_from_slice_get}
 use Rattle.memchr.specs.Find.{OccursAt}
+use Rattle.sedre.specs.Steps.{Counted, TakesAtLeast}
 use Rattle.sedre.specs.Tree.{Tree}
 use Rattle.sedtext.specs.Spans.{SomeFound}
-use Rattle.sedtext.specs.Bytes.{AreBytes, FirstFrom}
-use Rattle.sedtext.specs.Choice.{ChoiceAt, FirstChoice}
-use Rattle.sedtext.specs.Needed.{FirstLiteral, IsNeeded}
+use Rattle.sedtext.specs.Bytes.{AreBytes, FirstFrom, looked_at}
+use Rattle.sedtext.specs.Choice.{ChoiceAt, ChoiceSpans, FirstChoice}
+use Rattle.sedtext.specs.Needed.{FirstLiteral, IsNeeded, passed_to}
 use Rattle.sedtext.specs.declared.needed.Needed.{Needed}
+use Rattle.sedtext.proofs.CountLemmas.{least_counted, least_less}
 use Rattle.sedmatch.specs.Direct.{FirstWith, FormSpans, SpannedAs, StartsWith}
 use Rattle.sedmatch.specs.Candidates.{IsBefore, NoMatchBefore}
 use Rattle.sedmatch.specs.declared.direct.First.{First}
@@ -101,3 +103,20 @@ module _ (e : Tree) (w : List ℕ) (bytes : AreBytes w) (r : Option ℕ) where
       let s = spans_there (Choice words) form before line behind is found in
       let there : ChoiceAt words w (length before + found.0) = subst (λ (w : List ℕ). ChoiceAt words w (length before + found.0)) (sym is) (choice_there before line behind words found.0 (s.0, s.1, s.2, s.3)) in
       choice_after words w r (length before + found.0) (length before + length line) h there (omega (arith, found.3)) ends
+
+-- What is counted up to the place.
+
+pub counts_byte : (n s t : ℕ) (r : Option ℕ) → Counted s t (looked_at n 0 r) → IfSome r (λ k. TakesAtLeast s t k)
+counts_byte n s t None counted = tt
+counts_byte n s t (Some k) counted = least_counted s t (k + 1 - 0) k counted (omega arith)
+
+pub counts_literal : (n m s t : ℕ) (r : Option ℕ) → Counted s t (passed_to n 0 m r) → IfSome r (λ k. TakesAtLeast s t k)
+counts_literal n m s t None counted = tt
+counts_literal n m s t (Some k) counted = least_counted s t (k + m - 0) k counted (omega arith)
+
+pub counts_choice : (literals : List (List ℕ)) (w : List ℕ) (s t : ℕ) (r : Option ℕ) → FirstChoice literals w 0 r → IfSome r (λ k. (j : ℕ) → ChoiceSpans literals w k j → TakesAtLeast s t (j - 0)) →
+    IfSome r (λ k. TakesAtLeast s t k)
+counts_choice literals w s t None first looks = tt
+counts_choice literals w s t (Some k) first looks =
+    let can = first.2 in
+    least_less s t (k + length can.0 - 0) k (looks (k + length can.0) (can.0, can.1, can.2, can.3, refl)) (omega arith)

@@ -615,6 +615,7 @@ pub fn direct_matches(form: &DirectForm, text: &Text, from: usize, steps: &mut S
 pub fn direct_candidate(form: &DirectForm, text: &Text, steps: &mut Steps) -> Option<usize>
     ensures before { (e : Written) → IsDirect e form.now → NoMatchBefore (tree e) text.now result }
     ensures cost { Takes steps.old steps.new (25 * (length text.now + 1)) }
+    ensures counts { IfSome result (λ k. TakesAtLeast steps.old steps.new k) }
 {
     are_bytes(text);
     match form {

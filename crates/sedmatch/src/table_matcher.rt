@@ -201,6 +201,7 @@ impl TableMatcher {
     pub fn candidate(&self, text: &Text, steps: &mut Steps) -> Option<usize>
         ensures before { NoMatchBefore (tree self.now) text.now result }
         ensures cost { Takes steps.old steps.new (25 * (length text.now + 1)) }
+        ensures counts { IfSome result (λ k. TakesAtLeast steps.old steps.new k) }
     {
         match &self.engine {
             Engine::Direct(_, form) => direct_candidate(form, text, steps),

@@ -59,6 +59,11 @@ pub least_less : (s t n k : ℕ) → TakesAtLeast s t n → k ≤ n → TakesAtL
 unfolding TakesAtLeast
 least_less s t n k before less = omega (arith, before, less)
 
+-- four loops over as many nodes
+pub least_four : (s a b c d n m : ℕ) → Counted s a n → Counted a b n → Counted b c n → Counted c d n → 4 * n ≡ m → TakesAtLeast s d m
+unfolding TakesAtLeast Counted
+least_four s a b c d n m one two three four is = omega (arith, one, two, three, four, is)
+
 -- what passes over a match from a later place on does so from an earlier one, where the looks before went as far
 pub passes_later : (e : Tree) (w : List ℕ) (p q s t u : ℕ) → p ≤ q → s ≤ t → TakesAtLeast s t (q - p) → PassesOver e w q t u → PassesOver e w p s u
 passes_later e w p q s t u low grows looks over = record {

@@ -211,6 +211,7 @@ impl Kept {
         ensures same { SameKept self.old self.new }
         ensures region { self.new.region ≡ self.old.region }
         ensures cost { Takes steps.old steps.new (4 * length subject.entry.prepared.now.arena.expr.nodes) }
+        ensures counts { TakesAtLeast steps.old steps.new (4 * length subject.entry.prepared.now.arena.expr.nodes) }
     {
         let nodes = subject.prepared.nodes();
         let state = table.state_at(offset);
@@ -384,6 +385,7 @@ impl Kept {
         ensures to { self.new.region.to ≡ min self.old.region.end (place / (table.old.room - 1) * (table.old.room - 1) + (table.old.room - 1)) }
         ensures cost { let m = length subject.entry.prepared.now.arena.expr.nodes in
             Pays steps.old steps.new (again m (self.old.region.end - place)) (again m (self.old.region.end - self.new.region.to)) }
+        ensures counts { TakesAtLeast steps.old steps.new (2 * (self.new.region.to - place)) }
     {
         let width = table.room - 1;
         let block = place / width;

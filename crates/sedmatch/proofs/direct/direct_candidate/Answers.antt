@@ -1,7 +1,7 @@
-use Rattle.std.proofs.Common.{subst, arith}
-use Rattle.sedre.specs.Written.{tree}
+use Rattle.std.proofs.Common.{length, refl, subst, arith}
 use Rattle.sedmatch.specs.Direct.{SpannedAs}
-use Rattle.sedmatch.proofs.CandidateLemmas.{byte_before, byte_run_before, byte_run_end_before, choice_before, literal_before, run_byte_before}
+use Rattle.sedtext.proofs.CountLemmas.{least_none}
+use Rattle.sedmatch.proofs.CandidateLemmas.{byte_before, byte_run_before, byte_run_end_before, choice_before, counts_byte, counts_choice, counts_literal, literal_before, run_byte_before}
 use Rattle.sedmatch.proofs.DirectLemmas.{first_looked}
 use Rattle.sedmatch.proofs.direct.direct_candidate.Goals as goal
 
@@ -42,3 +42,33 @@ pub returns-in-ByteThenRunAtEnd-clause-cost : goal.returns-in-ByteThenRunAtEnd-c
 returns-in-ByteThenRunAtEnd-clause-cost c =
     let looked = first_looked c.in-ByteThenRunAtEnd.first c.args.text.now 0 c.find_first-in-ByteThenRunAtEnd.result c.find_first-in-ByteThenRunAtEnd.ensures.first in
     (c.find_first-in-ByteThenRunAtEnd.ensures.cost.0, omega (arith, looked, c.find_first-in-ByteThenRunAtEnd.ensures.cost.1))
+
+pub returns-in-OneByte-clause-counts : goal.returns-in-OneByte-clause-counts
+returns-in-OneByte-clause-counts c = counts_byte (length c.args.text.now) c.args.steps.now c.find_first.new.steps c.find_first.result c.find_first.ensures.counts
+
+pub returns-in-ByteThenRun-clause-counts : goal.returns-in-ByteThenRun-clause-counts
+returns-in-ByteThenRun-clause-counts c = counts_byte (length c.args.text.now) c.args.steps.now c.find_first-in-ByteThenRun.new.steps c.find_first-in-ByteThenRun.result c.find_first-in-ByteThenRun.ensures.counts
+
+pub returns-in-RunThenByte-clause-counts : goal.returns-in-RunThenByte-clause-counts
+returns-in-RunThenByte-clause-counts c = counts_byte (length c.args.text.now) c.args.steps.now c.find_first-in-RunThenByte.new.steps c.find_first-in-RunThenByte.result c.find_first-in-RunThenByte.ensures.counts
+
+pub returns-in-ByteThenRunAtEnd-clause-counts : goal.returns-in-ByteThenRunAtEnd-clause-counts
+returns-in-ByteThenRunAtEnd-clause-counts c = counts_byte (length c.args.text.now) c.args.steps.now c.find_first-in-ByteThenRunAtEnd.new.steps c.find_first-in-ByteThenRunAtEnd.result c.find_first-in-ByteThenRunAtEnd.ensures.counts
+
+pub returns-in-Literal-clause-counts : goal.returns-in-Literal-clause-counts
+returns-in-Literal-clause-counts c = counts_literal (length c.args.text.now) _ c.args.steps.now c.start.new.steps c.start.result c.start.ensures.counts
+
+pub returns-in-Choice-clause-counts : goal.returns-in-Choice-clause-counts
+returns-in-Choice-clause-counts c = counts_choice c.in-Choice.choice c.args.text.now c.args.steps.now c.start-in-Choice.new.steps c.start-in-Choice.result c.start-in-Choice.ensures.first c.start-in-Choice.ensures.counts
+
+pub returns-in-Anchor-clause-counts : goal.returns-in-Anchor-clause-counts
+returns-in-Anchor-clause-counts c = least_none c.args.steps.now 0 refl
+
+pub returns-in-Anchor-2-clause-counts : goal.returns-in-Anchor-2-clause-counts
+returns-in-Anchor-2-clause-counts c = least_none c.args.steps.now 0 refl
+
+pub returns-in-Anchor-3-clause-counts : goal.returns-in-Anchor-3-clause-counts
+returns-in-Anchor-3-clause-counts c = least_none c.args.steps.now 0 refl
+
+pub returns-in-Anchor-4-clause-counts : goal.returns-in-Anchor-4-clause-counts
+returns-in-Anchor-4-clause-counts c = least_none c.args.steps.now 0 refl

@@ -1,7 +1,8 @@
-use Rattle.std.proofs.Common.{◌+◌, ◌-◌, ◌*◌, ◌/◌, ◌^◌, ◌<◌, refl, ◌∙◌, subst, arith}
+use Rattle.std.proofs.Common.{◌≡◌, ◌+◌, ◌-◌, ◌*◌, ◌/◌, ◌^◌, ◌<◌, refl, ◌∙◌, subst, arith}
 use Rattle.std.specs.Prelude.{length}
 use Rattle.sedtext.specs.Words.{AgreeBelow, row_of}
 use Rattle.sedpass.specs.Kept.{IsRegion}
+use Rattle.sedpass.proofs.CountLemmas.{least_four}
 use Rattle.sedpass.proofs.KeptLemmas.{edges_more, rows_long}
 use Rattle.sedpass.proofs.kept.Kept.keep_edge.Goals as goal
 
@@ -27,3 +28,10 @@ returns-clause-same c =
     let one = c.store.ensures in
     let two = c.store-2.ensures in
     record { root = refl; end = refl; places = refl; edges = two.len ∙ one.len; marks = rows_long c.args.self.now.edges c.store.new.self c.store-2.new.self one.len two.len one.lens two.lens }
+
+pub returns-clause-counts : goal.returns-clause-counts
+returns-clause-counts c =
+    let m = length c.args.subject.prepared.now.arena.expr.nodes in
+    let n = c.nodes-nodes.result in
+    let is : n ≡ m = c.nodes-nodes.ensures.value in
+    least_four c.args.steps.now c.load.new.steps c.load-2.new.steps c.store.new.steps c.store-2.new.steps n (4 * m) c.load.ensures.counts c.load-2.ensures.counts c.store.ensures.counts c.store-2.ensures.counts (omega (arith, is))

@@ -1,7 +1,9 @@
 use Rattle.std.proofs.Common.{◌≡◌, ◌+◌, ◌-◌, ◌*◌, ◌/◌, ◌<◌, ◌≤◌, refl, sym, ap, ◌∙◌, subst, arith}
 use Rattle.std.specs.Prelude.{length}
 use Rattle.std.proofs.Math.Nat.{div-mul-le_self, lt-div-mul-add}
+use Rattle.sedre.specs.Steps.{TakesAtLeast}
 use Rattle.sedpass.specs.Kept.{EdgesFrom, again}
+use Rattle.sedpass.proofs.CountLemmas.{least_since}
 use Rattle.sedpass.proofs.KeptLemmas.{edges_same, kept_passed, same_shape}
 use Rattle.sedpass.proofs.OwedLemmas.{again_cost}
 use Rattle.sedpass.proofs.kept.Kept.remake.Goals as goal
@@ -51,3 +53,11 @@ returns-clause-cost c =
       subst (λ v. c.pass.new.steps + again m (end - v) ≤ c.args.steps.now + again m (end - c.args.place)) (sym to)
           (again_cost m c.args.place c.min-to.result end _ c.right_end-offset.new.steps _ (omega (arith, after, before)) (omega arith) one.1 (λ lt. (c.right_end-offset.ensures.inside lt).1) two.1),
     )
+
+pub returns-clause-counts : goal.returns-clause-counts
+returns-clause-counts c =
+    let width = c.args.table.now.room - 1 in
+    let from : c.args.place / width * width ≤ c.args.place = div-mul-le_self c.args.place width in
+    let to : c.pass.new.self.region.to ≡ c.min-to.result = c.pass.ensures.steady (omega (arith, from)) in
+    subst (λ v. TakesAtLeast c.args.steps.now c.pass.new.steps (2 * (v - c.args.place))) (sym to)
+    (least_since c.args.steps.now c.right_end-offset.new.steps c.pass.new.steps (2 * (c.min-to.result - c.args.place)) c.right_end-offset.ensures.cost.0 c.pass.ensures.counts)
