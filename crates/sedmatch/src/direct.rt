@@ -6,7 +6,7 @@
 //! has to be found out of the expression in a search. What a search costs falls with the place from which it starts: all
 //! matches of a text together cost no more than one pass over it.
 ghost use Rattle.std.specs.Prelude.{◌≡◌, ℕ, ◌+◌, ◌-◌, ◌*◌, ◌<◌, ◌≤◌, ◌↔◌, length, slice_get, Some, IfOk, IfSome, IsTrue};
-ghost use Rattle.sedre.specs.Arena.{IsArena, Written, tree};
+ghost use Rattle.sedre.specs.Arena.{IsArena, IsExpr, Written, tree};
 ghost use Rattle.sedre.specs.Steps.{Takes, Counted, TakesAtLeast};
 ghost use Rattle.sedre.specs.declared.types.Node.TheVariants.{Seq, Set};
 ghost use Rattle.sedtext.specs.Answer.{SpanAnswer};
@@ -256,12 +256,21 @@ fn choice_form(
     }
 }
 
+/// For proofs: what was read is an expression, with no more nodes than one may have.
+#[inline(always)]
+pub(crate) fn is_expression(expr: &Expr)
+    ensures expr { IsExpr expr.now.nodes expr.now.groups }
+    ensures few { length expr.now.nodes ≤ 65536 }
+{
+    let (_groups, _nodes) = (expr.groups(), expr.nodes());
+}
+
 /// How the matches of the expression look, if a look at the text tells them.
 fn form_of(alloc: Global, expr: &Expr, steps: &mut Steps) -> Result<Option<DirectForm>, AllocError>
     ensures form { IfOk result (λ r. IfSome r (HasForm (tree expr.now) (14 * length expr.now.nodes))) }
     ensures cost { Takes steps.old steps.new 1572914 }
 {
-    let _some = expr.nodes();
+    is_expression(expr);
     if let Some(form) = anchor_form(expr, steps) {
         return Ok(Some(form));
     }

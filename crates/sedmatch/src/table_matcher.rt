@@ -17,7 +17,9 @@ ghost use Rattle.sedmatch.specs.Occurrences.{Serves, ServesOn, owed, owed_after,
 ghost use Rattle.sedmatch.specs.Passes.{AreOwn, ArePasses, IsDesk, SameDesk};
 
 use crate::candidates::needed_candidate;
-use crate::direct::{DirectForm, direct_candidate, direct_form_of, direct_matches, direct_span};
+use crate::direct::{
+    DirectForm, direct_candidate, direct_form_of, direct_matches, direct_span, is_expression,
+};
 use crate::occurrences::{Occurrences, next_by};
 use crate::passes::{Passes, groups_by, matches_by, new_passes, whole_alone};
 use crate::scratch::{Desk, Scratch};
@@ -292,8 +294,7 @@ impl TableMatcher {
     {
         match &mut self.engine {
             Engine::Direct(expr, _) => {
-                // What always holds of an expression is told with the number of its groups.
-                let _groups = expr.groups();
+                is_expression(expr);
                 whole_alone((start, end))
             }
             Engine::Passes(passes) => groups_by(

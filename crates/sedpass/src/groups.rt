@@ -321,8 +321,7 @@ fn run_at(prepared: &Prepared, x: usize) -> Option<usize>
     requires { x < length prepared.now.arena.expr.nodes }
     ensures { IfSome result (λ c. IsRunOf prepared.now.arena.expr.nodes c x × IsSetAt prepared.now.arena.expr.nodes c) }
 {
-    // What always holds of an expression is told with the number of its nodes.
-    let _nodes = prepared.nodes();
+    prepared.is_expression();
     facts_at(prepared, x).run
 }
 
@@ -701,8 +700,7 @@ pub fn decide(
     ensures cost { let m = length (nodes_in subject.entry) in Takes steps.old steps.new (172 * m * (m - 1) * (stop - start) + 2 * m) }
     ensures counts { TakesAtLeast steps.old steps.new (found result - 1) }
 {
-    // What always holds of an expression is told with the number of its nodes.
-    let _nodes = subject.prepared.nodes();
+    subject.prepared.is_expression();
     let mut spans = [None; 10];
     spans[0] = Some((start, stop));
     let mut told = Told { due, spans };

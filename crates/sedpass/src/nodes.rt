@@ -369,6 +369,15 @@ impl Prepared {
         self.arena.look(x, mirrored, steps)
     }
 
+    /// For proofs: the nodes are those of an expression, and there are not more than one may have.
+    #[inline(always)]
+    pub fn is_expression(&self)
+        ensures expr { IsExpr self.now.arena.expr.nodes self.now.arena.expr.groups }
+        ensures few { length self.now.arena.expr.nodes ≤ 65536 }
+    {
+        let _nodes = self.nodes();
+    }
+
     /// The least index in a node's tree: its nodes are those from there to the node itself.
     #[inline(always)]
     pub fn low(&self, x: usize) -> usize
@@ -376,7 +385,7 @@ impl Prepared {
         ensures size { result + size (tree_at self.now.arena.expr.nodes x) ≡ x + 1 }
         ensures range { (mirrored : Bool) → IsRange (seen mirrored self.now.arena.expr).nodes result x }
     {
-        let _expr = self.arena.groups();
+        self.arena.is_expression();
         self.facts[x].low
     }
 
@@ -399,7 +408,7 @@ impl Prepared {
         ensures few { length self.now.arena.expr.nodes ≤ 65536 }
         ensures expr { IsExpr self.now.arena.expr.nodes self.now.arena.expr.groups }
     {
-        let _expr = self.arena.groups();
+        self.arena.is_expression();
         self.root + 1
     }
 }

@@ -37,7 +37,7 @@ loop-x-preserved c =
       counts = least_one c.args.steps.now c.loop-x.steps c.look-node.new.steps c.loop-x.x (c.loop-x.x + 1) c.loop-x.invariant.counts c.look-node.ensures.counts refl;
       copied = c.push_reserved.ensures.items ∙ ap (λ l. l ++ node ∷ []) c.loop-x.invariant.copied ∙ sym (take_more e.nodes c.loop-x.x node (omega arith) ∙ ap (λ n. take c.loop-x.x e.nodes ++ n ∷ []) (get_or_from_slice_get e.nodes c.loop-x.x node node is));
       all = omega (arith, ap length items, length-append told (next ∷ []));
-      facts = subst (λ l. AreFacts e.nodes l) (sym items) (facts_more e.nodes e.groups c.groups-expr.ensures.expr told c.loop-x.invariant.facts next (subst (λ n. IsFacts (tree_at e.nodes n) n next) at c.facts_of-next.ensures));
+      facts = subst (λ l. AreFacts e.nodes l) (sym items) (facts_more e.nodes e.groups c.is_expression.ensures told c.loop-x.invariant.facts next (subst (λ n. IsFacts (tree_at e.nodes n) n next) at c.facts_of-next.ensures));
       nodes_room = c.push_reserved.ensures.capacity ∙ c.loop-x.invariant.nodes_room;
       facts_room = c.push_reserved-in-loop-x.ensures.capacity ∙ c.loop-x.invariant.facts_room;
     }

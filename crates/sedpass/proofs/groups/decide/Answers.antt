@@ -23,7 +23,7 @@ all-init c =
     let items = c.push_reserved.new.self.items in
     let begun : reverse items ≡ first ∷ [] = ap reverse (c.push_reserved.ensures.items ∙ ap (λ (xs : List Task). xs ++ (first ∷ [])) c.requires.tasks) in
     let inside : p.root < length nodes = omega (arith, p.is_prepared.last) in
-    let small : size (tree_at nodes p.root) ≤ length nodes = omega (arith, c.nodes-nodes.ensures.expr.sizes p.root inside) in
+    let small : size (tree_at nodes p.root) ≤ length nodes = omega (arith, c.is_expression.ensures.expr.sizes p.root inside) in
     let paid = first_paid (length nodes) long (size (tree_at nodes p.root)) small in
     let most = part_cost (length nodes) long * (length nodes - 1) + 2 * length nodes in
     record {

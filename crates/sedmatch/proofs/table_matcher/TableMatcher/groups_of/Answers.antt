@@ -21,7 +21,7 @@ reported c =
       | in-Direct w ↦
           let is = direct_is c.self.inside.engine c.args.self.now w.in-Direct.expr w.in-Direct.field-1 c.self.view_is c.self.invariant w.in-Direct.is in
           let same = written_is c.self.inside.engine c.args.self.now w.in-Direct.expr w.in-Direct.field-1 c.self.view_is w.in-Direct.is in
-          let expr = subst (λ v. IsExpr v.nodes v.groups) same w.groups-groups.ensures.expr in
+          let expr = subst (λ v. IsExpr v.nodes v.groups) same w.is_expression.ensures.expr in
           subst (IsReport (tree c.args.self.now) t c.args.start c.args.end) (sym w.result-is) (w.whole_alone.ensures.report c.args.self.now t expr is.1 c.requires.spans)
       | in-Passes w ↦
           let inv = subst IsEngine w.in-Passes.is c.self.invariant in

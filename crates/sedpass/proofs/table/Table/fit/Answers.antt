@@ -30,4 +30,4 @@ returns-clause-table c =
       past = λ i. let h = later i in omega (arith, h);
       early = old.early;
     } in
-    no_states p N c.nodes-nodes.ensures.expr room c.new-self.ensures refl later
+    no_states p N c.is_expression.ensures.expr room c.new-self.ensures refl later
