@@ -1,7 +1,6 @@
 //! The commands `n` and `N`: further lines (XCU sed, "Editing Commands in sed").
 ghost use Rattle.std.specs.Prelude.{◌≡◌, ◌≢◌, ◌<◌, ◌≤◌, ◌+◌, [], ◌∷◌, ◌++◌, None, Ok, ℕ, List, true, false, length};
 ghost use Rattle.std.specs.Option.{ForSome};
-ghost use Rattle.std.specs.Io.KnownBytes.{Keeps};
 ghost use Rattle.sedscript.specs.declared.types.Action.TheVariants.{AppendNext, NextLine};
 ghost use Rattle.sedspace.specs.Spaces.{Contents};
 ghost use Rattle.sedspace.specs.Stream.{lines_left};
@@ -9,9 +8,9 @@ ghost use Rattle.sedengine.specs.State.{empty_pattern, fetch, flush, join, print
 ghost use Rattle.sedengine.specs.Move.{acts, newline, then_do};
 ghost use Rattle.sedengine.specs.Ends.{reaches};
 ghost use Rattle.sedengine.specs.Meters.{Sent, SinkView};
-ghost use Rattle.sedengine.specs.Calls.{NoSinkFailed, Reads, Delivers};
+ghost use Rattle.sedengine.specs.Calls.{NoSinkFailed, Reads};
 ghost use Rattle.sedengine.specs.Run.{TellsFiles, at_lines, setting};
-ghost use Rattle.sedengine.specs.Steps.{KeepsRun, PerformsSteps, StepsFrom, weight};
+ghost use Rattle.sedengine.specs.Steps.{KeepsRun, LeavesLines, PerformsSteps, StepsFrom, weight};
 ghost use Rattle.sedengine.specs.Bringing.{Brings, brought};
 
 use super::Machine;
@@ -38,11 +37,9 @@ impl Machine {
             PerformsSteps R.remaining lines.old lines.new ls self.old.limits (setting self.old files)
             (acts (setting self.old files) (at_lines self.old ls) true NextLine) true (at_lines self.old ls) self.new
             (Sent (O.tally outputs.old) (O.tally outputs.new)) result) }
-        ensures input { Reads R.remaining R.failures R.reference lines.old lines.new result }
-        ensures output { Delivers O.tally O.count outputs.old outputs.new result }
         ensures falls { weight self.new ≤ weight self.old + 8 }
-        ensures same { KeepsRun self.old self.new }
-        ensures kept { (j : ℕ) → Keeps (T.text texts.old j) (T.text texts.new j) }
+        ensures leaves { LeavesLines R.remaining R.failures R.reference O.tally O.count T.text self.old self.new
+            lines.old lines.new outputs.old outputs.new texts.old texts.new result }
     {
         if is_last(lines)? {
             self.place = Place::Quit;
@@ -68,11 +65,9 @@ impl Machine {
             StepsFrom R.remaining lines.old lines.new ls self.old.limits (setting self.old files)
             (then_do (print_pattern ∷ flush ∷ empty_pattern ∷ fetch ∷ self.old.state.tasks) (at_lines self.old ls)) self.new
             (Sent (O.tally outputs.old) (O.tally outputs.new)) result) }
-        ensures input { Reads R.remaining R.failures R.reference lines.old lines.new result }
-        ensures output { Delivers O.tally O.count outputs.old outputs.new result }
         ensures falls { weight self.new ≤ weight self.old }
-        ensures same { KeepsRun self.old self.new }
-        ensures kept { (j : ℕ) → Keeps (T.text texts.old j) (T.text texts.new j) }
+        ensures leaves { LeavesLines R.remaining R.failures R.reference O.tally O.count T.text self.old self.new
+            lines.old lines.new outputs.old outputs.new texts.old texts.new result }
     {
         self.print_and_flush(outputs, texts)?;
         self.fetch(lines)
@@ -131,11 +126,9 @@ impl Machine {
             PerformsSteps R.remaining lines.old lines.new ls self.old.limits (setting self.old files)
             (acts (setting self.old files) (at_lines self.old ls) true AppendNext) false (at_lines self.old ls) self.new
             (Sent (O.tally outputs.old) (O.tally outputs.new)) result) }
-        ensures input { Reads R.remaining R.failures R.reference lines.old lines.new result }
-        ensures output { Delivers O.tally O.count outputs.old outputs.new result }
         ensures falls { weight self.new ≤ weight self.old + 8 }
-        ensures same { KeepsRun self.old self.new }
-        ensures kept { (j : ℕ) → Keeps (T.text texts.old j) (T.text texts.new j) }
+        ensures leaves { LeavesLines R.remaining R.failures R.reference O.tally O.count T.text self.old self.new
+            lines.old lines.new outputs.old outputs.new texts.old texts.new result }
     {
         self.flush(outputs, texts)?;
         self.join(lines)
