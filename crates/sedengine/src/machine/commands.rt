@@ -11,7 +11,7 @@ ghost use Rattle.sedengine.specs.Listing.{listed};
 ghost use Rattle.sedengine.specs.Move.{acts, passes, line_to, tells_at, to_sink};
 ghost use Rattle.sedengine.specs.Ends.{reaches, is_next};
 ghost use Rattle.sedengine.specs.Meters.{Sent, SinkView};
-ghost use Rattle.sedengine.specs.Calls.{NoSinkFailed, Puts, Delivers};
+ghost use Rattle.sedengine.specs.Calls.{Delivers, NamesNone, Puts};
 ghost use Rattle.sedengine.specs.Run.{TellsFiles, at_lines, setting};
 ghost use Rattle.sedengine.specs.Steps.{ActsQuietly, HasAction, KeepsRun, Leaves, LeavesLines, Performs, PerformsSteps, Steps, writes_nothing, takes_line, weight};
 
@@ -149,8 +149,7 @@ impl Machine {
         requires action { HasAction (slice_get self.old.script.commands k) action }
         requires quiet { writes_nothing action ≡ true }
         ensures acts { ActsQuietly self.old self.new action result }
-        ensures output { NoSinkFailed result }
-        ensures input { result ≡ Err Ended.InputBroken → ⊥ }
+        ensures devices { NamesNone result }
         ensures falls { weight self.new ≤ weight self.old + 8 }
         ensures same { KeepsRun self.old self.new }
     {

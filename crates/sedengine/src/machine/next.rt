@@ -8,7 +8,7 @@ ghost use Rattle.sedengine.specs.State.{empty_pattern, fetch, flush, join, print
 ghost use Rattle.sedengine.specs.Move.{acts, newline, then_do};
 ghost use Rattle.sedengine.specs.Ends.{reaches};
 ghost use Rattle.sedengine.specs.Meters.{Sent, SinkView};
-ghost use Rattle.sedengine.specs.Calls.{NoSinkFailed, Reads};
+ghost use Rattle.sedengine.specs.Calls.{ReadsAlone};
 ghost use Rattle.sedengine.specs.Run.{TellsFiles, at_lines, setting};
 ghost use Rattle.sedengine.specs.Steps.{KeepsRun, LeavesLines, PerformsSteps, StepsFrom, weight};
 ghost use Rattle.sedengine.specs.Bringing.{Brings, brought};
@@ -82,8 +82,7 @@ impl Machine {
             StepsFrom R.remaining lines.old lines.new ls self.old.limits (setting self.old files)
             (then_do (empty_pattern ∷ fetch ∷ self.old.state.tasks) (at_lines self.old ls)) self.new
             (Sent sinks sinks) result) }
-        ensures input { Reads R.remaining R.failures R.reference lines.old lines.new result }
-        ensures output { NoSinkFailed result }
+        ensures reads { ReadsAlone R.remaining R.failures R.reference lines.old lines.new result }
         ensures falls { weight self.new ≤ weight self.old }
         ensures same { KeepsRun self.old self.new }
     {
@@ -143,8 +142,7 @@ impl Machine {
             StepsFrom R.remaining lines.old lines.new ls self.old.limits (setting self.old files)
             (then_do (join ∷ self.old.state.tasks) (at_lines self.old ls)) self.new
             (Sent sinks sinks) result) }
-        ensures input { Reads R.remaining R.failures R.reference lines.old lines.new result }
-        ensures output { NoSinkFailed result }
+        ensures reads { ReadsAlone R.remaining R.failures R.reference lines.old lines.new result }
         ensures falls { weight self.new ≤ weight self.old }
         ensures same { KeepsRun self.old self.new }
     {
@@ -163,8 +161,7 @@ fn bring_line<R: ByteSource>(
 ) -> Result<Got, Ended>
     ensures brings { lines.old.fault ≡ None → ForSome (lines_left R.remaining lines.old) (λ ls.
         Brings R.remaining lines.old lines.new ls space.old.bytes number space.old space.new result) }
-    ensures input { Reads R.remaining R.failures R.reference lines.old lines.new result }
-    ensures output { NoSinkFailed result }
+    ensures reads { ReadsAlone R.remaining R.failures R.reference lines.old lines.new result }
     ensures limit { space.new.limit ≡ space.old.limit }
     ensures fits { length space.old.bytes ≤ space.old.limit → length space.new.bytes ≤ space.new.limit }
     ensures stays { result ≢ Ok Got.Line → space.new ≡ space.old }
@@ -181,8 +178,7 @@ fn bring_none<R: ByteSource>(lines: &mut Lines<R>, number: u64) -> Result<Got, E
     ensures brings { lines.old.fault ≡ None → ForSome (lines_left R.remaining lines.old) (λ ls.
         (before : List ℕ) (s : Contents) → s.limit < length before →
         Brings R.remaining lines.old lines.new ls before number s s result) }
-    ensures input { Reads R.remaining R.failures R.reference lines.old lines.new result }
-    ensures output { NoSinkFailed result }
+    ensures reads { ReadsAlone R.remaining R.failures R.reference lines.old lines.new result }
     ensures none { result ≢ Ok Got.Line }
 {
     if is_last(lines)? {
@@ -200,8 +196,7 @@ fn join_line<R: ByteSource>(
 ) -> Result<Got, Ended>
     ensures brings { lines.old.fault ≡ None → ForSome (lines_left R.remaining lines.old) (λ ls.
         Brings R.remaining lines.old lines.new ls (space.old.bytes ++ newline ∷ []) number space.old space.new result) }
-    ensures input { Reads R.remaining R.failures R.reference lines.old lines.new result }
-    ensures output { NoSinkFailed result }
+    ensures reads { ReadsAlone R.remaining R.failures R.reference lines.old lines.new result }
     ensures limit { space.new.limit ≡ space.old.limit }
     ensures fits { length space.old.bytes ≤ space.old.limit → length space.new.bytes ≤ space.new.limit }
 {

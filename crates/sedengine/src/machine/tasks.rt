@@ -4,7 +4,7 @@ ghost use Rattle.std.specs.Option.{ForSome};
 ghost use Rattle.sedspace.specs.Stream.{lines_left};
 ghost use Rattle.sedengine.specs.State.{begin, rebegin, do_at, print_pattern, flush};
 ghost use Rattle.sedengine.specs.Meters.{Sent, SinkView};
-ghost use Rattle.sedengine.specs.Calls.{NoSinkFailed, Reads};
+ghost use Rattle.sedengine.specs.Calls.{NamesNone, ReadsAlone};
 ghost use Rattle.sedengine.specs.Run.{TellsFiles, at_lines, setting};
 ghost use Rattle.sedengine.specs.Steps.{KeepsRun, Leaves, Moves, Steps, weight};
 
@@ -22,8 +22,7 @@ impl Machine {
             (files : ℕ → List ℕ) (sinks : SinkView) →
             Steps R.remaining lines.old lines.new ls self.old.limits (setting self.old files) self.old self.new
             (Sent sinks sinks) result) }
-        ensures input { Reads R.remaining R.failures R.reference lines.old lines.new result }
-        ensures output { NoSinkFailed result }
+        ensures reads { ReadsAlone R.remaining R.failures R.reference lines.old lines.new result }
         ensures falls { OnOk result (weight self.new < weight self.old) }
         ensures same { KeepsRun self.old self.new }
     {
@@ -60,8 +59,7 @@ impl Machine {
         ensures moves { (files : ℕ → List ℕ) (ls : List (List ℕ)) (sinks : SinkView) →
             Moves self.old.limits (setting self.old files) (at_lines self.old ls)
             (at_lines self.new ls) (Sent sinks sinks) result }
-        ensures output { NoSinkFailed result }
-        ensures input { result ≡ Err Ended.InputBroken → ⊥ }
+        ensures devices { NamesNone result }
         ensures falls { OnOk result (weight self.new < weight self.old) }
         ensures same { KeepsRun self.old self.new }
     {
