@@ -4,6 +4,7 @@ pub mod Writing
 pub mod Streams
 pub mod Moves
 pub mod Runs
+pub mod Leaving
 pub mod PassingLemmas
 pub mod BlockLemmas
 pub mod PassingRuns

@@ -54,3 +54,14 @@ abbrev pub NoSinkFailed : {T : Type 0} → Result T Ended → Type 0
 NoSinkFailed (Err (OutputBroken k)) = ⊥
 NoSinkFailed (Err (OutputFull k)) = ⊥
 NoSinkFailed other = Unit {0}
+
+-- an answer that names no device
+pub record NamesNone {T : Type 0} (result : Result T Ended) : Type 0 where
+  pub output : NoSinkFailed result
+  pub input : result ≡ Err InputBroken → ⊥
+
+-- What a call does that may read, and writes nothing.
+pub record ReadsAlone {R T : Type 0} (remaining : R → Option (List ℕ)) (failures : R → ℕ) (reference : R → List GName)
+    (old new : Stream R) (result : Result T Ended) : Type 0 where
+  pub input : Reads remaining failures reference old new result
+  pub output : NoSinkFailed result

@@ -1,6 +1,8 @@
 -- Private to the proofs: no contract of a public item cites what stands here.
 -- Moves of the engine, and what its calls promise one another.
 use Rattle.std.specs.Prelude.{◌≡◌, ℕ, true, ◌+◌, ◌*◌, ◌-◌, ◌<◌, Bool, false, Option, Some, None, Result, Ok, Err, List, [], ◌∷◌, ◌++◌}
+use Rattle.std.specs.Borrow.{GName}
+use Rattle.std.specs.Io.KnownBytes.{Keeps}
 use Rattle.sedspace.specs.Stream.{Stream, left, lines_left}
 use Rattle.sedspace.specs.Lines.{TakesAtMost}
 use Rattle.sedscript.specs.declared.types.Command.{Command}
@@ -9,12 +11,14 @@ use Rattle.sedscript.specs.declared.types.Action.TheVariants.{Append, AppendHold
 use Rattle.sedengine.specs.Limits.{Limits}
 use Rattle.sedengine.specs.State.{Task, do_at, State, Move, Setting}
 use Rattle.sedengine.specs.Meters.{Sent, SinkView}
+use Rattle.sedengine.specs.Calls.{Delivers, Reads}
 use Rattle.sedengine.specs.Move.{acts, move, after, written}
 use Rattle.sedengine.specs.Ends.{WithinLimits, HasTurn, Within, Cause, named_sink, reaches, reads}
 use Rattle.sedengine.specs.Held.{HoldsAt, SameLengths}
 use Rattle.sedengine.specs.Run.{RunState, InOneCycle, at_lines, lost, setting}
 use Rattle.sedengine.specs.TakenInput.{LosesPartAfter, size_of}
 use Rattle.sedengine.specs.declared.ends.Ended.{Ended}
+use Rattle.sedengine.specs.declared.ends.Ended.TheVariants.{InputBroken}
 
 -- Moves were made, which led to this state. Only the last of them may have led to the start of a cycle.
 pub record Ran (l : Limits) (g : Setting) (s now : State) (gained : List (ℕ × ℕ) → Type 0) : Type 0 where
@@ -145,3 +149,21 @@ pub record KeepsRun (old new : RunState) : Type 0 where
   pub script : new.script ≡ old.script
   pub limits : new.limits ≡ old.limits
   pub ended : new.ended ≡ old.ended
+
+-- How a call of the machine leaves what it was given, besides its moves: the sinks as its answer says, the input without a
+-- failure, the run as it is, and the texts.
+pub record Leaves {O T : Type 0} (tally : O → SinkView) (count : O → ℕ) (text : T → ℕ → Option (List ℕ))
+    (old new : RunState) (outputs outputs' : O) (texts texts' : T) (result : Result Unit Ended) : Type 0 where
+  pub output : Delivers tally count outputs outputs' result
+  pub input : result ≡ Err InputBroken → ⊥
+  pub same : KeepsRun old new
+  pub kept : (j : ℕ) → Keeps (text texts j) (text texts' j)
+
+-- The same of a call that may take lines.
+pub record LeavesLines {R O T : Type 0} (remaining : R → Option (List ℕ)) (failures : R → ℕ) (reference : R → List GName)
+    (tally : O → SinkView) (count : O → ℕ) (text : T → ℕ → Option (List ℕ)) (old new : RunState) (lines lines' : Stream R)
+    (outputs outputs' : O) (texts texts' : T) (result : Result Unit Ended) : Type 0 where
+  pub input : Reads remaining failures reference lines lines' result
+  pub output : Delivers tally count outputs outputs' result
+  pub same : KeepsRun old new
+  pub kept : (j : ℕ) → Keeps (text texts j) (text texts' j)

@@ -10,7 +10,7 @@ ghost use Rattle.sedspace.specs.Stream.{lines_left};
 ghost use Rattle.sedengine.specs.Select.{answer};
 ghost use Rattle.sedengine.specs.Move.{is_active, none_left};
 ghost use Rattle.sedengine.specs.Ends.{is_dollar};
-ghost use Rattle.sedengine.specs.Calls.{NoSinkFailed, Reads};
+ghost use Rattle.sedengine.specs.Calls.{NamesNone, ReadsAlone};
 ghost use Rattle.sedengine.specs.Steps.{TakesLines};
 ghost use Rattle.sedengine.specs.Choose.{Answers, TakesTurn, Judges, TellsLine, reached_with, current, decides, deciding, with_used};
 
@@ -28,8 +28,7 @@ pub(super) fn is_last<R: ByteSource>(lines: &mut Lines<R>) -> Result<bool, Ended
         TellsLine (none_left ls) result) }
     ensures left { ForSome (lines_left R.remaining lines.old) (λ ls.
         TakesLines R.remaining lines.old lines.new ls ls) }
-    ensures input { Reads R.remaining R.failures R.reference lines.old lines.new result }
-    ensures output { NoSinkFailed result }
+    ensures reads { ReadsAlone R.remaining R.failures R.reference lines.old lines.new result }
 {
     match lines.is_last() {
         Ok(last) => Ok(last),
@@ -45,8 +44,7 @@ impl Machine {
         ensures answers { (last : Bool) →
             Answers (current self.old last) (answer (current self.old last) (Match named))
             self.new.state.used false result }
-        ensures input { result ≡ Err Ended.InputBroken → ⊥ }
-        ensures output { NoSinkFailed result }
+        ensures devices { NamesNone result }
         ensures same { self.new ≡ with_used self.old self.new.state.used }
         ensures err { OnErr result (self.new ≡ self.old) }
     {
@@ -71,8 +69,7 @@ impl Machine {
             self.new.state.used (is_dollar (Some address)) result) }
         ensures left { ForSome (lines_left R.remaining lines.old) (λ ls.
             TakesLines R.remaining lines.old lines.new ls ls) }
-        ensures input { Reads R.remaining R.failures R.reference lines.old lines.new result }
-        ensures output { NoSinkFailed result }
+        ensures reads { ReadsAlone R.remaining R.failures R.reference lines.old lines.new result }
         ensures same { self.new ≡ with_used self.old self.new.state.used }
         ensures err { OnErr result (self.new ≡ self.old) }
     {
@@ -100,8 +97,7 @@ impl Machine {
             (is_dollar (deciding command.now.first command.now.second active self.old.state.number)) result) }
         ensures left { ForSome (lines_left R.remaining lines.old) (λ ls.
             TakesLines R.remaining lines.old lines.new ls ls) }
-        ensures input { Reads R.remaining R.failures R.reference lines.old lines.new result }
-        ensures output { NoSinkFailed result }
+        ensures reads { ReadsAlone R.remaining R.failures R.reference lines.old lines.new result }
         ensures same { self.new ≡ with_used self.old self.new.state.used }
         ensures err { OnErr result (self.new ≡ self.old) }
     {
@@ -157,8 +153,7 @@ impl Machine {
             self.new.state.used result) }
         ensures left { ForSome (lines_left R.remaining lines.old) (λ ls.
             TakesLines R.remaining lines.old lines.new ls ls) }
-        ensures input { Reads R.remaining R.failures R.reference lines.old lines.new result }
-        ensures output { NoSinkFailed result }
+        ensures reads { ReadsAlone R.remaining R.failures R.reference lines.old lines.new result }
         ensures reaches { TakesTurn self.old self.new k result }
     {
         let active = self.is_active(k);

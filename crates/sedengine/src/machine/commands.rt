@@ -3,7 +3,6 @@ ghost use Rattle.std.specs.Prelude.{◌≡◌, ◌<◌, ◌≤◌, ◌+◌, [], 
 ghost use Rattle.sedspace.specs.Lines.{is_newline};
 ghost use Rattle.std.specs.List.{before_first};
 ghost use Rattle.std.specs.Option.{ForSome, unwrap_or};
-ghost use Rattle.std.specs.Io.KnownBytes.{Keeps};
 ghost use Rattle.sedscript.specs.Ranges.{ActionWithin, sizes_of};
 ghost use Rattle.sedscript.specs.declared.types.Action.TheVariants.{Change, Delete, DeleteFirst};
 ghost use Rattle.sedspace.specs.Stream.{lines_left};
@@ -12,10 +11,10 @@ ghost use Rattle.sedengine.specs.Listing.{listed};
 ghost use Rattle.sedengine.specs.Move.{acts, passes, line_to, tells_at, to_sink};
 ghost use Rattle.sedengine.specs.Ends.{reaches, is_next};
 ghost use Rattle.sedengine.specs.Meters.{Sent, SinkView};
-ghost use Rattle.sedengine.specs.Calls.{NoSinkFailed, Puts, Reads, Delivers};
+ghost use Rattle.sedengine.specs.Calls.{Delivers, NamesNone, Puts};
 ghost use Rattle.sedengine.specs.Run.{at_lines, setting};
 ghost use Rattle.sedengine.specs.ScriptSetting.{TellsFiles};
-ghost use Rattle.sedengine.specs.Steps.{ActsQuietly, HasAction, KeepsRun, Performs, PerformsSteps, Steps, writes_nothing, takes_line, weight};
+ghost use Rattle.sedengine.specs.Steps.{ActsQuietly, HasAction, KeepsRun, Leaves, LeavesLines, Performs, PerformsSteps, Steps, writes_nothing, takes_line, weight};
 
 use super::Machine;
 use crate::ends::Ended;
@@ -49,11 +48,9 @@ impl Machine {
             (files : ℕ → List ℕ) → TellsFiles (T.text texts.old) files →
             Steps R.remaining lines.old lines.new ls self.old.limits (setting self.old files) self.old self.new
             (Sent (O.tally outputs.old) (O.tally outputs.new)) result) }
-        ensures input { Reads R.remaining R.failures R.reference lines.old lines.new result }
-        ensures output { Delivers O.tally O.count outputs.old outputs.new result }
         ensures falls { OnOk result (weight self.new < weight self.old) }
-        ensures same { KeepsRun self.old self.new }
-        ensures kept { (j : ℕ) → Keeps (T.text texts.old j) (T.text texts.new j) }
+        ensures leaves { LeavesLines R.remaining R.failures R.reference O.tally O.count T.text self.old self.new
+            lines.old lines.new outputs.old outputs.new texts.old texts.new result }
     {
         if k >= self.script.len() {
             return self.finish(k, outputs, texts);
@@ -98,11 +95,9 @@ impl Machine {
             PerformsSteps R.remaining lines.old lines.new ls self.old.limits (setting self.old files)
             (acts (setting self.old files) (at_lines self.old ls) tells action) (is_next action) (at_lines self.old ls) self.new
             (Sent (O.tally outputs.old) (O.tally outputs.new)) result) }
-        ensures input { Reads R.remaining R.failures R.reference lines.old lines.new result }
-        ensures output { Delivers O.tally O.count outputs.old outputs.new result }
         ensures falls { weight self.new ≤ weight self.old + 8 }
-        ensures same { KeepsRun self.old self.new }
-        ensures kept { (j : ℕ) → Keeps (T.text texts.old j) (T.text texts.new j) }
+        ensures leaves { LeavesLines R.remaining R.failures R.reference O.tally O.count T.text self.old self.new
+            lines.old lines.new outputs.old outputs.new texts.old texts.new result }
     {
         match action {
             Action::AppendNext => self.act_append_next(lines, outputs, texts),
@@ -129,11 +124,8 @@ impl Machine {
             Performs self.old.limits (setting self.old files)
             (acts (setting self.old files) (at_lines self.old ls) tells action) (at_lines self.old ls) (at_lines self.new ls)
             (Sent (O.tally outputs.old) (O.tally outputs.new)) result }
-        ensures output { Delivers O.tally O.count outputs.old outputs.new result }
-        ensures input { result ≡ Err Ended.InputBroken → ⊥ }
         ensures falls { weight self.new ≤ weight self.old + 8 }
-        ensures same { KeepsRun self.old self.new }
-        ensures kept { (j : ℕ) → Keeps (T.text texts.old j) (T.text texts.new j) }
+        ensures leaves { Leaves O.tally O.count T.text self.old self.new outputs.old outputs.new texts.old texts.new result }
     {
         self.is_within_limits();
         match action {
@@ -158,8 +150,7 @@ impl Machine {
         requires action { HasAction (slice_get self.old.script.commands k) action }
         requires quiet { writes_nothing action ≡ true }
         ensures acts { ActsQuietly self.old self.new action result }
-        ensures output { NoSinkFailed result }
-        ensures input { result ≡ Err Ended.InputBroken → ⊥ }
+        ensures devices { NamesNone result }
         ensures falls { weight self.new ≤ weight self.old + 8 }
         ensures same { KeepsRun self.old self.new }
     {

@@ -1,13 +1,11 @@
 //! The commands `c`, `d` and `D`: the pattern space is deleted, and a cycle starts (XCU sed, "Editing Commands in sed").
-ghost use Rattle.std.specs.Prelude.{◌≡◌, ◌<◌, ◌≤◌, ◌+◌, Err, ℕ, List, true, length};
-ghost use Rattle.std.specs.Io.KnownBytes.{Keeps};
+ghost use Rattle.std.specs.Prelude.{◌<◌, ◌≤◌, ◌+◌, ℕ, List, true, length};
 ghost use Rattle.sedscript.specs.declared.types.Action.TheVariants.{Change, Delete, DeleteFirst};
 ghost use Rattle.sedengine.specs.Move.{acts};
 ghost use Rattle.sedengine.specs.Meters.{Sent};
-ghost use Rattle.sedengine.specs.Calls.{Delivers};
 ghost use Rattle.sedengine.specs.Run.{at_lines, setting};
 ghost use Rattle.sedengine.specs.ScriptSetting.{TellsFiles};
-ghost use Rattle.sedengine.specs.Steps.{KeepsRun, Performs, weight};
+ghost use Rattle.sedengine.specs.Steps.{Leaves, Performs, weight};
 
 use super::Machine;
 use crate::ends::Ended;
@@ -32,11 +30,8 @@ impl Machine {
             Performs self.old.limits (setting self.old files)
             (acts (setting self.old files) (at_lines self.old ls) tells (Change text)) (at_lines self.old ls)
             (at_lines self.new ls) (Sent (O.tally outputs.old) (O.tally outputs.new)) result }
-        ensures output { Delivers O.tally O.count outputs.old outputs.new result }
-        ensures input { result ≡ Err Ended.InputBroken → ⊥ }
         ensures falls { weight self.new ≤ weight self.old + 8 }
-        ensures same { KeepsRun self.old self.new }
-        ensures kept { (j : ℕ) → Keeps (T.text texts.old j) (T.text texts.new j) }
+        ensures leaves { Leaves O.tally O.count T.text self.old self.new outputs.old outputs.new texts.old texts.new result }
     {
         self.pattern.clear();
         if !tells {
@@ -57,11 +52,8 @@ impl Machine {
             Performs self.old.limits (setting self.old files)
             (acts (setting self.old files) (at_lines self.old ls) true Delete) (at_lines self.old ls)
             (at_lines self.new ls) (Sent (O.tally outputs.old) (O.tally outputs.new)) result }
-        ensures output { Delivers O.tally O.count outputs.old outputs.new result }
-        ensures input { result ≡ Err Ended.InputBroken → ⊥ }
         ensures falls { weight self.new ≤ weight self.old + 8 }
-        ensures same { KeepsRun self.old self.new }
-        ensures kept { (j : ℕ) → Keeps (T.text texts.old j) (T.text texts.new j) }
+        ensures leaves { Leaves O.tally O.count T.text self.old self.new outputs.old outputs.new texts.old texts.new result }
     {
         self.pattern.clear();
         self.end_cycle(Place::Begin, outputs, texts)
@@ -79,11 +71,8 @@ impl Machine {
             Performs self.old.limits (setting self.old files)
             (acts (setting self.old files) (at_lines self.old ls) true DeleteFirst) (at_lines self.old ls)
             (at_lines self.new ls) (Sent (O.tally outputs.old) (O.tally outputs.new)) result }
-        ensures output { Delivers O.tally O.count outputs.old outputs.new result }
-        ensures input { result ≡ Err Ended.InputBroken → ⊥ }
         ensures falls { weight self.new ≤ weight self.old + 8 }
-        ensures same { KeepsRun self.old self.new }
-        ensures kept { (j : ℕ) → Keeps (T.text texts.old j) (T.text texts.new j) }
+        ensures leaves { Leaves O.tally O.count T.text self.old self.new outputs.old outputs.new texts.old texts.new result }
     {
         if self.pattern.cut_line() {
             self.end_cycle(Place::Rebegin, outputs, texts)

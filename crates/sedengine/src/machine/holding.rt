@@ -4,7 +4,7 @@ ghost use Rattle.sedengine.specs.Move.{newline};
 ghost use Rattle.sedengine.specs.Ends.{reaches};
 ghost use Rattle.sedengine.specs.Holding.{BecomesOrFull};
 ghost use Rattle.sedengine.specs.Inside.{FillsHold, holds};
-ghost use Rattle.sedengine.specs.Calls.{NoSinkFailed};
+ghost use Rattle.sedengine.specs.Calls.{NamesNone};
 ghost use Rattle.sedengine.specs.Steps.{ActsQuietly, KeepsRun, uses_hold, weight};
 
 use super::Machine;
@@ -18,8 +18,7 @@ impl Machine {
         requires uses { uses_hold action ≡ true }
         requires fills { holds action ≡ true → FillsHold self.old.script }
         ensures acts { ActsQuietly self.old self.new action result }
-        ensures output { NoSinkFailed result }
-        ensures input { result ≡ Err Ended.InputBroken → ⊥ }
+        ensures devices { NamesNone result }
         ensures falls { weight self.new ≤ weight self.old + 8 }
         ensures same { KeepsRun self.old self.new }
     {

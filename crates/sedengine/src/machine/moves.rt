@@ -1,13 +1,11 @@
 //! The moves one after another.
 ghost use Rattle.std.specs.Prelude.{◌≡◌, ◌<◌, None, Err, OnOk, ℕ, List, length};
 ghost use Rattle.std.specs.Option.{ForSome};
-ghost use Rattle.std.specs.Io.KnownBytes.{Keeps};
 ghost use Rattle.sedspace.specs.Stream.{lines_left};
 ghost use Rattle.sedengine.specs.Meters.{Sent};
-ghost use Rattle.sedengine.specs.Calls.{Reads, Delivers};
 ghost use Rattle.sedengine.specs.Run.{Cycles, Ending, at_lines, setting, starts_cycle, outcome, input_of};
 ghost use Rattle.sedengine.specs.ScriptSetting.{TellsFiles};
-ghost use Rattle.sedengine.specs.Steps.{KeepsRun, Steps, weight};
+ghost use Rattle.sedengine.specs.Steps.{LeavesLines, Steps, weight};
 
 use super::Machine;
 use crate::ends::{Ended, Progress};
@@ -28,11 +26,9 @@ impl Machine {
             (files : ℕ → List ℕ) → TellsFiles (T.text texts.old) files →
             Steps R.remaining lines.old lines.new ls self.old.limits (setting self.old files) self.old self.new
             (Sent (O.tally outputs.old) (O.tally outputs.new)) result) }
-        ensures input { Reads R.remaining R.failures R.reference lines.old lines.new result }
-        ensures output { Delivers O.tally O.count outputs.old outputs.new result }
         ensures falls { OnOk result (weight self.new < weight self.old) }
-        ensures same { KeepsRun self.old self.new }
-        ensures kept { (j : ℕ) → Keeps (T.text texts.old j) (T.text texts.new j) }
+        ensures leaves { LeavesLines R.remaining R.failures R.reference O.tally O.count T.text self.old self.new
+            lines.old lines.new outputs.old outputs.new texts.old texts.new result }
     {
         match self.place {
             Place::Begin => self.begin(lines),
@@ -57,10 +53,8 @@ impl Machine {
             Ending self.old.limits (setting self.old files) (at_lines self.old ls)
             (Sent (O.tally outputs.old) (O.tally outputs.new))
             (input_of R.remaining lines.old) (input_of R.remaining lines.new) self.new.state result) }
-        ensures input { Reads {T = Unit {0}} R.remaining R.failures R.reference lines.old lines.new (Err result) }
-        ensures output { Delivers O.tally O.count outputs.old outputs.new (Err result) }
-        ensures same { KeepsRun self.old self.new }
-        ensures kept { (j : ℕ) → Keeps (T.text texts.old j) (T.text texts.new j) }
+        ensures leaves { LeavesLines R.remaining R.failures R.reference O.tally O.count T.text self.old self.new
+            lines.old lines.new outputs.old outputs.new texts.old texts.new (Err result) }
     {
         self.is_within_limits();
         'moves: loop {
@@ -95,10 +89,8 @@ impl Machine {
             (Sent (O.tally outputs.old) (O.tally outputs.new))
             (input_of R.remaining lines.old) (input_of R.remaining lines.new)
             self.new (lines_left R.remaining lines.new) result) }
-        ensures input { Reads R.remaining R.failures R.reference lines.old lines.new (outcome result) }
-        ensures output { Delivers O.tally O.count outputs.old outputs.new (outcome result) }
-        ensures same { KeepsRun self.old self.new }
-        ensures kept { (j : ℕ) → Keeps (T.text texts.old j) (T.text texts.new j) }
+        ensures leaves { LeavesLines R.remaining R.failures R.reference O.tally O.count T.text self.old self.new
+            lines.old lines.new outputs.old outputs.new texts.old texts.new (outcome result) }
     {
         self.is_within_limits();
         'moves: loop {

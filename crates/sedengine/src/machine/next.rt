@@ -1,7 +1,6 @@
 //! The commands `n` and `N`: further lines (XCU sed, "Editing Commands in sed").
 ghost use Rattle.std.specs.Prelude.{◌≡◌, ◌≢◌, ◌<◌, ◌≤◌, ◌+◌, [], ◌∷◌, ◌++◌, None, Ok, ℕ, List, true, false, length};
 ghost use Rattle.std.specs.Option.{ForSome};
-ghost use Rattle.std.specs.Io.KnownBytes.{Keeps};
 ghost use Rattle.sedscript.specs.declared.types.Action.TheVariants.{AppendNext, NextLine};
 ghost use Rattle.sedspace.specs.Spaces.{Contents};
 ghost use Rattle.sedspace.specs.Stream.{lines_left};
@@ -9,10 +8,10 @@ ghost use Rattle.sedengine.specs.State.{empty_pattern, fetch, flush, join, print
 ghost use Rattle.sedengine.specs.Move.{acts, newline, then_do};
 ghost use Rattle.sedengine.specs.Ends.{reaches};
 ghost use Rattle.sedengine.specs.Meters.{Sent, SinkView};
-ghost use Rattle.sedengine.specs.Calls.{NoSinkFailed, Reads, Delivers};
+ghost use Rattle.sedengine.specs.Calls.{ReadsAlone};
 ghost use Rattle.sedengine.specs.Run.{at_lines, setting};
 ghost use Rattle.sedengine.specs.ScriptSetting.{TellsFiles};
-ghost use Rattle.sedengine.specs.Steps.{KeepsRun, PerformsSteps, StepsFrom, weight};
+ghost use Rattle.sedengine.specs.Steps.{KeepsRun, LeavesLines, PerformsSteps, StepsFrom, weight};
 ghost use Rattle.sedengine.specs.Bringing.{Brings, brought};
 
 use super::Machine;
@@ -39,11 +38,9 @@ impl Machine {
             PerformsSteps R.remaining lines.old lines.new ls self.old.limits (setting self.old files)
             (acts (setting self.old files) (at_lines self.old ls) true NextLine) true (at_lines self.old ls) self.new
             (Sent (O.tally outputs.old) (O.tally outputs.new)) result) }
-        ensures input { Reads R.remaining R.failures R.reference lines.old lines.new result }
-        ensures output { Delivers O.tally O.count outputs.old outputs.new result }
         ensures falls { weight self.new ≤ weight self.old + 8 }
-        ensures same { KeepsRun self.old self.new }
-        ensures kept { (j : ℕ) → Keeps (T.text texts.old j) (T.text texts.new j) }
+        ensures leaves { LeavesLines R.remaining R.failures R.reference O.tally O.count T.text self.old self.new
+            lines.old lines.new outputs.old outputs.new texts.old texts.new result }
     {
         if is_last(lines)? {
             self.place = Place::Quit;
@@ -69,11 +66,9 @@ impl Machine {
             StepsFrom R.remaining lines.old lines.new ls self.old.limits (setting self.old files)
             (then_do (print_pattern ∷ flush ∷ empty_pattern ∷ fetch ∷ self.old.state.tasks) (at_lines self.old ls)) self.new
             (Sent (O.tally outputs.old) (O.tally outputs.new)) result) }
-        ensures input { Reads R.remaining R.failures R.reference lines.old lines.new result }
-        ensures output { Delivers O.tally O.count outputs.old outputs.new result }
         ensures falls { weight self.new ≤ weight self.old }
-        ensures same { KeepsRun self.old self.new }
-        ensures kept { (j : ℕ) → Keeps (T.text texts.old j) (T.text texts.new j) }
+        ensures leaves { LeavesLines R.remaining R.failures R.reference O.tally O.count T.text self.old self.new
+            lines.old lines.new outputs.old outputs.new texts.old texts.new result }
     {
         self.print_and_flush(outputs, texts)?;
         self.fetch(lines)
@@ -88,8 +83,7 @@ impl Machine {
             StepsFrom R.remaining lines.old lines.new ls self.old.limits (setting self.old files)
             (then_do (empty_pattern ∷ fetch ∷ self.old.state.tasks) (at_lines self.old ls)) self.new
             (Sent sinks sinks) result) }
-        ensures input { Reads R.remaining R.failures R.reference lines.old lines.new result }
-        ensures output { NoSinkFailed result }
+        ensures reads { ReadsAlone R.remaining R.failures R.reference lines.old lines.new result }
         ensures falls { weight self.new ≤ weight self.old }
         ensures same { KeepsRun self.old self.new }
     {
@@ -132,11 +126,9 @@ impl Machine {
             PerformsSteps R.remaining lines.old lines.new ls self.old.limits (setting self.old files)
             (acts (setting self.old files) (at_lines self.old ls) true AppendNext) false (at_lines self.old ls) self.new
             (Sent (O.tally outputs.old) (O.tally outputs.new)) result) }
-        ensures input { Reads R.remaining R.failures R.reference lines.old lines.new result }
-        ensures output { Delivers O.tally O.count outputs.old outputs.new result }
         ensures falls { weight self.new ≤ weight self.old + 8 }
-        ensures same { KeepsRun self.old self.new }
-        ensures kept { (j : ℕ) → Keeps (T.text texts.old j) (T.text texts.new j) }
+        ensures leaves { LeavesLines R.remaining R.failures R.reference O.tally O.count T.text self.old self.new
+            lines.old lines.new outputs.old outputs.new texts.old texts.new result }
     {
         self.flush(outputs, texts)?;
         self.join(lines)
@@ -151,8 +143,7 @@ impl Machine {
             StepsFrom R.remaining lines.old lines.new ls self.old.limits (setting self.old files)
             (then_do (join ∷ self.old.state.tasks) (at_lines self.old ls)) self.new
             (Sent sinks sinks) result) }
-        ensures input { Reads R.remaining R.failures R.reference lines.old lines.new result }
-        ensures output { NoSinkFailed result }
+        ensures reads { ReadsAlone R.remaining R.failures R.reference lines.old lines.new result }
         ensures falls { weight self.new ≤ weight self.old }
         ensures same { KeepsRun self.old self.new }
     {
@@ -171,8 +162,7 @@ fn bring_line<R: ByteSource>(
 ) -> Result<Got, Ended>
     ensures brings { lines.old.fault ≡ None → ForSome (lines_left R.remaining lines.old) (λ ls.
         Brings R.remaining lines.old lines.new ls space.old.bytes number space.old space.new result) }
-    ensures input { Reads R.remaining R.failures R.reference lines.old lines.new result }
-    ensures output { NoSinkFailed result }
+    ensures reads { ReadsAlone R.remaining R.failures R.reference lines.old lines.new result }
     ensures limit { space.new.limit ≡ space.old.limit }
     ensures fits { length space.old.bytes ≤ space.old.limit → length space.new.bytes ≤ space.new.limit }
     ensures stays { result ≢ Ok Got.Line → space.new ≡ space.old }
@@ -189,8 +179,7 @@ fn bring_none<R: ByteSource>(lines: &mut Lines<R>, number: u64) -> Result<Got, E
     ensures brings { lines.old.fault ≡ None → ForSome (lines_left R.remaining lines.old) (λ ls.
         (before : List ℕ) (s : Contents) → s.limit < length before →
         Brings R.remaining lines.old lines.new ls before number s s result) }
-    ensures input { Reads R.remaining R.failures R.reference lines.old lines.new result }
-    ensures output { NoSinkFailed result }
+    ensures reads { ReadsAlone R.remaining R.failures R.reference lines.old lines.new result }
     ensures none { result ≢ Ok Got.Line }
 {
     if is_last(lines)? {
@@ -208,8 +197,7 @@ fn join_line<R: ByteSource>(
 ) -> Result<Got, Ended>
     ensures brings { lines.old.fault ≡ None → ForSome (lines_left R.remaining lines.old) (λ ls.
         Brings R.remaining lines.old lines.new ls (space.old.bytes ++ newline ∷ []) number space.old space.new result) }
-    ensures input { Reads R.remaining R.failures R.reference lines.old lines.new result }
-    ensures output { NoSinkFailed result }
+    ensures reads { ReadsAlone R.remaining R.failures R.reference lines.old lines.new result }
     ensures limit { space.new.limit ≡ space.old.limit }
     ensures fits { length space.old.bytes ≤ space.old.limit → length space.new.bytes ≤ space.new.limit }
 {

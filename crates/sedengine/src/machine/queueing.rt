@@ -7,7 +7,7 @@ ghost use Rattle.sedengine.specs.Meters.{Sent};
 ghost use Rattle.sedengine.specs.Calls.{Puts, Delivers};
 ghost use Rattle.sedengine.specs.Run.{at_lines, setting};
 ghost use Rattle.sedengine.specs.ScriptSetting.{TellsFiles};
-ghost use Rattle.sedengine.specs.Steps.{KeepsRun, Moves, weight};
+ghost use Rattle.sedengine.specs.Steps.{Leaves, Moves, weight};
 ghost use Rattle.sedengine.specs.Inside.{IsEmptied, Queues, entry_by, tasks_of};
 ghost use Rattle.sedengine.specs.Queueing.{QueuesOrFull, flushed, with_turns};
 
@@ -99,10 +99,7 @@ impl Machine {
             Moves self.old.limits (setting self.old files) (then_do (flush ∷ tasks_of place) (at_lines self.old ls))
             (at_lines self.new ls) (Sent (O.tally outputs.old) (O.tally outputs.new)) result }
         ensures falls { weight self.new ≤ weight self.old + 8 }
-        ensures output { Delivers O.tally O.count outputs.old outputs.new result }
-        ensures input { result ≡ Err Ended.InputBroken → ⊥ }
-        ensures same { KeepsRun self.old self.new }
-        ensures kept { (j : ℕ) → Keeps (T.text texts.old j) (T.text texts.new j) }
+        ensures leaves { Leaves O.tally O.count T.text self.old self.new outputs.old outputs.new texts.old texts.new result }
     {
         self.flush(outputs, texts)?;
         self.place = place;

@@ -6,7 +6,7 @@ ghost use Rattle.sedengine.specs.State.{do_at};
 ghost use Rattle.sedengine.specs.Move.{in_table, line_to, line_to_file, substitutes, written_by};
 ghost use Rattle.sedengine.specs.Ends.{reaches};
 ghost use Rattle.sedengine.specs.Meters.{Sent};
-ghost use Rattle.sedengine.specs.Calls.{NoSinkFailed, Puts, Delivers};
+ghost use Rattle.sedengine.specs.Calls.{Delivers, NamesNone, Puts};
 ghost use Rattle.sedengine.specs.Run.{at_lines, setting};
 ghost use Rattle.sedengine.specs.Steps.{KeepsRun, Performs, weight};
 ghost use Rattle.sedengine.specs.SubstituteCalls.{Makes, same_but_replaced};
@@ -58,8 +58,7 @@ impl Machine {
             Makes self.old.limits (substitutes (setting self.old files) (at_lines self.old ls) (Some t)) t
             (at_lines self.old ls) (at_lines self.new ls) result }
         ensures err { OnErr result (self.new.state.pattern ≡ self.old.state.pattern) }
-        ensures output { NoSinkFailed result }
-        ensures input { result ≡ Err Ended.InputBroken → ⊥ }
+        ensures devices { NamesNone result }
         ensures fits { length self.new.state.pattern ≤ self.new.limits.space }
         ensures same { self.new ≡ same_but_replaced self.old self.new.state }
     {

@@ -1,14 +1,13 @@
 //! The start of a cycle, and its end.
 ghost use Rattle.std.specs.Prelude.{◌≡◌, ◌<◌, ◌≤◌, [], ◌∷◌, None, Err, OnOk, ℕ, List, length};
 ghost use Rattle.std.specs.Option.{ForSome};
-ghost use Rattle.std.specs.Io.KnownBytes.{Keeps};
 ghost use Rattle.sedspace.specs.Stream.{lines_left};
 ghost use Rattle.sedengine.specs.State.{begin, rebegin, do_at, print_pattern, flush};
 ghost use Rattle.sedengine.specs.Meters.{Sent, SinkView};
-ghost use Rattle.sedengine.specs.Calls.{NoSinkFailed, Reads, Delivers};
+ghost use Rattle.sedengine.specs.Calls.{NamesNone, ReadsAlone};
 ghost use Rattle.sedengine.specs.Run.{at_lines, setting};
 ghost use Rattle.sedengine.specs.ScriptSetting.{TellsFiles};
-ghost use Rattle.sedengine.specs.Steps.{KeepsRun, Moves, Steps, weight};
+ghost use Rattle.sedengine.specs.Steps.{KeepsRun, Leaves, Moves, Steps, weight};
 
 use super::Machine;
 use crate::ends::Ended;
@@ -24,8 +23,7 @@ impl Machine {
             (files : ℕ → List ℕ) (sinks : SinkView) →
             Steps R.remaining lines.old lines.new ls self.old.limits (setting self.old files) self.old self.new
             (Sent sinks sinks) result) }
-        ensures input { Reads R.remaining R.failures R.reference lines.old lines.new result }
-        ensures output { NoSinkFailed result }
+        ensures reads { ReadsAlone R.remaining R.failures R.reference lines.old lines.new result }
         ensures falls { OnOk result (weight self.new < weight self.old) }
         ensures same { KeepsRun self.old self.new }
     {
@@ -62,8 +60,7 @@ impl Machine {
         ensures moves { (files : ℕ → List ℕ) (ls : List (List ℕ)) (sinks : SinkView) →
             Moves self.old.limits (setting self.old files) (at_lines self.old ls)
             (at_lines self.new ls) (Sent sinks sinks) result }
-        ensures output { NoSinkFailed result }
-        ensures input { result ≡ Err Ended.InputBroken → ⊥ }
+        ensures devices { NamesNone result }
         ensures falls { OnOk result (weight self.new < weight self.old) }
         ensures same { KeepsRun self.old self.new }
     {
@@ -88,11 +85,8 @@ impl Machine {
         ensures moves { (files : ℕ → List ℕ) → TellsFiles (T.text texts.old) files → (ls : List (List ℕ)) →
             Moves self.old.limits (setting self.old files) (at_lines self.old ls)
             (at_lines self.new ls) (Sent (O.tally outputs.old) (O.tally outputs.new)) result }
-        ensures output { Delivers O.tally O.count outputs.old outputs.new result }
-        ensures input { result ≡ Err Ended.InputBroken → ⊥ }
         ensures falls { OnOk result (weight self.new < weight self.old) }
-        ensures same { KeepsRun self.old self.new }
-        ensures kept { (j : ℕ) → Keeps (T.text texts.old j) (T.text texts.new j) }
+        ensures leaves { Leaves O.tally O.count T.text self.old self.new outputs.old outputs.new texts.old texts.new result }
     {
         self.print_and_flush(outputs, texts)?;
         self.pattern.clear();
@@ -111,11 +105,8 @@ impl Machine {
         ensures moves { (files : ℕ → List ℕ) → TellsFiles (T.text texts.old) files → (ls : List (List ℕ)) →
             Moves self.old.limits (setting self.old files) (at_lines self.old ls)
             (at_lines self.new ls) (Sent (O.tally outputs.old) (O.tally outputs.new)) result }
-        ensures output { Delivers O.tally O.count outputs.old outputs.new result }
-        ensures input { result ≡ Err Ended.InputBroken → ⊥ }
         ensures falls { OnOk result (weight self.new < weight self.old) }
-        ensures same { KeepsRun self.old self.new }
-        ensures kept { (j : ℕ) → Keeps (T.text texts.old j) (T.text texts.new j) }
+        ensures leaves { Leaves O.tally O.count T.text self.old self.new outputs.old outputs.new texts.old texts.new result }
     {
         self.print_and_flush(outputs, texts)?;
         self.place = Place::Ended;

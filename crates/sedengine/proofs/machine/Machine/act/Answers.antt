@@ -1,5 +1,5 @@
 use Rattle.sedengine.proofs.Acts.{acts_here}
-use Rattle.sedengine.proofs.Streams.{Reads-unread}
+use Rattle.sedengine.proofs.Leaving.{leaves_unread}
 use Rattle.sedengine.specs.Move.{acts}
 use Rattle.sedengine.specs.Run.{setting, at_lines}
 use Rattle.sedengine.proofs.machine.Machine.act.Goals as goal
@@ -9,9 +9,6 @@ returns-in_default g c = let w = c.act_here.ensures in record {
   acts = λ sound ls known files told.
       acts_here g.R.ByteSource.remaining c.args.lines.now ls c.args.self.now.limits (setting c.args.self.now files) (acts (setting c.args.self.now files) (at_lines c.args.self.now ls) c.args.tells c.args.action) _ c.args.self.now c.act_here.new.self _ _ known
       (w.acts files told ls);
-  input = Reads-unread _ _ _ _ _ w.input;
-  output = w.output;
   falls = w.falls;
-  same = w.same;
-  kept = w.kept;
+  leaves = leaves_unread w.leaves;
 }

@@ -22,10 +22,12 @@ returns-else-branch-clause-acts g c = λ sound ls known files told.
     (then_do (print_pattern ∷ flush ∷ empty_pattern ∷ fetch ∷ e.state.tasks) (at_lines e ls)) c.print_and_fetch.new.self (g.O.Sinks.tally c.args.outputs.now) (g.O.Sinks.tally c.print_and_fetch.new.outputs) c.print_and_fetch.result
     (next_goes e e files ls c.in_ok-is_last.field-0 (w.last sound ls known) c.if-branch.false) refl refl
     (looked_then g.R.ByteSource.remaining c.args.lines.now c.is_last.new.lines c.print_and_fetch.new.lines ls e.limits (setting e files) _ c.print_and_fetch.new.self _ c.print_and_fetch.result taken
-    (c.print_and_fetch.ensures.steps (w.input.sound sound) ls taken.known files told))
+    (c.print_and_fetch.ensures.steps (w.reads.input.sound sound) ls taken.known files told))
 
-pub returns-else-branch-clause-input : goal.returns-else-branch-clause-input
-returns-else-branch-clause-input g c = Reads-then _ _ _ _ _ _ _ (Reads-told _ _ _ _ _ _ c.in_ok-is_last.ensures.input) c.print_and_fetch.ensures.input
+pub returns-else-branch-clause-leaves : goal.returns-else-branch-clause-leaves
+returns-else-branch-clause-leaves g c =
+    let w = c.print_and_fetch.ensures.leaves in
+    record { input = Reads-then _ _ _ _ _ _ _ (Reads-told _ _ _ _ _ _ c.in_ok-is_last.ensures.reads.input) w.input; output = w.output; same = w.same; kept = w.kept }
 
 pub returns-in_err-is_last-clause-acts : goal.returns-in_err-is_last-clause-acts
 returns-in_err-is_last-clause-acts g c = λ sound ls known files told.

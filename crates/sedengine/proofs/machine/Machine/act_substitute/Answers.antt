@@ -36,4 +36,4 @@ returns-in_err-replace_occurrences-clause-acts g c = λ files ls s reaches first
 pub returns-in_err-replace_occurrences-clause-output : goal.returns-in_err-replace_occurrences-clause-output
 returns-in_err-replace_occurrences-clause-output g c =
     let p = err_from_is_err_and c.from_residual.result c.from_residual.ensures.1 in
-    rw (p.1, p.2) (Delivers-unwritten _ _ _ c.in_err-replace_occurrences.field-0.0 c.in_err-replace_occurrences.ensures.output)
+    rw (p.1, p.2) (Delivers-unwritten _ _ _ c.in_err-replace_occurrences.field-0.0 c.in_err-replace_occurrences.ensures.devices.output)

@@ -9,5 +9,5 @@ pub returns-in-Match-clause-answers : goal.returns-in-Match-clause-answers
 returns-in-Match-clause-answers g c = λ sound ls known.
     answers_at (current c.args.self.now (none_left ls)) c.args.address (Match c.in-Match.named) _ c.finds.result c.in-Match.is (c.finds.ensures.answers (none_left ls))
 
-pub returns-in-Match-clause-input : goal.returns-in-Match-clause-input
-returns-in-Match-clause-input g c = Reads-unread _ _ _ _ c.finds.result c.finds.ensures.input
+pub returns-in-Match-clause-reads : goal.returns-in-Match-clause-reads
+returns-in-Match-clause-reads g c = record { input = Reads-unread _ _ _ _ c.finds.result c.finds.ensures.devices.input; output = c.finds.ensures.devices.output }

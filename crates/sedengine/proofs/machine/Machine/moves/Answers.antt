@@ -1,58 +1,52 @@
-use Rattle.std.proofs.Common.{Err, ap, refl}
-use Rattle.sedengine.proofs.Writing.{Delivers-none, Delivers-then}
-use Rattle.sedengine.proofs.Streams.{Reads-none, Reads-then}
+use Rattle.std.proofs.Common.{Err, ap}
+use Rattle.sedengine.proofs.Leaving.{leaves_none, leaves_texts, leaves_then}
+use Rattle.sedengine.proofs.Streams.{Reads-then}
 use Rattle.sedengine.proofs.Runs.{Reached-none, KeepsRun-then, step_on, stop_on}
 use Rattle.sedengine.proofs.PassingRuns.{pass_on, pass_stop}
-use Rattle.std.proofs.KnownBytes.{Keeps-refl, Keeps-trans}
 use Rattle.sedengine.proofs.Entries.{tells_on}
 use Rattle.sedengine.proofs.machine.Machine.moves.Goals as goal
 
 pub moves-init : goal.moves-init
 moves-init g c = record {
-  same = record { script = refl; limits = refl; ended = refl };
-  input = Reads-none _ _ _ _;
-  output = Delivers-none _ _ _;
-  kept = λ j. Keeps-refl _;
+  leaves = leaves_none;
   reached = λ sound ls known files told.
       Reached-none _ _ _ _ c.args.self.now ls _ known (c.is_within_limits.ensures ls);
 }
 
-pub returns-in-Err-clause-input : goal.returns-in-Err-clause-input
-returns-in-Err-clause-input g c = Reads-then _ _ _ _ _ _ _ c.moves.invariant.input c.in-Err.ensures.input
+pub returns-in-Err-clause-leaves : goal.returns-in-Err-clause-leaves
+returns-in-Err-clause-leaves g c = leaves_then c.moves.invariant.leaves (leaves_texts c.in-Err.ensures.input c.in-Err.ensures.output c.in-Err.ensures.same)
 
 pub returns-in-Err-clause-ends : goal.returns-in-Err-clause-ends
 returns-in-Err-clause-ends g c = λ sound ls known files told.
     let h = c.moves.invariant in
     let r = h.reached sound ls known files told in
-    let input = Reads-then _ _ _ _ _ _ _ h.input c.in-Err.ensures.input in
-    pass_stop g.R.ByteSource.remaining c.args.lines.now c.moves.lines c.pass_over.new.lines files c.args.self.now _ c.moves.self _ _ _ h.same r c.pass_over.new.self c.in-Err.end
+    let input = Reads-then _ _ _ _ _ _ _ h.leaves.input c.in-Err.ensures.input in
+    pass_stop g.R.ByteSource.remaining c.args.lines.now c.moves.lines c.pass_over.new.lines files c.args.self.now _ c.moves.self _ _ _ h.leaves.same r c.pass_over.new.self c.in-Err.end
     (c.in-Err.ensures.steps r.rest r.taken.known files) input.shrinks input.ahead c.requires.look (λ is. input.broken (ap Err is) sound)
 
-pub returns-in-Err-step-clause-input : goal.returns-in-Err-step-clause-input
-returns-in-Err-step-clause-input g c = Reads-then _ _ _ _ _ _ _ (Reads-then _ _ _ _ _ _ _ c.moves.invariant.input c.in_default.ensures.input) c.in-Err-step.ensures.input
+pub returns-in-Err-step-clause-leaves : goal.returns-in-Err-step-clause-leaves
+returns-in-Err-step-clause-leaves g c =
+    leaves_then (leaves_then c.moves.invariant.leaves (leaves_texts c.in_default.ensures.input c.in_default.ensures.output c.in_default.ensures.same)) c.in-Err-step.ensures.leaves
 
 pub returns-in-Err-step-clause-ends : goal.returns-in-Err-step-clause-ends
 returns-in-Err-step-clause-ends g c = λ sound ls known files told.
     let h = c.moves.invariant in
     let r = h.reached sound ls known files told in
-    let passed = Reads-then _ _ _ _ _ _ _ h.input c.in_default.ensures.input in
-    let input = Reads-then _ _ _ _ _ _ _ passed c.in-Err-step.ensures.input in
-    let there = pass_on g.R.ByteSource.remaining c.args.lines.now c.moves.lines c.pass_over.new.lines files c.args.self.now _ c.moves.self _ _ _ h.same r c.pass_over.new.self (c.in_default.ensures.steps r.rest r.taken.known files) in
-    stop_on g.R.ByteSource.remaining c.args.lines.now c.pass_over.new.lines c.step.new.lines files c.args.self.now _ c.pass_over.new.self _ _ _ (KeepsRun-then h.same c.in_default.ensures.same) there c.step.new.self c.in-Err-step.end
-    (c.in-Err-step.ensures.steps (passed.sound sound) there.rest there.taken.known files (tells_on _ _ files told h.kept)) input.shrinks input.ahead c.requires.look (λ is. input.broken (ap Err is) sound)
+    let passed = Reads-then _ _ _ _ _ _ _ h.leaves.input c.in_default.ensures.input in
+    let input = Reads-then _ _ _ _ _ _ _ passed c.in-Err-step.ensures.leaves.input in
+    let there = pass_on g.R.ByteSource.remaining c.args.lines.now c.moves.lines c.pass_over.new.lines files c.args.self.now _ c.moves.self _ _ _ h.leaves.same r c.pass_over.new.self (c.in_default.ensures.steps r.rest r.taken.known files) in
+    stop_on g.R.ByteSource.remaining c.args.lines.now c.pass_over.new.lines c.step.new.lines files c.args.self.now _ c.pass_over.new.self _ _ _ (KeepsRun-then h.leaves.same c.in_default.ensures.same) there c.step.new.self c.in-Err-step.end
+    (c.in-Err-step.ensures.steps (passed.sound sound) there.rest there.taken.known files (tells_on _ _ files told h.leaves.kept)) input.shrinks input.ahead c.requires.look (λ is. input.broken (ap Err is) sound)
 
 pub moves-preserved : goal.moves-preserved
 moves-preserved g c =
     let h = c.moves.invariant in
-    let passed = Reads-then _ _ _ _ _ _ _ h.input c.in_default.ensures.input in
+    let passed = leaves_then h.leaves (leaves_texts c.in_default.ensures.input c.in_default.ensures.output c.in_default.ensures.same) in
     record {
-      same = KeepsRun-then (KeepsRun-then h.same c.in_default.ensures.same) c.step.ensures.same;
-      input = Reads-then _ _ _ _ _ _ _ passed c.in_default-step.ensures.input;
-      output = Delivers-then _ _ _ _ _ _ (Delivers-then _ _ _ _ _ _ h.output c.in_default.ensures.output) c.in_default-step.ensures.output;
-      kept = λ j. Keeps-trans _ _ _ (h.kept j) (c.in_default-step.ensures.kept j);
+      leaves = leaves_then passed c.in_default-step.ensures.leaves;
       reached = λ sound ls known files told.
           let r = h.reached sound ls known files told in
-          let there = pass_on g.R.ByteSource.remaining c.args.lines.now c.moves.lines c.pass_over.new.lines files c.args.self.now _ c.moves.self _ _ _ h.same r c.pass_over.new.self (c.in_default.ensures.steps r.rest r.taken.known files) in
-          step_on g.R.ByteSource.remaining c.args.lines.now c.pass_over.new.lines c.step.new.lines files c.args.self.now _ c.pass_over.new.self _ _ _ (KeepsRun-then h.same c.in_default.ensures.same) there c.step.new.self
-          (c.in_default-step.ensures.steps (passed.sound sound) there.rest there.taken.known files (tells_on _ _ files told h.kept));
+          let there = pass_on g.R.ByteSource.remaining c.args.lines.now c.moves.lines c.pass_over.new.lines files c.args.self.now _ c.moves.self _ _ _ h.leaves.same r c.pass_over.new.self (c.in_default.ensures.steps r.rest r.taken.known files) in
+          step_on g.R.ByteSource.remaining c.args.lines.now c.pass_over.new.lines c.step.new.lines files c.args.self.now _ c.pass_over.new.self _ _ _ passed.same there c.step.new.self
+          (c.in_default-step.ensures.steps (passed.input.sound sound) there.rest there.taken.known files (tells_on _ _ files told h.leaves.kept));
     }

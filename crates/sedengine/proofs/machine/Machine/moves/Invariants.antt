@@ -1,19 +1,14 @@
 use Rattle.std.proofs.Common.{◌≡◌, ℕ, List, None, Some, Ok}
-use Rattle.std.specs.Io.KnownBytes.{Keeps}
 use Rattle.sedspace.specs.Stream.{lines_left}
-use Rattle.sedengine.specs.Calls.{Reads, Delivers}
 use Rattle.sedengine.specs.Run.{setting, at_lines}
 use Rattle.sedengine.specs.ScriptSetting.{TellsFiles}
-use Rattle.sedengine.specs.Steps.{KeepsRun, weight}
+use Rattle.sedengine.specs.Steps.{LeavesLines, weight}
 use Rattle.sedengine.proofs.Runs.{Reached}
 use Rattle.sedengine.proofs.machine.Machine.moves.Given as goal
 
 abbrev pub invariant-moves : goal.invariant-moves
 invariant-moves g l = record {
-  same : KeepsRun l.fn.self l.self;
-  input : Reads {T = Unit {0}} g.R.ByteSource.remaining g.R.ByteSource.failures g.R.ByteSource.reference l.fn.lines l.lines (Ok tt);
-  output : Delivers g.O.Sinks.tally g.O.Sinks.count l.fn.outputs l.outputs (Ok tt);
-  kept : (j : ℕ) → Keeps (g.T.Texts.text l.fn.texts j) (g.T.Texts.text l.texts j);
+  leaves : LeavesLines g.R.ByteSource.remaining g.R.ByteSource.failures g.R.ByteSource.reference g.O.Sinks.tally g.O.Sinks.count g.T.Texts.text l.fn.self l.self l.fn.lines l.lines l.fn.outputs l.outputs l.fn.texts l.texts (Ok tt);
   reached : l.fn.lines.fault ≡ None → (ls : List (List ℕ)) → lines_left g.R.ByteSource.remaining l.fn.lines ≡ Some ls → (files : ℕ → List ℕ) → TellsFiles (g.T.Texts.text l.fn.texts) files →
       Reached g.R.ByteSource.remaining l.fn.lines l.lines l.fn.self.limits (setting l.fn.self files) (at_lines l.fn.self ls) l.self (g.O.Sinks.tally l.fn.outputs) (g.O.Sinks.tally l.outputs);
 }

@@ -1,4 +1,5 @@
-use Rattle.std.proofs.Common.{sym, ◌∙◌, arith}
+use Rattle.std.proofs.Common.{sym, ◌∙◌, arith, rules}
+use Rattle.std.proofs.KnownBytes.{Keeps-refl}
 use Rattle.std.proofs.lemmas.Result.{err_from_is_err_and}
 use Rattle.sedengine.proofs.Writing.{Delivers-unwritten}
 use Rattle.sedengine.proofs.Streams.{Reads-then, Reads-told}
@@ -14,10 +15,15 @@ pub returns-then-self-turns-clause-steps : goal.returns-then-self-turns-clause-s
 returns-then-self-turns-clause-steps g c = λ sound ls known files told.
     steps_spent g.R.ByteSource.remaining c.args.lines.now c.self.inside c.args.self.now c.self.view_is c.self.invariant files ls known _ c.args.k c.requires.at (omega arith) (c.if-self-turns.true ∙ c.turns.ensures)
 
-pub returns-in_err-choice-clause-output : goal.returns-in_err-choice-clause-output
-returns-in_err-choice-clause-output g c =
+pub returns-in_err-choice-clause-leaves : goal.returns-in_err-choice-clause-leaves
+returns-in_err-choice-clause-leaves g c =
     let p = err_from_is_err_and c.from_residual.result c.from_residual.ensures.1 in
-    rw (p.1, p.2) (Delivers-unwritten _ _ _ c.in_err-choice.field-0.0 c.in_err-choice.ensures.output)
+    rw (p.1, p.2) (record {
+      input = search rules;
+      output = Delivers-unwritten _ _ _ c.in_err-choice.field-0.0 c.in_err-choice.ensures.reads.output;
+      same = search rules;
+      kept = λ j. Keeps-refl _;
+    })
 
 pub returns-in_err-choice-clause-steps : goal.returns-in_err-choice-clause-steps
 returns-in_err-choice-clause-steps g c = λ sound ls known files told.
@@ -33,7 +39,7 @@ returns-then-choice-clause-steps g c = λ sound ls known files told.
     reach_acting g.R.ByteSource.remaining c.args.lines.now c.judge.new.lines c.self.inside c.args.self.now c.self.view_is c.self.invariant files ls c.args.k c.command.result.now
     c.requires.at c.command.ensures.is (λ e. c.if-self-turns.false (e ∙ sym c.turns.ensures)) taken
     c.in_ok-choice.choice c.judge.new.self.state.used c.judge.new.self c.act.new.self (w.judges sound ls known) w.reaches
-    c.act.new.lines _ _ c.tells.result c.if-choice.true c.tells.ensures (c.act.ensures.acts (w.input.sound sound) ls taken.known files told)
+    c.act.new.lines _ _ c.tells.result c.if-choice.true c.tells.ensures (c.act.ensures.acts (w.reads.input.sound sound) ls taken.known files told)
 
 pub returns-else-choice-clause-steps : goal.returns-else-choice-clause-steps
 returns-else-choice-clause-steps g c = λ sound ls known files told.
@@ -42,5 +48,10 @@ returns-else-choice-clause-steps g c = λ sound ls known files told.
     c.in_ok-choice.choice c.judge.new.self.state.used c.judge.new.self c.pass.new.self (c.in_ok-choice.ensures.judges sound ls known) c.in_ok-choice.ensures.reaches
     _ c.if-choice.false (c.pass.ensures.passes files _ ls)
 
-pub returns-then-choice-clause-input : goal.returns-then-choice-clause-input
-returns-then-choice-clause-input g c = Reads-then _ _ _ _ _ _ _ (Reads-told _ _ _ _ _ _ c.in_ok-choice.ensures.input) c.act.ensures.input
+pub returns-then-choice-clause-leaves : goal.returns-then-choice-clause-leaves
+returns-then-choice-clause-leaves g c = record {
+  input = Reads-then _ _ _ _ _ _ _ (Reads-told _ _ _ _ _ _ c.in_ok-choice.ensures.reads.input) c.act.ensures.leaves.input;
+  output = c.act.ensures.leaves.output;
+  same = search rules;
+  kept = c.act.ensures.leaves.kept;
+}
