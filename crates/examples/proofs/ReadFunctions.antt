@@ -39,9 +39,9 @@ use Rattle.sedscript.specs.Replacement.{exceeds, replacement_fault, is_letter}
 use Rattle.sedscript.specs.Transliteration.{chars_of, repeated_in, repeated_fault, string_fault, strings_fault}
 use Rattle.sedscript.specs.Between.{own_delimiter, strings_to, strings_after, substitute_strings, transliterate_strings, unless_fault, transliterate_at, flags_after, substituted}
 use Rattle.sedscript.specs.Items.{substitute_with, substitute_at, function_of, function_with, function_at, function_after, item_with, item_from, item_at}
-use Rattle.sedscript.specs.Expressions.{Gives, value, after_expression, own, no_expression, later, IsRead}
-use Rattle.sedscript.specs.FirstFault.{Fails, Faulty}
-use Rattle.sedscript.specs.Script.{CutScript, done, item, Means, early, afterwards, IsEnd}
+use Rattle.sedscript.specs.Expressions.{Gives, value, after_expression, IsRead}
+use Rattle.sedscript.specs.FirstFault.{Fails, Faulty, own, no_expression, later, early, afterwards}
+use Rattle.sedscript.specs.Script.{CutScript, done, item, Means, IsEnd}
 use Rattle.sedscript.specs.Program.{Program}
 use Rattle.examples.specs.Blocks.{IsStray, IsOpen}
 use Rattle.examples.specs.Escapes.{wrong_in_string, wrong_in_replacement, IsFirstWrong, FirstWrong, HasGroups, IsSubstitute, IsWrongEscape, in_first, in_second, in_replacement}
