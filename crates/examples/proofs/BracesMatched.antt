@@ -14,7 +14,7 @@ use Rattle.sedscript.specs.Script.{Means}
 use Rattle.sedscript.specs.Program.{Program}
 use Rattle.sedscript.specs.Targets.{leaves, counted, commands_in, label_in, is_open, is_close, depth_after, close_in, block_end, fault_if, target_fault_at, target_fault_in, target_fault}
 use Rattle.sedscript.proofs.Labels.{counted_in}
-use Rattle.examples.specs.Blocks.{BracesMatch, none, other, block, IsStray, IsOpen}
+use Rattle.examples.specs.Blocks.{BracesMatch, none, other, block, IsStray, IsUnclosed}
 use Rattle.examples.proofs.FaultLemmas.{or_none, unless_wrong, Another, another_if, past_another}
 
 abbrev Items : Type 0
@@ -250,8 +250,8 @@ within_none d n is place u m ends =
     let no : true ≡ false = sym (ap (λ (x : Option ℕ). is_none x) e) ∙ ends in cc
 
 unclosed : (text : List ℕ) (all before : Items) (d : ℕ) (is : Items) (f : ScriptFault) → f.reason ≡ OpenBlock → target_fault_in text all before d is ≡ Some f → Unclosed d is f.place
-unclosed text all before d [] f is_open_one e = absurd cc
-unclosed text all before d (i ∷ is) f is_open_one e = by_function i.function refl d e (λ d. unclosed text all (before ++ i ∷ []) d is f is_open_one)
+unclosed text all before d [] f is_unclosed e = absurd cc
+unclosed text all before d (i ∷ is) f is_unclosed e = by_function i.function refl d e (λ d. unclosed text all (before ++ i ∷ []) d is f is_unclosed)
   where
     open_inside : (d k : ℕ) (u : Unclosed (suc d) is f.place) → i.function ≡ Open → k ≤ suc d → Closes k u.front → is_none (block_end before is) ≡ false → Unclosed d (i ∷ is) f.place
     open_inside d zero u o low h ends = absurd (within_none (suc d) (suc (commands_in before)) is f.place u h ends)
@@ -294,32 +294,34 @@ unclosed text all before d (i ∷ is) f is_open_one e = by_function i.function r
     some_open d false is_not e = refl
     some_open d true is_not e =
         let same : ◌≡◌ {A = ScriptFault} (record { place = i.place; reason = StrayClose }) f = cc in
-        let no : StrayClose ≡ OpenBlock = ap (λ (x : ScriptFault). x.reason) same ∙ is_open_one in absurd cc
+        let no : StrayClose ≡ OpenBlock = ap (λ (x : ScriptFault). x.reason) same ∙ is_unclosed in absurd cc
 
     by_function : (g : Function) → i.function ≡ g → (d : ℕ) → option_or (target_fault_at text all before d is i.place g) (target_fault_in text all (before ++ i ∷ []) (depth_after d g) is) ≡ Some f →
         ((d : ℕ) → target_fault_in text all (before ++ i ∷ []) d is ≡ Some f → Unclosed d is f.place) → Unclosed d (i ∷ is) f.place
     by_function Open o d e rest = open_at d (is_none (block_end before is)) o refl e (rest (suc d))
     by_function Close c d e rest =
-        close_at d c (past_another OpenBlock (fault_if (d == 0) StrayClose i.place) (target_fault_in text all (before ++ i ∷ []) (d - 1) is) f (not_first (d == 0)) is_open_one e) (some_open d (d == 0) refl e) rest
+        close_at d c (past_another OpenBlock (fault_if (d == 0) StrayClose i.place) (target_fault_in text all (before ++ i ∷ []) (d - 1) is) f (not_first (d == 0)) is_unclosed e) (some_open d (d == 0) refl e) rest
     by_function g p d e rest =
-        let u = rest d (past_another OpenBlock (target_fault_at text all before d is i.place g) (target_fault_in text all (before ++ i ∷ []) d is) f (label_another OpenBlock text all before is d i.place g (λ no. absurd cc) (λ no. absurd cc) refl refl) is_open_one e) in
+        let u = rest d (past_another OpenBlock (target_fault_at text all before d is i.place g) (target_fault_in text all (before ++ i ∷ []) d is) f (label_another OpenBlock text all before is d i.place g (λ no. absurd cc) (λ no. absurd cc) refl refl) is_unclosed e) in
         unclosed_later d d u.k i is f.place u u.low (plain_first u.k i u.front (ap is_open p) (ap is_close p) u.match)
 
 is_stray : (items : Items) (place : ℕ) → Stray 0 items place → IsStray items place
-is_stray items place s = record { before = s.front; brace = s.brace; after = s.after; are = s.are; closes = s.closes; match = s.match; there = s.there }
+is_stray items place s = (s.after, record { before = s.front; brace = s.brace; are = s.are; is = s.closes; match = s.match; there = s.there })
 
-is_open_one : (items : Items) (place : ℕ) → Unclosed 0 items place → IsOpen items place
-is_open_one items place u = record {
-  before = u.front;
-  brace = u.brace;
-  after = u.after;
-  are = u.are;
-  opens = u.opens;
-  match = subst (λ (k : ℕ). Closes k u.front) (let e : u.k ≡ 0 = omega (arith, u.low) in e) u.match;
-  never = λ inner rest j are m c. (let no : ◌≡◌ {A = Option ℕ} None (Some (u.n + commands_in inner)) = sym u.never ∙ (ap (close_in 0 u.n) are ∙ closes_there inner rest j u.n m c) in absurd cc);
-  there = u.there;
-}
+is_unclosed : (items : Items) (place : ℕ) → Unclosed 0 items place → IsUnclosed items place
+is_unclosed items place u = (
+  u.after,
+  record {
+    before = u.front;
+    brace = u.brace;
+    are = u.are;
+    is = u.opens;
+    match = subst (λ (k : ℕ). Closes k u.front) (let e : u.k ≡ 0 = omega (arith, u.low) in e) u.match;
+    there = u.there;
+  },
+  λ inner rest j are m c. (let no : ◌≡◌ {A = Option ℕ} None (Some (u.n + commands_in inner)) = sym u.never ∙ (ap (close_in 0 u.n) are ∙ closes_there inner rest j u.n m c) in absurd cc),
+)
 
 pub braces_at_fault : (text : List ℕ) (items : Items) (f : ScriptFault) → target_fault text items ≡ Some f →
-    (f.reason ≡ StrayClose → IsStray items f.place) × (f.reason ≡ OpenBlock → IsOpen items f.place)
-braces_at_fault text items f e = (λ is. is_stray items f.place (stray text items [] 0 items f is e), λ is. is_open_one items f.place (unclosed text items [] 0 items f is e))
+    (f.reason ≡ StrayClose → IsStray items f.place) × (f.reason ≡ OpenBlock → IsUnclosed items f.place)
+braces_at_fault text items f e = (λ is. is_stray items f.place (stray text items [] 0 items f is e), λ is. is_unclosed items f.place (unclosed text items [] 0 items f is e))

@@ -43,7 +43,7 @@ use Rattle.sedscript.specs.Expressions.{Gives, value, after_expression, IsRead}
 use Rattle.sedscript.specs.FirstFault.{Fails, Faulty, own, no_expression, later, early, afterwards}
 use Rattle.sedscript.specs.Script.{CutScript, done, item, Means, IsEnd}
 use Rattle.sedscript.specs.Program.{Program}
-use Rattle.examples.specs.Blocks.{IsStray, IsOpen}
+use Rattle.examples.specs.Blocks.{IsStray, IsUnclosed}
 use Rattle.examples.specs.Escapes.{wrong_in_string, wrong_in_replacement, IsFirstWrong, FirstWrong, HasGroups, IsSubstitute, IsWrongEscape, in_first, in_second, in_replacement}
 use Rattle.examples.specs.Strings.{IsTransliterate, RepeatsFirst}
 use Rattle.examples.specs.Texts.{letter_of, HasNoText}
@@ -475,7 +475,7 @@ module _ (kind : Kind) (max_nodes : ℕ) (text : List ℕ) where
   abbrev Cut : (List Item → ℕ → Type 0) → ℕ → Type 0
   Cut P place = (items : List Item) × (es : List Written) × (to : ℕ) × CutScript text kind max_nodes 0 0 items es to × IsEnd text to × P items place
 
-  pub brace_faults : (f : ScriptFault) → Faulty text kind max_nodes f → (f.reason ≡ StrayClose → Cut IsStray f.place) × (f.reason ≡ OpenBlock → Cut IsOpen f.place)
+  pub brace_faults : (f : ScriptFault) → Faulty text kind max_nodes f → (f.reason ≡ StrayClose → Cut IsStray f.place) × (f.reason ≡ OpenBlock → Cut IsUnclosed f.place)
   brace_faults f (early items es to cut bad) = (λ is. absurd (subst (By f.place) is (told_early items es to f bad)), λ is. absurd (subst (By f.place) is (told_early items es to f bad)))
   brace_faults f (afterwards items es to cut ends found) =
       let faults = braces_at_fault text items f found in

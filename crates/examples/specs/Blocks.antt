@@ -1,5 +1,6 @@
 -- Blocks (XCU sed, "Editing Commands in sed": `{`).
 use Rattle.std.specs.Prelude.{◌≡◌, ℕ, List, [], ◌∷◌, ◌++◌, false}
+use Rattle.sedscript.specs.declared.items.Function.{Function}
 use Rattle.sedscript.specs.declared.items.Function.TheVariants.{Open, Close}
 use Rattle.sedscript.specs.declared.items.Item.{Item}
 use Rattle.sedscript.specs.Targets.{is_open, is_close}
@@ -12,24 +13,20 @@ pub data BracesMatch : List Item → Type 0 where
   block : (i j : Item) (inner rest : List Item) → i.function ≡ Open → BracesMatch inner → j.function ≡ Close →
       BracesMatch rest → BracesMatch (i ∷ inner ++ j ∷ rest)
 
--- the closing brace at this place is the first that closes nothing
-pub record IsStray (items : List Item) (place : ℕ) : Type 0 where
+-- this brace stands at a place among the items, these come after it, and up to it all braces match
+pub record BraceAt (f : Function) (items : List Item) (place : ℕ) (after : List Item) : Type 0 where
   pub before : List Item
   pub brace : Item
-  pub after : List Item
   pub are : items ≡ before ++ brace ∷ after
-  pub closes : brace.function ≡ Close
+  pub is : brace.function ≡ f
   pub match : BracesMatch before
   pub there : place ≡ brace.place
 
+-- the closing brace at this place is the first that closes nothing
+abbrev pub IsStray : List Item → ℕ → Type 0
+IsStray items place = (after : List Item) × BraceAt Close items place after
+
 -- the opening brace at this place is the first that nothing closes, and so the outermost of them
-pub record IsOpen (items : List Item) (place : ℕ) : Type 0 where
-  pub before : List Item
-  pub brace : Item
-  pub after : List Item
-  pub are : items ≡ before ++ brace ∷ after
-  pub opens : brace.function ≡ Open
-  pub match : BracesMatch before
-  pub never : (inner rest : List Item) (j : Item) → after ≡ inner ++ j ∷ rest → BracesMatch inner →
-      j.function ≡ Close → ⊥
-  pub there : place ≡ brace.place
+abbrev pub IsUnclosed : List Item → ℕ → Type 0
+IsUnclosed items place = (after : List Item) × BraceAt Open items place after
+    × ((inner rest : List Item) (j : Item) → after ≡ inner ++ j ∷ rest → BracesMatch inner → j.function ≡ Close → ⊥)

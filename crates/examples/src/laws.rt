@@ -30,7 +30,7 @@ ghost use Rattle.sedscript.specs.Targets.{block_end, commands_in};
 ghost use Rattle.sedscript.specs.Transliteration.{table_of, escaped_byte, chars_from, chars_of, bytes_of, is_among, string_fault};
 ghost use Rattle.examples.specs.Backslashes.{IsUnescaped, NoneUnescaped};
 ghost use Rattle.examples.specs.Escapes.{FirstWrong, IsEscape, HasGroups, IsWrongEscape, wrong_in_string, wrong_in_replacement};
-ghost use Rattle.examples.specs.Blocks.{BracesMatch, IsStray, IsOpen};
+ghost use Rattle.examples.specs.Blocks.{BracesMatch, IsStray, IsUnclosed};
 ghost use Rattle.examples.specs.Labels.{EndsLabel};
 ghost use Rattle.examples.specs.Texts.{HasNoText, letter_of, backslashed};
 ghost use Rattle.examples.specs.Strings.{NoneTwice, IsTransliterate, RepeatsFirst, written};
@@ -294,5 +294,5 @@ pub fn brace_faults()
         × CutScript text kind max_nodes 0 0 items expressions to × IsEnd text to × IsStray items f.place)
         × (f.reason ≡ OpenBlock →
         (items : List Item) × (expressions : List Written) × (to : ℕ)
-        × CutScript text kind max_nodes 0 0 items expressions to × IsEnd text to × IsOpen items f.place) }
+        × CutScript text kind max_nodes 0 0 items expressions to × IsEnd text to × IsUnclosed items f.place) }
 {}
