@@ -46,8 +46,8 @@ use Rattle.sedpass.specs.Turns.{Blank}
 use Rattle.sedpass.specs.declared.group_set.GroupSet.{GroupSet}
 use Rattle.sedpass.specs.declared.nodes.Facts.{Facts}
 use Rattle.sedpass.specs.declared.nodes.Kind.{Kind}
-use Rattle.sedpass.proofs.OverlayLemmas.{make-state, settle-due, settle-not}
-use Rattle.sedpass.proofs.TurnLemmas.{copy_spans, none_there, closed, same_bools, drop_as}
+use Rattle.sedpass.proofs.OverlayLemmas.{make-state, settle-due, settle-not, none_there}
+use Rattle.sedpass.proofs.TurnLemmas.{copy_spans, closed, same_bools, drop_as}
 
 -- an entry of the flags
 pub flags_at : (s : GroupSet) (k : ℕ) → slice_index_or (flags_of s) k false ≡ holds s k

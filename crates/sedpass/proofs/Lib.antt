@@ -20,3 +20,4 @@ pub mod SearchLemmas
 pub mod SpineLemmas
 pub mod TableLemmas
 pub mod TurnLemmas
+pub mod WalkLemmas

@@ -503,3 +503,9 @@ pub stays : StaysLaw
 stays e t w i j old new back none =
     let one = changes e w i j old new back in
     λ k has. subst (λ s. is_due s k ≡ false) (sym one.1) (left_due-stays old.due one.0 k (none k has))
+
+-- before groups are decided none has a span
+pub none_there : (n k : ℕ) → slice_index_or {A = Option (ℕ × ℕ)} (replicate n None) k None ≡ None
+none_there zero k = refl
+none_there (suc n) zero = refl
+none_there (suc n) (suc k) = none_there n k

@@ -12,7 +12,7 @@ use Rattle.sedtext.specs.Groups.{Groups}
 use Rattle.sedtext.proofs.NodeLemmas.{node_at, size-pos}
 use Rattle.sedpass.specs.Decide.{nodes_in, text_in, told_of, LooksAt, undecided, GoesOn, EndsIn, IsMatch, Turns, next_of, waiting, part_cost, kind_cost, tasks_cost, long_of, IsSpent}
 use Rattle.sedpass.specs.Overlay.{State, Back, NoneDue, IsStart}
-use Rattle.sedpass.specs.Turns.{Runs, AreReady, AreWithin, AreShort, Reduces, weights, looks, descents, tasks_of}
+use Rattle.sedpass.specs.Turns.{Runs, AreReady, AreWithin, AreShort, Reduces, LooksAtEntered, weights, looks, descents, tasks_of}
 use Rattle.sedpass.specs.declared.group_set.GroupSet.{GroupSet}
 use Rattle.sedpass.specs.declared.groups.Matched.{Matched}
 use Rattle.sedpass.specs.declared.groups.Task.{Task}
@@ -25,6 +25,7 @@ use Rattle.sedpass.proofs.DecideLemmas.{flags_at}
 use Rattle.sedpass.proofs.OverlayLemmas.{wanted}
 use Rattle.sedpass.specs.Groups.{holds}
 use Rattle.sedpass.proofs.TurnLemmas.{begins, leave_turn, turned}
+use Rattle.sedpass.proofs.WalkLemmas.{looks_same, looks_on}
 
 -- no group in the match is due: it is left
 pub left_turn : (s : Subject) (here : Matched) (due : GroupSet) (spans : Groups) → IsArena (nodes_in s) → IsMatch s here → NoneDue (tree_at (nodes_in s) here.node) (told_of due spans) →
@@ -51,6 +52,7 @@ pub record Spined (s : Subject) (start : List Task) (begin : State) (before : �
   pub less : weights (nodes_in s) (waiting at stack) + done at ≤ weights (nodes_in s) start
   pub run : (f : State) → Runs (nodes_in s) (text_in s) (waiting at stack) now f → Runs (nodes_in s) (text_in s) start begin f
   pub spent : IsSpent (nodes_in s) start (waiting at stack) before after
+  pub entered : LooksAtEntered (nodes_in s) start begin.spans (waiting at stack) now.spans before after
 
 pub spine_begins : (s : Subject) (r : Region) (now : State) (here : Matched) (stack : List Task) (before : ℕ) → EndsIn s r here →
     AreReady (nodes_in s) (text_in s) (waiting (Some here) stack) → Spined s (waiting (Some here) stack) now before r now (Some here) stack before
@@ -60,6 +62,7 @@ spine_begins s r now here stack before ends ready = record {
   less = omega arith;
   run = λ f run. run;
   spent = λ long short. (short, (omega arith, omega arith));
+  entered = looks_same (nodes_in s) (waiting (Some here) stack) now.spans before;
 }
 
 cost_more : (m short long : ℕ) → short ≤ long → part_cost m short ≤ part_cost m long
@@ -107,8 +110,9 @@ turn_paid s long p rest (Two next (Apart y i j)) steps after short fewer paid =
 pub spine_goes : (s : Subject) (start : List Task) (begin old new : State) (before steps after : ℕ) (r r' : Region) (p : Matched) (stack stack' : List Task) (then : Then) (at : Option Matched) →
     Spined s start begin before r old (Some p) stack steps → Turns s p old new then → GoesOn s r' (next_of then) → Takes steps after (kind_cost s p (next_of then) + 1) →
     at ≡ next_of then → waiting at stack' ≡ tasks_of then ++ reverse stack →
+    ((rest : List Task) → LooksAtEntered (nodes_in s) (Apart p.node p.start p.stop ∷ rest) old.spans (tasks_of then ++ rest) new.spans steps after) →
     Spined s start begin before r' new at stack' after
-spine_goes s start begin old new before steps after r r' p stack stack' then at spined turn goes paid at_is items =
+spine_goes s start begin old new before steps after r r' p stack stack' then at spined turn goes paid at_is items entered =
     let nodes = nodes_in s in
     let w = text_in s in
     let rest = reverse stack in
@@ -127,6 +131,8 @@ spine_goes s start begin old new before steps after r r' p stack stack' then at 
             subst (AreShort long) (sym items) (short_within long p.start p.stop (tasks_of then) rest head turn.within spent.0.1),
             (omega (arith, spent.1.0, paid.0), subst (λ ts. after + tasks_cost nodes long ts ≤ before + tasks_cost nodes long start) (sym items) (omega (arith, spent.1.1, more))),
           );
+      entered = subst (λ ts. LooksAtEntered nodes start begin.spans ts new.spans before after) (sym items)
+          (looks_on nodes start (Apart p.node p.start p.stop ∷ rest) (tasks_of then ++ rest) begin.spans old.spans new.spans before steps after spined.entered (entered rest));
     }
   where
     done_less : (v : Option Matched) (a b c : ℕ) → a + 1 ≤ b → b + 0 ≤ c → a + done v ≤ c

@@ -18,8 +18,10 @@ use Rattle.sedpass.specs.Overlay.{State, is_due, settle, drop_groups, Back, HasG
 use Rattle.sedpass.specs.declared.groups.Task.{Task}
 use Rattle.sedpass.specs.declared.groups.Task.TheVariants.{Apart, Forget}
 use Rattle.sedtext.specs.Nodes.{parts_of}
-use Rattle.sedpass.specs.Turns.{AreReady, weights, IsTurn, IsHere, HasGroupAt, Blank, LeaveTurn, LeafTurn, SeqTurn, AltTurn, GroupTurn, StarTurn, OptTurn, EmptyTurn, SeqSpine, RunSpine, AltSpine, PartSpine, StarSpine, SeqParts, StarParts, OptParts, TurnedLaw, BeginLaw, RoomLaw, GroupsAtLaw, DropLaw}
+use Rattle.sedpass.specs.Turns.{AreReady, weights, IsTurn, IsHere, Enters, HasGroupAt, Blank, LeaveTurn, LeafTurn, SeqTurn, AltTurn, GroupTurn, StarTurn, OptTurn, EmptyTurn, SeqSpine, RunSpine, AltSpine, PartSpine, StarSpine, SeqParts, StarParts, OptParts, TurnedLaw, BeginLaw, RoomLaw, GroupsAtLaw, DropLaw}
 use Rattle.sedtext.proofs.ReachLemmas.{open_at, close_at}
+use Rattle.sedpass.specs.Walks.{Walk, outside, enter, Meets}
+use Rattle.sedpass.proofs.WalkLemmas.{enters_none, enters_part, enters_both, enters_group, enters_group_alone}
 use Rattle.sedpass.proofs.LeaveLemmas.{alt_looks, reaches_last}
 use Rattle.sedpass.proofs.MeetingLemmas.{stops_at_cut, stops_at_copy, run_stops}
 use Rattle.sedtext.proofs.SpanLemmas.{Spans-forward}
@@ -98,11 +100,6 @@ drop_blank (group k a) s blank = drop_blank a (settle k None s) (settle_blank k 
 drop_blank (star a first) s blank = drop_blank a s blank
 drop_blank (opt a first) s blank = drop_blank a s blank
 
-pub none_there : (n k : ℕ) → slice_index_or {A = Option (ℕ × ℕ)} (replicate n None) k None ≡ None
-none_there zero k = refl
-none_there (suc n) zero = refl
-none_there (suc n) (suc k) = none_there n k
-
 set_spans : (k : ℕ) (s : State) → Blank s → (settle k None s).spans ≡ s.spans
 set_spans k s blank =
     ⊎_elim
@@ -175,20 +172,26 @@ module _ (nodes : List Node) (w : List ℕ) (x i j : ℕ) (node : Node) (here : 
   close_back old new back = subst (λ t. Back t w i j old new) (sym (tree_at-node nodes x node here.arena here.is)) back
 
   -- nothing is left of the node
-  done_turn : (old new : State) → Back (tree_at nodes x) w i j old new → IsTurn nodes w x i j old new []
-  done_turn old new back = record {
+  done_turn : (old new : State) → Back (tree_at nodes x) w i j old new → ((rest : List Task) → Enters nodes (Apart x i j ∷ rest) old.spans rest new.spans 1) →
+      IsTurn nodes w x i j old new []
+  done_turn old new back enters = record {
     run = λ rest f run. (new, back, run);
     ready = tt;
     within = tt;
     less = omega (arith, size-pos (tree_at nodes x));
     fewer = omega (arith, size-pos (tree_at nodes x));
+    enters = enters;
   }
+
+  left_turn : (s : State) → Back (tree_at nodes x) w i j s s → IsTurn nodes w x i j s s []
+  left_turn s back = done_turn s s back (λ rest. enters_none nodes here.arena x i j node here.is rest s.spans)
 
   -- what is in it is decided, and what is still due then is forgotten
   inner_turn : (a : NodeId) (c : ℕ) (old new : State) → a.index < x → size (tree_at nodes x) ≡ 1 + (size (tree_at nodes a.index) + 0) → i ≤ c → c ≤ j → At nodes w a.index c j →
       ((mid : State) → Back (tree_at nodes a.index) w c j new mid → Back (tree_of (tree_at nodes) node) w i j old (drop_groups (tree_at nodes a.index) mid)) →
+      ((rest : List Task) → Enters nodes (Apart x i j ∷ rest) old.spans (Apart a.index c j ∷ Forget a.index ∷ rest) new.spans 1) →
       IsTurn nodes w x i j old new (Apart a.index c j ∷ Forget a.index ∷ [])
-  inner_turn a c old new low long from up at go =
+  inner_turn a c old new low long from up at go enters =
       let inside = here.inside in
       record {
         run = λ rest f run. (drop_groups (tree_at nodes a.index) run.0, close_back old _ (go run.0 run.1), run.2);
@@ -196,10 +199,20 @@ module _ (nodes : List Node) (w : List ℕ) (x i j : ℕ) (node : Node) (here : 
         within = (from, omega arith, tt);
         less = omega (arith, long);
         fewer = omega (arith, long);
+        enters = enters;
       }
 
+  -- the same of a node that has one part and is no group
+  one_turn : (a : NodeId) (c : ℕ) (s : State) → a.index < x → size (tree_at nodes x) ≡ 1 + (size (tree_at nodes a.index) + 0) → i ≤ c → c ≤ j → At nodes w a.index c j →
+      ((mid : State) → Back (tree_at nodes a.index) w c j s mid → Back (tree_of (tree_at nodes) node) w i j s (drop_groups (tree_at nodes a.index) mid)) →
+      ((u : Walk) (k : ℕ) → Meets (tree_at nodes a.index) u k → Meets (tree_of (tree_at nodes) node) (enter u outside) k) →
+      IsTurn nodes w x i j s s (Apart a.index c j ∷ Forget a.index ∷ [])
+  one_turn a c s low long from up at go meets =
+      inner_turn a c s s low long from up at go
+      (λ rest. enters_part nodes here.arena x i j node here.is a.index c j rest (Forget a.index ∷ rest) s.spans (λ u. enter u outside) (λ u. omega arith) meets (λ vs k m. m))
+
 pub leave_turn : LeaveTurn
-leave_turn nodes w x i j node s here none = done_turn nodes w x i j node here s s (left_at_once (tree_at nodes x) w i j s none here.at)
+leave_turn nodes w x i j node s here none = left_turn nodes w x i j node here s (left_at_once (tree_at nodes x) w i j s none here.at)
 
 pub leaf_turn : LeafTurn
 leaf_turn nodes w x i j node s here leaf =
@@ -233,6 +246,7 @@ seq_at nodes w x i k j a b s here cut =
         within = (up, omega arith, (omega arith, on, tt));
         less = omega (arith, long);
         fewer = omega (arith, long);
+        enters = λ rest. enters_both nodes here.arena x i j a b here.is k rest s.spans;
       },
       λ none. record {
         run = λ rest f run.
@@ -242,6 +256,7 @@ seq_at nodes w x i k j a b s here cut =
         within = (up, omega arith, tt);
         less = omega (arith, long);
         fewer = omega (arith, long);
+        enters = λ rest. enters_part nodes here.arena x i j (Seq a b) here.is b.index k j rest rest s.spans (λ u. enter outside u) (λ u. omega arith) (λ u n m. inr m) (λ vs n m. m);
       },
     )
 
@@ -262,6 +277,7 @@ alt_at nodes w x i j a b s here =
         within = (omega arith, omega arith, tt);
         less = omega (arith, long);
         fewer = omega (arith, long);
+        enters = λ rest. enters_part nodes here.arena x i j (Alt a b) here.is a.index i j rest rest s.spans (λ u. enter u outside) (λ u. omega arith) (λ u n m. inl m) (λ vs n m. m);
       },
       λ missing.
           let at : At nodes w b.index i j = ⊎_elim (λ (l : At nodes w a.index i j). absurd (missing l)) (λ (r : At nodes w b.index i j). r) (open_at nodes w x (Alt a b) here.arena here.is i j here.at) in
@@ -271,6 +287,7 @@ alt_at nodes w x i j a b s here =
             within = (omega arith, omega arith, tt);
             less = omega (arith, long);
             fewer = omega (arith, long);
+            enters = λ rest. enters_part nodes here.arena x i j (Alt a b) here.is b.index i j rest rest s.spans (λ u. enter outside u) (λ u. omega arith) (λ u n m. inr m) (λ vs n m. m);
           },
     )
 
@@ -284,11 +301,13 @@ group_turn nodes w x k i j part a s here part_is =
     let inner = tree_at nodes a.index in
     let at : At nodes w a.index i j = open_at nodes w x (Group k a) here.arena here.is i j here.at in
     rw part_is (
-      inner_turn nodes w x i j (Group k a) here a i s set low (size-parts nodes here.arena x (Group k a) here.is) (omega arith) here.up at (λ mid back. (mid, back, refl)),
+      inner_turn nodes w x i j (Group k a) here a i s set low (size-parts nodes here.arena x (Group k a) here.is) (omega arith) here.up at (λ mid back. (mid, back, refl))
+      (λ rest. enters_group nodes here.arena x i j k a here.is (i, j) s rest),
       λ none.
           let same : NoneDue inner set = λ n has. set_stays k (Some (i, j)) s n (none n has) in
           done_turn nodes w x i j (Group k a) here s set
-          (close_back nodes w x i j (Group k a) here s set (set, left_at_once inner w i j set same at, sym (drop-not inner set same))),
+          (close_back nodes w x i j (Group k a) here s set (set, left_at_once inner w i j set same at, sym (drop-not inner set same)))
+          (λ rest. enters_group_alone nodes here.arena x i j k a here.is (i, j) s rest),
     )
 
 pub copy_spans : (R : ℕ → ℕ → Type 0) (j i c : ℕ) → LastCopy R j i c → (i ≤ c) × (c < j) × R c j
@@ -300,8 +319,8 @@ star_at : (nodes : List Node) (w : List ℕ) (x i c j : ℕ) (a : NodeId) (first
 star_at nodes w x i c j a first s here lt last =
     let low = here.arena.below x a.index (Star a first) here.is refl in
     let copy = copy_spans (At nodes w a.index) j i c last in
-    inner_turn nodes w x i j (Star a first) here a c s s low (size-parts nodes here.arena x (Star a first) here.is) copy.0 (let less = copy.1 in omega arith) copy.2
-    (λ mid back. inl (lt, (c, last, (mid, back, refl))))
+    one_turn nodes w x i j (Star a first) here a c s low (size-parts nodes here.arena x (Star a first) here.is) copy.0 (let less = copy.1 in omega arith) copy.2
+    (λ mid back. inl (lt, (c, last, (mid, back, refl)))) (λ u n m. m)
 
 pub star_turn : StarTurn
 star_turn nodes w x i c j part a first s here part_is lt last = rw part_is (star_at nodes w x i c j a first s here lt (rw part_is at last))
@@ -311,7 +330,8 @@ opt_turn nodes w x i j part a first s here part_is lt =
     let low = here.arena.below x a.index (Opt a first) here.is refl in
     let at : At nodes w a.index i j = ⊎_elim (λ (e : i ≡ j). absurd (omega arith)) (λ (r : At nodes w a.index i j). r) (open_at nodes w x (Opt a first) here.arena here.is i j here.at) in
     rw part_is
-    (inner_turn nodes w x i j (Opt a first) here a i s s low (size-parts nodes here.arena x (Opt a first) here.is) (omega arith) here.up at (λ mid back. inl (lt, (mid, back, refl))))
+    (one_turn nodes w x i j (Opt a first) here a i s low (size-parts nodes here.arena x (Opt a first) here.is) (omega arith) here.up at (λ mid back. inl (lt, (mid, back, refl)))
+    (λ u n m. m))
 
 abbrev Empties : (nodes : List Node) (w : List ℕ) (x i j part : ℕ) (first : Bool) (s : State) → Type 0
 Empties nodes w x i j part first s =
@@ -321,17 +341,17 @@ Empties nodes w x i j part first s =
 star_empty : (nodes : List Node) (w : List ℕ) (x i : ℕ) (a : NodeId) (first : Bool) (s : State) → IsHere nodes w x i i (Star a first) → Empties nodes w x i i a.index first s
 star_empty nodes w x i a first s here =
     let low = here.arena.below x a.index (Star a first) here.is refl in (
-      λ h. inner_turn nodes w x i i (Star a first) here a i s s low (size-parts nodes here.arena x (Star a first) here.is) (omega arith) (omega arith) h.1
-          (λ mid back. inr (inl (refl, h.0, h.1, (mid, back, refl)))),
-      λ not. done_turn nodes w x i i (Star a first) here s s (close_back nodes w x i i (Star a first) here s s (inr (inr (refl, (λ is_first at. not (is_first, at), refl))))),
+      λ h. one_turn nodes w x i i (Star a first) here a i s low (size-parts nodes here.arena x (Star a first) here.is) (omega arith) (omega arith) h.1
+          (λ mid back. inr (inl (refl, h.0, h.1, (mid, back, refl)))) (λ u n m. m),
+      λ not. left_turn nodes w x i i (Star a first) here s (close_back nodes w x i i (Star a first) here s s (inr (inr (refl, (λ is_first at. not (is_first, at), refl))))),
     )
 
 opt_empty : (nodes : List Node) (w : List ℕ) (x i : ℕ) (a : NodeId) (first : Bool) (s : State) → IsHere nodes w x i i (Opt a first) → Empties nodes w x i i a.index first s
 opt_empty nodes w x i a first s here =
     let low = here.arena.below x a.index (Opt a first) here.is refl in (
-      λ h. inner_turn nodes w x i i (Opt a first) here a i s s low (size-parts nodes here.arena x (Opt a first) here.is) (omega arith) (omega arith) h.1
-          (λ mid back. inr (inl (refl, h.0, h.1, (mid, back, refl)))),
-      λ not. done_turn nodes w x i i (Opt a first) here s s (close_back nodes w x i i (Opt a first) here s s (inr (inr (refl, (λ is_first at. not (is_first, at), refl))))),
+      λ h. one_turn nodes w x i i (Opt a first) here a i s low (size-parts nodes here.arena x (Opt a first) here.is) (omega arith) (omega arith) h.1
+          (λ mid back. inr (inl (refl, h.0, h.1, (mid, back, refl)))) (λ u n m. m),
+      λ not. left_turn nodes w x i i (Opt a first) here s (close_back nodes w x i i (Opt a first) here s s (inr (inr (refl, (λ is_first at. not (is_first, at), refl))))),
     )
 
 pub empty_turn : EmptyTurn

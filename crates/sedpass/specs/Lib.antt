@@ -15,3 +15,4 @@ pub mod Rows
 pub mod Search
 pub mod Table
 pub mod Turns
+pub mod Walks

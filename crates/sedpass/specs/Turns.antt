@@ -1,10 +1,11 @@
 -- Private to the proofs: no contract that `sedmatch` makes public cites what stands here.
 -- What is left to do while the groups of a match are decided from its end.
-use Rattle.std.specs.Prelude.{◌≡◌, ℕ, ◌+◌, ◌-◌, ◌*◌, ◌<◌, ◌≤◌, ◌⊎◌, ◌↔◌, Bool, true, List, [], ◌∷◌, ◌++◌, length, slice_get, slice_index_or, None, Some, IsTrue}
+use Rattle.std.specs.Prelude.{◌≡◌, ◌≢◌, ℕ, ◌+◌, ◌-◌, ◌*◌, ◌<◌, ◌≤◌, ◌⊎◌, ◌↔◌, Bool, true, List, [], ◌∷◌, ◌++◌, length, slice_get, slice_index_or, None, Some, IsTrue}
 use Rattle.sedre.specs.Arena.{IsArena}
 use Rattle.sedre.specs.Written.{tree_at}
 use Rattle.sedre.specs.Tree.{Tree}
 use Rattle.sedre.specs.Sizes.{size}
+use Rattle.sedre.specs.Steps.{TakesAtLeast}
 use Rattle.sedre.specs.declared.types.Node.{Node}
 use Rattle.sedre.specs.declared.types.NodeId.{NodeId}
 use Rattle.sedre.specs.declared.types.Node.TheVariants.{Set, Seq, Alt, Group, Star, Opt}
@@ -15,8 +16,10 @@ use Rattle.sedpass.specs.declared.groups.Then.TheVariants.{Done, One, Two}
 use Rattle.sedtext.specs.Reach.{At, one_start}
 use Rattle.sedtext.specs.Spans.{Copies}
 use Rattle.sedtext.specs.Caps.{LastCut, LastCopy, IsReport}
+use Rattle.sedtext.specs.Groups.{Groups, span_of}
 use Rattle.sedtext.specs.Nodes.{parts_of}
 use Rattle.sedpass.specs.Regions.{Reaches, IsLastIn, StopsAt, RunsTo, NextCopy, IsRunOf}
+use Rattle.sedpass.specs.Walks.{Walk, entered, Meets}
 use Rattle.sedpass.specs.Overlay.{State, is_due, settle, drop_groups, Back, HasGroup, NoneDue, IsStart}
 
 -- the tasks, the first one first, bring the state `old` to the state `new`
@@ -71,6 +74,33 @@ tasks_of Done = []
 tasks_of (One next) = Apart next.node next.start next.stop ∷ []
 tasks_of (Two next later) = Apart next.node next.start next.stop ∷ later ∷ []
 
+-- how many nodes walks enter together
+abbrev pub all_entered : List Walk → ℕ
+all_entered [] = 0
+all_entered (w ∷ ws) = entered w + all_entered ws
+
+-- one of the walks, each from the node of a task, enters a node of group k
+abbrev pub SomeMeets : List Node → List Task → List Walk → ℕ → Type 0
+SomeMeets nodes (Apart x i j ∷ tasks) (w ∷ ws) k = Meets (tree_at nodes x) w k ⊎ SomeMeets nodes tasks ws k
+SomeMeets nodes (Forget x ∷ tasks) ws k = SomeMeets nodes tasks ws k
+SomeMeets nodes tasks ws k = ⊥
+
+-- walks from the nodes of the tasks enter so many nodes, and one of each group that has a span at the end and none now
+pub record LeadOn (nodes : List Node) (tasks : List Task) (now end : Groups) (n : ℕ) : Type 0 where
+  pub walks : List Walk
+  pub each : (k : ℕ) → 1 ≤ k → span_of end k ≢ None → span_of now k ≡ None → SomeMeets nodes tasks walks k
+  pub enter : all_entered walks ≡ n
+
+-- tasks were done as far as those left: with so many nodes more, walks from the nodes of those left are walks from the nodes of all
+abbrev pub Enters : List Node → List Task → Groups → List Task → Groups → ℕ → Type 0
+Enters nodes tasks old rest new n = (end : Groups) (m : ℕ) → LeadOn nodes rest new end m → LeadOn nodes tasks old end (n + m)
+
+-- and each of these nodes was looked at
+pub record LooksAtEntered (nodes : List Node) (tasks : List Task) (old : Groups) (rest : List Task) (new : Groups) (before after : ℕ) : Type 0 where
+  pub n : ℕ
+  pub enters : Enters nodes tasks old rest new n
+  pub counts : TakesAtLeast before after n
+
 -- one look at the node x, that matches i..j: the tasks come in its place, the first one first, and the state is the new one
 pub record IsTurn (nodes : List Node) (w : List ℕ) (x i j : ℕ) (old new : State) (tasks : List Task) : Type 0 where
   pub run : (rest : List Task) (f : State) → Runs nodes w (tasks ++ rest) new f → Runs nodes w (Apart x i j ∷ rest) old f
@@ -78,6 +108,7 @@ pub record IsTurn (nodes : List Node) (w : List ℕ) (x i j : ℕ) (old new : St
   pub within : AreWithin i j tasks
   pub less : weights nodes tasks + 1 ≤ 2 * size (tree_at nodes x)
   pub fewer : looks nodes tasks + 1 ≤ size (tree_at nodes x)
+  pub enters : (rest : List Task) → Enters nodes (Apart x i j ∷ rest) old.spans (tasks ++ rest) new.spans 1
 
 -- x is a node, and what it is; it matches i..j within the text
 pub record IsHere (nodes : List Node) (w : List ℕ) (x i j : ℕ) (node : Node) : Type 0 where

@@ -2,7 +2,7 @@
 //!
 //! A spine goes from a node to what ends where the node does, in one region of the kept pass, and writes the groups that
 //! are due. What stands left of it waits as a task.
-ghost use Rattle.std.specs.Prelude.{◌≡◌, ℕ, false, [], ◌∷◌, ◌++◌, reverse, ◌+◌, ◌-◌, ◌*◌, ◌^◌, ◌<◌, ◌≤◌, ◌↔◌, length, IsTrue, Option, Some, None, IfOk, IfSome, slice_index_or, vec_len, vec_capacity, slice_get};
+ghost use Rattle.std.specs.Prelude.{◌≡◌, ℕ, false, List, [], ◌∷◌, ◌++◌, reverse, ◌+◌, ◌-◌, ◌*◌, ◌^◌, ◌<◌, ◌≤◌, ◌↔◌, length, IsTrue, Option, Some, None, IfOk, IfSome, slice_index_or, vec_len, vec_capacity, slice_get};
 ghost use Rattle.sedre.specs.Arena.{IsArena};
 ghost use Rattle.sedre.specs.Written.{tree_at, tree};
 ghost use Rattle.sedre.specs.Steps.{Takes, TakesAtLeast};
@@ -17,7 +17,10 @@ ghost use Rattle.sedtext.specs.Reach.{At};
 ghost use Rattle.sedpass.specs.Decide.{found, HasAll, nodes_in, text_in, told_of, IsTold, Stands, Repeats, EndsIn, GoesOn, IsDesk, IsMatch, Turns, waiting, long_of, part_cost, kind_cost, IsOpen, LooksAt, next_of, owed_in, IsSetAt, HasDesk, IsSpent, AreGroupTables, AreRoomy, HasSpace, SameRooms, SameTables};
 ghost use Rattle.sedpass.specs.Overlay.{State, settle, drop_groups, NoneDue};
 ghost use Rattle.sedpass.specs.Prepared.{IsFacts};
-ghost use Rattle.sedpass.specs.Turns.{AreReady, Reduces, weights, looks, tasks_of};
+ghost use Rattle.sedpass.specs.Turns.{AreReady, LooksAtEntered, Reduces, weights, looks, tasks_of};
+ghost use Rattle.sedpass.specs.Walks.{EntersGroups};
+ghost use Rattle.sedpass.specs.declared.groups.Task.{Task};
+ghost use Rattle.sedpass.specs.declared.groups.Task.TheVariants.{Apart};
 ghost use Rattle.sedpass.specs.Kept.{SameKept, SameSpace};
 ghost use Rattle.sedpass.specs.Groups.{holds};
 ghost use Rattle.sedpass.specs.declared.groups.GroupTables.{GroupTables};
@@ -567,6 +570,8 @@ fn turn(
     ensures cost { Takes steps.old steps.new (kind_cost subject.entry here (next_of result) + 1) }
     ensures counts { TakesAtLeast steps.old steps.new (found told.new.spans - found told.old.spans) }
     ensures entered { (NoneDue (tree_at (nodes_in subject.entry) here.node) (told_of told.old.due told.old.spans) → ⊥) → TakesAtLeast steps.old steps.new 1 }
+    ensures walked { (rest : List Task) → LooksAtEntered (nodes_in subject.entry) (Apart here.node here.start here.stop ∷ rest) told.old.spans (tasks_of result ++ rest) told.new.spans
+        steps.old steps.new }
     ensures looks { (node : Node) → slice_get (nodes_in subject.entry) here.node ≡ Some node → (NoneDue (tree_at (nodes_in subject.entry) here.node) (told_of told.old.due told.old.spans) → ⊥) →
         LooksAt subject.entry here node (next_of result) steps.old steps.new }
 {
@@ -618,6 +623,7 @@ fn spine(
         (reverse room.new.tasks.items) (told_of told.new.due told.new.spans) }
     ensures cost { IsSpent (nodes_in subject.entry) (waiting (Some here) room.old.tasks.items) (reverse room.new.tasks.items) steps.old steps.new }
     ensures counts { TakesAtLeast steps.old steps.new (found told.new.spans - found told.old.spans) }
+    ensures walked { LooksAtEntered (nodes_in subject.entry) (waiting (Some here) room.old.tasks.items) told.old.spans (reverse room.new.tasks.items) told.new.spans steps.old steps.new }
 {
     room.kept
         .begin(subject, &tables.inside, here.node, here.stop);
@@ -651,6 +657,7 @@ fn work(
         (reverse room.new.tasks.items) (told_of told.new.due told.new.spans) }
     ensures cost { IsSpent (nodes_in subject.entry) (task ∷ reverse room.old.tasks.items) (reverse room.new.tasks.items) steps.old steps.new }
     ensures counts { TakesAtLeast steps.old steps.new (found told.new.spans - found told.old.spans) }
+    ensures walked { LooksAtEntered (nodes_in subject.entry) (task ∷ reverse room.old.tasks.items) told.old.spans (reverse room.new.tasks.items) told.new.spans steps.old steps.new }
 {
     match task {
         Task::Forget(x) => forget(subject.prepared, told, x),
@@ -702,6 +709,7 @@ pub fn decide(
     ensures space { SameSpace room.old.kept room.new.kept }
     ensures cost { let m = length (nodes_in subject.entry) in Takes steps.old steps.new (172 * m * (m - 1) * (stop - start) + 2 * m) }
     ensures counts { TakesAtLeast steps.old steps.new (found result - 1) }
+    ensures entered { EntersGroups (tree subject.entry.prepared.now.arena.expr) result steps.old steps.new }
 {
     subject.prepared.is_expression();
     let mut spans = [None; 10];

@@ -1,7 +1,9 @@
 use Rattle.std.proofs.Common.{◌≡◌, ◌+◌, ◌-◌, ◌*◌, ◌<◌, ◌≤◌, List, [], ◌∷◌, ◌++◌, length, reverse, refl, sym, ap, ◌∙◌, subst, arith}
 use Rattle.std.proofs.lemmas.List.{nil_from_length, reverse-append}
 use Rattle.sedpass.specs.Decide.{nodes_in, text_in, told_of, undecided, found, part_cost, tasks_cost}
-use Rattle.sedpass.specs.Turns.{Runs, AreReady, AreShort, weights}
+use Rattle.sedpass.specs.Turns.{Runs, AreReady, AreShort, LooksAtEntered, weights}
+use Rattle.sedpass.specs.Walks.{EntersGroups}
+use Rattle.sedpass.proofs.WalkLemmas.{enters_groups, looks_same, looks_on}
 use Rattle.sedre.specs.Sizes.{size}
 use Rattle.sedre.specs.Written.{tree_at, tree}
 use Rattle.sedpass.specs.declared.groups.Task.{Task}
@@ -36,6 +38,8 @@ all-init c =
       less = subst (λ ts. weights nodes ts ≤ 2 * length nodes) (sym begun) (omega (arith, small));
       run = λ f run. subst (λ ts. Runs nodes w ts start f) begun run;
       counts = least_same c.args.steps.now 1;
+      walked = subst (λ ts. LooksAtEntered nodes (first ∷ []) (undecided c.args.start c.args.stop) ts (undecided c.args.start c.args.stop) c.args.steps.now c.args.steps.now) (sym begun)
+          (looks_same nodes (first ∷ []) (undecided c.args.start c.args.stop) c.args.steps.now);
       short = subst (AreShort long) (sym begun) (omega arith, tt);
       cost = (omega arith, subst (λ ts. c.args.steps.now + tasks_cost nodes long ts ≤ c.args.steps.now + most) (sym begun) (omega (arith, paid)));
     }
@@ -73,6 +77,9 @@ all-preserved c =
       less = omega (arith, less, inv.less);
       run = λ f run. inv.run f (subst (λ ts. Runs nodes w ts (told_of c.all.told.due c.all.told.spans) f) (sym popped) (c.work.ensures.reduces.0 f run));
       counts = least_on c.args.steps.now c.all.steps c.work.new.steps 1 (found c.all.told.spans) (found c.work.new.told.spans) inv.counts c.work.ensures.counts;
+      walked = looks_on nodes (Apart s.prepared.now.root c.args.start c.args.stop ∷ []) (reverse c.all.room.tasks.items) (reverse c.work.new.room.tasks.items) (undecided c.args.start c.args.stop)
+          c.all.told.spans c.work.new.told.spans c.args.steps.now c.all.steps c.work.new.steps inv.walked
+          (subst (λ ts. LooksAtEntered nodes ts c.all.told.spans (reverse c.work.new.room.tasks.items) c.work.new.told.spans c.all.steps c.work.new.steps) (sym popped) c.work.ensures.walked);
       short = spent.0;
       cost = (omega (arith, inv.cost.0, spent.1.0), omega (arith, before, spent.1.1));
     }
@@ -93,6 +100,17 @@ returns-clause-due c = λ groups k report is.
     let run = c.all.invariant.run s (subst (λ ts. Runs (nodes_in c.args.subject) (text_in c.args.subject) ts s s) (sym (ap reverse empty)) refl) in
     let p = c.args.subject.prepared.now in
     decides_due p.arena.expr (text_in c.args.subject) p.root c.args.start c.args.stop k c.args.due s groups p.is_prepared.last c.requires.whole run report is
+
+pub returns-clause-entered : goal.returns-clause-entered
+returns-clause-entered c =
+    let p = c.args.subject.prepared.now in
+    let nodes = nodes_in c.args.subject in
+    let empty : c.all.room.tasks.items ≡ [] = nil_from_length c.all.room.tasks.items (omega (arith, c.in_default.ensures.cases, c.all.room.tasks.ok)) in
+    let walked = subst (λ ts. LooksAtEntered nodes (Apart p.root c.args.start c.args.stop ∷ []) (undecided c.args.start c.args.stop) ts c.all.told.spans c.args.steps.now c.all.steps) (ap reverse empty) c.all.invariant.walked in
+    let last = p.is_prepared.last in
+    let root : p.root ≡ length nodes - 1 = omega (arith, last) in
+    subst (λ x. EntersGroups (tree_at nodes x) c.all.told.spans c.args.steps.now c.all.steps) root
+    (enters_groups nodes p.root c.args.start c.args.stop c.all.told.spans c.args.steps.now c.all.steps walked)
 
 pub returns-clause-cost : goal.returns-clause-cost
 returns-clause-cost c =

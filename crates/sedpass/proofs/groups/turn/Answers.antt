@@ -1,6 +1,8 @@
-use Rattle.std.proofs.Common.{◌≡◌, arith, subst}
-use Rattle.sedpass.specs.Decide.{found, next_of, LooksAt}
+use Rattle.std.proofs.Common.{◌≡◌, ◌++◌, arith, subst}
+use Rattle.sedpass.specs.Decide.{nodes_in, found, next_of, LooksAt}
 use Rattle.sedpass.proofs.SpineLemmas.{left_turn, least_same, least_look, looks_more}
+use Rattle.sedpass.specs.Turns.{tasks_of}
+use Rattle.sedpass.proofs.WalkLemmas.{looks_one, looks_none}
 use Rattle.sedpass.proofs.groups.turn.Goals as goal
 
 pub turn_node-requires-clause-here : goal.turn_node-requires-clause-here
@@ -40,3 +42,15 @@ returns-then-is_due-clause-entered c = λ due.
 
 pub returns-else-is_due-clause-entered : goal.returns-else-is_due-clause-entered
 returns-else-is_due-clause-entered c = λ due. absurd (due (c.is_due.ensures c.if-is_due.false c.args.told.now.spans))
+
+pub returns-then-is_due-clause-walked : goal.returns-then-is_due-clause-walked
+returns-then-is_due-clause-walked c = λ rest.
+    let here = c.args.here in
+    looks_one (nodes_in c.args.subject) here.node here.start here.stop rest (tasks_of c.turn_node.result ++ rest) c.args.told.now.spans c.turn_node.new.told.spans c.args.steps.now c.turn_node.new.steps
+    (c.turn_node.ensures.turn.enters rest)
+    (least_look c.args.steps.now c.look-node.new.steps c.turn_node.new.steps 0 1 c.look-node.ensures.counts c.turn_node.ensures.cost.0 (omega arith))
+
+pub returns-else-is_due-clause-walked : goal.returns-else-is_due-clause-walked
+returns-else-is_due-clause-walked c = λ rest.
+    let here = c.args.here in
+    looks_none (nodes_in c.args.subject) here.node here.start here.stop rest c.args.told.now.spans c.args.steps.now
