@@ -12,6 +12,7 @@ ghost use Rattle.sedtext.specs.Spans.{SomeFound, Spans};
 ghost use Rattle.sedmatch.specs.Candidates.{NoMatchBefore};
 ghost use Rattle.sedpass.specs.Decide.{found as spans_in};
 ghost use Rattle.sedpass.specs.Occurrences.{Looks};
+ghost use Rattle.sedpass.specs.Walks.{EntersGroups};
 ghost use Rattle.sedmatch.specs.Direct.{IsDirect, end_or, rate};
 ghost use Rattle.sedmatch.specs.Occurrences.{Serves, ServesOn, owed, owed_after, owed_direct, owed_direct_after};
 ghost use Rattle.sedmatch.specs.Passes.{AreOwn, ArePasses, IsDesk, SameDesk};
@@ -293,6 +294,7 @@ impl TableMatcher {
         ensures linear_cost { let m = length self.old.nodes in
             Takes steps.old steps.new (172 * m * (m - 1) * (end - start) + 2 * m) }
         ensures counts { TakesAtLeast steps.old steps.new (spans_in result - 1) }
+        ensures entered { EntersGroups (tree self.old) result steps.old steps.new }
     {
         match &mut self.engine {
             Engine::Direct(expr, _) => {

@@ -7,6 +7,7 @@ ghost use Rattle.sedtext.specs.Answer.{IsComputed, MatchAnswer, SpanAnswer};
 ghost use Rattle.sedtext.specs.Matching.{found};
 ghost use Rattle.sedtext.specs.SearchRoom.{FitInto};
 ghost use Rattle.sedre.specs.Steps.{StepsWithin, Takes, TakesAtLeast};
+ghost use Rattle.sedpass.specs.Walks.{EntersGroups};
 ghost use Rattle.sedmatch.specs.Passes.{IsDesk, IsOnce, SameDesk};
 
 use crate::passes::shared_groups;
@@ -100,6 +101,7 @@ pub fn find(
     ensures cost_of_none { let m = length expr.now.nodes in let n = length text.now in
         IfNone result (StepsWithin steps.old steps.new (64 * m * (n + 1) * (n + 1)) × StepsWithin steps.old steps.new (143 * m * (n + 1))) }
     ensures counts { IfSome result (λ f. TakesAtLeast steps.old steps.new (f.end - f.start)) }
+    ensures entered { IfSome result (λ f. EntersGroups (tree expr.now) f.groups steps.old steps.new) }
 {
     scratch.once.prepared.fit(expr, steps);
     let span = first_span(&mut scratch.once, text, from, &mut scratch.desk, steps)?;

@@ -302,7 +302,7 @@ group_turn nodes w x k i j part a s here part_is =
     let at : At nodes w a.index i j = open_at nodes w x (Group k a) here.arena here.is i j here.at in
     rw part_is (
       inner_turn nodes w x i j (Group k a) here a i s set low (size-parts nodes here.arena x (Group k a) here.is) (omega arith) here.up at (λ mid back. (mid, back, refl))
-      (λ rest. enters_group nodes here.arena x i j k a here.is (i, j) s rest),
+          (λ rest. enters_group nodes here.arena x i j k a here.is (i, j) s rest),
       λ none.
           let same : NoneDue inner set = λ n has. set_stays k (Some (i, j)) s n (none n has) in
           done_turn nodes w x i j (Group k a) here s set

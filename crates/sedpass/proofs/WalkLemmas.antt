@@ -190,7 +190,7 @@ pub enters_later : (e : Tree) (g : Groups) (a b c : ℕ) → a ≤ b → EntersG
 unfolding TakesAtLeast
 enters_later e g a b c up enters = record { walk = enters.walk; each = enters.each; counts = let h = enters.counts in omega (arith, up, h) }
 
--- an expression whose match has no group with a span is not entered
-pub enters_nothing : (e : Tree) (g : Groups) (s : ℕ) → ((k : ℕ) → 1 ≤ k → span_of g k ≡ None) → EntersGroups e g s s
+-- where no group has a span nothing is entered
+pub enters_nothing : (e : Tree) (i j s : ℕ) → EntersGroups e (undecided i j) s s
 unfolding TakesAtLeast
-enters_nothing e g s none = record { walk = outside; each = λ k some has. absurd (has (none k some)); counts = omega arith }
+enters_nothing e i j s = record { walk = outside; each = λ k some has. absurd (has (unbegun i j k some)); counts = omega arith }

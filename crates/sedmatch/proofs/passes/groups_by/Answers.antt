@@ -12,3 +12,6 @@ groups_with-requires-clause-desk c =
 pub returns-then-has_blocks-clause-desk : goal.returns-then-has_blocks-clause-desk
 returns-then-has_blocks-clause-desk c =
     room_again c.args.desk.now c.groups_with.new.room c.requires.desk c.groups_with.ensures.space c.groups_with.ensures.none c.groups_with.ensures.tasks
+
+pub returns-then-groups-eq0-clause-entered : goal.returns-then-groups-eq0-clause-entered
+returns-then-groups-eq0-clause-entered c = c.whole_alone.ensures.entered _ _

@@ -15,3 +15,6 @@ pub returns-clause-desk : goal.returns-clause-desk
 returns-clause-desk c =
     groups_again c.args.desk.now c.args.subject c.fit.new.self c.groups_with.new.tables c.groups_with.new.room c.requires.desk c.fit.ensures.room c.groups_with.ensures.shape c.groups_with.ensures.desk
     c.groups_with.ensures.space c.groups_with.ensures.none c.groups_with.ensures.tasks
+
+pub returns-then-groups-eq0-clause-entered : goal.returns-then-groups-eq0-clause-entered
+returns-then-groups-eq0-clause-entered c = c.whole_alone.ensures.entered _ _

@@ -5,7 +5,9 @@ use Rattle.sedtext.specs.Answer.{IsComputed, SpanAnswer}
 use Rattle.sedtext.specs.Caps.{IsReport}
 use Rattle.sedtext.proofs.MatchingLemmas.{found-iff, not_found-iff, report-iff}
 use Rattle.sedtext.proofs.PartLemmas.{report_lies}
+use Rattle.sedpass.specs.Walks.{EntersGroups}
 use Rattle.sedpass.proofs.CountLemmas.{least_since, least_up}
+use Rattle.sedpass.proofs.WalkLemmas.{enters_later}
 use Rattle.sedmatch.proofs.OnceLemmas.{all_cost, bare_cost, if_none, none_cost, none_linear, once_still}
 use Rattle.sedmatch.proofs.whole.find.Goals as goal
 
@@ -109,3 +111,14 @@ pub returns-clause-counts : goal.returns-clause-counts
 returns-clause-counts c =
     let long = c.in_ok-span.span.1 - c.in_ok-span.span.0 in
     least_up c.args.steps.now c.first_span.new.steps c.shared_groups-groups.new.steps long (least_since c.args.steps.now c.fit.new.steps c.first_span.new.steps long c.fit.ensures.cost.0 c.in_ok-span.ensures.counts) c.shared_groups-groups.ensures.cost.0
+
+pub returns-clause-entered : goal.returns-clause-entered
+returns-clause-entered c =
+    let s = c.args.steps.now in
+    let u = c.first_span.new.steps in
+    let v = c.shared_groups-groups.new.steps in
+    let same = ap (λ p. p.arena.expr) c.first_span.ensures.prepared ∙ c.fit.ensures.expr in
+    let begun = c.fit.ensures.cost.0 in
+    let sought = c.first_span.ensures.cost.0 in
+    enters_later (tree c.args.expr.now) c.shared_groups-groups.result s u v (omega (arith, begun, sought))
+    (subst (λ (x : Written). EntersGroups (tree x) c.shared_groups-groups.result u v) same c.shared_groups-groups.ensures.entered)

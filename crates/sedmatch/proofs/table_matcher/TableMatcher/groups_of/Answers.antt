@@ -6,6 +6,7 @@ use Rattle.sedtext.specs.Caps.{IsReport}
 use Rattle.sedtext.proofs.MatchingLemmas.{report-iff}
 use Rattle.sedtext.proofs.PartLemmas.{report_lies}
 use Rattle.sedpass.specs.Decide.{found}
+use Rattle.sedpass.specs.Walks.{EntersGroups}
 use Rattle.sedmatch.specs.Passes.{IsEngine, written_of}
 use Rattle.sedmatch.specs.declared.passes.Passes.{Passes}
 use Rattle.sedmatch.proofs.MatcherLemmas.{direct_is, groups_within, written_is}
@@ -59,6 +60,19 @@ returns-clause-counts c =
     elim c.match-self.branch [
       | in-Direct w ↦ subst (λ v. TakesAtLeast c.args.steps.now v (found c.match-self.result - 1)) (sym w.steps-is) (subst (λ r. TakesAtLeast c.args.steps.now c.args.steps.now (found r - 1)) (sym w.result-is) (one_alone c.args.steps.now (found w.whole_alone.result) w.whole_alone.ensures.one))
       | in-Passes w ↦ subst (λ v. TakesAtLeast c.args.steps.now v (found c.match-self.result - 1)) (sym w.steps-is) (subst (λ r. TakesAtLeast c.args.steps.now w.groups_by.new.steps (found r - 1)) (sym w.result-is) w.groups_by.ensures.counts)
+    ]
+
+pub returns-clause-entered : goal.returns-clause-entered
+returns-clause-entered c =
+    let e = tree c.args.self.now in
+    let s = c.args.steps.now in
+    elim c.match-self.branch [
+      | in-Direct w ↦ subst (λ v. EntersGroups e c.match-self.result s v) (sym w.steps-is) (subst (λ r. EntersGroups e r s s) (sym w.result-is) (w.whole_alone.ensures.entered e s))
+      | in-Passes w ↦
+          let value = w.deref_mut.ensures.value in
+          let is : w.deref_mut.result.now.sought.prepared.arena.expr ≡ c.args.self.now = ap (λ (x : Passes). x.sought.prepared.arena.expr) value ∙ sym (ap written_of w.in-Passes.is) ∙ c.self.view_is in
+          subst (λ v. EntersGroups e c.match-self.result s v) (sym w.steps-is)
+          (subst (λ r. EntersGroups e r s w.groups_by.new.steps) (sym w.result-is) (subst (λ v. EntersGroups (tree v) w.groups_by.result s w.groups_by.new.steps) is w.groups_by.ensures.entered))
     ]
 
 pub invariant_of-scratch : goal.invariant_of-scratch
