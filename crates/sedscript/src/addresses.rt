@@ -189,8 +189,10 @@ fn second_at(
         (second_at source.now.text.now (length exprs.old.items) first at) }
     ensures within { IfOk result (λ found. (at ≤ found.1) × (found.1 ≤ length source.now.text.now)) }
 {
-    let (second, next) = address_at(source, exprs, at)?;
-    with_second(first, at, next, second)
+    match address_at(source, exprs, at) {
+        Err(fault) => Err(fault),
+        Ok((second, next)) => with_second(first, at, next, second),
+    }
 }
 
 /// The addresses of a command and the place after them. The first one, if there is one, ends at `at`, where a comma and
@@ -233,8 +235,10 @@ pub fn addresses_at(
         (addresses_at source.now.text.now (length exprs.old.items) at) }
     ensures within { IfOk result (λ found. (at ≤ found.1) × (found.1 ≤ length source.now.text.now)) }
 {
-    let (first, next) = address_at(source, exprs, at)?;
-    after_first(source, exprs, first, next)
+    match address_at(source, exprs, at) {
+        Err(fault) => Err(fault),
+        Ok((first, next)) => after_first(source, exprs, first, next),
+    }
 }
 
 /// The addresses with the `!` that may follow them at a place, and the place after it.

@@ -150,8 +150,10 @@ fn flagged(
     ensures is { result ≡ flagged text.now strings expression }
     ensures within { IfOk result (λ found. (strings.to < found.1) × (found.1 ≤ length text.now)) }
 {
-    let (flags, end) = flags_at(text, expression.is_none(), strings.to + 1)?;
-    ended(text, Function::Substitute(strings, expression, flags), end)
+    match flags_at(text, expression.is_none(), strings.to + 1) {
+        Err(fault) => Err(fault),
+        Ok((flags, end)) => ended(text, Function::Substitute(strings, expression, flags), end),
+    }
 }
 
 /// The command `s` with these strings, and its end. Its regular expression has this number in the script; None stands
