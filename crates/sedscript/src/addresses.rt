@@ -91,11 +91,13 @@ fn match_at(
     }
     let folded = folds_at(source.text, to + 1);
     let number = exprs.len();
-    expression_at(source, exprs, delimiter, folded, from, to)?;
-    Ok((
-        Some(Address::Match(Some(number))),
-        past_flag(source.text, to + 1),
-    ))
+    match expression_at(source, exprs, delimiter, folded, from, to) {
+        Err(fault) => Err(fault),
+        Ok(_) => Ok((
+            Some(Address::Match(Some(number))),
+            past_flag(source.text, to + 1),
+        )),
+    }
 }
 
 /// The address of the regular expression whose own delimiter stands at `place`, and the place after it.

@@ -114,18 +114,22 @@ pub fn transliterate_at(text: &[u8], at: usize) -> Result<(Function, usize), Scr
     ensures is { result ≡ transliterate_at text.now at }
     ensures within { IfOk result (λ found. (at < found.1) × (found.1 ≤ length text.now)) }
 {
-    let strings = transliterate_strings(text, at + 1)?;
-    if let Some(fault) = strings_fault(
-        text,
-        strings.delimiter,
-        at,
-        strings.from,
-        strings.middle,
-        strings.to,
-    ) {
-        return Err(fault);
+    match transliterate_strings(text, at + 1) {
+        Err(fault) => Err(fault),
+        Ok(strings) => {
+            match strings_fault(
+                text,
+                strings.delimiter,
+                at,
+                strings.from,
+                strings.middle,
+                strings.to,
+            ) {
+                Some(fault) => Err(fault),
+                None => ended(text, Function::Transliterate(strings), strings.to + 1),
+            }
+        }
     }
-    ended(text, Function::Transliterate(strings), strings.to + 1)
 }
 
 /// Whether the flags of `s`, whose regular expression isn't empty, make letters match without regard to case. They

@@ -31,15 +31,17 @@ fn substitute_with(
         return substituted(source.text, strings, None, None);
     }
     let number = exprs.len();
-    let groups = expression_at(
+    match expression_at(
         source,
         exprs,
         strings.delimiter,
         folds(source.text, strings),
         strings.from,
         strings.middle,
-    )?;
-    substituted(source.text, strings, Some(number), Some(groups))
+    ) {
+        Err(fault) => Err(fault),
+        Ok(groups) => substituted(source.text, strings, Some(number), Some(groups)),
+    }
 }
 
 /// The command `s` whose letter stands at `at`, and its end.
@@ -53,8 +55,10 @@ fn substitute_at(
         (substitute_at source.now.text.now (length exprs.old.items) at) }
     ensures within { IfOk result (λ found. (at < found.1) × (found.1 ≤ length source.now.text.now)) }
 {
-    let strings = substitute_strings(source.text, at + 1)?;
-    substitute_with(source, exprs, strings)
+    match substitute_strings(source.text, at + 1) {
+        Err(fault) => Err(fault),
+        Ok(strings) => substitute_with(source, exprs, strings),
+    }
 }
 
 /// The function whose letter stands at `at`, and the place after it. The letter is not `s`, and has this shape.
@@ -123,9 +127,15 @@ fn item_with(
         (function_at source.now.text.now (length exprs.old.items) addresses at) }
     ensures within { IfOk result (IsAfter at (length source.now.text.now)) }
 {
-    let verb = allowed(addresses, letter, at)?;
-    let (function, next) = function_with(source, exprs, verb, at)?;
-    Ok(item_of(addresses, at, function, next))
+    match allowed(addresses, letter, at) {
+        Err(fault) => Err(fault),
+        Ok(verb) => {
+            match function_with(source, exprs, verb, at) {
+                Err(fault) => Err(fault),
+                Ok((function, next)) => Ok(item_of(addresses, at, function, next)),
+            }
+        }
+    }
 }
 
 /// The item of the function that is expected at `at`, after these addresses.
@@ -176,8 +186,10 @@ pub fn item_at(source: &Source, exprs: &mut Vec<Expr>, at: usize) -> Result<Here
     match byte_at(source.text, start) {
         None => Ok(Here::Ends),
         Some(_) => {
-            let (addresses, next) = addresses_at(source, exprs, start)?;
-            function_after(source, exprs, addresses, next)
+            match addresses_at(source, exprs, start) {
+                Err(fault) => Err(fault),
+                Ok((addresses, next)) => function_after(source, exprs, addresses, next),
+            }
         }
     }
 }
