@@ -1,8 +1,8 @@
 -- What is kept of items stays what it is while the lists grow.
-use Rattle.std.proofs.Common.{◌≡◌, ℕ, ◌<◌, List, [], ◌∷◌, ◌++◌, length, unwrap_or, slice_get, get_or, refl, sym, ap, ◌∙◌}
+use Rattle.std.proofs.Common.{◌≡◌, ℕ, ◌<◌, ◌≤◌, List, [], ◌∷◌, ◌++◌, length, length-append, arith, unwrap_or, slice_get, get_or, refl, sym, ap, ◌∙◌}
 use Rattle.std.specs.List.{All}
 use Rattle.std.proofs.lemmas.List.{map-append, get_or_append_left}
-use Rattle.std.proofs.lemmas.List.Elements.{All-head, All-tail}
+use Rattle.std.proofs.lemmas.List.Elements.{All-head, All-tail, All-weaker}
 use Rattle.std.proofs.lemmas.Option.{unwrap_or-slice_get}
 use Rattle.sedscript.specs.declared.items.Addresses.{Addresses}
 use Rattle.sedscript.specs.declared.items.Function.{Function}
@@ -57,3 +57,29 @@ pub items_more : (heads hs : List Addresses) (longs ls : List Function) (ks ns :
 items_more heads hs longs ls ks ns k i a f all grown is =
     ap (kept_items hs ls) grown ∙ (map-append (kept_item hs ls) ks (k ∷ [])
     ∙ (ap (λ zs. zs ++ kept_item hs ls k ∷ []) (same_items heads hs longs ls ks a f all) ∙ ap (λ j. kept_items heads longs ks ++ j ∷ []) is))
+
+longer_is : {A : Type 0} (xs ys : List A) → Longer xs ys → length xs ≤ length ys
+longer_is xs ys more = omega (arith, ap length more.1, length-append xs more.0)
+
+more_given : (a b : ℕ) (given : Given) (n : ℕ) → a ≤ b → IsGiven a given n → IsGiven b given n
+more_given a b g.Listed n le h = omega (arith, le, h)
+more_given a b g.Nothing n le h = tt
+more_given a b g.Line n le h = tt
+more_given a b g.Last n le h = tt
+
+more_brief : (a c : ℕ) (brief : Brief) (from : ℕ) → a ≤ c → IsBrief a brief from → IsBrief c brief from
+more_brief a c b.Listed from le h = omega (arith, le, h)
+more_brief a c (b.Plain s) from le h = tt
+more_brief a c b.Open from le h = tt
+more_brief a c b.Close from le h = tt
+more_brief a c b.Label from le h = tt
+more_brief a c (b.Branch u) from le h = tt
+more_brief a c (b.Text t) from le h = tt
+more_brief a c (b.File u) from le h = tt
+more_brief a c b.Comment from le h = tt
+
+-- what is listed stands in the longer lists too
+pub all_kept : (heads hs : List Addresses) (longs ls : List Function) (ks : List Kept) → Longer heads hs → Longer longs ls → All (IsKept (length heads) (length longs)) ks → All (IsKept (length hs) (length ls)) ks
+all_kept heads hs longs ls ks a f all =
+    All-weaker (IsKept (length heads) (length longs)) (IsKept (length hs) (length ls))
+    (λ k h. (more_given (length heads) (length hs) k.given k.head (longer_is heads hs a) h.0, more_brief (length longs) (length ls) k.function k.from (longer_is longs ls f) h.1)) ks all

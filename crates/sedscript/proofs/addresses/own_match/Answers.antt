@@ -1,3 +1,5 @@
+use Rattle.std.proofs.Common.{arith}
+use Rattle.std.proofs.lemmas.Grind.{common_steps}
 use Rattle.std.proofs.Common.{inl, sym, ap, ◌∙◌}
 use Rattle.sedscript.specs.Between.{own_delimiter}
 use Rattle.sedscript.proofs.Coming.{own_none}
