@@ -1,8 +1,7 @@
-use Rattle.std.proofs.Common.{ℕ, sym, subst, ◌∙◌, length}
+use Rattle.std.proofs.Common.{ℕ, sym, subst, ◌∙◌, length, Some}
 use Rattle.sedscript.specs.Reading.{Reading}
 use Rattle.sedscript.specs.Answers.{as_addressed, Agrees, ComesFrom}
 use Rattle.sedscript.specs.Addresses.{Addressed, address_at, line_of}
-use Rattle.std.proofs.Common.{Some}
 use Rattle.sedscript.specs.Bytes.{bytes_between, with_digits}
 use Rattle.sedscript.proofs.Coming.{gives_plain, line_comes, no_byte, last_address, at_slash, at_backslash, no_address}
 use Rattle.sedscript.proofs.addresses.address_at.Goals as goal

@@ -1,6 +1,5 @@
-use Rattle.std.proofs.Common.{arith}
+use Rattle.std.proofs.Common.{arith, ℕ, sym, ap, ◌∙◌, length, Ok, slice_get}
 use Rattle.std.proofs.lemmas.Grind.{common_steps}
-use Rattle.std.proofs.Common.{ℕ, sym, ap, ◌∙◌, length, Ok, slice_get}
 use Rattle.sedscript.specs.declared.items.Addresses.{Addresses}
 use Rattle.sedscript.specs.Bytes.{is_byte}
 use Rattle.sedscript.specs.Reading.{plainly}

@@ -24,4 +24,3 @@ returns-in-File-clause-kept c = (tt, sym c.in-File.is)
 
 pub returns-in-Comment-clause-kept : goal.returns-in-Comment-clause-kept
 returns-in-Comment-clause-kept c = (tt, sym c.in-Comment.is)
-

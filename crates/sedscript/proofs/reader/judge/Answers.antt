@@ -1,6 +1,5 @@
-use Rattle.std.proofs.Common.{arith}
+use Rattle.std.proofs.Common.{arith, inl, sym, ◌∙◌}
 use Rattle.std.proofs.lemmas.Grind.{common_steps}
-use Rattle.std.proofs.Common.{inl, sym, ◌∙◌}
 use Rattle.sedscript.specs.FirstFault.{afterwards}
 use Rattle.sedscript.proofs.reader.judge.Goals as goal
 

@@ -10,6 +10,8 @@ bytes-preserved c =
     elim c.if-escaped.branch [
       | then-escaped+in_default w ↦ λ e. sym w.escape_fault.ensures ∙ w.in_default.is
       | else-escaped w ↦ λ e. let bad = sym e ∙ w.if-escaped.false in cc
-    ] in
-    (omega (arith, c.bytes-test.true), λ h. omega arith,
-    c.bytes.invariant.2 ∙ fault_step c.args.delimiter c.args.limit c.bytes.escaped c.escapes-escaped.result c.args.from c.bytes.k c.bytes_between-bytes.result.now c.bytes-test.true c.escapes-escaped.ensures none)
+    ] in (
+      omega (arith, c.bytes-test.true),
+      λ h. omega arith,
+      c.bytes.invariant.2 ∙ fault_step c.args.delimiter c.args.limit c.bytes.escaped c.escapes-escaped.result c.args.from c.bytes.k c.bytes_between-bytes.result.now c.bytes-test.true c.escapes-escaped.ensures none,
+    )

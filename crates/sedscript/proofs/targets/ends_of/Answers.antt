@@ -1,3 +1,4 @@
+use Rattle.std.proofs.lemmas.Grind.{common_steps}
 use Rattle.std.proofs.Common.{◌≡◌, ◌+◌, ◌-◌, ◌∙◌, ℕ, List, take, drop, reverse, ap, arith}
 use Rattle.sedscript.specs.declared.items.Item.{Item}
 use Rattle.sedscript.specs.Targets.{commands_in}
@@ -39,3 +40,6 @@ put_end-blocks-requires-clause-before c =
     let k : ℕ = c.items.k - 1 in
     let back : c.items.k ≡ k + 1 = omega arith in
     blocks_some c.args.items.now k c.items.blocks c.get-item.result c.get-item.ensures.is (c.items.invariant.blocks ∙ ap (λ (z : ℕ). blocks_in (take z c.args.items.now)) back)
+
+pub returns : goal.returns
+returns c = grind (arith, common_steps)

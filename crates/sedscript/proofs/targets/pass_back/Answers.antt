@@ -11,9 +11,6 @@ returns-in_ok-push-clause-end c = grind (arith, common_steps)
 pub returns-then-is_open-clause-ends : goal.returns-then-is_open-clause-ends
 returns-then-is_open-clause-ends c = grind (arith, common_steps)
 
-pub returns-then-is_open-clause-end : goal.returns-then-is_open-clause-end
-returns-then-is_open-clause-end c = grind (arith, common_steps)
-
 pub returns-else-is_open-clause-ends : goal.returns-else-is_open-clause-ends
 returns-else-is_open-clause-ends c = grind (arith, common_steps)
 
