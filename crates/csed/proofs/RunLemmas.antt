@@ -1,18 +1,17 @@
 -- From what an edit's one sink gained to the bytes that a caller gets.
-use Rattle.std.proofs.Common.{◌≡◌, ◌≢◌, ◌≤◌, ◌+◌, ◌==◌, ℕ, zero, suc, true, false, List, [], ◌∷◌, Option, Some, None, Result, Err, if◌then◌else◌, length, take, nat_eq, refl, sym, ap, arith}
+use Rattle.std.proofs.Common.{◌≡◌, ◌≢◌, ◌≤◌, ◌+◌, ◌==◌, ℕ, zero, suc, true, false, List, [], ◌∷◌, Option, Some, None, Result, Err, if◌then◌else◌, length, take, nat_eq, refl, sym, subst, ap, arith}
 use Rattle.sedscript.specs.Program.{Program}
 use Rattle.sedengine.specs.Limits.{Limits}
 use Rattle.sedengine.specs.State.{Setting, State}
-use Rattle.sedengine.specs.Move.{written, to_sink}
+use Rattle.sedengine.specs.Move.{to_sink}
 use Rattle.sedengine.specs.Devices.{part, Gained, GainedWithin, SourceAtEnd}
-use Rattle.sedengine.specs.Ends.{WholeOrBrokenOff, named_sink}
+use Rattle.sedengine.specs.Ends.{Cause}
 use Rattle.sedengine.specs.ScriptSetting.{setting_of}
 use Rattle.sedengine.specs.declared.ends.Ended.{Ended}
 use Rattle.sedengine.specs.declared.ends.Ended.TheVariants.{Done, PatternFull, HoldFull, QueueFull, TurnsSpent, NoPrevious, InputBroken, OutputBroken, OutputFull}
-use Rattle.sedengine.proofs.Metering.{Cause-as}
-use Rattle.sededit.specs.Editing.{Edits, GainsAll, nothing_before, start_over}
+use Rattle.sededit.specs.Editing.{Edits, Ends, nothing_before, start_over}
 use Rattle.csed.specs.Reports.{cause_of}
-use Rattle.csed.specs.Calls.{AreWritten, Stops, no_files}
+use Rattle.csed.specs.Calls.{Stops, no_files}
 use Rattle.csed.specs.Outcomes.{RunsTo, outcome_of}
 
 -- what the one sink holds, and no other
@@ -42,17 +41,12 @@ module _ (held held' : Option (List ℕ)) (bytes : List ℕ) (before : held ≡ 
   other_parts : (out : List (ℕ × ℕ)) → Gained (of_one held) (of_one held') out → (k : ℕ) → part (suc k) out ≡ []
   other_parts out h k = let e = rw (is_not_zero k) at (h.each (suc k)) in sym e
 
-  pub Are-written : (out : List (ℕ × ℕ)) → Gained (of_one held) (of_one held') out → AreWritten bytes out
-  Are-written out h = rw (first_part out h) (only_first out (other_parts out h))
+  all_written : (out : List (ℕ × ℕ)) → Gained (of_one held) (of_one held') out → out ≡ to_sink 0 bytes
+  all_written out h = rw (first_part out h) (only_first out (other_parts out h))
 
   -- an edit that came to the ordinary end has written all
-  pub Gains-written : (g : Setting) (s : State) → GainsAll g s (Gained (of_one held) (of_one held')) → GainsAll g s (AreWritten bytes)
-  Gains-written g s (t, over, gained) = (t, over, Are-written _ gained)
-
--- what the sinks gained at an end, whole or cut
-sinks_at : (l : Limits) (g : Setting) (s : State) (gained : List (ℕ × ℕ) → Type 0) (end : Ended) (t : ℕ) (k : Option ℕ) → WholeOrBrokenOff l g s gained end t k → (out : List (ℕ × ℕ)) × gained out
-sinks_at l g s gained end t None w = (written g s t, w.sinks)
-sinks_at l g s gained end t (Some k) w = (take w.b (written g s (suc t)), w.sinks)
+  pub Ends-written : (g : Setting) (s : State) → (out : List (ℕ × ℕ)) × Gained (of_one held) (of_one held') out × Ends g s out → Ends g s (to_sink 0 bytes)
+  Ends-written g s (out, gained, ends) = subst (λ (w : List (ℕ × ℕ)). Ends g s w) (all_written out gained) ends
 
 -- a source that counts no failure is no cause
 never_failed : (end : Ended) → SourceAtEnd 0 0 end → end ≢ InputBroken
@@ -90,28 +84,26 @@ module _ (room : ℕ) (held held' : Option (List ℕ)) (bytes : List ℕ) (befor
   full_by most (OutputBroken k) out is h e = cc
 
   pub Fits-room : (l : Limits) (g : Setting) (s : State) (old new : Option (List ℕ)) (end : Ended) → l.output ≡ Some room →
-      Edits l g s (GainedWithin l.output nothing_before (of_one held) (of_one held') (Err end)) old new end → length bytes ≤ room
-  Fits-room l g s old new end is h =
-      let (out, sent) = sinks_at l g s _ end h.t (named_sink end) h.cause in
+      (out : List (ℕ × ℕ)) × GainedWithin l.output nothing_before (of_one held) (of_one held') (Err end) out × Edits l g s out old new end → length bytes ≤ room
+  Fits-room l g s old new end is (out, sent, h) =
       within_room l.output (Err end) out is sent
 
   -- an edit that ended early has stopped for its cause
   pub Stops-early : (l : Limits) (g : Setting) (s : State) (old new : Option (List ℕ)) (end : Ended) → l.output ≡ Some room → end ≢ Done → SourceAtEnd 0 0 end → ((k : ℕ) → end ≢ OutputBroken k) →
-      Edits l g s (GainedWithin l.output nothing_before (of_one held) (of_one held') (Err end)) old new end → Stops l g s room bytes end
-  Stops-early l g s old new end is early source output h =
-      let (out, sent) = sinks_at l g s _ end h.t (named_sink end) h.cause in
+      (out : List (ℕ × ℕ)) × GainedWithin l.output nothing_before (of_one held) (of_one held') (Err end) out × Edits l g s out old new end → Stops l g s room bytes end
+  Stops-early l g s old new end is early source output (out, sent, h) =
       record {
         early = early;
         input = never_failed end source;
         output = output;
         t = h.t;
-        cause = Cause-as l g s _ (AreWritten bytes) end h.t (λ o w. Are-written held held' bytes before after o w.gained) h.cause;
+        cause = subst (λ (w : List (ℕ × ℕ)). Cause l g s w end h.t) (all_written held held' bytes before after out sent.gained) h.cause;
         full = full_by l.output end out is sent;
       }
 
 -- what a run comes to whose bytes stand at the front of the output
 pub Runs-to : (l : Limits) (p : Program) (input output bytes : List ℕ) (end : Ended) (n : ℕ) → take n output ≡ bytes →
-    (end ≡ Done → GainsAll (setting_of p no_files) (start_over p input) (AreWritten bytes)) →
+    (end ≡ Done → Ends (setting_of p no_files) (start_over p input) (to_sink 0 bytes)) →
     (end ≢ Done → Stops (record l { output = Some (length output) }) (setting_of p no_files) (start_over p input) (length output) bytes end) →
     RunsTo l p input output (outcome_of end n)
 Runs-to l p input output bytes Done n same whole stops = rw same (whole refl)

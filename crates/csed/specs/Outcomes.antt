@@ -4,17 +4,18 @@ use Rattle.std.specs.Prelude.{◌≡◌, ℕ, ℤ, pos, List, Some, take, length
 use Rattle.sedscript.specs.FirstFault.{Faulty}
 use Rattle.sedscript.specs.Program.{Program}
 use Rattle.sedengine.specs.Limits.{Limits}
+use Rattle.sedengine.specs.Move.{to_sink}
 use Rattle.sedengine.specs.ScriptSetting.{setting_of}
 use Rattle.sedengine.specs.declared.ends.Ended.{Ended}
 use Rattle.sedengine.specs.declared.ends.Ended.TheVariants as ends
-use Rattle.sededit.specs.Editing.{GainsAll, start_over}
+use Rattle.sededit.specs.Editing.{Ends, start_over}
 use Rattle.csed.specs.declared.asked.Asked.{Asked}
 use Rattle.csed.specs.declared.asked.SedLimits.{SedLimits}
 use Rattle.csed.specs.declared.outcome.SedReport.{SedReport}
 use Rattle.csed.specs.declared.outcome.Outcome.{Outcome}
 use Rattle.csed.specs.declared.outcome.Outcome.TheVariants.{Done, Faulty as HasFault, WritesFiles as HasFiles, BadLimits, NoMemory, Stopped}
 use Rattle.csed.specs.Reports.{blank, of_bytes, of_end, of_fault, of_files}
-use Rattle.csed.specs.Calls.{AreWritten, GivesScript, IsWhole, MayAsk, MayNotAsk, Stops, StopsFor, WritesFiles, asked_by, no_files}
+use Rattle.csed.specs.Calls.{GivesScript, IsWhole, MayAsk, MayNotAsk, Stops, StopsFor, WritesFiles, asked_by, no_files}
 
 -- the status that tells it
 abbrev pub status_of : Outcome → ℤ
@@ -62,7 +63,7 @@ EditsTo text flags l input output other = MayAsk flags l × IsRefusal text (aske
 
 -- what the run of a script comes to
 abbrev pub RunsTo : Limits → Program → List ℕ → List ℕ → Outcome → Type 0
-RunsTo l p input output (Done n) = GainsAll (setting_of p no_files) (start_over p input) (AreWritten (take n output))
+RunsTo l p input output (Done n) = Ends (setting_of p no_files) (start_over p input) (to_sink 0 (take n output))
 RunsTo l p input output (Stopped n end) =
     Stops (record l { output = Some (length output) }) (setting_of p no_files) (start_over p input) (length output) (take n output) end
 RunsTo l p input output NoMemory = Unit {0}

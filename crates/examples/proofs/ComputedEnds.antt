@@ -116,10 +116,6 @@ is_cause l g s (NoPrevious n) = eqb n s.number && (has_turn l g s && (reaches s.
 is_cause l g s InputBroken = reads g s.tasks
 is_cause l g s other = false
 
--- what is so after the first t moves, where the end is none of a sink
-abbrev pub IsWhole : Limits → Setting → State → List (ℕ × ℕ) → Ended → ℕ → Type 0
-IsWhole l g s out end t = Whole l g s (λ bytes. bytes ≡ out) end t
-
 cause_so : (l : Limits) (g : Setting) (s : State) (end : Ended) → is_cause l g s end ≡ true → IsCause l g s end
 cause_so l g s Done e = no_tasks_so s.tasks e
 cause_so l g s (PatternFull n) e =
@@ -143,27 +139,27 @@ cause_so l g s (NoPrevious n) e =
 cause_so l g s InputBroken e = e
 cause_so l g s other e = absurd cc
 
--- a run within limits comes to an end, and its sinks have gained these bytes
+-- a run within limits comes to an end, with this output
 pub record Stops (l : Limits) (g : Setting) (s : State) (end : Ended) (out : List (ℕ × ℕ)) : Type 0 where
   pub moves : ℕ
-  pub cause : Cause l g s (λ bytes. bytes ≡ out) end moves
+  pub cause : Cause l g s out end moves
 
 pub whole_or_cut : (l : Limits) (g : Setting) (s : State) (end : Ended) (out : List (ℕ × ℕ)) (t : ℕ) (o : Option ℕ) → o ≡ None →
-    IsWhole l g s out end t → WholeOrBrokenOff l g s (λ bytes. bytes ≡ out) end t o
+    Whole l g s out end t → WholeOrBrokenOff l g s out end t o
 whole_or_cut l g s end out t None e h = h
 whole_or_cut l g s end out t (Some k) e h = absurd cc
 
 cut_there : (l : Limits) (g : Setting) (s : State) (end : Ended) (out : List (ℕ × ℕ)) (t k : ℕ) (o : Option ℕ) → o ≡ Some k →
-    BrokenOff l g s (λ bytes. bytes ≡ out) k t → WholeOrBrokenOff l g s (λ bytes. bytes ≡ out) end t o
+    BrokenOff l g s out k t → WholeOrBrokenOff l g s out end t o
 cut_there l g s end out t k None e h = absurd cc
-cut_there l g s end out t k (Some j) e h = subst (λ (o : Option ℕ). WholeOrBrokenOff l g s (λ bytes. bytes ≡ out) end t o) (sym e) h
+cut_there l g s end out t k (Some j) e h = subst (λ (o : Option ℕ). WholeOrBrokenOff l g s out end t o) (sym e) h
 
 -- an end is whole where its moves, computed, say so
 pub whole_after : {l : Limits} {g : Setting} {s : State} {end : Ended} {out : List (ℕ × ℕ)} (n : ℕ) →
-    (course g n s).writes ≡ out → is_cause l g (course g n s).last end ≡ true → all_fit l g n s ≡ true → IsWhole l g s out end n
+    (course g n s).writes ≡ out → is_cause l g (course g n s).last end ≡ true → all_fit l g n s ≡ true → Whole l g s out end n
 whole_after {l = l} {g = g} {s = s} {end = end} n w c f = record {
   within = within_so l g n s f;
-  sinks = (course_so g n s).0 ∙ w;
+  wrote = (course_so g n s).0 ∙ w;
   cause = subst (λ (x : State). IsCause l g x end) (sym (course_so g n s).1) (cause_so l g (course g n s).last end c);
 }
 
@@ -175,15 +171,15 @@ within_first l g s m t e fits on zero below = fits
 within_first l g s m t e fits on (suc k) below = subst (WithinLimits l) (sym (after_first g s m k e)) (on k (omega arith))
 
 pub whole_first : {l : Limits} {g : Setting} {s : State} {m : Move} {end : Ended} {rest : List (ℕ × ℕ)} {t : ℕ} → move g s ≡ Some m →
-    WithinLimits l s → IsWhole l g m.next rest end t → IsWhole l g s (m.writes ++ rest) end (suc t)
+    WithinLimits l s → Whole l g m.next rest end t → Whole l g s (m.writes ++ rest) end (suc t)
 unfolding Within
 whole_first {l = l} {g = g} {s = s} {m = m} {end = end} {t = t} e fits h = record {
   within = within_first l g s m t e fits h.within;
-  sinks = written_first g s m t e ∙ ap (λ (bytes : List (ℕ × ℕ)). m.writes ++ bytes) h.sinks;
+  wrote = written_first g s m t e ∙ ap (λ (bytes : List (ℕ × ℕ)). m.writes ++ bytes) h.wrote;
   cause = subst (λ (x : State). IsCause l g x end) (sym (after_first g s m t e)) h.cause;
 }
 
-abbrev pub stops_whole : {l : Limits} {g : Setting} {s : State} {end : Ended} {out : List (ℕ × ℕ)} {t : ℕ} → IsWhole l g s out end t →
+abbrev pub stops_whole : {l : Limits} {g : Setting} {s : State} {end : Ended} {out : List (ℕ × ℕ)} {t : ℕ} → Whole l g s out end t →
     named_sink end ≡ None → Stops l g s end out
 stops_whole {l = l} {g = g} {s = s} {end = end} {out = out} {t = t} h sink =
     record { moves = t; cause = whole_or_cut l g s end out t (named_sink end) sink h }
@@ -207,7 +203,7 @@ stops_within {l = l} {g = g} {s = s} {end = end} {out = out} n k byte past due w
     byte = byte;
     past = subst (λ (bytes : List (ℕ × ℕ)). length bytes ≤ length out) (sym (course_so g n s).0) (leb-true _ _ past);
     due = subst (λ (bytes : List (ℕ × ℕ)). slice_get bytes (length out) ≡ Some (k, byte)) (sym (course_so g (suc n) s).0) due;
-    sinks = subst (λ (bytes : List (ℕ × ℕ)). take (length out) bytes ≡ out) (sym (course_so g (suc n) s).0) w;
+    wrote = subst (λ (bytes : List (ℕ × ℕ)). take (length out) bytes ≡ out) (sym (course_so g (suc n) s).0) w;
   });
 }
 

@@ -9,6 +9,7 @@ use Rattle.sedspace.specs.Lines.{lines}
 use Rattle.sedengine.specs.State.{State, Move, Setting}
 use Rattle.sedengine.specs.Move.{move, after, written, next_or_stay, writes_of, start, to_sink}
 use Rattle.sedengine.specs.ScriptSetting.{setting_of}
+use Rattle.sededit.specs.Editing.{Ends}
 
 -- what moves write, and the state that they lead to
 pub record Course : Type 0 where
@@ -63,16 +64,11 @@ module _ (g : Setting) where
   course_so (suc n) s = onwards_so n s (move g s) refl (course_so n)
 
 -- a run ends, and wrote these bytes
-pub record Ends (g : Setting) (s : State) (out : List (ℕ × ℕ)) : Type 0 where
-  pub moves : ℕ
-  pub writes : written g s moves ≡ out
-  pub ended : (after g s moves).tasks ≡ []
-
 pub ends_after : {g : Setting} {s : State} {out : List (ℕ × ℕ)} (n : ℕ) → (course g n s).writes ≡ out →
     (course g n s).last.tasks ≡ [] → Ends g s out
 ends_after {g = g} {s = s} n w e = record {
   moves = n;
-  writes = (course_so g n s).0 ∙ w;
+  wrote = (course_so g n s).0 ∙ w;
   ended = ap (λ (x : State). x.tasks) (course_so g n s).1 ∙ e;
 }
 

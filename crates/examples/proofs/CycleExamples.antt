@@ -34,7 +34,7 @@ input = codes "a\nb\nc\n"
 -- as `less`.
 record FirstCycle (p : Program) (out : List (ℕ × ℕ)) (left rest less : List ℕ) : Type 0 where
   moves : ℕ
-  cycled : Cycled one_ahead (setting_of p no_files) (start p.commands (lines input)) (λ bytes. bytes ≡ out)
+  cycled : Cycled one_ahead (setting_of p no_files) (start p.commands (lines input)) out
       (record { source = Some input; all = Some input }) (record { source = Some rest; all = Some left })
       (after (setting_of p no_files) (start p.commands (lines input)) moves)
   no_more : TakesInput (setting_of p no_files) (start p.commands (lines input)) (Some input) (Some less) one_ahead.look moves → ⊥
@@ -79,7 +79,7 @@ first_cycle = is_script {text = codes "p"} {kind = Basic} {Fits = IsFirst} (reco
     next = refl;
     one = between _ refl refl refl refl refl;
     within = within_so one_ahead _ 6 _ refl;
-    sinks = refl;
+    wrote = refl;
     takes = record {
       input = record { lines = codes "a" ∷ []; are = refl; bytes = (codes "a\nb", refl, omega arith) };
       all = (codes "a\n", refl, (λ k d inside. absurd (omega (arith, inside))), omega arith);
@@ -118,16 +118,16 @@ first_two g s (suc n) e = first_two g s n (nothing_front _ _ e)
 
 -- Where the first move asks for no input and the second writes, a line that is gone was given before the source failed.
 dropped_at : (l : Limits) (g : Setting) (s : State) (xs ys line : List ℕ) (t : ℕ) → reads g (after g s 1).tasks ≡ false → (written g s 2 ≡ [] → ⊥) → xs ≡ line ++ 10 ∷ ys →
-    Cause l g s (λ out. out ≡ []) InputBroken t → BreaksInLine g s (Some xs) (Some ys) l.space t → ⊥
+    Cause l g s [] InputBroken t → BreaksInLine g s (Some xs) (Some ys) l.space t → ⊥
 unfolding after
 dropped_at l g s xs ys line zero quiet writes is cause (taken, are, part) = none_dropped xs ys line _ _ (no_size taken s.lines are) is part
 dropped_at l g s xs ys line (suc zero) quiet writes is cause part = absurd (let clash : true ≡ false = sym cause.cause ∙ quiet in cc)
-dropped_at l g s xs ys line (suc (suc n)) quiet writes is cause part = writes (first_two g s n cause.sinks)
+dropped_at l g s xs ys line (suc (suc n)) quiet writes is cause part = writes (first_two g s n cause.wrote)
 
 -- An engine that takes the first line and throws it away, since the read after it fails, is none that the contracts allow:
 -- the failure comes with the line gone and nothing written.
 abbrev KeepsItsLine : Program → Type 0
-KeepsItsLine p = (now : State) → Ending one_ahead (setting_of p no_files) (start p.commands (lines input)) (λ out. out ≡ [])
+KeepsItsLine p = (now : State) → Ending one_ahead (setting_of p no_files) (start p.commands (lines input)) []
     (record { source = Some input; all = Some input }) (record { source = Some (codes "b\nc\n"); all = Some (codes "b\nc\n") }) now InputBroken → ⊥
 
 line_kept : Script (codes "p") Basic KeepsItsLine

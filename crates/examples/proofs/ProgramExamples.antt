@@ -1,6 +1,6 @@
 -- Examples of what the program's command lines come to, computed by the definitions from the parts of a script on: the
 -- script's text, the files, and what is written or how the run ends (XCU sed, "Options", "Operands").
-use Rattle.std.proofs.Common.{◌≡◌, ◌≢◌, ℕ, List, [], ◌∷◌, Option, Some, None, refl, subst, arith, rules}
+use Rattle.std.proofs.Common.{◌≡◌, ◌≢◌, ℕ, List, [], ◌∷◌, Option, Some, None, Err, refl, subst, arith, rules}
 use Rattle.std.specs.Prelude.{codes}
 use Rattle.sedre.specs.declared.types.Kind.{Kind}
 use Rattle.sedre.specs.declared.types.Kind.TheVariants.{Basic}
@@ -12,19 +12,20 @@ use Rattle.sedscript.specs.Bytes.{past}
 use Rattle.sedscript.specs.Functions.{name_from, text_from}
 use Rattle.sedscript.specs.Items.{function_at, item_at}
 use Rattle.sedspace.specs.Lines.{HasNoNewline, lines}
+use Rattle.sedengine.specs.Devices.{part, GainedWithin}
 use Rattle.sedengine.specs.Ends.{Cause}
 use Rattle.sedengine.specs.Move.{after, move, to_sink}
 use Rattle.sedengine.specs.TakenInput.{BreaksInLine, LosesPartAfter}
 use Rattle.sedengine.specs.ScriptSetting.{setting_of}
 use Rattle.sedengine.specs.Select.{selects}
 use Rattle.sedengine.specs.declared.ends.Ended.{Ended}
-use Rattle.sedengine.specs.declared.ends.Ended.TheVariants.{Done, NoPrevious, InputBroken, OutputBroken}
+use Rattle.sedengine.specs.declared.ends.Ended.TheVariants.{Done, NoPrevious, InputBroken, OutputBroken, OutputFull}
 use Rattle.examples.proofs.ComputedEnds.{all_fit, stops_after, stops_within, Stops}
 use Rattle.examples.proofs.ComputedRun.{course, ends_after, plain, quiet, no_files, Edits}
 use Rattle.sededit.specs.CommandLine.{Given, text, file}
-use Rattle.sededit.specs.Editing.{start_over}
+use Rattle.sededit.specs.Editing.{nothing_before, start_over}
 use Rattle.sededit.specs.MemoryFiles.{File, file_of, files_of}
-use Rattle.sededit.specs.Program.{MakesText, StopsEarly, DevicesAtEnd, input_of}
+use Rattle.sededit.specs.Program.{MakesText, Observed, StopsEarly, DevicesAtEnd, input_of}
 use Rattle.examples.proofs.LimitWords.{own}
 
 -- the files that there are: `a` with one line, `f` without a newline, and the script `s`
@@ -165,13 +166,17 @@ file_of_the_script = record {
   runs = is_script (ends_after 60 refl refl);
 }
 
--- Runs that stop early. The numbers of failures are those of the input and of the sinks, before and after.
+-- Runs that stop early.
 
--- The script of a text, over this input, stops early at this end, when its sinks have gained these bytes and the input has
--- these still to give.
-abbrev Stopped : (whole bytes rest : List ℕ) → (Ended → Type 0) → List ℕ → Type 0
-Stopped whole bytes rest failed output =
-    Script whole Basic (λ p. StopsEarly own p (Some bytes) (λ more. more ≡ Some rest) (λ k. None) (λ end gained. gained ≡ to_sink 0 output) failed)
+-- what is observed where reads of the input have failed so often, and each sink so often, and the standard output holds this
+abbrev observed : ℕ → ℕ → List ℕ → Observed
+observed reads failures output = record { refusals = 0; reads = reads; contents = λ k. Some (part k (to_sink 0 output)); failures = λ k. failures }
+
+-- The script of a text, over this input, stops early, when these bytes were written and the input has these still to give: so
+-- many of its reads have failed, and each sink so often.
+abbrev Stopped : (whole bytes rest : List ℕ) → ℕ → ℕ → List ℕ → Type 0
+Stopped whole bytes rest reads failures output =
+    Script whole Basic (λ p. StopsEarly own (observed 0 0 []) (observed reads failures output) (λ more. more ≡ Some rest) p (Some bytes) (λ k. None))
 
 -- A script's run over this input comes to this end whichever files the script may read.
 record OverAnyFiles (p : Program) (bytes rest output : List ℕ) (end : Ended) : Type 0 where
@@ -184,9 +189,14 @@ over_any : {p : Program} {bytes rest output : List ℕ} {end : Ended} →
     OverAnyFiles p bytes rest output end
 over_any each breaks = record { each = each; breaks = breaks }
 
-stopped : (whole bytes rest output : List ℕ) (failed : Ended → Type 0) (end : Ended) → Script whole Basic (λ p. OverAnyFiles p bytes rest output end) →
-    end ≢ Done → failed end → Stopped whole bytes rest failed output
-stopped whole bytes rest output failed end s other has =
+-- all of it is within the limits that set none on the output, where the end names no sink as full
+gains_all : (output : List ℕ) (end : Ended) → ((k : ℕ) → end ≢ OutputFull k) → GainedWithin None nothing_before (λ k. Some []) (λ k. Some (part k (to_sink 0 output))) (Err end) (to_sink 0 output)
+gains_all output (OutputFull k) other = absurd (other k refl)
+gains_all output end other = record { gained = record { each = λ k. refl }; within = tt; full = tt }
+
+stopped : (whole bytes rest : List ℕ) (reads failures : ℕ) (output : List ℕ) (end : Ended) → Script whole Basic (λ p. OverAnyFiles p bytes rest output end) →
+    end ≢ Done → ((k : ℕ) → end ≢ OutputFull k) → DevicesAtEnd None (observed 0 0 []) (observed reads failures output) end → Stopped whole bytes rest reads failures output
+stopped whole bytes rest reads failures output end s other room has =
     let p = s.program in
     record {
       program = p;
@@ -198,15 +208,14 @@ stopped whole bytes rest output failed end s other has =
         λ given known files tells.
             let same : bytes ≡ given = cc in
             let run = s.is.each files in (
+              to_sink 0 output,
+              gains_all output end room,
               run.moves,
-              subst (λ (x : List ℕ). Cause own (setting_of p files) (start_over p x) (λ gained. gained ≡ to_sink 0 output) end run.moves) same run.cause,
+              subst (λ (x : List ℕ). Cause own (setting_of p files) (start_over p x) (to_sink 0 output) end run.moves) same run.cause,
               λ is. (Some rest, refl, subst (λ (x : List ℕ). BreaksInLine (setting_of p files) (start_over p x) (Some bytes) (Some rest) own.space run.moves) same (s.is.breaks files is)),
             ),
       );
     }
-
-abbrev none_failed : ℕ → ℕ
-none_failed k = 0
 
 part_only : HasNoNewline (codes "b")
 part_only = search rules
@@ -219,21 +228,21 @@ input_broke_run : Script (codes "p\n") Basic (λ p. OverAnyFiles p (codes "a\nbc
 unfolding verdict cutting walked item_at past function_at addresses_at address_at second_at text_from name_from lines after course move selects all_fit
 input_broke_run = is_script (over_any {bytes = codes "a\nbc\n"} {rest = codes "c\n"} {output = codes "a\na\n"} {end = InputBroken} (λ files. stops_after 6 refl refl refl refl) (λ files is. (codes "a" ∷ [], refl, part_gone)))
 
-input_broke : Stopped (codes "p\n") (codes "a\nbc\n") (codes "c\n") (DevicesAtEnd None 0 1 none_failed none_failed) (codes "a\na\n")
-input_broke = stopped (codes "p\n") (codes "a\nbc\n") (codes "c\n") (codes "a\na\n") (DevicesAtEnd None 0 1 none_failed none_failed) InputBroken input_broke_run (λ e. absurd cc) (omega arith, tt)
+input_broke : Stopped (codes "p\n") (codes "a\nbc\n") (codes "c\n") 1 0 (codes "a\na\n")
+input_broke = stopped (codes "p\n") (codes "a\nbc\n") (codes "c\n") 1 0 (codes "a\na\n") InputBroken input_broke_run (λ e. absurd cc) (λ k e. absurd cc) (omega arith, tt)
 
 -- The standard output takes three bytes.
 output_broke_run : Script (codes "p\n") Basic (λ p. OverAnyFiles p (codes "ab\n") [] (codes "ab\n") (OutputBroken 0))
 unfolding verdict cutting walked item_at past function_at addresses_at address_at second_at text_from name_from lines course move selects all_fit
 output_broke_run = is_script (over_any (λ files. stops_within 3 0 97 refl refl refl refl refl) (λ files is. absurd cc))
 
-output_broke : Stopped (codes "p\n") (codes "ab\n") [] (DevicesAtEnd None 0 0 none_failed (λ k. 1)) (codes "ab\n")
-output_broke = stopped (codes "p\n") (codes "ab\n") [] (codes "ab\n") (DevicesAtEnd None 0 0 none_failed (λ k. 1)) (OutputBroken 0) output_broke_run (λ e. absurd cc) (refl, omega arith)
+output_broke : Stopped (codes "p\n") (codes "ab\n") [] 0 1 (codes "ab\n")
+output_broke = stopped (codes "p\n") (codes "ab\n") [] 0 1 (codes "ab\n") (OutputBroken 0) output_broke_run (λ e. absurd cc) (λ k e. absurd cc) (refl, omega arith)
 
 -- `sed //p nofile a`: no device has failed.
 no_previous_expression_run : Script (codes "//p\n") Basic (λ p. OverAnyFiles p (codes "x\n") [] (codes "") (NoPrevious 1))
 unfolding verdict cutting walked item_at past function_at addresses_at address_at second_at text_from name_from lines course move selects all_fit match_at delimiter_at
 no_previous_expression_run = is_script (over_any (λ files. stops_after 1 refl refl refl refl) (λ files is. absurd cc))
 
-no_previous_expression : Stopped (codes "//p\n") (codes "x\n") [] (DevicesAtEnd None 0 0 none_failed none_failed) (codes "")
-no_previous_expression = stopped (codes "//p\n") (codes "x\n") [] (codes "") (DevicesAtEnd None 0 0 none_failed none_failed) (NoPrevious 1) no_previous_expression_run (λ e. absurd cc) (refl, tt)
+no_previous_expression : Stopped (codes "//p\n") (codes "x\n") [] 0 0 (codes "")
+no_previous_expression = stopped (codes "//p\n") (codes "x\n") [] 0 0 (codes "") (NoPrevious 1) no_previous_expression_run (λ e. absurd cc) (λ k e. absurd cc) (refl, tt)

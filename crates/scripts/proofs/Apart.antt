@@ -16,7 +16,7 @@ use Rattle.sedengine.specs.Move.{acts, after, begins, copies, first_task, flushe
 use Rattle.sedengine.proofs.Moves.{move_at, written_none}
 use Rattle.examples.proofs.ComputedRun.{after_first as after_next, written_first as written_next, stays_still}
 use Rattle.examples.proofs.ComputedEnds.{both}
-use Rattle.scripts.specs.Edited.{Ends}
+use Rattle.sededit.specs.Editing.{Ends}
 use Rattle.scripts.specs.Alone.{asks_text, has_expression, stays_in_line, looks_at_line}
 use Rattle.scripts.proofs.Cycles.{Goes, goes_one, goes_on, ends_on}
 

@@ -8,7 +8,8 @@ use Rattle.sedspace.proofs.LineLemmas.{lines_nil, lines_none}
 use Rattle.sedengine.specs.Move.{start}
 use Rattle.sedengine.specs.ScriptSetting.{setting_of}
 use Rattle.scripts.specs.Alone.{EachLooksAtLine, EndsLine}
-use Rattle.scripts.specs.Edited.{Ends, RunsTo}
+use Rattle.sededit.specs.Editing.{Ends}
+use Rattle.scripts.specs.Edited.{RunsTo}
 use Rattle.scripts.proofs.Apart.{one_after_other}
 
 first_kept : (x : List ℕ) (ys : List (List ℕ)) → 0 < length ys → without_empty_last (x ∷ ys) ≡ x ∷ without_empty_last ys

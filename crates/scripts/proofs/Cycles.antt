@@ -5,7 +5,8 @@ use Rattle.sedengine.specs.State.{begin, do_at, flush, State, Setting}
 use Rattle.sedengine.specs.Move.{move, after, at_end, written, newline, next_or_stay, to_sink, line_to, writes_of, writing}
 use Rattle.sedengine.proofs.Moves.{after-add, written-add}
 use Rattle.sedengine.proofs.Gains.{to_sink-append}
-use Rattle.scripts.specs.Edited.{Ends, text_of}
+use Rattle.sededit.specs.Editing.{Ends}
+use Rattle.scripts.specs.Edited.{text_of}
 
 -- moves lead from a state to another one, and write this
 pub record Goes (g : Setting) (s now : State) (out : List (ℕ × ℕ)) : Type 0 where

@@ -6,7 +6,7 @@ use Rattle.sedscript.specs.declared.types.Command.{Command}
 use Rattle.sedengine.specs.State.{Task, do_at, State, Setting}
 use Rattle.sedengine.specs.Move.{after, none_left, written}
 use Rattle.sedengine.proofs.Moves.{after-add, written-add}
-use Rattle.scripts.specs.Edited.{Ends}
+use Rattle.sededit.specs.Editing.{Ends}
 use Rattle.scripts.proofs.Ample.{before_or_not, ended_stays}
 use Rattle.scripts.proofs.Cycles.{Goes, goes_on}
 use Rattle.examples.proofs.ComputedRun.{after_first as after_next}

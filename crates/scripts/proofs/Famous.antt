@@ -37,7 +37,8 @@ use Rattle.examples.specs.WrittenReplacements.{written_pieces}
 use Rattle.examples.proofs.ComputedReading.{outcome, rest_of, written, tree_of_written}
 use Rattle.examples.proofs.ComputedScript.{verdict, cutting, walked}
 use Rattle.examples.proofs.ScriptWords.{always, at, from_to, unless}
-use Rattle.scripts.specs.Edited.{Ends, Sends, text_of, Writes}
+use Rattle.sededit.specs.Editing.{Ends}
+use Rattle.scripts.specs.Edited.{Sends, text_of, Writes}
 use Rattle.scripts.specs.Slashed.{IsSlashed}
 use Rattle.scripts.specs.Words.{by_table, numbered, odd_ones, replaced, has_none, in_one, y_of}
 use Rattle.scripts.proofs.Meanings.{of_commands, meant}

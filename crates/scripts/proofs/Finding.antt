@@ -10,7 +10,8 @@ use Rattle.sedengine.specs.State.{State, Setting}
 use Rattle.sedengine.specs.Substitute.{Occurrence, occurrences, replaced_from, to_replace}
 use Rattle.sedengine.specs.Select.{selects}
 use Rattle.sedengine.specs.Move.{move, after, written, to_sink, line_to, in_table}
-use Rattle.scripts.specs.Edited.{Ends, text_of}
+use Rattle.sededit.specs.Editing.{Ends}
+use Rattle.scripts.specs.Edited.{text_of}
 use Rattle.scripts.proofs.Cycles.{Goes, goes_one, goes_on, between, within, deleted, begins_line, ends_line, deletes_line, ends_there, each_line}
 use Rattle.examples.proofs.ScriptWords.{always, at, unless}
 

@@ -11,7 +11,8 @@ use Rattle.sedengine.specs.State.{begin, rebegin, do_at, flush, State, Setting}
 use Rattle.sedengine.specs.Substitute.{Occurrence}
 use Rattle.sedengine.specs.Select.{selects}
 use Rattle.sedengine.specs.Move.{move, after, written, newline, to_sink, line_to}
-use Rattle.scripts.specs.Edited.{Ends, text_of}
+use Rattle.sededit.specs.Editing.{Ends}
+use Rattle.scripts.specs.Edited.{text_of}
 use Rattle.scripts.proofs.Cycles.{Goes, goes_one, goes_on, ends_on, between, ends_there, line_first, text_of-append}
 use Rattle.examples.proofs.ScriptWords.{always, at, unless}
 use Rattle.scripts.proofs.Plain.{runs}

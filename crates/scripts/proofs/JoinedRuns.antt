@@ -20,7 +20,8 @@ use Rattle.sedengine.specs.Move.{start, to_sink}
 use Rattle.sedengine.specs.ScriptSetting.{finds_in, search_in, has_match, search_for}
 use Rattle.examples.proofs.ComputedEnds.{both}
 use Rattle.sedscript.specs.ScriptText.{with_part}
-use Rattle.scripts.specs.Edited.{Ends, RunsTo, Sends}
+use Rattle.sededit.specs.Editing.{Ends}
+use Rattle.scripts.specs.Edited.{RunsTo, Sends}
 use Rattle.scripts.specs.InTurn.{BreaksNoLine, OnlyEdits, edits, in_turn, only_edits, asks_own}
 use Rattle.scripts.specs.OneText.{EditInTurn, IsOpen, LeadsInside, ShareNoFile, ShareNoLabel, apart, leads_inside}
 use Rattle.scripts.specs.Words.{match_with}

@@ -14,7 +14,7 @@ use Rattle.sedengine.specs.State.{State, Setting}
 use Rattle.sedengine.specs.Substitute.{Occurrence, next_occurrence, occurrences, occurrences_from, replaced_from, to_replace, with_rest}
 use Rattle.sedengine.specs.Select.{selects}
 use Rattle.sedengine.specs.Move.{move, after, written, newline, line_to}
-use Rattle.scripts.specs.Edited.{Ends}
+use Rattle.sededit.specs.Editing.{Ends}
 use Rattle.scripts.proofs.Cycles.{Goes, goes_one, ends_on, between, within, begins_line, ends_line, ends_there}
 use Rattle.examples.proofs.ScriptWords.{always, at, unless}
 use Rattle.scripts.proofs.LineLaws.{NoneBroken}

@@ -14,7 +14,8 @@ use Rattle.sedspace.specs.Lines.{lines}
 use Rattle.sedengine.specs.State.{State, Setting}
 use Rattle.sedengine.specs.Move.{start}
 use Rattle.sedengine.specs.ScriptSetting.{match_with_span, search_in, finds_in}
-use Rattle.scripts.specs.Edited.{Ends, Sends}
+use Rattle.sededit.specs.Editing.{Ends}
+use Rattle.scripts.specs.Edited.{Sends}
 use Rattle.scripts.specs.Words.{match_with}
 
 -- what the law `one_meaning` of sedscript says

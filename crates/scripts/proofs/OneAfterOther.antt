@@ -6,7 +6,8 @@ use Rattle.sedengine.specs.State.{begin, do_at, State, Setting}
 use Rattle.sedengine.specs.Move.{line_to, to_sink}
 use Rattle.sedengine.specs.Devices.{part}
 use Rattle.sedengine.proofs.Gains.{part-same}
-use Rattle.scripts.specs.Edited.{Ends, text_of}
+use Rattle.sededit.specs.Editing.{Ends}
+use Rattle.scripts.specs.Edited.{text_of}
 use Rattle.scripts.proofs.Ample.{both_ended}
 use Rattle.scripts.proofs.Cycles.{Goes, goes_on, ends_on, between, within, printed, begins_line, ends_line, deletes_line, ends_there, line_first}
 use Rattle.scripts.proofs.Edits.{Between, Within, Deleted, Leads}

@@ -11,7 +11,8 @@ use Rattle.sedengine.specs.Substitute.{Occurrence}
 use Rattle.sedengine.specs.Select.{selects}
 use Rattle.sedengine.specs.Move.{move, after, written, to_sink, line_to}
 use Rattle.examples.proofs.ScriptWords.{always, at, from_to, unless}
-use Rattle.scripts.specs.Edited.{Ends, text_of}
+use Rattle.sededit.specs.Editing.{Ends}
+use Rattle.scripts.specs.Edited.{text_of}
 use Rattle.scripts.specs.Words.{numbered, odd_ones}
 use Rattle.scripts.proofs.Cycles.{Goes, ends_on, between, ends_there, each_line, line_first}
 

@@ -15,10 +15,10 @@ use Rattle.sedengine.specs.Select.{selects}
 use Rattle.sedengine.specs.Move.{after, at_end, line_to, move, newline, start, to_sink, writing, written}
 use Rattle.sedengine.specs.ScriptSetting.{finds_in, search_in, setting_of}
 use Rattle.sedengine.specs.TakenInput.{size_of}
-use Rattle.sedengine.specs.Ends.{WithinLimits, Within, Cause}
+use Rattle.sedengine.specs.Ends.{Cause, Whole, Within, WithinLimits}
 use Rattle.sedengine.specs.declared.ends.Ended.{Ended}
 use Rattle.sedengine.specs.declared.ends.Ended.TheVariants.{Done}
-use Rattle.examples.proofs.ComputedEnds.{IsWhole, whole_first}
+use Rattle.examples.proofs.ComputedEnds.{whole_first}
 use Rattle.scripts.specs.Ampleness.{Ample, NoDevice}
 use Rattle.scripts.specs.Edited.{text_of}
 use Rattle.scripts.proofs.Ample.{ends_done}
@@ -100,14 +100,14 @@ module _ (l : Limits) (finds : ℕ → List ℕ → Bool) (search : ℕ → List
   fits p h t = record { pattern = p; hold = h; queue = omega arith; turns = t }
 
   abbrev Comes : State → List (ℕ × ℕ) → Type 0
-  Comes s out = (t : ℕ) × IsWhole l round s out Done t
+  Comes s out = (t : ℕ) × Whole l round s out Done t
 
   next : {s m : State} {bytes out : List (ℕ × ℕ)} → move round s ≡ writing bytes m → WithinLimits l s → Comes m out → Comes s (bytes ++ out)
   next go fit rest = (suc rest.0, whole_first go fit rest.1)
 
   at_last : (hold : List ℕ) (number turns : ℕ) → length hold ≤ l.space → turns ≤ l.turns → Comes (record (held_at [] number hold turns) { tasks = [] }) []
   unfolding after written Within
-  at_last hold number turns h t = (0, record { within = λ k low. let none : k ≡ 0 = omega arith in rw none (fits (omega arith) h t); sinks = refl; cause = refl })
+  at_last hold number turns h t = (0, record { within = λ k low. let none : k ≡ 0 = omega arith in rw none (fits (omega arith) h t); wrote = refl; cause = refl })
 
   length-onto : (number : ℕ) (line hold : List ℕ) → length (onto' number line hold) ≤ length line + 1 + length hold
   length-onto zero line hold = omega arith
@@ -168,25 +168,25 @@ lines_size (line ∷ rest) = let more = lines_size rest in omega (arith, more)
 
 -- A run within ample limits ends in the ordinary way, and has written the lines in reverse order, where no device has failed or
 -- is full.
-pub turned_done : (l : Limits) (input : List ℕ) (finds : ℕ → List ℕ → Bool) (search : ℕ → List ℕ → ℕ → Option Occurrence) (files : ℕ → List ℕ) (gained : List (ℕ × ℕ) → Type 0) (end : Ended) (t : ℕ) → Ample l 4 input → NoDevice end →
-    Cause l (turns_round finds search files) (between (lines input) 0 [] false (false ∷ false ∷ false ∷ []) None 0) gained end t → (end ≡ Done) × gained (to_sink 0 (text_of (reverse (lines input))))
+pub turned_done : (l : Limits) (input : List ℕ) (finds : ℕ → List ℕ → Bool) (search : ℕ → List ℕ → ℕ → Option Occurrence) (files : ℕ → List ℕ) (out : List (ℕ × ℕ)) (end : Ended) (t : ℕ) → Ample l 4 input → NoDevice end →
+    Cause l (turns_round finds search files) (between (lines input) 0 [] false (false ∷ false ∷ false ∷ []) None 0) out end t → (end ≡ Done) × (out ≡ to_sink 0 (text_of (reverse (lines input))))
 unfolding Within
-turned_done l input finds search files gained end t ample free cause =
+turned_done l input finds search files out end t ample free cause =
     let small = size_of_lines input in
     let few = lines_size (lines input) in
     let some : 0 < l.turns = omega (arith, ample.turns_left) in
     let low : Limits = record l { turns = l.turns - 1 } in
     let fewer : 4 * length (lines input) ≤ l.turns - 1 = omega (arith, ample.turns_left, small, few) in
     let come = round_run low finds search files (lines input) (omega (arith, ample.space, small)) fewer in
-    ends_done l (turns_round finds search files) (between (lines input) 0 [] false (false ∷ false ∷ false ∷ []) None 0) gained come.0 (to_sink 0 (text_of (reverse (lines input)))) come.1.cause come.1.sinks
+    ends_done l (turns_round finds search files) (between (lines input) 0 [] false (false ∷ false ∷ false ∷ []) None 0) out come.0 (to_sink 0 (text_of (reverse (lines input)))) come.1.cause come.1.wrote
     (λ k h. let f = come.1.within k h in record { pattern = f.pattern; hold = f.hold; queue = f.queue; turns = omega (arith, f.turns) })
     (λ k h. let f = come.1.within k h in omega (arith, f.turns, some)) end t free cause
 
 -- the same of any script that the text means
-pub turned_ends : OneMeaning → (l : Limits) (p : Program) (files : ℕ → List ℕ) (input : List ℕ) (gained : List (ℕ × ℕ) → Type 0) (end : Ended) (t : ℕ) → Means (codes "1!G;h;$!d") Basic 65536 p → Ample l 4 input → NoDevice end →
-    Cause l (setting_of p files) (start p.commands (lines input)) gained end t → (end ≡ Done) × gained (to_sink 0 (text_of (reverse (lines input))))
-turned_ends one l p files input gained end t m ample free cause =
+pub turned_ends : OneMeaning → (l : Limits) (p : Program) (files : ℕ → List ℕ) (input : List ℕ) (out : List (ℕ × ℕ)) (end : Ended) (t : ℕ) → Means (codes "1!G;h;$!d") Basic 65536 p → Ample l 4 input → NoDevice end →
+    Cause l (setting_of p files) (start p.commands (lines input)) out end t → (end ≡ Done) × (out ≡ to_sink 0 (text_of (reverse (lines input))))
+turned_ends one l p files input out end t m ample free cause =
     let q : Program = turned_program in
     let same = one (codes "1!G;h;$!d") Basic 65536 p q m turned_means in
-    let moved = same_run (λ g s. Cause l g s gained end t) p.commands q.commands p.texts q.texts p.substitutions q.substitutions p.tables q.tables p.quiet q.quiet p.expressions files (lines input) same.0 same.1 same.2 same.3 same.6 cause in
-    turned_done l input (finds_in p.expressions) (search_in p.expressions) files gained end t ample free moved
+    let moved = same_run (λ g s. Cause l g s out end t) p.commands q.commands p.texts q.texts p.substitutions q.substitutions p.tables q.tables p.quiet q.quiet p.expressions files (lines input) same.0 same.1 same.2 same.3 same.6 cause in
+    turned_done l input (finds_in p.expressions) (search_in p.expressions) files out end t ample free moved

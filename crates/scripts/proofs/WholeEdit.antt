@@ -19,9 +19,9 @@ use Rattle.sedengine.specs.declared.ends.Ended.{Ended}
 use Rattle.sedengine.specs.declared.ends.Ended.TheVariants.{Done, PatternFull, HoldFull, QueueFull, TurnsSpent, NoPrevious, InputBroken, OutputBroken, OutputFull}
 use Rattle.sedengine.proofs.Gains.{part-same}
 use Rattle.sedengine.proofs.Moves.{written-add}
-use Rattle.sededit.specs.Editing.{Edits, nothing_before, start_over}
+use Rattle.sededit.specs.Editing.{Edits, Ends, nothing_before, start_over}
 use Rattle.scripts.specs.Ampleness.{IsAmple, NoDevice, ample_room}
-use Rattle.scripts.specs.Edited.{Ends, text_of}
+use Rattle.scripts.specs.Edited.{text_of}
 use Rattle.scripts.proofs.Ample.{before_or_not, ended_still}
 use Rattle.scripts.proofs.Famous.{turned_law, turned_means, turned_program}
 use Rattle.scripts.proofs.Links.{OneMeaning}
@@ -88,30 +88,31 @@ module _ (old bytes : List ℕ) (was failed : ℕ) (nothing : old ≡ []) where
   holds_part most end out h = let e = rw nothing at (h.gained.each 0) in e
 
   -- the sink of an edit that writes less than the room isn't broken
-  not_broken : (most : Option ℕ) (l : Limits) (g : Setting) (s : State) (out : List (ℕ × ℕ)) (k t : ℕ) → Ends g s out → length out ≤ ample_room → (0 < failed → ample_room ≤ length bytes) →
-      SinksAtEnd most (failures was) (failures failed) (Err (OutputBroken k)) → BrokenOff l g s (GainedWithin most nothing_before (held old) (held bytes) (Err (OutputBroken k))) k t → ⊥
-  not_broken most l g s out zero t ends fits full sinks cut =
+  not_broken : (most : Option ℕ) (l : Limits) (g : Setting) (s : State) (out cut_off : List (ℕ × ℕ)) (k t : ℕ) → Ends g s out → length out ≤ ample_room → (0 < failed → ample_room ≤ length bytes) →
+      SinksAtEnd most (failures was) (failures failed) (Err (OutputBroken k)) → GainedWithin most nothing_before (held old) (held bytes) (Err (OutputBroken k)) cut_off → BrokenOff l g s cut_off k t → ⊥
+  not_broken most l g s out cut_off zero t ends fits full sinks gains cut =
       let rose : Rose was failed = sinks.0.0 in
       let filled = full (omega (arith, rose)) in
-      let is = ap length (holds_part most (OutputBroken 0) (take cut.b (written g s (suc t))) cut.sinks) in
-      let few = part_no_longer 0 (take cut.b (written g s (suc t))) in
+      let is = ap length (holds_part most (OutputBroken 0) cut_off gains) in
+      let few = part_no_longer 0 cut_off in
+      let wrote = ap length cut.wrote in
       let short = longest_prefix (written g s (suc t)) cut.b in
       let due = slice_get_within (written g s (suc t)) cut.b (0, cut.byte) cut.due in
       let all = no_more_than g s out (suc t) ends in
-      omega (arith, filled, is, few, short, due, all, fits)
-  not_broken most l g s out (suc k) t ends fits full sinks cut = let rose : Rose 0 0 = rw (is_not_zero k) at sinks.0.0 in omega (arith, rose)
+      omega (arith, filled, is, few, wrote, short, due, all, fits)
+  not_broken most l g s out cut_off (suc k) t ends fits full sinks gains cut = let rose : Rose 0 0 = rw (is_not_zero k) at sinks.0.0 in omega (arith, rose)
 
-no_device : (l : Limits) (g : Setting) (s : State) (old bytes : List ℕ) (was failed : ℕ) (out : List (ℕ × ℕ)) (end : Ended) (t : ℕ) → old ≡ [] → l.output ≡ None → Ends g s out → length out ≤ ample_room → (0 < failed → ample_room ≤ length bytes) →
-    SourceAtEnd 0 0 end → SinksAtEnd l.output (failures was) (failures failed) (Err end) → Cause l g s (GainedWithin l.output nothing_before (held old) (held bytes) (Err end)) end t → NoDevice end
-no_device l g s old bytes was failed out Done t nothing free ends fits full source sinks cause = tt
-no_device l g s old bytes was failed out (PatternFull n) t nothing free ends fits full source sinks cause = tt
-no_device l g s old bytes was failed out (HoldFull n) t nothing free ends fits full source sinks cause = tt
-no_device l g s old bytes was failed out (QueueFull n) t nothing free ends fits full source sinks cause = tt
-no_device l g s old bytes was failed out TurnsSpent t nothing free ends fits full source sinks cause = tt
-no_device l g s old bytes was failed out (NoPrevious n) t nothing free ends fits full source sinks cause = tt
-no_device l g s old bytes was failed out InputBroken t nothing free ends fits full source sinks cause = let rose : Rose 0 0 = source in absurd (omega (arith, rose))
-no_device l g s old bytes was failed out (OutputBroken k) t nothing free ends fits full source sinks cause = absurd (not_broken old bytes was failed nothing l.output l g s out k t ends fits full sinks cause)
-no_device l g s old bytes was failed out (OutputFull k) t nothing free ends fits full source sinks cause = absurd (sinks.1 free)
+no_device : (l : Limits) (g : Setting) (s : State) (old bytes : List ℕ) (was failed : ℕ) (out gained : List (ℕ × ℕ)) (end : Ended) (t : ℕ) → old ≡ [] → l.output ≡ None → Ends g s out → length out ≤ ample_room → (0 < failed → ample_room ≤ length bytes) →
+    SourceAtEnd 0 0 end → SinksAtEnd l.output (failures was) (failures failed) (Err end) → GainedWithin l.output nothing_before (held old) (held bytes) (Err end) gained → Cause l g s gained end t → NoDevice end
+no_device l g s old bytes was failed out gained Done t nothing free ends fits full source sinks gains cause = tt
+no_device l g s old bytes was failed out gained (PatternFull n) t nothing free ends fits full source sinks gains cause = tt
+no_device l g s old bytes was failed out gained (HoldFull n) t nothing free ends fits full source sinks gains cause = tt
+no_device l g s old bytes was failed out gained (QueueFull n) t nothing free ends fits full source sinks gains cause = tt
+no_device l g s old bytes was failed out gained TurnsSpent t nothing free ends fits full source sinks gains cause = tt
+no_device l g s old bytes was failed out gained (NoPrevious n) t nothing free ends fits full source sinks gains cause = tt
+no_device l g s old bytes was failed out gained InputBroken t nothing free ends fits full source sinks gains cause = let rose : Rose 0 0 = source in absurd (omega (arith, rose))
+no_device l g s old bytes was failed out gained (OutputBroken k) t nothing free ends fits full source sinks gains cause = absurd (not_broken old bytes was failed nothing l.output l g s out gained k t ends fits full sinks gains cause)
+no_device l g s old bytes was failed out gained (OutputFull k) t nothing free ends fits full source sinks gains cause = absurd (sinks.1 free)
 
 -- ---- the whole edit
 
@@ -120,13 +121,13 @@ no_files one p m = let same = (one (codes "1!G;h;$!d") Basic 65536 p turned_prog
 
 pub whole_edit : OneMeaning → (l : Limits) (p : Program) (input old bytes : List ℕ) (was failed : ℕ) (end : Ended) (before left : Option (List ℕ)) → Means (codes "1!G;h;$!d") Basic 65536 p → IsAmple l → length input < ample_room → old ≡ [] →
     (0 < failed → ample_room ≤ length bytes) → SourceAtEnd 0 0 end → SinksAtEnd l.output (failures was) (failures failed) (Err end) →
-    Edits l (setting_of p (λ k. [])) (start_over p input) (GainedWithin l.output nothing_before (held old) (held bytes) (Err end)) before left end → (end ≡ Done) × (bytes ≡ text_of (reverse (lines input)))
-whole_edit one l p input old bytes was failed end before left m is small nothing full source sinks edits =
+    (out : List (ℕ × ℕ)) × GainedWithin l.output nothing_before (held old) (held bytes) (Err end) out × Edits l (setting_of p (λ k. [])) (start_over p input) out before left end → (end ≡ Done) × (bytes ≡ text_of (reverse (lines input)))
+whole_edit one l p input old bytes was failed end before left m is small nothing full source sinks (out, gains, edits) =
     let text : List ℕ = text_of (reverse (lines input)) in
     let ends : Ends (setting_of p (λ k. [])) (start_over p input) (to_sink 0 text) = (turned_law one input).runs p (λ k. []) m in
     let size = size_of_lines input in
     let fits : length (to_sink 0 text) ≤ ample_room = omega (arith, sink_length 0 text, text_length (reverse (lines input)), size_turned (lines input), size, small) in
-    let free = no_device l (setting_of p (λ k. [])) (start_over p input) old bytes was failed (to_sink 0 text) end edits.t nothing is.output ends fits full source sinks edits.cause in
-    let done = turned_ends one l p (λ k. []) input (GainedWithin l.output nothing_before (held old) (held bytes) (Err end)) end edits.t m
+    let free = no_device l (setting_of p (λ k. [])) (start_over p input) old bytes was failed (to_sink 0 text) out end edits.t nothing is.output ends fits full source sinks gains edits.cause in
+    let done = turned_ends one l p (λ k. []) input out end edits.t m
     (record { space = omega (arith, small, is.space); turns_left = omega (arith, small, is.turns) }) free edits.cause in
-    (done.0, holds_part old bytes was failed nothing l.output end (to_sink 0 text) done.1 ∙ part-same 0 text)
+    (done.0, holds_part old bytes was failed nothing l.output end out gains ∙ ap (part 0) done.1 ∙ part-same 0 text)

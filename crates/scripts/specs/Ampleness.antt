@@ -25,8 +25,10 @@ pub record ComesTo (l : Limits) (text input : List ℕ) (old new : ℕ → Optio
   pub files : ℕ → List ℕ
   pub means : Means text Basic 65536 program
   pub before : ℕ → ℕ
+  pub out : List (ℕ × ℕ)
+  pub gains : GainedWithin l.output before old new (Err end) out
   pub t : ℕ
-  pub cause : Cause l (setting_of program files) (start_over program input) (GainedWithin l.output before old new (Err end)) end t
+  pub cause : Cause l (setting_of program files) (start_over program input) out end t
   pub free : NoDevice end
 
 -- a space holds all of the input, and there are so many turns for each byte of it, and some more

@@ -1,22 +1,15 @@
 -- What a script makes of an input, from the bytes of both (XCU sed, Extended Description).
-use Rattle.std.specs.Prelude.{◌≡◌, ℕ, Bool, ◌||◌, List, [], ◌∷◌, ◌++◌}
+use Rattle.std.specs.Prelude.{ℕ, Bool, ◌||◌, List, [], ◌∷◌, ◌++◌}
 use Rattle.sedre.specs.declared.types.Kind.TheVariants.{Basic}
 use Rattle.sedscript.specs.Script.{Means}
 use Rattle.sedscript.specs.Program.{Program}
-use Rattle.sedspace.specs.Lines.{lines}
-use Rattle.sedengine.specs.State.{State, Setting}
-use Rattle.sedengine.specs.Move.{newline, after, start, to_sink, written}
+use Rattle.sedengine.specs.Move.{newline, to_sink}
 use Rattle.sedengine.specs.ScriptSetting.{setting_of}
+use Rattle.sededit.specs.Editing.{Ends, start_over}
 
--- a run from a state comes to its end, and has written these bytes, each to its sink
-pub record Ends (g : Setting) (s : State) (out : List (ℕ × ℕ)) : Type 0 where
-  pub moves : ℕ
-  pub ended : (after g s moves).tasks ≡ []
-  pub wrote : written g s moves ≡ out
-
--- a run of this script over the lines of these bytes does so
+-- a run of this script over the lines of these bytes comes to its end, and has written these, each to its sink
 abbrev pub RunsTo : Program → (ℕ → List ℕ) → (input : List ℕ) → (out : List (ℕ × ℕ)) → Type 0
-RunsTo p files input out = Ends (setting_of p files) (start p.commands (lines input)) out
+RunsTo p files input out = Ends (setting_of p files) (start_over p input) out
 
 -- a script with the option -n, where that is given
 abbrev pub with_option : Bool → Program → Program

@@ -14,8 +14,7 @@ use Rattle.sedengine.specs.Run.{RunState, Ending, Input, Sends, at_lines, settin
 use Rattle.sedengine.specs.ScriptSetting.{setting_of}
 use Rattle.sedengine.specs.declared.ends.Ended.{Ended}
 use Rattle.sedengine.specs.declared.ends.Ended.TheVariants.{Done, OutputFull}
-use Rattle.sedengine.proofs.Metering.{Cause-as}
-use Rattle.sededit.specs.Editing.{Edits, GainsAll, GainsBeginning, nothing_before, start_over}
+use Rattle.sededit.specs.Editing.{Begins, Edits, Ends, nothing_before, start_over}
 use Rattle.sededit.specs.Ahead.{LeavesAhead}
 
 -- an engine that was opened
@@ -46,22 +45,26 @@ from_start l p e' old new r out h = record {
 
 -- a run of an opened engine over all lines is an edit
 pub Edits-run : (l : Limits) (p : Program) (files : ℕ → List ℕ) (e e' : RunState) (x : List ℕ) (sinks sinks' : ℕ → Option (List ℕ)) (old new : Option (List ℕ)) (before after : Input) (now : State) (end : Ended) →
-    e ≡ opened l p → before.source ≡ old → before.all ≡ old → after.source ≡ new → Ending e.limits (setting e files) (at_lines e (lines x)) (Sends e e' sinks sinks' (Err end)) before after now end →
-    Edits l (setting_of p files) (start_over p x) (GainedWithin l.output nothing_before sinks sinks' (Err end)) old new end
-Edits-run l p files e e' x sinks sinks' old new before after now end is same_old none_ahead same_new h =
-    let h' = rw is at h in
-    record {
-      t = h'.t;
-      cause = Cause-as l _ _ _ _ end h'.t (from_start l p e' sinks sinks' (Err end)) h'.cause;
-      takes = (let input = h'.takes.input in rw (same_old, same_new) at input);
-      broken = λ is. (let part = h'.broken is in rw (none_ahead, same_new) at part);
-    }
+    e ≡ opened l p → before.source ≡ old → before.all ≡ old → after.source ≡ new → (out : List (ℕ × ℕ)) × Sends e e' sinks sinks' (Err end) out × Ending e.limits (setting e files) (at_lines e (lines x)) out before after now end →
+    (out : List (ℕ × ℕ)) × GainedWithin l.output nothing_before sinks sinks' (Err end) out × Edits l (setting_of p files) (start_over p x) out old new end
+Edits-run l p files e e' x sinks sinks' old new before after now end is same_old none_ahead same_new (out, sent, h) =
+    let sent' = rw is at sent in
+    let h' = rw is at h in (
+      out,
+      from_start l p e' sinks sinks' (Err end) out sent',
+      record {
+        t = h'.t;
+        cause = h'.cause;
+        takes = (let input = h'.takes.input in rw (same_old, same_new) at input);
+        broken = λ is. (let part = h'.broken is in rw (none_ahead, same_new) at part);
+      },
+    )
 
 -- what it left ahead
-pub Leaves-run : (l : Limits) (p : Program) (files : ℕ → List ℕ) (e e' : RunState) (x : List ℕ) (sinks sinks' : ℕ → Option (List ℕ)) (old new : Option (List ℕ)) (before after : Input) (now : State) (end : Ended) (bytes : List ℕ) (count : ℕ) →
-    e ≡ opened l p → before.all ≡ old → after.source ≡ new → after.all ≡ prepend_known bytes after.source → count ≡ length bytes → Ending e.limits (setting e files) (at_lines e (lines x)) (Sends e e' sinks sinks' (Err end)) before after now end →
+pub Leaves-run : (l : Limits) (p : Program) (files : ℕ → List ℕ) (e : RunState) (x : List ℕ) (out : List (ℕ × ℕ)) (old new : Option (List ℕ)) (before after : Input) (now : State) (end : Ended) (bytes : List ℕ) (count : ℕ) →
+    e ≡ opened l p → before.all ≡ old → after.source ≡ new → after.all ≡ prepend_known bytes after.source → count ≡ length bytes → Ending e.limits (setting e files) (at_lines e (lines x)) out before after now end →
     LeavesAhead l (setting_of p files) (start_over p x) old new count end
-Leaves-run l p files e e' x sinks sinks' old new before after now end bytes count is none_ahead same_new is_ahead counted h =
+Leaves-run l p files e x out old new before after now end bytes count is none_ahead same_new is_ahead counted h =
     let h' = rw is at h in
     record {
       t = h'.t;
@@ -73,13 +76,11 @@ Leaves-run l p files e e' x sinks sinks' old new before after now end bytes coun
       gone = (let part = h'.takes.all in rw (none_ahead, is_ahead, same_new) at part);
     }
 
--- what the sinks gained is a beginning of what is written
-pub Gains-beginning : (l : Limits) (g : Setting) (s : State) (gained : List (ℕ × ℕ) → Type 0) (end : Ended) (t : ℕ) (k : Option ℕ) →
-    WholeOrBrokenOff l g s gained end t k → GainsBeginning g s gained
-Gains-beginning l g s gained end t None w = (t, length (written g s t), rw take-length w.sinks)
-Gains-beginning l g s gained end t (Some k) w = (suc t, w.b, w.sinks)
+-- the output at an end is a beginning of what is written
+pub Begins-at : (l : Limits) (g : Setting) (s : State) (out : List (ℕ × ℕ)) (end : Ended) (t : ℕ) (k : Option ℕ) → WholeOrBrokenOff l g s out end t k → Begins g s out
+Begins-at l g s out end t None w = (t, length (written g s t), rw take-length w.wrote)
+Begins-at l g s out end t (Some k) w = (suc t, w.b, w.wrote)
 
 -- at the ordinary end the whole
-pub Gains-all : (l : Limits) (g : Setting) (s : State) (gained : List (ℕ × ℕ) → Type 0) (old new : Option (List ℕ)) (end : Ended) →
-    end ≡ Done → Edits l g s gained old new end → GainsAll g s gained
-Gains-all l g s gained old new end is h = let w = rw is at h.cause in (h.t, w.cause, w.sinks)
+pub Ends-at : (l : Limits) (g : Setting) (s : State) (out : List (ℕ × ℕ)) (old new : Option (List ℕ)) (end : Ended) → end ≡ Done → Edits l g s out old new end → Ends g s out
+Ends-at l g s out old new end is h = let w = rw is at h.cause in record { moves = h.t; ended = w.cause; wrote = w.wrote }

@@ -3,31 +3,30 @@ use Rattle.std.proofs.Common.{◌≡◌, ◌∙◌, ◌≤◌, ◌⊎◌, inl, i
 use Rattle.sedspace.specs.Failures.{Rose}
 use Rattle.sedscript.specs.Program.{Program}
 use Rattle.sedengine.specs.Limits.{Limits}
-use Rattle.sedengine.specs.Devices.{FailedSink, Gained, SinksAtEnd, SourceAtEnd}
+use Rattle.sedengine.specs.Devices.{FailedSink, Gained, GainedWithin, SinksAtEnd, SourceAtEnd}
 use Rattle.sedengine.specs.declared.ends.Ended.{Ended}
 use Rattle.sedengine.specs.declared.ends.Ended.TheVariants.{Done, InputBroken, OutputBroken, OutputFull}
 use Rattle.sedengine.specs.TakenInput.{BreaksInLine}
 use Rattle.sedengine.specs.ScriptSetting.{setting_of}
-use Rattle.sedengine.proofs.Metering.{Cause-as}
 use Rattle.std.specs.Option.{option_map}
-use Rattle.sededit.specs.Editing.{start_over}
+use Rattle.sededit.specs.Editing.{nothing_before, start_over}
 use Rattle.sededit.specs.Joined.{joined}
 use Rattle.sededit.specs.Opening.{WereRefused}
 use Rattle.sededit.specs.ToldFiles.{KeepsFiles, contents}
-use Rattle.sededit.specs.Program.{GainsBy, DevicesAtEnd, SinkAtEnd, SinkFailed, StatusMeans, StopsEarly, WritesAll, WritesBeginning}
+use Rattle.sededit.specs.Program.{DevicesAtEnd, Observed, SinkAtEnd, SinkFailed, StatusMeans, StopsEarly, WritesAll, WritesBeginning}
 
 -- what sinks gained stands where they hold the same afterwards
 pub Gained-same : (old mid new : ℕ → Option (List ℕ)) (out : List (ℕ × ℕ)) → ((k : ℕ) → new k ≡ mid k) → Gained old mid out → Gained old new out
 Gained-same old mid new out same h = record { each = λ k. rw (same k) (h.each k) }
 
-pub GainsBy-same : (l : Limits) (old mid new : ℕ → Option (List ℕ)) (end : Ended) (out : List (ℕ × ℕ)) → ((k : ℕ) → new k ≡ mid k) → GainsBy l old mid end out → GainsBy l old new end out
-GainsBy-same l old mid new end out same h = record { gained = Gained-same old mid new out same h.gained; within = h.within; full = h.full }
+pub GainedWithin-same : (l : Limits) (old mid new : ℕ → Option (List ℕ)) (end : Ended) (out : List (ℕ × ℕ)) → ((k : ℕ) → new k ≡ mid k) → GainedWithin l.output nothing_before old mid (Err end) out → GainedWithin l.output nothing_before old new (Err end) out
+GainedWithin-same l old mid new end out same h = record { gained = Gained-same old mid new out same h.gained; within = h.within; full = h.full }
 
-pub WritesAll-same : (p : Program) (input : Option (List ℕ)) (texts : ℕ → Option (List ℕ)) (old mid new : ℕ → Option (List ℕ)) → ((k : ℕ) → new k ≡ mid k) → WritesAll p input texts (Gained old mid) → WritesAll p input texts (Gained old new)
-WritesAll-same p input texts old mid new same h = λ bytes known files told. let w = h bytes known files told in (w.0, w.1, Gained-same old mid new _ same w.2)
+pub WritesAll-same : (p : Program) (input : Option (List ℕ)) (texts : ℕ → Option (List ℕ)) (old mid new : ℕ → Option (List ℕ)) → ((k : ℕ) → new k ≡ mid k) → WritesAll p input texts old mid → WritesAll p input texts old new
+WritesAll-same p input texts old mid new same h = λ bytes known files told. let w = h bytes known files told in (w.0, Gained-same old mid new _ same w.1, w.2)
 
-pub WritesBeginning-same : (p : Program) (input : Option (List ℕ)) (texts : ℕ → Option (List ℕ)) (old mid new : ℕ → Option (List ℕ)) → ((k : ℕ) → new k ≡ mid k) → WritesBeginning p input texts (Gained old mid) → WritesBeginning p input texts (Gained old new)
-WritesBeginning-same p input texts old mid new same h = λ bytes known files told. let w = h bytes known files told in (w.0, w.1, Gained-same old mid new _ same w.2)
+pub WritesBeginning-same : (p : Program) (input : Option (List ℕ)) (texts : ℕ → Option (List ℕ)) (old mid new : ℕ → Option (List ℕ)) → ((k : ℕ) → new k ≡ mid k) → WritesBeginning p input texts old mid → WritesBeginning p input texts old new
+WritesBeginning-same p input texts old mid new same h = λ bytes known files told. let w = h bytes known files told in (w.0, Gained-same old mid new _ same w.1, w.2)
 
 Rose-more : (a b c : ℕ) → Rose a b → b ≤ c → Rose a c
 Rose-more a b c h more = omega (arith, h, more)
@@ -61,26 +60,32 @@ some_refused true old new is h = h
 some_refused false old new is h = absurd cc
 
 -- how a run stopped, said of the same input and numbers under other names
-module _ (l : Limits) (p : Program) (texts : ℕ → Option (List ℕ)) (by : Ended → List (ℕ × ℕ) → Type 0) (gained : List (ℕ × ℕ) → Type 0) (old new : ℕ → ℕ) (W : Type 0) (q r : Option (List ℕ) → Type 0) (gives : (more : Option (List ℕ)) → q more → r more) where
-  rest_as : (x : Option (List ℕ)) (a b : ℕ) → StopsEarly l p x q texts by (DevicesAtEnd l.output a b old new) → StopsEarly l p x r texts by (DevicesAtEnd l.output a b old new)
-  rest_as x a b h = (h.0, h.1, h.2, λ bytes known files told. let w = h.3 bytes known files told in (w.0, w.1, λ is. let m = w.2 is in (m.0, gives m.0 m.1, m.2)))
+module _ (l : Limits) (p : Program) (texts s0 s1 : ℕ → Option (List ℕ)) (n0 n1 : ℕ → ℕ) (q r : Option (List ℕ) → Type 0) (gives : (more : Option (List ℕ)) → q more → r more) where
+  -- what is observed before and after, with these numbers of refusals and of reads
+  abbrev before : ℕ → ℕ → Observed
+  before f a = record { refusals = f; reads = a; contents = s0; failures = n0 }
 
-  pub cause_moved : (x y : Option (List ℕ)) (a b a' b' : ℕ) → y ≡ x → a' ≡ a → b' ≡ b → StopsEarly l p x q texts by (DevicesAtEnd l.output a b old new) ⊎ (WritesAll p x texts gained × W × (b ≡ a)) →
-      StopsEarly l p y r texts by (DevicesAtEnd l.output a' b' old new) ⊎ (WritesAll p y texts gained × W × (b' ≡ a'))
-  cause_moved x y a b a' b' input before after (inl h) = inl (rw (input, before, after) (rest_as x a b h))
-  cause_moved x y a b a' b' input before after (inr h) = inr (rw (input, before, after) h)
+  abbrev now : ℕ → ℕ → Observed
+  now f b = record { refusals = f; reads = b; contents = s1; failures = n1 }
 
--- what a status says, of the same input and numbers under other names
-pub means_moved : (l : Limits) (p : Program) (texts s0 s1 : ℕ → Option (List ℕ)) (n0 n1 : ℕ → ℕ) (q r : Option (List ℕ) → Type 0) (gives : (more : Option (List ℕ)) → q more → r more) (status : ℕ) (x y : Option (List ℕ)) (f0 f1 a b f0' f1' a' b' : ℕ) →
-    y ≡ x → f0' ≡ f0 → f1' ≡ f1 → a' ≡ a → b' ≡ b →
-    StatusMeans l (record { refusals = f0; reads = a; contents = s0; failures = n0 }) (record { refusals = f1; reads = b; contents = s1; failures = n1 }) q status p x texts →
-    StatusMeans l (record { refusals = f0'; reads = a'; contents = s0; failures = n0 }) (record { refusals = f1'; reads = b'; contents = s1; failures = n1 }) r status p y texts
-means_moved l p texts s0 s1 n0 n1 q r gives status x y f0 f1 a b f0' f1' a' b' input refused refused' before after h = record {
-  whole = λ is. rw (input, refused, refused', before, after) (h.whole is);
-  missed = λ is. rw (input, refused, refused', before, after) (h.missed is);
-  stopped = λ is. rw input (h.stopped is);
-  cause = λ is. cause_moved l p texts (GainsBy l s0 s1) (Gained s0 s1) n0 n1 (SinkFailed n0 n1) q r gives x y a b a' b' input before after (h.cause is);
-}
+  rest_as : (x : Option (List ℕ)) (f0 f1 a b : ℕ) → StopsEarly l (before f0 a) (now f1 b) q p x texts → StopsEarly l (before f0 a) (now f1 b) r p x texts
+  rest_as x f0 f1 a b h =
+      (h.0, h.1, h.2, λ bytes known files told. let (out, gained, t, cause, breaks) = h.3 bytes known files told in (out, gained, t, cause, λ is. let m = breaks is in (m.0, gives m.0 m.1, m.2)))
+
+  cause_moved : (x y : Option (List ℕ)) (f0 f1 a b f0' f1' a' b' : ℕ) → y ≡ x → a' ≡ a → b' ≡ b → StopsEarly l (before f0 a) (now f1 b) q p x texts ⊎ (WritesAll p x texts s0 s1 × SinkFailed n0 n1 × (b ≡ a)) →
+      StopsEarly l (before f0' a') (now f1' b') r p y texts ⊎ (WritesAll p y texts s0 s1 × SinkFailed n0 n1 × (b' ≡ a'))
+  cause_moved x y f0 f1 a b f0' f1' a' b' input same same' (inl h) = inl (rw (input, same, same') (rest_as x f0 f1 a b h))
+  cause_moved x y f0 f1 a b f0' f1' a' b' input same same' (inr h) = inr (rw (input, same, same') h)
+
+  -- what a status says
+  pub means_moved : (status : ℕ) (x y : Option (List ℕ)) (f0 f1 a b f0' f1' a' b' : ℕ) → y ≡ x → f0' ≡ f0 → f1' ≡ f1 → a' ≡ a → b' ≡ b →
+      StatusMeans l (before f0 a) (now f1 b) q status p x texts → StatusMeans l (before f0' a') (now f1' b') r status p y texts
+  means_moved status x y f0 f1 a b f0' f1' a' b' input refused refused' same same' h = record {
+    whole = λ is. rw (input, refused, refused', same, same') (h.whole is);
+    missed = λ is. rw (input, refused, refused', same, same') (h.missed is);
+    stopped = λ is. rw input (h.stopped is);
+    cause = λ is. cause_moved x y f0 f1 a b f0' f1' a' b' input same same' (h.cause is);
+  }
 
 -- a run over what was made ready for it, said of how things stood before
 pub record Ready (files0 files1 : Option (List (Option (List ℕ)))) (texts0 texts1 sinks0 sinks1 : ℕ → Option (List ℕ)) : Type 0 where
@@ -99,50 +104,57 @@ Gained-from : (a b new : ℕ → Option (List ℕ)) (out : List (ℕ × ℕ)) �
 Gained-from a b new out same h = record { each = λ k. rw (← same k) (h.each k) }
 
 pub WritesAll-from : (p : Program) (f0 f1 : Option (List (Option (List ℕ)))) (t0 t1 s0 s1 new : ℕ → Option (List ℕ)) → Ready f0 f1 t0 t1 s0 s1 →
-    WritesAll p (all_joined f1) t1 (Gained s1 new) → WritesAll p (all_joined f0) t0 (Gained s0 new)
+    WritesAll p (all_joined f1) t1 s1 new → WritesAll p (all_joined f0) t0 s0 new
 WritesAll-from p f0 f1 t0 t1 s0 s1 new r h = λ bytes known files tells.
     let w = h bytes (told f0 f1 bytes r.kept known) files (λ k. r.same_texts k ∙ tells k) in
-    (w.0, w.1, Gained-from s0 s1 new _ r.same_sinks w.2)
+    (w.0, Gained-from s0 s1 new _ r.same_sinks w.1, w.2)
 
 pub WritesBeginning-from : (p : Program) (f0 f1 : Option (List (Option (List ℕ)))) (t0 t1 s0 s1 new : ℕ → Option (List ℕ)) → Ready f0 f1 t0 t1 s0 s1 →
-    WritesBeginning p (all_joined f1) t1 (Gained s1 new) → WritesBeginning p (all_joined f0) t0 (Gained s0 new)
+    WritesBeginning p (all_joined f1) t1 s1 new → WritesBeginning p (all_joined f0) t0 s0 new
 WritesBeginning-from p f0 f1 t0 t1 s0 s1 new r h = λ bytes known files tells.
     let w = h bytes (told f0 f1 bytes r.kept known) files (λ k. r.same_texts k ∙ tells k) in
-    (w.0, w.1, Gained-from s0 s1 new _ r.same_sinks w.2)
+    (w.0, Gained-from s0 s1 new _ r.same_sinks w.1, w.2)
 
-GainsBy-from : (l : Limits) (a b new : ℕ → Option (List ℕ)) (end : Ended) (out : List (ℕ × ℕ)) → ((k : ℕ) → b k ≡ a k) → GainsBy l b new end out → GainsBy l a new end out
-GainsBy-from l a b new end out same h = record { gained = Gained-from a b new out same h.gained; within = h.within; full = h.full }
+GainedWithin-from : (l : Limits) (a b new : ℕ → Option (List ℕ)) (end : Ended) (out : List (ℕ × ℕ)) → ((k : ℕ) → b k ≡ a k) → GainedWithin l.output nothing_before b new (Err end) out → GainedWithin l.output nothing_before a new (Err end) out
+GainedWithin-from l a b new end out same h = record { gained = Gained-from a b new out same h.gained; within = h.within; full = h.full }
 
 sink-from : (most : Option ℕ) (n0 n1 n : ℕ → ℕ) (end : Ended) → ((k : ℕ) → n1 k ≡ n0 k) → SinkAtEnd most n1 n end → SinkAtEnd most n0 n end
 sink-from most n0 n1 n (OutputBroken k) same h = rw (← same k) h
 sink-from most n0 n1 n (OutputFull k) same h = h
 sink-from most n0 n1 n _ same h = tt
 
-devices-from : (most : Option ℕ) (i0 i1 i : ℕ) (n0 n1 n : ℕ → ℕ) (end : Ended) → i1 ≡ i0 → ((k : ℕ) → n1 k ≡ n0 k) → DevicesAtEnd most i1 i n1 n end → DevicesAtEnd most i0 i n0 n end
-devices-from most i0 i1 i n0 n1 n end is same h = (subst (λ m. SourceAtEnd m i end) is h.0, sink-from most n0 n1 n end same h.1)
+-- what is observed before the run, before it was made ready, and after it
+module _ (l : Limits) (p : Program) (q : Option (List ℕ) → Type 0) (f0 f1 : Option (List (Option (List ℕ)))) (t0 t1 s0 s1 new : ℕ → Option (List ℕ)) (r0 r1 r i0 i1 i : ℕ) (n0 n1 n : ℕ → ℕ) (ready : Ready f0 f1 t0 t1 s0 s1) (refused : r1 ≡ r0) (read : i1 ≡ i0)
+    (same : (k : ℕ) → n1 k ≡ n0 k) where
+  abbrev first : Observed
+  first = record { refusals = r0; reads = i0; contents = s0; failures = n0 }
 
-pub cause-from : (l : Limits) (p : Program) (q : Option (List ℕ) → Type 0) (f0 f1 : Option (List (Option (List ℕ)))) (t0 t1 s0 s1 new : ℕ → Option (List ℕ)) (i0 i1 i : ℕ) (n0 n1 n : ℕ → ℕ) →
-    Ready f0 f1 t0 t1 s0 s1 → i1 ≡ i0 → ((k : ℕ) → n1 k ≡ n0 k) →
-    StopsEarly l p (all_joined f1) q t1 (GainsBy l s1 new) (DevicesAtEnd l.output i1 i n1 n) ⊎ (WritesAll p (all_joined f1) t1 (Gained s1 new) × SinkFailed n1 n × (i ≡ i1)) →
-    StopsEarly l p (all_joined f0) q t0 (GainsBy l s0 new) (DevicesAtEnd l.output i0 i n0 n) ⊎ (WritesAll p (all_joined f0) t0 (Gained s0 new) × SinkFailed n0 n × (i ≡ i0))
-cause-from l p q f0 f1 t0 t1 s0 s1 new i0 i1 i n0 n1 n r is same (inl h) = inl (
-  h.0,
-  h.1,
-  devices-from l.output i0 i1 i n0 n1 n h.0 is same h.2,
-  λ bytes known files tells.
-      let w = h.3 bytes (told f0 f1 bytes r.kept known) files (λ k. r.same_texts k ∙ tells k) in
-      let P : Option (List ℕ) → Type 0 = λ input. h.0 ≡ InputBroken → (more : Option (List ℕ)) × q more × BreaksInLine (setting_of p files) (start_over p bytes) input more l.space w.0 in
-      (w.0, Cause-as l _ _ _ _ h.0 w.0 (λ out sent. GainsBy-from l s0 s1 new h.0 out r.same_sinks sent) w.1, subst P (told f0 f1 bytes r.kept known ∙ sym known) w.2),
-)
-cause-from l p q f0 f1 t0 t1 s0 s1 new i0 i1 i n0 n1 n r is same (inr h) = inr (WritesAll-from p f0 f1 t0 t1 s0 s1 new r h.0, sink_failed n0 n1 n same h.1, h.2 ∙ is)
+  abbrev made : Observed
+  made = record { refusals = r1; reads = i1; contents = s1; failures = n1 }
 
-pub means-from : (l : Limits) (p : Program) (q : Option (List ℕ) → Type 0) (status : ℕ) (f0 f1 : Option (List (Option (List ℕ)))) (t0 t1 s0 s1 new : ℕ → Option (List ℕ)) (r0 r1 r i0 i1 i : ℕ) (n0 n1 n : ℕ → ℕ) →
-    Ready f0 f1 t0 t1 s0 s1 → r1 ≡ r0 → i1 ≡ i0 → ((k : ℕ) → n1 k ≡ n0 k) →
-    StatusMeans l (record { refusals = r1; reads = i1; contents = s1; failures = n1 }) (record { refusals = r; reads = i; contents = new; failures = n }) q status p (all_joined f1) t1 →
-    StatusMeans l (record { refusals = r0; reads = i0; contents = s0; failures = n0 }) (record { refusals = r; reads = i; contents = new; failures = n }) q status p (all_joined f0) t0
-means-from l p q status f0 f1 t0 t1 s0 s1 new r0 r1 r i0 i1 i n0 n1 n ready refused read same h = record {
-  whole = λ is. let w = h.whole is in (WritesAll-from p f0 f1 t0 t1 s0 s1 new ready w.0, w.1 ∙ refused, w.2 ∙ read);
-  missed = λ is. let w = h.missed is in (WritesAll-from p f0 f1 t0 t1 s0 s1 new ready w.0, rw (← refused) w.1, w.2 ∙ read);
-  stopped = λ is. WritesBeginning-from p f0 f1 t0 t1 s0 s1 new ready (h.stopped is);
-  cause = λ is. cause-from l p q f0 f1 t0 t1 s0 s1 new i0 i1 i n0 n1 n ready read same (h.cause is);
-}
+  abbrev last : Observed
+  last = record { refusals = r; reads = i; contents = new; failures = n }
+
+  devices-from : (end : Ended) → DevicesAtEnd l.output made last end → DevicesAtEnd l.output first last end
+  devices-from end h = (subst (λ m. SourceAtEnd m i end) read h.0, sink-from l.output n0 n1 n end same h.1)
+
+  cause-from : StopsEarly l made last q p (all_joined f1) t1 ⊎ (WritesAll p (all_joined f1) t1 s1 new × SinkFailed n1 n × (i ≡ i1)) →
+      StopsEarly l first last q p (all_joined f0) t0 ⊎ (WritesAll p (all_joined f0) t0 s0 new × SinkFailed n0 n × (i ≡ i0))
+  cause-from (inl h) = inl (
+    h.0,
+    h.1,
+    devices-from h.0 h.2,
+    λ bytes known files tells.
+        let (out, gained, t, cause, breaks) = h.3 bytes (told f0 f1 bytes ready.kept known) files (λ k. ready.same_texts k ∙ tells k) in
+        let P : Option (List ℕ) → Type 0 = λ input. h.0 ≡ InputBroken → (more : Option (List ℕ)) × q more × BreaksInLine (setting_of p files) (start_over p bytes) input more l.space t in
+        (out, GainedWithin-from l s0 s1 new h.0 out ready.same_sinks gained, t, cause, subst P (told f0 f1 bytes ready.kept known ∙ sym known) breaks),
+  )
+  cause-from (inr h) = inr (WritesAll-from p f0 f1 t0 t1 s0 s1 new ready h.0, sink_failed n0 n1 n same h.1, h.2 ∙ read)
+
+  pub means-from : (status : ℕ) → StatusMeans l made last q status p (all_joined f1) t1 → StatusMeans l first last q status p (all_joined f0) t0
+  means-from status h = record {
+    whole = λ is. let w = h.whole is in (WritesAll-from p f0 f1 t0 t1 s0 s1 new ready w.0, w.1 ∙ refused, w.2 ∙ read);
+    missed = λ is. let w = h.missed is in (WritesAll-from p f0 f1 t0 t1 s0 s1 new ready w.0, rw (← refused) w.1, w.2 ∙ read);
+    stopped = λ is. WritesBeginning-from p f0 f1 t0 t1 s0 s1 new ready (h.stopped is);
+    cause = λ is. cause-from (h.cause is);
+  }

@@ -19,7 +19,7 @@ use Rattle.sedengine.specs.ScriptSetting.{TellsFiles, setting_of}
 use Rattle.sedengine.specs.declared.ends.Ended.{Ended}
 use Rattle.sedengine.specs.declared.ends.Ended.TheVariants.{Done, InputBroken, OutputBroken, OutputFull}
 use Rattle.sededit.specs.CommandLine.{Given, IsCommandLine, IsLine, file, given, sed_command, text}
-use Rattle.sededit.specs.Editing.{GainsAll, GainsBeginning, nothing_before, start_over}
+use Rattle.sededit.specs.Editing.{Begins, Ends, nothing_before, start_over}
 use Rattle.sededit.specs.Joined.{joined}
 use Rattle.sededit.specs.ToldFiles.{dash, GivesWhole, contents}
 use Rattle.sededit.specs.declared.asked.Line.{Line}
@@ -78,43 +78,22 @@ Runs scripts ahead named others nodes words created P =
     IsCommandLine words
     × ((l : Line) × IsLine (matches_of sed_command words) l × RunsLine scripts ahead named others nodes l created P)
 
--- The sinks have gained all that a script writes over an input, where it and the texts are told.
-abbrev pub WritesAll : Program → Option (List ℕ) → (ℕ → Option (List ℕ)) → (List (ℕ × ℕ) → Type 0) → Type 0
-WritesAll p input texts gained = ForSome input (λ bytes.
-    (files : ℕ → List ℕ) → TellsFiles texts files → GainsAll (setting_of p files) (start_over p bytes) gained)
+-- The sinks, which held the old contents and hold the new ones, have gained all that a script writes over an input, where it
+-- and the texts are told.
+abbrev pub WritesAll : Program → Option (List ℕ) → (ℕ → Option (List ℕ)) → (old new : ℕ → Option (List ℕ)) → Type 0
+WritesAll p input texts old new = ForSome input (λ bytes. (files : ℕ → List ℕ) → TellsFiles texts files →
+    (out : List (ℕ × ℕ)) × Gained old new out × Ends (setting_of p files) (start_over p bytes) out)
 
--- The sinks have gained a beginning of what a script writes over an input, where it and the texts are told.
-abbrev pub WritesBeginning : Program → Option (List ℕ) → (ℕ → Option (List ℕ)) → (List (ℕ × ℕ) → Type 0) → Type 0
-WritesBeginning p input texts gained = ForSome input (λ bytes.
-    (files : ℕ → List ℕ) → TellsFiles texts files → GainsBeginning (setting_of p files) (start_over p bytes) gained)
+-- They have gained a beginning of it.
+abbrev pub WritesBeginning : Program → Option (List ℕ) → (ℕ → Option (List ℕ)) → (old new : ℕ → Option (List ℕ)) → Type 0
+WritesBeginning p input texts old new = ForSome input (λ bytes. (files : ℕ → List ℕ) → TellsFiles texts files →
+    (out : List (ℕ × ℕ)) × Gained old new out × Begins (setting_of p files) (start_over p bytes) out)
 
 -- A sink that an end names as broken has failed, and one is named as full only where there is a limit on the output.
 abbrev pub SinkAtEnd : Option ℕ → (ℕ → ℕ) → (ℕ → ℕ) → Ended → Type 0
 SinkAtEnd most old new (OutputBroken k) = Rose (old k) (new k)
 SinkAtEnd most old new (OutputFull k) = most ≢ None
 SinkAtEnd most old new other = Unit {0}
-
--- What an end says of the devices, whether they tell their bytes or not, by the numbers of failures that the input and
--- each sink had before and have after: the one that it names has failed, and the input at no other end.
-abbrev pub DevicesAtEnd : Option ℕ → ℕ → ℕ → (ℕ → ℕ) → (ℕ → ℕ) → Ended → Type 0
-DevicesAtEnd most input_old input_new sinks_old sinks_new end =
-    SourceAtEnd input_old input_new end × SinkAtEnd most sinks_old sinks_new end
-
--- what the sinks gained in a run that came to an end, within the limit on the output, where there is one
-abbrev pub GainsBy : Limits → (old new : ℕ → Option (List ℕ)) → Ended → List (ℕ × ℕ) → Type 0
-GainsBy limits old new end = GainedWithin limits.output nothing_before old new (Err end)
-
--- The run of a script came to another end than the ordinary one, and what that says of the devices holds; and where the
--- input and the texts are told, the end has its cause, after some moves, and no whole line is lost where the input failed.
--- `rest` says what the input has still to give, and `gained` what the sinks gained at an end.
-abbrev pub StopsEarly : Limits → Program → Option (List ℕ) → (Option (List ℕ) → Type 0) → (ℕ → Option (List ℕ)) →
-    (Ended → List (ℕ × ℕ) → Type 0) → (Ended → Type 0) → Type 0
-StopsEarly limits p input rest texts gained devices =
-    (end : Ended) × (end ≢ Done) × devices end × ForSome input (λ bytes.
-    (files : ℕ → List ℕ) → TellsFiles texts files →
-    ((t : ℕ) × Cause limits (setting_of p files) (start_over p bytes) (gained end) end t
-    × (end ≡ InputBroken → (more : Option (List ℕ)) × rest more
-    × BreaksInLine (setting_of p files) (start_over p bytes) input more limits.space t)))
 
 -- some sink has failed in this call
 abbrev pub SinkFailed : (ℕ → ℕ) → (ℕ → ℕ) → Type 0
@@ -133,24 +112,41 @@ abbrev pub observe : {I O : Type 0} → (refusals reads : I → ℕ) → (O → 
 observe refusals reads contents failures inputs sinks =
     record { refusals = refusals inputs; reads = reads inputs; contents = contents sinks; failures = failures sinks }
 
+-- What an end says of the devices, whether they tell their bytes or not: the one that it names has failed, and the input at no
+-- other end.
+abbrev pub DevicesAtEnd : Option ℕ → (old new : Observed) → Ended → Type 0
+DevicesAtEnd most old new end = SourceAtEnd old.reads new.reads end × SinkAtEnd most old.failures new.failures end
+
+-- The run of a script came to another end than the ordinary one, and what that says of the devices holds; and where the
+-- input and the texts are told, the end has its cause, after some moves, with what the sinks gained as its output, within the
+-- limit, and no whole line is lost where the input failed. `rest` says what the input has still to give.
+abbrev pub StopsEarly : Limits → (old new : Observed) → (Option (List ℕ) → Type 0) → Program → Option (List ℕ) →
+    (ℕ → Option (List ℕ)) → Type 0
+StopsEarly limits old new rest p input texts =
+    (end : Ended) × (end ≢ Done) × DevicesAtEnd limits.output old new end × ForSome input (λ bytes.
+    (files : ℕ → List ℕ) → TellsFiles texts files →
+    (out : List (ℕ × ℕ)) × GainedWithin limits.output nothing_before old.contents new.contents (Err end) out
+    × (t : ℕ) × Cause limits (setting_of p files) (start_over p bytes) out end t
+    × (end ≡ InputBroken → (more : Option (List ℕ)) × rest more
+    × BreaksInLine (setting_of p files) (start_over p bytes) input more limits.space t))
+
 -- What the exit status of a run of a script says (XCU sed, "Exit Status"; which number above 0 is this project's own), by what
 -- is observed before the run and after it; `rest` says what the input has still to give.
 pub record StatusMeans (limits : Limits) (old new : Observed) (rest : Option (List ℕ) → Type 0) (status : ℕ)
     (p : Program) (input : Option (List ℕ)) (texts : ℕ → Option (List ℕ)) : Type 0 where
   -- 0: all was written that the script writes, no input file was missed, and no read of the input failed
-  pub whole : status ≡ 0 → WritesAll p input texts (Gained old.contents new.contents)
+  pub whole : status ≡ 0 → WritesAll p input texts old.contents new.contents
       × (new.refusals ≡ old.refusals) × (new.reads ≡ old.reads)
   -- 2: all was written, no read of the input failed, and an input file couldn't be opened
-  pub missed : status ≡ 2 → WritesAll p input texts (Gained old.contents new.contents)
+  pub missed : status ≡ 2 → WritesAll p input texts old.contents new.contents
       × Rose old.refusals new.refusals × (new.reads ≡ old.reads)
   -- 4: a beginning was written,
-  pub stopped : status ≡ 4 → WritesBeginning p input texts (Gained old.contents new.contents)
+  pub stopped : status ≡ 4 → WritesBeginning p input texts old.contents new.contents
   -- and the run stopped for a cause, within the limits, and a device that this cause names has failed in this call, the input
   -- for no other cause, and then no whole line is lost; or all was written, no read of the input failed, and some sink did
   -- when it was flushed
-  pub cause : status ≡ 4 → StopsEarly limits p input rest texts (GainsBy limits old.contents new.contents)
-      (DevicesAtEnd limits.output old.reads new.reads old.failures new.failures)
-      ⊎ (WritesAll p input texts (Gained old.contents new.contents)
+  pub cause : status ≡ 4 → StopsEarly limits old new rest p input texts
+      ⊎ (WritesAll p input texts old.contents new.contents
       × SinkFailed old.failures new.failures × (new.reads ≡ old.reads))
 
 -- clap doesn't take the words, since they ask for help (this project's own)
@@ -158,12 +154,12 @@ abbrev pub AsksHelp : List Text → Type 0
 AsksHelp words = (takes sed_command words ≡ false) × IsAmong DisplayHelp (fault_of sed_command words)
 
 -- the sinks have gained a text, all of it for sink 0 (this project's own). Which text help is, clap alone says
-abbrev pub WritesHelp : (List (ℕ × ℕ) → Type 0) → Type 0
-WritesHelp gained = (text : List ℕ) × gained (to_sink 0 text)
+abbrev pub WritesHelp : (old new : ℕ → Option (List ℕ)) → Type 0
+WritesHelp old new = (text : List ℕ) × Gained old new (to_sink 0 text)
 
--- What the exit status says where help was asked for, by what the sinks gained and how often each had failed: it is 0 or 4, a
--- text was written, for sink 0 alone, and at 4 a sink has failed (this project's own).
-pub record HelpMeans (gained : List (ℕ × ℕ) → Type 0) (failures_old failures_new : ℕ → ℕ) (status : ℕ) : Type 0 where
+-- What the exit status says where help was asked for, by what each sink held and how often it had failed: it is 0 or 4, a text
+-- was written, for sink 0 alone, and at 4 a sink has failed (this project's own).
+pub record HelpMeans (old new : ℕ → Option (List ℕ)) (failures_old failures_new : ℕ → ℕ) (status : ℕ) : Type 0 where
   pub either : (status ≡ 0) ⊎ (status ≡ 4)
-  pub help : WritesHelp gained
+  pub help : WritesHelp old new
   pub failed : status ≡ 4 → SinkFailed failures_old failures_new

@@ -68,7 +68,7 @@ pub fn command<S: AsStr, I: Inputs, O: Sinks, N: Names, E: Write>(
         (observe I.refusals I.failures O.contents O.failures inputs.new sinks.new)
         (StillGives I.current I.ahead inputs.new) result)
         ⊎ (AsksHelp (map S.text words.now)
-        × HelpMeans (Gained (O.contents sinks.old) (O.contents sinks.new)) (O.failures sinks.old) (O.failures sinks.new) result
+        × HelpMeans (O.contents sinks.old) (O.contents sinks.new) (O.failures sinks.old) (O.failures sinks.new) result
         × (O.names sinks.new ≡ O.names sinks.old) × (inputs.new ≡ inputs.old)) }
     // At every status but 4 no sink has failed, neither when it was flushed nor as help was written.
     ensures no_sink { result ≢ STOPPED → (k : ℕ) → O.failures sinks.new k ≡ O.failures sinks.old k }
@@ -169,7 +169,7 @@ fn answer_words<O: Sinks, E: Write>(
     requires { 0 < O.count sinks.old }
     ensures status { (result ≡ SUCCESS) ⊎ ((result ≡ REFUSED) ⊎ (result ≡ STOPPED)) }
     ensures asked { result ≢ REFUSED → kind_of error.now ≡ ErrorKind.DisplayHelp }
-    ensures means { result ≢ REFUSED → HelpMeans (Gained (O.contents sinks.old) (O.contents sinks.new))
+    ensures means { result ≢ REFUSED → HelpMeans (O.contents sinks.old) (O.contents sinks.new)
         (O.failures sinks.old) (O.failures sinks.new) result }
     ensures names { O.names sinks.new ≡ O.names sinks.old }
     ensures refused { result ≡ REFUSED → sinks.new ≡ sinks.old }

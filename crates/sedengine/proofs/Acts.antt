@@ -13,7 +13,7 @@ use Rattle.sedengine.specs.State.{Entry, Task, do_at, State, Move, Setting}
 use Rattle.sedengine.specs.Select.{Selection, selects}
 use Rattle.sedengine.specs.Move.{move, reach, performs, acts, passes, writing, quietly, queueing, then_do, none_left, in_table, is_active, tells_at}
 use Rattle.sedengine.specs.Ends.{WithinLimits, reaches, reads, asks_last, is_next, names_last}
-use Rattle.sedengine.specs.Meters.{Sent, SinkView}
+use Rattle.sedengine.specs.Meters.{SinkView}
 use Rattle.sedengine.specs.Calls.{Puts}
 use Rattle.sedengine.specs.Run.{RunState, at_lines, setting}
 use Rattle.sedengine.specs.Choose.{Judges, as_selection, reached_with, current}
@@ -30,9 +30,9 @@ use Rattle.sedengine.proofs.NextLines.{looked_moves, looked_then, none_taken}
 use Rattle.sedengine.proofs.Tasks.{fits_of, halts_here, reach_spent, steps_by_moves}
 
 -- what a command that takes no line does leaves the lines
-pub acts_here : {R : Type 0} (remaining : R → Option (List ℕ)) (old : Stream R) (ls : List (List ℕ)) (l : Limits) (g : Setting) (o : Option Move) (asks : Bool) (e e' : RunState) (P : List (ℕ × ℕ) → Type 0) (r : Result Unit Ended) → lines_left remaining old ≡ Some ls →
-    Performs l g o (at_lines e ls) (at_lines e' ls) P r → PerformsSteps remaining old old ls l g o asks (at_lines e ls) e' P r
-acts_here {R} remaining old ls l g o asks e e' P r known h = λ s c asked first. looked_moves remaining old old ls l g s e' P r (lines_same remaining old ls known) c.lines (h s c first)
+pub acts_here : {R : Type 0} (remaining : R → Option (List ℕ)) (old : Stream R) (ls : List (List ℕ)) (l : Limits) (g : Setting) (o : Option Move) (asks : Bool) (e e' : RunState) (sinks sinks' : SinkView) (r : Result Unit Ended) → lines_left remaining old ≡ Some ls →
+    Performs l g o (at_lines e ls) (at_lines e' ls) sinks sinks' r → PerformsSteps remaining old old ls l g o asks (at_lines e ls) e' sinks sinks' r
+acts_here {R} remaining old ls l g o asks e e' sinks sinks' r known h = λ s c asked first. looked_moves remaining old old ls l g s e' sinks sinks' r (lines_same remaining old ls known) c.lines (h s c first)
 
 -- the engine that goes on with these tasks
 abbrev pub going : RunState → List Task → RunState
@@ -49,51 +49,51 @@ translated e table = record e { state = record e.state { pattern = map (in_table
 -- A command of an engine within its limits.
 module _ (e : RunState) (ls : List (List ℕ)) (fits : WithinLimits e.limits (at_lines e ls)) (g : Setting) (old new : SinkView) (o : Option Move) where
   -- one that writes alone
-  pub acts_writing : (out : List (ℕ × ℕ)) (r : Result Unit Ended) → o ≡ writing out (at_lines e ls) → Puts (Sent old new) out r → Performs e.limits g o (at_lines e ls) (at_lines e ls) (Sent old new) r
+  pub acts_writing : (out : List (ℕ × ℕ)) (r : Result Unit Ended) → o ≡ writing out (at_lines e ls) → Puts old new out r → Performs e.limits g o (at_lines e ls) (at_lines e ls) old new r
   acts_writing out r is put = λ s c first. moves_writing e.limits g s (at_lines e ls) old new out r c.fits (first ∙ is) fits c.lines put
 
   -- one that leads to another engine and writes nothing
-  pub acts_leading : (e' : RunState) → WithinLimits e.limits (at_lines e' ls) → o ≡ quietly (at_lines e' ls) → Performs e.limits g o (at_lines e ls) (at_lines e' ls) (Sent old old) (Ok tt)
+  pub acts_leading : (e' : RunState) → WithinLimits e.limits (at_lines e' ls) → o ≡ quietly (at_lines e' ls) → Performs e.limits g o (at_lines e ls) (at_lines e' ls) old old (Ok tt)
   acts_leading e' there is = λ s c first. ran_quietly e.limits g s (at_lines e' ls) old c.fits (first ∙ is) there
 
   -- one that does nothing
-  pub acts_nothing : o ≡ quietly (at_lines e ls) → Performs e.limits g o (at_lines e ls) (at_lines e ls) (Sent old old) (Ok tt)
+  pub acts_nothing : o ≡ quietly (at_lines e ls) → Performs e.limits g o (at_lines e ls) (at_lines e ls) old old (Ok tt)
   acts_nothing is = acts_leading e fits is
 
   -- one that goes on elsewhere
-  pub acts_going : (ts : List Task) (e' : RunState) → e' ≡ going e ts → o ≡ quietly (then_do ts (at_lines e ls)) → Performs e.limits g o (at_lines e ls) (at_lines e' ls) (Sent old old) (Ok tt)
+  pub acts_going : (ts : List Task) (e' : RunState) → e' ≡ going e ts → o ≡ quietly (then_do ts (at_lines e ls)) → Performs e.limits g o (at_lines e ls) (at_lines e' ls) old old (Ok tt)
   acts_going ts e' same is =
-      let Q : RunState → Type 0 = λ e'. Performs e.limits g o (at_lines e ls) (at_lines e' ls) (Sent old old) (Ok tt) in
+      let Q : RunState → Type 0 = λ e'. Performs e.limits g o (at_lines e ls) (at_lines e' ls) old old (Ok tt) in
       subst Q (sym same) (acts_leading (going e ts) (record { pattern = fits.pattern; hold = fits.hold; queue = fits.queue; turns = fits.turns }) is)
 
   -- `t`
   pub acts_testing : (target : ℕ) (e' : RunState) → e' ≡ tested e target e.state.replaced → o ≡ quietly (cond e.state.replaced (then_do (do_at target ∷ []) (record (at_lines e ls) { replaced = false })) (at_lines e ls)) →
-      Performs e.limits g o (at_lines e ls) (at_lines e' ls) (Sent old old) (Ok tt)
+      Performs e.limits g o (at_lines e ls) (at_lines e' ls) old old (Ok tt)
   acts_testing target e' same is =
-      let Q : RunState → Type 0 = λ e'. Performs e.limits g o (at_lines e ls) (at_lines e' ls) (Sent old old) (Ok tt) in
+      let Q : RunState → Type 0 = λ e'. Performs e.limits g o (at_lines e ls) (at_lines e' ls) old old (Ok tt) in
       subst Q (sym same) (leads e.state.replaced is)
     where
       leads : (b : Bool) → o ≡ quietly (cond b (then_do (do_at target ∷ []) (record (at_lines e ls) { replaced = false })) (at_lines e ls)) →
-          Performs e.limits g o (at_lines e ls) (at_lines (tested e target b) ls) (Sent old old) (Ok tt)
+          Performs e.limits g o (at_lines e ls) (at_lines (tested e target b) ls) old old (Ok tt)
       leads true is = acts_leading (tested e target true) (record { pattern = fits.pattern; hold = fits.hold; queue = fits.queue; turns = fits.turns }) is
       leads false is = acts_leading e fits is
 
   -- `y`
   pub acts_translating : (table : Option (List ℕ)) (e' : RunState) → e' ≡ translated e table → o ≡ quietly (record (at_lines e ls) { pattern = map (in_table table) e.state.pattern }) →
-      Performs e.limits g o (at_lines e ls) (at_lines e' ls) (Sent old old) (Ok tt)
+      Performs e.limits g o (at_lines e ls) (at_lines e' ls) old old (Ok tt)
   acts_translating table e' same is =
-      let Q : RunState → Type 0 = λ e'. Performs e.limits g o (at_lines e ls) (at_lines e' ls) (Sent old old) (Ok tt) in
+      let Q : RunState → Type 0 = λ e'. Performs e.limits g o (at_lines e ls) (at_lines e' ls) old old (Ok tt) in
       let long : length (map (in_table table) e.state.pattern) ≡ length e.state.pattern = length-map e.state.pattern (in_table table) in
       subst Q (sym same) (acts_leading (translated e table) (record { pattern = rw long fits.pattern; hold = fits.hold; queue = fits.queue; turns = fits.turns }) is)
 
   -- `a` and `r`: an entry is put into the queue, or there is no room for it
-  pub acts_queueing : (entry : Entry) (e' : RunState) (r : Result Unit Ended) → o ≡ quietly (queueing entry (at_lines e ls)) → QueuesOrFull e e' entry r → Performs e.limits g o (at_lines e ls) (at_lines e' ls) (Sent old old) r
+  pub acts_queueing : (entry : Entry) (e' : RunState) (r : Result Unit Ended) → o ≡ quietly (queueing entry (at_lines e ls)) → QueuesOrFull e e' entry r → Performs e.limits g o (at_lines e ls) (at_lines e' ls) old old r
   acts_queueing entry e' (Ok u) is (same, room) =
-      let Q : RunState → Type 0 = λ e'. Performs e.limits g o (at_lines e ls) (at_lines e' ls) (Sent old old) (Ok tt) in
+      let Q : RunState → Type 0 = λ e'. Performs e.limits g o (at_lines e ls) (at_lines e' ls) old old (Ok tt) in
       let more : length (e.state.queue ++ entry ∷ []) ≤ e.limits.queue = omega (arith, length-append e.state.queue (entry ∷ [])) in
       subst Q (sym same) (acts_leading (queued_more e entry) (record { pattern = fits.pattern; hold = fits.hold; queue = more; turns = fits.turns }) is)
   acts_queueing entry e' (Err (QueueFull n)) is (same, number, full) =
-      let Q : RunState → Type 0 = λ e'. Performs e.limits g o (at_lines e ls) (at_lines e' ls) (Sent old old) (Err (QueueFull n)) in
+      let Q : RunState → Type 0 = λ e'. Performs e.limits g o (at_lines e ls) (at_lines e' ls) old old (Err (QueueFull n)) in
       let more : e.limits.queue < length (e.state.queue ++ entry ∷ []) = omega (arith, length-append e.state.queue (entry ∷ [])) in
       subst Q (sym same) (λ s c first. stopped_here e.limits g s (at_lines e ls) old (QueueFull n) c.fits refl (number ∙ sym c.number, c.turn, (_, first ∙ is, more)) c.same c.lines)
   acts_queueing entry e' (Err other) is h = absurd h
@@ -117,9 +117,9 @@ command_seen a e k c seen is = let Q : RunState → Type 0 = λ e. slice_get e.s
 
 -- no turn is left
 pub steps_spent : {R : Type 0} (remaining : R → Option (List ℕ)) (old : Stream R) (a : Inside) (e : RunState) (seen : run_of a ≡ e) (i : IsConsistent a) (files : ℕ → List ℕ) (ls : List (List ℕ)) → lines_left remaining old ≡ Some ls → (sinks : SinkView) (k : ℕ) →
-    e.state.tasks ≡ do_at k ∷ [] → k < length a.script.commands → a.turns ≡ a.limits.turns → Steps remaining old old ls e.limits (setting e files) e e (Sent sinks sinks) (Err TurnsSpent)
+    e.state.tasks ≡ do_at k ∷ [] → k < length a.script.commands → a.turns ≡ a.limits.turns → Steps remaining old old ls e.limits (setting e files) e e sinks sinks (Err TurnsSpent)
 steps_spent {R} remaining old a e seen i files ls known sinks k t there spent =
-    steps_by_moves remaining old ls e.limits (setting e files) e e (Sent sinks sinks) (Err TurnsSpent) known (reach_spent a e seen i files ls k t sinks there spent)
+    steps_by_moves remaining old ls e.limits (setting e files) e e sinks sinks (Err TurnsSpent) known (reach_spent a e seen i files ls k t sinks there spent)
 
 or_else : (x y : Bool) → y ≡ true → x || y ≡ true
 or_else true y h = refl
@@ -146,12 +146,12 @@ module _ {R : Type 0} (remaining : R → Option (List ℕ)) (old new : Stream R)
 
   -- the end comes where the addresses are judged
   pub reach_stopping : (sinks : SinkView) (used : Option ℕ) (end : Ended) (e' : RunState) → e' ≡ e → Judges (current e (none_left ls)) (is_active e.state k) c used (Err end) →
-      Steps remaining old new ls e.limits (setting e files) e e' (Sent sinks sinks) (Err end)
+      Steps remaining old new ls e.limits (setting e files) e e' sinks sinks (Err end)
   reach_stopping sinks used end e' same h =
-      let Q : RunState → Type 0 = λ e'. Steps remaining old new ls e.limits (setting e files) e e' (Sent sinks sinks) (Err end) in
+      let Q : RunState → Type 0 = λ e'. Steps remaining old new ls e.limits (setting e files) e e' sinks sinks (Err end) in
       subst Q (sym same) (stops end h)
     where
-      stops : (end : Ended) → Judges (current e (none_left ls)) (is_active e.state k) c used (Err end) → Steps remaining old new ls e.limits (setting e files) e e (Sent sinks sinks) (Err end)
+      stops : (end : Ended) → Judges (current e (none_left ls)) (is_active e.state k) c used (Err end) → Steps remaining old new ls e.limits (setting e files) e e sinks sinks (Err end)
       stops (NoPrevious n) (without, number) =
           halts_here remaining old new e.limits (setting e files) (at_lines e ls) e sinks (NoPrevious n) here refl
           (number, (λ _. turn_left a e seen i more), ap reaches t, reach_as None without) (record { pattern = refl; hold = refl; queue = λ _. refl; entries = omega arith }) (LosesPart-none _ _ _ bytes_stay)
@@ -167,9 +167,9 @@ module _ {R : Type 0} (remaining : R → Option (List ℕ)) (old new : Stream R)
     moves_as b chosen = reach_as (Some (as_selection choice used)) chose ∙
         ap (λ b. cond b (acts (setting e files) (at_lines (reached_with e k (slice_set e.state.ranges k choice.active) used) ls) (tells_at c choice.end) c.action) (passes (at_lines (reached_with e k (slice_set e.state.ranges k choice.active) used) ls) c.action)) chosen
 
-    acted : (P : List (ℕ × ℕ) → Type 0) (r : Result Unit Ended) → Moves e.limits (setting e files) (at_lines e ls) (at_lines e2 ls) P r → Steps remaining old new ls e.limits (setting e files) e e2 P r
-    acted P (Ok u) h = (ls, taken, h)
-    acted P (Err end) h = record { rest = ls; stopped = h; lines = []; are = refl; bytes = LosesPartAfter-none _ _ _ (LosesPart-none _ _ _ bytes_stay) }
+    acted : (sinks sinks' : SinkView) (r : Result Unit Ended) → Moves e.limits (setting e files) (at_lines e ls) (at_lines e2 ls) sinks sinks' r → Steps remaining old new ls e.limits (setting e files) e e2 sinks sinks' r
+    acted sinks sinks' (Ok u) h = (ls, taken, h)
+    acted sinks sinks' (Err end) h = record { rest = ls; stopped = h; lines = []; are = refl; bytes = LosesPartAfter-none _ _ _ (LosesPart-none _ _ _ bytes_stay) }
 
     -- the command is reached in the state in which it acts
     here_reaches : Reaches e.limits (setting e files) (at_lines e ls) (at_lines (reached_with e k (slice_set e.state.ranges k choice.active) used) ls)
@@ -183,22 +183,22 @@ module _ {R : Type 0} (remaining : R → Option (List ℕ)) (old new : Stream R)
     }
 
     -- the command applies; `to` is where the lines then stand
-    pub reach_acting : (to : Stream R) (P : List (ℕ × ℕ) → Type 0) (r : Result Unit Ended) (tells : Bool) → choice.yes ≡ true → tells ≡ tells_at c choice.end →
-        PerformsSteps remaining new to ls e1.limits (setting e1 files) (acts (setting e1 files) (at_lines e1 ls) tells c.action) (is_next c.action) (at_lines e1 ls) e2 P r → Steps remaining old to ls e.limits (setting e files) e e2 P r
-    reach_acting to P r tells chosen tells_is h =
-        let Q : RunState → Type 0 = λ e1. PerformsSteps remaining new to ls e1.limits (setting e1 files) (acts (setting e1 files) (at_lines e1 ls) tells c.action) (is_next c.action) (at_lines e1 ls) e2 P r in
+    pub reach_acting : (to : Stream R) (sinks sinks' : SinkView) (r : Result Unit Ended) (tells : Bool) → choice.yes ≡ true → tells ≡ tells_at c choice.end →
+        PerformsSteps remaining new to ls e1.limits (setting e1 files) (acts (setting e1 files) (at_lines e1 ls) tells c.action) (is_next c.action) (at_lines e1 ls) e2 sinks sinks' r → Steps remaining old to ls e.limits (setting e files) e e2 sinks sinks' r
+    reach_acting to sinks sinks' r tells chosen tells_is h =
+        let Q : RunState → Type 0 = λ e1. PerformsSteps remaining new to ls e1.limits (setting e1 files) (acts (setting e1 files) (at_lines e1 ls) tells c.action) (is_next c.action) (at_lines e1 ls) e2 sinks sinks' r in
         let now : State = at_lines (reached_with e k (slice_set e.state.ranges k choice.active) used) ls in
-        let S : Bool → Type 0 = λ b. PerformsSteps remaining new to ls e.limits (setting e files) (acts (setting e files) now b c.action) (is_next c.action) now e2 P r in
+        let S : Bool → Type 0 = λ b. PerformsSteps remaining new to ls e.limits (setting e files) (acts (setting e files) now b c.action) (is_next c.action) now e2 sinks sinks' r in
         let there = subst S tells_is (subst Q came h) in
-        looked_then remaining old new to ls e.limits (setting e files) (at_lines e ls) e2 P r taken (there (at_lines e ls) here_reaches (λ asks. ap (reads (setting e files)) t ∙ ap asks_last (command_seen a e k c seen is) ∙ or_else (names_last c) (is_next c.action) asks) (moves_as true chosen))
+        looked_then remaining old new to ls e.limits (setting e files) (at_lines e ls) e2 sinks sinks' r taken (there (at_lines e ls) here_reaches (λ asks. ap (reads (setting e files)) t ∙ ap asks_last (command_seen a e k c seen is) ∙ or_else (names_last c) (is_next c.action) asks) (moves_as true chosen))
 
     -- it doesn't
     pub reach_passing : (sinks : SinkView) → choice.yes ≡ false →
-        Performs e1.limits (setting e1 files) (passes (at_lines e1 ls) c.action) (at_lines e1 ls) (at_lines e2 ls) (Sent sinks sinks) (Ok tt) → Steps remaining old new ls e.limits (setting e files) e e2 (Sent sinks sinks) (Ok tt)
+        Performs e1.limits (setting e1 files) (passes (at_lines e1 ls) c.action) (at_lines e1 ls) (at_lines e2 ls) sinks sinks (Ok tt) → Steps remaining old new ls e.limits (setting e files) e e2 sinks sinks (Ok tt)
     reach_passing sinks passed h =
-        let Q : RunState → Type 0 = λ e1. Performs e1.limits (setting e1 files) (passes (at_lines e1 ls) c.action) (at_lines e1 ls) (at_lines e2 ls) (Sent sinks sinks) (Ok tt) in
+        let Q : RunState → Type 0 = λ e1. Performs e1.limits (setting e1 files) (passes (at_lines e1 ls) c.action) (at_lines e1 ls) (at_lines e2 ls) sinks sinks (Ok tt) in
         let there = subst Q came h in
-        acted (Sent sinks sinks) (Ok tt) (there (at_lines e ls) here_reaches (moves_as false passed))
+        acted sinks sinks (Ok tt) (there (at_lines e ls) here_reaches (moves_as false passed))
 
 -- the entry of a command that has this action
 pub entry_is : (texts : List (List ℕ)) (o : Option Command) (action : Action) → HasAction o action → entry_by texts o ≡ entry_for texts action

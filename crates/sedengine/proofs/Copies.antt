@@ -65,9 +65,9 @@ reads_end (Some xs) (Some ys) bytes o n told keeps ends none =
 
 -- the bytes written, and a piece after them
 pub put_on : (old mid new : SinkView) (bytes piece : List ℕ) (o n : ℕ) (r : Result Unit Ended) → Sent old mid (to_sink 0 (take o bytes)) → piece ≡ take n (drop o bytes) →
-    Puts (Sent mid new) (to_sink 0 piece) r → Puts (Sent old new) (to_sink 0 (take (o + n) bytes)) r
+    Puts mid new (to_sink 0 piece) r → Puts old new (to_sink 0 (take (o + n) bytes)) r
 put_on old mid new bytes piece o n r gained is put =
-    let Q : List (ℕ × ℕ) → Type 0 = λ out. Puts (Sent old new) out r in
+    let Q : List (ℕ × ℕ) → Type 0 = λ out. Puts old new out r in
     let all : to_sink 0 (take o bytes) ++ to_sink 0 piece ≡ to_sink 0 (take (o + n) bytes) = rw (take-add, to_sink-append, is) refl in
     subst Q all (Puts-append old mid new (to_sink 0 (take o bytes)) (to_sink 0 piece) r gained put)
 
@@ -115,51 +115,53 @@ module _ (g : Setting) (s : State) (k : ℕ) (rest : List Task) (at : s.tasks �
   -- the file was written to its end
   pub copied_all : (l : Limits) (old new : SinkView) (o turns : ℕ) → WithinLimits l s → turns ≡ s.turns + o → turns ≤ l.turns →
       o ≤ length (g.files k) → length (g.files k) ≤ o → Sent old new (to_sink 0 (take o (g.files k))) →
-      Ran l g s (record s { tasks = rest; turns = turns }) (Sent old new)
+      Ran l g s (record s { tasks = rest; turns = turns }) old new
   copied_all l old new o turns f are fits inside all gained =
-      let R : ℕ → Type 0 = λ n. Ran l g s (record s { tasks = rest; turns = n }) (Sent old new) in
+      let R : ℕ → Type 0 = λ n. Ran l g s (record s { tasks = rest; turns = n }) old new in
       let here : WithinLimits l (copied s k rest o) = record { pattern = f.pattern; hold = f.hold; queue = f.queue; turns = omega arith } in
       let there : WithinLimits l (record s { tasks = rest; turns = s.turns + o }) = record { pattern = f.pattern; hold = f.hold; queue = f.queue; turns = omega arith } in
       let last = ran_quietly l g (copied s k rest o) _ new here (at_end o all) there in
-      let M : State → Type 0 = λ m. Ran l g m (record s { tasks = rest; turns = s.turns + o }) (Sent new new) in
+      let M : State → Type 0 = λ m. Ran l g m (record s { tasks = rest; turns = s.turns + o }) new new in
       subst R (sym are) (chain l g s _ old new new o (Ok tt) (within_copied l o inside f (omega arith)) (one_copied o inside)
       (rw (written_copied o inside) gained) (subst M (sym (after_copied o inside)) last))
 
   -- a further byte is due, and no turn is left
   pub copied_spent : (l : Limits) (now : State) (old new : SinkView) (o : ℕ) → WithinLimits l s → s.turns + o ≡ l.turns → o < length (g.files k) →
-      Sent old new (to_sink 0 (take o (g.files k))) → SameLengths s now → s.lines ≡ now.lines → Stopped l g s now (Sent old new) TurnsSpent
+      Sent old new (to_sink 0 (take o (g.files k))) → SameLengths s now → s.lines ≡ now.lines → Stopped l g s now old new TurnsSpent
   copied_spent l now old new o f spent inside gained same lines =
       let m : State = copied s k rest o in
       let here : WithinLimits l m = record { pattern = f.pattern; hold = f.hold; queue = f.queue; turns = omega arith } in
       let due : takes_turn g m m.tasks ≡ true = ap is_some (slice_get-get_or (g.files k) o 0 inside) in
       let last = stopped_here l g m now new TurnsSpent here refl (spent, due) (same_copied s now k rest o same) lines in
-      let M : State → Type 0 = λ m. Stopped l g m now (Sent new new) TurnsSpent in
+      let M : State → Type 0 = λ m. Stopped l g m now new new TurnsSpent in
       chain l g s now old new new o (Err TurnsSpent) (within_copied l o (omega arith) f (omega arith)) (one_copied o (omega arith))
       (rw (written_copied o (omega arith)) gained) (subst M (sym (after_copied o (omega arith))) last)
 
   -- the sink took no more at one of the first n bytes
   pub copied_broken : (l : Limits) (now : State) (old new : SinkView) (n : ℕ) (end : Ended) → WithinLimits l s → s.turns + n ≤ l.turns → n ≤ length (g.files k) →
-      Puts (Sent old new) (to_sink 0 (take n (g.files k))) (Err end) → SameLengths s now → s.lines ≡ now.lines → Stopped l g s now (Sent old new) end
+      Puts old new (to_sink 0 (take n (g.files k))) (Err end) → SameLengths s now → s.lines ≡ now.lines → Stopped l g s now old new end
   copied_broken l now old new n end f fits inside (j, b, byte, end_is, due, sent) same lines =
       let file : List ℕ = g.files k in
-      let C : Option ℕ → Type 0 = λ o. WholeOrBrokenOff l g s (Sent old new) end b o in
+      let C : Option ℕ → Type 0 = λ o. WholeOrBrokenOff l g s (take b (to_sink 0 (take n file))) end b o in
       let H : Option ℕ → Type 0 = λ o. HoldsAt g s b now o in
       let lt : b < n = let within = slice_get_within (to_sink 0 (take n file)) b (j, byte) due in omega (arith, length-to_sink 0 (take n file), length-take-le n file inside) in
       let less : b ≤ length file = omega arith in
       let more : suc b ≤ length file = omega arith in
       let due_at = first_due 0 b n file lt in
       let part = first_done 0 b n file lt in
-      let cut : BrokenOff l g s (Sent old new) j b = record {
+      let cut : BrokenOff l g s (take b (to_sink 0 (take n file))) j b = record {
         within = within_copied l (suc b) more f (omega arith);
         b = b;
         byte = byte;
         past = rw (written_copied b less) (omega (arith, length-to_sink 0 (take b file), length-take-le b file less));
         due = rw (written_copied (suc b) more) (due_at ∙ due);
-        sinks = rw (written_copied (suc b) more, part) sent;
+        wrote = rw (written_copied (suc b) more, part) refl;
       } in
       let here : SameLengths (after g s b) now = rw (after_copied b less) (same_copied s now k rest b same) in
       record {
         t = b;
+        out = take b (to_sink 0 (take n file));
+        sinks = sent;
         cause = subst C (sym end_is) cut;
         holds = subst H (sym end_is) (inl here);
         one = one_copied b less;

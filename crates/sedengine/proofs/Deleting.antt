@@ -39,19 +39,19 @@ newline_absent (b ∷ bs) h = rw (h 0 0 (omega arith)) (newline_absent bs (λ k 
 -- A command that leaves c1 in the pattern space and writes these bytes, and what the call that ends the cycle says of it.
 pub deletes : (a : Inside) (e e2 : RunState) (files : ℕ → List ℕ) (ls : List (List ℕ)) (o : Option Move) (place : Place) (c1 : Contents) (old mid new : SinkView) (out : List (ℕ × ℕ)) (r : Result Unit Ended) → run_of a ≡ e →
     o ≡ writing out (then_do (flush ∷ tasks_of place) (at_lines (with_pattern e c1.bytes) ls)) → Sent old mid out →
-    Moves a.limits (setting (run_of a) files) (then_do (flush ∷ tasks_of place) (at_lines (run_of (record a { pattern = c1 })) ls)) (at_lines e2 ls) (Sent mid new) r →
-    Performs e.limits (setting e files) o (at_lines e ls) (at_lines e2 ls) (Sent old new) r
+    Moves a.limits (setting (run_of a) files) (then_do (flush ∷ tasks_of place) (at_lines (run_of (record a { pattern = c1 })) ls)) (at_lines e2 ls) mid new r →
+    Performs e.limits (setting e files) o (at_lines e ls) (at_lines e2 ls) old new r
 deletes a e e2 files ls o place c1 old mid new out r seen is gained h =
-    let Q : RunState → Type 0 = λ e. o ≡ writing out (then_do (flush ∷ tasks_of place) (at_lines (with_pattern e c1.bytes) ls)) → Performs e.limits (setting e files) o (at_lines e ls) (at_lines e2 ls) (Sent old new) r in
+    let Q : RunState → Type 0 = λ e. o ≡ writing out (then_do (flush ∷ tasks_of place) (at_lines (with_pattern e c1.bytes) ls)) → Performs e.limits (setting e files) o (at_lines e ls) (at_lines e2 ls) old new r in
     let m : State = then_do (flush ∷ tasks_of place) (at_lines (run_of (record a { pattern = c1 })) ls) in
-    subst Q seen (λ is. acts_then a.limits (setting (run_of a) files) o (at_lines (run_of a) ls) m (at_lines e2 ls) old mid new out r is (moves_fits a.limits (setting (run_of a) files) m (at_lines e2 ls) (Sent mid new) r h) gained refl h) is
+    subst Q seen (λ is. acts_then a.limits (setting (run_of a) files) o (at_lines (run_of a) ls) m (at_lines e2 ls) old mid new out r is (moves_fits a.limits (setting (run_of a) files) m (at_lines e2 ls) mid new r h) gained refl h) is
 
 -- The text of `c` can't be written.
 pub change_stops : (a : Inside) (e : RunState) (files : ℕ → List ℕ) (ls : List (List ℕ)) (o : Option Move) (c1 : Contents) (old new : SinkView) (out : List (ℕ × ℕ)) (end : Ended) → run_of a ≡ e → IsConsistent a → c1.bytes ≡ [] →
-    o ≡ writing out (then_do (flush ∷ begin ∷ []) (at_lines (with_pattern e c1.bytes) ls)) → Puts (Sent old new) out (Err end) →
-    Performs e.limits (setting e files) o (at_lines e ls) (at_lines (run_of (record a { pattern = c1 })) ls) (Sent old new) (Err end)
+    o ≡ writing out (then_do (flush ∷ begin ∷ []) (at_lines (with_pattern e c1.bytes) ls)) → Puts old new out (Err end) →
+    Performs e.limits (setting e files) o (at_lines e ls) (at_lines (run_of (record a { pattern = c1 })) ls) old new (Err end)
 change_stops a e files ls o c1 old new out end seen i none is put =
-    let Q : RunState → Type 0 = λ e. o ≡ writing out (then_do (flush ∷ begin ∷ []) (at_lines (with_pattern e c1.bytes) ls)) → Performs e.limits (setting e files) o (at_lines e ls) (at_lines (run_of (record a { pattern = c1 })) ls) (Sent old new) (Err end) in
+    let Q : RunState → Type 0 = λ e. o ≡ writing out (then_do (flush ∷ begin ∷ []) (at_lines (with_pattern e c1.bytes) ls)) → Performs e.limits (setting e files) o (at_lines e ls) (at_lines (run_of (record a { pattern = c1 })) ls) old new (Err end) in
     let m : State = then_do (flush ∷ begin ∷ []) (at_lines (run_of (record a { pattern = c1 })) ls) in
     let f = fits_of a ls i in
     let empty = ap length none in
@@ -83,18 +83,18 @@ cut_seen a e files ls c1 seen there is =
     cut_is e files ls c1 (subst N same (newline_there a.pattern.bytes there)) (ap (λ (c : Contents). c.bytes) is ∙ ap (λ bytes. after_first is_newline bytes) same)
 
 -- without a newline the space stays, and `D` is `d`
-pub uncut_performs : (a : Inside) (e e' : RunState) (files : ℕ → List ℕ) (ls : List (List ℕ)) (c1 : Contents) (P : List (ℕ × ℕ) → Type 0) (r : Result Unit Ended) → run_of a ≡ e → HasNoNewline a.pattern.bytes → c1 ≡ a.pattern →
-    Performs a.limits (setting (run_of a) files) (acts (setting (run_of a) files) (at_lines (run_of (record a { pattern = c1 })) ls) true Delete) (at_lines (run_of (record a { pattern = c1 })) ls) (at_lines e' ls) P r →
-    Performs e.limits (setting e files) (acts (setting e files) (at_lines e ls) true DeleteFirst) (at_lines e ls) (at_lines e' ls) P r
-uncut_performs a e e' files ls c1 P r seen absent is h =
-    let Q : RunState → Type 0 = λ e. Performs e.limits (setting e files) (acts (setting e files) (at_lines e ls) true DeleteFirst) (at_lines e ls) (at_lines e' ls) P r in
-    let S : Contents → Type 0 = λ c1. Performs a.limits (setting (run_of a) files) (acts (setting (run_of a) files) (at_lines (run_of (record a { pattern = c1 })) ls) true Delete) (at_lines (run_of (record a { pattern = c1 })) ls) (at_lines e' ls) P r in
-    let O : Option Move → Type 0 = λ o. Performs a.limits (setting (run_of a) files) o (at_lines (run_of a) ls) (at_lines e' ls) P r in
+pub uncut_performs : (a : Inside) (e e' : RunState) (files : ℕ → List ℕ) (ls : List (List ℕ)) (c1 : Contents) (sinks sinks' : SinkView) (r : Result Unit Ended) → run_of a ≡ e → HasNoNewline a.pattern.bytes → c1 ≡ a.pattern →
+    Performs a.limits (setting (run_of a) files) (acts (setting (run_of a) files) (at_lines (run_of (record a { pattern = c1 })) ls) true Delete) (at_lines (run_of (record a { pattern = c1 })) ls) (at_lines e' ls) sinks sinks' r →
+    Performs e.limits (setting e files) (acts (setting e files) (at_lines e ls) true DeleteFirst) (at_lines e ls) (at_lines e' ls) sinks sinks' r
+uncut_performs a e e' files ls c1 sinks sinks' r seen absent is h =
+    let Q : RunState → Type 0 = λ e. Performs e.limits (setting e files) (acts (setting e files) (at_lines e ls) true DeleteFirst) (at_lines e ls) (at_lines e' ls) sinks sinks' r in
+    let S : Contents → Type 0 = λ c1. Performs a.limits (setting (run_of a) files) (acts (setting (run_of a) files) (at_lines (run_of (record a { pattern = c1 })) ls) true Delete) (at_lines (run_of (record a { pattern = c1 })) ls) (at_lines e' ls) sinks sinks' r in
+    let O : Option Move → Type 0 = λ o. Performs a.limits (setting (run_of a) files) o (at_lines (run_of a) ls) (at_lines e' ls) sinks sinks' r in
     subst Q seen (subst O (sym (uncut_is (run_of a) files ls (newline_absent a.pattern.bytes absent))) (subst S is h))
 
 -- the text of `c`, as the engine is seen
-pub text_put : (a : Inside) (e : RunState) (text : ℕ) (bytes : List ℕ) (old new : SinkView) (r : Result Unit Ended) → run_of a ≡ e → slice_get a.script.texts text ≡ Some bytes → Puts (Sent old new) (line_to 0 bytes) r →
-    Puts (Sent old new) (line_to 0 (unwrap_or (slice_get e.script.texts text) [])) r
+pub text_put : (a : Inside) (e : RunState) (text : ℕ) (bytes : List ℕ) (old new : SinkView) (r : Result Unit Ended) → run_of a ≡ e → slice_get a.script.texts text ≡ Some bytes → Puts old new (line_to 0 bytes) r →
+    Puts old new (line_to 0 (unwrap_or (slice_get e.script.texts text) [])) r
 text_put a e text bytes old new r seen there h =
-    let Q : RunState → Type 0 = λ e. Puts (Sent old new) (line_to 0 (unwrap_or (slice_get e.script.texts text) [])) r in
+    let Q : RunState → Type 0 = λ e. Puts old new (line_to 0 (unwrap_or (slice_get e.script.texts text) [])) r in
     subst Q seen (rw there h)

@@ -34,41 +34,41 @@ pub then_same : (s : State) (ts : List Task) → s.tasks ≡ ts → then_do ts s
 then_same s ts h = let Q : List Task → Type 0 = λ ts. then_do ts s ≡ s in subst Q h refl
 
 -- The queue of an engine with the fields a is written.
-pub flush_moves : (a : Inside) (e e' : RunState) (g : Setting) (ls : List (List ℕ)) (rest : List Task) (turns : ℕ) (P : List (ℕ × ℕ) → Type 0) (r : Result Unit Ended) → run_of a ≡ e → IsConsistent a →
-    ((s : State) (rest : List Task) → s.tasks ≡ flush ∷ rest → s.queue ≡ entries_of a.script a.queue.items → s.turns ≡ a.turns → WithinLimits a.limits s → Flushes a.limits g s (record s { queue = []; tasks = rest; turns = turns }) P r) →
+pub flush_moves : (a : Inside) (e e' : RunState) (g : Setting) (ls : List (List ℕ)) (rest : List Task) (turns : ℕ) (sinks sinks' : SinkView) (r : Result Unit Ended) → run_of a ≡ e → IsConsistent a →
+    ((s : State) (rest : List Task) → s.tasks ≡ flush ∷ rest → s.queue ≡ entries_of a.script a.queue.items → s.turns ≡ a.turns → WithinLimits a.limits s → Flushes a.limits g s (record s { queue = []; tasks = rest; turns = turns }) sinks sinks' r) →
     OnOk r (e' ≡ flushed e turns) → OnErr r (e' ≡ with_turns e turns) →
-    Moves e.limits g (then_do (flush ∷ rest) (at_lines e ls)) (then_do rest (at_lines e' ls)) P r
-flush_moves a e e' g ls rest turns P (Ok u) seen i h ok err =
-    let Q : RunState → Type 0 = λ e'. Moves e.limits g (then_do (flush ∷ rest) (at_lines e ls)) (then_do rest (at_lines e' ls)) P (Ok u) in
-    let S : RunState → Type 0 = λ e. Moves e.limits g (then_do (flush ∷ rest) (at_lines e ls)) (then_do rest (at_lines (flushed e turns) ls)) P (Ok u) in
+    Moves e.limits g (then_do (flush ∷ rest) (at_lines e ls)) (then_do rest (at_lines e' ls)) sinks sinks' r
+flush_moves a e e' g ls rest turns sinks sinks' (Ok u) seen i h ok err =
+    let Q : RunState → Type 0 = λ e'. Moves e.limits g (then_do (flush ∷ rest) (at_lines e ls)) (then_do rest (at_lines e' ls)) sinks sinks' (Ok u) in
+    let S : RunState → Type 0 = λ e. Moves e.limits g (then_do (flush ∷ rest) (at_lines e ls)) (then_do rest (at_lines (flushed e turns) ls)) sinks sinks' (Ok u) in
     let f = fits_tasks a.limits (at_lines (run_of a) ls) (flush ∷ rest) (fits_of a ls i) in
     subst Q (sym ok) (subst S seen (h (then_do (flush ∷ rest) (at_lines (run_of a) ls)) rest refl refl refl f))
-flush_moves a e e' g ls rest turns P (Err end) seen i h ok err =
-    let Q : RunState → Type 0 = λ e'. Moves e.limits g (then_do (flush ∷ rest) (at_lines e ls)) (then_do rest (at_lines e' ls)) P (Err end) in
-    let S : RunState → Type 0 = λ e. Moves e.limits g (then_do (flush ∷ rest) (at_lines e ls)) (then_do rest (at_lines (with_turns e turns) ls)) P (Err end) in
+flush_moves a e e' g ls rest turns sinks sinks' (Err end) seen i h ok err =
+    let Q : RunState → Type 0 = λ e'. Moves e.limits g (then_do (flush ∷ rest) (at_lines e ls)) (then_do rest (at_lines e' ls)) sinks sinks' (Err end) in
+    let S : RunState → Type 0 = λ e. Moves e.limits g (then_do (flush ∷ rest) (at_lines e ls)) (then_do rest (at_lines (with_turns e turns) ls)) sinks sinks' (Err end) in
     let f = fits_tasks a.limits (at_lines (run_of a) ls) (flush ∷ rest) (fits_of a ls i) in
     let s : State = then_do (flush ∷ rest) (at_lines (run_of a) ls) in
-    subst Q (sym err) (subst S seen (Stopped-as a.limits g s s (then_do rest (at_lines (with_turns (run_of a) turns) ls)) P end refl refl refl refl (h s rest refl refl refl f)))
+    subst Q (sym err) (subst S seen (Stopped-as a.limits g s s (then_do rest (at_lines (with_turns (run_of a) turns) ls)) sinks sinks' end refl refl refl refl (h s rest refl refl refl f)))
 
 -- The pattern space is written, and then what comes after it.
 pub print_moves : (e e' : RunState) (files : ℕ → List ℕ) (ls : List (List ℕ)) (rest : List Task) (old mid new : SinkView) (r : Result Unit Ended) → WithinLimits e.limits (at_lines e ls) →
     Sent old mid (cond e.script.quiet [] (line_to 0 e.state.pattern)) →
-    Moves e.limits (setting e files) (then_do (flush ∷ rest) (at_lines e ls)) (then_do rest (at_lines e' ls)) (Sent mid new) r →
-    Moves e.limits (setting e files) (then_do (print_pattern ∷ flush ∷ rest) (at_lines e ls)) (then_do rest (at_lines e' ls)) (Sent old new) r
+    Moves e.limits (setting e files) (then_do (flush ∷ rest) (at_lines e ls)) (then_do rest (at_lines e' ls)) mid new r →
+    Moves e.limits (setting e files) (then_do (print_pattern ∷ flush ∷ rest) (at_lines e ls)) (then_do rest (at_lines e' ls)) old new r
 print_moves e e' files ls rest old mid new r f gained h =
     moves_then e.limits (setting e files) (then_do (print_pattern ∷ flush ∷ rest) (at_lines e ls)) (then_do (flush ∷ rest) (at_lines e ls)) (then_do rest (at_lines e' ls)) old mid new (cond e.script.quiet [] (line_to 0 e.state.pattern)) r
     (fits_tasks _ (at_lines e ls) _ f) (move_at _ _ _ refl) (fits_tasks _ (at_lines e ls) _ f) gained refl h
 
 pub print_stops : (e : RunState) (files : ℕ → List ℕ) (ls : List (List ℕ)) (rest : List Task) (old new : SinkView) (end : Ended) → WithinLimits e.limits (at_lines e ls) →
-    Puts (Sent old new) (cond e.script.quiet [] (line_to 0 e.state.pattern)) (Err end) →
-    Moves e.limits (setting e files) (then_do (print_pattern ∷ flush ∷ rest) (at_lines e ls)) (then_do rest (at_lines e ls)) (Sent old new) (Err end)
+    Puts old new (cond e.script.quiet [] (line_to 0 e.state.pattern)) (Err end) →
+    Moves e.limits (setting e files) (then_do (print_pattern ∷ flush ∷ rest) (at_lines e ls)) (then_do rest (at_lines e ls)) old new (Err end)
 print_stops e files ls rest old new end f put =
     stopped_writing e.limits (setting e files) (then_do (print_pattern ∷ flush ∷ rest) (at_lines e ls)) (then_do (flush ∷ rest) (at_lines e ls)) (then_do rest (at_lines e ls)) old new (cond e.script.quiet [] (line_to 0 e.state.pattern)) end
     (fits_tasks _ (at_lines e ls) _ f) (move_at _ _ _ refl) (fits_tasks _ (at_lines e ls) _ f) (record { pattern = refl; hold = refl; queue = λ _. refl; entries = omega arith }) refl put
 
 -- The end of the script: command k isn't there. What follows the first move is h.
 pub end_moves : (e : RunState) (files : ℕ → List ℕ) (ls : List (List ℕ)) (k : ℕ) (now : State) (old new : SinkView) (r : Result Unit Ended) → WithinLimits e.limits (at_lines e ls) → e.state.tasks ≡ do_at k ∷ [] → length e.script.commands ≤ k →
-    Moves e.limits (setting e files) (then_do at_end (at_lines e ls)) now (Sent old new) r → Moves e.limits (setting e files) (at_lines e ls) now (Sent old new) r
+    Moves e.limits (setting e files) (then_do at_end (at_lines e ls)) now old new r → Moves e.limits (setting e files) (at_lines e ls) now old new r
 end_moves e files ls k now old new r f at over h =
     quietly_then e.limits (setting e files) (at_lines e ls) (then_do at_end (at_lines e ls)) now old new r f
     (move_at _ _ _ at ∙ ap (reach (setting e files) (at_lines e ls) k) (slice_get_past e.script.commands k over)) (fits_tasks _ (at_lines e ls) at_end f) refl h
@@ -79,39 +79,39 @@ emptied e = record e { state = record e.state { pattern = []; tasks = begin ∷ 
 
 -- the cycle has ended
 pub finished : (e e' final : RunState) (files : ℕ → List ℕ) (ls : List (List ℕ)) (k : ℕ) (old new : SinkView) → e.state.tasks ≡ do_at k ∷ [] → length e.script.commands ≤ k →
-    Moves e.limits (setting e files) (then_do at_end (at_lines e ls)) (then_do (empty_pattern ∷ begin ∷ []) (at_lines e' ls)) (Sent old new) (Ok tt) → final ≡ emptied e' →
-    Moves e.limits (setting e files) (at_lines e ls) (at_lines final ls) (Sent old new) (Ok tt)
+    Moves e.limits (setting e files) (then_do at_end (at_lines e ls)) (then_do (empty_pattern ∷ begin ∷ []) (at_lines e' ls)) old new (Ok tt) → final ≡ emptied e' →
+    Moves e.limits (setting e files) (at_lines e ls) (at_lines final ls) old new (Ok tt)
 finished e e' final files ls k old new at over h is =
-    let Q : RunState → Type 0 = λ final. Moves e.limits (setting e files) (at_lines e ls) (at_lines final ls) (Sent old new) (Ok tt) in
+    let Q : RunState → Type 0 = λ final. Moves e.limits (setting e files) (at_lines e ls) (at_lines final ls) old new (Ok tt) in
     let g : Setting = setting e files in
     let m : State = then_do (empty_pattern ∷ begin ∷ []) (at_lines e' ls) in
-    let f = moves_fits e.limits g (then_do at_end (at_lines e ls)) m (Sent old new) (Ok tt) h in
-    let f' = ran_fits_now e.limits g (then_do at_end (at_lines e ls)) m (Sent old new) h in
+    let f = moves_fits e.limits g (then_do at_end (at_lines e ls)) m old new (Ok tt) h in
+    let f' = ran_fits_now e.limits g (then_do at_end (at_lines e ls)) m old new h in
     subst Q (sym is) (end_moves e files ls k (at_lines (emptied e') ls) old new (Ok tt) (record { pattern = f.pattern; hold = f.hold; queue = f.queue; turns = f.turns }) at over
     (Moves-then e.limits g (then_do at_end (at_lines e ls)) m (at_lines (emptied e') ls) old new new (Ok tt) h refl
     (ran_quietly e.limits g m (at_lines (emptied e') ls) new f' (move_at _ _ _ refl) (record { pattern = omega arith; hold = f'.hold; queue = f'.queue; turns = f'.turns }))))
 
 -- the end came before the cycle's
 pub finish_stopped : (e e' : RunState) (files : ℕ → List ℕ) (ls : List (List ℕ)) (k : ℕ) (rest : List Task) (old new : SinkView) (end : Ended) → e.state.tasks ≡ do_at k ∷ [] → length e.script.commands ≤ k →
-    Moves e.limits (setting e files) (then_do at_end (at_lines e ls)) (then_do rest (at_lines e' ls)) (Sent old new) (Err end) →
-    Moves e.limits (setting e files) (at_lines e ls) (at_lines e' ls) (Sent old new) (Err end)
+    Moves e.limits (setting e files) (then_do at_end (at_lines e ls)) (then_do rest (at_lines e' ls)) old new (Err end) →
+    Moves e.limits (setting e files) (at_lines e ls) (at_lines e' ls) old new (Err end)
 finish_stopped e e' files ls k rest old new end at over h =
-    let f = moves_fits e.limits (setting e files) (then_do at_end (at_lines e ls)) (then_do rest (at_lines e' ls)) (Sent old new) (Err end) h in
-    Stopped-as e.limits (setting e files) (at_lines e ls) (then_do rest (at_lines e' ls)) (at_lines e' ls) (Sent old new) end refl refl refl refl
+    let f = moves_fits e.limits (setting e files) (then_do at_end (at_lines e ls)) (then_do rest (at_lines e' ls)) old new (Err end) h in
+    Stopped-as e.limits (setting e files) (at_lines e ls) (then_do rest (at_lines e' ls)) (at_lines e' ls) old new end refl refl refl refl
     (end_moves e files ls k (then_do rest (at_lines e' ls)) old new (Err end) (record { pattern = f.pattern; hold = f.hold; queue = f.queue; turns = f.turns }) at over h)
 
 -- the run has ended, or the end came before
-pub quits : (e e' : RunState) (g : Setting) (ls : List (List ℕ)) (P : List (ℕ × ℕ) → Type 0) (now : State) (r : Result Unit Ended) → e.state.tasks ≡ print_pattern ∷ flush ∷ [] →
-    Moves e.limits g (then_do (print_pattern ∷ flush ∷ []) (at_lines e ls)) now P r → Moves e.limits g (at_lines e ls) now P r
-quits e e' g ls P now r at h =
-    let Q : State → Type 0 = λ s. Moves e.limits g s now P r in
+pub quits : (e e' : RunState) (g : Setting) (ls : List (List ℕ)) (sinks sinks' : SinkView) (now : State) (r : Result Unit Ended) → e.state.tasks ≡ print_pattern ∷ flush ∷ [] →
+    Moves e.limits g (then_do (print_pattern ∷ flush ∷ []) (at_lines e ls)) now sinks sinks' r → Moves e.limits g (at_lines e ls) now sinks sinks' r
+quits e e' g ls sinks sinks' now r at h =
+    let Q : State → Type 0 = λ s. Moves e.limits g s now sinks sinks' r in
     subst Q (then_same (at_lines e ls) (print_pattern ∷ flush ∷ []) at) h
 
 -- a cycle starts with the pattern space as it is
 pub rebegins : (a : Inside) (e : RunState) (g : Setting) (ls : List (List ℕ)) (sinks : SinkView) (e' : RunState) → run_of a ≡ e → IsConsistent a → e.state.tasks ≡ rebegin ∷ [] → (a.turns ≡ a.limits.turns → ⊥) →
-    e' ≡ record e { state = record e.state { tasks = do_at 0 ∷ []; turns = e.state.turns + 1 } } → Moves e.limits g (at_lines e ls) (at_lines e' ls) (Sent sinks sinks) (Ok tt)
+    e' ≡ record e { state = record e.state { tasks = do_at 0 ∷ []; turns = e.state.turns + 1 } } → Moves e.limits g (at_lines e ls) (at_lines e' ls) sinks sinks (Ok tt)
 rebegins a e g ls sinks e' seen i at more is =
-    let Q : RunState → Type 0 = λ e'. Moves e.limits g (at_lines e ls) (at_lines e' ls) (Sent sinks sinks) (Ok tt) in
+    let Q : RunState → Type 0 = λ e'. Moves e.limits g (at_lines e ls) (at_lines e' ls) sinks sinks (Ok tt) in
     let f = fits_seen a e ls seen i in
     let most = i.turns in
     let less : a.turns + 1 ≤ a.limits.turns = omega arith in
@@ -119,7 +119,7 @@ rebegins a e g ls sinks e' seen i at more is =
     subst Q (sym is) (ran_quietly e.limits g (at_lines e ls) _ sinks f (move_at _ _ _ at) (record { pattern = f.pattern; hold = f.hold; queue = f.queue; turns = subst L seen less }))
 
 pub rebegin_spent : (a : Inside) (e : RunState) (g : Setting) (ls : List (List ℕ)) (sinks : SinkView) → run_of a ≡ e → IsConsistent a → e.state.tasks ≡ rebegin ∷ [] → a.turns ≡ a.limits.turns →
-    Moves e.limits g (at_lines e ls) (at_lines e ls) (Sent sinks sinks) (Err TurnsSpent)
+    Moves e.limits g (at_lines e ls) (at_lines e ls) sinks sinks (Err TurnsSpent)
 rebegin_spent a e g ls sinks seen i at spent =
     let f = fits_seen a e ls seen i in
     let L : RunState → Type 0 = λ e. e.state.turns ≡ e.limits.turns in
@@ -128,12 +128,12 @@ rebegin_spent a e g ls sinks seen i at spent =
 
 -- A command that makes a move which writes these bytes, and then what h says.
 pub acts_then : (l : Limits) (g : Setting) (o : Option Move) (there m now : State) (old mid new : SinkView) (out : List (ℕ × ℕ)) (r : Result Unit Ended) → o ≡ writing out m → WithinLimits l m → Sent old mid out → starts_cycle m.tasks ≡ false →
-    Moves l g m now (Sent mid new) r → Performs l g o there now (Sent old new) r
+    Moves l g m now mid new r → Performs l g o there now old new r
 acts_then l g o there m now old mid new out r is f gained goes h = λ s c first. moves_then l g s m now old mid new out r c.fits (first ∙ is) f gained goes h
 
 -- The sink failed in that move.
 pub acts_stopping : (l : Limits) (g : Setting) (o : Option Move) (there m now : State) (old new : SinkView) (out : List (ℕ × ℕ)) (end : Ended) → o ≡ writing out m → WithinLimits l m → SameLengths m now → there.lines ≡ now.lines →
-    Puts (Sent old new) out (Err end) → Performs l g o there now (Sent old new) (Err end)
+    Puts old new out (Err end) → Performs l g o there now old new (Err end)
 acts_stopping l g o there m now old new out end is f same lines put = λ s c first. stopped_writing l g s m now old new out end c.fits (first ∙ is) f same (c.lines ∙ lines) put
 
 -- a number is put into the queue
@@ -184,14 +184,14 @@ pub queues_seen : (a : Inside) (e : RunState) (k : ℕ) → run_of a ≡ e → Q
 queues_seen a e k seen h = let Q : RunState → Type 0 = λ e. Queues (slice_get e.script.commands k) in subst Q (sym seen) h
 
 -- what is printed by default, as the engine is seen
-pub printed_by : (a : Inside) (e : RunState) (old new : SinkView) (r : Result Unit Ended) → run_of a ≡ e → Puts (Sent old new) (cond a.script.quiet [] (line_to 0 a.pattern.bytes)) r →
-    Puts (Sent old new) (cond e.script.quiet [] (line_to 0 e.state.pattern)) r
-printed_by a e old new r seen h = let Q : RunState → Type 0 = λ e. Puts (Sent old new) (cond e.script.quiet [] (line_to 0 e.state.pattern)) r in subst Q seen h
+pub printed_by : (a : Inside) (e : RunState) (old new : SinkView) (r : Result Unit Ended) → run_of a ≡ e → Puts old new (cond a.script.quiet [] (line_to 0 a.pattern.bytes)) r →
+    Puts old new (cond e.script.quiet [] (line_to 0 e.state.pattern)) r
+printed_by a e old new r seen h = let Q : RunState → Type 0 = λ e. Puts old new (cond e.script.quiet [] (line_to 0 e.state.pattern)) r in subst Q seen h
 
 -- what is written, as the engine is seen
-pub puts_seen : (a : Inside) (e : RunState) (f : RunState → List (ℕ × ℕ)) (P : List (ℕ × ℕ) → Type 0) (r : Result Unit Ended) → run_of a ≡ e → Puts P (f (run_of a)) r → Puts P (f e) r
-puts_seen a e f P r seen h = let Q : RunState → Type 0 = λ e. Puts P (f e) r in subst Q seen h
+pub puts_seen : (a : Inside) (e : RunState) (f : RunState → List (ℕ × ℕ)) (sinks sinks' : SinkView) (r : Result Unit Ended) → run_of a ≡ e → Puts sinks sinks' (f (run_of a)) r → Puts sinks sinks' (f e) r
+puts_seen a e f sinks sinks' r seen h = let Q : RunState → Type 0 = λ e. Puts sinks sinks' (f e) r in subst Q seen h
 
 -- an end that came while the queue was written is told of the engine, whatever it was to do next
-pub stopped_anyway : (l : Limits) (g : Setting) (s : State) (e : RunState) (ls : List (List ℕ)) (rest : List Task) (P : List (ℕ × ℕ) → Type 0) (end : Ended) → Moves l g s (then_do rest (at_lines e ls)) P (Err end) → Moves l g s (at_lines e ls) P (Err end)
-stopped_anyway l g s e ls rest P end h = Stopped-as l g s (then_do rest (at_lines e ls)) (at_lines e ls) P end refl refl refl refl h
+pub stopped_anyway : (l : Limits) (g : Setting) (s : State) (e : RunState) (ls : List (List ℕ)) (rest : List Task) (sinks sinks' : SinkView) (end : Ended) → Moves l g s (then_do rest (at_lines e ls)) sinks sinks' (Err end) → Moves l g s (at_lines e ls) sinks sinks' (Err end)
+stopped_anyway l g s e ls rest sinks sinks' end h = Stopped-as l g s (then_do rest (at_lines e ls)) (at_lines e ls) sinks sinks' end refl refl refl refl h

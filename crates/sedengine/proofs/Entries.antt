@@ -49,9 +49,9 @@ module _ (l : Limits) (g : Setting) (s : State) (rest : List Task) (entry : Entr
 
   -- a text is written
   pub text_written : (bytes : List ℕ) (now : State) (old new : SinkView) (turns : ℕ) (r : Result Unit Ended) → entry ≡ text bytes → turns ≡ s.turns → SameLengths s now → s.lines ≡ now.lines →
-      Puts (Sent old new) (line_to 0 bytes) r → CopiesEntry l g s (at_entries s later (flush ∷ rest) turns) now (Sent old new) r
+      Puts old new (line_to 0 bytes) r → CopiesEntry l g s (at_entries s later (flush ∷ rest) turns) now old new r
   text_written bytes now old new turns (Ok u) is same_turns same lines put =
-      let T : ℕ → Type 0 = λ n. Ran l g s (at_entries s later (flush ∷ rest) n) (Sent old new) in
+      let T : ℕ → Type 0 = λ n. Ran l g s (at_entries s later (flush ∷ rest) n) old new in
       let next = at_entries s later (flush ∷ rest) s.turns in
       subst T (sym same_turns) (ran_once l g s next old new (line_to 0 bytes) f (next_entry ∙ ap (λ e. flushes s rest (e ∷ later)) is) (fits_later l s later (flush ∷ rest) s.turns f shorter f.turns) put)
   text_written bytes now old new turns (Err end) is same_turns same lines put =
@@ -62,17 +62,17 @@ module _ (l : Limits) (g : Setting) (s : State) (rest : List Task) (entry : Entr
   -- a file is written, by a call from the state in which it stands first
   pub file_written : (k : ℕ) (now : State) (old new : SinkView) (turns : ℕ) (r : Result Unit Ended) → entry ≡ file k → SameLengths s now →
       (WithinLimits l (at_entries s later (copy k 0 ∷ flush ∷ rest) s.turns) → SameLengths (at_entries s later (copy k 0 ∷ flush ∷ rest) s.turns) now →
-      CopiesEntry l g (at_entries s later (copy k 0 ∷ flush ∷ rest) s.turns) (at_entries s later (flush ∷ rest) turns) now (Sent old new) r) →
-      CopiesEntry l g s (at_entries s later (flush ∷ rest) turns) now (Sent old new) r
+      CopiesEntry l g (at_entries s later (copy k 0 ∷ flush ∷ rest) s.turns) (at_entries s later (flush ∷ rest) turns) now old new r) →
+      CopiesEntry l g s (at_entries s later (flush ∷ rest) turns) now old new r
   file_written k now old new turns r is same call =
       let m = at_entries s later (copy k 0 ∷ flush ∷ rest) s.turns in
       let fits = fits_later l s later (copy k 0 ∷ flush ∷ rest) s.turns f shorter f.turns in
       let opened = ran_quietly l g s m old f (next_entry ∙ ap (λ e. flushes s rest (e ∷ later)) is) fits in
       go r opened (call fits (same_opened s now later k (flush ∷ rest) same shorter))
     where
-      go : (r : Result Unit Ended) → Ran l g s (at_entries s later (copy k 0 ∷ flush ∷ rest) s.turns) (Sent old old) →
-          CopiesEntry l g (at_entries s later (copy k 0 ∷ flush ∷ rest) s.turns) (at_entries s later (flush ∷ rest) turns) now (Sent old new) r →
-          CopiesEntry l g s (at_entries s later (flush ∷ rest) turns) now (Sent old new) r
+      go : (r : Result Unit Ended) → Ran l g s (at_entries s later (copy k 0 ∷ flush ∷ rest) s.turns) old old →
+          CopiesEntry l g (at_entries s later (copy k 0 ∷ flush ∷ rest) s.turns) (at_entries s later (flush ∷ rest) turns) now old new r →
+          CopiesEntry l g s (at_entries s later (flush ∷ rest) turns) now old new r
       go (Ok u) opened h = Moves-then l g s _ _ old old new (Ok u) opened refl h
       go (Err end) opened h = Moves-then l g s _ _ old old new (Err end) opened refl h
 
@@ -88,9 +88,9 @@ pub reached_none : (l : Limits) (g : Setting) (s : State) (sinks : SinkView) →
 reached_none l g s sinks f = record { t = 0; is = after_none g s; one = one_single g s; within = within_none l g s f; gained = rw written_none (Sent-none sinks) }
 
 -- a call that makes moves from there, within the cycle
-pub reached_more : (l : Limits) (g : Setting) (s m m' : State) (old mid new : SinkView) → Reached l g s m old mid → Ran l g m m' (Sent mid new) → starts_cycle m'.tasks ≡ false → Reached l g s m' old new
+pub reached_more : (l : Limits) (g : Setting) (s m m' : State) (old mid new : SinkView) → Reached l g s m old mid → Ran l g m m' mid new → starts_cycle m'.tasks ≡ false → Reached l g s m' old new
 reached_more l g s m m' old mid new a b goes =
-    let M : State → Type 0 = λ m. Ran l g m m' (Sent mid new) in
+    let M : State → Type 0 = λ m. Ran l g m m' mid new in
     let h = subst M (sym a.is) b in
     let at = after-add g s a.t h.t ∙ h.is in
     record {
@@ -102,9 +102,9 @@ reached_more l g s m m' old mid new a b goes =
     }
 
 -- the last call
-pub reached_last : (l : Limits) (g : Setting) (s m now : State) (old mid new : SinkView) (r : Result Unit Ended) → Reached l g s m old mid → Moves l g m now (Sent mid new) r → Moves l g s now (Sent old new) r
+pub reached_last : (l : Limits) (g : Setting) (s m now : State) (old mid new : SinkView) (r : Result Unit Ended) → Reached l g s m old mid → Moves l g m now mid new r → Moves l g s now old new r
 reached_last l g s m now old mid new r a b =
-    let M : State → Type 0 = λ m. Moves l g m now (Sent mid new) r in
+    let M : State → Type 0 = λ m. Moves l g m now mid new r in
     chain l g s now old mid new a.t r a.within a.one a.gained (subst M (sym a.is) b)
 
 -- a queue before its first entry is written
@@ -118,7 +118,7 @@ flush_begun l g s later rest turns sinks at queue same f =
 
 -- a queue whose entries all were written
 pub flush_done : (l : Limits) (g : Setting) (s : State) (later : List Entry) (rest : List Task) (turns : ℕ) (old new : SinkView) → WithinLimits l s → turns ≤ l.turns → later ≡ [] →
-    Reached l g s (at_entries s later (flush ∷ rest) turns) old new → Ran l g s (at_entries s [] rest turns) (Sent old new)
+    Reached l g s (at_entries s later (flush ∷ rest) turns) old new → Ran l g s (at_entries s [] rest turns) old new
 flush_done l g s later rest turns old new f most none a =
     let R : List Entry → Type 0 = λ q. Reached l g s (at_entries s q (flush ∷ rest) turns) old new in
     let m = at_entries s [] (flush ∷ rest) turns in

@@ -85,44 +85,44 @@ due g l rest part after empty is s =
 
 -- a part was written
 pub written_more : (old mid new : SinkView) (bytes rest part after : List ℕ) (g l : Listing) →
-    WrittenInPart (Sent old mid) bytes rest g.column → g.bytes ≡ [] → rest ≡ part ++ after → Lists g part l →
-    Sent mid new (to_sink 0 l.bytes) → WrittenInPart (Sent old new) bytes after l.column
+    WrittenInPart old mid bytes rest g.column → g.bytes ≡ [] → rest ≡ part ++ after → Lists g part l →
+    Sent mid new (to_sink 0 l.bytes) → WrittenInPart old new bytes after l.column
 written_more old mid new bytes rest part after g l w empty is s gained = record {
   beginning = w.beginning ++ l.bytes;
-  gains = rw to_sink-append (Sent-append w.gains gained);
+  sinks = rw to_sink-append (Sent-append w.sinks gained);
   whole = append_assoc w.beginning l.bytes _ ∙ ap (λ t. w.beginning ++ t) (sym (due g l rest part after empty is s)) ∙ w.whole;
 }
 
 -- a part was not written
 pub written_not : (old mid new : SinkView) (bytes rest part after : List ℕ) (g l : Listing) (end : Ended) →
-    WrittenInPart (Sent old mid) bytes rest g.column → g.bytes ≡ [] → rest ≡ part ++ after → Lists g part l →
-    Puts (Sent mid new) (to_sink 0 l.bytes) (Err end) → Puts (Sent old new) (to_sink 0 (listed bytes)) (Err end)
+    WrittenInPart old mid bytes rest g.column → g.bytes ≡ [] → rest ≡ part ++ after → Lists g part l →
+    Puts mid new (to_sink 0 l.bytes) (Err end) → Puts old new (to_sink 0 (listed bytes)) (Err end)
 written_not old mid new bytes rest part after g l end w empty is s p =
     let tail = listed_from l.column after in
     let whole : to_sink 0 (listed bytes) ≡ to_sink 0 w.beginning ++ (to_sink 0 l.bytes ++ to_sink 0 tail) =
     ap (to_sink 0) (sym w.whole ∙ ap (λ t. w.beginning ++ t) (due g l rest part after empty is s))
     ∙ to_sink-append 0 w.beginning (l.bytes ++ tail) ∙ ap (λ t. to_sink 0 w.beginning ++ t) (to_sink-append 0 l.bytes tail) in
     let left = Puts-left mid new (to_sink 0 l.bytes) (to_sink 0 tail) end p in
-    let all = Puts-append old mid new (to_sink 0 w.beginning) (to_sink 0 l.bytes ++ to_sink 0 tail) (Err end) w.gains left in
-    subst (λ (out : List (ℕ × ℕ)). Puts (Sent old new) out (Err end)) (sym whole) all
+    let all = Puts-append old mid new (to_sink 0 w.beginning) (to_sink 0 l.bytes ++ to_sink 0 tail) (Err end) w.sinks left in
+    subst (λ (out : List (ℕ × ℕ)). Puts old new out (Err end)) (sym whole) all
 
 -- the last part, with the end of the listing
 pub written_end : (old mid new : SinkView) (bytes rest : List ℕ) (g l : Listing) (r : Result Unit Ended) →
-    WrittenInPart (Sent old mid) bytes rest g.column → g.bytes ≡ [] → Lists g rest l →
-    Puts (Sent mid new) (to_sink 0 (l.bytes ++ 36 ∷ 10 ∷ [])) r → Puts (Sent old new) (to_sink 0 (listed bytes)) r
+    WrittenInPart old mid bytes rest g.column → g.bytes ≡ [] → Lists g rest l →
+    Puts mid new (to_sink 0 (l.bytes ++ 36 ∷ 10 ∷ [])) r → Puts old new (to_sink 0 (listed bytes)) r
 written_end old mid new bytes rest g l r w empty s p =
     let out = l.bytes ++ 36 ∷ 10 ∷ [] in
     let last : listed_from g.column rest ≡ out = due g l rest rest [] empty (sym (append-nil rest)) s in
     let whole : to_sink 0 (listed bytes) ≡ to_sink 0 w.beginning ++ to_sink 0 out =
     ap (to_sink 0) (sym w.whole ∙ ap (λ t. w.beginning ++ t) last) ∙ to_sink-append 0 w.beginning out in
-    subst (λ (out : List (ℕ × ℕ)). Puts (Sent old new) out r) (sym whole)
-    (Puts-append old mid new (to_sink 0 w.beginning) (to_sink 0 out) r w.gains p)
+    subst (λ (out : List (ℕ × ℕ)). Puts old new out r) (sym whole)
+    (Puts-append old mid new (to_sink 0 w.beginning) (to_sink 0 out) r w.sinks p)
 
 -- nothing was written yet
-pub written_none : (old : SinkView) (bytes : List ℕ) (column : ℕ) → column ≡ 0 → WrittenInPart (Sent old old) bytes bytes column
+pub written_none : (old : SinkView) (bytes : List ℕ) (column : ℕ) → column ≡ 0 → WrittenInPart old old bytes bytes column
 unfolding listed
 written_none old bytes column e = record {
   beginning = [];
-  gains = Sent-none old;
+  sinks = Sent-none old;
   whole = ap (λ n. listed_from n bytes) e;
 }

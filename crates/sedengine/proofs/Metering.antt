@@ -6,31 +6,12 @@ use Rattle.sedengine.specs.Limits.{Limits}
 use Rattle.sedengine.specs.State.{State, Setting}
 use Rattle.sedengine.specs.Devices.{part, FailedSink, FillsSink, GainedWithin, LimitIsSet, SinksAtEnd}
 use Rattle.sedengine.specs.Calls.{Delivers}
-use Rattle.sedengine.specs.Ends.{Cause, WholeOrBrokenOff, named_sink}
 use Rattle.sedengine.specs.Meters.{Frame, FullSink, InLimit, Meter, Sent, SinkView, counted}
 use Rattle.sedengine.specs.Run.{Cycles, Ending, Input, RunState, Sends, at_lines, outcome, setting}
 use Rattle.sedengine.specs.declared.ends.Ended.{Ended}
 use Rattle.sedengine.specs.declared.ends.Ended.TheVariants.{OutputFull}
 use Rattle.sedengine.specs.declared.ends.Progress.{Progress}
 use Rattle.sedengine.specs.declared.ends.Progress.TheVariants as progress
-
--- an end has its cause whatever more is said of what the sinks gained
-WholeOrBrokenOff-as : (l : Limits) (g : Setting) (s : State) (P Q : List (ℕ × ℕ) → Type 0) (end : Ended) (t : ℕ) (o : Option ℕ) → ((out : List (ℕ × ℕ)) → P out → Q out) → WholeOrBrokenOff l g s P end t o → WholeOrBrokenOff l g s Q end t o
-WholeOrBrokenOff-as l g s P Q end t None f h = record { within = h.within; sinks = f _ h.sinks; cause = h.cause }
-WholeOrBrokenOff-as l g s P Q end t (Some k) f h = record { within = h.within; b = h.b; byte = h.byte; past = h.past; due = h.due; sinks = f _ h.sinks }
-
-pub Cause-as : (l : Limits) (g : Setting) (s : State) (P Q : List (ℕ × ℕ) → Type 0) (end : Ended) (t : ℕ) → ((out : List (ℕ × ℕ)) → P out → Q out) → Cause l g s P end t → Cause l g s Q end t
-Cause-as l g s P Q end t f h = WholeOrBrokenOff-as l g s P Q end t (named_sink end) f h
-
-Ending-as : (l : Limits) (g : Setting) (s : State) (P Q : List (ℕ × ℕ) → Type 0) (old new : Input) (now : State) (end : Ended) → ((out : List (ℕ × ℕ)) → P out → Q out) → Ending l g s P old new now end → Ending l g s Q old new now end
-Ending-as l g s P Q old new now end f h = record { t = h.t; cause = Cause-as l g s P Q end h.t f h.cause; takes = h.takes; broken = h.broken; holds = h.holds }
-
-Cycles-as : (l : Limits) (g : Setting) (s : State) (P Q : List (ℕ × ℕ) → Type 0) (old new : Input) (e : RunState) (sent : List ℕ) (left : Option (List (List ℕ))) (r : Progress) → ((out : List (ℕ × ℕ)) → P out → Q out) →
-    Cycles l g s P old new e left r → Cycles l g s Q old new (record e { sent = sent }) left r
-unfolding Ending-as
-Cycles-as l g s P Q old new e sent left progress.More f (rest, are, h) =
-    (rest, are, record { t = h.t; some = h.some; is = h.is; next = h.next; one = h.one; within = h.within; sinks = f _ h.sinks; takes = h.takes })
-Cycles-as l g s P Q old new e sent left (progress.Ended end) f h = record { ending = Ending-as l g s P Q old new e.state end f h.ending; one = h.one }
 
 within_limit : (n : ℕ) (xs : List ℕ) (k : ℕ) → All (λ m. m ≤ n) xs → get_or xs k 0 ≤ n
 within_limit n [] k h = omega arith
@@ -102,15 +83,23 @@ module _ {O : Type 0} (contents : O → ℕ → Option (List ℕ)) (m m' : RunSt
       subst Q (sym is) (sends (record m { sent = meter.sent }) (record m' { sent = meter'.sent }) meter meter' (contents before) (contents after) f f' a a' r out limit same frame refl refl within full h)
 
   pub cycles_metered : (left : Option (List (List ℕ))) (r : Progress) → FullSink (tally_of (contents after) f' meter'.most meter'.sent a') (outcome r) →
-      Cycles m.limits (setting m files) (at_lines m ls) (Sent (tally_of (contents before) f meter.most meter.sent a) (tally_of (contents after) f' meter'.most meter'.sent a')) old new m' left r →
-      Cycles e.limits (setting e files) (at_lines e ls) (Sends e (record m' { sent = meter'.sent }) (contents before) (contents now) (outcome r)) old new (record m' { sent = meter'.sent }) left r
-  cycles_metered left r full h =
-      let Q : RunState → Type 0 = λ e. Cycles e.limits (setting e files) (at_lines e ls) (Sends e (record m' { sent = meter'.sent }) (contents before) (contents now) (outcome r)) old new (record m' { sent = meter'.sent }) left r in
-      subst Q seen (Cycles-as m.limits (setting m files) (at_lines m ls) _ _ old new m' meter'.sent left r (sends_all (outcome r) full) h)
+      (out : List (ℕ × ℕ)) × Sent (tally_of (contents before) f meter.most meter.sent a) (tally_of (contents after) f' meter'.most meter'.sent a') out × Cycles m.limits (setting m files) (at_lines m ls) out old new m' left r →
+      (out : List (ℕ × ℕ)) × Sends e (record m' { sent = meter'.sent }) (contents before) (contents now) (outcome r) out
+      × Cycles e.limits (setting e files) (at_lines e ls) out old new (record m' { sent = meter'.sent }) left r
+  cycles_metered left r full (out, sent, h) =
+      let Q : RunState → Type 0 = λ e. Sends e (record m' { sent = meter'.sent }) (contents before) (contents now) (outcome r) out × Cycles e.limits (setting e files) (at_lines e ls) out old new (record m' { sent = meter'.sent }) left r in
+      let both = subst Q seen (sends_all (outcome r) full out sent, cycles_of left r h) in
+      (out, both.0, both.1)
+    where
+      cycles_of : (left : Option (List (List ℕ))) (r : Progress) → Cycles m.limits (setting m files) (at_lines m ls) out old new m' left r →
+          Cycles m.limits (setting m files) (at_lines m ls) out old new (record m' { sent = meter'.sent }) left r
+      cycles_of left progress.More h = h
+      cycles_of left (progress.Ended end) h = h
 
   pub ending_metered : (end : Ended) → FullSink (tally_of (contents after) f' meter'.most meter'.sent a') (Err end) →
-      Ending m.limits (setting m files) (at_lines m ls) (Sent (tally_of (contents before) f meter.most meter.sent a) (tally_of (contents after) f' meter'.most meter'.sent a')) old new m'.state end →
-      Ending e.limits (setting e files) (at_lines e ls) (Sends e (record m' { sent = meter'.sent }) (contents before) (contents now) (Err end)) old new m'.state end
-  ending_metered end full h =
-      let Q : RunState → Type 0 = λ e. Ending e.limits (setting e files) (at_lines e ls) (Sends e (record m' { sent = meter'.sent }) (contents before) (contents now) (Err end)) old new m'.state end in
-      subst Q seen (Ending-as m.limits (setting m files) (at_lines m ls) _ _ old new m'.state end (sends_all (Err end) full) h)
+      (out : List (ℕ × ℕ)) × Sent (tally_of (contents before) f meter.most meter.sent a) (tally_of (contents after) f' meter'.most meter'.sent a') out × Ending m.limits (setting m files) (at_lines m ls) out old new m'.state end →
+      (out : List (ℕ × ℕ)) × Sends e (record m' { sent = meter'.sent }) (contents before) (contents now) (Err end) out × Ending e.limits (setting e files) (at_lines e ls) out old new m'.state end
+  ending_metered end full (out, sent, h) =
+      let Q : RunState → Type 0 = λ e. Sends e (record m' { sent = meter'.sent }) (contents before) (contents now) (Err end) out × Ending e.limits (setting e files) (at_lines e ls) out old new m'.state end in
+      let both = subst Q seen (sends_all (Err end) full out sent, h) in
+      (out, both.0, both.1)

@@ -1,5 +1,5 @@
 -- Moves one after another.
-use Rattle.std.proofs.Common.{◌≡◌, ℕ, suc, zero, ◌<◌, ◌+◌, ◌-◌, ◌≤◌, ◌⊎◌, inl, inr, false, List, [], ◌++◌, length, Option, Some, None, Result, Ok, Err, refl, subst, sym, ap, ◌∙◌, arith, length-append, append-nil, append_assoc, add-zero, add-suc}
+use Rattle.std.proofs.Common.{◌≡◌, ℕ, suc, zero, ◌<◌, ◌+◌, ◌-◌, ◌≤◌, ◌⊎◌, inl, inr, false, List, [], ◌++◌, length, take, Option, Some, None, Result, Ok, Err, refl, subst, sym, ap, ◌∙◌, arith, length-append, append-nil, append_assoc, add-zero, add-suc}
 use Rattle.std.proofs.Math.Seq.{take-append-add}
 use Rattle.sedengine.specs.Limits.{Limits}
 use Rattle.sedengine.specs.State.{Task, State, Move, Setting}
@@ -93,11 +93,11 @@ InOneCycle-more g s zero h goes = λ k some k_lt. absurd (omega arith)
 InOneCycle-more g s (suc t) h goes = λ k some k_lt. elim (last_or_less k t (omega arith)) [ inl less ↦ h k some (omega arith) | inr same ↦ rw same goes ]
 
 -- An end that comes u moves after the first t comes after t + u moves.
-WholeOrBrokenOff-add : (l : Limits) (g : Setting) (s : State) (old mid new : SinkView) (end : Ended) (t u : ℕ) (o : Option ℕ) → Within l g s t → Sent old mid (written g s t) →
-    WholeOrBrokenOff l g (after g s t) (Sent mid new) end u o → WholeOrBrokenOff l g s (Sent old new) end (t + u) o
-WholeOrBrokenOff-add l g s old mid new end t u None v a h =
-    record { within = Within-add l g s t u v h.within; sinks = rw written-add (Sent-append a h.sinks); cause = rw after-add h.cause }
-WholeOrBrokenOff-add l g s old mid new end t u (Some k) v a h =
+WholeOrBrokenOff-add : (l : Limits) (g : Setting) (s : State) (out : List (ℕ × ℕ)) (end : Ended) (t u : ℕ) (o : Option ℕ) → Within l g s t → WholeOrBrokenOff l g (after g s t) out end u o →
+    WholeOrBrokenOff l g s (written g s t ++ out) end (t + u) o
+WholeOrBrokenOff-add l g s out end t u None v h =
+    record { within = Within-add l g s t u v h.within; wrote = rw (written-add, h.wrote) refl; cause = rw after-add h.cause }
+WholeOrBrokenOff-add l g s out end t u (Some k) v h =
     let all : written g s (suc (t + u)) ≡ written g s t ++ written g (after g s t) (suc u) = rw (← add-suc) (written-add g s t (suc u)) in
     record {
       within = rw (← add-suc) (Within-add l g s t (suc u) v h.within);
@@ -105,12 +105,11 @@ WholeOrBrokenOff-add l g s old mid new end t u (Some k) v a h =
       byte = h.byte;
       past = rw (written-add, length-append) (let p = h.past in omega arith);
       due = rw all (slice_get-append_add (written g s t) _ h.b ∙ h.due);
-      sinks = rw (all, take-append-add) (Sent-append a h.sinks);
+      wrote = rw (all, take-append-add, h.wrote) refl;
     }
 
-pub Cause-add : (l : Limits) (g : Setting) (s : State) (old mid new : SinkView) (end : Ended) (t u : ℕ) → Within l g s t → Sent old mid (written g s t) →
-    Cause l g (after g s t) (Sent mid new) end u → Cause l g s (Sent old new) end (t + u)
-Cause-add l g s old mid new end t u v a h = WholeOrBrokenOff-add l g s old mid new end t u (named_sink end) v a h
+pub Cause-add : (l : Limits) (g : Setting) (s : State) (out : List (ℕ × ℕ)) (end : Ended) (t u : ℕ) → Within l g s t → Cause l g (after g s t) out end u → Cause l g s (written g s t ++ out) end (t + u)
+Cause-add l g s out end t u v h = WholeOrBrokenOff-add l g s out end t u (named_sink end) v h
 
 pub HoldsAt-add : (g : Setting) (s now : State) (t u : ℕ) (o : Option ℕ) → HoldsAt g (after g s t) u now o → HoldsAt g s (t + u) now o
 HoldsAt-add g s now t u None h = rw after-add h
@@ -120,7 +119,7 @@ HoldsAt-add g s now t u (Some k) (inr h) =
 
 -- what a call does after the first t moves
 pub chain : (l : Limits) (g : Setting) (s now : State) (old mid new : SinkView) (t : ℕ) (r : Result Unit Ended) → Within l g s t → InOneCycle g s (t + 1) → Sent old mid (written g s t) →
-    Moves l g (after g s t) now (Sent mid new) r → Moves l g s now (Sent old new) r
+    Moves l g (after g s t) now mid new r → Moves l g s now old new r
 chain l g s now old mid new t (Ok u) within one gained b = let some = b.some in record {
   t = t + b.t;
   some = omega arith;
@@ -131,7 +130,9 @@ chain l g s now old mid new t (Ok u) within one gained b = let some = b.some in 
 }
 chain l g s now old mid new t (Err end) within one gained b = record {
   t = t + b.t;
-  cause = Cause-add l g s old mid new end t b.t within gained b.cause;
+  out = written g s t ++ b.out;
+  sinks = Sent-append gained b.sinks;
+  cause = Cause-add l g s b.out end t b.t within b.cause;
   holds = HoldsAt-add g s now t b.t (named_sink end) b.holds;
   one = rw append_one (InOneCycle-add g s t (b.t + 1) one b.one);
   lines = ap (λ (x : State). x.lines) (after-add g s t b.t) ∙ b.lines;
@@ -141,15 +142,15 @@ chain l g s now old mid new t (Err end) within one gained b = record {
     append_one = omega arith
 
 -- one call after another, within a cycle
-pub Moves-then : (l : Limits) (g : Setting) (s m now : State) (old mid new : SinkView) (r : Result Unit Ended) → Ran l g s m (Sent old mid) → starts_cycle m.tasks ≡ false →
-    Moves l g m now (Sent mid new) r → Moves l g s now (Sent old new) r
+pub Moves-then : (l : Limits) (g : Setting) (s m now : State) (old mid new : SinkView) (r : Result Unit Ended) → Ran l g s m old mid → starts_cycle m.tasks ≡ false →
+    Moves l g m now mid new r → Moves l g s now old new r
 Moves-then l g s m now old mid new r a goes b =
-    let Q : State → Type 0 = λ m. Moves l g m now (Sent mid new) r in
+    let Q : State → Type 0 = λ m. Moves l g m now mid new r in
     let S : State → Type 0 = λ m. starts_cycle m.tasks ≡ false in
     chain l g s now old mid new a.t r a.within (InOneCycle-more g s a.t a.one (subst S (sym a.is) goes)) a.sinks (subst Q (sym a.is) b)
 
 -- one move that writes these bytes
-pub ran_once : (l : Limits) (g : Setting) (s now : State) (old new : SinkView) (out : List (ℕ × ℕ)) → WithinLimits l s → move g s ≡ writing out now → WithinLimits l now → Sent old new out → Ran l g s now (Sent old new)
+pub ran_once : (l : Limits) (g : Setting) (s now : State) (old new : SinkView) (out : List (ℕ × ℕ)) → WithinLimits l s → move g s ≡ writing out now → WithinLimits l now → Sent old new out → Ran l g s now old new
 ran_once l g s now old new out f is n gained =
     let m : Move = record { next = now; writes = out } in
     let at : after g s 1 ≡ now = after_one g s m is in
@@ -162,29 +163,31 @@ ran_once l g s now old new out f is n gained =
       sinks = rw (written_one g s m is) gained;
     }
 
-pub ran_quietly : (l : Limits) (g : Setting) (s now : State) (sinks : SinkView) → WithinLimits l s → move g s ≡ quietly now → WithinLimits l now → Ran l g s now (Sent sinks sinks)
+pub ran_quietly : (l : Limits) (g : Setting) (s now : State) (sinks : SinkView) → WithinLimits l s → move g s ≡ quietly now → WithinLimits l now → Ran l g s now sinks sinks
 ran_quietly l g s now sinks f is n = ran_once l g s now sinks sinks [] f is n (Sent-none sinks)
 
 -- a sink took no more in the next move
 pub stopped_writing : (l : Limits) (g : Setting) (s next now : State) (old new : SinkView) (out : List (ℕ × ℕ)) (end : Ended) → WithinLimits l s → move g s ≡ writing out next → WithinLimits l next →
-    SameLengths next now → s.lines ≡ now.lines → Puts (Sent old new) out (Err end) → Stopped l g s now (Sent old new) end
+    SameLengths next now → s.lines ≡ now.lines → Puts old new out (Err end) → Stopped l g s now old new end
 stopped_writing l g s next now old new out end f is n same lines (k, b, byte, end_is, due, sent) =
-    let C : Option ℕ → Type 0 = λ o. WholeOrBrokenOff l g s (Sent old new) end 0 o in
+    let C : Option ℕ → Type 0 = λ o. WholeOrBrokenOff l g s (take b out) end 0 o in
     let H : Option ℕ → Type 0 = λ o. HoldsAt g s 0 now o in
     let m : Move = record { next = next; writes = out } in
     let at : after g s 1 ≡ next = after_one g s m is in
     let all : written g s 1 ≡ out = written_one g s m is in
-    let cut : BrokenOff l g s (Sent old new) k 0 = record {
+    let cut : BrokenOff l g s (take b out) k 0 = record {
       within = within_one l g s f (rw at n);
       b = b;
       byte = byte;
       past = rw written_none (omega arith);
       due = rw all due;
-      sinks = rw all sent;
+      wrote = rw all refl;
     } in
     let last : SameLengths (after g s 1) now = rw at same in
     record {
       t = 0;
+      out = take b out;
+      sinks = sent;
       cause = subst C (sym end_is) cut;
       holds = subst H (sym end_is) (inr last);
       one = one_single g s;
@@ -192,19 +195,27 @@ stopped_writing l g s next now old new out end f is n same lines (k, b, byte, en
     }
 
 -- a move that writes these bytes, as far as the sink takes them
-pub moves_writing : (l : Limits) (g : Setting) (s now : State) (old new : SinkView) (out : List (ℕ × ℕ)) (r : Result Unit Ended) → WithinLimits l s → move g s ≡ writing out now → WithinLimits l now → s.lines ≡ now.lines → Puts (Sent old new) out r →
-    Moves l g s now (Sent old new) r
+pub moves_writing : (l : Limits) (g : Setting) (s now : State) (old new : SinkView) (out : List (ℕ × ℕ)) (r : Result Unit Ended) → WithinLimits l s → move g s ≡ writing out now → WithinLimits l now → s.lines ≡ now.lines → Puts old new out r →
+    Moves l g s now old new r
 moves_writing l g s now old new out (Ok u) f is n lines put = ran_once l g s now old new out f is n put
 moves_writing l g s now old new out (Err end) f is n lines put = stopped_writing l g s now now old new out end f is n (same_self now) lines put
 
 -- the end has come
-pub stopped_here : (l : Limits) (g : Setting) (s now : State) (sinks : SinkView) (end : Ended) → WithinLimits l s → named_sink end ≡ None → IsCause l g s end → SameLengths s now → s.lines ≡ now.lines → Stopped l g s now (Sent sinks sinks) end
+pub stopped_here : (l : Limits) (g : Setting) (s now : State) (sinks : SinkView) (end : Ended) → WithinLimits l s → named_sink end ≡ None → IsCause l g s end → SameLengths s now → s.lines ≡ now.lines → Stopped l g s now sinks sinks end
 stopped_here l g s now sinks end f none cause same lines =
-    let whole : Whole l g s (Sent sinks sinks) end 0 = record { within = within_none l g s f; sinks = rw written_none (Sent-none sinks); cause = rw after_none cause } in
-    let C : Option ℕ → Type 0 = λ o. WholeOrBrokenOff l g s (Sent sinks sinks) end 0 o in
+    let whole : Whole l g s [] end 0 = record { within = within_none l g s f; wrote = rw written_none refl; cause = rw after_none cause } in
+    let C : Option ℕ → Type 0 = λ o. WholeOrBrokenOff l g s [] end 0 o in
     let here : SameLengths (after g s 0) now = rw after_none same in
     let H : Option ℕ → Type 0 = λ o. HoldsAt g s 0 now o in
-    record { t = 0; cause = subst C (sym none) whole; holds = subst H (sym none) here; one = one_single g s; lines = ap (λ (x : State). x.lines) (after_none g s) ∙ lines }
+    record {
+      t = 0;
+      out = [];
+      sinks = Sent-none sinks;
+      cause = subst C (sym none) whole;
+      holds = subst H (sym none) here;
+      one = one_single g s;
+      lines = ap (λ (x : State). x.lines) (after_none g s) ∙ lines;
+    }
 
 -- what is told of a state is told of one with the same spaces and the same queue
 same_as : (s m now : State) → m.pattern ≡ now.pattern → m.hold ≡ now.hold → m.queue ≡ now.queue → SameLengths s m → SameLengths s now
@@ -223,10 +234,12 @@ holds_as g s t m now None p h q w = same_as (after g s t) m now p h q w
 holds_as g s t m now (Some k) p h q (inl w) = inl (same_as (after g s t) m now p h q w)
 holds_as g s t m now (Some k) p h q (inr w) = inr (same_as (after g s (suc t)) m now p h q w)
 
-pub Stopped-as : (l : Limits) (g : Setting) (s m now : State) (P : List (ℕ × ℕ) → Type 0) (end : Ended) → m.pattern ≡ now.pattern → m.hold ≡ now.hold → m.queue ≡ now.queue → m.lines ≡ now.lines →
-    Stopped l g s m P end → Stopped l g s now P end
-Stopped-as l g s m now P end p h q lines w = record {
+pub Stopped-as : (l : Limits) (g : Setting) (s m now : State) (sinks sinks' : SinkView) (end : Ended) → m.pattern ≡ now.pattern → m.hold ≡ now.hold → m.queue ≡ now.queue → m.lines ≡ now.lines →
+    Stopped l g s m sinks sinks' end → Stopped l g s now sinks sinks' end
+Stopped-as l g s m now sinks sinks' end p h q lines w = record {
   t = w.t;
+  out = w.out;
+  sinks = w.sinks;
   cause = w.cause;
   holds = holds_as g s w.t m now (named_sink end) p h q w.holds;
   one = w.one;
@@ -235,11 +248,11 @@ Stopped-as l g s m now P end p h q lines w = record {
 
 -- a move, and what a call does after it
 pub moves_then : (l : Limits) (g : Setting) (s m now : State) (old mid new : SinkView) (out : List (ℕ × ℕ)) (r : Result Unit Ended) → WithinLimits l s → move g s ≡ writing out m → WithinLimits l m → Sent old mid out → starts_cycle m.tasks ≡ false →
-    Moves l g m now (Sent mid new) r → Moves l g s now (Sent old new) r
+    Moves l g m now mid new r → Moves l g s now old new r
 moves_then l g s m now old mid new out r f is f' gained goes h = Moves-then l g s m now old mid new r (ran_once l g s m old mid out f is f' gained) goes h
 
 pub quietly_then : (l : Limits) (g : Setting) (s m now : State) (old new : SinkView) (r : Result Unit Ended) → WithinLimits l s → move g s ≡ quietly m → WithinLimits l m → starts_cycle m.tasks ≡ false →
-    Moves l g m now (Sent old new) r → Moves l g s now (Sent old new) r
+    Moves l g m now old new r → Moves l g s now old new r
 quietly_then l g s m now old new r f is f' goes h = moves_then l g s m now old old new [] r f is f' (Sent-none old) goes h
 
 -- the states at which moves began, and to which they led, are within the limits
@@ -251,16 +264,16 @@ fits_last : (l : Limits) (g : Setting) (s : State) (t : ℕ) → Within l g s t 
 unfolding Within
 fits_last l g s t w = w t (omega arith)
 
-pub ran_fits : (l : Limits) (g : Setting) (s now : State) (P : List (ℕ × ℕ) → Type 0) → Ran l g s now P → WithinLimits l s
-ran_fits l g s now P h = fits_first l g s h.t h.within
+pub ran_fits : (l : Limits) (g : Setting) (s now : State) (sinks sinks' : SinkView) → Ran l g s now sinks sinks' → WithinLimits l s
+ran_fits l g s now sinks sinks' h = fits_first l g s h.t h.within
 
-pub ran_fits_now : (l : Limits) (g : Setting) (s now : State) (P : List (ℕ × ℕ) → Type 0) → Ran l g s now P → WithinLimits l now
-ran_fits_now l g s now P h = let Q : State → Type 0 = λ s. WithinLimits l s in subst Q h.is (fits_last l g s h.t h.within)
+pub ran_fits_now : (l : Limits) (g : Setting) (s now : State) (sinks sinks' : SinkView) → Ran l g s now sinks sinks' → WithinLimits l now
+ran_fits_now l g s now sinks sinks' h = let Q : State → Type 0 = λ s. WithinLimits l s in subst Q h.is (fits_last l g s h.t h.within)
 
-stopped_within : (l : Limits) (g : Setting) (s : State) (P : List (ℕ × ℕ) → Type 0) (end : Ended) (t : ℕ) (o : Option ℕ) → WholeOrBrokenOff l g s P end t o → WithinLimits l s
-stopped_within l g s P end t None h = fits_first l g s t h.within
-stopped_within l g s P end t (Some k) h = fits_first l g s (suc t) h.within
+stopped_within : (l : Limits) (g : Setting) (s : State) (out : List (ℕ × ℕ)) (end : Ended) (t : ℕ) (o : Option ℕ) → WholeOrBrokenOff l g s out end t o → WithinLimits l s
+stopped_within l g s out end t None h = fits_first l g s t h.within
+stopped_within l g s out end t (Some k) h = fits_first l g s (suc t) h.within
 
-pub moves_fits : (l : Limits) (g : Setting) (s now : State) (P : List (ℕ × ℕ) → Type 0) (r : Result Unit Ended) → Moves l g s now P r → WithinLimits l s
-moves_fits l g s now P (Ok u) h = ran_fits l g s now P h
-moves_fits l g s now P (Err end) h = stopped_within l g s P end h.t (named_sink end) h.cause
+pub moves_fits : (l : Limits) (g : Setting) (s now : State) (sinks sinks' : SinkView) (r : Result Unit Ended) → Moves l g s now sinks sinks' r → WithinLimits l s
+moves_fits l g s now sinks sinks' (Ok u) h = ran_fits l g s now sinks sinks' h
+moves_fits l g s now sinks sinks' (Err end) h = stopped_within l g s h.out end h.t (named_sink end) h.cause

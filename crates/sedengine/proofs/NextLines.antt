@@ -12,7 +12,7 @@ use Rattle.sedengine.specs.State.{Task, print_pattern, flush, empty_pattern, fet
 use Rattle.sedengine.specs.Move.{move, acts, newline, none_left, quietly, then_do, with_line}
 use Rattle.sedengine.specs.Ends.{WithinLimits, IsCause, named_sink, line_at, reads, takes_turn}
 use Rattle.sedengine.specs.Held.{SameLengths}
-use Rattle.sedengine.specs.Meters.{Sent, SinkView}
+use Rattle.sedengine.specs.Meters.{SinkView}
 use Rattle.sedengine.specs.Run.{RunState, at_lines, setting, starts_cycle, lost}
 use Rattle.sedengine.specs.TakenInput.{size_of}
 use Rattle.sedengine.specs.Steps.{Moves, PerformsSteps, Ran, StepsFrom, TakesLines}
@@ -30,7 +30,7 @@ use Rattle.sedengine.proofs.Tasks.{fits_of, fits_tasks, halts_here}
 
 -- moves, and then a call that may take lines
 pub steps_then : {R : Type 0} (remaining : R → Option (List ℕ)) (o n : Stream R) (ls : List (List ℕ)) (l : Limits) (g : Setting) (s m : State) (e' : RunState) (old mid new : SinkView) (r : Result Unit Ended) →
-    Ran l g s m (Sent old mid) → starts_cycle m.tasks ≡ false → s.lines ≡ m.lines → StepsFrom remaining o n ls l g m e' (Sent mid new) r → StepsFrom remaining o n ls l g s e' (Sent old new) r
+    Ran l g s m old mid → starts_cycle m.tasks ≡ false → s.lines ≡ m.lines → StepsFrom remaining o n ls l g m e' mid new r → StepsFrom remaining o n ls l g s e' old new r
 steps_then {R} remaining o n ls l g s m e' old mid new (Ok u) ran goes same (rest, taken, h) = (rest, taken, Moves-then l g s m (at_lines e' rest) old mid new (Ok tt) ran goes h)
 steps_then {R} remaining o n ls l g s m e' old mid new (Err end) ran goes same h = record {
   rest = h.rest;
@@ -45,10 +45,10 @@ none_taken [] ls h = refl
 none_taken (x ∷ xs) ls h = absurd (omega (arith, ap length h, length-append (x ∷ xs) ls))
 
 -- a call that looks at the input and takes no line, and then moves
-pub looked_moves : {R : Type 0} (remaining : R → Option (List ℕ)) (o n : Stream R) (ls : List (List ℕ)) (l : Limits) (g : Setting) (s : State) (e' : RunState) (P : List (ℕ × ℕ) → Type 0) (r : Result Unit Ended) →
-    TakesLines remaining o n ls ls → s.lines ≡ ls → Moves l g s (at_lines e' ls) P r → StepsFrom remaining o n ls l g s e' P r
-looked_moves {R} remaining o n ls l g s e' P (Ok u) taken are h = (ls, taken, h)
-looked_moves {R} remaining o n ls l g s e' P (Err end) taken are h = record {
+pub looked_moves : {R : Type 0} (remaining : R → Option (List ℕ)) (o n : Stream R) (ls : List (List ℕ)) (l : Limits) (g : Setting) (s : State) (e' : RunState) (sinks sinks' : SinkView) (r : Result Unit Ended) →
+    TakesLines remaining o n ls ls → s.lines ≡ ls → Moves l g s (at_lines e' ls) sinks sinks' r → StepsFrom remaining o n ls l g s e' sinks sinks' r
+looked_moves {R} remaining o n ls l g s e' sinks sinks' (Ok u) taken are h = (ls, taken, h)
+looked_moves {R} remaining o n ls l g s e' sinks sinks' (Err end) taken are h = record {
   rest = ls;
   stopped = h;
   lines = [];
@@ -57,10 +57,10 @@ looked_moves {R} remaining o n ls l g s e' P (Err end) taken are h = record {
 }
 
 -- a call that looks at the input and takes no line, and then one that may take lines
-pub looked_then : {R : Type 0} (remaining : R → Option (List ℕ)) (a b c : Stream R) (ls : List (List ℕ)) (l : Limits) (g : Setting) (s : State) (e' : RunState) (P : List (ℕ × ℕ) → Type 0) (r : Result Unit Ended) →
-    TakesLines remaining a b ls ls → StepsFrom remaining b c ls l g s e' P r → StepsFrom remaining a c ls l g s e' P r
-looked_then {R} remaining a b c ls l g s e' P (Ok u) taken (rest, more, h) = (rest, TakesLines-then remaining a b c ls ls rest taken more, h)
-looked_then {R} remaining a b c ls l g s e' P (Err end) taken h = record {
+pub looked_then : {R : Type 0} (remaining : R → Option (List ℕ)) (a b c : Stream R) (ls : List (List ℕ)) (l : Limits) (g : Setting) (s : State) (e' : RunState) (sinks sinks' : SinkView) (r : Result Unit Ended) →
+    TakesLines remaining a b ls ls → StepsFrom remaining b c ls l g s e' sinks sinks' r → StepsFrom remaining a c ls l g s e' sinks sinks' r
+looked_then {R} remaining a b c ls l g s e' sinks sinks' (Ok u) taken (rest, more, h) = (rest, TakesLines-then remaining a b c ls ls rest taken more, h)
+looked_then {R} remaining a b c ls l g s e' sinks sinks' (Err end) taken h = record {
   rest = h.rest;
   stopped = h.stopped;
   lines = h.lines;
@@ -95,19 +95,19 @@ module _ {R : Type 0} (remaining : R → Option (List ℕ)) (old new : Stream R)
 
   -- the end comes where nothing was brought
   halts : (end : Ended) → e' ≡ with_pattern e c'.bytes → c' ≡ c → named_sink end ≡ None → lost e.limits end ≡ c.limit → LosesPart (left remaining old) (left remaining new) c.limit → IsCause e.limits g s end →
-      StepsFrom remaining old new ls e.limits g s e' (Sent sinks sinks) (Err end)
+      StepsFrom remaining old new ls e.limits g s e' sinks sinks (Err end)
   halts end after is no_sink loses part cause =
       let bytes : c'.bytes ≡ e.state.pattern = ap (λ (c : Contents). c.bytes) is ∙ pattern in
-      let Q : RunState → Type 0 = λ e'. StepsFrom remaining old new ls e.limits g s e' (Sent sinks sinks) (Err end) in
-      let B : List ℕ → Type 0 = λ bytes. StepsFrom remaining old new ls e.limits g s (with_pattern e bytes) (Sent sinks sinks) (Err end) in
+      let Q : RunState → Type 0 = λ e'. StepsFrom remaining old new ls e.limits g s e' sinks sinks (Err end) in
+      let B : List ℕ → Type 0 = λ bytes. StepsFrom remaining old new ls e.limits g s (with_pattern e bytes) sinks sinks (Err end) in
       let L : ℕ → Type 0 = λ n. LosesPart (left remaining old) (left remaining new) n in
       subst Q (sym after) (subst B (sym bytes) (halts_here remaining old new e.limits g s e sinks end fits no_sink cause here (subst L (sym loses) part)))
 
-  pub brings_steps : (r : Result Got Ended) → AfterBringing e c' e' r → Brings remaining old new ls before (e.state.number + 1) c c' r → StepsFrom remaining old new ls e.limits g s e' (Sent sinks sinks) (told r)
+  pub brings_steps : (r : Result Got Ended) → AfterBringing e c' e' r → Brings remaining old new ls before (e.state.number + 1) c c' r → StepsFrom remaining old new ls e.limits g s e' sinks sinks (told r)
   brings_steps (Ok Line) after (line, rest, are, taken, is, fit) =
-      let Q : RunState → Type 0 = λ e'. StepsFrom remaining old new ls e.limits g s e' (Sent sinks sinks) (Ok tt) in
+      let Q : RunState → Type 0 = λ e'. StepsFrom remaining old new ls e.limits g s e' sinks sinks (Ok tt) in
       let bytes : c'.bytes ≡ before ++ line = ap (λ (c : Contents). c.bytes) is in
-      let B : List ℕ → Type 0 = λ bytes. StepsFrom remaining old new ls e.limits g s (brought (with_pattern e bytes) Line) (Sent sinks sinks) (Ok tt) in
+      let B : List ℕ → Type 0 = λ bytes. StepsFrom remaining old new ls e.limits g s (brought (with_pattern e bytes) Line) sinks sinks (Ok tt) in
       subst Q (sym after) (subst B (sym bytes) (
         rest,
         taken,
@@ -115,9 +115,9 @@ module _ {R : Type 0} (remaining : R → Option (List ℕ)) (old new : Stream R)
             (record { pattern = omega (arith, fit, limit); hold = f.hold; queue = f.queue; turns = f.turns }),
       ))
   brings_steps (Ok End) after (are, taken, is) =
-      let Q : RunState → Type 0 = λ e'. StepsFrom remaining old new ls e.limits g s e' (Sent sinks sinks) (Ok tt) in
+      let Q : RunState → Type 0 = λ e'. StepsFrom remaining old new ls e.limits g s e' sinks sinks (Ok tt) in
       let bytes : c'.bytes ≡ e.state.pattern = ap (λ (c : Contents). c.bytes) is ∙ pattern in
-      let B : List ℕ → Type 0 = λ bytes. StepsFrom remaining old new ls e.limits g s (brought (with_pattern e bytes) End) (Sent sinks sinks) (Ok tt) in
+      let B : List ℕ → Type 0 = λ bytes. StepsFrom remaining old new ls e.limits g s (brought (with_pattern e bytes) End) sinks sinks (Ok tt) in
       let over : State = then_do [] (at_lines e []) in
       subst Q (sym after) (subst B (sym bytes) ([], taken, ran_quietly e.limits g s over sinks fits (none are ∙ ap (λ ls. quietly (then_do [] (at_lines e ls))) are) (record { pattern = f.pattern; hold = f.hold; queue = f.queue; turns = f.turns })))
   brings_steps (Err (PatternFull n)) after (number, (line, rest, are, more), is, gone) =
@@ -128,7 +128,7 @@ module _ {R : Type 0} (remaining : R → Option (List ℕ)) (old new : Stream R)
 -- `n`, `fetch`: the pattern space is emptied, and the next line comes in its place.
 pub fetch_steps : {R : Type 0} (remaining : R → Option (List ℕ)) (old new : Stream R) (ls : List (List ℕ)) (files : ℕ → List ℕ) (e e' : RunState) (sinks : SinkView) (c c' : Contents) (r : Result Got Ended) →
     WithinLimits e.limits (at_lines e ls) → c.limit ≡ e.limits.space → c.bytes ≡ [] → AfterBringing (with_pattern e []) c' e' r → Brings remaining old new ls c.bytes (e.state.number + 1) c c' r →
-    StepsFrom remaining old new ls e.limits (setting e files) (then_do (empty_pattern ∷ fetch ∷ e.state.tasks) (at_lines e ls)) e' (Sent sinks sinks) (told r)
+    StepsFrom remaining old new ls e.limits (setting e files) (then_do (empty_pattern ∷ fetch ∷ e.state.tasks) (at_lines e ls)) e' sinks sinks (told r)
 fetch_steps {R} remaining old new ls files e e' sinks c c' r f limit none after brings =
     let g : Setting = setting e files in
     let e1 : RunState = with_pattern e [] in
@@ -145,7 +145,7 @@ fetch_steps {R} remaining old new ls files e e' sinks c c' r f limit none after 
 -- `N`, `join`: a newline and the next line come after the pattern space.
 pub join_steps : {R : Type 0} (remaining : R → Option (List ℕ)) (old new : Stream R) (ls : List (List ℕ)) (files : ℕ → List ℕ) (e e' : RunState) (sinks : SinkView) (c c' : Contents) (r : Result Got Ended) →
     WithinLimits e.limits (at_lines e ls) → c.limit ≡ e.limits.space → c.bytes ≡ e.state.pattern → AfterBringing e c' e' r → Brings remaining old new ls (c.bytes ++ newline ∷ []) (e.state.number + 1) c c' r →
-    StepsFrom remaining old new ls e.limits (setting e files) (then_do (join ∷ e.state.tasks) (at_lines e ls)) e' (Sent sinks sinks) (told r)
+    StepsFrom remaining old new ls e.limits (setting e files) (then_do (join ∷ e.state.tasks) (at_lines e ls)) e' sinks sinks (told r)
 join_steps {R} remaining old new ls files e e' sinks c c' r f limit same after brings =
     let g : Setting = setting e files in
     let s : State = then_do (join ∷ e.state.tasks) (at_lines e ls) in
@@ -156,15 +156,15 @@ join_steps {R} remaining old new ls files e e' sinks c c' r f limit same after b
 -- The same for an engine with the fields a.
 module _ {R : Type 0} (remaining : R → Option (List ℕ)) (old new : Stream R) (ls : List (List ℕ)) (files : ℕ → List ℕ) (sinks : SinkView) (a : Inside) (e e' : RunState) (seen : run_of a ≡ e) (i : IsConsistent a) (c' : Contents) (r : Result Got Ended) where
   pub fetches_next : (c : Contents) → c ≡ record a.pattern { bytes = [] } → AfterBringing (run_of a) c' e' r → Brings remaining old new ls c.bytes (a.number + 1) c c' r →
-      StepsFrom remaining old new ls e.limits (setting e files) (then_do (empty_pattern ∷ fetch ∷ e.state.tasks) (at_lines e ls)) e' (Sent sinks sinks) (told r)
+      StepsFrom remaining old new ls e.limits (setting e files) (then_do (empty_pattern ∷ fetch ∷ e.state.tasks) (at_lines e ls)) e' sinks sinks (told r)
   fetches_next c is after brings =
-      let Q : RunState → Type 0 = λ e. StepsFrom remaining old new ls e.limits (setting e files) (then_do (empty_pattern ∷ fetch ∷ e.state.tasks) (at_lines e ls)) e' (Sent sinks sinks) (told r) in
+      let Q : RunState → Type 0 = λ e. StepsFrom remaining old new ls e.limits (setting e files) (then_do (empty_pattern ∷ fetch ∷ e.state.tasks) (at_lines e ls)) e' sinks sinks (told r) in
       subst Q seen (fetch_steps remaining old new ls files (run_of a) e' sinks c c' r (fits_of a ls i) (ap (λ (c : Contents). c.limit) is ∙ i.pattern_limit) (ap (λ (c : Contents). c.bytes) is) after brings)
 
   pub joins_next : AfterBringing (run_of a) c' e' r → Brings remaining old new ls (a.pattern.bytes ++ newline ∷ []) (a.number + 1) a.pattern c' r →
-      StepsFrom remaining old new ls e.limits (setting e files) (then_do (join ∷ e.state.tasks) (at_lines e ls)) e' (Sent sinks sinks) (told r)
+      StepsFrom remaining old new ls e.limits (setting e files) (then_do (join ∷ e.state.tasks) (at_lines e ls)) e' sinks sinks (told r)
   joins_next after brings =
-      let Q : RunState → Type 0 = λ e. StepsFrom remaining old new ls e.limits (setting e files) (then_do (join ∷ e.state.tasks) (at_lines e ls)) e' (Sent sinks sinks) (told r) in
+      let Q : RunState → Type 0 = λ e. StepsFrom remaining old new ls e.limits (setting e files) (then_do (join ∷ e.state.tasks) (at_lines e ls)) e' sinks sinks (told r) in
       subst Q seen (join_steps remaining old new ls files (run_of a) e' sinks a.pattern c' r (fits_of a ls i) i.pattern_limit refl after brings)
 
 -- A call for a line has brought it, or there is none.
@@ -224,36 +224,36 @@ next_goes e e' files ls last told is = rw (sym told ∙ is) refl
 
 -- What is left of the tasks after the queue was written: F tells them by those of the engine.
 pub flushed_steps : {R : Type 0} (remaining : R → Option (List ℕ)) (o n : Stream R) (ls : List (List ℕ)) (files : ℕ → List ℕ) (F : List Task → List Task) (s : State) (e e1 e' : RunState) (turns : ℕ) (old mid new : SinkView) (r : Result Unit Ended) →
-    e1 ≡ flushed e turns → starts_cycle (F e.state.tasks) ≡ false → s.lines ≡ ls → Ran e.limits (setting e files) s (then_do (F e.state.tasks) (at_lines e1 ls)) (Sent old mid) →
-    StepsFrom remaining o n ls e1.limits (setting e1 files) (then_do (F e1.state.tasks) (at_lines e1 ls)) e' (Sent mid new) r → StepsFrom remaining o n ls e.limits (setting e files) s e' (Sent old new) r
+    e1 ≡ flushed e turns → starts_cycle (F e.state.tasks) ≡ false → s.lines ≡ ls → Ran e.limits (setting e files) s (then_do (F e.state.tasks) (at_lines e1 ls)) old mid →
+    StepsFrom remaining o n ls e1.limits (setting e1 files) (then_do (F e1.state.tasks) (at_lines e1 ls)) e' mid new r → StepsFrom remaining o n ls e.limits (setting e files) s e' old new r
 flushed_steps {R} remaining o n ls files F s e e1 e' turns old mid new r is goes lines =
-    let Q : RunState → Type 0 = λ e1. Ran e.limits (setting e files) s (then_do (F e.state.tasks) (at_lines e1 ls)) (Sent old mid) → StepsFrom remaining o n ls e1.limits (setting e1 files) (then_do (F e1.state.tasks) (at_lines e1 ls)) e' (Sent mid new) r →
-    StepsFrom remaining o n ls e.limits (setting e files) s e' (Sent old new) r in
+    let Q : RunState → Type 0 = λ e1. Ran e.limits (setting e files) s (then_do (F e.state.tasks) (at_lines e1 ls)) old mid → StepsFrom remaining o n ls e1.limits (setting e1 files) (then_do (F e1.state.tasks) (at_lines e1 ls)) e' mid new r →
+    StepsFrom remaining o n ls e.limits (setting e files) s e' old new r in
     subst Q (sym is) (λ ran h. steps_then remaining o n ls e.limits (setting e files) s (then_do (F e.state.tasks) (at_lines (flushed e turns) ls)) e' old mid new r ran goes lines h)
 
-steps_fits : {R : Type 0} (remaining : R → Option (List ℕ)) (o n : Stream R) (ls : List (List ℕ)) (l : Limits) (g : Setting) (s : State) (e' : RunState) (P : List (ℕ × ℕ) → Type 0) (r : Result Unit Ended) → StepsFrom remaining o n ls l g s e' P r → WithinLimits l s
-steps_fits {R} remaining o n ls l g s e' P (Ok u) (rest, taken, h) = ran_fits l g s (at_lines e' rest) P h
-steps_fits {R} remaining o n ls l g s e' P (Err end) h = moves_fits l g s (at_lines e' h.rest) P (Err end) h.stopped
+steps_fits : {R : Type 0} (remaining : R → Option (List ℕ)) (o n : Stream R) (ls : List (List ℕ)) (l : Limits) (g : Setting) (s : State) (e' : RunState) (sinks sinks' : SinkView) (r : Result Unit Ended) → StepsFrom remaining o n ls l g s e' sinks sinks' r → WithinLimits l s
+steps_fits {R} remaining o n ls l g s e' sinks sinks' (Ok u) (rest, taken, h) = ran_fits l g s (at_lines e' rest) sinks sinks' h
+steps_fits {R} remaining o n ls l g s e' sinks sinks' (Err end) h = moves_fits l g s (at_lines e' h.rest) sinks sinks' (Err end) h.stopped
 
 -- A command makes a quiet move, and then what h says.
 pub performs_then : {R : Type 0} (remaining : R → Option (List ℕ)) (o n : Stream R) (ls : List (List ℕ)) (l : Limits) (g : Setting) (first : Option Move) (asks : Bool) (there m : State) (e' : RunState) (old new : SinkView) (r : Result Unit Ended) →
-    first ≡ quietly m → starts_cycle m.tasks ≡ false → there.lines ≡ m.lines → StepsFrom remaining o n ls l g m e' (Sent old new) r → PerformsSteps remaining o n ls l g first asks there e' (Sent old new) r
+    first ≡ quietly m → starts_cycle m.tasks ≡ false → there.lines ≡ m.lines → StepsFrom remaining o n ls l g m e' old new r → PerformsSteps remaining o n ls l g first asks there e' old new r
 performs_then {R} remaining o n ls l g first asks there m e' old new r is goes lines h = λ s c asked move_is.
-    steps_then remaining o n ls l g s m e' old old new r (ran_quietly l g s m old c.fits (move_is ∙ is) (steps_fits remaining o n ls l g m e' (Sent old new) r h)) goes (c.lines ∙ lines) h
+    steps_then remaining o n ls l g s m e' old old new r (ran_quietly l g s m old c.fits (move_is ∙ is) (steps_fits remaining o n ls l g m e' old new r h)) goes (c.lines ∙ lines) h
 
 -- The source failed where `n` asked whether a line is left.
 pub next_broken : {R : Type 0} (remaining : R → Option (List ℕ)) (o n : Stream R) (ls : List (List ℕ)) (g : Setting) (first : Option Move) (e : RunState) (sinks : SinkView) (end : Ended) → TakesLines remaining o n ls ls → TellsLine (none_left ls) (Err end) →
-    PerformsSteps remaining o n ls e.limits g first true (at_lines e ls) e (Sent sinks sinks) (Err end)
+    PerformsSteps remaining o n ls e.limits g first true (at_lines e ls) e sinks sinks (Err end)
 next_broken {R} remaining o n ls g first e sinks InputBroken taken told = λ s c asked move_is.
-    looked_moves remaining o n ls e.limits g s e (Sent sinks sinks) (Err InputBroken) taken c.lines (stopped_here e.limits g s (at_lines e ls) sinks InputBroken c.fits refl (asked refl) c.same c.lines)
+    looked_moves remaining o n ls e.limits g s e sinks sinks (Err InputBroken) taken c.lines (stopped_here e.limits g s (at_lines e ls) sinks InputBroken c.fits refl (asked refl) c.same c.lines)
 next_broken {R} remaining o n ls g first e sinks other taken told = absurd told
 
 -- `n` where no line is left
 pub next_stops : {R : Type 0} (remaining : R → Option (List ℕ)) (o n : Stream R) (ls : List (List ℕ)) (files : ℕ → List ℕ) (a : Inside) (e : RunState) (sinks : SinkView) (last : Bool) → run_of a ≡ e → IsConsistent a → TakesLines remaining o n ls ls → last ≡ none_left ls → last ≡ true →
-    PerformsSteps remaining o n ls e.limits (setting e files) (acts (setting e files) (at_lines e ls) true NextLine) true (at_lines e ls) (run_of (record a { place = p.Quit })) (Sent sinks sinks) (Ok tt)
+    PerformsSteps remaining o n ls e.limits (setting e files) (acts (setting e files) (at_lines e ls) true NextLine) true (at_lines e ls) (run_of (record a { place = p.Quit })) sinks sinks (Ok tt)
 next_stops {R} remaining o n ls files a e sinks last seen i taken told is =
-    let Q : RunState → Type 0 = λ e. PerformsSteps remaining o n ls e.limits (setting e files) (acts (setting e files) (at_lines e ls) true NextLine) true (at_lines e ls) (run_of (record a { place = p.Quit })) (Sent sinks sinks) (Ok tt) in
+    let Q : RunState → Type 0 = λ e. PerformsSteps remaining o n ls e.limits (setting e files) (acts (setting e files) (at_lines e ls) true NextLine) true (at_lines e ls) (run_of (record a { place = p.Quit })) sinks sinks (Ok tt) in
     let e0 : RunState = run_of a in
     let now : State = then_do (print_pattern ∷ flush ∷ []) (at_lines e0 ls) in
-    subst Q seen (λ s c asked first. looked_moves remaining o n ls a.limits (setting e0 files) s (run_of (record a { place = p.Quit })) (Sent sinks sinks) (Ok tt) taken c.lines
+    subst Q seen (λ s c asked first. looked_moves remaining o n ls a.limits (setting e0 files) s (run_of (record a { place = p.Quit })) sinks sinks (Ok tt) taken c.lines
     (ran_quietly a.limits (setting e0 files) s now sinks c.fits (first ∙ next_quits e0 e0 files ls last told is) (fits_tasks a.limits (at_lines e0 ls) (print_pattern ∷ flush ∷ []) (fits_of a ls i))))

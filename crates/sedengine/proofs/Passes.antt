@@ -128,9 +128,9 @@ passes_fewer e ahead w b n h fewer is whole some =
 
 -- nothing is passed over
 pub nothing_passed : {R : Type 0} (remaining : R → Option (List ℕ)) (from : Stream R) (ls : List (List ℕ)) (e e' : RunState) (g : Setting) (sinks : SinkView) → lines_left remaining from ≡ Some ls → WithinLimits e.limits (at_lines e ls) → e' ≡ e →
-    StepsPassing remaining from from ls e.limits g (at_lines e ls) e' (Sent sinks sinks) (Ok tt)
+    StepsPassing remaining from from ls e.limits g (at_lines e ls) e' sinks sinks (Ok tt)
 nothing_passed {R} remaining from ls e e' g sinks known fits same =
-    let Q : RunState → Type 0 = λ e'. StepsPassing remaining from from ls e.limits g (at_lines e ls) e' (Sent sinks sinks) (Ok tt) in
+    let Q : RunState → Type 0 = λ e'. StepsPassing remaining from from ls e.limits g (at_lines e ls) e' sinks sinks (Ok tt) in
     subst Q (sym same) (ls, lines_same remaining from ls known, record { t = 0; is = after_none g (at_lines e ls); within = within_none e.limits g (at_lines e ls) fits; sinks = rw written_none (Sent-none sinks) })
 
 same_engine : (e : RunState) (files : ℕ → List ℕ) (b : IdleLines) (k : ℕ) → b.judged ≡ judged e.script.commands e.script.substitutions b.reached → b.lines ≡ k → engine_after e (setting e files) b.reached k ≡ counted_block e b
@@ -139,7 +139,7 @@ same_engine e files b k used count = cc
 -- A block of the lines ahead was passed over.
 pub passes : {R : Type 0} (remaining : R → Option (List ℕ)) (from to : Stream R) (ls : List (List ℕ)) (e e' : RunState) (files : ℕ → List ℕ) (b : IdleLines) (old new : SinkView) →
     lines_left remaining from ≡ Some ls → PassesOver e from.ahead b → WithinLimits e.limits (at_lines e ls) → e.state.tasks ≡ begin ∷ [] → e.state.pattern ≡ [] → to ≡ record from { ahead = drop b.bytes from.ahead } → e' ≡ counted_block e b →
-    Sent old new (cond e.script.quiet [] (to_sink 0 (take b.bytes from.ahead))) → StepsPassing remaining from to ls e.limits (setting e files) (at_lines e ls) e' (Sent old new) (Ok tt)
+    Sent old new (cond e.script.quiet [] (to_sink 0 (take b.bytes from.ahead))) → StepsPassing remaining from to ls e.limits (setting e files) (at_lines e ls) e' old new (Ok tt)
 passes {R} remaining from to ls e e' files b old new known h fits begins empty taken counted sent =
     let n : ℕ = b.bytes in
     let w : List ℕ = take n from.ahead in
@@ -153,8 +153,8 @@ passes {R} remaining from to ls e e' files b old new known h fits begins empty t
     k.2 ∙ ap (λ a. lines (a ++ k.0)) (sym (take-append-drop n from.ahead)) ∙ ap lines (append_assoc w (drop n from.ahead) k.0) ∙ whole_then w bytes h.whole ∙ ap (λ w. lines w ++ lines bytes) p.1 in
     let count : b.lines ≡ length (lines (p.0 ++ 10 ∷ [])) = h.count ∙ ap (λ w. length (lines w)) p.1 in
     let size : length (p.0 ++ 10 ∷ []) ≤ e.limits.space = let n = ap length p.1 in omega (arith, n, length-take-le b.bytes from.ahead h.within, h.short) in
-    let S : List (List ℕ) → Type 0 = λ ls. StepsPassing remaining from to ls e.limits (setting e files) (at_lines e ls) e' (Sent old new) (Ok tt) in
-    let E : RunState → Type 0 = λ e'. StepsPassing remaining from to (lines (p.0 ++ 10 ∷ []) ++ lines bytes) e.limits (setting e files) (at_lines e (lines (p.0 ++ 10 ∷ []) ++ lines bytes)) e' (Sent old new) (Ok tt) in
+    let S : List (List ℕ) → Type 0 = λ ls. StepsPassing remaining from to ls e.limits (setting e files) (at_lines e ls) e' old new (Ok tt) in
+    let E : RunState → Type 0 = λ e'. StepsPassing remaining from to (lines (p.0 ++ 10 ∷ []) ++ lines bytes) e.limits (setting e files) (at_lines e (lines (p.0 ++ 10 ∷ []) ++ lines bytes)) e' old new (Ok tt) in
     subst S (sym all) (subst E (same_engine e files b (length (lines (p.0 ++ 10 ∷ []))) h.judged count ∙ sym counted)
     (block_passed remaining from to p.0 bytes e (setting e files) b.reached old new was is (program_finds e.script files) h.idle
     (record { fits = record { pattern = fits.pattern; hold = fits.hold; queue = fits.queue; turns = fits.turns }; begins = begins; empty = empty; none = h.none; ranges = h.ranges })
@@ -165,7 +165,7 @@ passes {R} remaining from to ls e e' files b old new known h fits begins empty t
 -- A sink took no more within a block.
 pub breaks : {R : Type 0} (remaining : R → Option (List ℕ)) (from to : Stream R) (ls : List (List ℕ)) (e e' : RunState) (files : ℕ → List ℕ) (b : IdleLines) (done : ℕ) (old new : SinkView) (end : Ended) →
     lines_left remaining from ≡ Some ls → PassesOver e from.ahead b → WithinLimits e.limits (at_lines e ls) → e.state.tasks ≡ begin ∷ [] → e.state.pattern ≡ [] → (x : BreaksOff from to e e' done) → x.start + length x.line < b.bytes → done < b.bytes →
-    e.script.quiet ≡ false → Sent old new (to_sink 0 (take done (take b.bytes from.ahead))) → named_sink end ≡ Some 0 → StepsPassing remaining from to ls e.limits (setting e files) (at_lines e ls) e' (Sent old new) (Err end)
+    e.script.quiet ≡ false → Sent old new (to_sink 0 (take done (take b.bytes from.ahead))) → named_sink end ≡ Some 0 → StepsPassing remaining from to ls e.limits (setting e files) (at_lines e ls) e' old new (Err end)
 breaks {R} remaining from to ls e e' files b done old new end known h fits begins empty x ends less loud sent names =
     let n : ℕ = x.start + length x.line + 1 in
     let first : List ℕ = take x.start from.ahead in
@@ -199,7 +199,7 @@ breaks {R} remaining from to ls e e' files b done old new end known h fits begin
     let alone : BlockLeftAlone (setting e files) b.reached e.state.number (lines (p ++ 10 ∷ [])) (lines (x.rest ++ k.0)) =
     subst (λ (r : List ℕ). BlockLeftAlone (setting e files) b.reached e.state.number (lines (p ++ 10 ∷ [])) (lines (r ++ k.0))) rest_left
     (subst (λ (w : List ℕ). BlockLeftAlone (setting e files) b.reached e.state.number (lines w) (lines (drop n from.ahead ++ k.0))) (sym taken_is) (alone_of e files from.ahead k.0 b' h')) in
-    let S : List (List ℕ) → Type 0 = λ ls. HaltedPassing remaining from to e.limits (setting e files) (at_lines e ls) e' (Sent old new) end in
+    let S : List (List ℕ) → Type 0 = λ ls. HaltedPassing remaining from to e.limits (setting e files) (at_lines e ls) e' old new end in
     subst S (sym all)
     (block_broken remaining from to p x.rest k.0 e e' (setting e files) b.reached (lines first) x.line d old new end was is line_is (program_finds e.script files) h.idle
     (record { fits = record { pattern = fits.pattern; hold = fits.hold; queue = fits.queue; turns = fits.turns }; begins = begins; empty = empty; none = h.none; ranges = h.ranges })
@@ -421,13 +421,13 @@ brought_is a e pattern k line seen bytes all =
 -- the same where the block was found under other names
 module _ {R : Type 0} (remaining : R → Option (List ℕ)) (from to : Stream R) (ls : List (List ℕ)) (e e₁ e' : RunState) (files : ℕ → List ℕ) (b : IdleLines) (ahead : List ℕ) where
   pub passes_seen : (old new : SinkView) → lines_left remaining from ≡ Some ls → e₁ ≡ e → ahead ≡ from.ahead → PassesOver e ahead b → WithinLimits e.limits (at_lines e ls) → e.state.tasks ≡ begin ∷ [] → e.state.pattern ≡ [] →
-      to ≡ record from { ahead = drop b.bytes from.ahead } → e' ≡ counted_block e₁ b → Sent old new (cond e₁.script.quiet [] (to_sink 0 (take b.bytes ahead))) → StepsPassing remaining from to ls e.limits (setting e files) (at_lines e ls) e' (Sent old new) (Ok tt)
+      to ≡ record from { ahead = drop b.bytes from.ahead } → e' ≡ counted_block e₁ b → Sent old new (cond e₁.script.quiet [] (to_sink 0 (take b.bytes ahead))) → StepsPassing remaining from to ls e.limits (setting e files) (at_lines e ls) e' old new (Ok tt)
   passes_seen old new known same is h fits begins empty taken counted sent =
       passes remaining from to ls e e' files b old new known (subst (λ (w : List ℕ). PassesOver e w b) is h) fits begins empty taken (counted ∙ ap (λ (e : RunState). counted_block e b) same)
       (subst (λ (e : RunState). Sent old new (cond e.script.quiet [] (to_sink 0 (take b.bytes from.ahead)))) same (subst (λ (w : List ℕ). Sent old new (cond e₁.script.quiet [] (to_sink 0 (take b.bytes w)))) is sent))
 
   pub breaks_seen : (cut : Cut) (old new : SinkView) → lines_left remaining from ≡ Some ls → e₁ ≡ e → ahead ≡ from.ahead → PassesOver e ahead b → WithinLimits e.limits (at_lines e ls) → e.state.tasks ≡ begin ∷ [] → e.state.pattern ≡ [] →
-      BreaksOffBy from to e₁ e' cut.done b.bytes → WritesLines (Sent old new) e₁.script.quiet (take b.bytes ahead) (Err cut) → StepsPassing remaining from to ls e.limits (setting e files) (at_lines e ls) e' (Sent old new) (Err cut.end)
+      BreaksOffBy from to e₁ e' cut.done b.bytes → WritesLines old new e₁.script.quiet (take b.bytes ahead) (Err cut) → StepsPassing remaining from to ls e.limits (setting e files) (at_lines e ls) e' old new (Err cut.end)
   breaks_seen cut old new known same is h fits begins empty off wrote =
       let x : BreaksOffBy from to e e' cut.done b.bytes = subst (λ (e : RunState). BreaksOffBy from to e e' cut.done b.bytes) same off in
       let loud : e.script.quiet ≡ false = subst (λ (e : RunState). e.script.quiet ≡ false) same wrote.0 in

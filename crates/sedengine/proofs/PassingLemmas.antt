@@ -22,6 +22,7 @@ use Rattle.sedengine.specs.State.{Task, begin, do_at, flush, empty_pattern, Stat
 use Rattle.sedengine.specs.Select.{Current, Selection, answer, selects, stands_for}
 use Rattle.sedengine.specs.Substitute.{Occurrence, occurrences, occurrences_from, to_replace, with_rest}
 use Rattle.sedengine.specs.Move.{acts, after, at_end, begins, current_of, flushes, is_active, line_to, move, newline, next_or_stay, none_left, passes, performs, quietly, reach, reached, replaces, substitutes, tells_at, then_do, to_replace_in, to_sink, writes_of, writing, written}
+use Rattle.sedengine.specs.Meters.{Sent, SinkView}
 use Rattle.sedengine.specs.Ends.{BrokenOff, WholeOrBrokenOff, WithinLimits, Within, named_sink}
 use Rattle.sedengine.specs.Held.{HoldsAt, SameLengths}
 use Rattle.sedengine.specs.declared.ends.Ended.{Ended}
@@ -412,10 +413,10 @@ out_parts before line more =
     ∙ ap (λ w. passed_out false before ++ w) (sym (outs-append false line more)) ∙ sym (append_assoc (passed_out false before) (line_to 0 line) (passed_out false more))
 
 -- A sink took no more in the move after those that lead to the state a, which writes this line.
-stopped_printing : (l : Limits) (g : Setting) (s a b now : State) (out tail : List (ℕ × ℕ)) (line : List ℕ) (t n d : ℕ) (gained : List (ℕ × ℕ) → Type 0) (end : Ended) →
+stopped_printing : (l : Limits) (g : Setting) (s a b now : State) (out tail : List (ℕ × ℕ)) (line : List ℕ) (t n d : ℕ) (old new : SinkView) (end : Ended) →
     Went l g s a out t → move g a ≡ writing (line_to 0 line) b → WithinLimits l b → length out ≡ n → d ≤ length line →
-    gained (take (n + d) ((out ++ line_to 0 line) ++ tail)) → named_sink end ≡ Some 0 → SameLengths a now → a.lines ≡ now.lines → StoppedPassing l g s now gained end
-stopped_printing l g s a b now out tail line t n d gained end went is fits long inside took names same lines =
+    Sent old new (take (n + d) ((out ++ line_to 0 line) ++ tail)) → named_sink end ≡ Some 0 → SameLengths a now → a.lines ≡ now.lines → StoppedPassing l g s now old new end
+stopped_printing l g s a b now out tail line t n d old new end went is fits long inside took names same lines =
     let piece : List (ℕ × ℕ) = line_to 0 line in
     let next : Went l g s b (out ++ piece) (t + 1) = went_on l g s a b out piece t 1 went (went_one l g a b piece (went_fits l g s a out t went) is fits) in
     let one : t + 1 ≡ suc t = omega arith in
@@ -424,18 +425,21 @@ stopped_printing l g s a b now out tail line t n d gained end went is fits long 
     let due : slice_get (out ++ piece) (n + d) ≡ Some (0, get_or (line ++ newline ∷ []) d 0) =
     ap (λ n. slice_get (out ++ piece) (n + d)) (sym long) ∙ slice_get-append_add out piece d ∙ slice_get-to_sink 0 d (line ++ newline ∷ []) within_line in
     let all : n + d ≤ length (out ++ piece) = omega (arith, length-append out piece, length-to_sink 0 (line ++ newline ∷ [])) in
-    let cut : BrokenOff l g s gained 0 t = record {
+    let gains : List (ℕ × ℕ) = take (n + d) ((out ++ piece) ++ tail) in
+    let cut : BrokenOff l g s gains 0 t = record {
       within = there.within;
       b = n + d;
       byte = get_or (line ++ newline ∷ []) d 0;
       past = rw went.wrote (omega arith);
       due = ap (λ w. slice_get w (n + d)) there.wrote ∙ due;
-      sinks = subst gained (take-append-le (n + d) (out ++ piece) tail all ∙ ap (take (n + d)) (sym there.wrote)) took;
+      wrote = ap (take (n + d)) there.wrote ∙ sym (take-append-le (n + d) (out ++ piece) tail all);
     } in
     let here : SameLengths (after g s t) now = subst (λ (x : State). SameLengths x now) (sym went.is) same in
     record {
       t = t;
-      cause = subst (λ (o : Option ℕ). WholeOrBrokenOff l g s gained end t o) (sym names) cut;
+      out = gains;
+      sinks = took;
+      cause = subst (λ (o : Option ℕ). WholeOrBrokenOff l g s gains end t o) (sym names) cut;
       holds = subst (λ (o : Option ℕ). HoldsAt g s t now o) (sym names) (inl here);
       lines = ap (λ (x : State). x.lines) went.is ∙ lines;
     }
@@ -468,12 +472,12 @@ module _ (l : Limits) (g : Setting) (c : ℕ) (finds : FindsAsItSearches g) (idl
 
   -- a sink took no more inside the line after some others of a block, whose bytes it gained before; `now` has this line in the
   -- pattern space
-  pub broken_block : (s : State) (can : CanPass l g c s) (before : List (List ℕ)) (line : List ℕ) (more rest : List (List ℕ)) (now : State) (d : ℕ) (gained : List (ℕ × ℕ) → Type 0) (end : Ended) →
+  pub broken_block : (s : State) (can : CanPass l g c s) (before : List (List ℕ)) (line : List ℕ) (more rest : List (List ℕ)) (now : State) (d : ℕ) (old new : SinkView) (end : Ended) →
       s.lines ≡ (before ++ line ∷ more) ++ rest → AllLeftAlone g c s.number (before ++ line ∷ more) rest → All (λ x. length x ≤ l.space) (before ++ line ∷ more) →
       s.turns + length before * (c + 1) + 1 + c ≤ l.turns → g.quiet ≡ false → d ≤ length line →
-      gained (take (length (bytes_of before) + d) (to_sink 0 (bytes_of (before ++ line ∷ more)))) → named_sink end ≡ Some 0 →
-      SameLengths (line_due g c (length before) line (more ++ rest) s) now → now.lines ≡ more ++ rest → StoppedPassing l g s now gained end
-  broken_block s can before line more rest now d gained end is alone shorts turns loud inside took names same lines =
+      Sent old new (take (length (bytes_of before) + d) (to_sink 0 (bytes_of (before ++ line ∷ more)))) → named_sink end ≡ Some 0 →
+      SameLengths (line_due g c (length before) line (more ++ rest) s) now → now.lines ≡ more ++ rest → StoppedPassing l g s now old new end
+  broken_block s can before line more rest now d old new end is alone shorts turns loud inside took names same lines =
       let parts = alone-append g c s.number before (line ∷ more) rest alone in
       let short_parts = All-apart (λ x. length x ≤ l.space) before (line ∷ more) shorts in
       let a : State = line_due g c (length before) line (more ++ rest) s in
@@ -484,10 +488,11 @@ module _ (l : Limits) (g : Setting) (c : ℕ) (finds : FindsAsItSearches g) (idl
       let b : State = record a { tasks = flush ∷ empty_pattern ∷ begin ∷ [] } in
       let prints_it : move g a ≡ writing (line_to 0 line) b = move_at g a at_end refl ∙ ap (λ q. writing (cond q [] (line_to 0 line)) b) loud in
       let fits = went_fits l g s a (passed_out false before) (length before * moves_of c + (c + 2)) went' in
-      stopped_printing l g s a b now (passed_out false before) (passed_out false more) line (length before * moves_of c + (c + 2)) (length (bytes_of before)) d gained end
+      stopped_printing l g s a b now (passed_out false before) (passed_out false more) line (length before * moves_of c + (c + 2)) (length (bytes_of before)) d old new end
       went' prints_it (record { pattern = fits.pattern; hold = fits.hold; queue = fits.queue; turns = fits.turns }) (length-to_sink 0 (bytes_of before)) inside
-      (subst (λ (w : List (ℕ × ℕ)). gained (take (length (bytes_of before) + d) w)) (out_parts before line more) took) names same (sym lines)
+      (subst (λ (w : List (ℕ × ℕ)). Sent old new (take (length (bytes_of before) + d) w)) (out_parts before line more) took) names same (sym lines)
 
 -- lines of which all that they write was written are passed over
-pub all_passed : (l : Limits) (g : Setting) (s now : State) (out : List (ℕ × ℕ)) (t : ℕ) (gained : List (ℕ × ℕ) → Type 0) → Went l g s now out t → gained out → Passed l g s now gained
-all_passed l g s now out t gained went took = record { t = t; is = went.is; within = went.within; sinks = subst gained (sym went.wrote) took }
+pub all_passed : (l : Limits) (g : Setting) (s now : State) (out : List (ℕ × ℕ)) (t : ℕ) (old new : SinkView) → Went l g s now out t → Sent old new out → Passed l g s now old new
+all_passed l g s now out t old new went took =
+    record { t = t; is = went.is; within = went.within; sinks = subst (λ (w : List (ℕ × ℕ)). Sent old new w) (sym went.wrote) took }

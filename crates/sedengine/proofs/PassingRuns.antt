@@ -9,7 +9,7 @@ use Rattle.sedspace.specs.Lines.{lines, TakesAtMost}
 use Rattle.sedspace.specs.Stream.{Stream, left}
 use Rattle.sedengine.specs.Limits.{Limits}
 use Rattle.sedengine.specs.State.{State, Setting}
-use Rattle.sedengine.specs.Move.{after, to_sink}
+use Rattle.sedengine.specs.Move.{after, to_sink, written}
 use Rattle.sedengine.specs.Meters.{Sent, SinkView}
 use Rattle.sedengine.specs.Ends.{named_sink}
 use Rattle.std.specs.Io.KnownBytes.{prepend_known}
@@ -32,23 +32,23 @@ use Rattle.sedengine.proofs.Gains.{to_sink-append}
 -- The run that began with the engine a and the lines `from`, and came to the engine e.
 module _ {R : Type 0} (remaining : R → Option (List ℕ)) (from at to : Stream R) (files : ℕ → List ℕ) (a : RunState) (s : State) (e : RunState) (old mid new : SinkView) (same : KeepsRun a e)
     (r : Reached remaining from at a.limits (setting a files) s e old mid) where
-  pub passed_on : (e' : RunState) (rest : List (List ℕ)) → Passed e.limits (setting e files) (at_lines e r.rest) (at_lines e' rest) (Sent mid new) → Passed a.limits (setting a files) (after (setting a files) s r.t) (at_lines e' rest) (Sent mid new)
+  pub passed_on : (e' : RunState) (rest : List (List ℕ)) → Passed e.limits (setting e files) (at_lines e r.rest) (at_lines e' rest) mid new → Passed a.limits (setting a files) (after (setting a files) s r.t) (at_lines e' rest) mid new
   passed_on e' rest h =
-      let P : Limits → Type 0 = λ l. Passed l (setting e files) (at_lines e r.rest) (at_lines e' rest) (Sent mid new) in
-      let Q : Setting → Type 0 = λ g. Passed a.limits g (at_lines e r.rest) (at_lines e' rest) (Sent mid new) in
-      let S : State → Type 0 = λ m. Passed a.limits (setting a files) m (at_lines e' rest) (Sent mid new) in
+      let P : Limits → Type 0 = λ l. Passed l (setting e files) (at_lines e r.rest) (at_lines e' rest) mid new in
+      let Q : Setting → Type 0 = λ g. Passed a.limits g (at_lines e r.rest) (at_lines e' rest) mid new in
+      let S : State → Type 0 = λ m. Passed a.limits (setting a files) m (at_lines e' rest) mid new in
       subst S (sym r.is) (subst Q (same_setting a e files same) (subst P same.limits h))
 
-  pub passing_halted_on : (e' : RunState) (end : Ended) → HaltedPassing remaining at to e.limits (setting e files) (at_lines e r.rest) e' (Sent mid new) end →
-      HaltedPassing remaining at to a.limits (setting a files) (after (setting a files) s r.t) e' (Sent mid new) end
+  pub passing_halted_on : (e' : RunState) (end : Ended) → HaltedPassing remaining at to e.limits (setting e files) (at_lines e r.rest) e' mid new end →
+      HaltedPassing remaining at to a.limits (setting a files) (after (setting a files) s r.t) e' mid new end
   passing_halted_on e' end h =
-      let P : Limits → Type 0 = λ l. HaltedPassing remaining at to l (setting e files) (at_lines e r.rest) e' (Sent mid new) end in
-      let Q : Setting → Type 0 = λ g. HaltedPassing remaining at to a.limits g (at_lines e r.rest) e' (Sent mid new) end in
-      let S : State → Type 0 = λ m. HaltedPassing remaining at to a.limits (setting a files) m e' (Sent mid new) end in
+      let P : Limits → Type 0 = λ l. HaltedPassing remaining at to l (setting e files) (at_lines e r.rest) e' mid new end in
+      let Q : Setting → Type 0 = λ g. HaltedPassing remaining at to a.limits g (at_lines e r.rest) e' mid new end in
+      let S : State → Type 0 = λ m. HaltedPassing remaining at to a.limits (setting a files) m e' mid new end in
       subst S (sym r.is) (subst Q (same_setting a e files same) (subst P same.limits h))
 
   -- the run goes on
-  abbrev pub pass_on : (e' : RunState) → StepsPassing remaining at to r.rest e.limits (setting e files) (at_lines e r.rest) e' (Sent mid new) (Ok tt) → Reached remaining from to a.limits (setting a files) s e' old new
+  abbrev pub pass_on : (e' : RunState) → StepsPassing remaining at to r.rest e.limits (setting e files) (at_lines e r.rest) e' mid new (Ok tt) → Reached remaining from to a.limits (setting a files) s e' old new
   pass_on e' (rest, taken, ran) =
       let g : Setting = setting a files in
       let h = passed_on e' rest ran in
@@ -62,9 +62,9 @@ module _ {R : Type 0} (remaining : R → Option (List ℕ)) (from at to : Stream
       }
 
   -- it ends
-  abbrev pub pass_stop : (e' : RunState) (end : Ended) → StepsPassing remaining at to r.rest e.limits (setting e files) (at_lines e r.rest) e' (Sent mid new) (Err end) →
+  abbrev pub pass_stop : (e' : RunState) (end : Ended) → StepsPassing remaining at to r.rest e.limits (setting e files) (at_lines e r.rest) e' mid new (Err end) →
       (k : ℕ) × TakesAtMost (remaining from.source) (remaining to.source) k → length to.ahead ≤ max (length from.ahead) from.look → from.look ≡ a.limits.look → (end ≡ InputBroken → to.ahead ≡ []) →
-      Ending a.limits (setting a files) s (Sent old new) (input_of remaining from) (input_of remaining to) e'.state end
+      (out : List (ℕ × ℕ)) × Sent old new out × Ending a.limits (setting a files) s out (input_of remaining from) (input_of remaining to) e'.state end
   pass_stop e' end halted shrinks ahead look drained =
       let g : Setting = setting a files in
       let h = passing_halted_on e' end halted in
@@ -73,18 +73,21 @@ module _ {R : Type 0} (remaining : R → Option (List ℕ)) (from at to : Stream
       let are : s.lines ≡ (r.taken.lines ++ h.lines) ++ (after g s (r.t + u)).lines =
       r.taken.are ∙ ap (λ x. r.taken.lines ++ x) (rest ∙ h.are ∙ ap (λ x. h.lines ++ x) (sym h.stopped.lines ∙ ap (λ (x : State). x.lines) (sym (after-add g s r.t u)))) ∙ sym (append_assoc r.taken.lines h.lines _) in
       let sizes : size_of r.taken.lines + size_of h.lines ≤ size_of (r.taken.lines ++ h.lines) = let e = size_of-append r.taken.lines h.lines in omega arith in
-      let all = LosesPartAfter-then (left remaining from) (left remaining at) (left remaining to) _ _ _ _ sizes r.taken.bytes h.bytes in
-      record {
-        t = r.t + u;
-        cause = Cause-add a.limits g s old mid new end r.t u r.within r.gained h.stopped.cause;
-        takes = takes_of remaining from to a.limits g s (r.t + u) (lost a.limits end) (more_at a.limits end) (r.taken.lines ++ h.lines) are all shrinks (rw look at ahead) (lost_more a.limits end);
-        broken = λ is.
-            let P : Option (List ℕ) → Type 0 = λ o. LosesPartAfter (left remaining from) o (size_of (r.taken.lines ++ h.lines)) a.limits.space in
-            let L : Ended → Type 0 = λ end. LosesPartAfter (left remaining from) (left remaining to) (size_of (r.taken.lines ++ h.lines)) (lost a.limits end) in
-            let all_left : left remaining to ≡ remaining to.source = ap (λ bs. prepend_known bs (remaining to.source)) (drained is) ∙ prepend_known-nil _ in
-            (r.taken.lines ++ h.lines, are, subst P all_left (subst L is all));
-        holds = HoldsAt-add g s e'.state r.t u (named_sink end) (without_lines g (after g s r.t) u e' h.rest (named_sink end) h.stopped.holds);
-      }
+      let all = LosesPartAfter-then (left remaining from) (left remaining at) (left remaining to) _ _ _ _ sizes r.taken.bytes h.bytes in (
+        written g s r.t ++ h.stopped.out,
+        Sent-append r.gained h.stopped.sinks,
+        record {
+          t = r.t + u;
+          cause = Cause-add a.limits g s h.stopped.out end r.t u r.within h.stopped.cause;
+          takes = takes_of remaining from to a.limits g s (r.t + u) (lost a.limits end) (more_at a.limits end) (r.taken.lines ++ h.lines) are all shrinks (rw look at ahead) (lost_more a.limits end);
+          broken = λ is.
+              let P : Option (List ℕ) → Type 0 = λ o. LosesPartAfter (left remaining from) o (size_of (r.taken.lines ++ h.lines)) a.limits.space in
+              let L : Ended → Type 0 = λ end. LosesPartAfter (left remaining from) (left remaining to) (size_of (r.taken.lines ++ h.lines)) (lost a.limits end) in
+              let all_left : left remaining to ≡ remaining to.source = ap (λ bs. prepend_known bs (remaining to.source)) (drained is) ∙ prepend_known-nil _ in
+              (r.taken.lines ++ h.lines, are, subst P all_left (subst L is all));
+          holds = HoldsAt-add g s e'.state r.t u (named_sink end) (without_lines g (after g s r.t) u e' h.rest (named_sink end) h.stopped.holds);
+        },
+      )
 
 -- a block that is taken from what is still to come
 block_gone : {R : Type 0} (remaining : R → Option (List ℕ)) (old new : Stream R) (block bytes : List ℕ) → left remaining old ≡ Some ((block ++ 10 ∷ []) ++ bytes) → left remaining new ≡ Some bytes →
@@ -106,17 +109,17 @@ block_taken {R} remaining old new block bytes was is = record {
 -- the lines of a block, passed over
 pub lines_passed : (e : RunState) (g : Setting) (c : ℕ) (old new : SinkView) (block rest : List (List ℕ)) → 0 < length block → FindsAsItSearches g → IsIdleIn g c → CanPass e.limits g c (at_lines e (block ++ rest)) →
     BlockLeftAlone g c e.state.number block rest → All (λ x. length x ≤ e.limits.space) block → e.state.turns + length block * (c + 1) ≤ e.limits.turns → Sent old new (passed_out g.quiet block) →
-    Passed e.limits g (at_lines e (block ++ rest)) (at_lines (engine_after e g c (length block)) rest) (Sent old new)
+    Passed e.limits g (at_lines e (block ++ rest)) (at_lines (engine_after e g c (length block)) rest) old new
 lines_passed e g c old new [] rest some finds idle can alone short turns took = absurd (omega arith)
 lines_passed e g c old new (line ∷ lines) rest some finds idle can alone short turns took =
-    all_passed e.limits g (at_lines e (line ∷ (lines ++ rest))) (at_lines (engine_after e g c (length (line ∷ lines))) rest) (passed_out g.quiet (line ∷ lines)) (length (line ∷ lines) * moves_of c) (Sent old new)
+    all_passed e.limits g (at_lines e (line ∷ (lines ++ rest))) (at_lines (engine_after e g c (length (line ∷ lines))) rest) (passed_out g.quiet (line ∷ lines)) (length (line ∷ lines) * moves_of c) old new
     (idle_block e.limits g c finds idle (at_lines e (line ∷ (lines ++ rest))) can line lines rest refl (block_left_alone g c e.state.number (line ∷ lines) rest alone) short turns) took
 
 pub block_passed : {R : Type 0} (remaining : R → Option (List ℕ)) (from to : Stream R) (block bytes : List ℕ) (e : RunState) (g : Setting) (c : ℕ) (old new : SinkView) →
     left remaining from ≡ Some ((block ++ 10 ∷ []) ++ bytes) → left remaining to ≡ Some bytes → FindsAsItSearches g → IsIdleIn g c →
     CanPass e.limits g c (at_lines e (lines (block ++ 10 ∷ []) ++ lines bytes)) → BlockLeftAlone g c e.state.number (lines (block ++ 10 ∷ [])) (lines bytes) →
     All (λ x. length x ≤ e.limits.space) (lines (block ++ 10 ∷ [])) → e.state.turns + length (lines (block ++ 10 ∷ [])) * (c + 1) ≤ e.limits.turns → Sent old new (cond g.quiet [] (to_sink 0 (block ++ 10 ∷ []))) →
-    StepsPassing remaining from to (lines (block ++ 10 ∷ []) ++ lines bytes) e.limits g (at_lines e (lines (block ++ 10 ∷ []) ++ lines bytes)) (engine_after e g c (length (lines (block ++ 10 ∷ [])))) (Sent old new) (Ok tt)
+    StepsPassing remaining from to (lines (block ++ 10 ∷ []) ++ lines bytes) e.limits g (at_lines e (lines (block ++ 10 ∷ []) ++ lines bytes)) (engine_after e g c (length (lines (block ++ 10 ∷ [])))) old new (Ok tt)
 block_passed {R} remaining from to block bytes e g c old new was is finds idle can alone short turns took =
     let out : cond g.quiet [] (to_sink 0 (block ++ 10 ∷ [])) ≡ passed_out g.quiet (lines (block ++ 10 ∷ [])) = ap (λ bs. cond g.quiet [] (to_sink 0 bs)) (sym (block_bytes block)) in (
       lines bytes,
@@ -137,7 +140,7 @@ pub block_broken : {R : Type 0} (remaining : R → Option (List ℕ)) (from to :
     All (λ x. length x ≤ e.limits.space) (lines (block ++ 10 ∷ [])) → e.state.turns + length (lines (block ++ 10 ∷ [])) * (c + 1) ≤ e.limits.turns → g.quiet ≡ false → d ≤ length line →
     Sent old new (take (length (bytes_of before) + d) (to_sink 0 ((block ++ 10 ∷ []) ++ tail))) → named_sink end ≡ Some 0 →
     e'.state.pattern ≡ line → e'.state.hold ≡ e.state.hold → e'.state.queue ≡ e.state.queue →
-    HaltedPassing remaining from to e.limits g (at_lines e (lines (block ++ 10 ∷ []) ++ lines (tail ++ bytes))) e' (Sent old new) end
+    HaltedPassing remaining from to e.limits g (at_lines e (lines (block ++ 10 ∷ []) ++ lines (tail ++ bytes))) e' old new end
 block_broken {R} remaining from to block tail bytes e e' g c before line d old new end was is parts finds idle can alone short turns loud inside took names pattern hold queue =
     let rest : List (List ℕ) = lines (tail ++ bytes) in
     let s : State = at_lines e (lines (block ++ 10 ∷ []) ++ rest) in
@@ -153,7 +156,7 @@ block_broken {R} remaining from to block tail bytes e e' g c before line d old n
     let same_queue = ap length queue in
     record {
       rest = rest;
-      stopped = broken_block e.limits g c finds idle s can before line [] rest (at_lines e' rest) d (Sent old new) end (ap (λ ls. ls ++ rest) parts)
+      stopped = broken_block e.limits g c finds idle s can before line [] rest (at_lines e' rest) d old new end (ap (λ ls. ls ++ rest) parts)
           (subst (λ (ls : List (List ℕ)). AllLeftAlone g c e.state.number ls rest) parts (block_left_alone g c e.state.number (lines (block ++ 10 ∷ [])) rest alone))
           (subst (λ (ls : List (List ℕ)). All (λ x. length x ≤ e.limits.space) ls) parts short) enough loud inside (subst (λ (w : List (ℕ × ℕ)). Sent old new w) first took) names
           (record { pattern = ap length pattern; hold = ap length hold; queue = λ _. same_queue; entries = omega arith }) refl;

@@ -1,5 +1,5 @@
 -- A run: calls that make moves, one after another, up to the end.
-use Rattle.std.proofs.Common.{◌≡◌, ℕ, ◌<◌, ◌+◌, ◌≤◌, inl, inr, true, List, ◌++◌, length, [], Option, Some, None, Ok, Err, subst, sym, ap, ◌∙◌, arith, append_assoc}
+use Rattle.std.proofs.Common.{◌≡◌, ℕ, ◌<◌, ◌+◌, ◌≤◌, inl, inr, true, List, ◌++◌, length, [], Option, Some, None, Ok, Err, refl, subst, sym, ap, ◌∙◌, arith, append_assoc}
 use Rattle.std.specs.Prelude.{max}
 use Rattle.sedspace.specs.Stream.{Stream, left, lines_left}
 use Rattle.sedspace.specs.Lines.{TakesAtMost}
@@ -78,22 +78,22 @@ lost_more l other = omega arith
 module _ {R : Type 0} (remaining : R → Option (List ℕ)) (from at to : Stream R) (files : ℕ → List ℕ) (a : RunState) (s : State) (e : RunState) (old mid new : SinkView) (same : KeepsRun a e)
     (r : Reached remaining from at a.limits (setting a files) s e old mid) where
   -- what a call answers, for the run's own limits, from the state reached
-  pub ran_on : (e' : RunState) (rest : List (List ℕ)) → Ran e.limits (setting e files) (at_lines e r.rest) (at_lines e' rest) (Sent mid new) → Ran a.limits (setting a files) (after (setting a files) s r.t) (at_lines e' rest) (Sent mid new)
+  pub ran_on : (e' : RunState) (rest : List (List ℕ)) → Ran e.limits (setting e files) (at_lines e r.rest) (at_lines e' rest) mid new → Ran a.limits (setting a files) (after (setting a files) s r.t) (at_lines e' rest) mid new
   ran_on e' rest h =
-      let P : Limits → Type 0 = λ l. Ran l (setting e files) (at_lines e r.rest) (at_lines e' rest) (Sent mid new) in
-      let Q : Setting → Type 0 = λ g. Ran a.limits g (at_lines e r.rest) (at_lines e' rest) (Sent mid new) in
-      let S : State → Type 0 = λ m. Ran a.limits (setting a files) m (at_lines e' rest) (Sent mid new) in
+      let P : Limits → Type 0 = λ l. Ran l (setting e files) (at_lines e r.rest) (at_lines e' rest) mid new in
+      let Q : Setting → Type 0 = λ g. Ran a.limits g (at_lines e r.rest) (at_lines e' rest) mid new in
+      let S : State → Type 0 = λ m. Ran a.limits (setting a files) m (at_lines e' rest) mid new in
       subst S (sym r.is) (subst Q (same_setting a e files same) (subst P same.limits h))
 
-  pub halted_on : (e' : RunState) (end : Ended) → Halted remaining at to e.limits (setting e files) (at_lines e r.rest) e' (Sent mid new) end →
-      Halted remaining at to a.limits (setting a files) (after (setting a files) s r.t) e' (Sent mid new) end
+  pub halted_on : (e' : RunState) (end : Ended) → Halted remaining at to e.limits (setting e files) (at_lines e r.rest) e' mid new end →
+      Halted remaining at to a.limits (setting a files) (after (setting a files) s r.t) e' mid new end
   halted_on e' end h =
-      let P : Limits → Type 0 = λ l. Halted remaining at to l (setting e files) (at_lines e r.rest) e' (Sent mid new) end in
-      let Q : Setting → Type 0 = λ g. Halted remaining at to a.limits g (at_lines e r.rest) e' (Sent mid new) end in
-      let S : State → Type 0 = λ m. Halted remaining at to a.limits (setting a files) m e' (Sent mid new) end in
+      let P : Limits → Type 0 = λ l. Halted remaining at to l (setting e files) (at_lines e r.rest) e' mid new end in
+      let Q : Setting → Type 0 = λ g. Halted remaining at to a.limits g (at_lines e r.rest) e' mid new end in
+      let S : State → Type 0 = λ m. Halted remaining at to a.limits (setting a files) m e' mid new end in
       subst S (sym r.is) (subst Q (same_setting a e files same) (subst P same.limits h))
 
-  abbrev pub step_on : (e' : RunState) → Steps remaining at to r.rest e.limits (setting e files) e e' (Sent mid new) (Ok tt) → Reached remaining from to a.limits (setting a files) s e' old new
+  abbrev pub step_on : (e' : RunState) → Steps remaining at to r.rest e.limits (setting e files) e e' mid new (Ok tt) → Reached remaining from to a.limits (setting a files) s e' old new
   step_on e' (rest, taken, ran) =
       let g : Setting = setting a files in
       let h = ran_on e' rest ran in
@@ -106,9 +106,9 @@ module _ {R : Type 0} (remaining : R → Option (List ℕ)) (from at to : Stream
         gained = rw written-add (Sent-append r.gained h.sinks);
       }
 
-  abbrev pub stop_on : (e' : RunState) (end : Ended) → Steps remaining at to r.rest e.limits (setting e files) e e' (Sent mid new) (Err end) →
+  abbrev pub stop_on : (e' : RunState) (end : Ended) → Steps remaining at to r.rest e.limits (setting e files) e e' mid new (Err end) →
       (k : ℕ) × TakesAtMost (remaining from.source) (remaining to.source) k → length to.ahead ≤ max (length from.ahead) from.look → from.look ≡ a.limits.look → (end ≡ InputBroken → to.ahead ≡ []) →
-      Ending a.limits (setting a files) s (Sent old new) (input_of remaining from) (input_of remaining to) e'.state end
+      (out : List (ℕ × ℕ)) × Sent old new out × Ending a.limits (setting a files) s out (input_of remaining from) (input_of remaining to) e'.state end
   stop_on e' end halted shrinks ahead look drained =
       let g : Setting = setting a files in
       let h = halted_on e' end halted in
@@ -117,27 +117,30 @@ module _ {R : Type 0} (remaining : R → Option (List ℕ)) (from at to : Stream
       let are : s.lines ≡ (r.taken.lines ++ h.lines) ++ (after g s (r.t + u)).lines =
       r.taken.are ∙ ap (λ x. r.taken.lines ++ x) (rest ∙ h.are ∙ ap (λ x. h.lines ++ x) (sym h.stopped.lines ∙ ap (λ (x : State). x.lines) (sym (after-add g s r.t u)))) ∙ sym (append_assoc r.taken.lines h.lines _) in
       let sizes : size_of r.taken.lines + size_of h.lines ≤ size_of (r.taken.lines ++ h.lines) = let e = size_of-append r.taken.lines h.lines in omega arith in
-      let all = LosesPartAfter-then (left remaining from) (left remaining at) (left remaining to) _ _ _ _ sizes r.taken.bytes h.bytes in
-      record {
-        t = r.t + u;
-        cause = Cause-add a.limits g s old mid new end r.t u r.within r.gained h.stopped.cause;
-        takes = takes_of remaining from to a.limits g s (r.t + u) (lost a.limits end) (more_at a.limits end) (r.taken.lines ++ h.lines) are all shrinks (rw look at ahead) (lost_more a.limits end);
-        broken = λ is.
-            let P : Option (List ℕ) → Type 0 = λ o. LosesPartAfter (left remaining from) o (size_of (r.taken.lines ++ h.lines)) a.limits.space in
-            let L : Ended → Type 0 = λ end. LosesPartAfter (left remaining from) (left remaining to) (size_of (r.taken.lines ++ h.lines)) (lost a.limits end) in
-            let all_left : left remaining to ≡ remaining to.source = ap (λ bs. prepend_known bs (remaining to.source)) (drained is) ∙ prepend_known-nil _ in
-            (r.taken.lines ++ h.lines, are, subst P all_left (subst L is all));
-        holds = HoldsAt-add g s e'.state r.t u (named_sink end) (without_lines g (after g s r.t) u e' h.rest (named_sink end) h.stopped.holds);
-      }
+      let all = LosesPartAfter-then (left remaining from) (left remaining at) (left remaining to) _ _ _ _ sizes r.taken.bytes h.bytes in (
+        written g s r.t ++ h.stopped.out,
+        Sent-append r.gained h.stopped.sinks,
+        record {
+          t = r.t + u;
+          cause = Cause-add a.limits g s h.stopped.out end r.t u r.within h.stopped.cause;
+          takes = takes_of remaining from to a.limits g s (r.t + u) (lost a.limits end) (more_at a.limits end) (r.taken.lines ++ h.lines) are all shrinks (rw look at ahead) (lost_more a.limits end);
+          broken = λ is.
+              let P : Option (List ℕ) → Type 0 = λ o. LosesPartAfter (left remaining from) o (size_of (r.taken.lines ++ h.lines)) a.limits.space in
+              let L : Ended → Type 0 = λ end. LosesPartAfter (left remaining from) (left remaining to) (size_of (r.taken.lines ++ h.lines)) (lost a.limits end) in
+              let all_left : left remaining to ≡ remaining to.source = ap (λ bs. prepend_known bs (remaining to.source)) (drained is) ∙ prepend_known-nil _ in
+              (r.taken.lines ++ h.lines, are, subst P all_left (subst L is all));
+          holds = HoldsAt-add g s e'.state r.t u (named_sink end) (without_lines g (after g s r.t) u e' h.rest (named_sink end) h.stopped.holds);
+        },
+      )
 
   -- no cycle starts meanwhile
-  pub one_on : (e' : RunState) (h : Steps remaining at to r.rest e.limits (setting e files) e e' (Sent mid new) (Ok tt)) → InOneCycle (setting a files) s (r.t + 1) → InOneCycle (setting a files) s (step_on e' h).t
+  pub one_on : (e' : RunState) (h : Steps remaining at to r.rest e.limits (setting e files) e e' mid new (Ok tt)) → InOneCycle (setting a files) s (r.t + 1) → InOneCycle (setting a files) s (step_on e' h).t
   one_on e' (rest, taken, ran) one = let h = ran_on e' rest ran in InOneCycle-add (setting a files) s r.t h.t one h.one
 
-  pub some_on : (e' : RunState) (h : Steps remaining at to r.rest e.limits (setting e files) e e' (Sent mid new) (Ok tt)) → 0 < (step_on e' h).t
+  pub some_on : (e' : RunState) (h : Steps remaining at to r.rest e.limits (setting e files) e e' mid new (Ok tt)) → 0 < (step_on e' h).t
   some_on e' (rest, taken, ran) = let h = ran_on e' rest ran in let some = h.some in omega arith
 
-  pub one_stop : (e' : RunState) (end : Ended) (h : Steps remaining at to r.rest e.limits (setting e files) e e' (Sent mid new) (Err end)) → InOneCycle (setting a files) s (r.t + 1) →
+  pub one_stop : (e' : RunState) (end : Ended) (h : Steps remaining at to r.rest e.limits (setting e files) e e' mid new (Err end)) → InOneCycle (setting a files) s (r.t + 1) →
       InOneCycle (setting a files) s (r.t + (halted_on e' end h).stopped.t + 1)
   one_stop e' end halted one =
       let h = halted_on e' end halted in
@@ -148,7 +151,7 @@ module _ {R : Type 0} (remaining : R → Option (List ℕ)) (from at to : Stream
 pub cycled : {R : Type 0} (remaining : R → Option (List ℕ)) (from to : Stream R) (l : Limits) (g : Setting) (s : State) (e : RunState) (old new : SinkView) →
     (r : Reached remaining from to l g s e old new) → 0 < r.t → InOneCycle g s r.t → starts_cycle e.state.tasks ≡ true →
     (k : ℕ) × TakesAtMost (remaining from.source) (remaining to.source) k → length to.ahead ≤ max (length from.ahead) from.look → from.look ≡ l.look →
-    (rest : List (List ℕ)) × (lines_left remaining to ≡ Some rest) × Cycled l g s (Sent old new) (input_of remaining from) (input_of remaining to) (at_lines e rest)
+    (rest : List (List ℕ)) × (lines_left remaining to ≡ Some rest) × Cycled l g s (written g s r.t) (input_of remaining from) (input_of remaining to) (at_lines e rest)
 cycled {R} remaining from to l g s e old new r some one starts shrinks ahead look =
     let are : s.lines ≡ r.taken.lines ++ (after g s r.t).lines = r.taken.are ∙ ap (λ x. r.taken.lines ++ x) (sym (ap (λ (x : State). x.lines) r.is)) in (
       r.rest,
@@ -160,14 +163,14 @@ cycled {R} remaining from to l g s e old new r some one starts shrinks ahead loo
         next = starts;
         one = one;
         within = r.within;
-        sinks = r.gained;
+        wrote = refl;
         takes = takes_of remaining from to l g s r.t 0 l.look r.taken.lines are (LosesPartAfter-bytes _ _ _ r.taken.bytes) shrinks (rw look at ahead) (omega arith);
       },
     )
 
 -- the end is that of the engine as it is seen
-pub ending_seen : {l : Limits} {g : Setting} {s : State} {P : List (ℕ × ℕ) → Type 0} {old new : Input} {end : Ended} (e e' : RunState) → e' ≡ e → Ending l g s P old new e.state end → Ending l g s P old new e'.state end
-ending_seen {l} {g} {s} {P} {old} {new} {end} e e' same h = let S : RunState → Type 0 = λ e. Ending l g s P old new e.state end in subst S (sym same) h
+pub ending_seen : {l : Limits} {g : Setting} {s : State} {out : List (ℕ × ℕ)} {old new : Input} {end : Ended} (e e' : RunState) → e' ≡ e → Ending l g s out old new e.state end → Ending l g s out old new e'.state end
+ending_seen {l} {g} {s} {out} {old} {new} {end} e e' same h = let S : RunState → Type 0 = λ e. Ending l g s out old new e.state end in subst S (sym same) h
 
-pub cycle_seen : {l : Limits} {g : Setting} {s : State} {P : List (ℕ × ℕ) → Type 0} {old new : Input} {end : Ended} (e e' : RunState) → e' ≡ e → EndingInCycle l g s P old new e.state end → EndingInCycle l g s P old new e'.state end
-cycle_seen {l} {g} {s} {P} {old} {new} {end} e e' same h = let S : RunState → Type 0 = λ e. EndingInCycle l g s P old new e.state end in subst S (sym same) h
+pub cycle_seen : {l : Limits} {g : Setting} {s : State} {out : List (ℕ × ℕ)} {old new : Input} {end : Ended} (e e' : RunState) → e' ≡ e → EndingInCycle l g s out old new e.state end → EndingInCycle l g s out old new e'.state end
+cycle_seen {l} {g} {s} {out} {old} {new} {end} e e' same h = let S : RunState → Type 0 = λ e. EndingInCycle l g s out old new e.state end in subst S (sym same) h

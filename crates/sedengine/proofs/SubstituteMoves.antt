@@ -15,7 +15,7 @@ use Rattle.sedengine.specs.Select.{stands_for}
 use Rattle.sedengine.specs.Move.{move, becomes, to_replace_in, quietly, writing, line_to, line_to_file, replaces, written_by}
 use Rattle.sedengine.specs.Ends.{WithinLimits, Leads, reaches, line_at}
 use Rattle.sedengine.specs.Held.{SameLengths}
-use Rattle.sedengine.specs.Meters.{Sent, SinkView}
+use Rattle.sedengine.specs.Meters.{SinkView}
 use Rattle.sedengine.specs.Calls.{Puts}
 use Rattle.sedengine.specs.Run.{RunState, at_lines, setting}
 use Rattle.sedengine.specs.ScriptSetting.{search_in}
@@ -142,16 +142,16 @@ module _ (r r' : RunState) (ls : List (List ℕ)) (before : WithinLimits r.limit
       record { pattern = rw limits at within; hold = rw hold before.hold; queue = rw queue before.queue; turns = rw turns before.turns }
 
   -- nothing was replaced
-  pub replaced_nothing : Makes r.limits o t (at_lines r ls) (at_lines r' ls) (Ok false) → Performs r.limits g o (at_lines r ls) (at_lines r' ls) (Sent old old) (Ok tt)
+  pub replaced_nothing : Makes r.limits o t (at_lines r ls) (at_lines r' ls) (Ok false) → Performs r.limits g o (at_lines r ls) (at_lines r' ls) old old (Ok tt)
   replaced_nothing is = λ s c first. ran_quietly r.limits g s (at_lines r' ls) old c.fits (first ∙ is) there
 
   -- something was, and is written where the flag `p` stands
-  pub replaced_some : (told : Result Unit Ended) → Makes r.limits o t (at_lines r ls) (at_lines r' ls) (Ok true) → Puts (Sent old new) (written_by t r'.state.pattern) told →
-      Performs r.limits g o (at_lines r ls) (at_lines r' ls) (Sent old new) told
+  pub replaced_some : (told : Result Unit Ended) → Makes r.limits o t (at_lines r ls) (at_lines r' ls) (Ok true) → Puts old new (written_by t r'.state.pattern) told →
+      Performs r.limits g o (at_lines r ls) (at_lines r' ls) old new told
   replaced_some told is put = λ s c first. moves_writing r.limits g s (at_lines r' ls) old new (written_by t r'.state.pattern) told c.fits (first ∙ is) there c.lines put
 
   -- the end comes
-  pub replaced_not : (end : Ended) → r'.state.pattern ≡ r.state.pattern → Makes r.limits o t (at_lines r ls) (at_lines r' ls) (Err end) → Performs r.limits g o (at_lines r ls) (at_lines r' ls) (Sent old old) (Err end)
+  pub replaced_not : (end : Ended) → r'.state.pattern ≡ r.state.pattern → Makes r.limits o t (at_lines r ls) (at_lines r' ls) (Err end) → Performs r.limits g o (at_lines r ls) (at_lines r' ls) old old (Err end)
   replaced_not end kept is = λ s c first. stops s c first end is
     where
       lengths : (s : State) → Reaches r.limits g s (at_lines r ls) → SameLengths s (at_lines r' ls)
@@ -164,7 +164,7 @@ module _ (r r' : RunState) (ls : List (List ℕ)) (before : WithinLimits r.limit
             entries = let more = w.entries in let queue = ap (λ (r : RunState). length r.state.queue) same in omega arith;
           }
 
-      stops : (s : State) (c : Reaches r.limits g s (at_lines r ls)) → move g s ≡ o → (end : Ended) → Makes r.limits o t (at_lines r ls) (at_lines r' ls) (Err end) → Moves r.limits g s (at_lines r' ls) (Sent old old) (Err end)
+      stops : (s : State) (c : Reaches r.limits g s (at_lines r ls)) → move g s ≡ o → (end : Ended) → Makes r.limits o t (at_lines r ls) (at_lines r' ls) (Err end) → Moves r.limits g s (at_lines r' ls) old old (Err end)
       stops s c first (NoPrevious n) (without, number) =
           stopped_here r.limits g s (at_lines r' ls) old (NoPrevious n) c.fits refl (number ∙ sym c.number, c.turn, c.reaches, first ∙ without) (lengths s c) c.lines
       stops s c first (PatternFull n) ((m, is, more), number) =
@@ -172,10 +172,10 @@ module _ (r r' : RunState) (ls : List (List ℕ)) (before : WithinLimits r.limit
       stops s c first other h = absurd h
 
 -- what the flag `p` writes, and then the flag `w`
-pub puts_both : (t : Substitution) (w : List ℕ) (old mid new : SinkView) (r : Result Unit Ended) → Puts (Sent old mid) (cond t.print (line_to 0 w) []) (Ok tt) → Puts (Sent mid new) (line_to_file t.file w) r → Puts (Sent old new) (written_by t w) r
+pub puts_both : (t : Substitution) (w : List ℕ) (old mid new : SinkView) (r : Result Unit Ended) → Puts old mid (cond t.print (line_to 0 w) []) (Ok tt) → Puts mid new (line_to_file t.file w) r → Puts old new (written_by t w) r
 puts_both t w old mid new r a h = Puts-append old mid new (cond t.print (line_to 0 w) []) (line_to_file t.file w) r a h
 
-pub puts_first : (t : Substitution) (w : List ℕ) (old new : SinkView) (end : Ended) → Puts (Sent old new) (cond t.print (line_to 0 w) []) (Err end) → Puts (Sent old new) (written_by t w) (Err end)
+pub puts_first : (t : Substitution) (w : List ℕ) (old new : SinkView) (end : Ended) → Puts old new (cond t.print (line_to 0 w) []) (Err end) → Puts old new (written_by t w) (Err end)
 puts_first t w old new end h = Puts-left old new (cond t.print (line_to 0 w) []) (line_to_file t.file w) end h
 
 -- the substitution of a number, as the engine is seen
@@ -183,16 +183,16 @@ one_seen : (a : Inside) (e : RunState) (k : ℕ) (s t : Substitution) → run_of
 one_seen a e k s t seen is is' = some_of s t (sym is ∙ ap (λ (r : RunState). slice_get r.script.substitutions k) seen ∙ is')
 
 -- what its flags write
-pub filed_seen : (a : Inside) (e : RunState) (k : ℕ) (s t : Substitution) (sink : ℕ) (w : List ℕ) (P : List (ℕ × ℕ) → Type 0) (r : Result Unit Ended) → run_of a ≡ e → slice_get a.script.substitutions k ≡ Some s →
-    slice_get e.script.substitutions k ≡ Some t → s.file ≡ Some sink → Puts P (line_to sink w) r → Puts P (line_to_file t.file w) r
-filed_seen a e k s t sink w P r seen is is' file h =
-    let Q : Option ℕ → Type 0 = λ o. Puts P (line_to_file o w) r in
+pub filed_seen : (a : Inside) (e : RunState) (k : ℕ) (s t : Substitution) (sink : ℕ) (w : List ℕ) (sinks sinks' : SinkView) (r : Result Unit Ended) → run_of a ≡ e → slice_get a.script.substitutions k ≡ Some s →
+    slice_get e.script.substitutions k ≡ Some t → s.file ≡ Some sink → Puts sinks sinks' (line_to sink w) r → Puts sinks sinks' (line_to_file t.file w) r
+filed_seen a e k s t sink w sinks sinks' r seen is is' file h =
+    let Q : Option ℕ → Type 0 = λ o. Puts sinks sinks' (line_to_file o w) r in
     subst Q (sym file ∙ ap (λ (x : Substitution). x.file) (one_seen a e k s t seen is is')) h
 
-pub printed_seen : (a : Inside) (e : RunState) (k : ℕ) (s t : Substitution) (w : List ℕ) (P : List (ℕ × ℕ) → Type 0) (r : Result Unit Ended) → run_of a ≡ e → slice_get a.script.substitutions k ≡ Some s →
-    slice_get e.script.substitutions k ≡ Some t → s.print ≡ true → Puts P (line_to 0 w) r → Puts P (cond t.print (line_to 0 w) []) r
-printed_seen a e k s t w P r seen is is' print h =
-    let Q : Bool → Type 0 = λ b. Puts P (cond b (line_to 0 w) []) r in
+pub printed_seen : (a : Inside) (e : RunState) (k : ℕ) (s t : Substitution) (w : List ℕ) (sinks sinks' : SinkView) (r : Result Unit Ended) → run_of a ≡ e → slice_get a.script.substitutions k ≡ Some s →
+    slice_get e.script.substitutions k ≡ Some t → s.print ≡ true → Puts sinks sinks' (line_to 0 w) r → Puts sinks sinks' (cond t.print (line_to 0 w) []) r
+printed_seen a e k s t w sinks sinks' r seen is is' print h =
+    let Q : Bool → Type 0 = λ b. Puts sinks sinks' (cond b (line_to 0 w) []) r in
     subst Q (sym print ∙ ap (λ (x : Substitution). x.print) (one_seen a e k s t seen is is')) h
 
 replaces_some : (s : State) (t : Substitution) (ms : List Occurrence) → 0 < length ms → replaces s t ms ≡ becomes s t (replaced_from s.pattern t.replacement 0 ms)

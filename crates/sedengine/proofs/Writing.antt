@@ -43,20 +43,20 @@ slice_get-append_left (y ∷ xs) ys zero x h = h
 slice_get-append_left (y ∷ xs) ys (suc n) x h = slice_get-append_left xs ys n x h
 
 -- what fails in the first part fails in the whole
-pub Puts-left : (old new : SinkView) (xs ys : List (ℕ × ℕ)) (end : Ended) → Puts (Sent old new) xs (Err end) → Puts (Sent old new) (xs ++ ys) (Err end)
+pub Puts-left : (old new : SinkView) (xs ys : List (ℕ × ℕ)) (end : Ended) → Puts old new xs (Err end) → Puts old new (xs ++ ys) (Err end)
 Puts-left old new xs ys end (k, b, byte, is, due, gained) =
     let lt : b < length xs = slice_get_within xs b (k, byte) due in
     let le : b ≤ length xs = omega arith in
     (k, b, byte, is, slice_get-append_left xs ys b (k, byte) due, rw (take-append-le b xs ys le) gained)
 
 -- the second part, after the first was written
-pub Puts-append : (old mid new : SinkView) (xs ys : List (ℕ × ℕ)) (r : Result Unit Ended) → Sent old mid xs → Puts (Sent mid new) ys r → Puts (Sent old new) (xs ++ ys) r
+pub Puts-append : (old mid new : SinkView) (xs ys : List (ℕ × ℕ)) (r : Result Unit Ended) → Sent old mid xs → Puts mid new ys r → Puts old new (xs ++ ys) r
 Puts-append old mid new xs ys (Ok u) a h = Sent-append a h
 Puts-append old mid new xs ys (Err end) a (k, b, byte, is, due, gained) =
     (k, length xs + b, byte, is, slice_get-append_add xs ys b ∙ due, rw (take-append-add xs ys b) (Sent-append a gained))
 
 -- so many bytes for a sink were written, and then it failed or was full
-pub Puts-cut : (old new : SinkView) (s n : ℕ) (bytes : List ℕ) (end : Ended) → named_sink end ≡ Some s → n < length bytes → Sent old new (to_sink s (take n bytes)) → Puts (Sent old new) (to_sink s bytes) (Err end)
+pub Puts-cut : (old new : SinkView) (s n : ℕ) (bytes : List ℕ) (end : Ended) → named_sink end ≡ Some s → n < length bytes → Sent old new (to_sink s (take n bytes)) → Puts old new (to_sink s bytes) (Err end)
 Puts-cut old new s n bytes end named more sent = let due = slice_get-to_sink s n bytes more in (s, n, due.0, named, due.1, rw take-to_sink sent)
 
 unwritten : (f : ℕ → ℕ) (end : Ended) → NoSinkFailed {T = Unit {0}} (Err end) → FailedSink f f (Err end)

@@ -7,23 +7,23 @@ use Rattle.sedspace.specs.Lines.{TakesAtMost}
 use Rattle.sedengine.specs.Devices.{FailedSink}
 use Rattle.sedengine.specs.Run.{FailedSource}
 use Rattle.sedengine.specs.Ends.{named_sink}
-use Rattle.sedengine.specs.Meters.{SinkView, FullSink}
+use Rattle.sedengine.specs.Meters.{Sent, SinkView, FullSink}
 use Rattle.sedengine.specs.Move.{to_sink}
 use Rattle.sedengine.specs.declared.meter.Cut.{Cut}
 use Rattle.sedengine.specs.declared.ends.Ended.{Ended}
 use Rattle.sedengine.specs.declared.ends.Ended.TheVariants.{InputBroken, OutputBroken, OutputFull}
 
 -- All of these bytes were written, or a sink failed or was full where one of them was due.
-abbrev pub Puts : (List (ℕ × ℕ) → Type 0) → List (ℕ × ℕ) → Result Unit Ended → Type 0
-Puts gained out (Ok u) = gained out
-Puts gained out (Err end) =
-    (k : ℕ) × (b : ℕ) × (byte : ℕ) × (named_sink end ≡ Some k) × (slice_get out b ≡ Some (k, byte)) × gained (take b out)
+abbrev pub Puts : SinkView → SinkView → List (ℕ × ℕ) → Result Unit Ended → Type 0
+Puts old new out (Ok u) = Sent old new out
+Puts old new out (Err end) =
+    (k : ℕ) × (b : ℕ) × (byte : ℕ) × (named_sink end ≡ Some k) × (slice_get out b ≡ Some (k, byte)) × Sent old new (take b out)
 
 -- All of these bytes were written to this sink, or it gained so many of them and took no more.
-abbrev pub WritesPart : (List (ℕ × ℕ) → Type 0) → ℕ → List ℕ → Result Unit Cut → Type 0
-WritesPart gained sink bytes (Ok u) = gained (to_sink sink bytes)
-WritesPart gained sink bytes (Err cut) =
-    (cut.done < length bytes) × (named_sink cut.end ≡ Some sink) × gained (to_sink sink (take cut.done bytes))
+abbrev pub WritesPart : SinkView → SinkView → ℕ → List ℕ → Result Unit Cut → Type 0
+WritesPart old new sink bytes (Ok u) = Sent old new (to_sink sink bytes)
+WritesPart old new sink bytes (Err cut) =
+    (cut.done < length bytes) × (named_sink cut.end ≡ Some sink) × Sent old new (to_sink sink (take cut.done bytes))
 
 -- the same answer without the number of bytes
 abbrev pub end_of : Result Unit Cut → Result Unit Ended

@@ -87,35 +87,33 @@ abbrev pub IsCause : Limits → Setting → State → Ended → Type 0
 IsCause l g s Done = s.tasks ≡ []
 IsCause l g s (PatternFull n) =
     (n ≡ line_at s s.tasks) × HasTurn l g s × Leads (move g s) (λ m. l.space < length m.next.pattern)
-IsCause l g s (HoldFull n) =
-    (n ≡ s.number) × HasTurn l g s × Leads (move g s) (λ m. l.space < length m.next.hold)
-IsCause l g s (QueueFull n) =
-    (n ≡ s.number) × HasTurn l g s × Leads (move g s) (λ m. l.queue < length m.next.queue)
+IsCause l g s (HoldFull n) = (n ≡ s.number) × HasTurn l g s × Leads (move g s) (λ m. l.space < length m.next.hold)
+IsCause l g s (QueueFull n) = (n ≡ s.number) × HasTurn l g s × Leads (move g s) (λ m. l.queue < length m.next.queue)
 IsCause l g s TurnsSpent = (s.turns ≡ l.turns) × (takes_turn g s s.tasks ≡ true)
 IsCause l g s (NoPrevious n) = (n ≡ s.number) × HasTurn l g s × (reaches s.tasks ≡ true) × (move g s ≡ None)
 IsCause l g s InputBroken = reads g s.tasks ≡ true
 IsCause l g s other = ⊥
 
--- The end comes after t moves. The sinks have gained all that these moves write.
-pub record Whole (l : Limits) (g : Setting) (s : State) (gained : List (ℕ × ℕ) → Type 0) (end : Ended) (t : ℕ) : Type 0 where
+-- The end comes after t moves, and the output is all that these moves write.
+pub record Whole (l : Limits) (g : Setting) (s : State) (out : List (ℕ × ℕ)) (end : Ended) (t : ℕ) : Type 0 where
   pub within : Within l g s t
-  pub sinks : gained (written g s t)
+  pub wrote : written g s t ≡ out
   pub cause : IsCause l g (after g s t) end
 
--- The end comes in the next move, and names sink k. The sinks have gained the first b of the bytes, and the next one is for it.
-pub record BrokenOff (l : Limits) (g : Setting) (s : State) (gained : List (ℕ × ℕ) → Type 0) (k : ℕ) (t : ℕ) : Type 0 where
+-- The end comes in the next move, and names sink k. The output is the first b of the bytes, and the next one is for it.
+pub record BrokenOff (l : Limits) (g : Setting) (s : State) (out : List (ℕ × ℕ)) (k : ℕ) (t : ℕ) : Type 0 where
   pub within : Within l g s (suc t)
   pub b : ℕ
   pub byte : ℕ
   pub past : length (written g s t) ≤ b
   pub due : slice_get (written g s (suc t)) b ≡ Some (k, byte)
-  pub sinks : gained (take b (written g s (suc t)))
+  pub wrote : take b (written g s (suc t)) ≡ out
 
 -- whole, or broken off where a sink takes no more
-abbrev pub WholeOrBrokenOff : Limits → Setting → State → (List (ℕ × ℕ) → Type 0) → Ended → ℕ → Option ℕ → Type 0
-WholeOrBrokenOff l g s gained end t None = Whole l g s gained end t
-WholeOrBrokenOff l g s gained end t (Some k) = BrokenOff l g s gained k t
+abbrev pub WholeOrBrokenOff : Limits → Setting → State → List (ℕ × ℕ) → Ended → ℕ → Option ℕ → Type 0
+WholeOrBrokenOff l g s out end t None = Whole l g s out end t
+WholeOrBrokenOff l g s out end t (Some k) = BrokenOff l g s out k t
 
--- The end has its cause after t moves from the state s, where the sinks gained what `gained` says.
-abbrev pub Cause : Limits → Setting → State → (List (ℕ × ℕ) → Type 0) → Ended → ℕ → Type 0
-Cause l g s gained end t = WholeOrBrokenOff l g s gained end t (named_sink end)
+-- The end has its cause after t moves from the state s, and `out` is the output till then: the bytes, each with its sink.
+abbrev pub Cause : Limits → Setting → State → List (ℕ × ℕ) → Ended → ℕ → Type 0
+Cause l g s out end t = WholeOrBrokenOff l g s out end t (named_sink end)

@@ -2,18 +2,19 @@
 -- What the calls that write the queue promise one another.
 use Rattle.std.specs.Prelude.{ℕ, List, Result, Ok, Err}
 use Rattle.sedengine.specs.Limits.{Limits}
+use Rattle.sedengine.specs.Meters.{SinkView}
 use Rattle.sedengine.specs.State.{State, Setting}
 use Rattle.sedengine.specs.Steps.{Ran, Stopped}
 use Rattle.sedengine.specs.declared.ends.Ended.{Ended}
 
 -- What a call that writes the queue, or a file of it, answers from the state s: Ok where moves led to the state `there`, and
 -- else the end, at which no more is told than the state s has.
-abbrev pub Flushes : Limits → Setting → State → State → (List (ℕ × ℕ) → Type 0) → Result Unit Ended → Type 0
-Flushes l g s there gained (Ok u) = Ran l g s there gained
-Flushes l g s there gained (Err end) = Stopped l g s s gained end
+abbrev pub Flushes : Limits → Setting → State → State → SinkView → SinkView → Result Unit Ended → Type 0
+Flushes l g s there old new (Ok u) = Ran l g s there old new
+Flushes l g s there old new (Err end) = Stopped l g s s old new end
 
 -- What a call that writes one entry of the queue, or a file, answers from the state s: Ok where moves led to the state
 -- `there`, and else the end, at which the state `now` is told.
-abbrev pub CopiesEntry : Limits → Setting → State → State → State → (List (ℕ × ℕ) → Type 0) → Result Unit Ended → Type 0
-CopiesEntry l g s there now gained (Ok u) = Ran l g s there gained
-CopiesEntry l g s there now gained (Err end) = Stopped l g s now gained end
+abbrev pub CopiesEntry : Limits → Setting → State → State → State → SinkView → SinkView → Result Unit Ended → Type 0
+CopiesEntry l g s there now old new (Ok u) = Ran l g s there old new
+CopiesEntry l g s there now old new (Err end) = Stopped l g s now old new end

@@ -1,6 +1,7 @@
 -- Private to the proofs: no contract of a public item cites what stands here.
 -- A listing in the making, and what the calls that make it promise one another.
 use Rattle.std.specs.Prelude.{◌≡◌, ℕ, ◌+◌, List, [], ◌∷◌, ◌++◌, Bool, length, nat_lt, nat_le, not, ◌==◌, ◌&&◌, if◌then◌else◌}
+use Rattle.sedengine.specs.Meters.{Sent, SinkView}
 use Rattle.sedengine.specs.Move.{to_sink}
 use Rattle.sedengine.specs.Listing.{item, listed, listed_from, most_listed}
 
@@ -35,7 +36,7 @@ Lists old part new = (rest : List ℕ) →
     old.bytes ++ listed_from old.column (part ++ rest) ≡ new.bytes ++ listed_from new.column rest
 
 -- A beginning of the listing of these bytes was written, and the listing of the rest, from this column, is due.
-pub record WrittenInPart (gained : List (ℕ × ℕ) → Type 0) (bytes rest : List ℕ) (column : ℕ) : Type 0 where
+pub record WrittenInPart (old new : SinkView) (bytes rest : List ℕ) (column : ℕ) : Type 0 where
   pub beginning : List ℕ
-  pub gains : gained (to_sink 0 beginning)
+  pub sinks : Sent old new (to_sink 0 beginning)
   pub whole : beginning ++ listed_from column rest ≡ listed bytes

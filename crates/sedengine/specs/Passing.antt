@@ -18,6 +18,7 @@ use Rattle.sedengine.specs.Limits.{Limits}
 use Rattle.sedengine.specs.State.{begin, do_at, State, Setting}
 use Rattle.sedengine.specs.Move.{after, at_end, newline, none_left, to_sink, written}
 use Rattle.sedengine.specs.Calls.{WritesPart}
+use Rattle.sedengine.specs.Meters.{Sent, SinkView}
 use Rattle.sedengine.specs.declared.meter.Cut.{Cut}
 use Rattle.sedengine.specs.Ends.{Cause, WithinLimits, Within, named_sink}
 use Rattle.sedengine.specs.Held.{HoldsAt}
@@ -248,34 +249,36 @@ line_due g c k line rest s = record s {
 }
 
 -- Moves were made, if any, which led to this state; cycles may have started meanwhile.
-pub record Passed (l : Limits) (g : Setting) (s now : State) (gained : List (ℕ × ℕ) → Type 0) : Type 0 where
+pub record Passed (l : Limits) (g : Setting) (s now : State) (old new : SinkView) : Type 0 where
   pub t : ℕ
   pub is : after g s t ≡ now
   pub within : Within l g s t
-  pub sinks : gained (written g s t)
+  pub sinks : Sent old new (written g s t)
 
 -- Moves were made, and then the end came; cycles may have started meanwhile.
-pub record StoppedPassing (l : Limits) (g : Setting) (s now : State) (gained : List (ℕ × ℕ) → Type 0) (end : Ended) : Type 0 where
+pub record StoppedPassing (l : Limits) (g : Setting) (s now : State) (old new : SinkView) (end : Ended) : Type 0 where
   pub t : ℕ
-  pub cause : Cause l g s gained end t
+  pub out : List (ℕ × ℕ)
+  pub sinks : Sent old new out
+  pub cause : Cause l g s out end t
   pub holds : HoldsAt g s t now (named_sink end)
   pub lines : (after g s t).lines ≡ now.lines
 
 -- Moves were made that took these lines, and then the end came.
 pub record HaltedPassing {R : Type 0} (remaining : R → Option (List ℕ)) (old new : Stream R) (l : Limits) (g : Setting)
-    (s : State) (e : RunState) (gained : List (ℕ × ℕ) → Type 0) (end : Ended) : Type 0 where
+    (s : State) (e : RunState) (sinks sinks' : SinkView) (end : Ended) : Type 0 where
   pub rest : List (List ℕ)
-  pub stopped : StoppedPassing l g s (at_lines e rest) gained end
+  pub stopped : StoppedPassing l g s (at_lines e rest) sinks sinks' end
   pub lines : List (List ℕ)
   pub are : s.lines ≡ lines ++ rest
   pub bytes : LosesPartAfter (left remaining old) (left remaining new) (size_of lines) (lost l end)
 
 -- What a call answers that makes moves from the state s, of one cycle or more, and may take lines.
 abbrev pub StepsPassing : {R : Type 0} → (R → Option (List ℕ)) → Stream R → Stream R → List (List ℕ) → Limits → Setting →
-    State → RunState → (List (ℕ × ℕ) → Type 0) → Result Unit Ended → Type 0
-StepsPassing remaining old new ls l g s e' gained (Ok u) =
-    (rest : List (List ℕ)) × TakesLines remaining old new ls rest × Passed l g s (at_lines e' rest) gained
-StepsPassing remaining old new ls l g s e' gained (Err end) = HaltedPassing remaining old new l g s e' gained end
+    State → RunState → SinkView → SinkView → Result Unit Ended → Type 0
+StepsPassing remaining old new ls l g s e' sinks sinks' (Ok u) =
+    (rest : List (List ℕ)) × TakesLines remaining old new ls rest × Passed l g s (at_lines e' rest) sinks sinks'
+StepsPassing remaining old new ls l g s e' sinks sinks' (Err end) = HaltedPassing remaining old new l g s e' sinks sinks' end
 
 -- the first lines of a block, at most so many
 pub record IsExtent (bytes : List ℕ) (most : ℕ) (x : Extent) : Type 0 where
@@ -353,6 +356,6 @@ pub record AllowsLines (e : RunState) (c most : ℕ) : Type 0 where
   pub turns : e.state.turns + most * (c + 1) ≤ e.limits.turns
 
 -- Lines were written as they are, unless default output is suppressed, or the standard output took no more after so many bytes.
-abbrev pub WritesLines : (List (ℕ × ℕ) → Type 0) → Bool → List ℕ → Result Unit Cut → Type 0
-WritesLines gained quiet bytes (Ok u) = gained (if quiet then [] else to_sink 0 bytes)
-WritesLines gained quiet bytes (Err cut) = (quiet ≡ false) × WritesPart gained 0 bytes (Err cut)
+abbrev pub WritesLines : SinkView → SinkView → Bool → List ℕ → Result Unit Cut → Type 0
+WritesLines old new quiet bytes (Ok u) = Sent old new (if quiet then [] else to_sink 0 bytes)
+WritesLines old new quiet bytes (Err cut) = (quiet ≡ false) × WritesPart old new 0 bytes (Err cut)

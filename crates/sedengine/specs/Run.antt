@@ -29,7 +29,7 @@ pub record RunState : Type 0 where
 abbrev pub sent_to : RunState → ℕ → ℕ
 sent_to e k = get_or e.sent k 0
 
--- What the sinks gained in a call that led from the engine e to the engine e', and that e' has counted it.
+-- The sinks gained these bytes in a call that led from the engine e to the engine e', and e' has counted them.
 pub record Sends (e e' : RunState) (old new : ℕ → Option (List ℕ)) (r : Result Unit Ended) (out : List (ℕ × ℕ)) : Type 0 where
   pub gains : GainedWithin e.limits.output (sent_to e) old new r out
   pub counts : IfSome e.limits.output (λ most. (k : ℕ) → sent_to e' k ≡ sent_to e k + length (part k out))
@@ -63,13 +63,13 @@ pub record TakesLeft (g : Setting) (s : State) (old new : Input) (lost more : �
   pub input : TakesInput g s old.source new.source more t
   pub all : LosesPartAfter old.all new.all (size_of input.lines) lost
 
--- A run from the state s came to this end: after some moves, which took lines and led to the state `now`. `gained` says
--- what the sinks gained, and `old` and `new` what was still to come. No whole line is lost where the source failed, not
--- even one that was ahead.
-pub record Ending (l : Limits) (g : Setting) (s : State) (gained : List (ℕ × ℕ) → Type 0)
-    (old new : Input) (now : State) (end : Ended) : Type 0 where
+-- A run from the state s came to this end: after some moves, which took lines and led to the state `now`. `out` is its
+-- output, and `old` and `new` say what was still to come. No whole line is lost where the source failed, not even one that
+-- was ahead.
+pub record Ending (l : Limits) (g : Setting) (s : State) (out : List (ℕ × ℕ)) (old new : Input) (now : State)
+    (end : Ended) : Type 0 where
   pub t : ℕ
-  pub cause : Cause l g s gained end t
+  pub cause : Cause l g s out end t
   pub takes : TakesLeft g s old new (lost l end) (more_at l end) t
   pub broken : end ≡ InputBroken → BreaksInLine g s old.all new.source l.space t
   pub holds : HoldsAt g s t now (named_sink end)
@@ -85,29 +85,28 @@ abbrev pub InOneCycle : Setting → State → ℕ → Type 0
 InOneCycle g s t = (k : ℕ) → 0 < k → k < t → starts_cycle (after g s k).tasks ≡ false
 
 -- One cycle was made from the state s: at least one move, up to where the next cycle starts.
-pub record Cycled (l : Limits) (g : Setting) (s : State) (gained : List (ℕ × ℕ) → Type 0)
-    (old new : Input) (now : State) : Type 0 where
+pub record Cycled (l : Limits) (g : Setting) (s : State) (out : List (ℕ × ℕ)) (old new : Input) (now : State) : Type 0 where
   pub t : ℕ
   pub some : 0 < t
   pub is : after g s t ≡ now
   pub next : starts_cycle now.tasks ≡ true
   pub one : InOneCycle g s t
   pub within : Within l g s t
-  pub sinks : gained (written g s t)
+  pub wrote : written g s t ≡ out
   pub takes : TakesLeft g s old new 0 l.look t
 
 -- The end came within one cycle.
-pub record EndingInCycle (l : Limits) (g : Setting) (s : State) (gained : List (ℕ × ℕ) → Type 0)
-    (old new : Input) (now : State) (end : Ended) : Type 0 where
-  pub ending : Ending l g s gained old new now end
+pub record EndingInCycle (l : Limits) (g : Setting) (s : State) (out : List (ℕ × ℕ)) (old new : Input) (now : State)
+    (end : Ended) : Type 0 where
+  pub ending : Ending l g s out old new now end
   pub one : InOneCycle g s (ending.t + 1)
 
 -- What one cycle answers; `left` are the lines left after it.
-abbrev pub Cycles : Limits → Setting → State → (List (ℕ × ℕ) → Type 0) → Input → Input →
-    RunState → Option (List (List ℕ)) → Progress → Type 0
-Cycles l g s gained old new e left progress.More =
-    (rest : List (List ℕ)) × (left ≡ Some rest) × Cycled l g s gained old new (at_lines e rest)
-Cycles l g s gained old new e left (progress.Ended end) = EndingInCycle l g s gained old new e.state end
+abbrev pub Cycles : Limits → Setting → State → List (ℕ × ℕ) → Input → Input → RunState → Option (List (List ℕ)) →
+    Progress → Type 0
+Cycles l g s out old new e left progress.More =
+    (rest : List (List ℕ)) × (left ≡ Some rest) × Cycled l g s out old new (at_lines e rest)
+Cycles l g s out old new e left (progress.Ended end) = EndingInCycle l g s out old new e.state end
 
 -- the end that a cycle answers
 abbrev pub end_answered : Progress → Option Ended

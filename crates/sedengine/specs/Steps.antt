@@ -21,26 +21,28 @@ use Rattle.sedengine.specs.declared.ends.Ended.{Ended}
 use Rattle.sedengine.specs.declared.ends.Ended.TheVariants.{InputBroken}
 
 -- Moves were made, which led to this state. Only the last of them may have led to the start of a cycle.
-pub record Ran (l : Limits) (g : Setting) (s now : State) (gained : List (ℕ × ℕ) → Type 0) : Type 0 where
+pub record Ran (l : Limits) (g : Setting) (s now : State) (old new : SinkView) : Type 0 where
   pub t : ℕ
   pub some : 0 < t
   pub is : after g s t ≡ now
   pub one : InOneCycle g s t
   pub within : Within l g s t
-  pub sinks : gained (written g s t)
+  pub sinks : Sent old new (written g s t)
 
 -- Moves were made, and then the end came.
-pub record Stopped (l : Limits) (g : Setting) (s now : State) (gained : List (ℕ × ℕ) → Type 0) (end : Ended) : Type 0 where
+pub record Stopped (l : Limits) (g : Setting) (s now : State) (old new : SinkView) (end : Ended) : Type 0 where
   pub t : ℕ
-  pub cause : Cause l g s gained end t
+  pub out : List (ℕ × ℕ)
+  pub sinks : Sent old new out
+  pub cause : Cause l g s out end t
   pub holds : HoldsAt g s t now (named_sink end)
   pub one : InOneCycle g s (t + 1)
   pub lines : (after g s t).lines ≡ now.lines
 
 -- What a call that makes moves answers: Ok where they were made, and else the end.
-abbrev pub Moves : Limits → Setting → State → State → (List (ℕ × ℕ) → Type 0) → Result Unit Ended → Type 0
-Moves l g s now gained (Ok u) = Ran l g s now gained
-Moves l g s now gained (Err end) = Stopped l g s now gained end
+abbrev pub Moves : Limits → Setting → State → State → SinkView → SinkView → Result Unit Ended → Type 0
+Moves l g s now old new (Ok u) = Ran l g s now old new
+Moves l g s now old new (Err end) = Stopped l g s now old new end
 
 -- A state in which a command is reached with a turn left. In the state `there` the turn is taken, and the command acts.
 pub record Reaches (l : Limits) (g : Setting) (s there : State) : Type 0 where
@@ -53,9 +55,8 @@ pub record Reaches (l : Limits) (g : Setting) (s there : State) : Type 0 where
 
 -- What a call answers that makes the move o, and perhaps moves after it, from any state that has that move and reaches the
 -- command that acts in the state `there`.
-abbrev pub Performs : Limits → Setting → Option Move → State → State → (List (ℕ × ℕ) → Type 0) →
-    Result Unit Ended → Type 0
-Performs l g o there now gained r = (s : State) → Reaches l g s there → move g s ≡ o → Moves l g s now gained r
+abbrev pub Performs : Limits → Setting → Option Move → State → State → SinkView → SinkView → Result Unit Ended → Type 0
+Performs l g o there now old new r = (s : State) → Reaches l g s there → move g s ≡ o → Moves l g s now old new r
 
 -- a command that has this action
 abbrev pub HasAction : Option Command → Action → Type 0
@@ -93,7 +94,7 @@ writes_nothing other = uses_hold other
 abbrev pub ActsQuietly : RunState → RunState → Action → Result Unit Ended → Type 0
 ActsQuietly e e' action r = (files : ℕ → List ℕ) (ls : List (List ℕ)) (tells : Bool) (sinks : SinkView) →
     Performs e.limits (setting e files) (acts (setting e files) (at_lines e ls) tells action)
-    (at_lines e ls) (at_lines e' ls) (Sent sinks sinks) r
+    (at_lines e ls) (at_lines e' ls) sinks sinks r
 
 -- Lines were taken, and no more bytes than theirs are gone.
 pub record TakesLines {R : Type 0} (remaining : R → Option (List ℕ)) (old new : Stream R)
@@ -105,32 +106,32 @@ pub record TakesLines {R : Type 0} (remaining : R → Option (List ℕ)) (old ne
 
 -- Moves were made that took these lines, and then the end came. What is gone after the lines is a part of one.
 pub record Halted {R : Type 0} (remaining : R → Option (List ℕ)) (old new : Stream R) (l : Limits) (g : Setting)
-    (s : State) (e : RunState) (gained : List (ℕ × ℕ) → Type 0) (end : Ended) : Type 0 where
+    (s : State) (e : RunState) (sinks sinks' : SinkView) (end : Ended) : Type 0 where
   pub rest : List (List ℕ)
-  pub stopped : Stopped l g s (at_lines e rest) gained end
+  pub stopped : Stopped l g s (at_lines e rest) sinks sinks' end
   pub lines : List (List ℕ)
   pub are : s.lines ≡ lines ++ rest
   pub bytes : LosesPartAfter (left remaining old) (left remaining new) (size_of lines) (lost l end)
 
 -- What a call that makes moves from the state s and may take lines answers, where ls are left before.
 abbrev pub StepsFrom : {R : Type 0} → (R → Option (List ℕ)) → Stream R → Stream R → List (List ℕ) → Limits → Setting →
-    State → RunState → (List (ℕ × ℕ) → Type 0) → Result Unit Ended → Type 0
-StepsFrom remaining old new ls l g s e' gained (Ok u) =
-    (rest : List (List ℕ)) × TakesLines remaining old new ls rest × Ran l g s (at_lines e' rest) gained
-StepsFrom remaining old new ls l g s e' gained (Err end) = Halted remaining old new l g s e' gained end
+    State → RunState → SinkView → SinkView → Result Unit Ended → Type 0
+StepsFrom remaining old new ls l g s e' sinks sinks' (Ok u) =
+    (rest : List (List ℕ)) × TakesLines remaining old new ls rest × Ran l g s (at_lines e' rest) sinks sinks'
+StepsFrom remaining old new ls l g s e' sinks sinks' (Err end) = Halted remaining old new l g s e' sinks sinks' end
 
 -- the same from the state of an engine
 abbrev pub Steps : {R : Type 0} → (R → Option (List ℕ)) → Stream R → Stream R → List (List ℕ) → Limits → Setting →
-    RunState → RunState → (List (ℕ × ℕ) → Type 0) → Result Unit Ended → Type 0
-Steps remaining old new ls l g e e' gained r = StepsFrom remaining old new ls l g (at_lines e ls) e' gained r
+    RunState → RunState → SinkView → SinkView → Result Unit Ended → Type 0
+Steps remaining old new ls l g e e' sinks sinks' r = StepsFrom remaining old new ls l g (at_lines e ls) e' sinks sinks' r
 
 -- What a call answers that makes the move o, perhaps moves after it, and may take lines, from any state that has that move and
 -- reaches the command that acts in the state `there`; `asks` says whether that command asks if a line is left.
 abbrev pub PerformsSteps : {R : Type 0} → (R → Option (List ℕ)) → Stream R → Stream R → List (List ℕ) → Limits →
-    Setting → Option Move → Bool → State → RunState → (List (ℕ × ℕ) → Type 0) → Result Unit Ended → Type 0
-PerformsSteps remaining old new ls l g o asks there e' gained r =
+    Setting → Option Move → Bool → State → RunState → SinkView → SinkView → Result Unit Ended → Type 0
+PerformsSteps remaining old new ls l g o asks there e' sinks sinks' r =
     (s : State) → Reaches l g s there → (asks ≡ true → reads g s.tasks ≡ true) → move g s ≡ o →
-    StepsFrom remaining old new ls l g s e' gained r
+    StepsFrom remaining old new ls l g s e' sinks sinks' r
 
 -- A number that falls with each move: the turns left, and then what the tasks may do without one.
 abbrev pub cost : Task → ℕ

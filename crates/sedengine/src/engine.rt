@@ -94,8 +94,9 @@ impl Engine {
         ensures cycles { IsNone self.old.ended → lines.old.fault ≡ None →
             ForSome (lines_left R.remaining lines.old) (λ ls.
             (files : ℕ → List ℕ) → TellsFiles (T.text texts.old) files →
-            Cycles self.old.limits (setting self.old files) (at_lines self.old ls)
-            (Sends self.old self.new (O.contents outputs.old) (O.contents outputs.new) (outcome result))
+            (out : List (ℕ × ℕ))
+            × Sends self.old self.new (O.contents outputs.old) (O.contents outputs.new) (outcome result) out
+            × Cycles self.old.limits (setting self.old files) (at_lines self.old ls) out
             (input_of R.remaining lines.old) (input_of R.remaining lines.new)
             self.new (lines_left R.remaining lines.new) result) }
         // A device that the end names has failed in this call, and no other source or sink has; where a next cycle is due
@@ -140,8 +141,9 @@ impl Engine {
         ensures ends { IsNone self.old.ended → lines.old.fault ≡ None →
             ForSome (lines_left R.remaining lines.old) (λ ls.
             (files : ℕ → List ℕ) → TellsFiles (T.text texts.old) files →
-            Ending self.old.limits (setting self.old files) (at_lines self.old ls)
-            (Sends self.old self.new (O.contents outputs.old) (O.contents outputs.new) (Err result))
+            (out : List (ℕ × ℕ))
+            × Sends self.old self.new (O.contents outputs.old) (O.contents outputs.new) (Err result) out
+            × Ending self.old.limits (setting self.old files) (at_lines self.old ls) out
             (input_of R.remaining lines.old) (input_of R.remaining lines.new) self.new.state result) }
         // The device that the end names has failed in this run, and no other source or sink has. A sink is full only where
         // the limits have one on the output.

@@ -2,7 +2,6 @@
 ghost use Rattle.std.specs.Prelude.{◌≡◌, ◌<◌, ◌≤◌, [], ◌∷◌, Err, ℕ, List, length, slice_get};
 ghost use Rattle.std.specs.Io.KnownBytes.{Keeps};
 ghost use Rattle.sedengine.specs.State.{Entry, Task, copy, flush, State, Setting};
-ghost use Rattle.sedengine.specs.Meters.{Sent};
 ghost use Rattle.sedengine.specs.Calls.{Delivers};
 ghost use Rattle.sedengine.specs.Ends.{WithinLimits};
 ghost use Rattle.sedengine.specs.Held.{SameLengths};
@@ -44,7 +43,7 @@ fn copy_file<O: Sinks, T: Texts>(
         s.tasks ≡ copy file 0 ∷ rest → s.turns ≡ turns.old → WithinLimits limits.now s →
         SameLengths s now → s.lines ≡ now.lines →
         CopiesEntry limits.now g s (record s { tasks = rest; turns = turns.new }) now
-        (Sent (O.tally outputs.old) (O.tally outputs.new)) result }
+        (O.tally outputs.old) (O.tally outputs.new) result }
     ensures output { Delivers O.tally O.count outputs.old outputs.new result }
     ensures input { result ≡ Err Ended.InputBroken → ⊥ }
     ensures limit { build.new.limit ≡ build.old.limit }
@@ -88,7 +87,7 @@ fn write_entry<O: Sinks, T: Texts>(
         s.queue ≡ entry_by script.now.texts (slice_get script.now.commands entry) ∷ later → s.turns ≡ turns.old →
         WithinLimits limits.now s → SameLengths s now → s.lines ≡ now.lines →
         CopiesEntry limits.now g s (record s { queue = later; tasks = flush ∷ rest; turns = turns.new }) now
-        (Sent (O.tally outputs.old) (O.tally outputs.new)) result }
+        (O.tally outputs.old) (O.tally outputs.new) result }
     ensures output { Delivers O.tally O.count outputs.old outputs.new result }
     ensures input { result ≡ Err Ended.InputBroken → ⊥ }
     ensures limit { build.new.limit ≡ build.old.limit }
@@ -122,7 +121,7 @@ pub(crate) fn flush_queue<O: Sinks, T: Texts>(
         s.tasks ≡ flush ∷ rest → s.queue ≡ entries_of script.now queue.now.items → s.turns ≡ turns.old →
         WithinLimits limits.now s →
         Flushes limits.now g s (record s { queue = []; tasks = rest; turns = turns.new })
-        (Sent (O.tally outputs.old) (O.tally outputs.new)) result }
+        (O.tally outputs.old) (O.tally outputs.new) result }
     ensures output { Delivers O.tally O.count outputs.old outputs.new result }
     ensures input { result ≡ Err Ended.InputBroken → ⊥ }
     ensures limit { build.new.limit ≡ build.old.limit }

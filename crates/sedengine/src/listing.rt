@@ -3,7 +3,6 @@ ghost use Rattle.std.specs.Prelude.{◌≡◌, ◌+◌, ◌*◌, ◌<◌, ◌≤
 ghost use Rattle.sedengine.specs.Listing.{escape, item, listed, octal};
 ghost use Rattle.sedengine.specs.ListingParts.{ArePlain, Lists, plain, with_item, with_run};
 ghost use Rattle.sedengine.specs.Move.{to_sink};
-ghost use Rattle.sedengine.specs.Meters.{Sent};
 ghost use Rattle.sedengine.specs.Calls.{Puts, Delivers};
 
 use crate::ends::Ended;
@@ -23,7 +22,7 @@ const PART: usize = ROOM / 6 - 1;
 /// Writes the listing of a text, as the command `l` does (XCU sed, "Editing Commands in sed").
 pub(crate) fn write_listing<O: Sinks>(outputs: &mut O, bytes: &[u8]) -> Result<(), Ended>
     requires { 0 < O.count outputs.old }
-    ensures puts { Puts (Sent (O.tally outputs.old) (O.tally outputs.new)) (to_sink 0 (listed bytes.now)) result }
+    ensures puts { Puts (O.tally outputs.old) (O.tally outputs.new) (to_sink 0 (listed bytes.now)) result }
     ensures devices { Delivers O.tally O.count outputs.old outputs.new result }
 {
     let mut gathered = Gathered::new();

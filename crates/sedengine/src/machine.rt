@@ -152,8 +152,8 @@ impl Machine {
         ensures cycles { IsNone self.old.ended → lines.old.fault ≡ None →
             ForSome (lines_left R.remaining lines.old) (λ ls.
             (files : ℕ → List ℕ) → TellsFiles (T.text texts.old) files →
-            Cycles self.old.limits (setting self.old files) (at_lines self.old ls)
-            (Sent (O.tally outputs.old) (O.tally outputs.new))
+            (out : List (ℕ × ℕ)) × Sent (O.tally outputs.old) (O.tally outputs.new) out
+            × Cycles self.old.limits (setting self.old files) (at_lines self.old ls) out
             (input_of R.remaining lines.old) (input_of R.remaining lines.new)
             self.new (lines_left R.remaining lines.new) result) }
         ensures input { IsNone self.old.ended → lines.old.fault ≡ None →
@@ -191,8 +191,8 @@ impl Machine {
         ensures ends { IsNone self.old.ended → lines.old.fault ≡ None →
             ForSome (lines_left R.remaining lines.old) (λ ls.
             (files : ℕ → List ℕ) → TellsFiles (T.text texts.old) files →
-            Ending self.old.limits (setting self.old files) (at_lines self.old ls)
-            (Sent (O.tally outputs.old) (O.tally outputs.new))
+            (out : List (ℕ × ℕ)) × Sent (O.tally outputs.old) (O.tally outputs.new) out
+            × Ending self.old.limits (setting self.old files) (at_lines self.old ls) out
             (input_of R.remaining lines.old) (input_of R.remaining lines.new) self.new.state result) }
         ensures input { IsNone self.old.ended → lines.old.fault ≡ None →
             SourceAtEnd (R.failures lines.old.source) (R.failures lines.new.source) result }

@@ -5,7 +5,7 @@
 ghost use Rattle.std.specs.Prelude.{◌≡◌, ◌≢◌, ◌<◌, ◌≤◌, ℕ, IfOk, length, min, replicate};
 ghost use Rattle.sedengine.specs.Move.{to_sink};
 ghost use Rattle.sedengine.specs.Calls.{Delivers, Puts, WritesPart, end_of};
-ghost use Rattle.sedengine.specs.Meters.{Counts, Fills, FitsIn, InLimit, Meter, Sent, SinkView, counted};
+ghost use Rattle.sedengine.specs.Meters.{Counts, Fills, FitsIn, InLimit, Meter, SinkView, counted};
 
 use crate::ends::Ended;
 use sedspace::{Outputs, write_all};
@@ -98,13 +98,13 @@ pub(crate) trait Sinks {
     /// failed, or when the sink was full; a full sink isn't written to.
     fn write_all(&mut self, sink: usize, bytes: &[u8]) -> Result<(), Ended>
         requires { sink < count self.old }
-        ensures puts { Puts (Sent (tally self.old) (tally self.new)) (to_sink sink bytes.now) result }
+        ensures puts { Puts (tally self.old) (tally self.new) (to_sink sink bytes.now) result }
         ensures devices { Delivers tally count self.old self.new result };
 
     /// The same, which tells at an `Err` how many bytes the sink has gained.
     fn write_part(&mut self, sink: usize, bytes: &[u8]) -> Result<(), Cut>
         requires { sink < count self.old }
-        ensures writes { WritesPart (Sent (tally self.old) (tally self.new)) sink bytes.now result }
+        ensures writes { WritesPart (tally self.old) (tally self.new) sink bytes.now result }
         ensures devices { Delivers tally count self.old self.new (end_of result) };
 }
 

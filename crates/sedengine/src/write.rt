@@ -1,7 +1,6 @@
 //! Writing lines to a sink.
 ghost use Rattle.std.specs.Prelude.{◌≡◌, ◌<◌, ◌≤◌, ◌+◌, [], ◌∷◌, ◌++◌, length, take};
 ghost use Rattle.sedengine.specs.Move.{line_to};
-ghost use Rattle.sedengine.specs.Meters.{Sent};
 ghost use Rattle.sedengine.specs.Calls.{Puts, Delivers};
 
 use crate::ends::Ended;
@@ -23,7 +22,7 @@ fn with_newline(bytes: &[u8]) -> [u8; 128]
 /// Writes all the bytes and then a newline.
 fn write_apart<O: Sinks>(outputs: &mut O, sink: usize, bytes: &[u8]) -> Result<(), Ended>
     requires { sink < O.count outputs.old }
-    ensures puts { Puts (Sent (O.tally outputs.old) (O.tally outputs.new)) (line_to sink bytes.now) result }
+    ensures puts { Puts (O.tally outputs.old) (O.tally outputs.new) (line_to sink bytes.now) result }
     ensures devices { Delivers O.tally O.count outputs.old outputs.new result }
 {
     outputs.write_all(sink, bytes)?;
@@ -33,7 +32,7 @@ fn write_apart<O: Sinks>(outputs: &mut O, sink: usize, bytes: &[u8]) -> Result<(
 /// Writes all the bytes and a newline.
 pub(crate) fn write_line<O: Sinks>(outputs: &mut O, sink: usize, bytes: &[u8]) -> Result<(), Ended>
     requires { sink < O.count outputs.old }
-    ensures puts { Puts (Sent (O.tally outputs.old) (O.tally outputs.new)) (line_to sink bytes.now) result }
+    ensures puts { Puts (O.tally outputs.old) (O.tally outputs.new) (line_to sink bytes.now) result }
     ensures devices { Delivers O.tally O.count outputs.old outputs.new result }
 {
     if bytes.len() > SHORT {

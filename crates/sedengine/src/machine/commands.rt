@@ -10,7 +10,7 @@ ghost use Rattle.sedengine.specs.State.{do_at, print_pattern, flush};
 ghost use Rattle.sedengine.specs.Listing.{listed};
 ghost use Rattle.sedengine.specs.Move.{acts, passes, line_to, tells_at, to_sink};
 ghost use Rattle.sedengine.specs.Ends.{reaches, is_next};
-ghost use Rattle.sedengine.specs.Meters.{Sent, SinkView};
+ghost use Rattle.sedengine.specs.Meters.{SinkView};
 ghost use Rattle.sedengine.specs.Calls.{Delivers, NamesNone, Puts};
 ghost use Rattle.sedengine.specs.Run.{at_lines, setting};
 ghost use Rattle.sedengine.specs.ScriptSetting.{TellsFiles};
@@ -47,7 +47,7 @@ impl Machine {
         ensures steps { lines.old.fault ≡ None → ForSome (lines_left R.remaining lines.old) (λ ls.
             (files : ℕ → List ℕ) → TellsFiles (T.text texts.old) files →
             Steps R.remaining lines.old lines.new ls self.old.limits (setting self.old files) self.old self.new
-            (Sent (O.tally outputs.old) (O.tally outputs.new)) result) }
+            (O.tally outputs.old) (O.tally outputs.new) result) }
         ensures falls { OnOk result (weight self.new < weight self.old) }
         ensures leaves { LeavesLines R.remaining R.failures R.reference O.tally O.count T.text self.old self.new
             lines.old lines.new outputs.old outputs.new texts.old texts.new result }
@@ -94,7 +94,7 @@ impl Machine {
             (files : ℕ → List ℕ) → TellsFiles (T.text texts.old) files →
             PerformsSteps R.remaining lines.old lines.new ls self.old.limits (setting self.old files)
             (acts (setting self.old files) (at_lines self.old ls) tells action) (is_next action) (at_lines self.old ls) self.new
-            (Sent (O.tally outputs.old) (O.tally outputs.new)) result) }
+            (O.tally outputs.old) (O.tally outputs.new) result) }
         ensures falls { weight self.new ≤ weight self.old + 8 }
         ensures leaves { LeavesLines R.remaining R.failures R.reference O.tally O.count T.text self.old self.new
             lines.old lines.new outputs.old outputs.new texts.old texts.new result }
@@ -123,7 +123,7 @@ impl Machine {
         ensures acts { (files : ℕ → List ℕ) → TellsFiles (T.text texts.old) files → (ls : List (List ℕ)) →
             Performs self.old.limits (setting self.old files)
             (acts (setting self.old files) (at_lines self.old ls) tells action) (at_lines self.old ls) (at_lines self.new ls)
-            (Sent (O.tally outputs.old) (O.tally outputs.new)) result }
+            (O.tally outputs.old) (O.tally outputs.new) result }
         ensures falls { weight self.new ≤ weight self.old + 8 }
         ensures leaves { Leaves O.tally O.count T.text self.old self.new outputs.old outputs.new texts.old texts.new result }
     {
@@ -183,7 +183,7 @@ impl Machine {
     fn pass(&mut self, action: Action)
         ensures passes { (files : ℕ → List ℕ) (sinks : SinkView) (ls : List (List ℕ)) →
             Performs self.old.limits (setting self.old files) (passes (at_lines self.old ls) action)
-            (at_lines self.old ls) (at_lines self.new ls) (Sent sinks sinks) (Ok tt) }
+            (at_lines self.old ls) (at_lines self.new ls) sinks sinks (Ok tt) }
         ensures falls { weight self.new ≤ weight self.old + 8 }
         ensures same { KeepsRun self.old self.new }
     {
@@ -203,7 +203,7 @@ impl Machine {
     fn act_insert<O: Sinks>(&self, text: usize, outputs: &mut O) -> Result<(), Ended>
         requires text { text < length self.now.script.texts }
         requires sink { 0 < O.count outputs.old }
-        ensures puts { Puts (Sent (O.tally outputs.old) (O.tally outputs.new))
+        ensures puts { Puts (O.tally outputs.old) (O.tally outputs.new)
             (line_to 0 (unwrap_or (slice_get self.now.script.texts text) [])) result }
         ensures output { Delivers O.tally O.count outputs.old outputs.new result }
     {
@@ -213,7 +213,7 @@ impl Machine {
     /// The command `=`: writes the line number.
     fn act_line_number<O: Sinks>(&self, outputs: &mut O) -> Result<(), Ended>
         requires { 0 < O.count outputs.old }
-        ensures puts { Puts (Sent (O.tally outputs.old) (O.tally outputs.new))
+        ensures puts { Puts (O.tally outputs.old) (O.tally outputs.new)
             (line_to 0 (decimal self.now.state.number)) result }
         ensures output { Delivers O.tally O.count outputs.old outputs.new result }
     {
@@ -224,7 +224,7 @@ impl Machine {
     /// The command `l`: writes the listing of the pattern space.
     fn act_list<O: Sinks>(&self, outputs: &mut O) -> Result<(), Ended>
         requires { 0 < O.count outputs.old }
-        ensures puts { Puts (Sent (O.tally outputs.old) (O.tally outputs.new))
+        ensures puts { Puts (O.tally outputs.old) (O.tally outputs.new)
             (to_sink 0 (listed self.now.state.pattern)) result }
         ensures output { Delivers O.tally O.count outputs.old outputs.new result }
     {
@@ -234,7 +234,7 @@ impl Machine {
     /// The commands `p` and `w`: writes the pattern space to a sink.
     pub(super) fn act_write<O: Sinks>(&self, sink: usize, outputs: &mut O) -> Result<(), Ended>
         requires { sink < O.count outputs.old }
-        ensures puts { Puts (Sent (O.tally outputs.old) (O.tally outputs.new))
+        ensures puts { Puts (O.tally outputs.old) (O.tally outputs.new)
             (line_to sink self.now.state.pattern) result }
         ensures output { Delivers O.tally O.count outputs.old outputs.new result }
     {
@@ -244,7 +244,7 @@ impl Machine {
     /// The command `P`: writes the pattern space up to its first newline.
     fn act_print_first<O: Sinks>(&self, outputs: &mut O) -> Result<(), Ended>
         requires { 0 < O.count outputs.old }
-        ensures puts { Puts (Sent (O.tally outputs.old) (O.tally outputs.new))
+        ensures puts { Puts (O.tally outputs.old) (O.tally outputs.new)
             (line_to 0 (before_first is_newline self.now.state.pattern)) result }
         ensures output { Delivers O.tally O.count outputs.old outputs.new result }
     {

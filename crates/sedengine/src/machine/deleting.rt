@@ -2,7 +2,6 @@
 ghost use Rattle.std.specs.Prelude.{◌<◌, ◌≤◌, ◌+◌, ℕ, List, true, length};
 ghost use Rattle.sedscript.specs.declared.types.Action.TheVariants.{Change, Delete, DeleteFirst};
 ghost use Rattle.sedengine.specs.Move.{acts};
-ghost use Rattle.sedengine.specs.Meters.{Sent};
 ghost use Rattle.sedengine.specs.Run.{at_lines, setting};
 ghost use Rattle.sedengine.specs.ScriptSetting.{TellsFiles};
 ghost use Rattle.sedengine.specs.Steps.{Leaves, Performs, weight};
@@ -29,7 +28,7 @@ impl Machine {
         ensures acts { (files : ℕ → List ℕ) → TellsFiles (T.text texts.old) files → (ls : List (List ℕ)) →
             Performs self.old.limits (setting self.old files)
             (acts (setting self.old files) (at_lines self.old ls) tells (Change text)) (at_lines self.old ls)
-            (at_lines self.new ls) (Sent (O.tally outputs.old) (O.tally outputs.new)) result }
+            (at_lines self.new ls) (O.tally outputs.old) (O.tally outputs.new) result }
         ensures falls { weight self.new ≤ weight self.old + 8 }
         ensures leaves { Leaves O.tally O.count T.text self.old self.new outputs.old outputs.new texts.old texts.new result }
     {
@@ -51,7 +50,7 @@ impl Machine {
         ensures acts { (files : ℕ → List ℕ) → TellsFiles (T.text texts.old) files → (ls : List (List ℕ)) →
             Performs self.old.limits (setting self.old files)
             (acts (setting self.old files) (at_lines self.old ls) true Delete) (at_lines self.old ls)
-            (at_lines self.new ls) (Sent (O.tally outputs.old) (O.tally outputs.new)) result }
+            (at_lines self.new ls) (O.tally outputs.old) (O.tally outputs.new) result }
         ensures falls { weight self.new ≤ weight self.old + 8 }
         ensures leaves { Leaves O.tally O.count T.text self.old self.new outputs.old outputs.new texts.old texts.new result }
     {
@@ -70,7 +69,7 @@ impl Machine {
         ensures acts { (files : ℕ → List ℕ) → TellsFiles (T.text texts.old) files → (ls : List (List ℕ)) →
             Performs self.old.limits (setting self.old files)
             (acts (setting self.old files) (at_lines self.old ls) true DeleteFirst) (at_lines self.old ls)
-            (at_lines self.new ls) (Sent (O.tally outputs.old) (O.tally outputs.new)) result }
+            (at_lines self.new ls) (O.tally outputs.old) (O.tally outputs.new) result }
         ensures falls { weight self.new ≤ weight self.old + 8 }
         ensures leaves { Leaves O.tally O.count T.text self.old self.new outputs.old outputs.new texts.old texts.new result }
     {

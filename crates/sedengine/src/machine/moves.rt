@@ -25,7 +25,7 @@ impl Machine {
         ensures steps { lines.old.fault ≡ None → ForSome (lines_left R.remaining lines.old) (λ ls.
             (files : ℕ → List ℕ) → TellsFiles (T.text texts.old) files →
             Steps R.remaining lines.old lines.new ls self.old.limits (setting self.old files) self.old self.new
-            (Sent (O.tally outputs.old) (O.tally outputs.new)) result) }
+            (O.tally outputs.old) (O.tally outputs.new) result) }
         ensures falls { OnOk result (weight self.new < weight self.old) }
         ensures leaves { LeavesLines R.remaining R.failures R.reference O.tally O.count T.text self.old self.new
             lines.old lines.new outputs.old outputs.new texts.old texts.new result }
@@ -50,8 +50,8 @@ impl Machine {
         requires look { lines.old.look ≡ self.old.limits.look }
         ensures ends { lines.old.fault ≡ None → ForSome (lines_left R.remaining lines.old) (λ ls.
             (files : ℕ → List ℕ) → TellsFiles (T.text texts.old) files →
-            Ending self.old.limits (setting self.old files) (at_lines self.old ls)
-            (Sent (O.tally outputs.old) (O.tally outputs.new))
+            (out : List (ℕ × ℕ)) × Sent (O.tally outputs.old) (O.tally outputs.new) out
+            × Ending self.old.limits (setting self.old files) (at_lines self.old ls) out
             (input_of R.remaining lines.old) (input_of R.remaining lines.new) self.new.state result) }
         ensures leaves { LeavesLines R.remaining R.failures R.reference O.tally O.count T.text self.old self.new
             lines.old lines.new outputs.old outputs.new texts.old texts.new (Err result) }
@@ -85,8 +85,8 @@ impl Machine {
         requires look { lines.old.look ≡ self.old.limits.look }
         ensures cycles { lines.old.fault ≡ None → ForSome (lines_left R.remaining lines.old) (λ ls.
             (files : ℕ → List ℕ) → TellsFiles (T.text texts.old) files →
-            Cycles self.old.limits (setting self.old files) (at_lines self.old ls)
-            (Sent (O.tally outputs.old) (O.tally outputs.new))
+            (out : List (ℕ × ℕ)) × Sent (O.tally outputs.old) (O.tally outputs.new) out
+            × Cycles self.old.limits (setting self.old files) (at_lines self.old ls) out
             (input_of R.remaining lines.old) (input_of R.remaining lines.new)
             self.new (lines_left R.remaining lines.new) result) }
         ensures leaves { LeavesLines R.remaining R.failures R.reference O.tally O.count T.text self.old self.new

@@ -7,7 +7,7 @@ ghost use Rattle.sedspace.specs.Stream.{lines_left};
 ghost use Rattle.sedengine.specs.State.{empty_pattern, fetch, flush, join, print_pattern};
 ghost use Rattle.sedengine.specs.Move.{acts, newline, then_do};
 ghost use Rattle.sedengine.specs.Ends.{reaches};
-ghost use Rattle.sedengine.specs.Meters.{Sent, SinkView};
+ghost use Rattle.sedengine.specs.Meters.{SinkView};
 ghost use Rattle.sedengine.specs.Calls.{ReadsAlone};
 ghost use Rattle.sedengine.specs.Run.{at_lines, setting};
 ghost use Rattle.sedengine.specs.ScriptSetting.{TellsFiles};
@@ -37,7 +37,7 @@ impl Machine {
             (files : ℕ → List ℕ) → TellsFiles (T.text texts.old) files →
             PerformsSteps R.remaining lines.old lines.new ls self.old.limits (setting self.old files)
             (acts (setting self.old files) (at_lines self.old ls) true NextLine) true (at_lines self.old ls) self.new
-            (Sent (O.tally outputs.old) (O.tally outputs.new)) result) }
+            (O.tally outputs.old) (O.tally outputs.new) result) }
         ensures falls { weight self.new ≤ weight self.old + 8 }
         ensures leaves { LeavesLines R.remaining R.failures R.reference O.tally O.count T.text self.old self.new
             lines.old lines.new outputs.old outputs.new texts.old texts.new result }
@@ -65,7 +65,7 @@ impl Machine {
             (files : ℕ → List ℕ) → TellsFiles (T.text texts.old) files →
             StepsFrom R.remaining lines.old lines.new ls self.old.limits (setting self.old files)
             (then_do (print_pattern ∷ flush ∷ empty_pattern ∷ fetch ∷ self.old.state.tasks) (at_lines self.old ls)) self.new
-            (Sent (O.tally outputs.old) (O.tally outputs.new)) result) }
+            (O.tally outputs.old) (O.tally outputs.new) result) }
         ensures falls { weight self.new ≤ weight self.old }
         ensures leaves { LeavesLines R.remaining R.failures R.reference O.tally O.count T.text self.old self.new
             lines.old lines.new outputs.old outputs.new texts.old texts.new result }
@@ -82,7 +82,7 @@ impl Machine {
             (files : ℕ → List ℕ) (sinks : SinkView) →
             StepsFrom R.remaining lines.old lines.new ls self.old.limits (setting self.old files)
             (then_do (empty_pattern ∷ fetch ∷ self.old.state.tasks) (at_lines self.old ls)) self.new
-            (Sent sinks sinks) result) }
+            sinks sinks result) }
         ensures reads { ReadsAlone R.remaining R.failures R.reference lines.old lines.new result }
         ensures falls { weight self.new ≤ weight self.old }
         ensures same { KeepsRun self.old self.new }
@@ -125,7 +125,7 @@ impl Machine {
             (files : ℕ → List ℕ) → TellsFiles (T.text texts.old) files →
             PerformsSteps R.remaining lines.old lines.new ls self.old.limits (setting self.old files)
             (acts (setting self.old files) (at_lines self.old ls) true AppendNext) false (at_lines self.old ls) self.new
-            (Sent (O.tally outputs.old) (O.tally outputs.new)) result) }
+            (O.tally outputs.old) (O.tally outputs.new) result) }
         ensures falls { weight self.new ≤ weight self.old + 8 }
         ensures leaves { LeavesLines R.remaining R.failures R.reference O.tally O.count T.text self.old self.new
             lines.old lines.new outputs.old outputs.new texts.old texts.new result }
@@ -142,7 +142,7 @@ impl Machine {
             (files : ℕ → List ℕ) (sinks : SinkView) →
             StepsFrom R.remaining lines.old lines.new ls self.old.limits (setting self.old files)
             (then_do (join ∷ self.old.state.tasks) (at_lines self.old ls)) self.new
-            (Sent sinks sinks) result) }
+            sinks sinks result) }
         ensures reads { ReadsAlone R.remaining R.failures R.reference lines.old lines.new result }
         ensures falls { weight self.new ≤ weight self.old }
         ensures same { KeepsRun self.old self.new }

@@ -5,7 +5,6 @@ ghost use Rattle.sedscript.specs.Ranges.{IsOneOf};
 ghost use Rattle.sedspace.specs.Lines.{AreWholeLines};
 ghost use Rattle.sedspace.specs.Stream.{lines_left};
 ghost use Rattle.sedengine.specs.State.{begin};
-ghost use Rattle.sedengine.specs.Meters.{Sent};
 ghost use Rattle.sedengine.specs.Calls.{Reads, Delivers, end_of};
 ghost use Rattle.sedengine.specs.Run.{at_lines, setting};
 ghost use Rattle.sedengine.specs.Steps.{KeepsRun, weight};
@@ -92,7 +91,7 @@ impl Machine {
     /// Writes lines as they are, unless default output is suppressed.
     fn write_lines<O: Sinks>(&self, bytes: &[u8], outputs: &mut O) -> Result<(), Cut>
         requires { 0 < O.count outputs.old }
-        ensures writes { WritesLines (Sent (O.tally outputs.old) (O.tally outputs.new)) self.now.script.quiet bytes.now
+        ensures writes { WritesLines (O.tally outputs.old) (O.tally outputs.new) self.now.script.quiet bytes.now
             result }
         ensures output { Delivers O.tally O.count outputs.old outputs.new (end_of result) }
     {
@@ -146,7 +145,7 @@ impl Machine {
         requires sink { 0 < O.count outputs.old }
         ensures steps { ForSome (lines_left R.remaining lines.old) (λ ls. (files : ℕ → List ℕ) →
             StepsPassing R.remaining lines.old lines.new ls self.old.limits (setting self.old files)
-            (at_lines self.old ls) self.new (Sent (O.tally outputs.old) (O.tally outputs.new)) result) }
+            (at_lines self.old ls) self.new (O.tally outputs.old) (O.tally outputs.new) result) }
         ensures input { Reads R.remaining R.failures R.reference lines.old lines.new result }
         ensures output { Delivers O.tally O.count outputs.old outputs.new result }
         ensures falls { OnOk result (weight self.new ≤ weight self.old) }
@@ -190,7 +189,7 @@ impl Machine {
         requires { 0 < O.count outputs.old }
         ensures steps { ForSome (lines_left R.remaining lines.old) (λ ls. (files : ℕ → List ℕ) →
             StepsPassing R.remaining lines.old lines.new ls self.old.limits (setting self.old files)
-            (at_lines self.old ls) self.new (Sent (O.tally outputs.old) (O.tally outputs.new)) result) }
+            (at_lines self.old ls) self.new (O.tally outputs.old) (O.tally outputs.new) result) }
         ensures input { Reads R.remaining R.failures R.reference lines.old lines.new result }
         ensures output { Delivers O.tally O.count outputs.old outputs.new result }
         ensures falls { OnOk result (weight self.new ≤ weight self.old) }

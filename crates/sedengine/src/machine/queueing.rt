@@ -3,7 +3,6 @@ ghost use Rattle.std.specs.Prelude.{◌≡◌, ◌<◌, ◌≤◌, ◌+◌, [], 
 ghost use Rattle.std.specs.Io.KnownBytes.{Keeps};
 ghost use Rattle.sedengine.specs.State.{Task, flush, print_pattern};
 ghost use Rattle.sedengine.specs.Move.{line_to, then_do};
-ghost use Rattle.sedengine.specs.Meters.{Sent};
 ghost use Rattle.sedengine.specs.Calls.{Puts, Delivers};
 ghost use Rattle.sedengine.specs.Run.{at_lines, setting};
 ghost use Rattle.sedengine.specs.ScriptSetting.{TellsFiles};
@@ -42,7 +41,7 @@ impl Machine {
         ensures moves { (files : ℕ → List ℕ) → TellsFiles (T.text texts.old) files →
             (ls : List (List ℕ)) (rest : List Task) →
             Moves self.old.limits (setting self.old files) (then_do (flush ∷ rest) (at_lines self.old ls))
-            (then_do rest (at_lines self.new ls)) (Sent (O.tally outputs.old) (O.tally outputs.new)) result }
+            (then_do rest (at_lines self.new ls)) (O.tally outputs.old) (O.tally outputs.new) result }
         ensures ok { OnOk result (self.new ≡ flushed self.old self.new.state.turns) }
         ensures err { OnErr result (self.new ≡ with_turns self.old self.new.state.turns) }
         ensures later { self.old.state.turns ≤ self.new.state.turns }
@@ -74,7 +73,7 @@ impl Machine {
         ensures moves { (files : ℕ → List ℕ) → TellsFiles (T.text texts.old) files →
             (ls : List (List ℕ)) (rest : List Task) →
             Moves self.old.limits (setting self.old files) (then_do (print_pattern ∷ flush ∷ rest) (at_lines self.old ls))
-            (then_do rest (at_lines self.new ls)) (Sent (O.tally outputs.old) (O.tally outputs.new)) result }
+            (then_do rest (at_lines self.new ls)) (O.tally outputs.old) (O.tally outputs.new) result }
         ensures ok { OnOk result (self.new ≡ flushed self.old self.new.state.turns) }
         ensures err { OnErr result (self.new ≡ with_turns self.old self.new.state.turns) }
         ensures later { self.old.state.turns ≤ self.new.state.turns }
@@ -97,7 +96,7 @@ impl Machine {
         requires sink { 0 < O.count outputs.old }
         ensures moves { (files : ℕ → List ℕ) → TellsFiles (T.text texts.old) files → (ls : List (List ℕ)) →
             Moves self.old.limits (setting self.old files) (then_do (flush ∷ tasks_of place) (at_lines self.old ls))
-            (at_lines self.new ls) (Sent (O.tally outputs.old) (O.tally outputs.new)) result }
+            (at_lines self.new ls) (O.tally outputs.old) (O.tally outputs.new) result }
         ensures falls { weight self.new ≤ weight self.old + 8 }
         ensures leaves { Leaves O.tally O.count T.text self.old self.new outputs.old outputs.new texts.old texts.new result }
     {
@@ -114,7 +113,7 @@ fn print_by_default<O: Sinks>(
     outputs: &mut O,
 ) -> Result<(), Ended>
     requires { 0 < O.count outputs.old }
-    ensures puts { Puts (Sent (O.tally outputs.old) (O.tally outputs.new))
+    ensures puts { Puts (O.tally outputs.old) (O.tally outputs.new)
         (if script.now.quiet then [] else line_to 0 pattern.now.bytes) result }
     ensures output { Delivers O.tally O.count outputs.old outputs.new result }
     ensures input { result ≡ Err Ended.InputBroken → ⊥ }

@@ -5,7 +5,6 @@ ghost use Rattle.sedscript.specs.declared.substitution.Substitution.{Substitutio
 ghost use Rattle.sedengine.specs.State.{do_at};
 ghost use Rattle.sedengine.specs.Move.{in_table, line_to, line_to_file, substitutes, written_by};
 ghost use Rattle.sedengine.specs.Ends.{reaches};
-ghost use Rattle.sedengine.specs.Meters.{Sent};
 ghost use Rattle.sedengine.specs.Calls.{Delivers, NamesNone, Puts};
 ghost use Rattle.sedengine.specs.Run.{at_lines, setting};
 ghost use Rattle.sedengine.specs.Steps.{KeepsRun, Performs, weight};
@@ -34,7 +33,7 @@ impl Machine {
             Performs self.old.limits (setting self.old files)
             (substitutes (setting self.old files) (at_lines self.old ls) (slice_get self.old.script.substitutions k))
             (at_lines self.old ls) (at_lines self.new ls)
-            (Sent (O.tally outputs.old) (O.tally outputs.new)) result }
+            (O.tally outputs.old) (O.tally outputs.new) result }
         ensures output { Delivers O.tally O.count outputs.old outputs.new result }
         ensures input { result ≡ Err Ended.InputBroken → ⊥ }
         ensures falls { weight self.new ≤ weight self.old }
@@ -96,7 +95,7 @@ impl Machine {
         requires number { k < length self.now.script.substitutions }
         requires sinks { length self.now.script.wfiles < O.count outputs.old }
         ensures puts { (t : Substitution) → slice_get self.now.script.substitutions k ≡ Some t →
-            Puts (Sent (O.tally outputs.old) (O.tally outputs.new)) (written_by t self.now.state.pattern) result }
+            Puts (O.tally outputs.old) (O.tally outputs.new) (written_by t self.now.state.pattern) result }
         ensures output { Delivers O.tally O.count outputs.old outputs.new result }
         ensures input { result ≡ Err Ended.InputBroken → ⊥ }
     {
@@ -109,7 +108,7 @@ impl Machine {
         requires number { k < length self.now.script.substitutions }
         requires sink { 0 < O.count outputs.old }
         ensures puts { (t : Substitution) → slice_get self.now.script.substitutions k ≡ Some t →
-            Puts (Sent (O.tally outputs.old) (O.tally outputs.new))
+            Puts (O.tally outputs.old) (O.tally outputs.new)
             (if t.print then line_to 0 self.now.state.pattern else []) result }
         ensures output { Delivers O.tally O.count outputs.old outputs.new result }
         ensures input { result ≡ Err Ended.InputBroken → ⊥ }
@@ -125,7 +124,7 @@ impl Machine {
         requires number { k < length self.now.script.substitutions }
         requires sinks { length self.now.script.wfiles < O.count outputs.old }
         ensures puts { (t : Substitution) → slice_get self.now.script.substitutions k ≡ Some t →
-            Puts (Sent (O.tally outputs.old) (O.tally outputs.new))
+            Puts (O.tally outputs.old) (O.tally outputs.new)
             (line_to_file t.file self.now.state.pattern) result }
         ensures output { Delivers O.tally O.count outputs.old outputs.new result }
         ensures input { result ≡ Err Ended.InputBroken → ⊥ }

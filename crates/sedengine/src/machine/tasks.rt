@@ -3,7 +3,7 @@ ghost use Rattle.std.specs.Prelude.{◌≡◌, ◌<◌, ◌≤◌, [], ◌∷◌
 ghost use Rattle.std.specs.Option.{ForSome};
 ghost use Rattle.sedspace.specs.Stream.{lines_left};
 ghost use Rattle.sedengine.specs.State.{begin, rebegin, do_at, print_pattern, flush};
-ghost use Rattle.sedengine.specs.Meters.{Sent, SinkView};
+ghost use Rattle.sedengine.specs.Meters.{SinkView};
 ghost use Rattle.sedengine.specs.Calls.{NamesNone, ReadsAlone};
 ghost use Rattle.sedengine.specs.Run.{at_lines, setting};
 ghost use Rattle.sedengine.specs.ScriptSetting.{TellsFiles};
@@ -22,7 +22,7 @@ impl Machine {
         ensures steps { lines.old.fault ≡ None → ForSome (lines_left R.remaining lines.old) (λ ls.
             (files : ℕ → List ℕ) (sinks : SinkView) →
             Steps R.remaining lines.old lines.new ls self.old.limits (setting self.old files) self.old self.new
-            (Sent sinks sinks) result) }
+            sinks sinks result) }
         ensures reads { ReadsAlone R.remaining R.failures R.reference lines.old lines.new result }
         ensures falls { OnOk result (weight self.new < weight self.old) }
         ensures same { KeepsRun self.old self.new }
@@ -59,7 +59,7 @@ impl Machine {
         requires { self.old.state.tasks ≡ rebegin ∷ [] }
         ensures moves { (files : ℕ → List ℕ) (ls : List (List ℕ)) (sinks : SinkView) →
             Moves self.old.limits (setting self.old files) (at_lines self.old ls)
-            (at_lines self.new ls) (Sent sinks sinks) result }
+            (at_lines self.new ls) sinks sinks result }
         ensures devices { NamesNone result }
         ensures falls { OnOk result (weight self.new < weight self.old) }
         ensures same { KeepsRun self.old self.new }
@@ -84,7 +84,7 @@ impl Machine {
         requires sink { 0 < O.count outputs.old }
         ensures moves { (files : ℕ → List ℕ) → TellsFiles (T.text texts.old) files → (ls : List (List ℕ)) →
             Moves self.old.limits (setting self.old files) (at_lines self.old ls)
-            (at_lines self.new ls) (Sent (O.tally outputs.old) (O.tally outputs.new)) result }
+            (at_lines self.new ls) (O.tally outputs.old) (O.tally outputs.new) result }
         ensures falls { OnOk result (weight self.new < weight self.old) }
         ensures leaves { Leaves O.tally O.count T.text self.old self.new outputs.old outputs.new texts.old texts.new result }
     {
@@ -104,7 +104,7 @@ impl Machine {
         requires sink { 0 < O.count outputs.old }
         ensures moves { (files : ℕ → List ℕ) → TellsFiles (T.text texts.old) files → (ls : List (List ℕ)) →
             Moves self.old.limits (setting self.old files) (at_lines self.old ls)
-            (at_lines self.new ls) (Sent (O.tally outputs.old) (O.tally outputs.new)) result }
+            (at_lines self.new ls) (O.tally outputs.old) (O.tally outputs.new) result }
         ensures falls { OnOk result (weight self.new < weight self.old) }
         ensures leaves { Leaves O.tally O.count T.text self.old self.new outputs.old outputs.new texts.old texts.new result }
     {

@@ -1,8 +1,8 @@
-use Rattle.std.proofs.Common.{Err}
-use Rattle.sedengine.specs.Devices.{GainedWithin}
+use Rattle.std.proofs.Common.{subst}
+use Rattle.sedengine.specs.Devices.{Gained}
 use Rattle.scripts.proofs.TurnedEnds.{turned_ends as law}
 use Rattle.scripts.proofs.laws.turned_ends.Goals as goal
 
 pub returns : goal.returns
 returns c = λ l input old new end ample to.
-    let ends = law c.one_meaning.ensures l to.program to.files input (GainedWithin l.output to.before old new (Err end)) end to.t to.means ample to.free to.cause in (ends.0, ends.1.gained)
+    let ends = law c.one_meaning.ensures l to.program to.files input to.out end to.t to.means ample to.free to.cause in (ends.0, subst (Gained old new) ends.1 to.gains.gained)

@@ -15,7 +15,7 @@ returns-clause-means g c = λ runs.
       c.in-Ok-read_script.script,
       rw (← c.nodes.ensures.value) c.in-Ok-read_script.ensures.gives,
       c.run.ensures.names ∙ c.create_files.ensures.names (search rules),
-      means-from c.args.limits c.in-Ok-read_script.script _ _ _ _ _ _ _ _ _ _ _ _ _ _ _ _ _ _ ready c.in-Ok-read_script.ensures.inputs.refused c.in-Ok-read_script.ensures.inputs.failed c.create_files.ensures.failed (c.run.ensures.means runs),
+      means-from c.args.limits c.in-Ok-read_script.script _ _ _ _ _ _ _ _ _ _ _ _ _ _ _ _ _ ready c.in-Ok-read_script.ensures.inputs.refused c.in-Ok-read_script.ensures.inputs.failed c.create_files.ensures.failed _ (c.run.ensures.means runs),
     )
 
 pub returns-in-Err-name_files-clause-created : goal.returns-in-Err-name_files-clause-created

@@ -1,6 +1,5 @@
 use Rattle.std.proofs.Common.{inl, inr, refl}
-use Rattle.sedengine.proofs.Metering.{Cause-as}
-use Rattle.sededit.proofs.RunLemmas.{GainsBy-same, WritesAll-same, WritesBeginning-same, none_failed, none_refused, sink_failed, sink_flushed, some_refused, source_kept}
+use Rattle.sededit.proofs.RunLemmas.{GainedWithin-same, WritesAll-same, WritesBeginning-same, none_failed, none_refused, sink_failed, sink_flushed, some_refused, source_kept}
 use Rattle.sededit.proofs.running.run_joined.Goals as goal
 
 pub returns-clause-means : goal.returns-clause-means
@@ -20,7 +19,7 @@ returns-clause-means g c = λ runs.
           c.in-Ok.edited.end,
           early,
           (e.input, sink_flushed _ _ _ _ c.in-Ok.edited.end e.failed c.finish.ensures.failures),
-          λ bytes known files told. let h = e.ending bytes known files told in (h.t, Cause-as _ _ _ _ _ c.in-Ok.edited.end h.t (λ out sent. GainsBy-same c.args.task.limits _ _ _ c.in-Ok.edited.end out same sent) h.cause, λ is. (_, refl, h.broken is)),
+          λ bytes known files told. let (out, sent, h) = e.ending bytes known files told in (out, GainedWithin-same c.args.task.limits _ _ _ c.in-Ok.edited.end out same sent, h.t, h.cause, λ is. (_, refl, h.broken is)),
         )
         | inr flushed ↦ inr (WritesAll-same c.args.task.script _ _ _ _ _ same (e.whole flushed.0), sink_failed _ _ _ (none_failed _ _ _ flushed.0 e.failed.0) flushed.1, source_kept _ _ _ flushed.0 e.input)
       ];

@@ -1,13 +1,12 @@
 use Rattle.std.proofs.Common.{◌≡◌, [], length, Ok}
 use Rattle.sedengine.specs.ListingParts.{WrittenInPart}
-use Rattle.sedengine.specs.Meters.{Sent}
 use Rattle.sedengine.specs.Calls.{Delivers}
 use Rattle.sedengine.proofs.listing.write_listing.Given as goal
 
 abbrev pub invariant-parts : goal.invariant-parts
 invariant-parts g l = record {
   empty : l.gathered.bytes ≡ [];
-  written : WrittenInPart (Sent (g.O.Sinks.tally l.fn.outputs) (g.O.Sinks.tally l.outputs)) l.bytes l.rest l.gathered.column;
+  written : WrittenInPart (g.O.Sinks.tally l.fn.outputs) (g.O.Sinks.tally l.outputs) l.bytes l.rest l.gathered.column;
   devices : Delivers g.O.Sinks.tally g.O.Sinks.count l.fn.outputs l.outputs (Ok tt);
 }
 

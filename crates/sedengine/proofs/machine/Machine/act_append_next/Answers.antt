@@ -24,6 +24,6 @@ returns-in_err-flush-clause-acts g c = λ sound ls known files told.
     let p = err_from_is_err_and c.from_residual.result c.from_residual.ensures.1 in
     rw (p.1, p.2) (performs_then g.R.ByteSource.remaining c.args.lines.now c.args.lines.now ls e.limits (setting e files) (acts (setting e files) (at_lines e ls) true AppendNext) false (at_lines e ls) (then_do (flush ∷ join ∷ e.state.tasks) (at_lines e ls)) c.flush.new.self
     (g.O.Sinks.tally c.args.outputs.now) (g.O.Sinks.tally c.flush.new.outputs) (Err c.in_err-flush.field-0.0) refl refl refl
-    (looked_moves g.R.ByteSource.remaining c.args.lines.now c.args.lines.now ls e.limits (setting e files) (then_do (flush ∷ join ∷ e.state.tasks) (at_lines e ls)) c.flush.new.self _ (Err c.in_err-flush.field-0.0)
+    (looked_moves g.R.ByteSource.remaining c.args.lines.now c.args.lines.now ls e.limits (setting e files) (then_do (flush ∷ join ∷ e.state.tasks) (at_lines e ls)) c.flush.new.self _ _ (Err c.in_err-flush.field-0.0)
     (lines_same g.R.ByteSource.remaining c.args.lines.now ls known) refl
-    (stopped_anyway _ _ _ c.flush.new.self ls (join ∷ e.state.tasks) _ c.in_err-flush.field-0.0 (c.in_err-flush.ensures.moves files told ls (join ∷ e.state.tasks)))))
+    (stopped_anyway _ _ _ c.flush.new.self ls (join ∷ e.state.tasks) _ _ c.in_err-flush.field-0.0 (c.in_err-flush.ensures.moves files told ls (join ∷ e.state.tasks)))))

@@ -21,7 +21,7 @@ returns-else-branch-clause-acts g c = λ sound ls known files told.
     performs_then g.R.ByteSource.remaining c.args.lines.now c.print_and_fetch.new.lines ls e.limits (setting e files) (acts (setting e files) (at_lines e ls) true NextLine) true (at_lines e ls)
     (then_do (print_pattern ∷ flush ∷ empty_pattern ∷ fetch ∷ e.state.tasks) (at_lines e ls)) c.print_and_fetch.new.self (g.O.Sinks.tally c.args.outputs.now) (g.O.Sinks.tally c.print_and_fetch.new.outputs) c.print_and_fetch.result
     (next_goes e e files ls c.in_ok-is_last.field-0 (w.last sound ls known) c.if-branch.false) refl refl
-    (looked_then g.R.ByteSource.remaining c.args.lines.now c.is_last.new.lines c.print_and_fetch.new.lines ls e.limits (setting e files) _ c.print_and_fetch.new.self _ c.print_and_fetch.result taken
+    (looked_then g.R.ByteSource.remaining c.args.lines.now c.is_last.new.lines c.print_and_fetch.new.lines ls e.limits (setting e files) _ c.print_and_fetch.new.self _ _ c.print_and_fetch.result taken
     (c.print_and_fetch.ensures.steps (w.reads.input.sound sound) ls taken.known files told))
 
 pub returns-else-branch-clause-leaves : goal.returns-else-branch-clause-leaves

@@ -1,5 +1,4 @@
 use Rattle.sedengine.specs.Move.{line_to}
-use Rattle.sedengine.specs.Meters.{Sent}
 use Rattle.sedengine.specs.Run.{RunState}
 use Rattle.sedengine.proofs.Ending.{puts_seen}
 use Rattle.sedengine.proofs.machine.Machine.act_write.Goals as goal
@@ -7,5 +6,5 @@ use Rattle.sedengine.proofs.machine.Machine.act_write.Goals as goal
 pub returns-clause-puts : goal.returns-clause-puts
 returns-clause-puts g c =
     puts_seen c.self.inside c.args.self.now (λ (e : RunState). line_to c.args.sink e.state.pattern)
-    (Sent (g.O.Sinks.tally c.args.outputs.now) (g.O.Sinks.tally c.write_all.new.self))
+    (g.O.Sinks.tally c.args.outputs.now) (g.O.Sinks.tally c.write_all.new.self)
     c.write_all.result c.self.view_is (rw c.line.ensures.value at c.write_all.ensures.puts)

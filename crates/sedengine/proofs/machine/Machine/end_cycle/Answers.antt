@@ -2,7 +2,6 @@ use Rattle.std.proofs.Common.{◌≤◌, ◌∷◌, ◌∙◌, ap, sym, refl, su
 use Rattle.std.proofs.lemmas.Result.{err_from_is_err_and}
 use Rattle.sedengine.specs.State.{State, flush}
 use Rattle.sedengine.specs.Move.{then_do}
-use Rattle.sedengine.specs.Meters.{Sent}
 use Rattle.sedengine.specs.Run.{RunState, at_lines, setting}
 use Rattle.sedengine.specs.Steps.{Ran}
 use Rattle.sedengine.specs.Inside.{run_of, tasks_of}
@@ -13,13 +12,13 @@ pub returns-clause-moves : goal.returns-clause-moves
 returns-clause-moves g c = λ files told ls.
     let e = c.args.self.now in
     let s : State = then_do (flush ∷ tasks_of c.args.place) (at_lines e ls) in
-    let Q : RunState → Type 0 = λ e'. Ran e.limits (setting e files) s (then_do (tasks_of c.args.place) (at_lines e' ls)) (Sent (g.O.Sinks.tally c.args.outputs.now) (g.O.Sinks.tally c.flush.new.outputs)) in
+    let Q : RunState → Type 0 = λ e'. Ran e.limits (setting e files) s (then_do (tasks_of c.args.place) (at_lines e' ls)) (g.O.Sinks.tally c.args.outputs.now) (g.O.Sinks.tally c.flush.new.outputs) in
     subst Q (sym c.self.view_is) (c.in_ok-flush.ensures.moves files told ls (tasks_of c.args.place))
 
 pub returns-in_err-flush-clause-moves : goal.returns-in_err-flush-clause-moves
 returns-in_err-flush-clause-moves g c = λ files told ls.
     let p = err_from_is_err_and c.from_residual.result c.from_residual.ensures.1 in
-    rw (p.1, p.2) (stopped_anyway _ _ _ c.flush.new.self ls (tasks_of c.args.place) _ c.in_err-flush.field-0.0 (c.in_err-flush.ensures.moves files told ls (tasks_of c.args.place)))
+    rw (p.1, p.2) (stopped_anyway _ _ _ c.flush.new.self ls (tasks_of c.args.place) _ _ c.in_err-flush.field-0.0 (c.in_err-flush.ensures.moves files told ls (tasks_of c.args.place)))
 
 pub returns-clause-falls : goal.returns-clause-falls
 returns-clause-falls g c =

@@ -1,9 +1,8 @@
-use Rattle.sedengine.specs.Meters.{Sent}
 use Rattle.sedengine.proofs.SubstituteMoves.{filed_seen}
 use Rattle.sedengine.proofs.machine.Machine.file_replaced.Goals as goal
 
 pub returns-in-Some-clause-puts : goal.returns-in-Some-clause-puts
 returns-in-Some-clause-puts g c = λ t is.
     filed_seen c.self.inside c.args.self.now c.args.k c.substitution.result.now t c.in-Some.sink c.args.self.now.state.pattern
-    (Sent (g.O.Sinks.tally c.args.outputs.now) (g.O.Sinks.tally c.act_write.new.outputs))
+    (g.O.Sinks.tally c.args.outputs.now) (g.O.Sinks.tally c.act_write.new.outputs)
     c.act_write.result c.self.view_is c.substitution.ensures.is is c.in-Some.is c.act_write.ensures.puts

@@ -25,10 +25,9 @@ returns-in-Err-clause-cycles g c = λ sound ls known files told.
     let r = reached.0 in
     let input = Reads-then _ _ _ _ _ _ _ h.leaves.input c.in-Err.ensures.leaves.input in
     let stop = c.in-Err.ensures.steps (h.leaves.input.sound sound) r.rest r.taken.known files (tells_on _ _ files told h.leaves.kept) in
-    record {
-      ending = stop_on g.R.ByteSource.remaining c.args.lines.now c.moves.lines c.step.new.lines files c.args.self.now _ c.moves.self _ _ _ h.leaves.same r c.step.new.self c.in-Err.end stop input.shrinks input.ahead c.requires.look (λ is. input.broken (ap Err is) sound);
-      one = one_stop g.R.ByteSource.remaining c.args.lines.now c.moves.lines c.step.new.lines files c.args.self.now _ c.moves.self _ _ _ h.leaves.same r c.step.new.self c.in-Err.end stop reached.1;
-    }
+    let stopped = stop_on g.R.ByteSource.remaining c.args.lines.now c.moves.lines c.step.new.lines files c.args.self.now _ c.moves.self _ _ _ h.leaves.same r c.step.new.self c.in-Err.end stop input.shrinks input.ahead c.requires.look (λ is. input.broken (ap Err is) sound) in
+    let one = one_stop g.R.ByteSource.remaining c.args.lines.now c.moves.lines c.step.new.lines files c.args.self.now _ c.moves.self _ _ _ h.leaves.same r c.step.new.self c.in-Err.end stop reached.1 in
+    (stopped.0, stopped.1, record { ending = stopped.2; one = one })
 
 pub returns-then-at_start-clause-leaves : goal.returns-then-at_start-clause-leaves
 returns-then-at_start-clause-leaves g c = leaves_then c.moves.invariant.leaves c.in_default.ensures.leaves
@@ -43,9 +42,12 @@ returns-then-at_start-clause-cycles g c = λ sound ls known files told.
     let next : Reached g.R.ByteSource.remaining c.args.lines.now c.step.new.lines _ (setting c.args.self.now files) (at_lines c.args.self.now ls) c.step.new.self _ _ =
     step_on g.R.ByteSource.remaining c.args.lines.now c.moves.lines c.step.new.lines files c.args.self.now _ c.moves.self _ _ _ h.leaves.same r c.step.new.self ran in
     let one = one_on g.R.ByteSource.remaining c.args.lines.now c.moves.lines c.step.new.lines files c.args.self.now _ c.moves.self _ _ _ h.leaves.same r c.step.new.self ran reached.1 in
-    let some = some_on g.R.ByteSource.remaining c.args.lines.now c.moves.lines c.step.new.lines files c.args.self.now _ c.moves.self _ _ _ h.leaves.same r c.step.new.self ran in
-    cycled g.R.ByteSource.remaining c.args.lines.now c.step.new.lines _ _ _ c.step.new.self _ _ next some one (sym c.at_start.ensures ∙ c.if-at_start.true)
-    input.shrinks input.ahead c.requires.look
+    let some = some_on g.R.ByteSource.remaining c.args.lines.now c.moves.lines c.step.new.lines files c.args.self.now _ c.moves.self _ _ _ h.leaves.same r c.step.new.self ran in (
+      _,
+      next.gained,
+      cycled g.R.ByteSource.remaining c.args.lines.now c.step.new.lines _ _ _ c.step.new.self _ _ next some one (sym c.at_start.ensures ∙ c.if-at_start.true)
+          input.shrinks input.ahead c.requires.look,
+    )
 
 pub moves-preserved : goal.moves-preserved
 moves-preserved g c =

@@ -9,7 +9,7 @@ use Rattle.sedengine.proofs.machine.Machine.reach.Goals as goal
 
 pub returns-then-k-len-clause-steps : goal.returns-then-k-len-clause-steps
 returns-then-k-len-clause-steps g c = λ sound ls known files told.
-    steps_by_moves g.R.ByteSource.remaining c.args.lines.now ls _ _ c.args.self.now c.finish.new.self _ _ known (c.finish.ensures.moves files told ls)
+    steps_by_moves g.R.ByteSource.remaining c.args.lines.now ls _ _ c.args.self.now c.finish.new.self _ _ _ known (c.finish.ensures.moves files told ls)
 
 pub returns-then-self-turns-clause-steps : goal.returns-then-self-turns-clause-steps
 returns-then-self-turns-clause-steps g c = λ sound ls known files told.
@@ -39,7 +39,7 @@ returns-then-choice-clause-steps g c = λ sound ls known files told.
     reach_acting g.R.ByteSource.remaining c.args.lines.now c.judge.new.lines c.self.inside c.args.self.now c.self.view_is c.self.invariant files ls c.args.k c.command.result.now
     c.requires.at c.command.ensures.is (λ e. c.if-self-turns.false (e ∙ sym c.turns.ensures)) taken
     c.in_ok-choice.choice c.judge.new.self.state.used c.judge.new.self c.act.new.self (w.judges sound ls known) w.reaches
-    c.act.new.lines _ _ c.tells.result c.if-choice.true c.tells.ensures (c.act.ensures.acts (w.reads.input.sound sound) ls taken.known files told)
+    c.act.new.lines _ _ _ c.tells.result c.if-choice.true c.tells.ensures (c.act.ensures.acts (w.reads.input.sound sound) ls taken.known files told)
 
 pub returns-else-choice-clause-steps : goal.returns-else-choice-clause-steps
 returns-else-choice-clause-steps g c = λ sound ls known files told.

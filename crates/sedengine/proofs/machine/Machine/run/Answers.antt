@@ -4,4 +4,5 @@ use Rattle.sedengine.proofs.machine.Machine.run.Goals as goal
 
 pub returns-clause-ends : goal.returns-clause-ends
 returns-clause-ends g c = λ fresh sound ls known files told.
-    ending_seen c.moves-end.new.self (run_of c.self-2.inside) c.self-2.view_is (c.moves-end.ensures.ends sound ls known files told)
+    let (out, sent, ending) = c.moves-end.ensures.ends sound ls known files told in
+    (out, sent, ending_seen c.moves-end.new.self (run_of c.self-2.inside) c.self-2.view_is ending)

@@ -6,7 +6,7 @@ returns-in-Begin-clause-steps g c = λ sound ls known files told. c.begin.ensure
 
 pub returns-in-Quit-clause-steps : goal.returns-in-Quit-clause-steps
 returns-in-Quit-clause-steps g c = λ sound ls known files told.
-    steps_by_moves g.R.ByteSource.remaining _ ls _ _ c.args.self.now c.quit.new.self _ _ known (c.quit.ensures.moves files told ls)
+    steps_by_moves g.R.ByteSource.remaining _ ls _ _ c.args.self.now c.quit.new.self _ _ _ known (c.quit.ensures.moves files told ls)
 
 pub returns-in-Ended-clause-steps : goal.returns-in-Ended-clause-steps
 returns-in-Ended-clause-steps g c = λ sound ls known files told.
@@ -14,4 +14,4 @@ returns-in-Ended-clause-steps g c = λ sound ls known files told.
 
 pub returns-in-Rebegin-clause-steps : goal.returns-in-Rebegin-clause-steps
 returns-in-Rebegin-clause-steps g c = λ sound ls known files told.
-    steps_by_moves g.R.ByteSource.remaining _ ls _ _ c.args.self.now c.rebegin.new.self _ _ known (c.rebegin.ensures.moves files ls _)
+    steps_by_moves g.R.ByteSource.remaining _ ls _ _ c.args.self.now c.rebegin.new.self _ _ _ known (c.rebegin.ensures.moves files ls _)
