@@ -27,7 +27,7 @@ module _ {R O T : Type 0} {remaining : R → Option (List ℕ)} {failures : R �
 
   -- a call that takes no line
   pub leaves_unread : {e e' : RunState} {l : Stream R} {o o' : O} {t t' : T} {r : Result Unit Ended} → Leaves tally count text e e' o o' t t' r → LeavesLines remaining failures reference tally count text e e' l l o o' t t' r
-  leaves_unread h = record { input = Reads-unread _ _ _ _ _ h.input; output = h.output; same = h.same; kept = h.kept }
+  leaves_unread h = record { input = Reads-unread _ _ _ _ _ h.devices.input; output = h.devices.output; same = h.same; kept = h.kept }
 
   -- one that reads no text
   pub leaves_texts : {e e' : RunState} {l l' : Stream R} {o o' : O} {t : T} {r : Result Unit Ended} → Reads remaining failures reference l l' r → Delivers tally count o o' r → KeepsRun e e' →

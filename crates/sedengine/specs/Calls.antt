@@ -38,6 +38,12 @@ pub record Delivers {O : Type 0} (tally : O → SinkView) (count : O → ℕ) (o
   pub failed : FailedSink (tally old).failures (tally new).failures result
   pub full : FullSink (tally new) result
 
+-- What a call does that may write, and reads no line.
+pub record DeliversAlone {O : Type 0} (tally : O → SinkView) (count : O → ℕ) (old new : O) (result : Result Unit Ended) :
+    Type 0 where
+  pub output : Delivers tally count old new result
+  pub input : result ≡ Err InputBroken → ⊥
+
 -- What a call that may read does to the lines. What it says of faults holds for lines that answered no fault before.
 pub record Reads {R T : Type 0} (remaining : R → Option (List ℕ)) (failures : R → ℕ) (reference : R → List GName)
     (old new : Stream R) (result : Result T Ended) : Type 0 where

@@ -11,14 +11,13 @@ use Rattle.sedscript.specs.declared.types.Action.TheVariants.{Append, AppendHold
 use Rattle.sedengine.specs.Limits.{Limits}
 use Rattle.sedengine.specs.State.{Task, do_at, State, Move, Setting}
 use Rattle.sedengine.specs.Meters.{Sent, SinkView}
-use Rattle.sedengine.specs.Calls.{Delivers, Reads}
+use Rattle.sedengine.specs.Calls.{Delivers, DeliversAlone, Reads}
 use Rattle.sedengine.specs.Move.{acts, move, after, written}
 use Rattle.sedengine.specs.Ends.{WithinLimits, HasTurn, Within, Cause, named_sink, reaches, reads}
 use Rattle.sedengine.specs.Held.{HoldsAt, SameLengths}
 use Rattle.sedengine.specs.Run.{RunState, InOneCycle, at_lines, lost, setting}
 use Rattle.sedengine.specs.TakenInput.{LosesPartAfter, size_of}
 use Rattle.sedengine.specs.declared.ends.Ended.{Ended}
-use Rattle.sedengine.specs.declared.ends.Ended.TheVariants.{InputBroken}
 
 -- Moves were made, which led to this state. Only the last of them may have led to the start of a cycle.
 pub record Ran (l : Limits) (g : Setting) (s now : State) (old new : SinkView) : Type 0 where
@@ -155,8 +154,7 @@ pub record KeepsRun (old new : RunState) : Type 0 where
 -- failure, the run as it is, and the texts.
 pub record Leaves {O T : Type 0} (tally : O → SinkView) (count : O → ℕ) (text : T → ℕ → Option (List ℕ))
     (old new : RunState) (outputs outputs' : O) (texts texts' : T) (result : Result Unit Ended) : Type 0 where
-  pub output : Delivers tally count outputs outputs' result
-  pub input : result ≡ Err InputBroken → ⊥
+  pub devices : DeliversAlone tally count outputs outputs' result
   pub same : KeepsRun old new
   pub kept : (j : ℕ) → Keeps (text texts j) (text texts' j)
 

@@ -1,8 +1,8 @@
 //! Writing the queue, and the files of it.
-ghost use Rattle.std.specs.Prelude.{◌≡◌, ◌<◌, ◌≤◌, [], ◌∷◌, Err, ℕ, List, length, slice_get};
+ghost use Rattle.std.specs.Prelude.{◌≡◌, ◌<◌, ◌≤◌, [], ◌∷◌, ℕ, List, length, slice_get};
 ghost use Rattle.std.specs.Io.KnownBytes.{Keeps};
 ghost use Rattle.sedengine.specs.State.{Entry, Task, copy, flush, State, Setting};
-ghost use Rattle.sedengine.specs.Calls.{Delivers};
+ghost use Rattle.sedengine.specs.Calls.{DeliversAlone};
 ghost use Rattle.sedengine.specs.Ends.{WithinLimits};
 ghost use Rattle.sedengine.specs.Held.{SameLengths};
 ghost use Rattle.sedengine.specs.ScriptSetting.{TellsFiles};
@@ -44,8 +44,7 @@ fn copy_file<O: Sinks, T: Texts>(
         SameLengths s now → s.lines ≡ now.lines →
         CopiesEntry limits.now g s (record s { tasks = rest; turns = turns.new }) now
         (O.tally outputs.old) (O.tally outputs.new) result }
-    ensures output { Delivers O.tally O.count outputs.old outputs.new result }
-    ensures input { result ≡ Err Ended.InputBroken → ⊥ }
+    ensures devices { DeliversAlone O.tally O.count outputs.old outputs.new result }
     ensures limit { build.new.limit ≡ build.old.limit }
     ensures later { turns.old ≤ turns.new }
     ensures turns { turns.new ≤ limits.now.turns }
@@ -88,8 +87,7 @@ fn write_entry<O: Sinks, T: Texts>(
         WithinLimits limits.now s → SameLengths s now → s.lines ≡ now.lines →
         CopiesEntry limits.now g s (record s { queue = later; tasks = flush ∷ rest; turns = turns.new }) now
         (O.tally outputs.old) (O.tally outputs.new) result }
-    ensures output { Delivers O.tally O.count outputs.old outputs.new result }
-    ensures input { result ≡ Err Ended.InputBroken → ⊥ }
+    ensures devices { DeliversAlone O.tally O.count outputs.old outputs.new result }
     ensures limit { build.new.limit ≡ build.old.limit }
     ensures later { turns.old ≤ turns.new }
     ensures turns { turns.new ≤ limits.now.turns }
@@ -122,8 +120,7 @@ pub(crate) fn flush_queue<O: Sinks, T: Texts>(
         WithinLimits limits.now s →
         Flushes limits.now g s (record s { queue = []; tasks = rest; turns = turns.new })
         (O.tally outputs.old) (O.tally outputs.new) result }
-    ensures output { Delivers O.tally O.count outputs.old outputs.new result }
-    ensures input { result ≡ Err Ended.InputBroken → ⊥ }
+    ensures devices { DeliversAlone O.tally O.count outputs.old outputs.new result }
     ensures limit { build.new.limit ≡ build.old.limit }
     ensures later { turns.old ≤ turns.new }
     ensures turns { turns.new ≤ limits.now.turns }

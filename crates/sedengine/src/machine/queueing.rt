@@ -1,9 +1,9 @@
 //! The queue: the commands `a` and `r`, and the places at which it is written (XCU sed, "Editing Commands in sed").
-ghost use Rattle.std.specs.Prelude.{◌≡◌, ◌<◌, ◌≤◌, ◌+◌, [], ◌∷◌, Ok, Err, OnOk, OnErr, ℕ, List, slice_get, if◌then◌else◌};
+ghost use Rattle.std.specs.Prelude.{◌≡◌, ◌<◌, ◌≤◌, ◌+◌, [], ◌∷◌, Ok, OnOk, OnErr, ℕ, List, slice_get, if◌then◌else◌};
 ghost use Rattle.std.specs.Io.KnownBytes.{Keeps};
 ghost use Rattle.sedengine.specs.State.{Task, flush, print_pattern};
 ghost use Rattle.sedengine.specs.Move.{line_to, then_do};
-ghost use Rattle.sedengine.specs.Calls.{Puts, Delivers};
+ghost use Rattle.sedengine.specs.Calls.{Puts, DeliversAlone};
 ghost use Rattle.sedengine.specs.Run.{at_lines, setting};
 ghost use Rattle.sedengine.specs.ScriptSetting.{TellsFiles};
 ghost use Rattle.sedengine.specs.Steps.{Leaves, Moves, weight};
@@ -45,8 +45,7 @@ impl Machine {
         ensures ok { OnOk result (self.new ≡ flushed self.old self.new.state.turns) }
         ensures err { OnErr result (self.new ≡ with_turns self.old self.new.state.turns) }
         ensures later { self.old.state.turns ≤ self.new.state.turns }
-        ensures output { Delivers O.tally O.count outputs.old outputs.new result }
-        ensures input { result ≡ Err Ended.InputBroken → ⊥ }
+        ensures devices { DeliversAlone O.tally O.count outputs.old outputs.new result }
         ensures kept { (j : ℕ) → Keeps (T.text texts.old j) (T.text texts.new j) }
     {
         flush_queue(
@@ -77,8 +76,7 @@ impl Machine {
         ensures ok { OnOk result (self.new ≡ flushed self.old self.new.state.turns) }
         ensures err { OnErr result (self.new ≡ with_turns self.old self.new.state.turns) }
         ensures later { self.old.state.turns ≤ self.new.state.turns }
-        ensures output { Delivers O.tally O.count outputs.old outputs.new result }
-        ensures input { result ≡ Err Ended.InputBroken → ⊥ }
+        ensures devices { DeliversAlone O.tally O.count outputs.old outputs.new result }
         ensures kept { (j : ℕ) → Keeps (T.text texts.old j) (T.text texts.new j) }
     {
         print_by_default(&self.script, &self.pattern, outputs)?;
@@ -115,8 +113,7 @@ fn print_by_default<O: Sinks>(
     requires { 0 < O.count outputs.old }
     ensures puts { Puts (O.tally outputs.old) (O.tally outputs.new)
         (if script.now.quiet then [] else line_to 0 pattern.now.bytes) result }
-    ensures output { Delivers O.tally O.count outputs.old outputs.new result }
-    ensures input { result ≡ Err Ended.InputBroken → ⊥ }
+    ensures devices { DeliversAlone O.tally O.count outputs.old outputs.new result }
 {
     if script.quiet() {
         return Ok(());

@@ -1,11 +1,11 @@
 //! The commands `s`, `t` and `y`: substitutions, what `t` sees of them, and tables (XCU sed, "Editing Commands in
 //! sed").
-ghost use Rattle.std.specs.Prelude.{◌≡◌, ◌<◌, ◌≤◌, [], ◌∷◌, Some, Err, OnErr, ℕ, List, false, true, length, map, slice_get, if◌then◌else◌};
+ghost use Rattle.std.specs.Prelude.{◌≡◌, ◌<◌, ◌≤◌, [], ◌∷◌, Some, OnErr, ℕ, List, false, true, length, map, slice_get, if◌then◌else◌};
 ghost use Rattle.sedscript.specs.declared.substitution.Substitution.{Substitution};
 ghost use Rattle.sedengine.specs.State.{do_at};
 ghost use Rattle.sedengine.specs.Move.{in_table, line_to, line_to_file, substitutes, written_by};
 ghost use Rattle.sedengine.specs.Ends.{reaches};
-ghost use Rattle.sedengine.specs.Calls.{Delivers, NamesNone, Puts};
+ghost use Rattle.sedengine.specs.Calls.{DeliversAlone, NamesNone, Puts};
 ghost use Rattle.sedengine.specs.Run.{at_lines, setting};
 ghost use Rattle.sedengine.specs.Steps.{KeepsRun, Performs, weight};
 ghost use Rattle.sedengine.specs.SubstituteCalls.{Makes, same_but_replaced};
@@ -34,8 +34,7 @@ impl Machine {
             (substitutes (setting self.old files) (at_lines self.old ls) (slice_get self.old.script.substitutions k))
             (at_lines self.old ls) (at_lines self.new ls)
             (O.tally outputs.old) (O.tally outputs.new) result }
-        ensures output { Delivers O.tally O.count outputs.old outputs.new result }
-        ensures input { result ≡ Err Ended.InputBroken → ⊥ }
+        ensures devices { DeliversAlone O.tally O.count outputs.old outputs.new result }
         ensures falls { weight self.new ≤ weight self.old }
         ensures same { KeepsRun self.old self.new }
     {
@@ -96,8 +95,7 @@ impl Machine {
         requires sinks { length self.now.script.wfiles < O.count outputs.old }
         ensures puts { (t : Substitution) → slice_get self.now.script.substitutions k ≡ Some t →
             Puts (O.tally outputs.old) (O.tally outputs.new) (written_by t self.now.state.pattern) result }
-        ensures output { Delivers O.tally O.count outputs.old outputs.new result }
-        ensures input { result ≡ Err Ended.InputBroken → ⊥ }
+        ensures devices { DeliversAlone O.tally O.count outputs.old outputs.new result }
     {
         self.print_replaced(k, outputs)?;
         self.file_replaced(k, outputs)
@@ -110,8 +108,7 @@ impl Machine {
         ensures puts { (t : Substitution) → slice_get self.now.script.substitutions k ≡ Some t →
             Puts (O.tally outputs.old) (O.tally outputs.new)
             (if t.print then line_to 0 self.now.state.pattern else []) result }
-        ensures output { Delivers O.tally O.count outputs.old outputs.new result }
-        ensures input { result ≡ Err Ended.InputBroken → ⊥ }
+        ensures devices { DeliversAlone O.tally O.count outputs.old outputs.new result }
     {
         if !self.script.substitution(k).print {
             return Ok(());
@@ -126,8 +123,7 @@ impl Machine {
         ensures puts { (t : Substitution) → slice_get self.now.script.substitutions k ≡ Some t →
             Puts (O.tally outputs.old) (O.tally outputs.new)
             (line_to_file t.file self.now.state.pattern) result }
-        ensures output { Delivers O.tally O.count outputs.old outputs.new result }
-        ensures input { result ≡ Err Ended.InputBroken → ⊥ }
+        ensures devices { DeliversAlone O.tally O.count outputs.old outputs.new result }
     {
         match self.script.substitution(k).file {
             Some(sink) => self.act_write(sink, outputs),

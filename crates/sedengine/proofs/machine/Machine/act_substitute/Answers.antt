@@ -33,7 +33,8 @@ returns-in_err-replace_occurrences-clause-acts g c = λ files ls s reaches first
     rw (p.1, p.2) (replaced_not r c.replace_occurrences.new.self ls (c.is_within_limits.ensures ls) w.same w.fits (setting r files) (g.O.Sinks.tally c.args.outputs.now) (g.O.Sinks.tally c.args.outputs.now) _ x.0
     c.in_err-replace_occurrences.field-0.0 w.err (w.makes x.0 x.1 files ls) s reaches (first ∙ ap (substitutes (setting r files) (at_lines r ls)) x.1))
 
-pub returns-in_err-replace_occurrences-clause-output : goal.returns-in_err-replace_occurrences-clause-output
-returns-in_err-replace_occurrences-clause-output g c =
+pub returns-in_err-replace_occurrences-clause-devices : goal.returns-in_err-replace_occurrences-clause-devices
+returns-in_err-replace_occurrences-clause-devices g c =
     let p = err_from_is_err_and c.from_residual.result c.from_residual.ensures.1 in
-    rw (p.1, p.2) (Delivers-unwritten _ _ _ c.in_err-replace_occurrences.field-0.0 c.in_err-replace_occurrences.ensures.devices.output)
+    let w = c.in_err-replace_occurrences.ensures.devices in
+    rw (p.1, p.2) (record { output = Delivers-unwritten _ _ _ c.in_err-replace_occurrences.field-0.0 w.output; input = λ e. w.input cc })
