@@ -1,6 +1,6 @@
 -- From what a call came to to what it tells.
 use Rattle.std.proofs.Common.{◌≡◌, ℕ, List, pos, take}
-use Rattle.sededit.proofs.EditLemmas.{Begins-at}
+use Rattle.sededit.proofs.EditLemmas.{BeginsOutput-at}
 use Rattle.csed.specs.declared.asked.SedLimits.{SedLimits}
 use Rattle.csed.specs.declared.outcome.Outcome.{Outcome}
 use Rattle.csed.specs.declared.outcome.Outcome.TheVariants.{Done, Faulty, WritesFiles, BadLimits, NoMemory, Stopped}
@@ -12,7 +12,7 @@ pub Beginning-written : (text : List ℕ) (flags : ℕ) (l : SedLimits) (input o
     IsBeginning text (asked_by flags l) input (take (report_of o).written output)
 Beginning-written text flags l input output (Stopped n end) is h =
     let (p, gives, stops) = h.1 in
-    (p, gives, Begins-at _ _ _ _ _ _ _ stops.cause)
+    (p, gives, BeginsOutput-at _ _ _ _ _ _ _ stops.cause)
 Beginning-written text flags l input output (Done n) is h = cc
 Beginning-written text flags l input output (Faulty f) is h = cc
 Beginning-written text flags l input output WritesFiles is h = cc

@@ -9,9 +9,9 @@ use Rattle.sedengine.specs.Ends.{Cause}
 use Rattle.sedengine.specs.ScriptSetting.{setting_of}
 use Rattle.sedengine.specs.declared.ends.Ended.{Ended}
 use Rattle.sedengine.specs.declared.ends.Ended.TheVariants.{Done, PatternFull, HoldFull, QueueFull, TurnsSpent, NoPrevious, InputBroken, OutputBroken, OutputFull}
-use Rattle.sededit.specs.Editing.{Edits, Ends, nothing_before, start_over}
+use Rattle.sededit.specs.Editing.{EditEnds, IsOutput, nothing_before, start_over}
 use Rattle.csed.specs.Reports.{cause_of}
-use Rattle.csed.specs.Calls.{Stops, no_files}
+use Rattle.csed.specs.Calls.{RunStops, no_files}
 use Rattle.csed.specs.Outcomes.{RunsTo, outcome_of}
 
 -- what the one sink holds, and no other
@@ -45,8 +45,8 @@ module _ (held held' : Option (List ℕ)) (bytes : List ℕ) (before : held ≡ 
   all_written out h = rw (first_part out h) (only_first out (other_parts out h))
 
   -- an edit that came to the ordinary end has written all
-  pub Ends-written : (g : Setting) (s : State) → (out : List (ℕ × ℕ)) × Gained (of_one held) (of_one held') out × Ends g s out → Ends g s (to_sink 0 bytes)
-  Ends-written g s (out, gained, ends) = subst (λ (w : List (ℕ × ℕ)). Ends g s w) (all_written out gained) ends
+  pub IsOutput-written : (g : Setting) (s : State) → (out : List (ℕ × ℕ)) × Gained (of_one held) (of_one held') out × IsOutput g s out → IsOutput g s (to_sink 0 bytes)
+  IsOutput-written g s (out, gained, ends) = subst (λ (w : List (ℕ × ℕ)). IsOutput g s w) (all_written out gained) ends
 
 -- a source that counts no failure is no cause
 never_failed : (end : Ended) → SourceAtEnd 0 0 end → end ≢ InputBroken
@@ -84,14 +84,14 @@ module _ (room : ℕ) (held held' : Option (List ℕ)) (bytes : List ℕ) (befor
   full_by most (OutputBroken k) out is h e = cc
 
   pub Fits-room : (l : Limits) (g : Setting) (s : State) (old new : Option (List ℕ)) (end : Ended) → l.output ≡ Some room →
-      (out : List (ℕ × ℕ)) × GainedWithin l.output nothing_before (of_one held) (of_one held') (Err end) out × Edits l g s out old new end → length bytes ≤ room
+      (out : List (ℕ × ℕ)) × GainedWithin l.output nothing_before (of_one held) (of_one held') (Err end) out × EditEnds l g s out old new end → length bytes ≤ room
   Fits-room l g s old new end is (out, sent, h) =
       within_room l.output (Err end) out is sent
 
   -- an edit that ended early has stopped for its cause
-  pub Stops-early : (l : Limits) (g : Setting) (s : State) (old new : Option (List ℕ)) (end : Ended) → l.output ≡ Some room → end ≢ Done → SourceAtEnd 0 0 end → ((k : ℕ) → end ≢ OutputBroken k) →
-      (out : List (ℕ × ℕ)) × GainedWithin l.output nothing_before (of_one held) (of_one held') (Err end) out × Edits l g s out old new end → Stops l g s room bytes end
-  Stops-early l g s old new end is early source output (out, sent, h) =
+  pub RunStops-early : (l : Limits) (g : Setting) (s : State) (old new : Option (List ℕ)) (end : Ended) → l.output ≡ Some room → end ≢ Done → SourceAtEnd 0 0 end → ((k : ℕ) → end ≢ OutputBroken k) →
+      (out : List (ℕ × ℕ)) × GainedWithin l.output nothing_before (of_one held) (of_one held') (Err end) out × EditEnds l g s out old new end → RunStops l g s room bytes end
+  RunStops-early l g s old new end is early source output (out, sent, h) =
       record {
         early = early;
         input = never_failed end source;
@@ -103,8 +103,8 @@ module _ (room : ℕ) (held held' : Option (List ℕ)) (bytes : List ℕ) (befor
 
 -- what a run comes to whose bytes stand at the front of the output
 pub Runs-to : (l : Limits) (p : Program) (input output bytes : List ℕ) (end : Ended) (n : ℕ) → take n output ≡ bytes →
-    (end ≡ Done → Ends (setting_of p no_files) (start_over p input) (to_sink 0 bytes)) →
-    (end ≢ Done → Stops (record l { output = Some (length output) }) (setting_of p no_files) (start_over p input) (length output) bytes end) →
+    (end ≡ Done → IsOutput (setting_of p no_files) (start_over p input) (to_sink 0 bytes)) →
+    (end ≢ Done → RunStops (record l { output = Some (length output) }) (setting_of p no_files) (start_over p input) (length output) bytes end) →
     RunsTo l p input output (outcome_of end n)
 Runs-to l p input output bytes Done n same whole stops = rw same (whole refl)
 Runs-to l p input output bytes (PatternFull k) n same whole stops = rw same (stops (λ e. cc))
@@ -117,6 +117,6 @@ Runs-to l p input output bytes (OutputBroken k) n same whole stops = rw same (st
 Runs-to l p input output bytes (OutputFull k) n same whole stops = rw same (stops (λ e. cc))
 
 -- the limits with the output's length as room
-pub Stops-as : (l l' : Limits) (g : Setting) (s : State) (room room' : ℕ) (bytes : List ℕ) (end : Ended) → l' ≡ record l { output = Some room } → room' ≡ room →
-    Stops l' g s room bytes end → Stops (record l { output = Some room' }) g s room' bytes end
-Stops-as l l' g s room room' bytes end is same h = rw same (rw is at h)
+pub RunStops-as : (l l' : Limits) (g : Setting) (s : State) (room room' : ℕ) (bytes : List ℕ) (end : Ended) → l' ≡ record l { output = Some room } → room' ≡ room →
+    RunStops l' g s room bytes end → RunStops (record l { output = Some room' }) g s room' bytes end
+RunStops-as l l' g s room room' bytes end is same h = rw same (rw is at h)

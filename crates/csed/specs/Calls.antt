@@ -12,7 +12,7 @@ use Rattle.sedengine.specs.Ends.{Cause}
 use Rattle.sedengine.specs.ScriptSetting.{setting_of}
 use Rattle.sedengine.specs.declared.ends.Ended.{Ended}
 use Rattle.sedengine.specs.declared.ends.Ended.TheVariants.{Done, InputBroken, OutputBroken}
-use Rattle.sededit.specs.Editing.{Begins, Ends, start_over}
+use Rattle.sededit.specs.Editing.{BeginsOutput, IsOutput, start_over}
 use Rattle.sededit.specs.Program.{kind_with}
 use Rattle.csed.specs.declared.asked.Asked.{Asked}
 use Rattle.csed.specs.declared.asked.SedLimits.{SedLimits}
@@ -64,16 +64,16 @@ no_files k = []
 -- the bytes are all that the text's script writes over the input, all of it to the standard output
 abbrev pub IsWhole : List ℕ → Asked → List ℕ → List ℕ → Type 0
 IsWhole text a input bytes =
-    (p : Program) × GivesScript text a p × Ends (setting_of p no_files) (start_over p input) (to_sink 0 bytes)
+    (p : Program) × GivesScript text a p × IsOutput (setting_of p no_files) (start_over p input) (to_sink 0 bytes)
 
 -- the bytes are a beginning of it
 abbrev pub IsBeginning : List ℕ → Asked → List ℕ → List ℕ → Type 0
 IsBeginning text a input bytes =
-    (p : Program) × GivesScript text a p × Begins (setting_of p no_files) (start_over p input) (to_sink 0 bytes)
+    (p : Program) × GivesScript text a p × BeginsOutput (setting_of p no_files) (start_over p input) (to_sink 0 bytes)
 
 -- A run from the state s stopped for a cause that is true after some moves, with these bytes written, all of them to the
 -- standard output; F8 at exactly the room. Memory is no device that fails: neither F6 nor F7 is a cause.
-pub record Stops (l : Limits) (g : Setting) (s : State) (room : ℕ) (bytes : List ℕ) (end : Ended) : Type 0 where
+pub record RunStops (l : Limits) (g : Setting) (s : State) (room : ℕ) (bytes : List ℕ) (end : Ended) : Type 0 where
   pub early : end ≢ Done
   pub input : end ≢ InputBroken
   pub output : (k : ℕ) → end ≢ OutputBroken k
@@ -81,11 +81,11 @@ pub record Stops (l : Limits) (g : Setting) (s : State) (room : ℕ) (bytes : Li
   pub cause : Cause l g s (to_sink 0 bytes) end t
   pub full : cause_of end ≡ 8 → length bytes ≡ room
 
--- The run of the text's script over the input stopped as `Stops` says, under the limits told and with this room for the output.
+-- The run of the text's script over the input stopped as `RunStops` says, under the limits told and with this room for the output.
 abbrev pub StopsFor : List ℕ → Asked → List ℕ → ℕ → List ℕ → Ended → Type 0
 StopsFor text a input room bytes end =
     (p : Program) × GivesScript text a p
-    × Stops (record a.limits { output = Some room }) (setting_of p no_files) (start_over p input) room bytes end
+    × RunStops (record a.limits { output = Some room }) (setting_of p no_files) (start_over p input) room bytes end
 
 -- A run stopped as `StopsFor` says, and the report tells its end.
 abbrev pub IsStopped : List ℕ → Asked → List ℕ → ℕ → List ℕ → SedReport → Type 0

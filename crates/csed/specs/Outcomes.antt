@@ -8,14 +8,14 @@ use Rattle.sedengine.specs.Move.{to_sink}
 use Rattle.sedengine.specs.ScriptSetting.{setting_of}
 use Rattle.sedengine.specs.declared.ends.Ended.{Ended}
 use Rattle.sedengine.specs.declared.ends.Ended.TheVariants as ends
-use Rattle.sededit.specs.Editing.{Ends, start_over}
+use Rattle.sededit.specs.Editing.{IsOutput, start_over}
 use Rattle.csed.specs.declared.asked.Asked.{Asked}
 use Rattle.csed.specs.declared.asked.SedLimits.{SedLimits}
 use Rattle.csed.specs.declared.outcome.SedReport.{SedReport}
 use Rattle.csed.specs.declared.outcome.Outcome.{Outcome}
 use Rattle.csed.specs.declared.outcome.Outcome.TheVariants.{Done, Faulty as HasFault, WritesFiles as HasFiles, BadLimits, NoMemory, Stopped}
-use Rattle.csed.specs.Reports.{blank, of_bytes, of_end, of_fault, of_files}
-use Rattle.csed.specs.Calls.{GivesScript, IsWhole, MayAsk, MayNotAsk, Stops, StopsFor, WritesFiles, asked_by, no_files}
+use Rattle.csed.specs.Reports.{empty_report, of_bytes, of_end, of_fault, of_files}
+use Rattle.csed.specs.Calls.{GivesScript, IsWhole, MayAsk, MayNotAsk, RunStops, StopsFor, WritesFiles, asked_by, no_files}
 
 -- the status that tells it
 abbrev pub status_of : Outcome → ℤ
@@ -32,7 +32,7 @@ report_of (Done n) = of_bytes n
 report_of (HasFault f) = of_fault f
 report_of HasFiles = of_files
 report_of (Stopped n end) = of_end n end
-report_of other = blank
+report_of other = empty_report
 
 -- how many bytes were written
 abbrev pub written_of : Outcome → ℕ
@@ -63,9 +63,9 @@ EditsTo text flags l input output other = MayAsk flags l × IsRefusal text (aske
 
 -- what the run of a script comes to
 abbrev pub RunsTo : Limits → Program → List ℕ → List ℕ → Outcome → Type 0
-RunsTo l p input output (Done n) = Ends (setting_of p no_files) (start_over p input) (to_sink 0 (take n output))
+RunsTo l p input output (Done n) = IsOutput (setting_of p no_files) (start_over p input) (to_sink 0 (take n output))
 RunsTo l p input output (Stopped n end) =
-    Stops (record l { output = Some (length output) }) (setting_of p no_files) (start_over p input) (length output) (take n output) end
+    RunStops (record l { output = Some (length output) }) (setting_of p no_files) (start_over p input) (length output) (take n output) end
 RunsTo l p input output NoMemory = Unit {0}
 RunsTo l p input output other = ⊥
 

@@ -35,21 +35,21 @@ expression_of (Expression f) = number f.reason
 expression_of other = 0
 
 -- nothing is told
-abbrev pub blank : SedReport
-blank = record { written = 0; place = 0; line = 0; fault = 0; expression = 0; cause = 0; spare = 0 }
+abbrev pub empty_report : SedReport
+empty_report = record { written = 0; place = 0; line = 0; fault = 0; expression = 0; cause = 0; spare = 0 }
 
 -- so many bytes were written
 abbrev pub of_bytes : ℕ → SedReport
-of_bytes written = record blank { written = written }
+of_bytes written = record empty_report { written = written }
 
 -- so many bytes were written, and the run came to this end
 abbrev pub of_end : ℕ → Ended → SedReport
-of_end written end = record blank { written = written; line = line_of end; cause = cause_of end }
+of_end written end = record empty_report { written = written; line = line_of end; cause = cause_of end }
 
 -- the script has this fault
 abbrev pub of_fault : ScriptFault → SedReport
-of_fault f = record blank { place = f.place; fault = number_of f.reason; expression = expression_of f.reason }
+of_fault f = record empty_report { place = f.place; fault = number_of f.reason; expression = expression_of f.reason }
 
 -- the script names a file to write
 abbrev pub of_files : SedReport
-of_files = record blank { fault = 100 }
+of_files = record empty_report { fault = 100 }

@@ -1,7 +1,7 @@
 //! The calls.
 ghost use Rattle.std.specs.Prelude.{◌≡◌, ◌≢◌, ◌≤◌, ◌⊎◌, drop, length, take};
 ghost use Rattle.sedscript.specs.Program.{Program};
-ghost use Rattle.csed.specs.Reports.{blank, of_bytes};
+ghost use Rattle.csed.specs.Reports.{empty_report, of_bytes};
 ghost use Rattle.csed.specs.Calls.{GivesScript, IsBeginning, IsRefused, IsStopped, IsWhole, MayAsk, MayNotAsk, asked_by};
 ghost use Rattle.csed.specs.Outcomes.{ChecksTo, EditsTo, written_of};
 
@@ -36,7 +36,7 @@ pub extern "C" fn sed_check(
     // The fault is the first one of the text, or a file is written.
     ensures refused { result ≡ SED_REFUSED → IsRefused script.now (asked_by flags limits.now) report.new }
     // Nothing else is told.
-    ensures silent { result ≢ SED_REFUSED → report.new ≡ blank }
+    ensures silent { result ≢ SED_REFUSED → report.new ≡ empty_report }
 {
     let outcome = check(alloc, script, flags, limits);
     *report = outcome.report();
@@ -81,7 +81,7 @@ pub extern "C" fn sed_edit(
     // The fault is the first one of the text, or a file is written; no byte is.
     ensures refused { result ≡ SED_REFUSED → IsRefused script.now (asked_by flags limits.now) report.new }
     // Nothing is told, and no byte is written.
-    ensures silent { (result ≡ SED_BAD_LIMITS) ⊎ (result ≡ SED_NO_MEMORY) → report.new ≡ blank }
+    ensures silent { (result ≡ SED_BAD_LIMITS) ⊎ (result ≡ SED_NO_MEMORY) → report.new ≡ empty_report }
 {
     let outcome = edit_by(alloc, script, flags, input, output, limits);
     *report = outcome.report();

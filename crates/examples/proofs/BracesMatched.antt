@@ -12,7 +12,7 @@ use Rattle.sedscript.specs.declared.items.Item.{Item}
 use Rattle.sedscript.specs.Bytes.{bytes_between}
 use Rattle.sedscript.specs.Script.{Means}
 use Rattle.sedscript.specs.Program.{Program}
-use Rattle.sedscript.specs.Targets.{leaves, counted, commands_in, label_in, is_open, is_close, depth_after, close_in, block_end, fault_if, target_fault_at, target_fault_in, target_fault}
+use Rattle.sedscript.specs.Targets.{becomes_command, counted, commands_in, label_in, is_open, is_close, depth_after, close_in, block_end, fault_if, target_fault_at, target_fault_in, target_fault}
 use Rattle.sedscript.proofs.Labels.{counted_in}
 use Rattle.examples.specs.Blocks.{BracesMatch, none, other, block, IsStray, IsUnclosed}
 use Rattle.examples.proofs.FaultLemmas.{or_none, unless_wrong, Another, another_if, past_another}
@@ -70,7 +70,7 @@ close_here n j is c = rw c refl
 
 commands_append : (xs ys : Items) → commands_in (xs ++ ys) ≡ commands_in xs + commands_in ys
 commands_append [] ys = omega arith
-commands_append (i ∷ xs) ys = by_leaf (leaves i.function) (commands_append xs ys)
+commands_append (i ∷ xs) ys = by_leaf (becomes_command i.function) (commands_append xs ys)
   where
     by_leaf : (t : Bool) → commands_in (xs ++ ys) ≡ commands_in xs + commands_in ys → (if t then suc (commands_in (xs ++ ys)) else commands_in (xs ++ ys)) ≡ (if t then suc (commands_in xs) else commands_in xs) + commands_in ys
     by_leaf true e = omega (arith, e)

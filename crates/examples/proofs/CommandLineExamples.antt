@@ -10,12 +10,12 @@ use Rattle.clap.specs.Words.{Text, fault_of, matches_of}
 use Rattle.clap.specs.Walk.{bundle_met, walked as word_walked}
 use Rattle.clap.specs.Faults.{defaults_fault, flags_fault, walk_fault}
 use Rattle.clap.specs.declared.error.kind.ErrorKind.TheVariants.{DisplayHelp, InvalidValue, UnknownArgument}
-use Rattle.sededit.specs.CommandLine.{Asks, Given, IsCommandLine, extended_in, file, given_to, quiet_in, sed_command, text}
+use Rattle.sededit.specs.CommandLine.{Asks, ScriptPart, IsCommandLine, extended_in, file, given_to, quiet_in, sed_command, text}
 use Rattle.sedre.specs.Delimited.{delimiter_at}
 use Rattle.sedre.specs.Written.{tree_at, tree_within}
 use Rattle.sedre.specs.Items.{item_at as expression_item_at}
 use Rattle.sedre.specs.Sets.{set_of}
-use Rattle.sedmatch.specs.Matching.{any, greatest, copies, spans, longest, found_from, found, cut, first_copy, last_start, caps, report}
+use Rattle.sedmatch.specs.Matching.{any, greatest, copies, spans, longest, found_from, found, cut, first_copy, last_start, groups_after, report}
 use Rattle.sedscript.specs.Addresses.{match_at, address_at, second_at, addresses_at}
 use Rattle.sedscript.specs.Between.{substituted}
 use Rattle.sedscript.specs.Bytes.{past}
@@ -23,7 +23,7 @@ use Rattle.sedscript.specs.Functions.{name_from, text_from}
 use Rattle.sedscript.specs.Items.{substitute_at, function_at, item_at}
 use Rattle.sedscript.specs.Program.{Program}
 use Rattle.sedspace.specs.Lines.{lines}
-use Rattle.sedengine.specs.Move.{move}
+use Rattle.sedengine.specs.Move.{next_move}
 use Rattle.sedengine.specs.Select.{selects}
 use Rattle.sedengine.specs.Substitute.{occurrences_from}
 use Rattle.sededit.specs.Program.{kind_with}
@@ -35,7 +35,7 @@ use Rattle.examples.proofs.ProgramExamples.{Answers}
 
 -- The words are a command line, which asks for this: whether -n and -E are given, the parts of the script and the operands
 -- that are files.
-record AsksFor (words : List Text) (quiet extended : Bool) (parts : List Given) (operands : List Text) : Type 0 where
+record AsksFor (words : List Text) (quiet extended : Bool) (parts : List ScriptPart) (operands : List Text) : Type 0 where
   taken : IsCommandLine words
   is_quiet : quiet_in (matches_of sed_command words) ≡ quiet
   is_extended : extended_in (matches_of sed_command words) ≡ extended
@@ -201,13 +201,13 @@ asked quiet p = record p { quiet = quiet || p.quiet }
 record Writes (words : List Text) (standard output : List ℕ) : Type 0 where
   quiet : Bool
   extended : Bool
-  parts : List Given
+  parts : List ScriptPart
   operands : List Text
   asks : AsksFor words quiet extended parts operands
   answers : Answers (kind_with extended) (asked quiet) no_files parts standard operands output
 
 script_first_writes : Writes (codes "p" ∷ codes "a" ∷ []) [] (codes "x\nx\n")
-unfolding verdict cutting walked item_at past function_at addresses_at address_at second_at text_from name_from lines course move selects
+unfolding verdict cutting walked item_at past function_at addresses_at address_at second_at text_from name_from lines course next_move selects
 script_first_writes = record {
   quiet = false;
   extended = false;
@@ -218,7 +218,7 @@ script_first_writes = record {
 }
 
 two_options_in_a_word_write : Writes (codes "-nE" ∷ codes "s/(a)+/x/p" ∷ codes "f" ∷ []) [] (codes "x\n")
-unfolding verdict cutting walked item_at past function_at addresses_at address_at second_at text_from name_from lines course move selects match_at substitute_at substituted delimiter_at outcome rest_of expression_item_at set_of tree_at tree_within found found_from longest greatest spans any copies report caps cut first_copy last_start occurrences_from
+unfolding verdict cutting walked item_at past function_at addresses_at address_at second_at text_from name_from lines course next_move selects match_at substitute_at substituted delimiter_at outcome rest_of expression_item_at set_of tree_at tree_within found found_from longest greatest spans any copies report groups_after cut first_copy last_start occurrences_from
 two_options_in_a_word_write = record {
   quiet = true;
   extended = true;
@@ -229,7 +229,7 @@ two_options_in_a_word_write = record {
 }
 
 two_scripts_write : Writes (codes "-ep" ∷ codes "-e" ∷ codes "P" ∷ codes "a" ∷ []) [] (codes "x\nx\nx\n")
-unfolding verdict cutting walked item_at past function_at addresses_at address_at second_at text_from name_from lines course move selects
+unfolding verdict cutting walked item_at past function_at addresses_at address_at second_at text_from name_from lines course next_move selects
 two_scripts_write = record {
   quiet = false;
   extended = false;
@@ -241,7 +241,7 @@ two_scripts_write = record {
 
 -- The script that a file holds is `#n` and `p`.
 script_in_a_file_writes : Writes (codes "-f" ∷ codes "s" ∷ codes "a" ∷ []) [] (codes "x\n")
-unfolding verdict cutting walked item_at past function_at addresses_at address_at second_at text_from name_from lines course move selects
+unfolding verdict cutting walked item_at past function_at addresses_at address_at second_at text_from name_from lines course next_move selects
 script_in_a_file_writes = record {
   quiet = false;
   extended = false;
@@ -258,7 +258,7 @@ script_in_a_file_writes = record {
 }
 
 option_at_the_end_writes : Writes (codes "p" ∷ codes "a" ∷ codes "-n" ∷ []) [] (codes "x\n")
-unfolding verdict cutting walked item_at past function_at addresses_at address_at second_at text_from name_from lines course move selects
+unfolding verdict cutting walked item_at past function_at addresses_at address_at second_at text_from name_from lines course next_move selects
 option_at_the_end_writes = record {
   quiet = true;
   extended = false;
@@ -269,7 +269,7 @@ option_at_the_end_writes = record {
 }
 
 lone_hyphen_writes : Writes (codes "p" ∷ codes "-" ∷ []) (codes "y\n") (codes "y\ny\n")
-unfolding verdict cutting walked item_at past function_at addresses_at address_at second_at text_from name_from lines course move selects
+unfolding verdict cutting walked item_at past function_at addresses_at address_at second_at text_from name_from lines course next_move selects
 lone_hyphen_writes = record {
   quiet = false;
   extended = false;

@@ -9,7 +9,7 @@ use Rattle.examples.proofs.ComputedScript.{Script}
 use Rattle.sedspace.specs.Lines.{lines}
 use Rattle.sedengine.specs.Limits.{Limits}
 use Rattle.sedengine.specs.State.{State, Task, Move, Setting}
-use Rattle.sedengine.specs.Move.{move, after, start, to_sink}
+use Rattle.sedengine.specs.Move.{next_move, after, start, to_sink}
 use Rattle.sedengine.specs.ScriptSetting.{setting_of}
 use Rattle.sedengine.specs.Ends.{WithinLimits, Within, HasTurn, IsCause, Cause, WholeOrBrokenOff, Whole, BrokenOff, named_sink, takes_turn, line_at, reaches, reads}
 use Rattle.sedengine.specs.declared.ends.Ended.{Ended}
@@ -44,10 +44,10 @@ next_fits rest (Some m) = rest m.next
 -- whether each state up to the one after so many moves is
 unfoldable pub all_fit : Limits → Setting → ℕ → State → Bool
 all_fit l g zero s = fits l s
-all_fit l g (suc n) s = fits l s && next_fits (all_fit l g n) (move g s)
+all_fit l g (suc n) s = fits l s && next_fits (all_fit l g n) (next_move g s)
 
 module _ (l : Limits) (g : Setting) where
-  later_fit : (n : ℕ) (s : State) (o : Option Move) → move g s ≡ o → fits l s ≡ true → next_fits (all_fit l g n) o ≡ true →
+  later_fit : (n : ℕ) (s : State) (o : Option Move) → next_move g s ≡ o → fits l s ≡ true → next_fits (all_fit l g n) o ≡ true →
       ((next : State) → all_fit l g n next ≡ true → (k : ℕ) → k ≤ n → WithinLimits l (after g next k)) → (k : ℕ) → k ≤ suc n → WithinLimits l (after g s k)
   unfolding after
   later_fit n s o e f h on zero below = fits_so l s f
@@ -59,7 +59,7 @@ module _ (l : Limits) (g : Setting) where
   unfolding all_fit after
   each_fits zero s e k below = (let none : k ≡ 0 = omega (arith, below) in rw none (fits_so l s e))
   each_fits (suc n) s e k below =
-      let two = both _ _ e in later_fit n s (move g s) refl two.0 two.1 (each_fits n) k below
+      let two = both _ _ e in later_fit n s (next_move g s) refl two.0 two.1 (each_fits n) k below
 
   pub within_so : (n : ℕ) (s : State) → all_fit l g n s ≡ true → Within l g s n
   unfolding Within
@@ -106,13 +106,13 @@ no_move_so (Some m) e = absurd cc
 abbrev pub is_cause : Limits → Setting → State → Ended → Bool
 is_cause l g s Done = no_tasks s.tasks
 is_cause l g s (PatternFull n) =
-    eqb n (line_at s s.tasks) && (has_turn l g s && leads (move g s) (λ m. ltb l.space (length m.next.pattern)))
+    eqb n (line_at s s.tasks) && (has_turn l g s && leads (next_move g s) (λ m. ltb l.space (length m.next.pattern)))
 is_cause l g s (HoldFull n) =
-    eqb n s.number && (has_turn l g s && leads (move g s) (λ m. ltb l.space (length m.next.hold)))
+    eqb n s.number && (has_turn l g s && leads (next_move g s) (λ m. ltb l.space (length m.next.hold)))
 is_cause l g s (QueueFull n) =
-    eqb n s.number && (has_turn l g s && leads (move g s) (λ m. ltb l.queue (length m.next.queue)))
+    eqb n s.number && (has_turn l g s && leads (next_move g s) (λ m. ltb l.queue (length m.next.queue)))
 is_cause l g s TurnsSpent = eqb s.turns l.turns && takes_turn g s s.tasks
-is_cause l g s (NoPrevious n) = eqb n s.number && (has_turn l g s && (reaches s.tasks && no_move (move g s)))
+is_cause l g s (NoPrevious n) = eqb n s.number && (has_turn l g s && (reaches s.tasks && no_move (next_move g s)))
 is_cause l g s InputBroken = reads g s.tasks
 is_cause l g s other = false
 
@@ -121,21 +121,21 @@ cause_so l g s Done e = no_tasks_so s.tasks e
 cause_so l g s (PatternFull n) e =
     let one = both _ _ e in
     let two = both _ _ one.1 in
-    (eqb-true _ _ one.0, has_turn_so l g s two.0, leads_so (move g s) l.space (λ m. length m.next.pattern) two.1)
+    (eqb-true _ _ one.0, has_turn_so l g s two.0, leads_so (next_move g s) l.space (λ m. length m.next.pattern) two.1)
 cause_so l g s (HoldFull n) e =
     let one = both _ _ e in
     let two = both _ _ one.1 in
-    (eqb-true _ _ one.0, has_turn_so l g s two.0, leads_so (move g s) l.space (λ m. length m.next.hold) two.1)
+    (eqb-true _ _ one.0, has_turn_so l g s two.0, leads_so (next_move g s) l.space (λ m. length m.next.hold) two.1)
 cause_so l g s (QueueFull n) e =
     let one = both _ _ e in
     let two = both _ _ one.1 in
-    (eqb-true _ _ one.0, has_turn_so l g s two.0, leads_so (move g s) l.queue (λ m. length m.next.queue) two.1)
+    (eqb-true _ _ one.0, has_turn_so l g s two.0, leads_so (next_move g s) l.queue (λ m. length m.next.queue) two.1)
 cause_so l g s TurnsSpent e = let one = both _ _ e in (eqb-true _ _ one.0, one.1)
 cause_so l g s (NoPrevious n) e =
     let one = both _ _ e in
     let two = both _ _ one.1 in
     let three = both _ _ two.1 in
-    (eqb-true _ _ one.0, has_turn_so l g s two.0, three.0, no_move_so (move g s) three.1)
+    (eqb-true _ _ one.0, has_turn_so l g s two.0, three.0, no_move_so (next_move g s) three.1)
 cause_so l g s InputBroken e = e
 cause_so l g s other e = absurd cc
 
@@ -164,13 +164,13 @@ whole_after {l = l} {g = g} {s = s} {end = end} n w c f = record {
 }
 
 -- one move more before such moves
-within_first : (l : Limits) (g : Setting) (s : State) (m : Move) (t : ℕ) → move g s ≡ Some m → WithinLimits l s →
+within_first : (l : Limits) (g : Setting) (s : State) (m : Move) (t : ℕ) → next_move g s ≡ Some m → WithinLimits l s →
     ((k : ℕ) → k ≤ t → WithinLimits l (after g m.next k)) → (k : ℕ) → k ≤ suc t → WithinLimits l (after g s k)
 unfolding after
 within_first l g s m t e fits on zero below = fits
 within_first l g s m t e fits on (suc k) below = subst (WithinLimits l) (sym (after_first g s m k e)) (on k (omega arith))
 
-pub whole_first : {l : Limits} {g : Setting} {s : State} {m : Move} {end : Ended} {rest : List (ℕ × ℕ)} {t : ℕ} → move g s ≡ Some m →
+pub whole_first : {l : Limits} {g : Setting} {s : State} {m : Move} {end : Ended} {rest : List (ℕ × ℕ)} {t : ℕ} → next_move g s ≡ Some m →
     WithinLimits l s → Whole l g m.next rest end t → Whole l g s (m.writes ++ rest) end (suc t)
 unfolding Within
 whole_first {l = l} {g = g} {s = s} {m = m} {end = end} {t = t} e fits h = record {

@@ -14,7 +14,7 @@ use Rattle.sedre.specs.Tree.{Tree}
 use Rattle.sedre.specs.Sizes.{size, depth}
 use Rattle.sedre.specs.Repeats.{alternation}
 use Rattle.sedre.specs.Items.{item_at}
-use Rattle.sedre.specs.Written.{Written, tree}
+use Rattle.sedre.specs.Written.{WrittenExpression, expression_tree}
 use Rattle.sedre.specs.Grammar.{ReadsAs, FaultyWith, ExprFaulty}
 use Rattle.sedre.specs.Stacks.{Level, Nesting, start, step, all_alternatives, postorder}
 use Rattle.sedre.proofs.Exclusive.{no_fault}
@@ -142,10 +142,10 @@ faulty_with {kind = kind} {folded = folded} {delimiter = delimiter} {text = text
     subst (Holds kind folded delimiter text max_nodes) e (outcome_holds kind folded delimiter text max_nodes)
 
 -- an expression as it is written out
-abbrev pub written : Tree → ℕ → Written
+abbrev pub written : Tree → ℕ → WrittenExpression
 written t groups = record { nodes = postorder 0 t; groups = groups }
 
-pub tree_of_written : (t : Tree) (groups : ℕ) → tree (written t groups) ≡ t
+pub tree_of_written : (t : Tree) (groups : ℕ) → expression_tree (written t groups) ≡ t
 tree_of_written t groups = whole_tree t (postorder 0 t) refl
 
 pub nodes_of_written : (t : Tree) → length (postorder 0 t) ≡ size t

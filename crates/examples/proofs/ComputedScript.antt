@@ -3,7 +3,7 @@
 use Rattle.std.proofs.Common.{◌≡◌, ◌≤◌, ℕ, zero, suc, ◌+◌, List, [], ◌∷◌, ◌++◌, length, Option, Some, None, Ok, Err, refl, subst, sym, arith}
 use Rattle.std.specs.Prelude.{slice_get}
 use Rattle.sedre.specs.declared.types.Kind.{Kind}
-use Rattle.sedre.specs.Written.{Written}
+use Rattle.sedre.specs.Written.{WrittenExpression}
 use Rattle.sedre.specs.Grammar.{ReadsAs}
 use Rattle.sedre.specs.Tree.{Tree}
 use Rattle.examples.proofs.ComputedReading.{Outcome, outcome, reads, faulty as bad_expression, unfinished, Holds, outcome_holds, written, tree_of_written, nodes_of_written, fault_either_way, no_fault_within}
@@ -26,12 +26,12 @@ use Rattle.sedscript.proofs.Cuts.{cut_more}
 
 -- what reading comes to: expressions and a value, or a fault
 pub data Found (A : Type 0) : Type 0 where
-  found : List Written → A → Found A
+  found : List WrittenExpression → A → Found A
   failed : ScriptFault → Found A
   unsettled : Found A
 
 -- with an expression before those that are found
-abbrev pub with_expression : {A : Type 0} → Written → Found A → Found A
+abbrev pub with_expression : {A : Type 0} → WrittenExpression → Found A → Found A
 with_expression e (found es x) = found (e ∷ es) x
 with_expression e (failed f) = failed f
 with_expression e unsettled = unsettled
@@ -44,12 +44,12 @@ found_after p rest unfinished = unsettled
 
 -- how a text is cut: into items and expressions up to a place, or up to a fault
 pub data Cutting : Type 0 where
-  cut_to : List Item → List Written → ℕ → Cutting
+  cut_to : List Item → List WrittenExpression → ℕ → Cutting
   stopped : ScriptFault → Cutting
   endless : Cutting
 
 -- what stands at a place, where the separators before it end at this byte or at the end of the text
-abbrev pub met : (Item → List Written → ℕ → Cutting) → List Item → List Written → ℕ → Found Here → Option ℕ → Cutting
+abbrev pub met : (Item → List WrittenExpression → ℕ → Cutting) → List Item → List WrittenExpression → ℕ → Found Here → Option ℕ → Cutting
 met rest is es at here None = cut_to is es at
 met rest is es at (found fs (Is i next)) (Some b) = rest i fs next
 met rest is es at (found fs Ends) (Some b) = endless
@@ -72,14 +72,14 @@ module _ (text : List ℕ) (kind : Kind) (max_nodes : ℕ) where
       (outcome kind p.folded (Some p.delimiter) (bytes_between text p.from p.to) max_nodes)
 
   -- the text from a place on, after these items and expressions, with at most so many items
-  unfoldable pub cutting : ℕ → List Item → List Written → ℕ → Cutting
+  unfoldable pub cutting : ℕ → List Item → List WrittenExpression → ℕ → Cutting
   cutting zero is es at = endless
   cutting (suc n) is es at =
       met (λ i fs next. cutting n (is ++ i ∷ []) (es ++ fs) next) is es at (walked (item_at text (length es) at))
       (slice_get text (past Separator text at))
 
   -- the script of these items and expressions
-  abbrev pub program_of : List Item → List Written → Program
+  abbrev pub program_of : List Item → List WrittenExpression → Program
   program_of is es = record {
     commands = commands_of text is [] none_counted is;
     expressions = es;
@@ -92,7 +92,7 @@ module _ (text : List ℕ) (kind : Kind) (max_nodes : ℕ) where
     max_nodes = max_nodes;
   }
 
-  abbrev pub judged_targets : List Item → List Written → Option ScriptFault → Verdict
+  abbrev pub judged_targets : List Item → List WrittenExpression → Option ScriptFault → Verdict
   judged_targets is es None = means (program_of is es)
   judged_targets is es (Some f) = faulty f
 
@@ -121,7 +121,7 @@ module _ (text : List ℕ) (kind : Kind) (max_nodes : ℕ) where
     fits = subst (λ (n : ℕ). n ≤ max_nodes) (sym (nodes_of_written t)) h.2;
   }
 
-  after_expression_says : {A : Type 0} (p : Pattern) (k : ℕ → Reading A) (e : Written) → IsRead text kind max_nodes p e →
+  after_expression_says : {A : Type 0} (p : Pattern) (k : ℕ → Reading A) (e : WrittenExpression) → IsRead text kind max_nodes p e →
       (rest : Found A) → Says (k e.groups) rest → Says (expression p k) (with_expression e rest)
   after_expression_says p k e is (found es x) h = after_expression e is h
   after_expression_says p k e is (failed f) h = later e is h
@@ -153,10 +153,10 @@ module _ (text : List ℕ) (kind : Kind) (max_nodes : ℕ) where
   CutsTo (stopped f) = Faulty text kind max_nodes f
   CutsTo endless = Unit {0}
 
-  met_cuts : (rest : Item → List Written → ℕ → Cutting) (is : List Item) (es : List Written) (at : ℕ) (here : Found Here)
+  met_cuts : (rest : Item → List WrittenExpression → ℕ → Cutting) (is : List Item) (es : List WrittenExpression) (at : ℕ) (here : Found Here)
       (byte : Option ℕ) → CutScript text kind max_nodes 0 0 is es at → Says (item_at text (length es) at) here →
       slice_get text (past Separator text at) ≡ byte →
-      ((i : Item) (fs : List Written) (next : ℕ) → CutScript text kind max_nodes 0 0 (is ++ i ∷ []) (es ++ fs) next →
+      ((i : Item) (fs : List WrittenExpression) (next : ℕ) → CutScript text kind max_nodes 0 0 (is ++ i ∷ []) (es ++ fs) next →
       CutsTo (rest i fs next)) →
       CutsTo (met rest is es at here byte)
   met_cuts rest is es at here None c h e on = (c, e)
@@ -166,7 +166,7 @@ module _ (text : List ℕ) (kind : Kind) (max_nodes : ℕ) where
   met_cuts rest is es at (failed f) (Some b) c h e on = early is es at c h
   met_cuts rest is es at unsettled (Some b) c h e on = tt
 
-  cutting_cuts : (n : ℕ) (is : List Item) (es : List Written) (at : ℕ) → CutScript text kind max_nodes 0 0 is es at →
+  cutting_cuts : (n : ℕ) (is : List Item) (es : List WrittenExpression) (at : ℕ) → CutScript text kind max_nodes 0 0 is es at →
       CutsTo (cutting n is es at)
   unfolding cutting
   cutting_cuts zero is es at c = tt
@@ -181,7 +181,7 @@ module _ (text : List ℕ) (kind : Kind) (max_nodes : ℕ) where
   IsSo (faulty f) = Faulty text kind max_nodes f
   IsSo unknown = Unit {0}
 
-  targets_so : (is : List Item) (es : List Written) (at : ℕ) (o : Option ScriptFault) → CutsTo (cut_to is es at) →
+  targets_so : (is : List Item) (es : List WrittenExpression) (at : ℕ) (o : Option ScriptFault) → CutsTo (cut_to is es at) →
       target_fault text is ≡ o → IsSo (judged_targets is es o)
   targets_so is es at None c e = record {
     items = is;

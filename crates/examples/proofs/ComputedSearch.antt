@@ -10,10 +10,10 @@ use Rattle.sedre.specs.Brackets.{list_at}
 use Rattle.sedre.specs.Intervals.{interval}
 use Rattle.sedre.specs.Grammar.{ReadsAs}
 use Rattle.examples.proofs.ComputedReading.{Outcome, reads, faulty, unfinished, outcome, rest_of, outcome_holds, Holds}
-use Rattle.sedmatch.specs.Spans.{Found, NotFound}
+use Rattle.sedmatch.specs.Spans.{IsLeftmostLongest, NotFound}
 use Rattle.sedmatch.specs.Caps.{IsReport}
 use Rattle.sedmatch.specs.Groups.{Groups}
-use Rattle.sedmatch.specs.Matching.{any, greatest, copies, spans, longest, found_from, found, cut, first_copy, last_start, caps, report}
+use Rattle.sedmatch.specs.Matching.{any, greatest, copies, spans, longest, found_from, found, cut, first_copy, last_start, groups_after, report}
 use Rattle.sedmatch.proofs.MatchingLemmas.{found-iff, not_found-iff, report-iff}
 
 -- the whole match and the first groups, as they are reported; the other groups have no span
@@ -25,7 +25,7 @@ pub record Finds (kind : Kind) (expression w : List ℕ) (p : ℕ) (whole : ℕ 
   pub tree : Tree
   pub count : ℕ
   pub reads_so : ReadsAs kind false None expression tree count
-  pub is_found : Found tree w p whole.0 whole.1
+  pub is_found : IsLeftmostLongest tree w p whole.0 whole.1
   pub reports : IsReport tree w whole.0 whole.1 (spans_are whole groups)
 
 -- the expression matches nothing in w from place p on
@@ -53,19 +53,19 @@ answer unfinished within w p = no_answer
 
 -- the expression sought in w from place p on
 unfoldable pub search : Kind → (expression w : List ℕ) → ℕ → Answer
-unfolding outcome rest_of item_at interval list_at set_of any greatest copies spans longest found_from found cut first_copy last_start caps report
+unfolding outcome rest_of item_at interval list_at set_of any greatest copies spans longest found_from found cut first_copy last_start groups_after report
 search kind expression w p = answer (outcome kind false None expression 65536) (nat_le p (length w)) w p
 
 -- what the definitions say of an answer
 abbrev Says : Tree → List ℕ → ℕ → Answer → Type 0
-Says e w p (matched i j groups) = Found e w p i j × IsReport e w i j groups
+Says e w p (matched i j groups) = IsLeftmostLongest e w p i j × IsReport e w i j groups
 Says e w p nothing = NotFound e w p
 Says e w p no_answer = Unit {0}
 
 says_so : (e : Tree) (w : List ℕ) (p : ℕ) → p ≤ length w → (r : Option (ℕ × ℕ)) → found e w p ≡ r → Says e w p (with_groups e w r)
 says_so e w p fits None is = (not_found-iff e w p fits).0 is
 says_so e w p fits (Some f) is =
-    let there : Found e w p f.0 f.1 = (found-iff e w p f.0 f.1 fits).0 is in
+    let there : IsLeftmostLongest e w p f.0 f.1 = (found-iff e w p f.0 f.1 fits).0 is in
     (there, (report-iff e w f.0 f.1 (report e w f.0 f.1) there.spans).0 refl)
 
 -- what an answer to an expression's text says

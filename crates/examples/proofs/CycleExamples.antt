@@ -12,7 +12,7 @@ use Rattle.sedspace.specs.Lines.{lines, is_newline, HasNoNewline}
 use Rattle.sedengine.specs.Ends.{Cause, reads}
 use Rattle.sedengine.specs.Limits.{Limits}
 use Rattle.sedengine.specs.LimitRanges.{limits_of}
-use Rattle.sedengine.specs.Move.{move, after, start, to_sink, written}
+use Rattle.sedengine.specs.Move.{next_move, after, start, to_sink, written}
 use Rattle.sedengine.specs.Run.{Cycled, Ending}
 use Rattle.sedengine.specs.TakenInput.{BreaksInLine, LosesPartAfter, TakesInput, size_of}
 use Rattle.sedengine.specs.ScriptSetting.{setting_of}
@@ -69,7 +69,7 @@ abbrev IsFirst : Program → Type 0
 IsFirst p = FirstCycle p (to_sink 0 (codes "a\na\n")) (codes "b\nc\n") (codes "\nc\n") (codes "c\n")
 
 first_cycle : Script (codes "p") Basic IsFirst
-unfolding verdict cutting walked item_at past function_at addresses_at address_at second_at text_from name_from lines after written move selects all_fit
+unfolding verdict cutting walked item_at past function_at addresses_at address_at second_at text_from name_from lines after written next_move selects all_fit
 first_cycle = is_script {text = codes "p"} {kind = Basic} {Fits = IsFirst} (record {
   moves = 6;
   cycled = record {
@@ -131,6 +131,6 @@ KeepsItsLine p = (now : State) → Ending one_ahead (setting_of p no_files) (sta
     (record { source = Some input; all = Some input }) (record { source = Some (codes "b\nc\n"); all = Some (codes "b\nc\n") }) now InputBroken → ⊥
 
 line_kept : Script (codes "p") Basic KeepsItsLine
-unfolding verdict cutting walked item_at past function_at addresses_at address_at second_at text_from name_from lines after written move selects all_fit
+unfolding verdict cutting walked item_at past function_at addresses_at address_at second_at text_from name_from lines after written next_move selects all_fit
 line_kept = is_script {text = codes "p"} {kind = Basic} {Fits = KeepsItsLine} (λ now e.
     dropped_at one_ahead _ _ input (codes "b\nc\n") (codes "a") e.t refl (λ none. cc) refl e.cause (e.broken refl))

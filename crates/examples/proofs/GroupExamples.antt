@@ -3,7 +3,7 @@ use Rattle.std.proofs.Common.{◌≡◌, ◌≤◌, ℕ, [], ◌∷◌, false, t
 use Rattle.std.specs.Prelude.{codes, slice_set}
 use Rattle.sedre.specs.Sets.{set_of, only}
 use Rattle.sedre.specs.Tree.{Tree, set, alt, group, star}
-use Rattle.sedmatch.specs.Spans.{Spans, IsIn, no_copy, one_more}
+use Rattle.sedmatch.specs.Spans.{Matches, IsIn, no_copy, one_more}
 use Rattle.sedmatch.specs.Caps.{LastCopy, only as only_copy, then, IsReport}
 use Rattle.sedmatch.specs.Groups.{no_groups}
 
@@ -11,18 +11,18 @@ use Rattle.sedmatch.specs.Groups.{no_groups}
 abbrev either : Tree
 either = group 1 (alt (group 2 (set (only 97))) (set (only 98)))
 
-one_byte : (l : ℕ) → Spans either (codes "ab") 0 l → l ≤ 1
+one_byte : (l : ℕ) → Matches either (codes "ab") 0 l → l ≤ 1
 one_byte l (inl first) = omega (arith, first.3)
 one_byte l (inr second) = omega (arith, second.3)
 
-no_second_a : Spans (group 2 (set (only 97))) (codes "ab") 1 2 → ⊥
+no_second_a : Matches (group 2 (set (only 97))) (codes "ab") 1 2 → ⊥
 unfolding set_of
 no_second_a s =
     let byte_is : s.0 ≡ 98 = cc in
     let within : false ≡ true = subst (λ (n : ℕ). IsIn n (only 97)) byte_is s.2 in
     absurd cc
 
-copies_of_either : LastCopy (Spans either (codes "ab")) 2 0 1
+copies_of_either : LastCopy (Matches either (codes "ab")) 2 0 1
 unfolding set_of
 copies_of_either =
     then 0 1 1 (omega arith) (omega arith) (inl (97, refl, refl, refl))

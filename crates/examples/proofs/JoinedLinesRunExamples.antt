@@ -15,7 +15,7 @@ use Rattle.sedscript.specs.Items.{function_at, item_at}
 use Rattle.sedscript.specs.Program.{Program}
 use Rattle.sedspace.specs.Lines.{is_newline, lines}
 use Rattle.sedengine.specs.Ends.{Whole, WithinLimits}
-use Rattle.sedengine.specs.Move.{line_to, move, start, to_sink}
+use Rattle.sedengine.specs.Move.{line_to, next_move, start, to_sink}
 use Rattle.sedengine.specs.ScriptSetting.{setting_of}
 use Rattle.sedengine.specs.Select.{selects}
 use Rattle.sedengine.specs.State.{begin, do_at, flush, join, rebegin, Setting, State, Task}
@@ -81,58 +81,58 @@ state lines number pattern tasks turns = record {
 }
 
 abbrev Goes : State → State → List (ℕ × ℕ) → Type 0
-Goes s next bytes = move setting s ≡ Some (record { next = next; writes = bytes })
+Goes s next bytes = next_move setting s ≡ Some (record { next = next; writes = bytes })
 
 module _ (rest : List (List ℕ)) (number turns : ℕ) (line : List ℕ) where
   appends : (next : List ℕ) → Goes (state (next ∷ rest) number line (do_at 0 ∷ []) turns) (state (next ∷ rest) number line (flush ∷ join ∷ do_at 1 ∷ []) (turns + 1)) []
-  unfolding move selects
+  unfolding next_move selects
   appends next = refl
 
   joins : (next : List ℕ) → Goes (state (next ∷ rest) number line (flush ∷ join ∷ do_at 1 ∷ []) turns) (state (next ∷ rest) number line (join ∷ do_at 1 ∷ []) turns) []
-  unfolding move
+  unfolding next_move
   joins next = refl
 
   joined : (next : List ℕ) → Goes (state (next ∷ rest) number line (join ∷ do_at 1 ∷ []) turns) (state rest (number + 1) (line ++ 10 ∷ next) (do_at 1 ∷ []) turns) []
-  unfolding move
+  unfolding next_move
   joined next = refl
 
   prints_first : (next : List ℕ) → list_any is_newline line ≡ false →
       Goes (state rest number (line ++ 10 ∷ next) (do_at 1 ∷ []) turns) (state rest number (line ++ 10 ∷ next) (do_at 2 ∷ []) (turns + 1)) (line_to 0 line)
-  unfolding move selects
+  unfolding next_move selects
   prints_first next none = rw (before_it line next none) refl
 
   deletes_first : (next : List ℕ) → list_any is_newline line ≡ false →
       Goes (state rest number (line ++ 10 ∷ next) (do_at 2 ∷ []) turns) (state rest number next (flush ∷ rebegin ∷ []) (turns + 1)) []
-  unfolding move selects
+  unfolding next_move selects
   deletes_first next none = rw (has_it line next, after_it line next none) refl
 
   flushes : Goes (state rest number line (flush ∷ rebegin ∷ []) turns) (state rest number line (rebegin ∷ []) turns) []
-  unfolding move
+  unfolding next_move
   flushes = refl
 
   begins_again : Goes (state rest number line (rebegin ∷ []) turns) (state rest number line (do_at 0 ∷ []) (turns + 1)) []
-  unfolding move
+  unfolding next_move
   begins_again = refl
 
 module _ (number turns : ℕ) (line : List ℕ) where
   passes_over : Goes (state [] number line (do_at 0 ∷ []) turns) (state [] number line (do_at 1 ∷ []) (turns + 1)) []
-  unfolding move selects
+  unfolding next_move selects
   passes_over = refl
 
   prints_last : list_any is_newline line ≡ false → Goes (state [] number line (do_at 1 ∷ []) turns) (state [] number line (do_at 2 ∷ []) (turns + 1)) (line_to 0 line)
-  unfolding move selects
+  unfolding next_move selects
   prints_last none = rw (all_of_it line none) refl
 
   deletes_last : list_any is_newline line ≡ false → Goes (state [] number line (do_at 2 ∷ []) turns) (state [] number [] (flush ∷ begin ∷ []) (turns + 1)) []
-  unfolding move selects
+  unfolding next_move selects
   deletes_last none = rw none refl
 
   flushes_last : Goes (state [] number line (flush ∷ begin ∷ []) turns) (state [] number line (begin ∷ []) turns) []
-  unfolding move
+  unfolding next_move
   flushes_last = refl
 
   ends_there : Goes (state [] number line (begin ∷ []) turns) (state [] number line [] turns) []
-  unfolding move
+  unfolding next_move
   ends_there = refl
 
 fits : {lines : List (List ℕ)} {number : ℕ} {pattern : List ℕ} {tasks : List Task} {turns : ℕ} → length pattern ≤ 1048576 → turns ≤ 18446744073709551615 →
@@ -183,14 +183,14 @@ all_lines (next ∷ rest) number turns line are few =
 -- ---- whole runs
 
 starts : (line : List ℕ) (rest : List (List ℕ)) → Goes (start program.commands (line ∷ rest)) (state rest 1 line (do_at 0 ∷ []) 1) []
-unfolding move
+unfolding next_move
 starts line rest = refl
 
 fits_start : (ls : List (List ℕ)) → WithinLimits own (start program.commands ls)
 fits_start ls = record { pattern = omega arith; hold = omega arith; queue = omega arith; turns = omega arith }
 
 run : (ls : List (List ℕ)) → AreLines ls → length ls ≤ 1000000 → Stops own setting (start program.commands ls) Done (to_sink 0 (text_of ls))
-unfolding course move all_fit
+unfolding course next_move all_fit
 run [] are few = stops_whole (whole_after 1 refl refl refl) refl
 run (line ∷ rest) are few =
     stops_whole (first (starts line rest) (fits_start (line ∷ rest)) (all_lines rest 1 1 line are (omega (arith, few)))).1 refl

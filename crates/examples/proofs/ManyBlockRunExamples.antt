@@ -8,7 +8,7 @@ use Rattle.sedscript.specs.declared.types.Action.TheVariants.{Block}
 use Rattle.sedscript.specs.declared.types.Command.{Command}
 use Rattle.sedspace.specs.Lines.{lines}
 use Rattle.sedengine.specs.Ends.{Whole, WithinLimits}
-use Rattle.sedengine.specs.Move.{after, move, start, to_sink, written}
+use Rattle.sedengine.specs.Move.{after, next_move, start, to_sink, written}
 use Rattle.sedengine.specs.ScriptSetting.{setting_of}
 use Rattle.sedengine.specs.Select.{selects}
 use Rattle.sedengine.specs.State.{do_at, State, Setting}
@@ -56,9 +56,9 @@ none_there zero c = refl
 none_there (suc n) c = none_there n c
 
 enters : (n k taken : ℕ) (ranges : List Bool) → k < n →
-    move (setting n) (before ranges k taken)
+    next_move (setting n) (before ranges k taken)
     ≡ Some (record { next = before (slice_set ranges k (slice_index_or ranges k false)) (k + 1) (taken + 1); writes = [] })
-unfolding move selects
+unfolding next_move selects
 enters n k taken ranges below = rw (command_there n k (always (Block n)) below) refl
 
 -- a run comes to an end, after some moves
@@ -78,7 +78,7 @@ through most n (suc j) k taken to later ranges end out e f within few on =
 
 -- after the last of them the line is written
 finishes : (most n taken : ℕ) (ranges : List Bool) → taken ≤ most → Whole (turns most) (setting n) (before ranges n taken) (to_sink 0 input) Done 5
-unfolding course move selects all_fit
+unfolding course next_move selects all_fit
 finishes most n taken ranges few =
     let none : slice_get (replicate n (always (Block n))) n ≡ None = none_there n (always (Block n)) in
     let so : leb taken most ≡ true = le-leb taken most few in
@@ -95,8 +95,8 @@ spent n k taken ranges below =
 abbrev begins_at : ℕ → State
 begins_at n = start (program 65536 n).commands (lines input)
 
-begins_first : (n : ℕ) → move (setting n) (begins_at n) ≡ Some (record { next = before (map (λ _. false) (program 65536 n).commands) 0 1; writes = [] })
-unfolding move lines
+begins_first : (n : ℕ) → next_move (setting n) (begins_at n) ≡ Some (record { next = before (map (λ _. false) (program 65536 n).commands) 0 1; writes = [] })
+unfolding next_move lines
 begins_first n = refl
 
 fits_first : (most n : ℕ) → WithinLimits (turns most) (begins_at n)

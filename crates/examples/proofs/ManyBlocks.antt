@@ -23,7 +23,7 @@ use Rattle.sedscript.specs.Items.{function_at, item_at}
 use Rattle.sedscript.specs.Reading.{Reading, plainly}
 use Rattle.sedscript.specs.Script.{CutScript, done, item, IsEnd, Means, commands_of, is_quiet, none_counted, substitutions_of, tables_of, texts_of}
 use Rattle.sedscript.specs.Program.{Program}
-use Rattle.sedscript.specs.Targets.{block_end, close_in, commands_in, leaves, target_fault_in}
+use Rattle.sedscript.specs.Targets.{block_end, close_in, commands_in, becomes_command, target_fault_in}
 use Rattle.examples.proofs.ManyBracesExamples.{opening, openings, braces, stays, no_addresses, gives_opening}
 use Rattle.examples.proofs.ScriptWords.{always}
 
@@ -162,9 +162,9 @@ blocks_well text all before (suc k) n depth at to e =
 
 commands-snoc : (before : List Item) (at : ℕ) → commands_in (before ++ opening at ∷ []) ≡ suc (commands_in before)
 commands-snoc [] at = refl
-commands-snoc (i ∷ is) at = by_kind (leaves i.function) refl (commands-snoc is at)
+commands-snoc (i ∷ is) at = by_kind (becomes_command i.function) refl (commands-snoc is at)
   where
-    by_kind : (b : Bool) → leaves i.function ≡ b → commands_in (is ++ opening at ∷ []) ≡ suc (commands_in is) → commands_in (i ∷ is ++ opening at ∷ []) ≡ suc (commands_in (i ∷ is))
+    by_kind : (b : Bool) → becomes_command i.function ≡ b → commands_in (is ++ opening at ∷ []) ≡ suc (commands_in is) → commands_in (i ∷ is ++ opening at ∷ []) ≡ suc (commands_in (i ∷ is))
     by_kind true e h = rw e (ap suc h)
     by_kind false e h = rw e h
 

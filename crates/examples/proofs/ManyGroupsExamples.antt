@@ -9,7 +9,7 @@ use Rattle.sedre.specs.declared.syntax.Item.{Item}
 use Rattle.sedre.specs.declared.syntax.Item.TheVariants.{Open}
 use Rattle.sedre.specs.declared.syntax.Symbol.TheVariants.{Opening}
 use Rattle.sedre.specs.declared.syntax.Here.TheVariants.{Is, Ends}
-use Rattle.sedre.specs.Grammar.{Cut, done, item, open_groups, unclosed, ExprFaulty}
+use Rattle.sedre.specs.Grammar.{CutExpression, done, item, open_groups, unclosed, ExprFaulty}
 use Rattle.sedre.specs.Items.{item_at}
 use Rattle.sedre.specs.Symbols.{symbol}
 
@@ -42,8 +42,8 @@ unfolding item_at
 ends_at text before at there = rw there refl
 
 -- the text from a place on is cut into openings
-cut_at : (text : List ℕ) (n at to : ℕ) (before : Option Item) → at + n ≡ to → ((k : ℕ) → k < to → (rest : List ℕ) × (drop k text ≡ 40 ∷ rest)) → Cut Extended false None text before at (items_of n) to
-cut_at text zero at to before e each = subst (Cut Extended false None text before at []) (omega (arith, e)) done
+cut_at : (text : List ℕ) (n at to : ℕ) (before : Option Item) → at + n ≡ to → ((k : ℕ) → k < to → (rest : List ℕ) × (drop k text ≡ 40 ∷ rest)) → CutExpression Extended false None text before at (items_of n) to
+cut_at text zero at to before e each = subst (CutExpression Extended false None text before at []) (omega (arith, e)) done
 cut_at text (suc n) at to before e each =
     let here = each at (omega (arith, e)) in
     item (opens_at text before at here.0 here.1) (cut_at text n (at + 1) to (Some Open) (omega (arith, e)) each)

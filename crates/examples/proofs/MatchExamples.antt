@@ -3,10 +3,10 @@ use Rattle.std.proofs.Common.{◌≡◌, ◌≤◌, ℕ, zero, suc, [], ◌∷�
 use Rattle.std.specs.Prelude.{codes, slice_get}
 use Rattle.sedre.specs.Sets.{set_of, only, any_byte}
 use Rattle.sedre.specs.Tree.{set, begin, end, seq, alt, star}
-use Rattle.sedmatch.specs.Spans.{Spans, IsIn, Copies, Found, NotFound, no_copy, one_more}
+use Rattle.sedmatch.specs.Spans.{Matches, IsIn, CopiesLead, IsLeftmostLongest, NotFound, no_copy, one_more}
 
 -- Of a and ab the longer one is the match.
-longest_alternative : Found (alt (set (only 97)) (seq (set (only 97)) (set (only 98)))) (codes "ab") 0 0 2
+longest_alternative : IsLeftmostLongest (alt (set (only 97)) (seq (set (only 97)) (set (only 98)))) (codes "ab") 0 0 2
 unfolding set_of
 longest_alternative = record {
   after = omega arith;
@@ -16,7 +16,7 @@ longest_alternative = record {
 }
 
 -- The anchor $ holds at the end alone.
-dollar_at_the_end : Found (seq (set (only 98)) end) (codes "ab") 0 1 2
+dollar_at_the_end : IsLeftmostLongest (seq (set (only 98)) end) (codes "ab") 0 1 2
 unfolding set_of
 dollar_at_the_end = record {
   after = omega arith;
@@ -26,7 +26,7 @@ dollar_at_the_end = record {
 }
 
 -- Both anchors hold in an empty text.
-anchors_of_the_empty_text : Found (seq end begin) [] 0 0 0
+anchors_of_the_empty_text : IsLeftmostLongest (seq end begin) [] 0 0 0
 anchors_of_the_empty_text = record {
   after = omega arith;
   spans = (0, (refl, refl), (refl, refl));
@@ -42,7 +42,7 @@ caret_within : NotFound (seq (set (only 97)) (seq begin (set (only 98)))) (codes
 caret_within = λ i k from within s. omega (arith, s.1.3, s.2.1.0)
 
 -- No copy of an x stands within abc.
-only_empty : (k : ℕ) → Copies (Spans (set (only 120)) (codes "abc")) k 1 → k ≤ 1
+only_empty : (k : ℕ) → CopiesLead (Matches (set (only 120)) (codes "abc")) k 1 → k ≤ 1
 unfolding set_of
 only_empty _ no_copy = omega arith
 only_empty k (one_more i m less copy rest) =
@@ -50,7 +50,7 @@ only_empty k (one_more i m less copy rest) =
     let within : false ≡ true = subst (λ (n : ℕ). IsIn n (only 120)) byte_is copy.2 in
     absurd cc
 
-no_copies : Found (star (set (only 120)) true) (codes "abc") 1 1 1
+no_copies : IsLeftmostLongest (star (set (only 120)) true) (codes "abc") 1 1 1
 no_copies = record {
   after = omega arith;
   spans = no_copy;

@@ -9,8 +9,8 @@ use Rattle.sedre.specs.Items.{item_at}
 use Rattle.sedre.specs.Grammar.{ReadsAs}
 use Rattle.examples.proofs.ComputedReading.{outcome, rest_of, reads_as}
 use Rattle.examples.proofs.ExampleWords.{times}
-use Rattle.sedmatch.specs.Spans.{Spans, Found}
-use Rattle.sedmatch.specs.Caps.{Caps, IsReport}
+use Rattle.sedmatch.specs.Spans.{Matches, IsLeftmostLongest}
+use Rattle.sedmatch.specs.Caps.{Captures, IsReport}
 use Rattle.sedmatch.specs.Groups.{Groups, forget, no_groups}
 use Rattle.examples.proofs.ComputedSearch.{Finds, spans_are}
 
@@ -24,18 +24,18 @@ in_groups k (suc n) = group k (in_groups (suc k) n)
 
 -- The match is the a.
 
-spans_it : (n k : ℕ) → Spans (in_groups k n) text 0 1
+spans_it : (n k : ℕ) → Matches (in_groups k n) text 0 1
 unfolding set_of
 spans_it zero k = (97, refl, refl, refl)
 spans_it (suc n) k = spans_it n (suc k)
 
-ends_after_it : (n k i j : ℕ) → Spans (in_groups k n) text i j → j ≤ 1
+ends_after_it : (n k i j : ℕ) → Matches (in_groups k n) text i j → j ≤ 1
 ends_after_it zero k i j s =
     let below = slice_get_within text i s.0 s.1 in
     omega (arith, below, s.3)
 ends_after_it (suc n) k i j s = ends_after_it n (suc k) i j s
 
-found_first : (n k : ℕ) → Found (in_groups k n) text 0 0 1
+found_first : (n k : ℕ) → IsLeftmostLongest (in_groups k n) text 0 0 1
 found_first n k = record {
   after = omega arith;
   spans = spans_it n k;
@@ -67,11 +67,11 @@ abbrev spans_from : (k n : ℕ) → Groups
 spans_from k zero = no_groups
 spans_from k (suc n) = slice_set (spans_from (suc k) n) k (Some (0, 1))
 
-each_group : (n k : ℕ) → Caps (in_groups k n) text 0 1 no_groups (spans_from k n)
+each_group : (n k : ℕ) → Captures (in_groups k n) text 0 1 no_groups (spans_from k n)
 each_group zero k = refl
 each_group (suc n) k = (
   spans_from (suc k) n,
-  subst (λ (old : Groups). Caps (in_groups (suc k) n) text 0 1 old (spans_from (suc k) n)) (sym (forgets_all (suc n) k)) (each_group n (suc k)),
+  subst (λ (old : Groups). Captures (in_groups (suc k) n) text 0 1 old (spans_from (suc k) n)) (sym (forgets_all (suc n) k)) (each_group n (suc k)),
   refl,
 )
 

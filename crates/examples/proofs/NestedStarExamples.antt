@@ -10,7 +10,7 @@ use Rattle.sedre.specs.Sets.{set_of, only}
 use Rattle.sedre.specs.Items.{item_at}
 use Rattle.sedre.specs.Grammar.{ReadsAs}
 use Rattle.examples.proofs.ComputedReading.{outcome, rest_of, reads_as}
-use Rattle.sedmatch.specs.Spans.{Spans, IsIn, Copies, no_copy, one_more, Found}
+use Rattle.sedmatch.specs.Spans.{Matches, IsIn, CopiesLead, no_copy, one_more, IsLeftmostLongest}
 use Rattle.sedmatch.specs.Caps.{LastCopy, only as only_copy, then, IsReport}
 use Rattle.sedmatch.specs.Groups.{no_groups}
 use Rattle.examples.proofs.ComputedSearch.{Finds, FindsNothing, spans_are}
@@ -36,7 +36,7 @@ all_alike n x i byte e =
     let within : i < n = subst (λ v. i < v) (length-replicate n x) (slice_get_within (replicate n x) i byte e) in
     sym (get_or_from_slice_get (replicate n x) i byte 0 e) ∙ get_or-replicate n i x 0 within
 
-pub no_b : (n i j : ℕ) → Spans b (replicate n 97) i j → ⊥
+pub no_b : (n i j : ℕ) → Matches b (replicate n 97) i j → ⊥
 unfolding set_of
 no_b n i j s =
     let within : false ≡ true = subst (λ v. IsIn v (only 98)) (all_alike n 97 i s.0 s.1) s.2 in
@@ -52,16 +52,16 @@ nothing_in_many n p = record {
 
 -- Copies of an a at places that have one.
 
-copy_of_a : (w : List ℕ) (i j : ℕ) → i + 1 ≡ j → slice_get w i ≡ Some 97 → Spans a w i j
+copy_of_a : (w : List ℕ) (i j : ℕ) → i + 1 ≡ j → slice_get w i ≡ Some 97 → Matches a w i j
 unfolding set_of
 copy_of_a w i j e there = (97, there, refl, sym e)
 
-copies_of_a : (w : List ℕ) (n i j : ℕ) → i + n ≡ j → ((k : ℕ) → k < j → slice_get w k ≡ Some 97) → Copies (Spans a w) j i
-copies_of_a w zero i j e each = subst (λ v. Copies (Spans a w) v i) (omega (arith, e)) no_copy
+copies_of_a : (w : List ℕ) (n i j : ℕ) → i + n ≡ j → ((k : ℕ) → k < j → slice_get w k ≡ Some 97) → CopiesLead (Matches a w) j i
+copies_of_a w zero i j e each = subst (λ v. CopiesLead (Matches a w) v i) (omega (arith, e)) no_copy
 copies_of_a w (suc n) i j e each =
     one_more i (i + 1) (omega arith) (copy_of_a w i (i + 1) refl (each i (omega arith))) (copies_of_a w n (i + 1) j (omega arith) each)
 
-last_a : (w : List ℕ) (n i j : ℕ) → i + suc n ≡ j → ((k : ℕ) → k < j → slice_get w k ≡ Some 97) → (c : ℕ) × LastCopy (Spans a w) j i c
+last_a : (w : List ℕ) (n i j : ℕ) → i + suc n ≡ j → ((k : ℕ) → k < j → slice_get w k ≡ Some 97) → (c : ℕ) × LastCopy (Matches a w) j i c
 last_a w zero i j e each = (i, only_copy i (omega arith) (copy_of_a w i j (omega arith) (each i (omega arith))))
 last_a w (suc n) i j e each =
     let later = last_a w n (i + 1) j (omega arith) each in (
@@ -88,16 +88,16 @@ with_b-length : (n : ℕ) → length (with_b n) ≡ n + 1
 with_b-length zero = refl
 with_b-length (suc n) = omega (arith, with_b-length n)
 
-ends_within : (n i j : ℕ) → Spans b (with_b n) i j → j ≤ n + 1
+ends_within : (n i j : ℕ) → Matches b (with_b n) i j → j ≤ n + 1
 ends_within n i j s =
     let within = slice_get_within (with_b n) i s.0 s.1 in
     omega (arith, within, s.3, with_b-length n)
 
-b_spans : (n : ℕ) → Spans b (with_b n) n (n + 1)
+b_spans : (n : ℕ) → Matches b (with_b n) n (n + 1)
 unfolding set_of
 b_spans n = (98, b_at_the_end n, refl, refl)
 
-many_found : (n : ℕ) → 0 < n → Found nested (with_b n) 0 0 (n + 1)
+many_found : (n : ℕ) → 0 < n → IsLeftmostLongest nested (with_b n) 0 0 (n + 1)
 many_found n some = record {
   after = omega arith;
   spans = (n, one_more 0 n some (copies_of_a (with_b n) n 0 n (omega arith) (each_a n)) no_copy, b_spans n);
@@ -109,7 +109,7 @@ many_found n some = record {
 up_to_b : (n : ℕ) → 0 < n → IsReport nested (with_b n) 0 (n + 1) (spans_are (0, n + 1) (Some (0, n) ∷ []))
 up_to_b n some =
     let w = with_b n in
-    let copies : Copies (Spans a w) n 0 = copies_of_a w n 0 n (omega arith) (each_a n) in
+    let copies : CopiesLead (Matches a w) n 0 = copies_of_a w n 0 n (omega arith) (each_a n) in
     let last = last_a w (n - 1) 0 n (omega arith) (each_a n) in (
       slice_set no_groups 1 (Some (0, n)),
       (
@@ -143,7 +143,7 @@ b_reads : ReadsAs Extended false None (codes "b") b 0
 unfolding outcome rest_of item_at
 b_reads = reads_as refl
 
-not_before : (n h k : ℕ) → h < n → Spans b (with_b n) h k → ⊥
+not_before : (n h k : ℕ) → h < n → Matches b (with_b n) h k → ⊥
 unfolding set_of
 not_before n h k before s =
     let there : s.0 ≡ 97 = sym (get_or_from_slice_get (with_b n) h s.0 0 s.1) ∙ get_or_from_slice_get (with_b n) h 97 0 (each_a n h before) in
@@ -182,10 +182,10 @@ nothing_twice_nested n p = record {
 }
 
 -- the a are one copy of the inner star
-one_copy_of_a : (n : ℕ) → 0 < n → Copies (Spans (group 2 (star a true)) (with_b n)) n 0
+one_copy_of_a : (n : ℕ) → 0 < n → CopiesLead (Matches (group 2 (star a true)) (with_b n)) n 0
 one_copy_of_a n some = one_more 0 n some (copies_of_a (with_b n) n 0 n (omega arith) (each_a n)) no_copy
 
-found_twice_nested : (n : ℕ) → 0 < n → Found twice_nested (with_b n) 0 0 (n + 1)
+found_twice_nested : (n : ℕ) → 0 < n → IsLeftmostLongest twice_nested (with_b n) 0 0 (n + 1)
 found_twice_nested n some = record {
   after = omega arith;
   spans = (n, one_more 0 n some (one_copy_of_a n some) no_copy, b_spans n);
@@ -196,7 +196,7 @@ found_twice_nested n some = record {
 up_to_b_twice_nested : (n : ℕ) → 0 < n → IsReport twice_nested (with_b n) 0 (n + 1) (spans_are (0, n + 1) (Some (0, n) ∷ Some (0, n) ∷ []))
 up_to_b_twice_nested n some =
     let w = with_b n in
-    let copies : Copies (Spans a w) n 0 = copies_of_a w n 0 n (omega arith) (each_a n) in
+    let copies : CopiesLead (Matches a w) n 0 = copies_of_a w n 0 n (omega arith) (each_a n) in
     let last = last_a w (n - 1) 0 n (omega arith) (each_a n) in
     let inner = slice_set no_groups 2 (Some (0, n)) in
     let outer = slice_set inner 1 (Some (0, n)) in (

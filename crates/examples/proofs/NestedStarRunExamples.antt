@@ -2,7 +2,7 @@
 use Rattle.std.proofs.Common.{◌≡◌, ℕ, List, [], ◌∷◌, ◌++◌, Bool, false, Option, Some, None, refl, sym, ap, subst, arith}
 use Rattle.std.specs.Prelude.{codes, is_some, replicate}
 use Rattle.sedre.specs.declared.types.Kind.TheVariants.{Extended}
-use Rattle.sedre.specs.Written.{Written, tree}
+use Rattle.sedre.specs.Written.{WrittenExpression, expression_tree}
 use Rattle.sedre.specs.Delimited.{delimiter_at}
 use Rattle.sedre.specs.Items.{item_at as expression_item_at}
 use Rattle.sedre.specs.Tree.{Tree}
@@ -18,7 +18,7 @@ use Rattle.sedscript.specs.Bytes.{past}
 use Rattle.sedscript.specs.Functions.{name_from, text_from}
 use Rattle.sedscript.specs.Items.{substitute_at, function_at, item_at}
 use Rattle.sedspace.specs.Lines.{lines}
-use Rattle.sedengine.specs.Move.{move, start, to_sink}
+use Rattle.sedengine.specs.Move.{next_move, start, to_sink}
 use Rattle.sedengine.specs.ScriptSetting.{finds_in, match_with_span as occurrence_of, search_in}
 use Rattle.sedengine.specs.Select.{selects}
 use Rattle.sedengine.specs.State.{Setting}
@@ -55,16 +55,16 @@ sixty = replicate 60 97
 unchanged_where_nothing_is_found : (finds : ℕ → List ℕ → Bool) (search : ℕ → List ℕ → ℕ → Option Occurrence) →
     finds 0 sixty ≡ false → search 0 sixty 0 ≡ None →
     Stops own (deletes_or_replaces finds search) (start commands (sixty ∷ [])) Done (to_sink 0 (sixty ++ 10 ∷ []))
-unfolding course move selects all_fit occurrences_from
+unfolding course next_move selects all_fit occurrences_from
 unchanged_where_nothing_is_found finds search no_match none =
     stops_after 12 (rw (no_match, none) refl) (rw (no_match, none) refl) (rw (no_match, none) refl) refl
 
-none_in : (n : ℕ) → found (tree (written twice_nested 2)) (replicate n 97) 0 ≡ None
+none_in : (n : ℕ) → found (expression_tree (written twice_nested 2)) (replicate n 97) 0 ≡ None
 none_in n =
     subst (λ (t : Tree). found t (replicate n 97) 0 ≡ None) (sym (tree_of_written twice_nested 2))
     ((not_found-iff twice_nested (replicate n 97) 0 (omega arith)).1 (λ i k from within s. no_b n s.0 k s.2))
 
-abbrev expressions : List Written
+abbrev expressions : List WrittenExpression
 expressions = written twice_nested 2 ∷ []
 
 sixty_unchanged : StopsBy own Extended plain no_files (codes "/((a*)*)*b/d;s//x/") (replicate 60 97 ++ 10 ∷ []) Done (to_sink 0 (replicate 60 97 ++ 10 ∷ []))

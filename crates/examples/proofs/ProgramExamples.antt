@@ -14,7 +14,7 @@ use Rattle.sedscript.specs.Items.{function_at, item_at}
 use Rattle.sedspace.specs.Lines.{HasNoNewline, lines}
 use Rattle.sedengine.specs.Devices.{part, GainedWithin}
 use Rattle.sedengine.specs.Ends.{Cause}
-use Rattle.sedengine.specs.Move.{after, move, to_sink}
+use Rattle.sedengine.specs.Move.{after, next_move, to_sink}
 use Rattle.sedengine.specs.TakenInput.{BreaksInLine, LosesPartAfter}
 use Rattle.sedengine.specs.ScriptSetting.{setting_of}
 use Rattle.sedengine.specs.Select.{selects}
@@ -22,7 +22,7 @@ use Rattle.sedengine.specs.declared.ends.Ended.{Ended}
 use Rattle.sedengine.specs.declared.ends.Ended.TheVariants.{Done, NoPrevious, InputBroken, OutputBroken, OutputFull}
 use Rattle.examples.proofs.ComputedEnds.{all_fit, stops_after, stops_within, Stops}
 use Rattle.examples.proofs.ComputedRun.{course, ends_after, plain, quiet, no_files, Edits}
-use Rattle.sededit.specs.CommandLine.{Given, text, file}
+use Rattle.sededit.specs.CommandLine.{ScriptPart, text, file}
 use Rattle.sededit.specs.Editing.{nothing_before, start_over}
 use Rattle.sededit.specs.MemoryFiles.{File, file_of, files_of}
 use Rattle.sededit.specs.Program.{MakesText, Observed, StopsEarly, DevicesAtEnd, input_of}
@@ -39,7 +39,7 @@ abbrev pub input : (standard : List ℕ) → (operands : List (List ℕ)) → Op
 input standard operands = input_of (λ names. Some (files_of there standard names)) operands
 
 -- the script of these parts is this text
-abbrev pub Text : List Given → List ℕ → Type 0
+abbrev pub Text : List ScriptPart → List ℕ → Type 0
 Text parts whole = MakesText (λ name. Some (file_of there name)) [] parts whole
 
 two_parts : Text (text (codes "i\\") ∷ text (codes "  X") ∷ []) (codes "i\\\n  X\n")
@@ -70,7 +70,7 @@ missed_file : input [] (codes "a" ∷ codes "nofile" ∷ []) ≡ Some (codes "x\
 missed_file = refl
 
 -- These parts make a script that over the input of these operands writes these bytes.
-pub record Answers (kind : Kind) (asked : Program → Program) (files : ℕ → List ℕ) (parts : List Given) (standard : List ℕ)
+pub record Answers (kind : Kind) (asked : Program → Program) (files : ℕ → List ℕ) (parts : List ScriptPart) (standard : List ℕ)
     (operands : List (List ℕ)) (output : List ℕ) : Type 0 where
   pub whole : List ℕ
   pub made : Text parts whole
@@ -80,7 +80,7 @@ pub record Answers (kind : Kind) (asked : Program → Program) (files : ℕ → 
 
 -- `sed -e 'i\' -e '  X'`, with a on the standard input
 text_over_two_parts : Answers Basic plain no_files (text (codes "i\\") ∷ text (codes "  X") ∷ []) (codes "a\n") [] (codes "  X\na\n")
-unfolding verdict cutting walked item_at past function_at addresses_at address_at second_at text_from name_from lines course move selects
+unfolding verdict cutting walked item_at past function_at addresses_at address_at second_at text_from name_from lines course next_move selects
 text_over_two_parts = record {
   whole = codes "i\\\n  X\n";
   made = refl;
@@ -91,7 +91,7 @@ text_over_two_parts = record {
 
 -- `sed -f s a`
 script_of_a_file : Answers Basic plain no_files (file (codes "s") ∷ []) [] (codes "a" ∷ []) (codes "x\n")
-unfolding verdict cutting walked item_at past function_at addresses_at address_at second_at text_from name_from lines course move selects
+unfolding verdict cutting walked item_at past function_at addresses_at address_at second_at text_from name_from lines course next_move selects
 script_of_a_file = record {
   whole = codes "#n\np\n";
   made = (codes "#n\np", refl, refl);
@@ -102,7 +102,7 @@ script_of_a_file = record {
 
 -- `sed -e p -f s a`: `#n` is not in the first line.
 script_before_a_file : Answers Basic plain no_files (text (codes "p") ∷ file (codes "s") ∷ []) [] (codes "a" ∷ []) (codes "x\nx\nx\n")
-unfolding verdict cutting walked item_at past function_at addresses_at address_at second_at text_from name_from lines course move selects
+unfolding verdict cutting walked item_at past function_at addresses_at address_at second_at text_from name_from lines course next_move selects
 script_before_a_file = record {
   whole = codes "p\n#n\np\n";
   made = (codes "#n\np", refl, refl);
@@ -113,7 +113,7 @@ script_before_a_file = record {
 
 -- `sed p - -`
 standard_input_named_twice : Answers Basic plain no_files (text (codes "p") ∷ []) (codes "x\n") (codes "-" ∷ codes "-" ∷ []) (codes "x\nx\n")
-unfolding verdict cutting walked item_at past function_at addresses_at address_at second_at text_from name_from lines course move selects
+unfolding verdict cutting walked item_at past function_at addresses_at address_at second_at text_from name_from lines course next_move selects
 standard_input_named_twice = record {
   whole = codes "p\n";
   made = refl;
@@ -124,7 +124,7 @@ standard_input_named_twice = record {
 
 -- `sed -n '$p' a nofile`
 last_line_before_a_missed_file : Answers Basic quiet no_files (text (codes "$p") ∷ []) [] (codes "a" ∷ codes "nofile" ∷ []) (codes "x\n")
-unfolding verdict cutting walked item_at past function_at addresses_at address_at second_at text_from name_from lines course move selects
+unfolding verdict cutting walked item_at past function_at addresses_at address_at second_at text_from name_from lines course next_move selects
 last_line_before_a_missed_file = record {
   whole = codes "$p\n";
   made = refl;
@@ -135,7 +135,7 @@ last_line_before_a_missed_file = record {
 
 -- `sed 1q a nofile`
 quit_before_a_file : Answers Basic plain no_files (text (codes "1q") ∷ []) [] (codes "a" ∷ codes "nofile" ∷ []) (codes "x\n")
-unfolding verdict cutting walked item_at past function_at addresses_at address_at second_at text_from name_from lines course move selects
+unfolding verdict cutting walked item_at past function_at addresses_at address_at second_at text_from name_from lines course next_move selects
 quit_before_a_file = record {
   whole = codes "1q\n";
   made = refl;
@@ -146,7 +146,7 @@ quit_before_a_file = record {
 
 -- `sed p nofile a`
 missed_file_first : Answers Basic plain no_files (text (codes "p") ∷ []) [] (codes "nofile" ∷ codes "a" ∷ []) (codes "x\nx\n")
-unfolding verdict cutting walked item_at past function_at addresses_at address_at second_at text_from name_from lines course move selects
+unfolding verdict cutting walked item_at past function_at addresses_at address_at second_at text_from name_from lines course next_move selects
 missed_file_first = record {
   whole = codes "p\n";
   made = refl;
@@ -157,7 +157,7 @@ missed_file_first = record {
 
 -- `sed 'r f' a`, where f is y and a newline
 file_of_the_script : Answers Basic plain (λ k. codes "y\n") (text (codes "r f") ∷ []) [] (codes "a" ∷ []) (codes "x\ny\n")
-unfolding verdict cutting walked item_at past function_at addresses_at address_at second_at text_from name_from lines course move selects
+unfolding verdict cutting walked item_at past function_at addresses_at address_at second_at text_from name_from lines course next_move selects
 file_of_the_script = record {
   whole = codes "r f\n";
   made = refl;
@@ -225,7 +225,7 @@ part_gone = (codes "a\nb", refl, part_only, omega arith)
 
 -- The second line cannot be read to its end: its first byte is gone.
 input_broke_run : Script (codes "p\n") Basic (λ p. OverAnyFiles p (codes "a\nbc\n") (codes "c\n") (codes "a\na\n") InputBroken)
-unfolding verdict cutting walked item_at past function_at addresses_at address_at second_at text_from name_from lines after course move selects all_fit
+unfolding verdict cutting walked item_at past function_at addresses_at address_at second_at text_from name_from lines after course next_move selects all_fit
 input_broke_run = is_script (over_any {bytes = codes "a\nbc\n"} {rest = codes "c\n"} {output = codes "a\na\n"} {end = InputBroken} (λ files. stops_after 6 refl refl refl refl) (λ files is. (codes "a" ∷ [], refl, part_gone)))
 
 input_broke : Stopped (codes "p\n") (codes "a\nbc\n") (codes "c\n") 1 0 (codes "a\na\n")
@@ -233,7 +233,7 @@ input_broke = stopped (codes "p\n") (codes "a\nbc\n") (codes "c\n") 1 0 (codes "
 
 -- The standard output takes three bytes.
 output_broke_run : Script (codes "p\n") Basic (λ p. OverAnyFiles p (codes "ab\n") [] (codes "ab\n") (OutputBroken 0))
-unfolding verdict cutting walked item_at past function_at addresses_at address_at second_at text_from name_from lines course move selects all_fit
+unfolding verdict cutting walked item_at past function_at addresses_at address_at second_at text_from name_from lines course next_move selects all_fit
 output_broke_run = is_script (over_any (λ files. stops_within 3 0 97 refl refl refl refl refl) (λ files is. absurd cc))
 
 output_broke : Stopped (codes "p\n") (codes "ab\n") [] 0 1 (codes "ab\n")
@@ -241,7 +241,7 @@ output_broke = stopped (codes "p\n") (codes "ab\n") [] 0 1 (codes "ab\n") (Outpu
 
 -- `sed //p nofile a`: no device has failed.
 no_previous_expression_run : Script (codes "//p\n") Basic (λ p. OverAnyFiles p (codes "x\n") [] (codes "") (NoPrevious 1))
-unfolding verdict cutting walked item_at past function_at addresses_at address_at second_at text_from name_from lines course move selects all_fit match_at delimiter_at
+unfolding verdict cutting walked item_at past function_at addresses_at address_at second_at text_from name_from lines course next_move selects all_fit match_at delimiter_at
 no_previous_expression_run = is_script (over_any (λ files. stops_after 1 refl refl refl refl) (λ files is. absurd cc))
 
 no_previous_expression : Stopped (codes "//p\n") (codes "x\n") [] 0 0 (codes "")

@@ -5,7 +5,7 @@ use Rattle.std.specs.Option.{option_or, option_len}
 use Rattle.std.proofs.lemmas.Bool.{eqb-true}
 use Rattle.std.proofs.lemmas.Bool.Decides.{nat_tests}
 use Rattle.sedre.specs.declared.types.Kind.{Kind}
-use Rattle.sedre.specs.Written.{Written}
+use Rattle.sedre.specs.Written.{WrittenExpression}
 use Rattle.sedre.specs.Delimited.{delimiter_at}
 use Rattle.sedscript.specs.declared.bytes.Sort.TheVariants.{Blank, Name, Digit, Separator}
 use Rattle.sedscript.specs.declared.types.ScriptFault.{ScriptFault}
@@ -171,7 +171,7 @@ module _ (kind : Kind) (max_nodes : ℕ) (text : List ℕ) where
 
   abbrev Walks : {A : Type 0} → (A → Type 0) → Reading A → Type 0
   Walks P (plainly r) = Walk P r
-  Walks P (expression p k) = (e : Written) → IsRead text kind max_nodes p e → Walks P (k e.groups)
+  Walks P (expression p k) = (e : WrittenExpression) → IsRead text kind max_nodes p e → Walks P (k e.groups)
 
   walks_if : {A : Type 0} (P : A → Type 0) (t : Bool) (r z : Reading A) → Walks P r → Walks P z → Walks P (if t then r else z)
   walks_if P true r z h g = h
@@ -182,7 +182,7 @@ module _ (kind : Kind) (max_nodes : ℕ) (text : List ℕ) where
   walks_then P Q (plainly (Err f)) k h on = h
   walks_then P Q (expression p l) k h on = λ e is. walks_then P Q (l e.groups) k (h e is) on
 
-  gives_so : {A : Type 0} (P : A → Type 0) (r : Reading A) (es : List Written) (x : A) → Gives text kind max_nodes r es x → Walks P r → P x
+  gives_so : {A : Type 0} (P : A → Type 0) (r : Reading A) (es : List WrittenExpression) (x : A) → Gives text kind max_nodes r es x → Walks P r → P x
   gives_so P _ _ x value h = h
   gives_so P _ _ x (after_expression {k = k} {es = es} e is g) h = gives_so P (k e.groups) es x g (h e is)
 
@@ -433,7 +433,7 @@ module _ (kind : Kind) (max_nodes : ℕ) (text : List ℕ) where
           walks_then Any SoundHere (addresses_at text count (past Separator text at)) (function_after text) (addresses_walk count (past Separator text at))
           (λ h any. here_walk h.count (with_bang text h).at (with_bang text h).addresses)
 
-  all_sound : (count at to : ℕ) (is : List Item) (es : List Written) → CutScript text kind max_nodes count at is es to → (k : ℕ) (i : Item) → slice_get is k ≡ Some i → Sound i.function
+  all_sound : (count at to : ℕ) (is : List Item) (es : List WrittenExpression) → CutScript text kind max_nodes count at is es to → (k : ℕ) (i : Item) → slice_get is k ≡ Some i → Sound i.function
   all_sound count at to _ _ done k i e = let no : ◌≡◌ {A = Option Item} None (Some i) = e in absurd cc
   all_sound count at to _ _ (item {next = next} {i = i} {is = is} es fs given rest) zero j e =
       let same : i ≡ j = cc in
@@ -445,7 +445,7 @@ module _ (kind : Kind) (max_nodes : ℕ) (text : List ℕ) where
 
   -- ---- faults
 
-  told_early : (items : List Item) (es : List Written) (to : ℕ) (f : ScriptFault) → Fails text kind max_nodes (item_at text (length es) to) f → By f.place f.reason
+  told_early : (items : List Item) (es : List WrittenExpression) (to : ℕ) (f : ScriptFault) → Fails text kind max_nodes (item_at text (length es) to) f → By f.place f.reason
   told_early items es to f bad = fails_so SoundHere (item_at text (length es) to) f bad (item_walk (length es) to)
 
   told_of : (f : ScriptFault) (r : Reason) → Faulty text kind max_nodes f → f.reason ≡ r → (OfTargets r → ⊥) → By f.place r
@@ -473,7 +473,7 @@ module _ (kind : Kind) (max_nodes : ℕ) (text : List ℕ) where
 
   -- the braces of a script that is cut to its end
   abbrev Cut : (List Item → ℕ → Type 0) → ℕ → Type 0
-  Cut P place = (items : List Item) × (es : List Written) × (to : ℕ) × CutScript text kind max_nodes 0 0 items es to × IsEnd text to × P items place
+  Cut P place = (items : List Item) × (es : List WrittenExpression) × (to : ℕ) × CutScript text kind max_nodes 0 0 items es to × IsEnd text to × P items place
 
   pub brace_faults : (f : ScriptFault) → Faulty text kind max_nodes f → (f.reason ≡ StrayClose → Cut IsStray f.place) × (f.reason ≡ OpenBlock → Cut IsUnclosed f.place)
   brace_faults f (early items es to cut bad) = (λ is. absurd (subst (By f.place) is (told_early items es to f bad)), λ is. absurd (subst (By f.place) is (told_early items es to f bad)))

@@ -6,7 +6,7 @@ use Rattle.sedscript.specs.declared.types.Action.{Action}
 use Rattle.sedscript.specs.declared.types.Action.TheVariants.{Append, AppendNext, Delete, DeleteFirst, NextLine, PrintFirst, Quit, ReadFile}
 use Rattle.sedengine.specs.State.{Setting}
 use Rattle.sedengine.specs.Select.{selects}
-use Rattle.sedengine.specs.Move.{after, move, start, to_sink, written}
+use Rattle.sedengine.specs.Move.{after, next_move, start, to_sink, written}
 
 -- a command for all lines, and one for the first
 abbrev all_lines : Action → Command
@@ -34,25 +34,25 @@ writes commands t = written (runs commands) (start commands ((49 ∷ []) ∷ (50
 
 -- `N` writes 1 and 2; on the last line it ends the run without writing
 example_append_next : writes (all_lines AppendNext ∷ []) 16 ≡ to_sink 0 (49 ∷ 10 ∷ 50 ∷ 10 ∷ [])
-unfolding written after move selects
+unfolding written after next_move selects
 example_append_next = refl
 
 -- `n;d` writes 1 and 3
 example_next_line : writes (all_lines NextLine ∷ all_lines Delete ∷ []) 20 ≡ to_sink 0 (49 ∷ 10 ∷ 51 ∷ 10 ∷ [])
-unfolding written after move selects
+unfolding written after next_move selects
 example_next_line = refl
 
 -- `1a X` and `1q`: 1, and then X
 example_queue : writes (first_line (Append 0) ∷ first_line Quit ∷ []) 8 ≡ to_sink 0 (49 ∷ 10 ∷ 88 ∷ 10 ∷ [])
-unfolding written after move selects
+unfolding written after next_move selects
 example_queue = refl
 
 -- `1r f` and `1q`: 1, and then F without a newline
 example_file : writes (first_line (ReadFile 0) ∷ first_line Quit ∷ []) 9 ≡ to_sink 0 (49 ∷ 10 ∷ 70 ∷ [])
-unfolding written after move selects
+unfolding written after next_move selects
 example_file = refl
 
 -- `N;P;D` writes 1 and 2, each once
 example_delete_first : writes (all_lines AppendNext ∷ all_lines PrintFirst ∷ all_lines DeleteFirst ∷ []) 18 ≡ to_sink 0 (49 ∷ 10 ∷ 50 ∷ 10 ∷ [])
-unfolding written after move selects
+unfolding written after next_move selects
 example_delete_first = refl

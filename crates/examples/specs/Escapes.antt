@@ -3,7 +3,7 @@
 use Rattle.std.specs.Prelude.{◌≡◌, ◌≤◌, ◌<◌, ℕ, ◌+◌, ◌-◌, List, Option, Some, None, slice_get}
 use Rattle.std.specs.Prelude.{if◌then◌else◌, ◌==◌, ◌&&◌, ◌||◌, not, Bool, Ok}
 use Rattle.sedre.specs.declared.types.Kind.{Kind}
-use Rattle.sedre.specs.Written.{Written}
+use Rattle.sedre.specs.Written.{WrittenExpression}
 use Rattle.sedscript.specs.declared.types.ScriptFault.{ScriptFault}
 use Rattle.sedscript.specs.declared.types.Reason.{Reason}
 use Rattle.sedscript.specs.declared.types.Reason.TheVariants.{BadEscape, GroupAbsent}
@@ -60,7 +60,7 @@ IsSubstitute text at s =
 abbrev pub HasGroups : Kind → ℕ → List ℕ → Strings → Option ℕ → Type 0
 HasGroups kind max_nodes text s None = s.middle ≡ s.from
 HasGroups kind max_nodes text s (Some groups) =
-    (folded : Bool) × (e : Written)
+    (folded : Bool) × (e : WrittenExpression)
     × IsRead text kind max_nodes
     (record { from = s.from; to = s.middle; delimiter = s.delimiter; folded = folded })
     e

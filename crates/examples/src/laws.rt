@@ -2,7 +2,7 @@
 
 ghost use Rattle.std.specs.Prelude.{◌≡◌, ◌≤◌, ◌<◌, ◌⊎◌, ℕ, ◌+◌, Bool, true, false, List, ◌∷◌, ◌++◌, Option, Some, None, Ok, Err, All, length, drop, slice_get};
 ghost use Rattle.sedre.specs.declared.types.Kind.{Kind};
-ghost use Rattle.sedre.specs.Written.{Written};
+ghost use Rattle.sedre.specs.Written.{WrittenExpression};
 ghost use Rattle.sedre.specs.Sets.{set_of, matching, complement};
 ghost use Rattle.sedre.specs.Brackets.{list_at};
 ghost use Rattle.sedscript.specs.declared.bytes.Sort.TheVariants.{Blank, Name};
@@ -290,9 +290,9 @@ pub fn block_leads()
 pub fn brace_faults()
     ensures { (kind : Kind) (max_nodes : ℕ) (text : List ℕ) (f : ScriptFault) → Faulty text kind max_nodes f →
         (f.reason ≡ StrayClose →
-        (items : List Item) × (expressions : List Written) × (to : ℕ)
+        (items : List Item) × (expressions : List WrittenExpression) × (to : ℕ)
         × CutScript text kind max_nodes 0 0 items expressions to × IsEnd text to × IsStray items f.place)
         × (f.reason ≡ OpenBlock →
-        (items : List Item) × (expressions : List Written) × (to : ℕ)
+        (items : List Item) × (expressions : List WrittenExpression) × (to : ℕ)
         × CutScript text kind max_nodes 0 0 items expressions to × IsEnd text to × IsUnclosed items f.place) }
 {}

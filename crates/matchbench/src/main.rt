@@ -9,7 +9,7 @@
 #![tactic(auto)]
 
 ghost use Rattle.std.specs.Prelude.{◌≡◌, ◌<◌, ◌≤◌, ◌^◌, None, IfOk, IfSome, length};
-ghost use Rattle.sedre.specs.Written.{tree};
+ghost use Rattle.sedre.specs.Written.{expression_tree};
 ghost use Rattle.sedmatch.specs.Following.{Occurs};
 ghost use Rattle.matchbench.specs.Ready.{IsReady};
 
@@ -140,7 +140,7 @@ impl Searcher {
         requires ready { IsReady expr.now self.old }
         ensures ready { IsReady expr.now self.new }
         ensures size { self.new.size ≡ self.old.size }
-        ensures occurs { IfSome result (Occurs (tree expr.now) text.now None) }
+        ensures occurs { IfSome result (Occurs (expression_tree expr.now) text.now None) }
     {
         self.seeking.begin(0);
         let scratch = &mut self.scratch;

@@ -2,7 +2,7 @@
 use Rattle.std.proofs.Common.{◌≡◌, ◌⊎◌, inl, inr, ℕ, zero, suc, ◌+◌, ◌-◌, ◌<◌, ◌≤◌, true, List, [], ◌++◌, length, Option, None, Some, refl, sym, ap, subst, ◌∙◌, append-nil, arith}
 use Rattle.sedengine.specs.Limits.{Limits}
 use Rattle.sedengine.specs.State.{State, Move, Setting}
-use Rattle.sedengine.specs.Move.{after, move, next_or_stay, written}
+use Rattle.sedengine.specs.Move.{after, next_move, next_or_stay, written}
 use Rattle.sedengine.specs.Ends.{WithinLimits, Cause, reaches}
 use Rattle.sedengine.specs.declared.ends.Ended.{Ended}
 use Rattle.sedengine.specs.declared.ends.Ended.TheVariants.{Done, PatternFull, HoldFull, QueueFull, TurnsSpent, NoPrevious, InputBroken, OutputBroken, OutputFull}
@@ -30,21 +30,21 @@ module _ (g : Setting) (s : State) where
   pub both_ended : (n t : ℕ) → (after g s n).tasks ≡ [] → (after g s t).tasks ≡ [] → written g s t ≡ written g s n
   both_ended n t e f = elim (before_or_not t n) [ inl h ↦ sym (ended_still t n f (omega arith)) | inr h ↦ ended_still n t e h ]
 
-  next_is : (t : ℕ) (m : Move) → move g (after g s t) ≡ Some m → after g s (suc t) ≡ m.next
+  next_is : (t : ℕ) (m : Move) → next_move g (after g s t) ≡ Some m → after g s (suc t) ≡ m.next
   unfolding after
   next_is t m e = ap (next_or_stay (after g s t)) e
 
   -- a move is made before the end
-  moves_before : (n t : ℕ) (m : Move) → (after g s n).tasks ≡ [] → move g (after g s t) ≡ Some m → t < n
+  moves_before : (n t : ℕ) (m : Move) → (after g s n).tasks ≡ [] → next_move g (after g s t) ≡ Some m → t < n
   moves_before n t m e h = elim (before_or_not t n) [
     | inl less ↦ less
-    | inr more ↦ absurd (no_move (sym h ∙ ap (move g) (ended_stays n t e more) ∙ move_at g (after g s n) [] e))
+    | inr more ↦ absurd (no_move (sym h ∙ ap (next_move g) (ended_stays n t e more) ∙ move_at g (after g s n) [] e))
   ]
     where
       no_move : (◌≡◌ {A = Option Move} (Some m) None) → ⊥
       no_move e = cc
 
-  no_move_ended : (n t : ℕ) → (after g s n).tasks ≡ [] → move g (after g s t) ≡ None → (after g s t).tasks ≡ []
+  no_move_ended : (n t : ℕ) → (after g s n).tasks ≡ [] → next_move g (after g s t) ≡ None → (after g s t).tasks ≡ []
   no_move_ended n t e h = elim (before_or_not t n) [
     | inl less ↦
         let at : t + (n - t) ≡ n = omega arith in

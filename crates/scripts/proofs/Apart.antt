@@ -12,11 +12,11 @@ use Rattle.sedscript.specs.declared.substitution.Substitution.{Substitution}
 use Rattle.sedengine.specs.State.{Entry, text, file, Task, begin, rebegin, do_at, print_pattern, empty_pattern, flush, copy, fetch, join, State, Move, Setting}
 use Rattle.sedengine.specs.Substitute.{Occurrence}
 use Rattle.sedengine.specs.Select.{Selection, selects, stands_for}
-use Rattle.sedengine.specs.Move.{acts, after, begins, copies, first_task, flushes, is_active, move, next_or_stay, passes, performs, reach, replaces, substitutes, start, to_replace_in, writes_of, written, quietly}
+use Rattle.sedengine.specs.Move.{acts, after, begins, copies, first_task, flushes, is_active, next_move, next_or_stay, passes, performs, reach, replaces, substitutes, start, to_replace_in, writes_of, written, quietly}
 use Rattle.sedengine.proofs.Moves.{move_at, written_none}
 use Rattle.examples.proofs.ComputedRun.{after_first as after_next, written_first as written_next, stays_still}
 use Rattle.examples.proofs.ComputedEnds.{both}
-use Rattle.sededit.specs.Editing.{Ends}
+use Rattle.sededit.specs.Editing.{IsOutput}
 use Rattle.scripts.specs.Alone.{asks_text, has_expression, stays_in_line, looks_at_line}
 use Rattle.scripts.proofs.Cycles.{Goes, goes_one, goes_on, ends_on}
 
@@ -214,7 +214,7 @@ alone_at g (c ∷ cs) h zero = (both (looks_at_line g.substitutions c) (list_all
 alone_at g (c ∷ cs) h (suc k) = alone_at g cs (both (looks_at_line g.substitutions c) (list_all (looks_at_line g.substitutions) cs) h).1 k
 
 -- where no line is left, a run ends at the beginning of a cycle
-ends_at : (g : Setting) (s : State) → s.tasks ≡ begin ∷ [] → s.lines ≡ [] → Ends g s []
+ends_at : (g : Setting) (s : State) → s.tasks ≡ begin ∷ [] → s.lines ≡ [] → IsOutput g s []
 unfolding after written
 ends_at g s e none =
     let ends = move_at g s (begin ∷ []) e ∙ ap (begins s) none in
@@ -222,7 +222,7 @@ ends_at g s e none =
 
 -- the state begins a cycle, and no line is left; or both move
 abbrev Steps : List (List ℕ) → Setting → State → State → Type 0
-Steps more g s t = ((s.tasks ≡ begin ∷ []) × (s.lines ≡ [])) ⊎ Both more (move g s) (move g t)
+Steps more g s t = ((s.tasks ≡ begin ∷ []) × (s.lines ≡ [])) ⊎ Both more (next_move g s) (next_move g t)
 
 same_fields : (ls ls' : List (List ℕ)) (p p' : List ℕ) (r r' : Bool) (q q' : List Entry) (ts ts' : List Task) (n : ℕ) (h : List ℕ) (ra : List Bool) (u : Option ℕ) (tu : ℕ) → ls ≡ ls' → p ≡ p' → r ≡ r' → q ≡ q' → ts ≡ ts' →
     state ls n p h r q ra u ts tu ≡ state ls' n p' h r' q' ra u ts' tu
@@ -240,19 +240,19 @@ module _ (g : Setting) (alone : AllAlone g) (more : List (List ℕ)) where
   begins_both : (ls : List (List ℕ)) (s t : State) → s.lines ≡ ls → Alike more s t → s.tasks ≡ begin ∷ [] → Steps more g s t
   begins_both [] s t e a b = inl (b, e)
   begins_both (line ∷ rest) s t e a b =
-      let here : move g s ≡ begins s (line ∷ rest) = move_at g s (begin ∷ []) b ∙ ap (begins s) e in
-      let there : move g t ≡ begins t (line ∷ rest ++ more) = move_at g t (begin ∷ []) (a.tasks ∙ b) ∙ ap (begins t) (a.lines ∙ ap (λ ls. ls ++ more) e) in
+      let here : next_move g s ≡ begins s (line ∷ rest) = move_at g s (begin ∷ []) b ∙ ap (begins s) e in
+      let there : next_move g t ≡ begins t (line ∷ rest ++ more) = move_at g t (begin ∷ []) (a.tasks ∙ b) ∙ ap (begins t) (a.lines ∙ ap (λ ls. ls ++ more) e) in
       let both : Both more (begins s (line ∷ rest)) (begins t (line ∷ rest ++ more)) = (refl, record { lines = refl; queue = a.queue; tasks = refl; clean = refl; same = (refl, refl) }) in
-      inr (subst (λ x. Both more x (move g t)) (sym here) (subst (λ y. Both more (begins s (line ∷ rest)) y) (sym there) both))
+      inr (subst (λ x. Both more x (next_move g t)) (sym here) (subst (λ y. Both more (begins s (line ∷ rest)) y) (sym there) both))
 
-  goes_both : (s t : State) → Alike more s t → (task : Task) (rest : List Task) → s.tasks ≡ task ∷ rest → GoesOn task → Both more (move g s) (move g t)
-  unfolding move
+  goes_both : (s t : State) → Alike more s t → (task : Task) (rest : List Task) → s.tasks ≡ task ∷ rest → GoesOn task → Both more (next_move g s) (next_move g t)
+  unfolding next_move
   goes_both s t a task rest e on =
       let texts = text_same task rest s t on (subst (λ ts. SameText ts s t) e a.same) in
       let here = same_state s s.lines s.pattern s.replaced s.queue (task ∷ rest) refl refl refl refl e in
       let there = same_state t (s.lines ++ more) s.pattern s.replaced s.queue (task ∷ rest) a.lines texts.0 texts.1 a.queue (a.tasks ∙ e) in
       let both = task_both g more s.lines s.number t.number s.pattern s.hold t.hold s.replaced s.queue s.ranges t.ranges s.used t.used s.turns t.turns (alone_at g g.commands alone) task rest on (subst (λ ts. Clean ts s.queue) e a.clean) in
-      subst (λ (x : State). Both more (move g x) (move g t)) (sym here) (subst (λ (y : State). Both more (move g (record s { tasks = task ∷ rest })) (move g y)) (sym there) both)
+      subst (λ (x : State). Both more (next_move g x) (next_move g t)) (sym here) (subst (λ (y : State). Both more (next_move g (record s { tasks = task ∷ rest })) (next_move g y)) (sym there) both)
 
   steps_by : (s t : State) → Alike more s t → (ts : List Task) → s.tasks ≡ ts → Steps more g s t
   steps_by s t a [] e = absurd (subst (λ ts. Clean ts s.queue) e a.clean)
@@ -275,7 +275,7 @@ module _ (g : Setting) (alone : AllAlone g) (more : List (List ℕ)) where
   not_ended : (s t : State) → Alike more s t → s.tasks ≡ [] → ⊥
   not_ended s t a e = subst (λ ts. Clean ts s.queue) e a.clean
 
-  parts_after : (n : ℕ) (s t : State) (o o' : Option Move) → move g s ≡ o → move g t ≡ o' → Both more o o' →
+  parts_after : (n : ℕ) (s t : State) (o o' : Option Move) → next_move g s ≡ o → next_move g t ≡ o' → Both more o o' →
       ((s t : State) → Alike more s t → (after g s n).tasks ≡ [] → Apart t (written g s n)) → (after g s (suc n)).tasks ≡ [] → Apart t (written g s (suc n))
   parts_after n s t None o' here there both on e = absurd both
   parts_after n s t (Some m) None here there both on e = absurd both
@@ -293,7 +293,7 @@ module _ (g : Setting) (alone : AllAlone g) (more : List (List ℕ)) where
   parts zero s t a e = absurd (not_ended s t a e)
   parts (suc n) s t a e = elim (steps_by s t a s.tasks refl) [
     | inl h ↦ (t, record { moves = 0; is = refl; wrote = written_none g t ∙ sym (nothing_more s (suc n) h.0 h.1) }, a.tasks ∙ h.0, a.lines ∙ ap (λ ls. ls ++ more) h.1, a.queue ∙ begins_clean s h.0 a.clean)
-    | inr both ↦ parts_after n s t (move g s) (move g t) refl refl both (parts n) e
+    | inr both ↦ parts_after n s t (next_move g s) (next_move g t) refl refl both (parts n) e
   ]
     where
       begins_clean : (s : State) → s.tasks ≡ begin ∷ [] → Clean s.tasks s.queue → s.queue ≡ []
@@ -301,9 +301,9 @@ module _ (g : Setting) (alone : AllAlone g) (more : List (List ℕ)) where
 
 -- The run over some lines and the run over others, one after the other, are the run over all of them.
 pub one_after_other : (g : Setting) → AllAlone g → (commands : List Command) (first second : List (List ℕ)) (x y : List (ℕ × ℕ)) →
-    Ends g (start commands first) x → Ends g (start commands second) y → Ends g (start commands (first ++ second)) (x ++ y)
+    IsOutput g (start commands first) x → IsOutput g (start commands second) y → IsOutput g (start commands (first ++ second)) (x ++ y)
 one_after_other g alone commands first second x y a b =
     let one = parts g alone second a.moves (start commands first) (start commands (first ++ second)) (record { lines = refl; queue = refl; tasks = refl; clean = (refl, refl); same = tt }) a.ended in
     let two = parts g alone [] b.moves (start commands second) one.0 (record { lines = one.3 ∙ sym (append-nil second); queue = one.4; tasks = one.2; clean = (refl, refl); same = tt }) b.ended in
-    let last : Ends g two.0 [] = ends_at g two.0 two.2 two.3 in
-    subst (Ends g (start commands (first ++ second))) (ap₂ (λ v w. v ++ w) a.wrote (append-nil (written g (start commands second) b.moves) ∙ b.wrote)) (ends_on one.1 (ends_on two.1 last))
+    let last : IsOutput g two.0 [] = ends_at g two.0 two.2 two.3 in
+    subst (IsOutput g (start commands (first ++ second))) (ap₂ (λ v w. v ++ w) a.wrote (append-nil (written g (start commands second) b.moves) ∙ b.wrote)) (ends_on one.1 (ends_on two.1 last))

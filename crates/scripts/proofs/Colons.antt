@@ -3,7 +3,7 @@ use Rattle.std.proofs.Common.{◌≡◌, ℕ, zero, suc, ◌+◌, ◌&&◌, ◌|
 use Rattle.std.specs.Option.{option_len}
 use Rattle.std.proofs.lemmas.Bool.Decides.{nat_tests}
 use Rattle.sedre.specs.declared.types.Kind.{Kind}
-use Rattle.sedre.specs.Written.{Written}
+use Rattle.sedre.specs.Written.{WrittenExpression}
 use Rattle.sedscript.specs.declared.bytes.Sort.TheVariants.{Blank, Name, Separator}
 use Rattle.sedscript.specs.declared.types.ScriptFault.{ScriptFault}
 use Rattle.sedscript.specs.declared.items.Addresses.{Addresses}
@@ -71,7 +71,7 @@ readings_any (plainly (Ok x)) = tt
 readings_any (plainly (Err f)) = tt
 readings_any (expression p k) = λ groups. readings_any (k groups)
 
-gives_so : {A : Type 0} (P : A → Type 0) (text : List ℕ) (kind : Kind) (m : ℕ) (r : Reading A) (es : List Written) (x : A) → Gives text kind m r es x → Readings P r → P x
+gives_so : {A : Type 0} (P : A → Type 0) (text : List ℕ) (kind : Kind) (m : ℕ) (r : Reading A) (es : List WrittenExpression) (x : A) → Gives text kind m r es x → Readings P r → P x
 gives_so P text kind m _ _ x value h = h
 gives_so P text kind m _ _ x (after_expression {k = k} {es = es} e is g) h = gives_so P text kind m (k e.groups) es x g (h e.groups)
 
@@ -191,7 +191,7 @@ item_colon text count at = by_byte (slice_get text (past Separator text at))
         (λ h any. function_colon text h.count (with_bang text h).at (with_bang text h).addresses)
 
 -- the items of a cut, and the label of a name among them
-label_colon : (text : List ℕ) (kind : Kind) (m count at to : ℕ) (is : List Item) (es : List Written) (name : List ℕ) (n k : ℕ) → CutScript text kind m count at is es to → label_in text name n is ≡ Some k → (place : ℕ) × (slice_get text place ≡ Some 58)
+label_colon : (text : List ℕ) (kind : Kind) (m count at to : ℕ) (is : List Item) (es : List WrittenExpression) (name : List ℕ) (n k : ℕ) → CutScript text kind m count at is es to → label_in text name n is ≡ Some k → (place : ℕ) × (slice_get text place ≡ Some 58)
 label_colon text kind m count at to _ _ name n k done e = absurd cc
 label_colon text kind m count at to _ _ name n k (item {next = next} {i = i} {is = is} es fs given rest) e =
     by_function i.function (gives_so (ColonHere text) text kind m (item_at text count at) es (Is i next) given (item_colon text count at)) e (λ e. label_colon text kind m (count + length es) next to is fs name (counted n i) k rest e)

@@ -3,12 +3,12 @@ use Rattle.std.proofs.Common.{◌≡◌, inl, inr, ℕ, ◌<◌, Bool, true, fal
 use Rattle.std.specs.List.{slice_split, onto_first}
 use Rattle.std.proofs.lemmas.List.Splits.{slice_split-cons_yes, slice_split-cons_no, length-slice_split}
 use Rattle.sedscript.specs.Program.{Program}
-use Rattle.sedspace.specs.Lines.{lines, is_newline, without_empty_last}
+use Rattle.sedspace.specs.Lines.{lines, is_newline, without_empty_last, AreWholeLines}
 use Rattle.sedspace.proofs.LineLemmas.{lines_nil, lines_none}
 use Rattle.sedengine.specs.Move.{start}
 use Rattle.sedengine.specs.ScriptSetting.{setting_of}
-use Rattle.scripts.specs.Alone.{EachLooksAtLine, EndsLine}
-use Rattle.sededit.specs.Editing.{Ends}
+use Rattle.scripts.specs.Alone.{EachLooksAtLine}
+use Rattle.sededit.specs.Editing.{IsOutput}
 use Rattle.scripts.specs.Edited.{RunsTo}
 use Rattle.scripts.proofs.Apart.{one_after_other}
 
@@ -64,11 +64,11 @@ lines_behind (x ∷ front) behind = by_test (is_newline x) refl (lines_behind fr
         lines_no x (front ++ 10 ∷ behind) e ∙ ap (onto_first x) rest ∙ onto-append x (lines (front ++ 10 ∷ [])) (lines behind) (some_lines front [])
         ∙ sym (ap (λ ls. ls ++ lines behind) (lines_no x (front ++ 10 ∷ []) e))
 
-pub lines_apart : (a b : List ℕ) → EndsLine a → lines (a ++ b) ≡ lines a ++ lines b
+pub lines_apart : (a b : List ℕ) → AreWholeLines a → lines (a ++ b) ≡ lines a ++ lines b
 lines_apart a b (inl e) = rw e (sym (ap (λ ls. ls ++ lines b) lines_nil))
 lines_apart a b (inr h) = rw h.1 (ap lines (append_assoc h.0 (10 ∷ []) b) ∙ lines_behind h.0 b)
 
-pub apart_law : (p : Program) (files : ℕ → List ℕ) (a b : List ℕ) (x y : List (ℕ × ℕ)) → EachLooksAtLine p → EndsLine a → RunsTo p files a x → RunsTo p files b y → RunsTo p files (a ++ b) (x ++ y)
+pub apart_law : (p : Program) (files : ℕ → List ℕ) (a b : List ℕ) (x y : List (ℕ × ℕ)) → EachLooksAtLine p → AreWholeLines a → RunsTo p files a x → RunsTo p files b y → RunsTo p files (a ++ b) (x ++ y)
 apart_law p files a b x y alone ends first second =
-    subst (λ ls. Ends (setting_of p files) (start p.commands ls) (x ++ y)) (sym (lines_apart a b ends))
+    subst (λ ls. IsOutput (setting_of p files) (start p.commands ls) (x ++ y)) (sym (lines_apart a b ends))
     (one_after_other (setting_of p files) alone p.commands (lines a) (lines b) x y first second)

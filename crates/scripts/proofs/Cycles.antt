@@ -2,10 +2,10 @@
 use Rattle.std.proofs.Common.{◌≡◌, ℕ, ◌+◌, List, [], ◌∷◌, ◌++◌, Bool, false, Option, refl, sym, ap, ap₂, subst, ◌∙◌, append_assoc, append-nil}
 use Rattle.std.specs.Prelude.{slice_get, if◌then◌else◌, None}
 use Rattle.sedengine.specs.State.{begin, do_at, flush, State, Setting}
-use Rattle.sedengine.specs.Move.{move, after, at_end, written, newline, next_or_stay, to_sink, line_to, writes_of, writing}
+use Rattle.sedengine.specs.Move.{next_move, after, at_end, written, newline, next_or_stay, to_sink, line_to, writes_of, writing}
 use Rattle.sedengine.proofs.Moves.{after-add, written-add}
 use Rattle.sedengine.proofs.Gains.{to_sink-append}
-use Rattle.sededit.specs.Editing.{Ends}
+use Rattle.sededit.specs.Editing.{IsOutput}
 use Rattle.scripts.specs.Edited.{text_of}
 
 -- moves lead from a state to another one, and write this
@@ -15,7 +15,7 @@ pub record Goes (g : Setting) (s now : State) (out : List (ℕ × ℕ)) : Type 0
   pub wrote : written g s moves ≡ out
 
 -- one move
-pub goes_one : {g : Setting} {s next : State} {out : List (ℕ × ℕ)} → move g s ≡ writing out next → Goes g s next out
+pub goes_one : {g : Setting} {s next : State} {out : List (ℕ × ℕ)} → next_move g s ≡ writing out next → Goes g s next out
 unfolding after written
 goes_one {s = s} h = record { moves = 1; is = ap (next_or_stay s) h; wrote = ap writes_of h }
 
@@ -25,9 +25,9 @@ module _ {g : Setting} where
       let c = subst (λ (x : State). Goes g x now more) (sym a.is) b in
       record { moves = a.moves + c.moves; is = after-add g s a.moves c.moves ∙ c.is; wrote = written-add g s a.moves c.moves ∙ ap₂ (λ x y. x ++ y) a.wrote c.wrote }
 
-  pub ends_on : {s mid : State} {out more : List (ℕ × ℕ)} → Goes g s mid out → Ends g mid more → Ends g s (out ++ more)
+  pub ends_on : {s mid : State} {out more : List (ℕ × ℕ)} → Goes g s mid out → IsOutput g mid more → IsOutput g s (out ++ more)
   ends_on {s = s} {more = more} a b =
-      let c = subst (λ (x : State). Ends g x more) (sym a.is) b in
+      let c = subst (λ (x : State). IsOutput g x more) (sym a.is) b in
       record { moves = a.moves + c.moves; ended = ap (λ (x : State). x.tasks) (after-add g s a.moves c.moves) ∙ c.ended; wrote = written-add g s a.moves c.moves ∙ ap₂ (λ x y. x ++ y) a.wrote c.wrote }
 
 -- a state between two cycles
@@ -57,18 +57,18 @@ printed quiet pattern = if quiet then [] else line_to 0 pattern
 -- a cycle begins with a line
 pub begins_line : (g : Setting) (line : List ℕ) (lines : List (List ℕ)) (number : ℕ) (hold : List ℕ) (replaced : Bool) (ranges : List Bool) (used : Option ℕ) (turns : ℕ) →
     Goes g (between (line ∷ lines) number hold replaced ranges used turns) (within lines (number + 1) line hold false ranges used 0 (turns + 1)) []
-unfolding move after written
+unfolding next_move after written
 begins_line g line lines number hold replaced ranges used turns = record { moves = 1; is = refl; wrote = refl }
 
 -- it ends behind the last command, or with `d`
 script_ends : (g : Setting) (lines : List (List ℕ)) (number : ℕ) (pattern hold : List ℕ) (replaced : Bool) (ranges : List Bool) (used : Option ℕ) (k turns : ℕ) → slice_get g.commands k ≡ None →
     Goes g (within lines number pattern hold replaced ranges used k turns) (record (within lines number pattern hold replaced ranges used k turns) { tasks = at_end }) []
-unfolding move
+unfolding next_move
 script_ends g lines number pattern hold replaced ranges used k turns e = goes_one (rw e refl)
 
 line_ends : (g : Setting) (lines : List (List ℕ)) (number : ℕ) (pattern hold : List ℕ) (replaced : Bool) (ranges : List Bool) (used : Option ℕ) (k turns : ℕ) →
     Goes g (record (within lines number pattern hold replaced ranges used k turns) { tasks = at_end }) (between lines number hold replaced ranges used turns) (printed g.quiet pattern)
-unfolding move after written
+unfolding next_move after written
 line_ends g lines number pattern hold replaced ranges used k turns = record { moves = 3; is = refl; wrote = simp append-nil refl }
 
 pub ends_line : (g : Setting) (lines : List (List ℕ)) (number : ℕ) (pattern hold : List ℕ) (replaced : Bool) (ranges : List Bool) (used : Option ℕ) (k turns : ℕ) → slice_get g.commands k ≡ None →
@@ -81,13 +81,13 @@ deleted lines number hold replaced ranges used turns = record (between lines num
 
 pub deletes_line : (g : Setting) (lines : List (List ℕ)) (number : ℕ) (hold : List ℕ) (replaced : Bool) (ranges : List Bool) (used : Option ℕ) (turns : ℕ) →
     Goes g (deleted lines number hold replaced ranges used turns) (between lines number hold replaced ranges used turns) []
-unfolding move
+unfolding next_move
 deletes_line g lines number hold replaced ranges used turns = goes_one refl
 
 -- where no line is left the run ends there
 pub ends_there : (g : Setting) (number : ℕ) (hold : List ℕ) (replaced : Bool) (ranges : List Bool) (used : Option ℕ) (turns : ℕ) →
-    Ends g (between [] number hold replaced ranges used turns) []
-unfolding move after written
+    IsOutput g (between [] number hold replaced ranges used turns) []
+unfolding next_move after written
 ends_there g number hold replaced ranges used turns = record { moves = 1; ended = refl; wrote = refl }
 
 -- a line is written before others
@@ -105,11 +105,11 @@ texts_first a b = sym (to_sink-append 0 (text_of a) (text_of b)) ∙ ap (to_sink
 -- is what is written of lines after so many.
 pub each_line : {X : Type 0} (g : Setting) (at : List (List ℕ) → ℕ → X → State) (out : ℕ → List (List ℕ) → List (List ℕ)) (f : ℕ → List ℕ → List (List ℕ) → List (List ℕ)) →
     ((number : ℕ) → out number [] ≡ []) → ((number : ℕ) (line : List ℕ) (rest : List (List ℕ)) → out number (line ∷ rest) ≡ f number line rest ++ out (number + 1) rest) →
-    ((number : ℕ) (x : X) → Ends g (at [] number x) []) →
+    ((number : ℕ) (x : X) → IsOutput g (at [] number x) []) →
     ((number : ℕ) (line : List ℕ) (rest : List (List ℕ)) (x : X) → (y : X) × Goes g (at (line ∷ rest) number x) (at rest (number + 1) y) (to_sink 0 (text_of (f number line rest)))) →
-    (lines : List (List ℕ)) (number : ℕ) (x : X) → Ends g (at lines number x) (to_sink 0 (text_of (out number lines)))
-each_line g at out f none one last cycle [] number x = subst (λ (ls : List (List ℕ)). Ends g (at [] number x) (to_sink 0 (text_of ls))) (sym (none number)) (last number x)
+    (lines : List (List ℕ)) (number : ℕ) (x : X) → IsOutput g (at lines number x) (to_sink 0 (text_of (out number lines)))
+each_line g at out f none one last cycle [] number x = subst (λ (ls : List (List ℕ)). IsOutput g (at [] number x) (to_sink 0 (text_of ls))) (sym (none number)) (last number x)
 each_line g at out f none one last cycle (line ∷ rest) number x =
     let first = cycle number line rest x in
     let all = ends_on first.1 (each_line g at out f none one last cycle rest (number + 1) first.0) in
-    subst (λ (bytes : List (ℕ × ℕ)). Ends g (at (line ∷ rest) number x) bytes) (texts_first (f number line rest) (out (number + 1) rest) ∙ ap (λ ls. to_sink 0 (text_of ls)) (sym (one number line rest))) all
+    subst (λ (bytes : List (ℕ × ℕ)). IsOutput g (at (line ∷ rest) number x) bytes) (texts_first (f number line rest) (out (number + 1) rest) ∙ ap (λ ls. to_sink 0 (text_of ls)) (sym (one number line rest))) all

@@ -6,7 +6,7 @@ use Rattle.sedscript.specs.declared.types.Command.{Command}
 use Rattle.sedengine.specs.State.{Task, do_at, State, Setting}
 use Rattle.sedengine.specs.Move.{after, none_left, written}
 use Rattle.sedengine.proofs.Moves.{after-add, written-add}
-use Rattle.sededit.specs.Editing.{Ends}
+use Rattle.sededit.specs.Editing.{IsOutput}
 use Rattle.scripts.proofs.Ample.{before_or_not, ended_stays}
 use Rattle.scripts.proofs.Cycles.{Goes, goes_on}
 use Rattle.examples.proofs.ComputedRun.{after_first as after_next}
@@ -15,13 +15,13 @@ use Rattle.scripts.proofs.Edits.{Edit, Test, block, delete, change, effect, IsEd
 -- a run goes on from a state that its moves come to
 pub record EndsThen (g : Setting) (now : State) (before out : List (ℕ × ℕ)) : Type 0 where
   pub more : List (ℕ × ℕ)
-  pub ends : Ends g now more
+  pub ends : IsOutput g now more
   pub all : out ≡ before ++ more
 
 some_task : (task : Task) (rest : List Task) → (◌≡◌ {A = List Task} (task ∷ rest) []) → ⊥
 some_task task rest e = cc
 
-pub ends_then : {g : Setting} {s now : State} {before out : List (ℕ × ℕ)} (task : Task) (rest : List Task) → Goes g s now before → now.tasks ≡ task ∷ rest → Ends g s out → EndsThen g now before out
+pub ends_then : {g : Setting} {s now : State} {before out : List (ℕ × ℕ)} (task : Task) (rest : List Task) → Goes g s now before → now.tasks ≡ task ∷ rest → IsOutput g s out → EndsThen g now before out
 ends_then {g = g} {s = s} {now = now} {before = before} {out = out} task rest goes has ends = elim (before_or_not g s ends.moves goes.moves) [
   | inl less ↦
       absurd (some_task task rest (sym has ∙ ap (λ (x : State). x.tasks) (sym goes.is ∙ ended_stays g s ends.moves goes.moves ends.ended (omega arith)) ∙ ends.ended))
@@ -87,7 +87,7 @@ GoodResult Good None = Unit {0}
 GoodResult Good (Some w) = Good w
 
 -- the ranges of a script's commands are active as they are in another one at their places
-pub record Matches (to : ℕ → ℕ) (count : ℕ) (ra ra' : List Bool) : Type 0 where
+pub record RangesAgree (to : ℕ → ℕ) (count : ℕ) (ra ra' : List Bool) : Type 0 where
   pub here : (k : ℕ) → k < count → k < length ra
   pub there : (k : ℕ) → k < count → to k < length ra'
   pub same : (k : ℕ) → k < count → slice_index_or ra' (to k) false ≡ slice_index_or ra k false
@@ -97,7 +97,7 @@ pub record Keeps (to : ℕ → ℕ) (count : ℕ) (old new : List Bool) : Type 0
   pub long : length new ≡ length old
   pub others : (j : ℕ) → ((k : ℕ) → k < count → j ≢ to k) → slice_index_or new j false ≡ slice_index_or old j false
 
-pub keeps_matches : (to to' : ℕ → ℕ) (count count' : ℕ) (ra old new : List Bool) → Matches to count ra old → Keeps to' count' old new → ((k j : ℕ) → k < count → j < count' → to k ≢ to' j) → Matches to count ra new
+pub keeps_matches : (to to' : ℕ → ℕ) (count count' : ℕ) (ra old new : List Bool) → RangesAgree to count ra old → Keeps to' count' old new → ((k j : ℕ) → k < count → j < count' → to k ≢ to' j) → RangesAgree to count ra new
 keeps_matches to to' count count' ra old new m keeps apart = record {
   here = m.here;
   there = λ k less. let old_there = m.there k less in omega (arith, old_there, keeps.long);
@@ -116,7 +116,7 @@ same_or_other zero (suc m) = inr (λ e. omega (arith, e))
 same_or_other (suc n) zero = inr (λ e. omega (arith, e))
 same_or_other (suc n) (suc m) = elim (same_or_other n m) [ inl e ↦ inl (ap suc e) | inr other ↦ inr (λ e. other (omega (arith, e))) ]
 
-matches_set : (to : ℕ → ℕ) (apart : (i j : ℕ) → to i ≡ to j → i ≡ j) (count : ℕ) (ra ra' : List Bool) (k : ℕ) (v : Bool) → k < count → Matches to count ra ra' → Matches to count (slice_set ra k v) (slice_set ra' (to k) v)
+matches_set : (to : ℕ → ℕ) (apart : (i j : ℕ) → to i ≡ to j → i ≡ j) (count : ℕ) (ra ra' : List Bool) (k : ℕ) (v : Bool) → k < count → RangesAgree to count ra ra' → RangesAgree to count (slice_set ra k v) (slice_set ra' (to k) v)
 matches_set to apart count ra ra' k v less m = record {
   here = λ j low. let old = m.here j low in omega (arith, old, length-set ra k v);
   there = λ j low. let old = m.there j low in omega (arith, old, length-set ra' (to k) v);
@@ -135,7 +135,7 @@ keeps_set to count ra' k v less = record { long = length-set ra' (to k) v; other
 -- the run of another script does the same
 pub record Follows (g' : Setting) (m : ℕ) (rest : List (List ℕ)) (to : ℕ → ℕ) (count : ℕ) (ranges old : List Bool) (e : Option (ℕ × List ℕ)) (t : State) : Type 0 where
   pub after : List Bool
-  pub matches : Matches to count ranges after
+  pub matches : RangesAgree to count ranges after
   pub keeps : Keeps to count old after
   pub leads : Leads g' m rest after e t
 
@@ -145,7 +145,7 @@ pub record Cycle (Alike : AreAlike) (g g' : Setting) (count : ℕ) (to : ℕ →
   pub good : GoodResult Good result
   pub ranges : List Bool
   pub here : Leads g n ls ranges (result_at count result) s
-  pub there : (m : ℕ) (rest : List (List ℕ)) (ra' : List Bool) (t : State) → Alike n ls m rest → Matches to count ra ra' → Within m rest ra' (to k) w t →
+  pub there : (m : ℕ) (rest : List (List ℕ)) (ra' : List Bool) (t : State) → Alike n ls m rest → RangesAgree to count ra ra' → Within m rest ra' (to k) w t →
       Follows g' m rest to count ranges ra' (result_at (to count) result) t
 
 leads_on : (g : Setting) (s now : State) (n : ℕ) (ls : List (List ℕ)) (ra : List Bool) (e : Option (ℕ × List ℕ)) → Goes g s now [] → Leads g n ls ra e now → Leads g n ls ra e s
@@ -194,7 +194,7 @@ module _ (Alike : AreAlike) (g g' : Setting) (count : ℕ) (to : ℕ → ℕ) (n
 
   -- by the effect of the first command
   by_effect : (i : ℕ) → CycleWithin i → (n : ℕ) (ls : List (List ℕ)) (ra now : List Bool) (k : ℕ) (w : List ℕ) (s : State) (e : Option (ℕ × List ℕ)) → FitsEffect count Good e → LeadsOne g n ls now e s → (after g s (suc i)).tasks ≡ [] →
-      ((m : ℕ) (rest : List (List ℕ)) (ra' : List Bool) (t : State) → Alike n ls m rest → Matches to count ra ra' → Within m rest ra' (to k) w t → Follows g' m rest to count now ra' (placed_effect to e) t) →
+      ((m : ℕ) (rest : List (List ℕ)) (ra' : List Bool) (t : State) → Alike n ls m rest → RangesAgree to count ra ra' → Within m rest ra' (to k) w t → Follows g' m rest to count now ra' (placed_effect to e) t) →
       Cycle Alike g g' count to Good n ls ra k w s
   by_effect i more n ls ra now k w s None fits here ended there = record { result = None; good = tt; ranges = now; here = one_leads g n ls now None s here; there = there }
   by_effect i more n ls ra now k w s (Some next) fits here ended there =
@@ -220,7 +220,7 @@ module _ (Alike : AreAlike) (g g' : Setting) (count : ℕ) (to : ℕ → ℕ) (n
 
   -- the other run at such a command
   follows : (n : ℕ) (ls : List (List ℕ)) (ra : List Bool) (k : ℕ) (w : List ℕ) (less : k < count) (choice : Bool × Bool) → (each k less).on (slice_index_or ra k false) n (none_left ls) w ≡ choice →
-      (m : ℕ) (rest : List (List ℕ)) (ra' : List Bool) (t : State) → Alike n ls m rest → Matches to count ra ra' → Within m rest ra' (to k) w t →
+      (m : ℕ) (rest : List (List ℕ)) (ra' : List Bool) (t : State) → Alike n ls m rest → RangesAgree to count ra ra' → Within m rest ra' (to k) w t →
       Follows g' m rest to count (slice_set ra k choice.1) ra' (placed_effect to (effect choice.0 (each k less).edit k w)) t
   follows n ls ra k w less choice is m rest ra' t alike matches at =
       let b = each k less in

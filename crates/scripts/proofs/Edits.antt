@@ -8,7 +8,7 @@ use Rattle.sedscript.specs.declared.substitution.Substitution.{Substitution}
 use Rattle.sedengine.specs.State.{State, Move, Setting}
 use Rattle.sedengine.specs.Substitute.{Occurrence, replaced_from}
 use Rattle.sedengine.specs.Select.{Selection, selects, stands_for}
-use Rattle.sedengine.specs.Move.{acts, in_table, none_left, tells_at, move, passes, performs, reach, replaces, substitutes, to_replace_in, writing}
+use Rattle.sedengine.specs.Move.{acts, in_table, none_left, tells_at, next_move, passes, performs, reach, replaces, substitutes, to_replace_in, writing}
 use Rattle.scripts.proofs.Cycles.{Goes, goes_one, between, within, deleted}
 
 -- what a command does to the line: a block that ends before a command, `d`, or another text
@@ -96,7 +96,7 @@ Leads g n ls ranges e s = (now : State) × Goes g s now [] × Comes n ls ranges 
 
 -- it does so by one move
 abbrev pub LeadsOne : Setting → ℕ → List (List ℕ) → List Bool → Option (ℕ × List ℕ) → State → Type 0
-LeadsOne g n ls ranges e s = (m : Move) × (move g s ≡ Some m) × (m.writes ≡ []) × Comes n ls ranges e m.next
+LeadsOne g n ls ranges e s = (m : Move) × (next_move g s ≡ Some m) × (m.writes ≡ []) × Comes n ls ranges e m.next
 
 pub one_goes : (g : Setting) (n : ℕ) (ls : List (List ℕ)) (ranges : List Bool) (e : Option (ℕ × List ℕ)) (s : State) (h : LeadsOne g n ls ranges e s) → Goes g s h.0.next []
 one_goes g n ls ranges e s h = goes_one (h.1 ∙ ap (λ (bytes : List (ℕ × ℕ)). writing bytes h.0.next) h.2)
@@ -104,7 +104,7 @@ one_goes g n ls ranges e s h = goes_one (h.1 ∙ ap (λ (bytes : List (ℕ × �
 abbrev pub one_leads : (g : Setting) (n : ℕ) (ls : List (List ℕ)) (ranges : List Bool) (e : Option (ℕ × List ℕ)) (s : State) → LeadsOne g n ls ranges e s → Leads g n ls ranges e s
 one_leads g n ls ranges e s h = (h.0.next, one_goes g n ls ranges e s h, h.3)
 
-leads_to : (g : Setting) (n : ℕ) (ls : List (List ℕ)) (ranges : List Bool) (e : Option (ℕ × List ℕ)) (s : State) (o : Option Move) → move g s ≡ o → Does n ls ranges e o → LeadsOne g n ls ranges e s
+leads_to : (g : Setting) (n : ℕ) (ls : List (List ℕ)) (ranges : List Bool) (e : Option (ℕ × List ℕ)) (s : State) (o : Option Move) → next_move g s ≡ o → Does n ls ranges e o → LeadsOne g n ls ranges e s
 leads_to g n ls ranges e s None is does = absurd does
 leads_to g n ls ranges e s (Some m) is does = (m, is, does.0, does.1)
 
@@ -159,10 +159,10 @@ module _ (g : Setting) (ls : List (List ℕ)) (n : ℕ) (h : List ℕ) (k : ℕ)
 -- a state that reaches such a command comes to one after its effect
 pub edit_leads : (g : Setting) (c : Command) (on : Test) (edit : Edit) (n : ℕ) (ls : List (List ℕ)) (ra : List Bool) (k : ℕ) (w : List ℕ) (s : State) → IsEdit g c on edit → slice_get g.commands k ≡ Some c → Within n ls ra k w s →
     LeadsOne g n ls (slice_set ra k (on (slice_index_or ra k false) n (none_left ls) w).1) (effect (on (slice_index_or ra k false) n (none_left ls) w).0 edit k w) s
-unfolding move
+unfolding next_move
 edit_leads g c on edit n ls ra k w s is there at =
     let explicit : State = within ls n w at.hold at.replaced ra at.used k at.turns in
     let choice : Bool × Bool = on (slice_index_or ra k false) n (none_left ls) w in
     let does = reach_so g ls n at.hold k c edit w at.replaced ra at.used at.turns choice (is.chooses (slice_index_or ra k false) n (none_left ls) w at.used) is.makes in
-    let moved : move g explicit ≡ reach g explicit k (Some c) = ap (reach g explicit k) there in
+    let moved : next_move g explicit ≡ reach g explicit k (Some c) = ap (reach g explicit k) there in
     subst (LeadsOne g n ls (slice_set ra k choice.1) (effect choice.0 edit k w)) (sym at.is) (leads_to g n ls (slice_set ra k choice.1) (effect choice.0 edit k w) explicit (reach g explicit k (Some c)) moved does)

@@ -2,7 +2,7 @@
 use Rattle.std.proofs.Common.{◌≡◌, ◌≢◌, ◌⊎◌, inl, inr, ap₂, append-nil, append_assoc, ℕ, zero, suc, ◌+◌, ◌-◌, ◌^◌, ◌<◌, List, [], ◌∷◌, ◌++◌, length, map, take, drop, Bool, true, false, not, None, Some, refl, sym, ap, subst, ◌∙◌, arith}
 use Rattle.std.specs.Prelude.{codes, decimal, reverse}
 use Rattle.std.specs.List.{filter, flat_map}
-use Rattle.sedre.specs.Written.{Written, tree}
+use Rattle.sedre.specs.Written.{WrittenExpression, expression_tree}
 use Rattle.sedre.specs.Tree.{Tree}
 use Rattle.sedre.specs.declared.types.Kind.TheVariants.{Basic}
 use Rattle.sedscript.specs.declared.types.Action.TheVariants as action
@@ -37,7 +37,7 @@ use Rattle.examples.specs.WrittenReplacements.{written_pieces}
 use Rattle.examples.proofs.ComputedReading.{outcome, rest_of, written, tree_of_written}
 use Rattle.examples.proofs.ComputedScript.{verdict, cutting, walked}
 use Rattle.examples.proofs.ScriptWords.{always, at, from_to, unless}
-use Rattle.sededit.specs.Editing.{Ends}
+use Rattle.sededit.specs.Editing.{IsOutput}
 use Rattle.scripts.specs.Edited.{Sends, text_of, Writes}
 use Rattle.scripts.specs.Slashed.{IsSlashed}
 use Rattle.scripts.specs.Words.{by_table, numbered, odd_ones, replaced, has_none, in_one, y_of}
@@ -156,7 +156,7 @@ module _ (one : OneMeaning) where
 
   -- ---- expressions
 
-  filtered : (t : Tree) (e : Written) → tree e ≡ t → (ls : List (List ℕ)) → filter (λ line. not (finds_in (e ∷ []) 0 line)) ls ≡ filter (has_none t) ls
+  filtered : (t : Tree) (e : WrittenExpression) → expression_tree e ≡ t → (ls : List (List ℕ)) → filter (λ line. not (finds_in (e ∷ []) 0 line)) ls ≡ filter (has_none t) ls
   filtered t e same ls = ap (λ t. filter (has_none t) ls) same
 
   pub without_law : (re : List ℕ) (t : Tree) (groups : ℕ) (input : List ℕ) → IsSlashed re t groups →
@@ -167,20 +167,20 @@ module _ (one : OneMeaning) where
         sends one false (codes "/" ++ (re ++ codes "/d")) input (to_sink 0 (text_of (filter (has_none t) (lines input)))) deletes (delete_means re t groups is)
             (λ es files same.
             let e = one_alone t es (ap (λ t. t ∷ []) (sym (tree_of_written t groups)) ∙ same) in
-            subst (λ es. Ends (setting deletes.commands [] [] [] false es files) (start deletes.commands (lines input)) (to_sink 0 (text_of (filter (has_none t) (lines input))))) (sym e.1)
-            (subst (λ ls. Ends (setting deletes.commands [] [] [] false (e.0 ∷ []) files) (start deletes.commands (lines input)) (to_sink 0 (text_of ls))) (filtered t e.0 e.2 (lines input)) (deletes_run (finds_in (e.0 ∷ [])) (search_in (e.0 ∷ [])) files (lines input) 0 (false, None, 0)))),
+            subst (λ es. IsOutput (setting deletes.commands [] [] [] false es files) (start deletes.commands (lines input)) (to_sink 0 (text_of (filter (has_none t) (lines input))))) (sym e.1)
+            (subst (λ ls. IsOutput (setting deletes.commands [] [] [] false (e.0 ∷ []) files) (start deletes.commands (lines input)) (to_sink 0 (text_of ls))) (filtered t e.0 e.2 (lines input)) (deletes_run (finds_in (e.0 ∷ [])) (search_in (e.0 ∷ [])) files (lines input) 0 (false, None, 0)))),
         sends one true (codes "/" ++ (re ++ codes "/!p")) input (to_sink 0 (text_of (filter (has_none t) (lines input)))) prints (print_means re t groups is)
             (λ es files same.
             let e = one_alone t es (ap (λ t. t ∷ []) (sym (tree_of_written t groups)) ∙ same) in
-            subst (λ es. Ends (setting prints.commands [] [] [] true es files) (start prints.commands (lines input)) (to_sink 0 (text_of (filter (has_none t) (lines input))))) (sym e.1)
-            (subst (λ ls. Ends (setting prints.commands [] [] [] true (e.0 ∷ []) files) (start prints.commands (lines input)) (to_sink 0 (text_of ls))) (filtered t e.0 e.2 (lines input)) (prints_run (finds_in (e.0 ∷ [])) (search_in (e.0 ∷ [])) files (lines input) 0 (false, None, 0)))),
+            subst (λ es. IsOutput (setting prints.commands [] [] [] true es files) (start prints.commands (lines input)) (to_sink 0 (text_of (filter (has_none t) (lines input))))) (sym e.1)
+            (subst (λ ls. IsOutput (setting prints.commands [] [] [] true (e.0 ∷ []) files) (start prints.commands (lines input)) (to_sink 0 (text_of ls))) (filtered t e.0 e.2 (lines input)) (prints_run (finds_in (e.0 ∷ [])) (search_in (e.0 ∷ [])) files (lines input) 0 (false, None, 0)))),
       )
 
-  replaced_run : (t : Tree) (pieces : List Piece) (e : Written) → tree e ≡ t → (files : ℕ → List ℕ) (ls : List (List ℕ)) →
-      Ends (replaces_by (finds_in (e ∷ [])) (search_in (e ∷ [])) files 1 true pieces) (start (always (action.Substitute 0) ∷ []) ls) (to_sink 0 (text_of (map (replaced t pieces) ls)))
+  replaced_run : (t : Tree) (pieces : List Piece) (e : WrittenExpression) → expression_tree e ≡ t → (files : ℕ → List ℕ) (ls : List (List ℕ)) →
+      IsOutput (replaces_by (finds_in (e ∷ [])) (search_in (e ∷ [])) files 1 true pieces) (start (always (action.Substitute 0) ∷ []) ls) (to_sink 0 (text_of (map (replaced t pieces) ls)))
   replaced_run t pieces e same files ls =
       let alike : (w : List ℕ) → with_replaced (finds_in (e ∷ [])) (search_in (e ∷ [])) files 1 true pieces w ≡ replaced t pieces w = λ w. ap (λ f. replaced_from w pieces 0 (occurrences f (length w))) (sought t e same w) in
-      subst (λ f. Ends (replaces_by (finds_in (e ∷ [])) (search_in (e ∷ [])) files 1 true pieces) (start (always (action.Substitute 0) ∷ []) ls) (to_sink 0 (text_of (map f ls)))) (fun_ext alike)
+      subst (λ f. IsOutput (replaces_by (finds_in (e ∷ [])) (search_in (e ∷ [])) files 1 true pieces) (start (always (action.Substitute 0) ∷ []) ls) (to_sink 0 (text_of (map f ls)))) (fun_ext alike)
       (replaces_run (finds_in (e ∷ [])) (search_in (e ∷ [])) files 1 true pieces ls 0 (false, None, 0))
 
   pub replaced_law : (re : List ℕ) (t : Tree) (groups : ℕ) (pieces : List Piece) (input : List ℕ) → IsSlashed re t groups → GroupsWithin 9 pieces → GroupsWithin groups pieces →
@@ -192,7 +192,7 @@ module _ (one : OneMeaning) where
       sends one false text input out p (substitute_means re t groups is pieces nine have)
       (λ es files same.
       let e = one_alone t es (ap (λ t. t ∷ []) (sym (tree_of_written t groups)) ∙ same) in
-      subst (λ es. Ends (setting p.commands [] p.substitutions [] false es files) (start p.commands (lines input)) out) (sym e.1) (replaced_run t pieces e.0 e.2 files (lines input)))
+      subst (λ es. IsOutput (setting p.commands [] p.substitutions [] false es files) (start p.commands (lines input)) out) (sym e.1) (replaced_run t pieces e.0 e.2 files (lines input)))
 
   -- ---- `:a;$!{N;ba;};s/\n/,/g`
 
@@ -215,19 +215,19 @@ module _ (one : OneMeaning) where
       by_test false e (inl h) = inl (rw e h)
       by_test false e (inr h) = inr (b ∷ h.0, h.1, ap (λ (x : List ℕ). b ∷ x) h.2, rw e h.3)
 
-  seeks_newlines : (e : Written) → tree e ≡ newline_alone → SeeksNewlines (search_in (e ∷ []))
+  seeks_newlines : (e : WrittenExpression) → expression_tree e ≡ newline_alone → SeeksNewlines (search_in (e ∷ []))
   seeks_newlines e same passed left = elim (first_newline left) [
     | inl h ↦ inl (h, ap (λ t. match_with_span e (passed ++ left) (found t (passed ++ left) (length passed))) same ∙ ap (match_with_span e (passed ++ left)) (none_found passed left h))
     | inr h ↦
         let w : List ℕ = passed ++ left in
         let i : ℕ = length passed + length h.0 in
-        let m : Occurrence = record { start = i; end = i + 1; groups = report (tree e) w i (i + 1) } in
+        let m : Occurrence = record { start = i; end = i + 1; groups = report (expression_tree e) w i (i + 1) } in
         let there : found newline_alone w (length passed) ≡ Some (i, i + 1) = rw h.2 (next_found passed h.0 h.1 h.3) in
         inr (h.0, h.1, m, h.2, h.3, ap (λ t. match_with_span e w (found t w (length passed))) same ∙ ap (match_with_span e w) there, refl, refl)
   ]
 
-  joins_any : (e : Written) → tree e ≡ newline_alone → (files : ℕ → List ℕ) (ls : List (List ℕ)) → NoneBroken ls →
-      Ends (setting joining.commands [] joining.substitutions [] false (e ∷ []) files) (start joining.commands ls) (to_sink 0 (text_of (in_one ls)))
+  joins_any : (e : WrittenExpression) → expression_tree e ≡ newline_alone → (files : ℕ → List ℕ) (ls : List (List ℕ)) → NoneBroken ls →
+      IsOutput (setting joining.commands [] joining.substitutions [] false (e ∷ []) files) (start joining.commands ls) (to_sink 0 (text_of (in_one ls)))
   joins_any e same files [] none = ends_there (setting joining.commands [] joining.substitutions [] false (e ∷ []) files) 0 [] false (false ∷ false ∷ false ∷ false ∷ []) None 0
   joins_any e same files (line ∷ rest) none = joins_run (search_in (e ∷ [])) (seeks_newlines e same) (finds_in (e ∷ [])) files line rest none
 
@@ -237,7 +237,7 @@ module _ (one : OneMeaning) where
       sends one false (codes ":a;$!{N;ba;};s/\\n/,/g") input out joining joining_means
       (λ es files same.
       let e = one_alone newline_alone es (ap (λ t. t ∷ []) (sym (tree_of_written newline_alone 0)) ∙ same) in
-      subst (λ es. Ends (setting joining.commands [] joining.substitutions [] false es files) (start joining.commands (lines input)) out) (sym e.1) (joins_any e.0 e.2 files (lines input) (lines_none_broken input)))
+      subst (λ es. IsOutput (setting joining.commands [] joining.substitutions [] false es files) (start joining.commands (lines input)) out) (sym e.1) (joins_any e.0 e.2 files (lines input) (lines_none_broken input)))
 
   -- ---- `w f`
 

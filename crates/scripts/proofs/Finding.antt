@@ -9,8 +9,8 @@ use Rattle.sedscript.specs.declared.substitution.Substitution.{Substitution}
 use Rattle.sedengine.specs.State.{State, Setting}
 use Rattle.sedengine.specs.Substitute.{Occurrence, occurrences, replaced_from, to_replace}
 use Rattle.sedengine.specs.Select.{selects}
-use Rattle.sedengine.specs.Move.{move, after, written, to_sink, line_to, in_table}
-use Rattle.sededit.specs.Editing.{Ends}
+use Rattle.sedengine.specs.Move.{next_move, after, written, to_sink, line_to, in_table}
+use Rattle.sededit.specs.Editing.{IsOutput}
 use Rattle.scripts.specs.Edited.{text_of}
 use Rattle.scripts.proofs.Cycles.{Goes, goes_one, goes_on, between, within, deleted, begins_line, ends_line, deletes_line, ends_there, each_line}
 use Rattle.examples.proofs.ScriptWords.{always, at, unless}
@@ -64,12 +64,12 @@ module _ (finds : ℕ → List ℕ → Bool) (search : ℕ → List ℕ → ℕ 
 
   deletes_here : (number : ℕ) (line : List ℕ) (rest : List (List ℕ)) (used : Option ℕ) (turns : ℕ) → finds 0 line ≡ true →
       Goes deletes (within rest number line [] false (false ∷ []) used 0 turns) (deleted rest number [] false (false ∷ []) (Some 0) (turns + 1)) []
-  unfolding move selects
+  unfolding next_move selects
   deletes_here number line rest used turns e = goes_one (rw e refl)
 
   keeps_here : (number : ℕ) (line : List ℕ) (rest : List (List ℕ)) (used : Option ℕ) (turns : ℕ) → finds 0 line ≡ false →
       Goes deletes (within rest number line [] false (false ∷ []) used 0 turns) (within rest number line [] false (false ∷ []) (Some 0) 1 (turns + 1)) []
-  unfolding move selects
+  unfolding next_move selects
   keeps_here number line rest used turns e = goes_one (rw e refl)
 
   deletes_cycle : (number : ℕ) (line : List ℕ) (rest : List (List ℕ)) (x : Bool × Option ℕ × ℕ) (t : Bool) → finds 0 line ≡ t →
@@ -81,14 +81,14 @@ module _ (finds : ℕ → List ℕ → Bool) (search : ℕ → List ℕ → ℕ 
       goes_on (begins_line deletes line rest number [] x.0 (false ∷ []) x.1 x.2) (goes_on (keeps_here (number + 1) line rest x.1 (x.2 + 1) e)
       (ends_line deletes rest (number + 1) line [] false (false ∷ []) (Some 0) 1 (x.2 + 1 + 1) refl))
 
-  pub deletes_run : (lines : List (List ℕ)) (number : ℕ) (x : Bool × Option ℕ × ℕ) → Ends deletes (seen_at lines number x) (to_sink 0 (text_of (filter not_found lines)))
+  pub deletes_run : (lines : List (List ℕ)) (number : ℕ) (x : Bool × Option ℕ × ℕ) → IsOutput deletes (seen_at lines number x) (to_sink 0 (text_of (filter not_found lines)))
   deletes_run = each_line deletes seen_at (λ n ls. filter not_found ls) (λ n line rest. kept (finds 0 line) line) (λ n. refl) (λ n line rest. kept_first (finds 0 line) line (filter not_found rest))
       (λ n x. ends_there deletes n [] x.0 (false ∷ []) x.1 x.2) (λ n line rest x. ((false, Some 0, x.2 + 1 + 1), deletes_cycle n line rest x (finds 0 line) refl))
 
   -- a line in which it is found isn't printed
   passes_here : (number : ℕ) (line : List ℕ) (rest : List (List ℕ)) (used : Option ℕ) (turns : ℕ) (t : Bool) → finds 0 line ≡ t →
       Goes prints (within rest number line [] false (false ∷ []) used 0 turns) (within rest number line [] false (false ∷ []) (Some 0) 1 (turns + 1)) (to_sink 0 (text_of (kept t line)))
-  unfolding move selects
+  unfolding next_move selects
   passes_here number line rest used turns true e = goes_one (rw e refl)
   passes_here number line rest used turns false e = goes_one (rw e refl)
 
@@ -99,7 +99,7 @@ module _ (finds : ℕ → List ℕ → Bool) (search : ℕ → List ℕ → ℕ 
       (goes_on (begins_line prints line rest number [] x.0 (false ∷ []) x.1 x.2) (goes_on (passes_here (number + 1) line rest x.1 (x.2 + 1) t e)
       (ends_line prints rest (number + 1) line [] false (false ∷ []) (Some 0) 1 (x.2 + 1 + 1) refl)))
 
-  pub prints_run : (lines : List (List ℕ)) (number : ℕ) (x : Bool × Option ℕ × ℕ) → Ends prints (seen_at lines number x) (to_sink 0 (text_of (filter not_found lines)))
+  pub prints_run : (lines : List (List ℕ)) (number : ℕ) (x : Bool × Option ℕ × ℕ) → IsOutput prints (seen_at lines number x) (to_sink 0 (text_of (filter not_found lines)))
   prints_run = each_line prints seen_at (λ n ls. filter not_found ls) (λ n line rest. kept (finds 0 line) line) (λ n. refl) (λ n line rest. kept_first (finds 0 line) line (filter not_found rest))
       (λ n x. ends_there prints n [] x.0 (false ∷ []) x.1 x.2) (λ n line rest x. ((false, Some 0, x.2 + 1 + 1), prints_cycle n line rest x (finds 0 line) refl))
 
@@ -120,7 +120,7 @@ module _ (finds : ℕ → List ℕ → Bool) (search : ℕ → List ℕ → ℕ 
       to_replace n global (occurrences (search 0 line) (length line)) ≡ ms →
       Goes (replaces_by n global pieces) (within rest number line [] false (false ∷ []) used 0 turns)
       (within rest number (replaced_from line pieces 0 ms) [] (any_replaced ms) (false ∷ []) (Some 0) 1 (turns + 1)) []
-  unfolding move selects
+  unfolding next_move selects
   replaces_here n global pieces number line rest used turns [] e = goes_one (rw e refl)
   replaces_here n global pieces number line rest used turns (m ∷ ms) e = goes_one (rw e refl)
 
@@ -132,7 +132,7 @@ module _ (finds : ℕ → List ℕ → Bool) (search : ℕ → List ℕ → ℕ 
       (ends_line (replaces_by n global pieces) rest (number + 1) (replaced_from line pieces 0 ms) [] (any_replaced ms) (false ∷ []) (Some 0) 1 (x.2 + 1 + 1) refl))
 
   pub replaces_run : (n : ℕ) (global : Bool) (pieces : List Piece) (lines : List (List ℕ)) (number : ℕ) (x : Bool × Option ℕ × ℕ) →
-      Ends (replaces_by n global pieces) (seen_at lines number x) (to_sink 0 (text_of (map (with_replaced n global pieces) lines)))
+      IsOutput (replaces_by n global pieces) (seen_at lines number x) (to_sink 0 (text_of (map (with_replaced n global pieces) lines)))
   replaces_run n global pieces = each_line (replaces_by n global pieces) seen_at (λ i ls. map (with_replaced n global pieces) ls) (λ i line rest. with_replaced n global pieces line ∷ []) (λ i. refl) (λ i line rest. refl)
       (λ i x. ends_there (replaces_by n global pieces) i [] x.0 (false ∷ []) x.1 x.2)
       (λ i line rest x. let ms = to_replace n global (occurrences (search 0 line) (length line)) in ((any_replaced ms, Some 0, x.2 + 1 + 1), replaces_cycle n global pieces i line rest x ms refl))
@@ -147,9 +147,9 @@ module _ (finds : ℕ → List ℕ → Bool) (search : ℕ → List ℕ → ℕ 
 
   bytes_cycle : (table : List ℕ) (number : ℕ) (line : List ℕ) (rest : List (List ℕ)) (x : Bool × Option ℕ × ℕ) →
       Goes (turns_bytes table) (seen_at (line ∷ rest) number x) (seen_at rest (number + 1) (false, x.1, x.2 + 1 + 1)) (line_to 0 (with_bytes table line))
-  unfolding move after written selects
+  unfolding next_move after written selects
   bytes_cycle table number line rest x = record { moves = 6; is = refl; wrote = simp append-nil refl }
 
-  pub bytes_run : (table : List ℕ) (lines : List (List ℕ)) (number : ℕ) (x : Bool × Option ℕ × ℕ) → Ends (turns_bytes table) (seen_at lines number x) (to_sink 0 (text_of (map (with_bytes table) lines)))
+  pub bytes_run : (table : List ℕ) (lines : List (List ℕ)) (number : ℕ) (x : Bool × Option ℕ × ℕ) → IsOutput (turns_bytes table) (seen_at lines number x) (to_sink 0 (text_of (map (with_bytes table) lines)))
   bytes_run table = each_line (turns_bytes table) seen_at (λ n ls. map (with_bytes table) ls) (λ n line rest. with_bytes table line ∷ []) (λ n. refl) (λ n line rest. refl)
       (λ n x. ends_there (turns_bytes table) n [] x.0 (false ∷ []) x.1 x.2) (λ n line rest x. ((false, x.1, x.2 + 1 + 1), bytes_cycle table n line rest x))

@@ -10,8 +10,8 @@ use Rattle.sedscript.specs.declared.types.Address.TheVariants.{Last, Line}
 use Rattle.sedengine.specs.State.{begin, rebegin, do_at, flush, State, Setting}
 use Rattle.sedengine.specs.Substitute.{Occurrence}
 use Rattle.sedengine.specs.Select.{selects}
-use Rattle.sedengine.specs.Move.{move, after, written, newline, to_sink, line_to}
-use Rattle.sededit.specs.Editing.{Ends}
+use Rattle.sedengine.specs.Move.{next_move, after, written, newline, to_sink, line_to}
+use Rattle.sededit.specs.Editing.{IsOutput}
 use Rattle.scripts.specs.Edited.{text_of}
 use Rattle.scripts.proofs.Cycles.{Goes, goes_one, goes_on, ends_on, between, ends_there, line_first, text_of-append}
 use Rattle.examples.proofs.ScriptWords.{always, at, unless}
@@ -36,13 +36,13 @@ module _ (finds : ℕ → List ℕ → Bool) (search : ℕ → List ℕ → ℕ 
 
   hold_cycle : (number : ℕ) (line next : List ℕ) (more : List (List ℕ)) (hold : List ℕ) (turns : ℕ) →
       Goes turns_round (held_at (line ∷ next ∷ more) number hold turns) (held_at (next ∷ more) (number + 1) (onto number line hold) (turns + 1 + 1 + 1 + 1)) []
-  unfolding move after written selects
+  unfolding next_move after written selects
   hold_cycle zero line next more hold turns = record { moves = 5; is = refl; wrote = refl }
   hold_cycle (suc number) line next more hold turns = record { moves = 5; is = rw (not_first number) refl; wrote = rw (not_first number) refl }
 
   hold_last : (number : ℕ) (line : List ℕ) (hold : List ℕ) (turns : ℕ) →
       Goes turns_round (held_at (line ∷ []) number hold turns) (held_at [] (number + 1) (onto number line hold) (turns + 1 + 1 + 1 + 1)) (line_to 0 (onto number line hold))
-  unfolding move after written selects
+  unfolding next_move after written selects
   hold_last zero line hold turns = record { moves = 8; is = refl; wrote = simp append-nil refl }
   hold_last (suc number) line hold turns = record { moves = 8; is = rw (not_first number) refl; wrote = rw (not_first number) (simp append-nil refl) }
 
@@ -65,19 +65,19 @@ module _ (finds : ℕ → List ℕ → Bool) (search : ℕ → List ℕ → ℕ 
       ∙ ap (λ bs. text_of (reverse rest) ++ bs) (append_assoc line (newline ∷ []) old))
 
   pub turned : (line : List ℕ) (rest : List (List ℕ)) (number : ℕ) (hold : List ℕ) (turns : ℕ) →
-      Ends turns_round (held_at (line ∷ rest) number hold turns) (to_sink 0 (text_of (reverse (line ∷ rest)) ++ held number hold))
+      IsOutput turns_round (held_at (line ∷ rest) number hold turns) (to_sink 0 (text_of (reverse (line ∷ rest)) ++ held number hold))
   turned line [] number hold turns =
       let run = ends_on (hold_last number line hold turns) (ends_there turns_round (number + 1) (onto number line hold) false (false ∷ false ∷ false ∷ []) None (turns + 1 + 1 + 1 + 1)) in
       let out : line_to 0 (onto number line hold) ++ [] ≡ to_sink 0 ((line ++ newline ∷ []) ++ held number hold) = append-nil (line_to 0 (onto number line hold)) ∙ ap (to_sink 0) (onto_last number line hold ∙ sym (append_assoc line (newline ∷ []) (held number hold))) in
-      subst (Ends turns_round (held_at (line ∷ []) number hold turns)) out run
+      subst (IsOutput turns_round (held_at (line ∷ []) number hold turns)) out run
   turned line (next ∷ more) number hold turns =
       let run = ends_on (hold_cycle number line next more hold turns) (turned next more (number + 1) (onto number line hold) (turns + 1 + 1 + 1 + 1)) in
       let out = ap (to_sink 0) (ap (λ bs. text_of (reverse (next ∷ more)) ++ bs) (onto_held number line hold) ∙ more_turned line (next ∷ more) (held number hold)) in
-      subst (Ends turns_round (held_at (line ∷ next ∷ more) number hold turns)) out run
+      subst (IsOutput turns_round (held_at (line ∷ next ∷ more) number hold turns)) out run
 
-  pub turned_run : (lines : List (List ℕ)) → Ends turns_round (held_at lines 0 [] 0) (to_sink 0 (text_of (reverse lines)))
+  pub turned_run : (lines : List (List ℕ)) → IsOutput turns_round (held_at lines 0 [] 0) (to_sink 0 (text_of (reverse lines)))
   turned_run [] = ends_there turns_round 0 [] false (false ∷ false ∷ false ∷ []) None 0
-  turned_run (line ∷ rest) = subst (λ (bs : List ℕ). Ends turns_round (held_at (line ∷ rest) 0 [] 0) (to_sink 0 bs)) (append-nil (text_of (reverse (line ∷ rest)))) (turned line rest 0 [] 0)
+  turned_run (line ∷ rest) = subst (λ (bs : List ℕ). IsOutput turns_round (held_at (line ∷ rest) 0 [] 0) (to_sink 0 bs)) (append-nil (text_of (reverse (line ∷ rest)))) (turned line rest 0 [] 0)
 
   -- ---- `$!N;P;D`
 
@@ -89,22 +89,22 @@ module _ (finds : ℕ → List ℕ → Bool) (search : ℕ → List ℕ → ℕ 
 
   pair_joins : (number : ℕ) (line next : List ℕ) (rest : List (List ℕ)) (turns : ℕ) →
       Goes pairs (pair_at 0 (next ∷ rest) number line turns) (pair_at 1 rest (number + 1) (line ++ newline ∷ next) (turns + 1)) []
-  unfolding move after written selects
+  unfolding next_move after written selects
   pair_joins number line next rest turns = record { moves = 3; is = refl; wrote = refl }
 
   pair_prints : (number : ℕ) (line next : List ℕ) (rest : List (List ℕ)) (turns : ℕ) → list_any is_newline line ≡ false →
       Goes pairs (pair_at 1 rest number (line ++ newline ∷ next) turns) (pair_at 2 rest number (line ++ newline ∷ next) (turns + 1)) (line_to 0 line)
-  unfolding move selects
+  unfolding next_move selects
   pair_prints number line next rest turns none = goes_one (rw (before_it line next none) refl)
 
   pair_deletes : (number : ℕ) (line next : List ℕ) (rest : List (List ℕ)) (turns : ℕ) → list_any is_newline line ≡ false →
       Goes pairs (pair_at 2 rest number (line ++ newline ∷ next) turns) (record (pair_at 2 rest number next (turns + 1)) { tasks = flush ∷ rebegin ∷ [] }) []
-  unfolding move selects
+  unfolding next_move selects
   pair_deletes number line next rest turns none = goes_one (rw (has_it line next, after_it line next none) refl)
 
   pair_again : (number : ℕ) (next : List ℕ) (rest : List (List ℕ)) (turns : ℕ) →
       Goes pairs (record (pair_at 2 rest number next turns) { tasks = flush ∷ rebegin ∷ [] }) (pair_at 0 rest number next (turns + 1)) []
-  unfolding move after written
+  unfolding next_move after written
   pair_again number next rest turns = record { moves = 2; is = refl; wrote = refl }
 
   pair_cycle : (number : ℕ) (line next : List ℕ) (rest : List (List ℕ)) (turns : ℕ) → list_any is_newline line ≡ false →
@@ -115,38 +115,38 @@ module _ (finds : ℕ → List ℕ → Bool) (search : ℕ → List ℕ → ℕ 
       (goes_on (pair_deletes (number + 1) line next rest (turns + 1 + 1) none) (pair_again (number + 1) next rest (turns + 1 + 1 + 1)))))
 
   pair_passes : (number : ℕ) (line : List ℕ) (turns : ℕ) → Goes pairs (pair_at 0 [] number line turns) (pair_at 1 [] number line (turns + 1)) []
-  unfolding move selects
+  unfolding next_move selects
   pair_passes number line turns = goes_one refl
 
   pair_prints_last : (number : ℕ) (line : List ℕ) (turns : ℕ) → list_any is_newline line ≡ false → Goes pairs (pair_at 1 [] number line turns) (pair_at 2 [] number line (turns + 1)) (line_to 0 line)
-  unfolding move selects
+  unfolding next_move selects
   pair_prints_last number line turns none = goes_one (rw (all_of_it line none) refl)
 
   pair_deletes_last : (number : ℕ) (line : List ℕ) (turns : ℕ) → list_any is_newline line ≡ false →
       Goes pairs (pair_at 2 [] number line turns) (record (pair_at 2 [] number [] (turns + 1)) { tasks = flush ∷ begin ∷ [] }) []
-  unfolding move selects
+  unfolding next_move selects
   pair_deletes_last number line turns none = goes_one (rw none refl)
 
-  pair_ends : (number turns : ℕ) → Ends pairs (record (pair_at 2 [] number [] turns) { tasks = flush ∷ begin ∷ [] }) []
-  unfolding move after written
+  pair_ends : (number turns : ℕ) → IsOutput pairs (record (pair_at 2 [] number [] turns) { tasks = flush ∷ begin ∷ [] }) []
+  unfolding next_move after written
   pair_ends number turns = record { moves = 2; ended = refl; wrote = refl }
 
-  pair_last : (number : ℕ) (line : List ℕ) (turns : ℕ) → list_any is_newline line ≡ false → Ends pairs (pair_at 0 [] number line turns) (line_to 0 line)
+  pair_last : (number : ℕ) (line : List ℕ) (turns : ℕ) → list_any is_newline line ≡ false → IsOutput pairs (pair_at 0 [] number line turns) (line_to 0 line)
   pair_last number line turns none =
-      subst (Ends pairs (pair_at 0 [] number line turns)) (append-nil (line_to 0 line))
+      subst (IsOutput pairs (pair_at 0 [] number line turns)) (append-nil (line_to 0 line))
       (ends_on (pair_passes number line turns) (ends_on (pair_prints_last number line (turns + 1) none)
       (ends_on (pair_deletes_last number line (turns + 1 + 1) none) (pair_ends number (turns + 1 + 1 + 1)))))
 
-  pairs_run : (line : List ℕ) (rest : List (List ℕ)) (number turns : ℕ) → NoneBroken (line ∷ rest) → Ends pairs (pair_at 0 rest number line turns) (to_sink 0 (text_of (line ∷ rest)))
+  pairs_run : (line : List ℕ) (rest : List (List ℕ)) (number turns : ℕ) → NoneBroken (line ∷ rest) → IsOutput pairs (pair_at 0 rest number line turns) (to_sink 0 (text_of (line ∷ rest)))
   pairs_run line [] number turns none = pair_last number line turns none.0
   pairs_run line (next ∷ rest) number turns none =
-      subst (Ends pairs (pair_at 0 (next ∷ rest) number line turns)) (line_first line (next ∷ rest))
+      subst (IsOutput pairs (pair_at 0 (next ∷ rest) number line turns)) (line_first line (next ∷ rest))
       (ends_on (pair_cycle number line next rest turns none.0) (pairs_run next rest (number + 1) (turns + 1 + 1 + 1 + 1) none.1))
 
   pair_start : (line : List ℕ) (rest : List (List ℕ)) → Goes pairs (between (line ∷ rest) 0 [] false (false ∷ false ∷ false ∷ []) None 0) (pair_at 0 rest 1 line 1) []
-  unfolding move after written
+  unfolding next_move after written
   pair_start line rest = record { moves = 1; is = refl; wrote = refl }
 
-  pub pair_run : (lines : List (List ℕ)) → NoneBroken lines → Ends pairs (between lines 0 [] false (false ∷ false ∷ false ∷ []) None 0) (to_sink 0 (text_of lines))
+  pub pair_run : (lines : List (List ℕ)) → NoneBroken lines → IsOutput pairs (between lines 0 [] false (false ∷ false ∷ false ∷ []) None 0) (to_sink 0 (text_of lines))
   pair_run [] none = ends_there pairs 0 [] false (false ∷ false ∷ false ∷ []) None 0
   pair_run (line ∷ rest) none = ends_on (pair_start line rest) (pairs_run line rest 1 1 none)

@@ -23,16 +23,16 @@ use Rattle.sedscript.specs.Script.{Means}
 use Rattle.sedscript.specs.FirstFault.{Faulty}
 use Rattle.sedscript.specs.Program.{Program}
 use Rattle.sedscript.specs.Transliteration.{table_of}
-use Rattle.sedmatch.specs.Matching.{any, caps, copies, cut, first_copy, found, found_from, greatest, last_start, longest, report, spans}
+use Rattle.sedmatch.specs.Matching.{any, groups_after, copies, cut, first_copy, found, found_from, greatest, last_start, longest, report, spans}
 use Rattle.sedspace.specs.Lines.{is_newline, lines}
-use Rattle.sedengine.specs.Move.{in_table, move}
+use Rattle.sedengine.specs.Move.{in_table, next_move}
 use Rattle.sedengine.specs.Select.{selects}
 use Rattle.sedengine.specs.Substitute.{occurrences_from}
 use Rattle.examples.proofs.ComputedReading.{outcome, rest_of, written}
 use Rattle.examples.proofs.ComputedRun.{course, ends_after, Writes}
 use Rattle.examples.proofs.ComputedScript.{verdict, cutting, walked, has_fault, is_script}
 use Rattle.examples.proofs.ScriptWords.{fault_at, always, at, substitution}
-use Rattle.scripts.specs.InTurn.{BreaksNoLine, OnlyEdits, in_turn}
+use Rattle.scripts.specs.InTurn.{BreaksNoLine, EachOnlyEdits, in_turn}
 use Rattle.scripts.specs.OneText.{EditInTurn}
 use Rattle.scripts.proofs.Colons.{label_law}
 use Rattle.scripts.proofs.Meanings.{of_commands, meant}
@@ -69,10 +69,10 @@ unfolding verdict cutting walked item_at past function_at addresses_at address_a
 both_means = meant _ _ refl
 
 -- the law is about this pair
-first_edits : OnlyEdits true first
+first_edits : EachOnlyEdits true first
 first_edits = record { each = refl; loud = refl }
 
-second_edits : OnlyEdits false second
+second_edits : EachOnlyEdits false second
 second_edits = record { each = refl; loud = refl }
 
 no_table : (k b : ℕ) → is_newline b ≡ false → is_newline (in_table (slice_get first.tables k) b) ≡ false
@@ -97,37 +97,37 @@ pair = record {
 -- ---- a number, and `$`, in the second script
 
 first_number : Writes (codes "1d") (codes "a\nb\n") (codes "b\n")
-unfolding verdict cutting walked item_at past function_at addresses_at address_at second_at text_from name_from lines course move selects
+unfolding verdict cutting walked item_at past function_at addresses_at address_at second_at text_from name_from lines course next_move selects
 first_number = is_script (ends_after 60 refl refl)
 
 second_number : Writes (codes "1d") (codes "b\n") (codes "")
-unfolding verdict cutting walked item_at past function_at addresses_at address_at second_at text_from name_from lines course move selects
+unfolding verdict cutting walked item_at past function_at addresses_at address_at second_at text_from name_from lines course next_move selects
 second_number = is_script (ends_after 60 refl refl)
 
 both_numbers : Writes (codes "1d\n1d") (codes "a\nb\n") (codes "b\n")
-unfolding verdict cutting walked item_at past function_at addresses_at address_at second_at text_from name_from lines course move selects
+unfolding verdict cutting walked item_at past function_at addresses_at address_at second_at text_from name_from lines course next_move selects
 both_numbers = is_script (ends_after 60 refl refl)
 
 second_last : Writes (codes "$d") (codes "a\n") (codes "")
-unfolding verdict cutting walked item_at past function_at addresses_at address_at second_at text_from name_from lines course move selects
+unfolding verdict cutting walked item_at past function_at addresses_at address_at second_at text_from name_from lines course next_move selects
 second_last = is_script (ends_after 60 refl refl)
 
 both_last : Writes (codes "$d\n$d") (codes "a\nb\n") (codes "a\n")
-unfolding verdict cutting walked item_at past function_at addresses_at address_at second_at text_from name_from lines course move selects
+unfolding verdict cutting walked item_at past function_at addresses_at address_at second_at text_from name_from lines course next_move selects
 both_last = is_script (ends_after 60 refl refl)
 
 -- ---- an empty expression in the second script, and a newline that the first one makes
 
 both_empty : Writes (codes "s/b/c/\n//d") (codes "a\nb\n") (codes "a\nc\n")
-unfolding verdict cutting walked item_at past function_at addresses_at address_at second_at text_from name_from lines course move selects match_at substitute_at substituted delimiter_at outcome rest_of expression_item_at interval set_of tree_at tree_within list_at list_end found found_from longest greatest spans any copies report caps cut first_copy last_start occurrences_from
+unfolding verdict cutting walked item_at past function_at addresses_at address_at second_at text_from name_from lines course next_move selects match_at substitute_at substituted delimiter_at outcome rest_of expression_item_at interval set_of tree_at tree_within list_at list_end found found_from longest greatest spans any copies report groups_after cut first_copy last_start occurrences_from
 both_empty = is_script (ends_after 100 refl refl)
 
 second_broken : Writes (codes "s/^y/z/") (codes "x\ny\nb\n") (codes "x\nz\nb\n")
-unfolding verdict cutting walked item_at past function_at addresses_at address_at second_at text_from name_from lines course move selects match_at substitute_at substituted delimiter_at outcome rest_of expression_item_at interval set_of tree_at tree_within list_at list_end found found_from longest greatest spans any copies report caps cut first_copy last_start occurrences_from
+unfolding verdict cutting walked item_at past function_at addresses_at address_at second_at text_from name_from lines course next_move selects match_at substitute_at substituted delimiter_at outcome rest_of expression_item_at interval set_of tree_at tree_within list_at list_end found found_from longest greatest spans any copies report groups_after cut first_copy last_start occurrences_from
 second_broken = is_script (ends_after 100 refl refl)
 
 both_broken : Writes (codes "s/a/x\\ny/\ns/^y/z/") (codes "a\nb\n") (codes "x\ny\nb\n")
-unfolding verdict cutting walked item_at past function_at addresses_at address_at second_at text_from name_from lines course move selects match_at substitute_at substituted delimiter_at outcome rest_of expression_item_at interval set_of tree_at tree_within list_at list_end found found_from longest greatest spans any copies report caps cut first_copy last_start occurrences_from
+unfolding verdict cutting walked item_at past function_at addresses_at address_at second_at text_from name_from lines course next_move selects match_at substitute_at substituted delimiter_at outcome rest_of expression_item_at interval set_of tree_at tree_within list_at list_end found found_from longest greatest spans any copies report groups_after cut first_copy last_start occurrences_from
 both_broken = is_script (ends_after 100 refl refl)
 
 -- ---- a name that is a label in both, and `#n`, which is a comment where it stands in a later line
@@ -137,11 +137,11 @@ unfolding verdict cutting walked item_at past function_at addresses_at address_a
 both_labels = has_fault refl
 
 second_quiet : Writes (codes "#n") (codes "b\nb\n") (codes "")
-unfolding verdict cutting walked item_at past function_at addresses_at address_at second_at text_from name_from lines course move selects
+unfolding verdict cutting walked item_at past function_at addresses_at address_at second_at text_from name_from lines course next_move selects
 second_quiet = is_script (ends_after 60 refl refl)
 
 both_quiet : Writes (codes "y/a/b/\n#n") (codes "a\nb\n") (codes "b\nb\n")
-unfolding verdict cutting walked item_at past function_at addresses_at address_at second_at text_from name_from lines course move selects transliterate_at table_of
+unfolding verdict cutting walked item_at past function_at addresses_at address_at second_at text_from name_from lines course next_move selects transliterate_at table_of
 both_quiet = is_script (ends_after 60 refl refl)
 
 -- ---- a file that both write: it has one number
@@ -153,9 +153,9 @@ both_files = meant _ _ refl
 -- ---- a branch to the end, and what the first one writes by itself
 
 both_branch : Writes (codes "b\nd") (codes "a\nb\n") (codes "a\nb\n")
-unfolding verdict cutting walked item_at past function_at addresses_at address_at second_at text_from name_from lines course move selects
+unfolding verdict cutting walked item_at past function_at addresses_at address_at second_at text_from name_from lines course next_move selects
 both_branch = is_script (ends_after 60 refl refl)
 
 both_print : Writes (codes "p\nd") (codes "a\nb\n") (codes "a\nb\n")
-unfolding verdict cutting walked item_at past function_at addresses_at address_at second_at text_from name_from lines course move selects
+unfolding verdict cutting walked item_at past function_at addresses_at address_at second_at text_from name_from lines course next_move selects
 both_print = is_script (ends_after 60 refl refl)

@@ -4,7 +4,7 @@ use Rattle.std.proofs.Math.Seq.{drop-append-add}
 use Rattle.std.specs.List.{prefix_len}
 use Rattle.std.proofs.lemmas.List.{append-nil}
 use Rattle.sedre.specs.declared.types.Kind.{Kind}
-use Rattle.sedre.specs.Written.{Written}
+use Rattle.sedre.specs.Written.{WrittenExpression}
 use Rattle.sedengine.proofs.Writing.{slice_get-append_add}
 use Rattle.sedscript.specs.declared.bytes.Sort.TheVariants.{Separator}
 use Rattle.sedscript.specs.declared.items.Item.{Item}
@@ -23,7 +23,7 @@ ItemsIn end [] = Unit {0}
 ItemsIn end (i ∷ is) = FunctionIn end i.function × ItemsIn end is
 
 -- a cut of a text is one of a longer text
-pub cut_on : (before text : List ℕ) (more : Option (List ℕ)) (n : ℕ) (kind : Kind) (m count at to : ℕ) (is : List Item) (es : List Written) → CutScript text kind m count at is es to → at ≤ length text →
+pub cut_on : (before text : List ℕ) (more : Option (List ℕ)) (n : ℕ) (kind : Kind) (m count at to : ℕ) (is : List Item) (es : List WrittenExpression) → CutScript text kind m count at is es to → at ≤ length text →
     CutScript (before ++ (text ++ tail_of more)) kind m (n + count) (length before + at) (map (move_item (length before) n) is) es (length before + to) × ItemsIn (length text) is × (to ≤ length text)
 cut_on before text more n kind m count at to _ _ done le = (done, tt, le)
 cut_on before text more n kind m count at to _ _ (item {next = next} {i = i} {is = is} es fs given rest) le =
@@ -33,16 +33,16 @@ cut_on before text more n kind m count at to _ _ (item {next = next} {i = i} {is
     (item es fs here.0 (subst (λ (c : ℕ). CutScript (before ++ (text ++ tail_of more)) kind m c (length before + next) (map (move_item (length before) n) is) fs (length before + to)) counted behind.0), (here.1, behind.1), behind.2)
 
 -- one cut after another
-cut_then : (text : List ℕ) (kind : Kind) (m count number at mid to : ℕ) (is js : List Item) (es fs : List Written) → CutScript text kind m count at is es mid → number ≡ count + length es → CutScript text kind m number mid js fs to →
+cut_then : (text : List ℕ) (kind : Kind) (m count number at mid to : ℕ) (is js : List Item) (es fs : List WrittenExpression) → CutScript text kind m count at is es mid → number ≡ count + length es → CutScript text kind m number mid js fs to →
     CutScript text kind m count at (is ++ js) (es ++ fs) to
 cut_then text kind m count number at mid to _ js _ fs done e rest =
     let same : number ≡ count = e ∙ omega arith in subst (λ (c : ℕ). CutScript text kind m c at js fs to) same rest
 cut_then text kind m count number at mid to _ js _ fs (item {next = next} {i = i} {is = is} es gs given left) e rest =
-    subst (λ (z : List Written). CutScript text kind m count at (i ∷ (is ++ js)) z to) (sym (append_assoc es gs fs))
+    subst (λ (z : List WrittenExpression). CutScript text kind m count at (i ∷ (is ++ js)) z to) (sym (append_assoc es gs fs))
     (item es (gs ++ fs) given (cut_then text kind m (count + length es) number next mid to is js gs fs left (e ∙ (ap (λ (k : ℕ). count + k) (length-append es gs) ∙ omega arith)) rest))
 
 -- a cut may begin at another place, where only separators stand between the two
-cut_from : (text : List ℕ) (kind : Kind) (m count at place to : ℕ) (is : List Item) (es : List Written) → past Separator text place ≡ past Separator text at → CutScript text kind m count at is es to → IsEnd text to →
+cut_from : (text : List ℕ) (kind : Kind) (m count at place to : ℕ) (is : List Item) (es : List WrittenExpression) → past Separator text place ≡ past Separator text at → CutScript text kind m count at is es to → IsEnd text to →
     (till : ℕ) × CutScript text kind m count place is es till × IsEnd text till
 unfolding item_at
 cut_from text kind m count at place to _ _ e done ends = (place, done, ap (slice_get text) e ∙ ends)
@@ -93,7 +93,7 @@ module _ (a b : List ℕ) where
       let right : prefix_len (belongs Separator) (drop base joined) ≡ prefix_len (belongs Separator) b = ap (prefix_len (belongs Separator)) second in
       omega (arith, left, right, base_is, le, length-drop to a)
 
-  pub joined_cut : (kind : Kind) (m to till n : ℕ) (is js : List Item) (es fs : List Written) → CutScript a kind m 0 0 is es to → IsEnd a to → CutScript b kind m 0 0 js fs till → IsEnd b till → n ≡ length es →
+  pub joined_cut : (kind : Kind) (m to till n : ℕ) (is js : List Item) (es fs : List WrittenExpression) → CutScript a kind m 0 0 is es to → IsEnd a to → CutScript b kind m 0 0 js fs till → IsEnd b till → n ≡ length es →
       (end : ℕ) × CutScript joined kind m 0 0 (map (move_item 0 0) is ++ map (move_item base n) js) (es ++ fs) end × IsEnd joined end × ItemsIn (length a) is × ItemsIn (length b) js
   joined_cut kind m to till n is js es fs first ends second stops count =
       let one = cut_on [] a (Some b) 0 kind m 0 0 to is es first (omega arith) in

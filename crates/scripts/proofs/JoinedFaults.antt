@@ -16,7 +16,7 @@ use Rattle.sedscript.specs.declared.items.Item.{Item}
 use Rattle.sedscript.specs.declared.items.Function.{Function}
 use Rattle.sedscript.specs.declared.items.Function.TheVariants.{Plain, Open, Close, Label, Branch, Text, File, Comment, Substitute, Transliterate}
 use Rattle.sedscript.specs.Bytes.{bytes_between}
-use Rattle.sedscript.specs.Targets.{leaves, counted, commands_in, is_close, is_label, label_in, depth_after, close_in, fault_if, target_fault_at, target_fault_in}
+use Rattle.sedscript.specs.Targets.{becomes_command, counted, commands_in, is_close, is_label, label_in, depth_after, close_in, fault_if, target_fault_at, target_fault_in}
 use Rattle.sedscript.specs.Script.{substitution_of, sink_of, with_substitution, substitutions_of, counts_with, action_of, with_action, commands_of}
 use Rattle.sedscript.specs.Program.{Program}
 use Rattle.examples.proofs.ComputedEnds.{both}
@@ -242,7 +242,7 @@ label_skip text name n (i ∷ xs) ys e =
 pub commands_moved : (base count : ℕ) (is rest : List Item) → commands_in (map (move_item base count) is ++ rest) ≡ commands_in is + commands_in rest
 commands_moved base count [] rest = omega arith
 commands_moved base count (i ∷ is) rest =
-    ap (λ (t : Bool). if t then suc (commands_in (map (move_item base count) is ++ rest)) else commands_in (map (move_item base count) is ++ rest)) (leaves_same base count i.function) ∙ by_test (leaves i.function) (commands_moved base count is rest)
+    ap (λ (t : Bool). if t then suc (commands_in (map (move_item base count) is ++ rest)) else commands_in (map (move_item base count) is ++ rest)) (leaves_same base count i.function) ∙ by_test (becomes_command i.function) (commands_moved base count is rest)
   where
     by_test : (t : Bool) → commands_in (map (move_item base count) is ++ rest) ≡ commands_in is + commands_in rest →
         (if t then suc (commands_in (map (move_item base count) is ++ rest)) else commands_in (map (move_item base count) is ++ rest)) ≡ (if t then suc (commands_in is) else commands_in is) + commands_in rest

@@ -25,7 +25,7 @@ use Rattle.sedscript.specs.declared.items.FileUse.TheVariants.{Read, Write}
 use Rattle.sedscript.specs.Files.{number_in}
 use Rattle.sedscript.specs.Bytes.{bytes_between}
 use Rattle.sedscript.specs.Replacement.{pieces_of}
-use Rattle.sedscript.specs.Targets.{leaves, counted, commands_in, is_open, is_close, depth_after, close_in, block_end, label_in}
+use Rattle.sedscript.specs.Targets.{becomes_command, counted, commands_in, is_open, is_close, depth_after, close_in, block_end, label_in}
 use Rattle.sedscript.specs.Transliteration.{chars_from, bytes_of, table_of}
 use Rattle.sedscript.specs.Script.{with_text, texts_of, with_substitution, substitutions_of, with_table, tables_of, substitution_of, sink_of, table_between, counts_with, action_of, simple_action, text_action, with_action, commands_of, unescaped_from, branch_action, file_action}
 use Rattle.sedscript.proofs.Chars.{same_bytes}
@@ -80,7 +80,7 @@ FilesOn t all whole every b [] = Unit {0}
 FilesOn t all whole every b (i ∷ is) = FileOn t all whole every b i.function × FilesOn t all whole every b is
 
 module _ (base count : ℕ) where
-  pub leaves_same : (f : Function) → leaves (move_function base count f) ≡ leaves f
+  pub leaves_same : (f : Function) → becomes_command (move_function base count f) ≡ becomes_command f
   leaves_same Close = refl
   leaves_same (Label from to) = refl
   leaves_same Comment = refl
@@ -100,7 +100,7 @@ module _ (base count : ℕ) where
   depth_same depth other = refl
 
   pub counted_same : (more n m : ℕ) (i : Item) → m ≡ more + n → counted m (move_item base count i) ≡ more + counted n i
-  counted_same more n m i e = ap (λ (t : Bool). if t then suc m else m) (leaves_same i.function) ∙ by_test (leaves i.function)
+  counted_same more n m i e = ap (λ (t : Bool). if t then suc m else m) (leaves_same i.function) ∙ by_test (becomes_command i.function)
     where
       by_test : (t : Bool) → (if t then suc m else m) ≡ more + (if t then suc n else n)
       by_test true = omega (arith, e)

@@ -18,11 +18,11 @@ use Rattle.sedscript.specs.declared.items.Function.{Function}
 use Rattle.sedscript.specs.declared.items.Function.TheVariants.{Plain, Open, Close, Label, Branch, Text, File, Comment, Substitute, Transliterate}
 use Rattle.sedscript.specs.Bytes.{bytes_between}
 use Rattle.sedscript.specs.Files.{distinct, files_in, number_in}
-use Rattle.sedscript.specs.Targets.{leaves, commands_in, is_label, label_in, target_fault_in, depth_after, target_fault_at}
+use Rattle.sedscript.specs.Targets.{becomes_command, commands_in, is_label, label_in, target_fault_in, depth_after, target_fault_at}
 use Rattle.sedscript.specs.Script.{CutScript, IsEnd, Means, action_of, with_action, commands_of, counts_with, none_counted, texts_of, substitutions_of, tables_of, is_quiet, branch_action}
 use Rattle.sedscript.specs.Program.{Program}
 use Rattle.scripts.specs.InTurn.{all_of, command_behind, substitution_behind, in_turn}
-use Rattle.scripts.specs.OneText.{leads_inside, LeadsInside, ShareNoFile, apart as apart_names, ShareNoLabel}
+use Rattle.scripts.specs.OneText.{leads_inside, EachLeadsInside, ShareNoFile, apart as apart_names, ShareNoLabel}
 use Rattle.scripts.proofs.LongerText.{between_on}
 use Rattle.scripts.proofs.LongerReading.{move_item}
 use Rattle.scripts.proofs.NoneBefore.{same_sink, none_before, same_commands, same_substitutions}
@@ -40,7 +40,7 @@ commands_length text all before [] n = refl
 commands_length text all before (i ∷ is) n =
     leaf i.function (commands_of text all (before ++ i ∷ []) (counts_with n i.function) is) (commands_length text all (before ++ i ∷ []) is (counts_with n i.function))
   where
-    leaf : (f : Function) (cs : List Command) → length cs ≡ commands_in is → length (with_action i.addresses (action_of text all before n is f) cs) ≡ (if leaves f then suc (commands_in is) else commands_in is)
+    leaf : (f : Function) (cs : List Command) → length cs ≡ commands_in is → length (with_action i.addresses (action_of text all before n is f) cs) ≡ (if becomes_command f then suc (commands_in is) else commands_in is)
     leaf Close cs e = e
     leaf (Label from to) cs e = e
     leaf Comment cs e = e
@@ -101,7 +101,7 @@ share_none a b kind m p q h k apart name = by_labels (label_in a name 0 h.items)
 
 -- ---- both
 
-module _ (a b : List ℕ) (kind : Kind) (m : ℕ) (p q : Program) (h : Means a kind m p) (k : Means b kind m q) (inside : LeadsInside p) (share : ShareNoFile p q) (loud : q.quiet ≡ false) (apart : ShareNone a h.items b k.items) where
+module _ (a b : List ℕ) (kind : Kind) (m : ℕ) (p q : Program) (h : Means a kind m p) (k : Means b kind m q) (inside : EachLeadsInside p) (share : ShareNoFile p q) (loud : q.quiet ≡ false) (apart : ShareNone a h.items b k.items) where
   abbrev joined : List ℕ
   joined = a ++ 10 ∷ b
 

@@ -5,23 +5,23 @@ use Rattle.std.specs.List.{ends_with}
 use Rattle.std.proofs.lemmas.List.{append-nil}
 use Rattle.std.proofs.lemmas.Option.{slice_get_past}
 use Rattle.sedre.specs.declared.types.Kind.{Kind}
-use Rattle.sedre.specs.Written.{Written}
+use Rattle.sedre.specs.Written.{WrittenExpression}
 use Rattle.sedscript.specs.declared.bytes.Sort.TheVariants.{Separator}
 use Rattle.sedscript.specs.declared.items.Item.{Item}
 use Rattle.sedscript.specs.Bytes.{bytes_between, past}
 use Rattle.sedscript.specs.Targets.{label_in}
-use Rattle.sedscript.specs.Script.{Means, Judged, done}
+use Rattle.sedscript.specs.Script.{Means, CutWithoutFault, done}
 use Rattle.sedscript.specs.Program.{Program}
 use Rattle.sedscript.specs.ScriptText.{with_part}
 use Rattle.scripts.specs.InTurn.{in_turn}
-use Rattle.scripts.specs.OneText.{IsOpen, LeadsInside}
+use Rattle.scripts.specs.OneText.{LacksNewline, EachLeadsInside}
 use Rattle.scripts.proofs.LongerText.{between_on}
 use Rattle.scripts.proofs.LongerReading.{move_item}
 use Rattle.scripts.proofs.JoinedCuts.{cut_on}
 use Rattle.scripts.proofs.JoinedFaults.{named_none, names_on, none_named}
 use Rattle.scripts.proofs.JoinedMeans.{ShareNone, items_in_turn, means_in_turn}
 
-pub parts_are : (a b : List ℕ) → IsOpen a → IsOpen b → with_part (with_part [] a) b ≡ a ++ 10 ∷ (b ++ 10 ∷ [])
+pub parts_are : (a b : List ℕ) → LacksNewline a → LacksNewline b → with_part (with_part [] a) b ≡ a ++ 10 ∷ (b ++ 10 ∷ [])
 parts_are a b h k =
     ap (λ (t : Bool). ((a ++ (if ends_with nat_eq a (10 ∷ []) then [] else 10 ∷ [])) ++ b) ++ (if t then [] else 10 ∷ [])) k
     ∙ (ap (λ (t : Bool). ((a ++ (if t then [] else 10 ∷ [])) ++ b) ++ 10 ∷ []) h ∙ (append_assoc (a ++ 10 ∷ []) b (10 ∷ []) ∙ append_assoc a (10 ∷ []) (b ++ 10 ∷ [])))
@@ -45,7 +45,7 @@ nothing_means kind m = record {
   nodes = refl;
 }
 
-module _ (a b : List ℕ) (kind : Kind) (m : ℕ) (q : Program) (k : Means b kind m q) (inside : LeadsInside q) where
+module _ (a b : List ℕ) (kind : Kind) (m : ℕ) (q : Program) (k : Means b kind m q) (inside : EachLeadsInside q) where
   alone : ShareNone b k.items [] ((nothing_means kind m).items)
   unfolding nothing_means
   alone name = inr refl
@@ -58,7 +58,7 @@ module _ (a b : List ℕ) (kind : Kind) (m : ℕ) (q : Program) (k : Means b kin
   ended_means = record {
     items = behind.items;
     to = behind.to;
-    judged = subst (λ (es : List Written). Judged (b ++ 10 ∷ []) kind m behind.items es behind.to) (append-nil q.expressions) behind.judged;
+    judged = subst (λ (es : List WrittenExpression). CutWithoutFault (b ++ 10 ∷ []) kind m behind.items es behind.to) (append-nil q.expressions) behind.judged;
     commands = sym (append-nil q.commands) ∙ behind.commands;
     texts = sym (append-nil q.texts) ∙ behind.texts;
     substitutions = sym (append-nil q.substitutions) ∙ behind.substitutions;

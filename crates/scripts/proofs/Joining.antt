@@ -13,8 +13,8 @@ use Rattle.sedscript.specs.declared.substitution.Piece.TheVariants.{Literal}
 use Rattle.sedengine.specs.State.{State, Setting}
 use Rattle.sedengine.specs.Substitute.{Occurrence, next_occurrence, occurrences, occurrences_from, replaced_from, to_replace, with_rest}
 use Rattle.sedengine.specs.Select.{selects}
-use Rattle.sedengine.specs.Move.{move, after, written, newline, line_to}
-use Rattle.sededit.specs.Editing.{Ends}
+use Rattle.sedengine.specs.Move.{next_move, after, written, newline, line_to}
+use Rattle.sededit.specs.Editing.{IsOutput}
 use Rattle.scripts.proofs.Cycles.{Goes, goes_one, ends_on, between, within, begins_line, ends_line, ends_there}
 use Rattle.examples.proofs.ScriptWords.{always, at, unless}
 use Rattle.scripts.proofs.LineLaws.{NoneBroken}
@@ -104,11 +104,11 @@ module _ (search : ℕ → List ℕ → ℕ → Option Occurrence) (seeks_them :
 
     loops : (number : ℕ) (pattern next : List ℕ) (rest : List (List ℕ)) (turns : ℕ) →
         Goes joins_all (loop_at (next ∷ rest) number pattern 0 turns) (loop_at rest (number + 1) (pattern ++ newline ∷ next) 0 (turns + 1 + 1 + 1)) []
-    unfolding move after written selects
+    unfolding next_move after written selects
     loops number pattern next rest turns = record { moves = 5; is = refl; wrote = refl }
 
     leaves_loop : (number : ℕ) (pattern : List ℕ) (turns : ℕ) → Goes joins_all (loop_at [] number pattern 0 turns) (loop_at [] number pattern 3 (turns + 1)) []
-    unfolding move selects
+    unfolding next_move selects
     leaves_loop number pattern turns = goes_one refl
 
     any_replaced : List Occurrence → Bool
@@ -118,16 +118,16 @@ module _ (search : ℕ → List ℕ → ℕ → Option Occurrence) (seeks_them :
     replaces_all : (number : ℕ) (pattern : List ℕ) (turns : ℕ) (ms : List Occurrence) → to_replace 1 true (occurrences (search 0 pattern) (length pattern)) ≡ ms →
         Goes joins_all (loop_at [] number pattern 3 turns)
         (within [] number (replaced_from pattern commas 0 ms) [] (any_replaced ms) (false ∷ false ∷ false ∷ false ∷ []) (Some 0) 4 (turns + 1)) []
-    unfolding move selects any_replaced
+    unfolding next_move selects any_replaced
     replaces_all number pattern turns [] e = goes_one (rw e refl)
     replaces_all number pattern turns (m ∷ ms) e = goes_one (rw e refl)
 
-    loop_ends : (number : ℕ) (pattern : List ℕ) (turns : ℕ) → Ends joins_all (loop_at [] number pattern 0 turns) (line_to 0 (map comma pattern))
+    loop_ends : (number : ℕ) (pattern : List ℕ) (turns : ℕ) → IsOutput joins_all (loop_at [] number pattern 0 turns) (line_to 0 (map comma pattern))
     loop_ends number pattern turns =
         let ms : List Occurrence = to_replace 1 true (occurrences (search 0 pattern) (length pattern)) in
         let r : Bool = any_replaced ms in
         let four : List Bool = false ∷ false ∷ false ∷ false ∷ [] in
-        subst (Ends joins_all (loop_at [] number pattern 0 turns)) (append-nil (line_to 0 (replaced_from pattern commas 0 ms)) ∙ ap (line_to 0) (commas_stand pattern))
+        subst (IsOutput joins_all (loop_at [] number pattern 0 turns)) (append-nil (line_to 0 (replaced_from pattern commas 0 ms)) ∙ ap (line_to 0) (commas_stand pattern))
         (ends_on (leaves_loop number pattern turns) (ends_on (replaces_all number pattern (turns + 1) ms refl)
         (ends_on (ends_line joins_all [] number (replaced_from pattern commas 0 ms) [] r four (Some 0) 4 (turns + 1 + 1) refl) (ends_there joins_all number [] r four (Some 0) (turns + 1 + 1)))))
 
@@ -136,10 +136,10 @@ module _ (search : ℕ → List ℕ → ℕ → Option Occurrence) (seeks_them :
     behind_newlines [] = []
     behind_newlines (line ∷ rest) = newline ∷ (line ++ behind_newlines rest)
 
-    joins_loop : (rest : List (List ℕ)) (number : ℕ) (pattern : List ℕ) (turns : ℕ) → Ends joins_all (loop_at rest number pattern 0 turns) (line_to 0 (map comma (pattern ++ behind_newlines rest)))
-    joins_loop [] number pattern turns = subst (λ (w : List ℕ). Ends joins_all (loop_at [] number pattern 0 turns) (line_to 0 (map comma w))) (sym (append-nil pattern)) (loop_ends number pattern turns)
+    joins_loop : (rest : List (List ℕ)) (number : ℕ) (pattern : List ℕ) (turns : ℕ) → IsOutput joins_all (loop_at rest number pattern 0 turns) (line_to 0 (map comma (pattern ++ behind_newlines rest)))
+    joins_loop [] number pattern turns = subst (λ (w : List ℕ). IsOutput joins_all (loop_at [] number pattern 0 turns) (line_to 0 (map comma w))) (sym (append-nil pattern)) (loop_ends number pattern turns)
     joins_loop (next ∷ rest) number pattern turns =
-        subst (λ (w : List ℕ). Ends joins_all (loop_at (next ∷ rest) number pattern 0 turns) (line_to 0 (map comma w))) (append_assoc pattern (newline ∷ next) (behind_newlines rest))
+        subst (λ (w : List ℕ). IsOutput joins_all (loop_at (next ∷ rest) number pattern 0 turns) (line_to 0 (map comma w))) (append_assoc pattern (newline ∷ next) (behind_newlines rest))
         (ends_on (loops number pattern next rest turns) (joins_loop rest (number + 1) (pattern ++ newline ∷ next) (turns + 1 + 1 + 1)))
 
     joined_with : (line : List ℕ) (rest : List (List ℕ)) → NoneBroken (line ∷ rest) → map comma (line ++ behind_newlines rest) ≡ join_with_byte 44 (line ∷ rest)
@@ -151,7 +151,7 @@ module _ (search : ℕ → List ℕ → ℕ → Option Occurrence) (seeks_them :
     joins_start line rest = begins_line joins_all line rest 0 [] false (false ∷ false ∷ false ∷ false ∷ []) None 0
 
     pub joins_run : (line : List ℕ) (rest : List (List ℕ)) → NoneBroken (line ∷ rest) →
-        Ends joins_all (between (line ∷ rest) 0 [] false (false ∷ false ∷ false ∷ false ∷ []) None 0) (line_to 0 (join_with_byte 44 (line ∷ rest)))
+        IsOutput joins_all (between (line ∷ rest) 0 [] false (false ∷ false ∷ false ∷ false ∷ []) None 0) (line_to 0 (join_with_byte 44 (line ∷ rest)))
     joins_run line rest none =
-        subst (λ (w : List ℕ). Ends joins_all (between (line ∷ rest) 0 [] false (false ∷ false ∷ false ∷ false ∷ []) None 0) (line_to 0 w)) (joined_with line rest none)
+        subst (λ (w : List ℕ). IsOutput joins_all (between (line ∷ rest) 0 [] false (false ∷ false ∷ false ∷ false ∷ []) None 0) (line_to 0 w)) (joined_with line rest none)
         (ends_on (joins_start line rest) (joins_loop rest 1 line 1))

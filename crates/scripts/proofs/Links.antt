@@ -1,7 +1,7 @@
 -- From the bytes of a script to its runs.
 use Rattle.std.proofs.Common.{◌≡◌, ℕ, List, [], ◌∷◌, map, Bool, ◌||◌, Option, None, Some, refl, ap, subst, ◌∙◌}
 use Rattle.std.proofs.Math.Path.{fun_ext}
-use Rattle.sedre.specs.Written.{Written, tree}
+use Rattle.sedre.specs.Written.{WrittenExpression, expression_tree}
 use Rattle.sedre.specs.Tree.{Tree}
 use Rattle.sedre.specs.declared.types.Kind.{Kind}
 use Rattle.sedre.specs.declared.types.Kind.TheVariants.{Basic}
@@ -14,7 +14,7 @@ use Rattle.sedspace.specs.Lines.{lines}
 use Rattle.sedengine.specs.State.{State, Setting}
 use Rattle.sedengine.specs.Move.{start}
 use Rattle.sedengine.specs.ScriptSetting.{match_with_span, search_in, finds_in}
-use Rattle.sededit.specs.Editing.{Ends}
+use Rattle.sededit.specs.Editing.{IsOutput}
 use Rattle.scripts.specs.Edited.{Sends}
 use Rattle.scripts.specs.Words.{match_with}
 
@@ -23,9 +23,9 @@ abbrev pub OneMeaning : Type 0
 OneMeaning = (text : List ℕ) (kind : Kind) (max_nodes : ℕ) (s t : Program) → Means text kind max_nodes s → Means text kind max_nodes t →
     (s.commands ≡ t.commands) × (s.texts ≡ t.texts) × (s.substitutions ≡ t.substitutions) × (s.tables ≡ t.tables)
     × (s.rfiles ≡ t.rfiles) × (s.wfiles ≡ t.wfiles) × (s.quiet ≡ t.quiet) × (s.max_nodes ≡ t.max_nodes)
-    × (map tree s.expressions ≡ map tree t.expressions) × (map (λ e. e.groups) s.expressions ≡ map (λ e. e.groups) t.expressions)
+    × (map expression_tree s.expressions ≡ map expression_tree t.expressions) × (map (λ e. e.groups) s.expressions ≡ map (λ e. e.groups) t.expressions)
 
-abbrev pub setting : List Command → List (List ℕ) → List Substitution → List (List ℕ) → Bool → List Written → (ℕ → List ℕ) → Setting
+abbrev pub setting : List Command → List (List ℕ) → List Substitution → List (List ℕ) → Bool → List WrittenExpression → (ℕ → List ℕ) → Setting
 setting commands texts substitutions tables quiet expressions files = record {
   commands = commands;
   texts = texts;
@@ -38,7 +38,7 @@ setting commands texts substitutions tables quiet expressions files = record {
 }
 
 -- what is so of the runs of some commands with their texts, substitutions and tables is so of those of equal ones
-pub same_run : (P : Setting → State → Type 0) (c c' : List Command) (tx tx' : List (List ℕ)) (sb sb' : List Substitution) (tb tb' : List (List ℕ)) (q q' : Bool) (es : List Written) (files : ℕ → List ℕ) (ls : List (List ℕ)) →
+pub same_run : (P : Setting → State → Type 0) (c c' : List Command) (tx tx' : List (List ℕ)) (sb sb' : List Substitution) (tb tb' : List (List ℕ)) (q q' : Bool) (es : List WrittenExpression) (files : ℕ → List ℕ) (ls : List (List ℕ)) →
     c ≡ c' → tx ≡ tx' → sb ≡ sb' → tb ≡ tb' → q ≡ q' → P (setting c tx sb tb q es files) (start c ls) → P (setting c' tx' sb' tb' q' es files) (start c' ls)
 same_run P c c' tx tx' sb sb' tb tb' q q' es files ls a b d e f h =
     subst (λ c. P (setting c tx' sb' tb' q' es files) (start c ls)) a
@@ -50,26 +50,26 @@ same_run P c c' tx tx' sb sb' tb tb' q q' es files ls a b d e f h =
 -- The runs of any script that the text means are those of this one, whatever its expressions are as long as they have these
 -- trees.
 pub sends : OneMeaning → (quiet : Bool) (text input : List ℕ) (out : List (ℕ × ℕ)) (p : Program) → Means text Basic 65536 p →
-    ((es : List Written) (files : ℕ → List ℕ) → map tree p.expressions ≡ map tree es →
-    Ends (setting p.commands p.texts p.substitutions p.tables (quiet || p.quiet) es files) (start p.commands (lines input)) out) → Sends quiet text input out
+    ((es : List WrittenExpression) (files : ℕ → List ℕ) → map expression_tree p.expressions ≡ map expression_tree es →
+    IsOutput (setting p.commands p.texts p.substitutions p.tables (quiet || p.quiet) es files) (start p.commands (lines input)) out) → Sends quiet text input out
 sends one quiet text input out p meant runs = record {
   means = (p, meant);
   runs = λ q files m.
       let same = one text Basic 65536 p q meant m in
-      same_run (λ g s. Ends g s out) p.commands q.commands p.texts q.texts p.substitutions q.substitutions p.tables q.tables (quiet || p.quiet) (quiet || q.quiet) q.expressions files (lines input)
+      same_run (λ g s. IsOutput g s out) p.commands q.commands p.texts q.texts p.substitutions q.substitutions p.tables q.tables (quiet || p.quiet) (quiet || q.quiet) q.expressions files (lines input)
       same.0 same.1 same.2 same.3 (ap (λ b. quiet || b) same.6) (runs q.expressions files same.8);
 }
 
 -- one expression, by its tree
-pub one_alone : (t : Tree) (es : List Written) → t ∷ [] ≡ map tree es → (e : Written) × (es ≡ e ∷ []) × (tree e ≡ t)
+pub one_alone : (t : Tree) (es : List WrittenExpression) → t ∷ [] ≡ map expression_tree es → (e : WrittenExpression) × (es ≡ e ∷ []) × (expression_tree e ≡ t)
 one_alone t [] h = absurd cc
 one_alone t (e ∷ []) h = (e, refl, cc)
 one_alone t (e ∷ f ∷ es) h = absurd cc
 
-pub found_by : (e : Written) (w : List ℕ) (o : Option (ℕ × ℕ)) → match_with_span e w o ≡ match_with (tree e) w o
+pub found_by : (e : WrittenExpression) (w : List ℕ) (o : Option (ℕ × ℕ)) → match_with_span e w o ≡ match_with (expression_tree e) w o
 found_by e w None = refl
 found_by e w (Some span) = refl
 
 -- how an expression of this tree is sought
-pub sought : (t : Tree) (e : Written) → tree e ≡ t → (w : List ℕ) → search_in (e ∷ []) 0 w ≡ (λ from. match_with t w (found t w from))
-sought t e same w = fun_ext (λ from. found_by e w (found (tree e) w from) ∙ ap (λ t. match_with t w (found t w from)) same)
+pub sought : (t : Tree) (e : WrittenExpression) → expression_tree e ≡ t → (w : List ℕ) → search_in (e ∷ []) 0 w ≡ (λ from. match_with t w (found t w from))
+sought t e same w = fun_ext (λ from. found_by e w (found (expression_tree e) w from) ∙ ap (λ t. match_with t w (found t w from)) same)

@@ -2,7 +2,7 @@
 use Rattle.std.proofs.Common.{◌≡◌, ℕ, zero, suc, ◌+◌, ◌<◌, ◌≤◌, ◌&&◌, ◌==◌, Bool, true, false, List, [], ◌∷◌, ◌++◌, length, Option, Some, None, Result, Ok, Err, refl, sym, ap, ap₂, subst, ◌∙◌, arith, if◌then◌else◌, slice_get, nat_lt}
 use Rattle.std.specs.Option.{option_len}
 use Rattle.sedre.specs.declared.types.Kind.{Kind}
-use Rattle.sedre.specs.Written.{Written}
+use Rattle.sedre.specs.Written.{WrittenExpression}
 use Rattle.sedre.specs.Delimited.{delimiter_at}
 use Rattle.std.proofs.lemmas.Option.{slice_get_within}
 use Rattle.sedscript.specs.declared.bytes.Sort.TheVariants.{Blank, Bang, Digit, Separator}
@@ -29,7 +29,7 @@ use Rattle.sedscript.specs.Replacement.{replacement_fault}
 use Rattle.sedscript.specs.Between.{own_delimiter, substitute_strings, unless_fault, flags_after, flagged, substituted}
 use Rattle.sedscript.specs.Reading.{Pattern, Reading, plainly, expression, ◌>>=◌}
 use Rattle.sedscript.specs.Expressions.{Gives, value, after_expression}
-use Rattle.sedscript.specs.Addresses.{Addressed, Headed, found, headed, line_of, folds_at, past_flag, empty_match, match_to, match_at, own_match, address_of, address_at, with_second, second_at, after_first, addresses_at, with_bang}
+use Rattle.sedscript.specs.Addresses.{Addressed, Headed, found, with_addresses, line_of, folds_at, past_flag, empty_match, match_to, match_at, own_match, address_of, address_at, with_second, second_at, after_first, addresses_at, with_bang}
 use Rattle.sedscript.specs.Items.{substitute_with, substitute_at, function_with, function_at, function_after, item_with, item_from, item_at}
 use Rattle.sedscript.proofs.Coming.{gives_then}
 use Rattle.scripts.proofs.LongerText.{tail_of, past_low, past_high, near, there, past_on, past_separators, between_on}
@@ -75,14 +75,14 @@ option_len_same count (Some (address.Line n)) = refl
 option_len_same count (Some Last) = refl
 
 -- what is read after what was read
-pub gives_parts : {A B : Type 0} (text : List ℕ) (kind : Kind) (m : ℕ) (r : Reading A) (k : A → Reading B) (es : List Written) (y : B) → Gives text kind m (r >>= k) es y →
-    (fs : List Written) × (gs : List Written) × (x : A) × Gives text kind m r fs x × Gives text kind m (k x) gs y × (es ≡ fs ++ gs)
+pub gives_parts : {A B : Type 0} (text : List ℕ) (kind : Kind) (m : ℕ) (r : Reading A) (k : A → Reading B) (es : List WrittenExpression) (y : B) → Gives text kind m (r >>= k) es y →
+    (fs : List WrittenExpression) × (gs : List WrittenExpression) × (x : A) × Gives text kind m r fs x × Gives text kind m (k x) gs y × (es ≡ fs ++ gs)
 gives_parts text kind m (plainly (Ok x)) k es y g = ([], es, x, value, g, refl)
 gives_parts text kind m (plainly (Err f)) k es y g = elim g [ ]
 gives_parts text kind m (expression p l) k _ y (after_expression {es = es} e is g) =
-    let h = gives_parts text kind m (l e.groups) k es y g in (e ∷ h.0, h.1, h.2, after_expression e is h.3, h.4, ap (λ (es : List Written). e ∷ es) h.5)
+    let h = gives_parts text kind m (l e.groups) k es y g in (e ∷ h.0, h.1, h.2, after_expression e is h.3, h.4, ap (λ (es : List WrittenExpression). e ∷ es) h.5)
 
-gives_value : {A : Type 0} (text : List ℕ) (kind : Kind) (m : ℕ) (x y : A) (es : List Written) → Gives text kind m (plainly (Ok x)) es y → y ≡ x
+gives_value : {A : Type 0} (text : List ℕ) (kind : Kind) (m : ℕ) (x y : A) (es : List WrittenExpression) → Gives text kind m (plainly (Ok x)) es y → y ≡ x
 gives_value text kind m x y _ value = refl
 
 module _ (before text : List ℕ) (more : Option (List ℕ)) (n : ℕ) (kind : Kind) (m : ℕ) where
@@ -97,7 +97,7 @@ module _ (before text : List ℕ) (more : Option (List ℕ)) (n : ℕ) (kind : K
 
   -- what a reading gives in the text, the other gives in the whole one, as it stands there
   abbrev Stays : {A B : Type 0} → (A → Type 0) → (A → B) → Reading A → Reading B → Type 0
-  Stays {A = A} P f r z = (es : List Written) (x : A) → Gives text kind m r es x → Gives whole kind m z es (f x) × P x
+  Stays {A = A} P f r z = (es : List WrittenExpression) (x : A) → Gives text kind m r es x → Gives whole kind m z es (f x) × P x
 
   stays_plainly : {A B : Type 0} (P : A → Type 0) (f : A → B) (r : Result A ScriptFault) (z : Result B ScriptFault) → Same P f r z → Stays P f (plainly r) (plainly z)
   stays_plainly {B = B} P f (Ok x) z h _ _ value = (subst (λ (z : Result B ScriptFault). Gives whole kind m (plainly z) [] (f x)) (sym h.0) value, h.1)
@@ -112,7 +112,7 @@ module _ (before text : List ℕ) (more : Option (List ℕ)) (n : ℕ) (kind : K
       let parts = gives_parts text kind m r k es y given in
       let first = h parts.0 parts.2 parts.3 in
       let second = on parts.2 first.1 parts.1 y parts.4 in
-      (subst (λ (es : List Written). Gives whole kind m (z >>= l) es (g y)) (sym parts.5) (gives_then whole kind m z l parts.0 parts.1 (f parts.2) (g y) first.0 second.0), second.1)
+      (subst (λ (es : List WrittenExpression). Gives whole kind m (z >>= l) es (g y)) (sym parts.5) (gives_then whole kind m z l parts.0 parts.1 (f parts.2) (g y) first.0 second.0), second.1)
 
   stays_if : {A B : Type 0} (P : A → Type 0) (f : A → B) (t : Bool) (x y : Reading A) (z w : Reading B) → Stays P f x z → Stays P f y w → Stays P f (if t then x else y) (if t then z else w)
   stays_if P f true x y z w h g = h
@@ -136,7 +136,7 @@ module _ (before text : List ℕ) (more : Option (List ℕ)) (n : ℕ) (kind : K
   stays_nothing {A = A} P f p r z bad _ x (after_expression {es = es} e is g) =
       absurd (none (bad e.groups).0 es x (subst (λ (r : Result A ScriptFault). Gives text kind m (plainly r) es x) (bad e.groups).1 g))
     where
-      none : (g : ScriptFault) (es : List Written) (x : A) → Gives text kind m (plainly (Err g)) es x → ⊥
+      none : (g : ScriptFault) (es : List WrittenExpression) (x : A) → Gives text kind m (plainly (Err g)) es x → ⊥
       none g es x h = elim h [ ]
 
   -- ---- addresses
@@ -243,7 +243,7 @@ module _ (before text : List ℕ) (more : Option (List ℕ)) (n : ℕ) (kind : K
       (λ x h. stays_plainly (HeadedIn end) (move_headed base n) _ _ (by_address x x.address h))
     where
       both : (x : Addressed) (a b : Address) → Some b ≡ move_address n (Some a) → x.at ≤ end → Same (HeadedIn end) (move_headed base n) (with_second first at x (Some a)) (with_second other place (move_addressed base n x) (Some b))
-      both x a b g h = (ap₂ (λ o p. headed o p (base + x.at) (n + x.count)) f g, h)
+      both x a b g h = (ap₂ (λ o p. with_addresses o p (base + x.at) (n + x.count)) f g, h)
 
       by_address : (x : Addressed) (o : Option Address) → x.at ≤ end → Same (HeadedIn end) (move_headed base n) (with_second first at x o) (with_second other place (move_addressed base n x) (move_address n o))
       by_address x None h = tt
@@ -260,18 +260,18 @@ module _ (before text : List ℕ) (more : Option (List ℕ)) (n : ℕ) (kind : K
           let blanks : past Blank whole (base + at) ≡ base + past Blank text at = past_on before text more Blank at le refl in
           let high : past Blank text at ≤ end = past_high Blank text at le in
           let comma : is_byte 44 (slice_get whole (past Blank whole (base + at))) ≡ is_byte 44 (slice_get text (past Blank text at)) = ap (λ (k : ℕ). is_byte 44 (slice_get whole k)) blanks ∙ near before text more (is_byte 44) (past Blank text at) high refl in
-          subst (λ (t : Bool). HeadStays (after_first text count at (Some a)) (if t then second_at whole (n + count) b (past Blank whole (past Blank whole (base + at) + 1)) else plainly (headed (Some b) None (base + at) (n + count)))) (sym comma)
+          subst (λ (t : Bool). HeadStays (after_first text count at (Some a)) (if t then second_at whole (n + count) b (past Blank whole (past Blank whole (base + at) + 1)) else plainly (with_addresses (Some b) None (base + at) (n + count)))) (sym comma)
           (by_comma (is_byte 44 (slice_get text (past Blank text at))) refl blanks)
         where
           by_comma : (t : Bool) → is_byte 44 (slice_get text (past Blank text at)) ≡ t → past Blank whole (base + at) ≡ base + past Blank text at →
-              HeadStays (if t then second_at text count a (past Blank text (past Blank text at + 1)) else plainly (headed (Some a) None at count)) (if t then second_at whole (n + count) b (past Blank whole (past Blank whole (base + at) + 1)) else plainly (headed (Some b) None (base + at) (n + count)))
+              HeadStays (if t then second_at text count a (past Blank text (past Blank text at + 1)) else plainly (with_addresses (Some a) None at count)) (if t then second_at whole (n + count) b (past Blank whole (past Blank whole (base + at) + 1)) else plainly (with_addresses (Some b) None (base + at) (n + count)))
           by_comma true g blanks =
               let low = byte_inside 44 (past Blank text at) g in
               let short : past Blank text at + 1 ≤ end = omega (arith, low) in
               let one : past Blank whole (base + at) + 1 ≡ base + (past Blank text at + 1) = omega (arith, blanks) in
               second_on count a (past Blank text (past Blank text at + 1)) (past Blank whole (past Blank whole (base + at) + 1)) b (past_high Blank text (past Blank text at + 1) short)
               (ap (past Blank whole) one ∙ past_on before text more Blank (past Blank text at + 1) short refl) f
-          by_comma false g blanks = stays_plainly (HeadedIn end) (move_headed base n) _ _ (ap (λ o. headed o None (base + at) (n + count)) f, le)
+          by_comma false g blanks = stays_plainly (HeadedIn end) (move_headed base n) _ _ (ap (λ o. with_addresses o None (base + at) (n + count)) f, le)
 
       by_address : (o : Option Address) → HeadStays (after_first text count at o) (after_first whole (n + count) (base + at) (move_address n o))
       by_address None = stays_plainly (HeadedIn end) (move_headed base n) _ _ (refl, le)
@@ -374,7 +374,7 @@ module _ (before text : List ℕ) (more : Option (List ℕ)) (n : ℕ) (kind : K
           (λ verb h. stays_then (EndsIn end) (move_found base n) (HereIn end) (move_here base n) (function_with text count verb at) (function_with whole (n + count) verb (base + at)) _ _ (function_with_on count at verb low)
           (λ x k. stays_plainly (HereIn end) (move_here base n) _ _ (refl, k))))
 
-  pub item_on : (count at next : ℕ) (es : List Written) (i : Item) → at ≤ end → Gives text kind m (item_at text count at) es (Is i next) →
+  pub item_on : (count at next : ℕ) (es : List WrittenExpression) (i : Item) → at ≤ end → Gives text kind m (item_at text count at) es (Is i next) →
       Gives whole kind m (item_at whole (n + count) (base + at)) es (Is (move_item base n i) (base + next)) × FunctionIn end i.function × (next ≤ end)
   unfolding item_at
   item_on count at next es i le given = by_byte (slice_get text (past Separator text at)) refl given

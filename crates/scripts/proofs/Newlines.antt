@@ -8,7 +8,7 @@ use Rattle.sedre.specs.Sets.{only, has}
 use Rattle.sedre.specs.WordLaws.{has-set_of}
 use Rattle.sedre.proofs.ByteLemmas.{only_true}
 use Rattle.sedspace.specs.Lines.{is_newline}
-use Rattle.sedmatch.specs.Spans.{Spans}
+use Rattle.sedmatch.specs.Spans.{Matches}
 use Rattle.sedmatch.specs.Matching.{found}
 use Rattle.sedmatch.proofs.MatchingLemmas.{found-iff, not_found-iff}
 
@@ -18,10 +18,10 @@ newline_alone = set (only 10)
 has_ten : has (only 10) 10 ≡ true
 has_ten = has-set_of (λ c. c == 10) 10 (omega arith)
 
-spans_it : (w : List ℕ) (i : ℕ) → slice_get w i ≡ Some 10 → Spans newline_alone w i (i + 1)
+spans_it : (w : List ℕ) (i : ℕ) → slice_get w i ≡ Some 10 → Matches newline_alone w i (i + 1)
 spans_it w i e = (10, e, has_ten, refl)
 
-is_it : (w : List ℕ) (i j : ℕ) → Spans newline_alone w i j → (slice_get w i ≡ Some 10) × (j ≡ i + 1)
+is_it : (w : List ℕ) (i j : ℕ) → Matches newline_alone w i j → (slice_get w i ≡ Some 10) × (j ≡ i + 1)
 is_it w i j h = (h.1 ∙ ap (λ b. Some b) (only_true 10 (only 10) refl h.0 h.2), h.3)
 
 none_there : (left : List ℕ) (k : ℕ) → list_any is_newline left ≡ false → slice_get left k ≡ Some 10 → ⊥

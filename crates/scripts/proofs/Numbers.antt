@@ -9,7 +9,7 @@ use Rattle.std.proofs.Math.Seq.{drop-append_seam, take-append_seam}
 use Rattle.std.proofs.lemmas.Bool.Decides.{nat_tests}
 use Rattle.sedscript.specs.declared.bytes.Sort.TheVariants.{Blank, Separator, Digit}
 use Rattle.sedscript.specs.declared.types.Address.TheVariants.{Line}
-use Rattle.sedscript.specs.Addresses.{found, address_at, addresses_at, addresses_of, after_first, headed, second_at, with_bang, with_second}
+use Rattle.sedscript.specs.Addresses.{found, address_at, addresses_at, addresses_of, after_first, with_addresses, second_at, with_bang, with_second}
 use Rattle.sedscript.specs.Bytes.{past, is_digit, is_blank, bytes_between, with_digit, with_digits, belongs}
 use Rattle.sedscript.specs.declared.bytes.Sort.{Sort}
 use Rattle.sedscript.specs.declared.types.Address.{Address}
@@ -23,7 +23,7 @@ use Rattle.sedscript.specs.Script.{IsEnd, Means, item, done, is_quiet}
 use Rattle.sedscript.specs.Functions.{ended, item_of}
 use Rattle.sedscript.specs.Expressions.{Gives, value}
 use Rattle.sedscript.specs.Targets.{target_fault}
-use Rattle.sedre.specs.Written.{Written}
+use Rattle.sedre.specs.Written.{WrittenExpression}
 use Rattle.sedre.specs.declared.types.Kind.TheVariants.{Basic}
 use Rattle.sedscript.specs.declared.items.Function.{Function}
 use Rattle.examples.proofs.ComputedScript.{program_of}
@@ -167,7 +167,7 @@ starts_there text ds b rest n e writes =
     rw (past_none Separator text 0 one.0 (one.1 ++ b ∷ rest) there (digit_separates one.0 digit), byte_there text 0 one.0 (one.1 ++ b ∷ rest) there) refl
 
 pub no_comma : (text : List ℕ) (count at b : ℕ) (rest : List ℕ) (first : Address) → drop at text ≡ b ∷ rest → is_blank b ≡ false → (b == 44) ≡ false →
-    after_first text count at (Some first) ≡ plainly (headed (Some first) None at count)
+    after_first text count at (Some first) ≡ plainly (with_addresses (Some first) None at count)
 no_comma text count at b rest first e f g = rw (past_none Blank text at b rest e f, byte_there text at b rest e, g) refl
 
 quit_item : (ds : List ℕ) (n : ℕ) → WritesNumber ds (suc n) → item_at (ds ++ 113 ∷ []) 0 0 ≡ plainly (Ok (Is (plain_item (Some (Line (suc n))) None (length ds) Quit) (length ds + 1)))
@@ -210,7 +210,7 @@ module _ (ds es : List ℕ) (n m : ℕ) (writes : WritesNumber ds (suc n)) (writ
   first_address : address_at cut_text 0 0 ≡ plainly (found (Some (Line (suc n))) (length ds) 0)
   first_address = let place : 0 + length ds ≡ length ds = omega arith in number_is cut_text 0 0 ds 44 (es ++ 100 ∷ []) n refl writes refl ∙ ap (λ at. plainly (found (Some (Line (suc n))) at 0)) place
 
-  second_address : second_at cut_text 0 (Line (suc n)) second_place ≡ plainly (headed (Some (Line (suc n))) (Some (Line (suc m))) (second_place + length es) 0)
+  second_address : second_at cut_text 0 (Line (suc n)) second_place ≡ plainly (with_addresses (Some (Line (suc n))) (Some (Line (suc m))) (second_place + length es) 0)
   unfolding second_at
   second_address = ap (λ r. r >>= λ x. plainly (with_second (Line (suc n)) second_place x x.address)) (number_is cut_text 0 second_place es 100 [] m behind_comma writes_too refl)
 
@@ -243,7 +243,7 @@ digit_not_quiet ds b rest n writes =
     digit_no_hash d h = grind (arith, nat_tests)
 
 -- a text of one item means the script of that item
-pub means_one : (text : List ℕ) (i : Item) (es : List Written) (to : ℕ) → Gives text Basic 65536 (item_at text 0 0) es (Is i to) → IsEnd text to → target_fault text (i ∷ []) ≡ None → is_quiet text ≡ false →
+pub means_one : (text : List ℕ) (i : Item) (es : List WrittenExpression) (to : ℕ) → Gives text Basic 65536 (item_at text 0 0) es (Is i to) → IsEnd text to → target_fault text (i ∷ []) ≡ None → is_quiet text ≡ false →
     Means text Basic 65536 (record (program_of text Basic 65536 (i ∷ []) (es ++ [])) { quiet = false })
 means_one text i es to gives ends settled loud = record {
   items = i ∷ [];

@@ -6,12 +6,12 @@ use Rattle.sedengine.specs.State.{begin, do_at, State, Setting}
 use Rattle.sedengine.specs.Move.{line_to, to_sink}
 use Rattle.sedengine.specs.Devices.{part}
 use Rattle.sedengine.proofs.Gains.{part-same}
-use Rattle.sededit.specs.Editing.{Ends}
+use Rattle.sededit.specs.Editing.{IsOutput}
 use Rattle.scripts.specs.Edited.{text_of}
 use Rattle.scripts.proofs.Ample.{both_ended}
 use Rattle.scripts.proofs.Cycles.{Goes, goes_on, ends_on, between, within, printed, begins_line, ends_line, deletes_line, ends_there, line_first}
 use Rattle.scripts.proofs.Edits.{Between, Within, Deleted, Leads}
-use Rattle.scripts.proofs.EditedLines.{AreAlike, Both, EndsThen, Follows, GoodResult, Matches, cycle, ends_then, keeps_matches, result_at}
+use Rattle.scripts.proofs.EditedLines.{AreAlike, Both, EndsThen, Follows, GoodResult, RangesAgree, cycle, ends_then, keeps_matches, result_at}
 use Rattle.scripts.proofs.LineLaws.{NoneBroken, lines_none_broken}
 use Rattle.scripts.proofs.Unbroken.{Unbroken, lines_again}
 
@@ -57,17 +57,17 @@ finishes g n ls ra count None s loud none leads = let f = finishes_deleted g n l
 finishes g n ls ra count (Some w) s loud none leads = let f = finishes_kept g n ls ra count w leads.0 loud none leads.2 in (f.0, goes_on leads.1 f.1, f.2)
 
 -- a run over no lines
-ends_at_once : (g : Setting) (n : ℕ) (ra : List Bool) (s : State) → Between n [] ra s → Ends g s []
-ends_at_once g n ra s at = subst (λ (x : State). Ends g x []) (sym at.is) (ends_there g n at.hold at.replaced ra at.used at.turns)
+ends_at_once : (g : Setting) (n : ℕ) (ra : List Bool) (s : State) → Between n [] ra s → IsOutput g s []
+ends_at_once g n ra s at = subst (λ (x : State). IsOutput g x []) (sym at.is) (ends_there g n at.hold at.replaced ra at.used at.turns)
 
-wrote_none : (g : Setting) (n : ℕ) (ra : List Bool) (s : State) (out : List (ℕ × ℕ)) → Between n [] ra s → Ends g s out → out ≡ []
+wrote_none : (g : Setting) (n : ℕ) (ra : List Bool) (s : State) (out : List (ℕ × ℕ)) → Between n [] ra s → IsOutput g s out → out ≡ []
 wrote_none g n ra s out at ends = let once = ends_at_once g n ra s at in sym ends.wrote ∙ both_ended g s once.moves ends.moves once.ended ends.ended ∙ once.wrote
 
 -- on from a state between two cycles, and from one within a cycle
-then_between : {g : Setting} {s now : State} {before out : List (ℕ × ℕ)} (n : ℕ) (ls : List (List ℕ)) (ra : List Bool) → Goes g s now before → Between n ls ra now → Ends g s out → EndsThen g now before out
+then_between : {g : Setting} {s now : State} {before out : List (ℕ × ℕ)} (n : ℕ) (ls : List (List ℕ)) (ra : List Bool) → Goes g s now before → Between n ls ra now → IsOutput g s out → EndsThen g now before out
 then_between n ls ra goes at ends = ends_then begin [] goes (ap (λ (x : State). x.tasks) at.is) ends
 
-then_within : {g : Setting} {s now : State} {before out : List (ℕ × ℕ)} (n : ℕ) (ls : List (List ℕ)) (ra : List Bool) (k : ℕ) (w : List ℕ) → Goes g s now before → Within n ls ra k w now → Ends g s out → EndsThen g now before out
+then_within : {g : Setting} {s now : State} {before out : List (ℕ × ℕ)} (n : ℕ) (ls : List (List ℕ)) (ra : List Bool) (k : ℕ) (w : List ℕ) → Goes g s now before → Within n ls ra k w now → IsOutput g s out → EndsThen g now before out
 then_within n ls ra k w goes at ends = ends_then (do_at k) [] goes (ap (λ (x : State). x.tasks) at.is) ends
 
 -- the first script gets the lines that the joint run gets; those of the second are any
@@ -98,12 +98,12 @@ module _ (g1 g2 g : Setting) (n m : ℕ) (loud1 : g1.quiet ≡ false) (loud2 : g
 
   -- the ranges of the first script and of the second, and those of the joint run
   record Ranges (ra rb all : List Bool) : Type 0 where
-    of_first : Matches (λ k. k) n ra all
-    of_second : Matches second_at m rb all
+    of_first : RangesAgree (λ k. k) n ra all
+    of_second : RangesAgree second_at m rb all
 
   -- what the second writes over lines is what the joint run writes over the lines of which the first makes them
   abbrev Hands : ℕ → List (List ℕ) → List Bool → List (List ℕ) → Type 0
-  Hands i ls ra mids = (j : ℕ) (rb all : List Bool) (t u : State) (out : List (ℕ × ℕ)) → Ranges ra rb all → Between i ls all t → Between j mids rb u → Ends g2 u out → Ends g t out
+  Hands i ls ra mids = (j : ℕ) (rb all : List Bool) (t u : State) (out : List (ℕ × ℕ)) → Ranges ra rb all → Between i ls all t → Between j mids rb u → IsOutput g2 u out → IsOutput g t out
 
   record Made (i : ℕ) (ls : List (List ℕ)) (ra : List Bool) (out : List (ℕ × ℕ)) : Type 0 where
     mids : List (List ℕ)
@@ -112,7 +112,7 @@ module _ (g1 g2 g : Setting) (n m : ℕ) (loud1 : g1.quiet ≡ false) (loud2 : g
     hands : Hands i ls ra mids
 
   -- the second script's cycle over one line
-  second_cycle : (i j : ℕ) (w : List ℕ) (rest mids : List (List ℕ)) (ra rb all : List Bool) (t u : State) (out : List (ℕ × ℕ)) → Ranges ra rb all → Within i rest all n w t → Between j (w ∷ mids) rb u → Hands i rest ra mids → Ends g2 u out → Ends g t out
+  second_cycle : (i j : ℕ) (w : List ℕ) (rest mids : List (List ℕ)) (ra rb all : List Bool) (t u : State) (out : List (ℕ × ℕ)) → Ranges ra rb all → Within i rest all n w t → Between j (w ∷ mids) rb u → Hands i rest ra mids → IsOutput g2 u out → IsOutput g t out
   second_cycle i j w rest mids ra rb all t u out ranges at_t at_u hands ends =
       let starts = begins g2 j w mids rb u at_u in
       let e = then_within (j + 1) mids rb 0 w starts.1 starts.2 ends in
@@ -124,11 +124,11 @@ module _ (g1 g2 g : Setting) (n m : ℕ) (loud1 : g1.quiet ≡ false) (loud2 : g
       let kept : Ranges ra c.ranges there.after = record { of_first = keeps_matches (λ k. k) second_at n m ra all there.after ranges.of_first there.keeps first_not_second; of_second = there.matches } in
       let goes_so = ends_on ours.1 (hands (j + 1) c.ranges there.after ours.0 mine.0 left.more kept ours.2 mine.2 left.ends) in
       let whole : out ≡ of_result c.result ++ left.more = e.all ∙ left.all in
-      subst (λ (out : List (ℕ × ℕ)). Ends g t out) (sym whole) goes_so
+      subst (λ (out : List (ℕ × ℕ)). IsOutput g t out) (sym whole) goes_so
 
   -- the first script's cycle over one line
   first_cycle : (i : ℕ) (line : List ℕ) (rest : List (List ℕ)) (ra now : List Bool) (result : Option (List ℕ)) (out more : List (ℕ × ℕ)) → GoodResult Unbroken result → out ≡ of_result result ++ more → Made (i + 1) rest now more →
-      ((all : List Bool) (t : State) → Matches (λ k. k) n ra all → Within (i + 1) rest all 0 line t → Follows g (i + 1) rest (λ k. k) n now all (result_at n result) t) → Made i (line ∷ rest) ra out
+      ((all : List Bool) (t : State) → RangesAgree (λ k. k) n ra all → Within (i + 1) rest all 0 line t → Follows g (i + 1) rest (λ k. k) n now all (result_at n result) t) → Made i (line ∷ rest) ra out
   first_cycle i line rest ra now None out more good all made there = record {
     mids = made.mids;
     wrote = all ∙ made.wrote;
@@ -151,12 +151,12 @@ module _ (g1 g2 g : Setting) (n m : ℕ) (loud1 : g1.quiet ≡ false) (loud2 : g
         ends_on starts.1 (ends_on on.leads.1 (second_cycle (i + 1) j w rest made.mids now rb on.after on.leads.0 u out kept on.leads.2 at_u made.hands ends));
   }
 
-  made_of : (ls : List (List ℕ)) (i : ℕ) (ra : List Bool) (s : State) (out : List (ℕ × ℕ)) → NoneBroken ls → Between i ls ra s → Ends g1 s out → Made i ls ra out
+  made_of : (ls : List (List ℕ)) (i : ℕ) (ra : List Bool) (s : State) (out : List (ℕ × ℕ)) → NoneBroken ls → Between i ls ra s → IsOutput g1 s out → Made i ls ra out
   made_of [] i ra s out none_broken at ends = record {
     mids = [];
     wrote = wrote_none g1 i ra s out at ends;
     whole = tt;
-    hands = λ j rb all t u out ranges at_t at_u ends. subst (λ (out : List (ℕ × ℕ)). Ends g t out) (sym (wrote_none g2 j rb u out at_u ends)) (ends_at_once g i all t at_t);
+    hands = λ j rb all t u out ranges at_t at_u ends. subst (λ (out : List (ℕ × ℕ)). IsOutput g t out) (sym (wrote_none g2 j rb u out at_u ends)) (ends_at_once g i all t at_t);
   }
   made_of (line ∷ rest) i ra s out none_broken at ends =
       let starts = begins g1 i line rest ra s at in
@@ -168,8 +168,8 @@ module _ (g1 g2 g : Setting) (n m : ℕ) (loud1 : g1.quiet ≡ false) (loud2 : g
       (λ all t match at_t. c.there (i + 1) rest all t (refl, refl) match at_t)
 
   -- from the bytes of the input to what the joint run writes
-  pub in_turn_run : (input middle : List ℕ) (out : List (ℕ × ℕ)) (ra rb all : List Bool) (s t u : State) → Matches (λ k. k) n ra all → Matches (λ k. n + k) m rb all →
-      Between 0 (lines input) ra s → Between 0 (lines input) all t → Between 0 (lines middle) rb u → Ends g1 s (to_sink 0 middle) → Ends g2 u out → Ends g t out
+  pub in_turn_run : (input middle : List ℕ) (out : List (ℕ × ℕ)) (ra rb all : List Bool) (s t u : State) → RangesAgree (λ k. k) n ra all → RangesAgree (λ k. n + k) m rb all →
+      Between 0 (lines input) ra s → Between 0 (lines input) all t → Between 0 (lines middle) rb u → IsOutput g1 s (to_sink 0 middle) → IsOutput g2 u out → IsOutput g t out
   in_turn_run input middle out ra rb all s t u one two at_s at_t at_u a b =
       let made = made_of (lines input) 0 ra s (to_sink 0 middle) (lines_none_broken input) at_s a in
       let middle_is : middle ≡ text_of made.mids = sym (part-same 0 middle) ∙ ap (part 0) made.wrote ∙ part-same 0 (text_of made.mids) in

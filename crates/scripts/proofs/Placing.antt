@@ -8,7 +8,7 @@ use Rattle.std.proofs.lemmas.Bool.Decides.{nat_tests}
 use Rattle.std.proofs.lemmas.List.{length-map}
 use Rattle.std.proofs.lemmas.Option.{slice_get-map, slice_get_past}
 use Rattle.sedspace.specs.Lines.{lines}
-use Rattle.sedre.specs.Written.{Written}
+use Rattle.sedre.specs.Written.{WrittenExpression}
 use Rattle.sedscript.specs.declared.types.Address.{Address}
 use Rattle.sedscript.specs.declared.types.Address.TheVariants.{Match, Line, Last}
 use Rattle.sedscript.specs.declared.types.Command.{Command}
@@ -24,12 +24,12 @@ use Rattle.sedengine.specs.Substitute.{Occurrence, occurrences, to_replace}
 use Rattle.sedengine.proofs.Writing.{slice_get-append_add}
 use Rattle.examples.proofs.ComputedEnds.{both}
 use Rattle.scripts.specs.Edited.{RunsTo}
-use Rattle.scripts.specs.InTurn.{Before, BreaksNoLine, OnlyEdits, action_behind, address_behind, all_of, asks_own, command_behind, edits, in_turn, is_break, is_own, only_edits, replaces_only, sink_behind, substitution_behind}
+use Rattle.scripts.specs.InTurn.{Before, BreaksNoLine, EachOnlyEdits, action_behind, address_behind, all_of, asks_own, command_behind, edits, in_turn, is_break, is_own, only_edits, replaces_only, sink_behind, substitution_behind}
 use Rattle.scripts.proofs.Truth.{not_so}
 use Rattle.scripts.proofs.LongerText.{in_front}
 use Rattle.scripts.proofs.NoneBefore.{none_before, same_command, same_substitution}
 use Rattle.scripts.proofs.Edits.{Test, Between, Chosen, Edit, Makes, Replaces, block, change, delete, with_found}
-use Rattle.scripts.proofs.EditedLines.{AreAlike, Both, Fits, Matches, placed}
+use Rattle.scripts.proofs.EditedLines.{AreAlike, Both, Fits, RangesAgree, placed}
 use Rattle.scripts.proofs.OneAfterOther.{AnyLines, SameLines, in_turn_run}
 use Rattle.scripts.proofs.Unbroken.{Unbroken, unbroken_map, unbroken_replaced}
 
@@ -171,7 +171,7 @@ chooses_alike false p finds c h k active n n' ls ls' w alike = ap (with_bang c.n
 -- what stands in a script stands in another one, behind so much
 record Placed (p r : Program) (b : Before) : Type 0 where
   commands : (k : ℕ) (c : Command) (counts : Bool) → slice_get p.commands k ≡ Some c → only_edits counts p c ≡ true → slice_get r.commands (b.commands + k) ≡ Some (command_behind b c)
-  expressions : (e : ℕ) (x : Written) → slice_get p.expressions e ≡ Some x → slice_get r.expressions (b.expressions + e) ≡ Some x
+  expressions : (e : ℕ) (x : WrittenExpression) → slice_get p.expressions e ≡ Some x → slice_get r.expressions (b.expressions + e) ≡ Some x
   substitutions : (k : ℕ) (t : Substitution) → slice_get p.substitutions k ≡ Some t → slice_get r.substitutions (b.substitutions + k) ≡ Some (substitution_behind b t)
   tables : (k : ℕ) (x : List ℕ) → slice_get p.tables k ≡ Some x → slice_get r.tables (b.tables + k) ≡ Some x
 
@@ -182,14 +182,14 @@ tests counts p c h =
     let two = both (asks_own counts p c.second) (edits p c.action) one.1 in (one.0, two.0, two.1)
 
 -- and those of a substitution
-is_plain : (p : Program) (t : Substitution) → replaces_only p (Some t) ≡ true → (e : ℕ) × (x : Written) × (t.expression ≡ Some e) × (slice_get p.expressions e ≡ Some x) × (t.print ≡ false) × (t.file ≡ None)
+is_plain : (p : Program) (t : Substitution) → replaces_only p (Some t) ≡ true → (e : ℕ) × (x : WrittenExpression) × (t.expression ≡ Some e) × (slice_get p.expressions e ≡ Some x) × (t.print ≡ false) × (t.file ≡ None)
 is_plain p t h =
     let one = both (is_own p t.expression) (not t.print && is_none t.file) h in
     let two = both (not t.print) (is_none t.file) one.1 in
     let e = own t.expression one.0 in
     (e.0, e.1, e.2, e.3, not_so t.print two.0, is_none_so t.file two.1)
   where
-    own : (o : Option ℕ) → is_own p o ≡ true → (e : ℕ) × (x : Written) × (o ≡ Some e) × (slice_get p.expressions e ≡ Some x)
+    own : (o : Option ℕ) → is_own p o ≡ true → (e : ℕ) × (x : WrittenExpression) × (o ≡ Some e) × (slice_get p.expressions e ≡ Some x)
     own None h = absurd cc
     own (Some e) h = let x = there_is (slice_get p.expressions e) h in (e, x.0, refl, x.1)
 
@@ -215,10 +215,10 @@ module _ (p : Program) (files : ℕ → List ℕ) where
     abbrev to : ℕ → ℕ
     to k = b.commands + k
 
-    same_finds : (e : ℕ) (x : Written) (w : List ℕ) → slice_get p.expressions e ≡ Some x → g.finds (b.expressions + e) w ≡ g1.finds e w
+    same_finds : (e : ℕ) (x : WrittenExpression) (w : List ℕ) → slice_get p.expressions e ≡ Some x → g.finds (b.expressions + e) w ≡ g1.finds e w
     same_finds e x w h = ap (λ o. has_match o w) (is.expressions e x h ∙ sym h)
 
-    same_search : (e : ℕ) (x : Written) (w : List ℕ) → slice_get p.expressions e ≡ Some x → g.search (b.expressions + e) w ≡ g1.search e w
+    same_search : (e : ℕ) (x : WrittenExpression) (w : List ℕ) → slice_get p.expressions e ≡ Some x → g.search (b.expressions + e) w ≡ g1.search e w
     same_search e x w h = ap (λ o. search_for o w) (is.expressions e x h ∙ sym h)
 
     -- what it chooses there
@@ -302,7 +302,7 @@ module _ (p : Program) (files : ℕ → List ℕ) where
       fits_so (Transliterate k) h = keeps_table k
       fits_so other h = absurd cc
 
-      both_at : (counts : Bool) → OnlyEdits counts p → (k : ℕ) → k < length p.commands → Both (AlikeIn counts) g1 g (length p.commands) to Good k
+      both_at : (counts : Bool) → EachOnlyEdits counts p → (k : ℕ) → k < length p.commands → Both (AlikeIn counts) g1 g (length p.commands) to Good k
       both_at counts only k less =
           let c = found_below p.commands k less in
           let test = all_there (only_edits counts p) p.commands k c.0 only.each c.1 in
@@ -370,7 +370,7 @@ idle_at_first [] k = refl
 idle_at_first (x ∷ xs) zero = refl
 idle_at_first (x ∷ xs) (suc k) = idle_at_first xs k
 
-starts_idle : (p r : Program) (to : ℕ → ℕ) → ((k : ℕ) → k < length p.commands → to k < length r.commands) → Matches to (length p.commands) (map (λ _. false) p.commands) (map (λ _. false) r.commands)
+starts_idle : (p r : Program) (to : ℕ → ℕ) → ((k : ℕ) → k < length p.commands → to k < length r.commands) → RangesAgree to (length p.commands) (map (λ _. false) p.commands) (map (λ _. false) r.commands)
 starts_idle p r to fits = record {
   here = λ k less. omega (arith, less, length-map p.commands (λ (c : Command). false));
   there = λ k less. let fit = fits k less in omega (arith, fit, length-map r.commands (λ (c : Command). false));
@@ -380,7 +380,7 @@ starts_idle p r to fits = record {
 starts : (p : Program) (ls : List (List ℕ)) → Between 0 ls (map (λ _. false) p.commands) (start p.commands ls)
 starts p ls = record { hold = []; replaced = false; used = None; turns = 0; is = refl }
 
-pub in_turn_law : (p q : Program) (files : ℕ → List ℕ) (input middle : List ℕ) (out : List (ℕ × ℕ)) → OnlyEdits true p → OnlyEdits false q → BreaksNoLine p →
+pub in_turn_law : (p q : Program) (files : ℕ → List ℕ) (input middle : List ℕ) (out : List (ℕ × ℕ)) → EachOnlyEdits true p → EachOnlyEdits false q → BreaksNoLine p →
     RunsTo p files input (to_sink 0 middle) → RunsTo q files middle out → RunsTo (in_turn p q) files input out
 in_turn_law p q files input middle out only_p only_q breaks a b =
     let r : Program = in_turn p q in

@@ -9,9 +9,9 @@ use Rattle.sedscript.specs.declared.types.Address.TheVariants.{Last, Line}
 use Rattle.sedengine.specs.State.{State, Setting}
 use Rattle.sedengine.specs.Substitute.{Occurrence}
 use Rattle.sedengine.specs.Select.{selects}
-use Rattle.sedengine.specs.Move.{move, after, written, to_sink, line_to}
+use Rattle.sedengine.specs.Move.{next_move, after, written, to_sink, line_to}
 use Rattle.examples.proofs.ScriptWords.{always, at, from_to, unless}
-use Rattle.sededit.specs.Editing.{Ends}
+use Rattle.sededit.specs.Editing.{IsOutput}
 use Rattle.scripts.specs.Edited.{text_of}
 use Rattle.scripts.specs.Words.{numbered, odd_ones}
 use Rattle.scripts.proofs.Cycles.{Goes, ends_on, between, ends_there, each_line, line_first}
@@ -37,29 +37,29 @@ module _ (finds : ℕ → List ℕ → Bool) (search : ℕ → List ℕ → ℕ 
   abbrev one_at : List (List ℕ) → ℕ → ℕ → State
   one_at lines number turns = between lines number [] false (false ∷ []) None turns
 
-  abbrev none_ends : (quiet : Bool) (number turns : ℕ) → Ends (runs quiet []) (none_at [] number turns) []
+  abbrev none_ends : (quiet : Bool) (number turns : ℕ) → IsOutput (runs quiet []) (none_at [] number turns) []
   none_ends quiet number turns = ends_there (runs quiet []) number [] false [] None turns
 
-  abbrev one_ends : (quiet : Bool) (c : Command) (number turns : ℕ) → Ends (runs quiet (c ∷ [])) (one_at [] number turns) []
+  abbrev one_ends : (quiet : Bool) (c : Command) (number turns : ℕ) → IsOutput (runs quiet (c ∷ [])) (one_at [] number turns) []
   one_ends quiet c number turns = ends_there (runs quiet (c ∷ [])) number [] false (false ∷ []) None turns
 
   -- ---- no command
 
   empty_cycle : (number : ℕ) (line : List ℕ) (rest : List (List ℕ)) (turns : ℕ) →
       Goes (runs false []) (none_at (line ∷ rest) number turns) (none_at rest (number + 1) (turns + 1)) (line_to 0 line)
-  unfolding move after written
+  unfolding next_move after written
   empty_cycle number line rest turns = record { moves = 5; is = refl; wrote = simp append-nil refl }
 
-  pub empty_run : (lines : List (List ℕ)) (number turns : ℕ) → Ends (runs false []) (none_at lines number turns) (to_sink 0 (text_of lines))
+  pub empty_run : (lines : List (List ℕ)) (number turns : ℕ) → IsOutput (runs false []) (none_at lines number turns) (to_sink 0 (text_of lines))
   empty_run = each_line (runs false []) none_at (λ n ls. ls) (λ n line rest. line ∷ []) (λ n. refl) (λ n line rest. refl) (none_ends false)
       (λ n line rest turns. (turns + 1, empty_cycle n line rest turns))
 
   quiet_cycle : (number : ℕ) (line : List ℕ) (rest : List (List ℕ)) (turns : ℕ) →
       Goes (runs true []) (none_at (line ∷ rest) number turns) (none_at rest (number + 1) (turns + 1)) []
-  unfolding move after written
+  unfolding next_move after written
   quiet_cycle number line rest turns = record { moves = 5; is = refl; wrote = refl }
 
-  pub quiet_run : (lines : List (List ℕ)) (number turns : ℕ) → Ends (runs true []) (none_at lines number turns) []
+  pub quiet_run : (lines : List (List ℕ)) (number turns : ℕ) → IsOutput (runs true []) (none_at lines number turns) []
   quiet_run = each_line (runs true []) none_at (λ n ls. []) (λ n line rest. []) (λ n. refl) (λ n line rest. refl) (none_ends true)
       (λ n line rest turns. (turns + 1, quiet_cycle n line rest turns))
 
@@ -67,19 +67,19 @@ module _ (finds : ℕ → List ℕ → Bool) (search : ℕ → List ℕ → ℕ 
 
   twice_cycle : (number : ℕ) (line : List ℕ) (rest : List (List ℕ)) (turns : ℕ) →
       Goes (runs false (always Print ∷ [])) (one_at (line ∷ rest) number turns) (one_at rest (number + 1) (turns + 1 + 1)) (line_to 0 line ++ line_to 0 line)
-  unfolding move after written selects
+  unfolding next_move after written selects
   twice_cycle number line rest turns = record { moves = 6; is = refl; wrote = simp append-nil refl }
 
-  pub twice_run : (lines : List (List ℕ)) (number turns : ℕ) → Ends (runs false (always Print ∷ [])) (one_at lines number turns) (to_sink 0 (text_of (flat_map (λ line. line ∷ line ∷ []) lines)))
+  pub twice_run : (lines : List (List ℕ)) (number turns : ℕ) → IsOutput (runs false (always Print ∷ [])) (one_at lines number turns) (to_sink 0 (text_of (flat_map (λ line. line ∷ line ∷ []) lines)))
   twice_run = each_line (runs false (always Print ∷ [])) one_at (λ n ls. flat_map (λ line. line ∷ line ∷ []) ls) (λ n line rest. line ∷ line ∷ []) (λ n. refl) (λ n line rest. refl) (one_ends false (always Print))
       (λ n line rest turns. (turns + 1 + 1, subst (Goes (runs false (always Print ∷ [])) (one_at (line ∷ rest) n turns) (one_at rest (n + 1) (turns + 1 + 1))) (line_first line (line ∷ [])) (twice_cycle n line rest turns)))
 
   once_cycle : (number : ℕ) (line : List ℕ) (rest : List (List ℕ)) (turns : ℕ) →
       Goes (runs true (always Print ∷ [])) (one_at (line ∷ rest) number turns) (one_at rest (number + 1) (turns + 1 + 1)) (line_to 0 line)
-  unfolding move after written selects
+  unfolding next_move after written selects
   once_cycle number line rest turns = record { moves = 6; is = refl; wrote = simp append-nil refl }
 
-  pub once_run : (lines : List (List ℕ)) (number turns : ℕ) → Ends (runs true (always Print ∷ [])) (one_at lines number turns) (to_sink 0 (text_of lines))
+  pub once_run : (lines : List (List ℕ)) (number turns : ℕ) → IsOutput (runs true (always Print ∷ [])) (one_at lines number turns) (to_sink 0 (text_of lines))
   once_run = each_line (runs true (always Print ∷ [])) one_at (λ n ls. ls) (λ n line rest. line ∷ []) (λ n. refl) (λ n line rest. refl) (one_ends true (always Print))
       (λ n line rest turns. (turns + 1 + 1, once_cycle n line rest turns))
 
@@ -87,10 +87,10 @@ module _ (finds : ℕ → List ℕ → Bool) (search : ℕ → List ℕ → ℕ 
 
   number_cycle : (number : ℕ) (line : List ℕ) (rest : List (List ℕ)) (turns : ℕ) →
       Goes (runs false (always LineNumber ∷ [])) (one_at (line ∷ rest) number turns) (one_at rest (number + 1) (turns + 1 + 1)) (line_to 0 (decimal (number + 1)) ++ line_to 0 line)
-  unfolding move after written selects
+  unfolding next_move after written selects
   number_cycle number line rest turns = record { moves = 6; is = refl; wrote = simp append-nil refl }
 
-  pub number_run : (lines : List (List ℕ)) (number turns : ℕ) → Ends (runs false (always LineNumber ∷ [])) (one_at lines number turns) (to_sink 0 (text_of (numbered (number + 1) lines)))
+  pub number_run : (lines : List (List ℕ)) (number turns : ℕ) → IsOutput (runs false (always LineNumber ∷ [])) (one_at lines number turns) (to_sink 0 (text_of (numbered (number + 1) lines)))
   number_run = each_line (runs false (always LineNumber ∷ [])) one_at (λ n ls. numbered (n + 1) ls) (λ n line rest. decimal (n + 1) ∷ line ∷ []) (λ n. refl) (λ n line rest. refl) (one_ends false (always LineNumber))
       (λ n line rest turns. (turns + 1 + 1, subst (Goes (runs false (always LineNumber ∷ [])) (one_at (line ∷ rest) n turns) (one_at rest (n + 1) (turns + 1 + 1))) (line_first (decimal (n + 1)) (line ∷ [])) (number_cycle n line rest turns)))
 
@@ -109,21 +109,21 @@ module _ (finds : ℕ → List ℕ → Bool) (search : ℕ → List ℕ → ℕ 
 
   delete_cycle : (number : ℕ) (line : List ℕ) (rest : List (List ℕ)) (turns : ℕ) →
       Goes (runs false (unless (at Last Delete) ∷ [])) (one_at (line ∷ rest) number turns) (one_at rest (number + 1) (turns + 1 + 1)) (to_sink 0 (text_of (last_one line rest)))
-  unfolding move after written selects
+  unfolding next_move after written selects
   delete_cycle number line [] turns = record { moves = 6; is = refl; wrote = simp append-nil refl }
   delete_cycle number line (next ∷ more) turns = record { moves = 3; is = refl; wrote = refl }
 
-  pub delete_run : (lines : List (List ℕ)) (number turns : ℕ) → Ends (runs false (unless (at Last Delete) ∷ [])) (one_at lines number turns) (to_sink 0 (text_of (last_of lines)))
+  pub delete_run : (lines : List (List ℕ)) (number turns : ℕ) → IsOutput (runs false (unless (at Last Delete) ∷ [])) (one_at lines number turns) (to_sink 0 (text_of (last_of lines)))
   delete_run = each_line (runs false (unless (at Last Delete) ∷ [])) one_at (λ n ls. last_of ls) (λ n line rest. last_one line rest) (λ n. refl) (λ n line rest. last_more line rest) (one_ends false (unless (at Last Delete)))
       (λ n line rest turns. (turns + 1 + 1, delete_cycle n line rest turns))
 
   print_cycle : (number : ℕ) (line : List ℕ) (rest : List (List ℕ)) (turns : ℕ) →
       Goes (runs true (at Last Print ∷ [])) (one_at (line ∷ rest) number turns) (one_at rest (number + 1) (turns + 1 + 1)) (to_sink 0 (text_of (last_one line rest)))
-  unfolding move after written selects
+  unfolding next_move after written selects
   print_cycle number line [] turns = record { moves = 6; is = refl; wrote = simp append-nil refl }
   print_cycle number line (next ∷ more) turns = record { moves = 6; is = refl; wrote = refl }
 
-  pub print_run : (lines : List (List ℕ)) (number turns : ℕ) → Ends (runs true (at Last Print ∷ [])) (one_at lines number turns) (to_sink 0 (text_of (last_of lines)))
+  pub print_run : (lines : List (List ℕ)) (number turns : ℕ) → IsOutput (runs true (at Last Print ∷ [])) (one_at lines number turns) (to_sink 0 (text_of (last_of lines)))
   print_run = each_line (runs true (at Last Print ∷ [])) one_at (λ n ls. last_of ls) (λ n line rest. last_one line rest) (λ n. refl) (λ n line rest. last_more line rest) (one_ends true (at Last Print))
       (λ n line rest turns. (turns + 1 + 1, print_cycle n line rest turns))
 
@@ -139,21 +139,21 @@ module _ (finds : ℕ → List ℕ → Bool) (search : ℕ → List ℕ → ℕ 
   later_number n m h = grind (arith, nat_tests)
 
   quit_there : (n number : ℕ) (line : List ℕ) (rest : List (List ℕ)) (turns : ℕ) → nat_eq n (number + 1) ≡ true →
-      Ends (runs false (at (Line n) Quit ∷ [])) (one_at (line ∷ rest) number turns) (line_to 0 line)
-  unfolding move after written selects
+      IsOutput (runs false (at (Line n) Quit ∷ [])) (one_at (line ∷ rest) number turns) (line_to 0 line)
+  unfolding next_move after written selects
   quit_there n number line rest turns e = record { moves = 4; ended = rw e refl; wrote = rw e (simp append-nil refl) }
 
   quit_later : (n number : ℕ) (line : List ℕ) (rest : List (List ℕ)) (turns : ℕ) → nat_eq n (number + 1) ≡ false →
       Goes (runs false (at (Line n) Quit ∷ [])) (one_at (line ∷ rest) number turns) (one_at rest (number + 1) (turns + 1 + 1)) (line_to 0 line)
-  unfolding move after written selects
+  unfolding next_move after written selects
   quit_later n number line rest turns e = record { moves = 6; is = rw e refl; wrote = rw e (simp append-nil refl) }
 
   pub quit_run : (n k : ℕ) (lines : List (List ℕ)) (number turns : ℕ) → n ≡ number + suc k →
-      Ends (runs false (at (Line n) Quit ∷ [])) (one_at lines number turns) (to_sink 0 (text_of (take (suc k) lines)))
+      IsOutput (runs false (at (Line n) Quit ∷ [])) (one_at lines number turns) (to_sink 0 (text_of (take (suc k) lines)))
   quit_run n k [] number turns e = one_ends false (at (Line n) Quit) number turns
   quit_run n zero (line ∷ rest) number turns e = quit_there n number line rest turns (is_number n (number + 1) (omega arith))
   quit_run n (suc k) (line ∷ rest) number turns e =
-      subst (λ (w : List (ℕ × ℕ)). Ends (runs false (at (Line n) Quit ∷ [])) (one_at (line ∷ rest) number turns) w) (line_first line (take (suc k) rest))
+      subst (λ (w : List (ℕ × ℕ)). IsOutput (runs false (at (Line n) Quit ∷ [])) (one_at (line ∷ rest) number turns) w) (line_first line (take (suc k) rest))
       (ends_on (quit_later n number line rest turns (other_number n (number + 1) (omega arith))) (quit_run n k rest (number + 1) (turns + 1 + 1) (omega arith)))
 
   -- ---- `N,Md`: before the first number, from there up to the second, and after that
@@ -166,22 +166,22 @@ module _ (finds : ℕ → List ℕ → Bool) (search : ℕ → List ℕ → ℕ 
 
   other_cycle : (n m number : ℕ) (line : List ℕ) (rest : List (List ℕ)) (turns : ℕ) → nat_eq n (number + 1) ≡ false →
       Goes (cut n m) (one_at (line ∷ rest) number turns) (one_at rest (number + 1) (turns + 1 + 1)) (line_to 0 line)
-  unfolding move after written selects
+  unfolding next_move after written selects
   other_cycle n m number line rest turns e = record { moves = 6; is = rw e refl; wrote = rw e (simp append-nil refl) }
 
   first_cycle : (n m number : ℕ) (line : List ℕ) (rest : List (List ℕ)) (turns : ℕ) → nat_eq n (number + 1) ≡ true → nat_le m (number + 1) ≡ false →
       Goes (cut n m) (one_at (line ∷ rest) number turns) (within_at rest (number + 1) (turns + 1 + 1)) []
-  unfolding move after written selects
+  unfolding next_move after written selects
   first_cycle n m number line rest turns e more = record { moves = 3; is = rw (e, more) refl; wrote = rw e refl }
 
   within_cycle : (n m number : ℕ) (line : List ℕ) (rest : List (List ℕ)) (turns : ℕ) → nat_lt (number + 1) m ≡ true →
       Goes (cut n m) (within_at (line ∷ rest) number turns) (within_at rest (number + 1) (turns + 1 + 1)) []
-  unfolding move after written selects
+  unfolding next_move after written selects
   within_cycle n m number line rest turns e = record { moves = 3; is = rw e refl; wrote = rw e refl }
 
   end_cycle : (n m number : ℕ) (line : List ℕ) (rest : List (List ℕ)) (turns : ℕ) → nat_lt (number + 1) m ≡ false → nat_eq (number + 1) m ≡ true →
       Goes (cut n m) (within_at (line ∷ rest) number turns) (one_at rest (number + 1) (turns + 1 + 1)) []
-  unfolding move after written selects
+  unfolding next_move after written selects
   end_cycle n m number line rest turns less e = record { moves = 3; is = rw (less, e) refl; wrote = rw (less, e) refl }
 
   is_less : (n m : ℕ) → n < m → nat_lt n m ≡ true
@@ -193,14 +193,14 @@ module _ (finds : ℕ → List ℕ → Bool) (search : ℕ → List ℕ → ℕ 
   not_most : (n m : ℕ) → m < n → nat_le n m ≡ false
   not_most n m h = grind (arith, nat_tests)
 
-  after_run : (n m : ℕ) (lines : List (List ℕ)) (number turns : ℕ) → n ≤ number → Ends (cut n m) (one_at lines number turns) (to_sink 0 (text_of lines))
+  after_run : (n m : ℕ) (lines : List (List ℕ)) (number turns : ℕ) → n ≤ number → IsOutput (cut n m) (one_at lines number turns) (to_sink 0 (text_of lines))
   after_run n m [] number turns h = one_ends false (from_to (Line n) (Line m) Delete) number turns
   after_run n m (line ∷ rest) number turns h =
-      subst (λ (w : List (ℕ × ℕ)). Ends (cut n m) (one_at (line ∷ rest) number turns) w) (line_first line rest)
+      subst (λ (w : List (ℕ × ℕ)). IsOutput (cut n m) (one_at (line ∷ rest) number turns) w) (line_first line rest)
       (ends_on (other_cycle n m number line rest turns (later_number n (number + 1) (omega arith))) (after_run n m rest (number + 1) (turns + 1 + 1) (omega arith)))
 
   within_run : (n m k : ℕ) (lines : List (List ℕ)) (number turns : ℕ) → n ≤ number → m ≡ number + suc k →
-      Ends (cut n m) (within_at lines number turns) (to_sink 0 (text_of (drop (suc k) lines)))
+      IsOutput (cut n m) (within_at lines number turns) (to_sink 0 (text_of (drop (suc k) lines)))
   within_run n m k [] number turns h e = ends_there (cut n m) number [] false (true ∷ []) None turns
   within_run n m zero (line ∷ rest) number turns h e =
       ends_on (end_cycle n m number line rest turns (not_less (number + 1) m (omega arith)) (is_number (number + 1) m (omega arith))) (after_run n m rest (number + 1) (turns + 1 + 1) (omega arith))
@@ -208,7 +208,7 @@ module _ (finds : ℕ → List ℕ → Bool) (search : ℕ → List ℕ → ℕ 
       ends_on (within_cycle n m number line rest turns (is_less (number + 1) m (omega arith))) (within_run n m k rest (number + 1) (turns + 1 + 1) (omega arith) (omega arith))
 
   pub cut_run : (n m k d : ℕ) (lines : List (List ℕ)) (number turns : ℕ) → n ≡ number + suc k → m ≡ number + suc d → k < d →
-      Ends (cut n m) (one_at lines number turns) (to_sink 0 (text_of (take k lines ++ drop (suc d) lines)))
+      IsOutput (cut n m) (one_at lines number turns) (to_sink 0 (text_of (take k lines ++ drop (suc d) lines)))
   cut_run n m zero d [] number turns e f less = one_ends false (from_to (Line n) (Line m) Delete) number turns
   cut_run n m (suc k) d [] number turns e f less = one_ends false (from_to (Line n) (Line m) Delete) number turns
   cut_run n m zero zero (line ∷ rest) number turns e f less = absurd (omega arith)
@@ -216,7 +216,7 @@ module _ (finds : ℕ → List ℕ → Bool) (search : ℕ → List ℕ → ℕ 
       ends_on (first_cycle n m number line rest turns (is_number n (number + 1) (omega arith)) (not_most m (number + 1) (omega arith))) (within_run n m d rest (number + 1) (turns + 1 + 1) (omega arith) (omega arith))
   cut_run n m (suc k) zero (line ∷ rest) number turns e f less = absurd (omega arith)
   cut_run n m (suc k) (suc d) (line ∷ rest) number turns e f less =
-      subst (λ (w : List (ℕ × ℕ)). Ends (cut n m) (one_at (line ∷ rest) number turns) w) (line_first line (take k rest ++ drop (suc d) rest))
+      subst (λ (w : List (ℕ × ℕ)). IsOutput (cut n m) (one_at (line ∷ rest) number turns) w) (line_first line (take k rest ++ drop (suc d) rest))
       (ends_on (other_cycle n m number line rest turns (other_number n (number + 1) (omega arith))) (cut_run n m k d rest (number + 1) (turns + 1 + 1) (omega arith) (omega arith) (omega arith)))
 
   -- ---- `n;d`
@@ -229,18 +229,18 @@ module _ (finds : ℕ → List ℕ → Bool) (search : ℕ → List ℕ → ℕ 
 
   half_cycle : (number : ℕ) (line next : List ℕ) (rest : List (List ℕ)) (turns : ℕ) →
       Goes halves (two_at (line ∷ next ∷ rest) number turns) (two_at rest (number + 1 + 1) (turns + 1 + 1 + 1)) (line_to 0 line)
-  unfolding move after written selects
+  unfolding next_move after written selects
   half_cycle number line next rest turns = record { moves = 8; is = refl; wrote = simp append-nil refl }
 
-  half_last : (number : ℕ) (line : List ℕ) (turns : ℕ) → Ends halves (two_at (line ∷ []) number turns) (line_to 0 line)
-  unfolding move after written selects
+  half_last : (number : ℕ) (line : List ℕ) (turns : ℕ) → IsOutput halves (two_at (line ∷ []) number turns) (line_to 0 line)
+  unfolding next_move after written selects
   half_last number line turns = record { moves = 4; ended = refl; wrote = simp append-nil refl }
 
-  pub half_run : (lines : List (List ℕ)) (number turns : ℕ) → Ends halves (two_at lines number turns) (to_sink 0 (text_of (odd_ones lines)))
+  pub half_run : (lines : List (List ℕ)) (number turns : ℕ) → IsOutput halves (two_at lines number turns) (to_sink 0 (text_of (odd_ones lines)))
   half_run [] number turns = ends_there halves number [] false (false ∷ false ∷ []) None turns
   half_run (line ∷ []) number turns = half_last number line turns
   half_run (line ∷ next ∷ rest) number turns =
-      subst (λ (w : List (ℕ × ℕ)). Ends halves (two_at (line ∷ next ∷ rest) number turns) w) (line_first line (odd_ones rest))
+      subst (λ (w : List (ℕ × ℕ)). IsOutput halves (two_at (line ∷ next ∷ rest) number turns) w) (line_first line (odd_ones rest))
       (ends_on (half_cycle number line next rest turns) (half_run rest (number + 1 + 1) (turns + 1 + 1 + 1)))
 
   -- ---- `w f`
@@ -255,9 +255,9 @@ module _ (finds : ℕ → List ℕ → Bool) (search : ℕ → List ℕ → ℕ 
 
   tee_cycle : (number : ℕ) (line : List ℕ) (rest : List (List ℕ)) (turns : ℕ) →
       Goes tees (one_at (line ∷ rest) number turns) (one_at rest (number + 1) (turns + 1 + 1)) (line_to 1 line ++ line_to 0 line)
-  unfolding move after written selects
+  unfolding next_move after written selects
   tee_cycle number line rest turns = record { moves = 6; is = refl; wrote = simp append-nil refl }
 
-  pub tee_run : (lines : List (List ℕ)) (number turns : ℕ) → Ends tees (one_at lines number turns) (twofold lines)
+  pub tee_run : (lines : List (List ℕ)) (number turns : ℕ) → IsOutput tees (one_at lines number turns) (twofold lines)
   tee_run [] number turns = one_ends false (always (WriteFile 1)) number turns
   tee_run (line ∷ rest) number turns = ends_on (tee_cycle number line rest turns) (tee_run rest (number + 1) (turns + 1 + 1))

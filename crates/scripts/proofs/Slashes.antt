@@ -4,7 +4,7 @@ use Rattle.std.specs.Prelude.{slice_get, ◌==◌}
 use Rattle.std.specs.List.{prefix_len}
 use Rattle.std.proofs.Math.Seq.{drop-append_seam, take-append_seam}
 use Rattle.std.proofs.lemmas.Bool.Decides.{nat_tests}
-use Rattle.sedre.specs.Written.{Written}
+use Rattle.sedre.specs.Written.{WrittenExpression}
 use Rattle.sedre.specs.Delimited.{delimiter_at}
 use Rattle.sedre.specs.Tree.{Tree}
 use Rattle.sedre.specs.declared.types.Kind.TheVariants.{Basic}
@@ -17,7 +17,7 @@ use Rattle.sedscript.specs.declared.items.Item.{Item}
 use Rattle.sedscript.specs.declared.items.Function.TheVariants.{Plain}
 use Rattle.sedscript.specs.declared.items.Simple.{Simple}
 use Rattle.sedscript.specs.declared.items.Simple.TheVariants.{Print, Delete}
-use Rattle.sedscript.specs.Addresses.{found, address_at, addresses_at, addresses_of, after_first, headed, match_at, with_bang}
+use Rattle.sedscript.specs.Addresses.{found, address_at, addresses_at, addresses_of, after_first, with_addresses, match_at, with_bang}
 use Rattle.sedscript.specs.Bytes.{past, bytes_between, is_blank, belongs}
 use Rattle.sedscript.specs.Expressions.{IsRead, Gives, value, after_expression}
 use Rattle.sedscript.specs.Functions.{item_of}
@@ -73,7 +73,7 @@ module _ (re : List ℕ) (e : Tree) (groups : ℕ) (is : IsSlashed re e groups) 
   unfolding address_at match_at delimiter_at
   slashed_address = rw (is.ends 1 (b ∷ rest), not_empty, byte_there text (slash + 1) b rest behind_slash, other) refl
 
-  pub slashed_item : item_at text 0 0 ≡ expression (pattern 1 slash) (λ groups. plainly (headed (Some (Match (Some 0))) None (slash + 1) 1) >>= function_after text)
+  pub slashed_item : item_at text 0 0 ≡ expression (pattern 1 slash) (λ groups. plainly (with_addresses (Some (Match (Some 0))) None (slash + 1) 1) >>= function_after text)
   unfolding item_at addresses_at
   slashed_item =
       rw (past_none Separator text 0 47 (re ++ 47 ∷ b ∷ rest) refl refl)
@@ -85,7 +85,7 @@ abbrev one_address : Bool → ℕ → Simple → Item
 one_address negate place s = record { addresses = record { first = Some (Match (Some 0)); second = None; negate = negate }; place = place; function = Plain s }
 
 module _ (text : List ℕ) (at count : ℕ) where
-  deletes_there : drop at text ≡ 100 ∷ [] → plainly (headed (Some (Match (Some 0))) None at count) >>= function_after text ≡ plainly (Ok (Is (one_address false at Delete) (at + 1)))
+  deletes_there : drop at text ≡ 100 ∷ [] → plainly (with_addresses (Some (Match (Some 0))) None at count) >>= function_after text ≡ plainly (Ok (Is (one_address false at Delete) (at + 1)))
   unfolding function_at
   deletes_there e =
       ap (λ h. item_with text count h.addresses h.at (slice_get text h.at)) (no_bang text at count 100 (Some (Match (Some 0))) None e refl refl)
@@ -100,7 +100,7 @@ module _ (text : List ℕ) (at count : ℕ) where
       ≡ record { addresses = record { first = Some (Match (Some 0)); second = None; negate = true }; at = at + 1; count = count }
   bang_there e = rw (past_none Blank text at 33 (112 ∷ []) e refl, byte_there text at 33 (112 ∷ []) e, bang_passed e) refl
 
-  prints_there : drop at text ≡ 33 ∷ 112 ∷ [] → plainly (headed (Some (Match (Some 0))) None at count) >>= function_after text ≡ plainly (Ok (Is (one_address true (at + 1) Print) (at + 1 + 1)))
+  prints_there : drop at text ≡ 33 ∷ 112 ∷ [] → plainly (with_addresses (Some (Match (Some 0))) None at count) >>= function_after text ≡ plainly (Ok (Is (one_address true (at + 1) Print) (at + 1 + 1)))
   unfolding function_at
   prints_there e =
       let there : drop (at + 1) text ≡ 112 ∷ [] = drop_on text at (33 ∷ []) (112 ∷ []) e in
@@ -109,10 +109,10 @@ module _ (text : List ℕ) (at count : ℕ) where
       ∙ ap (λ r. plainly r >>= λ found. plainly (Ok (item_of (record { first = Some (Match (Some 0)); second = None; negate = true }) (at + 1) found))) (ends_command text (at + 1 + 1) (Plain Print) (drop_on text (at + 1) (112 ∷ []) [] there))
 
 -- a script of these commands with one expression
-abbrev pub with_expression : Written → Program → Program
+abbrev pub with_expression : WrittenExpression → Program → Program
 with_expression e p = record p { expressions = e ∷ [] }
 
-pub gives_one : (text : List ℕ) (e : Written) (p : Pattern) (i : Item) (to : ℕ) (k : ℕ → Reading Here) → IsRead text Basic 65536 p e → item_at text 0 0 ≡ expression p k → k e.groups ≡ plainly (Ok (Is i to)) →
+pub gives_one : (text : List ℕ) (e : WrittenExpression) (p : Pattern) (i : Item) (to : ℕ) (k : ℕ → Reading Here) → IsRead text Basic 65536 p e → item_at text 0 0 ≡ expression p k → k e.groups ≡ plainly (Ok (Is i to)) →
     Gives text Basic 65536 (item_at text 0 0) (e ∷ []) (Is i to)
 gives_one text e p i to k is same last =
     subst (λ r. Gives text Basic 65536 r (e ∷ []) (Is i to)) (sym same) (after_expression e is (subst (λ r. Gives text Basic 65536 r [] (Is i to)) (sym last) value))

@@ -12,7 +12,7 @@ use Rattle.sedengine.specs.Limits.{Limits}
 use Rattle.sedengine.specs.State.{Task, begin, flush, empty_pattern, State, Setting}
 use Rattle.sedengine.specs.Substitute.{Occurrence}
 use Rattle.sedengine.specs.Select.{selects}
-use Rattle.sedengine.specs.Move.{after, at_end, line_to, move, newline, start, to_sink, writing, written}
+use Rattle.sedengine.specs.Move.{after, at_end, line_to, next_move, newline, start, to_sink, writing, written}
 use Rattle.sedengine.specs.ScriptSetting.{finds_in, search_in, setting_of}
 use Rattle.sedengine.specs.TakenInput.{size_of}
 use Rattle.sedengine.specs.Ends.{Cause, Whole, Within, WithinLimits}
@@ -48,49 +48,49 @@ module _ (l : Limits) (finds : ℕ → List ℕ → Bool) (search : ℕ → List
 
   -- ---- the moves
 
-  begins : (line : List ℕ) (rest : List (List ℕ)) (number : ℕ) (hold : List ℕ) (turns : ℕ) → move round (held_at (line ∷ rest) number hold turns) ≡ writing [] (in_line rest (number + 1) line hold 0 (turns + 1))
-  unfolding move
+  begins : (line : List ℕ) (rest : List (List ℕ)) (number : ℕ) (hold : List ℕ) (turns : ℕ) → next_move round (held_at (line ∷ rest) number hold turns) ≡ writing [] (in_line rest (number + 1) line hold 0 (turns + 1))
+  unfolding next_move
   begins line rest number hold turns = refl
 
-  gets : (line : List ℕ) (rest : List (List ℕ)) (number : ℕ) (hold : List ℕ) (turns : ℕ) → move round (in_line rest (number + 1) line hold 0 turns) ≡ writing [] (in_line rest (number + 1) (onto' number line hold) hold 1 (turns + 1))
-  unfolding move selects
+  gets : (line : List ℕ) (rest : List (List ℕ)) (number : ℕ) (hold : List ℕ) (turns : ℕ) → next_move round (in_line rest (number + 1) line hold 0 turns) ≡ writing [] (in_line rest (number + 1) (onto' number line hold) hold 1 (turns + 1))
+  unfolding next_move selects
   gets line rest zero hold turns = refl
   gets line rest (suc number) hold turns = rw (not_first finds search files number) refl
 
-  holds : (pattern : List ℕ) (rest : List (List ℕ)) (number : ℕ) (hold : List ℕ) (turns : ℕ) → move round (in_line rest number pattern hold 1 turns) ≡ writing [] (in_line rest number pattern pattern 2 (turns + 1))
-  unfolding move selects
+  holds : (pattern : List ℕ) (rest : List (List ℕ)) (number : ℕ) (hold : List ℕ) (turns : ℕ) → next_move round (in_line rest number pattern hold 1 turns) ≡ writing [] (in_line rest number pattern pattern 2 (turns + 1))
+  unfolding next_move selects
   holds pattern rest number hold turns = refl
 
-  deletes : (pattern next : List ℕ) (rest : List (List ℕ)) (number : ℕ) (turns : ℕ) → move round (in_line (next ∷ rest) number pattern pattern 2 turns) ≡ writing [] (deleted (next ∷ rest) number pattern false three None (turns + 1))
-  unfolding move selects
+  deletes : (pattern next : List ℕ) (rest : List (List ℕ)) (number : ℕ) (turns : ℕ) → next_move round (in_line (next ∷ rest) number pattern pattern 2 turns) ≡ writing [] (deleted (next ∷ rest) number pattern false three None (turns + 1))
+  unfolding next_move selects
   deletes pattern next rest number turns = refl
 
-  flushes : (hold : List ℕ) (ls : List (List ℕ)) (number turns : ℕ) → move round (deleted ls number hold false three None turns) ≡ writing [] (held_at ls number hold turns)
-  unfolding move
+  flushes : (hold : List ℕ) (ls : List (List ℕ)) (number turns : ℕ) → next_move round (deleted ls number hold false three None turns) ≡ writing [] (held_at ls number hold turns)
+  unfolding next_move
   flushes hold ls number turns = refl
 
-  keeps : (pattern : List ℕ) (number turns : ℕ) → move round (in_line [] number pattern pattern 2 turns) ≡ writing [] (in_line [] number pattern pattern 3 (turns + 1))
-  unfolding move selects
+  keeps : (pattern : List ℕ) (number turns : ℕ) → next_move round (in_line [] number pattern pattern 2 turns) ≡ writing [] (in_line [] number pattern pattern 3 (turns + 1))
+  unfolding next_move selects
   keeps pattern number turns = refl
 
-  leaves : (pattern : List ℕ) (number turns : ℕ) → move round (in_line [] number pattern pattern 3 turns) ≡ writing [] (ending number pattern pattern at_end turns)
-  unfolding move
+  leaves : (pattern : List ℕ) (number turns : ℕ) → next_move round (in_line [] number pattern pattern 3 turns) ≡ writing [] (ending number pattern pattern at_end turns)
+  unfolding next_move
   leaves pattern number turns = refl
 
-  prints : (pattern : List ℕ) (number turns : ℕ) → move round (ending number pattern pattern at_end turns) ≡ writing (line_to 0 pattern) (ending number pattern pattern (flush ∷ empty_pattern ∷ begin ∷ []) turns)
-  unfolding move
+  prints : (pattern : List ℕ) (number turns : ℕ) → next_move round (ending number pattern pattern at_end turns) ≡ writing (line_to 0 pattern) (ending number pattern pattern (flush ∷ empty_pattern ∷ begin ∷ []) turns)
+  unfolding next_move
   prints pattern number turns = refl
 
-  flushes_last : (pattern : List ℕ) (number turns : ℕ) → move round (ending number pattern pattern (flush ∷ empty_pattern ∷ begin ∷ []) turns) ≡ writing [] (ending number pattern pattern (empty_pattern ∷ begin ∷ []) turns)
-  unfolding move
+  flushes_last : (pattern : List ℕ) (number turns : ℕ) → next_move round (ending number pattern pattern (flush ∷ empty_pattern ∷ begin ∷ []) turns) ≡ writing [] (ending number pattern pattern (empty_pattern ∷ begin ∷ []) turns)
+  unfolding next_move
   flushes_last pattern number turns = refl
 
-  empties : (pattern : List ℕ) (number turns : ℕ) → move round (ending number pattern pattern (empty_pattern ∷ begin ∷ []) turns) ≡ writing [] (held_at [] number pattern turns)
-  unfolding move
+  empties : (pattern : List ℕ) (number turns : ℕ) → next_move round (ending number pattern pattern (empty_pattern ∷ begin ∷ []) turns) ≡ writing [] (held_at [] number pattern turns)
+  unfolding next_move
   empties pattern number turns = refl
 
-  ends : (hold : List ℕ) (number turns : ℕ) → move round (held_at [] number hold turns) ≡ writing [] (record (held_at [] number hold turns) { tasks = [] })
-  unfolding move
+  ends : (hold : List ℕ) (number turns : ℕ) → next_move round (held_at [] number hold turns) ≡ writing [] (record (held_at [] number hold turns) { tasks = [] })
+  unfolding next_move
   ends hold number turns = refl
 
   -- ---- within the limits
@@ -102,7 +102,7 @@ module _ (l : Limits) (finds : ℕ → List ℕ → Bool) (search : ℕ → List
   abbrev Comes : State → List (ℕ × ℕ) → Type 0
   Comes s out = (t : ℕ) × Whole l round s out Done t
 
-  next : {s m : State} {bytes out : List (ℕ × ℕ)} → move round s ≡ writing bytes m → WithinLimits l s → Comes m out → Comes s (bytes ++ out)
+  next : {s m : State} {bytes out : List (ℕ × ℕ)} → next_move round s ≡ writing bytes m → WithinLimits l s → Comes m out → Comes s (bytes ++ out)
   next go fit rest = (suc rest.0, whole_first go fit rest.1)
 
   at_last : (hold : List ℕ) (number turns : ℕ) → length hold ≤ l.space → turns ≤ l.turns → Comes (record (held_at [] number hold turns) { tasks = [] }) []

@@ -19,7 +19,7 @@ use Rattle.sedengine.specs.declared.ends.Ended.{Ended}
 use Rattle.sedengine.specs.declared.ends.Ended.TheVariants.{Done, PatternFull, HoldFull, QueueFull, TurnsSpent, NoPrevious, InputBroken, OutputBroken, OutputFull}
 use Rattle.sedengine.proofs.Gains.{part-same}
 use Rattle.sedengine.proofs.Moves.{written-add}
-use Rattle.sededit.specs.Editing.{Edits, Ends, nothing_before, start_over}
+use Rattle.sededit.specs.Editing.{EditEnds, IsOutput, nothing_before, start_over}
 use Rattle.scripts.specs.Ampleness.{IsAmple, NoDevice, ample_room}
 use Rattle.scripts.specs.Edited.{text_of}
 use Rattle.scripts.proofs.Ample.{before_or_not, ended_still}
@@ -61,7 +61,7 @@ size_turned (line ∷ rest) =
     let turned = ap size_of (reverse_onto rest line []) ∙ size_of_both (reverse rest) (line ∷ []) in omega (arith, more, turned)
 
 -- no moves of a run write more than the whole of it
-no_more_than : (g : Setting) (s : State) (out : List (ℕ × ℕ)) (t : ℕ) → Ends g s out → length (written g s t) ≤ length out
+no_more_than : (g : Setting) (s : State) (out : List (ℕ × ℕ)) (t : ℕ) → IsOutput g s out → length (written g s t) ≤ length out
 no_more_than g s out t ends = elim (before_or_not g s t ends.moves) [
   | inl less ↦
       let left : ℕ = ends.moves - t in
@@ -88,7 +88,7 @@ module _ (old bytes : List ℕ) (was failed : ℕ) (nothing : old ≡ []) where
   holds_part most end out h = let e = rw nothing at (h.gained.each 0) in e
 
   -- the sink of an edit that writes less than the room isn't broken
-  not_broken : (most : Option ℕ) (l : Limits) (g : Setting) (s : State) (out cut_off : List (ℕ × ℕ)) (k t : ℕ) → Ends g s out → length out ≤ ample_room → (0 < failed → ample_room ≤ length bytes) →
+  not_broken : (most : Option ℕ) (l : Limits) (g : Setting) (s : State) (out cut_off : List (ℕ × ℕ)) (k t : ℕ) → IsOutput g s out → length out ≤ ample_room → (0 < failed → ample_room ≤ length bytes) →
       SinksAtEnd most (failures was) (failures failed) (Err (OutputBroken k)) → GainedWithin most nothing_before (held old) (held bytes) (Err (OutputBroken k)) cut_off → BrokenOff l g s cut_off k t → ⊥
   not_broken most l g s out cut_off zero t ends fits full sinks gains cut =
       let rose : Rose was failed = sinks.0.0 in
@@ -102,7 +102,7 @@ module _ (old bytes : List ℕ) (was failed : ℕ) (nothing : old ≡ []) where
       omega (arith, filled, is, few, wrote, short, due, all, fits)
   not_broken most l g s out cut_off (suc k) t ends fits full sinks gains cut = let rose : Rose 0 0 = rw (is_not_zero k) at sinks.0.0 in omega (arith, rose)
 
-no_device : (l : Limits) (g : Setting) (s : State) (old bytes : List ℕ) (was failed : ℕ) (out gained : List (ℕ × ℕ)) (end : Ended) (t : ℕ) → old ≡ [] → l.output ≡ None → Ends g s out → length out ≤ ample_room → (0 < failed → ample_room ≤ length bytes) →
+no_device : (l : Limits) (g : Setting) (s : State) (old bytes : List ℕ) (was failed : ℕ) (out gained : List (ℕ × ℕ)) (end : Ended) (t : ℕ) → old ≡ [] → l.output ≡ None → IsOutput g s out → length out ≤ ample_room → (0 < failed → ample_room ≤ length bytes) →
     SourceAtEnd 0 0 end → SinksAtEnd l.output (failures was) (failures failed) (Err end) → GainedWithin l.output nothing_before (held old) (held bytes) (Err end) gained → Cause l g s gained end t → NoDevice end
 no_device l g s old bytes was failed out gained Done t nothing free ends fits full source sinks gains cause = tt
 no_device l g s old bytes was failed out gained (PatternFull n) t nothing free ends fits full source sinks gains cause = tt
@@ -121,10 +121,10 @@ no_files one p m = let same = (one (codes "1!G;h;$!d") Basic 65536 p turned_prog
 
 pub whole_edit : OneMeaning → (l : Limits) (p : Program) (input old bytes : List ℕ) (was failed : ℕ) (end : Ended) (before left : Option (List ℕ)) → Means (codes "1!G;h;$!d") Basic 65536 p → IsAmple l → length input < ample_room → old ≡ [] →
     (0 < failed → ample_room ≤ length bytes) → SourceAtEnd 0 0 end → SinksAtEnd l.output (failures was) (failures failed) (Err end) →
-    (out : List (ℕ × ℕ)) × GainedWithin l.output nothing_before (held old) (held bytes) (Err end) out × Edits l (setting_of p (λ k. [])) (start_over p input) out before left end → (end ≡ Done) × (bytes ≡ text_of (reverse (lines input)))
+    (out : List (ℕ × ℕ)) × GainedWithin l.output nothing_before (held old) (held bytes) (Err end) out × EditEnds l (setting_of p (λ k. [])) (start_over p input) out before left end → (end ≡ Done) × (bytes ≡ text_of (reverse (lines input)))
 whole_edit one l p input old bytes was failed end before left m is small nothing full source sinks (out, gains, edits) =
     let text : List ℕ = text_of (reverse (lines input)) in
-    let ends : Ends (setting_of p (λ k. [])) (start_over p input) (to_sink 0 text) = (turned_law one input).runs p (λ k. []) m in
+    let ends : IsOutput (setting_of p (λ k. [])) (start_over p input) (to_sink 0 text) = (turned_law one input).runs p (λ k. []) m in
     let size = size_of_lines input in
     let fits : length (to_sink 0 text) ≤ ample_room = omega (arith, sink_length 0 text, text_length (reverse (lines input)), size_turned (lines input), size, small) in
     let free = no_device l (setting_of p (λ k. [])) (start_over p input) old bytes was failed (to_sink 0 text) out end edits.t nothing is.output ends fits full source sinks gains edits.cause in

@@ -1,5 +1,5 @@
 -- Scripts whose commands look at their line alone.
-use Rattle.std.specs.Prelude.{◌≡◌, ℕ, Bool, true, false, ◌&&◌, Option, Some, None, ◌⊎◌, List, [], ◌∷◌, ◌++◌, is_some, is_none, slice_get}
+use Rattle.std.specs.Prelude.{◌≡◌, Bool, true, false, ◌&&◌, Option, Some, None, List, is_some, is_none, slice_get}
 use Rattle.std.specs.List.{list_all}
 use Rattle.sedscript.specs.declared.types.Address.{Address}
 use Rattle.sedscript.specs.declared.types.Address.TheVariants.{Match}
@@ -39,7 +39,3 @@ looks_at_line ts c = (is_none c.second && asks_text c.first) && stays_in_line ts
 -- each command of the script looks at its line alone
 abbrev pub EachLooksAtLine : Program → Type 0
 EachLooksAtLine p = list_all (looks_at_line p.substitutions) p.commands ≡ true
-
--- bytes of which the last is a newline, or none
-abbrev pub EndsLine : List ℕ → Type 0
-EndsLine bytes = (bytes ≡ []) ⊎ ((front : List ℕ) × (bytes ≡ front ++ 10 ∷ []))

@@ -5,11 +5,11 @@ use Rattle.sedscript.specs.Script.{Means}
 use Rattle.sedscript.specs.Program.{Program}
 use Rattle.sedengine.specs.Move.{newline, to_sink}
 use Rattle.sedengine.specs.ScriptSetting.{setting_of}
-use Rattle.sededit.specs.Editing.{Ends, start_over}
+use Rattle.sededit.specs.Editing.{IsOutput, start_over}
 
 -- a run of this script over the lines of these bytes comes to its end, and has written these, each to its sink
 abbrev pub RunsTo : Program → (ℕ → List ℕ) → (input : List ℕ) → (out : List (ℕ × ℕ)) → Type 0
-RunsTo p files input out = Ends (setting_of p files) (start_over p input) out
+RunsTo p files input out = IsOutput (setting_of p files) (start_over p input) out
 
 -- a script with the option -n, where that is given
 abbrev pub with_option : Bool → Program → Program

@@ -44,7 +44,7 @@ only_edits counts p c = asks_own counts p c.first && (asks_own counts p c.second
 
 -- Each command of the script is one of these, and it has no -n: so it writes by default only. Where lines aren't counted, what it
 -- does to a line depends on that line's text and on those before it alone.
-pub record OnlyEdits (counts : Bool) (p : Program) : Type 0 where
+pub record EachOnlyEdits (counts : Bool) (p : Program) : Type 0 where
   pub each : list_all (only_edits counts p) p.commands ≡ true
   pub loud : p.quiet ≡ false
 

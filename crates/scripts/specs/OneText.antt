@@ -2,7 +2,7 @@
 use Rattle.std.specs.Prelude.{◌≡◌, ℕ, Bool, true, false, not, Some, List, [], ◌∷◌, length, nat_eq, nat_lt}
 use Rattle.std.specs.List.{ends_with, list_all, list_any}
 use Rattle.std.specs.Str.{bytes_eq}
-use Rattle.sedre.specs.Written.{Written}
+use Rattle.sedre.specs.Written.{WrittenExpression}
 use Rattle.sedre.specs.declared.types.Kind.{Kind}
 use Rattle.sedre.specs.declared.types.Kind.TheVariants.{Basic}
 use Rattle.sedscript.specs.declared.types.Command.{Command}
@@ -12,7 +12,7 @@ use Rattle.sedscript.specs.declared.items.Item.{Item}
 use Rattle.sedscript.specs.Targets.{label_in}
 use Rattle.sedscript.specs.Script.{CutScript, IsEnd, Means}
 use Rattle.sedscript.specs.Program.{Program}
-use Rattle.scripts.specs.InTurn.{BreaksNoLine, OnlyEdits}
+use Rattle.scripts.specs.InTurn.{BreaksNoLine, EachOnlyEdits}
 
 -- `b` and `t` lead to one of the commands, and not to the end
 abbrev pub leads_inside : Program → Action → Bool
@@ -22,8 +22,8 @@ leads_inside p other = true
 
 -- No branch leads to the end of the script: without a label it would lead past the second of two. A label at the end is such an end
 -- too, since the commands don't tell the two apart.
-abbrev pub LeadsInside : Program → Type 0
-LeadsInside p = list_all (λ (c : Command). leads_inside p c.action) p.commands ≡ true
+abbrev pub EachLeadsInside : Program → Type 0
+EachLeadsInside p = list_all (λ (c : Command). leads_inside p c.action) p.commands ≡ true
 
 -- none of the second names is one of the first
 abbrev pub apart : List (List ℕ) → List (List ℕ) → Bool
@@ -37,7 +37,7 @@ pub record ShareNoFile (p q : Program) : Type 0 where
 -- a name is a label in a text, which is cut to its end
 pub record HasLabel (kind : Kind) (max_nodes : ℕ) (text name : List ℕ) : Type 0 where
   pub items : List Item
-  pub expressions : List Written
+  pub expressions : List WrittenExpression
   pub to : ℕ
   pub place : ℕ
   pub cut : CutScript text kind max_nodes 0 0 items expressions to
@@ -55,11 +55,11 @@ pub record EditInTurn (a b : List ℕ) : Type 0 where
   pub q : Program
   pub first : Means a Basic 65536 p
   pub second : Means b Basic 65536 q
-  pub first_edits : OnlyEdits true p
-  pub second_edits : OnlyEdits false q
+  pub first_edits : EachOnlyEdits true p
+  pub second_edits : EachOnlyEdits false q
   pub breaks_none : BreaksNoLine p
   pub labels : ShareNoLabel Basic 65536 a b
 
 -- a word of -e that doesn't end with a newline, so that one is put behind it
-abbrev pub IsOpen : List ℕ → Type 0
-IsOpen part = ends_with nat_eq part (10 ∷ []) ≡ false
+abbrev pub LacksNewline : List ℕ → Type 0
+LacksNewline part = ends_with nat_eq part (10 ∷ []) ≡ false

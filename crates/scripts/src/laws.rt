@@ -15,14 +15,14 @@ ghost use Rattle.scripts.specs.Ampleness.{Ample, ComesTo};
 ghost use Rattle.sedscript.specs.ScriptText.{with_part};
 ghost use Rattle.sedscript.specs.Transliteration.{is_among};
 ghost use Rattle.sedscript.specs.declared.substitution.Piece.{Piece};
-ghost use Rattle.sedspace.specs.Lines.{lines};
+ghost use Rattle.sedspace.specs.Lines.{AreWholeLines, lines};
 ghost use Rattle.sedengine.specs.Devices.{Gained, part};
 ghost use Rattle.examples.specs.Strings.{NoneTwice};
 ghost use Rattle.examples.specs.WrittenReplacements.{written_pieces};
-ghost use Rattle.scripts.specs.Alone.{EachLooksAtLine, EndsLine};
+ghost use Rattle.scripts.specs.Alone.{EachLooksAtLine};
 ghost use Rattle.scripts.specs.Edited.{RunsTo, Sends, Writes, text_of};
-ghost use Rattle.scripts.specs.InTurn.{BreaksNoLine, OnlyEdits, in_turn, is_break};
-ghost use Rattle.scripts.specs.OneText.{EditInTurn, HasLabel, IsOpen, LeadsInside, ShareNoFile, ShareNoLabel};
+ghost use Rattle.scripts.specs.InTurn.{BreaksNoLine, EachOnlyEdits, in_turn, is_break};
+ghost use Rattle.scripts.specs.OneText.{EditInTurn, HasLabel, LacksNewline, EachLeadsInside, ShareNoFile, ShareNoLabel};
 ghost use Rattle.scripts.specs.Slashed.{IsSlashed};
 ghost use Rattle.scripts.specs.Words.{HasWayBack, by_table, has_none, in_one, numbered, odd_ones, replaced, y_of};
 
@@ -151,14 +151,14 @@ pub fn back_again()
 /// A script whose commands look at their line alone writes over two inputs one after the other, the first of which ends in
 /// a newline, what it writes over the one and then what it writes over the other.
 pub fn apart()
-    ensures { (p : Program) (files : ℕ → List ℕ) (a b : List ℕ) (x y : List (ℕ × ℕ)) → EachLooksAtLine p → EndsLine a →
+    ensures { (p : Program) (files : ℕ → List ℕ) (a b : List ℕ) (x y : List (ℕ × ℕ)) → EachLooksAtLine p → AreWholeLines a →
         RunsTo p files a x → RunsTo p files b y → RunsTo p files (a ++ b) (x ++ y) }
 {}
 
 /// Of two scripts that only edit their lines the script of both writes what the second writes over what the first wrote, where the
 /// first breaks no line and the second counts none.
 pub fn one_after_other()
-    ensures { (p q : Program) (files : ℕ → List ℕ) (input middle : List ℕ) (out : List (ℕ × ℕ)) → OnlyEdits true p → OnlyEdits false q → BreaksNoLine p →
+    ensures { (p q : Program) (files : ℕ → List ℕ) (input middle : List ℕ) (out : List (ℕ × ℕ)) → EachOnlyEdits true p → EachOnlyEdits false q → BreaksNoLine p →
         RunsTo p files input (to_sink 0 middle) → RunsTo q files middle out → RunsTo (in_turn p q) files input out }
 {}
 
@@ -166,7 +166,7 @@ pub fn one_after_other()
 /// no `b` or `t` leads to the end of the first, no file and no label is in both, and the second doesn't begin with the line `#n`.
 pub fn texts_in_turn()
     ensures { (a b : List ℕ) (kind : Kind) (max_nodes : ℕ) (p q : Program) → Means a kind max_nodes p → Means b kind max_nodes q →
-        LeadsInside p → ShareNoFile p q → q.quiet ≡ false → ShareNoLabel kind max_nodes a b → Means (a ++ 10 ∷ b) kind max_nodes (in_turn p q) }
+        EachLeadsInside p → ShareNoFile p q → q.quiet ≡ false → ShareNoLabel kind max_nodes a b → Means (a ++ 10 ∷ b) kind max_nodes (in_turn p q) }
 {}
 
 /// A text with a label has a colon.
@@ -184,7 +184,7 @@ pub fn texts_one_after_other()
 
 /// And so `sed -e A -e B` writes what B writes over what A wrote, where neither ends with a newline.
 pub fn words_one_after_other()
-    ensures { (a b input middle : List ℕ) (out : List (ℕ × ℕ)) → EditInTurn a b → IsOpen a → IsOpen b →
+    ensures { (a b input middle : List ℕ) (out : List (ℕ × ℕ)) → EditInTurn a b → LacksNewline a → LacksNewline b →
         Sends false a input (to_sink 0 middle) → Sends false b middle out → Sends false (with_part (with_part [] a) b) input out }
 {
     one_meaning();

@@ -10,11 +10,11 @@ use Rattle.sedengine.specs.State.{State, Setting}
 use Rattle.sedengine.specs.Move.{start, written}
 use Rattle.sedengine.specs.Devices.{part, FillsSink, GainedWithin}
 use Rattle.sedengine.specs.Ends.{WholeOrBrokenOff}
-use Rattle.sedengine.specs.Run.{RunState, Ending, Input, Sends, at_lines, setting}
+use Rattle.sedengine.specs.Run.{RunState, Ending, Input, Sends, at_lines, run_setting}
 use Rattle.sedengine.specs.ScriptSetting.{setting_of}
 use Rattle.sedengine.specs.declared.ends.Ended.{Ended}
 use Rattle.sedengine.specs.declared.ends.Ended.TheVariants.{Done, OutputFull}
-use Rattle.sededit.specs.Editing.{Begins, Edits, Ends, nothing_before, start_over}
+use Rattle.sededit.specs.Editing.{BeginsOutput, EditEnds, IsOutput, nothing_before, start_over}
 use Rattle.sededit.specs.Ahead.{LeavesAhead}
 
 -- an engine that was opened
@@ -44,10 +44,10 @@ from_start l p e' old new r out h = record {
 }
 
 -- a run of an opened engine over all lines is an edit
-pub Edits-run : (l : Limits) (p : Program) (files : ℕ → List ℕ) (e e' : RunState) (x : List ℕ) (sinks sinks' : ℕ → Option (List ℕ)) (old new : Option (List ℕ)) (before after : Input) (now : State) (end : Ended) →
-    e ≡ opened l p → before.source ≡ old → before.all ≡ old → after.source ≡ new → (out : List (ℕ × ℕ)) × Sends e e' sinks sinks' (Err end) out × Ending e.limits (setting e files) (at_lines e (lines x)) out before after now end →
-    (out : List (ℕ × ℕ)) × GainedWithin l.output nothing_before sinks sinks' (Err end) out × Edits l (setting_of p files) (start_over p x) out old new end
-Edits-run l p files e e' x sinks sinks' old new before after now end is same_old none_ahead same_new (out, sent, h) =
+pub EditEnds-run : (l : Limits) (p : Program) (files : ℕ → List ℕ) (e e' : RunState) (x : List ℕ) (sinks sinks' : ℕ → Option (List ℕ)) (old new : Option (List ℕ)) (before after : Input) (now : State) (end : Ended) →
+    e ≡ opened l p → before.source ≡ old → before.all ≡ old → after.source ≡ new → (out : List (ℕ × ℕ)) × Sends e e' sinks sinks' (Err end) out × Ending e.limits (run_setting e files) (at_lines e (lines x)) out before after now end →
+    (out : List (ℕ × ℕ)) × GainedWithin l.output nothing_before sinks sinks' (Err end) out × EditEnds l (setting_of p files) (start_over p x) out old new end
+EditEnds-run l p files e e' x sinks sinks' old new before after now end is same_old none_ahead same_new (out, sent, h) =
     let sent' = rw is at sent in
     let h' = rw is at h in (
       out,
@@ -62,7 +62,7 @@ Edits-run l p files e e' x sinks sinks' old new before after now end is same_old
 
 -- what it left ahead
 pub Leaves-run : (l : Limits) (p : Program) (files : ℕ → List ℕ) (e : RunState) (x : List ℕ) (out : List (ℕ × ℕ)) (old new : Option (List ℕ)) (before after : Input) (now : State) (end : Ended) (bytes : List ℕ) (count : ℕ) →
-    e ≡ opened l p → before.all ≡ old → after.source ≡ new → after.all ≡ prepend_known bytes after.source → count ≡ length bytes → Ending e.limits (setting e files) (at_lines e (lines x)) out before after now end →
+    e ≡ opened l p → before.all ≡ old → after.source ≡ new → after.all ≡ prepend_known bytes after.source → count ≡ length bytes → Ending e.limits (run_setting e files) (at_lines e (lines x)) out before after now end →
     LeavesAhead l (setting_of p files) (start_over p x) old new count end
 Leaves-run l p files e x out old new before after now end bytes count is none_ahead same_new is_ahead counted h =
     let h' = rw is at h in
@@ -77,10 +77,10 @@ Leaves-run l p files e x out old new before after now end bytes count is none_ah
     }
 
 -- the output at an end is a beginning of what is written
-pub Begins-at : (l : Limits) (g : Setting) (s : State) (out : List (ℕ × ℕ)) (end : Ended) (t : ℕ) (k : Option ℕ) → WholeOrBrokenOff l g s out end t k → Begins g s out
-Begins-at l g s out end t None w = (t, length (written g s t), rw take-length w.wrote)
-Begins-at l g s out end t (Some k) w = (suc t, w.b, w.wrote)
+pub BeginsOutput-at : (l : Limits) (g : Setting) (s : State) (out : List (ℕ × ℕ)) (end : Ended) (t : ℕ) (k : Option ℕ) → WholeOrBrokenOff l g s out end t k → BeginsOutput g s out
+BeginsOutput-at l g s out end t None w = (t, length (written g s t), rw take-length w.wrote)
+BeginsOutput-at l g s out end t (Some k) w = (suc t, w.b, w.wrote)
 
 -- at the ordinary end the whole
-pub Ends-at : (l : Limits) (g : Setting) (s : State) (out : List (ℕ × ℕ)) (old new : Option (List ℕ)) (end : Ended) → end ≡ Done → Edits l g s out old new end → Ends g s out
-Ends-at l g s out old new end is h = let w = rw is at h.cause in record { moves = h.t; ended = w.cause; wrote = w.wrote }
+pub IsOutput-at : (l : Limits) (g : Setting) (s : State) (out : List (ℕ × ℕ)) (old new : Option (List ℕ)) (end : Ended) → end ≡ Done → EditEnds l g s out old new end → IsOutput g s out
+IsOutput-at l g s out old new end is h = let w = rw is at h.cause in record { moves = h.t; ended = w.cause; wrote = w.wrote }

@@ -9,8 +9,8 @@ use Rattle.std.specs.Option.{option_map, is_none}
 use Rattle.std.specs.Fmt.{option_append}
 use Rattle.std.specs.Io.KnownBytes.{Consumes, IsAtEnd}
 use Rattle.sededit.specs.Joined.{due_after, with_newline, joined}
-use Rattle.sededit.specs.Opening.{Opens, NotesMissed, OnlyLastGives, Opened, OpensNext}
-use Rattle.sededit.specs.ToldFiles.{KeepsFiles, contents}
+use Rattle.sededit.specs.Opening.{Opens, NotesMissed, OnlyLastGives, OpensFirstFiles, OpensNext}
+use Rattle.sededit.specs.ToldFiles.{KeepsFiles, contents_of_files}
 use Rattle.sededit.specs.FilesInTurn.{Joining, left, left_of_current}
 
 due_after-append : (due : Bool) (a b : List ℕ) → due_after due (a ++ b) ≡ due_after (due_after due a) b
@@ -79,14 +79,14 @@ next_opened current ahead old before new all missed next name answer is names-ar
 -- ---- what is left of the file, and of those after it
 
 left_read : (a b : Option (List ℕ)) (x y : Option (List (Option (List ℕ)))) (bytes : List ℕ) → Consumes a b bytes → KeepsFiles x y →
-    Consumes (option_append a (option_map (λ files. joined (contents files)) x)) (option_append b (option_map (λ files. joined (contents files)) y)) bytes
+    Consumes (option_append a (option_map (λ files. joined (contents_of_files files)) x)) (option_append b (option_map (λ files. joined (contents_of_files files)) y)) bytes
 left_read None b x y bytes p q = tt
 left_read (Some u) b None y bytes p q = tt
 left_read (Some u) None (Some x) y bytes p q = absurd p
-left_read (Some u) (Some v) (Some x) y bytes p q = rw q (ap (λ z. z ++ joined (contents x)) p ∙ append_assoc bytes v (joined (contents x)))
+left_read (Some u) (Some v) (Some x) y bytes p q = rw q (ap (λ z. z ++ joined (contents_of_files x)) p ∙ append_assoc bytes v (joined (contents_of_files x)))
 
 left_opened : (x : Option (List (Option (List ℕ)))) (answer : Bool) (c : Option (List ℕ)) (y : Option (List (Option (List ℕ)))) → Opens x answer c y →
-    Consumes (option_append (Some []) (option_map (λ files. joined (contents files)) x)) (option_append (option_map (with_newline false) c) (option_map (λ files. joined (contents files)) y)) []
+    Consumes (option_append (Some []) (option_map (λ files. joined (contents_of_files files)) x)) (option_append (option_map (with_newline false) c) (option_map (λ files. joined (contents_of_files files)) y)) []
 left_opened None answer c y o = tt
 left_opened (Some []) answer c y o = absurd o
 left_opened (Some (file ∷ files)) answer c y o = rw (o.1, o.2) refl
@@ -175,7 +175,7 @@ module _ {I : Type 0} (current : I → Option (List ℕ)) (ahead : I → List (L
   -- files were opened from old to new, and gave no byte
   pub record Passed (old new : Joining I) : Type 0 where
     pub none : Consumes (left current ahead old) (left current ahead new) []
-    pub opened : Opened ahead old new
+    pub opened : OpensFirstFiles ahead old new
     pub notes : Notes (ahead old.inputs old.names) (ahead new.inputs new.names) (left_of_current current new) old.missed new.missed
     pub waits : (new ≡ old) ⊎ IsAtEnd (left_of_current current old)
 

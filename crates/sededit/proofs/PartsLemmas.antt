@@ -3,7 +3,7 @@ use Rattle.std.proofs.Common.{◌≡◌, ◌∙◌, ◌⊎◌, inl, inr, ◌<◌
 use Rattle.std.proofs.lemmas.Bool.{ltb-false}
 use Rattle.std.proofs.lemmas.List.{map-append}
 use Rattle.clap.specs.Words.{Text}
-use Rattle.sededit.specs.CommandLine.{Given, file, first_place, given, in_order, text}
+use Rattle.sededit.specs.CommandLine.{ScriptPart, file, first_place, given, in_order, text}
 use Rattle.sededit.specs.CommandLineParts.{comes_first, place_at}
 use Rattle.sededit.specs.declared.asked.Part.{Part}
 
@@ -72,13 +72,13 @@ later_of true true c e = inr e
 later_of true false c e = cc
 later_of false b c e = inl refl
 
-added : (parts : List Part) (part : Part) (said : Given) (rest all old : List Given) → given part ≡ said → old ≡ said ∷ rest → map given parts ++ old ≡ all → map given (parts ++ part ∷ []) ++ rest ≡ all
+added : (parts : List Part) (part : Part) (said : ScriptPart) (rest all old : List ScriptPart) → given part ≡ said → old ≡ said ∷ rest → map given parts ++ old ≡ all → map given (parts ++ part ∷ []) ++ rest ≡ all
 added parts part said rest all old is next h =
     let h' : map given parts ++ said ∷ rest ≡ all = rw next at h in
     rw (map-append, is) (append_assoc (map given parts) (said ∷ []) rest ∙ h')
 
 -- a script was added to the parts
-pub script_added : (ws fs : List Text) (es gs : List ℕ) (i j : ℕ) (w : Text) (parts : List Part) (part : Part) (all : List Given) →
+pub script_added : (ws fs : List Text) (es gs : List ℕ) (i j : ℕ) (w : Text) (parts : List Part) (part : Part) (all : List ScriptPart) →
     slice_get ws i ≡ Some w → comes_first ws es i fs gs j ≡ true → given part ≡ text w →
     map given parts ++ in_order (drop i ws) (drop i es) (drop j fs) (drop j gs) ≡ all →
     map given (parts ++ part ∷ []) ++ in_order (drop (i + 1) ws) (drop (i + 1) es) (drop j fs) (drop j gs) ≡ all
@@ -93,7 +93,7 @@ script_added ws fs es gs i j w parts part all at first is h =
     rw (one_more i) (added parts part (text w) _ all _ is next h)
 
 -- a file was
-pub file_added : (ws fs : List Text) (es gs : List ℕ) (i j : ℕ) (f : Text) (parts : List Part) (part : Part) (all : List Given) →
+pub file_added : (ws fs : List Text) (es gs : List ℕ) (i j : ℕ) (f : Text) (parts : List Part) (part : Part) (all : List ScriptPart) →
     slice_get fs j ≡ Some f → comes_first ws es i fs gs j ≡ false → given part ≡ file f →
     map given parts ++ in_order (drop i ws) (drop i es) (drop j fs) (drop j gs) ≡ all →
     map given (parts ++ part ∷ []) ++ in_order (drop i ws) (drop i es) (drop (j + 1) fs) (drop (j + 1) gs) ≡ all

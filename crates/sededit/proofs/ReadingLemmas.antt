@@ -4,11 +4,11 @@ use Rattle.std.proofs.KnownBytes.{Keeps-trans}
 use Rattle.sedscript.specs.ScriptText.{with_part}
 use Rattle.sededit.specs.ToldFiles.{KeepsFiles}
 use Rattle.sededit.specs.Reading.{OnlyReadsScripts}
-use Rattle.sededit.specs.CommandLine.{Given, file, text}
+use Rattle.sededit.specs.CommandLine.{ScriptPart, file, text}
 use Rattle.sededit.specs.Program.{MakesText}
 
 -- files that tell the same make the same text
-pub MakesText-same : (f g : List ℕ → Option (Option (List ℕ))) (before : List ℕ) (parts : List Given) (whole : List ℕ) → ((name : List ℕ) → g name ≡ f name) →
+pub MakesText-same : (f g : List ℕ → Option (Option (List ℕ))) (before : List ℕ) (parts : List ScriptPart) (whole : List ℕ) → ((name : List ℕ) → g name ≡ f name) →
     MakesText g before parts whole → MakesText f before parts whole
 MakesText-same f g before [] whole same h = h
 MakesText-same f g before (text part ∷ parts) whole same h = MakesText-same f g (with_part before part) parts whole same h

@@ -12,7 +12,7 @@ use Rattle.std.specs.Option.{option_map}
 use Rattle.sededit.specs.Editing.{nothing_before, start_over}
 use Rattle.sededit.specs.Joined.{joined}
 use Rattle.sededit.specs.Opening.{WereRefused}
-use Rattle.sededit.specs.ToldFiles.{KeepsFiles, contents}
+use Rattle.sededit.specs.ToldFiles.{KeepsFiles, contents_of_files}
 use Rattle.sededit.specs.Program.{DevicesAtEnd, Observed, SinkAtEnd, SinkFailed, StatusMeans, StopsEarly, WritesAll, WritesBeginning}
 
 -- what sinks gained stands where they hold the same afterwards
@@ -94,7 +94,7 @@ pub record Ready (files0 files1 : Option (List (Option (List ℕ)))) (texts0 tex
   pub same_sinks : (k : ℕ) → sinks1 k ≡ sinks0 k
 
 abbrev all_joined : Option (List (Option (List ℕ))) → Option (List ℕ)
-all_joined files = option_map (λ fs. joined (contents fs)) files
+all_joined files = option_map (λ fs. joined (contents_of_files fs)) files
 
 told : (a b : Option (List (Option (List ℕ)))) (bytes : List ℕ) → KeepsFiles a b → all_joined a ≡ Some bytes → all_joined b ≡ Some bytes
 told None b bytes k e = cc

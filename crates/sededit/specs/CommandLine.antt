@@ -61,11 +61,11 @@ abbrev pub given_to : Text → List Row → List Text
 given_to id rows = unwrap_or (all_of id rows) []
 
 -- a part of a script: its text, or the name of its file
-pub data Given : Type 0 where
-  text : List ℕ → Given
-  file : List ℕ → Given
+pub data ScriptPart : Type 0 where
+  text : List ℕ → ScriptPart
+  file : List ℕ → ScriptPart
 
-abbrev pub given : Part → Given
+abbrev pub given : Part → ScriptPart
 given (Script s) = text (string_bytes s)
 given (File s) = file (string_bytes s)
 
@@ -74,7 +74,7 @@ abbrev pub first_place : List ℕ → ℕ
 first_place places = unwrap_or (slice_get places 0) 0
 
 -- the scripts of -e and the files of -f, by their places among the words
-abbrev pub in_order : List Text → List ℕ → List Text → List ℕ → List Given
+abbrev pub in_order : List Text → List ℕ → List Text → List ℕ → List ScriptPart
 in_order [] es files fs = map file files
 in_order (script ∷ scripts) es [] fs = map text (script ∷ scripts)
 in_order (script ∷ scripts) es (name ∷ files) fs =
@@ -84,7 +84,7 @@ in_order (script ∷ scripts) es (name ∷ files) fs =
 -- The parts of the script, and the operands that are files: the scripts of -e and the files of -f, each in their order;
 -- without them, the first operand is the script (XCU sed, "Operands"). The places are those that clap tells of its words;
 -- as no contract of clap says what they are, any are taken here.
-abbrev pub Asks : List Text → List Text → List Text → List Given → List Text → Type 0
+abbrev pub Asks : List Text → List Text → List Text → List ScriptPart → List Text → Type 0
 Asks [] [] [] parts names = (parts ≡ []) × (names ≡ [])
 Asks [] [] (operand ∷ operands) parts names = (parts ≡ text operand ∷ []) × (names ≡ operands)
 Asks scripts files operands parts names =

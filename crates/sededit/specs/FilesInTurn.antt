@@ -3,7 +3,7 @@ use Rattle.std.specs.Prelude.{◌≡◌, ℕ, Bool, if◌then◌else◌, List, [
 use Rattle.std.specs.Option.{option_map}
 use Rattle.std.specs.Fmt.{option_append}
 use Rattle.sededit.specs.Joined.{joined, with_newline}
-use Rattle.sededit.specs.ToldFiles.{contents}
+use Rattle.sededit.specs.ToldFiles.{contents_of_files}
 
 -- files that are joined: where they are read from, the names still to open, whether a file is being read, whether a
 -- newline is due if it ends here, of each file that was opened whether it was missed, and how many openings the inputs
@@ -22,7 +22,7 @@ left_of_current current j = if j.reading then option_map (with_newline j.due) (c
 
 -- what the files of these names give, joined, where they are told
 abbrev pub joined_files : {I : Type 0} → (I → List (List ℕ) → Option (List (Option (List ℕ)))) → I → List (List ℕ) → Option (List ℕ)
-joined_files ahead inputs names = option_map (λ files. joined (contents files)) (ahead inputs names)
+joined_files ahead inputs names = option_map (λ files. joined (contents_of_files files)) (ahead inputs names)
 
 -- what the files still to open give, joined
 abbrev pub left_ahead : {I : Type 0} → (I → List (List ℕ) → Option (List (Option (List ℕ)))) → Joining I → Option (List ℕ)

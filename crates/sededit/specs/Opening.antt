@@ -37,8 +37,8 @@ NotesMissed (Some files) new before after =
     × (after ≡ before ++ map is_none first) × OnlyLastGives first
 
 -- the files of the first names were opened, each noted as missed or not
-abbrev pub Opened : {I : Type 0} → (I → List (List ℕ) → Option (List (Option (List ℕ)))) → Joining I → Joining I → Type 0
-Opened ahead old new =
+abbrev pub OpensFirstFiles : {I : Type 0} → (I → List (List ℕ) → Option (List (Option (List ℕ)))) → Joining I → Joining I → Type 0
+OpensFirstFiles ahead old new =
     ((first : List (List ℕ)) × (old.names ≡ first ++ new.names) × (length new.missed ≡ length old.missed + length first))
     × NotesMissed (ahead old.inputs old.names) (ahead new.inputs new.names) old.missed new.missed
 

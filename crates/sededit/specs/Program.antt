@@ -18,10 +18,10 @@ use Rattle.sedengine.specs.TakenInput.{BreaksInLine}
 use Rattle.sedengine.specs.ScriptSetting.{TellsFiles, setting_of}
 use Rattle.sedengine.specs.declared.ends.Ended.{Ended}
 use Rattle.sedengine.specs.declared.ends.Ended.TheVariants.{Done, InputBroken, OutputBroken, OutputFull}
-use Rattle.sededit.specs.CommandLine.{Given, IsCommandLine, IsLine, file, given, sed_command, text}
-use Rattle.sededit.specs.Editing.{Begins, Ends, nothing_before, start_over}
+use Rattle.sededit.specs.CommandLine.{ScriptPart, IsCommandLine, IsLine, file, given, sed_command, text}
+use Rattle.sededit.specs.Editing.{BeginsOutput, IsOutput, nothing_before, start_over}
 use Rattle.sededit.specs.Joined.{joined}
-use Rattle.sededit.specs.ToldFiles.{dash, GivesWhole, contents}
+use Rattle.sededit.specs.ToldFiles.{dash, GivesWhole, contents_of_files}
 use Rattle.sededit.specs.declared.asked.Line.{Line}
 
 -- the kind of a script's expressions: extended with -E, basic without it (XCU sed, "Options")
@@ -32,7 +32,7 @@ kind_with false = Basic
 -- The text that the parts of a script make, after those before: the texts of -e and what the files of -f hold, a newline
 -- after each that doesn't end with one (XCU sed, "Options"). A file that isn't told may hold any bytes; `-` names a file
 -- there like any other word (this project's own).
-abbrev pub MakesText : (List ℕ → Option (Option (List ℕ))) → List ℕ → List Given → List ℕ → Type 0
+abbrev pub MakesText : (List ℕ → Option (Option (List ℕ))) → List ℕ → List ScriptPart → List ℕ → Type 0
 MakesText files before [] whole = whole ≡ before
 MakesText files before (text part ∷ parts) whole = MakesText files (with_part before part) parts whole
 MakesText files before (file name ∷ parts) whole =
@@ -53,7 +53,7 @@ or_standard names = names
 
 -- the input: the files of the operands joined, where they are told
 abbrev pub input_of : (List (List ℕ) → Option (List (Option (List ℕ)))) → List (List ℕ) → Option (List ℕ)
-input_of ahead names = option_map (λ files. joined (contents files)) (ahead (or_standard names))
+input_of ahead names = option_map (λ files. joined (contents_of_files files)) (ahead (or_standard names))
 
 -- the texts that a script reads: the files of its names, where they are told
 abbrev pub texts_of : (List ℕ → Option (List ℕ)) → (ℕ → Option (List ℕ)) → Program → ℕ → Option (List ℕ)
@@ -82,12 +82,12 @@ Runs scripts ahead named others nodes words created P =
 -- and the texts are told.
 abbrev pub WritesAll : Program → Option (List ℕ) → (ℕ → Option (List ℕ)) → (old new : ℕ → Option (List ℕ)) → Type 0
 WritesAll p input texts old new = ForSome input (λ bytes. (files : ℕ → List ℕ) → TellsFiles texts files →
-    (out : List (ℕ × ℕ)) × Gained old new out × Ends (setting_of p files) (start_over p bytes) out)
+    (out : List (ℕ × ℕ)) × Gained old new out × IsOutput (setting_of p files) (start_over p bytes) out)
 
 -- They have gained a beginning of it.
 abbrev pub WritesBeginning : Program → Option (List ℕ) → (ℕ → Option (List ℕ)) → (old new : ℕ → Option (List ℕ)) → Type 0
 WritesBeginning p input texts old new = ForSome input (λ bytes. (files : ℕ → List ℕ) → TellsFiles texts files →
-    (out : List (ℕ × ℕ)) × Gained old new out × Begins (setting_of p files) (start_over p bytes) out)
+    (out : List (ℕ × ℕ)) × Gained old new out × BeginsOutput (setting_of p files) (start_over p bytes) out)
 
 -- A sink that an end names as broken has failed, and one is named as full only where there is a limit on the output.
 abbrev pub SinkAtEnd : Option ℕ → (ℕ → ℕ) → (ℕ → ℕ) → Ended → Type 0

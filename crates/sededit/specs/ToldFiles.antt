@@ -11,8 +11,8 @@ KeepsFiles None new = ⊤
 KeepsFiles (Some files) new = new ≡ Some files
 
 -- what files give: one that can't be opened is as an empty one (this project's own)
-abbrev pub contents : List (Option (List ℕ)) → List (List ℕ)
-contents files = map (λ file. unwrap_or file []) files
+abbrev pub contents_of_files : List (Option (List ℕ)) → List (List ℕ)
+contents_of_files files = map (λ file. unwrap_or file []) files
 
 -- a file that is read whole gives its bytes, or nothing where it can't be read
 abbrev pub GivesWhole : Option (Option (List ℕ)) → Option (List ℕ) → Type 0

@@ -7,7 +7,7 @@ ghost use Rattle.sedscript.specs.FirstFault.{Faulty};
 ghost use Rattle.sedscript.specs.declared.types.ScriptFault.{ScriptFault};
 ghost use Rattle.sedengine.specs.Devices.{Gained, GainedWithin, SameSinks, SinksAtEnd, SourceAtEnd};
 ghost use Rattle.sedengine.specs.ScriptSetting.{TellsFiles, setting_of};
-ghost use Rattle.sededit.specs.Editing.{Begins, Edits, Ends, nothing_before, start_over};
+ghost use Rattle.sededit.specs.Editing.{BeginsOutput, EditEnds, IsOutput, nothing_before, start_over};
 ghost use Rattle.sededit.specs.Ahead.{LeavesAhead};
 
 use sedengine::{Ended, Engine, Limits};
@@ -67,17 +67,17 @@ pub fn edit<R: ByteSource, O: Outputs, T: Texts>(
         (files : ℕ → List ℕ) → TellsFiles (T.text texts.old) files →
         (out : List (ℕ × ℕ))
         × GainedWithin limits.output nothing_before (O.contents outputs.old) (O.contents outputs.new) (Err end) out
-        × Edits limits (setting_of script files) (start_over script bytes) out
+        × EditEnds limits (setting_of script files) (start_over script bytes) out
         (R.remaining source.old) (R.remaining source.new) end)) }
     // What was written is a beginning of what the script writes, and at the ordinary end the whole.
     ensures output { OnOk result (ForSome (R.remaining source.old) (λ bytes.
         (files : ℕ → List ℕ) → TellsFiles (T.text texts.old) files →
         (out : List (ℕ × ℕ)) × Gained (O.contents outputs.old) (O.contents outputs.new) out
-        × Begins (setting_of script files) (start_over script bytes) out)) }
+        × BeginsOutput (setting_of script files) (start_over script bytes) out)) }
     ensures whole { result ≡ Ok Ended.Done → ForSome (R.remaining source.old) (λ bytes.
         (files : ℕ → List ℕ) → TellsFiles (T.text texts.old) files →
         (out : List (ℕ × ℕ)) × Gained (O.contents outputs.old) (O.contents outputs.new) out
-        × Ends (setting_of script files) (start_over script bytes) out) }
+        × IsOutput (setting_of script files) (start_over script bytes) out) }
     // A device that the end names has failed, whether it tells its bytes or not, and no other source or sink has; and a sink
     // is full only where the limits have one on the output.
     ensures input { IfOk result (SourceAtEnd (R.failures source.old) (R.failures source.new)) }
@@ -119,16 +119,16 @@ pub(crate) fn edit_ahead<R: ByteSource, O: Outputs, T: Texts>(
         (files : ℕ → List ℕ) → TellsFiles (T.text texts.old) files →
         (out : List (ℕ × ℕ))
         × GainedWithin limits.output nothing_before (O.contents outputs.old) (O.contents outputs.new) (Err edited.end) out
-        × Edits limits (setting_of script files) (start_over script bytes) out
+        × EditEnds limits (setting_of script files) (start_over script bytes) out
         (R.remaining source.old) (R.remaining source.new) edited.end)) }
     ensures output { OnOk result (ForSome (R.remaining source.old) (λ bytes.
         (files : ℕ → List ℕ) → TellsFiles (T.text texts.old) files →
         (out : List (ℕ × ℕ)) × Gained (O.contents outputs.old) (O.contents outputs.new) out
-        × Begins (setting_of script files) (start_over script bytes) out)) }
+        × BeginsOutput (setting_of script files) (start_over script bytes) out)) }
     ensures whole { IfOk result (λ edited. edited.end ≡ Ended.Done → ForSome (R.remaining source.old) (λ bytes.
         (files : ℕ → List ℕ) → TellsFiles (T.text texts.old) files →
         (out : List (ℕ × ℕ)) × Gained (O.contents outputs.old) (O.contents outputs.new) out
-        × Ends (setting_of script files) (start_over script bytes) out)) }
+        × IsOutput (setting_of script files) (start_over script bytes) out)) }
     ensures input { IfOk result (λ edited.
         SourceAtEnd (R.failures source.old) (R.failures source.new) edited.end) }
     ensures failed { IfOk result (λ edited.

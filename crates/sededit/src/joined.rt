@@ -190,7 +190,7 @@ impl<'a, I: Inputs> Joined<'a, I> {
 
 impl<'a, I: Inputs> ByteSource for Joined<'a, I> {
     ghost use Rattle.sededit.specs.FilesInTurn.{Joining, left, left_of_current};
-    ghost use Rattle.sededit.specs.Opening.{Opened};
+    ghost use Rattle.sededit.specs.Opening.{OpensFirstFiles};
 
     ghost remaining = { λ j. left I.current I.ahead j };
 
@@ -207,7 +207,7 @@ impl<'a, I: Inputs> ByteSource for Joined<'a, I> {
         ensures same_reference { self.new.start ∷ I.reference self.new.inputs
             ≡ self.old.start ∷ I.reference self.old.inputs }
         // A file is opened where those before it have no byte left to give, and no sooner.
-        ensures opened { Opened I.ahead self.old self.new }
+        ensures opened { OpensFirstFiles I.ahead self.old self.new }
         ensures waits { (self.new.names ≡ self.old.names) ⊎ IsAtEnd (left_of_current I.current self.old) }
     {
         if buf.is_empty() {

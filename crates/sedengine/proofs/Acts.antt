@@ -11,14 +11,14 @@ use Rattle.sedspace.specs.Lines.{TakesAtMost}
 use Rattle.sedengine.specs.Limits.{Limits}
 use Rattle.sedengine.specs.State.{Entry, Task, do_at, State, Move, Setting}
 use Rattle.sedengine.specs.Select.{Selection, selects}
-use Rattle.sedengine.specs.Move.{move, reach, performs, acts, passes, writing, quietly, queueing, then_do, none_left, in_table, is_active, tells_at}
+use Rattle.sedengine.specs.Move.{next_move, reach, performs, acts, passes, writing, quietly, queueing, then_do, none_left, in_table, is_active, tells_at}
 use Rattle.sedengine.specs.Ends.{WithinLimits, reaches, reads, asks_last, is_next, names_last}
 use Rattle.sedengine.specs.Meters.{SinkView}
 use Rattle.sedengine.specs.Calls.{Puts}
-use Rattle.sedengine.specs.Run.{RunState, at_lines, setting}
-use Rattle.sedengine.specs.Choose.{Judges, as_selection, reached_with, current}
+use Rattle.sedengine.specs.Run.{RunState, at_lines, run_setting}
+use Rattle.sedengine.specs.Choose.{Judges, as_selection, reached_with, current_in}
 use Rattle.sedengine.specs.Queueing.{QueuesOrFull, queued_more}
-use Rattle.sedengine.specs.Steps.{Reaches, HasAction, Moves, Performs, PerformsSteps, Steps, TakesLines}
+use Rattle.sedengine.specs.Steps.{ReachesCommand, HasAction, Moves, MakesMove, PerformsSteps, Steps, TakesLines}
 use Rattle.sedengine.specs.Inside.{run_of, entry_by, entry_for, IsConsistent}
 use Rattle.sedengine.specs.declared.machine.Machine.TheInside.{Inside}
 use Rattle.sedengine.specs.declared.select.Chosen.{Chosen}
@@ -31,7 +31,7 @@ use Rattle.sedengine.proofs.Tasks.{fits_of, halts_here, reach_spent, steps_by_mo
 
 -- what a command that takes no line does leaves the lines
 pub acts_here : {R : Type 0} (remaining : R → Option (List ℕ)) (old : Stream R) (ls : List (List ℕ)) (l : Limits) (g : Setting) (o : Option Move) (asks : Bool) (e e' : RunState) (sinks sinks' : SinkView) (r : Result Unit Ended) → lines_left remaining old ≡ Some ls →
-    Performs l g o (at_lines e ls) (at_lines e' ls) sinks sinks' r → PerformsSteps remaining old old ls l g o asks (at_lines e ls) e' sinks sinks' r
+    MakesMove l g o (at_lines e ls) (at_lines e' ls) sinks sinks' r → PerformsSteps remaining old old ls l g o asks (at_lines e ls) e' sinks sinks' r
 acts_here {R} remaining old ls l g o asks e e' sinks sinks' r known h = λ s c asked first. looked_moves remaining old old ls l g s e' sinks sinks' r (lines_same remaining old ls known) c.lines (h s c first)
 
 -- the engine that goes on with these tasks
@@ -49,51 +49,51 @@ translated e table = record e { state = record e.state { pattern = map (in_table
 -- A command of an engine within its limits.
 module _ (e : RunState) (ls : List (List ℕ)) (fits : WithinLimits e.limits (at_lines e ls)) (g : Setting) (old new : SinkView) (o : Option Move) where
   -- one that writes alone
-  pub acts_writing : (out : List (ℕ × ℕ)) (r : Result Unit Ended) → o ≡ writing out (at_lines e ls) → Puts old new out r → Performs e.limits g o (at_lines e ls) (at_lines e ls) old new r
+  pub acts_writing : (out : List (ℕ × ℕ)) (r : Result Unit Ended) → o ≡ writing out (at_lines e ls) → Puts old new out r → MakesMove e.limits g o (at_lines e ls) (at_lines e ls) old new r
   acts_writing out r is put = λ s c first. moves_writing e.limits g s (at_lines e ls) old new out r c.fits (first ∙ is) fits c.lines put
 
   -- one that leads to another engine and writes nothing
-  pub acts_leading : (e' : RunState) → WithinLimits e.limits (at_lines e' ls) → o ≡ quietly (at_lines e' ls) → Performs e.limits g o (at_lines e ls) (at_lines e' ls) old old (Ok tt)
+  pub acts_leading : (e' : RunState) → WithinLimits e.limits (at_lines e' ls) → o ≡ quietly (at_lines e' ls) → MakesMove e.limits g o (at_lines e ls) (at_lines e' ls) old old (Ok tt)
   acts_leading e' there is = λ s c first. ran_quietly e.limits g s (at_lines e' ls) old c.fits (first ∙ is) there
 
   -- one that does nothing
-  pub acts_nothing : o ≡ quietly (at_lines e ls) → Performs e.limits g o (at_lines e ls) (at_lines e ls) old old (Ok tt)
+  pub acts_nothing : o ≡ quietly (at_lines e ls) → MakesMove e.limits g o (at_lines e ls) (at_lines e ls) old old (Ok tt)
   acts_nothing is = acts_leading e fits is
 
   -- one that goes on elsewhere
-  pub acts_going : (ts : List Task) (e' : RunState) → e' ≡ going e ts → o ≡ quietly (then_do ts (at_lines e ls)) → Performs e.limits g o (at_lines e ls) (at_lines e' ls) old old (Ok tt)
+  pub acts_going : (ts : List Task) (e' : RunState) → e' ≡ going e ts → o ≡ quietly (then_do ts (at_lines e ls)) → MakesMove e.limits g o (at_lines e ls) (at_lines e' ls) old old (Ok tt)
   acts_going ts e' same is =
-      let Q : RunState → Type 0 = λ e'. Performs e.limits g o (at_lines e ls) (at_lines e' ls) old old (Ok tt) in
+      let Q : RunState → Type 0 = λ e'. MakesMove e.limits g o (at_lines e ls) (at_lines e' ls) old old (Ok tt) in
       subst Q (sym same) (acts_leading (going e ts) (record { pattern = fits.pattern; hold = fits.hold; queue = fits.queue; turns = fits.turns }) is)
 
   -- `t`
   pub acts_testing : (target : ℕ) (e' : RunState) → e' ≡ tested e target e.state.replaced → o ≡ quietly (cond e.state.replaced (then_do (do_at target ∷ []) (record (at_lines e ls) { replaced = false })) (at_lines e ls)) →
-      Performs e.limits g o (at_lines e ls) (at_lines e' ls) old old (Ok tt)
+      MakesMove e.limits g o (at_lines e ls) (at_lines e' ls) old old (Ok tt)
   acts_testing target e' same is =
-      let Q : RunState → Type 0 = λ e'. Performs e.limits g o (at_lines e ls) (at_lines e' ls) old old (Ok tt) in
+      let Q : RunState → Type 0 = λ e'. MakesMove e.limits g o (at_lines e ls) (at_lines e' ls) old old (Ok tt) in
       subst Q (sym same) (leads e.state.replaced is)
     where
       leads : (b : Bool) → o ≡ quietly (cond b (then_do (do_at target ∷ []) (record (at_lines e ls) { replaced = false })) (at_lines e ls)) →
-          Performs e.limits g o (at_lines e ls) (at_lines (tested e target b) ls) old old (Ok tt)
+          MakesMove e.limits g o (at_lines e ls) (at_lines (tested e target b) ls) old old (Ok tt)
       leads true is = acts_leading (tested e target true) (record { pattern = fits.pattern; hold = fits.hold; queue = fits.queue; turns = fits.turns }) is
       leads false is = acts_leading e fits is
 
   -- `y`
   pub acts_translating : (table : Option (List ℕ)) (e' : RunState) → e' ≡ translated e table → o ≡ quietly (record (at_lines e ls) { pattern = map (in_table table) e.state.pattern }) →
-      Performs e.limits g o (at_lines e ls) (at_lines e' ls) old old (Ok tt)
+      MakesMove e.limits g o (at_lines e ls) (at_lines e' ls) old old (Ok tt)
   acts_translating table e' same is =
-      let Q : RunState → Type 0 = λ e'. Performs e.limits g o (at_lines e ls) (at_lines e' ls) old old (Ok tt) in
+      let Q : RunState → Type 0 = λ e'. MakesMove e.limits g o (at_lines e ls) (at_lines e' ls) old old (Ok tt) in
       let long : length (map (in_table table) e.state.pattern) ≡ length e.state.pattern = length-map e.state.pattern (in_table table) in
       subst Q (sym same) (acts_leading (translated e table) (record { pattern = rw long fits.pattern; hold = fits.hold; queue = fits.queue; turns = fits.turns }) is)
 
   -- `a` and `r`: an entry is put into the queue, or there is no room for it
-  pub acts_queueing : (entry : Entry) (e' : RunState) (r : Result Unit Ended) → o ≡ quietly (queueing entry (at_lines e ls)) → QueuesOrFull e e' entry r → Performs e.limits g o (at_lines e ls) (at_lines e' ls) old old r
+  pub acts_queueing : (entry : Entry) (e' : RunState) (r : Result Unit Ended) → o ≡ quietly (queueing entry (at_lines e ls)) → QueuesOrFull e e' entry r → MakesMove e.limits g o (at_lines e ls) (at_lines e' ls) old old r
   acts_queueing entry e' (Ok u) is (same, room) =
-      let Q : RunState → Type 0 = λ e'. Performs e.limits g o (at_lines e ls) (at_lines e' ls) old old (Ok tt) in
+      let Q : RunState → Type 0 = λ e'. MakesMove e.limits g o (at_lines e ls) (at_lines e' ls) old old (Ok tt) in
       let more : length (e.state.queue ++ entry ∷ []) ≤ e.limits.queue = omega (arith, length-append e.state.queue (entry ∷ [])) in
       subst Q (sym same) (acts_leading (queued_more e entry) (record { pattern = fits.pattern; hold = fits.hold; queue = more; turns = fits.turns }) is)
   acts_queueing entry e' (Err (QueueFull n)) is (same, number, full) =
-      let Q : RunState → Type 0 = λ e'. Performs e.limits g o (at_lines e ls) (at_lines e' ls) old old (Err (QueueFull n)) in
+      let Q : RunState → Type 0 = λ e'. MakesMove e.limits g o (at_lines e ls) (at_lines e' ls) old old (Err (QueueFull n)) in
       let more : e.limits.queue < length (e.state.queue ++ entry ∷ []) = omega (arith, length-append e.state.queue (entry ∷ [])) in
       subst Q (sym same) (λ s c first. stopped_here e.limits g s (at_lines e ls) old (QueueFull n) c.fits refl (number ∙ sym c.number, c.turn, (_, first ∙ is, more)) c.same c.lines)
   acts_queueing entry e' (Err other) is h = absurd h
@@ -117,9 +117,9 @@ command_seen a e k c seen is = let Q : RunState → Type 0 = λ e. slice_get e.s
 
 -- no turn is left
 pub steps_spent : {R : Type 0} (remaining : R → Option (List ℕ)) (old : Stream R) (a : Inside) (e : RunState) (seen : run_of a ≡ e) (i : IsConsistent a) (files : ℕ → List ℕ) (ls : List (List ℕ)) → lines_left remaining old ≡ Some ls → (sinks : SinkView) (k : ℕ) →
-    e.state.tasks ≡ do_at k ∷ [] → k < length a.script.commands → a.turns ≡ a.limits.turns → Steps remaining old old ls e.limits (setting e files) e e sinks sinks (Err TurnsSpent)
+    e.state.tasks ≡ do_at k ∷ [] → k < length a.script.commands → a.turns ≡ a.limits.turns → Steps remaining old old ls e.limits (run_setting e files) e e sinks sinks (Err TurnsSpent)
 steps_spent {R} remaining old a e seen i files ls known sinks k t there spent =
-    steps_by_moves remaining old ls e.limits (setting e files) e e sinks sinks (Err TurnsSpent) known (reach_spent a e seen i files ls k t sinks there spent)
+    steps_by_moves remaining old ls e.limits (run_setting e files) e e sinks sinks (Err TurnsSpent) known (reach_spent a e seen i files ls k t sinks there spent)
 
 or_else : (x y : Bool) → y ≡ true → x || y ≡ true
 or_else true y h = refl
@@ -139,40 +139,40 @@ module _ {R : Type 0} (remaining : R → Option (List ℕ)) (old new : Stream R)
   bytes_stay : TakesAtMost (left remaining old) (left remaining new) 0
   bytes_stay = rw (none_taken taken.lines ls taken.are) at taken.bytes
 
-  reach_as : (choice : Option Selection) → selects (current e (none_left ls)) (is_active e.state k) c ≡ choice →
-      move (setting e files) (at_lines e ls) ≡ option_and_then (performs (setting e files) (at_lines e ls) k c) choice
+  reach_as : (choice : Option Selection) → selects (current_in e (none_left ls)) (is_active e.state k) c ≡ choice →
+      next_move (run_setting e files) (at_lines e ls) ≡ option_and_then (performs (run_setting e files) (at_lines e ls) k c) choice
   reach_as choice h =
-      move_at _ _ _ t ∙ ap (reach (setting e files) (at_lines e ls) k) (command_seen a e k c seen is) ∙ ap (option_and_then (performs (setting e files) (at_lines e ls) k c)) h
+      move_at _ _ _ t ∙ ap (reach (run_setting e files) (at_lines e ls) k) (command_seen a e k c seen is) ∙ ap (option_and_then (performs (run_setting e files) (at_lines e ls) k c)) h
 
   -- the end comes where the addresses are judged
-  pub reach_stopping : (sinks : SinkView) (used : Option ℕ) (end : Ended) (e' : RunState) → e' ≡ e → Judges (current e (none_left ls)) (is_active e.state k) c used (Err end) →
-      Steps remaining old new ls e.limits (setting e files) e e' sinks sinks (Err end)
+  pub reach_stopping : (sinks : SinkView) (used : Option ℕ) (end : Ended) (e' : RunState) → e' ≡ e → Judges (current_in e (none_left ls)) (is_active e.state k) c used (Err end) →
+      Steps remaining old new ls e.limits (run_setting e files) e e' sinks sinks (Err end)
   reach_stopping sinks used end e' same h =
-      let Q : RunState → Type 0 = λ e'. Steps remaining old new ls e.limits (setting e files) e e' sinks sinks (Err end) in
+      let Q : RunState → Type 0 = λ e'. Steps remaining old new ls e.limits (run_setting e files) e e' sinks sinks (Err end) in
       subst Q (sym same) (stops end h)
     where
-      stops : (end : Ended) → Judges (current e (none_left ls)) (is_active e.state k) c used (Err end) → Steps remaining old new ls e.limits (setting e files) e e sinks sinks (Err end)
+      stops : (end : Ended) → Judges (current_in e (none_left ls)) (is_active e.state k) c used (Err end) → Steps remaining old new ls e.limits (run_setting e files) e e sinks sinks (Err end)
       stops (NoPrevious n) (without, number) =
-          halts_here remaining old new e.limits (setting e files) (at_lines e ls) e sinks (NoPrevious n) here refl
+          halts_here remaining old new e.limits (run_setting e files) (at_lines e ls) e sinks (NoPrevious n) here refl
           (number, (λ _. turn_left a e seen i more), ap reaches t, reach_as None without) (record { pattern = refl; hold = refl; queue = λ _. refl; entries = omega arith }) (LosesPart-none _ _ _ bytes_stay)
       stops InputBroken h =
-          halts_here remaining old new e.limits (setting e files) (at_lines e ls) e sinks InputBroken here refl
-          (ap (reads (setting e files)) t ∙ ap asks_last (command_seen a e k c seen is) ∙ either (names_last c) (is_next c.action) h) (record { pattern = refl; hold = refl; queue = λ _. refl; entries = omega arith }) (LosesPart-none _ _ _ bytes_stay)
+          halts_here remaining old new e.limits (run_setting e files) (at_lines e ls) e sinks InputBroken here refl
+          (ap (reads (run_setting e files)) t ∙ ap asks_last (command_seen a e k c seen is) ∙ either (names_last c) (is_next c.action) h) (record { pattern = refl; hold = refl; queue = λ _. refl; entries = omega arith }) (LosesPart-none _ _ _ bytes_stay)
       stops other h = absurd h
 
   -- The addresses chose.
-  module _ (choice : Chosen) (used : Option ℕ) (e1 e2 : RunState) (chose : selects (current e (none_left ls)) (is_active e.state k) c ≡ Some (as_selection choice used)) (came : e1 ≡ reached_with e k (slice_set e.state.ranges k choice.active) used) where
-    moves_as : (b : Bool) → choice.yes ≡ b → move (setting e files) (at_lines e ls) ≡
-        cond b (acts (setting e files) (at_lines (reached_with e k (slice_set e.state.ranges k choice.active) used) ls) (tells_at c choice.end) c.action) (passes (at_lines (reached_with e k (slice_set e.state.ranges k choice.active) used) ls) c.action)
+  module _ (choice : Chosen) (used : Option ℕ) (e1 e2 : RunState) (chose : selects (current_in e (none_left ls)) (is_active e.state k) c ≡ Some (as_selection choice used)) (came : e1 ≡ reached_with e k (slice_set e.state.ranges k choice.active) used) where
+    moves_as : (b : Bool) → choice.yes ≡ b → next_move (run_setting e files) (at_lines e ls) ≡
+        cond b (acts (run_setting e files) (at_lines (reached_with e k (slice_set e.state.ranges k choice.active) used) ls) (tells_at c choice.end) c.action) (passes (at_lines (reached_with e k (slice_set e.state.ranges k choice.active) used) ls) c.action)
     moves_as b chosen = reach_as (Some (as_selection choice used)) chose ∙
-        ap (λ b. cond b (acts (setting e files) (at_lines (reached_with e k (slice_set e.state.ranges k choice.active) used) ls) (tells_at c choice.end) c.action) (passes (at_lines (reached_with e k (slice_set e.state.ranges k choice.active) used) ls) c.action)) chosen
+        ap (λ b. cond b (acts (run_setting e files) (at_lines (reached_with e k (slice_set e.state.ranges k choice.active) used) ls) (tells_at c choice.end) c.action) (passes (at_lines (reached_with e k (slice_set e.state.ranges k choice.active) used) ls) c.action)) chosen
 
-    acted : (sinks sinks' : SinkView) (r : Result Unit Ended) → Moves e.limits (setting e files) (at_lines e ls) (at_lines e2 ls) sinks sinks' r → Steps remaining old new ls e.limits (setting e files) e e2 sinks sinks' r
+    acted : (sinks sinks' : SinkView) (r : Result Unit Ended) → Moves e.limits (run_setting e files) (at_lines e ls) (at_lines e2 ls) sinks sinks' r → Steps remaining old new ls e.limits (run_setting e files) e e2 sinks sinks' r
     acted sinks sinks' (Ok u) h = (ls, taken, h)
     acted sinks sinks' (Err end) h = record { rest = ls; stopped = h; lines = []; are = refl; bytes = LosesPartAfter-none _ _ _ (LosesPart-none _ _ _ bytes_stay) }
 
     -- the command is reached in the state in which it acts
-    here_reaches : Reaches e.limits (setting e files) (at_lines e ls) (at_lines (reached_with e k (slice_set e.state.ranges k choice.active) used) ls)
+    here_reaches : ReachesCommand e.limits (run_setting e files) (at_lines e ls) (at_lines (reached_with e k (slice_set e.state.ranges k choice.active) used) ls)
     here_reaches = record {
       fits = here;
       reaches = ap reaches t;
@@ -184,19 +184,19 @@ module _ {R : Type 0} (remaining : R → Option (List ℕ)) (old new : Stream R)
 
     -- the command applies; `to` is where the lines then stand
     pub reach_acting : (to : Stream R) (sinks sinks' : SinkView) (r : Result Unit Ended) (tells : Bool) → choice.yes ≡ true → tells ≡ tells_at c choice.end →
-        PerformsSteps remaining new to ls e1.limits (setting e1 files) (acts (setting e1 files) (at_lines e1 ls) tells c.action) (is_next c.action) (at_lines e1 ls) e2 sinks sinks' r → Steps remaining old to ls e.limits (setting e files) e e2 sinks sinks' r
+        PerformsSteps remaining new to ls e1.limits (run_setting e1 files) (acts (run_setting e1 files) (at_lines e1 ls) tells c.action) (is_next c.action) (at_lines e1 ls) e2 sinks sinks' r → Steps remaining old to ls e.limits (run_setting e files) e e2 sinks sinks' r
     reach_acting to sinks sinks' r tells chosen tells_is h =
-        let Q : RunState → Type 0 = λ e1. PerformsSteps remaining new to ls e1.limits (setting e1 files) (acts (setting e1 files) (at_lines e1 ls) tells c.action) (is_next c.action) (at_lines e1 ls) e2 sinks sinks' r in
+        let Q : RunState → Type 0 = λ e1. PerformsSteps remaining new to ls e1.limits (run_setting e1 files) (acts (run_setting e1 files) (at_lines e1 ls) tells c.action) (is_next c.action) (at_lines e1 ls) e2 sinks sinks' r in
         let now : State = at_lines (reached_with e k (slice_set e.state.ranges k choice.active) used) ls in
-        let S : Bool → Type 0 = λ b. PerformsSteps remaining new to ls e.limits (setting e files) (acts (setting e files) now b c.action) (is_next c.action) now e2 sinks sinks' r in
+        let S : Bool → Type 0 = λ b. PerformsSteps remaining new to ls e.limits (run_setting e files) (acts (run_setting e files) now b c.action) (is_next c.action) now e2 sinks sinks' r in
         let there = subst S tells_is (subst Q came h) in
-        looked_then remaining old new to ls e.limits (setting e files) (at_lines e ls) e2 sinks sinks' r taken (there (at_lines e ls) here_reaches (λ asks. ap (reads (setting e files)) t ∙ ap asks_last (command_seen a e k c seen is) ∙ or_else (names_last c) (is_next c.action) asks) (moves_as true chosen))
+        looked_then remaining old new to ls e.limits (run_setting e files) (at_lines e ls) e2 sinks sinks' r taken (there (at_lines e ls) here_reaches (λ asks. ap (reads (run_setting e files)) t ∙ ap asks_last (command_seen a e k c seen is) ∙ or_else (names_last c) (is_next c.action) asks) (moves_as true chosen))
 
     -- it doesn't
     pub reach_passing : (sinks : SinkView) → choice.yes ≡ false →
-        Performs e1.limits (setting e1 files) (passes (at_lines e1 ls) c.action) (at_lines e1 ls) (at_lines e2 ls) sinks sinks (Ok tt) → Steps remaining old new ls e.limits (setting e files) e e2 sinks sinks (Ok tt)
+        MakesMove e1.limits (run_setting e1 files) (passes (at_lines e1 ls) c.action) (at_lines e1 ls) (at_lines e2 ls) sinks sinks (Ok tt) → Steps remaining old new ls e.limits (run_setting e files) e e2 sinks sinks (Ok tt)
     reach_passing sinks passed h =
-        let Q : RunState → Type 0 = λ e1. Performs e1.limits (setting e1 files) (passes (at_lines e1 ls) c.action) (at_lines e1 ls) (at_lines e2 ls) sinks sinks (Ok tt) in
+        let Q : RunState → Type 0 = λ e1. MakesMove e1.limits (run_setting e1 files) (passes (at_lines e1 ls) c.action) (at_lines e1 ls) (at_lines e2 ls) sinks sinks (Ok tt) in
         let there = subst Q came h in
         acted sinks sinks (Ok tt) (there (at_lines e ls) here_reaches (moves_as false passed))
 

@@ -9,7 +9,7 @@ use Rattle.std.proofs.lemmas.List.Sums.{sum_by-take-drop}
 use Rattle.std.proofs.lemmas.Grind.{get_or_default_zero}
 use Rattle.std.proofs.Math.Seq.{take-append-add, take-length}
 use Rattle.std.proofs.lemmas.List.{drop-take}
-use Rattle.sedre.specs.Written.{Written, tree}
+use Rattle.sedre.specs.Written.{WrittenExpression, expression_tree}
 use Rattle.sedmatch.specs.Candidates.{IsBefore, NoMatchBefore}
 use Rattle.sedmatch.specs.Matching.{found}
 use Rattle.sedmatch.proofs.MatchingLemmas.{some_found-iff}
@@ -104,7 +104,7 @@ pub count_rest : (bytes : List ℕ) (i : ℕ) → i ≤ length bytes → count_b
 count_rest bytes i less = count_more bytes i (length bytes) less ∙ ap (count_by is_newline) (take-length bytes)
 
 -- what is clear in the first bytes is so in all, and to an earlier place too
-clear_whole : (ms : List Written) (e : ℕ) (text : List ℕ) (end r : ℕ) → r ≤ end → ClearTo ms e (take end text) r → ClearTo ms e text r
+clear_whole : (ms : List WrittenExpression) (e : ℕ) (text : List ℕ) (end r : ℕ) → r ≤ end → ClearTo ms e (take end text) r → ClearTo ms e text r
 clear_whole ms e text end r within clear = λ before line behind is less.
     let q : List ℕ = before ++ (line ++ 10 ∷ []) in
     let size : length q ≡ length before + length line + 1 = omega (arith, length-append before (line ++ 10 ∷ []), length-append line (10 ∷ [])) in
@@ -121,7 +121,7 @@ before_or_last : (k i : ℕ) → k < i + 1 → (k < i) ⊎ (k ≡ i)
 before_or_last k i h = grind arith
 
 -- one expression more
-pub clear_more : (ms : List Written) (xs : List ℕ) (i d : ℕ) (text : List ℕ) (end r : ℕ) → i < length xs → r ≤ end → ((e : ℕ) → Contains (take i xs) e → ClearTo ms e text end) → ClearTo ms (get_or xs i d) (take end text) r →
+pub clear_more : (ms : List WrittenExpression) (xs : List ℕ) (i d : ℕ) (text : List ℕ) (end r : ℕ) → i < length xs → r ≤ end → ((e : ℕ) → Contains (take i xs) e → ClearTo ms e text end) → ClearTo ms (get_or xs i d) (take end text) r →
     (e : ℕ) → Contains (take (i + 1) xs) e → ClearTo ms e text r
 clear_more ms xs i d text end r inside within before one e (k, less, is) =
     let small : k < i + 1 = omega (arith, less, length-take (i + 1) xs) in
@@ -135,9 +135,9 @@ clear_more ms xs i d text end r inside within before one e (k, less, is) =
         subst (λ (e : ℕ). ClearTo ms e text r) last (clear_whole ms (get_or xs i d) text end r within one)
 
 -- what a matcher tells of lines
-pub none_found : (ms : List Written) (e : ℕ) (m : Written) (text : List ℕ) (r : Option ℕ) (end : ℕ) → slice_get ms e ≡ Some m → NoMatchBefore (tree m) text r → ((k : ℕ) → k < end → IsBefore k r) → ClearTo ms e text end
+pub none_found : (ms : List WrittenExpression) (e : ℕ) (m : WrittenExpression) (text : List ℕ) (r : Option ℕ) (end : ℕ) → slice_get ms e ≡ Some m → NoMatchBefore (expression_tree m) text r → ((k : ℕ) → k < end → IsBefore k r) → ClearTo ms e text end
 none_found ms e m text r end is none low = λ before line behind parts less.
-    ap (λ o. has_match o line) is ∙ not_found (is_some (found (tree m) line 0)) (λ yes. none before line (10 ∷ behind) parts (low (length before + length line) less) ((some_found-iff (tree m) line 0 (omega arith)).0 yes))
+    ap (λ o. has_match o line) is ∙ not_found (is_some (found (expression_tree m) line 0)) (λ yes. none before line (10 ∷ behind) parts (low (length before + length line) less) ((some_found-iff (expression_tree m) line 0 (omega arith)).0 yes))
   where
     not_found : (b : Bool) → (IsTrue b → ⊥) → b ≡ false
     not_found true h = absurd (h (search rules))

@@ -3,12 +3,12 @@ use Rattle.std.proofs.Common.{◌≡◌, ℕ, Bool, true, false, cond, not, ◌|
 use Rattle.std.specs.Prelude.{is_some, option_and_then, nat_le, nat_lt, nat_eq}
 use Rattle.std.proofs.lemmas.Bool.Decides.{nat_tests}
 use Rattle.std.proofs.lemmas.Option.{slice_get_read}
-use Rattle.sedre.specs.Written.{Written, tree}
+use Rattle.sedre.specs.Written.{WrittenExpression, expression_tree}
 use Rattle.sedmatch.specs.Matching.{found}
 use Rattle.sedscript.specs.declared.types.Address.{Address}
 use Rattle.sedscript.specs.declared.types.Address.TheVariants.{Line, Last, Match}
 use Rattle.sedscript.specs.declared.types.Command.{Command}
-use Rattle.sedengine.specs.Select.{Current, Answer, Selection, answer, on_idle, on_active, of_addresses, negated, selects, ends_at_once}
+use Rattle.sedengine.specs.Select.{Current, AddressAnswer, Selection, answer, on_idle, on_active, of_addresses, negated, selects, ends_at_once}
 use Rattle.sedengine.specs.Choose.{deciding, deciding_in, decides, choice_by_match, chosen_idle, chosen_active, as_selection, turned, yes_by_number, Answers, Judges}
 use Rattle.sedengine.specs.Ends.{is_dollar}
 use Rattle.sedengine.specs.declared.ends.Ended.{Ended}
@@ -17,12 +17,12 @@ use Rattle.sedengine.specs.ScriptSetting.{has_match, finds_in}
 use Rattle.sedengine.specs.declared.select.Chosen.{Chosen}
 
 -- whether there is a match, as the matcher's call answers it
-pub finds_as : (expressions : List Written) (k : ℕ) (e : Written) (v w : List ℕ) (b : Bool) → k < length expressions → e ≡ get_or expressions k e → v ≡ w → b ≡ is_some (found (tree e) v 0) → b ≡ finds_in expressions k w
+pub finds_as : (expressions : List WrittenExpression) (k : ℕ) (e : WrittenExpression) (v w : List ℕ) (b : Bool) → k < length expressions → e ≡ get_or expressions k e → v ≡ w → b ≡ is_some (found (expression_tree e) v 0) → b ≡ finds_in expressions k w
 finds_as expressions k e v w b inside is same found_as =
-    found_as ∙ ap (λ (x : List ℕ). is_some (found (tree e) x 0)) same ∙ ap (λ (o : Option Written). has_match o w) (sym (slice_get_read expressions (length expressions) k e refl inside is))
+    found_as ∙ ap (λ (x : List ℕ). is_some (found (expression_tree e) x 0)) same ∙ ap (λ (o : Option WrittenExpression). has_match o w) (sym (slice_get_read expressions (length expressions) k e refl inside is))
 
 -- the choice that follows from the answer of the address that decides
-abbrev follows : Current → Bool → Option Address → Option Address → Answer → Option Selection
+abbrev follows : Current → Bool → Option Address → Option Address → AddressAnswer → Option Selection
 follows c active first second a = Some (as_selection (choice_by_match first second active c.number a.yes) a.used)
 
 ext : {A B : Type 0} (o : Option A) (f g : A → Option B) → ((a : A) → f a ≡ g a) → option_and_then f o ≡ option_and_then g o
@@ -35,7 +35,7 @@ idle_follows : (c : Current) (second : Address) (yes : Bool) (used : Option ℕ)
 idle_follows c second true used = refl
 idle_follows c second false used = refl
 
-on_idle-as : (c : Current) (first second : Address) → on_idle c first second ≡ option_and_then (λ (a : Answer). Some (as_selection (chosen_idle second c.number a.yes) a.used)) (answer c first)
+on_idle-as : (c : Current) (first second : Address) → on_idle c first second ≡ option_and_then (λ (a : AddressAnswer). Some (as_selection (chosen_idle second c.number a.yes) a.used)) (answer c first)
 on_idle-as c first second = ext (answer c first) _ _ (λ a. idle_follows c second a.yes a.used)
 
 le_as : (a b : ℕ) → nat_le a b ≡ (nat_lt a b || nat_eq a b)
@@ -44,12 +44,12 @@ le_as a b = grind (arith, nat_tests)
 -- an active range up to the line n, by how the number of this line compares
 line_follows : (c : Current) (first : Address) (n : ℕ) (less same : Bool) →
     cond less (Some (as_selection (record { yes = true; end = false; active = true }) c.used)) (cond same (Some (as_selection (record { yes = true; end = true; active = false }) c.used)) (on_idle c first (Line n)))
-    ≡ option_and_then (λ (a : Answer). Some (as_selection (cond less (record { yes = true; end = false; active = true }) (cond same (record { yes = true; end = true; active = false }) (chosen_idle (Line n) c.number a.yes))) a.used)) (decides c (cond (less || same) None (Some first)))
+    ≡ option_and_then (λ (a : AddressAnswer). Some (as_selection (cond less (record { yes = true; end = false; active = true }) (cond same (record { yes = true; end = true; active = false }) (chosen_idle (Line n) c.number a.yes))) a.used)) (decides c (cond (less || same) None (Some first)))
 line_follows c first n true same = refl
 line_follows c first n false true = refl
 line_follows c first n false false = on_idle-as c first (Line n)
 
-on_active-as : (c : Current) (first second : Address) → on_active c first second ≡ option_and_then (λ (a : Answer). Some (as_selection (chosen_active second c.number a.yes) a.used)) (decides c (deciding_in first second c.number))
+on_active-as : (c : Current) (first second : Address) → on_active c first second ≡ option_and_then (λ (a : AddressAnswer). Some (as_selection (chosen_active second c.number a.yes) a.used)) (decides c (deciding_in first second c.number))
 on_active-as c first (Line n) = rw (le_as c.number n) (line_follows c first n (nat_lt c.number n) (nat_eq c.number n))
 on_active-as c first Last = refl
 on_active-as c first (Match e) = refl

@@ -7,7 +7,7 @@ use Rattle.std.proofs.lemmas.Option.{slice_get_past, slice_get_within, slice_get
 use Rattle.sedspace.specs.Reading.{ReadsAt}
 use Rattle.sedengine.specs.Limits.{Limits}
 use Rattle.sedengine.specs.State.{Task, copy, State, Setting}
-use Rattle.sedengine.specs.Move.{move, after, written, next_or_stay, writes_of, to_sink, copies, quietly}
+use Rattle.sedengine.specs.Move.{next_move, after, written, next_or_stay, writes_of, to_sink, copies, quietly}
 use Rattle.sedengine.specs.Meters.{Sent, SinkView}
 use Rattle.sedengine.specs.Calls.{Puts}
 use Rattle.sedengine.specs.Ends.{WithinLimits, Within, WholeOrBrokenOff, BrokenOff, takes_turn}
@@ -78,7 +78,7 @@ same_copied s now k rest o h = record { pattern = h.pattern; hold = h.hold; queu
 -- From the state s, whose first task writes the file k from its start on.
 module _ (g : Setting) (s : State) (k : ℕ) (rest : List Task) (at : s.tasks ≡ copy k 0 ∷ rest) where
   next_byte : (o : ℕ) → o < length (g.files k) →
-      move g (copied s k rest o) ≡ Some (record { next = copied s k rest (suc o); writes = (0, get_or (g.files k) o 0) ∷ [] })
+      next_move g (copied s k rest o) ≡ Some (record { next = copied s k rest (suc o); writes = (0, get_or (g.files k) o 0) ∷ [] })
   next_byte o lt =
       let m : State = copied s k rest o in
       let more : o + 1 ≡ suc o = omega arith in
@@ -86,7 +86,7 @@ module _ (g : Setting) (s : State) (k : ℕ) (rest : List Task) (at : s.tasks �
       let byte : slice_get (g.files k) o ≡ Some (get_or (g.files k) o 0) = slice_get-get_or (g.files k) o 0 lt in
       move_at g m (copy k o ∷ rest) refl ∙ ap (copies m rest k o) byte ∙ rw (more, turns) refl
 
-  at_end : (o : ℕ) → length (g.files k) ≤ o → move g (copied s k rest o) ≡ quietly (record s { tasks = rest; turns = s.turns + o })
+  at_end : (o : ℕ) → length (g.files k) ≤ o → next_move g (copied s k rest o) ≡ quietly (record s { tasks = rest; turns = s.turns + o })
   at_end o le =
       let m : State = copied s k rest o in
       move_at g m (copy k o ∷ rest) refl ∙ ap (copies m rest k o) (slice_get_past (g.files k) o le)
@@ -95,14 +95,14 @@ module _ (g : Setting) (s : State) (k : ℕ) (rest : List Task) (at : s.tasks �
   unfolding after
   after_copied zero h = rw add-zero (ap (λ ts. let t : State = record s { tasks = ts } in t) at)
   after_copied (suc o) h =
-      ap (λ m. next_or_stay m (move g m)) (after_copied o (omega arith)) ∙ ap (next_or_stay (copied s k rest o)) (next_byte o (omega arith))
+      ap (λ m. next_or_stay m (next_move g m)) (after_copied o (omega arith)) ∙ ap (next_or_stay (copied s k rest o)) (next_byte o (omega arith))
 
   written_copied : (o : ℕ) → o ≤ length (g.files k) → written g s o ≡ to_sink 0 (take o (g.files k))
   unfolding written
   written_copied zero h = search rules
   written_copied (suc o) h =
       let so_far = written_copied o (omega arith) in
-      let byte = ap (λ m. writes_of (move g m)) (after_copied o (omega arith)) ∙ ap writes_of (next_byte o (omega arith)) in
+      let byte = ap (λ m. writes_of (next_move g m)) (after_copied o (omega arith)) ∙ ap writes_of (next_byte o (omega arith)) in
       rw (so_far, byte, take-suc (g.files k) o 0 (omega arith), to_sink-append) refl
 
   one_copied : (o : ℕ) → o ≤ length (g.files k) → InOneCycle g s (o + 1)

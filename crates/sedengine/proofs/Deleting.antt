@@ -11,8 +11,8 @@ use Rattle.sedengine.specs.Move.{acts, line_to, quietly, then_do, writing}
 use Rattle.sedengine.specs.Ends.{WithinLimits}
 use Rattle.sedengine.specs.Meters.{Sent, SinkView}
 use Rattle.sedengine.specs.Calls.{Puts}
-use Rattle.sedengine.specs.Run.{RunState, at_lines, setting}
-use Rattle.sedengine.specs.Steps.{Moves, Performs}
+use Rattle.sedengine.specs.Run.{RunState, at_lines, run_setting}
+use Rattle.sedengine.specs.Steps.{Moves, MakesMove}
 use Rattle.sedengine.specs.Inside.{run_of, tasks_of, IsConsistent}
 use Rattle.sedengine.specs.declared.machine.Machine.TheInside.{Inside}
 use Rattle.sedengine.specs.declared.place.Place.{Place}
@@ -39,44 +39,44 @@ newline_absent (b ∷ bs) h = rw (h 0 0 (omega arith)) (newline_absent bs (λ k 
 -- A command that leaves c1 in the pattern space and writes these bytes, and what the call that ends the cycle says of it.
 pub deletes : (a : Inside) (e e2 : RunState) (files : ℕ → List ℕ) (ls : List (List ℕ)) (o : Option Move) (place : Place) (c1 : Contents) (old mid new : SinkView) (out : List (ℕ × ℕ)) (r : Result Unit Ended) → run_of a ≡ e →
     o ≡ writing out (then_do (flush ∷ tasks_of place) (at_lines (with_pattern e c1.bytes) ls)) → Sent old mid out →
-    Moves a.limits (setting (run_of a) files) (then_do (flush ∷ tasks_of place) (at_lines (run_of (record a { pattern = c1 })) ls)) (at_lines e2 ls) mid new r →
-    Performs e.limits (setting e files) o (at_lines e ls) (at_lines e2 ls) old new r
+    Moves a.limits (run_setting (run_of a) files) (then_do (flush ∷ tasks_of place) (at_lines (run_of (record a { pattern = c1 })) ls)) (at_lines e2 ls) mid new r →
+    MakesMove e.limits (run_setting e files) o (at_lines e ls) (at_lines e2 ls) old new r
 deletes a e e2 files ls o place c1 old mid new out r seen is gained h =
-    let Q : RunState → Type 0 = λ e. o ≡ writing out (then_do (flush ∷ tasks_of place) (at_lines (with_pattern e c1.bytes) ls)) → Performs e.limits (setting e files) o (at_lines e ls) (at_lines e2 ls) old new r in
+    let Q : RunState → Type 0 = λ e. o ≡ writing out (then_do (flush ∷ tasks_of place) (at_lines (with_pattern e c1.bytes) ls)) → MakesMove e.limits (run_setting e files) o (at_lines e ls) (at_lines e2 ls) old new r in
     let m : State = then_do (flush ∷ tasks_of place) (at_lines (run_of (record a { pattern = c1 })) ls) in
-    subst Q seen (λ is. acts_then a.limits (setting (run_of a) files) o (at_lines (run_of a) ls) m (at_lines e2 ls) old mid new out r is (moves_fits a.limits (setting (run_of a) files) m (at_lines e2 ls) mid new r h) gained refl h) is
+    subst Q seen (λ is. acts_then a.limits (run_setting (run_of a) files) o (at_lines (run_of a) ls) m (at_lines e2 ls) old mid new out r is (moves_fits a.limits (run_setting (run_of a) files) m (at_lines e2 ls) mid new r h) gained refl h) is
 
 -- The text of `c` can't be written.
 pub change_stops : (a : Inside) (e : RunState) (files : ℕ → List ℕ) (ls : List (List ℕ)) (o : Option Move) (c1 : Contents) (old new : SinkView) (out : List (ℕ × ℕ)) (end : Ended) → run_of a ≡ e → IsConsistent a → c1.bytes ≡ [] →
     o ≡ writing out (then_do (flush ∷ begin ∷ []) (at_lines (with_pattern e c1.bytes) ls)) → Puts old new out (Err end) →
-    Performs e.limits (setting e files) o (at_lines e ls) (at_lines (run_of (record a { pattern = c1 })) ls) old new (Err end)
+    MakesMove e.limits (run_setting e files) o (at_lines e ls) (at_lines (run_of (record a { pattern = c1 })) ls) old new (Err end)
 change_stops a e files ls o c1 old new out end seen i none is put =
-    let Q : RunState → Type 0 = λ e. o ≡ writing out (then_do (flush ∷ begin ∷ []) (at_lines (with_pattern e c1.bytes) ls)) → Performs e.limits (setting e files) o (at_lines e ls) (at_lines (run_of (record a { pattern = c1 })) ls) old new (Err end) in
+    let Q : RunState → Type 0 = λ e. o ≡ writing out (then_do (flush ∷ begin ∷ []) (at_lines (with_pattern e c1.bytes) ls)) → MakesMove e.limits (run_setting e files) o (at_lines e ls) (at_lines (run_of (record a { pattern = c1 })) ls) old new (Err end) in
     let m : State = then_do (flush ∷ begin ∷ []) (at_lines (run_of (record a { pattern = c1 })) ls) in
     let f = fits_of a ls i in
     let empty = ap length none in
     let fm : WithinLimits a.limits m = record { pattern = omega arith; hold = f.hold; queue = f.queue; turns = f.turns } in
-    subst Q seen (λ is. acts_stopping a.limits (setting (run_of a) files) o (at_lines (run_of a) ls) m (at_lines (run_of (record a { pattern = c1 })) ls) old new out end is fm (record { pattern = refl; hold = refl; queue = λ _. refl; entries = omega arith }) refl put) is
+    subst Q seen (λ is. acts_stopping a.limits (run_setting (run_of a) files) o (at_lines (run_of a) ls) m (at_lines (run_of (record a { pattern = c1 })) ls) old new out end is fm (record { pattern = refl; hold = refl; queue = λ _. refl; entries = omega arith }) refl put) is
 
 -- What the commands do, by what is left in the pattern space.
 pub change_is : (e : RunState) (files : ℕ → List ℕ) (ls : List (List ℕ)) (text : ℕ) (tells b : Bool) (c1 : Contents) → c1.bytes ≡ [] → tells ≡ b →
-    acts (setting e files) (at_lines e ls) tells (Change text) ≡ writing (cond b (line_to 0 (unwrap_or (slice_get e.script.texts text) [])) []) (then_do (flush ∷ begin ∷ []) (at_lines (with_pattern e c1.bytes) ls))
+    acts (run_setting e files) (at_lines e ls) tells (Change text) ≡ writing (cond b (line_to 0 (unwrap_or (slice_get e.script.texts text) [])) []) (then_do (flush ∷ begin ∷ []) (at_lines (with_pattern e c1.bytes) ls))
 change_is e files ls text tells b c1 none is = rw (none, is) refl
 
 pub delete_is : (e : RunState) (files : ℕ → List ℕ) (ls : List (List ℕ)) (c1 : Contents) → c1.bytes ≡ [] →
-    acts (setting e files) (at_lines e ls) true Delete ≡ quietly (then_do (flush ∷ begin ∷ []) (at_lines (with_pattern e c1.bytes) ls))
+    acts (run_setting e files) (at_lines e ls) true Delete ≡ quietly (then_do (flush ∷ begin ∷ []) (at_lines (with_pattern e c1.bytes) ls))
 delete_is e files ls c1 none = rw none refl
 
 pub cut_is : (e : RunState) (files : ℕ → List ℕ) (ls : List (List ℕ)) (c1 : Contents) → list_any is_newline e.state.pattern ≡ true → c1.bytes ≡ after_first is_newline e.state.pattern →
-    acts (setting e files) (at_lines e ls) true DeleteFirst ≡ quietly (then_do (flush ∷ rebegin ∷ []) (at_lines (with_pattern e c1.bytes) ls))
+    acts (run_setting e files) (at_lines e ls) true DeleteFirst ≡ quietly (then_do (flush ∷ rebegin ∷ []) (at_lines (with_pattern e c1.bytes) ls))
 cut_is e files ls c1 there is = rw (there, is) refl
 
 pub uncut_is : (e : RunState) (files : ℕ → List ℕ) (ls : List (List ℕ)) → list_any is_newline e.state.pattern ≡ false →
-    acts (setting e files) (at_lines e ls) true DeleteFirst ≡ acts (setting e files) (at_lines e ls) true Delete
+    acts (run_setting e files) (at_lines e ls) true DeleteFirst ≡ acts (run_setting e files) (at_lines e ls) true Delete
 uncut_is e files ls absent = rw absent refl
 
 pub cut_seen : (a : Inside) (e : RunState) (files : ℕ → List ℕ) (ls : List (List ℕ)) (c1 : Contents) → run_of a ≡ e → Contains a.pattern.bytes 10 → c1 ≡ record a.pattern { bytes = after_first is_newline a.pattern.bytes } →
-    acts (setting e files) (at_lines e ls) true DeleteFirst ≡ quietly (then_do (flush ∷ rebegin ∷ []) (at_lines (with_pattern e c1.bytes) ls))
+    acts (run_setting e files) (at_lines e ls) true DeleteFirst ≡ quietly (then_do (flush ∷ rebegin ∷ []) (at_lines (with_pattern e c1.bytes) ls))
 cut_seen a e files ls c1 seen there is =
     let same : a.pattern.bytes ≡ e.state.pattern = ap (λ (e : RunState). e.state.pattern) seen in
     let N : List ℕ → Type 0 = λ bytes. list_any is_newline bytes ≡ true in
@@ -84,12 +84,12 @@ cut_seen a e files ls c1 seen there is =
 
 -- without a newline the space stays, and `D` is `d`
 pub uncut_performs : (a : Inside) (e e' : RunState) (files : ℕ → List ℕ) (ls : List (List ℕ)) (c1 : Contents) (sinks sinks' : SinkView) (r : Result Unit Ended) → run_of a ≡ e → HasNoNewline a.pattern.bytes → c1 ≡ a.pattern →
-    Performs a.limits (setting (run_of a) files) (acts (setting (run_of a) files) (at_lines (run_of (record a { pattern = c1 })) ls) true Delete) (at_lines (run_of (record a { pattern = c1 })) ls) (at_lines e' ls) sinks sinks' r →
-    Performs e.limits (setting e files) (acts (setting e files) (at_lines e ls) true DeleteFirst) (at_lines e ls) (at_lines e' ls) sinks sinks' r
+    MakesMove a.limits (run_setting (run_of a) files) (acts (run_setting (run_of a) files) (at_lines (run_of (record a { pattern = c1 })) ls) true Delete) (at_lines (run_of (record a { pattern = c1 })) ls) (at_lines e' ls) sinks sinks' r →
+    MakesMove e.limits (run_setting e files) (acts (run_setting e files) (at_lines e ls) true DeleteFirst) (at_lines e ls) (at_lines e' ls) sinks sinks' r
 uncut_performs a e e' files ls c1 sinks sinks' r seen absent is h =
-    let Q : RunState → Type 0 = λ e. Performs e.limits (setting e files) (acts (setting e files) (at_lines e ls) true DeleteFirst) (at_lines e ls) (at_lines e' ls) sinks sinks' r in
-    let S : Contents → Type 0 = λ c1. Performs a.limits (setting (run_of a) files) (acts (setting (run_of a) files) (at_lines (run_of (record a { pattern = c1 })) ls) true Delete) (at_lines (run_of (record a { pattern = c1 })) ls) (at_lines e' ls) sinks sinks' r in
-    let O : Option Move → Type 0 = λ o. Performs a.limits (setting (run_of a) files) o (at_lines (run_of a) ls) (at_lines e' ls) sinks sinks' r in
+    let Q : RunState → Type 0 = λ e. MakesMove e.limits (run_setting e files) (acts (run_setting e files) (at_lines e ls) true DeleteFirst) (at_lines e ls) (at_lines e' ls) sinks sinks' r in
+    let S : Contents → Type 0 = λ c1. MakesMove a.limits (run_setting (run_of a) files) (acts (run_setting (run_of a) files) (at_lines (run_of (record a { pattern = c1 })) ls) true Delete) (at_lines (run_of (record a { pattern = c1 })) ls) (at_lines e' ls) sinks sinks' r in
+    let O : Option Move → Type 0 = λ o. MakesMove a.limits (run_setting (run_of a) files) o (at_lines (run_of a) ls) (at_lines e' ls) sinks sinks' r in
     subst Q seen (subst O (sym (uncut_is (run_of a) files ls (newline_absent a.pattern.bytes absent))) (subst S is h))
 
 -- the text of `c`, as the engine is seen

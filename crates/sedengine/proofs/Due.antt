@@ -6,7 +6,7 @@ use Rattle.std.proofs.Math.Nat.{mul-suc}
 use Rattle.std.specs.Prelude.{OnOk, OnErr, IsErr, IfSome, slice_range, if◌then◌else◌}
 use Rattle.std.proofs.Math.Seq.{take-length}
 use Rattle.std.proofs.lemmas.Bool.{false≢true}
-use Rattle.sedre.specs.Written.{Written, tree}
+use Rattle.sedre.specs.Written.{WrittenExpression, expression_tree}
 use Rattle.sedmatch.specs.Groups.{Groups}
 use Rattle.sedmatch.specs.Matching.{report}
 use Rattle.sedmatch.specs.Following.{LiesOn}
@@ -15,8 +15,8 @@ use Rattle.sedspace.specs.Spaces.{Contents}
 use Rattle.sedspace.specs.declared.errors.Full.{Full}
 use Rattle.sedengine.specs.Substitute.{Occurrence, to_replace, next_occurrence, occurrences, put_for, replaced_from}
 use Rattle.sedengine.specs.ScriptSetting.{match_with_span, search_for}
-use Rattle.sedengine.specs.SubstituteParts.{Appends, GroupsOf, Replaces, Skips, has_group, with_groups}
-use Rattle.sedengine.specs.SubstituteParts.{later_cost, occurrence, occurrences_after, pending, told_cost}
+use Rattle.sedengine.specs.SubstituteParts.{Appends, GroupsOf, ReplacesThese, Skips, has_group, with_groups}
+use Rattle.sedengine.specs.SubstituteParts.{later_cost, occurrence_at_span, occurrences_after, pending, told_cost}
 use Rattle.sedengine.proofs.Occurrences.{after_is}
 use Rattle.sedengine.proofs.PieceLemmas.{put_same}
 
@@ -65,11 +65,11 @@ due_last old mid new all part (Err f) due full =
     (omega arith, full.1 ∙ due.0)
 
 -- what comes after an occurrence that is replaced
-abbrev pub rest_after : Written → List ℕ → Bool → ℕ → List Occurrence
+abbrev pub rest_after : WrittenExpression → List ℕ → Bool → ℕ → List Occurrence
 rest_after e w global q = if global then occurrences_after e w (Some q) else []
 
 -- for an occurrence the text before it is due, what stands for it, and what comes after it
-pub due_next : (old mid : Contents) (all : List ℕ) (e : Written) (w : List ℕ) (ps : List Piece) (global : Bool)
+pub due_next : (old mid : Contents) (all : List ℕ) (e : WrittenExpression) (w : List ℕ) (ps : List Piece) (global : Bool)
     (at : ℕ) (groups : Groups) (o : Option (ℕ × ℕ)) (span : ℕ × ℕ) → o ≡ Some span →
     GroupsOf e w (has_group ps) o groups → Due old mid all (replaced_from w ps at (pending e w global o)) →
     Due old mid all (slice_range w at span.0
@@ -80,12 +80,12 @@ due_next old mid all e w ps global at groups (Some this) span is told due =
     let Parts : ℕ × ℕ → List ℕ → Type 0 =
     λ s put. Due old mid all (slice_range w at s.0
     ++ (put ++ replaced_from w ps s.1 (rest_after e w global s.1))) in
-    let flat : Parts this (put_for w (occurrence e w this) ps) = due_as old mid all _ _ (simp append_assoc) due in
+    let flat : Parts this (put_for w (occurrence_at_span e w this) ps) = due_as old mid all _ _ (simp append_assoc) due in
     subst (λ (s : ℕ × ℕ). Parts s (put_for w (with_groups s groups) ps)) same
-    (subst (Parts this) (sym (put_same w this groups (report (tree e) w this.0 this.1) ps told)) flat)
+    (subst (Parts this) (sym (put_same w this groups (report (expression_tree e) w this.0 this.1) ps told)) flat)
 
 -- after the text before it, what stands for it is due
-pub due_cut : (old mid cut : Contents) (all : List ℕ) (e : Written) (w : List ℕ) (ps qs : List Piece) (global : Bool)
+pub due_cut : (old mid cut : Contents) (all : List ℕ) (e : WrittenExpression) (w : List ℕ) (ps qs : List Piece) (global : Bool)
     (at : ℕ) (groups : Groups) (o : Option (ℕ × ℕ)) (span : ℕ × ℕ) → o ≡ Some span →
     GroupsOf e w (has_group ps) o groups → qs ≡ ps → Due old mid all (replaced_from w ps at (pending e w global o)) →
     cut ≡ record mid { bytes = mid.bytes ++ slice_range w at span.0 } →
@@ -97,7 +97,7 @@ due_cut old mid cut all e w ps qs global at groups o span is told same due befor
     subst (λ (qs : List Piece). Due old cut all (put_for w (with_groups span groups) qs ++ rest)) (sym same) left
 
 -- and after that what comes after it
-pub due_after : (old mid cut new : Contents) (all : List ℕ) (e : Written) (w : List ℕ) (ps qs : List Piece)
+pub due_after : (old mid cut new : Contents) (all : List ℕ) (e : WrittenExpression) (w : List ℕ) (ps qs : List Piece)
     (global : Bool) (at : ℕ) (groups : Groups) (o : Option (ℕ × ℕ)) (span : ℕ × ℕ) (ms : List Occurrence) → o ≡ Some span →
     GroupsOf e w (has_group ps) o groups → qs ≡ ps → Due old mid all (replaced_from w ps at (pending e w global o)) →
     cut ≡ record mid { bytes = mid.bytes ++ slice_range w at span.0 } →
@@ -112,7 +112,7 @@ to_end : (w : List ℕ) (at : ℕ) → take (length w - at) (drop at w) ≡ drop
 to_end w at = ap (λ (n : ℕ). take n (drop at w)) (sym (length-drop at w)) ∙ take-length (drop at w)
 
 -- without an occurrence the rest of the text is due, and then all was appended or doesn't fit
-pub due_rest : (old mid new : Contents) (all : List ℕ) (e : Written) (w : List ℕ) (ps : List Piece) (global : Bool)
+pub due_rest : (old mid new : Contents) (all : List ℕ) (e : WrittenExpression) (w : List ℕ) (ps : List Piece) (global : Bool)
     (at : ℕ) (o : Option (ℕ × ℕ)) (r : Result Unit Full) → o ≡ None →
     Due old mid all (replaced_from w ps at (pending e w global o)) →
     Appends mid new (take (length w - at) (drop at w)) r → Appends old new all r
@@ -121,13 +121,13 @@ due_rest old mid new all e w ps global at None r is due rest =
 due_rest old mid new all e w ps global at (Some span) r is due rest = let never : Some span ≡ None = is in cc
 
 -- after an occurrence that is replaced the next one is, with the flag `g`
-pub more_pending : (e : Written) (w : List ℕ) (global : Bool) (q : ℕ) (r : Option (ℕ × ℕ)) → global ≡ true →
+pub more_pending : (e : WrittenExpression) (w : List ℕ) (global : Bool) (q : ℕ) (r : Option (ℕ × ℕ)) → global ≡ true →
     q ≤ length w → match_with_span e w r ≡ next_occurrence (search_for (Some e) w) (length w) (Some q) →
     rest_after e w global q ≡ pending e w global r
 more_pending e w true q r is fits next = after_is e w (Some q) r fits next
 more_pending e w false q r is fits next = absurd (false≢true is)
 
-pub none_pending : (e : Written) (w : List ℕ) (global : Bool) (q : ℕ) → global ≡ false → rest_after e w global q ≡ []
+pub none_pending : (e : WrittenExpression) (w : List ℕ) (global : Bool) (q : ℕ) → global ≡ false → rest_after e w global q ≡ []
 none_pending e w true q is = absurd (false≢true (sym is))
 none_pending e w false q is = refl
 
@@ -138,7 +138,7 @@ lies_on n q None lies = tt
 lies_on n q (Some span) lies = (lies.2.0, lies.0, lies.1)
 
 -- the chosen occurrences are pending where the first of them comes next
-pub to_replace_is : (e : Written) (w : List ℕ) (number : ℕ) (global : Bool) (last : Option ℕ) (r : Option (ℕ × ℕ)) →
+pub to_replace_is : (e : WrittenExpression) (w : List ℕ) (number : ℕ) (global : Bool) (last : Option ℕ) (r : Option (ℕ × ℕ)) →
     Skips e w (number - 1) (Some last) → match_with_span e w r ≡ next_occurrence (search_for (Some e) w) (length w) last →
     to_replace number global (occurrences (search_for (Some e) w) (length w)) ≡ pending e w global r
 to_replace_is e w number global last r skips next = by_flag global r (skips.0 ∙ after_is e w last r skips.1 next)
@@ -153,7 +153,7 @@ to_replace_is e w number global last r skips next = by_flag global r (skips.0 �
 -- what a substitution answers where the text was appended to the empty space
 pub replaces_made : (w : List ℕ) (ps : List Piece) (ms ns : List Occurrence) (old empty new : Contents) → ms ≡ ns →
     0 < length ns → empty ≡ record old { bytes = [] } →
-    new ≡ record empty { bytes = empty.bytes ++ replaced_from w ps 0 ns } → Replaces w ps ms old.limit new.bytes (Ok true)
+    new ≡ record empty { bytes = empty.bytes ++ replaced_from w ps 0 ns } → ReplacesThese w ps ms old.limit new.bytes (Ok true)
 replaces_made w ps ms ns old empty new same some cleared is =
     let made : new.bytes ≡ replaced_from w ps 0 ns =
     ap (λ (s : Contents). s.bytes) is ∙ ap (λ (s : Contents). s.bytes ++ replaced_from w ps 0 ns) cleared in
@@ -162,7 +162,7 @@ replaces_made w ps ms ns old empty new same some cleared is =
 -- and where it doesn't fit
 pub replaces_full : (w : List ℕ) (ps : List Piece) (ms ns : List Occurrence) (old empty new : Contents) (f : Full)
     (r : Result Bool Full) → IsErr r → ms ≡ ns → 0 < length ns → empty ≡ record old { bytes = [] } →
-    Appends empty new (replaced_from w ps 0 ns) (Err f) → Replaces w ps ms old.limit new.bytes r
+    Appends empty new (replaced_from w ps 0 ns) (Err f) → ReplacesThese w ps ms old.limit new.bytes r
 replaces_full w ps ms ns old empty new f (Ok b) is same some cleared full = absurd (false≢true is)
 replaces_full w ps ms ns old empty new f (Err g) is same some cleared full =
     let over = subst (λ (s : Contents). s.limit < length s.bytes + length (replaced_from w ps 0 ns)) cleared full.0 in
@@ -175,7 +175,7 @@ told_most span true k = omega arith
 told_most span false k = omega arith
 
 -- after an occurrence is replaced, what its successor's groups took is no longer due
-pub groups_paid : (k a a' b : ℕ) (e : Written) (w : List ℕ) (global wanted : Bool) (o : Option (ℕ × ℕ)) (span : ℕ × ℕ) (r : Option (ℕ × ℕ)) →
+pub groups_paid : (k a a' b : ℕ) (e : WrittenExpression) (w : List ℕ) (global wanted : Bool) (o : Option (ℕ × ℕ)) (span : ℕ × ℕ) (r : Option (ℕ × ℕ)) →
     o ≡ Some span → rest_after e w global span.1 ≡ pending e w global r → a + later_cost k (pending e w global o) ≤ b →
     a' ≤ a + told_cost r wanted k → a' + later_cost k (pending e w global r) ≤ b
 groups_paid k a a' b e w global wanted o span None is more before cost = omega (arith, before, cost)
@@ -187,7 +187,7 @@ groups_paid k a a' b e w global wanted o span (Some next) is more before cost =
     omega (arith, now, cost, product, most)
 
 -- what the groups of all that is replaced took
-pub groups_took : (k a b c : ℕ) (e : Written) (w : List ℕ) (global wanted : Bool) (first : ℕ × ℕ) (ms : List Occurrence) →
+pub groups_took : (k a b c : ℕ) (e : WrittenExpression) (w : List ℕ) (global wanted : Bool) (first : ℕ × ℕ) (ms : List Occurrence) →
     ms ≡ pending e w global (Some first) → (a ≤ b) × (b ≤ a + told_cost (Some first) wanted k) →
     (b ≤ c) × (c ≤ b + later_cost k (pending e w global (Some first))) → (a ≤ c) × (c ≤ a + k * length ms)
 groups_took k a b c e w global wanted first ms is told later =

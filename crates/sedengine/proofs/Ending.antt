@@ -11,11 +11,11 @@ use Rattle.sedengine.specs.Ends.{WithinLimits, takes_turn}
 use Rattle.sedengine.specs.Held.{SameLengths}
 use Rattle.sedengine.specs.Meters.{Sent, SinkView}
 use Rattle.sedengine.specs.Calls.{Puts}
-use Rattle.sedengine.specs.Run.{RunState, at_lines, setting, starts_cycle}
-use Rattle.sedengine.specs.Steps.{Moves, Performs, costs, weight}
-use Rattle.sedengine.specs.Flushing.{Flushes}
+use Rattle.sedengine.specs.Run.{RunState, at_lines, run_setting, starts_cycle}
+use Rattle.sedengine.specs.Steps.{Moves, MakesMove, costs, weight}
+use Rattle.sedengine.specs.Flushing.{FlushesQueue}
 use Rattle.sedengine.specs.Queueing.{flushed, with_turns}
-use Rattle.sedengine.specs.Inside.{run_of, tasks_of, entries_of, IsConsistent, Queues}
+use Rattle.sedengine.specs.Inside.{run_of, tasks_of, entries_of, IsConsistent, CommandQueues}
 use Rattle.sedengine.specs.declared.machine.Machine.TheInside.{Inside}
 use Rattle.sedengine.specs.declared.place.Place.{Place}
 use Rattle.sedengine.specs.declared.place.Place.TheVariants as p
@@ -35,7 +35,7 @@ then_same s ts h = let Q : List Task → Type 0 = λ ts. then_do ts s ≡ s in s
 
 -- The queue of an engine with the fields a is written.
 pub flush_moves : (a : Inside) (e e' : RunState) (g : Setting) (ls : List (List ℕ)) (rest : List Task) (turns : ℕ) (sinks sinks' : SinkView) (r : Result Unit Ended) → run_of a ≡ e → IsConsistent a →
-    ((s : State) (rest : List Task) → s.tasks ≡ flush ∷ rest → s.queue ≡ entries_of a.script a.queue.items → s.turns ≡ a.turns → WithinLimits a.limits s → Flushes a.limits g s (record s { queue = []; tasks = rest; turns = turns }) sinks sinks' r) →
+    ((s : State) (rest : List Task) → s.tasks ≡ flush ∷ rest → s.queue ≡ entries_of a.script a.queue.items → s.turns ≡ a.turns → WithinLimits a.limits s → FlushesQueue a.limits g s (record s { queue = []; tasks = rest; turns = turns }) sinks sinks' r) →
     OnOk r (e' ≡ flushed e turns) → OnErr r (e' ≡ with_turns e turns) →
     Moves e.limits g (then_do (flush ∷ rest) (at_lines e ls)) (then_do rest (at_lines e' ls)) sinks sinks' r
 flush_moves a e e' g ls rest turns sinks sinks' (Ok u) seen i h ok err =
@@ -53,25 +53,25 @@ flush_moves a e e' g ls rest turns sinks sinks' (Err end) seen i h ok err =
 -- The pattern space is written, and then what comes after it.
 pub print_moves : (e e' : RunState) (files : ℕ → List ℕ) (ls : List (List ℕ)) (rest : List Task) (old mid new : SinkView) (r : Result Unit Ended) → WithinLimits e.limits (at_lines e ls) →
     Sent old mid (cond e.script.quiet [] (line_to 0 e.state.pattern)) →
-    Moves e.limits (setting e files) (then_do (flush ∷ rest) (at_lines e ls)) (then_do rest (at_lines e' ls)) mid new r →
-    Moves e.limits (setting e files) (then_do (print_pattern ∷ flush ∷ rest) (at_lines e ls)) (then_do rest (at_lines e' ls)) old new r
+    Moves e.limits (run_setting e files) (then_do (flush ∷ rest) (at_lines e ls)) (then_do rest (at_lines e' ls)) mid new r →
+    Moves e.limits (run_setting e files) (then_do (print_pattern ∷ flush ∷ rest) (at_lines e ls)) (then_do rest (at_lines e' ls)) old new r
 print_moves e e' files ls rest old mid new r f gained h =
-    moves_then e.limits (setting e files) (then_do (print_pattern ∷ flush ∷ rest) (at_lines e ls)) (then_do (flush ∷ rest) (at_lines e ls)) (then_do rest (at_lines e' ls)) old mid new (cond e.script.quiet [] (line_to 0 e.state.pattern)) r
+    moves_then e.limits (run_setting e files) (then_do (print_pattern ∷ flush ∷ rest) (at_lines e ls)) (then_do (flush ∷ rest) (at_lines e ls)) (then_do rest (at_lines e' ls)) old mid new (cond e.script.quiet [] (line_to 0 e.state.pattern)) r
     (fits_tasks _ (at_lines e ls) _ f) (move_at _ _ _ refl) (fits_tasks _ (at_lines e ls) _ f) gained refl h
 
 pub print_stops : (e : RunState) (files : ℕ → List ℕ) (ls : List (List ℕ)) (rest : List Task) (old new : SinkView) (end : Ended) → WithinLimits e.limits (at_lines e ls) →
     Puts old new (cond e.script.quiet [] (line_to 0 e.state.pattern)) (Err end) →
-    Moves e.limits (setting e files) (then_do (print_pattern ∷ flush ∷ rest) (at_lines e ls)) (then_do rest (at_lines e ls)) old new (Err end)
+    Moves e.limits (run_setting e files) (then_do (print_pattern ∷ flush ∷ rest) (at_lines e ls)) (then_do rest (at_lines e ls)) old new (Err end)
 print_stops e files ls rest old new end f put =
-    stopped_writing e.limits (setting e files) (then_do (print_pattern ∷ flush ∷ rest) (at_lines e ls)) (then_do (flush ∷ rest) (at_lines e ls)) (then_do rest (at_lines e ls)) old new (cond e.script.quiet [] (line_to 0 e.state.pattern)) end
+    stopped_writing e.limits (run_setting e files) (then_do (print_pattern ∷ flush ∷ rest) (at_lines e ls)) (then_do (flush ∷ rest) (at_lines e ls)) (then_do rest (at_lines e ls)) old new (cond e.script.quiet [] (line_to 0 e.state.pattern)) end
     (fits_tasks _ (at_lines e ls) _ f) (move_at _ _ _ refl) (fits_tasks _ (at_lines e ls) _ f) (record { pattern = refl; hold = refl; queue = λ _. refl; entries = omega arith }) refl put
 
 -- The end of the script: command k isn't there. What follows the first move is h.
 pub end_moves : (e : RunState) (files : ℕ → List ℕ) (ls : List (List ℕ)) (k : ℕ) (now : State) (old new : SinkView) (r : Result Unit Ended) → WithinLimits e.limits (at_lines e ls) → e.state.tasks ≡ do_at k ∷ [] → length e.script.commands ≤ k →
-    Moves e.limits (setting e files) (then_do at_end (at_lines e ls)) now old new r → Moves e.limits (setting e files) (at_lines e ls) now old new r
+    Moves e.limits (run_setting e files) (then_do at_end (at_lines e ls)) now old new r → Moves e.limits (run_setting e files) (at_lines e ls) now old new r
 end_moves e files ls k now old new r f at over h =
-    quietly_then e.limits (setting e files) (at_lines e ls) (then_do at_end (at_lines e ls)) now old new r f
-    (move_at _ _ _ at ∙ ap (reach (setting e files) (at_lines e ls) k) (slice_get_past e.script.commands k over)) (fits_tasks _ (at_lines e ls) at_end f) refl h
+    quietly_then e.limits (run_setting e files) (at_lines e ls) (then_do at_end (at_lines e ls)) now old new r f
+    (move_at _ _ _ at ∙ ap (reach (run_setting e files) (at_lines e ls) k) (slice_get_past e.script.commands k over)) (fits_tasks _ (at_lines e ls) at_end f) refl h
 
 -- the engine whose pattern space is emptied, before the next cycle
 abbrev pub emptied : RunState → RunState
@@ -79,11 +79,11 @@ emptied e = record e { state = record e.state { pattern = []; tasks = begin ∷ 
 
 -- the cycle has ended
 pub finished : (e e' final : RunState) (files : ℕ → List ℕ) (ls : List (List ℕ)) (k : ℕ) (old new : SinkView) → e.state.tasks ≡ do_at k ∷ [] → length e.script.commands ≤ k →
-    Moves e.limits (setting e files) (then_do at_end (at_lines e ls)) (then_do (empty_pattern ∷ begin ∷ []) (at_lines e' ls)) old new (Ok tt) → final ≡ emptied e' →
-    Moves e.limits (setting e files) (at_lines e ls) (at_lines final ls) old new (Ok tt)
+    Moves e.limits (run_setting e files) (then_do at_end (at_lines e ls)) (then_do (empty_pattern ∷ begin ∷ []) (at_lines e' ls)) old new (Ok tt) → final ≡ emptied e' →
+    Moves e.limits (run_setting e files) (at_lines e ls) (at_lines final ls) old new (Ok tt)
 finished e e' final files ls k old new at over h is =
-    let Q : RunState → Type 0 = λ final. Moves e.limits (setting e files) (at_lines e ls) (at_lines final ls) old new (Ok tt) in
-    let g : Setting = setting e files in
+    let Q : RunState → Type 0 = λ final. Moves e.limits (run_setting e files) (at_lines e ls) (at_lines final ls) old new (Ok tt) in
+    let g : Setting = run_setting e files in
     let m : State = then_do (empty_pattern ∷ begin ∷ []) (at_lines e' ls) in
     let f = moves_fits e.limits g (then_do at_end (at_lines e ls)) m old new (Ok tt) h in
     let f' = ran_fits_now e.limits g (then_do at_end (at_lines e ls)) m old new h in
@@ -93,11 +93,11 @@ finished e e' final files ls k old new at over h is =
 
 -- the end came before the cycle's
 pub finish_stopped : (e e' : RunState) (files : ℕ → List ℕ) (ls : List (List ℕ)) (k : ℕ) (rest : List Task) (old new : SinkView) (end : Ended) → e.state.tasks ≡ do_at k ∷ [] → length e.script.commands ≤ k →
-    Moves e.limits (setting e files) (then_do at_end (at_lines e ls)) (then_do rest (at_lines e' ls)) old new (Err end) →
-    Moves e.limits (setting e files) (at_lines e ls) (at_lines e' ls) old new (Err end)
+    Moves e.limits (run_setting e files) (then_do at_end (at_lines e ls)) (then_do rest (at_lines e' ls)) old new (Err end) →
+    Moves e.limits (run_setting e files) (at_lines e ls) (at_lines e' ls) old new (Err end)
 finish_stopped e e' files ls k rest old new end at over h =
-    let f = moves_fits e.limits (setting e files) (then_do at_end (at_lines e ls)) (then_do rest (at_lines e' ls)) old new (Err end) h in
-    Stopped-as e.limits (setting e files) (at_lines e ls) (then_do rest (at_lines e' ls)) (at_lines e' ls) old new end refl refl refl refl
+    let f = moves_fits e.limits (run_setting e files) (then_do at_end (at_lines e ls)) (then_do rest (at_lines e' ls)) old new (Err end) h in
+    Stopped-as e.limits (run_setting e files) (at_lines e ls) (then_do rest (at_lines e' ls)) (at_lines e' ls) old new end refl refl refl refl
     (end_moves e files ls k (then_do rest (at_lines e' ls)) old new (Err end) (record { pattern = f.pattern; hold = f.hold; queue = f.queue; turns = f.turns }) at over h)
 
 -- the run has ended, or the end came before
@@ -128,16 +128,16 @@ rebegin_spent a e g ls sinks seen i at spent =
 
 -- A command that makes a move which writes these bytes, and then what h says.
 pub acts_then : (l : Limits) (g : Setting) (o : Option Move) (there m now : State) (old mid new : SinkView) (out : List (ℕ × ℕ)) (r : Result Unit Ended) → o ≡ writing out m → WithinLimits l m → Sent old mid out → starts_cycle m.tasks ≡ false →
-    Moves l g m now mid new r → Performs l g o there now old new r
+    Moves l g m now mid new r → MakesMove l g o there now old new r
 acts_then l g o there m now old mid new out r is f gained goes h = λ s c first. moves_then l g s m now old mid new out r c.fits (first ∙ is) f gained goes h
 
 -- The sink failed in that move.
 pub acts_stopping : (l : Limits) (g : Setting) (o : Option Move) (there m now : State) (old new : SinkView) (out : List (ℕ × ℕ)) (end : Ended) → o ≡ writing out m → WithinLimits l m → SameLengths m now → there.lines ≡ now.lines →
-    Puts old new out (Err end) → Performs l g o there now old new (Err end)
+    Puts old new out (Err end) → MakesMove l g o there now old new (Err end)
 acts_stopping l g o there m now old new out end is f same lines put = λ s c first. stopped_writing l g s m now old new out end c.fits (first ∙ is) f same (c.lines ∙ lines) put
 
 -- a number is put into the queue
-pub queue_is_run : (a : Inside) (q : Entries) (k : ℕ) (r : Result Unit Full) → IsConsistent a → Queues (slice_get a.script.commands k) → OnOk r (q ≡ record a.queue { items = a.queue.items ++ k ∷ [] }) → OnOk r (length a.queue.items < a.queue.limit) → OnErr r (q ≡ a.queue) →
+pub queue_is_run : (a : Inside) (q : Entries) (k : ℕ) (r : Result Unit Full) → IsConsistent a → CommandQueues (slice_get a.script.commands k) → OnOk r (q ≡ record a.queue { items = a.queue.items ++ k ∷ [] }) → OnOk r (length a.queue.items < a.queue.limit) → OnErr r (q ≡ a.queue) →
     IsConsistent (record a { queue = q })
 queue_is_run a q k (Ok u) i h ok room err = let same = i.queue_limit in rw ok (record {
   number = i.number;
@@ -180,8 +180,8 @@ weight_ended e e' place limits later tasks =
     omega arith
 
 -- a command that queues is one of the engine's script
-pub queues_seen : (a : Inside) (e : RunState) (k : ℕ) → run_of a ≡ e → Queues (slice_get e.script.commands k) → Queues (slice_get a.script.commands k)
-queues_seen a e k seen h = let Q : RunState → Type 0 = λ e. Queues (slice_get e.script.commands k) in subst Q (sym seen) h
+pub queues_seen : (a : Inside) (e : RunState) (k : ℕ) → run_of a ≡ e → CommandQueues (slice_get e.script.commands k) → CommandQueues (slice_get a.script.commands k)
+queues_seen a e k seen h = let Q : RunState → Type 0 = λ e. CommandQueues (slice_get e.script.commands k) in subst Q (sym seen) h
 
 -- what is printed by default, as the engine is seen
 pub printed_by : (a : Inside) (e : RunState) (old new : SinkView) (r : Result Unit Ended) → run_of a ≡ e → Puts old new (cond a.script.quiet [] (line_to 0 a.pattern.bytes)) r →

@@ -3,7 +3,7 @@ use Rattle.std.proofs.Common.{◌≡◌, ℕ, ◌+◌, ◌≤◌, false, List, [
 use Rattle.std.specs.Io.KnownBytes.{Keeps}
 use Rattle.sedengine.specs.Limits.{Limits}
 use Rattle.sedengine.specs.State.{Entry, text, file, Task, flush, copy, State, Setting}
-use Rattle.sedengine.specs.Move.{move, after, written, flushes, line_to}
+use Rattle.sedengine.specs.Move.{next_move, after, written, flushes, line_to}
 use Rattle.sedengine.specs.Meters.{Sent, SinkView}
 use Rattle.sedengine.specs.Calls.{Puts}
 use Rattle.sedengine.specs.Ends.{WithinLimits, Within}
@@ -41,7 +41,7 @@ same_opened s now later k rest h le = record { pattern = h.pattern; hold = h.hol
 
 -- From the state s, which writes a queue with this first entry.
 module _ (l : Limits) (g : Setting) (s : State) (rest : List Task) (entry : Entry) (later : List Entry) (at : s.tasks ≡ flush ∷ rest) (queue : s.queue ≡ entry ∷ later) (f : WithinLimits l s) where
-  next_entry : move g s ≡ flushes s rest (entry ∷ later)
+  next_entry : next_move g s ≡ flushes s rest (entry ∷ later)
   next_entry = move_at g s (flush ∷ rest) at ∙ ap (flushes s rest) queue
 
   shorter : length later ≤ length s.queue

@@ -7,7 +7,7 @@ use Rattle.sedengine.specs.State.{State, Setting}
 use Rattle.sedengine.specs.Devices.{part, FailedSink, FillsSink, GainedWithin, LimitIsSet, SinksAtEnd}
 use Rattle.sedengine.specs.Calls.{Delivers}
 use Rattle.sedengine.specs.Meters.{Frame, FullSink, InLimit, Meter, Sent, SinkView, counted}
-use Rattle.sedengine.specs.Run.{Cycles, Ending, Input, RunState, Sends, at_lines, outcome, setting}
+use Rattle.sedengine.specs.Run.{Cycles, Ending, Input, RunState, Sends, at_lines, outcome, run_setting}
 use Rattle.sedengine.specs.declared.ends.Ended.{Ended}
 use Rattle.sedengine.specs.declared.ends.Ended.TheVariants.{OutputFull}
 use Rattle.sedengine.specs.declared.ends.Progress.{Progress}
@@ -83,23 +83,23 @@ module _ {O : Type 0} (contents : O → ℕ → Option (List ℕ)) (m m' : RunSt
       subst Q (sym is) (sends (record m { sent = meter.sent }) (record m' { sent = meter'.sent }) meter meter' (contents before) (contents after) f f' a a' r out limit same frame refl refl within full h)
 
   pub cycles_metered : (left : Option (List (List ℕ))) (r : Progress) → FullSink (tally_of (contents after) f' meter'.most meter'.sent a') (outcome r) →
-      (out : List (ℕ × ℕ)) × Sent (tally_of (contents before) f meter.most meter.sent a) (tally_of (contents after) f' meter'.most meter'.sent a') out × Cycles m.limits (setting m files) (at_lines m ls) out old new m' left r →
+      (out : List (ℕ × ℕ)) × Sent (tally_of (contents before) f meter.most meter.sent a) (tally_of (contents after) f' meter'.most meter'.sent a') out × Cycles m.limits (run_setting m files) (at_lines m ls) out old new m' left r →
       (out : List (ℕ × ℕ)) × Sends e (record m' { sent = meter'.sent }) (contents before) (contents now) (outcome r) out
-      × Cycles e.limits (setting e files) (at_lines e ls) out old new (record m' { sent = meter'.sent }) left r
+      × Cycles e.limits (run_setting e files) (at_lines e ls) out old new (record m' { sent = meter'.sent }) left r
   cycles_metered left r full (out, sent, h) =
-      let Q : RunState → Type 0 = λ e. Sends e (record m' { sent = meter'.sent }) (contents before) (contents now) (outcome r) out × Cycles e.limits (setting e files) (at_lines e ls) out old new (record m' { sent = meter'.sent }) left r in
+      let Q : RunState → Type 0 = λ e. Sends e (record m' { sent = meter'.sent }) (contents before) (contents now) (outcome r) out × Cycles e.limits (run_setting e files) (at_lines e ls) out old new (record m' { sent = meter'.sent }) left r in
       let both = subst Q seen (sends_all (outcome r) full out sent, cycles_of left r h) in
       (out, both.0, both.1)
     where
-      cycles_of : (left : Option (List (List ℕ))) (r : Progress) → Cycles m.limits (setting m files) (at_lines m ls) out old new m' left r →
-          Cycles m.limits (setting m files) (at_lines m ls) out old new (record m' { sent = meter'.sent }) left r
+      cycles_of : (left : Option (List (List ℕ))) (r : Progress) → Cycles m.limits (run_setting m files) (at_lines m ls) out old new m' left r →
+          Cycles m.limits (run_setting m files) (at_lines m ls) out old new (record m' { sent = meter'.sent }) left r
       cycles_of left progress.More h = h
       cycles_of left (progress.Ended end) h = h
 
   pub ending_metered : (end : Ended) → FullSink (tally_of (contents after) f' meter'.most meter'.sent a') (Err end) →
-      (out : List (ℕ × ℕ)) × Sent (tally_of (contents before) f meter.most meter.sent a) (tally_of (contents after) f' meter'.most meter'.sent a') out × Ending m.limits (setting m files) (at_lines m ls) out old new m'.state end →
-      (out : List (ℕ × ℕ)) × Sends e (record m' { sent = meter'.sent }) (contents before) (contents now) (Err end) out × Ending e.limits (setting e files) (at_lines e ls) out old new m'.state end
+      (out : List (ℕ × ℕ)) × Sent (tally_of (contents before) f meter.most meter.sent a) (tally_of (contents after) f' meter'.most meter'.sent a') out × Ending m.limits (run_setting m files) (at_lines m ls) out old new m'.state end →
+      (out : List (ℕ × ℕ)) × Sends e (record m' { sent = meter'.sent }) (contents before) (contents now) (Err end) out × Ending e.limits (run_setting e files) (at_lines e ls) out old new m'.state end
   ending_metered end full (out, sent, h) =
-      let Q : RunState → Type 0 = λ e. Sends e (record m' { sent = meter'.sent }) (contents before) (contents now) (Err end) out × Ending e.limits (setting e files) (at_lines e ls) out old new m'.state end in
+      let Q : RunState → Type 0 = λ e. Sends e (record m' { sent = meter'.sent }) (contents before) (contents now) (Err end) out × Ending e.limits (run_setting e files) (at_lines e ls) out old new m'.state end in
       let both = subst Q seen (sends_all (Err end) full out sent, h) in
       (out, both.0, both.1)

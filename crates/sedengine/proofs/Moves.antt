@@ -3,7 +3,7 @@ use Rattle.std.proofs.Common.{◌≡◌, ℕ, suc, zero, ◌<◌, ◌+◌, ◌-�
 use Rattle.std.proofs.Math.Seq.{take-append-add}
 use Rattle.sedengine.specs.Limits.{Limits}
 use Rattle.sedengine.specs.State.{Task, State, Move, Setting}
-use Rattle.sedengine.specs.Move.{move, first_task, after, written, next_or_stay, writes_of, writing, quietly}
+use Rattle.sedengine.specs.Move.{next_move, first_task, after, written, next_or_stay, writes_of, writing, quietly}
 use Rattle.sedengine.specs.Meters.{Sent, SinkView}
 use Rattle.sedengine.specs.Calls.{Puts}
 use Rattle.sedengine.specs.Ends.{WithinLimits, Within, WholeOrBrokenOff, Cause, BrokenOff, Whole, IsCause, named_sink}
@@ -15,8 +15,8 @@ use Rattle.sedengine.proofs.Sending.{Sent-append, Sent-none}
 use Rattle.sedengine.proofs.Writing.{slice_get-append_add}
 
 -- the move by the first task
-pub move_at : (g : Setting) (s : State) (ts : List Task) → s.tasks ≡ ts → move g s ≡ first_task g s ts
-unfolding move
+pub move_at : (g : Setting) (s : State) (ts : List Task) → s.tasks ≡ ts → next_move g s ≡ first_task g s ts
+unfolding next_move
 move_at g s ts h = ap (first_task g s) h
 
 -- a state tells its own lengths
@@ -32,11 +32,11 @@ pub written_none : (g : Setting) (s : State) → written g s 0 ≡ []
 unfolding written
 written_none g s = refl
 
-after_one : (g : Setting) (s : State) (m : Move) → move g s ≡ Some m → after g s 1 ≡ m.next
+after_one : (g : Setting) (s : State) (m : Move) → next_move g s ≡ Some m → after g s 1 ≡ m.next
 unfolding after
 after_one g s m h = ap (next_or_stay s) h
 
-written_one : (g : Setting) (s : State) (m : Move) → move g s ≡ Some m → written g s 1 ≡ m.writes
+written_one : (g : Setting) (s : State) (m : Move) → next_move g s ≡ Some m → written g s 1 ≡ m.writes
 unfolding written after
 written_one g s m h = ap writes_of h
 
@@ -60,13 +60,13 @@ one_single g s = λ k some k_lt. absurd (omega arith)
 pub after-add : (g : Setting) (s : State) (t u : ℕ) → after g s (t + u) ≡ after g (after g s t) u
 unfolding after
 after-add g s t zero = rw add-zero refl
-after-add g s t (suc u) = rw add-suc (ap (λ x. next_or_stay x (move g x)) (after-add g s t u))
+after-add g s t (suc u) = rw add-suc (ap (λ x. next_or_stay x (next_move g x)) (after-add g s t u))
 
 pub written-add : (g : Setting) (s : State) (t u : ℕ) → written g s (t + u) ≡ written g s t ++ written g (after g s t) u
 unfolding written
 written-add g s t zero = rw (add-zero, append-nil) refl
 written-add g s t (suc u) =
-    rw (add-suc, after-add) (ap (λ w. w ++ writes_of (move g (after g (after g s t) u))) (written-add g s t u) ∙ append_assoc (written g s t) (written g (after g s t) u) _)
+    rw (add-suc, after-add) (ap (λ w. w ++ writes_of (next_move g (after g (after g s t) u))) (written-add g s t u) ∙ append_assoc (written g s t) (written g (after g s t) u) _)
 
 pub Within-add : (l : Limits) (g : Setting) (s : State) (t u : ℕ) → Within l g s t → Within l g (after g s t) u → Within l g s (t + u)
 unfolding Within
@@ -150,7 +150,7 @@ Moves-then l g s m now old mid new r a goes b =
     chain l g s now old mid new a.t r a.within (InOneCycle-more g s a.t a.one (subst S (sym a.is) goes)) a.sinks (subst Q (sym a.is) b)
 
 -- one move that writes these bytes
-pub ran_once : (l : Limits) (g : Setting) (s now : State) (old new : SinkView) (out : List (ℕ × ℕ)) → WithinLimits l s → move g s ≡ writing out now → WithinLimits l now → Sent old new out → Ran l g s now old new
+pub ran_once : (l : Limits) (g : Setting) (s now : State) (old new : SinkView) (out : List (ℕ × ℕ)) → WithinLimits l s → next_move g s ≡ writing out now → WithinLimits l now → Sent old new out → Ran l g s now old new
 ran_once l g s now old new out f is n gained =
     let m : Move = record { next = now; writes = out } in
     let at : after g s 1 ≡ now = after_one g s m is in
@@ -163,11 +163,11 @@ ran_once l g s now old new out f is n gained =
       sinks = rw (written_one g s m is) gained;
     }
 
-pub ran_quietly : (l : Limits) (g : Setting) (s now : State) (sinks : SinkView) → WithinLimits l s → move g s ≡ quietly now → WithinLimits l now → Ran l g s now sinks sinks
+pub ran_quietly : (l : Limits) (g : Setting) (s now : State) (sinks : SinkView) → WithinLimits l s → next_move g s ≡ quietly now → WithinLimits l now → Ran l g s now sinks sinks
 ran_quietly l g s now sinks f is n = ran_once l g s now sinks sinks [] f is n (Sent-none sinks)
 
 -- a sink took no more in the next move
-pub stopped_writing : (l : Limits) (g : Setting) (s next now : State) (old new : SinkView) (out : List (ℕ × ℕ)) (end : Ended) → WithinLimits l s → move g s ≡ writing out next → WithinLimits l next →
+pub stopped_writing : (l : Limits) (g : Setting) (s next now : State) (old new : SinkView) (out : List (ℕ × ℕ)) (end : Ended) → WithinLimits l s → next_move g s ≡ writing out next → WithinLimits l next →
     SameLengths next now → s.lines ≡ now.lines → Puts old new out (Err end) → Stopped l g s now old new end
 stopped_writing l g s next now old new out end f is n same lines (k, b, byte, end_is, due, sent) =
     let C : Option ℕ → Type 0 = λ o. WholeOrBrokenOff l g s (take b out) end 0 o in
@@ -195,7 +195,7 @@ stopped_writing l g s next now old new out end f is n same lines (k, b, byte, en
     }
 
 -- a move that writes these bytes, as far as the sink takes them
-pub moves_writing : (l : Limits) (g : Setting) (s now : State) (old new : SinkView) (out : List (ℕ × ℕ)) (r : Result Unit Ended) → WithinLimits l s → move g s ≡ writing out now → WithinLimits l now → s.lines ≡ now.lines → Puts old new out r →
+pub moves_writing : (l : Limits) (g : Setting) (s now : State) (old new : SinkView) (out : List (ℕ × ℕ)) (r : Result Unit Ended) → WithinLimits l s → next_move g s ≡ writing out now → WithinLimits l now → s.lines ≡ now.lines → Puts old new out r →
     Moves l g s now old new r
 moves_writing l g s now old new out (Ok u) f is n lines put = ran_once l g s now old new out f is n put
 moves_writing l g s now old new out (Err end) f is n lines put = stopped_writing l g s now now old new out end f is n (same_self now) lines put
@@ -247,11 +247,11 @@ Stopped-as l g s m now sinks sinks' end p h q lines w = record {
 }
 
 -- a move, and what a call does after it
-pub moves_then : (l : Limits) (g : Setting) (s m now : State) (old mid new : SinkView) (out : List (ℕ × ℕ)) (r : Result Unit Ended) → WithinLimits l s → move g s ≡ writing out m → WithinLimits l m → Sent old mid out → starts_cycle m.tasks ≡ false →
+pub moves_then : (l : Limits) (g : Setting) (s m now : State) (old mid new : SinkView) (out : List (ℕ × ℕ)) (r : Result Unit Ended) → WithinLimits l s → next_move g s ≡ writing out m → WithinLimits l m → Sent old mid out → starts_cycle m.tasks ≡ false →
     Moves l g m now mid new r → Moves l g s now old new r
 moves_then l g s m now old mid new out r f is f' gained goes h = Moves-then l g s m now old mid new r (ran_once l g s m old mid out f is f' gained) goes h
 
-pub quietly_then : (l : Limits) (g : Setting) (s m now : State) (old new : SinkView) (r : Result Unit Ended) → WithinLimits l s → move g s ≡ quietly m → WithinLimits l m → starts_cycle m.tasks ≡ false →
+pub quietly_then : (l : Limits) (g : Setting) (s m now : State) (old new : SinkView) (r : Result Unit Ended) → WithinLimits l s → next_move g s ≡ quietly m → WithinLimits l m → starts_cycle m.tasks ≡ false →
     Moves l g m now old new r → Moves l g s now old new r
 quietly_then l g s m now old new r f is f' goes h = moves_then l g s m now old old new [] r f is f' (Sent-none old) goes h
 

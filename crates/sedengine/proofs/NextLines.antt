@@ -2,18 +2,18 @@
 use Rattle.std.proofs.Common.{◌≡◌, ℕ, ◌+◌, ◌<◌, ◌≤◌, Bool, true, false, List, [], ◌∷◌, ◌++◌, length, Option, Some, None, Result, Ok, Err, refl, subst, sym, ap, ◌∙◌, arith, length-append, append_assoc}
 use Rattle.std.proofs.lemmas.Bool.{false≢true}
 use Rattle.sedspace.specs.Spaces.{Contents}
-use Rattle.sedspace.specs.Stream.{Stream, left, lines_left, GivesLine, LosesPart, NoneLeft, TakesLine}
+use Rattle.sedspace.specs.Stream.{Stream, left, lines_left, GivesLine, LosesPart, NoLineLeft, TakesLine}
 use Rattle.sedspace.specs.Lines.{TakesAtMost}
 use Rattle.sedspace.specs.declared.lines.Got.{Got}
 use Rattle.sedspace.specs.declared.lines.Got.TheVariants.{Line, End}
 use Rattle.sedengine.specs.Limits.{Limits}
 use Rattle.sedscript.specs.declared.types.Action.TheVariants.{NextLine}
 use Rattle.sedengine.specs.State.{Task, print_pattern, flush, empty_pattern, fetch, join, State, Move, Setting}
-use Rattle.sedengine.specs.Move.{move, acts, newline, none_left, quietly, then_do, with_line}
+use Rattle.sedengine.specs.Move.{next_move, acts, newline, none_left, quietly, then_do, with_line}
 use Rattle.sedengine.specs.Ends.{WithinLimits, IsCause, named_sink, line_at, reads, takes_turn}
 use Rattle.sedengine.specs.Held.{SameLengths}
 use Rattle.sedengine.specs.Meters.{SinkView}
-use Rattle.sedengine.specs.Run.{RunState, at_lines, setting, starts_cycle, lost}
+use Rattle.sedengine.specs.Run.{RunState, at_lines, run_setting, starts_cycle, lost}
 use Rattle.sedengine.specs.TakenInput.{size_of}
 use Rattle.sedengine.specs.Steps.{Moves, PerformsSteps, Ran, StepsFrom, TakesLines}
 use Rattle.sedengine.specs.Bringing.{Brings, brought}
@@ -88,8 +88,8 @@ module _ {R : Type 0} (remaining : R → Option (List ℕ)) (old new : Stream R)
     (f : WithinLimits e.limits (at_lines e ls)) (limit : c.limit ≡ e.limits.space) (pattern : c.bytes ≡ e.state.pattern) (s : State) (same_lines : s.lines ≡ ls) (fits : WithinLimits e.limits s)
     (hold : s.hold ≡ e.state.hold) (spaces : s.pattern ≡ e.state.pattern) (queue : s.queue ≡ e.state.queue)
     (line_is : line_at s s.tasks ≡ e.state.number + 1) (no_turn : takes_turn g s s.tasks ≡ false) (may_read : reads g s.tasks ≡ true)
-    (one : (line : List ℕ) (rest : List (List ℕ)) → ls ≡ line ∷ rest → move g s ≡ quietly (with_line (before ++ line) rest (at_lines e ls)))
-    (none : ls ≡ [] → move g s ≡ quietly (then_do [] (at_lines e ls))) where
+    (one : (line : List ℕ) (rest : List (List ℕ)) → ls ≡ line ∷ rest → next_move g s ≡ quietly (with_line (before ++ line) rest (at_lines e ls)))
+    (none : ls ≡ [] → next_move g s ≡ quietly (then_do [] (at_lines e ls))) where
   here : SameLengths s e.state
   here = record { pattern = ap length (sym spaces); hold = ap length (sym hold); queue = λ _. ap length (sym queue); entries = let q = ap length queue in omega arith }
 
@@ -128,9 +128,9 @@ module _ {R : Type 0} (remaining : R → Option (List ℕ)) (old new : Stream R)
 -- `n`, `fetch`: the pattern space is emptied, and the next line comes in its place.
 pub fetch_steps : {R : Type 0} (remaining : R → Option (List ℕ)) (old new : Stream R) (ls : List (List ℕ)) (files : ℕ → List ℕ) (e e' : RunState) (sinks : SinkView) (c c' : Contents) (r : Result Got Ended) →
     WithinLimits e.limits (at_lines e ls) → c.limit ≡ e.limits.space → c.bytes ≡ [] → AfterBringing (with_pattern e []) c' e' r → Brings remaining old new ls c.bytes (e.state.number + 1) c c' r →
-    StepsFrom remaining old new ls e.limits (setting e files) (then_do (empty_pattern ∷ fetch ∷ e.state.tasks) (at_lines e ls)) e' sinks sinks (told r)
+    StepsFrom remaining old new ls e.limits (run_setting e files) (then_do (empty_pattern ∷ fetch ∷ e.state.tasks) (at_lines e ls)) e' sinks sinks (told r)
 fetch_steps {R} remaining old new ls files e e' sinks c c' r f limit none after brings =
-    let g : Setting = setting e files in
+    let g : Setting = run_setting e files in
     let e1 : RunState = with_pattern e [] in
     let s : State = then_do (fetch ∷ e.state.tasks) (at_lines e1 ls) in
     let empty : length e1.state.pattern ≤ e.limits.space = omega arith in
@@ -145,9 +145,9 @@ fetch_steps {R} remaining old new ls files e e' sinks c c' r f limit none after 
 -- `N`, `join`: a newline and the next line come after the pattern space.
 pub join_steps : {R : Type 0} (remaining : R → Option (List ℕ)) (old new : Stream R) (ls : List (List ℕ)) (files : ℕ → List ℕ) (e e' : RunState) (sinks : SinkView) (c c' : Contents) (r : Result Got Ended) →
     WithinLimits e.limits (at_lines e ls) → c.limit ≡ e.limits.space → c.bytes ≡ e.state.pattern → AfterBringing e c' e' r → Brings remaining old new ls (c.bytes ++ newline ∷ []) (e.state.number + 1) c c' r →
-    StepsFrom remaining old new ls e.limits (setting e files) (then_do (join ∷ e.state.tasks) (at_lines e ls)) e' sinks sinks (told r)
+    StepsFrom remaining old new ls e.limits (run_setting e files) (then_do (join ∷ e.state.tasks) (at_lines e ls)) e' sinks sinks (told r)
 join_steps {R} remaining old new ls files e e' sinks c c' r f limit same after brings =
-    let g : Setting = setting e files in
+    let g : Setting = run_setting e files in
     let s : State = then_do (join ∷ e.state.tasks) (at_lines e ls) in
     let B : List ℕ → Type 0 = λ bytes. Brings remaining old new ls (bytes ++ newline ∷ []) (e.state.number + 1) c c' r in
     brings_steps remaining old new ls g e e' sinks (e.state.pattern ++ newline ∷ []) c c' f limit same s refl (fits_tasks _ (at_lines e ls) _ f) refl refl refl refl refl refl
@@ -156,21 +156,21 @@ join_steps {R} remaining old new ls files e e' sinks c c' r f limit same after b
 -- The same for an engine with the fields a.
 module _ {R : Type 0} (remaining : R → Option (List ℕ)) (old new : Stream R) (ls : List (List ℕ)) (files : ℕ → List ℕ) (sinks : SinkView) (a : Inside) (e e' : RunState) (seen : run_of a ≡ e) (i : IsConsistent a) (c' : Contents) (r : Result Got Ended) where
   pub fetches_next : (c : Contents) → c ≡ record a.pattern { bytes = [] } → AfterBringing (run_of a) c' e' r → Brings remaining old new ls c.bytes (a.number + 1) c c' r →
-      StepsFrom remaining old new ls e.limits (setting e files) (then_do (empty_pattern ∷ fetch ∷ e.state.tasks) (at_lines e ls)) e' sinks sinks (told r)
+      StepsFrom remaining old new ls e.limits (run_setting e files) (then_do (empty_pattern ∷ fetch ∷ e.state.tasks) (at_lines e ls)) e' sinks sinks (told r)
   fetches_next c is after brings =
-      let Q : RunState → Type 0 = λ e. StepsFrom remaining old new ls e.limits (setting e files) (then_do (empty_pattern ∷ fetch ∷ e.state.tasks) (at_lines e ls)) e' sinks sinks (told r) in
+      let Q : RunState → Type 0 = λ e. StepsFrom remaining old new ls e.limits (run_setting e files) (then_do (empty_pattern ∷ fetch ∷ e.state.tasks) (at_lines e ls)) e' sinks sinks (told r) in
       subst Q seen (fetch_steps remaining old new ls files (run_of a) e' sinks c c' r (fits_of a ls i) (ap (λ (c : Contents). c.limit) is ∙ i.pattern_limit) (ap (λ (c : Contents). c.bytes) is) after brings)
 
   pub joins_next : AfterBringing (run_of a) c' e' r → Brings remaining old new ls (a.pattern.bytes ++ newline ∷ []) (a.number + 1) a.pattern c' r →
-      StepsFrom remaining old new ls e.limits (setting e files) (then_do (join ∷ e.state.tasks) (at_lines e ls)) e' sinks sinks (told r)
+      StepsFrom remaining old new ls e.limits (run_setting e files) (then_do (join ∷ e.state.tasks) (at_lines e ls)) e' sinks sinks (told r)
   joins_next after brings =
-      let Q : RunState → Type 0 = λ e. StepsFrom remaining old new ls e.limits (setting e files) (then_do (join ∷ e.state.tasks) (at_lines e ls)) e' sinks sinks (told r) in
+      let Q : RunState → Type 0 = λ e. StepsFrom remaining old new ls e.limits (run_setting e files) (then_do (join ∷ e.state.tasks) (at_lines e ls)) e' sinks sinks (told r) in
       subst Q seen (join_steps remaining old new ls files (run_of a) e' sinks a.pattern c' r (fits_of a ls i) i.pattern_limit refl after brings)
 
 -- A call for a line has brought it, or there is none.
 pub brings_got : {R : Type 0} (remaining : R → Option (List ℕ)) (old new : Stream R) (ls : List (List ℕ)) (number n : ℕ) (s s' : Contents) (got : Got) → lines_left remaining old ≡ Some ls →
     (got ≡ Line → (line : List ℕ) × (s' ≡ record s { bytes = s.bytes ++ line }) × TakesLine (left remaining old) (left remaining new) line × GivesLine (lines_left remaining old) (lines_left remaining new) line) →
-    length s'.bytes ≤ s'.limit → (got ≡ End → (s' ≡ s) × NoneLeft (lines_left remaining old) × NoneLeft (lines_left remaining new)) → TakesAtMost (remaining old.source) (remaining new.source) n →
+    length s'.bytes ≤ s'.limit → (got ≡ End → (s' ≡ s) × NoLineLeft (lines_left remaining old) × NoLineLeft (lines_left remaining new)) → TakesAtMost (remaining old.source) (remaining new.source) n →
     Brings remaining old new ls s.bytes number s s' (Ok got)
 brings_got {R} remaining old new ls number n s s' Line known line fits end taken =
     let (l, is, bytes, given) = line refl in
@@ -215,21 +215,21 @@ brings_broken {R} remaining old new ls before number s InputBroken taken told = 
 brings_broken {R} remaining old new ls before number s other taken told = absurd told
 
 -- `n`: by whether a line is left
-pub next_quits : (e e' : RunState) (files : ℕ → List ℕ) (ls : List (List ℕ)) (last : Bool) → last ≡ none_left ls → last ≡ true → acts (setting e files) (at_lines e ls) true NextLine ≡ quietly (then_do (print_pattern ∷ flush ∷ []) (at_lines e ls))
+pub next_quits : (e e' : RunState) (files : ℕ → List ℕ) (ls : List (List ℕ)) (last : Bool) → last ≡ none_left ls → last ≡ true → acts (run_setting e files) (at_lines e ls) true NextLine ≡ quietly (then_do (print_pattern ∷ flush ∷ []) (at_lines e ls))
 next_quits e e' files ls last told is = rw (sym told ∙ is) refl
 
 pub next_goes : (e e' : RunState) (files : ℕ → List ℕ) (ls : List (List ℕ)) (last : Bool) → last ≡ none_left ls → last ≡ false →
-    acts (setting e files) (at_lines e ls) true NextLine ≡ quietly (then_do (print_pattern ∷ flush ∷ empty_pattern ∷ fetch ∷ e.state.tasks) (at_lines e ls))
+    acts (run_setting e files) (at_lines e ls) true NextLine ≡ quietly (then_do (print_pattern ∷ flush ∷ empty_pattern ∷ fetch ∷ e.state.tasks) (at_lines e ls))
 next_goes e e' files ls last told is = rw (sym told ∙ is) refl
 
 -- What is left of the tasks after the queue was written: F tells them by those of the engine.
 pub flushed_steps : {R : Type 0} (remaining : R → Option (List ℕ)) (o n : Stream R) (ls : List (List ℕ)) (files : ℕ → List ℕ) (F : List Task → List Task) (s : State) (e e1 e' : RunState) (turns : ℕ) (old mid new : SinkView) (r : Result Unit Ended) →
-    e1 ≡ flushed e turns → starts_cycle (F e.state.tasks) ≡ false → s.lines ≡ ls → Ran e.limits (setting e files) s (then_do (F e.state.tasks) (at_lines e1 ls)) old mid →
-    StepsFrom remaining o n ls e1.limits (setting e1 files) (then_do (F e1.state.tasks) (at_lines e1 ls)) e' mid new r → StepsFrom remaining o n ls e.limits (setting e files) s e' old new r
+    e1 ≡ flushed e turns → starts_cycle (F e.state.tasks) ≡ false → s.lines ≡ ls → Ran e.limits (run_setting e files) s (then_do (F e.state.tasks) (at_lines e1 ls)) old mid →
+    StepsFrom remaining o n ls e1.limits (run_setting e1 files) (then_do (F e1.state.tasks) (at_lines e1 ls)) e' mid new r → StepsFrom remaining o n ls e.limits (run_setting e files) s e' old new r
 flushed_steps {R} remaining o n ls files F s e e1 e' turns old mid new r is goes lines =
-    let Q : RunState → Type 0 = λ e1. Ran e.limits (setting e files) s (then_do (F e.state.tasks) (at_lines e1 ls)) old mid → StepsFrom remaining o n ls e1.limits (setting e1 files) (then_do (F e1.state.tasks) (at_lines e1 ls)) e' mid new r →
-    StepsFrom remaining o n ls e.limits (setting e files) s e' old new r in
-    subst Q (sym is) (λ ran h. steps_then remaining o n ls e.limits (setting e files) s (then_do (F e.state.tasks) (at_lines (flushed e turns) ls)) e' old mid new r ran goes lines h)
+    let Q : RunState → Type 0 = λ e1. Ran e.limits (run_setting e files) s (then_do (F e.state.tasks) (at_lines e1 ls)) old mid → StepsFrom remaining o n ls e1.limits (run_setting e1 files) (then_do (F e1.state.tasks) (at_lines e1 ls)) e' mid new r →
+    StepsFrom remaining o n ls e.limits (run_setting e files) s e' old new r in
+    subst Q (sym is) (λ ran h. steps_then remaining o n ls e.limits (run_setting e files) s (then_do (F e.state.tasks) (at_lines (flushed e turns) ls)) e' old mid new r ran goes lines h)
 
 steps_fits : {R : Type 0} (remaining : R → Option (List ℕ)) (o n : Stream R) (ls : List (List ℕ)) (l : Limits) (g : Setting) (s : State) (e' : RunState) (sinks sinks' : SinkView) (r : Result Unit Ended) → StepsFrom remaining o n ls l g s e' sinks sinks' r → WithinLimits l s
 steps_fits {R} remaining o n ls l g s e' sinks sinks' (Ok u) (rest, taken, h) = ran_fits l g s (at_lines e' rest) sinks sinks' h
@@ -250,10 +250,10 @@ next_broken {R} remaining o n ls g first e sinks other taken told = absurd told
 
 -- `n` where no line is left
 pub next_stops : {R : Type 0} (remaining : R → Option (List ℕ)) (o n : Stream R) (ls : List (List ℕ)) (files : ℕ → List ℕ) (a : Inside) (e : RunState) (sinks : SinkView) (last : Bool) → run_of a ≡ e → IsConsistent a → TakesLines remaining o n ls ls → last ≡ none_left ls → last ≡ true →
-    PerformsSteps remaining o n ls e.limits (setting e files) (acts (setting e files) (at_lines e ls) true NextLine) true (at_lines e ls) (run_of (record a { place = p.Quit })) sinks sinks (Ok tt)
+    PerformsSteps remaining o n ls e.limits (run_setting e files) (acts (run_setting e files) (at_lines e ls) true NextLine) true (at_lines e ls) (run_of (record a { place = p.Quit })) sinks sinks (Ok tt)
 next_stops {R} remaining o n ls files a e sinks last seen i taken told is =
-    let Q : RunState → Type 0 = λ e. PerformsSteps remaining o n ls e.limits (setting e files) (acts (setting e files) (at_lines e ls) true NextLine) true (at_lines e ls) (run_of (record a { place = p.Quit })) sinks sinks (Ok tt) in
+    let Q : RunState → Type 0 = λ e. PerformsSteps remaining o n ls e.limits (run_setting e files) (acts (run_setting e files) (at_lines e ls) true NextLine) true (at_lines e ls) (run_of (record a { place = p.Quit })) sinks sinks (Ok tt) in
     let e0 : RunState = run_of a in
     let now : State = then_do (print_pattern ∷ flush ∷ []) (at_lines e0 ls) in
-    subst Q seen (λ s c asked first. looked_moves remaining o n ls a.limits (setting e0 files) s (run_of (record a { place = p.Quit })) sinks sinks (Ok tt) taken c.lines
-    (ran_quietly a.limits (setting e0 files) s now sinks c.fits (first ∙ next_quits e0 e0 files ls last told is) (fits_tasks a.limits (at_lines e0 ls) (print_pattern ∷ flush ∷ []) (fits_of a ls i))))
+    subst Q seen (λ s c asked first. looked_moves remaining o n ls a.limits (run_setting e0 files) s (run_of (record a { place = p.Quit })) sinks sinks (Ok tt) taken c.lines
+    (ran_quietly a.limits (run_setting e0 files) s now sinks c.fits (first ∙ next_quits e0 e0 files ls last told is) (fits_tasks a.limits (at_lines e0 ls) (print_pattern ∷ flush ∷ []) (fits_of a ls i))))

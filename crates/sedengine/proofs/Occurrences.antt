@@ -5,23 +5,23 @@ use Rattle.std.specs.Prelude.{◌&&◌, nat_eq, nat_lt, if◌then◌else◌}
 use Rattle.std.proofs.lemmas.List.{drop-drop}
 use Rattle.std.proofs.Math.Seq.{drop-nil}
 use Rattle.std.proofs.lemmas.Bool.Decides.{nat_tests}
-use Rattle.sedre.specs.Written.{Written, tree}
+use Rattle.sedre.specs.Written.{WrittenExpression, expression_tree}
 use Rattle.sedmatch.specs.Matching.{found}
 use Rattle.sedmatch.specs.NextMatch.{unless_null_at}
 use Rattle.sedmatch.specs.Following.{EndsWithin, LiesOn}
-use Rattle.sedmatch.proofs.MatchingLemmas.{found-iff, Found-within}
-use Rattle.sedmatch.proofs.SpanLemmas.{Spans-forward, Spans-within}
+use Rattle.sedmatch.proofs.MatchingLemmas.{found-iff, IsLeftmostLongest-within}
+use Rattle.sedmatch.proofs.SpanLemmas.{Matches-forward, Matches-within}
 use Rattle.sedengine.specs.Substitute.{Occurrence, whole_span, next_occurrence, with_rest, occurrences_from}
 use Rattle.sedengine.specs.ScriptSetting.{match_with_span, search_for}
-use Rattle.sedengine.specs.SubstituteParts.{Skips, occurrence, occurrences_after, pending}
+use Rattle.sedengine.specs.SubstituteParts.{Skips, occurrence_at_span, occurrences_after, pending}
 
 -- a match lies in the text, after the place from which it is sought
-pub found_lies : (e : Written) (w : List ℕ) (p i j : ℕ) → p ≤ length w → found (tree e) w p ≡ Some (i, j) →
+pub found_lies : (e : WrittenExpression) (w : List ℕ) (p i j : ℕ) → p ≤ length w → found (expression_tree e) w p ≡ Some (i, j) →
     (p ≤ i) × (i ≤ j) × (j ≤ length w)
 found_lies e w p i j fits is =
-    let f = (found-iff (tree e) w p i j fits).0 is in
-    let within : i ≤ length w = Found-within (tree e) w p i j fits f in
-    (f.after, Spans-forward (tree e) w i j f.spans, Spans-within (tree e) w i j within f.spans)
+    let f = (found-iff (expression_tree e) w p i j fits).0 is in
+    let within : i ≤ length w = IsLeftmostLongest-within (expression_tree e) w p i j fits f in
+    (f.after, Matches-forward (expression_tree e) w i j f.spans, Matches-within (expression_tree e) w i j within f.spans)
 
 -- a match from a place on, in a text of n bytes
 abbrev LiesFrom : ℕ → ℕ → Occurrence → Type 0
@@ -31,15 +31,15 @@ LiesFrom n p m = (p ≤ m.start) × (m.start ≤ m.end) × (m.end ≤ n)
 pub record Ordered (sought : ℕ → Option Occurrence) (n : ℕ) : Type 0 where
   pub lies : (p : ℕ) (m : Occurrence) → p ≤ n → sought p ≡ Some m → LiesFrom n p m
 
-match_lies : (e : Written) (w : List ℕ) (p : ℕ) (r : Option (ℕ × ℕ)) (m : Occurrence) → p ≤ length w →
-    found (tree e) w p ≡ r → match_with_span e w r ≡ Some m → LiesFrom (length w) p m
+match_lies : (e : WrittenExpression) (w : List ℕ) (p : ℕ) (r : Option (ℕ × ℕ)) (m : Occurrence) → p ≤ length w →
+    found (expression_tree e) w p ≡ r → match_with_span e w r ≡ Some m → LiesFrom (length w) p m
 match_lies e w p None m fits is at = let none : None ≡ Some m = at in cc
 match_lies e w p (Some span) m fits is at =
-    let same : occurrence e w span ≡ m = cc in
+    let same : occurrence_at_span e w span ≡ m = cc in
     subst (LiesFrom (length w) p) same (found_lies e w p span.0 span.1 fits is)
 
-ordered : (e : Written) (w : List ℕ) → Ordered (search_for (Some e) w) (length w)
-ordered e w = record { lies = λ p m fits is. match_lies e w p (found (tree e) w p) m fits refl is }
+ordered : (e : WrittenExpression) (w : List ℕ) → Ordered (search_for (Some e) w) (length w)
+ordered e w = record { lies = λ p m fits is. match_lies e w p (found (expression_tree e) w p) m fits refl is }
 
 not_empty : (s e q : ℕ) → q ≤ s → s ≤ e → (nat_eq s q && nat_eq e q) ≡ false → q < e
 not_empty s e q from to test = grind (arith, nat_tests)
@@ -124,19 +124,19 @@ from_some sought n most last m o fits some is =
     ∙ ap (λ (ms : List Occurrence). m ∷ ms) (enough sought n o most (n - m.end) m.end fits some (omega arith))
 
 -- the occurrences after a place are the one that comes next and those after it
-pub after_is : (e : Written) (w : List ℕ) (last : Option ℕ) (r : Option (ℕ × ℕ)) → EndsWithin (length w) last →
+pub after_is : (e : WrittenExpression) (w : List ℕ) (last : Option ℕ) (r : Option (ℕ × ℕ)) → EndsWithin (length w) last →
     match_with_span e w r ≡ next_occurrence (search_for (Some e) w) (length w) last →
     occurrences_after e w last ≡ pending e w true r
 after_is e w None None fits is = from_none (search_for (Some e) w) (length w) (length w + 1) None (sym is)
 after_is e w (Some q) None fits is = from_none (search_for (Some e) w) (length w) (length w - q) (Some q) (sym is)
 after_is e w None (Some span) fits is =
-    let at = (ordered e w).lies 0 (occurrence e w span) (omega arith) (sym is) in
-    rw add-one (from_some (search_for (Some e) w) (length w) (length w) None (occurrence e w span) (ordered e w) at.2
+    let at = (ordered e w).lies 0 (occurrence_at_span e w span) (omega arith) (sym is) in
+    rw add-one (from_some (search_for (Some e) w) (length w) (length w) None (occurrence_at_span e w span) (ordered e w) at.2
     (omega arith) (sym is))
 after_is e w (Some q) (Some span) fits is =
-    let at = later (search_for (Some e) w) (length w) q (occurrence e w span) (ordered e w) fits (sym is) in
+    let at = later (search_for (Some e) w) (length w) q (occurrence_at_span e w span) (ordered e w) fits (sym is) in
     let most : length w - q ≡ suc (length w - q - 1) = omega arith in
-    rw most (from_some (search_for (Some e) w) (length w) (length w - q - 1) (Some q) (occurrence e w span)
+    rw most (from_some (search_for (Some e) w) (length w) (length w - q - 1) (Some q) (occurrence_at_span e w span)
     (ordered e w) at.1 (omega arith) (sym is))
 
 drop_more : (ms : List Occurrence) (k count : ℕ) → k ≤ count → drop k ms ≡ [] → drop count ms ≡ []
@@ -146,7 +146,7 @@ drop_more ms k count more none =
     ∙ ap (drop (count - k)) none ∙ drop-nil (count - k)
 
 -- fewer occurrences are there than are to be skipped
-pub skips_none : (e : Written) (w : List ℕ) (last : Option ℕ) (k count : ℕ) (skipped : Option (Option ℕ)) →
+pub skips_none : (e : WrittenExpression) (w : List ℕ) (last : Option ℕ) (k count : ℕ) (skipped : Option (Option ℕ)) →
     skipped ≡ None → k ≤ count → EndsWithin (length w) last →
     drop k (occurrences_after e w None) ≡ occurrences_after e w last →
     match_with_span e w None ≡ next_occurrence (search_for (Some e) w) (length w) last → Skips e w count skipped
@@ -155,7 +155,7 @@ skips_none e w last k count None none more fits skipped is =
 skips_none e w last k count (Some place) none more fits skipped is = let never : Some place ≡ None = none in cc
 
 -- one more is skipped
-pub skips_one : (e : Written) (w : List ℕ) (last : Option ℕ) (k : ℕ) (span : ℕ × ℕ) → EndsWithin (length w) last →
+pub skips_one : (e : WrittenExpression) (w : List ℕ) (last : Option ℕ) (k : ℕ) (span : ℕ × ℕ) → EndsWithin (length w) last →
     drop k (occurrences_after e w None) ≡ occurrences_after e w last →
     match_with_span e w (Some span) ≡ next_occurrence (search_for (Some e) w) (length w) last →
     drop (k + 1) (occurrences_after e w None) ≡ occurrences_after e w (Some span.1)

@@ -12,7 +12,7 @@ use Rattle.std.specs.Borrow.{GName}
 use Rattle.std.specs.List.{All}
 use Rattle.std.specs.Option.{option_map}
 use Rattle.std.specs.Io.KnownBytes.{prepend_known}
-use Rattle.sedre.specs.Written.{Written}
+use Rattle.sedre.specs.Written.{WrittenExpression}
 use Rattle.sedspace.specs.Lines.{is_newline, lines, AreWholeLines, HasNoNewline}
 use Rattle.sedspace.specs.Stream.{Stream, left, lines_left}
 use Rattle.sedspace.proofs.LineLemmas.{lines_at, lines_nil, lines_none}
@@ -21,8 +21,8 @@ use Rattle.sedengine.specs.State.{begin, do_at, Setting}
 use Rattle.sedengine.specs.Move.{newline, none_left, to_sink}
 use Rattle.sedengine.specs.Meters.{Sent, SinkView}
 use Rattle.sedengine.specs.Ends.{WithinLimits, named_sink}
-use Rattle.sedengine.specs.Calls.{Reads}
-use Rattle.sedengine.specs.Run.{RunState, at_lines, setting, FailedSource}
+use Rattle.sedengine.specs.Calls.{ReadsLines}
+use Rattle.sedengine.specs.Run.{RunState, at_lines, run_setting, FailedSource}
 use Rattle.sedengine.specs.ScriptSetting.{finds_in}
 use Rattle.sedengine.specs.Passing.{AllowsLines, BlockLeftAlone, BreaksOff, BreaksOffBy, ClearTo, HaltedPassing, IsClear, IsExtent, IsIdleOf, IsLineOf, PassesOver, RangesIdle, StepsPassing, WritesLines, bytes_of, counted_block, engine_after, judged, line_brought}
 use Rattle.sedengine.specs.Inside.{IsConsistent, entries_of, run_of}
@@ -59,14 +59,14 @@ whole_bytes w (inl none) = ap (λ w. bytes_of (lines w)) none ∙ ap bytes_of li
 whole_bytes w (inr (p, is)) = ap (λ w. bytes_of (lines w)) is ∙ block_bytes p ∙ sym is
 
 -- no line of those that end by a place has a match, where no line that ends before it has one
-line_clear : (ms : List Written) (e : ℕ) (text w more line : List ℕ) (end : ℕ) → ClearTo ms e text end → text ≡ w ++ more → length w ≤ end → IsLineOf line w → finds_in ms e line ≡ false
+line_clear : (ms : List WrittenExpression) (e : ℕ) (text w more line : List ℕ) (end : ℕ) → ClearTo ms e text end → text ≡ w ++ more → length w ≤ end → IsLineOf line w → finds_in ms e line ≡ false
 line_clear ms e text w more line end clear is short part =
     let all : text ≡ part.before ++ (line ++ newline ∷ (part.behind ++ more)) =
     is ∙ ap (λ w. w ++ more) part.is ∙ append_assoc part.before (line ++ newline ∷ part.behind) more ∙ ap (λ w. part.before ++ w) (append_assoc line (newline ∷ part.behind) more) in
     let size = ap length part.is in
     clear part.before line (part.behind ++ more) all (omega (arith, size, short, length-append part.before (line ++ newline ∷ part.behind), length-append line (newline ∷ part.behind)))
 
-pub lines_clear : (ms : List Written) (e : ℕ) (text w more : List ℕ) (end : ℕ) → ClearTo ms e text end → text ≡ w ++ more → length w ≤ end → AreWholeLines w → All (λ line. finds_in ms e line ≡ false) (lines w)
+pub lines_clear : (ms : List WrittenExpression) (e : ℕ) (text w more : List ℕ) (end : ℕ) → ClearTo ms e text end → text ≡ w ++ more → length w ≤ end → AreWholeLines w → All (λ line. finds_in ms e line ≡ false) (lines w)
 lines_clear ms e text w more end clear is short (inl none) = subst (λ (ls : List (List ℕ)). All (λ line. finds_in ms e line ≡ false) ls) (sym (ap lines none ∙ lines_nil)) (All-nil (λ line. finds_in ms e line ≡ false))
 lines_clear ms e text w more end clear is short (inr (p, ends)) = λ k d less.
     let part : IsLineOf (get_or (lines w) k d) w = subst (λ (w : List ℕ). IsLineOf (get_or (lines w) k d) w) (sym ends) (block_parts p k d (subst (λ (w : List ℕ). k < length (lines w)) ends less)) in
@@ -85,7 +85,7 @@ some_left bytes some = some_of (lines bytes) (λ none. let no = ap length (lines
     some_of (l ∷ ls) h = refl
 
 -- a block that is passed over is left alone, whatever comes after what is ahead
-alone_of : (e : RunState) (files : ℕ → List ℕ) (ahead xs : List ℕ) (b : IdleLines) → PassesOver e ahead b → BlockLeftAlone (setting e files) b.reached e.state.number (lines (take b.bytes ahead)) (lines (drop b.bytes ahead ++ xs))
+alone_of : (e : RunState) (files : ℕ → List ℕ) (ahead xs : List ℕ) (b : IdleLines) → PassesOver e ahead b → BlockLeftAlone (run_setting e files) b.reached e.state.number (lines (take b.bytes ahead)) (lines (drop b.bytes ahead ++ xs))
 alone_of e files ahead xs b h = record {
   matches = h.matches;
   numbers = λ n asked. subst (λ (k : ℕ). (n ≤ e.state.number) ⊎ (e.state.number + k < n)) h.count (h.clear n asked);
@@ -133,13 +133,13 @@ nothing_passed {R} remaining from ls e e' g sinks known fits same =
     let Q : RunState → Type 0 = λ e'. StepsPassing remaining from from ls e.limits g (at_lines e ls) e' sinks sinks (Ok tt) in
     subst Q (sym same) (ls, lines_same remaining from ls known, record { t = 0; is = after_none g (at_lines e ls); within = within_none e.limits g (at_lines e ls) fits; sinks = rw written_none (Sent-none sinks) })
 
-same_engine : (e : RunState) (files : ℕ → List ℕ) (b : IdleLines) (k : ℕ) → b.judged ≡ judged e.script.commands e.script.substitutions b.reached → b.lines ≡ k → engine_after e (setting e files) b.reached k ≡ counted_block e b
+same_engine : (e : RunState) (files : ℕ → List ℕ) (b : IdleLines) (k : ℕ) → b.judged ≡ judged e.script.commands e.script.substitutions b.reached → b.lines ≡ k → engine_after e (run_setting e files) b.reached k ≡ counted_block e b
 same_engine e files b k used count = cc
 
 -- A block of the lines ahead was passed over.
 pub passes : {R : Type 0} (remaining : R → Option (List ℕ)) (from to : Stream R) (ls : List (List ℕ)) (e e' : RunState) (files : ℕ → List ℕ) (b : IdleLines) (old new : SinkView) →
     lines_left remaining from ≡ Some ls → PassesOver e from.ahead b → WithinLimits e.limits (at_lines e ls) → e.state.tasks ≡ begin ∷ [] → e.state.pattern ≡ [] → to ≡ record from { ahead = drop b.bytes from.ahead } → e' ≡ counted_block e b →
-    Sent old new (cond e.script.quiet [] (to_sink 0 (take b.bytes from.ahead))) → StepsPassing remaining from to ls e.limits (setting e files) (at_lines e ls) e' old new (Ok tt)
+    Sent old new (cond e.script.quiet [] (to_sink 0 (take b.bytes from.ahead))) → StepsPassing remaining from to ls e.limits (run_setting e files) (at_lines e ls) e' old new (Ok tt)
 passes {R} remaining from to ls e e' files b old new known h fits begins empty taken counted sent =
     let n : ℕ = b.bytes in
     let w : List ℕ = take n from.ahead in
@@ -153,19 +153,19 @@ passes {R} remaining from to ls e e' files b old new known h fits begins empty t
     k.2 ∙ ap (λ a. lines (a ++ k.0)) (sym (take-append-drop n from.ahead)) ∙ ap lines (append_assoc w (drop n from.ahead) k.0) ∙ whole_then w bytes h.whole ∙ ap (λ w. lines w ++ lines bytes) p.1 in
     let count : b.lines ≡ length (lines (p.0 ++ 10 ∷ [])) = h.count ∙ ap (λ w. length (lines w)) p.1 in
     let size : length (p.0 ++ 10 ∷ []) ≤ e.limits.space = let n = ap length p.1 in omega (arith, n, length-take-le b.bytes from.ahead h.within, h.short) in
-    let S : List (List ℕ) → Type 0 = λ ls. StepsPassing remaining from to ls e.limits (setting e files) (at_lines e ls) e' old new (Ok tt) in
-    let E : RunState → Type 0 = λ e'. StepsPassing remaining from to (lines (p.0 ++ 10 ∷ []) ++ lines bytes) e.limits (setting e files) (at_lines e (lines (p.0 ++ 10 ∷ []) ++ lines bytes)) e' old new (Ok tt) in
+    let S : List (List ℕ) → Type 0 = λ ls. StepsPassing remaining from to ls e.limits (run_setting e files) (at_lines e ls) e' old new (Ok tt) in
+    let E : RunState → Type 0 = λ e'. StepsPassing remaining from to (lines (p.0 ++ 10 ∷ []) ++ lines bytes) e.limits (run_setting e files) (at_lines e (lines (p.0 ++ 10 ∷ []) ++ lines bytes)) e' old new (Ok tt) in
     subst S (sym all) (subst E (same_engine e files b (length (lines (p.0 ++ 10 ∷ []))) h.judged count ∙ sym counted)
-    (block_passed remaining from to p.0 bytes e (setting e files) b.reached old new was is (program_finds e.script files) h.idle
+    (block_passed remaining from to p.0 bytes e (run_setting e files) b.reached old new was is (program_finds e.script files) h.idle
     (record { fits = record { pattern = fits.pattern; hold = fits.hold; queue = fits.queue; turns = fits.turns }; begins = begins; empty = empty; none = h.none; ranges = h.ranges })
-    (subst (λ (w : List ℕ). BlockLeftAlone (setting e files) b.reached e.state.number (lines w) (lines bytes)) p.1 (alone_of e files from.ahead k.0 b h))
+    (subst (λ (w : List ℕ). BlockLeftAlone (run_setting e files) b.reached e.state.number (lines w) (lines bytes)) p.1 (alone_of e files from.ahead k.0 b h))
     (block_short p.0 e.limits.space size) (subst (λ (k : ℕ). e.state.turns + k * (b.reached + 1) ≤ e.limits.turns) count h.turns)
     (subst (λ (w : List ℕ). Sent old new (cond e.script.quiet [] (to_sink 0 w))) p.1 sent)))
 
 -- A sink took no more within a block.
 pub breaks : {R : Type 0} (remaining : R → Option (List ℕ)) (from to : Stream R) (ls : List (List ℕ)) (e e' : RunState) (files : ℕ → List ℕ) (b : IdleLines) (done : ℕ) (old new : SinkView) (end : Ended) →
     lines_left remaining from ≡ Some ls → PassesOver e from.ahead b → WithinLimits e.limits (at_lines e ls) → e.state.tasks ≡ begin ∷ [] → e.state.pattern ≡ [] → (x : BreaksOff from to e e' done) → x.start + length x.line < b.bytes → done < b.bytes →
-    e.script.quiet ≡ false → Sent old new (to_sink 0 (take done (take b.bytes from.ahead))) → named_sink end ≡ Some 0 → StepsPassing remaining from to ls e.limits (setting e files) (at_lines e ls) e' old new (Err end)
+    e.script.quiet ≡ false → Sent old new (to_sink 0 (take done (take b.bytes from.ahead))) → named_sink end ≡ Some 0 → StepsPassing remaining from to ls e.limits (run_setting e files) (at_lines e ls) e' old new (Err end)
 breaks {R} remaining from to ls e e' files b done old new end known h fits begins empty x ends less loud sent names =
     let n : ℕ = x.start + length x.line + 1 in
     let first : List ℕ = take x.start from.ahead in
@@ -196,12 +196,12 @@ breaks {R} remaining from to ls e e' files b done old new end known h fits begin
     subst (λ (k : ℕ). Sent old new (take k (to_sink 0 ((p ++ 10 ∷ []) ++ x.rest)))) at (subst (λ (a : List ℕ). Sent old new (take done (to_sink 0 a))) are
     (subst (λ (o : List (ℕ × ℕ)). Sent old new o) (ap (to_sink 0) piece ∙ sym (take-to_sink 0 done from.ahead)) sent)) in
     let short : length (p ++ 10 ∷ []) ≤ e.limits.space = omega (arith, long, ends, h.short) in
-    let alone : BlockLeftAlone (setting e files) b.reached e.state.number (lines (p ++ 10 ∷ [])) (lines (x.rest ++ k.0)) =
-    subst (λ (r : List ℕ). BlockLeftAlone (setting e files) b.reached e.state.number (lines (p ++ 10 ∷ [])) (lines (r ++ k.0))) rest_left
-    (subst (λ (w : List ℕ). BlockLeftAlone (setting e files) b.reached e.state.number (lines w) (lines (drop n from.ahead ++ k.0))) (sym taken_is) (alone_of e files from.ahead k.0 b' h')) in
-    let S : List (List ℕ) → Type 0 = λ ls. HaltedPassing remaining from to e.limits (setting e files) (at_lines e ls) e' old new end in
+    let alone : BlockLeftAlone (run_setting e files) b.reached e.state.number (lines (p ++ 10 ∷ [])) (lines (x.rest ++ k.0)) =
+    subst (λ (r : List ℕ). BlockLeftAlone (run_setting e files) b.reached e.state.number (lines (p ++ 10 ∷ [])) (lines (r ++ k.0))) rest_left
+    (subst (λ (w : List ℕ). BlockLeftAlone (run_setting e files) b.reached e.state.number (lines w) (lines (drop n from.ahead ++ k.0))) (sym taken_is) (alone_of e files from.ahead k.0 b' h')) in
+    let S : List (List ℕ) → Type 0 = λ ls. HaltedPassing remaining from to e.limits (run_setting e files) (at_lines e ls) e' old new end in
     subst S (sym all)
-    (block_broken remaining from to p x.rest k.0 e e' (setting e files) b.reached (lines first) x.line d old new end was is line_is (program_finds e.script files) h.idle
+    (block_broken remaining from to p x.rest k.0 e e' (run_setting e files) b.reached (lines first) x.line d old new end was is line_is (program_finds e.script files) h.idle
     (record { fits = record { pattern = fits.pattern; hold = fits.hold; queue = fits.queue; turns = fits.turns }; begins = begins; empty = empty; none = h.none; ranges = h.ranges })
     alone (block_short p e.limits.space short) h'.turns loud (omega (arith, at, before_size, x.inside)) took names
     (ap (λ (e : RunState). e.state.pattern) x.brought) (ap (λ (e : RunState). e.state.hold) x.brought) (ap (λ (e : RunState). e.state.queue) x.brought))
@@ -212,9 +212,9 @@ breaks {R} remaining from to ls e e' files b done old new end known h fits begin
 
 -- What was ahead is shorter, and nothing was read.
 pub reads_ahead : {R : Type 0} (remaining : R → Option (List ℕ)) (failures : R → ℕ) (reference : R → List GName) (from to : Stream R) (rest : List ℕ) (r : Result Unit Ended) → to ≡ record from { ahead = rest } → length rest ≤ length from.ahead →
-    (r ≡ Err InputBroken → ⊥) → Reads remaining failures reference from to r
+    (r ≡ Err InputBroken → ⊥) → ReadsLines remaining failures reference from to r
 reads_ahead {R} remaining failures reference from to rest r is fewer sound =
-    let T : Stream R → Type 0 = λ to. Reads remaining failures reference from to r in
+    let T : Stream R → Type 0 = λ to. ReadsLines remaining failures reference from to r in
     subst T (sym is) (record {
       same_look = refl;
       same_reference = refl;
@@ -301,7 +301,7 @@ found_lines a e ahead i most seen end whole x was known is allowed inside space 
       short = omega (arith, bytes_low, whole_low, low, space);
       turns = omega (arith, few, allowed.turns);
       clear = λ n asked. fewer_clear n a.number most x.lines extent.few (allowed.clear n asked);
-      matches = λ k asked. subst (λ (ms : List Written). All (λ line. finds_in ms k line ≡ false) (lines (take x.bytes ahead))) sought_is
+      matches = λ k asked. subst (λ (ms : List WrittenExpression). All (λ line. finds_in ms k line ≡ false) (lines (take x.bytes ahead))) sought_is
           (lines_clear a.matchers.items k (take seen ahead) (take x.bytes ahead) (take (seen - x.bytes) (drop x.bytes ahead)) end (clear k (d.expressions k asked)) parts (omega (arith, long, bytes_low, whole_low)) ends);
       last = λ asked. some_behind (last (d.last asked)) (positive x.lines some) count bytes_low;
     }) allowed
@@ -421,13 +421,13 @@ brought_is a e pattern k line seen bytes all =
 -- the same where the block was found under other names
 module _ {R : Type 0} (remaining : R → Option (List ℕ)) (from to : Stream R) (ls : List (List ℕ)) (e e₁ e' : RunState) (files : ℕ → List ℕ) (b : IdleLines) (ahead : List ℕ) where
   pub passes_seen : (old new : SinkView) → lines_left remaining from ≡ Some ls → e₁ ≡ e → ahead ≡ from.ahead → PassesOver e ahead b → WithinLimits e.limits (at_lines e ls) → e.state.tasks ≡ begin ∷ [] → e.state.pattern ≡ [] →
-      to ≡ record from { ahead = drop b.bytes from.ahead } → e' ≡ counted_block e₁ b → Sent old new (cond e₁.script.quiet [] (to_sink 0 (take b.bytes ahead))) → StepsPassing remaining from to ls e.limits (setting e files) (at_lines e ls) e' old new (Ok tt)
+      to ≡ record from { ahead = drop b.bytes from.ahead } → e' ≡ counted_block e₁ b → Sent old new (cond e₁.script.quiet [] (to_sink 0 (take b.bytes ahead))) → StepsPassing remaining from to ls e.limits (run_setting e files) (at_lines e ls) e' old new (Ok tt)
   passes_seen old new known same is h fits begins empty taken counted sent =
       passes remaining from to ls e e' files b old new known (subst (λ (w : List ℕ). PassesOver e w b) is h) fits begins empty taken (counted ∙ ap (λ (e : RunState). counted_block e b) same)
       (subst (λ (e : RunState). Sent old new (cond e.script.quiet [] (to_sink 0 (take b.bytes from.ahead)))) same (subst (λ (w : List ℕ). Sent old new (cond e₁.script.quiet [] (to_sink 0 (take b.bytes w)))) is sent))
 
   pub breaks_seen : (cut : Cut) (old new : SinkView) → lines_left remaining from ≡ Some ls → e₁ ≡ e → ahead ≡ from.ahead → PassesOver e ahead b → WithinLimits e.limits (at_lines e ls) → e.state.tasks ≡ begin ∷ [] → e.state.pattern ≡ [] →
-      BreaksOffBy from to e₁ e' cut.done b.bytes → WritesLines old new e₁.script.quiet (take b.bytes ahead) (Err cut) → StepsPassing remaining from to ls e.limits (setting e files) (at_lines e ls) e' old new (Err cut.end)
+      BreaksOffBy from to e₁ e' cut.done b.bytes → WritesLines old new e₁.script.quiet (take b.bytes ahead) (Err cut) → StepsPassing remaining from to ls e.limits (run_setting e files) (at_lines e ls) e' old new (Err cut.end)
   breaks_seen cut old new known same is h fits begins empty off wrote =
       let x : BreaksOffBy from to e e' cut.done b.bytes = subst (λ (e : RunState). BreaksOffBy from to e e' cut.done b.bytes) same off in
       let loud : e.script.quiet ≡ false = subst (λ (e : RunState). e.script.quiet ≡ false) same wrote.0 in
@@ -439,7 +439,7 @@ module _ {R : Type 0} (remaining : R → Option (List ℕ)) (from to : Stream R)
 no_input : (end : Ended) → named_sink end ≡ Some 0 → (r : Result Unit Ended) → r ≡ Err end → r ≡ Err InputBroken → ⊥
 no_input end names r at is = let same : end ≡ InputBroken = cc in let wrong : None ≡ Some 0 = sym (ap named_sink same) ∙ names in cc
 
-pub reads_broken : {R : Type 0} (remaining : R → Option (List ℕ)) (failures : R → ℕ) (reference : R → List GName) (from to : Stream R) (e e' : RunState) (done bytes : ℕ) (end : Ended) → BreaksOffBy from to e e' done bytes → named_sink end ≡ Some 0 → Reads {T = Unit {0}} remaining failures reference from to (Err end)
+pub reads_broken : {R : Type 0} (remaining : R → Option (List ℕ)) (failures : R → ℕ) (reference : R → List GName) (from to : Stream R) (e e' : RunState) (done bytes : ℕ) (end : Ended) → BreaksOffBy from to e e' done bytes → named_sink end ≡ Some 0 → ReadsLines {T = Unit {0}} remaining failures reference from to (Err end)
 reads_broken {R} remaining failures reference from to e e' done bytes end off names =
     let x = off.0 in
     let size = ap length x.are in

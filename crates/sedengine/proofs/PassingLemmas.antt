@@ -8,7 +8,7 @@ use Rattle.std.specs.List.{All}
 use Rattle.std.proofs.lemmas.List.{set-get_or, take-append-le}
 use Rattle.std.proofs.lemmas.List.Elements.{All-cons, All-head, All-nil, All-tail}
 use Rattle.std.proofs.lemmas.Bool.Decides.{nat_tests}
-use Rattle.sedre.specs.Written.{Written, tree}
+use Rattle.sedre.specs.Written.{WrittenExpression, expression_tree}
 use Rattle.sedmatch.specs.Matching.{found}
 use Rattle.sedscript.specs.Program.{Program}
 use Rattle.sedscript.specs.declared.types.Address.{Address}
@@ -21,7 +21,7 @@ use Rattle.sedengine.specs.Limits.{Limits}
 use Rattle.sedengine.specs.State.{Task, begin, do_at, flush, empty_pattern, State, Move, Setting}
 use Rattle.sedengine.specs.Select.{Current, Selection, answer, selects, stands_for}
 use Rattle.sedengine.specs.Substitute.{Occurrence, occurrences, occurrences_from, to_replace, with_rest}
-use Rattle.sedengine.specs.Move.{acts, after, at_end, begins, current_of, flushes, is_active, line_to, move, newline, next_or_stay, none_left, passes, performs, quietly, reach, reached, replaces, substitutes, tells_at, then_do, to_replace_in, to_sink, writes_of, writing, written}
+use Rattle.sedengine.specs.Move.{acts, after, at_end, begins, current_of, flushes, is_active, line_to, next_move, newline, next_or_stay, none_left, passes, performs, quietly, reach, reached, replaces, substitutes, tells_at, then_do, to_replace_in, to_sink, writes_of, writing, written}
 use Rattle.sedengine.specs.Meters.{Sent, SinkView}
 use Rattle.sedengine.specs.Ends.{BrokenOff, WholeOrBrokenOff, WithinLimits, Within, named_sink}
 use Rattle.sedengine.specs.Held.{HoldsAt, SameLengths}
@@ -30,7 +30,7 @@ use Rattle.sedengine.specs.declared.idle.Need.{Need}
 use Rattle.sedengine.specs.declared.idle.Need.TheVariants.{NoMatch, OtherNumber, NotLast, Nothing}
 use Rattle.sedengine.proofs.Writing.{slice_get-append_add}
 use Rattle.sedengine.specs.ScriptSetting.{has_match, match_with_span, search_for, setting_of}
-use Rattle.sedengine.specs.Passing.{need_of_address, need_of_substitution, need_of_action, need_of, behind_by, behind, place_at, need_at, judged_by, judged, IsIdleIn, judged_in, Meets, LeftAlone, AllLeftAlone, BlockLeftAlone, FindsAsItSearches, bytes_of, passed_out, passed, moves_of, line_due, Went, CanPass, Passed, StoppedPassing}
+use Rattle.sedengine.specs.Passing.{need_of_address, need_of_substitution, need_of_action, need_of, behind_by, behind, place_at, need_at, judged_by, judged, IsIdleIn, judged_in, Meets, LeftAlone, AllLeftAlone, BlockLeftAlone, FindsAsItSearches, bytes_of, passed_out, passed, moves_of, line_due, Went, CanPass, MovesLedTo, StoppedPassing}
 use Rattle.sedengine.proofs.Gains.{to_sink-append}
 use Rattle.sedengine.proofs.Moves.{after-add, written-add, Within-add, move_at, within_none, after_none, written_none}
 
@@ -43,11 +43,11 @@ went_on l g s m now out more t u a b =
     let c = subst W (sym a.is) b in
     record { is = after-add g s t u ∙ c.is; wrote = written-add g s t u ∙ ap₂ (λ x y. x ++ y) a.wrote c.wrote; within = Within-add l g s t u a.within c.within }
 
-one_is : (g : Setting) (s : State) (m : Move) → move g s ≡ Some m → after g s 1 ≡ m.next
+one_is : (g : Setting) (s : State) (m : Move) → next_move g s ≡ Some m → after g s 1 ≡ m.next
 unfolding after
 one_is g s m h = ap (next_or_stay s) h
 
-one_wrote : (g : Setting) (s : State) (m : Move) → move g s ≡ Some m → written g s 1 ≡ m.writes
+one_wrote : (g : Setting) (s : State) (m : Move) → next_move g s ≡ Some m → written g s 1 ≡ m.writes
 unfolding written after
 one_wrote g s m h = ap writes_of h
 
@@ -60,7 +60,7 @@ unfolding Within
 one_within l g s f n = λ k h. elim (none_or_one k h) [ inl none ↦ rw (none, after_none g s) f | inr one ↦ rw one n ]
 
 -- one move
-pub went_one : (l : Limits) (g : Setting) (s now : State) (out : List (ℕ × ℕ)) → WithinLimits l s → move g s ≡ writing out now → WithinLimits l now → Went l g s now out 1
+pub went_one : (l : Limits) (g : Setting) (s now : State) (out : List (ℕ × ℕ)) → WithinLimits l s → next_move g s ≡ writing out now → WithinLimits l now → Went l g s now out 1
 went_one l g s now out f is n =
     let m : Move = record { next = now; writes = out } in
     let at : after g s 1 ≡ now = one_is g s m is in
@@ -208,12 +208,12 @@ module _ (l : Limits) (g : Setting) (c : ℕ) (finds : FindsAsItSearches g) (idl
   fits_in : (pattern : List ℕ) (used : Option ℕ) (turns : ℕ) (tasks : List Task) → length pattern ≤ l.space → turns ≤ l.turns → WithinLimits l (in_cycle s pattern rest used turns tasks)
   fits_in pattern used turns tasks p t = record { pattern = p; hold = can.fits.hold; queue = can.fits.queue; turns = t }
 
-  begins_cycle : move g s ≡ quietly (at_command 0)
+  begins_cycle : next_move g s ≡ quietly (at_command 0)
   begins_cycle =
       move_at g s (begin ∷ []) can.begins ∙ ap (begins s) is
       ∙ ap quietly (same_cycle s line line rest s.used (option_or (judged_in g 0) s.used) (s.turns + 1) (s.turns + 1 + 0) (do_at 0 ∷ []) (do_at (place_at g.commands 0) ∷ []) refl (rw judged_zero refl) (omega arith) (rw place_zero refl))
 
-  command_moves : (j : ℕ) → j < c → move g (at_command j) ≡ quietly (at_command (suc j))
+  command_moves : (j : ℕ) → j < c → next_move g (at_command j) ≡ quietly (at_command (suc j))
   command_moves j less =
       let o : Option Command = slice_get g.commands (place_at g.commands j) in
       move_at g (at_command j) (do_at (place_at g.commands j) ∷ []) refl
@@ -237,7 +237,7 @@ module _ (l : Limits) (g : Setting) (c : ℕ) (finds : FindsAsItSearches g) (idl
   fits_last : (pattern : List ℕ) (tasks : List Task) → length pattern ≤ l.space → WithinLimits l (at_last pattern tasks)
   fits_last pattern tasks p = fits_in pattern (option_or (judged_in g c) s.used) (s.turns + 1 + c) tasks p turns
 
-  script_ends : move g (at_command c) ≡ quietly (at_last line at_end)
+  script_ends : next_move g (at_command c) ≡ quietly (at_last line at_end)
   script_ends = move_at g (at_command c) (do_at (place_at g.commands c) ∷ []) refl ∙ ap (reach g (at_command c) (place_at g.commands c)) idle.ends
 
   -- the line is about to be written
@@ -248,13 +248,13 @@ module _ (l : Limits) (g : Setting) (c : ℕ) (finds : FindsAsItSearches g) (idl
       subst W n (went_on l g s (at_command c) (at_last line at_end) [] [] (1 + c) 1 (reaches c (omega arith))
       (went_one l g (at_command c) (at_last line at_end) [] (fits_last line (do_at (place_at g.commands c) ∷ []) short) script_ends (fits_last line at_end short)))
 
-  pub prints : move g (at_last line at_end) ≡ writing (passed_out g.quiet (line ∷ [])) (at_last line (flush ∷ empty_pattern ∷ begin ∷ []))
+  pub prints : next_move g (at_last line at_end) ≡ writing (passed_out g.quiet (line ∷ [])) (at_last line (flush ∷ empty_pattern ∷ begin ∷ []))
   prints = move_at g (at_last line at_end) at_end refl
 
-  flushes_none : move g (at_last line (flush ∷ empty_pattern ∷ begin ∷ [])) ≡ quietly (at_last line (empty_pattern ∷ begin ∷ []))
+  flushes_none : next_move g (at_last line (flush ∷ empty_pattern ∷ begin ∷ [])) ≡ quietly (at_last line (empty_pattern ∷ begin ∷ []))
   flushes_none = move_at g (at_last line (flush ∷ empty_pattern ∷ begin ∷ [])) (flush ∷ empty_pattern ∷ begin ∷ []) refl ∙ ap (flushes (at_last line (flush ∷ empty_pattern ∷ begin ∷ [])) (empty_pattern ∷ begin ∷ [])) can.none
 
-  empties : move g (at_last line (empty_pattern ∷ begin ∷ [])) ≡ quietly (at_last [] (begin ∷ []))
+  empties : next_move g (at_last line (empty_pattern ∷ begin ∷ [])) ≡ quietly (at_last [] (begin ∷ []))
   empties = move_at g (at_last line (empty_pattern ∷ begin ∷ [])) (empty_pattern ∷ begin ∷ []) refl
 
   passed_is : at_last [] (begin ∷ []) ≡ passed g c 1 rest s
@@ -351,9 +351,9 @@ block_left_alone g c number (line ∷ lines) rest h = (
     alone Nothing asked = tt
 
 -- a script's own expressions are found as they are searched for
-none_searched : (o : Option Written) (w : List ℕ) → has_match o w ≡ false → search_for o w 0 ≡ None
+none_searched : (o : Option WrittenExpression) (w : List ℕ) → has_match o w ≡ false → search_for o w 0 ≡ None
 none_searched None w h = refl
-none_searched (Some e) w h = none_at (found (tree e) w 0) h
+none_searched (Some e) w h = none_at (found (expression_tree e) w 0) h
   where
     none_at : (o : Option (ℕ × ℕ)) → is_some o ≡ false → match_with_span e w o ≡ None
     none_at None h = refl
@@ -414,7 +414,7 @@ out_parts before line more =
 
 -- A sink took no more in the move after those that lead to the state a, which writes this line.
 stopped_printing : (l : Limits) (g : Setting) (s a b now : State) (out tail : List (ℕ × ℕ)) (line : List ℕ) (t n d : ℕ) (old new : SinkView) (end : Ended) →
-    Went l g s a out t → move g a ≡ writing (line_to 0 line) b → WithinLimits l b → length out ≡ n → d ≤ length line →
+    Went l g s a out t → next_move g a ≡ writing (line_to 0 line) b → WithinLimits l b → length out ≡ n → d ≤ length line →
     Sent old new (take (n + d) ((out ++ line_to 0 line) ++ tail)) → named_sink end ≡ Some 0 → SameLengths a now → a.lines ≡ now.lines → StoppedPassing l g s now old new end
 stopped_printing l g s a b now out tail line t n d old new end went is fits long inside took names same lines =
     let piece : List (ℕ × ℕ) = line_to 0 line in
@@ -486,13 +486,13 @@ module _ (l : Limits) (g : Setting) (c : ℕ) (finds : FindsAsItSearches g) (idl
       let out : passed_out g.quiet before ≡ passed_out false before = ap (λ q. passed_out q before) loud in
       let went' : Went l g s a (passed_out false before) (length before * moves_of c + (c + 2)) = subst (λ (w : List (ℕ × ℕ)). Went l g s a w (length before * moves_of c + (c + 2))) out went in
       let b : State = record a { tasks = flush ∷ empty_pattern ∷ begin ∷ [] } in
-      let prints_it : move g a ≡ writing (line_to 0 line) b = move_at g a at_end refl ∙ ap (λ q. writing (cond q [] (line_to 0 line)) b) loud in
+      let prints_it : next_move g a ≡ writing (line_to 0 line) b = move_at g a at_end refl ∙ ap (λ q. writing (cond q [] (line_to 0 line)) b) loud in
       let fits = went_fits l g s a (passed_out false before) (length before * moves_of c + (c + 2)) went' in
       stopped_printing l g s a b now (passed_out false before) (passed_out false more) line (length before * moves_of c + (c + 2)) (length (bytes_of before)) d old new end
       went' prints_it (record { pattern = fits.pattern; hold = fits.hold; queue = fits.queue; turns = fits.turns }) (length-to_sink 0 (bytes_of before)) inside
       (subst (λ (w : List (ℕ × ℕ)). Sent old new (take (length (bytes_of before) + d) w)) (out_parts before line more) took) names same (sym lines)
 
 -- lines of which all that they write was written are passed over
-pub all_passed : (l : Limits) (g : Setting) (s now : State) (out : List (ℕ × ℕ)) (t : ℕ) (old new : SinkView) → Went l g s now out t → Sent old new out → Passed l g s now old new
+pub all_passed : (l : Limits) (g : Setting) (s now : State) (out : List (ℕ × ℕ)) (t : ℕ) (old new : SinkView) → Went l g s now out t → Sent old new out → MovesLedTo l g s now old new
 all_passed l g s now out t old new went took =
     record { t = t; is = went.is; within = went.within; sinks = subst (λ (w : List (ℕ × ℕ)). Sent old new w) (sym went.wrote) took }

@@ -14,10 +14,10 @@ use Rattle.sedengine.specs.Meters.{Sent, SinkView}
 use Rattle.sedengine.specs.Ends.{named_sink}
 use Rattle.std.specs.Io.KnownBytes.{prepend_known}
 use Rattle.std.proofs.KnownBytes.{prepend_known-nil}
-use Rattle.sedengine.specs.Run.{RunState, setting, at_lines, lost, input_of, Ending}
+use Rattle.sedengine.specs.Run.{RunState, run_setting, at_lines, lost, input_of, Ending}
 use Rattle.sedengine.specs.TakenInput.{LosesPartAfter, size_of, more_at}
 use Rattle.sedengine.specs.Steps.{TakesLines, KeepsRun}
-use Rattle.sedengine.specs.Passing.{IsIdleIn, AllLeftAlone, BlockLeftAlone, FindsAsItSearches, bytes_of, passed_out, moves_of, CanPass, Passed, HaltedPassing, StepsPassing, engine_after}
+use Rattle.sedengine.specs.Passing.{IsIdleIn, AllLeftAlone, BlockLeftAlone, FindsAsItSearches, bytes_of, passed_out, moves_of, CanPass, MovesLedTo, HaltedPassing, StepsPassing, engine_after}
 use Rattle.sedengine.specs.declared.ends.Ended.{Ended}
 use Rattle.sedengine.specs.declared.ends.Ended.TheVariants.{PatternFull, InputBroken}
 use Rattle.sedengine.proofs.Sending.{Sent-append}
@@ -31,26 +31,26 @@ use Rattle.sedengine.proofs.Gains.{to_sink-append}
 
 -- The run that began with the engine a and the lines `from`, and came to the engine e.
 module _ {R : Type 0} (remaining : R → Option (List ℕ)) (from at to : Stream R) (files : ℕ → List ℕ) (a : RunState) (s : State) (e : RunState) (old mid new : SinkView) (same : KeepsRun a e)
-    (r : Reached remaining from at a.limits (setting a files) s e old mid) where
-  pub passed_on : (e' : RunState) (rest : List (List ℕ)) → Passed e.limits (setting e files) (at_lines e r.rest) (at_lines e' rest) mid new → Passed a.limits (setting a files) (after (setting a files) s r.t) (at_lines e' rest) mid new
+    (r : Reached remaining from at a.limits (run_setting a files) s e old mid) where
+  pub passed_on : (e' : RunState) (rest : List (List ℕ)) → MovesLedTo e.limits (run_setting e files) (at_lines e r.rest) (at_lines e' rest) mid new → MovesLedTo a.limits (run_setting a files) (after (run_setting a files) s r.t) (at_lines e' rest) mid new
   passed_on e' rest h =
-      let P : Limits → Type 0 = λ l. Passed l (setting e files) (at_lines e r.rest) (at_lines e' rest) mid new in
-      let Q : Setting → Type 0 = λ g. Passed a.limits g (at_lines e r.rest) (at_lines e' rest) mid new in
-      let S : State → Type 0 = λ m. Passed a.limits (setting a files) m (at_lines e' rest) mid new in
+      let P : Limits → Type 0 = λ l. MovesLedTo l (run_setting e files) (at_lines e r.rest) (at_lines e' rest) mid new in
+      let Q : Setting → Type 0 = λ g. MovesLedTo a.limits g (at_lines e r.rest) (at_lines e' rest) mid new in
+      let S : State → Type 0 = λ m. MovesLedTo a.limits (run_setting a files) m (at_lines e' rest) mid new in
       subst S (sym r.is) (subst Q (same_setting a e files same) (subst P same.limits h))
 
-  pub passing_halted_on : (e' : RunState) (end : Ended) → HaltedPassing remaining at to e.limits (setting e files) (at_lines e r.rest) e' mid new end →
-      HaltedPassing remaining at to a.limits (setting a files) (after (setting a files) s r.t) e' mid new end
+  pub passing_halted_on : (e' : RunState) (end : Ended) → HaltedPassing remaining at to e.limits (run_setting e files) (at_lines e r.rest) e' mid new end →
+      HaltedPassing remaining at to a.limits (run_setting a files) (after (run_setting a files) s r.t) e' mid new end
   passing_halted_on e' end h =
-      let P : Limits → Type 0 = λ l. HaltedPassing remaining at to l (setting e files) (at_lines e r.rest) e' mid new end in
+      let P : Limits → Type 0 = λ l. HaltedPassing remaining at to l (run_setting e files) (at_lines e r.rest) e' mid new end in
       let Q : Setting → Type 0 = λ g. HaltedPassing remaining at to a.limits g (at_lines e r.rest) e' mid new end in
-      let S : State → Type 0 = λ m. HaltedPassing remaining at to a.limits (setting a files) m e' mid new end in
+      let S : State → Type 0 = λ m. HaltedPassing remaining at to a.limits (run_setting a files) m e' mid new end in
       subst S (sym r.is) (subst Q (same_setting a e files same) (subst P same.limits h))
 
   -- the run goes on
-  abbrev pub pass_on : (e' : RunState) → StepsPassing remaining at to r.rest e.limits (setting e files) (at_lines e r.rest) e' mid new (Ok tt) → Reached remaining from to a.limits (setting a files) s e' old new
+  abbrev pub pass_on : (e' : RunState) → StepsPassing remaining at to r.rest e.limits (run_setting e files) (at_lines e r.rest) e' mid new (Ok tt) → Reached remaining from to a.limits (run_setting a files) s e' old new
   pass_on e' (rest, taken, ran) =
-      let g : Setting = setting a files in
+      let g : Setting = run_setting a files in
       let h = passed_on e' rest ran in
       record {
         t = r.t + h.t;
@@ -62,11 +62,11 @@ module _ {R : Type 0} (remaining : R → Option (List ℕ)) (from at to : Stream
       }
 
   -- it ends
-  abbrev pub pass_stop : (e' : RunState) (end : Ended) → StepsPassing remaining at to r.rest e.limits (setting e files) (at_lines e r.rest) e' mid new (Err end) →
+  abbrev pub pass_stop : (e' : RunState) (end : Ended) → StepsPassing remaining at to r.rest e.limits (run_setting e files) (at_lines e r.rest) e' mid new (Err end) →
       (k : ℕ) × TakesAtMost (remaining from.source) (remaining to.source) k → length to.ahead ≤ max (length from.ahead) from.look → from.look ≡ a.limits.look → (end ≡ InputBroken → to.ahead ≡ []) →
-      (out : List (ℕ × ℕ)) × Sent old new out × Ending a.limits (setting a files) s out (input_of remaining from) (input_of remaining to) e'.state end
+      (out : List (ℕ × ℕ)) × Sent old new out × Ending a.limits (run_setting a files) s out (input_of remaining from) (input_of remaining to) e'.state end
   pass_stop e' end halted shrinks ahead look drained =
-      let g : Setting = setting a files in
+      let g : Setting = run_setting a files in
       let h = passing_halted_on e' end halted in
       let u : ℕ = h.stopped.t in
       let rest : r.rest ≡ (after g s r.t).lines = sym (ap (λ (x : State). x.lines) r.is) in
@@ -109,7 +109,7 @@ block_taken {R} remaining old new block bytes was is = record {
 -- the lines of a block, passed over
 pub lines_passed : (e : RunState) (g : Setting) (c : ℕ) (old new : SinkView) (block rest : List (List ℕ)) → 0 < length block → FindsAsItSearches g → IsIdleIn g c → CanPass e.limits g c (at_lines e (block ++ rest)) →
     BlockLeftAlone g c e.state.number block rest → All (λ x. length x ≤ e.limits.space) block → e.state.turns + length block * (c + 1) ≤ e.limits.turns → Sent old new (passed_out g.quiet block) →
-    Passed e.limits g (at_lines e (block ++ rest)) (at_lines (engine_after e g c (length block)) rest) old new
+    MovesLedTo e.limits g (at_lines e (block ++ rest)) (at_lines (engine_after e g c (length block)) rest) old new
 lines_passed e g c old new [] rest some finds idle can alone short turns took = absurd (omega arith)
 lines_passed e g c old new (line ∷ lines) rest some finds idle can alone short turns took =
     all_passed e.limits g (at_lines e (line ∷ (lines ++ rest))) (at_lines (engine_after e g c (length (line ∷ lines))) rest) (passed_out g.quiet (line ∷ lines)) (length (line ∷ lines) * moves_of c) old new

@@ -7,7 +7,7 @@ use Rattle.sedscript.specs.declared.types.Command.{Command}
 use Rattle.sedscript.specs.Program.{Program}
 use Rattle.sedscript.specs.declared.types.Action.TheVariants.{Append, ReadFile}
 use Rattle.sedengine.specs.State.{Entry, text, file}
-use Rattle.sedengine.specs.Inside.{AllQueue, Queues, entries_of, entry_by, entry_for}
+use Rattle.sedengine.specs.Inside.{AllQueue, CommandQueues, entries_of, entry_by, entry_for}
 
 -- the entry of a command that queues a text, and of one that queues a file
 pub entry_text : (texts : List (List ℕ)) (o : Option Command) (c : Command) (k : ℕ) (bytes : List ℕ) → o ≡ Some c → c.action ≡ Append k → slice_get texts k ≡ Some bytes → entry_by texts o ≡ text bytes
@@ -17,13 +17,13 @@ pub entry_file : (texts : List (List ℕ)) (o : Option Command) (c : Command) (k
 entry_file texts o c k is action = ap (entry_by texts) is ∙ ap (entry_for texts) action
 
 -- each of the numbers is one of a command that queues
-pub queued_at : (p : Program) (is : List ℕ) (i : ℕ) → AllQueue p is → i < length is → Queues (slice_get p.commands (slice_index is i))
+pub queued_at : (p : Program) (is : List ℕ) (i : ℕ) → AllQueue p is → i < length is → CommandQueues (slice_get p.commands (slice_index is i))
 queued_at p [] i h lt = absurd (omega arith)
 queued_at p (j ∷ is) zero h lt = h.0
 queued_at p (j ∷ is) (suc i) h lt = queued_at p is i h.1 (omega arith)
 
 -- a further number
-pub AllQueue-snoc : (p : Program) (is : List ℕ) (i : ℕ) → AllQueue p is → Queues (slice_get p.commands i) → AllQueue p (is ++ i ∷ [])
+pub AllQueue-snoc : (p : Program) (is : List ℕ) (i : ℕ) → AllQueue p is → CommandQueues (slice_get p.commands i) → AllQueue p (is ++ i ∷ [])
 AllQueue-snoc p [] i h q = (q, tt)
 AllQueue-snoc p (j ∷ is) i h q = (h.0, AllQueue-snoc p is i h.1 q)
 

@@ -9,7 +9,7 @@ use Rattle.sedengine.specs.Move.{after, written}
 use Rattle.sedengine.specs.Meters.{Sent, SinkView}
 use Rattle.sedengine.specs.Ends.{WithinLimits, Within, named_sink}
 use Rattle.sedengine.specs.Held.{HoldsAt, SameLengths}
-use Rattle.sedengine.specs.Run.{RunState, setting, at_lines, lost, Input, input_of, TakesLeft, Ending, EndingInCycle, Cycled, InOneCycle, starts_cycle}
+use Rattle.sedengine.specs.Run.{RunState, run_setting, at_lines, lost, Input, input_of, TakesLeft, Ending, EndingInCycle, Cycled, InOneCycle, starts_cycle}
 use Rattle.sedengine.specs.ScriptSetting.{setting_of}
 use Rattle.sedengine.specs.TakenInput.{size_of, more_at, LosesPartAfter}
 use Rattle.sedengine.specs.Steps.{Ran, TakesLines, Halted, Steps, KeepsRun}
@@ -50,7 +50,7 @@ Reached-none {R} remaining from l g e ls sinks known f = record {
   gained = rw written_none (Sent-none sinks);
 }
 
-pub same_setting : (old new : RunState) (files : ℕ → List ℕ) → KeepsRun old new → setting new files ≡ setting old files
+pub same_setting : (old new : RunState) (files : ℕ → List ℕ) → KeepsRun old new → run_setting new files ≡ run_setting old files
 same_setting old new files s = ap (λ p. setting_of p files) s.script
 
 pub KeepsRun-then : {a b c : RunState} → KeepsRun a b → KeepsRun b c → KeepsRun a c
@@ -76,26 +76,26 @@ lost_more l other = omega arith
 
 -- The run that began with the engine a and the lines `from`, and came to the engine e.
 module _ {R : Type 0} (remaining : R → Option (List ℕ)) (from at to : Stream R) (files : ℕ → List ℕ) (a : RunState) (s : State) (e : RunState) (old mid new : SinkView) (same : KeepsRun a e)
-    (r : Reached remaining from at a.limits (setting a files) s e old mid) where
+    (r : Reached remaining from at a.limits (run_setting a files) s e old mid) where
   -- what a call answers, for the run's own limits, from the state reached
-  pub ran_on : (e' : RunState) (rest : List (List ℕ)) → Ran e.limits (setting e files) (at_lines e r.rest) (at_lines e' rest) mid new → Ran a.limits (setting a files) (after (setting a files) s r.t) (at_lines e' rest) mid new
+  pub ran_on : (e' : RunState) (rest : List (List ℕ)) → Ran e.limits (run_setting e files) (at_lines e r.rest) (at_lines e' rest) mid new → Ran a.limits (run_setting a files) (after (run_setting a files) s r.t) (at_lines e' rest) mid new
   ran_on e' rest h =
-      let P : Limits → Type 0 = λ l. Ran l (setting e files) (at_lines e r.rest) (at_lines e' rest) mid new in
+      let P : Limits → Type 0 = λ l. Ran l (run_setting e files) (at_lines e r.rest) (at_lines e' rest) mid new in
       let Q : Setting → Type 0 = λ g. Ran a.limits g (at_lines e r.rest) (at_lines e' rest) mid new in
-      let S : State → Type 0 = λ m. Ran a.limits (setting a files) m (at_lines e' rest) mid new in
+      let S : State → Type 0 = λ m. Ran a.limits (run_setting a files) m (at_lines e' rest) mid new in
       subst S (sym r.is) (subst Q (same_setting a e files same) (subst P same.limits h))
 
-  pub halted_on : (e' : RunState) (end : Ended) → Halted remaining at to e.limits (setting e files) (at_lines e r.rest) e' mid new end →
-      Halted remaining at to a.limits (setting a files) (after (setting a files) s r.t) e' mid new end
+  pub halted_on : (e' : RunState) (end : Ended) → Halted remaining at to e.limits (run_setting e files) (at_lines e r.rest) e' mid new end →
+      Halted remaining at to a.limits (run_setting a files) (after (run_setting a files) s r.t) e' mid new end
   halted_on e' end h =
-      let P : Limits → Type 0 = λ l. Halted remaining at to l (setting e files) (at_lines e r.rest) e' mid new end in
+      let P : Limits → Type 0 = λ l. Halted remaining at to l (run_setting e files) (at_lines e r.rest) e' mid new end in
       let Q : Setting → Type 0 = λ g. Halted remaining at to a.limits g (at_lines e r.rest) e' mid new end in
-      let S : State → Type 0 = λ m. Halted remaining at to a.limits (setting a files) m e' mid new end in
+      let S : State → Type 0 = λ m. Halted remaining at to a.limits (run_setting a files) m e' mid new end in
       subst S (sym r.is) (subst Q (same_setting a e files same) (subst P same.limits h))
 
-  abbrev pub step_on : (e' : RunState) → Steps remaining at to r.rest e.limits (setting e files) e e' mid new (Ok tt) → Reached remaining from to a.limits (setting a files) s e' old new
+  abbrev pub step_on : (e' : RunState) → Steps remaining at to r.rest e.limits (run_setting e files) e e' mid new (Ok tt) → Reached remaining from to a.limits (run_setting a files) s e' old new
   step_on e' (rest, taken, ran) =
-      let g : Setting = setting a files in
+      let g : Setting = run_setting a files in
       let h = ran_on e' rest ran in
       record {
         t = r.t + h.t;
@@ -106,11 +106,11 @@ module _ {R : Type 0} (remaining : R → Option (List ℕ)) (from at to : Stream
         gained = rw written-add (Sent-append r.gained h.sinks);
       }
 
-  abbrev pub stop_on : (e' : RunState) (end : Ended) → Steps remaining at to r.rest e.limits (setting e files) e e' mid new (Err end) →
+  abbrev pub stop_on : (e' : RunState) (end : Ended) → Steps remaining at to r.rest e.limits (run_setting e files) e e' mid new (Err end) →
       (k : ℕ) × TakesAtMost (remaining from.source) (remaining to.source) k → length to.ahead ≤ max (length from.ahead) from.look → from.look ≡ a.limits.look → (end ≡ InputBroken → to.ahead ≡ []) →
-      (out : List (ℕ × ℕ)) × Sent old new out × Ending a.limits (setting a files) s out (input_of remaining from) (input_of remaining to) e'.state end
+      (out : List (ℕ × ℕ)) × Sent old new out × Ending a.limits (run_setting a files) s out (input_of remaining from) (input_of remaining to) e'.state end
   stop_on e' end halted shrinks ahead look drained =
-      let g : Setting = setting a files in
+      let g : Setting = run_setting a files in
       let h = halted_on e' end halted in
       let u : ℕ = h.stopped.t in
       let rest : r.rest ≡ (after g s r.t).lines = sym (ap (λ (x : State). x.lines) r.is) in
@@ -134,18 +134,18 @@ module _ {R : Type 0} (remaining : R → Option (List ℕ)) (from at to : Stream
       )
 
   -- no cycle starts meanwhile
-  pub one_on : (e' : RunState) (h : Steps remaining at to r.rest e.limits (setting e files) e e' mid new (Ok tt)) → InOneCycle (setting a files) s (r.t + 1) → InOneCycle (setting a files) s (step_on e' h).t
-  one_on e' (rest, taken, ran) one = let h = ran_on e' rest ran in InOneCycle-add (setting a files) s r.t h.t one h.one
+  pub one_on : (e' : RunState) (h : Steps remaining at to r.rest e.limits (run_setting e files) e e' mid new (Ok tt)) → InOneCycle (run_setting a files) s (r.t + 1) → InOneCycle (run_setting a files) s (step_on e' h).t
+  one_on e' (rest, taken, ran) one = let h = ran_on e' rest ran in InOneCycle-add (run_setting a files) s r.t h.t one h.one
 
-  pub some_on : (e' : RunState) (h : Steps remaining at to r.rest e.limits (setting e files) e e' mid new (Ok tt)) → 0 < (step_on e' h).t
+  pub some_on : (e' : RunState) (h : Steps remaining at to r.rest e.limits (run_setting e files) e e' mid new (Ok tt)) → 0 < (step_on e' h).t
   some_on e' (rest, taken, ran) = let h = ran_on e' rest ran in let some = h.some in omega arith
 
-  pub one_stop : (e' : RunState) (end : Ended) (h : Steps remaining at to r.rest e.limits (setting e files) e e' mid new (Err end)) → InOneCycle (setting a files) s (r.t + 1) →
-      InOneCycle (setting a files) s (r.t + (halted_on e' end h).stopped.t + 1)
+  pub one_stop : (e' : RunState) (end : Ended) (h : Steps remaining at to r.rest e.limits (run_setting e files) e e' mid new (Err end)) → InOneCycle (run_setting a files) s (r.t + 1) →
+      InOneCycle (run_setting a files) s (r.t + (halted_on e' end h).stopped.t + 1)
   one_stop e' end halted one =
       let h = halted_on e' end halted in
       let all : r.t + h.stopped.t + 1 ≡ r.t + (h.stopped.t + 1) = omega arith in
-      rw all (InOneCycle-add (setting a files) s r.t (h.stopped.t + 1) one h.stopped.one)
+      rw all (InOneCycle-add (run_setting a files) s r.t (h.stopped.t + 1) one h.stopped.one)
 
 -- a cycle was made
 pub cycled : {R : Type 0} (remaining : R → Option (List ℕ)) (from to : Stream R) (l : Limits) (g : Setting) (s : State) (e : RunState) (old new : SinkView) →

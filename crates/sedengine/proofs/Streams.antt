@@ -11,8 +11,8 @@ use Rattle.std.proofs.lemmas.List.{drop-drop, drop_all}
 use Rattle.std.proofs.lemmas.List.Elements.{All-drop}
 use Rattle.std.proofs.lemmas.List.Splits.{slice_split-cons_yes, slice_split-cons_no, length-slice_split}
 use Rattle.sedspace.specs.Lines.{lines, is_newline, without_empty_last, HasNoNewline, TakesAtMost}
-use Rattle.sedspace.specs.Stream.{Stream, left, lines_left, GivesLine, NoneLeft, KeepsLines, LosesPart, TakesLine, TellsLast}
-use Rattle.sedengine.specs.Calls.{Reads}
+use Rattle.sedspace.specs.Stream.{Stream, left, lines_left, GivesLine, NoLineLeft, KeepsLines, LosesPart, TakesLine, TellsLast}
+use Rattle.sedengine.specs.Calls.{ReadsLines}
 use Rattle.sedengine.specs.Run.{FailedSource}
 use Rattle.sedengine.specs.TakenInput.{LosesPartAfter, size_of}
 use Rattle.sedengine.specs.Steps.{TakesLines}
@@ -88,13 +88,13 @@ line_taken {R} remaining old new ls line known bytes given =
     let r = gives_line ls (lines_left remaining new) line (subst G known given) in
     (r.0, r.2, record { known = r.1; lines = line ∷ []; are = r.2; bytes = takes_line _ _ line bytes })
 
-no_lines : (o : Option (List (List ℕ))) (ls : List (List ℕ)) → o ≡ Some ls → NoneLeft o → ls ≡ []
+no_lines : (o : Option (List (List ℕ))) (ls : List (List ℕ)) → o ≡ Some ls → NoLineLeft o → ls ≡ []
 no_lines None ls e h = cc
 no_lines (Some ms) ls e h = let same : ms ≡ ls = cc in sym same ∙ h
 
 -- Nothing is left.
 all_taken : (ahead ahead' : List ℕ) (old new : Option (List ℕ)) (n : ℕ) → TakesAtMost old new n → (ls : List (List ℕ)) → option_map lines (prepend_known ahead old) ≡ Some ls →
-    NoneLeft (option_map lines (prepend_known ahead old)) → NoneLeft (option_map lines (prepend_known ahead' new)) →
+    NoLineLeft (option_map lines (prepend_known ahead old)) → NoLineLeft (option_map lines (prepend_known ahead' new)) →
     (option_map lines (prepend_known ahead' new) ≡ Some []) × TakesAtMost (prepend_known ahead old) (prepend_known ahead' new) 0
 all_taken ahead ahead' None new n t ls known none none' = absurd (none_some ls known)
   where
@@ -107,7 +107,7 @@ all_taken ahead ahead' (Some xs) (Some ys) n t ls known none none' =
     (ap Some none', ([], old ∙ sym new, omega arith))
 
 pub lines_end : {R : Type 0} (remaining : R → Option (List ℕ)) (old new : Stream R) (n : ℕ) (ls : List (List ℕ)) → lines_left remaining old ≡ Some ls → TakesAtMost (remaining old.source) (remaining new.source) n →
-    NoneLeft (lines_left remaining old) → NoneLeft (lines_left remaining new) → (ls ≡ []) × TakesLines remaining old new ls []
+    NoLineLeft (lines_left remaining old) → NoLineLeft (lines_left remaining new) → (ls ≡ []) × TakesLines remaining old new ls []
 lines_end {R} remaining old new n ls known taken none none' =
     let r = all_taken old.ahead new.ahead (remaining old.source) (remaining new.source) n taken ls known none none' in
     let nil : ls ≡ [] = no_lines _ ls known none in
@@ -137,9 +137,9 @@ shrinks-then : (a b c : Option (List ℕ)) → (n : ℕ) × TakesAtMost a b n �
 shrinks-then a b c (n, h) (m, i) = (n + m, TakesAtMost-then a b c n m h i)
 
 -- one call after another
-pub Reads-then : {R T : Type 0} (remaining : R → Option (List ℕ)) (failures : R → ℕ) (reference : R → List GName) (a b c : Stream R) (r : Result T Ended) →
-    Reads {T = Unit} remaining failures reference a b (Ok tt) → Reads remaining failures reference b c r → Reads remaining failures reference a c r
-Reads-then {R} {T} remaining failures reference a b c r s t =
+pub ReadsLines-then : {R T : Type 0} (remaining : R → Option (List ℕ)) (failures : R → ℕ) (reference : R → List GName) (a b c : Stream R) (r : Result T Ended) →
+    ReadsLines {T = Unit} remaining failures reference a b (Ok tt) → ReadsLines remaining failures reference b c r → ReadsLines remaining failures reference a c r
+ReadsLines-then {R} {T} remaining failures reference a b c r s t =
     let h = s.ahead in
     let i = t.ahead in
     let look = s.same_look in
@@ -153,8 +153,8 @@ Reads-then {R} {T} remaining failures reference a b c r s t =
       broken = λ is none. t.broken is (s.sound none);
     }
 
-pub Reads-none : {R : Type 0} (remaining : R → Option (List ℕ)) (failures : R → ℕ) (reference : R → List GName) (a : Stream R) → Reads {T = Unit} remaining failures reference a a (Ok tt)
-Reads-none {R} remaining failures reference a = record {
+pub ReadsLines-none : {R : Type 0} (remaining : R → Option (List ℕ)) (failures : R → ℕ) (reference : R → List GName) (a : Stream R) → ReadsLines {T = Unit} remaining failures reference a a (Ok tt)
+ReadsLines-none {R} remaining failures reference a = record {
   same_look = refl;
   same_reference = refl;
   ahead = omega arith;
@@ -170,8 +170,8 @@ unread {T} n (Err InputBroken) h = absurd (h refl)
 unread {T} n (Err other) h = refl
 
 -- a call that reads nothing
-pub Reads-unread : {R T : Type 0} (remaining : R → Option (List ℕ)) (failures : R → ℕ) (reference : R → List GName) (a : Stream R) (r : Result T Ended) → (r ≡ Err InputBroken → ⊥) → Reads remaining failures reference a a r
-Reads-unread {R} {T} remaining failures reference a r h = record {
+pub ReadsLines-unread : {R T : Type 0} (remaining : R → Option (List ℕ)) (failures : R → ℕ) (reference : R → List GName) (a : Stream R) (r : Result T Ended) → (r ≡ Err InputBroken → ⊥) → ReadsLines remaining failures reference a a r
+ReadsLines-unread {R} {T} remaining failures reference a r h = record {
   same_look = refl;
   same_reference = refl;
   ahead = omega arith;
@@ -219,8 +219,8 @@ some_told (Some ms) ls last known told is =
     none_or_any (m ∷ ms) last told is = refl
 
 -- a call that may read, whatever it told
-pub Reads-told : {R T : Type 0} (remaining : R → Option (List ℕ)) (failures : R → ℕ) (reference : R → List GName) (a b : Stream R) (x : T) → Reads remaining failures reference a b (Ok x) → Reads {T = Unit} remaining failures reference a b (Ok tt)
-Reads-told {R} {T} remaining failures reference a b x h = record { same_look = h.same_look; same_reference = h.same_reference; ahead = h.ahead; shrinks = h.shrinks; sound = h.sound; failed = h.failed; broken = λ is none. cc }
+pub ReadsLines-told : {R T : Type 0} (remaining : R → Option (List ℕ)) (failures : R → ℕ) (reference : R → List GName) (a b : Stream R) (x : T) → ReadsLines remaining failures reference a b (Ok x) → ReadsLines {T = Unit} remaining failures reference a b (Ok tt)
+ReadsLines-told {R} {T} remaining failures reference a b x h = record { same_look = h.same_look; same_reference = h.same_reference; ahead = h.ahead; shrinks = h.shrinks; sound = h.sound; failed = h.failed; broken = λ is none. cc }
 
 -- where no byte is gone, no more than a part of a line is
 pub LosesPart-none : (old new : Option (List ℕ)) (n : ℕ) → TakesAtMost old new 0 → LosesPart old new n

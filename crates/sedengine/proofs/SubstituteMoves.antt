@@ -2,7 +2,7 @@
 use Rattle.std.proofs.Common.{◌≡◌, ℕ, zero, suc, ◌<◌, ◌≤◌, Bool, true, false, cond, List, [], ◌∷◌, length, get_or, Option, Some, Result, Ok, Err, refl, subst, sym, ap, ◌∙◌, arith, Vec, Global}
 use Rattle.std.specs.Prelude.{slice_get}
 use Rattle.std.specs.Option.{option_or}
-use Rattle.sedre.specs.Written.{Written}
+use Rattle.sedre.specs.Written.{WrittenExpression}
 use Rattle.sedmatch.specs.SearchRoom.{SearchRoom}
 use Rattle.sedmatch.specs.Occurrences.{KeepsRoom, RoomFor}
 use Rattle.sedmatch.specs.declared.occurrences.Occurrences.{Occurrences}
@@ -12,14 +12,14 @@ use Rattle.sedspace.specs.declared.errors.Full.{Full}
 use Rattle.sedengine.specs.State.{Task, begin, rebegin, do_at, print_pattern, empty_pattern, flush, copy, fetch, join, State, Move, Setting}
 use Rattle.sedengine.specs.Substitute.{Occurrence, to_replace, occurrences, replaced_from}
 use Rattle.sedengine.specs.Select.{stands_for}
-use Rattle.sedengine.specs.Move.{move, becomes, to_replace_in, quietly, writing, line_to, line_to_file, replaces, written_by}
+use Rattle.sedengine.specs.Move.{next_move, becomes, to_replace_in, quietly, writing, line_to, line_to_file, replaces, written_by}
 use Rattle.sedengine.specs.Ends.{WithinLimits, Leads, reaches, line_at}
 use Rattle.sedengine.specs.Held.{SameLengths}
 use Rattle.sedengine.specs.Meters.{SinkView}
 use Rattle.sedengine.specs.Calls.{Puts}
-use Rattle.sedengine.specs.Run.{RunState, at_lines, setting}
+use Rattle.sedengine.specs.Run.{RunState, at_lines, run_setting}
 use Rattle.sedengine.specs.ScriptSetting.{search_in}
-use Rattle.sedengine.specs.Steps.{Reaches, Moves, Performs}
+use Rattle.sedengine.specs.Steps.{ReachesCommand, Moves, MakesMove}
 use Rattle.sedengine.specs.SubstituteCalls.{Makes, ReplacesIn, same_but_replaced}
 use Rattle.sedengine.specs.Fitting.{RoomToSeek}
 use Rattle.sedengine.specs.Inside.{run_of, tasks_of, IsConsistent, IsEmptied}
@@ -42,7 +42,7 @@ may_hold p.Quit bytes h = tt
 may_hold p.Ended bytes h = tt
 
 -- the fields of the engine after a substitution with the expression e
-pub replaced_is_run : (a : Inside) (pattern build : Contents) (scratch : SearchRoom) (seeking : Occurrences) (matchers : Vec Written Global) (e : ℕ) (replaced : Bool) → IsConsistent a → reaches (tasks_of a.place) ≡ true → e < length a.script.expressions →
+pub replaced_is_run : (a : Inside) (pattern build : Contents) (scratch : SearchRoom) (seeking : Occurrences) (matchers : Vec WrittenExpression Global) (e : ℕ) (replaced : Bool) → IsConsistent a → reaches (tasks_of a.place) ≡ true → e < length a.script.expressions →
     pattern.limit ≡ a.pattern.limit → length pattern.bytes ≤ pattern.limit → build.limit ≡ a.build.limit → scratch ≡ a.scratch → RoomToSeek a.script.substitutions a.script.expressions a.limits.space seeking → matchers.items ≡ a.matchers.items →
     IsConsistent (record a { pattern = pattern; build = build; scratch = scratch; seeking = seeking; matchers = matchers; used = Some e; replaced = replaced })
 replaced_is_run a pattern build scratch seeking matchers e replaced i at within limit fits limit' same room same' = record {
@@ -70,16 +70,16 @@ replaced_is_run a pattern build scratch seeking matchers e replaced i at within 
 }
 
 -- what seeks the expression of a number
-pub one_sought : (a : Inside) (e : ℕ) (m : Written) → IsConsistent a → e < length a.script.expressions → m ≡ get_or a.matchers.items e m →
+pub one_sought : (a : Inside) (e : ℕ) (m : WrittenExpression) → IsConsistent a → e < length a.script.expressions → m ≡ get_or a.matchers.items e m →
     slice_get a.script.expressions e ≡ Some m
 one_sought a e m i within is =
     let es = a.script.expressions in
     let there = sought_at es a.limits.nodes a.matchers.items e i.matchers within in
-    subst (λ (xs : List Written). slice_get xs e ≡ Some m) (sought es a.limits.nodes a.matchers.items i.matchers) (matcher_at a.matchers.items e m there is)
+    subst (λ (xs : List WrittenExpression). slice_get xs e ≡ Some m) (sought es a.limits.nodes a.matchers.items i.matchers) (matcher_at a.matchers.items e m there is)
 
 -- there is room to seek as before after a call that began with the expression of a number
-pub room_kept : (a : Inside) (e : ℕ) (m : Written) (begun after : Occurrences) → IsConsistent a → slice_get a.script.expressions e ≡ Some m →
-    ((text : ℕ) (es : List Written) → RoomFor text es a.seeking → RoomFor text es begun) → begun.number ≡ e → KeepsRoom m begun after →
+pub room_kept : (a : Inside) (e : ℕ) (m : WrittenExpression) (begun after : Occurrences) → IsConsistent a → slice_get a.script.expressions e ≡ Some m →
+    ((text : ℕ) (es : List WrittenExpression) → RoomFor text es a.seeking → RoomFor text es begun) → begun.number ≡ e → KeepsRoom m begun after →
     RoomToSeek a.script.substitutions a.script.expressions a.limits.space after
 room_kept a e m begun after i at room number kept some =
     kept.1 a.limits.space a.script.expressions (rw number at) (room a.limits.space a.script.expressions (i.seeking some))
@@ -90,17 +90,17 @@ leads_full : (s : State) (t : Substitution) (ms : List Occurrence) (space : ℕ)
 leads_full s t [] space some more = absurd (omega arith)
 leads_full s t (m ∷ ms) space some more = (_, refl, more)
 
-pub makes_full : (a : Inside) (r : RunState) (seen : run_of a ≡ r) (es : List Written) (same : es ≡ a.script.expressions) (k e : ℕ) (files : ℕ → List ℕ) (ls : List (List ℕ)) (t : Substitution) (new : Contents) (now : State) (f : Full) → a.pattern.limit ≡ a.limits.space →
+pub makes_full : (a : Inside) (r : RunState) (seen : run_of a ≡ r) (es : List WrittenExpression) (same : es ≡ a.script.expressions) (k e : ℕ) (files : ℕ → List ℕ) (ls : List (List ℕ)) (t : Substitution) (new : Contents) (now : State) (f : Full) → a.pattern.limit ≡ a.limits.space →
     slice_get r.script.substitutions k ≡ Some t →
     ((t : Substitution) → slice_get a.script.substitutions k ≡ Some t → ReplacesIn t (to_replace t.number t.global (occurrences (search_in es e a.pattern.bytes) (length a.pattern.bytes))) a.pattern new (Err f)) →
-    Makes r.limits (replaces (record (at_lines r ls) { used = Some e }) t (to_replace_in (setting r files) t e r.state.pattern)) t (at_lines r ls) now (Err (PatternFull a.number))
+    Makes r.limits (replaces (record (at_lines r ls) { used = Some e }) t (to_replace_in (run_setting r files) t e r.state.pattern)) t (at_lines r ls) now (Err (PatternFull a.number))
 makes_full a r seen es same k e files ls t new now f limit is h =
-    let Q : RunState → Type 0 = λ r. slice_get r.script.substitutions k ≡ Some t → Makes r.limits (replaces (record (at_lines r ls) { used = Some e }) t (to_replace_in (setting r files) t e r.state.pattern)) t (at_lines r ls) now (Err (PatternFull a.number)) in
+    let Q : RunState → Type 0 = λ r. slice_get r.script.substitutions k ≡ Some t → Makes r.limits (replaces (record (at_lines r ls) { used = Some e }) t (to_replace_in (run_setting r files) t e r.state.pattern)) t (at_lines r ls) now (Err (PatternFull a.number)) in
     subst Q seen
     (λ is.
     let made = rw same at (h t is) in
-    let more : a.limits.space < length (replaced_from a.pattern.bytes t.replacement 0 (to_replace_in (setting (run_of a) files) t e a.pattern.bytes)) = rw limit at made.1 in
-    (leads_full (record (at_lines (run_of a) ls) { used = Some e }) t (to_replace_in (setting (run_of a) files) t e a.pattern.bytes) a.limits.space made.0 more, refl)) is
+    let more : a.limits.space < length (replaced_from a.pattern.bytes t.replacement 0 (to_replace_in (run_setting (run_of a) files) t e a.pattern.bytes)) = rw limit at made.1 in
+    (leads_full (record (at_lines (run_of a) ls) { used = Some e }) t (to_replace_in (run_setting (run_of a) files) t e a.pattern.bytes) a.limits.space made.0 more, refl)) is
 
 some_of : {A : Type 0} (x y : A) → Some x ≡ Some y → x ≡ y
 some_of x y h = cc
@@ -142,19 +142,19 @@ module _ (r r' : RunState) (ls : List (List ℕ)) (before : WithinLimits r.limit
       record { pattern = rw limits at within; hold = rw hold before.hold; queue = rw queue before.queue; turns = rw turns before.turns }
 
   -- nothing was replaced
-  pub replaced_nothing : Makes r.limits o t (at_lines r ls) (at_lines r' ls) (Ok false) → Performs r.limits g o (at_lines r ls) (at_lines r' ls) old old (Ok tt)
+  pub replaced_nothing : Makes r.limits o t (at_lines r ls) (at_lines r' ls) (Ok false) → MakesMove r.limits g o (at_lines r ls) (at_lines r' ls) old old (Ok tt)
   replaced_nothing is = λ s c first. ran_quietly r.limits g s (at_lines r' ls) old c.fits (first ∙ is) there
 
   -- something was, and is written where the flag `p` stands
   pub replaced_some : (told : Result Unit Ended) → Makes r.limits o t (at_lines r ls) (at_lines r' ls) (Ok true) → Puts old new (written_by t r'.state.pattern) told →
-      Performs r.limits g o (at_lines r ls) (at_lines r' ls) old new told
+      MakesMove r.limits g o (at_lines r ls) (at_lines r' ls) old new told
   replaced_some told is put = λ s c first. moves_writing r.limits g s (at_lines r' ls) old new (written_by t r'.state.pattern) told c.fits (first ∙ is) there c.lines put
 
   -- the end comes
-  pub replaced_not : (end : Ended) → r'.state.pattern ≡ r.state.pattern → Makes r.limits o t (at_lines r ls) (at_lines r' ls) (Err end) → Performs r.limits g o (at_lines r ls) (at_lines r' ls) old old (Err end)
+  pub replaced_not : (end : Ended) → r'.state.pattern ≡ r.state.pattern → Makes r.limits o t (at_lines r ls) (at_lines r' ls) (Err end) → MakesMove r.limits g o (at_lines r ls) (at_lines r' ls) old old (Err end)
   replaced_not end kept is = λ s c first. stops s c first end is
     where
-      lengths : (s : State) → Reaches r.limits g s (at_lines r ls) → SameLengths s (at_lines r' ls)
+      lengths : (s : State) → ReachesCommand r.limits g s (at_lines r ls) → SameLengths s (at_lines r' ls)
       lengths s c =
           let w = c.same in
           record {
@@ -164,7 +164,7 @@ module _ (r r' : RunState) (ls : List (List ℕ)) (before : WithinLimits r.limit
             entries = let more = w.entries in let queue = ap (λ (r : RunState). length r.state.queue) same in omega arith;
           }
 
-      stops : (s : State) (c : Reaches r.limits g s (at_lines r ls)) → move g s ≡ o → (end : Ended) → Makes r.limits o t (at_lines r ls) (at_lines r' ls) (Err end) → Moves r.limits g s (at_lines r' ls) old old (Err end)
+      stops : (s : State) (c : ReachesCommand r.limits g s (at_lines r ls)) → next_move g s ≡ o → (end : Ended) → Makes r.limits o t (at_lines r ls) (at_lines r' ls) (Err end) → Moves r.limits g s (at_lines r' ls) old old (Err end)
       stops s c first (NoPrevious n) (without, number) =
           stopped_here r.limits g s (at_lines r' ls) old (NoPrevious n) c.fits refl (number ∙ sym c.number, c.turn, c.reaches, first ∙ without) (lengths s c) c.lines
       stops s c first (PatternFull n) ((m, is, more), number) =
@@ -200,29 +200,29 @@ replaces_some s t [] some = absurd (omega arith)
 replaces_some s t (m ∷ ms) some = refl
 
 -- a substitution that replaces something, and one that replaces nothing
-pub makes_some : (a : Inside) (r : RunState) (seen : run_of a ≡ r) (es : List Written) (same : es ≡ a.script.expressions) (k e : ℕ) (files : ℕ → List ℕ) (ls : List (List ℕ)) (t : Substitution) (new : Contents) →
+pub makes_some : (a : Inside) (r : RunState) (seen : run_of a ≡ r) (es : List WrittenExpression) (same : es ≡ a.script.expressions) (k e : ℕ) (files : ℕ → List ℕ) (ls : List (List ℕ)) (t : Substitution) (new : Contents) →
     slice_get r.script.substitutions k ≡ Some t →
     ((t : Substitution) → slice_get a.script.substitutions k ≡ Some t → ReplacesIn t (to_replace t.number t.global (occurrences (search_in es e a.pattern.bytes) (length a.pattern.bytes))) a.pattern new (Ok true)) →
-    Makes r.limits (replaces (record (at_lines r ls) { used = Some e }) t (to_replace_in (setting r files) t e r.state.pattern)) t (at_lines r ls)
+    Makes r.limits (replaces (record (at_lines r ls) { used = Some e }) t (to_replace_in (run_setting r files) t e r.state.pattern)) t (at_lines r ls)
     (record (at_lines (run_of a) ls) { pattern = new.bytes; used = Some e; replaced = true }) (Ok true)
 makes_some a r seen es same k e files ls t new is h =
     let now : State = record (at_lines (run_of a) ls) { pattern = new.bytes; used = Some e; replaced = true } in
-    let Q : RunState → Type 0 = λ r. slice_get r.script.substitutions k ≡ Some t → replaces (record (at_lines r ls) { used = Some e }) t (to_replace_in (setting r files) t e r.state.pattern) ≡ writing (written_by t now.pattern) now in
+    let Q : RunState → Type 0 = λ r. slice_get r.script.substitutions k ≡ Some t → replaces (record (at_lines r ls) { used = Some e }) t (to_replace_in (run_setting r files) t e r.state.pattern) ≡ writing (written_by t now.pattern) now in
     let s : State = record (at_lines (run_of a) ls) { used = Some e } in
-    let ms = to_replace_in (setting (run_of a) files) t e a.pattern.bytes in
+    let ms = to_replace_in (run_setting (run_of a) files) t e a.pattern.bytes in
     subst Q seen
     (λ is.
     let made = rw same at (h t is) in
     replaces_some s t ms made.0 ∙ ap (λ (w : List ℕ). becomes s t w) (sym (ap (λ (x : Contents). x.bytes) made.1))) is
 
-pub makes_none : (a : Inside) (r : RunState) (seen : run_of a ≡ r) (es : List Written) (same : es ≡ a.script.expressions) (k e : ℕ) (files : ℕ → List ℕ) (ls : List (List ℕ)) (t : Substitution) (new : Contents) →
+pub makes_none : (a : Inside) (r : RunState) (seen : run_of a ≡ r) (es : List WrittenExpression) (same : es ≡ a.script.expressions) (k e : ℕ) (files : ℕ → List ℕ) (ls : List (List ℕ)) (t : Substitution) (new : Contents) →
     slice_get r.script.substitutions k ≡ Some t →
     ((t : Substitution) → slice_get a.script.substitutions k ≡ Some t → ReplacesIn t (to_replace t.number t.global (occurrences (search_in es e a.pattern.bytes) (length a.pattern.bytes))) a.pattern new (Ok false)) →
-    Makes r.limits (replaces (record (at_lines r ls) { used = Some e }) t (to_replace_in (setting r files) t e r.state.pattern)) t (at_lines r ls)
+    Makes r.limits (replaces (record (at_lines r ls) { used = Some e }) t (to_replace_in (run_setting r files) t e r.state.pattern)) t (at_lines r ls)
     (record (at_lines (run_of a) ls) { pattern = new.bytes; used = Some e }) (Ok false)
 makes_none a r seen es same k e files ls t new is h =
     let now : State = record (at_lines (run_of a) ls) { pattern = new.bytes; used = Some e } in
-    let Q : RunState → Type 0 = λ r. slice_get r.script.substitutions k ≡ Some t → replaces (record (at_lines r ls) { used = Some e }) t (to_replace_in (setting r files) t e r.state.pattern) ≡ quietly now in
+    let Q : RunState → Type 0 = λ r. slice_get r.script.substitutions k ≡ Some t → replaces (record (at_lines r ls) { used = Some e }) t (to_replace_in (run_setting r files) t e r.state.pattern) ≡ quietly now in
     let s : State = record (at_lines (run_of a) ls) { used = Some e } in
     subst Q seen
     (λ is.

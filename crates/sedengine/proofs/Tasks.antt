@@ -5,15 +5,15 @@ use Rattle.std.specs.Io.KnownBytes.{Keeps}
 use Rattle.std.proofs.lemmas.List.{length-map}
 use Rattle.sedscript.specs.Program.{Program}
 use Rattle.sedspace.specs.Spaces.{Contents}
-use Rattle.sedspace.specs.Stream.{Stream, left, lines_left, TakesLine, GivesLine, NoneLeft, FirstIsLonger, KeepsLines, LosesPart}
+use Rattle.sedspace.specs.Stream.{Stream, left, lines_left, TakesLine, GivesLine, NoLineLeft, FirstIsLonger, KeepsLines, LosesPart}
 use Rattle.sedspace.specs.Lines.{TakesAtMost}
 use Rattle.sedengine.specs.Limits.{Limits}
 use Rattle.sedengine.specs.State.{Task, begin, do_at, State, Setting}
-use Rattle.sedengine.specs.Move.{move, start, quietly, then_do, none_left}
+use Rattle.sedengine.specs.Move.{next_move, start, quietly, then_do, none_left}
 use Rattle.sedengine.specs.Ends.{WithinLimits, IsCause, line_at, takes_turn, reads, named_sink}
 use Rattle.sedengine.specs.Held.{SameLengths}
 use Rattle.sedengine.specs.Meters.{SinkView}
-use Rattle.sedengine.specs.Run.{RunState, at_lines, setting, lost}
+use Rattle.sedengine.specs.Run.{RunState, at_lines, run_setting, lost}
 use Rattle.sedengine.specs.Steps.{Ran, Moves, TakesLines, Halted, Steps}
 use Rattle.sedengine.specs.Inside.{run_of, tasks_of, entries_of, IsConsistent, IsEmptied}
 use Rattle.sedengine.specs.declared.machine.Machine.TheInside.{Inside}
@@ -34,10 +34,10 @@ pub fits_tasks : (l : Limits) (s : State) (ts : List Task) → WithinLimits l s 
 fits_tasks l s ts f = record { pattern = f.pattern; hold = f.hold; queue = f.queue; turns = f.turns }
 
 seen_steps : {R : Type 0} (remaining : R → Option (List ℕ)) (old new : Stream R) (a : Inside) (e e' : RunState) (ts : List Task) (files : ℕ → List ℕ) (ls : List (List ℕ)) (sinks sinks' : SinkView) (r : Result Unit Ended) →
-    run_of a ≡ e → e.state.tasks ≡ ts → (tasks_of a.place ≡ ts → Steps remaining old new ls a.limits (setting (run_of a) files) (run_of a) e' sinks sinks' r) →
-    Steps remaining old new ls e.limits (setting e files) e e' sinks sinks' r
+    run_of a ≡ e → e.state.tasks ≡ ts → (tasks_of a.place ≡ ts → Steps remaining old new ls a.limits (run_setting (run_of a) files) (run_of a) e' sinks sinks' r) →
+    Steps remaining old new ls e.limits (run_setting e files) e e' sinks sinks' r
 seen_steps {R} remaining old new a e e' ts files ls sinks sinks' r seen t h =
-    let Q : RunState → Type 0 = λ e. e.state.tasks ≡ ts → Steps remaining old new ls e.limits (setting e files) e e' sinks sinks' r in subst Q seen h t
+    let Q : RunState → Type 0 = λ e. e.state.tasks ≡ ts → Steps remaining old new ls e.limits (run_setting e files) e e' sinks sinks' r in subst Q seen h t
 
 -- The end comes at once, and no line was taken.
 pub halts_here : {R : Type 0} (remaining : R → Option (List ℕ)) (old new : Stream R) (l : Limits) (g : Setting) (s : State) (e : RunState) (sinks : SinkView) (end : Ended) → WithinLimits l s → named_sink end ≡ None → IsCause l g s end → SameLengths s e.state →
@@ -74,33 +74,33 @@ module _ {R : Type 0} (remaining : R → Option (List ℕ)) (old new : Stream R)
   abbrev without : Contents → Inside
   without pattern = record a { place = p.Ended; pattern = pattern }
 
-  ends : (pattern : Contents) → ls ≡ [] → pattern ≡ a.pattern → tasks_of a.place ≡ begin ∷ [] → Ran a.limits (setting (run_of a) files) (at_lines (run_of a) ls) (at_lines (run_of (without pattern)) []) sinks sinks
+  ends : (pattern : Contents) → ls ≡ [] → pattern ≡ a.pattern → tasks_of a.place ≡ begin ∷ [] → Ran a.limits (run_setting (run_of a) files) (at_lines (run_of a) ls) (at_lines (run_of (without pattern)) []) sinks sinks
   ends pattern none same t =
       let f : WithinLimits a.limits (at_lines (run_of (without a.pattern)) []) = fits_at (without a.pattern) [] i.pattern i.hold i.queue i.turns in
-      rw same (ran_quietly a.limits (setting (run_of a) files) (at_lines (run_of a) ls) (at_lines (run_of (without a.pattern)) []) sinks (fits_of a ls i) (rw none (move_at _ _ _ t)) f)
+      rw same (ran_quietly a.limits (run_setting (run_of a) files) (at_lines (run_of a) ls) (at_lines (run_of (without a.pattern)) []) sinks (fits_of a ls i) (rw none (move_at _ _ _ t)) f)
 
   takes : (line : List ℕ) (rest : List (List ℕ)) (pattern : Contents) → ls ≡ line ∷ rest → pattern.bytes ≡ line → tasks_of a.place ≡ begin ∷ [] →
-      move (setting (run_of a) files) (at_lines (run_of a) ls) ≡ quietly (at_lines (run_of (with pattern)) rest)
+      next_move (run_setting (run_of a) files) (at_lines (run_of a) ls) ≡ quietly (at_lines (run_of (with pattern)) rest)
   takes line rest pattern is h t = rw (is, h) (move_at _ _ _ t)
 
   -- The end is asked for, and it has come.
   pub begins_last : ls ≡ [] → KeepsLines (lines_left remaining old) (lines_left remaining new) → Keeps (left remaining old) (left remaining new) →
-      Steps remaining old new ls e.limits (setting e files) e (run_of (record a { place = p.Ended })) sinks sinks (Ok tt)
+      Steps remaining old new ls e.limits (run_setting e files) e (run_of (record a { place = p.Ended })) sinks sinks (Ok tt)
   begins_last none kept bytes =
       let T : List (List ℕ) → Type 0 = λ ms. TakesLines remaining old new ls ms in
       seen_steps remaining old new a e (run_of (without a.pattern)) (begin ∷ []) files ls sinks sinks (Ok tt) seen at
       (λ t. ([], subst T none (lines_stay remaining old new ls known kept bytes), ends a.pattern none refl t))
 
   pub begins_none : (n : ℕ) (pattern : Contents) → pattern ≡ a.pattern →
-      TakesAtMost (remaining old.source) (remaining new.source) n → NoneLeft (lines_left remaining old) → NoneLeft (lines_left remaining new) →
-      Steps remaining old new ls e.limits (setting e files) e (run_of (record a { place = p.Ended; pattern = pattern })) sinks sinks (Ok tt)
+      TakesAtMost (remaining old.source) (remaining new.source) n → NoLineLeft (lines_left remaining old) → NoLineLeft (lines_left remaining new) →
+      Steps remaining old new ls e.limits (run_setting e files) e (run_of (record a { place = p.Ended; pattern = pattern })) sinks sinks (Ok tt)
   begins_none n pattern same taken none none' =
       let r = lines_end remaining old new n ls known taken none none' in
       seen_steps remaining old new a e (run_of (without pattern)) (begin ∷ []) files ls sinks sinks (Ok tt) seen at (λ t. ([], r.1, ends pattern r.0 same t))
 
   pub begins_takes : (pattern : Contents) (line : List ℕ) → (a.turns ≡ a.limits.turns → ⊥) → pattern ≡ record a.pattern { bytes = a.pattern.bytes ++ line } → length pattern.bytes ≤ pattern.limit →
       TakesLine (left remaining old) (left remaining new) line → GivesLine (lines_left remaining old) (lines_left remaining new) line →
-      Steps remaining old new ls e.limits (setting e files) e (run_of (record a { place = p.Do 0; pattern = pattern; number = a.number + 1; replaced = false; turns = a.turns + 1 })) sinks sinks (Ok tt)
+      Steps remaining old new ls e.limits (run_setting e files) e (run_of (record a { place = p.Do 0; pattern = pattern; number = a.number + 1; replaced = false; turns = a.turns + 1 })) sinks sinks (Ok tt)
   begins_takes pattern line turns is within bytes given =
       let r = line_taken remaining old new ls line known bytes given in
       let most = i.turns in
@@ -112,7 +112,7 @@ module _ {R : Type 0} (remaining : R → Option (List ℕ)) (old new : Stream R)
       let bytes : pattern.bytes ≡ line = ap (λ (c : Contents). c.bytes) is ∙ ap (λ bs. bs ++ line) none in (
         r.0,
         r.2,
-        ran_quietly a.limits (setting (run_of a) files) (at_lines (run_of a) ls) (at_lines (run_of (with pattern)) r.0) sinks (fits_of a ls i) (takes line r.0 pattern r.1 bytes t)
+        ran_quietly a.limits (run_setting (run_of a) files) (at_lines (run_of a) ls) (at_lines (run_of (with pattern)) r.0) sinks (fits_of a ls i) (takes line r.0 pattern r.1 bytes t)
             (fits_at (with pattern) r.0 (omega arith) i.hold i.queue (omega arith)),
       ))
 
@@ -122,7 +122,7 @@ module _ {R : Type 0} (remaining : R → Option (List ℕ)) (old new : Stream R)
 
   pub begins_stops : (pattern : Contents) → pattern ≡ a.pattern → (a.turns ≡ a.limits.turns → ⊥) → FirstIsLonger (lines_left remaining old) (a.pattern.limit - length a.pattern.bytes) →
       LosesPart (left remaining old) (left remaining new) a.pattern.limit →
-      Steps remaining old new ls e.limits (setting e files) e (run_of (record a { pattern = pattern })) sinks sinks (Err (PatternFull (a.number + 1)))
+      Steps remaining old new ls e.limits (run_setting e files) e (run_of (record a { pattern = pattern })) sinks sinks (Err (PatternFull (a.number + 1)))
   begins_stops pattern same turns long gone =
       let r = longer ls (subst (λ (o : Option (List (List ℕ))). FirstIsLonger o (a.pattern.limit - length a.pattern.bytes)) known long) in
       let limit = i.pattern_limit in
@@ -131,41 +131,41 @@ module _ {R : Type 0} (remaining : R → Option (List ℕ)) (old new : Stream R)
       seen_steps remaining old new a e (run_of (record a { pattern = pattern })) (begin ∷ []) files ls sinks sinks (Err (PatternFull (a.number + 1))) seen at
       (λ t.
       let none : length a.pattern.bytes ≡ 0 = ap length (emptied_at a.place a.pattern.bytes t i.empty) in
-      halts_here remaining old new a.limits (setting (run_of a) files) (at_lines (run_of a) ls) (run_of (record a { pattern = pattern })) sinks (PatternFull (a.number + 1)) (fits_of a ls i) refl
+      halts_here remaining old new a.limits (run_setting (run_of a) files) (at_lines (run_of a) ls) (run_of (record a { pattern = pattern })) sinks (PatternFull (a.number + 1)) (fits_of a ls i) refl
       (ap (line_at (at_lines (run_of a) ls)) (sym t), (λ _. omega arith), (record { next = at_lines (run_of (with made)) r.1; writes = [] }, takes r.0 r.1 made r.2 refl t, omega (arith, r.3)))
       (record { pattern = ap (λ (c : Contents). length c.bytes) same; hold = refl; queue = λ _. refl; entries = omega arith }) (rw i.pattern_limit at gone))
 
   -- A line is left, and no turn.
   pub begins_spent : not (none_left ls) ≡ true → a.turns ≡ a.limits.turns → Keeps (left remaining old) (left remaining new) →
-      Steps remaining old new ls e.limits (setting e files) e e sinks sinks (Err TurnsSpent)
+      Steps remaining old new ls e.limits (run_setting e files) e e sinks sinks (Err TurnsSpent)
   begins_spent some spent kept =
-      let Q : RunState → Type 0 = λ e. e.state.tasks ≡ begin ∷ [] → Steps remaining old new ls e.limits (setting e files) e e sinks sinks (Err TurnsSpent) in
-      subst Q seen (λ t. halts_here remaining old new a.limits (setting (run_of a) files) (at_lines (run_of a) ls) (run_of a) sinks TurnsSpent (fits_of a ls i) refl
-      (spent, ap (takes_turn (setting (run_of a) files) (at_lines (run_of a) ls)) t ∙ some) (record { pattern = refl; hold = refl; queue = λ _. refl; entries = omega arith }) (LosesPart-none _ _ _ (TakesAtMost-kept _ _ kept))) at
+      let Q : RunState → Type 0 = λ e. e.state.tasks ≡ begin ∷ [] → Steps remaining old new ls e.limits (run_setting e files) e e sinks sinks (Err TurnsSpent) in
+      subst Q seen (λ t. halts_here remaining old new a.limits (run_setting (run_of a) files) (at_lines (run_of a) ls) (run_of a) sinks TurnsSpent (fits_of a ls i) refl
+      (spent, ap (takes_turn (run_setting (run_of a) files) (at_lines (run_of a) ls)) t ∙ some) (record { pattern = refl; hold = refl; queue = λ _. refl; entries = omega arith }) (LosesPart-none _ _ _ (TakesAtMost-kept _ _ kept))) at
 
   -- The source failed.
   pub begins_broken : (pattern : Contents) → pattern ≡ a.pattern → LosesPart (left remaining old) (left remaining new) a.limits.space →
-      Steps remaining old new ls e.limits (setting e files) e (run_of (record a { pattern = pattern })) sinks sinks (Err InputBroken)
+      Steps remaining old new ls e.limits (run_setting e files) e (run_of (record a { pattern = pattern })) sinks sinks (Err InputBroken)
   begins_broken pattern same gone =
       seen_steps remaining old new a e (run_of (record a { pattern = pattern })) (begin ∷ []) files ls sinks sinks (Err InputBroken) seen at
-      (λ t. halts_here remaining old new a.limits (setting (run_of a) files) (at_lines (run_of a) ls) (run_of (record a { pattern = pattern })) sinks InputBroken (fits_of a ls i) refl
-      (ap (reads (setting (run_of a) files)) t) (record { pattern = ap (λ (c : Contents). length c.bytes) same; hold = refl; queue = λ _. refl; entries = omega arith }) gone)
+      (λ t. halts_here remaining old new a.limits (run_setting (run_of a) files) (at_lines (run_of a) ls) (run_of (record a { pattern = pattern })) sinks InputBroken (fits_of a ls i) refl
+      (ap (reads (run_setting (run_of a) files)) t) (record { pattern = ap (λ (c : Contents). length c.bytes) same; hold = refl; queue = λ _. refl; entries = omega arith }) gone)
 
-  pub begins_failed : Keeps (left remaining old) (left remaining new) → Steps remaining old new ls e.limits (setting e files) e e sinks sinks (Err InputBroken)
+  pub begins_failed : Keeps (left remaining old) (left remaining new) → Steps remaining old new ls e.limits (run_setting e files) e e sinks sinks (Err InputBroken)
   begins_failed kept =
-      let Q : RunState → Type 0 = λ e. e.state.tasks ≡ begin ∷ [] → Steps remaining old new ls e.limits (setting e files) e e sinks sinks (Err InputBroken) in
-      subst Q seen (λ t. halts_here remaining old new a.limits (setting (run_of a) files) (at_lines (run_of a) ls) (run_of a) sinks InputBroken (fits_of a ls i) refl
-      (ap (reads (setting (run_of a) files)) t) (record { pattern = refl; hold = refl; queue = λ _. refl; entries = omega arith }) (LosesPart-none _ _ _ (TakesAtMost-kept _ _ kept))) at
+      let Q : RunState → Type 0 = λ e. e.state.tasks ≡ begin ∷ [] → Steps remaining old new ls e.limits (run_setting e files) e e sinks sinks (Err InputBroken) in
+      subst Q seen (λ t. halts_here remaining old new a.limits (run_setting (run_of a) files) (at_lines (run_of a) ls) (run_of a) sinks InputBroken (fits_of a ls i) refl
+      (ap (reads (run_setting (run_of a) files)) t) (record { pattern = refl; hold = refl; queue = λ _. refl; entries = omega arith }) (LosesPart-none _ _ _ (TakesAtMost-kept _ _ kept))) at
 
 -- An engine with the fields a that stands before command k, or before the end of the script.
 module _ (a : Inside) (e : RunState) (seen : run_of a ≡ e) (i : IsConsistent a) (files : ℕ → List ℕ) (ls : List (List ℕ)) (k : ℕ) (at : e.state.tasks ≡ do_at k ∷ []) where
   -- a command with no turn left
   pub reach_spent : (sinks : SinkView) → k < length a.script.commands → a.turns ≡ a.limits.turns →
-      Moves e.limits (setting e files) (at_lines e ls) (at_lines e ls) sinks sinks (Err TurnsSpent)
+      Moves e.limits (run_setting e files) (at_lines e ls) (at_lines e ls) sinks sinks (Err TurnsSpent)
   reach_spent sinks there spent =
-      let Q : RunState → Type 0 = λ e. e.state.tasks ≡ do_at k ∷ [] → Moves e.limits (setting e files) (at_lines e ls) (at_lines e ls) sinks sinks (Err TurnsSpent) in
-      subst Q seen (λ t. stopped_here a.limits (setting (run_of a) files) (at_lines (run_of a) ls) (at_lines (run_of a) ls) sinks TurnsSpent (fits_of a ls i) refl
-      (spent, ap (takes_turn (setting (run_of a) files) (at_lines (run_of a) ls)) t ∙ is_there a.script.commands k there) (record { pattern = refl; hold = refl; queue = λ _. refl; entries = omega arith }) refl) at
+      let Q : RunState → Type 0 = λ e. e.state.tasks ≡ do_at k ∷ [] → Moves e.limits (run_setting e files) (at_lines e ls) (at_lines e ls) sinks sinks (Err TurnsSpent) in
+      subst Q seen (λ t. stopped_here a.limits (run_setting (run_of a) files) (at_lines (run_of a) ls) (at_lines (run_of a) ls) sinks TurnsSpent (fits_of a ls i) refl
+      (spent, ap (takes_turn (run_setting (run_of a) files) (at_lines (run_of a) ls)) t ∙ is_there a.script.commands k there) (record { pattern = refl; hold = refl; queue = λ _. refl; entries = omega arith }) refl) at
     where
       is_there : {A : Type 0} (xs : List A) (k : ℕ) → k < length xs → is_some (slice_get xs k) ≡ true
       is_there [] k h = absurd (omega arith)
@@ -174,10 +174,10 @@ module _ (a : Inside) (e : RunState) (seen : run_of a ≡ e) (i : IsConsistent a
 
 -- Nothing is moved where the run has ended.
 pub ends_here : {R : Type 0} (remaining : R → Option (List ℕ)) (old : Stream R) (a : Inside) (e : RunState) (seen : run_of a ≡ e) (i : IsConsistent a) (ls : List (List ℕ)) (files : ℕ → List ℕ) (sinks : SinkView) → a.place ≡ p.Ended →
-    Steps remaining old old ls e.limits (setting e files) e e sinks sinks (Err Done)
+    Steps remaining old old ls e.limits (run_setting e files) e e sinks sinks (Err Done)
 ends_here {R} remaining old a e seen i ls files sinks over =
-    let Q : RunState → Type 0 = λ e. Steps remaining old old ls e.limits (setting e files) e e sinks sinks (Err Done) in
-    subst Q seen (halts_here remaining old old a.limits (setting (run_of a) files) (at_lines (run_of a) ls) (run_of a) sinks Done (fits_of a ls i) refl (ap tasks_of over) (record { pattern = refl; hold = refl; queue = λ _. refl; entries = omega arith }) (LosesPart-none _ _ _ (TakesAtMost-none _)))
+    let Q : RunState → Type 0 = λ e. Steps remaining old old ls e.limits (run_setting e files) e e sinks sinks (Err Done) in
+    subst Q seen (halts_here remaining old old a.limits (run_setting (run_of a) files) (at_lines (run_of a) ls) (run_of a) sinks Done (fits_of a ls i) refl (ap tasks_of over) (record { pattern = refl; hold = refl; queue = λ _. refl; entries = omega arith }) (LosesPart-none _ _ _ (TakesAtMost-none _)))
 
 -- What takes no lines keeps those that are left.
 pub steps_by_moves : {R : Type 0} (remaining : R → Option (List ℕ)) (old : Stream R) (ls : List (List ℕ)) (l : Limits) (g : Setting) (e e' : RunState) (sinks sinks' : SinkView) (r : Result Unit Ended) → lines_left remaining old ≡ Some ls →

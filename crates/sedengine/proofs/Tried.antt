@@ -3,19 +3,19 @@ use Rattle.std.proofs.Common.{◌≡◌, ℕ, ◌<◌, Bool, List, length, get_o
 use Rattle.std.specs.Prelude.{option_and_then}
 use Rattle.std.specs.Option.{option_or}
 use Rattle.std.proofs.lemmas.Option.{slice_get_read}
-use Rattle.sedre.specs.Written.{Written}
+use Rattle.sedre.specs.Written.{WrittenExpression}
 use Rattle.sedscript.specs.Ranges.{AddressWithin, IsOneOf}
 use Rattle.sedscript.specs.declared.types.Address.TheVariants.{Match}
 use Rattle.sedscript.specs.declared.substitution.Substitution.{Substitution}
 use Rattle.sedspace.specs.declared.errors.Full.{Full}
-use Rattle.sedengine.specs.Choose.{current}
+use Rattle.sedengine.specs.Choose.{current_in}
 use Rattle.sedengine.specs.Inside.{run_of, IsConsistent}
 use Rattle.std.specs.Prelude.{slice_get, slice_set}
 use Rattle.std.proofs.lemmas.List.{set-get_or}
-use Rattle.sedengine.specs.SubstituteParts.{Replaces}
+use Rattle.sedengine.specs.SubstituteParts.{ReplacesThese}
 use Rattle.sedengine.specs.Run.{RunState}
 use Rattle.sedengine.specs.ScriptSetting.{finds_in, search_for, search_in}
-use Rattle.sedengine.specs.Select.{Answer, answer, stands_for}
+use Rattle.sedengine.specs.Select.{AddressAnswer, answer, stands_for}
 use Rattle.sedengine.specs.Substitute.{to_replace, occurrences}
 use Rattle.sedengine.specs.declared.machine.Machine.TheInside.{Inside}
 
@@ -39,30 +39,30 @@ tried_within a r named k seen i h is =
     within_by (length a.script.expressions) named a.used k (subst P (sym seen) h) i.used is
 
 -- what it answers
-pub answered : (a : Inside) (r : RunState) (named : Option ℕ) (k : ℕ) (ms : List Written) (b last : Bool) → run_of a ≡ r → ms ≡ a.script.expressions → Some k ≡ option_or named a.used → b ≡ finds_in ms k a.pattern.bytes →
-    answer (current r last) (Match named) ≡ Some (record { yes = b; used = Some k })
+pub answered : (a : Inside) (r : RunState) (named : Option ℕ) (k : ℕ) (ms : List WrittenExpression) (b last : Bool) → run_of a ≡ r → ms ≡ a.script.expressions → Some k ≡ option_or named a.used → b ≡ finds_in ms k a.pattern.bytes →
+    answer (current_in r last) (Match named) ≡ Some (record { yes = b; used = Some k })
 answered a r named k ms b last seen same is found =
-    let Q : RunState → Type 0 = λ r. answer (current r last) (Match named) ≡ Some (record { yes = b; used = Some k }) in
-    let f : ℕ → Option Answer = λ j. Some (record { yes = finds_in a.script.expressions j a.pattern.bytes; used = Some j }) in
+    let Q : RunState → Type 0 = λ r. answer (current_in r last) (Match named) ≡ Some (record { yes = b; used = Some k }) in
+    let f : ℕ → Option AddressAnswer = λ j. Some (record { yes = finds_in a.script.expressions j a.pattern.bytes; used = Some j }) in
     let stands : stands_for named a.used ≡ Some k = sym (is ∙ standing named a.used) in
-    let yes : finds_in a.script.expressions k a.pattern.bytes ≡ b = sym (found ∙ ap (λ (es : List Written). finds_in es k a.pattern.bytes) same) in
-    let put : Bool → Option Answer = λ x. Some (record { yes = x; used = Some k }) in
+    let yes : finds_in a.script.expressions k a.pattern.bytes ≡ b = sym (found ∙ ap (λ (es : List WrittenExpression). finds_in es k a.pattern.bytes) same) in
+    let put : Bool → Option AddressAnswer = λ x. Some (record { yes = x; used = Some k }) in
     subst Q seen (ap (λ (o : Option ℕ). option_and_then f o) stands ∙ ap put yes)
 
 -- what is replaced with the expression of a number
-pub replaces_by : (ms : List Written) (e : ℕ) (m : Written) (w : List ℕ) (t : Substitution) (limit : ℕ) (made : List ℕ) (r : Result Bool Full) → e < length ms → m ≡ get_or ms e m →
-    Replaces w t.replacement (to_replace t.number t.global (occurrences (search_for (Some m) w) (length w))) limit made r →
-    Replaces w t.replacement (to_replace t.number t.global (occurrences (search_in ms e w) (length w))) limit made r
+pub replaces_by : (ms : List WrittenExpression) (e : ℕ) (m : WrittenExpression) (w : List ℕ) (t : Substitution) (limit : ℕ) (made : List ℕ) (r : Result Bool Full) → e < length ms → m ≡ get_or ms e m →
+    ReplacesThese w t.replacement (to_replace t.number t.global (occurrences (search_for (Some m) w) (length w))) limit made r →
+    ReplacesThese w t.replacement (to_replace t.number t.global (occurrences (search_in ms e w) (length w))) limit made r
 replaces_by ms e m w t limit made r inside is h =
-    let P : Option Written → Type 0 = λ o. Replaces w t.replacement (to_replace t.number t.global (occurrences (search_for o w) (length w))) limit made r in
+    let P : Option WrittenExpression → Type 0 = λ o. ReplacesThese w t.replacement (to_replace t.number t.global (occurrences (search_for o w) (length w))) limit made r in
     subst P (sym (slice_get_read ms (length ms) e m refl inside is)) h
 
 -- the matcher of a number is the one that stands there
-pub matcher_at : (ms : List Written) (e : ℕ) (m : Written) → e < length ms → m ≡ get_or ms e m → slice_get ms e ≡ Some m
+pub matcher_at : (ms : List WrittenExpression) (e : ℕ) (m : WrittenExpression) → e < length ms → m ≡ get_or ms e m → slice_get ms e ≡ Some m
 matcher_at ms e m inside is = slice_get_read ms (length ms) e m refl inside is
 
 -- a matcher that is as it was leaves all as they were
-pub matchers_kept : (ms : List Written) (e : ℕ) (m m' : Written) → m ≡ get_or ms e m → m' ≡ m → slice_set ms e m' ≡ ms
+pub matchers_kept : (ms : List WrittenExpression) (e : ℕ) (m m' : WrittenExpression) → m ≡ get_or ms e m → m' ≡ m → slice_set ms e m' ≡ ms
 matchers_kept ms e m m' is same =
-    let P : Written → Type 0 = λ x. slice_set ms e x ≡ ms in
+    let P : WrittenExpression → Type 0 = λ x. slice_set ms e x ≡ ms in
     subst P (sym (same ∙ is)) (set-get_or ms e m)

@@ -45,7 +45,7 @@ pub record DeliversAlone {O : Type 0} (tally : O → SinkView) (count : O → �
   pub input : result ≡ Err InputBroken → ⊥
 
 -- What a call that may read does to the lines. What it says of faults holds for lines that answered no fault before.
-pub record Reads {R T : Type 0} (remaining : R → Option (List ℕ)) (failures : R → ℕ) (reference : R → List GName)
+pub record ReadsLines {R T : Type 0} (remaining : R → Option (List ℕ)) (failures : R → ℕ) (reference : R → List GName)
     (old new : Stream R) (result : Result T Ended) : Type 0 where
   pub same_look : new.look ≡ old.look
   pub same_reference : reference new.source ≡ reference old.source
@@ -69,5 +69,5 @@ pub record NamesNone {T : Type 0} (result : Result T Ended) : Type 0 where
 -- What a call does that may read, and writes nothing.
 pub record ReadsAlone {R T : Type 0} (remaining : R → Option (List ℕ)) (failures : R → ℕ) (reference : R → List GName)
     (old new : Stream R) (result : Result T Ended) : Type 0 where
-  pub input : Reads remaining failures reference old new result
+  pub input : ReadsLines remaining failures reference old new result
   pub output : NoSinkFailed result

@@ -4,7 +4,7 @@ use Rattle.std.specs.Prelude.{◌≡◌, ℕ, ◌+◌, Bool, true, false, not, O
 use Rattle.sedscript.specs.declared.types.Address.{Address}
 use Rattle.sedscript.specs.declared.types.Address.TheVariants.{Line, Last, Match}
 use Rattle.sedscript.specs.declared.types.Command.{Command}
-use Rattle.sedengine.specs.Select.{Current, Answer, Selection, answer, ends_at_once, selects}
+use Rattle.sedengine.specs.Select.{Current, AddressAnswer, Selection, answer, ends_at_once, selects}
 use Rattle.sedengine.specs.State.{do_at}
 use Rattle.sedengine.specs.Ends.{names_last}
 use Rattle.sedengine.specs.Run.{RunState}
@@ -54,13 +54,13 @@ yes_by_number (Some (Line n)) None negate number = Some (if negate then not (nat
 yes_by_number other second negate number = None
 
 -- where no address decides, the answer is yes
-abbrev pub decides : Current → Option Address → Option Answer
+abbrev pub decides : Current → Option Address → Option AddressAnswer
 decides c None = Some (record { yes = true; used = c.used })
 decides c (Some a) = answer c a
 
 -- what addresses are judged by, in this state of the engine
-abbrev pub current : RunState → Bool → Current
-current e last = record {
+abbrev pub current_in : RunState → Bool → Current
+current_in e last = record {
   number = e.state.number;
   last = last;
   pattern = e.state.pattern;
@@ -73,7 +73,7 @@ abbrev pub with_used : RunState → Option ℕ → RunState
 with_used e used = record e { state = record e.state { used = used } }
 
 -- What a call that judges one address answers, used being the expression last used after it.
-abbrev pub Answers : Current → Option Answer → Option ℕ → Bool → Result Bool Ended → Type 0
+abbrev pub Answers : Current → Option AddressAnswer → Option ℕ → Bool → Result Bool Ended → Type 0
 Answers c a used asks (Ok matched) = a ≡ Some (record { yes = matched; used = used })
 Answers c a used asks (Err (NoPrevious n)) = (a ≡ None) × (n ≡ c.number)
 Answers c a used asks (Err InputBroken) = asks ≡ true
@@ -102,9 +102,9 @@ reached_with e k ranges used = record e {
 }
 
 -- how a call that judges the addresses of command k leaves the engine
-abbrev pub TakesTurn : RunState → RunState → ℕ → Result Chosen Ended → Type 0
-TakesTurn e e' k (Ok choice) = e' ≡ reached_with e k (slice_set e.state.ranges k choice.active) e'.state.used
-TakesTurn e e' k (Err end) = e' ≡ e
+abbrev pub JudgesAddresses : RunState → RunState → ℕ → Result Chosen Ended → Type 0
+JudgesAddresses e e' k (Ok choice) = e' ≡ reached_with e k (slice_set e.state.ranges k choice.active) e'.state.used
+JudgesAddresses e e' k (Err end) = e' ≡ e
 
 -- what a call that asks for the last line answers
 abbrev pub TellsLine : Bool → Result Bool Ended → Type 0

@@ -6,7 +6,7 @@ use Rattle.sedscript.specs.declared.types.Command.{Command}
 use Rattle.sedscript.specs.declared.types.Action.{Action}
 use Rattle.sedscript.specs.declared.types.Action.TheVariants.{NextLine}
 use Rattle.sedengine.specs.State.{Task, begin, rebegin, do_at, copy, fetch, join, State, Move, Setting}
-use Rattle.sedengine.specs.Move.{move, after, written, none_left}
+use Rattle.sedengine.specs.Move.{next_move, after, written, none_left}
 use Rattle.sedengine.specs.declared.limits.Limits.{Limits}
 use Rattle.sedengine.specs.declared.ends.Ended.{Ended}
 use Rattle.sedengine.specs.declared.ends.Ended.TheVariants.{Done, PatternFull, HoldFull, QueueFull, TurnsSpent, NoPrevious, InputBroken, OutputBroken, OutputFull}
@@ -86,11 +86,11 @@ named_sink other = None
 abbrev pub IsCause : Limits → Setting → State → Ended → Type 0
 IsCause l g s Done = s.tasks ≡ []
 IsCause l g s (PatternFull n) =
-    (n ≡ line_at s s.tasks) × HasTurn l g s × Leads (move g s) (λ m. l.space < length m.next.pattern)
-IsCause l g s (HoldFull n) = (n ≡ s.number) × HasTurn l g s × Leads (move g s) (λ m. l.space < length m.next.hold)
-IsCause l g s (QueueFull n) = (n ≡ s.number) × HasTurn l g s × Leads (move g s) (λ m. l.queue < length m.next.queue)
+    (n ≡ line_at s s.tasks) × HasTurn l g s × Leads (next_move g s) (λ m. l.space < length m.next.pattern)
+IsCause l g s (HoldFull n) = (n ≡ s.number) × HasTurn l g s × Leads (next_move g s) (λ m. l.space < length m.next.hold)
+IsCause l g s (QueueFull n) = (n ≡ s.number) × HasTurn l g s × Leads (next_move g s) (λ m. l.queue < length m.next.queue)
 IsCause l g s TurnsSpent = (s.turns ≡ l.turns) × (takes_turn g s s.tasks ≡ true)
-IsCause l g s (NoPrevious n) = (n ≡ s.number) × HasTurn l g s × (reaches s.tasks ≡ true) × (move g s ≡ None)
+IsCause l g s (NoPrevious n) = (n ≡ s.number) × HasTurn l g s × (reaches s.tasks ≡ true) × (next_move g s ≡ None)
 IsCause l g s InputBroken = reads g s.tasks ≡ true
 IsCause l g s other = ⊥
 

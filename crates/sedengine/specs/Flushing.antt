@@ -9,9 +9,9 @@ use Rattle.sedengine.specs.declared.ends.Ended.{Ended}
 
 -- What a call that writes the queue, or a file of it, answers from the state s: Ok where moves led to the state `there`, and
 -- else the end, at which no more is told than the state s has.
-abbrev pub Flushes : Limits → Setting → State → State → SinkView → SinkView → Result Unit Ended → Type 0
-Flushes l g s there old new (Ok u) = Ran l g s there old new
-Flushes l g s there old new (Err end) = Stopped l g s s old new end
+abbrev pub FlushesQueue : Limits → Setting → State → State → SinkView → SinkView → Result Unit Ended → Type 0
+FlushesQueue l g s there old new (Ok u) = Ran l g s there old new
+FlushesQueue l g s there old new (Err end) = Stopped l g s s old new end
 
 -- What a call that writes one entry of the queue, or a file, answers from the state s: Ok where moves led to the state
 -- `there`, and else the end, at which the state `now` is told.

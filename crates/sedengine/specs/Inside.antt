@@ -68,14 +68,14 @@ queues (Append k) = true
 queues (ReadFile k) = true
 queues other = false
 
-abbrev pub Queues : Option Command → Type 0
-Queues None = ⊥
-Queues (Some c) = queues c.action ≡ true
+abbrev pub CommandQueues : Option Command → Type 0
+CommandQueues None = ⊥
+CommandQueues (Some c) = queues c.action ≡ true
 
 -- each of these numbers is one of a command that puts an entry into the queue
 abbrev pub AllQueue : Program → List ℕ → Type 0
 AllQueue p [] = Unit {0}
-AllQueue p (i ∷ is) = Queues (slice_get p.commands i) × AllQueue p is
+AllQueue p (i ∷ is) = CommandQueues (slice_get p.commands i) × AllQueue p is
 
 -- whether an action puts something into the hold space
 abbrev pub holds : Action → Bool
@@ -84,13 +84,13 @@ holds HoldMore = true
 holds Exchange = true
 holds other = false
 
-abbrev pub Holds : Option Command → Type 0
-Holds None = ⊥
-Holds (Some c) = holds c.action ≡ true
+abbrev pub CommandHolds : Option Command → Type 0
+CommandHolds None = ⊥
+CommandHolds (Some c) = holds c.action ≡ true
 
 -- One of the commands of a script puts something into the hold space, which is empty else.
 abbrev pub FillsHold : Program → Type 0
-FillsHold p = (i : ℕ) × Holds (slice_get p.commands i)
+FillsHold p = (i : ℕ) × CommandHolds (slice_get p.commands i)
 
 pub record IsConsistent (a : Inside) : Type 0 where
   pub number : a.number ≤ a.turns

@@ -247,8 +247,8 @@ first_task g s (fetch ∷ rest) = fetches s rest s.lines
 first_task g s (join ∷ rest) = joins s rest s.lines
 
 -- A state that has ended has no move. One that has tasks and no move needs an expression that isn't there.
-unfoldable pub move : Setting → State → Option Move
-move g s = first_task g s s.tasks
+unfoldable pub next_move : Setting → State → Option Move
+next_move g s = first_task g s s.tasks
 
 -- a state that has no move stays, and writes nothing
 abbrev pub next_or_stay : State → Option Move → State
@@ -262,12 +262,12 @@ writes_of (Some m) = m.writes
 -- the state after t moves
 unfoldable pub after : Setting → State → ℕ → State
 after g s zero = s
-after g s (suc t) = next_or_stay (after g s t) (move g (after g s t))
+after g s (suc t) = next_or_stay (after g s t) (next_move g (after g s t))
 
 -- what the first t moves write, for all sinks jointly
 unfoldable pub written : Setting → State → ℕ → List (ℕ × ℕ)
 written g s zero = []
-written g s (suc t) = written g s t ++ writes_of (move g (after g s t))
+written g s (suc t) = written g s t ++ writes_of (next_move g (after g s t))
 
 -- where a run starts
 abbrev pub start : List Command → List (List ℕ) → State

@@ -12,7 +12,7 @@ use Rattle.sedscript.specs.declared.types.Action.TheVariants.{Block, Branch, Sub
 use Rattle.sedscript.specs.declared.substitution.Substitution.{Substitution}
 use Rattle.sedscript.specs.Ranges.{IsOneOf}
 use Rattle.sedscript.specs.Program.{Program}
-use Rattle.sedre.specs.Written.{Written}
+use Rattle.sedre.specs.Written.{WrittenExpression}
 use Rattle.sedspace.specs.Lines.{lines, AreWholeLines, HasNoNewline}
 use Rattle.sedengine.specs.Limits.{Limits}
 use Rattle.sedengine.specs.State.{begin, do_at, State, Setting}
@@ -249,7 +249,7 @@ line_due g c k line rest s = record s {
 }
 
 -- Moves were made, if any, which led to this state; cycles may have started meanwhile.
-pub record Passed (l : Limits) (g : Setting) (s now : State) (old new : SinkView) : Type 0 where
+pub record MovesLedTo (l : Limits) (g : Setting) (s now : State) (old new : SinkView) : Type 0 where
   pub t : ℕ
   pub is : after g s t ≡ now
   pub within : Within l g s t
@@ -277,7 +277,7 @@ pub record HaltedPassing {R : Type 0} (remaining : R → Option (List ℕ)) (old
 abbrev pub StepsPassing : {R : Type 0} → (R → Option (List ℕ)) → Stream R → Stream R → List (List ℕ) → Limits → Setting →
     State → RunState → SinkView → SinkView → Result Unit Ended → Type 0
 StepsPassing remaining old new ls l g s e' sinks sinks' (Ok u) =
-    (rest : List (List ℕ)) × TakesLines remaining old new ls rest × Passed l g s (at_lines e' rest) sinks sinks'
+    (rest : List (List ℕ)) × TakesLines remaining old new ls rest × MovesLedTo l g s (at_lines e' rest) sinks sinks'
 StepsPassing remaining old new ls l g s e' sinks sinks' (Err end) = HaltedPassing remaining old new l g s e' sinks sinks' end
 
 -- the first lines of a block, at most so many
@@ -288,7 +288,7 @@ pub record IsExtent (bytes : List ℕ) (most : ℕ) (x : Extent) : Type 0 where
   pub few : x.lines ≤ most
 
 -- no line of the text that ends before a place has a match of this expression
-abbrev pub ClearTo : List Written → ℕ → List ℕ → ℕ → Type 0
+abbrev pub ClearTo : List WrittenExpression → ℕ → List ℕ → ℕ → Type 0
 ClearTo expressions e text end =
     (before line behind : List ℕ) → text ≡ before ++ (line ++ newline ∷ behind) → length before + length line < end →
     finds_in expressions e line ≡ false

@@ -39,8 +39,8 @@ abbrev pub at_lines : RunState → List (List ℕ) → State
 at_lines e ls = record e.state { lines = ls }
 
 -- what doesn't change in its run
-abbrev pub setting : RunState → (ℕ → List ℕ) → Setting
-setting e files = setting_of e.script files
+abbrev pub run_setting : RunState → (ℕ → List ℕ) → Setting
+run_setting e files = setting_of e.script files
 
 -- how many bytes of a line that isn't given may be gone at an end
 abbrev pub lost : Limits → Ended → ℕ

@@ -17,7 +17,7 @@ pub record Current : Type 0 where
   pub used : Option ℕ  -- the expression last used
 
 -- the answer for one address, and the expression last used after it
-pub record Answer : Type 0 where
+pub record AddressAnswer : Type 0 where
   pub yes : Bool
   pub used : Option ℕ
 
@@ -36,7 +36,7 @@ stands_for (Some e) used = Some e
 stands_for None used = used
 
 -- One address. Without an expression used before an empty one there is no answer (this project's own).
-abbrev pub answer : Current → Address → Option Answer
+abbrev pub answer : Current → Address → Option AddressAnswer
 -- "a decimal number that counts input lines cumulatively across files"
 answer c (Line n) = Some (record { yes = nat_eq n c.number; used = c.used })
 -- "a '$' character that addresses the last line of input"

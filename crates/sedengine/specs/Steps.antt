@@ -11,11 +11,11 @@ use Rattle.sedscript.specs.declared.types.Action.TheVariants.{Append, AppendHold
 use Rattle.sedengine.specs.Limits.{Limits}
 use Rattle.sedengine.specs.State.{Task, do_at, State, Move, Setting}
 use Rattle.sedengine.specs.Meters.{Sent, SinkView}
-use Rattle.sedengine.specs.Calls.{Delivers, DeliversAlone, Reads}
-use Rattle.sedengine.specs.Move.{acts, move, after, written}
+use Rattle.sedengine.specs.Calls.{Delivers, DeliversAlone, ReadsLines}
+use Rattle.sedengine.specs.Move.{acts, next_move, after, written}
 use Rattle.sedengine.specs.Ends.{WithinLimits, HasTurn, Within, Cause, named_sink, reaches, reads}
 use Rattle.sedengine.specs.Held.{HoldsAt, SameLengths}
-use Rattle.sedengine.specs.Run.{RunState, InOneCycle, at_lines, lost, setting}
+use Rattle.sedengine.specs.Run.{RunState, InOneCycle, at_lines, lost, run_setting}
 use Rattle.sedengine.specs.TakenInput.{LosesPartAfter, size_of}
 use Rattle.sedengine.specs.declared.ends.Ended.{Ended}
 
@@ -44,7 +44,7 @@ Moves l g s now old new (Ok u) = Ran l g s now old new
 Moves l g s now old new (Err end) = Stopped l g s now old new end
 
 -- A state in which a command is reached with a turn left. In the state `there` the turn is taken, and the command acts.
-pub record Reaches (l : Limits) (g : Setting) (s there : State) : Type 0 where
+pub record ReachesCommand (l : Limits) (g : Setting) (s there : State) : Type 0 where
   pub fits : WithinLimits l s
   pub reaches : reaches s.tasks ≡ true
   pub turn : HasTurn l g s
@@ -54,8 +54,8 @@ pub record Reaches (l : Limits) (g : Setting) (s there : State) : Type 0 where
 
 -- What a call answers that makes the move o, and perhaps moves after it, from any state that has that move and reaches the
 -- command that acts in the state `there`.
-abbrev pub Performs : Limits → Setting → Option Move → State → State → SinkView → SinkView → Result Unit Ended → Type 0
-Performs l g o there now old new r = (s : State) → Reaches l g s there → move g s ≡ o → Moves l g s now old new r
+abbrev pub MakesMove : Limits → Setting → Option Move → State → State → SinkView → SinkView → Result Unit Ended → Type 0
+MakesMove l g o there now old new r = (s : State) → ReachesCommand l g s there → next_move g s ≡ o → Moves l g s now old new r
 
 -- a command that has this action
 abbrev pub HasAction : Option Command → Action → Type 0
@@ -63,10 +63,10 @@ HasAction None action = ⊥
 HasAction (Some c) action = c.action ≡ action
 
 -- whether a command takes a further line
-abbrev pub takes_line : Action → Bool
-takes_line NextLine = true
-takes_line AppendNext = true
-takes_line other = false
+abbrev pub takes_further_line : Action → Bool
+takes_further_line NextLine = true
+takes_further_line AppendNext = true
+takes_further_line other = false
 
 -- whether a command works on the hold space
 abbrev pub uses_hold : Action → Bool
@@ -92,7 +92,7 @@ writes_nothing other = uses_hold other
 -- What a call answers that does what such a command does where it applies, from the engine e on.
 abbrev pub ActsQuietly : RunState → RunState → Action → Result Unit Ended → Type 0
 ActsQuietly e e' action r = (files : ℕ → List ℕ) (ls : List (List ℕ)) (tells : Bool) (sinks : SinkView) →
-    Performs e.limits (setting e files) (acts (setting e files) (at_lines e ls) tells action)
+    MakesMove e.limits (run_setting e files) (acts (run_setting e files) (at_lines e ls) tells action)
     (at_lines e ls) (at_lines e' ls) sinks sinks r
 
 -- Lines were taken, and no more bytes than theirs are gone.
@@ -129,7 +129,7 @@ Steps remaining old new ls l g e e' sinks sinks' r = StepsFrom remaining old new
 abbrev pub PerformsSteps : {R : Type 0} → (R → Option (List ℕ)) → Stream R → Stream R → List (List ℕ) → Limits →
     Setting → Option Move → Bool → State → RunState → SinkView → SinkView → Result Unit Ended → Type 0
 PerformsSteps remaining old new ls l g o asks there e' sinks sinks' r =
-    (s : State) → Reaches l g s there → (asks ≡ true → reads g s.tasks ≡ true) → move g s ≡ o →
+    (s : State) → ReachesCommand l g s there → (asks ≡ true → reads g s.tasks ≡ true) → next_move g s ≡ o →
     StepsFrom remaining old new ls l g s e' sinks sinks' r
 
 -- A number that falls with each move: the turns left, and then what the tasks may do without one.
@@ -152,7 +152,7 @@ pub record KeepsRun (old new : RunState) : Type 0 where
 
 -- How a call of the machine leaves what it was given, besides its moves: the sinks as its answer says, the input without a
 -- failure, the run as it is, and the texts.
-pub record Leaves {O T : Type 0} (tally : O → SinkView) (count : O → ℕ) (text : T → ℕ → Option (List ℕ))
+pub record LeavesGiven {O T : Type 0} (tally : O → SinkView) (count : O → ℕ) (text : T → ℕ → Option (List ℕ))
     (old new : RunState) (outputs outputs' : O) (texts texts' : T) (result : Result Unit Ended) : Type 0 where
   pub devices : DeliversAlone tally count outputs outputs' result
   pub same : KeepsRun old new
@@ -162,7 +162,7 @@ pub record Leaves {O T : Type 0} (tally : O → SinkView) (count : O → ℕ) (t
 pub record LeavesLines {R O T : Type 0} (remaining : R → Option (List ℕ)) (failures : R → ℕ) (reference : R → List GName)
     (tally : O → SinkView) (count : O → ℕ) (text : T → ℕ → Option (List ℕ)) (old new : RunState) (lines lines' : Stream R)
     (outputs outputs' : O) (texts texts' : T) (result : Result Unit Ended) : Type 0 where
-  pub input : Reads remaining failures reference lines lines' result
+  pub input : ReadsLines remaining failures reference lines lines' result
   pub output : Delivers tally count outputs outputs' result
   pub same : KeepsRun old new
   pub kept : (j : ℕ) → Keeps (text texts j) (text texts' j)

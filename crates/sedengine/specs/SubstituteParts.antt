@@ -2,7 +2,7 @@
 -- What the parts of a substitution tell.
 use Rattle.std.specs.Prelude.{◌≡◌, ℕ, ◌+◌, ◌-◌, ◌*◌, ◌<◌, List, [], ◌∷◌, ◌++◌, length, drop, Bool, true, false}
 use Rattle.std.specs.Prelude.{Option, Some, None, IfSome, Result, Ok, Err, if◌then◌else◌}
-use Rattle.sedre.specs.Written.{Written, tree}
+use Rattle.sedre.specs.Written.{WrittenExpression, expression_tree}
 use Rattle.sedmatch.specs.Groups.{Groups, SpanIn, span_of}
 use Rattle.sedmatch.specs.Matching.{report}
 use Rattle.sedmatch.specs.Following.{EndsWithin, LiesOn}
@@ -18,10 +18,10 @@ use Rattle.sedengine.specs.ScriptSetting.{match_with_span, search_for}
 
 -- what a substitution answers where these occurrences are to be replaced in the text w: whether there are any, and then
 -- the text made; Full where that would be longer than the space
-abbrev pub Replaces : List ℕ → List Piece → List Occurrence → ℕ → List ℕ → Result Bool Full → Type 0
-Replaces w ps ms limit made (Ok false) = ms ≡ []
-Replaces w ps ms limit made (Ok true) = (0 < length ms) × (made ≡ replaced_from w ps 0 ms)
-Replaces w ps ms limit made (Err f) = (0 < length ms) × (limit < length (replaced_from w ps 0 ms))
+abbrev pub ReplacesThese : List ℕ → List Piece → List Occurrence → ℕ → List ℕ → Result Bool Full → Type 0
+ReplacesThese w ps ms limit made (Ok false) = ms ≡ []
+ReplacesThese w ps ms limit made (Ok true) = (0 < length ms) × (made ≡ replaced_from w ps 0 ms)
+ReplacesThese w ps ms limit made (Err f) = (0 < length ms) × (limit < length (replaced_from w ps 0 ms))
 
 -- bytes were appended to a space, or they don't fit
 abbrev pub Appends : Contents → Contents → List ℕ → Result Unit Full → Type 0
@@ -43,43 +43,43 @@ abbrev pub with_groups : ℕ × ℕ → Groups → Occurrence
 with_groups span groups = record { start = span.0; end = span.1; groups = groups }
 
 -- the match of an expression that has this span in the text w
-abbrev pub occurrence : Written → List ℕ → ℕ × ℕ → Occurrence
-occurrence e w span = with_groups span (report (tree e) w span.0 span.1)
+abbrev pub occurrence_at_span : WrittenExpression → List ℕ → ℕ × ℕ → Occurrence
+occurrence_at_span e w span = with_groups span (report (expression_tree e) w span.0 span.1)
 
 -- where they are wanted, the groups are those of the occurrence that has the span, if there is one
-abbrev pub GroupsOf : Written → List ℕ → Bool → Option (ℕ × ℕ) → Groups → Type 0
+abbrev pub GroupsOf : WrittenExpression → List ℕ → Bool → Option (ℕ × ℕ) → Groups → Type 0
 GroupsOf e w wanted None groups = Unit {0}
-GroupsOf e w wanted (Some span) groups = wanted ≡ true → groups ≡ report (tree e) w span.0 span.1
+GroupsOf e w wanted (Some span) groups = wanted ≡ true → groups ≡ report (expression_tree e) w span.0 span.1
 
 -- what was found is the next occurrence in the text w after the one that ended at a place, or none where there is none; its
 -- span lies after that place
-abbrev pub IsNext : Written → List ℕ → Option ℕ → Option (ℕ × ℕ) → Type 0
-IsNext e w last found =
+abbrev pub IsNextOccurrence : WrittenExpression → List ℕ → Option ℕ → Option (ℕ × ℕ) → Type 0
+IsNextOccurrence e w last found =
     (match_with_span e w found ≡ next_occurrence (search_for (Some e) w) (length w) last) × IfSome found (LiesOn (length w) last)
 
 -- the occurrences after the one that ended at a place, or all
-abbrev pub occurrences_after : Written → List ℕ → Option ℕ → List Occurrence
+abbrev pub occurrences_after : WrittenExpression → List ℕ → Option ℕ → List Occurrence
 occurrences_after e w None = occurrences (search_for (Some e) w) (length w)
 occurrences_after e w (Some q) = occurrences_from (search_for (Some e) w) (length w) (length w - q) (Some q)
 
 -- the occurrences after a number of them, where the last of these ended if there are so many
-abbrev pub Skips : Written → List ℕ → ℕ → Option (Option ℕ) → Type 0
+abbrev pub Skips : WrittenExpression → List ℕ → ℕ → Option (Option ℕ) → Type 0
 Skips e w count None = drop count (occurrences_after e w None) ≡ []
 Skips e w count (Some last) =
     (drop count (occurrences_after e w None) ≡ occurrences_after e w last) × EndsWithin (length w) last
 
 -- the occurrences that are still to be replaced: the one that has the span, if there is one, and with the flag `g` all
 -- after it
-abbrev pub pending : Written → List ℕ → Bool → Option (ℕ × ℕ) → List Occurrence
+abbrev pub pending : WrittenExpression → List ℕ → Bool → Option (ℕ × ℕ) → List Occurrence
 pending e w global None = []
-pending e w global (Some span) = occurrence e w span ∷ (if global then occurrences_after e w (Some span.1) else [])
+pending e w global (Some span) = occurrence_at_span e w span ∷ (if global then occurrences_after e w (Some span.1) else [])
 
 -- what seeks, and the room for its searches, are as before
 abbrev pub SeeksAsBefore : {T : Type 0} → T → T → SearchRoom → SearchRoom → Type 0
 SeeksAsBefore old new before after = (new ≡ old) × (after ≡ before)
 
 -- there is as much room as before, and what is kept serves to search after the occurrences skipped, if there are so many
-abbrev pub ServesAfter : Written → List ℕ → Option (Option ℕ) → Occurrences → Occurrences → Type 0
+abbrev pub ServesAfter : WrittenExpression → List ℕ → Option (Option ℕ) → Occurrences → Occurrences → Type 0
 ServesAfter e w skipped old new = KeepsRoom e old new × IfSome skipped (λ last. Serves e w last new)
 
 -- the steps that the searches may still take after the occurrences skipped: none where there are fewer

@@ -6,7 +6,7 @@ ghost use Rattle.sedspace.specs.Stream.{lines_left, ReadsOn};
 ghost use Rattle.sedengine.specs.Move.{start};
 ghost use Rattle.sedengine.specs.Devices.{SameSinks, SinksAtEnd, SourceAtEnd};
 ghost use Rattle.sedengine.specs.Held.{total_of, bound_of};
-ghost use Rattle.sedengine.specs.Run.{outcome, Cycles, Ending, SameRun, Sends, at_lines, end_answered, setting, input_of, FailedSource};
+ghost use Rattle.sedengine.specs.Run.{outcome, Cycles, Ending, SameRun, Sends, at_lines, end_answered, run_setting, input_of, FailedSource};
 ghost use Rattle.sedengine.specs.ScriptSetting.{TellsFiles};
 
 use crate::ends::{Ended, Held, Progress};
@@ -96,7 +96,7 @@ impl Engine {
             (files : ℕ → List ℕ) → TellsFiles (T.text texts.old) files →
             (out : List (ℕ × ℕ))
             × Sends self.old self.new (O.contents outputs.old) (O.contents outputs.new) (outcome result) out
-            × Cycles self.old.limits (setting self.old files) (at_lines self.old ls) out
+            × Cycles self.old.limits (run_setting self.old files) (at_lines self.old ls) out
             (input_of R.remaining lines.old) (input_of R.remaining lines.new)
             self.new (lines_left R.remaining lines.new) result) }
         // A device that the end names has failed in this call, and no other source or sink has; where a next cycle is due
@@ -143,7 +143,7 @@ impl Engine {
             (files : ℕ → List ℕ) → TellsFiles (T.text texts.old) files →
             (out : List (ℕ × ℕ))
             × Sends self.old self.new (O.contents outputs.old) (O.contents outputs.new) (Err result) out
-            × Ending self.old.limits (setting self.old files) (at_lines self.old ls) out
+            × Ending self.old.limits (run_setting self.old files) (at_lines self.old ls) out
             (input_of R.remaining lines.old) (input_of R.remaining lines.new) self.new.state result) }
         // The device that the end names has failed in this run, and no other source or sink has. A sink is full only where
         // the limits have one on the output.

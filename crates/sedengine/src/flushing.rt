@@ -6,8 +6,8 @@ ghost use Rattle.sedengine.specs.Calls.{DeliversAlone};
 ghost use Rattle.sedengine.specs.Ends.{WithinLimits};
 ghost use Rattle.sedengine.specs.Held.{SameLengths};
 ghost use Rattle.sedengine.specs.ScriptSetting.{TellsFiles};
-ghost use Rattle.sedengine.specs.Inside.{AllQueue, Queues, entries_of, entry_by};
-ghost use Rattle.sedengine.specs.Flushing.{CopiesEntry, Flushes};
+ghost use Rattle.sedengine.specs.Inside.{AllQueue, CommandQueues, entries_of, entry_by};
+ghost use Rattle.sedengine.specs.Flushing.{CopiesEntry, FlushesQueue};
 
 use crate::ends::Ended;
 use crate::limits::Limits;
@@ -80,7 +80,7 @@ fn write_entry<O: Sinks, T: Texts>(
     requires sink { 0 < O.count outputs.old }
     requires room { 0 < length script.now.rfiles → build.old.limit ≡ limits.now.space }
     requires before { turns.old ≤ limits.now.turns }
-    requires queued { Queues (slice_get script.now.commands entry) }
+    requires queued { CommandQueues (slice_get script.now.commands entry) }
     ensures writes { (g : Setting) → TellsFiles (T.text texts.old) g.files → (s now : State) (rest : List Task)
         (later : List Entry) → s.tasks ≡ flush ∷ rest →
         s.queue ≡ entry_by script.now.texts (slice_get script.now.commands entry) ∷ later → s.turns ≡ turns.old →
@@ -118,7 +118,7 @@ pub(crate) fn flush_queue<O: Sinks, T: Texts>(
     ensures flushes { (g : Setting) → TellsFiles (T.text texts.old) g.files → (s : State) (rest : List Task) →
         s.tasks ≡ flush ∷ rest → s.queue ≡ entries_of script.now queue.now.items → s.turns ≡ turns.old →
         WithinLimits limits.now s →
-        Flushes limits.now g s (record s { queue = []; tasks = rest; turns = turns.new })
+        FlushesQueue limits.now g s (record s { queue = []; tasks = rest; turns = turns.new })
         (O.tally outputs.old) (O.tally outputs.new) result }
     ensures devices { DeliversAlone O.tally O.count outputs.old outputs.new result }
     ensures limit { build.new.limit ≡ build.old.limit }

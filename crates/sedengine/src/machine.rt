@@ -9,7 +9,7 @@ ghost use Rattle.sedengine.specs.Calls.{Delivers};
 ghost use Rattle.sedengine.specs.Meters.{Sent};
 ghost use Rattle.sedengine.specs.Held.{total_of, bound_of};
 ghost use Rattle.sedengine.specs.Parts.{AreParts};
-ghost use Rattle.sedengine.specs.Run.{outcome, Cycles, Ending, SameRun, at_lines, end_answered, setting, input_of, FailedSource, SameLines};
+ghost use Rattle.sedengine.specs.Run.{outcome, Cycles, Ending, SameRun, at_lines, end_answered, run_setting, input_of, FailedSource, SameLines};
 ghost use Rattle.sedengine.specs.ScriptSetting.{TellsFiles};
 
 mod addresses;
@@ -153,7 +153,7 @@ impl Machine {
             ForSome (lines_left R.remaining lines.old) (λ ls.
             (files : ℕ → List ℕ) → TellsFiles (T.text texts.old) files →
             (out : List (ℕ × ℕ)) × Sent (O.tally outputs.old) (O.tally outputs.new) out
-            × Cycles self.old.limits (setting self.old files) (at_lines self.old ls) out
+            × Cycles self.old.limits (run_setting self.old files) (at_lines self.old ls) out
             (input_of R.remaining lines.old) (input_of R.remaining lines.new)
             self.new (lines_left R.remaining lines.new) result) }
         ensures input { IsNone self.old.ended → lines.old.fault ≡ None →
@@ -192,7 +192,7 @@ impl Machine {
             ForSome (lines_left R.remaining lines.old) (λ ls.
             (files : ℕ → List ℕ) → TellsFiles (T.text texts.old) files →
             (out : List (ℕ × ℕ)) × Sent (O.tally outputs.old) (O.tally outputs.new) out
-            × Ending self.old.limits (setting self.old files) (at_lines self.old ls) out
+            × Ending self.old.limits (run_setting self.old files) (at_lines self.old ls) out
             (input_of R.remaining lines.old) (input_of R.remaining lines.new) self.new.state result) }
         ensures input { IsNone self.old.ended → lines.old.fault ≡ None →
             SourceAtEnd (R.failures lines.old.source) (R.failures lines.new.source) result }

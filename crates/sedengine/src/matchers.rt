@@ -1,6 +1,6 @@
 //! What seeks the expressions of a script.
 ghost use Rattle.std.specs.Prelude.{◌≡◌, ◌<◌, ◌≤◌, ℕ, IfOk, Some, length, slice_get};
-ghost use Rattle.sedre.specs.Written.{Written};
+ghost use Rattle.sedre.specs.Written.{WrittenExpression};
 ghost use Rattle.sedengine.specs.Fitting.{AllFit, RoomToSeek, Seek};
 
 use crate::limits::Limits;
@@ -39,7 +39,7 @@ fn most_nodes(matchers: &[TableMatcher], limit: usize) -> usize
     requires few { limit ≤ 65536 }
     ensures some { 1 ≤ result }
     ensures few { result ≤ 65536 }
-    ensures most { (i : ℕ) (e : Written) → slice_get matchers.now i ≡ Some e → length e.nodes ≤ result }
+    ensures most { (i : ℕ) (e : WrittenExpression) → slice_get matchers.now i ≡ Some e → length e.nodes ≤ result }
 {
     let mut most = 1;
     for matcher in matchers {

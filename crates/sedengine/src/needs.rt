@@ -1,6 +1,6 @@
 //! How much room a script needs in the spaces besides the pattern space.
 ghost use Rattle.std.specs.Prelude.{◌≡◌, ◌<◌, ◌≤◌, ℕ, false, length, slice_get};
-ghost use Rattle.sedengine.specs.Inside.{FillsHold, Holds, holds};
+ghost use Rattle.sedengine.specs.Inside.{FillsHold, CommandHolds, holds};
 
 use crate::limits::Limits;
 use sedscript::{Action, Script};
@@ -14,7 +14,7 @@ fn is_holding(action: &Action) -> bool
 
 /// Whether one of the commands puts something into the hold space.
 fn fills_hold(script: &Script) -> bool
-    ensures { result ≡ false → (i : ℕ) → Holds (slice_get script.now.commands i) → ⊥ }
+    ensures { result ≡ false → (i : ℕ) → CommandHolds (slice_get script.now.commands i) → ⊥ }
 {
     for k in 0..script.len() {
         if is_holding(&script.command(k).action) {

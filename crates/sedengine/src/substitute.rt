@@ -1,6 +1,6 @@
 //! The command `s` (XCU sed, "Editing Commands in sed"): which occurrences it replaces, and the text that it makes.
 ghost use Rattle.std.specs.Prelude.{◌≡◌, ◌+◌, ◌-◌, ◌*◌, ◌<◌, ◌≤◌, [], ◌∷◌, length, true, Some, None, IfSome, IsTrue};
-ghost use Rattle.sedre.specs.Written.{tree};
+ghost use Rattle.sedre.specs.Written.{expression_tree};
 ghost use Rattle.sedmatch.specs.Costs.{Pays};
 ghost use Rattle.sedre.specs.Steps.{Takes};
 ghost use Rattle.sedmatch.specs.Following.{EndsWithin, LiesOn};
@@ -8,11 +8,11 @@ ghost use Rattle.sedmatch.specs.Occurrences.{KeepsRoom, Serves, ServesOn, owed, 
 ghost use Rattle.sedmatch.specs.SearchRoom.{FitInto};
 ghost use Rattle.sedmatch.specs.Matching.{report};
 ghost use Rattle.sedmatch.specs.Groups.{part_of, span_of};
-ghost use Rattle.sedmatch.specs.Spans.{Spans};
+ghost use Rattle.sedmatch.specs.Spans.{Matches};
 ghost use Rattle.sedscript.specs.Replacement.{GroupsWithin, pieces_in};
 ghost use Rattle.sedengine.specs.Substitute.{to_replace, occurrences, put_for, replaced_from};
 ghost use Rattle.sedengine.specs.ScriptSetting.{search_for};
-ghost use Rattle.sedengine.specs.SubstituteParts.{Appends, GroupsIn, GroupsOf, IsNext, Replaces};
+ghost use Rattle.sedengine.specs.SubstituteParts.{Appends, GroupsIn, GroupsOf, IsNextOccurrence, ReplacesThese};
 ghost use Rattle.sedengine.specs.SubstituteParts.{SeeksAsBefore, ServesAfter, Skips, has_group, later_cost, owed_skipped};
 ghost use Rattle.sedengine.specs.SubstituteParts.{owed_groups, owed_groups_after, pending, told_cost, with_groups};
 
@@ -74,7 +74,7 @@ pub(crate) fn build_text(
     requires short { length replacing.text.now ≤ build.old.limit }
     requires number { 1 ≤ replacing.substitution.now.number }
     requires serves { Serves matcher.old replacing.text.now None seeking.old }
-    ensures replaces { Replaces replacing.entry.text.now replacing.entry.substitution.now.replacement
+    ensures replaces { ReplacesThese replacing.entry.text.now replacing.entry.substitution.now.replacement
         (to_replace replacing.entry.substitution.now.number replacing.entry.substitution.now.global
         (occurrences (search_for (Some matcher.old) replacing.entry.text.now) (length replacing.entry.text.now)))
         build.old.limit build.new.bytes result }
@@ -158,7 +158,7 @@ fn next_occurrence(
     requires last { EndsWithin (length text.now) last }
     requires fits { FitInto (length text.now) (length matcher.old.nodes) scratch.old }
     requires serves { Serves matcher.old text.now last seeking.old }
-    ensures next { IsNext matcher.old text.now last result }
+    ensures next { IsNextOccurrence matcher.old text.now last result }
     ensures groups { GroupsOf matcher.old text.now wanted result findings.new.groups }
     ensures groups_in { GroupsIn (length text.now) findings.old.groups → GroupsIn (length text.now) findings.new.groups }
     ensures same { SeeksAsBefore matcher.old matcher.new scratch.old scratch.new }
@@ -191,9 +191,9 @@ fn tell_groups(
     requires text { length text.now ≤ scratch.old.text }
     requires nodes { length matcher.old.nodes ≤ scratch.old.nodes }
     requires lies { (span.0 ≤ span.1) × (span.1 ≤ length text.now) }
-    requires spans { Spans (tree matcher.old) text.now span.0 span.1 }
+    requires spans { Matches (expression_tree matcher.old) text.now span.0 span.1 }
     ensures same { matcher.new ≡ matcher.old }
-    ensures groups { findings.new.groups ≡ report (tree matcher.old) text.now span.0 span.1 }
+    ensures groups { findings.new.groups ≡ report (expression_tree matcher.old) text.now span.0 span.1 }
     ensures groups_in { GroupsIn (length text.now) findings.new.groups }
     ensures searches { findings.new.steps ≡ findings.old.steps }
     ensures scratch { scratch.new ≡ scratch.old }

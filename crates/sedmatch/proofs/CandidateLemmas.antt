@@ -4,7 +4,7 @@ use Rattle.std.specs.Prelude.{slice_get, IfSome}
 use Rattle.std.proofs.lemmas.List.{get_or-append-add, get_or_append_left}
 use Rattle.std.proofs.lemmas.Option.{slice_get_within, slice_get-get_or, get_or_from_slice_get}
 use Rattle.memchr.specs.Find.{OccursAt}
-use Rattle.sedre.specs.Steps.{Counted, TakesAtLeast}
+use Rattle.sedre.specs.Steps.{TakesExactly, TakesAtLeast}
 use Rattle.sedre.specs.Tree.{Tree}
 use Rattle.sedtext.specs.Spans.{SomeFound}
 use Rattle.sedtext.specs.Bytes.{AreBytes, FirstFrom, looked_at}
@@ -106,11 +106,11 @@ module _ (e : Tree) (w : List ℕ) (bytes : AreBytes w) (r : Option ℕ) where
 
 -- What is counted up to the place.
 
-pub counts_byte : (n s t : ℕ) (r : Option ℕ) → Counted s t (looked_at n 0 r) → IfSome r (λ k. TakesAtLeast s t k)
+pub counts_byte : (n s t : ℕ) (r : Option ℕ) → TakesExactly s t (looked_at n 0 r) → IfSome r (λ k. TakesAtLeast s t k)
 counts_byte n s t None counted = tt
 counts_byte n s t (Some k) counted = least_counted s t (k + 1 - 0) k counted (omega arith)
 
-pub counts_literal : (n m s t : ℕ) (r : Option ℕ) → Counted s t (passed_to n 0 m r) → IfSome r (λ k. TakesAtLeast s t k)
+pub counts_literal : (n m s t : ℕ) (r : Option ℕ) → TakesExactly s t (passed_to n 0 m r) → IfSome r (λ k. TakesAtLeast s t k)
 counts_literal n m s t None counted = tt
 counts_literal n m s t (Some k) counted = least_counted s t (k + m - 0) k counted (omega arith)
 

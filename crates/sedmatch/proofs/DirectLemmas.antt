@@ -5,11 +5,11 @@ use Rattle.std.proofs.lemmas.Bool.{cases_lt}
 use Rattle.std.proofs.lemmas.Option.{slice_get_within}
 use Rattle.sedre.specs.Tree.{Tree, set}
 use Rattle.sedre.specs.Arena.{IsArena}
-use Rattle.sedre.specs.Written.{Written, tree, tree_at}
+use Rattle.sedre.specs.Written.{WrittenExpression, expression_tree, tree_at}
 use Rattle.sedre.specs.declared.types.Node.{Node}
 use Rattle.sedre.specs.declared.types.NodeId.{NodeId}
 use Rattle.sedre.specs.declared.types.Node.TheVariants.{Set, Begin, End, Seq}
-use Rattle.sedre.specs.Steps.{Counted, Takes, TakesAtLeast}
+use Rattle.sedre.specs.Steps.{TakesExactly, Takes, TakesAtLeast}
 use Rattle.sedtext.specs.Answer.{SpanAnswer}
 use Rattle.sedtext.specs.Beginnings.{CanBegin, NextStart}
 use Rattle.sedtext.specs.Bytes.{AreBytes, looked_at}
@@ -17,7 +17,7 @@ use Rattle.sedtext.specs.Costs.{Pays}
 use Rattle.sedtext.specs.Following.{CanEndEarly, PassesOver}
 use Rattle.sedtext.specs.Reach.{At}
 use Rattle.sedtext.specs.Runs.{Repeated, AllRepeat, IsRun, RunBegins}
-use Rattle.sedtext.specs.Spans.{Spans, SomeFound, IsIn, no_copy}
+use Rattle.sedtext.specs.Spans.{Matches, SomeFound, IsIn, no_copy}
 use Rattle.sedtext.specs.declared.beginnings.Begins.TheVariants.{WithSet}
 use Rattle.sedtext.specs.Choice.{ChoiceSpans, FirstChoice}
 use Rattle.sedtext.specs.Few.{FirstFew}
@@ -26,7 +26,7 @@ use Rattle.sedtext.specs.Times.{FirstTimes}
 use Rattle.sedtext.specs.Word.{WordSpans, AllWord}
 use Rattle.sedtext.specs.declared.counted.few.Few.{Few}
 use Rattle.sedtext.specs.declared.needed.Literal.{Literal as Bytes}
-use Rattle.sedmatch.specs.Direct.{ComesFirst, EndsText, StartsWith, RunsTo, FormPasses, FormSpans, SpannedAs, HasForm, IsDirect, CanStart, StartsFrom, FirstWith, FirstStart, FirstSpan, bytes_looked_at}
+use Rattle.sedmatch.specs.Direct.{CanComeFirst, EndsText, StartsWith, RunsTo, FormPasses, FormSpans, SpannedAs, HasForm, IsDirect, CanStart, StartsFrom, FirstWith, FirstStart, FirstSpan, bytes_looked_at}
 use Rattle.sedmatch.specs.declared.direct.Anchor.{Anchor as Anchors}
 use Rattle.sedmatch.specs.declared.direct.First.{First}
 use Rattle.sedmatch.specs.declared.direct.First.TheVariants.{Among, Member}
@@ -34,17 +34,17 @@ use Rattle.sedmatch.specs.declared.direct.DirectForm.{DirectForm}
 use Rattle.sedmatch.specs.declared.direct.DirectForm.TheVariants.{Anchor, OneByte, Run, ByteThenRun, RunThenByte, RunAtEnd, ByteThenRunAtEnd, Times, Literal, Choice}
 use Rattle.sedtext.proofs.ReachLemmas.{open_at, close_at}
 use Rattle.sedtext.proofs.RunLemmas.{run_longest}
-use Rattle.sedtext.proofs.SpanLemmas.{Copies-forward, Spans-forward}
+use Rattle.sedtext.proofs.SpanLemmas.{CopiesLead-forward, Matches-forward}
 use Rattle.sedtext.proofs.CountLemmas.{least_counted, least_less, least_none, least_up}
 use Rattle.sedtext.proofs.TimesLemmas.{repeated_cut, repeated_in}
 
 -- what comes first, where its bytes are those of the set
 abbrev AreFirst : First → List Bool → Type 0
-AreFirst first members = (c : ℕ) → c < 256 → ComesFirst first c ↔ IsIn c members
+AreFirst first members = (c : ℕ) → c < 256 → CanComeFirst first c ↔ IsIn c members
 
 -- a span of a set
 set_spans : (members : List Bool) (first : First) → AreFirst first members → (w : List ℕ) → AreBytes w → (i j : ℕ) →
-    Spans (set members) w i j ↔ (StartsWith first w i × (j ≡ i + 1))
+    Matches (set members) w i j ↔ (StartsWith first w i × (j ≡ i + 1))
 set_spans members first same w bytes i j = (
   (λ s. ((s.0, s.1, (same s.0 (bytes i s.0 s.1)).1 s.2), s.3)),
   (λ h. (h.0.0, h.0.1, (same h.0.0 (bytes i h.0.0 h.0.1)).0 h.0.2, h.1)),
@@ -57,13 +57,13 @@ run_lacks members these last same apart w bytes i k h run low lt stands =
     let can = repeated_in members w i h k low lt run in
     let small = bytes h can.0 can.1 in
     let one : stands.0 ≡ can.0 = cc (stands.1, can.1) in
-    apart can.0 small can.2 ((same can.0 small).0 (subst (ComesFirst last) one stands.2))
+    apart can.0 small can.2 ((same can.0 small).0 (subst (CanComeFirst last) one stands.2))
 
 module _ (nodes : List Node) (arena : IsArena nodes) (x last : ℕ) (whole : last ≡ x) where
-  to_node : (w : List ℕ) (i j : ℕ) → Spans (tree_at nodes last) w i j → At nodes w x i j
+  to_node : (w : List ℕ) (i j : ℕ) → Matches (tree_at nodes last) w i j → At nodes w x i j
   to_node w i j s = subst (λ v. At nodes w v i j) whole s
 
-  from_node : (w : List ℕ) (i j : ℕ) → At nodes w x i j → Spans (tree_at nodes last) w i j
+  from_node : (w : List ℕ) (i j : ℕ) → At nodes w x i j → Matches (tree_at nodes last) w i j
   from_node w i j at = subst (λ v. At nodes w v i j) (sym whole) at
 
   -- anchors
@@ -196,7 +196,7 @@ all_word nodes x last l literal whole same is none w i j within =
     ))
 
 -- with no groups the form is that of the expression
-pub is_direct : {E : Type 0} (e : Written) (r : Result (Option DirectForm) E) → e.groups ≡ 0 → IfOk r (λ o. IfSome o (HasForm (tree e) (14 * length e.nodes))) →
+pub is_direct : {E : Type 0} (e : WrittenExpression) (r : Result (Option DirectForm) E) → e.groups ≡ 0 → IfOk r (λ o. IfSome o (HasForm (expression_tree e) (14 * length e.nodes))) →
     IfOk r (λ o. IfSome o (IsDirect e))
 is_direct e (Err x) none has = tt
 is_direct e (Ok None) none has = tt
@@ -264,7 +264,7 @@ module _ (members : List Bool) (last : First) (w : List ℕ) (p : ℕ) where
   -- no run from p on is ended by an earlier one
   ends_behind : (q h k : ℕ) → FirstWith last w p (Some q) → p ≤ h → RunsTo members last w h k → q ≤ k
   ends_behind q h k first low runs =
-      let on = Copies-forward (Spans (set members) w) k h runs.0 in
+      let on = CopiesLead-forward (Matches (set members) w) k h runs.0 in
       ⊎_elim
       (λ (less : k < q). absurd (first.2 k (omega arith) less runs.1))
       (λ (le : q ≤ k). le)
@@ -283,7 +283,7 @@ module _ (members : List Bool) (last : First) (w : List ℕ) (p : ℕ) where
 
   pub none_run_byte : FirstWith last w p None → FirstStart (RunThenByte members last) w p None
   none_run_byte none h low within can =
-      let on = Copies-forward (Spans (set members) w) can.0 h can.1.0 in
+      let on = CopiesLead-forward (Matches (set members) w) can.0 h can.1.0 in
       none can.0 (omega arith) can.1.1
 
   pub span_run_byte : (q i j : ℕ) → FirstWith last w p (Some q) → RunBegins members w p q i → j ≡ q + 1 → FirstSpan (RunThenByte members last) w p (Some (i, j))
@@ -348,7 +348,7 @@ end_cost first w n p begin start s t u r is low within start_is here back on =
     let a = back.0 in let b = back.1 in let c = on.0 in let d = on.1 in
     (omega arith, omega (arith, is, low, start_is, rest, b, d))
 
-pub end_counts : (first : First) (w : List ℕ) (n p begin start s t u : ℕ) (r : Option ℕ) → n ≡ length w → p ≤ begin → start ≡ max (begin - 1) p → FirstWith first w start r → Counted s t (min (n + 1 - begin) (n - p)) → t ≤ u →
+pub end_counts : (first : First) (w : List ℕ) (n p begin start s t u : ℕ) (r : Option ℕ) → n ≡ length w → p ≤ begin → start ≡ max (begin - 1) p → FirstWith first w start r → TakesExactly s t (min (n + 1 - begin) (n - p)) → t ≤ u →
     IfSome r (λ k. TakesAtLeast s u (length w - k))
 end_counts first w n p begin start s t u None is low start_is none counted grows = tt
 end_counts first w n p begin start s t u (Some k) is low start_is here counted grows =
@@ -400,11 +400,11 @@ start_spans (Choice literals) w i can = (i + length can.0, (can.0, can.1, can.2,
 ends_on : (form : DirectForm) (w : List ℕ) (i j : ℕ) → FormSpans form w i j → i ≤ j
 ends_on (Anchor anchors) w i j s = omega (arith, s.1)
 ends_on (OneByte first) w i j s = omega (arith, s.1)
-ends_on (Run members) w i j s = Copies-forward (Spans (set members) w) j i s
-ends_on (ByteThenRun first members) w i j s = omega (arith, Copies-forward (Spans (set members) w) j (i + 1) s.1)
-ends_on (RunThenByte members last) w i j s = let on = Copies-forward (Spans (set members) w) s.0 i s.1.0 in omega (arith, on, s.2)
-ends_on (RunAtEnd members) w i j s = Copies-forward (Spans (set members) w) j i s.0
-ends_on (ByteThenRunAtEnd first members) w i j s = omega (arith, Copies-forward (Spans (set members) w) j (i + 1) s.1)
+ends_on (Run members) w i j s = CopiesLead-forward (Matches (set members) w) j i s
+ends_on (ByteThenRun first members) w i j s = omega (arith, CopiesLead-forward (Matches (set members) w) j (i + 1) s.1)
+ends_on (RunThenByte members last) w i j s = let on = CopiesLead-forward (Matches (set members) w) s.0 i s.1.0 in omega (arith, on, s.2)
+ends_on (RunAtEnd members) w i j s = CopiesLead-forward (Matches (set members) w) j i s.0
+ends_on (ByteThenRunAtEnd first members) w i j s = omega (arith, CopiesLead-forward (Matches (set members) w) j (i + 1) s.1)
 ends_on (Times members count) w i j s = omega (arith, s.1)
 ends_on (Literal literal) w i j s = omega (arith, s.1)
 ends_on (Choice literals) w i j s = let long = s.4 in omega (arith, long)
@@ -460,16 +460,16 @@ looks_at_match form w p s t (Some (i, j)) span looks = least_less s t (bytes_loo
 -- a form whose matches end with the text is no form of an expression that has others
 ends_early : (e : Tree) (form : DirectForm) → SpannedAs e form → CanEndEarly e → EndsText form → ⊥
 ends_early e (Anchor anchors) is (w, bytes, i, j, early, span) ends =
-    let low = Spans-forward e w i j span in
+    let low = Matches-forward e w i j span in
     let at = (is w bytes i j (omega (arith, low, early))).0 span in
     let end = at.0.1 ends in
     omega (arith, early, end, at.1)
 ends_early e (RunAtEnd members) is (w, bytes, i, j, early, span) ends =
-    let low = Spans-forward e w i j span in
+    let low = Matches-forward e w i j span in
     let at = (is w bytes i j (omega (arith, low, early))).0 span in
     omega (arith, early, at.1)
 ends_early e (ByteThenRunAtEnd first members) is (w, bytes, i, j, early, span) ends =
-    let low = Spans-forward e w i j span in
+    let low = Matches-forward e w i j span in
     let at = (is w bytes i j (omega (arith, low, early))).0 span in
     omega (arith, early, at.2)
 ends_early e (OneByte first) is early ends = absurd ends
@@ -499,17 +499,17 @@ passes_far form w p i j s t low up within spans looks = record {
 }
 
 -- they do so by form, where the first place of one is told
-pub passes_byte : (first : First) (w : List ℕ) (p s t : ℕ) (r : Option ℕ) → FirstWith first w p r → Counted s t (looked_at (length w) p r) → IfSome r (λ k. FormPasses (OneByte first) w p s t)
+pub passes_byte : (first : First) (w : List ℕ) (p s t : ℕ) (r : Option ℕ) → FirstWith first w p r → TakesExactly s t (looked_at (length w) p r) → IfSome r (λ k. FormPasses (OneByte first) w p s t)
 passes_byte first w p s t None none counted = tt
 passes_byte first w p s t (Some k) here counted =
     passes_far (OneByte first) w p k (k + 1) s t here.0 (omega arith) (let inside = starts_inside first w k here.1 in omega (arith, inside)) (here.1, refl) (least_counted s t (k + 1 - p) (k + 1 - p) counted (omega arith))
 
-pub passes_byte_run : (first : First) (members : List Bool) (w : List ℕ) (p s t : ℕ) (r : Option ℕ) → FirstWith first w p r → Counted s t (looked_at (length w) p r) → IfSome r (λ k. FormPasses (ByteThenRun first members) w p s t)
+pub passes_byte_run : (first : First) (members : List Bool) (w : List ℕ) (p s t : ℕ) (r : Option ℕ) → FirstWith first w p r → TakesExactly s t (looked_at (length w) p r) → IfSome r (λ k. FormPasses (ByteThenRun first members) w p s t)
 passes_byte_run first members w p s t None none counted = tt
 passes_byte_run first members w p s t (Some k) here counted =
     passes_far (ByteThenRun first members) w p k (k + 1) s t here.0 (omega arith) (let inside = starts_inside first w k here.1 in omega (arith, inside)) (here.1, no_copy) (least_counted s t (k + 1 - p) (k + 1 - p) counted (omega arith))
 
-pub passes_run_byte : (members : List Bool) (last : First) (w : List ℕ) (p s t : ℕ) (r : Option ℕ) → FirstWith last w p r → Counted s t (looked_at (length w) p r) → IfSome r (λ k. FormPasses (RunThenByte members last) w p s t)
+pub passes_run_byte : (members : List Bool) (last : First) (w : List ℕ) (p s t : ℕ) (r : Option ℕ) → FirstWith last w p r → TakesExactly s t (looked_at (length w) p r) → IfSome r (λ k. FormPasses (RunThenByte members last) w p s t)
 passes_run_byte members last w p s t None none counted = tt
 passes_run_byte members last w p s t (Some k) here counted =
     passes_far (RunThenByte members last) w p k (k + 1) s t here.0 (omega arith) (let inside = starts_inside last w k here.1 in omega (arith, inside))
@@ -534,7 +534,7 @@ pub passes_times : (members : List Bool) (count : ℕ) (w : List ℕ) (p s t : �
 passes_times members count w p s t None none looks = tt
 passes_times members count w p s t (Some k) here looks = passes_far (Times members count) w p k (k + count) s t here.0 (omega arith) (let inside = here.1 in omega arith) (here.2, refl) looks
 
-pub passes_literal : (literal w : List ℕ) (p s t : ℕ) (r : Option ℕ) → FirstLiteral w literal p r → Counted s t (passed_to (length w) p (length literal) r) → IfSome r (λ k. FormPasses (Literal literal) w p s t)
+pub passes_literal : (literal w : List ℕ) (p s t : ℕ) (r : Option ℕ) → FirstLiteral w literal p r → TakesExactly s t (passed_to (length w) p (length literal) r) → IfSome r (λ k. FormPasses (Literal literal) w p s t)
 passes_literal literal w p s t None none counted = tt
 passes_literal literal w p s t (Some k) here counted =
     passes_far (Literal literal) w p k (k + length literal) s t here.0 (omega arith) (let fits = here.1.fits in omega arith) (here.1, refl)
@@ -583,18 +583,18 @@ passes_some form like w p s t None told same is over h = absurd (true≢false (s
 passes_some form like w p s t (Some k) told same is over h = subst (λ f. FormPasses f w p s t) (sym same) over
 
 -- an expression of the form
-module _ (e : Written) (form : DirectForm) (is : IsDirect e form) (w : List ℕ) (bytes : AreBytes w) (p : ℕ) where
+module _ (e : WrittenExpression) (form : DirectForm) (is : IsDirect e form) (w : List ℕ) (bytes : AreBytes w) (p : ℕ) where
   -- no match begins where none can
-  none_starts : (i k : ℕ) → i ≤ length w → (CanStart form w i → ⊥) → Spans (tree e) w i k → ⊥
+  none_starts : (i k : ℕ) → i ≤ length w → (CanStart form w i → ⊥) → Matches (expression_tree e) w i k → ⊥
   none_starts i k within none s = none (spans_start form w i k ((is.0 w bytes i k within).0 s))
 
-  pub direct_some : StartsFrom form w p ↔ SomeFound (tree e) w p
+  pub direct_some : StartsFrom form w p ↔ SomeFound (expression_tree e) w p
   direct_some = (
     (λ s. let span = start_spans form w s.0 s.3 in (s.0, span.0, s.1, s.2, (is.0 w bytes s.0 span.0 s.2).1 span.1)),
     (λ f. (f.0, f.2, f.3, spans_start form w f.0 f.1 ((is.0 w bytes f.0 f.1 f.3).0 f.4))),
   )
 
-  pub direct_passes : (s t : ℕ) → FormPasses form w p s t → PassesOver (tree e) w p s t
+  pub direct_passes : (s t : ℕ) → FormPasses form w p s t → PassesOver (expression_tree e) w p s t
   direct_passes s t over =
       let up = over.up in
       let within = over.within in
@@ -605,10 +605,10 @@ module _ (e : Written) (form : DirectForm) (is : IsDirect e form) (w : List ℕ)
         within = within;
         spans = (is.0 w bytes over.start over.end (omega (arith, up, within))).1 over.spans;
         bytes = over.bytes;
-        passed = λ early. over.passed (ends_early (tree e) form is.0 early);
+        passed = λ early. over.passed (ends_early (expression_tree e) form is.0 early);
       }
 
-  pub direct_answer : (r : Option (ℕ × ℕ)) → FirstSpan form w p r → SpanAnswer (tree e) w p r
+  pub direct_answer : (r : Option (ℕ × ℕ)) → FirstSpan form w p r → SpanAnswer (expression_tree e) w p r
   direct_answer None none = (tt, (λ i k low within s. none_starts i k within (none i low within) s), tt)
   direct_answer (Some f) span = (
     record {

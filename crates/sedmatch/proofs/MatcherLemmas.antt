@@ -3,7 +3,7 @@ use Rattle.std.proofs.Common.{◌≡◌, ◌∙◌, ℕ, zero, suc, ◌+◌, ◌
 use Rattle.std.specs.Prelude.{is_some, nat_lt, not, if◌then◌else◌}
 use Rattle.std.specs.Option.{unwrap_or}
 use Rattle.std.proofs.lemmas.Bool.Decides.{nat_tests}
-use Rattle.sedre.specs.Written.{Written}
+use Rattle.sedre.specs.Written.{WrittenExpression}
 use Rattle.sedre.specs.Tree.{Tree}
 use Rattle.sedtext.specs.Costs.{Pays}
 use Rattle.sedtext.specs.Answer.{SpanAnswer}
@@ -22,10 +22,10 @@ use Rattle.sedmatch.specs.declared.table_matcher.Engine.TheVariants.{Direct}
 
 -- What the expression is.
 
-pub direct_is : (m : Engine) (v e : Written) (form : DirectForm) → written_of m ≡ v → IsEngine m → m ≡ Direct e form → IsDirect v form
+pub direct_is : (m : Engine) (v e : WrittenExpression) (form : DirectForm) → written_of m ≡ v → IsEngine m → m ≡ Direct e form → IsDirect v form
 direct_is m v e form view inv is = subst (λ x. IsDirect x form) (sym (ap written_of is) ∙ view) (subst IsEngine is inv)
 
-pub written_is : (m : Engine) (v e : Written) (form : DirectForm) → written_of m ≡ v → m ≡ Direct e form → e ≡ v
+pub written_is : (m : Engine) (v e : WrittenExpression) (form : DirectForm) → written_of m ≡ v → m ≡ Direct e form → e ≡ v
 written_is m v e form view is = sym (ap written_of is) ∙ view
 
 -- What it finds and costs, by a look at the text.
@@ -166,7 +166,7 @@ direct_once (suc m) n =
     omega (arith, a, c)
 
 -- what is kept serves on, where it was not looked at
-pub serves_same : (e : Written) (w : List ℕ) (last : Option ℕ) (o : Occurrences) (r : Option (ℕ × ℕ)) → Serves e w last o → ServesOn e w r o o
+pub serves_same : (e : WrittenExpression) (w : List ℕ) (last : Option ℕ) (o : Occurrences) (r : Option (ℕ × ℕ)) → Serves e w last o → ServesOn e w r o o
 serves_same e w last o None serves = ((refl, λ text es sought room. room), tt)
 serves_same e w last o (Some f) serves = ((refl, λ text es sought room. room), record { room = serves.room; fresh = λ h. cc; used = serves.used })
 

@@ -5,7 +5,7 @@ use Rattle.std.specs.Prelude.{slice_get, slice_set, if◌then◌else◌}
 use Rattle.std.proofs.lemmas.Bool.{cases_eq, cases_lt}
 use Rattle.std.proofs.lemmas.List.{get_or-append-add, get_or_append_left}
 use Rattle.std.proofs.lemmas.Option.{get_or_from_slice_get, slice_get-get_or, slice_get_read, slice_get_within}
-use Rattle.sedre.specs.Written.{Written}
+use Rattle.sedre.specs.Written.{WrittenExpression}
 use Rattle.sedtext.specs.Costs.{Pays}
 use Rattle.sedre.specs.Steps.{TakesAtLeast}
 use Rattle.sedre.specs.Tree.{Tree}
@@ -55,7 +55,7 @@ room_at ts k x t after is at same = subst (λ v. SameRoom v after) (is ∙ get_o
 pub room_at_shape : (ts : List Table) (k : ℕ) (x t after : Table) → x ≡ get_or ts k x → slice_get ts k ≡ Some t → SameShape x after → SameRoom t after
 room_at_shape ts k x t after is at same = room_at ts k x t after is at (same.0, same.1, same.3, same.4)
 
-some_written : (x y : Written) → Some x ≡ Some y → x ≡ y
+some_written : (x y : WrittenExpression) → Some x ≡ Some y → x ≡ y
 some_written x y h = cc
 
 -- Room that stays.
@@ -80,7 +80,7 @@ few_still : (kept kept' : Kept) → SameSpace kept kept' → length kept.edges �
 few_still kept kept' same few = let long = same.edges in omega (arith, few, long)
 
 -- where the tables are as they were
-pub at_same : (text x : ℕ) (e : Written) (o o' : Occurrences) → o'.tables ≡ o.tables → SameSpace o.seeking.kept o'.seeking.kept → RoomAt text x e o → RoomAt text x e o'
+pub at_same : (text x : ℕ) (e : WrittenExpression) (o o' : Occurrences) → o'.tables ≡ o.tables → SameSpace o.seeking.kept o'.seeking.kept → RoomAt text x e o → RoomAt text x e o'
 at_same text x e o o' tables space at = record {
   shared = subst (λ (b : BackTables). TableIs b.all.items 0 (IsShared text (length e.nodes) o'.seeking.kept)) (sym tables)
       (at.shared.0, λ t is. space_still text (length e.nodes) o.seeking.kept o'.seeking.kept t (at.shared.1 t is) space);
@@ -88,7 +88,7 @@ at_same text x e o o' tables space at = record {
   own = subst (HasOwn x e) (sym tables) at.own;
 }
 
-pub for_same : (text : ℕ) (es : List Written) (o o' : Occurrences) → o'.tables ≡ o.tables → SameSpace o.seeking.kept o'.seeking.kept → RoomFor text es o → RoomFor text es o'
+pub for_same : (text : ℕ) (es : List WrittenExpression) (o o' : Occurrences) → o'.tables ≡ o.tables → SameSpace o.seeking.kept o'.seeking.kept → RoomFor text es o → RoomFor text es o'
 for_same text es o o' tables space room = record {
   each = λ x e is. at_same text x e o o' tables space (room.each x e is);
   apart = subst (λ (b : BackTables). AreApart b.slots.items) (sym tables) room.apart;
@@ -125,7 +125,7 @@ module _ (p : Prepared) (k : ℕ) (o o' : Occurrences) (sets : SetsTable p k o.t
           (λ (other : 0 ≡ k → ⊥). space_still text nodes o.seeking.kept o'.seeking.kept x (at.1 x (there 0 x other is)) space)
           cases
 
-  own_still : (x : ℕ) (e : Written) → ((j : ℕ) → slice_get o.tables.slots.items x ≡ Some j → 0 < j → j ≡ k → p.arena.expr ≡ e) → HasOwn x e o.tables → HasOwn x e o'.tables
+  own_still : (x : ℕ) (e : WrittenExpression) → ((j : ℕ) → slice_get o.tables.slots.items x ≡ Some j → 0 < j → j ≡ k → p.arena.expr ≡ e) → HasOwn x e o.tables → HasOwn x e o'.tables
   own_still x e mine has = subst (λ slots. (x < length slots.items) × ((j : ℕ) → slice_get slots.items x ≡ Some j → 0 < j → TableIs after j (IsBack e))) (sym sets.slots)
       (has.0, λ j at some. let old = has.1 j at some in (omega (arith, old.0, long_still), λ t is. by j (cases_eq j k) at some old t is))
     where
@@ -140,20 +140,20 @@ module _ (p : Prepared) (k : ℕ) (o o' : Occurrences) (sets : SetsTable p k o.t
           (λ (other : j ≡ k → ⊥). old.1 t (there j t other is))
           cases
 
-  pub at_set : (text x : ℕ) (e : Written) → ((j : ℕ) → slice_get o.tables.slots.items x ≡ Some j → 0 < j → j ≡ k → p.arena.expr ≡ e) → RoomAt text x e o → RoomAt text x e o'
+  pub at_set : (text x : ℕ) (e : WrittenExpression) → ((j : ℕ) → slice_get o.tables.slots.items x ≡ Some j → 0 < j → j ≡ k → p.arena.expr ≡ e) → RoomAt text x e o → RoomAt text x e o'
   at_set text x e mine at = record {
     shared = first_still text (length e.nodes) at.shared;
     few = few_still o.seeking.kept o'.seeking.kept space at.few;
     own = own_still x e mine at.own;
   }
 
-  pub for_set : (text : ℕ) (es : List Written) → (k ≡ 0) ⊎ (slice_get o.tables.slots.items o.number ≡ Some k) → slice_get es o.number ≡ Some p.arena.expr → RoomFor text es o → RoomFor text es o'
+  pub for_set : (text : ℕ) (es : List WrittenExpression) → (k ≡ 0) ⊎ (slice_get o.tables.slots.items o.number ≡ Some k) → slice_get es o.number ≡ Some p.arena.expr → RoomFor text es o → RoomFor text es o'
   for_set text es choice sought room = record {
     each = λ x e is. at_set text x e (λ j at some same. whose x e j is at some same choice) (room.each x e is);
     apart = subst (λ slots. AreApart slots.items) (sym sets.slots) room.apart;
   }
     where
-      whose : (x : ℕ) (e : Written) (j : ℕ) → slice_get es x ≡ Some e → slice_get o.tables.slots.items x ≡ Some j → 0 < j → j ≡ k → (k ≡ 0) ⊎ (slice_get o.tables.slots.items o.number ≡ Some k) → p.arena.expr ≡ e
+      whose : (x : ℕ) (e : WrittenExpression) (j : ℕ) → slice_get es x ≡ Some e → slice_get o.tables.slots.items x ≡ Some j → 0 < j → j ≡ k → (k ≡ 0) ⊎ (slice_get o.tables.slots.items o.number ≡ Some k) → p.arena.expr ≡ e
       whose x e j is at some same choice = ⊎_elim
           (λ (none : k ≡ 0). absurd (omega (arith, some, same, none)))
           (λ (mine : slice_get o.tables.slots.items o.number ≡ Some k).
@@ -240,7 +240,7 @@ module _ (p : Prepared) (n : ℕ) (o : Occurrences) (b : BackTables) (k : ℕ) (
         (λ (none : k ≤ 0). at_set p 0 o o' (subst (SetsTable p 0 o.tables) (sym tables) (first (omega (arith, none)))) space n o.number p.arena.expr (λ j at some same. refl) room)
         (cases_lt 0 k)
 
-    pub ready_for : (text : ℕ) (es : List Written) → slice_get es o.number ≡ Some p.arena.expr → RoomFor text es o → RoomFor text es o'
+    pub ready_for : (text : ℕ) (es : List WrittenExpression) → slice_get es o.number ≡ Some p.arena.expr → RoomFor text es o → RoomFor text es o'
     ready_for text es sought all =
         ⊎_elim
         (λ (some : 0 < k). for_same text es o o' (tables ∙ others some) space all)
@@ -248,7 +248,7 @@ module _ (p : Prepared) (n : ℕ) (o : Occurrences) (b : BackTables) (k : ℕ) (
         (cases_lt 0 k)
 
 -- a search that begins serves however the expression was made ready
-pub serves_each : (p : Prepared) (e : Written) (w : List ℕ) (t : Table) (s : Seeking) → p.arena.expr ≡ e → SearchServes p w t s → (q : Prepared) → q.arena.expr ≡ e → SearchServes q w t s
+pub serves_each : (p : Prepared) (e : WrittenExpression) (w : List ℕ) (t : Table) (s : Seeking) → p.arena.expr ≡ e → SearchServes p w t s → (q : Prepared) → q.arena.expr ≡ e → SearchServes q w t s
 serves_each p e w t s is serves q is' = serves_for p q (is ∙ sym is') w t s serves
 
 -- What the searches cost.
@@ -300,7 +300,7 @@ module _ (p : Prepared) (w : List ℕ) (o o' : Occurrences) (back : Table) (at :
   is_set : SetsTable p o.at o.tables o'.tables
   is_set = record { after = back; is = serves.table; same = shape; all = all; slots = slots }
 
-  pub keeps_on : (text : ℕ) (es : List Written) → slice_get es o.number ≡ Some p.arena.expr → RoomFor text es o → RoomFor text es o'
+  pub keeps_on : (text : ℕ) (es : List WrittenExpression) → slice_get es o.number ≡ Some p.arena.expr → RoomFor text es o → RoomFor text es o'
   keeps_on text es sought room = for_set p o.at o o' is_set space text es has.choice sought room
 
   serves_at : (last : ℕ) → Serves p.arena.expr w (Some last) o'
@@ -350,14 +350,14 @@ module _ {A : Type 0} where
   same_there x y h = cc
 
 -- the tables for the first n of these expressions
-pub record AreFirst (es : List Written) (n : ℕ) (shared : Table) (all : List Table) (slots : List ℕ) : Type 0 where
+pub record AreFirst (es : List WrittenExpression) (n : ℕ) (shared : Table) (all : List Table) (slots : List ℕ) : Type 0 where
   pub first : slice_get all 0 ≡ Some shared
   pub long : length slots ≡ n
   pub within : (x k : ℕ) → slice_get slots x ≡ Some k → k < length all
-  pub own : (x k : ℕ) (e : Written) → slice_get es x ≡ Some e → slice_get slots x ≡ Some k → 0 < k → TableIs all k (IsBack e)
+  pub own : (x k : ℕ) (e : WrittenExpression) → slice_get es x ≡ Some e → slice_get slots x ≡ Some k → 0 < k → TableIs all k (IsBack e)
   pub apart : AreApart slots
 
-pub none_yet : (es : List Written) (shared : Table) (all : List Table) (slots : List ℕ) → all ≡ [] ++ shared ∷ [] → slots ≡ [] → AreFirst es 0 shared all slots
+pub none_yet : (es : List WrittenExpression) (shared : Table) (all : List Table) (slots : List ℕ) → all ≡ [] ++ shared ∷ [] → slots ≡ [] → AreFirst es 0 shared all slots
 none_yet es shared all slots is none = record {
   first = ap (λ (ts : List Table). slice_get ts 0) is;
   long = ap (λ (xs : List ℕ). length xs) none;
@@ -369,7 +369,7 @@ none_yet es shared all slots is none = record {
     empty : (x k : ℕ) → slice_get slots x ≡ Some k → ⊥
     empty x k at = let inside = slice_get_within slots x k at in let zero = ap (λ (xs : List ℕ). length xs) none in omega (arith, inside, zero)
 
-module _ (es : List Written) (n : ℕ) (shared : Table) (all all' : List Table) (slots slots' : List ℕ) (k : ℕ) (e : Written) (are : AreFirst es n shared all slots)
+module _ (es : List WrittenExpression) (n : ℕ) (shared : Table) (all all' : List Table) (slots slots' : List ℕ) (k : ℕ) (e : WrittenExpression) (are : AreFirst es n shared all slots)
     (sought : slice_get es n ≡ Some e) (there : k < length all') (mine : 0 < k → TableIs all' k (IsBack e) × (length all ≤ k)) (longer : length all ≤ length all')
     (kept : (j : ℕ) (t : Table) → slice_get all j ≡ Some t → slice_get all' j ≡ Some t) (push : slots' ≡ slots ++ k ∷ []) where
   slot : (x j : ℕ) → slice_get slots' x ≡ Some j → (slice_get slots x ≡ Some j) ⊎ ((x ≡ n) × (j ≡ k))
@@ -407,16 +407,16 @@ module _ (es : List Written) (n : ℕ) (shared : Table) (all all' : List Table) 
         (slot x j at);
   }
 
-pub all_tables : (es : List Written) (n : ℕ) (shared : Table) (b : BackTables) → AreFirst es n shared b.all.items b.slots.items → length es ≤ n → AreTables es shared b
+pub all_tables : (es : List WrittenExpression) (n : ℕ) (shared : Table) (b : BackTables) → AreFirst es n shared b.all.items b.slots.items → length es ≤ n → AreTables es shared b
 all_tables es n shared b are most = record {
   first = are.first;
   own = λ x e is. (let inside = slice_get_within es x e is in let long = are.long in omega (arith, inside, long, most), λ k at some. are.own x k e is at some);
   apart = are.apart;
 }
 
-pub room_made : (text most width : ℕ) (es : List Written) (kept : Kept) (shared : Table) (b : BackTables) (o : Occurrences) → text < vec_capacity kept.states → length kept.edges ≡ 2 * (text / width + 1) →
+pub room_made : (text most width : ℕ) (es : List WrittenExpression) (kept : Kept) (shared : Table) (b : BackTables) (o : Occurrences) → text < vec_capacity kept.states → length kept.edges ≡ 2 * (text / width + 1) →
     ((q : ℕ) → q < length kept.edges → length (row_of kept.edges q) ≡ most) → 1 ≤ width → text / width + 1 ≤ 32768 → IsRoomy most shared → shared.way ≡ back_way → shared.room ≡ width + 1 →
-    AreTables es shared b → ((x : ℕ) (e : Written) → slice_get es x ≡ Some e → length e.nodes ≤ most) → o.tables ≡ b → o.seeking.kept ≡ kept → RoomFor text es o
+    AreTables es shared b → ((x : ℕ) (e : WrittenExpression) → slice_get es x ≡ Some e → length e.nodes ≤ most) → o.tables ≡ b → o.seeking.kept ≡ kept → RoomFor text es o
 room_made text most width es kept shared b o places edges marks some few roomy way room tables fit is_tables is_kept = record {
   each = λ x e is. record {
     shared = subst (λ (v : BackTables). TableIs v.all.items 0 (IsShared text (length e.nodes) o.seeking.kept)) (sym is_tables)
@@ -472,7 +472,7 @@ first_square m n start s a t some looks each =
     omega (arith, looks, each, long, less, c, d)
 
 -- a table that was made for an expression
-pub back_made : (p : Prepared) (e : Written) (t : Table) → p.arena.expr ≡ e → IsTable p t → t.way ≡ back_way → IsBack e t
+pub back_made : (p : Prepared) (e : WrittenExpression) (t : Table) → p.arena.expr ≡ e → IsTable p t → t.way ≡ back_way → IsBack e t
 back_made p e t is table way = (way, λ q is'. table_for p q (is ∙ sym is') t table)
 
 pub lies_first : (n : ℕ) (r : Option (ℕ × ℕ)) → IfSome r (λ f. (0 ≤ f.0) × (f.0 ≤ f.1) × (f.1 ≤ n)) → IfSome r (LiesOn n None)

@@ -4,13 +4,13 @@ use Rattle.std.specs.Prelude.{slice_set}
 use Rattle.std.proofs.lemmas.Bool.{cases_lt}
 use Rattle.std.proofs.Math.Nat.{lt-div-mul-add}
 use Rattle.sedre.specs.Arena.{IsExpr}
-use Rattle.sedre.specs.Written.{Written, tree}
+use Rattle.sedre.specs.Written.{WrittenExpression, expression_tree}
 use Rattle.sedre.specs.Steps.{TakesAtLeast}
 use Rattle.sedre.specs.Tree.{Tree}
 use Rattle.sedtext.specs.Caps.{IsReport}
 use Rattle.sedtext.specs.Groups.{no_groups}
-use Rattle.sedtext.specs.Spans.{SomeFound, Spans}
-use Rattle.sedtext.proofs.GroupLemmas.{Caps-none, no_groups_at}
+use Rattle.sedtext.specs.Spans.{SomeFound, Matches}
+use Rattle.sedtext.proofs.GroupLemmas.{Captures-none, no_groups_at}
 use Rattle.sedtext.specs.Needed.{Narrowed}
 use Rattle.sedpass.specs.Decide.{AreGroupTables, AreRoomy, HasDesk, HasSpace, SameRooms, SameTables}
 use Rattle.sedpass.specs.Kept.{SameSpace}
@@ -42,10 +42,10 @@ matches_past told e w from start is tells =
     ((λ b. past.0 (tells.0 b)), λ f. tells.1 (past.1 f))
 
 -- what an expression without groups reports
-pub whole_reported : (e : Written) (w : List ℕ) (i j : ℕ) → IsExpr e.nodes e.groups → e.groups ≡ 0 → Spans (tree e) w i j → IsReport (tree e) w i j (slice_set no_groups 0 (Some (i, j)))
+pub whole_reported : (e : WrittenExpression) (w : List ℕ) (i j : ℕ) → IsExpr e.nodes e.groups → e.groups ≡ 0 → Matches (expression_tree e) w i j → IsReport (expression_tree e) w i j (slice_set no_groups 0 (Some (i, j)))
 whole_reported e w i j expr none s =
     let some = expr.arena.nonempty in
-    (no_groups, Caps-none (tree e) (no_groups_at e.nodes e.groups expr none (length e.nodes - 1) (omega (arith, some))) w i j no_groups s, refl)
+    (no_groups, Captures-none (expression_tree e) (no_groups_at e.nodes e.groups expr none (length e.nodes - 1) (omega (arith, some))) w i j no_groups s, refl)
 
 -- one entry alone takes no step
 pub one_alone : (s n : ℕ) → n ≡ 1 → TakesAtLeast s s (n - 1)

@@ -2,12 +2,12 @@
 -- Expressions whose matches a look at the text tells.
 use Rattle.std.specs.Prelude.{◌≡◌, ℕ, ◌+◌, ◌-◌, ◌*◌, ◌<◌, ◌≤◌, ◌↔◌, Bool, List, length, slice_get, Option, Some, None, IsTrue}
 use Rattle.memchr.specs.Find.{OccursAt}
-use Rattle.sedre.specs.Written.{Written, tree}
+use Rattle.sedre.specs.Written.{WrittenExpression, expression_tree}
 use Rattle.sedre.specs.Steps.{TakesAtLeast}
 use Rattle.sedre.specs.Tree.{Tree}
 use Rattle.sedtext.specs.Bytes.{AreBytes, FirstFrom}
 use Rattle.sedtext.specs.Runs.{Repeated}
-use Rattle.sedtext.specs.Spans.{Spans, IsIn}
+use Rattle.sedtext.specs.Spans.{Matches, IsIn}
 use Rattle.sedtext.specs.Choice.{ChoiceAt, ChoiceSpans}
 use Rattle.sedtext.specs.Few.{HasFew}
 use Rattle.sedtext.specs.Times.{HasTimes}
@@ -19,17 +19,17 @@ use Rattle.sedmatch.specs.declared.direct.DirectForm.{DirectForm}
 use Rattle.sedmatch.specs.declared.direct.DirectForm.TheVariants.{Anchor, OneByte, Run, ByteThenRun, RunThenByte, RunAtEnd, ByteThenRunAtEnd, Times, Literal, Choice}
 
 -- the byte can come first
-abbrev pub ComesFirst : First → ℕ → Type 0
-ComesFirst (Among few) c = HasFew few c
-ComesFirst (Member s) c = IsIn c s
+abbrev pub CanComeFirst : First → ℕ → Type 0
+CanComeFirst (Among few) c = HasFew few c
+CanComeFirst (Member s) c = IsIn c s
 
 -- the byte at the place can come first
 abbrev pub StartsWith : First → List ℕ → ℕ → Type 0
-StartsWith first w i = (c : ℕ) × (slice_get w i ≡ Some c) × ComesFirst first c
+StartsWith first w i = (c : ℕ) × (slice_get w i ≡ Some c) × CanComeFirst first c
 
 -- the anchors hold at the place
-abbrev pub Holds : Anchors → List ℕ → ℕ → Type 0
-Holds anchors w i = (IsTrue anchors.at_start → i ≡ 0) × (IsTrue anchors.at_end → i ≡ length w)
+abbrev pub AnchorsHold : Anchors → List ℕ → ℕ → Type 0
+AnchorsHold anchors w i = (IsTrue anchors.at_start → i ≡ 0) × (IsTrue anchors.at_end → i ≡ length w)
 
 -- bytes of the set lead from i to the first place at which the byte stands that ends them
 abbrev pub RunsTo : List Bool → First → List ℕ → ℕ → ℕ → Type 0
@@ -37,7 +37,7 @@ RunsTo members last w i k = Repeated members w i k × StartsWith last w k × ((h
 
 -- what matches from i to j
 abbrev pub FormSpans : DirectForm → List ℕ → ℕ → ℕ → Type 0
-FormSpans (Anchor anchors) w i j = Holds anchors w i × (j ≡ i)
+FormSpans (Anchor anchors) w i j = AnchorsHold anchors w i × (j ≡ i)
 FormSpans (OneByte first) w i j = StartsWith first w i × (j ≡ i + 1)
 FormSpans (Run members) w i j = Repeated members w i j
 FormSpans (ByteThenRun first members) w i j = StartsWith first w i × Repeated members w (i + 1) j
@@ -50,7 +50,7 @@ FormSpans (Choice literals) w i j = ChoiceSpans literals w i j
 
 -- the spans of the expression in a text of bytes are these
 abbrev pub SpannedAs : Tree → DirectForm → Type 0
-SpannedAs e form = (w : List ℕ) → AreBytes w → (i j : ℕ) → i ≤ length w → Spans e w i j ↔ FormSpans form w i j
+SpannedAs e form = (w : List ℕ) → AreBytes w → (i j : ℕ) → i ≤ length w → Matches e w i j ↔ FormSpans form w i j
 
 -- all matches end where the text does
 abbrev pub EndsText : DirectForm → Type 0
@@ -89,12 +89,12 @@ abbrev pub HasForm : Tree → ℕ → DirectForm → Type 0
 HasForm e looks form = SpannedAs e form × (rate form ≤ looks)
 
 -- the expression is of this form: its spans are those of the form, it has no groups, and its nodes pay for the looks
-abbrev pub IsDirect : Written → DirectForm → Type 0
-IsDirect e form = SpannedAs (tree e) form × (e.groups ≡ 0) × (rate form ≤ 14 * length e.nodes)
+abbrev pub IsDirect : WrittenExpression → DirectForm → Type 0
+IsDirect e form = SpannedAs (expression_tree e) form × (e.groups ≡ 0) × (rate form ≤ 14 * length e.nodes)
 
 -- what matches can begin at the place
 abbrev pub CanStart : DirectForm → List ℕ → ℕ → Type 0
-CanStart (Anchor anchors) w i = Holds anchors w i
+CanStart (Anchor anchors) w i = AnchorsHold anchors w i
 CanStart (OneByte first) w i = StartsWith first w i
 CanStart (Run members) w i = Unit {0}
 CanStart (ByteThenRun first members) w i = StartsWith first w i

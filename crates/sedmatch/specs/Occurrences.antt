@@ -1,7 +1,7 @@
 -- What the searches for all occurrences in one text keep, and what they may cost. `Occurrences::new` and `begin` give it, and callers
 -- hand it on from call to call, so that nobody has to read it.
 use Rattle.std.specs.Prelude.{◌≡◌, ℕ, ◌+◌, ◌-◌, ◌*◌, ◌<◌, ◌≤◌, ◌⊎◌, false, if◌then◌else◌, List, length, slice_get, slice_set, Option, Some, None, IfSome, IsTrue}
-use Rattle.sedre.specs.Written.{Written}
+use Rattle.sedre.specs.Written.{WrittenExpression}
 use Rattle.sedpass.specs.Kept.{KeptRoom}
 use Rattle.sedpass.specs.Occurrences.{owed_behind}
 use Rattle.sedpass.specs.Search.{Serves as SearchServes}
@@ -15,7 +15,7 @@ use Rattle.sedmatch.specs.declared.occurrences.BackTables.{BackTables}
 use Rattle.sedmatch.specs.declared.occurrences.Occurrences.{Occurrences}
 
 -- the table is for such passes over the expression, however that was made ready
-abbrev pub IsBack : Written → Table → Type 0
+abbrev pub IsBack : WrittenExpression → Table → Type 0
 IsBack e t = (t.way ≡ back_way) × ((p : Prepared) → p.arena.expr ≡ e → IsTable p t)
 
 -- the table of this number in the list is there, and is such
@@ -27,7 +27,7 @@ abbrev pub IsShared : ℕ → ℕ → Kept → Table → Type 0
 IsShared text nodes kept t = IsRoomy nodes t × (t.way ≡ back_way) × KeptRoom nodes text t kept
 
 -- where the expression e, of number x, has a table of its own, that is for it
-abbrev pub HasOwn : ℕ → Written → BackTables → Type 0
+abbrev pub HasOwn : ℕ → WrittenExpression → BackTables → Type 0
 HasOwn x e b = (x < length b.slots.items) × ((k : ℕ) → slice_get b.slots.items x ≡ Some k → 0 < k → TableIs b.all.items k (IsBack e))
 
 -- no two have the same table of their own
@@ -35,9 +35,9 @@ abbrev pub AreApart : List ℕ → Type 0
 AreApart slots = (x y k : ℕ) → slice_get slots x ≡ Some k → slice_get slots y ≡ Some k → 0 < k → x ≡ y
 
 -- the tables are for these expressions, after the one that serves all others
-pub record AreTables (es : List Written) (shared : Table) (b : BackTables) : Type 0 where
+pub record AreTables (es : List WrittenExpression) (shared : Table) (b : BackTables) : Type 0 where
   pub first : slice_get b.all.items 0 ≡ Some shared
-  pub own : (x : ℕ) (e : Written) → slice_get es x ≡ Some e → HasOwn x e b
+  pub own : (x : ℕ) (e : WrittenExpression) → slice_get es x ≡ Some e → HasOwn x e b
   pub apart : AreApart b.slots.items
 
 -- the table of this number serves the expression now, with as much room as it had; the others are as they were
@@ -50,33 +50,33 @@ pub record SetsTable (p : Prepared) (k : ℕ) (old new : BackTables) : Type 0 wh
 
 -- there is room for texts of `text` bytes and for the expression e, of number x: the first table can be fitted to it, and where it
 -- has one of its own, that is for it
-pub record RoomAt (text x : ℕ) (e : Written) (o : Occurrences) : Type 0 where
+pub record RoomAt (text x : ℕ) (e : WrittenExpression) (o : Occurrences) : Type 0 where
   pub shared : TableIs o.tables.all.items 0 (IsShared text (length e.nodes) o.seeking.kept)
   pub few : length o.seeking.kept.edges ≤ 65536
   pub own : HasOwn x e o.tables
 
 -- there is room for each of these expressions
-pub record RoomFor (text : ℕ) (es : List Written) (o : Occurrences) : Type 0 where
-  pub each : (x : ℕ) (e : Written) → slice_get es x ≡ Some e → RoomAt text x e o
+pub record RoomFor (text : ℕ) (es : List WrittenExpression) (o : Occurrences) : Type 0 where
+  pub each : (x : ℕ) (e : WrittenExpression) → slice_get es x ≡ Some e → RoomAt text x e o
   pub apart : AreApart o.tables.slots.items
 
 -- there is as much room as before for all expressions, of which e is the one that is sought
-abbrev pub KeepsRoom : Written → Occurrences → Occurrences → Type 0
-KeepsRoom e old new = (new.number ≡ old.number) × ((text : ℕ) (es : List Written) → slice_get es old.number ≡ Some e → RoomFor text es old → RoomFor text es new)
+abbrev pub KeepsRoom : WrittenExpression → Occurrences → Occurrences → Type 0
+KeepsRoom e old new = (new.number ≡ old.number) × ((text : ℕ) (es : List WrittenExpression) → slice_get es old.number ≡ Some e → RoomFor text es old → RoomFor text es new)
 
 -- the table in use is that of all or the expression's own, and serves it in the text
-pub record HasTable (e : Written) (w : List ℕ) (o : Occurrences) : Type 0 where
+pub record HasTable (e : WrittenExpression) (w : List ℕ) (o : Occurrences) : Type 0 where
   pub choice : (o.at ≡ 0) ⊎ (slice_get o.tables.slots.items o.number ≡ Some o.at)
   pub serves : TableIs o.tables.all.items o.at (λ t. (p : Prepared) → p.arena.expr ≡ e → SearchServes p w t o.seeking)
 
 -- what is kept serves to search the text after an occurrence that ended at the place, if there is one
-pub record Serves (e : Written) (w : List ℕ) (last : Option ℕ) (o : Occurrences) : Type 0 where
+pub record Serves (e : WrittenExpression) (w : List ℕ) (last : Option ℕ) (o : Occurrences) : Type 0 where
   pub room : RoomAt (length w) o.number e o
   pub fresh : last ≡ None → IsTrue o.is_fresh
   pub used : o.is_fresh ≡ false → HasTable e w o
 
 -- there is as much room as before, and what is kept serves to search after the occurrence found, if there is one
-abbrev pub ServesOn : Written → List ℕ → Option (ℕ × ℕ) → Occurrences → Occurrences → Type 0
+abbrev pub ServesOn : WrittenExpression → List ℕ → Option (ℕ × ℕ) → Occurrences → Occurrences → Type 0
 ServesOn e w r old new = KeepsRoom e old new × IfSome r (λ f. Serves e w (Some f.1) new)
 
 -- The steps that searches by passes may still take, with m nodes in a text of n bytes, after an occurrence that ended at the place.

@@ -1,7 +1,7 @@
 -- Private to the proofs: no contract of a public item cites what stands here.
 -- An expression that is searched by passes, with its tables, and the room for passes.
 use Rattle.std.specs.Prelude.{◌≡◌, ◌+◌, ◌-◌, ◌/◌, ◌≤◌, true, false, length, vec_capacity, Option, Some, None}
-use Rattle.sedre.specs.Written.{Written, tree}
+use Rattle.sedre.specs.Written.{WrittenExpression, expression_tree}
 use Rattle.sedtext.specs.Beginnings.{AllBegin}
 use Rattle.sedtext.specs.Hints.{AreHints}
 use Rattle.sedpass.specs.Decide.{AreGroupTables, AreRoomy, HasSpace}
@@ -26,21 +26,21 @@ abbrev pub back_way : Way
 back_way = record { mirrored = true; sweeps = true; keeps = true }
 
 -- what was found out is right for the expression
-pub record IsSought (e : Written) (s : Sought) : Type 0 where
+pub record IsSought (e : WrittenExpression) (s : Sought) : Type 0 where
   pub expr : s.prepared.arena.expr ≡ e
-  pub begins : AllBegin (tree e) s.begins
-  pub hints : AreHints (tree e) s.hints
+  pub begins : AllBegin (expression_tree e) s.begins
+  pub hints : AreHints (expression_tree e) s.hints
 
 -- the tables, where the expression has some of its own, are for it
 abbrev pub AreOwn : Prepared → Option OwnTables → Type 0
 AreOwn p None = Unit {0}
 AreOwn p (Some t) = IsTable p t.any × (t.any.way ≡ any_way) × AreGroupTables p t.groups
 
-abbrev pub ArePasses : Written → Passes → Type 0
+abbrev pub ArePasses : WrittenExpression → Passes → Type 0
 ArePasses e p = IsSought e p.sought × AreOwn p.sought.prepared p.own
 
 -- the expression that is searched, and that it is searched rightly
-abbrev pub written_of : Engine → Written
+abbrev pub written_of : Engine → WrittenExpression
 written_of (Direct e form) = e
 written_of (ByPasses p) = p.value.sought.prepared.arena.expr
 

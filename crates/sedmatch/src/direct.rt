@@ -7,8 +7,8 @@
 //! matches of a text together cost no more than one pass over it.
 ghost use Rattle.std.specs.Prelude.{◌≡◌, ℕ, ◌+◌, ◌-◌, ◌*◌, ◌<◌, ◌≤◌, ◌↔◌, length, slice_get, Some, IfOk, IfSome, IsTrue};
 ghost use Rattle.sedre.specs.Arena.{IsArena, IsExpr};
-ghost use Rattle.sedre.specs.Written.{Written, tree};
-ghost use Rattle.sedre.specs.Steps.{Takes, Counted, TakesAtLeast};
+ghost use Rattle.sedre.specs.Written.{WrittenExpression, expression_tree};
+ghost use Rattle.sedre.specs.Steps.{Takes, TakesExactly, TakesAtLeast};
 ghost use Rattle.sedre.specs.declared.types.Node.TheVariants.{Seq, Set};
 ghost use Rattle.sedtext.specs.Answer.{SpanAnswer};
 ghost use Rattle.sedtext.specs.Bytes.{looked_at};
@@ -16,7 +16,7 @@ ghost use Rattle.sedtext.specs.Costs.{Pays};
 ghost use Rattle.sedtext.specs.Following.{CanEndEarly, PassesOver};
 ghost use Rattle.sedtext.specs.Spans.{SomeFound, IsIn};
 ghost use Rattle.sedmatch.specs.Candidates.{NoMatchBefore};
-ghost use Rattle.sedmatch.specs.Direct.{ComesFirst, FirstWith, FirstStart, FirstSpan, FormPasses, HasForm, IsDirect, StartsFrom, end_or, bytes_looked_at, rate};
+ghost use Rattle.sedmatch.specs.Direct.{CanComeFirst, FirstWith, FirstStart, FirstSpan, FormPasses, HasForm, IsDirect, StartsFrom, end_or, bytes_looked_at, rate};
 ghost use Rattle.sedmatch.specs.declared.direct.DirectForm.TheVariants.{ByteThenRunAtEnd, Anchor as AnchorForm, OneByte, Run, ByteThenRun, RunThenByte, RunAtEnd, Times, Literal, Choice as ChoiceForm};
 
 use crate::word::{Word, word_of};
@@ -42,7 +42,7 @@ pub enum First {
 impl First {
     /// Whether it can be this byte.
     pub fn has(&self, byte: u8) -> bool
-        ensures { IsTrue result ↔ ComesFirst self.now byte }
+        ensures { IsTrue result ↔ CanComeFirst self.now byte }
     {
         match self {
             First::Among(few) => few.has(byte),
@@ -87,7 +87,7 @@ pub enum DirectForm {
 
 /// A member of a set, as it is sought.
 fn first_of(set: &ByteSet) -> First
-    ensures { (c : ℕ) → c < 256 → ComesFirst result c ↔ IsIn c set.now }
+    ensures { (c : ℕ) → c < 256 → CanComeFirst result c ↔ IsIn c set.now }
 {
     match members_of(set) {
         Some(few) => First::Among(few),
@@ -109,7 +109,7 @@ fn are_disjoint(these: &ByteSet, those: &ByteSet) -> bool
 
 /// How the matches of the expression look, if it is of anchors alone.
 fn anchor_form(expr: &Expr, steps: &mut Steps) -> Option<DirectForm>
-    ensures form { IfSome result (HasForm (tree expr.now) 4) }
+    ensures form { IfSome result (HasForm (expression_tree expr.now) 4) }
     ensures cost { Takes steps.old steps.new 3 }
 {
     match expr.look(expr.root(), steps) {
@@ -130,7 +130,7 @@ fn anchor_form(expr: &Expr, steps: &mut Steps) -> Option<DirectForm>
 fn both_anchors(expr: &Expr, a: NodeId, b: NodeId, steps: &mut Steps) -> Option<DirectForm>
     requires root { slice_get expr.now.nodes (length expr.now.nodes - 1) ≡ Some (Seq a b) }
     requires arena { IsArena expr.now.nodes }
-    ensures form { IfSome result (HasForm (tree expr.now) 4) }
+    ensures form { IfSome result (HasForm (expression_tree expr.now) 4) }
     ensures cost { Takes steps.old steps.new 2 }
 {
     match (expr.look(a, steps), expr.look(b, steps)) {
@@ -147,7 +147,7 @@ fn both_anchors(expr: &Expr, a: NodeId, b: NodeId, steps: &mut Steps) -> Option<
 fn run_then(expr: &Expr, a: NodeId, b: NodeId, steps: &mut Steps) -> Option<DirectForm>
     requires root { slice_get expr.now.nodes (length expr.now.nodes - 1) ≡ Some (Seq a b) }
     requires arena { IsArena expr.now.nodes }
-    ensures form { IfSome result (HasForm (tree expr.now) 4) }
+    ensures form { IfSome result (HasForm (expression_tree expr.now) 4) }
     ensures cost { Takes steps.old steps.new 4 }
 {
     let members = star_set(expr, a.index(), steps)?;
@@ -175,7 +175,7 @@ fn byte_then(
     requires root { slice_get expr.now.nodes (length expr.now.nodes - 1) ≡ Some (Seq parts.0 parts.1) }
     requires first { slice_get expr.now.nodes parts.0.index ≡ Some (Set set.now) }
     requires arena { IsArena expr.now.nodes }
-    ensures form { IfSome result (HasForm (tree expr.now) 4) }
+    ensures form { IfSome result (HasForm (expression_tree expr.now) 4) }
     ensures cost { Takes steps.old steps.new 5 }
 {
     match expr.look(parts.1, steps) {
@@ -204,7 +204,7 @@ fn byte_run_then(
     requires root { slice_get expr.now.nodes (length expr.now.nodes - 1) ≡ Some (Seq parts.0 parts.1) }
     requires first { slice_get expr.now.nodes parts.0.index ≡ Some (Seq inner.0 inner.1) }
     requires arena { IsArena expr.now.nodes }
-    ensures form { IfSome result (HasForm (tree expr.now) 4) }
+    ensures form { IfSome result (HasForm (expression_tree expr.now) 4) }
     ensures cost { Takes steps.old steps.new 5 }
 {
     let Node::End = expr.look(parts.1, steps) else {
@@ -221,7 +221,7 @@ fn byte_run_then(
 
 /// How the matches of the expression look, if they are of one byte, a run or both.
 fn run_form(expr: &Expr, steps: &mut Steps) -> Option<DirectForm>
-    ensures form { IfSome result (HasForm (tree expr.now) 4) }
+    ensures form { IfSome result (HasForm (expression_tree expr.now) 4) }
     ensures cost { Takes steps.old steps.new 7 }
 {
     let root = expr.root().index();
@@ -245,7 +245,7 @@ fn choice_form(
     expr: &Expr,
     steps: &mut Steps,
 ) -> Result<Option<DirectForm>, AllocError>
-    ensures form { IfOk result (λ r. IfSome r (HasForm (tree expr.now) (14 * length expr.now.nodes))) }
+    ensures form { IfOk result (λ r. IfSome r (HasForm (expression_tree expr.now) (14 * length expr.now.nodes))) }
     ensures cost { Takes steps.old steps.new 1114144 }
 {
     if expr.nodes() < 3 {
@@ -268,7 +268,7 @@ pub(crate) fn is_expression(expr: &Expr)
 
 /// How the matches of the expression look, if a look at the text tells them.
 fn form_of(alloc: Global, expr: &Expr, steps: &mut Steps) -> Result<Option<DirectForm>, AllocError>
-    ensures form { IfOk result (λ r. IfSome r (HasForm (tree expr.now) (14 * length expr.now.nodes))) }
+    ensures form { IfOk result (λ r. IfSome r (HasForm (expression_tree expr.now) (14 * length expr.now.nodes))) }
     ensures cost { Takes steps.old steps.new 1572914 }
 {
     is_expression(expr);
@@ -309,7 +309,7 @@ fn find_first(first: &First, text: &Text, from: usize, steps: &mut Steps) -> Opt
     requires from { from ≤ length text.now }
     ensures first { FirstWith first.now text.now from result }
     ensures cost { Takes steps.old steps.new (looked_at (length text.now) from result) }
-    ensures counts { Counted steps.old steps.new (looked_at (length text.now) from result) }
+    ensures counts { TakesExactly steps.old steps.new (looked_at (length text.now) from result) }
 {
     match first {
         First::Among(few) => find_few(text, few, from, steps),
@@ -567,11 +567,11 @@ pub fn direct_span(
     steps: &mut Steps,
 ) -> Option<(usize, usize)>
     requires from { from ≤ length text.now }
-    ensures answer { (e : Written) → IsDirect e form.now → SpanAnswer (tree e) text.now from result }
+    ensures answer { (e : WrittenExpression) → IsDirect e form.now → SpanAnswer (expression_tree e) text.now from result }
     ensures lies { IfSome result (λ f. (from ≤ f.0) × (f.0 ≤ f.1) × (f.1 ≤ length text.now)) }
     ensures cost { Pays steps.old steps.new (rate form.now * (end_or (length text.now) result + 1)) (rate form.now * from) }
     ensures counts { IfSome result (λ f. TakesAtLeast steps.old steps.new (f.1 - f.0)) }
-    ensures passes { (e : Written) → IsDirect e form.now → CanEndEarly (tree e) → IfSome result (λ f. TakesAtLeast steps.old steps.new (f.1 - from)) }
+    ensures passes { (e : WrittenExpression) → IsDirect e form.now → CanEndEarly (expression_tree e) → IfSome result (λ f. TakesAtLeast steps.old steps.new (f.1 - from)) }
 {
     are_bytes(text);
     form_span(form, text, from, steps)
@@ -603,8 +603,8 @@ fn can_match(form: &DirectForm, text: &Text, from: usize, steps: &mut Steps) -> 
 /// Whether any match begins at `from` or later.
 pub fn direct_matches(form: &DirectForm, text: &Text, from: usize, steps: &mut Steps) -> bool
     requires from { from ≤ length text.now }
-    ensures matches { (e : Written) → IsDirect e form.now → IsTrue result ↔ SomeFound (tree e) text.now from }
-    ensures passes { (e : Written) → IsDirect e form.now → IsTrue result → PassesOver (tree e) text.now from steps.old steps.new }
+    ensures matches { (e : WrittenExpression) → IsDirect e form.now → IsTrue result ↔ SomeFound (expression_tree e) text.now from }
+    ensures passes { (e : WrittenExpression) → IsDirect e form.now → IsTrue result → PassesOver (expression_tree e) text.now from steps.old steps.new }
     ensures cost { Takes steps.old steps.new (rate form.now * (length text.now + 1)) }
 {
     are_bytes(text);
@@ -613,7 +613,7 @@ pub fn direct_matches(form: &DirectForm, text: &Text, from: usize, steps: &mut S
 
 /// A place of the text before which no line has a match of this form, or None where no line has one.
 pub fn direct_candidate(form: &DirectForm, text: &Text, steps: &mut Steps) -> Option<usize>
-    ensures before { (e : Written) → IsDirect e form.now → NoMatchBefore (tree e) text.now result }
+    ensures before { (e : WrittenExpression) → IsDirect e form.now → NoMatchBefore (expression_tree e) text.now result }
     ensures cost { Takes steps.old steps.new (25 * (length text.now + 1)) }
     ensures counts { IfSome result (λ k. TakesAtLeast steps.old steps.new k) }
 {

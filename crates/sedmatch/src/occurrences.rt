@@ -1,12 +1,12 @@
 //! All occurrences in one text, one after another.
 ghost use Rattle.std.specs.Prelude.{◌≡◌, ℕ, List, false, ◌+◌, ◌-◌, ◌*◌, ◌/◌, ◌^◌, ◌<◌, ◌≤◌, length, IfOk, IfSome, IsTrue, slice_get, Some};
 ghost use Rattle.std.specs.Option.{unwrap_or};
-ghost use Rattle.sedre.specs.Written.{Written, tree};
+ghost use Rattle.sedre.specs.Written.{WrittenExpression, expression_tree};
 ghost use Rattle.sedtext.specs.Answer.{SpanAnswer};
 ghost use Rattle.sedtext.specs.Costs.{Pays};
 ghost use Rattle.sedtext.specs.Following.{EndsWithin, Occurs, next_span};
 ghost use Rattle.sedtext.specs.Matching.{found};
-ghost use Rattle.sedpass.specs.Occurrences.{Looks, owed_behind};
+ghost use Rattle.sedpass.specs.Occurrences.{SearchTakes, owed_behind};
 ghost use Rattle.sedpass.specs.Search.{MaySearch, Searched, owed_after as owed_after_search};
 ghost use Rattle.sedpass.specs.Table.{IsAhead, IsRoomy, SameShape};
 ghost use Rattle.sedpass.specs.declared.table.Table.{Table};
@@ -116,7 +116,7 @@ impl Occurrences {
         requires text { max_text ≤ 2 ^ 30 }
         requires some_node { 1 ≤ max_nodes }
         requires nodes { max_nodes ≤ 65536 }
-        requires fit { (x : ℕ) (e : Written) → slice_get matchers.now x ≡ Some e → length e.nodes ≤ max_nodes }
+        requires fit { (x : ℕ) (e : WrittenExpression) → slice_get matchers.now x ≡ Some e → length e.nodes ≤ max_nodes }
         ensures { IfOk result (RoomFor max_text matchers.now) }
     {
         let width = width_for(max_text);
@@ -138,8 +138,8 @@ impl Occurrences {
 
     /// Begins anew, for the expression of this number in a text.
     pub fn begin(&mut self, number: usize)
-        ensures room { (text : ℕ) (es : List Written) → RoomFor text es self.old → RoomFor text es self.new }
-        ensures serves { (w : List ℕ) (es : List Written) (e : Written) → slice_get es number ≡ Some e → RoomFor (length w) es self.old →
+        ensures room { (text : ℕ) (es : List WrittenExpression) → RoomFor text es self.old → RoomFor text es self.new }
+        ensures serves { (w : List ℕ) (es : List WrittenExpression) (e : WrittenExpression) → slice_get es number ≡ Some e → RoomFor (length w) es self.old →
             Serves e w None self.new }
         ensures number { self.new.number ≡ number }
     {
@@ -215,11 +215,11 @@ fn next_with(
     requires last { EndsWithin (length text.now) last }
     requires ready { MaySearch sought.now.prepared text.now sought.now.begins ahead.old back.old seeking.old }
     ensures searched { Searched sought.now.prepared text.now ahead.old ahead.new back.old back.new seeking.old seeking.new }
-    ensures next { result ≡ next_span (found (tree sought.now.prepared.arena.expr) text.now) (length text.now) last }
-    ensures occurs { IfSome result (Occurs (tree sought.now.prepared.arena.expr) text.now last) }
+    ensures next { result ≡ next_span (found (expression_tree sought.now.prepared.arena.expr) text.now) (length text.now) last }
+    ensures occurs { IfSome result (Occurs (expression_tree sought.now.prepared.arena.expr) text.now last) }
     ensures cost { let m = length sought.now.prepared.arena.expr.nodes in let n = length text.now in
         Pays steps.old steps.new (owed_search m n last seeking.old) (owed_after_search (owed_behind m n seeking.new) result) }
-    ensures looks { Looks (length sought.now.prepared.arena.expr.nodes) (length text.now) (unwrap_or last 0) steps.old steps.new result }
+    ensures looks { SearchTakes (length sought.now.prepared.arena.expr.nodes) (length text.now) (unwrap_or last 0) steps.old steps.new result }
 {
     let subject = Subject {
         prepared: &sought.prepared,
@@ -243,10 +243,10 @@ fn first_with(
     requires sought { IsSought sought.now.prepared.arena.expr sought.now }
     requires ready { MaySearch sought.now.prepared text.now sought.now.begins ahead.old back.old seeking.old }
     ensures searched { Searched sought.now.prepared text.now ahead.old ahead.new back.old back.new seeking.old seeking.new }
-    ensures answer { SpanAnswer (tree sought.now.prepared.arena.expr) text.now 0 result }
+    ensures answer { SpanAnswer (expression_tree sought.now.prepared.arena.expr) text.now 0 result }
     ensures cost { let m = length sought.now.prepared.arena.expr.nodes in let n = length text.now in
         Pays steps.old steps.new (owed_search m n None seeking.old) (owed_after_search (owed_behind m n seeking.new) result) }
-    ensures looks { Looks (length sought.now.prepared.arena.expr.nodes) (length text.now) 0 steps.old steps.new result }
+    ensures looks { SearchTakes (length sought.now.prepared.arena.expr.nodes) (length text.now) 0 steps.old steps.new result }
 {
     let start = sought.hints.first_place(text, 0, steps)?;
     let subject = Subject {
@@ -271,12 +271,12 @@ pub fn next_by(
     requires serves { Serves sought.now.prepared.arena.expr text.now last occurrences.old }
     ensures ahead { IsAhead sought.now.prepared ahead.new }
     ensures ahead_shape { SameShape ahead.old ahead.new }
-    ensures next { result ≡ next_span (found (tree sought.now.prepared.arena.expr) text.now) (length text.now) last }
-    ensures occurs { IfSome result (Occurs (tree sought.now.prepared.arena.expr) text.now last) }
+    ensures next { result ≡ next_span (found (expression_tree sought.now.prepared.arena.expr) text.now) (length text.now) last }
+    ensures occurs { IfSome result (Occurs (expression_tree sought.now.prepared.arena.expr) text.now last) }
     ensures serves { ServesOn sought.now.prepared.arena.expr text.now result occurrences.old occurrences.new }
     ensures cost { let m = length sought.now.prepared.arena.expr.nodes in let n = length text.now in
         Pays steps.old steps.new (owed m n last occurrences.old) (owed_after m n result occurrences.new) }
-    ensures looks { Looks (length sought.now.prepared.arena.expr.nodes) (length text.now) (unwrap_or last 0) steps.old steps.new result }
+    ensures looks { SearchTakes (length sought.now.prepared.arena.expr.nodes) (length text.now) (unwrap_or last 0) steps.old steps.new result }
 {
     occurrences.make_ready(&sought.prepared, text);
     let at = occurrences.at;

@@ -2,7 +2,7 @@
 ghost use Rattle.std.specs.Prelude.{◌≡◌, ℕ, List, ◌+◌, ◌-◌, ◌*◌, ◌/◌, ◌<◌, ◌≤◌, ◌↔◌, [], length, vec_capacity, IfOk, IfSome, IsTrue};
 ghost use Rattle.sedre.specs.Arena.{IsExpr};
 ghost use Rattle.sedre.specs.Tree.{Tree};
-ghost use Rattle.sedre.specs.Written.{Written, tree};
+ghost use Rattle.sedre.specs.Written.{WrittenExpression, expression_tree};
 ghost use Rattle.sedre.specs.Steps.{Takes, TakesAtLeast};
 ghost use Rattle.sedtext.specs.Beginnings.{AllBegin};
 ghost use Rattle.sedtext.specs.declared.beginnings.Begins.TheVariants.{AtStart};
@@ -11,7 +11,7 @@ ghost use Rattle.sedpass.specs.Find.{IsSweep};
 ghost use Rattle.sedpass.specs.Walks.{EntersGroups};
 ghost use Rattle.sedpass.specs.Table.{IsAhead, SameShape};
 ghost use Rattle.sedtext.specs.Caps.{IsReport};
-ghost use Rattle.sedtext.specs.Spans.{SomeFound, Spans};
+ghost use Rattle.sedtext.specs.Spans.{SomeFound, Matches};
 ghost use Rattle.sedpass.specs.Decide.{HasDesk, SameTables, found};
 ghost use Rattle.sedpass.specs.Kept.{SameSpace};
 ghost use Rattle.sedmatch.specs.Passes.{AreOwn, ArePasses, IsDesk, IsSought, SameDesk};
@@ -160,12 +160,12 @@ impl Passes {
 
 /// Whether a match begins at the text's beginning, by a table of passes from one start.
 fn begins_match(subject: Subject, ahead: &mut Table, work: &mut Work, steps: &mut Steps) -> bool
-    requires begins { AllBegin (tree subject.prepared.now.arena.expr) AtStart }
+    requires begins { AllBegin (expression_tree subject.prepared.now.arena.expr) AtStart }
     requires ahead { IsAhead subject.prepared.now ahead.old }
     ensures ahead { IsAhead subject.entry.prepared.now ahead.new }
     ensures shape { SameShape ahead.old ahead.new }
-    ensures matches { IsTrue result ↔ SomeFound (tree subject.entry.prepared.now.arena.expr) subject.entry.text.now 0 }
-    ensures passes { IsTrue result → PassesOver (tree subject.entry.prepared.now.arena.expr) subject.entry.text.now 0 steps.old steps.new }
+    ensures matches { IsTrue result ↔ SomeFound (expression_tree subject.entry.prepared.now.arena.expr) subject.entry.text.now 0 }
+    ensures passes { IsTrue result → PassesOver (expression_tree subject.entry.prepared.now.arena.expr) subject.entry.text.now 0 steps.old steps.new }
     ensures cost { Takes steps.old steps.new (40 * length subject.entry.prepared.now.arena.expr.nodes * (length subject.entry.text.now + 1)) }
 {
     let bytes = subject.text.forwards();
@@ -185,7 +185,7 @@ fn matches_with(
     work: &mut Work,
     steps: &mut Steps,
 ) -> bool
-    requires begins { AllBegin (tree sought.now.prepared.arena.expr) sought.now.begins }
+    requires begins { AllBegin (expression_tree sought.now.prepared.arena.expr) sought.now.begins }
     requires any { IsSweep sought.now.prepared any.old }
     requires ahead { IsAhead sought.now.prepared ahead.old }
     requires from { from ≤ length text.now }
@@ -193,8 +193,8 @@ fn matches_with(
     ensures any_shape { SameShape any.old any.new }
     ensures ahead { IsAhead sought.now.prepared ahead.new }
     ensures ahead_shape { SameShape ahead.old ahead.new }
-    ensures matches { IsTrue result ↔ SomeFound (tree sought.now.prepared.arena.expr) text.now from }
-    ensures passes { IsTrue result → PassesOver (tree sought.now.prepared.arena.expr) text.now from steps.old steps.new }
+    ensures matches { IsTrue result ↔ SomeFound (expression_tree sought.now.prepared.arena.expr) text.now from }
+    ensures passes { IsTrue result → PassesOver (expression_tree sought.now.prepared.arena.expr) text.now from steps.old steps.new }
     ensures cost { Takes steps.old steps.new (41 * length sought.now.prepared.arena.expr.nodes * (length text.now + 1)) }
 {
     let subject = Subject {
@@ -223,8 +223,8 @@ pub fn matches_by(
     ensures own { AreOwn passes.new.sought.prepared passes.new.own }
     ensures desk { IsDesk desk.new }
     ensures most { SameDesk desk.old desk.new }
-    ensures matches { IsTrue result ↔ SomeFound (tree passes.old.sought.prepared.arena.expr) text.now from }
-    ensures passes { IsTrue result → PassesOver (tree passes.old.sought.prepared.arena.expr) text.now from steps.old steps.new }
+    ensures matches { IsTrue result ↔ SomeFound (expression_tree passes.old.sought.prepared.arena.expr) text.now from }
+    ensures passes { IsTrue result → PassesOver (expression_tree passes.old.sought.prepared.arena.expr) text.now from steps.old steps.new }
     ensures cost { Takes steps.old steps.new (44 * length passes.old.sought.prepared.arena.expr.nodes * (length text.now + 1)) }
 {
     let sought = &passes.sought;
@@ -244,7 +244,7 @@ pub fn matches_by(
 
 /// The groups of a match of an expression that has none.
 pub fn whole_alone(span: (usize, usize)) -> [Option<(usize, usize)>; 10]
-    ensures report { (e : Written) (w : List ℕ) → IsExpr e.nodes e.groups → e.groups ≡ 0 → Spans (tree e) w span.0 span.1 → IsReport (tree e) w span.0 span.1 result }
+    ensures report { (e : WrittenExpression) (w : List ℕ) → IsExpr e.nodes e.groups → e.groups ≡ 0 → Matches (expression_tree e) w span.0 span.1 → IsReport (expression_tree e) w span.0 span.1 result }
     ensures one { found result ≡ 1 }
     ensures entered { (e : Tree) (s : ℕ) → EntersGroups e result s s }
 {
@@ -273,7 +273,7 @@ fn groups_with(
 ) -> [Option<(usize, usize)>; 10]
     requires order { span.0 ≤ span.1 }
     requires inside { span.1 ≤ length subject.text.now }
-    requires spans { Spans (tree subject.prepared.now.arena.expr) subject.text.now span.0 span.1 }
+    requires spans { Matches (expression_tree subject.prepared.now.arena.expr) subject.text.now span.0 span.1 }
     requires desk { HasDesk subject tables.old room.old.kept }
     requires none { room.old.tasks.items ≡ [] }
     requires tasks { 2 * length subject.prepared.now.arena.expr.nodes ≤ vec_capacity room.old.tasks }
@@ -282,11 +282,11 @@ fn groups_with(
     ensures space { SameSpace room.old.kept room.new.kept }
     ensures none { room.new.tasks.items ≡ [] }
     ensures tasks { vec_capacity room.old.tasks ≤ vec_capacity room.new.tasks }
-    ensures report { IsReport (tree subject.entry.prepared.now.arena.expr) subject.entry.text.now span.0 span.1 result }
+    ensures report { IsReport (expression_tree subject.entry.prepared.now.arena.expr) subject.entry.text.now span.0 span.1 result }
     ensures cost { let m = length subject.entry.prepared.now.arena.expr.nodes in
         Takes steps.old steps.new (172 * m * (m - 1) * (span.1 - span.0) + 2 * m) }
     ensures counts { TakesAtLeast steps.old steps.new (found result - 1) }
-    ensures entered { EntersGroups (tree subject.entry.prepared.now.arena.expr) result steps.old steps.new }
+    ensures entered { EntersGroups (expression_tree subject.entry.prepared.now.arena.expr) result steps.old steps.new }
 {
     let due = all_groups(subject.prepared);
     decide(subject, tables, room, due, span.0, span.1, steps)
@@ -301,18 +301,18 @@ pub fn shared_groups(
 ) -> [Option<(usize, usize)>; 10]
     requires order { span.0 ≤ span.1 }
     requires inside { span.1 ≤ length subject.text.now }
-    requires spans { Spans (tree subject.prepared.now.arena.expr) subject.text.now span.0 span.1 }
+    requires spans { Matches (expression_tree subject.prepared.now.arena.expr) subject.text.now span.0 span.1 }
     requires desk { IsDesk desk.old }
     requires short { length subject.text.now ≤ desk.old.max_text }
     requires few { length subject.prepared.now.arena.expr.nodes ≤ desk.old.max_nodes }
     ensures desk { IsDesk desk.new }
     ensures most { SameDesk desk.old desk.new }
-    ensures report { IsReport (tree subject.entry.prepared.now.arena.expr) subject.entry.text.now span.0 span.1 result }
+    ensures report { IsReport (expression_tree subject.entry.prepared.now.arena.expr) subject.entry.text.now span.0 span.1 result }
     ensures none_cost { subject.entry.prepared.now.arena.expr.groups ≡ 0 → steps.new ≡ steps.old }
     ensures cost { let m = length subject.entry.prepared.now.arena.expr.nodes in
         Takes steps.old steps.new (172 * m * (m - 1) * (span.1 - span.0) + 2 * m) }
     ensures counts { TakesAtLeast steps.old steps.new (found result - 1) }
-    ensures entered { EntersGroups (tree subject.entry.prepared.now.arena.expr) result steps.old steps.new }
+    ensures entered { EntersGroups (expression_tree subject.entry.prepared.now.arena.expr) result steps.old steps.new }
 {
     if subject.prepared.arena.groups() == 0 {
         return whole_alone(span);
@@ -331,7 +331,7 @@ pub fn groups_by(
 ) -> [Option<(usize, usize)>; 10]
     requires order { span.0 ≤ span.1 }
     requires inside { span.1 ≤ length text.now }
-    requires spans { Spans (tree passes.old.sought.prepared.arena.expr) text.now span.0 span.1 }
+    requires spans { Matches (expression_tree passes.old.sought.prepared.arena.expr) text.now span.0 span.1 }
     requires passes { ArePasses passes.old.sought.prepared.arena.expr passes.old }
     requires desk { IsDesk desk.old }
     requires short { length text.now ≤ desk.old.max_text }
@@ -340,12 +340,12 @@ pub fn groups_by(
     ensures own { AreOwn passes.new.sought.prepared passes.new.own }
     ensures desk { IsDesk desk.new }
     ensures most { SameDesk desk.old desk.new }
-    ensures report { IsReport (tree passes.old.sought.prepared.arena.expr) text.now span.0 span.1 result }
+    ensures report { IsReport (expression_tree passes.old.sought.prepared.arena.expr) text.now span.0 span.1 result }
     ensures none_cost { passes.old.sought.prepared.arena.expr.groups ≡ 0 → steps.new ≡ steps.old }
     ensures cost { let m = length passes.old.sought.prepared.arena.expr.nodes in
         Takes steps.old steps.new (172 * m * (m - 1) * (span.1 - span.0) + 2 * m) }
     ensures counts { TakesAtLeast steps.old steps.new (found result - 1) }
-    ensures entered { EntersGroups (tree passes.old.sought.prepared.arena.expr) result steps.old steps.new }
+    ensures entered { EntersGroups (expression_tree passes.old.sought.prepared.arena.expr) result steps.old steps.new }
 {
     if passes.sought.prepared.arena.groups() == 0 {
         return whole_alone(span);

@@ -1,17 +1,17 @@
 //! An expression that is sought many times.
 ghost use Rattle.std.specs.Prelude.{◌≡◌, ℕ, ◌+◌, ◌-◌, ◌*◌, ◌<◌, ◌≤◌, ◌↔◌, length, IfOk, IfSome, IsTrue, is_some, nat_lt, if◌then◌else◌, None, List};
 ghost use Rattle.std.specs.Option.{unwrap_or};
-ghost use Rattle.sedre.specs.Written.{Written, tree};
+ghost use Rattle.sedre.specs.Written.{WrittenExpression, expression_tree};
 ghost use Rattle.sedre.specs.Steps.{Takes, TakesAtLeast};
 ghost use Rattle.sedtext.specs.Costs.{Pays};
 ghost use Rattle.sedtext.specs.Following.{CanEndEarly, EndsWithin, LiesOn, Occurs, PassesOver, bytes_passed, next_span};
 ghost use Rattle.sedtext.specs.Matching.{found, report};
 ghost use Rattle.sedtext.specs.Groups.{SpanIn, span_of};
 ghost use Rattle.sedtext.specs.SearchRoom.{FitInto};
-ghost use Rattle.sedtext.specs.Spans.{SomeFound, Spans};
+ghost use Rattle.sedtext.specs.Spans.{SomeFound, Matches};
 ghost use Rattle.sedmatch.specs.Candidates.{NoMatchBefore};
 ghost use Rattle.sedpass.specs.Decide.{found as spans_in};
-ghost use Rattle.sedpass.specs.Occurrences.{Looks};
+ghost use Rattle.sedpass.specs.Occurrences.{SearchTakes};
 ghost use Rattle.sedpass.specs.Walks.{EntersGroups};
 ghost use Rattle.sedmatch.specs.Direct.{IsDirect, end_or, rate};
 ghost use Rattle.sedmatch.specs.Occurrences.{Serves, ServesOn, owed, owed_after, owed_direct, owed_direct_after};
@@ -52,9 +52,9 @@ pub struct TableMatcher {
 }
 
 impl Model for TableMatcher {
-    ghost use Rattle.sedre.specs.Written.{Written};
+    ghost use Rattle.sedre.specs.Written.{WrittenExpression};
 
-    ghost Value = { Written };
+    ghost Value = { WrittenExpression };
 
     ghost use Rattle.sedmatch.specs.Passes.{IsEngine, written_of};
 
@@ -68,12 +68,12 @@ impl Model for TableMatcher {
 #[inline(never)]
 fn past_null(form: &DirectForm, text: &Text, at: usize, steps: &mut Steps) -> Option<(usize, usize)>
     requires at { at ≤ length text.now }
-    ensures next { (e : Written) → IsDirect e form.now →
-        result ≡ if nat_lt at (length text.now) then found (tree e) text.now (at + 1) else None }
+    ensures next { (e : WrittenExpression) → IsDirect e form.now →
+        result ≡ if nat_lt at (length text.now) then found (expression_tree e) text.now (at + 1) else None }
     ensures lies { IfSome result (λ f. (at < f.0) × (f.0 ≤ f.1) × (f.1 ≤ length text.now)) }
     ensures cost { Pays steps.old steps.new (rate form.now * (end_or (length text.now) result + 1)) (rate form.now * (at + 1)) }
     ensures counts { IfSome result (λ f. TakesAtLeast steps.old steps.new (f.1 - f.0)) }
-    ensures passes { (e : Written) → IsDirect e form.now → CanEndEarly (tree e) → IfSome result (λ f. TakesAtLeast steps.old steps.new (f.1 - (at + 1))) }
+    ensures passes { (e : WrittenExpression) → IsDirect e form.now → CanEndEarly (expression_tree e) → IfSome result (λ f. TakesAtLeast steps.old steps.new (f.1 - (at + 1))) }
 {
     if at >= text.len() {
         return None;
@@ -90,13 +90,13 @@ fn next_direct(
     steps: &mut Steps,
 ) -> Option<(usize, usize)>
     requires last { EndsWithin (length text.now) last }
-    ensures next { (e : Written) → IsDirect e form.now → result ≡ next_span (found (tree e) text.now) (length text.now) last }
+    ensures next { (e : WrittenExpression) → IsDirect e form.now → result ≡ next_span (found (expression_tree e) text.now) (length text.now) last }
     ensures lies { IfSome result (LiesOn (length text.now) last) }
-    ensures cost { (e : Written) → IsDirect e form.now → let m = length e.nodes in let n = length text.now in
+    ensures cost { (e : WrittenExpression) → IsDirect e form.now → let m = length e.nodes in let n = length text.now in
         Pays steps.old steps.new (owed_direct m n last) (owed_direct_after m n result) }
-    ensures once { (e : Written) → IsDirect e form.now → Takes steps.old steps.new (28 * length e.nodes * (length text.now + 1)) }
+    ensures once { (e : WrittenExpression) → IsDirect e form.now → Takes steps.old steps.new (28 * length e.nodes * (length text.now + 1)) }
     ensures counts { IfSome result (λ f. TakesAtLeast steps.old steps.new (f.1 - f.0)) }
-    ensures passes { (e : Written) → IsDirect e form.now → CanEndEarly (tree e) → IfSome result (λ f. TakesAtLeast steps.old steps.new (bytes_passed last f)) }
+    ensures passes { (e : WrittenExpression) → IsDirect e form.now → CanEndEarly (expression_tree e) → IfSome result (λ f. TakesAtLeast steps.old steps.new (bytes_passed last f)) }
 {
     let at = last.unwrap_or(0);
     let first = direct_span(form, text, at, steps);
@@ -124,12 +124,12 @@ fn next_by_passes(
     ensures own { AreOwn passes.new.sought.prepared passes.new.own }
     ensures desk { IsDesk desk.new }
     ensures most { SameDesk desk.old desk.new }
-    ensures next { result ≡ next_span (found (tree passes.old.sought.prepared.arena.expr) text.now) (length text.now) last }
-    ensures occurs { IfSome result (Occurs (tree passes.old.sought.prepared.arena.expr) text.now last) }
+    ensures next { result ≡ next_span (found (expression_tree passes.old.sought.prepared.arena.expr) text.now) (length text.now) last }
+    ensures occurs { IfSome result (Occurs (expression_tree passes.old.sought.prepared.arena.expr) text.now last) }
     ensures serves { ServesOn passes.old.sought.prepared.arena.expr text.now result occurrences.old occurrences.new }
     ensures cost { let m = length passes.old.sought.prepared.arena.expr.nodes in let n = length text.now in
         Pays steps.old steps.new (owed m n last occurrences.old) (owed_after m n result occurrences.new) }
-    ensures looks { Looks (length passes.old.sought.prepared.arena.expr.nodes) (length text.now) (unwrap_or last 0) steps.old steps.new result }
+    ensures looks { SearchTakes (length passes.old.sought.prepared.arena.expr.nodes) (length text.now) (unwrap_or last 0) steps.old steps.new result }
 {
     let sought = &passes.sought;
     if let Some(own) = &mut passes.own {
@@ -200,7 +200,7 @@ impl TableMatcher {
     /// line has one. It is told by what every match holds, a literal mostly. Where nothing of the kind is known, it is the
     /// first place.
     pub fn candidate(&self, text: &Text, steps: &mut Steps) -> Option<usize>
-        ensures before { NoMatchBefore (tree self.now) text.now result }
+        ensures before { NoMatchBefore (expression_tree self.now) text.now result }
         ensures cost { Takes steps.old steps.new (25 * (length text.now + 1)) }
         ensures counts { IfSome result (λ k. TakesAtLeast steps.old steps.new k) }
     {
@@ -222,9 +222,9 @@ impl TableMatcher {
         requires fits { FitInto (length text.now) (length self.old.nodes) scratch.old }
         ensures same { self.new ≡ self.old }
         ensures scratch { scratch.new ≡ scratch.old }
-        ensures matches { IsTrue result ↔ SomeFound (tree self.old) text.now from }
-        ensures computed { result ≡ is_some (found (tree self.old) text.now from) }
-        ensures passes { IsTrue result → PassesOver (tree self.old) text.now from steps.old steps.new }
+        ensures matches { IsTrue result ↔ SomeFound (expression_tree self.old) text.now from }
+        ensures computed { result ≡ is_some (found (expression_tree self.old) text.now from) }
+        ensures passes { IsTrue result → PassesOver (expression_tree self.old) text.now from steps.old steps.new }
         ensures cost { Takes steps.old steps.new (64 * length self.old.nodes * (length text.now + 1)) }
     {
         match &mut self.engine {
@@ -253,15 +253,15 @@ impl TableMatcher {
         requires serves { Serves self.old text.now last occurrences.old }
         ensures same { self.new ≡ self.old }
         ensures scratch { scratch.new ≡ scratch.old }
-        ensures next { result ≡ next_span (found (tree self.old) text.now) (length text.now) last }
-        ensures occurs { IfSome result (Occurs (tree self.old) text.now last) }
+        ensures next { result ≡ next_span (found (expression_tree self.old) text.now) (length text.now) last }
+        ensures occurs { IfSome result (Occurs (expression_tree self.old) text.now last) }
         ensures serves { ServesOn self.old text.now result occurrences.old occurrences.new }
         ensures cost { let m = length self.old.nodes in let n = length text.now in
             Pays steps.old steps.new (owed m n last occurrences.old) (owed_after m n result occurrences.new) }
         ensures once { let m = length self.old.nodes in let n = length text.now in
             Takes steps.old steps.new (64 * m * m * (n + 1) * (n + 1)) }
         ensures counts { IfSome result (λ f. TakesAtLeast steps.old steps.new (f.1 - f.0)) }
-        ensures passes { CanEndEarly (tree self.old) → IfSome result (λ f. TakesAtLeast steps.old steps.new (bytes_passed last f)) }
+        ensures passes { CanEndEarly (expression_tree self.old) → IfSome result (λ f. TakesAtLeast steps.old steps.new (bytes_passed last f)) }
     {
         match &mut self.engine {
             Engine::Direct(_, form) => next_direct(form, text, last, steps),
@@ -282,11 +282,11 @@ impl TableMatcher {
     ) -> [Option<(usize, usize)>; 10]
         requires order { start ≤ end }
         requires inside { end ≤ length text.now }
-        requires spans { Spans (tree self.old) text.now start end }
+        requires spans { Matches (expression_tree self.old) text.now start end }
         requires fits { FitInto (length text.now) (length self.old.nodes) scratch.old }
         ensures same { self.new ≡ self.old }
         ensures scratch { scratch.new ≡ scratch.old }
-        ensures groups { result ≡ report (tree self.old) text.now start end }
+        ensures groups { result ≡ report (expression_tree self.old) text.now start end }
         ensures lies { (k : ℕ) → SpanIn (length text.now) (span_of result k) }
         ensures none_cost { self.old.groups ≡ 0 → steps.new ≡ steps.old }
         ensures cost { let m = length self.old.nodes in let n = length text.now in
@@ -294,7 +294,7 @@ impl TableMatcher {
         ensures linear_cost { let m = length self.old.nodes in
             Takes steps.old steps.new (172 * m * (m - 1) * (end - start) + 2 * m) }
         ensures counts { TakesAtLeast steps.old steps.new (spans_in result - 1) }
-        ensures entered { EntersGroups (tree self.old) result steps.old steps.new }
+        ensures entered { EntersGroups (expression_tree self.old) result steps.old steps.new }
     {
         match &mut self.engine {
             Engine::Direct(expr, _) => {

@@ -1,6 +1,6 @@
 //! Searches of an expression that is used once (XBD 9.1). They make it ready for passes in the room of the scratch.
 ghost use Rattle.std.specs.Prelude.{◌≡◌, ◌+◌, ◌-◌, ◌*◌, ◌≤◌, ◌↔◌, length, IfNone, IfSome, IsTrue, is_some};
-ghost use Rattle.sedre.specs.Written.{tree};
+ghost use Rattle.sedre.specs.Written.{expression_tree};
 ghost use Rattle.sedtext.specs.Spans.{SomeFound};
 ghost use Rattle.sedtext.specs.Following.{PassesOver};
 ghost use Rattle.sedtext.specs.Answer.{IsComputed, MatchAnswer, SpanAnswer};
@@ -36,7 +36,7 @@ fn first_span(
     ensures desk { IsDesk desk.new }
     ensures once { IsOnce desk.new once.new }
     ensures same { SameDesk desk.old desk.new }
-    ensures answer { SpanAnswer (tree once.old.prepared.arena.expr) text.now from result }
+    ensures answer { SpanAnswer (expression_tree once.old.prepared.arena.expr) text.now from result }
     ensures cost { let m = length once.old.prepared.arena.expr.nodes in
         Takes steps.old steps.new (142 * m * length text.now + 42 * m) }
     ensures counts { IfSome result (λ f. TakesAtLeast steps.old steps.new (f.1 - f.0)) }
@@ -65,8 +65,8 @@ fn any_match(
     requires few { length prepared.now.arena.expr.nodes ≤ desk.old.max_nodes }
     ensures desk { IsDesk desk.new }
     ensures same { SameDesk desk.old desk.new }
-    ensures matches { IsTrue result ↔ SomeFound (tree prepared.now.arena.expr) text.now from }
-    ensures passes { IsTrue result → PassesOver (tree prepared.now.arena.expr) text.now from steps.old steps.new }
+    ensures matches { IsTrue result ↔ SomeFound (expression_tree prepared.now.arena.expr) text.now from }
+    ensures passes { IsTrue result → PassesOver (expression_tree prepared.now.arena.expr) text.now from steps.old steps.new }
     ensures cost { Takes steps.old steps.new (41 * length prepared.now.arena.expr.nodes * (length text.now + 1)) }
 {
     desk.any.fit(prepared);
@@ -90,8 +90,8 @@ pub fn find(
     requires from { from ≤ length text.now }
     requires fits { FitInto (length text.now) (length expr.now.nodes) scratch.old }
     ensures scratch { scratch.new ≡ scratch.old }
-    ensures answer { MatchAnswer (tree expr.now) text.now from result }
-    ensures computed { IsComputed (tree expr.now) text.now from result }
+    ensures answer { MatchAnswer (expression_tree expr.now) text.now from result }
+    ensures computed { IsComputed (expression_tree expr.now) text.now from result }
     ensures cost { let m = length expr.now.nodes in let n = length text.now in
         Takes steps.old steps.new (64 * m * m * (n + 1) * (n + 1)) }
     ensures linear_cost { let m = length expr.now.nodes in let n = length text.now in
@@ -101,7 +101,7 @@ pub fn find(
     ensures cost_of_none { let m = length expr.now.nodes in let n = length text.now in
         IfNone result (StepsWithin steps.old steps.new (64 * m * (n + 1) * (n + 1)) × StepsWithin steps.old steps.new (143 * m * (n + 1))) }
     ensures counts { IfSome result (λ f. TakesAtLeast steps.old steps.new (f.end - f.start)) }
-    ensures entered { IfSome result (λ f. EntersGroups (tree expr.now) f.groups steps.old steps.new) }
+    ensures entered { IfSome result (λ f. EntersGroups (expression_tree expr.now) f.groups steps.old steps.new) }
 {
     scratch.once.prepared.fit(expr, steps);
     let span = first_span(&mut scratch.once, text, from, &mut scratch.desk, steps)?;
@@ -129,8 +129,8 @@ pub fn find_span(
     requires from { from ≤ length text.now }
     requires fits { FitInto (length text.now) (length expr.now.nodes) scratch.old }
     ensures scratch { scratch.new ≡ scratch.old }
-    ensures answer { SpanAnswer (tree expr.now) text.now from result }
-    ensures computed { result ≡ found (tree expr.now) text.now from }
+    ensures answer { SpanAnswer (expression_tree expr.now) text.now from result }
+    ensures computed { result ≡ found (expression_tree expr.now) text.now from }
     ensures cost { let m = length expr.now.nodes in let n = length text.now in
         Takes steps.old steps.new (64 * m * (n + 1) * (n + 1)) }
     ensures linear_cost { let m = length expr.now.nodes in let n = length text.now in
@@ -153,9 +153,9 @@ pub fn is_match(
     requires from { from ≤ length text.now }
     requires fits { FitInto (length text.now) (length expr.now.nodes) scratch.old }
     ensures scratch { scratch.new ≡ scratch.old }
-    ensures matches { IsTrue result ↔ SomeFound (tree expr.now) text.now from }
-    ensures computed { result ≡ is_some (found (tree expr.now) text.now from) }
-    ensures passes { IsTrue result → PassesOver (tree expr.now) text.now from steps.old steps.new }
+    ensures matches { IsTrue result ↔ SomeFound (expression_tree expr.now) text.now from }
+    ensures computed { result ≡ is_some (found (expression_tree expr.now) text.now from) }
+    ensures passes { IsTrue result → PassesOver (expression_tree expr.now) text.now from steps.old steps.new }
     ensures cost { Takes steps.old steps.new (64 * length expr.now.nodes * (length text.now + 1)) }
 {
     scratch.once.prepared.fit(expr, steps);

@@ -4,7 +4,7 @@
 ghost use Rattle.std.specs.Prelude.{◌≡◌, ℕ, List, ◌+◌, ◌<◌, ◌≤◌, ◌-◌, length, IfOk, IfSome};
 ghost use Rattle.sedtext.specs.Needed.{FirstLiteral, passed_to};
 ghost use Rattle.sedtext.specs.Word.{AllWord};
-ghost use Rattle.sedre.specs.Steps.{Takes, Counted};
+ghost use Rattle.sedre.specs.Steps.{Takes, TakesExactly};
 
 use memchr::memmem::Finder;
 use sedre::{Expr, Steps};
@@ -56,7 +56,7 @@ impl Word {
         requires from { from ≤ length text.now }
         ensures first { FirstLiteral text.now self.now from result }
         ensures cost { Takes steps.old steps.new (passed_to (length text.now) from (length self.now) result) }
-        ensures counts { Counted steps.old steps.new (passed_to (length text.now) from (length self.now) result) }
+        ensures counts { TakesExactly steps.old steps.new (passed_to (length text.now) from (length self.now) result) }
     {
         find_literal(text, &self.finder, from, steps)
     }

@@ -2,14 +2,14 @@
 use Rattle.std.proofs.Common.{◌≡◌, ℕ, ◌+◌, ◌*◌, ◌/◌, ◌^◌, ◌<◌, ◌≤◌, ◌↔◌, ⊎_elim, Bool, true, false, List, length, Some, refl, sym, ap, ◌∙◌, subst, arith, true≢false, IsTrue}
 use Rattle.std.specs.Prelude.{slice_get, slice_index_or, nat_lt}
 use Rattle.std.proofs.lemmas.Bool.{and_from, and_parts, cases_lt, lt-ltb, ltb-true}
-use Rattle.sedre.specs.Written.{Written}
+use Rattle.sedre.specs.Written.{WrittenExpression}
 use Rattle.sedre.specs.Mirror.{seen}
-use Rattle.sedtext.specs.Matching.{takes}
+use Rattle.sedtext.specs.Matching.{byte_is_in}
 use Rattle.sedtext.specs.Reach.{one_start}
 use Rattle.sedtext.specs.Words.{row_of}
 use Rattle.sedpass.specs.Kept.{ends_told, Follows, IsKept, IsLive, IsRegion, Meet}
 use Rattle.sedpass.specs.Regions.{Meets}
-use Rattle.sedpass.specs.Rows.{bits, nodes_of, at_begin, at_end, RowAt, LeadsTo, IsFirst, SameBytes}
+use Rattle.sedpass.specs.Rows.{bits, nodes_of, at_begin, at_end, RowOfPlace, LeadsTo, IsFirstRow, SameBytes}
 use Rattle.sedpass.specs.Table.{state_of, BeginsIn, LeadsOn, SameShape}
 use Rattle.sedpass.specs.declared.kept.Kept.{Kept}
 use Rattle.sedpass.specs.declared.nodes.Kind.{Kind}
@@ -47,7 +47,7 @@ meet_here p w t ahead k a i place offset met kept above before follows tells =
     let live : IsLive p w t k.region.root k.region.end k.states.items place = kept.live place above before in
     let there : place ≤ length w = (let h = region.within in let g = region.inside in omega (arith, h, g, before)) in
     let one : IsTrue met ↔ ((c : ℕ) × IsTrue (front.entered c) × IsTrue (behind.ended c)) = bits_meet m (row_of ahead.leaves (offset / 2 ^ ahead.layout.shift)) (row_of t.ends s) met tells in
-    let row : RowAt p.arena.expr.nodes w a (one_start i) ahead.way.keeps place front.entered front.ended = subst (λ r. RowAt p.arena.expr.nodes w r (one_start i) ahead.way.keeps place front.entered front.ended) follows.0 follows.1 in
+    let row : RowOfPlace p.arena.expr.nodes w a (one_start i) ahead.way.keeps place front.entered front.ended = subst (λ r. RowOfPlace p.arena.expr.nodes w r (one_start i) ahead.way.keeps place front.entered front.ended) follows.0 follows.1 in
     let two = kept_meets p.arena.expr w t.way.mirrored t.way.sweeps t.way.keeps ahead.way.keeps k.region.root a i k.region.end place front.entered front.ended behind.entered behind.ended
     region.table.expr.arena region.room.mirrored region.room.keeps there region.inside row live.1.1 in
     (λ h. two.0 (one.0 h), λ h. one.1 (two.1 h))
@@ -72,13 +72,13 @@ meet_end p w t k a i kept met =
 
 -- How the pass ahead goes on.
 
-next_row : (e : Written) (w : List ℕ) (mirrored sweeps keeps edge : Bool) (a i place byte : ℕ) (entered ended after after_ended : ℕ → Bool) → mirrored ≡ false → sweeps ≡ false → i ≤ place → slice_get w place ≡ Some byte →
-    (IsTrue edge ↔ (place + 1 ≡ length w)) → LeadsTo (seen mirrored e).nodes a keeps entered ended (Some byte) edge sweeps after after_ended → RowAt e.nodes w a (one_start i) keeps place entered ended →
-    RowAt e.nodes w a (one_start i) keeps (place + 1) after after_ended
+next_row : (e : WrittenExpression) (w : List ℕ) (mirrored sweeps keeps edge : Bool) (a i place byte : ℕ) (entered ended after after_ended : ℕ → Bool) → mirrored ≡ false → sweeps ≡ false → i ≤ place → slice_get w place ≡ Some byte →
+    (IsTrue edge ↔ (place + 1 ≡ length w)) → LeadsTo (seen mirrored e).nodes a keeps entered ended (Some byte) edge sweeps after after_ended → RowOfPlace e.nodes w a (one_start i) keeps place entered ended →
+    RowOfPlace e.nodes w a (one_start i) keeps (place + 1) after after_ended
 next_row e w true sweeps keeps edge a i place byte entered ended after after_ended front one from got last leads row = absurd (true≢false front)
 next_row e w false true keeps edge a i place byte entered ended after after_ended front one from got last leads row = absurd (true≢false one)
 next_row e w false false keeps edge a i place byte entered ended after after_ended front one from got last leads row =
-    let bytes : SameBytes e.nodes (slice_get w place) (Some byte) = λ x members _. ap (λ b. takes b members) got in
+    let bytes : SameBytes e.nodes (slice_get w place) (Some byte) = λ x members _. ap (λ b. byte_is_in b members) got in
     leads w (one_start i) place bytes last (λ h. absurd (true≢false (sym h)), λ h. absurd (omega arith)) row
 
 pub follows_next : (p : Prepared) (w : List ℕ) (t after : Table) (a i place byte offset next : ℕ) (edge : Bool) → t.way.mirrored ≡ false → t.way.sweeps ≡ false → SameShape t after → i ≤ place → slice_get w place ≡ Some byte →
@@ -90,15 +90,15 @@ follows_next p w t after a i place byte offset next edge front one shape from go
     let old = state_of m t (offset / 2 ^ t.layout.shift) in
     let new = state_of m after (next / 2 ^ after.layout.shift) in
     let root : new.root ≡ old.root = leads.0 in
-    let row : RowAt p.arena.expr.nodes w old.root (one_start i) t.way.keeps (place + 1) new.entered new.ended =
+    let row : RowOfPlace p.arena.expr.nodes w old.root (one_start i) t.way.keeps (place + 1) new.entered new.ended =
     next_row p.arena.expr w t.way.mirrored t.way.sweeps t.way.keeps edge old.root i place byte old.entered old.ended new.entered new.ended front one from got last leads.1 follows.1 in (
       root ∙ follows.0,
-      subst (λ r. RowAt p.arena.expr.nodes w r (one_start i) after.way.keeps (place + 1) new.entered new.ended) (sym root)
-          (subst (λ v. RowAt p.arena.expr.nodes w old.root (one_start i) v (place + 1) new.entered new.ended) (sym (ap (λ v. v.keeps) shape.0)) row),
+      subst (λ r. RowOfPlace p.arena.expr.nodes w r (one_start i) after.way.keeps (place + 1) new.entered new.ended) (sym root)
+          (subst (λ v. RowOfPlace p.arena.expr.nodes w old.root (one_start i) v (place + 1) new.entered new.ended) (sym (ap (λ v. v.keeps) shape.0)) row),
     )
 
-first_row : (e : Written) (w : List ℕ) (mirrored keeps : Bool) (a i : ℕ) (kind : Kind) (entered ended : ℕ → Bool) → mirrored ≡ false → (IsTrue kind.begin ↔ (i ≡ 0)) → (IsTrue kind.end ↔ (i ≡ length w)) →
-    IsFirst (seen mirrored e).nodes a keeps (at_begin mirrored kind) (at_end mirrored kind) entered ended → RowAt e.nodes w a (one_start i) keeps i entered ended
+first_row : (e : WrittenExpression) (w : List ℕ) (mirrored keeps : Bool) (a i : ℕ) (kind : Kind) (entered ended : ℕ → Bool) → mirrored ≡ false → (IsTrue kind.begin ↔ (i ≡ 0)) → (IsTrue kind.end ↔ (i ≡ length w)) →
+    IsFirstRow (seen mirrored e).nodes a keeps (at_begin mirrored kind) (at_end mirrored kind) entered ended → RowOfPlace e.nodes w a (one_start i) keeps i entered ended
 first_row e w true keeps a i kind entered ended front begins ends first = absurd (true≢false front)
 first_row e w false keeps a i kind entered ended front begins ends first = first w (one_start i) (begins, ends) (omega arith)
 
@@ -106,10 +106,10 @@ pub follows_first : (p : Prepared) (w : List ℕ) (t after : Table) (a i offset 
     BeginsIn (nodes_of t.way p.arena.expr) t.way a kind (state_of (length p.arena.expr.nodes) after (offset / 2 ^ after.layout.shift)) → Follows p w after a i i offset
 follows_first p w t after a i offset kind front way begins ends first =
     let s = state_of (length p.arena.expr.nodes) after (offset / 2 ^ after.layout.shift) in
-    let row : RowAt p.arena.expr.nodes w a (one_start i) t.way.keeps i s.entered s.ended = first_row p.arena.expr w t.way.mirrored t.way.keeps a i kind s.entered s.ended front begins ends first.1 in (
+    let row : RowOfPlace p.arena.expr.nodes w a (one_start i) t.way.keeps i s.entered s.ended = first_row p.arena.expr w t.way.mirrored t.way.keeps a i kind s.entered s.ended front begins ends first.1 in (
       first.0,
-      subst (λ r. RowAt p.arena.expr.nodes w r (one_start i) after.way.keeps i s.entered s.ended) (sym first.0)
-          (subst (λ v. RowAt p.arena.expr.nodes w a (one_start i) v i s.entered s.ended) (sym (ap (λ v. v.keeps) way)) row),
+      subst (λ r. RowOfPlace p.arena.expr.nodes w r (one_start i) after.way.keeps i s.entered s.ended) (sym first.0)
+          (subst (λ v. RowOfPlace p.arena.expr.nodes w a (one_start i) v i s.entered s.ended) (sym (ap (λ v. v.keeps) way)) row),
     )
 
 -- What it costs.

@@ -1,7 +1,7 @@
 -- Counts of steps that stay at the largest.
 use Rattle.std.proofs.Common.{◌≡◌, ℕ, ◌+◌, ◌-◌, ◌*◌, ◌≤◌, Bool, List, Option, None, Some, IsTrue, IfSome, sym, ◌∙◌, true≢false, arith}
 use Rattle.std.specs.Prelude.{is_some}
-use Rattle.sedre.specs.Steps.{Counted, TakesAtLeast}
+use Rattle.sedre.specs.Steps.{TakesExactly, TakesAtLeast}
 use Rattle.sedre.specs.Tree.{Tree}
 use Rattle.sedtext.specs.Following.{PassesOver}
 
@@ -11,24 +11,24 @@ unfolding TakesAtLeast
 least_none s n e = omega (arith, e)
 
 -- one look more
-pub least_one : (s a b n m : ℕ) → TakesAtLeast s a n → Counted a b 1 → n + 1 ≡ m → TakesAtLeast s b m
-unfolding TakesAtLeast Counted
+pub least_one : (s a b n m : ℕ) → TakesAtLeast s a n → TakesExactly a b 1 → n + 1 ≡ m → TakesAtLeast s b m
+unfolding TakesAtLeast TakesExactly
 least_one s a b n m before one is = omega (arith, before, one, is)
 
 -- two looks more, and others between them
-pub least_two : (s a b k c n m : ℕ) → TakesAtLeast s a n → Counted a b 1 → b ≤ k → Counted k c 1 → n + 2 ≡ m → TakesAtLeast s c m
-unfolding TakesAtLeast Counted
+pub least_two : (s a b k c n m : ℕ) → TakesAtLeast s a n → TakesExactly a b 1 → b ≤ k → TakesExactly k c 1 → n + 2 ≡ m → TakesAtLeast s c m
+unfolding TakesAtLeast TakesExactly
 least_two s a b k c n m before one grows two is = omega (arith, before, one, grows, two, is)
 
 -- six looks more, and others before the last two
-pub least_six : (s a b c d e k f g n m : ℕ) → TakesAtLeast s a n → Counted a b 1 → Counted b c 1 → Counted c d 1 → Counted d e 1 → e ≤ k → Counted k f 1 → Counted f g 1 → n + 6 ≡ m →
+pub least_six : (s a b c d e k f g n m : ℕ) → TakesAtLeast s a n → TakesExactly a b 1 → TakesExactly b c 1 → TakesExactly c d 1 → TakesExactly d e 1 → e ≤ k → TakesExactly k f 1 → TakesExactly f g 1 → n + 6 ≡ m →
     TakesAtLeast s g m
-unfolding TakesAtLeast Counted
+unfolding TakesAtLeast TakesExactly
 least_six s a b c d e k f g n m before one two three four grows five six is = omega (arith, before, one, two, three, four, grows, five, six, is)
 
 -- twice so many looks, others, and what was counted after them
-pub least_after : (s a b c d k n m : ℕ) → Counted s a k → Counted a b k → b ≤ c → TakesAtLeast c d n → 2 * k + n ≡ m → TakesAtLeast s d m
-unfolding TakesAtLeast Counted
+pub least_after : (s a b c d k n m : ℕ) → TakesExactly s a k → TakesExactly a b k → b ≤ c → TakesAtLeast c d n → 2 * k + n ≡ m → TakesAtLeast s d m
+unfolding TakesAtLeast TakesExactly
 least_after s a b c d k n m one two grows after is = omega (arith, one, two, grows, after, is)
 
 -- one after the other
@@ -50,8 +50,8 @@ unfolding TakesAtLeast
 least_fewer s a n m few least = omega (arith, few, least)
 
 -- so many looks
-pub least_counted : (s t n : ℕ) → Counted s t n → TakesAtLeast s t n
-unfolding TakesAtLeast Counted
+pub least_counted : (s t n : ℕ) → TakesExactly s t n → TakesAtLeast s t n
+unfolding TakesAtLeast TakesExactly
 least_counted s t n is = omega (arith, is)
 
 -- and fewer than were counted
@@ -60,8 +60,8 @@ unfolding TakesAtLeast
 least_less s t n k before less = omega (arith, before, less)
 
 -- four loops over as many nodes
-pub least_four : (s a b c d n m : ℕ) → Counted s a n → Counted a b n → Counted b c n → Counted c d n → 4 * n ≡ m → TakesAtLeast s d m
-unfolding TakesAtLeast Counted
+pub least_four : (s a b c d n m : ℕ) → TakesExactly s a n → TakesExactly a b n → TakesExactly b c n → TakesExactly c d n → 4 * n ≡ m → TakesAtLeast s d m
+unfolding TakesAtLeast TakesExactly
 least_four s a b c d n m one two three four is = omega (arith, one, two, three, four, is)
 
 -- what passes over a match from a later place on does so from an earlier one, where the looks before went as far

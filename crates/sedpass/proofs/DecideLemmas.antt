@@ -9,7 +9,7 @@ use Rattle.std.proofs.Math.Dec.{ltb}
 use Rattle.std.proofs.Math.Nat.{mul-le-mul_right}
 use Rattle.sedre.specs.Tree.{Tree, empty, set, begin, end, seq, alt, group, star, opt}
 use Rattle.sedre.specs.Arena.{IsExpr, IsPart, AreRanges}
-use Rattle.sedre.specs.Written.{Written, tree_at, tree}
+use Rattle.sedre.specs.Written.{WrittenExpression, tree_at, expression_tree}
 use Rattle.sedre.specs.declared.types.Node.{Node}
 use Rattle.sedre.specs.Steps.{TakesAtLeast}
 use Rattle.sedre.specs.declared.types.Node.TheVariants.{Empty, Set, Begin, End, Seq, Alt, Group, Star, Opt}
@@ -19,11 +19,11 @@ use Rattle.sedtext.specs.Caps.{LastCut, LastCopy}
 use Rattle.sedtext.specs.Groups.{Groups}
 use Rattle.sedtext.specs.Reach.{At, one_start}
 use Rattle.sedre.specs.Arena.{IsArena}
-use Rattle.sedtext.specs.Spans.{Spans, Copies, no_copy}
-use Rattle.sedtext.proofs.SpanLemmas.{Spans-forward}
-use Rattle.sedpass.specs.Decide.{found, undecided, HasAll, flags_of, told_of, nodes_in, text_in, EndsIn, IsDesk, HasDesk, IsSetAt, AreGroupTables, AreRoomy, HasSpace, SameRooms, SameTables, owed_in}
+use Rattle.sedtext.specs.Spans.{Matches, CopiesLead, no_copy}
+use Rattle.sedtext.proofs.SpanLemmas.{Matches-forward}
+use Rattle.sedpass.specs.Decide.{found, undecided, HasAll, flags_of, told_of, nodes_in, text_in, EndsRegion, IsDesk, HasDesk, IsSetAt, AreGroupTables, AreRoomy, HasSpace, SameRooms, SameTables, owed_in}
 use Rattle.sedpass.specs.Kept.{AllMarked, CeasesAt, IsKept, SameKept, SameSpace, ends_told}
-use Rattle.sedpass.specs.Regions.{IsLastIn, all_of, Reaches, StopsAt, RunsTo, IsRunOf, repeated, in_group}
+use Rattle.sedpass.specs.Regions.{IsLastIn, all_of, ReachesEnd, StopsAt, RunsTo, IsRunOf, repeated, in_group}
 use Rattle.sedpass.specs.Table.{IsAhead, IsTable, SameRoom, SameShape, MayBegin}
 use Rattle.sedpass.specs.declared.groups.GroupRoom.{GroupRoom}
 use Rattle.sedpass.specs.declared.groups.GroupTables.{GroupTables}
@@ -39,7 +39,7 @@ use Rattle.sedpass.proofs.OwedLemmas.{owed_small}
 use Rattle.sedpass.proofs.LengthLemmas.{all_long, copies_long}
 use Rattle.sedpass.proofs.MeetingLemmas.{set_early}
 use Rattle.sedpass.specs.Groups.{reported, holds, has_group}
-use Rattle.sedpass.specs.Overlay.{is_due, settle, drop_groups, HasGroup, NoneDue, IsStart}
+use Rattle.sedpass.specs.Overlay.{is_due, settle, drop_groups, GroupStandsIn, NoneDue, IsStart}
 use Rattle.sedpass.specs.Lengths.{AllLong}
 use Rattle.sedpass.specs.Prepared.{IsFacts, nullable, null_in, is_set, run_of}
 use Rattle.sedpass.specs.Turns.{Blank}
@@ -66,7 +66,7 @@ flags_at s (suc (suc (suc (suc (suc (suc (suc (suc (suc (suc k)))))))))) =
     sym (ap (λ b. b && eqb (bit_at s.bits n) 1) (le-ltb n 10 (omega arith)))
 
 -- whether a group stands in the expression
-pub has_told : (t : Tree) (k : ℕ) → HasGroup t k → has_group t k ≡ true
+pub has_told : (t : Tree) (k : ℕ) → GroupStandsIn t k → has_group t k ≡ true
 has_told empty k has = absurd has
 has_told (set members) k has = absurd has
 has_told begin k has = absurd has
@@ -80,7 +80,7 @@ has_told (group n a) k (inr has) = or_right (eqb n k) (has_group a k) (has_told 
 has_told (star a first) k has = has_told a k has
 has_told (opt a first) k has = has_told a k has
 
-pub told_has : (t : Tree) (k : ℕ) → has_group t k ≡ true → HasGroup t k
+pub told_has : (t : Tree) (k : ℕ) → has_group t k ≡ true → GroupStandsIn t k
 told_has empty k is = absurd (true≢false (sym is))
 told_has (set members) k is = absurd (true≢false (sym is))
 told_has begin k is = absurd (true≢false (sym is))
@@ -158,7 +158,7 @@ pub dropped : (nodes : List Node) (x : ℕ) (facts : Facts) (old new : GroupSet)
 dropped nodes x facts old new spans is whole blank without =
     drop_as (tree_at nodes x) (told_of old spans) (told_of new spans) blank refl refl (λ k. (out k, back k))
   where
-    out : (k : ℕ) → is_due (told_of new spans) k ≡ true → (is_due (told_of old spans) k ≡ true) × (HasGroup (tree_at nodes x) k → ⊥)
+    out : (k : ℕ) → is_due (told_of new spans) k ≡ true → (is_due (told_of old spans) k ≡ true) × (GroupStandsIn (tree_at nodes x) k → ⊥)
     out k due =
         let parts = and_parts (holds old k) (not (holds facts.groups k)) (sym (without k) ∙ sym (flags_at new k) ∙ due) in (
           flags_at old k ∙ parts.0,
@@ -167,7 +167,7 @@ dropped nodes x facts old new spans is whole blank without =
               true≢false (sym parts.1 ∙ ap (λ b. not b) in_facts),
         )
 
-    back : (k : ℕ) → (is_due (told_of old spans) k ≡ true) × (HasGroup (tree_at nodes x) k → ⊥) → is_due (told_of new spans) k ≡ true
+    back : (k : ℕ) → (is_due (told_of old spans) k ≡ true) × (GroupStandsIn (tree_at nodes x) k → ⊥) → is_due (told_of new spans) k ≡ true
     back k h =
         let due : holds old k ≡ true = sym (flags_at old k) ∙ h.0 in
         let lacks : has_group (tree_at nodes x) k ≡ false = elim (cases_Bool (has_group (tree_at nodes x) k)) [ inl has ↦ absurd (h.1 (told_has (tree_at nodes x) k has)) | inr lacks ↦ lacks ] in
@@ -175,12 +175,12 @@ dropped nodes x facts old new spans is whole blank without =
         flags_at new k ∙ without k ∙ and_from (holds old k) (not (holds facts.groups k)) due (ap (λ b. not b) not_in)
 
 -- the groups of the whole expression, and a start with them
-pub all_told : (e : Written) (root : ℕ) (facts : Facts) → root + 1 ≡ length e.nodes → IsFacts (tree_at e.nodes root) root facts → HasAll facts.groups (tree e)
+pub all_told : (e : WrittenExpression) (root : ℕ) (facts : Facts) → root + 1 ≡ length e.nodes → IsFacts (tree_at e.nodes root) root facts → HasAll facts.groups (expression_tree e)
 all_told e root facts last is k low high has =
     let same : length e.nodes - 1 ≡ root = omega arith in
     is.groups k
     ∙ and_from (reported k) (has_group (tree_at e.nodes root) k) (and_from (nat_lt 0 k) (nat_lt k 10) (lt-ltb 0 k (omega arith)) (lt-ltb k 10 high))
-    (has_told (tree_at e.nodes root) k (subst (λ x. HasGroup (tree_at e.nodes x) k) same has))
+    (has_told (tree_at e.nodes root) k (subst (λ x. GroupStandsIn (tree_at e.nodes x) k) same has))
 
 pub starts_due : (e : Tree) (i j : ℕ) (due : GroupSet) → holds due 0 ≡ false → HasAll due e → IsStart e i j (told_of due (undecided i j))
 starts_due e i j due whole all = record {
@@ -208,17 +208,17 @@ starts_blank i j due whole (suc k) is = none_there 9 k
 -- a cut of a null string
 pub null_cut : (nodes : List Node) (w : List ℕ) (a b i j : ℕ) → (k : ℕ) × At nodes w a i k × At nodes w b k j → i ≡ j → LastCut (At nodes w a) (At nodes w b) i j i
 null_cut nodes w a b i j parts same =
-    let up = Spans-forward (tree_at nodes a) w i parts.0 parts.1 in
-    let on = Spans-forward (tree_at nodes b) w parts.0 j parts.2 in
+    let up = Matches-forward (tree_at nodes a) w i parts.0 parts.1 in
+    let on = Matches-forward (tree_at nodes b) w parts.0 j parts.2 in
     let here : parts.0 ≡ i = omega arith in
     record {
       left = subst (λ v. At nodes w a i v) here parts.1;
       right = subst (λ v. At nodes w b v j) here parts.2;
-      greatest = λ l left right. let on = Spans-forward (tree_at nodes b) w l j right in omega arith;
+      greatest = λ l left right. let on = Matches-forward (tree_at nodes b) w l j right in omega arith;
     }
 
 -- the null string is matched where it is told
-pub null_told : (t : Tree) (w : List ℕ) (p : ℕ) (first last : Bool) → (IsTrue first ↔ (p ≡ 0)) → (IsTrue last ↔ (p ≡ length w)) → IsTrue (nullable first last t) ↔ Spans t w p p
+pub null_told : (t : Tree) (w : List ℕ) (p : ℕ) (first last : Bool) → (IsTrue first ↔ (p ≡ 0)) → (IsTrue last ↔ (p ≡ length w)) → IsTrue (nullable first last t) ↔ Matches t w p p
 null_told empty w p first last begins ends = (λ _. refl, λ _. refl)
 null_told (set members) w p first last begins ends = (λ h. absurd (true≢false (sym h)), λ s. let next = s.3 in absurd (omega arith))
 null_told begin w p first last begins ends = (λ h. (begins.0 h, begins.0 h), λ s. begins.1 s.0)
@@ -228,10 +228,10 @@ null_told (seq a b) w p first last begins ends =
     let right = null_told b w p first last begins ends in (
       λ h. let both = and_parts (nullable first last a) (nullable first last b) h in (p, left.0 both.0, right.0 both.1),
       λ s.
-          let up = Spans-forward a w p s.0 s.1 in
-          let on = Spans-forward b w s.0 p s.2 in
+          let up = Matches-forward a w p s.0 s.1 in
+          let on = Matches-forward b w s.0 p s.2 in
           let here : s.0 ≡ p = omega arith in
-          and_from (nullable first last a) (nullable first last b) (left.1 (subst (λ v. Spans a w p v) here s.1)) (right.1 (subst (λ v. Spans b w v p) here s.2)),
+          and_from (nullable first last a) (nullable first last b) (left.1 (subst (λ v. Matches a w p v) here s.1)) (right.1 (subst (λ v. Matches b w v p) here s.2)),
     )
 null_told (alt a b) w p first last begins ends =
     let left = null_told a w p first last begins ends in
@@ -258,7 +258,7 @@ long_at nodes w x n facts is told = all_long (tree_at nodes x) w n (sym is.long 
 pub not_open : {told all : Option ℕ} (n : ℕ) → told ≡ all → told ≡ Some n → all ≡ None → ⊥
 not_open n same known none = cc
 
-pub copy_fits : (nodes : List Node) (w : List ℕ) (x i j n : ℕ) → AllLong (At nodes w x) n → i < j → Copies (At nodes w x) j i → n ≤ j
+pub copy_fits : (nodes : List Node) (w : List ℕ) (x i j n : ℕ) → AllLong (At nodes w x) n → i < j → CopiesLead (At nodes w x) j i → n ≤ j
 copy_fits nodes w x i j n long some copies =
     let copy = copy_spans (At nodes w x) j i (j - n) (copies_long (At nodes w x) j n long i some copies) in
     let all = long (j - n) j copy.2 in
@@ -342,17 +342,17 @@ pub stops_at : (nodes : List Node) (w : List ℕ) (r stop a i p : ℕ) (sweeps :
 stops_at nodes w r stop a i p sweeps is ceases = subst (λ b. CeasesAt nodes w r (ends_told b (length w) stop) a i p) is ceases
 
 pub runs_to : (nodes : List Node) (w : List ℕ) (r stop x i p : ℕ) (sweeps : Bool) → sweeps ≡ false → IsArena nodes → IsSetAt nodes x → i ≤ p →
-    AllMarked nodes w r (ends_told sweeps (length w) stop) x true i p → (p < stop → IsTrue false ↔ Reaches nodes w r (ends_told sweeps (length w) stop) x p) → RunsTo nodes w r stop x i p
+    AllMarked nodes w r (ends_told sweeps (length w) stop) x true i p → (p < stop → IsTrue false ↔ ReachesEnd nodes w r (ends_told sweeps (length w) stop) x p) → RunsTo nodes w r stop x i p
 runs_to nodes w r stop x i p sweeps is arena a_set up passed found =
     let all = subst (λ b. AllMarked nodes w r (ends_told b (length w) stop) x true i p) is passed in
-    let last = subst (λ b. p < stop → IsTrue false ↔ Reaches nodes w r (ends_told b (length w) stop) x p) is found in (
+    let last = subst (λ b. p < stop → IsTrue false ↔ ReachesEnd nodes w r (ends_told b (length w) stop) x p) is found in (
       up,
       λ q from to. (all q from to).0 refl,
       λ reaches. true≢false (sym ((last (set_early nodes w r x p (one_start stop) a_set.0 arena a_set.1 reaches)).1 reaches)),
     )
 
 -- the region is the same
-pub ends_still : (s : Subject) (old new : Kept) (here : Matched) → SameKept old new → EndsIn s old.region here → EndsIn s new.region here
+pub ends_still : (s : Subject) (old new : Kept) (here : Matched) → SameKept old new → EndsRegion s old.region here → EndsRegion s new.region here
 ends_still s old new here same ends = (subst (λ r. IsLastIn (nodes_in s) r here.node) (sym same.root) ends.0, ends.1 ∙ sym same.end)
 
 -- so are the tables' ways
@@ -378,11 +378,11 @@ pub tables_then : (a b c : GroupTables) → SameTables a b → SameTables b c �
 tables_then a b c one two = record { inside = same_shape a.inside b.inside c.inside one.inside two.inside; ahead = same_shape a.ahead b.ahead c.ahead one.ahead two.ahead }
 
 -- a part that goes on in the region
-pub part_ends : (s : Subject) (old new : Kept) (here : Matched) (part : ℕ) → SameKept old new → IsLastIn (nodes_in s) old.region.root part → EndsIn s old.region here → EndsIn s new.region (record here { node = part })
+pub part_ends : (s : Subject) (old new : Kept) (here : Matched) (part : ℕ) → SameKept old new → IsLastIn (nodes_in s) old.region.root part → EndsRegion s old.region here → EndsRegion s new.region (record here { node = part })
 part_ends s old new here part same last ends = ends_still s old new (record here { node = part }) same (last, ends.1)
 
 -- a region that begins with the part
-pub begun_ends : (s : Subject) (r : Region) (part start stop : ℕ) → r.root ≡ part → r.end ≡ stop → EndsIn s r (record { node = part; start = start; stop = stop })
+pub begun_ends : (s : Subject) (r : Region) (part start stop : ℕ) → r.root ≡ part → r.end ≡ stop → EndsRegion s r (record { node = part; start = start; stop = stop })
 begun_ends s r part start stop root ends = (all_of part (sym root), sym ends)
 
 -- a desk serves any region
@@ -422,7 +422,7 @@ least_no_byte s t i j up none = omega (arith, up, none)
 -- Costs.
 
 -- looks into a region from where the match begins that ends with it
-pub owed_here : (s : Subject) (r : Region) (here : Matched) → EndsIn s r here → owed_in s r here.start ≤ 100 * length (nodes_in s) * (here.stop - here.start)
+pub owed_here : (s : Subject) (r : Region) (here : Matched) → EndsRegion s r here → owed_in s r here.start ≤ 100 * length (nodes_in s) * (here.stop - here.start)
 owed_here s r here ends =
     subst (λ v. owed_in s r here.start ≤ 100 * length (nodes_in s) * (v - here.start)) (sym ends.1) (owed_small (length (nodes_in s)) r here.start)
 

@@ -6,7 +6,7 @@ use Rattle.std.proofs.lemmas.Option.{slice_get_within, slice_get_read}
 use Rattle.sedre.specs.Tree.{Tree, empty, set, begin, end, seq, alt, group, star, opt}
 use Rattle.sedre.specs.Sizes.{size}
 use Rattle.sedre.specs.Arena.{IsExpr, IsPart, FollowsParts}
-use Rattle.sedre.specs.Written.{Written, tree_of, tree_at}
+use Rattle.sedre.specs.Written.{WrittenExpression, tree_of, tree_at}
 use Rattle.sedre.specs.Mirror.{mirror, seen}
 use Rattle.sedre.specs.declared.types.Node.{Node}
 use Rattle.sedre.specs.declared.types.NodeId.{NodeId}
@@ -14,15 +14,15 @@ use Rattle.sedre.specs.declared.types.Node.TheVariants.{Empty, Set, Begin, End, 
 use Rattle.sedre.proofs.TreeLemmas.{tree_at-node}
 use Rattle.sedre.proofs.Written.{size_positive}
 use Rattle.sedre.proofs.MirrorLemmas.{tree_at-mirror, seen-length}
-use Rattle.sedtext.specs.Spans.{Spans, no_copy}
+use Rattle.sedtext.specs.Spans.{Matches, no_copy}
 use Rattle.sedtext.specs.Places.{IsPlace}
-use Rattle.sedtext.proofs.SpanLemmas.{Spans-forward}
+use Rattle.sedtext.proofs.SpanLemmas.{Matches-forward}
 use Rattle.sedtext.proofs.NodeLemmas.{node_at}
 use Rattle.sedpass.specs.Groups.{reported, has_group}
 use Rattle.sedpass.specs.Regions.{IsRunOf, repeated, in_group}
 use Rattle.sedpass.specs.Lengths.{length_of, sum_of, same_of}
 use Rattle.sedpass.specs.Prepared.{nullable, null_in, null_at, is_set, run_of, IsFacts, AreFacts, IsLeaf, IsOfEachKind, IsShort, SameNulls}
-use Rattle.sedpass.specs.Rows.{at_begin, at_end, IsRange, AreNull}
+use Rattle.sedpass.specs.Rows.{at_begin, at_end, IsNodeRange, AreNull}
 use Rattle.sedpass.specs.declared.nodes.Facts.{Facts}
 use Rattle.sedpass.specs.declared.nodes.Kind.{Kind}
 use Rattle.sedpass.specs.declared.nodes.Null.{Null}
@@ -32,20 +32,20 @@ use Rattle.sedpass.proofs.RowLemmas.{or_truth, and_truth, not_true, leaf_range, 
 
 module _ (w : List ℕ) (p : ℕ) (first last : Bool) (there : IsPlace w p first last) where
   -- the null string at a place of the kind
-  pub nullable_is : (t : Tree) → IsTrue (nullable first last t) ↔ Spans t w p p
+  pub nullable_is : (t : Tree) → IsTrue (nullable first last t) ↔ Matches t w p p
   nullable_is empty = (λ h. refl, λ h. refl)
-  nullable_is (set members) = not_true (Spans (set members) w p p) (λ h. omega (arith, h.3))
+  nullable_is (set members) = not_true (Matches (set members) w p p) (λ h. omega (arith, h.3))
   nullable_is begin = (λ h. (there.0.0 h, there.0.0 h), λ h. there.0.1 h.0)
   nullable_is end = (λ h. (there.1.0 h, there.1.0 h), λ h. there.1.1 h.0)
   nullable_is (seq a b) =
-      let both = and_truth (nullable first last a) (nullable first last b) (Spans a w p p) (Spans b w p p) (nullable_is a) (nullable_is b) in (
+      let both = and_truth (nullable first last a) (nullable first last b) (Matches a w p p) (Matches b w p p) (nullable_is a) (nullable_is b) in (
         λ h. (p, (both.0 h).0, (both.0 h).1),
-        λ h. let low = Spans-forward a w p h.0 h.1 in
-            let high = Spans-forward b w h.0 p h.2 in
+        λ h. let low = Matches-forward a w p h.0 h.1 in
+            let high = Matches-forward b w h.0 p h.2 in
             let e : h.0 ≡ p = omega arith in
-            both.1 (subst (λ k. Spans a w p k) e h.1, subst (λ k. Spans b w k p) e h.2),
+            both.1 (subst (λ k. Matches a w p k) e h.1, subst (λ k. Matches b w k p) e h.2),
       )
-  nullable_is (alt a b) = or_truth (nullable first last a) (nullable first last b) (Spans a w p p) (Spans b w p p) (nullable_is a) (nullable_is b)
+  nullable_is (alt a b) = or_truth (nullable first last a) (nullable first last b) (Matches a w p p) (Matches b w p p) (nullable_is a) (nullable_is b)
   nullable_is (group k a) = nullable_is a
   nullable_is (star a f) = (λ h. no_copy, λ h. refl)
   nullable_is (opt a f) = (λ h. inl refl, λ h. refl)
@@ -69,7 +69,7 @@ nullable_mirror first last (star a f) = refl
 nullable_mirror first last (opt a f) = refl
 
 -- so what is told of a node serves both ways
-pub null_tells : (mirrored : Bool) (e : Written) (kind : Kind) (w : List ℕ) (p : ℕ) → IsPlace w p (at_begin mirrored kind) (at_end mirrored kind) →
+pub null_tells : (mirrored : Bool) (e : WrittenExpression) (kind : Kind) (w : List ℕ) (p : ℕ) → IsPlace w p (at_begin mirrored kind) (at_end mirrored kind) →
     AreNull (seen mirrored e).nodes w p (null_in e.nodes kind)
 null_tells false e kind w p there c low = nullable_is w p kind.begin kind.end there (tree_at e.nodes c)
 null_tells true e kind w p there c low =
@@ -79,7 +79,7 @@ null_tells true e kind w p there c low =
     (λ h. law.0 (same ∙ h), λ h. sym same ∙ law.1 h)
 
 -- where no node tells a kind from another, each place will do
-pub null_anywhere : (mirrored : Bool) (e : Written) (kind : Kind) → SameNulls e.nodes →
+pub null_anywhere : (mirrored : Bool) (e : WrittenExpression) (kind : Kind) → SameNulls e.nodes →
     (w : List ℕ) (p : ℕ) (first last : Bool) → IsPlace w p first last → AreNull (seen mirrored e).nodes w p (null_in e.nodes kind)
 null_anywhere false e kind same w p first last there c low =
     let law = nullable_is w p first last there (tree_at e.nodes c) in
@@ -99,17 +99,17 @@ module _ (nodes : List Node) (groups : ℕ) (expr : IsExpr nodes groups) where
   node_size x node is = ap size (tree_at-node nodes x node expr.arena is)
 
   abbrev pub RangesBelow : ℕ → Type 0
-  RangesBelow n = (y low : ℕ) → y < n → low + size (tree_at nodes y) ≡ y + 1 → IsRange nodes low y
+  RangesBelow n = (y low : ℕ) → y < n → low + size (tree_at nodes y) ≡ y + 1 → IsNodeRange nodes low y
 
   one_part : (x low : ℕ) (a : NodeId) (node : Node) → slice_get nodes x ≡ Some node → IsPart node a.index → ((c : ℕ) → IsPart node c → c ≡ a.index) → a.index + 1 ≡ x → RangesBelow x →
-      low + (1 + size (tree_at nodes a.index)) ≡ x + 1 → IsRange nodes low x
+      low + (1 + size (tree_at nodes a.index)) ≡ x + 1 → IsNodeRange nodes low x
   one_part x low a node is part only next below long =
       let some = size_positive (tree_at nodes a.index) in
       one_range nodes x a.index low node is part only next (omega arith) (below a.index low (omega arith) (omega arith))
 
   two_parts : (x low : ℕ) (a b : NodeId) (node : Node) → slice_get nodes x ≡ Some node → IsPart node a.index → IsPart node b.index → ((c : ℕ) → IsPart node c → (c ≡ a.index) ⊎ (c ≡ b.index)) →
       (a.index + size (tree_at nodes b.index) + 1 ≡ x) × (b.index + 1 ≡ x) → RangesBelow x →
-      low + (1 + size (tree_at nodes a.index) + size (tree_at nodes b.index)) ≡ x + 1 → IsRange nodes low x
+      low + (1 + size (tree_at nodes a.index) + size (tree_at nodes b.index)) ≡ x + 1 → IsNodeRange nodes low x
   two_parts x low a b node is left right only follows below long =
       let some = size_positive (tree_at nodes a.index) in
       let some' = size_positive (tree_at nodes b.index) in
@@ -118,11 +118,11 @@ module _ (nodes : List Node) (groups : ℕ) (expr : IsExpr nodes groups) where
       two_range nodes x a.index b.index low node is left right only (omega arith) next (omega arith)
       (below a.index low (omega arith) (omega arith)) (below b.index (a.index + 1) (omega arith) (omega arith))
 
-  range_by : (x low : ℕ) (node : Node) → slice_get nodes x ≡ Some node → FollowsParts nodes x node → RangesBelow x → low + size (tree_of (tree_at nodes) node) ≡ x + 1 → IsRange nodes low x
-  range_by x low Empty is follows below long = subst (λ n. IsRange nodes n x) (omega arith) (leaf_range nodes x Empty is (λ c part. part))
-  range_by x low (Set m) is follows below long = subst (λ n. IsRange nodes n x) (omega arith) (leaf_range nodes x (Set m) is (λ c part. part))
-  range_by x low Begin is follows below long = subst (λ n. IsRange nodes n x) (omega arith) (leaf_range nodes x Begin is (λ c part. part))
-  range_by x low End is follows below long = subst (λ n. IsRange nodes n x) (omega arith) (leaf_range nodes x End is (λ c part. part))
+  range_by : (x low : ℕ) (node : Node) → slice_get nodes x ≡ Some node → FollowsParts nodes x node → RangesBelow x → low + size (tree_of (tree_at nodes) node) ≡ x + 1 → IsNodeRange nodes low x
+  range_by x low Empty is follows below long = subst (λ n. IsNodeRange nodes n x) (omega arith) (leaf_range nodes x Empty is (λ c part. part))
+  range_by x low (Set m) is follows below long = subst (λ n. IsNodeRange nodes n x) (omega arith) (leaf_range nodes x (Set m) is (λ c part. part))
+  range_by x low Begin is follows below long = subst (λ n. IsNodeRange nodes n x) (omega arith) (leaf_range nodes x Begin is (λ c part. part))
+  range_by x low End is follows below long = subst (λ n. IsNodeRange nodes n x) (omega arith) (leaf_range nodes x End is (λ c part. part))
   range_by x low (Seq a b) is follows below long =
       two_parts x low a b (Seq a b) is (inl refl) (inr refl) (λ c part. ⊎_elim (λ (l : a.index ≡ c). inl (sym l)) (λ (m : b.index ≡ c). inr (sym m)) part) follows below long
   range_by x low (Alt a b) is follows below long =
@@ -144,15 +144,15 @@ module _ (nodes : List Node) (groups : ℕ) (expr : IsExpr nodes groups) where
       (cases_lt y n)
 
   -- the nodes in x are those from low to x
-  pub range_is : (x low : ℕ) → x < length nodes → low + size (tree_at nodes x) ≡ x + 1 → IsRange nodes low x
+  pub range_is : (x low : ℕ) → x < length nodes → low + size (tree_at nodes x) ≡ x + 1 → IsNodeRange nodes low x
   range_is x low inside long = ranges_below (x + 1) (omega arith) x low (omega arith) long
 
 -- in the mirrored expression too
-pub range_seen : (mirrored : Bool) (e : Written) (low x : ℕ) → IsRange e.nodes low x → IsRange (seen mirrored e).nodes low x
+pub range_seen : (mirrored : Bool) (e : WrittenExpression) (low x : ℕ) → IsNodeRange e.nodes low x → IsNodeRange (seen mirrored e).nodes low x
 range_seen false e low x range = range
 range_seen true e low x range = mirror_range e low x range
 
-pub inside_seen : (mirrored : Bool) (e : Written) (x : ℕ) → x < length e.nodes → x < length (seen mirrored e).nodes
+pub inside_seen : (mirrored : Bool) (e : WrittenExpression) (x : ℕ) → x < length e.nodes → x < length (seen mirrored e).nodes
 inside_seen mirrored e x inside = subst (λ n. x < n) (sym (seen-length mirrored e)) inside
 
 -- what is told of a node, by what is told of its parts

@@ -4,18 +4,18 @@ use Rattle.std.specs.Prelude.{slice_get, is_some, IfSome}
 use Rattle.std.proofs.lemmas.Bool.{cases_lt, cases_Bool, both_ways}
 use Rattle.std.proofs.lemmas.Option.{slice_get_within}
 use Rattle.sedre.specs.Arena.{IsArena}
-use Rattle.sedre.specs.Written.{Written, tree, tree_at}
+use Rattle.sedre.specs.Written.{WrittenExpression, expression_tree, tree_at}
 use Rattle.sedre.specs.Mirror.{seen}
 use Rattle.sedre.specs.declared.types.Node.{Node}
 use Rattle.sedtext.specs.declared.starts.Starts.{Starts}
 use Rattle.sedre.specs.Steps.{TakesAtLeast}
 use Rattle.sedtext.specs.Following.{PassesOver}
-use Rattle.sedtext.specs.Matching.{takes}
-use Rattle.sedtext.specs.Reach.{At, IsStart, SomeSpan, Longest}
-use Rattle.sedtext.specs.Spans.{Spans, SomeFound}
-use Rattle.sedtext.proofs.SpanLemmas.{Spans-forward, Spans-within}
+use Rattle.sedtext.specs.Matching.{byte_is_in}
+use Rattle.sedtext.specs.Reach.{At, IsStart, SomeSpan, IsLongestFrom}
+use Rattle.sedtext.specs.Spans.{Matches, SomeFound}
+use Rattle.sedtext.proofs.SpanLemmas.{Matches-forward, Matches-within}
 use Rattle.sedtext.specs.Places.{IsPlace}
-use Rattle.sedpass.specs.Rows.{nodes_of, at_begin, at_end, RowAt}
+use Rattle.sedpass.specs.Rows.{nodes_of, at_begin, at_end, RowOfPlace}
 use Rattle.sedpass.specs.Cells.{stops, code_of}
 use Rattle.sedpass.specs.Table.{State, state_of, IsTold, StateAt, LeadsOn, BeginsIn, Names, IsTable}
 use Rattle.sedpass.specs.Forwards.{starts_of, LastBelow, IsEnd, Arrives, EndsBelow, PassIs}
@@ -80,7 +80,7 @@ end_below nodes w r s n (Some j) last = let low = last.0 in omega arith
 pub none_before : (p : Prepared) (way : Way) (w : List ℕ) (from : ℕ) → EndsBelow p way w from from None
 none_before p way w from k low some =
     let after = first_start way.sweeps from w some.0 some.1 in
-    let on = Spans-forward (tree_at (nodes_of way p.arena.expr) p.root) w some.0 k some.2 in
+    let on = Matches-forward (tree_at (nodes_of way p.arena.expr) p.root) w some.0 k some.2 in
     omega arith
 
 -- Codes.
@@ -221,7 +221,7 @@ pub arrives_next : (p : Prepared) (way : Way) (w : List ℕ) (start place byte :
 arrives_next p way w start place byte edge a b after is inside edges here leads = (
   leads.0 ∙ here.0,
   subst (λ r. StateAt (nodes_of way p.arena.expr) w (starts_of way.sweeps start w) way.keeps (place + 1) (record { root = r; entered = b.entered; ended = b.ended; flags = b.flags })) (sym leads.0)
-      (leads.1 w (starts_of way.sweeps start w) place (λ x m set. ap (λ o. takes o m) is) edges (next_start way.sweeps start w place after inside) here.1),
+      (leads.1 w (starts_of way.sweeps start w) place (λ x m set. ap (λ o. byte_is_in o m) is) edges (next_start way.sweeps start w place after inside) here.1),
 )
 
 -- a pass goes on, in the table as it was or in one that was added to
@@ -265,8 +265,8 @@ arrives_first p way w from kind a mirrored low begin end begins =
     let place : IsPlace w s.first (at_begin way.mirrored kind) (at_end way.mirrored kind) =
     subst (λ b. IsPlace w s.first (at_begin b kind) (at_end b kind)) (sym mirrored) (subst (λ x. IsPlace w x kind.begin kind.end) (sym first) (begin, end)) in (
       begins.0,
-      subst (λ r. RowAt (nodes_of way p.arena.expr) w r s way.keeps from a.entered a.ended) (sym begins.0)
-          (subst (λ x. RowAt (nodes_of way p.arena.expr) w p.root s way.keeps x a.entered a.ended) first (begins.1 w s place (starts_order way.sweeps from w low))),
+      subst (λ r. RowOfPlace (nodes_of way p.arena.expr) w r s way.keeps from a.entered a.ended) (sym begins.0)
+          (subst (λ x. RowOfPlace (nodes_of way p.arena.expr) w p.root s way.keeps x a.entered a.ended) first (begins.1 w s place (starts_order way.sweeps from w low))),
     )
 
 -- The end of a pass.
@@ -281,22 +281,22 @@ pass_end p t w start at low pass done =
     let nodes = nodes_of t.way p.arena.expr in
     all_below nodes w p.root s t.way.sweeps (at.place + 1) at.end
     (λ k late some.
-    let within = Spans-within (tree_at nodes p.root) w some.0 k (last_start t.way.sweeps start w some.0 low some.1) some.2 in
+    let within = Matches-within (tree_at nodes p.root) w some.0 k (last_start t.way.sweeps start w some.0 low some.1) some.2 in
     omega arith)
     pass.last)
     done
 
-module _ (e : Written) (r : ℕ) (w : List ℕ) (from : ℕ) (whole : r + 1 ≡ length e.nodes) where
+module _ (e : WrittenExpression) (r : ℕ) (w : List ℕ) (from : ℕ) (whole : r + 1 ≡ length e.nodes) where
   whole_is : length e.nodes - 1 ≡ r
   whole_is = omega arith
 
-  to_tree : (i k : ℕ) → At e.nodes w r i k → Spans (tree e) w i k
-  to_tree i k span = subst (λ x. Spans (tree_at e.nodes x) w i k) (sym whole_is) span
+  to_tree : (i k : ℕ) → At e.nodes w r i k → Matches (expression_tree e) w i k
+  to_tree i k span = subst (λ x. Matches (tree_at e.nodes x) w i k) (sym whole_is) span
 
-  from_tree : (i k : ℕ) → Spans (tree e) w i k → At e.nodes w r i k
-  from_tree i k span = subst (λ x. Spans (tree_at e.nodes x) w i k) whole_is span
+  from_tree : (i k : ℕ) → Matches (expression_tree e) w i k → At e.nodes w r i k
+  from_tree i k span = subst (λ x. Matches (tree_at e.nodes x) w i k) whole_is span
 
-  pub end_longest : (end : Option ℕ) → IsEnd false e.nodes w r (starts_of false from w) end → Longest (tree e) w from end
+  pub end_longest : (end : Option ℕ) → IsEnd false e.nodes w r (starts_of false from w) end → IsLongestFrom (expression_tree e) w from end
   end_longest None none = λ k span. none k (from, (omega arith, omega arith), from_tree from k span)
   end_longest (Some j) is = (
     (let some = is.0 in
@@ -307,12 +307,12 @@ module _ (e : Written) (r : ℕ) (w : List ℕ) (from : ℕ) (whole : r + 1 ≡ 
     λ k span. is.1 refl k (from, (omega arith, omega arith), from_tree from k span),
   )
 
-  pub end_found : from ≤ length w → (end : Option ℕ) → IsEnd true e.nodes w r (starts_of true from w) end → IsTrue (is_some end) ↔ SomeFound (tree e) w from
+  pub end_found : from ≤ length w → (end : Option ℕ) → IsEnd true e.nodes w r (starts_of true from w) end → IsTrue (is_some end) ↔ SomeFound (expression_tree e) w from
   end_found low None none = (λ h. absurd (true≢false (sym h)), λ some. absurd (none some.1 (some.0, (some.2, some.3), from_tree some.0 some.1 some.4)))
   end_found low (Some j) is = (λ h. let some = is.0 in (some.0, j, some.1.0, some.1.1, to_tree some.0 j some.2), λ some. refl)
 
   pub end_passes : (sweeps : Bool) (s t place : ℕ) → from ≤ length w → (end : Option ℕ) → IsEnd sweeps e.nodes w r (starts_of sweeps from w) end → IfSome end (λ j. j ≤ place) →
-      TakesAtLeast s t (2 * (place - from) + 1) → IfSome end (λ j. PassesOver (tree e) w from s t)
+      TakesAtLeast s t (2 * (place - from) + 1) → IfSome end (λ j. PassesOver (expression_tree e) w from s t)
   end_passes sweeps s t place low None is ended looks = tt
   end_passes sweeps s t place low (Some j) is ended looks =
       let some = is.0 in
@@ -321,7 +321,7 @@ module _ (e : Written) (r : ℕ) (w : List ℕ) (from : ℕ) (whole : r + 1 ≡ 
         start = some.0;
         end = j;
         later = after;
-        within = Spans-within (tree_at e.nodes r) w some.0 j (last_start sweeps from w some.0 low some.1) some.2;
+        within = Matches-within (tree_at e.nodes r) w some.0 j (last_start sweeps from w some.0 low some.1) some.2;
         spans = to_tree some.0 j some.2;
         bytes = least_less s t (2 * (place - from) + 1) (j - some.0) looks (omega (arith, ended, after));
         passed = λ early. least_less s t (2 * (place - from) + 1) (j - from) looks (omega (arith, ended));
@@ -333,13 +333,13 @@ module _ (p : Prepared) (way u : Way) (w : List ℕ) (from : ℕ) (end : Option 
   seen_end = subst (λ b. IsEnd way.sweeps (seen b p.arena.expr).nodes w p.root (starts_of way.sweeps from w) end) mirrored
       (subst (λ (x : Way). IsEnd x.sweeps (nodes_of x p.arena.expr) w p.root (starts_of x.sweeps from w) end) same is)
 
-  pub run_longest : way.sweeps ≡ false → Longest (tree p.arena.expr) w from end
+  pub run_longest : way.sweeps ≡ false → IsLongestFrom (expression_tree p.arena.expr) w from end
   run_longest single = end_longest p.arena.expr p.root w from p.is_prepared.last end (subst (λ b. IsEnd b p.arena.expr.nodes w p.root (starts_of b from w) end) single seen_end)
 
-  pub run_found : from ≤ length w → IsTrue way.sweeps → IsTrue (is_some end) ↔ SomeFound (tree p.arena.expr) w from
+  pub run_found : from ≤ length w → IsTrue way.sweeps → IsTrue (is_some end) ↔ SomeFound (expression_tree p.arena.expr) w from
   run_found low sweeps = end_found p.arena.expr p.root w from p.is_prepared.last low end (subst (λ b. IsEnd b p.arena.expr.nodes w p.root (starts_of b from w) end) sweeps seen_end)
 
-  pub run_passes : (s t place : ℕ) → from ≤ length w → IfSome end (λ j. j ≤ place) → TakesAtLeast s t (2 * (place - from) + 1) → IfSome end (λ j. PassesOver (tree p.arena.expr) w from s t)
+  pub run_passes : (s t place : ℕ) → from ≤ length w → IfSome end (λ j. j ≤ place) → TakesAtLeast s t (2 * (place - from) + 1) → IfSome end (λ j. PassesOver (expression_tree p.arena.expr) w from s t)
   run_passes s t place low ended looks = end_passes p.arena.expr p.root w from p.is_prepared.last way.sweeps s t place low end seen_end ended looks
 
 -- Costs.

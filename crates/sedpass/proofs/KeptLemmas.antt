@@ -6,19 +6,19 @@ use Rattle.std.proofs.lemmas.List.{length-reverse}
 use Rattle.std.specs.Prelude.{min, not, reverse, slice_get, slice_index_or, slice_set, vec_capacity}
 use Rattle.std.proofs.lemmas.List.{get_or-set_same, get_or-set_other}
 use Rattle.sedre.specs.Arena.{IsArena}
-use Rattle.sedre.specs.Written.{Written}
+use Rattle.sedre.specs.Written.{WrittenExpression}
 use Rattle.sedre.specs.Mirror.{seen}
 use Rattle.sedre.specs.declared.types.Node.{Node}
-use Rattle.sedtext.specs.Matching.{takes}
+use Rattle.sedtext.specs.Matching.{byte_is_in}
 use Rattle.sedtext.specs.declared.starts.Starts.{Starts}
 use Rattle.sedtext.specs.Reach.{At, IsStart, one_start, starts_to}
 use Rattle.sedtext.specs.Places.{IsPlace}
 use Rattle.sedtext.proofs.MirrorLemmas.{get-reverse}
-use Rattle.sedpass.specs.Regions.{IsLastIn, Opposite, Reaches, Meets}
+use Rattle.sedpass.specs.Regions.{IsLastIn, Opposite, ReachesEnd, Meets}
 use Rattle.sedpass.specs.Prepared.{null_in}
-use Rattle.sedpass.specs.Rows.{bits, RowAt, LeadsTo, IsFirst, SameBytes, at_begin, at_end}
+use Rattle.sedpass.specs.Rows.{bits, RowOfPlace, LeadsTo, IsFirstRow, SameBytes, at_begin, at_end}
 use Rattle.sedtext.specs.Words.{AgreeBelow, row_of}
-use Rattle.sedpass.specs.Kept.{starts_told, ends_told, RowKept, KeptAt, IsLive, KeptRoom, IsRegion, Passes, IsEdge, AllMarked, SameKept, SameSpace, EdgesFrom, IsKept}
+use Rattle.sedpass.specs.Kept.{starts_told, ends_told, RowKept, KeptAt, IsLive, KeptRoom, IsRegion, PassesDownTo, IsEdge, AllMarked, SameKept, SameSpace, EdgesFrom, IsKept}
 use Rattle.sedpass.specs.Table.{State, state_of, HasRow, LeadsOn, BeginsIn, IsTable, MayBegin, SameShape, AddsStates, IsOffset}
 use Rattle.sedpass.specs.declared.kept.Kept.{Kept}
 use Rattle.sedpass.specs.Rows.{nodes_of}
@@ -30,7 +30,7 @@ use Rattle.sedpass.specs.declared.nodes.Kind.{Kind}
 use Rattle.sedpass.proofs.FactLemmas.{null_tells}
 use Rattle.sedpass.proofs.LeaveLemmas.{last_inside, reaches_last}
 use Rattle.sedpass.proofs.RowLemmas.{behind_reaches, meet_rows, bits_agree, bits_here}
-use Rattle.sedre.specs.Steps.{Counted, TakesAtLeast}
+use Rattle.sedre.specs.Steps.{TakesExactly, TakesAtLeast}
 
 -- the starts of the mirrored pass are the places where its matches end
 pub told_opposite : (sweeps : Bool) (n end : ℕ) → end ≤ n → Opposite n (starts_told sweeps n end) (ends_told sweeps n end)
@@ -42,18 +42,18 @@ told_last true n end within = omega arith
 told_last false n end within = within
 
 -- a row of the pass tells which nodes are marked
-pub kept_reaches : (e : Written) (w : List ℕ) (mirrored sweeps keeps : Bool) (r end q x : ℕ) (entered ended : ℕ → Bool) → IsArena e.nodes → IsTrue mirrored → IsTrue keeps → q ≤ length w → end ≤ length w →
-    RowAt (seen mirrored e).nodes (reverse w) r (starts_told sweeps (length w) end) keeps (length w - q) entered ended →
-    IsTrue (ended x) ↔ Reaches e.nodes w r (ends_told sweeps (length w) end) x q
+pub kept_reaches : (e : WrittenExpression) (w : List ℕ) (mirrored sweeps keeps : Bool) (r end q x : ℕ) (entered ended : ℕ → Bool) → IsArena e.nodes → IsTrue mirrored → IsTrue keeps → q ≤ length w → end ≤ length w →
+    RowOfPlace (seen mirrored e).nodes (reverse w) r (starts_told sweeps (length w) end) keeps (length w - q) entered ended →
+    IsTrue (ended x) ↔ ReachesEnd e.nodes w r (ends_told sweeps (length w) end) x q
 kept_reaches e w true sweeps true r end q x entered ended arena _ _ there within row =
     behind_reaches e w r x q (length w - q) (starts_told sweeps (length w) end) (ends_told sweeps (length w) end) entered ended arena (told_opposite sweeps (length w) end within) (told_last sweeps (length w) end within) (omega arith) row
 kept_reaches e w false sweeps keeps r end q x entered ended arena mirror _ there within row = absurd (true≢false (sym mirror))
 kept_reaches e w true sweeps false r end q x entered ended arena _ keep there within row = absurd (true≢false (sym keep))
 
 -- and with a row of a pass ahead whether the two meet
-pub kept_meets : (e : Written) (w : List ℕ) (mirrored sweeps keeps other : Bool) (r a i end q : ℕ) (front front_ended entered ended : ℕ → Bool) → IsArena e.nodes → IsTrue mirrored → IsTrue keeps → q ≤ length w → end ≤ length w →
-    RowAt e.nodes w a (one_start i) other q front front_ended →
-    RowAt (seen mirrored e).nodes (reverse w) r (starts_told sweeps (length w) end) keeps (length w - q) entered ended →
+pub kept_meets : (e : WrittenExpression) (w : List ℕ) (mirrored sweeps keeps other : Bool) (r a i end q : ℕ) (front front_ended entered ended : ℕ → Bool) → IsArena e.nodes → IsTrue mirrored → IsTrue keeps → q ≤ length w → end ≤ length w →
+    RowOfPlace e.nodes w a (one_start i) other q front front_ended →
+    RowOfPlace (seen mirrored e).nodes (reverse w) r (starts_told sweeps (length w) end) keeps (length w - q) entered ended →
     ((c : ℕ) × IsTrue (front c) × IsTrue (ended c)) ↔ Meets e.nodes w r (ends_told sweeps (length w) end) a (one_start i) q
 kept_meets e w true sweeps true other r a i end q front front_ended entered ended arena _ _ there within ahead row =
     meet_rows e w r a q (length w - q) (one_start i) (starts_told sweeps (length w) end) (ends_told sweeps (length w) end) other front front_ended entered ended arena (told_opposite sweeps (length w) end within) (told_last sweeps (length w) end within) (omega arith) ahead row
@@ -66,27 +66,27 @@ told_start true n end d after within = (λ _. (omega arith, omega arith), λ _. 
 told_start false n end d after within = (λ h. absurd (true≢false (sym h)), λ h. absurd (omega arith))
 
 -- the row of the next place, seen from the text's end
-pub kept_step : (e : Written) (w : List ℕ) (mirrored sweeps keeps edge : Bool) (r end q byte : ℕ) (entered ended after after_ended : ℕ → Bool) →
+pub kept_step : (e : WrittenExpression) (w : List ℕ) (mirrored sweeps keeps edge : Bool) (r end q byte : ℕ) (entered ended after after_ended : ℕ → Bool) →
     q < end → end ≤ length w → slice_get w q ≡ Some byte → (IsTrue edge ↔ (q ≡ 0)) →
     LeadsTo (seen mirrored e).nodes r keeps entered ended (Some byte) edge sweeps after after_ended →
-    RowAt (seen mirrored e).nodes (reverse w) r (starts_told sweeps (length w) end) keeps (length w - (q + 1)) entered ended →
-    RowAt (seen mirrored e).nodes (reverse w) r (starts_told sweeps (length w) end) keeps (length w - q) after after_ended
+    RowOfPlace (seen mirrored e).nodes (reverse w) r (starts_told sweeps (length w) end) keeps (length w - (q + 1)) entered ended →
+    RowOfPlace (seen mirrored e).nodes (reverse w) r (starts_told sweeps (length w) end) keeps (length w - q) after after_ended
 kept_step e w mirrored sweeps keeps edge r end q byte entered ended after after_ended before within got last leads row =
     let n = length w in
     let d = n - (q + 1) in
     let next : d + 1 ≡ n - q = omega arith in
     let whole : length (reverse w) ≡ n = length-reverse w in
     let read : slice_get (reverse w) d ≡ Some byte = get-reverse w q d byte (omega arith) got in
-    let bytes : SameBytes (seen mirrored e).nodes (slice_get (reverse w) d) (Some byte) = λ x members _. ap (λ b. takes b members) read in
+    let bytes : SameBytes (seen mirrored e).nodes (slice_get (reverse w) d) (Some byte) = λ x members _. ap (λ b. byte_is_in b members) read in
     let edges : IsTrue edge ↔ (d + 1 ≡ length (reverse w)) = (λ h. let at : q ≡ 0 = last.0 h in omega arith, λ h. last.1 (omega arith)) in
-    subst (λ p. RowAt (seen mirrored e).nodes (reverse w) r (starts_told sweeps (length w) end) keeps p after after_ended) next
+    subst (λ p. RowOfPlace (seen mirrored e).nodes (reverse w) r (starts_told sweeps (length w) end) keeps p after after_ended) next
     (leads (reverse w) (starts_told sweeps n end) d bytes edges (told_start sweeps n end d (omega arith) (omega arith)) row)
 
 -- the row in which the pass begins
-pub kept_first : (e : Written) (w : List ℕ) (mirrored sweeps keeps : Bool) (r end : ℕ) (kind : Kind) (entered ended : ℕ → Bool) → IsTrue mirrored → end ≤ length w → (IsTrue sweeps → end ≡ length w) →
+pub kept_first : (e : WrittenExpression) (w : List ℕ) (mirrored sweeps keeps : Bool) (r end : ℕ) (kind : Kind) (entered ended : ℕ → Bool) → IsTrue mirrored → end ≤ length w → (IsTrue sweeps → end ≡ length w) →
     (IsTrue kind.begin ↔ (end ≡ 0)) → (IsTrue kind.end ↔ (end ≡ length w)) →
-    IsFirst (seen mirrored e).nodes r keeps (at_begin mirrored kind) (at_end mirrored kind) entered ended →
-    RowAt (seen mirrored e).nodes (reverse w) r (starts_told sweeps (length w) end) keeps (length w - end) entered ended
+    IsFirstRow (seen mirrored e).nodes r keeps (at_begin mirrored kind) (at_end mirrored kind) entered ended →
+    RowOfPlace (seen mirrored e).nodes (reverse w) r (starts_told sweeps (length w) end) keeps (length w - end) entered ended
 kept_first e w false sweeps keeps r end kind entered ended mirror within whole begins ends first = absurd (true≢false (sym mirror))
 kept_first e w true false keeps r end kind entered ended _ within whole begins ends first =
     let turned : length (reverse w) ≡ length w = length-reverse w in
@@ -103,7 +103,7 @@ kept_first e w true true keeps r end kind entered ended _ within whole begins en
       (λ h. refl, λ h. ends.1 all),
       (λ h. let at = begins.0 h in omega arith, λ h. begins.1 (omega arith)),
     ) in
-    subst (λ p. RowAt (seen true e).nodes (reverse w) r (starts_to 0 (length w)) keeps p entered ended) (sym none)
+    subst (λ p. RowOfPlace (seen true e).nodes (reverse w) r (starts_to 0 (length w)) keeps p entered ended) (sym none)
     (first (reverse w) (starts_to 0 (length w)) place (omega arith))
 
 -- A state of a table and of what became of it.
@@ -167,13 +167,13 @@ region_kept p w t after k other shape table places long edges root end within re
 
 -- the pass is at the next place
 pub passes_down : (p : Prepared) (w : List ℕ) (t after : Table) (k other : Kept) (place offset next byte : ℕ) (edge : Bool) →
-    Passes p w t k (place + 1) offset → IsTable p after → AddsStates (length p.arena.expr.nodes) t after →
+    PassesDownTo p w t k (place + 1) offset → IsTable p after → AddsStates (length p.arena.expr.nodes) t after →
     other.region.root ≡ k.region.root → other.region.end ≡ k.region.end → other.edges ≡ k.edges →
     vec_capacity other.states ≡ vec_capacity k.states → other.states.items ≡ slice_set k.states.items place (next / 2 ^ after.layout.shift) →
     ((after.epoch ≡ t.epoch → ⊥) × (other.region.to ≡ place + 1)) ⊎ ((after.epoch ≡ t.epoch) × (other.region.to ≡ k.region.to)) →
     IsOffset after next → slice_get w place ≡ Some byte → (IsTrue edge ↔ (place ≡ 0)) →
     LeadsOn (nodes_of t.way p.arena.expr) t.way (state_of (length p.arena.expr.nodes) t (offset / 2 ^ t.layout.shift)) byte edge (state_of (length p.arena.expr.nodes) after (next / 2 ^ after.layout.shift)) →
-    Passes p w after other place next
+    PassesDownTo p w after other place next
 passes_down p w t after k other place offset next byte edge old table adds root end edges places states to there got last leads =
     let m = length p.arena.expr.nodes in
     let s = next / 2 ^ after.layout.shift in
@@ -208,8 +208,8 @@ passes_down p w t after k other place offset next byte edge old table adds root 
     }
 
 -- so many looks, and then others
-pub least_then : (s a b k n m : ℕ) → Counted s a k → TakesAtLeast a b n → k + n ≡ m → TakesAtLeast s b m
-unfolding TakesAtLeast Counted
+pub least_then : (s a b k n m : ℕ) → TakesExactly s a k → TakesAtLeast a b n → k + n ≡ m → TakesAtLeast s b m
+unfolding TakesAtLeast TakesExactly
 least_then s a b k n m one after is = omega (arith, one, after, is)
 
 -- The rows at the ends of blocks.
@@ -335,7 +335,7 @@ block_cost m low high s a t less edge pass =
 -- a pass begins at the place
 pub passes_first : (p : Prepared) (w : List ℕ) (t after : Table) (k other : Kept) (place offset : ℕ) → IsRegion p w t k → SameShape t after → IsTable p after → other.states ≡ k.states → other.edges ≡ k.edges →
     other.region.root ≡ k.region.root → other.region.end ≡ k.region.end → other.region.to ≡ place → place ≤ k.region.end → IsOffset after offset →
-    KeptAt p w after.way k.region.root k.region.end place (state_of (length p.arena.expr.nodes) after (offset / 2 ^ after.layout.shift)) → Passes p w after other place offset
+    KeptAt p w after.way k.region.root k.region.end place (state_of (length p.arena.expr.nodes) after (offset / 2 ^ after.layout.shift)) → PassesDownTo p w after other place offset
 passes_first p w t after k other place offset region shape table states edges root end to within there at =
     let m = length p.arena.expr.nodes in
     record {
@@ -349,7 +349,7 @@ passes_first p w t after k other place offset region shape table states edges ro
     }
 
 -- what a pass came down to is kept
-pub kept_passed : (p : Prepared) (w : List ℕ) (t : Table) (k other : Kept) (place offset : ℕ) → Passes p w t k place offset → EdgesFrom p w t k other.region.low → other.region.low ≤ place → other.region.from ≡ place →
+pub kept_passed : (p : Prepared) (w : List ℕ) (t : Table) (k other : Kept) (place offset : ℕ) → PassesDownTo p w t k place offset → EdgesFrom p w t k other.region.low → other.region.low ≤ place → other.region.from ≡ place →
     other.states ≡ k.states → other.edges ≡ k.edges → other.region.root ≡ k.region.root → other.region.end ≡ k.region.end → other.region.to ≡ k.region.to → IsKept p w t other
 kept_passed p w t k other place offset passes kept low from states edges root end to =
     let shape : SameShape t t = (refl, refl, refl, refl, refl) in
@@ -398,7 +398,7 @@ load_at p w t k way block place a edges some is other same row =
 
 -- whether a node is marked at a place whose state is in the table
 pub kept_mark : (p : Prepared) (w : List ℕ) (t : Table) (k : Kept) (x q : ℕ) (mark : Bool) → IsKept p w t k → x < length p.arena.expr.nodes → k.region.from ≤ q → q < k.region.to →
-    mark ≡ slice_index_or (row_of t.ends (slice_index_or k.states.items q 0)) x false → IsTrue mark ↔ Reaches p.arena.expr.nodes w k.region.root (ends_told t.way.sweeps (length w) k.region.end) x q
+    mark ≡ slice_index_or (row_of t.ends (slice_index_or k.states.items q 0)) x false → IsTrue mark ↔ ReachesEnd p.arena.expr.nodes w k.region.root (ends_told t.way.sweeps (length w) k.region.end) x q
 kept_mark p w t k x q mark kept inside above before is =
     let m = length p.arena.expr.nodes in
     let region : IsRegion p w t k = kept.region in
@@ -406,7 +406,7 @@ kept_mark p w t k x q mark kept inside above before is =
     let live : IsLive p w t k.region.root k.region.end k.states.items q = kept.live q above before in
     let bit : bits m (row_of t.ends s) x ≡ mark = bits_here m (row_of t.ends s) x inside ∙ sym is in
     let there : q ≤ length w = (let h = region.within in let g = region.inside in omega (arith, h, g, before)) in
-    subst (λ b. IsTrue b ↔ Reaches p.arena.expr.nodes w k.region.root (ends_told t.way.sweeps (length w) k.region.end) x q) bit
+    subst (λ b. IsTrue b ↔ ReachesEnd p.arena.expr.nodes w k.region.root (ends_told t.way.sweeps (length w) k.region.end) x q) bit
     (kept_reaches p.arena.expr w t.way.mirrored t.way.sweeps t.way.keeps k.region.root k.region.end q x (bits m (row_of t.leaves s)) (bits m (row_of t.ends s)) region.table.expr.arena region.room.mirrored region.room.keeps there region.inside live.1.1)
 
 -- where its state stands
@@ -436,9 +436,9 @@ not_asked A false true other tells = tells
 not_asked A false false other tells = absurd (true≢false other)
 
 -- a place more was passed
-pub marked_on : (nodes : List Node) (w : List ℕ) (r x : ℕ) (t : Starts) (asked : Bool) (from place : ℕ) → AllMarked nodes w r t x asked from place → (IsTrue asked ↔ Reaches nodes w r t x place) → AllMarked nodes w r t x asked from (place + 1)
+pub marked_on : (nodes : List Node) (w : List ℕ) (r x : ℕ) (t : Starts) (asked : Bool) (from place : ℕ) → AllMarked nodes w r t x asked from place → (IsTrue asked ↔ ReachesEnd nodes w r t x place) → AllMarked nodes w r t x asked from (place + 1)
 marked_on nodes w r x t asked from place passed here q after before =
-    ⊎_elim (λ (lt : q < place). passed q after lt) (λ (ge : place ≤ q). let e : place ≡ q = omega arith in subst (λ y. IsTrue asked ↔ Reaches nodes w r t x y) e here) (cases_lt q place)
+    ⊎_elim (λ (lt : q < place). passed q after lt) (λ (ge : place ≤ q). let e : place ≡ q = omega arith in subst (λ y. IsTrue asked ↔ ReachesEnd nodes w r t x y) e here) (cases_lt q place)
 
 -- and then further places
 pub marked_then : (nodes : List Node) (w : List ℕ) (r x : ℕ) (t : Starts) (asked : Bool) (from place to : ℕ) → AllMarked nodes w r t x asked from place → AllMarked nodes w r t x asked place to → AllMarked nodes w r t x asked from to
@@ -458,9 +458,9 @@ mark_spans p w t k x q mark kept one last above before is =
     let arena = kept.region.table.expr.arena in
     let root = kept.region.root.0 in
     let up = last_inside p.arena.expr.nodes w k.region.root (one_start k.region.end) arena x last in
-    let tells : IsTrue mark ↔ Reaches p.arena.expr.nodes w k.region.root (ends_told t.way.sweeps (length w) k.region.end) x q = kept_mark p w t k x q mark kept (omega (arith, root, up)) above before is in
-    let same : IsTrue mark ↔ Reaches p.arena.expr.nodes w k.region.root (one_start k.region.end) x q =
-    subst (λ b. IsTrue mark ↔ Reaches p.arena.expr.nodes w k.region.root (ends_told b (length w) k.region.end) x q) one tells in
+    let tells : IsTrue mark ↔ ReachesEnd p.arena.expr.nodes w k.region.root (ends_told t.way.sweeps (length w) k.region.end) x q = kept_mark p w t k x q mark kept (omega (arith, root, up)) above before is in
+    let same : IsTrue mark ↔ ReachesEnd p.arena.expr.nodes w k.region.root (one_start k.region.end) x q =
+    subst (λ b. IsTrue mark ↔ ReachesEnd p.arena.expr.nodes w k.region.root (ends_told b (length w) k.region.end) x q) one tells in
     let both = reaches_last p.arena.expr.nodes w k.region.root k.region.end x q arena last in
     (λ h. both.0 (same.0 h), λ h. same.1 (both.1 h))
 

@@ -3,7 +3,7 @@ use Rattle.std.proofs.Common.{◌≡◌, ℕ, ◌+◌, ◌-◌, ◌<◌, ◌≤�
 use Rattle.std.specs.Prelude.{slice_get}
 use Rattle.std.proofs.lemmas.Bool.{cases_lt}
 use Rattle.sedre.specs.Arena.{IsArena, IsPart, HasTwoParts}
-use Rattle.sedre.specs.Written.{Written, tree_at}
+use Rattle.sedre.specs.Written.{WrittenExpression, tree_at}
 use Rattle.sedre.specs.Mirror.{mirror_node, seen}
 use Rattle.sedre.proofs.MirrorLemmas.{seen-node, old_node}
 use Rattle.sedre.specs.declared.types.Node.{Node}
@@ -12,8 +12,8 @@ use Rattle.sedre.specs.declared.types.Node.TheVariants.{Empty, Set, Begin, End, 
 use Rattle.sedtext.specs.declared.starts.Starts.{Starts}
 use Rattle.sedtext.specs.Spans.{no_copy}
 use Rattle.sedtext.specs.Reach.{At, BeginsWith, IsStart, one_start, Enters, at_root, with_whole, after_left, again, Ends}
-use Rattle.sedpass.specs.Regions.{EndsWith, Leaves, at_end, with_end, before_right, before_copies, Reaches, EndsAt, Opposite, IsLastPart, IsLastIn, all_of, last_of}
-use Rattle.sedtext.proofs.SpanLemmas.{Spans-forward}
+use Rattle.sedpass.specs.Regions.{EndsWith, Leaves, at_end, with_end, before_right, before_copies, ReachesEnd, EndsAt, Opposite, IsLastPart, IsLastIn, all_of, last_of}
+use Rattle.sedtext.proofs.SpanLemmas.{Matches-forward}
 use Rattle.sedtext.proofs.ReachLemmas.{close_at}
 use Rattle.sedtext.proofs.MirrorLemmas.{At-mirror}
 
@@ -127,11 +127,11 @@ module _ (nodes : List Node) (w : List ℕ) (r : ℕ) (t : Starts) (arena : IsAr
   Leaves-to x i (with_end z _ _ other is' ends l) = Leaves-to z i l
   Leaves-to x i (before_right z _ _ k a b is' left l at) =
       let late = Leaves-to z k l in
-      let on = Spans-forward (tree_at nodes b.index) w i k at in
+      let on = Matches-forward (tree_at nodes b.index) w i k at in
       omega arith
   Leaves-to x i (before_copies z _ _ k a first is' inner l at) =
       let late = Leaves-to z k l in
-      let on = Spans-forward (tree_at nodes z) w i k at in
+      let on = Matches-forward (tree_at nodes z) w i k at in
       omega arith
 
   -- a part that ends wherever its node does is left where the node is
@@ -166,10 +166,10 @@ module _ (nodes : List Node) (w : List ℕ) (r : ℕ) (t : Starts) (arena : IsAr
       last-leaves y i up (OutOf-last y x i node (arena.distinct y node is) last (Leaves-part y (last_inside y up) x i node is part l))
 
 -- a node that is last in r is marked exactly where it matches up to one of the ends
-pub reaches_ends : (nodes : List Node) (w : List ℕ) (r x p : ℕ) (t : Starts) → IsArena nodes → IsLastIn nodes r x → Reaches nodes w r t x p ↔ ((k : ℕ) × IsStart t k × At nodes w x p k)
+pub reaches_ends : (nodes : List Node) (w : List ℕ) (r x p : ℕ) (t : Starts) → IsArena nodes → IsLastIn nodes r x → ReachesEnd nodes w r t x p ↔ ((k : ℕ) × IsStart t k × At nodes w x p k)
 reaches_ends nodes w r x p t arena last = (λ h. (h.0, last-leaves nodes w r t arena x h.0 last h.2, h.1), λ h. (h.0, h.2, Leaves-last nodes w r t arena x h.0 last h.1))
 
-pub reaches_last : (nodes : List Node) (w : List ℕ) (r j x p : ℕ) → IsArena nodes → IsLastIn nodes r x → Reaches nodes w r (one_start j) x p ↔ At nodes w x p j
+pub reaches_last : (nodes : List Node) (w : List ℕ) (r j x p : ℕ) → IsArena nodes → IsLastIn nodes r x → ReachesEnd nodes w r (one_start j) x p ↔ At nodes w x p j
 reaches_last nodes w r j x p arena last =
     let both = reaches_ends nodes w r x p (one_start j) arena last in (
       λ h.
@@ -181,7 +181,7 @@ reaches_last nodes w r j x p arena last =
     )
 
 pub alt_looks : (nodes : List Node) (w : List ℕ) (r j x i : ℕ) (a b : NodeId) → IsArena nodes → IsLastIn nodes r x → slice_get nodes x ≡ Some (Alt a b) →
-    (Reaches nodes w r (one_start j) a.index i ↔ At nodes w a.index i j) × (Reaches nodes w r (one_start j) b.index i ↔ At nodes w b.index i j)
+    (ReachesEnd nodes w r (one_start j) a.index i ↔ At nodes w a.index i j) × (ReachesEnd nodes w r (one_start j) b.index i ↔ At nodes w b.index i j)
 alt_looks nodes w r j x i a b arena last is = (
   reaches_last nodes w r j a.index i arena (last_of x a.index (Alt a b) is (inl refl) last),
   reaches_last nodes w r j b.index i arena (last_of x b.index (Alt a b) is (inr refl) last),
@@ -191,7 +191,7 @@ alt_looks nodes w r j x i a b arena last is = (
 pub ends_at : (nodes : List Node) (w : List ℕ) (r x q : ℕ) (s : Starts) → EndsAt nodes w r s x q ↔ (Ends nodes w r s x q ⊎ (Enters nodes w r s x q × At nodes w x q q))
 ends_at nodes w r x q s = (
   λ h.
-      let on = Spans-forward (tree_at nodes x) w h.0 q h.2 in
+      let on = Matches-forward (tree_at nodes x) w h.0 q h.2 in
       ⊎_elim
       (λ (lt : h.0 < q). inl (h.0, lt, h.1, h.2))
       (λ (ge : q ≤ h.0).
@@ -239,7 +239,7 @@ twice Begin = refl
 twice End = refl
 
 -- the ends t of the expression are the starts s of the mirrored one
-module _ (e : Written) (w : List ℕ) (r : ℕ) (s t : Starts) (arena : IsArena e.nodes) (opposite : Opposite (length w) s t) (inside : t.last ≤ length w) where
+module _ (e : WrittenExpression) (w : List ℕ) (r : ℕ) (s t : Starts) (arena : IsArena e.nodes) (opposite : Opposite (length w) s t) (inside : t.last ≤ length w) where
   -- the node as it is, of the mirrored one
   unmirrored : (y : ℕ) (node : Node) → slice_get (seen true e).nodes y ≡ Some node → slice_get e.nodes y ≡ Some (mirror_node node)
   unmirrored y node is =
@@ -269,20 +269,20 @@ module _ (e : Written) (w : List ℕ) (r : ℕ) (s t : Starts) (arena : IsArena 
   Leaves-unmirror x d i sum (with_whole y _ _ node is begins enters) =
       with_end y x i (mirror_node node) (unmirrored y node is) (begins-ends node x begins) (Leaves-unmirror y d i sum enters)
   Leaves-unmirror x d i sum (after_left y _ g _ a b is right enters at) =
-      let on = Spans-forward (tree_at (seen true e).nodes a.index) (reverse w) g d at in
+      let on = Matches-forward (tree_at (seen true e).nodes a.index) (reverse w) g d at in
       let k = length w - g in
       let middle : k + g ≡ length w = omega arith in
       before_right y x i k b a (unmirrored y (Seq a b) is) right (Leaves-unmirror y g k middle enters)
       ((At-mirror e (seen true e) w (reverse w) a.index i k d g refl refl sum middle).1 at)
   Leaves-unmirror x d i sum (again y _ g _ a first is inner enters at) =
-      let on = Spans-forward (tree_at (seen true e).nodes y) (reverse w) g d at in
+      let on = Matches-forward (tree_at (seen true e).nodes y) (reverse w) g d at in
       let k = length w - g in
       let middle : k + g ≡ length w = omega arith in
       before_copies y x i k a first (unmirrored y (Star a first) is) inner (Leaves-unmirror y g k middle enters)
       ((At-mirror e (seen true e) w (reverse w) y i k d g refl refl sum middle).1 at)
 
   -- so a mark is one of a pass of the mirrored expression over the text read from its end
-  pub reaches_mirror : (x p d : ℕ) → p + d ≡ length w → Reaches e.nodes w r t x p ↔ EndsAt (seen true e).nodes (reverse w) r s x d
+  pub reaches_mirror : (x p d : ℕ) → p + d ≡ length w → ReachesEnd e.nodes w r t x p ↔ EndsAt (seen true e).nodes (reverse w) r s x d
   reaches_mirror x p d sum = (
     λ h.
         let top = Leaves-to e.nodes w r t arena x h.0 h.2 in
@@ -290,7 +290,7 @@ module _ (e : Written) (w : List ℕ) (r : ℕ) (s t : Starts) (arena : IsArena 
         let end : h.0 + g ≡ length w = omega arith in
         (g, Leaves-mirror x h.0 g end h.2, (At-mirror e (seen true e) w (reverse w) x p h.0 d g refl refl sum end).0 h.1),
     λ h.
-        let on = Spans-forward (tree_at (seen true e).nodes x) (reverse w) h.0 d h.2 in
+        let on = Matches-forward (tree_at (seen true e).nodes x) (reverse w) h.0 d h.2 in
         let k = length w - h.0 in
         let end : k + h.0 ≡ length w = omega arith in
         (k, (At-mirror e (seen true e) w (reverse w) x p k d h.0 refl refl sum end).1 h.2, Leaves-unmirror x h.0 k end h.1),

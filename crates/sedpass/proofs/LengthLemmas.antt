@@ -2,10 +2,10 @@
 use Rattle.std.proofs.Common.{◌≡◌, ℕ, ◌+◌, ◌-◌, ◌<◌, ◌≤◌, Bool, true, false, List, Option, Some, None, cond, eqb, refl, sym, ap, ◌∙◌, subst, ⊎_elim, arith}
 use Rattle.std.proofs.lemmas.Bool.{cases_lt, eqb-true}
 use Rattle.sedre.specs.Tree.{Tree, empty, set, begin, end, seq, alt, group, star, opt}
-use Rattle.sedtext.specs.Spans.{Copies, no_copy, one_more, Spans}
+use Rattle.sedtext.specs.Spans.{CopiesLead, no_copy, one_more, Matches}
 use Rattle.sedtext.specs.Caps.{LastCut, LastCopy, only, then}
 use Rattle.sedpass.specs.Lengths.{sum_of, same_of, length_of, AllLong}
-use Rattle.sedtext.proofs.SpanLemmas.{Copies-forward}
+use Rattle.sedtext.proofs.SpanLemmas.{CopiesLead-forward}
 
 -- the parts of a length that is known
 sum_parts : (first second : Option ℕ) (n : ℕ) → sum_of first second ≡ Some n → (m : ℕ) × (k : ℕ) × (first ≡ Some m) × (second ≡ Some k) × (n ≡ m + k)
@@ -25,7 +25,7 @@ same_parts (Some m) (Some k) n is =
     let alike = eqb-true m k same.0 in
     (ap (λ (v : ℕ). Some v) same.1, ap (λ (v : ℕ). Some v) (sym alike ∙ same.1))
 
-pub all_long : (e : Tree) (w : List ℕ) (n : ℕ) → length_of e ≡ Some n → (i j : ℕ) → Spans e w i j → j ≡ i + n
+pub all_long : (e : Tree) (w : List ℕ) (n : ℕ) → length_of e ≡ Some n → (i j : ℕ) → Matches e w i j → j ≡ i + n
 all_long empty w n is i j s = let zero_long : 0 ≡ n = cc in omega arith
 all_long (set members) w n is i j s = let one_long : 1 ≡ n = cc in let next = s.3 in omega arith
 all_long begin w n is i j s = let zero_long : 0 ≡ n = cc in omega arith
@@ -64,11 +64,11 @@ module _ (A B : ℕ → ℕ → Type 0) (i j n : ℕ) (some : (k : ℕ) × A i k
       }
 
 -- of copies of one length the last one begins that much before the end
-pub copies_long : (R : ℕ → ℕ → Type 0) (j n : ℕ) → AllLong R n → (i : ℕ) → i < j → Copies R j i → LastCopy R j i (j - n)
+pub copies_long : (R : ℕ → ℕ → Type 0) (j n : ℕ) → AllLong R n → (i : ℕ) → i < j → CopiesLead R j i → LastCopy R j i (j - n)
 copies_long R j n long i lt no_copy = absurd (omega arith)
 copies_long R j n long i lt (one_more _ k up r rest) =
     let next : k ≡ i + n = long i k r in
-    let within = Copies-forward R j k rest in
+    let within = CopiesLead-forward R j k rest in
     ⊎_elim
     (λ (less : k < j). then i k (j - n) up less r rest (λ l low s c. let same : l ≡ i + n = long i l s in omega arith) (copies_long R j n long k less rest))
     (λ (ge : j ≤ k).

@@ -9,42 +9,42 @@ use Rattle.sedre.specs.declared.types.Node.{Node}
 use Rattle.sedre.specs.declared.types.NodeId.{NodeId}
 use Rattle.sedre.specs.declared.types.Node.TheVariants.{Empty, Set, Begin, End, Seq, Alt, Group, Star, Opt}
 use Rattle.sedtext.specs.declared.starts.Starts.{Starts}
-use Rattle.sedtext.specs.Spans.{Copies, no_copy, one_more}
+use Rattle.sedtext.specs.Spans.{CopiesLead, no_copy, one_more}
 use Rattle.sedtext.specs.Caps.{LastCut, LastCopy, only, then}
-use Rattle.sedtext.specs.Nodes.{Repeats}
+use Rattle.sedtext.specs.Nodes.{IsRepetitionOf}
 use Rattle.sedtext.specs.Reach.{At, BeginsWith, IsStart, one_start, Enters, at_root, with_whole, after_left, again}
-use Rattle.sedpass.specs.Regions.{Leaves, with_end, before_right, before_copies, Reaches, IsLastIn, all_of, Meets, GoesOn, StopsAt, RunsTo, NextCopy, IsRunOf, repeated, in_group}
-use Rattle.sedtext.proofs.SpanLemmas.{Spans-forward, Copies-forward, Copies-append}
+use Rattle.sedpass.specs.Regions.{Leaves, with_end, before_right, before_copies, ReachesEnd, IsLastIn, all_of, Meets, GoesOn, StopsAt, RunsTo, NextCopy, IsRunOf, repeated, in_group}
+use Rattle.sedtext.proofs.SpanLemmas.{Matches-forward, CopiesLead-forward, CopiesLead-append}
 use Rattle.sedtext.proofs.ReachLemmas.{open_at, close_at, Enters-inside, star_copies}
 use Rattle.sedtext.proofs.NodeLemmas.{node_at}
 use Rattle.sedpass.proofs.LeaveLemmas.{OutOf, Leaves-part, Leaves-to, last_inside, last-leaves, Leaves-last}
 
 -- copies that pass j have one that passes it, and copies lead from its end to theirs
-Copies-cross : (R : ℕ → ℕ → Type 0) (P : ℕ → Type 0) (G : Type 0) (j k : ℕ) →
-    ((u v : ℕ) → P u → R u v → Copies R k v → u ≤ j → j < v → G) → ((u v : ℕ) → u < v → P u → R u v → P v) →
-    (l : ℕ) → Copies R k l → P l → l ≤ j → j < k → G
-Copies-cross R P G j k each next l no_copy p low high = absurd (omega arith)
-Copies-cross R P G j k each next l (one_more _ m lt r rest) p low high =
+CopiesLead-cross : (R : ℕ → ℕ → Type 0) (P : ℕ → Type 0) (G : Type 0) (j k : ℕ) →
+    ((u v : ℕ) → P u → R u v → CopiesLead R k v → u ≤ j → j < v → G) → ((u v : ℕ) → u < v → P u → R u v → P v) →
+    (l : ℕ) → CopiesLead R k l → P l → l ≤ j → j < k → G
+CopiesLead-cross R P G j k each next l no_copy p low high = absurd (omega arith)
+CopiesLead-cross R P G j k each next l (one_more _ m lt r rest) p low high =
     ⊎_elim
     (λ (here : j < m). each l m p r rest low here)
-    (λ (later : m ≤ j). Copies-cross R P G j k each next m rest (next l m lt p r) later high)
+    (λ (later : m ≤ j). CopiesLead-cross R P G j k each next m rest (next l m lt p r) later high)
     (cases_lt j m)
 
 -- copies, and copies after them
-Copies-join : (R : ℕ → ℕ → Type 0) (k p i : ℕ) → Copies R p i → Copies R k p → Copies R k i
-Copies-join R k p i no_copy rest = rest
-Copies-join R k p i (one_more _ m lt r on) rest = one_more i m lt r (Copies-join R k p m on rest)
+CopiesLead-join : (R : ℕ → ℕ → Type 0) (k p i : ℕ) → CopiesLead R p i → CopiesLead R k p → CopiesLead R k i
+CopiesLead-join R k p i no_copy rest = rest
+CopiesLead-join R k p i (one_more _ m lt r on) rest = one_more i m lt r (CopiesLead-join R k p m on rest)
 
 -- a copy, which may be empty, and copies after it
-Copies-before : (R : ℕ → ℕ → Type 0) (k q p : ℕ) → p ≤ q → R p q → Copies R k q → Copies R k p
-Copies-before R k q p on r rest =
+CopiesLead-before : (R : ℕ → ℕ → Type 0) (k q p : ℕ) → p ≤ q → R p q → CopiesLead R k q → CopiesLead R k p
+CopiesLead-before R k q p on r rest =
     ⊎_elim
     (λ (lt : p < q). one_more p q lt r rest)
-    (λ (ge : q ≤ p). let same : q ≡ p = omega arith in subst (λ v. Copies R k v) same rest)
+    (λ (ge : q ≤ p). let same : q ≡ p = omega arith in subst (λ v. CopiesLead R k v) same rest)
     (cases_lt p q)
 
 -- copies that lead on begin with one
-first_copy : (R : ℕ → ℕ → Type 0) (j i : ℕ) → Copies R j i → i < j → (l : ℕ) × (i < l) × R i l × Copies R j l
+first_copy : (R : ℕ → ℕ → Type 0) (j i : ℕ) → CopiesLead R j i → i < j → (l : ℕ) × (i < l) × R i l × CopiesLead R j l
 first_copy R j i no_copy some = absurd (omega arith)
 first_copy R j i (one_more _ l lt r rest) some = (l, lt, r, rest)
 
@@ -72,7 +72,7 @@ module _ (nodes : List Node) (w : List ℕ) (r : ℕ) (t : Starts) (a : ℕ) (s 
   wider y x End is begins p q at out = absurd begins
   wider y x (Seq b c) is begins p q at (inl out) = absurd (arena.distinct y (Seq b c) is (begins ∙ sym out.0))
   wider y x (Seq b c) is begins p q at (inr out) =
-      let on = Spans-forward (tree_at nodes c.index) w q out.1.0 out.1.2 in
+      let on = Matches-forward (tree_at nodes c.index) w q out.1.0 out.1.2 in
       (out.1.0, on, close_at nodes w y (Seq b c) arena is p out.1.0 (q, subst (λ v. At nodes w v p q) (sym begins) at, out.1.2), out.1.1)
   wider y x (Alt b c) is begins p q at out = (
     q,
@@ -86,11 +86,11 @@ module _ (nodes : List Node) (w : List ℕ) (r : ℕ) (t : Starts) (a : ℕ) (s 
   wider y x (Group g b) is begins p q at out =
       (q, omega arith, close_at nodes w y (Group g b) arena is p q (subst (λ v. At nodes w v p q) (sym begins) at), out)
   wider y x (Star b first) is begins p q at out =
-      let on = Spans-forward (tree_at nodes y) w q out.0 out.2 in
-      let forward = Spans-forward (tree_at nodes x) w p q at in
+      let on = Matches-forward (tree_at nodes y) w q out.0 out.2 in
+      let forward = Matches-forward (tree_at nodes x) w p q at in
       let copies = open_at nodes w y (Star b first) arena is q out.0 out.2 in
       let copy = subst (λ v. At nodes w v p q) (sym begins) at in
-      (out.0, on, close_at nodes w y (Star b first) arena is p out.0 (Copies-before (At nodes w b.index) out.0 q p forward copy copies), out.1)
+      (out.0, on, close_at nodes w y (Star b first) arena is p out.0 (CopiesLead-before (At nodes w b.index) out.0 q p forward copy copies), out.1)
   wider y x (Opt b first) is begins p q at out =
       (q, omega arith, close_at nodes w y (Opt b first) arena is p q (inr (subst (λ v. At nodes w v p q) (sym begins) at)), out)
 
@@ -113,7 +113,7 @@ module _ (nodes : List Node) (w : List ℕ) (r : ℕ) (t : Starts) (a : ℕ) (s 
       (all.0, all.1, all.2, low, omega arith, all.5, all.6)
   meets_on x p (after_left y _ i _ b c is right enters left) q at leaves =
       let up = Enters-inside nodes w a s arena y i enters in
-      let before = Spans-forward (tree_at nodes b.index) w i p left in
+      let before = Matches-forward (tree_at nodes b.index) w i p left in
       ⊎_elim
       (λ (last : (c.index ≡ x) × Leaves nodes w r t y q).
       let whole = close_at nodes w y (Seq b c) arena is i q (p, left, subst (λ v. At nodes w v p q) (sym right) at) in
@@ -127,14 +127,14 @@ module _ (nodes : List Node) (w : List ℕ) (r : ℕ) (t : Starts) (a : ℕ) (s 
   meets_on x p (again y _ i _ b first is inner enters copied) q at leaves =
       let up = Enters-inside nodes w a s arena y i enters in
       let out = Leaves-part nodes w r t arena y (omega arith) x q (Star b first) is inner leaves in
-      let before = Spans-forward (tree_at nodes y) w i p copied in
-      let forward = Spans-forward (tree_at nodes x) w p q at in
-      let behind = Spans-forward (tree_at nodes y) w q out.0 out.2 in
+      let before = Matches-forward (tree_at nodes y) w i p copied in
+      let forward = Matches-forward (tree_at nodes x) w p q at in
+      let behind = Matches-forward (tree_at nodes y) w q out.0 out.2 in
       let head = open_at nodes w y (Star b first) arena is i p copied in
       let tail = open_at nodes w y (Star b first) arena is q out.0 out.2 in
       let copy = subst (λ v. At nodes w v p q) (sym inner) at in
-      let from_p = Copies-before (At nodes w b.index) out.0 q p forward copy tail in
-      let whole = close_at nodes w y (Star b first) arena is i out.0 (Copies-join (At nodes w b.index) out.0 p i head from_p) in
+      let from_p = CopiesLead-before (At nodes w b.index) out.0 q p forward copy tail in
+      let whole = close_at nodes w y (Star b first) arena is i out.0 (CopiesLead-join (At nodes w b.index) out.0 p i head from_p) in
       let all = meets_on y i enters out.0 whole out.1 in
       let low = all.3 in
       let high = all.4 in
@@ -189,11 +189,11 @@ module _ (nodes : List Node) (w : List ℕ) (r : ℕ) (t : Starts) (a : ℕ) (s 
         let top = slice_get_within nodes x (Star b first) is in
         let below = arena.below x b.index (Star b first) is refl in
         let inner = node_at nodes b.index (omega arith) in
-        Copies-cross (At nodes w b.index) (λ u. Enters nodes w a s b.index u × Copies (At nodes w b.index) u i) (Meets nodes w r t a s p) p k
+        CopiesLead-cross (At nodes w b.index) (λ u. Enters nodes w a s b.index u × CopiesLead (At nodes w b.index) u i) (Meets nodes w r t a s p) p k
         (λ u v from copy rest up on. passes n b.index inner.0 inner.1 (omega arith) u v from.0
         (before_copies x b.index v k b first is refl leaves (close_at nodes w x (Star b first) arena is v k rest)) copy up on)
         (λ u v lt from copy.
-        let copies = Copies-append (At nodes w b.index) u i v from.1 lt copy in
+        let copies = CopiesLead-append (At nodes w b.index) u i v from.1 lt copy in
         (again x b.index i v b first is refl enters (close_at nodes w x (Star b first) arena is i v copies), copies))
         i (open_at nodes w x (Star b first) arena is i k at) (with_whole x b.index i (Star b first) is refl enters, no_copy) low high
     passes (suc n) x (Opt b first) is less i k enters leaves at low high =
@@ -234,7 +234,7 @@ meets_whole nodes w r p s t arena inside =
     )
 
 -- no set is marked at the last end or after it
-pub set_early : (nodes : List Node) (w : List ℕ) (r c p : ℕ) (t : Starts) (members : List Bool) → IsArena nodes → slice_get nodes c ≡ Some (Set members) → Reaches nodes w r t c p → p < t.last
+pub set_early : (nodes : List Node) (w : List ℕ) (r c p : ℕ) (t : Starts) (members : List Bool) → IsArena nodes → slice_get nodes c ≡ Some (Set members) → ReachesEnd nodes w r t c p → p < t.last
 set_early nodes w r c p t members arena is h =
     let next = (open_at nodes w c (Set members) arena is p h.0 h.1).3 in
     let late = Leaves-to nodes w r t arena c h.0 h.2 in
@@ -298,7 +298,7 @@ module _ (nodes : List Node) (w : List ℕ) (r j x : ℕ) (a b : NodeId) (arena 
       ((q : ℕ) → i ≤ q → q < p → M q) → (M p → ⊥) → LastCut (At nodes w a.index) (At nodes w b.index) i j p
   cut_at i p M at low tells more over =
       let f = open_at nodes w x (Seq a b) arena is i j at in
-      let on = Spans-forward (tree_at nodes a.index) w i f.0 f.1 in
+      let on = Matches-forward (tree_at nodes a.index) w i f.0 f.1 in
       let stop = first_stop (At nodes w a.index i) (λ k. At nodes w b.index k j) M i p f.0 on f.1 f.2 low tells more over in
       record { left = stop.0; right = stop.1; greatest = stop.2 }
 
@@ -308,7 +308,7 @@ module _ (nodes : List Node) (w : List ℕ) (r j x : ℕ) (a b : NodeId) (arena 
 
 module _ (nodes : List Node) (w : List ℕ) (r j x : ℕ) (a : NodeId) (first : Bool) (arena : IsArena nodes) (last : IsLastIn nodes r x) (is : slice_get nodes x ≡ Some (Star a first)) where
   -- a copy is left exactly where copies lead on to the end
-  pub copy_leaves : (k : ℕ) → Leaves nodes w r (one_start j) a.index k ↔ Copies (At nodes w a.index) j k
+  pub copy_leaves : (k : ℕ) → Leaves nodes w r (one_start j) a.index k ↔ CopiesLead (At nodes w a.index) j k
   copy_leaves k = (
     λ l.
         let out = Leaves-part nodes w r (one_start j) arena x (last_inside nodes w r (one_start j) arena x last) a.index k (Star a first) is refl l in
@@ -318,7 +318,7 @@ module _ (nodes : List Node) (w : List ℕ) (r j x : ℕ) (a : NodeId) (first : 
     λ copies. before_copies x a.index k j a first is refl (Leaves-last nodes w r (one_start j) arena x j last (omega arith, omega arith)) (close_at nodes w x (Star a first) arena is k j copies),
   )
 
-  pub meets-copy : (i p : ℕ) → i ≤ p → Meets nodes w r (one_start j) a.index (one_start i) p ↔ ((k : ℕ) × (p < k) × At nodes w a.index i k × Copies (At nodes w a.index) j k)
+  pub meets-copy : (i p : ℕ) → i ≤ p → Meets nodes w r (one_start j) a.index (one_start i) p ↔ ((k : ℕ) × (p < k) × At nodes w a.index i k × CopiesLead (At nodes w a.index) j k)
   meets-copy i p low =
       let top = slice_get_within nodes x (Star a first) is in
       let up = last_inside nodes w r (one_start j) arena x last in
@@ -338,10 +338,10 @@ module _ (nodes : List Node) (w : List ℕ) (r j x : ℕ) (a : NodeId) (first : 
       let R = At nodes w a.index in
       let one = first_copy R j i (open_at nodes w x (Star a first) arena is i j at) some in
       let lt = one.1 in
-      let stop = first_stop (R i) (Copies R j) (Meets nodes w r (one_start j) a.index (one_start i)) i p one.0 (omega arith) one.2 one.3 stops.0
+      let stop = first_stop (R i) (CopiesLead R j) (Meets nodes w r (one_start j) a.index (one_start i)) i p one.0 (omega arith) one.2 one.3 stops.0
       (λ q low up. meets-copy i q low) stops.1 stops.2 in
       let most = stop.2 one.0 one.2 one.3 in
-      record { after = omega arith; within = Copies-forward R j p stop.1; copy = stop.0; rest = stop.1; greatest = stop.2 }
+      record { after = omega arith; within = CopiesLead-forward R j p stop.1; copy = stop.0; rest = stop.1; greatest = stop.2 }
 
 -- the last copy begins where the walk from copy to copy comes to the end
 pub copy_walk : (R : ℕ → ℕ → Type 0) (i j k c : ℕ) → NextCopy R i j k → ((k < j) × LastCopy R j k c) ⊎ ((k ≡ j) × (c ≡ i)) → LastCopy R j i c
@@ -353,22 +353,22 @@ copy_walk R i j k c next (inr done) =
 
 -- a node that is marked at each place from i up to p, and takes a byte, spans that part copy after copy
 run_copies : (nodes : List Node) (w : List ℕ) (r c : ℕ) (t : Starts) (members : List Bool) → IsArena nodes → slice_get nodes c ≡ Some (Set members) →
-    (n i q : ℕ) → q ≡ i + n → ((l : ℕ) → i ≤ l → l < q → Reaches nodes w r t c l) → Copies (At nodes w c) q i
+    (n i q : ℕ) → q ≡ i + n → ((l : ℕ) → i ≤ l → l < q → ReachesEnd nodes w r t c l) → CopiesLead (At nodes w c) q i
 run_copies nodes w r c t members arena is zero i q sum marked =
     let same : i ≡ q = omega arith in
-    subst (λ v. Copies (At nodes w c) v i) same no_copy
+    subst (λ v. CopiesLead (At nodes w c) v i) same no_copy
 run_copies nodes w r c t members arena is (suc n) i q sum marked =
     let here = marked (i + n) (omega arith) (omega arith) in
     let next = (open_at nodes w c (Set members) arena is (i + n) here.0 here.1).3 in
     let same : here.0 ≡ q = omega arith in
-    Copies-append (At nodes w c) (i + n) i q (run_copies nodes w r c t members arena is n i (i + n) refl (λ l low up. marked l low (omega arith)))
+    CopiesLead-append (At nodes w c) (i + n) i q (run_copies nodes w r c t members arena is n i (i + n) refl (λ l low up. marked l low (omega arith)))
     (omega arith) (subst (λ v. At nodes w c (i + n) v) same here.1)
 
 -- the repetition in a run: it is entered, left and spanned as the run is
 module _ (nodes : List Node) (w : List ℕ) (r : ℕ) (t : Starts) (root : ℕ) (s : Starts) (c : ℕ) (arena : IsArena nodes) where
   abbrev Within : ℕ → Type 0
   Within a =
-      (y : ℕ) × Repeats nodes y c × ((i : ℕ) → Enters nodes w root s a i → Enters nodes w root s y i) × ((k : ℕ) → Leaves nodes w r t a k → Leaves nodes w r t y k)
+      (y : ℕ) × IsRepetitionOf nodes y c × ((i : ℕ) → Enters nodes w root s a i → Enters nodes w root s y i) × ((k : ℕ) → Leaves nodes w r t a k → Leaves nodes w r t y k)
       × ((i k : ℕ) → At nodes w a i k → At nodes w y i k)
 
   run_within : (a : ℕ) → IsRunOf nodes c a → Within a
@@ -385,8 +385,8 @@ module _ (nodes : List Node) (w : List ℕ) (r : ℕ) (t : Starts) (root : ℕ) 
 module _ (nodes : List Node) (w : List ℕ) (r j x : ℕ) (a b : NodeId) (arena : IsArena nodes) (last : IsLastIn nodes r x) (is : slice_get nodes x ≡ Some (Seq a b))
     (c : ℕ) (members : List Bool) (run : IsRunOf nodes c a.index) (is_set : slice_get nodes c ≡ Some (Set members)) where
   -- while the set is marked, its mark tells whether a later cut is
-  run_decides : (i q : ℕ) → i ≤ q → ((l : ℕ) → i ≤ l → l < q → Reaches nodes w r (one_start j) c l) →
-      Reaches nodes w r (one_start j) c q ↔ ((l : ℕ) × (q < l) × At nodes w a.index i l × At nodes w b.index l j)
+  run_decides : (i q : ℕ) → i ≤ q → ((l : ℕ) → i ≤ l → l < q → ReachesEnd nodes w r (one_start j) c l) →
+      ReachesEnd nodes w r (one_start j) c q ↔ ((l : ℕ) × (q < l) × At nodes w a.index i l × At nodes w b.index l j)
   run_decides i q low marked =
       let star = run_within nodes w r (one_start j) a.index (one_start i) c arena a.index run in
       let y = star.0 in
@@ -400,7 +400,7 @@ module _ (nodes : List Node) (w : List ℕ) (r j x : ℕ) (a b : NodeId) (arena 
             let l = g.0 in
             let leaves = star.3 l ((left_leaves nodes w r j x a b arena last is l).1 g.3) in
             let copies = (star_copies nodes w y c i l arena of).0 (star.4 i l g.2) in
-            Copies-cross (At nodes w c) (λ u. Unit {0}) (Reaches nodes w r (one_start j) c q) q l
+            CopiesLead-cross (At nodes w c) (λ u. Unit {0}) (ReachesEnd nodes w r (one_start j) c q) q l
             (λ u v _ copy rest up on.
             let next = (open_at nodes w c (Set members) arena is_set u v copy).3 in
             let same : u ≡ q = omega arith in
@@ -412,5 +412,5 @@ module _ (nodes : List Node) (w : List ℕ) (r j x : ℕ) (a b : NodeId) (arena 
   -- the greatest cut after a repetition of one set is the first place at which the set isn't marked
   pub run_stops : (i p : ℕ) → At nodes w x i j → RunsTo nodes w r j c i p → LastCut (At nodes w a.index) (At nodes w b.index) i j p
   run_stops i p at runs =
-      cut_at nodes w r j x a b arena last is i p (Reaches nodes w r (one_start j) c) at runs.0
+      cut_at nodes w r j x a b arena last is i p (ReachesEnd nodes w r (one_start j) c) at runs.0
       (λ q low up. run_decides i q low (λ l low' lt. runs.1 l low' (omega arith))) runs.1 runs.2

@@ -4,12 +4,12 @@ use Rattle.std.specs.Prelude.{if◌then◌else◌, slice_set, slice_index_or, re
 use Rattle.std.proofs.lemmas.Bool.{cases_Bool}
 use Rattle.std.proofs.lemmas.List.{get_or-set_other}
 use Rattle.sedre.specs.Tree.{Tree, empty, set, begin, end, seq, alt, group, star, opt}
-use Rattle.sedtext.specs.Caps.{Caps}
+use Rattle.sedtext.specs.Caps.{Captures}
 use Rattle.sedtext.specs.Groups.{Groups, forget, no_groups}
-use Rattle.sedtext.specs.Matching.{caps}
-use Rattle.sedpass.specs.Overlay.{Overlay, lay, over, touch, erased, State, state_of, is_due, settle, drop_groups, Back, HasGroup, NoneDue, pick, BackReportLaw, StartLaw, WantedLaw, UntouchedLaw, EachBackLaw, LeftLaw, LeftAtOnceLaw, StaysLaw}
-use Rattle.sedtext.proofs.CapsLemmas.{Caps-unique}
-use Rattle.sedtext.proofs.MatchingLemmas.{caps-is}
+use Rattle.sedtext.specs.Matching.{groups_after}
+use Rattle.sedpass.specs.Overlay.{Overlay, lay, over, touch, erased, State, state_of, is_due, settle, drop_groups, Back, GroupStandsIn, NoneDue, pick, BackReportLaw, StartLaw, WantedLaw, UntouchedLaw, EachBackLaw, LeftLaw, LeftAtOnceLaw, StaysLaw}
+use Rattle.sedtext.proofs.CapsLemmas.{Captures-unique}
+use Rattle.sedtext.proofs.MatchingLemmas.{groups_after-is}
 
 over-none : (d : Overlay) → over d [] ≡ d
 over-none [] = refl
@@ -229,7 +229,7 @@ after a P old mid new inside is = (
   λ g. subst (P (forget a g)) (sym (lay-over inside.0 (erased a) g ∙ ap (lay inside.0) (lay-erased a g))) (inside.2 (forget a g)),
 )
 
-changes : (e : Tree) (w : List ℕ) (i j : ℕ) (old new : State) → Back e w i j old new → Changes (Caps e w i j) old new
+changes : (e : Tree) (w : List ℕ) (i j : ℕ) (old new : State) → Back e w i j old new → Changes (Captures e w i j) old new
 changes empty w i j old new h = ([], h, λ g. refl)
 changes (set has) w i j old new h = ([], h, λ g. refl)
 changes begin w i j old new h = ([], h, λ g. refl)
@@ -240,7 +240,7 @@ changes (seq a b) w i j old new h =
     let left = changes a w i h.0 mid new h.2.2 in (
       over right.0 left.0,
       left.1 ∙ ap (λ s. fill s left.0) right.1 ∙ fill-over old right.0 left.0,
-      λ g. (h.0, h.1, (lay left.0 g, left.2 g, subst (Caps b w h.0 j (lay left.0 g)) (sym (lay-over right.0 left.0 g)) (right.2 (lay left.0 g)))),
+      λ g. (h.0, h.1, (lay left.0 g, left.2 g, subst (Captures b w h.0 j (lay left.0 g)) (sym (lay-over right.0 left.0 g)) (right.2 (lay left.0 g)))),
     )
 changes (alt a b) w i j old new (inl h) =
     let one = changes a w i j old new h.1 in
@@ -268,22 +268,22 @@ changes (group k a) w i j old new h =
     )
 changes (star a first) w i j old new (inl h) =
     let last = h.1.2 in
-    let one = after a (Caps a w h.1.0 j) old last.0 new (changes a w h.1.0 j old last.0 last.1) last.2 in
+    let one = after a (Captures a w h.1.0 j) old last.0 new (changes a w h.1.0 j old last.0 last.1) last.2 in
     (one.0, one.1, λ g. inl (h.0, (h.1.0, h.1.1, one.2 g)))
 changes (star a first) w i j old new (inr (inl h)) =
-    let one = after a (Caps a w i i) old h.3.0 new (changes a w i i old h.3.0 h.3.1) h.3.2 in
+    let one = after a (Captures a w i i) old h.3.0 new (changes a w i i old h.3.0 h.3.1) h.3.2 in
     (one.0, one.1, λ g. inr (inl (h.0, h.1, h.2, one.2 g)))
 changes (star a first) w i j old new (inr (inr h)) = ([], h.1.1, λ g. inr (inr (h.0, (h.1.0, refl))))
 changes (opt a first) w i j old new (inl h) =
-    let one = after a (Caps a w i j) old h.1.0 new (changes a w i j old h.1.0 h.1.1) h.1.2 in
+    let one = after a (Captures a w i j) old h.1.0 new (changes a w i j old h.1.0 h.1.1) h.1.2 in
     (one.0, one.1, λ g. inl (h.0, one.2 g))
 changes (opt a first) w i j old new (inr (inl h)) =
-    let one = after a (Caps a w i i) old h.3.0 new (changes a w i i old h.3.0 h.3.1) h.3.2 in
+    let one = after a (Captures a w i i) old h.3.0 new (changes a w i i old h.3.0 h.3.1) h.3.2 in
     (one.0, one.1, λ g. inr (inl (h.0, h.1, h.2, one.2 g)))
 changes (opt a first) w i j old new (inr (inr h)) = ([], h.1.1, λ g. inr (inr (h.0, (h.1.0, refl))))
 
 -- what can be decided from the left can be decided from the right
-goes_back : (e : Tree) (w : List ℕ) (i j : ℕ) (before groups : Groups) → Caps e w i j before groups → (old : State) → (new : State) × Back e w i j old new
+goes_back : (e : Tree) (w : List ℕ) (i j : ℕ) (before groups : Groups) → Captures e w i j before groups → (old : State) → (new : State) × Back e w i j old new
 goes_back empty w i j before groups h old = (old, refl)
 goes_back (set has) w i j before groups h old = (old, refl)
 goes_back begin w i j before groups h old = (old, refl)
@@ -313,7 +313,7 @@ goes_back (opt a first) w i j before groups (inr (inl h)) old =
 goes_back (opt a first) w i j before groups (inr (inr h)) old = (old, inr (inr (h.0, (h.1.0, refl))))
 
 pub each_back : EachBackLaw
-each_back e w i j old s = goes_back e w i j no_groups (caps e w i j no_groups) (caps-is e w i j no_groups s) old
+each_back e w i j old s = goes_back e w i j no_groups (groups_after e w i j no_groups) (groups_after-is e w i j no_groups s) old
 
 pick-same : (due : List Bool) (g : Groups) → pick due g g ≡ g
 pick-same [] g = refl
@@ -332,7 +332,7 @@ put-picks (true ∷ due) (Some u ∷ ds) (v ∷ g) = ap (λ h. u ∷ h) (put-pic
 put-picks (false ∷ due) (Some u ∷ ds) (v ∷ g) = ap (λ h. v ∷ h) (put-picks due ds g)
 
 -- what isn't in the expression stays
-forget-other : (t : Tree) (k : ℕ) (g : Groups) → (HasGroup t k → ⊥) → slice_index_or (forget t g) k None ≡ slice_index_or g k None
+forget-other : (t : Tree) (k : ℕ) (g : Groups) → (GroupStandsIn t k → ⊥) → slice_index_or (forget t g) k None ≡ slice_index_or g k None
 forget-other empty k g not = refl
 forget-other (set has) k g not = refl
 forget-other begin k g not = refl
@@ -433,7 +433,7 @@ wanted e w i j (suc k) old new groups none back report some is =
     ∙ ap (λ g. slice_index_or g (suc k) None) (put-picks old.due one.0 old.spans ∙ ap (λ g. pick old.due (lay one.0 g) g) none)
     ∙ pick-entry old.due (lay one.0 first) first (suc k) (lay-length one.0 first) is
     ∙ lay-others one.0 None (Some (i, j)) (replicate 9 None) k
-    ∙ ap (λ g. slice_index_or (slice_set g 0 (Some (i, j))) (suc k) None) (Caps-unique e w i j no_groups (lay one.0 no_groups) report.0 (one.2 no_groups) report.1)
+    ∙ ap (λ g. slice_index_or (slice_set g 0 (Some (i, j))) (suc k) None) (Captures-unique e w i j no_groups (lay one.0 no_groups) report.0 (one.2 no_groups) report.1)
     ∙ ap (λ g. slice_index_or g (suc k) None) (sym report.2)
 
 due_there : (n k : ℕ) → k < n → slice_index_or (replicate n true) k false ≡ true

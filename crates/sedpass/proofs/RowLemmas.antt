@@ -6,7 +6,7 @@ use Rattle.std.proofs.lemmas.Option.{slice_get_within}
 use Rattle.std.proofs.lemmas.List.{get_or-set_same, get_or-set_other}
 use Rattle.std.proofs.lemmas.Bool.{and_parts, and_from, or_cases, or_left, or_right, cases_lt, cases_eq, eqb-true, eq-eqb, lt-ltb, le-ltb}
 use Rattle.sedre.specs.Arena.{IsArena, IsPart}
-use Rattle.sedre.specs.Written.{Written, tree_at}
+use Rattle.sedre.specs.Written.{WrittenExpression, tree_at}
 use Rattle.sedre.specs.Mirror.{mirror_node, seen}
 use Rattle.sedre.specs.Packed.{PartsBelow}
 use Rattle.sedre.proofs.MirrorLemmas.{seen-node, old_node}
@@ -14,15 +14,15 @@ use Rattle.sedre.specs.declared.types.Node.{Node}
 use Rattle.sedre.specs.declared.types.NodeId.{NodeId}
 use Rattle.sedre.specs.declared.types.Node.TheVariants.{Empty, Set, Begin, End, Seq, Alt, Group, Star, Opt}
 use Rattle.sedtext.specs.declared.starts.Starts.{Starts}
-use Rattle.sedtext.specs.Spans.{Copies, no_copy}
-use Rattle.sedtext.specs.Matching.{takes}
+use Rattle.sedtext.specs.Spans.{CopiesLead, no_copy}
+use Rattle.sedtext.specs.Matching.{byte_is_in}
 use Rattle.sedtext.specs.PartMarks.{enter_parts}
 use Rattle.sedtext.specs.Places.{takes_any}
 use Rattle.sedtext.specs.Words.{AgreeBelow}
 use Rattle.sedtext.specs.Reach.{At, IsStart, one_start, SomeSpan, BeginsWith, Marked, Enters, at_root, with_whole, after_left, again, Ends}
-use Rattle.sedpass.specs.Regions.{EndsAt, Opposite, Reaches, Meets}
-use Rattle.sedpass.specs.Rows.{Took, NullBy, EndsBy, EntersBy, SameBytes, SameKind, SameLeaves, NoneEntered, InTree, is_tree, part_of, IsRange, TreeBelow, TreeFrom, AreNull, ended_by, leaf_looks, part_looks, enter_looks, bits, TellTook, RowAt, RowFrom, LeadsTo}
-use Rattle.sedtext.proofs.SpanLemmas.{Spans-forward, Spans-within, Copies-append, Copies-last}
+use Rattle.sedpass.specs.Regions.{EndsAt, Opposite, ReachesEnd, Meets}
+use Rattle.sedpass.specs.Rows.{Took, NullBy, EndsBy, EntersBy, SameBytes, SameKind, SameLeaves, NoneEntered, InTree, is_tree, part_of, IsNodeRange, TreeBelow, TreeFrom, AreNull, ended_by, leaf_looks, part_looks, enter_looks, bits, TellTook, RowOfPlace, RowFrom, LeadsTo}
+use Rattle.sedtext.proofs.SpanLemmas.{Matches-forward, Matches-within, CopiesLead-append, CopiesLead-last}
 use Rattle.sedtext.proofs.ReachLemmas.{open_at, close_at, takes_some, FromNode, Enters-from, Enters-part, Enters-inside, Enters-root, Enters-loose}
 use Rattle.sedtext.proofs.NodeLemmas.{node_at}
 use Rattle.sedpass.proofs.LeaveLemmas.{ends_at, reaches_mirror}
@@ -37,8 +37,8 @@ module _ (nodes : List Node) (w : List ℕ) (arena : IsArena nodes) where
   null_by x j End is = (λ h. (open_at nodes w x End arena is j j h).0, λ h. close_at nodes w x End arena is j j (h, h))
   null_by x j (Seq a b) is = (
     λ h. let f = open_at nodes w x (Seq a b) arena is j j h in
-        let low = Spans-forward (tree_at nodes a.index) w j f.0 f.1 in
-        let high = Spans-forward (tree_at nodes b.index) w f.0 j f.2 in
+        let low = Matches-forward (tree_at nodes a.index) w j f.0 f.1 in
+        let high = Matches-forward (tree_at nodes b.index) w f.0 j f.2 in
         let e : f.0 ≡ j = omega arith in
         (subst (λ k. At nodes w a.index j k) e f.1, subst (λ k. At nodes w b.index k j) e f.2),
     λ h. close_at nodes w x (Seq a b) arena is j j (j, h.0, h.1),
@@ -76,9 +76,9 @@ module _ (nodes : List Node) (w : List ℕ) (r : ℕ) (s : Starts) (arena : IsAr
       (i : ℕ) × (i < j) × Enters nodes w r s x i × At nodes w x i j
   one_copy x j a first le is end =
       let from = Enters-part nodes w r s arena x le a.index end.0 (Star a first) is refl end.2 in
-      let on = Spans-forward (tree_at nodes x) w from.0 end.0 from.2 in
+      let on = Matches-forward (tree_at nodes x) w from.0 end.0 from.2 in
       let less = end.1 in
-      let copies = Copies-append (At nodes w a.index) end.0 from.0 j (open_at nodes w x (Star a first) arena is from.0 end.0 from.2) end.1 end.3 in
+      let copies = CopiesLead-append (At nodes w a.index) end.0 from.0 j (open_at nodes w x (Star a first) arena is from.0 end.0 from.2) end.1 end.3 in
       (from.0, omega arith, from.1, close_at nodes w x (Star a first) arena is from.0 j copies)
 
   -- and its last copy ends with it
@@ -86,9 +86,9 @@ module _ (nodes : List Node) (w : List ℕ) (r : ℕ) (s : Starts) (arena : IsAr
   last_copy x i j a first is e at =
       ⊎_elim
       (λ (none : i ≡ j). inl none)
-      (λ (last : (k : ℕ) × Copies (At nodes w a.index) k i × (k < j) × At nodes w a.index k j).
+      (λ (last : (k : ℕ) × CopiesLead (At nodes w a.index) k i × (k < j) × At nodes w a.index k j).
       inr (last.0, last.2, again x a.index i last.0 a first is refl e (close_at nodes w x (Star a first) arena is i last.0 last.1), last.3))
-      (Copies-last (At nodes w a.index) j i (open_at nodes w x (Star a first) arena is i j at))
+      (CopiesLead-last (At nodes w a.index) j i (open_at nodes w x (Star a first) arena is i j at))
 
   -- upwards: a node ends with a byte, by its parts
   pub ends_by : (x j : ℕ) (node : Node) → x ≤ r → slice_get nodes x ≡ Some node →
@@ -98,14 +98,14 @@ module _ (nodes : List Node) (w : List ℕ) (r : ℕ) (s : Starts) (arena : IsAr
   ends_by x j End le is = (λ h. let f = open_at nodes w x End arena is h.0 j h.3 in absurd (let less = h.1 in omega (arith, f.0, f.1)), λ h. absurd h)
   ends_by x j (Set m) le is = (
     λ h. let f = open_at nodes w x (Set m) arena is h.0 j h.3 in
-        (h.0, sym f.3, h.2, subst (λ o. IsTrue (takes o m)) (sym f.1) f.2),
+        (h.0, sym f.3, h.2, subst (λ o. IsTrue (byte_is_in o m)) (sym f.1) f.2),
     λ h. let taken = takes_some (slice_get w h.0) m h.3 in
         let next = h.1 in
         (h.0, omega arith, h.2, close_at nodes w x (Set m) arena is h.0 j (taken.0, taken.1, taken.2, sym next)),
   )
   ends_by x j (Seq a b) le is = (
     λ h. let f = open_at nodes w x (Seq a b) arena is h.0 j h.3 in
-        let on = Spans-forward (tree_at nodes b.index) w f.0 j f.2 in
+        let on = Matches-forward (tree_at nodes b.index) w f.0 j f.2 in
         ⊎_elim
         (λ (lt : f.0 < j). inl (f.0, lt, after_left x b.index h.0 f.0 a b is refl h.2 f.1, f.2))
         (λ (ge : j ≤ f.0).
@@ -115,7 +115,7 @@ module _ (nodes : List Node) (w : List ℕ) (r : ℕ) (s : Starts) (arena : IsAr
     λ h. ⊎_elim
         (λ (right : Ends nodes w r s b.index j).
         let from = after_seq x right.0 a b le is right.2 in
-        let on = Spans-forward (tree_at nodes a.index) w from.0 right.0 from.2 in
+        let on = Matches-forward (tree_at nodes a.index) w from.0 right.0 from.2 in
         let less = right.1 in
         (from.0, omega arith, from.1, close_at nodes w x (Seq a b) arena is from.0 j (right.0, from.2, right.3)))
         (λ (left : Ends nodes w r s a.index j × At nodes w b.index j j).
@@ -163,7 +163,7 @@ module _ (nodes : List Node) (w : List ℕ) (r : ℕ) (s : Starts) (arena : IsAr
     λ h. ⊎_elim
         (λ (from : (a.index ≡ c) × Enters nodes w r s y j). inl from)
         (λ (from : (b.index ≡ c) × ((i : ℕ) × Enters nodes w r s y i × At nodes w a.index i j)).
-        let on = Spans-forward (tree_at nodes a.index) w from.1.0 j from.1.2 in
+        let on = Matches-forward (tree_at nodes a.index) w from.1.0 j from.1.2 in
         inr (
           from.0,
           ⊎_elim
@@ -312,7 +312,7 @@ module _ (nodes : List Node) (w v : List ℕ) (r p q : ℕ) (s t : Starts) (aren
   took_next : (x : ℕ) (m : List Bool) → slice_get nodes x ≡ Some (Set m) → Took nodes w r s (p + 1) x m → Took nodes v r t (q + 1) x m
   took_next x m is h =
       let at : h.0 ≡ p = (let next = h.1 in omega arith) in
-      let taken : IsTrue (takes (slice_get w p) m) = subst (λ i. IsTrue (takes (slice_get w i) m)) at h.3 in
+      let taken : IsTrue (byte_is_in (slice_get w p) m) = subst (λ i. IsTrue (byte_is_in (slice_get w i) m)) at h.3 in
       (q, refl, leaves x m is (subst (λ i. Enters nodes w r s x i) at h.2), sym (bytes x m is) ∙ taken)
 
   -- upwards
@@ -418,7 +418,7 @@ module _ (nodes : List Node) (w : List ℕ) (r p : ℕ) (s : Starts) (arena : Is
 pub stopped : (nodes : List Node) (w : List ℕ) (r p i j : ℕ) (s : Starts) → IsArena nodes → r < length nodes → NoneEntered nodes w r s p → IsStart s p →
     (At nodes w r (length w) (length w) → ⊥) → IsStart s i → i ≤ length w → p < j → At nodes w r i j → ⊥
 stopped nodes w r p i j s arena inside none start not_null begin low lt at =
-    let high = Spans-within (tree_at nodes r) w i j low at in
+    let high = Matches-within (tree_at nodes r) w i j low at in
     let k = j - 1 in
     let next : k + 1 ≡ j = omega arith in
     not_null (stopped_ends nodes w r p s arena inside none start k (omega arith) (omega arith)
@@ -734,7 +734,7 @@ module _ (nodes : List Node) (w : List ℕ) (r p : ℕ) (s : Starts) (keeps : Bo
             (cases_eq c x);
       }
 
-  pub row_done : (low : ℕ) (entered ended : ℕ → Bool) → ((c : ℕ) → InTree nodes r c → low ≤ c) → RowFrom nodes w r s keeps p low entered ended → RowAt nodes w r s keeps p entered ended
+  pub row_done : (low : ℕ) (entered ended : ℕ → Bool) → ((c : ℕ) → InTree nodes r c → low ≤ c) → RowFrom nodes w r s keeps p low entered ended → RowOfPlace nodes w r s keeps p entered ended
   row_done low entered ended all row =
       record {
         leaves = λ c. (λ h. ((row.leaves c).0 h).1, λ h. (row.leaves c).1 (all c (enters_tree nodes w r s c p h.2), h));
@@ -742,14 +742,14 @@ module _ (nodes : List Node) (w : List ℕ) (r p : ℕ) (s : Starts) (keeps : Bo
       }
 
 -- a row tells which leaves take the byte that comes
-pub row_took : (nodes : List Node) (w : List ℕ) (r x p : ℕ) (s : Starts) (keeps : Bool) (entered ended : ℕ → Bool) (byte : Option ℕ) (m : List Bool) → RowAt nodes w r s keeps p entered ended →
-    SameBytes nodes (slice_get w p) byte → slice_get nodes x ≡ Some (Set m) → IsTrue (entered x && takes byte m) ↔ Took nodes w r s (p + 1) x m
+pub row_took : (nodes : List Node) (w : List ℕ) (r x p : ℕ) (s : Starts) (keeps : Bool) (entered ended : ℕ → Bool) (byte : Option ℕ) (m : List Bool) → RowOfPlace nodes w r s keeps p entered ended →
+    SameBytes nodes (slice_get w p) byte → slice_get nodes x ≡ Some (Set m) → IsTrue (entered x && byte_is_in byte m) ↔ Took nodes w r s (p + 1) x m
 row_took nodes w r x p s keeps entered ended byte m row same is = (
-  λ h. let both = and_parts (entered x) (takes byte m) h in
+  λ h. let both = and_parts (entered x) (byte_is_in byte m) h in
       (p, refl, ((row.leaves x).0 both.0).2, same x m is ∙ both.1),
   λ h. let at : h.0 ≡ p = (let next = h.1 in omega arith) in
-      and_from (entered x) (takes byte m) ((row.leaves x).1 (m, is, subst (λ i. Enters nodes w r s x i) at h.2))
-      (sym (same x m is) ∙ subst (λ i. IsTrue (takes (slice_get w i) m)) at h.3),
+      and_from (entered x) (byte_is_in byte m) ((row.leaves x).1 (m, is, subst (λ i. Enters nodes w r s x i) at h.2))
+      (sym (same x m is) ∙ subst (λ i. IsTrue (byte_is_in (slice_get w i) m)) at h.3),
 )
 
 -- the same of two places
@@ -757,7 +757,7 @@ abbrev pub Alike : List Node → ℕ → List ℕ → Starts → ℕ → List �
 Alike nodes r w s p v t q = (c : ℕ) → c ≤ r → (Enters nodes w r s c p ↔ Enters nodes v r t c q) × (EndsAt nodes w r s c p ↔ EndsAt nodes v r t c q)
 
 module _ (nodes : List Node) (w v : List ℕ) (r p q : ℕ) (s t : Starts) (keeps : Bool) (arena : IsArena nodes) (alike : Alike nodes r w s p v t q) where
-  pub row_moves : (entered ended : ℕ → Bool) → RowAt nodes w r s keeps p entered ended → RowAt nodes v r t keeps q entered ended
+  pub row_moves : (entered ended : ℕ → Bool) → RowOfPlace nodes w r s keeps p entered ended → RowOfPlace nodes v r t keeps q entered ended
   row_moves entered ended row =
       record {
         leaves = λ c. (
@@ -771,14 +771,14 @@ module _ (nodes : List Node) (w v : List ℕ) (r p q : ℕ) (s t : Starts) (keep
       }
 
 -- one row tells the same leaves
-same_leaves : (nodes : List Node) (w v : List ℕ) (r p q : ℕ) (s t : Starts) (keeps : Bool) (entered ended : ℕ → Bool) → RowAt nodes w r s keeps p entered ended → RowAt nodes v r t keeps q entered ended → SameLeaves nodes r w s p v t q
+same_leaves : (nodes : List Node) (w v : List ℕ) (r p q : ℕ) (s t : Starts) (keeps : Bool) (entered ended : ℕ → Bool) → RowOfPlace nodes w r s keeps p entered ended → RowOfPlace nodes v r t keeps q entered ended → SameLeaves nodes r w s p v t q
 same_leaves nodes w v r p q s t keeps entered ended one other c m is = (
   λ h. ((other.leaves c).0 ((one.leaves c).1 (m, is, h))).2,
   λ h. ((one.leaves c).0 ((other.leaves c).1 (m, is, h))).2,
 )
 
 pub cell : (nodes : List Node) (w : List ℕ) (r p : ℕ) (s : Starts) (keeps end start : Bool) (entered ended after after_ended : ℕ → Bool) → IsArena nodes → r < length nodes →
-    RowAt nodes w r s keeps p entered ended → RowAt nodes w r s keeps (p + 1) after after_ended → (IsTrue end ↔ (p + 1 ≡ length w)) → (IsTrue start ↔ IsStart s (p + 1)) →
+    RowOfPlace nodes w r s keeps p entered ended → RowOfPlace nodes w r s keeps (p + 1) after after_ended → (IsTrue end ↔ (p + 1 ≡ length w)) → (IsTrue start ↔ IsStart s (p + 1)) →
     LeadsTo nodes r keeps entered ended (slice_get w p) end start after after_ended
 cell nodes w r p s keeps end start entered ended after after_ended arena inside row next ends starts v t q bytes ends' starts' row' =
     row_moves nodes w v r (p + 1) (q + 1) s t keeps arena
@@ -788,7 +788,7 @@ cell nodes w r p s keeps end start entered ended after after_ended arena inside 
     after after_ended next
 
 pub first_row : (nodes : List Node) (w v : List ℕ) (r p q : ℕ) (s t : Starts) (keeps : Bool) (entered ended : ℕ → Bool) → IsArena nodes → r < length nodes → p ≤ s.first → q ≤ t.first → SameKind w p v q → (IsStart s p ↔ IsStart t q) →
-    RowAt nodes w r s keeps p entered ended → RowAt nodes v r t keeps q entered ended
+    RowOfPlace nodes w r s keeps p entered ended → RowOfPlace nodes v r t keeps q entered ended
 first_row nodes w v r p q s t keeps entered ended arena inside early early' kind starts =
     row_moves nodes w v r p q s t keeps arena (first_same nodes w v r p q s t arena inside early early' kind starts) entered ended
 
@@ -796,12 +796,12 @@ pub class_row : (nodes : List Node) (r : ℕ) (keeps end start : Bool) (entered 
     LeadsTo nodes r keeps entered ended byte end start after after_ended → LeadsTo nodes r keeps entered ended other end start after after_ended
 class_row nodes r keeps end start entered ended after after_ended byte other same leads w s p at = leads w s p (λ x m is. at x m is ∙ same x m is)
 
-pub row_root : (nodes : List Node) (w : List ℕ) (r p : ℕ) (s : Starts) (keeps : Bool) (entered ended : ℕ → Bool) → IsArena nodes → RowAt nodes w r s keeps p entered ended → IsTrue (ended r) ↔ SomeSpan nodes w r s p
+pub row_root : (nodes : List Node) (w : List ℕ) (r p : ℕ) (s : Starts) (keeps : Bool) (entered ended : ℕ → Bool) → IsArena nodes → RowOfPlace nodes w r s keeps p entered ended → IsTrue (ended r) ↔ SomeSpan nodes w r s p
 row_root nodes w r p s keeps entered ended arena row =
     let law = root_ends nodes w r p s arena in
     (λ h. law.0 ((row.ends r).0 h).1, λ h. (row.ends r).1 (inr refl, law.1 h))
 
-pub row_empty : (nodes : List Node) (w : List ℕ) (r p : ℕ) (s : Starts) (keeps : Bool) (entered ended : ℕ → Bool) → RowAt nodes w r s keeps p entered ended → ((c : ℕ) → entered c ≡ false) → NoneEntered nodes w r s p
+pub row_empty : (nodes : List Node) (w : List ℕ) (r p : ℕ) (s : Starts) (keeps : Bool) (entered ended : ℕ → Bool) → RowOfPlace nodes w r s keeps p entered ended → ((c : ℕ) → entered c ≡ false) → NoneEntered nodes w r s p
 row_empty nodes w r p s keeps entered ended row none c m is h = false_bit (entered c) (none c) ((row.leaves c).1 (m, is, h))
 
 -- The least index in a node.
@@ -822,13 +822,13 @@ by_part nodes x node is c (part_of y _ other is' part up) =
     (λ (h : (a : ℕ) × IsPart node a × InTree nodes a y). inr (h.0, h.1, part_of y c other is' part h.2))
     (by_part nodes x node is y up)
 
-pub leaf_range : (nodes : List Node) (x : ℕ) (node : Node) → slice_get nodes x ≡ Some node → ((c : ℕ) → IsPart node c → ⊥) → IsRange nodes x x
+pub leaf_range : (nodes : List Node) (x : ℕ) (node : Node) → slice_get nodes x ≡ Some node → ((c : ℕ) → IsPart node c → ⊥) → IsNodeRange nodes x x
 leaf_range nodes x node is none c = (
   λ h. is_tree c (let low = h.0 in let high = h.1 in omega arith),
   λ h. ⊎_elim (λ (e : c ≡ x). (omega arith, omega arith)) (λ (f : (a : ℕ) × IsPart node a × InTree nodes a c). absurd (none f.0 f.1)) (by_part nodes x node is c h),
 )
 
-pub one_range : (nodes : List Node) (x a low : ℕ) (node : Node) → slice_get nodes x ≡ Some node → IsPart node a → ((c : ℕ) → IsPart node c → c ≡ a) → a + 1 ≡ x → low ≤ a → IsRange nodes low a → IsRange nodes low x
+pub one_range : (nodes : List Node) (x a low : ℕ) (node : Node) → slice_get nodes x ≡ Some node → IsPart node a → ((c : ℕ) → IsPart node c → c ≡ a) → a + 1 ≡ x → low ≤ a → IsNodeRange nodes low a → IsNodeRange nodes low x
 one_range nodes x a low node is part only next small range c = (
   λ h. let from = h.0 in
       let to = h.1 in
@@ -843,7 +843,7 @@ one_range nodes x a low node is part only next small range c = (
 )
 
 pub two_range : (nodes : List Node) (x a b low : ℕ) (node : Node) → slice_get nodes x ≡ Some node → IsPart node a → IsPart node b → ((c : ℕ) → IsPart node c → (c ≡ a) ⊎ (c ≡ b)) → a + 1 ≤ b → b + 1 ≡ x → low ≤ a →
-    IsRange nodes low a → IsRange nodes (a + 1) b → IsRange nodes low x
+    IsNodeRange nodes low a → IsNodeRange nodes (a + 1) b → IsNodeRange nodes low x
 two_range nodes x a b low node is left right only apart next small range range' c = (
   λ h. let from = h.0 in
       let to = h.1 in
@@ -884,28 +884,28 @@ part_mirror (Set s) c = (λ h. h, λ h. h)
 part_mirror Begin c = (λ h. h, λ h. h)
 part_mirror End c = (λ h. h, λ h. h)
 
-in_mirror : (e : Written) (r c : ℕ) → InTree e.nodes r c → InTree (seen true e).nodes r c
+in_mirror : (e : WrittenExpression) (r c : ℕ) → InTree e.nodes r c → InTree (seen true e).nodes r c
 in_mirror e r c (is_tree _ at) = is_tree c at
 in_mirror e r c (part_of y _ node is part up) = part_of y c (mirror_node node) (seen-node true e y node is) ((part_mirror node c).0 part) (in_mirror e r y up)
 
-out_of_mirror : (e : Written) (r c : ℕ) → InTree (seen true e).nodes r c → InTree e.nodes r c
+out_of_mirror : (e : WrittenExpression) (r c : ℕ) → InTree (seen true e).nodes r c → InTree e.nodes r c
 out_of_mirror e r c (is_tree _ at) = is_tree c at
 out_of_mirror e r c (part_of y _ node is part up) =
     let old = old_node e.nodes y node is in
     part_of y c old.0 old.1 ((part_mirror old.0 c).1 (subst (λ n. IsPart n c) (sym old.2) part)) (out_of_mirror e r y up)
 
-pub mirror_range : (e : Written) (low r : ℕ) → IsRange e.nodes low r → IsRange (seen true e).nodes low r
+pub mirror_range : (e : WrittenExpression) (low r : ℕ) → IsNodeRange e.nodes low r → IsNodeRange (seen true e).nodes low r
 mirror_range e low r range c = (λ h. in_mirror e r c ((range c).0 h), λ h. (range c).1 (out_of_mirror e r c h))
 
 -- what the row of a kept pass backwards tells
-pub behind_reaches : (e : Written) (w : List ℕ) (r x p d : ℕ) (u t : Starts) (entered ended : ℕ → Bool) → IsArena e.nodes → Opposite (length w) u t → t.last ≤ length w → p + d ≡ length w →
-    RowAt (seen true e).nodes (reverse w) r u true d entered ended → IsTrue (ended x) ↔ Reaches e.nodes w r t x p
+pub behind_reaches : (e : WrittenExpression) (w : List ℕ) (r x p d : ℕ) (u t : Starts) (entered ended : ℕ → Bool) → IsArena e.nodes → Opposite (length w) u t → t.last ≤ length w → p + d ≡ length w →
+    RowOfPlace (seen true e).nodes (reverse w) r u true d entered ended → IsTrue (ended x) ↔ ReachesEnd e.nodes w r t x p
 behind_reaches e w r x p d u t entered ended arena opposite inside sum row =
     let law = reaches_mirror e w r u t arena opposite inside x p d sum in
     (λ h. law.1 ((row.ends x).0 h).1, λ h. (row.ends x).1 (inl refl, law.0 h))
 
-pub meet_rows : (e : Written) (w : List ℕ) (r a p d : ℕ) (s u t : Starts) (keeps : Bool) (front front_ended entered behind : ℕ → Bool) → IsArena e.nodes → Opposite (length w) u t → t.last ≤ length w → p + d ≡ length w →
-    RowAt e.nodes w a s keeps p front front_ended → RowAt (seen true e).nodes (reverse w) r u true d entered behind →
+pub meet_rows : (e : WrittenExpression) (w : List ℕ) (r a p d : ℕ) (s u t : Starts) (keeps : Bool) (front front_ended entered behind : ℕ → Bool) → IsArena e.nodes → Opposite (length w) u t → t.last ≤ length w → p + d ≡ length w →
+    RowOfPlace e.nodes w a s keeps p front front_ended → RowOfPlace (seen true e).nodes (reverse w) r u true d entered behind →
     ((c : ℕ) × IsTrue (front c) × IsTrue (behind c)) ↔ Meets e.nodes w r t a s p
 meet_rows e w r a p d s u t keeps front front_ended entered behind arena opposite inside sum ahead back = (
   λ h. let leaf = (ahead.leaves h.0).0 h.1 in
@@ -964,10 +964,10 @@ enters_few x (Opt a first) below = let low = below in omega (arith, low)
 
 -- a row tells, with the byte that came, which leaves took it
 pub took_bits : (nodes : List Node) (w : List ℕ) (r p : ℕ) (s : Starts) (keeps : Bool) (m : ℕ) (leaves : List Bool) (before : ℕ → Bool) (byte : Option ℕ) → length nodes ≡ m → SameBytes nodes (slice_get w p) byte →
-    RowAt nodes w r s keeps p (bits m leaves) before → TellTook nodes w r s (p + 1) byte leaves
+    RowOfPlace nodes w r s keeps p (bits m leaves) before → TellTook nodes w r s (p + 1) byte leaves
 took_bits nodes w r p s keeps m leaves before byte long bytes row c members inside is =
     let low = slice_get_within nodes c (Set members) is in
-    let same : (bits m leaves c && takes byte members) ≡ (slice_index_or leaves c false && takes byte members) = ap (λ b. b && takes byte members) (bits_here m leaves c (omega arith)) in
+    let same : (bits m leaves c && byte_is_in byte members) ≡ (slice_index_or leaves c false && byte_is_in byte members) = ap (λ b. b && byte_is_in byte members) (bits_here m leaves c (omega arith)) in
     let law = row_took nodes w r c p s keeps (bits m leaves) before byte members row bytes is in
     (λ h. law.0 (same ∙ h), λ h. sym same ∙ law.1 h)
 

@@ -2,19 +2,19 @@
 use Rattle.std.proofs.Common.{◌≡◌, ℕ, zero, suc, ◌+◌, ◌-◌, ◌*◌, ◌/◌, ◌<◌, ◌≤◌, ◌↔◌, Bool, true, false, max, List, length, Option, Some, None, IsTrue, refl, sym, ap, ◌∙◌, subst, ⊎_elim, true≢false, arith, mul-le-mul_left}
 use Rattle.std.proofs.lemmas.Bool.{cases_lt}
 use Rattle.sedre.specs.Arena.{IsArena}
-use Rattle.sedre.specs.Written.{Written, tree, tree_at}
+use Rattle.sedre.specs.Written.{WrittenExpression, expression_tree, tree_at}
 use Rattle.sedre.specs.Tree.{Tree}
 use Rattle.std.specs.Prelude.{IfSome, if◌then◌else◌}
 use Rattle.sedre.specs.Steps.{TakesAtLeast}
 use Rattle.sedpass.proofs.CountLemmas.{least_both, least_fewer, least_since}
 use Rattle.sedtext.specs.Answer.{SpanAnswer}
 use Rattle.sedtext.specs.declared.starts.Starts.{Starts}
-use Rattle.sedtext.specs.Reach.{At, one_start, Longest, starts_to}
+use Rattle.sedtext.specs.Reach.{At, one_start, IsLongestFrom, starts_to}
 use Rattle.sedtext.specs.Beginnings.{NoneIn}
-use Rattle.sedtext.specs.Spans.{Spans, Found, NotFound}
-use Rattle.sedtext.proofs.SpanLemmas.{Spans-forward, Spans-within}
+use Rattle.sedtext.specs.Spans.{Matches, IsLeftmostLongest, NotFound}
+use Rattle.sedtext.proofs.SpanLemmas.{Matches-forward, Matches-within}
 use Rattle.sedpass.specs.Kept.{AllMarked, CeasesAt, ends_told}
-use Rattle.sedpass.specs.Regions.{all_of, Reaches}
+use Rattle.sedpass.specs.Regions.{all_of, ReachesEnd}
 use Rattle.sedpass.specs.Search.{LooksFrom, LooksInTrials, TrialsAnswer, owed_kept, owed_search, search_cost}
 use Rattle.sedpass.specs.declared.kept.Region.{Region}
 use Rattle.sedpass.proofs.OwedLemmas.{owed_small}
@@ -26,23 +26,23 @@ use Rattle.sedpass.proofs.LeaveLemmas.{reaches_ends}
 use Rattle.sedpass.proofs.MeetingLemmas.{meets_whole}
 
 -- where no place before begins a match, the longest one from there is the one sought
-pub found_at : (e : Written) (w : List ℕ) (from i j : ℕ) → from ≤ i → NoneIn (tree e) w from i → Longest (tree e) w i (Some j) → Found (tree e) w from i j
+pub found_at : (e : WrittenExpression) (w : List ℕ) (from i j : ℕ) → from ≤ i → NoneIn (expression_tree e) w from i → IsLongestFrom (expression_tree e) w i (Some j) → IsLeftmostLongest (expression_tree e) w from i j
 found_at e w from i j after none longest = record { after = after; spans = longest.0; longest = longest.1; leftmost = λ h k low high. none h k low high }
 
 -- and none is found where no place from there on begins one
-pub none_later : (e : Written) (w : List ℕ) (from i : ℕ) → NoneIn (tree e) w from i → length w < i → NotFound (tree e) w from
+pub none_later : (e : WrittenExpression) (w : List ℕ) (from i : ℕ) → NoneIn (expression_tree e) w from i → length w < i → NotFound (expression_tree e) w from
 none_later e w from i none late = λ h k low high. none h k low (omega arith)
 
 -- where one place more begins none
-pub none_more : (e : Written) (w : List ℕ) (from i : ℕ) → NoneIn (tree e) w from i → Longest (tree e) w i None → NoneIn (tree e) w from (i + 1)
+pub none_more : (e : WrittenExpression) (w : List ℕ) (from i : ℕ) → NoneIn (expression_tree e) w from i → IsLongestFrom (expression_tree e) w i None → NoneIn (expression_tree e) w from (i + 1)
 none_more e w from i none longest = λ h k low high span.
     ⊎_elim
     (λ (before : h < i). none h k low before span)
-    (λ (at : i ≤ h). let same : h ≡ i = omega arith in longest k (subst (λ v. Spans (tree e) w v k) same span))
+    (λ (at : i ≤ h). let same : h ≡ i = omega arith in longest k (subst (λ v. Matches (expression_tree e) w v k) same span))
     (cases_lt h i)
 
 -- and places after those that begin none
-pub none_on : (e : Written) (w : List ℕ) (from k i : ℕ) → NoneIn (tree e) w from k → NoneIn (tree e) w k i → NoneIn (tree e) w from i
+pub none_on : (e : WrittenExpression) (w : List ℕ) (from k i : ℕ) → NoneIn (expression_tree e) w from k → NoneIn (expression_tree e) w k i → NoneIn (expression_tree e) w from i
 none_on e w from k i none more = λ h l low high span.
     ⊎_elim
     (λ (before : h < k). none h l low before span)
@@ -56,46 +56,46 @@ module _ (p : Prepared) (w : List ℕ) (arena : IsArena p.arena.expr.nodes) wher
   root_is : length p.arena.expr.nodes - 1 ≡ p.root
   root_is = let last = p.is_prepared.last in omega arith
 
-  to_tree : (i k : ℕ) → At p.arena.expr.nodes w p.root i k → Spans (tree p.arena.expr) w i k
-  to_tree i k span = subst (λ x. Spans (tree_at p.arena.expr.nodes x) w i k) (sym root_is) span
+  to_tree : (i k : ℕ) → At p.arena.expr.nodes w p.root i k → Matches (expression_tree p.arena.expr) w i k
+  to_tree i k span = subst (λ x. Matches (tree_at p.arena.expr.nodes x) w i k) (sym root_is) span
 
-  from_tree : (i k : ℕ) → Spans (tree p.arena.expr) w i k → At p.arena.expr.nodes w p.root i k
-  from_tree i k span = subst (λ x. Spans (tree_at p.arena.expr.nodes x) w i k) root_is span
+  from_tree : (i k : ℕ) → Matches (expression_tree p.arena.expr) w i k → At p.arena.expr.nodes w p.root i k
+  from_tree i k span = subst (λ x. Matches (tree_at p.arena.expr.nodes x) w i k) root_is span
 
   -- the root is marked exactly where a match begins
-  pub begins_at : (q : ℕ) → q ≤ length w → Reaches p.arena.expr.nodes w p.root all p.root q ↔ ((k : ℕ) × Spans (tree p.arena.expr) w q k)
+  pub begins_at : (q : ℕ) → q ≤ length w → ReachesEnd p.arena.expr.nodes w p.root all p.root q ↔ ((k : ℕ) × Matches (expression_tree p.arena.expr) w q k)
   begins_at q low =
       let both = reaches_ends p.arena.expr.nodes w p.root p.root q all arena (all_of p.root refl) in (
         λ h. let g = both.0 h in (g.0, to_tree q g.0 g.2),
-        λ h. let within = Spans-within (tree p.arena.expr) w q h.0 low h.1 in both.1 (h.0, (omega arith, omega arith), from_tree q h.0 h.1),
+        λ h. let within = Matches-within (expression_tree p.arena.expr) w q h.0 low h.1 in both.1 (h.0, (omega arith, omega arith), from_tree q h.0 h.1),
       )
 
   -- so none begins where it isn't marked
-  pub none_marked : (from start : ℕ) → start ≤ length w → AllMarked p.arena.expr.nodes w p.root all p.root false from start → NoneIn (tree p.arena.expr) w from start
+  pub none_marked : (from start : ℕ) → start ≤ length w → AllMarked p.arena.expr.nodes w p.root all p.root false from start → NoneIn (expression_tree p.arena.expr) w from start
   none_marked from start low none = λ i k after before span. absurd (true≢false (sym ((none i after before).1 ((begins_at i (omega arith)).1 (k, span)))))
 
   -- nor at the end, where it doesn't match the null string
-  pub none_kept : (from : ℕ) → NoneIn (tree p.arena.expr) w from (length w) → (At p.arena.expr.nodes w p.root (length w) (length w) → ⊥) → NotFound (tree p.arena.expr) w from
+  pub none_kept : (from : ℕ) → NoneIn (expression_tree p.arena.expr) w from (length w) → (At p.arena.expr.nodes w p.root (length w) (length w) → ⊥) → NotFound (expression_tree p.arena.expr) w from
   none_kept from none null = λ i k after within span.
       ⊎_elim
       (λ (before : i < length w). none i k after before span)
       (λ (at : length w ≤ i).
-      let on = Spans-forward (tree p.arena.expr) w i k span in
-      let in_text = Spans-within (tree p.arena.expr) w i k within span in
+      let on = Matches-forward (expression_tree p.arena.expr) w i k span in
+      let in_text = Matches-within (expression_tree p.arena.expr) w i k within span in
       let same : i ≡ length w = omega arith in
       let end : k ≡ length w = omega arith in
       null (subst (λ v. At p.arena.expr.nodes w p.root v (length w)) same (subst (λ v. At p.arena.expr.nodes w p.root i v) end (from_tree i k span))))
       (cases_lt i (length w))
 
   -- a pass from where one begins ceases to meet the kept one at its longest end
-  pub longest_kept : (start stop k : ℕ) → start ≤ length w → Spans (tree p.arena.expr) w start k → CeasesAt p.arena.expr.nodes w p.root all p.root start stop → Longest (tree p.arena.expr) w start (Some stop)
+  pub longest_kept : (start stop k : ℕ) → start ≤ length w → Matches (expression_tree p.arena.expr) w start k → CeasesAt p.arena.expr.nodes w p.root all p.root start stop → IsLongestFrom (expression_tree p.arena.expr) w start (Some stop)
   longest_kept start stop k low span ceases =
       let on = ceases.0 in
       let last = p.is_prepared.last in
       let inside : p.root < length p.arena.expr.nodes = omega arith in
-      let most : (l : ℕ) → Spans (tree p.arena.expr) w start l → l ≤ stop = λ l more. ⊎_elim
+      let most : (l : ℕ) → Matches (expression_tree p.arena.expr) w start l → l ≤ stop = λ l more. ⊎_elim
       (λ (later : stop < l).
-      let in_text = Spans-within (tree p.arena.expr) w start l low more in
+      let in_text = Matches-within (expression_tree p.arena.expr) w start l low more in
       absurd (ceases.2 ((meets_whole p.arena.expr.nodes w p.root stop (one_start start) all arena inside).1 (start, l, (omega arith, omega arith), on, later, from_tree start l more, (omega arith, omega arith)))))
       (λ (ge : l ≤ stop). ge)
       (cases_lt stop l) in
@@ -105,15 +105,15 @@ module _ (p : Prepared) (w : List ℕ) (arena : IsArena p.arena.expr.nodes) wher
       let met = (meets_whole p.arena.expr.nodes w p.root (stop - 1) (one_start start) all arena inside).0 (ceases.1 (stop - 1) (omega arith) (omega arith)) in
       let first = met.2 in
       let same : met.0 ≡ start = omega arith in
-      let here : Spans (tree p.arena.expr) w start met.1 = subst (λ v. Spans (tree p.arena.expr) w v met.1) same (to_tree met.0 met.1 met.5) in
+      let here : Matches (expression_tree p.arena.expr) w start met.1 = subst (λ v. Matches (expression_tree p.arena.expr) w v met.1) same (to_tree met.0 met.1 met.5) in
       let top = most met.1 here in
       let after = met.4 in
       let end : met.1 ≡ stop = omega arith in
-      (subst (Spans (tree p.arena.expr) w start) end here, most))
+      (subst (Matches (expression_tree p.arena.expr) w start) end here, most))
       (λ (ge : stop ≤ start).
-      let up = Spans-forward (tree p.arena.expr) w start k span in
+      let up = Matches-forward (expression_tree p.arena.expr) w start k span in
       let end : k ≡ stop = omega arith in
-      (subst (Spans (tree p.arena.expr) w start) end span, most))
+      (subst (Matches (expression_tree p.arena.expr) w start) end span, most))
       (cases_lt start stop)
 
 -- the ends that a kept pass over all places tells of
@@ -123,19 +123,19 @@ ends_all b n end is = ap (λ v. ends_told v n end) is
 -- no match is found where the root is marked nowhere, nor null at the end
 pub kept_none : (p : Prepared) (w : List ℕ) (b : Bool) (r end from start : ℕ) (begins : Bool) → IsArena p.arena.expr.nodes → IsTrue b → r ≡ p.root → start ≤ length w →
     AllMarked p.arena.expr.nodes w r (ends_told b (length w) end) p.root false from start → (start < length w → IsTrue begins) → (start ≡ length w → IsTrue begins ↔ At p.arena.expr.nodes w p.root start start) → begins ≡ false →
-    NotFound (tree p.arena.expr) w from
+    NotFound (expression_tree p.arena.expr) w from
 kept_none p w b r end from start begins arena sweeps root low none inside null is =
     let at : start ≡ length w = ⊎_elim (λ (lt : start < length w). absurd (true≢false (sym (inside lt) ∙ is))) (λ (ge : length w ≤ start). omega arith) (cases_lt start (length w)) in
     let marked : AllMarked p.arena.expr.nodes w p.root (starts_to 0 (length w)) p.root false from start = subst (λ t. AllMarked p.arena.expr.nodes w p.root t p.root false from start) (ends_all b (length w) end sweeps)
     (subst (λ v. AllMarked p.arena.expr.nodes w v (ends_told b (length w) end) p.root false from start) root none) in
     let before = none_marked p w arena from start low marked in
-    none_kept p w arena from (subst (NoneIn (tree p.arena.expr) w from) at before)
+    none_kept p w arena from (subst (NoneIn (expression_tree p.arena.expr) w from) at before)
     (λ span. absurd (true≢false (sym ((null at).1 (subst (λ v. At p.arena.expr.nodes w p.root v v) (sym at) span)) ∙ is)))
 
 -- where one begins, and a pass from there ceases to meet the kept one, is the one sought
 pub kept_found : (p : Prepared) (w : List ℕ) (b : Bool) (r end : ℕ) (b' : Bool) (r' end' from start stop : ℕ) → IsArena p.arena.expr.nodes → IsTrue b → r ≡ p.root → IsTrue b' → r' ≡ p.root → from ≤ start → start ≤ length w →
-    AllMarked p.arena.expr.nodes w r (ends_told b (length w) end) p.root false from start → ((k : ℕ) × Spans (tree p.arena.expr) w start k) →
-    CeasesAt p.arena.expr.nodes w r' (ends_told b' (length w) end') p.root start stop → Found (tree p.arena.expr) w from start stop
+    AllMarked p.arena.expr.nodes w r (ends_told b (length w) end) p.root false from start → ((k : ℕ) × Matches (expression_tree p.arena.expr) w start k) →
+    CeasesAt p.arena.expr.nodes w r' (ends_told b' (length w) end') p.root start stop → IsLeftmostLongest (expression_tree p.arena.expr) w from start stop
 kept_found p w b r end b' r' end' from start stop arena sweeps root sweeps' root' after low none begins ceases =
     let marked : AllMarked p.arena.expr.nodes w p.root (starts_to 0 (length w)) p.root false from start = subst (λ t. AllMarked p.arena.expr.nodes w p.root t p.root false from start) (ends_all b (length w) end sweeps)
     (subst (λ v. AllMarked p.arena.expr.nodes w v (ends_told b (length w) end) p.root false from start) root none) in
@@ -145,15 +145,15 @@ kept_found p w b r end b' r' end' from start stop arena sweeps root sweeps' root
 
 -- one begins where the root is marked before the end
 pub begins_marked : (p : Prepared) (w : List ℕ) (b : Bool) (r end start : ℕ) → IsArena p.arena.expr.nodes → IsTrue b → r ≡ p.root → start ≤ length w →
-    Reaches p.arena.expr.nodes w r (ends_told b (length w) end) p.root start → (k : ℕ) × Spans (tree p.arena.expr) w start k
+    ReachesEnd p.arena.expr.nodes w r (ends_told b (length w) end) p.root start → (k : ℕ) × Matches (expression_tree p.arena.expr) w start k
 begins_marked p w b r end start arena sweeps root low reaches =
-    (begins_at p w arena start low).0 (subst (λ t. Reaches p.arena.expr.nodes w p.root t p.root start) (ends_all b (length w) end sweeps)
-    (subst (λ v. Reaches p.arena.expr.nodes w v (ends_told b (length w) end) p.root start) root reaches))
+    (begins_at p w arena start low).0 (subst (λ t. ReachesEnd p.arena.expr.nodes w p.root t p.root start) (ends_all b (length w) end sweeps)
+    (subst (λ v. ReachesEnd p.arena.expr.nodes w v (ends_told b (length w) end) p.root start) root reaches))
 
 -- or, at the end, where it is null
 pub begins_some : (p : Prepared) (w : List ℕ) (b : Bool) (r end start : ℕ) (begins : Bool) → IsArena p.arena.expr.nodes → IsTrue b → r ≡ p.root → end ≡ length w → start ≤ length w →
-    (start < end → IsTrue true ↔ Reaches p.arena.expr.nodes w r (ends_told b (length w) end) p.root start) → (start ≡ length w → IsTrue begins ↔ At p.arena.expr.nodes w p.root start start) → IsTrue begins →
-    (k : ℕ) × Spans (tree p.arena.expr) w start k
+    (start < end → IsTrue true ↔ ReachesEnd p.arena.expr.nodes w r (ends_told b (length w) end) p.root start) → (start ≡ length w → IsTrue begins ↔ At p.arena.expr.nodes w p.root start start) → IsTrue begins →
+    (k : ℕ) × Matches (expression_tree p.arena.expr) w start k
 begins_some p w b r end start begins arena sweeps root whole low found null is =
     ⊎_elim
     (λ (lt : start < end). begins_marked p w b r end start arena sweeps root low ((found lt).0 refl))
@@ -313,11 +313,11 @@ hit_paid m from start here place end tried old s0 s1 s2 some low on up paid tria
     omega (arith, most, paid, trial)
 
 -- what trials answer that go no further than before a place
-pub tired_answer : (e : Written) (w : List ℕ) (from k : ℕ) (r : Trials) → from < k → NoneIn (tree e) w from k → (k ≤ length w → r ≡ Tired k) × (length w < k → r ≡ Nothing) → TrialsAnswer (tree e) w from r
+pub tired_answer : (e : WrittenExpression) (w : List ℕ) (from k : ℕ) (r : Trials) → from < k → NoneIn (expression_tree e) w from k → (k ≤ length w → r ≡ Tired k) × (length w < k → r ≡ Nothing) → TrialsAnswer (expression_tree e) w from r
 tired_answer e w from k r low none is =
     ⊎_elim
-    (λ (late : length w < k). subst (TrialsAnswer (tree e) w from) (sym (is.1 late)) (none_later e w from k none late))
-    (λ (within : k ≤ length w). subst (TrialsAnswer (tree e) w from) (sym (is.0 within)) (low, within, none))
+    (λ (late : length w < k). subst (TrialsAnswer (expression_tree e) w from) (sym (is.1 late)) (none_later e w from k none late))
+    (λ (within : k ≤ length w). subst (TrialsAnswer (expression_tree e) w from) (sym (is.0 within)) (low, within, none))
     (cases_lt (length w) k)
 
 -- the match from a place on, where none begins before another

@@ -2,15 +2,15 @@
 use Rattle.std.proofs.Common.{◌≡◌, ℕ, zero, suc, true, false, true≢false, ◌+◌, ◌-◌, ◌*◌, ◌≤◌, List, [], ◌∷◌, ◌++◌, reverse, length, Option, None, Some, refl, sym, ap, ◌∙◌, subst, arith, mul-le-mul_left}
 use Rattle.sedre.specs.Sizes.{size}
 use Rattle.sedre.specs.Arena.{IsArena}
-use Rattle.sedre.specs.Written.{Written, tree_at, tree}
+use Rattle.sedre.specs.Written.{WrittenExpression, tree_at, expression_tree}
 use Rattle.sedre.specs.declared.types.Node.{Node}
 use Rattle.sedre.specs.declared.types.Node.TheVariants.{Empty, Set, Begin, End, Seq, Alt, Group, Star, Opt}
 use Rattle.std.specs.Prelude.{IfSome, slice_index_or}
-use Rattle.sedre.specs.Steps.{Counted, Takes, TakesAtLeast}
+use Rattle.sedre.specs.Steps.{TakesExactly, Takes, TakesAtLeast}
 use Rattle.sedtext.specs.Caps.{IsReport}
 use Rattle.sedtext.specs.Groups.{Groups}
 use Rattle.sedtext.proofs.NodeLemmas.{node_at, size-pos}
-use Rattle.sedpass.specs.Decide.{nodes_in, text_in, told_of, LooksAt, undecided, GoesOn, EndsIn, IsMatch, Turns, next_of, waiting, part_cost, kind_cost, tasks_cost, long_of, IsSpent}
+use Rattle.sedpass.specs.Decide.{nodes_in, text_in, told_of, LooksAt, undecided, GoesOn, EndsRegion, IsMatch, Turns, next_of, waiting, part_cost, kind_cost, tasks_cost, long_of, IsSpent}
 use Rattle.sedpass.specs.Overlay.{State, Back, NoneDue, IsStart}
 use Rattle.sedpass.specs.Turns.{Runs, AreReady, AreWithin, AreShort, Reduces, LooksAtEntered, weights, looks, descents, tasks_of}
 use Rattle.sedpass.specs.declared.group_set.GroupSet.{GroupSet}
@@ -54,7 +54,7 @@ pub record Spined (s : Subject) (start : List Task) (begin : State) (before : �
   pub spent : IsSpent (nodes_in s) start (waiting at stack) before after
   pub entered : LooksAtEntered (nodes_in s) start begin.spans (waiting at stack) now.spans before after
 
-pub spine_begins : (s : Subject) (r : Region) (now : State) (here : Matched) (stack : List Task) (before : ℕ) → EndsIn s r here →
+pub spine_begins : (s : Subject) (r : Region) (now : State) (here : Matched) (stack : List Task) (before : ℕ) → EndsRegion s r here →
     AreReady (nodes_in s) (text_in s) (waiting (Some here) stack) → Spined s (waiting (Some here) stack) now before r now (Some here) stack before
 spine_begins s r now here stack before ends ready = record {
   goes = ends;
@@ -151,16 +151,16 @@ spine_less s old new p stack stack' then at ready turn items =
     omega (arith, all.2, ap (weights (nodes_in s)) items)
 
 -- what is left gives the report, if all groups are due
-pub decides : (e : Written) (w : List ℕ) (root i j : ℕ) (old new : State) → root + 1 ≡ length e.nodes → IsStart (tree e) i j old → Runs e.nodes w (Apart root i j ∷ []) old new →
-    IsReport (tree e) w i j new.spans
+pub decides : (e : WrittenExpression) (w : List ℕ) (root i j : ℕ) (old new : State) → root + 1 ≡ length e.nodes → IsStart (expression_tree e) i j old → Runs e.nodes w (Apart root i j ∷ []) old new →
+    IsReport (expression_tree e) w i j new.spans
 decides e w root i j old new last start run =
     let same : length e.nodes - 1 ≡ root = omega arith in
     subst (λ x. IsReport (tree_at e.nodes x) w i j new.spans) (sym same)
     (begins e.nodes w root i j old new (subst (λ x. IsStart (tree_at e.nodes x) i j old) same start) run)
 
 -- and of each group that is due what the report says
-pub decides_due : (e : Written) (w : List ℕ) (root i j k : ℕ) (due : GroupSet) (new : State) (groups : Groups) → root + 1 ≡ length e.nodes → holds due 0 ≡ false →
-    Runs e.nodes w (Apart root i j ∷ []) (told_of due (undecided i j)) new → IsReport (tree e) w i j groups → holds due k ≡ true → slice_index_or new.spans k None ≡ slice_index_or groups k None
+pub decides_due : (e : WrittenExpression) (w : List ℕ) (root i j k : ℕ) (due : GroupSet) (new : State) (groups : Groups) → root + 1 ≡ length e.nodes → holds due 0 ≡ false →
+    Runs e.nodes w (Apart root i j ∷ []) (told_of due (undecided i j)) new → IsReport (expression_tree e) w i j groups → holds due k ≡ true → slice_index_or new.spans k None ≡ slice_index_or groups k None
 decides_due e w root i j zero due new groups last whole run report is = absurd (true≢false (sym is ∙ whole))
 decides_due e w root i j (suc k) due new groups last whole run report is =
     let same : length e.nodes - 1 ≡ root = omega arith in
@@ -176,8 +176,8 @@ pub least_on : (s t u a b c : ℕ) → TakesAtLeast s t (b - a) → TakesAtLeast
 unfolding TakesAtLeast
 least_on s t u a b c one two = omega (arith, one, two)
 
-pub least_look : (s t u a b : ℕ) → Counted s t 1 → t ≤ u → b ≤ a + 1 → TakesAtLeast s u (b - a)
-unfolding Counted TakesAtLeast
+pub least_look : (s t u a b : ℕ) → TakesExactly s t 1 → t ≤ u → b ≤ a + 1 → TakesAtLeast s u (b - a)
+unfolding TakesExactly TakesAtLeast
 least_look s t u a b look up few = omega (arith, look, up, few)
 
 least_after : (s t u n : ℕ) → s ≤ t → TakesAtLeast t u n → TakesAtLeast s u n

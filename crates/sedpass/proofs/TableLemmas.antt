@@ -7,14 +7,14 @@ use Rattle.std.proofs.lemmas.Bool.{cases_eq, cases_lt, lt-ltb, le-ltb}
 use Rattle.std.proofs.lemmas.List.{get_or-set_same, get_or-set_other}
 use Rattle.std.proofs.lemmas.Nat.{shl-shr, shl_whole, shl_below}
 use Rattle.sedre.specs.Arena.{IsExpr}
-use Rattle.sedre.specs.Written.{Written}
+use Rattle.sedre.specs.Written.{WrittenExpression}
 use Rattle.sedre.specs.Mirror.{mirror_node, seen}
 use Rattle.sedre.proofs.MirrorLemmas.{old_node}
 use Rattle.sedre.specs.declared.types.Node.{Node}
 use Rattle.sedre.specs.declared.types.Node.TheVariants.{Empty, Set, Begin, End, Seq, Alt, Group, Star, Opt}
 use Rattle.sedtext.specs.Words.{AgreeBelow, row_of}
 use Rattle.sedpass.specs.Prepared.{SameNulls}
-use Rattle.sedpass.specs.Rows.{nodes_of, at_begin, at_end, bits, SameBytes, LeadsTo, IsFirst}
+use Rattle.sedpass.specs.Rows.{nodes_of, at_begin, at_end, bits, SameBytes, LeadsTo, IsFirstRow}
 use Rattle.sedpass.specs.Cells.{stops, code_of, ColumnAt, EdgeApart, EdgeFits, IsLayout, IsColumn}
 use Rattle.sedpass.specs.Table.{State, state_of, IsTold, HasRow, LeadsOn, BeginsIn, Names, IsOffset, cell_of, LeadsBy, kind_number, beginning_at, beginning_of, MayBegin, HasRoom, IsRoomy, IsTable, SameRoom, SameShape, AddsStates}
 use Rattle.sedpass.specs.declared.cells.Flags.{Flags}
@@ -124,7 +124,7 @@ mirror_twice (Group k a) = refl
 mirror_twice (Star a first) = refl
 mirror_twice (Opt a first) = refl
 
-pub seen_bytes : (mirrored : Bool) (e : Written) (a b : Option ℕ) → SameBytes e.nodes a b → SameBytes (seen mirrored e).nodes a b
+pub seen_bytes : (mirrored : Bool) (e : WrittenExpression) (a b : Option ℕ) → SameBytes e.nodes a b → SameBytes (seen mirrored e).nodes a b
 seen_bytes false e a b same = same
 seen_bytes true e a b same = λ x members is.
     let old = old_node e.nodes x (Set members) is in
@@ -132,7 +132,7 @@ seen_bytes true e a b same = λ x members is.
     same x members (old.1 ∙ ap (λ (z : Node). Some z) set)
 
 -- a state leads on by bytes of one class
-pub leads_same : (e : Written) (way : Way) (a b : State) (byte other : ℕ) (edge : Bool) → SameBytes e.nodes (Some other) (Some byte) → LeadsOn (nodes_of way e) way a byte edge b → LeadsOn (nodes_of way e) way a other edge b
+pub leads_same : (e : WrittenExpression) (way : Way) (a b : State) (byte other : ℕ) (edge : Bool) → SameBytes e.nodes (Some other) (Some byte) → LeadsOn (nodes_of way e) way a byte edge b → LeadsOn (nodes_of way e) way a other edge b
 leads_same e way a b byte other edge same leads =
     (leads.0, class_row (nodes_of way e) a.root way.keeps edge way.sweeps a.entered a.ended b.entered b.ended (Some byte) (Some other) (seen_bytes way.mirrored e (Some other) (Some byte) same) leads.1)
 
@@ -439,13 +439,13 @@ module _ (p : Prepared) (t u : Table) (way : Way) (q root byte v : ℕ) (loaded 
 
 -- a first state
 pub names_first : (p : Prepared) (u : Table) (way : Way) (root v : ℕ) (kind : Kind) (leaves ends : List Bool) → Names (length p.arena.expr.nodes) u (HasRow root (bits (length p.arena.expr.nodes) leaves) (bits (length p.arena.expr.nodes) ends)) v →
-    IsFirst (nodes_of way p.arena.expr) root way.keeps (at_begin way.mirrored kind) (at_end way.mirrored kind) (bits (length p.arena.expr.nodes) leaves) (bits (length p.arena.expr.nodes) ends) → Names (length p.arena.expr.nodes) u (BeginsIn (nodes_of way p.arena.expr) way root kind) v
+    IsFirstRow (nodes_of way p.arena.expr) root way.keeps (at_begin way.mirrored kind) (at_end way.mirrored kind) (bits (length p.arena.expr.nodes) leaves) (bits (length p.arena.expr.nodes) ends) → Names (length p.arena.expr.nodes) u (BeginsIn (nodes_of way p.arena.expr) way root kind) v
 names_first p u way root v kind leaves ends n first =
     names_map (length p.arena.expr.nodes) u (HasRow root (bits (length p.arena.expr.nodes) leaves) (bits (length p.arena.expr.nodes) ends)) (BeginsIn (nodes_of way p.arena.expr) way root kind) v
     (λ b has. (
       has.0,
-      subst (λ x. IsFirst (nodes_of way p.arena.expr) root way.keeps (at_begin way.mirrored kind) (at_end way.mirrored kind) b.entered x) (sym has.2)
-          (subst (λ x. IsFirst (nodes_of way p.arena.expr) root way.keeps (at_begin way.mirrored kind) (at_end way.mirrored kind) x (bits (length p.arena.expr.nodes) ends)) (sym has.1) first),
+      subst (λ x. IsFirstRow (nodes_of way p.arena.expr) root way.keeps (at_begin way.mirrored kind) (at_end way.mirrored kind) b.entered x) (sym has.2)
+          (subst (λ x. IsFirstRow (nodes_of way p.arena.expr) root way.keeps (at_begin way.mirrored kind) (at_end way.mirrored kind) x (bits (length p.arena.expr.nodes) ends)) (sym has.1) first),
     )) n
 
 -- What a code names.

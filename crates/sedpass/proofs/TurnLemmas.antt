@@ -12,9 +12,9 @@ use Rattle.sedre.specs.declared.types.NodeId.{NodeId}
 use Rattle.sedre.specs.declared.types.Node.TheVariants.{Empty, Set, Begin, End, Seq, Alt, Group, Star, Opt}
 use Rattle.sedre.proofs.TreeLemmas.{tree_at-node}
 use Rattle.sedtext.specs.Reach.{At, one_start}
-use Rattle.sedpass.specs.Regions.{Reaches, IsLastIn, last_of}
+use Rattle.sedpass.specs.Regions.{ReachesEnd, IsLastIn, last_of}
 use Rattle.sedtext.specs.Caps.{LastCut, LastCopy, only, then}
-use Rattle.sedpass.specs.Overlay.{State, is_due, settle, drop_groups, Back, HasGroup, NoneDue}
+use Rattle.sedpass.specs.Overlay.{State, is_due, settle, drop_groups, Back, GroupStandsIn, NoneDue}
 use Rattle.sedpass.specs.declared.groups.Task.{Task}
 use Rattle.sedpass.specs.declared.groups.Task.TheVariants.{Apart, Forget}
 use Rattle.sedtext.specs.Nodes.{parts_of}
@@ -24,7 +24,7 @@ use Rattle.sedpass.specs.Walks.{Walk, outside, enter, Meets}
 use Rattle.sedpass.proofs.WalkLemmas.{enters_none, enters_part, enters_both, enters_group, enters_group_alone}
 use Rattle.sedpass.proofs.LeaveLemmas.{alt_looks, reaches_last}
 use Rattle.sedpass.proofs.MeetingLemmas.{stops_at_cut, stops_at_copy, run_stops}
-use Rattle.sedtext.proofs.SpanLemmas.{Spans-forward}
+use Rattle.sedtext.proofs.SpanLemmas.{Matches-forward}
 use Rattle.sedtext.proofs.NodeLemmas.{size-parts, size-pos}
 use Rattle.sedpass.proofs.OverlayLemmas.{left_due, make-state, touch-due, settle-due, settle-not, settle-is, drop-is, drop-not, left_due-stays, left_at_once, stays, back_report}
 
@@ -53,7 +53,7 @@ set_stays k v s n is =
 drop_stays : (t : Tree) (s : State) (k : ℕ) → is_due s k ≡ false → is_due (drop_groups t s) k ≡ false
 drop_stays t s k is = ap (λ v. is_due v k) (drop-is t s) ∙ left_due-stays s.due _ k is
 
-drop_within : (t : Tree) (s : State) (k : ℕ) → HasGroup t k → is_due (drop_groups t s) k ≡ false
+drop_within : (t : Tree) (s : State) (k : ℕ) → GroupStandsIn t k → is_due (drop_groups t s) k ≡ false
 drop_within empty s k has = absurd has
 drop_within (set members) s k has = absurd has
 drop_within begin s k has = absurd has
@@ -67,7 +67,7 @@ drop_within (group n a) s k (inr has) = drop_within a (settle n None s) k has
 drop_within (star a first) s k has = drop_within a s k has
 drop_within (opt a first) s k has = drop_within a s k has
 
-drop_without : (t : Tree) (s : State) (k : ℕ) → (HasGroup t k → ⊥) → is_due (drop_groups t s) k ≡ is_due s k
+drop_without : (t : Tree) (s : State) (k : ℕ) → (GroupStandsIn t k → ⊥) → is_due (drop_groups t s) k ≡ is_due s k
 drop_without empty s k not = refl
 drop_without (set members) s k not = refl
 drop_without begin s k not = refl
@@ -156,7 +156,7 @@ drop_as t s new blank same long tells =
 pub groups_at : GroupsAtLaw
 groups_at nodes x k node arena is = by node is
   where
-    by : (n : Node) → slice_get nodes x ≡ Some n → HasGroup (tree_at nodes x) k ↔ HasGroupAt nodes n k
+    by : (n : Node) → slice_get nodes x ≡ Some n → GroupStandsIn (tree_at nodes x) k ↔ HasGroupAt nodes n k
     by Empty is = rw (tree_at-node nodes x Empty arena is) (λ h. h, λ h. h)
     by (Set s) is = rw (tree_at-node nodes x (Set s) arena is) (λ h. h, λ h. h)
     by Begin is = rw (tree_at-node nodes x Begin arena is) (λ h. h, λ h. h)
@@ -235,8 +235,8 @@ seq_at : (nodes : List Node) (w : List ℕ) (x i k j : ℕ) (a b : NodeId) (s : 
 seq_at nodes w x i k j a b s here cut =
     let low = here.arena.below x a.index (Seq a b) here.is (inl refl) in
     let low' = here.arena.below x b.index (Seq a b) here.is (inr refl) in
-    let up = Spans-forward (tree_at nodes a.index) w i k cut.left in
-    let on = Spans-forward (tree_at nodes b.index) w k j cut.right in
+    let up = Matches-forward (tree_at nodes a.index) w i k cut.left in
+    let on = Matches-forward (tree_at nodes b.index) w k j cut.right in
     let inside = here.inside in
     let fits = here.fits in
     let long = size-parts nodes here.arena x (Seq a b) here.is in (
@@ -396,7 +396,7 @@ alt_spine nodes w r x i j left right a b here left_is right_is last =
     rw (left_is, right_is)
     (last_of x a.index (Alt a b) here.is (inl refl) last, last_of x b.index (Alt a b) here.is (inr refl) last, (alt_looks nodes w r j x i a b here.arena last here.is).0)
 
-part_last : (nodes : List Node) (w : List ℕ) (r i j part : ℕ) → IsArena nodes → IsLastIn nodes r part → IsLastIn nodes r part × (Reaches nodes w r (one_start j) part i ↔ At nodes w part i j)
+part_last : (nodes : List Node) (w : List ℕ) (r i j part : ℕ) → IsArena nodes → IsLastIn nodes r part → IsLastIn nodes r part × (ReachesEnd nodes w r (one_start j) part i ↔ At nodes w part i j)
 part_last nodes w r i j part arena last = (last, reaches_last nodes w r j part i arena last)
 
 pub part_spine : PartSpine

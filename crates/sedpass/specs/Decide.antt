@@ -13,7 +13,7 @@ use Rattle.sedtext.specs.Words.{row_of}
 use Rattle.sedpass.specs.Groups.{holds}
 use Rattle.sedpass.specs.Kept.{IsKept, KeptRoom, owed}
 use Rattle.sedpass.specs.Lengths.{length_of}
-use Rattle.sedpass.specs.Overlay.{State, state_of, HasGroup}
+use Rattle.sedpass.specs.Overlay.{State, state_of, GroupStandsIn}
 use Rattle.sedpass.specs.Regions.{IsLastIn}
 use Rattle.sedpass.specs.Table.{IsAhead, IsRoomy, IsTable, SameRoom, SameShape}
 use Rattle.sedpass.specs.Turns.{Blank, IsHere, IsTurn, AreReady, AreShort, looks, descents, tasks_of}
@@ -63,19 +63,19 @@ undecided start stop = Some (start, stop) ∷ replicate 9 None
 
 -- all groups of the expression that are reported are in the set
 abbrev pub HasAll : GroupSet → Tree → Type 0
-HasAll due e = (k : ℕ) → 1 ≤ k → k < 10 → HasGroup e k → IsTrue (holds due k)
+HasAll due e = (k : ℕ) → 1 ≤ k → k < 10 → GroupStandsIn e k → IsTrue (holds due k)
 
 -- the match is there, and what its node is
 abbrev pub Stands : Subject → Matched → Node → Type 0
 Stands s here node = IsHere (nodes_in s) (text_in s) here.node here.start here.stop node
 
 -- the match of a repetition of the node a is there
-abbrev pub Repeats : Subject → Matched → NodeId → Type 0
-Repeats s here a = (first : Bool) × Stands s here (Star a first)
+abbrev pub IsRepetitionHere : Subject → Matched → NodeId → Type 0
+IsRepetitionHere s here a = (first : Bool) × Stands s here (Star a first)
 
 -- the node is last in the region, and its match ends where the region does
-abbrev pub EndsIn : Subject → Region → Matched → Type 0
-EndsIn s r here = IsLastIn (nodes_in s) r.root here.node × (here.stop ≡ r.end)
+abbrev pub EndsRegion : Subject → Region → Matched → Type 0
+EndsRegion s r here = IsLastIn (nodes_in s) r.root here.node × (here.stop ≡ r.end)
 
 -- both tables serve the expression: the kept one for passes back from one end, the other for passes forwards from one start
 pub record HasDesk (s : Subject) (tables : GroupTables) (kept : Kept) : Type 0 where
@@ -134,7 +134,7 @@ next_of (Two next later) = Some next
 -- it goes on in the region
 abbrev pub GoesOn : Subject → Region → Option Matched → Type 0
 GoesOn s r None = Unit {0}
-GoesOn s r (Some next) = EndsIn s r next
+GoesOn s r (Some next) = EndsRegion s r next
 
 -- the match is there, within the text
 abbrev pub IsMatch : Subject → Matched → Type 0
@@ -145,15 +145,15 @@ abbrev pub Turns : Subject → Matched → State → State → Then → Type 0
 Turns s here old new then = IsTurn (nodes_in s) (text_in s) here.node here.start here.stop old new (tasks_of then)
 
 -- the matches of the node have no length that is known
-abbrev pub IsOpen : List Node → ℕ → Type 0
-IsOpen nodes x = length_of (tree_at nodes x) ≡ None
+abbrev pub HasNoKnownLength : List Node → ℕ → Type 0
+HasNoKnownLength nodes x = length_of (tree_at nodes x) ≡ None
 
 -- the looks that a node takes at least, by its kind: at each byte that it passes, where no length decides it, and at an alternative
 abbrev pub LooksAt : Subject → Matched → Node → Option Matched → ℕ → ℕ → Type 0
 LooksAt s here (Seq a b) next before after =
-    IsOpen (nodes_in s) a.index → IsOpen (nodes_in s) b.index → IfSome next (λ p. TakesAtLeast before after (p.start - here.start))
+    HasNoKnownLength (nodes_in s) a.index → HasNoKnownLength (nodes_in s) b.index → IfSome next (λ p. TakesAtLeast before after (p.start - here.start))
 LooksAt s here (Alt a b) next before after = TakesAtLeast before after 1
-LooksAt s here (Star a first) next before after = IsOpen (nodes_in s) a.index → TakesAtLeast before after (here.stop - here.start)
+LooksAt s here (Star a first) next before after = HasNoKnownLength (nodes_in s) a.index → TakesAtLeast before after (here.stop - here.start)
 LooksAt s here node next before after = Unit {0}
 
 -- the tasks that wait, and before them one match

@@ -5,8 +5,8 @@ use Rattle.sedre.specs.declared.types.Node.{Node}
 use Rattle.sedtext.specs.declared.starts.Starts.{Starts}
 use Rattle.sedtext.specs.Reach.{one_start, starts_to}
 use Rattle.sedtext.specs.Words.{row_of}
-use Rattle.sedpass.specs.Regions.{Reaches, Meets}
-use Rattle.sedpass.specs.Rows.{nodes_of, bits, RowAt}
+use Rattle.sedpass.specs.Regions.{ReachesEnd, Meets}
+use Rattle.sedpass.specs.Rows.{nodes_of, bits, RowOfPlace}
 use Rattle.sedpass.specs.Table.{State, state_of, StateAt, IsOffset, IsTable, MayBegin}
 use Rattle.sedpass.specs.declared.nodes.Prepared.{Prepared}
 use Rattle.sedpass.specs.declared.rows.Way.{Way}
@@ -29,7 +29,7 @@ starts_told false n end = one_start (n - end)
 -- the row is that of the place in the pass, seen from the text's end
 abbrev pub RowKept : Prepared → List ℕ → Way → (root end place : ℕ) → (ℕ → Bool) → (ℕ → Bool) → Type 0
 RowKept p w way root end place entered ended =
-    RowAt (nodes_of way p.arena.expr) (reverse w) root (starts_told way.sweeps (length w) end) way.keeps (length w - place) entered ended
+    RowOfPlace (nodes_of way p.arena.expr) (reverse w) root (starts_told way.sweeps (length w) end) way.keeps (length w - place) entered ended
 
 -- the state is that of the place in the pass
 abbrev pub KeptAt : Prepared → List ℕ → Way → (root end place : ℕ) → State → Type 0
@@ -37,7 +37,7 @@ KeptAt p w way root end place a = (a.root ≡ root) × RowKept p w way root end 
 
 -- of the places from one up to another: the node x is marked, or isn't, as asked
 abbrev pub AllMarked : List Node → List ℕ → ℕ → Starts → ℕ → Bool → ℕ → ℕ → Type 0
-AllMarked nodes w r t x marked from to = (q : ℕ) → from ≤ q → q < to → IsTrue marked ↔ Reaches nodes w r t x q
+AllMarked nodes w r t x marked from to = (q : ℕ) → from ≤ q → q < to → IsTrue marked ↔ ReachesEnd nodes w r t x q
 
 -- a pass over a from i and the kept one meet at each place before p, and not at p
 abbrev pub CeasesAt : List Node → List ℕ → ℕ → Starts → ℕ → ℕ → ℕ → Type 0
@@ -84,7 +84,7 @@ abbrev pub LiveFrom : Prepared → List ℕ → Table → Kept → ℕ → Type 
 LiveFrom p w t k place = (q : ℕ) → place ≤ q → q < k.region.to → IsLive p w t k.region.root k.region.end k.states.items q
 
 -- a pass over the region came down to the place, in the state whose cells begin at the offset
-pub record Passes (p : Prepared) (w : List ℕ) (t : Table) (k : Kept) (place offset : ℕ) : Type 0 where
+pub record PassesDownTo (p : Prepared) (w : List ℕ) (t : Table) (k : Kept) (place offset : ℕ) : Type 0 where
   pub region : IsRegion p w t k
   pub within : place ≤ k.region.end
   pub above : place ≤ k.region.to

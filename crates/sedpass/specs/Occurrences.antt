@@ -16,6 +16,6 @@ further_cost m n at = if nat_lt at n then search_cost m n (at + 1) else 0
 
 -- the steps in which an occurrence is sought from a place on: in the square of the text's length at most, and one at least for each
 -- byte from that place on up to its end
-pub record Looks (m n from before after : ℕ) (r : Option (ℕ × ℕ)) : Type 0 where
+pub record SearchTakes (m n from before after : ℕ) (r : Option (ℕ × ℕ)) : Type 0 where
   pub once : Takes before after (64 * m * m * (n + 1) * (n + 1))
   pub counts : IfSome r (λ f. TakesAtLeast before after (f.1 - from))

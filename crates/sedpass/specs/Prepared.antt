@@ -3,7 +3,7 @@
 use Rattle.std.specs.Prelude.{◌≡◌, ℕ, ◌+◌, ◌-◌, ◌≤◌, ◌<◌, Bool, true, false, ◌&&◌, ◌||◌, List, length, slice_get, slice_index_or, cond, Option, Some, None, IfSome}
 use Rattle.sedre.specs.Tree.{Tree, set, begin, end, seq, alt, group, star}
 use Rattle.sedre.specs.Sizes.{size}
-use Rattle.sedre.specs.Written.{Written, tree_at}
+use Rattle.sedre.specs.Written.{WrittenExpression, tree_at}
 use Rattle.sedre.specs.declared.types.Node.{Node}
 use Rattle.sedre.specs.declared.types.Node.TheVariants.{Set}
 use Rattle.sedpass.specs.Groups.{reported, holds, has_group}
@@ -93,7 +93,7 @@ pub record AreClasses (nodes : List Node) (classes : List ℕ) (columns : ℕ) :
   pub alike : AreAlike nodes classes
 
 -- what is told of an expression
-pub record IsPrepared (e : Written) (root : ℕ) (told : List Facts) (of : List ℕ) (columns : ℕ) (anchors : Bool) : Type 0 where
+pub record IsPrepared (e : WrittenExpression) (root : ℕ) (told : List Facts) (of : List ℕ) (columns : ℕ) (anchors : Bool) : Type 0 where
   pub last : root + 1 ≡ length e.nodes
   pub all : length told ≡ length e.nodes
   pub facts : AreFacts e.nodes told

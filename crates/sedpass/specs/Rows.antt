@@ -2,12 +2,12 @@
 -- What a state of a pass tells of a place, how it follows from what the leaves took, and that it decides the next.
 use Rattle.std.specs.Prelude.{◌≡◌, ℕ, ◌+◌, ◌≤◌, ◌<◌, ◌⊎◌, ◌↔◌, Bool, true, false, ◌&&◌, ◌||◌, List, length, slice_get, slice_index_or, Option, Some, IsTrue, nat_lt}
 use Rattle.sedre.specs.Arena.{IsPart}
-use Rattle.sedre.specs.Written.{Written}
+use Rattle.sedre.specs.Written.{WrittenExpression}
 use Rattle.sedre.specs.Mirror.{seen}
 use Rattle.sedre.specs.declared.types.Node.{Node}
 use Rattle.sedre.specs.declared.types.Node.TheVariants.{Empty, Set, Begin, End, Seq, Alt, Group, Star, Opt}
 use Rattle.sedtext.specs.declared.starts.Starts.{Starts}
-use Rattle.sedtext.specs.Matching.{takes}
+use Rattle.sedtext.specs.Matching.{byte_is_in}
 use Rattle.sedtext.specs.Places.{IsPlace}
 use Rattle.sedtext.specs.Reach.{At, IsStart, Enters, PartFrom}
 use Rattle.sedpass.specs.Regions.{EndsAt}
@@ -15,7 +15,7 @@ use Rattle.sedpass.specs.declared.nodes.Kind.{Kind}
 use Rattle.sedpass.specs.declared.rows.Way.{Way}
 
 -- the nodes that a pass of the way sees
-abbrev pub nodes_of : Way → Written → List Node
+abbrev pub nodes_of : Way → WrittenExpression → List Node
 nodes_of way e = (seen way.mirrored e).nodes
 
 -- whether places of the kind are the beginning, and the end, of the text as a pass sees it, mirrored or not
@@ -35,7 +35,7 @@ bits m marks c = nat_lt c m && slice_index_or marks c false
 
 -- the leaf could begin one byte before the place, and its set has that byte
 abbrev pub Took : List Node → List ℕ → ℕ → Starts → ℕ → ℕ → List Bool → Type 0
-Took nodes w r s j x members = (i : ℕ) × (i + 1 ≡ j) × Enters nodes w r s x i × IsTrue (takes (slice_get w i) members)
+Took nodes w r s j x members = (i : ℕ) × (i + 1 ≡ j) × Enters nodes w r s x i × IsTrue (byte_is_in (slice_get w i) members)
 
 -- whether the node is null, by whether its parts are
 abbrev pub NullBy : Type 0 → Type 0 → (ℕ → Type 0) → Node → Type 0
@@ -77,7 +77,7 @@ EntersBy here null ended c (Opt a first) = here
 
 -- the byte at p and the one at q are in the same sets
 abbrev pub SameBytes : List Node → Option ℕ → Option ℕ → Type 0
-SameBytes nodes a b = (x : ℕ) (members : List Bool) → slice_get nodes x ≡ Some (Set members) → takes a members ≡ takes b members
+SameBytes nodes a b = (x : ℕ) (members : List Bool) → slice_get nodes x ≡ Some (Set members) → byte_is_in a members ≡ byte_is_in b members
 
 -- the place p of w and the place q of v are of one kind: null strings are the same at both
 abbrev pub SameKind : List ℕ → ℕ → List ℕ → ℕ → Type 0
@@ -99,8 +99,8 @@ pub data InTree (nodes : List Node) (r : ℕ) : ℕ → Type 0 where
   part_of : (y c : ℕ) (node : Node) → slice_get nodes y ≡ Some node → IsPart node c → InTree nodes r y → InTree nodes r c
 
 -- the nodes in r are those from low to r
-abbrev pub IsRange : List Node → ℕ → ℕ → Type 0
-IsRange nodes low r = (c : ℕ) → ((low ≤ c) × (c ≤ r)) ↔ InTree nodes r c
+abbrev pub IsNodeRange : List Node → ℕ → ℕ → Type 0
+IsNodeRange nodes low r = (c : ℕ) → ((low ≤ c) × (c ≤ r)) ↔ InTree nodes r c
 
 -- c is a node in r below n
 abbrev pub TreeBelow : List Node → ℕ → ℕ → ℕ → Type 0
@@ -117,7 +117,7 @@ AreNull nodes w p null = (c : ℕ) → c < length nodes → IsTrue (null c) ↔ 
 -- the marks tell, with the byte that came, which leaves in r took it
 abbrev pub TellTook : List Node → List ℕ → ℕ → Starts → ℕ → Option ℕ → List Bool → Type 0
 TellTook nodes w r s p byte marks = (c : ℕ) (members : List Bool) → InTree nodes r c → slice_get nodes c ≡ Some (Set members) →
-    IsTrue (slice_index_or marks c false && takes byte members) ↔ Took nodes w r s p c members
+    IsTrue (slice_index_or marks c false && byte_is_in byte members) ↔ Took nodes w r s p c members
 
 -- the mark of a node that ends with a byte (of a leaf: whether it took the byte)
 abbrev pub ended_by : Bool → (ℕ → Bool) → (ℕ → Bool) → Node → Bool
@@ -148,7 +148,7 @@ enter_looks End = 0
 enter_looks other = 4
 
 -- the row of the place: which leaves are entered there, and which nodes have ended (of all in r where it keeps them, else r alone)
-pub record RowAt (nodes : List Node) (w : List ℕ) (r : ℕ) (s : Starts) (keeps : Bool) (p : ℕ) (entered ended : ℕ → Bool) : Type 0 where
+pub record RowOfPlace (nodes : List Node) (w : List ℕ) (r : ℕ) (s : Starts) (keeps : Bool) (p : ℕ) (entered ended : ℕ → Bool) : Type 0 where
   pub leaves : (c : ℕ) → IsTrue (entered c) ↔ ((members : List Bool) × (slice_get nodes c ≡ Some (Set members)) × Enters nodes w r s c p)
   pub ends : (c : ℕ) → IsTrue (ended c) ↔ ((IsTrue keeps ⊎ (c ≡ r)) × EndsAt nodes w r s c p)
 
@@ -160,8 +160,8 @@ pub record RowFrom (nodes : List Node) (w : List ℕ) (r : ℕ) (s : Starts) (ke
 -- from one row this byte leads to the other, at a place that is the text's end or not, and a start or not
 abbrev pub LeadsTo : List Node → ℕ → Bool → (ℕ → Bool) → (ℕ → Bool) → Option ℕ → Bool → Bool → (ℕ → Bool) → (ℕ → Bool) → Type 0
 LeadsTo nodes r keeps entered ended byte end start after after_ended = (w : List ℕ) (s : Starts) (p : ℕ) → SameBytes nodes (slice_get w p) byte →
-    (IsTrue end ↔ (p + 1 ≡ length w)) → (IsTrue start ↔ IsStart s (p + 1)) → RowAt nodes w r s keeps p entered ended → RowAt nodes w r s keeps (p + 1) after after_ended
+    (IsTrue end ↔ (p + 1 ≡ length w)) → (IsTrue start ↔ IsStart s (p + 1)) → RowOfPlace nodes w r s keeps p entered ended → RowOfPlace nodes w r s keeps (p + 1) after after_ended
 
 -- a pass from a place of the kind begins with the row
-abbrev pub IsFirst : List Node → ℕ → Bool → Bool → Bool → (ℕ → Bool) → (ℕ → Bool) → Type 0
-IsFirst nodes r keeps begin end entered ended = (w : List ℕ) (s : Starts) → IsPlace w s.first begin end → s.first ≤ s.last → RowAt nodes w r s keeps s.first entered ended
+abbrev pub IsFirstRow : List Node → ℕ → Bool → Bool → Bool → (ℕ → Bool) → (ℕ → Bool) → Type 0
+IsFirstRow nodes r keeps begin end entered ended = (w : List ℕ) (s : Starts) → IsPlace w s.first begin end → s.first ≤ s.last → RowOfPlace nodes w r s keeps s.first entered ended

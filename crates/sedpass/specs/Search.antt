@@ -1,13 +1,13 @@
 -- Private to the proofs: no contract that `sedmatch` makes public cites what stands here.
 -- Searches in one text, from places that don't fall: what they find, and what they may cost.
 use Rattle.std.specs.Prelude.{ℕ, ◌+◌, ◌-◌, ◌*◌, ◌<◌, ◌≤◌, if◌then◌else◌, List, length, Option, Some, None, IfSome, IsTrue}
-use Rattle.sedre.specs.Written.{tree}
+use Rattle.sedre.specs.Written.{expression_tree}
 use Rattle.sedre.specs.Steps.{TakesAtLeast}
 use Rattle.sedre.specs.Tree.{Tree}
 use Rattle.sedtext.specs.Answer.{SpanAnswer}
-use Rattle.sedtext.specs.Reach.{Longest}
+use Rattle.sedtext.specs.Reach.{IsLongestFrom}
 use Rattle.sedtext.specs.Beginnings.{AllBegin, NoneIn}
-use Rattle.sedtext.specs.Spans.{Found, NotFound}
+use Rattle.sedtext.specs.Spans.{IsLeftmostLongest, NotFound}
 use Rattle.sedtext.specs.declared.beginnings.Begins.{Begins}
 use Rattle.sedpass.specs.Table.{IsAhead, IsTable, SameShape}
 use Rattle.sedpass.specs.Kept.{IsKept, KeptRoom, SameSpace, owed}
@@ -29,7 +29,7 @@ pub record Serves (p : Prepared) (w : List ℕ) (back : Table) (s : Seeking) : T
 
 -- a search may be made: it is right where matches can begin, the table ahead is right, and what is kept serves
 pub record MaySearch (p : Prepared) (w : List ℕ) (first : Begins) (a b : Table) (s : Seeking) : Type 0 where
-  pub begins : AllBegin (tree p.arena.expr) first
+  pub begins : AllBegin (expression_tree p.arena.expr) first
   pub ahead : IsAhead p a
   pub serves : Serves p w b s
 
@@ -53,11 +53,11 @@ pub record IsTrial (e : Tree) (w : List ℕ) (from : ℕ) (t : Trial) : Type 0 w
   pub within : t.place ≤ length w
   pub reached : IfSome t.end (λ j. j ≤ t.place)
   pub none : NoneIn e w from t.start
-  pub longest : Longest e w t.start t.end
+  pub longest : IsLongestFrom e w t.start t.end
 
 -- what trials from the place on found
 abbrev pub TrialsAnswer : Tree → List ℕ → ℕ → Trials → Type 0
-TrialsAnswer e w from (Hit i j) = Found e w from i j × (j ≤ length w)
+TrialsAnswer e w from (Hit i j) = IsLeftmostLongest e w from i j × (j ≤ length w)
 TrialsAnswer e w from Nothing = NotFound e w from
 TrialsAnswer e w from (Tired k) = (from < k) × (k ≤ length w) × NoneIn e w from k
 
@@ -72,9 +72,9 @@ LooksInTrials from before after (Tired k) = TakesAtLeast before after (k - from)
 LooksInTrials from before after Nothing = Unit {0}
 
 -- what is kept is right, and the answer is the match from the place on, up to whose end each byte was looked at
-pub record IsNext (p : Prepared) (w : List ℕ) (from : ℕ) (back : Table) (k : Kept) (before after : ℕ) (r : Option (ℕ × ℕ)) : Type 0 where
+pub record IsNextMatch (p : Prepared) (w : List ℕ) (from : ℕ) (back : Table) (k : Kept) (before after : ℕ) (r : Option (ℕ × ℕ)) : Type 0 where
   pub kept : IsKept p w back k
-  pub answer : SpanAnswer (tree p.arena.expr) w from r
+  pub answer : SpanAnswer (expression_tree p.arena.expr) w from r
   pub counts : LooksFrom from before after r
 
 -- Costs, with m nodes in a text of n bytes.

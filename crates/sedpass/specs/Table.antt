@@ -5,7 +5,7 @@ use Rattle.sedre.specs.Arena.{IsExpr}
 use Rattle.sedre.specs.declared.types.Node.{Node}
 use Rattle.sedtext.specs.declared.starts.Starts.{Starts}
 use Rattle.sedtext.specs.Words.{row_of}
-use Rattle.sedpass.specs.Rows.{nodes_of, at_begin, at_end, bits, RowAt, LeadsTo, IsFirst}
+use Rattle.sedpass.specs.Rows.{nodes_of, at_begin, at_end, bits, RowOfPlace, LeadsTo, IsFirstRow}
 use Rattle.sedpass.specs.declared.nodes.Kind.{Kind}
 use Rattle.sedpass.specs.declared.nodes.Prepared.{Prepared}
 use Rattle.sedpass.specs.declared.rows.Way.{Way}
@@ -43,7 +43,7 @@ HasRow root entered ended a = (a.root ≡ root) × (a.entered ≡ entered) × (a
 
 -- the state's row is that of the place
 abbrev pub StateAt : List Node → List ℕ → Starts → Bool → ℕ → State → Type 0
-StateAt nodes w s keeps p a = RowAt nodes w a.root s keeps p a.entered a.ended
+StateAt nodes w s keeps p a = RowOfPlace nodes w a.root s keeps p a.entered a.ended
 
 -- this byte leads from the one state to the other, where the text's edge comes after it, or doesn't
 abbrev pub LeadsOn : List Node → Way → State → ℕ → Bool → State → Type 0
@@ -51,7 +51,7 @@ LeadsOn nodes way a byte edge b = (b.root ≡ a.root) × LeadsTo nodes a.root wa
 
 -- a pass for the root begins in the state, at places of the kind
 abbrev pub BeginsIn : List Node → Way → ℕ → Kind → State → Type 0
-BeginsIn nodes way root kind a = (a.root ≡ root) × IsFirst nodes root way.keeps (at_begin way.mirrored kind) (at_end way.mirrored kind) a.entered a.ended
+BeginsIn nodes way root kind a = (a.root ≡ root) × IsFirstRow nodes root way.keeps (at_begin way.mirrored kind) (at_end way.mirrored kind) a.entered a.ended
 
 -- Codes.
 

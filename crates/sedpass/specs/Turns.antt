@@ -14,13 +14,13 @@ use Rattle.sedpass.specs.declared.groups.Task.TheVariants.{Apart, Forget}
 use Rattle.sedpass.specs.declared.groups.Then.{Then}
 use Rattle.sedpass.specs.declared.groups.Then.TheVariants.{Done, One, Two}
 use Rattle.sedtext.specs.Reach.{At, one_start}
-use Rattle.sedtext.specs.Spans.{Copies}
+use Rattle.sedtext.specs.Spans.{CopiesLead}
 use Rattle.sedtext.specs.Caps.{LastCut, LastCopy, IsReport}
 use Rattle.sedtext.specs.Groups.{Groups, span_of}
 use Rattle.sedtext.specs.Nodes.{parts_of}
-use Rattle.sedpass.specs.Regions.{Reaches, IsLastIn, StopsAt, RunsTo, NextCopy, IsRunOf}
+use Rattle.sedpass.specs.Regions.{ReachesEnd, IsLastIn, StopsAt, RunsTo, NextCopy, IsRunOf}
 use Rattle.sedpass.specs.Walks.{Walk, entered, Meets}
-use Rattle.sedpass.specs.Overlay.{State, is_due, settle, drop_groups, Back, HasGroup, NoneDue, IsStart}
+use Rattle.sedpass.specs.Overlay.{State, is_due, settle, drop_groups, Back, GroupStandsIn, NoneDue, IsStart}
 
 -- the tasks, the first one first, bring the state `old` to the state `new`
 abbrev pub Runs : List Node → List ℕ → List Task → State → State → Type 0
@@ -121,11 +121,11 @@ pub record IsHere (nodes : List Node) (w : List ℕ) (x i j : ℕ) (node : Node)
 
 -- group k is the node itself, or stands in a part of it
 abbrev pub HasGroupAt : List Node → Node → ℕ → Type 0
-HasGroupAt nodes (Seq a b) k = HasGroup (tree_at nodes a.index) k ⊎ HasGroup (tree_at nodes b.index) k
-HasGroupAt nodes (Alt a b) k = HasGroup (tree_at nodes a.index) k ⊎ HasGroup (tree_at nodes b.index) k
-HasGroupAt nodes (Group n a) k = (n ≡ k) ⊎ HasGroup (tree_at nodes a.index) k
-HasGroupAt nodes (Star a first) k = HasGroup (tree_at nodes a.index) k
-HasGroupAt nodes (Opt a first) k = HasGroup (tree_at nodes a.index) k
+HasGroupAt nodes (Seq a b) k = GroupStandsIn (tree_at nodes a.index) k ⊎ GroupStandsIn (tree_at nodes b.index) k
+HasGroupAt nodes (Alt a b) k = GroupStandsIn (tree_at nodes a.index) k ⊎ GroupStandsIn (tree_at nodes b.index) k
+HasGroupAt nodes (Group n a) k = (n ≡ k) ⊎ GroupStandsIn (tree_at nodes a.index) k
+HasGroupAt nodes (Star a first) k = GroupStandsIn (tree_at nodes a.index) k
+HasGroupAt nodes (Opt a first) k = GroupStandsIn (tree_at nodes a.index) k
 HasGroupAt nodes other k = ⊥
 
 -- what is due has no span so far
@@ -183,7 +183,7 @@ SeqParts = (nodes : List Node) (w : List ℕ) (x i j left right : ℕ) (a b : No
 
 abbrev pub StarParts : Type 0
 StarParts = (nodes : List Node) (w : List ℕ) (x i j part : ℕ) (a : NodeId) (first : Bool) → IsHere nodes w x i j (Star a first) → part ≡ a.index →
-    (part < length nodes) × Copies (At nodes w part) j i
+    (part < length nodes) × CopiesLead (At nodes w part) j i
 
 abbrev pub OptParts : Type 0
 OptParts = (nodes : List Node) (w : List ℕ) (x i j part : ℕ) (a : NodeId) (first : Bool) → IsHere nodes w x i j (Opt a first) → part ≡ a.index →
@@ -203,17 +203,17 @@ RunSpine = (nodes : List Node) (w : List ℕ) (r x i p j c left right : ℕ) (a 
 -- an alternation: the left alternative's mark
 abbrev pub AltSpine : Type 0
 AltSpine = (nodes : List Node) (w : List ℕ) (r x i j left right : ℕ) (a b : NodeId) → IsHere nodes w x i j (Alt a b) → left ≡ a.index → right ≡ b.index → IsLastIn nodes r x →
-    IsLastIn nodes r left × IsLastIn nodes r right × (Reaches nodes w r (one_start j) left i ↔ At nodes w left i j)
+    IsLastIn nodes r left × IsLastIn nodes r right × (ReachesEnd nodes w r (one_start j) left i ↔ At nodes w left i j)
 
 -- a group, or what may be there once
 abbrev pub PartSpine : Type 0
 PartSpine = (nodes : List Node) (w : List ℕ) (r x k i j part : ℕ) (a : NodeId) (first : Bool) → IsHere nodes w x i j (Group k a) ⊎ IsHere nodes w x i j (Opt a first) → part ≡ a.index → IsLastIn nodes r x →
-    IsLastIn nodes r part × (Reaches nodes w r (one_start j) part i ↔ At nodes w part i j)
+    IsLastIn nodes r part × (ReachesEnd nodes w r (one_start j) part i ↔ At nodes w part i j)
 
 -- a repetition: from a place from which copies lead on to the region's end, the passes cease to meet at the end of the next copy
 abbrev pub StarSpine : Type 0
 StarSpine = (nodes : List Node) (w : List ℕ) (r x i p j l part : ℕ) (a : NodeId) (first : Bool) → IsHere nodes w x i j (Star a first) → part ≡ a.index → IsLastIn nodes r x →
-    Copies (At nodes w part) j l → l < j → StopsAt nodes w r j part l p → NextCopy (At nodes w part) l j p
+    CopiesLead (At nodes w part) j l → l < j → StopsAt nodes w r j part l p → NextCopy (At nodes w part) l j p
 
 -- after a turn the tasks on the stack are fewer, as the loop needs it
 abbrev pub TurnedLaw : Type 0
@@ -230,9 +230,9 @@ RoomLaw = (nodes : List Node) (tasks : List Task) → length tasks ≤ weights n
 
 -- the groups of a node are those of its parts, and its own
 abbrev pub GroupsAtLaw : Type 0
-GroupsAtLaw = (nodes : List Node) (x k : ℕ) (node : Node) → IsArena nodes → slice_get nodes x ≡ Some node → HasGroup (tree_at nodes x) k ↔ HasGroupAt nodes node k
+GroupsAtLaw = (nodes : List Node) (x k : ℕ) (node : Node) → IsArena nodes → slice_get nodes x ≡ Some node → GroupStandsIn (tree_at nodes x) k ↔ HasGroupAt nodes node k
 
 -- where what is due has no span, to forget the groups of a tree is to take them from what is due
 abbrev pub DropLaw : Type 0
 DropLaw = (t : Tree) (s new : State) → Blank s → new.spans ≡ s.spans → length new.due ≡ length s.due →
-    ((k : ℕ) → IsTrue (is_due new k) ↔ (IsTrue (is_due s k) × (HasGroup t k → ⊥))) → new ≡ drop_groups t s
+    ((k : ℕ) → IsTrue (is_due new k) ↔ (IsTrue (is_due s k) × (GroupStandsIn t k → ⊥))) → new ≡ drop_groups t s

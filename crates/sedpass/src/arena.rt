@@ -4,7 +4,7 @@ ghost use Rattle.sedre.specs.Arena.{IsArena, IsExpr};
 ghost use Rattle.sedre.specs.declared.types.Node.TheVariants.{Empty};
 ghost use Rattle.sedre.specs.Mirror.{node_seen, seen};
 ghost use Rattle.sedre.specs.Packed.{PartsBelow};
-ghost use Rattle.sedre.specs.Steps.{Takes, Counted, TakesAtLeast};
+ghost use Rattle.sedre.specs.Steps.{Takes, TakesExactly, TakesAtLeast};
 ghost use Rattle.sedpass.specs.Prepared.{AreFacts};
 
 use crate::nodes::{Facts, facts_of};
@@ -115,7 +115,7 @@ impl Arena {
         requires inside { x < length self.now.expr.nodes }
         ensures node { slice_get (seen mirrored self.now.expr).nodes x ≡ Some result }
         ensures cost { Takes steps.old steps.new 1 }
-        ensures counts { Counted steps.old steps.new 1 }
+        ensures counts { TakesExactly steps.old steps.new 1 }
         ensures parts { PartsBelow x result }
         ensures arena { IsArena (seen mirrored self.now.expr).nodes }
         ensures few { length self.now.expr.nodes ≤ 65536 }

@@ -1,6 +1,6 @@
 //! How a table names its states by codes, and lays out their cells.
 ghost use Rattle.std.specs.Prelude.{◌≡◌, ℕ, Bool, false, ◌+◌, ◌*◌, ◌^◌, ◌<◌, ◌≤◌, length, slice_index_or, IfSome, vec_len, vec_capacity};
-ghost use Rattle.sedre.specs.Steps.{Counted, Takes};
+ghost use Rattle.sedre.specs.Steps.{TakesExactly, Takes};
 ghost use Rattle.sedpass.specs.Cells.{stops, code_of, IsLayout, IsColumn};
 
 use crate::nodes::Prepared;
@@ -183,7 +183,7 @@ pub fn empty_cells(cells: &mut Vec<u32>, from: usize, width: usize, size: usize,
     ensures clear { (k : ℕ) → k < width → slice_index_or cells.new.items (from + k) 0 ≡ 0 }
     ensures before { (k : ℕ) → k < from → slice_index_or cells.new.items k 0 ≡ slice_index_or cells.old.items k 0 }
     ensures cost { Takes steps.old steps.new width }
-    ensures counts { Counted steps.old steps.new width }
+    ensures counts { TakesExactly steps.old steps.new width }
 {
     steps.add(width);
     let there = width.min(cells.len() - from);

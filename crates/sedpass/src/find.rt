@@ -3,7 +3,7 @@ ghost use Rattle.std.specs.Prelude.{◌+◌, ◌*◌, ◌≤◌, ◌↔◌, leng
 ghost use Rattle.sedtext.specs.Beginnings.{AllBegin};
 ghost use Rattle.sedtext.specs.Following.{PassesOver};
 ghost use Rattle.sedtext.specs.Spans.{SomeFound};
-ghost use Rattle.sedre.specs.Written.{tree};
+ghost use Rattle.sedre.specs.Written.{expression_tree};
 ghost use Rattle.sedre.specs.Steps.{Takes};
 ghost use Rattle.sedpass.specs.Find.{IsSweep};
 ghost use Rattle.sedpass.specs.Table.{SameShape};
@@ -24,12 +24,12 @@ pub fn is_match(
     steps: &mut Steps,
 ) -> bool
     requires from { from ≤ length subject.text.now }
-    requires begins { AllBegin (tree subject.prepared.now.arena.expr) begins.now }
+    requires begins { AllBegin (expression_tree subject.prepared.now.arena.expr) begins.now }
     requires any { IsSweep subject.prepared.now any.old }
     ensures any { IsSweep subject.entry.prepared.now any.new }
     ensures shape { SameShape any.old any.new }
-    ensures matches { IsTrue result ↔ SomeFound (tree subject.entry.prepared.now.arena.expr) subject.entry.text.now from }
-    ensures passes { IsTrue result → PassesOver (tree subject.entry.prepared.now.arena.expr) subject.entry.text.now from steps.old steps.new }
+    ensures matches { IsTrue result ↔ SomeFound (expression_tree subject.entry.prepared.now.arena.expr) subject.entry.text.now from }
+    ensures passes { IsTrue result → PassesOver (expression_tree subject.entry.prepared.now.arena.expr) subject.entry.text.now from steps.old steps.new }
     ensures cost { Takes steps.old steps.new (41 * length subject.entry.prepared.now.arena.expr.nodes * (length subject.entry.text.now + 1)) }
 {
     match next_start(begins, subject.text, from, steps) {

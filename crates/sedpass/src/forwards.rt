@@ -2,9 +2,9 @@
 ghost use Rattle.std.specs.Prelude.{◌≡◌, ℕ, true, false, ◌+◌, ◌-◌, ◌*◌, ◌/◌, ◌^◌, ◌<◌, ◌≤◌, ◌↔◌, length, min, Some, IfSome, IsTrue, is_some};
 ghost use Rattle.sedtext.specs.Costs.{Pays};
 ghost use Rattle.sedtext.specs.Following.{PassesOver};
-ghost use Rattle.sedtext.specs.Reach.{Longest};
+ghost use Rattle.sedtext.specs.Reach.{IsLongestFrom};
 ghost use Rattle.sedtext.specs.Spans.{SomeFound};
-ghost use Rattle.sedre.specs.Written.{tree};
+ghost use Rattle.sedre.specs.Written.{expression_tree};
 ghost use Rattle.sedre.specs.Steps.{Takes, TakesAtLeast};
 ghost use Rattle.sedpass.specs.Rows.{nodes_of};
 ghost use Rattle.sedpass.specs.Table.{Names, NamesNext, IsOffset, IsTable, SameShape};
@@ -195,9 +195,9 @@ impl Table {
         ensures after { from ≤ result.place }
         ensures within { result.place ≤ length text.now }
         ensures reached { IfSome result.end (λ j. j ≤ result.place) }
-        ensures longest { self.old.way.sweeps ≡ false → Longest (tree prepared.now.arena.expr) text.now from result.end }
-        ensures found { IsTrue self.old.way.sweeps → IsTrue (is_some result.end) ↔ SomeFound (tree prepared.now.arena.expr) text.now from }
-        ensures passes { IfSome result.end (λ j. PassesOver (tree prepared.now.arena.expr) text.now from steps.old steps.new) }
+        ensures longest { self.old.way.sweeps ≡ false → IsLongestFrom (expression_tree prepared.now.arena.expr) text.now from result.end }
+        ensures found { IsTrue self.old.way.sweeps → IsTrue (is_some result.end) ↔ SomeFound (expression_tree prepared.now.arena.expr) text.now from }
+        ensures passes { IfSome result.end (λ j. PassesOver (expression_tree prepared.now.arena.expr) text.now from steps.old steps.new) }
         ensures cost { Pays steps.old steps.new (40 * length prepared.now.arena.expr.nodes * (result.place + 1)) (40 * length prepared.now.arena.expr.nodes * from) }
         ensures counts { TakesAtLeast steps.old steps.new (2 * (result.place - from) + 1) }
     {

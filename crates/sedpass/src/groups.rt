@@ -4,7 +4,7 @@
 //! are due. What stands left of it waits as a task.
 ghost use Rattle.std.specs.Prelude.{◌≡◌, ℕ, false, List, [], ◌∷◌, ◌++◌, reverse, ◌+◌, ◌-◌, ◌*◌, ◌^◌, ◌<◌, ◌≤◌, ◌↔◌, length, IsTrue, Option, Some, None, IfOk, IfSome, slice_index_or, vec_len, vec_capacity, slice_get};
 ghost use Rattle.sedre.specs.Arena.{IsArena};
-ghost use Rattle.sedre.specs.Written.{tree_at, tree};
+ghost use Rattle.sedre.specs.Written.{tree_at, expression_tree};
 ghost use Rattle.sedre.specs.Steps.{Takes, TakesAtLeast};
 ghost use Rattle.sedpass.specs.Regions.{StopsAt, RunsTo, IsRunOf};
 ghost use Rattle.sedre.specs.declared.types.Node.{Node};
@@ -12,9 +12,9 @@ ghost use Rattle.sedre.specs.declared.types.Node.TheVariants.{Seq, Alt, Star, Op
 ghost use Rattle.sedtext.specs.Caps.{LastCut, LastCopy, IsReport};
 ghost use Rattle.sedtext.specs.Groups.{Groups};
 ghost use Rattle.sedtext.specs.Costs.{Pays};
-ghost use Rattle.sedtext.specs.Places.{InOrder};
+ghost use Rattle.sedtext.specs.Places.{Ascending};
 ghost use Rattle.sedtext.specs.Reach.{At};
-ghost use Rattle.sedpass.specs.Decide.{found, HasAll, nodes_in, text_in, told_of, IsTold, Stands, Repeats, EndsIn, GoesOn, IsDesk, IsMatch, Turns, waiting, long_of, part_cost, kind_cost, IsOpen, LooksAt, next_of, owed_in, IsSetAt, HasDesk, IsSpent, AreGroupTables, AreRoomy, HasSpace, SameRooms, SameTables};
+ghost use Rattle.sedpass.specs.Decide.{found, HasAll, nodes_in, text_in, told_of, IsTold, Stands, IsRepetitionHere, EndsRegion, GoesOn, IsDesk, IsMatch, Turns, waiting, long_of, part_cost, kind_cost, HasNoKnownLength, LooksAt, next_of, owed_in, IsSetAt, HasDesk, IsSpent, AreGroupTables, AreRoomy, HasSpace, SameRooms, SameTables};
 ghost use Rattle.sedpass.specs.Overlay.{State, settle, drop_groups, NoneDue};
 ghost use Rattle.sedpass.specs.Prepared.{IsFacts};
 ghost use Rattle.sedpass.specs.Turns.{AreReady, LooksAtEntered, Reduces, weights, looks, tasks_of};
@@ -275,16 +275,16 @@ fn last_copy(
     a: NodeId,
     steps: &mut Steps,
 ) -> usize
-    requires here { Repeats subject here a }
+    requires here { IsRepetitionHere subject here a }
     requires some { here.start < here.stop }
-    requires ends { EndsIn subject kept.old.region here }
+    requires ends { EndsRegion subject kept.old.region here }
     requires desk { IsDesk subject tables.old kept.old }
     ensures copy { LastCopy (At (nodes_in subject.entry) (text_in subject.entry) a.index) here.stop here.start result }
     ensures desk { IsDesk subject.entry tables.new kept.new }
     ensures shape { SameTables tables.old tables.new }
     ensures space { SameSpace kept.old kept.new }
     ensures cost { Takes steps.old steps.new (part_cost (length (nodes_in subject.entry)) (long_of here)) }
-    ensures counts { IsOpen (nodes_in subject.entry) a.index → TakesAtLeast steps.old steps.new (here.stop - here.start) }
+    ensures counts { HasNoKnownLength (nodes_in subject.entry) a.index → TakesAtLeast steps.old steps.new (here.stop - here.start) }
 {
     let part = a.index();
     if let Some(length) = facts_at(subject.prepared, part).length {
@@ -307,7 +307,7 @@ fn fixed_cut(subject: Subject, here: Matched, left: usize, right: usize) -> Opti
     requires parts { (k : ℕ) × At (nodes_in subject) (text_in subject) left here.start k × At (nodes_in subject) (text_in subject) right k here.stop }
     ensures cut { IfSome result (λ k. LastCut (At (nodes_in subject.entry) (text_in subject.entry) left) (At (nodes_in subject.entry) (text_in subject.entry) right) here.start here.stop k) }
     ensures some { result ≡ None → here.start ≡ here.stop → ⊥ }
-    ensures open { IsOpen (nodes_in subject.entry) left → IsOpen (nodes_in subject.entry) right → IfSome result (λ k. k ≡ here.start) }
+    ensures open { HasNoKnownLength (nodes_in subject.entry) left → HasNoKnownLength (nodes_in subject.entry) right → IfSome result (λ k. k ≡ here.start) }
 {
     if here.start == here.stop {
         return Some(here.start);
@@ -341,7 +341,7 @@ fn last_cut(
     steps: &mut Steps,
 ) -> usize
     requires here { Stands subject here (Seq a b) }
-    requires ends { EndsIn subject kept.old.region here }
+    requires ends { EndsRegion subject kept.old.region here }
     requires desk { IsDesk subject tables.old kept.old }
     ensures cut { LastCut (At (nodes_in subject.entry) (text_in subject.entry) a.index) (At (nodes_in subject.entry) (text_in subject.entry) b.index) here.start here.stop result }
     ensures same { SameKept kept.old kept.new }
@@ -349,7 +349,7 @@ fn last_cut(
     ensures shape { SameTables tables.old tables.new }
     ensures space { SameSpace kept.old kept.new }
     ensures cost { Takes steps.old steps.new (part_cost (length (nodes_in subject.entry)) (long_of here)) }
-    ensures counts { IsOpen (nodes_in subject.entry) a.index → IsOpen (nodes_in subject.entry) b.index → TakesAtLeast steps.old steps.new (result - here.start) }
+    ensures counts { HasNoKnownLength (nodes_in subject.entry) a.index → HasNoKnownLength (nodes_in subject.entry) b.index → TakesAtLeast steps.old steps.new (result - here.start) }
 {
     let (left, right) = (a.index(), b.index());
     if let Some(cut) = fixed_cut(subject, here, left, right) {
@@ -392,7 +392,7 @@ fn turn_seq(
 ) -> Then
     requires here { Stands subject here (Seq parts.0 parts.1) }
     requires whole { holds due 0 ≡ false }
-    requires ends { EndsIn subject kept.old.region here }
+    requires ends { EndsRegion subject kept.old.region here }
     requires desk { IsDesk subject tables.old kept.old }
     ensures turn { (spans : Groups) → Turns subject.entry here (told_of due spans) (told_of due spans) result }
     ensures goes { GoesOn subject.entry kept.new.region (next_of result) }
@@ -428,7 +428,7 @@ fn turn_alt(
     steps: &mut Steps,
 ) -> Then
     requires here { Stands subject here (Alt a b) }
-    requires ends { EndsIn subject kept.old.region here }
+    requires ends { EndsRegion subject kept.old.region here }
     requires desk { IsDesk subject tables.old kept.old }
     ensures turn { (s : State) → Turns subject.entry here s s result }
     ensures goes { GoesOn subject.entry kept.new.region (next_of result) }
@@ -461,7 +461,7 @@ fn turn_star(
     steps: &mut Steps,
 ) -> Then
     requires here { Stands subject here (Star a first) }
-    requires ends { EndsIn subject kept.old.region here }
+    requires ends { EndsRegion subject kept.old.region here }
     requires desk { IsDesk subject tables.old kept.old }
     ensures turn { (s : State) → Turns subject.entry here s s result }
     ensures goes { GoesOn subject.entry kept.new.region (next_of result) }
@@ -493,7 +493,7 @@ fn turn_star(
 fn turn_opt(subject: Subject, here: Matched, a: NodeId, first: bool, steps: &mut Steps) -> Then
     requires here { Stands subject here (Opt a first) }
     ensures turn { (s : State) → Turns subject.entry here s s result }
-    ensures goes { (r : Region) → EndsIn subject.entry r here → GoesOn subject.entry r (next_of result) }
+    ensures goes { (r : Region) → EndsRegion subject.entry r here → GoesOn subject.entry r (next_of result) }
     ensures cost { Takes steps.old steps.new (kind_cost subject.entry here (next_of result)) }
 {
     let part = a.index();
@@ -517,7 +517,7 @@ fn turn_node(
     steps: &mut Steps,
 ) -> Then
     requires here { Stands subject here node.now }
-    requires ends { EndsIn subject kept.old.region here }
+    requires ends { EndsRegion subject kept.old.region here }
     requires desk { IsDesk subject tables.old kept.old }
     requires told { IsTold told.old }
     ensures turn { Turns subject.entry here (told_of told.old.due told.old.spans) (told_of told.new.due told.new.spans) result }
@@ -558,7 +558,7 @@ fn turn(
 ) -> Then
     requires arena { IsArena (nodes_in subject) }
     requires there { IsMatch subject here }
-    requires ends { EndsIn subject kept.old.region here }
+    requires ends { EndsRegion subject kept.old.region here }
     requires desk { IsDesk subject tables.old kept.old }
     requires told { IsTold told.old }
     ensures turn { Turns subject.entry here (told_of told.old.due told.old.spans) (told_of told.new.due told.new.spans) result }
@@ -677,7 +677,7 @@ fn work(
 /// The groups of the whole expression.
 pub fn all_groups(prepared: &Prepared) -> GroupSet
     ensures whole { holds result 0 ≡ false }
-    ensures all { HasAll result (tree prepared.now.arena.expr) }
+    ensures all { HasAll result (expression_tree prepared.now.arena.expr) }
 {
     facts_at(prepared, prepared.root).groups
 }
@@ -694,13 +694,13 @@ pub fn decide(
     steps: &mut Steps,
 ) -> Spans
     requires whole { holds due 0 ≡ false }
-    requires order { InOrder start stop (length (text_in subject)) }
+    requires order { Ascending start stop (length (text_in subject)) }
     requires spans { At (nodes_in subject) (text_in subject) subject.prepared.now.root start stop }
     requires tasks { room.old.tasks.items ≡ [] }
     requires room { 2 * length (nodes_in subject) ≤ vec_capacity room.old.tasks }
     requires desk { HasDesk subject tables.old room.old.kept }
-    ensures report { HasAll due (tree subject.entry.prepared.now.arena.expr) → IsReport (tree subject.entry.prepared.now.arena.expr) (text_in subject.entry) start stop result }
-    ensures due { (groups : Groups) (k : ℕ) → IsReport (tree subject.entry.prepared.now.arena.expr) (text_in subject.entry) start stop groups → IsTrue (holds due k) →
+    ensures report { HasAll due (expression_tree subject.entry.prepared.now.arena.expr) → IsReport (expression_tree subject.entry.prepared.now.arena.expr) (text_in subject.entry) start stop result }
+    ensures due { (groups : Groups) (k : ℕ) → IsReport (expression_tree subject.entry.prepared.now.arena.expr) (text_in subject.entry) start stop groups → IsTrue (holds due k) →
         slice_index_or result k None ≡ slice_index_or groups k None }
     ensures tasks { room.new.tasks.items ≡ [] }
     ensures room { vec_capacity room.old.tasks ≤ vec_capacity room.new.tasks }
@@ -709,7 +709,7 @@ pub fn decide(
     ensures space { SameSpace room.old.kept room.new.kept }
     ensures cost { let m = length (nodes_in subject.entry) in Takes steps.old steps.new (172 * m * (m - 1) * (stop - start) + 2 * m) }
     ensures counts { TakesAtLeast steps.old steps.new (found result - 1) }
-    ensures entered { EntersGroups (tree subject.entry.prepared.now.arena.expr) result steps.old steps.new }
+    ensures entered { EntersGroups (expression_tree subject.entry.prepared.now.arena.expr) result steps.old steps.new }
 {
     subject.prepared.is_expression();
     let mut spans = [None; 10];

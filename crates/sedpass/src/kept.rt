@@ -8,10 +8,10 @@ ghost use Rattle.sedtext.specs.Costs.{Pays};
 ghost use Rattle.sedtext.specs.Reach.{At, one_start};
 ghost use Rattle.sedtext.specs.Words.{row_of};
 ghost use Rattle.sedre.specs.Steps.{Takes, TakesAtLeast};
-ghost use Rattle.sedpass.specs.Regions.{IsLastIn, Meets, Reaches};
+ghost use Rattle.sedpass.specs.Regions.{IsLastIn, Meets, ReachesEnd};
 ghost use Rattle.sedpass.specs.Rows.{nodes_of};
 ghost use Rattle.sedpass.specs.Table.{AddsStates, IsOffset, IsTable, MayBegin, SameShape, StateAt, state_of};
-ghost use Rattle.sedpass.specs.Kept.{AllMarked, CeasesAt, EdgesFrom, Follows, IsKept, IsRegion, KeptAt, KeptRoom, Meet, Passes, SameKept, SameSpace, again, ends_told, owed};
+ghost use Rattle.sedpass.specs.Kept.{AllMarked, CeasesAt, EdgesFrom, Follows, IsKept, IsRegion, KeptAt, KeptRoom, Meet, PassesDownTo, SameKept, SameSpace, again, ends_told, owed};
 
 use crate::cells::offset_of;
 use crate::nodes::{Prepared, kind_of};
@@ -135,8 +135,8 @@ impl Kept {
         offset: usize,
         steps: &mut Steps,
     ) -> usize
-        requires passes { Passes subject.prepared.now subject.text.now table.old self.old (place + 1) offset }
-        ensures passes { Passes subject.entry.prepared.now subject.entry.text.now table.new self.new place result }
+        requires passes { PassesDownTo subject.prepared.now subject.text.now table.old self.old (place + 1) offset }
+        ensures passes { PassesDownTo subject.entry.prepared.now subject.entry.text.now table.new self.new place result }
         ensures shape { SameShape table.old table.new }
         ensures same { SameKept self.old self.new }
         ensures low { self.new.region.low ≡ self.old.region.low }
@@ -175,9 +175,9 @@ impl Kept {
         offset: usize,
         steps: &mut Steps,
     ) -> usize
-        requires passes { Passes subject.prepared.now subject.text.now table.old self.old high offset }
+        requires passes { PassesDownTo subject.prepared.now subject.text.now table.old self.old high offset }
         requires order { low < high }
-        ensures passes { Passes subject.entry.prepared.now subject.entry.text.now table.new self.new low result }
+        ensures passes { PassesDownTo subject.entry.prepared.now subject.entry.text.now table.new self.new low result }
         ensures shape { SameShape table.old table.new }
         ensures same { SameKept self.old self.new }
         ensures low { self.new.region.low ≡ self.old.region.low }
@@ -204,9 +204,9 @@ impl Kept {
         offset: usize,
         steps: &mut Steps,
     )
-        requires passes { Passes subject.prepared.now subject.text.now table.now self.old (block * (table.now.room - 1) + (table.now.room - 1)) offset }
+        requires passes { PassesDownTo subject.prepared.now subject.text.now table.now self.old (block * (table.now.room - 1) + (table.now.room - 1)) offset }
         requires edges { EdgesFrom subject.prepared.now subject.text.now table.now self.old (block * (table.now.room - 1) + (table.now.room - 1)) }
-        ensures passes { Passes subject.entry.prepared.now subject.entry.text.now table.now self.new (block * (table.now.room - 1) + (table.now.room - 1)) offset }
+        ensures passes { PassesDownTo subject.entry.prepared.now subject.entry.text.now table.now self.new (block * (table.now.room - 1) + (table.now.room - 1)) offset }
         ensures edges { EdgesFrom subject.entry.prepared.now subject.entry.text.now table.now self.new (block * (table.now.room - 1)) }
         ensures same { SameKept self.old self.new }
         ensures region { self.new.region ≡ self.old.region }
@@ -234,11 +234,11 @@ impl Kept {
         offset: usize,
         steps: &mut Steps,
     )
-        requires passes { Passes subject.prepared.now subject.text.now table.now self.old place offset }
+        requires passes { PassesDownTo subject.prepared.now subject.text.now table.now self.old place offset }
         requires edges { EdgesFrom subject.prepared.now subject.text.now table.now self.old place }
         requires right { place < self.old.region.end → place ≡ block * (table.now.room - 1) + (table.now.room - 1) }
         requires within { place ≤ block * (table.now.room - 1) + (table.now.room - 1) }
-        ensures passes { Passes subject.entry.prepared.now subject.entry.text.now table.now self.new place offset }
+        ensures passes { PassesDownTo subject.entry.prepared.now subject.entry.text.now table.now self.new place offset }
         ensures edges { EdgesFrom subject.entry.prepared.now subject.entry.text.now table.now self.new (block * (table.now.room - 1)) }
         ensures same { SameKept self.old self.new }
         ensures region { self.new.region ≡ self.old.region }
@@ -260,11 +260,11 @@ impl Kept {
         offset: usize,
         steps: &mut Steps,
     ) -> (usize, usize)
-        requires passes { Passes subject.prepared.now subject.text.now table.old self.old high offset }
+        requires passes { PassesDownTo subject.prepared.now subject.text.now table.old self.old high offset }
         requires edges { EdgesFrom subject.prepared.now subject.text.now table.old self.old high }
         requires order { low < high }
         requires right { high < self.old.region.end → (b : ℕ) × (high ≡ b * (table.old.room - 1)) }
-        ensures passes { Passes subject.entry.prepared.now subject.entry.text.now table.new self.new result.0 result.1 }
+        ensures passes { PassesDownTo subject.entry.prepared.now subject.entry.text.now table.new self.new result.0 result.1 }
         ensures edges { EdgesFrom subject.entry.prepared.now subject.entry.text.now table.new self.new result.0 }
         ensures down { (low ≤ result.0) × (result.0 < high) }
         ensures right { low < result.0 → (b : ℕ) × (result.0 ≡ b * (table.new.room - 1)) }
@@ -474,7 +474,7 @@ impl Kept {
         ensures within { result ≤ self.old.region.end }
         ensures passed { AllMarked subject.entry.prepared.now.arena.expr.nodes subject.entry.text.now self.old.region.root
             (ends_told table.old.way.sweeps (length subject.entry.text.now) self.old.region.end) x (not marked) from result }
-        ensures found { result < self.old.region.end → IsTrue marked ↔ Reaches subject.entry.prepared.now.arena.expr.nodes subject.entry.text.now self.old.region.root
+        ensures found { result < self.old.region.end → IsTrue marked ↔ ReachesEnd subject.entry.prepared.now.arena.expr.nodes subject.entry.text.now self.old.region.root
             (ends_told table.old.way.sweeps (length subject.entry.text.now) self.old.region.end) x result }
         ensures cost { let m = length subject.entry.prepared.now.arena.expr.nodes in
             Pays steps.old steps.new (owed m self.old.region from + 2 * result + 2) (owed m self.new.region result + 2 * from) }
@@ -510,7 +510,7 @@ impl Kept {
         ensures within { result ≤ self.now.region.to }
         ensures passed { AllMarked subject.entry.prepared.now.arena.expr.nodes subject.entry.text.now self.now.region.root
             (ends_told table.now.way.sweeps (length subject.entry.text.now) self.now.region.end) x (not marked) from result }
-        ensures found { result < self.now.region.to → IsTrue marked ↔ Reaches subject.entry.prepared.now.arena.expr.nodes subject.entry.text.now self.now.region.root
+        ensures found { result < self.now.region.to → IsTrue marked ↔ ReachesEnd subject.entry.prepared.now.arena.expr.nodes subject.entry.text.now self.now.region.root
             (ends_told table.now.way.sweeps (length subject.entry.text.now) self.now.region.end) x result }
         ensures cost { Pays steps.old steps.new (result + 1) from }
         ensures counts { TakesAtLeast steps.old steps.new (result - from) }

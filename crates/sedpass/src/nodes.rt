@@ -6,12 +6,12 @@ ghost use Rattle.sedre.specs.Arena.{IsArena, IsExpr};
 ghost use Rattle.sedre.specs.Written.{tree_at};
 ghost use Rattle.sedre.specs.Mirror.{seen};
 ghost use Rattle.sedre.specs.Packed.{PartsBelow};
-ghost use Rattle.sedre.specs.Steps.{Takes, Counted, TakesAtLeast};
+ghost use Rattle.sedre.specs.Steps.{Takes, TakesExactly, TakesAtLeast};
 ghost use Rattle.sedre.specs.Tree.{Tree, seq, alt, group, star, opt};
 ghost use Rattle.sedre.specs.Sizes.{size};
 ghost use Rattle.sedpass.specs.Lengths.{sum_of, same_of};
 ghost use Rattle.sedpass.specs.Prepared.{IsPrepared, IsFacts, AreFacts, IsLeaf, IsShort, IsOfEachKind, null_at, null_in};
-ghost use Rattle.sedpass.specs.Rows.{IsRange};
+ghost use Rattle.sedpass.specs.Rows.{IsNodeRange};
 ghost use Rattle.sedpass.specs.declared.nodes.Facts.{Facts};
 
 use crate::arena::Arena;
@@ -363,7 +363,7 @@ impl Prepared {
         requires inside { x < length self.now.arena.expr.nodes }
         ensures node { slice_get (seen mirrored self.now.arena.expr).nodes x ≡ Some result }
         ensures cost { Takes steps.old steps.new 1 }
-        ensures counts { Counted steps.old steps.new 1 }
+        ensures counts { TakesExactly steps.old steps.new 1 }
         ensures parts { PartsBelow x result }
         ensures arena { IsArena (seen mirrored self.now.arena.expr).nodes }
         ensures few { length self.now.arena.expr.nodes ≤ 65536 }
@@ -385,7 +385,7 @@ impl Prepared {
     pub fn low(&self, x: usize) -> usize
         requires inside { x < length self.now.arena.expr.nodes }
         ensures size { result + size (tree_at self.now.arena.expr.nodes x) ≡ x + 1 }
-        ensures range { (mirrored : Bool) → IsRange (seen mirrored self.now.arena.expr).nodes result x }
+        ensures range { (mirrored : Bool) → IsNodeRange (seen mirrored self.now.arena.expr).nodes result x }
     {
         self.arena.is_expression();
         self.facts[x].low
@@ -397,7 +397,7 @@ impl Prepared {
         requires inside { x < length self.now.arena.expr.nodes }
         ensures null { result ≡ null_in self.now.arena.expr.nodes kind x }
         ensures cost { Takes steps.old steps.new 1 }
-        ensures counts { Counted steps.old steps.new 1 }
+        ensures counts { TakesExactly steps.old steps.new 1 }
     {
         steps.add(1);
         self.facts[x].null.at(kind)

@@ -7,10 +7,10 @@ ghost use Rattle.sedtext.specs.Costs.{Pays};
 ghost use Rattle.sedtext.specs.Following.{LiesOn, next_span};
 ghost use Rattle.sedtext.specs.Matching.{found};
 ghost use Rattle.sedtext.specs.NextMatch.{unless_null_at};
-ghost use Rattle.sedre.specs.Written.{tree};
+ghost use Rattle.sedre.specs.Written.{expression_tree};
 ghost use Rattle.sedre.specs.Steps.{Takes};
 ghost use Rattle.sedpass.specs.Kept.{KeptRoom};
-ghost use Rattle.sedpass.specs.Occurrences.{Looks, further_cost, owed_behind};
+ghost use Rattle.sedpass.specs.Occurrences.{SearchTakes, further_cost, owed_behind};
 ghost use Rattle.sedpass.specs.Search.{LooksFrom, MaySearch, Searched, Serves, owed_after, owed_search};
 ghost use Rattle.sedpass.specs.Table.{IsTable};
 
@@ -63,7 +63,7 @@ fn past_null(
     requires at { at ≤ length subject.text.now }
     requires ready { MaySearch subject.prepared.now subject.text.now begins.now ahead.old back.old seeking.old }
     ensures searched { Searched subject.entry.prepared.now subject.entry.text.now ahead.old ahead.new back.old back.new seeking.old seeking.new }
-    ensures next { result ≡ if nat_lt at (length subject.entry.text.now) then found (tree subject.entry.prepared.now.arena.expr) subject.entry.text.now (at + 1) else None }
+    ensures next { result ≡ if nat_lt at (length subject.entry.text.now) then found (expression_tree subject.entry.prepared.now.arena.expr) subject.entry.text.now (at + 1) else None }
     ensures lies { IfSome result (λ f. (at < f.0) × (f.0 ≤ f.1) × (f.1 ≤ length subject.entry.text.now)) }
     ensures cost { let m = length subject.entry.prepared.now.arena.expr.nodes in let n = length subject.entry.text.now in
         Pays steps.old steps.new (owed_search m n seeking.old (at + 1) + 42 * m) (owed_after (owed_search m n seeking.new) result) }
@@ -94,11 +94,11 @@ pub fn next_after(
     requires at { at ≤ length subject.text.now }
     requires ready { MaySearch subject.prepared.now subject.text.now begins.now ahead.old back.old seeking.old }
     ensures searched { Searched subject.entry.prepared.now subject.entry.text.now ahead.old ahead.new back.old back.new seeking.old seeking.new }
-    ensures next { result ≡ next_span (found (tree subject.entry.prepared.now.arena.expr) subject.entry.text.now) (length subject.entry.text.now) (Some at) }
+    ensures next { result ≡ next_span (found (expression_tree subject.entry.prepared.now.arena.expr) subject.entry.text.now) (length subject.entry.text.now) (Some at) }
     ensures lies { IfSome result (LiesOn (length subject.entry.text.now) (Some at)) }
     ensures cost { let m = length subject.entry.prepared.now.arena.expr.nodes in let n = length subject.entry.text.now in
         Pays steps.old steps.new (owed_behind m n seeking.old at) (owed_after (owed_behind m n seeking.new) result) }
-    ensures looks { Looks (length subject.entry.prepared.now.arena.expr.nodes) (length subject.entry.text.now) at steps.old steps.new result }
+    ensures looks { SearchTakes (length subject.entry.prepared.now.arena.expr.nodes) (length subject.entry.text.now) at steps.old steps.new result }
 {
     let first = next_match(subject, begins, ahead, back, seeking, at, steps);
     if !is_null_at(first, at) {

@@ -9,12 +9,12 @@ ghost use Rattle.sedre.specs.Packed.{PartsBelow};
 ghost use Rattle.sedre.specs.Sizes.{size};
 ghost use Rattle.sedre.specs.Steps.{Takes, TakesAtLeast};
 ghost use Rattle.sedre.specs.declared.types.Node.TheVariants.{Set};
-ghost use Rattle.sedtext.specs.Matching.{takes};
+ghost use Rattle.sedtext.specs.Matching.{byte_is_in};
 ghost use Rattle.sedtext.specs.PartMarks.{enter_parts};
 ghost use Rattle.sedtext.specs.Places.{takes_any};
 ghost use Rattle.sedtext.specs.Reach.{IsStart, Ends, Marked};
 ghost use Rattle.sedpass.specs.Prepared.{null_in, SameNulls};
-ghost use Rattle.sedpass.specs.Rows.{nodes_of, at_begin, at_end, bits, LeadsTo, IsFirst, RowAt};
+ghost use Rattle.sedpass.specs.Rows.{nodes_of, at_begin, at_end, bits, LeadsTo, IsFirstRow, RowOfPlace};
 ghost use Rattle.sedpass.specs.Rows.{InTree, AreNull, TellTook, ended_by, leaf_looks, part_looks, enter_looks};
 
 use crate::nodes::{Kind, Prepared};
@@ -64,7 +64,7 @@ impl Work {
 #[inline(always)]
 fn took(node: &Node, x: usize, byte: Option<u8>, leaves: &NodeMarks, steps: &mut Steps) -> bool
     requires { x < 65536 }
-    ensures took { (members : List Bool) → node.now ≡ Set members → result ≡ (slice_index_or leaves.now x false && takes byte members) }
+    ensures took { (members : List Bool) → node.now ≡ Set members → result ≡ (slice_index_or leaves.now x false && byte_is_in byte members) }
     ensures cost { Takes steps.old steps.new (leaf_looks node.now) }
 {
     match node {
@@ -206,7 +206,7 @@ fn descend(
     ensures row { (w : List ℕ) (s : Starts) (place : ℕ) → AreNull (nodes_of way prepared.now.arena.expr) w place (null_in prepared.now.arena.expr.nodes kind) →
         Marked work.old.ended (InTree (nodes_of way prepared.now.arena.expr) root) (λ c. Ends (nodes_of way prepared.now.arena.expr) w root s c place) →
         (IsTrue first ↔ IsStart s place) →
-        RowAt (nodes_of way prepared.now.arena.expr) w root s way.keeps place
+        RowOfPlace (nodes_of way prepared.now.arena.expr) w root s way.keeps place
         (bits (length prepared.now.arena.expr.nodes) work.new.leaves) (bits (length prepared.now.arena.expr.nodes) work.new.ends) }
     ensures cost { Takes steps.old steps.new (12 * length prepared.now.arena.expr.nodes - 3) }
     ensures counts { TakesAtLeast steps.old steps.new (2 * length prepared.now.arena.expr.nodes + 6 * size (tree_at prepared.now.arena.expr.nodes root)) }
@@ -286,7 +286,7 @@ pub fn first(
     steps: &mut Steps,
 )
     requires root { root < length prepared.now.arena.expr.nodes }
-    ensures first { IsFirst (nodes_of way prepared.now.arena.expr) root way.keeps (at_begin way.mirrored kind) (at_end way.mirrored kind)
+    ensures first { IsFirstRow (nodes_of way prepared.now.arena.expr) root way.keeps (at_begin way.mirrored kind) (at_end way.mirrored kind)
         (bits (length prepared.now.arena.expr.nodes) work.new.leaves) (bits (length prepared.now.arena.expr.nodes) work.new.ends) }
     ensures cost { Takes steps.old steps.new (17 * length prepared.now.arena.expr.nodes - 3) }
     ensures counts { TakesAtLeast steps.old steps.new

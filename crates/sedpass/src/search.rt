@@ -8,12 +8,12 @@ ghost use Rattle.sedtext.specs.Beginnings.{AllBegin};
 ghost use Rattle.sedtext.specs.Costs.{Pays};
 ghost use Rattle.sedtext.specs.Reach.{At};
 ghost use Rattle.sedtext.specs.Spans.{NotFound};
-ghost use Rattle.sedre.specs.Written.{tree};
+ghost use Rattle.sedre.specs.Written.{expression_tree};
 ghost use Rattle.sedre.specs.Steps.{Takes, TakesAtLeast};
 ghost use Rattle.sedpass.specs.declared.search.Trials.TheVariants.{Nothing, Tired};
 ghost use Rattle.sedpass.specs.Table.{IsAhead, IsTable, SameShape};
 ghost use Rattle.sedpass.specs.Kept.{IsKept, KeptRoom, owed};
-ghost use Rattle.sedpass.specs.Search.{IsNext, IsTrial, LooksFrom, LooksInTrials, MaySearch, Searched, TablesStay, TrialsAnswer, trial_cost, trials_cost, trials_room, owed_kept, owed_search, owed_after, search_cost};
+ghost use Rattle.sedpass.specs.Search.{IsNextMatch, IsTrial, LooksFrom, LooksInTrials, MaySearch, Searched, TablesStay, TrialsAnswer, trial_cost, trials_cost, trials_room, owed_kept, owed_search, owed_after, search_cost};
 
 use crate::kept::{Kept, Subject};
 use crate::nodes::kind_of;
@@ -65,12 +65,12 @@ fn try_next(
     steps: &mut Steps,
 ) -> Option<Trial>
     requires from { from ≤ length subject.text.now }
-    requires begins { AllBegin (tree subject.prepared.now.arena.expr) begins.now }
+    requires begins { AllBegin (expression_tree subject.prepared.now.arena.expr) begins.now }
     requires ahead { IsAhead subject.prepared.now ahead.old }
     ensures ahead { IsAhead subject.entry.prepared.now ahead.new }
     ensures ahead_shape { SameShape ahead.old ahead.new }
-    ensures none { IfNone result (NotFound (tree subject.entry.prepared.now.arena.expr) subject.entry.text.now from) }
-    ensures trial { IfSome result (IsTrial (tree subject.entry.prepared.now.arena.expr) subject.entry.text.now from) }
+    ensures none { IfNone result (NotFound (expression_tree subject.entry.prepared.now.arena.expr) subject.entry.text.now from) }
+    ensures trial { IfSome result (IsTrial (expression_tree subject.entry.prepared.now.arena.expr) subject.entry.text.now from) }
     ensures cost { Pays steps.old steps.new (trial_cost (length subject.entry.prepared.now.arena.expr.nodes) (length subject.entry.text.now) result) from }
     ensures counts { IfSome result (λ t. TakesAtLeast steps.old steps.new (t.start - from + 2 * (t.place - t.start) + 1)) }
 {
@@ -106,12 +106,12 @@ fn try_all(
     steps: &mut Steps,
 ) -> Trials
     requires from { from ≤ length subject.text.now }
-    requires begins { AllBegin (tree subject.prepared.now.arena.expr) begins.now }
+    requires begins { AllBegin (expression_tree subject.prepared.now.arena.expr) begins.now }
     requires ahead { IsAhead subject.prepared.now ahead.old }
     requires tried { tried.old ≤ length subject.text.now }
     ensures ahead { IsAhead subject.entry.prepared.now ahead.new }
     ensures ahead_shape { SameShape ahead.old ahead.new }
-    ensures answer { TrialsAnswer (tree subject.entry.prepared.now.arena.expr) subject.entry.text.now from result }
+    ensures answer { TrialsAnswer (expression_tree subject.entry.prepared.now.arena.expr) subject.entry.text.now from result }
     ensures few { trials_room tried.new result ≤ max tried.old (length subject.entry.text.now / 8) + (length subject.entry.text.now + 1 - from) }
     ensures cost { let m = length subject.entry.prepared.now.arena.expr.nodes in
         Pays steps.old steps.new (40 * m * tried.new + trials_cost m (length subject.entry.text.now) result) (40 * m * tried.old + from) }
@@ -166,7 +166,7 @@ fn next_kept(
     requires kept { IsKept subject.prepared.now subject.text.now back.old kept.old }
     requires sweeps { IsTrue back.old.way.sweeps }
     ensures tables { TablesStay subject.entry.prepared.now ahead.old ahead.new back.old back.new kept.old kept.new }
-    ensures next { IsNext subject.entry.prepared.now subject.entry.text.now from back.new kept.new steps.old steps.new result }
+    ensures next { IsNextMatch subject.entry.prepared.now subject.entry.text.now from back.new kept.new steps.old steps.new result }
     ensures cost { let m = length subject.entry.prepared.now.arena.expr.nodes in let n = length subject.entry.text.now in
         Pays steps.old steps.new (owed_kept m n kept.old.region from + 42 * m) (owed_after (λ q. owed_kept m n kept.new.region q) result) }
 {
@@ -194,7 +194,7 @@ pub fn next_begun(
     requires room { KeptRoom (length subject.prepared.now.arena.expr.nodes) (length subject.text.now) back.old kept.old }
     requires sweeps { IsTrue back.old.way.sweeps }
     ensures tables { TablesStay subject.entry.prepared.now ahead.old ahead.new back.old back.new kept.old kept.new }
-    ensures next { IsNext subject.entry.prepared.now subject.entry.text.now from back.new kept.new steps.old steps.new result }
+    ensures next { IsNextMatch subject.entry.prepared.now subject.entry.text.now from back.new kept.new steps.old steps.new result }
     ensures cost { let m = length subject.entry.prepared.now.arena.expr.nodes in let n = length subject.entry.text.now in
         Pays steps.old steps.new (142 * m * (n - from) + 42 * m) (owed_after (λ q. owed_kept m n kept.new.region q) result) }
 {
@@ -216,7 +216,7 @@ pub fn next_match(
     requires from { from ≤ length subject.text.now }
     requires ready { MaySearch subject.prepared.now subject.text.now begins.now ahead.old back.old seeking.old }
     ensures searched { Searched subject.entry.prepared.now subject.entry.text.now ahead.old ahead.new back.old back.new seeking.old seeking.new }
-    ensures answer { SpanAnswer (tree subject.entry.prepared.now.arena.expr) subject.entry.text.now from result }
+    ensures answer { SpanAnswer (expression_tree subject.entry.prepared.now.arena.expr) subject.entry.text.now from result }
     ensures cost { let m = length subject.entry.prepared.now.arena.expr.nodes in let n = length subject.entry.text.now in
         Pays steps.old steps.new (owed_search m n seeking.old from + 42 * m) (owed_after (owed_search m n seeking.new) result) }
     ensures each { Takes steps.old steps.new (search_cost (length subject.entry.prepared.now.arena.expr.nodes) (length subject.entry.text.now) from) }

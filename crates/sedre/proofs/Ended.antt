@@ -14,10 +14,10 @@ use Rattle.sedre.specs.Items.{item_at}
 use Rattle.sedre.specs.Tree.{Tree}
 use Rattle.sedre.specs.Sizes.{size, depth}
 use Rattle.sedre.specs.Arena.{IsExpr}
-use Rattle.sedre.specs.Written.{Written, tree}
+use Rattle.sedre.specs.Written.{WrittenExpression, expression_tree}
 use Rattle.sedre.specs.Grammar.{ReadsAs, FaultyWith}
-use Rattle.sedre.specs.Stacks.{Nesting, CanTake, whole, Stored, postorder, written, part_of}
-use Rattle.sedre.specs.Finished.{Numbered, IsFinished, IsOverLimit}
+use Rattle.sedre.specs.Stacks.{Nesting, CanTake, whole_level, Stored, postorder, written, part_of}
+use Rattle.sedre.specs.Finished.{GroupsNumbered, IsFinished, IsOverLimit}
 use Rattle.sedre.proofs.Written.{length-postorder}
 use Rattle.sedre.proofs.Kept.{fitting_all}
 use Rattle.sedre.proofs.Holding.{whole_tree, whole_expr}
@@ -66,22 +66,22 @@ small_tree limit s t p st e h = omega (arith, h, st.limit_is, ap (λ (q : Part).
 pub shallow_tree : (limit : ℕ) (s : Stack) (t : Tree) (p : Part) → Stored limit s (t ∷ []) → p ≡ get_or s.parts.items 0 p → p.depth ≤ 600 → depth t ≤ 600
 shallow_tree limit s t p st e h = omega (arith, h, ap (λ (q : Part). q.depth) (one_part limit s t p st e))
 
-pub finished_expr : (limit : ℕ) (s : Stack) (t : Tree) (p : Part) (groups opened : ℕ) → Stored limit s (t ∷ []) → p ≡ get_or s.parts.items 0 p → p.end < s.limit → opened ≡ groups → Numbered groups t → limit ≤ 65537 → IsExpr s.nodes opened
+pub finished_expr : (limit : ℕ) (s : Stack) (t : Tree) (p : Part) (groups opened : ℕ) → Stored limit s (t ∷ []) → p ≡ get_or s.parts.items 0 p → p.end < s.limit → opened ≡ groups → GroupsNumbered groups t → limit ≤ 65537 → IsExpr s.nodes opened
 finished_expr limit s t p groups opened st e h eg g most =
     let small : size t < limit = small_tree limit s t p st e h in
     subst (λ (n : ℕ). IsExpr s.nodes n) (sym eg) (whole_expr t groups s.nodes (one_tree limit s t st small) g (omega (arith, small, most)))
 
-pub finished : (limit : ℕ) (s : Nesting) (k : Stack) (p : Part) (e : Written) (opened : ℕ) → Stored limit k (whole s.top ∷ []) → p ≡ get_or k.parts.items 0 p → p.end < k.limit → p.depth ≤ 600 → opened ≡ s.opened →
+pub finished : (limit : ℕ) (s : Nesting) (k : Stack) (p : Part) (e : WrittenExpression) (opened : ℕ) → Stored limit k (whole_level s.top ∷ []) → p ≡ get_or k.parts.items 0 p → p.end < k.limit → p.depth ≤ 600 → opened ≡ s.opened →
     e ≡ record { nodes = k.nodes; groups = opened } → IsFinished s limit e
 finished limit s k p e opened st read small shallow eg is =
-    let size_is : size (whole s.top) < limit = small_tree limit k (whole s.top) p st read small in
-    let nodes : k.nodes ≡ postorder 0 (whole s.top) = one_tree limit k (whole s.top) st size_is in
-    let same : e.nodes ≡ k.nodes = ap (λ (x : Written). x.nodes) is in
+    let size_is : size (whole_level s.top) < limit = small_tree limit k (whole_level s.top) p st read small in
+    let nodes : k.nodes ≡ postorder 0 (whole_level s.top) = one_tree limit k (whole_level s.top) st size_is in
+    let same : e.nodes ≡ k.nodes = ap (λ (x : WrittenExpression). x.nodes) is in
     record {
-      tree_is = ap tree is ∙ whole_tree (whole s.top) k.nodes nodes;
-      groups = ap (λ (x : Written). x.groups) is ∙ eg;
-      count = ap length (same ∙ nodes) ∙ length-postorder 0 (whole s.top);
-      shallow = shallow_tree limit k (whole s.top) p st read shallow;
+      tree_is = ap expression_tree is ∙ whole_tree (whole_level s.top) k.nodes nodes;
+      groups = ap (λ (x : WrittenExpression). x.groups) is ∙ eg;
+      count = ap length (same ∙ nodes) ∙ length-postorder 0 (whole_level s.top);
+      shallow = shallow_tree limit k (whole_level s.top) p st read shallow;
       small = size_is;
     }
 
@@ -97,16 +97,16 @@ module _ (kind : Kind) (folded : Bool) (delimiter : Option ℕ) (text : List ℕ
   can_take AtEnd r f closes = tt
 
   -- what the whole text reads as has its groups numbered
-  pub reads_numbered : {e : Tree} {groups : ℕ} → ReadsAs kind folded delimiter text e groups → Numbered groups e
-  reads_numbered {e = e} {groups = groups} r = subst (Numbered groups) r.is (of_alternation groups r.alternatives (of_alternatives r.grammar).1)
+  pub reads_numbered : {e : Tree} {groups : ℕ} → ReadsAs kind folded delimiter text e groups → GroupsNumbered groups e
+  reads_numbered {e = e} {groups = groups} r = subst (GroupsNumbered groups) r.is (of_alternation groups r.alternatives (of_alternatives r.grammar).1)
 
-  pub finished_reads : {before : Option Item} {at : ℕ} (s : Nesting) (limit : ℕ) (e : Written) → Reading kind folded delimiter text before at s → item_at kind folded delimiter text before at ≡ Ends → s.below ≡ [] →
-      IsFinished s limit e → ReadsAs kind folded delimiter text (tree e) e.groups
+  pub finished_reads : {before : Option Item} {at : ℕ} (s : Nesting) (limit : ℕ) (e : WrittenExpression) → Reading kind folded delimiter text before at s → item_at kind folded delimiter text before at ≡ Ends → s.below ≡ [] →
+      IsFinished s limit e → ReadsAs kind folded delimiter text (expression_tree e) e.groups
   finished_reads s limit e r f none d =
       let R : Tree → ℕ → Type 0 = λ t g. ReadsAs kind folded delimiter text t g in
-      subst (λ (g : ℕ). R (tree e) g) (sym d.groups) (subst (λ (t : Tree). R t s.opened) (sym d.tree_is) (reading_whole kind folded delimiter text r f none))
+      subst (λ (g : ℕ). R (expression_tree e) g) (sym d.groups) (subst (λ (t : Tree). R t s.opened) (sym d.tree_is) (reading_whole kind folded delimiter text r f none))
 
-  pub finished_no_fault : {before : Option Item} {at : ℕ} (s : Nesting) (max_nodes : ℕ) (e : Written) → Reading kind folded delimiter text before at s → item_at kind folded delimiter text before at ≡ Ends → s.below ≡ [] →
+  pub finished_no_fault : {before : Option Item} {at : ℕ} (s : Nesting) (max_nodes : ℕ) (e : WrittenExpression) → Reading kind folded delimiter text before at s → item_at kind folded delimiter text before at ≡ Ends → s.below ≡ [] →
       IsFinished s (max_nodes + 1) e → (place : ℕ) (reason : Reason) → FaultyWith kind folded delimiter text max_nodes place reason → ⊥
   finished_no_fault s max_nodes e r f none d place reason = no_fault kind folded delimiter text (reading_whole kind folded delimiter text r f none) d.shallow (omega (arith, d.small))
 

@@ -10,7 +10,7 @@ use Rattle.sedre.specs.Tree.{Tree}
 use Rattle.sedre.specs.Sizes.{size, depth}
 use Rattle.sedre.specs.Repeats.{concatenation, alternation}
 use Rattle.sedre.specs.Items.{item_at}
-use Rattle.sedre.specs.Grammar.{AreAlternatives, ArePieces, IsPiece, first, another, none, more, byte, begin_anchor, end_anchor, subexpression, repeated, Cut, done, item, open_groups, ReadsAs, Row, bad, stray, unclosed, deep, large, FaultyWith}
+use Rattle.sedre.specs.Grammar.{AreAlternatives, ArePieces, IsPiece, first, another, none, more, byte, begin_anchor, end_anchor, subexpression, repeated, CutExpression, done, item, open_groups, ReadsAs, Row, bad, stray, unclosed, deep, large, FaultyWith}
 use Rattle.sedre.specs.Stacks.{Nesting}
 use Rattle.sedre.proofs.Complete.{alternatives_read, at as state_at}
 
@@ -66,37 +66,37 @@ module _ (kind : Kind) (folded : Bool) (delimiter : Option ℕ) (text : List ℕ
   record After (before : Option Item) (at : ℕ) (is : List Item) (to : ℕ) (js : List Item) (mid : ℕ) : Type 0 where
     pub rest : List Item
     pub whole : is ≡ js ++ rest
-    pub cut : Cut kind folded delimiter text (last_or before js) mid rest to
+    pub cut : CutExpression kind folded delimiter text (last_or before js) mid rest to
     pub last : last_or before is ≡ last_or (last_or before js) rest
 
   -- a whole cut begins with each other one
-  begins : {before : Option Item} {at to mid : ℕ} {is js : List Item} → Cut kind folded delimiter text before at is to → item_at kind folded delimiter text (last_or before is) to ≡ Ends →
-      Cut kind folded delimiter text before at js mid → After before at is to js mid
+  begins : {before : Option Item} {at to mid : ℕ} {is js : List Item} → CutExpression kind folded delimiter text before at is to → item_at kind folded delimiter text (last_or before is) to ≡ Ends →
+      CutExpression kind folded delimiter text before at js mid → After before at is to js mid
   begins {is = is} c e done = record { rest = is; whole = refl; cut = c; last = refl }
   begins done e (item f d) = absurd cc
   begins {before = before} {at = at} {to = to} {mid = mid} (item {next = n} {i = i} {is = is} g c) e (item {next = m} {i = j} {is = js} f d) =
       let one : Is i n ≡ Is j m = sym g ∙ f in
       let same_item : i ≡ j = cc in
       let same_place : n ≡ m = cc in
-      let C : Item → ℕ → Type 0 = λ x y. Cut kind folded delimiter text (Some x) y js mid in
+      let C : Item → ℕ → Type 0 = λ x y. CutExpression kind folded delimiter text (Some x) y js mid in
       let d' : C i n = subst (λ (x : Item). C x n) (sym same_item) (subst (λ (y : ℕ). C j y) (sym same_place) d) in
       let b = begins c e d' in
       let D : Item → Type 0 = λ x. After before at (i ∷ is) to (x ∷ js) mid in
       subst D same_item (record { rest = b.rest; whole = ap (λ (r : List Item). i ∷ r) b.whole; cut = b.cut; last = b.last })
 
-  never_bad : {before : Option Item} {mid to : ℕ} {rest : List Item} {place : ℕ} {reason : Reason} → Cut kind folded delimiter text before mid rest to →
+  never_bad : {before : Option Item} {mid to : ℕ} {rest : List Item} {place : ℕ} {reason : Reason} → CutExpression kind folded delimiter text before mid rest to →
       item_at kind folded delimiter text (last_or before rest) to ≡ Ends → item_at kind folded delimiter text before mid ≡ Bad (record { place = place; reason = reason }) → ⊥
   never_bad done e f = cc
   never_bad (item g c) e f = cc
 
-  closes : {before : Option Item} {mid to next : ℕ} {rest : List Item} → Cut kind folded delimiter text before mid rest to →
+  closes : {before : Option Item} {mid to next : ℕ} {rest : List Item} → CutExpression kind folded delimiter text before mid rest to →
       item_at kind folded delimiter text (last_or before rest) to ≡ Ends → item_at kind folded delimiter text before mid ≡ Is Close next → (more_items : List Item) × (rest ≡ Close ∷ more_items)
   closes done e f = absurd cc
   closes (item {next = n} {i = i} {is = is} g c) e f =
       let same : i ≡ Close = cc in
       (is, ap (λ (x : Item). x ∷ is) same)
 
-  at_end : {before : Option Item} {mid to : ℕ} {rest : List Item} → Cut kind folded delimiter text before mid rest to →
+  at_end : {before : Option Item} {mid to : ℕ} {rest : List Item} → CutExpression kind folded delimiter text before mid rest to →
       item_at kind folded delimiter text before mid ≡ Ends → rest ≡ []
   at_end done f = refl
   at_end (item g c) f = absurd cc

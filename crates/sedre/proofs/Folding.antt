@@ -19,7 +19,7 @@ use Rattle.sedre.specs.Repeats.{concatenation, alternation, copies, optional, fu
 use Rattle.sedre.specs.Brackets.{ListedBytes, judged, list_at, listed, elements_from, is_negated}
 use Rattle.sedre.specs.Symbols.{symbol}
 use Rattle.sedre.specs.Items.{item_at, item_for, list_item}
-use Rattle.sedre.specs.Grammar.{AreAlternatives, ArePieces, IsPiece, first, another, none, more, byte, begin_anchor, end_anchor, subexpression, repeated, Cut, done, item, open_groups, Row, bad, stray, unclosed, deep, large, FaultyWith}
+use Rattle.sedre.specs.Grammar.{AreAlternatives, ArePieces, IsPiece, first, another, none, more, byte, begin_anchor, end_anchor, subexpression, repeated, CutExpression, done, item, open_groups, Row, bad, stray, unclosed, deep, large, FaultyWith}
 
 -- ---- trees
 
@@ -263,11 +263,11 @@ module _ (kind : Kind) (f g : Bool) (delimiter : Option ℕ) (text : List ℕ) w
 
   record CutAlike (before after : Option Item) (at : ℕ) (is : List Item) (to : ℕ) : Type 0 where
     pub items : List Item
-    pub cut : Cut kind g delimiter text after at items to
+    pub cut : CutExpression kind g delimiter text after at items to
     pub alike : Alike is items
     pub last : AlikeBefore (last_or before is) (last_or after items)
 
-  cut_alike : {before after : Option Item} {at to : ℕ} {is : List Item} → Cut kind f delimiter text before at is to → AlikeBefore before after → CutAlike before after at is to
+  cut_alike : {before after : Option Item} {at to : ℕ} {is : List Item} → CutExpression kind f delimiter text before at is to → AlikeBefore before after → CutAlike before after at is to
   cut_alike done b = record { items = []; cut = done; alike = empty; last = b }
   cut_alike {at = at} (item e c) b =
       let h = is_alike (here_alike at b) e in

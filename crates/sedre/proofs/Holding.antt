@@ -10,7 +10,7 @@ use Rattle.sedre.specs.Sizes.{size}
 use Rattle.sedre.specs.Arena.{IsArena, FollowsParts, IsExpr}
 use Rattle.sedre.specs.Written.{tree_of, tree_at}
 use Rattle.sedre.specs.Packed.{id}
-use Rattle.sedre.specs.Finished.{Numbered}
+use Rattle.sedre.specs.Finished.{GroupsNumbered}
 use Rattle.sedre.specs.Stacks.{postorder}
 use Rattle.sedre.proofs.Written.{size_positive, length-postorder}
 use Rattle.sedre.proofs.Tables.{arena_of}
@@ -210,7 +210,7 @@ all-append : (most : ℕ) (xs ys : List Node) → AllNumbered most xs → AllNum
 all-append most [] ys p q = q
 all-append most (x ∷ xs) ys p q = (p.0, all-append most xs ys p.1 q)
 
-numbered_nodes : (most base : ℕ) (t : Tree) → Numbered most t → AllNumbered most (postorder base t)
+numbered_nodes : (most base : ℕ) (t : Tree) → GroupsNumbered most t → AllNumbered most (postorder base t)
 numbered_nodes most base empty h = (tt, tt)
 numbered_nodes most base (set members) h = (tt, tt)
 numbered_nodes most base begin h = (tt, tt)
@@ -234,7 +234,7 @@ whole_tree t ns e =
     let held : Holds ns 0 t = holds_of t ns [] [] 0 (e ∙ sym (append-nil (postorder 0 t))) refl in
     ap (tree_at ns) (let i : length ns - 1 ≡ 0 + size t - 1 = omega (arith, ap length e, length-postorder 0 t) in i) ∙ root_is ns arena t 0 held
 
-pub whole_expr : (t : Tree) (groups : ℕ) (ns : List Node) → ns ≡ postorder 0 t → Numbered groups t → size t ≤ 65536 → IsExpr ns groups
+pub whole_expr : (t : Tree) (groups : ℕ) (ns : List Node) → ns ≡ postorder 0 t → GroupsNumbered groups t → size t ≤ 65536 → IsExpr ns groups
 whole_expr t groups ns e g small =
     let arena : IsArena ns = subst IsArena (sym e) (arena_of t) in
     let held : Holds ns 0 t = holds_of t ns [] [] 0 (e ∙ sym (append-nil (postorder 0 t))) refl in

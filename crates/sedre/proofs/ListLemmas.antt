@@ -12,7 +12,7 @@ use Rattle.sedre.specs.declared.elements.Element.TheVariants.{Plain, Delimiter, 
 use Rattle.sedre.specs.declared.types.ExprFault.{ExprFault}
 use Rattle.sedre.specs.declared.byte_set.ByteSet.{ByteSet}
 use Rattle.sedre.specs.Sets.{has, union, no_byte}
-use Rattle.sedre.specs.Brackets.{content, form, form_of, of_class, of_one, element, elements, elements_from, is_dash, goes_on, single, range, both, listed, judged, is_negated, is_delimiter, ListedBytes, list_at, list_end}
+use Rattle.sedre.specs.Brackets.{content, form, form_of, of_class, of_one, element, elements, elements_from, is_dash, goes_on_as_range, single, range, both, listed, judged, is_negated, is_delimiter, ListedBytes, list_at, list_end}
 use Rattle.sedre.specs.ListReading.{is_range, located, members_at, elements_start, is_closing}
 
 -- the elements from a place on, and where the list ends
@@ -101,7 +101,7 @@ element_dash d b (c ∷ rest) isnt =
     (if b == 91 && (c == 58 || c == 61 || c == 46) then form c (length rest + 2) (content c rest) else (Plain b, 1)) refl
     (dash_of_choice (b == 91 && (c == 58 || c == 61 || c == 46)) (form c (length rest + 2) (content c rest)) (Plain b, 1) (form_dash c (length rest + 2) (content c rest)) isnt)
 
-no_dash : (x : ℕ × Element) (rest : List (ℕ × Element)) → is_dash x.1 ≡ false → goes_on (x ∷ rest) ≡ false
+no_dash : (x : ℕ × Element) (rest : List (ℕ × Element)) → is_dash x.1 ≡ false → goes_on_as_range (x ∷ rest) ≡ false
 no_dash x [] isnt = refl
 no_dash x (y ∷ rest) isnt = isnt
 
@@ -109,39 +109,39 @@ decided : (t : Bool) → (t ≡ true) ⊎ (t ≡ false)
 decided true = inl refl
 decided false = inr refl
 
-goes_on-dash : (d : Option ℕ) (place c : ℕ) (rest : List ℕ) (t : Bool) → (c == 93) ≡ t → goes_on (elements d false 0 place (45 ∷ c ∷ rest)).0 ≡ not t
-goes_on-dash d place c rest true is =
-    ap (λ (all : Elements). goes_on all.0) (opened d false place 45 (c ∷ rest) refl)
-    ∙ ap (λ (all : Elements). goes_on ((place, Plain 45) ∷ all.0)) (closed d false (place + 1) c rest (ap (λ t. t && true) is))
-goes_on-dash d place c rest false is =
-    ap (λ (all : Elements). goes_on all.0) (opened d false place 45 (c ∷ rest) refl)
-    ∙ ap (λ (all : Elements). goes_on ((place, Plain 45) ∷ all.0)) (opened d false (place + 1) c rest (ap (λ t. t && true) is))
+goes_on_as_range-dash : (d : Option ℕ) (place c : ℕ) (rest : List ℕ) (t : Bool) → (c == 93) ≡ t → goes_on_as_range (elements d false 0 place (45 ∷ c ∷ rest)).0 ≡ not t
+goes_on_as_range-dash d place c rest true is =
+    ap (λ (all : Elements). goes_on_as_range all.0) (opened d false place 45 (c ∷ rest) refl)
+    ∙ ap (λ (all : Elements). goes_on_as_range ((place, Plain 45) ∷ all.0)) (closed d false (place + 1) c rest (ap (λ t. t && true) is))
+goes_on_as_range-dash d place c rest false is =
+    ap (λ (all : Elements). goes_on_as_range all.0) (opened d false place 45 (c ∷ rest) refl)
+    ∙ ap (λ (all : Elements). goes_on_as_range ((place, Plain 45) ∷ all.0)) (opened d false (place + 1) c rest (ap (λ t. t && true) is))
 
-goes_on-other : (d : Option ℕ) (place b : ℕ) (bs : List ℕ) (t : Bool) → (b == 93) ≡ t → (b == 45) ≡ false → goes_on (elements d false 0 place (b ∷ bs)).0 ≡ false
-goes_on-other d place b bs true is isnt = ap (λ (all : Elements). goes_on all.0) (closed d false place b bs (ap (λ t. t && true) is))
-goes_on-other d place b bs false is isnt =
-    ap (λ (all : Elements). goes_on all.0) (opened d false place b bs (ap (λ t. t && true) is))
+goes_on_as_range-other : (d : Option ℕ) (place b : ℕ) (bs : List ℕ) (t : Bool) → (b == 93) ≡ t → (b == 45) ≡ false → goes_on_as_range (elements d false 0 place (b ∷ bs)).0 ≡ false
+goes_on_as_range-other d place b bs true is isnt = ap (λ (all : Elements). goes_on_as_range all.0) (closed d false place b bs (ap (λ t. t && true) is))
+goes_on_as_range-other d place b bs false is isnt =
+    ap (λ (all : Elements). goes_on_as_range all.0) (opened d false place b bs (ap (λ t. t && true) is))
     ∙ no_dash (place, (element d (b ∷ bs)).0) (elements d false 0 (place + (element d (b ∷ bs)).1) (drop (element d (b ∷ bs)).1 (b ∷ bs))).0 (element_dash d b bs isnt)
 
-goes_on-last : (d : Option ℕ) (place b : ℕ) (t : Bool) → (b == 93) ≡ t → goes_on (elements d false 0 place (b ∷ [])).0 ≡ false
-goes_on-last d place b true is = ap (λ (all : Elements). goes_on all.0) (closed d false place b [] (ap (λ t. t && true) is))
-goes_on-last d place b false is = ap (λ (all : Elements). goes_on all.0) (opened d false place b [] (ap (λ t. t && true) is))
+goes_on_as_range-last : (d : Option ℕ) (place b : ℕ) (t : Bool) → (b == 93) ≡ t → goes_on_as_range (elements d false 0 place (b ∷ [])).0 ≡ false
+goes_on_as_range-last d place b true is = ap (λ (all : Elements). goes_on_as_range all.0) (closed d false place b [] (ap (λ t. t && true) is))
+goes_on_as_range-last d place b false is = ap (λ (all : Elements). goes_on_as_range all.0) (opened d false place b [] (ap (λ t. t && true) is))
 
-pub goes_on-elements : (d : Option ℕ) (place : ℕ) (bs : List ℕ) → goes_on (elements d false 0 place bs).0 ≡ is_range bs
-goes_on-elements d place [] = refl
-goes_on-elements d place (b ∷ []) = goes_on-last d place b (b == 93) refl
-goes_on-elements d place (b ∷ c ∷ rest) = elim (eqb_tells b 45) [
-  | inl w ↦ subst (λ x. goes_on (elements d false 0 place (x ∷ c ∷ rest)).0 ≡ is_range (x ∷ c ∷ rest)) (sym w.1) (goes_on-dash d place c rest (c == 93) refl)
-  | inr w ↦ goes_on-other d place b (c ∷ rest) (b == 93) refl w.0 ∙ sym (ap (λ t. t && not (c == 93)) w.0)
+pub goes_on_as_range-elements : (d : Option ℕ) (place : ℕ) (bs : List ℕ) → goes_on_as_range (elements d false 0 place bs).0 ≡ is_range bs
+goes_on_as_range-elements d place [] = refl
+goes_on_as_range-elements d place (b ∷ []) = goes_on_as_range-last d place b (b == 93) refl
+goes_on_as_range-elements d place (b ∷ c ∷ rest) = elim (eqb_tells b 45) [
+  | inl w ↦ subst (λ x. goes_on_as_range (elements d false 0 place (x ∷ c ∷ rest)).0 ≡ is_range (x ∷ c ∷ rest)) (sym w.1) (goes_on_as_range-dash d place c rest (c == 93) refl)
+  | inr w ↦ goes_on_as_range-other d place b (c ∷ rest) (b == 93) refl w.0 ∙ sym (ap (λ t. t && not (c == 93)) w.0)
 ]
 
 -- ---- one element, or one range, and the rest
 
-listed_single : (x : ℕ × Element) (rest : List (ℕ × Element)) → goes_on rest ≡ false → listed (x ∷ rest) ≡ both (single x) (listed rest)
+listed_single : (x : ℕ × Element) (rest : List (ℕ × Element)) → goes_on_as_range rest ≡ false → listed (x ∷ rest) ≡ both (single x) (listed rest)
 listed_single x [] isnt = refl
 listed_single x (y ∷ []) isnt = refl
 listed_single x (y ∷ z ∷ rest) isnt =
-    ap (λ (t : Bool). if t then both (range x z (goes_on rest)) (listed rest) else both (single x) (listed (y ∷ z ∷ rest))) isnt
+    ap (λ (t : Bool). if t then both (range x z (goes_on_as_range rest)) (listed rest) else both (single x) (listed (y ∷ z ∷ rest))) isnt
 
 -- the bytes read so far, with what is listed from a place on
 abbrev pub go_on : Bool → Bool → ℕ → List Bool → Elements → Result (ByteSet × ℕ) ExprFault
@@ -244,11 +244,11 @@ one_step d text first folded negated at place set inside isnt =
     ∙ ⊎_elim
     (λ (is : ranges ≡ true).
     ap (λ (all : Elements). go_on folded negated at set (OneMore place found.0 all)) (ranged_at d next text is)
-    ∙ ap (λ g. judged folded negated at (both (Ok set) (both (range (place, found.0) (next + 1, last.0) g) (listed rest.0))) rest.1) (goes_on-elements d end (drop end text))
+    ∙ ap (λ g. judged folded negated at (both (Ok set) (both (range (place, found.0) (next + 1, last.0) g) (listed rest.0))) rest.1) (goes_on_as_range-elements d end (drop end text))
     ∙ joined d text folded negated at end set (range (place, found.0) (next + 1, last.0) on) (listed rest.0) rest.1 refl refl
     ∙ ap (λ (t : Bool). after d text folded negated at set (if t then located end (range (place, found.0) (next + 1, last.0) on) else located next (single (place, found.0)))) (sym is))
     (λ (is : ranges ≡ false).
-    ap (λ l. judged folded negated at (both (Ok set) l) more.1) (listed_single (place, found.0) more.0 (goes_on-elements d next (drop next text) ∙ is))
+    ap (λ l. judged folded negated at (both (Ok set) l) more.1) (listed_single (place, found.0) more.0 (goes_on_as_range-elements d next (drop next text) ∙ is))
     ∙ joined d text folded negated at next set (single (place, found.0)) (listed more.0) more.1 refl refl
     ∙ ap (λ (t : Bool). after d text folded negated at set (if t then located end (range (place, found.0) (next + 1, last.0) on) else located next (single (place, found.0)))) (sym is))
     (decided ranges)
@@ -311,7 +311,7 @@ none_listed : (els : List (ℕ × Element)) → both (Ok no_byte) (listed els) �
 none_listed [] = ap (λ (u : List Bool). Ok u) none_none
 none_listed (x ∷ []) = none_both (single x) (listed [])
 none_listed (x ∷ y ∷ []) = none_both (single x) (listed (y ∷ []))
-none_listed (x ∷ y ∷ z ∷ rest) = none_choice (is_dash y.1) (range x z (goes_on rest)) (listed rest) (single x) (listed (y ∷ z ∷ rest))
+none_listed (x ∷ y ∷ z ∷ rest) = none_choice (is_dash y.1) (range x z (goes_on_as_range rest)) (listed rest) (single x) (listed (y ∷ z ∷ rest))
 
 pub list_begun : (d : Option ℕ) (text : List ℕ) (at start : ℕ) (folded negated : Bool) (set : List Bool) → negated ≡ is_negated (drop (at + 1) text) →
     start ≡ elements_start (at + 1) (drop (at + 1) text) → set ≡ no_byte →

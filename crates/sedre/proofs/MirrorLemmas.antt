@@ -6,7 +6,7 @@ use Rattle.std.proofs.lemmas.List.{length-map}
 use Rattle.sedre.specs.Tree.{Tree, empty, set, begin, end, seq, alt, group, star, opt}
 use Rattle.sedre.specs.Sizes.{size}
 use Rattle.sedre.specs.Arena.{IsArena, IsPart, HasTwoParts}
-use Rattle.sedre.specs.Written.{Written, tree, tree_of, tree_if, tree_within, tree_at}
+use Rattle.sedre.specs.Written.{WrittenExpression, expression_tree, tree_of, tree_if, tree_within, tree_at}
 use Rattle.sedre.specs.Mirror.{mirror, mirror_node, node_seen, seen}
 use Rattle.sedre.specs.declared.types.Node.{Node}
 use Rattle.sedre.specs.declared.types.Node.TheVariants.{Empty, Set, Begin, End, Seq, Alt, Group, Star, Opt}
@@ -126,14 +126,14 @@ IsArena-mirror nodes arena = record {
 }
 
 -- the same of an expression that is mirrored or not
-pub seen-arena : (back : Bool) (e : Written) → IsArena e.nodes → IsArena (seen back e).nodes
+pub seen-arena : (back : Bool) (e : WrittenExpression) → IsArena e.nodes → IsArena (seen back e).nodes
 seen-arena true e arena = IsArena-mirror e.nodes arena
 seen-arena false e arena = arena
 
-pub seen-length : (back : Bool) (e : Written) → length (seen back e).nodes ≡ length e.nodes
+pub seen-length : (back : Bool) (e : WrittenExpression) → length (seen back e).nodes ≡ length e.nodes
 seen-length true e = length-map e.nodes mirror_node
 seen-length false e = refl
 
-pub seen-node : (back : Bool) (e : Written) (x : ℕ) (node : Node) → slice_get e.nodes x ≡ Some node → slice_get (seen back e).nodes x ≡ Some (node_seen back node)
+pub seen-node : (back : Bool) (e : WrittenExpression) (x : ℕ) (node : Node) → slice_get e.nodes x ≡ Some node → slice_get (seen back e).nodes x ≡ Some (node_seen back node)
 seen-node true e x node is = new_node e.nodes x node is
 seen-node false e x node is = is

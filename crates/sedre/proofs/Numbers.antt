@@ -4,13 +4,13 @@ use Rattle.sedre.specs.declared.syntax.Item.{Item}
 use Rattle.sedre.specs.Tree.{Tree, empty, set, begin, end, seq, alt, group, star, opt}
 use Rattle.sedre.specs.Repeats.{concatenation, alternation, copies, optional, further, repetition}
 use Rattle.sedre.specs.Grammar.{AreAlternatives, ArePieces, IsPiece, first, another, none, more, byte, begin_anchor, end_anchor, subexpression, repeated}
-use Rattle.sedre.specs.Finished.{Numbered}
+use Rattle.sedre.specs.Finished.{GroupsNumbered}
 
 abbrev AllOf : ℕ → List Tree → Type 0
 AllOf most [] = Unit {0}
-AllOf most (t ∷ ts) = Numbered most t × AllOf most ts
+AllOf most (t ∷ ts) = GroupsNumbered most t × AllOf most ts
 
-more_groups : (m n : ℕ) (t : Tree) → m ≤ n → Numbered m t → Numbered n t
+more_groups : (m n : ℕ) (t : Tree) → m ≤ n → GroupsNumbered m t → GroupsNumbered n t
 more_groups m n empty h p = tt
 more_groups m n (set members) h p = tt
 more_groups m n begin h p = tt
@@ -25,33 +25,33 @@ all_more : (m n : ℕ) (ts : List Tree) → m ≤ n → AllOf m ts → AllOf n t
 all_more m n [] h p = tt
 all_more m n (t ∷ ts) h p = (more_groups m n t h p.0, all_more m n ts h p.1)
 
-all_snoc : (m : ℕ) (ts : List Tree) (t : Tree) → AllOf m ts → Numbered m t → AllOf m (ts ++ t ∷ [])
+all_snoc : (m : ℕ) (ts : List Tree) (t : Tree) → AllOf m ts → GroupsNumbered m t → AllOf m (ts ++ t ∷ [])
 all_snoc m [] t p q = (q, tt)
 all_snoc m (u ∷ ts) t p q = (p.0, all_snoc m ts t p.1 q)
 
-of_concatenation : (m : ℕ) (ts : List Tree) → AllOf m ts → Numbered m (concatenation ts)
+of_concatenation : (m : ℕ) (ts : List Tree) → AllOf m ts → GroupsNumbered m (concatenation ts)
 of_concatenation m [] p = tt
 of_concatenation m (t ∷ []) p = p.0
 of_concatenation m (t ∷ u ∷ ts) p = (p.0, of_concatenation m (u ∷ ts) p.1)
 
-pub of_alternation : (m : ℕ) (ts : List Tree) → AllOf m ts → Numbered m (alternation ts)
+pub of_alternation : (m : ℕ) (ts : List Tree) → AllOf m ts → GroupsNumbered m (alternation ts)
 of_alternation m [] p = tt
 of_alternation m (t ∷ []) p = p.0
 of_alternation m (t ∷ u ∷ ts) p = (p.0, of_alternation m (u ∷ ts) p.1)
 
-of_copies : (m n : ℕ) (t : Tree) (ts : List Tree) → Numbered m t → AllOf m ts → AllOf m (copies n t ts)
+of_copies : (m n : ℕ) (t : Tree) (ts : List Tree) → GroupsNumbered m t → AllOf m ts → AllOf m (copies n t ts)
 of_copies m zero t ts p q = q
 of_copies m (suc n) t ts p q = (p, of_copies m n t ts p q)
 
-of_optional : (m n : ℕ) (t : Tree) (mark : Bool) → Numbered m t → Numbered m (optional n t mark)
+of_optional : (m n : ℕ) (t : Tree) (mark : Bool) → GroupsNumbered m t → GroupsNumbered m (optional n t mark)
 of_optional m zero t mark p = p
 of_optional m (suc n) t mark p = (p, of_optional m n t false p)
 
-of_further : (m n : ℕ) (t : Tree) (mark : Bool) → Numbered m t → AllOf m (further n t mark)
+of_further : (m n : ℕ) (t : Tree) (mark : Bool) → GroupsNumbered m t → AllOf m (further n t mark)
 of_further m zero t mark p = tt
 of_further m (suc n) t mark p = (of_optional m n t mark p, tt)
 
-of_repetition : (m least : ℕ) (most : Option ℕ) (t : Tree) → Numbered m t → Numbered m (repetition least most t)
+of_repetition : (m least : ℕ) (most : Option ℕ) (t : Tree) → GroupsNumbered m t → GroupsNumbered m (repetition least most t)
 of_repetition m least None t p = of_concatenation m (copies least t (star t (nat_eq least 0) ∷ [])) (of_copies m least t (star t (nat_eq least 0) ∷ []) p (p, tt))
 of_repetition m least (Some most) t p = of_concatenation m (copies least t (further (most - least) t (nat_eq least 0))) (of_copies m least t (further (most - least) t (nat_eq least 0)) p (of_further m (most - least) t (nat_eq least 0) p))
 
@@ -70,7 +70,7 @@ mutual
       let b = of_piece q in
       (omega (arith, a.0, b.0), all_snoc k ts t (all_more h k ts b.0 a.1) b.1)
 
-  of_piece : {g h : ℕ} {is : List Item} {t : Tree} → IsPiece g is t h → (g ≤ h) × Numbered h t
+  of_piece : {g h : ℕ} {is : List Item} {t : Tree} → IsPiece g is t h → (g ≤ h) × GroupsNumbered h t
   of_piece byte = (omega arith, tt)
   of_piece begin_anchor = (omega arith, tt)
   of_piece end_anchor = (omega arith, tt)

@@ -11,7 +11,7 @@ use Rattle.sedre.specs.declared.syntax.Item.TheVariants.{Close}
 use Rattle.sedre.specs.Tree.{Tree}
 use Rattle.sedre.specs.Sizes.{depth}
 use Rattle.sedre.specs.Repeats.{alternation}
-use Rattle.sedre.specs.Grammar.{AreAlternatives, Cut, done, item, open_groups, Row, bad, stray, unclosed, deep, large, FaultyWith}
+use Rattle.sedre.specs.Grammar.{AreAlternatives, CutExpression, done, item, open_groups, Row, bad, stray, unclosed, deep, large, FaultyWith}
 use Rattle.sedre.proofs.Exclusive.{one_reading, go_on, open-append}
 
 -- the place and the reason that both have
@@ -57,10 +57,10 @@ module _ (kind : Kind) (folded : Bool) (delimiter : Option ℕ) (text : List ℕ
   record After (before : Option Item) (is : List Item) (to : ℕ) (js : List Item) (mid : ℕ) : Type 0 where
     pub rest : List Item
     pub whole : is ≡ js ++ rest
-    pub cut : Cut kind folded delimiter text (last_or before js) mid rest to
+    pub cut : CutExpression kind folded delimiter text (last_or before js) mid rest to
 
   -- of two cuts from one place one goes on after the other
-  either : {before : Option Item} {at to mid : ℕ} {is js : List Item} → Cut kind folded delimiter text before at is to → Cut kind folded delimiter text before at js mid →
+  either : {before : Option Item} {at to mid : ℕ} {is js : List Item} → CutExpression kind folded delimiter text before at is to → CutExpression kind folded delimiter text before at js mid →
       After before is to js mid ⊎ After before js mid is to
   either {is = is} c done = inl (record { rest = is; whole = refl; cut = c })
   either {js = js} done (item f d) = inr (record { rest = js; whole = refl; cut = item f d })
@@ -68,7 +68,7 @@ module _ (kind : Kind) (folded : Bool) (delimiter : Option ℕ) (text : List ℕ
       let one : ◌≡◌ {A = Here} (Is i n) (Is j m) = sym g ∙ f in
       let same_item : i ≡ j = cc in
       let same_place : n ≡ m = cc in
-      let C : Item → ℕ → Type 0 = λ x y. Cut kind folded delimiter text (Some x) y js mid in
+      let C : Item → ℕ → Type 0 = λ x y. CutExpression kind folded delimiter text (Some x) y js mid in
       let d' : C i n = subst (λ (x : Item). C x n) (sym same_item) (subst (λ (y : ℕ). C j y) (sym same_place) d) in
       let D : Item → Type 0 = λ x. After before (i ∷ is) to (x ∷ js) mid ⊎ After before (x ∷ js) mid (i ∷ is) to in
       subst D same_item (elim (either c d') [
@@ -77,7 +77,7 @@ module _ (kind : Kind) (folded : Bool) (delimiter : Option ℕ) (text : List ℕ
       ])
 
   -- no balanced cut goes on after a fault
-  row_ends : {o n mid to p : ℕ} {js rest : List Item} {r : Reason} → Row kind folded delimiter text max_nodes js o mid p r → Cut kind folded delimiter text (last_or None js) mid rest to →
+  row_ends : {o n mid to p : ℕ} {js rest : List Item} {r : Reason} → Row kind folded delimiter text max_nodes js o mid p r → CutExpression kind folded delimiter text (last_or None js) mid rest to →
       open_groups o rest ≡ Some n → (rest ≡ []) × (to ≡ mid)
   row_ends w done h = (refl, refl)
   row_ends (bad f) (item g c) h = absurd cc

@@ -14,7 +14,7 @@ use Rattle.sedre.specs.declared.syntax.Symbol.TheVariants.{Literal, AnyByte, Ope
 use Rattle.sedre.specs.declared.syntax.Item.{Item}
 use Rattle.sedre.specs.declared.syntax.Here.{Here}
 use Rattle.sedre.specs.declared.syntax.Here.TheVariants.{Is, Ends, Bad}
-use Rattle.sedre.specs.Brackets.{elements, element, elements_from, is_negated, is_dash, goes_on, ListedBytes, single, between_ends, range_to, range, both, listed, judged, list_at}
+use Rattle.sedre.specs.Brackets.{elements, element, elements_from, is_negated, is_dash, goes_on_as_range, ListedBytes, single, between_ends, range_to, range, both, listed, judged, list_at}
 use Rattle.sedre.specs.Intervals.{interval}
 use Rattle.sedre.specs.Symbols.{symbol}
 use Rattle.sedre.specs.Items.{is_first, is_repeatable, is_repeat, ends_alternative, repeats, interval_item, list_item, star_item, question_item, caret_item, dollar_item, item_for, item_at}
@@ -94,7 +94,7 @@ listed_told n (x ∷ y ∷ z ∷ rest) h =
     let later : StandUpTo n (y ∷ z ∷ rest) = h.1 in
     let last : StandUpTo n (z ∷ rest) = later.1 in
     told_if n (is_dash y.1) _ _
-    (both_told n (range x z (goes_on rest)) (listed rest) (range_told n x z (goes_on rest) h.0 last.0) (listed_told n rest last.1))
+    (both_told n (range x z (goes_on_as_range rest)) (listed rest) (range_told n x z (goes_on_as_range rest) h.0 last.0) (listed_told n rest last.1))
     (both_told n (single x) (listed (y ∷ z ∷ rest)) (single_told n x h.0) (listed_told n (y ∷ z ∷ rest) later))
 
 judged_told : (n : ℕ) (folded negated : Bool) (at : ℕ) (r : ListedBytes) (end : Option ℕ) → at ≤ n → ToldUpTo n r → ToldUpTo n (judged folded negated at r end)

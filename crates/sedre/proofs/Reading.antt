@@ -11,7 +11,7 @@ use Rattle.sedre.specs.Tree.{Tree, set}
 use Rattle.sedre.specs.Sizes.{size, depth}
 use Rattle.sedre.specs.Repeats.{alternation, repetition}
 use Rattle.sedre.specs.Items.{item_at, is_repeatable}
-use Rattle.sedre.specs.Grammar.{none, byte, begin_anchor, end_anchor, Cut, done, item, open_groups, ReadsAs, bad, stray, unclosed, deep, large, FaultyWith}
+use Rattle.sedre.specs.Grammar.{none, byte, begin_anchor, end_anchor, CutExpression, done, item, open_groups, ReadsAs, bad, stray, unclosed, deep, large, FaultyWith}
 use Rattle.sedre.specs.Stacks.{Level, Nesting, start, step, with_last, all_alternatives}
 use Rattle.sedre.proofs.Sound.{Stands, base, only as only_pieces, stands_piece, stands_bar, stands_repeat, stands_open, stands_close, stands_whole}
 use Rattle.sedre.proofs.Exclusive.{open-append, go_on}
@@ -20,7 +20,7 @@ use Rattle.sedre.proofs.Repeating.{repeat_follows}
 -- after the items up to this place stands this state
 pub record Reading (kind : Kind) (folded : Bool) (delimiter : Option ℕ) (text : List ℕ) (before : Option Item) (at : ℕ) (s : Nesting) : Type 0 where
   pub items : List Item
-  pub cut : Cut kind folded delimiter text None 0 items at
+  pub cut : CutExpression kind folded delimiter text None 0 items at
   pub last : last_or None items ≡ before
   pub balanced : open_groups 0 items ≡ Some (length s.below)
   pub stands : Stands items s.opened s.top s.below
@@ -30,7 +30,7 @@ pub reading_start : (kind : Kind) (folded : Bool) (delimiter : Option ℕ) (text
 reading_start kind folded delimiter text = record { items = []; cut = done; last = refl; balanced = refl; stands = base (only_pieces none); ready = λ h. absurd cc }
 
 pub cut-snoc : {kind : Kind} {folded : Bool} {delimiter : Option ℕ} {text : List ℕ} {before : Option Item} {at to next : ℕ} {is : List Item} {i : Item} →
-    Cut kind folded delimiter text before at is to → item_at kind folded delimiter text (last_or before is) to ≡ Is i next → Cut kind folded delimiter text before at (is ++ i ∷ []) next
+    CutExpression kind folded delimiter text before at is to → item_at kind folded delimiter text (last_or before is) to ≡ Is i next → CutExpression kind folded delimiter text before at (is ++ i ∷ []) next
 cut-snoc done f = item f done
 cut-snoc (item g c) f = item g (cut-snoc c f)
 
@@ -59,7 +59,7 @@ module _ (kind : Kind) (folded : Bool) (delimiter : Option ℕ) (text : List ℕ
       open-append 0 r.items (i ∷ []) ∙ ap (λ (x : Option ℕ). go_on x (i ∷ [])) r.balanced in
       by_item i s r.items f closes c l o r.stands r.ready
     where
-      closing : (opened : ℕ) (top : Level) (below : List Level) (is : List Item) → below ≢ [] → Cut kind folded delimiter text None 0 (is ++ Close ∷ []) next → last_or None (is ++ Close ∷ []) ≡ Some Close →
+      closing : (opened : ℕ) (top : Level) (below : List Level) (is : List Item) → below ≢ [] → CutExpression kind folded delimiter text None 0 (is ++ Close ∷ []) next → last_or None (is ++ Close ∷ []) ≡ Some Close →
           open_groups 0 (is ++ Close ∷ []) ≡ open_groups (length below) (Close ∷ []) → Stands is opened top below →
           Reading kind folded delimiter text (Some Close) next (step Close (record { opened = opened; top = top; below = below }))
       closing opened top [] is ne c l o st = absurd (ne refl)
@@ -67,7 +67,7 @@ module _ (kind : Kind) (folded : Bool) (delimiter : Option ℕ) (text : List ℕ
           record { items = is ++ Close ∷ []; cut = c; last = l; balanced = o; stands = stands_close st; ready = λ _. not_empty k.pieces _ }
 
       by_item : (i : Item) (s : Nesting) (is : List Item) → item_at kind folded delimiter text before at ≡ Is i next → (i ≡ Close → s.below ≢ []) →
-          Cut kind folded delimiter text None 0 (is ++ i ∷ []) next → last_or None (is ++ i ∷ []) ≡ Some i → open_groups 0 (is ++ i ∷ []) ≡ open_groups (length s.below) (i ∷ []) →
+          CutExpression kind folded delimiter text None 0 (is ++ i ∷ []) next → last_or None (is ++ i ∷ []) ≡ Some i → open_groups 0 (is ++ i ∷ []) ≡ open_groups (length s.below) (i ∷ []) →
           Stands is s.opened s.top s.below → (is_repeatable before ≡ true → s.top.pieces ≢ []) → Reading kind folded delimiter text (Some i) next (step i s)
       by_item (Byte members) s is f closes c l o st ready = record { items = is ++ Byte members ∷ []; cut = c; last = l; balanced = o; stands = stands_piece st byte; ready = λ _. not_empty s.top.pieces (set members) }
       by_item Open s is f closes c l o st ready = record { items = is ++ Open ∷ []; cut = c; last = l; balanced = o; stands = stands_open st; ready = λ h. absurd cc }

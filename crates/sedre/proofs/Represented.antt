@@ -6,7 +6,7 @@ use Rattle.sedre.specs.declared.builder.Builder.{Builder}
 use Rattle.sedre.specs.declared.syntax.Item.TheVariants.{Open, Close, Bar, Repeat}
 use Rattle.sedre.specs.Tree.{Tree, group}
 use Rattle.sedre.specs.Repeats.{concatenation, alternation, repetition}
-use Rattle.sedre.specs.Stacks.{Level, Nesting, step, close, with_piece, with_last, whole, Stored, trees_in, mark_of, marks_of, Represents}
+use Rattle.sedre.specs.Stacks.{Level, Nesting, step, close, with_piece, with_last, whole_level, Stored, trees_in, mark_of, marks_of, Represents}
 use Rattle.sedre.proofs.Written.{snoc_last, split_last}
 use Rattle.sedre.proofs.Stacked.{count_of}
 use Rattle.sedre.proofs.Machine.{with_last-append}
@@ -159,7 +159,7 @@ module _ (limit : ℕ) where
   pub represents_join : (b : Builder) (s : Nesting) (s₁ s₂ : Stack) → Represents limit b s → s.below ≡ [] →
       ((m : ℕ) (ts ps : List Tree) → length ts ≡ b.top.pieces → Stored m b.stack (ts ++ ps) → Stored m s₁ (ts ++ concatenation ps ∷ [])) →
       ((m : ℕ) (ts ps : List Tree) → length ts ≡ 0 → Stored m s₁ (ts ++ ps) → Stored m s₂ (ts ++ alternation ps ∷ [])) →
-      Stored limit s₂ (whole s.top ∷ [])
+      Stored limit s₂ (whole_level s.top ∷ [])
   represents_join b s s₁ s₂ r none f g =
       let B : List Tree = s.top.alternatives in
       let S : List Level → Type 0 = λ x. Stored limit b.stack (trees_in x ++ (B ++ s.top.pieces)) in

@@ -83,9 +83,9 @@ is_dash (Plain b) = b == 45
 is_dash other = false
 
 -- whether what stands after a range goes on as another one, as in a-c-e
-abbrev pub goes_on : List (ℕ × Element) → Bool
-goes_on (x ∷ y ∷ rest) = is_dash x.1
-goes_on left = false
+abbrev pub goes_on_as_range : List (ℕ × Element) → Bool
+goes_on_as_range (x ∷ y ∷ rest) = is_dash x.1
+goes_on_as_range left = false
 
 -- the bytes that some elements list, or their first fault
 abbrev pub ListedBytes : Type 0
@@ -142,7 +142,7 @@ listed [] = Ok no_byte
 listed (x ∷ []) = both (single x) (listed [])
 listed (x ∷ y ∷ []) = both (single x) (listed (y ∷ []))
 listed (x ∷ y ∷ z ∷ rest) =
-    if is_dash y.1 then both (range x z (goes_on rest)) (listed rest)
+    if is_dash y.1 then both (range x z (goes_on_as_range rest)) (listed rest)
     else both (single x) (listed (y ∷ z ∷ rest))
 
 -- ---- a whole list

@@ -5,33 +5,33 @@ use Rattle.sedre.specs.declared.types.Reason.TheVariants.{TooDeep, TooManyNodes}
 use Rattle.sedre.specs.declared.types.ExprFault.{ExprFault}
 use Rattle.sedre.specs.Tree.{Tree, seq, alt, group, star, opt}
 use Rattle.sedre.specs.Sizes.{size, depth}
-use Rattle.sedre.specs.Written.{Written, tree}
-use Rattle.sedre.specs.Stacks.{Nesting, whole}
+use Rattle.sedre.specs.Written.{WrittenExpression, expression_tree}
+use Rattle.sedre.specs.Stacks.{Nesting, whole_level}
 use Rattle.sedre.specs.declared.syntax.Here.{Here}
 use Rattle.sedre.specs.declared.syntax.Here.TheVariants.{Is, Ends, Bad}
 
 -- each group of the tree has a number from 1 to the bound
-abbrev pub Numbered : ℕ → Tree → Type 0
-Numbered most (seq a b) = Numbered most a × Numbered most b
-Numbered most (alt a b) = Numbered most a × Numbered most b
-Numbered most (group k a) = (1 ≤ k) × (k ≤ most) × Numbered most a
-Numbered most (star a first) = Numbered most a
-Numbered most (opt a first) = Numbered most a
-Numbered most other = Unit {0}
+abbrev pub GroupsNumbered : ℕ → Tree → Type 0
+GroupsNumbered most (seq a b) = GroupsNumbered most a × GroupsNumbered most b
+GroupsNumbered most (alt a b) = GroupsNumbered most a × GroupsNumbered most b
+GroupsNumbered most (group k a) = (1 ≤ k) × (k ≤ most) × GroupsNumbered most a
+GroupsNumbered most (star a first) = GroupsNumbered most a
+GroupsNumbered most (opt a first) = GroupsNumbered most a
+GroupsNumbered most other = Unit {0}
 
 -- the expression is what the state stands for
-pub record IsFinished (s : Nesting) (limit : ℕ) (e : Written) : Type 0 where
-  pub tree_is : tree e ≡ whole s.top
+pub record IsFinished (s : Nesting) (limit : ℕ) (e : WrittenExpression) : Type 0 where
+  pub tree_is : expression_tree e ≡ whole_level s.top
   pub groups : e.groups ≡ s.opened
-  pub count : length e.nodes ≡ size (whole s.top)
-  pub shallow : depth (whole s.top) ≤ 600
-  pub small : size (whole s.top) < limit
+  pub count : length e.nodes ≡ size (whole_level s.top)
+  pub shallow : depth (whole_level s.top) ≤ 600
+  pub small : size (whole_level s.top) < limit
 
 -- it is too deep, or else has too many nodes
 abbrev pub IsOverLimit : Nesting → (limit len : ℕ) → ExprFault → Type 0
 IsOverLimit s limit len f =
-    ((f ≡ record { place = len; reason = TooDeep }) × (600 < depth (whole s.top)))
-    ⊎ ((f ≡ record { place = len; reason = TooManyNodes }) × (depth (whole s.top) ≤ 600) × (limit ≤ size (whole s.top)))
+    ((f ≡ record { place = len; reason = TooDeep }) × (600 < depth (whole_level s.top)))
+    ⊎ ((f ≡ record { place = len; reason = TooManyNodes }) × (depth (whole_level s.top) ≤ 600) × (limit ≤ size (whole_level s.top)))
 
 -- an item ends after its place, and a fault is reported within the text
 abbrev pub IsAfter : (at len : ℕ) → Here → Type 0

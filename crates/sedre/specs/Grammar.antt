@@ -42,12 +42,12 @@ mutual
         IsPiece g is t h → IsPiece g (is ++ Repeat least most ∷ []) (repetition least most t) h
 
 -- the text is cut into these items, from one place, after an item, up to another, where case counts or is folded
-pub data Cut (kind : Kind) (folded : Bool) (delimiter : Option ℕ) (text : List ℕ) :
+pub data CutExpression (kind : Kind) (folded : Bool) (delimiter : Option ℕ) (text : List ℕ) :
     Option Item → ℕ → List Item → ℕ → Type 0 where
-  done : {before : Option Item} {at : ℕ} → Cut kind folded delimiter text before at [] at
+  done : {before : Option Item} {at : ℕ} → CutExpression kind folded delimiter text before at [] at
   item : {before : Option Item} {at next to : ℕ} {i : Item} {is : List Item} →
-      item_at kind folded delimiter text before at ≡ Is i next → Cut kind folded delimiter text (Some i) next is to →
-      Cut kind folded delimiter text before at (i ∷ is) to
+      item_at kind folded delimiter text before at ≡ Is i next → CutExpression kind folded delimiter text (Some i) next is to →
+      CutExpression kind folded delimiter text before at (i ∷ is) to
 
 -- how many groups are open after the items, where each closing has its opening
 abbrev pub open_groups : ℕ → List Item → Option ℕ
@@ -62,7 +62,7 @@ pub record ReadsAs (kind : Kind) (folded : Bool) (delimiter : Option ℕ) (text 
     Type 0 where
   pub items : List Item
   pub to : ℕ
-  pub cut : Cut kind folded delimiter text None 0 items to
+  pub cut : CutExpression kind folded delimiter text None 0 items to
   pub ends : item_at kind folded delimiter text (last_or None items) to ≡ Ends
   pub alternatives : List Tree
   pub grammar : AreAlternatives 0 items alternatives groups
@@ -101,7 +101,7 @@ pub record FaultyWith (kind : Kind) (folded : Bool) (delimiter : Option ℕ) (te
     (reason : Reason) : Type 0 where
   pub items : List Item
   pub to : ℕ
-  pub cut : Cut kind folded delimiter text None 0 items to
+  pub cut : CutExpression kind folded delimiter text None 0 items to
   pub opened : ℕ
   pub balanced : open_groups 0 items ≡ Some opened
   pub row : Row kind folded delimiter text max_nodes items opened to place reason

@@ -1,7 +1,7 @@
 -- An expression read from its end: it matches what the expression itself matches, from the last byte to the first.
 use Rattle.std.specs.Prelude.{Bool, true, false, map}
 use Rattle.sedre.specs.Tree.{Tree, begin, end, seq, alt, group, star, opt}
-use Rattle.sedre.specs.Written.{Written}
+use Rattle.sedre.specs.Written.{WrittenExpression}
 use Rattle.sedre.specs.declared.types.Node.{Node}
 use Rattle.sedre.specs.declared.types.Node.TheVariants.{Begin, End, Seq}
 
@@ -29,6 +29,6 @@ node_seen true node = mirror_node node
 node_seen false node = node
 
 -- the expression, mirrored or as it is
-abbrev pub seen : Bool → Written → Written
+abbrev pub seen : Bool → WrittenExpression → WrittenExpression
 seen true e = record { nodes = map mirror_node e.nodes; groups = e.groups }
 seen false e = e

@@ -64,19 +64,19 @@ abbrev pub opt_shape : Bool → Shape
 opt_shape true = shape.FirstOpt
 opt_shape false = shape.Opt
 
-abbrev pub entry : Shape → ℕ → ℕ → Entry
-entry s left right = record { shape = s; left = left; right = right }
+abbrev pub entry_with : Shape → ℕ → ℕ → Entry
+entry_with s left right = record { shape = s; left = left; right = right }
 
 abbrev pub entry_of : ℕ → ℕ → Node → Entry
-entry_of x number node.Empty = entry shape.Empty 0 0
-entry_of x number (node.Set set) = entry shape.Set number 0
-entry_of x number node.Begin = entry shape.Begin 0 0
-entry_of x number node.End = entry shape.End 0 0
-entry_of x number (node.Seq a b) = entry shape.Seq (x - a.index) (x - b.index)
-entry_of x number (node.Alt a b) = entry shape.Alt (x - a.index) (x - b.index)
-entry_of x number (node.Group k a) = entry shape.Group k (x - a.index)
-entry_of x number (node.Star a first) = entry (star_shape first) 0 (x - a.index)
-entry_of x number (node.Opt a first) = entry (opt_shape first) 0 (x - a.index)
+entry_of x number node.Empty = entry_with shape.Empty 0 0
+entry_of x number (node.Set set) = entry_with shape.Set number 0
+entry_of x number node.Begin = entry_with shape.Begin 0 0
+entry_of x number node.End = entry_with shape.End 0 0
+entry_of x number (node.Seq a b) = entry_with shape.Seq (x - a.index) (x - b.index)
+entry_of x number (node.Alt a b) = entry_with shape.Alt (x - a.index) (x - b.index)
+entry_of x number (node.Group k a) = entry_with shape.Group k (x - a.index)
+entry_of x number (node.Star a first) = entry_with (star_shape first) 0 (x - a.index)
+entry_of x number (node.Opt a first) = entry_with (opt_shape first) 0 (x - a.index)
 
 -- the number that the map has by the words of a set
 abbrev pub numbered : BTreeMap (List ℕ) ℕ → List Bool → Option ℕ

@@ -39,8 +39,8 @@ abbrev pub all_alternatives : Level → List Tree
 all_alternatives l = l.alternatives ++ concatenation l.pieces ∷ []
 
 -- the whole of a level
-abbrev pub whole : Level → Tree
-whole l = alternation (all_alternatives l)
+abbrev pub whole_level : Level → Tree
+whole_level l = alternation (all_alternatives l)
 
 -- the list with its last element changed
 abbrev pub with_last : (Tree → Tree) → List Tree → List Tree
@@ -50,7 +50,7 @@ with_last f (t ∷ u ∷ us) = t ∷ with_last f (u ∷ us)
 
 abbrev pub close : Level → List Level → ℕ → Nesting
 close top [] opened = record { opened = opened; top = top; below = [] }
-close top (l ∷ ls) opened = record { opened = opened; top = with_piece (group top.number (whole top)) l; below = ls }
+close top (l ∷ ls) opened = record { opened = opened; top = with_piece (group top.number (whole_level top)) l; below = ls }
 
 abbrev pub step : Item → Nesting → Nesting
 step (Byte members) s = record { opened = s.opened; top = with_piece (set members) s.top; below = s.below }
@@ -143,8 +143,8 @@ LastBecomes f old new =
     (limit : ℕ) (ts : List Tree) (a : Tree) → Stored limit old (ts ++ a ∷ []) → Stored limit new (ts ++ f a ∷ [])
 
 -- the trees from the given number on became one
-abbrev pub Joins : ℕ → (List Tree → Tree) → Stack → Stack → Type 0
-Joins from f old new =
+abbrev pub JoinsTrees : ℕ → (List Tree → Tree) → Stack → Stack → Type 0
+JoinsTrees from f old new =
     (limit : ℕ) (ts ps : List Tree) → length ts ≡ from → Stored limit old (ts ++ ps) →
     Stored limit new (ts ++ f ps ∷ [])
 

@@ -10,8 +10,8 @@ abbrev pub StepsWithin : ℕ → ℕ → ℕ → Type 0
 StepsWithin s t n = t ≤ s + n
 
 -- the count grew from s to t: by n, or to the largest
-unfoldable pub Counted : ℕ → ℕ → ℕ → Type 0
-Counted s t n = t ≡ min (s + n) (2 ^ 128 - 1)
+unfoldable pub TakesExactly : ℕ → ℕ → ℕ → Type 0
+TakesExactly s t n = t ≡ min (s + n) (2 ^ 128 - 1)
 
 -- the count grew from s to t: by n at least, or to the largest
 unfoldable pub TakesAtLeast : ℕ → ℕ → ℕ → Type 0

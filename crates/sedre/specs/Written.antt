@@ -5,7 +5,7 @@ use Rattle.sedre.specs.Tree.{Tree, empty, set, begin, end, seq, alt, group, star
 use Rattle.sedre.specs.declared.types.Node.TheVariants.{Empty, Set, Begin, End, Seq, Alt, Group, Star, Opt}
 
 -- what a contract sees of an expression
-pub record Written : Type 0 where
+pub record WrittenExpression : Type 0 where
   pub nodes : List Node
   pub groups : ℕ
 
@@ -35,5 +35,5 @@ unfoldable pub tree_at : List Node → ℕ → Tree
 tree_at nodes x = tree_within (suc x) nodes x
 
 -- the tree of a whole expression
-abbrev pub tree : Written → Tree
-tree e = tree_at e.nodes (length e.nodes - 1)
+abbrev pub expression_tree : WrittenExpression → Tree
+expression_tree e = tree_at e.nodes (length e.nodes - 1)

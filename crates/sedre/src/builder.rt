@@ -18,7 +18,7 @@ pub struct Builder {
 
 impl Builder {
     ghost use Rattle.sedre.specs.Tree.{Tree};
-    ghost use Rattle.sedre.specs.Stacks.{Represents, Nesting, TakesItem, start, CanTake, Stored, IsLeaf, with_piece, whole};
+    ghost use Rattle.sedre.specs.Stacks.{Represents, Nesting, TakesItem, start, CanTake, Stored, IsLeaf, with_piece, whole_level};
     ghost use Rattle.sedre.specs.Stacks.{IsInterval};
 
     /// A builder to which nothing was added. The limit is one more than the nodes allowed.
@@ -120,7 +120,7 @@ impl Builder {
     pub fn join(&mut self) -> Result<(), AllocError>
         requires { (limit : ℕ) × (s : Nesting) × Represents limit self.old s × (s.below ≡ []) }
         ensures { OnOk result ((limit : ℕ) (s : Nesting) → Represents limit self.old s → s.below ≡ [] →
-            Stored limit self.new.stack (whole s.top ∷ []) × (self.new.opened ≡ s.opened)) }
+            Stored limit self.new.stack (whole_level s.top ∷ []) × (self.new.opened ≡ s.opened)) }
     {
         self.stack.concatenate(self.top.pieces)?;
         self.stack.alternate(0)?;

@@ -4,10 +4,10 @@ ghost use Rattle.std.specs.Prelude.{OnOk, IfOk, IfErr, vec_len};
 ghost use Rattle.std.specs.Bool.{OnTrue, OnFalse};
 ghost use Rattle.sedre.specs.declared.types.Reason.{Reason};
 ghost use Rattle.sedre.specs.Grammar.{ReadsAs, FaultyWith, ExprFaulty};
-ghost use Rattle.sedre.specs.Written.{tree};
+ghost use Rattle.sedre.specs.Written.{expression_tree};
 ghost use Rattle.sedre.specs.Sizes.{size};
-ghost use Rattle.sedre.specs.Stacks.{Nesting, Represents, whole};
-ghost use Rattle.sedre.specs.Finished.{Numbered, IsFinished, IsOverLimit};
+ghost use Rattle.sedre.specs.Stacks.{Nesting, Represents, whole_level};
+ghost use Rattle.sedre.specs.Finished.{GroupsNumbered, IsFinished, IsOverLimit};
 
 use crate::builder::Builder;
 use crate::items::item_at;
@@ -20,7 +20,7 @@ use std::alloc::Global;
 /// The expression of all that was read, if it is within the limits; otherwise a fault at the end of the text, `len`.
 fn finish(mut builder: Builder, len: usize) -> Result<Expr, ExprFault>
     requires { (limit : ℕ) × (s : Nesting) × Represents limit builder s × (s.below ≡ []) ×
-        Numbered s.opened (whole s.top) × (limit ≤ 65537) }
+        GroupsNumbered s.opened (whole_level s.top) × (limit ≤ 65537) }
     ensures ok { IfOk result (λ e. (limit : ℕ) (s : Nesting) → Represents limit builder s → s.below ≡ [] →
         IsFinished s limit e) }
     ensures err { IfErr result (λ f. (limit : ℕ) (s : Nesting) → Represents limit builder s → s.below ≡ [] →
@@ -78,8 +78,8 @@ fn read_with(
     requires most { max_nodes ≤ 65536 }
     requires not_backslash { delimiter ≢ Some 92 }
     requires not_newline { delimiter ≢ Some 10 }
-    ensures reads { IfOk result (λ e. ReadsAs kind folded delimiter text.now (tree e) e.groups) }
-    ensures size { IfOk result (λ e. (length e.nodes ≡ size (tree e)) × (length e.nodes ≤ max_nodes)) }
+    ensures reads { IfOk result (λ e. ReadsAs kind folded delimiter text.now (expression_tree e) e.groups) }
+    ensures size { IfOk result (λ e. (length e.nodes ≡ size (expression_tree e)) × (length e.nodes ≤ max_nodes)) }
     ensures no_fault { OnOk result ((place : ℕ) (reason : Reason) →
         FaultyWith kind folded delimiter text.now max_nodes place reason → ⊥) }
     ensures fault { IfErr result (λ f.
@@ -135,9 +135,9 @@ pub fn read(
     requires not_backslash { delimiter ≢ Some 92 }
     requires not_newline { delimiter ≢ Some 10 }
     // What is answered is what the text reads as.
-    ensures reads { IfOk result (λ e. ReadsAs kind false delimiter text.now (tree e) e.groups) }
+    ensures reads { IfOk result (λ e. ReadsAs kind false delimiter text.now (expression_tree e) e.groups) }
     // It has as many nodes as it has when it is written out, and no more than allowed.
-    ensures size { IfOk result (λ e. (length e.nodes ≡ size (tree e)) × (length e.nodes ≤ max_nodes)) }
+    ensures size { IfOk result (λ e. (length e.nodes ≡ size (expression_tree e)) × (length e.nodes ≤ max_nodes)) }
     // No fault is passed over.
     ensures no_fault { OnOk result ((place : ℕ) (reason : Reason) →
         ExprFaulty kind delimiter text.now max_nodes place reason → ⊥) }
@@ -165,9 +165,9 @@ pub fn read_folded(
     requires not_backslash { delimiter ≢ Some 92 }
     requires not_newline { delimiter ≢ Some 10 }
     // What is answered is what the text reads as.
-    ensures reads { IfOk result (λ e. ReadsAs kind true delimiter text.now (tree e) e.groups) }
+    ensures reads { IfOk result (λ e. ReadsAs kind true delimiter text.now (expression_tree e) e.groups) }
     // It has as many nodes as it has when it is written out, and no more than allowed.
-    ensures size { IfOk result (λ e. (length e.nodes ≡ size (tree e)) × (length e.nodes ≤ max_nodes)) }
+    ensures size { IfOk result (λ e. (length e.nodes ≡ size (expression_tree e)) × (length e.nodes ≤ max_nodes)) }
     // No fault is passed over.
     ensures no_fault { OnOk result ((place : ℕ) (reason : Reason) →
         ExprFaulty kind delimiter text.now max_nodes place reason → ⊥) }

@@ -63,7 +63,7 @@ impl Stack {
     ghost use Rattle.sedre.specs.Sizes.{size, depth};
     ghost use Rattle.sedre.specs.Repeats.{concatenation, alternation};
     ghost use Rattle.sedre.specs.Packed.{shifted};
-    ghost use Rattle.sedre.specs.Stacks.{Stored, LastBecomes, Joins, IsLeaf, Puts, last_end, pair, chain, covered};
+    ghost use Rattle.sedre.specs.Stacks.{Stored, LastBecomes, JoinsTrees, IsLeaf, Puts, last_end, pair, chain, covered};
 
     /// No trees.
     pub fn new(alloc: Global, limit: usize) -> Self
@@ -200,7 +200,7 @@ impl Stack {
     /// Makes the trees from number `from` on one, an alternation or a concatenation. There is at least one of them.
     pub fn join_all(&mut self, from: usize, alternatives: bool) -> Result<(), AllocError>
         requires { from < vec_len self.old.parts }
-        ensures trees { OnOk result (Joins from (chain alternatives) self.old self.new) }
+        ensures trees { OnOk result (JoinsTrees from (chain alternatives) self.old self.new) }
         ensures count { OnOk result (vec_len self.new.parts ≡ from + 1) }
     {
         while self.parts.len() > from + 1 {
@@ -212,7 +212,7 @@ impl Stack {
     /// Makes the trees from number `from` on one concatenation.
     pub fn concatenate(&mut self, from: usize) -> Result<(), AllocError>
         requires { from ≤ vec_len self.old.parts }
-        ensures trees { OnOk result (Joins from concatenation self.old self.new) }
+        ensures trees { OnOk result (JoinsTrees from concatenation self.old self.new) }
         ensures count { OnOk result (vec_len self.new.parts ≡ from + 1) }
     {
         if self.parts.len() == from {
@@ -225,7 +225,7 @@ impl Stack {
     /// Makes the trees from number `from` on one alternation. There is at least one of them.
     pub fn alternate(&mut self, from: usize) -> Result<(), AllocError>
         requires { from < vec_len self.old.parts }
-        ensures trees { OnOk result (Joins from alternation self.old self.new) }
+        ensures trees { OnOk result (JoinsTrees from alternation self.old self.new) }
         ensures count { OnOk result (vec_len self.new.parts ≡ from + 1) }
     {
         self.join_all(from, true)

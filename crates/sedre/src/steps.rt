@@ -1,6 +1,6 @@
 //! The count of steps: of looks at nodes, and of what the matcher counts besides.
 ghost use Rattle.std.specs.Prelude.{◌≡◌, ◌*◌};
-ghost use Rattle.sedre.specs.Steps.{Takes, Counted};
+ghost use Rattle.sedre.specs.Steps.{Takes, TakesExactly};
 
 use std::marker::Model;
 
@@ -36,7 +36,7 @@ impl Steps {
     /// Counts `n` more steps.
     pub fn add(&mut self, n: usize)
         ensures cost { Takes self.old self.new n }
-        ensures counts { Counted self.old self.new n }
+        ensures counts { TakesExactly self.old self.new n }
     {
         self.count = self.count.saturating_add(n as u128);
     }
@@ -44,7 +44,7 @@ impl Steps {
     /// Counts `times * each` more steps; the product may exceed a `usize`.
     pub fn add_times(&mut self, times: usize, each: usize)
         ensures cost { Takes self.old self.new (times * each) }
-        ensures counts { Counted self.old self.new (times * each) }
+        ensures counts { TakesExactly self.old self.new (times * each) }
     {
         self.count = self.count.saturating_add(times as u128 * each as u128);
     }

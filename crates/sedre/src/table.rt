@@ -2,8 +2,8 @@
 ghost use Rattle.std.specs.Prelude.{◌≡◌, ◌<◌, ◌≤◌, ◌+◌, ℕ, Bool, List, Some, IfOk, length, slice_get};
 ghost use Rattle.sedre.specs.declared.types.Node.TheVariants.{Set};
 ghost use Rattle.sedre.specs.Arena.{IsArena, IsExpr};
-ghost use Rattle.sedre.specs.Written.{Written};
-ghost use Rattle.sedre.specs.Steps.{Takes, Counted};
+ghost use Rattle.sedre.specs.Written.{WrittenExpression};
+ghost use Rattle.sedre.specs.Steps.{Takes, TakesExactly};
 
 use crate::byte_set::ByteSet;
 use crate::packed::Packed;
@@ -22,9 +22,9 @@ pub struct Expr {
 
 impl Model for Expr {
     ghost use Rattle.sedre.specs.Arena.{IsExpr};
-    ghost use Rattle.sedre.specs.Written.{Written};
+    ghost use Rattle.sedre.specs.Written.{WrittenExpression};
 
-    ghost Value = { Written };
+    ghost Value = { WrittenExpression };
 
     ghost view = { λ e. record { nodes = e.nodes; groups = e.groups } };
 
@@ -99,7 +99,7 @@ impl Expr {
         requires inside { id.index < length self.now.nodes }
         ensures node { slice_get self.now.nodes id.index ≡ Some result }
         ensures cost { Takes steps.old steps.new 1 }
-        ensures counts { Counted steps.old steps.new 1 }
+        ensures counts { TakesExactly steps.old steps.new 1 }
         ensures arena { IsArena self.now.nodes }
         ensures few { length self.now.nodes ≤ 65536 }
     {

@@ -6,7 +6,7 @@ use Rattle.std.proofs.lemmas.Bool.Decides.{eqb_tells}
 use Rattle.sedscript.specs.declared.items.Item.{Item}
 use Rattle.sedscript.specs.declared.items.Function.{Function}
 use Rattle.sedscript.specs.declared.items.Function.TheVariants.{Open, Close}
-use Rattle.sedscript.specs.Targets.{counted, commands_in, is_open, is_close, close_in, depth_after, block_end, leaves}
+use Rattle.sedscript.specs.Targets.{counted, commands_in, is_open, is_close, close_in, depth_after, block_end, becomes_command}
 use Rattle.sedscript.specs.Tables.{unopened, unopened_by, opened, blocks_in, with_end, ends_in}
 
 after_first : (us : List ℕ) (d : ℕ) → slice_get us (suc d) ≡ slice_get (drop 1 us) d
@@ -52,7 +52,7 @@ ends_step items k n next i end ends at e below new =
     by_open false h = below
 
 open_first : (f : Function) (n : ℕ) (is : List Item) → f ≡ Open →
-    slice_get (with_end f (close_in 0 (if leaves f then suc n else n) is) (ends_in (if leaves f then suc n else n) is)) 0 ≡ Some (close_in 0 (suc n) is)
+    slice_get (with_end f (close_in 0 (if becomes_command f then suc n else n) is) (ends_in (if becomes_command f then suc n else n) is)) 0 ≡ Some (close_in 0 (suc n) is)
 open_first f n is e = rw e refl
 
 skip_end : (b : Bool) (x : Option ℕ) (es : List (Option ℕ)) (m : ℕ) → slice_get (if b then x ∷ es else es) (if b then suc m else m) ≡ slice_get es m

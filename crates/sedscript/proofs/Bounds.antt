@@ -5,7 +5,7 @@ use Rattle.std.specs.Str.{bytes_eq}
 use Rattle.std.proofs.lemmas.Slice.Eq.{bytes_eq-Decides}
 use Rattle.std.proofs.lemmas.List.FromFn.{length-map-range_with_len}
 use Rattle.sedre.specs.declared.types.Kind.{Kind}
-use Rattle.sedre.specs.Written.{Written}
+use Rattle.sedre.specs.Written.{WrittenExpression}
 use Rattle.sedre.specs.Delimited.{delimiter_at}
 use Rattle.sedscript.specs.declared.bytes.Sort.TheVariants.{Blank, Name, Bang, Digit, Separator}
 use Rattle.sedscript.specs.declared.types.ScriptFault.{ScriptFault}
@@ -41,13 +41,13 @@ use Rattle.sedscript.specs.Items.{substitute_with, substitute_at, function_of, f
 use Rattle.sedscript.specs.Reading.{Reading, plainly, expression, ◌>>=◌}
 use Rattle.sedscript.specs.Addresses.{Addressed, Headed, line_of, folds_at, empty_match, match_to, match_at, own_match, address_of, address_at, with_second, second_at, after_first, addresses_at, with_bang}
 use Rattle.sedscript.specs.Expressions.{Gives, value, after_expression}
-use Rattle.sedscript.specs.Targets.{leaves, counted, commands_in, label_in, is_label, close_in, is_close, depth_after, block_end}
+use Rattle.sedscript.specs.Targets.{becomes_command, counted, commands_in, label_in, is_label, close_in, is_close, depth_after, block_end}
 use Rattle.sedscript.specs.declared.script.Named.{Named}
 use Rattle.sedscript.specs.Parts.{program_of, IsNamed}
 use Rattle.sedscript.specs.Script.{CutScript, done, item, is_quiet, with_text, texts_of, with_substitution}
 use Rattle.sedscript.specs.Script.{substitutions_of, with_table, tables_of, substitution_of, table_between, counts_with}
 use Rattle.sedscript.specs.Script.{none_counted, action_of, simple_action, text_action, branch_action, file_action}
-use Rattle.sedscript.specs.Script.{sink_of, with_action, commands_of, Judged, Means}
+use Rattle.sedscript.specs.Script.{sink_of, with_action, commands_of, CutWithoutFault, Means}
 use Rattle.sedscript.specs.Program.{Program}
 use Rattle.sedscript.specs.declared.substitution.Substitution.{Substitution}
 use Rattle.sedscript.specs.Ranges.{Sizes, sizes_of, IsOneOf, SinkWithin, AddressWithin, ActionWithin, CommandWithin, SubstitutionWithin, InRange}
@@ -133,7 +133,7 @@ abbrev Sums : Counts → Sizes → ℕ → ℕ → ℕ → Type 0
 Sums m n texts substitutions tables = (m.texts + texts ≡ n.texts) × (m.substitutions + substitutions ≡ n.substitutions) × (m.tables + tables ≡ n.tables)
 
 may_act : (text : List ℕ) (all before after : List Item) (m : Counts) (n : Sizes) (f : Function) → FilesWithin text all n f → commands_in all ≡ n.commands →
-    commands_in before + (if leaves f then suc (commands_in after) else commands_in after) ≡ n.commands →
+    commands_in before + (if becomes_command f then suc (commands_in after) else commands_in after) ≡ n.commands →
     Sums m n (length (with_text text f (texts_of text after))) (length (with_substitution text all f (substitutions_of text all after))) (length (with_table text f (tables_of text after))) →
     MayAct n (action_of text all before m after f)
 may_act text all before after m n (Plain s) files whole count long = simple_within n s
@@ -195,7 +195,7 @@ bounds_then P Q count (plainly (Err x)) f h g = tt
 bounds_then P Q count (expression p k) f h g = λ groups. bounds_then P Q (suc count) (k groups) f (h groups) (λ n x le. g n x (omega (arith, le)))
 
 -- what is given is bounded by the count after all expressions
-gives_bounds : {A : Type 0} (P : ℕ → A → Type 0) (text : List ℕ) (kind : Kind) (m count : ℕ) (r : Reading A) (es : List Written) (x : A) → Gives text kind m r es x → Bounds P count r → P (count + length es) x
+gives_bounds : {A : Type 0} (P : ℕ → A → Type 0) (text : List ℕ) (kind : Kind) (m count : ℕ) (r : Reading A) (es : List WrittenExpression) (x : A) → Gives text kind m r es x → Bounds P count r → P (count + length es) x
 gives_bounds P text kind m count _ _ x value h = subst (λ (n : ℕ). P n x) (let e : count ≡ count + 0 = omega arith in e) h
 gives_bounds P text kind m count _ _ x (after_expression {k = k} {es = es} e is g) h =
     subst (λ (n : ℕ). P n x) (let same : suc count + length es ≡ count + suc (length es) = omega arith in same) (gives_bounds P text kind m (suc count) (k e.groups) es x g (h e.groups))
@@ -458,7 +458,7 @@ function_more : (m n : ℕ) (f : Function) → m ≤ n → FunctionWithin m f �
 function_more m n (Substitute s e f) le h = (one_more m n e le h.0, h.1)
 function_more m n f le h = tt
 
-cut_within : (text : List ℕ) (kind : Kind) (m count at to n : ℕ) (is : List Item) (es : List Written) → CutScript text kind m count at is es to → n ≡ count + length es → ItemsWithin n is
+cut_within : (text : List ℕ) (kind : Kind) (m count at to n : ℕ) (is : List Item) (es : List WrittenExpression) → CutScript text kind m count at is es to → n ≡ count + length es → ItemsWithin n is
 cut_within text kind m count at to n _ _ done e = tt
 cut_within text kind m count at to n _ _ (item {next = next} {i = i} {is = is} es fs read rest) e = (
   (let here = gives_bounds HereWithin text kind m count (item_at text count at) es (Is i next) read (item_bounds text count at) in
@@ -500,7 +500,7 @@ commands_within text all before (i ∷ is) m n whole count long h files =
     (sums_step text all i.function m n (texts_of text is) (substitutions_of text all is) (tables_of text is) long) h.1 files.1)
 
 leaf_length : (text : List ℕ) (all before after : List Item) (m : Counts) (n : ℕ) (a : Addresses) (f : Function) (cs : List Command) → length cs ≡ n →
-    length (with_action a (action_of text all before m after f) cs) ≡ (if leaves f then suc n else n)
+    length (with_action a (action_of text all before m after f) cs) ≡ (if becomes_command f then suc n else n)
 leaf_length text all before after m n a (Plain s) cs h = omega (arith, h)
 leaf_length text all before after m n a Open cs h = omega (arith, h)
 leaf_length text all before after m n a (Branch u from to) cs h = omega (arith, h)
@@ -519,26 +519,26 @@ commands_length text all before (i ∷ is) m =
 
 -- expressions
 
-abbrev AllFit : ℕ → List Written → Type 0
+abbrev AllFit : ℕ → List WrittenExpression → Type 0
 AllFit m [] = Unit {0}
 AllFit m (e ∷ es) = (length e.nodes ≤ m) × AllFit m es
 
-fit_append : (m : ℕ) (es fs : List Written) → AllFit m es → AllFit m fs → AllFit m (es ++ fs)
+fit_append : (m : ℕ) (es fs : List WrittenExpression) → AllFit m es → AllFit m fs → AllFit m (es ++ fs)
 fit_append m [] fs h g = g
 fit_append m (e ∷ es) fs h g = (h.0, fit_append m es fs h.1 g)
 
-fit_read : {A : Type 0} (text : List ℕ) (kind : Kind) (m : ℕ) (r : Reading A) (es : List Written) (x : A) → Gives text kind m r es x → AllFit m es
+fit_read : {A : Type 0} (text : List ℕ) (kind : Kind) (m : ℕ) (r : Reading A) (es : List WrittenExpression) (x : A) → Gives text kind m r es x → AllFit m es
 fit_read text kind m _ _ x value = tt
 fit_read text kind m _ _ x (after_expression {k = k} {es = es} e is g) = (is.fits, fit_read text kind m (k e.groups) es x g)
 
-cut_fit : (text : List ℕ) (kind : Kind) (m count at to : ℕ) (is : List Item) (es : List Written) → CutScript text kind m count at is es to → AllFit m es
+cut_fit : (text : List ℕ) (kind : Kind) (m count at to : ℕ) (is : List Item) (es : List WrittenExpression) → CutScript text kind m count at is es to → AllFit m es
 cut_fit text kind m count at to _ _ done = tt
 cut_fit text kind m count at to _ _ (item {next = next} {i = i} {is = is} es fs read rest) =
     fit_append m es fs (fit_read text kind m (item_at text count at) es (Is i next) read) (cut_fit text kind m (count + length es) next to is fs rest)
 
-fit_at : (m : ℕ) (es : List Written) (k : ℕ) (e : Written) → AllFit m es → slice_get es k ≡ Some e → length e.nodes ≤ m
-fit_at m [] k e h g = let bad : ◌≡◌ {A = Option Written} None (Some e) = g in cc
-fit_at m (f ∷ es) zero e h g = let same : f ≡ e = cc in subst (λ (x : Written). length x.nodes ≤ m) same h.0
+fit_at : (m : ℕ) (es : List WrittenExpression) (k : ℕ) (e : WrittenExpression) → AllFit m es → slice_get es k ≡ Some e → length e.nodes ≤ m
+fit_at m [] k e h g = let bad : ◌≡◌ {A = Option WrittenExpression} None (Some e) = g in cc
+fit_at m (f ∷ es) zero e h g = let same : f ≡ e = cc in subst (λ (x : WrittenExpression). length x.nodes ≤ m) same h.0
 fit_at m (f ∷ es) (suc k) e h g = fit_at m es k e h.1 g
 
 from_none : (n m : ℕ) → m ≡ n → 0 + n ≡ m
@@ -666,13 +666,13 @@ means_in_range text kind m s h =
     }
 
 -- the parts that were made are in range
-pub means_named : (text : List ℕ) (kind : Kind) (m to : ℕ) (is : List Item) (es : List Written) (cs : List Command) (named : Named) (quiet : Bool) → Judged text kind m is es to →
+pub means_named : (text : List ℕ) (kind : Kind) (m to : ℕ) (is : List Item) (es : List WrittenExpression) (cs : List Command) (named : Named) (quiet : Bool) → CutWithoutFault text kind m is es to →
     cs ≡ commands_of text is [] none_counted is → IsNamed text is es named → quiet ≡ is_quiet text → InRange (program_of cs named quiet m)
 means_named text kind m to is es cs named quiet j c n q =
     means_in_range text kind m (program_of cs named quiet m) (record {
       items = is;
       to = to;
-      judged = subst (λ (es : List Written). Judged text kind m is es to) (sym n.exprs) j;
+      judged = subst (λ (es : List WrittenExpression). CutWithoutFault text kind m is es to) (sym n.exprs) j;
       commands = c;
       texts = n.texts;
       substitutions = n.substitutions;

@@ -4,7 +4,7 @@ use Rattle.std.proofs.lemmas.Bool.Decides.{eqb_tells}
 use Rattle.std.specs.Result.{IsErrAnd}
 use Rattle.std.proofs.lemmas.List.{append-nil}
 use Rattle.sedre.specs.declared.types.Kind.{Kind}
-use Rattle.sedre.specs.Written.{Written}
+use Rattle.sedre.specs.Written.{WrittenExpression}
 use Rattle.sedre.specs.declared.types.ExprFault.{ExprFault}
 use Rattle.sedre.specs.declared.types.Reason.{Reason as ExprReason}
 use Rattle.sedre.specs.declared.types.Reason.TheVariants.{NoMemory}
@@ -21,7 +21,7 @@ use Rattle.sedscript.specs.declared.items.Here.{Here}
 use Rattle.sedscript.specs.declared.items.Here.TheVariants.{Is, Ends}
 use Rattle.sedscript.specs.Bytes.{bytes_between, past, is_byte, is_digit, with_digits}
 use Rattle.sedscript.specs.Reading.{Pattern, Reading, plainly, expression, ◌>>=◌}
-use Rattle.sedscript.specs.Addresses.{Addressed, found, headed, folds_at, past_flag, empty_match, match_at, match_to, own_match, addresses_at, after_first, address_at, address_of, line_of}
+use Rattle.sedscript.specs.Addresses.{Addressed, found, with_addresses, folds_at, past_flag, empty_match, match_at, match_to, own_match, addresses_at, after_first, address_at, address_of, line_of}
 use Rattle.sedscript.specs.declared.items.Strings.{Strings}
 use Rattle.sedscript.specs.declared.items.Function.{Function}
 use Rattle.sedscript.specs.Between.{own_delimiter, substitute_strings, flags_after, substituted}
@@ -52,13 +52,13 @@ if_false x y true e = let bad : true ≡ false = e in cc
 if_false x y false e = refl
 
 -- what is read after what was read
-pub gives_then : {A B : Type 0} (text : List ℕ) (kind : Kind) (m : ℕ) (r : Reading A) (f : A → Reading B) (es fs : List Written) (a : A) (b : B) →
+pub gives_then : {A B : Type 0} (text : List ℕ) (kind : Kind) (m : ℕ) (r : Reading A) (f : A → Reading B) (es fs : List WrittenExpression) (a : A) (b : B) →
     Gives text kind m r es a → Gives text kind m (f a) fs b → Gives text kind m (r >>= f) (es ++ fs) b
 gives_then text kind m _ f _ fs _ b value h = h
 gives_then text kind m _ f _ fs a b (after_expression {k = k} {es = es} e is g) h = after_expression e is (gives_then text kind m (k e.groups) f es fs a b g h)
 
 -- a fault after what was read
-pub fails_then : {A B : Type 0} (text : List ℕ) (kind : Kind) (m : ℕ) (r : Reading A) (f : A → Reading B) (es : List Written) (a : A) (x : ScriptFault) →
+pub fails_then : {A B : Type 0} (text : List ℕ) (kind : Kind) (m : ℕ) (r : Reading A) (f : A → Reading B) (es : List WrittenExpression) (a : A) (x : ScriptFault) →
     Gives text kind m r es a → Fails text kind m (f a) x → Fails text kind m (r >>= f) x
 fails_then text kind m _ f _ _ x value h = h
 fails_then text kind m _ f _ a x (after_expression {k = k} {es = es} e is g) h = later e is (fails_then text kind m (k e.groups) f es a x g h)
@@ -71,11 +71,11 @@ fails_first text kind m _ f _ (no_expression {f = g} h) = no_expression {f = g} 
 fails_first text kind m _ f x (later {k = k} e is h) = later e is (fails_first text kind m (k e.groups) f x h)
 
 -- what one function read, and what another read after it
-pub comes_then : {A B Y : Type 0} (text : List ℕ) (kind : Kind) (m : ℕ) (old mid new : List Written) (r : Reading A) (f : A → Reading B) (a : A) (w : Y → ℕ → B) (result : Result Y ScriptFault) →
-    (es : List Written) × Gives text kind m r es a × (mid ≡ old ++ es) →
+pub comes_then : {A B Y : Type 0} (text : List ℕ) (kind : Kind) (m : ℕ) (old mid new : List WrittenExpression) (r : Reading A) (f : A → Reading B) (a : A) (w : Y → ℕ → B) (result : Result Y ScriptFault) →
+    (es : List WrittenExpression) × Gives text kind m r es a × (mid ≡ old ++ es) →
     Comes text kind m mid new w result (f a) → Comes text kind m old new w result (r >>= f)
 comes_then text kind m old mid new r f a w (Ok y) first h =
-    (first.0 ++ h.0, gives_then text kind m r f first.0 h.0 a (w y (length new)) first.1 h.1, h.2 ∙ (ap (λ (z : List Written). z ++ h.0) first.2 ∙ append_assoc old first.0 h.0))
+    (first.0 ++ h.0, gives_then text kind m r f first.0 h.0 a (w y (length new)) first.1 h.1, h.2 ∙ (ap (λ (z : List WrittenExpression). z ++ h.0) first.2 ∙ append_assoc old first.0 h.0))
 comes_then text kind m old mid new r f a w (Err x) first (inl h) = inl (fails_then text kind m r f first.0 a x first.1 h)
 comes_then text kind m old mid new r f a w (Err x) first (inr e) = inr e
 
@@ -86,21 +86,21 @@ comes_err text kind m r f x (inl h) = inl (fails_first text kind m r f x h)
 comes_err text kind m r f x (inr e) = inr e
 
 -- a fault that another function answered
-pub comes_as_err : {X A : Type 0} (text : List ℕ) (kind : Kind) (m : ℕ) (old new : List Written) (w : X → ℕ → A) (result : Result X ScriptFault) (r : Reading A) (x : ScriptFault) →
+pub comes_as_err : {X A : Type 0} (text : List ℕ) (kind : Kind) (m : ℕ) (old new : List WrittenExpression) (w : X → ℕ → A) (result : Result X ScriptFault) (r : Reading A) (x : ScriptFault) →
     IsErrAnd result (λ (y : ScriptFault). y ≡ x) → Fails text kind m r x ⊎ (x ≡ NO_MEMORY) → Comes text kind m old new w result r
 comes_as_err text kind m old new w (Ok y) r x is h = absurd is
 comes_as_err text kind m old new w (Err y) r x is h = subst (λ (f : ScriptFault). Fails text kind m r f ⊎ (f ≡ NO_MEMORY)) (sym is) h
 
 -- what reads no expression
-pub comes_plain : {X A : Type 0} (text : List ℕ) (kind : Kind) (m : ℕ) (old new : List Written) (w : X → ℕ → A) (result : Result X ScriptFault) (r : Result A ScriptFault) →
+pub comes_plain : {X A : Type 0} (text : List ℕ) (kind : Kind) (m : ℕ) (old new : List WrittenExpression) (w : X → ℕ → A) (result : Result X ScriptFault) (r : Result A ScriptFault) →
     old ≡ new → Agrees w (length new) result r → Comes text kind m old new w result (plainly r)
 comes_plain {A = A} text kind m old new w (Ok x) r same h =
     ([], subst (λ (z : Result A ScriptFault). Gives text kind m (plainly z) [] (w x (length new))) (sym h) value, sym same ∙ sym (append-nil old))
 comes_plain {A = A} text kind m old new w (Err x) r same h = inl (subst (λ (z : Result A ScriptFault). Fails text kind m (plainly z) x) (sym h) own)
 
 -- a value without an expression
-pub gives_plain : {A : Type 0} (text : List ℕ) (kind : Kind) (m : ℕ) (old : List Written) (r : Reading A) (x : A) → r ≡ plainly (Ok x) →
-    (es : List Written) × Gives text kind m r es x × (old ≡ old ++ es)
+pub gives_plain : {A : Type 0} (text : List ℕ) (kind : Kind) (m : ℕ) (old : List WrittenExpression) (r : Reading A) (x : A) → r ≡ plainly (Ok x) →
+    (es : List WrittenExpression) × Gives text kind m r es x × (old ≡ old ++ es)
 gives_plain {A = A} text kind m old r x e = ([], subst (λ (z : Reading A). Gives text kind m z [] x) (sym e) value, sym (append-nil old))
 
 pub match_open : (text : List ℕ) (kind : Kind) (m count d place : ℕ) → delimiter_at text (place + 1) d ≡ None →
@@ -127,7 +127,7 @@ pub fails_as_read : {A : Type 0} (text : List ℕ) (kind : Kind) (m : ℕ) (p : 
 fails_as_read text kind m p k f h = fails_in_script text kind m p k f (is_no_memory f.reason) refl h
 
 -- an expression that was read
-pub expression_comes : (text : List ℕ) (kind : Kind) (m : ℕ) (p : Pattern) (old new : List Written) (e : Written) (groups : ℕ) → groups ≡ e.groups → IsRead text kind m p e → new ≡ old ++ e ∷ [] →
+pub expression_comes : (text : List ℕ) (kind : Kind) (m : ℕ) (p : Pattern) (old new : List WrittenExpression) (e : WrittenExpression) (groups : ℕ) → groups ≡ e.groups → IsRead text kind m p e → new ≡ old ++ e ∷ [] →
     Comes text kind m old new as_groups (Ok groups) (expression p (λ (groups : ℕ). plainly (Ok groups)))
 expression_comes text kind m p old new e groups same read grown =
     subst (λ (n : ℕ). Comes text kind m old new as_groups (Ok n) (expression p (λ (groups : ℕ). plainly (Ok groups)))) (sym same) (e ∷ [], after_expression e read value, grown)
@@ -143,7 +143,7 @@ match_is text count d place to folded e n f =
 match_agrees : (old new number at next : ℕ) → number ≡ old → new ≡ old + 1 → next ≡ at → Agrees as_addressed new (Ok (Some (Match (Some number)), next)) (found (Some (Match (Some old))) at (old + 1))
 match_agrees old new number at next e f g = cc
 
-pub match_comes : (text : List ℕ) (kind : Kind) (m d place to number groups next : ℕ) (folded : Bool) (old new : List Written) → delimiter_at text (place + 1) d ≡ Some to → to ≢ place + 1 → folded ≡ folds_at text (to + 1) →
+pub match_comes : (text : List ℕ) (kind : Kind) (m d place to number groups next : ℕ) (folded : Bool) (old new : List WrittenExpression) → delimiter_at text (place + 1) d ≡ Some to → to ≢ place + 1 → folded ≡ folds_at text (to + 1) →
     number ≡ length old → length new ≡ length old + 1 → next ≡ past_flag text (to + 1) →
     Comes text kind m old new as_groups (Ok groups) (expression (record { from = place + 1; to = to; delimiter = d; folded = folded }) (λ (groups : ℕ). plainly (Ok groups))) →
     Comes text kind m old new as_addressed (Ok (Some (Match (Some number)), next)) (match_at text (length old) d place)
@@ -159,7 +159,7 @@ match_empty : (text : List ℕ) (count d place to : ℕ) → delimiter_at text (
 unfolding match_at
 match_empty text count d place to e same = ap (match_to text count d place) e ∙ if_true _ _ (to == place + 1) (equal to (place + 1) same)
 
-pub empty_comes : (text : List ℕ) (kind : Kind) (m d place to : ℕ) (old : List Written) (result : Result (Option Address × ℕ) ScriptFault) → delimiter_at text (place + 1) d ≡ Some to → to ≡ place + 1 →
+pub empty_comes : (text : List ℕ) (kind : Kind) (m d place to : ℕ) (old : List WrittenExpression) (result : Result (Option Address × ℕ) ScriptFault) → delimiter_at text (place + 1) d ≡ Some to → to ≡ place + 1 →
     Agrees as_addressed (length old) result (empty_match text (length old) (to + 1)) → Comes text kind m old old as_addressed result (match_at text (length old) d place)
 empty_comes text kind m d place to old result e same h =
     subst (λ (r : Reading Addressed). Comes text kind m old old as_addressed result r) (sym (match_empty text (length old) d place to e same))
@@ -168,13 +168,13 @@ empty_comes text kind m d place to old result e same h =
 pub own_none : (text : List ℕ) (kind : Kind) (m count place : ℕ) (o : Option ℕ) → o ≡ None → Fails text kind m (own_match text count place o) (record { place = place; reason = BadDelimiter })
 own_none text kind m count place o e = subst (λ (o : Option ℕ). Fails text kind m (own_match text count place o) (record { place = place; reason = BadDelimiter })) (sym e) own
 
-pub item_none : (text : List ℕ) (kind : Kind) (m : ℕ) (old new : List Written) (place : ℕ) → slice_get text (past Separator text place) ≡ None → old ≡ new →
+pub item_none : (text : List ℕ) (kind : Kind) (m : ℕ) (old new : List WrittenExpression) (place : ℕ) → slice_get text (past Separator text place) ≡ None → old ≡ new →
     Comes text kind m old new as_here (Ok Ends) (item_at text (length old) place)
 unfolding item_at
 item_none text kind m old new place e same =
     subst (λ (o : Option ℕ). Comes text kind m old new as_here (Ok Ends) (item_from text (length old) (past Separator text place) o)) (sym e) ([], value, sym same ∙ sym (append-nil old))
 
-pub item_some : (text : List ℕ) (kind : Kind) (m : ℕ) (old new : List Written) (place start b : ℕ) (result : Result Here ScriptFault) → start ≡ past Separator text place → slice_get text start ≡ Some b →
+pub item_some : (text : List ℕ) (kind : Kind) (m : ℕ) (old new : List WrittenExpression) (place start b : ℕ) (result : Result Here ScriptFault) → start ≡ past Separator text place → slice_get text start ≡ Some b →
     Comes text kind m old new as_here result (addresses_at text (length old) start >>= function_after text) →
     Comes text kind m old new as_here result (item_at text (length old) place)
 unfolding item_at
@@ -205,10 +205,10 @@ no_address text count at b e d last slash other =
     ap (address_of text count at) e ∙ if_false _ _ (is_digit b) d ∙ if_false _ _ (b == 36) (not_equal b 36 last) ∙ if_false _ _ (b == 47) (not_equal b 47 slash) ∙ if_false _ _ (b == 92) (not_equal b 92 other)
 
 pub only_first : (text : List ℕ) (count at : ℕ) (first : Address) (o : Option Address) → o ≡ Some first → is_byte 44 (slice_get text (past Blank text at)) ≡ false →
-    after_first text count at o ≡ plainly (headed (Some first) None at count)
+    after_first text count at o ≡ plainly (with_addresses (Some first) None at count)
 only_first text count at first o e d = ap (after_first text count at) e ∙ if_false _ _ (is_byte 44 (slice_get text (past Blank text at))) d
 
-pub line_comes : (text : List ℕ) (kind : Kind) (m : ℕ) (old : List Written) (at b : ℕ) (result : Result (Option Address × ℕ) ScriptFault) → slice_get text at ≡ Some b → is_digit b ≡ true →
+pub line_comes : (text : List ℕ) (kind : Kind) (m : ℕ) (old : List WrittenExpression) (at b : ℕ) (result : Result (Option Address × ℕ) ScriptFault) → slice_get text at ≡ Some b → is_digit b ≡ true →
     Agrees as_addressed (length old) result (line_of (length old) at (past Digit text at) (with_digits (Some 0) (bytes_between text at (past Digit text at)))) →
     Comes text kind m old old as_addressed result (address_at text (length old) at)
 unfolding address_at
@@ -236,7 +236,7 @@ substitute_is text count s folded n f =
     subst (λ (b : Bool). substitute_with text count s ≡ (expression (record { from = s.from; to = s.middle; delimiter = s.delimiter; folded = b }) (λ (groups : ℕ). plainly (Ok groups)) >>= λ (groups : ℕ). plainly (substituted text s (Some count) (Some groups)))) (sym f)
     (if_false _ _ (s.middle == s.from) (not_equal s.middle s.from n))
 
-pub substitute_comes : (text : List ℕ) (kind : Kind) (m number groups : ℕ) (s : Strings) (folded : Bool) (old new : List Written) (result : Result (Function × ℕ) ScriptFault) → s.middle ≢ s.from →
+pub substitute_comes : (text : List ℕ) (kind : Kind) (m number groups : ℕ) (s : Strings) (folded : Bool) (old new : List WrittenExpression) (result : Result (Function × ℕ) ScriptFault) → s.middle ≢ s.from →
     folded ≡ folds (flags_after text s false) → number ≡ length old →
     Comes text kind m old new as_groups (Ok groups) (expression (record { from = s.from; to = s.middle; delimiter = s.delimiter; folded = folded }) (λ (groups : ℕ). plainly (Ok groups))) →
     result ≡ substituted text s (Some number) (Some groups) → Comes text kind m old new as_function result (substitute_with text (length old) s)
@@ -253,7 +253,7 @@ unfolding substitute_at
 substitute_fault text kind m count at f e =
     inl (subst (λ (r : Result Strings ScriptFault). Fails text kind m (plainly r >>= substitute_with text count) f) (sym e) own)
 
-pub substitute_goes : (text : List ℕ) (kind : Kind) (m : ℕ) (old new : List Written) (at : ℕ) (s : Strings) (result : Result (Function × ℕ) ScriptFault) →
+pub substitute_goes : (text : List ℕ) (kind : Kind) (m : ℕ) (old new : List WrittenExpression) (at : ℕ) (s : Strings) (result : Result (Function × ℕ) ScriptFault) →
     substitute_strings text (at + 1) (own_delimiter (slice_get text (at + 1))) ≡ Ok s → Comes text kind m old new as_function result (substitute_with text (length old) s) →
     Comes text kind m old new as_function result (substitute_at text (length old) at)
 unfolding substitute_at
@@ -263,7 +263,7 @@ substitute_goes text kind m old new at s result e h =
 -- functions
 
 -- a function without an expression
-pub function_comes : (text : List ℕ) (kind : Kind) (m at : ℕ) (old : List Written) (verb : Verb) (shape : Shape) (result : Result (Function × ℕ) ScriptFault) → verb ≡ Reads shape → result ≡ function_of text shape at →
+pub function_comes : (text : List ℕ) (kind : Kind) (m at : ℕ) (old : List WrittenExpression) (verb : Verb) (shape : Shape) (result : Result (Function × ℕ) ScriptFault) → verb ≡ Reads shape → result ≡ function_of text shape at →
     Comes text kind m old old as_function result (function_with text (length old) verb at)
 function_comes text kind m at old verb shape result is e =
     subst (λ (v : Verb). Comes text kind m old old as_function result (function_with text (length old) v at)) (sym is)
@@ -278,7 +278,7 @@ item_fault text kind m count letter at a f there e =
     (inl (subst (λ (r : Result Verb ScriptFault). Fails text kind m (plainly r >>= λ (v : Verb). function_with text count v at >>= λ (found : Function × ℕ). plainly (Ok (item_of a at found))) f) (sym e) own))
 
 -- the item of a function that may stand there
-pub item_goes : (text : List ℕ) (kind : Kind) (m letter at : ℕ) (verb : Verb) (a : Addresses) (old new : List Written) (result : Result Here ScriptFault) → slice_get text at ≡ Some letter →
+pub item_goes : (text : List ℕ) (kind : Kind) (m letter at : ℕ) (verb : Verb) (a : Addresses) (old new : List WrittenExpression) (result : Result Here ScriptFault) → slice_get text at ≡ Some letter →
     allowed a at (verb_of letter) ≡ Ok verb →
     Comes text kind m old new as_here result (function_with text (length old) verb at >>= λ (found : Function × ℕ). plainly (Ok (item_of a at found))) →
     Comes text kind m old new as_here result (function_at text (length old) a at)
@@ -293,7 +293,7 @@ unfolding function_at
 no_function text kind m count at a e =
     inl (subst (λ (o : Option ℕ). Fails text kind m (item_with text count a at o) (record { place = at; reason = UnknownCommand })) (sym e) own)
 
-pub item_comes : (text : List ℕ) (kind : Kind) (m at : ℕ) (verb : Verb) (a : Addresses) (old new : List Written) (found : Function × ℕ) (h : Here) → h ≡ item_of a at found →
+pub item_comes : (text : List ℕ) (kind : Kind) (m at : ℕ) (verb : Verb) (a : Addresses) (old new : List WrittenExpression) (found : Function × ℕ) (h : Here) → h ≡ item_of a at found →
     Comes text kind m old new as_function (Ok found) (function_with text (length old) verb at) →
     Comes text kind m old new as_here (Ok h) (function_with text (length old) verb at >>= λ (found : Function × ℕ). plainly (Ok (item_of a at found)))
 item_comes text kind m at verb a old new found h is k =

@@ -1,7 +1,7 @@
 -- A text that means a script has no fault.
 use Rattle.std.proofs.Common.{Bool, ◌≡◌, ℕ, suc, ◌+◌, List, [], ◌∷◌, length, Option, Some, None, refl, sym, ap, subst, ◌∙◌, arith, length-append}
 use Rattle.sedre.specs.declared.types.Kind.{Kind}
-use Rattle.sedre.specs.Written.{Written, tree}
+use Rattle.sedre.specs.Written.{WrittenExpression, expression_tree}
 use Rattle.sedre.specs.Tree.{Tree}
 use Rattle.sedre.specs.Grammar.{ReadsAs}
 use Rattle.sedscript.specs.declared.types.ScriptFault.{ScriptFault}
@@ -14,7 +14,7 @@ use Rattle.sedscript.specs.Reading.{Pattern, Reading}
 use Rattle.sedscript.specs.Items.{item_at, item_from}
 use Rattle.sedscript.specs.Expressions.{IsRead, Gives, value, after_expression}
 use Rattle.sedscript.specs.FirstFault.{Fails, no_expression, later, Faulty, early, afterwards}
-use Rattle.sedscript.specs.Script.{CutScript, done, item, IsEnd, Means, Judged}
+use Rattle.sedscript.specs.Script.{CutScript, done, item, IsEnd, Means, CutWithoutFault}
 use Rattle.sedscript.specs.Program.{Program}
 use Rattle.sedscript.specs.Targets.{target_fault}
 
@@ -24,11 +24,11 @@ ReadsAsOne = (kind : Kind) (folded : Bool) (delimiter : Option ℕ) (text : List
     ReadsAs kind folded delimiter text one groups → ReadsAs kind folded delimiter text other more → (one ≡ other) × (groups ≡ more)
 
 -- what stands after one reading of a pattern stands after the other
-pub as_other : (text : List ℕ) (kind : Kind) (m : ℕ) (p : Pattern) (d e : Written) → ReadsAsOne → IsRead text kind m p d → IsRead text kind m p e → d.groups ≡ e.groups
-as_other text kind m p d e one h g = (one kind p.folded (Some p.delimiter) (bytes_between text p.from p.to) (tree d) (tree e) d.groups e.groups h.reads g.reads).1
+pub as_other : (text : List ℕ) (kind : Kind) (m : ℕ) (p : Pattern) (d e : WrittenExpression) → ReadsAsOne → IsRead text kind m p d → IsRead text kind m p e → d.groups ≡ e.groups
+as_other text kind m p d e one h g = (one kind p.folded (Some p.delimiter) (bytes_between text p.from p.to) (expression_tree d) (expression_tree e) d.groups e.groups h.reads g.reads).1
 
 -- what is read is one value, with one number of expressions
-pub gives_one : {A : Type 0} (text : List ℕ) (kind : Kind) (m : ℕ) (r : Reading A) (es fs : List Written) (a b : A) → ReadsAsOne →
+pub gives_one : {A : Type 0} (text : List ℕ) (kind : Kind) (m : ℕ) (r : Reading A) (es fs : List WrittenExpression) (a b : A) → ReadsAsOne →
     Gives text kind m r es a → Gives text kind m r fs b → (a ≡ b) × (length es ≡ length fs)
 gives_one text kind m _ _ _ _ _ one value value = (refl, refl)
 gives_one text kind m _ _ _ a b one (after_expression {p = p} {k = k} {es = es} d is g) (after_expression {es = fs} e is' g') =
@@ -37,7 +37,7 @@ gives_one text kind m _ _ _ a b one (after_expression {p = p} {k = k} {es = es} 
     (h.0, ap suc h.1)
 
 -- what is read has no fault
-pub no_fails : {A : Type 0} (text : List ℕ) (kind : Kind) (m : ℕ) (r : Reading A) (es : List Written) (a : A) (f : ScriptFault) → ReadsAsOne →
+pub no_fails : {A : Type 0} (text : List ℕ) (kind : Kind) (m : ℕ) (r : Reading A) (es : List WrittenExpression) (a : A) (f : ScriptFault) → ReadsAsOne →
     Gives text kind m r es a → Fails text kind m r f → ⊥
 no_fails text kind m _ _ _ _ one value h = elim h [ ]
 no_fails text kind m _ _ a _ one (after_expression {p = p} d is g) (no_expression {f = f} bad) = is.no_fault f.place f.reason bad
@@ -54,7 +54,7 @@ pub is_next : (i j : Item) (a b : ℕ) → ◌≡◌ {A = Here} (Is i a) (Is j b
 is_next i j a b e = (cc, cc)
 
 -- no fault stands after a cut that another cut goes on from
-pub cut_no_fault : (text : List ℕ) (kind : Kind) (m count at to stop : ℕ) (is js : List Item) (es fs : List Written) (f : ScriptFault) (n : ℕ) → ReadsAsOne →
+pub cut_no_fault : (text : List ℕ) (kind : Kind) (m count at to stop : ℕ) (is js : List Item) (es fs : List WrittenExpression) (f : ScriptFault) (n : ℕ) → ReadsAsOne →
     CutScript text kind m count at is es to → IsEnd text to → CutScript text kind m count at js fs stop → n ≡ count + length fs → Fails text kind m (item_at text n stop) f → ⊥
 cut_no_fault text kind m count at to stop _ _ _ _ f n one done ends done e bad =
     no_fails text kind m (item_at text n at) [] Ends f one (end_gives text kind m n at ends) bad
@@ -73,7 +73,7 @@ cut_no_fault text kind m count at to stop _ _ _ _ f n one (item {next = next} {i
     (e ∙ (ap (λ (k : ℕ). count + k) (length-append gs hs) ∙ omega (arith, long))) bad
 
 -- two cuts up to the end have the same items
-pub cut_same : (text : List ℕ) (kind : Kind) (m count at to stop : ℕ) (is js : List Item) (es fs : List Written) → ReadsAsOne →
+pub cut_same : (text : List ℕ) (kind : Kind) (m count at to stop : ℕ) (is js : List Item) (es fs : List WrittenExpression) → ReadsAsOne →
     CutScript text kind m count at is es to → IsEnd text to → CutScript text kind m count at js fs stop → IsEnd text stop → is ≡ js
 cut_same text kind m count at to stop _ _ _ _ one done ends done stops = refl
 cut_same text kind m count at to stop _ _ _ _ one done ends (item {next = next} {i = j} es fs is rest) stops =
@@ -91,7 +91,7 @@ cut_same text kind m count at to stop _ _ _ _ one (item {next = next} {i = i} {i
     ap (λ (y : List Item). i ∷ y) tail ∙ ap (λ (x : Item). x ∷ js0) same.0
 
 -- a text that is cut to its end with nothing wrong has no fault
-pub judged_no_fault : (text : List ℕ) (kind : Kind) (m : ℕ) (is : List Item) (fs : List Written) (to : ℕ) (f : ScriptFault) → ReadsAsOne → Judged text kind m is fs to → Faulty text kind m f → ⊥
+pub judged_no_fault : (text : List ℕ) (kind : Kind) (m : ℕ) (is : List Item) (fs : List WrittenExpression) (to : ℕ) (f : ScriptFault) → ReadsAsOne → CutWithoutFault text kind m is fs to → Faulty text kind m f → ⊥
 judged_no_fault text kind m is fs to f one h (early items es stop cut bad) = cut_no_fault text kind m 0 0 to stop is items fs es f (length es) one h.cut h.ends cut (omega arith) bad
 judged_no_fault text kind m is0 fs to f one h (afterwards items es stop cut ends is) =
     let same : is0 ≡ items = cut_same text kind m 0 0 to stop is0 items fs es one h.cut h.ends cut ends in

@@ -15,18 +15,18 @@ use Rattle.sedscript.specs.declared.items.Item.{Item}
 use Rattle.sedscript.specs.declared.items.Function.{Function}
 use Rattle.sedscript.specs.declared.items.Function.TheVariants.{Label}
 use Rattle.sedscript.specs.Bytes.{bytes_between}
-use Rattle.sedscript.specs.Targets.{is_label, counted, commands_in, label_in, leaves}
+use Rattle.sedscript.specs.Targets.{is_label, counted, commands_in, label_in, becomes_command}
 use Rattle.sedscript.specs.Tables.{labelled, first_label, LabelsAre, is_earlier}
 
 abbrev Labels : Type 0
 Labels = BTreeMap (Bor (List ℕ)) FirstLabel
 
 pub commands_snoc : (is : List Item) (i : Item) → commands_in (is ++ i ∷ []) ≡ counted (commands_in is) i
-commands_snoc [] i = by_leaf (leaves i.function)
+commands_snoc [] i = by_leaf (becomes_command i.function)
   where
     by_leaf : (b : Bool) → (if b then suc 0 else 0) ≡ (if b then suc 0 else 0)
     by_leaf b = refl
-commands_snoc (j ∷ is) i = by_leaf (leaves j.function) (leaves i.function) (commands_in (is ++ i ∷ [])) (commands_in is) (commands_snoc is i)
+commands_snoc (j ∷ is) i = by_leaf (becomes_command j.function) (becomes_command i.function) (commands_in (is ++ i ∷ [])) (commands_in is) (commands_snoc is i)
   where
     by_leaf : (b c : Bool) (x n : ℕ) → x ≡ (if c then suc n else n) → (if b then suc x else x) ≡ (if c then suc (if b then suc n else n) else (if b then suc n else n))
     by_leaf true true x n e = ap suc e
@@ -51,7 +51,7 @@ counted_step items k n next i at e f =
     f ∙ (ap (λ (m : ℕ). counted m i) e ∙ (sym (commands_snoc (take k items) i) ∙ ap commands_in (sym (take_item items k i at))))
 
 counted_same : (i : Item) (m n : ℕ) → counted m i ≡ counted n i → m ≡ n
-counted_same i m n e = by_leaf (leaves i.function) e
+counted_same i m n e = by_leaf (becomes_command i.function) e
   where
     by_leaf : (b : Bool) → (if b then suc m else m) ≡ (if b then suc n else n) → m ≡ n
     by_leaf true f = cc
@@ -64,7 +64,7 @@ counted_back items k n next i at e f =
     counted_same i next (commands_in (take k items)) (sym f ∙ (e ∙ (ap commands_in (take_item items k i at) ∙ commands_snoc (take k items) i)))
 
 -- an item that becomes a command is counted
-pub counted_some : (items : List Item) (k n : ℕ) (i : Item) → slice_get items k ≡ Some i → n ≡ commands_in (take (k + 1) items) → leaves i.function ≡ true → 1 ≤ n
+pub counted_some : (items : List Item) (k n : ℕ) (i : Item) → slice_get items k ≡ Some i → n ≡ commands_in (take (k + 1) items) → becomes_command i.function ≡ true → 1 ≤ n
 counted_some items k n i at e l =
     let f : n ≡ counted (commands_in (take k items)) i = e ∙ (ap commands_in (take_item items k i at) ∙ commands_snoc (take k items) i) in
     let g : counted (commands_in (take k items)) i ≡ suc (commands_in (take k items)) = rw l refl in
@@ -72,7 +72,7 @@ counted_some items k n i at e l =
 
 -- the commands before and after
 pub counted_in : (n : ℕ) (i : Item) (is : List Item) → counted n i + commands_in is ≡ n + commands_in (i ∷ is)
-counted_in n i is = by_leaf (leaves i.function)
+counted_in n i is = by_leaf (becomes_command i.function)
   where
     by_leaf : (b : Bool) → (if b then suc n else n) + commands_in is ≡ n + (if b then suc (commands_in is) else commands_in is)
     by_leaf true = omega arith

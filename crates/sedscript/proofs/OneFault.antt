@@ -3,7 +3,7 @@ use Rattle.std.proofs.Common.{◌≡◌, ℕ, ◌+◌, List, length, Option, Som
 use Rattle.sedre.specs.declared.types.Kind.{Kind}
 use Rattle.sedre.specs.declared.types.Reason.{Reason as ExprReason}
 use Rattle.sedre.specs.declared.types.ExprFault.{ExprFault}
-use Rattle.sedre.specs.Written.{Written}
+use Rattle.sedre.specs.Written.{WrittenExpression}
 use Rattle.sedre.specs.Grammar.{ExprFaulty}
 use Rattle.sedscript.specs.declared.types.ScriptFault.{ScriptFault}
 use Rattle.sedscript.specs.declared.items.Item.{Item}
@@ -39,7 +39,7 @@ fails_one text kind m _ f g one once (later {p = p} {k = k} d is h) (later e is'
     fails_one text kind m (k e.groups) f g one once (subst (λ (n : ℕ). Fails text kind m (k n) f) (as_other text kind m p d e one is is') h) h'
 
 -- after two cuts from one place stands one fault
-pub cut_one_fault : (text : List ℕ) (kind : Kind) (m count at to stop : ℕ) (is js : List Item) (es fs : List Written) (f g : ScriptFault) (n k : ℕ) → ReadsAsOne → OneExprFault →
+pub cut_one_fault : (text : List ℕ) (kind : Kind) (m count at to stop : ℕ) (is js : List Item) (es fs : List WrittenExpression) (f g : ScriptFault) (n k : ℕ) → ReadsAsOne → OneExprFault →
     CutScript text kind m count at is es to → n ≡ count + length es → Fails text kind m (item_at text n to) f →
     CutScript text kind m count at js fs stop → k ≡ count + length fs → Fails text kind m (item_at text k stop) g → f ≡ g
 cut_one_fault text kind m count at to stop _ _ _ _ f g n k one once done e bad done d worse =

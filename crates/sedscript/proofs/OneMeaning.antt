@@ -2,7 +2,7 @@
 use Rattle.std.proofs.Common.{◌≡◌, ℕ, ◌+◌, List, [], ◌∷◌, ◌++◌, length, map, refl, sym, ap, subst, ◌∙◌, Some}
 use Rattle.std.proofs.lemmas.List.{map-append}
 use Rattle.sedre.specs.declared.types.Kind.{Kind}
-use Rattle.sedre.specs.Written.{Written, tree}
+use Rattle.sedre.specs.Written.{WrittenExpression, expression_tree}
 use Rattle.sedscript.specs.declared.items.Here.{Here}
 use Rattle.sedscript.specs.declared.items.Here.TheVariants.{Is, Ends}
 use Rattle.sedscript.specs.declared.items.Item.{Item}
@@ -18,19 +18,19 @@ use Rattle.sedscript.specs.Files.{files_in}
 use Rattle.sedscript.proofs.Exclusive.{ReadsAsOne, gives_one, end_gives, is_next, cut_same}
 
 -- what is looked at is the same of two expressions with one tree and one number of groups
-abbrev pub Alike : {X : Type 0} → (Written → X) → Type 0
-Alike look = (d e : Written) → tree d ≡ tree e → d.groups ≡ e.groups → look d ≡ look e
+abbrev pub Alike : {X : Type 0} → (WrittenExpression → X) → Type 0
+Alike look = (d e : WrittenExpression) → expression_tree d ≡ expression_tree e → d.groups ≡ e.groups → look d ≡ look e
 
-pub gives_alike : {A X : Type 0} (look : Written → X) (text : List ℕ) (kind : Kind) (m : ℕ) (r : Reading A) (es fs : List Written) (a b : A) → Alike look → ReadsAsOne →
+pub gives_alike : {A X : Type 0} (look : WrittenExpression → X) (text : List ℕ) (kind : Kind) (m : ℕ) (r : Reading A) (es fs : List WrittenExpression) (a b : A) → Alike look → ReadsAsOne →
     Gives text kind m r es a → Gives text kind m r fs b → map look es ≡ map look fs
 gives_alike look text kind m _ _ _ _ _ alike one value value = refl
 gives_alike look text kind m _ _ _ a b alike one (after_expression {p = p} {k = k} {es = es} d is g) (after_expression {es = fs} e is' g') =
-    let both = one kind p.folded (Some p.delimiter) (bytes_between text p.from p.to) (tree d) (tree e) d.groups e.groups is.reads is'.reads in
+    let both = one kind p.folded (Some p.delimiter) (bytes_between text p.from p.to) (expression_tree d) (expression_tree e) d.groups e.groups is.reads is'.reads in
     let rest = gives_alike look text kind m (k e.groups) es fs a b alike one (subst (λ (n : ℕ). Gives text kind m (k n) es a) both.1 g) g' in
     ap (λ x. x ∷ map look es) (alike d e both.0 both.1) ∙ ap (λ xs. look e ∷ xs) rest
 
 -- two cuts up to the end have the same expressions
-pub cut_alike : {X : Type 0} (look : Written → X) (text : List ℕ) (kind : Kind) (m count at to stop : ℕ) (is js : List Item) (es fs : List Written) → Alike look → ReadsAsOne →
+pub cut_alike : {X : Type 0} (look : WrittenExpression → X) (text : List ℕ) (kind : Kind) (m count at to stop : ℕ) (is js : List Item) (es fs : List WrittenExpression) → Alike look → ReadsAsOne →
     CutScript text kind m count at is es to → IsEnd text to → CutScript text kind m count at js fs stop → IsEnd text stop → map look es ≡ map look fs
 cut_alike look text kind m count at to stop _ _ _ _ alike one done ends done stops = refl
 cut_alike look text kind m count at to stop _ _ _ _ alike one done ends (item {next = next} {i = j} es fs is rest) stops =
@@ -51,7 +51,7 @@ cut_alike look text kind m count at to stop _ _ _ _ alike one (item {next = next
 -- a text means one script only: of an expression this is its tree and its number of groups
 pub one_meaning : ReadsAsOne → (text : List ℕ) (kind : Kind) (m : ℕ) (s t : Program) → Means text kind m s → Means text kind m t →
     (s.commands ≡ t.commands) × (s.texts ≡ t.texts) × (s.substitutions ≡ t.substitutions) × (s.tables ≡ t.tables) × (s.rfiles ≡ t.rfiles) × (s.wfiles ≡ t.wfiles) × (s.quiet ≡ t.quiet) × (s.max_nodes ≡ t.max_nodes)
-    × (map tree s.expressions ≡ map tree t.expressions) × (map (λ e. e.groups) s.expressions ≡ map (λ e. e.groups) t.expressions)
+    × (map expression_tree s.expressions ≡ map expression_tree t.expressions) × (map (λ e. e.groups) s.expressions ≡ map (λ e. e.groups) t.expressions)
 one_meaning one text kind m s t h k =
     let same : h.items ≡ k.items = cut_same text kind m 0 0 h.to k.to h.items k.items s.expressions t.expressions one h.judged.cut h.judged.ends k.judged.cut k.judged.ends in (
       h.commands ∙ (ap (λ (is : List Item). commands_of text is [] none_counted is) same ∙ sym k.commands),
@@ -62,6 +62,6 @@ one_meaning one text kind m s t h k =
       h.wfiles ∙ (ap (files_in Write text) same ∙ sym k.wfiles),
       h.quiet ∙ sym k.quiet,
       h.nodes ∙ sym k.nodes,
-      cut_alike tree text kind m 0 0 h.to k.to h.items k.items s.expressions t.expressions (λ d e same_tree same_groups. same_tree) one h.judged.cut h.judged.ends k.judged.cut k.judged.ends,
+      cut_alike expression_tree text kind m 0 0 h.to k.to h.items k.items s.expressions t.expressions (λ d e same_tree same_groups. same_tree) one h.judged.cut h.judged.ends k.judged.cut k.judged.ends,
       cut_alike (λ e. e.groups) text kind m 0 0 h.to k.to h.items k.items s.expressions t.expressions (λ d e same_tree same_groups. same_groups) one h.judged.cut h.judged.ends k.judged.cut k.judged.ends,
     )

@@ -3,7 +3,7 @@ use Rattle.std.proofs.Common.{◌≡◌, ℕ, zero, suc, ◌+◌, ◌-◌, ◌<�
 use Rattle.std.specs.Option.{option_len, option_or}
 use Rattle.sedre.specs.declared.types.Kind.{Kind}
 use Rattle.sedre.specs.declared.types.Reason.{Reason as ExprReason}
-use Rattle.sedre.specs.Written.{Written}
+use Rattle.sedre.specs.Written.{WrittenExpression}
 use Rattle.sedre.specs.Grammar.{ExprFaulty}
 use Rattle.sedre.specs.Delimited.{first_delimiter, next_place, delimiter_at}
 use Rattle.sedscript.specs.declared.bytes.Sort.{Sort}
@@ -41,7 +41,7 @@ use Rattle.sedscript.specs.Flags.{no_flags, numbered, with_number, with_flag, wi
 use Rattle.sedscript.specs.Transliteration.{escaped_byte, char_of, chars_from, chars_of, string_fault, is_among, repeated_in, repeated_fault, strings_fault}
 use Rattle.sedscript.specs.Between.{own_delimiter, strings_to, strings_after, substitute_strings, transliterate_strings, unless_fault, transliterate_at, flags_after, flagged, substituted}
 use Rattle.sedscript.specs.Reading.{Reading, plainly, expression, ◌>>=◌}
-use Rattle.sedscript.specs.Addresses.{Addressed, Headed, headed, line_of, folds_at, past_flag, match_to, match_at, own_match, address_of, address_at, with_second, second_at, after_first, addresses_at, with_bang}
+use Rattle.sedscript.specs.Addresses.{Addressed, Headed, with_addresses, line_of, folds_at, past_flag, match_to, match_at, own_match, address_of, address_at, with_second, second_at, after_first, addresses_at, with_bang}
 use Rattle.sedscript.specs.Items.{substitute_with, substitute_at, function_of, function_with, function_at, function_after, item_with, item_from, item_at}
 use Rattle.sedscript.specs.Expressions.{Gives, value, after_expression}
 use Rattle.sedscript.specs.FirstFault.{Fails, own, no_expression, later, Faulty, early, afterwards}
@@ -415,7 +415,7 @@ reading_then P Q n (plainly (Err e)) f h g = h
 reading_then P Q n (expression p k) f h g = (h.0, h.1, λ groups. reading_then P Q n (k groups) f (h.2 groups) g)
 
 -- what is given is as it should be
-reading_gives : {A : Type 0} (P : A → Type 0) (n : ℕ) (text : List ℕ) (kind : Kind) (m : ℕ) (r : Reading A) (es : List Written) (x : A) → Gives text kind m r es x → ReadingUpTo P n r → P x
+reading_gives : {A : Type 0} (P : A → Type 0) (n : ℕ) (text : List ℕ) (kind : Kind) (m : ℕ) (r : Reading A) (es : List WrittenExpression) (x : A) → Gives text kind m r es x → ReadingUpTo P n r → P x
 reading_gives P n text kind m _ _ x value h = h
 reading_gives P n text kind m _ _ x (after_expression {k = k} {es = es} e is g) h = reading_gives P n text kind m (k e.groups) es x g (h.2 e.groups)
 
@@ -500,7 +500,7 @@ after_read text count at None le = le
 after_read text count at (Some first) le = by_comma (is_byte 44 (slice_get text (past Blank text at))) refl
   where
     by_comma : (t : Bool) → is_byte 44 (slice_get text (past Blank text at)) ≡ t →
-        ReadingUpTo (HeadedUpTo (length text)) (length text) (if t then second_at text count first (past Blank text (past Blank text at + 1)) else plainly (headed (Some first) None at count))
+        ReadingUpTo (HeadedUpTo (length text)) (length text) (if t then second_at text count first (past Blank text (past Blank text at + 1)) else plainly (with_addresses (Some first) None at count))
     by_comma true e =
         let there = byte_inside 44 text (past Blank text at) e in
         second_read text count first (past Blank text (past Blank text at + 1)) (past_up_to Blank text (past Blank text at + 1) (omega (arith, there)))
@@ -574,7 +574,7 @@ abbrev ItemsUpTo : ℕ → List Item → Type 0
 ItemsUpTo n [] = Unit {0}
 ItemsUpTo n (i ∷ is) = (i.place ≤ n) × ItemsUpTo n is
 
-cut_up_to : (text : List ℕ) (kind : Kind) (m count at to : ℕ) (is : List Item) (es : List Written) → CutScript text kind m count at is es to → at ≤ length text → (to ≤ length text) × ItemsUpTo (length text) is
+cut_up_to : (text : List ℕ) (kind : Kind) (m count at to : ℕ) (is : List Item) (es : List WrittenExpression) → CutScript text kind m count at is es to → at ≤ length text → (to ≤ length text) × ItemsUpTo (length text) is
 cut_up_to text kind m count at to _ _ done le = (le, tt)
 cut_up_to text kind m count at to _ _ (item {next = next} {i = i} {is = is} es fs read rest) le =
     let here = reading_gives (HereUpTo (length text)) (length text) text kind m (item_at text count at) es (Is i next) read (item_read text count at le) in

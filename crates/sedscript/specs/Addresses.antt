@@ -85,13 +85,13 @@ pub record Headed : Type 0 where
 abbrev pub addresses_of : Option Address → Option Address → Addresses
 addresses_of first second = record { first = first; second = second; negate = false }
 
-abbrev pub headed : Option Address → Option Address → ℕ → ℕ → Result Headed ScriptFault
-headed first second at count = Ok (record { addresses = addresses_of first second; at = at; count = count })
+abbrev pub with_addresses : Option Address → Option Address → ℕ → ℕ → Result Headed ScriptFault
+with_addresses first second at count = Ok (record { addresses = addresses_of first second; at = at; count = count })
 
 -- both addresses, if there is a second one; otherwise a fault at a place
 abbrev pub with_second : Address → ℕ → Addressed → Option Address → Result Headed ScriptFault
 with_second first place x None = fault BadAddress place
-with_second first place x (Some a) = headed (Some first) (Some a) x.at x.count
+with_second first place x (Some a) = with_addresses (Some first) (Some a) x.at x.count
 
 -- both addresses, where the second one has to stand at a place
 unfoldable pub second_at : List ℕ → ℕ → Address → ℕ → Reading Headed
@@ -100,11 +100,11 @@ second_at text count first at = address_at text count at >>= λ x. plainly (with
 -- the addresses of a command, of which the first one, if there is one, ends at a place. A comma and a second one may
 -- follow it. Blanks round the comma are passed over (this project's own)
 abbrev pub after_first : List ℕ → ℕ → ℕ → Option Address → Reading Headed
-after_first text count at None = plainly (headed None None at count)
+after_first text count at None = plainly (with_addresses None None at count)
 after_first text count at (Some first) =
     if is_byte 44 (slice_get text (past Blank text at))
     then second_at text count first (past Blank text (past Blank text at + 1))
-    else plainly (headed (Some first) None at count)
+    else plainly (with_addresses (Some first) None at count)
 
 -- the addresses at a place: two, one or none
 unfoldable pub addresses_at : List ℕ → ℕ → ℕ → Reading Headed

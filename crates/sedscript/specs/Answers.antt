@@ -7,7 +7,7 @@ use Rattle.sedre.specs.declared.types.Kind.{Kind}
 use Rattle.sedre.specs.declared.types.Reason.{Reason as ExprReason}
 use Rattle.sedre.specs.declared.types.Reason.TheVariants.{NoMemory}
 use Rattle.sedre.specs.declared.types.ExprFault.{ExprFault}
-use Rattle.sedre.specs.Written.{Written}
+use Rattle.sedre.specs.Written.{WrittenExpression}
 use Rattle.sedscript.specs.declared.types.ScriptFault.{ScriptFault}
 use Rattle.sedscript.specs.declared.types.TheConstants.{NO_MEMORY}
 use Rattle.sedscript.specs.declared.types.Address.{Address}
@@ -28,19 +28,19 @@ use Rattle.sedscript.specs.Reading.{Reading}
 use Rattle.sedscript.specs.Addresses.{Addressed, Headed}
 use Rattle.sedscript.specs.Expressions.{Gives}
 use Rattle.sedscript.specs.FirstFault.{Fails, in_script}
-use Rattle.sedscript.specs.Script.{IsEnd, Judged}
+use Rattle.sedscript.specs.Script.{IsEnd, CutWithoutFault}
 
 -- what a function answered is what reading gives, and the expressions grew by those that were read,
 -- unless a request for memory was refused
-abbrev pub Comes : {X A : Type 0} → List ℕ → Kind → ℕ → List Written → List Written → (X → ℕ → A) →
+abbrev pub Comes : {X A : Type 0} → List ℕ → Kind → ℕ → List WrittenExpression → List WrittenExpression → (X → ℕ → A) →
     Result X ScriptFault → Reading A → Type 0
 Comes text kind max_nodes old new view (Ok x) r =
-    (es : List Written) × Gives text kind max_nodes r es (view x (length new)) × (new ≡ old ++ es)
+    (es : List WrittenExpression) × Gives text kind max_nodes r es (view x (length new)) × (new ≡ old ++ es)
 Comes text kind max_nodes old new view (Err f) r = Fails text kind max_nodes r f ⊎ (f ≡ NO_MEMORY)
 
 -- what a function answered is what reading gives in the script of this source, and the expressions grew by those that
 -- were read, unless a request for memory was refused
-abbrev pub ComesFrom : {X A : Type 0} → Source → List Written → List Written → (X → ℕ → A) →
+abbrev pub ComesFrom : {X A : Type 0} → Source → List WrittenExpression → List WrittenExpression → (X → ℕ → A) →
     Result X ScriptFault → Reading A → Type 0
 ComesFrom source old new view result r = Comes source.text.now source.kind source.max_nodes old new view result r
 
@@ -93,9 +93,9 @@ fault_of from f = if is_no_memory f.reason then NO_MEMORY else in_script from f
 
 -- the text is cut to its end into these items and expressions, and no label or block is wrong
 pub record IsJudged (text : List ℕ) (kind : Kind) (max_nodes : ℕ) (items : List Item)
-    (expressions : List Written) : Type 0 where
+    (expressions : List WrittenExpression) : Type 0 where
   pub to : ℕ
-  pub judged : Judged text kind max_nodes items expressions to
+  pub judged : CutWithoutFault text kind max_nodes items expressions to
 
 -- the flags with those that stand after the place up to which they were read
 abbrev pub with_rest : List ℕ → (empty : Bool) → Result (Flags × ℕ) ScriptFault → Result (Flags × ℕ) ScriptFault

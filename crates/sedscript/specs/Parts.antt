@@ -1,7 +1,7 @@
 -- Private to the proofs: no contract of a public item cites what stands here.
 -- The parts that a script is kept in.
 use Rattle.std.specs.Prelude.{◌≡◌, ℕ, List, Bool, map}
-use Rattle.sedre.specs.Written.{Written}
+use Rattle.sedre.specs.Written.{WrittenExpression}
 use Rattle.sedscript.specs.declared.items.Item.{Item}
 use Rattle.sedscript.specs.declared.types.Command.{Command}
 use Rattle.sedscript.specs.declared.script.Named.{Named}
@@ -25,7 +25,7 @@ program_of commands named quiet max_nodes = record {
 }
 
 -- these parts are what the items name, with these expressions
-pub record IsNamed (text : List ℕ) (items : List Item) (expressions : List Written) (named : Named) : Type 0 where
+pub record IsNamed (text : List ℕ) (items : List Item) (expressions : List WrittenExpression) (named : Named) : Type 0 where
   pub exprs : named.exprs.items ≡ expressions
   pub texts : map (λ t. t.items) named.texts.items ≡ texts_of text items
   pub substitutions : named.substitutions.items ≡ substitutions_of text items items

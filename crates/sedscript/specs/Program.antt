@@ -1,13 +1,13 @@
 -- A script as its callers see it.
 use Rattle.std.specs.Prelude.{ℕ, List, Bool}
-use Rattle.sedre.specs.Written.{Written}
+use Rattle.sedre.specs.Written.{WrittenExpression}
 use Rattle.sedscript.specs.declared.types.Command.{Command}
 use Rattle.sedscript.specs.declared.substitution.Substitution.{Substitution}
 
 -- a script as its callers see it
 pub record Program : Type 0 where
   pub commands : List Command
-  pub expressions : List Written
+  pub expressions : List WrittenExpression
   pub texts : List (List ℕ)
   pub substitutions : List Substitution
   pub tables : List (List ℕ)

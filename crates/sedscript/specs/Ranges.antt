@@ -1,6 +1,6 @@
 -- The numbers of a script are in range.
 use Rattle.std.specs.Prelude.{◌≡◌, ◌<◌, ◌≤◌, ℕ, List, length, Option, Some, None, slice_get}
-use Rattle.sedre.specs.Written.{Written}
+use Rattle.sedre.specs.Written.{WrittenExpression}
 use Rattle.sedscript.specs.declared.types.Address.{Address}
 use Rattle.sedscript.specs.declared.types.Address.TheVariants.{Line, Match}
 use Rattle.sedscript.specs.declared.types.Action.{Action}
@@ -78,7 +78,7 @@ pub record SubstitutionWithin (n : Sizes) (s : Substitution) : Type 0 where
 -- all bytes
 pub record InRange (p : Program) : Type 0 where
   pub each : (i : ℕ) (c : Command) → slice_get p.commands i ≡ Some c → CommandWithin (sizes_of p) c
-  pub nodes : (k : ℕ) (e : Written) → slice_get p.expressions k ≡ Some e → length e.nodes ≤ p.max_nodes
+  pub nodes : (k : ℕ) (e : WrittenExpression) → slice_get p.expressions k ≡ Some e → length e.nodes ≤ p.max_nodes
   pub substitutions : (k : ℕ) (s : Substitution) → slice_get p.substitutions k ≡ Some s →
       SubstitutionWithin (sizes_of p) s
   pub tables : (k : ℕ) (t : List ℕ) → slice_get p.tables k ≡ Some t → length t ≡ 256

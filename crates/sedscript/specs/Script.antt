@@ -2,7 +2,7 @@
 use Rattle.std.specs.Prelude.{◌≡◌, ℕ, suc, ◌+◌, List, [], ◌∷◌, ◌++◌, length, Bool, true, false, not, ◌&&◌, Option, Some}
 use Rattle.std.specs.Prelude.{None, if◌then◌else◌, ◌==◌, slice_get, unwrap_or}
 use Rattle.sedre.specs.declared.types.Kind.{Kind}
-use Rattle.sedre.specs.Written.{Written}
+use Rattle.sedre.specs.Written.{WrittenExpression}
 use Rattle.sedscript.specs.declared.bytes.Sort.TheVariants.{Separator}
 use Rattle.sedscript.specs.declared.types.Action.{Action}
 use Rattle.sedscript.specs.declared.types.Action.TheVariants as action
@@ -37,9 +37,9 @@ use Rattle.sedscript.specs.Targets.{commands_in, label_in, block_end, target_fau
 use Rattle.sedscript.specs.Program.{Program}
 
 -- the text has these items and expressions from one place, with so many expressions before it, up to another
-pub data CutScript (text : List ℕ) (kind : Kind) (max_nodes : ℕ) : ℕ → ℕ → List Item → List Written → ℕ → Type 0 where
+pub data CutScript (text : List ℕ) (kind : Kind) (max_nodes : ℕ) : ℕ → ℕ → List Item → List WrittenExpression → ℕ → Type 0 where
   done : {count at : ℕ} → CutScript text kind max_nodes count at [] [] at
-  item : {count at next to : ℕ} {i : Item} {is : List Item} (es fs : List Written) →
+  item : {count at next to : ℕ} {i : Item} {is : List Item} (es fs : List WrittenExpression) →
       Gives text kind max_nodes (item_at text count at) es (Is i next) →
       CutScript text kind max_nodes (count + length es) next is fs to →
       CutScript text kind max_nodes count at (i ∷ is) (es ++ fs) to
@@ -183,7 +183,7 @@ is_quiet (a ∷ b ∷ c ∷ bs) = a == 35 && b == 110 && c == 10
 is_quiet other = false
 
 -- the text is cut to its end into these items and expressions, and no label or block is wrong
-pub record Judged (text : List ℕ) (kind : Kind) (max_nodes : ℕ) (items : List Item) (expressions : List Written)
+pub record CutWithoutFault (text : List ℕ) (kind : Kind) (max_nodes : ℕ) (items : List Item) (expressions : List WrittenExpression)
     (to : ℕ) : Type 0 where
   pub cut : CutScript text kind max_nodes 0 0 items expressions to
   pub ends : IsEnd text to
@@ -193,7 +193,7 @@ pub record Judged (text : List ℕ) (kind : Kind) (max_nodes : ℕ) (items : Lis
 pub record Means (text : List ℕ) (kind : Kind) (max_nodes : ℕ) (s : Program) : Type 0 where
   pub items : List Item
   pub to : ℕ
-  pub judged : Judged text kind max_nodes items s.expressions to
+  pub judged : CutWithoutFault text kind max_nodes items s.expressions to
   pub commands : s.commands ≡ commands_of text items [] none_counted items
   pub texts : s.texts ≡ texts_of text items
   pub substitutions : s.substitutions ≡ substitutions_of text items items

@@ -14,20 +14,20 @@ use Rattle.sedscript.specs.declared.items.Item.{Item}
 use Rattle.sedscript.specs.Bytes.{bytes_between}
 
 -- whether a function becomes a command: all but `}`, `:` and `#` do
-abbrev pub leaves : Function → Bool
-leaves Close = false
-leaves (Label from to) = false
-leaves Comment = false
-leaves f = true
+abbrev pub becomes_command : Function → Bool
+becomes_command Close = false
+becomes_command (Label from to) = false
+becomes_command Comment = false
+becomes_command f = true
 
 -- the number of commands up to and including this item, given the number before it
 abbrev pub counted : ℕ → Item → ℕ
-counted n i = if leaves i.function then suc n else n
+counted n i = if becomes_command i.function then suc n else n
 
 -- how many commands the items become
 abbrev pub commands_in : List Item → ℕ
 commands_in [] = 0
-commands_in (i ∷ is) = if leaves i.function then suc (commands_in is) else commands_in is
+commands_in (i ∷ is) = if becomes_command i.function then suc (commands_in is) else commands_in is
 
 -- whether the function is a label of this name
 abbrev pub is_label : List ℕ → List ℕ → Function → Bool

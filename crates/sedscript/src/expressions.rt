@@ -3,7 +3,7 @@
 ghost use Rattle.std.specs.Prelude.{◌≡◌, ◌≢◌, ◌≤◌, ◌<◌, ◌+◌, ◌++◌, ◌∷◌, [], ◌⊎◌, ℕ, Ok, Some, length, IfOk, IfErr, OnOk};
 ghost use Rattle.sedre.specs.declared.types.Reason.{Reason as ExprReason};
 ghost use Rattle.sedre.specs.declared.types.TheConstants.{NO_MEMORY as NO_EXPR_MEMORY};
-ghost use Rattle.sedre.specs.Written.{tree};
+ghost use Rattle.sedre.specs.Written.{expression_tree};
 ghost use Rattle.sedre.specs.Grammar.{ReadsAs, ExprFaulty};
 ghost use Rattle.sedscript.specs.Bytes.{bytes_between};
 ghost use Rattle.sedscript.specs.Reading.{plainly, expression};
@@ -47,7 +47,7 @@ fn expression_between(
     requires delimiter { (delimiter ≢ 92) × (delimiter ≢ 10) }
     requires place { (from ≤ to) × (to ≤ length source.now.text.now) }
     ensures reads { IfOk result (λ e.
-        ReadsAs source.now.kind folded (Some delimiter) (bytes_between source.now.text.now from to) (tree e) e.groups) }
+        ReadsAs source.now.kind folded (Some delimiter) (bytes_between source.now.text.now from to) (expression_tree e) e.groups) }
     ensures fits { IfOk result (λ e. length e.nodes ≤ source.now.max_nodes) }
     ensures no_fault { OnOk result ((place : ℕ) (reason : ExprReason) →
         ExprFaulty source.now.kind (Some delimiter) (bytes_between source.now.text.now from to) source.now.max_nodes

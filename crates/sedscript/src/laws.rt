@@ -2,7 +2,7 @@
 
 ghost use Rattle.std.specs.Prelude.{◌≡◌, ℕ, List, map};
 ghost use Rattle.sedre.specs.declared.types.Kind.{Kind};
-ghost use Rattle.sedre.specs.Written.{tree};
+ghost use Rattle.sedre.specs.Written.{expression_tree};
 ghost use Rattle.sedscript.specs.Script.{Means};
 ghost use Rattle.sedscript.specs.Program.{Program};
 ghost use Rattle.sedscript.specs.FirstFault.{Faulty};
@@ -35,7 +35,7 @@ pub fn one_meaning()
         Means text kind max_nodes s → Means text kind max_nodes t →
         (s.commands ≡ t.commands) × (s.texts ≡ t.texts) × (s.substitutions ≡ t.substitutions) × (s.tables ≡ t.tables)
         × (s.rfiles ≡ t.rfiles) × (s.wfiles ≡ t.wfiles) × (s.quiet ≡ t.quiet) × (s.max_nodes ≡ t.max_nodes)
-        × (map tree s.expressions ≡ map tree t.expressions)
+        × (map expression_tree s.expressions ≡ map expression_tree t.expressions)
         × (map (λ e. e.groups) s.expressions ≡ map (λ e. e.groups) t.expressions) }
 {
     reads_as_one();

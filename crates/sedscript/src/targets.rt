@@ -26,7 +26,7 @@ pub struct FirstLabel {
 
 /// Whether a function becomes a command: all but `}`, `:` and `#` do.
 pub fn leaves(function: Function) -> bool
-    ensures { result ≡ Rattle.sedscript.specs.Targets.leaves function }
+    ensures { result ≡ Rattle.sedscript.specs.Targets.becomes_command function }
 {
     matches!(
         function,
@@ -65,7 +65,7 @@ pub fn counted(n: usize, item: Item) -> usize
 
 /// The number of commands before this item, where there are `n` up to and including it.
 fn number_before(n: usize, item: Item) -> usize
-    requires { Rattle.sedscript.specs.Targets.leaves item.function ≡ true → 1 ≤ n }
+    requires { Rattle.sedscript.specs.Targets.becomes_command item.function ≡ true → 1 ≤ n }
     ensures { n ≡ counted result item }
 {
     if leaves(item.function) { n - 1 } else { n }

@@ -9,7 +9,7 @@ use Rattle.sedspace.specs.declared.lines.Got.{Got}
 use Rattle.sedspace.specs.declared.lines.Got.TheVariants.{Line, End}
 use Rattle.sedspace.specs.declared.errors.LineFault.{LineFault}
 use Rattle.sedspace.specs.declared.errors.LineFault.TheVariants.{Broken, TooLong}
-use Rattle.sedspace.specs.Stream.{Stream, left, lines_left, TakesLine, GivesLine, NoneLeft, FirstIsLonger, SeesEnd, LosesPart, TellsLast}
+use Rattle.sedspace.specs.Stream.{Stream, left, lines_left, TakesLine, GivesLine, NoLineLeft, FirstIsLonger, SeesEnd, LosesPart, TellsLast}
 use Rattle.sedspace.specs.Gathering.{Gathers}
 use Rattle.sedspace.proofs.LineLemmas.{lines_at, lines_last, lines_nil, lines_none, lines_first, length-before_first-append}
 
@@ -27,7 +27,7 @@ takes_last (Some xs) (Some ys) line h none some end =
     let e : xs ≡ line = h ∙ ap (λ z. line ++ z) end ∙ append-nil line in
     ((none, inr (e, end, some)), ap lines e ∙ lines_last line none some ∙ ap (λ z. line ∷ z) (sym (ap lines end ∙ lines_nil)))
 
-pub none_left : (a b : Option (List ℕ)) → Consumes a b [] → IsAtEnd b → NoneLeft (option_map lines a) × NoneLeft (option_map lines b)
+pub none_left : (a b : Option (List ℕ)) → Consumes a b [] → IsAtEnd b → NoLineLeft (option_map lines a) × NoLineLeft (option_map lines b)
 none_left None None h end = (tt, tt)
 none_left None (Some ys) h end = (tt, ap lines end ∙ lines_nil)
 none_left (Some xs) None h end = absurd h
@@ -128,7 +128,7 @@ module _ {R : Type 0} (remaining : R → Option (List ℕ)) (failures : R → �
   line_gathered (Ok End) h e = cc
   line_gathered (Err f) h e = cc
 
-  pub end_gathered : (r : Result Got LineFault) → Gathers remaining failures old new before after r → r ≡ Ok End → (after ≡ before) × NoneLeft (lines_left remaining old) × NoneLeft (lines_left remaining new) × (new.ended ≡ true)
+  pub end_gathered : (r : Result Got LineFault) → Gathers remaining failures old new before after r → r ≡ Ok End → (after ≡ before) × NoLineLeft (lines_left remaining old) × NoLineLeft (lines_left remaining new) × (new.ended ≡ true)
   end_gathered (Ok Line) h e = cc
   end_gathered (Ok End) h e =
       let n = none_left _ _ h.2.left_is h.3 in

@@ -38,9 +38,9 @@ GivesLines (Some ls) None bytes = ⊥
 GivesLines (Some ls) (Some rest) bytes = ls ≡ lines bytes ++ rest
 
 -- no line is left
-abbrev pub NoneLeft : Option (List (List ℕ)) → Type 0
-NoneLeft None = ⊤
-NoneLeft (Some ls) = ls ≡ []
+abbrev pub NoLineLeft : Option (List (List ℕ)) → Type 0
+NoLineLeft None = ⊤
+NoLineLeft (Some ls) = ls ≡ []
 
 -- it tells whether no line is left
 abbrev pub TellsLast : Option (List (List ℕ)) → Bool → Type 0

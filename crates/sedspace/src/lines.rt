@@ -97,7 +97,7 @@ impl<R: ByteSource> Model for Lines<R> {
 }
 
 impl<R: ByteSource> Lines<R> {
-    ghost use Rattle.sedspace.specs.Stream.{Stream, left, lines_left, GivesLine, GivesLines, TakesLine, FirstIsLonger, NoneLeft, SeesEnd, LosesPart, FailsIfBroken, TellsLast, KeepsLines, KeepsFault, ReadsForBytes, ReadsOn, RisesAtMost};
+    ghost use Rattle.sedspace.specs.Stream.{Stream, left, lines_left, GivesLine, GivesLines, TakesLine, FirstIsLonger, NoLineLeft, SeesEnd, LosesPart, FailsIfBroken, TellsLast, KeepsLines, KeepsFault, ReadsForBytes, ReadsOn, RisesAtMost};
     ghost use Rattle.sedspace.specs.Lines.{TakesAtMost};
     ghost use Rattle.sedspace.specs.Gathering.{Gathers};
 
@@ -196,7 +196,7 @@ impl<R: ByteSource> Lines<R> {
         ensures last { result ≡ Ok Got.Line → SeesEnd (left R.remaining self.old) self.new.ended }
         ensures fits { OnOk result (length space.new.bytes ≤ space.new.limit) }
         ensures end { result ≡ Ok Got.End → (space.new ≡ space.old)
-            × NoneLeft (lines_left R.remaining self.old) × NoneLeft (lines_left R.remaining self.new)
+            × NoLineLeft (lines_left R.remaining self.old) × NoLineLeft (lines_left R.remaining self.new)
             × (self.new.ended ≡ true) }
         ensures too_long { result ≡ Err LineFault.TooLong → self.old.fault ≡ None
             → FirstIsLonger (lines_left R.remaining self.old) (space.old.limit - length space.old.bytes) }

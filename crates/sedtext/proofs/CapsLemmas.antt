@@ -2,8 +2,8 @@
 use Rattle.std.proofs.Common.{◌≡◌, ℕ, ◌≤◌, ◌⊎◌, List, Some, IsTrue, refl, sym, ap, ◌∙◌, subst, inl, inr, ⊎_elim, arith}
 use Rattle.std.specs.Prelude.{slice_set}
 use Rattle.sedre.specs.Tree.{Tree, empty, set, begin, end, seq, alt, group, star, opt}
-use Rattle.sedtext.specs.Spans.{no_copy, Spans}
-use Rattle.sedtext.specs.Caps.{Caps, LastCut, LastCopy, only, then}
+use Rattle.sedtext.specs.Spans.{no_copy, Matches}
+use Rattle.sedtext.specs.Caps.{Captures, LastCut, LastCopy, only, then}
 use Rattle.sedtext.specs.Groups.{Groups, forget}
 
 LastCut-unique : (A B : ℕ → ℕ → Type 0) (i j k l : ℕ) → LastCut A B i j k → LastCut A B i j l → k ≡ l
@@ -34,36 +34,36 @@ empty_unique i j F S P old new other same (inr h) (inl k) = absurd (h.1.0 k.1 k.
 empty_unique i j F S P old new other same (inr h) (inr k) = h.1.1 ∙ sym k.1.1
 
 -- at most one outcome
-pub Caps-unique : (e : Tree) (w : List ℕ) (i j : ℕ) (old new other : Groups) → Caps e w i j old new → Caps e w i j old other → new ≡ other
-Caps-unique empty w i j old new other h k = h ∙ sym k
-Caps-unique (set has) w i j old new other h k = h ∙ sym k
-Caps-unique begin w i j old new other h k = h ∙ sym k
-Caps-unique end w i j old new other h k = h ∙ sym k
-Caps-unique (seq a b) w i j old new other h k =
-    let same : h.0 ≡ k.0 = LastCut-unique (Spans a w) (Spans b w) i j h.0 k.0 h.1 k.1 in
-    let mid : h.2.0 ≡ k.2.0 = Caps-unique a w i h.0 old h.2.0 k.2.0 h.2.1 (subst (λ v. Caps a w i v old k.2.0) (sym same) k.2.1) in
-    Caps-unique b w h.0 j h.2.0 new other h.2.2 (subst (λ g. Caps b w h.0 j g other) (sym mid) (subst (λ v. Caps b w v j k.2.0 other) (sym same) k.2.2))
-Caps-unique (alt a b) w i j old new other h k =
+pub Captures-unique : (e : Tree) (w : List ℕ) (i j : ℕ) (old new other : Groups) → Captures e w i j old new → Captures e w i j old other → new ≡ other
+Captures-unique empty w i j old new other h k = h ∙ sym k
+Captures-unique (set has) w i j old new other h k = h ∙ sym k
+Captures-unique begin w i j old new other h k = h ∙ sym k
+Captures-unique end w i j old new other h k = h ∙ sym k
+Captures-unique (seq a b) w i j old new other h k =
+    let same : h.0 ≡ k.0 = LastCut-unique (Matches a w) (Matches b w) i j h.0 k.0 h.1 k.1 in
+    let mid : h.2.0 ≡ k.2.0 = Captures-unique a w i h.0 old h.2.0 k.2.0 h.2.1 (subst (λ v. Captures a w i v old k.2.0) (sym same) k.2.1) in
+    Captures-unique b w h.0 j h.2.0 new other h.2.2 (subst (λ g. Captures b w h.0 j g other) (sym mid) (subst (λ v. Captures b w v j k.2.0 other) (sym same) k.2.2))
+Captures-unique (alt a b) w i j old new other h k =
     ⊎_elim
-    (λ (l : Spans a w i j × Caps a w i j old new). ⊎_elim
-    (λ (m : Spans a w i j × Caps a w i j old other). Caps-unique a w i j old new other l.1 m.1)
-    (λ (m : (Spans a w i j → ⊥) × Caps b w i j old other). absurd (m.0 l.0)) k)
-    (λ (r : (Spans a w i j → ⊥) × Caps b w i j old new). ⊎_elim
-    (λ (m : Spans a w i j × Caps a w i j old other). absurd (r.0 m.0))
-    (λ (m : (Spans a w i j → ⊥) × Caps b w i j old other). Caps-unique b w i j old new other r.1 m.1) k)
+    (λ (l : Matches a w i j × Captures a w i j old new). ⊎_elim
+    (λ (m : Matches a w i j × Captures a w i j old other). Captures-unique a w i j old new other l.1 m.1)
+    (λ (m : (Matches a w i j → ⊥) × Captures b w i j old other). absurd (m.0 l.0)) k)
+    (λ (r : (Matches a w i j → ⊥) × Captures b w i j old new). ⊎_elim
+    (λ (m : Matches a w i j × Captures a w i j old other). absurd (r.0 m.0))
+    (λ (m : (Matches a w i j → ⊥) × Captures b w i j old other). Captures-unique b w i j old new other r.1 m.1) k)
     h
-Caps-unique (group n a) w i j old new other h k =
-    let inner : h.0 ≡ k.0 = Caps-unique a w i j (forget (group n a) old) h.0 k.0 h.1 k.1 in
+Captures-unique (group n a) w i j old new other h k =
+    let inner : h.0 ≡ k.0 = Captures-unique a w i j (forget (group n a) old) h.0 k.0 h.1 k.1 in
     h.2 ∙ ap (λ g. slice_set g n (Some (i, j))) inner ∙ sym k.2
-Caps-unique (star a first) w i j old new other (inl h) (inl k) =
-    let same : h.1.0 ≡ k.1.0 = LastCopy-unique (Spans a w) j i h.1.0 h.1.1 k.1.0 k.1.1 in
-    Caps-unique a w h.1.0 j (forget a old) new other h.1.2 (subst (λ v. Caps a w v j (forget a old) other) (sym same) k.1.2)
-Caps-unique (star a first) w i j old new other (inl h) (inr k) = absurd (let lt = h.0 in ⊎_elim (λ (e : (i ≡ j) × IsTrue first × Spans a w i i × Caps a w i i (forget a old) other). (let same = e.0 in omega arith)) (λ (e : (i ≡ j) × ((IsTrue first → Spans a w i i → ⊥) × (other ≡ old))). (let same = e.0 in omega arith)) k)
-Caps-unique (star a first) w i j old new other (inr h) (inl k) = absurd (let lt = k.0 in ⊎_elim (λ (e : (i ≡ j) × IsTrue first × Spans a w i i × Caps a w i i (forget a old) new). (let same = e.0 in omega arith)) (λ (e : (i ≡ j) × ((IsTrue first → Spans a w i i → ⊥) × (new ≡ old))). (let same = e.0 in omega arith)) h)
-Caps-unique (star a first) w i j old new other (inr h) (inr k) =
-    empty_unique i j (IsTrue first) (Spans a w i i) (Caps a w i i (forget a old)) old new other (Caps-unique a w i i (forget a old)) h k
-Caps-unique (opt a first) w i j old new other (inl h) (inl k) = Caps-unique a w i j (forget a old) new other h.1 k.1
-Caps-unique (opt a first) w i j old new other (inl h) (inr k) = absurd (let lt = h.0 in ⊎_elim (λ (e : (i ≡ j) × IsTrue first × Spans a w i i × Caps a w i i (forget a old) other). (let same = e.0 in omega arith)) (λ (e : (i ≡ j) × ((IsTrue first → Spans a w i i → ⊥) × (other ≡ old))). (let same = e.0 in omega arith)) k)
-Caps-unique (opt a first) w i j old new other (inr h) (inl k) = absurd (let lt = k.0 in ⊎_elim (λ (e : (i ≡ j) × IsTrue first × Spans a w i i × Caps a w i i (forget a old) new). (let same = e.0 in omega arith)) (λ (e : (i ≡ j) × ((IsTrue first → Spans a w i i → ⊥) × (new ≡ old))). (let same = e.0 in omega arith)) h)
-Caps-unique (opt a first) w i j old new other (inr h) (inr k) =
-    empty_unique i j (IsTrue first) (Spans a w i i) (Caps a w i i (forget a old)) old new other (Caps-unique a w i i (forget a old)) h k
+Captures-unique (star a first) w i j old new other (inl h) (inl k) =
+    let same : h.1.0 ≡ k.1.0 = LastCopy-unique (Matches a w) j i h.1.0 h.1.1 k.1.0 k.1.1 in
+    Captures-unique a w h.1.0 j (forget a old) new other h.1.2 (subst (λ v. Captures a w v j (forget a old) other) (sym same) k.1.2)
+Captures-unique (star a first) w i j old new other (inl h) (inr k) = absurd (let lt = h.0 in ⊎_elim (λ (e : (i ≡ j) × IsTrue first × Matches a w i i × Captures a w i i (forget a old) other). (let same = e.0 in omega arith)) (λ (e : (i ≡ j) × ((IsTrue first → Matches a w i i → ⊥) × (other ≡ old))). (let same = e.0 in omega arith)) k)
+Captures-unique (star a first) w i j old new other (inr h) (inl k) = absurd (let lt = k.0 in ⊎_elim (λ (e : (i ≡ j) × IsTrue first × Matches a w i i × Captures a w i i (forget a old) new). (let same = e.0 in omega arith)) (λ (e : (i ≡ j) × ((IsTrue first → Matches a w i i → ⊥) × (new ≡ old))). (let same = e.0 in omega arith)) h)
+Captures-unique (star a first) w i j old new other (inr h) (inr k) =
+    empty_unique i j (IsTrue first) (Matches a w i i) (Captures a w i i (forget a old)) old new other (Captures-unique a w i i (forget a old)) h k
+Captures-unique (opt a first) w i j old new other (inl h) (inl k) = Captures-unique a w i j (forget a old) new other h.1 k.1
+Captures-unique (opt a first) w i j old new other (inl h) (inr k) = absurd (let lt = h.0 in ⊎_elim (λ (e : (i ≡ j) × IsTrue first × Matches a w i i × Captures a w i i (forget a old) other). (let same = e.0 in omega arith)) (λ (e : (i ≡ j) × ((IsTrue first → Matches a w i i → ⊥) × (other ≡ old))). (let same = e.0 in omega arith)) k)
+Captures-unique (opt a first) w i j old new other (inr h) (inl k) = absurd (let lt = k.0 in ⊎_elim (λ (e : (i ≡ j) × IsTrue first × Matches a w i i × Captures a w i i (forget a old) new). (let same = e.0 in omega arith)) (λ (e : (i ≡ j) × ((IsTrue first → Matches a w i i → ⊥) × (new ≡ old))). (let same = e.0 in omega arith)) h)
+Captures-unique (opt a first) w i j old new other (inr h) (inr k) =
+    empty_unique i j (IsTrue first) (Matches a w i i) (Captures a w i i (forget a old)) old new other (Captures-unique a w i i (forget a old)) h k

@@ -5,7 +5,7 @@ use Rattle.std.proofs.lemmas.Bool.{cases_lt, cases_eq}
 use Rattle.std.proofs.lemmas.List.{get_or_append_left, get_or_push, get_or-set_same, get_or-set_other}
 use Rattle.std.proofs.lemmas.Option.{slice_get_within, get_or_from_slice_get, slice_get-get_or}
 use Rattle.sedre.specs.Arena.{IsArena}
-use Rattle.sedre.specs.Steps.{Counted, TakesAtLeast}
+use Rattle.sedre.specs.Steps.{TakesExactly, TakesAtLeast}
 use Rattle.sedtext.specs.Bytes.{looked_at}
 use Rattle.sedre.specs.declared.types.Node.{Node}
 use Rattle.sedre.specs.declared.types.NodeId.{NodeId}
@@ -84,7 +84,7 @@ counts_to_end words w p s t None short looks = tt
 counts_to_end words w p s t (Some k) short looks = λ j spans. let near = spans_short words w k j short spans in least_less s t (k + 20 - p) (j - p) looks (omega (arith, near))
 
 -- such are those of a search that looks twenty times at each place
-pub counts_ahead : (words : List (List ℕ)) (w : List ℕ) (p s t looks : ℕ) (r : Option ℕ) → AreShort words → FirstChoice words w p r → Counted s t looks → 20 * looked_at (length w) p r ≤ looks →
+pub counts_ahead : (words : List (List ℕ)) (w : List ℕ) (p s t looks : ℕ) (r : Option ℕ) → AreShort words → FirstChoice words w p r → TakesExactly s t looks → 20 * looked_at (length w) p r ≤ looks →
     IfSome r (λ k. (j : ℕ) → ChoiceSpans words w k j → TakesAtLeast s t (j - p))
 counts_ahead words w p s t looks None short first counted few = tt
 counts_ahead words w p s t looks (Some k) short first counted few = counts_to_end words w p s t (Some k) short (least_ahead s t (length w) p looks (Some k) first.0 counted few)

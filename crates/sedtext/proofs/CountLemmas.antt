@@ -1,6 +1,6 @@
 -- Counts of steps that stay at the largest: how many looks there were at least.
 use Rattle.std.proofs.Common.{◌≡◌, ℕ, ◌+◌, ◌-◌, ◌*◌, ◌≤◌, Option, None, Some, IfSome, arith}
-use Rattle.sedre.specs.Steps.{Counted, TakesAtLeast}
+use Rattle.sedre.specs.Steps.{TakesExactly, TakesAtLeast}
 use Rattle.sedtext.specs.Bytes.{looked_at}
 
 -- nothing is counted yet
@@ -9,8 +9,8 @@ unfolding TakesAtLeast
 least_none s n e = omega (arith, e)
 
 -- one look more
-pub least_one : (s a b n m : ℕ) → TakesAtLeast s a n → Counted a b 1 → m ≤ n + 1 → TakesAtLeast s b m
-unfolding TakesAtLeast Counted
+pub least_one : (s a b n m : ℕ) → TakesAtLeast s a n → TakesExactly a b 1 → m ≤ n + 1 → TakesAtLeast s b m
+unfolding TakesAtLeast TakesExactly
 least_one s a b n m before one is = omega (arith, before, one, is)
 
 -- one after the other
@@ -32,22 +32,22 @@ unfolding TakesAtLeast
 least_less s t n k before less = omega (arith, before, less)
 
 -- as many looks as were counted, or fewer
-pub least_counted : (s t n m : ℕ) → Counted s t n → m ≤ n → TakesAtLeast s t m
-unfolding TakesAtLeast Counted
+pub least_counted : (s t n m : ℕ) → TakesExactly s t n → m ≤ n → TakesAtLeast s t m
+unfolding TakesAtLeast TakesExactly
 least_counted s t n m is few = omega (arith, is, few)
 
 -- no more than were counted
-pub most_counted : (s t n : ℕ) → Counted s t n → t ≤ s + n
-unfolding Counted
+pub most_counted : (s t n : ℕ) → TakesExactly s t n → t ≤ s + n
+unfolding TakesExactly
 most_counted s t n is = omega (arith, is)
 
 -- a place that is found by looks at each byte from p on
-pub least_looked : (s t n p looks : ℕ) (r : Option ℕ) → Counted s t looks → looked_at n p r ≤ looks → IfSome r (λ k. TakesAtLeast s t (k - p))
+pub least_looked : (s t n p looks : ℕ) (r : Option ℕ) → TakesExactly s t looks → looked_at n p r ≤ looks → IfSome r (λ k. TakesAtLeast s t (k - p))
 least_looked s t n p looks None is few = tt
 least_looked s t n p looks (Some k) is few = least_counted s t looks (k - p) is (omega (arith, few))
 
 -- where each of these looks is twenty
-pub least_ahead : (s t n p looks : ℕ) (r : Option ℕ) → IfSome r (λ k. p ≤ k) → Counted s t looks → 20 * looked_at n p r ≤ looks → IfSome r (λ k. TakesAtLeast s t (k + 20 - p))
+pub least_ahead : (s t n p looks : ℕ) (r : Option ℕ) → IfSome r (λ k. p ≤ k) → TakesExactly s t looks → 20 * looked_at n p r ≤ looks → IfSome r (λ k. TakesAtLeast s t (k + 20 - p))
 least_ahead s t n p looks None low is few = tt
 least_ahead s t n p looks (Some k) low is few = least_counted s t looks (k + 20 - p) is (omega (arith, low, few))
 

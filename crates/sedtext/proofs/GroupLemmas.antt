@@ -2,17 +2,17 @@
 use Rattle.std.proofs.Common.{◌≡◌, ℕ, zero, suc, ◌<◌, Bool, true, false, List, length, Some, refl, sym, ap, ◌∙◌, subst, inl, inr, arith}
 use Rattle.std.specs.Prelude.{slice_get, cond}
 use Rattle.sedre.specs.Tree.{Tree, empty, set, begin, end, seq, alt, group, star, opt}
-use Rattle.sedtext.specs.Spans.{Spans}
+use Rattle.sedtext.specs.Spans.{Matches}
 use Rattle.sedre.specs.Arena.{IsExpr}
 use Rattle.sedre.specs.Written.{tree_at, tree_of}
 use Rattle.sedre.specs.declared.types.Node.{Node}
 use Rattle.sedre.specs.declared.types.Node.TheVariants.{Empty, Set, Begin, End, Seq, Alt, Group, Star, Opt}
 use Rattle.sedre.proofs.TreeLemmas.{tree_at-node}
-use Rattle.sedtext.specs.Caps.{Caps}
+use Rattle.sedtext.specs.Caps.{Captures}
 use Rattle.sedtext.specs.Groups.{Groups, forget}
-use Rattle.sedtext.specs.Matching.{caps, cut, last_start, spans}
+use Rattle.sedtext.specs.Matching.{groups_after, cut, last_start, spans}
 use Rattle.sedtext.proofs.NodeLemmas.{node_at}
-use Rattle.sedtext.proofs.MatchingLemmas.{caps-is}
+use Rattle.sedtext.proofs.MatchingLemmas.{groups_after-is}
 
 -- there is no group in the tree
 abbrev pub NoGroups : Tree → Type 0
@@ -38,26 +38,26 @@ cond-same : (b : Bool) (x y g : Groups) → x ≡ g → y ≡ g → cond b x y �
 cond-same true x y g left right = left
 cond-same false x y g left right = right
 
-caps-none : (e : Tree) → NoGroups e → (w : List ℕ) (i j : ℕ) (g : Groups) → caps e w i j g ≡ g
-unfolding caps
-caps-none empty none w i j g = refl
-caps-none (set has) none w i j g = refl
-caps-none begin none w i j g = refl
-caps-none end none w i j g = refl
-caps-none (seq a b) none w i j g =
+groups_after-none : (e : Tree) → NoGroups e → (w : List ℕ) (i j : ℕ) (g : Groups) → groups_after e w i j g ≡ g
+unfolding groups_after
+groups_after-none empty none w i j g = refl
+groups_after-none (set has) none w i j g = refl
+groups_after-none begin none w i j g = refl
+groups_after-none end none w i j g = refl
+groups_after-none (seq a b) none w i j g =
     let k = cut (spans a w) (spans b w) i j in
-    caps-none b none.1 w k j (caps a w i k g) ∙ caps-none a none.0 w i k g
-caps-none (alt a b) none w i j g = cond-same (spans a w i j) (caps a w i j g) (caps b w i j g) g (caps-none a none.0 w i j g) (caps-none b none.1 w i j g)
-caps-none (group k a) none w i j g = absurd none
-caps-none (star a first) none w i j g =
-    cond-same _ _ _ g (caps-none a none w (last_start j (spans a w) i j) j (forget a g) ∙ forget-none a none g)
-    (cond-same _ _ _ g (caps-none a none w i i (forget a g) ∙ forget-none a none g) refl)
-caps-none (opt a first) none w i j g =
-    cond-same _ _ _ g (caps-none a none w i j (forget a g) ∙ forget-none a none g)
-    (cond-same _ _ _ g (caps-none a none w i i (forget a g) ∙ forget-none a none g) refl)
+    groups_after-none b none.1 w k j (groups_after a w i k g) ∙ groups_after-none a none.0 w i k g
+groups_after-none (alt a b) none w i j g = cond-same (spans a w i j) (groups_after a w i j g) (groups_after b w i j g) g (groups_after-none a none.0 w i j g) (groups_after-none b none.1 w i j g)
+groups_after-none (group k a) none w i j g = absurd none
+groups_after-none (star a first) none w i j g =
+    cond-same _ _ _ g (groups_after-none a none w (last_start j (spans a w) i j) j (forget a g) ∙ forget-none a none g)
+    (cond-same _ _ _ g (groups_after-none a none w i i (forget a g) ∙ forget-none a none g) refl)
+groups_after-none (opt a first) none w i j g =
+    cond-same _ _ _ g (groups_after-none a none w i j (forget a g) ∙ forget-none a none g)
+    (cond-same _ _ _ g (groups_after-none a none w i i (forget a g) ∙ forget-none a none g) refl)
 
-pub Caps-none : (e : Tree) → NoGroups e → (w : List ℕ) (i j : ℕ) (g : Groups) → Spans e w i j → Caps e w i j g g
-Caps-none e none w i j g s = subst (λ h. Caps e w i j g h) (caps-none e none w i j g) (caps-is e w i j g s)
+pub Captures-none : (e : Tree) → NoGroups e → (w : List ℕ) (i j : ℕ) (g : Groups) → Matches e w i j → Captures e w i j g g
+Captures-none e none w i j g s = subst (λ h. Captures e w i j g h) (groups_after-none e none w i j g) (groups_after-is e w i j g s)
 
 module _ (nodes : List Node) (groups : ℕ) (expr : IsExpr nodes groups) (few : groups ≡ 0) where
   none_of : (part : ℕ → Tree) (x : ℕ) (node : Node) → slice_get nodes x ≡ Some node → ((c : ℕ) → c < x → NoGroups (part c)) → NoGroups (tree_of part node)

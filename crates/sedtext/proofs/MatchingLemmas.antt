@@ -5,14 +5,14 @@ use Rattle.std.proofs.lemmas.Bool.{and_parts, and_from, or_cases, or_left, or_ri
 use Rattle.std.proofs.lemmas.Bool.Decides.{same_from_decides}
 use Rattle.std.proofs.lemmas.Option.{slice_get_within, none-some}
 use Rattle.sedre.specs.Tree.{Tree, empty, set, begin, end, seq, alt, group, star, opt}
-use Rattle.sedtext.specs.Spans.{Copies, no_copy, one_more, Spans, Found, NotFound, SomeFound}
-use Rattle.sedtext.specs.Caps.{Caps, LastCut, LastCopy, only, then}
+use Rattle.sedtext.specs.Spans.{CopiesLead, no_copy, one_more, Matches, IsLeftmostLongest, NotFound, SomeFound}
+use Rattle.sedtext.specs.Caps.{Captures, LastCut, LastCopy, only, then}
 use Rattle.sedtext.specs.Groups.{Groups, forget, no_groups}
-use Rattle.sedtext.specs.Reach.{Longest}
-use Rattle.sedtext.specs.Matching.{any, greatest, copies, takes, spans, longest, first_of, found_from, found, cut, first_copy, last_start, caps, report}
+use Rattle.sedtext.specs.Reach.{IsLongestFrom}
+use Rattle.sedtext.specs.Matching.{any, greatest, copies, byte_is_in, spans, longest, first_of, found_from, found, cut, first_copy, last_start, groups_after, report}
 use Rattle.sedtext.specs.MatchingLaws.{SpansLaw, FoundLaw, NotFoundLaw, SomeFoundLaw, OneCapsLaw, CapsLaw, ReportLaw}
-use Rattle.sedtext.proofs.SpanLemmas.{Copies-forward, Spans-forward, Spans-within}
-use Rattle.sedtext.proofs.CapsLemmas.{Caps-unique}
+use Rattle.sedtext.proofs.SpanLemmas.{CopiesLead-forward, Matches-forward, Matches-within}
+use Rattle.sedtext.proofs.CapsLemmas.{Captures-unique}
 
 any-some : (test : ℕ → Bool) (n : ℕ) → any test n ≡ true → (k : ℕ) × (k < n) × (test k ≡ true)
 unfolding any
@@ -55,12 +55,12 @@ greatest-is test zero = λ k lt h. absurd (omega arith)
 greatest-is test (suc n) = greatest-step test n (test n) (greatest test n) refl (greatest-is test n)
 
 module _ (step : ℕ → ℕ → Bool) (R : ℕ → ℕ → Type 0) (each : (i k : ℕ) → IsTrue (step i k) ↔ R i k) where
-  copies-some : (n i j : ℕ) → copies n step i j ≡ true → Copies R j i
+  copies-some : (n i j : ℕ) → copies n step i j ≡ true → CopiesLead R j i
   unfolding copies
-  copies-some zero i j h = subst (λ v. Copies R j v) (sym (eqb-true i j h)) no_copy
+  copies-some zero i j h = subst (λ v. CopiesLead R j v) (sym (eqb-true i j h)) no_copy
   copies-some (suc n) i j h =
       ⊎_elim
-      (λ (e : eqb i j ≡ true). subst (λ v. Copies R j v) (sym (eqb-true i j e)) no_copy)
+      (λ (e : eqb i j ≡ true). subst (λ v. CopiesLead R j v) (sym (eqb-true i j e)) no_copy)
       (λ (some : any (λ k. ltb i k && (step i k && copies n step k j)) (j + 1) ≡ true).
       let k = any-some (λ k. ltb i k && (step i k && copies n step k j)) (j + 1) some in
       let up = and_parts (ltb i k.0) (step i k.0 && copies n step k.0 j) k.2 in
@@ -68,31 +68,31 @@ module _ (step : ℕ → ℕ → Bool) (R : ℕ → ℕ → Type 0) (each : (i k
       one_more i k.0 (ltb-true i k.0 up.0) ((each i k.0).0 on.0) (copies-some n k.0 j on.1))
       (or_cases (eqb i j) (any (λ k. ltb i k && (step i k && copies n step k j)) (j + 1)) h)
 
-  copies-from : (n i j : ℕ) → j ≤ n + i → Copies R j i → copies n step i j ≡ true
+  copies-from : (n i j : ℕ) → j ≤ n + i → CopiesLead R j i → copies n step i j ≡ true
   unfolding copies
   copies-from zero i j few no_copy = eq-eqb j j refl
-  copies-from zero i j few (one_more _ k lt r rest) = let on = Copies-forward R j k rest in absurd (omega arith)
+  copies-from zero i j few (one_more _ k lt r rest) = let on = CopiesLead-forward R j k rest in absurd (omega arith)
   copies-from (suc n) i j few no_copy = or_left (eqb j j) (any (λ k. ltb j k && (step j k && copies n step k j)) (j + 1)) (eq-eqb j j refl)
   copies-from (suc n) i j few (one_more _ k lt r rest) =
-      let on = Copies-forward R j k rest in
+      let on = CopiesLead-forward R j k rest in
       or_right (eqb i j) (any (λ k. ltb i k && (step i k && copies n step k j)) (j + 1))
       (any-from (λ k. ltb i k && (step i k && copies n step k j)) (j + 1) k (omega arith)
       (and_from (ltb i k) (step i k && copies n step k j) (lt-ltb i k lt)
       (and_from (step i k) (copies n step k j) ((each i k).1 r) (copies-from n k j (omega arith) rest))))
 
-  copies-all : (j k : ℕ) → IsTrue (copies j step k j) ↔ Copies R j k
+  copies-all : (j k : ℕ) → IsTrue (copies j step k j) ↔ CopiesLead R j k
   copies-all j k = (copies-some j k j, copies-from j k j (omega arith))
 
-  test-from : (i j k : ℕ) → i < k → R i k → Copies R j k → (ltb i k && (step i k && copies j step k j)) ≡ true
+  test-from : (i j k : ℕ) → i < k → R i k → CopiesLead R j k → (ltb i k && (step i k && copies j step k j)) ≡ true
   test-from i j k up copy on =
       and_from (ltb i k) (step i k && copies j step k j) (lt-ltb i k up)
       (and_from (step i k) (copies j step k j) ((each i k).1 copy) ((copies-all j k).1 on))
 
-  first_copy-of : (i j m : ℕ) → i < m → R i m → Copies R j m →
+  first_copy-of : (i j m : ℕ) → i < m → R i m → CopiesLead R j m →
       (best : Option ℕ) → GreatestBelow (λ k. (ltb i k && (step i k && copies j step k j)) ≡ true) (j + 1) best →
-      (i < unwrap_or best i) × (unwrap_or best i ≤ j) × R i (unwrap_or best i) × Copies R j (unwrap_or best i)
-      × ((l : ℕ) → i < l → R i l → Copies R j l → l ≤ unwrap_or best i)
-  first_copy-of i j m lt r rest None none = let on = Copies-forward R j m rest in absurd (none m (omega arith) (test-from i j m lt r rest))
+      (i < unwrap_or best i) × (unwrap_or best i ≤ j) × R i (unwrap_or best i) × CopiesLead R j (unwrap_or best i)
+      × ((l : ℕ) → i < l → R i l → CopiesLead R j l → l ≤ unwrap_or best i)
+  first_copy-of i j m lt r rest None none = let on = CopiesLead-forward R j m rest in absurd (none m (omega arith) (test-from i j m lt r rest))
   first_copy-of i j m lt r rest (Some k) some =
       let up = and_parts (ltb i k) (step i k && copies j step k j) some.1 in
       let on = and_parts (step i k) (copies j step k j) up.1 in (
@@ -100,18 +100,18 @@ module _ (step : ℕ → ℕ → Bool) (R : ℕ → ℕ → Type 0) (each : (i k
         (let below = some.0 in omega arith),
         (each i k).0 on.0,
         (copies-all j k).0 on.1,
-        λ l above copy rest'. let within = Copies-forward R j l rest' in some.2 l (omega arith) (test-from i j l above copy rest'),
+        λ l above copy rest'. let within = CopiesLead-forward R j l rest' in some.2 l (omega arith) (test-from i j l above copy rest'),
       )
 
   -- the first copy goes as far as one can from which copies lead on
-  first_copy-is : (i j m : ℕ) → i < m → R i m → Copies R j m →
-      (i < first_copy step i j) × (first_copy step i j ≤ j) × R i (first_copy step i j) × Copies R j (first_copy step i j)
-      × ((l : ℕ) → i < l → R i l → Copies R j l → l ≤ first_copy step i j)
+  first_copy-is : (i j m : ℕ) → i < m → R i m → CopiesLead R j m →
+      (i < first_copy step i j) × (first_copy step i j ≤ j) × R i (first_copy step i j) × CopiesLead R j (first_copy step i j)
+      × ((l : ℕ) → i < l → R i l → CopiesLead R j l → l ≤ first_copy step i j)
   unfolding first_copy
   first_copy-is i j m lt r rest =
       first_copy-of i j m lt r rest (greatest (λ k. ltb i k && (step i k && copies j step k j)) (j + 1)) (greatest-is (λ k. ltb i k && (step i k && copies j step k j)) (j + 1))
 
-  last_start-is : (n i j : ℕ) → i < j → j ≤ n + i → Copies R j i → LastCopy R j i (last_start n step i j)
+  last_start-is : (n i j : ℕ) → i < j → j ≤ n + i → CopiesLead R j i → LastCopy R j i (last_start n step i j)
   unfolding last_start
   last_start-is zero i j lt few copies_i = absurd (omega arith)
   last_start-is (suc n) i j lt few no_copy = absurd (omega arith)
@@ -131,9 +131,9 @@ module _ (step : ℕ → ℕ → Bool) (R : ℕ → ℕ → Type 0) (each : (i k
       (cases_Bool (ltb k j)))
       (cases_lt k j)
 
-takes-some : (has : List Bool) (byte : Option ℕ) → takes byte has ≡ true → (b : ℕ) × (byte ≡ Some b) × (slice_index_or has b false ≡ true)
-takes-some has None h = absurd (true≢false (sym h))
-takes-some has (Some b) h = (b, refl, h)
+byte_is_in-some : (has : List Bool) (byte : Option ℕ) → byte_is_in byte has ≡ true → (b : ℕ) × (byte ≡ Some b) × (slice_index_or has b false ≡ true)
+byte_is_in-some has None h = absurd (true≢false (sym h))
+byte_is_in-some has (Some b) h = (b, refl, h)
 
 -- a test of two parts
 both-iff : (x y : Bool) (P Q : Type 0) → (IsTrue x ↔ P) → (IsTrue y ↔ Q) → IsTrue (x && y) ↔ (P × Q)
@@ -155,10 +155,10 @@ pub spans-iff : SpansLaw
 unfolding spans
 spans-iff empty w i j = equal-iff i j
 spans-iff (set has) w i j = (
-  λ h. let both = and_parts (takes (slice_get w i) has) (eqb j (i + 1)) h in
-      let byte = takes-some has (slice_get w i) both.0 in
+  λ h. let both = and_parts (byte_is_in (slice_get w i) has) (eqb j (i + 1)) h in
+      let byte = byte_is_in-some has (slice_get w i) both.0 in
       (byte.0, byte.1, byte.2, eqb-true j (i + 1) both.1),
-  λ h. and_from (takes (slice_get w i) has) (eqb j (i + 1)) (ap (λ b. takes b has) h.1 ∙ h.2) (eq-eqb j (i + 1) h.3),
+  λ h. and_from (byte_is_in (slice_get w i) has) (eqb j (i + 1)) (ap (λ b. byte_is_in b has) h.1 ∙ h.2) (eq-eqb j (i + 1) h.3),
 )
 spans-iff begin w i j = both-iff (eqb i 0) (eqb j 0) (i ≡ 0) (j ≡ 0) (equal-iff i 0) (equal-iff j 0)
 spans-iff end w i j = both-iff (eqb i (length w)) (eqb j (length w)) (i ≡ length w) (j ≡ length w) (equal-iff i (length w)) (equal-iff j (length w))
@@ -166,40 +166,40 @@ spans-iff (seq a b) w i j = (
   λ h. let k = any-some (λ k. spans a w i k && spans b w k j) (j + 1) h in
       let both = and_parts (spans a w i k.0) (spans b w k.0 j) k.2 in
       (k.0, (spans-iff a w i k.0).0 both.0, (spans-iff b w k.0 j).0 both.1),
-  λ h. let on = Spans-forward b w h.0 j h.2 in
+  λ h. let on = Matches-forward b w h.0 j h.2 in
       any-from (λ k. spans a w i k && spans b w k j) (j + 1) h.0 (omega arith)
       (and_from (spans a w i h.0) (spans b w h.0 j) ((spans-iff a w i h.0).1 h.1) ((spans-iff b w h.0 j).1 h.2)),
 )
-spans-iff (alt a b) w i j = either-iff (spans a w i j) (spans b w i j) (Spans a w i j) (Spans b w i j) (spans-iff a w i j) (spans-iff b w i j)
+spans-iff (alt a b) w i j = either-iff (spans a w i j) (spans b w i j) (Matches a w i j) (Matches b w i j) (spans-iff a w i j) (spans-iff b w i j)
 spans-iff (group k a) w i j = spans-iff a w i j
-spans-iff (star a first) w i j = copies-all (spans a w) (Spans a w) (spans-iff a w) j i
-spans-iff (opt a first) w i j = either-iff (eqb i j) (spans a w i j) (i ≡ j) (Spans a w i j) (equal-iff i j) (spans-iff a w i j)
+spans-iff (star a first) w i j = copies-all (spans a w) (Matches a w) (spans-iff a w) j i
+spans-iff (opt a first) w i j = either-iff (eqb i j) (spans a w i j) (i ≡ j) (Matches a w i j) (equal-iff i j) (spans-iff a w i j)
 
 -- the longest match from a place of the text
-longest-of : (e : Tree) (w : List ℕ) (i : ℕ) → i ≤ length w → (best : Option ℕ) → GreatestBelow (λ k. spans e w i k ≡ true) (length w + 1) best → Longest e w i best
-longest-of e w i fits None none = λ k s. let within = Spans-within e w i k fits s in none k (omega arith) ((spans-iff e w i k).1 s)
+longest-of : (e : Tree) (w : List ℕ) (i : ℕ) → i ≤ length w → (best : Option ℕ) → GreatestBelow (λ k. spans e w i k ≡ true) (length w + 1) best → IsLongestFrom e w i best
+longest-of e w i fits None none = λ k s. let within = Matches-within e w i k fits s in none k (omega arith) ((spans-iff e w i k).1 s)
 longest-of e w i fits (Some j) some = (
   (spans-iff e w i j).0 some.1,
-  λ k s. let within = Spans-within e w i k fits s in some.2 k (omega arith) ((spans-iff e w i k).1 s),
+  λ k s. let within = Matches-within e w i k fits s in some.2 k (omega arith) ((spans-iff e w i k).1 s),
 )
 
-longest-is : (e : Tree) (w : List ℕ) (i : ℕ) → i ≤ length w → Longest e w i (longest e w i)
+longest-is : (e : Tree) (w : List ℕ) (i : ℕ) → i ≤ length w → IsLongestFrom e w i (longest e w i)
 unfolding longest
 longest-is e w i fits = longest-of e w i fits (greatest (spans e w i) (length w + 1)) (greatest-is (spans e w i) (length w + 1))
 
 -- what the relations say of an answer
 abbrev pub IsAnswer : Tree → List ℕ → ℕ → Option (ℕ × ℕ) → Type 0
 IsAnswer e w p None = NotFound e w p
-IsAnswer e w p (Some f) = Found e w p f.0 f.1
+IsAnswer e w p (Some f) = IsLeftmostLongest e w p f.0 f.1
 
-answer-step : (e : Tree) (w : List ℕ) (p : ℕ) (best : Option ℕ) (rest : Option (ℕ × ℕ)) → Longest e w p best → IsAnswer e w (p + 1) rest → IsAnswer e w p (first_of p best rest)
+answer-step : (e : Tree) (w : List ℕ) (p : ℕ) (best : Option ℕ) (rest : Option (ℕ × ℕ)) → IsLongestFrom e w p best → IsAnswer e w (p + 1) rest → IsAnswer e w p (first_of p best rest)
 answer-step e w p None None none later =
-    λ i k from fits s. ⊎_elim (λ (h : i ≡ p). none k (subst (λ v. Spans e w v k) h s)) (λ (ne : i ≡ p → ⊥). later i k (omega arith) fits s) (cases_eq i p)
+    λ i k from fits s. ⊎_elim (λ (h : i ≡ p). none k (subst (λ v. Matches e w v k) h s)) (λ (ne : i ≡ p → ⊥). later i k (omega arith) fits s) (cases_eq i p)
 answer-step e w p None (Some f) none later = record {
   after = (let from = later.after in omega arith);
   spans = later.spans;
   longest = later.longest;
-  leftmost = λ h k from before s. ⊎_elim (λ (e' : h ≡ p). none k (subst (λ v. Spans e w v k) e' s)) (λ (ne : h ≡ p → ⊥). later.leftmost h k (omega arith) before s) (cases_eq h p);
+  leftmost = λ h k from before s. ⊎_elim (λ (e' : h ≡ p). none k (subst (λ v. Matches e w v k) e' s)) (λ (ne : h ≡ p → ⊥). later.leftmost h k (omega arith) before s) (cases_eq h p);
 }
 answer-step e w p (Some j) rest some later = record {
   after = omega arith;
@@ -219,11 +219,11 @@ unfolding found
 found-is e w p fits = found_from-is e w (length w + 1 - p) p (omega arith)
 
 -- what is spanned after the text is spanned at each place
-Copies-past : (R : ℕ → ℕ → Type 0) (h : ℕ) → (j i : ℕ) → ((k : ℕ) → R i k → k ≡ i) → Copies R j i → j ≡ i
-Copies-past R h j i still no_copy = refl
-Copies-past R h j i still (one_more _ k lt r rest) = let same = still k r in absurd (omega arith)
+CopiesLead-past : (R : ℕ → ℕ → Type 0) (h : ℕ) → (j i : ℕ) → ((k : ℕ) → R i k → k ≡ i) → CopiesLead R j i → j ≡ i
+CopiesLead-past R h j i still no_copy = refl
+CopiesLead-past R h j i still (one_more _ k lt r rest) = let same = still k r in absurd (omega arith)
 
-past-still : (e : Tree) (w : List ℕ) (i k : ℕ) → length w < i → Spans e w i k → k ≡ i
+past-still : (e : Tree) (w : List ℕ) (i k : ℕ) → length w < i → Matches e w i k → k ≡ i
 past-still empty w i k high s = sym s
 past-still (set has) w i k high s = let within = slice_get_within w i s.0 s.1 in absurd (omega arith)
 past-still begin w i k high s = let at = s.0 in absurd (omega arith)
@@ -234,10 +234,10 @@ past-still (seq a b) w i k high s =
     right ∙ left
 past-still (alt a b) w i k high s = ⊎_elim (past-still a w i k high) (past-still b w i k high) s
 past-still (group n a) w i k high s = past-still a w i k high s
-past-still (star a first) w i k high s = Copies-past (Spans a w) i k i (λ l r. past-still a w i l high r) s
+past-still (star a first) w i k high s = CopiesLead-past (Matches a w) i k i (λ l r. past-still a w i l high r) s
 past-still (opt a first) w i k high s = ⊎_elim (λ (e : i ≡ k). sym e) (past-still a w i k high) s
 
-past-everywhere : (e : Tree) (w : List ℕ) (i k : ℕ) → length w < i → Spans e w i k → (h : ℕ) → Spans e w h h
+past-everywhere : (e : Tree) (w : List ℕ) (i k : ℕ) → length w < i → Matches e w i k → (h : ℕ) → Matches e w h h
 past-everywhere empty w i k high s h = refl
 past-everywhere (set has) w i k high s h = let within = slice_get_within w i s.0 s.1 in absurd (omega arith)
 past-everywhere begin w i k high s h = let at = s.0 in absurd (omega arith)
@@ -245,37 +245,37 @@ past-everywhere end w i k high s h = let at = s.0 in absurd (omega arith)
 past-everywhere (seq a b) w i k high s h =
     let left : s.0 ≡ i = past-still a w i s.0 high s.1 in
     (h, past-everywhere a w i s.0 high s.1 h, past-everywhere b w s.0 k (omega arith) s.2 h)
-past-everywhere (alt a b) w i k high s h = ⊎_elim (λ (l : Spans a w i k). inl (past-everywhere a w i k high l h)) (λ (r : Spans b w i k). inr (past-everywhere b w i k high r h)) s
+past-everywhere (alt a b) w i k high s h = ⊎_elim (λ (l : Matches a w i k). inl (past-everywhere a w i k high l h)) (λ (r : Matches b w i k). inr (past-everywhere b w i k high r h)) s
 past-everywhere (group n a) w i k high s h = past-everywhere a w i k high s h
 past-everywhere (star a first) w i k high s h = no_copy
 past-everywhere (opt a first) w i k high s h = inl refl
 
 -- a match that begins in the text or after it begins in the text
-pub Found-within : (e : Tree) (w : List ℕ) (p i j : ℕ) → p ≤ length w → Found e w p i j → i ≤ length w
-Found-within e w p i j fits f =
+pub IsLeftmostLongest-within : (e : Tree) (w : List ℕ) (p i j : ℕ) → p ≤ length w → IsLeftmostLongest e w p i j → i ≤ length w
+IsLeftmostLongest-within e w p i j fits f =
     ⊎_elim
     (λ (high : length w < i). absurd (f.leftmost p p (omega arith) (omega arith) (past-everywhere e w i j high f.spans p)))
     (λ (low : i ≤ length w). low)
     (cases_lt (length w) i)
 
-Found-unique : (e : Tree) (w : List ℕ) (p i j h k : ℕ) → Found e w p i j → Found e w p h k → (h ≡ i) × (k ≡ j)
-Found-unique e w p i j h k one other =
+IsLeftmostLongest-unique : (e : Tree) (w : List ℕ) (p i j h k : ℕ) → IsLeftmostLongest e w p i j → IsLeftmostLongest e w p h k → (h ≡ i) × (k ≡ j)
+IsLeftmostLongest-unique e w p i j h k one other =
     let same : h ≡ i =
     ⊎_elim (λ (lt : h < i). absurd (one.leftmost h k other.after lt other.spans))
     (λ (ge : i ≤ h). ⊎_elim (λ (lt : i < h). absurd (other.leftmost i j one.after lt one.spans)) (λ (le : h ≤ i). omega arith) (cases_lt i h))
     (cases_lt h i) in
-    let up : k ≤ j = one.longest k (subst (λ v. Spans e w v k) same other.spans) in
-    let down : j ≤ k = other.longest j (subst (λ v. Spans e w v j) (sym same) one.spans) in
+    let up : k ≤ j = one.longest k (subst (λ v. Matches e w v k) same other.spans) in
+    let down : j ≤ k = other.longest j (subst (λ v. Matches e w v j) (sym same) one.spans) in
     (same, omega arith)
 
-found-iff-of : (e : Tree) (w : List ℕ) (p i j : ℕ) → p ≤ length w → (answer : Option (ℕ × ℕ)) → IsAnswer e w p answer → (answer ≡ Some (i, j)) ↔ Found e w p i j
+found-iff-of : (e : Tree) (w : List ℕ) (p i j : ℕ) → p ≤ length w → (answer : Option (ℕ × ℕ)) → IsAnswer e w p answer → (answer ≡ Some (i, j)) ↔ IsLeftmostLongest e w p i j
 found-iff-of e w p i j fits None none = (
   λ h. absurd (none-some (i, j) h),
-  λ f. absurd (none i j f.after (Found-within e w p i j fits f) f.spans),
+  λ f. absurd (none i j f.after (IsLeftmostLongest-within e w p i j fits f) f.spans),
 )
 found-iff-of e w p i j fits (Some g) some = (
-  λ h. let same : g ≡ (i, j) = cc in subst (λ (v : ℕ × ℕ). Found e w p v.0 v.1) same some,
-  λ f. let same = Found-unique e w p i j g.0 g.1 f some in ap (λ (a : ℕ). Some (a, g.1)) same.0 ∙ ap (λ (b : ℕ). Some (i, b)) same.1,
+  λ h. let same : g ≡ (i, j) = cc in subst (λ (v : ℕ × ℕ). IsLeftmostLongest e w p v.0 v.1) same some,
+  λ f. let same = IsLeftmostLongest-unique e w p i j g.0 g.1 f some in ap (λ (a : ℕ). Some (a, g.1)) same.0 ∙ ap (λ (b : ℕ). Some (i, b)) same.1,
 )
 
 pub found-iff : FoundLaw
@@ -285,7 +285,7 @@ not_found-of : (e : Tree) (w : List ℕ) (p : ℕ) → p ≤ length w → (answe
 not_found-of e w p fits None none = (λ h. none, λ h. refl)
 not_found-of e w p fits (Some g) some = (
   λ h. absurd (none-some g (sym h)),
-  λ none. absurd (none g.0 g.1 some.after (Found-within e w p g.0 g.1 fits some) some.spans),
+  λ none. absurd (none g.0 g.1 some.after (IsLeftmostLongest-within e w p g.0 g.1 fits some) some.spans),
 )
 
 pub not_found-iff : NotFoundLaw
@@ -297,7 +297,7 @@ some_found-of e w p fits None none = (
   λ some. absurd (none some.0 some.1 some.2 some.3 some.4),
 )
 some_found-of e w p fits (Some g) some = (
-  λ h. (g.0, g.1, some.after, Found-within e w p g.0 g.1 fits some, some.spans),
+  λ h. (g.0, g.1, some.after, IsLeftmostLongest-within e w p g.0 g.1 fits some, some.spans),
   λ h. refl,
 )
 
@@ -305,7 +305,7 @@ pub some_found-iff : SomeFoundLaw
 some_found-iff e w p fits = some_found-of e w p fits (found e w p) (found-is e w p fits)
 
 pub one_caps : OneCapsLaw
-one_caps = Caps-unique
+one_caps = Captures-unique
 
 pub same_test : (t : Bool) (e : Tree) (w : List ℕ) (p : ℕ) → p ≤ length w → (IsTrue t ↔ SomeFound e w p) → t ≡ is_some (found e w p)
 same_test t e w p fits tells =
@@ -323,10 +323,10 @@ cut-of a b A B left right i j m on l r (Some k) some =
       greatest = λ h l' r'. let within = on h r' in some.2 h (omega arith) (and_from (a i h) (b h j) ((left i h).1 l') ((right h j).1 r'));
     }
 
-cut-is : (a b : Tree) (w : List ℕ) (i j m : ℕ) → Spans a w i m → Spans b w m j → LastCut (Spans a w) (Spans b w) i j (cut (spans a w) (spans b w) i j)
+cut-is : (a b : Tree) (w : List ℕ) (i j m : ℕ) → Matches a w i m → Matches b w m j → LastCut (Matches a w) (Matches b w) i j (cut (spans a w) (spans b w) i j)
 unfolding cut
 cut-is a b w i j m l r =
-    cut-of (spans a w) (spans b w) (Spans a w) (Spans b w) (spans-iff a w) (spans-iff b w) i j m (λ k s. Spans-forward b w k j s) l r
+    cut-of (spans a w) (spans b w) (Matches a w) (Matches b w) (spans-iff a w) (spans-iff b w) i j m (λ k s. Matches-forward b w k j s) l r
     (greatest (λ k. spans a w i k && spans b w k j) (j + 1)) (greatest-is (λ k. spans a w i k && spans b w k j) (j + 1))
 
 -- what holds of both ends of a choice holds of it
@@ -338,68 +338,68 @@ LastCopy-copy : (R : ℕ → ℕ → Type 0) (j i c : ℕ) → LastCopy R j i c 
 LastCopy-copy R j i c (only _ lt r) = r
 LastCopy-copy R j i c (then _ k _ up low r rest most last) = LastCopy-copy R j k c last
 
-pub caps-is : (e : Tree) (w : List ℕ) (i j : ℕ) (old : Groups) → Spans e w i j → Caps e w i j old (caps e w i j old)
-unfolding caps
-caps-is empty w i j old s = refl
-caps-is (set has) w i j old s = refl
-caps-is begin w i j old s = refl
-caps-is end w i j old s = refl
-caps-is (seq a b) w i j old s =
+pub groups_after-is : (e : Tree) (w : List ℕ) (i j : ℕ) (old : Groups) → Matches e w i j → Captures e w i j old (groups_after e w i j old)
+unfolding groups_after
+groups_after-is empty w i j old s = refl
+groups_after-is (set has) w i j old s = refl
+groups_after-is begin w i j old s = refl
+groups_after-is end w i j old s = refl
+groups_after-is (seq a b) w i j old s =
     let k = cut (spans a w) (spans b w) i j in
     let is = cut-is a b w i j s.0 s.1 s.2 in
-    (k, is, (caps a w i k old, caps-is a w i k old is.left, caps-is b w k j (caps a w i k old) is.right))
-caps-is (alt a b) w i j old s =
-    choose (λ g. (Spans a w i j × Caps a w i j old g) ⊎ ((Spans a w i j → ⊥) × Caps b w i j old g)) (spans a w i j) (caps a w i j old) (caps b w i j old)
-    (λ holds. let l = (spans-iff a w i j).0 holds in inl (l, caps-is a w i j old l))
+    (k, is, (groups_after a w i k old, groups_after-is a w i k old is.left, groups_after-is b w k j (groups_after a w i k old) is.right))
+groups_after-is (alt a b) w i j old s =
+    choose (λ g. (Matches a w i j × Captures a w i j old g) ⊎ ((Matches a w i j → ⊥) × Captures b w i j old g)) (spans a w i j) (groups_after a w i j old) (groups_after b w i j old)
+    (λ holds. let l = (spans-iff a w i j).0 holds in inl (l, groups_after-is a w i j old l))
     (λ fails.
-    let missing : Spans a w i j → ⊥ = λ l. true≢false (sym ((spans-iff a w i j).1 l) ∙ fails) in
-    inr (missing, caps-is b w i j old (⊎_elim (λ (l : Spans a w i j). absurd (missing l)) (λ (r : Spans b w i j). r) s)))
-caps-is (group k a) w i j old s =
-    (caps a w i j (forget (group k a) old), caps-is a w i j (forget (group k a) old) s, refl)
-caps-is (star a first) w i j old s =
-    choose (Caps (star a first) w i j old) (ltb i j) (caps a w (last_start j (spans a w) i j) j (forget a old)) (cond (first && spans a w i i) (caps a w i i (forget a old)) old)
+    let missing : Matches a w i j → ⊥ = λ l. true≢false (sym ((spans-iff a w i j).1 l) ∙ fails) in
+    inr (missing, groups_after-is b w i j old (⊎_elim (λ (l : Matches a w i j). absurd (missing l)) (λ (r : Matches b w i j). r) s)))
+groups_after-is (group k a) w i j old s =
+    (groups_after a w i j (forget (group k a) old), groups_after-is a w i j (forget (group k a) old) s, refl)
+groups_after-is (star a first) w i j old s =
+    choose (Captures (star a first) w i j old) (ltb i j) (groups_after a w (last_start j (spans a w) i j) j (forget a old)) (cond (first && spans a w i i) (groups_after a w i i (forget a old)) old)
     (λ holds.
     let lt = ltb-true i j holds in
-    let last = last_start-is (spans a w) (Spans a w) (spans-iff a w) j i j lt (omega arith) s in
+    let last = last_start-is (spans a w) (Matches a w) (spans-iff a w) j i j lt (omega arith) s in
     let c = last_start j (spans a w) i j in
-    inl (lt, (c, last, caps-is a w c j (forget a old) (LastCopy-copy (Spans a w) j i c last))))
+    inl (lt, (c, last, groups_after-is a w c j (forget a old) (LastCopy-copy (Matches a w) j i c last))))
     (λ fails.
-    let on = Copies-forward (Spans a w) j i s in
+    let on = CopiesLead-forward (Matches a w) j i s in
     let not_less : i < j → ⊥ = λ lt. true≢false (sym (lt-ltb i j lt) ∙ fails) in
     let same : i ≡ j = ⊎_elim (λ (lt : i < j). absurd (not_less lt)) (λ (ge : j ≤ i). omega arith) (cases_lt i j) in
-    choose (Caps (star a first) w i j old) (first && spans a w i i) (caps a w i i (forget a old)) old
+    choose (Captures (star a first) w i j old) (first && spans a w i i) (groups_after a w i i (forget a old)) old
     (λ both.
     let parts = and_parts first (spans a w i i) both in
     let here = (spans-iff a w i i).0 parts.1 in
-    inr (inl (same, parts.0, here, caps-is a w i i (forget a old) here)))
+    inr (inl (same, parts.0, here, groups_after-is a w i i (forget a old) here)))
     (λ neither.
     inr (inr (same, ((λ is_first here. true≢false (sym (and_from first (spans a w i i) is_first ((spans-iff a w i i).1 here)) ∙ neither)), refl)))))
-caps-is (opt a first) w i j old s =
-    choose (Caps (opt a first) w i j old) (ltb i j) (caps a w i j (forget a old)) (cond (first && spans a w i i) (caps a w i i (forget a old)) old)
+groups_after-is (opt a first) w i j old s =
+    choose (Captures (opt a first) w i j old) (ltb i j) (groups_after a w i j (forget a old)) (cond (first && spans a w i i) (groups_after a w i i (forget a old)) old)
     (λ holds.
     let lt = ltb-true i j holds in
-    inl (lt, caps-is a w i j (forget a old) (⊎_elim (λ (e : i ≡ j). absurd (omega arith)) (λ (r : Spans a w i j). r) s)))
+    inl (lt, groups_after-is a w i j (forget a old) (⊎_elim (λ (e : i ≡ j). absurd (omega arith)) (λ (r : Matches a w i j). r) s)))
     (λ fails.
-    let on = Spans-forward (opt a first) w i j s in
+    let on = Matches-forward (opt a first) w i j s in
     let not_less : i < j → ⊥ = λ lt. true≢false (sym (lt-ltb i j lt) ∙ fails) in
     let same : i ≡ j = ⊎_elim (λ (lt : i < j). absurd (not_less lt)) (λ (ge : j ≤ i). omega arith) (cases_lt i j) in
-    choose (Caps (opt a first) w i j old) (first && spans a w i i) (caps a w i i (forget a old)) old
+    choose (Captures (opt a first) w i j old) (first && spans a w i i) (groups_after a w i i (forget a old)) old
     (λ both.
     let parts = and_parts first (spans a w i i) both in
     let here = (spans-iff a w i i).0 parts.1 in
-    inr (inl (same, parts.0, here, caps-is a w i i (forget a old) here)))
+    inr (inl (same, parts.0, here, groups_after-is a w i i (forget a old) here)))
     (λ neither.
     inr (inr (same, ((λ is_first here. true≢false (sym (and_from first (spans a w i i) is_first ((spans-iff a w i i).1 here)) ∙ neither)), refl)))))
 
-pub caps-iff : CapsLaw
-caps-iff e w i j old new s = (
-  λ h. subst (λ g. Caps e w i j old g) (sym h) (caps-is e w i j old s),
-  λ h. Caps-unique e w i j old new (caps e w i j old) h (caps-is e w i j old s),
+pub groups_after-iff : CapsLaw
+groups_after-iff e w i j old new s = (
+  λ h. subst (λ g. Captures e w i j old g) (sym h) (groups_after-is e w i j old s),
+  λ h. Captures-unique e w i j old new (groups_after e w i j old) h (groups_after-is e w i j old s),
 )
 
 pub report-iff : ReportLaw
 unfolding report
 report-iff e w i j groups s = (
-  λ h. (caps e w i j no_groups, caps-is e w i j no_groups s, h),
-  λ h. h.2 ∙ ap (λ (g : Groups). slice_set g 0 (Some (i, j))) (Caps-unique e w i j no_groups h.0 (caps e w i j no_groups) h.1 (caps-is e w i j no_groups s)),
+  λ h. (groups_after e w i j no_groups, groups_after-is e w i j no_groups s, h),
+  λ h. h.2 ∙ ap (λ (g : Groups). slice_set g 0 (Some (i, j))) (Captures-unique e w i j no_groups h.0 (groups_after e w i j no_groups) h.1 (groups_after-is e w i j no_groups s)),
 )

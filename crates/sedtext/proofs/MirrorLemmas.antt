@@ -4,12 +4,12 @@ use Rattle.std.specs.Prelude.{slice_get, slice_index_or, true}
 use Rattle.std.proofs.lemmas.Option.{get_or_from_slice_get, slice_get-get_or}
 use Rattle.std.proofs.lemmas.List.{length-reverse, reverse-reverse, get_or-reverse}
 use Rattle.sedre.specs.Tree.{Tree, empty, set, begin, end, seq, alt, group, star, opt}
-use Rattle.sedre.specs.Written.{Written, tree_at}
+use Rattle.sedre.specs.Written.{WrittenExpression, tree_at}
 use Rattle.sedre.specs.Mirror.{mirror, seen}
 use Rattle.sedre.proofs.MirrorLemmas.{mirror-mirror, tree_at-mirror}
 use Rattle.sedtext.specs.Reach.{At}
-use Rattle.sedtext.specs.Spans.{Copies, no_copy, one_more, Spans}
-use Rattle.sedtext.proofs.SpanLemmas.{Spans-within, Copies-append}
+use Rattle.sedtext.specs.Spans.{CopiesLead, no_copy, one_more, Matches}
+use Rattle.sedtext.proofs.SpanLemmas.{Matches-within, CopiesLead-append}
 
 -- a byte of the text, in the text read from its end
 pub get-reverse : (w : List ℕ) (i b byte : ℕ) → i + 1 + b ≡ length w → slice_get w i ≡ Some byte → slice_get (reverse w) b ≡ Some byte
@@ -21,52 +21,52 @@ get-reverse w i b byte sum is =
     ∙ ap (λ (v : ℕ). Some v) (get_or-reverse w b 0 low ∙ ap (λ (k : ℕ). slice_index_or w k 0) at ∙ get_or_from_slice_get w i byte 0 is)
 
 -- the same of all numbers that come before
-Copies-mirror : (R S : ℕ → ℕ → Type 0) (n : ℕ) →
+CopiesLead-mirror : (R S : ℕ → ℕ → Type 0) (n : ℕ) →
     ((i j a b : ℕ) → i + a ≡ n → j + b ≡ n → R i j → S b a) → ((i j : ℕ) → i ≤ n → R i j → j ≤ n) →
-    (j i a b : ℕ) → i + a ≡ n → j + b ≡ n → Copies R j i → Copies S a b
-Copies-mirror R S n each within j i a b left right no_copy =
+    (j i a b : ℕ) → i + a ≡ n → j + b ≡ n → CopiesLead R j i → CopiesLead S a b
+CopiesLead-mirror R S n each within j i a b left right no_copy =
     let same : a ≡ b = omega arith in
-    subst (λ v. Copies S a v) same no_copy
-Copies-mirror R S n each within j i a b left right (one_more _ k lt r rest) =
+    subst (λ v. CopiesLead S a v) same no_copy
+CopiesLead-mirror R S n each within j i a b left right (one_more _ k lt r rest) =
     let low : k ≤ n = within i k (omega arith) r in
     let c = n - k in
     let middle : k + c ≡ n = omega arith in
-    Copies-append S c b a (Copies-mirror R S n each within j k c b middle right rest) (omega arith) (each i k a c left middle r)
+    CopiesLead-append S c b a (CopiesLead-mirror R S n each within j k c b middle right rest) (omega arith) (each i k a c left middle r)
 
 -- what the expression matches is matched from its end by the mirrored one
-pub Spans-mirror : (e : Tree) (w : List ℕ) (i j a b : ℕ) → i + a ≡ length w → j + b ≡ length w → Spans e w i j → Spans (mirror e) (reverse w) b a
-Spans-mirror empty w i j a b left right s = omega arith
-Spans-mirror (set members) w i j a b left right s =
+pub Matches-mirror : (e : Tree) (w : List ℕ) (i j a b : ℕ) → i + a ≡ length w → j + b ≡ length w → Matches e w i j → Matches (mirror e) (reverse w) b a
+Matches-mirror empty w i j a b left right s = omega arith
+Matches-mirror (set members) w i j a b left right s =
     let next = s.3 in
     (s.0, get-reverse w i b s.0 (omega arith) s.1, s.2, omega arith)
-Spans-mirror begin w i j a b left right s = let long = length-reverse w in (omega arith, omega arith)
-Spans-mirror end w i j a b left right s = (omega arith, omega arith)
-Spans-mirror (seq x y) w i j a b left right s =
-    let low : s.0 ≤ length w = Spans-within x w i s.0 (omega arith) s.1 in
+Matches-mirror begin w i j a b left right s = let long = length-reverse w in (omega arith, omega arith)
+Matches-mirror end w i j a b left right s = (omega arith, omega arith)
+Matches-mirror (seq x y) w i j a b left right s =
+    let low : s.0 ≤ length w = Matches-within x w i s.0 (omega arith) s.1 in
     let c = length w - s.0 in
     let middle : s.0 + c ≡ length w = omega arith in
-    (c, Spans-mirror y w s.0 j c b middle right s.2, Spans-mirror x w i s.0 a c left middle s.1)
-Spans-mirror (alt x y) w i j a b left right s =
-    ⊎_elim (λ (l : Spans x w i j). inl (Spans-mirror x w i j a b left right l)) (λ (r : Spans y w i j). inr (Spans-mirror y w i j a b left right r)) s
-Spans-mirror (group k x) w i j a b left right s = Spans-mirror x w i j a b left right s
-Spans-mirror (star x first) w i j a b left right s =
-    Copies-mirror (Spans x w) (Spans (mirror x) (reverse w)) (length w) (Spans-mirror x w) (Spans-within x w) j i a b left right s
-Spans-mirror (opt x first) w i j a b left right s =
-    ⊎_elim (λ (e : i ≡ j). inl (let same : b ≡ a = omega arith in same)) (λ (h : Spans x w i j). inr (Spans-mirror x w i j a b left right h)) s
+    (c, Matches-mirror y w s.0 j c b middle right s.2, Matches-mirror x w i s.0 a c left middle s.1)
+Matches-mirror (alt x y) w i j a b left right s =
+    ⊎_elim (λ (l : Matches x w i j). inl (Matches-mirror x w i j a b left right l)) (λ (r : Matches y w i j). inr (Matches-mirror y w i j a b left right r)) s
+Matches-mirror (group k x) w i j a b left right s = Matches-mirror x w i j a b left right s
+Matches-mirror (star x first) w i j a b left right s =
+    CopiesLead-mirror (Matches x w) (Matches (mirror x) (reverse w)) (length w) (Matches-mirror x w) (Matches-within x w) j i a b left right s
+Matches-mirror (opt x first) w i j a b left right s =
+    ⊎_elim (λ (e : i ≡ j). inl (let same : b ≡ a = omega arith in same)) (λ (h : Matches x w i j). inr (Matches-mirror x w i j a b left right h)) s
 
 -- and nothing else is
-pub Spans-unmirror : (e : Tree) (w : List ℕ) (i j a b : ℕ) → i + a ≡ length w → j + b ≡ length w → Spans (mirror e) (reverse w) b a → Spans e w i j
-Spans-unmirror e w i j a b left right s =
+pub Matches-unmirror : (e : Tree) (w : List ℕ) (i j a b : ℕ) → i + a ≡ length w → j + b ≡ length w → Matches (mirror e) (reverse w) b a → Matches e w i j
+Matches-unmirror e w i j a b left right s =
     let long = length-reverse w in
-    let back : Spans (mirror (mirror e)) (reverse (reverse w)) i j = Spans-mirror (mirror e) (reverse w) b a j i (omega arith) (omega arith) s in
-    subst (λ t. Spans t w i j) (mirror-mirror e) (subst (λ v. Spans (mirror (mirror e)) v i j) (reverse-reverse w) back)
+    let back : Matches (mirror (mirror e)) (reverse (reverse w)) i j = Matches-mirror (mirror e) (reverse w) b a j i (omega arith) (omega arith) s in
+    subst (λ t. Matches t w i j) (mirror-mirror e) (subst (λ v. Matches (mirror (mirror e)) v i j) (reverse-reverse w) back)
 
 -- the same at the nodes of an expression
-pub At-mirror : (e nodes : Written) (w bytes : List ℕ) (x i j a b : ℕ) → nodes ≡ seen true e → bytes ≡ reverse w → i + a ≡ length w → j + b ≡ length w →
+pub At-mirror : (e nodes : WrittenExpression) (w bytes : List ℕ) (x i j a b : ℕ) → nodes ≡ seen true e → bytes ≡ reverse w → i + a ≡ length w → j + b ≡ length w →
     At e.nodes w x i j ↔ At nodes.nodes bytes x b a
 At-mirror e nodes w bytes x i j a b is_nodes is_bytes left right =
     let T : Tree = tree_at e.nodes x in
-    let root : tree_at nodes.nodes x ≡ mirror T = ap (λ (v : Written). tree_at v.nodes x) is_nodes ∙ tree_at-mirror e.nodes x in (
-      λ s. subst (λ t. Spans t bytes b a) (sym root) (subst (λ v. Spans (mirror T) v b a) (sym is_bytes) (Spans-mirror T w i j a b left right s)),
-      λ s. Spans-unmirror T w i j a b left right (subst (λ v. Spans (mirror T) v b a) is_bytes (subst (λ t. Spans t bytes b a) root s)),
+    let root : tree_at nodes.nodes x ≡ mirror T = ap (λ (v : WrittenExpression). tree_at v.nodes x) is_nodes ∙ tree_at-mirror e.nodes x in (
+      λ s. subst (λ t. Matches t bytes b a) (sym root) (subst (λ v. Matches (mirror T) v b a) (sym is_bytes) (Matches-mirror T w i j a b left right s)),
+      λ s. Matches-unmirror T w i j a b left right (subst (λ v. Matches (mirror T) v b a) is_bytes (subst (λ t. Matches t bytes b a) root s)),
     )

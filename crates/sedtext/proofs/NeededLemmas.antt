@@ -16,7 +16,7 @@ use Rattle.sedtext.specs.declared.needed.Needed.{Needed}
 use Rattle.sedtext.specs.declared.needed.Literal.{Literal}
 use Rattle.sedtext.specs.declared.needed.Link.TheVariants.{OneOf, Inner}
 use Rattle.sedtext.proofs.ReachLemmas.{open_at, close_at}
-use Rattle.sedtext.proofs.SpanLemmas.{Spans-forward, Spans-within}
+use Rattle.sedtext.proofs.SpanLemmas.{Matches-forward, Matches-within}
 
 module _ (nodes : List Node) (arena : IsArena nodes) (x : ℕ) where
   -- a set
@@ -61,7 +61,7 @@ module _ (nodes : List Node) (arena : IsArena nodes) (x : ℕ) where
   pub second_ends : (a b : NodeId) (y : ℕ) → slice_get nodes x ≡ Some (Seq a b) → y ≡ b.index → AllEndWith nodes x y
   second_ends a b y is y_is w i j within at =
       let f = open_at nodes w x (Seq a b) arena is i j at in
-      (f.0, Spans-forward (tree_at nodes a.index) w i f.0 f.1, Spans-within (tree_at nodes a.index) w i f.0 within f.1, subst (λ v. At nodes w v f.0 j) (sym y_is) f.2)
+      (f.0, Matches-forward (tree_at nodes a.index) w i f.0 f.1, Matches-within (tree_at nodes a.index) w i f.0 within f.1, subst (λ v. At nodes w v f.0 j) (sym y_is) f.2)
 
 module _ (nodes : List Node) (x : ℕ) where
   -- the longer of what it holds and what a part at its end begins with

@@ -10,7 +10,7 @@ use Rattle.sedre.specs.declared.types.Node.{Node}
 use Rattle.sedre.specs.declared.types.NodeId.{NodeId}
 use Rattle.sedre.specs.declared.types.Node.TheVariants.{Empty, Set, Begin, End, Seq, Alt, Group, Star, Opt}
 use Rattle.sedre.proofs.TreeLemmas.{tree_at-node}
-use Rattle.sedtext.specs.Nodes.{sizes, parts_of}
+use Rattle.sedtext.specs.Nodes.{total_size, parts_of}
 
 -- there is a node at each place of the list
 pub node_at : (nodes : List Node) (x : ℕ) → x < length nodes → (node : Node) × (slice_get nodes x ≡ Some node)
@@ -54,7 +54,7 @@ size-pos (opt a first) = omega arith
 
 -- and one more than its parts
 module _ (nodes : List Node) (arena : IsArena nodes) (x : ℕ) where
-  pub size-parts : (node : Node) → slice_get nodes x ≡ Some node → size (tree_at nodes x) ≡ 1 + sizes nodes (parts_of node)
+  pub size-parts : (node : Node) → slice_get nodes x ≡ Some node → size (tree_at nodes x) ≡ 1 + total_size nodes (parts_of node)
   size-parts Empty is = rw (tree_at-node nodes x Empty arena is) refl
   size-parts (Set s) is = rw (tree_at-node nodes x (Set s) arena is) refl
   size-parts Begin is = rw (tree_at-node nodes x Begin arena is) refl

@@ -4,10 +4,10 @@ use Rattle.std.specs.Prelude.{slice_set, replicate}
 use Rattle.std.proofs.lemmas.Bool.{cases_lt, cases_eq}
 use Rattle.std.proofs.lemmas.List.{get_or-set_same, get_or-set_other, set_past}
 use Rattle.sedre.specs.Tree.{Tree, empty, set, begin, end, seq, alt, group, star, opt}
-use Rattle.sedtext.specs.Spans.{Spans}
-use Rattle.sedtext.specs.Caps.{Caps, LastCopy, only, then, IsReport}
+use Rattle.sedtext.specs.Spans.{Matches}
+use Rattle.sedtext.specs.Caps.{Captures, LastCopy, only, then, IsReport}
 use Rattle.sedtext.specs.Groups.{Groups, forget, no_groups, span_of, SpanIn}
-use Rattle.sedtext.proofs.SpanLemmas.{Spans-forward}
+use Rattle.sedtext.proofs.SpanLemmas.{Matches-forward}
 
 -- all spans lie in a text of n bytes
 abbrev pub Lie : ℕ → Groups → Type 0
@@ -39,32 +39,32 @@ LastCopy-ends : (R : ℕ → ℕ → Type 0) (j i c : ℕ) → LastCopy R j i c 
 LastCopy-ends R j i c (only _ lt r) = omega arith
 LastCopy-ends R j i c (then _ k _ up low r rest most last) = LastCopy-ends R j k c last
 
-pub Caps-lie : (n : ℕ) (e : Tree) (w : List ℕ) (i j : ℕ) (old new : Groups) → i ≤ j → j ≤ n → Caps e w i j old new → Lie n old → Lie n new
-Caps-lie n empty w i j old new up high h lie = subst (Lie n) (sym h) lie
-Caps-lie n (set s) w i j old new up high h lie = subst (Lie n) (sym h) lie
-Caps-lie n begin w i j old new up high h lie = subst (Lie n) (sym h) lie
-Caps-lie n end w i j old new up high h lie = subst (Lie n) (sym h) lie
-Caps-lie n (seq a b) w i j old new up high h lie =
-    let left = Spans-forward a w i h.0 h.1.left in
-    let right = Spans-forward b w h.0 j h.1.right in
-    Caps-lie n b w h.0 j h.2.0 new right high h.2.2 (Caps-lie n a w i h.0 old h.2.0 left (omega arith) h.2.1 lie)
-Caps-lie n (alt a b) w i j old new up high h lie =
+pub Captures-lie : (n : ℕ) (e : Tree) (w : List ℕ) (i j : ℕ) (old new : Groups) → i ≤ j → j ≤ n → Captures e w i j old new → Lie n old → Lie n new
+Captures-lie n empty w i j old new up high h lie = subst (Lie n) (sym h) lie
+Captures-lie n (set s) w i j old new up high h lie = subst (Lie n) (sym h) lie
+Captures-lie n begin w i j old new up high h lie = subst (Lie n) (sym h) lie
+Captures-lie n end w i j old new up high h lie = subst (Lie n) (sym h) lie
+Captures-lie n (seq a b) w i j old new up high h lie =
+    let left = Matches-forward a w i h.0 h.1.left in
+    let right = Matches-forward b w h.0 j h.1.right in
+    Captures-lie n b w h.0 j h.2.0 new right high h.2.2 (Captures-lie n a w i h.0 old h.2.0 left (omega arith) h.2.1 lie)
+Captures-lie n (alt a b) w i j old new up high h lie =
     ⊎_elim
-    (λ (l : Spans a w i j × Caps a w i j old new). Caps-lie n a w i j old new up high l.1 lie)
-    (λ (r : (Spans a w i j → ⊥) × Caps b w i j old new). Caps-lie n b w i j old new up high r.1 lie)
+    (λ (l : Matches a w i j × Captures a w i j old new). Captures-lie n a w i j old new up high l.1 lie)
+    (λ (r : (Matches a w i j → ⊥) × Captures b w i j old new). Captures-lie n b w i j old new up high r.1 lie)
     h
-Caps-lie n (group k a) w i j old new up high h lie =
-    subst (Lie n) (sym h.2) (Lie-set n h.0 k (Some (i, j)) (up, high) (Caps-lie n a w i j (forget (group k a) old) h.0 up high h.1 (Lie-forget n (group k a) old lie)))
-Caps-lie n (star a first) w i j old new up high (inl h) lie =
-    Caps-lie n a w h.1.0 j (forget a old) new (LastCopy-ends (Spans a w) j i h.1.0 h.1.1) high h.1.2 (Lie-forget n a old lie)
-Caps-lie n (star a first) w i j old new up high (inr (inl h)) lie =
-    Caps-lie n a w i i (forget a old) new (omega arith) (omega arith) h.3 (Lie-forget n a old lie)
-Caps-lie n (star a first) w i j old new up high (inr (inr h)) lie = subst (Lie n) (sym h.1.1) lie
-Caps-lie n (opt a first) w i j old new up high (inl h) lie =
-    Caps-lie n a w i j (forget a old) new up high h.1 (Lie-forget n a old lie)
-Caps-lie n (opt a first) w i j old new up high (inr (inl h)) lie =
-    Caps-lie n a w i i (forget a old) new (omega arith) (omega arith) h.3 (Lie-forget n a old lie)
-Caps-lie n (opt a first) w i j old new up high (inr (inr h)) lie = subst (Lie n) (sym h.1.1) lie
+Captures-lie n (group k a) w i j old new up high h lie =
+    subst (Lie n) (sym h.2) (Lie-set n h.0 k (Some (i, j)) (up, high) (Captures-lie n a w i j (forget (group k a) old) h.0 up high h.1 (Lie-forget n (group k a) old lie)))
+Captures-lie n (star a first) w i j old new up high (inl h) lie =
+    Captures-lie n a w h.1.0 j (forget a old) new (LastCopy-ends (Matches a w) j i h.1.0 h.1.1) high h.1.2 (Lie-forget n a old lie)
+Captures-lie n (star a first) w i j old new up high (inr (inl h)) lie =
+    Captures-lie n a w i i (forget a old) new (omega arith) (omega arith) h.3 (Lie-forget n a old lie)
+Captures-lie n (star a first) w i j old new up high (inr (inr h)) lie = subst (Lie n) (sym h.1.1) lie
+Captures-lie n (opt a first) w i j old new up high (inl h) lie =
+    Captures-lie n a w i j (forget a old) new up high h.1 (Lie-forget n a old lie)
+Captures-lie n (opt a first) w i j old new up high (inr (inl h)) lie =
+    Captures-lie n a w i i (forget a old) new (omega arith) (omega arith) h.3 (Lie-forget n a old lie)
+Captures-lie n (opt a first) w i j old new up high (inr (inr h)) lie = subst (Lie n) (sym h.1.1) lie
 
 replicate_none : (m k : ℕ) → span_of (replicate m None) k ≡ None
 replicate_none zero k = refl
@@ -74,4 +74,4 @@ replicate_none (suc m) (suc k) = replicate_none m k
 pub report_lies : (n : ℕ) (e : Tree) (w : List ℕ) (i j : ℕ) (groups : Groups) → i ≤ j → j ≤ n → IsReport e w i j groups → Lie n groups
 report_lies n e w i j groups up high h =
     subst (Lie n) (sym h.2) (Lie-set n h.0 0 (Some (i, j)) (up, high)
-    (Caps-lie n e w i j no_groups h.0 up high h.1 (λ k. subst (SpanIn n) (sym (replicate_none 10 k)) tt)))
+    (Captures-lie n e w i j no_groups h.0 up high h.1 (λ k. subst (SpanIn n) (sym (replicate_none 10 k)) tt)))

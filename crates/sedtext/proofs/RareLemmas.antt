@@ -18,7 +18,7 @@ use Rattle.sedtext.specs.Needed.{LinksTo, Narrowed}
 use Rattle.sedtext.specs.Rare.{StandsAt, HeldAt, RareAt, FirstFixed, FirstRare, RareNowhere, AllStand, AllHave, AllHeld, AllRare, AllSecond}
 use Rattle.sedtext.specs.Reach.{At}
 use Rattle.sedtext.specs.Beginnings.{NoneIn}
-use Rattle.sedtext.specs.Spans.{Spans, IsIn}
+use Rattle.sedtext.specs.Spans.{Matches, IsIn}
 use Rattle.sedtext.proofs.FewLemmas.{few_inside}
 use Rattle.sedtext.proofs.ReachLemmas.{open_at}
 
@@ -104,7 +104,7 @@ module _ (nodes : List Node) (x : ℕ) where
 
 -- a text of bytes
 module _ (e : Tree) (w : List ℕ) (bytes : AreBytes w) (from p : ℕ) (r : Rare) (all : AllRare e (Some r)) (before : NoneIn e w from p) where
-  rare_at : (i j : ℕ) → Spans e w i j → RareAt r w i
+  rare_at : (i j : ℕ) → Matches e w i j → RareAt r w i
   rare_at i j s = (all.0 w bytes i j s, held_at r.held all.1)
     where
       held_at : (held : Option Fixed) → AllHeld e held → HeldAt held w i

@@ -1,7 +1,7 @@
 -- What a node spans by its parts, and where these are entered.
 use Rattle.std.proofs.Common.{◌≡◌, ◌≢◌, ℕ, ◌<◌, ◌≤◌, ◌⊎◌, ◌↔◌, Bool, false, List, Option, Some, None, IsTrue, refl, sym, ap, subst, inl, inr, true≢false, arith}
 use Rattle.std.specs.Prelude.{slice_get, slice_index_or}
-use Rattle.sedtext.specs.Spans.{Copies, no_copy, Spans}
+use Rattle.sedtext.specs.Spans.{CopiesLead, no_copy, Matches}
 use Rattle.sedre.specs.Arena.{IsArena, IsPart}
 use Rattle.sedre.specs.Written.{tree_of, tree_at}
 use Rattle.sedre.specs.declared.types.Node.{Node}
@@ -9,25 +9,25 @@ use Rattle.sedre.specs.declared.types.Node.TheVariants.{Empty, Set, Begin, End, 
 use Rattle.sedre.proofs.TreeLemmas.{tree_at-node}
 use Rattle.sedtext.specs.declared.starts.Starts.{Starts}
 use Rattle.sedtext.specs.Reach.{IsLoose, BeginsWith, At, IsStart, Enters, at_root, with_whole, after_left, again}
-use Rattle.sedtext.specs.Nodes.{Repeats}
-use Rattle.sedtext.specs.Matching.{takes}
-use Rattle.sedtext.proofs.SpanLemmas.{Spans-forward}
+use Rattle.sedtext.specs.Nodes.{IsRepetitionOf}
+use Rattle.sedtext.specs.Matching.{byte_is_in}
+use Rattle.sedtext.proofs.SpanLemmas.{Matches-forward}
 
 -- what a node spans, by the trees of its parts
 abbrev pub NodeSpans : List Node → List ℕ → Node → ℕ → ℕ → Type 0
-NodeSpans nodes w node i j = Spans (tree_of (tree_at nodes) node) w i j
+NodeSpans nodes w node i j = Matches (tree_of (tree_at nodes) node) w i j
 
 pub open_at : (nodes : List Node) (w : List ℕ) (x : ℕ) (node : Node) → IsArena nodes → slice_get nodes x ≡ Some node → (i j : ℕ) → At nodes w x i j → NodeSpans nodes w node i j
-open_at nodes w x node arena is i j at = subst (λ t. Spans t w i j) (tree_at-node nodes x node arena is) at
+open_at nodes w x node arena is i j at = subst (λ t. Matches t w i j) (tree_at-node nodes x node arena is) at
 
 pub close_at : (nodes : List Node) (w : List ℕ) (x : ℕ) (node : Node) → IsArena nodes → slice_get nodes x ≡ Some node → (i j : ℕ) → NodeSpans nodes w node i j → At nodes w x i j
-close_at nodes w x node arena is i j at = subst (λ t. Spans t w i j) (sym (tree_at-node nodes x node arena is)) at
+close_at nodes w x node arena is i j at = subst (λ t. Matches t w i j) (sym (tree_at-node nodes x node arena is)) at
 
 -- a repetition matches copies of its part
-pub star_copies : (nodes : List Node) (w : List ℕ) (star part i j : ℕ) → IsArena nodes → Repeats nodes star part → At nodes w star i j ↔ Copies (At nodes w part) j i
+pub star_copies : (nodes : List Node) (w : List ℕ) (star part i j : ℕ) → IsArena nodes → IsRepetitionOf nodes star part → At nodes w star i j ↔ CopiesLead (At nodes w part) j i
 star_copies nodes w star part i j arena repeats = (
-  λ at. subst (λ p. Copies (At nodes w p) j i) repeats.3 (open_at nodes w star (Star repeats.0 repeats.1) arena repeats.2 i j at),
-  λ copies. close_at nodes w star (Star repeats.0 repeats.1) arena repeats.2 i j (subst (λ p. Copies (At nodes w p) j i) (sym repeats.3) copies),
+  λ at. subst (λ p. CopiesLead (At nodes w p) j i) repeats.3 (open_at nodes w star (Star repeats.0 repeats.1) arena repeats.2 i j at),
+  λ copies. close_at nodes w star (Star repeats.0 repeats.1) arena repeats.2 i j (subst (λ p. CopiesLead (At nodes w p) j i) (sym repeats.3) copies),
 )
 
 -- how the part c of the node at y is entered at j
@@ -55,7 +55,7 @@ BeginsWith-part Begin c h = h
 BeginsWith-part End c h = h
 
 -- a byte that is taken is there, and in the list
-pub takes_some : (byte : Option ℕ) (members : List Bool) → IsTrue (takes byte members) → (b : ℕ) × (byte ≡ Some b) × IsTrue (slice_index_or members b false)
+pub takes_some : (byte : Option ℕ) (members : List Bool) → IsTrue (byte_is_in byte members) → (b : ℕ) × (byte ≡ Some b) × IsTrue (slice_index_or members b false)
 takes_some None members h = absurd (true≢false (sym h))
 takes_some (Some b) members h = (b, refl, h)
 
@@ -65,11 +65,11 @@ Enters-from nodes w r p x j (at_root _ _ _ e) = omega arith
 Enters-from nodes w r p x j (with_whole z _ _ other is' begins e) = Enters-from nodes w r p z j e
 Enters-from nodes w r p x j (after_left z _ i _ a b is' right e at) =
     let early = Enters-from nodes w r p z i e in
-    let on = Spans-forward (tree_at nodes a.index) w i j at in
+    let on = Matches-forward (tree_at nodes a.index) w i j at in
     omega arith
 Enters-from nodes w r p x j (again z _ i _ a first is' inner e at) =
     let early = Enters-from nodes w r p z i e in
-    let on = Spans-forward (tree_at nodes z) w i j at in
+    let on = Matches-forward (tree_at nodes z) w i j at in
     omega arith
 
 module _ (nodes : List Node) (w : List ℕ) (r : ℕ) (p : Starts) (arena : IsArena nodes) where

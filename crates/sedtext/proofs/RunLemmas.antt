@@ -8,16 +8,16 @@ use Rattle.sedre.specs.Arena.{IsArena}
 use Rattle.sedre.specs.declared.types.Node.{Node}
 use Rattle.sedre.specs.declared.types.NodeId.{NodeId}
 use Rattle.sedre.specs.declared.types.Node.TheVariants.{Set, Group, Star}
-use Rattle.sedtext.specs.Spans.{Spans, Copies, no_copy, one_more}
+use Rattle.sedtext.specs.Spans.{Matches, CopiesLead, no_copy, one_more}
 use Rattle.sedtext.specs.Reach.{At}
 use Rattle.sedtext.specs.Beginnings.{CanBegin}
 use Rattle.sedtext.specs.declared.beginnings.Begins.TheVariants.{WithSet}
 use Rattle.sedtext.specs.Runs.{Repeated, AllRepeat, IsRun}
-use Rattle.sedtext.proofs.SpanLemmas.{Copies-forward, Copies-append}
+use Rattle.sedtext.proofs.SpanLemmas.{CopiesLead-forward, CopiesLead-append}
 use Rattle.sedtext.proofs.ReachLemmas.{open_at, close_at}
 
 -- copies end in the run
-pub in_run : (members : List Bool) (w : List ℕ) (k j i : ℕ) → i ≤ k → (CanBegin (WithSet members) w k → ⊥) → Copies (Spans (set members) w) j i → j ≤ k
+pub in_run : (members : List Bool) (w : List ℕ) (k j i : ℕ) → i ≤ k → (CanBegin (WithSet members) w k → ⊥) → CopiesLead (Matches (set members) w) j i → j ≤ k
 in_run members w k j i low stop no_copy = low
 in_run members w k j i low stop (one_more _ l lt r rest) =
     ⊎_elim
@@ -29,7 +29,7 @@ in_run members w k j i low stop (one_more _ l lt r rest) =
 pub longer_run : (members : List Bool) (w : List ℕ) (i place byte : ℕ) (has : Bool) →
     slice_get w place ≡ Some byte → has ≡ slice_index_or members byte false → IsTrue has → Repeated members w i place → Repeated members w i (place + 1)
 longer_run members w i place byte has is value holds copies =
-    Copies-append (Spans (set members) w) place i (place + 1) copies (omega arith) (byte, is, sym value ∙ holds, refl)
+    CopiesLead-append (Matches (set members) w) place i (place + 1) copies (omega arith) (byte, is, sym value ∙ holds, refl)
 
 -- no byte stands at the end of the text
 pub stops_behind : (members : List Bool) (w : List ℕ) (place : ℕ) → length w ≤ place → CanBegin (WithSet members) w place → ⊥
@@ -37,7 +37,7 @@ stops_behind members w place long can = let inside = slice_get_within w place ca
 
 -- a run goes forward
 pub run_forward : (members : List Bool) (w : List ℕ) (i k : ℕ) → IsRun members w i k → i ≤ k
-run_forward members w i k run = Copies-forward (Spans (set members) w) k i run.1
+run_forward members w i k run = CopiesLead-forward (Matches (set members) w) k i run.1
 
 -- the longest of the copies is the run
 pub run_longest : (members : List Bool) (w : List ℕ) (i k : ℕ) → IsRun members w i k →
@@ -45,7 +45,7 @@ pub run_longest : (members : List Bool) (w : List ℕ) (i k : ℕ) → IsRun mem
 run_longest members w i k run = (run.0, run.1, λ j copies. in_run members w k j i (run_forward members w i k run) run.2 copies)
 
 -- copies of relations of which one has what the other has
-copies_alike : (R S : ℕ → ℕ → Type 0) → ((p q : ℕ) → R p q → S p q) → (j i : ℕ) → Copies R j i → Copies S j i
+copies_alike : (R S : ℕ → ℕ → Type 0) → ((p q : ℕ) → R p q → S p q) → (j i : ℕ) → CopiesLead R j i → CopiesLead S j i
 copies_alike R S each j i no_copy = no_copy
 copies_alike R S each j i (one_more _ k lt r rest) = one_more i k lt (each i k r) (copies_alike R S each j k rest)
 
@@ -53,9 +53,9 @@ module _ (nodes : List Node) (arena : IsArena nodes) (x : ℕ) where
   -- a repetition of a set
   pub star_repeats : (a : NodeId) (first : Bool) (members : List Bool) → slice_get nodes x ≡ Some (Star a first) → slice_get nodes a.index ≡ Some (Set members) → AllRepeat nodes x members
   star_repeats a first members is there w i j =
-      let same : (p q : ℕ) → At nodes w a.index p q ↔ Spans (set members) w p q = λ p q. (open_at nodes w a.index (Set members) arena there p q, close_at nodes w a.index (Set members) arena there p q) in (
-        λ at. copies_alike (At nodes w a.index) (Spans (set members) w) (λ p q. (same p q).0) j i (open_at nodes w x (Star a first) arena is i j at),
-        λ copies. close_at nodes w x (Star a first) arena is i j (copies_alike (Spans (set members) w) (At nodes w a.index) (λ p q. (same p q).1) j i copies),
+      let same : (p q : ℕ) → At nodes w a.index p q ↔ Matches (set members) w p q = λ p q. (open_at nodes w a.index (Set members) arena there p q, close_at nodes w a.index (Set members) arena there p q) in (
+        λ at. copies_alike (At nodes w a.index) (Matches (set members) w) (λ p q. (same p q).0) j i (open_at nodes w x (Star a first) arena is i j at),
+        λ copies. close_at nodes w x (Star a first) arena is i j (copies_alike (Matches (set members) w) (At nodes w a.index) (λ p q. (same p q).1) j i copies),
       )
 
   -- in a group

@@ -2,51 +2,51 @@
 use Rattle.std.proofs.Common.{◌≡◌, ℕ, ◌<◌, ◌≤◌, ◌⊎◌, List, length, refl, subst, inl, inr, ⊎_elim, arith}
 use Rattle.std.proofs.lemmas.Option.{slice_get_within}
 use Rattle.sedre.specs.Tree.{Tree, empty, set, begin, end, seq, alt, group, star, opt}
-use Rattle.sedtext.specs.Spans.{Copies, no_copy, one_more, Spans}
+use Rattle.sedtext.specs.Spans.{CopiesLead, no_copy, one_more, Matches}
 
-pub Copies-forward : (R : ℕ → ℕ → Type 0) (j i : ℕ) → Copies R j i → i ≤ j
-Copies-forward R j i no_copy = omega arith
-Copies-forward R j i (one_more _ k lt r rest) = let on = Copies-forward R j k rest in omega arith
+pub CopiesLead-forward : (R : ℕ → ℕ → Type 0) (j i : ℕ) → CopiesLead R j i → i ≤ j
+CopiesLead-forward R j i no_copy = omega arith
+CopiesLead-forward R j i (one_more _ k lt r rest) = let on = CopiesLead-forward R j k rest in omega arith
 
-pub Spans-forward : (e : Tree) (w : List ℕ) (i j : ℕ) → Spans e w i j → i ≤ j
-Spans-forward empty w i j s = omega arith
-Spans-forward (set has) w i j s = omega arith
-Spans-forward begin w i j s = omega arith
-Spans-forward end w i j s = omega arith
-Spans-forward (seq a b) w i j s =
-    let left = Spans-forward a w i s.0 s.1 in
-    let right = Spans-forward b w s.0 j s.2 in
+pub Matches-forward : (e : Tree) (w : List ℕ) (i j : ℕ) → Matches e w i j → i ≤ j
+Matches-forward empty w i j s = omega arith
+Matches-forward (set has) w i j s = omega arith
+Matches-forward begin w i j s = omega arith
+Matches-forward end w i j s = omega arith
+Matches-forward (seq a b) w i j s =
+    let left = Matches-forward a w i s.0 s.1 in
+    let right = Matches-forward b w s.0 j s.2 in
     omega arith
-Spans-forward (alt a b) w i j s = ⊎_elim (Spans-forward a w i j) (Spans-forward b w i j) s
-Spans-forward (group k a) w i j s = Spans-forward a w i j s
-Spans-forward (star a first) w i j s = Copies-forward (Spans a w) j i s
-Spans-forward (opt a first) w i j s = ⊎_elim (λ (e : i ≡ j). omega arith) (Spans-forward a w i j) s
+Matches-forward (alt a b) w i j s = ⊎_elim (Matches-forward a w i j) (Matches-forward b w i j) s
+Matches-forward (group k a) w i j s = Matches-forward a w i j s
+Matches-forward (star a first) w i j s = CopiesLead-forward (Matches a w) j i s
+Matches-forward (opt a first) w i j s = ⊎_elim (λ (e : i ≡ j). omega arith) (Matches-forward a w i j) s
 
-Copies-within : (R : ℕ → ℕ → Type 0) (n : ℕ) → ((i j : ℕ) → i ≤ n → R i j → j ≤ n) → (j i : ℕ) → i ≤ n → Copies R j i → j ≤ n
-Copies-within R n each j i fits no_copy = fits
-Copies-within R n each j i fits (one_more _ k lt r rest) = Copies-within R n each j k (each i k fits r) rest
+CopiesLead-within : (R : ℕ → ℕ → Type 0) (n : ℕ) → ((i j : ℕ) → i ≤ n → R i j → j ≤ n) → (j i : ℕ) → i ≤ n → CopiesLead R j i → j ≤ n
+CopiesLead-within R n each j i fits no_copy = fits
+CopiesLead-within R n each j i fits (one_more _ k lt r rest) = CopiesLead-within R n each j k (each i k fits r) rest
 
-pub Spans-within : (e : Tree) (w : List ℕ) (i j : ℕ) → i ≤ length w → Spans e w i j → j ≤ length w
-Spans-within empty w i j fits s = omega arith
-Spans-within (set has) w i j fits s = omega (arith, slice_get_within w i s.0 s.1)
-Spans-within begin w i j fits s = omega arith
-Spans-within end w i j fits s = omega arith
-Spans-within (seq a b) w i j fits s = Spans-within b w s.0 j (Spans-within a w i s.0 fits s.1) s.2
-Spans-within (alt a b) w i j fits s = ⊎_elim (Spans-within a w i j fits) (Spans-within b w i j fits) s
-Spans-within (group k a) w i j fits s = Spans-within a w i j fits s
-Spans-within (star a first) w i j fits s = Copies-within (Spans a w) (length w) (Spans-within a w) j i fits s
-Spans-within (opt a first) w i j fits s = ⊎_elim (λ (e : i ≡ j). omega arith) (Spans-within a w i j fits) s
+pub Matches-within : (e : Tree) (w : List ℕ) (i j : ℕ) → i ≤ length w → Matches e w i j → j ≤ length w
+Matches-within empty w i j fits s = omega arith
+Matches-within (set has) w i j fits s = omega (arith, slice_get_within w i s.0 s.1)
+Matches-within begin w i j fits s = omega arith
+Matches-within end w i j fits s = omega arith
+Matches-within (seq a b) w i j fits s = Matches-within b w s.0 j (Matches-within a w i s.0 fits s.1) s.2
+Matches-within (alt a b) w i j fits s = ⊎_elim (Matches-within a w i j fits) (Matches-within b w i j fits) s
+Matches-within (group k a) w i j fits s = Matches-within a w i j fits s
+Matches-within (star a first) w i j fits s = CopiesLead-within (Matches a w) (length w) (Matches-within a w) j i fits s
+Matches-within (opt a first) w i j fits s = ⊎_elim (λ (e : i ≡ j). omega arith) (Matches-within a w i j fits) s
 
 -- one more copy at the end
-pub Copies-append : (R : ℕ → ℕ → Type 0) (k i j : ℕ) → Copies R k i → k < j → R k j → Copies R j i
-Copies-append R k i j no_copy lt r = one_more k j lt r no_copy
-Copies-append R k i j (one_more _ l step first rest) lt r = one_more i l step first (Copies-append R k l j rest lt r)
+pub CopiesLead-append : (R : ℕ → ℕ → Type 0) (k i j : ℕ) → CopiesLead R k i → k < j → R k j → CopiesLead R j i
+CopiesLead-append R k i j no_copy lt r = one_more k j lt r no_copy
+CopiesLead-append R k i j (one_more _ l step first rest) lt r = one_more i l step first (CopiesLead-append R k l j rest lt r)
 
 -- without a copy nothing is spanned, else there is a last one
-pub Copies-last : (R : ℕ → ℕ → Type 0) (j i : ℕ) → Copies R j i → (i ≡ j) ⊎ ((k : ℕ) × Copies R k i × (k < j) × R k j)
-Copies-last R j i no_copy = inl refl
-Copies-last R j i (one_more _ k lt r rest) =
+pub CopiesLead-last : (R : ℕ → ℕ → Type 0) (j i : ℕ) → CopiesLead R j i → (i ≡ j) ⊎ ((k : ℕ) × CopiesLead R k i × (k < j) × R k j)
+CopiesLead-last R j i no_copy = inl refl
+CopiesLead-last R j i (one_more _ k lt r rest) =
     ⊎_elim
     (λ (e : k ≡ j). inr (i, no_copy, omega arith, subst (λ v. R i v) e r))
-    (λ (h : (l : ℕ) × Copies R l k × (l < j) × R l j). inr (h.0, one_more i k lt r h.1, h.2, h.3))
-    (Copies-last R j k rest)
+    (λ (h : (l : ℕ) × CopiesLead R l k × (l < j) × R l j). inr (h.0, one_more i k lt r h.1, h.2, h.3))
+    (CopiesLead-last R j k rest)

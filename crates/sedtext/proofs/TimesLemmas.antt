@@ -7,33 +7,33 @@ use Rattle.sedre.specs.Arena.{IsArena}
 use Rattle.sedre.specs.declared.types.Node.{Node}
 use Rattle.sedre.specs.declared.types.NodeId.{NodeId}
 use Rattle.sedre.specs.declared.types.Node.TheVariants.{Set, Seq, Group}
-use Rattle.sedtext.specs.Spans.{Spans, Copies, no_copy, one_more}
+use Rattle.sedtext.specs.Spans.{Matches, CopiesLead, no_copy, one_more}
 use Rattle.sedtext.specs.Runs.{Repeated}
 use Rattle.sedtext.specs.Beginnings.{CanBegin}
 use Rattle.sedtext.specs.declared.beginnings.Begins.TheVariants.{WithSet}
 use Rattle.sedtext.specs.Times.{SameBytes, HasTimes, AllTimes, AreWidths, FirstTimes}
-use Rattle.sedtext.proofs.SpanLemmas.{Spans-within}
+use Rattle.sedtext.proofs.SpanLemmas.{Matches-within}
 use Rattle.sedtext.proofs.MarkLemmas.{default_same}
 use Rattle.sedtext.proofs.ReachLemmas.{open_at, close_at}
 
 -- copies and more copies after them
-pub Copies-join : (R : ℕ → ℕ → Type 0) (j k i : ℕ) → Copies R k i → Copies R j k → Copies R j i
-Copies-join R j k i no_copy more = more
-Copies-join R j k i (one_more _ l lt r rest) more = one_more i l lt r (Copies-join R j k l rest more)
+pub CopiesLead-join : (R : ℕ → ℕ → Type 0) (j k i : ℕ) → CopiesLead R k i → CopiesLead R j k → CopiesLead R j i
+CopiesLead-join R j k i no_copy more = more
+CopiesLead-join R j k i (one_more _ l lt r rest) more = one_more i l lt r (CopiesLead-join R j k l rest more)
 
 module _ (members : List Bool) (w : List ℕ) where
   abbrev R : ℕ → ℕ → Type 0
-  R = Spans (set members) w
+  R = Matches (set members) w
 
   -- bytes of the set can be cut at each place between them
   pub repeated_cut : (m j i : ℕ) → i ≤ m → m ≤ j → Repeated members w i j → Repeated members w i m × Repeated members w m j
-  repeated_cut m j i low high no_copy = let same : j ≡ m = omega arith in subst (λ v. Copies R v j × Copies R j v) same (no_copy, no_copy)
+  repeated_cut m j i low high no_copy = let same : j ≡ m = omega arith in subst (λ v. CopiesLead R v j × CopiesLead R j v) same (no_copy, no_copy)
   repeated_cut m j i low high (one_more _ l lt r rest) =
       ⊎_elim
       (λ (more : i < m). let cut = repeated_cut m j l (omega (arith, r.3)) high rest in (one_more i l lt r cut.0, cut.1))
       (λ (le : m ≤ i).
       let same : i ≡ m = omega arith in
-      subst (λ v. Copies R v i × Copies R j v) same (no_copy, one_more i l lt r rest))
+      subst (λ v. CopiesLead R v i × CopiesLead R j v) same (no_copy, one_more i l lt r rest))
       (cases_lt i m)
 
   -- the first of them is in the set
@@ -51,10 +51,10 @@ module _ (members : List Bool) (w : List ℕ) where
 
   -- they end in the text
   pub repeated_within : (i j : ℕ) → i ≤ length w → Repeated members w i j → j ≤ length w
-  repeated_within i j within all = Spans-within (star (set members) false) w i j within all
+  repeated_within i j within all = Matches-within (star (set members) false) w i j within all
 
   -- those of one byte
-  pub repeated_one : (i j : ℕ) → Spans (set members) w i j → HasTimes members 1 w i j
+  pub repeated_one : (i j : ℕ) → Matches (set members) w i j → HasTimes members 1 w i j
   repeated_one i j s = (one_more i j (omega (arith, s.3)) s no_copy, s.3)
 
 -- the same, where the byte was looked at
@@ -81,7 +81,7 @@ module _ (nodes : List Node) (arena : IsArena nodes) (x : ℕ) (members : List B
         let f = open_at nodes w x (Seq a b) arena is i j at in
         let these = (left w bytes i f.0).0 f.1 in
         let those = (right w bytes f.0 j).0 f.2 in
-        (Copies-join (Spans (set members) w) j f.0 i these.0 those.0, omega (arith, these.1, those.1))),
+        (CopiesLead-join (Matches (set members) w) j f.0 i these.0 those.0, omega (arith, these.1, those.1))),
     (λ h.
         let cut = repeated_cut members w (i + first) j i (omega arith) (omega (arith, h.1)) h.0 in
         close_at nodes w x (Seq a b) arena is i j (i + first, (left w bytes i (i + first)).1 (cut.0, refl), (right w bytes (i + first) j).1 (cut.1, omega (arith, h.1)))),
@@ -129,4 +129,4 @@ module _ (members : List Bool) (count : ℕ) (w : List ℕ) (from : ℕ) where
   -- here they do
   pub times_here : (start seen : ℕ) → from ≤ start → start + count ≤ length w → Repeated members w start seen → Repeated members w seen (start + count) →
       ((h : ℕ) → from ≤ h → h < start → Repeated members w h (h + count) → ⊥) → FirstTimes members count w from (Some start)
-  times_here start seen after within these those before = (after, within, Copies-join (Spans (set members) w) (start + count) seen start these those, before)
+  times_here start seen after within these those before = (after, within, CopiesLead-join (Matches (set members) w) (start + count) seen start these those, before)

@@ -2,7 +2,7 @@
 use Rattle.std.specs.Prelude.{◌≡◌, ℕ, ◌≤◌, List, length, Option, Some, None, IfSome, IfNone}
 use Rattle.sedre.specs.Tree.{Tree}
 use Rattle.sedtext.specs.declared.found.Found.{Found}
-use Rattle.sedtext.specs.Spans.{Found as IsFound, NotFound}
+use Rattle.sedtext.specs.Spans.{IsLeftmostLongest as IsFound, NotFound}
 use Rattle.sedtext.specs.Caps.{IsReport}
 use Rattle.sedtext.specs.Groups.{SpanIn, span_of}
 use Rattle.sedtext.specs.Matching.{found, report}

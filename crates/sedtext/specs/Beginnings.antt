@@ -4,7 +4,7 @@ use Rattle.std.specs.Prelude.{◌≡◌, ℕ, ◌+◌, ◌<◌, ◌≤◌, List,
 use Rattle.sedre.specs.Tree.{Tree}
 use Rattle.sedre.specs.declared.types.Node.{Node}
 use Rattle.sedre.specs.declared.types.Node.TheVariants.{Set, Begin, Seq, Alt, Group}
-use Rattle.sedtext.specs.Spans.{Spans, IsIn}
+use Rattle.sedtext.specs.Spans.{Matches, IsIn}
 use Rattle.sedtext.specs.declared.beginnings.Begins.{Begins}
 use Rattle.sedtext.specs.declared.beginnings.Begins.TheVariants.{Anyhow, AtStart, WithByte, WithSet}
 use Rattle.sedtext.specs.Reach.{At}
@@ -18,7 +18,7 @@ CanBegin (WithSet s) w i = (b : ℕ) × (slice_get w i ≡ Some b) × IsIn b s
 
 -- all spans of the expression begin so
 abbrev pub AllBegin : Tree → Begins → Type 0
-AllBegin e begins = (w : List ℕ) (i j : ℕ) → Spans e w i j → CanBegin begins w i
+AllBegin e begins = (w : List ℕ) (i j : ℕ) → Matches e w i j → CanBegin begins w i
 
 -- all spans of the node x begin so
 abbrev pub AllAt : List Node → ℕ → Begins → Type 0
@@ -59,4 +59,4 @@ alternatives other = None
 
 -- no place from p up to but not including q begins a match
 abbrev pub NoneIn : Tree → List ℕ → ℕ → ℕ → Type 0
-NoneIn e w p q = (i k : ℕ) → p ≤ i → i < q → Spans e w i k → ⊥
+NoneIn e w p q = (i k : ℕ) → p ≤ i → i < q → Matches e w i k → ⊥

@@ -4,7 +4,7 @@ use Rattle.sedre.specs.Steps.{TakesAtLeast}
 use Rattle.sedre.specs.Tree.{Tree}
 use Rattle.sedtext.specs.Bytes.{AreBytes}
 use Rattle.sedtext.specs.NextMatch.{next_match}
-use Rattle.sedtext.specs.Spans.{Spans}
+use Rattle.sedtext.specs.Spans.{Matches}
 
 -- the span of the next match in a text of n bytes, after one that ended at a place, where there was one
 abbrev pub next_span : (ℕ → Option (ℕ × ℕ)) → ℕ → Option ℕ → Option (ℕ × ℕ)
@@ -26,11 +26,11 @@ LiesOn n last f = (f.0 ≤ f.1) × (f.1 ≤ n) × LiesAfter last (Some f)
 
 -- the span is one that the expression matches, and lies in the text, after the last occurrence
 abbrev pub Occurs : Tree → List ℕ → Option ℕ → ℕ × ℕ → Type 0
-Occurs e w last f = Spans e w f.0 f.1 × LiesOn (length w) last f
+Occurs e w last f = Matches e w f.0 f.1 × LiesOn (length w) last f
 
 -- the expression has a match that ends before the text does: so the search for one goes over the text from its beginning
 abbrev pub CanEndEarly : Tree → Type 0
-CanEndEarly e = (w : List ℕ) × AreBytes w × (i : ℕ) × (j : ℕ) × (j < length w) × Spans e w i j
+CanEndEarly e = (w : List ℕ) × AreBytes w × (i : ℕ) × (j : ℕ) × (j < length w) × Matches e w i j
 
 -- how many bytes there are up to the end of an occurrence, or between the end of the last one, or the byte that is passed over there,
 -- and that end
@@ -45,6 +45,6 @@ pub record PassesOver (e : Tree) (w : List ℕ) (p before after : ℕ) : Type 0 
   pub end : ℕ
   pub later : p ≤ start
   pub within : end ≤ length w
-  pub spans : Spans e w start end
+  pub spans : Matches e w start end
   pub bytes : TakesAtLeast before after (end - start)
   pub passed : CanEndEarly e → TakesAtLeast before after (end - p)

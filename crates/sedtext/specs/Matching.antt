@@ -20,14 +20,14 @@ copies zero step i j = eqb i j
 copies (suc n) step i j = eqb i j || any (λ k. ltb i k && (step i k && copies n step k j)) (j + 1)
 
 -- the byte, if there is one, is in the set
-abbrev pub takes : Option ℕ → List Bool → Bool
-takes None members = false
-takes (Some byte) members = slice_index_or members byte false
+abbrev pub byte_is_in : Option ℕ → List Bool → Bool
+byte_is_in None members = false
+byte_is_in (Some byte) members = slice_index_or members byte false
 
 -- the expression matches i..j
 unfoldable pub spans : Tree → List ℕ → ℕ → ℕ → Bool
 spans empty w i j = eqb i j
-spans (set members) w i j = takes (slice_get w i) members && eqb j (i + 1)
+spans (set members) w i j = byte_is_in (slice_get w i) members && eqb j (i + 1)
 spans begin w i j = eqb i 0 && eqb j 0
 spans end w i j = eqb i (length w) && eqb j (length w)
 spans (seq a b) w i j = any (λ k. spans a w i k && spans b w k j) (j + 1)
@@ -67,18 +67,18 @@ last_start zero step i j = i
 last_start (suc n) step i j = cond (ltb (first_copy step i j) j) (last_start n step (first_copy step i j) j) i
 
 -- the groups after a match of i..j
-unfoldable pub caps : Tree → List ℕ → ℕ → ℕ → Groups → Groups
-caps (seq a b) w i j old = caps b w (cut (spans a w) (spans b w) i j) j (caps a w i (cut (spans a w) (spans b w) i j) old)
-caps (alt a b) w i j old = cond (spans a w i j) (caps a w i j old) (caps b w i j old)
-caps (group k a) w i j old = slice_set (caps a w i j (forget (group k a) old)) k (Some (i, j))
-caps (star a first) w i j old =
-    cond (ltb i j) (caps a w (last_start j (spans a w) i j) j (forget a old))
-    (cond (first && spans a w i i) (caps a w i i (forget a old)) old)
-caps (opt a first) w i j old =
-    cond (ltb i j) (caps a w i j (forget a old))
-    (cond (first && spans a w i i) (caps a w i i (forget a old)) old)
-caps other w i j old = old
+unfoldable pub groups_after : Tree → List ℕ → ℕ → ℕ → Groups → Groups
+groups_after (seq a b) w i j old = groups_after b w (cut (spans a w) (spans b w) i j) j (groups_after a w i (cut (spans a w) (spans b w) i j) old)
+groups_after (alt a b) w i j old = cond (spans a w i j) (groups_after a w i j old) (groups_after b w i j old)
+groups_after (group k a) w i j old = slice_set (groups_after a w i j (forget (group k a) old)) k (Some (i, j))
+groups_after (star a first) w i j old =
+    cond (ltb i j) (groups_after a w (last_start j (spans a w) i j) j (forget a old))
+    (cond (first && spans a w i i) (groups_after a w i i (forget a old)) old)
+groups_after (opt a first) w i j old =
+    cond (ltb i j) (groups_after a w i j (forget a old))
+    (cond (first && spans a w i i) (groups_after a w i i (forget a old)) old)
+groups_after other w i j old = old
 
 -- the groups of a match of i..j as they are reported
 unfoldable pub report : Tree → List ℕ → ℕ → ℕ → Groups
-report e w i j = slice_set (caps e w i j no_groups) 0 (Some (i, j))
+report e w i j = slice_set (groups_after e w i j no_groups) 0 (Some (i, j))

@@ -1,17 +1,17 @@
 -- What is computed is what the relations tell.
 use Rattle.std.specs.Prelude.{ℕ, List, IsTrue, ◌↔◌, ◌≡◌, ◌≤◌, length, Some, None, is_some}
 use Rattle.sedre.specs.Tree.{Tree}
-use Rattle.sedtext.specs.Spans.{Spans, Found, NotFound, SomeFound}
-use Rattle.sedtext.specs.Caps.{Caps, IsReport}
+use Rattle.sedtext.specs.Spans.{Matches, IsLeftmostLongest, NotFound, SomeFound}
+use Rattle.sedtext.specs.Caps.{Captures, IsReport}
 use Rattle.sedtext.specs.Groups.{Groups}
-use Rattle.sedtext.specs.Matching.{caps, found, report, spans}
+use Rattle.sedtext.specs.Matching.{groups_after, found, report, spans}
 
 -- the computed match is the one that the relations tell
 abbrev pub SpansLaw : Type 0
-SpansLaw = (e : Tree) (w : List ℕ) (i j : ℕ) → IsTrue (spans e w i j) ↔ Spans e w i j
+SpansLaw = (e : Tree) (w : List ℕ) (i j : ℕ) → IsTrue (spans e w i j) ↔ Matches e w i j
 
 abbrev pub FoundLaw : Type 0
-FoundLaw = (e : Tree) (w : List ℕ) (p i j : ℕ) → p ≤ length w → (found e w p ≡ Some (i, j)) ↔ Found e w p i j
+FoundLaw = (e : Tree) (w : List ℕ) (p i j : ℕ) → p ≤ length w → (found e w p ≡ Some (i, j)) ↔ IsLeftmostLongest e w p i j
 
 abbrev pub NotFoundLaw : Type 0
 NotFoundLaw = (e : Tree) (w : List ℕ) (p : ℕ) → p ≤ length w → (found e w p ≡ None) ↔ NotFound e w p
@@ -21,10 +21,10 @@ SomeFoundLaw = (e : Tree) (w : List ℕ) (p : ℕ) → p ≤ length w → IsTrue
 
 -- a match has one report of its groups alone
 abbrev pub OneCapsLaw : Type 0
-OneCapsLaw = (e : Tree) (w : List ℕ) (i j : ℕ) (old new other : Groups) → Caps e w i j old new → Caps e w i j old other → new ≡ other
+OneCapsLaw = (e : Tree) (w : List ℕ) (i j : ℕ) (old new other : Groups) → Captures e w i j old new → Captures e w i j old other → new ≡ other
 
 abbrev pub CapsLaw : Type 0
-CapsLaw = (e : Tree) (w : List ℕ) (i j : ℕ) (old new : Groups) → Spans e w i j → (new ≡ caps e w i j old) ↔ Caps e w i j old new
+CapsLaw = (e : Tree) (w : List ℕ) (i j : ℕ) (old new : Groups) → Matches e w i j → (new ≡ groups_after e w i j old) ↔ Captures e w i j old new
 
 abbrev pub ReportLaw : Type 0
-ReportLaw = (e : Tree) (w : List ℕ) (i j : ℕ) (groups : Groups) → Spans e w i j → (groups ≡ report e w i j) ↔ IsReport e w i j groups
+ReportLaw = (e : Tree) (w : List ℕ) (i j : ℕ) (groups : Groups) → Matches e w i j → (groups ≡ report e w i j) ↔ IsReport e w i j groups

@@ -5,7 +5,7 @@ use Rattle.memchr.specs.Find.{OccursAt}
 use Rattle.sedre.specs.Tree.{Tree}
 use Rattle.sedre.specs.declared.types.Node.{Node}
 use Rattle.sedtext.specs.Bytes.{FirstFrom}
-use Rattle.sedtext.specs.Spans.{Spans, NotFound, IsIn}
+use Rattle.sedtext.specs.Spans.{Matches, NotFound, IsIn}
 use Rattle.sedtext.specs.Reach.{At}
 use Rattle.sedtext.specs.Beginnings.{CanBegin, NoneIn}
 use Rattle.sedtext.specs.declared.beginnings.Begins.TheVariants.{WithSet}
@@ -53,7 +53,7 @@ AllEndWith nodes x y = (w : List ℕ) (i j : ℕ) → i ≤ length w → At node
 -- each span of the expression holds the literal, if there is one, and begins with it if it leads
 abbrev pub IsNeeded : Tree → Option Needed → Type 0
 IsNeeded e None = Unit {0}
-IsNeeded e (Some n) = (w : List ℕ) (i j : ℕ) → i ≤ length w → Spans e w i j → (k : ℕ) × (i ≤ k) × (IsTrue n.leads → k ≡ i) × OccursAt w n.finder k
+IsNeeded e (Some n) = (w : List ℕ) (i j : ℕ) → i ≤ length w → Matches e w i j → (k : ℕ) × (i ≤ k) × (IsTrue n.leads → k ≡ i) × OccursAt w n.finder k
 
 -- the first place from p on at which the literal stands, if there is one
 abbrev pub FirstLiteral : List ℕ → List ℕ → ℕ → Option ℕ → Type 0

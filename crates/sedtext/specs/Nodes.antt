@@ -21,10 +21,10 @@ parts_of (Opt a first) = a.index ∷ []
 parts_of other = []
 
 -- the node x is a repetition, and the node part is what it repeats
-abbrev pub Repeats : List Node → ℕ → ℕ → Type 0
-Repeats nodes x part = (a : NodeId) × (first : Bool) × (slice_get nodes x ≡ Some (Star a first)) × (a.index ≡ part)
+abbrev pub IsRepetitionOf : List Node → ℕ → ℕ → Type 0
+IsRepetitionOf nodes x part = (a : NodeId) × (first : Bool) × (slice_get nodes x ≡ Some (Star a first)) × (a.index ≡ part)
 
 -- the sizes of the trees at the nodes
-abbrev pub sizes : List Node → List ℕ → ℕ
-sizes nodes [] = 0
-sizes nodes (x ∷ xs) = size (tree_at nodes x) + sizes nodes xs
+abbrev pub total_size : List Node → List ℕ → ℕ
+total_size nodes [] = 0
+total_size nodes (x ∷ xs) = size (tree_at nodes x) + total_size nodes xs

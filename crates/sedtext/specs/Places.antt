@@ -5,8 +5,8 @@ use Rattle.sedre.specs.declared.types.Node.{Node}
 use Rattle.sedre.specs.declared.types.Node.TheVariants.{Set}
 
 -- the three places stand in this order
-abbrev pub InOrder : ℕ → ℕ → ℕ → Type 0
-InOrder a b c = (a ≤ b) × (b ≤ c)
+abbrev pub Ascending : ℕ → ℕ → ℕ → Type 0
+Ascending a b c = (a ≤ b) × (b ≤ c)
 
 -- begin and end say whether the place is the text's beginning, and whether it is its end
 abbrev pub IsPlace : List ℕ → ℕ → Bool → Bool → Type 0

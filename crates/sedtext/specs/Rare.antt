@@ -3,7 +3,7 @@
 use Rattle.std.specs.Prelude.{ℕ, ◌+◌, ◌<◌, ◌≤◌, Bool, List, Option, Some, None}
 use Rattle.sedre.specs.Tree.{Tree}
 use Rattle.sedre.specs.declared.types.Node.{Node}
-use Rattle.sedtext.specs.Spans.{Spans}
+use Rattle.sedtext.specs.Spans.{Matches}
 use Rattle.sedtext.specs.Reach.{At}
 use Rattle.sedtext.specs.Few.{FewAt}
 use Rattle.sedtext.specs.Bytes.{AreBytes, FirstFrom}
@@ -43,7 +43,7 @@ FirstRare r w = FirstFrom (RareAt r w)
 
 -- one of the bytes stands at the distance after the beginning of each span of the expression
 abbrev pub AllStand : Tree → Fixed → Type 0
-AllStand e f = (w : List ℕ) → AreBytes w → (i j : ℕ) → Spans e w i j → StandsAt f w i
+AllStand e f = (w : List ℕ) → AreBytes w → (i j : ℕ) → Matches e w i j → StandsAt f w i
 
 -- one of the next rarest bytes, if there are such, stands at their distance after the beginning of each span
 abbrev pub AllHeld : Tree → Option Fixed → Type 0
@@ -52,7 +52,7 @@ AllHeld e (Some f) = AllStand e f
 
 -- a byte of the set stands `offset` bytes after the beginning of each span of the expression
 abbrev pub AllHave : Tree → ℕ → List Bool → Type 0
-AllHave e offset s = (w : List ℕ) (i j : ℕ) → Spans e w i j → CanBegin (WithSet s) w (i + offset)
+AllHave e offset s = (w : List ℕ) (i j : ℕ) → Matches e w i j → CanBegin (WithSet s) w (i + offset)
 
 -- the rarest and the next rarest, if there are such, stand at their distances after the beginning of each span
 abbrev pub AllRare : Tree → Option Rare → Type 0

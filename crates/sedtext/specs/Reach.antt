@@ -2,7 +2,7 @@
 -- At which places of a text the nodes of an expression can begin and end, in matches that begin at one of some starts.
 use Rattle.std.specs.Prelude.{◌≡◌, ℕ, ◌<◌, ◌≤◌, Bool, false, ◌⊎◌, ◌↔◌, List, slice_get, slice_index_or, Option, Some, None, IsTrue}
 use Rattle.sedre.specs.Tree.{Tree}
-use Rattle.sedtext.specs.Spans.{Spans}
+use Rattle.sedtext.specs.Spans.{Matches}
 use Rattle.sedre.specs.Arena.{IsPart}
 use Rattle.sedre.specs.Written.{tree_at}
 use Rattle.sedre.specs.declared.types.Node.{Node}
@@ -17,7 +17,7 @@ BeginsWith node c = IsPart node c
 
 -- the node x matches i..j
 abbrev pub At : List Node → List ℕ → ℕ → ℕ → ℕ → Type 0
-At nodes w x i j = Spans (tree_at nodes x) w i j
+At nodes w x i j = Matches (tree_at nodes x) w i j
 
 -- the place is one of the starts
 abbrev pub IsStart : Starts → ℕ → Type 0
@@ -59,6 +59,6 @@ abbrev pub IsLoose : List Node → ℕ → ℕ → Type 0
 IsLoose nodes r c = (z : ℕ) × (node : Node) × (r < z) × (slice_get nodes z ≡ Some node) × IsPart node c
 
 -- the longest span from i, if there is one
-abbrev pub Longest : Tree → List ℕ → ℕ → Option ℕ → Type 0
-Longest e w i None = (k : ℕ) → Spans e w i k → ⊥
-Longest e w i (Some j) = Spans e w i j × ((k : ℕ) → Spans e w i k → k ≤ j)
+abbrev pub IsLongestFrom : Tree → List ℕ → ℕ → Option ℕ → Type 0
+IsLongestFrom e w i None = (k : ℕ) → Matches e w i k → ⊥
+IsLongestFrom e w i (Some j) = Matches e w i j × ((k : ℕ) → Matches e w i k → k ≤ j)

@@ -3,14 +3,14 @@
 use Rattle.std.specs.Prelude.{◌<◌, ℕ, ◌≤◌, ◌↔◌, Bool, List, length}
 use Rattle.sedre.specs.Tree.{set}
 use Rattle.sedre.specs.declared.types.Node.{Node}
-use Rattle.sedtext.specs.Spans.{Spans, Copies}
+use Rattle.sedtext.specs.Spans.{Matches, CopiesLead}
 use Rattle.sedtext.specs.Reach.{At}
 use Rattle.sedtext.specs.Beginnings.{CanBegin}
 use Rattle.sedtext.specs.declared.beginnings.Begins.TheVariants.{WithSet}
 
 -- any number of bytes of the set lead from i to j
 abbrev pub Repeated : List Bool → List ℕ → ℕ → ℕ → Type 0
-Repeated members w i j = Copies (Spans (set members) w) j i
+Repeated members w i j = CopiesLead (Matches (set members) w) j i
 
 -- the spans of the node x are those of a repetition of the set
 abbrev pub AllRepeat : List Node → ℕ → List Bool → Type 0

@@ -1,7 +1,7 @@
 //! From which places a match can begin at all, so that the others are passed over.
 ghost use Rattle.std.specs.Prelude.{◌≡◌, ◌+◌, ◌-◌, ◌*◌, ◌<◌, ◌≤◌, length, IfSome};
 ghost use Rattle.sedre.specs.Arena.{IsArena};
-ghost use Rattle.sedre.specs.Written.{tree};
+ghost use Rattle.sedre.specs.Written.{expression_tree};
 ghost use Rattle.sedtext.specs.declared.beginnings.Begins.TheVariants.{WithSet};
 ghost use Rattle.sedtext.specs.Beginnings.{AllBegin, AllAt, NextStart, skip_cost, left_part, LeafBegins, IsLeftmost, alternatives};
 ghost use Rattle.sedtext.specs.Costs.{Pays};
@@ -124,7 +124,7 @@ fn begins_either(expr: &Expr, left: usize, right: usize, steps: &mut Steps) -> B
 
 /// How every span of the expression begins, as far as the nodes tell that can come first in one.
 pub fn how_begins(expr: &Expr, steps: &mut Steps) -> Begins
-    ensures begins { AllBegin (tree expr.now) result }
+    ensures begins { AllBegin (expression_tree expr.now) result }
     ensures cost { Takes steps.old steps.new (9 * length expr.now.nodes) }
     ensures arena { IsArena expr.now.nodes }
 {

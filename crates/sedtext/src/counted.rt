@@ -9,7 +9,7 @@ ghost use Rattle.std.specs.Int.{bit_at};
 ghost use Rattle.sedtext.specs.Bytes.{AreBytes, FirstAt, looked_at};
 ghost use Rattle.sedtext.specs.Words.{marks_of};
 ghost use Rattle.sedre.specs.Words.{is_set};
-ghost use Rattle.sedre.specs.Steps.{Takes, Counted};
+ghost use Rattle.sedre.specs.Steps.{Takes, TakesExactly};
 
 mod apart;
 pub mod choice;
@@ -85,7 +85,7 @@ impl<'a> Text<'a> {
         requires inside { i < length self.now }
         ensures byte { slice_get self.now i ≡ Some result }
         ensures cost { Takes steps.old steps.new 1 }
-        ensures counts { Counted steps.old steps.new 1 }
+        ensures counts { TakesExactly steps.old steps.new 1 }
     {
         steps.add(1);
         self.bytes[i]
@@ -97,7 +97,7 @@ impl<'a> Text<'a> {
         requires from { from ≤ length self.now }
         ensures first { FirstAt self.now value from result }
         ensures cost { Takes steps.old steps.new (looked_at (length self.now) from result) }
-        ensures counts { Counted steps.old steps.new (looked_at (length self.now) from result) }
+        ensures counts { TakesExactly steps.old steps.new (looked_at (length self.now) from result) }
     {
         let rest = &self.bytes[from..];
         match memchr(value, rest) {
@@ -198,7 +198,7 @@ impl<'a> Bytes<'a> {
         requires inside { i < length self.now }
         ensures byte { slice_get self.now i ≡ Some result }
         ensures cost { Takes steps.old steps.new 1 }
-        ensures counts { Counted steps.old steps.new 1 }
+        ensures counts { TakesExactly steps.old steps.new 1 }
     {
         steps.add(1);
         self.bytes[i]
@@ -254,7 +254,7 @@ impl Marks {
         requires inside { i < length self.now }
         ensures mark { result ≡ slice_index_or self.now i false }
         ensures cost { Takes steps.old steps.new 1 }
-        ensures counts { Counted steps.old steps.new 1 }
+        ensures counts { TakesExactly steps.old steps.new 1 }
     {
         steps.add(1);
         has_bit(self.words[i / 64], i % 64)
@@ -265,7 +265,7 @@ impl Marks {
         requires inside { i < length self.old }
         ensures marks { self.new ≡ slice_set self.old i mark }
         ensures cost { Takes steps.old steps.new 1 }
-        ensures counts { Counted steps.old steps.new 1 }
+        ensures counts { TakesExactly steps.old steps.new 1 }
     {
         steps.add(1);
         let word = put_bit(self.words[i / 64], i % 64, mark);
@@ -279,7 +279,7 @@ impl Marks {
         ensures len { length self.new ≡ length self.old }
         ensures clear { (c : ℕ) → c < count → slice_index_or self.new c false ≡ false }
         ensures cost { Takes steps.old steps.new count }
-        ensures counts { Counted steps.old steps.new count }
+        ensures counts { TakesExactly steps.old steps.new count }
     {
         steps.add(count);
         clear_words(&mut self.words, count.div_ceil(64));
@@ -290,7 +290,7 @@ impl Marks {
         requires inside { count ≤ length self.now }
         ensures clear { IsTrue result ↔ ((c : ℕ) → c < count → slice_index_or self.now c false ≡ false) }
         ensures cost { Takes steps.old steps.new count }
-        ensures counts { Counted steps.old steps.new count }
+        ensures counts { TakesExactly steps.old steps.new count }
     {
         steps.add(count);
         are_clear(&self.words, count)
@@ -301,7 +301,7 @@ impl Marks {
     pub fn digest(&self, count: usize, steps: &mut Steps) -> u64
         requires inside { count ≤ length self.now }
         ensures cost { Takes steps.old steps.new count }
-        ensures counts { Counted steps.old steps.new count }
+        ensures counts { TakesExactly steps.old steps.new count }
     {
         steps.add(count);
         digest_words(&self.words, count.div_ceil(64))

@@ -1,7 +1,7 @@
 //! What all matches of an expression hold, by which places are passed over at which none begins: a literal, and the rarest
 //! bytes at fixed distances after their beginning.
 ghost use Rattle.std.specs.Prelude.{◌-◌, ◌*◌, ◌≤◌, length, IfOk, IfSome};
-ghost use Rattle.sedre.specs.Written.{tree};
+ghost use Rattle.sedre.specs.Written.{expression_tree};
 ghost use Rattle.sedre.specs.Steps.{TakesAtLeast};
 ghost use Rattle.sedre.specs.Tree.{Tree};
 ghost use Rattle.sedtext.specs.Beginnings.{AllBegin};
@@ -32,8 +32,8 @@ pub fn find_hints(
     begins: &Begins,
     steps: &mut Steps,
 ) -> Result<Hints, AllocError>
-    requires begins { AllBegin (tree expr.now) begins.now }
-    ensures hints { IfOk result (AreHints (tree expr.now)) }
+    requires begins { AllBegin (expression_tree expr.now) begins.now }
+    ensures hints { IfOk result (AreHints (expression_tree expr.now)) }
 {
     let rare = rare_of(expr, begins, steps);
     Ok(Hints {

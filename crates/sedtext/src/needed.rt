@@ -2,12 +2,12 @@
 //!
 //! A concatenation is followed from part to part, and single bytes that stand one after another in it are a literal.
 ghost use Rattle.std.specs.Prelude.{◌≡◌, ◌-◌, ◌<◌, ◌≤◌, ◌⊎◌, length, IfOk, IfSome};
-ghost use Rattle.sedre.specs.Written.{tree};
+ghost use Rattle.sedre.specs.Written.{expression_tree};
 ghost use Rattle.sedre.specs.Tree.{Tree};
 ghost use Rattle.sedtext.specs.Needed.{IsOfSet, LinksTo, IsLiteral, IsSole, AllHold, AllEndWith, IsNeeded, Narrowed};
 ghost use Rattle.sedtext.specs.Nodes.{IsNode};
 ghost use Rattle.sedtext.specs.Costs.{Pays};
-ghost use Rattle.sedre.specs.Steps.{Takes, Counted, TakesAtLeast};
+ghost use Rattle.sedre.specs.Steps.{Takes, TakesExactly, TakesAtLeast};
 
 use crate::counted::Text;
 use crate::counted::lookups::find_literal;
@@ -54,7 +54,7 @@ fn set_of(expr: &Expr, index: usize, steps: &mut Steps) -> Option<ByteSet>
     requires inside { index < length expr.now.nodes }
     ensures set { IfSome result (λ s. IsOfSet expr.now.nodes index s) }
     ensures cost { Takes steps.old steps.new 1 }
-    ensures counts { Counted steps.old steps.new 1 }
+    ensures counts { TakesExactly steps.old steps.new 1 }
 {
     match expr.look(expr.id(index), steps) {
         Node::Set(set) => Some(set),
@@ -138,7 +138,7 @@ fn second_of(expr: &Expr, index: usize, steps: &mut Steps) -> Option<usize>
     ensures below { IfSome result (λ y. y < index) }
     ensures ends { IfSome result (λ y. AllEndWith expr.now.nodes index y) }
     ensures cost { Takes steps.old steps.new 1 }
-    ensures counts { Counted steps.old steps.new 1 }
+    ensures counts { TakesExactly steps.old steps.new 1 }
 {
     let node = expr.look(expr.id(index), steps);
     match node {
@@ -199,7 +199,7 @@ pub fn find_needed(
     expr: &Expr,
     steps: &mut Steps,
 ) -> Result<Option<Needed>, AllocError>
-    ensures needed { IfOk result (λ n. IsNeeded (tree expr.now) n) }
+    ensures needed { IfOk result (λ n. IsNeeded (expression_tree expr.now) n) }
 {
     let root = expr.root().index();
     let first = literal_from(alloc, expr, root, steps)?;

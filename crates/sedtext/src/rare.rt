@@ -1,7 +1,7 @@
 //! A few bytes, one of which stands at a fixed distance after the beginning of every match: the rarest are sought, and the
 //! next rarest are compared with what stands there.
 ghost use Rattle.std.specs.Prelude.{ℕ, ◌+◌, ◌-◌, ◌*◌, ◌<◌, ◌≤◌, ◌↔◌, ◌⊎◌, Some, length, IfSome, IsTrue};
-ghost use Rattle.sedre.specs.Written.{tree, tree_at};
+ghost use Rattle.sedre.specs.Written.{expression_tree, tree_at};
 ghost use Rattle.sedre.specs.Tree.{Tree};
 ghost use Rattle.sedtext.specs.Bytes.{looked_at};
 ghost use Rattle.sedtext.specs.Rare.{StandsAt, HeldAt, FirstFixed, FirstRare, RareNowhere, AllStand, AllHave, AllHeld, AllRare, AllSecond};
@@ -282,7 +282,7 @@ fn second_set(expr: &Expr, index: usize, steps: &mut Steps) -> Option<ByteSet>
 
 /// The bytes that stand second in every match, if the expression is two alternatives and these bytes are few.
 fn second_of_two(expr: &Expr, steps: &mut Steps) -> Option<Fixed>
-    ensures second { AllHeld (tree expr.now) result }
+    ensures second { AllHeld (expression_tree expr.now) result }
     ensures cost { Takes steps.old steps.new 9 }
 {
     let root = expr.root().index();
@@ -318,8 +318,8 @@ fn with_held(rare: Option<Rare>, held: Option<Fixed>) -> Option<Rare>
 
 /// The rarest bytes that stand at a fixed distance after the beginning of every match, if such bytes are found.
 pub fn rare_of(expr: &Expr, begins: &Begins, steps: &mut Steps) -> Option<Rare>
-    requires begins { AllBegin (tree expr.now) begins.now }
-    ensures rare { AllRare (tree expr.now) result }
+    requires begins { AllBegin (expression_tree expr.now) begins.now }
+    ensures rare { AllRare (expression_tree expr.now) result }
     ensures cost { Takes steps.old steps.new 131083 }
 {
     let root = expr.root().index();

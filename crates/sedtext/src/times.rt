@@ -6,7 +6,7 @@
 ghost use Rattle.std.specs.Prelude.{◌≡◌, ◌+◌, ◌<◌, ◌≤◌, ◌-◌, length, Some, IfOk, IfSome, IsTrue};
 ghost use Rattle.sedtext.specs.Times.{SameBytes, AllTimes, AreWidths, LastOutside, FirstTimes, passed_times};
 ghost use Rattle.sedtext.specs.Costs.{Pays};
-ghost use Rattle.sedre.specs.Steps.{Takes, Counted, TakesAtLeast};
+ghost use Rattle.sedre.specs.Steps.{Takes, TakesExactly, TakesAtLeast};
 
 use crate::counted::Text;
 use crate::counted::few::members_of;
@@ -46,7 +46,7 @@ fn width_of(
     requires widths { AreWidths expr.now.nodes set.now widths.now.items }
     ensures width { IfSome result (λ count. AllTimes expr.now.nodes index set.now count) }
     ensures cost { Takes steps.old steps.new 1 }
-    ensures counts { Counted steps.old steps.new 1 }
+    ensures counts { TakesExactly steps.old steps.new 1 }
 {
     match expr.look(expr.id(index), steps) {
         Node::Set(other) => {

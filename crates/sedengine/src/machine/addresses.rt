@@ -12,7 +12,7 @@ ghost use Rattle.sedengine.specs.Move.{is_active, none_left};
 ghost use Rattle.sedengine.specs.Ends.{is_dollar};
 ghost use Rattle.sedengine.specs.Calls.{NamesNone, ReadsAlone};
 ghost use Rattle.sedengine.specs.Steps.{TakesLines};
-ghost use Rattle.sedengine.specs.Choose.{Answers, TakesTurn, Judges, TellsLine, reached_with, current, decides, deciding, with_used};
+ghost use Rattle.sedengine.specs.Choose.{Answers, JudgesAddresses, Judges, TellsLine, reached_with, current_in, decides, deciding, with_used};
 
 use super::Machine;
 use crate::ends::Ended;
@@ -42,7 +42,7 @@ impl Machine {
     fn finds(&mut self, named: Option<usize>) -> Result<bool, Ended>
         requires { AddressWithin (length self.old.script.expressions) (Some (Match named)) }
         ensures answers { (last : Bool) →
-            Answers (current self.old last) (answer (current self.old last) (Match named))
+            Answers (current_in self.old last) (answer (current_in self.old last) (Match named))
             self.new.state.used false result }
         ensures devices { NamesNone result }
         ensures same { self.new ≡ with_used self.old self.new.state.used }
@@ -65,7 +65,7 @@ impl Machine {
     ) -> Result<bool, Ended>
         requires { AddressWithin (length self.old.script.expressions) (Some address) }
         ensures answers { lines.old.fault ≡ None → ForSome (lines_left R.remaining lines.old) (λ ls.
-            Answers (current self.old (none_left ls)) (answer (current self.old (none_left ls)) address)
+            Answers (current_in self.old (none_left ls)) (answer (current_in self.old (none_left ls)) address)
             self.new.state.used (is_dollar (Some address)) result) }
         ensures left { ForSome (lines_left R.remaining lines.old) (λ ls.
             TakesLines R.remaining lines.old lines.new ls ls) }
@@ -90,8 +90,8 @@ impl Machine {
         requires first { AddressWithin (length self.old.script.expressions) command.now.first }
         requires second { AddressWithin (length self.old.script.expressions) command.now.second }
         ensures answers { lines.old.fault ≡ None → ForSome (lines_left R.remaining lines.old) (λ ls.
-            Answers (current self.old (none_left ls))
-            (decides (current self.old (none_left ls))
+            Answers (current_in self.old (none_left ls))
+            (decides (current_in self.old (none_left ls))
             (deciding command.now.first command.now.second active self.old.state.number))
             self.new.state.used
             (is_dollar (deciding command.now.first command.now.second active self.old.state.number)) result) }
@@ -149,12 +149,12 @@ impl Machine {
         requires within { CommandWithin (sizes_of self.old.script) command.now }
         requires turn { self.old.state.turns < self.old.limits.turns }
         ensures judges { lines.old.fault ≡ None → ForSome (lines_left R.remaining lines.old) (λ ls.
-            Judges (current self.old (none_left ls)) (is_active self.old.state k) command.now
+            Judges (current_in self.old (none_left ls)) (is_active self.old.state k) command.now
             self.new.state.used result) }
         ensures left { ForSome (lines_left R.remaining lines.old) (λ ls.
             TakesLines R.remaining lines.old lines.new ls ls) }
         ensures reads { ReadsAlone R.remaining R.failures R.reference lines.old lines.new result }
-        ensures reaches { TakesTurn self.old self.new k result }
+        ensures reaches { JudgesAddresses self.old self.new k result }
     {
         let active = self.is_active(k);
         if let Some(yes) = yes_by_number(command, self.number) {

@@ -12,9 +12,9 @@ ghost use Rattle.sedengine.specs.Move.{acts, passes, line_to, tells_at, to_sink}
 ghost use Rattle.sedengine.specs.Ends.{reaches, is_next};
 ghost use Rattle.sedengine.specs.Meters.{SinkView};
 ghost use Rattle.sedengine.specs.Calls.{Delivers, NamesNone, Puts};
-ghost use Rattle.sedengine.specs.Run.{at_lines, setting};
+ghost use Rattle.sedengine.specs.Run.{at_lines, run_setting};
 ghost use Rattle.sedengine.specs.ScriptSetting.{TellsFiles};
-ghost use Rattle.sedengine.specs.Steps.{ActsQuietly, HasAction, KeepsRun, Leaves, LeavesLines, Performs, PerformsSteps, Steps, writes_nothing, takes_line, weight};
+ghost use Rattle.sedengine.specs.Steps.{ActsQuietly, HasAction, KeepsRun, LeavesGiven, LeavesLines, MakesMove, PerformsSteps, Steps, writes_nothing, takes_further_line, weight};
 
 use super::Machine;
 use crate::ends::Ended;
@@ -46,7 +46,7 @@ impl Machine {
         requires sinks { length self.old.script.wfiles < O.count outputs.old }
         ensures steps { lines.old.fault ≡ None → ForSome (lines_left R.remaining lines.old) (λ ls.
             (files : ℕ → List ℕ) → TellsFiles (T.text texts.old) files →
-            Steps R.remaining lines.old lines.new ls self.old.limits (setting self.old files) self.old self.new
+            Steps R.remaining lines.old lines.new ls self.old.limits (run_setting self.old files) self.old self.new
             (O.tally outputs.old) (O.tally outputs.new) result) }
         ensures falls { OnOk result (weight self.new < weight self.old) }
         ensures leaves { LeavesLines R.remaining R.failures R.reference O.tally O.count T.text self.old self.new
@@ -92,8 +92,8 @@ impl Machine {
         requires sinks { length self.old.script.wfiles < O.count outputs.old }
         ensures acts { lines.old.fault ≡ None → ForSome (lines_left R.remaining lines.old) (λ ls.
             (files : ℕ → List ℕ) → TellsFiles (T.text texts.old) files →
-            PerformsSteps R.remaining lines.old lines.new ls self.old.limits (setting self.old files)
-            (acts (setting self.old files) (at_lines self.old ls) tells action) (is_next action) (at_lines self.old ls) self.new
+            PerformsSteps R.remaining lines.old lines.new ls self.old.limits (run_setting self.old files)
+            (acts (run_setting self.old files) (at_lines self.old ls) tells action) (is_next action) (at_lines self.old ls) self.new
             (O.tally outputs.old) (O.tally outputs.new) result) }
         ensures falls { weight self.new ≤ weight self.old + 8 }
         ensures leaves { LeavesLines R.remaining R.failures R.reference O.tally O.count T.text self.old self.new
@@ -118,14 +118,14 @@ impl Machine {
         requires at { reaches self.old.state.tasks ≡ true }
         requires within { ActionWithin (sizes_of self.old.script) action }
         requires action { HasAction (slice_get self.old.script.commands k) action }
-        requires here { takes_line action ≡ false }
+        requires here { takes_further_line action ≡ false }
         requires sinks { length self.old.script.wfiles < O.count outputs.old }
         ensures acts { (files : ℕ → List ℕ) → TellsFiles (T.text texts.old) files → (ls : List (List ℕ)) →
-            Performs self.old.limits (setting self.old files)
-            (acts (setting self.old files) (at_lines self.old ls) tells action) (at_lines self.old ls) (at_lines self.new ls)
+            MakesMove self.old.limits (run_setting self.old files)
+            (acts (run_setting self.old files) (at_lines self.old ls) tells action) (at_lines self.old ls) (at_lines self.new ls)
             (O.tally outputs.old) (O.tally outputs.new) result }
         ensures falls { weight self.new ≤ weight self.old + 8 }
-        ensures leaves { Leaves O.tally O.count T.text self.old self.new outputs.old outputs.new texts.old texts.new result }
+        ensures leaves { LeavesGiven O.tally O.count T.text self.old self.new outputs.old outputs.new texts.old texts.new result }
     {
         self.is_within_limits();
         match action {
@@ -182,7 +182,7 @@ impl Machine {
     /// Does what a command does where it doesn't apply: `{` passes over its block.
     fn pass(&mut self, action: Action)
         ensures passes { (files : ℕ → List ℕ) (sinks : SinkView) (ls : List (List ℕ)) →
-            Performs self.old.limits (setting self.old files) (passes (at_lines self.old ls) action)
+            MakesMove self.old.limits (run_setting self.old files) (passes (at_lines self.old ls) action)
             (at_lines self.old ls) (at_lines self.new ls) sinks sinks (Ok tt) }
         ensures falls { weight self.new ≤ weight self.old + 8 }
         ensures same { KeepsRun self.old self.new }

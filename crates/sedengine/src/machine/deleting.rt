@@ -2,9 +2,9 @@
 ghost use Rattle.std.specs.Prelude.{◌<◌, ◌≤◌, ◌+◌, ℕ, List, true, length};
 ghost use Rattle.sedscript.specs.declared.types.Action.TheVariants.{Change, Delete, DeleteFirst};
 ghost use Rattle.sedengine.specs.Move.{acts};
-ghost use Rattle.sedengine.specs.Run.{at_lines, setting};
+ghost use Rattle.sedengine.specs.Run.{at_lines, run_setting};
 ghost use Rattle.sedengine.specs.ScriptSetting.{TellsFiles};
-ghost use Rattle.sedengine.specs.Steps.{Leaves, Performs, weight};
+ghost use Rattle.sedengine.specs.Steps.{LeavesGiven, MakesMove, weight};
 
 use super::Machine;
 use crate::ends::Ended;
@@ -26,11 +26,11 @@ impl Machine {
         requires text { text < length self.old.script.texts }
         requires sink { 0 < O.count outputs.old }
         ensures acts { (files : ℕ → List ℕ) → TellsFiles (T.text texts.old) files → (ls : List (List ℕ)) →
-            Performs self.old.limits (setting self.old files)
-            (acts (setting self.old files) (at_lines self.old ls) tells (Change text)) (at_lines self.old ls)
+            MakesMove self.old.limits (run_setting self.old files)
+            (acts (run_setting self.old files) (at_lines self.old ls) tells (Change text)) (at_lines self.old ls)
             (at_lines self.new ls) (O.tally outputs.old) (O.tally outputs.new) result }
         ensures falls { weight self.new ≤ weight self.old + 8 }
-        ensures leaves { Leaves O.tally O.count T.text self.old self.new outputs.old outputs.new texts.old texts.new result }
+        ensures leaves { LeavesGiven O.tally O.count T.text self.old self.new outputs.old outputs.new texts.old texts.new result }
     {
         self.pattern.clear();
         if !tells {
@@ -48,11 +48,11 @@ impl Machine {
     ) -> Result<(), Ended>
         requires { 0 < O.count outputs.old }
         ensures acts { (files : ℕ → List ℕ) → TellsFiles (T.text texts.old) files → (ls : List (List ℕ)) →
-            Performs self.old.limits (setting self.old files)
-            (acts (setting self.old files) (at_lines self.old ls) true Delete) (at_lines self.old ls)
+            MakesMove self.old.limits (run_setting self.old files)
+            (acts (run_setting self.old files) (at_lines self.old ls) true Delete) (at_lines self.old ls)
             (at_lines self.new ls) (O.tally outputs.old) (O.tally outputs.new) result }
         ensures falls { weight self.new ≤ weight self.old + 8 }
-        ensures leaves { Leaves O.tally O.count T.text self.old self.new outputs.old outputs.new texts.old texts.new result }
+        ensures leaves { LeavesGiven O.tally O.count T.text self.old self.new outputs.old outputs.new texts.old texts.new result }
     {
         self.pattern.clear();
         self.end_cycle(Place::Begin, outputs, texts)
@@ -67,11 +67,11 @@ impl Machine {
     ) -> Result<(), Ended>
         requires { 0 < O.count outputs.old }
         ensures acts { (files : ℕ → List ℕ) → TellsFiles (T.text texts.old) files → (ls : List (List ℕ)) →
-            Performs self.old.limits (setting self.old files)
-            (acts (setting self.old files) (at_lines self.old ls) true DeleteFirst) (at_lines self.old ls)
+            MakesMove self.old.limits (run_setting self.old files)
+            (acts (run_setting self.old files) (at_lines self.old ls) true DeleteFirst) (at_lines self.old ls)
             (at_lines self.new ls) (O.tally outputs.old) (O.tally outputs.new) result }
         ensures falls { weight self.new ≤ weight self.old + 8 }
-        ensures leaves { Leaves O.tally O.count T.text self.old self.new outputs.old outputs.new texts.old texts.new result }
+        ensures leaves { LeavesGiven O.tally O.count T.text self.old self.new outputs.old outputs.new texts.old texts.new result }
     {
         if self.pattern.cut_line() {
             self.end_cycle(Place::Rebegin, outputs, texts)

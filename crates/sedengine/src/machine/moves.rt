@@ -3,7 +3,7 @@ ghost use Rattle.std.specs.Prelude.{◌≡◌, ◌<◌, None, Err, OnOk, ℕ, Li
 ghost use Rattle.std.specs.Option.{ForSome};
 ghost use Rattle.sedspace.specs.Stream.{lines_left};
 ghost use Rattle.sedengine.specs.Meters.{Sent};
-ghost use Rattle.sedengine.specs.Run.{Cycles, Ending, at_lines, setting, starts_cycle, outcome, input_of};
+ghost use Rattle.sedengine.specs.Run.{Cycles, Ending, at_lines, run_setting, starts_cycle, outcome, input_of};
 ghost use Rattle.sedengine.specs.ScriptSetting.{TellsFiles};
 ghost use Rattle.sedengine.specs.Steps.{LeavesLines, Steps, weight};
 
@@ -24,7 +24,7 @@ impl Machine {
         requires { length self.old.script.wfiles < O.count outputs.old }
         ensures steps { lines.old.fault ≡ None → ForSome (lines_left R.remaining lines.old) (λ ls.
             (files : ℕ → List ℕ) → TellsFiles (T.text texts.old) files →
-            Steps R.remaining lines.old lines.new ls self.old.limits (setting self.old files) self.old self.new
+            Steps R.remaining lines.old lines.new ls self.old.limits (run_setting self.old files) self.old self.new
             (O.tally outputs.old) (O.tally outputs.new) result) }
         ensures falls { OnOk result (weight self.new < weight self.old) }
         ensures leaves { LeavesLines R.remaining R.failures R.reference O.tally O.count T.text self.old self.new
@@ -51,7 +51,7 @@ impl Machine {
         ensures ends { lines.old.fault ≡ None → ForSome (lines_left R.remaining lines.old) (λ ls.
             (files : ℕ → List ℕ) → TellsFiles (T.text texts.old) files →
             (out : List (ℕ × ℕ)) × Sent (O.tally outputs.old) (O.tally outputs.new) out
-            × Ending self.old.limits (setting self.old files) (at_lines self.old ls) out
+            × Ending self.old.limits (run_setting self.old files) (at_lines self.old ls) out
             (input_of R.remaining lines.old) (input_of R.remaining lines.new) self.new.state result) }
         ensures leaves { LeavesLines R.remaining R.failures R.reference O.tally O.count T.text self.old self.new
             lines.old lines.new outputs.old outputs.new texts.old texts.new (Err result) }
@@ -86,7 +86,7 @@ impl Machine {
         ensures cycles { lines.old.fault ≡ None → ForSome (lines_left R.remaining lines.old) (λ ls.
             (files : ℕ → List ℕ) → TellsFiles (T.text texts.old) files →
             (out : List (ℕ × ℕ)) × Sent (O.tally outputs.old) (O.tally outputs.new) out
-            × Cycles self.old.limits (setting self.old files) (at_lines self.old ls) out
+            × Cycles self.old.limits (run_setting self.old files) (at_lines self.old ls) out
             (input_of R.remaining lines.old) (input_of R.remaining lines.new)
             self.new (lines_left R.remaining lines.new) result) }
         ensures leaves { LeavesLines R.remaining R.failures R.reference O.tally O.count T.text self.old self.new

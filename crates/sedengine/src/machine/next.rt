@@ -9,7 +9,7 @@ ghost use Rattle.sedengine.specs.Move.{acts, newline, then_do};
 ghost use Rattle.sedengine.specs.Ends.{reaches};
 ghost use Rattle.sedengine.specs.Meters.{SinkView};
 ghost use Rattle.sedengine.specs.Calls.{ReadsAlone};
-ghost use Rattle.sedengine.specs.Run.{at_lines, setting};
+ghost use Rattle.sedengine.specs.Run.{at_lines, run_setting};
 ghost use Rattle.sedengine.specs.ScriptSetting.{TellsFiles};
 ghost use Rattle.sedengine.specs.Steps.{KeepsRun, LeavesLines, PerformsSteps, StepsFrom, weight};
 ghost use Rattle.sedengine.specs.Bringing.{Brings, brought};
@@ -35,8 +35,8 @@ impl Machine {
         requires sink { 0 < O.count outputs.old }
         ensures acts { lines.old.fault ≡ None → ForSome (lines_left R.remaining lines.old) (λ ls.
             (files : ℕ → List ℕ) → TellsFiles (T.text texts.old) files →
-            PerformsSteps R.remaining lines.old lines.new ls self.old.limits (setting self.old files)
-            (acts (setting self.old files) (at_lines self.old ls) true NextLine) true (at_lines self.old ls) self.new
+            PerformsSteps R.remaining lines.old lines.new ls self.old.limits (run_setting self.old files)
+            (acts (run_setting self.old files) (at_lines self.old ls) true NextLine) true (at_lines self.old ls) self.new
             (O.tally outputs.old) (O.tally outputs.new) result) }
         ensures falls { weight self.new ≤ weight self.old + 8 }
         ensures leaves { LeavesLines R.remaining R.failures R.reference O.tally O.count T.text self.old self.new
@@ -63,7 +63,7 @@ impl Machine {
         requires sink { 0 < O.count outputs.old }
         ensures steps { lines.old.fault ≡ None → ForSome (lines_left R.remaining lines.old) (λ ls.
             (files : ℕ → List ℕ) → TellsFiles (T.text texts.old) files →
-            StepsFrom R.remaining lines.old lines.new ls self.old.limits (setting self.old files)
+            StepsFrom R.remaining lines.old lines.new ls self.old.limits (run_setting self.old files)
             (then_do (print_pattern ∷ flush ∷ empty_pattern ∷ fetch ∷ self.old.state.tasks) (at_lines self.old ls)) self.new
             (O.tally outputs.old) (O.tally outputs.new) result) }
         ensures falls { weight self.new ≤ weight self.old }
@@ -80,7 +80,7 @@ impl Machine {
         requires number { self.old.state.number < self.old.state.turns }
         ensures steps { lines.old.fault ≡ None → ForSome (lines_left R.remaining lines.old) (λ ls.
             (files : ℕ → List ℕ) (sinks : SinkView) →
-            StepsFrom R.remaining lines.old lines.new ls self.old.limits (setting self.old files)
+            StepsFrom R.remaining lines.old lines.new ls self.old.limits (run_setting self.old files)
             (then_do (empty_pattern ∷ fetch ∷ self.old.state.tasks) (at_lines self.old ls)) self.new
             sinks sinks result) }
         ensures reads { ReadsAlone R.remaining R.failures R.reference lines.old lines.new result }
@@ -123,8 +123,8 @@ impl Machine {
         requires sink { 0 < O.count outputs.old }
         ensures acts { lines.old.fault ≡ None → ForSome (lines_left R.remaining lines.old) (λ ls.
             (files : ℕ → List ℕ) → TellsFiles (T.text texts.old) files →
-            PerformsSteps R.remaining lines.old lines.new ls self.old.limits (setting self.old files)
-            (acts (setting self.old files) (at_lines self.old ls) true AppendNext) false (at_lines self.old ls) self.new
+            PerformsSteps R.remaining lines.old lines.new ls self.old.limits (run_setting self.old files)
+            (acts (run_setting self.old files) (at_lines self.old ls) true AppendNext) false (at_lines self.old ls) self.new
             (O.tally outputs.old) (O.tally outputs.new) result) }
         ensures falls { weight self.new ≤ weight self.old + 8 }
         ensures leaves { LeavesLines R.remaining R.failures R.reference O.tally O.count T.text self.old self.new
@@ -140,7 +140,7 @@ impl Machine {
         requires number { self.old.state.number < self.old.state.turns }
         ensures steps { lines.old.fault ≡ None → ForSome (lines_left R.remaining lines.old) (λ ls.
             (files : ℕ → List ℕ) (sinks : SinkView) →
-            StepsFrom R.remaining lines.old lines.new ls self.old.limits (setting self.old files)
+            StepsFrom R.remaining lines.old lines.new ls self.old.limits (run_setting self.old files)
             (then_do (join ∷ self.old.state.tasks) (at_lines self.old ls)) self.new
             sinks sinks result) }
         ensures reads { ReadsAlone R.remaining R.failures R.reference lines.old lines.new result }

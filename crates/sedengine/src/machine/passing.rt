@@ -5,8 +5,8 @@ ghost use Rattle.sedscript.specs.Ranges.{IsOneOf};
 ghost use Rattle.sedspace.specs.Lines.{AreWholeLines};
 ghost use Rattle.sedspace.specs.Stream.{lines_left};
 ghost use Rattle.sedengine.specs.State.{begin};
-ghost use Rattle.sedengine.specs.Calls.{Reads, Delivers, end_of};
-ghost use Rattle.sedengine.specs.Run.{at_lines, setting};
+ghost use Rattle.sedengine.specs.Calls.{ReadsLines, Delivers, end_of};
+ghost use Rattle.sedengine.specs.Run.{at_lines, run_setting};
 ghost use Rattle.sedengine.specs.Steps.{KeepsRun, weight};
 ghost use Rattle.sedengine.specs.Passing.{AllowsLines, BreaksOffBy, PassesOver, StepsPassing, WritesLines, counted_block, need_at};
 
@@ -144,9 +144,9 @@ impl Machine {
         requires begins { self.old.state.tasks ≡ begin ∷ [] }
         requires sink { 0 < O.count outputs.old }
         ensures steps { ForSome (lines_left R.remaining lines.old) (λ ls. (files : ℕ → List ℕ) →
-            StepsPassing R.remaining lines.old lines.new ls self.old.limits (setting self.old files)
+            StepsPassing R.remaining lines.old lines.new ls self.old.limits (run_setting self.old files)
             (at_lines self.old ls) self.new (O.tally outputs.old) (O.tally outputs.new) result) }
-        ensures input { Reads R.remaining R.failures R.reference lines.old lines.new result }
+        ensures input { ReadsLines R.remaining R.failures R.reference lines.old lines.new result }
         ensures output { Delivers O.tally O.count outputs.old outputs.new result }
         ensures falls { OnOk result (weight self.new ≤ weight self.old) }
         ensures same { KeepsRun self.old self.new }
@@ -188,9 +188,9 @@ impl Machine {
     ) -> Result<(), Ended>
         requires { 0 < O.count outputs.old }
         ensures steps { ForSome (lines_left R.remaining lines.old) (λ ls. (files : ℕ → List ℕ) →
-            StepsPassing R.remaining lines.old lines.new ls self.old.limits (setting self.old files)
+            StepsPassing R.remaining lines.old lines.new ls self.old.limits (run_setting self.old files)
             (at_lines self.old ls) self.new (O.tally outputs.old) (O.tally outputs.new) result) }
-        ensures input { Reads R.remaining R.failures R.reference lines.old lines.new result }
+        ensures input { ReadsLines R.remaining R.failures R.reference lines.old lines.new result }
         ensures output { Delivers O.tally O.count outputs.old outputs.new result }
         ensures falls { OnOk result (weight self.new ≤ weight self.old) }
         ensures same { KeepsRun self.old self.new }

@@ -4,10 +4,10 @@ ghost use Rattle.std.specs.Io.KnownBytes.{Keeps};
 ghost use Rattle.sedengine.specs.State.{Task, flush, print_pattern};
 ghost use Rattle.sedengine.specs.Move.{line_to, then_do};
 ghost use Rattle.sedengine.specs.Calls.{Puts, DeliversAlone};
-ghost use Rattle.sedengine.specs.Run.{at_lines, setting};
+ghost use Rattle.sedengine.specs.Run.{at_lines, run_setting};
 ghost use Rattle.sedengine.specs.ScriptSetting.{TellsFiles};
-ghost use Rattle.sedengine.specs.Steps.{Leaves, Moves, weight};
-ghost use Rattle.sedengine.specs.Inside.{IsEmptied, Queues, entry_by, tasks_of};
+ghost use Rattle.sedengine.specs.Steps.{LeavesGiven, Moves, weight};
+ghost use Rattle.sedengine.specs.Inside.{IsEmptied, CommandQueues, entry_by, tasks_of};
 ghost use Rattle.sedengine.specs.Queueing.{QueuesOrFull, flushed, with_turns};
 
 use super::Machine;
@@ -21,7 +21,7 @@ use sedspace::{Space, Texts};
 impl Machine {
     /// The commands `a` and `r`: the entry of command `k` waits in the queue, if there is room.
     pub(super) fn act_queue(&mut self, k: usize) -> Result<(), Ended>
-        requires { Queues (slice_get self.old.script.commands k) }
+        requires { CommandQueues (slice_get self.old.script.commands k) }
         ensures { QueuesOrFull self.old self.new (entry_by self.old.script.texts (slice_get self.old.script.commands k)) result }
     {
         match self.queue.push(k as u64) {
@@ -40,7 +40,7 @@ impl Machine {
         requires { 0 < O.count outputs.old }
         ensures moves { (files : ℕ → List ℕ) → TellsFiles (T.text texts.old) files →
             (ls : List (List ℕ)) (rest : List Task) →
-            Moves self.old.limits (setting self.old files) (then_do (flush ∷ rest) (at_lines self.old ls))
+            Moves self.old.limits (run_setting self.old files) (then_do (flush ∷ rest) (at_lines self.old ls))
             (then_do rest (at_lines self.new ls)) (O.tally outputs.old) (O.tally outputs.new) result }
         ensures ok { OnOk result (self.new ≡ flushed self.old self.new.state.turns) }
         ensures err { OnErr result (self.new ≡ with_turns self.old self.new.state.turns) }
@@ -71,7 +71,7 @@ impl Machine {
         requires { 0 < O.count outputs.old }
         ensures moves { (files : ℕ → List ℕ) → TellsFiles (T.text texts.old) files →
             (ls : List (List ℕ)) (rest : List Task) →
-            Moves self.old.limits (setting self.old files) (then_do (print_pattern ∷ flush ∷ rest) (at_lines self.old ls))
+            Moves self.old.limits (run_setting self.old files) (then_do (print_pattern ∷ flush ∷ rest) (at_lines self.old ls))
             (then_do rest (at_lines self.new ls)) (O.tally outputs.old) (O.tally outputs.new) result }
         ensures ok { OnOk result (self.new ≡ flushed self.old self.new.state.turns) }
         ensures err { OnErr result (self.new ≡ with_turns self.old self.new.state.turns) }
@@ -93,10 +93,10 @@ impl Machine {
         requires emptied { IsEmptied place self.old.state.pattern }
         requires sink { 0 < O.count outputs.old }
         ensures moves { (files : ℕ → List ℕ) → TellsFiles (T.text texts.old) files → (ls : List (List ℕ)) →
-            Moves self.old.limits (setting self.old files) (then_do (flush ∷ tasks_of place) (at_lines self.old ls))
+            Moves self.old.limits (run_setting self.old files) (then_do (flush ∷ tasks_of place) (at_lines self.old ls))
             (at_lines self.new ls) (O.tally outputs.old) (O.tally outputs.new) result }
         ensures falls { weight self.new ≤ weight self.old + 8 }
-        ensures leaves { Leaves O.tally O.count T.text self.old self.new outputs.old outputs.new texts.old texts.new result }
+        ensures leaves { LeavesGiven O.tally O.count T.text self.old self.new outputs.old outputs.new texts.old texts.new result }
     {
         self.flush(outputs, texts)?;
         self.place = place;

@@ -6,8 +6,8 @@ ghost use Rattle.sedengine.specs.State.{do_at};
 ghost use Rattle.sedengine.specs.Move.{in_table, line_to, line_to_file, substitutes, written_by};
 ghost use Rattle.sedengine.specs.Ends.{reaches};
 ghost use Rattle.sedengine.specs.Calls.{DeliversAlone, NamesNone, Puts};
-ghost use Rattle.sedengine.specs.Run.{at_lines, setting};
-ghost use Rattle.sedengine.specs.Steps.{KeepsRun, Performs, weight};
+ghost use Rattle.sedengine.specs.Run.{at_lines, run_setting};
+ghost use Rattle.sedengine.specs.Steps.{KeepsRun, MakesMove, weight};
 ghost use Rattle.sedengine.specs.SubstituteCalls.{Makes, same_but_replaced};
 
 use super::Machine;
@@ -30,8 +30,8 @@ impl Machine {
         requires number { k < length self.old.script.substitutions }
         requires sinks { length self.old.script.wfiles < O.count outputs.old }
         ensures acts { (files : ℕ → List ℕ) (ls : List (List ℕ)) →
-            Performs self.old.limits (setting self.old files)
-            (substitutes (setting self.old files) (at_lines self.old ls) (slice_get self.old.script.substitutions k))
+            MakesMove self.old.limits (run_setting self.old files)
+            (substitutes (run_setting self.old files) (at_lines self.old ls) (slice_get self.old.script.substitutions k))
             (at_lines self.old ls) (at_lines self.new ls)
             (O.tally outputs.old) (O.tally outputs.new) result }
         ensures devices { DeliversAlone O.tally O.count outputs.old outputs.new result }
@@ -53,7 +53,7 @@ impl Machine {
         requires number { k < length self.old.script.substitutions }
         ensures makes { (t : Substitution) → slice_get self.old.script.substitutions k ≡ Some t →
             (files : ℕ → List ℕ) (ls : List (List ℕ)) →
-            Makes self.old.limits (substitutes (setting self.old files) (at_lines self.old ls) (Some t)) t
+            Makes self.old.limits (substitutes (run_setting self.old files) (at_lines self.old ls) (Some t)) t
             (at_lines self.old ls) (at_lines self.new ls) result }
         ensures err { OnErr result (self.new.state.pattern ≡ self.old.state.pattern) }
         ensures devices { NamesNone result }

@@ -5,9 +5,9 @@ ghost use Rattle.sedspace.specs.Stream.{lines_left};
 ghost use Rattle.sedengine.specs.State.{begin, rebegin, do_at, print_pattern, flush};
 ghost use Rattle.sedengine.specs.Meters.{SinkView};
 ghost use Rattle.sedengine.specs.Calls.{NamesNone, ReadsAlone};
-ghost use Rattle.sedengine.specs.Run.{at_lines, setting};
+ghost use Rattle.sedengine.specs.Run.{at_lines, run_setting};
 ghost use Rattle.sedengine.specs.ScriptSetting.{TellsFiles};
-ghost use Rattle.sedengine.specs.Steps.{KeepsRun, Leaves, Moves, Steps, weight};
+ghost use Rattle.sedengine.specs.Steps.{KeepsRun, LeavesGiven, Moves, Steps, weight};
 
 use super::Machine;
 use crate::ends::Ended;
@@ -21,7 +21,7 @@ impl Machine {
         requires { self.old.state.tasks ≡ begin ∷ [] }
         ensures steps { lines.old.fault ≡ None → ForSome (lines_left R.remaining lines.old) (λ ls.
             (files : ℕ → List ℕ) (sinks : SinkView) →
-            Steps R.remaining lines.old lines.new ls self.old.limits (setting self.old files) self.old self.new
+            Steps R.remaining lines.old lines.new ls self.old.limits (run_setting self.old files) self.old self.new
             sinks sinks result) }
         ensures reads { ReadsAlone R.remaining R.failures R.reference lines.old lines.new result }
         ensures falls { OnOk result (weight self.new < weight self.old) }
@@ -58,7 +58,7 @@ impl Machine {
     pub(super) fn rebegin(&mut self) -> Result<(), Ended>
         requires { self.old.state.tasks ≡ rebegin ∷ [] }
         ensures moves { (files : ℕ → List ℕ) (ls : List (List ℕ)) (sinks : SinkView) →
-            Moves self.old.limits (setting self.old files) (at_lines self.old ls)
+            Moves self.old.limits (run_setting self.old files) (at_lines self.old ls)
             (at_lines self.new ls) sinks sinks result }
         ensures devices { NamesNone result }
         ensures falls { OnOk result (weight self.new < weight self.old) }
@@ -83,10 +83,10 @@ impl Machine {
         requires end { length self.old.script.commands ≤ k }
         requires sink { 0 < O.count outputs.old }
         ensures moves { (files : ℕ → List ℕ) → TellsFiles (T.text texts.old) files → (ls : List (List ℕ)) →
-            Moves self.old.limits (setting self.old files) (at_lines self.old ls)
+            Moves self.old.limits (run_setting self.old files) (at_lines self.old ls)
             (at_lines self.new ls) (O.tally outputs.old) (O.tally outputs.new) result }
         ensures falls { OnOk result (weight self.new < weight self.old) }
-        ensures leaves { Leaves O.tally O.count T.text self.old self.new outputs.old outputs.new texts.old texts.new result }
+        ensures leaves { LeavesGiven O.tally O.count T.text self.old self.new outputs.old outputs.new texts.old texts.new result }
     {
         self.print_and_flush(outputs, texts)?;
         self.pattern.clear();
@@ -103,10 +103,10 @@ impl Machine {
         requires at { self.old.state.tasks ≡ print_pattern ∷ flush ∷ [] }
         requires sink { 0 < O.count outputs.old }
         ensures moves { (files : ℕ → List ℕ) → TellsFiles (T.text texts.old) files → (ls : List (List ℕ)) →
-            Moves self.old.limits (setting self.old files) (at_lines self.old ls)
+            Moves self.old.limits (run_setting self.old files) (at_lines self.old ls)
             (at_lines self.new ls) (O.tally outputs.old) (O.tally outputs.new) result }
         ensures falls { OnOk result (weight self.new < weight self.old) }
-        ensures leaves { Leaves O.tally O.count T.text self.old self.new outputs.old outputs.new texts.old texts.new result }
+        ensures leaves { LeavesGiven O.tally O.count T.text self.old self.new outputs.old outputs.new texts.old texts.new result }
     {
         self.print_and_flush(outputs, texts)?;
         self.place = Place::Ended;

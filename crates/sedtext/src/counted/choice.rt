@@ -12,7 +12,7 @@ ghost use Rattle.sedtext.specs.Few.{Gathered, HasFew};
 ghost use Rattle.sedtext.specs.Openings.{PairAt};
 ghost use Rattle.sedtext.specs.Bytes.{looked_at};
 ghost use Rattle.sedtext.specs.Nodes.{IsNode};
-ghost use Rattle.sedre.specs.Steps.{Takes, Counted, TakesAtLeast};
+ghost use Rattle.sedre.specs.Steps.{Takes, TakesExactly, TakesAtLeast};
 
 use super::Text;
 use super::few::{Few, with_byte};
@@ -116,7 +116,7 @@ fn branches_of(expr: &Expr, index: usize, steps: &mut Steps) -> Branches
     requires inside { index < length expr.now.nodes }
     ensures branches { BranchesOf expr.now.nodes index result }
     ensures cost { Takes steps.old steps.new 1 }
-    ensures counts { Counted steps.old steps.new 1 }
+    ensures counts { TakesExactly steps.old steps.new 1 }
 {
     let node = expr.look(expr.id(index), steps);
     match node {
@@ -378,7 +378,7 @@ impl Choice {
         ensures end { ChoiceEnd self.now text.now start result }
         ensures short { result ≤ start + 20 }
         ensures cost { Takes steps.old steps.new 20 }
-        ensures counts { Counted steps.old steps.new 20 }
+        ensures counts { TakesExactly steps.old steps.new 20 }
     {
         match longest_choice(text, &self.literals, start, steps) {
             Some(len) => text.after(start, len),

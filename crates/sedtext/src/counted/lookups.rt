@@ -6,7 +6,7 @@ ghost use Rattle.sedtext.specs.Few.{FirstFew};
 ghost use Rattle.sedtext.specs.Needed.{FirstLiteral, passed_to};
 ghost use Rattle.sedtext.specs.Openings.{OpenLiterals};
 ghost use Rattle.sedtext.specs.Rare.{ApartIn};
-ghost use Rattle.sedre.specs.Steps.{Takes, Counted};
+ghost use Rattle.sedre.specs.Steps.{Takes, TakesExactly};
 
 use super::apart::apart_to;
 use super::choice::{Alternative, MAX_BYTES, first_choice, longest_at};
@@ -24,7 +24,7 @@ pub fn find_few(text: &Text, few: &Few, from: usize, steps: &mut Steps) -> Optio
     requires from { from ≤ length text.now }
     ensures first { FirstFew few.now text.now from result }
     ensures cost { Takes steps.old steps.new (looked_at (length text.now) from result) }
-    ensures counts { Counted steps.old steps.new (looked_at (length text.now) from result) }
+    ensures counts { TakesExactly steps.old steps.new (looked_at (length text.now) from result) }
 {
     let bytes = uncounted(text);
     let after = &bytes[from..];
@@ -46,7 +46,7 @@ pub fn find_literal(text: &Text, finder: &Finder, from: usize, steps: &mut Steps
     requires from { from ≤ length text.now }
     ensures first { FirstLiteral text.now finder.now from result }
     ensures cost { Takes steps.old steps.new (passed_to (length text.now) from (length finder.now) result) }
-    ensures counts { Counted steps.old steps.new (passed_to (length text.now) from (length finder.now) result) }
+    ensures counts { TakesExactly steps.old steps.new (passed_to (length text.now) from (length finder.now) result) }
 {
     let bytes = uncounted(text);
     let after = &bytes[from..];
@@ -76,7 +76,7 @@ pub(crate) fn pass_apart(
     ensures within { result ≤ length text.now }
     ensures apart { ApartIn first.now second.now text.now from result }
     ensures cost { Takes steps.old steps.new (2 * (result - from)) }
-    ensures counts { Counted steps.old steps.new (2 * (result - from)) }
+    ensures counts { TakesExactly steps.old steps.new (2 * (result - from)) }
 {
     let bytes = uncounted(text);
     let place = apart_to(bytes, first, second, from);
@@ -99,7 +99,7 @@ pub(super) fn find_choice(
     requires from { from ≤ length text.now }
     ensures first { FirstChoice literals.now text.now from result }
     ensures cost { Takes steps.old steps.new (21 * looked_at (length text.now) from result) }
-    ensures counts { Counted steps.old steps.new (21 * looked_at (length text.now) from result) }
+    ensures counts { TakesExactly steps.old steps.new (21 * looked_at (length text.now) from result) }
 {
     let bytes = uncounted(text);
     match first_choice(heads, literals, bytes, from) {
@@ -132,7 +132,7 @@ pub(super) fn find_opened(
     requires from { from ≤ length text.now }
     ensures first { FirstChoice literals.now text.now from result }
     ensures cost { Takes steps.old steps.new (22 * looked_at (length text.now) from result) }
-    ensures counts { Counted steps.old steps.new (22 * looked_at (length text.now) from result) }
+    ensures counts { TakesExactly steps.old steps.new (22 * looked_at (length text.now) from result) }
 {
     let bytes = uncounted(text);
     match first_opened(heads, openings, literals, bytes, from) {
@@ -159,7 +159,7 @@ pub(super) fn longest_choice(
     requires at { at ≤ length text.now }
     ensures longest { LongestAt literals.now text.now at (length literals.now) result }
     ensures cost { Takes steps.old steps.new 20 }
-    ensures counts { Counted steps.old steps.new 20 }
+    ensures counts { TakesExactly steps.old steps.new 20 }
 {
     let bytes = uncounted(text);
     steps.add(MAX_BYTES);

@@ -2,19 +2,19 @@
 //! forwards and backwards, by calls that count.
 ghost use Rattle.std.specs.Prelude.{◌≡◌, ◌+◌, ◌-◌, ◌<◌, ◌≤◌, length, min, slice_get, Some, IfSome};
 ghost use Rattle.sedtext.specs.Runs.{IsRun, RunBegins};
-ghost use Rattle.sedtext.specs.Matching.{takes};
+ghost use Rattle.sedtext.specs.Matching.{byte_is_in};
 ghost use Rattle.sedtext.specs.Beginnings.{CanBegin, NextStart, skip_cost};
 ghost use Rattle.sedtext.specs.Bytes.{looked_at};
 ghost use Rattle.sedtext.specs.declared.beginnings.Begins.TheVariants.{WithSet};
 ghost use Rattle.sedtext.specs.Costs.{Pays};
-ghost use Rattle.sedre.specs.Steps.{Takes, Counted};
+ghost use Rattle.sedre.specs.Steps.{Takes, TakesExactly};
 
 use super::{Text, uncounted};
 use sedre::{ByteSet, Steps};
 
 /// Whether a byte is there and in the set.
 pub fn takes_byte(set: &ByteSet, byte: Option<u8>) -> bool
-    ensures { result ≡ takes byte set.now }
+    ensures { result ≡ byte_is_in byte set.now }
 {
     match byte {
         None => false,
@@ -91,7 +91,7 @@ pub fn find_member(text: &Text, set: &ByteSet, from: usize, steps: &mut Steps) -
     ensures next { NextStart (WithSet set.now) text.now from result }
     ensures here { IfSome result (λ k. CanBegin (WithSet set.now) text.now k) }
     ensures cost { Pays steps.old steps.new (skip_cost (length text.now) result) from }
-    ensures counts { Counted steps.old steps.new (looked_at (length text.now) from result) }
+    ensures counts { TakesExactly steps.old steps.new (looked_at (length text.now) from result) }
 {
     let bytes = uncounted(text);
     match first_member(set, bytes, from) {
@@ -113,7 +113,7 @@ pub fn run_end(text: &Text, set: &ByteSet, from: usize, steps: &mut Steps) -> us
     requires from { from ≤ length text.now }
     ensures run { IsRun set.now text.now from result }
     ensures cost { Takes steps.old steps.new (length text.now) }
-    ensures counts { Counted steps.old steps.new (min (result + 1) (length text.now) - from) }
+    ensures counts { TakesExactly steps.old steps.new (min (result + 1) (length text.now) - from) }
 {
     let bytes = uncounted(text);
     let end = run_to(set, bytes, from);
@@ -129,7 +129,7 @@ pub fn run_begin(text: &Text, set: &ByteSet, from: usize, to: usize, steps: &mut
     requires to { to ≤ length text.now }
     ensures begins { RunBegins set.now text.now from to result }
     ensures cost { Pays steps.old steps.new to from }
-    ensures counts { Counted steps.old steps.new (min (to + 1 - result) (to - from)) }
+    ensures counts { TakesExactly steps.old steps.new (min (to + 1 - result) (to - from)) }
 {
     let bytes = uncounted(text);
     let begin = run_back(set, bytes, from, to);

@@ -1,6 +1,6 @@
 //! Marks for the nodes of an expression.
 ghost use Rattle.std.specs.Prelude.{◌≡◌, ℕ, Bool, false, List, ◌<◌, ◌≤◌, length, slice_index_or, slice_set, IsTrue, ◌↔◌};
-ghost use Rattle.sedre.specs.Steps.{Takes, Counted};
+ghost use Rattle.sedre.specs.Steps.{Takes, TakesExactly};
 
 use super::Marks;
 use sedre::Steps;
@@ -41,7 +41,7 @@ impl NodeMarks {
         ensures mark { result ≡ slice_index_or self.now i false }
         ensures room { length self.now ≡ 65536 }
         ensures cost { Takes steps.old steps.new 1 }
-        ensures counts { Counted steps.old steps.new 1 }
+        ensures counts { TakesExactly steps.old steps.new 1 }
     {
         self.marks.get(i, steps)
     }
@@ -53,7 +53,7 @@ impl NodeMarks {
         ensures marks { self.new ≡ slice_set self.old i mark }
         ensures room { length self.old ≡ 65536 }
         ensures cost { Takes steps.old steps.new 1 }
-        ensures counts { Counted steps.old steps.new 1 }
+        ensures counts { TakesExactly steps.old steps.new 1 }
     {
         self.marks.set(i, mark, steps);
     }
@@ -66,7 +66,7 @@ impl NodeMarks {
         ensures room { length self.new ≡ 65536 }
         ensures clear { (c : ℕ) → c < count → slice_index_or self.new c false ≡ false }
         ensures cost { Takes steps.old steps.new count }
-        ensures counts { Counted steps.old steps.new count }
+        ensures counts { TakesExactly steps.old steps.new count }
     {
         self.marks.clear(count, steps);
     }
@@ -77,7 +77,7 @@ impl NodeMarks {
         requires inside { count ≤ 65536 }
         ensures clear { IsTrue result ↔ ((c : ℕ) → c < count → slice_index_or self.now c false ≡ false) }
         ensures cost { Takes steps.old steps.new count }
-        ensures counts { Counted steps.old steps.new count }
+        ensures counts { TakesExactly steps.old steps.new count }
     {
         self.marks.is_clear(count, steps)
     }
@@ -88,7 +88,7 @@ impl NodeMarks {
     pub fn digest(&self, count: usize, steps: &mut Steps) -> u64
         requires inside { count ≤ 65536 }
         ensures cost { Takes steps.old steps.new count }
-        ensures counts { Counted steps.old steps.new count }
+        ensures counts { TakesExactly steps.old steps.new count }
     {
         self.marks.digest(count, steps)
     }

@@ -1,7 +1,7 @@
 //! Marks of several states, a row for each.
 ghost use Rattle.std.specs.Prelude.{◌≡◌, ◌≢◌, ℕ, Bool, List, ◌+◌, ◌*◌, ◌<◌, ◌≤◌, length, slice_index_or, vec_len, IfOk, IsTrue, ◌↔◌, false};
 ghost use Rattle.sedtext.specs.Words.{AgreeBelow, rows_of, row_of};
-ghost use Rattle.sedre.specs.Steps.{Takes, Counted};
+ghost use Rattle.sedre.specs.Steps.{Takes, TakesExactly};
 ghost use Rattle.sedre.specs.Words.{is_set};
 
 use super::{Marks, NodeMarks, has_bit, lowest, zero_words};
@@ -59,7 +59,7 @@ impl Rows {
         requires there { count ≤ 65536 }
         ensures same { AgreeBelow count marks.new (row_of self.now row) }
         ensures cost { Takes steps.old steps.new count }
-        ensures counts { Counted steps.old steps.new count }
+        ensures counts { TakesExactly steps.old steps.new count }
     {
         self.load_marks(row, &mut marks.marks, count, steps);
     }
@@ -76,7 +76,7 @@ impl Rows {
         ensures same { AgreeBelow count (row_of self.new row) marks.now }
         ensures other { (q : ℕ) → q < length self.old → q ≢ row → row_of self.new q ≡ row_of self.old q }
         ensures cost { Takes steps.old steps.new count }
-        ensures counts { Counted steps.old steps.new count }
+        ensures counts { TakesExactly steps.old steps.new count }
     {
         self.store_marks(row, &marks.marks, count, steps);
     }
@@ -90,7 +90,7 @@ impl Rows {
         requires there { count ≤ 65536 }
         ensures same { IsTrue result → AgreeBelow count (row_of self.now row) marks.now }
         ensures cost { Takes steps.old steps.new count }
-        ensures counts { Counted steps.old steps.new count }
+        ensures counts { TakesExactly steps.old steps.new count }
     {
         self.same_marks(row, &marks.marks, count, steps)
     }
@@ -102,7 +102,7 @@ impl Rows {
         requires inside { i < length (row_of self.now row) }
         ensures mark { result ≡ slice_index_or (row_of self.now row) i false }
         ensures cost { Takes steps.old steps.new 1 }
-        ensures counts { Counted steps.old steps.new 1 }
+        ensures counts { TakesExactly steps.old steps.new 1 }
     {
         steps.add(1);
         has_bit(self.words[self.width * row + i / 64], i % 64)
@@ -125,7 +125,7 @@ impl Rows {
         requires there { count ≤ length (row_of other.now other_row) }
         ensures meets { IsTrue result ↔ ((c : ℕ) × (c < count) × IsTrue (slice_index_or (row_of self.now row) c false) × IsTrue (slice_index_or (row_of other.now other_row) c false)) }
         ensures cost { Takes steps.old steps.new count }
-        ensures counts { Counted steps.old steps.new count }
+        ensures counts { TakesExactly steps.old steps.new count }
     {
         steps.add(count);
         words_meet(
@@ -146,7 +146,7 @@ impl Rows {
         ensures len { length marks.new ≡ length marks.old }
         ensures same { AgreeBelow count marks.new (row_of self.now row) }
         ensures cost { Takes steps.old steps.new count }
-        ensures counts { Counted steps.old steps.new count }
+        ensures counts { TakesExactly steps.old steps.new count }
     {
         steps.add(count);
         copy_words(
@@ -169,7 +169,7 @@ impl Rows {
         ensures same { AgreeBelow count (row_of self.new row) marks.now }
         ensures other { (q : ℕ) → q < length self.old → q ≢ row → row_of self.new q ≡ row_of self.old q }
         ensures cost { Takes steps.old steps.new count }
-        ensures counts { Counted steps.old steps.new count }
+        ensures counts { TakesExactly steps.old steps.new count }
     {
         steps.add(count);
         copy_words(
@@ -189,7 +189,7 @@ impl Rows {
         requires there { count ≤ length marks.now }
         ensures same { IsTrue result → AgreeBelow count (row_of self.now row) marks.now }
         ensures cost { Takes steps.old steps.new count }
-        ensures counts { Counted steps.old steps.new count }
+        ensures counts { TakesExactly steps.old steps.new count }
     {
         steps.add(count);
         same_words(

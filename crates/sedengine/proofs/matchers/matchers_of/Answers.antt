@@ -1,5 +1,5 @@
 use Rattle.std.proofs.Common.{[], ◌∷◌, ◌++◌, ◌∙◌, ap, arith}
-use Rattle.sedre.specs.Written.{Written}
+use Rattle.sedre.specs.Written.{WrittenExpression}
 use Rattle.sedengine.proofs.Fitting.{first_more, fits_more, fits_none, seek_all}
 use Rattle.sedengine.proofs.matchers.matchers_of.Goals as goal
 
@@ -13,7 +13,7 @@ pub loop-k-preserved : goal.loop-k-preserved
 loop-k-preserved c =
     let l = c.loop-k in
     let e = c.expr.result.now in
-    let are = c.in_ok-push.ensures.items ∙ ap (λ (x : Written). l.matchers.items ++ x ∷ []) c.in_ok-matcher.ensures in
+    let are = c.in_ok-push.ensures.items ∙ ap (λ (x : WrittenExpression). l.matchers.items ++ x ∷ []) c.in_ok-matcher.ensures in
     let few = c.expr.ensures.nodes in
     let within = c.requires.within in
     record {

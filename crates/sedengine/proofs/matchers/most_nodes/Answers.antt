@@ -1,5 +1,5 @@
 use Rattle.std.proofs.Common.{◌<◌, ◌≤◌, ◌∙◌, Some, length, arith, ap, sym}
-use Rattle.sedre.specs.Written.{Written}
+use Rattle.sedre.specs.Written.{WrittenExpression}
 use Rattle.std.proofs.lemmas.Option.{slice_get-get_or, slice_get_within}
 use Rattle.sedengine.proofs.Fitting.{fits_at, most_next}
 use Rattle.sedengine.proofs.matchers.most_nodes.Goals as goal
@@ -13,7 +13,7 @@ loop-matcher-preserved c =
     let more = c.if-most-nodes.most in
     let inside : l.matcher-index < length es = omega arith in
     let fit = fits_at c.args.limit es l.matcher-index x inside c.matcher-item.is c.requires.fit in
-    let is = slice_get-get_or es l.matcher-index x inside ∙ ap (λ (v : Written). Some v) (sym c.matcher-item.is) in
+    let is = slice_get-get_or es l.matcher-index x inside ∙ ap (λ (v : WrittenExpression). Some v) (sym c.matcher-item.is) in
     let facts : (l.most ≤ more) × (length x.nodes ≤ more) × (more ≤ 65536) =
     (elim c.if-most-nodes.branch [
       | then-most-nodes w ↦ (omega arith, omega arith, omega (arith, fit))

@@ -1,5 +1,5 @@
 use Rattle.std.proofs.Common.{length, arith}
-use Rattle.sedre.specs.Written.{tree}
+use Rattle.sedre.specs.Written.{expression_tree}
 use Rattle.sedpass.specs.Search.{owed_search}
 use Rattle.sedpass.proofs.OccurrenceLemmas.{search_falls}
 use Rattle.sedpass.proofs.SearchLemmas.{later_answer, looks_later, looks_to_end}
@@ -7,11 +7,11 @@ use Rattle.sedmatch.proofs.OccurrenceLemmas.{first_paid, first_square}
 use Rattle.sedmatch.proofs.occurrences.first_with.Goals as goal
 
 pub next_match-requires-clause-from : goal.next_match-requires-clause-from
-next_match-requires-clause-from c = (c.in_ok-start.ensures.place (tree c.args.sought.now.prepared.arena.expr) c.requires.sought.hints).1
+next_match-requires-clause-from c = (c.in_ok-start.ensures.place (expression_tree c.args.sought.now.prepared.arena.expr) c.requires.sought.hints).1
 
 pub returns-clause-answer : goal.returns-clause-answer
 returns-clause-answer c =
-    let e = tree c.args.sought.now.prepared.arena.expr in
+    let e = expression_tree c.args.sought.now.prepared.arena.expr in
     let place = c.in_ok-start.ensures.place e c.requires.sought.hints in
     later_answer e c.args.text.now 0 c.in_ok-start.start c.next_match.result place.0 place.2 c.next_match.ensures.answer
 

@@ -1,22 +1,22 @@
 use Rattle.std.proofs.Common.{length}
-use Rattle.sedre.specs.Written.{tree}
+use Rattle.sedre.specs.Written.{expression_tree}
 use Rattle.sedpass.proofs.CountLemmas.{passes_later}
 use Rattle.sedmatch.proofs.PassLemmas.{any_serves, matches_past, search_again}
 use Rattle.sedmatch.proofs.passes.matches_by.Goals as goal
 
 pub matches_with-requires-clause-from : goal.matches_with-requires-clause-from
-matches_with-requires-clause-from c = (c.in-Some.ensures.place (tree c.args.passes.now.sought.prepared.arena.expr) c.requires.passes.0.hints).1
+matches_with-requires-clause-from c = (c.in-Some.ensures.place (expression_tree c.args.passes.now.sought.prepared.arena.expr) c.requires.passes.0.hints).1
 
 pub returns-in-Some-own-clause-matches : goal.returns-in-Some-own-clause-matches
 returns-in-Some-own-clause-matches c =
-    let e = tree c.args.passes.now.sought.prepared.arena.expr in
+    let e = expression_tree c.args.passes.now.sought.prepared.arena.expr in
     matches_past c.matches_with.result e c.args.text.now c.args.from c.in-Some.start (c.in-Some.ensures.place e c.requires.passes.0.hints) c.matches_with.ensures.matches
 
 pub fit-requires : goal.fit-requires
 fit-requires c = record { roomy = any_serves (length c.args.passes.now.sought.prepared.arena.expr.nodes) c.args.desk.now c.requires.desk c.requires.few }
 
 pub matches_with-requires-2-clause-from : goal.matches_with-requires-2-clause-from
-matches_with-requires-2-clause-from c = (c.in-Some.ensures.place (tree c.args.passes.now.sought.prepared.arena.expr) c.requires.passes.0.hints).1
+matches_with-requires-2-clause-from c = (c.in-Some.ensures.place (expression_tree c.args.passes.now.sought.prepared.arena.expr) c.requires.passes.0.hints).1
 
 pub returns-clause-desk : goal.returns-clause-desk
 returns-clause-desk c =
@@ -25,17 +25,17 @@ returns-clause-desk c =
 
 pub returns-clause-matches : goal.returns-clause-matches
 returns-clause-matches c =
-    let e = tree c.args.passes.now.sought.prepared.arena.expr in
+    let e = expression_tree c.args.passes.now.sought.prepared.arena.expr in
     matches_past c.matches_with-2.result e c.args.text.now c.args.from c.in-Some.start (c.in-Some.ensures.place e c.requires.passes.0.hints) c.matches_with-2.ensures.matches
 
 pub returns-in-Some-own-clause-passes : goal.returns-in-Some-own-clause-passes
 returns-in-Some-own-clause-passes c = λ h.
-    let e = tree c.args.passes.now.sought.prepared.arena.expr in
+    let e = expression_tree c.args.passes.now.sought.prepared.arena.expr in
     passes_later e c.args.text.now c.args.from c.in-Some.start c.args.steps.now c.first_place.new.steps c.matches_with.new.steps (c.in-Some.ensures.place e c.requires.passes.0.hints).0 c.in-Some.ensures.cost.0 c.in-Some.ensures.counts
     (c.matches_with.ensures.passes h)
 
 pub returns-clause-passes : goal.returns-clause-passes
 returns-clause-passes c = λ h.
-    let e = tree c.args.passes.now.sought.prepared.arena.expr in
+    let e = expression_tree c.args.passes.now.sought.prepared.arena.expr in
     passes_later e c.args.text.now c.args.from c.in-Some.start c.args.steps.now c.first_place.new.steps c.matches_with-2.new.steps (c.in-Some.ensures.place e c.requires.passes.0.hints).0 c.in-Some.ensures.cost.0 c.in-Some.ensures.counts
     (c.matches_with-2.ensures.passes h)

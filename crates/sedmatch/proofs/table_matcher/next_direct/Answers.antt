@@ -1,6 +1,6 @@
 use Rattle.std.proofs.Common.{◌≡◌, ◌∙◌, ◌+◌, ◌-◌, ◌*◌, ◌≤◌, true, false, IfSome, length, refl, sym, subst}
 use Rattle.std.specs.Option.{unwrap_or}
-use Rattle.sedre.specs.Written.{tree}
+use Rattle.sedre.specs.Written.{expression_tree}
 use Rattle.sedre.specs.Steps.{TakesAtLeast}
 use Rattle.sedtext.specs.Costs.{Pays}
 use Rattle.sedtext.specs.Following.{LiesOn, bytes_passed}
@@ -20,9 +20,9 @@ returns-then-is_none-clause-next c = λ e is.
     let at = c.unwrap_or-at.result in
     let answer = c.direct_span-first.ensures.answer e is in
     elim c.then-is_none.branch [
-      | then-is_none-via-then-is_none v ↦ first_next (tree e) w c.args.last at first (none_of c.args.last c.is_none.result c.is_none.ensures v.if-is_none.true) c.unwrap_or-at.ensures answer
+      | then-is_none-via-then-is_none v ↦ first_next (expression_tree e) w c.args.last at first (none_of c.args.last c.is_none.result c.is_none.ensures v.if-is_none.true) c.unwrap_or-at.ensures answer
       | then-is_none-via-else-is_none+then-not-is_null_at v ↦
-          next_by_null (tree e) w c.args.last at first first v.is_null_at.result false (some_of c.args.last c.is_none.result at c.is_none.ensures v.if-is_none.false c.unwrap_or-at.ensures)
+          next_by_null (expression_tree e) w c.args.last at first first v.is_null_at.result false (some_of c.args.last c.is_none.result at c.is_none.ensures v.if-is_none.false c.unwrap_or-at.ensures)
           (within_at (length w) c.args.last at c.unwrap_or-at.ensures c.requires.last) answer v.is_null_at.ensures.passed (cc) refl
     ]
 
@@ -52,7 +52,7 @@ pub returns-clause-next : goal.returns-clause-next
 returns-clause-next c = λ e is.
     let w = c.args.text.now in
     let at = c.unwrap_or-at.result in
-    next_by_null (tree e) w c.args.last at c.direct_span-first.result c.past_null.result c.is_null_at.result true (some_of c.args.last c.is_none.result at c.is_none.ensures c.if-is_none.false c.unwrap_or-at.ensures)
+    next_by_null (expression_tree e) w c.args.last at c.direct_span-first.result c.past_null.result c.is_null_at.result true (some_of c.args.last c.is_none.result at c.is_none.ensures c.if-is_none.false c.unwrap_or-at.ensures)
     (within_at (length w) c.args.last at c.unwrap_or-at.ensures c.requires.last) (c.direct_span-first.ensures.answer e is) c.is_null_at.ensures.passed c.if-not-is_null_at.false (c.past_null.ensures.next e is)
 
 pub returns-clause-cost : goal.returns-clause-cost

@@ -1,5 +1,5 @@
 use Rattle.std.proofs.Common.{◌+◌, length, arith}
-use Rattle.sedre.specs.Written.{tree}
+use Rattle.sedre.specs.Written.{expression_tree}
 use Rattle.sedtext.specs.Matching.{found}
 use Rattle.sedpass.proofs.OccurrenceLemmas.{answer_found}
 use Rattle.sedmatch.proofs.MatcherLemmas.{further}
@@ -8,4 +8,4 @@ use Rattle.sedmatch.proofs.table_matcher.past_null.Goals as goal
 pub returns-clause-next : goal.returns-clause-next
 returns-clause-next c = λ e is.
     let w = c.args.text.now in
-    further (length w) c.args.at c.direct_span.result (found (tree e) w (c.args.at + 1)) (λ on. answer_found (tree e) w (c.args.at + 1) c.direct_span.result (omega (arith, on)) (c.direct_span.ensures.answer e is)) (λ off. absurd (omega (arith, off)))
+    further (length w) c.args.at c.direct_span.result (found (expression_tree e) w (c.args.at + 1)) (λ on. answer_found (expression_tree e) w (c.args.at + 1) c.direct_span.result (omega (arith, on)) (c.direct_span.ensures.answer e is)) (λ off. absurd (omega (arith, off)))

@@ -1,5 +1,5 @@
 use Rattle.std.proofs.Common.{◌≡◌, ◌+◌, ◌-◌, ◌*◌, ◌∙◌, ℕ, None, Some, length, refl, ap, sym, subst, arith}
-use Rattle.sedre.specs.Written.{Written, tree}
+use Rattle.sedre.specs.Written.{WrittenExpression, expression_tree}
 use Rattle.sedre.specs.Steps.{Takes}
 use Rattle.sedtext.specs.Answer.{IsComputed, SpanAnswer}
 use Rattle.sedtext.specs.Caps.{IsReport}
@@ -12,15 +12,15 @@ use Rattle.sedmatch.proofs.OnceLemmas.{all_cost, bare_cost, if_none, none_cost, 
 use Rattle.sedmatch.proofs.whole.find.Goals as goal
 
 -- the cost of the search, of the expression that is sought
-sought : (t u n : ℕ) (e : Written) (is : Written) → e ≡ is → Takes t u (142 * length e.nodes * n + 42 * length e.nodes) → Takes t u (142 * length is.nodes * n + 42 * length is.nodes)
-sought t u n e is same cost = subst (λ (x : Written). Takes t u (142 * length x.nodes * n + 42 * length x.nodes)) same cost
+sought : (t u n : ℕ) (e : WrittenExpression) (is : WrittenExpression) → e ≡ is → Takes t u (142 * length e.nodes * n + 42 * length e.nodes) → Takes t u (142 * length is.nodes * n + 42 * length is.nodes)
+sought t u n e is same cost = subst (λ (x : WrittenExpression). Takes t u (142 * length x.nodes * n + 42 * length x.nodes)) same cost
 
 pub returns-in_err-span-clause-computed : goal.returns-in_err-span-clause-computed
 returns-in_err-span-clause-computed c =
     let none : c.from_residual.result ≡ None = cc in
-    let answer = subst (λ (e : Written). SpanAnswer (tree e) c.args.text.now c.args.from None) c.fit.ensures.expr c.in_err-span.ensures.answer in
-    subst (IsComputed (tree c.args.expr.now) c.args.text.now c.args.from) (sym none)
-    (sym ((not_found-iff (tree c.args.expr.now) c.args.text.now c.args.from c.requires.from).1 answer.1), tt)
+    let answer = subst (λ (e : WrittenExpression). SpanAnswer (expression_tree e) c.args.text.now c.args.from None) c.fit.ensures.expr c.in_err-span.ensures.answer in
+    subst (IsComputed (expression_tree c.args.expr.now) c.args.text.now c.args.from) (sym none)
+    (sym ((not_found-iff (expression_tree c.args.expr.now) c.args.text.now c.args.from c.requires.from).1 answer.1), tt)
 
 pub returns-in_err-span-clause-cost : goal.returns-in_err-span-clause-cost
 returns-in_err-span-clause-cost c =
@@ -59,9 +59,9 @@ returns-clause-answer c =
     let w = c.args.text.now in
     let span = c.in_ok-span.span in
     let same = ap (λ p. p.arena.expr) c.first_span.ensures.prepared ∙ c.fit.ensures.expr in
-    let answer = subst (λ (x : Written). SpanAnswer (tree x) w c.args.from (Some span)) c.fit.ensures.expr c.in_ok-span.ensures.answer in
-    let report = subst (λ (x : Written). IsReport (tree x) w span.0 span.1 c.shared_groups-groups.result) same c.shared_groups-groups.ensures.report in
-    (answer.0, tt, report, report_lies (length w) (tree e) w span.0 span.1 c.shared_groups-groups.result answer.2.0 answer.2.1 report)
+    let answer = subst (λ (x : WrittenExpression). SpanAnswer (expression_tree x) w c.args.from (Some span)) c.fit.ensures.expr c.in_ok-span.ensures.answer in
+    let report = subst (λ (x : WrittenExpression). IsReport (expression_tree x) w span.0 span.1 c.shared_groups-groups.result) same c.shared_groups-groups.ensures.report in
+    (answer.0, tt, report, report_lies (length w) (expression_tree e) w span.0 span.1 c.shared_groups-groups.result answer.2.0 answer.2.1 report)
 
 pub returns-clause-computed : goal.returns-clause-computed
 returns-clause-computed c =
@@ -69,9 +69,9 @@ returns-clause-computed c =
     let w = c.args.text.now in
     let span = c.in_ok-span.span in
     let same = ap (λ p. p.arena.expr) c.first_span.ensures.prepared ∙ c.fit.ensures.expr in
-    let answer = subst (λ (x : Written). SpanAnswer (tree x) w c.args.from (Some span)) c.fit.ensures.expr c.in_ok-span.ensures.answer in
-    let report = subst (λ (x : Written). IsReport (tree x) w span.0 span.1 c.shared_groups-groups.result) same c.shared_groups-groups.ensures.report in
-    (sym ((found-iff (tree e) w c.args.from span.0 span.1 c.requires.from).1 answer.0), (report-iff (tree e) w span.0 span.1 c.shared_groups-groups.result answer.0.spans).1 report)
+    let answer = subst (λ (x : WrittenExpression). SpanAnswer (expression_tree x) w c.args.from (Some span)) c.fit.ensures.expr c.in_ok-span.ensures.answer in
+    let report = subst (λ (x : WrittenExpression). IsReport (expression_tree x) w span.0 span.1 c.shared_groups-groups.result) same c.shared_groups-groups.ensures.report in
+    (sym ((found-iff (expression_tree e) w c.args.from span.0 span.1 c.requires.from).1 answer.0), (report-iff (expression_tree e) w span.0 span.1 c.shared_groups-groups.result answer.0.spans).1 report)
 
 pub returns-clause-cost : goal.returns-clause-cost
 returns-clause-cost c =
@@ -83,7 +83,7 @@ returns-clause-cost c =
     let long = span.1 - span.0 in
     let same = ap (λ p. p.arena.expr) c.first_span.ensures.prepared ∙ c.fit.ensures.expr in
     let lies = c.in_ok-span.ensures.answer.2.1 in
-    let decided = subst (λ (e : Written). Takes u v (172 * length e.nodes * (length e.nodes - 1) * long + 2 * length e.nodes)) same c.shared_groups-groups.ensures.cost in
+    let decided = subst (λ (e : WrittenExpression). Takes u v (172 * length e.nodes * (length e.nodes - 1) * long + 2 * length e.nodes)) same c.shared_groups-groups.ensures.cost in
     (all_cost n long c.args.steps.now t u v (omega (arith, lies)) (length c.args.expr.now.nodes) c.fit.ensures.cost (sought t u n c.fit.new.self.arena.expr c.args.expr.now c.fit.ensures.expr c.first_span.ensures.cost) decided).0
 
 pub returns-clause-linear_cost : goal.returns-clause-linear_cost
@@ -96,7 +96,7 @@ returns-clause-linear_cost c =
     let long = span.1 - span.0 in
     let same = ap (λ p. p.arena.expr) c.first_span.ensures.prepared ∙ c.fit.ensures.expr in
     let lies = c.in_ok-span.ensures.answer.2.1 in
-    let decided = subst (λ (e : Written). Takes u v (172 * length e.nodes * (length e.nodes - 1) * long + 2 * length e.nodes)) same c.shared_groups-groups.ensures.cost in
+    let decided = subst (λ (e : WrittenExpression). Takes u v (172 * length e.nodes * (length e.nodes - 1) * long + 2 * length e.nodes)) same c.shared_groups-groups.ensures.cost in
     (all_cost n long c.args.steps.now t u v (omega (arith, lies)) (length c.args.expr.now.nodes) c.fit.ensures.cost (sought t u n c.fit.new.self.arena.expr c.args.expr.now c.fit.ensures.expr c.first_span.ensures.cost) decided).1
 
 pub returns-clause-cost_without_groups : goal.returns-clause-cost_without_groups
@@ -105,7 +105,7 @@ returns-clause-cost_without_groups c none =
     let same = ap (λ p. p.arena.expr) c.first_span.ensures.prepared ∙ c.fit.ensures.expr in
     bare_cost (length c.args.expr.now.nodes) n c.args.steps.now c.fit.new.steps c.first_span.new.steps c.shared_groups-groups.new.steps c.fit.ensures.cost
     (sought c.fit.new.steps c.first_span.new.steps n c.fit.new.self.arena.expr c.args.expr.now c.fit.ensures.expr c.first_span.ensures.cost)
-    (c.shared_groups-groups.ensures.none_cost (ap (λ (x : Written). x.groups) same ∙ none))
+    (c.shared_groups-groups.ensures.none_cost (ap (λ (x : WrittenExpression). x.groups) same ∙ none))
 
 pub returns-clause-counts : goal.returns-clause-counts
 returns-clause-counts c =
@@ -120,5 +120,5 @@ returns-clause-entered c =
     let same = ap (λ p. p.arena.expr) c.first_span.ensures.prepared ∙ c.fit.ensures.expr in
     let begun = c.fit.ensures.cost.0 in
     let sought = c.first_span.ensures.cost.0 in
-    enters_later (tree c.args.expr.now) c.shared_groups-groups.result s u v (omega (arith, begun, sought))
-    (subst (λ (x : Written). EntersGroups (tree x) c.shared_groups-groups.result u v) same c.shared_groups-groups.ensures.entered)
+    enters_later (expression_tree c.args.expr.now) c.shared_groups-groups.result s u v (omega (arith, begun, sought))
+    (subst (λ (x : WrittenExpression). EntersGroups (expression_tree x) c.shared_groups-groups.result u v) same c.shared_groups-groups.ensures.entered)

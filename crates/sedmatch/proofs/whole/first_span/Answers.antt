@@ -1,5 +1,5 @@
 use Rattle.std.proofs.Common.{length, refl}
-use Rattle.sedre.specs.Written.{tree}
+use Rattle.sedre.specs.Written.{expression_tree}
 use Rattle.sedmatch.specs.declared.scratch.Desk.{Desk}
 use Rattle.sedmatch.proofs.PassLemmas.{shared_serves}
 use Rattle.sedmatch.proofs.OnceLemmas.{looks_at_span, once_again, once_room, once_serves, span_again}
@@ -28,4 +28,4 @@ returns-clause-once c =
 pub returns-clause-counts : goal.returns-clause-counts
 returns-clause-counts c =
     let next = c.next_begun.ensures.next in
-    looks_at_span (tree c.args.once.now.prepared.arena.expr) c.args.text.now c.args.from c.args.steps.now c.next_begun.new.steps c.next_begun.result next.answer next.counts
+    looks_at_span (expression_tree c.args.once.now.prepared.arena.expr) c.args.text.now c.args.from c.args.steps.now c.next_begun.new.steps c.next_begun.result next.answer next.counts

@@ -1,5 +1,5 @@
 use Rattle.std.proofs.Common.{◌↔◌, IsTrue, refl, subst}
-use Rattle.sedre.specs.Written.{Written, tree}
+use Rattle.sedre.specs.Written.{WrittenExpression, expression_tree}
 use Rattle.sedtext.specs.Following.{PassesOver}
 use Rattle.sedtext.specs.Spans.{SomeFound}
 use Rattle.sedtext.proofs.MatchingLemmas.{same_test}
@@ -15,10 +15,10 @@ invariant_of-scratch c =
 
 pub returns-clause-computed : goal.returns-clause-computed
 returns-clause-computed c =
-    same_test c.any_match.result (tree c.args.expr.now) c.args.text.now c.args.from c.requires.from
-    (subst (λ (e : Written). IsTrue c.any_match.result ↔ SomeFound (tree e) c.args.text.now c.args.from) c.fit.ensures.expr c.any_match.ensures.matches)
+    same_test c.any_match.result (expression_tree c.args.expr.now) c.args.text.now c.args.from c.requires.from
+    (subst (λ (e : WrittenExpression). IsTrue c.any_match.result ↔ SomeFound (expression_tree e) c.args.text.now c.args.from) c.fit.ensures.expr c.any_match.ensures.matches)
 
 pub returns-clause-passes : goal.returns-clause-passes
 returns-clause-passes c = λ h.
-    passes_since (tree c.args.expr.now) c.args.text.now c.args.from c.args.steps.now c.fit.new.steps c.any_match.new.steps c.fit.ensures.cost.0
-    (subst (λ (e : Written). PassesOver (tree e) c.args.text.now c.args.from c.fit.new.steps c.any_match.new.steps) c.fit.ensures.expr (c.any_match.ensures.passes h))
+    passes_since (expression_tree c.args.expr.now) c.args.text.now c.args.from c.args.steps.now c.fit.new.steps c.any_match.new.steps c.fit.ensures.cost.0
+    (subst (λ (e : WrittenExpression). PassesOver (expression_tree e) c.args.text.now c.args.from c.fit.new.steps c.any_match.new.steps) c.fit.ensures.expr (c.any_match.ensures.passes h))

@@ -5,7 +5,7 @@ use Rattle.sedpass.specs.Turns.{Runs, AreReady, AreShort, LooksAtEntered, weight
 use Rattle.sedpass.specs.Walks.{EntersGroups}
 use Rattle.sedpass.proofs.WalkLemmas.{enters_groups, looks_same, looks_on}
 use Rattle.sedre.specs.Sizes.{size}
-use Rattle.sedre.specs.Written.{tree_at, tree}
+use Rattle.sedre.specs.Written.{tree_at, expression_tree}
 use Rattle.sedpass.specs.declared.groups.Task.{Task}
 use Rattle.sedpass.specs.declared.groups.Task.TheVariants.{Apart}
 use Rattle.sedpass.proofs.SpineLemmas.{decides, decides_due, all_paid, first_paid, least_same, least_on}
@@ -91,7 +91,7 @@ returns-clause-report c = λ all.
     let run = c.all.invariant.run s (subst (λ ts. Runs (nodes_in c.args.subject) (text_in c.args.subject) ts s s) (sym (ap reverse empty)) refl) in
     let p = c.args.subject.prepared.now in
     decides p.arena.expr (text_in c.args.subject) p.root c.args.start c.args.stop (told_of c.args.due (undecided c.args.start c.args.stop)) s p.is_prepared.last
-    (starts_due (tree p.arena.expr) c.args.start c.args.stop c.args.due c.requires.whole all) run
+    (starts_due (expression_tree p.arena.expr) c.args.start c.args.stop c.args.due c.requires.whole all) run
 
 pub returns-clause-due : goal.returns-clause-due
 returns-clause-due c = λ groups k report is.

@@ -2,7 +2,7 @@ use Rattle.std.proofs.Common.{sym, subst, arith}
 use Rattle.sedre.specs.Written.{tree_at}
 use Rattle.sedtext.specs.Caps.{LastCut}
 use Rattle.sedtext.specs.Reach.{At}
-use Rattle.sedtext.proofs.SpanLemmas.{Spans-forward}
+use Rattle.sedtext.proofs.SpanLemmas.{Matches-forward}
 use Rattle.sedpass.specs.Decide.{nodes_in, text_in}
 use Rattle.sedpass.proofs.DecideLemmas.{null_cut, long_at, not_open}
 use Rattle.sedpass.proofs.LengthLemmas.{left_long, right_long}
@@ -16,7 +16,7 @@ after-requires c =
     let parts = c.requires.parts in
     let long = long_at (nodes_in c.args.subject) (text_in c.args.subject) c.args.left c.in-Some.length c.facts_at.result c.facts_at.ensures c.in-Some.is in
     let here = long c.args.here.start parts.0 parts.1 in
-    let on = Spans-forward (tree_at (nodes_in c.args.subject) c.args.right) (text_in c.args.subject) parts.0 c.args.here.stop parts.2 in
+    let on = Matches-forward (tree_at (nodes_in c.args.subject) c.args.right) (text_in c.args.subject) parts.0 c.args.here.stop parts.2 in
     omega (arith, here, on, c.requires.fits)
 
 pub returns-in-Some-clause-cut : goal.returns-in-Some-clause-cut

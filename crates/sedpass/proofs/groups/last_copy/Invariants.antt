@@ -3,9 +3,9 @@ use Rattle.sedtext.specs.Caps.{LastCopy}
 use Rattle.sedre.specs.Steps.{TakesAtLeast}
 use Rattle.sedtext.specs.Costs.{Pays}
 use Rattle.sedtext.specs.Reach.{At}
-use Rattle.sedtext.specs.Spans.{Copies}
+use Rattle.sedtext.specs.Spans.{CopiesLead}
 use Rattle.sedpass.specs.Kept.{SameSpace}
-use Rattle.sedpass.specs.Decide.{nodes_in, text_in, EndsIn, IsDesk, owed_in, SameTables}
+use Rattle.sedpass.specs.Decide.{nodes_in, text_in, EndsRegion, IsDesk, owed_in, SameTables}
 use Rattle.sedpass.proofs.groups.last_copy.Given as goal
 
 abbrev pub invariant-copies : goal.invariant-copies
@@ -13,9 +13,9 @@ invariant-copies l = record {
   desk : IsDesk l.subject l.tables l.kept;
   shape : SameTables l.initial.tables l.tables;
   space : SameSpace l.initial.kept l.kept;
-  ends : EndsIn l.subject l.kept.region l.here;
+  ends : EndsRegion l.subject l.kept.region l.here;
   within : l.end ≤ l.here.stop;
-  rest : Copies (At (nodes_in l.subject) (text_in l.subject) l.part) l.here.stop l.end;
+  rest : CopiesLead (At (nodes_in l.subject) (text_in l.subject) l.part) l.here.stop l.end;
   walk : (c : ℕ) → ((l.end < l.here.stop) × LastCopy (At (nodes_in l.subject) (text_in l.subject) l.part) l.here.stop l.end c) ⊎ ((l.end ≡ l.here.stop) × (c ≡ l.copy)) →
       LastCopy (At (nodes_in l.subject) (text_in l.subject) l.part) l.here.stop l.here.start c;
   cost : Pays l.initial.steps l.steps (owed_in l.subject l.initial.kept.region l.here.start + 72 * length (nodes_in l.subject) * (l.here.stop - l.here.start))

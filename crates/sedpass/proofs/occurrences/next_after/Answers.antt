@@ -1,6 +1,6 @@
 use Rattle.std.proofs.Common.{ℕ, ◌+◌, true, false, Option, None, length, refl, arith}
 use Rattle.std.specs.Prelude.{nat_lt, if◌then◌else◌}
-use Rattle.sedre.specs.Written.{tree}
+use Rattle.sedre.specs.Written.{expression_tree}
 use Rattle.sedtext.specs.Matching.{found}
 use Rattle.sedpass.specs.Search.{owed_search}
 use Rattle.sedpass.proofs.SearchLemmas.{looks_past, looks_to_end}
@@ -9,7 +9,7 @@ use Rattle.sedpass.proofs.occurrences.next_after.Goals as goal
 
 pub returns-then-not-is_null_at-clause-next : goal.returns-then-not-is_null_at-clause-next
 returns-then-not-is_null_at-clause-next c =
-    let e = tree c.args.subject.prepared.now.arena.expr in
+    let e = expression_tree c.args.subject.prepared.now.arena.expr in
     let w = c.args.subject.text.now in
     let first = c.next_match-first.result in
     let other : Option (ℕ × ℕ) = if nat_lt c.args.at (length w) then found e w (c.args.at + 1) else None in
@@ -19,7 +19,7 @@ pub returns-then-not-is_null_at-clause-lies : goal.returns-then-not-is_null_at-c
 returns-then-not-is_null_at-clause-lies c =
     let w = c.args.subject.text.now in
     let first = c.next_match-first.result in
-    lies_behind (length w) c.args.at first (answer_lies (tree c.args.subject.prepared.now.arena.expr) w c.args.at first c.next_match-first.ensures.answer) (c.is_null_at.ensures.after (cc))
+    lies_behind (length w) c.args.at first (answer_lies (expression_tree c.args.subject.prepared.now.arena.expr) w c.args.at first c.next_match-first.ensures.answer) (c.is_null_at.ensures.after (cc))
 
 pub returns-then-not-is_null_at-clause-cost : goal.returns-then-not-is_null_at-clause-cost
 returns-then-not-is_null_at-clause-cost c =
@@ -27,7 +27,7 @@ returns-then-not-is_null_at-clause-cost c =
     let w = c.args.subject.text.now in
     let n = length w in
     let first = c.next_match-first.result in
-    let lies = lies_behind n c.args.at first (answer_lies (tree c.args.subject.prepared.now.arena.expr) w c.args.at first c.next_match-first.ensures.answer) (c.is_null_at.ensures.after (cc)) in
+    let lies = lies_behind n c.args.at first (answer_lies (expression_tree c.args.subject.prepared.now.arena.expr) w c.args.at first c.next_match-first.ensures.answer) (c.is_null_at.ensures.after (cc)) in
     let cost = c.next_match-first.ensures.cost in (
       cost.0,
       behind_paid m n c.args.at (owed_search m n c.args.seeking.now c.args.at) c.args.steps.now c.next_match-first.new.steps (owed_search m n c.next_match-first.new.seeking) first c.requires.at lies
@@ -43,7 +43,7 @@ returns-then-not-is_null_at-clause-looks c =
 
 pub returns-clause-next : goal.returns-clause-next
 returns-clause-next c =
-    let e = tree c.args.subject.prepared.now.arena.expr in
+    let e = expression_tree c.args.subject.prepared.now.arena.expr in
     let w = c.args.subject.text.now in
     let first = c.next_match-first.result in
     let other : Option (ℕ × ℕ) = if nat_lt c.args.at (length w) then found e w (c.args.at + 1) else None in

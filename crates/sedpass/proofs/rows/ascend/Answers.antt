@@ -1,6 +1,6 @@
 use Rattle.std.proofs.Common.{◌≡◌, ◌+◌, ◌-◌, ◌*◌, refl, Some, ap, ◌∙◌, sym, arith, ◌&&◌}
 use Rattle.std.specs.Prelude.{slice_get, slice_index_or, false}
-use Rattle.sedtext.specs.Matching.{takes}
+use Rattle.sedtext.specs.Matching.{byte_is_in}
 use Rattle.sedpass.specs.Prepared.{null_in}
 use Rattle.sedpass.specs.Rows.{nodes_of, InTree}
 use Rattle.sedpass.proofs.CountLemmas.{least_none, least_two}
@@ -42,8 +42,8 @@ loop-x-preserved c =
           up nodes w c.args.root x place s node c.look-node.ensures.arena (inside_seen c.args.way.mirrored e c.args.root c.requires.root) there is (null_in e.nodes c.args.kind) nulls c.took-took.result c.ends_here-here.result c.loop-x.work.ended c.set.new.self
           (λ m same.
           let law = took x m there (is ∙ ap (λ n. Some n) same) in
-          let bit : c.took-took.result ≡ (slice_index_or c.args.work.now.leaves x false && takes c.args.byte m) =
-          c.took-took.ensures.took m same ∙ ap (λ l. slice_index_or l x false && takes c.args.byte m) c.loop-x.invariant.kept in
+          let bit : c.took-took.result ≡ (slice_index_or c.args.work.now.leaves x false && byte_is_in c.args.byte m) =
+          c.took-took.ensures.took m same ∙ ap (λ l. slice_index_or l x false && byte_is_in c.args.byte m) c.loop-x.invariant.kept in
           (λ h. law.0 (sym bit ∙ h), λ h. bit ∙ law.1 h))
           (omega arith) c.ends_here-here.ensures.mark c.set.ensures.marks (c.loop-x.invariant.ended w s place nulls took);
     }

@@ -1,6 +1,6 @@
 use Rattle.std.proofs.Common.{◌≡◌, ◌≤◌, false, length, arith}
-use Rattle.sedre.specs.Written.{tree}
-use Rattle.sedtext.proofs.SpanLemmas.{Spans-forward}
+use Rattle.sedre.specs.Written.{expression_tree}
+use Rattle.sedtext.proofs.SpanLemmas.{Matches-forward}
 use Rattle.sedpass.specs.Search.{owed_kept}
 use Rattle.sedpass.proofs.SearchLemmas.{begun_each, hit_cost, hit_each, kept_small, later_answer, looks_later, nothing_cost, nothing_each, tired_cost, tired_each, unbegun}
 use Rattle.sedpass.proofs.search.next_match.Goals as goal
@@ -17,7 +17,7 @@ returns-then-seeking-clause-each c =
 pub returns-in-Hit-clause-answer : goal.returns-in-Hit-clause-answer
 returns-in-Hit-clause-answer c =
     let answer = c.in-Hit.ensures.answer in
-    (answer.0, tt, (Spans-forward (tree c.args.subject.prepared.now.arena.expr) c.args.subject.text.now c.in-Hit.start c.in-Hit.end answer.0.spans, answer.1))
+    (answer.0, tt, (Matches-forward (expression_tree c.args.subject.prepared.now.arena.expr) c.args.subject.text.now c.in-Hit.start c.in-Hit.end answer.0.spans, answer.1))
 
 pub returns-in-Hit-clause-cost : goal.returns-in-Hit-clause-cost
 returns-in-Hit-clause-cost c =
@@ -25,7 +25,7 @@ returns-in-Hit-clause-cost c =
     let n = length c.args.subject.text.now in
     let last = c.args.subject.prepared.now.is_prepared.last in
     let answer = c.in-Hit.ensures.answer in
-    let on = Spans-forward (tree c.args.subject.prepared.now.arena.expr) c.args.subject.text.now c.in-Hit.start c.in-Hit.end answer.0.spans in
+    let on = Matches-forward (expression_tree c.args.subject.prepared.now.arena.expr) c.args.subject.text.now c.in-Hit.start c.in-Hit.end answer.0.spans in
     let begun : c.args.seeking.now.begun ≡ false = cc in
     let few = c.in-Hit.ensures.few in
     let low : c.args.seeking.now.tried ≤ n = omega (arith, c.if-seeking-len.false, c.len.ensures.is) in
@@ -43,7 +43,7 @@ returns-in-Hit-clause-each c =
     let j = c.in-Hit.end in
     let last = c.args.subject.prepared.now.is_prepared.last in
     let answer = c.in-Hit.ensures.answer in
-    let on = Spans-forward (tree c.args.subject.prepared.now.arena.expr) c.args.subject.text.now i j answer.0.spans in (
+    let on = Matches-forward (expression_tree c.args.subject.prepared.now.arena.expr) c.args.subject.text.now i j answer.0.spans in (
       c.in-Hit.ensures.cost.0,
       hit_each m n c.args.from i j c.args.seeking.now.tried c.try_all.new.tried c.args.steps.now c.try_all.new.steps (omega (arith, last)) answer.0.after on answer.1 c.in-Hit.ensures.few c.in-Hit.ensures.cost.1,
     )
@@ -72,7 +72,7 @@ returns-in-Nothing-clause-each c =
 pub returns-in-Tired-clause-answer : goal.returns-in-Tired-clause-answer
 returns-in-Tired-clause-answer c =
     let answer = c.in-Tired.ensures.answer in
-    later_answer (tree c.args.subject.prepared.now.arena.expr) c.args.subject.text.now c.args.from c.in-Tired.start c.next_begun-in-Tired.result (omega (arith, answer.0)) answer.2 c.next_begun-in-Tired.ensures.next.answer
+    later_answer (expression_tree c.args.subject.prepared.now.arena.expr) c.args.subject.text.now c.args.from c.in-Tired.start c.next_begun-in-Tired.result (omega (arith, answer.0)) answer.2 c.next_begun-in-Tired.ensures.next.answer
 
 pub returns-in-Tired-clause-cost : goal.returns-in-Tired-clause-cost
 returns-in-Tired-clause-cost c =

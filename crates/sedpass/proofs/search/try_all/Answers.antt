@@ -1,7 +1,7 @@
 use Rattle.std.proofs.Common.{◌≡◌, ◌+◌, ◌-◌, ◌*◌, ◌≤◌, ℕ, length, Option, None, Some, refl, subst, sym, arith}
-use Rattle.sedtext.specs.Reach.{Longest}
-use Rattle.sedre.specs.Written.{tree}
-use Rattle.sedtext.proofs.SpanLemmas.{Spans-forward, Spans-within}
+use Rattle.sedtext.specs.Reach.{IsLongestFrom}
+use Rattle.sedre.specs.Written.{expression_tree}
+use Rattle.sedtext.proofs.SpanLemmas.{Matches-forward, Matches-within}
 use Rattle.std.specs.Prelude.{IfSome}
 use Rattle.sedpass.proofs.CountLemmas.{least_none, least_both}
 use Rattle.sedpass.proofs.KeptLemmas.{same_shape}
@@ -15,9 +15,9 @@ returns-in-Some-end-clause-answer c =
     let t = c.in-Some.trial in
     let is = c.in-Some.ensures.trial in
     let i = c.loop-start.invariant in
-    let long : Longest (tree e) w t.start (Some c.in-Some-end.end) = subst (Longest (tree e) w t.start) c.in-Some-end.is is.longest in (
+    let long : IsLongestFrom (expression_tree e) w t.start (Some c.in-Some-end.end) = subst (IsLongestFrom (expression_tree e) w t.start) c.in-Some-end.is is.longest in (
       found_at e w c.args.from t.start c.in-Some-end.end (omega (arith, i.after, is.after)) (none_on e w c.args.from c.loop-start.start t.start i.none is.none) long,
-      Spans-within (tree e) w t.start c.in-Some-end.end (omega (arith, is.passed, is.within)) long.0,
+      Matches-within (expression_tree e) w t.start c.in-Some-end.end (omega (arith, is.passed, is.within)) long.0,
     )
 
 pub returns-in-Some-end-clause-few : goal.returns-in-Some-end-clause-few
@@ -26,9 +26,9 @@ returns-in-Some-end-clause-few c =
     let w = c.args.subject.text.now in
     let t = c.in-Some.trial in
     let is = c.in-Some.ensures.trial in
-    let long : Longest (tree e) w t.start (Some c.in-Some-end.end) = subst (Longest (tree e) w t.start) c.in-Some-end.is is.longest in
-    let on = Spans-forward (tree e) w t.start c.in-Some-end.end long.0 in
-    let within = Spans-within (tree e) w t.start c.in-Some-end.end (omega (arith, is.passed, is.within)) long.0 in
+    let long : IsLongestFrom (expression_tree e) w t.start (Some c.in-Some-end.end) = subst (IsLongestFrom (expression_tree e) w t.start) c.in-Some-end.is is.longest in
+    let on = Matches-forward (expression_tree e) w t.start c.in-Some-end.end long.0 in
+    let within = Matches-within (expression_tree e) w t.start c.in-Some-end.end (omega (arith, is.passed, is.within)) long.0 in
     rw c.saturating_sub.ensures (hit_room c.loop-start.tried t.place c.in-Some-end.end c.args.from t.start (length w) _ (let i = c.loop-start.invariant in omega (arith, i.after, is.after)) is.passed is.within on within c.loop-start.invariant.few)
 
 pub returns-in-Some-end-clause-cost : goal.returns-in-Some-end-clause-cost
@@ -39,8 +39,8 @@ returns-in-Some-end-clause-cost c =
     let is = c.in-Some.ensures.trial in
     let i = c.loop-start.invariant in
     let last = c.args.subject.prepared.now.is_prepared.last in
-    let long : Longest (tree e) w t.start (Some c.in-Some-end.end) = subst (Longest (tree e) w t.start) c.in-Some-end.is is.longest in
-    let on = Spans-forward (tree e) w t.start c.in-Some-end.end long.0 in
+    let long : IsLongestFrom (expression_tree e) w t.start (Some c.in-Some-end.end) = subst (IsLongestFrom (expression_tree e) w t.start) c.in-Some-end.is is.longest in
+    let on = Matches-forward (expression_tree e) w t.start c.in-Some-end.end long.0 in
     let cost = c.in-Some.ensures.cost in (
       omega (arith, i.grows, cost),
       rw c.saturating_sub.ensures (hit_paid (length e.nodes) c.args.from c.loop-start.start t.start t.place c.in-Some-end.end c.loop-start.tried c.args.tried.now c.args.steps.now c.loop-start.steps c.try_next.new.steps
@@ -55,7 +55,7 @@ returns-then-tried-length-clause-answer c =
     let is = c.in-Some.ensures.trial in
     let i = c.loop-start.invariant in
     tired_answer e w c.args.from (t.start + 1) c.tired_at.result (omega (arith, i.after, is.after))
-    (none_more e w c.args.from t.start (none_on e w c.args.from c.loop-start.start t.start i.none is.none) (let none : t.end ≡ None = cc in subst (Longest (tree e) w t.start) none is.longest)) (rw (sym c.len-length.ensures.is) c.tired_at.ensures)
+    (none_more e w c.args.from t.start (none_on e w c.args.from c.loop-start.start t.start i.none is.none) (let none : t.end ≡ None = cc in subst (IsLongestFrom (expression_tree e) w t.start) none is.longest)) (rw (sym c.len-length.ensures.is) c.tired_at.ensures)
 
 pub returns-clause-cost : goal.returns-clause-cost
 returns-clause-cost c =
@@ -102,7 +102,7 @@ loop-start-preserved c =
     record {
       ahead = c.in-Some.ensures.ahead;
       ahead_shape = same_shape c.args.ahead.now c.loop-start.ahead c.try_next.new.ahead i.ahead_shape c.in-Some.ensures.ahead_shape;
-      none = none_more e w c.args.from t.start (none_on e w c.args.from c.loop-start.start t.start i.none is.none) (subst (Longest (tree e) w t.start) none is.longest);
+      none = none_more e w c.args.from t.start (none_on e w c.args.from c.loop-start.start t.start i.none is.none) (subst (IsLongestFrom (expression_tree e) w t.start) none is.longest);
       after = omega (arith, i.after, is.after);
       within = omega (arith, is.passed, is.within);
       few = omega (arith, c.if-tried-length.false, c.len-length.ensures.is);

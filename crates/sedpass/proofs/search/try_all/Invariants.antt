@@ -1,6 +1,6 @@
 use Rattle.std.proofs.Common.{◌+◌, ◌-◌, ◌*◌, ◌/◌, ◌≤◌, max, length}
 use Rattle.sedtext.specs.Beginnings.{NoneIn}
-use Rattle.sedre.specs.Written.{tree}
+use Rattle.sedre.specs.Written.{expression_tree}
 use Rattle.sedre.specs.Steps.{TakesAtLeast}
 use Rattle.sedpass.specs.Table.{IsAhead, SameShape}
 use Rattle.sedpass.proofs.search.try_all.Given as goal
@@ -9,7 +9,7 @@ abbrev pub invariant-loop-start : goal.invariant-loop-start
 invariant-loop-start l = record {
   ahead : IsAhead l.subject.prepared.now l.ahead;
   ahead_shape : SameShape l.initial.ahead l.ahead;
-  none : NoneIn (tree l.subject.prepared.now.arena.expr) l.subject.text.now l.from l.start;
+  none : NoneIn (expression_tree l.subject.prepared.now.arena.expr) l.subject.text.now l.from l.start;
   after : l.from ≤ l.start;
   within : l.start ≤ length l.subject.text.now + 1;
   few : l.tried ≤ max l.initial.tried (length l.subject.text.now / 8);

@@ -1,5 +1,5 @@
 use Rattle.std.proofs.Common.{arith}
-use Rattle.sedre.specs.Stacks.{whole}
+use Rattle.sedre.specs.Stacks.{whole_level}
 use Rattle.sedre.proofs.Ended.{on_ok, finished_expr, finished}
 use Rattle.sedre.proofs.reader.finish.Goals as goal
 
@@ -8,7 +8,7 @@ of-requires c =
     let limit = c.requires.0 in
     let s = c.requires.1 in
     let kept = on_ok c.join.result c.if-is_err.ensures.negation c.join.ensures limit s c.requires.2 c.requires.3 in
-    finished_expr limit c.join.new.self.stack (whole s.top) c.index-part.result.now s.opened c.join.new.self.opened kept.0 c.index-part.ensures (omega arith) kept.1 c.requires.4 c.requires.5
+    finished_expr limit c.join.new.self.stack (whole_level s.top) c.index-part.result.now s.opened c.join.new.self.opened kept.0 c.index-part.ensures (omega arith) kept.1 c.requires.4 c.requires.5
 
 pub returns-clause-ok : goal.returns-clause-ok
 returns-clause-ok c = λ limit s r none.

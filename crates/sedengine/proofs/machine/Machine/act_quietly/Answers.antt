@@ -3,57 +3,57 @@ use Rattle.std.specs.Prelude.{slice_get}
 use Rattle.sedscript.specs.declared.types.Action.{Action}
 use Rattle.sedscript.specs.declared.types.Command.{Command}
 use Rattle.sedengine.specs.State.{do_at, print_pattern, flush}
-use Rattle.sedengine.specs.Inside.{Holds, entry_for, holds}
+use Rattle.sedengine.specs.Inside.{CommandHolds, entry_for, holds}
 use Rattle.sedengine.specs.Move.{acts, quietly, queueing}
-use Rattle.sedengine.specs.Run.{at_lines, setting}
+use Rattle.sedengine.specs.Run.{at_lines, run_setting}
 use Rattle.sedengine.specs.Steps.{HasAction}
 use Rattle.sedengine.proofs.Acts.{acts_nothing, acts_going, acts_queueing, acts_testing, acts_translating, entry_is}
 use Rattle.sedengine.proofs.machine.Machine.act_quietly.Goals as goal
 
 pub returns-in-Block-clause-acts : goal.returns-in-Block-clause-acts
 returns-in-Block-clause-acts c = λ files ls tells sinks.
-    acts_nothing c.args.self.now ls (c.is_within_limits.ensures ls) (setting c.args.self.now files) sinks sinks _
-    (ap (acts (setting c.args.self.now files) (at_lines c.args.self.now ls) tells) c.in-Block.is)
+    acts_nothing c.args.self.now ls (c.is_within_limits.ensures ls) (run_setting c.args.self.now files) sinks sinks _
+    (ap (acts (run_setting c.args.self.now files) (at_lines c.args.self.now ls) tells) c.in-Block.is)
 
 pub returns-in-Branch-clause-acts : goal.returns-in-Branch-clause-acts
 returns-in-Branch-clause-acts c = λ files ls tells sinks.
-    acts_going c.args.self.now ls (c.is_within_limits.ensures ls) (setting c.args.self.now files) sinks sinks _
-    (do_at c.in-Branch.target ∷ []) c.act_branch.new.self c.act_branch.ensures (ap (acts (setting c.args.self.now files) (at_lines c.args.self.now ls) tells) c.in-Branch.is)
+    acts_going c.args.self.now ls (c.is_within_limits.ensures ls) (run_setting c.args.self.now files) sinks sinks _
+    (do_at c.in-Branch.target ∷ []) c.act_branch.new.self c.act_branch.ensures (ap (acts (run_setting c.args.self.now files) (at_lines c.args.self.now ls) tells) c.in-Branch.is)
 
 pub returns-in-Quit-clause-acts : goal.returns-in-Quit-clause-acts
 returns-in-Quit-clause-acts c = λ files ls tells sinks.
-    acts_going c.args.self.now ls (c.is_within_limits.ensures ls) (setting c.args.self.now files) sinks sinks _
-    (print_pattern ∷ flush ∷ []) c.act_quit.new.self c.act_quit.ensures (ap (acts (setting c.args.self.now files) (at_lines c.args.self.now ls) tells) c.in-Quit.is)
+    acts_going c.args.self.now ls (c.is_within_limits.ensures ls) (run_setting c.args.self.now files) sinks sinks _
+    (print_pattern ∷ flush ∷ []) c.act_quit.new.self c.act_quit.ensures (ap (acts (run_setting c.args.self.now files) (at_lines c.args.self.now ls) tells) c.in-Quit.is)
 
 pub returns-in-Test-clause-acts : goal.returns-in-Test-clause-acts
 returns-in-Test-clause-acts c = λ files ls tells sinks.
-    acts_testing c.args.self.now ls (c.is_within_limits.ensures ls) (setting c.args.self.now files) sinks sinks _
-    c.in-Test.target c.act_test.new.self c.act_test.ensures (ap (acts (setting c.args.self.now files) (at_lines c.args.self.now ls) tells) c.in-Test.is)
+    acts_testing c.args.self.now ls (c.is_within_limits.ensures ls) (run_setting c.args.self.now files) sinks sinks _
+    c.in-Test.target c.act_test.new.self c.act_test.ensures (ap (acts (run_setting c.args.self.now files) (at_lines c.args.self.now ls) tells) c.in-Test.is)
 
 pub returns-in-Transliterate-clause-acts : goal.returns-in-Transliterate-clause-acts
 returns-in-Transliterate-clause-acts c = λ files ls tells sinks.
-    acts_translating c.args.self.now ls (c.is_within_limits.ensures ls) (setting c.args.self.now files) sinks sinks _
-    (slice_get c.args.self.now.script.tables c.in-Transliterate.k) c.act_transliterate.new.self c.act_transliterate.ensures (ap (acts (setting c.args.self.now files) (at_lines c.args.self.now ls) tells) c.in-Transliterate.is)
+    acts_translating c.args.self.now ls (c.is_within_limits.ensures ls) (run_setting c.args.self.now files) sinks sinks _
+    (slice_get c.args.self.now.script.tables c.in-Transliterate.k) c.act_transliterate.new.self c.act_transliterate.ensures (ap (acts (run_setting c.args.self.now files) (at_lines c.args.self.now ls) tells) c.in-Transliterate.is)
 
 pub returns-in-Append-clause-acts : goal.returns-in-Append-clause-acts
 returns-in-Append-clause-acts c = λ files ls tells sinks.
     let e = c.args.self.now in
-    acts_queueing e ls (c.is_within_limits.ensures ls) (setting e files) sinks sinks _ _ c.act_queue.new.self c.act_queue.result
-    (ap (acts (setting e files) (at_lines e ls) tells) c.in-Append.is ∙ ap (λ entry. quietly (queueing entry (at_lines e ls))) (sym (entry_is e.script.texts (slice_get e.script.commands c.args.k) c.args.action c.requires.action ∙ ap (entry_for e.script.texts) c.in-Append.is)))
+    acts_queueing e ls (c.is_within_limits.ensures ls) (run_setting e files) sinks sinks _ _ c.act_queue.new.self c.act_queue.result
+    (ap (acts (run_setting e files) (at_lines e ls) tells) c.in-Append.is ∙ ap (λ entry. quietly (queueing entry (at_lines e ls))) (sym (entry_is e.script.texts (slice_get e.script.commands c.args.k) c.args.action c.requires.action ∙ ap (entry_for e.script.texts) c.in-Append.is)))
     c.act_queue.ensures
 
 pub returns-in-ReadFile-clause-acts : goal.returns-in-ReadFile-clause-acts
 returns-in-ReadFile-clause-acts c = λ files ls tells sinks.
     let e = c.args.self.now in
-    acts_queueing e ls (c.is_within_limits.ensures ls) (setting e files) sinks sinks _ _ c.act_queue-in-ReadFile.new.self c.act_queue-in-ReadFile.result
-    (ap (acts (setting e files) (at_lines e ls) tells) c.in-ReadFile.is ∙ ap (λ entry. quietly (queueing entry (at_lines e ls))) (sym (entry_is e.script.texts (slice_get e.script.commands c.args.k) c.args.action c.requires.action ∙ ap (entry_for e.script.texts) c.in-ReadFile.is)))
+    acts_queueing e ls (c.is_within_limits.ensures ls) (run_setting e files) sinks sinks _ _ c.act_queue-in-ReadFile.new.self c.act_queue-in-ReadFile.result
+    (ap (acts (run_setting e files) (at_lines e ls) tells) c.in-ReadFile.is ∙ ap (λ entry. quietly (queueing entry (at_lines e ls))) (sym (entry_is e.script.texts (slice_get e.script.commands c.args.k) c.args.action c.requires.action ∙ ap (entry_for e.script.texts) c.in-ReadFile.is)))
     c.act_queue-in-ReadFile.ensures
 
 pub returns-in_default-clause-acts : goal.returns-in_default-clause-acts
 returns-in_default-clause-acts c = c.act_on_hold.ensures.acts
 
 -- what such a command does is done by one of the script
-is_held : (o : Option Command) (action : Action) → HasAction o action → holds action ≡ true → Holds o
+is_held : (o : Option Command) (action : Action) → HasAction o action → holds action ≡ true → CommandHolds o
 is_held None action h is = absurd h
 is_held (Some c) action h is = ap holds h ∙ is
 

@@ -2,7 +2,7 @@ use Rattle.std.proofs.Common.{◌≤◌, ◌∷◌, ◌∙◌, ap, sym, refl, su
 use Rattle.std.proofs.lemmas.Result.{err_from_is_err_and}
 use Rattle.sedengine.specs.State.{State, flush}
 use Rattle.sedengine.specs.Move.{then_do}
-use Rattle.sedengine.specs.Run.{RunState, at_lines, setting}
+use Rattle.sedengine.specs.Run.{RunState, at_lines, run_setting}
 use Rattle.sedengine.specs.Steps.{Ran}
 use Rattle.sedengine.specs.Inside.{run_of, tasks_of}
 use Rattle.sedengine.proofs.Ending.{stopped_anyway, weight_ended}
@@ -12,7 +12,7 @@ pub returns-clause-moves : goal.returns-clause-moves
 returns-clause-moves g c = λ files told ls.
     let e = c.args.self.now in
     let s : State = then_do (flush ∷ tasks_of c.args.place) (at_lines e ls) in
-    let Q : RunState → Type 0 = λ e'. Ran e.limits (setting e files) s (then_do (tasks_of c.args.place) (at_lines e' ls)) (g.O.Sinks.tally c.args.outputs.now) (g.O.Sinks.tally c.flush.new.outputs) in
+    let Q : RunState → Type 0 = λ e'. Ran e.limits (run_setting e files) s (then_do (tasks_of c.args.place) (at_lines e' ls)) (g.O.Sinks.tally c.args.outputs.now) (g.O.Sinks.tally c.flush.new.outputs) in
     subst Q (sym c.self.view_is) (c.in_ok-flush.ensures.moves files told ls (tasks_of c.args.place))
 
 pub returns-in_err-flush-clause-moves : goal.returns-in_err-flush-clause-moves

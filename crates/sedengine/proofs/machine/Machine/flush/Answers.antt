@@ -1,6 +1,6 @@
 use Rattle.std.proofs.Common.{ap, Ok, Err}
 use Rattle.std.proofs.lemmas.Result.{err_from_is_err_and}
-use Rattle.sedengine.specs.Run.{RunState, setting}
+use Rattle.sedengine.specs.Run.{RunState, run_setting}
 use Rattle.sedengine.specs.Inside.{run_of}
 use Rattle.sedengine.specs.Queueing.{flushed, with_turns}
 use Rattle.sedengine.proofs.Ending.{flush_moves}
@@ -9,14 +9,14 @@ use Rattle.sedengine.proofs.machine.Machine.flush.Goals as goal
 pub returns-clause-moves : goal.returns-clause-moves
 returns-clause-moves g c = λ files told ls rest.
     let w = c.flush_queue.new in
-    flush_moves c.self.inside c.args.self.now (run_of (record c.self.inside { build = w.build; turns = w.turns; queue = c.clear.new.self })) (setting c.args.self.now files) ls rest w.turns
-    (g.O.Sinks.tally c.args.outputs.now) (g.O.Sinks.tally w.outputs) (Ok tt) c.self.view_is c.self.invariant (c.in_ok-flush_queue.ensures.flushes (setting c.args.self.now files) told)
+    flush_moves c.self.inside c.args.self.now (run_of (record c.self.inside { build = w.build; turns = w.turns; queue = c.clear.new.self })) (run_setting c.args.self.now files) ls rest w.turns
+    (g.O.Sinks.tally c.args.outputs.now) (g.O.Sinks.tally w.outputs) (Ok tt) c.self.view_is c.self.invariant (c.in_ok-flush_queue.ensures.flushes (run_setting c.args.self.now files) told)
     (rw c.clear.ensures (ap (λ (e : RunState). flushed e w.turns) c.self.view_is)) (tt {0})
 
 pub returns-in_err-flush_queue-clause-moves : goal.returns-in_err-flush_queue-clause-moves
 returns-in_err-flush_queue-clause-moves g c = λ files told ls rest.
     let w = c.flush_queue.new in
     let p = err_from_is_err_and c.from_residual.result c.from_residual.ensures.1 in
-    rw (p.1, p.2) (flush_moves c.self.inside c.args.self.now (run_of (record c.self.inside { build = w.build; turns = w.turns })) (setting c.args.self.now files) ls rest w.turns
-    (g.O.Sinks.tally c.args.outputs.now) (g.O.Sinks.tally w.outputs) (Err c.in_err-flush_queue.field-0.0) c.self.view_is c.self.invariant (c.in_err-flush_queue.ensures.flushes (setting c.args.self.now files) told)
+    rw (p.1, p.2) (flush_moves c.self.inside c.args.self.now (run_of (record c.self.inside { build = w.build; turns = w.turns })) (run_setting c.args.self.now files) ls rest w.turns
+    (g.O.Sinks.tally c.args.outputs.now) (g.O.Sinks.tally w.outputs) (Err c.in_err-flush_queue.field-0.0) c.self.view_is c.self.invariant (c.in_err-flush_queue.ensures.flushes (run_setting c.args.self.now files) told)
     (tt {0}) (ap (λ (e : RunState). with_turns e w.turns) c.self.view_is))

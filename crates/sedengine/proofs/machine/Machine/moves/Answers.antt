@@ -1,6 +1,6 @@
 use Rattle.std.proofs.Common.{Err, ap}
 use Rattle.sedengine.proofs.Leaving.{leaves_none, leaves_texts, leaves_then}
-use Rattle.sedengine.proofs.Streams.{Reads-then}
+use Rattle.sedengine.proofs.Streams.{ReadsLines-then}
 use Rattle.sedengine.proofs.Runs.{Reached-none, KeepsRun-then, step_on, stop_on}
 use Rattle.sedengine.proofs.PassingRuns.{pass_on, pass_stop}
 use Rattle.sedengine.proofs.Entries.{tells_on}
@@ -20,7 +20,7 @@ pub returns-in-Err-clause-ends : goal.returns-in-Err-clause-ends
 returns-in-Err-clause-ends g c = λ sound ls known files told.
     let h = c.moves.invariant in
     let r = h.reached sound ls known files told in
-    let input = Reads-then _ _ _ _ _ _ _ h.leaves.input c.in-Err.ensures.input in
+    let input = ReadsLines-then _ _ _ _ _ _ _ h.leaves.input c.in-Err.ensures.input in
     pass_stop g.R.ByteSource.remaining c.args.lines.now c.moves.lines c.pass_over.new.lines files c.args.self.now _ c.moves.self _ _ _ h.leaves.same r c.pass_over.new.self c.in-Err.end
     (c.in-Err.ensures.steps r.rest r.taken.known files) input.shrinks input.ahead c.requires.look (λ is. input.broken (ap Err is) sound)
 
@@ -32,8 +32,8 @@ pub returns-in-Err-step-clause-ends : goal.returns-in-Err-step-clause-ends
 returns-in-Err-step-clause-ends g c = λ sound ls known files told.
     let h = c.moves.invariant in
     let r = h.reached sound ls known files told in
-    let passed = Reads-then _ _ _ _ _ _ _ h.leaves.input c.in_default.ensures.input in
-    let input = Reads-then _ _ _ _ _ _ _ passed c.in-Err-step.ensures.leaves.input in
+    let passed = ReadsLines-then _ _ _ _ _ _ _ h.leaves.input c.in_default.ensures.input in
+    let input = ReadsLines-then _ _ _ _ _ _ _ passed c.in-Err-step.ensures.leaves.input in
     let there = pass_on g.R.ByteSource.remaining c.args.lines.now c.moves.lines c.pass_over.new.lines files c.args.self.now _ c.moves.self _ _ _ h.leaves.same r c.pass_over.new.self (c.in_default.ensures.steps r.rest r.taken.known files) in
     stop_on g.R.ByteSource.remaining c.args.lines.now c.pass_over.new.lines c.step.new.lines files c.args.self.now _ c.pass_over.new.self _ _ _ (KeepsRun-then h.leaves.same c.in_default.ensures.same) there c.step.new.self c.in-Err-step.end
     (c.in-Err-step.ensures.steps (passed.sound sound) there.rest there.taken.known files (tells_on _ _ files told h.leaves.kept)) input.shrinks input.ahead c.requires.look (λ is. input.broken (ap Err is) sound)

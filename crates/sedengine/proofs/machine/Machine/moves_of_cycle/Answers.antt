@@ -1,8 +1,8 @@
 use Rattle.std.proofs.Common.{◌∙◌, Err, sym, ap, arith}
 use Rattle.sedengine.specs.State.{State}
-use Rattle.sedengine.specs.Run.{at_lines, setting, starts_cycle}
+use Rattle.sedengine.specs.Run.{at_lines, run_setting, starts_cycle}
 use Rattle.sedengine.proofs.Leaving.{leaves_none, leaves_then}
-use Rattle.sedengine.proofs.Streams.{Reads-then}
+use Rattle.sedengine.proofs.Streams.{ReadsLines-then}
 use Rattle.sedengine.proofs.Moves.{InOneCycle-more}
 use Rattle.sedengine.proofs.Runs.{Reached, Reached-none, step_on, stop_on, one_on, some_on, one_stop, cycled}
 use Rattle.sedengine.proofs.Entries.{tells_on}
@@ -23,7 +23,7 @@ returns-in-Err-clause-cycles g c = λ sound ls known files told.
     let h = c.moves.invariant in
     let reached = h.reached sound ls known files told in
     let r = reached.0 in
-    let input = Reads-then _ _ _ _ _ _ _ h.leaves.input c.in-Err.ensures.leaves.input in
+    let input = ReadsLines-then _ _ _ _ _ _ _ h.leaves.input c.in-Err.ensures.leaves.input in
     let stop = c.in-Err.ensures.steps (h.leaves.input.sound sound) r.rest r.taken.known files (tells_on _ _ files told h.leaves.kept) in
     let stopped = stop_on g.R.ByteSource.remaining c.args.lines.now c.moves.lines c.step.new.lines files c.args.self.now _ c.moves.self _ _ _ h.leaves.same r c.step.new.self c.in-Err.end stop input.shrinks input.ahead c.requires.look (λ is. input.broken (ap Err is) sound) in
     let one = one_stop g.R.ByteSource.remaining c.args.lines.now c.moves.lines c.step.new.lines files c.args.self.now _ c.moves.self _ _ _ h.leaves.same r c.step.new.self c.in-Err.end stop reached.1 in
@@ -37,9 +37,9 @@ returns-then-at_start-clause-cycles g c = λ sound ls known files told.
     let h = c.moves.invariant in
     let reached = h.reached sound ls known files told in
     let r = reached.0 in
-    let input = Reads-then _ _ _ _ _ _ _ h.leaves.input c.in_default.ensures.leaves.input in
+    let input = ReadsLines-then _ _ _ _ _ _ _ h.leaves.input c.in_default.ensures.leaves.input in
     let ran = c.in_default.ensures.steps (h.leaves.input.sound sound) r.rest r.taken.known files (tells_on _ _ files told h.leaves.kept) in
-    let next : Reached g.R.ByteSource.remaining c.args.lines.now c.step.new.lines _ (setting c.args.self.now files) (at_lines c.args.self.now ls) c.step.new.self _ _ =
+    let next : Reached g.R.ByteSource.remaining c.args.lines.now c.step.new.lines _ (run_setting c.args.self.now files) (at_lines c.args.self.now ls) c.step.new.self _ _ =
     step_on g.R.ByteSource.remaining c.args.lines.now c.moves.lines c.step.new.lines files c.args.self.now _ c.moves.self _ _ _ h.leaves.same r c.step.new.self ran in
     let one = one_on g.R.ByteSource.remaining c.args.lines.now c.moves.lines c.step.new.lines files c.args.self.now _ c.moves.self _ _ _ h.leaves.same r c.step.new.self ran reached.1 in
     let some = some_on g.R.ByteSource.remaining c.args.lines.now c.moves.lines c.step.new.lines files c.args.self.now _ c.moves.self _ _ _ h.leaves.same r c.step.new.self ran in (
@@ -58,7 +58,7 @@ moves-preserved g c =
           let reached = h.reached sound ls known files told in
           let r = reached.0 in
           let ran = c.in_default.ensures.steps (h.leaves.input.sound sound) r.rest r.taken.known files (tells_on _ _ files told h.leaves.kept) in
-          let next : Reached g.R.ByteSource.remaining c.args.lines.now c.step.new.lines _ (setting c.args.self.now files) (at_lines c.args.self.now ls) c.step.new.self _ _ =
+          let next : Reached g.R.ByteSource.remaining c.args.lines.now c.step.new.lines _ (run_setting c.args.self.now files) (at_lines c.args.self.now ls) c.step.new.self _ _ =
           step_on g.R.ByteSource.remaining c.args.lines.now c.moves.lines c.step.new.lines files c.args.self.now _ c.moves.self _ _ _ h.leaves.same r c.step.new.self ran in
           let one = one_on g.R.ByteSource.remaining c.args.lines.now c.moves.lines c.step.new.lines files c.args.self.now _ c.moves.self _ _ _ h.leaves.same r c.step.new.self ran reached.1 in
           (next, InOneCycle-more _ _ next.t one (ap (λ (s : State). starts_cycle s.tasks) next.is ∙ sym c.at_start.ensures ∙ c.if-at_start.false));

@@ -2,7 +2,7 @@ use Rattle.std.proofs.Common.{sym, ◌∙◌, arith, rules}
 use Rattle.std.proofs.KnownBytes.{Keeps-refl}
 use Rattle.std.proofs.lemmas.Result.{err_from_is_err_and}
 use Rattle.sedengine.proofs.Writing.{Delivers-unwritten}
-use Rattle.sedengine.proofs.Streams.{Reads-then, Reads-told}
+use Rattle.sedengine.proofs.Streams.{ReadsLines-then, ReadsLines-told}
 use Rattle.sedengine.proofs.Tasks.{steps_by_moves}
 use Rattle.sedengine.proofs.Acts.{steps_spent, reach_stopping, reach_acting, reach_passing}
 use Rattle.sedengine.proofs.machine.Machine.reach.Goals as goal
@@ -50,7 +50,7 @@ returns-else-choice-clause-steps g c = λ sound ls known files told.
 
 pub returns-then-choice-clause-leaves : goal.returns-then-choice-clause-leaves
 returns-then-choice-clause-leaves g c = record {
-  input = Reads-then _ _ _ _ _ _ _ (Reads-told _ _ _ _ _ _ c.in_ok-choice.ensures.reads.input) c.act.ensures.leaves.input;
+  input = ReadsLines-then _ _ _ _ _ _ _ (ReadsLines-told _ _ _ _ _ _ c.in_ok-choice.ensures.reads.input) c.act.ensures.leaves.input;
   output = c.act.ensures.leaves.output;
   same = search rules;
   kept = c.act.ensures.leaves.kept;

@@ -1,5 +1,5 @@
 use Rattle.std.proofs.Common.{◌≡◌, ◌∙◌, ◌+◌, ◌-◌, ◌*◌, length, ap, refl, subst, sym, arith}
-use Rattle.sedre.specs.Written.{tree}
+use Rattle.sedre.specs.Written.{expression_tree}
 use Rattle.sedre.specs.Steps.{Takes, TakesAtLeast}
 use Rattle.sedre.specs.Arena.{IsExpr}
 use Rattle.sedtext.specs.Caps.{IsReport}
@@ -15,7 +15,7 @@ use Rattle.sedmatch.proofs.OnceLemmas.{once_still}
 use Rattle.sedmatch.proofs.table_matcher.TableMatcher.groups_of.Goals as goal
 use Rattle.sedmatch.proofs.table_matcher.TableMatcher.groups_of.Goals.{in-Direct, in-Passes}
 
-reported : (c : goal.Joined-self) → IsReport (tree c.args.self.now) c.args.text.now c.args.start c.args.end c.match-self.result
+reported : (c : goal.Joined-self) → IsReport (expression_tree c.args.self.now) c.args.text.now c.args.start c.args.end c.match-self.result
 reported c =
     let t = c.args.text.now in
     elim c.match-self.branch [
@@ -23,19 +23,19 @@ reported c =
           let is = direct_is c.self.inside.engine c.args.self.now w.in-Direct.expr w.in-Direct.field-1 c.self.view_is c.self.invariant w.in-Direct.is in
           let same = written_is c.self.inside.engine c.args.self.now w.in-Direct.expr w.in-Direct.field-1 c.self.view_is w.in-Direct.is in
           let expr = subst (λ v. IsExpr v.nodes v.groups) same w.is_expression.ensures.expr in
-          subst (IsReport (tree c.args.self.now) t c.args.start c.args.end) (sym w.result-is) (w.whole_alone.ensures.report c.args.self.now t expr is.1 c.requires.spans)
+          subst (IsReport (expression_tree c.args.self.now) t c.args.start c.args.end) (sym w.result-is) (w.whole_alone.ensures.report c.args.self.now t expr is.1 c.requires.spans)
       | in-Passes w ↦
           let inv = subst IsEngine w.in-Passes.is c.self.invariant in
           let value = w.deref_mut.ensures.value in
           let is : w.deref_mut.result.now.sought.prepared.arena.expr ≡ c.args.self.now = ap (λ (x : Passes). x.sought.prepared.arena.expr) value ∙ sym (ap written_of w.in-Passes.is) ∙ c.self.view_is in
-          subst (IsReport (tree c.args.self.now) t c.args.start c.args.end) (sym w.result-is) (subst (λ v. IsReport (tree v) t c.args.start c.args.end w.groups_by.result) is w.groups_by.ensures.report)
+          subst (IsReport (expression_tree c.args.self.now) t c.args.start c.args.end) (sym w.result-is) (subst (λ v. IsReport (expression_tree v) t c.args.start c.args.end w.groups_by.result) is w.groups_by.ensures.report)
     ]
 
 pub returns-clause-groups : goal.returns-clause-groups
-returns-clause-groups c = (report-iff (tree c.args.self.now) c.args.text.now c.args.start c.args.end c.match-self.result c.requires.spans).1 (reported c)
+returns-clause-groups c = (report-iff (expression_tree c.args.self.now) c.args.text.now c.args.start c.args.end c.match-self.result c.requires.spans).1 (reported c)
 
 pub returns-clause-lies : goal.returns-clause-lies
-returns-clause-lies c = report_lies (length c.args.text.now) (tree c.args.self.now) c.args.text.now c.args.start c.args.end c.match-self.result c.requires.order c.requires.inside (reported c)
+returns-clause-lies c = report_lies (length c.args.text.now) (expression_tree c.args.self.now) c.args.text.now c.args.start c.args.end c.match-self.result c.requires.order c.requires.inside (reported c)
 
 pub returns-clause-cost : goal.returns-clause-cost
 returns-clause-cost c =
@@ -64,7 +64,7 @@ returns-clause-counts c =
 
 pub returns-clause-entered : goal.returns-clause-entered
 returns-clause-entered c =
-    let e = tree c.args.self.now in
+    let e = expression_tree c.args.self.now in
     let s = c.args.steps.now in
     elim c.match-self.branch [
       | in-Direct w ↦ subst (λ v. EntersGroups e c.match-self.result s v) (sym w.steps-is) (subst (λ r. EntersGroups e r s s) (sym w.result-is) (w.whole_alone.ensures.entered e s))
@@ -72,7 +72,7 @@ returns-clause-entered c =
           let value = w.deref_mut.ensures.value in
           let is : w.deref_mut.result.now.sought.prepared.arena.expr ≡ c.args.self.now = ap (λ (x : Passes). x.sought.prepared.arena.expr) value ∙ sym (ap written_of w.in-Passes.is) ∙ c.self.view_is in
           subst (λ v. EntersGroups e c.match-self.result s v) (sym w.steps-is)
-          (subst (λ r. EntersGroups e r s w.groups_by.new.steps) (sym w.result-is) (subst (λ v. EntersGroups (tree v) w.groups_by.result s w.groups_by.new.steps) is w.groups_by.ensures.entered))
+          (subst (λ r. EntersGroups e r s w.groups_by.new.steps) (sym w.result-is) (subst (λ v. EntersGroups (expression_tree v) w.groups_by.result s w.groups_by.new.steps) is w.groups_by.ensures.entered))
     ]
 
 pub invariant_of-scratch : goal.invariant_of-scratch

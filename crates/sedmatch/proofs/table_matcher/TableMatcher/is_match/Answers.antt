@@ -1,5 +1,5 @@
 use Rattle.std.proofs.Common.{◌≡◌, ◌∙◌, ◌↔◌, ◌+◌, ◌*◌, length, IsTrue, ap, refl, subst, sym, arith}
-use Rattle.sedre.specs.Written.{tree}
+use Rattle.sedre.specs.Written.{expression_tree}
 use Rattle.sedre.specs.Steps.{Takes}
 use Rattle.sedtext.specs.Following.{PassesOver}
 use Rattle.sedtext.specs.Spans.{SomeFound}
@@ -18,12 +18,12 @@ returns-clause-computed c =
     elim c.match-self.branch [
       | in-Direct w ↦
           let is = direct_is c.self.inside.engine c.args.self.now w.in-Direct.field-0 w.in-Direct.form c.self.view_is c.self.invariant w.in-Direct.is in
-          w.result-is ∙ same_test w.direct_matches.result (tree c.args.self.now) t c.args.from c.requires.from (w.direct_matches.ensures.matches c.args.self.now is)
+          w.result-is ∙ same_test w.direct_matches.result (expression_tree c.args.self.now) t c.args.from c.requires.from (w.direct_matches.ensures.matches c.args.self.now is)
       | in-Passes w ↦
           let inv = subst IsEngine w.in-Passes.is c.self.invariant in
           let value = w.deref_mut.ensures.value in
           let is : w.deref_mut.result.now.sought.prepared.arena.expr ≡ c.args.self.now = ap (λ (x : Passes). x.sought.prepared.arena.expr) value ∙ sym (ap written_of w.in-Passes.is) ∙ c.self.view_is in
-          w.result-is ∙ same_test w.matches_by.result (tree c.args.self.now) t c.args.from c.requires.from (subst (λ v. IsTrue w.matches_by.result ↔ SomeFound (tree v) t c.args.from) is w.matches_by.ensures.matches)
+          w.result-is ∙ same_test w.matches_by.result (expression_tree c.args.self.now) t c.args.from c.requires.from (subst (λ v. IsTrue w.matches_by.result ↔ SomeFound (expression_tree v) t c.args.from) is w.matches_by.ensures.matches)
     ]
 
 pub returns-clause-cost : goal.returns-clause-cost
@@ -55,11 +55,11 @@ returns-clause-matches c =
     elim c.match-self.branch [
       | in-Direct w ↦
           let is = direct_is c.self.inside.engine c.args.self.now w.in-Direct.field-0 w.in-Direct.form c.self.view_is c.self.invariant w.in-Direct.is in
-          subst (λ b. IsTrue b ↔ SomeFound (tree c.args.self.now) t c.args.from) (sym w.result-is) (w.direct_matches.ensures.matches c.args.self.now is)
+          subst (λ b. IsTrue b ↔ SomeFound (expression_tree c.args.self.now) t c.args.from) (sym w.result-is) (w.direct_matches.ensures.matches c.args.self.now is)
       | in-Passes w ↦
           let value = w.deref_mut.ensures.value in
           let is : w.deref_mut.result.now.sought.prepared.arena.expr ≡ c.args.self.now = ap (λ (x : Passes). x.sought.prepared.arena.expr) value ∙ sym (ap written_of w.in-Passes.is) ∙ c.self.view_is in
-          subst (λ b. IsTrue b ↔ SomeFound (tree c.args.self.now) t c.args.from) (sym w.result-is) (subst (λ v. IsTrue w.matches_by.result ↔ SomeFound (tree v) t c.args.from) is w.matches_by.ensures.matches)
+          subst (λ b. IsTrue b ↔ SomeFound (expression_tree c.args.self.now) t c.args.from) (sym w.result-is) (subst (λ v. IsTrue w.matches_by.result ↔ SomeFound (expression_tree v) t c.args.from) is w.matches_by.ensures.matches)
     ]
 
 pub returns-clause-passes : goal.returns-clause-passes
@@ -68,10 +68,10 @@ returns-clause-passes c =
     elim c.match-self.branch [
       | in-Direct w ↦
           let is = direct_is c.self.inside.engine c.args.self.now w.in-Direct.field-0 w.in-Direct.form c.self.view_is c.self.invariant w.in-Direct.is in
-          λ h. subst (λ v. PassesOver (tree c.args.self.now) t c.args.from c.args.steps.now v) (sym w.steps-is) (w.direct_matches.ensures.passes c.args.self.now is (sym w.result-is ∙ h))
+          λ h. subst (λ v. PassesOver (expression_tree c.args.self.now) t c.args.from c.args.steps.now v) (sym w.steps-is) (w.direct_matches.ensures.passes c.args.self.now is (sym w.result-is ∙ h))
       | in-Passes w ↦
           let value = w.deref_mut.ensures.value in
           let is : w.deref_mut.result.now.sought.prepared.arena.expr ≡ c.args.self.now = ap (λ (x : Passes). x.sought.prepared.arena.expr) value ∙ sym (ap written_of w.in-Passes.is) ∙ c.self.view_is in
-          λ h. subst (λ v. PassesOver (tree c.args.self.now) t c.args.from c.args.steps.now v) (sym w.steps-is)
-          (subst (λ v. PassesOver (tree v) t c.args.from c.args.steps.now w.matches_by.new.steps) is (w.matches_by.ensures.passes (sym w.result-is ∙ h)))
+          λ h. subst (λ v. PassesOver (expression_tree c.args.self.now) t c.args.from c.args.steps.now v) (sym w.steps-is)
+          (subst (λ v. PassesOver (expression_tree v) t c.args.from c.args.steps.now w.matches_by.new.steps) is (w.matches_by.ensures.passes (sym w.result-is ∙ h)))
     ]

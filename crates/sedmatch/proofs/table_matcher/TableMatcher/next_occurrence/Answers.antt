@@ -1,5 +1,5 @@
 use Rattle.std.proofs.Common.{◌≡◌, ◌∙◌, ◌+◌, ◌-◌, ◌*◌, length, IfSome, ap, refl, subst, sym, arith}
-use Rattle.sedre.specs.Written.{tree}
+use Rattle.sedre.specs.Written.{expression_tree}
 use Rattle.sedre.specs.Steps.{Takes, TakesAtLeast}
 use Rattle.sedtext.specs.Costs.{Pays}
 use Rattle.sedtext.specs.Following.{Occurs, bytes_passed}
@@ -20,12 +20,12 @@ returns-clause-occurs c =
       | in-Direct w ↦
           let is = direct_is c.self.inside.engine c.args.self.now w.in-Direct.field-0 w.in-Direct.form c.self.view_is c.self.invariant w.in-Direct.is in
           let next = w.next_direct.ensures in
-          subst (λ r. IfSome r (Occurs (tree c.args.self.now) t c.args.last)) (sym w.result-is) (if_occurs (tree c.args.self.now) t c.args.last w.next_direct.result c.requires.last (next.next c.args.self.now is) next.lies)
+          subst (λ r. IfSome r (Occurs (expression_tree c.args.self.now) t c.args.last)) (sym w.result-is) (if_occurs (expression_tree c.args.self.now) t c.args.last w.next_direct.result c.requires.last (next.next c.args.self.now is) next.lies)
       | in-Passes w ↦
           let inv = subst IsEngine w.in-Passes.is c.self.invariant in
           let value = w.deref_mut.ensures.value in
           let is : w.deref_mut.result.now.sought.prepared.arena.expr ≡ c.args.self.now = ap (λ (x : Passes). x.sought.prepared.arena.expr) value ∙ sym (ap written_of w.in-Passes.is) ∙ c.self.view_is in
-          subst (λ r. IfSome r (Occurs (tree c.args.self.now) t c.args.last)) (sym w.result-is) (subst (λ v. IfSome w.next_by_passes.result (Occurs (tree v) t c.args.last)) is w.next_by_passes.ensures.occurs)
+          subst (λ r. IfSome r (Occurs (expression_tree c.args.self.now) t c.args.last)) (sym w.result-is) (subst (λ v. IfSome w.next_by_passes.result (Occurs (expression_tree v) t c.args.last)) is w.next_by_passes.ensures.occurs)
     ]
 
 pub returns-clause-serves : goal.returns-clause-serves
@@ -99,7 +99,7 @@ returns-clause-counts c =
           let next = w.next_by_passes.ensures in
           subst (λ r. IfSome r (λ f. TakesAtLeast s c.match-self.steps (f.1 - f.0))) (sym w.result-is)
           (subst (λ v. IfSome w.next_by_passes.result (λ f. TakesAtLeast s v (f.1 - f.0))) (sym w.steps-is)
-          (looks_at_occurrence (tree w.deref_mut.result.now.sought.prepared.arena.expr) t c.args.last s w.next_by_passes.new.steps w.next_by_passes.result next.occurs next.looks.counts))
+          (looks_at_occurrence (expression_tree w.deref_mut.result.now.sought.prepared.arena.expr) t c.args.last s w.next_by_passes.new.steps w.next_by_passes.result next.occurs next.looks.counts))
     ]
 
 pub returns-clause-passes : goal.returns-clause-passes

@@ -2,7 +2,7 @@ use Rattle.std.proofs.Common.{◌≡◌, ℕ, ◌+◌, ◌-◌, ◌*◌, ◌<◌
 use Rattle.std.specs.Prelude.{length}
 use Rattle.sedre.specs.Steps.{TakesAtLeast}
 use Rattle.sedpass.specs.Table.{SameShape}
-use Rattle.sedpass.specs.Kept.{EdgesFrom, Passes, SameKept}
+use Rattle.sedpass.specs.Kept.{EdgesFrom, PassesDownTo, SameKept}
 use Rattle.sedpass.proofs.kept.Kept.make.Given as goal
 
 abbrev pub invariant-loop-place : goal.invariant-loop-place
@@ -10,7 +10,7 @@ invariant-loop-place l = record {
   order : l.low ≤ l.place;
   below : l.place ≤ l.end;
   end_is : l.self.region.end ≡ l.end;
-  passes : Passes l.subject.prepared.now l.subject.text.now l.table l.self l.place l.offset;
+  passes : PassesDownTo l.subject.prepared.now l.subject.text.now l.table l.self l.place l.offset;
   edges : EdgesFrom l.subject.prepared.now l.subject.text.now l.table l.self l.place;
   right : l.low < l.place → l.place < l.end → (b : ℕ) × (l.place ≡ b * (l.table.room - 1));
   shape : SameShape l.initial.table l.table;

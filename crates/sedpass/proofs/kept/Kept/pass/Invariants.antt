@@ -2,14 +2,14 @@ use Rattle.std.proofs.Common.{◌≡◌, ◌+◌, ◌-◌, ◌*◌, ◌<◌, ◌
 use Rattle.std.specs.Prelude.{length}
 use Rattle.sedre.specs.Steps.{TakesAtLeast}
 use Rattle.sedpass.specs.Table.{SameShape}
-use Rattle.sedpass.specs.Kept.{Passes, SameKept}
+use Rattle.sedpass.specs.Kept.{PassesDownTo, SameKept}
 use Rattle.sedpass.proofs.kept.Kept.pass.Given as goal
 
 abbrev pub invariant-loop-place : goal.invariant-loop-place
 invariant-loop-place l = record {
   order : l.low ≤ l.place;
   below : l.place ≤ l.high;
-  passes : Passes l.subject.prepared.now l.subject.text.now l.table l.self l.place l.offset;
+  passes : PassesDownTo l.subject.prepared.now l.subject.text.now l.table l.self l.place l.offset;
   shape : SameShape l.initial.table l.table;
   same : SameKept l.initial.self l.self;
   low_is : l.self.region.low ≡ l.initial.self.region.low;

@@ -5,7 +5,7 @@ use Rattle.sedpass.specs.Kept.{AllMarked, SameKept, ends_told, owed}
 use Rattle.sedpass.specs.Table.{SameShape}
 use Rattle.sedpass.proofs.CountLemmas.{least_none, least_both, least_since}
 use Rattle.sedpass.proofs.KeptLemmas.{marked_then, same_kept, same_shape, told_as}
-use Rattle.sedpass.specs.Regions.{Reaches}
+use Rattle.sedpass.specs.Regions.{ReachesEnd}
 use Rattle.sedpass.proofs.OwedLemmas.{owed_falls, seek_at, seek_on}
 use Rattle.sedpass.proofs.kept.Kept.seek.Goals as goal
 
@@ -71,7 +71,7 @@ returns-then-found-to-clause-found c below =
     let before = c.loop-place.invariant in
     let ready = c.ready-to.ensures in
     let found = c.seek_in-found.result in
-    told_as (λ r t. IsTrue c.args.marked ↔ Reaches nodes w r t c.args.x found) (length w) c.args.table.now c.ready-to.new.table c.args.self.now c.ready-to.new.self
+    told_as (λ r t. IsTrue c.args.marked ↔ ReachesEnd nodes w r t c.args.x found) (length w) c.args.table.now c.ready-to.new.table c.args.self.now c.ready-to.new.self
     (same_shape c.args.table.now c.loop-place.table c.ready-to.new.table before.shape ready.shape) (same_kept c.args.self.now c.loop-place.self c.ready-to.new.self before.same ready.same)
     (c.seek_in-found.ensures.found (let h = c.if-found-to.true in let g = ready.to.0 in omega (arith, h, g)))
 

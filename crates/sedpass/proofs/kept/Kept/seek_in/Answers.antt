@@ -3,7 +3,7 @@ use Rattle.std.specs.Prelude.{length, not, slice_index_or}
 use Rattle.sedtext.proofs.MarkLemmas.{default_same}
 use Rattle.sedtext.specs.Words.{row_of}
 use Rattle.sedpass.specs.Kept.{ends_told}
-use Rattle.sedpass.specs.Regions.{Reaches}
+use Rattle.sedpass.specs.Regions.{ReachesEnd}
 use Rattle.sedpass.proofs.CountLemmas.{least_none, least_both, least_counted, least_up}
 use Rattle.sedpass.proofs.KeptLemmas.{as_asked, kept_mark, kept_row, marked_on, not_asked}
 use Rattle.sedpass.proofs.kept.Kept.seek_in.Goals as goal
@@ -46,7 +46,7 @@ returns-then-get-marked-clause-found c before =
     let row = kept_row p w t k c.loop-place.place c.requires.kept (omega (arith, above, from)) before in
     let is : c.index.result.now ≡ slice_index_or k.states.items c.loop-place.place 0 = c.index.ensures ∙ default_same k.states.items c.loop-place.place c.index.result.now 0 row.2 in
     let mark : c.get.result ≡ slice_index_or (row_of t.ends (slice_index_or k.states.items c.loop-place.place 0)) c.args.x false = subst (λ s. c.get.result ≡ slice_index_or (row_of t.ends s) c.args.x false) is c.get.ensures.mark in
-    as_asked (Reaches p.arena.expr.nodes w k.region.root (ends_told t.way.sweeps (length w) k.region.end) c.args.x c.loop-place.place) c.get.result c.args.marked c.if-get-marked.true
+    as_asked (ReachesEnd p.arena.expr.nodes w k.region.root (ends_told t.way.sweeps (length w) k.region.end) c.args.x c.loop-place.place) c.get.result c.args.marked c.if-get-marked.true
     (kept_mark p w t k c.args.x c.loop-place.place c.get.result c.requires.kept c.requires.x (omega (arith, above, from)) before mark)
 
 pub returns-then-get-marked-clause-counts : goal.returns-then-get-marked-clause-counts
@@ -65,8 +65,8 @@ loop-place-preserved c =
     let row = kept_row p w t k c.loop-place.place c.requires.kept (omega (arith, above, from)) before in
     let is : c.index.result.now ≡ slice_index_or k.states.items c.loop-place.place 0 = c.index.ensures ∙ default_same k.states.items c.loop-place.place c.index.result.now 0 row.2 in
     let mark : c.get.result ≡ slice_index_or (row_of t.ends (slice_index_or k.states.items c.loop-place.place 0)) c.args.x false = subst (λ s. c.get.result ≡ slice_index_or (row_of t.ends s) c.args.x false) is c.get.ensures.mark in
-    let here : IsTrue (not c.args.marked) ↔ Reaches p.arena.expr.nodes w k.region.root (ends_told t.way.sweeps (length w) k.region.end) c.args.x c.loop-place.place =
-    not_asked (Reaches p.arena.expr.nodes w k.region.root (ends_told t.way.sweeps (length w) k.region.end) c.args.x c.loop-place.place) c.get.result c.args.marked c.if-get-marked.false
+    let here : IsTrue (not c.args.marked) ↔ ReachesEnd p.arena.expr.nodes w k.region.root (ends_told t.way.sweeps (length w) k.region.end) c.args.x c.loop-place.place =
+    not_asked (ReachesEnd p.arena.expr.nodes w k.region.root (ends_told t.way.sweeps (length w) k.region.end) c.args.x c.loop-place.place) c.get.result c.args.marked c.if-get-marked.false
     (kept_mark p w t k c.args.x c.loop-place.place c.get.result c.requires.kept c.requires.x (omega (arith, above, from)) before mark) in
     record {
       above = omega (arith, above);
