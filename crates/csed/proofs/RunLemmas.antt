@@ -1,5 +1,5 @@
 -- From what an edit's one sink gained to the bytes that a caller gets.
-use Rattle.std.proofs.Common.{◌≡◌, ◌≢◌, ◌≤◌, ◌+◌, ◌==◌, ℕ, zero, suc, true, false, List, [], ◌∷◌, Option, Some, None, Result, Err, if◌then◌else◌, length, take, nat_eq, refl, sym, subst, ap, arith}
+use Rattle.std.proofs.Common.{◌≡◌, ◌≢◌, ◌≤◌, ◌+◌, ◌==◌, ℕ, zero, suc, true, false, List, [], ◌∷◌, Option, Some, Result, Err, if◌then◌else◌, length, take, nat_eq, refl, sym, subst, ap, arith}
 use Rattle.sedscript.specs.Program.{Program}
 use Rattle.sedengine.specs.Limits.{Limits}
 use Rattle.sedengine.specs.State.{Setting, State}

@@ -1,6 +1,6 @@
 -- Private to the proofs: no contract of a public item cites what stands here.
 -- What the calls that write the queue promise one another.
-use Rattle.std.specs.Prelude.{ℕ, List, Result, Ok, Err}
+use Rattle.std.specs.Prelude.{Result, Ok, Err}
 use Rattle.sedengine.specs.Limits.{Limits}
 use Rattle.sedengine.specs.Meters.{SinkView}
 use Rattle.sedengine.specs.State.{State, Setting}
