@@ -191,14 +191,6 @@ pub last_address : (text : List ℕ) (count at b : ℕ) → slice_get text at �
 unfolding address_at
 last_address text count at b e is = ap (address_of text count at) (e ∙ ap Some is)
 
-pub at_slash : (text : List ℕ) (count at b : ℕ) → slice_get text at ≡ Some b → b ≡ 47 → address_at text count at ≡ match_at text count 47 at
-unfolding address_at
-at_slash text count at b e is = ap (address_of text count at) (e ∙ ap Some is)
-
-pub at_backslash : (text : List ℕ) (count at b : ℕ) → slice_get text at ≡ Some b → b ≡ 92 → address_at text count at ≡ own_match text count (at + 1) (own_delimiter (slice_get text (at + 1)))
-unfolding address_at
-at_backslash text count at b e is = ap (address_of text count at) (e ∙ ap Some is)
-
 pub no_address : (text : List ℕ) (count at b : ℕ) → slice_get text at ≡ Some b → is_digit b ≡ false → b ≢ 36 → b ≢ 47 → b ≢ 92 → address_at text count at ≡ plainly (found None at count)
 unfolding address_at
 no_address text count at b e d last slash other =

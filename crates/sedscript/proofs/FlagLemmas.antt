@@ -1,14 +1,14 @@
 -- How the flags of `s` are read, a number or a file's name at once.
 use Rattle.std.proofs.Common.{◌≡◌, ◌≢◌, ◌⊎◌, inl, inr, ℕ, zero, suc, ◌+◌, ◌-◌, ◌<◌, ◌≤◌, List, [], ◌∷◌, length, take, drop, get_or, Result, Ok, Err, Bool, true, false, Some, None, ◌==◌, not, refl, sym, ap, subst, ◌∙◌, arith, if◌then◌else◌, drop-cons, drop-drop}
 use Rattle.std.specs.List.{prefix_len}
-use Rattle.std.proofs.lemmas.Bool.Decides.{eqb_tells, nat_tests}
+use Rattle.std.proofs.lemmas.Bool.Decides.{eqb_tells}
 use Rattle.std.proofs.lemmas.List.Sums.{prefix_len-le-length}
 use Rattle.sedscript.specs.declared.bytes.Sort.TheVariants.{Blank, Digit, Line}
 use Rattle.sedscript.specs.declared.types.ScriptFault.{ScriptFault}
 use Rattle.sedscript.specs.declared.items.Flags.{Flags}
 use Rattle.sedscript.specs.Bytes.{is_digit, belongs, past, bytes_between}
 use Rattle.sedscript.specs.Functions.{name_from, ◌>>=◌}
-use Rattle.sedscript.specs.Flags.{ends_flags, flags_from, with_number, with_flag, with_file}
+use Rattle.sedscript.specs.Flags.{ends_flags, flags_from, with_number, with_file}
 use Rattle.sedscript.specs.Answers.{with_rest}
 
 -- digits that were read are passed over
@@ -50,10 +50,11 @@ pub number_ok : (text digits : List ℕ) (empty : Bool) (f g : Flags) (at to d :
 number_ok text digits empty f g at to d h digit e is r =
     number_read text empty f at to d h digit e ∙ ap (λ (r : Result Flags ScriptFault). r >>= λ g. flags_from text empty g 0 to (drop to text)) (ap (with_number f at) (sym is) ∙ r)
 
-pub number_err : (text digits : List ℕ) (empty : Bool) (f : Flags) (x : ScriptFault) (at to d : ℕ) → at < length text → is_digit (get_or text at d) ≡ true → to ≡ past Digit text at → digits ≡ bytes_between text at to →
-    with_number f at digits ≡ Err x → flags_from text empty f 0 at (drop at text) ≡ with_rest text empty (Err x)
-number_err text digits empty f x at to d h digit e is r =
-    number_read text empty f at to d h digit e ∙ ap (λ (r : Result Flags ScriptFault). r >>= λ g. flags_from text empty g 0 to (drop to text)) (ap (with_number f at) (sym is) ∙ r)
+pub number_err : (text digits : List ℕ) (empty : Bool) (f : Flags) (x y : ScriptFault) (result : Result (Flags × ℕ) ScriptFault) (at to d : ℕ) → at < length text → is_digit (get_or text at d) ≡ true → to ≡ past Digit text at →
+    digits ≡ bytes_between text at to → with_number f at digits ≡ Err x → result ≡ Err y → y ≡ x → flags_from text empty f 0 at (drop at text) ≡ with_rest text empty result
+number_err text digits empty f x y result at to d h digit e is r bad same =
+    number_read text empty f at to d h digit e ∙ (ap (λ (r : Result Flags ScriptFault). r >>= λ g. flags_from text empty g 0 to (drop to text)) (ap (with_number f at) (sym is) ∙ r)
+    ∙ ap (with_rest text empty) (sym (bad ∙ ap (λ (z : ScriptFault). Err z) same)))
 
 -- flags end where a line ends
 line_ends : (text : List ℕ) (empty : Bool) (g : Flags) (to : ℕ) (bs : List ℕ) → flags_from text empty g 0 to (drop (prefix_len (belongs Line) bs) bs) ≡ Ok (g, to)
@@ -91,12 +92,3 @@ file_read text empty f result at b d h is digit ends w e =
     by_name : (t : Bool) → with_file f at (if t then None else Some (start, past Line text start)) ≡ with_rest text empty (with_file f at (if t then None else Some (start, past Line text start)))
     by_name true = refl
     by_name false = sym (name_ends text empty (record f { file = Some (start, past Line text start) }) start)
-
--- the flags of a letter at a place
-pub letter_read : (text : List ℕ) (empty : Bool) (f : Flags) (r : Result Flags ScriptFault) (at b d : ℕ) → at < length text → get_or text at d ≡ b → is_digit b ≡ false → ends_flags b ≡ false → b ≢ 119 → with_flag empty f at b ≡ r →
-    flags_from text empty f 0 at (drop at text) ≡ (r >>= λ g. flags_from text empty g 0 (at + 1) (drop (at + 1) text))
-letter_read text empty f r at b d h is digit ends w e =
-    let other : (b == 119) ≡ false = grind (arith, nat_tests) in
-    let one : at + 1 ≡ suc at = omega arith in
-    let front : drop at text ≡ b ∷ drop (suc at) text = drop-cons text at d h ∙ ap (λ (x : ℕ). x ∷ drop (suc at) text) is in
-    rw (one, front, digit, ends, other, e) refl

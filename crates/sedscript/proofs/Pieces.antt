@@ -1,5 +1,5 @@
 -- The pieces of parts.
-use Rattle.std.proofs.Common.{◌≡◌, ℕ, ◌-◌, ◌≤◌, List, [], ◌∷◌, ◌++◌, map, length, Option, Some, None, Bool, true, false, ◌==◌, ◌&&◌, not, ◌+◌, ◌<◌, suc, get_or, drop-cons, if◌then◌else◌, refl, sym, ap, subst, ◌∙◌, append_assoc, arith, drop, drop_of_length-le, Vec, Global}
+use Rattle.std.proofs.Common.{◌≡◌, ℕ, ◌-◌, ◌≤◌, List, [], ◌∷◌, ◌++◌, map, length, Option, Some, None, Bool, true, false, ◌==◌, if◌then◌else◌, refl, sym, ap, subst, ◌∙◌, append_assoc, arith, drop, drop_of_length-le, Vec, Global}
 use Rattle.std.specs.List.{cons_option}
 use Rattle.std.proofs.lemmas.List.{append-nil}
 use Rattle.std.proofs.lemmas.Bool.Decides.{nat_tests}
@@ -7,7 +7,7 @@ use Rattle.sedscript.specs.declared.substitution.Part.{Part}
 use Rattle.sedscript.specs.declared.substitution.Part.TheVariants.{Literal, Whole, Group}
 use Rattle.sedscript.specs.Bytes.{is_digit}
 use Rattle.sedscript.specs.Strings.{escapes}
-use Rattle.sedscript.specs.Replacement.{Piece, literal, whole, group, escaped_piece, piece_of, pieces_from, pieces_of, pieces_in, GroupsWithin, is_letter, escape_fault, replacement_fault}
+use Rattle.sedscript.specs.Replacement.{Piece, literal, whole, group, escaped_piece, piece_of, pieces_from, pieces_of, pieces_in, GroupsWithin, is_letter}
 use Rattle.sedscript.specs.Answers.{pieces_with}
 
 pub pieces_append : (ps qs : List Part) → pieces_in (ps ++ qs) ≡ pieces_in ps ++ pieces_in qs
@@ -76,27 +76,3 @@ pub parts_within : (d k : ℕ) (escaped : Bool) (bs : List ℕ) (ps qs : List Pi
 parts_within d k escaped bs ps qs le e is =
     let none : drop k bs ≡ [] = drop_of_length-le bs le in
     subst (GroupsWithin 9) (e ∙ (ap (λ (z : List ℕ). ps ++ pieces_from d escaped z) none ∙ (append-nil ps ∙ sym is))) (pieces_within d bs)
-
--- no fault is told at a byte
-pub fault_step : (d : ℕ) (limit : Option ℕ) (escaped more : Bool) (at k : ℕ) (bytes : List ℕ) → k < length bytes → more ≡ escapes escaped (get_or bytes k 0) → (escaped ≡ true → escape_fault d limit (at + k - 1) (get_or bytes k 0) ≡ None) →
-    replacement_fault d limit escaped (at + k) (drop k bytes) ≡ replacement_fault d limit more (at + (k + 1)) (drop (k + 1) bytes)
-fault_step d limit escaped more at k bytes h is none =
-    let next : suc (at + k) ≡ at + (k + 1) = omega arith in
-    let one : suc k ≡ k + 1 = omega arith in
-    ap (replacement_fault d limit escaped (at + k)) (drop-cons bytes k 0 h)
-    ∙ (by_escape escaped none
-    ∙ (ap (λ (e : Bool). replacement_fault d limit e (suc (at + k)) (drop (suc k) bytes)) (sym is)
-    ∙ (ap (λ (n : ℕ). replacement_fault d limit more n (drop (suc k) bytes)) next ∙ ap (λ (n : ℕ). replacement_fault d limit more (at + (k + 1)) (drop n bytes)) one)))
-  where
-    once : (t : Bool) → false ≡ (t && not true)
-    once true = refl
-    once false = refl
-
-    plain : (t : Bool) → t ≡ (t && not false)
-    plain true = refl
-    plain false = refl
-
-    by_escape : (e : Bool) → (e ≡ true → escape_fault d limit (at + k - 1) (get_or bytes k 0) ≡ None) →
-        replacement_fault d limit e (at + k) (get_or bytes k 0 ∷ drop (suc k) bytes) ≡ replacement_fault d limit (escapes e (get_or bytes k 0)) (suc (at + k)) (drop (suc k) bytes)
-    by_escape true none = rw (none refl) (ap (λ (t : Bool). replacement_fault d limit t (suc (at + k)) (drop (suc k) bytes)) (once (get_or bytes k 0 == 92)))
-    by_escape false none = ap (λ (t : Bool). replacement_fault d limit t (suc (at + k)) (drop (suc k) bytes)) (plain (get_or bytes k 0 == 92))

@@ -91,13 +91,11 @@ fn match_at(
     }
     let folded = folds_at(source.text, to + 1);
     let number = exprs.len();
-    match expression_at(source, exprs, delimiter, folded, from, to) {
-        Err(fault) => Err(fault),
-        Ok(_) => Ok((
-            Some(Address::Match(Some(number))),
-            past_flag(source.text, to + 1),
-        )),
-    }
+    expression_at(source, exprs, delimiter, folded, from, to)?;
+    Ok((
+        Some(Address::Match(Some(number))),
+        past_flag(source.text, to + 1),
+    ))
 }
 
 /// The address of the regular expression whose own delimiter stands at `place`, and the place after it.
@@ -191,10 +189,8 @@ fn second_at(
         (second_at source.now.text.now (length exprs.old.items) first at) }
     ensures within { IfOk result (λ found. (at ≤ found.1) × (found.1 ≤ length source.now.text.now)) }
 {
-    match address_at(source, exprs, at) {
-        Err(fault) => Err(fault),
-        Ok((second, next)) => with_second(first, at, next, second),
-    }
+    let (second, next) = address_at(source, exprs, at)?;
+    with_second(first, at, next, second)
 }
 
 /// The addresses of a command and the place after them. The first one, if there is one, ends at `at`, where a comma and
@@ -237,10 +233,8 @@ pub fn addresses_at(
         (addresses_at source.now.text.now (length exprs.old.items) at) }
     ensures within { IfOk result (λ found. (at ≤ found.1) × (found.1 ≤ length source.now.text.now)) }
 {
-    match address_at(source, exprs, at) {
-        Err(fault) => Err(fault),
-        Ok((first, next)) => after_first(source, exprs, first, next),
-    }
+    let (first, next) = address_at(source, exprs, at)?;
+    after_first(source, exprs, first, next)
 }
 
 /// The addresses with the `!` that may follow them at a place, and the place after it.

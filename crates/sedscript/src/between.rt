@@ -114,22 +114,18 @@ pub fn transliterate_at(text: &[u8], at: usize) -> Result<(Function, usize), Scr
     ensures is { result ≡ transliterate_at text.now at }
     ensures within { IfOk result (λ found. (at < found.1) × (found.1 ≤ length text.now)) }
 {
-    match transliterate_strings(text, at + 1) {
-        Err(fault) => Err(fault),
-        Ok(strings) => {
-            match strings_fault(
-                text,
-                strings.delimiter,
-                at,
-                strings.from,
-                strings.middle,
-                strings.to,
-            ) {
-                Some(fault) => Err(fault),
-                None => ended(text, Function::Transliterate(strings), strings.to + 1),
-            }
-        }
+    let strings = transliterate_strings(text, at + 1)?;
+    if let Some(fault) = strings_fault(
+        text,
+        strings.delimiter,
+        at,
+        strings.from,
+        strings.middle,
+        strings.to,
+    ) {
+        return Err(fault);
     }
+    ended(text, Function::Transliterate(strings), strings.to + 1)
 }
 
 /// Whether the flags of `s`, whose regular expression isn't empty, make letters match without regard to case. They
@@ -154,10 +150,8 @@ fn flagged(
     ensures is { result ≡ flagged text.now strings expression }
     ensures within { IfOk result (λ found. (strings.to < found.1) × (found.1 ≤ length text.now)) }
 {
-    match flags_at(text, expression.is_none(), strings.to + 1) {
-        Err(fault) => Err(fault),
-        Ok((flags, end)) => ended(text, Function::Substitute(strings, expression, flags), end),
-    }
+    let (flags, end) = flags_at(text, expression.is_none(), strings.to + 1)?;
+    ended(text, Function::Substitute(strings, expression, flags), end)
 }
 
 /// The command `s` with these strings, and its end. Its regular expression has this number in the script; None stands

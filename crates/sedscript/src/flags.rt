@@ -100,17 +100,11 @@ fn flag_at(text: &[u8], empty: bool, flags: Flags, at: usize) -> Result<(Flags, 
     let b = text[at];
     if b.is_ascii_digit() {
         let to = past(Sort::Digit, text, at);
-        match with_number(flags, at, bytes_between(text, at, to)) {
-            Err(fault) => Err(fault),
-            Ok(more) => Ok((more, to)),
-        }
+        Ok((with_number(flags, at, bytes_between(text, at, to))?, to))
     } else if b == b'w' {
         with_file(text, flags, at)
     } else {
-        match with_flag(empty, flags, at, b) {
-            Err(fault) => Err(fault),
-            Ok(more) => Ok((more, at + 1)),
-        }
+        Ok((with_flag(empty, flags, at, b)?, at + 1))
     }
 }
 

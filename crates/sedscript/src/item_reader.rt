@@ -31,17 +31,15 @@ fn substitute_with(
         return substituted(source.text, strings, None, None);
     }
     let number = exprs.len();
-    match expression_at(
+    let groups = expression_at(
         source,
         exprs,
         strings.delimiter,
         folds(source.text, strings),
         strings.from,
         strings.middle,
-    ) {
-        Err(fault) => Err(fault),
-        Ok(groups) => substituted(source.text, strings, Some(number), Some(groups)),
-    }
+    )?;
+    substituted(source.text, strings, Some(number), Some(groups))
 }
 
 /// The command `s` whose letter stands at `at`, and its end.
@@ -55,10 +53,8 @@ fn substitute_at(
         (substitute_at source.now.text.now (length exprs.old.items) at) }
     ensures within { IfOk result (λ found. (at < found.1) × (found.1 ≤ length source.now.text.now)) }
 {
-    match substitute_strings(source.text, at + 1) {
-        Err(fault) => Err(fault),
-        Ok(strings) => substitute_with(source, exprs, strings),
-    }
+    let strings = substitute_strings(source.text, at + 1)?;
+    substitute_with(source, exprs, strings)
 }
 
 /// The function whose letter stands at `at`, and the place after it. The letter is not `s`, and has this shape.
@@ -127,15 +123,9 @@ fn item_with(
         (function_at source.now.text.now (length exprs.old.items) addresses at) }
     ensures within { IfOk result (IsAfter at (length source.now.text.now)) }
 {
-    match allowed(addresses, letter, at) {
-        Err(fault) => Err(fault),
-        Ok(verb) => {
-            match function_with(source, exprs, verb, at) {
-                Err(fault) => Err(fault),
-                Ok((function, next)) => Ok(item_of(addresses, at, function, next)),
-            }
-        }
-    }
+    let verb = allowed(addresses, letter, at)?;
+    let (function, next) = function_with(source, exprs, verb, at)?;
+    Ok(item_of(addresses, at, function, next))
 }
 
 /// The item of the function that is expected at `at`, after these addresses.
@@ -186,10 +176,8 @@ pub fn item_at(source: &Source, exprs: &mut Vec<Expr>, at: usize) -> Result<Here
     match byte_at(source.text, start) {
         None => Ok(Here::Ends),
         Some(_) => {
-            match addresses_at(source, exprs, start) {
-                Err(fault) => Err(fault),
-                Ok((addresses, next)) => function_after(source, exprs, addresses, next),
-            }
+            let (addresses, next) = addresses_at(source, exprs, start)?;
+            function_after(source, exprs, addresses, next)
         }
     }
 }

@@ -1,9 +1,9 @@
-use Rattle.std.proofs.Common.{ℕ, sym, subst, ◌∙◌, length, Some}
-use Rattle.sedscript.specs.Reading.{Reading}
-use Rattle.sedscript.specs.Answers.{as_addressed, Agrees, ComesFrom}
-use Rattle.sedscript.specs.Addresses.{Addressed, address_at, line_of}
+use Rattle.std.proofs.Common.{ℕ, sym, subst, ◌∙◌, length}
+use Rattle.sedscript.specs.Answers.{as_addressed, Agrees}
+use Rattle.sedscript.specs.Addresses.{address_at, line_of}
+use Rattle.std.proofs.Common.{Some}
 use Rattle.sedscript.specs.Bytes.{bytes_between, with_digits}
-use Rattle.sedscript.proofs.Coming.{gives_plain, line_comes, no_byte, last_address, at_slash, at_backslash, no_address}
+use Rattle.sedscript.proofs.Coming.{gives_plain, line_comes, no_byte, last_address, no_address}
 use Rattle.sedscript.proofs.addresses.address_at.Goals as goal
 
 pub returns-then-is_ascii_digit-clause-comes : goal.returns-then-is_ascii_digit-clause-comes
@@ -25,13 +25,3 @@ pub returns-else-is_ascii_digit-clause-comes : goal.returns-else-is_ascii_digit-
 returns-else-is_ascii_digit-clause-comes c =
     gives_plain c.args.source.now.text.now c.args.source.now.kind c.args.source.now.max_nodes c.args.exprs.now.items (address_at c.args.source.now.text.now (length c.args.exprs.now.items) c.args.at) _
     (no_address c.args.source.now.text.now (length c.args.exprs.now.items) c.args.at c.in-Some.b (sym c.byte_at.ensures ∙ c.in-Some.is) (sym c.is_ascii_digit.ensures.value ∙ c.if-is_ascii_digit.false) c.in-Some.b-test.0.0.1 c.in-Some.b-test.0.1 c.in-Some.b-test.1)
-
-pub returns-in-Some-eq47-clause-comes : goal.returns-in-Some-eq47-clause-comes
-returns-in-Some-eq47-clause-comes c =
-    subst (λ (r : Reading Addressed). ComesFrom c.args.source.now c.args.exprs.now.items c.match_at.new.exprs.items as_addressed c.match_at.result r)
-    (sym (at_slash c.args.source.now.text.now (length c.args.exprs.now.items) c.args.at c.in-Some-eq47.field-0 (sym c.byte_at.ensures ∙ c.in-Some-eq47.is) c.in-Some-eq47.field-0-test)) c.match_at.ensures.comes
-
-pub returns-in-Some-eq92-clause-comes : goal.returns-in-Some-eq92-clause-comes
-returns-in-Some-eq92-clause-comes c =
-    subst (λ (r : Reading Addressed). ComesFrom c.args.source.now c.args.exprs.now.items c.own_match.new.exprs.items as_addressed c.own_match.result r)
-    (sym (at_backslash c.args.source.now.text.now (length c.args.exprs.now.items) c.args.at c.in-Some-eq92.field-0 (sym c.byte_at.ensures ∙ c.in-Some-eq92.is) c.in-Some-eq92.field-0-test)) c.own_match.ensures.comes

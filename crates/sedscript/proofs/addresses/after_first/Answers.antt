@@ -1,5 +1,4 @@
-use Rattle.std.proofs.Common.{arith, ℕ, sym, ap, ◌∙◌, length, Ok, slice_get}
-use Rattle.std.proofs.lemmas.Grind.{common_steps}
+use Rattle.std.proofs.Common.{ℕ, sym, ap, ◌∙◌, length, Ok, slice_get}
 use Rattle.sedscript.specs.declared.items.Addresses.{Addresses}
 use Rattle.sedscript.specs.Bytes.{is_byte}
 use Rattle.sedscript.specs.Reading.{plainly}
@@ -18,6 +17,3 @@ returns-else-is_byte-clause-comes c =
     (only_first c.args.source.now.text.now (length c.args.exprs.now.items) c.args.at c.in-Some.address c.args.first c.in-Some.is
     (ap (λ (z : ℕ). is_byte 44 (slice_get c.args.source.now.text.now z)) (sym c.past-comma.ensures.is) ∙ ap (is_byte 44) (sym c.byte_at.ensures) ∙ (sym c.is_byte.ensures ∙ c.if-is_byte.false))
     ∙ ap (λ (a : Addresses). plainly (Ok (record { addresses = a; at = c.args.at; count = length c.args.exprs.now.items }))) (sym c.addresses_of-else-is_byte.ensures))
-
-pub returns-then-is_byte-clause-comes : goal.returns-then-is_byte-clause-comes
-returns-then-is_byte-clause-comes c = grind (arith, common_steps)

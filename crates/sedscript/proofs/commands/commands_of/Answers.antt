@@ -1,4 +1,3 @@
-use Rattle.std.proofs.lemmas.Grind.{common_steps}
 use Rattle.std.proofs.Common.{arith}
 use Rattle.sedscript.proofs.Blocks.{blocks_step}
 use Rattle.sedscript.proofs.TargetFaults.{commands_step}
@@ -16,6 +15,3 @@ items-preserved c =
       rest = commands_step c.args.text.now c.args.items.now c.items.k c.items.counts c.counts_with-counts.result c.get-item.result c.action_of.result c.items.commands.items c.add_command.new.commands.items _
           c.get-item.ensures.is c.action_of.ensures c.in_ok-add_command.ensures c.counts_with-counts.ensures.is c.items.invariant.rest;
     }
-
-pub returns : goal.returns
-returns c = grind (arith, common_steps)

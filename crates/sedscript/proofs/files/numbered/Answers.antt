@@ -1,4 +1,3 @@
-use Rattle.std.proofs.lemmas.Grind.{common_steps}
 use Rattle.std.proofs.Common.{◌≡◌, ◌+◌, ◌∙◌, arith, subst, sym, ap, take, ℕ, List, Option}
 use Rattle.sedscript.specs.Files.{files_in, file_at}
 use Rattle.sedscript.specs.Tables.{first_number, with_name, NumbersAre}
@@ -18,6 +17,3 @@ items-preserved c =
       names = both.0 ∙ sym step;
       numbers = subst (λ (ns : List (List ℕ)). NumbersAre (first_number c.args.file_use) ns c.add_file.new.numbers) (sym step) both.1;
     }
-
-pub returns : goal.returns
-returns c = grind (arith, common_steps)

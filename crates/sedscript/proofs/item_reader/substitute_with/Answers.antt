@@ -4,7 +4,7 @@ use Rattle.sedscript.specs.declared.items.Function.{Function}
 use Rattle.sedscript.specs.Reading.{Reading}
 use Rattle.sedscript.specs.FirstFault.{Fails}
 use Rattle.sedscript.specs.Answers.{Comes, as_function}
-use Rattle.sedscript.proofs.Coming.{comes_err, comes_plain, substitute_empty, substitute_is, substitute_comes, functions_agree}
+use Rattle.sedscript.proofs.Coming.{comes_err, comes_as_err, comes_plain, substitute_empty, substitute_is, substitute_comes, functions_agree}
 use Rattle.sedscript.proofs.item_reader.substitute_with.Goals as goal
 
 pub returns-then-strings-clause-comes : goal.returns-then-strings-clause-comes
@@ -13,13 +13,14 @@ returns-then-strings-clause-comes c =
     (sym (substitute_empty c.args.source.now.text.now (length c.args.exprs.now.items) c.args.strings c.if-strings.true))
     (comes_plain c.args.source.now.text.now c.args.source.now.kind c.args.source.now.max_nodes _ _ as_function _ _ refl (functions_agree (length c.args.exprs.now.items) _ _ c.substituted.ensures.is))
 
-pub returns-in-Err-clause-comes : goal.returns-in-Err-clause-comes
-returns-in-Err-clause-comes c =
-    subst (λ (r : Reading (Function × ℕ)). Fails c.args.source.now.text.now c.args.source.now.kind c.args.source.now.max_nodes r c.in-Err.fault ⊎ (c.in-Err.fault ≡ NO_MEMORY))
+pub returns-in_err-groups-clause-comes : goal.returns-in_err-groups-clause-comes
+returns-in_err-groups-clause-comes c =
+    comes_as_err c.args.source.now.text.now c.args.source.now.kind c.args.source.now.max_nodes _ _ as_function c.from_residual.result _ c.in_err-groups.field-0.0 c.from_residual.ensures.1
+    (subst (λ (r : Reading (Function × ℕ)). Fails c.args.source.now.text.now c.args.source.now.kind c.args.source.now.max_nodes r c.in_err-groups.field-0.0 ⊎ (c.in_err-groups.field-0.0 ≡ NO_MEMORY))
     (sym (substitute_is c.args.source.now.text.now (length c.args.exprs.now.items) c.args.strings c.folds.result c.if-strings.false c.folds.ensures))
-    (comes_err c.args.source.now.text.now c.args.source.now.kind c.args.source.now.max_nodes _ _ _ c.in-Err.ensures.comes)
+    (comes_err c.args.source.now.text.now c.args.source.now.kind c.args.source.now.max_nodes _ _ c.in_err-groups.field-0.0 c.in_err-groups.ensures.comes))
 
-pub returns-in-Ok-clause-comes : goal.returns-in-Ok-clause-comes
-returns-in-Ok-clause-comes c =
-    substitute_comes c.args.source.now.text.now c.args.source.now.kind c.args.source.now.max_nodes c.len-number.result c.in-Ok.groups c.args.strings c.folds.result c.args.exprs.now.items c.expression_at.new.exprs.items c.substituted-in-Ok.result
-    c.if-strings.false c.folds.ensures (omega (arith, c.len-number.ensures)) c.in-Ok.ensures.comes c.substituted-in-Ok.ensures.is
+pub returns-clause-comes : goal.returns-clause-comes
+returns-clause-comes c =
+    substitute_comes c.args.source.now.text.now c.args.source.now.kind c.args.source.now.max_nodes c.len-number.result c.in_ok-groups.groups c.args.strings c.folds.result c.args.exprs.now.items c.expression_at.new.exprs.items c.substituted-2.result
+    c.if-strings.false c.folds.ensures (omega (arith, c.len-number.ensures)) c.in_ok-groups.ensures.comes c.substituted-2.ensures.is

@@ -1,5 +1,3 @@
-use Rattle.std.proofs.Common.{arith}
-use Rattle.std.proofs.lemmas.Grind.{common_steps}
 use Rattle.sedscript.proofs.Bounds.{means_named}
 use Rattle.sedscript.proofs.Exclusive.{judged_no_fault}
 use Rattle.sedscript.proofs.reader.read_script.Goals as goal
@@ -12,18 +10,3 @@ of-requires c =
 pub returns-clause-no_fault : goal.returns-clause-no_fault
 returns-clause-no_fault c = λ f bad.
     judged_no_fault c.args.text.now c.args.kind c.args.max_nodes c.judge.new.items c.judge.new.exprs.items c.in_ok-targets.ensures.judged.to f c.reads_as_one.ensures c.in_ok-targets.ensures.judged.judged bad
-
-pub returns-clause-means : goal.returns-clause-means
-returns-clause-means c = grind (arith, common_steps)
-
-pub returns-in_err-targets-clause-fault : goal.returns-in_err-targets-clause-fault
-returns-in_err-targets-clause-fault c = grind (arith, common_steps)
-
-pub returns-in_err-files-clause-fault : goal.returns-in_err-files-clause-fault
-returns-in_err-files-clause-fault c = grind (arith, common_steps)
-
-pub returns-in_err-commands-clause-fault : goal.returns-in_err-commands-clause-fault
-returns-in_err-commands-clause-fault c = grind (arith, common_steps)
-
-pub returns-in_err-named-clause-fault : goal.returns-in_err-named-clause-fault
-returns-in_err-named-clause-fault c = grind (arith, common_steps)

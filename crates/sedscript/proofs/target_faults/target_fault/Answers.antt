@@ -1,4 +1,3 @@
-use Rattle.std.proofs.lemmas.Grind.{common_steps}
 use Rattle.std.proofs.Common.{arith}
 use Rattle.sedscript.proofs.Blocks.{blocks_step}
 use Rattle.sedscript.proofs.TargetFaults.{target_fault_step}
@@ -13,9 +12,3 @@ items-preserved c = record {
   rest = target_fault_step c.args.text.now c.args.items.now c.items.k c.items.depth c.depth_after-depth.result c.get-item.result c.target_fault_at-fault.result c.is_some.result _
       c.get-item.ensures.is c.target_fault_at-fault.ensures c.is_some.ensures c.if-is_some.false c.depth_after-depth.ensures.is c.items.invariant.rest;
 }
-
-pub returns : goal.returns
-returns c = grind (arith, common_steps)
-
-pub returns-then-is_some : goal.returns-then-is_some
-returns-then-is_some c = grind (arith, common_steps)

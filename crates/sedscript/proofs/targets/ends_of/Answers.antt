@@ -1,4 +1,3 @@
-use Rattle.std.proofs.lemmas.Grind.{common_steps}
 use Rattle.std.proofs.Common.{◌≡◌, ◌+◌, ◌-◌, ◌∙◌, ℕ, List, take, drop, reverse, ap, arith}
 use Rattle.sedscript.specs.declared.items.Item.{Item}
 use Rattle.sedscript.specs.Targets.{commands_in}
@@ -40,6 +39,3 @@ put_end-blocks-requires-clause-before c =
     let k : ℕ = c.items.k - 1 in
     let back : c.items.k ≡ k + 1 = omega arith in
     blocks_some c.args.items.now k c.items.blocks c.get-item.result c.get-item.ensures.is (c.items.invariant.blocks ∙ ap (λ (z : ℕ). blocks_in (take z c.args.items.now)) back)
-
-pub returns : goal.returns
-returns c = grind (arith, common_steps)

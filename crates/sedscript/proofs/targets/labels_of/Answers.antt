@@ -1,4 +1,3 @@
-use Rattle.std.proofs.lemmas.Grind.{common_steps}
 use Rattle.std.proofs.Common.{arith}
 use Rattle.sedscript.proofs.Labels.{counted_step, labels_step}
 use Rattle.sedscript.proofs.targets.labels_of.Goals as goal
@@ -10,6 +9,3 @@ items-preserved c = record {
   counted = counted_step c.args.items.now c.items.k c.items.n c.counted-n.result c.get-item.result c.get-item.ensures.is c.items.invariant.counted c.counted-n.ensures.is;
   labels = labels_step c.args.text.now c.args.items.now c.items.k c.items.n c.get-item.result c.items.labels c.add_label.new.labels c.get-item.ensures.is c.items.invariant.counted c.items.invariant.labels c.in_ok-add_label.ensures;
 }
-
-pub returns : goal.returns
-returns c = grind (arith, common_steps)
