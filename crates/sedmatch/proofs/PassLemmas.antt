@@ -14,6 +14,7 @@ use Rattle.sedtext.proofs.GroupLemmas.{Captures-none, no_groups_at}
 use Rattle.sedtext.specs.Needed.{Narrowed}
 use Rattle.sedpass.specs.Decide.{AreGroupTables, AreRoomy, HasDesk, HasSpace, SameRooms, SameTables}
 use Rattle.sedpass.specs.Kept.{SameSpace}
+use Rattle.sedpass.specs.Walks.{EntersGroups}
 use Rattle.sedpass.specs.Table.{IsRoomy, IsTable, SameRoom, SameShape}
 use Rattle.sedpass.specs.declared.groups.GroupRoom.{GroupRoom}
 use Rattle.sedpass.specs.declared.groups.GroupTables.{GroupTables}
@@ -23,6 +24,7 @@ use Rattle.sedpass.specs.declared.rows.Work.{Work}
 use Rattle.sedpass.specs.declared.table.Table.{Table}
 use Rattle.sedpass.proofs.DecideLemmas.{has_desk, roomy_again, space_again}
 use Rattle.sedpass.proofs.TableLemmas.{roomy_fewer, roomy_still}
+use Rattle.sedpass.proofs.WalkLemmas.{enters_nothing}
 use Rattle.sedmatch.specs.Passes.{AreOwn, IsDesk, any_way}
 use Rattle.sedmatch.specs.declared.passes.OwnTables.{OwnTables}
 use Rattle.sedmatch.specs.declared.scratch.Desk.{Desk}
@@ -46,6 +48,12 @@ pub whole_reported : (e : WrittenExpression) (w : List ℕ) (i j : ℕ) → IsEx
 whole_reported e w i j expr none s =
     let some = expr.arena.nonempty in
     (no_groups, Captures-none (expression_tree e) (no_groups_at e.nodes e.groups expr none (length e.nodes - 1) (omega (arith, some))) w i j no_groups s, refl)
+
+-- no node is entered for an expression without groups
+pub none_entered : (e : WrittenExpression) (w : List ℕ) (i j s : ℕ) → IsExpr e.nodes e.groups → e.groups ≡ 0 → EntersGroups (expression_tree e) w i j s s
+none_entered e w i j s expr none =
+    let some = expr.arena.nonempty in
+    enters_nothing (expression_tree e) w i j s (no_groups_at e.nodes e.groups expr none (length e.nodes - 1) (omega (arith, some)))
 
 -- one entry alone takes no step
 pub one_alone : (s n : ℕ) → n ≡ 1 → TakesAtLeast s s (n - 1)

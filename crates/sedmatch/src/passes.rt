@@ -1,7 +1,6 @@
 //! An expression that is searched by passes: what is found out of it once, its tables, and what they tell of a text.
 ghost use Rattle.std.specs.Prelude.{◌≡◌, ℕ, List, ◌+◌, ◌-◌, ◌*◌, ◌/◌, ◌<◌, ◌≤◌, ◌↔◌, [], length, vec_capacity, IfOk, IfSome, IsTrue};
 ghost use Rattle.sedre.specs.Arena.{IsExpr};
-ghost use Rattle.sedre.specs.Tree.{Tree};
 ghost use Rattle.sedre.specs.Written.{WrittenExpression, expression_tree};
 ghost use Rattle.sedre.specs.Steps.{Takes, TakesAtLeast};
 ghost use Rattle.sedtext.specs.Beginnings.{AllBegin};
@@ -246,7 +245,7 @@ pub fn matches_by(
 pub fn whole_alone(span: (usize, usize)) -> [Option<(usize, usize)>; 10]
     ensures report { (e : WrittenExpression) (w : List ℕ) → IsExpr e.nodes e.groups → e.groups ≡ 0 → Matches (expression_tree e) w span.0 span.1 → IsReport (expression_tree e) w span.0 span.1 result }
     ensures one { found result ≡ 1 }
-    ensures entered { (e : Tree) (s : ℕ) → EntersGroups e result s s }
+    ensures entered { (e : WrittenExpression) (w : List ℕ) (s : ℕ) → IsExpr e.nodes e.groups → e.groups ≡ 0 → EntersGroups (expression_tree e) w span.0 span.1 s s }
 {
     let mut groups = [None; 10];
     groups[0] = Some(span);
@@ -286,7 +285,7 @@ fn groups_with(
     ensures cost { let m = length subject.entry.prepared.now.arena.expr.nodes in
         Takes steps.old steps.new (172 * m * (m - 1) * (span.1 - span.0) + 2 * m) }
     ensures counts { TakesAtLeast steps.old steps.new (found result - 1) }
-    ensures entered { EntersGroups (expression_tree subject.entry.prepared.now.arena.expr) result steps.old steps.new }
+    ensures entered { EntersGroups (expression_tree subject.entry.prepared.now.arena.expr) subject.entry.text.now span.0 span.1 steps.old steps.new }
 {
     let due = all_groups(subject.prepared);
     decide(subject, tables, room, due, span.0, span.1, steps)
@@ -312,7 +311,7 @@ pub fn shared_groups(
     ensures cost { let m = length subject.entry.prepared.now.arena.expr.nodes in
         Takes steps.old steps.new (172 * m * (m - 1) * (span.1 - span.0) + 2 * m) }
     ensures counts { TakesAtLeast steps.old steps.new (found result - 1) }
-    ensures entered { EntersGroups (expression_tree subject.entry.prepared.now.arena.expr) result steps.old steps.new }
+    ensures entered { EntersGroups (expression_tree subject.entry.prepared.now.arena.expr) subject.entry.text.now span.0 span.1 steps.old steps.new }
 {
     if subject.prepared.arena.groups() == 0 {
         return whole_alone(span);
@@ -345,7 +344,7 @@ pub fn groups_by(
     ensures cost { let m = length passes.old.sought.prepared.arena.expr.nodes in
         Takes steps.old steps.new (172 * m * (m - 1) * (span.1 - span.0) + 2 * m) }
     ensures counts { TakesAtLeast steps.old steps.new (found result - 1) }
-    ensures entered { EntersGroups (expression_tree passes.old.sought.prepared.arena.expr) result steps.old steps.new }
+    ensures entered { EntersGroups (expression_tree passes.old.sought.prepared.arena.expr) text.now span.0 span.1 steps.old steps.new }
 {
     if passes.sought.prepared.arena.groups() == 0 {
         return whole_alone(span);

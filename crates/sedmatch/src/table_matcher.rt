@@ -294,7 +294,7 @@ impl TableMatcher {
         ensures linear_cost { let m = length self.old.nodes in
             Takes steps.old steps.new (172 * m * (m - 1) * (end - start) + 2 * m) }
         ensures counts { TakesAtLeast steps.old steps.new (spans_in result - 1) }
-        ensures entered { EntersGroups (expression_tree self.old) result steps.old steps.new }
+        ensures entered { EntersGroups (expression_tree self.old) text.now start end steps.old steps.new }
     {
         match &mut self.engine {
             Engine::Direct(expr, _) => {

@@ -101,7 +101,7 @@ pub fn find(
     ensures cost_of_none { let m = length expr.now.nodes in let n = length text.now in
         IfNone result (StepsWithin steps.old steps.new (64 * m * (n + 1) * (n + 1)) × StepsWithin steps.old steps.new (143 * m * (n + 1))) }
     ensures counts { IfSome result (λ f. TakesAtLeast steps.old steps.new (f.end - f.start)) }
-    ensures entered { IfSome result (λ f. EntersGroups (expression_tree expr.now) f.groups steps.old steps.new) }
+    ensures entered { IfSome result (λ f. EntersGroups (expression_tree expr.now) text.now f.start f.end steps.old steps.new) }
 {
     scratch.once.prepared.fit(expr, steps);
     let span = first_span(&mut scratch.once, text, from, &mut scratch.desk, steps)?;

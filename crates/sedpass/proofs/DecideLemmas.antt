@@ -39,7 +39,7 @@ use Rattle.sedpass.proofs.OwedLemmas.{owed_small}
 use Rattle.sedpass.proofs.LengthLemmas.{all_long, copies_long}
 use Rattle.sedpass.proofs.MeetingLemmas.{set_early}
 use Rattle.sedpass.specs.Groups.{reported, holds, has_group}
-use Rattle.sedpass.specs.Overlay.{is_due, settle, drop_groups, GroupStandsIn, NoneDue, IsStart}
+use Rattle.sedpass.specs.Walks.{is_due, settle, drop_groups, GroupStandsIn, NoneDue, IsStart}
 use Rattle.sedpass.specs.Lengths.{AllLong}
 use Rattle.sedpass.specs.Prepared.{IsFacts, nullable, null_in, is_set, run_of}
 use Rattle.sedpass.specs.Turns.{Blank}
@@ -47,7 +47,8 @@ use Rattle.sedpass.specs.declared.group_set.GroupSet.{GroupSet}
 use Rattle.sedpass.specs.declared.nodes.Facts.{Facts}
 use Rattle.sedpass.specs.declared.nodes.Kind.{Kind}
 use Rattle.sedpass.proofs.OverlayLemmas.{make-state, settle-due, settle-not, none_there}
-use Rattle.sedpass.proofs.TurnLemmas.{copy_spans, closed, same_bools, drop_as}
+use Rattle.sedpass.proofs.TurnLemmas.{closed, same_bools, drop_as}
+use Rattle.sedpass.proofs.WalkLemmas.{copy_spans}
 
 -- an entry of the flags
 pub flags_at : (s : GroupSet) (k : ℕ) → slice_index_or (flags_of s) k false ≡ holds s k

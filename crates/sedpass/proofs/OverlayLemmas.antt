@@ -4,10 +4,11 @@ use Rattle.std.specs.Prelude.{if◌then◌else◌, slice_set, slice_index_or, re
 use Rattle.std.proofs.lemmas.Bool.{cases_Bool}
 use Rattle.std.proofs.lemmas.List.{get_or-set_other}
 use Rattle.sedre.specs.Tree.{Tree, empty, set, begin, end, seq, alt, group, star, opt}
-use Rattle.sedtext.specs.Caps.{Captures}
 use Rattle.sedtext.specs.Groups.{Groups, forget, no_groups}
 use Rattle.sedtext.specs.Matching.{groups_after}
-use Rattle.sedpass.specs.Overlay.{Overlay, lay, over, touch, erased, State, state_of, is_due, settle, drop_groups, Back, GroupStandsIn, NoneDue, pick, BackReportLaw, StartLaw, WantedLaw, UntouchedLaw, EachBackLaw, LeftLaw, LeftAtOnceLaw, StaysLaw}
+use Rattle.sedtext.specs.Caps.{Captures}
+use Rattle.sedpass.specs.Walks.{State, is_due, settle, drop_groups, GroupStandsIn, NoneDue}
+use Rattle.sedpass.specs.Overlay.{Overlay, lay, over, touch, erased, state_of, Back, pick, BackReportLaw, StartLaw, WantedLaw, UntouchedLaw, EachBackLaw, LeftLaw, LeftAtOnceLaw, StaysLaw}
 use Rattle.sedtext.proofs.CapsLemmas.{Captures-unique}
 use Rattle.sedtext.proofs.MatchingLemmas.{groups_after-is}
 

@@ -8,11 +8,12 @@ use Rattle.sedre.specs.declared.types.Node.TheVariants.{Empty, Set, Begin, End, 
 use Rattle.std.specs.Prelude.{IfSome, slice_index_or}
 use Rattle.sedre.specs.Steps.{TakesExactly, Takes, TakesAtLeast}
 use Rattle.sedtext.specs.Caps.{IsReport}
+use Rattle.sedtext.specs.Reach.{At}
 use Rattle.sedtext.specs.Groups.{Groups}
 use Rattle.sedtext.proofs.NodeLemmas.{node_at, size-pos}
-use Rattle.sedpass.specs.Decide.{nodes_in, text_in, told_of, LooksAt, undecided, GoesOn, EndsRegion, IsMatch, Turns, next_of, waiting, part_cost, kind_cost, tasks_cost, long_of, IsSpent}
-use Rattle.sedpass.specs.Overlay.{State, Back, NoneDue, IsStart}
-use Rattle.sedpass.specs.Turns.{Runs, AreReady, AreWithin, AreShort, Reduces, LooksAtEntered, weights, looks, descents, tasks_of}
+use Rattle.sedpass.specs.Decide.{nodes_in, text_in, told_of, LooksAt, undecided, GoesOn, EndsRegion, IsMatch, Turns, TurnsLooked, next_of, waiting, part_cost, kind_cost, tasks_cost, long_of, IsSpent}
+use Rattle.sedpass.specs.Walks.{State, NoneDue, IsStart}
+use Rattle.sedpass.specs.Turns.{Runs, AreReady, AreWithin, AreShort, Reduces, Progress, weights, looks, descents, tasks_of, entered_at}
 use Rattle.sedpass.specs.declared.group_set.GroupSet.{GroupSet}
 use Rattle.sedpass.specs.declared.groups.Matched.{Matched}
 use Rattle.sedpass.specs.declared.groups.Task.{Task}
@@ -24,12 +25,12 @@ use Rattle.sedpass.specs.declared.kept.Subject.{Subject}
 use Rattle.sedpass.proofs.DecideLemmas.{flags_at}
 use Rattle.sedpass.proofs.OverlayLemmas.{wanted}
 use Rattle.sedpass.specs.Groups.{holds}
-use Rattle.sedpass.proofs.TurnLemmas.{begins, leave_turn, turned}
-use Rattle.sedpass.proofs.WalkLemmas.{looks_same, looks_on}
+use Rattle.sedpass.proofs.TurnLemmas.{begins, leave_turn, runs_back, turned}
+use Rattle.sedpass.proofs.WalkLemmas.{still, goes_on}
 
 -- no group in the match is due: it is left
 pub left_turn : (s : Subject) (here : Matched) (due : GroupSet) (spans : Groups) → IsArena (nodes_in s) → IsMatch s here → NoneDue (tree_at (nodes_in s) here.node) (told_of due spans) →
-    Turns s here (told_of due spans) (told_of due spans) Done
+    Turns s here (told_of due spans) (told_of due spans) Done 0
 left_turn s here due spans arena there none =
     let node = node_at (nodes_in s) here.node there.0 in
     leave_turn (nodes_in s) (text_in s) here.node here.start here.stop node.0 (told_of due spans)
@@ -50,9 +51,8 @@ pub record Spined (s : Subject) (start : List Task) (begin : State) (before : �
   pub goes : GoesOn s r at
   pub ready : AreReady (nodes_in s) (text_in s) (waiting at stack)
   pub less : weights (nodes_in s) (waiting at stack) + done at ≤ weights (nodes_in s) start
-  pub run : (f : State) → Runs (nodes_in s) (text_in s) (waiting at stack) now f → Runs (nodes_in s) (text_in s) start begin f
   pub spent : IsSpent (nodes_in s) start (waiting at stack) before after
-  pub entered : LooksAtEntered (nodes_in s) start begin.spans (waiting at stack) now.spans before after
+  pub progress : Progress (nodes_in s) (text_in s) start begin (waiting at stack) now before after
 
 pub spine_begins : (s : Subject) (r : Region) (now : State) (here : Matched) (stack : List Task) (before : ℕ) → EndsRegion s r here →
     AreReady (nodes_in s) (text_in s) (waiting (Some here) stack) → Spined s (waiting (Some here) stack) now before r now (Some here) stack before
@@ -60,9 +60,8 @@ spine_begins s r now here stack before ends ready = record {
   goes = ends;
   ready = ready;
   less = omega arith;
-  run = λ f run. run;
   spent = λ long short. (short, (omega arith, omega arith));
-  entered = looks_same (nodes_in s) (waiting (Some here) stack) now.spans before;
+  progress = still (nodes_in s) (text_in s) (waiting (Some here) stack) now before;
 }
 
 cost_more : (m short long : ℕ) → short ≤ long → part_cost m short ≤ part_cost m long
@@ -108,22 +107,21 @@ turn_paid s long p rest (Two next (Apart y i j)) steps after short fewer paid =
     (omega (arith, fewer, size-pos (tree_at nodes next.node), size-pos (tree_at nodes y))) (omega (arith, fewer)) (omega (arith, paid))
 
 pub spine_goes : (s : Subject) (start : List Task) (begin old new : State) (before steps after : ℕ) (r r' : Region) (p : Matched) (stack stack' : List Task) (then : Then) (at : Option Matched) →
-    Spined s start begin before r old (Some p) stack steps → Turns s p old new then → GoesOn s r' (next_of then) → Takes steps after (kind_cost s p (next_of then) + 1) →
+    Spined s start begin before r old (Some p) stack steps → TurnsLooked s p old new then steps after → GoesOn s r' (next_of then) → Takes steps after (kind_cost s p (next_of then) + 1) →
     at ≡ next_of then → waiting at stack' ≡ tasks_of then ++ reverse stack →
-    ((rest : List Task) → LooksAtEntered (nodes_in s) (Apart p.node p.start p.stop ∷ rest) old.spans (tasks_of then ++ rest) new.spans steps after) →
     Spined s start begin before r' new at stack' after
-spine_goes s start begin old new before steps after r r' p stack stack' then at spined turn goes paid at_is items entered =
+spine_goes s start begin old new before steps after r r' p stack stack' then at spined looked goes paid at_is items =
     let nodes = nodes_in s in
     let w = text_in s in
     let rest = reverse stack in
-    let all = turned nodes w p.node p.start p.stop old new (tasks_of then) rest turn spined.ready in
-    let less = all.2 in
+    let turn = looked.turn in
+    let all = turned nodes w p.node p.start p.stop looked.n old new (tasks_of then) rest turn spined.ready in
+    let less = all.1 in
     let up = spined.ready.1 in
     record {
       goes = subst (GoesOn s r') (sym at_is) goes;
-      ready = subst (AreReady nodes w) (sym items) all.1;
-      less = done_less at (weights nodes (waiting at stack')) (weights nodes (waiting (Some p) stack)) (weights nodes start) (omega (arith, all.2, ap (weights nodes) items)) spined.less;
-      run = λ f run. spined.run f (all.0 f (subst (λ ts. Runs nodes w ts new f) items run));
+      ready = subst (AreReady nodes w) (sym items) all.0;
+      less = done_less at (weights nodes (waiting at stack')) (weights nodes (waiting (Some p) stack)) (weights nodes start) (omega (arith, all.1, ap (weights nodes) items)) spined.less;
       spent = λ long short.
           let spent = spined.spent long short in
           let head = spent.0.0 in
@@ -131,8 +129,9 @@ spine_goes s start begin old new before steps after r r' p stack stack' then at 
             subst (AreShort long) (sym items) (short_within long p.start p.stop (tasks_of then) rest head turn.within spent.0.1),
             (omega (arith, spent.1.0, paid.0), subst (λ ts. after + tasks_cost nodes long ts ≤ before + tasks_cost nodes long start) (sym items) (omega (arith, spent.1.1, more))),
           );
-      entered = subst (λ ts. LooksAtEntered nodes start begin.spans ts new.spans before after) (sym items)
-          (looks_on nodes start (Apart p.node p.start p.stop ∷ rest) (tasks_of then ++ rest) begin.spans old.spans new.spans before steps after spined.entered (entered rest));
+      progress = subst (λ ts. Progress nodes w start begin ts new before after) (sym items)
+          (goes_on nodes w start (Apart p.node p.start p.stop ∷ rest) (tasks_of then ++ rest) begin old new before steps after spined.progress
+          (record { n = looked.n; run = turn.run rest; counts = looked.counts }));
     }
   where
     done_less : (v : Option Matched) (a b c : ℕ) → a + 1 ≤ b → b + 0 ≤ c → a + done v ≤ c
@@ -140,32 +139,52 @@ spine_goes s start begin old new before steps after r r' p stack stack' then at 
     done_less (Some q) a b c one two = omega arith
 
 pub spine_reduces : (s : Subject) (start : List Task) (begin now : State) (before after : ℕ) (r : Region) (stack : List Task) →
-    Spined s start begin before r now None stack after → Reduces (nodes_in s) (text_in s) start begin (reverse stack) now
-spine_reduces s start begin now before after r stack spined = (spined.run, spined.ready, spined.less)
+    Spined s start begin before r now None stack after → Reduces (nodes_in s) (text_in s) start (reverse stack)
+spine_reduces s start begin now before after r stack spined = (spined.ready, spined.less)
 
 -- it gets less with each look
-pub spine_less : (s : Subject) (old new : State) (p : Matched) (stack stack' : List Task) (then : Then) (at : Option Matched) → AreReady (nodes_in s) (text_in s) (waiting (Some p) stack) → Turns s p old new then →
+pub spine_less : (s : Subject) (old new : State) (n : ℕ) (p : Matched) (stack stack' : List Task) (then : Then) (at : Option Matched) → AreReady (nodes_in s) (text_in s) (waiting (Some p) stack) → Turns s p old new then n →
     waiting at stack' ≡ tasks_of then ++ reverse stack → weights (nodes_in s) (waiting at stack') + 1 ≤ weights (nodes_in s) (waiting (Some p) stack)
-spine_less s old new p stack stack' then at ready turn items =
-    let all = turned (nodes_in s) (text_in s) p.node p.start p.stop old new (tasks_of then) (reverse stack) turn ready in
-    omega (arith, all.2, ap (weights (nodes_in s)) items)
+spine_less s old new n p stack stack' then at ready turn items =
+    let all = turned (nodes_in s) (text_in s) p.node p.start p.stop n old new (tasks_of then) (reverse stack) turn ready in
+    omega (arith, all.1, ap (weights (nodes_in s)) items)
 
 -- what is left gives the report, if all groups are due
-pub decides : (e : WrittenExpression) (w : List ℕ) (root i j : ℕ) (old new : State) → root + 1 ≡ length e.nodes → IsStart (expression_tree e) i j old → Runs e.nodes w (Apart root i j ∷ []) old new →
-    IsReport (expression_tree e) w i j new.spans
-decides e w root i j old new last start run =
+pub decides : (e : WrittenExpression) (w : List ℕ) (root i j n : ℕ) (old new : State) → root + 1 ≡ length e.nodes → IsStart (expression_tree e) i j old → At e.nodes w root i j →
+    Runs e.nodes w (Apart root i j ∷ []) old new n → IsReport (expression_tree e) w i j new.spans
+decides e w root i j n old new last start at run =
     let same : length e.nodes - 1 ≡ root = omega arith in
     subst (λ x. IsReport (tree_at e.nodes x) w i j new.spans) (sym same)
-    (begins e.nodes w root i j old new (subst (λ x. IsStart (tree_at e.nodes x) i j old) same start) run)
+    (begins e.nodes w root i j n old new (subst (λ x. IsStart (tree_at e.nodes x) i j old) same start) at run)
 
 -- and of each group that is due what the report says
-pub decides_due : (e : WrittenExpression) (w : List ℕ) (root i j k : ℕ) (due : GroupSet) (new : State) (groups : Groups) → root + 1 ≡ length e.nodes → holds due 0 ≡ false →
-    Runs e.nodes w (Apart root i j ∷ []) (told_of due (undecided i j)) new → IsReport (expression_tree e) w i j groups → holds due k ≡ true → slice_index_or new.spans k None ≡ slice_index_or groups k None
-decides_due e w root i j zero due new groups last whole run report is = absurd (true≢false (sym is ∙ whole))
-decides_due e w root i j (suc k) due new groups last whole run report is =
+pub decides_due : (e : WrittenExpression) (w : List ℕ) (root i j n k : ℕ) (due : GroupSet) (new : State) (groups : Groups) → root + 1 ≡ length e.nodes → holds due 0 ≡ false → At e.nodes w root i j →
+    Runs e.nodes w (Apart root i j ∷ []) (told_of due (undecided i j)) new n → IsReport (expression_tree e) w i j groups → holds due k ≡ true → slice_index_or new.spans k None ≡ slice_index_or groups k None
+decides_due e w root i j n zero due new groups last whole at run report is = absurd (true≢false (sym is ∙ whole))
+decides_due e w root i j n (suc k) due new groups last whole at run report is =
     let same : length e.nodes - 1 ≡ root = omega arith in
-    wanted (tree_at e.nodes root) w i j (suc k) (told_of due (undecided i j)) new groups refl (subst (Back (tree_at e.nodes root) w i j (told_of due (undecided i j))) (sym run.2) run.1)
+    wanted (tree_at e.nodes root) w i j (suc k) (told_of due (undecided i j)) new groups refl (runs_back e.nodes w root i j n (told_of due (undecided i j)) new at run)
     (subst (λ x. IsReport (tree_at e.nodes x) w i j groups) same report) (omega arith) (flags_at due (suc k) ∙ is)
+
+least_none : (s t : ℕ) → TakesAtLeast s t (1 - 0) → TakesAtLeast s t 0
+unfolding TakesAtLeast
+least_none s t look = omega (arith, look)
+
+-- a node that is entered was looked at
+pub looked_at : (node : Node) (s t : ℕ) → TakesAtLeast s t (1 - 0) → TakesAtLeast s t (entered_at node)
+looked_at Empty s t look = least_none s t look
+looked_at (Set members) s t look = least_none s t look
+looked_at Begin s t look = least_none s t look
+looked_at End s t look = least_none s t look
+looked_at (Seq a b) s t look = look
+looked_at (Alt a b) s t look = look
+looked_at (Group k a) s t look = look
+looked_at (Star a first) s t look = look
+looked_at (Opt a first) s t look = look
+
+pub unlooked : (s : Subject) (here : Matched) (state : State) (steps : ℕ) → Turns s here state state Done 0 → TurnsLooked s here state state Done steps steps
+unfolding TakesAtLeast
+unlooked s here state steps turn = record { n = 0; turn = turn; counts = omega arith }
 
 -- Looks for spans.
 pub least_same : (s n : ℕ) → TakesAtLeast s s (n - n)

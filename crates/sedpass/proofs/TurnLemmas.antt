@@ -13,20 +13,20 @@ use Rattle.sedre.specs.declared.types.Node.TheVariants.{Empty, Set, Begin, End, 
 use Rattle.sedre.proofs.TreeLemmas.{tree_at-node}
 use Rattle.sedtext.specs.Reach.{At, one_start}
 use Rattle.sedpass.specs.Regions.{ReachesEnd, IsLastIn, last_of}
-use Rattle.sedtext.specs.Caps.{LastCut, LastCopy, only, then}
-use Rattle.sedpass.specs.Overlay.{State, is_due, settle, drop_groups, Back, GroupStandsIn, NoneDue}
+use Rattle.sedtext.specs.Caps.{LastCut, LastCopy}
+use Rattle.sedpass.specs.Walks.{State, is_due, settle, drop_groups, GroupStandsIn, NoneDue, Walk}
+use Rattle.sedpass.specs.Overlay.{Back}
 use Rattle.sedpass.specs.declared.groups.Task.{Task}
 use Rattle.sedpass.specs.declared.groups.Task.TheVariants.{Apart, Forget}
 use Rattle.sedtext.specs.Nodes.{parts_of}
-use Rattle.sedpass.specs.Turns.{AreReady, weights, IsTurn, IsHere, Enters, HasGroupAt, Blank, LeaveTurn, LeafTurn, SeqTurn, AltTurn, GroupTurn, StarTurn, OptTurn, EmptyTurn, SeqSpine, RunSpine, AltSpine, PartSpine, StarSpine, SeqParts, StarParts, OptParts, TurnedLaw, BeginLaw, RoomLaw, GroupsAtLaw, DropLaw}
+use Rattle.sedpass.specs.Turns.{AreReady, weights, IsTurn, IsHere, Runs, Continues, entered_at, HasGroupAt, Blank, LeaveTurn, LeafTurn, SeqTurn, AltTurn, GroupTurn, StarTurn, OptTurn, EmptyTurn, SeqSpine, RunSpine, AltSpine, PartSpine, StarSpine, SeqParts, StarParts, OptParts, TurnedLaw, BeginLaw, RoomLaw, GroupsAtLaw, DropLaw}
 use Rattle.sedtext.proofs.ReachLemmas.{open_at, close_at}
-use Rattle.sedpass.specs.Walks.{Walk, outside, enter, Meets}
-use Rattle.sedpass.proofs.WalkLemmas.{enters_none, enters_part, enters_both, enters_group, enters_group_alone}
+use Rattle.sedpass.proofs.WalkLemmas.{copy_spans, walk_back, passes_by, none_left, one_left, part_left, both_left}
 use Rattle.sedpass.proofs.LeaveLemmas.{alt_looks, reaches_last}
 use Rattle.sedpass.proofs.MeetingLemmas.{stops_at_cut, stops_at_copy, run_stops}
 use Rattle.sedtext.proofs.SpanLemmas.{Matches-forward}
 use Rattle.sedtext.proofs.NodeLemmas.{size-parts, size-pos}
-use Rattle.sedpass.proofs.OverlayLemmas.{left_due, make-state, touch-due, settle-due, settle-not, settle-is, drop-is, drop-not, left_due-stays, left_at_once, stays, back_report}
+use Rattle.sedpass.proofs.OverlayLemmas.{left_due, make-state, touch-due, settle-due, settle-not, settle-is, drop-is, drop-not, left_due-stays, stays, back_report}
 
 -- what is due after groups were settled or dropped
 set_due : (k : ℕ) (v : Option (ℕ × ℕ)) (s : State) → (settle k v s).due ≡ slice_set s.due k false
@@ -168,55 +168,40 @@ groups_at nodes x k node arena is = by node is
     by (Opt a first) is = rw (tree_at-node nodes x (Opt a first) arena is) (λ h. h, λ h. h)
 
 module _ (nodes : List Node) (w : List ℕ) (x i j : ℕ) (node : Node) (here : IsHere nodes w x i j node) where
-  close_back : (old new : State) → Back (tree_of (tree_at nodes) node) w i j old new → Back (tree_at nodes x) w i j old new
-  close_back old new back = subst (λ t. Back t w i j old new) (sym (tree_at-node nodes x node here.arena here.is)) back
+  close_walk : (old new : State) (n : ℕ) → Walk (tree_of (tree_at nodes) node) w i j old new n → Walk (tree_at nodes x) w i j old new n
+  close_walk old new n walk = subst (λ t. Walk t w i j old new n) (sym (tree_at-node nodes x node here.arena here.is)) walk
 
   -- nothing is left of the node
-  done_turn : (old new : State) → Back (tree_at nodes x) w i j old new → ((rest : List Task) → Enters nodes (Apart x i j ∷ rest) old.spans rest new.spans 1) →
-      IsTurn nodes w x i j old new []
-  done_turn old new back enters = record {
-    run = λ rest f run. (new, back, run);
+  done_turn : (old new : State) (n : ℕ) → Walk (tree_at nodes x) w i j old new n → IsTurn nodes w x i j old new [] n
+  done_turn old new n walk = record {
+    run = λ rest. none_left nodes w x i j n rest old new walk;
     ready = tt;
     within = tt;
     less = omega (arith, size-pos (tree_at nodes x));
     fewer = omega (arith, size-pos (tree_at nodes x));
-    enters = enters;
   }
-
-  left_turn : (s : State) → Back (tree_at nodes x) w i j s s → IsTurn nodes w x i j s s []
-  left_turn s back = done_turn s s back (λ rest. enters_none nodes here.arena x i j node here.is rest s.spans)
 
   -- what is in it is decided, and what is still due then is forgotten
   inner_turn : (a : NodeId) (c : ℕ) (old new : State) → a.index < x → size (tree_at nodes x) ≡ 1 + (size (tree_at nodes a.index) + 0) → i ≤ c → c ≤ j → At nodes w a.index c j →
-      ((mid : State) → Back (tree_at nodes a.index) w c j new mid → Back (tree_of (tree_at nodes) node) w i j old (drop_groups (tree_at nodes a.index) mid)) →
-      ((rest : List Task) → Enters nodes (Apart x i j ∷ rest) old.spans (Apart a.index c j ∷ Forget a.index ∷ rest) new.spans 1) →
-      IsTurn nodes w x i j old new (Apart a.index c j ∷ Forget a.index ∷ [])
-  inner_turn a c old new low long from up at go enters =
+      ((mid : State) (m : ℕ) → Walk (tree_at nodes a.index) w c j new mid m → Walk (tree_of (tree_at nodes) node) w i j old (drop_groups (tree_at nodes a.index) mid) (1 + m)) →
+      IsTurn nodes w x i j old new (Apart a.index c j ∷ Forget a.index ∷ []) 1
+  inner_turn a c old new low long from up at go =
       let inside = here.inside in
       record {
-        run = λ rest f run. (drop_groups (tree_at nodes a.index) run.0, close_back old _ (go run.0 run.1), run.2);
+        run = λ rest. part_left nodes w x i j a.index c rest old new (λ mid m walk. close_walk old _ _ (go mid m walk));
         ready = (omega arith, up, here.fits, at, (omega arith, tt));
         within = (from, omega arith, tt);
         less = omega (arith, long);
         fewer = omega (arith, long);
-        enters = enters;
       }
 
-  -- the same of a node that has one part and is no group
-  one_turn : (a : NodeId) (c : ℕ) (s : State) → a.index < x → size (tree_at nodes x) ≡ 1 + (size (tree_at nodes a.index) + 0) → i ≤ c → c ≤ j → At nodes w a.index c j →
-      ((mid : State) → Back (tree_at nodes a.index) w c j s mid → Back (tree_of (tree_at nodes) node) w i j s (drop_groups (tree_at nodes a.index) mid)) →
-      ((u : Walk) (k : ℕ) → Meets (tree_at nodes a.index) u k → Meets (tree_of (tree_at nodes) node) (enter u outside) k) →
-      IsTurn nodes w x i j s s (Apart a.index c j ∷ Forget a.index ∷ [])
-  one_turn a c s low long from up at go meets =
-      inner_turn a c s s low long from up at go
-      (λ rest. enters_part nodes here.arena x i j node here.is a.index c j rest (Forget a.index ∷ rest) s.spans (λ u. enter u outside) (λ u. omega arith) meets (λ vs k m. m))
-
 pub leave_turn : LeaveTurn
-leave_turn nodes w x i j node s here none = left_turn nodes w x i j node here s (left_at_once (tree_at nodes x) w i j s none here.at)
+leave_turn nodes w x i j node s here none = done_turn nodes w x i j node here s s 0 (passes_by (tree_at nodes x) w i j s none)
 
 pub leaf_turn : LeafTurn
 leaf_turn nodes w x i j node s here leaf =
-    leave_turn nodes w x i j node s here (λ k has. absurd (without node leaf k ((groups_at nodes x k node here.arena here.is).0 has)))
+    subst (IsTurn nodes w x i j s s []) (sym (childless node leaf))
+    (leave_turn nodes w x i j node s here (λ k has. absurd (without node leaf k ((groups_at nodes x k node here.arena here.is).0 has))))
   where
     without : (n : Node) → parts_of n ≡ [] → (k : ℕ) → HasGroupAt nodes n k → ⊥
     without Empty leaf k has = has
@@ -229,9 +214,20 @@ leaf_turn nodes w x i j node s here leaf =
     without (Star a first) leaf k has = cc
     without (Opt a first) leaf k has = cc
 
+    childless : (n : Node) → parts_of n ≡ [] → entered_at n ≡ 0
+    childless Empty leaf = refl
+    childless (Set members) leaf = refl
+    childless Begin leaf = refl
+    childless End leaf = refl
+    childless (Seq a b) leaf = cc
+    childless (Alt a b) leaf = cc
+    childless (Group n a) leaf = cc
+    childless (Star a first) leaf = cc
+    childless (Opt a first) leaf = cc
+
 seq_at : (nodes : List Node) (w : List ℕ) (x i k j : ℕ) (a b : NodeId) (s : State) → IsHere nodes w x i j (Seq a b) →
     LastCut (At nodes w a.index) (At nodes w b.index) i j k →
-    IsTurn nodes w x i j s s (Apart b.index k j ∷ Apart a.index i k ∷ []) × (NoneDue (tree_at nodes a.index) s → IsTurn nodes w x i j s s (Apart b.index k j ∷ []))
+    IsTurn nodes w x i j s s (Apart b.index k j ∷ Apart a.index i k ∷ []) 1 × (NoneDue (tree_at nodes a.index) s → IsTurn nodes w x i j s s (Apart b.index k j ∷ []) 1)
 seq_at nodes w x i k j a b s here cut =
     let low = here.arena.below x a.index (Seq a b) here.is (inl refl) in
     let low' = here.arena.below x b.index (Seq a b) here.is (inr refl) in
@@ -241,22 +237,21 @@ seq_at nodes w x i k j a b s here cut =
     let fits = here.fits in
     let long = size-parts nodes here.arena x (Seq a b) here.is in (
       record {
-        run = λ rest f run. (run.2.0, close_back nodes w x i j (Seq a b) here s run.2.0 (k, cut, (run.0, run.1, run.2.1)), run.2.2);
+        run = λ rest. both_left nodes w x i j k b.index a.index rest s (λ mid end p q first second.
+            close_walk nodes w x i j (Seq a b) here s end (1 + (p + q)) (inr (p, q, refl, k, cut, mid, first, second)));
         ready = (omega arith, on, fits, cut.right, (omega arith, up, omega arith, cut.left, tt));
         within = (up, omega arith, (omega arith, on, tt));
         less = omega (arith, long);
         fewer = omega (arith, long);
-        enters = λ rest. enters_both nodes here.arena x i j a b here.is k rest s.spans;
       },
       λ none. record {
-        run = λ rest f run.
-            let left = left_at_once (tree_at nodes a.index) w i k run.0 (stays (tree_at nodes b.index) (tree_at nodes a.index) w k j s run.0 run.1 none) cut.left in
-            (run.0, close_back nodes w x i j (Seq a b) here s run.0 (k, cut, (run.0, run.1, left)), run.2);
+        run = λ rest. one_left nodes w x i j b.index k j rest s s (λ mid m walk.
+            let left = passes_by (tree_at nodes a.index) w i k mid (stays (tree_at nodes b.index) (tree_at nodes a.index) w k j s mid (walk_back (tree_at nodes b.index) w k j m s mid cut.right walk) none) in
+            close_walk nodes w x i j (Seq a b) here s mid (1 + m) (inr (m, 0, omega arith, k, cut, mid, walk, left)));
         ready = (omega arith, on, fits, cut.right, tt);
         within = (up, omega arith, tt);
         less = omega (arith, long);
         fewer = omega (arith, long);
-        enters = λ rest. enters_part nodes here.arena x i j (Seq a b) here.is b.index k j rest rest s.spans (λ u. enter outside u) (λ u. omega arith) (λ u n m. inr m) (λ vs n m. m);
       },
     )
 
@@ -265,29 +260,27 @@ seq_turn nodes w x i k j left right a b s here left_is right_is cut =
     rw (left_is, right_is) (seq_at nodes w x i k j a b s here (rw (left_is, right_is) at cut))
 
 alt_at : (nodes : List Node) (w : List ℕ) (x i j : ℕ) (a b : NodeId) (s : State) → IsHere nodes w x i j (Alt a b) →
-    (At nodes w a.index i j → IsTurn nodes w x i j s s (Apart a.index i j ∷ [])) × ((At nodes w a.index i j → ⊥) → IsTurn nodes w x i j s s (Apart b.index i j ∷ []))
+    (At nodes w a.index i j → IsTurn nodes w x i j s s (Apart a.index i j ∷ []) 1) × ((At nodes w a.index i j → ⊥) → IsTurn nodes w x i j s s (Apart b.index i j ∷ []) 1)
 alt_at nodes w x i j a b s here =
     let low = here.arena.below x a.index (Alt a b) here.is (inl refl) in
     let low' = here.arena.below x b.index (Alt a b) here.is (inr refl) in
     let inside = here.inside in
     let long = size-parts nodes here.arena x (Alt a b) here.is in (
       λ at. record {
-        run = λ rest f run. (run.0, close_back nodes w x i j (Alt a b) here s run.0 (inl (at, run.1)), run.2);
+        run = λ rest. one_left nodes w x i j a.index i j rest s s (λ mid m walk. close_walk nodes w x i j (Alt a b) here s mid (1 + m) (inr (m, refl, inl (at, walk))));
         ready = (omega arith, here.up, here.fits, at, tt);
         within = (omega arith, omega arith, tt);
         less = omega (arith, long);
         fewer = omega (arith, long);
-        enters = λ rest. enters_part nodes here.arena x i j (Alt a b) here.is a.index i j rest rest s.spans (λ u. enter u outside) (λ u. omega arith) (λ u n m. inl m) (λ vs n m. m);
       },
       λ missing.
           let at : At nodes w b.index i j = ⊎_elim (λ (l : At nodes w a.index i j). absurd (missing l)) (λ (r : At nodes w b.index i j). r) (open_at nodes w x (Alt a b) here.arena here.is i j here.at) in
           record {
-            run = λ rest f run. (run.0, close_back nodes w x i j (Alt a b) here s run.0 (inr (missing, run.1)), run.2);
+            run = λ rest. one_left nodes w x i j b.index i j rest s s (λ mid m walk. close_walk nodes w x i j (Alt a b) here s mid (1 + m) (inr (m, refl, inr (missing, walk))));
             ready = (omega arith, here.up, here.fits, at, tt);
             within = (omega arith, omega arith, tt);
             less = omega (arith, long);
             fewer = omega (arith, long);
-            enters = λ rest. enters_part nodes here.arena x i j (Alt a b) here.is b.index i j rest rest s.spans (λ u. enter outside u) (λ u. omega arith) (λ u n m. inr m) (λ vs n m. m);
           },
     )
 
@@ -301,26 +294,20 @@ group_turn nodes w x k i j part a s here part_is =
     let inner = tree_at nodes a.index in
     let at : At nodes w a.index i j = open_at nodes w x (Group k a) here.arena here.is i j here.at in
     rw part_is (
-      inner_turn nodes w x i j (Group k a) here a i s set low (size-parts nodes here.arena x (Group k a) here.is) (omega arith) here.up at (λ mid back. (mid, back, refl))
-          (λ rest. enters_group nodes here.arena x i j k a here.is (i, j) s rest),
+      inner_turn nodes w x i j (Group k a) here a i s set low (size-parts nodes here.arena x (Group k a) here.is) (omega arith) here.up at (λ mid m walk. inr (m, refl, mid, walk, refl)),
       λ none.
           let same : NoneDue inner set = λ n has. set_stays k (Some (i, j)) s n (none n has) in
-          done_turn nodes w x i j (Group k a) here s set
-          (close_back nodes w x i j (Group k a) here s set (set, left_at_once inner w i j set same at, sym (drop-not inner set same)))
-          (λ rest. enters_group_alone nodes here.arena x i j k a here.is (i, j) s rest),
+          done_turn nodes w x i j (Group k a) here s set 1
+          (close_walk nodes w x i j (Group k a) here s set 1 (inr (0, refl, set, passes_by inner w i j set same, sym (drop-not inner set same)))),
     )
 
-pub copy_spans : (R : ℕ → ℕ → Type 0) (j i c : ℕ) → LastCopy R j i c → (i ≤ c) × (c < j) × R c j
-copy_spans R j i c (only _ lt r) = (omega arith, lt, r)
-copy_spans R j i c (then _ k _ up low r rest most last) = let later = copy_spans R j k c last in (omega arith, later.1, later.2)
-
 star_at : (nodes : List Node) (w : List ℕ) (x i c j : ℕ) (a : NodeId) (first : Bool) (s : State) → IsHere nodes w x i j (Star a first) → i < j →
-    LastCopy (At nodes w a.index) j i c → IsTurn nodes w x i j s s (Apart a.index c j ∷ Forget a.index ∷ [])
+    LastCopy (At nodes w a.index) j i c → IsTurn nodes w x i j s s (Apart a.index c j ∷ Forget a.index ∷ []) 1
 star_at nodes w x i c j a first s here lt last =
     let low = here.arena.below x a.index (Star a first) here.is refl in
     let copy = copy_spans (At nodes w a.index) j i c last in
-    one_turn nodes w x i j (Star a first) here a c s low (size-parts nodes here.arena x (Star a first) here.is) copy.0 (let less = copy.1 in omega arith) copy.2
-    (λ mid back. inl (lt, (c, last, (mid, back, refl)))) (λ u n m. m)
+    inner_turn nodes w x i j (Star a first) here a c s s low (size-parts nodes here.arena x (Star a first) here.is) copy.0 (let less = copy.1 in omega arith) copy.2
+    (λ mid m walk. inr (m, refl, inl (lt, c, last, mid, walk, refl)))
 
 pub star_turn : StarTurn
 star_turn nodes w x i c j part a first s here part_is lt last = rw part_is (star_at nodes w x i c j a first s here lt (rw part_is at last))
@@ -330,28 +317,29 @@ opt_turn nodes w x i j part a first s here part_is lt =
     let low = here.arena.below x a.index (Opt a first) here.is refl in
     let at : At nodes w a.index i j = ⊎_elim (λ (e : i ≡ j). absurd (omega arith)) (λ (r : At nodes w a.index i j). r) (open_at nodes w x (Opt a first) here.arena here.is i j here.at) in
     rw part_is
-    (one_turn nodes w x i j (Opt a first) here a i s low (size-parts nodes here.arena x (Opt a first) here.is) (omega arith) here.up at (λ mid back. inl (lt, (mid, back, refl)))
-    (λ u n m. m))
+    (inner_turn nodes w x i j (Opt a first) here a i s s low (size-parts nodes here.arena x (Opt a first) here.is) (omega arith) here.up at (λ mid m walk. inr (m, refl, inl (lt, mid, walk, refl))))
 
 abbrev Empties : (nodes : List Node) (w : List ℕ) (x i j part : ℕ) (first : Bool) (s : State) → Type 0
 Empties nodes w x i j part first s =
-    ((IsTrue first × At nodes w part i i) → IsTurn nodes w x i j s s (Apart part i j ∷ Forget part ∷ []))
-    × (((IsTrue first × At nodes w part i i) → ⊥) → IsTurn nodes w x i j s s [])
+    ((IsTrue first × At nodes w part i i) → IsTurn nodes w x i j s s (Apart part i j ∷ Forget part ∷ []) 1)
+    × (((IsTrue first × At nodes w part i i) → ⊥) → IsTurn nodes w x i j s s [] 1)
 
 star_empty : (nodes : List Node) (w : List ℕ) (x i : ℕ) (a : NodeId) (first : Bool) (s : State) → IsHere nodes w x i i (Star a first) → Empties nodes w x i i a.index first s
 star_empty nodes w x i a first s here =
     let low = here.arena.below x a.index (Star a first) here.is refl in (
-      λ h. one_turn nodes w x i i (Star a first) here a i s low (size-parts nodes here.arena x (Star a first) here.is) (omega arith) (omega arith) h.1
-          (λ mid back. inr (inl (refl, h.0, h.1, (mid, back, refl)))) (λ u n m. m),
-      λ not. left_turn nodes w x i i (Star a first) here s (close_back nodes w x i i (Star a first) here s s (inr (inr (refl, (λ is_first at. not (is_first, at), refl))))),
+      λ h. inner_turn nodes w x i i (Star a first) here a i s s low (size-parts nodes here.arena x (Star a first) here.is) (omega arith) (omega arith) h.1
+          (λ mid m walk. inr (m, refl, inr (inl (refl, h.0, h.1, mid, walk, refl)))),
+      λ not. done_turn nodes w x i i (Star a first) here s s 1
+          (close_walk nodes w x i i (Star a first) here s s 1 (inr (0, refl, inr (inr (refl, λ is_first at. not (is_first, at), refl, refl))))),
     )
 
 opt_empty : (nodes : List Node) (w : List ℕ) (x i : ℕ) (a : NodeId) (first : Bool) (s : State) → IsHere nodes w x i i (Opt a first) → Empties nodes w x i i a.index first s
 opt_empty nodes w x i a first s here =
     let low = here.arena.below x a.index (Opt a first) here.is refl in (
-      λ h. one_turn nodes w x i i (Opt a first) here a i s low (size-parts nodes here.arena x (Opt a first) here.is) (omega arith) (omega arith) h.1
-          (λ mid back. inr (inl (refl, h.0, h.1, (mid, back, refl)))) (λ u n m. m),
-      λ not. left_turn nodes w x i i (Opt a first) here s (close_back nodes w x i i (Opt a first) here s s (inr (inr (refl, (λ is_first at. not (is_first, at), refl))))),
+      λ h. inner_turn nodes w x i i (Opt a first) here a i s s low (size-parts nodes here.arena x (Opt a first) here.is) (omega arith) (omega arith) h.1
+          (λ mid m walk. inr (m, refl, inr (inl (refl, h.0, h.1, mid, walk, refl)))),
+      λ not. done_turn nodes w x i i (Opt a first) here s s 1
+          (close_walk nodes w x i i (Opt a first) here s s 1 (inr (0, refl, inr (inr (refl, λ is_first at. not (is_first, at), refl, refl))))),
     )
 
 pub empty_turn : EmptyTurn
@@ -419,14 +407,17 @@ weights-append nodes (Apart x i j ∷ xs) ys = omega (arith, weights-append node
 weights-append nodes (Forget x ∷ xs) ys = omega (arith, weights-append nodes xs ys)
 
 pub turned : TurnedLaw
-turned nodes w x i j old new tasks rest turn ready = (
-  turn.run rest,
+turned nodes w x i j n old new tasks rest turn ready = (
   ready-append nodes w tasks rest turn.ready ready.4,
   omega (arith, turn.less, weights-append nodes tasks rest),
 )
 
+pub runs_back : (nodes : List Node) (w : List ℕ) (x i j n : ℕ) (old new : State) → At nodes w x i j → Runs nodes w (Apart x i j ∷ []) old new n → Back (tree_at nodes x) w i j old new
+runs_back nodes w x i j n old new at run =
+    subst (Back (tree_at nodes x) w i j old) (sym run.4.0) (walk_back (tree_at nodes x) w i j run.1 old run.0 at run.3)
+
 pub begins : BeginLaw
-begins nodes w x i j old new start run = back_report (tree_at nodes x) w i j old new start (subst (Back (tree_at nodes x) w i j old) (sym run.2) run.1)
+begins nodes w x i j n old new start at run = back_report (tree_at nodes x) w i j old new start (runs_back nodes w x i j n old new at run)
 
 pub room : RoomLaw
 room nodes [] = omega arith

@@ -13,7 +13,8 @@ use Rattle.sedtext.specs.Words.{row_of}
 use Rattle.sedpass.specs.Groups.{holds}
 use Rattle.sedpass.specs.Kept.{IsKept, KeptRoom, owed}
 use Rattle.sedpass.specs.Lengths.{length_of}
-use Rattle.sedpass.specs.Overlay.{State, state_of, GroupStandsIn}
+use Rattle.sedpass.specs.Overlay.{state_of}
+use Rattle.sedpass.specs.Walks.{State, GroupStandsIn}
 use Rattle.sedpass.specs.Regions.{IsLastIn}
 use Rattle.sedpass.specs.Table.{IsAhead, IsRoomy, IsTable, SameRoom, SameShape}
 use Rattle.sedpass.specs.Turns.{Blank, IsHere, IsTurn, AreReady, AreShort, looks, descents, tasks_of}
@@ -140,9 +141,15 @@ GoesOn s r (Some next) = EndsRegion s r next
 abbrev pub IsMatch : Subject → Matched → Type 0
 IsMatch s here = AreReady (nodes_in s) (text_in s) (Apart here.node here.start here.stop ∷ [])
 
--- the node is looked at: what comes in its place
-abbrev pub Turns : Subject → Matched → State → State → Then → Type 0
-Turns s here old new then = IsTurn (nodes_in s) (text_in s) here.node here.start here.stop old new (tasks_of then)
+-- a turn at the node, which enters n nodes: what comes in its place
+abbrev pub Turns : Subject → Matched → State → State → Then → ℕ → Type 0
+Turns s here old new then n = IsTurn (nodes_in s) (text_in s) here.node here.start here.stop old new (tasks_of then) n
+
+-- the nodes that it enters were looked at
+pub record TurnsLooked (s : Subject) (here : Matched) (old new : State) (then : Then) (before after : ℕ) : Type 0 where
+  pub n : ℕ
+  pub turn : Turns s here old new then n
+  pub counts : TakesAtLeast before after n
 
 -- the matches of the node have no length that is known
 abbrev pub HasNoKnownLength : List Node → ℕ → Type 0

@@ -16,17 +16,16 @@ use Rattle.sedpass.specs.declared.groups.Then.TheVariants.{Done, One, Two}
 use Rattle.sedtext.specs.Reach.{At, one_start}
 use Rattle.sedtext.specs.Spans.{CopiesLead}
 use Rattle.sedtext.specs.Caps.{LastCut, LastCopy, IsReport}
-use Rattle.sedtext.specs.Groups.{Groups, span_of}
 use Rattle.sedtext.specs.Nodes.{parts_of}
 use Rattle.sedpass.specs.Regions.{ReachesEnd, IsLastIn, StopsAt, RunsTo, NextCopy, IsRunOf}
-use Rattle.sedpass.specs.Walks.{Walk, entered, Meets}
-use Rattle.sedpass.specs.Overlay.{State, is_due, settle, drop_groups, Back, GroupStandsIn, NoneDue, IsStart}
+use Rattle.sedpass.specs.Walks.{State, is_due, settle, drop_groups, GroupStandsIn, NoneDue, Walk, IsStart}
 
--- the tasks, the first one first, bring the state `old` to the state `new`
-abbrev pub Runs : List Node → List ℕ → List Task → State → State → Type 0
-Runs nodes w [] old new = new ≡ old
-Runs nodes w (Apart x i j ∷ tasks) old new = (mid : State) × Back (tree_at nodes x) w i j old mid × Runs nodes w tasks mid new
-Runs nodes w (Forget x ∷ tasks) old new = Runs nodes w tasks (drop_groups (tree_at nodes x) old) new
+-- the tasks, the first one first, bring the state `old` to the state `new`, and enter n nodes
+abbrev pub Runs : List Node → List ℕ → List Task → State → State → ℕ → Type 0
+Runs nodes w [] old new n = (new ≡ old) × (n ≡ 0)
+Runs nodes w (Apart x i j ∷ tasks) old new n =
+    (mid : State) × (p : ℕ) × (q : ℕ) × Walk (tree_at nodes x) w i j old mid p × Runs nodes w tasks mid new q × (n ≡ p + q)
+Runs nodes w (Forget x ∷ tasks) old new n = Runs nodes w tasks (drop_groups (tree_at nodes x) old) new n
 
 -- each node is there, and one to be decided matches its span within the text
 abbrev pub AreReady : List Node → List ℕ → List Task → Type 0
@@ -52,9 +51,19 @@ descents nodes [] = 0
 descents nodes (Apart x i j ∷ tasks) = (size (tree_at nodes x) - 1) + descents nodes tasks
 descents nodes (Forget x ∷ tasks) = descents nodes tasks
 
--- some tasks are done: those left bring the new state to where all bring the old one, are ready, and weigh less
-abbrev pub Reduces : List Node → List ℕ → List Task → State → List Task → State → Type 0
-Reduces nodes w tasks old rest new = ((f : State) → Runs nodes w rest new f → Runs nodes w tasks old f) × AreReady nodes w rest × (weights nodes rest + 1 ≤ weights nodes tasks)
+-- some tasks are done: those left are ready, and weigh less
+abbrev pub Reduces : List Node → List ℕ → List Task → List Task → Type 0
+Reduces nodes w tasks rest = AreReady nodes w rest × (weights nodes rest + 1 ≤ weights nodes tasks)
+
+-- so many nodes were entered: those tasks that are left bring the new state to where all bring the old one
+abbrev pub Continues : List Node → List ℕ → List Task → State → List Task → State → ℕ → Type 0
+Continues nodes w tasks old rest new n = (f : State) (m : ℕ) → Runs nodes w rest new f m → Runs nodes w tasks old f (n + m)
+
+-- and each of these nodes was looked at
+pub record Progress (nodes : List Node) (w : List ℕ) (tasks : List Task) (old : State) (rest : List Task) (new : State) (before after : ℕ) : Type 0 where
+  pub n : ℕ
+  pub run : Continues nodes w tasks old rest new n
+  pub counts : TakesAtLeast before after n
 
 -- each node to be decided matches within i..j
 abbrev pub AreWithin : ℕ → ℕ → List Task → Type 0
@@ -74,41 +83,22 @@ tasks_of Done = []
 tasks_of (One next) = Apart next.node next.start next.stop ∷ []
 tasks_of (Two next later) = Apart next.node next.start next.stop ∷ later ∷ []
 
--- how many nodes walks enter together
-abbrev pub all_entered : List Walk → ℕ
-all_entered [] = 0
-all_entered (w ∷ ws) = entered w + all_entered ws
-
--- one of the walks, each from the node of a task, enters a node of group k
-abbrev pub SomeMeets : List Node → List Task → List Walk → ℕ → Type 0
-SomeMeets nodes (Apart x i j ∷ tasks) (w ∷ ws) k = Meets (tree_at nodes x) w k ⊎ SomeMeets nodes tasks ws k
-SomeMeets nodes (Forget x ∷ tasks) ws k = SomeMeets nodes tasks ws k
-SomeMeets nodes tasks ws k = ⊥
-
--- walks from the nodes of the tasks enter so many nodes, and one of each group that has a span at the end and none now
-pub record LeadOn (nodes : List Node) (tasks : List Task) (now end : Groups) (n : ℕ) : Type 0 where
-  pub walks : List Walk
-  pub each : (k : ℕ) → 1 ≤ k → span_of end k ≢ None → span_of now k ≡ None → SomeMeets nodes tasks walks k
-  pub enter : all_entered walks ≡ n
-
--- tasks were done as far as those left: with so many nodes more, walks from the nodes of those left are walks from the nodes of all
-abbrev pub Enters : List Node → List Task → Groups → List Task → Groups → ℕ → Type 0
-Enters nodes tasks old rest new n = (end : Groups) (m : ℕ) → LeadOn nodes rest new end m → LeadOn nodes tasks old end (n + m)
-
--- and each of these nodes was looked at
-pub record LooksAtEntered (nodes : List Node) (tasks : List Task) (old : Groups) (rest : List Task) (new : Groups) (before after : ℕ) : Type 0 where
-  pub n : ℕ
-  pub enters : Enters nodes tasks old rest new n
-  pub counts : TakesAtLeast before after n
-
--- one look at the node x, that matches i..j: the tasks come in its place, the first one first, and the state is the new one
-pub record IsTurn (nodes : List Node) (w : List ℕ) (x i j : ℕ) (old new : State) (tasks : List Task) : Type 0 where
-  pub run : (rest : List Task) (f : State) → Runs nodes w (tasks ++ rest) new f → Runs nodes w (Apart x i j ∷ rest) old f
+-- a turn at the node x, that matches i..j, enters n nodes: the tasks come in its place, the first one first, and the state is the new one
+pub record IsTurn (nodes : List Node) (w : List ℕ) (x i j : ℕ) (old new : State) (tasks : List Task) (n : ℕ) : Type 0 where
+  pub run : (rest : List Task) → Continues nodes w (Apart x i j ∷ rest) old (tasks ++ rest) new n
   pub ready : AreReady nodes w tasks
   pub within : AreWithin i j tasks
   pub less : weights nodes tasks + 1 ≤ 2 * size (tree_at nodes x)
   pub fewer : looks nodes tasks + 1 ≤ size (tree_at nodes x)
-  pub enters : (rest : List Task) → Enters nodes (Apart x i j ∷ rest) old.spans (tasks ++ rest) new.spans 1
+
+-- how many nodes a turn enters: itself, unless it has no part
+abbrev pub entered_at : Node → ℕ
+entered_at (Seq a b) = 1
+entered_at (Alt a b) = 1
+entered_at (Group k a) = 1
+entered_at (Star a first) = 1
+entered_at (Opt a first) = 1
+entered_at other = 0
 
 -- x is a node, and what it is; it matches i..j within the text
 pub record IsHere (nodes : List Node) (w : List ℕ) (x i j : ℕ) (node : Node) : Type 0 where
@@ -136,45 +126,45 @@ Blank s = (k : ℕ) → is_due s k ≡ true → slice_index_or s.spans k None �
 -- no group of the node is due: it is left
 abbrev pub LeaveTurn : Type 0
 LeaveTurn = (nodes : List Node) (w : List ℕ) (x i j : ℕ) (node : Node) (s : State) → IsHere nodes w x i j node → NoneDue (tree_at nodes x) s →
-    IsTurn nodes w x i j s s []
+    IsTurn nodes w x i j s s [] 0
 
 -- so is a node without parts
 abbrev pub LeafTurn : Type 0
-LeafTurn = (nodes : List Node) (w : List ℕ) (x i j : ℕ) (node : Node) (s : State) → IsHere nodes w x i j node → parts_of node ≡ [] → IsTurn nodes w x i j s s []
+LeafTurn = (nodes : List Node) (w : List ℕ) (x i j : ℕ) (node : Node) (s : State) → IsHere nodes w x i j node → parts_of node ≡ [] → IsTurn nodes w x i j s s [] (entered_at node)
 
 -- a concatenation goes on with its right part; the left one is a task, unless no group of it is due
 abbrev pub SeqTurn : Type 0
 SeqTurn = (nodes : List Node) (w : List ℕ) (x i k j left right : ℕ) (a b : NodeId) (s : State) → IsHere nodes w x i j (Seq a b) → left ≡ a.index → right ≡ b.index →
     LastCut (At nodes w left) (At nodes w right) i j k →
-    IsTurn nodes w x i j s s (Apart right k j ∷ Apart left i k ∷ []) × (NoneDue (tree_at nodes left) s → IsTurn nodes w x i j s s (Apart right k j ∷ []))
+    IsTurn nodes w x i j s s (Apart right k j ∷ Apart left i k ∷ []) 1 × (NoneDue (tree_at nodes left) s → IsTurn nodes w x i j s s (Apart right k j ∷ []) 1)
 
 -- an alternation goes on with the left alternative, or with the right one if the left one doesn't match
 abbrev pub AltTurn : Type 0
 AltTurn = (nodes : List Node) (w : List ℕ) (x i j left right : ℕ) (a b : NodeId) (s : State) → IsHere nodes w x i j (Alt a b) → left ≡ a.index → right ≡ b.index →
-    (At nodes w left i j → IsTurn nodes w x i j s s (Apart left i j ∷ [])) × ((At nodes w left i j → ⊥) → IsTurn nodes w x i j s s (Apart right i j ∷ []))
+    (At nodes w left i j → IsTurn nodes w x i j s s (Apart left i j ∷ []) 1) × ((At nodes w left i j → ⊥) → IsTurn nodes w x i j s s (Apart right i j ∷ []) 1)
 
 -- a group gets its span, if it is due; what is in it follows, unless no group of it is due
 abbrev pub GroupTurn : Type 0
 GroupTurn = (nodes : List Node) (w : List ℕ) (x k i j part : ℕ) (a : NodeId) (s : State) → IsHere nodes w x i j (Group k a) → part ≡ a.index →
-    IsTurn nodes w x i j s (settle k (Some (i, j)) s) (Apart part i j ∷ Forget part ∷ [])
-    × (NoneDue (tree_at nodes part) s → IsTurn nodes w x i j s (settle k (Some (i, j)) s) [])
+    IsTurn nodes w x i j s (settle k (Some (i, j)) s) (Apart part i j ∷ Forget part ∷ []) 1
+    × (NoneDue (tree_at nodes part) s → IsTurn nodes w x i j s (settle k (Some (i, j)) s) [] 1)
 
 -- a repetition: its last copy
 abbrev pub StarTurn : Type 0
 StarTurn = (nodes : List Node) (w : List ℕ) (x i c j part : ℕ) (a : NodeId) (first : Bool) (s : State) → IsHere nodes w x i j (Star a first) → part ≡ a.index → i < j →
-    LastCopy (At nodes w part) j i c → IsTurn nodes w x i j s s (Apart part c j ∷ Forget part ∷ [])
+    LastCopy (At nodes w part) j i c → IsTurn nodes w x i j s s (Apart part c j ∷ Forget part ∷ []) 1
 
 -- what may be there once, and is
 abbrev pub OptTurn : Type 0
 OptTurn = (nodes : List Node) (w : List ℕ) (x i j part : ℕ) (a : NodeId) (first : Bool) (s : State) → IsHere nodes w x i j (Opt a first) → part ≡ a.index → i < j →
-    IsTurn nodes w x i j s s (Apart part i j ∷ Forget part ∷ [])
+    IsTurn nodes w x i j s s (Apart part i j ∷ Forget part ∷ []) 1
 
 -- either of them on an empty span: an empty copy, if it would be the first one and its part matches the null string there
 abbrev pub EmptyTurn : Type 0
 EmptyTurn = (nodes : List Node) (w : List ℕ) (x i j part : ℕ) (a : NodeId) (first : Bool) (s : State) → IsHere nodes w x i j (Star a first) ⊎ IsHere nodes w x i j (Opt a first) →
     part ≡ a.index → j ≤ i →
-    ((IsTrue first × At nodes w part i i) → IsTurn nodes w x i j s s (Apart part i j ∷ Forget part ∷ []))
-    × (((IsTrue first × At nodes w part i i) → ⊥) → IsTurn nodes w x i j s s [])
+    ((IsTrue first × At nodes w part i i) → IsTurn nodes w x i j s s (Apart part i j ∷ Forget part ∷ []) 1)
+    × (((IsTrue first × At nodes w part i i) → ⊥) → IsTurn nodes w x i j s s [] 1)
 
 -- the parts of a node are there, and match parts of its span
 abbrev pub SeqParts : Type 0
@@ -217,12 +207,12 @@ StarSpine = (nodes : List Node) (w : List ℕ) (r x i p j l part : ℕ) (a : Nod
 
 -- after a turn the tasks on the stack are fewer, as the loop needs it
 abbrev pub TurnedLaw : Type 0
-TurnedLaw = (nodes : List Node) (w : List ℕ) (x i j : ℕ) (old new : State) (tasks rest : List Task) → IsTurn nodes w x i j old new tasks →
-    AreReady nodes w (Apart x i j ∷ rest) → Reduces nodes w (Apart x i j ∷ rest) old (tasks ++ rest) new
+TurnedLaw = (nodes : List Node) (w : List ℕ) (x i j n : ℕ) (old new : State) (tasks rest : List Task) → IsTurn nodes w x i j old new tasks n →
+    AreReady nodes w (Apart x i j ∷ rest) → Reduces nodes w (Apart x i j ∷ rest) (tasks ++ rest)
 
 -- what the tasks that are left give is the report, when the match alone is to be decided
 abbrev pub BeginLaw : Type 0
-BeginLaw = (nodes : List Node) (w : List ℕ) (x i j : ℕ) (old new : State) → IsStart (tree_at nodes x) i j old → Runs nodes w (Apart x i j ∷ []) old new → IsReport (tree_at nodes x) w i j new.spans
+BeginLaw = (nodes : List Node) (w : List ℕ) (x i j n : ℕ) (old new : State) → IsStart (tree_at nodes x) i j old → At nodes w x i j → Runs nodes w (Apart x i j ∷ []) old new n → IsReport (tree_at nodes x) w i j new.spans
 
 -- there are no more tasks than they weigh: so no more than twice as many as the first node has nodes
 abbrev pub RoomLaw : Type 0

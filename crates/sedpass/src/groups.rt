@@ -14,11 +14,10 @@ ghost use Rattle.sedtext.specs.Groups.{Groups};
 ghost use Rattle.sedtext.specs.Costs.{Pays};
 ghost use Rattle.sedtext.specs.Places.{Ascending};
 ghost use Rattle.sedtext.specs.Reach.{At};
-ghost use Rattle.sedpass.specs.Decide.{found, HasAll, nodes_in, text_in, told_of, IsTold, Stands, IsRepetitionHere, EndsRegion, GoesOn, IsDesk, IsMatch, Turns, waiting, long_of, part_cost, kind_cost, HasNoKnownLength, LooksAt, next_of, owed_in, IsSetAt, HasDesk, IsSpent, AreGroupTables, AreRoomy, HasSpace, SameRooms, SameTables};
-ghost use Rattle.sedpass.specs.Overlay.{State, settle, drop_groups, NoneDue};
+ghost use Rattle.sedpass.specs.Decide.{found, undecided, HasAll, nodes_in, text_in, told_of, IsTold, Stands, IsRepetitionHere, EndsRegion, GoesOn, IsDesk, IsMatch, Turns, TurnsLooked, waiting, long_of, part_cost, kind_cost, HasNoKnownLength, LooksAt, next_of, owed_in, IsSetAt, HasDesk, IsSpent, AreGroupTables, AreRoomy, HasSpace, SameRooms, SameTables};
 ghost use Rattle.sedpass.specs.Prepared.{IsFacts};
-ghost use Rattle.sedpass.specs.Turns.{AreReady, LooksAtEntered, Reduces, weights, looks, tasks_of};
-ghost use Rattle.sedpass.specs.Walks.{EntersGroups};
+ghost use Rattle.sedpass.specs.Turns.{AreReady, Progress, Reduces, weights, looks, tasks_of, entered_at};
+ghost use Rattle.sedpass.specs.Walks.{State, settle, drop_groups, NoneDue, LooksAtEntered};
 ghost use Rattle.sedpass.specs.declared.groups.Task.{Task};
 ghost use Rattle.sedpass.specs.declared.groups.Task.TheVariants.{Apart};
 ghost use Rattle.sedpass.specs.Kept.{SameKept, SameSpace};
@@ -394,7 +393,7 @@ fn turn_seq(
     requires whole { holds due 0 ≡ false }
     requires ends { EndsRegion subject kept.old.region here }
     requires desk { IsDesk subject tables.old kept.old }
-    ensures turn { (spans : Groups) → Turns subject.entry here (told_of due spans) (told_of due spans) result }
+    ensures turn { (spans : Groups) → Turns subject.entry here (told_of due spans) (told_of due spans) result 1 }
     ensures goes { GoesOn subject.entry kept.new.region (next_of result) }
     ensures desk { IsDesk subject.entry tables.new kept.new }
     ensures shape { SameTables tables.old tables.new }
@@ -430,7 +429,7 @@ fn turn_alt(
     requires here { Stands subject here (Alt a b) }
     requires ends { EndsRegion subject kept.old.region here }
     requires desk { IsDesk subject tables.old kept.old }
-    ensures turn { (s : State) → Turns subject.entry here s s result }
+    ensures turn { (s : State) → Turns subject.entry here s s result 1 }
     ensures goes { GoesOn subject.entry kept.new.region (next_of result) }
     ensures desk { IsDesk subject.entry tables.new kept.new }
     ensures shape { SameTables tables.old tables.new }
@@ -463,7 +462,7 @@ fn turn_star(
     requires here { Stands subject here (Star a first) }
     requires ends { EndsRegion subject kept.old.region here }
     requires desk { IsDesk subject tables.old kept.old }
-    ensures turn { (s : State) → Turns subject.entry here s s result }
+    ensures turn { (s : State) → Turns subject.entry here s s result 1 }
     ensures goes { GoesOn subject.entry kept.new.region (next_of result) }
     ensures desk { IsDesk subject.entry tables.new kept.new }
     ensures shape { SameTables tables.old tables.new }
@@ -492,7 +491,7 @@ fn turn_star(
 /// What comes in place of one copy or none.
 fn turn_opt(subject: Subject, here: Matched, a: NodeId, first: bool, steps: &mut Steps) -> Then
     requires here { Stands subject here (Opt a first) }
-    ensures turn { (s : State) → Turns subject.entry here s s result }
+    ensures turn { (s : State) → Turns subject.entry here s s result 1 }
     ensures goes { (r : Region) → EndsRegion subject.entry r here → GoesOn subject.entry r (next_of result) }
     ensures cost { Takes steps.old steps.new (kind_cost subject.entry here (next_of result)) }
 {
@@ -520,7 +519,7 @@ fn turn_node(
     requires ends { EndsRegion subject kept.old.region here }
     requires desk { IsDesk subject tables.old kept.old }
     requires told { IsTold told.old }
-    ensures turn { Turns subject.entry here (told_of told.old.due told.old.spans) (told_of told.new.due told.new.spans) result }
+    ensures turn { Turns subject.entry here (told_of told.old.due told.old.spans) (told_of told.new.due told.new.spans) result (entered_at node.now) }
     ensures goes { GoesOn subject.entry kept.new.region (next_of result) }
     ensures desk { IsDesk subject.entry tables.new kept.new }
     ensures shape { SameTables tables.old tables.new }
@@ -561,7 +560,7 @@ fn turn(
     requires ends { EndsRegion subject kept.old.region here }
     requires desk { IsDesk subject tables.old kept.old }
     requires told { IsTold told.old }
-    ensures turn { Turns subject.entry here (told_of told.old.due told.old.spans) (told_of told.new.due told.new.spans) result }
+    ensures turn { TurnsLooked subject.entry here (told_of told.old.due told.old.spans) (told_of told.new.due told.new.spans) result steps.old steps.new }
     ensures goes { GoesOn subject.entry kept.new.region (next_of result) }
     ensures desk { IsDesk subject.entry tables.new kept.new }
     ensures shape { SameTables tables.old tables.new }
@@ -570,8 +569,6 @@ fn turn(
     ensures cost { Takes steps.old steps.new (kind_cost subject.entry here (next_of result) + 1) }
     ensures counts { TakesAtLeast steps.old steps.new (found told.new.spans - found told.old.spans) }
     ensures entered { (NoneDue (tree_at (nodes_in subject.entry) here.node) (told_of told.old.due told.old.spans) → ⊥) → TakesAtLeast steps.old steps.new 1 }
-    ensures walked { (rest : List Task) → LooksAtEntered (nodes_in subject.entry) (Apart here.node here.start here.stop ∷ rest) told.old.spans (tasks_of result ++ rest) told.new.spans
-        steps.old steps.new }
     ensures looks { (node : Node) → slice_get (nodes_in subject.entry) here.node ≡ Some node → (NoneDue (tree_at (nodes_in subject.entry) here.node) (told_of told.old.due told.old.spans) → ⊥) →
         LooksAt subject.entry here node (next_of result) steps.old steps.new }
 {
@@ -619,11 +616,11 @@ fn spine(
     ensures shape { SameTables tables.old tables.new }
     ensures space { SameSpace room.old.kept room.new.kept }
     ensures told { IsTold told.new }
-    ensures reduces { Reduces (nodes_in subject.entry) (text_in subject.entry) (waiting (Some here) room.old.tasks.items) (told_of told.old.due told.old.spans)
-        (reverse room.new.tasks.items) (told_of told.new.due told.new.spans) }
+    ensures reduces { Reduces (nodes_in subject.entry) (text_in subject.entry) (waiting (Some here) room.old.tasks.items) (reverse room.new.tasks.items) }
+    ensures progress { Progress (nodes_in subject.entry) (text_in subject.entry) (waiting (Some here) room.old.tasks.items) (told_of told.old.due told.old.spans)
+        (reverse room.new.tasks.items) (told_of told.new.due told.new.spans) steps.old steps.new }
     ensures cost { IsSpent (nodes_in subject.entry) (waiting (Some here) room.old.tasks.items) (reverse room.new.tasks.items) steps.old steps.new }
     ensures counts { TakesAtLeast steps.old steps.new (found told.new.spans - found told.old.spans) }
-    ensures walked { LooksAtEntered (nodes_in subject.entry) (waiting (Some here) room.old.tasks.items) told.old.spans (reverse room.new.tasks.items) told.new.spans steps.old steps.new }
 {
     room.kept
         .begin(subject, &tables.inside, here.node, here.stop);
@@ -653,11 +650,11 @@ fn work(
     ensures shape { SameTables tables.old tables.new }
     ensures space { SameSpace room.old.kept room.new.kept }
     ensures told { IsTold told.new }
-    ensures reduces { Reduces (nodes_in subject.entry) (text_in subject.entry) (task ∷ reverse room.old.tasks.items) (told_of told.old.due told.old.spans)
-        (reverse room.new.tasks.items) (told_of told.new.due told.new.spans) }
+    ensures reduces { Reduces (nodes_in subject.entry) (text_in subject.entry) (task ∷ reverse room.old.tasks.items) (reverse room.new.tasks.items) }
+    ensures progress { Progress (nodes_in subject.entry) (text_in subject.entry) (task ∷ reverse room.old.tasks.items) (told_of told.old.due told.old.spans)
+        (reverse room.new.tasks.items) (told_of told.new.due told.new.spans) steps.old steps.new }
     ensures cost { IsSpent (nodes_in subject.entry) (task ∷ reverse room.old.tasks.items) (reverse room.new.tasks.items) steps.old steps.new }
     ensures counts { TakesAtLeast steps.old steps.new (found told.new.spans - found told.old.spans) }
-    ensures walked { LooksAtEntered (nodes_in subject.entry) (task ∷ reverse room.old.tasks.items) told.old.spans (reverse room.new.tasks.items) told.new.spans steps.old steps.new }
 {
     match task {
         Task::Forget(x) => forget(subject.prepared, told, x),
@@ -709,7 +706,7 @@ pub fn decide(
     ensures space { SameSpace room.old.kept room.new.kept }
     ensures cost { let m = length (nodes_in subject.entry) in Takes steps.old steps.new (172 * m * (m - 1) * (stop - start) + 2 * m) }
     ensures counts { TakesAtLeast steps.old steps.new (found result - 1) }
-    ensures entered { EntersGroups (expression_tree subject.entry.prepared.now.arena.expr) result steps.old steps.new }
+    ensures entered { LooksAtEntered (expression_tree subject.entry.prepared.now.arena.expr) (text_in subject.entry) start stop (told_of due (undecided start stop)) steps.old steps.new }
 {
     subject.prepared.is_expression();
     let mut spans = [None; 10];

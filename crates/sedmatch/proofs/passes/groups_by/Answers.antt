@@ -1,3 +1,4 @@
+use Rattle.std.proofs.Common.{◌∙◌, sym}
 use Rattle.sedmatch.proofs.PassLemmas.{one_alone, own_decides, room_again, there_own}
 use Rattle.sedmatch.proofs.passes.groups_by.Goals as goal
 
@@ -14,4 +15,4 @@ returns-then-has_blocks-clause-desk c =
     room_again c.args.desk.now c.groups_with.new.room c.requires.desk c.groups_with.ensures.space c.groups_with.ensures.none c.groups_with.ensures.tasks
 
 pub returns-then-groups-eq0-clause-entered : goal.returns-then-groups-eq0-clause-entered
-returns-then-groups-eq0-clause-entered c = c.whole_alone.ensures.entered _ _
+returns-then-groups-eq0-clause-entered c = c.whole_alone.ensures.entered c.args.passes.now.sought.prepared.arena.expr _ _ c.groups.ensures.expr (sym c.groups.ensures.value ∙ c.if-groups-eq0.true)

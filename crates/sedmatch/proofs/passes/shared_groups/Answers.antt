@@ -1,4 +1,4 @@
-use Rattle.std.proofs.Common.{length}
+use Rattle.std.proofs.Common.{◌∙◌, length, sym}
 use Rattle.sedmatch.proofs.PassLemmas.{groups_again, one_alone, shared_decides, shared_serves}
 use Rattle.sedmatch.proofs.passes.shared_groups.Goals as goal
 
@@ -17,4 +17,4 @@ returns-clause-desk c =
     c.groups_with.ensures.space c.groups_with.ensures.none c.groups_with.ensures.tasks
 
 pub returns-then-groups-eq0-clause-entered : goal.returns-then-groups-eq0-clause-entered
-returns-then-groups-eq0-clause-entered c = c.whole_alone.ensures.entered _ _
+returns-then-groups-eq0-clause-entered c = c.whole_alone.ensures.entered c.args.subject.prepared.now.arena.expr _ _ c.groups.ensures.expr (sym c.groups.ensures.value ∙ c.if-groups-eq0.true)

@@ -120,5 +120,7 @@ returns-clause-entered c =
     let same = ap (λ p. p.arena.expr) c.first_span.ensures.prepared ∙ c.fit.ensures.expr in
     let begun = c.fit.ensures.cost.0 in
     let sought = c.first_span.ensures.cost.0 in
-    enters_later (expression_tree c.args.expr.now) c.shared_groups-groups.result s u v (omega (arith, begun, sought))
-    (subst (λ (x : WrittenExpression). EntersGroups (expression_tree x) c.shared_groups-groups.result u v) same c.shared_groups-groups.ensures.entered)
+    let w = c.args.text.now in
+    let span = c.in_ok-span.span in
+    enters_later (expression_tree c.args.expr.now) w span.0 span.1 s u v (omega (arith, begun, sought))
+    (subst (λ (x : WrittenExpression). EntersGroups (expression_tree x) w span.0 span.1 u v) same c.shared_groups-groups.ensures.entered)

@@ -1,9 +1,9 @@
 use Rattle.std.proofs.Common.{◌≡◌, ◌+◌, ◌-◌, ◌*◌, ◌<◌, ◌≤◌, List, [], ◌∷◌, ◌++◌, length, reverse, refl, sym, ap, ◌∙◌, subst, arith}
 use Rattle.std.proofs.lemmas.List.{nil_from_length, reverse-append}
 use Rattle.sedpass.specs.Decide.{nodes_in, text_in, told_of, undecided, found, part_cost, tasks_cost}
-use Rattle.sedpass.specs.Turns.{Runs, AreReady, AreShort, LooksAtEntered, weights}
-use Rattle.sedpass.specs.Walks.{EntersGroups}
-use Rattle.sedpass.proofs.WalkLemmas.{enters_groups, looks_same, looks_on}
+use Rattle.sedpass.specs.Turns.{AreReady, AreShort, Progress, weights}
+use Rattle.sedpass.specs.Walks.{LooksAtEntered}
+use Rattle.sedpass.proofs.WalkLemmas.{still, goes_on, ended, looked}
 use Rattle.sedre.specs.Sizes.{size}
 use Rattle.sedre.specs.Written.{tree_at, expression_tree}
 use Rattle.sedpass.specs.declared.groups.Task.{Task}
@@ -36,10 +36,8 @@ all-init c =
       room = omega arith;
       ready = subst (AreReady nodes w) (sym begun) (inside, c.requires.order.0, c.requires.order.1, c.requires.spans, tt);
       less = subst (λ ts. weights nodes ts ≤ 2 * length nodes) (sym begun) (omega (arith, small));
-      run = λ f run. subst (λ ts. Runs nodes w ts start f) begun run;
       counts = least_same c.args.steps.now 1;
-      walked = subst (λ ts. LooksAtEntered nodes (first ∷ []) (undecided c.args.start c.args.stop) ts (undecided c.args.start c.args.stop) c.args.steps.now c.args.steps.now) (sym begun)
-          (looks_same nodes (first ∷ []) (undecided c.args.start c.args.stop) c.args.steps.now);
+      progress = subst (λ ts. Progress nodes w (first ∷ []) start ts start c.args.steps.now c.args.steps.now) (sym begun) (still nodes w (first ∷ []) start c.args.steps.now);
       short = subst (AreShort long) (sym begun) (omega arith, tt);
       cost = (omega arith, subst (λ ts. c.args.steps.now + tasks_cost nodes long ts ≤ c.args.steps.now + most) (sym begun) (omega (arith, paid)));
     }
@@ -51,7 +49,7 @@ all-smaller c =
     let w = text_in s in
     let old = c.pop.new.self.items in
     let popped : reverse c.all.room.tasks.items ≡ c.in-Some.task ∷ reverse old = ap reverse c.in-Some.ensures.items ∙ reverse-append old (c.in-Some.task ∷ []) in
-    let less : weights nodes (reverse c.work.new.room.tasks.items) + 1 ≤ weights nodes (reverse c.all.room.tasks.items) = omega (arith, c.work.ensures.reduces.2, ap (weights nodes) popped) in
+    let less : weights nodes (reverse c.work.new.room.tasks.items) + 1 ≤ weights nodes (reverse c.all.room.tasks.items) = omega (arith, c.work.ensures.reduces.1, ap (weights nodes) popped) in
     omega (arith, less)
 
 pub all-preserved : goal.all-preserved
@@ -62,9 +60,11 @@ all-preserved c =
     let old = c.pop.new.self.items in
     let popped : reverse c.all.room.tasks.items ≡ c.in-Some.task ∷ reverse old = ap reverse c.in-Some.ensures.items ∙ reverse-append old (c.in-Some.task ∷ []) in
     let inv = c.all.invariant in
+    let now = told_of c.all.told.due c.all.told.spans in
+    let after = told_of c.work.new.told.due c.work.new.told.spans in
     let m = length nodes in
     let long = c.args.stop - c.args.start in
-    let less : weights nodes (reverse c.work.new.room.tasks.items) + 1 ≤ weights nodes (reverse c.all.room.tasks.items) = omega (arith, c.work.ensures.reduces.2, ap (weights nodes) popped) in
+    let less : weights nodes (reverse c.work.new.room.tasks.items) + 1 ≤ weights nodes (reverse c.all.room.tasks.items) = omega (arith, c.work.ensures.reduces.1, ap (weights nodes) popped) in
     let spent = c.work.ensures.cost long (subst (AreShort long) popped inv.short) in
     let before = subst (λ ts. c.all.steps + tasks_cost nodes long ts ≤ c.args.steps.now + (part_cost m long * (m - 1) + 2 * m)) popped inv.cost.1 in
     record {
@@ -73,13 +73,12 @@ all-preserved c =
       space = space_then c.args.room.now.kept c.all.room.kept c.work.new.room.kept inv.space c.work.ensures.space;
       told = c.work.ensures.told;
       room = omega (arith, inv.room, c.pop.ensures.capacity, c.work.ensures.room);
-      ready = c.work.ensures.reduces.1;
+      ready = c.work.ensures.reduces.0;
       less = omega (arith, less, inv.less);
-      run = λ f run. inv.run f (subst (λ ts. Runs nodes w ts (told_of c.all.told.due c.all.told.spans) f) (sym popped) (c.work.ensures.reduces.0 f run));
       counts = least_on c.args.steps.now c.all.steps c.work.new.steps 1 (found c.all.told.spans) (found c.work.new.told.spans) inv.counts c.work.ensures.counts;
-      walked = looks_on nodes (Apart s.prepared.now.root c.args.start c.args.stop ∷ []) (reverse c.all.room.tasks.items) (reverse c.work.new.room.tasks.items) (undecided c.args.start c.args.stop)
-          c.all.told.spans c.work.new.told.spans c.args.steps.now c.all.steps c.work.new.steps inv.walked
-          (subst (λ ts. LooksAtEntered nodes ts c.all.told.spans (reverse c.work.new.room.tasks.items) c.work.new.told.spans c.all.steps c.work.new.steps) (sym popped) c.work.ensures.walked);
+      progress = goes_on nodes w (Apart s.prepared.now.root c.args.start c.args.stop ∷ []) (reverse c.all.room.tasks.items) (reverse c.work.new.room.tasks.items)
+          (told_of c.args.due (undecided c.args.start c.args.stop)) now after c.args.steps.now c.all.steps c.work.new.steps inv.progress
+          (subst (λ ts. Progress nodes w ts now (reverse c.work.new.room.tasks.items) after c.all.steps c.work.new.steps) (sym popped) c.work.ensures.progress);
       short = spent.0;
       cost = (omega (arith, inv.cost.0, spent.1.0), omega (arith, before, spent.1.1));
     }
@@ -88,29 +87,32 @@ pub returns-clause-report : goal.returns-clause-report
 returns-clause-report c = λ all.
     let s = told_of c.all.told.due c.all.told.spans in
     let empty : c.all.room.tasks.items ≡ [] = nil_from_length c.all.room.tasks.items (omega (arith, c.in_default.ensures.cases, c.all.room.tasks.ok)) in
-    let run = c.all.invariant.run s (subst (λ ts. Runs (nodes_in c.args.subject) (text_in c.args.subject) ts s s) (sym (ap reverse empty)) refl) in
+    let done = ended (nodes_in c.args.subject) (text_in c.args.subject) _ (told_of c.args.due (undecided c.args.start c.args.stop)) c.all.room.tasks.items _ _ _ empty c.all.invariant.progress in
+    let run = done.run s 0 (refl, refl) in
     let p = c.args.subject.prepared.now in
-    decides p.arena.expr (text_in c.args.subject) p.root c.args.start c.args.stop (told_of c.args.due (undecided c.args.start c.args.stop)) s p.is_prepared.last
-    (starts_due (expression_tree p.arena.expr) c.args.start c.args.stop c.args.due c.requires.whole all) run
+    decides p.arena.expr (text_in c.args.subject) p.root c.args.start c.args.stop _ (told_of c.args.due (undecided c.args.start c.args.stop)) s p.is_prepared.last
+    (starts_due (expression_tree p.arena.expr) c.args.start c.args.stop c.args.due c.requires.whole all) c.requires.spans run
 
 pub returns-clause-due : goal.returns-clause-due
 returns-clause-due c = λ groups k report is.
     let s = told_of c.all.told.due c.all.told.spans in
     let empty : c.all.room.tasks.items ≡ [] = nil_from_length c.all.room.tasks.items (omega (arith, c.in_default.ensures.cases, c.all.room.tasks.ok)) in
-    let run = c.all.invariant.run s (subst (λ ts. Runs (nodes_in c.args.subject) (text_in c.args.subject) ts s s) (sym (ap reverse empty)) refl) in
+    let done = ended (nodes_in c.args.subject) (text_in c.args.subject) _ (told_of c.args.due (undecided c.args.start c.args.stop)) c.all.room.tasks.items _ _ _ empty c.all.invariant.progress in
+    let run = done.run s 0 (refl, refl) in
     let p = c.args.subject.prepared.now in
-    decides_due p.arena.expr (text_in c.args.subject) p.root c.args.start c.args.stop k c.args.due s groups p.is_prepared.last c.requires.whole run report is
+    decides_due p.arena.expr (text_in c.args.subject) p.root c.args.start c.args.stop _ k c.args.due s groups p.is_prepared.last c.requires.whole c.requires.spans run report is
 
 pub returns-clause-entered : goal.returns-clause-entered
 returns-clause-entered c =
     let p = c.args.subject.prepared.now in
     let nodes = nodes_in c.args.subject in
-    let empty : c.all.room.tasks.items ≡ [] = nil_from_length c.all.room.tasks.items (omega (arith, c.in_default.ensures.cases, c.all.room.tasks.ok)) in
-    let walked = subst (λ ts. LooksAtEntered nodes (Apart p.root c.args.start c.args.stop ∷ []) (undecided c.args.start c.args.stop) ts c.all.told.spans c.args.steps.now c.all.steps) (ap reverse empty) c.all.invariant.walked in
     let last = p.is_prepared.last in
     let root : p.root ≡ length nodes - 1 = omega (arith, last) in
-    subst (λ x. EntersGroups (tree_at nodes x) c.all.told.spans c.args.steps.now c.all.steps) root
-    (enters_groups nodes p.root c.args.start c.args.stop c.all.told.spans c.args.steps.now c.all.steps walked)
+    let empty : c.all.room.tasks.items ≡ [] = nil_from_length c.all.room.tasks.items (omega (arith, c.in_default.ensures.cases, c.all.room.tasks.ok)) in
+    let done = ended (nodes_in c.args.subject) (text_in c.args.subject) _ (told_of c.args.due (undecided c.args.start c.args.stop)) c.all.room.tasks.items _ _ _ empty c.all.invariant.progress in
+    let start = told_of c.args.due (undecided c.args.start c.args.stop) in
+    subst (λ x. LooksAtEntered (tree_at nodes x) (text_in c.args.subject) c.args.start c.args.stop start c.args.steps.now c.all.steps) root
+    (looked nodes (text_in c.args.subject) p.root c.args.start c.args.stop start (told_of c.all.told.due c.all.told.spans) c.args.steps.now c.all.steps done)
 
 pub returns-clause-cost : goal.returns-clause-cost
 returns-clause-cost c =

@@ -3,8 +3,7 @@ use Rattle.sedre.specs.Steps.{TakesAtLeast}
 use Rattle.sedtext.specs.Costs.{Pays}
 use Rattle.sedpass.specs.Kept.{SameSpace}
 use Rattle.sedpass.specs.Decide.{nodes_in, text_in, told_of, undecided, found, IsTold, HasDesk, part_cost, tasks_cost, SameTables}
-use Rattle.sedpass.specs.Overlay.{State}
-use Rattle.sedpass.specs.Turns.{Runs, AreReady, AreShort, LooksAtEntered, weights}
+use Rattle.sedpass.specs.Turns.{AreReady, AreShort, Progress, weights}
 use Rattle.sedpass.specs.declared.groups.Task.TheVariants.{Apart}
 use Rattle.sedpass.proofs.groups.decide.Given as goal
 
@@ -17,10 +16,9 @@ invariant-all l = record {
   room : vec_capacity l.initial.room.tasks ≤ vec_capacity l.room.tasks;
   ready : AreReady (nodes_in l.subject) (text_in l.subject) (reverse l.room.tasks.items);
   less : weights (nodes_in l.subject) (reverse l.room.tasks.items) ≤ 2 * length (nodes_in l.subject);
-  run : (f : State) → Runs (nodes_in l.subject) (text_in l.subject) (reverse l.room.tasks.items) (told_of l.told.due l.told.spans) f →
-      Runs (nodes_in l.subject) (text_in l.subject) (Apart l.subject.prepared.now.root l.fn.start l.fn.stop ∷ []) (told_of l.fn.due (undecided l.fn.start l.fn.stop)) f;
   counts : TakesAtLeast l.initial.steps l.steps (found l.told.spans - 1);
-  walked : LooksAtEntered (nodes_in l.subject) (Apart l.subject.prepared.now.root l.fn.start l.fn.stop ∷ []) (undecided l.fn.start l.fn.stop) (reverse l.room.tasks.items) l.told.spans l.initial.steps l.steps;
+  progress : Progress (nodes_in l.subject) (text_in l.subject) (Apart l.subject.prepared.now.root l.fn.start l.fn.stop ∷ []) (told_of l.fn.due (undecided l.fn.start l.fn.stop))
+      (reverse l.room.tasks.items) (told_of l.told.due l.told.spans) l.initial.steps l.steps;
   short : AreShort (l.fn.stop - l.fn.start) (reverse l.room.tasks.items);
   cost : Pays l.initial.steps l.steps (part_cost (length (nodes_in l.subject)) (l.fn.stop - l.fn.start) * (length (nodes_in l.subject) - 1) + 2 * length (nodes_in l.subject))
       (tasks_cost (nodes_in l.subject) (l.fn.stop - l.fn.start) (reverse l.room.tasks.items));

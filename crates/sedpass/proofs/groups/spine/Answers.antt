@@ -46,7 +46,7 @@ nodes-smaller c =
     let new = told_of c.turn-then.new.told.due c.turn-then.new.told.spans in
     let spined = subst (λ v. Spined s (waiting (Some c.args.here) c.args.room.now.tasks.items) (told_of c.args.told.now.due c.args.told.now.spans) c.args.steps.now c.nodes.room.kept.region old v stack c.nodes.steps)
     c.in-Some.is c.nodes.invariant.spined in
-    let less = spine_less s old new c.in-Some.next stack c.put-at.new.tasks.items c.turn-then.result c.put-at.result spined.ready c.turn-then.ensures.turn c.put-at.ensures.items in
+    let less = spine_less s old new c.turn-then.ensures.turn.n c.in-Some.next stack c.put-at.new.tasks.items c.turn-then.result c.put-at.result spined.ready c.turn-then.ensures.turn.turn c.put-at.ensures.items in
     subst (λ v. weights (nodes_in s) (waiting c.put-at.result c.put-at.new.tasks.items) < weights (nodes_in s) (waiting v stack)) (sym c.in-Some.is) (omega (arith, less))
 
 pub nodes-preserved : goal.nodes-preserved
@@ -65,7 +65,7 @@ nodes-preserved c =
       told = c.turn-then.ensures.told;
       room = omega (arith, c.nodes.invariant.room, c.put-at.ensures.room);
       spined = spine_goes s start begin old new c.args.steps.now c.nodes.steps c.turn-then.new.steps c.nodes.room.kept.region c.turn-then.new.kept.region
-          c.in-Some.next stack c.put-at.new.tasks.items c.turn-then.result c.put-at.result spined c.turn-then.ensures.turn c.turn-then.ensures.goes c.turn-then.ensures.cost c.put-at.ensures.first c.put-at.ensures.items c.turn-then.ensures.walked;
+          c.in-Some.next stack c.put-at.new.tasks.items c.turn-then.result c.put-at.result spined c.turn-then.ensures.turn c.turn-then.ensures.goes c.turn-then.ensures.cost c.put-at.ensures.first c.put-at.ensures.items;
       counts = least_on c.args.steps.now c.nodes.steps c.turn-then.new.steps (found c.args.told.now.spans) (found c.nodes.told.spans) (found c.turn-then.new.told.spans) c.nodes.invariant.counts c.turn-then.ensures.counts;
     }
 
@@ -84,11 +84,11 @@ returns-clause-cost c =
     (told_of c.nodes.told.due c.nodes.told.spans) v c.nodes.room.tasks.items c.nodes.steps) c.in_default.is c.nodes.invariant.spined in
     spined.spent
 
-pub returns-clause-walked : goal.returns-clause-walked
-returns-clause-walked c =
+pub returns-clause-progress : goal.returns-clause-progress
+returns-clause-progress c =
     let spined = subst (λ v. Spined c.args.subject (waiting (Some c.args.here) c.args.room.now.tasks.items) (told_of c.args.told.now.due c.args.told.now.spans) c.args.steps.now c.nodes.room.kept.region
     (told_of c.nodes.told.due c.nodes.told.spans) v c.nodes.room.tasks.items c.nodes.steps) c.in_default.is c.nodes.invariant.spined in
-    spined.entered
+    spined.progress
 
 pub returns-clause-space : goal.returns-clause-space
 returns-clause-space c = space_then c.args.room.now.kept c.begin.new.self c.nodes.room.kept c.begin.ensures.space c.nodes.invariant.space

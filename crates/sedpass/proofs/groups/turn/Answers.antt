@@ -1,8 +1,7 @@
-use Rattle.std.proofs.Common.{◌≡◌, ◌++◌, arith, subst}
-use Rattle.sedpass.specs.Decide.{nodes_in, found, next_of, LooksAt}
-use Rattle.sedpass.proofs.SpineLemmas.{left_turn, least_same, least_look, looks_more}
-use Rattle.sedpass.specs.Turns.{tasks_of}
-use Rattle.sedpass.proofs.WalkLemmas.{looks_one, looks_none}
+use Rattle.std.proofs.Common.{◌≡◌, arith, subst}
+use Rattle.sedpass.specs.Decide.{nodes_in, told_of, found, next_of, LooksAt}
+use Rattle.sedpass.specs.Turns.{entered_at}
+use Rattle.sedpass.proofs.SpineLemmas.{left_turn, looked_at, unlooked, least_same, least_look, looks_more}
 use Rattle.sedpass.proofs.groups.turn.Goals as goal
 
 pub turn_node-requires-clause-here : goal.turn_node-requires-clause-here
@@ -17,7 +16,19 @@ returns-then-is_due-clause-cost c =
     (omega (arith, look.0, paid.0), omega (arith, look.1, paid.1))
 
 pub returns-else-is_due-clause-turn : goal.returns-else-is_due-clause-turn
-returns-else-is_due-clause-turn c = left_turn c.args.subject c.args.here c.args.told.now.due c.args.told.now.spans c.requires.arena c.requires.there (c.is_due.ensures c.if-is_due.false c.args.told.now.spans)
+returns-else-is_due-clause-turn c =
+    let due = c.args.told.now.due in
+    let spans = c.args.told.now.spans in
+    unlooked c.args.subject c.args.here (told_of due spans) c.args.steps.now
+    (left_turn c.args.subject c.args.here due spans c.requires.arena c.requires.there (c.is_due.ensures c.if-is_due.false spans))
+
+pub returns-then-is_due-clause-turn : goal.returns-then-is_due-clause-turn
+returns-then-is_due-clause-turn c = record {
+  n = entered_at c.look-node.result;
+  turn = c.turn_node.ensures.turn;
+  counts = looked_at c.look-node.result c.args.steps.now c.turn_node.new.steps
+      (least_look c.args.steps.now c.look-node.new.steps c.turn_node.new.steps 0 1 c.look-node.ensures.counts c.turn_node.ensures.cost.0 (omega arith));
+}
 
 pub returns-then-is_due-clause-counts : goal.returns-then-is_due-clause-counts
 returns-then-is_due-clause-counts c =
@@ -42,15 +53,3 @@ returns-then-is_due-clause-entered c = λ due.
 
 pub returns-else-is_due-clause-entered : goal.returns-else-is_due-clause-entered
 returns-else-is_due-clause-entered c = λ due. absurd (due (c.is_due.ensures c.if-is_due.false c.args.told.now.spans))
-
-pub returns-then-is_due-clause-walked : goal.returns-then-is_due-clause-walked
-returns-then-is_due-clause-walked c = λ rest.
-    let here = c.args.here in
-    looks_one (nodes_in c.args.subject) here.node here.start here.stop rest (tasks_of c.turn_node.result ++ rest) c.args.told.now.spans c.turn_node.new.told.spans c.args.steps.now c.turn_node.new.steps
-    (c.turn_node.ensures.turn.enters rest)
-    (least_look c.args.steps.now c.look-node.new.steps c.turn_node.new.steps 0 1 c.look-node.ensures.counts c.turn_node.ensures.cost.0 (omega arith))
-
-pub returns-else-is_due-clause-walked : goal.returns-else-is_due-clause-walked
-returns-else-is_due-clause-walked c = λ rest.
-    let here = c.args.here in
-    looks_none (nodes_in c.args.subject) here.node here.start here.stop rest c.args.told.now.spans c.args.steps.now

@@ -17,16 +17,16 @@ pub returns-in-End-clause-turn : goal.returns-in-End-clause-turn
 returns-in-End-clause-turn c = leaf_turn _ _ _ _ _ _ _ c.requires.here (ap parts_of c.in-End.is)
 
 pub returns-in-Seq-clause-turn : goal.returns-in-Seq-clause-turn
-returns-in-Seq-clause-turn c = c.turn_seq.ensures.turn _
+returns-in-Seq-clause-turn c = rw c.in-Seq.is (c.turn_seq.ensures.turn _)
 
 pub returns-in-Alt-clause-turn : goal.returns-in-Alt-clause-turn
-returns-in-Alt-clause-turn c = c.turn_alt.ensures.turn _
+returns-in-Alt-clause-turn c = rw c.in-Alt.is (c.turn_alt.ensures.turn _)
 
 pub returns-in-Star-clause-turn : goal.returns-in-Star-clause-turn
-returns-in-Star-clause-turn c = c.turn_star.ensures.turn _
+returns-in-Star-clause-turn c = rw c.in-Star.is (c.turn_star.ensures.turn _)
 
 pub returns-in-Opt-clause-turn : goal.returns-in-Opt-clause-turn
-returns-in-Opt-clause-turn c = c.turn_opt.ensures.turn _
+returns-in-Opt-clause-turn c = rw c.in-Opt.is (c.turn_opt.ensures.turn _)
 
 pub returns-in-Opt-clause-goes : goal.returns-in-Opt-clause-goes
 returns-in-Opt-clause-goes c = c.turn_opt.ensures.goes c.args.kept.now.region c.requires.ends
@@ -34,7 +34,7 @@ returns-in-Opt-clause-goes c = c.turn_opt.ensures.goes c.args.kept.now.region c.
 pub returns-in-Group-clause-turn : goal.returns-in-Group-clause-turn
 returns-in-Group-clause-turn c =
     let here = subst (Stands c.args.subject c.args.here) c.in-Group.is c.requires.here in
-    rw c.settle_group.ensures.state (group_turn _ _ _ _ _ _ _ _ _ here c.index-part.ensures).0
+    rw (c.in-Group.is, c.settle_group.ensures.state) (group_turn _ _ _ _ _ _ _ _ _ here c.index-part.ensures).0
 
 pub returns-in-Group-clause-goes : goal.returns-in-Group-clause-goes
 returns-in-Group-clause-goes c =

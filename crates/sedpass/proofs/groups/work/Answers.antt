@@ -1,9 +1,11 @@
 use Rattle.std.proofs.Common.{◌∷◌, ◌-◌, reverse, sym, subst}
-use Rattle.sedpass.specs.Decide.{nodes_in, found, IsSpent}
+use Rattle.sedpass.specs.Decide.{nodes_in, text_in, told_of, found, IsSpent}
 use Rattle.sedre.specs.Steps.{TakesAtLeast}
 use Rattle.sedpass.proofs.SpineLemmas.{least_same}
-use Rattle.sedpass.specs.Turns.{LooksAtEntered}
-use Rattle.sedpass.proofs.WalkLemmas.{looks_forget}
+use Rattle.sedpass.specs.Turns.{Progress}
+use Rattle.sedpass.specs.Walks.{drop_groups}
+use Rattle.sedre.specs.Written.{tree_at}
+use Rattle.sedpass.proofs.WalkLemmas.{forgets}
 use Rattle.sedpass.proofs.groups.work.Goals as goal
 
 pub returns-in-Apart-clause-cost : goal.returns-in-Apart-clause-cost
@@ -14,16 +16,19 @@ pub returns-in-Forget-clause-counts : goal.returns-in-Forget-clause-counts
 returns-in-Forget-clause-counts c =
     subst (λ v. TakesAtLeast c.args.steps.now c.args.steps.now (found v - found c.args.told.now.spans)) (sym c.forget.ensures.spans) (least_same c.args.steps.now (found c.args.told.now.spans))
 
-pub returns-in-Apart-clause-walked : goal.returns-in-Apart-clause-walked
-returns-in-Apart-clause-walked c =
-    subst (λ t. LooksAtEntered (nodes_in c.args.subject) (t ∷ reverse c.args.room.now.tasks.items) c.args.told.now.spans (reverse c.spine.new.room.tasks.items) c.spine.new.told.spans
-    c.args.steps.now c.spine.new.steps) (sym c.in-Apart.is) c.spine.ensures.walked
+pub returns-in-Apart-clause-progress : goal.returns-in-Apart-clause-progress
+returns-in-Apart-clause-progress c =
+    let told = c.args.told.now in
+    let after = c.spine.new.told in
+    subst (λ t. Progress (nodes_in c.args.subject) (text_in c.args.subject) (t ∷ reverse c.args.room.now.tasks.items) (told_of told.due told.spans) (reverse c.spine.new.room.tasks.items)
+    (told_of after.due after.spans) c.args.steps.now c.spine.new.steps) (sym c.in-Apart.is) c.spine.ensures.progress
 
-pub returns-in-Forget-clause-walked : goal.returns-in-Forget-clause-walked
-returns-in-Forget-clause-walked c =
+pub returns-in-Forget-clause-progress : goal.returns-in-Forget-clause-progress
+returns-in-Forget-clause-progress c =
     let nodes = nodes_in c.args.subject in
+    let w = text_in c.args.subject in
     let rest = reverse c.args.room.now.tasks.items in
-    let g = c.args.told.now.spans in
+    let old = told_of c.args.told.now.due c.args.told.now.spans in
     let s = c.args.steps.now in
-    subst (λ v. LooksAtEntered nodes (c.args.task ∷ rest) g rest v s s) (sym c.forget.ensures.spans)
-    (subst (λ t. LooksAtEntered nodes (t ∷ rest) g rest g s s) (sym c.in-Forget.is) (looks_forget nodes c.in-Forget.x rest g s))
+    subst (λ v. Progress nodes w (c.args.task ∷ rest) old rest v s s) (sym c.forget.ensures.state)
+    (subst (λ t. Progress nodes w (t ∷ rest) old rest (drop_groups (tree_at nodes c.in-Forget.x) old) s s) (sym c.in-Forget.is) (forgets nodes w c.in-Forget.x rest old s))

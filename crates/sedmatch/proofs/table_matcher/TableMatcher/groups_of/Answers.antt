@@ -65,14 +65,20 @@ returns-clause-counts c =
 pub returns-clause-entered : goal.returns-clause-entered
 returns-clause-entered c =
     let e = expression_tree c.args.self.now in
+    let w = c.args.text.now in
+    let i = c.args.start in
+    let j = c.args.end in
     let s = c.args.steps.now in
     elim c.match-self.branch [
-      | in-Direct w ↦ subst (λ v. EntersGroups e c.match-self.result s v) (sym w.steps-is) (subst (λ r. EntersGroups e r s s) (sym w.result-is) (w.whole_alone.ensures.entered e s))
-      | in-Passes w ↦
-          let value = w.deref_mut.ensures.value in
-          let is : w.deref_mut.result.now.sought.prepared.arena.expr ≡ c.args.self.now = ap (λ (x : Passes). x.sought.prepared.arena.expr) value ∙ sym (ap written_of w.in-Passes.is) ∙ c.self.view_is in
-          subst (λ v. EntersGroups e c.match-self.result s v) (sym w.steps-is)
-          (subst (λ r. EntersGroups e r s w.groups_by.new.steps) (sym w.result-is) (subst (λ v. EntersGroups (expression_tree v) w.groups_by.result s w.groups_by.new.steps) is w.groups_by.ensures.entered))
+      | in-Direct d ↦
+          let is = direct_is c.self.inside.engine c.args.self.now d.in-Direct.expr d.in-Direct.field-1 c.self.view_is c.self.invariant d.in-Direct.is in
+          let same = written_is c.self.inside.engine c.args.self.now d.in-Direct.expr d.in-Direct.field-1 c.self.view_is d.in-Direct.is in
+          let expr = subst (λ v. IsExpr v.nodes v.groups) same d.is_expression.ensures.expr in
+          subst (EntersGroups e w i j s) (sym d.steps-is) (d.whole_alone.ensures.entered c.args.self.now w s expr is.1)
+      | in-Passes p ↦
+          let value = p.deref_mut.ensures.value in
+          let is : p.deref_mut.result.now.sought.prepared.arena.expr ≡ c.args.self.now = ap (λ (x : Passes). x.sought.prepared.arena.expr) value ∙ sym (ap written_of p.in-Passes.is) ∙ c.self.view_is in
+          subst (EntersGroups e w i j s) (sym p.steps-is) (subst (λ v. EntersGroups (expression_tree v) w i j s p.groups_by.new.steps) is p.groups_by.ensures.entered)
     ]
 
 pub invariant_of-scratch : goal.invariant_of-scratch
