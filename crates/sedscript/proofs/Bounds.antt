@@ -13,14 +13,9 @@ use Rattle.sedscript.specs.declared.types.Address.{Address}
 use Rattle.sedscript.specs.declared.types.Address.TheVariants.{Line, Last, Match}
 use Rattle.sedscript.specs.declared.types.Action.{Action}
 use Rattle.sedscript.specs.declared.types.Command.{Command}
-use Rattle.sedscript.specs.declared.items.Simple.{Simple}
-use Rattle.sedscript.specs.declared.items.Simple.TheVariants.{Delete}
-use Rattle.sedscript.specs.declared.items.TextUse.{TextUse}
-use Rattle.sedscript.specs.declared.items.TextUse.TheVariants.{Append, Insert, Change}
-use Rattle.sedscript.specs.declared.items.FileUse.{FileUse}
-use Rattle.sedscript.specs.declared.items.FileUse.TheVariants.{Read, Write}
-use Rattle.sedscript.specs.declared.items.BranchUse.{BranchUse}
-use Rattle.sedscript.specs.declared.items.BranchUse.TheVariants.{Always, IfReplaced}
+use Rattle.sedscript.specs.declared.types.TextUse.{TextUse}
+use Rattle.sedscript.specs.declared.types.FileUse.{FileUse}
+use Rattle.sedscript.specs.declared.types.FileUse.TheVariants.{Read, Write}
 use Rattle.sedscript.specs.declared.items.Function.{Function}
 use Rattle.sedscript.specs.declared.items.Function.TheVariants.{Plain, Open, Close, Label, Branch, Text, File, Comment, Substitute, Transliterate}
 use Rattle.sedscript.specs.declared.items.Addresses.{Addresses}
@@ -46,11 +41,11 @@ use Rattle.sedscript.specs.declared.script.Named.{Named}
 use Rattle.sedscript.specs.Parts.{program_of, IsNamed}
 use Rattle.sedscript.specs.Script.{CutScript, done, item, is_quiet, with_text, texts_of, with_substitution}
 use Rattle.sedscript.specs.Script.{substitutions_of, with_table, tables_of, substitution_of, table_between, counts_with}
-use Rattle.sedscript.specs.Script.{none_counted, action_of, simple_action, text_action, branch_action, file_action}
+use Rattle.sedscript.specs.Script.{none_counted, action_of}
 use Rattle.sedscript.specs.Script.{sink_of, with_action, commands_of, CutWithoutFault, Means}
 use Rattle.sedscript.specs.Program.{Program}
 use Rattle.sedscript.specs.declared.substitution.Substitution.{Substitution}
-use Rattle.sedscript.specs.Ranges.{Sizes, sizes_of, IsOneOf, SinkWithin, AddressWithin, ActionWithin, CommandWithin, SubstitutionWithin, InRange}
+use Rattle.sedscript.specs.Ranges.{Sizes, sizes_of, IsOneOf, SinkWithin, AddressWithin, FileWithin, ActionWithin, CommandWithin, SubstitutionWithin, InRange}
 use Rattle.sedscript.specs.Letters.{verb_of}
 use Rattle.sedscript.specs.declared.letters.Verb.{Verb}
 use Rattle.sedscript.specs.declared.letters.Verb.TheVariants.{ReadsExpression, Reads}
@@ -92,28 +87,6 @@ abbrev MayAct : Sizes → Option Action → Type 0
 MayAct n None = Unit {0}
 MayAct n (Some a) = ActionWithin n a
 
-simple_within : (n : Sizes) (s : Simple) → ActionWithin n (simple_action s)
-simple_within n Delete = tt
-simple_within n other = tt
-
-text_within : (n : Sizes) (k : ℕ) (u : TextUse) → k < n.texts → ActionWithin n (text_action u k)
-text_within n k Append h = h
-text_within n k Insert h = h
-text_within n k Change h = h
-
-branch_within : (n : Sizes) (to : ℕ) (u : BranchUse) → to ≤ n.commands → ActionWithin n (branch_action u to)
-branch_within n to Always h = h
-branch_within n to IfReplaced h = h
-
--- what a file's number is among the sizes
-abbrev FileWithin : Sizes → FileUse → ℕ → Type 0
-FileWithin n Read k = k < n.rfiles
-FileWithin n Write sink = sink ≤ n.wfiles
-
-file_action_within : (n : Sizes) (k : ℕ) (u : FileUse) → FileWithin n u k → ActionWithin n (file_action u k)
-file_action_within n k Read h = h
-file_action_within n k Write h = h
-
 -- what a function names among all items is among the sizes
 abbrev FilesWithin : List ℕ → List Item → Sizes → Function → Type 0
 FilesWithin text all n (File u from to) = FileWithin n u (number_in u text all (bytes_between text from to))
@@ -136,21 +109,17 @@ may_act : (text : List ℕ) (all before after : List Item) (m : Counts) (n : Siz
     commands_in before + (if becomes_command f then suc (commands_in after) else commands_in after) ≡ n.commands →
     Sums m n (length (with_text text f (texts_of text after))) (length (with_substitution text all f (substitutions_of text all after))) (length (with_table text f (tables_of text after))) →
     MayAct n (action_of text all before m after f)
-may_act text all before after m n (Plain s) files whole count long = simple_within n s
 may_act text all before after m n Open files whole count long =
     at_most_or n.commands (block_end before after)
     (subst (λ (m : ℕ). AtMost m (block_end before after)) (let e : suc (commands_in before) + commands_in after ≡ n.commands = omega (arith, count) in e) (close_bound 0 (suc (commands_in before)) after))
 may_act text all before after m n (Branch u from to) files whole count long =
-    branch_within n _ u
-    (branch_bound n.commands (from == to) (commands_in all) (label_in text (bytes_between text from to) 0 all) (omega (arith, whole))
-    (subst (λ (m : ℕ). AtMost m (label_in text (bytes_between text from to) 0 all)) (let e : 0 + commands_in all ≡ n.commands = omega (arith, whole) in e) (label_bound text (bytes_between text from to) 0 all)))
-may_act text all before after m n (Text u from to) files whole count long = text_within n m.texts u (omega (arith, long.0))
-may_act text all before after m n (File u from to) files whole count long = file_action_within n (number_in u text all (bytes_between text from to)) u files
+    branch_bound n.commands (from == to) (commands_in all) (label_in text (bytes_between text from to) 0 all) (omega (arith, whole))
+    (subst (λ (m : ℕ). AtMost m (label_in text (bytes_between text from to) 0 all)) (let e : 0 + commands_in all ≡ n.commands = omega (arith, whole) in e) (label_bound text (bytes_between text from to) 0 all))
+may_act text all before after m n (Text u from to) files whole count long = omega (arith, long.0)
+may_act text all before after m n (File u from to) files whole count long = files
 may_act text all before after m n (Substitute s e f) files whole count long = omega (arith, long.1)
 may_act text all before after m n (Transliterate s) files whole count long = omega (arith, long.2)
-may_act text all before after m n Close files whole count long = tt
-may_act text all before after m n (Label from to) files whole count long = tt
-may_act text all before after m n Comment files whole count long = tt
+may_act text all before after m n other files whole count long = tt
 
 -- addresses
 
@@ -501,16 +470,10 @@ commands_within text all before (i ∷ is) m n whole count long h files =
 
 leaf_length : (text : List ℕ) (all before after : List Item) (m : Counts) (n : ℕ) (a : Addresses) (f : Function) (cs : List Command) → length cs ≡ n →
     length (with_action a (action_of text all before m after f) cs) ≡ (if becomes_command f then suc n else n)
-leaf_length text all before after m n a (Plain s) cs h = omega (arith, h)
-leaf_length text all before after m n a Open cs h = omega (arith, h)
-leaf_length text all before after m n a (Branch u from to) cs h = omega (arith, h)
-leaf_length text all before after m n a (Text u from to) cs h = omega (arith, h)
-leaf_length text all before after m n a (File u from to) cs h = omega (arith, h)
-leaf_length text all before after m n a (Substitute s e f) cs h = omega (arith, h)
-leaf_length text all before after m n a (Transliterate s) cs h = omega (arith, h)
 leaf_length text all before after m n a Close cs h = h
 leaf_length text all before after m n a (Label from to) cs h = h
 leaf_length text all before after m n a Comment cs h = h
+leaf_length text all before after m n a other cs h = omega (arith, h)
 
 commands_length : (text : List ℕ) (all before is : List Item) (m : Counts) → length (commands_of text all before m is) ≡ commands_in is
 commands_length text all before [] m = refl

@@ -21,20 +21,11 @@ listed xs ys n d more h =
 
 same_addresses : (xs ys : List Addresses) (given : Given) (n : ℕ) → Longer xs ys → IsGiven (length xs) given n → kept_addresses ys given n ≡ kept_addresses xs given n
 same_addresses xs ys g.Listed n more h = listed xs ys n no_addresses more h
-same_addresses xs ys g.Nothing n more h = refl
-same_addresses xs ys g.Line n more h = refl
-same_addresses xs ys g.Last n more h = refl
+same_addresses xs ys other n more h = refl
 
 same_function : (xs ys : List Function) (brief : Brief) (from to : ℕ) → Longer xs ys → IsBrief (length xs) brief from → kept_function ys brief from to ≡ kept_function xs brief from to
 same_function xs ys b.Listed from to more h = listed xs ys from Comment more h
-same_function xs ys (b.Plain s) from to more h = refl
-same_function xs ys b.Open from to more h = refl
-same_function xs ys b.Close from to more h = refl
-same_function xs ys b.Label from to more h = refl
-same_function xs ys (b.Branch u) from to more h = refl
-same_function xs ys (b.Text t) from to more h = refl
-same_function xs ys (b.File u) from to more h = refl
-same_function xs ys b.Comment from to more h = refl
+same_function xs ys other from to more h = refl
 
 same_item : (heads hs : List Addresses) (longs ls : List Function) (k : Kept) → Longer heads hs → Longer longs ls → IsKept (length heads) (length longs) k → kept_item hs ls k ≡ kept_item heads longs k
 same_item heads hs longs ls k a f is =
@@ -63,20 +54,11 @@ longer_is xs ys more = omega (arith, ap length more.1, length-append xs more.0)
 
 more_given : (a b : ℕ) (given : Given) (n : ℕ) → a ≤ b → IsGiven a given n → IsGiven b given n
 more_given a b g.Listed n le h = omega (arith, le, h)
-more_given a b g.Nothing n le h = tt
-more_given a b g.Line n le h = tt
-more_given a b g.Last n le h = tt
+more_given a b other n le h = tt
 
 more_brief : (a c : ℕ) (brief : Brief) (from : ℕ) → a ≤ c → IsBrief a brief from → IsBrief c brief from
 more_brief a c b.Listed from le h = omega (arith, le, h)
-more_brief a c (b.Plain s) from le h = tt
-more_brief a c b.Open from le h = tt
-more_brief a c b.Close from le h = tt
-more_brief a c b.Label from le h = tt
-more_brief a c (b.Branch u) from le h = tt
-more_brief a c (b.Text t) from le h = tt
-more_brief a c (b.File u) from le h = tt
-more_brief a c b.Comment from le h = tt
+more_brief a c other from le h = tt
 
 -- what is listed stands in the longer lists too
 pub all_kept : (heads hs : List Addresses) (longs ls : List Function) (ks : List Kept) → Longer heads hs → Longer longs ls → All (IsKept (length heads) (length longs)) ks → All (IsKept (length hs) (length ls)) ks

@@ -13,7 +13,7 @@ use Rattle.sedscript.specs.Expressions.{Gives, value, after_expression}
 use Rattle.sedscript.specs.Script.{CutScript, done, item, IsEnd, Means, commands_of, none_counted, texts_of}
 use Rattle.sedscript.specs.Script.{substitutions_of, tables_of}
 use Rattle.sedscript.specs.Program.{Program}
-use Rattle.sedscript.specs.declared.items.FileUse.TheVariants.{Read, Write}
+use Rattle.sedscript.specs.declared.types.FileUse.TheVariants.{Read, Write}
 use Rattle.sedscript.specs.Files.{files_in}
 use Rattle.sedscript.proofs.Exclusive.{ReadsAsOne, gives_one, end_gives, is_next, cut_same}
 

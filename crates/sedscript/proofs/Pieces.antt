@@ -49,13 +49,9 @@ escaped_within d b =
     (λ _. if_within 9 (b == 116) _ _ (λ _. tt)
     (λ _. if_within 9 (is_letter b) _ _ (λ _. tt) (λ _. tt))))))
 
-plain_within : (t : Bool) (b : ℕ) → OfPiece 9 (Some (if t then whole else literal b))
-plain_within true b = tt
-plain_within false b = tt
-
 piece_within : (d : ℕ) (escaped : Bool) (b : ℕ) → OfPiece 9 (piece_of d escaped b)
 piece_within d true b = escaped_within d b
-piece_within d false b = if_within 9 (b == 92) _ _ (λ _. tt) (λ _. plain_within (b == 38) b)
+piece_within d false b = if_within 9 (b == 92) _ _ (λ _. tt) (λ _. if_within 9 (b == 38) _ _ (λ _. tt) (λ _. tt))
 
 with_within : (n : ℕ) (o : Option Piece) (ps : List Piece) → OfPiece n o → GroupsWithin n ps → GroupsWithin n (cons_option o ps)
 with_within n None ps h g = g

@@ -13,8 +13,8 @@ use Rattle.sedscript.specs.declared.types.TheConstants.{NO_MEMORY}
 use Rattle.sedscript.specs.declared.types.Reason.{Reason}
 use Rattle.sedscript.specs.declared.types.Reason.TheVariants.{LengthsDiffer}
 use Rattle.sedscript.specs.declared.types.Address.{Address}
-use Rattle.sedscript.specs.declared.items.TextUse.{TextUse}
-use Rattle.sedscript.specs.declared.items.FileUse.{FileUse}
+use Rattle.sedscript.specs.declared.types.TextUse.{TextUse}
+use Rattle.sedscript.specs.declared.types.FileUse.{FileUse}
 use Rattle.sedscript.specs.declared.items.Flags.{Flags}
 use Rattle.sedscript.specs.declared.items.Strings.{Strings}
 use Rattle.sedscript.specs.declared.items.Function.{Function}
@@ -587,12 +587,7 @@ target_at_up_to n text all before depth after place Close le = fault_if_up_to n 
 target_at_up_to n text all before depth after place (Label from to) le = fault_if_up_to n (is_some (label_in text (bytes_between text from to) 0 before)) _ place le
 target_at_up_to n text all before depth after place (Branch u from to) le =
     fault_if_up_to n (not (from == to) && is_none (label_in text (bytes_between text from to) 0 all)) _ place le
-target_at_up_to n text all before depth after place (Plain s) le = tt
-target_at_up_to n text all before depth after place (Text t from to) le = tt
-target_at_up_to n text all before depth after place (File u from to) le = tt
-target_at_up_to n text all before depth after place (Substitute s e g) le = tt
-target_at_up_to n text all before depth after place (Transliterate s) le = tt
-target_at_up_to n text all before depth after place Comment le = tt
+target_at_up_to n text all before depth after place other le = tt
 
 target_up_to : (n : ℕ) (text : List ℕ) (all before : List Item) (depth : ℕ) (is : List Item) → ItemsUpTo n is → FaultUpTo n (target_fault_in text all before depth is)
 target_up_to n text all before depth [] h = tt

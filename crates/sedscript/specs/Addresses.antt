@@ -1,13 +1,7 @@
 -- Addresses and what stands before a function (XCU sed, "Addresses in sed").
-use Rattle.std.specs.Prelude.{ℕ, suc, ◌+◌, List, Bool, true, false, Option, Some, None}
-use Rattle.std.specs.Prelude.{if◌then◌else◌, ◌==◌, slice_get, Result, Ok}
-use Rattle.sedscript.specs.declared.bytes.Sort.TheVariants.{Blank, Bang, Digit}
-use Rattle.sedscript.specs.declared.types.ScriptFault.{ScriptFault}
-use Rattle.sedscript.specs.declared.types.Reason.TheVariants.{BadAddress, OpenDelimiter, BadDelimiter, FlagOnEmpty}
-use Rattle.sedscript.specs.declared.types.Address.{Address}
-use Rattle.sedscript.specs.declared.types.Address.TheVariants.{Line, Last, Match}
-use Rattle.sedscript.specs.declared.items.Addresses.{Addresses}
-use Rattle.sedscript.specs.Bytes.{past, bytes_between, is_digit, with_digits, is_byte}
+use Rattle.std.specs.Prelude.{ℕ, suc, ◌+◌, List, Bool, true, false, Option, Some, None, if◌then◌else◌, ◌==◌, slice_get, Result, Ok}
+use Rattle.sedscript.specs.Types.{ScriptFault, BadAddress, OpenDelimiter, BadDelimiter, FlagOnEmpty, Address, Line, Last, Match, Addresses}
+use Rattle.sedscript.specs.Bytes.{Blank, Bang, Digit, past, bytes_between, is_digit, with_digits, is_byte}
 use Rattle.sedscript.specs.Functions.{fault}
 use Rattle.sedscript.specs.Between.{own_delimiter}
 use Rattle.sedscript.specs.Reading.{Reading, plainly, expression, ◌>>=◌}
@@ -115,9 +109,5 @@ addresses_at text count at = address_at text count at >>= λ x. after_first text
 abbrev pub with_bang : List ℕ → Headed → Headed
 with_bang text h =
     if is_byte 33 (slice_get text (past Blank text h.at))
-    then record {
-      addresses = record { first = h.addresses.first; second = h.addresses.second; negate = true };
-      at = past Bang text (past Blank text h.at);
-      count = h.count;
-    }
-    else record { addresses = h.addresses; at = past Blank text h.at; count = h.count }
+    then record h { addresses = record h.addresses { negate = true }; at = past Bang text (past Blank text h.at) }
+    else record h { at = past Blank text h.at }

@@ -1,13 +1,7 @@
 -- What stands between delimiters after `s` and `y` (XCU sed, "Editing Commands in sed").
-use Rattle.std.specs.Prelude.{ℕ, ◌+◌, List, Bool, true, false, not, ◌||◌, Option, Some, None, is_some, drop, slice_get}
-use Rattle.std.specs.Prelude.{if◌then◌else◌, ◌==◌, Result, Ok, Err}
+use Rattle.std.specs.Prelude.{ℕ, ◌+◌, List, Bool, true, false, not, ◌||◌, Option, Some, None, is_some, drop, slice_get, if◌then◌else◌, ◌==◌, Result, Ok, Err}
 use Rattle.sedre.specs.Delimited.{delimiter_at}
-use Rattle.sedscript.specs.declared.types.ScriptFault.{ScriptFault}
-use Rattle.sedscript.specs.declared.types.Reason.TheVariants.{OpenDelimiter, BadDelimiter}
-use Rattle.sedscript.specs.declared.items.Strings.{Strings}
-use Rattle.sedscript.specs.declared.items.Flags.{Flags}
-use Rattle.sedscript.specs.declared.items.Function.{Function}
-use Rattle.sedscript.specs.declared.items.Function.TheVariants.{Substitute, Transliterate}
+use Rattle.sedscript.specs.Types.{ScriptFault, OpenDelimiter, BadDelimiter, Strings, Flags, Function, Substitute, Transliterate}
 use Rattle.sedscript.specs.Bytes.{bytes_between}
 use Rattle.sedscript.specs.Functions.{fault, ended, ◌>>=◌}
 use Rattle.sedscript.specs.Strings.{string_end}

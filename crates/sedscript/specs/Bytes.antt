@@ -1,9 +1,8 @@
 -- Places of a text, counted from 0.
-use Rattle.std.specs.Prelude.{ℕ, ◌+◌, ◌*◌, ◌-◌, ◌^◌, List, drop, take, Bool, false, not, ◌||◌}
-use Rattle.std.specs.Prelude.{Option, Some, None, if◌then◌else◌, nat_lt, ◌==◌}
+use Rattle.std.specs.Prelude.{ℕ, ◌+◌, ◌*◌, ◌-◌, ◌^◌, List, drop, take, Bool, false, not, ◌||◌, Option, Some, None, if◌then◌else◌, nat_lt, ◌==◌}
 use Rattle.std.specs.List.{fold, prefix_len}
 use Rattle.sedscript.specs.declared.bytes.Sort.{Sort}
-use Rattle.sedscript.specs.declared.bytes.Sort.TheVariants.{Blank, Separator, Bang, Digit, Name, Line}
+pub use Rattle.sedscript.specs.declared.bytes.Sort.TheVariants.{Blank, Separator, Bang, Digit, Name, Line}
 -- a decimal digit
 pub use Rattle.sedre.specs.Classes.{is_digit}
 

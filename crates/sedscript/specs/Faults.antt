@@ -1,12 +1,6 @@
 -- The numbers and the names of the reasons (this project's own).
 use Rattle.std.specs.Prelude.{ℕ, List, codes}
-use Rattle.sedscript.specs.declared.types.Reason.{Reason}
-use Rattle.sedscript.specs.declared.types.Reason.TheVariants.{UnknownCommand, TooManyAddresses, BadAddress, MissingText}
-use Rattle.sedscript.specs.declared.types.Reason.TheVariants.{OpenDelimiter, BadDelimiter, UnknownFlag, RepeatedFlag}
-use Rattle.sedscript.specs.declared.types.Reason.TheVariants.{BadNumber, UnknownLabel, RepeatedLabel}
-use Rattle.sedscript.specs.declared.types.Reason.TheVariants.{MissingLabel, OpenBlock, StrayClose, TrailingBytes}
-use Rattle.sedscript.specs.declared.types.Reason.TheVariants.{LengthsDiffer, RepeatedByte, BadEscape, MissingName}
-use Rattle.sedscript.specs.declared.types.Reason.TheVariants.{GroupAbsent, Expression, NoMemory, FlagOnEmpty}
+use Rattle.sedscript.specs.Types.{Reason, UnknownCommand, TooManyAddresses, BadAddress, MissingText, OpenDelimiter, BadDelimiter, UnknownFlag, RepeatedFlag, BadNumber, UnknownLabel, RepeatedLabel, MissingLabel, OpenBlock, StrayClose, TrailingBytes, LengthsDiffer, RepeatedByte, BadEscape, MissingName, GroupAbsent, Expression, NoMemory, FlagOnEmpty}
 
 abbrev pub number_of : Reason → ℕ
 number_of UnknownCommand = 1

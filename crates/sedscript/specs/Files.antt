@@ -1,13 +1,8 @@
 -- The files that a script names (XCU sed, "Editing Commands in sed": `r`, `w` and the flag `w` of `s`).
-use Rattle.std.specs.Prelude.{ℕ, List, [], ◌∷◌, Bool, true, not, Option, Some, None, codes, filter, filter_map}
-use Rattle.std.specs.Prelude.{if◌then◌else◌, unwrap_or}
+use Rattle.std.specs.Prelude.{ℕ, List, [], ◌∷◌, Bool, true, not, Option, Some, None, codes, filter, filter_map, if◌then◌else◌, unwrap_or}
 use Rattle.std.specs.List.{position_from}
 use Rattle.std.specs.Str.{bytes_eq}
-use Rattle.sedscript.specs.declared.items.FileUse.{FileUse}
-use Rattle.sedscript.specs.declared.items.FileUse.TheVariants.{Read, Write}
-use Rattle.sedscript.specs.declared.items.Function.{Function}
-use Rattle.sedscript.specs.declared.items.Function.TheVariants.{File, Substitute}
-use Rattle.sedscript.specs.declared.items.Item.{Item}
+use Rattle.sedscript.specs.Types.{FileUse, Read, Write, Function, File, Substitute, Item}
 use Rattle.sedscript.specs.Bytes.{bytes_between}
 
 -- the name that stands for the standard output, where it is written to (this project's own)

@@ -4,11 +4,9 @@ use Rattle.sedre.specs.declared.types.Kind.{Kind}
 use Rattle.sedre.specs.Written.{WrittenExpression}
 use Rattle.sedre.specs.declared.types.ExprFault.{ExprFault}
 use Rattle.sedre.specs.Grammar.{ExprFaulty}
-use Rattle.sedscript.specs.declared.types.ScriptFault.{ScriptFault}
-use Rattle.sedscript.specs.declared.items.Item.{Item}
+use Rattle.sedscript.specs.Types.{ScriptFault, Item, Expression}
 use Rattle.sedscript.specs.Items.{item_at}
 use Rattle.sedscript.specs.Targets.{target_fault}
-use Rattle.sedscript.specs.declared.types.Reason.TheVariants.{Expression}
 use Rattle.sedscript.specs.Bytes.{bytes_between}
 use Rattle.sedscript.specs.Reading.{Pattern, Reading, plainly, expression}
 use Rattle.sedscript.specs.Script.{CutScript, IsEnd}

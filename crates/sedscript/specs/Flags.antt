@@ -1,11 +1,7 @@
 -- The flags of `s` (XCU sed, "Editing Commands in sed").
-use Rattle.std.specs.Prelude.{ℕ, zero, suc, ◌+◌, List, [], ◌∷◌, Bool, true, false, ◌||◌, Option, Some, None, is_some}
-use Rattle.std.specs.Prelude.{if◌then◌else◌, ◌==◌, Result, Ok, Err}
+use Rattle.std.specs.Prelude.{ℕ, zero, suc, ◌+◌, List, [], ◌∷◌, Bool, true, false, ◌||◌, Option, Some, None, is_some, if◌then◌else◌, ◌==◌, Result, Ok, Err}
 use Rattle.std.specs.List.{prefix_len, take_while}
-use Rattle.sedscript.specs.declared.types.ScriptFault.{ScriptFault}
-use Rattle.sedscript.specs.declared.types.Reason.TheVariants.{UnknownFlag, RepeatedFlag, BadNumber, MissingName}
-use Rattle.sedscript.specs.declared.types.Reason.TheVariants.{FlagOnEmpty}
-use Rattle.sedscript.specs.declared.items.Flags.{Flags}
+use Rattle.sedscript.specs.Types.{ScriptFault, UnknownFlag, RepeatedFlag, BadNumber, MissingName, FlagOnEmpty, Flags}
 use Rattle.sedscript.specs.Bytes.{is_blank, is_digit, with_digits}
 use Rattle.sedscript.specs.Functions.{fault, may_end, name_from, ◌>>=◌}
 
@@ -28,20 +24,17 @@ abbrev pub with_number : Flags → ℕ → List ℕ → Result Flags ScriptFault
 with_number f at digits =
     if is_some f.number then fault RepeatedFlag at else numbered f at (with_digits (Some 0) digits)
 
--- the flags with the one of the byte at a place: `g`, `p` or `I` (this project's own). None may stand there twice (this
--- project's own), and `I` may not where the regular expression is empty (this project's own)
+-- these flags, unless the one at a place was there already (this project's own)
+abbrev pub once : (already : Bool) → ℕ → Flags → Result Flags ScriptFault
+once already at f = if already then fault RepeatedFlag at else Ok f
+
+-- the flags with the one of the byte at a place: `g`, `p`, or `I` where the regular expression isn't empty (this project's
+-- own)
 abbrev pub with_flag : (empty : Bool) → Flags → ℕ → ℕ → Result Flags ScriptFault
 with_flag empty f at b =
-    if b == 103
-    then if f.global then fault RepeatedFlag at
-    else Ok (record f { global = true })
-    else if b == 112
-    then if f.print then fault RepeatedFlag at
-    else Ok (record f { print = true })
-    else if b == 73
-    then if empty then fault FlagOnEmpty at
-    else if f.folded then fault RepeatedFlag at
-    else Ok (record f { folded = true })
+    if b == 103 then once f.global at (record f { global = true })
+    else if b == 112 then once f.print at (record f { print = true })
+    else if b == 73 then (if empty then fault FlagOnEmpty at else once f.folded at (record f { folded = true }))
     else fault UnknownFlag at
 
 -- the flags with the file of the `w` at a place, and the place after its name

@@ -1,24 +1,8 @@
 -- What follows the letters of all functions but `s` and `y` (XCU sed, "Editing Commands in sed").
-use Rattle.std.specs.Prelude.{ℕ, ◌+◌, List, [], ◌∷◌, suc, drop, Bool, true, false, ◌&&◌, ◌||◌, Option, Some, None}
-use Rattle.std.specs.Prelude.{if◌then◌else◌, nat_lt, ◌==◌, slice_get, Result, Ok, Err, option_map}
+use Rattle.std.specs.Prelude.{ℕ, ◌+◌, List, [], ◌∷◌, suc, drop, Bool, true, false, ◌&&◌, ◌||◌, Option, Some, None, if◌then◌else◌, nat_lt, ◌==◌, slice_get, Result, Ok, Err, option_map}
 use Rattle.std.specs.Option.{option_len}
-use Rattle.sedscript.specs.declared.bytes.Sort.TheVariants.{Blank, Name, Line}
-use Rattle.sedscript.specs.declared.types.ScriptFault.{ScriptFault}
-use Rattle.sedscript.specs.declared.types.Reason.{Reason}
-use Rattle.sedscript.specs.declared.types.Reason.TheVariants.{UnknownCommand, TooManyAddresses, MissingText}
-use Rattle.sedscript.specs.declared.types.Reason.TheVariants.{MissingLabel, MissingName, TrailingBytes}
-use Rattle.sedscript.specs.declared.letters.Verb.{Verb}
-use Rattle.sedscript.specs.declared.items.TextUse.{TextUse}
-use Rattle.sedscript.specs.declared.items.BranchUse.{BranchUse}
-use Rattle.sedscript.specs.declared.items.FileUse.{FileUse}
-use Rattle.sedscript.specs.declared.items.Function.{Function}
-use Rattle.sedscript.specs.declared.items.Function.TheVariants.{Label, Branch, Text, File}
-use Rattle.sedscript.specs.declared.items.Addresses.{Addresses}
-use Rattle.sedscript.specs.declared.items.Here.{Here}
-use Rattle.sedscript.specs.declared.items.Here.TheVariants.{Is}
-use Rattle.sedscript.specs.declared.texts.Inside.{Inside}
-use Rattle.sedscript.specs.declared.texts.Inside.TheVariants.{InLine, Escape, Due}
-use Rattle.sedscript.specs.Bytes.{past, is_byte}
+use Rattle.sedscript.specs.Types.{ScriptFault, Reason, UnknownCommand, TooManyAddresses, MissingText, MissingLabel, MissingName, TrailingBytes, Verb, TextUse, BranchUse, FileUse, Function, Label, Branch, Text, File, Addresses, Here, Is, Inside, InLine, Escape, Due}
+use Rattle.sedscript.specs.Bytes.{Blank, Name, Line, past, is_byte}
 use Rattle.sedscript.specs.Letters.{most_addresses}
 
 abbrev pub fault : {A : Type 0} → Reason → ℕ → Result A ScriptFault

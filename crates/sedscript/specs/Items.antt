@@ -1,25 +1,10 @@
 -- The items of a script: functions with their addresses (XCU sed, "Extended Description").
 use Rattle.std.specs.Prelude.{ℕ, ◌+◌, List, false, Option, Some, None, if◌then◌else◌, ◌==◌, slice_get, Result, Ok}
-use Rattle.sedscript.specs.declared.bytes.Sort.TheVariants.{Separator, Blank, Line}
-use Rattle.sedscript.specs.declared.types.ScriptFault.{ScriptFault}
-use Rattle.sedscript.specs.declared.types.Reason.TheVariants.{UnknownCommand}
-use Rattle.sedscript.specs.declared.items.Strings.{Strings}
-use Rattle.sedscript.specs.declared.items.Function.{Function}
-use Rattle.sedscript.specs.declared.items.Function.TheVariants.{Plain, Open, Close, Comment}
-use Rattle.sedscript.specs.declared.letters.Verb.{Verb}
-use Rattle.sedscript.specs.declared.letters.Verb.TheVariants.{ReadsExpression, Reads}
-use Rattle.sedscript.specs.declared.letters.Shape.{Shape}
-use Rattle.sedscript.specs.declared.letters.Shape.TheVariants.{Alone, OpensBlock, ClosesBlock, Remark, NamesLabel, GoesTo}
-use Rattle.sedscript.specs.declared.letters.Shape.TheVariants.{TakesText, NamesFile, TakesStrings}
-use Rattle.sedscript.specs.declared.items.Addresses.{Addresses}
-use Rattle.sedscript.specs.declared.items.Here.{Here}
-use Rattle.sedscript.specs.declared.items.Here.TheVariants.{Ends}
-use Rattle.sedscript.specs.Bytes.{past}
-use Rattle.sedscript.specs.Functions.{fault, ended, label_of, branch_of, text_of, text_from, file_of, name_from}
-use Rattle.sedscript.specs.Functions.{allowed, item_of}
+use Rattle.sedscript.specs.Types.{ScriptFault, UnknownCommand, Strings, Function, Plain, Open, Close, Comment, Verb, ReadsExpression, Reads, Shape, Alone, OpensBlock, ClosesBlock, Remark, NamesLabel, GoesTo, TakesText, NamesFile, TakesStrings, Addresses, Here, Ends}
+use Rattle.sedscript.specs.Bytes.{Separator, Blank, Line, past}
+use Rattle.sedscript.specs.Functions.{fault, ended, label_of, branch_of, text_of, text_from, file_of, name_from, allowed, item_of}
 use Rattle.sedscript.specs.Letters.{verb_of}
-use Rattle.sedscript.specs.Between.{own_delimiter, substitute_strings, flags_after, substituted}
-use Rattle.sedscript.specs.Between.{transliterate_at}
+use Rattle.sedscript.specs.Between.{own_delimiter, substitute_strings, flags_after, substituted, transliterate_at}
 use Rattle.sedscript.specs.Flags.{folds}
 use Rattle.sedscript.specs.Reading.{Reading, plainly, expression, ◌>>=◌}
 use Rattle.sedscript.specs.Addresses.{Headed, addresses_at, with_bang}

@@ -2,9 +2,7 @@
 -- How the items of a script are kept in little room.
 use Rattle.std.specs.Prelude.{◌≡◌, ◌<◌, ℕ, List, ◌++◌, map, false, Some, None, unwrap_or, slice_get}
 use Rattle.sedscript.specs.declared.types.Address.TheVariants as address
-use Rattle.sedscript.specs.declared.items.Addresses.{Addresses}
-use Rattle.sedscript.specs.declared.items.Item.{Item}
-use Rattle.sedscript.specs.declared.items.Function.{Function}
+use Rattle.sedscript.specs.Types.{Addresses, Item, Function}
 use Rattle.sedscript.specs.declared.items.Function.TheVariants as f
 use Rattle.sedscript.specs.declared.kept.Kept.{Kept}
 use Rattle.sedscript.specs.declared.kept.Given.{Given}

@@ -1,15 +1,6 @@
 -- The letters of the functions, and the addresses that they take (XCU sed, "Editing Commands in sed").
 use Rattle.std.specs.Prelude.{ℕ, Option, Some, None, if◌then◌else◌, ◌==◌}
-use Rattle.sedscript.specs.declared.letters.Verb.{Verb}
-use Rattle.sedscript.specs.declared.letters.Verb.TheVariants.{ReadsExpression, Reads}
-use Rattle.sedscript.specs.declared.letters.Shape.TheVariants.{Alone, OpensBlock, ClosesBlock, Remark, NamesLabel, GoesTo}
-use Rattle.sedscript.specs.declared.letters.Shape.TheVariants.{TakesText, NamesFile, TakesStrings}
-use Rattle.sedscript.specs.declared.items.Simple.TheVariants.{AppendHold, AppendNext, CopyHold, Delete, DeleteFirst}
-use Rattle.sedscript.specs.declared.items.Simple.TheVariants.{Exchange, Hold, HoldMore, LineNumber, List, NextLine, Print}
-use Rattle.sedscript.specs.declared.items.Simple.TheVariants.{PrintFirst, Quit}
-use Rattle.sedscript.specs.declared.items.TextUse.TheVariants.{Append, Insert, Change}
-use Rattle.sedscript.specs.declared.items.BranchUse.TheVariants.{Always, IfReplaced}
-use Rattle.sedscript.specs.declared.items.FileUse.TheVariants.{Read, Write}
+use Rattle.sedscript.specs.Types.{Verb, ReadsExpression, Reads, Alone, OpensBlock, ClosesBlock, Remark, NamesLabel, GoesTo, TakesText, NamesFile, TakesStrings, AppendHold, AppendNext, CopyHold, Delete, DeleteFirst, Exchange, Hold, HoldMore, LineNumber, List, NextLine, Print, PrintFirst, Quit, Append, Insert, Change, Always, IfReplaced, Read, Write}
 
 -- what a letter stands for, if it is a function's
 abbrev pub verb_of : ℕ → Option Verb

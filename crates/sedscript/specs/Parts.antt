@@ -2,10 +2,8 @@
 -- The parts that a script is kept in.
 use Rattle.std.specs.Prelude.{◌≡◌, ℕ, List, Bool, map}
 use Rattle.sedre.specs.Written.{WrittenExpression}
-use Rattle.sedscript.specs.declared.items.Item.{Item}
-use Rattle.sedscript.specs.declared.types.Command.{Command}
+use Rattle.sedscript.specs.Types.{Item, Command, Read, Write}
 use Rattle.sedscript.specs.declared.script.Named.{Named}
-use Rattle.sedscript.specs.declared.items.FileUse.TheVariants.{Read, Write}
 use Rattle.sedscript.specs.Files.{files_in}
 use Rattle.sedscript.specs.Script.{texts_of, substitutions_of, tables_of}
 use Rattle.sedscript.specs.Program.{Program}

@@ -1,7 +1,7 @@
 -- A script as its callers see it.
 use Rattle.std.specs.Prelude.{ℕ, List, Bool}
 use Rattle.sedre.specs.Written.{WrittenExpression}
-use Rattle.sedscript.specs.declared.types.Command.{Command}
+use Rattle.sedscript.specs.Types.{Command}
 use Rattle.sedscript.specs.declared.substitution.Substitution.{Substitution}
 
 -- a script as its callers see it

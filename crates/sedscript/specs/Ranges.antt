@@ -1,12 +1,8 @@
 -- The numbers of a script are in range.
 use Rattle.std.specs.Prelude.{◌≡◌, ◌<◌, ◌≤◌, ℕ, List, length, Option, Some, None, slice_get}
 use Rattle.sedre.specs.Written.{WrittenExpression}
-use Rattle.sedscript.specs.declared.types.Address.{Address}
-use Rattle.sedscript.specs.declared.types.Address.TheVariants.{Line, Match}
-use Rattle.sedscript.specs.declared.types.Action.{Action}
-use Rattle.sedscript.specs.declared.types.Action.TheVariants.{Block, Branch, Test, Append, Change, Insert, Substitute}
-use Rattle.sedscript.specs.declared.types.Action.TheVariants.{Transliterate, ReadFile, WriteFile}
-use Rattle.sedscript.specs.declared.types.Command.{Command}
+use Rattle.sedscript.specs.Types.{Address, Line, Match, Action, FileUse, Read, Write, Command}
+use Rattle.sedscript.specs.declared.types.Action.TheVariants.{Block, Branch, Text, File, Substitute, Transliterate}
 use Rattle.sedscript.specs.declared.substitution.Substitution.{Substitution}
 use Rattle.sedscript.specs.Program.{Program}
 
@@ -47,18 +43,19 @@ abbrev pub SinkWithin : ℕ → Option ℕ → Type 0
 SinkWithin wfiles None = Unit {0}
 SinkWithin wfiles (Some sink) = sink ≤ wfiles
 
--- an action leads to a command or the end, and has one of the texts, substitutions, tables or files
+-- a file is one of so many that are read, and a sink is the standard output or one of so many files that are written
+abbrev pub FileWithin : Sizes → FileUse → ℕ → Type 0
+FileWithin n Read k = k < n.rfiles
+FileWithin n Write sink = sink ≤ n.wfiles
+
+-- an action leads to a command or the end, and has one of the texts, files, substitutions or tables
 abbrev pub ActionWithin : Sizes → Action → Type 0
 ActionWithin n (Block to) = to ≤ n.commands
-ActionWithin n (Branch to) = to ≤ n.commands
-ActionWithin n (Test to) = to ≤ n.commands
-ActionWithin n (Append k) = k < n.texts
-ActionWithin n (Change k) = k < n.texts
-ActionWithin n (Insert k) = k < n.texts
+ActionWithin n (Branch u to) = to ≤ n.commands
+ActionWithin n (Text t k) = k < n.texts
+ActionWithin n (File u k) = FileWithin n u k
 ActionWithin n (Substitute k) = k < n.substitutions
 ActionWithin n (Transliterate k) = k < n.tables
-ActionWithin n (ReadFile k) = k < n.rfiles
-ActionWithin n (WriteFile sink) = sink ≤ n.wfiles
 ActionWithin n other = Unit {0}
 
 -- a command's addresses and its action are in range

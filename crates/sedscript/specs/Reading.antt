@@ -1,7 +1,7 @@
 -- What is read from a place of a script, where regular expressions may stand in it: what is read after an expression
 -- may depend on the number of its groups.
 use Rattle.std.specs.Prelude.{ℕ, Bool, Result, Ok, Err}
-use Rattle.sedscript.specs.declared.types.ScriptFault.{ScriptFault}
+use Rattle.sedscript.specs.Types.{ScriptFault}
 
 -- a regular expression in a script: where it begins, where it ends, the delimiter that stands there, and whether its
 -- flag `I` makes letters match without regard to case (this project's own)

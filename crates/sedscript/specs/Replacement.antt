@@ -1,10 +1,8 @@
 -- Replacements (XCU sed, "Editing Commands in sed": `s`).
-use Rattle.std.specs.Prelude.{ℕ, suc, ◌-◌, ◌≤◌, List, [], ◌∷◌, ◌++◌, map, Bool, true, false, Option}
-use Rattle.std.specs.Prelude.{Some, None, if◌then◌else◌, nat_lt, ◌==◌}
+use Rattle.std.specs.Prelude.{ℕ, suc, ◌-◌, ◌≤◌, List, [], ◌∷◌, ◌++◌, map, Bool, true, false, Option, Some, None, if◌then◌else◌, nat_lt, ◌==◌}
 use Rattle.std.specs.List.{cons_option}
 use Rattle.std.specs.Option.{option_or}
-use Rattle.sedscript.specs.declared.types.ScriptFault.{ScriptFault}
-use Rattle.sedscript.specs.declared.types.Reason.TheVariants.{BadEscape, GroupAbsent}
+use Rattle.sedscript.specs.Types.{ScriptFault, BadEscape, GroupAbsent}
 use Rattle.sedscript.specs.declared.substitution.Part.{Part}
 use Rattle.sedscript.specs.declared.substitution.Part.TheVariants.{Literal, Whole, Group}
 use Rattle.sedscript.specs.Bytes.{is_digit}
@@ -32,14 +30,10 @@ escaped_piece delimiter b =
     else if is_letter b then None
     else Some (literal b)
 
--- a byte without a backslash: `&` is the whole match
-abbrev pub plain_piece : ℕ → Piece
-plain_piece b = if b == 38 then whole else literal b
-
--- the piece that a byte ends, given whether it is escaped. None where it ends none
+-- the piece that a byte ends, given whether it is escaped: `&` alone is the whole match. None where it ends none
 abbrev pub piece_of : ℕ → Bool → ℕ → Option Piece
 piece_of delimiter true b = escaped_piece delimiter b
-piece_of delimiter false b = if b == 92 then None else Some (plain_piece b)
+piece_of delimiter false b = if b == 92 then None else if b == 38 then Some whole else Some (literal b)
 
 -- the pieces of a replacement's text, given whether its first byte is escaped.
 -- An escape that is refused leaves none

@@ -1,33 +1,11 @@
 -- What a script means (XCU sed, "Extended Description").
-use Rattle.std.specs.Prelude.{◌≡◌, ℕ, suc, ◌+◌, List, [], ◌∷◌, ◌++◌, length, Bool, true, false, not, ◌&&◌, Option, Some}
-use Rattle.std.specs.Prelude.{None, if◌then◌else◌, ◌==◌, slice_get, unwrap_or}
+use Rattle.std.specs.Prelude.{◌≡◌, ℕ, suc, ◌+◌, List, [], ◌∷◌, ◌++◌, length, Bool, true, false, not, ◌&&◌, Option, Some, None, if◌then◌else◌, ◌==◌, slice_get, unwrap_or}
 use Rattle.sedre.specs.declared.types.Kind.{Kind}
 use Rattle.sedre.specs.Written.{WrittenExpression}
-use Rattle.sedscript.specs.declared.bytes.Sort.TheVariants.{Separator}
-use Rattle.sedscript.specs.declared.types.Action.{Action}
+use Rattle.sedscript.specs.Types.{Action, Command, Read, Write, Function, Plain, Open, Branch, Text, File, Substitute, Transliterate, Addresses, Item, Counts, Flags, Strings, Is}
 use Rattle.sedscript.specs.declared.types.Action.TheVariants as action
-use Rattle.sedscript.specs.declared.types.Command.{Command}
 use Rattle.sedscript.specs.declared.substitution.Substitution.{Substitution}
-use Rattle.sedscript.specs.declared.items.Simple.{Simple}
-use Rattle.sedscript.specs.declared.items.Simple.TheVariants.{AppendHold, CopyHold, Delete, Exchange, Hold, HoldMore}
-use Rattle.sedscript.specs.declared.items.Simple.TheVariants.{LineNumber, Print, PrintFirst, Quit}
-use Rattle.sedscript.specs.declared.items.Simple.TheVariants.{AppendNext, DeleteFirst, List as ListSpace, NextLine}
-use Rattle.sedscript.specs.declared.items.TextUse.{TextUse}
-use Rattle.sedscript.specs.declared.items.TextUse.TheVariants.{Append, Insert, Change}
-use Rattle.sedscript.specs.declared.items.BranchUse.{BranchUse}
-use Rattle.sedscript.specs.declared.items.BranchUse.TheVariants.{Always, IfReplaced}
-use Rattle.sedscript.specs.declared.items.FileUse.{FileUse}
-use Rattle.sedscript.specs.declared.items.FileUse.TheVariants.{Read, Write}
-use Rattle.sedscript.specs.declared.items.Function.{Function}
-use Rattle.sedscript.specs.declared.items.Function.TheVariants.{Plain, Open, Branch, Text, File}
-use Rattle.sedscript.specs.declared.items.Function.TheVariants.{Substitute, Transliterate}
-use Rattle.sedscript.specs.declared.items.Addresses.{Addresses}
-use Rattle.sedscript.specs.declared.items.Item.{Item}
-use Rattle.sedscript.specs.declared.items.Counts.{Counts}
-use Rattle.sedscript.specs.declared.items.Flags.{Flags}
-use Rattle.sedscript.specs.declared.items.Strings.{Strings}
-use Rattle.sedscript.specs.declared.items.Here.TheVariants.{Is}
-use Rattle.sedscript.specs.Bytes.{bytes_between, past}
+use Rattle.sedscript.specs.Bytes.{Separator, bytes_between, past}
 use Rattle.sedscript.specs.Items.{item_at}
 use Rattle.sedscript.specs.Expressions.{Gives}
 use Rattle.sedscript.specs.Replacement.{pieces_of}
@@ -115,50 +93,17 @@ counts_with n (Substitute s e f) = record n { substitutions = suc n.substitution
 counts_with n (Transliterate s) = record n { tables = suc n.tables }
 counts_with n f = n
 
--- the action of a command of one letter
-abbrev pub simple_action : Simple → Action
-simple_action Delete = action.Delete
-simple_action LineNumber = action.LineNumber
-simple_action Print = action.Print
-simple_action Quit = action.Quit
-simple_action PrintFirst = action.PrintFirst
-simple_action CopyHold = action.CopyHold
-simple_action AppendHold = action.AppendHold
-simple_action Hold = action.Hold
-simple_action HoldMore = action.HoldMore
-simple_action Exchange = action.Exchange
-simple_action NextLine = action.NextLine
-simple_action AppendNext = action.AppendNext
-simple_action DeleteFirst = action.DeleteFirst
-simple_action ListSpace = action.List
-
--- the action of `a`, `i` or `c` with the text of this number
-abbrev pub text_action : TextUse → ℕ → Action
-text_action Append k = action.Append k
-text_action Insert k = action.Insert k
-text_action Change k = action.Change k
-
--- the action of `b` or `t` that goes to the command of this number
-abbrev pub branch_action : BranchUse → ℕ → Action
-branch_action Always to = action.Branch to
-branch_action IfReplaced to = action.Test to
-
--- the action of `r` or `w` with the file or the sink of this number
-abbrev pub file_action : FileUse → ℕ → Action
-file_action Read k = action.ReadFile k
-file_action Write sink = action.WriteFile sink
-
 -- the action of a function among all items, given those before it, which have so many texts, substitutions and tables,
 -- and those after it. None where it doesn't become a command
 abbrev pub action_of : List ℕ → List Item → List Item → Counts → List Item → Function → Option Action
-action_of text all before n after (Plain s) = Some (simple_action s)
+action_of text all before n after (Plain s) = Some (action.Plain s)
 action_of text all before n after Open = Some (action.Block (unwrap_or (block_end before after) 0))
 action_of text all before n after (Branch u from to) =
-    Some (branch_action u
+    Some (action.Branch u
     (if from == to then commands_in all else unwrap_or (label_in text (bytes_between text from to) 0 all) 0))
-action_of text all before n after (Text t from to) = Some (text_action t n.texts)
+action_of text all before n after (Text t from to) = Some (action.Text t n.texts)
 action_of text all before n after (File u from to) =
-    Some (file_action u (number_in u text all (bytes_between text from to)))
+    Some (action.File u (number_in u text all (bytes_between text from to)))
 action_of text all before n after (Substitute s e f) = Some (action.Substitute n.substitutions)
 action_of text all before n after (Transliterate s) = Some (action.Transliterate n.tables)
 action_of text all before n after f = None

@@ -1,7 +1,6 @@
 -- Private to the proofs: no contract of a public item cites what stands here.
 -- The tables by which labels, blocks and files are found without searching anew.
-use Rattle.std.specs.Prelude.{◌≡◌, ◌≤◌, ℕ, suc, List, [], ◌∷◌, ◌++◌, drop, Bool, false, not, ◌==◌, Option}
-use Rattle.std.specs.Prelude.{Some, None, if◌then◌else◌, map}
+use Rattle.std.specs.Prelude.{◌≡◌, ◌≤◌, ℕ, suc, List, [], ◌∷◌, ◌++◌, drop, Bool, false, not, ◌==◌, Option, Some, None, if◌then◌else◌, map}
 use Rattle.std.specs.Borrow.{Bor}
 use Rattle.std.specs.BTreeMap.{BTreeMap, get_by}
 use Rattle.std.specs.Cmp.Lexicographic.{slice_cmp}
@@ -11,11 +10,7 @@ use Rattle.std.specs.Str.{bytes_eq}
 use Rattle.sedscript.specs.declared.targets.FirstLabel.{FirstLabel}
 use Rattle.sedscript.specs.declared.files.Files.{Files}
 use Rattle.sedscript.specs.declared.files.NumberedFiles.{NumberedFiles}
-use Rattle.sedscript.specs.declared.items.FileUse.{FileUse}
-use Rattle.sedscript.specs.declared.items.FileUse.TheVariants.{Read, Write}
-use Rattle.sedscript.specs.declared.items.Item.{Item}
-use Rattle.sedscript.specs.declared.items.Counts.{Counts}
-use Rattle.sedscript.specs.declared.items.Function.{Function}
+use Rattle.sedscript.specs.Types.{FileUse, Read, Write, Item, Counts, Function}
 use Rattle.sedscript.specs.Files.{files_in}
 use Rattle.sedscript.specs.Targets.{is_label, counted, commands_in, is_open, is_close, close_in}
 

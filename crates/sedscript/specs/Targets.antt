@@ -1,16 +1,10 @@
 -- Where labels and blocks lead, and what is wrong with them
 -- (XCU sed, "Editing Commands in sed": `{`, `}`, `b`, `t` and `:`).
-use Rattle.std.specs.Prelude.{ℕ, suc, ◌-◌, List, [], ◌∷◌, ◌++◌, Bool, true, false, not, ◌&&◌, Option, Some, None}
-use Rattle.std.specs.Prelude.{is_none, is_some, if◌then◌else◌, ◌==◌}
+use Rattle.std.specs.Prelude.{ℕ, suc, ◌-◌, List, [], ◌∷◌, ◌++◌, Bool, true, false, not, ◌&&◌, Option, Some, None, is_none, is_some, if◌then◌else◌, ◌==◌}
 use Rattle.std.specs.Bool.{then_some}
 use Rattle.std.specs.Option.{option_or}
 use Rattle.std.specs.Str.{bytes_eq}
-use Rattle.sedscript.specs.declared.types.ScriptFault.{ScriptFault}
-use Rattle.sedscript.specs.declared.types.Reason.{Reason}
-use Rattle.sedscript.specs.declared.types.Reason.TheVariants.{UnknownLabel, RepeatedLabel, OpenBlock, StrayClose}
-use Rattle.sedscript.specs.declared.items.Function.{Function}
-use Rattle.sedscript.specs.declared.items.Function.TheVariants.{Open, Close, Label, Branch, Comment}
-use Rattle.sedscript.specs.declared.items.Item.{Item}
+use Rattle.sedscript.specs.Types.{ScriptFault, Reason, UnknownLabel, RepeatedLabel, OpenBlock, StrayClose, Function, Open, Close, Label, Branch, Comment, Item}
 use Rattle.sedscript.specs.Bytes.{bytes_between}
 
 -- whether a function becomes a command: all but `}`, `:` and `#` do

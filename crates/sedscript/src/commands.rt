@@ -4,24 +4,21 @@ ghost use Rattle.std.specs.Prelude.{◌≡◌, ◌<◌, ◌≤◌, ◌+◌, ◌-
 ghost use Rattle.std.specs.Prelude.{slice_get, IfOk, OnOk};
 ghost use Rattle.sedscript.specs.Bytes.{bytes_between};
 ghost use Rattle.sedscript.specs.Tables.{TargetsAre, FilesAre, AtMost, blocks_in};
-ghost use Rattle.sedscript.specs.Script.{none_counted, counts_with, simple_action, text_action, branch_action};
-ghost use Rattle.sedscript.specs.Script.{file_action, sink_of, action_of, with_action};
+ghost use Rattle.sedscript.specs.Script.{none_counted, counts_with, sink_of, action_of, with_action};
 ghost use Rattle.sedscript.specs.Script.{commands_of, texts_of, substitution_of, substitutions_of, tables_of};
 ghost use Rattle.sedscript.specs.Script.{unescaped_from, is_quiet};
 ghost use Rattle.sedscript.specs.declared.items.Item.{Item};
 
 use crate::bytes::bytes_between;
 use crate::files::Files;
-use crate::items::{
-    Addresses, BranchUse, Counts, FileUse, Flags, Function, Item, Simple, Strings, TextUse,
-};
+use crate::items::{Addresses, Counts, Flags, Function, Item, Strings};
 use crate::kept::Items;
 use crate::replacement::parts_of;
 use crate::strings::second_of;
 use crate::substitution::{Replacement, Substitution};
 use crate::targets::{Targets, opened};
 use crate::transliteration::table_between;
-use crate::types::{Action, Command};
+use crate::types::{Action, Command, FileUse};
 use std::alloc::{AllocError, Global};
 
 /// How many texts, substitutions and tables there are up to and including this function, where there are `n` before it.
@@ -48,59 +45,6 @@ fn counts_with(n: Counts, function: Function) -> Counts
     }
 }
 
-/// The action of a command of one letter.
-fn simple_action(simple: Simple) -> Action
-    ensures { result ≡ simple_action simple }
-{
-    match simple {
-        Simple::Delete => Action::Delete,
-        Simple::LineNumber => Action::LineNumber,
-        Simple::Print => Action::Print,
-        Simple::Quit => Action::Quit,
-        Simple::PrintFirst => Action::PrintFirst,
-        Simple::CopyHold => Action::CopyHold,
-        Simple::AppendHold => Action::AppendHold,
-        Simple::Hold => Action::Hold,
-        Simple::HoldMore => Action::HoldMore,
-        Simple::Exchange => Action::Exchange,
-        Simple::NextLine => Action::NextLine,
-        Simple::AppendNext => Action::AppendNext,
-        Simple::DeleteFirst => Action::DeleteFirst,
-        Simple::List => Action::List,
-    }
-}
-
-/// The action of `a`, `i` or `c` with the text of this number.
-fn text_action(text_use: TextUse, k: usize) -> Action
-    ensures { result ≡ text_action text_use k }
-{
-    match text_use {
-        TextUse::Append => Action::Append(k),
-        TextUse::Insert => Action::Insert(k),
-        TextUse::Change => Action::Change(k),
-    }
-}
-
-/// The action of `b` or `t` that goes to the command of this number.
-fn branch_action(branch_use: BranchUse, to: usize) -> Action
-    ensures { result ≡ branch_action branch_use to }
-{
-    match branch_use {
-        BranchUse::Always => Action::Branch(to),
-        BranchUse::IfReplaced => Action::Test(to),
-    }
-}
-
-/// The action of `r` or `w` with the file of this number.
-fn file_action(file_use: FileUse, number: usize) -> Action
-    ensures { result ≡ file_action file_use number }
-{
-    match file_use {
-        FileUse::Read => Action::ReadFile(number),
-        FileUse::Write => Action::WriteFile(number),
-    }
-}
-
 /// The action of the item at index `k`; None where it doesn't become a command. The items before it open `before`
 /// blocks, and have so many texts, substitutions and tables as `counts` says.
 fn action_of<'a>(
@@ -120,21 +64,21 @@ fn action_of<'a>(
     ensures { result ≡ action_of text.now items.now (take k items.now) counts (drop (k + 1) items.now) item.function }
 {
     match item.function {
-        Function::Plain(simple) => Some(simple_action(simple)),
+        Function::Plain(simple) => Some(Action::Plain(simple)),
         Function::Open => Some(Action::Block(targets.block_end(before).unwrap_or(0))),
         Function::Branch(branch_use, from, to) => {
             if from == to {
-                Some(branch_action(branch_use, targets.commands))
+                Some(Action::Branch(branch_use, targets.commands))
             } else {
-                Some(branch_action(
+                Some(Action::Branch(
                     branch_use,
                     targets.label(bytes_between(text, from, to)).unwrap_or(0),
                 ))
             }
         }
-        Function::Text(text_use, _, _) => Some(text_action(text_use, counts.texts)),
+        Function::Text(text_use, _, _) => Some(Action::Text(text_use, counts.texts)),
         Function::File(file_use, from, to) => {
-            Some(file_action(
+            Some(Action::File(
                 file_use,
                 files.number(file_use, bytes_between(text, from, to)),
             ))

@@ -6,8 +6,9 @@ ghost use Rattle.sedscript.specs.Tables.{labelled, with_name, first_number, Numb
 ghost use Rattle.sedscript.specs.declared.items.Item.{Item};
 
 use crate::bytes::bytes_between;
-use crate::items::{FileUse, Function};
+use crate::items::Function;
 use crate::kept::Items;
+use crate::types::FileUse;
 use std::alloc::{AllocError, Global};
 use std::collections::BTreeMap;
 

@@ -8,10 +8,10 @@ ghost use Rattle.sedscript.specs.Functions.{may_end, ended, label_of, branch_of,
 ghost use Rattle.sedscript.specs.Functions.{file_of, allowed};
 
 use crate::bytes::{Sort, byte_at, past};
-use crate::items::{Addresses, BranchUse, FileUse, Function, TextUse};
+use crate::items::{Addresses, Function};
 use crate::letters::{Verb, most_addresses, verb_of};
 use crate::texts::text_from;
-use crate::types::{Address, Reason, ScriptFault};
+use crate::types::{Address, BranchUse, FileUse, Reason, ScriptFault, TextUse};
 
 /// Whether a command may end before this byte; None is the end of the text.
 pub fn may_end(next: Option<u8>) -> bool

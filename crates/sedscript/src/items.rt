@@ -3,7 +3,7 @@
 
 ghost use Rattle.std.specs.Prelude.{◌≤◌};
 
-use crate::types::{Address, Kind};
+use crate::types::{Address, BranchUse, FileUse, Kind, Simple, TextUse};
 use std::alloc::Global;
 
 /// A script's text, and how its regular expressions are read.
@@ -35,51 +35,6 @@ pub struct Flags {
     /// `I`: letters match without regard to case.
     pub folded: bool,
     pub file: Option<(usize, usize)>,
-}
-
-/// The commands that are one letter.
-#[derive(Clone, Copy)]
-pub enum Simple {
-    AppendHold,
-    AppendNext,
-    CopyHold,
-    Delete,
-    DeleteFirst,
-    Exchange,
-    Hold,
-    HoldMore,
-    LineNumber,
-    List,
-    NextLine,
-    Print,
-    PrintFirst,
-    Quit,
-}
-
-/// The commands that have a text.
-#[derive(Clone, Copy)]
-pub enum TextUse {
-    Append,
-    Insert,
-    Change,
-}
-
-/// What is done with a file.
-#[derive(Clone, Copy)]
-pub enum FileUse {
-    /// `r`
-    Read,
-    /// `w`
-    Write,
-}
-
-/// When a branch goes to its label.
-#[derive(Clone, Copy)]
-pub enum BranchUse {
-    /// `b`
-    Always,
-    /// `t`
-    IfReplaced,
 }
 
 /// Two strings between delimiters, as `s` and `y` have them. The first begins at `from` and ends at `middle`, where a

@@ -4,8 +4,8 @@
 ghost use Rattle.std.specs.Prelude.{◌≡◌, ◌<◌, ◌++◌, ◌∷◌, [], Some, length, slice_get, slice_index_or, IfOk, OnOk};
 ghost use Rattle.sedscript.specs.Kept.{kept_addresses, kept_function, kept_item, IsGiven, IsBrief, IsKept, Longer};
 
-use crate::items::{Addresses, BranchUse, FileUse, Function, Item, Simple, TextUse};
-use crate::types::Address;
+use crate::items::{Addresses, Function, Item};
+use crate::types::{Address, BranchUse, FileUse, Simple, TextUse};
 use std::alloc::{AllocError, Global};
 use std::marker::Model;
 
@@ -129,7 +129,7 @@ fn keep_addresses(
     }
 }
 
-/// What an item keeps of its function. `s` and `y` go into the list.
+/// What an item keeps of its function. One with more than two places goes into the list.
 fn keep_function(
     longs: &mut Vec<Function>,
     function: Function,
@@ -147,7 +147,7 @@ fn keep_function(
         Function::Text(text_use, from, to) => Ok((Brief::Text(text_use), from, to)),
         Function::File(file_use, from, to) => Ok((Brief::File(file_use), from, to)),
         Function::Comment => Ok((Brief::Comment, 0, 0)),
-        Function::Substitute(..) | Function::Transliterate(_) => {
+        _ => {
             let at = longs.len();
             longs.push(function)?;
             Ok((Brief::Listed, at, 0))
@@ -184,7 +184,7 @@ pub struct Items {
     kept: Vec<Kept>,
     /// The addresses of the items that have more than a line's number or `$`.
     heads: Vec<Addresses>,
-    /// The functions `s` and `y`.
+    /// The functions that have more than two places.
     longs: Vec<Function>,
 }
 

@@ -3,7 +3,7 @@
 ghost use Rattle.std.specs.Prelude.{◌≡◌};
 ghost use Rattle.sedscript.specs.Letters.{verb_of, most_addresses};
 
-use crate::items::{BranchUse, FileUse, Simple, TextUse};
+use crate::types::{BranchUse, FileUse, Simple, TextUse};
 
 /// What a letter stands for.
 #[derive(Clone, Copy)]

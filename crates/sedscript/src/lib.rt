@@ -30,4 +30,7 @@ pub use reader::read;
 pub use script::Script;
 pub use script_text::add_part;
 pub use substitution::{Part, Piece, Replacement, Substitution};
-pub use types::{Action, Address, Command, ExprFault, Kind, NO_MEMORY, Reason, ScriptFault};
+pub use types::{
+    Action, Address, BranchUse, Command, ExprFault, FileUse, Kind, NO_MEMORY, Reason, ScriptFault,
+    Simple, TextUse,
+};

@@ -2,7 +2,7 @@
 
 ghost use Rattle.std.specs.Prelude.{◌≡◌, ◌≤◌, ◌+◌, ◌++◌, ◌∷◌, [], false, length, IfOk, OnOk};
 ghost use Rattle.sedscript.specs.Bytes.{bytes_between};
-ghost use Rattle.sedscript.specs.Replacement.{escaped_piece, plain_piece, piece_of, pieces_of};
+ghost use Rattle.sedscript.specs.Replacement.{escaped_piece, piece_of, pieces_of};
 ghost use Rattle.sedscript.specs.Replacement.{pieces_in, exceeds, escape_fault, replacement_fault, GroupsWithin};
 ghost use Rattle.sedscript.specs.Answers.{pieces_with};
 
@@ -33,17 +33,6 @@ fn escaped_piece(delimiter: u8, b: u8) -> Option<Piece>
     }
 }
 
-/// What this byte stands for where it isn't escaped.
-fn plain_piece(b: u8) -> Piece
-    ensures { result ≡ plain_piece b }
-{
-    if b == b'&' {
-        Piece::Whole
-    } else {
-        Piece::Literal(b)
-    }
-}
-
 /// The piece that a byte ends, `escaped` or not; None where it ends none.
 fn piece_of(delimiter: u8, escaped: bool, b: u8) -> Option<Piece>
     ensures { result ≡ piece_of delimiter escaped b }
@@ -52,8 +41,10 @@ fn piece_of(delimiter: u8, escaped: bool, b: u8) -> Option<Piece>
         escaped_piece(delimiter, b)
     } else if b == b'\\' {
         None
+    } else if b == b'&' {
+        Some(Piece::Whole)
     } else {
-        Some(plain_piece(b))
+        Some(Piece::Literal(b))
     }
 }
 

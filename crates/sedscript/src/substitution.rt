@@ -6,7 +6,7 @@ ghost use Rattle.sedscript.specs.Replacement.{pieces_in, GroupsWithin};
 use std::marker::Model;
 
 /// A part of a replacement.
-#[derive(Debug, PartialEq, Drop)]
+#[derive(Drop)]
 pub enum Part {
     /// These bytes.
     Literal(Vec<u8>),
@@ -17,7 +17,7 @@ pub enum Part {
 }
 
 /// A piece of a replacement, a byte at a time, as contracts see it.
-#[derive(Clone, Copy, Debug, PartialEq, Eq)]
+#[derive(Clone, Copy)]
 pub enum Piece {
     /// This byte.
     Literal(u8),

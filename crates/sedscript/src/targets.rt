@@ -25,18 +25,12 @@ pub struct FirstLabel {
 }
 
 /// Whether a function becomes a command: all but `}`, `:` and `#` do.
-pub fn leaves(function: Function) -> bool
+pub fn becomes_command(function: Function) -> bool
     ensures { result ≡ Rattle.sedscript.specs.Targets.becomes_command function }
 {
-    matches!(
+    !matches!(
         function,
-        Function::Plain(_)
-            | Function::Open
-            | Function::Branch(..)
-            | Function::Text(..)
-            | Function::File(..)
-            | Function::Substitute(..)
-            | Function::Transliterate(_)
+        Function::Close | Function::Label(..) | Function::Comment
     )
 }
 
@@ -60,7 +54,11 @@ pub fn counted(n: usize, item: Item) -> usize
     ensures is { result ≡ counted n item }
     ensures few { result ≤ n + 1 }
 {
-    if leaves(item.function) { n + 1 } else { n }
+    if becomes_command(item.function) {
+        n + 1
+    } else {
+        n
+    }
 }
 
 /// The number of commands before this item, where there are `n` up to and including it.
@@ -68,7 +66,11 @@ fn number_before(n: usize, item: Item) -> usize
     requires { Rattle.sedscript.specs.Targets.becomes_command item.function ≡ true → 1 ≤ n }
     ensures { n ≡ counted result item }
 {
-    if leaves(item.function) { n - 1 } else { n }
+    if becomes_command(item.function) {
+        n - 1
+    } else {
+        n
+    }
 }
 
 /// How many commands the items become.

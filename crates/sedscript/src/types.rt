@@ -7,7 +7,7 @@ pub use sedre::{ExprFault, Kind};
 use std::alloc::AllocError;
 
 /// Which pattern spaces a command is for (XCU sed, "Addresses in sed").
-#[derive(Clone, Copy, Debug, PartialEq, Eq)]
+#[derive(Clone, Copy)]
 pub enum Address {
     /// The line of this number, 1 to 2^64 - 1.
     Line(u64),
@@ -18,21 +18,11 @@ pub enum Address {
     Match(Option<usize>),
 }
 
-/// What a command does (XCU sed, "Editing Commands in sed"). `}`, `:` and `#` don't become commands.
-#[derive(Clone, Copy, Debug, PartialEq, Eq)]
-pub enum Action {
-    /// `a`: queues the script's text of this number, counted from 0.
-    Append(usize),
+/// The commands that are one letter.
+#[derive(Clone, Copy)]
+pub enum Simple {
     /// `N`: appends a newline and the next line to the pattern space.
     AppendNext,
-    /// `{`: where the pattern space isn't selected, goes to the command of this number, the one after the closing
-    /// brace. The number of commands is the end of the script.
-    Block(usize),
-    /// `b`: goes to the command of this number. The number of commands is the end of the script.
-    Branch(usize),
-    /// `c`: deletes the pattern space and starts the next cycle, and writes the script's text of this number, counted from
-    /// 0; of a range, at its end alone, with `!` each time.
-    Change(usize),
     /// `g`: replaces the pattern space by the hold space.
     CopyHold,
     /// `G`: appends a newline and the hold space to the pattern space.
@@ -48,8 +38,6 @@ pub enum Action {
     /// `D`: deletes the pattern space up to its first newline, and starts the next cycle without reading a line.
     /// Without a newline it is `d`.
     DeleteFirst,
-    /// `i`: writes the script's text of this number, counted from 0.
-    Insert(usize),
     /// `=`: writes the line number.
     LineNumber,
     /// `l`: writes the pattern space in a form that shows each byte.
@@ -63,22 +51,60 @@ pub enum Action {
     PrintFirst,
     /// `q`: goes to the end of the script and quits.
     Quit,
-    /// `r`: queues the contents of the script's file of this number, counted from 0 among those that are read.
-    ReadFile(usize),
+}
+
+/// The commands that have a text.
+#[derive(Clone, Copy)]
+pub enum TextUse {
+    /// `a`: queues the text.
+    Append,
+    /// `i`: writes the text.
+    Insert,
+    /// `c`: deletes the pattern space and starts the next cycle, and writes the text; of a range, at its end alone, with
+    /// `!` each time.
+    Change,
+}
+
+/// The commands that go to a label.
+#[derive(Clone, Copy)]
+pub enum BranchUse {
+    /// `b`
+    Always,
+    /// `t`: if a substitution was made.
+    IfReplaced,
+}
+
+/// The commands that name a file.
+#[derive(Clone, Copy)]
+pub enum FileUse {
+    /// `r`: queues the file's contents. Files that are read are counted from 0.
+    Read,
+    /// `w`: writes the pattern space to the file. Files that are written are counted from 1: 0 is the standard output.
+    Write,
+}
+
+/// What a command does (XCU sed, "Editing Commands in sed"). `}`, `:` and `#` don't become commands.
+#[derive(Clone, Copy)]
+pub enum Action {
+    /// What its letter says.
+    Plain(Simple),
+    /// `{`: where the pattern space isn't selected, goes to the command of this number, the one after the closing
+    /// brace. The number of commands is the end of the script.
+    Block(usize),
+    /// Goes to the command of this number. The number of commands is the end of the script.
+    Branch(BranchUse, usize),
+    /// What its letter says with the script's text of this number, counted from 0.
+    Text(TextUse, usize),
+    /// What its letter says with the file of this number.
+    File(FileUse, usize),
     /// `s`: makes the script's substitution of this number, counted from 0.
     Substitute(usize),
-    /// `t`: goes to the command of this number if a substitution was made. The number of commands is the end of the
-    /// script.
-    Test(usize),
     /// `y`: replaces bytes as the script's table of this number says, counted from 0.
     Transliterate(usize),
-    /// `w`: writes the pattern space to the sink of this number: 0 is the standard output, and the files that are
-    /// written follow from 1 on.
-    WriteFile(usize),
 }
 
 /// A command of a script.
-#[derive(Clone, Copy, Debug, PartialEq, Eq)]
+#[derive(Clone, Copy)]
 pub struct Command {
     /// The pattern spaces that it is for, or the first of a range. None selects all.
     pub first: Option<Address>,
@@ -91,7 +117,7 @@ pub struct Command {
 }
 
 /// Why a text isn't a script, S1 to S23.
-#[derive(Clone, Copy, Debug, PartialEq, Eq)]
+#[derive(Clone, Copy, Debug)]
 pub enum Reason {
     /// S1: no function stands where one is expected.
     UnknownCommand,
@@ -206,7 +232,7 @@ impl Reason {
 }
 
 /// A fault, and the place of the byte at which it is reported, counted from 0.
-#[derive(Clone, Copy, Debug, PartialEq, Eq)]
+#[derive(Clone, Copy, Debug)]
 pub struct ScriptFault {
     /// A place in the text, at most its length.
     pub place: usize,

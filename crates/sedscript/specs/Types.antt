@@ -1,0 +1,30 @@
+-- The types of src/ that the definitions speak of.
+pub use Rattle.sedscript.specs.declared.types.ScriptFault.{ScriptFault}
+pub use Rattle.sedscript.specs.declared.types.Reason.{Reason}
+pub use Rattle.sedscript.specs.declared.types.Reason.TheVariants.{BadAddress, BadDelimiter, BadEscape, BadNumber, Expression, FlagOnEmpty, GroupAbsent, LengthsDiffer, MissingLabel, MissingName, MissingText, NoMemory, OpenBlock, OpenDelimiter, RepeatedByte, RepeatedFlag, RepeatedLabel, StrayClose, TooManyAddresses, TrailingBytes, UnknownCommand, UnknownFlag, UnknownLabel}
+pub use Rattle.sedscript.specs.declared.types.Address.{Address}
+pub use Rattle.sedscript.specs.declared.types.Address.TheVariants.{Last, Line, Match}
+pub use Rattle.sedscript.specs.declared.types.Action.{Action}
+pub use Rattle.sedscript.specs.declared.types.Command.{Command}
+pub use Rattle.sedscript.specs.declared.types.Simple.TheVariants.{AppendHold, AppendNext, CopyHold, Delete, DeleteFirst, Exchange, Hold, HoldMore, LineNumber, List, NextLine, Print, PrintFirst, Quit}
+pub use Rattle.sedscript.specs.declared.types.TextUse.{TextUse}
+pub use Rattle.sedscript.specs.declared.types.TextUse.TheVariants.{Append, Change, Insert}
+pub use Rattle.sedscript.specs.declared.types.BranchUse.{BranchUse}
+pub use Rattle.sedscript.specs.declared.types.BranchUse.TheVariants.{Always, IfReplaced}
+pub use Rattle.sedscript.specs.declared.types.FileUse.{FileUse}
+pub use Rattle.sedscript.specs.declared.types.FileUse.TheVariants.{Read, Write}
+pub use Rattle.sedscript.specs.declared.items.Addresses.{Addresses}
+pub use Rattle.sedscript.specs.declared.items.Counts.{Counts}
+pub use Rattle.sedscript.specs.declared.items.Flags.{Flags}
+pub use Rattle.sedscript.specs.declared.items.Function.{Function}
+pub use Rattle.sedscript.specs.declared.items.Function.TheVariants.{Branch, Close, Comment, File, Label, Open, Plain, Substitute, Text, Transliterate}
+pub use Rattle.sedscript.specs.declared.items.Here.{Here}
+pub use Rattle.sedscript.specs.declared.items.Here.TheVariants.{Ends, Is}
+pub use Rattle.sedscript.specs.declared.items.Item.{Item}
+pub use Rattle.sedscript.specs.declared.items.Strings.{Strings}
+pub use Rattle.sedscript.specs.declared.letters.Verb.{Verb}
+pub use Rattle.sedscript.specs.declared.letters.Verb.TheVariants.{Reads, ReadsExpression}
+pub use Rattle.sedscript.specs.declared.letters.Shape.{Shape}
+pub use Rattle.sedscript.specs.declared.letters.Shape.TheVariants.{Alone, ClosesBlock, GoesTo, NamesFile, NamesLabel, OpensBlock, Remark, TakesStrings, TakesText}
+pub use Rattle.sedscript.specs.declared.texts.Inside.{Inside}
+pub use Rattle.sedscript.specs.declared.texts.Inside.TheVariants.{Due, Escape, InLine}
