@@ -3,7 +3,9 @@ use Rattle.std.proofs.Common.{◌≡◌, ℕ, zero, suc, Bool, true, false, cond
 use Rattle.std.specs.Prelude.{slice_get, ◌||◌}
 use Rattle.std.specs.Option.{unwrap_or}
 use Rattle.std.specs.List.{Contains, after_first, list_any}
-use Rattle.sedscript.specs.declared.types.Action.TheVariants.{Change, Delete, DeleteFirst}
+use Rattle.sedscript.specs.declared.types.Action.TheVariants.{Plain, Text}
+use Rattle.sedscript.specs.declared.types.Simple.TheVariants.{Delete, DeleteFirst}
+use Rattle.sedscript.specs.declared.types.TextUse.TheVariants.{Change}
 use Rattle.sedspace.specs.Spaces.{Contents}
 use Rattle.sedspace.specs.Lines.{HasNoNewline, is_newline}
 use Rattle.sedengine.specs.State.{begin, rebegin, flush, State, Move}
@@ -60,23 +62,23 @@ change_stops a e files ls o c1 old new out end seen i none is put =
 
 -- What the commands do, by what is left in the pattern space.
 pub change_is : (e : RunState) (files : ℕ → List ℕ) (ls : List (List ℕ)) (text : ℕ) (tells b : Bool) (c1 : Contents) → c1.bytes ≡ [] → tells ≡ b →
-    acts (run_setting e files) (at_lines e ls) tells (Change text) ≡ writing (cond b (line_to 0 (unwrap_or (slice_get e.script.texts text) [])) []) (then_do (flush ∷ begin ∷ []) (at_lines (with_pattern e c1.bytes) ls))
+    acts (run_setting e files) (at_lines e ls) tells (Text Change text) ≡ writing (cond b (line_to 0 (unwrap_or (slice_get e.script.texts text) [])) []) (then_do (flush ∷ begin ∷ []) (at_lines (with_pattern e c1.bytes) ls))
 change_is e files ls text tells b c1 none is = rw (none, is) refl
 
 pub delete_is : (e : RunState) (files : ℕ → List ℕ) (ls : List (List ℕ)) (c1 : Contents) → c1.bytes ≡ [] →
-    acts (run_setting e files) (at_lines e ls) true Delete ≡ quietly (then_do (flush ∷ begin ∷ []) (at_lines (with_pattern e c1.bytes) ls))
+    acts (run_setting e files) (at_lines e ls) true (Plain Delete) ≡ quietly (then_do (flush ∷ begin ∷ []) (at_lines (with_pattern e c1.bytes) ls))
 delete_is e files ls c1 none = rw none refl
 
 pub cut_is : (e : RunState) (files : ℕ → List ℕ) (ls : List (List ℕ)) (c1 : Contents) → list_any is_newline e.state.pattern ≡ true → c1.bytes ≡ after_first is_newline e.state.pattern →
-    acts (run_setting e files) (at_lines e ls) true DeleteFirst ≡ quietly (then_do (flush ∷ rebegin ∷ []) (at_lines (with_pattern e c1.bytes) ls))
+    acts (run_setting e files) (at_lines e ls) true (Plain DeleteFirst) ≡ quietly (then_do (flush ∷ rebegin ∷ []) (at_lines (with_pattern e c1.bytes) ls))
 cut_is e files ls c1 there is = rw (there, is) refl
 
 pub uncut_is : (e : RunState) (files : ℕ → List ℕ) (ls : List (List ℕ)) → list_any is_newline e.state.pattern ≡ false →
-    acts (run_setting e files) (at_lines e ls) true DeleteFirst ≡ acts (run_setting e files) (at_lines e ls) true Delete
+    acts (run_setting e files) (at_lines e ls) true (Plain DeleteFirst) ≡ acts (run_setting e files) (at_lines e ls) true (Plain Delete)
 uncut_is e files ls absent = rw absent refl
 
 pub cut_seen : (a : Inside) (e : RunState) (files : ℕ → List ℕ) (ls : List (List ℕ)) (c1 : Contents) → run_of a ≡ e → Contains a.pattern.bytes 10 → c1 ≡ record a.pattern { bytes = after_first is_newline a.pattern.bytes } →
-    acts (run_setting e files) (at_lines e ls) true DeleteFirst ≡ quietly (then_do (flush ∷ rebegin ∷ []) (at_lines (with_pattern e c1.bytes) ls))
+    acts (run_setting e files) (at_lines e ls) true (Plain DeleteFirst) ≡ quietly (then_do (flush ∷ rebegin ∷ []) (at_lines (with_pattern e c1.bytes) ls))
 cut_seen a e files ls c1 seen there is =
     let same : a.pattern.bytes ≡ e.state.pattern = ap (λ (e : RunState). e.state.pattern) seen in
     let N : List ℕ → Type 0 = λ bytes. list_any is_newline bytes ≡ true in
@@ -84,11 +86,11 @@ cut_seen a e files ls c1 seen there is =
 
 -- without a newline the space stays, and `D` is `d`
 pub uncut_performs : (a : Inside) (e e' : RunState) (files : ℕ → List ℕ) (ls : List (List ℕ)) (c1 : Contents) (sinks sinks' : SinkView) (r : Result Unit Ended) → run_of a ≡ e → HasNoNewline a.pattern.bytes → c1 ≡ a.pattern →
-    MakesMove a.limits (run_setting (run_of a) files) (acts (run_setting (run_of a) files) (at_lines (run_of (record a { pattern = c1 })) ls) true Delete) (at_lines (run_of (record a { pattern = c1 })) ls) (at_lines e' ls) sinks sinks' r →
-    MakesMove e.limits (run_setting e files) (acts (run_setting e files) (at_lines e ls) true DeleteFirst) (at_lines e ls) (at_lines e' ls) sinks sinks' r
+    MakesMove a.limits (run_setting (run_of a) files) (acts (run_setting (run_of a) files) (at_lines (run_of (record a { pattern = c1 })) ls) true (Plain Delete)) (at_lines (run_of (record a { pattern = c1 })) ls) (at_lines e' ls) sinks sinks' r →
+    MakesMove e.limits (run_setting e files) (acts (run_setting e files) (at_lines e ls) true (Plain DeleteFirst)) (at_lines e ls) (at_lines e' ls) sinks sinks' r
 uncut_performs a e e' files ls c1 sinks sinks' r seen absent is h =
-    let Q : RunState → Type 0 = λ e. MakesMove e.limits (run_setting e files) (acts (run_setting e files) (at_lines e ls) true DeleteFirst) (at_lines e ls) (at_lines e' ls) sinks sinks' r in
-    let S : Contents → Type 0 = λ c1. MakesMove a.limits (run_setting (run_of a) files) (acts (run_setting (run_of a) files) (at_lines (run_of (record a { pattern = c1 })) ls) true Delete) (at_lines (run_of (record a { pattern = c1 })) ls) (at_lines e' ls) sinks sinks' r in
+    let Q : RunState → Type 0 = λ e. MakesMove e.limits (run_setting e files) (acts (run_setting e files) (at_lines e ls) true (Plain DeleteFirst)) (at_lines e ls) (at_lines e' ls) sinks sinks' r in
+    let S : Contents → Type 0 = λ c1. MakesMove a.limits (run_setting (run_of a) files) (acts (run_setting (run_of a) files) (at_lines (run_of (record a { pattern = c1 })) ls) true (Plain Delete)) (at_lines (run_of (record a { pattern = c1 })) ls) (at_lines e' ls) sinks sinks' r in
     let O : Option Move → Type 0 = λ o. MakesMove a.limits (run_setting (run_of a) files) o (at_lines (run_of a) ls) (at_lines e' ls) sinks sinks' r in
     subst Q seen (subst O (sym (uncut_is (run_of a) files ls (newline_absent a.pattern.bytes absent))) (subst S is h))
 

@@ -7,9 +7,8 @@ use Rattle.sedspace.specs.Lines.{TakesAtMost}
 use Rattle.sedspace.specs.declared.lines.Got.{Got}
 use Rattle.sedspace.specs.declared.lines.Got.TheVariants.{Line, End}
 use Rattle.sedengine.specs.Limits.{Limits}
-use Rattle.sedscript.specs.declared.types.Action.TheVariants.{NextLine}
 use Rattle.sedengine.specs.State.{Task, print_pattern, flush, empty_pattern, fetch, join, State, Move, Setting}
-use Rattle.sedengine.specs.Move.{next_move, acts, newline, none_left, quietly, then_do, with_line}
+use Rattle.sedengine.specs.Move.{next_move, newline, next_line, none_left, quietly, then_do, with_line}
 use Rattle.sedengine.specs.Ends.{WithinLimits, IsCause, named_sink, line_at, reads, takes_turn}
 use Rattle.sedengine.specs.Held.{SameLengths}
 use Rattle.sedengine.specs.Meters.{SinkView}
@@ -215,11 +214,11 @@ brings_broken {R} remaining old new ls before number s InputBroken taken told = 
 brings_broken {R} remaining old new ls before number s other taken told = absurd told
 
 -- `n`: by whether a line is left
-pub next_quits : (e e' : RunState) (files : ℕ → List ℕ) (ls : List (List ℕ)) (last : Bool) → last ≡ none_left ls → last ≡ true → acts (run_setting e files) (at_lines e ls) true NextLine ≡ quietly (then_do (print_pattern ∷ flush ∷ []) (at_lines e ls))
+pub next_quits : (e e' : RunState) (files : ℕ → List ℕ) (ls : List (List ℕ)) (last : Bool) → last ≡ none_left ls → last ≡ true → next_line (at_lines e ls) ≡ quietly (then_do (print_pattern ∷ flush ∷ []) (at_lines e ls))
 next_quits e e' files ls last told is = rw (sym told ∙ is) refl
 
 pub next_goes : (e e' : RunState) (files : ℕ → List ℕ) (ls : List (List ℕ)) (last : Bool) → last ≡ none_left ls → last ≡ false →
-    acts (run_setting e files) (at_lines e ls) true NextLine ≡ quietly (then_do (print_pattern ∷ flush ∷ empty_pattern ∷ fetch ∷ e.state.tasks) (at_lines e ls))
+    next_line (at_lines e ls) ≡ quietly (then_do (print_pattern ∷ flush ∷ empty_pattern ∷ fetch ∷ e.state.tasks) (at_lines e ls))
 next_goes e e' files ls last told is = rw (sym told ∙ is) refl
 
 -- What is left of the tasks after the queue was written: F tells them by those of the engine.
@@ -250,9 +249,9 @@ next_broken {R} remaining o n ls g first e sinks other taken told = absurd told
 
 -- `n` where no line is left
 pub next_stops : {R : Type 0} (remaining : R → Option (List ℕ)) (o n : Stream R) (ls : List (List ℕ)) (files : ℕ → List ℕ) (a : Inside) (e : RunState) (sinks : SinkView) (last : Bool) → run_of a ≡ e → IsConsistent a → TakesLines remaining o n ls ls → last ≡ none_left ls → last ≡ true →
-    PerformsSteps remaining o n ls e.limits (run_setting e files) (acts (run_setting e files) (at_lines e ls) true NextLine) true (at_lines e ls) (run_of (record a { place = p.Quit })) sinks sinks (Ok tt)
+    PerformsSteps remaining o n ls e.limits (run_setting e files) (next_line (at_lines e ls)) true (at_lines e ls) (run_of (record a { place = p.Quit })) sinks sinks (Ok tt)
 next_stops {R} remaining o n ls files a e sinks last seen i taken told is =
-    let Q : RunState → Type 0 = λ e. PerformsSteps remaining o n ls e.limits (run_setting e files) (acts (run_setting e files) (at_lines e ls) true NextLine) true (at_lines e ls) (run_of (record a { place = p.Quit })) sinks sinks (Ok tt) in
+    let Q : RunState → Type 0 = λ e. PerformsSteps remaining o n ls e.limits (run_setting e files) (next_line (at_lines e ls)) true (at_lines e ls) (run_of (record a { place = p.Quit })) sinks sinks (Ok tt) in
     let e0 : RunState = run_of a in
     let now : State = then_do (print_pattern ∷ flush ∷ []) (at_lines e0 ls) in
     subst Q seen (λ s c asked first. looked_moves remaining o n ls a.limits (run_setting e0 files) s (run_of (record a { place = p.Quit })) sinks sinks (Ok tt) taken c.lines

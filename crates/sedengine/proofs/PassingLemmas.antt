@@ -15,7 +15,8 @@ use Rattle.sedscript.specs.declared.types.Address.{Address}
 use Rattle.sedscript.specs.declared.types.Address.TheVariants.{Line, Last, Match}
 use Rattle.sedscript.specs.declared.types.Command.{Command}
 use Rattle.sedscript.specs.declared.types.Action.{Action}
-use Rattle.sedscript.specs.declared.types.Action.TheVariants.{Block, Branch, Substitute, Test}
+use Rattle.sedscript.specs.declared.types.Action.TheVariants.{Block, Branch, Substitute}
+use Rattle.sedscript.specs.declared.types.BranchUse.TheVariants.{Always, IfReplaced}
 use Rattle.sedscript.specs.declared.substitution.Substitution.{Substitution}
 use Rattle.sedengine.specs.Limits.{Limits}
 use Rattle.sedengine.specs.State.{Task, begin, do_at, flush, empty_pattern, State, Move, Setting}
@@ -128,10 +129,10 @@ acts_by : (g : Setting) (s : State) (tells : Bool) (action : Action) (k : ℕ) �
 acts_by g s tells (Substitute m) k finds t fresh h =
     substitutes_none g s (slice_get g.substitutions m) finds h
     ∙ ap (λ ts. quietly (record s { used = option_or (judged_by (need_of_substitution (slice_get g.substitutions m))) s.used; tasks = ts })) t
-acts_by g s tells (Test m) k finds t fresh h =
+acts_by g s tells (Branch IfReplaced m) k finds t fresh h =
     ap (λ b. quietly (cond b (then_do (do_at m ∷ []) (record s { replaced = false })) s)) fresh ∙ ap (λ ts. quietly (record s { tasks = ts })) t
 acts_by g s tells (Block m) k finds t fresh h = ap (λ ts. quietly (record s { tasks = ts })) t
-acts_by g s tells (Branch m) k finds t fresh h = refl
+acts_by g s tells (Branch Always m) k finds t fresh h = refl
 acts_by g s tells other k finds t fresh h = absurd h
 
 -- the state in which command k was reached and did nothing

@@ -1,20 +1,11 @@
 -- What the numbers in the queue stand for.
 use Rattle.std.proofs.Common.{◌≡◌, ℕ, suc, zero, ◌<◌, ◌+◌, ◌≤◌, List, [], ◌∷◌, ◌++◌, length, drop, Option, Some, refl, ap, ◌∙◌, arith, length-drop, drop_of_length-le}
 use Rattle.std.specs.Prelude.{slice_get, slice_index}
-use Rattle.std.specs.Option.{unwrap_or}
 use Rattle.std.proofs.lemmas.List.{drop_more}
 use Rattle.sedscript.specs.declared.types.Command.{Command}
 use Rattle.sedscript.specs.Program.{Program}
-use Rattle.sedscript.specs.declared.types.Action.TheVariants.{Append, ReadFile}
-use Rattle.sedengine.specs.State.{Entry, text, file}
+use Rattle.sedengine.specs.State.{Entry}
 use Rattle.sedengine.specs.Inside.{AllQueue, CommandQueues, entries_of, entry_by, entry_for}
-
--- the entry of a command that queues a text, and of one that queues a file
-pub entry_text : (texts : List (List ℕ)) (o : Option Command) (c : Command) (k : ℕ) (bytes : List ℕ) → o ≡ Some c → c.action ≡ Append k → slice_get texts k ≡ Some bytes → entry_by texts o ≡ text bytes
-entry_text texts o c k bytes is action there = ap (entry_by texts) is ∙ ap (entry_for texts) action ∙ ap (λ b. text (unwrap_or b [])) there
-
-pub entry_file : (texts : List (List ℕ)) (o : Option Command) (c : Command) (k : ℕ) → o ≡ Some c → c.action ≡ ReadFile k → entry_by texts o ≡ file k
-entry_file texts o c k is action = ap (entry_by texts) is ∙ ap (entry_for texts) action
 
 -- each of the numbers is one of a command that queues
 pub queued_at : (p : Program) (is : List ℕ) (i : ℕ) → AllQueue p is → i < length is → CommandQueues (slice_get p.commands (slice_index is i))

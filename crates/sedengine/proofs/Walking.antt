@@ -7,7 +7,7 @@ use Rattle.std.proofs.lemmas.Option.{slice_get_past}
 use Rattle.sedscript.specs.declared.types.Address.{Address}
 use Rattle.sedscript.specs.declared.types.Address.TheVariants.{Line, Last, Match}
 use Rattle.sedscript.specs.declared.types.Action.{Action}
-use Rattle.sedscript.specs.declared.types.Action.TheVariants.{Block, Branch, Substitute, Test}
+use Rattle.sedscript.specs.declared.types.Action.TheVariants.{Substitute}
 use Rattle.sedscript.specs.declared.types.Command.{Command}
 use Rattle.sedscript.specs.declared.substitution.Substitution.{Substitution}
 use Rattle.sedscript.specs.Ranges.{IsOneOf}
@@ -88,9 +88,6 @@ action_number ts (Substitute k) n h = of_substitution (slice_get ts k) h
     of_substitution : (o : Option Substitution) → need_of_substitution o ≡ Some (OtherNumber n) → ⊥
     of_substitution None h = cc
     of_substitution (Some t) h = of_expression t.expression h
-action_number ts (Test k) n h = cc
-action_number ts (Block k) n h = cc
-action_number ts (Branch k) n h = cc
 action_number ts other n h = cc
 
 -- a command that asks for a number has it as its first address

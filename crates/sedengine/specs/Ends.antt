@@ -4,7 +4,8 @@ use Rattle.sedscript.specs.declared.types.Address.{Address}
 use Rattle.sedscript.specs.declared.types.Address.TheVariants.{Last}
 use Rattle.sedscript.specs.declared.types.Command.{Command}
 use Rattle.sedscript.specs.declared.types.Action.{Action}
-use Rattle.sedscript.specs.declared.types.Action.TheVariants.{NextLine}
+use Rattle.sedscript.specs.declared.types.Action.TheVariants.{Plain}
+use Rattle.sedscript.specs.declared.types.Simple.TheVariants.{NextLine}
 use Rattle.sedengine.specs.State.{Task, begin, rebegin, do_at, copy, fetch, join, State, Move, Setting}
 use Rattle.sedengine.specs.Move.{next_move, after, written, none_left}
 use Rattle.sedengine.specs.declared.limits.Limits.{Limits}
@@ -52,7 +53,7 @@ names_last c = is_dollar c.first || is_dollar c.second
 
 -- whether it is the function `n`, which does one thing or another by whether a line is left
 abbrev pub is_next : Action → Bool
-is_next NextLine = true
+is_next (Plain NextLine) = true
 is_next other = false
 
 abbrev pub asks_last : Option Command → Bool

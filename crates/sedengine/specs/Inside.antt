@@ -4,7 +4,10 @@ use Rattle.std.specs.Prelude.{◌≡◌, ℕ, ◌<◌, ◌≤◌, Bool, true, fa
 use Rattle.std.specs.Option.{unwrap_or}
 use Rattle.sedscript.specs.declared.types.Command.{Command}
 use Rattle.sedscript.specs.declared.types.Action.{Action}
-use Rattle.sedscript.specs.declared.types.Action.TheVariants.{Append, Exchange, Hold, HoldMore, ReadFile}
+use Rattle.sedscript.specs.declared.types.Action.TheVariants.{File, Plain, Text}
+use Rattle.sedscript.specs.declared.types.Simple.TheVariants.{Exchange, Hold, HoldMore}
+use Rattle.sedscript.specs.declared.types.TextUse.TheVariants.{Append}
+use Rattle.sedscript.specs.declared.types.FileUse.TheVariants.{Read}
 use Rattle.sedscript.specs.Ranges.{IsOneOf}
 use Rattle.sedscript.specs.Program.{Program}
 use Rattle.sedengine.specs.State.{Entry, text, file, Task, begin, rebegin, do_at, print_pattern, flush}
@@ -25,8 +28,8 @@ tasks_of p.Ended = []
 
 -- the entry that an action puts into the queue: `a` a text, `r` a file, and no other any
 abbrev pub entry_for : List (List ℕ) → Action → Entry
-entry_for texts (Append k) = text (unwrap_or (slice_get texts k) [])
-entry_for texts (ReadFile k) = file k
+entry_for texts (Text Append k) = text (unwrap_or (slice_get texts k) [])
+entry_for texts (File Read k) = file k
 entry_for texts other = text []
 
 abbrev pub entry_by : List (List ℕ) → Option Command → Entry
@@ -64,8 +67,8 @@ IsEmptied other bytes = Unit {0}
 
 -- whether an action puts an entry into the queue
 abbrev pub queues : Action → Bool
-queues (Append k) = true
-queues (ReadFile k) = true
+queues (Text Append k) = true
+queues (File Read k) = true
 queues other = false
 
 abbrev pub CommandQueues : Option Command → Type 0
@@ -79,9 +82,9 @@ AllQueue p (i ∷ is) = CommandQueues (slice_get p.commands i) × AllQueue p is
 
 -- whether an action puts something into the hold space
 abbrev pub holds : Action → Bool
-holds Hold = true
-holds HoldMore = true
-holds Exchange = true
+holds (Plain Hold) = true
+holds (Plain HoldMore) = true
+holds (Plain Exchange) = true
 holds other = false
 
 abbrev pub CommandHolds : Option Command → Type 0

@@ -8,7 +8,8 @@ use Rattle.sedscript.specs.declared.types.Address.{Address}
 use Rattle.sedscript.specs.declared.types.Address.TheVariants.{Line, Last, Match}
 use Rattle.sedscript.specs.declared.types.Command.{Command}
 use Rattle.sedscript.specs.declared.types.Action.{Action}
-use Rattle.sedscript.specs.declared.types.Action.TheVariants.{Block, Branch, Substitute, Test}
+use Rattle.sedscript.specs.declared.types.Action.TheVariants.{Block, Branch, Substitute}
+use Rattle.sedscript.specs.declared.types.BranchUse.TheVariants.{Always}
 use Rattle.sedscript.specs.declared.substitution.Substitution.{Substitution}
 use Rattle.sedscript.specs.Ranges.{IsOneOf}
 use Rattle.sedscript.specs.Program.{Program}
@@ -46,9 +47,8 @@ need_of_substitution (Some t) = option_map NoMatch t.expression
 -- without an address: `s` that finds nothing, `t` where nothing was substituted, `{` and `b`, which only go on elsewhere
 abbrev pub need_of_action : List Substitution → Action → Option Need
 need_of_action ts (Substitute k) = need_of_substitution (slice_get ts k)
-need_of_action ts (Test k) = Some Nothing
 need_of_action ts (Block k) = Some Nothing
-need_of_action ts (Branch k) = Some Nothing
+need_of_action ts (Branch u k) = Some Nothing
 need_of_action ts other = None
 
 abbrev pub need_by : List Substitution → Option Address → Action → Option Need
@@ -64,7 +64,7 @@ need_of ts (Some c) = if c.negate then None else need_by ts c.first c.action
 -- where the script goes on behind command k, if that does nothing
 abbrev pub behind_by : Option Address → Action → ℕ → ℕ
 behind_by (Some first) (Block next) k = next
-behind_by None (Branch target) k = target
+behind_by None (Branch Always target) k = target
 behind_by first action k = k + 1
 
 abbrev pub behind : Option Command → ℕ → ℕ

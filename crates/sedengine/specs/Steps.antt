@@ -7,7 +7,10 @@ use Rattle.sedspace.specs.Stream.{Stream, left, lines_left}
 use Rattle.sedspace.specs.Lines.{TakesAtMost}
 use Rattle.sedscript.specs.declared.types.Command.{Command}
 use Rattle.sedscript.specs.declared.types.Action.{Action}
-use Rattle.sedscript.specs.declared.types.Action.TheVariants.{Append, AppendHold, AppendNext, Block, Branch, CopyHold, Exchange, Hold, HoldMore, NextLine, Quit, ReadFile, Test, Transliterate}
+use Rattle.sedscript.specs.declared.types.Action.TheVariants.{Block, Branch, File, Plain, Text, Transliterate}
+use Rattle.sedscript.specs.declared.types.Simple.TheVariants.{AppendHold, AppendNext, CopyHold, Exchange, Hold, HoldMore, NextLine, Quit}
+use Rattle.sedscript.specs.declared.types.TextUse.TheVariants.{Append}
+use Rattle.sedscript.specs.declared.types.FileUse.TheVariants.{Read}
 use Rattle.sedengine.specs.Limits.{Limits}
 use Rattle.sedengine.specs.State.{Task, do_at, State, Move, Setting}
 use Rattle.sedengine.specs.Meters.{Sent, SinkView}
@@ -64,28 +67,27 @@ HasAction (Some c) action = c.action ≡ action
 
 -- whether a command takes a further line
 abbrev pub takes_further_line : Action → Bool
-takes_further_line NextLine = true
-takes_further_line AppendNext = true
+takes_further_line (Plain NextLine) = true
+takes_further_line (Plain AppendNext) = true
 takes_further_line other = false
 
 -- whether a command works on the hold space
 abbrev pub uses_hold : Action → Bool
-uses_hold CopyHold = true
-uses_hold AppendHold = true
-uses_hold Hold = true
-uses_hold HoldMore = true
-uses_hold Exchange = true
+uses_hold (Plain CopyHold) = true
+uses_hold (Plain AppendHold) = true
+uses_hold (Plain Hold) = true
+uses_hold (Plain HoldMore) = true
+uses_hold (Plain Exchange) = true
 uses_hold other = false
 
 -- whether the call for a command writes nothing and takes no line. Not `d` and `D`, whose calls write the queue too, nor `s`,
 -- which may write
 abbrev pub writes_nothing : Action → Bool
-writes_nothing (Append k) = true
-writes_nothing (ReadFile k) = true
+writes_nothing (Text Append k) = true
+writes_nothing (File Read k) = true
 writes_nothing (Block k) = true
-writes_nothing (Branch k) = true
-writes_nothing Quit = true
-writes_nothing (Test k) = true
+writes_nothing (Branch u k) = true
+writes_nothing (Plain Quit) = true
 writes_nothing (Transliterate k) = true
 writes_nothing other = uses_hold other
 

@@ -13,7 +13,7 @@ use crate::ends::Ended;
 use crate::limits::Limits;
 use crate::meter::Sinks;
 use crate::write::write_line;
-use sedscript::{Action, Script};
+use sedscript::{Action, FileUse, Script, TextUse};
 use sedspace::{Queue, Space, Texts};
 
 /// How many bytes of a file are asked for at once: as many as the build space holds and as turns are left, but at least
@@ -94,8 +94,8 @@ fn write_entry<O: Sinks, T: Texts>(
     ensures kept { (j : ℕ) → Keeps (T.text texts.old j) (T.text texts.new j) }
 {
     match script.command(entry as usize).action {
-        Action::Append(text) => write_line(outputs, 0, script.text(text)),
-        Action::ReadFile(file) => copy_file(file, limits, turns, build, outputs, texts),
+        Action::Text(TextUse::Append, text) => write_line(outputs, 0, script.text(text)),
+        Action::File(FileUse::Read, file) => copy_file(file, limits, turns, build, outputs, texts),
         _ => unreachable!(),
     }
 }

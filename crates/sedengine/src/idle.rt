@@ -4,7 +4,7 @@ ghost use Rattle.sedscript.specs.declared.types.Address.TheVariants.{Line};
 ghost use Rattle.sedscript.specs.Ranges.{ActionWithin, AddressWithin, CommandWithin, sizes_of};
 ghost use Rattle.sedengine.specs.Passing.{IsClear, IsIdleOf, NeedWithin, Notes, RangesIdle, behind_by, need_at, need_of, need_of_action, need_of_address};
 
-use sedscript::{Action, Address, Command, Script};
+use sedscript::{Action, Address, BranchUse, Command, Script};
 use std::alloc::{AllocError, Global};
 
 /// The most expressions that are judged on a line that no command touches: each is sought in every line.
@@ -65,7 +65,7 @@ fn need_of_action(script: &Script, action: Action) -> Option<Need>
             Some(e) => Some(Need::NoMatch(e)),
             None => None,
         },
-        Action::Test(_) | Action::Block(_) | Action::Branch(_) => Some(Need::Nothing),
+        Action::Block(_) | Action::Branch(..) => Some(Need::Nothing),
         _ => None,
     }
 }
@@ -92,7 +92,7 @@ fn behind(command: &Command, k: usize) -> usize
 {
     match (command.first, command.action) {
         (Some(_), Action::Block(next)) => next,
-        (None, Action::Branch(target)) => target,
+        (None, Action::Branch(BranchUse::Always, target)) => target,
         _ => k + 1,
     }
 }

@@ -3,13 +3,16 @@ ghost use Rattle.std.specs.Prelude.{◌≡◌, ◌<◌, ◌≤◌, ℕ, false, l
 ghost use Rattle.sedengine.specs.Inside.{FillsHold, CommandHolds, holds};
 
 use crate::limits::Limits;
-use sedscript::{Action, Script};
+use sedscript::{Action, Script, Simple};
 
 /// Whether an action puts something into the hold space.
 fn is_holding(action: &Action) -> bool
     ensures { result ≡ holds action.now }
 {
-    matches!(action, Action::Hold | Action::HoldMore | Action::Exchange)
+    matches!(
+        action,
+        Action::Plain(Simple::Hold | Simple::HoldMore | Simple::Exchange)
+    )
 }
 
 /// Whether one of the commands puts something into the hold space.

@@ -4,7 +4,6 @@ ghost use Rattle.sedspace.specs.Lines.{is_newline};
 ghost use Rattle.std.specs.List.{before_first};
 ghost use Rattle.std.specs.Option.{ForSome, unwrap_or};
 ghost use Rattle.sedscript.specs.Ranges.{ActionWithin, sizes_of};
-ghost use Rattle.sedscript.specs.declared.types.Action.TheVariants.{Change, Delete, DeleteFirst};
 ghost use Rattle.sedspace.specs.Stream.{lines_left};
 ghost use Rattle.sedengine.specs.State.{do_at, print_pattern, flush};
 ghost use Rattle.sedengine.specs.Listing.{listed};
@@ -23,7 +22,7 @@ use crate::meter::Sinks;
 use crate::place::Place;
 use crate::write::write_line;
 use itoa::Buffer;
-use sedscript::{Action, Command};
+use sedscript::{Action, BranchUse, Command, FileUse, Simple, TextUse};
 use sedspace::{ByteSource, Lines, Texts};
 
 /// Whether `c` writes its text: without a range, at a range's end, and with `!`.
@@ -100,8 +99,8 @@ impl Machine {
             lines.old lines.new outputs.old outputs.new texts.old texts.new result }
     {
         match action {
-            Action::AppendNext => self.act_append_next(lines, outputs, texts),
-            Action::NextLine => self.act_next_line(lines, outputs, texts),
+            Action::Plain(Simple::AppendNext) => self.act_append_next(lines, outputs, texts),
+            Action::Plain(Simple::NextLine) => self.act_next_line(lines, outputs, texts),
             _ => self.act_here(k, action, tells, outputs, texts),
         }
     }
@@ -129,16 +128,16 @@ impl Machine {
     {
         self.is_within_limits();
         match action {
-            Action::Change(text) => self.act_change(text, tells, outputs, texts),
-            Action::Delete => self.act_delete(outputs, texts),
-            Action::DeleteFirst => self.act_delete_first(outputs, texts),
-            Action::Insert(text) => self.act_insert(text, outputs),
-            Action::LineNumber => self.act_line_number(outputs),
-            Action::List => self.act_list(outputs),
-            Action::Print => self.act_write(0, outputs),
-            Action::PrintFirst => self.act_print_first(outputs),
+            Action::Text(TextUse::Change, text) => self.act_change(text, tells, outputs, texts),
+            Action::Plain(Simple::Delete) => self.act_delete(outputs, texts),
+            Action::Plain(Simple::DeleteFirst) => self.act_delete_first(outputs, texts),
+            Action::Text(TextUse::Insert, text) => self.act_insert(text, outputs),
+            Action::Plain(Simple::LineNumber) => self.act_line_number(outputs),
+            Action::Plain(Simple::List) => self.act_list(outputs),
+            Action::Plain(Simple::Print) => self.act_write(0, outputs),
+            Action::Plain(Simple::PrintFirst) => self.act_print_first(outputs),
             Action::Substitute(k) => self.act_substitute(k, outputs),
-            Action::WriteFile(sink) => self.act_write(sink, outputs),
+            Action::File(FileUse::Write, sink) => self.act_write(sink, outputs),
             _ => self.act_quietly(k, action),
         }
     }
@@ -156,18 +155,18 @@ impl Machine {
     {
         self.is_within_limits();
         match action {
-            Action::Append(_) => self.act_queue(k),
-            Action::ReadFile(_) => self.act_queue(k),
+            Action::Text(TextUse::Append, _) => self.act_queue(k),
+            Action::File(FileUse::Read, _) => self.act_queue(k),
             Action::Block(_) => Ok(()),
-            Action::Branch(target) => {
+            Action::Branch(BranchUse::Always, target) => {
                 self.act_branch(target);
                 Ok(())
             }
-            Action::Quit => {
+            Action::Plain(Simple::Quit) => {
                 self.act_quit();
                 Ok(())
             }
-            Action::Test(target) => {
+            Action::Branch(BranchUse::IfReplaced, target) => {
                 self.act_test(target);
                 Ok(())
             }

@@ -1,6 +1,8 @@
 //! The commands `c`, `d` and `D`: the pattern space is deleted, and a cycle starts (XCU sed, "Editing Commands in sed").
 ghost use Rattle.std.specs.Prelude.{◌<◌, ◌≤◌, ◌+◌, ℕ, List, true, length};
-ghost use Rattle.sedscript.specs.declared.types.Action.TheVariants.{Change, Delete, DeleteFirst};
+ghost use Rattle.sedscript.specs.declared.types.Action.TheVariants.{Plain, Text};
+ghost use Rattle.sedscript.specs.declared.types.Simple.TheVariants.{Delete, DeleteFirst};
+ghost use Rattle.sedscript.specs.declared.types.TextUse.TheVariants.{Change};
 ghost use Rattle.sedengine.specs.Move.{acts};
 ghost use Rattle.sedengine.specs.Run.{at_lines, run_setting};
 ghost use Rattle.sedengine.specs.ScriptSetting.{TellsFiles};
@@ -27,7 +29,7 @@ impl Machine {
         requires sink { 0 < O.count outputs.old }
         ensures acts { (files : ℕ → List ℕ) → TellsFiles (T.text texts.old) files → (ls : List (List ℕ)) →
             MakesMove self.old.limits (run_setting self.old files)
-            (acts (run_setting self.old files) (at_lines self.old ls) tells (Change text)) (at_lines self.old ls)
+            (acts (run_setting self.old files) (at_lines self.old ls) tells (Text Change text)) (at_lines self.old ls)
             (at_lines self.new ls) (O.tally outputs.old) (O.tally outputs.new) result }
         ensures falls { weight self.new ≤ weight self.old + 8 }
         ensures leaves { LeavesGiven O.tally O.count T.text self.old self.new outputs.old outputs.new texts.old texts.new result }
@@ -49,7 +51,7 @@ impl Machine {
         requires { 0 < O.count outputs.old }
         ensures acts { (files : ℕ → List ℕ) → TellsFiles (T.text texts.old) files → (ls : List (List ℕ)) →
             MakesMove self.old.limits (run_setting self.old files)
-            (acts (run_setting self.old files) (at_lines self.old ls) true Delete) (at_lines self.old ls)
+            (acts (run_setting self.old files) (at_lines self.old ls) true (Plain Delete)) (at_lines self.old ls)
             (at_lines self.new ls) (O.tally outputs.old) (O.tally outputs.new) result }
         ensures falls { weight self.new ≤ weight self.old + 8 }
         ensures leaves { LeavesGiven O.tally O.count T.text self.old self.new outputs.old outputs.new texts.old texts.new result }
@@ -68,7 +70,7 @@ impl Machine {
         requires { 0 < O.count outputs.old }
         ensures acts { (files : ℕ → List ℕ) → TellsFiles (T.text texts.old) files → (ls : List (List ℕ)) →
             MakesMove self.old.limits (run_setting self.old files)
-            (acts (run_setting self.old files) (at_lines self.old ls) true DeleteFirst) (at_lines self.old ls)
+            (acts (run_setting self.old files) (at_lines self.old ls) true (Plain DeleteFirst)) (at_lines self.old ls)
             (at_lines self.new ls) (O.tally outputs.old) (O.tally outputs.new) result }
         ensures falls { weight self.new ≤ weight self.old + 8 }
         ensures leaves { LeavesGiven O.tally O.count T.text self.old self.new outputs.old outputs.new texts.old texts.new result }

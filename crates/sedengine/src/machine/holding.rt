@@ -9,7 +9,7 @@ ghost use Rattle.sedengine.specs.Steps.{ActsQuietly, KeepsRun, uses_hold, weight
 
 use super::Machine;
 use crate::ends::Ended;
-use sedscript::Action;
+use sedscript::{Action, Simple};
 
 impl Machine {
     /// Does what a command on the hold space does.
@@ -24,17 +24,17 @@ impl Machine {
     {
         self.is_within_limits();
         match action {
-            Action::CopyHold => {
+            Action::Plain(Simple::CopyHold) => {
                 self.act_copy_hold();
                 Ok(())
             }
-            Action::AppendHold => self.act_append_hold(),
-            Action::Hold => {
+            Action::Plain(Simple::AppendHold) => self.act_append_hold(),
+            Action::Plain(Simple::Hold) => {
                 self.act_hold();
                 Ok(())
             }
-            Action::HoldMore => self.act_hold_more(),
-            Action::Exchange => {
+            Action::Plain(Simple::HoldMore) => self.act_hold_more(),
+            Action::Plain(Simple::Exchange) => {
                 self.act_exchange();
                 Ok(())
             }

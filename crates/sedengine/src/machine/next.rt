@@ -1,11 +1,12 @@
 //! The commands `n` and `N`: further lines (XCU sed, "Editing Commands in sed").
 ghost use Rattle.std.specs.Prelude.{◌≡◌, ◌≢◌, ◌<◌, ◌≤◌, ◌+◌, [], ◌∷◌, ◌++◌, None, Ok, ℕ, List, true, false, length};
 ghost use Rattle.std.specs.Option.{ForSome};
-ghost use Rattle.sedscript.specs.declared.types.Action.TheVariants.{AppendNext, NextLine};
+ghost use Rattle.sedscript.specs.declared.types.Action.TheVariants.{Plain};
+ghost use Rattle.sedscript.specs.declared.types.Simple.TheVariants.{AppendNext};
 ghost use Rattle.sedspace.specs.Spaces.{Contents};
 ghost use Rattle.sedspace.specs.Stream.{lines_left};
 ghost use Rattle.sedengine.specs.State.{empty_pattern, fetch, flush, join, print_pattern};
-ghost use Rattle.sedengine.specs.Move.{acts, newline, then_do};
+ghost use Rattle.sedengine.specs.Move.{acts, newline, next_line, then_do};
 ghost use Rattle.sedengine.specs.Ends.{reaches};
 ghost use Rattle.sedengine.specs.Meters.{SinkView};
 ghost use Rattle.sedengine.specs.Calls.{ReadsAlone};
@@ -36,7 +37,7 @@ impl Machine {
         ensures acts { lines.old.fault ≡ None → ForSome (lines_left R.remaining lines.old) (λ ls.
             (files : ℕ → List ℕ) → TellsFiles (T.text texts.old) files →
             PerformsSteps R.remaining lines.old lines.new ls self.old.limits (run_setting self.old files)
-            (acts (run_setting self.old files) (at_lines self.old ls) true NextLine) true (at_lines self.old ls) self.new
+            (next_line (at_lines self.old ls)) true (at_lines self.old ls) self.new
             (O.tally outputs.old) (O.tally outputs.new) result) }
         ensures falls { weight self.new ≤ weight self.old + 8 }
         ensures leaves { LeavesLines R.remaining R.failures R.reference O.tally O.count T.text self.old self.new
@@ -124,7 +125,7 @@ impl Machine {
         ensures acts { lines.old.fault ≡ None → ForSome (lines_left R.remaining lines.old) (λ ls.
             (files : ℕ → List ℕ) → TellsFiles (T.text texts.old) files →
             PerformsSteps R.remaining lines.old lines.new ls self.old.limits (run_setting self.old files)
-            (acts (run_setting self.old files) (at_lines self.old ls) true AppendNext) false (at_lines self.old ls) self.new
+            (acts (run_setting self.old files) (at_lines self.old ls) true (Plain AppendNext)) false (at_lines self.old ls) self.new
             (O.tally outputs.old) (O.tally outputs.new) result) }
         ensures falls { weight self.new ≤ weight self.old + 8 }
         ensures leaves { LeavesLines R.remaining R.failures R.reference O.tally O.count T.text self.old self.new

@@ -1,6 +1,7 @@
 use Rattle.std.proofs.Common.{◌∷◌, true, false, Err, refl}
 use Rattle.std.proofs.lemmas.Result.{err_from_is_err_and}
-use Rattle.sedscript.specs.declared.types.Action.TheVariants.{AppendNext}
+use Rattle.sedscript.specs.declared.types.Action.TheVariants.{Plain}
+use Rattle.sedscript.specs.declared.types.Simple.TheVariants.{AppendNext}
 use Rattle.sedengine.specs.State.{flush, join}
 use Rattle.sedengine.specs.Move.{acts, then_do}
 use Rattle.sedengine.specs.Run.{at_lines, run_setting}
@@ -12,7 +13,7 @@ use Rattle.sedengine.proofs.machine.Machine.act_append_next.Goals as goal
 pub returns-clause-acts : goal.returns-clause-acts
 returns-clause-acts g c = λ sound ls known files told.
     let e = c.args.self.now in
-    performs_then g.R.ByteSource.remaining c.args.lines.now c.join.new.lines ls e.limits (run_setting e files) (acts (run_setting e files) (at_lines e ls) true AppendNext) false (at_lines e ls) (then_do (flush ∷ join ∷ e.state.tasks) (at_lines e ls)) c.join.new.self
+    performs_then g.R.ByteSource.remaining c.args.lines.now c.join.new.lines ls e.limits (run_setting e files) (acts (run_setting e files) (at_lines e ls) true (Plain AppendNext)) false (at_lines e ls) (then_do (flush ∷ join ∷ e.state.tasks) (at_lines e ls)) c.join.new.self
     (g.O.Sinks.tally c.args.outputs.now) (g.O.Sinks.tally c.flush.new.outputs) c.join.result refl refl refl
     (flushed_steps g.R.ByteSource.remaining c.args.lines.now c.join.new.lines ls files (λ ts. join ∷ ts) (then_do (flush ∷ join ∷ e.state.tasks) (at_lines e ls)) e c.flush.new.self c.join.new.self
     c.flush.new.self.state.turns (g.O.Sinks.tally c.args.outputs.now) (g.O.Sinks.tally c.flush.new.outputs) (g.O.Sinks.tally c.flush.new.outputs) c.join.result c.in_ok-flush.ensures.ok refl refl
@@ -22,7 +23,7 @@ pub returns-in_err-flush-clause-acts : goal.returns-in_err-flush-clause-acts
 returns-in_err-flush-clause-acts g c = λ sound ls known files told.
     let e = c.args.self.now in
     let p = err_from_is_err_and c.from_residual.result c.from_residual.ensures.1 in
-    rw (p.1, p.2) (performs_then g.R.ByteSource.remaining c.args.lines.now c.args.lines.now ls e.limits (run_setting e files) (acts (run_setting e files) (at_lines e ls) true AppendNext) false (at_lines e ls) (then_do (flush ∷ join ∷ e.state.tasks) (at_lines e ls)) c.flush.new.self
+    rw (p.1, p.2) (performs_then g.R.ByteSource.remaining c.args.lines.now c.args.lines.now ls e.limits (run_setting e files) (acts (run_setting e files) (at_lines e ls) true (Plain AppendNext)) false (at_lines e ls) (then_do (flush ∷ join ∷ e.state.tasks) (at_lines e ls)) c.flush.new.self
     (g.O.Sinks.tally c.args.outputs.now) (g.O.Sinks.tally c.flush.new.outputs) (Err c.in_err-flush.field-0.0) refl refl refl
     (looked_moves g.R.ByteSource.remaining c.args.lines.now c.args.lines.now ls e.limits (run_setting e files) (then_do (flush ∷ join ∷ e.state.tasks) (at_lines e ls)) c.flush.new.self _ _ (Err c.in_err-flush.field-0.0)
     (lines_same g.R.ByteSource.remaining c.args.lines.now ls known) refl

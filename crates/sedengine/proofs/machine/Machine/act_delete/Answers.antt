@@ -1,5 +1,6 @@
 use Rattle.std.proofs.Common.{[], true, ap}
-use Rattle.sedscript.specs.declared.types.Action.TheVariants.{Delete}
+use Rattle.sedscript.specs.declared.types.Action.TheVariants.{Plain}
+use Rattle.sedscript.specs.declared.types.Simple.TheVariants.{Delete}
 use Rattle.sedspace.specs.Spaces.{Contents}
 use Rattle.sedengine.specs.Run.{run_setting, at_lines}
 use Rattle.sedengine.specs.Move.{acts}
@@ -12,5 +13,5 @@ pub returns-clause-acts : goal.returns-clause-acts
 returns-clause-acts g c = λ files told ls.
     let e = c.args.self.now in
     let old = g.O.Sinks.tally c.args.outputs.now in
-    deletes c.self.inside e c.end_cycle.new.self files ls (acts (run_setting e files) (at_lines e ls) true Delete) p.Begin c.clear.new.self old old (g.O.Sinks.tally c.end_cycle.new.outputs) [] c.end_cycle.result c.self.view_is
+    deletes c.self.inside e c.end_cycle.new.self files ls (acts (run_setting e files) (at_lines e ls) true (Plain Delete)) p.Begin c.clear.new.self old old (g.O.Sinks.tally c.end_cycle.new.outputs) [] c.end_cycle.result c.self.view_is
     (delete_is e files ls c.clear.new.self (ap (λ (c : Contents). c.bytes) c.clear.ensures)) (Sent-none old) (c.end_cycle.ensures.moves files told ls)

@@ -1,8 +1,7 @@
 use Rattle.std.proofs.Common.{◌∷◌, true, refl}
 use Rattle.std.proofs.lemmas.Result.{err_from_is_err_and}
-use Rattle.sedscript.specs.declared.types.Action.TheVariants.{NextLine}
 use Rattle.sedengine.specs.State.{print_pattern, flush, empty_pattern, fetch}
-use Rattle.sedengine.specs.Move.{acts, then_do}
+use Rattle.sedengine.specs.Move.{next_line, then_do}
 use Rattle.sedengine.specs.Run.{at_lines, run_setting}
 use Rattle.sedengine.proofs.Streams.{ReadsLines-then, ReadsLines-told}
 use Rattle.sedengine.proofs.NextLines.{looked_then, next_broken, next_goes, next_stops, performs_then}
@@ -18,7 +17,7 @@ returns-else-branch-clause-acts g c = λ sound ls known files told.
     let w = c.in_ok-is_last.ensures in
     let e = c.args.self.now in
     let taken = w.left ls known in
-    performs_then g.R.ByteSource.remaining c.args.lines.now c.print_and_fetch.new.lines ls e.limits (run_setting e files) (acts (run_setting e files) (at_lines e ls) true NextLine) true (at_lines e ls)
+    performs_then g.R.ByteSource.remaining c.args.lines.now c.print_and_fetch.new.lines ls e.limits (run_setting e files) (next_line (at_lines e ls)) true (at_lines e ls)
     (then_do (print_pattern ∷ flush ∷ empty_pattern ∷ fetch ∷ e.state.tasks) (at_lines e ls)) c.print_and_fetch.new.self (g.O.Sinks.tally c.args.outputs.now) (g.O.Sinks.tally c.print_and_fetch.new.outputs) c.print_and_fetch.result
     (next_goes e e files ls c.in_ok-is_last.field-0 (w.last sound ls known) c.if-branch.false) refl refl
     (looked_then g.R.ByteSource.remaining c.args.lines.now c.is_last.new.lines c.print_and_fetch.new.lines ls e.limits (run_setting e files) _ c.print_and_fetch.new.self _ _ c.print_and_fetch.result taken
@@ -34,4 +33,4 @@ returns-in_err-is_last-clause-acts g c = λ sound ls known files told.
     let w = c.in_err-is_last.ensures in
     let e = c.args.self.now in
     let p = err_from_is_err_and c.from_residual.result c.from_residual.ensures.1 in
-    rw (p.1, p.2) (next_broken g.R.ByteSource.remaining c.args.lines.now c.is_last.new.lines ls (run_setting e files) (acts (run_setting e files) (at_lines e ls) true NextLine) e (g.O.Sinks.tally c.args.outputs.now) c.in_err-is_last.field-0.0 (w.left ls known) (w.last sound ls known))
+    rw (p.1, p.2) (next_broken g.R.ByteSource.remaining c.args.lines.now c.is_last.new.lines ls (run_setting e files) (next_line (at_lines e ls)) e (g.O.Sinks.tally c.args.outputs.now) c.in_err-is_last.field-0.0 (w.left ls known) (w.last sound ls known))

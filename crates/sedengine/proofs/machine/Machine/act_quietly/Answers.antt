@@ -1,5 +1,6 @@
 use Rattle.std.proofs.Common.{◌≡◌, [], ◌∷◌, ◌∙◌, Option, None, Some, ap, sym, true}
 use Rattle.std.specs.Prelude.{slice_get}
+use Rattle.sedscript.specs.declared.types.Action.TheVariants.{Branch, File, Plain, Text}
 use Rattle.sedscript.specs.declared.types.Action.{Action}
 use Rattle.sedscript.specs.declared.types.Command.{Command}
 use Rattle.sedengine.specs.State.{do_at, print_pattern, flush}
@@ -15,39 +16,39 @@ returns-in-Block-clause-acts c = λ files ls tells sinks.
     acts_nothing c.args.self.now ls (c.is_within_limits.ensures ls) (run_setting c.args.self.now files) sinks sinks _
     (ap (acts (run_setting c.args.self.now files) (at_lines c.args.self.now ls) tells) c.in-Block.is)
 
-pub returns-in-Branch-clause-acts : goal.returns-in-Branch-clause-acts
-returns-in-Branch-clause-acts c = λ files ls tells sinks.
+pub returns-in-Branch-Always-default-clause-acts : goal.returns-in-Branch-Always-default-clause-acts
+returns-in-Branch-Always-default-clause-acts c = λ files ls tells sinks.
     acts_going c.args.self.now ls (c.is_within_limits.ensures ls) (run_setting c.args.self.now files) sinks sinks _
-    (do_at c.in-Branch.target ∷ []) c.act_branch.new.self c.act_branch.ensures (ap (acts (run_setting c.args.self.now files) (at_lines c.args.self.now ls) tells) c.in-Branch.is)
+    (do_at c.in-Branch-Always-default.target ∷ []) c.act_branch.new.self c.act_branch.ensures (ap (acts (run_setting c.args.self.now files) (at_lines c.args.self.now ls) tells) (c.in-Branch-Always-default.is ∙ ap (λ u. Branch u c.in-Branch-Always-default.target) (rw c.in-Branch-Always-default.is at c.in-Branch-Always-default.field-0-is)))
 
-pub returns-in-Quit-clause-acts : goal.returns-in-Quit-clause-acts
-returns-in-Quit-clause-acts c = λ files ls tells sinks.
+pub returns-in-Plain-Quit-clause-acts : goal.returns-in-Plain-Quit-clause-acts
+returns-in-Plain-Quit-clause-acts c = λ files ls tells sinks.
     acts_going c.args.self.now ls (c.is_within_limits.ensures ls) (run_setting c.args.self.now files) sinks sinks _
-    (print_pattern ∷ flush ∷ []) c.act_quit.new.self c.act_quit.ensures (ap (acts (run_setting c.args.self.now files) (at_lines c.args.self.now ls) tells) c.in-Quit.is)
+    (print_pattern ∷ flush ∷ []) c.act_quit.new.self c.act_quit.ensures (ap (acts (run_setting c.args.self.now files) (at_lines c.args.self.now ls) tells) (c.in-Plain-Quit.is ∙ ap (λ s. Plain s) (rw c.in-Plain-Quit.is at c.in-Plain-Quit.field-0-is)))
 
-pub returns-in-Test-clause-acts : goal.returns-in-Test-clause-acts
-returns-in-Test-clause-acts c = λ files ls tells sinks.
+pub returns-in-Branch-IfReplaced-default-clause-acts : goal.returns-in-Branch-IfReplaced-default-clause-acts
+returns-in-Branch-IfReplaced-default-clause-acts c = λ files ls tells sinks.
     acts_testing c.args.self.now ls (c.is_within_limits.ensures ls) (run_setting c.args.self.now files) sinks sinks _
-    c.in-Test.target c.act_test.new.self c.act_test.ensures (ap (acts (run_setting c.args.self.now files) (at_lines c.args.self.now ls) tells) c.in-Test.is)
+    c.in-Branch-IfReplaced-default.target c.act_test.new.self c.act_test.ensures (ap (acts (run_setting c.args.self.now files) (at_lines c.args.self.now ls) tells) (c.in-Branch-IfReplaced-default.is ∙ ap (λ u. Branch u c.in-Branch-IfReplaced-default.target) (rw c.in-Branch-IfReplaced-default.is at c.in-Branch-IfReplaced-default.field-0-is)))
 
 pub returns-in-Transliterate-clause-acts : goal.returns-in-Transliterate-clause-acts
 returns-in-Transliterate-clause-acts c = λ files ls tells sinks.
     acts_translating c.args.self.now ls (c.is_within_limits.ensures ls) (run_setting c.args.self.now files) sinks sinks _
     (slice_get c.args.self.now.script.tables c.in-Transliterate.k) c.act_transliterate.new.self c.act_transliterate.ensures (ap (acts (run_setting c.args.self.now files) (at_lines c.args.self.now ls) tells) c.in-Transliterate.is)
 
-pub returns-in-Append-clause-acts : goal.returns-in-Append-clause-acts
-returns-in-Append-clause-acts c = λ files ls tells sinks.
+pub returns-in-Text-Append-default-clause-acts : goal.returns-in-Text-Append-default-clause-acts
+returns-in-Text-Append-default-clause-acts c = λ files ls tells sinks.
     let e = c.args.self.now in
     acts_queueing e ls (c.is_within_limits.ensures ls) (run_setting e files) sinks sinks _ _ c.act_queue.new.self c.act_queue.result
-    (ap (acts (run_setting e files) (at_lines e ls) tells) c.in-Append.is ∙ ap (λ entry. quietly (queueing entry (at_lines e ls))) (sym (entry_is e.script.texts (slice_get e.script.commands c.args.k) c.args.action c.requires.action ∙ ap (entry_for e.script.texts) c.in-Append.is)))
+    (ap (acts (run_setting e files) (at_lines e ls) tells) (c.in-Text-Append-default.is ∙ ap (λ u. Text u c.in-Text-Append-default.field-1) (rw c.in-Text-Append-default.is at c.in-Text-Append-default.field-0-is)) ∙ ap (λ entry. quietly (queueing entry (at_lines e ls))) (sym (entry_is e.script.texts (slice_get e.script.commands c.args.k) c.args.action c.requires.action ∙ ap (entry_for e.script.texts) (c.in-Text-Append-default.is ∙ ap (λ u. Text u c.in-Text-Append-default.field-1) (rw c.in-Text-Append-default.is at c.in-Text-Append-default.field-0-is)))))
     c.act_queue.ensures
 
-pub returns-in-ReadFile-clause-acts : goal.returns-in-ReadFile-clause-acts
-returns-in-ReadFile-clause-acts c = λ files ls tells sinks.
+pub returns-in-File-Read-default-clause-acts : goal.returns-in-File-Read-default-clause-acts
+returns-in-File-Read-default-clause-acts c = λ files ls tells sinks.
     let e = c.args.self.now in
-    acts_queueing e ls (c.is_within_limits.ensures ls) (run_setting e files) sinks sinks _ _ c.act_queue-in-ReadFile.new.self c.act_queue-in-ReadFile.result
-    (ap (acts (run_setting e files) (at_lines e ls) tells) c.in-ReadFile.is ∙ ap (λ entry. quietly (queueing entry (at_lines e ls))) (sym (entry_is e.script.texts (slice_get e.script.commands c.args.k) c.args.action c.requires.action ∙ ap (entry_for e.script.texts) c.in-ReadFile.is)))
-    c.act_queue-in-ReadFile.ensures
+    acts_queueing e ls (c.is_within_limits.ensures ls) (run_setting e files) sinks sinks _ _ c.act_queue-in-File-Read-default.new.self c.act_queue-in-File-Read-default.result
+    (ap (acts (run_setting e files) (at_lines e ls) tells) (c.in-File-Read-default.is ∙ ap (λ u. File u c.in-File-Read-default.field-1) (rw c.in-File-Read-default.is at c.in-File-Read-default.field-0-is)) ∙ ap (λ entry. quietly (queueing entry (at_lines e ls))) (sym (entry_is e.script.texts (slice_get e.script.commands c.args.k) c.args.action c.requires.action ∙ ap (entry_for e.script.texts) (c.in-File-Read-default.is ∙ ap (λ u. File u c.in-File-Read-default.field-1) (rw c.in-File-Read-default.is at c.in-File-Read-default.field-0-is)))))
+    c.act_queue-in-File-Read-default.ensures
 
 pub returns-in_default-clause-acts : goal.returns-in_default-clause-acts
 returns-in_default-clause-acts c = c.act_on_hold.ensures.acts
