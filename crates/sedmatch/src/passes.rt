@@ -95,7 +95,7 @@ fn find_sought(alloc: Global, expr: &Expr, steps: &mut Steps) -> Result<Sought, 
     ensures { IfOk result (IsSought expr.now) }
 {
     let begins = how_begins(expr, steps);
-    let hints = find_hints(alloc, expr, &begins, steps)?;
+    let hints = find_hints(alloc, expr, steps)?;
     let prepared = Prepared::new(alloc, expr, steps)?;
     Ok(Sought {
         prepared,

@@ -1,6 +1,6 @@
 -- A choice of literals.
-use Rattle.std.proofs.Common.{◌≡◌, ℕ, zero, suc, ◌+◌, ◌<◌, ◌≤◌, ◌⊎◌, ◌↔◌, Bool, true, false, List, [], ◌∷◌, ◌++◌, length, Some, refl, sym, ap, ◌∙◌, subst, inl, inr, ⊎_elim, arith, length-append, Option, None, true≢false}
-use Rattle.std.specs.Prelude.{◌-◌, ◌*◌, slice_get, slice_index_or, slice_set, slice_index, IfSome, is_some}
+use Rattle.std.proofs.Common.{◌≡◌, ℕ, zero, suc, ◌+◌, ◌<◌, ◌≤◌, ◌⊎◌, ◌↔◌, Bool, true, false, List, [], ◌∷◌, ◌++◌, length, Some, refl, sym, ap, ◌∙◌, subst, inl, inr, ⊎_elim, arith, length-append, Option, None}
+use Rattle.std.specs.Prelude.{◌-◌, ◌*◌, slice_get, slice_index_or, slice_set, IfSome}
 use Rattle.std.proofs.lemmas.Bool.{cases_lt, cases_eq}
 use Rattle.std.proofs.lemmas.List.{get_or_append_left, get_or_push, get_or-set_same, get_or-set_other}
 use Rattle.std.proofs.lemmas.Option.{slice_get_within, get_or_from_slice_get, slice_get-get_or}
@@ -13,9 +13,7 @@ use Rattle.sedre.specs.declared.types.Node.TheVariants.{Alt, Group}
 use Rattle.sedtext.specs.Spans.{IsIn}
 use Rattle.sedtext.specs.Reach.{At}
 use Rattle.sedtext.specs.Word.{WordSpans, AllWord}
-use Rattle.sedtext.specs.Choice.{ChoiceAt, ChoiceSpans, ChoiceOr, AllChoice, BranchesOf, HeadsIn, AreHeads, AreShort, FewHeads, LongestAt, FirstChoice, bytes_in}
-use Rattle.sedtext.specs.Few.{FewAt, FirstFew}
-use Rattle.sedtext.specs.declared.counted.few.Few.{Few}
+use Rattle.sedtext.specs.Choice.{ChoiceAt, ChoiceSpans, ChoiceOr, AllChoice, BranchesOf, HeadsIn, AreHeads, AreShort, FirstChoice, bytes_in}
 use Rattle.sedtext.specs.declared.counted.choice.Branches.TheVariants.{Both, Inner}
 use Rattle.sedtext.proofs.CountLemmas.{least_ahead, least_less}
 use Rattle.sedtext.proofs.ReachLemmas.{open_at, close_at}
@@ -193,46 +191,3 @@ choice_inside heads words w i are at =
     let inside = slice_get_within at.0 0 h.0 h.1 in
     let fits = at.3.fits in
     omega (arith, inside, fits)
-
--- one of the few bytes with which the literals begin stands where a literal does
-pub few_head : (few : Few) (words : List (List ℕ)) (w : List ℕ) (i : ℕ) → FewHeads (Some few) words (length words) → ChoiceAt words w i → FewAt few w i
-few_head few words w i are at =
-    let h = are at.1 at.0 (slice_get_within words at.1 at.0 at.2) at.2 in
-    let inside = slice_get_within at.0 0 h.0 h.1 in
-    let fits = at.3.fits in
-    let read : slice_index w i ≡ h.0 = ap (λ v. slice_index w v) (let e : i ≡ i + 0 = omega arith in e) ∙ at.3.reads 0 (omega (arith, inside)) ∙ get_or_from_slice_get at.0 0 h.0 0 h.1 in
-    (h.0, slice_get-get_or w i 0 (omega (arith, inside, fits)) ∙ ap Some read, h.2)
-
--- a literal stands at none of the places passed where none of the few bytes does
-module _ (few : Few) (words : List (List ℕ)) (w : List ℕ) (from place : ℕ) (are : FewHeads (Some few) words (length words))
-    (missed : (i : ℕ) → from ≤ i → i < place → ChoiceAt words w i → ⊥) where
-  pub missed_to : (at : ℕ) → FirstFew few w place (Some at) → (i : ℕ) → from ≤ i → i < at → ChoiceAt words w i → ⊥
-  missed_to at first i low lt here =
-      ⊎_elim
-      (λ (old : i < place). missed i low old here)
-      (λ (new : place ≤ i). first.2 i new lt (few_head few words w i are here))
-      (cases_lt i place)
-
-  pub missed_on : (at : ℕ) (r : Option ℕ) → FirstFew few w place (Some at) → LongestAt words w at (length words) r → is_some r ≡ false → (i : ℕ) → from ≤ i → i < at + 1 → ChoiceAt words w i → ⊥
-  missed_on at (Some m) first longest none i low lt here = absurd (true≢false none)
-  missed_on at None first longest none i low lt here =
-      ⊎_elim
-      (λ (old : i < at). missed_to at first i low old here)
-      (λ (new : at ≤ i).
-      let there : ChoiceAt words w at = subst (ChoiceAt words w) (let e : i ≡ at = omega arith in e) here in
-      longest there.1 there.0 (slice_get_within words there.1 there.0 there.2) there.2 there.3)
-      (cases_lt i at)
-
-  pub missed_all : FirstFew few w place None → FirstChoice words w from None
-  missed_all none i low here =
-      ⊎_elim
-      (λ (old : i < place). missed i low old here)
-      (λ (new : place ≤ i). none i new (few_head few words w i are here))
-      (cases_lt i place)
-
-  pub missed_none : (at : ℕ) (r : Option ℕ) → from ≤ place → FirstFew few w place (Some at) → LongestAt words w at (length words) r → is_some r ≡ true → FirstChoice words w from (Some at)
-  missed_none at None low first longest some = absurd (true≢false (sym some))
-  missed_none at (Some m) low first longest some =
-      let past = first.0 in
-      let inside = slice_get_within w at first.1.0 first.1.1 in
-      (omega (arith, past), inside, (longest.0.0, longest.0.1, longest.0.2, longest.0.3), missed_to at first)

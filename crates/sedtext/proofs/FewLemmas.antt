@@ -1,13 +1,12 @@
 -- A few bytes with which matches begin.
 use Rattle.std.proofs.Common.{◌≡◌, ℕ, ◌+◌, ◌-◌, ◌<◌, ◌≤◌, ◌↔◌, ◌⊎◌, ◌||◌, Bool, true, List, length, take, drop, Option, Some, None, sym, ap, ◌∙◌, inl, inr, ⊎_elim, arith, length-drop}
-use Rattle.std.specs.Prelude.{slice_index, eqb, IfSome}
+use Rattle.std.specs.Prelude.{slice_index, eqb}
 use Rattle.std.proofs.lemmas.Bool.{eqb-true, eq-eqb, or_left, or_right, or_cases}
 use Rattle.std.proofs.lemmas.List.{take_rest, get_or-drop}
 use Rattle.std.proofs.lemmas.Option.{slice_get_within, get_or_from_slice_get, slice_get-get_or}
 use Rattle.memchr.specs.Find.{Passes, IsFirstByte, is_byte, is_byte2, is_byte3}
-use Rattle.sedre.specs.Sets.{has}
 use Rattle.sedtext.specs.Spans.{IsIn}
-use Rattle.sedtext.specs.Few.{HasFew, FewAt, FirstFew, Gathered, AreMembers}
+use Rattle.sedtext.specs.Few.{HasFew, FewAt, FirstFew, Gathered}
 use Rattle.sedtext.specs.declared.counted.few.Few.{Few}
 use Rattle.sedtext.specs.declared.counted.few.Few.TheVariants.{One, Two, Three}
 
@@ -97,16 +96,3 @@ few_inside few w i at = slice_get_within w i at.0 at.1
 -- the members of a set among the first bytes are those gathered
 abbrev pub AllGathered : List Bool → ℕ → Option Few → Type 0
 AllGathered set n few = (c : ℕ) → Gathered few c ↔ ((c < n) × IsIn c set)
-
--- the few of two sets
-pub few_of_both : (these those both : List Bool) → ((b : ℕ) → has both b ≡ (has these b || has those b)) → (r : Option Few) → IfSome r (AreMembers both) →
-    IfSome r (λ f. (c : ℕ) → c < 256 → HasFew f c ↔ (IsIn c these ⊎ IsIn c those))
-few_of_both these those both members None are = tt
-few_of_both these those both members (Some few) are = λ c small. (
-  (λ h. or_cases (has these c) (has those c) (sym (members c) ∙ (are c small).0 h)),
-  (λ h.
-      (are c small).1
-      (members c
-      ∙ ⊎_elim (λ (l : IsIn c these). or_left (has these c) (has those c) l)
-      (λ (r : IsIn c those). or_right (has these c) (has those c) r) h)),
-)

@@ -7,7 +7,6 @@ use Rattle.sedre.specs.Packed.{PartsBelow}
 use Rattle.sedre.specs.Tree.{Tree, empty, set, begin, end, seq, alt, group, star, opt}
 use Rattle.sedre.specs.Sizes.{size}
 use Rattle.sedre.specs.declared.types.Node.{Node}
-use Rattle.sedre.specs.declared.types.NodeId.{NodeId}
 use Rattle.sedre.specs.declared.types.Node.TheVariants.{Empty, Set, Begin, End, Seq, Alt, Group, Star, Opt}
 use Rattle.sedre.proofs.TreeLemmas.{tree_at-node}
 use Rattle.sedtext.specs.Nodes.{total_size, parts_of}
@@ -35,10 +34,6 @@ parts_below nodes arena x (Alt a b) is n le =
 parts_below nodes arena x (Group k a) is n le = let low = arena.below x a.index (Group k a) is refl in omega arith
 parts_below nodes arena x (Star a first) is n le = let low = arena.below x a.index (Star a first) is refl in omega arith
 parts_below nodes arena x (Opt a first) is n le = let low = arena.below x a.index (Opt a first) is refl in omega arith
-
--- the alternatives stand before the node
-pub alternatives_before : (nodes : List Node) → IsArena nodes → (x : ℕ) (a b : NodeId) → slice_get nodes x ≡ Some (Alt a b) → (a.index < x) × (b.index < x)
-alternatives_before nodes arena x a b is = (arena.below x a.index (Alt a b) is (inl refl), arena.below x b.index (Alt a b) is (inr refl))
 
 -- a tree has a node
 pub size-pos : (t : Tree) → 1 ≤ size t

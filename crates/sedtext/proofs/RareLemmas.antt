@@ -1,13 +1,10 @@
 -- Few bytes of which one stands at a fixed distance after the beginning of every match.
-use Rattle.std.proofs.Common.{◌≡◌, ℕ, ◌+◌, ◌-◌, ◌*◌, ◌<◌, ◌≤◌, ◌↔◌, ◌⊎◌, Bool, List, length, Option, Some, None, sym, subst, inl, inr, ⊎_elim, arith}
-use Rattle.std.specs.Prelude.{IfSome, slice_get}
+use Rattle.std.proofs.Common.{◌≡◌, ℕ, ◌+◌, ◌-◌, ◌*◌, ◌<◌, ◌≤◌, ◌↔◌, Bool, List, length, Option, Some, None, subst, ⊎_elim, arith}
+use Rattle.std.specs.Prelude.{IfSome}
 use Rattle.std.proofs.lemmas.Bool.{cases_lt}
 use Rattle.sedre.specs.Tree.{Tree}
-use Rattle.sedre.specs.Arena.{IsArena}
 use Rattle.sedre.specs.Written.{tree_at}
 use Rattle.sedre.specs.declared.types.Node.{Node}
-use Rattle.sedre.specs.declared.types.NodeId.{NodeId}
-use Rattle.sedre.specs.declared.types.Node.TheVariants.{Alt}
 use Rattle.sedtext.specs.declared.counted.few.Few.{Few}
 use Rattle.sedtext.specs.declared.needed.Link.TheVariants.{OneOf, Last}
 use Rattle.sedtext.specs.declared.rare.Fixed.{Fixed}
@@ -15,12 +12,11 @@ use Rattle.sedtext.specs.declared.rare.Rare.{Rare}
 use Rattle.sedtext.specs.Bytes.{looked_at, AreBytes}
 use Rattle.sedtext.specs.Few.{HasFew, FewAt, FirstFew}
 use Rattle.sedtext.specs.Needed.{LinksTo, Narrowed}
-use Rattle.sedtext.specs.Rare.{StandsAt, HeldAt, RareAt, FirstFixed, FirstRare, RareNowhere, AllStand, AllHave, AllHeld, AllRare, AllSecond}
+use Rattle.sedtext.specs.Rare.{StandsAt, HeldAt, RareAt, FirstFixed, FirstRare, RareNowhere, AllStand, AllHave, AllHeld, AllRare}
 use Rattle.sedtext.specs.Reach.{At}
 use Rattle.sedtext.specs.Beginnings.{NoneIn}
 use Rattle.sedtext.specs.Spans.{Matches, IsIn}
 use Rattle.sedtext.proofs.FewLemmas.{few_inside}
-use Rattle.sedtext.proofs.ReachLemmas.{open_at}
 
 -- a place after which one stands is in the text
 pub fixed_inside : (f : Fixed) (w : List ℕ) (i : ℕ) → StandsAt f w i → i + f.offset < length w
@@ -122,24 +118,3 @@ module _ (e : Tree) (w : List ℕ) (bytes : AreBytes w) (from p : ℕ) (r : Rare
         λ i k after less s.
             ⊎_elim (λ (early : i < p). before i k after early s) (λ (late : p ≤ i). first.2 i late less (rare_at i k s)) (cases_lt i p),
       )
-
--- what stands second
-module _ (nodes : List Node) (x : ℕ) (s t : List Bool) (y : ℕ) (link : LinksTo nodes x (OneOf s y)) where
-  pub second_set : (z : ℕ) → LinksTo nodes y (OneOf t z) → AllSecond nodes x t
-  second_set z next w i j at = ((next.1 w (i + 1) j).0 ((link.1 w i j).0 at).1).0
-
-  pub second_last : LinksTo nodes y (Last t) → AllSecond nodes x t
-  second_last next w i j at = ((next w (i + 1) j).0 ((link.1 w i j).0 at).1).0
-
--- of two alternatives
-pub second_alternatives : (nodes : List Node) → IsArena nodes → (x last : ℕ) (a b : NodeId) (y z : ℕ) (s t : List Bool) (few : Few) → last ≡ x → slice_get nodes x ≡ Some (Alt a b) → y ≡ a.index → z ≡ b.index →
-    AllSecond nodes y s → AllSecond nodes z t → ((c : ℕ) → c < 256 → HasFew few c ↔ (IsIn c s ⊎ IsIn c t)) → AllStand (tree_at nodes last) (record { offset = 1; few = few })
-second_alternatives nodes arena x last a b y z s t few whole is y_is z_is first second same w bytes i j spans =
-    ⊎_elim
-    (λ (h : At nodes w a.index i j).
-    let can = first w i j (subst (λ v. At nodes w v i j) (sym y_is) h) in
-    (can.0, can.1, (same can.0 (bytes (i + 1) can.0 can.1)).1 (inl can.2)))
-    (λ (h : At nodes w b.index i j).
-    let can = second w i j (subst (λ v. At nodes w v i j) (sym z_is) h) in
-    (can.0, can.1, (same can.0 (bytes (i + 1) can.0 can.1)).1 (inr can.2)))
-    (open_at nodes w x (Alt a b) arena is i j (subst (λ v. At nodes w v i j) whole spans))

@@ -8,7 +8,7 @@ use Rattle.sedre.specs.declared.types.Node.{Node}
 use Rattle.sedre.specs.declared.types.NodeId.{NodeId}
 use Rattle.sedre.specs.declared.types.Node.TheVariants.{Set, Seq, Group}
 use Rattle.sedtext.specs.Spans.{Matches, CopiesLead, no_copy, one_more}
-use Rattle.sedtext.specs.Runs.{Repeated}
+use Rattle.sedtext.specs.Runs.{Repeated, RunBegins}
 use Rattle.sedtext.specs.Beginnings.{CanBegin}
 use Rattle.sedtext.specs.declared.beginnings.Begins.TheVariants.{WithSet}
 use Rattle.sedtext.specs.Times.{SameBytes, HasTimes, AllTimes, AreWidths, FirstTimes}
@@ -108,13 +108,19 @@ width_at nodes members widths x count are lt y there is =
     subst (λ v. AllTimes nodes x members v) same (are x lt)
 
 module _ (members : List Bool) (count : ℕ) (w : List ℕ) (from : ℕ) where
-  -- no so many bytes begin up to a byte that isn't in the set and stands among those
-  pub times_missed : (start place : ℕ) → start ≤ place → place < start + count → (CanBegin (WithSet members) w place → ⊥) →
-      ((h : ℕ) → from ≤ h → h < start → Repeated members w h (h + count) → ⊥) → (h : ℕ) → from ≤ h → h < place + 1 → Repeated members w h (h + count) → ⊥
-  times_missed start place low high outside before h after lt all =
+  -- no so many bytes begin before a run that begins among those
+  pub times_missed : (start seen run : ℕ) → start ≤ seen → seen < run → RunBegins members w seen (start + count) run →
+      ((h : ℕ) → from ≤ h → h < start → Repeated members w h (h + count) → ⊥) → (h : ℕ) → from ≤ h → h < run → Repeated members w h (h + count) → ⊥
+  times_missed start seen run low off begins before h after lt all =
       ⊎_elim
       (λ (less : h < start). before h after less all)
-      (λ (le : start ≤ h). outside (repeated_in members w h place (h + count) (omega arith) (omega arith) all))
+      (λ (le : start ≤ h).
+      let end = begins.1 in
+      let rest = (repeated_cut members w (start + count) (h + count) h (omega (arith, end)) (omega arith) all).0 in
+      ⊎_elim
+      (λ (early : h < seen). begins.3 seen (omega arith) off (repeated_cut members w seen (start + count) h (omega arith) (omega (arith, end)) rest).1)
+      (λ (late : seen ≤ h). begins.3 h late lt rest)
+      (cases_lt h seen))
       (cases_lt h start)
 
   -- nor where the text is too short

@@ -4,8 +4,6 @@ use Rattle.std.specs.Prelude.{◌≡◌, ℕ, ◌+◌, ◌<◌, ◌≤◌, ◌�
 use Rattle.memchr.specs.Find.{OccursAt}
 use Rattle.sedre.specs.declared.types.Node.{Node}
 use Rattle.sedtext.specs.Spans.{IsIn}
-use Rattle.sedtext.specs.Few.{Gathered}
-use Rattle.sedtext.specs.declared.counted.few.Few.{Few}
 use Rattle.sedtext.specs.Reach.{At}
 use Rattle.sedtext.specs.declared.counted.choice.Branches.{Branches}
 use Rattle.sedtext.specs.declared.counted.choice.Branches.TheVariants.{Both, Inner, Alone}
@@ -39,15 +37,6 @@ HeadsIn heads words n = (k : ℕ) (literal : List ℕ) → k < n → slice_get w
 -- there is a mark for each byte, and each literal begins with a byte that is marked
 abbrev pub AreHeads : List Bool → List (List ℕ) → Type 0
 AreHeads heads words = (length heads ≡ 256) × HeadsIn heads words (length words)
-
--- each of the first n literals begins with one of the few bytes
-abbrev pub FewHeads : Option Few → List (List ℕ) → ℕ → Type 0
-FewHeads few words n = (k : ℕ) (literal : List ℕ) → k < n → slice_get words k ≡ Some literal → (c : ℕ) × (slice_get literal 0 ≡ Some c) × Gathered few c
-
--- each literal begins with one of the few bytes, if there are such
-abbrev pub RareHeads : Option Few → List (List ℕ) → Type 0
-RareHeads None words = Unit {0}
-RareHeads (Some few) words = FewHeads (Some few) words (length words)
 
 -- how many bytes the literals have together
 unfoldable pub bytes_in : List (List ℕ) → ℕ

@@ -1,10 +1,8 @@
 -- Private to the proofs: no contract that `sedmatch` makes public cites what stands here.
 -- Up to three bytes, one of which is sought.
 use Rattle.std.specs.Prelude.{Bool, ◌≡◌, ◌⊎◌, ℕ, ◌<◌, ◌↔◌, List, length, slice_get, slice_index, Option, Some, None}
-use Rattle.sedtext.specs.Bytes.{AreBytes, FirstFrom}
+use Rattle.sedtext.specs.Bytes.{FirstFrom}
 use Rattle.sedtext.specs.Spans.{IsIn}
-use Rattle.sedtext.specs.Beginnings.{CanBegin}
-use Rattle.sedtext.specs.declared.beginnings.Begins.{Begins}
 use Rattle.sedtext.specs.declared.counted.few.Few.{Few}
 use Rattle.sedtext.specs.declared.counted.few.Few.TheVariants.{One, Two, Three}
 
@@ -38,12 +36,3 @@ Gathered (Some few) c = HasFew few c
 -- the few are the members of the set
 abbrev pub AreMembers : List Bool → Few → Type 0
 AreMembers set few = (c : ℕ) → c < 256 → HasFew few c ↔ IsIn c set
-
--- what can begin there, as `begins` says, begins with one of the few
-abbrev pub IsFewOf : Begins → Few → Type 0
-IsFewOf begins few = (w : List ℕ) → AreBytes w → (i : ℕ) → CanBegin begins w i → FewAt few w i
-
--- what can begin there, as `begins` says, begins with one of the few, if there are such
-abbrev pub FewOf : Begins → Option Few → Type 0
-FewOf begins None = Unit {0}
-FewOf begins (Some few) = IsFewOf begins few

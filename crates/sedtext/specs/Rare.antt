@@ -2,9 +2,7 @@
 -- A few bytes, one of which stands at a fixed distance after the beginning of every match.
 use Rattle.std.specs.Prelude.{ℕ, ◌+◌, ◌<◌, ◌≤◌, Bool, List, Option, Some, None}
 use Rattle.sedre.specs.Tree.{Tree}
-use Rattle.sedre.specs.declared.types.Node.{Node}
 use Rattle.sedtext.specs.Spans.{Matches}
-use Rattle.sedtext.specs.Reach.{At}
 use Rattle.sedtext.specs.Few.{FewAt}
 use Rattle.sedtext.specs.Bytes.{AreBytes, FirstFrom}
 use Rattle.sedtext.specs.Beginnings.{CanBegin}
@@ -58,7 +56,3 @@ AllHave e offset s = (w : List ℕ) (i j : ℕ) → Matches e w i j → CanBegin
 abbrev pub AllRare : Tree → Option Rare → Type 0
 AllRare e None = Unit {0}
 AllRare e (Some r) = AllStand e r.sought × AllHeld e r.held
-
--- a byte of the set stands second in each span of the node x
-abbrev pub AllSecond : List Node → ℕ → List Bool → Type 0
-AllSecond nodes x s = (w : List ℕ) (i j : ℕ) → At nodes w x i j → CanBegin (WithSet s) w (i + 1)

@@ -6,8 +6,6 @@ use Rattle.sedtext.specs.Reach.{At}
 use Rattle.sedtext.specs.Spans.{IsIn}
 use Rattle.sedtext.specs.Bytes.{AreBytes}
 use Rattle.sedtext.specs.Runs.{Repeated}
-use Rattle.sedtext.specs.Beginnings.{CanBegin}
-use Rattle.sedtext.specs.declared.beginnings.Begins.TheVariants.{WithSet}
 
 -- the sets have the same bytes
 abbrev pub SameBytes : List Bool → List Bool → Type 0
@@ -24,11 +22,6 @@ AllTimes nodes x members count = (w : List ℕ) → AreBytes w → (i j : ℕ) �
 -- the spans of each node that has a width are those of as many bytes of the set
 abbrev pub AreWidths : List Node → List Bool → List ℕ → Type 0
 AreWidths nodes members widths = (x : ℕ) → x < length widths → AllTimes nodes x members (slice_index widths x)
-
--- the last place from p up to but not including q whose byte isn't in the set, if there is one
-abbrev pub LastOutside : List Bool → List ℕ → ℕ → ℕ → Option ℕ → Type 0
-LastOutside members w p q None = Repeated members w p q
-LastOutside members w p q (Some k) = (p ≤ k) × (k < q) × (CanBegin (WithSet members) w k → ⊥) × Repeated members w (k + 1) q
 
 -- the end of the `count` bytes found, or the end n of the text
 abbrev pub passed_times : ℕ → ℕ → Option ℕ → ℕ

@@ -4,12 +4,10 @@ ghost use Rattle.std.specs.Prelude.{◌-◌, ◌*◌, ◌≤◌, length, IfOk, I
 ghost use Rattle.sedre.specs.Written.{expression_tree};
 ghost use Rattle.sedre.specs.Steps.{TakesAtLeast};
 ghost use Rattle.sedre.specs.Tree.{Tree};
-ghost use Rattle.sedtext.specs.Beginnings.{AllBegin};
 ghost use Rattle.sedtext.specs.Costs.{Pays};
 ghost use Rattle.sedtext.specs.Hints.{AreHints};
 ghost use Rattle.sedtext.specs.Needed.{Narrowed};
 
-use crate::beginnings::Begins;
 use crate::counted::{Text, are_bytes};
 use crate::needed::{Needed, find_needed, narrowed};
 use crate::rare::{Rare, rare_of};
@@ -26,16 +24,10 @@ pub struct Hints {
 }
 
 /// What all matches of the expression hold, as far as it is found. It fails only where a request for memory was refused.
-pub fn find_hints(
-    alloc: Global,
-    expr: &Expr,
-    begins: &Begins,
-    steps: &mut Steps,
-) -> Result<Hints, AllocError>
-    requires begins { AllBegin (expression_tree expr.now) begins.now }
+pub fn find_hints(alloc: Global, expr: &Expr, steps: &mut Steps) -> Result<Hints, AllocError>
     ensures hints { IfOk result (AreHints (expression_tree expr.now)) }
 {
-    let rare = rare_of(expr, begins, steps);
+    let rare = rare_of(expr, steps);
     Ok(Hints {
         needed: find_needed(alloc, expr, steps)?,
         rare,

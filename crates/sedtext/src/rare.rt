@@ -1,23 +1,19 @@
 //! A few bytes, one of which stands at a fixed distance after the beginning of every match: the rarest are sought, and the
 //! next rarest are compared with what stands there.
-ghost use Rattle.std.specs.Prelude.{ℕ, ◌+◌, ◌-◌, ◌*◌, ◌<◌, ◌≤◌, ◌↔◌, ◌⊎◌, Some, length, IfSome, IsTrue};
+ghost use Rattle.std.specs.Prelude.{◌+◌, ◌-◌, ◌*◌, ◌<◌, ◌≤◌, ◌↔◌, Some, length, IfSome, IsTrue};
 ghost use Rattle.sedre.specs.Written.{expression_tree, tree_at};
 ghost use Rattle.sedre.specs.Tree.{Tree};
 ghost use Rattle.sedtext.specs.Bytes.{looked_at};
-ghost use Rattle.sedtext.specs.Rare.{StandsAt, HeldAt, FirstFixed, FirstRare, RareNowhere, AllStand, AllHave, AllHeld, AllRare, AllSecond};
-ghost use Rattle.sedtext.specs.Few.{HasFew};
-ghost use Rattle.sedtext.specs.Spans.{IsIn};
-ghost use Rattle.sedtext.specs.Beginnings.{AllBegin};
+ghost use Rattle.sedtext.specs.Rare.{StandsAt, HeldAt, FirstFixed, FirstRare, RareNowhere, AllStand, AllHave, AllHeld, AllRare};
 ghost use Rattle.sedtext.specs.Nodes.{IsNode};
 ghost use Rattle.sedtext.specs.Costs.{Pays};
 ghost use Rattle.sedre.specs.Steps.{Takes, TakesAtLeast};
 
-use crate::beginnings::Begins;
 use crate::counted::Text;
-use crate::counted::few::{Few, few_of, members_of};
+use crate::counted::few::{Few, members_of};
 use crate::counted::lookups::{find_few, pass_apart};
 use crate::needed::{Link, link_of};
-use sedre::{ByteSet, Expr, Node, Steps};
+use sedre::{ByteSet, Expr, Steps};
 
 /// How often bytes stand in a thousand that are sought one by one in less time than by vectors.
 const RARE: usize = 21;
@@ -91,15 +87,6 @@ impl Fixed {
         let place = find_few(text, &self.few, from + self.offset, steps)?;
         Some(place - self.offset)
     }
-}
-
-/// Whether the bytes are so rare that they are sought one by one in less time than by a table.
-pub fn are_rare(few: &Few) -> bool {
-    let first = Fixed {
-        offset: 0,
-        few: *few,
-    };
-    first.weight() <= RARE
 }
 
 /// What stands after the beginning of every match.
@@ -252,82 +239,11 @@ fn rare_from(expr: &Expr, from: usize, steps: &mut Steps) -> Option<Rare>
     rare
 }
 
-/// The bytes with which every match begins, if they are few.
-fn rare_first(begins: &Begins) -> Option<Rare>
-    ensures { (e : Tree) → AllBegin e begins.now → AllRare e result }
-{
-    let few = few_of(begins)?;
-    Some(Rare {
-        sought: Fixed { offset: 0, few },
-        held: None,
-        often: false,
-    })
-}
-
-/// The set of which a byte stands second in every span of the node, if there is one.
-fn second_set(expr: &Expr, index: usize, steps: &mut Steps) -> Option<ByteSet>
-    requires inside { index < length expr.now.nodes }
-    ensures second { IfSome result (λ s. AllSecond expr.now.nodes index s) }
-    ensures cost { Takes steps.old steps.new 4 }
-{
-    match link_of(expr, index, steps) {
-        Link::OneOf(_, next) => match link_of(expr, next, steps) {
-            Link::OneOf(set, _) => Some(set),
-            Link::Last(set) => Some(set),
-            _ => None,
-        },
-        _ => None,
-    }
-}
-
-/// The bytes that stand second in every match, if the expression is two alternatives and these bytes are few.
-fn second_of_two(expr: &Expr, steps: &mut Steps) -> Option<Fixed>
-    ensures second { AllHeld (expression_tree expr.now) result }
-    ensures cost { Takes steps.old steps.new 9 }
-{
-    let root = expr.root().index();
-    match expr.look(expr.id(root), steps) {
-        Node::Alt(a, b) => {
-            let first = second_set(expr, a.index(), steps)?;
-            let second = second_set(expr, b.index(), steps)?;
-            let few = few_of_two(first, second)?;
-            Some(Fixed { offset: 1, few })
-        }
-        _ => None,
-    }
-}
-
-/// The members of two sets together, if they are few.
-fn few_of_two(first: ByteSet, second: ByteSet) -> Option<Few>
-    ensures { IfSome result (λ f. (c : ℕ) → c < 256 → HasFew f c ↔ (IsIn c first ⊎ IsIn c second)) }
-{
-    members_of(&first.union(&second))
-}
-
-/// These bytes, if there are such, with `held` as the next rarest.
-fn with_held(rare: Option<Rare>, held: Option<Fixed>) -> Option<Rare>
-    ensures { (e : Tree) → AllRare e rare → AllHeld e held → AllRare e result }
-{
-    let sought = rare?.sought;
-    Some(Rare {
-        sought,
-        held,
-        often: held.is_some() && sought.weight() > RARE,
-    })
-}
-
 /// The rarest bytes that stand at a fixed distance after the beginning of every match, if such bytes are found.
-pub fn rare_of(expr: &Expr, begins: &Begins, steps: &mut Steps) -> Option<Rare>
-    requires begins { AllBegin (expression_tree expr.now) begins.now }
+pub fn rare_of(expr: &Expr, steps: &mut Steps) -> Option<Rare>
     ensures rare { AllRare (expression_tree expr.now) result }
-    ensures cost { Takes steps.old steps.new 131083 }
+    ensures cost { Takes steps.old steps.new 131074 }
 {
     let root = expr.root().index();
-    match rare_from(expr, root, steps) {
-        Some(rare) => Some(rare),
-        None => {
-            let held = second_of_two(expr, steps);
-            with_held(rare_first(begins), held)
-        }
-    }
+    rare_from(expr, root, steps)
 }

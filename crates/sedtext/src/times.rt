@@ -4,12 +4,13 @@
 //! The last of these bytes is looked at first. Where it isn't in the set, no match begins before it, and those before
 //! it aren't looked at: where such bytes are rare, most of a text is passed over unseen.
 ghost use Rattle.std.specs.Prelude.{◌≡◌, ◌+◌, ◌<◌, ◌≤◌, ◌-◌, length, Some, IfOk, IfSome, IsTrue};
-ghost use Rattle.sedtext.specs.Times.{SameBytes, AllTimes, AreWidths, LastOutside, FirstTimes, passed_times};
+ghost use Rattle.sedtext.specs.Times.{SameBytes, AllTimes, AreWidths, FirstTimes, passed_times};
 ghost use Rattle.sedtext.specs.Costs.{Pays};
 ghost use Rattle.sedre.specs.Steps.{Takes, TakesExactly, TakesAtLeast};
 
 use crate::counted::Text;
 use crate::counted::few::members_of;
+use crate::counted::members::run_begin;
 use sedre::{ByteSet, Expr, Node, Steps};
 use std::alloc::{AllocError, Global};
 
@@ -89,32 +90,6 @@ pub fn times_of(
     Ok(Some((set, widths[count - 1])))
 }
 
-/// The last place from `from` up to `to` whose byte isn't in the set, if there is one. The bytes before it count as looked at,
-/// since they are passed over.
-#[inline(always)]
-fn last_outside(
-    set: &ByteSet,
-    text: &Text,
-    from: usize,
-    to: usize,
-    steps: &mut Steps,
-) -> Option<usize>
-    requires from { from ≤ to }
-    requires to { to ≤ length text.now }
-    ensures last { LastOutside set.now text.now from to result }
-    ensures cost { Pays steps.old steps.new to from }
-    ensures counts { TakesAtLeast steps.old steps.new (to - from) }
-{
-    for place in (from..to).rev() {
-        let byte = text.byte(place, steps);
-        if !set.has(byte) {
-            steps.add(place - from);
-            return Some(place);
-        }
-    }
-    None
-}
-
 /// The first place from `from` on at which `count` bytes in a row begin that are in the set, if there is one.
 /// Counts a look for each byte from `from` to their end.
 #[inline(never)]
@@ -134,13 +109,14 @@ pub fn find_times(
     let mut seen = from;
     while count <= text.len() - start {
         let end = start + count;
-        match last_outside(set, text, seen, end, steps) {
-            None => return Some(start),
-            Some(place) => {
-                start = place + 1;
-                seen = end;
-            }
+        let run = run_begin(text, set, seen, end, steps);
+        if run == seen {
+            return Some(start);
         }
+        // The bytes before the one that ends the run count as looked at, since they are passed over.
+        steps.add(run - 1 - seen);
+        start = run;
+        seen = end;
     }
     None
 }

@@ -1,25 +1,21 @@
 //! A choice of a few literals, as in `cat\|dog\|bird`: a match begins where one of them stands, and ends after the
 //! longest that does.
 //!
-//! The places at which a literal can stand are sought by the bytes with which they begin: by the first of each, where
-//! these are few and rare, else by the first two of each, or where one has a single byte, by a look at each byte of the
-//! text. At such a place the literals are compared.
-ghost use Rattle.std.specs.Prelude.{◌≡◌, ℕ, List, ◌+◌, ◌*◌, ◌<◌, ◌≤◌, ◌-◌, ◌↔◌, ◌⊎◌, length, IfOk, IfSome, IsTrue, slice_get, Some};
+//! The places at which a literal can stand are sought by the first two bytes of each. At such a place the literals are
+//! compared.
+ghost use Rattle.std.specs.Prelude.{◌≡◌, ℕ, List, ◌+◌, ◌*◌, ◌<◌, ◌≤◌, ◌-◌, ◌↔◌, length, IfOk, IfSome, IsTrue, slice_get, Some};
 ghost use Rattle.memchr.specs.Find.{OccursAt};
 ghost use Rattle.sedtext.specs.Word.{AllWord};
-ghost use Rattle.sedtext.specs.Choice.{AllChoice, AreHeads, AreShort, BranchesOf, ChoiceAt, ChoiceEnd, ChoiceSpans, FirstChoice, Longer, LongestAt, RareHeads};
-ghost use Rattle.sedtext.specs.Few.{Gathered, HasFew};
+ghost use Rattle.sedtext.specs.Choice.{AllChoice, AreHeads, AreShort, BranchesOf, ChoiceAt, ChoiceEnd, ChoiceSpans, FirstChoice, Longer, LongestAt};
 ghost use Rattle.sedtext.specs.Openings.{PairAt};
 ghost use Rattle.sedtext.specs.Bytes.{looked_at};
 ghost use Rattle.sedtext.specs.Nodes.{IsNode};
 ghost use Rattle.sedre.specs.Steps.{Takes, TakesExactly, TakesAtLeast};
 
 use super::Text;
-use super::few::{Few, with_byte};
-use super::lookups::{find_choice, find_few, find_opened, longest_choice};
+use super::lookups::{find_opened, longest_choice};
 use super::openings::{Opening, openings_of};
 use crate::needed::{Literal, literal_from};
-use crate::rare::are_rare;
 use sedre::{Expr, Node, Steps};
 use std::alloc::{AllocError, Global};
 use std::marker::Model;
@@ -81,23 +77,21 @@ impl Alternative {
 pub struct Choice {
     // Whether a literal begins with the byte.
     heads: Vec<bool>,
-    // The bytes with which the literals begin, if they are few and rare.
-    rare: Option<Few>,
-    // The first two bytes of each literal, if every one has two.
-    openings: Option<Vec<Opening>>,
+    // The first two bytes of each literal.
+    openings: Vec<Opening>,
     literals: Vec<Alternative>,
 }
 
 impl Model for Choice {
-    ghost use Rattle.std.specs.Prelude.{ℕ, List, length, IfSome};
-    ghost use Rattle.sedtext.specs.Choice.{AreHeads, AreShort, RareHeads};
+    ghost use Rattle.std.specs.Prelude.{ℕ, List, length};
+    ghost use Rattle.sedtext.specs.Choice.{AreHeads, AreShort};
     ghost use Rattle.sedtext.specs.Openings.{OpenLiterals};
 
     ghost Value = { List (List ℕ) };
 
     ghost view = { λ c. c.literals.items };
 
-    ghost invariant = { λ c. AreHeads c.heads.items c.literals.items × RareHeads c.rare c.literals.items × AreShort c.literals.items × IfSome c.openings (λ o. OpenLiterals o.items c.literals.items (length c.literals.items)) };
+    ghost invariant = { λ c. AreHeads c.heads.items c.literals.items × AreShort c.literals.items × OpenLiterals c.openings.items c.literals.items (length c.literals.items) };
 }
 
 /// What the spans of a node are made of.
@@ -195,38 +189,8 @@ fn heads_of(alloc: Global, literals: &[Alternative]) -> Result<Option<Vec<bool>>
     Ok(Some(heads))
 }
 
-/// The bytes gathered before and one more, if they are still few.
-fn with_head(few: Option<Few>, byte: u8) -> Option<Few>
-    ensures { IfSome result (λ f. (c : ℕ) → (Gathered few c ⊎ (c ≡ byte)) → HasFew f c) }
-{
-    match few {
-        Some(few) if few.has(byte) => Some(few),
-        _ => with_byte(few, byte),
-    }
-}
-
-/// The bytes with which the literals begin, if they are few.
-fn few_heads(literals: &[Alternative]) -> Option<Few>
-    ensures { RareHeads result literals.now }
-{
-    let mut few = None;
-    for x in 0..literals.len() {
-        few = Some(with_head(few, literals[x].head()?)?);
-    }
-    few
-}
-
-/// The bytes with which the literals begin, if they are few and rare.
-fn rare_heads(literals: &[Alternative]) -> Option<Few>
-    ensures { RareHeads result literals.now }
-{
-    match few_heads(literals) {
-        Some(few) if are_rare(&few) => Some(few),
-        _ => None,
-    }
-}
-
-/// The two literals or more that the expression matches and nothing else, if there are such and they are few and short.
+/// The two literals or more that the expression matches and nothing else, if there are such and they are few and short, and
+/// each has two bytes.
 pub fn choice_of(
     alloc: Global,
     expr: &Expr,
@@ -244,11 +208,11 @@ pub fn choice_of(
     let Some(heads) = heads_of(alloc, &literals)? else {
         return Ok(None);
     };
-    let rare = rare_heads(&literals);
-    let openings = openings_of(alloc, &literals)?;
+    let Some(openings) = openings_of(alloc, &literals)? else {
+        return Ok(None);
+    };
     Ok(Some(Choice {
         heads,
-        rare,
         openings,
         literals,
     }))
@@ -328,32 +292,6 @@ pub(super) fn first_choice(
     None
 }
 
-/// The first place from `from` on at which one of the literals stands, if there is one, by a search for the few bytes
-/// with which they begin.
-fn rare_choice(
-    few: &Few,
-    literals: &[Alternative],
-    text: &Text,
-    from: usize,
-    steps: &mut Steps,
-) -> Option<usize>
-    requires heads { RareHeads (Some few.now) literals.now }
-    requires literals { AreShort literals.now }
-    requires from { from ≤ length text.now }
-    ensures first { FirstChoice literals.now text.now from result }
-    ensures cost { Takes steps.old steps.new (21 * looked_at (length text.now) from result) }
-    ensures counts { IfSome result (λ k. TakesAtLeast steps.old steps.new (k + 20 - from)) }
-{
-    let mut place = from;
-    while let Some(at) = find_few(text, few, place, steps) {
-        if longest_choice(text, literals, at, steps).is_some() {
-            return Some(at);
-        }
-        place = text.after(at, 1);
-    }
-    None
-}
-
 impl Choice {
     /// The first place from `from` on at which a match begins, if there is one.
     pub fn start(&self, text: &Text, from: usize, steps: &mut Steps) -> Option<usize>
@@ -362,14 +300,14 @@ impl Choice {
         ensures cost { Takes steps.old steps.new (22 * looked_at (length text.now) from result) }
         ensures counts { IfSome result (λ k. (j : ℕ) → ChoiceSpans self.now text.now k j → TakesAtLeast steps.old steps.new (j - from)) }
     {
-        let literals = &self.literals;
-        match (&self.rare, &self.openings) {
-            (Some(few), _) => rare_choice(few, literals, text, from, steps),
-            (None, Some(openings)) => {
-                find_opened(text, &self.heads, openings, literals, from, steps)
-            }
-            (None, None) => find_choice(text, &self.heads, literals, from, steps),
-        }
+        find_opened(
+            text,
+            &self.heads,
+            &self.openings,
+            &self.literals,
+            from,
+            steps,
+        )
     }
 
     /// The end of the longest match that begins at `start`. Condition: one begins there.

@@ -1,9 +1,8 @@
 //! Up to three bytes, one of which is sought.
 ghost use Rattle.std.specs.Prelude.{◌≡◌, ℕ, ◌<◌, ◌↔◌, ◌⊎◌, IfSome, IsTrue};
-ghost use Rattle.sedtext.specs.Few.{FewOf, AreMembers, Gathered, HasFew, HasZeros, FirstFew};
+ghost use Rattle.sedtext.specs.Few.{AreMembers, Gathered, HasFew, HasZeros, FirstFew};
 ghost use Rattle.sedtext.specs.declared.counted.few.Few.TheVariants.{Two, Three};
 
-use crate::beginnings::Begins;
 use memchr::{memchr, memchr2, memchr3};
 use sedre::ByteSet;
 use std::simd::prelude::*;
@@ -80,7 +79,7 @@ fn three_zeros(first: u8, second: u8, third: u8, lanes: u8x32) -> u8x32
 }
 
 /// The bytes gathered before and one more, if they are still few.
-pub(super) fn with_byte(few: Option<Few>, byte: u8) -> Option<Few>
+fn with_byte(few: Option<Few>, byte: u8) -> Option<Few>
     ensures { IfSome result (λ f. (c : ℕ) → HasFew f c ↔ (Gathered few c ⊎ (c ≡ byte))) }
 {
     match few {
@@ -102,15 +101,4 @@ pub fn members_of(set: &ByteSet) -> Option<Few>
         }
     }
     few
-}
-
-/// The bytes with which a match begins, if they are few.
-pub(crate) fn few_of(begins: &Begins) -> Option<Few>
-    ensures { FewOf begins.now result }
-{
-    match begins {
-        Begins::WithByte(byte) => Some(Few::One(*byte)),
-        Begins::WithSet(set) => members_of(set),
-        _ => None,
-    }
 }

@@ -9,7 +9,7 @@ ghost use Rattle.sedtext.specs.Rare.{ApartIn};
 ghost use Rattle.sedre.specs.Steps.{Takes, TakesExactly};
 
 use super::apart::apart_to;
-use super::choice::{Alternative, MAX_BYTES, first_choice, longest_at};
+use super::choice::{Alternative, MAX_BYTES, longest_at};
 use super::few::Few;
 use super::openings::{Opening, first_opened};
 use super::{Text, uncounted};
@@ -82,36 +82,6 @@ pub(crate) fn pass_apart(
     let place = apart_to(bytes, first, second, from);
     steps.add(2 * (place - from));
     place
-}
-
-/// The first place from `from` on at which one of the literals stands, if there is one.
-/// Counts a look and the most bytes of all literals for each byte from `from` to that place, or to the end where there
-/// is none.
-pub(super) fn find_choice(
-    text: &Text,
-    heads: &[bool],
-    literals: &[Alternative],
-    from: usize,
-    steps: &mut Steps,
-) -> Option<usize>
-    requires heads { AreHeads heads.now literals.now }
-    requires literals { AreShort literals.now }
-    requires from { from ≤ length text.now }
-    ensures first { FirstChoice literals.now text.now from result }
-    ensures cost { Takes steps.old steps.new (21 * looked_at (length text.now) from result) }
-    ensures counts { TakesExactly steps.old steps.new (21 * looked_at (length text.now) from result) }
-{
-    let bytes = uncounted(text);
-    match first_choice(heads, literals, bytes, from) {
-        None => {
-            steps.add_times(bytes.len() - from, 1 + MAX_BYTES);
-            None
-        }
-        Some(place) => {
-            steps.add_times(place - from + 1, 1 + MAX_BYTES);
-            Some(place)
-        }
-    }
 }
 
 /// The first place from `from` on at which one of the literals stands, if there is one, sought by the two bytes with

@@ -1,7 +1,9 @@
-use Rattle.sedre.specs.Written.{expression_tree}
+use Rattle.std.proofs.Common.{◌≡◌, ◌-◌, length, subst, arith}
+use Rattle.sedre.specs.Written.{tree_at}
+use Rattle.sedtext.specs.Rare.{AllRare}
 use Rattle.sedtext.proofs.rare.rare_of.Goals as goal
 
-pub returns-in-None-clause-rare : goal.returns-in-None-clause-rare
-returns-in-None-clause-rare c =
-    let e = expression_tree c.args.expr.now in
-    c.with_held.ensures e (c.rare_first.ensures e c.requires.begins) c.second_of_two-held.ensures.second
+pub returns-clause-rare : goal.returns-clause-rare
+returns-clause-rare c =
+    let last : c.index-root.result ≡ length c.args.expr.now.nodes - 1 = omega arith in
+    subst (λ x. AllRare (tree_at c.args.expr.now.nodes x) c.rare_from.result) last c.rare_from.ensures.rare
