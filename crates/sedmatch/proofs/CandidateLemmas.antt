@@ -16,7 +16,7 @@ use Rattle.sedmatch.specs.Direct.{FirstWith, FormSpans, SpannedAs, StartsWith}
 use Rattle.sedmatch.specs.Candidates.{IsBefore, NoMatchBefore}
 use Rattle.sedmatch.specs.declared.direct.First.{First}
 use Rattle.sedmatch.specs.declared.direct.DirectForm.{DirectForm}
-use Rattle.sedmatch.specs.declared.direct.DirectForm.TheVariants.{ByteThenRunAtEnd, OneByte, ByteThenRun, RunThenByte, Literal, Choice}
+use Rattle.sedmatch.specs.declared.direct.DirectForm.TheVariants.{ByteThenRunAtEnd, OneByte, ByteThenRun, Literal, Choice}
 
 -- A part of a text.
 module _ (before line behind : List ℕ) where
@@ -88,9 +88,6 @@ module _ (e : Tree) (w : List ℕ) (bytes : AreBytes w) (r : Option ℕ) where
 
   pub byte_run_end_before : (first : First) (members : List Bool) → FirstWith first w 0 r → SpannedAs e (ByteThenRunAtEnd first members) → NoMatchBefore e w r
   byte_run_end_before first members h form = with_before (ByteThenRunAtEnd first members) first form (λ v i j within s. (i, s.0)) h
-
-  pub run_byte_before : (members : List Bool) (last : First) → FirstWith last w 0 r → SpannedAs e (RunThenByte members last) → NoMatchBefore e w r
-  run_byte_before members last h form = with_before (RunThenByte members last) last form (λ v i j within s. (s.0, s.1.1)) h
 
   pub literal_before : (literal : List ℕ) → FirstLiteral w literal 0 r → SpannedAs e (Literal literal) → NoMatchBefore e w r
   literal_before literal h form = λ before line behind is ends found.

@@ -1,5 +1,5 @@
 -- Expressions whose matches a look at the text tells.
-use Rattle.std.proofs.Common.{◌≡◌, ℕ, max, min, ◌+◌, ◌-◌, ◌*◌, ◌<◌, ◌≤◌, ◌↔◌, Bool, true, false, List, length, Option, Some, None, Result, Ok, Err, IsTrue, refl, sym, ◌∙◌, subst, true≢false, ⊎_elim, arith}
+use Rattle.std.proofs.Common.{◌≡◌, ℕ, max, min, ◌+◌, ◌-◌, ◌*◌, ◌<◌, ◌≤◌, ◌↔◌, Bool, true, false, List, length, Option, Some, None, Result, Ok, Err, IsTrue, refl, sym, ◌∙◌, subst, true≢false, ⊎_elim, arith, mul-le-mul_left}
 use Rattle.std.specs.Prelude.{slice_get, IfOk, IfSome, is_some}
 use Rattle.std.proofs.lemmas.Bool.{cases_lt}
 use Rattle.std.proofs.lemmas.Option.{slice_get_within}
@@ -17,26 +17,25 @@ use Rattle.sedtext.specs.Costs.{Pays}
 use Rattle.sedtext.specs.Following.{CanEndEarly, PassesOver}
 use Rattle.sedtext.specs.Reach.{At}
 use Rattle.sedtext.specs.Runs.{Repeated, AllRepeat, IsRun, RunBegins}
-use Rattle.sedtext.specs.Spans.{Matches, SomeFound, IsIn, no_copy}
+use Rattle.sedtext.specs.Spans.{Matches, SomeFound, IsIn}
 use Rattle.sedtext.specs.declared.beginnings.Begins.TheVariants.{WithSet}
-use Rattle.sedtext.specs.Choice.{ChoiceSpans, FirstChoice}
+use Rattle.sedtext.specs.Choice.{FirstChoice}
 use Rattle.sedtext.specs.Few.{FirstFew}
-use Rattle.sedtext.specs.Needed.{IsLiteral, GoesOnAs, FirstLiteral, passed_to}
-use Rattle.sedtext.specs.Times.{FirstTimes}
+use Rattle.sedtext.specs.Needed.{IsLiteral, GoesOnAs, FirstLiteral}
 use Rattle.sedtext.specs.Word.{WordSpans, AllWord}
 use Rattle.sedtext.specs.declared.counted.few.Few.{Few}
 use Rattle.sedtext.specs.declared.needed.Literal.{Literal as Bytes}
-use Rattle.sedmatch.specs.Direct.{CanComeFirst, EndsText, StartsWith, RunsTo, FormPasses, FormSpans, SpannedAs, HasForm, IsDirect, CanStart, StartsFrom, FirstWith, FirstStart, FirstSpan, bytes_looked_at}
+use Rattle.sedmatch.specs.Direct.{CanComeFirst, EndsText, StartsWith, FormSpans, SpannedAs, HasForm, IsDirect, CanStart, FirstWith, FirstStart, FirstSpan, bytes_looked_at, end_or}
 use Rattle.sedmatch.specs.declared.direct.Anchor.{Anchor as Anchors}
 use Rattle.sedmatch.specs.declared.direct.First.{First}
 use Rattle.sedmatch.specs.declared.direct.First.TheVariants.{Among, Member}
 use Rattle.sedmatch.specs.declared.direct.DirectForm.{DirectForm}
-use Rattle.sedmatch.specs.declared.direct.DirectForm.TheVariants.{Anchor, OneByte, Run, ByteThenRun, RunThenByte, RunAtEnd, ByteThenRunAtEnd, Times, Literal, Choice}
+use Rattle.sedmatch.specs.declared.direct.DirectForm.TheVariants.{Anchor, OneByte, ByteThenRun, RunAtEnd, ByteThenRunAtEnd, Times, Literal, Choice}
 use Rattle.sedtext.proofs.ReachLemmas.{open_at, close_at}
 use Rattle.sedtext.proofs.RunLemmas.{run_longest}
 use Rattle.sedtext.proofs.SpanLemmas.{CopiesLead-forward, Matches-forward}
 use Rattle.sedtext.proofs.CountLemmas.{least_counted, least_less, least_none, least_up}
-use Rattle.sedtext.proofs.TimesLemmas.{repeated_cut, repeated_in}
+use Rattle.sedtext.proofs.TimesLemmas.{repeated_cut}
 
 -- what comes first, where its bytes are those of the set
 abbrev AreFirst : First → List Bool → Type 0
@@ -49,15 +48,6 @@ set_spans members first same w bytes i j = (
   (λ s. ((s.0, s.1, (same s.0 (bytes i s.0 s.1)).1 s.2), s.3)),
   (λ h. (h.0.0, h.0.1, (same h.0.0 (bytes i h.0.0 h.0.1)).0 h.0.2, h.1)),
 )
-
--- a run before a byte that isn't in the set holds no such byte
-run_lacks : (members these : List Bool) (last : First) → AreFirst last these → ((c : ℕ) → c < 256 → IsIn c members → IsIn c these → ⊥) →
-    (w : List ℕ) → AreBytes w → (i k h : ℕ) → Repeated members w i k → i ≤ h → h < k → StartsWith last w h → ⊥
-run_lacks members these last same apart w bytes i k h run low lt stands =
-    let can = repeated_in members w i h k low lt run in
-    let small = bytes h can.0 can.1 in
-    let one : stands.0 ≡ can.0 = cc (stands.1, can.1) in
-    apart can.0 small can.2 ((same can.0 small).0 (subst (CanComeFirst last) one stands.2))
 
 module _ (nodes : List Node) (arena : IsArena nodes) (x last : ℕ) (whole : last ≡ x) where
   to_node : (w : List ℕ) (i j : ℕ) → Matches (tree_at nodes last) w i j → At nodes w x i j
@@ -113,21 +103,6 @@ module _ (nodes : List Node) (arena : IsArena nodes) (x last : ℕ) (whole : las
         let left : At nodes w a.index i (i + 1) = close_at nodes w a.index (Set these) arena there i (i + 1) ((set_spans these first same w bytes i (i + 1)).1 (h.0, refl)) in
         let right : At nodes w b.index (i + 1) j = subst (λ v. At nodes w v (i + 1) j) y_is ((repeats w (i + 1) j).1 h.1) in
         from_node w i j (close_at nodes w x (Seq a b) arena is i j (i + 1, left, right))),
-  )
-
-  -- a run, and the byte that ends it
-  pub form_run_byte : (a b : NodeId) (y : ℕ) (members these : List Bool) (first : First) → slice_get nodes x ≡ Some (Seq a b) → y ≡ a.index → slice_get nodes b.index ≡ Some (Set these) →
-      AllRepeat nodes y members → AreFirst first these → ((c : ℕ) → c < 256 → IsIn c members → IsIn c these → ⊥) → SpannedAs (tree_at nodes last) (RunThenByte members first)
-  form_run_byte a b y members these first is y_is there repeats same apart w bytes i j within = (
-    (λ s.
-        let f = open_at nodes w x (Seq a b) arena is i j (to_node w i j s) in
-        let h = (set_spans these first same w bytes f.0 j).0 (open_at nodes w b.index (Set these) arena there f.0 j f.2) in
-        let run = (repeats w i f.0).0 (subst (λ v. At nodes w v i f.0) (sym y_is) f.1) in
-        (f.0, (run, h.0, λ k low lt stands. run_lacks members these first same apart w bytes i f.0 k run low lt stands), h.1)),
-    (λ h.
-        let left : At nodes w a.index i h.0 = subst (λ v. At nodes w v i h.0) y_is ((repeats w i h.0).1 h.1.0) in
-        let right : At nodes w b.index h.0 j = close_at nodes w b.index (Set these) arena there h.0 j ((set_spans these first same w bytes h.0 j).1 (h.1.1, h.2)) in
-        from_node w i j (close_at nodes w x (Seq a b) arena is i j (h.0, left, right))),
   )
 
   -- one byte, a run and the end, one after another
@@ -228,10 +203,6 @@ pub start_byte_run : (first : First) (members : List Bool) (w : List ℕ) (p : �
 start_byte_run first members w p None none = λ k low within starts. none k low starts
 start_byte_run first members w p (Some k) here = (here.0, (let inside = starts_inside first w k here.1 in omega arith), here.1, here.2)
 
-pub start_times : (members : List Bool) (count : ℕ) (w : List ℕ) (p : ℕ) (r : Option ℕ) → FirstTimes members count w p r → FirstStart (Times members count) w p r
-start_times members count w p None none = none
-start_times members count w p (Some k) here = (here.0, (let inside = here.1 in omega arith), here.2, here.3)
-
 pub start_literal : (literal w : List ℕ) (p : ℕ) (r : Option ℕ) → FirstLiteral w literal p r → FirstStart (Literal literal) w p r
 start_literal literal w p None none = λ k low within can. none k low can
 start_literal literal w p (Some k) here = (here.0, (let fits = here.1.fits in omega arith), here.1, here.2)
@@ -245,76 +216,16 @@ pub span_byte : (first : First) (w : List ℕ) (p i j : ℕ) → FirstWith first
 span_byte first w p i j here is =
     (start_byte first w p (Some i) here, ((here.1, is), (let inside = starts_inside first w i here.1 in omega (arith, inside, is)), λ k h. omega (arith, h.1, is)))
 
-pub span_run : (members : List Bool) (w : List ℕ) (p k : ℕ) → p ≤ length w → IsRun members w p k → FirstSpan (Run members) w p (Some (p, k))
-span_run members w p k within run =
-    let far = run_longest members w p k run in
-    (((omega arith), within, tt, λ h low lt can. omega (arith, low, lt)), (far.1, far.0, far.2))
-
 pub span_byte_run : (first : First) (members : List Bool) (w : List ℕ) (p i b k : ℕ) → FirstWith first w p (Some i) → b ≡ i + 1 → IsRun members w b k → FirstSpan (ByteThenRun first members) w p (Some (i, k))
 span_byte_run first members w p i b k here is run =
     let far = run_longest members w (i + 1) k (subst (λ v. IsRun members w v k) is run) in
     (start_byte_run first members w p (Some i) here, ((here.1, far.1), far.0, λ j h. far.2 j h.1))
-
--- a run and the byte that ends it
-module _ (members : List Bool) (last : First) (w : List ℕ) (p : ℕ) where
-  -- the first such byte ends the run before it
-  ends_run : (q : ℕ) → FirstWith last w p (Some q) → (i : ℕ) → p ≤ i → Repeated members w i q → RunsTo members last w i q
-  ends_run q first i low run = (run, first.1, λ h from lt stands. first.2 h (omega arith) lt stands)
-
-  -- no run from p on is ended by an earlier one
-  ends_behind : (q h k : ℕ) → FirstWith last w p (Some q) → p ≤ h → RunsTo members last w h k → q ≤ k
-  ends_behind q h k first low runs =
-      let on = CopiesLead-forward (Matches (set members) w) k h runs.0 in
-      ⊎_elim
-      (λ (less : k < q). absurd (first.2 k (omega arith) less runs.1))
-      (λ (le : q ≤ k). le)
-      (cases_lt k q)
-
-  start_run_byte : (q i : ℕ) → FirstWith last w p (Some q) → RunBegins members w p q i → FirstStart (RunThenByte members last) w p (Some i)
-  start_run_byte q i first run =
-      let inside = starts_inside last w q first.1 in (
-        run.0,
-        omega (arith, run.1, inside),
-        (q, ends_run q first i run.0 run.2),
-        λ h low lt can.
-            let behind = ends_behind q h can.0 first low can.1 in
-            run.3 h low lt (repeated_cut members w q can.0 h (omega (arith, run.1)) behind can.1.0).0,
-      )
-
-  pub none_run_byte : FirstWith last w p None → FirstStart (RunThenByte members last) w p None
-  none_run_byte none h low within can =
-      let on = CopiesLead-forward (Matches (set members) w) can.0 h can.1.0 in
-      none can.0 (omega arith) can.1.1
-
-  pub span_run_byte : (q i j : ℕ) → FirstWith last w p (Some q) → RunBegins members w p q i → j ≡ q + 1 → FirstSpan (RunThenByte members last) w p (Some (i, j))
-  span_run_byte q i j first run is =
-      let inside = starts_inside last w q first.1 in (
-        start_run_byte q i first run,
-        (
-          (q, ends_run q first i run.0 run.2, is),
-          omega (arith, inside, is),
-          λ k s.
-              ⊎_elim
-              (λ (more : q < s.0). absurd (s.1.2 q run.1 more first.1))
-              (λ (le : s.0 ≤ q). omega (arith, is, s.2, le))
-              (cases_lt q s.0),
-        ),
-      )
-
-  pub some_run_byte : (r : Option ℕ) → FirstWith last w p r → IsTrue (is_some r) ↔ StartsFrom (RunThenByte members last) w p
-  some_run_byte None none = ((λ h. absurd (true≢false (sym h))), (λ s. absurd (none_run_byte none s.0 s.1 s.2 s.3)))
-  some_run_byte (Some q) first =
-      let inside = starts_inside last w q first.1 in
-      ((λ h. (q, first.0, omega (arith, inside), (q, ends_run q first q first.0 no_copy))), (λ s. refl))
 
 -- a run at the end of the text
 pub span_run_end : (members : List Bool) (w : List ℕ) (p i n : ℕ) → n ≡ length w → RunBegins members w p n i → FirstSpan (RunAtEnd members) w p (Some (i, n))
 span_run_end members w p i n is run =
     let run' = subst (λ v. RunBegins members w p v i) is run in
     ((run'.0, run'.1, run'.2, λ h low lt can. run'.3 h low lt can), ((run.2, is), omega (arith, is), λ k s. omega (arith, s.1, is)))
-
-pub from_run_end : (form : DirectForm) (members : List Bool) (w : List ℕ) (p : ℕ) → form ≡ RunAtEnd members → p ≤ length w → StartsFrom form w p
-from_run_end form members w p is within = subst (λ f. StartsFrom f w p) (sym is) (length w, within, omega arith, no_copy)
 
 -- a byte, and a run at the end of the text, which begins at `begin`: what can come first is sought from the byte before it on
 module _ (first : First) (members : List Bool) (w : List ℕ) (p begin : ℕ) (run : RunBegins members w p (length w) begin) where
@@ -358,51 +269,22 @@ end_counts first w n p begin start s t u (Some k) is low start_is here counted g
 pub span_byte_run_end : (first : First) (members : List Bool) (w : List ℕ) (p k n : ℕ) → n ≡ length w → FirstStart (ByteThenRunAtEnd first members) w p (Some k) → FirstSpan (ByteThenRunAtEnd first members) w p (Some (k, n))
 span_byte_run_end first members w p k n is start = (start, ((start.2.0, subst (Repeated members w (k + 1)) (sym is) start.2.1, is), omega (arith, is), λ j s. omega (arith, s.2, is)))
 
--- a match begins from a place on where the first place is told
-some_from : (form : DirectForm) (w : List ℕ) (p : ℕ) (r : Option ℕ) → FirstStart form w p r → IsTrue (is_some r) ↔ StartsFrom form w p
-some_from form w p None none = ((λ h. absurd (true≢false (sym h))), (λ s. absurd (none s.0 s.1 s.2 s.3)))
-some_from form w p (Some k) start = ((λ h. (k, start.0, start.1, start.2)), (λ s. refl))
-
-pub told_from : (form like : DirectForm) (w : List ℕ) (p : ℕ) (found told : Bool) → form ≡ like → told ≡ found → IsTrue found ↔ StartsFrom like w p → IsTrue told ↔ StartsFrom form w p
-told_from form like w p found told same is starts =
-    subst (λ f. IsTrue told ↔ StartsFrom f w p) (sym same) (subst (λ v. IsTrue v ↔ StartsFrom like w p) (sym is) starts)
-
-pub some_start : (form like : DirectForm) (w : List ℕ) (p : ℕ) (r : Option ℕ) (told : Bool) → form ≡ like → told ≡ is_some r → FirstStart like w p r → IsTrue told ↔ StartsFrom form w p
-some_start form like w p r told same is start = told_from form like w p (is_some r) told same is (some_from like w p r start)
-
 -- a match begins where it can
 spans_start : (form : DirectForm) (w : List ℕ) (i j : ℕ) → FormSpans form w i j → CanStart form w i
 spans_start (Anchor anchors) w i j s = s.0
 spans_start (OneByte first) w i j s = s.0
-spans_start (Run members) w i j s = tt
 spans_start (ByteThenRun first members) w i j s = s.0
-spans_start (RunThenByte members last) w i j s = (s.0, s.1)
 spans_start (RunAtEnd members) w i j s = subst (Repeated members w i) s.1 s.0
 spans_start (ByteThenRunAtEnd first members) w i j s = (s.0, subst (Repeated members w (i + 1)) s.2 s.1)
 spans_start (Times members count) w i j s = subst (Repeated members w i) s.1 s.0
 spans_start (Literal literal) w i j s = s.0
 spans_start (Choice literals) w i j s = (s.0, s.1, s.2, s.3)
 
--- and where it can, one does
-start_spans : (form : DirectForm) (w : List ℕ) (i : ℕ) → CanStart form w i → (j : ℕ) × FormSpans form w i j
-start_spans (Anchor anchors) w i can = (i, (can, refl))
-start_spans (OneByte first) w i can = (i + 1, (can, refl))
-start_spans (Run members) w i can = (i, no_copy)
-start_spans (ByteThenRun first members) w i can = (i + 1, (can, no_copy))
-start_spans (RunThenByte members last) w i can = (can.0 + 1, (can.0, can.1, refl))
-start_spans (RunAtEnd members) w i can = (length w, (can, refl))
-start_spans (ByteThenRunAtEnd first members) w i can = (length w, (can.0, can.1, refl))
-start_spans (Times members count) w i can = (i + count, (can, refl))
-start_spans (Literal literal) w i can = (i + length literal, (can, refl))
-start_spans (Choice literals) w i can = (i + length can.0, (can.0, can.1, can.2, can.3, refl))
-
 -- a match ends where it begins or after it
 ends_on : (form : DirectForm) (w : List ℕ) (i j : ℕ) → FormSpans form w i j → i ≤ j
 ends_on (Anchor anchors) w i j s = omega (arith, s.1)
 ends_on (OneByte first) w i j s = omega (arith, s.1)
-ends_on (Run members) w i j s = CopiesLead-forward (Matches (set members) w) j i s
 ends_on (ByteThenRun first members) w i j s = omega (arith, CopiesLead-forward (Matches (set members) w) j (i + 1) s.1)
-ends_on (RunThenByte members last) w i j s = let on = CopiesLead-forward (Matches (set members) w) s.0 i s.1.0 in omega (arith, on, s.2)
 ends_on (RunAtEnd members) w i j s = CopiesLead-forward (Matches (set members) w) j i s.0
 ends_on (ByteThenRunAtEnd first members) w i j s = omega (arith, CopiesLead-forward (Matches (set members) w) j (i + 1) s.1)
 ends_on (Times members count) w i j s = omega (arith, s.1)
@@ -422,9 +304,7 @@ null_counts s anchors p (Some f) = least_none s 0 refl
 looked_bytes : (form : DirectForm) (w : List ℕ) (p i j : ℕ) → FirstSpan form w p (Some (i, j)) → j - i ≤ bytes_looked_at form p (i, j)
 looked_bytes (Anchor anchors) w p i j span = omega (arith, span.1.0.1)
 looked_bytes (OneByte first) w p i j span = omega (arith, span.0.0)
-looked_bytes (Run members) w p i j span = omega (arith, span.0.0)
 looked_bytes (ByteThenRun first members) w p i j span = omega (arith, span.0.0)
-looked_bytes (RunThenByte members last) w p i j span = omega (arith, span.0.0)
 looked_bytes (RunAtEnd members) w p i j span = omega arith
 looked_bytes (ByteThenRunAtEnd first members) w p i j span = omega arith
 looked_bytes (Times members count) w p i j span = omega (arith, span.0.0)
@@ -443,9 +323,7 @@ anchored anchors w p i free first =
 bytes_from : (form : DirectForm) (w : List ℕ) (p i j : ℕ) → (EndsText form → ⊥) → FirstSpan form w p (Some (i, j)) → j - p ≤ bytes_looked_at form p (i, j)
 bytes_from (Anchor anchors) w p i j free span = let low = anchored anchors w p i free span.0 in omega (arith, low, span.1.0.1)
 bytes_from (OneByte first) w p i j free span = omega arith
-bytes_from (Run members) w p i j free span = omega arith
 bytes_from (ByteThenRun first members) w p i j free span = omega arith
-bytes_from (RunThenByte members last) w p i j free span = omega arith
 bytes_from (RunAtEnd members) w p i j free span = absurd (free tt)
 bytes_from (ByteThenRunAtEnd first members) w p i j free span = absurd (free tt)
 bytes_from (Times members count) w p i j free span = omega arith
@@ -473,9 +351,7 @@ ends_early e (ByteThenRunAtEnd first members) is (w, bytes, i, j, early, span) e
     let at = (is w bytes i j (omega (arith, low, early))).0 span in
     omega (arith, early, at.2)
 ends_early e (OneByte first) is early ends = absurd ends
-ends_early e (Run members) is early ends = absurd ends
 ends_early e (ByteThenRun first members) is early ends = absurd ends
-ends_early e (RunThenByte members last) is early ends = absurd ends
 ends_early e (Times members count) is early ends = absurd ends
 ends_early e (Literal literal) is early ends = absurd ends
 ends_early e (Choice literals) is early ends = absurd ends
@@ -485,128 +361,11 @@ pub looks_from : (e : Tree) (form : DirectForm) (w : List ℕ) (p s t : ℕ) (r 
 looks_from e form w p s t None is early span looks = tt
 looks_from e form w p s t (Some (i, j)) is early span looks = least_less s t (bytes_looked_at form p (i, j)) (j - p) looks (bytes_from form w p i j (ends_early e form is early) span)
 
--- where the looks from p on went as far as a match ends, they pass over it
-passes_far : (form : DirectForm) (w : List ℕ) (p i j s t : ℕ) → p ≤ i → i ≤ j → j ≤ length w → FormSpans form w i j → TakesAtLeast s t (j - p) → FormPasses form w p s t
-passes_far form w p i j s t low up within spans looks = record {
-  start = i;
-  end = j;
-  later = low;
-  up = up;
-  within = within;
-  spans = spans;
-  bytes = least_less s t (j - p) (j - i) looks (omega (arith, low));
-  passed = λ free. looks;
-}
-
--- they do so by form, where the first place of one is told
-pub passes_byte : (first : First) (w : List ℕ) (p s t : ℕ) (r : Option ℕ) → FirstWith first w p r → TakesExactly s t (looked_at (length w) p r) → IfSome r (λ k. FormPasses (OneByte first) w p s t)
-passes_byte first w p s t None none counted = tt
-passes_byte first w p s t (Some k) here counted =
-    passes_far (OneByte first) w p k (k + 1) s t here.0 (omega arith) (let inside = starts_inside first w k here.1 in omega (arith, inside)) (here.1, refl) (least_counted s t (k + 1 - p) (k + 1 - p) counted (omega arith))
-
-pub passes_byte_run : (first : First) (members : List Bool) (w : List ℕ) (p s t : ℕ) (r : Option ℕ) → FirstWith first w p r → TakesExactly s t (looked_at (length w) p r) → IfSome r (λ k. FormPasses (ByteThenRun first members) w p s t)
-passes_byte_run first members w p s t None none counted = tt
-passes_byte_run first members w p s t (Some k) here counted =
-    passes_far (ByteThenRun first members) w p k (k + 1) s t here.0 (omega arith) (let inside = starts_inside first w k here.1 in omega (arith, inside)) (here.1, no_copy) (least_counted s t (k + 1 - p) (k + 1 - p) counted (omega arith))
-
-pub passes_run_byte : (members : List Bool) (last : First) (w : List ℕ) (p s t : ℕ) (r : Option ℕ) → FirstWith last w p r → TakesExactly s t (looked_at (length w) p r) → IfSome r (λ k. FormPasses (RunThenByte members last) w p s t)
-passes_run_byte members last w p s t None none counted = tt
-passes_run_byte members last w p s t (Some k) here counted =
-    passes_far (RunThenByte members last) w p k (k + 1) s t here.0 (omega arith) (let inside = starts_inside last w k here.1 in omega (arith, inside))
-    (k, ends_run members last w p k here k here.0 no_copy, refl) (least_counted s t (k + 1 - p) (k + 1 - p) counted (omega arith))
-
-pub passes_byte_run_end : (first : First) (members : List Bool) (w : List ℕ) (p s t : ℕ) (r : Option ℕ) → FirstStart (ByteThenRunAtEnd first members) w p r → IfSome r (λ k. TakesAtLeast s t (length w - k)) →
-    IfSome r (λ k. FormPasses (ByteThenRunAtEnd first members) w p s t)
-passes_byte_run_end first members w p s t None none looks = tt
-passes_byte_run_end first members w p s t (Some k) here looks = record {
-  start = k;
-  end = length w;
-  later = here.0;
-  up = here.1;
-  within = omega arith;
-  spans = (here.2.0, here.2.1, refl);
-  bytes = looks;
-  passed = λ free. absurd (free tt);
-}
-
-pub passes_times : (members : List Bool) (count : ℕ) (w : List ℕ) (p s t : ℕ) (r : Option ℕ) → FirstTimes members count w p r → IfSome r (λ k. TakesAtLeast s t (k + count - p)) →
-    IfSome r (λ k. FormPasses (Times members count) w p s t)
-passes_times members count w p s t None none looks = tt
-passes_times members count w p s t (Some k) here looks = passes_far (Times members count) w p k (k + count) s t here.0 (omega arith) (let inside = here.1 in omega arith) (here.2, refl) looks
-
-pub passes_literal : (literal w : List ℕ) (p s t : ℕ) (r : Option ℕ) → FirstLiteral w literal p r → TakesExactly s t (passed_to (length w) p (length literal) r) → IfSome r (λ k. FormPasses (Literal literal) w p s t)
-passes_literal literal w p s t None none counted = tt
-passes_literal literal w p s t (Some k) here counted =
-    passes_far (Literal literal) w p k (k + length literal) s t here.0 (omega arith) (let fits = here.1.fits in omega arith) (here.1, refl)
-    (least_counted s t (k + length literal - p) (k + length literal - p) counted (omega arith))
-
-pub passes_choice : (literals : List (List ℕ)) (w : List ℕ) (p s t : ℕ) (r : Option ℕ) → FirstChoice literals w p r → IfSome r (λ k. (j : ℕ) → ChoiceSpans literals w k j → TakesAtLeast s t (j - p)) →
-    IfSome r (λ k. FormPasses (Choice literals) w p s t)
-passes_choice literals w p s t None none looks = tt
-passes_choice literals w p s t (Some k) here looks =
-    let can = here.2 in
-    let span : ChoiceSpans literals w k (k + length can.0) = (can.0, can.1, can.2, can.3, refl) in
-    passes_far (Choice literals) w p k (k + length can.0) s t here.0 (omega arith) (let fits = can.3.fits in omega arith) span (looks (k + length can.0) span)
-
--- and where none is sought, they pass over the null string
-pub passes_anchor : (anchors : Anchors) (w : List ℕ) (p s : ℕ) (r : Option ℕ) → FirstStart (Anchor anchors) w p r → IfSome r (λ k. FormPasses (Anchor anchors) w p s s)
-passes_anchor anchors w p s None none = tt
-passes_anchor anchors w p s (Some k) here = record {
-  start = k;
-  end = k;
-  later = here.0;
-  up = omega arith;
-  within = here.1;
-  spans = (here.2, refl);
-  bytes = least_none s (k - k) (omega arith);
-  passed = λ free. let low = anchored anchors w p k free here in least_none s (k - p) (omega (arith, low));
-}
-
-pub passes_run : (members : List Bool) (w : List ℕ) (p s : ℕ) → p ≤ length w → FormPasses (Run members) w p s s
-passes_run members w p s within = passes_far (Run members) w p p p s s (omega arith) (omega arith) within no_copy (least_none s (p - p) (omega arith))
-
-pub passes_run_end : (members : List Bool) (w : List ℕ) (p s : ℕ) → p ≤ length w → FormPasses (RunAtEnd members) w p s s
-passes_run_end members w p s within = record {
-  start = length w;
-  end = length w;
-  later = within;
-  up = omega arith;
-  within = omega arith;
-  spans = (no_copy, refl);
-  bytes = least_none s (length w - length w) (omega arith);
-  passed = λ free. absurd (free tt);
-}
-
--- where a place was found, they passed over a match of the form
-pub passes_some : (form like : DirectForm) (w : List ℕ) (p s t : ℕ) (r : Option ℕ) (told : Bool) → form ≡ like → told ≡ is_some r → IfSome r (λ k. FormPasses like w p s t) → IsTrue told → FormPasses form w p s t
-passes_some form like w p s t None told same is over h = absurd (true≢false (sym h ∙ is))
-passes_some form like w p s t (Some k) told same is over h = subst (λ f. FormPasses f w p s t) (sym same) over
-
 -- an expression of the form
 module _ (e : WrittenExpression) (form : DirectForm) (is : IsDirect e form) (w : List ℕ) (bytes : AreBytes w) (p : ℕ) where
   -- no match begins where none can
   none_starts : (i k : ℕ) → i ≤ length w → (CanStart form w i → ⊥) → Matches (expression_tree e) w i k → ⊥
   none_starts i k within none s = none (spans_start form w i k ((is.0 w bytes i k within).0 s))
-
-  pub direct_some : StartsFrom form w p ↔ SomeFound (expression_tree e) w p
-  direct_some = (
-    (λ s. let span = start_spans form w s.0 s.3 in (s.0, span.0, s.1, s.2, (is.0 w bytes s.0 span.0 s.2).1 span.1)),
-    (λ f. (f.0, f.2, f.3, spans_start form w f.0 f.1 ((is.0 w bytes f.0 f.1 f.3).0 f.4))),
-  )
-
-  pub direct_passes : (s t : ℕ) → FormPasses form w p s t → PassesOver (expression_tree e) w p s t
-  direct_passes s t over =
-      let up = over.up in
-      let within = over.within in
-      record {
-        start = over.start;
-        end = over.end;
-        later = over.later;
-        within = within;
-        spans = (is.0 w bytes over.start over.end (omega (arith, up, within))).1 over.spans;
-        bytes = over.bytes;
-        passed = λ early. over.passed (ends_early (expression_tree e) form is.0 early);
-      }
 
   pub direct_answer : (r : Option (ℕ × ℕ)) → FirstSpan form w p r → SpanAnswer (expression_tree e) w p r
   direct_answer None none = (tt, (λ i k low within s. none_starts i k within (none i low within) s), tt)
@@ -620,3 +379,33 @@ module _ (e : WrittenExpression) (form : DirectForm) (is : IsDirect e form) (w :
     tt,
     (ends_on form w f.0 f.1 span.1.0, span.1.1),
   )
+
+-- whether there is a match, as the span tells that was found
+pub answer_some : (e : Tree) (w : List ℕ) (p : ℕ) (r : Option (ℕ × ℕ)) → SpanAnswer e w p r → IsTrue (is_some r) ↔ SomeFound e w p
+answer_some e w p None answer = ((λ h. absurd (true≢false (sym h))), (λ f. absurd (answer.1 f.0 f.1 f.2 f.3 f.4)))
+answer_some e w p (Some f) answer =
+    let low = answer.2.0 in
+    let within = answer.2.1 in
+    ((λ h. (f.0, f.1, answer.0.after, omega (arith, low, within), answer.0.spans)), (λ g. refl))
+
+-- the looks for it pass over it
+pub answer_passes : (e : Tree) (w : List ℕ) (p s t : ℕ) (r : Option (ℕ × ℕ)) → SpanAnswer e w p r → IfSome r (λ f. TakesAtLeast s t (f.1 - f.0)) →
+    (CanEndEarly e → IfSome r (λ f. TakesAtLeast s t (f.1 - p))) → IsTrue (is_some r) → PassesOver e w p s t
+answer_passes e w p s t None answer bytes passed some = absurd (true≢false (sym some))
+answer_passes e w p s t (Some f) answer bytes passed some = record {
+  start = f.0;
+  end = f.1;
+  later = answer.0.after;
+  within = answer.2.1;
+  spans = answer.0.spans;
+  bytes = bytes;
+  passed = passed;
+}
+
+-- and they go over the text once at most
+pub answer_cost : (k n p s t : ℕ) (r : Option (ℕ × ℕ)) → Pays s t (k * (end_or n r + 1)) (k * p) → IfSome r (λ f. (p ≤ f.0) × (f.0 ≤ f.1) × (f.1 ≤ n)) → Takes s t (k * (n + 1))
+answer_cost k n p s t None pays lies = (pays.0, (let h = pays.1 in omega (arith, h)))
+answer_cost k n p s t (Some f) pays lies =
+    let on : f.1 + 1 ≤ n + 1 = (let h = lies.2 in omega (arith, h)) in
+    let more = mul-le-mul_left k on in
+    (pays.0, (let h = pays.1 in omega (arith, more, h)))

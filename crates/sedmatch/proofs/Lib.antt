@@ -1,7 +1,6 @@
 pub use Rattle.sedtext.proofs.MatchingLemmas
 pub use Rattle.sedtext.proofs.SpanLemmas
 pub mod CandidateLemmas
-pub mod CountLemmas
 pub mod DirectLemmas
 pub mod MatcherLemmas
 pub mod OccurrenceLemmas

@@ -115,10 +115,6 @@ looks_paid m n r s u t q (Some f) small low one two lies =
     let e = mul-le-mul_left (14 * m) twice in
     (omega (arith, one.0, two.0), (let h = one.1 in let k = two.1 in omega (arith, a, b, d, e, h, k)))
 
-pub end_low : (n : ℕ) (f : Option (ℕ × ℕ)) → IfSome f (λ g. g.1 ≤ n) → end_or n f ≤ n
-end_low n None h = omega arith
-end_low n (Some f) h = h
-
 -- What a search costs, by either way.
 
 least : (m n q : ℕ) (o : Occurrences) (f s t : ℕ) → q ≤ f → f ≤ n → t + owed_direct m n (Some f) ≤ s + owed_direct m n (Some q) → t + owed_behind m n o.seeking f ≤ s + owed_behind m n o.seeking q

@@ -1,9 +1,8 @@
 -- Private to the proofs: no contract that `sedmatch` makes public cites what stands here.
 -- Expressions whose matches a look at the text tells.
-use Rattle.std.specs.Prelude.{◌≡◌, ℕ, ◌+◌, ◌-◌, ◌*◌, ◌<◌, ◌≤◌, ◌↔◌, Bool, List, length, slice_get, Option, Some, None, IsTrue}
+use Rattle.std.specs.Prelude.{◌≡◌, ℕ, ◌+◌, ◌-◌, ◌*◌, ◌<◌, ◌≤◌, ◌↔◌, List, length, slice_get, Option, Some, None, IsTrue}
 use Rattle.memchr.specs.Find.{OccursAt}
 use Rattle.sedre.specs.Written.{WrittenExpression, expression_tree}
-use Rattle.sedre.specs.Steps.{TakesAtLeast}
 use Rattle.sedre.specs.Tree.{Tree}
 use Rattle.sedtext.specs.Bytes.{AreBytes, FirstFrom}
 use Rattle.sedtext.specs.Runs.{Repeated}
@@ -16,7 +15,7 @@ use Rattle.sedmatch.specs.declared.direct.Anchor.{Anchor as Anchors}
 use Rattle.sedmatch.specs.declared.direct.First.{First}
 use Rattle.sedmatch.specs.declared.direct.First.TheVariants.{Among, Member}
 use Rattle.sedmatch.specs.declared.direct.DirectForm.{DirectForm}
-use Rattle.sedmatch.specs.declared.direct.DirectForm.TheVariants.{Anchor, OneByte, Run, ByteThenRun, RunThenByte, RunAtEnd, ByteThenRunAtEnd, Times, Literal, Choice}
+use Rattle.sedmatch.specs.declared.direct.DirectForm.TheVariants.{Anchor, OneByte, ByteThenRun, RunAtEnd, ByteThenRunAtEnd, Times, Literal, Choice}
 
 -- the byte can come first
 abbrev pub CanComeFirst : First → ℕ → Type 0
@@ -31,17 +30,11 @@ StartsWith first w i = (c : ℕ) × (slice_get w i ≡ Some c) × CanComeFirst f
 abbrev pub AnchorsHold : Anchors → List ℕ → ℕ → Type 0
 AnchorsHold anchors w i = (IsTrue anchors.at_start → i ≡ 0) × (IsTrue anchors.at_end → i ≡ length w)
 
--- bytes of the set lead from i to the first place at which the byte stands that ends them
-abbrev pub RunsTo : List Bool → First → List ℕ → ℕ → ℕ → Type 0
-RunsTo members last w i k = Repeated members w i k × StartsWith last w k × ((h : ℕ) → i ≤ h → h < k → StartsWith last w h → ⊥)
-
 -- what matches from i to j
 abbrev pub FormSpans : DirectForm → List ℕ → ℕ → ℕ → Type 0
 FormSpans (Anchor anchors) w i j = AnchorsHold anchors w i × (j ≡ i)
 FormSpans (OneByte first) w i j = StartsWith first w i × (j ≡ i + 1)
-FormSpans (Run members) w i j = Repeated members w i j
 FormSpans (ByteThenRun first members) w i j = StartsWith first w i × Repeated members w (i + 1) j
-FormSpans (RunThenByte members last) w i j = (k : ℕ) × RunsTo members last w i k × (j ≡ k + 1)
 FormSpans (RunAtEnd members) w i j = Repeated members w i j × (j ≡ length w)
 FormSpans (ByteThenRunAtEnd first members) w i j = StartsWith first w i × Repeated members w (i + 1) j × (j ≡ length w)
 FormSpans (Times members count) w i j = HasTimes members count w i j
@@ -67,18 +60,6 @@ bytes_looked_at (RunAtEnd members) p f = f.1 - f.0
 bytes_looked_at (ByteThenRunAtEnd first members) p f = f.1 - f.0
 bytes_looked_at other p f = f.1 - p
 
--- looks counted from the one number to the other pass over a match of this form that begins at p or later: one look at least for each of
--- its bytes and, unless all matches end where the text does, for each byte from p to its end
-pub record FormPasses (form : DirectForm) (w : List ℕ) (p before after : ℕ) : Type 0 where
-  pub start : ℕ
-  pub end : ℕ
-  pub later : p ≤ start
-  pub up : start ≤ end
-  pub within : end ≤ length w
-  pub spans : FormSpans form w start end
-  pub bytes : TakesAtLeast before after (end - start)
-  pub passed : (EndsText form → ⊥) → TakesAtLeast before after (end - p)
-
 -- how many looks there are at most for each byte that is passed
 abbrev pub rate : DirectForm → ℕ
 rate (Choice literals) = 42
@@ -96,18 +77,12 @@ IsDirect e form = SpannedAs (expression_tree e) form × (e.groups ≡ 0) × (rat
 abbrev pub CanStart : DirectForm → List ℕ → ℕ → Type 0
 CanStart (Anchor anchors) w i = AnchorsHold anchors w i
 CanStart (OneByte first) w i = StartsWith first w i
-CanStart (Run members) w i = Unit {0}
 CanStart (ByteThenRun first members) w i = StartsWith first w i
-CanStart (RunThenByte members last) w i = (k : ℕ) × RunsTo members last w i k
 CanStart (RunAtEnd members) w i = Repeated members w i (length w)
 CanStart (ByteThenRunAtEnd first members) w i = StartsWith first w i × Repeated members w (i + 1) (length w)
 CanStart (Times members count) w i = Repeated members w i (i + count)
 CanStart (Literal literal) w i = OccursAt w literal i
 CanStart (Choice literals) w i = ChoiceAt literals w i
-
--- a match begins at some place from p on
-abbrev pub StartsFrom : DirectForm → List ℕ → ℕ → Type 0
-StartsFrom form w p = (k : ℕ) × (p ≤ k) × (k ≤ length w) × CanStart form w k
 
 -- the first place from p on at which the byte can come first
 abbrev pub FirstWith : First → List ℕ → ℕ → Option ℕ → Type 0

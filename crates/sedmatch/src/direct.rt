@@ -1,6 +1,5 @@
-//! Direct forms: expressions whose matches a look at the text tells. Anchors alone, a byte of a set, a run of such bytes, a
-//! byte and a run, a run and the byte that ends it, a run at the end of the text, a byte before one, always as many bytes of
-//! a set, a literal, one of a few literals.
+//! Direct forms: expressions whose matches a look at the text tells. Anchors alone, a byte of a set, always as many
+//! bytes of a set, a byte and a run, a run at the end of the text, a byte before one, a literal, one of a few literals.
 //!
 //! Where such a match begins is told by its bytes, and where the longest ends by those that follow, so that nothing
 //! has to be found out of the expression in a search. What a search costs falls with the place from which it starts: all
@@ -15,17 +14,19 @@ ghost use Rattle.sedtext.specs.Bytes.{looked_at};
 ghost use Rattle.sedtext.specs.Costs.{Pays};
 ghost use Rattle.sedtext.specs.Following.{CanEndEarly, PassesOver};
 ghost use Rattle.sedtext.specs.Spans.{SomeFound, IsIn};
+ghost use Rattle.sedtext.specs.Word.{AllWord};
 ghost use Rattle.sedmatch.specs.Candidates.{NoMatchBefore};
-ghost use Rattle.sedmatch.specs.Direct.{CanComeFirst, FirstWith, FirstStart, FirstSpan, FormPasses, HasForm, IsDirect, StartsFrom, end_or, bytes_looked_at, rate};
-ghost use Rattle.sedmatch.specs.declared.direct.DirectForm.TheVariants.{ByteThenRunAtEnd, Anchor as AnchorForm, OneByte, Run, ByteThenRun, RunThenByte, RunAtEnd, Times, Literal, Choice as ChoiceForm};
+ghost use Rattle.sedmatch.specs.Direct.{CanComeFirst, FirstWith, FirstStart, FirstSpan, HasForm, IsDirect, end_or, bytes_looked_at, rate};
+ghost use Rattle.sedmatch.specs.declared.direct.DirectForm.TheVariants.{ByteThenRunAtEnd, Anchor as AnchorForm, OneByte, ByteThenRun, RunAtEnd, Times, Literal as LiteralForm, Choice as ChoiceForm};
 
-use crate::word::{Word, word_of};
+use memchr::memmem::Finder;
 use sedre::{ByteSet, Expr, Node, NodeId, Steps};
 use sedtext::counted::choice::{Choice, choice_of};
 use sedtext::counted::few::{Few, members_of};
-use sedtext::counted::lookups::find_few;
+use sedtext::counted::lookups::{find_few, find_literal};
 use sedtext::counted::members::{find_member, run_begin, run_end};
 use sedtext::counted::{Text, are_bytes};
+use sedtext::needed::{Literal, literal_from};
 use sedtext::repeats::star_set;
 use sedtext::times::{find_times, times_of};
 use std::alloc::{AllocError, Global};
@@ -67,20 +68,16 @@ pub enum DirectForm {
     Anchor(Anchor),
     /// One byte.
     OneByte(First),
-    /// Bytes of the set, any number of them.
-    Run(ByteSet),
     /// One byte, and bytes of the set, any number of them.
     ByteThenRun(First, ByteSet),
-    /// Bytes of the set, any number of them, and the first byte that ends them and isn't in the set.
-    RunThenByte(ByteSet, First),
     /// Bytes of the set up to the end of the text, any number of them.
     RunAtEnd(ByteSet),
     /// One byte, and bytes of the set up to the end of the text, any number of them.
     ByteThenRunAtEnd(First, ByteSet),
     /// As many bytes of the set as the number says.
     Times(ByteSet, usize),
-    /// A literal of two bytes or more.
-    Literal(Word),
+    /// A literal of two bytes or more, as it is sought.
+    Literal(Finder<'static>),
     /// One of a few literals.
     Choice(Choice),
 }
@@ -93,18 +90,6 @@ fn first_of(set: &ByteSet) -> First
         Some(few) => First::Among(few),
         None => First::Member(*set),
     }
-}
-
-/// Whether no byte is in both sets.
-fn are_disjoint(these: &ByteSet, those: &ByteSet) -> bool
-    ensures { IsTrue result → (c : ℕ) → c < 256 → IsIn c these.now → IsIn c those.now → ⊥ }
-{
-    for byte in 0..256usize {
-        if these.has(byte as u8) && those.has(byte as u8) {
-            return false;
-        }
-    }
-    true
 }
 
 /// How the matches of the expression look, if it is of anchors alone.
@@ -142,8 +127,7 @@ fn both_anchors(expr: &Expr, a: NodeId, b: NodeId, steps: &mut Steps) -> Option<
     }
 }
 
-/// How the matches of a concatenation of these parts look, if each is a run and what ends it: the end of the text, or a byte that
-/// isn't in the set of the run.
+/// How the matches of a concatenation of these parts look, if they are a run and the end of the text.
 fn run_then(expr: &Expr, a: NodeId, b: NodeId, steps: &mut Steps) -> Option<DirectForm>
     requires root { slice_get expr.now.nodes (length expr.now.nodes - 1) ≡ Some (Seq a b) }
     requires arena { IsArena expr.now.nodes }
@@ -152,13 +136,6 @@ fn run_then(expr: &Expr, a: NodeId, b: NodeId, steps: &mut Steps) -> Option<Dire
 {
     let members = star_set(expr, a.index(), steps)?;
     match expr.look(b, steps) {
-        Node::Set(set) => {
-            if are_disjoint(&members, &set) {
-                Some(DirectForm::RunThenByte(members, first_of(&set)))
-            } else {
-                None
-            }
-        }
         Node::End => Some(DirectForm::RunAtEnd(members)),
         _ => None,
     }
@@ -219,7 +196,7 @@ fn byte_run_then(
     }
 }
 
-/// How the matches of the expression look, if they are of one byte, a run or both.
+/// How the matches of the expression look, if they are of one byte, or of a run and what stands before or after it.
 fn run_form(expr: &Expr, steps: &mut Steps) -> Option<DirectForm>
     ensures form { IfSome result (HasForm (expression_tree expr.now) 4) }
     ensures cost { Takes steps.old steps.new 7 }
@@ -232,11 +209,25 @@ fn run_form(expr: &Expr, steps: &mut Steps) -> Option<DirectForm>
             Node::Seq(byte, run) => byte_run_then(expr, (a, b), (byte, run), steps),
             _ => run_then(expr, a, b, steps),
         },
-        _ => {
-            let members = star_set(expr, root, steps)?;
-            Some(DirectForm::Run(members))
-        }
+        _ => None,
     }
+}
+
+/// The literal that every match is, where it has two bytes or more. A single byte is sought faster as one.
+fn literal_of(
+    alloc: Global,
+    expr: &Expr,
+    steps: &mut Steps,
+) -> Result<Option<Finder<'static>>, AllocError>
+    ensures word { IfOk result (λ r. IfSome r (λ w. AllWord expr.now.nodes (length expr.now.nodes - 1) w)) }
+    ensures cost { Takes steps.old steps.new 131074 }
+{
+    let root = expr.root().index();
+    let Literal { bytes, rest } = literal_from(alloc, expr, root, steps)?;
+    if rest.is_some() || bytes.len() < 2 {
+        return Ok(None);
+    }
+    Ok(Some(Finder::new(&bytes).into_owned(alloc)?))
 }
 
 /// How the matches of the expression look, if they are a few literals.
@@ -278,8 +269,8 @@ fn form_of(alloc: Global, expr: &Expr, steps: &mut Steps) -> Result<Option<Direc
     if let Some(form) = run_form(expr, steps) {
         return Ok(Some(form));
     }
-    if let Some(word) = word_of(alloc, expr, steps)? {
-        return Ok(Some(DirectForm::Literal(word)));
+    if let Some(finder) = literal_of(alloc, expr, steps)? {
+        return Ok(Some(DirectForm::Literal(finder)));
     }
     if let Some((set, count)) = times_of(alloc, expr, steps)? {
         return Ok(Some(DirectForm::Times(set, count)));
@@ -358,22 +349,6 @@ fn byte_span(first: &First, text: &Text, from: usize, steps: &mut Steps) -> Opti
     }
 }
 
-/// The bytes of the set from `from` on.
-#[inline(always)]
-fn run_span(
-    members: &ByteSet,
-    text: &Text,
-    from: usize,
-    steps: &mut Steps,
-) -> Option<(usize, usize)>
-    requires from { from ≤ length text.now }
-    ensures span { FirstSpan (Run members.now) text.now from result }
-    ensures cost { Pays steps.old steps.new (4 * (end_or (length text.now) result + 1)) (4 * from) }
-    ensures counts { IfSome result (λ f. TakesAtLeast steps.old steps.new (f.1 - from)) }
-{
-    Some((from, run_end(text, members, from, steps)))
-}
-
 /// The first byte from `from` on that is one, and the bytes of the set after it.
 #[inline(always)]
 fn byte_run_span(
@@ -391,30 +366,6 @@ fn byte_run_span(
     match find_first(first, text, from, steps) {
         None => None,
         Some(start) => Some((start, run_end(text, members, text.after(start, 1), steps))),
-    }
-}
-
-/// The first byte from `from` on that ends a run, with the bytes of the set before it.
-// As a part of a large function it would be slower by the byte.
-#[inline(never)]
-fn run_byte_span(
-    members: &ByteSet,
-    last: &First,
-    text: &Text,
-    from: usize,
-    steps: &mut Steps,
-) -> Option<(usize, usize)>
-    requires from { from ≤ length text.now }
-    ensures span { FirstSpan (RunThenByte members.now last.now) text.now from result }
-    ensures cost { Pays steps.old steps.new (4 * (end_or (length text.now) result + 1)) (4 * from) }
-    ensures counts { IfSome result (λ f. TakesAtLeast steps.old steps.new (f.1 - from)) }
-{
-    match find_first(last, text, from, steps) {
-        None => None,
-        Some(place) => Some((
-            run_begin(text, members, from, place, steps),
-            text.after(place, 1),
-        )),
     }
 }
 
@@ -497,15 +448,20 @@ fn times_span(
 
 /// The literal where it stands first from `from` on.
 #[inline(always)]
-fn literal_span(word: &Word, text: &Text, from: usize, steps: &mut Steps) -> Option<(usize, usize)>
+fn literal_span(
+    finder: &Finder,
+    text: &Text,
+    from: usize,
+    steps: &mut Steps,
+) -> Option<(usize, usize)>
     requires from { from ≤ length text.now }
-    ensures span { FirstSpan (Literal word.now) text.now from result }
+    ensures span { FirstSpan (LiteralForm finder.now) text.now from result }
     ensures cost { Pays steps.old steps.new (4 * (end_or (length text.now) result + 1)) (4 * from) }
     ensures counts { IfSome result (λ f. TakesAtLeast steps.old steps.new (f.1 - from)) }
 {
-    match word.start(text, from, steps) {
+    match find_literal(text, finder, from, steps) {
         None => None,
-        Some(start) => Some((start, word.end(text, start))),
+        Some(start) => Some((start, text.after(start, finder.needle().len()))),
     }
 }
 
@@ -545,15 +501,13 @@ fn form_span(
     match form {
         DirectForm::Anchor(anchor) => anchor_span(*anchor, text, from),
         DirectForm::OneByte(first) => byte_span(first, text, from, steps),
-        DirectForm::Run(members) => run_span(members, text, from, steps),
         DirectForm::ByteThenRun(first, members) => byte_run_span(first, members, text, from, steps),
-        DirectForm::RunThenByte(members, last) => run_byte_span(members, last, text, from, steps),
         DirectForm::RunAtEnd(members) => run_end_span(members, text, from, steps),
         DirectForm::ByteThenRunAtEnd(first, members) => {
             byte_run_end_span(first, members, text, from, steps)
         },
         DirectForm::Times(set, count) => times_span(set, *count, text, from, steps),
-        DirectForm::Literal(word) => literal_span(word, text, from, steps),
+        DirectForm::Literal(finder) => literal_span(finder, text, from, steps),
         DirectForm::Choice(choice) => choice_span(choice, text, from, steps),
     }
 }
@@ -577,29 +531,6 @@ pub fn direct_span(
     form_span(form, text, from, steps)
 }
 
-/// Whether a match of this form begins at `from` or later.
-fn can_match(form: &DirectForm, text: &Text, from: usize, steps: &mut Steps) -> bool
-    requires from { from ≤ length text.now }
-    ensures starts { IsTrue result ↔ StartsFrom form.now text.now from }
-    ensures passes { IsTrue result → FormPasses form.now text.now from steps.old steps.new }
-    ensures cost { Takes steps.old steps.new (rate form.now * (length text.now + 1)) }
-{
-    match form {
-        DirectForm::Anchor(anchor) => anchor_place(*anchor, text, from).is_some(),
-        DirectForm::OneByte(first) => find_first(first, text, from, steps).is_some(),
-        DirectForm::Run(_) => true,
-        DirectForm::ByteThenRun(first, _) => find_first(first, text, from, steps).is_some(),
-        DirectForm::RunThenByte(_, last) => find_first(last, text, from, steps).is_some(),
-        DirectForm::RunAtEnd(_) => true,
-        DirectForm::ByteThenRunAtEnd(first, members) => {
-            byte_run_end_start(first, members, text, from, steps).is_some()
-        },
-        DirectForm::Times(set, count) => find_times(set, *count, text, from, steps).is_some(),
-        DirectForm::Literal(word) => word.start(text, from, steps).is_some(),
-        DirectForm::Choice(choice) => choice.start(text, from, steps).is_some(),
-    }
-}
-
 /// Whether any match begins at `from` or later.
 pub fn direct_matches(form: &DirectForm, text: &Text, from: usize, steps: &mut Steps) -> bool
     requires from { from ≤ length text.now }
@@ -607,8 +538,7 @@ pub fn direct_matches(form: &DirectForm, text: &Text, from: usize, steps: &mut S
     ensures passes { (e : WrittenExpression) → IsDirect e form.now → IsTrue result → PassesOver (expression_tree e) text.now from steps.old steps.new }
     ensures cost { Takes steps.old steps.new (rate form.now * (length text.now + 1)) }
 {
-    are_bytes(text);
-    can_match(form, text, from, steps)
+    direct_span(form, text, from, steps).is_some()
 }
 
 /// A place of the text before which no line has a match of this form, or None where no line has one.
@@ -621,13 +551,9 @@ pub fn direct_candidate(form: &DirectForm, text: &Text, steps: &mut Steps) -> Op
     match form {
         DirectForm::OneByte(first) => find_first(first, text, 0, steps),
         DirectForm::ByteThenRun(first, _) => find_first(first, text, 0, steps),
-        DirectForm::RunThenByte(_, last) => find_first(last, text, 0, steps),
         DirectForm::ByteThenRunAtEnd(first, _) => find_first(first, text, 0, steps),
-        DirectForm::Literal(word) => word.start(text, 0, steps),
+        DirectForm::Literal(finder) => find_literal(text, finder, 0, steps),
         DirectForm::Choice(choice) => choice.start(text, 0, steps),
-        DirectForm::Anchor(_)
-        | DirectForm::Run(_)
-        | DirectForm::RunAtEnd(_)
-        | DirectForm::Times(_, _) => Some(0),
+        DirectForm::Anchor(_) | DirectForm::RunAtEnd(_) | DirectForm::Times(_, _) => Some(0),
     }
 }

@@ -22,7 +22,6 @@ mod scratch;
 mod table_matcher;
 mod table_room;
 mod whole;
-mod word;
 
 pub use occurrences::Occurrences;
 pub use scratch::Scratch;

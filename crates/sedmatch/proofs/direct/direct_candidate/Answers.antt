@@ -2,7 +2,7 @@ use Rattle.std.proofs.Common.{length, refl, subst, arith}
 use Rattle.sedre.specs.Written.{expression_tree}
 use Rattle.sedmatch.specs.Direct.{SpannedAs}
 use Rattle.sedtext.proofs.CountLemmas.{least_none}
-use Rattle.sedmatch.proofs.CandidateLemmas.{byte_before, byte_run_before, byte_run_end_before, choice_before, counts_byte, counts_choice, counts_literal, literal_before, run_byte_before}
+use Rattle.sedmatch.proofs.CandidateLemmas.{byte_before, byte_run_before, byte_run_end_before, choice_before, counts_byte, counts_choice, counts_literal, literal_before}
 use Rattle.sedmatch.proofs.DirectLemmas.{first_looked}
 use Rattle.sedmatch.proofs.direct.direct_candidate.Goals as goal
 
@@ -12,14 +12,11 @@ returns-in-OneByte-clause-before c = λ e is. byte_before (expression_tree e) c.
 pub returns-in-ByteThenRun-clause-before : goal.returns-in-ByteThenRun-clause-before
 returns-in-ByteThenRun-clause-before c = λ e is. byte_run_before (expression_tree e) c.args.text.now c.are_bytes.ensures c.find_first-in-ByteThenRun.result c.in-ByteThenRun.first c.in-ByteThenRun.field-1 c.find_first-in-ByteThenRun.ensures.first (subst (SpannedAs (expression_tree e)) c.in-ByteThenRun.is is.0)
 
-pub returns-in-RunThenByte-clause-before : goal.returns-in-RunThenByte-clause-before
-returns-in-RunThenByte-clause-before c = λ e is. run_byte_before (expression_tree e) c.args.text.now c.are_bytes.ensures c.find_first-in-RunThenByte.result c.in-RunThenByte.field-0 c.in-RunThenByte.last c.find_first-in-RunThenByte.ensures.first (subst (SpannedAs (expression_tree e)) c.in-RunThenByte.is is.0)
-
 pub returns-in-Literal-clause-before : goal.returns-in-Literal-clause-before
-returns-in-Literal-clause-before c = λ e is. literal_before (expression_tree e) c.args.text.now c.are_bytes.ensures c.start.result c.in-Literal.word c.start.ensures.first (subst (SpannedAs (expression_tree e)) c.in-Literal.is is.0)
+returns-in-Literal-clause-before c = λ e is. literal_before (expression_tree e) c.args.text.now c.are_bytes.ensures c.find_literal.result c.in-Literal.finder c.find_literal.ensures.first (subst (SpannedAs (expression_tree e)) c.in-Literal.is is.0)
 
 pub returns-in-Choice-clause-before : goal.returns-in-Choice-clause-before
-returns-in-Choice-clause-before c = λ e is. choice_before (expression_tree e) c.args.text.now c.are_bytes.ensures c.start-in-Choice.result c.in-Choice.choice c.start-in-Choice.ensures.first (subst (SpannedAs (expression_tree e)) c.in-Choice.is is.0)
+returns-in-Choice-clause-before c = λ e is. choice_before (expression_tree e) c.args.text.now c.are_bytes.ensures c.start.result c.in-Choice.choice c.start.ensures.first (subst (SpannedAs (expression_tree e)) c.in-Choice.is is.0)
 
 pub returns-in-OneByte-clause-cost : goal.returns-in-OneByte-clause-cost
 returns-in-OneByte-clause-cost c =
@@ -30,11 +27,6 @@ pub returns-in-ByteThenRun-clause-cost : goal.returns-in-ByteThenRun-clause-cost
 returns-in-ByteThenRun-clause-cost c =
     let looked = first_looked c.in-ByteThenRun.first c.args.text.now 0 c.find_first-in-ByteThenRun.result c.find_first-in-ByteThenRun.ensures.first in
     (c.find_first-in-ByteThenRun.ensures.cost.0, omega (arith, looked, c.find_first-in-ByteThenRun.ensures.cost.1))
-
-pub returns-in-RunThenByte-clause-cost : goal.returns-in-RunThenByte-clause-cost
-returns-in-RunThenByte-clause-cost c =
-    let looked = first_looked c.in-RunThenByte.last c.args.text.now 0 c.find_first-in-RunThenByte.result c.find_first-in-RunThenByte.ensures.first in
-    (c.find_first-in-RunThenByte.ensures.cost.0, omega (arith, looked, c.find_first-in-RunThenByte.ensures.cost.1))
 
 pub returns-in-ByteThenRunAtEnd-clause-before : goal.returns-in-ByteThenRunAtEnd-clause-before
 returns-in-ByteThenRunAtEnd-clause-before c = λ e is. byte_run_end_before (expression_tree e) c.args.text.now c.are_bytes.ensures c.find_first-in-ByteThenRunAtEnd.result c.in-ByteThenRunAtEnd.first c.in-ByteThenRunAtEnd.field-1 c.find_first-in-ByteThenRunAtEnd.ensures.first (subst (SpannedAs (expression_tree e)) c.in-ByteThenRunAtEnd.is is.0)
@@ -50,17 +42,14 @@ returns-in-OneByte-clause-counts c = counts_byte (length c.args.text.now) c.args
 pub returns-in-ByteThenRun-clause-counts : goal.returns-in-ByteThenRun-clause-counts
 returns-in-ByteThenRun-clause-counts c = counts_byte (length c.args.text.now) c.args.steps.now c.find_first-in-ByteThenRun.new.steps c.find_first-in-ByteThenRun.result c.find_first-in-ByteThenRun.ensures.counts
 
-pub returns-in-RunThenByte-clause-counts : goal.returns-in-RunThenByte-clause-counts
-returns-in-RunThenByte-clause-counts c = counts_byte (length c.args.text.now) c.args.steps.now c.find_first-in-RunThenByte.new.steps c.find_first-in-RunThenByte.result c.find_first-in-RunThenByte.ensures.counts
-
 pub returns-in-ByteThenRunAtEnd-clause-counts : goal.returns-in-ByteThenRunAtEnd-clause-counts
 returns-in-ByteThenRunAtEnd-clause-counts c = counts_byte (length c.args.text.now) c.args.steps.now c.find_first-in-ByteThenRunAtEnd.new.steps c.find_first-in-ByteThenRunAtEnd.result c.find_first-in-ByteThenRunAtEnd.ensures.counts
 
 pub returns-in-Literal-clause-counts : goal.returns-in-Literal-clause-counts
-returns-in-Literal-clause-counts c = counts_literal (length c.args.text.now) _ c.args.steps.now c.start.new.steps c.start.result c.start.ensures.counts
+returns-in-Literal-clause-counts c = counts_literal (length c.args.text.now) _ c.args.steps.now c.find_literal.new.steps c.find_literal.result c.find_literal.ensures.counts
 
 pub returns-in-Choice-clause-counts : goal.returns-in-Choice-clause-counts
-returns-in-Choice-clause-counts c = counts_choice c.in-Choice.choice c.args.text.now c.args.steps.now c.start-in-Choice.new.steps c.start-in-Choice.result c.start-in-Choice.ensures.first c.start-in-Choice.ensures.counts
+returns-in-Choice-clause-counts c = counts_choice c.in-Choice.choice c.args.text.now c.args.steps.now c.start.new.steps c.start.result c.start.ensures.first c.start.ensures.counts
 
 pub returns-in-Anchor-clause-counts : goal.returns-in-Anchor-clause-counts
 returns-in-Anchor-clause-counts c = least_none c.args.steps.now 0 refl
@@ -70,6 +59,3 @@ returns-in-Anchor-2-clause-counts c = least_none c.args.steps.now 0 refl
 
 pub returns-in-Anchor-3-clause-counts : goal.returns-in-Anchor-3-clause-counts
 returns-in-Anchor-3-clause-counts c = least_none c.args.steps.now 0 refl
-
-pub returns-in-Anchor-4-clause-counts : goal.returns-in-Anchor-4-clause-counts
-returns-in-Anchor-4-clause-counts c = least_none c.args.steps.now 0 refl

@@ -1,11 +1,19 @@
-use Rattle.sedmatch.proofs.DirectLemmas.{direct_passes, direct_some}
+use Rattle.std.proofs.Common.{◌∙◌, ◌↔◌, length, IsTrue, subst, sym}
+use Rattle.sedre.specs.Written.{expression_tree}
+use Rattle.sedtext.specs.Spans.{SomeFound}
+use Rattle.sedmatch.specs.Direct.{rate}
+use Rattle.sedmatch.proofs.DirectLemmas.{answer_cost, answer_passes, answer_some}
 use Rattle.sedmatch.proofs.direct.direct_matches.Goals as goal
 
 pub returns-clause-matches : goal.returns-clause-matches
 returns-clause-matches c e is =
-    let some = direct_some e c.args.form.now is c.args.text.now c.are_bytes.ensures c.args.from in
-    ((λ h. some.0 (c.can_match.ensures.starts.0 h)), (λ f. c.can_match.ensures.starts.1 (some.1 f)))
+    subst (λ b. IsTrue b ↔ SomeFound (expression_tree e) c.args.text.now c.args.from) (sym c.is_some.ensures)
+    (answer_some (expression_tree e) c.args.text.now c.args.from c.direct_span.result (c.direct_span.ensures.answer e is))
 
 pub returns-clause-passes : goal.returns-clause-passes
-returns-clause-passes c e is =
-    λ h. direct_passes e c.args.form.now is c.args.text.now c.are_bytes.ensures c.args.from c.args.steps.now c.can_match.new.steps (c.can_match.ensures.passes h)
+returns-clause-passes c e is = λ h.
+    answer_passes (expression_tree e) c.args.text.now c.args.from c.args.steps.now c.direct_span.new.steps c.direct_span.result (c.direct_span.ensures.answer e is) c.direct_span.ensures.counts
+    (c.direct_span.ensures.passes e is) (sym c.is_some.ensures ∙ h)
+
+pub returns-clause-cost : goal.returns-clause-cost
+returns-clause-cost c = answer_cost (rate c.args.form.now) (length c.args.text.now) c.args.from c.args.steps.now c.direct_span.new.steps c.direct_span.result c.direct_span.ensures.cost c.direct_span.ensures.lies

@@ -1,12 +1,12 @@
-use Rattle.std.proofs.Common.{◌+◌, ◌-◌, None, length, arith}
+use Rattle.std.proofs.Common.{◌+◌, ◌-◌, None, ap, length, arith}
 use Rattle.sedtext.proofs.CountLemmas.{least_counted}
 use Rattle.sedmatch.proofs.DirectLemmas.{start_literal}
 use Rattle.sedmatch.proofs.direct.literal_span.Goals as goal
 
 pub returns-in-None-clause-span : goal.returns-in-None-clause-span
-returns-in-None-clause-span c = start_literal c.args.word.now c.args.text.now c.args.from None c.in-None.ensures.first
+returns-in-None-clause-span c = start_literal c.args.finder.now c.args.text.now c.args.from None c.in-None.ensures.first
 
 pub returns-in-Some-clause-counts : goal.returns-in-Some-clause-counts
 returns-in-Some-clause-counts c =
-    least_counted c.args.steps.now c.start.new.steps (c.in-Some.start + length c.args.word.now - c.args.from) (c.end.result - c.args.from) c.in-Some.ensures.counts
-    (omega (arith, c.in-Some.ensures.first.0, c.end.ensures))
+    least_counted c.args.steps.now c.find_literal.new.steps (c.in-Some.start + length c.args.finder.now - c.args.from) (c.after.result - c.args.from) c.in-Some.ensures.counts
+    (omega (arith, c.in-Some.ensures.first.0, c.after.ensures, ap length c.needle.ensures))

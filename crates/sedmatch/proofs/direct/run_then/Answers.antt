@@ -1,8 +1,8 @@
 use Rattle.std.proofs.Common.{◌≡◌, ◌-◌, length, Some, refl, arith}
 use Rattle.std.specs.Prelude.{slice_get}
-use Rattle.sedre.specs.declared.types.Node.TheVariants.{End, Set}
+use Rattle.sedre.specs.declared.types.Node.TheVariants.{End}
 use Rattle.sedtext.proofs.NeededLemmas.{seq_below}
-use Rattle.sedmatch.proofs.DirectLemmas.{form_run_byte, form_run_end}
+use Rattle.sedmatch.proofs.DirectLemmas.{form_run_end}
 use Rattle.sedmatch.proofs.direct.run_then.Goals as goal
 
 pub star_set-requires : goal.star_set-requires
@@ -14,15 +14,6 @@ pub look-requires : goal.look-requires
 look-requires c =
     let below = seq_below c.args.expr.now.nodes c.requires.arena (length c.args.expr.now.nodes - 1) c.args.a c.args.b c.requires.root in
     record { inside = omega (arith, below.1) }
-
-pub returns-then-are_disjoint-clause-form : goal.returns-then-are_disjoint-clause-form
-returns-then-are_disjoint-clause-form c =
-    let nodes = c.args.expr.now.nodes in
-    let there : slice_get nodes c.args.b.index ≡ Some (Set c.in-Set.set) = cc in (
-      form_run_byte nodes c.requires.arena (length nodes - 1) (length nodes - 1) refl c.args.a c.args.b c.index.result c.in_ok-members.members c.in-Set.set c.first_of.result
-          c.requires.root c.index.ensures there c.in_ok-members.ensures.repeats c.first_of.ensures (c.are_disjoint.ensures c.if-are_disjoint.true),
-      omega arith,
-    )
 
 pub returns-in-End-clause-form : goal.returns-in-End-clause-form
 returns-in-End-clause-form c =
