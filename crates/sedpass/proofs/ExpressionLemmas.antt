@@ -5,11 +5,10 @@ use Rattle.sedre.specs.Arena.{IsExpr}
 use Rattle.sedre.specs.Written.{WrittenExpression}
 use Rattle.sedtext.specs.Words.{row_of}
 use Rattle.sedpass.specs.Cells.{IsLayout, IsColumn}
-use Rattle.sedpass.specs.Find.{IsSweep}
 use Rattle.sedpass.specs.Kept.{starts_told, IsEdge, IsKept, IsLive, IsRegion, KeptRoom}
 use Rattle.sedpass.specs.Rows.{nodes_of, bits, RowOfPlace}
 use Rattle.sedpass.specs.Search.{Serves}
-use Rattle.sedpass.specs.Table.{State, state_of, IsTold, LeadsOn, BeginsIn, Names, cell_of, beginning_at, beginning_of, MayBegin, HasRoom, IsAhead, IsTable}
+use Rattle.sedpass.specs.Table.{State, state_of, IsTold, LeadsOn, BeginsIn, Names, cell_of, beginning_at, beginning_of, MayBegin, HasRoom, IsTable}
 use Rattle.sedpass.specs.declared.kept.Kept.{Kept}
 use Rattle.sedpass.specs.declared.nodes.Prepared.{Prepared}
 use Rattle.sedpass.specs.declared.rows.Way.{Way}
@@ -46,12 +45,6 @@ module _ (p q : Prepared) (same : p.arena.expr ≡ q.arena.expr) where
         let code = (beginning_of t (beginning_at t.way.sweeps root kind)).code in
         subst (λ (e : WrittenExpression). Names (length e.nodes) t (BeginsIn (nodes_of t.way e) t.way root kind) code) same (table.begun root kind (begins_for q p (sym same) t.way root may) now);
   }
-
-  pub ahead_for : (t : Table) → IsAhead p t → IsAhead q t
-  ahead_for t ahead = record { table = table_for t ahead.table; forwards = ahead.forwards; single = ahead.single; brief = ahead.brief }
-
-  pub sweep_for : (t : Table) → IsSweep p t → IsSweep q t
-  sweep_for t sweep = record { table = table_for t sweep.table; forwards = sweep.forwards; sweeps = sweep.sweeps; brief = sweep.brief }
 
   room_for : (n : ℕ) (t : Table) (k : Kept) → KeptRoom (length p.arena.expr.nodes) n t k → KeptRoom (length q.arena.expr.nodes) n t k
   room_for n t k room = subst (λ (e : WrittenExpression). KeptRoom (length e.nodes) n t k) same room
