@@ -6,7 +6,8 @@ use Rattle.std.specs.List.{list_any}
 use Rattle.std.proofs.lemmas.Bool.{le-leb}
 use Rattle.std.proofs.lemmas.List.{length-replicate}
 use Rattle.sedre.specs.declared.types.Kind.TheVariants.{Basic}
-use Rattle.sedscript.specs.declared.types.Action.TheVariants.{AppendNext, DeleteFirst, PrintFirst}
+use Rattle.sedscript.specs.declared.types.Action.TheVariants.{Plain}
+use Rattle.sedscript.specs.declared.types.Simple.TheVariants.{AppendNext, DeleteFirst, PrintFirst}
 use Rattle.sedscript.specs.declared.types.Address.TheVariants.{Last}
 use Rattle.sedscript.specs.Addresses.{address_at, second_at, addresses_at}
 use Rattle.sedscript.specs.Bytes.{past}
@@ -30,7 +31,7 @@ use Rattle.examples.proofs.LimitWords.{own}
 
 abbrev program : Program
 program = record {
-  commands = unless (at Last AppendNext) ∷ always PrintFirst ∷ always DeleteFirst ∷ [];
+  commands = unless (at Last (Plain AppendNext)) ∷ always (Plain PrintFirst) ∷ always (Plain DeleteFirst) ∷ [];
   expressions = [];
   texts = [];
   substitutions = [];

@@ -9,7 +9,7 @@ use Rattle.sedscript.specs.declared.bytes.Sort.TheVariants.{Separator, Blank}
 use Rattle.sedscript.specs.declared.types.Action.TheVariants.{Block}
 use Rattle.sedscript.specs.declared.types.Command.{Command}
 use Rattle.sedscript.specs.declared.items.Counts.{Counts}
-use Rattle.sedscript.specs.declared.items.FileUse.TheVariants.{Read, Write}
+use Rattle.sedscript.specs.declared.types.FileUse.TheVariants.{Read, Write}
 use Rattle.sedscript.specs.declared.items.Function.TheVariants.{Close}
 use Rattle.sedscript.specs.declared.items.Here.{Here}
 use Rattle.sedscript.specs.declared.items.Here.TheVariants.{Is}

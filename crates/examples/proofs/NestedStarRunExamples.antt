@@ -9,7 +9,8 @@ use Rattle.sedre.specs.Tree.{Tree}
 use Rattle.sedmatch.specs.Matching.{found}
 use Rattle.sedmatch.proofs.MatchingLemmas.{not_found-iff}
 use Rattle.sedscript.specs.declared.substitution.Piece.TheVariants.{Literal}
-use Rattle.sedscript.specs.declared.types.Action.TheVariants.{Delete, Substitute}
+use Rattle.sedscript.specs.declared.types.Action.TheVariants.{Plain, Substitute}
+use Rattle.sedscript.specs.declared.types.Simple.TheVariants.{Delete}
 use Rattle.sedscript.specs.declared.types.Address.TheVariants.{Match}
 use Rattle.sedscript.specs.declared.types.Command.{Command}
 use Rattle.sedscript.specs.Addresses.{match_at, address_at, second_at, addresses_at}
@@ -34,7 +35,7 @@ use Rattle.examples.proofs.LimitWords.{own}
 
 -- `/RE/d` and `s//x/`, where this tells what is found
 abbrev commands : List Command
-commands = at (Match (Some 0)) Delete ∷ always (Substitute 0) ∷ []
+commands = at (Match (Some 0)) (Plain Delete) ∷ always (Substitute 0) ∷ []
 
 abbrev deletes_or_replaces : (ℕ → List ℕ → Bool) → (ℕ → List ℕ → ℕ → Option Occurrence) → Setting
 deletes_or_replaces finds search = record {

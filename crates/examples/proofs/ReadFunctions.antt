@@ -12,9 +12,9 @@ use Rattle.sedscript.specs.declared.types.ScriptFault.{ScriptFault}
 use Rattle.sedscript.specs.declared.types.Reason.{Reason}
 use Rattle.sedscript.specs.declared.types.Reason.TheVariants.{RepeatedByte, MissingText, BadEscape, LengthsDiffer, GroupAbsent, OpenBlock, StrayClose, UnknownLabel, RepeatedLabel}
 use Rattle.sedscript.specs.declared.types.Address.{Address}
-use Rattle.sedscript.specs.declared.items.TextUse.{TextUse}
-use Rattle.sedscript.specs.declared.items.TextUse.TheVariants.{Append, Insert, Change}
-use Rattle.sedscript.specs.declared.items.FileUse.{FileUse}
+use Rattle.sedscript.specs.declared.types.TextUse.{TextUse}
+use Rattle.sedscript.specs.declared.types.TextUse.TheVariants.{Append, Insert, Change}
+use Rattle.sedscript.specs.declared.types.FileUse.{FileUse}
 use Rattle.sedscript.specs.declared.items.Strings.{Strings}
 use Rattle.sedscript.specs.declared.items.Flags.{Flags}
 use Rattle.sedscript.specs.declared.items.Function.{Function}

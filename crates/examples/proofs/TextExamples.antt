@@ -6,6 +6,9 @@ use Rattle.sedre.specs.declared.types.Kind.TheVariants.{Basic}
 use Rattle.sedre.specs.Tree.{set, seq}
 use Rattle.sedre.specs.Sets.{folded_set, only}
 use Rattle.sedscript.specs.declared.types.Action.TheVariants as action
+use Rattle.sedscript.specs.declared.types.Simple.TheVariants as simple
+use Rattle.sedscript.specs.declared.types.FileUse.TheVariants.{Read, Write}
+use Rattle.sedscript.specs.declared.types.TextUse.TheVariants.{Append, Change, Insert}
 use Rattle.sedscript.specs.declared.types.Address.TheVariants as address
 use Rattle.sedscript.specs.ScriptText.{with_part}
 use Rattle.sedscript.specs.declared.substitution.Piece.TheVariants.{Literal as literal, Whole as whole, Group as part}
@@ -26,7 +29,7 @@ use Rattle.sedscript.specs.Items.{substitute_at, function_at, item_at}
 
 -- Texts of `a`, `i` and `c`; the one-line form is this project's own.
 
-text_and_quit : Script (codes "1a X\n1q") Basic (λ s. s.commands ≡ at (address.Line 1) (action.Append 0) ∷ at (address.Line 1) action.Quit ∷ [])
+text_and_quit : Script (codes "1a X\n1q") Basic (λ s. s.commands ≡ at (address.Line 1) (action.Text Append 0) ∷ at (address.Line 1) (action.Plain simple.Quit) ∷ [])
 unfolding verdict cutting walked item_at past function_at addresses_at address_at text_from
 text_and_quit = is_script refl
 
@@ -38,7 +41,7 @@ text_at_once : Script (codes "aX") Basic (λ s. s.texts ≡ codes "X" ∷ [])
 unfolding verdict cutting walked item_at past function_at addresses_at address_at text_from
 text_at_once = is_script refl
 
-changed_range : Script (codes "2,3c\\\nT") Basic (λ s. s.commands ≡ from_to (address.Line 2) (address.Line 3) (action.Change 0) ∷ [])
+changed_range : Script (codes "2,3c\\\nT") Basic (λ s. s.commands ≡ from_to (address.Line 2) (address.Line 3) (action.Text Change 0) ∷ [])
 unfolding verdict cutting walked item_at past function_at addresses_at address_at second_at match_at substitute_at substituted delimiter_at outcome rest_of expression_item_at text_from
 changed_range = is_script refl
 
@@ -78,22 +81,22 @@ two_texts : Script (codes "a X\na Y") Basic (λ s. s.texts ≡ codes "X" ∷ cod
 unfolding verdict cutting walked item_at past function_at addresses_at address_at text_from
 two_texts = is_script refl
 
-numbers_of_texts : Script (codes "a X\ni Y\nc Z") Basic (λ s. s.commands ≡ always (action.Append 0) ∷ always (action.Insert 1) ∷ always (action.Change 2) ∷ [])
+numbers_of_texts : Script (codes "a X\ni Y\nc Z") Basic (λ s. s.commands ≡ always (action.Text Append 0) ∷ always (action.Text Insert 1) ∷ always (action.Text Change 2) ∷ [])
 unfolding verdict cutting walked item_at past function_at addresses_at address_at text_from
 numbers_of_texts = is_script refl
 
-text_of_a_range : Script (codes "1,2a X") Basic (λ s. s.commands ≡ from_to (address.Line 1) (address.Line 2) (action.Append 0) ∷ [])
+text_of_a_range : Script (codes "1,2a X") Basic (λ s. s.commands ≡ from_to (address.Line 1) (address.Line 2) (action.Text Append 0) ∷ [])
 unfolding verdict cutting walked item_at past function_at addresses_at address_at second_at text_from
 text_of_a_range = is_script refl
 
-text_before_a_range : Script (codes "1,2i X") Basic (λ s. s.commands ≡ from_to (address.Line 1) (address.Line 2) (action.Insert 0) ∷ [])
+text_before_a_range : Script (codes "1,2i X") Basic (λ s. s.commands ≡ from_to (address.Line 1) (address.Line 2) (action.Text Insert 0) ∷ [])
 unfolding verdict cutting walked item_at past function_at addresses_at address_at second_at text_from
 text_before_a_range = is_script refl
 
 -- Files that are read and written; equal names are one file, and /dev/stdout is the standard output where it is written (both
 -- this project's own).
 
-written_file : Script (codes "p;w out") Basic (λ s. s.commands ≡ always action.Print ∷ always (action.WriteFile 1) ∷ [])
+written_file : Script (codes "p;w out") Basic (λ s. s.commands ≡ always (action.Plain simple.Print) ∷ always (action.File Write 1) ∷ [])
 unfolding verdict cutting walked item_at past function_at addresses_at address_at name_from
 written_file = is_script refl
 
@@ -105,11 +108,11 @@ one_file_for_equal_names : Script (codes "w out\nw out") Basic (λ s. s.wfiles �
 unfolding verdict cutting walked item_at past function_at addresses_at address_at name_from
 one_file_for_equal_names = is_script refl
 
-one_sink_for_equal_names : Script (codes "w a\nw b\nw a") Basic (λ s. s.commands ≡ always (action.WriteFile 1) ∷ always (action.WriteFile 2) ∷ always (action.WriteFile 1) ∷ [])
+one_sink_for_equal_names : Script (codes "w a\nw b\nw a") Basic (λ s. s.commands ≡ always (action.File Write 1) ∷ always (action.File Write 2) ∷ always (action.File Write 1) ∷ [])
 unfolding verdict cutting walked item_at past function_at addresses_at address_at text_from name_from
 one_sink_for_equal_names = is_script refl
 
-standard_output : Script (codes "w /dev/stdout") Basic (λ s. s.commands ≡ always (action.WriteFile 0) ∷ [])
+standard_output : Script (codes "w /dev/stdout") Basic (λ s. s.commands ≡ always (action.File Write 0) ∷ [])
 unfolding verdict cutting walked item_at past function_at addresses_at address_at match_at substitute_at substituted delimiter_at outcome rest_of expression_item_at name_from
 standard_output = is_script refl
 
@@ -117,7 +120,7 @@ no_file_for_the_standard_output : Script (codes "w /dev/stdout") Basic (λ s. s.
 unfolding verdict cutting walked item_at past function_at addresses_at address_at match_at substitute_at substituted delimiter_at outcome rest_of expression_item_at name_from
 no_file_for_the_standard_output = is_script refl
 
-file_of_a_range : Script (codes "1,2r f") Basic (λ s. s.commands ≡ from_to (address.Line 1) (address.Line 2) (action.ReadFile 0) ∷ [])
+file_of_a_range : Script (codes "1,2r f") Basic (λ s. s.commands ≡ from_to (address.Line 1) (address.Line 2) (action.File Read 0) ∷ [])
 unfolding verdict cutting walked item_at past function_at addresses_at address_at second_at name_from
 file_of_a_range = is_script refl
 
@@ -133,7 +136,7 @@ standard_output_is_read_as_a_file : Script (codes "r /dev/stdout") Basic (λ s. 
 unfolding verdict cutting walked item_at past function_at addresses_at address_at name_from
 standard_output_is_read_as_a_file = is_script refl
 
-read_file : Script (codes "1r f") Basic (λ s. s.commands ≡ at (address.Line 1) (action.ReadFile 0) ∷ [])
+read_file : Script (codes "1r f") Basic (λ s. s.commands ≡ at (address.Line 1) (action.File Read 0) ∷ [])
 unfolding verdict cutting walked item_at past function_at addresses_at address_at name_from
 read_file = is_script refl
 
@@ -245,7 +248,7 @@ flags_before_a_closing = is_script refl
 
 -- Tables of `y`.
 
-transliterate : Script (codes "N;y/\\n/,/") Basic (λ s. s.commands ≡ always action.AppendNext ∷ always (action.Transliterate 0) ∷ [])
+transliterate : Script (codes "N;y/\\n/,/") Basic (λ s. s.commands ≡ always (action.Plain simple.AppendNext) ∷ always (action.Transliterate 0) ∷ [])
 unfolding verdict cutting walked item_at past function_at addresses_at address_at second_at match_at substitute_at substituted delimiter_at outcome rest_of expression_item_at transliterate_at
 transliterate = is_script refl
 

@@ -1,7 +1,7 @@
 -- Bytes and backslashes of texts (XCU sed, "Editing Commands in sed": `a`, `i` and `c`).
 use Rattle.std.specs.Prelude.{◌≡◌, ◌≤◌, ◌⊎◌, ℕ, ◌+◌, List, [], ◌∷◌, length, Some, None, slice_get}
-use Rattle.sedscript.specs.declared.items.TextUse.{TextUse}
-use Rattle.sedscript.specs.declared.items.TextUse.TheVariants.{Append, Insert, Change}
+use Rattle.sedscript.specs.declared.types.TextUse.{TextUse}
+use Rattle.sedscript.specs.declared.types.TextUse.TheVariants.{Append, Insert, Change}
 use Rattle.examples.specs.Backslashes.{IsUnescaped, NoneUnescaped}
 
 -- the letter of the function
