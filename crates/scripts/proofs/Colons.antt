@@ -7,8 +7,8 @@ use Rattle.sedre.specs.Written.{WrittenExpression}
 use Rattle.sedscript.specs.declared.bytes.Sort.TheVariants.{Blank, Name, Separator}
 use Rattle.sedscript.specs.declared.types.ScriptFault.{ScriptFault}
 use Rattle.sedscript.specs.declared.items.Addresses.{Addresses}
-use Rattle.sedscript.specs.declared.items.FileUse.{FileUse}
-use Rattle.sedscript.specs.declared.items.TextUse.{TextUse}
+use Rattle.sedscript.specs.declared.types.FileUse.{FileUse}
+use Rattle.sedscript.specs.declared.types.TextUse.{TextUse}
 use Rattle.sedscript.specs.declared.items.Strings.{Strings}
 use Rattle.sedscript.specs.declared.items.Item.{Item}
 use Rattle.sedscript.specs.declared.items.Here.{Here}

@@ -4,6 +4,7 @@ use Rattle.std.specs.Prelude.{slice_get, slice_index_or, slice_set, option_and_t
 use Rattle.sedscript.specs.declared.types.Command.{Command}
 use Rattle.sedscript.specs.declared.types.Action.{Action}
 use Rattle.sedscript.specs.declared.types.Action.TheVariants as action
+use Rattle.sedscript.specs.declared.types.Simple.TheVariants as simple
 use Rattle.sedscript.specs.declared.substitution.Substitution.{Substitution}
 use Rattle.sedengine.specs.State.{State, Move, Setting}
 use Rattle.sedengine.specs.Substitute.{Occurrence, replaced_from}
@@ -48,7 +49,7 @@ Replaces g (Some t) f = (e : ℕ) × (t.expression ≡ Some e) × (t.print ≡ f
 
 abbrev pub Makes : Setting → Action → Edit → Type 0
 Makes g (action.Block n) (block m) = n ≡ m
-Makes g action.Delete delete = Unit {0}
+Makes g (action.Plain simple.Delete) delete = Unit {0}
 Makes g (action.Substitute k) (change f) = Replaces g (slice_get g.substitutions k) f
 Makes g (action.Transliterate k) (change f) = (w : List ℕ) → map (in_table (slice_get g.tables k)) w ≡ f w
 Makes g a edit = ⊥
@@ -129,7 +130,7 @@ module _ (g : Setting) (ls : List (List ℕ)) (n : ℕ) (h : List ℕ) (k : ℕ)
 
     acts_so : (tells : Bool) (a : Action) (edit : Edit) (w : List ℕ) (r : Bool) (u : Option ℕ) → Makes g a edit → Does n ls ra (effect true edit k w) (acts g (here w r u) tells a)
     acts_so tells (action.Block i) (block m) w r u is = (refl, record { hold = h; replaced = r; used = u; turns = tu; is = refl })
-    acts_so tells action.Delete delete w r u is = (refl, record { hold = h; replaced = r; used = u; turns = tu; is = refl })
+    acts_so tells (action.Plain simple.Delete) delete w r u is = (refl, record { hold = h; replaced = r; used = u; turns = tu; is = refl })
     acts_so tells (action.Substitute i) (change f) w r u is = substitutes_so (slice_get g.substitutions i) f w r u is
     acts_so tells (action.Transliterate i) (change f) w r u is =
         (refl, subst (λ (v : List ℕ). Within n ls ra (k + 1) v (here (map (in_table (slice_get g.tables i)) w) r u)) (is w) (record { hold = h; replaced = r; used = u; turns = tu; is = refl }))
@@ -137,7 +138,7 @@ module _ (g : Setting) (ls : List (List ℕ)) (n : ℕ) (h : List ℕ) (k : ℕ)
 
     passes_so : (a : Action) (edit : Edit) (w : List ℕ) (r : Bool) (u : Option ℕ) → Makes g a edit → Does n ls ra (effect false edit k w) (passes (here w r u) a)
     passes_so (action.Block i) (block m) w r u is = (refl, record { hold = h; replaced = r; used = u; turns = tu; is = ap (λ j. within ls n w h r ra u j tu) is })
-    passes_so action.Delete delete w r u is = (refl, record { hold = h; replaced = r; used = u; turns = tu; is = refl })
+    passes_so (action.Plain simple.Delete) delete w r u is = (refl, record { hold = h; replaced = r; used = u; turns = tu; is = refl })
     passes_so (action.Substitute i) (change f) w r u is = (refl, record { hold = h; replaced = r; used = u; turns = tu; is = refl })
     passes_so (action.Transliterate i) (change f) w r u is = (refl, record { hold = h; replaced = r; used = u; turns = tu; is = refl })
     passes_so a edit w r u is = absurd is

@@ -6,6 +6,9 @@ use Rattle.sedre.specs.Written.{WrittenExpression, expression_tree}
 use Rattle.sedre.specs.Tree.{Tree}
 use Rattle.sedre.specs.declared.types.Kind.TheVariants.{Basic}
 use Rattle.sedscript.specs.declared.types.Action.TheVariants as action
+use Rattle.sedscript.specs.declared.types.Simple.TheVariants as simple
+use Rattle.sedscript.specs.declared.types.BranchUse.TheVariants.{Always}
+use Rattle.sedscript.specs.declared.types.FileUse.TheVariants.{Write}
 use Rattle.sedscript.specs.declared.types.Address.TheVariants.{Line, Last, Match}
 use Rattle.sedscript.specs.declared.substitution.Piece.{Piece}
 use Rattle.sedscript.specs.Addresses.{address_at, match_at, second_at, addresses_at}
@@ -64,38 +67,38 @@ empty_means : Means (codes "") Basic 65536 (of_commands [] [])
 unfolding verdict cutting walked item_at past function_at addresses_at address_at second_at text_from name_from
 empty_means = meant _ _ refl
 
-print_means' : Means (codes "p") Basic 65536 (of_commands (always action.Print ∷ []) [])
+print_means' : Means (codes "p") Basic 65536 (of_commands (always (action.Plain simple.Print) ∷ []) [])
 unfolding verdict cutting walked item_at past function_at addresses_at address_at second_at text_from name_from
 print_means' = meant _ _ refl
 
-number_means : Means (codes "=") Basic 65536 (of_commands (always action.LineNumber ∷ []) [])
+number_means : Means (codes "=") Basic 65536 (of_commands (always (action.Plain simple.LineNumber) ∷ []) [])
 unfolding verdict cutting walked item_at past function_at addresses_at address_at second_at text_from name_from
 number_means = meant _ _ refl
 
-not_last_means : Means (codes "$!d") Basic 65536 (of_commands (unless (at Last action.Delete) ∷ []) [])
+not_last_means : Means (codes "$!d") Basic 65536 (of_commands (unless (at Last (action.Plain simple.Delete)) ∷ []) [])
 unfolding verdict cutting walked item_at past function_at addresses_at address_at second_at text_from name_from
 not_last_means = meant _ _ refl
 
-last_means : Means (codes "$p") Basic 65536 (of_commands (at Last action.Print ∷ []) [])
+last_means : Means (codes "$p") Basic 65536 (of_commands (at Last (action.Plain simple.Print) ∷ []) [])
 unfolding verdict cutting walked item_at past function_at addresses_at address_at second_at text_from name_from
 last_means = meant _ _ refl
 
-half_means : Means (codes "n;d") Basic 65536 (of_commands (always action.NextLine ∷ always action.Delete ∷ []) [])
+half_means : Means (codes "n;d") Basic 65536 (of_commands (always (action.Plain simple.NextLine) ∷ always (action.Plain simple.Delete) ∷ []) [])
 unfolding verdict cutting walked item_at past function_at addresses_at address_at second_at text_from name_from
 half_means = meant _ _ refl
 
 abbrev pub turned_program : Program
-turned_program = of_commands (unless (at (Line 1) action.AppendHold) ∷ always action.Hold ∷ unless (at Last action.Delete) ∷ []) []
+turned_program = of_commands (unless (at (Line 1) (action.Plain simple.AppendHold)) ∷ always (action.Plain simple.Hold) ∷ unless (at Last (action.Plain simple.Delete)) ∷ []) []
 
 pub turned_means : Means (codes "1!G;h;$!d") Basic 65536 turned_program
 unfolding verdict cutting walked item_at past function_at addresses_at address_at second_at text_from name_from
 turned_means = meant _ _ refl
 
-pairs_means : Means (codes "$!N;P;D") Basic 65536 (of_commands (unless (at Last action.AppendNext) ∷ always action.PrintFirst ∷ always action.DeleteFirst ∷ []) [])
+pairs_means : Means (codes "$!N;P;D") Basic 65536 (of_commands (unless (at Last (action.Plain simple.AppendNext)) ∷ always (action.Plain simple.PrintFirst) ∷ always (action.Plain simple.DeleteFirst) ∷ []) [])
 unfolding verdict cutting walked item_at past function_at addresses_at address_at second_at text_from name_from
 pairs_means = meant _ _ refl
 
-file_means : Means (codes "w f") Basic 65536 (of_commands (always (action.WriteFile 1) ∷ []) (codes "f" ∷ []))
+file_means : Means (codes "w f") Basic 65536 (of_commands (always (action.File Write 1) ∷ []) (codes "f" ∷ []))
 unfolding verdict cutting walked item_at past function_at addresses_at address_at second_at text_from name_from
 file_means = meant _ _ refl
 
@@ -110,32 +113,32 @@ module _ (one : OneMeaning) where
 
   pub print_law : (input : List ℕ) → Writes false (codes "p") input (flat_map (λ line. line ∷ line ∷ []) (lines input)) × Writes true (codes "p") input (lines input)
   print_law input = (
-    sends one false (codes "p") input (to_sink 0 (text_of (flat_map (λ line. line ∷ line ∷ []) (lines input)))) (of_commands (always action.Print ∷ []) []) print_means' (λ es files same. twice_run (finds_in es) (search_in es) files (lines input) 0 0),
-    sends one true (codes "p") input (to_sink 0 (text_of (lines input))) (of_commands (always action.Print ∷ []) []) print_means' (λ es files same. once_run (finds_in es) (search_in es) files (lines input) 0 0),
+    sends one false (codes "p") input (to_sink 0 (text_of (flat_map (λ line. line ∷ line ∷ []) (lines input)))) (of_commands (always (action.Plain simple.Print) ∷ []) []) print_means' (λ es files same. twice_run (finds_in es) (search_in es) files (lines input) 0 0),
+    sends one true (codes "p") input (to_sink 0 (text_of (lines input))) (of_commands (always (action.Plain simple.Print) ∷ []) []) print_means' (λ es files same. once_run (finds_in es) (search_in es) files (lines input) 0 0),
   )
 
   pub number_law : (input : List ℕ) → Writes false (codes "=") input (numbered 1 (lines input))
-  number_law input = sends one false (codes "=") input (to_sink 0 (text_of (numbered 1 (lines input)))) (of_commands (always action.LineNumber ∷ []) []) number_means (λ es files same. number_run (finds_in es) (search_in es) files (lines input) 0 0)
+  number_law input = sends one false (codes "=") input (to_sink 0 (text_of (numbered 1 (lines input)))) (of_commands (always (action.Plain simple.LineNumber) ∷ []) []) number_means (λ es files same. number_run (finds_in es) (search_in es) files (lines input) 0 0)
 
   pub last_law : (input : List ℕ) → Writes false (codes "$!d") input (drop (length (lines input) - 1) (lines input)) × Writes true (codes "$p") input (drop (length (lines input) - 1) (lines input))
   last_law input = (
-    sends one false (codes "$!d") input (to_sink 0 (text_of (drop (length (lines input) - 1) (lines input)))) (of_commands (unless (at Last action.Delete) ∷ []) []) not_last_means (λ es files same. delete_run (finds_in es) (search_in es) files (lines input) 0 0),
-    sends one true (codes "$p") input (to_sink 0 (text_of (drop (length (lines input) - 1) (lines input)))) (of_commands (at Last action.Print ∷ []) []) last_means (λ es files same. print_run (finds_in es) (search_in es) files (lines input) 0 0),
+    sends one false (codes "$!d") input (to_sink 0 (text_of (drop (length (lines input) - 1) (lines input)))) (of_commands (unless (at Last (action.Plain simple.Delete)) ∷ []) []) not_last_means (λ es files same. delete_run (finds_in es) (search_in es) files (lines input) 0 0),
+    sends one true (codes "$p") input (to_sink 0 (text_of (drop (length (lines input) - 1) (lines input)))) (of_commands (at Last (action.Plain simple.Print) ∷ []) []) last_means (λ es files same. print_run (finds_in es) (search_in es) files (lines input) 0 0),
   )
 
   pub half_law : (input : List ℕ) → Writes false (codes "n;d") input (odd_ones (lines input))
-  half_law input = sends one false (codes "n;d") input (to_sink 0 (text_of (odd_ones (lines input)))) (of_commands (always action.NextLine ∷ always action.Delete ∷ []) []) half_means (λ es files same. half_run (finds_in es) (search_in es) files (lines input) 0 0)
+  half_law input = sends one false (codes "n;d") input (to_sink 0 (text_of (odd_ones (lines input)))) (of_commands (always (action.Plain simple.NextLine) ∷ always (action.Plain simple.Delete) ∷ []) []) half_means (λ es files same. half_run (finds_in es) (search_in es) files (lines input) 0 0)
 
   pub turned_law : (input : List ℕ) → Writes false (codes "1!G;h;$!d") input (reverse (lines input))
-  turned_law input = sends one false (codes "1!G;h;$!d") input (to_sink 0 (text_of (reverse (lines input)))) (of_commands (unless (at (Line 1) action.AppendHold) ∷ always action.Hold ∷ unless (at Last action.Delete) ∷ []) []) turned_means (λ es files same. turned_run (finds_in es) (search_in es) files (lines input))
+  turned_law input = sends one false (codes "1!G;h;$!d") input (to_sink 0 (text_of (reverse (lines input)))) (of_commands (unless (at (Line 1) (action.Plain simple.AppendHold)) ∷ always (action.Plain simple.Hold) ∷ unless (at Last (action.Plain simple.Delete)) ∷ []) []) turned_means (λ es files same. turned_run (finds_in es) (search_in es) files (lines input))
 
   pub pairs_law : (input : List ℕ) → Writes false (codes "$!N;P;D") input (lines input)
-  pairs_law input = sends one false (codes "$!N;P;D") input (to_sink 0 (text_of (lines input))) (of_commands (unless (at Last action.AppendNext) ∷ always action.PrintFirst ∷ always action.DeleteFirst ∷ []) []) pairs_means (λ es files same. pair_run (finds_in es) (search_in es) files (lines input) (lines_none_broken input))
+  pairs_law input = sends one false (codes "$!N;P;D") input (to_sink 0 (text_of (lines input))) (of_commands (unless (at Last (action.Plain simple.AppendNext)) ∷ always (action.Plain simple.PrintFirst) ∷ always (action.Plain simple.DeleteFirst) ∷ []) []) pairs_means (λ es files same. pair_run (finds_in es) (search_in es) files (lines input) (lines_none_broken input))
 
   -- ---- numbers
 
   first_run : (n : ℕ) (input : List ℕ) → suc n < 2 ^ 64 → Writes false (decimal (suc n) ++ codes "q") input (take (suc n) (lines input))
-  first_run n input h = sends one false (decimal (suc n) ++ codes "q") input (to_sink 0 (text_of (take (suc n) (lines input)))) (of_commands (at (Line (suc n)) action.Quit ∷ []) []) (quit_means n h)
+  first_run n input h = sends one false (decimal (suc n) ++ codes "q") input (to_sink 0 (text_of (take (suc n) (lines input)))) (of_commands (at (Line (suc n)) (action.Plain simple.Quit) ∷ []) []) (quit_means n h)
       (λ es files same. quit_run (finds_in es) (search_in es) files (suc n) n (lines input) 0 0 (omega arith))
 
   pub first_law : (n : ℕ) (input : List ℕ) → 0 < n → n < 2 ^ 64 → Writes false (decimal n ++ codes "q") input (take n (lines input))
@@ -144,7 +147,7 @@ module _ (one : OneMeaning) where
 
   cut_out : (n m : ℕ) (input : List ℕ) → n < m → suc n < 2 ^ 64 → suc m < 2 ^ 64 → Writes false (decimal (suc n) ++ (codes "," ++ (decimal (suc m) ++ codes "d"))) input (take n (lines input) ++ drop (suc m) (lines input))
   cut_out n m input less h k =
-      sends one false (decimal (suc n) ++ (codes "," ++ (decimal (suc m) ++ codes "d"))) input (to_sink 0 (text_of (take n (lines input) ++ drop (suc m) (lines input)))) (of_commands (from_to (Line (suc n)) (Line (suc m)) action.Delete ∷ []) []) (cut_means n m h k)
+      sends one false (decimal (suc n) ++ (codes "," ++ (decimal (suc m) ++ codes "d"))) input (to_sink 0 (text_of (take n (lines input) ++ drop (suc m) (lines input)))) (of_commands (from_to (Line (suc n)) (Line (suc m)) (action.Plain simple.Delete) ∷ []) []) (cut_means n m h k)
       (λ es files same. cut_run (finds_in es) (search_in es) files (suc n) (suc m) n m (lines input) 0 0 (omega arith) (omega arith) less)
 
   pub cut_law : (n m : ℕ) (input : List ℕ) → 0 < n → n < m → m < 2 ^ 64 → Writes false (decimal n ++ (codes "," ++ (decimal m ++ codes "d"))) input (take (n - 1) (lines input) ++ drop m (lines input))
@@ -162,8 +165,8 @@ module _ (one : OneMeaning) where
   pub without_law : (re : List ℕ) (t : Tree) (groups : ℕ) (input : List ℕ) → IsSlashed re t groups →
       Writes false (codes "/" ++ (re ++ codes "/d")) input (filter (has_none t) (lines input)) × Writes true (codes "/" ++ (re ++ codes "/!p")) input (filter (has_none t) (lines input))
   without_law re t groups input is =
-      let deletes = with_expression (written t groups) (of_commands (at (Match (Some 0)) action.Delete ∷ []) []) in
-      let prints = with_expression (written t groups) (of_commands (unless (at (Match (Some 0)) action.Print) ∷ []) []) in (
+      let deletes = with_expression (written t groups) (of_commands (at (Match (Some 0)) (action.Plain simple.Delete) ∷ []) []) in
+      let prints = with_expression (written t groups) (of_commands (unless (at (Match (Some 0)) (action.Plain simple.Print)) ∷ []) []) in (
         sends one false (codes "/" ++ (re ++ codes "/d")) input (to_sink 0 (text_of (filter (has_none t) (lines input)))) deletes (delete_means re t groups is)
             (λ es files same.
             let e = one_alone t es (ap (λ t. t ∷ []) (sym (tree_of_written t groups)) ∙ same) in
@@ -197,7 +200,7 @@ module _ (one : OneMeaning) where
   -- ---- `:a;$!{N;ba;};s/\n/,/g`
 
   abbrev joining : Program
-  joining = with_expression (written newline_alone 0) (record (of_commands (unless (at Last (action.Block 3)) ∷ always action.AppendNext ∷ always (action.Branch 0) ∷ always (action.Substitute 0) ∷ []) []) {
+  joining = with_expression (written newline_alone 0) (record (of_commands (unless (at Last (action.Block 3)) ∷ always (action.Plain simple.AppendNext) ∷ always (action.Branch Always 0) ∷ always (action.Substitute 0) ∷ []) []) {
     substitutions = replacing 1 true (Literal 44 ∷ []) ∷ [];
   })
 
@@ -261,7 +264,7 @@ module _ (one : OneMeaning) where
   file_law input =
       let out : List (ℕ × ℕ) = twofold (λ j w. false) (λ j w from. None) (λ j. []) (lines input) in (
         out,
-        sends one false (codes "w f") input out (of_commands (always (action.WriteFile 1) ∷ []) (codes "f" ∷ [])) file_means (λ es files same. tee_run (finds_in es) (search_in es) files (lines input) 0 0),
+        sends one false (codes "w f") input out (of_commands (always (action.File Write 1) ∷ []) (codes "f" ∷ [])) file_means (λ es files same. tee_run (finds_in es) (search_in es) files (lines input) 0 0),
         part_of_lines 1 (inr refl) (lines input),
         part_of_lines 0 (inl refl) (lines input),
       )

@@ -2,7 +2,8 @@
 use Rattle.std.proofs.Common.{◌≡◌, ℕ, ◌+◌, List, [], ◌∷◌, ◌++◌, length, map, Bool, true, false, not, cond, Option, None, Some, refl, subst, append-nil}
 use Rattle.std.specs.List.{filter}
 use Rattle.sedscript.specs.declared.types.Command.{Command}
-use Rattle.sedscript.specs.declared.types.Action.TheVariants.{Delete, Print, Substitute, Transliterate}
+use Rattle.sedscript.specs.declared.types.Action.TheVariants.{Plain, Substitute, Transliterate}
+use Rattle.sedscript.specs.declared.types.Simple.TheVariants.{Delete, Print}
 use Rattle.sedscript.specs.declared.types.Address.TheVariants.{Match}
 use Rattle.sedscript.specs.declared.substitution.Piece.{Piece}
 use Rattle.sedscript.specs.declared.substitution.Substitution.{Substitution}
@@ -46,10 +47,10 @@ module _ (finds : ℕ → List ℕ → Bool) (search : ℕ → List ℕ → ℕ 
   -- ---- `/RE/d`, and `/RE/!p` with -n
 
   abbrev pub deletes : Setting
-  deletes = seeks false (at (Match (Some 0)) Delete ∷ []) [] []
+  deletes = seeks false (at (Match (Some 0)) (Plain Delete) ∷ []) [] []
 
   abbrev pub prints : Setting
-  prints = seeks true (unless (at (Match (Some 0)) Print) ∷ []) [] []
+  prints = seeks true (unless (at (Match (Some 0)) (Plain Print)) ∷ []) [] []
 
   abbrev kept : Bool → List ℕ → List (List ℕ)
   kept true line = []

@@ -5,7 +5,8 @@ use Rattle.std.specs.List.{list_any}
 use Rattle.std.proofs.lemmas.Bool.Decides.{nat_tests}
 use Rattle.std.proofs.lemmas.Grind.{reverse_onto}
 use Rattle.sedspace.specs.Lines.{is_newline}
-use Rattle.sedscript.specs.declared.types.Action.TheVariants.{AppendHold, Hold, Delete, AppendNext, PrintFirst, DeleteFirst}
+use Rattle.sedscript.specs.declared.types.Action.TheVariants.{Plain}
+use Rattle.sedscript.specs.declared.types.Simple.TheVariants.{AppendHold, AppendNext, Delete, DeleteFirst, Hold, PrintFirst}
 use Rattle.sedscript.specs.declared.types.Address.TheVariants.{Last, Line}
 use Rattle.sedengine.specs.State.{begin, rebegin, do_at, flush, State, Setting}
 use Rattle.sedengine.specs.Substitute.{Occurrence}
@@ -21,7 +22,7 @@ use Rattle.scripts.proofs.LineLaws.{NoneBroken}
 
 module _ (finds : ℕ → List ℕ → Bool) (search : ℕ → List ℕ → ℕ → Option Occurrence) (files : ℕ → List ℕ) where
   abbrev pub turns_round : Setting
-  turns_round = runs finds search files false (unless (at (Line 1) AppendHold) ∷ always Hold ∷ unless (at Last Delete) ∷ [])
+  turns_round = runs finds search files false (unless (at (Line 1) (Plain AppendHold)) ∷ always (Plain Hold) ∷ unless (at Last (Plain Delete)) ∷ [])
 
   abbrev held_at : List (List ℕ) → ℕ → List ℕ → ℕ → State
   held_at lines number hold turns = between lines number hold false (false ∷ false ∷ false ∷ []) None turns
@@ -82,7 +83,7 @@ module _ (finds : ℕ → List ℕ → Bool) (search : ℕ → List ℕ → ℕ 
   -- ---- `$!N;P;D`
 
   abbrev pub pairs : Setting
-  pairs = runs finds search files false (unless (at Last AppendNext) ∷ always PrintFirst ∷ always DeleteFirst ∷ [])
+  pairs = runs finds search files false (unless (at Last (Plain AppendNext)) ∷ always (Plain PrintFirst) ∷ always (Plain DeleteFirst) ∷ [])
 
   abbrev pair_at : ℕ → List (List ℕ) → ℕ → List ℕ → ℕ → State
   pair_at k lines number pattern turns = record (between lines number [] false (false ∷ false ∷ false ∷ []) None turns) { pattern = pattern; tasks = do_at k ∷ [] }

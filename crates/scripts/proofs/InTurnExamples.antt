@@ -11,6 +11,8 @@ use Rattle.sedre.specs.Written.{tree_at, tree_within}
 use Rattle.sedre.specs.Brackets.{list_at, list_end}
 use Rattle.sedre.specs.declared.types.Kind.TheVariants.{Basic}
 use Rattle.sedscript.specs.declared.types.Action.TheVariants as action
+use Rattle.sedscript.specs.declared.types.Simple.TheVariants as simple
+use Rattle.sedscript.specs.declared.types.FileUse.TheVariants.{Write}
 use Rattle.sedscript.specs.declared.types.Address.TheVariants.{Match}
 use Rattle.sedscript.specs.declared.types.Reason.TheVariants.{RepeatedLabel}
 use Rattle.sedscript.specs.declared.substitution.Piece.TheVariants.{Literal}
@@ -44,7 +46,7 @@ abbrev byte : ℕ → Tree
 byte b = set (only b)
 
 abbrev first : Program
-first = record (of_commands (at (Match (Some 0)) action.Delete ∷ always (action.Substitute 0) ∷ []) []) {
+first = record (of_commands (at (Match (Some 0)) (action.Plain simple.Delete) ∷ always (action.Substitute 0) ∷ []) []) {
   expressions = written (byte 120) 0 ∷ written (byte 97) 0 ∷ [];
   substitutions = substitution (Some 1) (Literal 98 ∷ []) ∷ [];
 }
@@ -146,7 +148,7 @@ both_quiet = is_script (ends_after 60 refl refl)
 
 -- ---- a file that both write: it has one number
 
-both_files : Means (codes "w f\nw f") Basic 65536 (of_commands (always (action.WriteFile 1) ∷ always (action.WriteFile 1) ∷ []) (codes "f" ∷ []))
+both_files : Means (codes "w f\nw f") Basic 65536 (of_commands (always (action.File Write 1) ∷ always (action.File Write 1) ∷ []) (codes "f" ∷ []))
 unfolding verdict cutting walked item_at past function_at addresses_at address_at second_at text_from name_from
 both_files = meant _ _ refl
 

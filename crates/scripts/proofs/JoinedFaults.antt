@@ -10,8 +10,8 @@ use Rattle.sedscript.specs.declared.types.Command.{Command}
 use Rattle.sedscript.specs.declared.substitution.Substitution.{Substitution}
 use Rattle.sedscript.specs.declared.items.Addresses.{Addresses}
 use Rattle.sedscript.specs.declared.items.Counts.{Counts}
-use Rattle.sedscript.specs.declared.items.BranchUse.{BranchUse}
-use Rattle.sedscript.specs.declared.items.FileUse.TheVariants.{Read, Write}
+use Rattle.sedscript.specs.declared.types.BranchUse.{BranchUse}
+use Rattle.sedscript.specs.declared.types.FileUse.TheVariants.{Read, Write}
 use Rattle.sedscript.specs.declared.items.Item.{Item}
 use Rattle.sedscript.specs.declared.items.Function.{Function}
 use Rattle.sedscript.specs.declared.items.Function.TheVariants.{Plain, Open, Close, Label, Branch, Text, File, Comment, Substitute, Transliterate}

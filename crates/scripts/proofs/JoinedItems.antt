@@ -8,29 +8,24 @@ use Rattle.sedscript.specs.declared.types.Action.TheVariants as action
 use Rattle.sedscript.specs.declared.types.Command.{Command}
 use Rattle.sedscript.specs.declared.substitution.Substitution.{Substitution}
 use Rattle.sedscript.specs.declared.items.Addresses.{Addresses}
-use Rattle.sedscript.specs.declared.items.BranchUse.{BranchUse}
-use Rattle.sedscript.specs.declared.items.BranchUse.TheVariants.{Always, IfReplaced}
+use Rattle.sedscript.specs.declared.types.BranchUse.{BranchUse}
 use Rattle.sedscript.specs.declared.items.Counts.{Counts}
 use Rattle.sedscript.specs.declared.items.Flags.{Flags}
-use Rattle.sedscript.specs.declared.items.Simple.{Simple}
-use Rattle.sedscript.specs.declared.items.Simple.TheVariants.{AppendHold, AppendNext, CopyHold, Delete, DeleteFirst, Exchange, Hold, HoldMore, LineNumber, List as ListSpace, NextLine, Print, PrintFirst, Quit}
 use Rattle.sedscript.specs.declared.items.Strings.{Strings}
-use Rattle.sedscript.specs.declared.items.TextUse.{TextUse}
-use Rattle.sedscript.specs.declared.items.TextUse.TheVariants.{Append, Insert, Change}
 use Rattle.sedscript.specs.declared.items.Item.{Item}
 use Rattle.sedscript.specs.declared.items.Function.{Function}
 use Rattle.sedscript.specs.declared.items.Function.TheVariants.{Plain, Open, Close, Label, Branch, Text, File, Comment, Substitute, Transliterate}
-use Rattle.sedscript.specs.declared.items.FileUse.{FileUse}
-use Rattle.sedscript.specs.declared.items.FileUse.TheVariants.{Read, Write}
+use Rattle.sedscript.specs.declared.types.FileUse.{FileUse}
+use Rattle.sedscript.specs.declared.types.FileUse.TheVariants.{Write}
 use Rattle.sedscript.specs.Files.{number_in}
 use Rattle.sedscript.specs.Bytes.{bytes_between}
 use Rattle.sedscript.specs.Replacement.{pieces_of}
 use Rattle.sedscript.specs.Targets.{becomes_command, counted, commands_in, is_open, is_close, depth_after, close_in, block_end, label_in}
 use Rattle.sedscript.specs.Transliteration.{chars_from, bytes_of, table_of}
-use Rattle.sedscript.specs.Script.{with_text, texts_of, with_substitution, substitutions_of, with_table, tables_of, substitution_of, sink_of, table_between, counts_with, action_of, simple_action, text_action, with_action, commands_of, unescaped_from, branch_action, file_action}
+use Rattle.sedscript.specs.Script.{with_text, texts_of, with_substitution, substitutions_of, with_table, tables_of, substitution_of, sink_of, table_between, counts_with, action_of, with_action, commands_of, unescaped_from}
 use Rattle.sedscript.proofs.Chars.{same_bytes}
 use Rattle.sedscript.proofs.Labels.{commands_snoc, counted_in}
-use Rattle.scripts.specs.InTurn.{Before, address_behind, action_behind, command_behind, substitution_behind, sink_behind}
+use Rattle.scripts.specs.InTurn.{Before, address_behind, action_behind, command_behind, substitution_behind, file_behind, sink_behind}
 use Rattle.scripts.proofs.LongerStrings.{NextOn}
 use Rattle.scripts.proofs.LongerFlags.{move_span, SpanIn, same_test, FileIn}
 use Rattle.scripts.proofs.LongerFunctions.{move_strings, move_function, StringsIn, FunctionIn}
@@ -56,11 +51,6 @@ BranchOn t all whole every more other = Unit {0}
 abbrev pub BranchesOn : (t : List ℕ) (all : List Item) (whole : List ℕ) (every : List Item) (more : ℕ) → List Item → Type 0
 BranchesOn t all whole every more [] = Unit {0}
 BranchesOn t all whole every more (i ∷ is) = BranchOn t all whole every more i.function × BranchesOn t all whole every more is
-
--- a file's number, where so many stand before
-abbrev pub file_behind : Before → FileUse → ℕ → ℕ
-file_behind b Read k = b.rfiles + k
-file_behind b Write k = sink_behind b k
 
 -- a name has the number that it has, where so many files stand before
 abbrev pub NumberOn : (t : List ℕ) (all : List Item) (whole : List ℕ) (every : List Item) → Before → FileUse → List ℕ → Type 0
@@ -120,35 +110,6 @@ module _ (base count : ℕ) where
       by_test false false same x y z f h = subst (NextOn more x) (sym f) h
       by_test true false same x y z f h = absurd cc
       by_test false true same x y z f h = absurd cc
-
-simple_same : (b : Before) (s : Simple) → action_behind b (simple_action s) ≡ simple_action s
-simple_same b AppendHold = refl
-simple_same b AppendNext = refl
-simple_same b CopyHold = refl
-simple_same b Delete = refl
-simple_same b DeleteFirst = refl
-simple_same b Exchange = refl
-simple_same b Hold = refl
-simple_same b HoldMore = refl
-simple_same b LineNumber = refl
-simple_same b ListSpace = refl
-simple_same b NextLine = refl
-simple_same b Print = refl
-simple_same b PrintFirst = refl
-simple_same b Quit = refl
-
-text_same : (b : Before) (u : TextUse) (k : ℕ) → action_behind b (text_action u k) ≡ text_action u (b.texts + k)
-text_same b Append k = refl
-text_same b Insert k = refl
-text_same b Change k = refl
-
-file_same : (b : Before) (u : FileUse) (k : ℕ) → action_behind b (file_action u k) ≡ file_action u (file_behind b u k)
-file_same b Read k = refl
-file_same b Write k = refl
-
-branch_same : (b : Before) (u : BranchUse) (k : ℕ) → action_behind b (branch_action u k) ≡ branch_action u (b.commands + k)
-branch_same b Always k = refl
-branch_same b IfReplaced k = refl
 
 address_same : (b : Before) (a : Option Address) → move_address b.expressions a ≡ address_behind b a
 address_same b None = refl
@@ -244,22 +205,21 @@ module _ (t whole : List ℕ) (base : ℕ) (b : Before) (between : (from to : �
   target_on false c d o r (inr h) = ap (λ (o : Option ℕ). unwrap_or o 0) h.3 ∙ sym (ap (λ (o : Option ℕ). b.commands + unwrap_or o 0) h.2)
 
   branch_on : (every all : List Item) (u : BranchUse) (from to : ℕ) → SpanIn (length t) (from, to) → BranchOn t all whole every b.commands (Branch u from to) →
-      branch_action u (if base + from == base + to then commands_in every else unwrap_or (label_in whole (bytes_between whole (base + from) (base + to)) 0 every) 0)
-      ≡ action_behind b (branch_action u (if from == to then commands_in all else unwrap_or (label_in t (bytes_between t from to) 0 all) 0))
+      action.Branch u (if base + from == base + to then commands_in every else unwrap_or (label_in whole (bytes_between whole (base + from) (base + to)) 0 every) 0)
+      ≡ action_behind b (action.Branch u (if from == to then commands_in all else unwrap_or (label_in t (bytes_between t from to) 0 all) 0))
   branch_on every all u from to span on =
-      ap₂ (λ s (bs : List ℕ). branch_action u (if s then commands_in every else unwrap_or (label_in whole bs 0 every) 0)) (same_test to from (base + to) (base + from) base refl refl) (between from to span.0 span.1)
-      ∙ (ap (branch_action u) (target_on (from == to) (commands_in all) (commands_in every) (label_in t (bytes_between t from to) 0 all) (label_in whole (bytes_between t from to) 0 every) on)
-      ∙ sym (branch_same b u (if from == to then commands_in all else unwrap_or (label_in t (bytes_between t from to) 0 all) 0)))
+      ap₂ (λ s (bs : List ℕ). action.Branch u (if s then commands_in every else unwrap_or (label_in whole bs 0 every) 0)) (same_test to from (base + to) (base + from) base refl refl) (between from to span.0 span.1)
+      ∙ ap (action.Branch u) (target_on (from == to) (commands_in all) (commands_in every) (label_in t (bytes_between t from to) 0 all) (label_in whole (bytes_between t from to) 0 every) on)
 
   action_on : (every all before there after rest : List Item) (n m : Counts) (f : Function) → commands_in there ≡ b.commands + commands_in before → Later b n m → FileOn t all whole every b f → ClosesIn f after → FunctionIn (length t) f → BranchOn t all whole every b.commands f →
       action_of whole every there m (map moved after ++ rest) (made f) ≡ option_map (action_behind b) (action_of t all before n after f)
-  action_on every all before there after rest n m (Plain s) e later k closes inner leads = ap (λ a. Some a) (sym (simple_same b s))
+  action_on every all before there after rest n m (Plain s) e later k closes inner leads = refl
   action_on every all before there after rest n m Open e later k closes inner leads = ap (λ a. Some a) (block_on before there after rest e closes)
-  action_on every all before there after rest n m (Text u from to) e later k closes inner leads = ap (λ a. Some a) (ap (text_action u) later.0 ∙ sym (text_same b u n.texts))
+  action_on every all before there after rest n m (Text u from to) e later k closes inner leads = ap (λ k. Some (action.Text u k)) later.0
   action_on every all before there after rest n m (Substitute s e f) same later k closes inner leads = ap (λ k. Some (action.Substitute k)) later.1
   action_on every all before there after rest n m (Transliterate s) e later k closes inner leads = ap (λ k. Some (action.Transliterate k)) later.2
   action_on every all before there after rest n m (Branch u from to) e later k closes inner leads = ap (λ a. Some a) (branch_on every all u from to inner leads)
-  action_on every all before there after rest n m (File u from to) e later k closes inner leads = ap (λ a. Some a) (ap (file_action u) (ap (number_in u whole every) (between from to inner.0 inner.1) ∙ k) ∙ sym (file_same b u (number_in u t all (bytes_between t from to))))
+  action_on every all before there after rest n m (File u from to) e later k closes inner leads = ap (λ k. Some (action.File u k)) (ap (number_in u whole every) (between from to inner.0 inner.1) ∙ k)
   action_on every all before there after rest n m Close e later k closes inner leads = refl
   action_on every all before there after rest n m (Label from to) e later k closes inner leads = refl
   action_on every all before there after rest n m Comment e later k closes inner leads = refl

@@ -9,26 +9,26 @@ use Rattle.sedre.specs.declared.types.Kind.{Kind}
 use Rattle.sedscript.specs.declared.types.Command.{Command}
 use Rattle.sedscript.specs.declared.substitution.Substitution.{Substitution}
 use Rattle.sedscript.specs.declared.items.Counts.{Counts}
-use Rattle.sedscript.specs.declared.items.BranchUse.{BranchUse}
-use Rattle.sedscript.specs.declared.items.BranchUse.TheVariants.{Always, IfReplaced}
-use Rattle.sedscript.specs.declared.items.FileUse.{FileUse}
-use Rattle.sedscript.specs.declared.items.FileUse.TheVariants.{Read, Write}
+use Rattle.sedscript.specs.declared.types.BranchUse.{BranchUse}
+use Rattle.sedscript.specs.declared.types.Action.TheVariants as action
+use Rattle.sedscript.specs.declared.types.FileUse.{FileUse}
+use Rattle.sedscript.specs.declared.types.FileUse.TheVariants.{Read, Write}
 use Rattle.sedscript.specs.declared.items.Item.{Item}
 use Rattle.sedscript.specs.declared.items.Function.{Function}
 use Rattle.sedscript.specs.declared.items.Function.TheVariants.{Plain, Open, Close, Label, Branch, Text, File, Comment, Substitute, Transliterate}
 use Rattle.sedscript.specs.Bytes.{bytes_between}
 use Rattle.sedscript.specs.Files.{distinct, files_in, number_in}
 use Rattle.sedscript.specs.Targets.{becomes_command, commands_in, is_label, label_in, target_fault_in, depth_after, target_fault_at}
-use Rattle.sedscript.specs.Script.{CutScript, IsEnd, Means, action_of, with_action, commands_of, counts_with, none_counted, texts_of, substitutions_of, tables_of, is_quiet, branch_action}
+use Rattle.sedscript.specs.Script.{CutScript, IsEnd, Means, action_of, with_action, commands_of, counts_with, none_counted, texts_of, substitutions_of, tables_of, is_quiet}
 use Rattle.sedscript.specs.Program.{Program}
 use Rattle.scripts.specs.InTurn.{all_of, command_behind, substitution_behind, in_turn}
 use Rattle.scripts.specs.OneText.{leads_inside, EachLeadsInside, ShareNoFile, apart as apart_names, ShareNoLabel}
 use Rattle.scripts.proofs.LongerText.{between_on}
 use Rattle.scripts.proofs.LongerReading.{move_item}
-use Rattle.scripts.proofs.NoneBefore.{same_sink, none_before, same_commands, same_substitutions}
+use Rattle.scripts.proofs.NoneBefore.{same_file_number, none_before, same_commands, same_substitutions}
 use Rattle.scripts.proofs.JoinedCuts.{ItemsIn, same_text, joined_cut}
 use Rattle.scripts.proofs.LongerStrings.{NextOn}
-use Rattle.scripts.proofs.JoinedItems.{AllClose, texts_on, tables_on, substitutions_on, Stands, Reaches, commands_on, BranchOn, BranchesOn, FilesOn, file_behind}
+use Rattle.scripts.proofs.JoinedItems.{AllClose, texts_on, tables_on, substitutions_on, Stands, Reaches, commands_on, BranchOn, BranchesOn, FilesOn}
 use Rattle.sedscript.proofs.FileTables.{any_distinct}
 use Rattle.scripts.proofs.JoinedFiles.{Disjoint, disjoint, distinct_both, file_names, files_of, files_on, names_there, none_distinct, number_behind, number_front}
 use Rattle.scripts.proofs.JoinedFaults.{all_close, none_open, none_named, names, LabelIs, LabelsAre, faults_on, or_parts, parts_of, Passes, leads_somewhere, label_on, label_skip, commands_moved, names_on}
@@ -148,9 +148,8 @@ module _ (a b : List ℕ) (kind : Kind) (m : ℕ) (p q : Program) (h : Means a k
   next_at more k None r h e = absurd cc
   next_at more k (Some i) r h e = let same : i ≡ k = cc in h ∙ ap (λ k. Some (more + k)) same
 
-  pass_less : (u : BranchUse) (to : ℕ) → leads_inside p (branch_action u to) ≡ true → to ≡ commands_in is → ⊥
-  pass_less Always to h e = let less : nat_lt to (length p.commands) ≡ true = h in not_less to (length p.commands) (e ∙ sym long) less
-  pass_less IfReplaced to h e = let less : nat_lt to (length p.commands) ≡ true = h in not_less to (length p.commands) (e ∙ sym long) less
+  pass_less : (u : BranchUse) (to : ℕ) → leads_inside p (action.Branch u to) ≡ true → to ≡ commands_in is → ⊥
+  pass_less u to h e = let less : nat_lt to (length p.commands) ≡ true = h in not_less to (length p.commands) (e ∙ sym long) less
 
   first_branch : (before after : List Item) (depth : ℕ) (n : Counts) (place : ℕ) (f : Function) → target_fault_at a is before depth after place f ≡ None → Passes (leads_inside p) (action_of a is before n after f) → BranchOn a is joined every 0 f
   first_branch before after depth n place (Branch u from to) e pass = by_end (leads_somewhere a is before depth after place u from to e)
@@ -257,11 +256,7 @@ module _ (a b : List ℕ) (kind : Kind) (m : ℕ) (p q : Program) (h : Means a k
   files u = ap distinct (names_both u) ∙ distinct_both (file_names u a is) (file_names u b js) (none_shared u)
 
   files_p : FilesOn a is joined every none_before is
-  files_p = files_on a is joined every none_before is (λ u name among. number_front u a joined is every (files_in u b js) name (files u) (λ e. any_distinct name (file_names u a is) (among e)) ∙ sym (same u (number_in u a is name)))
-    where
-      same : (u : FileUse) (k : ℕ) → file_behind none_before u k ≡ k
-      same Read k = zero-add k
-      same Write k = same_sink k
+  files_p = files_on a is joined every none_before is (λ u name among. number_front u a joined is every (files_in u b js) name (files u) (λ e. any_distinct name (file_names u a is) (among e)) ∙ sym (same_file_number u (number_in u a is name)))
 
   files_q : FilesOn b js joined every (all_of p) js
   files_q =

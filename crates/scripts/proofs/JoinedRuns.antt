@@ -9,7 +9,7 @@ use Rattle.sedre.specs.declared.types.Kind.{Kind}
 use Rattle.sedre.specs.declared.types.Kind.TheVariants.{Basic}
 use Rattle.sedmatch.specs.Matching.{found}
 use Rattle.sedscript.specs.declared.types.Action.{Action}
-use Rattle.sedscript.specs.declared.types.Action.TheVariants.{Branch, Test}
+use Rattle.sedscript.specs.declared.types.Action.TheVariants.{Branch}
 use Rattle.sedscript.specs.declared.types.Command.{Command}
 use Rattle.sedscript.specs.Script.{Means, none_counted}
 use Rattle.sedscript.specs.Program.{Program}
@@ -27,7 +27,7 @@ use Rattle.scripts.specs.OneText.{EditInTurn, LacksNewline, EachLeadsInside, Sha
 use Rattle.scripts.specs.Words.{match_with}
 use Rattle.scripts.proofs.Links.{OneMeaning, found_by, sends}
 use Rattle.scripts.proofs.Placing.{in_turn_law}
-use Rattle.sedscript.specs.declared.items.FileUse.TheVariants.{Read, Write}
+use Rattle.sedscript.specs.declared.types.FileUse.TheVariants.{Read, Write}
 use Rattle.scripts.proofs.JoinedFaults.{NoFiles, no_files_all}
 use Rattle.scripts.proofs.JoinedFiles.{no_files}
 use Rattle.scripts.proofs.JoinedMeans.{ShareNone, means_in_turn, share_none}
@@ -63,8 +63,7 @@ module _ (es fs : List WrittenExpression) (same : map expression_tree es ≡ map
 
 -- scripts that only edit have no branch and no file
 leads_if_edits : (p : Program) (a : Action) → edits p a ≡ true → leads_inside p a ≡ true
-leads_if_edits p (Branch n) h = absurd cc
-leads_if_edits p (Test n) h = absurd cc
+leads_if_edits p (Branch u n) h = absurd cc
 leads_if_edits p other h = refl
 
 passes_if_edits : (test : Action → Bool) (counts : Bool) (p : Program) (cs : List Command) → ((a : Action) → edits p a ≡ true → test a ≡ true) → list_all (only_edits counts p) cs ≡ true → list_all (λ (c : Command). test c.action) cs ≡ true

@@ -6,7 +6,9 @@ use Rattle.std.proofs.lemmas.List.{map-append}
 use Rattle.std.proofs.lemmas.Bool.Decides.{nat_tests}
 use Rattle.std.proofs.Math.Seq.{drop-append_seam, take-append_seam}
 use Rattle.sedspace.specs.Lines.{is_newline}
-use Rattle.sedscript.specs.declared.types.Action.TheVariants.{Block, AppendNext, Branch, Substitute}
+use Rattle.sedscript.specs.declared.types.Action.TheVariants.{Block, Branch, Plain, Substitute}
+use Rattle.sedscript.specs.declared.types.BranchUse.TheVariants.{Always}
+use Rattle.sedscript.specs.declared.types.Simple.TheVariants.{AppendNext}
 use Rattle.sedscript.specs.declared.types.Address.TheVariants.{Last}
 use Rattle.sedscript.specs.declared.substitution.Piece.{Piece}
 use Rattle.sedscript.specs.declared.substitution.Piece.TheVariants.{Literal}
@@ -97,7 +99,7 @@ module _ (search : ℕ → List ℕ → ℕ → Option Occurrence) (seeks_them :
 
   module _ (finds : ℕ → List ℕ → Bool) (files : ℕ → List ℕ) where
     abbrev pub joins_all : Setting
-    joins_all = seeks finds search files false (unless (at Last (Block 3)) ∷ always AppendNext ∷ always (Branch 0) ∷ always (Substitute 0) ∷ []) (replacing 1 true commas ∷ []) []
+    joins_all = seeks finds search files false (unless (at Last (Block 3)) ∷ always (Plain AppendNext) ∷ always (Branch Always 0) ∷ always (Substitute 0) ∷ []) (replacing 1 true commas ∷ []) []
 
     abbrev loop_at : List (List ℕ) → ℕ → List ℕ → ℕ → ℕ → State
     loop_at lines number pattern k turns = within lines number pattern [] false (false ∷ false ∷ false ∷ false ∷ []) None k turns

@@ -5,9 +5,9 @@ use Rattle.std.proofs.lemmas.Option.{slice_get_within}
 use Rattle.sedscript.specs.declared.bytes.Sort.TheVariants.{Blank, Name, Line}
 use Rattle.sedscript.specs.declared.types.ScriptFault.{ScriptFault}
 use Rattle.sedscript.specs.declared.types.Reason.TheVariants.{MissingLabel, TrailingBytes}
-use Rattle.sedscript.specs.declared.items.TextUse.{TextUse}
-use Rattle.sedscript.specs.declared.items.FileUse.{FileUse}
-use Rattle.sedscript.specs.declared.items.BranchUse.{BranchUse}
+use Rattle.sedscript.specs.declared.types.TextUse.{TextUse}
+use Rattle.sedscript.specs.declared.types.FileUse.{FileUse}
+use Rattle.sedscript.specs.declared.types.BranchUse.{BranchUse}
 use Rattle.sedscript.specs.declared.items.Strings.{Strings}
 use Rattle.sedscript.specs.declared.items.Function.{Function}
 use Rattle.sedscript.specs.declared.items.Function.TheVariants.{Plain, Open, Close, Label, Branch, Text, File, Comment, Substitute, Transliterate}

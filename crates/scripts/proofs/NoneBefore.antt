@@ -4,9 +4,11 @@ use Rattle.sedscript.specs.declared.types.Address.{Address}
 use Rattle.sedscript.specs.declared.types.Address.TheVariants.{Match, Line, Last}
 use Rattle.sedscript.specs.declared.types.Action.{Action}
 use Rattle.sedscript.specs.declared.types.Action.TheVariants as action
+use Rattle.sedscript.specs.declared.types.FileUse.{FileUse}
+use Rattle.sedscript.specs.declared.types.FileUse.TheVariants.{Read, Write}
 use Rattle.sedscript.specs.declared.types.Command.{Command}
 use Rattle.sedscript.specs.declared.substitution.Substitution.{Substitution}
-use Rattle.scripts.specs.InTurn.{Before, address_behind, action_behind, command_behind, sink_behind, substitution_behind}
+use Rattle.scripts.specs.InTurn.{Before, address_behind, file_behind, action_behind, command_behind, sink_behind, substitution_behind}
 
 abbrev pub none_before : Before
 none_before = record { commands = 0; expressions = 0; texts = 0; substitutions = 0; tables = 0; rfiles = 0; wfiles = 0 }
@@ -22,17 +24,17 @@ pub same_sink : (k : ℕ) → sink_behind none_before k ≡ k
 same_sink zero = refl
 same_sink (suc k) = zero-add (suc k)
 
+pub same_file_number : (u : FileUse) (k : ℕ) → file_behind none_before u k ≡ k
+same_file_number Read k = zero-add k
+same_file_number Write k = same_sink k
+
 same_action : (a : Action) → action_behind none_before a ≡ a
 same_action (action.Block k) = ap action.Block (zero-add k)
-same_action (action.Branch k) = ap action.Branch (zero-add k)
-same_action (action.Test k) = ap action.Test (zero-add k)
-same_action (action.Append k) = ap action.Append (zero-add k)
-same_action (action.Insert k) = ap action.Insert (zero-add k)
-same_action (action.Change k) = ap action.Change (zero-add k)
+same_action (action.Branch u k) = ap (action.Branch u) (zero-add k)
+same_action (action.Text t k) = ap (action.Text t) (zero-add k)
+same_action (action.File u k) = ap (action.File u) (same_file_number u k)
 same_action (action.Substitute k) = ap action.Substitute (zero-add k)
 same_action (action.Transliterate k) = ap action.Transliterate (zero-add k)
-same_action (action.ReadFile k) = ap action.ReadFile (zero-add k)
-same_action (action.WriteFile k) = ap action.WriteFile (same_sink k)
 same_action other = refl
 
 pub same_command : (c : Command) → command_behind none_before c ≡ c

@@ -16,8 +16,8 @@ use Rattle.sedscript.specs.declared.types.Address.{Address}
 use Rattle.sedscript.specs.declared.items.Here.TheVariants.{Is}
 use Rattle.sedscript.specs.declared.items.Item.{Item}
 use Rattle.sedscript.specs.declared.items.Function.TheVariants.{Plain}
-use Rattle.sedscript.specs.declared.items.Simple.{Simple}
-use Rattle.sedscript.specs.declared.items.Simple.TheVariants.{Quit, Delete}
+use Rattle.sedscript.specs.declared.types.Simple.{Simple}
+use Rattle.sedscript.specs.declared.types.Simple.TheVariants.{Quit, Delete}
 use Rattle.sedscript.specs.Items.{function_after, function_at, item_at, item_with}
 use Rattle.sedscript.specs.Script.{IsEnd, Means, item, done, is_quiet}
 use Rattle.sedscript.specs.Functions.{ended, item_of}
@@ -28,6 +28,7 @@ use Rattle.sedre.specs.declared.types.Kind.TheVariants.{Basic}
 use Rattle.sedscript.specs.declared.items.Function.{Function}
 use Rattle.examples.proofs.ComputedScript.{program_of}
 use Rattle.sedscript.specs.declared.types.Action.TheVariants as action
+use Rattle.sedscript.specs.declared.types.Simple.TheVariants as simple
 use Rattle.examples.proofs.ScriptWords.{at, from_to}
 use Rattle.examples.proofs.ComputedEnds.{both}
 use Rattle.scripts.proofs.Meanings.{of_commands}
@@ -263,7 +264,7 @@ pub gives_plainly : (text : List ℕ) (i : Item) (to : ℕ) → item_at text 0 0
 gives_plainly text i to e = subst (λ r. Gives text Basic 65536 r [] (Is i to)) (sym e) value
 
 -- `Nq`
-pub quit_means : (n : ℕ) → suc n < 2 ^ 64 → Means (decimal (suc n) ++ 113 ∷ []) Basic 65536 (of_commands (at (Line (suc n)) action.Quit ∷ []) [])
+pub quit_means : (n : ℕ) → suc n < 2 ^ 64 → Means (decimal (suc n) ++ 113 ∷ []) Basic 65536 (of_commands (at (Line (suc n)) (action.Plain simple.Quit) ∷ []) [])
 quit_means n h =
     let ds : List ℕ = decimal (suc n) in
     let writes = decimal_writes (suc n) h in
@@ -271,7 +272,7 @@ quit_means n h =
     (ends_there (ds ++ 113 ∷ []) (length ds + 1) (drop_on (ds ++ 113 ∷ []) (length ds) (113 ∷ []) [] (drop-append_seam ds (113 ∷ [])))) refl (digit_not_quiet ds 113 [] (suc n) writes)
 
 -- `N,Md`
-pub cut_means : (n m : ℕ) → suc n < 2 ^ 64 → suc m < 2 ^ 64 → Means (decimal (suc n) ++ 44 ∷ (decimal (suc m) ++ 100 ∷ [])) Basic 65536 (of_commands (from_to (Line (suc n)) (Line (suc m)) action.Delete ∷ []) [])
+pub cut_means : (n m : ℕ) → suc n < 2 ^ 64 → suc m < 2 ^ 64 → Means (decimal (suc n) ++ 44 ∷ (decimal (suc m) ++ 100 ∷ [])) Basic 65536 (of_commands (from_to (Line (suc n)) (Line (suc m)) (action.Plain simple.Delete) ∷ []) [])
 cut_means n m h k =
     let ds : List ℕ = decimal (suc n) in
     let es : List ℕ = decimal (suc m) in

@@ -13,7 +13,8 @@ use Rattle.sedscript.specs.declared.types.Address.{Address}
 use Rattle.sedscript.specs.declared.types.Address.TheVariants.{Match, Line, Last}
 use Rattle.sedscript.specs.declared.types.Command.{Command}
 use Rattle.sedscript.specs.declared.types.Action.{Action}
-use Rattle.sedscript.specs.declared.types.Action.TheVariants.{Block, Delete, Substitute, Transliterate}
+use Rattle.sedscript.specs.declared.types.Action.TheVariants.{Block, Plain, Substitute, Transliterate}
+use Rattle.sedscript.specs.declared.types.Simple.TheVariants.{Delete}
 use Rattle.sedscript.specs.declared.substitution.Substitution.{Substitution}
 use Rattle.sedscript.specs.Program.{Program}
 use Rattle.sedengine.specs.State.{Setting}
@@ -69,7 +70,7 @@ substituted_by g (Some t) w = by_expression g t t.expression w
 
 abbrev edit_of : Setting → Action → Edit
 edit_of g (Block n) = block n
-edit_of g Delete = delete
+edit_of g (Plain Delete) = delete
 edit_of g (Substitute k) = change (substituted_by g (slice_get g.substitutions k))
 edit_of g (Transliterate k) = change (λ w. map (in_table (slice_get g.tables k)) w)
 edit_of g other = delete
@@ -203,7 +204,7 @@ module _ (p : Program) (files : ℕ → List ℕ) where
 
   makes_here : (a : Action) → edits p a ≡ true → Makes g1 a (edit_of g1 a)
   makes_here (Block n) h = refl
-  makes_here Delete h = tt
+  makes_here (Plain Delete) h = tt
   makes_here (Substitute k) h = replaces_here (slice_get p.substitutions k) h
   makes_here (Transliterate k) h = λ w. refl
   makes_here other h = absurd cc
@@ -289,7 +290,7 @@ module _ (p : Program) (files : ℕ → List ℕ) where
 
     makes_there : (a : Action) → edits p a ≡ true → Makes g (action_behind b a) (placed to (edit_of g1 a))
     makes_there (Block n) h = refl
-    makes_there Delete h = tt
+    makes_there (Plain Delete) h = tt
     makes_there (Substitute k) h = replaces_there k (slice_get p.substitutions k) refl h
     makes_there (Transliterate k) h = λ w. let x = there_is (slice_get p.tables k) h in ap (λ o. map (in_table o) w) (is.tables k x.0 x.1 ∙ sym x.1)
     makes_there other h = absurd cc
@@ -297,7 +298,7 @@ module _ (p : Program) (files : ℕ → List ℕ) where
     module _ (Good : List ℕ → Type 0) (keeps_replaced : (k : ℕ) (w : List ℕ) → Good w → Good (substituted_by g1 (slice_get p.substitutions k) w)) (keeps_table : (k : ℕ) (w : List ℕ) → Good w → Good (map (in_table (slice_get p.tables k)) w)) where
       fits_so : (a : Action) → edits p a ≡ true → Fits (length p.commands) Good (edit_of g1 a)
       fits_so (Block n) h = grind (arith, nat_tests)
-      fits_so Delete h = tt
+      fits_so (Plain Delete) h = tt
       fits_so (Substitute k) h = keeps_replaced k
       fits_so (Transliterate k) h = keeps_table k
       fits_so other h = absurd cc

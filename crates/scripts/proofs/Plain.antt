@@ -4,7 +4,9 @@ use Rattle.std.specs.Prelude.{nat_eq, nat_lt, nat_le, decimal}
 use Rattle.std.specs.List.{flat_map}
 use Rattle.std.proofs.lemmas.Bool.Decides.{nat_tests}
 use Rattle.sedscript.specs.declared.types.Command.{Command}
-use Rattle.sedscript.specs.declared.types.Action.TheVariants.{Print, Delete, LineNumber, NextLine, Quit, WriteFile}
+use Rattle.sedscript.specs.declared.types.Action.TheVariants.{File, Plain}
+use Rattle.sedscript.specs.declared.types.FileUse.TheVariants.{Write}
+use Rattle.sedscript.specs.declared.types.Simple.TheVariants.{Delete, LineNumber, NextLine, Print, Quit}
 use Rattle.sedscript.specs.declared.types.Address.TheVariants.{Last, Line}
 use Rattle.sedengine.specs.State.{State, Setting}
 use Rattle.sedengine.specs.Substitute.{Occurrence}
@@ -66,33 +68,33 @@ module _ (finds : ℕ → List ℕ → Bool) (search : ℕ → List ℕ → ℕ 
   -- ---- `p`, and `p` with -n
 
   twice_cycle : (number : ℕ) (line : List ℕ) (rest : List (List ℕ)) (turns : ℕ) →
-      Goes (runs false (always Print ∷ [])) (one_at (line ∷ rest) number turns) (one_at rest (number + 1) (turns + 1 + 1)) (line_to 0 line ++ line_to 0 line)
+      Goes (runs false (always (Plain Print) ∷ [])) (one_at (line ∷ rest) number turns) (one_at rest (number + 1) (turns + 1 + 1)) (line_to 0 line ++ line_to 0 line)
   unfolding next_move after written selects
   twice_cycle number line rest turns = record { moves = 6; is = refl; wrote = simp append-nil refl }
 
-  pub twice_run : (lines : List (List ℕ)) (number turns : ℕ) → IsOutput (runs false (always Print ∷ [])) (one_at lines number turns) (to_sink 0 (text_of (flat_map (λ line. line ∷ line ∷ []) lines)))
-  twice_run = each_line (runs false (always Print ∷ [])) one_at (λ n ls. flat_map (λ line. line ∷ line ∷ []) ls) (λ n line rest. line ∷ line ∷ []) (λ n. refl) (λ n line rest. refl) (one_ends false (always Print))
-      (λ n line rest turns. (turns + 1 + 1, subst (Goes (runs false (always Print ∷ [])) (one_at (line ∷ rest) n turns) (one_at rest (n + 1) (turns + 1 + 1))) (line_first line (line ∷ [])) (twice_cycle n line rest turns)))
+  pub twice_run : (lines : List (List ℕ)) (number turns : ℕ) → IsOutput (runs false (always (Plain Print) ∷ [])) (one_at lines number turns) (to_sink 0 (text_of (flat_map (λ line. line ∷ line ∷ []) lines)))
+  twice_run = each_line (runs false (always (Plain Print) ∷ [])) one_at (λ n ls. flat_map (λ line. line ∷ line ∷ []) ls) (λ n line rest. line ∷ line ∷ []) (λ n. refl) (λ n line rest. refl) (one_ends false (always (Plain Print)))
+      (λ n line rest turns. (turns + 1 + 1, subst (Goes (runs false (always (Plain Print) ∷ [])) (one_at (line ∷ rest) n turns) (one_at rest (n + 1) (turns + 1 + 1))) (line_first line (line ∷ [])) (twice_cycle n line rest turns)))
 
   once_cycle : (number : ℕ) (line : List ℕ) (rest : List (List ℕ)) (turns : ℕ) →
-      Goes (runs true (always Print ∷ [])) (one_at (line ∷ rest) number turns) (one_at rest (number + 1) (turns + 1 + 1)) (line_to 0 line)
+      Goes (runs true (always (Plain Print) ∷ [])) (one_at (line ∷ rest) number turns) (one_at rest (number + 1) (turns + 1 + 1)) (line_to 0 line)
   unfolding next_move after written selects
   once_cycle number line rest turns = record { moves = 6; is = refl; wrote = simp append-nil refl }
 
-  pub once_run : (lines : List (List ℕ)) (number turns : ℕ) → IsOutput (runs true (always Print ∷ [])) (one_at lines number turns) (to_sink 0 (text_of lines))
-  once_run = each_line (runs true (always Print ∷ [])) one_at (λ n ls. ls) (λ n line rest. line ∷ []) (λ n. refl) (λ n line rest. refl) (one_ends true (always Print))
+  pub once_run : (lines : List (List ℕ)) (number turns : ℕ) → IsOutput (runs true (always (Plain Print) ∷ [])) (one_at lines number turns) (to_sink 0 (text_of lines))
+  once_run = each_line (runs true (always (Plain Print) ∷ [])) one_at (λ n ls. ls) (λ n line rest. line ∷ []) (λ n. refl) (λ n line rest. refl) (one_ends true (always (Plain Print)))
       (λ n line rest turns. (turns + 1 + 1, once_cycle n line rest turns))
 
   -- ---- `=`
 
   number_cycle : (number : ℕ) (line : List ℕ) (rest : List (List ℕ)) (turns : ℕ) →
-      Goes (runs false (always LineNumber ∷ [])) (one_at (line ∷ rest) number turns) (one_at rest (number + 1) (turns + 1 + 1)) (line_to 0 (decimal (number + 1)) ++ line_to 0 line)
+      Goes (runs false (always (Plain LineNumber) ∷ [])) (one_at (line ∷ rest) number turns) (one_at rest (number + 1) (turns + 1 + 1)) (line_to 0 (decimal (number + 1)) ++ line_to 0 line)
   unfolding next_move after written selects
   number_cycle number line rest turns = record { moves = 6; is = refl; wrote = simp append-nil refl }
 
-  pub number_run : (lines : List (List ℕ)) (number turns : ℕ) → IsOutput (runs false (always LineNumber ∷ [])) (one_at lines number turns) (to_sink 0 (text_of (numbered (number + 1) lines)))
-  number_run = each_line (runs false (always LineNumber ∷ [])) one_at (λ n ls. numbered (n + 1) ls) (λ n line rest. decimal (n + 1) ∷ line ∷ []) (λ n. refl) (λ n line rest. refl) (one_ends false (always LineNumber))
-      (λ n line rest turns. (turns + 1 + 1, subst (Goes (runs false (always LineNumber ∷ [])) (one_at (line ∷ rest) n turns) (one_at rest (n + 1) (turns + 1 + 1))) (line_first (decimal (n + 1)) (line ∷ [])) (number_cycle n line rest turns)))
+  pub number_run : (lines : List (List ℕ)) (number turns : ℕ) → IsOutput (runs false (always (Plain LineNumber) ∷ [])) (one_at lines number turns) (to_sink 0 (text_of (numbered (number + 1) lines)))
+  number_run = each_line (runs false (always (Plain LineNumber) ∷ [])) one_at (λ n ls. numbered (n + 1) ls) (λ n line rest. decimal (n + 1) ∷ line ∷ []) (λ n. refl) (λ n line rest. refl) (one_ends false (always (Plain LineNumber)))
+      (λ n line rest turns. (turns + 1 + 1, subst (Goes (runs false (always (Plain LineNumber) ∷ [])) (one_at (line ∷ rest) n turns) (one_at rest (n + 1) (turns + 1 + 1))) (line_first (decimal (n + 1)) (line ∷ [])) (number_cycle n line rest turns)))
 
   -- ---- `$!d`, and `$p` with -n
 
@@ -108,23 +110,23 @@ module _ (finds : ℕ → List ℕ → Bool) (search : ℕ → List ℕ → ℕ 
   last_more line (next ∷ more) = let e : suc (suc (length more)) - 1 ≡ suc (suc (length more) - 1) = omega arith in ap (λ n. drop n (line ∷ next ∷ more)) e
 
   delete_cycle : (number : ℕ) (line : List ℕ) (rest : List (List ℕ)) (turns : ℕ) →
-      Goes (runs false (unless (at Last Delete) ∷ [])) (one_at (line ∷ rest) number turns) (one_at rest (number + 1) (turns + 1 + 1)) (to_sink 0 (text_of (last_one line rest)))
+      Goes (runs false (unless (at Last (Plain Delete)) ∷ [])) (one_at (line ∷ rest) number turns) (one_at rest (number + 1) (turns + 1 + 1)) (to_sink 0 (text_of (last_one line rest)))
   unfolding next_move after written selects
   delete_cycle number line [] turns = record { moves = 6; is = refl; wrote = simp append-nil refl }
   delete_cycle number line (next ∷ more) turns = record { moves = 3; is = refl; wrote = refl }
 
-  pub delete_run : (lines : List (List ℕ)) (number turns : ℕ) → IsOutput (runs false (unless (at Last Delete) ∷ [])) (one_at lines number turns) (to_sink 0 (text_of (last_of lines)))
-  delete_run = each_line (runs false (unless (at Last Delete) ∷ [])) one_at (λ n ls. last_of ls) (λ n line rest. last_one line rest) (λ n. refl) (λ n line rest. last_more line rest) (one_ends false (unless (at Last Delete)))
+  pub delete_run : (lines : List (List ℕ)) (number turns : ℕ) → IsOutput (runs false (unless (at Last (Plain Delete)) ∷ [])) (one_at lines number turns) (to_sink 0 (text_of (last_of lines)))
+  delete_run = each_line (runs false (unless (at Last (Plain Delete)) ∷ [])) one_at (λ n ls. last_of ls) (λ n line rest. last_one line rest) (λ n. refl) (λ n line rest. last_more line rest) (one_ends false (unless (at Last (Plain Delete))))
       (λ n line rest turns. (turns + 1 + 1, delete_cycle n line rest turns))
 
   print_cycle : (number : ℕ) (line : List ℕ) (rest : List (List ℕ)) (turns : ℕ) →
-      Goes (runs true (at Last Print ∷ [])) (one_at (line ∷ rest) number turns) (one_at rest (number + 1) (turns + 1 + 1)) (to_sink 0 (text_of (last_one line rest)))
+      Goes (runs true (at Last (Plain Print) ∷ [])) (one_at (line ∷ rest) number turns) (one_at rest (number + 1) (turns + 1 + 1)) (to_sink 0 (text_of (last_one line rest)))
   unfolding next_move after written selects
   print_cycle number line [] turns = record { moves = 6; is = refl; wrote = simp append-nil refl }
   print_cycle number line (next ∷ more) turns = record { moves = 6; is = refl; wrote = refl }
 
-  pub print_run : (lines : List (List ℕ)) (number turns : ℕ) → IsOutput (runs true (at Last Print ∷ [])) (one_at lines number turns) (to_sink 0 (text_of (last_of lines)))
-  print_run = each_line (runs true (at Last Print ∷ [])) one_at (λ n ls. last_of ls) (λ n line rest. last_one line rest) (λ n. refl) (λ n line rest. last_more line rest) (one_ends true (at Last Print))
+  pub print_run : (lines : List (List ℕ)) (number turns : ℕ) → IsOutput (runs true (at Last (Plain Print) ∷ [])) (one_at lines number turns) (to_sink 0 (text_of (last_of lines)))
+  print_run = each_line (runs true (at Last (Plain Print) ∷ [])) one_at (λ n ls. last_of ls) (λ n line rest. last_one line rest) (λ n. refl) (λ n line rest. last_more line rest) (one_ends true (at Last (Plain Print)))
       (λ n line rest turns. (turns + 1 + 1, print_cycle n line rest turns))
 
   -- ---- `Nq`
@@ -139,27 +141,27 @@ module _ (finds : ℕ → List ℕ → Bool) (search : ℕ → List ℕ → ℕ 
   later_number n m h = grind (arith, nat_tests)
 
   quit_there : (n number : ℕ) (line : List ℕ) (rest : List (List ℕ)) (turns : ℕ) → nat_eq n (number + 1) ≡ true →
-      IsOutput (runs false (at (Line n) Quit ∷ [])) (one_at (line ∷ rest) number turns) (line_to 0 line)
+      IsOutput (runs false (at (Line n) (Plain Quit) ∷ [])) (one_at (line ∷ rest) number turns) (line_to 0 line)
   unfolding next_move after written selects
   quit_there n number line rest turns e = record { moves = 4; ended = rw e refl; wrote = rw e (simp append-nil refl) }
 
   quit_later : (n number : ℕ) (line : List ℕ) (rest : List (List ℕ)) (turns : ℕ) → nat_eq n (number + 1) ≡ false →
-      Goes (runs false (at (Line n) Quit ∷ [])) (one_at (line ∷ rest) number turns) (one_at rest (number + 1) (turns + 1 + 1)) (line_to 0 line)
+      Goes (runs false (at (Line n) (Plain Quit) ∷ [])) (one_at (line ∷ rest) number turns) (one_at rest (number + 1) (turns + 1 + 1)) (line_to 0 line)
   unfolding next_move after written selects
   quit_later n number line rest turns e = record { moves = 6; is = rw e refl; wrote = rw e (simp append-nil refl) }
 
   pub quit_run : (n k : ℕ) (lines : List (List ℕ)) (number turns : ℕ) → n ≡ number + suc k →
-      IsOutput (runs false (at (Line n) Quit ∷ [])) (one_at lines number turns) (to_sink 0 (text_of (take (suc k) lines)))
-  quit_run n k [] number turns e = one_ends false (at (Line n) Quit) number turns
+      IsOutput (runs false (at (Line n) (Plain Quit) ∷ [])) (one_at lines number turns) (to_sink 0 (text_of (take (suc k) lines)))
+  quit_run n k [] number turns e = one_ends false (at (Line n) (Plain Quit)) number turns
   quit_run n zero (line ∷ rest) number turns e = quit_there n number line rest turns (is_number n (number + 1) (omega arith))
   quit_run n (suc k) (line ∷ rest) number turns e =
-      subst (λ (w : List (ℕ × ℕ)). IsOutput (runs false (at (Line n) Quit ∷ [])) (one_at (line ∷ rest) number turns) w) (line_first line (take (suc k) rest))
+      subst (λ (w : List (ℕ × ℕ)). IsOutput (runs false (at (Line n) (Plain Quit) ∷ [])) (one_at (line ∷ rest) number turns) w) (line_first line (take (suc k) rest))
       (ends_on (quit_later n number line rest turns (other_number n (number + 1) (omega arith))) (quit_run n k rest (number + 1) (turns + 1 + 1) (omega arith)))
 
   -- ---- `N,Md`: before the first number, from there up to the second, and after that
 
   abbrev cut : ℕ → ℕ → Setting
-  cut n m = runs false (from_to (Line n) (Line m) Delete ∷ [])
+  cut n m = runs false (from_to (Line n) (Line m) (Plain Delete) ∷ [])
 
   abbrev within_at : List (List ℕ) → ℕ → ℕ → State
   within_at lines number turns = between lines number [] false (true ∷ []) None turns
@@ -194,7 +196,7 @@ module _ (finds : ℕ → List ℕ → Bool) (search : ℕ → List ℕ → ℕ 
   not_most n m h = grind (arith, nat_tests)
 
   after_run : (n m : ℕ) (lines : List (List ℕ)) (number turns : ℕ) → n ≤ number → IsOutput (cut n m) (one_at lines number turns) (to_sink 0 (text_of lines))
-  after_run n m [] number turns h = one_ends false (from_to (Line n) (Line m) Delete) number turns
+  after_run n m [] number turns h = one_ends false (from_to (Line n) (Line m) (Plain Delete)) number turns
   after_run n m (line ∷ rest) number turns h =
       subst (λ (w : List (ℕ × ℕ)). IsOutput (cut n m) (one_at (line ∷ rest) number turns) w) (line_first line rest)
       (ends_on (other_cycle n m number line rest turns (later_number n (number + 1) (omega arith))) (after_run n m rest (number + 1) (turns + 1 + 1) (omega arith)))
@@ -209,8 +211,8 @@ module _ (finds : ℕ → List ℕ → Bool) (search : ℕ → List ℕ → ℕ 
 
   pub cut_run : (n m k d : ℕ) (lines : List (List ℕ)) (number turns : ℕ) → n ≡ number + suc k → m ≡ number + suc d → k < d →
       IsOutput (cut n m) (one_at lines number turns) (to_sink 0 (text_of (take k lines ++ drop (suc d) lines)))
-  cut_run n m zero d [] number turns e f less = one_ends false (from_to (Line n) (Line m) Delete) number turns
-  cut_run n m (suc k) d [] number turns e f less = one_ends false (from_to (Line n) (Line m) Delete) number turns
+  cut_run n m zero d [] number turns e f less = one_ends false (from_to (Line n) (Line m) (Plain Delete)) number turns
+  cut_run n m (suc k) d [] number turns e f less = one_ends false (from_to (Line n) (Line m) (Plain Delete)) number turns
   cut_run n m zero zero (line ∷ rest) number turns e f less = absurd (omega arith)
   cut_run n m zero (suc d) (line ∷ rest) number turns e f less =
       ends_on (first_cycle n m number line rest turns (is_number n (number + 1) (omega arith)) (not_most m (number + 1) (omega arith))) (within_run n m d rest (number + 1) (turns + 1 + 1) (omega arith) (omega arith))
@@ -225,7 +227,7 @@ module _ (finds : ℕ → List ℕ → Bool) (search : ℕ → List ℕ → ℕ 
   two_at lines number turns = between lines number [] false (false ∷ false ∷ []) None turns
 
   abbrev halves : Setting
-  halves = runs false (always NextLine ∷ always Delete ∷ [])
+  halves = runs false (always (Plain NextLine) ∷ always (Plain Delete) ∷ [])
 
   half_cycle : (number : ℕ) (line next : List ℕ) (rest : List (List ℕ)) (turns : ℕ) →
       Goes halves (two_at (line ∷ next ∷ rest) number turns) (two_at rest (number + 1 + 1) (turns + 1 + 1 + 1)) (line_to 0 line)
@@ -246,7 +248,7 @@ module _ (finds : ℕ → List ℕ → Bool) (search : ℕ → List ℕ → ℕ 
   -- ---- `w f`
 
   abbrev tees : Setting
-  tees = runs false (always (WriteFile 1) ∷ [])
+  tees = runs false (always (File Write 1) ∷ [])
 
   -- each line to the first file and to the standard output
   abbrev pub twofold : List (List ℕ) → List (ℕ × ℕ)
@@ -259,5 +261,5 @@ module _ (finds : ℕ → List ℕ → Bool) (search : ℕ → List ℕ → ℕ 
   tee_cycle number line rest turns = record { moves = 6; is = refl; wrote = simp append-nil refl }
 
   pub tee_run : (lines : List (List ℕ)) (number turns : ℕ) → IsOutput tees (one_at lines number turns) (twofold lines)
-  tee_run [] number turns = one_ends false (always (WriteFile 1)) number turns
+  tee_run [] number turns = one_ends false (always (File Write 1)) number turns
   tee_run (line ∷ rest) number turns = ends_on (tee_cycle number line rest turns) (tee_run rest (number + 1) (turns + 1 + 1))

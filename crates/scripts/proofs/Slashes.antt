@@ -11,12 +11,13 @@ use Rattle.sedre.specs.declared.types.Kind.TheVariants.{Basic}
 use Rattle.sedscript.specs.declared.bytes.Sort.TheVariants.{Blank, Separator, Bang}
 use Rattle.sedscript.specs.declared.types.Address.TheVariants.{Match}
 use Rattle.sedscript.specs.declared.types.Action.TheVariants as action
+use Rattle.sedscript.specs.declared.types.Simple.TheVariants as simple
 use Rattle.sedscript.specs.declared.items.Here.{Here}
 use Rattle.sedscript.specs.declared.items.Here.TheVariants.{Is}
 use Rattle.sedscript.specs.declared.items.Item.{Item}
 use Rattle.sedscript.specs.declared.items.Function.TheVariants.{Plain}
-use Rattle.sedscript.specs.declared.items.Simple.{Simple}
-use Rattle.sedscript.specs.declared.items.Simple.TheVariants.{Print, Delete}
+use Rattle.sedscript.specs.declared.types.Simple.{Simple}
+use Rattle.sedscript.specs.declared.types.Simple.TheVariants.{Print, Delete}
 use Rattle.sedscript.specs.Addresses.{found, address_at, addresses_at, addresses_of, after_first, with_addresses, match_at, with_bang}
 use Rattle.sedscript.specs.Bytes.{past, bytes_between, is_blank, belongs}
 use Rattle.sedscript.specs.Expressions.{IsRead, Gives, value, after_expression}
@@ -119,7 +120,7 @@ gives_one text e p i to k is same last =
 
 module _ (re : List ℕ) (e : Tree) (groups : ℕ) (is : IsSlashed re e groups) where
   -- `/RE/d`
-  pub delete_means : Means (47 ∷ (re ++ 47 ∷ 100 ∷ [])) Basic 65536 (with_expression (written e groups) (of_commands (at (Match (Some 0)) action.Delete ∷ []) []))
+  pub delete_means : Means (47 ∷ (re ++ 47 ∷ 100 ∷ [])) Basic 65536 (with_expression (written e groups) (of_commands (at (Match (Some 0)) (action.Plain simple.Delete) ∷ []) []))
   delete_means =
       let text : List ℕ = 47 ∷ (re ++ 47 ∷ 100 ∷ []) in
       let at : ℕ = 1 + length re + 1 in
@@ -130,7 +131,7 @@ module _ (re : List ℕ) (e : Tree) (groups : ℕ) (is : IsSlashed re e groups) 
       (ends_there text (at + 1) (drop_on text at (100 ∷ []) [] there)) refl (not_quiet 47 (re ++ 47 ∷ 100 ∷ []) refl)
 
   -- `/RE/!p`
-  pub print_means : Means (47 ∷ (re ++ 47 ∷ 33 ∷ 112 ∷ [])) Basic 65536 (with_expression (written e groups) (of_commands (unless (at (Match (Some 0)) action.Print) ∷ []) []))
+  pub print_means : Means (47 ∷ (re ++ 47 ∷ 33 ∷ 112 ∷ [])) Basic 65536 (with_expression (written e groups) (of_commands (unless (at (Match (Some 0)) (action.Plain simple.Print)) ∷ []) []))
   print_means =
       let text : List ℕ = 47 ∷ (re ++ 47 ∷ 33 ∷ 112 ∷ []) in
       let at : ℕ = 1 + length re + 1 in

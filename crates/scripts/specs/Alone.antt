@@ -5,7 +5,8 @@ use Rattle.sedscript.specs.declared.types.Address.{Address}
 use Rattle.sedscript.specs.declared.types.Address.TheVariants.{Match}
 use Rattle.sedscript.specs.declared.types.Command.{Command}
 use Rattle.sedscript.specs.declared.types.Action.{Action}
-use Rattle.sedscript.specs.declared.types.Action.TheVariants.{AppendHold, AppendNext, CopyHold, Exchange, Hold, HoldMore, LineNumber, NextLine, Quit, Substitute}
+use Rattle.sedscript.specs.declared.types.Action.TheVariants.{Plain, Substitute}
+use Rattle.sedscript.specs.declared.types.Simple.TheVariants.{AppendHold, AppendNext, CopyHold, Exchange, Hold, HoldMore, LineNumber, NextLine, Quit}
 use Rattle.sedscript.specs.declared.substitution.Substitution.{Substitution}
 use Rattle.sedscript.specs.Program.{Program}
 
@@ -22,15 +23,15 @@ has_expression (Some t) = is_some t.expression
 -- none of `n`, `N`, `q` and `=`, nothing with the hold space, and no `s` with an empty expression
 abbrev pub stays_in_line : List Substitution → Action → Bool
 stays_in_line ts (Substitute k) = has_expression (slice_get ts k)
-stays_in_line ts NextLine = false
-stays_in_line ts AppendNext = false
-stays_in_line ts Quit = false
-stays_in_line ts LineNumber = false
-stays_in_line ts AppendHold = false
-stays_in_line ts CopyHold = false
-stays_in_line ts Exchange = false
-stays_in_line ts Hold = false
-stays_in_line ts HoldMore = false
+stays_in_line ts (Plain NextLine) = false
+stays_in_line ts (Plain AppendNext) = false
+stays_in_line ts (Plain Quit) = false
+stays_in_line ts (Plain LineNumber) = false
+stays_in_line ts (Plain AppendHold) = false
+stays_in_line ts (Plain CopyHold) = false
+stays_in_line ts (Plain Exchange) = false
+stays_in_line ts (Plain Hold) = false
+stays_in_line ts (Plain HoldMore) = false
 stays_in_line ts other = true
 
 abbrev pub looks_at_line : List Substitution → Command → Bool

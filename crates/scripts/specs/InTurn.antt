@@ -7,7 +7,10 @@ use Rattle.sedscript.specs.declared.types.Address.{Address}
 use Rattle.sedscript.specs.declared.types.Address.TheVariants.{Last, Line, Match}
 use Rattle.sedscript.specs.declared.types.Command.{Command}
 use Rattle.sedscript.specs.declared.types.Action.{Action}
-use Rattle.sedscript.specs.declared.types.Action.TheVariants.{Append, Block, Branch, Change, Delete, Insert, ReadFile, Substitute, Test, Transliterate, WriteFile}
+use Rattle.sedscript.specs.declared.types.Action.TheVariants.{Block, Branch, File, Plain, Substitute, Text, Transliterate}
+use Rattle.sedscript.specs.declared.types.Simple.TheVariants.{Delete}
+use Rattle.sedscript.specs.declared.types.FileUse.{FileUse}
+use Rattle.sedscript.specs.declared.types.FileUse.TheVariants.{Read, Write}
 use Rattle.sedscript.specs.declared.substitution.Piece.{Piece}
 use Rattle.sedscript.specs.declared.substitution.Piece.TheVariants.{Literal}
 use Rattle.sedscript.specs.declared.substitution.Substitution.{Substitution}
@@ -34,7 +37,7 @@ replaces_only p (Some t) = is_own p t.expression && (not t.print && is_none t.fi
 -- `{`, `d`, `s` and `y`, whose numbers are in the script
 abbrev pub edits : Program → Action → Bool
 edits p (Block next) = nat_le next (length p.commands)
-edits p Delete = true
+edits p (Plain Delete) = true
 edits p (Substitute k) = replaces_only p (slice_get p.substitutions k)
 edits p (Transliterate k) = is_some (slice_get p.tables k)
 edits p other = false
@@ -89,17 +92,18 @@ abbrev pub sink_behind : Before → ℕ → ℕ
 sink_behind b zero = zero
 sink_behind b (suc k) = b.wfiles + suc k
 
+-- a file's number
+abbrev pub file_behind : Before → FileUse → ℕ → ℕ
+file_behind b Read k = b.rfiles + k
+file_behind b Write sink = sink_behind b sink
+
 abbrev pub action_behind : Before → Action → Action
 action_behind b (Block next) = Block (b.commands + next)
-action_behind b (Branch next) = Branch (b.commands + next)
-action_behind b (Test next) = Test (b.commands + next)
-action_behind b (Append k) = Append (b.texts + k)
-action_behind b (Insert k) = Insert (b.texts + k)
-action_behind b (Change k) = Change (b.texts + k)
+action_behind b (Branch u next) = Branch u (b.commands + next)
+action_behind b (Text t k) = Text t (b.texts + k)
+action_behind b (File u k) = File u (file_behind b u k)
 action_behind b (Substitute k) = Substitute (b.substitutions + k)
 action_behind b (Transliterate k) = Transliterate (b.tables + k)
-action_behind b (ReadFile k) = ReadFile (b.rfiles + k)
-action_behind b (WriteFile sink) = WriteFile (sink_behind b sink)
 action_behind b other = other
 
 abbrev pub command_behind : Before → Command → Command

@@ -7,7 +7,7 @@ use Rattle.sedre.specs.declared.types.Kind.{Kind}
 use Rattle.sedre.specs.declared.types.Kind.TheVariants.{Basic}
 use Rattle.sedscript.specs.declared.types.Command.{Command}
 use Rattle.sedscript.specs.declared.types.Action.{Action}
-use Rattle.sedscript.specs.declared.types.Action.TheVariants.{Branch, Test}
+use Rattle.sedscript.specs.declared.types.Action.TheVariants.{Branch}
 use Rattle.sedscript.specs.declared.items.Item.{Item}
 use Rattle.sedscript.specs.Targets.{label_in}
 use Rattle.sedscript.specs.Script.{CutScript, IsEnd, Means}
@@ -16,8 +16,7 @@ use Rattle.scripts.specs.InTurn.{BreaksNoLine, EachOnlyEdits}
 
 -- `b` and `t` lead to one of the commands, and not to the end
 abbrev pub leads_inside : Program → Action → Bool
-leads_inside p (Branch to) = nat_lt to (length p.commands)
-leads_inside p (Test to) = nat_lt to (length p.commands)
+leads_inside p (Branch u to) = nat_lt to (length p.commands)
 leads_inside p other = true
 
 -- No branch leads to the end of the script: without a label it would lead past the second of two. A label at the end is such an end
