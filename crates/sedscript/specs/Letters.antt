@@ -1,6 +1,9 @@
 -- The letters of the functions, and the addresses that they take (XCU sed, "Editing Commands in sed").
 use Rattle.std.specs.Prelude.{ℕ, Option, Some, None, if◌then◌else◌, ◌==◌}
-use Rattle.sedscript.specs.Types.{Verb, ReadsExpression, Reads, Alone, OpensBlock, ClosesBlock, Remark, NamesLabel, GoesTo, TakesText, NamesFile, TakesStrings, AppendHold, AppendNext, CopyHold, Delete, DeleteFirst, Exchange, Hold, HoldMore, LineNumber, List, NextLine, Print, PrintFirst, Quit, Append, Insert, Change, Always, IfReplaced, Read, Write}
+use Rattle.sedscript.specs.Types.{Verb, ReadsExpression, Reads, Alone, OpensBlock, ClosesBlock, Remark, NamesLabel, GoesTo, TakesText, NamesFile, TakesStrings, Read, Write}
+use Rattle.sedscript.specs.declared.types.Simple.TheVariants.{AppendHold, AppendNext, CopyHold, Delete, DeleteFirst, Exchange, Hold, HoldMore, LineNumber, List, NextLine, Print, PrintFirst, Quit}
+use Rattle.sedscript.specs.declared.types.TextUse.TheVariants.{Append, Insert, Change}
+use Rattle.sedscript.specs.declared.types.BranchUse.TheVariants.{Always, IfReplaced}
 
 -- what a letter stands for, if it is a function's
 abbrev pub verb_of : ℕ → Option Verb
