@@ -1,11 +1,10 @@
 -- What the numbers in the queue stand for.
-use Rattle.std.proofs.Common.{◌≡◌, ℕ, suc, zero, ◌<◌, ◌+◌, ◌≤◌, List, [], ◌∷◌, ◌++◌, length, drop, Option, Some, refl, ap, ◌∙◌, arith, length-drop, drop_of_length-le}
+use Rattle.std.proofs.Common.{◌≡◌, ℕ, suc, zero, ◌<◌, ◌+◌, ◌≤◌, List, [], ◌∷◌, ◌++◌, length, drop, refl, ap, arith, length-drop, drop_of_length-le}
 use Rattle.std.specs.Prelude.{slice_get, slice_index}
 use Rattle.std.proofs.lemmas.List.{drop_more}
-use Rattle.sedscript.specs.declared.types.Command.{Command}
 use Rattle.sedscript.specs.Program.{Program}
 use Rattle.sedengine.specs.State.{Entry}
-use Rattle.sedengine.specs.Inside.{AllQueue, CommandQueues, entries_of, entry_by, entry_for}
+use Rattle.sedengine.specs.Inside.{AllQueue, CommandQueues, entries_of, entry_by}
 
 -- each of the numbers is one of a command that queues
 pub queued_at : (p : Program) (is : List ℕ) (i : ℕ) → AllQueue p is → i < length is → CommandQueues (slice_get p.commands (slice_index is i))
