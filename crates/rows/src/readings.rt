@@ -6,7 +6,9 @@ use crate::report::Report;
 use crate::sheet::Sheet;
 use crate::table::Row;
 use sededit::script;
-use sedscript::{Action, Address, Command, Part, Script, Substitution};
+use sedscript::{
+    Action, Address, BranchUse, Command, FileUse, Part, Script, Simple, Substitution, TextUse,
+};
 
 /// The most nodes of an expression.
 const MOST_NODES: usize = 65536;
@@ -70,17 +72,17 @@ fn put_action(sheet: &mut Sheet, script: &Script, i: usize)
     requires { i < length script.now.commands }
 {
     match script.command(i).action {
+        Action::Plain(simple) => sheet.put_byte(letter_of(simple)),
         Action::Block(k) => put_target(sheet, b'{', k),
-        Action::Branch(k) => put_target(sheet, b'b', k),
-        Action::Test(k) => put_target(sheet, b't', k),
-        Action::Append(k) => put_quoted(sheet, b'a', script.text(k)),
-        Action::Change(k) => put_quoted(sheet, b'c', script.text(k)),
-        Action::Insert(k) => put_quoted(sheet, b'i', script.text(k)),
-        Action::ReadFile(k) => put_target(sheet, b'r', k),
-        Action::WriteFile(k) => put_target(sheet, b'w', k),
+        Action::Branch(BranchUse::Always, k) => put_target(sheet, b'b', k),
+        Action::Branch(BranchUse::IfReplaced, k) => put_target(sheet, b't', k),
+        Action::Text(TextUse::Append, k) => put_quoted(sheet, b'a', script.text(k)),
+        Action::Text(TextUse::Change, k) => put_quoted(sheet, b'c', script.text(k)),
+        Action::Text(TextUse::Insert, k) => put_quoted(sheet, b'i', script.text(k)),
+        Action::File(FileUse::Read, k) => put_target(sheet, b'r', k),
+        Action::File(FileUse::Write, k) => put_target(sheet, b'w', k),
         Action::Substitute(k) => put_substitution(sheet, script.substitution(k)),
         Action::Transliterate(k) => put_table(sheet, script.table(k)),
-        action => sheet.put_byte(letter_of(action)),
     }
 }
 
@@ -180,23 +182,22 @@ fn put_table(sheet: &mut Sheet, table: &[u8]) {
     }
 }
 
-/// The letter of a command that names nothing by numbers.
-fn letter_of(action: Action) -> u8 {
-    match action {
-        Action::AppendNext => b'N',
-        Action::CopyHold => b'g',
-        Action::AppendHold => b'G',
-        Action::Hold => b'h',
-        Action::HoldMore => b'H',
-        Action::Exchange => b'x',
-        Action::Delete => b'd',
-        Action::DeleteFirst => b'D',
-        Action::LineNumber => b'=',
-        Action::List => b'l',
-        Action::NextLine => b'n',
-        Action::Print => b'p',
-        Action::PrintFirst => b'P',
-        Action::Quit => b'q',
-        _ => b'?',
+/// The letter of a command that is one letter.
+fn letter_of(simple: Simple) -> u8 {
+    match simple {
+        Simple::AppendNext => b'N',
+        Simple::CopyHold => b'g',
+        Simple::AppendHold => b'G',
+        Simple::Hold => b'h',
+        Simple::HoldMore => b'H',
+        Simple::Exchange => b'x',
+        Simple::Delete => b'd',
+        Simple::DeleteFirst => b'D',
+        Simple::LineNumber => b'=',
+        Simple::List => b'l',
+        Simple::NextLine => b'n',
+        Simple::Print => b'p',
+        Simple::PrintFirst => b'P',
+        Simple::Quit => b'q',
     }
 }
