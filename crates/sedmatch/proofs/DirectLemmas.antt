@@ -17,7 +17,7 @@ use Rattle.sedtext.specs.Costs.{Pays}
 use Rattle.sedtext.specs.Following.{CanEndEarly, PassesOver}
 use Rattle.sedtext.specs.Reach.{At}
 use Rattle.sedtext.specs.Runs.{Repeated, AllRepeat, IsRun, RunBegins}
-use Rattle.sedtext.specs.Spans.{Matches, SomeFound, IsIn}
+use Rattle.sedtext.specs.Spans.{Matches, SomeFound, IsIn, no_copy}
 use Rattle.sedtext.specs.declared.beginnings.Begins.TheVariants.{WithSet}
 use Rattle.sedtext.specs.Choice.{FirstChoice}
 use Rattle.sedtext.specs.Few.{FirstFew}
@@ -30,7 +30,7 @@ use Rattle.sedmatch.specs.declared.direct.Anchor.{Anchor as Anchors}
 use Rattle.sedmatch.specs.declared.direct.First.{First}
 use Rattle.sedmatch.specs.declared.direct.First.TheVariants.{Among, Member}
 use Rattle.sedmatch.specs.declared.direct.DirectForm.{DirectForm}
-use Rattle.sedmatch.specs.declared.direct.DirectForm.TheVariants.{Anchor, OneByte, ByteThenRun, RunAtEnd, ByteThenRunAtEnd, Times, Literal, Choice}
+use Rattle.sedmatch.specs.declared.direct.DirectForm.TheVariants.{Anchor, OneByte, Run, ByteThenRun, RunAtEnd, ByteThenRunAtEnd, Times, Literal, Choice}
 use Rattle.sedtext.proofs.ReachLemmas.{open_at, close_at}
 use Rattle.sedtext.proofs.RunLemmas.{run_longest}
 use Rattle.sedtext.proofs.SpanLemmas.{CopiesLead-forward, Matches-forward}
@@ -216,6 +216,11 @@ pub span_byte : (first : First) (w : List ℕ) (p i j : ℕ) → FirstWith first
 span_byte first w p i j here is =
     (start_byte first w p (Some i) here, ((here.1, is), (let inside = starts_inside first w i here.1 in omega (arith, inside, is)), λ k h. omega (arith, h.1, is)))
 
+pub span_run : (members : List Bool) (w : List ℕ) (p k : ℕ) → p ≤ length w → IsRun members w p k → FirstSpan (Run members) w p (Some (p, k))
+span_run members w p k within run =
+    let far = run_longest members w p k run in
+    (((omega arith), within, tt, λ h low lt can. omega (arith, low, lt)), (far.1, far.0, far.2))
+
 pub span_byte_run : (first : First) (members : List Bool) (w : List ℕ) (p i b k : ℕ) → FirstWith first w p (Some i) → b ≡ i + 1 → IsRun members w b k → FirstSpan (ByteThenRun first members) w p (Some (i, k))
 span_byte_run first members w p i b k here is run =
     let far = run_longest members w (i + 1) k (subst (λ v. IsRun members w v k) is run) in
@@ -273,6 +278,7 @@ span_byte_run_end first members w p k n is start = (start, ((start.2.0, subst (R
 spans_start : (form : DirectForm) (w : List ℕ) (i j : ℕ) → FormSpans form w i j → CanStart form w i
 spans_start (Anchor anchors) w i j s = s.0
 spans_start (OneByte first) w i j s = s.0
+spans_start (Run members) w i j s = tt
 spans_start (ByteThenRun first members) w i j s = s.0
 spans_start (RunAtEnd members) w i j s = subst (Repeated members w i) s.1 s.0
 spans_start (ByteThenRunAtEnd first members) w i j s = (s.0, subst (Repeated members w (i + 1)) s.2 s.1)
@@ -284,6 +290,7 @@ spans_start (Choice literals) w i j s = (s.0, s.1, s.2, s.3)
 ends_on : (form : DirectForm) (w : List ℕ) (i j : ℕ) → FormSpans form w i j → i ≤ j
 ends_on (Anchor anchors) w i j s = omega (arith, s.1)
 ends_on (OneByte first) w i j s = omega (arith, s.1)
+ends_on (Run members) w i j s = CopiesLead-forward (Matches (set members) w) j i s
 ends_on (ByteThenRun first members) w i j s = omega (arith, CopiesLead-forward (Matches (set members) w) j (i + 1) s.1)
 ends_on (RunAtEnd members) w i j s = CopiesLead-forward (Matches (set members) w) j i s.0
 ends_on (ByteThenRunAtEnd first members) w i j s = omega (arith, CopiesLead-forward (Matches (set members) w) j (i + 1) s.1)
@@ -304,6 +311,7 @@ null_counts s anchors p (Some f) = least_none s 0 refl
 looked_bytes : (form : DirectForm) (w : List ℕ) (p i j : ℕ) → FirstSpan form w p (Some (i, j)) → j - i ≤ bytes_looked_at form p (i, j)
 looked_bytes (Anchor anchors) w p i j span = omega (arith, span.1.0.1)
 looked_bytes (OneByte first) w p i j span = omega (arith, span.0.0)
+looked_bytes (Run members) w p i j span = omega (arith, span.0.0)
 looked_bytes (ByteThenRun first members) w p i j span = omega (arith, span.0.0)
 looked_bytes (RunAtEnd members) w p i j span = omega arith
 looked_bytes (ByteThenRunAtEnd first members) w p i j span = omega arith
@@ -323,6 +331,7 @@ anchored anchors w p i free first =
 bytes_from : (form : DirectForm) (w : List ℕ) (p i j : ℕ) → (EndsText form → ⊥) → FirstSpan form w p (Some (i, j)) → j - p ≤ bytes_looked_at form p (i, j)
 bytes_from (Anchor anchors) w p i j free span = let low = anchored anchors w p i free span.0 in omega (arith, low, span.1.0.1)
 bytes_from (OneByte first) w p i j free span = omega arith
+bytes_from (Run members) w p i j free span = omega arith
 bytes_from (ByteThenRun first members) w p i j free span = omega arith
 bytes_from (RunAtEnd members) w p i j free span = absurd (free tt)
 bytes_from (ByteThenRunAtEnd first members) w p i j free span = absurd (free tt)
@@ -351,6 +360,7 @@ ends_early e (ByteThenRunAtEnd first members) is (w, bytes, i, j, early, span) e
     let at = (is w bytes i j (omega (arith, low, early))).0 span in
     omega (arith, early, at.2)
 ends_early e (OneByte first) is early ends = absurd ends
+ends_early e (Run members) is early ends = absurd ends
 ends_early e (ByteThenRun first members) is early ends = absurd ends
 ends_early e (Times members count) is early ends = absurd ends
 ends_early e (Literal literal) is early ends = absurd ends

@@ -15,7 +15,7 @@ use Rattle.sedmatch.specs.declared.direct.Anchor.{Anchor as Anchors}
 use Rattle.sedmatch.specs.declared.direct.First.{First}
 use Rattle.sedmatch.specs.declared.direct.First.TheVariants.{Among, Member}
 use Rattle.sedmatch.specs.declared.direct.DirectForm.{DirectForm}
-use Rattle.sedmatch.specs.declared.direct.DirectForm.TheVariants.{Anchor, OneByte, ByteThenRun, RunAtEnd, ByteThenRunAtEnd, Times, Literal, Choice}
+use Rattle.sedmatch.specs.declared.direct.DirectForm.TheVariants.{Anchor, OneByte, Run, ByteThenRun, RunAtEnd, ByteThenRunAtEnd, Times, Literal, Choice}
 
 -- the byte can come first
 abbrev pub CanComeFirst : First → ℕ → Type 0
@@ -34,6 +34,7 @@ AnchorsHold anchors w i = (IsTrue anchors.at_start → i ≡ 0) × (IsTrue ancho
 abbrev pub FormSpans : DirectForm → List ℕ → ℕ → ℕ → Type 0
 FormSpans (Anchor anchors) w i j = AnchorsHold anchors w i × (j ≡ i)
 FormSpans (OneByte first) w i j = StartsWith first w i × (j ≡ i + 1)
+FormSpans (Run members) w i j = Repeated members w i j
 FormSpans (ByteThenRun first members) w i j = StartsWith first w i × Repeated members w (i + 1) j
 FormSpans (RunAtEnd members) w i j = Repeated members w i j × (j ≡ length w)
 FormSpans (ByteThenRunAtEnd first members) w i j = StartsWith first w i × Repeated members w (i + 1) j × (j ≡ length w)
@@ -77,6 +78,7 @@ IsDirect e form = SpannedAs (expression_tree e) form × (e.groups ≡ 0) × (rat
 abbrev pub CanStart : DirectForm → List ℕ → ℕ → Type 0
 CanStart (Anchor anchors) w i = AnchorsHold anchors w i
 CanStart (OneByte first) w i = StartsWith first w i
+CanStart (Run members) w i = Unit {0}
 CanStart (ByteThenRun first members) w i = StartsWith first w i
 CanStart (RunAtEnd members) w i = Repeated members w i (length w)
 CanStart (ByteThenRunAtEnd first members) w i = StartsWith first w i × Repeated members w (i + 1) (length w)

@@ -1,5 +1,5 @@
-//! Direct forms: expressions whose matches a look at the text tells. Anchors alone, a byte of a set, always as many
-//! bytes of a set, a byte and a run, a run at the end of the text, a byte before one, a literal, one of a few literals.
+//! Direct forms: expressions whose matches a look at the text tells. Anchors alone, a byte of a set, a run of such bytes, always
+//! as many of them, a byte and a run, a run at the end of the text, a byte before one, a literal, one of a few literals.
 //!
 //! Where such a match begins is told by its bytes, and where the longest ends by those that follow, so that nothing
 //! has to be found out of the expression in a search. What a search costs falls with the place from which it starts: all
@@ -17,7 +17,7 @@ ghost use Rattle.sedtext.specs.Spans.{SomeFound, IsIn};
 ghost use Rattle.sedtext.specs.Word.{AllWord};
 ghost use Rattle.sedmatch.specs.Candidates.{NoMatchBefore};
 ghost use Rattle.sedmatch.specs.Direct.{CanComeFirst, FirstWith, FirstStart, FirstSpan, HasForm, IsDirect, end_or, bytes_looked_at, rate};
-ghost use Rattle.sedmatch.specs.declared.direct.DirectForm.TheVariants.{ByteThenRunAtEnd, Anchor as AnchorForm, OneByte, ByteThenRun, RunAtEnd, Times, Literal as LiteralForm, Choice as ChoiceForm};
+ghost use Rattle.sedmatch.specs.declared.direct.DirectForm.TheVariants.{ByteThenRunAtEnd, Anchor as AnchorForm, OneByte, Run, ByteThenRun, RunAtEnd, Times, Literal as LiteralForm, Choice as ChoiceForm};
 
 use memchr::memmem::Finder;
 use sedre::{ByteSet, Expr, Node, NodeId, Steps};
@@ -68,6 +68,8 @@ pub enum DirectForm {
     Anchor(Anchor),
     /// One byte.
     OneByte(First),
+    /// Bytes of the set, any number of them.
+    Run(ByteSet),
     /// One byte, and bytes of the set, any number of them.
     ByteThenRun(First, ByteSet),
     /// Bytes of the set up to the end of the text, any number of them.
@@ -196,7 +198,7 @@ fn byte_run_then(
     }
 }
 
-/// How the matches of the expression look, if they are of one byte, or of a run and what stands before or after it.
+/// How the matches of the expression look, if they are of one byte, a run or both.
 fn run_form(expr: &Expr, steps: &mut Steps) -> Option<DirectForm>
     ensures form { IfSome result (HasForm (expression_tree expr.now) 4) }
     ensures cost { Takes steps.old steps.new 7 }
@@ -209,7 +211,10 @@ fn run_form(expr: &Expr, steps: &mut Steps) -> Option<DirectForm>
             Node::Seq(byte, run) => byte_run_then(expr, (a, b), (byte, run), steps),
             _ => run_then(expr, a, b, steps),
         },
-        _ => None,
+        _ => {
+            let members = star_set(expr, root, steps)?;
+            Some(DirectForm::Run(members))
+        }
     }
 }
 
@@ -347,6 +352,22 @@ fn byte_span(first: &First, text: &Text, from: usize, steps: &mut Steps) -> Opti
         None => None,
         Some(start) => Some((start, text.after(start, 1))),
     }
+}
+
+/// The bytes of the set from `from` on.
+#[inline(always)]
+fn run_span(
+    members: &ByteSet,
+    text: &Text,
+    from: usize,
+    steps: &mut Steps,
+) -> Option<(usize, usize)>
+    requires from { from ≤ length text.now }
+    ensures span { FirstSpan (Run members.now) text.now from result }
+    ensures cost { Pays steps.old steps.new (4 * (end_or (length text.now) result + 1)) (4 * from) }
+    ensures counts { IfSome result (λ f. TakesAtLeast steps.old steps.new (f.1 - from)) }
+{
+    Some((from, run_end(text, members, from, steps)))
 }
 
 /// The first byte from `from` on that is one, and the bytes of the set after it.
@@ -501,6 +522,7 @@ fn form_span(
     match form {
         DirectForm::Anchor(anchor) => anchor_span(*anchor, text, from),
         DirectForm::OneByte(first) => byte_span(first, text, from, steps),
+        DirectForm::Run(members) => run_span(members, text, from, steps),
         DirectForm::ByteThenRun(first, members) => byte_run_span(first, members, text, from, steps),
         DirectForm::RunAtEnd(members) => run_end_span(members, text, from, steps),
         DirectForm::ByteThenRunAtEnd(first, members) => {
@@ -554,6 +576,9 @@ pub fn direct_candidate(form: &DirectForm, text: &Text, steps: &mut Steps) -> Op
         DirectForm::ByteThenRunAtEnd(first, _) => find_first(first, text, 0, steps),
         DirectForm::Literal(finder) => find_literal(text, finder, 0, steps),
         DirectForm::Choice(choice) => choice.start(text, 0, steps),
-        DirectForm::Anchor(_) | DirectForm::RunAtEnd(_) | DirectForm::Times(_, _) => Some(0),
+        DirectForm::Anchor(_)
+        | DirectForm::Run(_)
+        | DirectForm::RunAtEnd(_)
+        | DirectForm::Times(_, _) => Some(0),
     }
 }

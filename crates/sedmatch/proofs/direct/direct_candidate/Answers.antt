@@ -59,3 +59,6 @@ returns-in-Anchor-2-clause-counts c = least_none c.args.steps.now 0 refl
 
 pub returns-in-Anchor-3-clause-counts : goal.returns-in-Anchor-3-clause-counts
 returns-in-Anchor-3-clause-counts c = least_none c.args.steps.now 0 refl
+
+pub returns-in-Anchor-4-clause-counts : goal.returns-in-Anchor-4-clause-counts
+returns-in-Anchor-4-clause-counts c = least_none c.args.steps.now 0 refl
