@@ -117,7 +117,7 @@ pub struct Command {
 }
 
 /// Why a text isn't a script, S1 to S23.
-#[derive(Clone, Copy, Debug)]
+#[derive(Clone, Copy, Debug, PartialEq, Eq)]
 pub enum Reason {
     /// S1: no function stands where one is expected.
     UnknownCommand,
@@ -232,7 +232,7 @@ impl Reason {
 }
 
 /// A fault, and the place of the byte at which it is reported, counted from 0.
-#[derive(Clone, Copy, Debug)]
+#[derive(Clone, Copy, Debug, PartialEq, Eq)]
 pub struct ScriptFault {
     /// A place in the text, at most its length.
     pub place: usize,
