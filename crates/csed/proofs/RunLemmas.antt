@@ -1,15 +1,13 @@
 -- From what an edit's one sink gained to the bytes that a caller gets.
 use Rattle.std.proofs.Common.{◌≡◌, ◌≢◌, ◌≤◌, ◌+◌, ◌==◌, ℕ, zero, suc, true, false, List, [], ◌∷◌, Option, Some, Result, Err, if◌then◌else◌, length, take, nat_eq, refl, sym, subst, ap, arith}
 use Rattle.sedscript.specs.Program.{Program}
-use Rattle.sedengine.specs.Limits.{Limits}
-use Rattle.sedengine.specs.State.{Setting, State}
+use Rattle.sedengine.specs.State.{Limits, Setting, State, setting_of}
 use Rattle.sedengine.specs.Move.{to_sink}
-use Rattle.sedengine.specs.Devices.{part, Gained, GainedWithin, SourceAtEnd}
-use Rattle.sedengine.specs.Ends.{Cause}
-use Rattle.sedengine.specs.ScriptSetting.{setting_of}
+use Rattle.sedengine.specs.Ends.{part, Gained, GainedWithin, SourceAtEnd, Cause}
 use Rattle.sedengine.specs.declared.ends.Ended.{Ended}
 use Rattle.sedengine.specs.declared.ends.Ended.TheVariants.{Done, PatternFull, HoldFull, QueueFull, TurnsSpent, NoPrevious, InputBroken, OutputBroken, OutputFull}
-use Rattle.sededit.specs.Editing.{EditEnds, IsOutput, nothing_before, start_over}
+use Rattle.sededit.specs.EditEnds.{EditEnds}
+use Rattle.sededit.specs.Editing.{IsOutput, nothing_before, start_over}
 use Rattle.csed.specs.Reports.{cause_of}
 use Rattle.csed.specs.Calls.{RunStops, no_files}
 use Rattle.csed.specs.Outcomes.{RunsTo, outcome_of}

@@ -4,12 +4,10 @@ use Rattle.sedscript.specs.Script.{Means}
 use Rattle.sedscript.specs.FirstFault.{Faulty}
 use Rattle.sedscript.specs.Program.{Program}
 use Rattle.sedscript.specs.declared.types.ScriptFault.{ScriptFault}
-use Rattle.sedengine.specs.Limits.{Limits}
+use Rattle.sedengine.specs.State.{Limits, Setting, State, setting_of}
 use Rattle.sedengine.specs.LimitRanges.{AreLimits, limits_of}
-use Rattle.sedengine.specs.State.{Setting, State}
 use Rattle.sedengine.specs.Move.{to_sink}
 use Rattle.sedengine.specs.Ends.{Cause}
-use Rattle.sedengine.specs.ScriptSetting.{setting_of}
 use Rattle.sedengine.specs.declared.ends.Ended.{Ended}
 use Rattle.sedengine.specs.declared.ends.Ended.TheVariants.{Done, InputBroken, OutputBroken}
 use Rattle.sededit.specs.Editing.{BeginsOutput, IsOutput, start_over}

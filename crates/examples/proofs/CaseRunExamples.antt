@@ -3,19 +3,16 @@
 use Rattle.std.proofs.Common.{refl}
 use Rattle.std.specs.Prelude.{codes}
 use Rattle.examples.proofs.ComputedReading.{outcome, rest_of}
-use Rattle.sedre.specs.Written.{tree_at, tree_within}
-use Rattle.sedre.specs.Brackets.{list_at, list_end}
-use Rattle.sedre.specs.Delimited.{delimiter_at}
-use Rattle.sedre.specs.Intervals.{interval}
-use Rattle.sedre.specs.Items.{item_at as expression_item_at}
+use Rattle.sedre.specs.Tree.{tree_at, tree_within}
+use Rattle.sedre.specs.Brackets.{list_at, list_end, delimiter_at}
+use Rattle.sedre.specs.Items.{interval, item_at as expression_item_at}
 use Rattle.sedre.specs.Sets.{set_of}
 use Rattle.sedmatch.specs.Matching.{any, greatest, copies, spans, longest, found_from, found, cut, first_copy, last_start, groups_after, report}
 use Rattle.examples.proofs.ComputedScript.{verdict, cutting, walked, is_script}
-use Rattle.sedscript.specs.Addresses.{match_at, address_at, second_at, addresses_at}
+use Rattle.sedscript.specs.Items.{match_at, address_at, second_at, addresses_at, substitute_at, function_at, item_at}
 use Rattle.sedscript.specs.Between.{substituted}
 use Rattle.sedscript.specs.Bytes.{past}
 use Rattle.sedscript.specs.Functions.{name_from, text_from}
-use Rattle.sedscript.specs.Items.{substitute_at, function_at, item_at}
 use Rattle.sedspace.specs.Lines.{lines}
 use Rattle.sedengine.specs.Move.{next_move}
 use Rattle.sedengine.specs.Select.{selects}

@@ -11,16 +11,15 @@ use Rattle.clap.specs.Walk.{bundle_met, walked as word_walked}
 use Rattle.clap.specs.Faults.{defaults_fault, flags_fault, walk_fault}
 use Rattle.clap.specs.declared.error.kind.ErrorKind.TheVariants.{DisplayHelp, InvalidValue, UnknownArgument}
 use Rattle.sededit.specs.CommandLine.{Asks, ScriptPart, IsCommandLine, extended_in, file, given_to, quiet_in, sed_command, text}
-use Rattle.sedre.specs.Delimited.{delimiter_at}
-use Rattle.sedre.specs.Written.{tree_at, tree_within}
+use Rattle.sedre.specs.Brackets.{delimiter_at}
+use Rattle.sedre.specs.Tree.{tree_at, tree_within}
 use Rattle.sedre.specs.Items.{item_at as expression_item_at}
 use Rattle.sedre.specs.Sets.{set_of}
 use Rattle.sedmatch.specs.Matching.{any, greatest, copies, spans, longest, found_from, found, cut, first_copy, last_start, groups_after, report}
-use Rattle.sedscript.specs.Addresses.{match_at, address_at, second_at, addresses_at}
+use Rattle.sedscript.specs.Items.{match_at, address_at, second_at, addresses_at, substitute_at, function_at, item_at}
 use Rattle.sedscript.specs.Between.{substituted}
 use Rattle.sedscript.specs.Bytes.{past}
 use Rattle.sedscript.specs.Functions.{name_from, text_from}
-use Rattle.sedscript.specs.Items.{substitute_at, function_at, item_at}
 use Rattle.sedscript.specs.Program.{Program}
 use Rattle.sedspace.specs.Lines.{lines}
 use Rattle.sedengine.specs.Move.{next_move}

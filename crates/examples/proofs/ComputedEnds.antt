@@ -7,10 +7,8 @@ use Rattle.sedre.specs.declared.types.Kind.TheVariants.{Basic}
 use Rattle.sedscript.specs.Program.{Program}
 use Rattle.examples.proofs.ComputedScript.{Script}
 use Rattle.sedspace.specs.Lines.{lines}
-use Rattle.sedengine.specs.Limits.{Limits}
-use Rattle.sedengine.specs.State.{State, Task, Move, Setting}
+use Rattle.sedengine.specs.State.{Limits, State, Task, Move, Setting, setting_of}
 use Rattle.sedengine.specs.Move.{next_move, after, start, to_sink}
-use Rattle.sedengine.specs.ScriptSetting.{setting_of}
 use Rattle.sedengine.specs.Ends.{WithinLimits, Within, HasTurn, IsCause, Cause, WholeOrBrokenOff, Whole, BrokenOff, named_sink, takes_turn, line_at, reaches, reads}
 use Rattle.sedengine.specs.declared.ends.Ended.{Ended}
 use Rattle.sedengine.specs.declared.ends.Ended.TheVariants.{Done, PatternFull, HoldFull, QueueFull, TurnsSpent, NoPrevious, InputBroken}

@@ -6,9 +6,8 @@ use Rattle.sedre.specs.declared.types.Kind.TheVariants.{Basic}
 use Rattle.sedscript.specs.Program.{Program}
 use Rattle.examples.proofs.ComputedScript.{Script}
 use Rattle.sedspace.specs.Lines.{lines}
-use Rattle.sedengine.specs.State.{State, Move, Setting}
+use Rattle.sedengine.specs.State.{State, Move, Setting, setting_of}
 use Rattle.sedengine.specs.Move.{next_move, after, written, next_or_stay, writes_of, start, to_sink}
-use Rattle.sedengine.specs.ScriptSetting.{setting_of}
 use Rattle.sededit.specs.Editing.{IsOutput}
 
 -- what moves write, and the state that they lead to

@@ -3,9 +3,8 @@
 use Rattle.std.proofs.Common.{◌≡◌, ◌≤◌, ℕ, zero, suc, ◌+◌, List, [], ◌∷◌, ◌++◌, length, Option, Some, None, Ok, Err, refl, subst, sym, arith}
 use Rattle.std.specs.Prelude.{slice_get}
 use Rattle.sedre.specs.declared.types.Kind.{Kind}
-use Rattle.sedre.specs.Written.{WrittenExpression}
+use Rattle.sedre.specs.Tree.{WrittenExpression, Tree}
 use Rattle.sedre.specs.Grammar.{ReadsAs}
-use Rattle.sedre.specs.Tree.{Tree}
 use Rattle.examples.proofs.ComputedReading.{Outcome, outcome, reads, faulty as bad_expression, unfinished, Holds, outcome_holds, written, tree_of_written, nodes_of_written, fault_either_way, no_fault_within}
 use Rattle.sedscript.specs.declared.types.ScriptFault.{ScriptFault}
 use Rattle.sedscript.specs.declared.items.Item.{Item}
@@ -14,13 +13,10 @@ use Rattle.sedscript.specs.declared.items.Here.TheVariants.{Is, Ends}
 use Rattle.sedscript.specs.declared.types.FileUse.TheVariants.{Read, Write}
 use Rattle.sedscript.specs.declared.bytes.Sort.TheVariants.{Separator}
 use Rattle.sedscript.specs.Bytes.{bytes_between, past}
-use Rattle.sedscript.specs.Reading.{Pattern, Reading, plainly, expression}
-use Rattle.sedscript.specs.Expressions.{IsRead, Gives, value, after_expression}
+use Rattle.sedscript.specs.Items.{Pattern, Reading, plainly, expression, item_at}
+use Rattle.sedscript.specs.Script.{IsRead, Gives, value, after_expression, CutScript, done, IsEnd, texts_of, none_counted, substitutions_of, tables_of, commands_of, is_quiet, Means}
 use Rattle.sedscript.specs.FirstFault.{in_script, Fails, own, no_expression, later, Faulty, early, afterwards}
-use Rattle.sedscript.specs.Items.{item_at}
-use Rattle.sedscript.specs.Files.{files_in}
-use Rattle.sedscript.specs.Targets.{target_fault}
-use Rattle.sedscript.specs.Script.{CutScript, done, IsEnd, texts_of, none_counted, substitutions_of, tables_of, commands_of, is_quiet, Means}
+use Rattle.sedscript.specs.Targets.{files_in, target_fault}
 use Rattle.sedscript.specs.Program.{Program}
 use Rattle.sedscript.proofs.Cuts.{cut_more}
 

@@ -5,9 +5,8 @@ use Rattle.std.proofs.lemmas.Bool.{leb-true}
 use Rattle.sedre.specs.declared.types.Kind.{Kind}
 use Rattle.sedre.specs.Tree.{Tree}
 use Rattle.sedre.specs.Sets.{set_of}
-use Rattle.sedre.specs.Items.{item_at}
+use Rattle.sedre.specs.Items.{item_at, interval}
 use Rattle.sedre.specs.Brackets.{list_at}
-use Rattle.sedre.specs.Intervals.{interval}
 use Rattle.sedre.specs.Grammar.{ReadsAs}
 use Rattle.examples.proofs.ComputedReading.{Outcome, reads, faulty, unfinished, outcome, rest_of, outcome_holds, Holds}
 use Rattle.sedmatch.specs.Spans.{IsLeftmostLongest, NotFound}

@@ -3,21 +3,18 @@
 use Rattle.std.proofs.Common.{◌≡◌, ℕ, zero, suc, ◌+◌, ◌<◌, ◌≤◌, true, false, List, [], ◌∷◌, ◌++◌, length, drop, Some, refl, subst, ap, sym, ◌∙◌, length-append, arith}
 use Rattle.std.specs.Prelude.{codes}
 use Rattle.sedre.specs.declared.types.Kind.TheVariants.{Basic}
-use Rattle.sedscript.specs.Addresses.{address_at, second_at, addresses_at}
+use Rattle.sedscript.specs.Items.{address_at, second_at, addresses_at, function_at, item_at}
 use Rattle.sedscript.specs.Bytes.{past}
 use Rattle.sedscript.specs.Functions.{name_from, text_from}
-use Rattle.sedscript.specs.Items.{function_at, item_at}
 use Rattle.sedscript.specs.Program.{Program}
 use Rattle.sedspace.specs.Lines.{lines, is_newline, HasNoNewline}
-use Rattle.sedengine.specs.Ends.{Cause, reads}
-use Rattle.sedengine.specs.Limits.{Limits}
+use Rattle.sedengine.specs.Ends.{Cause, reads, BreaksInLine, LosesPartAfter, size_of}
+use Rattle.sedengine.specs.State.{Limits, setting_of, Setting, State}
 use Rattle.sedengine.specs.LimitRanges.{limits_of}
 use Rattle.sedengine.specs.Move.{next_move, after, start, to_sink, written}
 use Rattle.sedengine.specs.Run.{Cycled, Ending}
-use Rattle.sedengine.specs.TakenInput.{BreaksInLine, LosesPartAfter, TakesInput, size_of}
-use Rattle.sedengine.specs.ScriptSetting.{setting_of}
+use Rattle.sedengine.specs.DevicesAfter.{TakesInput}
 use Rattle.sedengine.specs.Select.{selects}
-use Rattle.sedengine.specs.State.{Setting, State}
 use Rattle.sedengine.specs.declared.ends.Ended.TheVariants.{InputBroken}
 use Rattle.examples.proofs.ComputedEnds.{all_fit, within_so}
 use Rattle.examples.proofs.ComputedRun.{no_files}

@@ -2,8 +2,7 @@
 -- by the definition. 47 is the slash.
 use Rattle.std.proofs.Common.{Some, None, refl}
 use Rattle.std.specs.Prelude.{codes, ◌≡◌}
-use Rattle.sedre.specs.Brackets.{list_end}
-use Rattle.sedre.specs.Delimited.{delimiter_at}
+use Rattle.sedre.specs.Brackets.{list_end, delimiter_at}
 
 -- A delimiter in a bracket expression or after a backslash doesn't end it.
 

@@ -7,13 +7,12 @@ use Rattle.std.proofs.lemmas.Bool.{leb-true, ltb-true}
 use Rattle.sedre.specs.declared.types.Kind.TheVariants.{Basic}
 use Rattle.examples.proofs.ComputedScript.{verdict, cutting, walked, is_script}
 use Rattle.sedscript.specs.Program.{Program}
-use Rattle.sedscript.specs.Addresses.{address_at, second_at, addresses_at}
+use Rattle.sedscript.specs.Items.{address_at, second_at, addresses_at, function_at, item_at}
 use Rattle.sedscript.specs.Bytes.{past}
 use Rattle.sedscript.specs.Functions.{name_from, text_from}
-use Rattle.sedscript.specs.Items.{function_at, item_at}
 use Rattle.sedspace.specs.Lines.{lines}
-use Rattle.sedengine.specs.Devices.{part, GainedWithin}
-use Rattle.sedengine.specs.Limits.{Limits}
+use Rattle.sedengine.specs.Ends.{part, GainedWithin}
+use Rattle.sedengine.specs.State.{Limits}
 use Rattle.sedengine.specs.Move.{next_move, to_sink}
 use Rattle.sedengine.specs.Select.{selects}
 use Rattle.sedengine.specs.declared.ends.Ended.TheVariants.{Done, InputBroken, OutputBroken, OutputFull}

@@ -4,9 +4,8 @@ use Rattle.sedre.specs.declared.types.Kind.{Kind}
 use Rattle.sedre.specs.declared.types.ExprFault.{ExprFault}
 use Rattle.sedre.specs.declared.byte_set.ByteSet.{ByteSet}
 use Rattle.sedre.specs.Tree.{Tree, set}
-use Rattle.sedre.specs.Sizes.{size}
+use Rattle.sedre.specs.Sizes.{size, concatenation}
 use Rattle.sedre.specs.Sets.{only, any_byte}
-use Rattle.sedre.specs.Repeats.{concatenation}
 use Rattle.sedre.specs.Grammar.{ReadsAs}
 use Rattle.examples.proofs.ComputedReading.{Outcome, outcome, reads, faulty, unfinished, outcome_holds, Holds}
 

@@ -6,9 +6,8 @@ use Rattle.sedre.specs.declared.types.Kind.TheVariants.{Basic, Extended}
 use Rattle.sedre.specs.declared.types.Reason.TheVariants.{OpenBracket, UnknownClass, LongCollating, BadRange, OpenGroup}
 use Rattle.sedre.specs.declared.types.Reason.TheVariants.{StrayClose, BadInterval, NothingToRepeat, LastBackslash}
 use Rattle.sedre.specs.declared.types.Reason.TheVariants.{UnknownEscape, BackReference, TooManyNodes}
-use Rattle.sedre.specs.Items.{item_at}
+use Rattle.sedre.specs.Items.{item_at, interval}
 use Rattle.sedre.specs.Brackets.{list_at}
-use Rattle.sedre.specs.Intervals.{interval}
 use Rattle.sedre.specs.Grammar.{ExprFaulty}
 use Rattle.examples.proofs.ComputedReading.{outcome, rest_of, faulty_with}
 

@@ -9,8 +9,8 @@ use Rattle.sedscript.specs.declared.types.Reason.TheVariants.{UnknownFlag, Repea
 use Rattle.sedscript.specs.declared.items.Flags.{Flags}
 use Rattle.sedscript.specs.Bytes.{is_digit, with_digits, bytes_between}
 use Rattle.sedscript.specs.Functions.{fault, name_from, ◌>>=◌}
-use Rattle.sedscript.specs.Flags.{no_flags, ends_flags, numbered, with_number, with_flag, with_file, flags_from}
-use Rattle.sedscript.specs.Transliteration.{is_among}
+use Rattle.sedscript.specs.Between.{no_flags, ends_flags, numbered, with_number, with_flag, with_file, flags_from}
+use Rattle.sedscript.specs.Strings.{is_among}
 use Rattle.examples.specs.Numbers.{decimal_from, WritesNumber, NumberAmong}
 
 -- the flags after some bytes, by those before

@@ -4,13 +4,12 @@ use Rattle.std.proofs.Common.{true, false, Some, None, refl}
 use Rattle.std.specs.Prelude.{codes, ◌≡◌}
 use Rattle.sedre.specs.declared.types.Kind.TheVariants.{Basic, Extended}
 use Rattle.sedre.specs.Tree.{set, begin, end, seq, group, star}
-use Rattle.sedre.specs.Sets.{only}
+use Rattle.sedre.specs.Sets.{only, set_of, folded_set}
 use Rattle.sedre.specs.Items.{item_at}
 use Rattle.sedre.specs.Brackets.{list_at}
 use Rattle.sedre.specs.Grammar.{ReadsAs}
 use Rattle.examples.proofs.ComputedReading.{outcome, rest_of, reads_as}
 use Rattle.examples.proofs.ExampleWords.{byte, any}
-use Rattle.sedre.specs.Sets.{set_of, folded_set}
 use Rattle.examples.proofs.ExampleWords.{members, others, members_from}
 
 -- Bytes and groups.

@@ -8,13 +8,12 @@ use Rattle.sedscript.specs.FirstFault.{Faulty}
 use Rattle.examples.proofs.ComputedScript.{verdict, cutting, walked, has_fault}
 use Rattle.examples.proofs.ScriptWords.{fault_at}
 use Rattle.sedre.specs.Items.{item_at as expression_item_at}
-use Rattle.sedre.specs.Delimited.{delimiter_at}
+use Rattle.sedre.specs.Brackets.{delimiter_at}
 use Rattle.examples.proofs.ComputedReading.{outcome, rest_of}
 use Rattle.sedscript.specs.Bytes.{past}
-use Rattle.sedscript.specs.Addresses.{match_at, address_at, addresses_at}
+use Rattle.sedscript.specs.Items.{match_at, address_at, addresses_at, substitute_at, function_at, item_at}
 use Rattle.sedscript.specs.Between.{substituted}
 use Rattle.sedscript.specs.Functions.{text_from, name_from}
-use Rattle.sedscript.specs.Items.{substitute_at, function_at, item_at}
 
 -- The text of `a`, `i` or `c` is missing: the letter.
 

@@ -4,8 +4,7 @@ use Rattle.std.proofs.Common.{◌++◌, None, refl}
 use Rattle.std.specs.Prelude.{codes}
 use Rattle.sedre.specs.declared.types.Kind.TheVariants.{Extended}
 use Rattle.sedre.specs.declared.types.Reason.TheVariants.{TooManyNodes, TooDeep}
-use Rattle.sedre.specs.Items.{item_at}
-use Rattle.sedre.specs.Intervals.{interval}
+use Rattle.sedre.specs.Items.{item_at, interval}
 use Rattle.sedre.specs.Grammar.{ExprFaulty}
 use Rattle.examples.proofs.ComputedReading.{outcome, rest_of, faulty_with}
 use Rattle.examples.proofs.ExampleWords.{times}

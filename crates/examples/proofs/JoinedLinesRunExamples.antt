@@ -9,17 +9,15 @@ use Rattle.sedre.specs.declared.types.Kind.TheVariants.{Basic}
 use Rattle.sedscript.specs.declared.types.Action.TheVariants.{Plain}
 use Rattle.sedscript.specs.declared.types.Simple.TheVariants.{AppendNext, DeleteFirst, PrintFirst}
 use Rattle.sedscript.specs.declared.types.Address.TheVariants.{Last}
-use Rattle.sedscript.specs.Addresses.{address_at, second_at, addresses_at}
+use Rattle.sedscript.specs.Items.{address_at, second_at, addresses_at, function_at, item_at}
 use Rattle.sedscript.specs.Bytes.{past}
 use Rattle.sedscript.specs.Functions.{name_from, text_from}
-use Rattle.sedscript.specs.Items.{function_at, item_at}
 use Rattle.sedscript.specs.Program.{Program}
 use Rattle.sedspace.specs.Lines.{is_newline, lines}
 use Rattle.sedengine.specs.Ends.{Whole, WithinLimits}
 use Rattle.sedengine.specs.Move.{line_to, next_move, start, to_sink}
-use Rattle.sedengine.specs.ScriptSetting.{setting_of}
+use Rattle.sedengine.specs.State.{setting_of, begin, do_at, flush, join, rebegin, Setting, State, Task}
 use Rattle.sedengine.specs.Select.{selects}
-use Rattle.sedengine.specs.State.{begin, do_at, flush, join, rebegin, Setting, State, Task}
 use Rattle.sedengine.specs.declared.ends.Ended.TheVariants.{Done}
 use Rattle.sedengine.proofs.Gains.{to_sink-append}
 use Rattle.examples.proofs.ComputedEnds.{all_fit, whole_after, whole_first, stops_whole, Stops, StopsBy}

@@ -1,6 +1,6 @@
 -- Limits of the examples.
 use Rattle.std.proofs.Common.{ℕ}
-use Rattle.sedengine.specs.Limits.{Limits}
+use Rattle.sedengine.specs.State.{Limits}
 use Rattle.sedengine.specs.LimitRanges.{limits_of}
 
 -- the program's own, but for the turns

@@ -10,7 +10,7 @@ use Rattle.sedre.specs.declared.types.ExprFault.{ExprFault}
 use Rattle.sedre.specs.declared.byte_set.ByteSet.{ByteSet}
 use Rattle.sedre.specs.Sets.{set_of, has, only, union, matching, complement}
 use Rattle.sedre.specs.Brackets.{element, elements, elements_from, is_delimiter, single, both, listed, judged, matched, is_negated, ListedBytes, list_at}
-use Rattle.sedscript.specs.Transliteration.{is_among}
+use Rattle.sedscript.specs.Strings.{is_among}
 use Rattle.examples.specs.Lists.{ArePlain}
 
 abbrev Elements : Type 0

@@ -9,9 +9,8 @@ use Rattle.sedscript.specs.declared.types.Command.{Command}
 use Rattle.sedspace.specs.Lines.{lines}
 use Rattle.sedengine.specs.Ends.{Whole, WithinLimits}
 use Rattle.sedengine.specs.Move.{after, next_move, start, to_sink, written}
-use Rattle.sedengine.specs.ScriptSetting.{setting_of}
+use Rattle.sedengine.specs.State.{setting_of, do_at, State, Setting}
 use Rattle.sedengine.specs.Select.{selects}
-use Rattle.sedengine.specs.State.{do_at, State, Setting}
 use Rattle.sedengine.specs.declared.ends.Ended.{Ended}
 use Rattle.sedengine.specs.declared.ends.Ended.TheVariants.{Done, TurnsSpent}
 use Rattle.examples.proofs.ComputedEnds.{all_fit, whole_after, whole_first, stops_whole, within_so, StopsBy}

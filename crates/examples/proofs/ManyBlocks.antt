@@ -14,16 +14,12 @@ use Rattle.sedscript.specs.declared.items.Function.TheVariants.{Close}
 use Rattle.sedscript.specs.declared.items.Here.{Here}
 use Rattle.sedscript.specs.declared.items.Here.TheVariants.{Is}
 use Rattle.sedscript.specs.declared.items.Item.{Item}
-use Rattle.sedscript.specs.Addresses.{Headed, address_at, addresses_at, addresses_of, with_bang}
+use Rattle.sedscript.specs.Items.{Headed, address_at, addresses_at, addresses_of, with_bang, function_at, item_at, Reading, plainly}
 use Rattle.sedscript.specs.Bytes.{past}
-use Rattle.sedscript.specs.Expressions.{Gives, value}
-use Rattle.sedscript.specs.Files.{files_in}
+use Rattle.sedscript.specs.Script.{Gives, value, CutScript, done, item, IsEnd, Means, commands_of, is_quiet, none_counted, substitutions_of, tables_of, texts_of}
+use Rattle.sedscript.specs.Targets.{files_in, block_end, close_in, commands_in, becomes_command, target_fault_in}
 use Rattle.sedscript.specs.Functions.{may_end}
-use Rattle.sedscript.specs.Items.{function_at, item_at}
-use Rattle.sedscript.specs.Reading.{Reading, plainly}
-use Rattle.sedscript.specs.Script.{CutScript, done, item, IsEnd, Means, commands_of, is_quiet, none_counted, substitutions_of, tables_of, texts_of}
 use Rattle.sedscript.specs.Program.{Program}
-use Rattle.sedscript.specs.Targets.{block_end, close_in, commands_in, becomes_command, target_fault_in}
 use Rattle.examples.proofs.ManyBracesExamples.{opening, openings, braces, stays, no_addresses, gives_opening}
 use Rattle.examples.proofs.ScriptWords.{always}
 

@@ -13,12 +13,9 @@ use Rattle.sedscript.specs.declared.items.Item.{Item}
 use Rattle.sedscript.specs.declared.items.Here.{Here}
 use Rattle.sedscript.specs.declared.items.Here.TheVariants.{Is}
 use Rattle.sedscript.specs.declared.items.Function.TheVariants.{Open}
-use Rattle.sedscript.specs.Addresses.{Headed, address_at, addresses_at, addresses_of, with_bang}
+use Rattle.sedscript.specs.Items.{Headed, address_at, addresses_at, addresses_of, with_bang, function_at, item_at, Reading, plainly}
 use Rattle.sedscript.specs.Bytes.{belongs, past}
-use Rattle.sedscript.specs.Expressions.{Gives, value}
-use Rattle.sedscript.specs.Items.{function_at, item_at}
-use Rattle.sedscript.specs.Reading.{Reading, plainly}
-use Rattle.sedscript.specs.Script.{CutScript, done, item, IsEnd}
+use Rattle.sedscript.specs.Script.{Gives, value, CutScript, done, item, IsEnd}
 use Rattle.sedscript.specs.FirstFault.{Faulty, afterwards}
 use Rattle.sedscript.specs.Targets.{close_in, target_fault}
 use Rattle.examples.proofs.ScriptWords.{fault_at}

@@ -10,8 +10,7 @@ use Rattle.sedre.specs.declared.syntax.Item.TheVariants.{Open}
 use Rattle.sedre.specs.declared.syntax.Symbol.TheVariants.{Opening}
 use Rattle.sedre.specs.declared.syntax.Here.TheVariants.{Is, Ends}
 use Rattle.sedre.specs.Grammar.{CutExpression, done, item, open_groups, unclosed, ExprFaulty}
-use Rattle.sedre.specs.Items.{item_at}
-use Rattle.sedre.specs.Symbols.{symbol}
+use Rattle.sedre.specs.Items.{item_at, symbol}
 
 -- so many openings, as bytes and as items
 abbrev openings : ℕ → List ℕ

@@ -2,10 +2,9 @@
 use Rattle.std.proofs.Common.{◌≡◌, ℕ, List, [], ◌∷◌, ◌++◌, Bool, false, Option, Some, None, refl, sym, ap, subst, arith}
 use Rattle.std.specs.Prelude.{codes, is_some, replicate}
 use Rattle.sedre.specs.declared.types.Kind.TheVariants.{Extended}
-use Rattle.sedre.specs.Written.{WrittenExpression, expression_tree}
-use Rattle.sedre.specs.Delimited.{delimiter_at}
+use Rattle.sedre.specs.Tree.{WrittenExpression, expression_tree, Tree}
+use Rattle.sedre.specs.Brackets.{delimiter_at}
 use Rattle.sedre.specs.Items.{item_at as expression_item_at}
-use Rattle.sedre.specs.Tree.{Tree}
 use Rattle.sedmatch.specs.Matching.{found}
 use Rattle.sedmatch.proofs.MatchingLemmas.{not_found-iff}
 use Rattle.sedscript.specs.declared.substitution.Piece.TheVariants.{Literal}
@@ -13,16 +12,14 @@ use Rattle.sedscript.specs.declared.types.Action.TheVariants.{Plain, Substitute}
 use Rattle.sedscript.specs.declared.types.Simple.TheVariants.{Delete}
 use Rattle.sedscript.specs.declared.types.Address.TheVariants.{Match}
 use Rattle.sedscript.specs.declared.types.Command.{Command}
-use Rattle.sedscript.specs.Addresses.{match_at, address_at, second_at, addresses_at}
+use Rattle.sedscript.specs.Items.{match_at, address_at, second_at, addresses_at, substitute_at, function_at, item_at}
 use Rattle.sedscript.specs.Between.{substituted}
 use Rattle.sedscript.specs.Bytes.{past}
 use Rattle.sedscript.specs.Functions.{name_from, text_from}
-use Rattle.sedscript.specs.Items.{substitute_at, function_at, item_at}
 use Rattle.sedspace.specs.Lines.{lines}
 use Rattle.sedengine.specs.Move.{next_move, start, to_sink}
-use Rattle.sedengine.specs.ScriptSetting.{finds_in, match_with_span as occurrence_of, search_in}
+use Rattle.sedengine.specs.State.{finds_in, match_with_span as occurrence_of, search_in, Setting}
 use Rattle.sedengine.specs.Select.{selects}
-use Rattle.sedengine.specs.State.{Setting}
 use Rattle.sedengine.specs.Substitute.{Occurrence, occurrences_from}
 use Rattle.sedengine.specs.declared.ends.Ended.TheVariants.{Done}
 use Rattle.examples.proofs.ComputedEnds.{all_fit, stops_after, Stops, StopsBy}

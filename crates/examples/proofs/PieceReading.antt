@@ -4,7 +4,8 @@ use Rattle.std.proofs.lemmas.Bool.{ne_eqb, eqb-true, le-leb}
 use Rattle.sedscript.specs.Bytes.{is_digit}
 use Rattle.sedscript.specs.declared.substitution.Piece.{Piece}
 use Rattle.sedscript.specs.declared.substitution.Piece.TheVariants.{Literal as literal, Whole as whole, Group as group}
-use Rattle.sedscript.specs.Replacement.{escaped_piece, pieces_from, pieces_of, is_letter, GroupsWithin}
+use Rattle.sedscript.specs.Strings.{escaped_piece, pieces_from, pieces_of, is_letter}
+use Rattle.sedscript.specs.Pieces.{GroupsWithin}
 use Rattle.examples.specs.WrittenReplacements.{written_pieces}
 
 no_escape : (t : Bool) → (t && false) ≡ false

@@ -5,8 +5,8 @@ use Rattle.std.specs.Option.{option_or, option_len}
 use Rattle.std.proofs.lemmas.Bool.{eqb-true}
 use Rattle.std.proofs.lemmas.Bool.Decides.{nat_tests}
 use Rattle.sedre.specs.declared.types.Kind.{Kind}
-use Rattle.sedre.specs.Written.{WrittenExpression}
-use Rattle.sedre.specs.Delimited.{delimiter_at}
+use Rattle.sedre.specs.Tree.{WrittenExpression}
+use Rattle.sedre.specs.Brackets.{delimiter_at}
 use Rattle.sedscript.specs.declared.bytes.Sort.TheVariants.{Blank, Name, Digit, Separator}
 use Rattle.sedscript.specs.declared.types.ScriptFault.{ScriptFault}
 use Rattle.sedscript.specs.declared.types.Reason.{Reason}
@@ -28,20 +28,13 @@ use Rattle.sedscript.specs.declared.letters.Verb.TheVariants.{ReadsExpression, R
 use Rattle.sedscript.specs.declared.letters.Shape.{Shape}
 use Rattle.sedscript.specs.declared.letters.Shape.TheVariants.{Alone, OpensBlock, ClosesBlock, Remark, NamesLabel, GoesTo, TakesText, NamesFile, TakesStrings}
 use Rattle.sedscript.specs.Bytes.{past, bytes_between, is_digit, is_byte, with_digits}
-use Rattle.sedscript.specs.Strings.{string_end}
-use Rattle.sedscript.specs.Reading.{Reading, plainly, expression, ◌>>=◌}
-use Rattle.sedscript.specs.Functions.{allowed, item_of, ended, may_end, text_of, text_from, file_of, name_from, ◌>>=◌ as ◌then◌}
-use Rattle.sedscript.specs.Letters.{verb_of, most_addresses}
-use Rattle.sedscript.specs.Addresses.{Addressed, line_of, folds_at, match_to, match_at, own_match, address_of, address_at, with_second, second_at, after_first, addresses_at, with_bang}
-use Rattle.sedscript.specs.Flags.{no_flags, numbered, with_number, with_flag, with_file, ends_flags, flags_from, folds}
+use Rattle.sedscript.specs.Strings.{string_end, exceeds, replacement_fault, is_letter, chars_of, repeated_in, repeated_fault, string_fault, strings_fault}
+use Rattle.sedscript.specs.Items.{Reading, plainly, expression, ◌>>=◌, Addressed, line_of, folds_at, match_to, match_at, own_match, address_of, address_at, with_second, second_at, after_first, addresses_at, with_bang, substitute_with, substitute_at, function_of, function_with, function_at, function_after, item_with, item_from, item_at}
+use Rattle.sedscript.specs.Functions.{allowed, item_of, ended, may_end, text_of, text_from, file_of, name_from, ◌>>=◌ as ◌then◌, verb_of, most_addresses}
+use Rattle.sedscript.specs.Between.{no_flags, numbered, with_number, with_flag, with_file, ends_flags, flags_from, folds, own_delimiter, strings_to, strings_after, substitute_strings, transliterate_strings, unless_fault, transliterate_at, flags_after, substituted}
 use Rattle.sedscript.specs.Targets.{fault_if, label_in, block_end, depth_after, target_fault_at, target_fault_in, target_fault}
-use Rattle.sedscript.specs.Replacement.{exceeds, replacement_fault, is_letter}
-use Rattle.sedscript.specs.Transliteration.{chars_of, repeated_in, repeated_fault, string_fault, strings_fault}
-use Rattle.sedscript.specs.Between.{own_delimiter, strings_to, strings_after, substitute_strings, transliterate_strings, unless_fault, transliterate_at, flags_after, substituted}
-use Rattle.sedscript.specs.Items.{substitute_with, substitute_at, function_of, function_with, function_at, function_after, item_with, item_from, item_at}
-use Rattle.sedscript.specs.Expressions.{Gives, value, after_expression, IsRead}
+use Rattle.sedscript.specs.Script.{Gives, value, after_expression, IsRead, CutScript, done, item, Means, IsEnd}
 use Rattle.sedscript.specs.FirstFault.{Fails, Faulty, own, no_expression, later, early, afterwards}
-use Rattle.sedscript.specs.Script.{CutScript, done, item, Means, IsEnd}
 use Rattle.sedscript.specs.Program.{Program}
 use Rattle.examples.specs.Blocks.{IsStray, IsUnclosed}
 use Rattle.examples.specs.Escapes.{wrong_in_string, wrong_in_replacement, IsFirstWrong, FirstWrong, HasGroups, IsSubstitute, IsWrongEscape, in_first, in_second, in_replacement}

@@ -11,15 +11,13 @@ use Rattle.sedscript.specs.declared.types.Address.TheVariants as address
 use Rattle.examples.proofs.ComputedScript.{verdict, cutting, walked, Script, is_script}
 use Rattle.examples.proofs.ScriptWords.{always, at, from_to, unless}
 use Rattle.examples.proofs.ExampleWords.{byte}
-use Rattle.sedre.specs.Items.{item_at as expression_item_at}
-use Rattle.sedre.specs.Intervals.{interval}
-use Rattle.sedre.specs.Delimited.{delimiter_at}
+use Rattle.sedre.specs.Items.{item_at as expression_item_at, interval}
+use Rattle.sedre.specs.Brackets.{delimiter_at}
 use Rattle.examples.proofs.ComputedReading.{outcome, rest_of, written as written_out}
 use Rattle.sedscript.specs.Bytes.{past}
-use Rattle.sedscript.specs.Addresses.{match_at, address_at, second_at, addresses_at}
+use Rattle.sedscript.specs.Items.{match_at, address_at, second_at, addresses_at, substitute_at, function_at, item_at}
 use Rattle.sedscript.specs.Between.{substituted}
 use Rattle.sedscript.specs.Functions.{text_from}
-use Rattle.sedscript.specs.Items.{substitute_at, function_at, item_at}
 
 -- Commands and what stands between them.
 

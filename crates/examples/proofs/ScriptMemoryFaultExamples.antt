@@ -10,12 +10,11 @@ use Rattle.sedre.proofs.OneFault.{one_fault as one_expression_fault}
 use Rattle.sedscript.specs.declared.types.Reason.TheVariants.{NoMemory, UnknownCommand}
 use Rattle.sedscript.specs.declared.types.ScriptFault.{ScriptFault}
 use Rattle.sedscript.specs.declared.types.TheConstants.{NO_MEMORY}
-use Rattle.sedscript.specs.Addresses.{address_at, second_at, addresses_at}
+use Rattle.sedscript.specs.Items.{address_at, second_at, addresses_at, function_at, item_at}
 use Rattle.sedscript.specs.Answers.{fault_of}
 use Rattle.sedscript.specs.Bytes.{past}
 use Rattle.sedscript.specs.Faults.{number_of, name_of}
 use Rattle.sedscript.specs.Functions.{name_from, text_from}
-use Rattle.sedscript.specs.Items.{function_at, item_at}
 use Rattle.sedscript.specs.FirstFault.{Faulty}
 use Rattle.examples.proofs.ComputedScript.{Script, verdict, cutting, walked, is_script, has_fault}
 use Rattle.sedscript.proofs.Exclusive.{ReadsAsOne, means_no_fault}

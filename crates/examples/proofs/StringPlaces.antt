@@ -3,7 +3,7 @@ use Rattle.std.proofs.Common.{◌≡◌, ◌⊎◌, inl, inr, ℕ, zero, suc, �
 use Rattle.std.specs.List.{cons_option}
 use Rattle.sedscript.specs.declared.transliteration.Char.{Char}
 use Rattle.sedscript.specs.Bytes.{bytes_between}
-use Rattle.sedscript.specs.Transliteration.{chars_from, chars_of, escaped_byte}
+use Rattle.sedscript.specs.Strings.{chars_from, chars_of, escaped_byte}
 use Rattle.examples.specs.Escapes.{IsEscape}
 use Rattle.examples.proofs.BackslashLemmas.{next, get_drop, even_again, even_plain, backslash_here}
 use Rattle.examples.proofs.WrongEscapes.{Escape, onto_one, get_take, within, escape_out, no_escape}

@@ -3,7 +3,7 @@ use Rattle.std.proofs.Common.{◌≡◌, ℕ, zero, suc, ◌+◌, ◌<◌, ◌==
 use Rattle.std.proofs.lemmas.Bool.{ne_eqb, eqb-true, eq-eqb}
 use Rattle.std.proofs.lemmas.Option.{slice_get-map}
 use Rattle.std.specs.List.{range_with_len}
-use Rattle.sedscript.specs.Transliteration.{counterpart, table_of, escaped_byte, chars_from, bytes_of}
+use Rattle.sedscript.specs.Strings.{counterpart, table_of, escaped_byte, chars_from, bytes_of}
 use Rattle.examples.specs.Strings.{NoneTwice, written}
 
 -- ---- the table

@@ -4,9 +4,8 @@ use Rattle.std.proofs.Common.{true, false, Some, None, refl}
 use Rattle.std.specs.Prelude.{codes}
 use Rattle.sedre.specs.declared.types.Kind.TheVariants.{Basic, Extended}
 use Rattle.sedre.specs.Tree.{empty, begin, end, seq, alt, group, star, opt}
-use Rattle.sedre.specs.Items.{item_at}
+use Rattle.sedre.specs.Items.{item_at, interval}
 use Rattle.sedre.specs.Brackets.{list_at}
-use Rattle.sedre.specs.Intervals.{interval}
 use Rattle.sedre.specs.Grammar.{ReadsAs}
 use Rattle.examples.proofs.ComputedReading.{outcome, rest_of, reads_as}
 use Rattle.examples.proofs.ExampleWords.{a, b, byte, any, literally, Counts, counted}

@@ -10,22 +10,19 @@ use Rattle.sedscript.specs.declared.types.Simple.TheVariants as simple
 use Rattle.sedscript.specs.declared.types.FileUse.TheVariants.{Read, Write}
 use Rattle.sedscript.specs.declared.types.TextUse.TheVariants.{Append, Change, Insert}
 use Rattle.sedscript.specs.declared.types.Address.TheVariants as address
-use Rattle.sedscript.specs.ScriptText.{with_part}
+use Rattle.sedscript.specs.Script.{with_part}
 use Rattle.sedscript.specs.declared.substitution.Piece.TheVariants.{Literal as literal, Whole as whole, Group as part}
-use Rattle.sedscript.specs.Transliteration.{table_of}
+use Rattle.sedscript.specs.Strings.{table_of}
 use Rattle.examples.proofs.ComputedScript.{verdict, cutting, walked, Script, is_script}
 use Rattle.examples.proofs.ScriptWords.{always, at, from_to, substitution}
 use Rattle.examples.proofs.ExampleWords.{byte}
-use Rattle.sedre.specs.Items.{item_at as expression_item_at}
-use Rattle.sedre.specs.Brackets.{list_at, list_end}
-use Rattle.sedre.specs.Intervals.{interval}
-use Rattle.sedre.specs.Delimited.{delimiter_at}
+use Rattle.sedre.specs.Items.{item_at as expression_item_at, interval}
+use Rattle.sedre.specs.Brackets.{list_at, list_end, delimiter_at}
 use Rattle.examples.proofs.ComputedReading.{outcome, rest_of, written as written_out}
 use Rattle.sedscript.specs.Bytes.{past}
-use Rattle.sedscript.specs.Addresses.{match_at, address_at, second_at, addresses_at}
+use Rattle.sedscript.specs.Items.{match_at, address_at, second_at, addresses_at, substitute_at, function_at, item_at}
 use Rattle.sedscript.specs.Between.{substituted, transliterate_at}
 use Rattle.sedscript.specs.Functions.{text_from, name_from}
-use Rattle.sedscript.specs.Items.{substitute_at, function_at, item_at}
 
 -- Texts of `a`, `i` and `c`; the one-line form is this project's own.
 

@@ -3,10 +3,9 @@
 use Rattle.std.proofs.Common.{◌∷◌, [], ◌++◌, refl}
 use Rattle.std.specs.Prelude.{codes}
 use Rattle.examples.proofs.ComputedScript.{verdict, cutting, walked, is_script}
-use Rattle.sedscript.specs.Addresses.{address_at, second_at, addresses_at}
+use Rattle.sedscript.specs.Items.{address_at, second_at, addresses_at, function_at, item_at}
 use Rattle.sedscript.specs.Bytes.{past}
 use Rattle.sedscript.specs.Functions.{name_from, text_from}
-use Rattle.sedscript.specs.Items.{function_at, item_at}
 use Rattle.sedspace.specs.Lines.{lines}
 use Rattle.sedengine.specs.Move.{next_move}
 use Rattle.sedengine.specs.Select.{selects}

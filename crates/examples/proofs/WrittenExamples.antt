@@ -4,8 +4,7 @@ use Rattle.std.specs.Prelude.{codes}
 use Rattle.sedre.specs.declared.types.Kind.TheVariants.{Basic, Extended}
 use Rattle.sedre.specs.Tree.{empty, seq, alt, group, star, opt}
 use Rattle.sedre.specs.Sizes.{depth}
-use Rattle.sedre.specs.Items.{item_at}
-use Rattle.sedre.specs.Intervals.{interval}
+use Rattle.sedre.specs.Items.{item_at, interval}
 use Rattle.sedre.specs.Grammar.{ReadsAs}
 use Rattle.examples.proofs.ComputedReading.{outcome, rest_of, reads_as}
 use Rattle.examples.proofs.ExampleWords.{a, b, c, Counts, counted}

@@ -6,8 +6,8 @@ use Rattle.std.proofs.lemmas.Bool.{le-ltb}
 use Rattle.sedscript.specs.declared.types.ScriptFault.{ScriptFault}
 use Rattle.sedscript.specs.declared.substitution.Piece.{Piece}
 use Rattle.sedscript.specs.declared.substitution.Piece.TheVariants.{Literal as literal, Whole as whole, Group as group}
-use Rattle.sedscript.specs.Transliteration.{escaped_byte, string_fault}
-use Rattle.sedscript.specs.Replacement.{escaped_piece, piece_fault, replacement_fault, GroupsWithin}
+use Rattle.sedscript.specs.Strings.{escaped_byte, string_fault, escaped_piece, piece_fault, replacement_fault}
+use Rattle.sedscript.specs.Pieces.{GroupsWithin}
 use Rattle.examples.specs.Strings.{written}
 use Rattle.examples.specs.WrittenReplacements.{written_pieces}
 use Rattle.examples.proofs.PieceReading.{special, group_escape}

@@ -10,8 +10,7 @@ use Rattle.sedscript.specs.declared.types.Reason.TheVariants.{BadEscape, GroupAb
 use Rattle.sedscript.specs.declared.substitution.Piece.TheVariants.{Literal as literal, Whole as whole, Group as group}
 use Rattle.sedscript.specs.Bytes.{bytes_between, is_digit}
 use Rattle.sedscript.specs.Targets.{fault_if}
-use Rattle.sedscript.specs.Transliteration.{string_fault}
-use Rattle.sedscript.specs.Replacement.{is_letter, exceeds, piece_fault, replacement_fault}
+use Rattle.sedscript.specs.Strings.{string_fault, is_letter, exceeds, piece_fault, replacement_fault}
 use Rattle.examples.specs.Backslashes.{backslashes}
 use Rattle.examples.specs.Escapes.{wrong_in_string, wrong_in_replacement, IsEscape, FirstWrong}
 use Rattle.examples.proofs.BackslashLemmas.{next, Free, get_drop, same_byte, behind, onto, not_first, escaped_first, even_again, even_plain, backslash_here}

@@ -3,15 +3,15 @@
 use Rattle.std.specs.Prelude.{◌≡◌, ◌≤◌, ◌<◌, ℕ, ◌+◌, ◌-◌, List, Option, Some, None, slice_get}
 use Rattle.std.specs.Prelude.{if◌then◌else◌, ◌==◌, ◌&&◌, ◌||◌, not, Bool, Ok}
 use Rattle.sedre.specs.declared.types.Kind.{Kind}
-use Rattle.sedre.specs.Written.{WrittenExpression}
+use Rattle.sedre.specs.Tree.{WrittenExpression}
 use Rattle.sedscript.specs.declared.types.ScriptFault.{ScriptFault}
 use Rattle.sedscript.specs.declared.types.Reason.{Reason}
 use Rattle.sedscript.specs.declared.types.Reason.TheVariants.{BadEscape, GroupAbsent}
 use Rattle.sedscript.specs.declared.items.Strings.{Strings}
 use Rattle.sedscript.specs.Between.{own_delimiter, substitute_strings}
 use Rattle.sedscript.specs.Bytes.{is_digit}
-use Rattle.sedscript.specs.Expressions.{IsRead}
-use Rattle.sedscript.specs.Replacement.{is_letter, exceeds}
+use Rattle.sedscript.specs.Script.{IsRead}
+use Rattle.sedscript.specs.Strings.{is_letter, exceeds}
 use Rattle.examples.specs.Backslashes.{IsUnescaped}
 use Rattle.examples.specs.Strings.{IsTransliterate}
 

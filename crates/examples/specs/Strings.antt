@@ -3,7 +3,7 @@ use Rattle.std.specs.Prelude.{◌≡◌, ℕ, ◌+◌, List, [], ◌∷◌, ◌+
 use Rattle.sedscript.specs.declared.items.Strings.{Strings}
 use Rattle.sedscript.specs.Between.{own_delimiter, transliterate_strings}
 use Rattle.sedscript.specs.declared.transliteration.Char.{Char}
-use Rattle.sedscript.specs.Transliteration.{bytes_of}
+use Rattle.sedscript.specs.Strings.{bytes_of}
 
 -- no byte stands at two places
 abbrev pub NoneTwice : List ℕ → Type 0

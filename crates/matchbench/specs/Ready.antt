@@ -1,6 +1,6 @@
 -- What the bench searches with.
 use Rattle.std.specs.Prelude.{◌≡◌, [], ◌∷◌, length}
-use Rattle.sedre.specs.Written.{WrittenExpression}
+use Rattle.sedre.specs.Tree.{WrittenExpression}
 use Rattle.sedmatch.specs.Occurrences.{RoomFor}
 use Rattle.sedmatch.specs.SearchRoom.{FitInto}
 use Rattle.matchbench.specs.declared.Searcher.{Searcher}

@@ -9,7 +9,7 @@
 #![tactic(auto)]
 
 ghost use Rattle.std.specs.Prelude.{◌≡◌, ◌<◌, ◌≤◌, ◌^◌, None, IfOk, IfSome, length};
-ghost use Rattle.sedre.specs.Written.{expression_tree};
+ghost use Rattle.sedre.specs.Tree.{expression_tree};
 ghost use Rattle.sedmatch.specs.Following.{Occurs};
 ghost use Rattle.matchbench.specs.Ready.{IsReady};
 

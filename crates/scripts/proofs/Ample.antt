@@ -1,7 +1,6 @@
 -- Ends of runs whose states stay within their limits.
 use Rattle.std.proofs.Common.{◌≡◌, ◌⊎◌, inl, inr, ℕ, zero, suc, ◌+◌, ◌-◌, ◌<◌, ◌≤◌, true, List, [], ◌++◌, length, Option, None, Some, refl, sym, ap, subst, ◌∙◌, append-nil, arith}
-use Rattle.sedengine.specs.Limits.{Limits}
-use Rattle.sedengine.specs.State.{State, Move, Setting}
+use Rattle.sedengine.specs.State.{Limits, State, Move, Setting}
 use Rattle.sedengine.specs.Move.{after, next_move, next_or_stay, written}
 use Rattle.sedengine.specs.Ends.{WithinLimits, Cause, reaches}
 use Rattle.sedengine.specs.declared.ends.Ended.{Ended}

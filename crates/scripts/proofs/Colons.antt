@@ -3,7 +3,7 @@ use Rattle.std.proofs.Common.{◌≡◌, ℕ, zero, suc, ◌+◌, ◌&&◌, ◌|
 use Rattle.std.specs.Option.{option_len}
 use Rattle.std.proofs.lemmas.Bool.Decides.{nat_tests}
 use Rattle.sedre.specs.declared.types.Kind.{Kind}
-use Rattle.sedre.specs.Written.{WrittenExpression}
+use Rattle.sedre.specs.Tree.{WrittenExpression}
 use Rattle.sedscript.specs.declared.bytes.Sort.TheVariants.{Blank, Name, Separator}
 use Rattle.sedscript.specs.declared.types.ScriptFault.{ScriptFault}
 use Rattle.sedscript.specs.declared.items.Addresses.{Addresses}
@@ -19,18 +19,13 @@ use Rattle.sedscript.specs.declared.letters.Verb.{Verb}
 use Rattle.sedscript.specs.declared.letters.Verb.TheVariants.{ReadsExpression, Reads}
 use Rattle.sedscript.specs.declared.letters.Shape.{Shape}
 use Rattle.sedscript.specs.declared.letters.Shape.TheVariants.{Alone, OpensBlock, ClosesBlock, Remark, NamesLabel, GoesTo, TakesText, NamesFile, TakesStrings}
-use Rattle.sedscript.specs.Letters.{verb_of, most_addresses}
+use Rattle.sedscript.specs.Functions.{verb_of, most_addresses, allowed, ended, may_end, text_of, text_from, file_of, name_from, ◌>>=◌ as ◌then◌}
 use Rattle.sedscript.specs.Bytes.{past, bytes_between}
-use Rattle.sedscript.specs.Functions.{allowed, ended, may_end, text_of, text_from, file_of, name_from, ◌>>=◌ as ◌then◌}
-use Rattle.sedscript.specs.Replacement.{replacement_fault}
-use Rattle.sedscript.specs.Transliteration.{is_among, strings_fault}
+use Rattle.sedscript.specs.Strings.{replacement_fault, is_among, strings_fault}
 use Rattle.sedscript.specs.Between.{own_delimiter, substitute_strings, transliterate_strings, unless_fault, transliterate_at, flags_after, substituted}
-use Rattle.sedscript.specs.Reading.{Reading, plainly, expression, ◌>>=◌}
-use Rattle.sedscript.specs.Expressions.{Gives, value, after_expression}
-use Rattle.sedscript.specs.Addresses.{addresses_at, with_bang}
-use Rattle.sedscript.specs.Items.{substitute_with, substitute_at, function_of, function_with, function_at, function_after, item_with, item_from, item_at}
+use Rattle.sedscript.specs.Items.{Reading, plainly, expression, ◌>>=◌, addresses_at, with_bang, substitute_with, substitute_at, function_of, function_with, function_at, function_after, item_with, item_from, item_at}
+use Rattle.sedscript.specs.Script.{Gives, value, after_expression, CutScript, done, item}
 use Rattle.sedscript.specs.Targets.{counted, is_label, label_in}
-use Rattle.sedscript.specs.Script.{CutScript, done, item}
 use Rattle.scripts.specs.OneText.{HasLabel}
 
 -- what is so of a value that is read

@@ -3,10 +3,11 @@ use Rattle.std.proofs.Common.{◌≡◌, inl, inr, ℕ, ◌<◌, Bool, true, fal
 use Rattle.std.specs.List.{slice_split, onto_first}
 use Rattle.std.proofs.lemmas.List.Splits.{slice_split-cons_yes, slice_split-cons_no, length-slice_split}
 use Rattle.sedscript.specs.Program.{Program}
-use Rattle.sedspace.specs.Lines.{lines, is_newline, without_empty_last, AreWholeLines}
+use Rattle.sedspace.specs.Lines.{lines, is_newline, without_empty_last}
+use Rattle.sedspace.specs.Stream.{AreWholeLines}
 use Rattle.sedspace.proofs.LineLemmas.{lines_nil, lines_none}
 use Rattle.sedengine.specs.Move.{start}
-use Rattle.sedengine.specs.ScriptSetting.{setting_of}
+use Rattle.sedengine.specs.State.{setting_of}
 use Rattle.scripts.specs.Alone.{EachLooksAtLine}
 use Rattle.sededit.specs.Editing.{IsOutput}
 use Rattle.scripts.specs.Edited.{RunsTo}

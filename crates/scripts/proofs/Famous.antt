@@ -2,8 +2,7 @@
 use Rattle.std.proofs.Common.{◌≡◌, ◌≢◌, ◌⊎◌, inl, inr, ap₂, append-nil, append_assoc, ℕ, zero, suc, ◌+◌, ◌-◌, ◌^◌, ◌<◌, List, [], ◌∷◌, ◌++◌, length, map, take, drop, Bool, true, false, not, None, Some, refl, sym, ap, subst, ◌∙◌, arith}
 use Rattle.std.specs.Prelude.{codes, decimal, reverse}
 use Rattle.std.specs.List.{filter, flat_map}
-use Rattle.sedre.specs.Written.{WrittenExpression, expression_tree}
-use Rattle.sedre.specs.Tree.{Tree}
+use Rattle.sedre.specs.Tree.{WrittenExpression, expression_tree, Tree}
 use Rattle.sedre.specs.declared.types.Kind.TheVariants.{Basic}
 use Rattle.sedscript.specs.declared.types.Action.TheVariants as action
 use Rattle.sedscript.specs.declared.types.Simple.TheVariants as simple
@@ -11,28 +10,25 @@ use Rattle.sedscript.specs.declared.types.BranchUse.TheVariants.{Always}
 use Rattle.sedscript.specs.declared.types.FileUse.TheVariants.{Write}
 use Rattle.sedscript.specs.declared.types.Address.TheVariants.{Line, Last, Match}
 use Rattle.sedscript.specs.declared.substitution.Piece.{Piece}
-use Rattle.sedscript.specs.Addresses.{address_at, match_at, second_at, addresses_at}
+use Rattle.sedscript.specs.Items.{address_at, match_at, second_at, addresses_at, function_at, item_at, substitute_at}
 use Rattle.sedscript.specs.Bytes.{past}
 use Rattle.sedscript.specs.Functions.{name_from, text_from}
-use Rattle.sedscript.specs.Items.{function_at, item_at, substitute_at}
-use Rattle.sedscript.specs.Replacement.{GroupsWithin}
+use Rattle.sedscript.specs.Pieces.{GroupsWithin}
 use Rattle.sedscript.specs.Script.{Means}
 use Rattle.sedscript.specs.Program.{Program}
-use Rattle.sedspace.specs.Lines.{lines}
+use Rattle.sedspace.specs.Lines.{lines, is_newline}
 use Rattle.sedengine.specs.Move.{line_to, newline, start, to_sink}
 use Rattle.std.specs.List.{list_any}
 use Rattle.std.proofs.lemmas.Bool.{eqb-true}
 use Rattle.sedmatch.specs.Matching.{found, report}
-use Rattle.sedspace.specs.Lines.{is_newline}
-use Rattle.sedengine.specs.Devices.{part}
+use Rattle.sedengine.specs.Ends.{part}
 use Rattle.sedengine.specs.Substitute.{Occurrence}
 use Rattle.sedengine.proofs.Gains.{part-append, part-same, part-other}
-use Rattle.sedengine.specs.ScriptSetting.{finds_in, match_with_span, search_in}
+use Rattle.sedengine.specs.State.{finds_in, match_with_span, search_in}
 use Rattle.sedengine.specs.Substitute.{occurrences, replaced_from}
 use Rattle.std.proofs.Math.Path.{fun_ext}
-use Rattle.sedre.specs.Delimited.{delimiter_at}
-use Rattle.sedre.specs.Intervals.{interval}
-use Rattle.sedre.specs.Items.{item_at as expression_item_at}
+use Rattle.sedre.specs.Brackets.{delimiter_at}
+use Rattle.sedre.specs.Items.{interval, item_at as expression_item_at}
 use Rattle.sedre.specs.Sets.{set_of}
 use Rattle.sedscript.specs.Between.{substituted}
 use Rattle.sedscript.specs.declared.substitution.Piece.TheVariants.{Literal}
@@ -50,7 +46,7 @@ use Rattle.scripts.proofs.Slashes.{with_expression, delete_means, print_means}
 use Rattle.scripts.proofs.Plain.{empty_run, quiet_run, twice_run, once_run, number_run, delete_run, print_run, quit_run, cut_run, half_run, tee_run, twofold}
 use Rattle.scripts.proofs.Holding.{turned_run, pair_run}
 use Rattle.scripts.proofs.Finding.{bytes_run, deletes_run, prints_run, replaces_by, replaces_run, replacing, with_replaced}
-use Rattle.sedscript.specs.Transliteration.{table_of}
+use Rattle.sedscript.specs.Strings.{table_of}
 use Rattle.examples.specs.Strings.{NoneTwice}
 use Rattle.scripts.proofs.Transliterating.{with_table, transliterate_means}
 use Rattle.scripts.proofs.Once.{once_of}

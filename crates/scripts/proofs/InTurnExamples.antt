@@ -2,13 +2,10 @@
 -- isn't so, each with what the second writes over what the first wrote, and what the script of both writes.
 use Rattle.std.proofs.Common.{◌≡◌, ℕ, zero, suc, [], ◌∷◌, true, false, Some, refl}
 use Rattle.std.specs.Prelude.{codes, slice_get}
-use Rattle.sedre.specs.Delimited.{delimiter_at}
-use Rattle.sedre.specs.Intervals.{interval}
-use Rattle.sedre.specs.Items.{item_at as expression_item_at}
+use Rattle.sedre.specs.Brackets.{delimiter_at, list_at, list_end}
+use Rattle.sedre.specs.Items.{interval, item_at as expression_item_at}
 use Rattle.sedre.specs.Sets.{only, set_of}
-use Rattle.sedre.specs.Tree.{Tree, set}
-use Rattle.sedre.specs.Written.{tree_at, tree_within}
-use Rattle.sedre.specs.Brackets.{list_at, list_end}
+use Rattle.sedre.specs.Tree.{Tree, set, tree_at, tree_within}
 use Rattle.sedre.specs.declared.types.Kind.TheVariants.{Basic}
 use Rattle.sedscript.specs.declared.types.Action.TheVariants as action
 use Rattle.sedscript.specs.declared.types.Simple.TheVariants as simple
@@ -16,15 +13,14 @@ use Rattle.sedscript.specs.declared.types.FileUse.TheVariants.{Write}
 use Rattle.sedscript.specs.declared.types.Address.TheVariants.{Match}
 use Rattle.sedscript.specs.declared.types.Reason.TheVariants.{RepeatedLabel}
 use Rattle.sedscript.specs.declared.substitution.Piece.TheVariants.{Literal}
-use Rattle.sedscript.specs.Addresses.{address_at, match_at, second_at, addresses_at}
+use Rattle.sedscript.specs.Items.{address_at, match_at, second_at, addresses_at, function_at, item_at, substitute_at}
 use Rattle.sedscript.specs.Between.{substituted, transliterate_at}
 use Rattle.sedscript.specs.Bytes.{past}
 use Rattle.sedscript.specs.Functions.{name_from, text_from}
-use Rattle.sedscript.specs.Items.{function_at, item_at, substitute_at}
 use Rattle.sedscript.specs.Script.{Means}
 use Rattle.sedscript.specs.FirstFault.{Faulty}
 use Rattle.sedscript.specs.Program.{Program}
-use Rattle.sedscript.specs.Transliteration.{table_of}
+use Rattle.sedscript.specs.Strings.{table_of}
 use Rattle.sedmatch.specs.Matching.{any, groups_after, copies, cut, first_copy, found, found_from, greatest, last_start, longest, report, spans}
 use Rattle.sedspace.specs.Lines.{is_newline, lines}
 use Rattle.sedengine.specs.Move.{in_table, next_move}

@@ -4,15 +4,14 @@ use Rattle.std.proofs.Math.Seq.{drop-append-add}
 use Rattle.std.specs.List.{prefix_len}
 use Rattle.std.proofs.lemmas.List.{append-nil}
 use Rattle.sedre.specs.declared.types.Kind.{Kind}
-use Rattle.sedre.specs.Written.{WrittenExpression}
+use Rattle.sedre.specs.Tree.{WrittenExpression}
 use Rattle.sedengine.proofs.Writing.{slice_get-append_add}
 use Rattle.sedscript.specs.declared.bytes.Sort.TheVariants.{Separator}
 use Rattle.sedscript.specs.declared.items.Item.{Item}
 use Rattle.sedscript.specs.declared.items.Here.TheVariants.{Is}
 use Rattle.sedscript.specs.Bytes.{past, belongs}
 use Rattle.sedscript.specs.Items.{item_at, item_from}
-use Rattle.sedscript.specs.Expressions.{Gives}
-use Rattle.sedscript.specs.Script.{CutScript, done, item, IsEnd}
+use Rattle.sedscript.specs.Script.{Gives, CutScript, done, item, IsEnd}
 use Rattle.scripts.proofs.LongerText.{tail_of, get_drop, rest_on}
 use Rattle.scripts.proofs.LongerFunctions.{FunctionIn}
 use Rattle.scripts.proofs.LongerReading.{move_item, item_on}

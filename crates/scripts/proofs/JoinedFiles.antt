@@ -10,7 +10,7 @@ use Rattle.sedscript.specs.declared.items.Item.{Item}
 use Rattle.sedscript.specs.declared.items.Function.{Function}
 use Rattle.sedscript.specs.declared.items.Function.TheVariants.{File, Substitute}
 use Rattle.sedscript.specs.Bytes.{bytes_between}
-use Rattle.sedscript.specs.Files.{is_standard_output, is_file, name_in, file_at, distinct, files_in, number_in}
+use Rattle.sedscript.specs.Targets.{is_standard_output, is_file, name_in, file_at, distinct, files_in, number_in}
 use Rattle.sedscript.proofs.FileTables.{any_distinct, any_number}
 use Rattle.scripts.specs.InTurn.{Before, sink_behind}
 use Rattle.scripts.specs.OneText.{apart}

@@ -17,11 +17,9 @@ use Rattle.sedscript.specs.declared.items.Function.{Function}
 use Rattle.sedscript.specs.declared.items.Function.TheVariants.{Plain, Open, Close, Label, Branch, Text, File, Comment, Substitute, Transliterate}
 use Rattle.sedscript.specs.declared.types.FileUse.{FileUse}
 use Rattle.sedscript.specs.declared.types.FileUse.TheVariants.{Write}
-use Rattle.sedscript.specs.Files.{number_in}
+use Rattle.sedscript.specs.Targets.{number_in, becomes_command, counted, commands_in, is_open, is_close, depth_after, close_in, block_end, label_in}
 use Rattle.sedscript.specs.Bytes.{bytes_between}
-use Rattle.sedscript.specs.Replacement.{pieces_of}
-use Rattle.sedscript.specs.Targets.{becomes_command, counted, commands_in, is_open, is_close, depth_after, close_in, block_end, label_in}
-use Rattle.sedscript.specs.Transliteration.{chars_from, bytes_of, table_of}
+use Rattle.sedscript.specs.Strings.{pieces_of, chars_from, bytes_of, table_of}
 use Rattle.sedscript.specs.Script.{with_text, texts_of, with_substitution, substitutions_of, with_table, tables_of, substitution_of, sink_of, table_between, counts_with, action_of, with_action, commands_of, unescaped_from}
 use Rattle.sedscript.proofs.Chars.{same_bytes}
 use Rattle.sedscript.proofs.Labels.{commands_snoc, counted_in}

@@ -17,8 +17,7 @@ use Rattle.sedscript.specs.declared.items.Item.{Item}
 use Rattle.sedscript.specs.declared.items.Function.{Function}
 use Rattle.sedscript.specs.declared.items.Function.TheVariants.{Plain, Open, Close, Label, Branch, Text, File, Comment, Substitute, Transliterate}
 use Rattle.sedscript.specs.Bytes.{bytes_between}
-use Rattle.sedscript.specs.Files.{distinct, files_in, number_in}
-use Rattle.sedscript.specs.Targets.{becomes_command, commands_in, is_label, label_in, target_fault_in, depth_after, target_fault_at}
+use Rattle.sedscript.specs.Targets.{distinct, files_in, number_in, becomes_command, commands_in, is_label, label_in, target_fault_in, depth_after, target_fault_at}
 use Rattle.sedscript.specs.Script.{CutScript, IsEnd, Means, action_of, with_action, commands_of, counts_with, none_counted, texts_of, substitutions_of, tables_of, is_quiet}
 use Rattle.sedscript.specs.Program.{Program}
 use Rattle.scripts.specs.InTurn.{all_of, command_behind, substitution_behind, in_turn}

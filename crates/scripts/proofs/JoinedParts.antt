@@ -5,14 +5,13 @@ use Rattle.std.specs.List.{ends_with}
 use Rattle.std.proofs.lemmas.List.{append-nil}
 use Rattle.std.proofs.lemmas.Option.{slice_get_past}
 use Rattle.sedre.specs.declared.types.Kind.{Kind}
-use Rattle.sedre.specs.Written.{WrittenExpression}
+use Rattle.sedre.specs.Tree.{WrittenExpression}
 use Rattle.sedscript.specs.declared.bytes.Sort.TheVariants.{Separator}
 use Rattle.sedscript.specs.declared.items.Item.{Item}
 use Rattle.sedscript.specs.Bytes.{bytes_between, past}
 use Rattle.sedscript.specs.Targets.{label_in}
-use Rattle.sedscript.specs.Script.{Means, CutWithoutFault, done}
+use Rattle.sedscript.specs.Script.{Means, CutWithoutFault, done, with_part}
 use Rattle.sedscript.specs.Program.{Program}
-use Rattle.sedscript.specs.ScriptText.{with_part}
 use Rattle.scripts.specs.InTurn.{in_turn}
 use Rattle.scripts.specs.OneText.{LacksNewline, EachLeadsInside}
 use Rattle.scripts.proofs.LongerText.{between_on}

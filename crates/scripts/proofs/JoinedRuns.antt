@@ -3,23 +3,20 @@ use Rattle.std.proofs.Common.{◌≡◌, ℕ, List, [], ◌∷◌, ◌++◌, map
 use Rattle.std.specs.List.{list_all}
 use Rattle.std.proofs.Math.Path.{fun_ext}
 use Rattle.std.proofs.lemmas.Option.{slice_get-map}
-use Rattle.sedre.specs.Written.{WrittenExpression, expression_tree}
-use Rattle.sedre.specs.Tree.{Tree}
+use Rattle.sedre.specs.Tree.{WrittenExpression, expression_tree, Tree}
 use Rattle.sedre.specs.declared.types.Kind.{Kind}
 use Rattle.sedre.specs.declared.types.Kind.TheVariants.{Basic}
 use Rattle.sedmatch.specs.Matching.{found}
 use Rattle.sedscript.specs.declared.types.Action.{Action}
 use Rattle.sedscript.specs.declared.types.Action.TheVariants.{Branch}
 use Rattle.sedscript.specs.declared.types.Command.{Command}
-use Rattle.sedscript.specs.Script.{Means, none_counted}
+use Rattle.sedscript.specs.Script.{Means, none_counted, with_part}
 use Rattle.sedscript.specs.Program.{Program}
 use Rattle.sedspace.specs.Lines.{lines}
-use Rattle.sedengine.specs.State.{Setting}
+use Rattle.sedengine.specs.State.{Setting, finds_in, search_in, has_match, search_for}
 use Rattle.sedengine.specs.Substitute.{Occurrence}
 use Rattle.sedengine.specs.Move.{start, to_sink}
-use Rattle.sedengine.specs.ScriptSetting.{finds_in, search_in, has_match, search_for}
 use Rattle.examples.proofs.ComputedEnds.{both}
-use Rattle.sedscript.specs.ScriptText.{with_part}
 use Rattle.sededit.specs.Editing.{IsOutput}
 use Rattle.scripts.specs.Edited.{RunsTo, Sends}
 use Rattle.scripts.specs.InTurn.{BreaksNoLine, EachOnlyEdits, edits, in_turn, only_edits, asks_own}

@@ -1,8 +1,7 @@
 -- From the bytes of a script to its runs.
 use Rattle.std.proofs.Common.{◌≡◌, ℕ, List, [], ◌∷◌, map, Bool, ◌||◌, Option, None, Some, refl, ap, subst, ◌∙◌}
 use Rattle.std.proofs.Math.Path.{fun_ext}
-use Rattle.sedre.specs.Written.{WrittenExpression, expression_tree}
-use Rattle.sedre.specs.Tree.{Tree}
+use Rattle.sedre.specs.Tree.{WrittenExpression, expression_tree, Tree}
 use Rattle.sedre.specs.declared.types.Kind.{Kind}
 use Rattle.sedre.specs.declared.types.Kind.TheVariants.{Basic}
 use Rattle.sedmatch.specs.Matching.{found}
@@ -11,9 +10,8 @@ use Rattle.sedscript.specs.declared.substitution.Substitution.{Substitution}
 use Rattle.sedscript.specs.Script.{Means}
 use Rattle.sedscript.specs.Program.{Program}
 use Rattle.sedspace.specs.Lines.{lines}
-use Rattle.sedengine.specs.State.{State, Setting}
+use Rattle.sedengine.specs.State.{State, Setting, match_with_span, search_in, finds_in}
 use Rattle.sedengine.specs.Move.{start}
-use Rattle.sedengine.specs.ScriptSetting.{match_with_span, search_in, finds_in}
 use Rattle.sededit.specs.Editing.{IsOutput}
 use Rattle.scripts.specs.Edited.{Sends}
 use Rattle.scripts.specs.Words.{match_with}

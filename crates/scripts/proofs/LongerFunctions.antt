@@ -1,6 +1,6 @@
 -- A text within a longer one, behind which nothing stands or a newline: functions.
 use Rattle.std.proofs.Common.{◌≡◌, ℕ, ◌+◌, ◌<◌, ◌≤◌, ◌==◌, Bool, true, false, not, List, ◌++◌, length, Option, Some, None, is_some, is_none, option_map, Result, Ok, refl, sym, ap, ap₂, subst, ◌∙◌, arith, if◌then◌else◌, slice_get, drop}
-use Rattle.sedre.specs.Delimited.{delimiter_at}
+use Rattle.sedre.specs.Brackets.{delimiter_at}
 use Rattle.std.proofs.lemmas.Option.{slice_get_within}
 use Rattle.sedscript.specs.declared.bytes.Sort.TheVariants.{Blank, Name, Line}
 use Rattle.sedscript.specs.declared.types.ScriptFault.{ScriptFault}
@@ -14,11 +14,9 @@ use Rattle.sedscript.specs.declared.items.Function.TheVariants.{Plain, Open, Clo
 use Rattle.sedscript.specs.declared.letters.Shape.{Shape}
 use Rattle.sedscript.specs.declared.letters.Shape.TheVariants.{Alone, OpensBlock, ClosesBlock, Remark, NamesLabel, GoesTo, TakesText, NamesFile, TakesStrings}
 use Rattle.sedscript.specs.Bytes.{past, bytes_between}
-use Rattle.sedscript.specs.Strings.{string_end}
+use Rattle.sedscript.specs.Strings.{string_end, replacement_fault}
 use Rattle.sedscript.specs.Functions.{fault, ended, may_end, text_of, text_from, label_of, branch_of, file_of, name_from, ◌>>=◌ as ◌then◌}
-use Rattle.sedscript.specs.Replacement.{replacement_fault}
-use Rattle.sedscript.specs.Flags.{no_flags, flags_from}
-use Rattle.sedscript.specs.Between.{own_delimiter, strings_to, strings_after, substitute_strings, transliterate_strings, transliterate_at, flags_after, substituted}
+use Rattle.sedscript.specs.Between.{no_flags, flags_from, own_delimiter, strings_to, strings_after, substitute_strings, transliterate_strings, transliterate_at, flags_after, substituted}
 use Rattle.sedscript.specs.Items.{function_of}
 use Rattle.scripts.proofs.LongerText.{tail_of, past_low, past_high, near, past_on, between_on}
 use Rattle.scripts.proofs.LongerStrings.{FoundOn, delimiter_on, string_there}

@@ -2,8 +2,8 @@
 use Rattle.std.proofs.Common.{◌≡◌, ℕ, zero, suc, ◌+◌, ◌<◌, ◌≤◌, ◌&&◌, ◌==◌, Bool, true, false, List, [], ◌∷◌, ◌++◌, length, Option, Some, None, Result, Ok, Err, refl, sym, ap, ap₂, subst, ◌∙◌, arith, if◌then◌else◌, slice_get, nat_lt}
 use Rattle.std.specs.Option.{option_len}
 use Rattle.sedre.specs.declared.types.Kind.{Kind}
-use Rattle.sedre.specs.Written.{WrittenExpression}
-use Rattle.sedre.specs.Delimited.{delimiter_at}
+use Rattle.sedre.specs.Tree.{WrittenExpression}
+use Rattle.sedre.specs.Brackets.{delimiter_at}
 use Rattle.std.proofs.lemmas.Option.{slice_get_within}
 use Rattle.sedscript.specs.declared.bytes.Sort.TheVariants.{Blank, Bang, Digit, Separator}
 use Rattle.sedscript.specs.declared.types.ScriptFault.{ScriptFault}
@@ -21,16 +21,12 @@ use Rattle.sedscript.specs.declared.items.Function.{Function}
 use Rattle.sedscript.specs.declared.items.Function.TheVariants.{Substitute}
 use Rattle.sedscript.specs.declared.letters.Verb.{Verb}
 use Rattle.sedscript.specs.declared.letters.Verb.TheVariants.{ReadsExpression, Reads}
-use Rattle.sedscript.specs.Letters.{verb_of, most_addresses}
+use Rattle.sedscript.specs.Functions.{verb_of, most_addresses, ended, fault, allowed, ◌>>=◌ as ◌then◌}
 use Rattle.sedscript.specs.Bytes.{past, bytes_between, is_digit, is_byte, with_digits}
-use Rattle.sedscript.specs.Functions.{ended, fault, allowed, ◌>>=◌ as ◌then◌}
-use Rattle.sedscript.specs.Flags.{folds}
-use Rattle.sedscript.specs.Replacement.{replacement_fault}
-use Rattle.sedscript.specs.Between.{own_delimiter, substitute_strings, unless_fault, flags_after, flagged, substituted}
-use Rattle.sedscript.specs.Reading.{Pattern, Reading, plainly, expression, ◌>>=◌}
-use Rattle.sedscript.specs.Expressions.{Gives, value, after_expression}
-use Rattle.sedscript.specs.Addresses.{Addressed, Headed, found, with_addresses, line_of, folds_at, past_flag, empty_match, match_to, match_at, own_match, address_of, address_at, with_second, second_at, after_first, addresses_at, with_bang}
-use Rattle.sedscript.specs.Items.{substitute_with, substitute_at, function_with, function_at, function_after, item_with, item_from, item_at}
+use Rattle.sedscript.specs.Between.{folds, own_delimiter, substitute_strings, unless_fault, flags_after, flagged, substituted}
+use Rattle.sedscript.specs.Strings.{replacement_fault}
+use Rattle.sedscript.specs.Items.{Pattern, Reading, plainly, expression, ◌>>=◌, Addressed, Headed, found, with_addresses, line_of, folds_at, past_flag, empty_match, match_to, match_at, own_match, address_of, address_at, with_second, second_at, after_first, addresses_at, with_bang, substitute_with, substitute_at, function_with, function_at, function_after, item_with, item_from, item_at}
+use Rattle.sedscript.specs.Script.{Gives, value, after_expression}
 use Rattle.sedscript.proofs.Coming.{gives_then}
 use Rattle.scripts.proofs.LongerText.{tail_of, past_low, past_high, near, there, past_on, past_separators, between_on}
 use Rattle.scripts.proofs.LongerStrings.{FoundOn, delimiter_on}

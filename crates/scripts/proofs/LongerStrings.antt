@@ -3,8 +3,7 @@ use Rattle.std.proofs.Common.{◌≡◌, ℕ, zero, suc, ◌+◌, ◌-◌, ◌<�
 use Rattle.std.proofs.lemmas.List.{take-append-le}
 use Rattle.sedre.specs.declared.elements.Element.{Element}
 use Rattle.sedre.specs.declared.elements.Element.TheVariants.{Plain, Delimiter}
-use Rattle.sedre.specs.Brackets.{before_closing, content, form, is_delimiter, element, elements, list_end}
-use Rattle.sedre.specs.Delimited.{after_escape, next_place, first_delimiter, delimiter_at}
+use Rattle.sedre.specs.Brackets.{before_closing, content, form, is_delimiter, element, elements, list_end, after_escape, next_place, first_delimiter, delimiter_at}
 use Rattle.sedscript.specs.Strings.{string_end}
 use Rattle.scripts.proofs.LongerText.{tail_of, rest_on}
 

@@ -9,7 +9,7 @@ use Rattle.std.proofs.Math.Seq.{drop-append_seam, take-append_seam}
 use Rattle.std.proofs.lemmas.Bool.Decides.{nat_tests}
 use Rattle.sedscript.specs.declared.bytes.Sort.TheVariants.{Blank, Separator, Digit}
 use Rattle.sedscript.specs.declared.types.Address.TheVariants.{Line}
-use Rattle.sedscript.specs.Addresses.{found, address_at, addresses_at, addresses_of, after_first, with_addresses, second_at, with_bang, with_second}
+use Rattle.sedscript.specs.Items.{found, address_at, addresses_at, addresses_of, after_first, with_addresses, second_at, with_bang, with_second, function_after, function_at, item_at, item_with, plainly, ◌>>=◌}
 use Rattle.sedscript.specs.Bytes.{past, is_digit, is_blank, bytes_between, with_digit, with_digits, belongs}
 use Rattle.sedscript.specs.declared.bytes.Sort.{Sort}
 use Rattle.sedscript.specs.declared.types.Address.{Address}
@@ -18,12 +18,10 @@ use Rattle.sedscript.specs.declared.items.Item.{Item}
 use Rattle.sedscript.specs.declared.items.Function.TheVariants.{Plain}
 use Rattle.sedscript.specs.declared.types.Simple.{Simple}
 use Rattle.sedscript.specs.declared.types.Simple.TheVariants.{Quit, Delete}
-use Rattle.sedscript.specs.Items.{function_after, function_at, item_at, item_with}
-use Rattle.sedscript.specs.Script.{IsEnd, Means, item, done, is_quiet}
+use Rattle.sedscript.specs.Script.{IsEnd, Means, item, done, is_quiet, Gives, value}
 use Rattle.sedscript.specs.Functions.{ended, item_of}
-use Rattle.sedscript.specs.Expressions.{Gives, value}
 use Rattle.sedscript.specs.Targets.{target_fault}
-use Rattle.sedre.specs.Written.{WrittenExpression}
+use Rattle.sedre.specs.Tree.{WrittenExpression}
 use Rattle.sedre.specs.declared.types.Kind.TheVariants.{Basic}
 use Rattle.sedscript.specs.declared.items.Function.{Function}
 use Rattle.examples.proofs.ComputedScript.{program_of}
@@ -32,7 +30,6 @@ use Rattle.sedscript.specs.declared.types.Simple.TheVariants as simple
 use Rattle.examples.proofs.ScriptWords.{at, from_to}
 use Rattle.examples.proofs.ComputedEnds.{both}
 use Rattle.scripts.proofs.Meanings.{of_commands}
-use Rattle.sedscript.specs.Reading.{plainly, ◌>>=◌}
 
 -- digits that write a number
 pub record WritesNumber (ds : List ℕ) (n : ℕ) : Type 0 where

@@ -3,7 +3,7 @@ use Rattle.std.proofs.Common.{◌≡◌, ℕ, suc, List, [], ◌∷◌, Bool, tr
 use Rattle.std.specs.Prelude.{◌==◌, slice_get}
 use Rattle.std.proofs.lemmas.Bool.{eqb-true}
 use Rattle.std.proofs.lemmas.Bool.Decides.{nat_tests}
-use Rattle.sedscript.specs.Transliteration.{is_among}
+use Rattle.sedscript.specs.Strings.{is_among}
 use Rattle.examples.specs.Strings.{NoneTwice}
 
 -- no byte stands twice among these, nor one of those that stand before them

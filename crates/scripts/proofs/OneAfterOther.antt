@@ -4,7 +4,7 @@ use Rattle.std.specs.Prelude.{slice_get}
 use Rattle.sedspace.specs.Lines.{lines}
 use Rattle.sedengine.specs.State.{begin, do_at, State, Setting}
 use Rattle.sedengine.specs.Move.{line_to, to_sink}
-use Rattle.sedengine.specs.Devices.{part}
+use Rattle.sedengine.specs.Ends.{part}
 use Rattle.sedengine.proofs.Gains.{part-same}
 use Rattle.sededit.specs.Editing.{IsOutput}
 use Rattle.scripts.specs.Edited.{text_of}

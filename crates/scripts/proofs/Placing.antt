@@ -8,7 +8,7 @@ use Rattle.std.proofs.lemmas.Bool.Decides.{nat_tests}
 use Rattle.std.proofs.lemmas.List.{length-map}
 use Rattle.std.proofs.lemmas.Option.{slice_get-map, slice_get_past}
 use Rattle.sedspace.specs.Lines.{lines}
-use Rattle.sedre.specs.Written.{WrittenExpression}
+use Rattle.sedre.specs.Tree.{WrittenExpression}
 use Rattle.sedscript.specs.declared.types.Address.{Address}
 use Rattle.sedscript.specs.declared.types.Address.TheVariants.{Match, Line, Last}
 use Rattle.sedscript.specs.declared.types.Command.{Command}
@@ -17,10 +17,9 @@ use Rattle.sedscript.specs.declared.types.Action.TheVariants.{Block, Plain, Subs
 use Rattle.sedscript.specs.declared.types.Simple.TheVariants.{Delete}
 use Rattle.sedscript.specs.declared.substitution.Substitution.{Substitution}
 use Rattle.sedscript.specs.Program.{Program}
-use Rattle.sedengine.specs.State.{Setting}
+use Rattle.sedengine.specs.State.{Setting, has_match, search_for, setting_of}
 use Rattle.sedengine.specs.Select.{Current, Selection, answer, ends_at_once, of_addresses, on_active, on_idle, selects}
 use Rattle.sedengine.specs.Move.{none_left, in_table, start, to_replace_in, to_sink}
-use Rattle.sedengine.specs.ScriptSetting.{has_match, search_for, setting_of}
 use Rattle.sedengine.specs.Substitute.{Occurrence, occurrences, to_replace}
 use Rattle.sedengine.proofs.Writing.{slice_get-append_add}
 use Rattle.examples.proofs.ComputedEnds.{both}

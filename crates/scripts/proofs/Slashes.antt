@@ -4,9 +4,8 @@ use Rattle.std.specs.Prelude.{slice_get, ◌==◌}
 use Rattle.std.specs.List.{prefix_len}
 use Rattle.std.proofs.Math.Seq.{drop-append_seam, take-append_seam}
 use Rattle.std.proofs.lemmas.Bool.Decides.{nat_tests}
-use Rattle.sedre.specs.Written.{WrittenExpression}
-use Rattle.sedre.specs.Delimited.{delimiter_at}
-use Rattle.sedre.specs.Tree.{Tree}
+use Rattle.sedre.specs.Tree.{WrittenExpression, Tree}
+use Rattle.sedre.specs.Brackets.{delimiter_at}
 use Rattle.sedre.specs.declared.types.Kind.TheVariants.{Basic}
 use Rattle.sedscript.specs.declared.bytes.Sort.TheVariants.{Blank, Separator, Bang}
 use Rattle.sedscript.specs.declared.types.Address.TheVariants.{Match}
@@ -18,13 +17,10 @@ use Rattle.sedscript.specs.declared.items.Item.{Item}
 use Rattle.sedscript.specs.declared.items.Function.TheVariants.{Plain}
 use Rattle.sedscript.specs.declared.types.Simple.{Simple}
 use Rattle.sedscript.specs.declared.types.Simple.TheVariants.{Print, Delete}
-use Rattle.sedscript.specs.Addresses.{found, address_at, addresses_at, addresses_of, after_first, with_addresses, match_at, with_bang}
+use Rattle.sedscript.specs.Items.{found, address_at, addresses_at, addresses_of, after_first, with_addresses, match_at, with_bang, function_after, function_at, item_at, item_with, Pattern, Reading, plainly, expression, ◌>>=◌}
 use Rattle.sedscript.specs.Bytes.{past, bytes_between, is_blank, belongs}
-use Rattle.sedscript.specs.Expressions.{IsRead, Gives, value, after_expression}
+use Rattle.sedscript.specs.Script.{IsRead, Gives, value, after_expression, Means}
 use Rattle.sedscript.specs.Functions.{item_of}
-use Rattle.sedscript.specs.Items.{function_after, function_at, item_at, item_with}
-use Rattle.sedscript.specs.Reading.{Pattern, Reading, plainly, expression, ◌>>=◌}
-use Rattle.sedscript.specs.Script.{Means}
 use Rattle.sedscript.specs.Program.{Program}
 use Rattle.examples.proofs.ComputedReading.{written, tree_of_written, nodes_of_written, no_fault_within}
 use Rattle.scripts.specs.Slashed.{IsSlashed}

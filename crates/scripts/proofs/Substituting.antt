@@ -3,7 +3,7 @@ use Rattle.std.proofs.Common.{◌≡◌, ℕ, suc, ◌+◌, ◌-◌, List, [], �
 use Rattle.std.specs.Prelude.{◌==◌}
 use Rattle.std.proofs.Math.Seq.{drop-append_seam, take-append_seam}
 use Rattle.std.proofs.lemmas.Bool.Decides.{nat_tests}
-use Rattle.sedre.specs.Delimited.{delimiter_at}
+use Rattle.sedre.specs.Brackets.{delimiter_at}
 use Rattle.sedre.specs.Tree.{Tree}
 use Rattle.sedre.specs.declared.types.Kind.TheVariants.{Basic}
 use Rattle.sedscript.specs.declared.bytes.Sort.TheVariants.{Separator, Blank}
@@ -15,17 +15,14 @@ use Rattle.sedscript.specs.declared.items.Strings.{Strings}
 use Rattle.sedscript.specs.declared.items.Function.{Function}
 use Rattle.sedscript.specs.declared.items.Function.TheVariants.{Substitute}
 use Rattle.sedscript.specs.declared.substitution.Piece.{Piece}
-use Rattle.sedscript.specs.Addresses.{address_at, addresses_at, addresses_of}
-use Rattle.sedscript.specs.Between.{substituted, flagged, flags_after, unless_fault}
+use Rattle.sedscript.specs.Items.{address_at, addresses_at, addresses_of, function_at, item_at, substitute_at, Reading, plainly, expression, ◌>>=◌}
+use Rattle.sedscript.specs.Between.{substituted, flagged, flags_after, unless_fault, flags_from, no_flags}
 use Rattle.sedscript.specs.Bytes.{bytes_between}
 use Rattle.sedscript.specs.Functions.{item_of}
-use Rattle.sedscript.specs.Items.{function_at, item_at, substitute_at}
-use Rattle.sedscript.specs.Reading.{Reading, plainly, expression, ◌>>=◌}
-use Rattle.sedscript.specs.Replacement.{GroupsWithin, pieces_of, replacement_fault}
-use Rattle.sedscript.specs.Flags.{flags_from, no_flags}
+use Rattle.sedscript.specs.Pieces.{GroupsWithin}
+use Rattle.sedscript.specs.Strings.{pieces_of, replacement_fault, string_end}
 use Rattle.sedscript.specs.Script.{Means}
 use Rattle.sedscript.specs.Program.{Program}
-use Rattle.sedscript.specs.Strings.{string_end}
 use Rattle.examples.specs.WrittenReplacements.{written_pieces}
 use Rattle.examples.proofs.ComputedReading.{written}
 use Rattle.examples.proofs.WrittenEnds.{replacement_whole}

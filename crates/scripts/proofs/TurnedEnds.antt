@@ -8,14 +8,11 @@ use Rattle.std.specs.List.{onto_first}
 use Rattle.sedspace.specs.Lines.{is_newline, lines}
 use Rattle.sedspace.proofs.LineLemmas.{lines_nil}
 use Rattle.scripts.proofs.Cutting.{lines_yes, lines_no}
-use Rattle.sedengine.specs.Limits.{Limits}
-use Rattle.sedengine.specs.State.{Task, begin, flush, empty_pattern, State, Setting}
+use Rattle.sedengine.specs.State.{Limits, Task, begin, flush, empty_pattern, State, Setting, finds_in, search_in, setting_of}
 use Rattle.sedengine.specs.Substitute.{Occurrence}
 use Rattle.sedengine.specs.Select.{selects}
 use Rattle.sedengine.specs.Move.{after, at_end, line_to, next_move, newline, start, to_sink, writing, written}
-use Rattle.sedengine.specs.ScriptSetting.{finds_in, search_in, setting_of}
-use Rattle.sedengine.specs.TakenInput.{size_of}
-use Rattle.sedengine.specs.Ends.{Cause, Whole, Within, WithinLimits}
+use Rattle.sedengine.specs.Ends.{size_of, Cause, Whole, Within, WithinLimits}
 use Rattle.sedengine.specs.declared.ends.Ended.{Ended}
 use Rattle.sedengine.specs.declared.ends.Ended.TheVariants.{Done}
 use Rattle.examples.proofs.ComputedEnds.{whole_first}

@@ -7,7 +7,7 @@ use Rattle.std.proofs.lemmas.Bool.Decides.{nat_tests}
 use Rattle.std.proofs.lemmas.List.FromFn.{get_or-map-range_with_len}
 use Rattle.sedspace.specs.Lines.{is_newline, lines}
 use Rattle.sedspace.proofs.LineLemmas.{lines_nil}
-use Rattle.sedscript.specs.Transliteration.{counterpart, is_among, table_of}
+use Rattle.sedscript.specs.Strings.{counterpart, is_among, table_of}
 use Rattle.sedengine.specs.Move.{in_table}
 use Rattle.examples.proofs.ComputedEnds.{both}
 use Rattle.scripts.specs.Edited.{Writes, text_of}

@@ -8,18 +8,16 @@ use Rattle.sedscript.specs.Script.{Means}
 use Rattle.sedscript.specs.Program.{Program}
 use Rattle.sedspace.specs.Lines.{lines}
 use Rattle.sedspace.specs.Failures.{Rose}
-use Rattle.sedengine.specs.Limits.{Limits}
-use Rattle.sedengine.specs.State.{State, Setting}
+use Rattle.sedengine.specs.State.{Limits, State, Setting, setting_of}
 use Rattle.sedengine.specs.Move.{after, newline, to_sink, written}
-use Rattle.sedengine.specs.Devices.{GainedWithin, SinksAtEnd, SourceAtEnd, part}
-use Rattle.sedengine.specs.Ends.{BrokenOff, Cause}
-use Rattle.sedengine.specs.ScriptSetting.{setting_of}
-use Rattle.sedengine.specs.TakenInput.{size_of}
+use Rattle.sedengine.specs.Ends.{GainedWithin, SourceAtEnd, part, BrokenOff, Cause, size_of}
+use Rattle.sedengine.specs.DevicesAfter.{SinksAtEnd}
 use Rattle.sedengine.specs.declared.ends.Ended.{Ended}
 use Rattle.sedengine.specs.declared.ends.Ended.TheVariants.{Done, PatternFull, HoldFull, QueueFull, TurnsSpent, NoPrevious, InputBroken, OutputBroken, OutputFull}
 use Rattle.sedengine.proofs.Gains.{part-same}
 use Rattle.sedengine.proofs.Moves.{written-add}
-use Rattle.sededit.specs.Editing.{EditEnds, IsOutput, nothing_before, start_over}
+use Rattle.sededit.specs.EditEnds.{EditEnds}
+use Rattle.sededit.specs.Editing.{IsOutput, nothing_before, start_over}
 use Rattle.scripts.specs.Ampleness.{IsAmple, NoDevice, ample_room}
 use Rattle.scripts.specs.Edited.{text_of}
 use Rattle.scripts.proofs.Ample.{before_or_not, ended_still}

@@ -3,10 +3,8 @@ use Rattle.std.specs.Prelude.{◌≡◌, ℕ, ◌+◌, ◌-◌, ◌*◌, ◌^◌
 use Rattle.sedre.specs.declared.types.Kind.TheVariants.{Basic}
 use Rattle.sedscript.specs.Script.{Means}
 use Rattle.sedscript.specs.Program.{Program}
-use Rattle.sedengine.specs.Devices.{GainedWithin}
-use Rattle.sedengine.specs.Ends.{Cause}
-use Rattle.sedengine.specs.Limits.{Limits}
-use Rattle.sedengine.specs.ScriptSetting.{setting_of}
+use Rattle.sedengine.specs.Ends.{GainedWithin, Cause}
+use Rattle.sedengine.specs.State.{Limits, setting_of}
 use Rattle.sedengine.specs.declared.ends.Ended.{Ended}
 use Rattle.sedengine.specs.declared.ends.Ended.TheVariants.{InputBroken, OutputBroken, OutputFull}
 use Rattle.sededit.specs.Editing.{start_over}

@@ -4,7 +4,7 @@ use Rattle.sedre.specs.declared.types.Kind.TheVariants.{Basic}
 use Rattle.sedscript.specs.Script.{Means}
 use Rattle.sedscript.specs.Program.{Program}
 use Rattle.sedengine.specs.Move.{newline, to_sink}
-use Rattle.sedengine.specs.ScriptSetting.{setting_of}
+use Rattle.sedengine.specs.State.{setting_of}
 use Rattle.sededit.specs.Editing.{IsOutput, start_over}
 
 -- a run of this script over the lines of these bytes comes to its end, and has written these, each to its sink

@@ -2,7 +2,7 @@
 use Rattle.std.specs.Prelude.{◌≡◌, ℕ, Bool, true, false, not, Some, List, [], ◌∷◌, length, nat_eq, nat_lt}
 use Rattle.std.specs.List.{ends_with, list_all, list_any}
 use Rattle.std.specs.Str.{bytes_eq}
-use Rattle.sedre.specs.Written.{WrittenExpression}
+use Rattle.sedre.specs.Tree.{WrittenExpression}
 use Rattle.sedre.specs.declared.types.Kind.{Kind}
 use Rattle.sedre.specs.declared.types.Kind.TheVariants.{Basic}
 use Rattle.sedscript.specs.declared.types.Command.{Command}

@@ -4,7 +4,7 @@ use Rattle.sedre.specs.declared.types.Kind.TheVariants.{Basic}
 use Rattle.sedre.specs.Tree.{Tree}
 use Rattle.sedre.specs.Sizes.{size, depth}
 use Rattle.sedre.specs.Grammar.{ReadsAs}
-use Rattle.sedre.specs.Delimited.{first_delimiter}
+use Rattle.sedre.specs.Brackets.{first_delimiter}
 
 -- The text is a basic expression with so many groups, and a slash directly behind it is the first one that isn't escaped and
 -- stands in no bracket expression. An empty text is none, since it stands for the expression last used.

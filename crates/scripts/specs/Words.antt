@@ -3,7 +3,7 @@ use Rattle.std.specs.Prelude.{ℕ, ◌+◌, List, [], ◌∷◌, length, Bool, n
 use Rattle.std.specs.Prelude.{◌≡◌, ◌||◌, ◌++◌, codes, false, map, nat_lt, true}
 use Rattle.std.specs.List.{join_with_byte, list_all}
 use Rattle.examples.specs.Strings.{NoneTwice, written}
-use Rattle.sedscript.specs.Transliteration.{is_among, table_of}
+use Rattle.sedscript.specs.Strings.{is_among, table_of}
 use Rattle.sedengine.specs.Move.{in_table}
 use Rattle.sedre.specs.Tree.{Tree}
 use Rattle.sedmatch.specs.Matching.{found, report}

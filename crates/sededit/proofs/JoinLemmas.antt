@@ -8,10 +8,8 @@ use Rattle.std.specs.String.{string_bytes}
 use Rattle.std.specs.Option.{option_map, is_none}
 use Rattle.std.specs.Fmt.{option_append}
 use Rattle.std.specs.Io.KnownBytes.{Consumes, IsAtEnd}
-use Rattle.sededit.specs.Joined.{due_after, with_newline, joined}
+use Rattle.sededit.specs.Files.{due_after, with_newline, joined, KeepsFiles, contents_of_files, Joining, left, left_of_current}
 use Rattle.sededit.specs.Opening.{Opens, NotesMissed, OnlyLastGives, OpensFirstFiles, OpensNext}
-use Rattle.sededit.specs.ToldFiles.{KeepsFiles, contents_of_files}
-use Rattle.sededit.specs.FilesInTurn.{Joining, left, left_of_current}
 
 due_after-append : (due : Bool) (a b : List ℕ) → due_after due (a ++ b) ≡ due_after (due_after due a) b
 due_after-append due [] b = refl

@@ -1,9 +1,9 @@
 -- From the end of an edit to the status of the program.
 use Rattle.std.proofs.Common.{◌≡◌, ◌∙◌, ◌+◌, ◌<◌, ◌∷◌, ◌++◌, ℕ, Bool, true, false, List, [], Option, take, map, length, get_or, refl, sym, ap, arith}
 use Rattle.std.proofs.lemmas.List.{map_more, take-map, take_all}
-use Rattle.sedengine.specs.Devices.{Gained}
+use Rattle.sedengine.specs.Ends.{Gained}
 use Rattle.sedengine.specs.Move.{to_sink}
-use Rattle.sededit.specs.Sinks.{Creates, CreatesFirst}
+use Rattle.sededit.specs.Files.{Creates, CreatesFirst}
 
 -- the next of some names
 pub next_name : {X : Type 0} (f : X → List ℕ) (xs : List X) (names : List (List ℕ)) (i : ℕ) (x : X) → map f xs ≡ names → i < length xs → x ≡ get_or xs i x →

@@ -1,9 +1,8 @@
 -- The text of a script, made part by part.
 use Rattle.std.proofs.Common.{◌≡◌, ◌∙◌, ℕ, List, [], ◌∷◌, Option, Some, None}
 use Rattle.std.proofs.KnownBytes.{Keeps-trans}
-use Rattle.sedscript.specs.ScriptText.{with_part}
-use Rattle.sededit.specs.ToldFiles.{KeepsFiles}
-use Rattle.sededit.specs.Reading.{OnlyReadsScripts}
+use Rattle.sedscript.specs.Script.{with_part}
+use Rattle.sededit.specs.Files.{KeepsFiles, OnlyReadsScripts}
 use Rattle.sededit.specs.CommandLine.{ScriptPart, file, text}
 use Rattle.sededit.specs.Program.{MakesText}
 

@@ -2,17 +2,15 @@
 use Rattle.std.proofs.Common.{◌≡◌, ◌∙◌, ◌≤◌, ◌⊎◌, inl, inr, ℕ, Bool, true, false, List, Option, Some, None, Err, arith, subst, sym}
 use Rattle.sedspace.specs.Failures.{Rose}
 use Rattle.sedscript.specs.Program.{Program}
-use Rattle.sedengine.specs.Limits.{Limits}
-use Rattle.sedengine.specs.Devices.{FailedSink, Gained, GainedWithin, SinksAtEnd, SourceAtEnd}
+use Rattle.sedengine.specs.State.{Limits, setting_of}
+use Rattle.sedengine.specs.DevicesAfter.{FailedSink, SinksAtEnd}
+use Rattle.sedengine.specs.Ends.{Gained, GainedWithin, SourceAtEnd, BreaksInLine}
 use Rattle.sedengine.specs.declared.ends.Ended.{Ended}
 use Rattle.sedengine.specs.declared.ends.Ended.TheVariants.{Done, InputBroken, OutputBroken, OutputFull}
-use Rattle.sedengine.specs.TakenInput.{BreaksInLine}
-use Rattle.sedengine.specs.ScriptSetting.{setting_of}
 use Rattle.std.specs.Option.{option_map}
 use Rattle.sededit.specs.Editing.{nothing_before, start_over}
-use Rattle.sededit.specs.Joined.{joined}
+use Rattle.sededit.specs.Files.{joined, KeepsFiles, contents_of_files}
 use Rattle.sededit.specs.Opening.{WereRefused}
-use Rattle.sededit.specs.ToldFiles.{KeepsFiles, contents_of_files}
 use Rattle.sededit.specs.Program.{DevicesAtEnd, Observed, SinkAtEnd, SinkFailed, StatusMeans, StopsEarly, WritesAll, WritesBeginning}
 
 -- what sinks gained stands where they hold the same afterwards

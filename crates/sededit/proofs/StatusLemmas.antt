@@ -3,7 +3,7 @@ use Rattle.std.proofs.Common.{◌≡◌, ◌≢◌, ◌⊎◌, inl, inr, ℕ, Li
 use Rattle.clap.specs.Words.{Text}
 use Rattle.sedspace.specs.Failures.{Rose}
 use Rattle.sedscript.specs.Program.{Program}
-use Rattle.sedengine.specs.Limits.{Limits}
+use Rattle.sedengine.specs.State.{Limits}
 use Rattle.sededit.specs.Program.{AsksHelp, HelpMeans, Observed, Runs, SinkFailed, StatusMeans, StopsEarly, WritesAll, WritesBeginning, WritesHelp}
 
 module _ (scripts : List ℕ → Option (Option (List ℕ))) (ahead : List (List ℕ) → Option (List (Option (List ℕ)))) (named : List ℕ → Option (List ℕ)) (others : ℕ → Option (List ℕ)) (nodes : ℕ) (words : List Text) (created : List (List ℕ) → Type 0)

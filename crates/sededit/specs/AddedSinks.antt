@@ -1,7 +1,7 @@
 -- Sinks that files are added to, and their flush (XCU sed, "w wfile").
 use Rattle.std.specs.Prelude.{◌≡◌, ℕ, ◌+◌, Bool, true, false, List, [], ◌∷◌, ◌++◌, take, slice_get, Some, ◌≤◌, Result, Ok, Err}
 use Rattle.sedspace.specs.Failures.{Rose}
-use Rattle.sededit.specs.Sinks.{Creates}
+use Rattle.sededit.specs.Files.{Creates}
 
 -- a sink more where one was added
 abbrev pub AddsSink : Bool → ℕ → ℕ → Type 0

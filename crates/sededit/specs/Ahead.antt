@@ -3,11 +3,10 @@
 use Rattle.std.specs.Prelude.{◌≡◌, ℕ, Option, List, [], ◌++◌, length}
 use Rattle.std.specs.Io.KnownBytes.{prepend_known}
 use Rattle.sedspace.specs.Lines.{lines}
-use Rattle.sedengine.specs.Limits.{Limits}
-use Rattle.sedengine.specs.State.{State, Setting}
+use Rattle.sedengine.specs.State.{Limits, State, Setting}
 use Rattle.sedengine.specs.Move.{after}
 use Rattle.sedengine.specs.Run.{lost}
-use Rattle.sedengine.specs.TakenInput.{LosesPartAfter, size_of}
+use Rattle.sedengine.specs.Ends.{LosesPartAfter, size_of}
 use Rattle.sedengine.specs.declared.ends.Ended.{Ended}
 use Rattle.sedengine.specs.declared.ends.Ended.TheVariants.{Done}
 

@@ -4,7 +4,7 @@ use Rattle.std.specs.Option.{option_map}
 use Rattle.std.specs.Str.{bytes_eq}
 use Rattle.sededit.specs.declared.memory_inputs.Current.{Current}
 use Rattle.sededit.specs.declared.memory_inputs.Current.TheVariants.{Nothing, Standard, Number}
-use Rattle.sededit.specs.ToldFiles.{dash}
+use Rattle.sededit.specs.Files.{dash}
 
 -- a file over memory: its name, as bytes of UTF-8, and its bytes
 pub record File : Type 0 where

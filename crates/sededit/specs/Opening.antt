@@ -2,7 +2,7 @@
 use Rattle.std.specs.Prelude.{◌≡◌, ℕ, Bool, true, false, List, [], ◌∷◌, map, Option, None, Some, unwrap_or, ⊤, ◌++◌, ◌+◌, length, not}
 use Rattle.std.specs.Option.{is_some, is_none}
 use Rattle.sedspace.specs.Failures.{Rose, raised}
-use Rattle.sededit.specs.FilesInTurn.{Joining}
+use Rattle.sededit.specs.Files.{Joining}
 
 -- An opening, where the file and those after it are told: whether it can be opened is answered, it is the one being
 -- read, and those after it are still ahead. One that can't be opened gives nothing.

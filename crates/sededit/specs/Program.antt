@@ -5,23 +5,18 @@ use Rattle.std.specs.String.{string_bytes}
 use Rattle.clap.specs.Words.{IsAmong, Text, fault_of, matches_of, takes}
 use Rattle.clap.specs.declared.error.kind.ErrorKind.TheVariants.{DisplayHelp}
 use Rattle.sedspace.specs.Failures.{Rose}
-use Rattle.sedscript.specs.Script.{Means}
+use Rattle.sedscript.specs.Script.{Means, with_part}
 use Rattle.sedscript.specs.Program.{Program}
-use Rattle.sedscript.specs.ScriptText.{with_part}
 use Rattle.sedre.specs.declared.types.Kind.{Kind}
 use Rattle.sedre.specs.declared.types.Kind.TheVariants.{Basic, Extended}
-use Rattle.sedengine.specs.Devices.{Gained, GainedWithin, SourceAtEnd}
-use Rattle.sedengine.specs.Ends.{Cause}
-use Rattle.sedengine.specs.Limits.{Limits}
+use Rattle.sedengine.specs.Ends.{Gained, GainedWithin, SourceAtEnd, Cause, BreaksInLine}
+use Rattle.sedengine.specs.State.{Limits, TellsFiles, setting_of}
 use Rattle.sedengine.specs.Move.{to_sink}
-use Rattle.sedengine.specs.TakenInput.{BreaksInLine}
-use Rattle.sedengine.specs.ScriptSetting.{TellsFiles, setting_of}
 use Rattle.sedengine.specs.declared.ends.Ended.{Ended}
 use Rattle.sedengine.specs.declared.ends.Ended.TheVariants.{Done, InputBroken, OutputBroken, OutputFull}
 use Rattle.sededit.specs.CommandLine.{ScriptPart, IsCommandLine, IsLine, file, given, sed_command, text}
 use Rattle.sededit.specs.Editing.{BeginsOutput, IsOutput, nothing_before, start_over}
-use Rattle.sededit.specs.Joined.{joined}
-use Rattle.sededit.specs.ToldFiles.{dash, GivesWhole, contents_of_files}
+use Rattle.sededit.specs.Files.{joined, dash, GivesWhole, contents_of_files}
 use Rattle.sededit.specs.declared.asked.Line.{Line}
 
 -- the kind of a script's expressions: extended with -E, basic without it (XCU sed, "Options")

@@ -5,9 +5,11 @@ ghost use Rattle.std.specs.Io.KnownBytes.{Keeps};
 ghost use Rattle.sedscript.specs.Script.{Means};
 ghost use Rattle.sedscript.specs.FirstFault.{Faulty};
 ghost use Rattle.sedscript.specs.declared.types.ScriptFault.{ScriptFault};
-ghost use Rattle.sedengine.specs.Devices.{Gained, GainedWithin, SameSinks, SinksAtEnd, SourceAtEnd};
-ghost use Rattle.sedengine.specs.ScriptSetting.{TellsFiles, setting_of};
-ghost use Rattle.sededit.specs.Editing.{BeginsOutput, EditEnds, IsOutput, nothing_before, start_over};
+ghost use Rattle.sedengine.specs.Ends.{Gained, GainedWithin, SourceAtEnd};
+ghost use Rattle.sedengine.specs.DevicesAfter.{SameSinks, SinksAtEnd};
+ghost use Rattle.sedengine.specs.State.{TellsFiles, setting_of};
+ghost use Rattle.sededit.specs.Editing.{BeginsOutput, IsOutput, nothing_before, start_over};
+ghost use Rattle.sededit.specs.EditEnds.{EditEnds};
 ghost use Rattle.sededit.specs.Ahead.{LeavesAhead};
 
 use sedengine::{Ended, Engine, Limits};

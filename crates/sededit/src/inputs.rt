@@ -6,7 +6,7 @@ ghost use Rattle.std.specs.Io.{ReadsAtMost};
 ghost use Rattle.std.specs.Io.KnownBytes.{Keeps, ReadConsumes};
 ghost use Rattle.sedspace.specs.Failures.{FailsAtErr};
 ghost use Rattle.sededit.specs.Opening.{CountsRefusal, Opens};
-ghost use Rattle.sededit.specs.ToldFiles.{KeepsFiles, GivesWhole};
+ghost use Rattle.sededit.specs.Files.{KeepsFiles, GivesWhole};
 
 use sedspace::Broken;
 use std::alloc::{AllocError, Global};

@@ -2,14 +2,11 @@
 ghost use Rattle.std.specs.Prelude.{◌≡◌, ◌≢◌, ◌<◌, ◌⊎◌, [], ◌∷◌, ℕ, IfErr, IfOk, IfSome, IsNone, OnOk, length, map, take, ⊤};
 ghost use Rattle.std.specs.String.{string_bytes};
 ghost use Rattle.sedspace.specs.Failures.{Rose};
-ghost use Rattle.sedengine.specs.Devices.{Gained};
+ghost use Rattle.sedengine.specs.Ends.{Gained};
 ghost use Rattle.sedengine.specs.Move.{to_sink};
 ghost use Rattle.clap.specs.Words.{kind_of};
-ghost use Rattle.sededit.specs.FilesInTurn.{StillGives};
-ghost use Rattle.sededit.specs.ToldFiles.{dash};
+ghost use Rattle.sededit.specs.Files.{StillGives, dash, OnlyReadsScripts, Creates, CreatesFirst};
 ghost use Rattle.sededit.specs.Program.{AsksHelp, HelpMeans, Runs, RunsLine, StatusMeans, observe, or_standard, texts_of};
-ghost use Rattle.sededit.specs.Reading.{OnlyReadsScripts};
-ghost use Rattle.sededit.specs.Sinks.{Creates, CreatesFirst};
 ghost use Rattle.sededit.specs.AddedSinks.{CreatesUpTo};
 
 use crate::asked::{Line, Refused};

@@ -2,7 +2,7 @@
 ghost use Rattle.std.specs.Prelude.{◌≡◌, ◌≤◌, ◌∷◌, ℕ, List, [], map, IfOk};
 ghost use Rattle.sededit.specs.CommandLine.{given};
 ghost use Rattle.sededit.specs.Program.{GivesScript, MakesText, kind_with};
-ghost use Rattle.sededit.specs.Reading.{OnlyReadsScripts};
+ghost use Rattle.sededit.specs.Files.{OnlyReadsScripts};
 ghost use Rattle.sededit.specs.declared.reading.NoScript.TheVariants.{NoMemory};
 
 use crate::asked::{Line, Part};

@@ -8,8 +8,7 @@ use Rattle.sedscript.specs.declared.types.Action.{Action}
 use Rattle.sedscript.specs.declared.types.Action.TheVariants.{Block}
 use Rattle.sedspace.specs.Stream.{Stream, left, lines_left}
 use Rattle.sedspace.specs.Lines.{TakesAtMost}
-use Rattle.sedengine.specs.Limits.{Limits}
-use Rattle.sedengine.specs.State.{Entry, Task, do_at, State, Move, Setting}
+use Rattle.sedengine.specs.State.{Limits, Entry, Task, do_at, State, Move, Setting}
 use Rattle.sedengine.specs.Select.{Selection, selects}
 use Rattle.sedengine.specs.Move.{next_move, reach, performs, acts, passes, writing, quietly, queueing, then_do, none_left, in_table, is_active, tells_at}
 use Rattle.sedengine.specs.Ends.{WithinLimits, reaches, reads, asks_last, is_next, names_last}

@@ -9,15 +9,16 @@ use Rattle.std.proofs.lemmas.List.Sums.{sum_by-take-drop}
 use Rattle.std.proofs.lemmas.Grind.{get_or_default_zero}
 use Rattle.std.proofs.Math.Seq.{take-append-add, take-length}
 use Rattle.std.proofs.lemmas.List.{drop-take}
-use Rattle.sedre.specs.Written.{WrittenExpression, expression_tree}
+use Rattle.sedre.specs.Tree.{WrittenExpression, expression_tree}
 use Rattle.sedmatch.specs.Candidates.{IsBefore, NoMatchBefore}
 use Rattle.sedmatch.specs.Matching.{found}
 use Rattle.sedmatch.proofs.MatchingLemmas.{some_found-iff}
-use Rattle.sedspace.specs.Lines.{lines, is_newline, AreWholeLines}
+use Rattle.sedspace.specs.Lines.{lines, is_newline}
+use Rattle.sedspace.specs.Stream.{AreWholeLines}
 use Rattle.sedspace.proofs.LineLemmas.{lines_nil}
 use Rattle.sedspace.proofs.WholeLemmas.{lines_yes, lines_no, some_lines}
-use Rattle.sedengine.specs.ScriptSetting.{has_match}
-use Rattle.sedengine.specs.TakenInput.{size_of}
+use Rattle.sedengine.specs.State.{has_match}
+use Rattle.sedengine.specs.Ends.{size_of}
 use Rattle.sedengine.specs.Passing.{ClearTo, IsLineOf, bytes_of}
 
 onto-bytes : (x : ℕ) (ys : List (List ℕ)) → 0 < length ys → bytes_of (onto_first x ys) ≡ x ∷ bytes_of ys

@@ -3,7 +3,7 @@ use Rattle.std.proofs.Common.{◌≡◌, ℕ, Bool, true, false, cond, not, ◌|
 use Rattle.std.specs.Prelude.{is_some, option_and_then, nat_le, nat_lt, nat_eq}
 use Rattle.std.proofs.lemmas.Bool.Decides.{nat_tests}
 use Rattle.std.proofs.lemmas.Option.{slice_get_read}
-use Rattle.sedre.specs.Written.{WrittenExpression, expression_tree}
+use Rattle.sedre.specs.Tree.{WrittenExpression, expression_tree}
 use Rattle.sedmatch.specs.Matching.{found}
 use Rattle.sedscript.specs.declared.types.Address.{Address}
 use Rattle.sedscript.specs.declared.types.Address.TheVariants.{Line, Last, Match}
@@ -13,7 +13,7 @@ use Rattle.sedengine.specs.Choose.{deciding, deciding_in, decides, choice_by_mat
 use Rattle.sedengine.specs.Ends.{is_dollar}
 use Rattle.sedengine.specs.declared.ends.Ended.{Ended}
 use Rattle.sedengine.specs.declared.ends.Ended.TheVariants.{Done, PatternFull, HoldFull, QueueFull, TurnsSpent, NoPrevious, InputBroken, OutputBroken, OutputFull}
-use Rattle.sedengine.specs.ScriptSetting.{has_match, finds_in}
+use Rattle.sedengine.specs.State.{has_match, finds_in}
 use Rattle.sedengine.specs.declared.select.Chosen.{Chosen}
 
 -- whether there is a match, as the matcher's call answers it

@@ -5,8 +5,7 @@ use Rattle.std.specs.Io.KnownBytes.{Keeps}
 use Rattle.std.proofs.Math.Seq.{take-suc}
 use Rattle.std.proofs.lemmas.Option.{slice_get_past, slice_get_within, slice_get-get_or}
 use Rattle.sedspace.specs.Reading.{ReadsAt}
-use Rattle.sedengine.specs.Limits.{Limits}
-use Rattle.sedengine.specs.State.{Task, copy, State, Setting}
+use Rattle.sedengine.specs.State.{Limits, Task, copy, State, Setting}
 use Rattle.sedengine.specs.Move.{next_move, after, written, next_or_stay, writes_of, to_sink, copies, quietly}
 use Rattle.sedengine.specs.Meters.{Sent, SinkView}
 use Rattle.sedengine.specs.Calls.{Puts}

@@ -6,7 +6,7 @@ use Rattle.std.proofs.Math.Nat.{mul-suc}
 use Rattle.std.specs.Prelude.{OnOk, OnErr, IsErr, IfSome, slice_range, if◌then◌else◌}
 use Rattle.std.proofs.Math.Seq.{take-length}
 use Rattle.std.proofs.lemmas.Bool.{false≢true}
-use Rattle.sedre.specs.Written.{WrittenExpression, expression_tree}
+use Rattle.sedre.specs.Tree.{WrittenExpression, expression_tree}
 use Rattle.sedmatch.specs.Groups.{Groups}
 use Rattle.sedmatch.specs.Matching.{report}
 use Rattle.sedmatch.specs.Following.{LiesOn}
@@ -14,7 +14,7 @@ use Rattle.sedscript.specs.declared.substitution.Piece.{Piece}
 use Rattle.sedspace.specs.Spaces.{Contents}
 use Rattle.sedspace.specs.declared.errors.Full.{Full}
 use Rattle.sedengine.specs.Substitute.{Occurrence, to_replace, next_occurrence, occurrences, put_for, replaced_from}
-use Rattle.sedengine.specs.ScriptSetting.{match_with_span, search_for}
+use Rattle.sedengine.specs.State.{match_with_span, search_for}
 use Rattle.sedengine.specs.SubstituteParts.{Appends, GroupsOf, ReplacesThese, Skips, has_group, with_groups}
 use Rattle.sedengine.specs.SubstituteParts.{later_cost, occurrence_at_span, occurrences_after, pending, told_cost}
 use Rattle.sedengine.proofs.Occurrences.{after_is}

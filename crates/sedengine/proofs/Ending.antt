@@ -4,8 +4,7 @@ use Rattle.std.specs.Prelude.{OnOk, OnErr, slice_get}
 use Rattle.std.proofs.lemmas.Option.{slice_get_past}
 use Rattle.sedspace.specs.Spaces.{Entries}
 use Rattle.sedspace.specs.declared.errors.Full.{Full}
-use Rattle.sedengine.specs.Limits.{Limits}
-use Rattle.sedengine.specs.State.{Task, begin, rebegin, do_at, print_pattern, empty_pattern, flush, State, Move, Setting}
+use Rattle.sedengine.specs.State.{Limits, Task, begin, rebegin, do_at, print_pattern, empty_pattern, flush, State, Move, Setting}
 use Rattle.sedengine.specs.Move.{reach, writing, then_do, at_end, line_to}
 use Rattle.sedengine.specs.Ends.{WithinLimits, takes_turn}
 use Rattle.sedengine.specs.Held.{SameLengths}

@@ -1,15 +1,13 @@
 -- Entries of the queue, written one after another.
 use Rattle.std.proofs.Common.{◌≡◌, ℕ, ◌+◌, ◌≤◌, false, List, [], ◌∷◌, length, Option, Some, None, Result, Ok, Err, refl, subst, sym, ap, ◌∙◌, arith}
 use Rattle.std.specs.Io.KnownBytes.{Keeps}
-use Rattle.sedengine.specs.Limits.{Limits}
-use Rattle.sedengine.specs.State.{Entry, text, file, Task, flush, copy, State, Setting}
+use Rattle.sedengine.specs.State.{Limits, Entry, text, file, Task, flush, copy, State, Setting, TellsFiles}
 use Rattle.sedengine.specs.Move.{next_move, after, written, flushes, line_to}
 use Rattle.sedengine.specs.Meters.{Sent, SinkView}
 use Rattle.sedengine.specs.Calls.{Puts}
 use Rattle.sedengine.specs.Ends.{WithinLimits, Within}
 use Rattle.sedengine.specs.Held.{SameLengths}
 use Rattle.sedengine.specs.Run.{InOneCycle, starts_cycle}
-use Rattle.sedengine.specs.ScriptSetting.{TellsFiles}
 use Rattle.sedengine.specs.Steps.{Ran, Moves}
 use Rattle.sedengine.specs.Flushing.{CopiesEntry}
 use Rattle.sedengine.specs.declared.ends.Ended.{Ended}

@@ -4,7 +4,7 @@ use Rattle.std.specs.Prelude.{nat_eq, slice_get}
 use Rattle.std.proofs.lemmas.Bool.Decides.{nat_tests}
 use Rattle.std.specs.Io.KnownBytes.{Appends, Keeps}
 use Rattle.sedengine.specs.Move.{to_sink}
-use Rattle.sedengine.specs.Devices.{part, Gained}
+use Rattle.sedengine.specs.Ends.{part, Gained}
 
 pub part-append : (k : ℕ) (xs ys : List (ℕ × ℕ)) → part k (xs ++ ys) ≡ part k xs ++ part k ys
 part-append k [] ys = refl

@@ -2,7 +2,8 @@
 use Rattle.std.proofs.Common.{◌≡◌, ℕ, suc, zero, ◌+◌, ◌≤◌, List, [], ◌∷◌, length, get_or, Option, Some, None, Result, Ok, Err, refl, subst, sym, ap, ◌∙◌, arith}
 use Rattle.std.specs.Prelude.{IfSome}
 use Rattle.std.specs.List.{All}
-use Rattle.sedengine.specs.Devices.{part, FailedSink, FillsSink, GainedWithin, LimitIsSet, SinksAtEnd}
+use Rattle.sedengine.specs.Ends.{part, FillsSink, GainedWithin}
+use Rattle.sedengine.specs.DevicesAfter.{FailedSink, LimitIsSet, SinksAtEnd}
 use Rattle.sedengine.specs.Calls.{Delivers}
 use Rattle.sedengine.specs.Meters.{Frame, FullSink, InLimit, Meter, Sent, SinkView, counted}
 use Rattle.sedengine.specs.Run.{Cycles, Ending, Input, RunState, Sends, at_lines, outcome, run_setting}

@@ -1,8 +1,7 @@
 -- Moves one after another.
 use Rattle.std.proofs.Common.{◌≡◌, ℕ, suc, zero, ◌<◌, ◌+◌, ◌-◌, ◌≤◌, ◌⊎◌, inl, inr, false, List, [], ◌++◌, length, take, Option, Some, None, Result, Ok, Err, refl, subst, sym, ap, ◌∙◌, arith, length-append, append-nil, append_assoc, add-zero, add-suc}
 use Rattle.std.proofs.Math.Seq.{take-append-add}
-use Rattle.sedengine.specs.Limits.{Limits}
-use Rattle.sedengine.specs.State.{Task, State, Move, Setting}
+use Rattle.sedengine.specs.State.{Limits, Task, State, Move, Setting}
 use Rattle.sedengine.specs.Move.{next_move, first_task, after, written, next_or_stay, writes_of, writing, quietly}
 use Rattle.sedengine.specs.Meters.{Sent, SinkView}
 use Rattle.sedengine.specs.Calls.{Puts}

@@ -5,14 +5,13 @@ use Rattle.std.specs.Prelude.{◌&&◌, nat_eq, nat_lt, if◌then◌else◌}
 use Rattle.std.proofs.lemmas.List.{drop-drop}
 use Rattle.std.proofs.Math.Seq.{drop-nil}
 use Rattle.std.proofs.lemmas.Bool.Decides.{nat_tests}
-use Rattle.sedre.specs.Written.{WrittenExpression, expression_tree}
-use Rattle.sedmatch.specs.Matching.{found}
-use Rattle.sedmatch.specs.NextMatch.{unless_null_at}
+use Rattle.sedre.specs.Tree.{WrittenExpression, expression_tree}
+use Rattle.sedmatch.specs.Matching.{found, unless_null_at}
 use Rattle.sedmatch.specs.Following.{EndsWithin, LiesOn}
 use Rattle.sedmatch.proofs.MatchingLemmas.{found-iff, IsLeftmostLongest-within}
 use Rattle.sedmatch.proofs.SpanLemmas.{Matches-forward, Matches-within}
 use Rattle.sedengine.specs.Substitute.{Occurrence, whole_span, next_occurrence, with_rest, occurrences_from}
-use Rattle.sedengine.specs.ScriptSetting.{match_with_span, search_for}
+use Rattle.sedengine.specs.State.{match_with_span, search_for}
 use Rattle.sedengine.specs.SubstituteParts.{Skips, occurrence_at_span, occurrences_after, pending}
 
 -- a match lies in the text, after the place from which it is sought

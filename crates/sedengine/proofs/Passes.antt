@@ -12,18 +12,18 @@ use Rattle.std.specs.Borrow.{GName}
 use Rattle.std.specs.List.{All}
 use Rattle.std.specs.Option.{option_map}
 use Rattle.std.specs.Io.KnownBytes.{prepend_known}
-use Rattle.sedre.specs.Written.{WrittenExpression}
-use Rattle.sedspace.specs.Lines.{is_newline, lines, AreWholeLines, HasNoNewline}
+use Rattle.sedre.specs.Tree.{WrittenExpression}
+use Rattle.sedspace.specs.Lines.{is_newline, lines, HasNoNewline}
+use Rattle.sedspace.specs.Stream.{AreWholeLines}
 use Rattle.sedspace.specs.Stream.{Stream, left, lines_left}
 use Rattle.sedspace.proofs.LineLemmas.{lines_at, lines_nil, lines_none}
 use Rattle.sedspace.proofs.WholeLemmas.{whole_then}
-use Rattle.sedengine.specs.State.{begin, do_at, Setting}
+use Rattle.sedengine.specs.State.{begin, do_at, Setting, finds_in}
 use Rattle.sedengine.specs.Move.{newline, none_left, to_sink}
 use Rattle.sedengine.specs.Meters.{Sent, SinkView}
 use Rattle.sedengine.specs.Ends.{WithinLimits, named_sink}
 use Rattle.sedengine.specs.Calls.{ReadsLines}
 use Rattle.sedengine.specs.Run.{RunState, at_lines, run_setting, FailedSource}
-use Rattle.sedengine.specs.ScriptSetting.{finds_in}
 use Rattle.sedengine.specs.Passing.{AllowsLines, BlockLeftAlone, BreaksOff, BreaksOffBy, ClearTo, HaltedPassing, IsClear, IsExtent, IsIdleOf, IsLineOf, PassesOver, RangesIdle, StepsPassing, WritesLines, bytes_of, counted_block, engine_after, judged, line_brought}
 use Rattle.sedengine.specs.Inside.{IsConsistent, entries_of, run_of}
 use Rattle.sedengine.specs.declared.block.Extent.{Extent}

@@ -7,15 +7,14 @@ use Rattle.std.specs.List.{All}
 use Rattle.std.specs.Option.{option_map}
 use Rattle.sedspace.specs.Lines.{lines, TakesAtMost}
 use Rattle.sedspace.specs.Stream.{Stream, left}
-use Rattle.sedengine.specs.Limits.{Limits}
-use Rattle.sedengine.specs.State.{State, Setting}
+use Rattle.sedengine.specs.State.{Limits, State, Setting}
 use Rattle.sedengine.specs.Move.{after, to_sink, written}
 use Rattle.sedengine.specs.Meters.{Sent, SinkView}
-use Rattle.sedengine.specs.Ends.{named_sink}
+use Rattle.sedengine.specs.Ends.{named_sink, LosesPartAfter, size_of}
 use Rattle.std.specs.Io.KnownBytes.{prepend_known}
 use Rattle.std.proofs.KnownBytes.{prepend_known-nil}
 use Rattle.sedengine.specs.Run.{RunState, run_setting, at_lines, lost, input_of, Ending}
-use Rattle.sedengine.specs.TakenInput.{LosesPartAfter, size_of, more_at}
+use Rattle.sedengine.specs.DevicesAfter.{more_at}
 use Rattle.sedengine.specs.Steps.{TakesLines, KeepsRun}
 use Rattle.sedengine.specs.Passing.{IsIdleIn, AllLeftAlone, BlockLeftAlone, FindsAsItSearches, bytes_of, passed_out, moves_of, CanPass, MovesLedTo, HaltedPassing, StepsPassing, engine_after}
 use Rattle.sedengine.specs.declared.ends.Ended.{Ended}

@@ -6,7 +6,7 @@ use Rattle.std.proofs.Math.Seq.{drop-cons}
 use Rattle.sedmatch.specs.Groups.{Groups}
 use Rattle.sedscript.specs.declared.substitution.Piece.{Piece}
 use Rattle.sedscript.specs.declared.substitution.Piece.TheVariants.{Literal as literal, Whole as whole, Group as group}
-use Rattle.sedscript.specs.Replacement.{pieces_in, GroupsWithin}
+use Rattle.sedscript.specs.Pieces.{pieces_in, GroupsWithin}
 use Rattle.sedscript.specs.declared.substitution.Part.{Part}
 use Rattle.sedscript.specs.declared.substitution.Part.TheVariants.{Literal, Whole, Group}
 use Rattle.sedengine.specs.Substitute.{Occurrence, put_for}

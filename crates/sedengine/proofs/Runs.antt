@@ -3,15 +3,13 @@ use Rattle.std.proofs.Common.{◌≡◌, ℕ, ◌<◌, ◌+◌, ◌≤◌, inl, 
 use Rattle.std.specs.Prelude.{max}
 use Rattle.sedspace.specs.Stream.{Stream, left, lines_left}
 use Rattle.sedspace.specs.Lines.{TakesAtMost}
-use Rattle.sedengine.specs.Limits.{Limits}
-use Rattle.sedengine.specs.State.{State, Setting}
+use Rattle.sedengine.specs.State.{Limits, State, Setting, setting_of}
 use Rattle.sedengine.specs.Move.{after, written}
 use Rattle.sedengine.specs.Meters.{Sent, SinkView}
-use Rattle.sedengine.specs.Ends.{WithinLimits, Within, named_sink}
+use Rattle.sedengine.specs.Ends.{WithinLimits, Within, named_sink, size_of, LosesPartAfter}
 use Rattle.sedengine.specs.Held.{HoldsAt, SameLengths}
 use Rattle.sedengine.specs.Run.{RunState, run_setting, at_lines, lost, Input, input_of, TakesLeft, Ending, EndingInCycle, Cycled, InOneCycle, starts_cycle}
-use Rattle.sedengine.specs.ScriptSetting.{setting_of}
-use Rattle.sedengine.specs.TakenInput.{size_of, more_at, LosesPartAfter}
+use Rattle.sedengine.specs.DevicesAfter.{more_at}
 use Rattle.sedengine.specs.Steps.{Ran, TakesLines, Halted, Steps, KeepsRun}
 use Rattle.sedengine.specs.declared.ends.Ended.{Ended}
 use Rattle.sedengine.specs.declared.ends.Ended.TheVariants.{PatternFull, InputBroken}

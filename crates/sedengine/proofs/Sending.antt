@@ -2,7 +2,7 @@
 use Rattle.std.proofs.Common.{◌≡◌, ◌≢◌, ℕ, ◌+◌, ◌⊎◌, inl, inr, List, [], ◌++◌, length, Option, Some, None, refl, sym, arith, length-append}
 use Rattle.std.specs.Io.KnownBytes.{Appends, Keeps}
 use Rattle.sedengine.specs.Move.{to_sink}
-use Rattle.sedengine.specs.Devices.{part}
+use Rattle.sedengine.specs.Ends.{part}
 use Rattle.sedengine.specs.Meters.{Counts, Sent, SinkView}
 use Rattle.sedengine.proofs.Gains.{Gained-append, Gained-none, Gained-one, part-append, part-same, part-other, same_or_not}
 

@@ -14,7 +14,7 @@ use Rattle.sedspace.specs.Lines.{lines, is_newline, without_empty_last, HasNoNew
 use Rattle.sedspace.specs.Stream.{Stream, left, lines_left, GivesLine, NoLineLeft, KeepsLines, LosesPart, TakesLine, TellsLast}
 use Rattle.sedengine.specs.Calls.{ReadsLines}
 use Rattle.sedengine.specs.Run.{FailedSource}
-use Rattle.sedengine.specs.TakenInput.{LosesPartAfter, size_of}
+use Rattle.sedengine.specs.Ends.{LosesPartAfter, size_of}
 use Rattle.sedengine.specs.Steps.{TakesLines}
 use Rattle.sedengine.specs.declared.ends.Ended.{Ended}
 use Rattle.sedengine.specs.declared.ends.Ended.TheVariants.{InputBroken}

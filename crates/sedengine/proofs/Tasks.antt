@@ -7,8 +7,7 @@ use Rattle.sedscript.specs.Program.{Program}
 use Rattle.sedspace.specs.Spaces.{Contents}
 use Rattle.sedspace.specs.Stream.{Stream, left, lines_left, TakesLine, GivesLine, NoLineLeft, FirstIsLonger, KeepsLines, LosesPart}
 use Rattle.sedspace.specs.Lines.{TakesAtMost}
-use Rattle.sedengine.specs.Limits.{Limits}
-use Rattle.sedengine.specs.State.{Task, begin, do_at, State, Setting}
+use Rattle.sedengine.specs.State.{Limits, Task, begin, do_at, State, Setting}
 use Rattle.sedengine.specs.Move.{next_move, start, quietly, then_do, none_left}
 use Rattle.sedengine.specs.Ends.{WithinLimits, IsCause, line_at, takes_turn, reads, named_sink}
 use Rattle.sedengine.specs.Held.{SameLengths}

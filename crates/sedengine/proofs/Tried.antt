@@ -3,7 +3,7 @@ use Rattle.std.proofs.Common.{◌≡◌, ℕ, ◌<◌, Bool, List, length, get_o
 use Rattle.std.specs.Prelude.{option_and_then}
 use Rattle.std.specs.Option.{option_or}
 use Rattle.std.proofs.lemmas.Option.{slice_get_read}
-use Rattle.sedre.specs.Written.{WrittenExpression}
+use Rattle.sedre.specs.Tree.{WrittenExpression}
 use Rattle.sedscript.specs.Ranges.{AddressWithin, IsOneOf}
 use Rattle.sedscript.specs.declared.types.Address.TheVariants.{Match}
 use Rattle.sedscript.specs.declared.substitution.Substitution.{Substitution}
@@ -14,7 +14,7 @@ use Rattle.std.specs.Prelude.{slice_get, slice_set}
 use Rattle.std.proofs.lemmas.List.{set-get_or}
 use Rattle.sedengine.specs.SubstituteParts.{ReplacesThese}
 use Rattle.sedengine.specs.Run.{RunState}
-use Rattle.sedengine.specs.ScriptSetting.{finds_in, search_for, search_in}
+use Rattle.sedengine.specs.State.{finds_in, search_for, search_in}
 use Rattle.sedengine.specs.Select.{AddressAnswer, answer, stands_for}
 use Rattle.sedengine.specs.Substitute.{to_replace, occurrences}
 use Rattle.sedengine.specs.declared.machine.Machine.TheInside.{Inside}

@@ -7,8 +7,7 @@ use Rattle.sedspace.specs.declared.lines.Got.{Got}
 use Rattle.sedspace.specs.declared.lines.Got.TheVariants.{Line, End}
 use Rattle.sedengine.specs.Run.{RunState}
 use Rattle.sedengine.specs.Steps.{TakesLines}
-use Rattle.sedengine.specs.declared.ends.Ended.{Ended}
-use Rattle.sedengine.specs.declared.ends.Ended.TheVariants.{PatternFull, InputBroken}
+use Rattle.sedengine.specs.Types.{Ended, PatternFull, InputBroken}
 
 -- What a call answers that brings a space to hold the bytes `before` and the next line, whose number is given, where the
 -- lines ls are left. Where there is none, or an end comes, the space stays; at an end a part of one line is gone.

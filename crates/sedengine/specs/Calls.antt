@@ -4,14 +4,13 @@ use Rattle.std.specs.Prelude.{◌≡◌, ℕ, ◌<◌, ◌≤◌, max, Option, S
 use Rattle.std.specs.Borrow.{GName}
 use Rattle.sedspace.specs.Stream.{Stream}
 use Rattle.sedspace.specs.Lines.{TakesAtMost}
-use Rattle.sedengine.specs.Devices.{FailedSink}
+use Rattle.sedengine.specs.DevicesAfter.{FailedSink}
 use Rattle.sedengine.specs.Run.{FailedSource}
 use Rattle.sedengine.specs.Ends.{named_sink}
 use Rattle.sedengine.specs.Meters.{Sent, SinkView, FullSink}
 use Rattle.sedengine.specs.Move.{to_sink}
 use Rattle.sedengine.specs.declared.meter.Cut.{Cut}
-use Rattle.sedengine.specs.declared.ends.Ended.{Ended}
-use Rattle.sedengine.specs.declared.ends.Ended.TheVariants.{InputBroken, OutputBroken, OutputFull}
+use Rattle.sedengine.specs.Types.{Ended, InputBroken, OutputBroken, OutputFull}
 
 -- All of these bytes were written, or a sink failed or was full where one of them was due.
 abbrev pub Puts : SinkView → SinkView → List (ℕ × ℕ) → Result Unit Ended → Type 0

@@ -1,16 +1,11 @@
 -- Private to the proofs: no contract of a public item cites what stands here.
 -- How addresses are judged: one address decides at a line, and the choice follows from whether it matches.
 use Rattle.std.specs.Prelude.{◌≡◌, ℕ, ◌+◌, Bool, true, false, not, Option, Some, None, List, [], ◌∷◌, nat_lt, nat_le, nat_eq, slice_set, Result, Ok, Err, if◌then◌else◌}
-use Rattle.sedscript.specs.declared.types.Address.{Address}
-use Rattle.sedscript.specs.declared.types.Address.TheVariants.{Line, Last, Match}
-use Rattle.sedscript.specs.declared.types.Command.{Command}
+use Rattle.sedengine.specs.Types.{Address, Line, Last, Match, Command, Ended, NoPrevious, InputBroken}
 use Rattle.sedengine.specs.Select.{Current, AddressAnswer, Selection, answer, ends_at_once, selects}
-use Rattle.sedengine.specs.State.{do_at}
+use Rattle.sedengine.specs.State.{do_at, finds_in}
 use Rattle.sedengine.specs.Ends.{names_last}
 use Rattle.sedengine.specs.Run.{RunState}
-use Rattle.sedengine.specs.ScriptSetting.{finds_in}
-use Rattle.sedengine.specs.declared.ends.Ended.{Ended}
-use Rattle.sedengine.specs.declared.ends.Ended.TheVariants.{NoPrevious, InputBroken}
 use Rattle.sedengine.specs.declared.select.Chosen.{Chosen}
 
 -- the address that decides, where one does

@@ -1,16 +1,39 @@
--- How a run ends: the limits, the ends and their causes (this project's own; XCU sed names no limits).
-use Rattle.std.specs.Prelude.{◌≡◌, ℕ, suc, ◌+◌, ◌<◌, ◌≤◌, Bool, true, false, ◌||◌, Option, Some, None, List, [], ◌∷◌, length, take, slice_get, is_some, not}
-use Rattle.sedscript.specs.declared.types.Address.{Address}
-use Rattle.sedscript.specs.declared.types.Address.TheVariants.{Last}
-use Rattle.sedscript.specs.declared.types.Command.{Command}
-use Rattle.sedscript.specs.declared.types.Action.{Action}
-use Rattle.sedscript.specs.declared.types.Action.TheVariants.{Plain}
-use Rattle.sedscript.specs.declared.types.Simple.TheVariants.{NextLine}
+-- How a run ends: what its sinks have gained, the ends and their causes (this project's own; XCU sed names no limits).
+use Rattle.std.specs.Prelude.{◌≡◌, ℕ, ◌+◌, ◌≤◌, Option, Some, None, Result, Err, IfSome, List, [], ◌∷◌, length, nat_eq, if◌then◌else◌, suc, ◌<◌, Bool, true, false, ◌||◌, take, slice_get, is_some, not, ◌++◌, drop, ⊤}
+use Rattle.std.specs.Io.KnownBytes.{Appends}
+use Rattle.sedspace.specs.Failures.{Rose}
+use Rattle.sedengine.specs.Types.{Ended, InputBroken, OutputBroken, OutputFull, Done, PatternFull, HoldFull, QueueFull, TurnsSpent, NoPrevious, Address, Last, Command, Action, Plain, NextLine}
 use Rattle.sedengine.specs.State.{Task, begin, rebegin, do_at, copy, fetch, join, State, Move, Setting}
 use Rattle.sedengine.specs.Move.{next_move, after, written, none_left}
 use Rattle.sedengine.specs.declared.limits.Limits.{Limits}
-use Rattle.sedengine.specs.declared.ends.Ended.{Ended}
-use Rattle.sedengine.specs.declared.ends.Ended.TheVariants.{Done, PatternFull, HoldFull, QueueFull, TurnsSpent, NoPrevious, InputBroken, OutputBroken, OutputFull}
+use Rattle.sedspace.specs.Lines.{HasNoNewline}
+
+-- the bytes of one sink among bytes for all
+abbrev pub part : ℕ → List (ℕ × ℕ) → List ℕ
+part k [] = []
+part k ((sink, byte) ∷ out) = if nat_eq sink k then byte ∷ part k out else part k out
+
+-- each sink whose contents are known has gained exactly its part
+pub record Gained (old new : ℕ → Option (List ℕ)) (out : List (ℕ × ℕ)) : Type 0 where
+  pub each : (k : ℕ) → Appends (old k) (new k) (part k out)
+
+-- a sink that an end names as full has gained exactly the limit; `before` tells what each had gained already
+abbrev pub FillsSink : Option ℕ → (ℕ → ℕ) → List (ℕ × ℕ) → Result Unit Ended → Type 0
+FillsSink most before out (Err (OutputFull k)) = most ≡ Some (before k + length (part k out))
+FillsSink most before out other = Unit {0}
+
+-- The sinks have gained these bytes, and with what each had gained already since the engine was opened, as `before`
+-- tells, that is no more than the limit, where one is set.
+pub record GainedWithin (most : Option ℕ) (before : ℕ → ℕ) (old new : ℕ → Option (List ℕ)) (r : Result Unit Ended)
+    (out : List (ℕ × ℕ)) : Type 0 where
+  pub gained : Gained old new out
+  pub within : IfSome most (λ n. (k : ℕ) → before k + length (part k out) ≤ n)
+  pub full : FillsSink most before out r
+
+-- The source has failed at an end that says so, and at no other.
+abbrev pub SourceAtEnd : ℕ → ℕ → Ended → Type 0
+SourceAtEnd old new InputBroken = Rose old new
+SourceAtEnd old new other = new ≡ old
 
 -- a state within the limits
 pub record WithinLimits (l : Limits) (s : State) : Type 0 where
@@ -118,3 +141,21 @@ WholeOrBrokenOff l g s out end t (Some k) = BrokenOff l g s out k t
 -- The end has its cause after t moves from the state s, and `out` is the output till then: the bytes, each with its sink.
 abbrev pub Cause : Limits → Setting → State → List (ℕ × ℕ) → Ended → ℕ → Type 0
 Cause l g s out end t = WholeOrBrokenOff l g s out end t (named_sink end)
+
+-- the bytes of lines, a newline counted with each
+abbrev pub size_of : List (List ℕ) → ℕ
+size_of [] = 0
+size_of (line ∷ lines) = length line + 1 + size_of lines
+
+-- known bytes lose at most n + m from the front, and of these what comes after the first n holds no newline
+abbrev pub LosesPartAfter : Option (List ℕ) → Option (List ℕ) → ℕ → ℕ → Type 0
+LosesPartAfter None new n m = ⊤
+LosesPartAfter (Some xs) None n m = ⊥
+LosesPartAfter (Some xs) (Some ys) n m =
+    (gone : List ℕ) × (xs ≡ gone ++ ys) × HasNoNewline (drop n gone) × (length gone ≤ n + m)
+
+-- Where the source failed, what it gave after the last line that the first t moves took holds no newline: it is a part of
+-- one line, of at most `space` bytes.
+abbrev pub BreaksInLine : Setting → State → Option (List ℕ) → Option (List ℕ) → ℕ → ℕ → Type 0
+BreaksInLine g s old new space t =
+    (lines : List (List ℕ)) × (s.lines ≡ lines ++ (after g s t).lines) × LosesPartAfter old new (size_of lines) space

@@ -1,11 +1,10 @@
 -- Private to the proofs: no contract of a public item cites what stands here.
 -- What the calls that write the queue promise one another.
 use Rattle.std.specs.Prelude.{Result, Ok, Err}
-use Rattle.sedengine.specs.Limits.{Limits}
+use Rattle.sedengine.specs.State.{Limits, State, Setting}
 use Rattle.sedengine.specs.Meters.{SinkView}
-use Rattle.sedengine.specs.State.{State, Setting}
 use Rattle.sedengine.specs.Steps.{Ran, Stopped}
-use Rattle.sedengine.specs.declared.ends.Ended.{Ended}
+use Rattle.sedengine.specs.Types.{Ended}
 
 -- What a call that writes the queue, or a file of it, answers from the state s: Ok where moves led to the state `there`, and
 -- else the end, at which no more is told than the state s has.

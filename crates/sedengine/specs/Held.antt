@@ -1,7 +1,6 @@
 -- What an engine holds (this project's own).
 use Rattle.std.specs.Prelude.{◌≡◌, ℕ, suc, ◌+◌, ◌*◌, ◌≤◌, ◌⊎◌, Bool, true, false, Option, Some, None, List, ◌∷◌, length}
-use Rattle.sedengine.specs.Limits.{Limits}
-use Rattle.sedengine.specs.State.{Task, flush, copy, State, Setting}
+use Rattle.sedengine.specs.State.{Limits, Task, flush, copy, State, Setting}
 use Rattle.sedengine.specs.Move.{after}
 use Rattle.sedengine.specs.declared.ends.Held.{Held}
 

@@ -2,8 +2,7 @@
 -- What the engine's calls for the hold space promise one another.
 use Rattle.std.specs.Prelude.{◌≡◌, ◌<◌, ◌≤◌, Result, Ok, Err, length}
 use Rattle.sedengine.specs.Run.{RunState}
-use Rattle.sedengine.specs.declared.ends.Ended.{Ended}
-use Rattle.sedengine.specs.declared.ends.Ended.TheVariants.{PatternFull, HoldFull}
+use Rattle.sedengine.specs.Types.{Ended, PatternFull, HoldFull}
 
 -- The engine becomes `made`, whose spaces are within the limit; or it stays, and the end names the space that is too
 -- long in `made`.

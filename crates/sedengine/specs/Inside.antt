@@ -2,12 +2,7 @@
 -- The fields of the machine, and what they stand for.
 use Rattle.std.specs.Prelude.{◌≡◌, ℕ, ◌<◌, ◌≤◌, Bool, true, false, Option, Some, None, List, [], ◌∷◌, length, map, slice_get, IfSome}
 use Rattle.std.specs.Option.{unwrap_or}
-use Rattle.sedscript.specs.declared.types.Command.{Command}
-use Rattle.sedscript.specs.declared.types.Action.{Action}
-use Rattle.sedscript.specs.declared.types.Action.TheVariants.{File, Plain, Text}
-use Rattle.sedscript.specs.declared.types.Simple.TheVariants.{Exchange, Hold, HoldMore}
-use Rattle.sedscript.specs.declared.types.TextUse.TheVariants.{Append}
-use Rattle.sedscript.specs.declared.types.FileUse.TheVariants.{Read}
+use Rattle.sedengine.specs.Types.{Command, Action, File, Plain, Text, Exchange, Hold, HoldMore, Append, Read}
 use Rattle.sedscript.specs.Ranges.{IsOneOf}
 use Rattle.sedscript.specs.Program.{Program}
 use Rattle.sedengine.specs.State.{Entry, text, file, Task, begin, rebegin, do_at, print_pattern, flush}

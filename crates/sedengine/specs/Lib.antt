@@ -1,14 +1,13 @@
+pub mod Types
 pub mod Bringing
 pub mod Calls
 pub mod Choose
-pub mod Devices
 pub mod Ends
 pub mod Fitting
 pub mod Flushing
 pub mod Held
 pub mod Holding
 pub mod Inside
-pub mod Limits
 pub mod LimitRanges
 pub mod Listing
 pub mod ListingParts
@@ -17,8 +16,6 @@ pub mod Move
 pub mod Parts
 pub mod Passing
 pub mod Queueing
-pub mod ScriptSetting
-pub mod TakenInput
 pub mod Run
 pub mod Select
 pub mod State
@@ -26,3 +23,4 @@ pub mod Steps
 pub mod SubstituteCalls
 pub mod Substitute
 pub mod SubstituteParts
+pub mod DevicesAfter

@@ -1,6 +1,6 @@
 -- Which numbers are limits (this project's own).
 use Rattle.std.specs.Prelude.{ℕ, None, ◌≤◌, ◌^◌}
-use Rattle.sedengine.specs.Limits.{Limits}
+use Rattle.sedengine.specs.State.{Limits}
 
 -- the limits of these numbers, without one on the output
 abbrev pub limits_of : ℕ → ℕ → ℕ → ℕ → ℕ → Limits

@@ -3,9 +3,8 @@
 use Rattle.std.specs.Prelude.{◌≡◌, ℕ, ◌+◌, ◌≤◌, Option, Some, None, Result, Err, List, length, get_or}
 use Rattle.std.specs.List.{All}
 use Rattle.std.specs.Borrow.{GName}
-use Rattle.sedengine.specs.Devices.{part, Gained}
-use Rattle.sedengine.specs.declared.ends.Ended.{Ended}
-use Rattle.sedengine.specs.declared.ends.Ended.TheVariants.{OutputFull}
+use Rattle.sedengine.specs.Ends.{part, Gained}
+use Rattle.sedengine.specs.Types.{Ended, OutputFull}
 
 -- a meter: the most bytes that each sink may gain, where a limit is set, and how many each has gained
 pub record Meter : Type 0 where

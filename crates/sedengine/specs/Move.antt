@@ -3,15 +3,7 @@ use Rattle.std.specs.Prelude.{ℕ, suc, zero, ◌+◌, Bool, true, false, ◌||�
 use Rattle.std.specs.Option.{unwrap_or}
 use Rattle.std.specs.List.{after_first, before_first, list_any}
 use Rattle.sedspace.specs.Lines.{is_newline}
-use Rattle.sedscript.specs.declared.types.Command.{Command}
-use Rattle.sedscript.specs.declared.types.Action.{Action}
-use Rattle.sedscript.specs.declared.types.Action.TheVariants.{Block, Branch, File, Plain, Substitute, Text, Transliterate}
-use Rattle.sedscript.specs.declared.types.Simple.TheVariants.{AppendHold, AppendNext, CopyHold, Delete, DeleteFirst, Exchange, Hold, HoldMore, LineNumber}
-use Rattle.sedscript.specs.declared.types.Simple.TheVariants.{List as listing, NextLine, Print, PrintFirst, Quit}
-use Rattle.sedscript.specs.declared.types.TextUse.TheVariants.{Append, Change, Insert}
-use Rattle.sedscript.specs.declared.types.BranchUse.TheVariants.{Always, IfReplaced}
-use Rattle.sedscript.specs.declared.types.FileUse.TheVariants.{Read, Write}
-use Rattle.sedscript.specs.declared.substitution.Substitution.{Substitution}
+use Rattle.sedengine.specs.Types.{Command, Action, Block, Branch, File, Plain, Substitute, Text, Transliterate, AppendHold, AppendNext, CopyHold, Delete, DeleteFirst, Exchange, Hold, HoldMore, LineNumber, listing, NextLine, Print, PrintFirst, Quit, Append, Change, Insert, Always, IfReplaced, Read, Write, Substitution}
 use Rattle.sedengine.specs.Select.{◌>>=◌, Current, Selection, selects, stands_for}
 use Rattle.sedengine.specs.Listing.{listed}
 use Rattle.sedengine.specs.Substitute.{Occurrence, occurrences, to_replace, replaced_from}

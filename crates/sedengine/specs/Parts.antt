@@ -2,7 +2,7 @@
 -- The parts of a machine at the start of a run.
 use Rattle.std.specs.Prelude.{◌≡◌, ◌<◌, ◌≤◌, false, [], length, replicate, IfSome}
 use Rattle.sedscript.specs.Program.{Program}
-use Rattle.sedengine.specs.Limits.{Limits}
+use Rattle.sedengine.specs.State.{Limits}
 use Rattle.sedengine.specs.Fitting.{AllFit, RoomToSeek, Seek}
 use Rattle.sedengine.specs.Inside.{FillsHold}
 use Rattle.sedengine.specs.Passing.{IsIdleOf}

@@ -3,31 +3,21 @@
 use Rattle.std.specs.Prelude.{◌≡◌, ℕ, zero, suc, ◌+◌, ◌*◌, ◌<◌, ◌≤◌, ◌⊎◌, Bool, true, false, Option, Some, None, Result, Ok, Err, List, [], ◌∷◌, ◌++◌, length, take, is_some, slice_get, slice_index_or, nat_eq, if◌then◌else◌}
 use Rattle.std.specs.List.{All, Contains}
 use Rattle.std.specs.Option.{option_or, option_map}
-use Rattle.sedspace.specs.Stream.{Stream, left}
-use Rattle.sedscript.specs.declared.types.Address.{Address}
-use Rattle.sedscript.specs.declared.types.Address.TheVariants.{Line, Last, Match}
-use Rattle.sedscript.specs.declared.types.Command.{Command}
-use Rattle.sedscript.specs.declared.types.Action.{Action}
-use Rattle.sedscript.specs.declared.types.Action.TheVariants.{Block, Branch, Substitute}
-use Rattle.sedscript.specs.declared.types.BranchUse.TheVariants.{Always}
-use Rattle.sedscript.specs.declared.substitution.Substitution.{Substitution}
+use Rattle.sedspace.specs.Stream.{Stream, left, AreWholeLines}
+use Rattle.sedengine.specs.Types.{Address, Line, Last, Match, Command, Action, Block, Branch, Substitute, Always, Substitution, Ended}
 use Rattle.sedscript.specs.Ranges.{IsOneOf}
 use Rattle.sedscript.specs.Program.{Program}
-use Rattle.sedre.specs.Written.{WrittenExpression}
-use Rattle.sedspace.specs.Lines.{lines, AreWholeLines, HasNoNewline}
-use Rattle.sedengine.specs.Limits.{Limits}
-use Rattle.sedengine.specs.State.{begin, do_at, State, Setting}
+use Rattle.sedre.specs.Tree.{WrittenExpression}
+use Rattle.sedspace.specs.Lines.{lines, HasNoNewline}
+use Rattle.sedengine.specs.State.{Limits, begin, do_at, State, Setting, finds_in}
 use Rattle.sedengine.specs.Move.{after, at_end, newline, none_left, to_sink, written}
 use Rattle.sedengine.specs.Calls.{WritesPart}
 use Rattle.sedengine.specs.Meters.{Sent, SinkView}
 use Rattle.sedengine.specs.declared.meter.Cut.{Cut}
-use Rattle.sedengine.specs.Ends.{Cause, WithinLimits, Within, named_sink}
+use Rattle.sedengine.specs.Ends.{Cause, WithinLimits, Within, named_sink, LosesPartAfter, size_of}
 use Rattle.sedengine.specs.Held.{HoldsAt}
 use Rattle.sedengine.specs.Run.{RunState, at_lines, lost}
-use Rattle.sedengine.specs.TakenInput.{LosesPartAfter, size_of}
-use Rattle.sedengine.specs.ScriptSetting.{finds_in}
 use Rattle.sedengine.specs.Steps.{TakesLines}
-use Rattle.sedengine.specs.declared.ends.Ended.{Ended}
 use Rattle.sedengine.specs.declared.idle.Need.{Need}
 use Rattle.sedengine.specs.declared.idle.Need.TheVariants.{NoMatch, OtherNumber, NotLast, Nothing}
 use Rattle.sedengine.specs.declared.idle.Idle.{Idle}

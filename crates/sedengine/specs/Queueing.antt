@@ -3,8 +3,7 @@
 use Rattle.std.specs.Prelude.{◌≡◌, ℕ, ◌<◌, Result, Ok, Err, [], ◌∷◌, ◌++◌, length}
 use Rattle.sedengine.specs.State.{Entry}
 use Rattle.sedengine.specs.Run.{RunState}
-use Rattle.sedengine.specs.declared.ends.Ended.{Ended}
-use Rattle.sedengine.specs.declared.ends.Ended.TheVariants.{QueueFull}
+use Rattle.sedengine.specs.Types.{Ended, QueueFull}
 
 -- the engine with a further entry in its queue
 abbrev pub queued_more : RunState → Entry → RunState

@@ -3,17 +3,13 @@ use Rattle.std.specs.Prelude.{◌≡◌, ℕ, ◌+◌, ◌<◌, Bool, true, fals
 use Rattle.std.specs.Borrow.{GName}
 use Rattle.sedscript.specs.Program.{Program}
 use Rattle.sedspace.specs.Stream.{Stream, left}
-use Rattle.sedengine.specs.Limits.{Limits}
-use Rattle.sedengine.specs.State.{Task, begin, rebegin, State, Setting}
+use Rattle.sedengine.specs.State.{Limits, Task, begin, rebegin, State, Setting, setting_of}
 use Rattle.sedengine.specs.Move.{after, written}
-use Rattle.sedengine.specs.Devices.{part, GainedWithin, SourceAtEnd}
-use Rattle.sedengine.specs.Ends.{Within, Cause, named_sink}
+use Rattle.sedengine.specs.Ends.{part, GainedWithin, SourceAtEnd, Within, Cause, named_sink, BreaksInLine, LosesPartAfter, size_of}
 use Rattle.sedengine.specs.Held.{HoldsAt}
-use Rattle.sedengine.specs.declared.ends.Ended.{Ended}
-use Rattle.sedengine.specs.declared.ends.Ended.TheVariants.{PatternFull, InputBroken}
+use Rattle.sedengine.specs.Types.{Ended, PatternFull, InputBroken}
 use Rattle.sedengine.specs.declared.ends.Progress.{Progress}
-use Rattle.sedengine.specs.TakenInput.{BreaksInLine, LosesPartAfter, TakesInput, more_at, size_of}
-use Rattle.sedengine.specs.ScriptSetting.{setting_of}
+use Rattle.sedengine.specs.DevicesAfter.{TakesInput, more_at}
 use Rattle.sedengine.specs.declared.ends.Progress.TheVariants as progress
 
 -- an engine: its script, its limits, its state without the lines, how many bytes each sink has gained since it was opened,

@@ -1,8 +1,6 @@
 -- Which pattern spaces the addresses of a command select (XCU sed, "Addresses in sed").
 use Rattle.std.specs.Prelude.{ℕ, Bool, true, false, not, Option, Some, None, List, option_and_then, nat_lt, nat_le, nat_eq, if◌then◌else◌}
-use Rattle.sedscript.specs.declared.types.Address.{Address}
-use Rattle.sedscript.specs.declared.types.Address.TheVariants.{Line, Last, Match}
-use Rattle.sedscript.specs.declared.types.Command.{Command}
+use Rattle.sedengine.specs.Types.{Address, Line, Last, Match, Command}
 
 infixl 10 ◌>>=◌
 abbrev pub ◌>>=◌ : {A B : Type 0} → Option A → (A → Option B) → Option B

@@ -5,22 +5,14 @@ use Rattle.std.specs.Borrow.{GName}
 use Rattle.std.specs.Io.KnownBytes.{Keeps}
 use Rattle.sedspace.specs.Stream.{Stream, left, lines_left}
 use Rattle.sedspace.specs.Lines.{TakesAtMost}
-use Rattle.sedscript.specs.declared.types.Command.{Command}
-use Rattle.sedscript.specs.declared.types.Action.{Action}
-use Rattle.sedscript.specs.declared.types.Action.TheVariants.{Block, Branch, File, Plain, Text, Transliterate}
-use Rattle.sedscript.specs.declared.types.Simple.TheVariants.{AppendHold, AppendNext, CopyHold, Exchange, Hold, HoldMore, NextLine, Quit}
-use Rattle.sedscript.specs.declared.types.TextUse.TheVariants.{Append}
-use Rattle.sedscript.specs.declared.types.FileUse.TheVariants.{Read}
-use Rattle.sedengine.specs.Limits.{Limits}
-use Rattle.sedengine.specs.State.{Task, do_at, State, Move, Setting}
+use Rattle.sedengine.specs.Types.{Command, Action, Block, Branch, File, Plain, Text, Transliterate, AppendHold, AppendNext, CopyHold, Exchange, Hold, HoldMore, NextLine, Quit, Append, Read, Ended}
+use Rattle.sedengine.specs.State.{Limits, Task, do_at, State, Move, Setting}
 use Rattle.sedengine.specs.Meters.{Sent, SinkView}
 use Rattle.sedengine.specs.Calls.{Delivers, DeliversAlone, ReadsLines}
 use Rattle.sedengine.specs.Move.{acts, next_move, after, written}
-use Rattle.sedengine.specs.Ends.{WithinLimits, HasTurn, Within, Cause, named_sink, reaches, reads}
+use Rattle.sedengine.specs.Ends.{WithinLimits, HasTurn, Within, Cause, named_sink, reaches, reads, LosesPartAfter, size_of}
 use Rattle.sedengine.specs.Held.{HoldsAt, SameLengths}
 use Rattle.sedengine.specs.Run.{RunState, InOneCycle, at_lines, lost, run_setting}
-use Rattle.sedengine.specs.TakenInput.{LosesPartAfter, size_of}
-use Rattle.sedengine.specs.declared.ends.Ended.{Ended}
 
 -- Moves were made, which led to this state. Only the last of them may have led to the start of a cycle.
 pub record Ran (l : Limits) (g : Setting) (s now : State) (old new : SinkView) : Type 0 where

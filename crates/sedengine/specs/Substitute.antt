@@ -2,9 +2,8 @@
 use Rattle.std.specs.Prelude.{ℕ, zero, suc, ◌+◌, ◌-◌, List, [], ◌∷◌, ◌++◌, Bool, Option, Some, None, drop, take}
 use Rattle.std.specs.Prelude.{slice_range, if◌then◌else◌}
 use Rattle.sedmatch.specs.Groups.{Groups, span_of, part_of}
-use Rattle.sedmatch.specs.NextMatch.{next_match}
-use Rattle.sedscript.specs.declared.substitution.Piece.{Piece}
-use Rattle.sedscript.specs.declared.substitution.Piece.TheVariants.{Literal as literal, Whole as whole, Group as group}
+use Rattle.sedmatch.specs.Matching.{next_match}
+use Rattle.sedengine.specs.Types.{Piece, literal, whole, group}
 
 -- where a match begins and ends, and which span each of its groups has
 pub record Occurrence : Type 0 where

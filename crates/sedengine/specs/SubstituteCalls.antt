@@ -1,17 +1,14 @@
 -- Private to the proofs: no contract of a public item cites what stands here.
 -- What the engine's calls for a substitution promise one another.
 use Rattle.std.specs.Prelude.{◌≡◌, ◌<◌, Bool, true, false, Option, None, Result, Ok, Err, List, [], length}
-use Rattle.sedscript.specs.declared.substitution.Substitution.{Substitution}
+use Rattle.sedengine.specs.Types.{Substitution, Ended, PatternFull, NoPrevious}
 use Rattle.sedspace.specs.declared.errors.Full.{Full}
 use Rattle.sedspace.specs.Spaces.{Contents}
-use Rattle.sedengine.specs.Limits.{Limits}
-use Rattle.sedengine.specs.State.{State, Move}
+use Rattle.sedengine.specs.State.{Limits, State, Move}
 use Rattle.sedengine.specs.Substitute.{Occurrence, replaced_from}
 use Rattle.sedengine.specs.Move.{quietly, writing, written_by}
 use Rattle.sedengine.specs.Ends.{Leads}
 use Rattle.sedengine.specs.Run.{RunState}
-use Rattle.sedengine.specs.declared.ends.Ended.{Ended}
-use Rattle.sedengine.specs.declared.ends.Ended.TheVariants.{PatternFull, NoPrevious}
 
 -- A call replaces these occurrences in a space, and says whether there are any. Where there are none the space stays as
 -- it was; Full where it has no room for what would be made.

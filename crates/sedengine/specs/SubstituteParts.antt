@@ -2,19 +2,19 @@
 -- What the parts of a substitution tell.
 use Rattle.std.specs.Prelude.{◌≡◌, ℕ, ◌+◌, ◌-◌, ◌*◌, ◌<◌, List, [], ◌∷◌, ◌++◌, length, drop, Bool, true, false}
 use Rattle.std.specs.Prelude.{Option, Some, None, IfSome, Result, Ok, Err, if◌then◌else◌}
-use Rattle.sedre.specs.Written.{WrittenExpression, expression_tree}
-use Rattle.sedmatch.specs.Groups.{Groups, SpanIn, span_of}
+use Rattle.sedre.specs.Tree.{WrittenExpression, expression_tree}
+use Rattle.sedmatch.specs.Groups.{Groups, span_of}
+use Rattle.sedmatch.specs.Answer.{SpanIn}
 use Rattle.sedmatch.specs.Matching.{report}
 use Rattle.sedmatch.specs.Following.{EndsWithin, LiesOn}
 use Rattle.sedmatch.specs.Occurrences.{KeepsRoom, Serves, owed}
 use Rattle.sedmatch.specs.SearchRoom.{SearchRoom}
 use Rattle.sedmatch.specs.declared.occurrences.Occurrences.{Occurrences}
-use Rattle.sedscript.specs.declared.substitution.Piece.{Piece}
-use Rattle.sedscript.specs.declared.substitution.Piece.TheVariants.{Group as group}
+use Rattle.sedengine.specs.Types.{Piece, group}
 use Rattle.sedspace.specs.Spaces.{Contents}
 use Rattle.sedspace.specs.declared.errors.Full.{Full}
 use Rattle.sedengine.specs.Substitute.{Occurrence, next_occurrence, occurrences_from, occurrences, replaced_from}
-use Rattle.sedengine.specs.ScriptSetting.{match_with_span, search_for}
+use Rattle.sedengine.specs.State.{match_with_span, search_for}
 
 -- what a substitution answers where these occurrences are to be replaced in the text w: whether there are any, and then
 -- the text made; Full where that would be longer than the space

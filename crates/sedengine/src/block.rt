@@ -1,7 +1,8 @@
 //! Lines in a block of bytes: how many there are, and which of them have no match.
 ghost use Rattle.std.specs.Prelude.{◌≡◌, ◌<◌, ◌≤◌, ◌⊎◌, ℕ, Contains, Some, length, slice_get, take, true};
 ghost use Rattle.std.specs.List.{count_by};
-ghost use Rattle.sedspace.specs.Lines.{is_newline, AreWholeLines, HasNoNewline};
+ghost use Rattle.sedspace.specs.Lines.{is_newline, HasNoNewline};
+ghost use Rattle.sedspace.specs.Stream.{AreWholeLines};
 ghost use Rattle.sedengine.specs.Passing.{ClearTo, IsExtent};
 
 use sedmatch::{TableMatcher, Text};

@@ -4,10 +4,11 @@ ghost use Rattle.std.specs.Option.{ForSome};
 ghost use Rattle.std.specs.Io.KnownBytes.{Keeps};
 ghost use Rattle.sedspace.specs.Stream.{lines_left, ReadsOn};
 ghost use Rattle.sedengine.specs.Move.{start};
-ghost use Rattle.sedengine.specs.Devices.{SameSinks, SinksAtEnd, SourceAtEnd};
+ghost use Rattle.sedengine.specs.DevicesAfter.{SameSinks, SinksAtEnd};
+ghost use Rattle.sedengine.specs.Ends.{SourceAtEnd};
 ghost use Rattle.sedengine.specs.Held.{total_of, bound_of};
 ghost use Rattle.sedengine.specs.Run.{outcome, Cycles, Ending, SameRun, Sends, at_lines, end_answered, run_setting, input_of, FailedSource};
-ghost use Rattle.sedengine.specs.ScriptSetting.{TellsFiles};
+ghost use Rattle.sedengine.specs.State.{TellsFiles};
 
 use crate::ends::{Ended, Held, Progress};
 use crate::limits::Limits;

@@ -1,11 +1,10 @@
 //! Writing the queue, and the files of it.
 ghost use Rattle.std.specs.Prelude.{◌≡◌, ◌<◌, ◌≤◌, [], ◌∷◌, ℕ, List, length, slice_get};
 ghost use Rattle.std.specs.Io.KnownBytes.{Keeps};
-ghost use Rattle.sedengine.specs.State.{Entry, Task, copy, flush, State, Setting};
+ghost use Rattle.sedengine.specs.State.{Entry, Task, copy, flush, State, Setting, TellsFiles};
 ghost use Rattle.sedengine.specs.Calls.{DeliversAlone};
 ghost use Rattle.sedengine.specs.Ends.{WithinLimits};
 ghost use Rattle.sedengine.specs.Held.{SameLengths};
-ghost use Rattle.sedengine.specs.ScriptSetting.{TellsFiles};
 ghost use Rattle.sedengine.specs.Inside.{AllQueue, CommandQueues, entries_of, entry_by};
 ghost use Rattle.sedengine.specs.Flushing.{CopiesEntry, FlushesQueue};
 

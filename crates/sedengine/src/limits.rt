@@ -16,7 +16,7 @@ pub struct Limits {
 }
 
 impl Model for Limits {
-    ghost use Rattle.sedengine.specs.Limits.{Limits};
+    ghost use Rattle.sedengine.specs.State.{Limits};
     ghost use Rattle.sedengine.specs.LimitRanges.{AreLimits, limits_of};
 
     ghost Value = { Limits };

@@ -4,13 +4,13 @@ ghost use Rattle.std.specs.Option.{ForSome};
 ghost use Rattle.std.specs.Io.KnownBytes.{Keeps};
 ghost use Rattle.sedspace.specs.Stream.{lines_left};
 ghost use Rattle.sedengine.specs.Move.{start};
-ghost use Rattle.sedengine.specs.Devices.{SourceAtEnd};
+ghost use Rattle.sedengine.specs.Ends.{SourceAtEnd};
 ghost use Rattle.sedengine.specs.Calls.{Delivers};
 ghost use Rattle.sedengine.specs.Meters.{Sent};
 ghost use Rattle.sedengine.specs.Held.{total_of, bound_of};
 ghost use Rattle.sedengine.specs.Parts.{AreParts};
 ghost use Rattle.sedengine.specs.Run.{outcome, Cycles, Ending, SameRun, at_lines, end_answered, run_setting, input_of, FailedSource, SameLines};
-ghost use Rattle.sedengine.specs.ScriptSetting.{TellsFiles};
+ghost use Rattle.sedengine.specs.State.{TellsFiles};
 
 mod addresses;
 mod commands;

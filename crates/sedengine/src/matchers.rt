@@ -1,6 +1,6 @@
 //! What seeks the expressions of a script.
 ghost use Rattle.std.specs.Prelude.{◌≡◌, ◌<◌, ◌≤◌, ℕ, IfOk, Some, length, slice_get};
-ghost use Rattle.sedre.specs.Written.{WrittenExpression};
+ghost use Rattle.sedre.specs.Tree.{WrittenExpression};
 ghost use Rattle.sedengine.specs.Fitting.{AllFit, RoomToSeek, Seek};
 
 use crate::limits::Limits;

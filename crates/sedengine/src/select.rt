@@ -6,7 +6,7 @@ ghost use Rattle.std.specs.Prelude.{◌≡◌, ◌<◌, ◌≤◌, length};
 ghost use Rattle.sedengine.specs.Choose.{choice_by_match, chosen_active, chosen_idle, deciding, turned, yes_by_number};
 ghost use Rattle.sedengine.specs.Select.{ends_at_once};
 ghost use Rattle.sedengine.specs.Fitting.{AllFit};
-ghost use Rattle.sedengine.specs.ScriptSetting.{finds_in};
+ghost use Rattle.sedengine.specs.State.{finds_in};
 
 use sedmatch::{Scratch, TableMatcher, Text};
 use sedre::Steps;

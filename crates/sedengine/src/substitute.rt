@@ -1,6 +1,6 @@
 //! The command `s` (XCU sed, "Editing Commands in sed"): which occurrences it replaces, and the text that it makes.
 ghost use Rattle.std.specs.Prelude.{◌≡◌, ◌+◌, ◌-◌, ◌*◌, ◌<◌, ◌≤◌, [], ◌∷◌, length, true, Some, None, IfSome, IsTrue};
-ghost use Rattle.sedre.specs.Written.{expression_tree};
+ghost use Rattle.sedre.specs.Tree.{expression_tree};
 ghost use Rattle.sedmatch.specs.Costs.{Pays};
 ghost use Rattle.sedre.specs.Steps.{Takes};
 ghost use Rattle.sedmatch.specs.Following.{EndsWithin, LiesOn};
@@ -9,9 +9,9 @@ ghost use Rattle.sedmatch.specs.SearchRoom.{FitInto};
 ghost use Rattle.sedmatch.specs.Matching.{report};
 ghost use Rattle.sedmatch.specs.Groups.{part_of, span_of};
 ghost use Rattle.sedmatch.specs.Spans.{Matches};
-ghost use Rattle.sedscript.specs.Replacement.{GroupsWithin, pieces_in};
+ghost use Rattle.sedscript.specs.Pieces.{GroupsWithin, pieces_in};
 ghost use Rattle.sedengine.specs.Substitute.{to_replace, occurrences, put_for, replaced_from};
-ghost use Rattle.sedengine.specs.ScriptSetting.{search_for};
+ghost use Rattle.sedengine.specs.State.{search_for};
 ghost use Rattle.sedengine.specs.SubstituteParts.{Appends, GroupsIn, GroupsOf, IsNextOccurrence, ReplacesThese};
 ghost use Rattle.sedengine.specs.SubstituteParts.{SeeksAsBefore, ServesAfter, Skips, has_group, later_cost, owed_skipped};
 ghost use Rattle.sedengine.specs.SubstituteParts.{owed_groups, owed_groups_after, pending, told_cost, with_groups};

@@ -4,9 +4,8 @@ use Rattle.std.specs.Prelude.{slice_set}
 use Rattle.std.proofs.lemmas.Bool.{cases_lt}
 use Rattle.std.proofs.Math.Nat.{lt-div-mul-add}
 use Rattle.sedre.specs.Arena.{IsExpr}
-use Rattle.sedre.specs.Written.{WrittenExpression, expression_tree}
+use Rattle.sedre.specs.Tree.{WrittenExpression, expression_tree, Tree}
 use Rattle.sedre.specs.Steps.{TakesAtLeast}
-use Rattle.sedre.specs.Tree.{Tree}
 use Rattle.sedtext.specs.Caps.{IsReport}
 use Rattle.sedtext.specs.Groups.{no_groups}
 use Rattle.sedtext.specs.Spans.{SomeFound, Matches}

@@ -1,6 +1,6 @@
 -- Room to seek all occurrences in a text.
 use Rattle.std.proofs.Common.{ℕ, ◌≤◌, List, arith}
-use Rattle.sedre.specs.Written.{WrittenExpression}
+use Rattle.sedre.specs.Tree.{WrittenExpression}
 use Rattle.sedmatch.specs.Occurrences.{RoomFor}
 use Rattle.sedmatch.specs.declared.occurrences.Occurrences.{Occurrences}
 

@@ -2,8 +2,7 @@
 -- Expressions whose matches a look at the text tells.
 use Rattle.std.specs.Prelude.{◌≡◌, ℕ, ◌+◌, ◌-◌, ◌*◌, ◌<◌, ◌≤◌, ◌↔◌, List, length, slice_get, Option, Some, None, IsTrue}
 use Rattle.memchr.specs.Find.{OccursAt}
-use Rattle.sedre.specs.Written.{WrittenExpression, expression_tree}
-use Rattle.sedre.specs.Tree.{Tree}
+use Rattle.sedre.specs.Tree.{WrittenExpression, expression_tree, Tree}
 use Rattle.sedtext.specs.Bytes.{AreBytes, FirstFrom}
 use Rattle.sedtext.specs.Runs.{Repeated}
 use Rattle.sedtext.specs.Spans.{Matches, IsIn}

@@ -1,11 +1,10 @@
 pub use Rattle.sedtext.specs.Spans
 pub use Rattle.sedtext.specs.Caps
-pub use Rattle.sedtext.specs.Groups
 pub use Rattle.sedtext.specs.Answer
+pub use Rattle.sedtext.specs.Groups
 pub use Rattle.sedtext.specs.Matching
 pub use Rattle.sedtext.specs.SearchRoom
 pub use Rattle.sedtext.specs.Costs
-pub use Rattle.sedtext.specs.NextMatch
 pub use Rattle.sedtext.specs.Following
 pub mod Direct
 pub mod Candidates

@@ -6,7 +6,7 @@
 //! matches of a text together cost no more than one pass over it.
 ghost use Rattle.std.specs.Prelude.{◌≡◌, ℕ, ◌+◌, ◌-◌, ◌*◌, ◌<◌, ◌≤◌, ◌↔◌, length, slice_get, Some, IfOk, IfSome, IsTrue};
 ghost use Rattle.sedre.specs.Arena.{IsArena, IsExpr};
-ghost use Rattle.sedre.specs.Written.{WrittenExpression, expression_tree};
+ghost use Rattle.sedre.specs.Tree.{WrittenExpression, expression_tree};
 ghost use Rattle.sedre.specs.Steps.{Takes, TakesExactly, TakesAtLeast};
 ghost use Rattle.sedre.specs.declared.types.Node.TheVariants.{Seq, Set};
 ghost use Rattle.sedtext.specs.Answer.{SpanAnswer};

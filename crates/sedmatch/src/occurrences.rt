@@ -1,7 +1,7 @@
 //! All occurrences in one text, one after another.
 ghost use Rattle.std.specs.Prelude.{◌≡◌, ℕ, List, false, ◌+◌, ◌-◌, ◌*◌, ◌/◌, ◌^◌, ◌<◌, ◌≤◌, length, IfOk, IfSome, IsTrue, slice_get, Some};
 ghost use Rattle.std.specs.Option.{unwrap_or};
-ghost use Rattle.sedre.specs.Written.{WrittenExpression, expression_tree};
+ghost use Rattle.sedre.specs.Tree.{WrittenExpression, expression_tree};
 ghost use Rattle.sedtext.specs.Answer.{SpanAnswer};
 ghost use Rattle.sedtext.specs.Costs.{Pays};
 ghost use Rattle.sedtext.specs.Following.{EndsWithin, Occurs, next_span};

@@ -1,12 +1,13 @@
 //! An expression that is sought many times.
 ghost use Rattle.std.specs.Prelude.{◌≡◌, ℕ, ◌+◌, ◌-◌, ◌*◌, ◌<◌, ◌≤◌, ◌↔◌, length, IfOk, IfSome, IsTrue, is_some, nat_lt, if◌then◌else◌, None, List};
 ghost use Rattle.std.specs.Option.{unwrap_or};
-ghost use Rattle.sedre.specs.Written.{WrittenExpression, expression_tree};
+ghost use Rattle.sedre.specs.Tree.{WrittenExpression, expression_tree};
 ghost use Rattle.sedre.specs.Steps.{Takes, TakesAtLeast};
 ghost use Rattle.sedtext.specs.Costs.{Pays};
 ghost use Rattle.sedtext.specs.Following.{CanEndEarly, EndsWithin, LiesOn, Occurs, PassesOver, bytes_passed, next_span};
 ghost use Rattle.sedtext.specs.Matching.{found, report};
-ghost use Rattle.sedtext.specs.Groups.{SpanIn, span_of};
+ghost use Rattle.sedtext.specs.Answer.{SpanIn};
+ghost use Rattle.sedtext.specs.Groups.{span_of};
 ghost use Rattle.sedtext.specs.SearchRoom.{FitInto};
 ghost use Rattle.sedtext.specs.Spans.{SomeFound, Matches};
 ghost use Rattle.sedmatch.specs.Candidates.{NoMatchBefore};
@@ -52,7 +53,7 @@ pub struct TableMatcher {
 }
 
 impl Model for TableMatcher {
-    ghost use Rattle.sedre.specs.Written.{WrittenExpression};
+    ghost use Rattle.sedre.specs.Tree.{WrittenExpression};
 
     ghost Value = { WrittenExpression };
 

@@ -1,6 +1,6 @@
 //! Searches of an expression that is used once (XBD 9.1). They make it ready for passes in the room of the scratch.
 ghost use Rattle.std.specs.Prelude.{◌≡◌, ◌+◌, ◌-◌, ◌*◌, ◌≤◌, ◌↔◌, length, IfNone, IfSome, IsTrue, is_some};
-ghost use Rattle.sedre.specs.Written.{expression_tree};
+ghost use Rattle.sedre.specs.Tree.{expression_tree};
 ghost use Rattle.sedtext.specs.Spans.{SomeFound};
 ghost use Rattle.sedtext.specs.Following.{PassesOver};
 ghost use Rattle.sedtext.specs.Answer.{IsComputed, MatchAnswer, SpanAnswer};

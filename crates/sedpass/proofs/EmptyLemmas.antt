@@ -3,8 +3,7 @@ use Rattle.std.proofs.Common.{◌≡◌, ℕ, zero, suc, ◌+◌, ◌<◌, ◌�
 use Rattle.std.proofs.lemmas.Option.{same_Some, none-some}
 use Rattle.std.specs.Prelude.{slice_get}
 use Rattle.sedre.specs.Arena.{IsArena, IsExpr, IsPart, HasTwoParts, FollowsParts, GroupsWithin}
-use Rattle.sedre.specs.Written.{tree_at, tree_within}
-use Rattle.sedre.specs.Tree.{empty}
+use Rattle.sedre.specs.Tree.{tree_at, tree_within, empty}
 use Rattle.sedre.specs.Sizes.{size}
 use Rattle.sedre.specs.declared.types.Node.{Node}
 use Rattle.sedre.specs.declared.types.Node.TheVariants.{Empty, Set, Group}

@@ -2,7 +2,7 @@
 use Rattle.std.proofs.Common.{◌≡◌, ℕ, ◌+◌, ◌-◌, ◌*◌, ◌<◌, Bool, List, length, ap, sym, ◌∙◌, subst, arith}
 use Rattle.std.specs.Prelude.{reverse, slice_index_or}
 use Rattle.sedre.specs.Arena.{IsExpr}
-use Rattle.sedre.specs.Written.{WrittenExpression}
+use Rattle.sedre.specs.Tree.{WrittenExpression}
 use Rattle.sedtext.specs.Words.{row_of}
 use Rattle.sedpass.specs.Cells.{IsLayout, IsColumn}
 use Rattle.sedpass.specs.Kept.{starts_told, IsEdge, IsKept, IsLive, IsRegion, KeptRoom}

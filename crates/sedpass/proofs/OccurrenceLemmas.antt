@@ -6,8 +6,7 @@ use Rattle.std.proofs.lemmas.Bool.Decides.{nat_tests}
 use Rattle.sedre.specs.Tree.{Tree}
 use Rattle.sedtext.specs.Answer.{SpanAnswer}
 use Rattle.sedtext.specs.Following.{LiesOn}
-use Rattle.sedtext.specs.Matching.{found}
-use Rattle.sedtext.specs.NextMatch.{unless_null_at}
+use Rattle.sedtext.specs.Matching.{found, unless_null_at}
 use Rattle.sedtext.proofs.MatchingLemmas.{found-iff, not_found-iff}
 use Rattle.sedpass.specs.Occurrences.{further_cost, owed_behind}
 use Rattle.sedpass.specs.Search.{owed_after, owed_kept, owed_search, search_cost}

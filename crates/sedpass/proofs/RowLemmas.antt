@@ -6,7 +6,7 @@ use Rattle.std.proofs.lemmas.Option.{slice_get_within}
 use Rattle.std.proofs.lemmas.List.{get_or-set_same, get_or-set_other}
 use Rattle.std.proofs.lemmas.Bool.{and_parts, and_from, or_cases, or_left, or_right, cases_lt, cases_eq, eqb-true, eq-eqb, lt-ltb, le-ltb}
 use Rattle.sedre.specs.Arena.{IsArena, IsPart}
-use Rattle.sedre.specs.Written.{WrittenExpression, tree_at}
+use Rattle.sedre.specs.Tree.{WrittenExpression, tree_at}
 use Rattle.sedre.specs.Mirror.{mirror_node, seen}
 use Rattle.sedre.specs.Packed.{PartsBelow}
 use Rattle.sedre.proofs.MirrorLemmas.{seen-node, old_node}

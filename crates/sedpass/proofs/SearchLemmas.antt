@@ -2,8 +2,7 @@
 use Rattle.std.proofs.Common.{◌≡◌, ℕ, zero, suc, ◌+◌, ◌-◌, ◌*◌, ◌/◌, ◌<◌, ◌≤◌, ◌↔◌, Bool, true, false, max, List, length, Option, Some, None, IsTrue, refl, sym, ap, ◌∙◌, subst, ⊎_elim, true≢false, arith, mul-le-mul_left}
 use Rattle.std.proofs.lemmas.Bool.{cases_lt}
 use Rattle.sedre.specs.Arena.{IsArena}
-use Rattle.sedre.specs.Written.{WrittenExpression, expression_tree, tree_at}
-use Rattle.sedre.specs.Tree.{Tree}
+use Rattle.sedre.specs.Tree.{WrittenExpression, expression_tree, tree_at, Tree}
 use Rattle.std.specs.Prelude.{IfSome, if◌then◌else◌}
 use Rattle.sedre.specs.Steps.{TakesAtLeast}
 use Rattle.sedpass.proofs.CountLemmas.{least_both, least_fewer, least_since}

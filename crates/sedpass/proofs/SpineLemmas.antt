@@ -2,7 +2,7 @@
 use Rattle.std.proofs.Common.{◌≡◌, ℕ, zero, suc, true, false, true≢false, ◌+◌, ◌-◌, ◌*◌, ◌≤◌, List, [], ◌∷◌, ◌++◌, reverse, length, Option, None, Some, refl, sym, ap, ◌∙◌, subst, arith, mul-le-mul_left}
 use Rattle.sedre.specs.Sizes.{size}
 use Rattle.sedre.specs.Arena.{IsArena}
-use Rattle.sedre.specs.Written.{WrittenExpression, tree_at, expression_tree}
+use Rattle.sedre.specs.Tree.{WrittenExpression, tree_at, expression_tree}
 use Rattle.sedre.specs.declared.types.Node.{Node}
 use Rattle.sedre.specs.declared.types.Node.TheVariants.{Empty, Set, Begin, End, Seq, Alt, Group, Star, Opt}
 use Rattle.std.specs.Prelude.{IfSome, slice_index_or}

@@ -1,8 +1,7 @@
 -- A walk over a match, as nodes are entered one after another.
 use Rattle.std.proofs.Common.{◌≡◌, ℕ, ◌+◌, ◌<◌, ◌≤◌, ◌⊎◌, List, [], ◌∷◌, Some, reverse, refl, sym, ap, subst, inl, inr, ⊎_elim, arith}
 use Rattle.sedre.specs.Steps.{TakesAtLeast}
-use Rattle.sedre.specs.Tree.{Tree, empty, set, begin, end, seq, alt, group, star, opt}
-use Rattle.sedre.specs.Written.{tree_at}
+use Rattle.sedre.specs.Tree.{Tree, empty, set, begin, end, seq, alt, group, star, opt, tree_at}
 use Rattle.sedre.specs.declared.types.Node.{Node}
 use Rattle.sedtext.specs.Caps.{LastCopy, only, then}
 use Rattle.sedtext.specs.Spans.{Matches}

@@ -1,12 +1,11 @@
 -- Private to the proofs: no contract that the engine sees cites what stands here.
 -- What is told of a match's groups while they are decided from its end, and what that costs.
 use Rattle.std.specs.Prelude.{◌≡◌, ℕ, ◌+◌, ◌-◌, ◌*◌, ◌<◌, ◌≤◌, Bool, true, false, replicate, IsTrue, List, [], ◌∷◌, reverse, length, slice_get, vec_capacity, IfSome, Option, None, Some}
-use Rattle.sedre.specs.Written.{tree_at}
+use Rattle.sedre.specs.Tree.{tree_at, Tree}
 use Rattle.sedre.specs.declared.types.Node.{Node}
 use Rattle.sedre.specs.declared.types.NodeId.{NodeId}
 use Rattle.sedre.specs.declared.types.Node.TheVariants.{Set, Seq, Alt, Star}
 use Rattle.sedre.specs.Steps.{TakesAtLeast}
-use Rattle.sedre.specs.Tree.{Tree}
 use Rattle.sedtext.specs.Groups.{Groups}
 use Rattle.sedtext.specs.Costs.{Pays}
 use Rattle.sedtext.specs.Words.{row_of}

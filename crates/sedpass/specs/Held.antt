@@ -1,7 +1,7 @@
 -- Private to the proofs: no contract that `sedmatch` makes public cites what stands here.
 -- What a contract sees of an expression that was copied into room made once.
 use Rattle.std.specs.Prelude.{ℕ}
-use Rattle.sedre.specs.Written.{WrittenExpression}
+use Rattle.sedre.specs.Tree.{WrittenExpression}
 
 -- the expression, and how many nodes there is room for
 pub record Held : Type 0 where

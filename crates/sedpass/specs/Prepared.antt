@@ -1,9 +1,8 @@
 -- Private to the proofs: no contract that `sedmatch` makes public cites what stands here.
 -- What is told of an expression once: facts of each node, and classes of bytes.
 use Rattle.std.specs.Prelude.{◌≡◌, ℕ, ◌+◌, ◌-◌, ◌≤◌, ◌<◌, Bool, true, false, ◌&&◌, ◌||◌, List, length, slice_get, slice_index_or, cond, Option, Some, None, IfSome}
-use Rattle.sedre.specs.Tree.{Tree, set, begin, end, seq, alt, group, star}
+use Rattle.sedre.specs.Tree.{Tree, set, begin, end, seq, alt, group, star, WrittenExpression, tree_at}
 use Rattle.sedre.specs.Sizes.{size}
-use Rattle.sedre.specs.Written.{WrittenExpression, tree_at}
 use Rattle.sedre.specs.declared.types.Node.{Node}
 use Rattle.sedre.specs.declared.types.Node.TheVariants.{Set}
 use Rattle.sedpass.specs.Groups.{reported, holds, has_group}

@@ -2,7 +2,7 @@
 -- What a state of a pass tells of a place, how it follows from what the leaves took, and that it decides the next.
 use Rattle.std.specs.Prelude.{◌≡◌, ℕ, ◌+◌, ◌≤◌, ◌<◌, ◌⊎◌, ◌↔◌, Bool, true, false, ◌&&◌, ◌||◌, List, length, slice_get, slice_index_or, Option, Some, IsTrue, nat_lt}
 use Rattle.sedre.specs.Arena.{IsPart}
-use Rattle.sedre.specs.Written.{WrittenExpression}
+use Rattle.sedre.specs.Tree.{WrittenExpression}
 use Rattle.sedre.specs.Mirror.{seen}
 use Rattle.sedre.specs.declared.types.Node.{Node}
 use Rattle.sedre.specs.declared.types.Node.TheVariants.{Empty, Set, Begin, End, Seq, Alt, Group, Star, Opt}

@@ -1,9 +1,8 @@
 -- Private to the proofs: no contract that `sedmatch` makes public cites what stands here.
 -- Searches in one text, from places that don't fall: what they find, and what they may cost.
 use Rattle.std.specs.Prelude.{ℕ, ◌+◌, ◌-◌, ◌*◌, ◌<◌, ◌≤◌, if◌then◌else◌, List, length, Option, Some, None, IfSome, IsTrue}
-use Rattle.sedre.specs.Written.{expression_tree}
+use Rattle.sedre.specs.Tree.{expression_tree, Tree}
 use Rattle.sedre.specs.Steps.{TakesAtLeast}
-use Rattle.sedre.specs.Tree.{Tree}
 use Rattle.sedtext.specs.Answer.{SpanAnswer}
 use Rattle.sedtext.specs.Reach.{IsLongestFrom}
 use Rattle.sedtext.specs.Beginnings.{AllBegin, NoneIn}

@@ -2,8 +2,7 @@
 -- What is left to do while the groups of a match are decided from its end.
 use Rattle.std.specs.Prelude.{◌≡◌, ◌≢◌, ℕ, ◌+◌, ◌-◌, ◌*◌, ◌<◌, ◌≤◌, ◌⊎◌, ◌↔◌, Bool, true, List, [], ◌∷◌, ◌++◌, length, slice_get, slice_index_or, None, Some, IsTrue}
 use Rattle.sedre.specs.Arena.{IsArena}
-use Rattle.sedre.specs.Written.{tree_at}
-use Rattle.sedre.specs.Tree.{Tree}
+use Rattle.sedre.specs.Tree.{tree_at, Tree}
 use Rattle.sedre.specs.Sizes.{size}
 use Rattle.sedre.specs.Steps.{TakesAtLeast}
 use Rattle.sedre.specs.declared.types.Node.{Node}

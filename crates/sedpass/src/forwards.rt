@@ -4,7 +4,7 @@ ghost use Rattle.sedtext.specs.Costs.{Pays};
 ghost use Rattle.sedtext.specs.Following.{PassesOver};
 ghost use Rattle.sedtext.specs.Reach.{IsLongestFrom};
 ghost use Rattle.sedtext.specs.Spans.{SomeFound};
-ghost use Rattle.sedre.specs.Written.{expression_tree};
+ghost use Rattle.sedre.specs.Tree.{expression_tree};
 ghost use Rattle.sedre.specs.Steps.{Takes, TakesAtLeast};
 ghost use Rattle.sedpass.specs.Rows.{nodes_of};
 ghost use Rattle.sedpass.specs.Table.{Names, NamesNext, IsOffset, IsTable, SameShape};

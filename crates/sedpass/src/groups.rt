@@ -4,7 +4,7 @@
 //! are due. What stands left of it waits as a task.
 ghost use Rattle.std.specs.Prelude.{◌≡◌, ℕ, false, List, [], ◌∷◌, ◌++◌, reverse, ◌+◌, ◌-◌, ◌*◌, ◌^◌, ◌<◌, ◌≤◌, ◌↔◌, length, IsTrue, Option, Some, None, IfOk, IfSome, slice_index_or, vec_len, vec_capacity, slice_get};
 ghost use Rattle.sedre.specs.Arena.{IsArena};
-ghost use Rattle.sedre.specs.Written.{tree_at, expression_tree};
+ghost use Rattle.sedre.specs.Tree.{tree_at, expression_tree};
 ghost use Rattle.sedre.specs.Steps.{Takes, TakesAtLeast};
 ghost use Rattle.sedpass.specs.Regions.{StopsAt, RunsTo, IsRunOf};
 ghost use Rattle.sedre.specs.declared.types.Node.{Node};

@@ -3,11 +3,10 @@
 ghost use Rattle.std.specs.Prelude.{◌≡◌, ℕ, Bool, true, false, ◌+◌, ◌<◌, ◌≤◌, ◌&&◌, ◌||◌, ◌↔◌, length, vec_capacity, Some, slice_get, IfOk, IsTrue};
 ghost use Rattle.std.proofs.Props.{props};
 ghost use Rattle.sedre.specs.Arena.{IsArena, IsExpr};
-ghost use Rattle.sedre.specs.Written.{tree_at};
+ghost use Rattle.sedre.specs.Tree.{tree_at, Tree, seq, alt, group, star, opt};
 ghost use Rattle.sedre.specs.Mirror.{seen};
 ghost use Rattle.sedre.specs.Packed.{PartsBelow};
 ghost use Rattle.sedre.specs.Steps.{Takes, TakesExactly, TakesAtLeast};
-ghost use Rattle.sedre.specs.Tree.{Tree, seq, alt, group, star, opt};
 ghost use Rattle.sedre.specs.Sizes.{size};
 ghost use Rattle.sedpass.specs.Lengths.{sum_of, same_of};
 ghost use Rattle.sedpass.specs.Prepared.{IsPrepared, IsFacts, AreFacts, IsLeaf, IsShort, IsOfEachKind, null_at, null_in};

@@ -5,9 +5,8 @@ ghost use Rattle.std.specs.Prelude.{◌≡◌, ℕ, false, Option, None, Some, �
 ghost use Rattle.sedtext.specs.Answer.{SpanAnswer};
 ghost use Rattle.sedtext.specs.Costs.{Pays};
 ghost use Rattle.sedtext.specs.Following.{LiesOn, next_span};
-ghost use Rattle.sedtext.specs.Matching.{found};
-ghost use Rattle.sedtext.specs.NextMatch.{unless_null_at};
-ghost use Rattle.sedre.specs.Written.{expression_tree};
+ghost use Rattle.sedtext.specs.Matching.{found, unless_null_at};
+ghost use Rattle.sedre.specs.Tree.{expression_tree};
 ghost use Rattle.sedre.specs.Steps.{Takes};
 ghost use Rattle.sedpass.specs.Kept.{KeptRoom};
 ghost use Rattle.sedpass.specs.Occurrences.{SearchTakes, further_cost, owed_behind};

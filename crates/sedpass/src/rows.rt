@@ -4,7 +4,7 @@
 //! ended there. The leaves entered decide, with the byte, the next row.
 ghost use Rattle.std.specs.Prelude.{◌≡◌, ℕ, List, Bool, false, ◌+◌, ◌-◌, ◌*◌, ◌<◌, ◌≤◌, ◌↔◌, ◌&&◌, ◌||◌, eqb};
 ghost use Rattle.std.specs.Prelude.{length, Some, slice_index_or, IsTrue};
-ghost use Rattle.sedre.specs.Written.{tree_at};
+ghost use Rattle.sedre.specs.Tree.{tree_at};
 ghost use Rattle.sedre.specs.Packed.{PartsBelow};
 ghost use Rattle.sedre.specs.Sizes.{size};
 ghost use Rattle.sedre.specs.Steps.{Takes, TakesAtLeast};

@@ -8,7 +8,7 @@ ghost use Rattle.sedtext.specs.Beginnings.{AllBegin};
 ghost use Rattle.sedtext.specs.Costs.{Pays};
 ghost use Rattle.sedtext.specs.Reach.{At};
 ghost use Rattle.sedtext.specs.Spans.{NotFound};
-ghost use Rattle.sedre.specs.Written.{expression_tree};
+ghost use Rattle.sedre.specs.Tree.{expression_tree};
 ghost use Rattle.sedre.specs.Steps.{Takes, TakesAtLeast};
 ghost use Rattle.sedpass.specs.declared.search.Trials.TheVariants.{Nothing, Tired};
 ghost use Rattle.sedpass.specs.Table.{IsAhead, IsTable, SameShape};

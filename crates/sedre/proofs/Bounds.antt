@@ -2,8 +2,7 @@
 use Rattle.std.proofs.Common.{◌≡◌, ℕ, ◌+◌, ◌-◌, ◌*◌, ◌<◌, ◌≤◌, min, List, [], ◌∷◌, ◌++◌, length, take, get_or, Bool, true, false, Option, Some, None, IfSome, refl, ap, ◌∙◌, arith}
 use Rattle.std.proofs.lemmas.List.{take_more}
 use Rattle.sedre.specs.declared.intervals.Interval.{Interval}
-use Rattle.sedre.specs.Intervals.{decimal}
-use Rattle.sedre.specs.Items.{repeats, interval_item}
+use Rattle.sedre.specs.Items.{decimal, repeats, interval_item}
 use Rattle.sedre.specs.Finished.{IsAfter}
 
 decimal-append : (n d : ℕ) (xs : List ℕ) → decimal n (xs ++ d ∷ []) ≡ 10 * decimal n xs + (d - 48)

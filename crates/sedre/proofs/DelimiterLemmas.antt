@@ -3,7 +3,7 @@ use Rattle.std.proofs.Common.{◌≡◌, ℕ, zero, suc, ◌+◌, ◌-◌, ◌<�
 use Rattle.std.specs.List.{list_any}
 use Rattle.std.proofs.lemmas.List.{get_or-drop, length-drop, drop-drop}
 use Rattle.sedre.proofs.ByteLemmas.{apart_false}
-use Rattle.sedre.specs.Delimited.{next_place, first_delimiter}
+use Rattle.sedre.specs.Brackets.{next_place, first_delimiter}
 
 -- whether a newline stands in some bytes
 abbrev pub breaks : List ℕ → Bool

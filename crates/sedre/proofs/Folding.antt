@@ -13,12 +13,10 @@ use Rattle.sedre.specs.declared.syntax.Here.TheVariants.{Is, Ends, Bad}
 use Rattle.sedre.specs.declared.syntax.Item.{Item}
 use Rattle.sedre.specs.declared.syntax.Item.TheVariants.{Byte, Open, Close, Bar, Repeat, AtBegin, AtEnd}
 use Rattle.sedre.specs.Tree.{Tree}
-use Rattle.sedre.specs.Sizes.{size, depth, alternatives_depth}
+use Rattle.sedre.specs.Sizes.{size, depth, alternatives_depth, concatenation, alternation, copies, optional, further, repetition}
 use Rattle.sedre.specs.Tree as t
-use Rattle.sedre.specs.Repeats.{concatenation, alternation, copies, optional, further, repetition}
 use Rattle.sedre.specs.Brackets.{ListedBytes, judged, list_at, listed, elements_from, is_negated}
-use Rattle.sedre.specs.Symbols.{symbol}
-use Rattle.sedre.specs.Items.{item_at, item_for, list_item}
+use Rattle.sedre.specs.Items.{symbol, item_at, item_for, list_item}
 use Rattle.sedre.specs.Grammar.{AreAlternatives, ArePieces, IsPiece, first, another, none, more, byte, begin_anchor, end_anchor, subexpression, repeated, CutExpression, done, item, open_groups, Row, bad, stray, unclosed, deep, large, FaultyWith}
 
 -- ---- trees

@@ -6,12 +6,11 @@ use Rattle.sedre.specs.WordLaws.{has-set_of}
 use Rattle.sedre.proofs.ByteLemmas.{set_of-same, apart_false}
 use Rattle.std.proofs.lemmas.Bool.Decides.{eqb_tells}
 use Rattle.sedre.specs.declared.class.Class.{Class}
-use Rattle.sedre.specs.Classes.{class_named}
+use Rattle.sedre.specs.Sets.{class_named, has, union, no_byte}
 use Rattle.sedre.specs.declared.elements.Element.{Element}
 use Rattle.sedre.specs.declared.elements.Element.TheVariants.{Plain, Delimiter, Equivalent, Collating}
 use Rattle.sedre.specs.declared.types.ExprFault.{ExprFault}
 use Rattle.sedre.specs.declared.byte_set.ByteSet.{ByteSet}
-use Rattle.sedre.specs.Sets.{has, union, no_byte}
 use Rattle.sedre.specs.Brackets.{content, form, form_of, of_class, of_one, element, elements, elements_from, is_dash, goes_on_as_range, single, range, both, listed, judged, is_negated, is_delimiter, ListedBytes, list_at, list_end}
 use Rattle.sedre.specs.ListReading.{is_range, located, members_at, elements_start, is_closing}
 

@@ -15,9 +15,7 @@ use Rattle.sedre.specs.declared.syntax.Item.{Item}
 use Rattle.sedre.specs.declared.syntax.Here.{Here}
 use Rattle.sedre.specs.declared.syntax.Here.TheVariants.{Is, Ends, Bad}
 use Rattle.sedre.specs.Brackets.{elements, element, elements_from, is_negated, is_dash, goes_on_as_range, ListedBytes, single, between_ends, range_to, range, both, listed, judged, list_at}
-use Rattle.sedre.specs.Intervals.{interval}
-use Rattle.sedre.specs.Symbols.{symbol}
-use Rattle.sedre.specs.Items.{is_first, is_repeatable, is_repeat, ends_alternative, repeats, interval_item, list_item, star_item, question_item, caret_item, dollar_item, item_for, item_at}
+use Rattle.sedre.specs.Items.{interval, symbol, is_first, is_repeatable, is_repeat, ends_alternative, repeats, interval_item, list_item, star_item, question_item, caret_item, dollar_item, item_for, item_at}
 use Rattle.sedre.specs.Grammar.{Row, bad, stray, unclosed, deep, large, FaultyWith}
 
 -- the elements of a list stand up to a place

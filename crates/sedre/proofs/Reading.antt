@@ -8,8 +8,7 @@ use Rattle.sedre.specs.declared.syntax.Here.TheVariants.{Is, Ends, Bad}
 use Rattle.sedre.specs.declared.syntax.Item.{Item}
 use Rattle.sedre.specs.declared.syntax.Item.TheVariants.{Byte, Open, Close, Bar, Repeat, AtBegin, AtEnd}
 use Rattle.sedre.specs.Tree.{Tree, set}
-use Rattle.sedre.specs.Sizes.{size, depth}
-use Rattle.sedre.specs.Repeats.{alternation, repetition}
+use Rattle.sedre.specs.Sizes.{size, depth, alternation, repetition}
 use Rattle.sedre.specs.Items.{item_at, is_repeatable}
 use Rattle.sedre.specs.Grammar.{none, byte, begin_anchor, end_anchor, CutExpression, done, item, open_groups, ReadsAs, bad, stray, unclosed, deep, large, FaultyWith}
 use Rattle.sedre.specs.Stacks.{Level, Nesting, start, step, with_last, all_alternatives}

@@ -16,9 +16,7 @@ use Rattle.sedre.specs.declared.syntax.Item.{Item}
 use Rattle.sedre.specs.declared.syntax.Item.TheVariants.{Byte, Open, Close, Bar, Repeat, AtBegin, AtEnd}
 use Rattle.sedre.specs.Stacks.{IsInterval}
 use Rattle.sedre.specs.Brackets.{list_at}
-use Rattle.sedre.specs.Symbols.{symbol}
-use Rattle.sedre.specs.Intervals.{numeral, begins, closes, limit, after_least, interval}
-use Rattle.sedre.specs.Items.{item_at, item_for, is_repeatable, is_repeat, is_first, ends_alternative, repeats, interval_item, list_item, star_item, question_item, caret_item, dollar_item}
+use Rattle.sedre.specs.Items.{symbol, numeral, begins, closes, limit, after_least, interval, item_at, item_for, is_repeatable, is_repeat, is_first, ends_alternative, repeats, interval_item, list_item, star_item, question_item, caret_item, dollar_item}
 
 -- a repetition stands where one may, with bounds in order
 abbrev pub FineItem : Bool → Item → Type 0

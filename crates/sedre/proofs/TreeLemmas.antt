@@ -1,9 +1,8 @@
 -- The tree at a node is made of the trees at its parts.
 use Rattle.std.proofs.Common.{◌≡◌, ℕ, zero, suc, ◌<◌, List, Option, Some, None, refl, inl, inr, arith}
 use Rattle.std.specs.Prelude.{slice_get}
-use Rattle.sedre.specs.Tree.{Tree}
+use Rattle.sedre.specs.Tree.{Tree, tree_of, tree_if, tree_within, tree_at}
 use Rattle.sedre.specs.Arena.{IsArena, IsPart}
-use Rattle.sedre.specs.Written.{tree_of, tree_if, tree_within, tree_at}
 use Rattle.sedre.specs.declared.types.Node.{Node}
 use Rattle.sedre.specs.declared.types.Node.TheVariants.{Empty, Set, Begin, End, Seq, Alt, Group, Star, Opt}
 

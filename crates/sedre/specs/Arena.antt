@@ -4,7 +4,7 @@ use Rattle.sedre.specs.Sizes.{size}
 use Rattle.sedre.specs.declared.types.NodeId.{NodeId}
 use Rattle.sedre.specs.declared.types.Node.{Node}
 use Rattle.sedre.specs.declared.types.Node.TheVariants.{Seq, Alt, Group, Star, Opt}
-use Rattle.sedre.specs.Written.{tree_at}
+use Rattle.sedre.specs.Tree.{tree_at}
 
 -- c is a part of the node
 abbrev pub IsPart : Node → ℕ → Type 0

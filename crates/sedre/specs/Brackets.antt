@@ -1,17 +1,8 @@
--- Bracket expressions (XBD 9.3.5): the elements of a list, and the set that they list or the first fault.
--- Which fault a list has, and where, is this project's own.
-use Rattle.std.specs.Prelude.{ℕ, zero, suc, ◌+◌, ◌-◌, List, [], ◌∷◌, length, take, drop, Bool, true, false, not, ◌&&◌}
-use Rattle.std.specs.Prelude.{◌||◌, Option, Some, None, Result, Ok, Err, if◌then◌else◌, nat_le, ◌==◌, option_map}
-use Rattle.sedre.specs.Sets.{set_of, no_byte, only, between, union, complement, matching}
-use Rattle.sedre.specs.Classes.{in_class, class_named}
-use Rattle.sedre.specs.declared.class.Class.{Class}
-use Rattle.sedre.specs.declared.types.Reason.{Reason}
-use Rattle.sedre.specs.declared.types.Reason.TheVariants.{OpenBracket, UnknownClass, LongCollating, BadRange}
-use Rattle.sedre.specs.declared.types.ExprFault.{ExprFault}
-use Rattle.sedre.specs.declared.elements.Element.{Element}
-use Rattle.sedre.specs.declared.elements.Element.TheVariants.{Plain, Delimiter, OfClass, Equivalent, Collating, Wrong}
-use Rattle.sedre.specs.declared.elements.Element.TheVariants.{Unclosed}
-use Rattle.sedre.specs.declared.byte_set.ByteSet.{ByteSet}
+-- Bracket expressions (XBD 9.3.5): the elements of a list, and the set that they list or the first fault; and where an
+-- expression between delimiters ends. Which fault a list has, and where, is this project's own.
+use Rattle.std.specs.Prelude.{ℕ, zero, suc, ◌+◌, ◌-◌, List, [], ◌∷◌, length, take, drop, Bool, true, false, not, ◌&&◌, ◌||◌, Option, Some, None, Result, Ok, Err, if◌then◌else◌, nat_le, ◌==◌, option_map, option_and_then}
+use Rattle.sedre.specs.Sets.{set_of, no_byte, only, between, union, complement, matching, in_class, class_named}
+use Rattle.sedre.specs.Types.{Class, Reason, OpenBracket, UnknownClass, LongCollating, BadRange, ExprFault, Element, Plain, Delimiter, OfClass, Equivalent, Collating, Wrong, Unclosed, ByteSet}
 
 -- whether a byte is the delimiter
 abbrev pub is_delimiter : Option ℕ → ℕ → Bool
@@ -178,3 +169,31 @@ list_at folded delimiter text at =
 -- the place after a list, whatever it lists, from the place after its [ on
 unfoldable pub list_end : Option ℕ → (place : ℕ) → List ℕ → Option ℕ
 list_end delimiter place bytes = (elements_from delimiter place bytes).1
+
+-- a backslash at a place and its next byte
+abbrev pub after_escape : (place : ℕ) → List ℕ → Option ℕ
+after_escape place [] = None
+after_escape place (c ∷ rest) = Some (place + 2)
+
+-- the place after what stands at a place: an escape, a bracket expression or a byte; None where the text ends before
+abbrev pub next_place : (delimiter place : ℕ) → List ℕ → Option ℕ
+next_place d place [] = None
+next_place d place (b ∷ bs) =
+    if b == 92 then after_escape place bs
+    else if b == 91 then list_end (Some d) (place + 1) bs
+    else Some (place + 1)
+
+-- the place of the first delimiter outside of these, from a place on; `skip` bytes are stepped over,
+-- and a newline ends the line wherever it stands. A [ that is the delimiter ends the expression, and a delimiter within a
+-- bracket expression doesn't (both this project's own)
+abbrev pub first_delimiter : (delimiter skip place : ℕ) → List ℕ → Option ℕ
+first_delimiter d skip place [] = None
+first_delimiter d (suc skip) place (b ∷ bs) = if b == 10 then None else first_delimiter d skip (place + 1) bs
+first_delimiter d zero place (b ∷ bs) =
+    if b == 10 then None
+    else if b == d then Some place
+    else option_and_then (λ next. first_delimiter d (next - (place + 1)) (place + 1) bs) (next_place d place (b ∷ bs))
+
+-- the delimiter that ends the expression at a place
+unfoldable pub delimiter_at : (text : List ℕ) → (at delimiter : ℕ) → Option ℕ
+delimiter_at text at d = first_delimiter d 0 at (drop at text)

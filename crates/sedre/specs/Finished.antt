@@ -1,14 +1,10 @@
 -- Private to the proofs: no contract of a public item cites what stands here.
 -- What the reader answers after an item, and at the end of a text.
 use Rattle.std.specs.Prelude.{◌≡◌, ◌≤◌, ◌<◌, ◌⊎◌, ℕ, length}
-use Rattle.sedre.specs.declared.types.Reason.TheVariants.{TooDeep, TooManyNodes}
-use Rattle.sedre.specs.declared.types.ExprFault.{ExprFault}
-use Rattle.sedre.specs.Tree.{Tree, seq, alt, group, star, opt}
+use Rattle.sedre.specs.Types.{TooDeep, TooManyNodes, ExprFault, Here, Is, Ends, Bad}
+use Rattle.sedre.specs.Tree.{Tree, seq, alt, group, star, opt, WrittenExpression, expression_tree}
 use Rattle.sedre.specs.Sizes.{size, depth}
-use Rattle.sedre.specs.Written.{WrittenExpression, expression_tree}
 use Rattle.sedre.specs.Stacks.{Nesting, whole_level}
-use Rattle.sedre.specs.declared.syntax.Here.{Here}
-use Rattle.sedre.specs.declared.syntax.Here.TheVariants.{Is, Ends, Bad}
 
 -- each group of the tree has a number from 1 to the bound
 abbrev pub GroupsNumbered : ℕ → Tree → Type 0

@@ -2,16 +2,10 @@
 -- is an atom with its repetitions; and the first fault of a text that is none.
 use Rattle.std.specs.Prelude.{◌≡◌, ℕ, zero, suc, List, [], ◌∷◌, ◌++◌, length, ◌<◌, ◌≤◌, Bool, false, Option, Some, None}
 use Rattle.std.specs.List.{last_or}
-use Rattle.sedre.specs.declared.syntax.Item.{Item}
-use Rattle.sedre.specs.declared.syntax.Item.TheVariants.{Byte, Open, Close, Bar, Repeat, AtBegin, AtEnd}
-use Rattle.sedre.specs.declared.types.Kind.{Kind}
-use Rattle.sedre.specs.declared.types.Reason.{Reason}
-use Rattle.sedre.specs.declared.types.Reason.TheVariants.{StrayClose, OpenGroup, TooDeep, TooManyNodes}
-use Rattle.sedre.specs.declared.syntax.Here.TheVariants.{Is, Ends, Bad}
+use Rattle.sedre.specs.Types.{Item, Byte, Open, Close, Bar, Repeat, AtBegin, AtEnd, Kind, Reason, StrayClose, OpenGroup, TooDeep, TooManyNodes, Is, Ends, Bad}
 use Rattle.sedre.specs.Items.{item_at}
 use Rattle.sedre.specs.Tree.{Tree, set, begin, end, group}
-use Rattle.sedre.specs.Sizes.{size, depth}
-use Rattle.sedre.specs.Repeats.{concatenation, alternation, repetition}
+use Rattle.sedre.specs.Sizes.{size, depth, concatenation, alternation, repetition}
 
 -- Groups are numbered by their openings from 1 (XBD 9.3.6): each fact holds from a count of the openings before the
 -- items to that after them.

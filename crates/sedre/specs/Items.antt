@@ -1,25 +1,121 @@
--- The items of a text: bytes and sets of bytes, anchors, groups, alternations and repetitions (XBD 9.3, 9.4).
-use Rattle.std.specs.Prelude.{ℕ, ◌+◌, List, drop, Bool, true, false, not, ◌&&◌, Option, Some, None, Result}
-use Rattle.std.specs.Prelude.{Ok, Err}
-use Rattle.sedre.specs.Sets.{only, any_byte, matching}
-use Rattle.sedre.specs.Brackets.{list_at}
-use Rattle.sedre.specs.Symbols.{symbol}
-use Rattle.sedre.specs.Intervals.{interval}
-use Rattle.sedre.specs.declared.types.Kind.{Kind}
-use Rattle.sedre.specs.declared.types.Kind.TheVariants.{Basic, Extended}
-use Rattle.sedre.specs.declared.types.Reason.{Reason}
-use Rattle.sedre.specs.declared.types.Reason.TheVariants.{BadInterval, NothingToRepeat}
-use Rattle.sedre.specs.declared.types.ExprFault.{ExprFault}
-use Rattle.sedre.specs.declared.byte_set.ByteSet.{ByteSet}
-use Rattle.sedre.specs.declared.intervals.Interval.{Interval as Bounds}
-use Rattle.sedre.specs.declared.syntax.Symbol.{Symbol}
-use Rattle.sedre.specs.declared.syntax.Symbol.TheVariants.{Literal, AnyByte, Opening, Closing, Parting, Star, Plus}
-use Rattle.sedre.specs.declared.syntax.Symbol.TheVariants.{Question, Interval, IntervalEnd, BracketOpening, Caret}
-use Rattle.sedre.specs.declared.syntax.Symbol.TheVariants.{Dollar, Unknown}
-use Rattle.sedre.specs.declared.syntax.Item.{Item}
-use Rattle.sedre.specs.declared.syntax.Item.TheVariants.{Byte, Open, Close, Bar, Repeat, AtBegin, AtEnd}
-use Rattle.sedre.specs.declared.syntax.Here.{Here}
-use Rattle.sedre.specs.declared.syntax.Here.TheVariants.{Is, Ends, Bad}
+-- The symbols of a text, what one or two bytes mean outside bracket expressions, and its items: bytes and sets of bytes,
+-- anchors, groups, alternations and repetitions (XBD 9.3, 9.4).
+use Rattle.std.specs.Prelude.{ℕ, List, [], ◌∷◌, Bool, not, ◌||◌, Option, Some, None, if◌then◌else◌, ◌==◌, ◌+◌, ◌*◌, ◌-◌, drop, take, false, ◌&&◌, nat_lt, nat_le, true, Result, Ok, Err}
+use Rattle.std.specs.List.{prefix_len}
+use Rattle.sedre.specs.Sets.{between, is_digit, only, any_byte, matching}
+use Rattle.sedre.specs.Brackets.{is_delimiter, list_at}
+use Rattle.sedre.specs.Types.{Kind, Basic, Extended, LastBackslash, UnknownEscape, BackReference, BadInterval, NothingToRepeat, Symbol, Literal, AnyByte, Opening, Closing, Parting, Star, Plus, Question, Interval, IntervalEnd, BracketOpening, Caret, Dollar, Unknown, Reason, ExprFault, ByteSet, Bounds, Item, Byte, Open, Close, Bar, Repeat, AtBegin, AtEnd, Here, Is, Ends, Bad}
+
+abbrev pub is_letter : ℕ → Bool
+is_letter c = between 65 90 c || between 97 122 c
+
+-- the symbols that both kinds share, where no backslash stands before them; any other byte is a literal here
+abbrev pub alone_in_both : ℕ → Symbol
+alone_in_both b =
+    if b == 42 then Star  -- *
+    else if b == 46 then AnyByte  -- .
+    else if b == 91 then BracketOpening  -- [
+    else if b == 94 then Caret  -- ^
+    else if b == 36 then Dollar  -- $
+    else Literal b
+
+-- a byte that no backslash stands before
+abbrev pub alone : Kind → ℕ → Symbol
+alone Basic b = alone_in_both b
+alone Extended b =
+    if b == 40 then Opening  -- (
+    else if b == 41 then Closing  -- )
+    else if b == 124 then Parting  -- |
+    else if b == 43 then Plus  -- +
+    else if b == 63 then Question  -- a question mark
+    else if b == 123 then Interval  -- {
+    else alone_in_both b
+
+-- a byte after a backslash that is no symbol there: \n is a newline (XCU sed), \t a tab (this project's own);
+-- back-references are left out by name, other letters and digits and < > ' ` are refused, and an ordinary byte is itself
+-- (both this project's own)
+abbrev pub escaped_literal : ℕ → Symbol
+escaped_literal b =
+    if b == 110 then Literal 10  -- n
+    else if b == 116 then Literal 9  -- t
+    else if between 49 57 b then Unknown BackReference
+    else if is_letter b || b == 48 || b == 60 || b == 62 || b == 39 || b == 96 then Unknown UnknownEscape
+    else Literal b
+
+-- a byte after a backslash; in basic expressions \| \+ \? are this project's own
+abbrev pub escaped : Kind → ℕ → Symbol
+escaped Basic b =
+    if b == 40 then Opening  -- (
+    else if b == 41 then Closing  -- )
+    else if b == 124 then Parting  -- |
+    else if b == 43 then Plus  -- +
+    else if b == 63 then Question  -- a question mark
+    else if b == 123 then Interval  -- {
+    else if b == 125 then IntervalEnd  -- }
+    else escaped_literal b
+escaped Extended b = escaped_literal b
+
+-- the symbol at the front of what is left of a text, and how many bytes it has; a backslash and the delimiter are
+-- the delimiter itself (XCU sed, "Regular Expressions in sed"). That a backslash at the end is refused, and that the delimiter
+-- without one keeps its meaning, is this project's own
+abbrev pub symbol : Kind → Option ℕ → List ℕ → Option (Symbol × ℕ)
+symbol kind delimiter [] = None
+symbol kind delimiter (b ∷ []) = Some (if b == 92 then (Unknown LastBackslash, 1) else (alone kind b, 1))
+symbol kind delimiter (b ∷ c ∷ rest) = Some (
+    if not (b == 92) then (alone kind b, 1)
+    else if is_delimiter delimiter c then (Literal c, 2)
+    else (escaped kind c, 2))
+
+-- a decimal number, from what its first digits make
+abbrev pub decimal : ℕ → List ℕ → ℕ
+decimal n [] = n
+decimal n (d ∷ ds) = decimal (10 * n + (d - 48)) ds
+
+-- the number at the front and how many digits it has; leading zeros are accepted, and more than 255 is none (this
+-- project's own)
+abbrev pub numeral : List ℕ → Option (ℕ × ℕ)
+numeral front =
+    let digits = prefix_len is_digit front in
+    let value = decimal 0 (take digits front) in
+    if digits == 0 || nat_lt 255 value then None else Some (value, digits)
+
+-- whether a byte stands at the front
+abbrev pub begins : List ℕ → ℕ → Bool
+begins [] b = false
+begins (c ∷ rest) b = c == b
+
+-- whether the interval closes at the front, by } or \}; a backslash and the delimiter are no closing (this project's own)
+abbrev pub closes : Kind → Option ℕ → List ℕ → Bool
+closes Basic delimiter front = begins front 92 && begins (drop 1 front) 125 && not (is_delimiter delimiter 125)
+closes Extended delimiter front = begins front 125
+
+abbrev pub closing_width : Kind → ℕ
+closing_width Basic = 2
+closing_width Extended = 1
+
+abbrev pub bounds : ℕ → Option ℕ → ℕ → Option Bounds
+bounds least most width = Some (record { least = least; most = most; width = width })
+
+-- after the comma: nothing, or a limit that is no less
+abbrev pub limit : Kind → Option ℕ → (least digits : ℕ) → List ℕ → Option (ℕ × ℕ) → Option Bounds
+limit kind delimiter least digits front None =
+    if closes kind delimiter front then bounds least None (digits + 1 + closing_width kind) else None
+limit kind delimiter least digits front (Some (most, more)) =
+    if closes kind delimiter (drop more front) && nat_le least most
+    then bounds least (Some most) (digits + 1 + more + closing_width kind) else None
+
+-- after the first number; without one there is no interval (this project's own)
+abbrev pub after_least : Kind → Option ℕ → List ℕ → Option (ℕ × ℕ) → Option Bounds
+after_least kind delimiter front None = None
+after_least kind delimiter front (Some (least, digits)) =
+    let rest = drop digits front in
+    if closes kind delimiter rest then bounds least (Some least) (digits + closing_width kind)
+    else if begins rest 44 then limit kind delimiter least digits (drop 1 rest) (numeral (drop 1 rest))
+    else None
+
+-- the interval whose opening stands before what is left of a text, with the bytes that it takes from there
+unfoldable pub interval : Kind → Option ℕ → List ℕ → Option Bounds
+interval kind delimiter front = after_least kind delimiter front (numeral front)
 
 -- whether an item stands first: at the beginning, after an opening of a group or after an alternation symbol
 abbrev pub is_first : Option Item → Bool

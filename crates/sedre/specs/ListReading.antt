@@ -3,8 +3,7 @@
 use Rattle.std.specs.Prelude.{ℕ, ◌+◌, List, ◌∷◌, drop, Bool, false, not, slice_index_or, ◌&&◌, ◌==◌, Option, Result}
 use Rattle.std.specs.Prelude.{Ok, Err, if◌then◌else◌}
 use Rattle.sedre.specs.Brackets.{element, single, range, ListedBytes, is_negated}
-use Rattle.sedre.specs.declared.types.ExprFault.{ExprFault}
-use Rattle.sedre.specs.declared.byte_set.ByteSet.{ByteSet}
+use Rattle.sedre.specs.Types.{ExprFault, ByteSet}
 
 -- whether - and the beginning of a further element stand at the front
 abbrev pub is_range : List ℕ → Bool

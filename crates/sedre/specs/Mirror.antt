@@ -1,7 +1,6 @@
 -- An expression read from its end: it matches what the expression itself matches, from the last byte to the first.
 use Rattle.std.specs.Prelude.{Bool, true, false, map}
-use Rattle.sedre.specs.Tree.{Tree, begin, end, seq, alt, group, star, opt}
-use Rattle.sedre.specs.Written.{WrittenExpression}
+use Rattle.sedre.specs.Tree.{Tree, begin, end, seq, alt, group, star, opt, WrittenExpression}
 use Rattle.sedre.specs.declared.types.Node.{Node}
 use Rattle.sedre.specs.declared.types.Node.TheVariants.{Begin, End, Seq}
 

@@ -1,9 +1,7 @@
 -- The numbers and the names of the faults (this project's own).
 use Rattle.std.specs.Prelude.{ℕ, List, codes}
-use Rattle.sedre.specs.declared.types.Reason.{Reason}
-use Rattle.sedre.specs.declared.types.Reason.TheVariants.{OpenBracket, UnknownClass, LongCollating, BadRange, OpenGroup}
-use Rattle.sedre.specs.declared.types.Reason.TheVariants.{StrayClose, BadInterval, NothingToRepeat, LastBackslash}
-use Rattle.sedre.specs.declared.types.Reason.TheVariants.{UnknownEscape, BackReference, TooManyNodes, TooDeep, NoMemory}
+use Rattle.sedre.specs.Types.{Reason, OpenBracket, UnknownClass, LongCollating, BadRange, OpenGroup, StrayClose, BadInterval, NothingToRepeat, LastBackslash, UnknownEscape, BackReference, TooManyNodes, TooDeep}
+use Rattle.sedre.specs.declared.types.Reason.TheVariants.{NoMemory}
 
 abbrev pub number : Reason → ℕ
 number OpenBracket = 1

@@ -4,8 +4,7 @@ use Rattle.std.specs.Prelude.{◌≡◌, ◌≢◌, ℕ, suc, ◌+◌, ◌-◌, 
 use Rattle.std.specs.Prelude.{false, nat_lt, if◌then◌else◌, Option, Some, None}
 use Rattle.sedre.specs.declared.types.Node.{Node}
 use Rattle.sedre.specs.declared.types.Node.TheVariants as node
-use Rattle.sedre.specs.declared.syntax.Item.{Item}
-use Rattle.sedre.specs.declared.syntax.Item.TheVariants.{Byte, Open, Close, Bar, Repeat, AtBegin, AtEnd}
+use Rattle.sedre.specs.Types.{Item, Byte, Open, Close, Bar, Repeat, AtBegin, AtEnd}
 use Rattle.sedre.specs.declared.parts.Part.{Part}
 use Rattle.sedre.specs.declared.parts.Mark.{Mark}
 use Rattle.sedre.specs.declared.parts.Cover.{Cover}
@@ -14,8 +13,7 @@ use Rattle.sedre.specs.declared.stack.Stack.{Stack}
 use Rattle.sedre.specs.declared.builder.Builder.{Builder}
 use Rattle.sedre.specs.Packed.{id, PartsBelow}
 use Rattle.sedre.specs.Tree.{Tree, empty, set, begin, end, seq, alt, group, star, opt}
-use Rattle.sedre.specs.Sizes.{size, depth, alternatives_depth}
-use Rattle.sedre.specs.Repeats.{concatenation, alternation, repetition}
+use Rattle.sedre.specs.Sizes.{size, depth, alternatives_depth, concatenation, alternation, repetition}
 
 -- the finished alternatives of an open group, and the pieces of the one that is read
 pub record Level : Type 0 where

@@ -1,5 +1,7 @@
--- Expressions written out as trees.
-use Rattle.std.specs.Prelude.{ℕ, List, Bool}
+-- Expressions written out as trees, and an expression as a list of nodes, each after its parts, with the tree that it is.
+use Rattle.std.specs.Prelude.{ℕ, List, Bool, Option, Some, None, zero, suc, slice_get, ◌-◌, length}
+use Rattle.sedre.specs.declared.types.Node.{Node}
+use Rattle.sedre.specs.declared.types.Node.TheVariants.{Empty, Set, Begin, End, Seq, Alt, Group, Star, Opt}
 
 pub data Tree : Type 0 where
   -- the null string
@@ -18,3 +20,37 @@ pub data Tree : Type 0 where
   -- any number of copies, and at most one; the mark, this project's own, says that no copy stands before it
   star : Tree → Bool → Tree
   opt : Tree → Bool → Tree
+
+-- what a contract sees of an expression
+pub record WrittenExpression : Type 0 where
+  pub nodes : List Node
+  pub groups : ℕ
+
+-- the tree at a node, given the trees of its parts
+abbrev pub tree_of : (ℕ → Tree) → Node → Tree
+tree_of part Empty = empty
+tree_of part (Set s) = set s
+tree_of part Begin = begin
+tree_of part End = end
+tree_of part (Seq a b) = seq (part a.index) (part b.index)
+tree_of part (Alt a b) = alt (part a.index) (part b.index)
+tree_of part (Group k a) = group k (part a.index)
+tree_of part (Star a first) = star (part a.index) first
+tree_of part (Opt a first) = opt (part a.index) first
+
+abbrev pub tree_if : (ℕ → Tree) → Option Node → Tree
+tree_if part None = empty
+tree_if part (Some node) = tree_of part node
+
+-- the tree at the node x, following parts at most n deep
+unfoldable pub tree_within : ℕ → List Node → ℕ → Tree
+tree_within zero nodes x = empty
+tree_within (suc n) nodes x = tree_if (tree_within n nodes) (slice_get nodes x)
+
+-- the tree at the node x
+unfoldable pub tree_at : List Node → ℕ → Tree
+tree_at nodes x = tree_within (suc x) nodes x
+
+-- the tree of a whole expression
+abbrev pub expression_tree : WrittenExpression → Tree
+expression_tree e = tree_at e.nodes (length e.nodes - 1)

@@ -2,9 +2,7 @@
 ghost use Rattle.std.specs.Prelude.{◌≡◌, ◌≢◌, ◌||◌, ℕ, ◌<◌, ◌-◌, ◌+◌, ◌*◌, ◌/◌, ◌%◌, ◌↔◌, eqb, max, false, slice_get};
 ghost use Rattle.std.specs.Prelude.{slice_index_or, IfSome, MatchOption, IsTrue};
 ghost use Rattle.std.specs.Int.{bit_at};
-ghost use Rattle.sedre.specs.Sets.{set_of, has, only, any_byte, no_byte, between, union, complement};
-ghost use Rattle.sedre.specs.Sets.{other_case, folded_set, matching};
-ghost use Rattle.sedre.specs.Classes.{in_class};
+ghost use Rattle.sedre.specs.Sets.{set_of, has, only, any_byte, no_byte, between, union, complement, other_case, folded_set, matching, in_class};
 ghost use Rattle.sedre.specs.Words.{words_of};
 
 use crate::class::Class;

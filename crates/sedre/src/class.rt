@@ -1,7 +1,7 @@
 //! The character classes of the POSIX locale (XBD 7.3.1).
 ghost use Rattle.std.specs.Prelude.{◌≡◌, nat_eq};
 ghost use Rattle.std.specs.Cmp.Lexicographic.{pointwise};
-ghost use Rattle.sedre.specs.Classes.{in_class, class_named};
+ghost use Rattle.sedre.specs.Sets.{in_class, class_named};
 
 /// A character class. Bytes from 128 on are in none.
 #[derive(Clone, Copy)]

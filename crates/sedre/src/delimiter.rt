@@ -1,7 +1,7 @@
 //! Where an expression ends that stands between delimiters (XCU sed, "Regular Expressions in sed").
 ghost use Rattle.std.specs.Prelude.{◌≡◌, ◌≢◌, ◌<◌, ◌≤◌, ◌+◌, ◌==◌, length, drop, IfSome};
 ghost use Rattle.std.specs.List.{list_any};
-ghost use Rattle.sedre.specs.Delimited.{delimiter_at, next_place};
+ghost use Rattle.sedre.specs.Brackets.{delimiter_at, next_place};
 
 use crate::brackets::list_end;
 

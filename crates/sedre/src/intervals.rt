@@ -2,8 +2,8 @@
 ghost use Rattle.std.specs.Prelude.{◌≡◌, ◌≤◌, ◌+◌, min, length, IfSome, Some};
 ghost use Rattle.std.specs.List.{prefix_len};
 ghost use Rattle.std.specs.Bool.{OnTrue};
-ghost use Rattle.sedre.specs.Classes.{is_digit};
-ghost use Rattle.sedre.specs.Intervals.{decimal, numeral, begins, closes, closing_width, limit, interval};
+ghost use Rattle.sedre.specs.Sets.{is_digit};
+ghost use Rattle.sedre.specs.Items.{decimal, numeral, begins, closes, closing_width, limit, interval};
 
 use crate::types::Kind;
 
@@ -112,7 +112,7 @@ fn limit(
 }
 
 /// The interval whose opening stands before `front`, if it is one.
-#[tactic(auto, unfolding(crate::specs::Intervals::interval))]
+#[tactic(auto, unfolding(crate::specs::Items::interval))]
 pub fn interval_at(kind: Kind, delimiter: Option<u8>, front: &[u8]) -> Option<Interval>
     ensures is { result ≡ interval kind delimiter front.now }
     ensures within { IfSome result (λ found. found.width ≤ length front.now) }

@@ -2,11 +2,7 @@
 ghost use Rattle.std.specs.Prelude.{◌≡◌, ◌<◌, ◌≤◌, ◌+◌, length};
 ghost use Rattle.std.specs.Option.{ForSome};
 ghost use Rattle.sedre.specs.Sets.{only};
-ghost use Rattle.sedre.specs.Symbols.{symbol};
-ghost use Rattle.sedre.specs.Intervals.{interval};
-ghost use Rattle.sedre.specs.Items.{is_first, is_repeatable, is_repeat, ends_alternative, fault, repeats};
-ghost use Rattle.sedre.specs.Items.{interval_item, list_item, star_item, question_item, caret_item, dollar_item};
-ghost use Rattle.sedre.specs.Items.{item_at};
+ghost use Rattle.sedre.specs.Items.{symbol, interval, is_first, is_repeatable, is_repeat, ends_alternative, fault, repeats, interval_item, list_item, star_item, question_item, caret_item, dollar_item, item_at};
 ghost use Rattle.sedre.specs.Finished.{IsAfter};
 
 use crate::brackets::list_at;

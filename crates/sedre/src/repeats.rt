@@ -17,7 +17,7 @@ fn is_first(first: bool, held: usize, count: usize) -> bool
 
 impl Stack {
     ghost use Rattle.sedre.specs.Tree.{Tree};
-    ghost use Rattle.sedre.specs.Repeats.{copies, optional, repetition};
+    ghost use Rattle.sedre.specs.Sizes.{copies, optional, repetition};
     ghost use Rattle.sedre.specs.Stacks.{Stored, LastBecomes, IsInterval};
 
     /// Puts `count` copies of the last tree after it.

@@ -60,8 +60,7 @@ pub struct Stack {
 
 impl Stack {
     ghost use Rattle.sedre.specs.Tree.{Tree};
-    ghost use Rattle.sedre.specs.Sizes.{size, depth};
-    ghost use Rattle.sedre.specs.Repeats.{concatenation, alternation};
+    ghost use Rattle.sedre.specs.Sizes.{size, depth, concatenation, alternation};
     ghost use Rattle.sedre.specs.Packed.{shifted};
     ghost use Rattle.sedre.specs.Stacks.{Stored, LastBecomes, JoinsTrees, IsLeaf, Puts, last_end, pair, chain, covered};
 

@@ -1,6 +1,6 @@
 //! Which symbols stand in a text.
 ghost use Rattle.std.specs.Prelude.{◌≡◌, ◌<◌, ◌≤◌, ◌+◌, ℕ, List, [], ◌∷◌, None, Some, length, drop, IfSome};
-ghost use Rattle.sedre.specs.Symbols.{alone, alone_in_both, escaped, escaped_literal, symbol};
+ghost use Rattle.sedre.specs.Items.{alone, alone_in_both, escaped, escaped_literal, symbol};
 
 use crate::syntax::Symbol;
 use crate::types::{Kind, Reason};

@@ -2,7 +2,7 @@
 ghost use Rattle.std.specs.Prelude.{◌≡◌, ◌<◌, ◌≤◌, ◌+◌, ℕ, Bool, List, Some, IfOk, length, slice_get};
 ghost use Rattle.sedre.specs.declared.types.Node.TheVariants.{Set};
 ghost use Rattle.sedre.specs.Arena.{IsArena, IsExpr};
-ghost use Rattle.sedre.specs.Written.{WrittenExpression};
+ghost use Rattle.sedre.specs.Tree.{WrittenExpression};
 ghost use Rattle.sedre.specs.Steps.{Takes, TakesExactly};
 
 use crate::byte_set::ByteSet;
@@ -22,7 +22,7 @@ pub struct Expr {
 
 impl Model for Expr {
     ghost use Rattle.sedre.specs.Arena.{IsExpr};
-    ghost use Rattle.sedre.specs.Written.{WrittenExpression};
+    ghost use Rattle.sedre.specs.Tree.{WrittenExpression};
 
     ghost Value = { WrittenExpression };
 

@@ -5,8 +5,8 @@ use Rattle.std.specs.Str.{bytes_eq}
 use Rattle.std.proofs.lemmas.Slice.Eq.{bytes_eq-Decides}
 use Rattle.std.proofs.lemmas.List.FromFn.{length-map-range_with_len}
 use Rattle.sedre.specs.declared.types.Kind.{Kind}
-use Rattle.sedre.specs.Written.{WrittenExpression}
-use Rattle.sedre.specs.Delimited.{delimiter_at}
+use Rattle.sedre.specs.Tree.{WrittenExpression}
+use Rattle.sedre.specs.Brackets.{delimiter_at}
 use Rattle.sedscript.specs.declared.bytes.Sort.TheVariants.{Blank, Name, Bang, Digit, Separator}
 use Rattle.sedscript.specs.declared.types.ScriptFault.{ScriptFault}
 use Rattle.sedscript.specs.declared.types.Address.{Address}
@@ -27,31 +27,21 @@ use Rattle.sedscript.specs.Bytes.{past, bytes_between, is_digit, is_byte, with_d
 use Rattle.sedscript.specs.declared.items.Flags.{Flags}
 use Rattle.sedscript.specs.declared.items.Strings.{Strings}
 use Rattle.sedscript.specs.declared.types.Reason.TheVariants.{TrailingBytes, RepeatedFlag, FlagOnEmpty}
-use Rattle.sedscript.specs.Functions.{fault, allowed, item_of, ended, may_end, text_of, text_from, file_of, name_from, ◌>>=◌ as ◌then◌}
-use Rattle.sedscript.specs.Replacement.{replacement_fault}
-use Rattle.sedscript.specs.Flags.{no_flags, numbered, with_number, with_flag, with_file, ends_flags, flags_from, folds}
-use Rattle.sedscript.specs.Transliteration.{strings_fault, counterpart, table_of}
-use Rattle.sedscript.specs.Between.{own_delimiter, substitute_strings, transliterate_strings, unless_fault, transliterate_at, flags_after, substituted}
-use Rattle.sedscript.specs.Items.{substitute_with, substitute_at, function_of, function_with, function_at, function_after, item_with, item_from, item_at}
-use Rattle.sedscript.specs.Reading.{Reading, plainly, expression, ◌>>=◌}
-use Rattle.sedscript.specs.Addresses.{Addressed, Headed, line_of, folds_at, empty_match, match_to, match_at, own_match, address_of, address_at, with_second, second_at, after_first, addresses_at, with_bang}
-use Rattle.sedscript.specs.Expressions.{Gives, value, after_expression}
-use Rattle.sedscript.specs.Targets.{becomes_command, counted, commands_in, label_in, is_label, close_in, is_close, depth_after, block_end}
+use Rattle.sedscript.specs.Functions.{fault, allowed, item_of, ended, may_end, text_of, text_from, file_of, name_from, ◌>>=◌ as ◌then◌, verb_of}
+use Rattle.sedscript.specs.Strings.{replacement_fault, strings_fault, counterpart, table_of}
+use Rattle.sedscript.specs.Between.{no_flags, numbered, with_number, with_flag, with_file, ends_flags, flags_from, folds, own_delimiter, substitute_strings, transliterate_strings, unless_fault, transliterate_at, flags_after, substituted}
+use Rattle.sedscript.specs.Items.{substitute_with, substitute_at, function_of, function_with, function_at, function_after, item_with, item_from, item_at, Reading, plainly, expression, ◌>>=◌, Addressed, Headed, line_of, folds_at, empty_match, match_to, match_at, own_match, address_of, address_at, with_second, second_at, after_first, addresses_at, with_bang}
+use Rattle.sedscript.specs.Script.{Gives, value, after_expression, CutScript, done, item, is_quiet, with_text, texts_of, with_substitution, substitutions_of, with_table, tables_of, substitution_of, table_between, counts_with, none_counted, action_of, sink_of, with_action, commands_of, CutWithoutFault, Means}
+use Rattle.sedscript.specs.Targets.{becomes_command, counted, commands_in, label_in, is_label, close_in, is_close, depth_after, block_end, is_standard_output, is_file, name_in, file_at, files_in, number_in}
 use Rattle.sedscript.specs.declared.script.Named.{Named}
 use Rattle.sedscript.specs.Parts.{program_of, IsNamed}
-use Rattle.sedscript.specs.Script.{CutScript, done, item, is_quiet, with_text, texts_of, with_substitution}
-use Rattle.sedscript.specs.Script.{substitutions_of, with_table, tables_of, substitution_of, table_between, counts_with}
-use Rattle.sedscript.specs.Script.{none_counted, action_of}
-use Rattle.sedscript.specs.Script.{sink_of, with_action, commands_of, CutWithoutFault, Means}
 use Rattle.sedscript.specs.Program.{Program}
 use Rattle.sedscript.specs.declared.substitution.Substitution.{Substitution}
 use Rattle.sedscript.specs.Ranges.{Sizes, sizes_of, IsOneOf, SinkWithin, AddressWithin, FileWithin, ActionWithin, CommandWithin, SubstitutionWithin, InRange}
-use Rattle.sedscript.specs.Letters.{verb_of}
 use Rattle.sedscript.specs.declared.letters.Verb.{Verb}
 use Rattle.sedscript.specs.declared.letters.Verb.TheVariants.{ReadsExpression, Reads}
 use Rattle.sedscript.specs.declared.letters.Shape.{Shape}
 use Rattle.sedscript.specs.declared.letters.Shape.TheVariants.{Alone, OpensBlock, ClosesBlock, Remark, NamesLabel, GoesTo, TakesText, NamesFile, TakesStrings}
-use Rattle.sedscript.specs.Files.{is_standard_output, is_file, name_in, file_at, files_in, number_in}
 use Rattle.sedscript.proofs.Labels.{commands_snoc, counted_in}
 use Rattle.sedscript.proofs.FileTables.{any_distinct}
 

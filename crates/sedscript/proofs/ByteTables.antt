@@ -4,7 +4,7 @@ use Rattle.std.specs.List.{range_with_len}
 use Rattle.std.proofs.lemmas.Bool.Decides.{eqb_tells, leb_tells}
 use Rattle.std.proofs.lemmas.List.{get_or-replicate}
 use Rattle.std.proofs.lemmas.List.FromFn.{fill_by_all, length-map-range_with_len, get_or-map-range_with_len, length-range_with_len, get_or-range_with_len}
-use Rattle.sedscript.specs.Transliteration.{table_of, counterpart, is_among}
+use Rattle.sedscript.specs.Strings.{table_of, counterpart, is_among}
 use Rattle.sedscript.specs.Answers.{marks_of}
 
 equal_self : (a : ℕ) → (a == a) ≡ true

@@ -4,12 +4,12 @@ use Rattle.std.proofs.lemmas.Bool.Decides.{eqb_tells}
 use Rattle.std.specs.Result.{IsErrAnd}
 use Rattle.std.proofs.lemmas.List.{append-nil}
 use Rattle.sedre.specs.declared.types.Kind.{Kind}
-use Rattle.sedre.specs.Written.{WrittenExpression}
+use Rattle.sedre.specs.Tree.{WrittenExpression}
 use Rattle.sedre.specs.declared.types.ExprFault.{ExprFault}
 use Rattle.sedre.specs.declared.types.Reason.{Reason as ExprReason}
 use Rattle.sedre.specs.declared.types.Reason.TheVariants.{NoMemory}
 use Rattle.sedre.specs.declared.types.TheConstants.{NO_MEMORY as no_expr_memory}
-use Rattle.sedre.specs.Delimited.{delimiter_at}
+use Rattle.sedre.specs.Brackets.{delimiter_at}
 use Rattle.sedre.specs.Grammar.{ExprFaulty}
 use Rattle.sedscript.specs.declared.bytes.Sort.TheVariants.{Blank, Separator, Digit}
 use Rattle.sedscript.specs.declared.types.ScriptFault.{ScriptFault}
@@ -20,20 +20,16 @@ use Rattle.sedscript.specs.declared.types.Address.TheVariants.{Last, Match}
 use Rattle.sedscript.specs.declared.items.Here.{Here}
 use Rattle.sedscript.specs.declared.items.Here.TheVariants.{Is, Ends}
 use Rattle.sedscript.specs.Bytes.{bytes_between, past, is_byte, is_digit, with_digits}
-use Rattle.sedscript.specs.Reading.{Pattern, Reading, plainly, expression, ◌>>=◌}
-use Rattle.sedscript.specs.Addresses.{Addressed, found, with_addresses, folds_at, past_flag, empty_match, match_at, match_to, own_match, addresses_at, after_first, address_at, address_of, line_of}
+use Rattle.sedscript.specs.Items.{Pattern, Reading, plainly, expression, ◌>>=◌, Addressed, found, with_addresses, folds_at, past_flag, empty_match, match_at, match_to, own_match, addresses_at, after_first, address_at, address_of, line_of, item_at, item_from, function_after, substitute_with, substitute_at, function_of, function_with, function_at, item_with}
 use Rattle.sedscript.specs.declared.items.Strings.{Strings}
 use Rattle.sedscript.specs.declared.items.Function.{Function}
-use Rattle.sedscript.specs.Between.{own_delimiter, substitute_strings, flags_after, substituted}
-use Rattle.sedscript.specs.Flags.{folds}
-use Rattle.sedscript.specs.Letters.{verb_of}
+use Rattle.sedscript.specs.Between.{own_delimiter, substitute_strings, flags_after, substituted, folds}
+use Rattle.sedscript.specs.Functions.{verb_of, allowed, item_of}
 use Rattle.sedscript.specs.declared.letters.Verb.{Verb}
 use Rattle.sedscript.specs.declared.letters.Verb.TheVariants.{Reads}
 use Rattle.sedscript.specs.declared.letters.Shape.{Shape}
-use Rattle.sedscript.specs.Items.{item_at, item_from, function_after, substitute_with, substitute_at, function_of, function_with, function_at, item_with}
-use Rattle.sedscript.specs.Functions.{allowed, item_of}
 use Rattle.sedscript.specs.declared.items.Addresses.{Addresses}
-use Rattle.sedscript.specs.Expressions.{IsRead, Gives, value, after_expression}
+use Rattle.sedscript.specs.Script.{IsRead, Gives, value, after_expression}
 use Rattle.sedscript.specs.FirstFault.{Fails, own, no_expression, later, in_script}
 use Rattle.sedscript.specs.Answers.{as_here, as_function, as_groups, as_addressed, Comes, Agrees, IsAfter, IsHere, is_no_memory, fault_of}
 

@@ -2,17 +2,15 @@
 use Rattle.std.proofs.Common.{◌≡◌, ℕ, ◌+◌, ◌<◌, ◌≤◌, List, [], ◌∷◌, ◌++◌, length, Option, Ok, refl, sym, ap, subst, ◌∙◌, append_assoc, arith, length-append}
 use Rattle.std.proofs.lemmas.List.{append-nil}
 use Rattle.sedre.specs.declared.types.Kind.{Kind}
-use Rattle.sedre.specs.Written.{WrittenExpression}
+use Rattle.sedre.specs.Tree.{WrittenExpression}
 use Rattle.sedscript.specs.declared.items.Item.{Item}
 use Rattle.sedscript.specs.declared.items.Here.{Here}
 use Rattle.sedscript.specs.declared.items.Here.TheVariants.{Is, Ends}
 use Rattle.sedscript.specs.declared.bytes.Sort.TheVariants.{Separator}
 use Rattle.sedscript.specs.Bytes.{past}
-use Rattle.sedscript.specs.Reading.{plainly}
-use Rattle.sedscript.specs.Items.{item_at, item_from}
-use Rattle.sedscript.specs.Expressions.{Gives, value}
+use Rattle.sedscript.specs.Items.{plainly, item_at, item_from}
+use Rattle.sedscript.specs.Script.{Gives, value, CutScript, done, item, IsEnd}
 use Rattle.sedscript.specs.Answers.{IsHere}
-use Rattle.sedscript.specs.Script.{CutScript, done, item, IsEnd}
 
 -- one item more
 pub cut_more : (text : List ℕ) (kind : Kind) (m count at to next n : ℕ) (is : List Item) (es fs : List WrittenExpression) (i : Item) → CutScript text kind m count at is es to → n ≡ count + length es →

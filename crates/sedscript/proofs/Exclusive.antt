@@ -1,8 +1,7 @@
 -- A text that means a script has no fault.
 use Rattle.std.proofs.Common.{Bool, ◌≡◌, ℕ, suc, ◌+◌, List, [], ◌∷◌, length, Option, Some, None, refl, sym, ap, subst, ◌∙◌, arith, length-append}
 use Rattle.sedre.specs.declared.types.Kind.{Kind}
-use Rattle.sedre.specs.Written.{WrittenExpression, expression_tree}
-use Rattle.sedre.specs.Tree.{Tree}
+use Rattle.sedre.specs.Tree.{WrittenExpression, expression_tree, Tree}
 use Rattle.sedre.specs.Grammar.{ReadsAs}
 use Rattle.sedscript.specs.declared.types.ScriptFault.{ScriptFault}
 use Rattle.sedscript.specs.declared.items.Item.{Item}
@@ -10,11 +9,9 @@ use Rattle.sedscript.specs.declared.items.Here.{Here}
 use Rattle.sedscript.specs.declared.items.Here.TheVariants.{Is, Ends}
 use Rattle.sedscript.specs.declared.bytes.Sort.TheVariants.{Separator}
 use Rattle.sedscript.specs.Bytes.{past, bytes_between}
-use Rattle.sedscript.specs.Reading.{Pattern, Reading}
-use Rattle.sedscript.specs.Items.{item_at, item_from}
-use Rattle.sedscript.specs.Expressions.{IsRead, Gives, value, after_expression}
+use Rattle.sedscript.specs.Items.{Pattern, Reading, item_at, item_from}
+use Rattle.sedscript.specs.Script.{IsRead, Gives, value, after_expression, CutScript, done, item, IsEnd, Means, CutWithoutFault}
 use Rattle.sedscript.specs.FirstFault.{Fails, no_expression, later, Faulty, early, afterwards}
-use Rattle.sedscript.specs.Script.{CutScript, done, item, IsEnd, Means, CutWithoutFault}
 use Rattle.sedscript.specs.Program.{Program}
 use Rattle.sedscript.specs.Targets.{target_fault}
 

@@ -8,7 +8,7 @@ use Rattle.sedscript.specs.declared.types.ScriptFault.{ScriptFault}
 use Rattle.sedscript.specs.declared.items.Flags.{Flags}
 use Rattle.sedscript.specs.Bytes.{is_digit, belongs, past, bytes_between}
 use Rattle.sedscript.specs.Functions.{name_from, ◌>>=◌}
-use Rattle.sedscript.specs.Flags.{ends_flags, flags_from, with_number, with_file}
+use Rattle.sedscript.specs.Between.{ends_flags, flags_from, with_number, with_file}
 use Rattle.sedscript.specs.Answers.{with_rest}
 
 -- digits that were read are passed over

@@ -3,14 +3,13 @@ use Rattle.std.proofs.Common.{◌≡◌, ℕ, ◌+◌, List, length, Option, Som
 use Rattle.sedre.specs.declared.types.Kind.{Kind}
 use Rattle.sedre.specs.declared.types.Reason.{Reason as ExprReason}
 use Rattle.sedre.specs.declared.types.ExprFault.{ExprFault}
-use Rattle.sedre.specs.Written.{WrittenExpression}
+use Rattle.sedre.specs.Tree.{WrittenExpression}
 use Rattle.sedre.specs.Grammar.{ExprFaulty}
 use Rattle.sedscript.specs.declared.types.ScriptFault.{ScriptFault}
 use Rattle.sedscript.specs.declared.items.Item.{Item}
 use Rattle.sedscript.specs.declared.items.Here.TheVariants.{Is}
 use Rattle.sedscript.specs.Bytes.{bytes_between}
-use Rattle.sedscript.specs.Reading.{Reading}
-use Rattle.sedscript.specs.Items.{item_at}
+use Rattle.sedscript.specs.Items.{Reading, item_at}
 use Rattle.sedscript.specs.FirstFault.{Fails, own, no_expression, later, in_script, Faulty, early, afterwards}
 use Rattle.sedscript.specs.Script.{CutScript, done, item}
 use Rattle.sedscript.specs.Targets.{target_fault}

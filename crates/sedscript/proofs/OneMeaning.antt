@@ -2,19 +2,16 @@
 use Rattle.std.proofs.Common.{◌≡◌, ℕ, ◌+◌, List, [], ◌∷◌, ◌++◌, length, map, refl, sym, ap, subst, ◌∙◌, Some}
 use Rattle.std.proofs.lemmas.List.{map-append}
 use Rattle.sedre.specs.declared.types.Kind.{Kind}
-use Rattle.sedre.specs.Written.{WrittenExpression, expression_tree}
+use Rattle.sedre.specs.Tree.{WrittenExpression, expression_tree}
 use Rattle.sedscript.specs.declared.items.Here.{Here}
 use Rattle.sedscript.specs.declared.items.Here.TheVariants.{Is, Ends}
 use Rattle.sedscript.specs.declared.items.Item.{Item}
 use Rattle.sedscript.specs.Bytes.{bytes_between}
-use Rattle.sedscript.specs.Reading.{Reading}
-use Rattle.sedscript.specs.Items.{item_at}
-use Rattle.sedscript.specs.Expressions.{Gives, value, after_expression}
-use Rattle.sedscript.specs.Script.{CutScript, done, item, IsEnd, Means, commands_of, none_counted, texts_of}
-use Rattle.sedscript.specs.Script.{substitutions_of, tables_of}
+use Rattle.sedscript.specs.Items.{Reading, item_at}
+use Rattle.sedscript.specs.Script.{Gives, value, after_expression, CutScript, done, item, IsEnd, Means, commands_of, none_counted, texts_of, substitutions_of, tables_of}
 use Rattle.sedscript.specs.Program.{Program}
 use Rattle.sedscript.specs.declared.types.FileUse.TheVariants.{Read, Write}
-use Rattle.sedscript.specs.Files.{files_in}
+use Rattle.sedscript.specs.Targets.{files_in}
 use Rattle.sedscript.proofs.Exclusive.{ReadsAsOne, gives_one, end_gives, is_next, cut_same}
 
 -- what is looked at is the same of two expressions with one tree and one number of groups

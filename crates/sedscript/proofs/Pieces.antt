@@ -6,8 +6,8 @@ use Rattle.std.proofs.lemmas.Bool.Decides.{nat_tests}
 use Rattle.sedscript.specs.declared.substitution.Part.{Part}
 use Rattle.sedscript.specs.declared.substitution.Part.TheVariants.{Literal, Whole, Group}
 use Rattle.sedscript.specs.Bytes.{is_digit}
-use Rattle.sedscript.specs.Strings.{escapes}
-use Rattle.sedscript.specs.Replacement.{Piece, literal, whole, group, escaped_piece, piece_of, pieces_from, pieces_of, pieces_in, GroupsWithin, is_letter}
+use Rattle.sedscript.specs.Strings.{escapes, Piece, literal, whole, group, escaped_piece, piece_of, pieces_from, pieces_of, is_letter}
+use Rattle.sedscript.specs.Pieces.{pieces_in, GroupsWithin}
 use Rattle.sedscript.specs.Answers.{pieces_with}
 
 pub pieces_append : (ps qs : List Part) → pieces_in (ps ++ qs) ≡ pieces_in ps ++ pieces_in qs

@@ -3,9 +3,9 @@ use Rattle.std.proofs.Common.{◌≡◌, ℕ, zero, suc, ◌+◌, ◌-◌, ◌<�
 use Rattle.std.specs.Option.{option_len, option_or}
 use Rattle.sedre.specs.declared.types.Kind.{Kind}
 use Rattle.sedre.specs.declared.types.Reason.{Reason as ExprReason}
-use Rattle.sedre.specs.Written.{WrittenExpression}
+use Rattle.sedre.specs.Tree.{WrittenExpression}
 use Rattle.sedre.specs.Grammar.{ExprFaulty}
-use Rattle.sedre.specs.Delimited.{first_delimiter, next_place, delimiter_at}
+use Rattle.sedre.specs.Brackets.{first_delimiter, next_place, delimiter_at}
 use Rattle.sedscript.specs.declared.bytes.Sort.{Sort}
 use Rattle.sedscript.specs.declared.bytes.Sort.TheVariants.{Blank, Name, Bang, Digit, Separator, Line}
 use Rattle.sedscript.specs.declared.types.ScriptFault.{ScriptFault}
@@ -33,20 +33,13 @@ use Rattle.sedscript.specs.declared.transliteration.Char.{Char}
 use Rattle.std.specs.List.{cons_option, prefix_len, take_while}
 use Rattle.std.proofs.lemmas.List.Sums.{prefix_len-le-length}
 use Rattle.sedscript.specs.Bytes.{past, belongs, bytes_between, is_digit, is_byte, with_digits}
-use Rattle.sedscript.specs.Strings.{escapes, string_end}
-use Rattle.sedscript.specs.Letters.{verb_of, most_addresses}
-use Rattle.sedscript.specs.Functions.{allowed, item_of, ended, may_end, text_end, ends_line, text_of, text_from, label_of, file_of, name_from, ◌>>=◌ as ◌then◌}
-use Rattle.sedscript.specs.Replacement.{Piece, literal, whole, group, escaped_piece, exceeds, piece_fault, replacement_fault}
-use Rattle.sedscript.specs.Flags.{no_flags, numbered, with_number, with_flag, with_file, ends_flags, flags_from}
-use Rattle.sedscript.specs.Transliteration.{escaped_byte, char_of, chars_from, chars_of, string_fault, is_among, repeated_in, repeated_fault, strings_fault}
-use Rattle.sedscript.specs.Between.{own_delimiter, strings_to, strings_after, substitute_strings, transliterate_strings, unless_fault, transliterate_at, flags_after, flagged, substituted}
-use Rattle.sedscript.specs.Reading.{Reading, plainly, expression, ◌>>=◌}
-use Rattle.sedscript.specs.Addresses.{Addressed, Headed, with_addresses, line_of, folds_at, past_flag, match_to, match_at, own_match, address_of, address_at, with_second, second_at, after_first, addresses_at, with_bang}
-use Rattle.sedscript.specs.Items.{substitute_with, substitute_at, function_of, function_with, function_at, function_after, item_with, item_from, item_at}
-use Rattle.sedscript.specs.Expressions.{Gives, value, after_expression}
+use Rattle.sedscript.specs.Strings.{escapes, string_end, Piece, literal, whole, group, escaped_piece, exceeds, piece_fault, replacement_fault, escaped_byte, char_of, chars_from, chars_of, string_fault, is_among, repeated_in, repeated_fault, strings_fault}
+use Rattle.sedscript.specs.Functions.{verb_of, most_addresses, allowed, item_of, ended, may_end, text_end, ends_line, text_of, text_from, label_of, file_of, name_from, ◌>>=◌ as ◌then◌}
+use Rattle.sedscript.specs.Between.{no_flags, numbered, with_number, with_flag, with_file, ends_flags, flags_from, own_delimiter, strings_to, strings_after, substitute_strings, transliterate_strings, unless_fault, transliterate_at, flags_after, flagged, substituted}
+use Rattle.sedscript.specs.Items.{Reading, plainly, expression, ◌>>=◌, Addressed, Headed, with_addresses, line_of, folds_at, past_flag, match_to, match_at, own_match, address_of, address_at, with_second, second_at, after_first, addresses_at, with_bang, substitute_with, substitute_at, function_of, function_with, function_at, function_after, item_with, item_from, item_at}
+use Rattle.sedscript.specs.Script.{Gives, value, after_expression, CutScript, done, item}
 use Rattle.sedscript.specs.FirstFault.{Fails, own, no_expression, later, Faulty, early, afterwards}
 use Rattle.sedscript.specs.Targets.{fault_if, target_fault_at, target_fault_in, depth_after, block_end, label_in}
-use Rattle.sedscript.specs.Script.{CutScript, done, item}
 
 -- places
 

@@ -6,20 +6,18 @@ use Rattle.sedre.specs.declared.types.Kind.{Kind}
 use Rattle.sedre.specs.declared.types.Reason.{Reason as ExprReason}
 use Rattle.sedre.specs.declared.types.Reason.TheVariants.{NoMemory}
 use Rattle.sedre.specs.declared.types.ExprFault.{ExprFault}
-use Rattle.sedre.specs.Written.{WrittenExpression}
+use Rattle.sedre.specs.Tree.{WrittenExpression}
 use Rattle.sedscript.specs.Types.{ScriptFault, Address, Addresses, Item, Strings, Function, Here, Is, Ends, Flags}
 use Rattle.sedscript.specs.declared.types.TheConstants.{NO_MEMORY}
 use Rattle.sedscript.specs.declared.items.Source.{Source}
 use Rattle.sedscript.specs.declared.substitution.Part.{Part}
 use Rattle.sedscript.specs.Functions.{◌>>=◌}
-use Rattle.sedscript.specs.Flags.{flags_from}
-use Rattle.sedscript.specs.Replacement.{Piece, literal, pieces_in}
-use Rattle.sedscript.specs.Transliteration.{is_among}
-use Rattle.sedscript.specs.Reading.{Reading}
-use Rattle.sedscript.specs.Addresses.{Addressed, Headed}
-use Rattle.sedscript.specs.Expressions.{Gives}
+use Rattle.sedscript.specs.Between.{flags_from}
+use Rattle.sedscript.specs.Strings.{Piece, literal, is_among}
+use Rattle.sedscript.specs.Pieces.{pieces_in}
+use Rattle.sedscript.specs.Items.{Reading, Addressed, Headed}
+use Rattle.sedscript.specs.Script.{Gives, IsEnd, CutWithoutFault}
 use Rattle.sedscript.specs.FirstFault.{Fails, in_script}
-use Rattle.sedscript.specs.Script.{IsEnd, CutWithoutFault}
 
 -- what a function answered is what reading gives, and the expressions grew by those that were read,
 -- unless a request for memory was refused

@@ -4,7 +4,7 @@ use Rattle.std.specs.List.{fold, prefix_len}
 use Rattle.sedscript.specs.declared.bytes.Sort.{Sort}
 pub use Rattle.sedscript.specs.declared.bytes.Sort.TheVariants.{Blank, Separator, Bang, Digit, Name, Line}
 -- a decimal digit
-pub use Rattle.sedre.specs.Classes.{is_digit}
+pub use Rattle.sedre.specs.Sets.{is_digit}
 
 -- a space or a tab (XBD 7.3.1, blank)
 abbrev pub is_blank : ℕ → Bool

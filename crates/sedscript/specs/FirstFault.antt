@@ -1,16 +1,14 @@
 -- The first fault of a script.
 use Rattle.std.specs.Prelude.{◌≡◌, ℕ, List, length, Some, ◌+◌, Err}
 use Rattle.sedre.specs.declared.types.Kind.{Kind}
-use Rattle.sedre.specs.Written.{WrittenExpression}
+use Rattle.sedre.specs.Tree.{WrittenExpression}
 use Rattle.sedre.specs.declared.types.ExprFault.{ExprFault}
 use Rattle.sedre.specs.Grammar.{ExprFaulty}
 use Rattle.sedscript.specs.Types.{ScriptFault, Item, Expression}
-use Rattle.sedscript.specs.Items.{item_at}
+use Rattle.sedscript.specs.Items.{item_at, Pattern, Reading, plainly, expression}
 use Rattle.sedscript.specs.Targets.{target_fault}
 use Rattle.sedscript.specs.Bytes.{bytes_between}
-use Rattle.sedscript.specs.Reading.{Pattern, Reading, plainly, expression}
-use Rattle.sedscript.specs.Script.{CutScript, IsEnd}
-use Rattle.sedscript.specs.Expressions.{IsRead}
+use Rattle.sedscript.specs.Script.{CutScript, IsEnd, IsRead}
 
 -- the fault of a script, where the regular expression that begins at a place has this fault
 abbrev pub in_script : ℕ → ExprFault → ScriptFault

@@ -1,19 +1,13 @@
 pub mod Types
 pub mod Bytes
 pub mod Faults
-pub mod Letters
 pub mod Functions
 pub mod Replacement
 pub mod Strings
-pub mod Flags
 pub mod Transliteration
 pub mod Between
-pub mod Reading
-pub mod Addresses
 pub mod Items
-pub mod Expressions
 pub mod Targets
-pub mod Files
 pub mod Program
 pub mod Script
 pub mod FirstFault
@@ -22,4 +16,4 @@ pub mod Parts
 pub mod Answers
 pub mod Kept
 pub mod Tables
-pub mod ScriptText
+pub mod Pieces

@@ -1,10 +1,10 @@
 -- Private to the proofs: no contract of a public item cites what stands here.
 -- The parts that a script is kept in.
 use Rattle.std.specs.Prelude.{◌≡◌, ℕ, List, Bool, map}
-use Rattle.sedre.specs.Written.{WrittenExpression}
+use Rattle.sedre.specs.Tree.{WrittenExpression}
 use Rattle.sedscript.specs.Types.{Item, Command, Read, Write}
 use Rattle.sedscript.specs.declared.script.Named.{Named}
-use Rattle.sedscript.specs.Files.{files_in}
+use Rattle.sedscript.specs.Targets.{files_in}
 use Rattle.sedscript.specs.Script.{texts_of, substitutions_of, tables_of}
 use Rattle.sedscript.specs.Program.{Program}
 

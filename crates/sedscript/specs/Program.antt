@@ -1,6 +1,6 @@
 -- A script as its callers see it.
 use Rattle.std.specs.Prelude.{ℕ, List, Bool}
-use Rattle.sedre.specs.Written.{WrittenExpression}
+use Rattle.sedre.specs.Tree.{WrittenExpression}
 use Rattle.sedscript.specs.Types.{Command}
 use Rattle.sedscript.specs.declared.substitution.Substitution.{Substitution}
 

@@ -1,6 +1,6 @@
 -- The numbers of a script are in range.
 use Rattle.std.specs.Prelude.{◌≡◌, ◌<◌, ◌≤◌, ℕ, List, length, Option, Some, None, slice_get}
-use Rattle.sedre.specs.Written.{WrittenExpression}
+use Rattle.sedre.specs.Tree.{WrittenExpression}
 use Rattle.sedscript.specs.Types.{Address, Line, Match, Action, FileUse, Read, Write, Command}
 use Rattle.sedscript.specs.declared.types.Action.TheVariants.{Block, Branch, Text, File, Substitute, Transliterate}
 use Rattle.sedscript.specs.declared.substitution.Substitution.{Substitution}

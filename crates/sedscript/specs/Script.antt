@@ -1,18 +1,36 @@
--- What a script means (XCU sed, "Extended Description").
-use Rattle.std.specs.Prelude.{◌≡◌, ℕ, suc, ◌+◌, List, [], ◌∷◌, ◌++◌, length, Bool, true, false, not, ◌&&◌, Option, Some, None, if◌then◌else◌, ◌==◌, slice_get, unwrap_or}
+-- What a script means (XCU sed, "Extended Description"), and the text that its parts make (XCU sed, Options).
+use Rattle.std.specs.Prelude.{ℕ, if◌then◌else◌, List, [], ◌∷◌, ◌++◌, nat_eq, ◌≤◌, length, Some, Ok, ◌≡◌, suc, ◌+◌, Bool, true, false, not, ◌&&◌, Option, None, ◌==◌, slice_get, unwrap_or}
+use Rattle.std.specs.List.{ends_with}
 use Rattle.sedre.specs.declared.types.Kind.{Kind}
-use Rattle.sedre.specs.Written.{WrittenExpression}
+use Rattle.sedre.specs.declared.types.Reason.{Reason as ExprReason}
+use Rattle.sedre.specs.Tree.{WrittenExpression, expression_tree}
+use Rattle.sedre.specs.Grammar.{ReadsAs, ExprFaulty}
+use Rattle.sedscript.specs.Bytes.{bytes_between, Separator, past}
+use Rattle.sedscript.specs.Items.{Pattern, Reading, plainly, expression, item_at}
 use Rattle.sedscript.specs.Types.{Action, Command, Read, Write, Function, Plain, Open, Branch, Text, File, Substitute, Transliterate, Addresses, Item, Counts, Flags, Strings, Is}
 use Rattle.sedscript.specs.declared.types.Action.TheVariants as action
 use Rattle.sedscript.specs.declared.substitution.Substitution.{Substitution}
-use Rattle.sedscript.specs.Bytes.{Separator, bytes_between, past}
-use Rattle.sedscript.specs.Items.{item_at}
-use Rattle.sedscript.specs.Expressions.{Gives}
-use Rattle.sedscript.specs.Replacement.{pieces_of}
-use Rattle.sedscript.specs.Transliteration.{chars_of, bytes_of, table_of}
-use Rattle.sedscript.specs.Files.{files_in, number_in}
-use Rattle.sedscript.specs.Targets.{commands_in, label_in, block_end, target_fault}
+use Rattle.sedscript.specs.Strings.{pieces_of, chars_of, bytes_of, table_of}
+use Rattle.sedscript.specs.Targets.{files_in, number_in, commands_in, label_in, block_end, target_fault}
 use Rattle.sedscript.specs.Program.{Program}
+
+-- the text with one part more, and a newline where the part doesn't end with one
+abbrev pub with_part : List ℕ → List ℕ → List ℕ
+with_part text part = text ++ part ++ (if ends_with nat_eq part (10 ∷ []) then [] else 10 ∷ [])
+
+-- the text of a pattern is this expression (XBD 9.3, 9.4), has no fault and no more nodes than allowed
+pub record IsRead (text : List ℕ) (kind : Kind) (max_nodes : ℕ) (p : Pattern) (e : WrittenExpression) : Type 0 where
+  pub reads : ReadsAs kind p.folded (Some p.delimiter) (bytes_between text p.from p.to) (expression_tree e) e.groups
+  pub no_fault : (place : ℕ) (reason : ExprReason) →
+      ExprFaulty kind (Some p.delimiter) (bytes_between text p.from p.to) max_nodes place reason → ⊥
+  pub fits : length e.nodes ≤ max_nodes
+
+-- what is read is this value, with these expressions
+pub data Gives (text : List ℕ) (kind : Kind) (max_nodes : ℕ) {A : Type 0} : Reading A → List WrittenExpression → A → Type 0 where
+  value : {x : A} → Gives text kind max_nodes (plainly (Ok x)) [] x
+  after_expression : {p : Pattern} {k : ℕ → Reading A} {es : List WrittenExpression} {x : A} (e : WrittenExpression) →
+      IsRead text kind max_nodes p e → Gives text kind max_nodes (k e.groups) es x →
+      Gives text kind max_nodes (expression p k) (e ∷ es) x
 
 -- the text has these items and expressions from one place, with so many expressions before it, up to another
 pub data CutScript (text : List ℕ) (kind : Kind) (max_nodes : ℕ) : ℕ → ℕ → List Item → List WrittenExpression → ℕ → Type 0 where

@@ -11,8 +11,7 @@ use Rattle.sedscript.specs.declared.targets.FirstLabel.{FirstLabel}
 use Rattle.sedscript.specs.declared.files.Files.{Files}
 use Rattle.sedscript.specs.declared.files.NumberedFiles.{NumberedFiles}
 use Rattle.sedscript.specs.Types.{FileUse, Read, Write, Item, Counts, Function}
-use Rattle.sedscript.specs.Files.{files_in}
-use Rattle.sedscript.specs.Targets.{is_label, counted, commands_in, is_open, is_close, close_in}
+use Rattle.sedscript.specs.Targets.{files_in, is_label, counted, commands_in, is_open, is_close, close_in}
 
 -- the first item with a label of this name, and the number of the command after it, where the items begin with this
 -- index and so many commands before them

@@ -3,9 +3,7 @@
 ghost use Rattle.std.specs.Prelude.{◌≡◌, ◌≢◌, ◌≤◌, ◌<◌, ◌+◌, ℕ, Option, Some, length, slice_get, IfOk};
 ghost use Rattle.sedscript.specs.declared.types.Address.{Address};
 ghost use Rattle.sedscript.specs.Bytes.{bytes_between, with_digits};
-ghost use Rattle.sedscript.specs.Addresses.{folds_at, past_flag, empty_match, match_at, own_match, address_at};
-ghost use Rattle.sedscript.specs.Addresses.{after_first, second_at};
-ghost use Rattle.sedscript.specs.Addresses.{with_second, addresses_at, with_bang, addresses_of, line_of};
+ghost use Rattle.sedscript.specs.Items.{folds_at, past_flag, empty_match, match_at, own_match, address_at, after_first, second_at, with_second, addresses_at, with_bang, addresses_of, line_of};
 ghost use Rattle.sedscript.specs.Between.{own_delimiter};
 ghost use Rattle.sedscript.specs.Answers.{as_addressed, as_headed, ComesFrom, Agrees};
 
@@ -66,7 +64,7 @@ fn empty_match(text: &[u8], at: usize) -> Result<(Option<Address>, usize), Scrip
 
 /// The address of the regular expression after the delimiter at `place`, and the place after it and its flag `I`, if
 /// it has that.
-#[tactic(auto, unfolding(crate::specs::Addresses::match_at))]
+#[tactic(auto, unfolding(crate::specs::Items::match_at))]
 fn match_at(
     source: &Source,
     exprs: &mut Vec<Expr>,
@@ -120,7 +118,7 @@ fn own_match(
 }
 
 /// The address at a place, if one stands there, and the place after it.
-#[tactic(auto, unfolding(crate::specs::Addresses::address_at))]
+#[tactic(auto, unfolding(crate::specs::Items::address_at))]
 fn address_at(
     source: &Source,
     exprs: &mut Vec<Expr>,

@@ -2,9 +2,7 @@
 
 ghost use Rattle.std.specs.Prelude.{◌≡◌, ◌≢◌, ◌≤◌, ◌<◌, ◌+◌, false, Some, length, slice_get, IfOk, IfSome};
 ghost use Rattle.sedscript.specs.Strings.{string_end};
-ghost use Rattle.sedscript.specs.Between.{own_delimiter, strings_after, substitute_strings, transliterate_strings};
-ghost use Rattle.sedscript.specs.Between.{transliterate_at, flags_after, flagged, substituted};
-ghost use Rattle.sedscript.specs.Flags.{folds};
+ghost use Rattle.sedscript.specs.Between.{own_delimiter, strings_after, substitute_strings, transliterate_strings, transliterate_at, flags_after, flagged, substituted, folds};
 ghost use Rattle.sedscript.specs.Answers.{AreStrings};
 
 use crate::bytes::byte_at;

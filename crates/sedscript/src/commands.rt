@@ -4,9 +4,7 @@ ghost use Rattle.std.specs.Prelude.{◌≡◌, ◌<◌, ◌≤◌, ◌+◌, ◌-
 ghost use Rattle.std.specs.Prelude.{slice_get, IfOk, OnOk};
 ghost use Rattle.sedscript.specs.Bytes.{bytes_between};
 ghost use Rattle.sedscript.specs.Tables.{TargetsAre, FilesAre, AtMost, blocks_in};
-ghost use Rattle.sedscript.specs.Script.{none_counted, counts_with, sink_of, action_of, with_action};
-ghost use Rattle.sedscript.specs.Script.{commands_of, texts_of, substitution_of, substitutions_of, tables_of};
-ghost use Rattle.sedscript.specs.Script.{unescaped_from, is_quiet};
+ghost use Rattle.sedscript.specs.Script.{none_counted, counts_with, sink_of, action_of, with_action, commands_of, texts_of, substitution_of, substitutions_of, tables_of, unescaped_from, is_quiet};
 ghost use Rattle.sedscript.specs.declared.items.Item.{Item};
 
 use crate::bytes::bytes_between;

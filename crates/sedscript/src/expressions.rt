@@ -3,10 +3,10 @@
 ghost use Rattle.std.specs.Prelude.{◌≡◌, ◌≢◌, ◌≤◌, ◌<◌, ◌+◌, ◌++◌, ◌∷◌, [], ◌⊎◌, ℕ, Ok, Some, length, IfOk, IfErr, OnOk};
 ghost use Rattle.sedre.specs.declared.types.Reason.{Reason as ExprReason};
 ghost use Rattle.sedre.specs.declared.types.TheConstants.{NO_MEMORY as NO_EXPR_MEMORY};
-ghost use Rattle.sedre.specs.Written.{expression_tree};
+ghost use Rattle.sedre.specs.Tree.{expression_tree};
 ghost use Rattle.sedre.specs.Grammar.{ReadsAs, ExprFaulty};
 ghost use Rattle.sedscript.specs.Bytes.{bytes_between};
-ghost use Rattle.sedscript.specs.Reading.{plainly, expression};
+ghost use Rattle.sedscript.specs.Items.{plainly, expression};
 ghost use Rattle.sedscript.specs.Answers.{as_groups, ComesFrom, is_no_memory, fault_of};
 
 use crate::items::Source;

@@ -1,7 +1,7 @@
 //! The files that a script names: tables that are made once, so that no name is compared with all earlier ones.
 
 ghost use Rattle.std.specs.Prelude.{◌≡◌, ◌≤◌, ◌<◌, ◌+◌, ℕ, List, Some, map, length, unwrap_or, is_some, IfOk, OnOk};
-ghost use Rattle.sedscript.specs.Files.{is_standard_output, is_file, name_in, file_at, number_in};
+ghost use Rattle.sedscript.specs.Targets.{is_standard_output, is_file, name_in, file_at, number_in};
 ghost use Rattle.sedscript.specs.Tables.{labelled, with_name, first_number, NumbersAre, AreNumbered, FilesAre};
 ghost use Rattle.sedscript.specs.declared.items.Item.{Item};
 

@@ -1,7 +1,7 @@
 //! The flags of `s`.
 
 ghost use Rattle.std.specs.Prelude.{◌≡◌, ◌≤◌, ◌<◌, ◌+◌, length, drop, false, slice_index, IfOk};
-ghost use Rattle.sedscript.specs.Flags.{no_flags, ends_flags, with_number, with_flag, with_file, flags_from};
+ghost use Rattle.sedscript.specs.Between.{no_flags, ends_flags, with_number, with_flag, with_file, flags_from};
 ghost use Rattle.sedscript.specs.Functions.{name_from};
 ghost use Rattle.sedscript.specs.Answers.{with_rest};
 

@@ -3,9 +3,7 @@
 ghost use Rattle.std.specs.Prelude.{◌≡◌, ◌≤◌, ◌<◌, ◌+◌, length, IfOk, IfSome};
 ghost use Rattle.std.specs.Option.{option_len};
 ghost use Rattle.sedscript.specs.Bytes.{past};
-ghost use Rattle.sedscript.specs.Letters.{verb_of};
-ghost use Rattle.sedscript.specs.Functions.{may_end, ended, label_of, branch_of, text_of, text_from, name_from};
-ghost use Rattle.sedscript.specs.Functions.{file_of, allowed};
+ghost use Rattle.sedscript.specs.Functions.{verb_of, may_end, ended, label_of, branch_of, text_of, text_from, name_from, file_of, allowed};
 
 use crate::bytes::{Sort, byte_at, past};
 use crate::items::{Addresses, Function};

@@ -2,7 +2,7 @@
 
 ghost use Rattle.std.specs.Prelude.{◌≡◌, ℕ, List, map};
 ghost use Rattle.sedre.specs.declared.types.Kind.{Kind};
-ghost use Rattle.sedre.specs.Written.{expression_tree};
+ghost use Rattle.sedre.specs.Tree.{expression_tree};
 ghost use Rattle.sedscript.specs.Script.{Means};
 ghost use Rattle.sedscript.specs.Program.{Program};
 ghost use Rattle.sedscript.specs.FirstFault.{Faulty};

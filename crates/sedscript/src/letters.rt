@@ -1,7 +1,7 @@
 //! The letters of the functions, and the addresses that they take.
 
 ghost use Rattle.std.specs.Prelude.{◌≡◌};
-ghost use Rattle.sedscript.specs.Letters.{verb_of, most_addresses};
+ghost use Rattle.sedscript.specs.Functions.{verb_of, most_addresses};
 
 use crate::types::{BranchUse, FileUse, Simple, TextUse};
 

@@ -2,8 +2,8 @@
 
 ghost use Rattle.std.specs.Prelude.{◌≡◌, ◌≤◌, ◌+◌, ◌++◌, ◌∷◌, [], false, length, IfOk, OnOk};
 ghost use Rattle.sedscript.specs.Bytes.{bytes_between};
-ghost use Rattle.sedscript.specs.Replacement.{escaped_piece, piece_of, pieces_of};
-ghost use Rattle.sedscript.specs.Replacement.{pieces_in, exceeds, escape_fault, replacement_fault, GroupsWithin};
+ghost use Rattle.sedscript.specs.Strings.{escaped_piece, piece_of, pieces_of, exceeds, escape_fault, replacement_fault};
+ghost use Rattle.sedscript.specs.Pieces.{pieces_in, GroupsWithin};
 ghost use Rattle.sedscript.specs.Answers.{pieces_with};
 
 use crate::bytes::bytes_between;

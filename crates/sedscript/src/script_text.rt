@@ -1,7 +1,7 @@
 //! The text of a script, put together from parts.
 
 ghost use Rattle.std.specs.Prelude.{◌≡◌, OnErr, OnOk};
-ghost use Rattle.sedscript.specs.ScriptText.{with_part};
+ghost use Rattle.sedscript.specs.Script.{with_part};
 
 use std::alloc::AllocError;
 

@@ -1,7 +1,7 @@
 //! Substitutions: what the command `s` replaces, and by what (XCU sed, "Editing Commands in sed").
 
 ghost use Rattle.std.specs.Prelude.{◌≡◌};
-ghost use Rattle.sedscript.specs.Replacement.{pieces_in, GroupsWithin};
+ghost use Rattle.sedscript.specs.Pieces.{pieces_in, GroupsWithin};
 
 use std::marker::Model;
 
@@ -35,7 +35,8 @@ pub struct Replacement {
 
 impl Model for Replacement {
     ghost use Rattle.std.specs.Prelude.{List};
-    ghost use Rattle.sedscript.specs.Replacement.{Piece, pieces_in, GroupsWithin};
+    ghost use Rattle.sedscript.specs.Strings.{Piece};
+    ghost use Rattle.sedscript.specs.Pieces.{pieces_in, GroupsWithin};
 
     ghost Value = { List Piece };
 
@@ -45,7 +46,7 @@ impl Model for Replacement {
 }
 
 impl Replacement {
-    ghost use Rattle.sedscript.specs.Replacement.{pieces_in, GroupsWithin};
+    ghost use Rattle.sedscript.specs.Pieces.{pieces_in, GroupsWithin};
 
     /// A replacement of these parts.
     pub(crate) fn of(parts: Vec<Part>) -> Replacement

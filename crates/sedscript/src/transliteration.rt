@@ -3,8 +3,7 @@
 ghost use Rattle.std.specs.Prelude.{◌≡◌, ◌≤◌, ◌<◌, ◌+◌, ℕ, List, [], ◌∷◌, true, false, length, IfOk};
 ghost use Rattle.std.specs.List.{range_with_len};
 ghost use Rattle.sedscript.specs.Bytes.{bytes_between};
-ghost use Rattle.sedscript.specs.Transliteration.{escaped_byte, char_of, chars_from, bytes_of, string_fault};
-ghost use Rattle.sedscript.specs.Transliteration.{is_among, repeated_in, strings_fault, table_of};
+ghost use Rattle.sedscript.specs.Strings.{escaped_byte, char_of, chars_from, bytes_of, string_fault, is_among, repeated_in, strings_fault, table_of};
 ghost use Rattle.sedscript.specs.Answers.{marks_of};
 ghost use Rattle.sedscript.specs.Script.{table_between};
 

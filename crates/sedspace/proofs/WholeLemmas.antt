@@ -4,7 +4,8 @@ use Rattle.std.specs.List.{slice_split, onto_first}
 use Rattle.std.specs.Option.{option_map}
 use Rattle.std.specs.Io.KnownBytes.{prepend_known}
 use Rattle.std.proofs.lemmas.List.Splits.{slice_split-cons_yes, slice_split-cons_no, length-slice_split}
-use Rattle.sedspace.specs.Lines.{lines, is_newline, without_empty_last, AreWholeLines}
+use Rattle.sedspace.specs.Lines.{lines, is_newline, without_empty_last}
+use Rattle.sedspace.specs.Stream.{AreWholeLines}
 use Rattle.sedspace.specs.Stream.{GivesLines}
 use Rattle.sedspace.proofs.LineLemmas.{lines_nil, lines_none}
 

@@ -103,3 +103,7 @@ RisesAtMost (Some k) (Some m) n = m ≤ k + n
 abbrev pub ReadsForBytes : {R : Type 0} → (R → Option (List ℕ)) → (R → Option ℕ) → R → R → ℕ → Type 0
 ReadsForBytes remaining reads old new n = (taken : List ℕ) × Consumes (remaining old) (remaining new) taken
     × RisesAtMost (reads old) (reads new) (length taken + n)
+
+-- bytes that are whole lines, each with its newline: none, or bytes of which the last is a newline
+abbrev pub AreWholeLines : List ℕ → Type 0
+AreWholeLines bytes = (bytes ≡ []) ⊎ ((before : List ℕ) × (bytes ≡ before ++ 10 ∷ []))

@@ -9,7 +9,8 @@ ghost use Rattle.std.specs.Prelude.{◌≡◌, ◌↔◌, ◌+◌, ◌-◌, ◌<
 ghost use Rattle.std.specs.List.{position, before_first};
 ghost use Rattle.std.specs.Io.KnownBytes.{Consumes, Keeps, IsAtEnd};
 ghost use Rattle.sedspace.specs.Failures.{FailsAtErr};
-ghost use Rattle.sedspace.specs.Lines.{is_newline, AreWholeLines, HasNoNewline};
+ghost use Rattle.sedspace.specs.Lines.{is_newline, HasNoNewline};
+ghost use Rattle.sedspace.specs.Stream.{AreWholeLines};
 
 use super::{Broken, ByteSource, Full, LineFault, Space};
 use std::alloc::{AllocError, Global};

@@ -4,8 +4,7 @@ use Rattle.std.specs.Prelude.{◌&&◌, nat_eq, nat_lt, if◌then◌else◌}
 use Rattle.std.proofs.lemmas.Bool.Decides.{nat_tests}
 use Rattle.sedre.specs.Tree.{Tree}
 use Rattle.sedtext.specs.Spans.{Matches}
-use Rattle.sedtext.specs.Matching.{found}
-use Rattle.sedtext.specs.NextMatch.{unless_null_at}
+use Rattle.sedtext.specs.Matching.{found, unless_null_at}
 use Rattle.sedtext.specs.Following.{EndsWithin, LiesOn, Occurs, next_span}
 use Rattle.sedtext.proofs.MatchingLemmas.{found-iff}
 

@@ -3,8 +3,7 @@ use Rattle.std.proofs.Common.{sym, ◌≡◌, ℕ, ◌+◌, ◌-◌, ◌<◌, �
 use Rattle.std.specs.Prelude.{slice_get, slice_index_or, true}
 use Rattle.std.proofs.lemmas.Option.{get_or_from_slice_get, slice_get-get_or}
 use Rattle.std.proofs.lemmas.List.{length-reverse, reverse-reverse, get_or-reverse}
-use Rattle.sedre.specs.Tree.{Tree, empty, set, begin, end, seq, alt, group, star, opt}
-use Rattle.sedre.specs.Written.{WrittenExpression, tree_at}
+use Rattle.sedre.specs.Tree.{Tree, empty, set, begin, end, seq, alt, group, star, opt, WrittenExpression, tree_at}
 use Rattle.sedre.specs.Mirror.{mirror, seen}
 use Rattle.sedre.proofs.MirrorLemmas.{mirror-mirror, tree_at-mirror}
 use Rattle.sedtext.specs.Reach.{At}

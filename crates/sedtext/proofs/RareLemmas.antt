@@ -2,8 +2,7 @@
 use Rattle.std.proofs.Common.{◌≡◌, ℕ, ◌+◌, ◌-◌, ◌*◌, ◌<◌, ◌≤◌, ◌↔◌, Bool, List, length, Option, Some, None, subst, ⊎_elim, arith}
 use Rattle.std.specs.Prelude.{IfSome}
 use Rattle.std.proofs.lemmas.Bool.{cases_lt}
-use Rattle.sedre.specs.Tree.{Tree}
-use Rattle.sedre.specs.Written.{tree_at}
+use Rattle.sedre.specs.Tree.{Tree, tree_at}
 use Rattle.sedre.specs.declared.types.Node.{Node}
 use Rattle.sedtext.specs.declared.counted.few.Few.{Few}
 use Rattle.sedtext.specs.declared.needed.Link.TheVariants.{OneOf, Last}

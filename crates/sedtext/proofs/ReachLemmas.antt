@@ -3,7 +3,7 @@ use Rattle.std.proofs.Common.{◌≡◌, ◌≢◌, ℕ, ◌<◌, ◌≤◌, ◌
 use Rattle.std.specs.Prelude.{slice_get, slice_index_or}
 use Rattle.sedtext.specs.Spans.{CopiesLead, no_copy, Matches}
 use Rattle.sedre.specs.Arena.{IsArena, IsPart}
-use Rattle.sedre.specs.Written.{tree_of, tree_at}
+use Rattle.sedre.specs.Tree.{tree_of, tree_at}
 use Rattle.sedre.specs.declared.types.Node.{Node}
 use Rattle.sedre.specs.declared.types.Node.TheVariants.{Empty, Set, Begin, End, Seq, Alt, Group, Star, Opt}
 use Rattle.sedre.proofs.TreeLemmas.{tree_at-node}

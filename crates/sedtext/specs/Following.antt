@@ -3,7 +3,7 @@ use Rattle.std.specs.Prelude.{ℕ, ◌+◌, ◌-◌, ◌<◌, ◌≤◌, List, l
 use Rattle.sedre.specs.Steps.{TakesAtLeast}
 use Rattle.sedre.specs.Tree.{Tree}
 use Rattle.sedtext.specs.Bytes.{AreBytes}
-use Rattle.sedtext.specs.NextMatch.{next_match}
+use Rattle.sedtext.specs.Matching.{next_match}
 use Rattle.sedtext.specs.Spans.{Matches}
 
 -- the span of the next match in a text of n bytes, after one that ended at a place, where there was one

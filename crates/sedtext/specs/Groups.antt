@@ -1,5 +1,5 @@
 -- The groups of a match: which span each has, and the part of the text that it reports.
-use Rattle.std.specs.Prelude.{ℕ, List, Option, slice_set, None, replicate, slice_index_or, ◌≤◌, Some, [], slice_range}
+use Rattle.std.specs.Prelude.{ℕ, List, Option, slice_set, None, replicate, slice_index_or, Some, [], slice_range}
 use Rattle.sedre.specs.Tree.{Tree, seq, alt, group, star, opt}
 
 -- entry k is the span of group k; a group without an entry of its own is not kept
@@ -22,11 +22,6 @@ no_groups = replicate 10 None
 -- the span of group k, if it has one
 abbrev pub span_of : Groups → ℕ → Option (ℕ × ℕ)
 span_of groups k = slice_index_or groups k None
-
--- the span, if there is one, lies in a text of n bytes
-abbrev pub SpanIn : ℕ → Option (ℕ × ℕ) → Type 0
-SpanIn n None = Unit {0}
-SpanIn n (Some span) = (span.0 ≤ span.1) × (span.1 ≤ n)
 
 -- the bytes of the span, none where there is no span
 abbrev pub part_of : List ℕ → Option (ℕ × ℕ) → List ℕ

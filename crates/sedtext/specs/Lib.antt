@@ -14,7 +14,6 @@ pub mod Reach
 pub mod Places
 pub mod Beginnings
 pub mod Runs
-pub mod NextMatch
 pub mod Following
 pub mod Needed
 pub mod Times

@@ -1,5 +1,5 @@
 -- What is matched, computed by trying all places. That it is what the relations tell, MatchingLaws says.
-use Rattle.std.specs.Prelude.{ℕ, zero, suc, ◌+◌, ◌-◌, Bool, false, ◌&&◌, ◌||◌, cond, eqb, ltb, List, length, slice_get, slice_index_or, slice_set, Option, Some, None, unwrap_or}
+use Rattle.std.specs.Prelude.{ℕ, zero, suc, ◌+◌, ◌-◌, Bool, false, ◌&&◌, ◌||◌, cond, eqb, ltb, List, length, slice_get, slice_index_or, slice_set, Option, Some, None, unwrap_or, nat_eq, nat_lt, if◌then◌else◌}
 use Rattle.sedre.specs.Tree.{Tree, empty, set, begin, end, seq, alt, group, star, opt}
 use Rattle.sedtext.specs.Groups.{Groups, forget, no_groups}
 
@@ -82,3 +82,15 @@ groups_after other w i j old = old
 -- the groups of a match of i..j as they are reported
 unfoldable pub report : Tree → List ℕ → ℕ → ℕ → Groups
 report e w i j = slice_set (groups_after e w i j no_groups) 0 (Some (i, j))
+
+-- The match of the null string at a place is passed over for another one. `span` tells where a match begins and ends.
+abbrev pub unless_null_at : {M : Type 0} → (M → ℕ × ℕ) → ℕ → Option M → Option M → Option M
+unless_null_at span q None other = None
+unless_null_at span q (Some m) other = if nat_eq (span m).0 q && nat_eq (span m).1 q then other else Some m
+
+-- The next match in a text of n bytes, after one that ended at a place, where there was one; `search` tells the match sought
+-- from a place. Matches don't overlap, and a match of the null string directly after one is none (this project's own): then
+-- the search goes on one byte further, as long as that is no place after the end.
+abbrev pub next_match : {M : Type 0} → (M → ℕ × ℕ) → (ℕ → Option M) → ℕ → Option ℕ → Option M
+next_match span search n None = search 0
+next_match span search n (Some q) = unless_null_at span q (search q) (if nat_lt q n then search (q + 1) else None)

@@ -1,6 +1,7 @@
 //! A match, as a search answers it.
 ghost use Rattle.std.specs.Prelude.{◌≡◌, ◌≤◌, length};
-ghost use Rattle.sedtext.specs.Groups.{SpanIn, span_of, part_of};
+ghost use Rattle.sedtext.specs.Answer.{SpanIn};
+ghost use Rattle.sedtext.specs.Groups.{span_of, part_of};
 
 /// A match, and which part of the text each group reports.
 #[derive(Clone, Copy)]

@@ -1,9 +1,8 @@
 //! What all matches of an expression hold, by which places are passed over at which none begins: a literal, and the rarest
 //! bytes at fixed distances after their beginning.
 ghost use Rattle.std.specs.Prelude.{◌-◌, ◌*◌, ◌≤◌, length, IfOk, IfSome};
-ghost use Rattle.sedre.specs.Written.{expression_tree};
+ghost use Rattle.sedre.specs.Tree.{expression_tree, Tree};
 ghost use Rattle.sedre.specs.Steps.{TakesAtLeast};
-ghost use Rattle.sedre.specs.Tree.{Tree};
 ghost use Rattle.sedtext.specs.Costs.{Pays};
 ghost use Rattle.sedtext.specs.Hints.{AreHints};
 ghost use Rattle.sedtext.specs.Needed.{Narrowed};

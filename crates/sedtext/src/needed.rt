@@ -2,8 +2,7 @@
 //!
 //! A concatenation is followed from part to part, and single bytes that stand one after another in it are a literal.
 ghost use Rattle.std.specs.Prelude.{◌≡◌, ◌-◌, ◌<◌, ◌≤◌, ◌⊎◌, length, IfOk, IfSome};
-ghost use Rattle.sedre.specs.Written.{expression_tree};
-ghost use Rattle.sedre.specs.Tree.{Tree};
+ghost use Rattle.sedre.specs.Tree.{expression_tree, Tree};
 ghost use Rattle.sedtext.specs.Needed.{IsOfSet, LinksTo, IsLiteral, IsSole, AllHold, AllEndWith, IsNeeded, Narrowed};
 ghost use Rattle.sedtext.specs.Nodes.{IsNode};
 ghost use Rattle.sedtext.specs.Costs.{Pays};

@@ -1,8 +1,7 @@
 //! A few bytes, one of which stands at a fixed distance after the beginning of every match: the rarest are sought, and the
 //! next rarest are compared with what stands there.
 ghost use Rattle.std.specs.Prelude.{◌+◌, ◌-◌, ◌*◌, ◌<◌, ◌≤◌, ◌↔◌, Some, length, IfSome, IsTrue};
-ghost use Rattle.sedre.specs.Written.{expression_tree, tree_at};
-ghost use Rattle.sedre.specs.Tree.{Tree};
+ghost use Rattle.sedre.specs.Tree.{expression_tree, tree_at, Tree};
 ghost use Rattle.sedtext.specs.Bytes.{looked_at};
 ghost use Rattle.sedtext.specs.Rare.{StandsAt, HeldAt, FirstFixed, FirstRare, RareNowhere, AllStand, AllHave, AllHeld, AllRare};
 ghost use Rattle.sedtext.specs.Nodes.{IsNode};

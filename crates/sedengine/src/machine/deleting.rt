@@ -5,7 +5,7 @@ ghost use Rattle.sedscript.specs.declared.types.Simple.TheVariants.{Delete, Dele
 ghost use Rattle.sedscript.specs.declared.types.TextUse.TheVariants.{Change};
 ghost use Rattle.sedengine.specs.Move.{acts};
 ghost use Rattle.sedengine.specs.Run.{at_lines, run_setting};
-ghost use Rattle.sedengine.specs.ScriptSetting.{TellsFiles};
+ghost use Rattle.sedengine.specs.State.{TellsFiles};
 ghost use Rattle.sedengine.specs.Steps.{LeavesGiven, MakesMove, weight};
 
 use super::Machine;

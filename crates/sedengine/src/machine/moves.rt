@@ -4,7 +4,7 @@ ghost use Rattle.std.specs.Option.{ForSome};
 ghost use Rattle.sedspace.specs.Stream.{lines_left};
 ghost use Rattle.sedengine.specs.Meters.{Sent};
 ghost use Rattle.sedengine.specs.Run.{Cycles, Ending, at_lines, run_setting, starts_cycle, outcome, input_of};
-ghost use Rattle.sedengine.specs.ScriptSetting.{TellsFiles};
+ghost use Rattle.sedengine.specs.State.{TellsFiles};
 ghost use Rattle.sedengine.specs.Steps.{LeavesLines, Steps, weight};
 
 use super::Machine;

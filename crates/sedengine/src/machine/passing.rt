@@ -2,7 +2,7 @@
 ghost use Rattle.std.specs.Prelude.{◌≡◌, ◌<◌, ◌≤◌, ◌+◌, ◌*◌, [], ◌∷◌, None, OnOk, IfSome, IsTrue, ℕ, List, is_some, length, take, true};
 ghost use Rattle.std.specs.Option.{ForSome};
 ghost use Rattle.sedscript.specs.Ranges.{IsOneOf};
-ghost use Rattle.sedspace.specs.Lines.{AreWholeLines};
+ghost use Rattle.sedspace.specs.Stream.{AreWholeLines};
 ghost use Rattle.sedspace.specs.Stream.{lines_left};
 ghost use Rattle.sedengine.specs.State.{begin};
 ghost use Rattle.sedengine.specs.Calls.{ReadsLines, Delivers, end_of};

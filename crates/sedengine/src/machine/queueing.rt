@@ -1,11 +1,10 @@
 //! The queue: the commands `a` and `r`, and the places at which it is written (XCU sed, "Editing Commands in sed").
 ghost use Rattle.std.specs.Prelude.{◌≡◌, ◌<◌, ◌≤◌, ◌+◌, [], ◌∷◌, Ok, OnOk, OnErr, ℕ, List, slice_get, if◌then◌else◌};
 ghost use Rattle.std.specs.Io.KnownBytes.{Keeps};
-ghost use Rattle.sedengine.specs.State.{Task, flush, print_pattern};
+ghost use Rattle.sedengine.specs.State.{Task, flush, print_pattern, TellsFiles};
 ghost use Rattle.sedengine.specs.Move.{line_to, then_do};
 ghost use Rattle.sedengine.specs.Calls.{Puts, DeliversAlone};
 ghost use Rattle.sedengine.specs.Run.{at_lines, run_setting};
-ghost use Rattle.sedengine.specs.ScriptSetting.{TellsFiles};
 ghost use Rattle.sedengine.specs.Steps.{LeavesGiven, Moves, weight};
 ghost use Rattle.sedengine.specs.Inside.{IsEmptied, CommandQueues, entry_by, tasks_of};
 ghost use Rattle.sedengine.specs.Queueing.{QueuesOrFull, flushed, with_turns};

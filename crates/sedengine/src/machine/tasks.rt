@@ -2,11 +2,10 @@
 ghost use Rattle.std.specs.Prelude.{◌≡◌, ◌<◌, ◌≤◌, [], ◌∷◌, None, Err, OnOk, ℕ, List, length};
 ghost use Rattle.std.specs.Option.{ForSome};
 ghost use Rattle.sedspace.specs.Stream.{lines_left};
-ghost use Rattle.sedengine.specs.State.{begin, rebegin, do_at, print_pattern, flush};
+ghost use Rattle.sedengine.specs.State.{begin, rebegin, do_at, print_pattern, flush, TellsFiles};
 ghost use Rattle.sedengine.specs.Meters.{SinkView};
 ghost use Rattle.sedengine.specs.Calls.{NamesNone, ReadsAlone};
 ghost use Rattle.sedengine.specs.Run.{at_lines, run_setting};
-ghost use Rattle.sedengine.specs.ScriptSetting.{TellsFiles};
 ghost use Rattle.sedengine.specs.Steps.{KeepsRun, LeavesGiven, Moves, Steps, weight};
 
 use super::Machine;

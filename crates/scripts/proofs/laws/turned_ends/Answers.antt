@@ -1,5 +1,5 @@
 use Rattle.std.proofs.Common.{subst}
-use Rattle.sedengine.specs.Devices.{Gained}
+use Rattle.sedengine.specs.Ends.{Gained}
 use Rattle.scripts.proofs.TurnedEnds.{turned_ends as law}
 use Rattle.scripts.proofs.laws.turned_ends.Goals as goal
 

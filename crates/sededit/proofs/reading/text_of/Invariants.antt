@@ -1,7 +1,7 @@
 use Rattle.std.proofs.Common.{ℕ, List, [], drop, map}
 use Rattle.sededit.specs.CommandLine.{given}
 use Rattle.sededit.specs.Program.{MakesText}
-use Rattle.sededit.specs.Reading.{OnlyReadsScripts}
+use Rattle.sededit.specs.Files.{OnlyReadsScripts}
 use Rattle.sededit.proofs.reading.text_of.Given as goal
 
 -- what the parts left make of the text is what all parts make

@@ -1,7 +1,7 @@
 use Rattle.std.proofs.Common.{◌≡◌, ℕ, List, Option, Some, ap, subst, sym, ◌∙◌, arith}
 use Rattle.std.specs.Prelude.{slice_get}
 use Rattle.std.proofs.lemmas.Option.{slice_get-get_or}
-use Rattle.sedre.specs.Written.{WrittenExpression, expression_tree}
+use Rattle.sedre.specs.Tree.{WrittenExpression, expression_tree}
 use Rattle.sedmatch.specs.Candidates.{IsBefore, NoMatchBefore}
 use Rattle.sedengine.proofs.BlockLemmas.{none_found}
 use Rattle.sedengine.proofs.block.clear_for.Goals as goal

@@ -1,6 +1,7 @@
 use Rattle.std.proofs.Common.{length, take, subst, sym, ap, ◌∙◌, arith}
 use Rattle.std.proofs.Math.Seq.{take-length}
-use Rattle.sedspace.specs.Lines.{lines, AreWholeLines}
+use Rattle.sedspace.specs.Lines.{lines}
+use Rattle.sedspace.specs.Stream.{AreWholeLines}
 use Rattle.sedengine.proofs.BlockLemmas.{whole_count}
 use Rattle.sedengine.proofs.block.extent_of.Goals as goal
 

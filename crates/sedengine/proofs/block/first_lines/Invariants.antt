@@ -1,6 +1,7 @@
 use Rattle.std.proofs.Common.{◌≡◌, ◌≤◌, take}
 use Rattle.std.specs.List.{count_by}
-use Rattle.sedspace.specs.Lines.{is_newline, AreWholeLines}
+use Rattle.sedspace.specs.Lines.{is_newline}
+use Rattle.sedspace.specs.Stream.{AreWholeLines}
 use Rattle.sedengine.proofs.block.first_lines.Given as goal
 
 abbrev pub invariant-bytes : goal.invariant-bytes

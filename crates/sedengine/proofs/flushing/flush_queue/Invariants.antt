@@ -1,9 +1,8 @@
 use Rattle.std.proofs.Common.{◌≡◌, ◌≤◌, ◌∷◌, ℕ, List, drop, Ok}
 use Rattle.std.specs.Io.KnownBytes.{Keeps}
-use Rattle.sedengine.specs.State.{Task, flush, State, Setting}
+use Rattle.sedengine.specs.State.{Task, flush, State, Setting, TellsFiles}
 use Rattle.sedengine.specs.Calls.{Delivers}
 use Rattle.sedengine.specs.Ends.{WithinLimits}
-use Rattle.sedengine.specs.ScriptSetting.{TellsFiles}
 use Rattle.sedengine.specs.Inside.{entries_of}
 use Rattle.sedengine.proofs.Entries.{Reached, at_entries}
 use Rattle.sedengine.proofs.flushing.flush_queue.Given as goal

@@ -1,5 +1,5 @@
 use Rattle.std.proofs.Common.{[], ◌∷◌, ◌++◌, ◌∙◌, ap, arith}
-use Rattle.sedre.specs.Written.{WrittenExpression}
+use Rattle.sedre.specs.Tree.{WrittenExpression}
 use Rattle.sedengine.proofs.Fitting.{first_more, fits_more, fits_none, seek_all}
 use Rattle.sedengine.proofs.matchers.matchers_of.Goals as goal
 

@@ -1,5 +1,5 @@
 use Rattle.std.proofs.Common.{◌<◌, ◌≤◌, ◌∙◌, Some, length, arith, ap, sym}
-use Rattle.sedre.specs.Written.{WrittenExpression}
+use Rattle.sedre.specs.Tree.{WrittenExpression}
 use Rattle.std.proofs.lemmas.Option.{slice_get-get_or, slice_get_within}
 use Rattle.sedengine.proofs.Fitting.{fits_at, most_next}
 use Rattle.sedengine.proofs.matchers.most_nodes.Goals as goal

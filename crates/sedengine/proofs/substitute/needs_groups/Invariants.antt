@@ -1,5 +1,5 @@
 use Rattle.std.proofs.Common.{◌≡◌, drop}
-use Rattle.sedscript.specs.Replacement.{pieces_in}
+use Rattle.sedscript.specs.Pieces.{pieces_in}
 use Rattle.sedengine.specs.SubstituteParts.{has_group}
 use Rattle.sedengine.proofs.substitute.needs_groups.Given as goal
 

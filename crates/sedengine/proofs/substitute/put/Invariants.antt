@@ -1,5 +1,5 @@
 use Rattle.std.proofs.Common.{◌≡◌, ◌++◌, drop}
-use Rattle.sedscript.specs.Replacement.{GroupsWithin, pieces_in}
+use Rattle.sedscript.specs.Pieces.{GroupsWithin, pieces_in}
 use Rattle.sedengine.specs.Substitute.{put_for}
 use Rattle.sedengine.specs.SubstituteParts.{with_groups}
 use Rattle.sedengine.proofs.substitute.put.Given as goal

@@ -1,5 +1,5 @@
 use Rattle.std.proofs.Common.{◌∙◌, [], ◌∷◌, sym, subst}
-use Rattle.sedscript.specs.Replacement.{pieces_in}
+use Rattle.sedscript.specs.Pieces.{pieces_in}
 use Rattle.sedscript.specs.declared.substitution.Part.{Part}
 use Rattle.sedengine.specs.Substitute.{put_for}
 use Rattle.sedengine.specs.SubstituteParts.{Appends, with_groups}

@@ -1,5 +1,5 @@
 use Rattle.std.proofs.Common.{length, refl, subst, arith}
-use Rattle.sedre.specs.Written.{expression_tree}
+use Rattle.sedre.specs.Tree.{expression_tree}
 use Rattle.sedmatch.specs.Direct.{SpannedAs}
 use Rattle.sedtext.proofs.CountLemmas.{least_none}
 use Rattle.sedmatch.proofs.CandidateLemmas.{byte_before, byte_run_before, byte_run_end_before, choice_before, counts_byte, counts_choice, counts_literal, literal_before}

@@ -1,5 +1,5 @@
 use Rattle.std.proofs.Common.{◌∙◌, ◌↔◌, length, IsTrue, subst, sym}
-use Rattle.sedre.specs.Written.{expression_tree}
+use Rattle.sedre.specs.Tree.{expression_tree}
 use Rattle.sedtext.specs.Spans.{SomeFound}
 use Rattle.sedmatch.specs.Direct.{rate}
 use Rattle.sedmatch.proofs.DirectLemmas.{answer_cost, answer_passes, answer_some}

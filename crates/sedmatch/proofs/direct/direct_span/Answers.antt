@@ -1,4 +1,4 @@
-use Rattle.sedre.specs.Written.{expression_tree}
+use Rattle.sedre.specs.Tree.{expression_tree}
 use Rattle.sedmatch.proofs.DirectLemmas.{direct_answer, looks_at_match, looks_from, span_lies}
 use Rattle.sedmatch.proofs.direct.direct_span.Goals as goal
 

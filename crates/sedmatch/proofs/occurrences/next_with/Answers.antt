@@ -1,6 +1,6 @@
 use Rattle.std.proofs.Common.{◌≡◌, ℕ, Option, None, Some, IfSome, length, sym, subst, arith}
 use Rattle.std.specs.Option.{unwrap_or}
-use Rattle.sedre.specs.Written.{expression_tree}
+use Rattle.sedre.specs.Tree.{expression_tree}
 use Rattle.sedtext.specs.Following.{EndsWithin, Occurs, next_span}
 use Rattle.sedtext.specs.Matching.{found}
 use Rattle.sedtext.proofs.FollowingLemmas.{if_occurs}

@@ -1,6 +1,6 @@
 use Rattle.sedpass.proofs.DecideLemmas.{starts_due}
 use Rattle.sedpass.specs.Decide.{told_of, undecided}
-use Rattle.sedre.specs.Written.{expression_tree}
+use Rattle.sedre.specs.Tree.{expression_tree}
 use Rattle.sedmatch.proofs.passes.groups_with.Goals as goal
 
 pub returns-clause-entered : goal.returns-clause-entered

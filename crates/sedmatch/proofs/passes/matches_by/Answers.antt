@@ -1,5 +1,5 @@
 use Rattle.std.proofs.Common.{length}
-use Rattle.sedre.specs.Written.{expression_tree}
+use Rattle.sedre.specs.Tree.{expression_tree}
 use Rattle.sedpass.proofs.CountLemmas.{passes_later}
 use Rattle.sedmatch.proofs.PassLemmas.{any_serves, matches_past, search_again}
 use Rattle.sedmatch.proofs.passes.matches_by.Goals as goal

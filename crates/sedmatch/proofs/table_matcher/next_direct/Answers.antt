@@ -1,6 +1,6 @@
 use Rattle.std.proofs.Common.{◌≡◌, ◌∙◌, ◌+◌, ◌-◌, ◌*◌, ◌≤◌, true, false, IfSome, length, refl, sym, subst}
 use Rattle.std.specs.Option.{unwrap_or}
-use Rattle.sedre.specs.Written.{expression_tree}
+use Rattle.sedre.specs.Tree.{expression_tree}
 use Rattle.sedre.specs.Steps.{TakesAtLeast}
 use Rattle.sedtext.specs.Costs.{Pays}
 use Rattle.sedtext.specs.Following.{LiesOn, bytes_passed}

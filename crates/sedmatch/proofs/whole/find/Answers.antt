@@ -1,5 +1,5 @@
 use Rattle.std.proofs.Common.{◌≡◌, ◌+◌, ◌-◌, ◌*◌, ◌∙◌, ℕ, None, Some, length, refl, ap, sym, subst, arith}
-use Rattle.sedre.specs.Written.{WrittenExpression, expression_tree}
+use Rattle.sedre.specs.Tree.{WrittenExpression, expression_tree}
 use Rattle.sedre.specs.Steps.{Takes}
 use Rattle.sedtext.specs.Answer.{IsComputed, SpanAnswer}
 use Rattle.sedtext.specs.Caps.{IsReport}

@@ -1,5 +1,5 @@
 use Rattle.std.proofs.Common.{◌+◌, ◌*◌, length, subst}
-use Rattle.sedre.specs.Written.{WrittenExpression, expression_tree}
+use Rattle.sedre.specs.Tree.{WrittenExpression, expression_tree}
 use Rattle.sedre.specs.Steps.{Takes}
 use Rattle.sedtext.specs.Answer.{SpanAnswer}
 use Rattle.sedpass.proofs.OccurrenceLemmas.{answer_found}

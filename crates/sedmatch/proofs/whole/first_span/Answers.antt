@@ -1,5 +1,5 @@
 use Rattle.std.proofs.Common.{length, refl}
-use Rattle.sedre.specs.Written.{expression_tree}
+use Rattle.sedre.specs.Tree.{expression_tree}
 use Rattle.sedmatch.specs.declared.scratch.Desk.{Desk}
 use Rattle.sedmatch.proofs.PassLemmas.{shared_serves}
 use Rattle.sedmatch.proofs.OnceLemmas.{looks_at_span, once_again, once_room, once_serves, span_again}

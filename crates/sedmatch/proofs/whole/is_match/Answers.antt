@@ -1,5 +1,5 @@
 use Rattle.std.proofs.Common.{◌↔◌, IsTrue, refl, subst}
-use Rattle.sedre.specs.Written.{WrittenExpression, expression_tree}
+use Rattle.sedre.specs.Tree.{WrittenExpression, expression_tree}
 use Rattle.sedtext.specs.Following.{PassesOver}
 use Rattle.sedtext.specs.Spans.{SomeFound}
 use Rattle.sedtext.proofs.MatchingLemmas.{same_test}

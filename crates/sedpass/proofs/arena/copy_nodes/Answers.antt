@@ -2,7 +2,7 @@ use Rattle.std.proofs.Common.{refl, ◌+◌, ◌++◌, ◌∷◌, [], length, ap
 use Rattle.std.specs.Prelude.{slice_get, take}
 use Rattle.std.proofs.lemmas.List.{take_more, take_all}
 use Rattle.std.proofs.lemmas.Option.{slice_get_within, get_or_from_slice_get}
-use Rattle.sedre.specs.Written.{tree_at}
+use Rattle.sedre.specs.Tree.{tree_at}
 use Rattle.sedpass.specs.Prepared.{IsFacts, AreFacts}
 use Rattle.sedpass.proofs.CountLemmas.{least_none, least_one}
 use Rattle.sedpass.proofs.FactLemmas.{facts_more}

@@ -1,5 +1,5 @@
 use Rattle.std.proofs.Common.{IfSome, subst}
-use Rattle.sedre.specs.Written.{expression_tree}
+use Rattle.sedre.specs.Tree.{expression_tree}
 use Rattle.sedtext.specs.Following.{PassesOver}
 use Rattle.sedpass.proofs.CountLemmas.{passes_later, passes_told}
 use Rattle.sedpass.proofs.find.is_match.Goals as goal

@@ -5,7 +5,7 @@ use Rattle.sedpass.specs.Turns.{AreReady, AreShort, Progress, weights}
 use Rattle.sedpass.specs.Walks.{LooksAtEntered}
 use Rattle.sedpass.proofs.WalkLemmas.{still, goes_on, ended, looked}
 use Rattle.sedre.specs.Sizes.{size}
-use Rattle.sedre.specs.Written.{tree_at, expression_tree}
+use Rattle.sedre.specs.Tree.{tree_at, expression_tree}
 use Rattle.sedpass.specs.declared.groups.Task.{Task}
 use Rattle.sedpass.specs.declared.groups.Task.TheVariants.{Apart}
 use Rattle.sedpass.proofs.SpineLemmas.{decides, decides_due, all_paid, first_paid, least_same, least_on}

@@ -1,5 +1,5 @@
 use Rattle.std.proofs.Common.{sym, subst, arith}
-use Rattle.sedre.specs.Written.{tree_at}
+use Rattle.sedre.specs.Tree.{tree_at}
 use Rattle.sedtext.specs.Caps.{LastCut}
 use Rattle.sedtext.specs.Reach.{At}
 use Rattle.sedtext.proofs.SpanLemmas.{Matches-forward}

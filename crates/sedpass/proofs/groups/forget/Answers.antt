@@ -1,5 +1,5 @@
 use Rattle.std.proofs.Common.{sym, subst}
-use Rattle.sedre.specs.Written.{tree_at}
+use Rattle.sedre.specs.Tree.{tree_at}
 use Rattle.sedpass.specs.Decide.{told_of}
 use Rattle.sedpass.specs.Turns.{Blank}
 use Rattle.sedpass.proofs.TurnLemmas.{drop_blank}

@@ -1,5 +1,5 @@
 use Rattle.std.proofs.Common.{◌-◌, length, inl, inr, refl, sym, ap, ◌∙◌, subst, arith}
-use Rattle.sedre.specs.Written.{tree_at}
+use Rattle.sedre.specs.Tree.{tree_at}
 use Rattle.sedtext.specs.Reach.{At}
 use Rattle.sedpass.specs.Lengths.{length_of}
 use Rattle.sedpass.specs.Decide.{nodes_in, text_in}

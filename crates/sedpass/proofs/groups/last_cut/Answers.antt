@@ -1,5 +1,5 @@
 use Rattle.std.proofs.Common.{◌+◌, ◌*◌, ◌-◌, length, sym, ap, ◌∙◌, subst, inl, arith}
-use Rattle.sedre.specs.Written.{tree_at}
+use Rattle.sedre.specs.Tree.{tree_at}
 use Rattle.sedpass.specs.Decide.{nodes_in, text_in}
 use Rattle.sedpass.specs.Lengths.{length_of}
 use Rattle.sedpass.specs.Regions.{StopsAt, RunsTo}

@@ -4,7 +4,7 @@ use Rattle.sedre.specs.Steps.{TakesAtLeast}
 use Rattle.sedpass.proofs.SpineLemmas.{least_same}
 use Rattle.sedpass.specs.Turns.{Progress}
 use Rattle.sedpass.specs.Walks.{drop_groups}
-use Rattle.sedre.specs.Written.{tree_at}
+use Rattle.sedre.specs.Tree.{tree_at}
 use Rattle.sedpass.proofs.WalkLemmas.{forgets}
 use Rattle.sedpass.proofs.groups.work.Goals as goal
 

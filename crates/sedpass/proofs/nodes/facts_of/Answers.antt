@@ -1,6 +1,5 @@
 use Rattle.std.proofs.Common.{◌+◌, refl, ◌∙◌, sym, ap, subst, Some, arith}
-use Rattle.sedre.specs.Written.{tree_at}
-use Rattle.sedre.specs.Tree.{star}
+use Rattle.sedre.specs.Tree.{tree_at, star}
 use Rattle.sedpass.specs.Prepared.{IsFacts}
 use Rattle.sedre.specs.declared.types.Node.TheVariants.{Empty, Set, Begin, End, Seq, Alt, Group, Star, Opt}
 use Rattle.sedtext.proofs.NodeLemmas.{parts_below}

@@ -1,6 +1,6 @@
 use Rattle.std.proofs.Common.{ℕ, ◌+◌, true, false, Option, None, length, refl, arith}
 use Rattle.std.specs.Prelude.{nat_lt, if◌then◌else◌}
-use Rattle.sedre.specs.Written.{expression_tree}
+use Rattle.sedre.specs.Tree.{expression_tree}
 use Rattle.sedtext.specs.Matching.{found}
 use Rattle.sedpass.specs.Search.{owed_search}
 use Rattle.sedpass.proofs.SearchLemmas.{looks_past, looks_to_end}

@@ -1,5 +1,5 @@
 use Rattle.std.proofs.Common.{◌+◌, ◌<◌, length, sym, subst, arith}
-use Rattle.sedre.specs.Written.{expression_tree}
+use Rattle.sedre.specs.Tree.{expression_tree}
 use Rattle.sedre.specs.Steps.{Takes}
 use Rattle.sedtext.specs.Matching.{found}
 use Rattle.sedpass.proofs.OccurrenceLemmas.{answer_found, answer_further, further, further_found}

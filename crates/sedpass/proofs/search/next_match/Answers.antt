@@ -1,5 +1,5 @@
 use Rattle.std.proofs.Common.{◌≡◌, ◌≤◌, false, length, arith}
-use Rattle.sedre.specs.Written.{expression_tree}
+use Rattle.sedre.specs.Tree.{expression_tree}
 use Rattle.sedtext.proofs.SpanLemmas.{Matches-forward}
 use Rattle.sedpass.specs.Search.{owed_kept}
 use Rattle.sedpass.proofs.SearchLemmas.{begun_each, hit_cost, hit_each, kept_small, later_answer, looks_later, nothing_cost, nothing_each, tired_cost, tired_each, unbegun}

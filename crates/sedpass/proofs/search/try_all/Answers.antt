@@ -1,6 +1,6 @@
 use Rattle.std.proofs.Common.{◌≡◌, ◌+◌, ◌-◌, ◌*◌, ◌≤◌, ℕ, length, Option, None, Some, refl, subst, sym, arith}
 use Rattle.sedtext.specs.Reach.{IsLongestFrom}
-use Rattle.sedre.specs.Written.{expression_tree}
+use Rattle.sedre.specs.Tree.{expression_tree}
 use Rattle.sedtext.proofs.SpanLemmas.{Matches-forward, Matches-within}
 use Rattle.std.specs.Prelude.{IfSome}
 use Rattle.sedpass.proofs.CountLemmas.{least_none, least_both}

@@ -1,6 +1,6 @@
 use Rattle.std.proofs.Common.{◌∙◌, sym, ap, drop, None, if◌then◌else◌, arith, refl}
 use Rattle.std.proofs.lemmas.Grind.{common_steps}
-use Rattle.sedre.specs.Delimited.{delimiter_at, first_delimiter}
+use Rattle.sedre.specs.Brackets.{delimiter_at, first_delimiter}
 use Rattle.sedre.proofs.DelimiterLemmas.{stepped}
 use Rattle.sedre.proofs.delimiter.delimited.Goals as goal
 

@@ -1,5 +1,5 @@
 use Rattle.std.proofs.Common.{◌≡◌, ◌≤◌, ◌-◌, length, drop}
-use Rattle.sedre.specs.Delimited.{delimiter_at, first_delimiter}
+use Rattle.sedre.specs.Brackets.{delimiter_at, first_delimiter}
 use Rattle.sedre.proofs.delimiter.delimited.Given as goal
 
 abbrev pub invariant-loop-place : goal.invariant-loop-place

@@ -1,6 +1,6 @@
 use Rattle.std.proofs.Common.{ℕ, sym, subst, ◌∙◌, length}
 use Rattle.sedscript.specs.Answers.{as_addressed, Agrees}
-use Rattle.sedscript.specs.Addresses.{address_at, line_of}
+use Rattle.sedscript.specs.Items.{address_at, line_of}
 use Rattle.std.proofs.Common.{Some}
 use Rattle.sedscript.specs.Bytes.{bytes_between, with_digits}
 use Rattle.sedscript.proofs.Coming.{gives_plain, line_comes, no_byte, last_address, no_address}

@@ -1,6 +1,6 @@
 use Rattle.std.proofs.Common.{length}
 use Rattle.sedscript.specs.Answers.{as_headed}
-use Rattle.sedscript.specs.Addresses.{Addressed, address_at, addresses_at, after_first}
+use Rattle.sedscript.specs.Items.{Addressed, address_at, addresses_at, after_first}
 use Rattle.sedscript.proofs.Coming.{comes_then, comes_err, comes_as_err}
 use Rattle.sedscript.proofs.addresses.addresses_at.Goals as goal
 

@@ -1,8 +1,7 @@
 use Rattle.std.proofs.Common.{ℕ, sym, ap, ◌∙◌, length, Ok, slice_get}
 use Rattle.sedscript.specs.declared.items.Addresses.{Addresses}
 use Rattle.sedscript.specs.Bytes.{is_byte}
-use Rattle.sedscript.specs.Reading.{plainly}
-use Rattle.sedscript.specs.Addresses.{after_first}
+use Rattle.sedscript.specs.Items.{plainly, after_first}
 use Rattle.sedscript.proofs.Coming.{gives_plain, only_first}
 use Rattle.sedscript.proofs.addresses.after_first.Goals as goal
 

@@ -1,9 +1,8 @@
 use Rattle.std.proofs.Common.{arith, ◌≡◌, inl, sym, subst, ◌∙◌, ◌⊎◌, length}
 use Rattle.sedscript.specs.declared.types.TheConstants.{NO_MEMORY}
 use Rattle.sedscript.specs.FirstFault.{Fails}
-use Rattle.sedscript.specs.Reading.{Reading}
+use Rattle.sedscript.specs.Items.{Reading, Addressed}
 use Rattle.sedscript.specs.Answers.{as_addressed}
-use Rattle.sedscript.specs.Addresses.{Addressed}
 use Rattle.sedscript.proofs.Coming.{comes_err, comes_as_err, match_open, empty_comes, match_is, match_comes}
 use Rattle.sedscript.proofs.addresses.match_at.Goals as goal
 

@@ -1,7 +1,6 @@
 use Rattle.std.proofs.Common.{refl, length}
 use Rattle.sedscript.specs.Answers.{as_headed}
-use Rattle.sedscript.specs.Reading.{plainly}
-use Rattle.sedscript.specs.Addresses.{Addressed, address_at, second_at, with_second}
+use Rattle.sedscript.specs.Items.{plainly, Addressed, address_at, second_at, with_second}
 use Rattle.sedscript.proofs.Coming.{comes_then, comes_err, comes_as_err, comes_plain}
 use Rattle.sedscript.proofs.addresses.second_at.Goals as goal
 

@@ -1,7 +1,7 @@
 use Rattle.std.proofs.Common.{◌≡◌, ◌⊎◌, ℕ, sym, subst, Ok}
 use Rattle.sedscript.specs.declared.types.ScriptFault.{ScriptFault}
 use Rattle.sedscript.specs.declared.types.TheConstants.{NO_MEMORY}
-use Rattle.sedscript.specs.Reading.{plainly, expression}
+use Rattle.sedscript.specs.Items.{plainly, expression}
 use Rattle.sedscript.specs.FirstFault.{Fails}
 use Rattle.sedscript.proofs.Coming.{fails_as_read, expression_comes}
 use Rattle.sedscript.proofs.expressions.expression_at.Goals as goal

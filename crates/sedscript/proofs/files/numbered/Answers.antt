@@ -1,5 +1,5 @@
 use Rattle.std.proofs.Common.{◌≡◌, ◌+◌, ◌∙◌, arith, subst, sym, ap, take, ℕ, List, Option}
-use Rattle.sedscript.specs.Files.{files_in, file_at}
+use Rattle.sedscript.specs.Targets.{files_in, file_at}
 use Rattle.sedscript.specs.Tables.{first_number, with_name, NumbersAre}
 use Rattle.sedscript.proofs.FileTables.{files_step}
 use Rattle.sedscript.proofs.files.numbered.Goals as goal

@@ -1,5 +1,5 @@
 use Rattle.std.proofs.Common.{◌≡◌, ◌≤◌, ◌-◌, length, map, take, ℕ, Vec, Global}
-use Rattle.sedscript.specs.Files.{files_in}
+use Rattle.sedscript.specs.Targets.{files_in}
 use Rattle.sedscript.specs.Tables.{first_number, NumbersAre}
 use Rattle.sedscript.proofs.files.numbered.Given as goal
 

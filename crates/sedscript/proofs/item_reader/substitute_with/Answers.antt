@@ -1,7 +1,7 @@
 use Rattle.std.proofs.Common.{arith, ◌≡◌, ◌⊎◌, ℕ, sym, subst, refl, length}
 use Rattle.sedscript.specs.declared.types.TheConstants.{NO_MEMORY}
 use Rattle.sedscript.specs.declared.items.Function.{Function}
-use Rattle.sedscript.specs.Reading.{Reading}
+use Rattle.sedscript.specs.Items.{Reading}
 use Rattle.sedscript.specs.FirstFault.{Fails}
 use Rattle.sedscript.specs.Answers.{Comes, as_function}
 use Rattle.sedscript.proofs.Coming.{comes_err, comes_as_err, comes_plain, substitute_empty, substitute_is, substitute_comes, functions_agree}

@@ -1,5 +1,5 @@
 use Rattle.std.proofs.Common.{◌≡◌, ◌≤◌, ◌-◌, ◌++◌, length, drop}
-use Rattle.sedscript.specs.Replacement.{pieces_of, pieces_from}
+use Rattle.sedscript.specs.Strings.{pieces_of, pieces_from}
 use Rattle.sedscript.specs.Answers.{pieces_with}
 use Rattle.sedscript.proofs.replacement.parts_of.Given as goal
 

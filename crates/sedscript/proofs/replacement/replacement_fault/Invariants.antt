@@ -1,5 +1,5 @@
 use Rattle.std.proofs.Common.{◌≡◌, ◌≤◌, ◌-◌, ◌+◌, length, drop, false, true}
-use Rattle.sedscript.specs.Replacement.{replacement_fault}
+use Rattle.sedscript.specs.Strings.{replacement_fault}
 use Rattle.sedscript.proofs.replacement.replacement_fault.Given as goal
 
 abbrev pub invariant-bytes : goal.invariant-bytes

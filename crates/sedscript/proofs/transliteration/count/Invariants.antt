@@ -1,5 +1,5 @@
 use Rattle.std.proofs.Common.{◌≡◌, ◌≤◌, ◌-◌, ◌+◌, length, drop, false, true}
-use Rattle.sedscript.specs.Transliteration.{chars_from}
+use Rattle.sedscript.specs.Strings.{chars_from}
 use Rattle.sedscript.proofs.transliteration.count.Given as goal
 
 abbrev pub invariant-bytes : goal.invariant-bytes

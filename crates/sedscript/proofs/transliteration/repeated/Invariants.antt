@@ -1,5 +1,5 @@
 use Rattle.std.proofs.Common.{◌≡◌, ◌≤◌, ◌-◌, ◌+◌, ℕ, List, [], length, drop, false, true}
-use Rattle.sedscript.specs.Transliteration.{repeated_in, chars_from}
+use Rattle.sedscript.specs.Strings.{repeated_in, chars_from}
 use Rattle.sedscript.specs.Answers.{marks_of}
 use Rattle.sedscript.proofs.transliteration.repeated.Given as goal
 

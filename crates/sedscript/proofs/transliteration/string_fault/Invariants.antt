@@ -1,5 +1,5 @@
 use Rattle.std.proofs.Common.{◌≡◌, ◌≤◌, ◌-◌, ◌+◌, length, drop, false, true}
-use Rattle.sedscript.specs.Transliteration.{string_fault}
+use Rattle.sedscript.specs.Strings.{string_fault}
 use Rattle.sedscript.proofs.transliteration.string_fault.Given as goal
 
 abbrev pub invariant-bytes : goal.invariant-bytes

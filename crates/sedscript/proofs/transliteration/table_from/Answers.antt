@@ -1,5 +1,5 @@
 use Rattle.std.proofs.Common.{refl, ◌≡◌, ℕ, ◌+◌, ◌-◌, ◌<◌, List, length, drop, set, ap, ◌∙◌, arith, get_or, length-set}
-use Rattle.sedscript.specs.Transliteration.{table_of}
+use Rattle.sedscript.specs.Strings.{table_of}
 use Rattle.sedscript.proofs.ByteTables.{table_start, table_step, table_length}
 use Rattle.sedscript.proofs.transliteration.table_from.Goals as goal
 

@@ -1,5 +1,5 @@
 use Rattle.std.proofs.Common.{◌≡◌, ◌≤◌, length, drop}
-use Rattle.sedscript.specs.Transliteration.{table_of}
+use Rattle.sedscript.specs.Strings.{table_of}
 use Rattle.sedscript.proofs.transliteration.table_from.Given as goal
 
 abbrev pub invariant-pairs : goal.invariant-pairs

@@ -1,5 +1,5 @@
 use Rattle.std.proofs.Common.{arith}
-use Rattle.sedre.specs.Written.{tree_at}
+use Rattle.sedre.specs.Tree.{tree_at}
 use Rattle.sedtext.proofs.RareLemmas.{on_set, have_set, have_last}
 use Rattle.sedtext.proofs.rare.rare_from.Goals as goal
 

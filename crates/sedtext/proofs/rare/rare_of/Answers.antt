@@ -1,5 +1,5 @@
 use Rattle.std.proofs.Common.{◌≡◌, ◌-◌, length, subst, arith}
-use Rattle.sedre.specs.Written.{tree_at}
+use Rattle.sedre.specs.Tree.{tree_at}
 use Rattle.sedtext.specs.Rare.{AllRare}
 use Rattle.sedtext.proofs.rare.rare_of.Goals as goal
 

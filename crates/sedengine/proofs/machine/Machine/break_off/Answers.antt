@@ -1,6 +1,6 @@
 use Rattle.std.proofs.Common.{◌≡◌, ◌≤◌, ◌+◌, ◌-◌, List, ℕ, length, take, drop, length-take-le, subst, sym, ap, ◌∙◌, arith, take-take}
 use Rattle.sedspace.specs.Spaces.{Contents}
-use Rattle.sedspace.specs.Lines.{AreWholeLines}
+use Rattle.sedspace.specs.Stream.{AreWholeLines}
 use Rattle.sedengine.proofs.Passes.{breaks_off_seen, brought_is, newline_there, whole_through}
 use Rattle.sedengine.proofs.machine.Machine.break_off.Goals as goal
 

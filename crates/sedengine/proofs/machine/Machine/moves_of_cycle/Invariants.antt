@@ -1,7 +1,7 @@
 use Rattle.std.proofs.Common.{◌≡◌, ◌+◌, ℕ, List, None, Some, Ok}
 use Rattle.sedspace.specs.Stream.{lines_left}
 use Rattle.sedengine.specs.Run.{InOneCycle, run_setting, at_lines}
-use Rattle.sedengine.specs.ScriptSetting.{TellsFiles}
+use Rattle.sedengine.specs.State.{TellsFiles}
 use Rattle.sedengine.specs.Steps.{LeavesLines, weight}
 use Rattle.sedengine.proofs.Runs.{Reached}
 use Rattle.sedengine.proofs.machine.Machine.moves_of_cycle.Given as goal

@@ -1,5 +1,5 @@
 use Rattle.std.proofs.Common.{List, ℕ, length-drop, subst, take, arith}
-use Rattle.sedspace.specs.Lines.{AreWholeLines}
+use Rattle.sedspace.specs.Stream.{AreWholeLines}
 use Rattle.sedengine.proofs.Passes.{breaks_seen, nothing_passed, passes_seen, reads_ahead, reads_broken}
 use Rattle.sedengine.proofs.machine.Machine.pass_ahead.Goals as goal
 

@@ -4,7 +4,7 @@ use Rattle.std.specs.Prelude.{slice_get}
 use Rattle.sedscript.specs.declared.substitution.Substitution.{Substitution}
 use Rattle.sedengine.specs.Ends.{reaches}
 use Rattle.sedengine.specs.Run.{RunState, at_lines}
-use Rattle.sedengine.specs.ScriptSetting.{search_in}
+use Rattle.sedengine.specs.State.{search_in}
 use Rattle.sedengine.specs.Substitute.{to_replace, occurrences}
 use Rattle.sedengine.specs.SubstituteCalls.{ReplacesIn}
 use Rattle.sedmatch.proofs.RoomLemmas.{room_within}

@@ -1,5 +1,5 @@
 use Rattle.std.proofs.Common.{◌≡◌, ◌∙◌, ap, subst, sym}
-use Rattle.sedre.specs.Written.{expression_tree}
+use Rattle.sedre.specs.Tree.{expression_tree}
 use Rattle.sedmatch.specs.Candidates.{NoMatchBefore}
 use Rattle.sedmatch.specs.Passes.{ArePasses, IsEngine, written_of}
 use Rattle.sedmatch.specs.declared.passes.Passes.{Passes}

@@ -1,5 +1,5 @@
 use Rattle.std.proofs.Common.{◌≡◌, ◌∙◌, ◌↔◌, ◌+◌, ◌*◌, length, IsTrue, ap, refl, subst, sym, arith}
-use Rattle.sedre.specs.Written.{expression_tree}
+use Rattle.sedre.specs.Tree.{expression_tree}
 use Rattle.sedre.specs.Steps.{Takes}
 use Rattle.sedtext.specs.Following.{PassesOver}
 use Rattle.sedtext.specs.Spans.{SomeFound}

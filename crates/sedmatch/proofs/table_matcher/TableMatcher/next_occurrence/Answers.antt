@@ -1,5 +1,5 @@
 use Rattle.std.proofs.Common.{◌≡◌, ◌∙◌, ◌+◌, ◌-◌, ◌*◌, length, IfSome, ap, refl, subst, sym, arith}
-use Rattle.sedre.specs.Written.{expression_tree}
+use Rattle.sedre.specs.Tree.{expression_tree}
 use Rattle.sedre.specs.Steps.{Takes, TakesAtLeast}
 use Rattle.sedtext.specs.Costs.{Pays}
 use Rattle.sedtext.specs.Following.{Occurs, bytes_passed}

@@ -1,5 +1,5 @@
 use Rattle.std.proofs.Common.{sym, ◌∙◌}
-use Rattle.sedre.specs.Classes.{in_class}
+use Rattle.sedre.specs.Sets.{in_class}
 use Rattle.sedre.proofs.ByteLemmas.{filled_more, filled_less}
 use Rattle.sedre.proofs.byte_set.ByteSet.of_class.Goals as goal
 use Rattle.sedre.proofs.byte_set.ByteSet.of_class.Goals.{then-has, else-has}

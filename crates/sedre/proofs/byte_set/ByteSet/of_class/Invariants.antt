@@ -1,6 +1,5 @@
 use Rattle.std.proofs.Common.{◌≡◌, ◌&&◌, nat_lt}
-use Rattle.sedre.specs.Sets.{set_of}
-use Rattle.sedre.specs.Classes.{in_class}
+use Rattle.sedre.specs.Sets.{set_of, in_class}
 use Rattle.sedre.proofs.byte_set.ByteSet.of_class.Given as goal
 
 abbrev pub invariant-loop-b : goal.invariant-loop-b

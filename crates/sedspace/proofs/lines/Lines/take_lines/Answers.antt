@@ -2,7 +2,8 @@ use Rattle.std.proofs.Common.{◌+◌, take, drop, subst}
 use Rattle.std.specs.Option.{option_map}
 use Rattle.std.specs.Io.KnownBytes.{prepend_known}
 use Rattle.std.proofs.lemmas.List.{drop-drop}
-use Rattle.sedspace.specs.Lines.{lines, AreWholeLines}
+use Rattle.sedspace.specs.Lines.{lines}
+use Rattle.sedspace.specs.Stream.{AreWholeLines}
 use Rattle.sedspace.specs.Stream.{Stream, GivesLines, lines_left}
 use Rattle.sedspace.proofs.WholeLemmas.{gives_lines}
 use Rattle.sedspace.proofs.lines.Lines.take_lines.Goals as goal

@@ -1,0 +1,17 @@
+-- How an edit ends.
+use Rattle.std.specs.Prelude.{◌≡◌, ℕ, Option, List}
+use Rattle.sedengine.specs.State.{Limits, State, Setting}
+use Rattle.sedengine.specs.Ends.{Cause, BreaksInLine}
+use Rattle.sedengine.specs.DevicesAfter.{TakesInput, more_at}
+use Rattle.sedengine.specs.declared.ends.Ended.{Ended}
+use Rattle.sedengine.specs.declared.ends.Ended.TheVariants.{InputBroken}
+
+-- An edit came to this end, after some moves from its start: the end has its cause there, and of the source no more was
+-- taken than these moves take and what is read ahead. `out` is its output, and `old` and `new` what the source had still to
+-- give. Where the source failed, no whole line is lost.
+pub record EditEnds (l : Limits) (g : Setting) (s : State) (out : List (ℕ × ℕ)) (old new : Option (List ℕ)) (end : Ended) :
+    Type 0 where
+  pub t : ℕ
+  pub cause : Cause l g s out end t
+  pub takes : TakesInput g s old new (more_at l end) t
+  pub broken : end ≡ InputBroken → BreaksInLine g s old new l.space t

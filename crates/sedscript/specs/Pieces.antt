@@ -1,0 +1,19 @@
+-- The pieces of a replacement as a script keeps them.
+use Rattle.std.specs.Prelude.{ℕ, ◌≤◌, List, [], ◌∷◌, ◌++◌, map}
+use Rattle.sedscript.specs.declared.substitution.Part.{Part}
+use Rattle.sedscript.specs.declared.substitution.Part.TheVariants.{Literal, Whole, Group}
+use Rattle.sedscript.specs.declared.substitution.Piece.{Piece}
+use Rattle.sedscript.specs.declared.substitution.Piece.TheVariants.{Literal as literal, Whole as whole, Group as group}
+
+-- the pieces that parts stand for
+abbrev pub pieces_in : List Part → List Piece
+pieces_in [] = []
+pieces_in (Literal bytes ∷ ps) = map literal bytes.items ++ pieces_in ps
+pieces_in (Whole ∷ ps) = whole ∷ pieces_in ps
+pieces_in (Group k ∷ ps) = group k ∷ pieces_in ps
+
+-- the groups of the pieces have numbers from 1 to this one
+abbrev pub GroupsWithin : ℕ → List Piece → Type 0
+GroupsWithin n [] = Unit {0}
+GroupsWithin n (group k ∷ ps) = (1 ≤ k) × (k ≤ n) × GroupsWithin n ps
+GroupsWithin n (other ∷ ps) = GroupsWithin n ps
