@@ -7,6 +7,11 @@ use Rattle.sedtext.specs.Caps.{IsReport}
 use Rattle.sedtext.specs.Groups.{span_of}
 use Rattle.sedtext.specs.Matching.{found, report}
 
+-- the span, if there is one, lies in a text of n bytes
+abbrev pub SpanIn : ℕ → Option (ℕ × ℕ) → Type 0
+SpanIn n None = Unit {0}
+SpanIn n (Some span) = (span.0 ≤ span.1) × (span.1 ≤ n)
+
 -- where the match begins and ends, if there is one
 abbrev pub span_found : Option Found → Option (ℕ × ℕ)
 span_found None = None
@@ -30,8 +35,3 @@ MatchAnswer e w from r =
 -- the answer is the one that is computed: the same span and the same groups, or none
 abbrev pub IsComputed : Tree → List ℕ → ℕ → Option Found → Type 0
 IsComputed e w from r = (span_found r ≡ found e w from) × IfSome r (λ f. f.groups ≡ report e w f.start f.end)
-
--- the span, if there is one, lies in a text of n bytes
-abbrev pub SpanIn : ℕ → Option (ℕ × ℕ) → Type 0
-SpanIn n None = Unit {0}
-SpanIn n (Some span) = (span.0 ≤ span.1) × (span.1 ≤ n)
