@@ -1,24 +1,23 @@
 //! A bench for matching alone: one call of the matcher, again and again over the pieces of a text.
 //!
-//!     matchbench CALL KIND EXPRESSION LENGTH ROUNDS < TEXT
+//!     benches match CALL KIND EXPRESSION LENGTH ROUNDS < TEXT
 //!
-//! CALL is `find` or `span`, the first occurrence with its groups or without, or `match`, by tables that are kept from call to call, or `find-once`, `span-once` or
-//! `match-once`, by the calls that keep nothing. KIND is `basic` or `extended`. The text is cut into pieces of LENGTH bytes, the
-//! last one maybe shorter. Each round makes the call once for each piece, from its beginning on. What is printed is
-//! the number of calls with a hit, so it depends on the words and the text alone: `bench/matching` takes the times.
-#![tactic(auto)]
+//! CALL is `find` or `span`, the first occurrence with its groups or without, or `match`, whether there is one. KIND is `basic` or
+//! `extended`. The text is cut into pieces of LENGTH bytes, the last one maybe shorter. Each round makes the call once for each
+//! piece, from its beginning on. What is printed is the number of calls with a hit, so it depends on the words and the text alone:
+//! `bench/matching` takes the times.
 
 ghost use Rattle.std.specs.Prelude.{◌≡◌, ◌<◌, ◌≤◌, ◌^◌, None, IfOk, IfSome, length};
 ghost use Rattle.sedre.specs.Tree.{expression_tree};
 ghost use Rattle.sedmatch.specs.Following.{Occurs};
-ghost use Rattle.matchbench.specs.Ready.{IsReady};
+ghost use Rattle.benches.specs.Ready.{IsReady};
 
 use anyhow::{Context, Result, bail, ensure};
-use sedmatch::{Occurrences, Scratch, TableMatcher, TableRoom, Text, find, find_span, is_match};
+use sedmatch::{Occurrences, Scratch, TableMatcher, TableRoom, Text};
 use sedre::{Expr, Kind, Steps, read};
 use std::alloc::Global;
 use std::io::Read;
-use std::{env, slice};
+use std::slice;
 
 /// The longest piece, in bytes.
 const MAX_LENGTH: usize = 1 << 20;
@@ -29,18 +28,12 @@ const MAX_NODES: usize = 16384;
 /// A call of the matcher.
 #[derive(Clone, Copy)]
 enum Call {
-    /// The first occurrence and its groups, by tables.
+    /// The first occurrence and its groups.
     Find,
-    /// Where the first occurrence begins and ends, by tables.
+    /// Where the first occurrence begins and ends.
     Span,
-    /// Whether there is one, by tables.
-    Match,
-    /// The match and its groups.
-    FindOnce,
-    /// Where the match begins and ends.
-    SpanOnce,
     /// Whether there is one.
-    MatchOnce,
+    Match,
 }
 
 impl Call {
@@ -50,10 +43,7 @@ impl Call {
             "find" => Ok(Call::Find),
             "span" => Ok(Call::Span),
             "match" => Ok(Call::Match),
-            "find-once" => Ok(Call::FindOnce),
-            "span-once" => Ok(Call::SpanOnce),
-            "match-once" => Ok(Call::MatchOnce),
-            _ => bail!("CALL is find, span or match, or one of these and -once"),
+            _ => bail!("CALL is find, span or match"),
         }
     }
 
@@ -65,15 +55,13 @@ impl Call {
         ensures size { searcher.new.size ≡ searcher.old.size }
     {
         let text = Text::new(piece);
-        let mut steps = Steps::new();
         let scratch = &mut searcher.scratch;
         match self {
             Call::Find => searcher.finds(expr, &text),
             Call::Span => searcher.first(expr, &text).is_some(),
-            Call::Match => searcher.tables.is_match(&text, 0, scratch, &mut steps),
-            Call::FindOnce => find(expr, &text, 0, scratch, &mut steps).is_some(),
-            Call::SpanOnce => find_span(expr, &text, 0, scratch, &mut steps).is_some(),
-            Call::MatchOnce => is_match(expr, &text, 0, scratch, &mut steps),
+            Call::Match => searcher
+                .tables
+                .is_match(&text, 0, scratch, &mut Steps::new()),
         }
     }
 
@@ -223,9 +211,9 @@ impl Job {
     }
 }
 
-fn main(rt: HostRuntime) -> Result<()> {
-    let words: Vec<String> = env::args(&rt)?.skip(1).collect(rt.alloc())?;
-    let job = Job::of(rt.alloc(), words.as_slice())?;
+/// Does what the words ask for, over the text of the standard input.
+pub(crate) fn bench(rt: &HostRuntime, words: &[String]) -> Result<()> {
+    let job = Job::of(rt.alloc(), words)?;
     let mut text = Vec::new(rt.alloc());
     rt.stdin().read_to_end(&mut text)?;
     let hits = job.run(rt.alloc(), text.as_slice())?;

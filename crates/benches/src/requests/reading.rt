@@ -1,7 +1,7 @@
 //! Readers of expressions and scripts, and what searches need.
 
-use crate::given::{NODES, expression_of};
-use crate::marks::{begin, end};
+use crate::requests::given::{NODES, expression_of};
+use crate::requests::marks::{begin, end};
 use anyhow::Result;
 use sedmatch::{Occurrences, Scratch, TableMatcher, TableRoom};
 use sedre::{Expr, ExprFault, Kind, Steps};

@@ -1,5 +1,5 @@
 use Rattle.std.proofs.Common.{◌∙◌, ap, arith, length, sym}
-use Rattle.makers.proofs.editing.cycles.Goals as goal
+use Rattle.benches.proofs.requests.editing.cycles.Goals as goal
 
 pub loop-cycle-preserved : goal.loop-cycle-preserved
 loop-cycle-preserved g c =

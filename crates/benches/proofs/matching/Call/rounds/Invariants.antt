@@ -1,6 +1,6 @@
 use Rattle.std.proofs.Common.{◌≡◌}
-use Rattle.matchbench.specs.Ready.{IsReady}
-use Rattle.matchbench.proofs.Call.rounds.Given as goal
+use Rattle.benches.specs.Ready.{IsReady}
+use Rattle.benches.proofs.matching.Call.rounds.Given as goal
 
 -- pieces of the same size can still be searched
 abbrev pub invariant-loop : goal.invariant-loop

@@ -1,6 +1,6 @@
 use Rattle.std.proofs.Common.{◌≡◌}
-use Rattle.matchbench.specs.Ready.{IsReady}
-use Rattle.matchbench.proofs.Call.round.Given as goal
+use Rattle.benches.specs.Ready.{IsReady}
+use Rattle.benches.proofs.matching.Call.round.Given as goal
 
 -- the pieces have the size that was asked for, and can be searched
 abbrev pub invariant-loop-piece : goal.invariant-loop-piece

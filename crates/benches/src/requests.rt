@@ -1,11 +1,10 @@
 //! The calls that ask for memory, one after another. `bench/makers` refuses each of their requests in turn, and every one
-//! of a run. It has no contract of its own to keep: it is a test.
+//! of a run.
 //!
-//!     makers CALL TEXT [CALL TEXT].. > ANSWERS
+//!     benches make CALL TEXT [CALL TEXT].. > ANSWERS
 //!
 //! Writes for each call what it answered. Requests are refused between the marks that it writes on the standard error
 //! (`marks`): what a call is given is made before, and what it answered is told after.
-#![tactic(auto)]
 
 mod editing;
 mod given;
@@ -15,7 +14,6 @@ mod reading;
 mod spaces;
 
 use anyhow::{Result, bail};
-use std::env;
 
 /// Makes the call of this name, over a text.
 fn make(rt: &HostRuntime, name: &str, text: &str) -> Result<()> {
@@ -30,11 +28,12 @@ fn make(rt: &HostRuntime, name: &str, text: &str) -> Result<()> {
     Ok(())
 }
 
-fn main(rt: HostRuntime) -> Result<()> {
-    let mut words = env::args(&rt)?.skip(1);
+/// Makes the calls that words name, each over the text after it.
+pub(crate) fn make_all(rt: &HostRuntime, words: &[String]) -> Result<()> {
+    let mut words = words.iter();
     while let Some(name) = words.next() {
         match words.next() {
-            Some(text) => make(&rt, name.as_str(), text.as_str())?,
+            Some(text) => make(rt, name.as_str(), text.as_str())?,
             None => bail!("{name} has no text"),
         }
     }

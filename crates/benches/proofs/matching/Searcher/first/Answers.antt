@@ -2,7 +2,7 @@ use Rattle.std.proofs.Common.{◌≡◌, ◌∙◌, ◌∷◌, [], ℕ, Some, le
 use Rattle.std.specs.Prelude.{slice_get}
 use Rattle.sedmatch.specs.SearchRoom.{FitInto}
 use Rattle.sedmatch.proofs.RoomLemmas.{room_within}
-use Rattle.matchbench.proofs.Searcher.first.Goals as goal
+use Rattle.benches.proofs.matching.Searcher.first.Goals as goal
 
 pub next_occurrence-requires-clause-serves : goal.next_occurrence-requires-clause-serves
 next_occurrence-requires-clause-serves c =

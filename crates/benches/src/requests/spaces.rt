@@ -1,6 +1,6 @@
 //! Spaces, lines, and devices in memory.
 
-use crate::marks::{begin, end};
+use crate::requests::marks::{begin, end};
 use anyhow::Result;
 use sedspace::{FromReader, Lines, MemoryOutputs, Outputs, Queue, Room, Space};
 

@@ -3,7 +3,7 @@ use Rattle.std.specs.Prelude.{◌≡◌, [], ◌∷◌, length}
 use Rattle.sedre.specs.Tree.{WrittenExpression}
 use Rattle.sedmatch.specs.Occurrences.{RoomFor}
 use Rattle.sedmatch.specs.SearchRoom.{FitInto}
-use Rattle.matchbench.specs.declared.Searcher.{Searcher}
+use Rattle.benches.specs.declared.matching.Searcher.{Searcher}
 
 -- the expression can be sought in each piece
 pub record IsReady (e : WrittenExpression) (s : Searcher) : Type 0 where

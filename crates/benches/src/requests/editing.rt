@@ -2,8 +2,8 @@
 
 ghost use Rattle.std.specs.Prelude.{◌≡◌, ◌<◌, ◌≤◌, length};
 
-use crate::given::{limits, outputs_of, script_of, source, texts};
-use crate::marks::{begin, end};
+use crate::requests::given::{limits, outputs_of, script_of, source, texts};
+use crate::requests::marks::{begin, end};
 use anyhow::Result;
 use sededit::edit;
 use sedengine::{Ended, Engine, Limits, Progress};
