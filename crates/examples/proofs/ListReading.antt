@@ -9,7 +9,7 @@ use Rattle.sedre.specs.declared.elements.Element.TheVariants.{Plain}
 use Rattle.sedre.specs.declared.types.ExprFault.{ExprFault}
 use Rattle.sedre.specs.declared.byte_set.ByteSet.{ByteSet}
 use Rattle.sedre.specs.Sets.{set_of, has, only, union, matching, complement}
-use Rattle.sedre.specs.Brackets.{element, elements, elements_from, is_delimiter, single, both, listed, judged, matched, is_negated, ListedBytes, list_at}
+use Rattle.sedre.specs.Brackets.{element, elements, elements_from, is_delimiter, single, both, listed, judged, matched, begins, ListedBytes, list_at}
 use Rattle.sedscript.specs.Strings.{is_among}
 use Rattle.examples.specs.Lists.{ArePlain}
 
@@ -92,7 +92,7 @@ abbrev Found : Type 0
 Found = Result (ByteSet × ℕ) ExprFault
 
 abbrev whole : Bool → Option ℕ → ℕ → List ℕ → Found
-whole folded d at bytes = judged folded (is_negated bytes) at (listed (elements_from d (at + 1) bytes).0) (elements_from d (at + 1) bytes).1
+whole folded d at bytes = judged folded (begins bytes 94) at (listed (elements_from d (at + 1) bytes).0) (elements_from d (at + 1) bytes).1
 
 of_text : (folded : Bool) (d : Option ℕ) (before xs : List ℕ) → list_at folded d (before ++ 91 ∷ xs) (length before) ≡ whole folded d (length before) xs
 unfolding list_at

@@ -15,7 +15,7 @@ use Rattle.sedre.specs.declared.syntax.Item.TheVariants.{Byte, Open, Close, Bar,
 use Rattle.sedre.specs.Tree.{Tree}
 use Rattle.sedre.specs.Sizes.{size, depth, alternatives_depth, concatenation, alternation, copies, optional, further, repetition}
 use Rattle.sedre.specs.Tree as t
-use Rattle.sedre.specs.Brackets.{ListedBytes, judged, list_at, listed, elements_from, is_negated}
+use Rattle.sedre.specs.Brackets.{ListedBytes, judged, list_at, listed, elements_from, begins}
 use Rattle.sedre.specs.Items.{symbol, item_at, item_for, list_item}
 use Rattle.sedre.specs.Grammar.{AreAlternatives, ArePieces, IsPiece, first, another, none, more, byte, begin_anchor, end_anchor, subexpression, repeated, CutExpression, done, item, open_groups, Row, bad, stray, unclosed, deep, large, FaultyWith}
 
@@ -229,7 +229,7 @@ module _ (kind : Kind) (f g : Bool) (delimiter : Option ℕ) (text : List ℕ) w
   folded_for before at (Some (Interval, n)) = this
   folded_for before at (Some (IntervalEnd, n)) = this
   folded_for before at (Some (BracketOpening, n)) =
-      list_alike f g (is_negated (drop (at + 1) text)) at (listed (elements_from delimiter (at + 1) (drop (at + 1) text)).0) (elements_from delimiter (at + 1) (drop (at + 1) text)).1
+      list_alike f g (begins (drop (at + 1) text) 94) at (listed (elements_from delimiter (at + 1) (drop (at + 1) text)).0) (elements_from delimiter (at + 1) (drop (at + 1) text)).1
   folded_for before at (Some (Caret, n)) = this
   folded_for before at (Some (Dollar, n)) = this
   folded_for before at (Some (Unknown reason, n)) = this

@@ -8,10 +8,12 @@ use Rattle.std.proofs.lemmas.Bool.Decides.{eqb_tells}
 use Rattle.sedre.specs.declared.class.Class.{Class}
 use Rattle.sedre.specs.Sets.{class_named, has, union, no_byte}
 use Rattle.sedre.specs.declared.elements.Element.{Element}
-use Rattle.sedre.specs.declared.elements.Element.TheVariants.{Plain, Delimiter, Equivalent, Collating}
+use Rattle.sedre.specs.declared.elements.Element.TheVariants.{Plain, Delimiter, OfClass, Equivalent, Collating, Wrong}
+use Rattle.sedre.specs.declared.types.Reason.TheVariants.{UnknownClass}
+use Rattle.std.specs.Option.{option_map_or}
 use Rattle.sedre.specs.declared.types.ExprFault.{ExprFault}
 use Rattle.sedre.specs.declared.byte_set.ByteSet.{ByteSet}
-use Rattle.sedre.specs.Brackets.{content, form, form_of, of_class, of_one, element, elements, elements_from, is_dash, goes_on_as_range, single, range, both, listed, judged, is_negated, is_delimiter, ListedBytes, list_at, list_end}
+use Rattle.sedre.specs.Brackets.{content, form, form_of, of_one, element, elements, elements_from, is_dash, goes_on_as_range, single, range, both, listed, judged, begins, is_delimiter, ListedBytes, list_at, list_end}
 use Rattle.sedre.specs.ListReading.{is_range, located, members_at, elements_start, is_closing}
 
 -- the elements from a place on, and where the list ends
@@ -74,9 +76,9 @@ element_of_choice : (t : Bool) (x y : Element) → is_dash x ≡ false → is_da
 element_of_choice true x y hx hy = hx
 element_of_choice false x y hx hy = hy
 
-of_class_dash : (class : Option Class) → is_dash (of_class class) ≡ false
-of_class_dash None = refl
-of_class_dash (Some class) = refl
+class_dash : (class : Option Class) → is_dash (option_map_or OfClass class (Wrong UnknownClass)) ≡ false
+class_dash None = refl
+class_dash (Some class) = refl
 
 of_one_dash : (held : List ℕ) (make : ℕ → Element) → ((b : ℕ) → is_dash (make b) ≡ false) → is_dash (of_one held make) ≡ false
 of_one_dash [] make isnt = refl
@@ -85,7 +87,7 @@ of_one_dash (x ∷ y ∷ rest) make isnt = refl
 
 form_of_dash : (c : ℕ) (held : List ℕ) → is_dash (form_of c held) ≡ false
 form_of_dash c held =
-    element_of_choice (c == 58) (of_class (class_named held)) (if c == 61 then of_one held Equivalent else of_one held Collating) (of_class_dash (class_named held))
+    element_of_choice (c == 58) (option_map_or OfClass (class_named held) (Wrong UnknownClass)) (if c == 61 then of_one held Equivalent else of_one held Collating) (class_dash (class_named held))
     (element_of_choice (c == 61) (of_one held Equivalent) (of_one held Collating) (of_one_dash held Equivalent (λ b. refl)) (of_one_dash held Collating (λ b. refl)))
 
 form_dash : (c left : ℕ) (held : Option (List ℕ)) → is_dash (form c left held).0 ≡ false
@@ -254,13 +256,12 @@ one_step d text first folded negated at place set inside isnt =
 
 -- ---- the loop over a whole list
 
-begun_from : (d : Option ℕ) (place b : ℕ) (bs : List ℕ) (t : Bool) → (b == 94) ≡ t → elements_from d place (b ∷ bs) ≡ elements d true 0 (if t then place + 1 else place) (drop (if t then 1 else 0) (b ∷ bs))
-begun_from d place b bs true is = ap (λ (t : Bool). if t then elements d true 0 (place + 1) bs else elements d true 0 place (b ∷ bs)) is
-begun_from d place b bs false is = ap (λ (t : Bool). if t then elements d true 0 (place + 1) bs else elements d true 0 place (b ∷ bs)) is
+begun_from : (d : Option ℕ) (place : ℕ) (bs : List ℕ) (t : Bool) → (if t then elements d true 0 (place + 1) (drop 1 bs) else elements d true 0 place bs) ≡ elements d true 0 (if t then place + 1 else place) (drop (if t then 0 + 1 else 0) bs)
+begun_from d place bs true = refl
+begun_from d place bs false = refl
 
 begun_at : (d : Option ℕ) (place : ℕ) (bs : List ℕ) → elements_from d place bs ≡ elements d true 0 (elements_start place bs) (drop (elements_start 0 bs) bs)
-begun_at d place [] = refl
-begun_at d place (b ∷ bs) = begun_from d place b bs (b == 94) refl
+begun_at d place bs = begun_from d place bs (begins bs 94)
 
 start_add : (place : ℕ) (t : Bool) → place + (if t then 0 + 1 else 0) ≡ (if t then place + 1 else place)
 start_add place true = omega arith
@@ -270,7 +271,7 @@ pub begun : (d : Option ℕ) (place : ℕ) (text : List ℕ) → elements_from d
 begun d place text =
     let bytes : List ℕ = drop place text in
     begun_at d place bytes
-    ∙ ap (elements d true 0 (elements_start place bytes)) (drop-drop (elements_start 0 bytes) place text ∙ ap (λ n. drop n text) (start_add place (is_negated bytes)))
+    ∙ ap (elements d true 0 (elements_start place bytes)) (drop-drop (elements_start 0 bytes) place text ∙ ap (λ n. drop n text) (start_add place (begins bytes 94)))
 
 closed_front : (d : Option ℕ) (first : Bool) (place : ℕ) (bs : List ℕ) → 0 < length bs → (get_or bs 0 0 == 93 && not first) ≡ true → elements d first 0 place bs ≡ ([], Some (place + 1))
 closed_front d first place [] some is = absurd (omega arith)
@@ -312,13 +313,13 @@ none_listed (x ∷ []) = none_both (single x) (listed [])
 none_listed (x ∷ y ∷ []) = none_both (single x) (listed (y ∷ []))
 none_listed (x ∷ y ∷ z ∷ rest) = none_choice (is_dash y.1) (range x z (goes_on_as_range rest)) (listed rest) (single x) (listed (y ∷ z ∷ rest))
 
-pub list_begun : (d : Option ℕ) (text : List ℕ) (at start : ℕ) (folded negated : Bool) (set : List Bool) → negated ≡ is_negated (drop (at + 1) text) →
+pub list_begun : (d : Option ℕ) (text : List ℕ) (at start : ℕ) (folded negated : Bool) (set : List Bool) → negated ≡ begins (drop (at + 1) text) 94 →
     start ≡ elements_start (at + 1) (drop (at + 1) text) → set ≡ no_byte →
     list_at folded d text at ≡ go_on folded negated at set (elements d (start == start) 0 start (drop start text))
 unfolding list_at
 list_begun d text at start folded negated set is_neg is_start is_set =
     let bytes : List ℕ = drop (at + 1) text in
-    ap (λ (all : Elements). judged folded (is_negated bytes) at (listed all.0) all.1) (begun d (at + 1) text ∙ ap (λ n. elements d true 0 n (drop n text)) (sym is_start))
+    ap (λ (all : Elements). judged folded (begins bytes 94) at (listed all.0) all.1) (begun d (at + 1) text ∙ ap (λ n. elements d true 0 n (drop n text)) (sym is_start))
     ∙ ap (λ t. judged folded t at (listed (elements d true 0 start (drop start text)).0) (elements d true 0 start (drop start text)).1) (sym is_neg)
     ∙ ap (λ l. judged folded negated at l (elements d true 0 start (drop start text)).1) (sym (none_listed (elements d true 0 start (drop start text)).0))
     ∙ ap (λ s. go_on folded negated at s (elements d true 0 start (drop start text))) (sym is_set)

@@ -1,9 +1,10 @@
 -- A mirrored expression is an expression, and its trees are the mirrored trees.
-use Rattle.std.proofs.Common.{◌≡◌, ℕ, zero, suc, ◌+◌, ◌-◌, ◌<◌, ◌≤◌, List, length, map, Bool, true, false, Option, Some, None, refl, sym, ap, ◌∙◌, subst, inl, inr, ⊎_elim, arith}
+use Rattle.std.proofs.Common.{◌≡◌, ℕ, zero, suc, ◌+◌, ◌<◌, List, length, map, Bool, true, false, Option, Some, None, refl, sym, ap, ◌∙◌, subst, inl, inr, ⊎_elim, arith}
 use Rattle.std.specs.Prelude.{slice_get, option_map}
 use Rattle.std.proofs.lemmas.Option.{slice_get-map}
 use Rattle.std.proofs.lemmas.List.{length-map}
-use Rattle.sedre.specs.Tree.{Tree, empty, set, begin, end, seq, alt, group, star, opt, WrittenExpression, expression_tree, tree_of, tree_if, tree_within, tree_at}
+use Rattle.sedre.specs.Tree.{Tree, empty, set, begin, end, seq, alt, group, star, opt, WrittenExpression, tree_of, tree_within, tree_at}
+use Rattle.std.specs.Option.{option_map_or}
 use Rattle.sedre.specs.Sizes.{size}
 use Rattle.sedre.specs.Arena.{IsArena, IsPart, HasTwoParts}
 use Rattle.sedre.specs.Mirror.{mirror, mirror_node, node_seen, seen}
@@ -45,15 +46,15 @@ tree_of-mirror f g same (Group k a) = rw (same a.index)
 tree_of-mirror f g same (Star a first) = rw (same a.index)
 tree_of-mirror f g same (Opt a first) = rw (same a.index)
 
-tree_if-mirror : (f g : ℕ → Tree) → ((c : ℕ) → f c ≡ mirror (g c)) → (o : Option Node) → tree_if f (option_map mirror_node o) ≡ mirror (tree_if g o)
-tree_if-mirror f g same None = refl
-tree_if-mirror f g same (Some node) = tree_of-mirror f g same node
+node-mirror : (f g : ℕ → Tree) → ((c : ℕ) → f c ≡ mirror (g c)) → (o : Option Node) → option_map_or (tree_of f) (option_map mirror_node o) empty ≡ mirror (option_map_or (tree_of g) o empty)
+node-mirror f g same None = refl
+node-mirror f g same (Some node) = tree_of-mirror f g same node
 
 tree_within-mirror : (nodes : List Node) (n x : ℕ) → tree_within n (map mirror_node nodes) x ≡ mirror (tree_within n nodes x)
 unfolding tree_within
 tree_within-mirror nodes zero x = refl
 tree_within-mirror nodes (suc n) x =
-    rw slice_get-map (tree_if-mirror (tree_within n (map mirror_node nodes)) (tree_within n nodes) (tree_within-mirror nodes n) (slice_get nodes x))
+    rw slice_get-map (node-mirror (tree_within n (map mirror_node nodes)) (tree_within n nodes) (tree_within-mirror nodes n) (slice_get nodes x))
 
 pub tree_at-mirror : (nodes : List Node) (x : ℕ) → tree_at (map mirror_node nodes) x ≡ mirror (tree_at nodes x)
 unfolding tree_at

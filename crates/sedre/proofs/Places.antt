@@ -14,7 +14,7 @@ use Rattle.sedre.specs.declared.syntax.Symbol.TheVariants.{Literal, AnyByte, Ope
 use Rattle.sedre.specs.declared.syntax.Item.{Item}
 use Rattle.sedre.specs.declared.syntax.Here.{Here}
 use Rattle.sedre.specs.declared.syntax.Here.TheVariants.{Is, Ends, Bad}
-use Rattle.sedre.specs.Brackets.{elements, element, elements_from, is_negated, is_dash, goes_on_as_range, ListedBytes, single, between_ends, range_to, range, both, listed, judged, list_at}
+use Rattle.sedre.specs.Brackets.{elements, element, elements_from, begins, is_dash, goes_on_as_range, ListedBytes, single, between_ends, range_to, range, both, listed, judged, list_at}
 use Rattle.sedre.specs.Items.{interval, symbol, is_first, is_repeatable, is_repeat, ends_alternative, repeats, interval_item, list_item, star_item, question_item, caret_item, dollar_item, item_for, item_at}
 use Rattle.sedre.specs.Grammar.{Row, bad, stray, unclosed, deep, large, FaultyWith}
 
@@ -105,7 +105,7 @@ unfolding list_at
 list_told folded delimiter text at inside =
     let bytes = drop (at + 1) text in
     let found = elements_from delimiter (at + 1) bytes in
-    judged_told (length text) folded (is_negated bytes) at (listed found.0) found.1 (omega (arith, inside))
+    judged_told (length text) folded (begins bytes 94) at (listed found.0) found.1 (omega (arith, inside))
     (listed_told (length text) found.0 (from_up_to delimiter (length text) (at + 1) bytes (omega (arith, inside, length-drop (at + 1) text))))
 
 -- what stands at a place up to this one, or is told there

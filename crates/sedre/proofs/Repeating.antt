@@ -1,6 +1,6 @@
 -- A repetition stands only after what can be repeated, and its bounds are in order.
 use Rattle.std.proofs.Common.{◌≡◌, ℕ, ◌+◌, ◌≤◌, if◌then◌else◌, ◌&&◌, drop, Result, Ok, Err, List, Bool, true, false, Option, Some, None, refl, subst, arith}
-use Rattle.std.specs.Prelude.{nat_le}
+use Rattle.std.specs.Prelude.{nat_le, option_and_then}
 use Rattle.std.proofs.lemmas.Bool.Decides.{leb_tells}
 use Rattle.std.proofs.Common.{inl, inr}
 use Rattle.sedre.specs.declared.types.Kind.{Kind}
@@ -15,8 +15,8 @@ use Rattle.sedre.specs.declared.syntax.Symbol.TheVariants.{Literal, AnyByte, Ope
 use Rattle.sedre.specs.declared.syntax.Item.{Item}
 use Rattle.sedre.specs.declared.syntax.Item.TheVariants.{Byte, Open, Close, Bar, Repeat, AtBegin, AtEnd}
 use Rattle.sedre.specs.Stacks.{IsInterval}
-use Rattle.sedre.specs.Brackets.{list_at}
-use Rattle.sedre.specs.Items.{symbol, numeral, begins, closes, limit, after_least, interval, item_at, item_for, is_repeatable, is_repeat, is_first, ends_alternative, repeats, interval_item, list_item, star_item, question_item, caret_item, dollar_item}
+use Rattle.sedre.specs.Brackets.{begins, list_at}
+use Rattle.sedre.specs.Items.{symbol, numeral, closes, limit, after_least, interval, item_at, item_for, is_repeatable, is_repeat, is_first, ends_alternative, repeats, interval_item, list_item, star_item, question_item, caret_item, dollar_item}
 
 -- a repetition stands where one may, with bounds in order
 abbrev pub FineItem : Bool → Item → Type 0
@@ -53,7 +53,7 @@ fine_limit kind delimiter least digits front None = by_test (closes kind delimit
 fine_limit kind delimiter least digits front (Some (most, more)) =
     by_test (closes kind delimiter (drop more front) && nat_le least most) _ _ (λ h. in_order least most (second_true (closes kind delimiter (drop more front)) (nat_le least most) h)) tt
 
-fine_least : (kind : Kind) (delimiter : Option ℕ) (front : List ℕ) (o : Option (ℕ × ℕ)) → FineBounds (after_least kind delimiter front o)
+fine_least : (kind : Kind) (delimiter : Option ℕ) (front : List ℕ) (o : Option (ℕ × ℕ)) → FineBounds (option_and_then (after_least kind delimiter front) o)
 fine_least kind delimiter front None = tt
 fine_least kind delimiter front (Some (least, digits)) =
     by_test (closes kind delimiter (drop digits front)) _ _ (λ h. omega arith)

@@ -1,7 +1,8 @@
 -- The tree at a node is made of the trees at its parts.
 use Rattle.std.proofs.Common.{◌≡◌, ℕ, zero, suc, ◌<◌, List, Option, Some, None, refl, inl, inr, arith}
 use Rattle.std.specs.Prelude.{slice_get}
-use Rattle.sedre.specs.Tree.{Tree, tree_of, tree_if, tree_within, tree_at}
+use Rattle.sedre.specs.Tree.{Tree, empty, tree_of, tree_within, tree_at}
+use Rattle.std.specs.Option.{option_map_or}
 use Rattle.sedre.specs.Arena.{IsArena, IsPart}
 use Rattle.sedre.specs.declared.types.Node.{Node}
 use Rattle.sedre.specs.declared.types.Node.TheVariants.{Empty, Set, Begin, End, Seq, Alt, Group, Star, Opt}
@@ -18,9 +19,9 @@ tree_of-same f g (Group k a) same = rw (same a.index refl)
 tree_of-same f g (Star a first) same = rw (same a.index refl)
 tree_of-same f g (Opt a first) same = rw (same a.index refl)
 
-tree_if-same : (f g : ℕ → Tree) (node : Option Node) → ((n : Node) (c : ℕ) → node ≡ Some n → IsPart n c → f c ≡ g c) → tree_if f node ≡ tree_if g node
-tree_if-same f g None same = refl
-tree_if-same f g (Some n) same = tree_of-same f g n (λ c part. same n c refl part)
+node-same : (f g : ℕ → Tree) (node : Option Node) → ((n : Node) (c : ℕ) → node ≡ Some n → IsPart n c → f c ≡ g c) → option_map_or (tree_of f) node empty ≡ option_map_or (tree_of g) node empty
+node-same f g None same = refl
+node-same f g (Some n) same = tree_of-same f g n (λ c part. same n c refl part)
 
 -- any depth above the node's place gives the same tree
 pub tree_within-enough : (nodes : List Node) → IsArena nodes → (m n x : ℕ) → x < m → x < n → tree_within m nodes x ≡ tree_within n nodes x
@@ -28,7 +29,7 @@ unfolding tree_within
 tree_within-enough nodes arena zero n x low high = absurd (omega arith)
 tree_within-enough nodes arena (suc m) zero x low high = absurd (omega arith)
 tree_within-enough nodes arena (suc m) (suc n) x low high =
-    tree_if-same (tree_within m nodes) (tree_within n nodes) (slice_get nodes x)
+    node-same (tree_within m nodes) (tree_within n nodes) (slice_get nodes x)
     (λ node c is part.
     let below : c < x = arena.below x c node is part in
     tree_within-enough nodes arena m n c (omega arith) (omega arith))

@@ -1,13 +1,19 @@
 -- Bracket expressions (XBD 9.3.5): the elements of a list, and the set that they list or the first fault; and where an
 -- expression between delimiters ends. Which fault a list has, and where, is this project's own.
 use Rattle.std.specs.Prelude.{ℕ, zero, suc, ◌+◌, ◌-◌, List, [], ◌∷◌, length, take, drop, Bool, true, false, not, ◌&&◌, ◌||◌, Option, Some, None, Result, Ok, Err, if◌then◌else◌, nat_le, ◌==◌, option_map, option_and_then}
+use Rattle.std.specs.Option.{option_map_or}
 use Rattle.sedre.specs.Sets.{set_of, no_byte, only, between, union, complement, matching, in_class, class_named}
-use Rattle.sedre.specs.Types.{Class, Reason, OpenBracket, UnknownClass, LongCollating, BadRange, ExprFault, Element, Plain, Delimiter, OfClass, Equivalent, Collating, Wrong, Unclosed, ByteSet}
+use Rattle.sedre.specs.Types.{Reason, OpenBracket, UnknownClass, LongCollating, BadRange, ExprFault, Element, Plain, Delimiter, OfClass, Equivalent, Collating, Wrong, Unclosed, ByteSet}
 
 -- whether a byte is the delimiter
 abbrev pub is_delimiter : Option ℕ → ℕ → Bool
 is_delimiter None b = false
 is_delimiter (Some d) b = d == b
+
+-- whether a byte stands at the front
+abbrev pub begins : List ℕ → ℕ → Bool
+begins [] b = false
+begins (c ∷ rest) b = c == b
 
 -- ---- the elements of a list
 
@@ -28,15 +34,12 @@ abbrev pub of_one : List ℕ → (ℕ → Element) → Element
 of_one (x ∷ []) make = make x
 of_one held make = Wrong LongCollating
 
--- [:name:] names a class
-abbrev pub of_class : Option Class → Element
-of_class None = Wrong UnknownClass
-of_class (Some class) = OfClass class
-
--- a form by the byte after its [ (XBD 9.3.5, 4 to 6)
+-- a form by the byte after its [ (XBD 9.3.5, 4 to 6): [:name:] names a class
 abbrev pub form_of : ℕ → List ℕ → Element
 form_of c held =
-    if c == 58 then of_class (class_named held) else if c == 61 then of_one held Equivalent else of_one held Collating
+    if c == 58 then option_map_or OfClass (class_named held) (Wrong UnknownClass)
+    else if c == 61 then of_one held Equivalent
+    else of_one held Collating
 
 -- a form and how many bytes it has; one that isn't closed takes all that is left
 abbrev pub form : ℕ → (left : ℕ) → Option (List ℕ) → Element × ℕ
@@ -140,13 +143,8 @@ listed (x ∷ y ∷ z ∷ rest) =
 
 -- the elements from the place after the opening [ on, where a ^ makes a non-matching list (XBD 9.3.5, 3)
 abbrev pub elements_from : Option ℕ → (place : ℕ) → List ℕ → List (ℕ × Element) × Option ℕ
-elements_from delimiter place [] = ([], None)
-elements_from delimiter place (b ∷ bs) =
-    if b == 94 then elements delimiter true 0 (place + 1) bs else elements delimiter true 0 place (b ∷ bs)
-
-abbrev pub is_negated : List ℕ → Bool
-is_negated [] = false
-is_negated (b ∷ bs) = b == 94
+elements_from delimiter place bytes =
+    if begins bytes 94 then elements delimiter true 0 (place + 1) (drop 1 bytes) else elements delimiter true 0 place bytes
 
 -- the bytes that a list matches: those that match for the listed ones, and for a non-matching list the others, byte 0
 -- among them (this project's own)
@@ -164,7 +162,7 @@ unfoldable pub list_at : (folded : Bool) → Option ℕ → (text : List ℕ) �
 list_at folded delimiter text at =
     let bytes = drop (at + 1) text in
     let found = elements_from delimiter (at + 1) bytes in
-    judged folded (is_negated bytes) at (listed found.0) found.1
+    judged folded (begins bytes 94) at (listed found.0) found.1
 
 -- the place after a list, whatever it lists, from the place after its [ on
 unfoldable pub list_end : Option ℕ → (place : ℕ) → List ℕ → Option ℕ

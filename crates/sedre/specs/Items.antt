@@ -1,13 +1,25 @@
 -- The symbols of a text, what one or two bytes mean outside bracket expressions, and its items: bytes and sets of bytes,
 -- anchors, groups, alternations and repetitions (XBD 9.3, 9.4).
-use Rattle.std.specs.Prelude.{ℕ, List, [], ◌∷◌, Bool, not, ◌||◌, Option, Some, None, if◌then◌else◌, ◌==◌, ◌+◌, ◌*◌, ◌-◌, drop, take, false, ◌&&◌, nat_lt, nat_le, true, Result, Ok, Err}
+use Rattle.std.specs.Prelude.{ℕ, List, [], ◌∷◌, Bool, not, ◌||◌, Option, Some, None, if◌then◌else◌, ◌==◌, ◌+◌, ◌*◌, ◌-◌, drop, take, false, ◌&&◌, nat_lt, nat_le, true, Result, Ok, Err, option_and_then}
 use Rattle.std.specs.List.{prefix_len}
-use Rattle.sedre.specs.Sets.{between, is_digit, only, any_byte, matching}
-use Rattle.sedre.specs.Brackets.{is_delimiter, list_at}
+use Rattle.sedre.specs.Sets.{between, is_upper, is_lower, is_digit, only, any_byte, matching}
+use Rattle.sedre.specs.Brackets.{begins, is_delimiter, list_at}
 use Rattle.sedre.specs.Types.{Kind, Basic, Extended, LastBackslash, UnknownEscape, BackReference, BadInterval, NothingToRepeat, Symbol, Literal, AnyByte, Opening, Closing, Parting, Star, Plus, Question, Interval, IntervalEnd, BracketOpening, Caret, Dollar, Unknown, Reason, ExprFault, ByteSet, Bounds, Item, Byte, Open, Close, Bar, Repeat, AtBegin, AtEnd, Here, Is, Ends, Bad}
 
 abbrev pub is_letter : ℕ → Bool
-is_letter c = between 65 90 c || between 97 122 c
+is_letter c = is_upper c || is_lower c
+
+-- the operators that stand without a backslash in an extended expression and after one in a basic one, where \| \+ \? are
+-- this project's own; any other byte is `other`
+abbrev pub operator : ℕ → (other : Symbol) → Symbol
+operator b other =
+    if b == 40 then Opening  -- (
+    else if b == 41 then Closing  -- )
+    else if b == 124 then Parting  -- |
+    else if b == 43 then Plus  -- +
+    else if b == 63 then Question  -- a question mark
+    else if b == 123 then Interval  -- {
+    else other
 
 -- the symbols that both kinds share, where no backslash stands before them; any other byte is a literal here
 abbrev pub alone_in_both : ℕ → Symbol
@@ -22,14 +34,7 @@ alone_in_both b =
 -- a byte that no backslash stands before
 abbrev pub alone : Kind → ℕ → Symbol
 alone Basic b = alone_in_both b
-alone Extended b =
-    if b == 40 then Opening  -- (
-    else if b == 41 then Closing  -- )
-    else if b == 124 then Parting  -- |
-    else if b == 43 then Plus  -- +
-    else if b == 63 then Question  -- a question mark
-    else if b == 123 then Interval  -- {
-    else alone_in_both b
+alone Extended b = operator b (alone_in_both b)
 
 -- a byte after a backslash that is no symbol there: \n is a newline (XCU sed), \t a tab (this project's own);
 -- back-references are left out by name, other letters and digits and < > ' ` are refused, and an ordinary byte is itself
@@ -42,17 +47,9 @@ escaped_literal b =
     else if is_letter b || b == 48 || b == 60 || b == 62 || b == 39 || b == 96 then Unknown UnknownEscape
     else Literal b
 
--- a byte after a backslash; in basic expressions \| \+ \? are this project's own
+-- a byte after a backslash
 abbrev pub escaped : Kind → ℕ → Symbol
-escaped Basic b =
-    if b == 40 then Opening  -- (
-    else if b == 41 then Closing  -- )
-    else if b == 124 then Parting  -- |
-    else if b == 43 then Plus  -- +
-    else if b == 63 then Question  -- a question mark
-    else if b == 123 then Interval  -- {
-    else if b == 125 then IntervalEnd  -- }
-    else escaped_literal b
+escaped Basic b = if b == 125 then IntervalEnd else operator b (escaped_literal b)  -- }
 escaped Extended b = escaped_literal b
 
 -- the symbol at the front of what is left of a text, and how many bytes it has; a backslash and the delimiter are
@@ -79,11 +76,6 @@ numeral front =
     let value = decimal 0 (take digits front) in
     if digits == 0 || nat_lt 255 value then None else Some (value, digits)
 
--- whether a byte stands at the front
-abbrev pub begins : List ℕ → ℕ → Bool
-begins [] b = false
-begins (c ∷ rest) b = c == b
-
 -- whether the interval closes at the front, by } or \}; a backslash and the delimiter are no closing (this project's own)
 abbrev pub closes : Kind → Option ℕ → List ℕ → Bool
 closes Basic delimiter front = begins front 92 && begins (drop 1 front) 125 && not (is_delimiter delimiter 125)
@@ -104,18 +96,18 @@ limit kind delimiter least digits front (Some (most, more)) =
     if closes kind delimiter (drop more front) && nat_le least most
     then bounds least (Some most) (digits + 1 + more + closing_width kind) else None
 
--- after the first number; without one there is no interval (this project's own)
-abbrev pub after_least : Kind → Option ℕ → List ℕ → Option (ℕ × ℕ) → Option Bounds
-after_least kind delimiter front None = None
-after_least kind delimiter front (Some (least, digits)) =
+-- after the first number
+abbrev pub after_least : Kind → Option ℕ → List ℕ → ℕ × ℕ → Option Bounds
+after_least kind delimiter front (least, digits) =
     let rest = drop digits front in
     if closes kind delimiter rest then bounds least (Some least) (digits + closing_width kind)
     else if begins rest 44 then limit kind delimiter least digits (drop 1 rest) (numeral (drop 1 rest))
     else None
 
--- the interval whose opening stands before what is left of a text, with the bytes that it takes from there
+-- the interval whose opening stands before what is left of a text, with the bytes that it takes from there; without a
+-- first number there is none (this project's own)
 unfoldable pub interval : Kind → Option ℕ → List ℕ → Option Bounds
-interval kind delimiter front = after_least kind delimiter front (numeral front)
+interval kind delimiter front = option_and_then (after_least kind delimiter front) (numeral front)
 
 -- whether an item stands first: at the beginning, after an opening of a group or after an alternation symbol
 abbrev pub is_first : Option Item → Bool
@@ -148,9 +140,8 @@ fault place reason = Bad (record { place = place; reason = reason })
 
 -- a repetition of what stands before, or else NothingToRepeat (for all repetitions but *, and for * after `$`, this
 -- project's own)
-abbrev pub repeats : Bool → (at : ℕ) → Here → Here
-repeats true at repeat = repeat
-repeats false at repeat = fault at NothingToRepeat
+abbrev pub repeats : (may : Bool) → (at : ℕ) → Here → Here
+repeats may at repeat = if may then repeat else fault at NothingToRepeat
 
 abbrev pub interval_item : Option Bounds → (at next : ℕ) → Here
 interval_item None at next = fault at BadInterval
@@ -161,9 +152,8 @@ list_item (Ok (members, next)) = Is (Byte members) next
 list_item (Err f) = Bad f
 
 -- * is a literal in a basic expression where nothing stands that it could repeat (XBD 9.3.3)
-abbrev pub star_item : Kind → Bool → (at next : ℕ) → Here
-star_item Basic true at next = Is (Repeat 0 None) next
-star_item Basic false at next = Is (Byte (only 42)) next
+abbrev pub star_item : Kind → (may : Bool) → (at next : ℕ) → Here
+star_item Basic may at next = if may then Is (Repeat 0 None) next else Is (Byte (only 42)) next
 star_item Extended may at next = repeats may at (Is (Repeat 0 None) next)
 
 -- where something stands before it, ? repeats; directly after a repetition of an extended expression it is refused (this

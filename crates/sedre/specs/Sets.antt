@@ -32,10 +32,16 @@ any_byte = set_of (λ c. not (c == 0))
 abbrev pub union : List Bool → List Bool → List Bool
 union these those = set_of (λ c. has these c || has those c)
 
+abbrev pub is_upper : ℕ → Bool
+is_upper c = between 65 90 c
+
+abbrev pub is_lower : ℕ → Bool
+is_lower c = between 97 122 c
+
 -- the letter that differs from a byte in its case alone, or the byte itself where there is none, in ASCII, for the flag `I`
 -- (this project's own)
 abbrev pub other_case : ℕ → ℕ
-other_case c = if between 65 90 c then c + 32 else if between 97 122 c then c - 32 else c
+other_case c = if is_upper c then c + 32 else if is_lower c then c - 32 else c
 
 -- a set closed under the change of ASCII case: a byte is in it where the byte, or the letter that differs from it in its
 -- case alone, is in the set
@@ -50,12 +56,6 @@ matching true set = folded_set set
 -- the bytes that are not in a set
 abbrev pub complement : List Bool → List Bool
 complement set = set_of (λ c. not (has set c))
-
-abbrev pub is_upper : ℕ → Bool
-is_upper c = between 65 90 c
-
-abbrev pub is_lower : ℕ → Bool
-is_lower c = between 97 122 c
 
 abbrev pub is_digit : ℕ → Bool
 is_digit c = between 48 57 c

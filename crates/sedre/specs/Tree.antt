@@ -1,5 +1,6 @@
 -- Expressions written out as trees, and an expression as a list of nodes, each after its parts, with the tree that it is.
-use Rattle.std.specs.Prelude.{ℕ, List, Bool, Option, Some, None, zero, suc, slice_get, ◌-◌, length}
+use Rattle.std.specs.Prelude.{ℕ, List, Bool, zero, suc, slice_get, ◌-◌, length}
+use Rattle.std.specs.Option.{option_map_or}
 use Rattle.sedre.specs.declared.types.Node.{Node}
 use Rattle.sedre.specs.declared.types.Node.TheVariants.{Empty, Set, Begin, End, Seq, Alt, Group, Star, Opt}
 
@@ -38,14 +39,10 @@ tree_of part (Group k a) = group k (part a.index)
 tree_of part (Star a first) = star (part a.index) first
 tree_of part (Opt a first) = opt (part a.index) first
 
-abbrev pub tree_if : (ℕ → Tree) → Option Node → Tree
-tree_if part None = empty
-tree_if part (Some node) = tree_of part node
-
 -- the tree at the node x, following parts at most n deep
 unfoldable pub tree_within : ℕ → List Node → ℕ → Tree
 tree_within zero nodes x = empty
-tree_within (suc n) nodes x = tree_if (tree_within n nodes) (slice_get nodes x)
+tree_within (suc n) nodes x = option_map_or (tree_of (tree_within n nodes)) (slice_get nodes x) empty
 
 -- the tree at the node x
 unfoldable pub tree_at : List Node → ℕ → Tree

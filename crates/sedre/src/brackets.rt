@@ -1,7 +1,7 @@
 //! Bracket expressions (XBD 9.3.5): the bytes that a list matches, or the first fault, in one pass.
 ghost use Rattle.std.specs.Prelude.{◌≡◌, ◌<◌, ◌≤◌, ◌+◌, length, drop, IfSome, IfOk, IfErr, IsTrue};
 ghost use Rattle.sedre.specs.ListReading.{is_range, members_at, elements_start, is_closing};
-ghost use Rattle.sedre.specs.Brackets.{end_of, single, between_ends, range, is_negated, matched, list_at, list_end};
+ghost use Rattle.sedre.specs.Brackets.{end_of, single, between_ends, range, begins, matched, list_at, list_end};
 
 use crate::byte_set::ByteSet;
 use crate::elements::{Element, element_at};
@@ -106,7 +106,7 @@ fn members_at(delimiter: Option<u8>, text: &[u8], at: usize) -> Result<(ByteSet,
 /// Whether the list whose `[` stands before a place is a non-matching one.
 fn is_negated(text: &[u8], at: usize) -> bool
     requires { at ≤ length text.now }
-    ensures { result ≡ is_negated (drop at text.now) }
+    ensures { result ≡ begins (drop at text.now) 94 }
 {
     matches!(&text[at..], [b'^', ..])
 }

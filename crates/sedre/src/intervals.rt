@@ -3,7 +3,8 @@ ghost use Rattle.std.specs.Prelude.{◌≡◌, ◌≤◌, ◌+◌, min, length, 
 ghost use Rattle.std.specs.List.{prefix_len};
 ghost use Rattle.std.specs.Bool.{OnTrue};
 ghost use Rattle.sedre.specs.Sets.{is_digit};
-ghost use Rattle.sedre.specs.Items.{decimal, numeral, begins, closes, closing_width, limit, interval};
+ghost use Rattle.sedre.specs.Items.{decimal, numeral, closes, closing_width, limit, interval};
+ghost use Rattle.sedre.specs.Brackets.{begins};
 
 use crate::types::Kind;
 

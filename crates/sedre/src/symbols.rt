@@ -1,9 +1,24 @@
 //! Which symbols stand in a text.
 ghost use Rattle.std.specs.Prelude.{◌≡◌, ◌<◌, ◌≤◌, ◌+◌, ℕ, List, [], ◌∷◌, None, Some, length, drop, IfSome};
-ghost use Rattle.sedre.specs.Items.{alone, alone_in_both, escaped, escaped_literal, symbol};
+ghost use Rattle.sedre.specs.Items.{operator, alone, alone_in_both, escaped, escaped_literal, symbol};
 
 use crate::syntax::Symbol;
 use crate::types::{Kind, Reason};
+
+/// An operator that stands without a backslash in an extended expression and after one in a basic one, else `other`.
+fn operator(b: u8, other: Symbol) -> Symbol
+    ensures { result ≡ operator b other }
+{
+    match b {
+        b'(' => Symbol::Opening,
+        b')' => Symbol::Closing,
+        b'|' => Symbol::Parting,
+        b'+' => Symbol::Plus,
+        b'?' => Symbol::Question,
+        b'{' => Symbol::Interval,
+        _ => other,
+    }
+}
 
 /// The symbols that both kinds share, where no backslash stands before them; any other byte is a literal here.
 fn alone_in_both(b: u8) -> Symbol
@@ -25,15 +40,7 @@ fn alone(kind: Kind, b: u8) -> Symbol
 {
     match kind {
         Kind::Basic => alone_in_both(b),
-        Kind::Extended => match b {
-            b'(' => Symbol::Opening,
-            b')' => Symbol::Closing,
-            b'|' => Symbol::Parting,
-            b'+' => Symbol::Plus,
-            b'?' => Symbol::Question,
-            b'{' => Symbol::Interval,
-            _ => alone_in_both(b),
-        },
+        Kind::Extended => operator(b, alone_in_both(b)),
     }
 }
 
@@ -57,16 +64,8 @@ fn escaped(kind: Kind, b: u8) -> Symbol
     ensures { result ≡ escaped kind b }
 {
     match kind {
-        Kind::Basic => match b {
-            b'(' => Symbol::Opening,
-            b')' => Symbol::Closing,
-            b'|' => Symbol::Parting,
-            b'+' => Symbol::Plus,
-            b'?' => Symbol::Question,
-            b'{' => Symbol::Interval,
-            b'}' => Symbol::IntervalEnd,
-            _ => escaped_literal(b),
-        },
+        Kind::Basic if b == b'}' => Symbol::IntervalEnd,
+        Kind::Basic => operator(b, escaped_literal(b)),
         Kind::Extended => escaped_literal(b),
     }
 }
