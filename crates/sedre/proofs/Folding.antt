@@ -13,7 +13,7 @@ use Rattle.sedre.specs.declared.syntax.Here.TheVariants.{Is, Ends, Bad}
 use Rattle.sedre.specs.declared.syntax.Item.{Item}
 use Rattle.sedre.specs.declared.syntax.Item.TheVariants.{Byte, Open, Close, Bar, Repeat, AtBegin, AtEnd}
 use Rattle.sedre.specs.Tree.{Tree}
-use Rattle.sedre.specs.Sizes.{size, depth, alternatives_depth, concatenation, alternation, copies, optional, further, repetition}
+use Rattle.sedre.specs.Sizes.{size, depth, without_alternation, concatenation, alternation, copies, optional, further, repetition}
 use Rattle.sedre.specs.Tree as t
 use Rattle.sedre.specs.Brackets.{ListedBytes, judged, list_at, listed, elements_from, begins}
 use Rattle.sedre.specs.Items.{symbol, item_at, item_for, list_item}
@@ -43,24 +43,23 @@ size-same (groups p) = omega (arith, size-same p)
 size-same (stars p) = omega (arith, size-same p)
 size-same (opts p) = omega (arith, size-same p)
 
-mutual
-  depth-same : {a b : Tree} → Same a b → depth a ≡ depth b
-  depth-same sets = refl
-  depth-same same = refl
-  depth-same (seqs p q) = rw (depth-same p, depth-same q) refl
-  depth-same (alts p q) = rw (depth-same p, alternatives-same q) refl
-  depth-same (groups p) = omega (arith, depth-same p)
-  depth-same (stars p) = omega (arith, depth-same p)
-  depth-same (opts p) = omega (arith, depth-same p)
+less-same : {c d : Tree} {m n : ℕ} → Same c d → m ≡ n → without_alternation c m ≡ without_alternation d n
+less-same sets e = e
+less-same same e = ap (without_alternation _) e
+less-same (seqs p q) e = e
+less-same (alts p q) e = ap (λ m. m - 1) e
+less-same (groups p) e = e
+less-same (stars p) e = e
+less-same (opts p) e = e
 
-  alternatives-same : {c d : Tree} → Same c d → alternatives_depth c ≡ alternatives_depth d
-  alternatives-same sets = refl
-  alternatives-same same = refl
-  alternatives-same (seqs p q) = rw (depth-same p, depth-same q) refl
-  alternatives-same (alts p q) = rw (depth-same p, alternatives-same q) refl
-  alternatives-same (groups p) = omega (arith, depth-same p)
-  alternatives-same (stars p) = omega (arith, depth-same p)
-  alternatives-same (opts p) = omega (arith, depth-same p)
+depth-same : {a b : Tree} → Same a b → depth a ≡ depth b
+depth-same sets = refl
+depth-same same = refl
+depth-same (seqs p q) = rw (depth-same p, depth-same q) refl
+depth-same (alts p q) = omega (arith, depth-same p, less-same q (depth-same q))
+depth-same (groups p) = omega (arith, depth-same p)
+depth-same (stars p) = omega (arith, depth-same p)
+depth-same (opts p) = omega (arith, depth-same p)
 
 concatenation-same : {ts us : List Tree} → SameAll ts us → Same (concatenation ts) (concatenation us)
 concatenation-same nothing = same

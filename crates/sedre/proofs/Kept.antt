@@ -8,7 +8,7 @@ use Rattle.sedre.specs.declared.types.Node.{Node}
 use Rattle.sedre.specs.declared.parts.Part.{Part}
 use Rattle.sedre.specs.Packed.{PartsBelow}
 use Rattle.sedre.specs.Tree.{Tree}
-use Rattle.sedre.specs.Sizes.{size, depth, alternatives_depth}
+use Rattle.sedre.specs.Sizes.{size, depth, without_alternation}
 use Rattle.sedre.specs.Stacks.{postorder, written, total, fitting, part_of, parts_of, last_end}
 use Rattle.sedre.proofs.Written.{length-written, written-append_0, total-append}
 
@@ -114,10 +114,10 @@ same_part p e d i a b c =
 
 -- the measures of the new tree
 pub put_parts : (limit : ℕ) (ts us : List Tree) (t : Tree) (ps new : List Part) (one : Part) (ends : ℕ) → ps ≡ parts_of limit 0 ts → ends ≡ min (total ts + total us) limit → size t ≡ 1 + total us →
-    one.end ≡ min (ends + 1) limit → one.depth ≡ min 601 (depth t) → one.inner ≡ min 601 (alternatives_depth t) → new ≡ ps ++ one ∷ [] → new ≡ parts_of limit 0 (ts ++ t ∷ [])
+    one.end ≡ min (ends + 1) limit → one.depth ≡ min 601 (depth t) → one.inner ≡ min 601 (without_alternation t (depth t)) → new ≡ ps ++ one ∷ [] → new ≡ parts_of limit 0 (ts ++ t ∷ [])
 put_parts limit ts us t ps new one ends parts here sized e d i more =
     more ∙ ap (λ (x : List Part). x ++ one ∷ []) parts
-    ∙ ap (λ (x : Part). parts_of limit 0 ts ++ x ∷ []) (same_part one (min (total ts + size t) limit) (min 601 (depth t)) (min 601 (alternatives_depth t)) (omega (arith, e, here, sized)) d i)
+    ∙ ap (λ (x : Part). parts_of limit 0 ts ++ x ∷ []) (same_part one (min (total ts + size t) limit) (min 601 (depth t)) (min 601 (without_alternation t (depth t))) (omega (arith, e, here, sized)) d i)
     ∙ sym (parts-append_0 limit ts (t ∷ []))
 
 pub last_end_found : (ps : List Part) (p : Part) → slice_get ps (length ps - 1) ≡ Some p → last_end ps ≡ p.end

@@ -12,7 +12,7 @@ use Rattle.sedre.specs.declared.stack.Stack.{Stack}
 use Rattle.sedre.specs.Covers.{cover_node}
 use Rattle.sedre.specs.Packed.{id, PartsBelow, shifted}
 use Rattle.sedre.specs.Tree.{Tree, empty, seq, alt}
-use Rattle.sedre.specs.Sizes.{size, depth, alternatives_depth, concatenation}
+use Rattle.sedre.specs.Sizes.{size, depth, without_alternation, concatenation}
 use Rattle.sedre.specs.Stacks.{postorder, written, total, fitting, part_of, parts_of, last_end, IsLeaf, Puts, Stored, pair, chain, covered}
 use Rattle.sedre.proofs.Written.{size_positive, length-postorder, length-written, written-append_0, total-append, snoc_last, split_last}
 use Rattle.sedre.proofs.Copied.{postorder-shifted}
@@ -27,7 +27,7 @@ on_ok_map (Err x) P Q f p = tt
 put_over : (limit : ℕ) (ts us : List Tree) (t : Tree) (ns : List Node) (ps : List Part) (new : Stack) (n : Node) (ends d i : ℕ) → Puts limit ns ps new n ends d i →
     ns ≡ written 0 (fitting limit 0 (ts ++ us)) → ps ≡ parts_of limit 0 ts → ends ≡ min (total ts + total us) limit → size t ≡ 1 + total us →
     (total ts + size t < limit → PartsBelow (total ts + total us) n × (postorder (total ts) t ≡ written (total ts) us ++ n ∷ [])) →
-    d ≡ min 601 (depth t) → i ≡ min 601 (alternatives_depth t) → Stored limit new (ts ++ t ∷ [])
+    d ≡ min 601 (depth t) → i ≡ min 601 (without_alternation t (depth t)) → Stored limit new (ts ++ t ∷ [])
 put_over limit ts us t ns ps new n ends d i p is parts here sized spelled ed ei = record {
   limit_is = p.limit_is;
   nodes_are = put_nodes limit ts us t n ns new.nodes ps ends is parts here sized spelled p.kept p.over;
@@ -66,7 +66,7 @@ cover_depth (cover.Group k) a = refl
 cover_depth (cover.Star first) a = refl
 cover_depth (cover.Opt first) a = refl
 
-cover_inner : (c : Cover) (a : Tree) → alternatives_depth (covered c a) ≡ 1 + depth a
+cover_inner : (c : Cover) (a : Tree) → without_alternation (covered c a) (depth (covered c a)) ≡ 1 + depth a
 cover_inner (cover.Group k) a = refl
 cover_inner (cover.Star first) a = refl
 cover_inner (cover.Opt first) a = refl
@@ -107,7 +107,7 @@ two_over : (over : Tree → Tree → Tree) (make : NodeId → NodeId → Node) �
     ((base : ℕ) (a b : Tree) → postorder base (over a b) ≡ (postorder base a ++ postorder (base + size a) b) ++ make (id (base + size a - 1)) (id (base + size a + size b - 1)) ∷ []) →
     ((a b : Tree) → size (over a b) ≡ 1 + size a + size b) → ((i j : NodeId) (k : ℕ) → i.index < k → j.index < k → PartsBelow k (make i j)) →
     (limit : ℕ) (old new : Stack) (ts : List Tree) (a b : Tree) (p1 p0 : List Part) (p q : Part) (left right : NodeId) (d i : ℕ) → Stored limit old (ts ++ a ∷ b ∷ []) → old.parts.items ≡ p1 ++ q ∷ [] → p1 ≡ p0 ++ p ∷ [] →
-    left.index ≡ p.end - 1 → right.index ≡ q.end - 1 → d ≡ min 601 (depth (over a b)) → i ≡ min 601 (alternatives_depth (over a b)) → Puts old.limit old.nodes p0 new (make left right) q.end d i →
+    left.index ≡ p.end - 1 → right.index ≡ q.end - 1 → d ≡ min 601 (depth (over a b)) → i ≡ min 601 (without_alternation (over a b) (depth (over a b))) → Puts old.limit old.nodes p0 new (make left right) q.end d i →
     Stored limit new (ts ++ over a b ∷ [])
 two_over over make spelled sized below limit old new ts a b p1 p0 p q left right d i s e1 e0 el er ed ei put =
     let last = last_two limit old ts a b p1 p0 p q s e1 e0 in
@@ -132,7 +132,7 @@ pub stored_alt : (limit : ℕ) (old new : Stack) (ts : List Tree) (a b : Tree) (
 stored_alt limit old new ts a b p1 p0 p q left right d i s e1 e0 el er ei ed put =
     let last = last_two limit old ts a b p1 p0 p q s e1 e0 in
     let deep : p.depth ≡ min 601 (depth a) = ap (λ (x : Part). x.depth) last.1 in
-    let inner : q.inner ≡ min 601 (alternatives_depth b) = ap (λ (x : Part). x.inner) last.2 in
+    let inner : q.inner ≡ min 601 (without_alternation b (depth b)) = ap (λ (x : Part). x.inner) last.2 in
     two_over alt node.Alt (λ _ _ _. refl) (λ _ _. refl) (λ _ _ _ h g. (h, g)) limit old new ts a b p1 p0 p q left right d i s e1 e0 el er (omega (arith, ed, ei, deep, inner)) (omega (arith, ei, deep, inner)) put
 
 pub stored_seq : (limit : ℕ) (old new : Stack) (ts : List Tree) (a b : Tree) (p1 p0 : List Part) (p q : Part) (left right : NodeId) (d : ℕ) → Stored limit old (ts ++ a ∷ b ∷ []) → old.parts.items ≡ p1 ++ q ∷ [] → p1 ≡ p0 ++ p ∷ [] →
@@ -187,7 +187,7 @@ stored_copy limit old new ts a ps p one count s e ec ee ed ei el ep kept over =
             ∙ ap (written 0) (sym (fitting_all limit 0 ((ts ++ a ∷ []) ++ a ∷ []) (omega (arith, w.1, all)))))
       ];
       parts_are = ep ∙ ap (λ (x : List Part). x ++ one ∷ []) (sym e ∙ s.parts_are)
-          ∙ ap (λ (x : Part). parts_of limit 0 (ts ++ a ∷ []) ++ x ∷ []) (same_part one (min (total (ts ++ a ∷ []) + size a) limit) (min 601 (depth a)) (min 601 (alternatives_depth a))
+          ∙ ap (λ (x : Part). parts_of limit 0 (ts ++ a ∷ []) ++ x ∷ []) (same_part one (min (total (ts ++ a ∷ []) + size a) limit) (min 601 (depth a)) (min 601 (without_alternation a (depth a)))
           (omega (arith, ee, ec, before, ends, lim, both)) (ed ∙ ap (λ (x : Part). x.depth) last.1) (ei ∙ ap (λ (x : Part). x.inner) last.1))
           ∙ sym (parts-append_0 limit (ts ++ a ∷ []) (a ∷ []));
     }

@@ -45,22 +45,17 @@ size (star a first) = 1 + size a
 size (opt a first) = 1 + size a
 size other = 1
 
+-- the depth d of a tree, less the one that it adds if it is an alternation
+abbrev pub without_alternation : Tree → (d : ℕ) → ℕ
+without_alternation (alt a b) d = d - 1
+without_alternation other d = d
+
 -- how deep it nests: a group and a repetition add one, an alternation adds one for all its alternatives together (this
 -- project's own)
-abbrev mutual
-  pub depth : Tree → ℕ
-  depth (seq a b) = max (depth a) (depth b)
-  depth (alt a b) = 1 + max (depth a) (alternatives_depth b)
-  depth (group k a) = 1 + depth a
-  depth (star a first) = 1 + depth a
-  depth (opt a first) = 1 + depth a
-  depth other = 0
-
-  -- of the alternatives after the first
-  pub alternatives_depth : Tree → ℕ
-  alternatives_depth (seq a b) = max (depth a) (depth b)
-  alternatives_depth (alt a b) = max (depth a) (alternatives_depth b)
-  alternatives_depth (group k a) = 1 + depth a
-  alternatives_depth (star a first) = 1 + depth a
-  alternatives_depth (opt a first) = 1 + depth a
-  alternatives_depth other = 0
+abbrev pub depth : Tree → ℕ
+depth (seq a b) = max (depth a) (depth b)
+depth (alt a b) = 1 + max (depth a) (without_alternation b (depth b))
+depth (group k a) = 1 + depth a
+depth (star a first) = 1 + depth a
+depth (opt a first) = 1 + depth a
+depth other = 0

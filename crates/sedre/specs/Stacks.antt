@@ -13,7 +13,7 @@ use Rattle.sedre.specs.declared.stack.Stack.{Stack}
 use Rattle.sedre.specs.declared.builder.Builder.{Builder}
 use Rattle.sedre.specs.Packed.{id, PartsBelow}
 use Rattle.sedre.specs.Tree.{Tree, empty, set, begin, end, seq, alt, group, star, opt}
-use Rattle.sedre.specs.Sizes.{size, depth, alternatives_depth, concatenation, alternation, repetition}
+use Rattle.sedre.specs.Sizes.{size, depth, without_alternation, concatenation, alternation, repetition}
 
 -- the finished alternatives of an open group, and the pieces of the one that is read
 pub record Level : Type 0 where
@@ -112,7 +112,7 @@ fitting limit base (t ∷ ts) = if nat_lt (base + size t) limit then t ∷ fitti
 -- what is kept of a tree whose nodes end there
 abbrev pub part_of : ℕ → ℕ → Tree → Part
 part_of limit ends t =
-    record { end = min ends limit; depth = min 601 (depth t); inner = min 601 (alternatives_depth t) }
+    record { end = min ends limit; depth = min 601 (depth t); inner = min 601 (without_alternation t (depth t)) }
 
 abbrev pub parts_of : ℕ → ℕ → List Tree → List Part
 parts_of limit base [] = []
@@ -120,7 +120,7 @@ parts_of limit base (t ∷ ts) = part_of limit (base + size t) t ∷ parts_of li
 
 -- the node stands for the tree, which has no parts
 abbrev pub IsLeaf : Node → Tree → Type 0
-IsLeaf n t = ((base : ℕ) → postorder base t ≡ n ∷ []) × (size t ≡ 1) × (depth t ≡ 0) × (alternatives_depth t ≡ 0)
+IsLeaf n t = ((base : ℕ) → postorder base t ≡ n ∷ []) × (size t ≡ 1) × (depth t ≡ 0) × (without_alternation t (depth t) ≡ 0)
     × ((k : ℕ) → PartsBelow k n)
 
 -- where the nodes of the last tree end
