@@ -12,10 +12,11 @@ use Rattle.sedre.specs.declared.intervals.Interval.{Interval as Bounds}
 use Rattle.sedre.specs.declared.syntax.Symbol.{Symbol}
 use Rattle.sedre.specs.declared.syntax.Symbol.TheVariants.{Literal, AnyByte, Opening, Closing, Parting, Star, Plus, Question, Interval, IntervalEnd, BracketOpening, Caret, Dollar, Unknown}
 use Rattle.sedre.specs.declared.syntax.Item.{Item}
+use Rattle.sedre.specs.declared.syntax.Item.TheVariants.{AtBegin, AtEnd}
 use Rattle.sedre.specs.declared.syntax.Here.{Here}
 use Rattle.sedre.specs.declared.syntax.Here.TheVariants.{Is, Ends, Bad}
 use Rattle.sedre.specs.Brackets.{elements, element, elements_from, begins, is_dash, goes_on_as_range, ListedBytes, single, between_ends, range_to, range, both, listed, judged, list_at}
-use Rattle.sedre.specs.Items.{interval, symbol, is_first, is_repeatable, is_repeat, ends_alternative, repeats, interval_item, list_item, star_item, question_item, caret_item, dollar_item, item_for, item_at}
+use Rattle.sedre.specs.Items.{interval, symbol, is_first, is_repeatable, is_repeat, ends_alternative, repeats, interval_item, list_item, star_item, question_item, anchor_item, item_for, item_at}
 use Rattle.sedre.specs.Grammar.{Row, bad, stray, unclosed, deep, large, FaultyWith}
 
 -- the elements of a list stand up to a place
@@ -135,15 +136,10 @@ question_here : (n at next : ℕ) (kind : Kind) (may repeated : Bool) → at ≤
 question_here n at next Basic may repeated le = repeats_here n at may _ le le
 question_here n at next Extended may repeated le = repeats_here n at (may && not repeated) _ le le
 
-caret_here : (n at next : ℕ) (kind : Kind) (first : Bool) → at ≤ n → HereUpTo n at (caret_item kind first next)
-caret_here n at next Basic true le = le
-caret_here n at next Basic false le = le
-caret_here n at next Extended first le = le
-
-dollar_here : (n at next : ℕ) (kind : Kind) (last : Bool) → at ≤ n → HereUpTo n at (dollar_item kind last next)
-dollar_here n at next Basic true le = le
-dollar_here n at next Basic false le = le
-dollar_here n at next Extended last le = le
+anchor_here : (n at next : ℕ) (kind : Kind) (stands : Bool) (b : ℕ) (anchor : Item) → at ≤ n → HereUpTo n at (anchor_item kind stands b anchor next)
+anchor_here n at next Basic true b anchor le = le
+anchor_here n at next Basic false b anchor le = le
+anchor_here n at next Extended stands b anchor le = le
 
 module _ (kind : Kind) (folded : Bool) (delimiter : Option ℕ) (text : List ℕ) where
   symbol_here : (before : Option Item) (at : ℕ) (s : Option (Symbol × ℕ)) → at < length text → HereUpTo (length text) at (item_for kind folded delimiter text before at s)
@@ -161,9 +157,9 @@ module _ (kind : Kind) (folded : Bool) (delimiter : Option ℕ) (text : List ℕ
       (interval_here (length text) at (at + n) (interval kind delimiter (drop (at + n) text)) (omega (arith, inside)))
   symbol_here before at (Some (IntervalEnd, n)) inside = omega (arith, inside)
   symbol_here before at (Some (BracketOpening, n)) inside = list_here (length text) at (list_at folded delimiter text at) (omega (arith, inside)) (list_told folded delimiter text at inside)
-  symbol_here before at (Some (Caret, n)) inside = caret_here (length text) at (at + n) kind (is_first before) (omega (arith, inside))
+  symbol_here before at (Some (Caret, n)) inside = anchor_here (length text) at (at + n) kind (is_first before) 94 AtBegin (omega (arith, inside))
   symbol_here before at (Some (Dollar, n)) inside =
-      dollar_here (length text) at (at + n) kind (ends_alternative (symbol kind delimiter (drop (at + n) text))) (omega (arith, inside))
+      anchor_here (length text) at (at + n) kind (ends_alternative (symbol kind delimiter (drop (at + n) text))) 36 AtEnd (omega (arith, inside))
   symbol_here before at (Some (Unknown reason, n)) inside = omega (arith, inside)
 
   rest_here : (before : Option Item) (at : ℕ) (bs : List ℕ) → drop at text ≡ bs → HereUpTo (length text) at (item_for kind folded delimiter text before at (symbol kind delimiter bs))

@@ -16,7 +16,7 @@ use Rattle.sedre.specs.declared.syntax.Item.{Item}
 use Rattle.sedre.specs.declared.syntax.Item.TheVariants.{Byte, Open, Close, Bar, Repeat, AtBegin, AtEnd}
 use Rattle.sedre.specs.Stacks.{IsInterval}
 use Rattle.sedre.specs.Brackets.{begins, list_at}
-use Rattle.sedre.specs.Items.{symbol, numeral, closes, limit, after_least, interval, item_at, item_for, is_repeatable, is_repeat, is_first, ends_alternative, repeats, interval_item, list_item, star_item, question_item, caret_item, dollar_item}
+use Rattle.sedre.specs.Items.{symbol, numeral, closes, limit, after_least, interval, item_at, item_for, is_repeatable, is_repeat, is_first, ends_alternative, repeats, interval_item, list_item, star_item, question_item, anchor_item}
 
 -- a repetition stands where one may, with bounds in order
 abbrev pub FineItem : Bool → Item → Type 0
@@ -89,15 +89,10 @@ fine_plus : (may : Bool) (at next : ℕ) → Fine may (repeats may at (Is (Repea
 fine_plus true at next = (refl, tt)
 fine_plus false at next = tt
 
-fine_caret : (kind : Kind) (may first : Bool) (next : ℕ) → Fine may (caret_item kind first next)
-fine_caret Basic may true next = tt
-fine_caret Basic may false next = tt
-fine_caret Extended may first next = tt
-
-fine_dollar : (kind : Kind) (may last : Bool) (next : ℕ) → Fine may (dollar_item kind last next)
-fine_dollar Basic may true next = tt
-fine_dollar Basic may false next = tt
-fine_dollar Extended may last next = tt
+fine_anchor : (kind : Kind) (may stands : Bool) (b : ℕ) (anchor : Item) (next : ℕ) → FineItem may anchor → Fine may (anchor_item kind stands b anchor next)
+fine_anchor Basic may true b anchor next h = h
+fine_anchor Basic may false b anchor next h = tt
+fine_anchor Extended may stands b anchor next h = h
 
 fine_for : (kind : Kind) (folded : Bool) (delimiter : Option ℕ) (text : List ℕ) (before : Option Item) (at : ℕ) (o : Option (Symbol × ℕ)) → Fine (is_repeatable before) (item_for kind folded delimiter text before at o)
 fine_for kind folded delimiter text before at None = tt
@@ -112,8 +107,8 @@ fine_for kind folded delimiter text before at (Some (Question, n)) = fine_questi
 fine_for kind folded delimiter text before at (Some (Interval, n)) = fine_interval_item (is_repeatable before) (interval kind delimiter (drop (at + n) text)) at (at + n) (fine_interval kind delimiter (drop (at + n) text))
 fine_for kind folded delimiter text before at (Some (IntervalEnd, n)) = tt
 fine_for kind folded delimiter text before at (Some (BracketOpening, n)) = fine_list (is_repeatable before) (list_at folded delimiter text at)
-fine_for kind folded delimiter text before at (Some (Caret, n)) = fine_caret kind (is_repeatable before) (is_first before) (at + n)
-fine_for kind folded delimiter text before at (Some (Dollar, n)) = fine_dollar kind (is_repeatable before) (ends_alternative (symbol kind delimiter (drop (at + n) text))) (at + n)
+fine_for kind folded delimiter text before at (Some (Caret, n)) = fine_anchor kind (is_repeatable before) (is_first before) 94 AtBegin (at + n) tt
+fine_for kind folded delimiter text before at (Some (Dollar, n)) = fine_anchor kind (is_repeatable before) (ends_alternative (symbol kind delimiter (drop (at + n) text))) 36 AtEnd (at + n) tt
 fine_for kind folded delimiter text before at (Some (Unknown reason, n)) = tt
 
 fine_at : (kind : Kind) (folded : Bool) (delimiter : Option ℕ) (text : List ℕ) (before : Option Item) (at : ℕ) → Fine (is_repeatable before) (item_at kind folded delimiter text before at)

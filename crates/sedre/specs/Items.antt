@@ -162,17 +162,12 @@ abbrev pub question_item : Kind → (may repeated : Bool) → (at next : ℕ) �
 question_item Basic may repeated at next = repeats may at (Is (Repeat 0 (Some 1)) next)
 question_item Extended may repeated at next = repeats (may && not repeated) at (Is (Repeat 0 (Some 1)) next)
 
--- ^ is an anchor where it is first in a basic expression, and everywhere in an extended one (XBD 9.3.8, 9.4.9); that it
--- is first after an opening or an alternation symbol is this project's own
-abbrev pub caret_item : Kind → (first : Bool) → (next : ℕ) → Here
-caret_item Basic false next = Is (Byte (only 94)) next
-caret_item kind first next = Is AtBegin next
-
--- $ is an anchor where an alternative of a basic expression ends, and everywhere in an extended one (XBD 9.3.8, 9.4.9);
--- before a closing or an alternation symbol of a basic one this is this project's own
-abbrev pub dollar_item : Kind → (last : Bool) → (next : ℕ) → Here
-dollar_item Basic false next = Is (Byte (only 36)) next
-dollar_item kind last next = Is AtEnd next
+-- ^ is an anchor where it is first in a basic expression, $ where an alternative of one ends, and both are everywhere in an
+-- extended one (XBD 9.3.8, 9.4.9); that ^ is first after an opening or an alternation symbol, and that $ is an anchor
+-- before a closing or an alternation symbol of a basic expression, is this project's own
+abbrev pub anchor_item : Kind → (stands : Bool) → (b : ℕ) → (anchor : Item) → (next : ℕ) → Here
+anchor_item Basic false b anchor next = Is (Byte (only b)) next
+anchor_item kind stands b anchor next = Is anchor next
 
 -- what a symbol is, after an item. Where case is folded, a literal byte stands for both cases of its letter (this
 -- project's own); those of * ^ and $ are no letters. An interval's closing that stands alone is refused
@@ -193,9 +188,9 @@ item_for kind folded delimiter text before at (Some (Interval, n)) =
     repeats (is_repeatable before) at (interval_item (interval kind delimiter (drop (at + n) text)) at (at + n))
 item_for kind folded delimiter text before at (Some (IntervalEnd, n)) = fault at BadInterval
 item_for kind folded delimiter text before at (Some (BracketOpening, n)) = list_item (list_at folded delimiter text at)
-item_for kind folded delimiter text before at (Some (Caret, n)) = caret_item kind (is_first before) (at + n)
+item_for kind folded delimiter text before at (Some (Caret, n)) = anchor_item kind (is_first before) 94 AtBegin (at + n)
 item_for kind folded delimiter text before at (Some (Dollar, n)) =
-    dollar_item kind (ends_alternative (symbol kind delimiter (drop (at + n) text))) (at + n)
+    anchor_item kind (ends_alternative (symbol kind delimiter (drop (at + n) text))) 36 AtEnd (at + n)
 item_for kind folded delimiter text before at (Some (Unknown reason, n)) = fault at reason
 
 -- what stands at a place of a text after an item

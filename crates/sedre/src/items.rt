@@ -2,7 +2,7 @@
 ghost use Rattle.std.specs.Prelude.{◌≡◌, ◌<◌, ◌≤◌, ◌+◌, length};
 ghost use Rattle.std.specs.Option.{ForSome};
 ghost use Rattle.sedre.specs.Sets.{only};
-ghost use Rattle.sedre.specs.Items.{symbol, interval, is_first, is_repeatable, is_repeat, ends_alternative, fault, repeats, interval_item, list_item, star_item, question_item, caret_item, dollar_item, item_at};
+ghost use Rattle.sedre.specs.Items.{symbol, interval, is_first, is_repeatable, is_repeat, ends_alternative, fault, repeats, interval_item, list_item, star_item, question_item, anchor_item, item_at};
 ghost use Rattle.sedre.specs.Finished.{IsAfter};
 
 use crate::brackets::list_at;
@@ -109,31 +109,13 @@ fn list_item(list: Result<(ByteSet, usize), ExprFault>) -> Here
     }
 }
 
-/// The item of a `^`, which stands `first` in its alternative or doesn't.
-fn caret_item(kind: Kind, first: bool, next: usize) -> Here
-    ensures { result ≡ caret_item kind first next }
+/// The item of a `^` or a `$`, the byte `b`: the anchor, but in a basic expression a literal where no anchor `stands`.
+fn anchor_item(kind: Kind, stands: bool, b: u8, anchor: Item, next: usize) -> Here
+    ensures { result ≡ anchor_item kind stands b anchor next }
 {
     match kind {
-        Kind::Basic => if first {
-            Here::Is(Item::AtBegin, next)
-        } else {
-            literal(b'^', next)
-        },
-        Kind::Extended => Here::Is(Item::AtBegin, next),
-    }
-}
-
-/// The item of a `$`, which stands `last` in its alternative or doesn't.
-fn dollar_item(kind: Kind, last: bool, next: usize) -> Here
-    ensures { result ≡ dollar_item kind last next }
-{
-    match kind {
-        Kind::Basic => if last {
-            Here::Is(Item::AtEnd, next)
-        } else {
-            literal(b'$', next)
-        },
-        Kind::Extended => Here::Is(Item::AtEnd, next),
+        Kind::Basic if !stands => literal(b, next),
+        _ => Here::Is(anchor, next),
     }
 }
 
@@ -172,10 +154,10 @@ pub fn item_at(
         }
         Symbol::IntervalEnd => fault(at, Reason::BadInterval),
         Symbol::BracketOpening => list_item(list_at(folded, delimiter, text, at)),
-        Symbol::Caret => caret_item(kind, is_first(&before), next),
+        Symbol::Caret => anchor_item(kind, is_first(&before), b'^', Item::AtBegin, next),
         Symbol::Dollar => {
             let last = ends_alternative(symbol_at(kind, delimiter, text, next));
-            dollar_item(kind, last, next)
+            anchor_item(kind, last, b'$', Item::AtEnd, next)
         }
         Symbol::Unknown(reason) => fault(at, reason),
     }
