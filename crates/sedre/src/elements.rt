@@ -43,19 +43,14 @@ fn before_closing(closing: u8, bytes: &[u8]) -> Option<usize>
 fn form_of(kind: u8, held: &[u8]) -> Element
     ensures { result ≡ form_of kind held.now }
 {
-    match kind {
-        b':' => match Class::named(held) {
+    match (kind, held) {
+        (b':', _) => match Class::named(held) {
             Some(class) => Element::OfClass(class),
             None => Element::Wrong(Reason::UnknownClass),
         },
-        b'=' => match held {
-            [b] => Element::Equivalent(*b),
-            _ => Element::Wrong(Reason::LongCollating),
-        },
-        _ => match held {
-            [b] => Element::Collating(*b),
-            _ => Element::Wrong(Reason::LongCollating),
-        },
+        (b'=', [b]) => Element::Equivalent(*b),
+        (_, [b]) => Element::Collating(*b),
+        _ => Element::Wrong(Reason::LongCollating),
     }
 }
 
