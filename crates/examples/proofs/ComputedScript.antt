@@ -14,7 +14,7 @@ use Rattle.sedscript.specs.declared.types.FileUse.TheVariants.{Read, Write}
 use Rattle.sedscript.specs.declared.bytes.Sort.TheVariants.{Separator}
 use Rattle.sedscript.specs.Bytes.{bytes_between, past}
 use Rattle.sedscript.specs.Items.{Pattern, Reading, plainly, expression, item_at}
-use Rattle.sedscript.specs.Script.{IsRead, Gives, value, after_expression, CutScript, done, IsEnd, texts_of, none_counted, substitutions_of, tables_of, commands_of, is_quiet, Means}
+use Rattle.sedscript.specs.Script.{IsRead, Gives, value, after_expression, CutScript, done, IsEnd, texts_of, substitutions_of, tables_of, commands_of, is_quiet, Means}
 use Rattle.sedscript.specs.FirstFault.{in_script, Fails, own, no_expression, later, Faulty, early, afterwards}
 use Rattle.sedscript.specs.Targets.{files_in, target_fault}
 use Rattle.sedscript.specs.Program.{Program}
@@ -77,7 +77,7 @@ module _ (text : List ℕ) (kind : Kind) (max_nodes : ℕ) where
   -- the script of these items and expressions
   abbrev pub program_of : List Item → List WrittenExpression → Program
   program_of is es = record {
-    commands = commands_of text is [] none_counted is;
+    commands = commands_of text is [] is;
     expressions = es;
     texts = texts_of text is;
     substitutions = substitutions_of text is is;

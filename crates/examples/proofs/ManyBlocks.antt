@@ -8,7 +8,6 @@ use Rattle.sedre.specs.declared.types.Kind.{Kind}
 use Rattle.sedscript.specs.declared.bytes.Sort.TheVariants.{Separator, Blank}
 use Rattle.sedscript.specs.declared.types.Action.TheVariants.{Block}
 use Rattle.sedscript.specs.declared.types.Command.{Command}
-use Rattle.sedscript.specs.declared.items.Counts.{Counts}
 use Rattle.sedscript.specs.declared.types.FileUse.TheVariants.{Read, Write}
 use Rattle.sedscript.specs.declared.items.Function.TheVariants.{Close}
 use Rattle.sedscript.specs.declared.items.Here.{Here}
@@ -16,7 +15,7 @@ use Rattle.sedscript.specs.declared.items.Here.TheVariants.{Is}
 use Rattle.sedscript.specs.declared.items.Item.{Item}
 use Rattle.sedscript.specs.Items.{Headed, address_at, addresses_at, addresses_of, with_bang, function_at, item_at, Reading, plainly}
 use Rattle.sedscript.specs.Bytes.{past}
-use Rattle.sedscript.specs.Script.{Gives, value, CutScript, done, item, IsEnd, Means, commands_of, is_quiet, none_counted, substitutions_of, tables_of, texts_of}
+use Rattle.sedscript.specs.Script.{Gives, value, CutScript, done, item, IsEnd, Means, commands_of, is_quiet, substitutions_of, tables_of, texts_of}
 use Rattle.sedscript.specs.Targets.{files_in, block_end, close_in, commands_in, becomes_command, target_fault_in}
 use Rattle.sedscript.specs.Functions.{may_end}
 use Rattle.sedscript.specs.Program.{Program}
@@ -164,17 +163,17 @@ commands-snoc (i ∷ is) at = by_kind (becomes_command i.function) refl (command
     by_kind true e h = rw e (ap suc h)
     by_kind false e h = rw e h
 
-no_commands : (text : List ℕ) (all before : List Item) (counts : Counts) (n at : ℕ) → commands_of text all before counts (closings at n) ≡ []
-no_commands text all before counts zero at = refl
-no_commands text all before counts (suc n) at = no_commands text all (before ++ closing at ∷ []) counts n (at + 1)
+no_commands : (text : List ℕ) (all before : List Item) (n at : ℕ) → commands_of text all before (closings at n) ≡ []
+no_commands text all before zero at = refl
+no_commands text all before (suc n) at = no_commands text all (before ++ closing at ∷ []) n (at + 1)
 
-commands_are : (text : List ℕ) (all before : List Item) (counts : Counts) (k n c at to : ℕ) → k ≤ n → commands_in before + k ≡ c →
-    commands_of text all before counts (openings at k ++ closings to n) ≡ replicate k (always (Block c))
-commands_are text all before counts zero n c at to fits e = no_commands text all before counts n to
-commands_are text all before counts (suc k) n c at to fits e =
+commands_are : (text : List ℕ) (all before : List Item) (k n c at to : ℕ) → k ≤ n → commands_in before + k ≡ c →
+    commands_of text all before (openings at k ++ closings to n) ≡ replicate k (always (Block c))
+commands_are text all before zero n c at to fits e = no_commands text all before n to
+commands_are text all before (suc k) n c at to fits e =
     rw (ends_behind before k n c (at + 1) to fits (omega (arith, e)))
     (ap (λ (rest : List Command). always (Block c) ∷ rest)
-    (commands_are text all (before ++ opening at ∷ []) counts k n c (at + 1) to (omega arith) (omega (arith, e, commands-snoc before at))))
+    (commands_are text all (before ++ opening at ∷ []) k n c (at + 1) to (omega arith) (omega (arith, e, commands-snoc before at))))
 
 -- ---- what else the script has
 
@@ -235,7 +234,7 @@ means kind most n = record {
   items = items_of n;
   to = n + n;
   judged = record { cut = cut_blocks kind most n; ends = at_end n; settled = blocks_well (blocks n) (items_of n) [] n n 0 0 n (omega arith) };
-  commands = sym (commands_are (blocks n) (items_of n) [] none_counted n n n 0 n (omega arith) (omega arith));
+  commands = sym (commands_are (blocks n) (items_of n) [] n n n 0 n (omega arith) (omega arith));
   texts = sym (no_texts (blocks n) n n 0 n);
   substitutions = sym (no_substitutions (blocks n) (items_of n) n n 0 n);
   tables = sym (no_tables (blocks n) n n 0 n);

@@ -1,6 +1,6 @@
 -- Two texts with a newline between them: no label and no block is wrong there if none is in the two.
-use Rattle.std.proofs.Common.{◌⊎◌, inl, inr, not, ◌≡◌, ℕ, zero, suc, ◌+◌, ◌-◌, ◌≤◌, ◌&&◌, ◌||◌, ◌==◌, Bool, true, false, List, [], ◌∷◌, ◌++◌, length, map, Option, Some, None, is_none, is_some, refl, sym, ap, ap₂, subst, ◌∙◌, arith, if◌then◌else◌, slice_get, zero-add, append_assoc, length-append}
-use Rattle.std.specs.List.{list_all, list_any}
+use Rattle.std.proofs.Common.{◌⊎◌, inl, inr, not, ◌≡◌, ℕ, zero, suc, ◌+◌, ◌-◌, ◌≤◌, ◌&&◌, ◌||◌, ◌==◌, Bool, true, false, List, [], ◌∷◌, ◌++◌, length, map, Option, Some, None, is_none, is_some, refl, sym, ap, ap₂, subst, ◌∙◌, arith, if◌then◌else◌, slice_get, zero-add, append_assoc, length-append, option_map}
+use Rattle.std.specs.List.{cons_option, list_all, list_any}
 use Rattle.std.specs.Option.{option_or}
 use Rattle.std.specs.Str.{bytes_eq}
 use Rattle.std.proofs.lemmas.Bool.Decides.{nat_tests}
@@ -9,15 +9,14 @@ use Rattle.sedscript.specs.declared.types.Action.{Action}
 use Rattle.sedscript.specs.declared.types.Command.{Command}
 use Rattle.sedscript.specs.declared.substitution.Substitution.{Substitution}
 use Rattle.sedscript.specs.declared.items.Addresses.{Addresses}
-use Rattle.sedscript.specs.declared.items.Counts.{Counts}
 use Rattle.sedscript.specs.declared.types.BranchUse.{BranchUse}
 use Rattle.sedscript.specs.declared.types.FileUse.TheVariants.{Read, Write}
 use Rattle.sedscript.specs.declared.items.Item.{Item}
 use Rattle.sedscript.specs.declared.items.Function.{Function}
 use Rattle.sedscript.specs.declared.items.Function.TheVariants.{Plain, Open, Close, Label, Branch, Text, File, Comment, Substitute, Transliterate}
 use Rattle.sedscript.specs.Bytes.{bytes_between}
-use Rattle.sedscript.specs.Targets.{becomes_command, counted, commands_in, is_close, is_label, label_in, depth_after, close_in, fault_if, target_fault_at, target_fault_in}
-use Rattle.sedscript.specs.Script.{substitution_of, sink_of, with_substitution, substitutions_of, counts_with, action_of, with_action, commands_of}
+use Rattle.sedscript.specs.Targets.{becomes_command, counted, commands_in, is_close, is_label, label_in, depth_after, close_in, number_in, fault_if, target_fault_at, target_fault_in}
+use Rattle.sedscript.specs.Script.{substitution_in, substitutions_of, action_of, command_of, commands_of}
 use Rattle.sedscript.specs.Program.{Program}
 use Rattle.examples.proofs.ComputedEnds.{both}
 use Rattle.scripts.specs.InTurn.{edits, is_own, replaces_only}
@@ -28,7 +27,7 @@ use Rattle.scripts.proofs.LongerStrings.{NextOn}
 use Rattle.scripts.proofs.LongerFunctions.{move_function, FunctionIn}
 use Rattle.scripts.proofs.LongerReading.{move_item}
 use Rattle.scripts.proofs.JoinedCuts.{ItemsIn}
-use Rattle.scripts.proofs.JoinedItems.{BranchOn, BranchesOn, counted_same, leaves_same, ClosesIn, AllClose, closing_on, depth_same}
+use Rattle.scripts.proofs.JoinedItems.{BranchOn, BranchesOn, counted_same, leaves_same, ClosesIn, AllClose, closing_on, depth_same, taken_snoc}
 
 -- ---- blocks
 
@@ -266,7 +265,7 @@ module _ (test : Action → Bool) where
   Passes None = Unit {0}
   Passes (Some does) = test does ≡ true
 
-  pub parts_of : (a : Addresses) (o : Option Action) (cs : List Command) → list_all (λ (c : Command). test c.action) (with_action a o cs) ≡ true → Passes o × (list_all (λ (c : Command). test c.action) cs ≡ true)
+  pub parts_of : (a : Addresses) (o : Option Action) (cs : List Command) → list_all (λ (c : Command). test c.action) (cons_option (option_map (command_of a) o) cs) ≡ true → Passes o × (list_all (λ (c : Command). test c.action) cs ≡ true)
   parts_of a None cs e = (tt, e)
   parts_of a (Some does) cs e = both (test does) (list_all (λ (c : Command). test c.action) cs) e
 
@@ -284,8 +283,8 @@ NoFiles (i ∷ is) = NoFile i.function × NoFiles is
 
 module _ (p : Program) (text : List ℕ) (all : List Item) where
   -- the substitution of a function has this number
-  abbrev Numbered : Counts → Function → Type 0
-  Numbered n (Substitute s e f) = slice_get p.substitutions n.substitutions ≡ Some (substitution_of text all s e f)
+  abbrev Numbered : ℕ → Function → Type 0
+  Numbered n (Substitute s e f) = slice_get p.substitutions n ≡ substitution_in text all (Substitute s e f)
   Numbered n other = Unit {0}
 
   at_seam : (xs ys : List Substitution) (k : ℕ) (x : Substitution) → length xs ≡ k → slice_get (xs ++ x ∷ ys) k ≡ Some x
@@ -294,19 +293,16 @@ module _ (p : Program) (text : List ℕ) (all : List Item) where
   at_seam (y ∷ xs) ys zero x e = absurd (omega (arith, e))
   at_seam (y ∷ xs) ys (suc k) x e = at_seam xs ys k x (omega (arith, e))
 
-  abbrev Left : Counts → List Substitution → Type 0
-  Left n rest = (before : List Substitution) × (p.substitutions ≡ before ++ rest) × (length before ≡ n.substitutions)
+  abbrev Left : ℕ → List Substitution → Type 0
+  Left n rest = (before : List Substitution) × (p.substitutions ≡ before ++ rest) × (length before ≡ n)
 
-  step : (n : Counts) (f : Function) (rest : List Substitution) → Left n (with_substitution text all f rest) → Left (counts_with n f) rest × Numbered n f
-  step n (Substitute s e f) rest left =
-      let x : Substitution = substitution_of text all s e f in
-      ((left.0 ++ x ∷ [], left.1 ∙ sym (append_assoc left.0 (x ∷ []) rest), length-append left.0 (x ∷ []) ∙ one left.2), ap (λ (xs : List Substitution). slice_get xs n.substitutions) left.1 ∙ at_seam left.0 rest n.substitutions x left.2)
-    where
-      one : {k : ℕ} → k ≡ n.substitutions → k + 1 ≡ suc n.substitutions
-      one e = omega (arith, e)
-  step n (Text u from to) rest left = (left, tt)
-  step n (Transliterate s) rest left = (left, tt)
-  step n other rest left = (left, tt)
+  one_left : (n : ℕ) (x : Substitution) (rest : List Substitution) → Left n (x ∷ rest) → Left (n + 1) rest × (slice_get p.substitutions n ≡ Some x)
+  one_left n x rest left =
+      ((left.0 ++ x ∷ [], left.1 ∙ sym (append_assoc left.0 (x ∷ []) rest), length-append left.0 (x ∷ []) ∙ ap (λ (k : ℕ). k + 1) left.2), ap (λ (xs : List Substitution). slice_get xs n) left.1 ∙ at_seam left.0 rest n x left.2)
+
+  step : (n : ℕ) (f : Function) (rest : List Substitution) → Left n (cons_option (substitution_in text all f) rest) → Left (n + length (cons_option (substitution_in text all f) [])) rest × Numbered n f
+  step n (Substitute s e f) rest left = one_left n _ rest left
+  step n other rest left = ((left.0, left.1, omega (arith, left.2)), tt)
 
   file_none : (o : Option Substitution) (t : Substitution) → o ≡ Some t → replaces_only p o ≡ true → is_none t.file ≡ true
   file_none None t e h = absurd cc
@@ -315,19 +311,21 @@ module _ (p : Program) (text : List ℕ) (all : List Item) where
       let one = both (is_own p x.expression) (not x.print && is_none x.file) h in
       ap (λ (x : Substitution). is_none x.file) (sym same) ∙ (both (not x.print) (is_none x.file) one.1).1
 
-  no_file_at : (before : List Item) (n : Counts) (after : List Item) (f : Function) → Passes (edits p) (action_of text all before n after f) → Numbered n f → NoFile f
-  no_file_at before n after (File Read from to) pass number = absurd cc
-  no_file_at before n after (File Write from to) pass number = absurd cc
-  no_file_at before n after (Substitute s e f) pass number = by_file f.file (file_none (slice_get p.substitutions n.substitutions) (substitution_of text all s e f) number pass)
+  no_file_at : (before after : List Item) (f : Function) → Passes (edits p) (action_of text all before after f) → Numbered (length (substitutions_of text all before)) f → NoFile f
+  no_file_at before after (File Read from to) pass number = absurd cc
+  no_file_at before after (File Write from to) pass number = absurd cc
+  no_file_at before after (Substitute s e f) pass number = by_file f.file (file_none (slice_get p.substitutions (length (substitutions_of text all before))) _ number pass)
     where
-      by_file : (o : Option (ℕ × ℕ)) → is_none (sink_of text all o) ≡ true → o ≡ None
+      by_file : (o : Option (ℕ × ℕ)) → is_none (option_map (λ name. number_in Write text all (bytes_between text name.0 name.1)) o) ≡ true → o ≡ None
       by_file None h = refl
       by_file (Some name) h = absurd cc
-  no_file_at before n after other pass number = tt
+  no_file_at before after other pass number = tt
 
-  pub no_files_all : (before is : List Item) (n : Counts) → Left n (substitutions_of text all is) → list_all (λ (c : Command). edits p c.action) (commands_of text all before n is) ≡ true → NoFiles is
-  no_files_all before [] n left e = tt
-  no_files_all before (i ∷ is) n left e =
-      let parts = parts_of (edits p) i.addresses (action_of text all before n is i.function) (commands_of text all (before ++ i ∷ []) (counts_with n i.function) is) e in
-      let next = step n i.function (substitutions_of text all is) left in
-      (no_file_at before n is i.function parts.0 next.1, no_files_all (before ++ i ∷ []) is (counts_with n i.function) next.0 parts.1)
+  pub no_files_all : (before is : List Item) → Left (length (substitutions_of text all before)) (substitutions_of text all is) → list_all (λ (c : Command). edits p c.action) (commands_of text all before is) ≡ true → NoFiles is
+  no_files_all before [] left e = tt
+  no_files_all before (i ∷ is) left e =
+      let parts = parts_of (edits p) i.addresses (action_of text all before is i.function) (commands_of text all (before ++ i ∷ []) is) e in
+      let next = step (length (substitutions_of text all before)) i.function (substitutions_of text all is) left in
+      let behind : Left (length (substitutions_of text all (before ++ i ∷ []))) (substitutions_of text all is) =
+      subst (λ (n : ℕ). Left n (substitutions_of text all is)) (sym (taken_snoc (λ (j : Item). substitution_in text all j.function) before i)) next.0 in
+      (no_file_at before is i.function parts.0 next.1, no_files_all (before ++ i ∷ []) is behind parts.1)

@@ -1,5 +1,7 @@
 -- What items of a text become, where it stands in a longer one with other items before them and behind.
-use Rattle.std.proofs.Common.{◌⊎◌, inl, inr, ◌≡◌, ℕ, suc, ◌+◌, ◌≤◌, ◌&&◌, ◌==◌, Bool, true, false, List, [], ◌∷◌, ◌++◌, length, map, Option, Some, None, is_none, option_map, unwrap_or, refl, sym, ap, ap₂, subst, ◌∙◌, arith, if◌then◌else◌}
+use Rattle.std.proofs.Common.{◌⊎◌, inl, inr, ◌≡◌, ℕ, suc, ◌+◌, ◌≤◌, ◌&&◌, ◌==◌, Bool, true, false, List, [], ◌∷◌, ◌++◌, length, map, Option, Some, None, is_none, option_map, unwrap_or, refl, sym, ap, ap₂, subst, ◌∙◌, arith, if◌then◌else◌, filter_map, length-append}
+use Rattle.std.specs.List.{cons_option}
+use Rattle.std.proofs.lemmas.List.Elements.{filter_map-append}
 use Rattle.sedscript.specs.declared.types.Address.{Address}
 use Rattle.sedscript.specs.declared.types.Address.TheVariants.{Match, Last}
 use Rattle.sedscript.specs.declared.types.Address.TheVariants as address
@@ -9,7 +11,6 @@ use Rattle.sedscript.specs.declared.types.Command.{Command}
 use Rattle.sedscript.specs.declared.substitution.Substitution.{Substitution}
 use Rattle.sedscript.specs.declared.items.Addresses.{Addresses}
 use Rattle.sedscript.specs.declared.types.BranchUse.{BranchUse}
-use Rattle.sedscript.specs.declared.items.Counts.{Counts}
 use Rattle.sedscript.specs.declared.items.Flags.{Flags}
 use Rattle.sedscript.specs.declared.items.Strings.{Strings}
 use Rattle.sedscript.specs.declared.items.Item.{Item}
@@ -20,13 +21,13 @@ use Rattle.sedscript.specs.declared.types.FileUse.TheVariants.{Write}
 use Rattle.sedscript.specs.Targets.{number_in, becomes_command, counted, commands_in, is_open, is_close, depth_after, close_in, block_end, label_in}
 use Rattle.sedscript.specs.Bytes.{bytes_between}
 use Rattle.sedscript.specs.Strings.{pieces_of, chars_from, bytes_of, table_of}
-use Rattle.sedscript.specs.Script.{with_text, texts_of, with_substitution, substitutions_of, with_table, tables_of, substitution_of, sink_of, table_between, counts_with, action_of, with_action, commands_of, unescaped_from}
+use Rattle.sedscript.specs.Script.{text_in, texts_of, substitution_in, substitutions_of, table_in, tables_of, action_of, command_of, commands_of, unescaped_from}
 use Rattle.sedscript.proofs.Chars.{same_bytes}
 use Rattle.sedscript.proofs.Labels.{commands_snoc, counted_in}
 use Rattle.scripts.specs.InTurn.{Before, address_behind, action_behind, command_behind, substitution_behind, file_behind, sink_behind}
 use Rattle.scripts.proofs.LongerStrings.{NextOn}
 use Rattle.scripts.proofs.LongerFlags.{move_span, SpanIn, same_test, FileIn}
-use Rattle.scripts.proofs.LongerFunctions.{move_strings, move_function, StringsIn, FunctionIn}
+use Rattle.scripts.proofs.LongerFunctions.{move_function, StringsIn, FunctionIn}
 use Rattle.scripts.proofs.LongerReading.{move_address, move_item}
 use Rattle.scripts.proofs.JoinedCuts.{ItemsIn}
 
@@ -116,9 +117,22 @@ address_same b (Some (Match (Some k))) = refl
 address_same b (Some (address.Line n)) = refl
 address_same b (Some Last) = refl
 
--- so many texts, substitutions and tables more
-abbrev pub Later : Before → Counts → Counts → Type 0
-Later b n m = (m.texts ≡ b.texts + n.texts) × (m.substitutions ≡ b.substitutions + n.substitutions) × (m.tables ≡ b.tables + n.tables)
+-- what is taken of items, with one item more
+pub taken_snoc : {A : Type 0} (h : Item → Option A) (is : List Item) (i : Item) → length (filter_map h (is ++ i ∷ [])) ≡ length (filter_map h is) + length (cons_option (h i) [])
+taken_snoc h is i = ap (λ xs. length xs) (filter_map-append h is (i ∷ [])) ∙ length-append (filter_map h is) (cons_option (h i) [])
+
+length_with : {A : Type 0} (o : Option A) (xs : List A) → length (cons_option o xs) ≡ length (cons_option o []) + length xs
+length_with None xs = omega arith
+length_with (Some x) xs = omega arith
+
+-- what is taken of an item is counted after it as before it
+taken_on : {A : Type 0} (h : Item → Option A) (is js : List Item) (i : Item) (k : ℕ) → k ≡ length (filter_map h (is ++ i ∷ [])) + length (filter_map h js) → k ≡ length (filter_map h is) + length (filter_map h (i ∷ js))
+taken_on h is js i k e = omega (arith, e, taken_snoc h is i, length_with (h i) (filter_map h js))
+
+-- of items before which so many more stand
+taken_later : {A B : Type 0} (g : Item → Option A) (h : Item → Option B) (is js : List Item) (i j : Item) (n : ℕ) → length (cons_option (h j) []) ≡ length (cons_option (g i) []) → length (filter_map h js) ≡ n + length (filter_map g is) →
+    length (filter_map h (js ++ j ∷ [])) ≡ n + length (filter_map g (is ++ i ∷ []))
+taken_later g h is js i j n one e = omega (arith, one, e, taken_snoc g is i, taken_snoc h js j)
 
 module _ (t whole : List ℕ) (base : ℕ) (b : Before) (between : (from to : ℕ) → from ≤ to → to ≤ length t → bytes_between whole (base + from) (base + to) ≡ bytes_between t from to) where
   abbrev moved : Item → Item
@@ -134,56 +148,63 @@ module _ (t whole : List ℕ) (base : ℕ) (b : Before) (between : (from to : �
 
   -- ---- texts and tables
 
-  text_on : (f : Function) (xs ys : List (List ℕ)) → FunctionIn (length t) f → with_text whole (made f) (xs ++ ys) ≡ with_text t f xs ++ ys
-  text_on (Text u from to) xs ys h = ap (λ (bs : List ℕ). unescaped_from false bs ∷ (xs ++ ys)) (between from to h.0 h.1)
-  text_on other xs ys h = refl
+  text_same : (f : Function) → FunctionIn (length t) f → text_in whole (made f) ≡ text_in t f
+  text_same (Text u from to) h = ap (λ (bs : List ℕ). Some (unescaped_from false bs)) (between from to h.0 h.1)
+  text_same other h = refl
+
+  with_more : {A : Type 0} (o p : Option A) (xs ys zs : List A) → o ≡ p → zs ≡ xs ++ ys → cons_option o zs ≡ cons_option p xs ++ ys
+  with_more o p xs ys zs e f = ap₂ (λ o zs. cons_option o zs) e f ∙ by_item p
+    where
+      by_item : (p : Option A) → cons_option p (xs ++ ys) ≡ cons_option p xs ++ ys
+      by_item None = refl
+      by_item (Some x) = refl
 
   pub texts_on : (is rest : List Item) → ItemsIn (length t) is → texts_of whole (map moved is ++ rest) ≡ texts_of t is ++ texts_of whole rest
   texts_on [] rest h = refl
-  texts_on (i ∷ is) rest h = ap (with_text whole (made i.function)) (texts_on is rest h.1) ∙ text_on i.function (texts_of t is) (texts_of whole rest) h.0
+  texts_on (i ∷ is) rest h = with_more _ _ (texts_of t is) (texts_of whole rest) _ (text_same i.function h.0) (texts_on is rest h.1)
 
-  table_same : (s : Strings) → StringsIn (length t) s → table_between whole (move_strings base s) ≡ table_between t s
-  table_same s h =
-      ap₂ (λ xs ys. table_of xs ys)
+  table_same : (f : Function) → FunctionIn (length t) f → table_in whole (made f) ≡ table_in t f
+  table_same (Transliterate s) h =
+      ap₂ (λ xs ys. Some (table_of xs ys))
       (ap (λ (bs : List ℕ). bytes_of (chars_from s.delimiter false (base + s.from) bs)) (between s.from s.middle h.0 (omega (arith, h.1, h.2))) ∙ same_bytes s.delimiter (base + s.from) s.from false (bytes_between t s.from s.middle))
       (ap (λ (bs : List ℕ). bytes_of (chars_from s.delimiter false (base + s.middle + 1) bs)) (second_string s h) ∙ same_bytes s.delimiter (base + s.middle + 1) (s.middle + 1) false (bytes_between t (s.middle + 1) s.to))
-
-  table_on : (f : Function) (xs ys : List (List ℕ)) → FunctionIn (length t) f → with_table whole (made f) (xs ++ ys) ≡ with_table t f xs ++ ys
-  table_on (Transliterate s) xs ys h = ap (λ (bs : List ℕ). bs ∷ (xs ++ ys)) (table_same s h)
-  table_on other xs ys h = refl
+  table_same other h = refl
 
   pub tables_on : (is rest : List Item) → ItemsIn (length t) is → tables_of whole (map moved is ++ rest) ≡ tables_of t is ++ tables_of whole rest
   tables_on [] rest h = refl
-  tables_on (i ∷ is) rest h = ap (with_table whole (made i.function)) (tables_on is rest h.1) ∙ table_on i.function (tables_of t is) (tables_of whole rest) h.0
+  tables_on (i ∷ is) rest h = with_more _ _ (tables_of t is) (tables_of whole rest) _ (table_same i.function h.0) (tables_on is rest h.1)
 
   -- ---- substitutions
+
+  abbrev sink_of : List ℕ → List Item → Option (ℕ × ℕ) → Option ℕ
+  sink_of text all file = option_map (λ name. number_in Write text all (bytes_between text name.0 name.1)) file
 
   sink_same : (every all : List Item) (o : Option (ℕ × ℕ)) → FileIn (length t) o → SinkOn t all whole every b o → sink_of whole every (option_map (move_span base) o) ≡ option_map (sink_behind b) (sink_of t all o)
   sink_same every all None h on = refl
   sink_same every all (Some x) h on = ap (λ k. Some k) (ap (number_in Write whole every) (between x.0 x.1 h.0 h.1) ∙ on)
 
   substitution_same : (every all : List Item) (s : Strings) (e : Option ℕ) (f : Flags) → StringsIn (length t) s → FileIn (length t) f.file → SinkOn t all whole every b f.file →
-      substitution_of whole every (move_strings base s) (option_map (λ k. b.expressions + k) e) (record f { file = option_map (move_span base) f.file }) ≡ substitution_behind b (substitution_of t all s e f)
+      substitution_in whole every (made (Substitute s e f)) ≡ option_map (substitution_behind b) (substitution_in t all (Substitute s e f))
   substitution_same every all s e f h inner on =
-      ap₂ (λ bs sink. record {
+      ap₂ (λ bs sink. Some (record {
         expression = option_map (λ k. b.expressions + k) e;
         replacement = pieces_of s.delimiter bs;
         number = unwrap_or f.number 1;
         global = f.global;
         print = f.print;
         file = sink;
-      }) (second_string s h) (sink_same every all f.file inner on)
+      })) (second_string s h) (sink_same every all f.file inner on)
 
   substitution_on : (every all : List Item) (f : Function) (xs : List Substitution) (ys : List Substitution) → FunctionIn (length t) f → FileOn t all whole every b f →
-      with_substitution whole every (made f) (map (substitution_behind b) xs ++ ys) ≡ map (substitution_behind b) (with_substitution t all f xs) ++ ys
-  substitution_on every all (Substitute s e f) xs ys h on = ap (λ x. x ∷ (map (substitution_behind b) xs ++ ys)) (substitution_same every all s e f h.0 h.1 on)
+      cons_option (substitution_in whole every (made f)) (map (substitution_behind b) xs ++ ys) ≡ map (substitution_behind b) (cons_option (substitution_in t all f) xs) ++ ys
+  substitution_on every all (Substitute s e f) xs ys h on = ap (λ o. cons_option o (map (substitution_behind b) xs ++ ys)) (substitution_same every all s e f h.0 h.1 on)
   substitution_on every all other xs ys h on = refl
 
   pub substitutions_on : (every all is rest : List Item) → ItemsIn (length t) is → FilesOn t all whole every b is →
       substitutions_of whole every (map moved is ++ rest) ≡ map (substitution_behind b) (substitutions_of t all is) ++ substitutions_of whole every rest
   substitutions_on every all [] rest h k = refl
   substitutions_on every all (i ∷ is) rest h k =
-      ap (with_substitution whole every (made i.function)) (substitutions_on every all is rest h.1 k.1) ∙ substitution_on every all i.function (substitutions_of t all is) (substitutions_of whole every rest) h.0 k.0
+      ap (cons_option (substitution_in whole every (made i.function))) (substitutions_on every all is rest h.1 k.1) ∙ substitution_on every all i.function (substitutions_of t all is) (substitutions_of whole every rest) h.0 k.0
 
   -- ---- commands
 
@@ -209,86 +230,88 @@ module _ (t whole : List ℕ) (base : ℕ) (b : Before) (between : (from to : �
       ap₂ (λ s (bs : List ℕ). action.Branch u (if s then commands_in every else unwrap_or (label_in whole bs 0 every) 0)) (same_test to from (base + to) (base + from) base refl refl) (between from to span.0 span.1)
       ∙ ap (action.Branch u) (target_on (from == to) (commands_in all) (commands_in every) (label_in t (bytes_between t from to) 0 all) (label_in whole (bytes_between t from to) 0 every) on)
 
-  action_on : (every all before there after rest : List Item) (n m : Counts) (f : Function) → commands_in there ≡ b.commands + commands_in before → Later b n m → FileOn t all whole every b f → ClosesIn f after → FunctionIn (length t) f → BranchOn t all whole every b.commands f →
-      action_of whole every there m (map moved after ++ rest) (made f) ≡ option_map (action_behind b) (action_of t all before n after f)
-  action_on every all before there after rest n m (Plain s) e later k closes inner leads = refl
-  action_on every all before there after rest n m Open e later k closes inner leads = ap (λ a. Some a) (block_on before there after rest e closes)
-  action_on every all before there after rest n m (Text u from to) e later k closes inner leads = ap (λ k. Some (action.Text u k)) later.0
-  action_on every all before there after rest n m (Substitute s e f) same later k closes inner leads = ap (λ k. Some (action.Substitute k)) later.1
-  action_on every all before there after rest n m (Transliterate s) e later k closes inner leads = ap (λ k. Some (action.Transliterate k)) later.2
-  action_on every all before there after rest n m (Branch u from to) e later k closes inner leads = ap (λ a. Some a) (branch_on every all u from to inner leads)
-  action_on every all before there after rest n m (File u from to) e later k closes inner leads = ap (λ k. Some (action.File u k)) (ap (number_in u whole every) (between from to inner.0 inner.1) ∙ k)
-  action_on every all before there after rest n m Close e later k closes inner leads = refl
-  action_on every all before there after rest n m (Label from to) e later k closes inner leads = refl
-  action_on every all before there after rest n m Comment e later k closes inner leads = refl
+  -- so many texts, substitutions and tables stand before these items and behind those before them
+  abbrev pub Later : (every all before there : List Item) → Type 0
+  Later every all before there =
+      (length (texts_of whole there) ≡ b.texts + length (texts_of t before))
+      × (length (substitutions_of whole every there) ≡ b.substitutions + length (substitutions_of t all before))
+      × (length (tables_of whole there) ≡ b.tables + length (tables_of t before))
 
-  counts_on : (n m : Counts) (f : Function) → Later b n m → Later b (counts_with n f) (counts_with m (made f))
-  counts_on n m (Text u from to) h = (omega (arith, h.0), h.1, h.2)
-  counts_on n m (Substitute s e f) h = (h.0, omega (arith, h.1), h.2)
-  counts_on n m (Transliterate s) h = (h.0, h.1, omega (arith, h.2))
-  counts_on n m other h = h
+  action_on : (every all before there after rest : List Item) (f : Function) → commands_in there ≡ b.commands + commands_in before → Later every all before there → FileOn t all whole every b f → ClosesIn f after → FunctionIn (length t) f → BranchOn t all whole every b.commands f →
+      action_of whole every there (map moved after ++ rest) (made f) ≡ option_map (action_behind b) (action_of t all before after f)
+  action_on every all before there after rest (Plain s) e later k closes inner leads = refl
+  action_on every all before there after rest Open e later k closes inner leads = ap (λ a. Some a) (block_on before there after rest e closes)
+  action_on every all before there after rest (Text u from to) e later k closes inner leads = ap (λ k. Some (action.Text u k)) later.0
+  action_on every all before there after rest (Substitute s e f) same later k closes inner leads = ap (λ k. Some (action.Substitute k)) later.1
+  action_on every all before there after rest (Transliterate s) e later k closes inner leads = ap (λ k. Some (action.Transliterate k)) later.2
+  action_on every all before there after rest (Branch u from to) e later k closes inner leads = ap (λ a. Some a) (branch_on every all u from to inner leads)
+  action_on every all before there after rest (File u from to) e later k closes inner leads = ap (λ k. Some (action.File u k)) (ap (number_in u whole every) (between from to inner.0 inner.1) ∙ k)
+  action_on every all before there after rest Close e later k closes inner leads = refl
+  action_on every all before there after rest (Label from to) e later k closes inner leads = refl
+  action_on every all before there after rest Comment e later k closes inner leads = refl
+
+  text_once : (f : Function) → length (cons_option (text_in whole (made f)) []) ≡ length (cons_option (text_in t f) [])
+  text_once (Text u from to) = refl
+  text_once other = refl
+
+  substitution_once : (every all : List Item) (f : Function) → length (cons_option (substitution_in whole every (made f)) []) ≡ length (cons_option (substitution_in t all f) [])
+  substitution_once every all (Substitute s e f) = refl
+  substitution_once every all other = refl
+
+  table_once : (f : Function) → length (cons_option (table_in whole (made f)) []) ≡ length (cons_option (table_in t f) [])
+  table_once (Transliterate s) = refl
+  table_once other = refl
+
+  later_on : (every all before there : List Item) (i : Item) → Later every all before there → Later every all (before ++ i ∷ []) (there ++ moved i ∷ [])
+  later_on every all before there i h = (
+    taken_later (λ (j : Item). text_in t j.function) (λ (j : Item). text_in whole j.function) before there i (moved i) b.texts (text_once i.function) h.0,
+    taken_later (λ (j : Item). substitution_in t all j.function) (λ (j : Item). substitution_in whole every j.function) before there i (moved i) b.substitutions (substitution_once every all i.function) h.1,
+    taken_later (λ (j : Item). table_in t j.function) (λ (j : Item). table_in whole j.function) before there i (moved i) b.tables (table_once i.function) h.2,
+  )
 
   command_on : (a : Addresses) (o : Option Action) (xs ys : List Command) →
-      with_action (record { first = move_address b.expressions a.first; second = move_address b.expressions a.second; negate = a.negate }) (option_map (action_behind b) o) (map (command_behind b) xs ++ ys)
-      ≡ map (command_behind b) (with_action a o xs) ++ ys
+      cons_option (option_map (command_of (record { first = move_address b.expressions a.first; second = move_address b.expressions a.second; negate = a.negate })) (option_map (action_behind b) o)) (map (command_behind b) xs ++ ys)
+      ≡ map (command_behind b) (cons_option (option_map (command_of a) o) xs) ++ ys
   command_on a None xs ys = refl
   command_on a (Some does) xs ys =
       ap₂ (λ first second. record { first = first; second = second; negate = a.negate; action = action_behind b does } ∷ (map (command_behind b) xs ++ ys)) (address_same b a.first) (address_same b a.second)
 
   -- so many commands, texts, substitutions and tables stand before these items and behind those before them
-  pub record Stands (before there : List Item) (n m : Counts) : Type 0 where
+  pub record Stands (every all before there : List Item) : Type 0 where
     pub commands : commands_in there ≡ b.commands + commands_in before
-    pub counts : Later b n m
+    pub counts : Later every all before there
 
-  stands_on : (before there : List Item) (n m : Counts) (i : Item) → Stands before there n m → Stands (before ++ i ∷ []) (there ++ moved i ∷ []) (counts_with n i.function) (counts_with m (made i.function))
-  stands_on before there n m i h = record {
+  stands_on : (every all before there : List Item) (i : Item) → Stands every all before there → Stands every all (before ++ i ∷ []) (there ++ moved i ∷ [])
+  stands_on every all before there i h = record {
     commands = commands_snoc there (moved i) ∙ (counted_same base b.expressions b.commands (commands_in before) (commands_in there) i h.commands ∙ ap (λ (k : ℕ). b.commands + k) (sym (commands_snoc before i)));
-    counts = counts_on n m i.function h.counts;
+    counts = later_on every all before there i h.counts;
   }
 
   -- and so many behind them
-  pub record Reaches (all before is : List Item) (n : Counts) (after : List Item) (m : Counts) : Type 0 where
+  pub record Reaches (all before is after : List Item) : Type 0 where
     pub commands : commands_in after ≡ commands_in before + commands_in is
-    pub texts : m.texts ≡ n.texts + length (texts_of t is)
-    pub substitutions : m.substitutions ≡ n.substitutions + length (substitutions_of t all is)
-    pub tables : m.tables ≡ n.tables + length (tables_of t is)
+    pub texts : length (texts_of t after) ≡ length (texts_of t before) + length (texts_of t is)
+    pub substitutions : length (substitutions_of t all after) ≡ length (substitutions_of t all before) + length (substitutions_of t all is)
+    pub tables : length (tables_of t after) ≡ length (tables_of t before) + length (tables_of t is)
 
-  text_counts : (n : Counts) (f : Function) (k : ℕ) (xs : List (List ℕ)) → k ≡ (counts_with n f).texts + length xs → k ≡ n.texts + length (with_text t f xs)
-  text_counts n (Text u from to) k xs e = omega (arith, e)
-  text_counts n (Substitute s g f) k xs e = e
-  text_counts n (Transliterate s) k xs e = e
-  text_counts n other k xs e = e
-
-  substitution_counts : (all : List Item) (n : Counts) (f : Function) (k : ℕ) (xs : List Substitution) → k ≡ (counts_with n f).substitutions + length xs → k ≡ n.substitutions + length (with_substitution t all f xs)
-  substitution_counts all n (Text u from to) k xs e = e
-  substitution_counts all n (Substitute s g f) k xs e = omega (arith, e)
-  substitution_counts all n (Transliterate s) k xs e = e
-  substitution_counts all n other k xs e = e
-
-  table_counts : (n : Counts) (f : Function) (k : ℕ) (xs : List (List ℕ)) → k ≡ (counts_with n f).tables + length xs → k ≡ n.tables + length (with_table t f xs)
-  table_counts n (Text u from to) k xs e = e
-  table_counts n (Substitute s g f) k xs e = e
-  table_counts n (Transliterate s) k xs e = omega (arith, e)
-  table_counts n other k xs e = e
-
-  reaches_on : (all before is : List Item) (n : Counts) (i : Item) (after : List Item) (m : Counts) → Reaches all (before ++ i ∷ []) is (counts_with n i.function) after m → Reaches all before (i ∷ is) n after m
-  reaches_on all before is n i after m h = record {
+  reaches_on : (all before is : List Item) (i : Item) (after : List Item) → Reaches all (before ++ i ∷ []) is after → Reaches all before (i ∷ is) after
+  reaches_on all before is i after h = record {
     commands = h.commands ∙ (ap (λ (k : ℕ). k + commands_in is) (commands_snoc before i) ∙ counted_in (commands_in before) i is);
-    texts = text_counts n i.function m.texts (texts_of t is) h.texts;
-    substitutions = substitution_counts all n i.function m.substitutions (substitutions_of t all is) h.substitutions;
-    tables = table_counts n i.function m.tables (tables_of t is) h.tables;
+    texts = taken_on (λ (j : Item). text_in t j.function) before is i _ h.texts;
+    substitutions = taken_on (λ (j : Item). substitution_in t all j.function) before is i _ h.substitutions;
+    tables = taken_on (λ (j : Item). table_in t j.function) before is i _ h.tables;
   }
 
   -- the commands of the items, and those of what stands behind them
-  pub commands_on : (every all before there is rest : List Item) (n m : Counts) (more : List Command) → Stands before there n m → FilesOn t all whole every b is → AllClose is → ItemsIn (length t) is → BranchesOn t all whole every b.commands is →
-      ((after ahead : List Item) (k l : Counts) → Reaches all before is n after k → Stands after ahead k l → commands_of whole every ahead l rest ≡ more) →
-      commands_of whole every there m (map moved is ++ rest) ≡ map (command_behind b) (commands_of t all before n is) ++ more
-  commands_on every all before there [] rest n m more stands k closes inner leads on =
-      on before there n m (record { commands = omega arith; texts = omega arith; substitutions = omega arith; tables = omega arith }) stands
-  commands_on every all before there (i ∷ is) rest n m more stands k closes inner leads on =
-      let cs : List Command = commands_of t all (before ++ i ∷ []) (counts_with n i.function) is in
-      ap₂ (λ o xs. with_action (record { first = move_address b.expressions i.addresses.first; second = move_address b.expressions i.addresses.second; negate = i.addresses.negate }) o xs)
-      (action_on every all before there is rest n m i.function stands.commands stands.counts k.0 closes.0 inner.0 leads.0)
-      (commands_on every all (before ++ i ∷ []) (there ++ moved i ∷ []) is rest (counts_with n i.function) (counts_with m (made i.function)) more (stands_on before there n m i stands) k.1 closes.1 inner.1 leads.1
-      (λ after ahead k l h. on after ahead k l (reaches_on all before is n i after k h)))
-      ∙ command_on i.addresses (action_of t all before n is i.function) cs more
+  pub commands_on : (every all before there is rest : List Item) (more : List Command) → Stands every all before there → FilesOn t all whole every b is → AllClose is → ItemsIn (length t) is → BranchesOn t all whole every b.commands is →
+      ((after ahead : List Item) → Reaches all before is after → Stands every all after ahead → commands_of whole every ahead rest ≡ more) →
+      commands_of whole every there (map moved is ++ rest) ≡ map (command_behind b) (commands_of t all before is) ++ more
+  commands_on every all before there [] rest more stands k closes inner leads on =
+      on before there (record { commands = omega arith; texts = omega arith; substitutions = omega arith; tables = omega arith }) stands
+  commands_on every all before there (i ∷ is) rest more stands k closes inner leads on =
+      let cs : List Command = commands_of t all (before ++ i ∷ []) is in
+      ap₂ (λ o xs. cons_option (option_map (command_of (record { first = move_address b.expressions i.addresses.first; second = move_address b.expressions i.addresses.second; negate = i.addresses.negate })) o) xs)
+      (action_on every all before there is rest i.function stands.commands stands.counts k.0 closes.0 inner.0 leads.0)
+      (commands_on every all (before ++ i ∷ []) (there ++ moved i ∷ []) is rest more (stands_on every all before there i stands) k.1 closes.1 inner.1 leads.1
+      (λ after ahead h. on after ahead (reaches_on all before is i after h)))
+      ∙ command_on i.addresses (action_of t all before is i.function) cs more

@@ -1,6 +1,6 @@
 -- What two texts with a newline between them mean.
-use Rattle.std.proofs.Common.{bytes_eq, ◌≡◌, ℕ, suc, ◌+◌, ◌≤◌, ◌&&◌, ◌||◌, ◌==◌, ◌⊎◌, inl, inr, Bool, true, false, List, [], ◌∷◌, ◌++◌, length, map, Option, Some, None, refl, sym, ap, ap₂, subst, ◌∙◌, arith, if◌then◌else◌}
-use Rattle.std.specs.List.{list_all, list_any}
+use Rattle.std.proofs.Common.{bytes_eq, ◌≡◌, ℕ, suc, ◌+◌, ◌≤◌, ◌&&◌, ◌||◌, ◌==◌, ◌⊎◌, inl, inr, Bool, true, false, List, [], ◌∷◌, ◌++◌, length, map, Option, Some, None, refl, sym, ap, ap₂, subst, ◌∙◌, arith, if◌then◌else◌, option_map}
+use Rattle.std.specs.List.{cons_option, list_all, list_any}
 use Rattle.std.specs.Prelude.{nat_lt, unwrap_or}
 use Rattle.std.proofs.lemmas.Bool.Decides.{eqb_tells, nat_tests}
 use Rattle.std.proofs.lemmas.List.{append-nil}
@@ -8,7 +8,6 @@ use Rattle.std.proofs.lemmas.Slice.Eq.{bytes_eq-Decides}
 use Rattle.sedre.specs.declared.types.Kind.{Kind}
 use Rattle.sedscript.specs.declared.types.Command.{Command}
 use Rattle.sedscript.specs.declared.substitution.Substitution.{Substitution}
-use Rattle.sedscript.specs.declared.items.Counts.{Counts}
 use Rattle.sedscript.specs.declared.types.BranchUse.{BranchUse}
 use Rattle.sedscript.specs.declared.types.Action.TheVariants as action
 use Rattle.sedscript.specs.declared.types.FileUse.{FileUse}
@@ -18,7 +17,7 @@ use Rattle.sedscript.specs.declared.items.Function.{Function}
 use Rattle.sedscript.specs.declared.items.Function.TheVariants.{Plain, Open, Close, Label, Branch, Text, File, Comment, Substitute, Transliterate}
 use Rattle.sedscript.specs.Bytes.{bytes_between}
 use Rattle.sedscript.specs.Targets.{distinct, files_in, number_in, becomes_command, commands_in, is_label, label_in, target_fault_in, depth_after, target_fault_at}
-use Rattle.sedscript.specs.Script.{CutScript, IsEnd, Means, action_of, with_action, commands_of, counts_with, none_counted, texts_of, substitutions_of, tables_of, is_quiet}
+use Rattle.sedscript.specs.Script.{CutScript, IsEnd, Means, action_of, command_of, commands_of, texts_of, substitutions_of, tables_of, is_quiet}
 use Rattle.sedscript.specs.Program.{Program}
 use Rattle.scripts.specs.InTurn.{all_of, command_behind, substitution_behind, in_turn}
 use Rattle.scripts.specs.OneText.{leads_inside, EachLeadsInside, ShareNoFile, apart as apart_names, ShareNoLabel}
@@ -34,12 +33,12 @@ use Rattle.scripts.proofs.JoinedFaults.{all_close, none_open, none_named, names,
 
 -- ---- counts
 
-commands_length : (text : List ℕ) (all before is : List Item) (n : Counts) → length (commands_of text all before n is) ≡ commands_in is
-commands_length text all before [] n = refl
-commands_length text all before (i ∷ is) n =
-    leaf i.function (commands_of text all (before ++ i ∷ []) (counts_with n i.function) is) (commands_length text all (before ++ i ∷ []) is (counts_with n i.function))
+commands_length : (text : List ℕ) (all before is : List Item) → length (commands_of text all before is) ≡ commands_in is
+commands_length text all before [] = refl
+commands_length text all before (i ∷ is) =
+    leaf i.function (commands_of text all (before ++ i ∷ []) is) (commands_length text all (before ++ i ∷ []) is)
   where
-    leaf : (f : Function) (cs : List Command) → length cs ≡ commands_in is → length (with_action i.addresses (action_of text all before n is f) cs) ≡ (if becomes_command f then suc (commands_in is) else commands_in is)
+    leaf : (f : Function) (cs : List Command) → length cs ≡ commands_in is → length (cons_option (option_map (command_of i.addresses) (action_of text all before is f)) cs) ≡ (if becomes_command f then suc (commands_in is) else commands_in is)
     leaf Close cs e = e
     leaf (Label from to) cs e = e
     leaf Comment cs e = e
@@ -139,7 +138,7 @@ module _ (a b : List ℕ) (kind : Kind) (m : ℕ) (p q : Program) (h : Means a k
   cut = joined_cut a b kind m h.to k.to count is js p.expressions q.expressions h.judged.cut h.judged.ends k.judged.cut k.judged.ends refl
 
   long : length p.commands ≡ commands_in is
-  long = ap (λ (cs : List Command). length cs) h.commands ∙ commands_length a is [] is none_counted
+  long = ap (λ (cs : List Command). length cs) h.commands ∙ commands_length a is [] is
 
   -- ---- branches
 
@@ -150,8 +149,8 @@ module _ (a b : List ℕ) (kind : Kind) (m : ℕ) (p q : Program) (h : Means a k
   pass_less : (u : BranchUse) (to : ℕ) → leads_inside p (action.Branch u to) ≡ true → to ≡ commands_in is → ⊥
   pass_less u to h e = let less : nat_lt to (length p.commands) ≡ true = h in not_less to (length p.commands) (e ∙ sym long) less
 
-  first_branch : (before after : List Item) (depth : ℕ) (n : Counts) (place : ℕ) (f : Function) → target_fault_at a is before depth after place f ≡ None → Passes (leads_inside p) (action_of a is before n after f) → BranchOn a is joined every 0 f
-  first_branch before after depth n place (Branch u from to) e pass = by_end (leads_somewhere a is before depth after place u from to e)
+  first_branch : (before after : List Item) (depth : ℕ) (place : ℕ) (f : Function) → target_fault_at a is before depth after place f ≡ None → Passes (leads_inside p) (action_of a is before after f) → BranchOn a is joined every 0 f
+  first_branch before after depth place (Branch u from to) e pass = by_end (leads_somewhere a is before depth after place u from to e)
     where
       by_end : ((from == to) ≡ true) ⊎ ((k : ℕ) × ((from == to) ≡ false) × (label_in a (bytes_between a from to) 0 is ≡ Some k)) → BranchOn a is joined every 0 (Branch u from to)
       by_end (inl same) =
@@ -160,14 +159,14 @@ module _ (a b : List ℕ) (kind : Kind) (m : ℕ) (p q : Program) (h : Means a k
       by_end (inr h) =
           let name : List ℕ = bytes_between a from to in
           inr (h.0, h.1, h.2, next_at 0 h.0 (label_in a name 0 is) (label_in joined name 0 every) (label_on a joined 0 0 0 first_there (λ name. Unit {0}) name 0 0 0 is behind cut.3 refl) h.2)
-  first_branch before after depth n place other e pass = tt
+  first_branch before after depth place other e pass = tt
 
-  first_branches : (before xs : List Item) (depth : ℕ) (n : Counts) → target_fault_in a is before depth xs ≡ None → list_all (λ (c : Command). leads_inside p c.action) (commands_of a is before n xs) ≡ true → BranchesOn a is joined every 0 xs
-  first_branches before [] depth n e pass = tt
-  first_branches before (i ∷ xs) depth n e pass =
+  first_branches : (before xs : List Item) (depth : ℕ) → target_fault_in a is before depth xs ≡ None → list_all (λ (c : Command). leads_inside p c.action) (commands_of a is before xs) ≡ true → BranchesOn a is joined every 0 xs
+  first_branches before [] depth e pass = tt
+  first_branches before (i ∷ xs) depth e pass =
       let faults = or_parts (target_fault_at a is before depth xs i.place i.function) (target_fault_in a is (before ++ i ∷ []) (depth_after depth i.function) xs) e in
-      let parts = parts_of (leads_inside p) i.addresses (action_of a is before n xs i.function) (commands_of a is (before ++ i ∷ []) (counts_with n i.function) xs) pass in
-      (first_branch before xs depth n i.place i.function faults.0 parts.0, first_branches (before ++ i ∷ []) xs (depth_after depth i.function) (counts_with n i.function) faults.1 parts.1)
+      let parts = parts_of (leads_inside p) i.addresses (action_of a is before xs i.function) (commands_of a is (before ++ i ∷ []) xs) pass in
+      (first_branch before xs depth i.place i.function faults.0 parts.0, first_branches (before ++ i ∷ []) xs (depth_after depth i.function) faults.1 parts.1)
 
   first_long : commands_in (map (move_item 0 0) is) ≡ length p.commands
   first_long =
@@ -206,7 +205,7 @@ module _ (a b : List ℕ) (kind : Kind) (m : ℕ) (p q : Program) (h : Means a k
       (second_branch before xs depth i.place i.function faults.0, second_branches (before ++ i ∷ []) xs (depth_after depth i.function) faults.1)
 
   branches_p : BranchesOn a is joined every 0 is
-  branches_p = first_branches [] is 0 none_counted h.judged.settled (subst (λ (cs : List Command). list_all (λ (c : Command). leads_inside p c.action) cs ≡ true) h.commands inside)
+  branches_p = first_branches [] is 0 h.judged.settled (subst (λ (cs : List Command). list_all (λ (c : Command). leads_inside p c.action) cs ≡ true) h.commands inside)
 
   branches_q : BranchesOn b js joined every (length p.commands) js
   branches_q = second_branches [] js 0 k.judged.settled
@@ -223,12 +222,12 @@ module _ (a b : List ℕ) (kind : Kind) (m : ℕ) (p q : Program) (h : Means a k
       free name e (inl none) = none
       free name e (inr none) = let no = none_named b name 0 js none in absurd cc
 
-  stands_first : Stands a joined 0 none_before first_there [] [] none_counted none_counted
+  stands_first : Stands a joined 0 none_before first_there every is [] []
   stands_first = record { commands = refl; counts = (refl, refl, refl) }
 
-  stands_second : (after ahead : List Item) (n l : Counts) → Reaches a joined 0 none_before first_there is [] is none_counted after n → Stands a joined 0 none_before first_there after ahead n l →
-      Stands b joined base (all_of p) second_there [] ahead none_counted l
-  stands_second after ahead n l reaches stands = record {
+  stands_second : (after ahead : List Item) → Reaches a joined 0 none_before first_there is [] is after → Stands a joined 0 none_before first_there every is after ahead →
+      Stands b joined base (all_of p) second_there every js [] ahead
+  stands_second after ahead reaches stands = record {
     commands = omega (arith, stands.commands, reaches.commands, long);
     counts = (
       omega (arith, stands.counts.0, reaches.texts, ap (λ (xs : List (List ℕ)). length xs) h.texts),
@@ -273,15 +272,15 @@ module _ (a b : List ℕ) (kind : Kind) (m : ℕ) (p q : Program) (h : Means a k
           by_test false f = refl
           by_test true f = let none : list_any (bytes_eq name) (file_names u b js) ≡ false = none_shared u name f in absurd cc
 
-  commands : (in_turn p q).commands ≡ commands_of joined every [] none_counted every
+  commands : (in_turn p q).commands ≡ commands_of joined every [] every
   commands =
       let second : List Command = map (command_behind (all_of p)) q.commands in
-      let rest : (after ahead : List Item) (n l : Counts) → Reaches a joined 0 none_before first_there is [] is none_counted after n → Stands a joined 0 none_before first_there after ahead n l → commands_of joined every ahead l behind ≡ second =
-      λ after ahead n l reaches stands.
-      commands_on b joined base (all_of p) second_there every js [] ahead js [] none_counted l [] (stands_second after ahead n l reaches stands) files_q close_q cut.4 branches_q (λ after ahead n l reaches stands. refl)
-      ∙ (append-nil (map (command_behind (all_of p)) (commands_of b js [] none_counted js)) ∙ ap (map (command_behind (all_of p))) (sym k.commands)) in
-      let all = commands_on a joined 0 none_before first_there every is [] [] is behind none_counted none_counted second stands_first files_p close_p cut.3 branches_p rest in
-      sym (all ∙ ap (λ (cs : List Command). cs ++ second) (same_commands (commands_of a is [] none_counted is) ∙ sym h.commands))
+      let rest : (after ahead : List Item) → Reaches a joined 0 none_before first_there is [] is after → Stands a joined 0 none_before first_there every is after ahead → commands_of joined every ahead behind ≡ second =
+      λ after ahead reaches stands.
+      commands_on b joined base (all_of p) second_there every js [] ahead js [] [] (stands_second after ahead reaches stands) files_q close_q cut.4 branches_q (λ after ahead reaches stands. refl)
+      ∙ (append-nil (map (command_behind (all_of p)) (commands_of b js [] js)) ∙ ap (map (command_behind (all_of p))) (sym k.commands)) in
+      let all = commands_on a joined 0 none_before first_there every is [] [] is behind second stands_first files_p close_p cut.3 branches_p rest in
+      sym (all ∙ ap (λ (cs : List Command). cs ++ second) (same_commands (commands_of a is [] is) ∙ sym h.commands))
 
   texts : (in_turn p q).texts ≡ texts_of joined every
   texts =

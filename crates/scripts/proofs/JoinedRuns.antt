@@ -10,7 +10,7 @@ use Rattle.sedmatch.specs.Matching.{found}
 use Rattle.sedscript.specs.declared.types.Action.{Action}
 use Rattle.sedscript.specs.declared.types.Action.TheVariants.{Branch}
 use Rattle.sedscript.specs.declared.types.Command.{Command}
-use Rattle.sedscript.specs.Script.{Means, none_counted, with_part}
+use Rattle.sedscript.specs.Script.{Means, with_part}
 use Rattle.sedscript.specs.Program.{Program}
 use Rattle.sedspace.specs.Lines.{lines}
 use Rattle.sedengine.specs.State.{Setting, finds_in, search_in, has_match, search_for}
@@ -77,7 +77,7 @@ all_inside counts p only = passes_if_edits (leads_inside p) counts p p.commands 
 none_shared : (p q : Program) (text : List ℕ) (m : ℕ) (counts : Bool) → Means text Basic m q → EachOnlyEdits counts q → ShareNoFile p q
 none_shared p q text m counts k only =
     let all : list_all (λ (c : Command). edits q c.action) q.commands ≡ true = passes_if_edits (edits q) counts q q.commands (λ a e. e) only.each in
-    let none : NoFiles k.items = no_files_all q text k.items [] k.items none_counted ([], k.substitutions, refl) (subst (λ (cs : List Command). list_all (λ (c : Command). edits q c.action) cs ≡ true) k.commands all) in
+    let none : NoFiles k.items = no_files_all q text k.items [] k.items ([], k.substitutions, refl) (subst (λ (cs : List Command). list_all (λ (c : Command). edits q c.action) cs ≡ true) k.commands all) in
     record {
       read = ap (apart p.rfiles) (k.rfiles ∙ no_files Read text k.items none);
       write = ap (apart p.wfiles) (k.wfiles ∙ no_files Write text k.items none);

@@ -1,8 +1,9 @@
 -- The numbers of a script are in range.
-use Rattle.std.proofs.Common.{◌≡◌, ℕ, zero, suc, ◌+◌, ◌<◌, ◌≤◌, ◌&&◌, ◌==◌, Bool, true, false, cond, not, ◌||◌, List, [], ◌∷◌, ◌++◌, length, filter_map, Option, Some, None, unwrap_or, Result, Ok, Err, IfOk, refl, sym, ap, subst, ◌∙◌, arith, if◌then◌else◌, slice_get, length-append, drop, is_some}
+use Rattle.std.proofs.Common.{◌≡◌, ℕ, zero, suc, ◌+◌, ◌<◌, ◌≤◌, ◌&&◌, ◌==◌, Bool, true, false, cond, not, ◌||◌, List, [], ◌∷◌, ◌++◌, length, filter_map, Option, Some, None, unwrap_or, Result, Ok, Err, IfOk, refl, sym, ap, subst, ◌∙◌, arith, if◌then◌else◌, slice_get, length-append, drop, is_some, option_map}
 use Rattle.std.specs.List.{list_any, position_from, cons_option, prefix_len, take_while}
 use Rattle.std.specs.Str.{bytes_eq}
 use Rattle.std.proofs.lemmas.Slice.Eq.{bytes_eq-Decides}
+use Rattle.std.proofs.lemmas.List.Elements.{filter_map-append}
 use Rattle.std.proofs.lemmas.List.FromFn.{length-map-range_with_len}
 use Rattle.sedre.specs.declared.types.Kind.{Kind}
 use Rattle.sedre.specs.Tree.{WrittenExpression}
@@ -20,7 +21,6 @@ use Rattle.sedscript.specs.declared.items.Function.{Function}
 use Rattle.sedscript.specs.declared.items.Function.TheVariants.{Plain, Open, Close, Label, Branch, Text, File, Comment, Substitute, Transliterate}
 use Rattle.sedscript.specs.declared.items.Addresses.{Addresses}
 use Rattle.sedscript.specs.declared.items.Item.{Item}
-use Rattle.sedscript.specs.declared.items.Counts.{Counts}
 use Rattle.sedscript.specs.declared.items.Here.{Here}
 use Rattle.sedscript.specs.declared.items.Here.TheVariants.{Is, Ends}
 use Rattle.sedscript.specs.Bytes.{past, bytes_between, is_digit, is_byte, with_digits}
@@ -31,7 +31,7 @@ use Rattle.sedscript.specs.Functions.{fault, allowed, item_of, ended, may_end, t
 use Rattle.sedscript.specs.Strings.{replacement_fault, strings_fault, counterpart, table_of}
 use Rattle.sedscript.specs.Between.{no_flags, numbered, with_number, with_flag, with_file, ends_flags, flags_from, folds, own_delimiter, substitute_strings, transliterate_strings, unless_fault, transliterate_at, flags_after, substituted}
 use Rattle.sedscript.specs.Items.{substitute_with, substitute_at, function_of, function_with, function_at, function_after, item_with, item_from, item_at, Reading, plainly, expression, ◌>>=◌, Addressed, Headed, line_of, folds_at, empty_match, match_to, match_at, own_match, address_of, address_at, with_second, second_at, after_first, addresses_at, with_bang}
-use Rattle.sedscript.specs.Script.{Gives, value, after_expression, CutScript, done, item, is_quiet, with_text, texts_of, with_substitution, substitutions_of, with_table, tables_of, substitution_of, table_between, counts_with, none_counted, action_of, sink_of, with_action, commands_of, CutWithoutFault, Means}
+use Rattle.sedscript.specs.Script.{Gives, value, after_expression, CutScript, done, item, is_quiet, text_in, texts_of, substitution_in, substitutions_of, table_in, tables_of, action_of, command_of, commands_of, CutWithoutFault, Means}
 use Rattle.sedscript.specs.Targets.{becomes_command, counted, commands_in, label_in, is_label, close_in, is_close, depth_after, block_end, is_standard_output, is_file, name_in, file_at, files_in, number_in}
 use Rattle.sedscript.specs.declared.script.Named.{Named}
 use Rattle.sedscript.specs.Parts.{program_of, IsNamed}
@@ -77,6 +77,9 @@ abbrev MayAct : Sizes → Option Action → Type 0
 MayAct n None = Unit {0}
 MayAct n (Some a) = ActionWithin n a
 
+abbrev sink_of : List ℕ → List Item → Option (ℕ × ℕ) → Option ℕ
+sink_of text all file = option_map (λ name. number_in Write text all (bytes_between text name.0 name.1)) file
+
 -- what a function names among all items is among the sizes
 abbrev FilesWithin : List ℕ → List Item → Sizes → Function → Type 0
 FilesWithin text all n (File u from to) = FileWithin n u (number_in u text all (bytes_between text from to))
@@ -91,25 +94,28 @@ branch_bound : (n : ℕ) (same : Bool) (m : ℕ) (o : Option ℕ) → m ≤ n �
 branch_bound n true m o h g = h
 branch_bound n false m o h g = at_most_or n o g
 
--- so many texts, substitutions and tables come to all that there are
-abbrev Sums : Counts → Sizes → ℕ → ℕ → ℕ → Type 0
-Sums m n texts substitutions tables = (m.texts + texts ≡ n.texts) × (m.substitutions + substitutions ≡ n.substitutions) × (m.tables + tables ≡ n.tables)
+-- the texts, substitutions and tables of the items before a function, of the function and of those after it come to all
+-- that there are
+abbrev Sums : List ℕ → List Item → Sizes → List Item → Function → List Item → Type 0
+Sums text all n before f after =
+    (length (texts_of text before) + length (cons_option (text_in text f) (texts_of text after)) ≡ n.texts)
+    × (length (substitutions_of text all before) + length (cons_option (substitution_in text all f) (substitutions_of text all after)) ≡ n.substitutions)
+    × (length (tables_of text before) + length (cons_option (table_in text f) (tables_of text after)) ≡ n.tables)
 
-may_act : (text : List ℕ) (all before after : List Item) (m : Counts) (n : Sizes) (f : Function) → FilesWithin text all n f → commands_in all ≡ n.commands →
-    commands_in before + (if becomes_command f then suc (commands_in after) else commands_in after) ≡ n.commands →
-    Sums m n (length (with_text text f (texts_of text after))) (length (with_substitution text all f (substitutions_of text all after))) (length (with_table text f (tables_of text after))) →
-    MayAct n (action_of text all before m after f)
-may_act text all before after m n Open files whole count long =
+may_act : (text : List ℕ) (all before after : List Item) (n : Sizes) (f : Function) → FilesWithin text all n f → commands_in all ≡ n.commands →
+    commands_in before + (if becomes_command f then suc (commands_in after) else commands_in after) ≡ n.commands → Sums text all n before f after →
+    MayAct n (action_of text all before after f)
+may_act text all before after n Open files whole count long =
     at_most_or n.commands (block_end before after)
     (subst (λ (m : ℕ). AtMost m (block_end before after)) (let e : suc (commands_in before) + commands_in after ≡ n.commands = omega (arith, count) in e) (close_bound 0 (suc (commands_in before)) after))
-may_act text all before after m n (Branch u from to) files whole count long =
+may_act text all before after n (Branch u from to) files whole count long =
     branch_bound n.commands (from == to) (commands_in all) (label_in text (bytes_between text from to) 0 all) (omega (arith, whole))
     (subst (λ (m : ℕ). AtMost m (label_in text (bytes_between text from to) 0 all)) (let e : 0 + commands_in all ≡ n.commands = omega (arith, whole) in e) (label_bound text (bytes_between text from to) 0 all))
-may_act text all before after m n (Text u from to) files whole count long = omega (arith, long.0)
-may_act text all before after m n (File u from to) files whole count long = files
-may_act text all before after m n (Substitute s e f) files whole count long = omega (arith, long.1)
-may_act text all before after m n (Transliterate s) files whole count long = omega (arith, long.2)
-may_act text all before after m n other files whole count long = tt
+may_act text all before after n (Text u from to) files whole count long = omega (arith, long.0)
+may_act text all before after n (File u from to) files whole count long = files
+may_act text all before after n (Substitute s e f) files whole count long = omega (arith, long.1)
+may_act text all before after n (Transliterate s) files whole count long = omega (arith, long.2)
+may_act text all before after n other files whole count long = tt
 
 -- addresses
 
@@ -437,38 +443,53 @@ all_at n [] k c h g = let bad : ◌≡◌ {A = Option Command} None (Some c) = g
 all_at n (d ∷ cs) zero c h g = let same : d ≡ c = cc in subst (CommandWithin n) same h.0
 all_at n (d ∷ cs) (suc k) c h g = all_at n cs k c h.1 g
 
-with_within : (n : Sizes) (a : Addresses) (o : Option Action) (cs : List Command) → AddressesWithin n.expressions a → MayAct n o → AllWithin n cs → AllWithin n (with_action a o cs)
+with_within : (n : Sizes) (a : Addresses) (o : Option Action) (cs : List Command) → AddressesWithin n.expressions a → MayAct n o → AllWithin n cs → AllWithin n (cons_option (option_map (command_of a) o) cs)
 with_within n a None cs h g k = k
 with_within n a (Some x) cs h g k = (record { first = h.0; second = h.1; action = g }, k)
 
-sums_step : (text : List ℕ) (all : List Item) (f : Function) (m : Counts) (n : Sizes) (ts : List (List ℕ)) (ss : List Substitution) (us : List (List ℕ)) →
-    Sums m n (length (with_text text f ts)) (length (with_substitution text all f ss)) (length (with_table text f us)) → Sums (counts_with m f) n (length ts) (length ss) (length us)
-sums_step text all (Text u from to) m n ts ss us h = (omega (arith, h.0), h.1, h.2)
-sums_step text all (Substitute s e f) m n ts ss us h = (h.0, omega (arith, h.1), h.2)
-sums_step text all (Transliterate s) m n ts ss us h = (h.0, h.1, omega (arith, h.2))
-sums_step text all f m n ts ss us h = h
+length_with : {A : Type 0} (o : Option A) (xs : List A) → length (cons_option o xs) ≡ length (cons_option o []) + length xs
+length_with None xs = omega arith
+length_with (Some x) xs = omega arith
 
-commands_within : (text : List ℕ) (all before is : List Item) (m : Counts) (n : Sizes) → commands_in all ≡ n.commands → commands_in before + commands_in is ≡ n.commands → Sums m n (length (texts_of text is)) (length (substitutions_of text all is)) (length (tables_of text is)) →
-    ItemsWithin n.expressions is → AllFilesWithin text all n is → AllWithin n (commands_of text all before m is)
-commands_within text all before [] m n whole count long h files = tt
-commands_within text all before (i ∷ is) m n whole count long h files =
-    with_within n i.addresses (action_of text all before m is i.function) (commands_of text all (before ++ i ∷ []) (counts_with m i.function) is) h.0.0
-    (may_act text all before is m n i.function files.0 whole count long)
-    (commands_within text all (before ++ i ∷ []) is (counts_with m i.function) n whole
-    (ap (λ (m : ℕ). m + commands_in is) (commands_snoc before i) ∙ (counted_in (commands_in before) i is ∙ count))
-    (sums_step text all i.function m n (texts_of text is) (substitutions_of text all is) (tables_of text is) long) h.1 files.1)
+-- what is taken of an item is counted after it as before it
+taken_on : {A : Type 0} (h : Item → Option A) (before is : List Item) (i : Item) (n : ℕ) → length (filter_map h before) + length (cons_option (h i) (filter_map h is)) ≡ n →
+    length (filter_map h (before ++ i ∷ [])) + length (filter_map h is) ≡ n
+taken_on h before is i n e =
+    let long = ap (λ xs. length xs) (filter_map-append h before (i ∷ [])) ∙ length-append (filter_map h before) (cons_option (h i) []) in
+    omega (arith, long, length_with (h i) (filter_map h is), e)
 
-leaf_length : (text : List ℕ) (all before after : List Item) (m : Counts) (n : ℕ) (a : Addresses) (f : Function) (cs : List Command) → length cs ≡ n →
-    length (with_action a (action_of text all before m after f) cs) ≡ (if becomes_command f then suc n else n)
-leaf_length text all before after m n a Close cs h = h
-leaf_length text all before after m n a (Label from to) cs h = h
-leaf_length text all before after m n a Comment cs h = h
-leaf_length text all before after m n a other cs h = omega (arith, h)
+-- the texts, substitutions and tables of the items before these and of these come to all that there are
+abbrev AllSums : List ℕ → List Item → Sizes → List Item → List Item → Type 0
+AllSums text all n before is =
+    (length (texts_of text before) + length (texts_of text is) ≡ n.texts)
+    × (length (substitutions_of text all before) + length (substitutions_of text all is) ≡ n.substitutions)
+    × (length (tables_of text before) + length (tables_of text is) ≡ n.tables)
 
-commands_length : (text : List ℕ) (all before is : List Item) (m : Counts) → length (commands_of text all before m is) ≡ commands_in is
-commands_length text all before [] m = refl
-commands_length text all before (i ∷ is) m =
-    leaf_length text all before is m (commands_in is) i.addresses i.function (commands_of text all (before ++ i ∷ []) (counts_with m i.function) is) (commands_length text all (before ++ i ∷ []) is (counts_with m i.function))
+commands_within : (text : List ℕ) (all before is : List Item) (n : Sizes) → commands_in all ≡ n.commands → commands_in before + commands_in is ≡ n.commands → AllSums text all n before is →
+    ItemsWithin n.expressions is → AllFilesWithin text all n is → AllWithin n (commands_of text all before is)
+commands_within text all before [] n whole count long h files = tt
+commands_within text all before (i ∷ is) n whole count long h files =
+    with_within n i.addresses (action_of text all before is i.function) (commands_of text all (before ++ i ∷ []) is) h.0.0
+    (may_act text all before is n i.function files.0 whole count long)
+    (commands_within text all (before ++ i ∷ []) is n whole
+    (ap (λ (m : ℕ). m + commands_in is) (commands_snoc before i) ∙ (counted_in (commands_in before) i is ∙ count)) (
+      taken_on (λ (j : Item). text_in text j.function) before is i n.texts long.0,
+      taken_on (λ (j : Item). substitution_in text all j.function) before is i n.substitutions long.1,
+      taken_on (λ (j : Item). table_in text j.function) before is i n.tables long.2,
+    )
+    h.1 files.1)
+
+leaf_length : (text : List ℕ) (all before after : List Item) (n : ℕ) (a : Addresses) (f : Function) (cs : List Command) → length cs ≡ n →
+    length (cons_option (option_map (command_of a) (action_of text all before after f)) cs) ≡ (if becomes_command f then suc n else n)
+leaf_length text all before after n a Close cs h = h
+leaf_length text all before after n a (Label from to) cs h = h
+leaf_length text all before after n a Comment cs h = h
+leaf_length text all before after n a other cs h = omega (arith, h)
+
+commands_length : (text : List ℕ) (all before is : List Item) → length (commands_of text all before is) ≡ commands_in is
+commands_length text all before [] = refl
+commands_length text all before (i ∷ is) =
+    leaf_length text all before is (commands_in is) i.addresses i.function (commands_of text all (before ++ i ∷ []) is) (commands_length text all (before ++ i ∷ []) is)
 
 -- expressions
 
@@ -502,14 +523,17 @@ from_none n m e = omega (arith, e)
 no_item : {A B : Type 0} (x : A) → ◌≡◌ {A = Option A} None (Some x) → B
 no_item x h = cc
 
+same_item : {A : Type 0} {x y : A} → Some x ≡ Some y → x ≡ y
+same_item h = cc
+
 substitution_at : (n : Sizes) (text : List ℕ) (all is : List Item) (k : ℕ) (t : Substitution) → ItemsWithin n.expressions is → AllFilesWithin text all n is → slice_get (substitutions_of text all is) k ≡ Some t → SubstitutionWithin n t
 substitution_at n text all [] k t h files g = no_item t g
 substitution_at n text all (i ∷ is) k t h files g = by_function i.function h.0.1 files.0 k g (λ k g. substitution_at n text all is k t h.1 files.1 g)
   where
-    by_function : (f : Function) → FunctionWithin n.expressions f → FilesWithin text all n f → (k : ℕ) → slice_get (with_substitution text all f (substitutions_of text all is)) k ≡ Some t →
+    by_function : (f : Function) → FunctionWithin n.expressions f → FilesWithin text all n f → (k : ℕ) → slice_get (cons_option (substitution_in text all f) (substitutions_of text all is)) k ≡ Some t →
         ((k : ℕ) → slice_get (substitutions_of text all is) k ≡ Some t → SubstitutionWithin n t) → SubstitutionWithin n t
     by_function (Substitute s e f) w v zero g rest =
-        let same : substitution_of text all s e f ≡ t = cc in subst (SubstitutionWithin n) same (record { expression = w.0; number = w.1; file = v })
+        subst (SubstitutionWithin n) (same_item g) (record { expression = w.0; number = w.1; file = v })
     by_function (Substitute s e f) w v (suc k) g rest = rest k g
     by_function f w v k g rest = rest k g
 
@@ -521,8 +545,8 @@ table_at : (text : List ℕ) (is : List Item) (k : ℕ) (t : List ℕ) → slice
 table_at text [] k t g = no_item t g
 table_at text (i ∷ is) k t g = by_function i.function k g (λ k g. table_at text is k t g)
   where
-    by_function : (f : Function) (k : ℕ) → slice_get (with_table text f (tables_of text is)) k ≡ Some t → ((k : ℕ) → slice_get (tables_of text is) k ≡ Some t → length t ≡ 256) → length t ≡ 256
-    by_function (Transliterate s) zero g rest = let same : table_between text s ≡ t = cc in subst (λ (t : List ℕ). length t ≡ 256) same (table_whole _ _)
+    by_function : (f : Function) (k : ℕ) → slice_get (cons_option (table_in text f) (tables_of text is)) k ≡ Some t → ((k : ℕ) → slice_get (tables_of text is) k ≡ Some t → length t ≡ 256) → length t ≡ 256
+    by_function (Transliterate s) zero g rest = subst (λ (t : List ℕ). length t ≡ 256) (same_item g) (table_whole _ _)
     by_function (Transliterate s) (suc k) g rest = rest k g
     by_function f k g rest = rest k g
 
@@ -599,7 +623,7 @@ files_within text all n (i ∷ is) r w a b = (
 pub means_in_range : (text : List ℕ) (kind : Kind) (m : ℕ) (s : Program) → Means text kind m s → InRange s
 means_in_range text kind m s h =
     let is = h.items in
-    let long : length s.commands ≡ commands_in is = ap (λ (xs : List Command). length xs) h.commands ∙ commands_length text is [] is none_counted in
+    let long : length s.commands ≡ commands_in is = ap (λ (xs : List Command). length xs) h.commands ∙ commands_length text is [] is in
     let items : ItemsWithin (length s.expressions) is = cut_within text kind m 0 0 h.to (length s.expressions) is s.expressions h.judged.cut (omega arith) in
     let texts : 0 + length (texts_of text is) ≡ length s.texts = from_none _ _ (ap (λ (xs : List (List ℕ)). length xs) h.texts) in
     let substitutions : 0 + length (substitutions_of text is is) ≡ length s.substitutions = from_none _ _ (ap (λ (xs : List Substitution). length xs) h.substitutions) in
@@ -609,7 +633,7 @@ means_in_range text kind m s h =
     (λ name g. any_distinct name (names_in Read text is) g) (λ name g. any_distinct name (names_in Write text is) g) in
     let all : AllWithin (sizes_of s) s.commands =
     subst (AllWithin (sizes_of s)) (sym h.commands)
-    (commands_within text is [] is none_counted (sizes_of s) (sym long) (omega (arith, long)) (texts, substitutions, tables)
+    (commands_within text is [] is (sizes_of s) (sym long) (omega (arith, long)) (texts, substitutions, tables)
     items files) in
     record {
       each = λ i x g. all_at (sizes_of s) s.commands i x all g;
@@ -620,7 +644,7 @@ means_in_range text kind m s h =
 
 -- the parts that were made are in range
 pub means_named : (text : List ℕ) (kind : Kind) (m to : ℕ) (is : List Item) (es : List WrittenExpression) (cs : List Command) (named : Named) (quiet : Bool) → CutWithoutFault text kind m is es to →
-    cs ≡ commands_of text is [] none_counted is → IsNamed text is es named → quiet ≡ is_quiet text → InRange (program_of cs named quiet m)
+    cs ≡ commands_of text is [] is → IsNamed text is es named → quiet ≡ is_quiet text → InRange (program_of cs named quiet m)
 means_named text kind m to is es cs named quiet j c n q =
     means_in_range text kind m (program_of cs named quiet m) (record {
       items = is;

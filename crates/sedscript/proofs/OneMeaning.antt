@@ -8,7 +8,7 @@ use Rattle.sedscript.specs.declared.items.Here.TheVariants.{Is, Ends}
 use Rattle.sedscript.specs.declared.items.Item.{Item}
 use Rattle.sedscript.specs.Bytes.{bytes_between}
 use Rattle.sedscript.specs.Items.{Reading, item_at}
-use Rattle.sedscript.specs.Script.{Gives, value, after_expression, CutScript, done, item, IsEnd, Means, commands_of, none_counted, texts_of, substitutions_of, tables_of}
+use Rattle.sedscript.specs.Script.{Gives, value, after_expression, CutScript, done, item, IsEnd, Means, commands_of, texts_of, substitutions_of, tables_of}
 use Rattle.sedscript.specs.Program.{Program}
 use Rattle.sedscript.specs.declared.types.FileUse.TheVariants.{Read, Write}
 use Rattle.sedscript.specs.Targets.{files_in}
@@ -51,7 +51,7 @@ pub one_meaning : ReadsAsOne → (text : List ℕ) (kind : Kind) (m : ℕ) (s t 
     × (map expression_tree s.expressions ≡ map expression_tree t.expressions) × (map (λ e. e.groups) s.expressions ≡ map (λ e. e.groups) t.expressions)
 one_meaning one text kind m s t h k =
     let same : h.items ≡ k.items = cut_same text kind m 0 0 h.to k.to h.items k.items s.expressions t.expressions one h.judged.cut h.judged.ends k.judged.cut k.judged.ends in (
-      h.commands ∙ (ap (λ (is : List Item). commands_of text is [] none_counted is) same ∙ sym k.commands),
+      h.commands ∙ (ap (λ (is : List Item). commands_of text is [] is) same ∙ sym k.commands),
       h.texts ∙ (ap (texts_of text) same ∙ sym k.texts),
       h.substitutions ∙ (ap (λ (is : List Item). substitutions_of text is is) same ∙ sym k.substitutions),
       h.tables ∙ (ap (tables_of text) same ∙ sym k.tables),

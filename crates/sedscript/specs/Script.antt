@@ -1,13 +1,13 @@
 -- What a script means (XCU sed, "Extended Description"), and the text that its parts make (XCU sed, Options).
-use Rattle.std.specs.Prelude.{ℕ, if◌then◌else◌, List, [], ◌∷◌, ◌++◌, nat_eq, ◌≤◌, length, Some, Ok, ◌≡◌, suc, ◌+◌, Bool, true, false, not, ◌&&◌, Option, None, ◌==◌, slice_get, unwrap_or}
-use Rattle.std.specs.List.{ends_with}
+use Rattle.std.specs.Prelude.{ℕ, if◌then◌else◌, List, [], ◌∷◌, ◌++◌, nat_eq, ◌≤◌, length, Some, Ok, ◌≡◌, ◌+◌, Bool, true, false, not, ◌&&◌, Option, None, ◌==◌, slice_get, unwrap_or, option_map, filter_map}
+use Rattle.std.specs.List.{cons_option, ends_with}
 use Rattle.sedre.specs.declared.types.Kind.{Kind}
 use Rattle.sedre.specs.declared.types.Reason.{Reason as ExprReason}
 use Rattle.sedre.specs.Tree.{WrittenExpression, expression_tree}
 use Rattle.sedre.specs.Grammar.{ReadsAs, ExprFaulty}
 use Rattle.sedscript.specs.Bytes.{bytes_between, Separator, past}
 use Rattle.sedscript.specs.Items.{Pattern, Reading, plainly, expression, item_at}
-use Rattle.sedscript.specs.Types.{Action, Command, Read, Write, Function, Plain, Open, Branch, Text, File, Substitute, Transliterate, Addresses, Item, Counts, Flags, Strings, Is}
+use Rattle.sedscript.specs.Types.{Action, Command, Read, Write, Function, Plain, Open, Branch, Text, File, Substitute, Transliterate, Addresses, Item, Is}
 use Rattle.sedscript.specs.declared.types.Action.TheVariants as action
 use Rattle.sedscript.specs.declared.substitution.Substitution.{Substitution}
 use Rattle.sedscript.specs.Strings.{pieces_of, chars_of, bytes_of, table_of}
@@ -49,95 +49,67 @@ abbrev pub unescaped_from : Bool → List ℕ → List ℕ
 unescaped_from escaped [] = []
 unescaped_from escaped (b ∷ bs) = if not escaped && b == 92 then unescaped_from true bs else b ∷ unescaped_from false bs
 
--- the texts with that of a function before them, if it has one
-abbrev pub with_text : List ℕ → Function → List (List ℕ) → List (List ℕ)
-with_text text (Text t from to) ts = unescaped_from false (bytes_between text from to) ∷ ts
-with_text text f ts = ts
+-- the text of a function, if it is `a`, `i` or `c`
+abbrev pub text_in : List ℕ → Function → Option (List ℕ)
+text_in text (Text t from to) = Some (unescaped_from false (bytes_between text from to))
+text_in text f = None
 
--- the texts of `a`, `i` and `c`, in order
+-- the texts of the items, in order
 abbrev pub texts_of : List ℕ → List Item → List (List ℕ)
-texts_of text [] = []
-texts_of text (i ∷ is) = with_text text i.function (texts_of text is)
+texts_of text items = filter_map (λ i. text_in text i.function) items
 
-abbrev pub none_counted : Counts
-none_counted = record { texts = 0; substitutions = 0; tables = 0 }
-
--- the number of the sink that the flag `w` names, if the flag is there
-abbrev pub sink_of : List ℕ → List Item → Option (ℕ × ℕ) → Option ℕ
-sink_of text all None = None
-sink_of text all (Some name) = Some (number_in Write text all (bytes_between text name.0 name.1))
-
--- the substitution of an `s` among all items. Without a number it begins with the first occurrence
-abbrev pub substitution_of : List ℕ → List Item → Strings → Option ℕ → Flags → Substitution
-substitution_of text all s e f = record {
+-- the substitution of a function among all items, if it is an `s`. Without a number it begins with the first occurrence
+abbrev pub substitution_in : List ℕ → List Item → Function → Option Substitution
+substitution_in text all (Substitute s e f) = Some (record {
   expression = e;
   replacement = pieces_of s.delimiter (bytes_between text (s.middle + 1) s.to);
   number = unwrap_or f.number 1;
   global = f.global;
   print = f.print;
-  file = sink_of text all f.file;
-}
+  file = option_map (λ name. number_in Write text all (bytes_between text name.0 name.1)) f.file;
+})
+substitution_in text all f = None
 
--- the substitutions with that of a function before them, if it has one
-abbrev pub with_substitution : List ℕ → List Item → Function → List Substitution → List Substitution
-with_substitution text all (Substitute s e f) ss = substitution_of text all s e f ∷ ss
-with_substitution text all f ss = ss
-
--- the substitutions of `s` among all items, in order
+-- the substitutions of items among all items, in order
 abbrev pub substitutions_of : List ℕ → List Item → List Item → List Substitution
-substitutions_of text all [] = []
-substitutions_of text all (i ∷ is) = with_substitution text all i.function (substitutions_of text all is)
+substitutions_of text all items = filter_map (λ i. substitution_in text all i.function) items
 
--- the table of a `y`
-abbrev pub table_between : List ℕ → Strings → List ℕ
-table_between text s =
-    table_of (bytes_of (chars_of text s.delimiter s.from s.middle))
-    (bytes_of (chars_of text s.delimiter (s.middle + 1) s.to))
+-- the table of a function, if it is a `y`
+abbrev pub table_in : List ℕ → Function → Option (List ℕ)
+table_in text (Transliterate s) =
+    Some (table_of (bytes_of (chars_of text s.delimiter s.from s.middle))
+    (bytes_of (chars_of text s.delimiter (s.middle + 1) s.to)))
+table_in text f = None
 
--- the tables with that of a function before them, if it has one
-abbrev pub with_table : List ℕ → Function → List (List ℕ) → List (List ℕ)
-with_table text (Transliterate s) ts = table_between text s ∷ ts
-with_table text f ts = ts
-
--- the tables of `y`, in order
+-- the tables of the items, in order
 abbrev pub tables_of : List ℕ → List Item → List (List ℕ)
-tables_of text [] = []
-tables_of text (i ∷ is) = with_table text i.function (tables_of text is)
+tables_of text items = filter_map (λ i. table_in text i.function) items
 
--- how many texts, substitutions and tables there are up to and including a function, where there are so many before it
-abbrev pub counts_with : Counts → Function → Counts
-counts_with n (Text t from to) = record n { texts = suc n.texts }
-counts_with n (Substitute s e f) = record n { substitutions = suc n.substitutions }
-counts_with n (Transliterate s) = record n { tables = suc n.tables }
-counts_with n f = n
-
--- the action of a function among all items, given those before it, which have so many texts, substitutions and tables,
--- and those after it. None where it doesn't become a command
-abbrev pub action_of : List ℕ → List Item → List Item → Counts → List Item → Function → Option Action
-action_of text all before n after (Plain s) = Some (action.Plain s)
-action_of text all before n after Open = Some (action.Block (unwrap_or (block_end before after) 0))
-action_of text all before n after (Branch u from to) =
+-- the action of a function among all items, given those before it and those after it. A text, a substitution or a table
+-- has as its number how many stand before it. None where the function doesn't become a command
+abbrev pub action_of : List ℕ → List Item → List Item → List Item → Function → Option Action
+action_of text all before after (Plain s) = Some (action.Plain s)
+action_of text all before after Open = Some (action.Block (unwrap_or (block_end before after) 0))
+action_of text all before after (Branch u from to) =
     Some (action.Branch u
     (if from == to then commands_in all else unwrap_or (label_in text (bytes_between text from to) 0 all) 0))
-action_of text all before n after (Text t from to) = Some (action.Text t n.texts)
-action_of text all before n after (File u from to) =
+action_of text all before after (Text t from to) = Some (action.Text t (length (texts_of text before)))
+action_of text all before after (File u from to) =
     Some (action.File u (number_in u text all (bytes_between text from to)))
-action_of text all before n after (Substitute s e f) = Some (action.Substitute n.substitutions)
-action_of text all before n after (Transliterate s) = Some (action.Transliterate n.tables)
-action_of text all before n after f = None
+action_of text all before after (Substitute s e f) = Some (action.Substitute (length (substitutions_of text all before)))
+action_of text all before after (Transliterate s) = Some (action.Transliterate (length (tables_of text before)))
+action_of text all before after f = None
 
--- the commands with one of these addresses and this action before them, if there is an action
-abbrev pub with_action : Addresses → Option Action → List Command → List Command
-with_action addresses None cs = cs
-with_action addresses (Some does) cs =
-    record { first = addresses.first; second = addresses.second; negate = addresses.negate; action = does } ∷ cs
+-- the command with these addresses and this action
+abbrev pub command_of : Addresses → Action → Command
+command_of a does = record { first = a.first; second = a.second; negate = a.negate; action = does }
 
--- the commands that the items become, in the order of their letters
-abbrev pub commands_of : List ℕ → List Item → List Item → Counts → List Item → List Command
-commands_of text all before n [] = []
-commands_of text all before n (i ∷ is) =
-    with_action i.addresses (action_of text all before n is i.function)
-    (commands_of text all (before ++ i ∷ []) (counts_with n i.function) is)
+-- the commands that the items become, in the order of their letters, given the items before them
+abbrev pub commands_of : List ℕ → List Item → List Item → List Item → List Command
+commands_of text all before [] = []
+commands_of text all before (i ∷ is) =
+    cons_option (option_map (command_of i.addresses) (action_of text all before is i.function))
+    (commands_of text all (before ++ i ∷ []) is)
 
 -- whether the first line of the whole text, whatever parts made it, is exactly `#n` (this project's own narrowing)
 abbrev pub is_quiet : List ℕ → Bool
@@ -157,7 +129,7 @@ pub record Means (text : List ℕ) (kind : Kind) (max_nodes : ℕ) (s : Program)
   pub items : List Item
   pub to : ℕ
   pub judged : CutWithoutFault text kind max_nodes items s.expressions to
-  pub commands : s.commands ≡ commands_of text items [] none_counted items
+  pub commands : s.commands ≡ commands_of text items [] items
   pub texts : s.texts ≡ texts_of text items
   pub substitutions : s.substitutions ≡ substitutions_of text items items
   pub tables : s.tables ≡ tables_of text items

@@ -1,6 +1,6 @@
 -- Private to the proofs: no contract of a public item cites what stands here.
 -- The tables by which labels, blocks and files are found without searching anew.
-use Rattle.std.specs.Prelude.{◌≡◌, ◌≤◌, ℕ, suc, List, [], ◌∷◌, ◌++◌, drop, Bool, false, not, ◌==◌, Option, Some, None, if◌then◌else◌, map}
+use Rattle.std.specs.Prelude.{◌≡◌, ◌≤◌, ℕ, suc, List, length, [], ◌∷◌, ◌++◌, drop, Bool, false, not, ◌==◌, Option, Some, None, if◌then◌else◌, map}
 use Rattle.std.specs.Borrow.{Bor}
 use Rattle.std.specs.BTreeMap.{BTreeMap, get_by}
 use Rattle.std.specs.Cmp.Lexicographic.{slice_cmp}
@@ -10,7 +10,9 @@ use Rattle.std.specs.Str.{bytes_eq}
 use Rattle.sedscript.specs.declared.targets.FirstLabel.{FirstLabel}
 use Rattle.sedscript.specs.declared.files.Files.{Files}
 use Rattle.sedscript.specs.declared.files.NumberedFiles.{NumberedFiles}
-use Rattle.sedscript.specs.Types.{FileUse, Read, Write, Item, Counts, Function}
+use Rattle.sedscript.specs.declared.commands.Counts.{Counts}
+use Rattle.sedscript.specs.Types.{FileUse, Read, Write, Item, Function, Open, Text, Substitute, Transliterate}
+use Rattle.sedscript.specs.Script.{texts_of, substitutions_of, tables_of}
 use Rattle.sedscript.specs.Targets.{files_in, is_label, counted, commands_in, is_open, is_close, close_in}
 
 -- the first item with a label of this name, and the number of the command after it, where the items begin with this
@@ -86,9 +88,24 @@ pub record FilesAre (text : List ℕ) (items : List Item) (f : Files) : Type 0 w
   pub read : AreNumbered Read text items f.read
   pub written : AreNumbered Write text items f.written
 
+-- how many of each there are up to and including a function, where there are so many before it
+abbrev pub counts_with : Counts → Function → Counts
+counts_with n Open = record n { blocks = suc n.blocks }
+counts_with n (Text t from to) = record n { texts = suc n.texts }
+counts_with n (Substitute s e f) = record n { substitutions = suc n.substitutions }
+counts_with n (Transliterate s) = record n { tables = suc n.tables }
+counts_with n f = n
+
+-- so many of each stand in these items among all items
+pub record CountsAre (text : List ℕ) (all items : List Item) (n : Counts) : Type 0 where
+  pub blocks : n.blocks ≡ blocks_in items
+  pub texts : n.texts ≡ length (texts_of text items)
+  pub substitutions : n.substitutions ≡ length (substitutions_of text all items)
+  pub tables : n.tables ≡ length (tables_of text items)
+
 -- at most so many of each
 abbrev pub AtMost : ℕ → Counts → Type 0
-AtMost most n = (n.texts ≤ most) × (n.substitutions ≤ most) × (n.tables ≤ most)
+AtMost most n = (n.blocks ≤ most) × (n.texts ≤ most) × (n.substitutions ≤ most) × (n.tables ≤ most)
 
 -- the tables are those of all items
 pub record TargetsAre (text : List ℕ) (items : List Item) (labels : BTreeMap (Bor (List ℕ)) FirstLabel)

@@ -11,7 +11,6 @@ pub use Rattle.sedscript.specs.declared.types.BranchUse.{BranchUse}
 pub use Rattle.sedscript.specs.declared.types.FileUse.{FileUse}
 pub use Rattle.sedscript.specs.declared.types.FileUse.TheVariants.{Read, Write}
 pub use Rattle.sedscript.specs.declared.items.Addresses.{Addresses}
-pub use Rattle.sedscript.specs.declared.items.Counts.{Counts}
 pub use Rattle.sedscript.specs.declared.items.Flags.{Flags}
 pub use Rattle.sedscript.specs.declared.items.Function.{Function}
 pub use Rattle.sedscript.specs.declared.items.Function.TheVariants.{Branch, Close, Comment, File, Label, Open, Plain, Substitute, Text, Transliterate}

@@ -1,32 +1,48 @@
 //! The commands that the items become, and what they name by numbers.
 
 ghost use Rattle.std.specs.Prelude.{◌≡◌, ◌<◌, ◌≤◌, ◌+◌, ◌-◌, ◌++◌, List, [], Some, false, map, drop, take};
-ghost use Rattle.std.specs.Prelude.{slice_get, IfOk, OnOk};
+ghost use Rattle.std.specs.Prelude.{slice_get, option_map, IfOk, OnOk};
+ghost use Rattle.std.specs.List.{cons_option};
 ghost use Rattle.sedscript.specs.Bytes.{bytes_between};
-ghost use Rattle.sedscript.specs.Tables.{TargetsAre, FilesAre, AtMost, blocks_in};
-ghost use Rattle.sedscript.specs.Script.{none_counted, counts_with, sink_of, action_of, with_action, commands_of, texts_of, substitution_of, substitutions_of, tables_of, unescaped_from, is_quiet};
+ghost use Rattle.sedscript.specs.Tables.{TargetsAre, FilesAre, CountsAre, AtMost, counts_with};
+ghost use Rattle.sedscript.specs.Targets.{number_in};
+ghost use Rattle.sedscript.specs.Types.{Write, Substitute};
+ghost use Rattle.sedscript.specs.Script.{action_of, command_of, commands_of, texts_of, substitution_in, substitutions_of, tables_of, unescaped_from, is_quiet};
 ghost use Rattle.sedscript.specs.declared.items.Item.{Item};
 
 use crate::bytes::bytes_between;
 use crate::files::Files;
-use crate::items::{Addresses, Counts, Flags, Function, Item, Strings};
+use crate::items::{Addresses, Flags, Function, Item, Strings};
 use crate::kept::Items;
 use crate::replacement::parts_of;
 use crate::strings::second_of;
 use crate::substitution::{Replacement, Substitution};
-use crate::targets::{Targets, opened};
+use crate::targets::Targets;
 use crate::transliteration::table_between;
 use crate::types::{Action, Command, FileUse};
 use std::alloc::{AllocError, Global};
 
-/// How many texts, substitutions and tables there are up to and including this function, where there are `n` before it.
+/// How many blocks, texts, substitutions and tables there are.
+#[derive(Clone, Copy)]
+struct Counts {
+    blocks: usize,
+    texts: usize,
+    substitutions: usize,
+    tables: usize,
+}
+
+/// How many of each there are up to and including this function, where there are `n` before it.
 fn counts_with(n: Counts, function: Function) -> Counts
     requires { AtMost (usize.MAX - 1) n }
     ensures is { result ≡ counts_with n function }
-    ensures few { (result.texts ≤ n.texts + 1) × (result.substitutions ≤ n.substitutions + 1)
-        × (result.tables ≤ n.tables + 1) }
+    ensures few { (result.blocks ≤ n.blocks + 1) × (result.texts ≤ n.texts + 1)
+        × (result.substitutions ≤ n.substitutions + 1) × (result.tables ≤ n.tables + 1) }
 {
     match function {
+        Function::Open => Counts {
+            blocks: n.blocks + 1,
+            ..n
+        },
         Function::Text(..) => Counts {
             texts: n.texts + 1,
             ..n
@@ -43,27 +59,26 @@ fn counts_with(n: Counts, function: Function) -> Counts
     }
 }
 
-/// The action of the item at index `k`; None where it doesn't become a command. The items before it open `before`
-/// blocks, and have so many texts, substitutions and tables as `counts` says.
+/// The action of the item at index `k`; None where it doesn't become a command. So many blocks, texts, substitutions and
+/// tables as `counts` says stand in the items before it.
 fn action_of<'a>(
     text: &'a [u8],
     items: &Items,
     targets: &Targets<'a>,
     files: &Files<'a>,
     k: usize,
-    before: usize,
     counts: Counts,
     item: Item,
 ) -> Option<Action>
     requires item { slice_get items.now k ≡ Some item }
-    requires opened { before ≡ blocks_in (take k items.now) }
+    requires counts { CountsAre text.now items.now (take k items.now) counts }
     requires targets { TargetsAre text.now items.now targets.now.labels targets.now.ends.items targets.now.commands }
     requires files { FilesAre text.now items.now files.now }
-    ensures { result ≡ action_of text.now items.now (take k items.now) counts (drop (k + 1) items.now) item.function }
+    ensures { result ≡ action_of text.now items.now (take k items.now) (drop (k + 1) items.now) item.function }
 {
     match item.function {
         Function::Plain(simple) => Some(Action::Plain(simple)),
-        Function::Open => Some(Action::Block(targets.block_end(before).unwrap_or(0))),
+        Function::Open => Some(Action::Block(targets.block_end(counts.blocks).unwrap_or(0))),
         Function::Branch(branch_use, from, to) => {
             if from == to {
                 Some(Action::Branch(branch_use, targets.commands))
@@ -93,7 +108,7 @@ fn add_command(
     item: Item,
     action: Option<Action>,
 ) -> Result<(), AllocError>
-    ensures { OnOk result (commands.new.items ≡ commands.old.items ++ with_action item.addresses action []) }
+    ensures { OnOk result (commands.new.items ≡ commands.old.items ++ cons_option (option_map (command_of item.addresses) action) []) }
 {
     if let Some(action) = action {
         let Addresses {
@@ -121,11 +136,11 @@ pub fn commands_of<'a>(
 ) -> Result<Vec<Command>, AllocError>
     requires targets { TargetsAre text.now items.now targets.now.labels targets.now.ends.items targets.now.commands }
     requires files { FilesAre text.now items.now files.now }
-    ensures { IfOk result (λ v. v.items ≡ commands_of text.now items.now [] none_counted items.now) }
+    ensures { IfOk result (λ v. v.items ≡ commands_of text.now items.now [] items.now) }
 {
     let mut commands = Vec::with_capacity(alloc, targets.commands)?;
-    let mut blocks = 0;
     let mut counts = Counts {
+        blocks: 0,
         texts: 0,
         substitutions: 0,
         tables: 0,
@@ -136,9 +151,8 @@ pub fn commands_of<'a>(
         add_command(
             &mut commands,
             item,
-            action_of(text, items, targets, files, k, blocks, counts, item),
+            action_of(text, items, targets, files, k, counts, item),
         )?;
-        blocks = opened(blocks, item.function);
         counts = counts_with(counts, item.function);
         k += 1;
     }
@@ -183,7 +197,7 @@ pub fn texts_of(alloc: Global, text: &[u8], items: &Items) -> Result<Vec<Vec<u8>
 /// The number of the sink that the flag `w` names, if the flag is there.
 fn sink_of<'a>(text: &'a [u8], files: &Files<'a>, name: Option<(usize, usize)>) -> Option<usize>
     ensures { (items : List Item) →
-        FilesAre text.now items files.now → result ≡ sink_of text.now items name }
+        FilesAre text.now items files.now → result ≡ option_map (λ n. number_in Write text.now items (bytes_between text.now n.0 n.1)) name }
 {
     let (from, to) = name?;
     Some(files.number(FileUse::Write, bytes_between(text, from, to)))
@@ -199,7 +213,7 @@ fn substitution_of<'a>(
     flags: Flags,
 ) -> Result<Substitution, AllocError>
     ensures { IfOk result (λ s. (items : List Item) →
-        FilesAre text.now items files.now → s ≡ substitution_of text.now items strings expression flags) }
+        FilesAre text.now items files.now → Some s ≡ substitution_in text.now items (Substitute strings expression flags)) }
 {
     let parts = parts_of(alloc, second_of(text, strings), strings.delimiter)?;
     Ok(Substitution {

@@ -81,14 +81,6 @@ pub struct Item {
     pub function: Function,
 }
 
-/// How many texts, substitutions and tables there are.
-#[derive(Clone, Copy)]
-pub struct Counts {
-    pub texts: usize,
-    pub substitutions: usize,
-    pub tables: usize,
-}
-
 /// What stands at a place: an item and the place after it, or the end.
 #[derive(Clone, Copy)]
 pub enum Here {
