@@ -1,5 +1,5 @@
 -- Where a text of `a`, `i` or `c` is missing.
-use Rattle.std.proofs.Common.{◌≡◌, ◌⊎◌, inl, inr, ℕ, zero, suc, ◌+◌, ◌-◌, ◌<◌, ◌==◌, ◌%◌, ◌&&◌, Bool, true, false, if◌then◌else◌, List, [], ◌∷◌, length, drop, Option, Some, None, Result, Err, option_map, slice_get, refl, sym, ap, ◌∙◌, arith, length-drop}
+use Rattle.std.proofs.Common.{◌≡◌, ◌⊎◌, inl, inr, ℕ, zero, suc, ◌+◌, ◌-◌, ◌<◌, ◌==◌, ◌%◌, ◌&&◌, Bool, true, false, if◌then◌else◌, List, [], ◌∷◌, length, drop, Option, Some, None, Result, Err, option_map, slice_get, refl, sym, ap, ◌∙◌, arith, length-drop, unwrap_or}
 use Rattle.std.proofs.lemmas.Bool.{eqb-true, eqb-false, and_parts}
 use Rattle.std.proofs.lemmas.Option.{slice_get_within}
 use Rattle.sedscript.specs.declared.types.ScriptFault.{ScriptFault}
@@ -10,7 +10,7 @@ use Rattle.sedscript.specs.declared.types.TextUse.{TextUse}
 use Rattle.sedscript.specs.declared.letters.Shape.TheVariants.{TakesText}
 use Rattle.sedscript.specs.declared.texts.Inside.TheVariants.{InLine, Escape, Due}
 use Rattle.sedscript.specs.Bytes.{past, is_byte}
-use Rattle.sedscript.specs.Functions.{fault, text_end, text_from, text_of, ends_line}
+use Rattle.sedscript.specs.Functions.{fault, text_end, text_from, text_of}
 use Rattle.sedscript.specs.Items.{function_of}
 use Rattle.examples.specs.Backslashes.{NoneUnescaped}
 use Rattle.examples.specs.Texts.{EndsInBackslash, HasNoText}
@@ -231,22 +231,22 @@ none_there script from e = by_form (is_byte 92 (slice_get script from) && is_byt
     unended : text_end InLine from (drop from script) ≡ None → HasNoText script from
     unended e = inr (inr (of_lacks script from ((says 0 from (drop from script) refl).0 e)))
 
-    by_byte : (o : Option ℕ) → slice_get script from ≡ o → ends_line o ≡ true → HasNoText script from
+    by_byte : (o : Option ℕ) → slice_get script from ≡ o → (unwrap_or o 10 == 10) ≡ true → HasNoText script from
     by_byte None is e = inl is
     by_byte (Some b) is e = inr (inl (is ∙ ap (λ (x : ℕ). Some x) (eqb-true b 10 e)))
 
-    by_line : (t : Bool) → ends_line (slice_get script from) ≡ t → (if t then None else option_map (spanned from) (text_end InLine from (drop from script))) ≡ None → HasNoText script from
+    by_line : (t : Bool) → (unwrap_or (slice_get script from) 10 == 10) ≡ t → (if t then None else option_map (spanned from) (text_end InLine from (drop from script))) ≡ None → HasNoText script from
     by_line true h e = by_byte (slice_get script from) refl h
     by_line false h e = unended (mapped_none from (text_end InLine from (drop from script)) e)
 
     by_form : (t : Bool) → (is_byte 92 (slice_get script from) && is_byte 10 (slice_get script (from + 1))) ≡ t →
         (if t then option_map (spanned (from + 2)) (text_end Due (from + 2) (drop (from + 2) script))
-        else if ends_line (slice_get script from) then None
+        else if unwrap_or (slice_get script from) 10 == 10 then None
         else option_map (spanned from) (text_end InLine from (drop from script))) ≡ None → HasNoText script from
     by_form true h e =
         let two = and_parts (is_byte 92 (slice_get script from)) (is_byte 10 (slice_get script (from + 1))) h in
         unended (one_form script from (at_byte 92 (slice_get script from) two.0) (at_byte 10 (slice_get script (from + 1)) two.1) ∙ mapped_none (from + 2) (text_end Due (from + 2) (drop (from + 2) script)) e)
-    by_form false h e = by_line (ends_line (slice_get script from)) refl e
+    by_form false h e = by_line (unwrap_or (slice_get script from) 10 == 10) refl e
 
 nothing_there : (script : List ℕ) (from : ℕ) → HasNoText script from → text_from script from ≡ None
 unfolding text_from
@@ -263,12 +263,12 @@ nothing_there script from (inr (inr u)) = by_form (is_byte 92 (slice_get script 
 
     by_form : (t : Bool) → (is_byte 92 (slice_get script from) && is_byte 10 (slice_get script (from + 1))) ≡ t →
         (if t then option_map (spanned (from + 2)) (text_end Due (from + 2) (drop (from + 2) script))
-        else if ends_line (slice_get script from) then None
+        else if unwrap_or (slice_get script from) 10 == 10 then None
         else option_map (spanned from) (text_end InLine from (drop from script))) ≡ None
     by_form true h =
         let two = and_parts (is_byte 92 (slice_get script from)) (is_byte 10 (slice_get script (from + 1))) h in
         ap (option_map (spanned (from + 2))) (sym (one_form script from (at_byte 92 (slice_get script from) two.0) (at_byte 10 (slice_get script (from + 1)) two.1)) ∙ lacks)
-    by_form false h = by_line (ends_line (slice_get script from))
+    by_form false h = by_line (unwrap_or (slice_get script from) 10 == 10)
 
 abbrev Found : Type 0
 Found = Result (Function × ℕ) ScriptFault

@@ -10,7 +10,7 @@ use Rattle.sedre.specs.Brackets.{delimiter_at}
 use Rattle.sedscript.specs.declared.bytes.Sort.TheVariants.{Blank, Name, Digit, Separator}
 use Rattle.sedscript.specs.declared.types.ScriptFault.{ScriptFault}
 use Rattle.sedscript.specs.declared.types.Reason.{Reason}
-use Rattle.sedscript.specs.declared.types.Reason.TheVariants.{RepeatedByte, MissingText, BadEscape, LengthsDiffer, GroupAbsent, OpenBlock, StrayClose, UnknownLabel, RepeatedLabel}
+use Rattle.sedscript.specs.declared.types.Reason.TheVariants.{OpenDelimiter, RepeatedByte, MissingText, BadEscape, LengthsDiffer, GroupAbsent, OpenBlock, StrayClose, UnknownLabel, RepeatedLabel}
 use Rattle.sedscript.specs.declared.types.Address.{Address}
 use Rattle.sedscript.specs.declared.types.TextUse.{TextUse}
 use Rattle.sedscript.specs.declared.types.TextUse.TheVariants.{Append, Insert, Change}
@@ -28,14 +28,15 @@ use Rattle.sedscript.specs.declared.letters.Verb.TheVariants.{ReadsExpression, R
 use Rattle.sedscript.specs.declared.letters.Shape.{Shape}
 use Rattle.sedscript.specs.declared.letters.Shape.TheVariants.{Alone, OpensBlock, ClosesBlock, Remark, NamesLabel, GoesTo, TakesText, NamesFile, TakesStrings}
 use Rattle.sedscript.specs.Bytes.{past, bytes_between, is_digit, is_byte, with_digits}
-use Rattle.sedscript.specs.Strings.{string_end, exceeds, replacement_fault, is_letter, chars_of, repeated_in, repeated_fault, string_fault, strings_fault}
-use Rattle.sedscript.specs.Items.{Reading, plainly, expression, ◌>>=◌, Addressed, line_of, folds_at, match_to, match_at, own_match, address_of, address_at, with_second, second_at, after_first, addresses_at, with_bang, substitute_with, substitute_at, function_of, function_with, function_at, function_after, item_with, item_from, item_at}
-use Rattle.sedscript.specs.Functions.{allowed, item_of, ended, may_end, text_of, text_from, file_of, name_from, ◌>>=◌ as ◌then◌, verb_of, most_addresses}
-use Rattle.sedscript.specs.Between.{no_flags, numbered, with_number, with_flag, with_file, ends_flags, flags_from, folds, own_delimiter, strings_to, strings_after, substitute_strings, transliterate_strings, unless_fault, transliterate_at, flags_after, substituted}
+use Rattle.sedscript.specs.Strings.{string_end, exceeds, replacement_fault, is_letter, chars_of, repeated_in, string_fault, strings_fault}
+use Rattle.sedscript.specs.Items.{Reading, plainly, expression, ◌>>=◌, Addressed, line_of, folds_at, match_at, own_match, address_of, address_at, with_second, second_at, after_first, addresses_at, with_bang, substitute_with, substitute_at, function_of, function_with, function_at, item_from, item_at}
+use Rattle.sedscript.specs.Functions.{or_fault, allowed, ended, may_end, text_of, text_from, file_of, name_from, ◌>>=◌ as ◌then◌, verb_of, most_addresses}
+use Rattle.sedscript.specs.Between.{no_flags, numbered, with_number, with_flag, with_file, ends_flags, flags_from, folds, own_delimiter, strings_after, substitute_strings, transliterate_strings, unless_fault, transliterate_at, flags_after, substituted}
 use Rattle.sedscript.specs.Targets.{fault_if, label_in, block_end, depth_after, target_fault_at, target_fault_in, target_fault}
 use Rattle.sedscript.specs.Script.{Gives, value, after_expression, IsRead, CutScript, done, item, Means, IsEnd}
 use Rattle.sedscript.specs.FirstFault.{Fails, Faulty, own, no_expression, later, early, afterwards}
 use Rattle.sedscript.specs.Program.{Program}
+use Rattle.sedscript.specs.Cases.{repeated_fault, match_to, function_after, item_with, item_of}
 use Rattle.examples.specs.Blocks.{IsStray, IsUnclosed}
 use Rattle.examples.specs.Escapes.{wrong_in_string, wrong_in_replacement, IsFirstWrong, FirstWrong, HasGroups, IsSubstitute, IsWrongEscape, in_first, in_second, in_replacement}
 use Rattle.examples.specs.Strings.{IsTransliterate, RepeatsFirst}
@@ -279,6 +280,10 @@ module _ (kind : Kind) (max_nodes : ℕ) (text : List ℕ) where
 
   ended_walk : (f : Function) (at : ℕ) → Sound f → Walk SoundFound (ended text f at)
   ended_walk f at h = walk_if SoundFound (may_end (slice_get text (past Blank text at))) _ _ h tt
+
+  -- the second string, where it ends
+  abbrev strings_to : ℕ → ℕ → ℕ → Option ℕ → Result Strings ScriptFault
+  strings_to d from middle o = ◌then◌ (or_fault o OpenDelimiter middle) (λ (to : ℕ). Ok (record { delimiter = d; from = from; middle = middle; to = to }))
 
   strings_walk : (breaks : Bool) (d place : ℕ) (o : Option ℕ) → Walk Any (strings_after text breaks d place o)
   strings_walk breaks d place None = tt

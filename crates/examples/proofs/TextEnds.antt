@@ -1,10 +1,10 @@
 -- Where a text of `a`, `i` or `c` ends.
-use Rattle.std.proofs.Common.{◌≡◌, ℕ, suc, ◌+◌, ◌<◌, ◌≤◌, ◌==◌, ◌%◌, ◌⊎◌, inl, inr, ◌&&◌, Bool, true, false, if◌then◌else◌, List, [], ◌∷◌, length, drop, Option, Some, None, option_map, slice_get, refl, sym, ap, ◌∙◌, arith, length-drop}
+use Rattle.std.proofs.Common.{◌≡◌, ℕ, suc, ◌+◌, ◌<◌, ◌≤◌, ◌==◌, ◌%◌, ◌⊎◌, inl, inr, ◌&&◌, Bool, true, false, if◌then◌else◌, List, [], ◌∷◌, length, drop, Option, Some, None, option_map, slice_get, refl, sym, ap, ◌∙◌, arith, length-drop, unwrap_or}
 use Rattle.std.proofs.lemmas.Bool.{eqb-true, eqb-false, and_parts}
 use Rattle.std.proofs.lemmas.Option.{slice_get_within, some_pair_parts}
 use Rattle.sedscript.specs.declared.texts.Inside.{Inside}
 use Rattle.sedscript.specs.declared.texts.Inside.TheVariants.{InLine, Escape, Due}
-use Rattle.sedscript.specs.Functions.{text_from, text_end, stops, inside_after, ends_line}
+use Rattle.sedscript.specs.Functions.{text_from, text_end, stops, inside_after}
 use Rattle.sedscript.specs.Bytes.{is_byte}
 use Rattle.examples.specs.Backslashes.{IsUnescaped, NoneUnescaped}
 use Rattle.examples.proofs.BackslashLemmas.{Reaches, reaches_end, reaches_here, reaches_later, next, none_before, stands_last, odd_more, even_more}
@@ -90,10 +90,10 @@ stands_in script byte at h = by_byte (slice_get script at) refl h
     by_byte None e h = cc
     by_byte (Some b) e h = slice_get_within script at b e
 
-open_line : (script : List ℕ) (at : ℕ) → ends_line (slice_get script at) ≡ false → at < length script
+open_line : (script : List ℕ) (at : ℕ) → (unwrap_or (slice_get script at) 10 == 10) ≡ false → at < length script
 open_line script at h = by_byte (slice_get script at) refl h
   where
-    by_byte : (o : Option ℕ) → slice_get script at ≡ o → ends_line o ≡ false → at < length script
+    by_byte : (o : Option ℕ) → slice_get script at ≡ o → (unwrap_or o 10 == 10) ≡ false → at < length script
     by_byte None e h = cc
     by_byte (Some b) e h = slice_get_within script at b e
 
@@ -101,7 +101,7 @@ pub text_ends : (script : List ℕ) (from begin end : ℕ) → text_from script 
 unfolding text_from
 text_ends script from begin end e = by_form (is_byte 92 (slice_get script from) && is_byte 10 (slice_get script (from + 1))) refl e
   where
-    by_line : (t : Bool) → ends_line (slice_get script from) ≡ t → (if t then None else option_map (spanned from) (text_end InLine from (drop from script))) ≡ Some (begin, end) → Ends script begin end
+    by_line : (t : Bool) → (unwrap_or (slice_get script from) 10 == 10) ≡ t → (if t then None else option_map (spanned from) (text_end InLine from (drop from script))) ≡ Some (begin, end) → Ends script begin end
     by_line true h e = let no : ◌≡◌ {A = Option (ℕ × ℕ)} None (Some (begin, end)) = e in cc
     by_line false h e =
         let m = mapped from from begin end (text_end InLine from (drop from script)) e in
@@ -111,11 +111,11 @@ text_ends script from begin end e = by_form (is_byte 92 (slice_get script from) 
 
     by_form : (t : Bool) → (is_byte 92 (slice_get script from) && is_byte 10 (slice_get script (from + 1))) ≡ t →
         (if t then option_map (spanned (from + 2)) (text_end Due (from + 2) (drop (from + 2) script))
-        else if ends_line (slice_get script from) then None
+        else if unwrap_or (slice_get script from) 10 == 10 then None
         else option_map (spanned from) (text_end InLine from (drop from script))) ≡ Some (begin, end) → Ends script begin end
     by_form true h e =
         let m = mapped (from + 2) from begin end (text_end Due (from + 2) (drop (from + 2) script)) e in
         let two = and_parts (is_byte 92 (slice_get script from)) (is_byte 10 (slice_get script (from + 1))) h in
         let inside = stands_in script 10 (from + 1) two.1 in
         rw (← m.0) (ends_from script Due (from + 2) end refl (omega (arith, inside)) m.1)
-    by_form false h e = by_line (ends_line (slice_get script from)) refl e
+    by_form false h e = by_line (unwrap_or (slice_get script from) 10 == 10) refl e

@@ -23,9 +23,10 @@ use Rattle.sedscript.specs.Functions.{verb_of, most_addresses, allowed, ended, m
 use Rattle.sedscript.specs.Bytes.{past, bytes_between}
 use Rattle.sedscript.specs.Strings.{replacement_fault, is_among, strings_fault}
 use Rattle.sedscript.specs.Between.{own_delimiter, substitute_strings, transliterate_strings, unless_fault, transliterate_at, flags_after, substituted}
-use Rattle.sedscript.specs.Items.{Reading, plainly, expression, ◌>>=◌, addresses_at, with_bang, substitute_with, substitute_at, function_of, function_with, function_at, function_after, item_with, item_from, item_at}
+use Rattle.sedscript.specs.Items.{Reading, plainly, expression, ◌>>=◌, addresses_at, with_bang, substitute_with, substitute_at, function_of, function_with, function_at, item_from, item_at}
 use Rattle.sedscript.specs.Script.{Gives, value, after_expression, CutScript, done, item}
 use Rattle.sedscript.specs.Targets.{counted, is_label, label_in}
+use Rattle.sedscript.specs.Cases.{function_after, item_with}
 use Rattle.scripts.specs.OneText.{HasLabel}
 
 -- what is so of a value that is read

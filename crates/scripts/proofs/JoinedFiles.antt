@@ -1,6 +1,7 @@
 -- The files of two texts with a newline between them, where no name is a file of both.
 use Rattle.std.proofs.Common.{◌≡◌, ℕ, zero, suc, ◌+◌, ◌≤◌, ◌||◌, cond, Bool, true, false, not, List, [], ◌∷◌, ◌++◌, length, map, filter, filter_map, Option, Some, None, is_some, option_map, unwrap_or, refl, sym, ap, ap₂, ◌∙◌, arith, if◌then◌else◌}
 use Rattle.std.specs.List.{list_any, cons_option, position_from}
+use Rattle.std.specs.Bool.{then_some}
 use Rattle.std.specs.Str.{bytes_eq}
 use Rattle.std.proofs.lemmas.List.Elements.{filter-append}
 use Rattle.std.proofs.lemmas.Slice.Eq.{bytes_eq-Decides}
@@ -139,7 +140,7 @@ module _ (t whole : List ℕ) (base count : ℕ) (between : (from to : ℕ) → 
 
   at_same : (u : FileUse) (o : Option (ℕ × ℕ)) → FileIn (length t) o → file_at u whole (option_map (move_span base) o) ≡ file_at u t o
   at_same u None h = refl
-  at_same u (Some x) h = ap (λ (bs : List ℕ). if is_file u bs then Some bs else None) (between x.0 x.1 h.0 h.1)
+  at_same u (Some x) h = ap (λ (bs : List ℕ). then_some (is_file u bs) bs) (between x.0 x.1 h.0 h.1)
 
   name_same : (u : FileUse) (f : Function) → FunctionIn (length t) f → file_at u whole (name_in u (made f)) ≡ file_at u t (name_in u f)
   name_same Read (File Read from to) h = at_same Read (Some (from, to)) h
@@ -225,7 +226,7 @@ any_more name (Some n) rest h = or_true (bytes_eq name n) (list_any (bytes_eq na
 any_here : (u : FileUse) (text : List ℕ) (x : ℕ × ℕ) (rest : List (List ℕ)) → is_file u (bytes_between text x.0 x.1) ≡ true → list_any (bytes_eq (bytes_between text x.0 x.1)) (cons_option (file_at u text (Some x)) rest) ≡ true
 any_here u text x rest h =
     let name : List ℕ = bytes_between text x.0 x.1 in
-    ap (λ (t : Bool). list_any (bytes_eq name) (cons_option (if t then Some name else None) rest)) h ∙ ap (λ (t : Bool). t || list_any (bytes_eq name) rest) ((bytes_eq-Decides name name).1 refl)
+    ap (λ (t : Bool). list_any (bytes_eq name) (cons_option (then_some t name) rest)) h ∙ ap (λ (t : Bool). t || list_any (bytes_eq name) rest) ((bytes_eq-Decides name name).1 refl)
 
 module _ (t : List ℕ) (all : List Item) (whole : List ℕ) (every : List Item) (b : Before) where
   -- each name among these has its number

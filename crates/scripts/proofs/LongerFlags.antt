@@ -1,5 +1,5 @@
 -- A text within a longer one, behind which nothing stands or a newline: flags, names and texts.
-use Rattle.std.proofs.Common.{◌≡◌, ℕ, zero, suc, ◌+◌, ◌-◌, ◌<◌, ◌≤◌, ◌&&◌, ◌==◌, Bool, true, false, not, List, [], ◌∷◌, ◌++◌, length, Option, Some, None, is_some, is_none, option_map, Result, Ok, Err, refl, sym, ap, ap₂, subst, ◌∙◌, inl, inr, arith, if◌then◌else◌, slice_get, drop, length-drop}
+use Rattle.std.proofs.Common.{◌≡◌, ℕ, zero, suc, ◌+◌, ◌-◌, ◌<◌, ◌≤◌, ◌&&◌, ◌==◌, Bool, true, false, not, List, [], ◌∷◌, ◌++◌, length, Option, Some, None, is_some, is_none, option_map, Result, Ok, Err, refl, sym, ap, ap₂, subst, ◌∙◌, inl, inr, arith, if◌then◌else◌, slice_get, unwrap_or, drop, length-drop}
 use Rattle.std.specs.List.{prefix_len, take_while}
 use Rattle.std.specs.Option.{option_or}
 use Rattle.std.proofs.lemmas.Bool.Decides.{eqb_tells, nat_tests}
@@ -15,12 +15,13 @@ use Rattle.sedscript.specs.declared.texts.Inside.{Inside}
 use Rattle.sedscript.specs.declared.texts.Inside.TheVariants.{InLine, Escape, Due}
 use Rattle.sedscript.specs.declared.transliteration.Char.{Char}
 use Rattle.sedscript.specs.Bytes.{past, bytes_between, is_digit, is_byte, with_digits}
-use Rattle.sedscript.specs.Strings.{escapes, escaped_piece, exceeds, piece_fault, replacement_fault, escaped_byte, chars_from, bytes_of, string_fault, is_among, repeated_in, repeated_fault, strings_fault}
-use Rattle.sedscript.specs.Functions.{fault, text_end, ends_line, text_from, name_from, ◌>>=◌ as ◌then◌}
+use Rattle.sedscript.specs.Strings.{escapes, escaped_piece, exceeds, piece_fault, replacement_fault, escaped_byte, chars_from, bytes_of, string_fault, is_among, repeated_in, strings_fault}
+use Rattle.sedscript.specs.Functions.{fault, text_end, text_from, name_from, ◌>>=◌ as ◌then◌}
 use Rattle.sedscript.specs.declared.substitution.Piece.{Piece}
 use Rattle.sedscript.specs.declared.substitution.Piece.TheVariants.{Literal, Whole, Group}
 use Rattle.sedscript.specs.Between.{no_flags, numbered, with_number, with_flag, with_file, ends_flags, flags_from, unless_fault}
 use Rattle.sedscript.specs.Targets.{fault_if}
+use Rattle.sedscript.specs.Cases.{repeated_fault}
 use Rattle.sedscript.proofs.Chars.{same_bytes}
 use Rattle.scripts.proofs.LongerText.{tail_of, prefix_on, taken_on, past_low, past_high, rest_on, there, past_on}
 use Rattle.scripts.proofs.LongerStrings.{FoundOn, found_if, found_later}
@@ -222,7 +223,7 @@ module _ (before text : List ℕ) (more : Option (List ℕ)) where
   abbrev text_by : List ℕ → ℕ → Option ℕ → Option ℕ → Option (ℕ × ℕ)
   text_by t from o p =
       if is_byte 92 o && is_byte 10 p then option_map (λ to. (from + 2, to)) (text_end Due (from + 2) (drop (from + 2) t))
-      else if ends_line o then None
+      else if unwrap_or o 10 == 10 then None
       else option_map (λ to. (from, to)) (text_end InLine from (drop from t))
 
   end_there : (how : Inside) (from place : ℕ) → from ≤ end → place ≡ base + from → FoundOn base from (suc end) (text_end how from (drop from text)) (text_end how place (drop place whole))

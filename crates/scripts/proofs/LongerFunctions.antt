@@ -4,7 +4,7 @@ use Rattle.sedre.specs.Brackets.{delimiter_at}
 use Rattle.std.proofs.lemmas.Option.{slice_get_within}
 use Rattle.sedscript.specs.declared.bytes.Sort.TheVariants.{Blank, Name, Line}
 use Rattle.sedscript.specs.declared.types.ScriptFault.{ScriptFault}
-use Rattle.sedscript.specs.declared.types.Reason.TheVariants.{MissingLabel, TrailingBytes}
+use Rattle.sedscript.specs.declared.types.Reason.TheVariants.{MissingLabel, OpenDelimiter, TrailingBytes}
 use Rattle.sedscript.specs.declared.types.TextUse.{TextUse}
 use Rattle.sedscript.specs.declared.types.FileUse.{FileUse}
 use Rattle.sedscript.specs.declared.types.BranchUse.{BranchUse}
@@ -15,8 +15,8 @@ use Rattle.sedscript.specs.declared.letters.Shape.{Shape}
 use Rattle.sedscript.specs.declared.letters.Shape.TheVariants.{Alone, OpensBlock, ClosesBlock, Remark, NamesLabel, GoesTo, TakesText, NamesFile, TakesStrings}
 use Rattle.sedscript.specs.Bytes.{past, bytes_between}
 use Rattle.sedscript.specs.Strings.{string_end, replacement_fault}
-use Rattle.sedscript.specs.Functions.{fault, ended, may_end, text_of, text_from, label_of, branch_of, file_of, name_from, ◌>>=◌ as ◌then◌}
-use Rattle.sedscript.specs.Between.{no_flags, flags_from, own_delimiter, strings_to, strings_after, substitute_strings, transliterate_strings, transliterate_at, flags_after, substituted}
+use Rattle.sedscript.specs.Functions.{fault, or_fault, ended, may_end, text_of, text_from, label_of, branch_of, file_of, name_from, ◌>>=◌ as ◌then◌}
+use Rattle.sedscript.specs.Between.{no_flags, flags_from, own_delimiter, strings_after, substitute_strings, transliterate_strings, transliterate_at, flags_after, substituted}
 use Rattle.sedscript.specs.Items.{function_of}
 use Rattle.scripts.proofs.LongerText.{tail_of, past_low, past_high, near, past_on, between_on}
 use Rattle.scripts.proofs.LongerStrings.{FoundOn, delimiter_on, string_there}
@@ -104,6 +104,10 @@ module _ (before text : List ℕ) (more : Option (List ℕ)) (count : ℕ) where
 
   abbrev Strung : Result Strings ScriptFault → Result Strings ScriptFault → Type 0
   Strung r z = Same (StringsIn end) (move_strings base) r z
+
+  -- the second string, where it ends
+  abbrev strings_to : ℕ → ℕ → ℕ → Option ℕ → Result Strings ScriptFault
+  strings_to d from middle o = ◌then◌ (or_fault o OpenDelimiter middle) (λ (to : ℕ). Ok (record { delimiter = d; from = from; middle = middle; to = to }))
 
   to_on : (d from place middle till : ℕ) (o p : Option ℕ) → place ≡ base + from → till ≡ base + middle → from ≤ middle → FoundOn base (middle + 1) end o p → Strung (strings_to d from middle o) (strings_to d place till p)
   to_on d from place middle till None p e f le h = tt

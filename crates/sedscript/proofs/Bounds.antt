@@ -1,6 +1,7 @@
 -- The numbers of a script are in range.
 use Rattle.std.proofs.Common.{◌≡◌, ℕ, zero, suc, ◌+◌, ◌<◌, ◌≤◌, ◌&&◌, ◌==◌, Bool, true, false, cond, not, ◌||◌, List, [], ◌∷◌, ◌++◌, length, filter_map, Option, Some, None, unwrap_or, Result, Ok, Err, IfOk, refl, sym, ap, subst, ◌∙◌, arith, if◌then◌else◌, slice_get, length-append, drop, is_some, option_map}
 use Rattle.std.specs.List.{list_any, position_from, cons_option, prefix_len, take_while}
+use Rattle.std.specs.Bool.{then_some}
 use Rattle.std.specs.Str.{bytes_eq}
 use Rattle.std.proofs.lemmas.Slice.Eq.{bytes_eq-Decides}
 use Rattle.std.proofs.lemmas.List.Elements.{filter_map-append}
@@ -27,10 +28,10 @@ use Rattle.sedscript.specs.Bytes.{past, bytes_between, is_digit, is_byte, with_d
 use Rattle.sedscript.specs.declared.items.Flags.{Flags}
 use Rattle.sedscript.specs.declared.items.Strings.{Strings}
 use Rattle.sedscript.specs.declared.types.Reason.TheVariants.{TrailingBytes, RepeatedFlag, FlagOnEmpty}
-use Rattle.sedscript.specs.Functions.{fault, allowed, item_of, ended, may_end, text_of, text_from, file_of, name_from, ◌>>=◌ as ◌then◌, verb_of}
+use Rattle.sedscript.specs.Functions.{fault, allowed, ended, may_end, text_of, text_from, file_of, name_from, ◌>>=◌ as ◌then◌, verb_of}
 use Rattle.sedscript.specs.Strings.{replacement_fault, strings_fault, counterpart, table_of}
 use Rattle.sedscript.specs.Between.{no_flags, numbered, with_number, with_flag, with_file, ends_flags, flags_from, folds, own_delimiter, substitute_strings, transliterate_strings, unless_fault, transliterate_at, flags_after, substituted}
-use Rattle.sedscript.specs.Items.{substitute_with, substitute_at, function_of, function_with, function_at, function_after, item_with, item_from, item_at, Reading, plainly, expression, ◌>>=◌, Addressed, Headed, line_of, folds_at, empty_match, match_to, match_at, own_match, address_of, address_at, with_second, second_at, after_first, addresses_at, with_bang}
+use Rattle.sedscript.specs.Items.{substitute_with, substitute_at, function_of, function_with, function_at, item_from, item_at, Reading, plainly, expression, ◌>>=◌, Addressed, Headed, line_of, folds_at, empty_match, match_at, own_match, address_of, address_at, with_second, second_at, after_first, addresses_at, with_bang}
 use Rattle.sedscript.specs.Script.{Gives, value, after_expression, CutScript, done, item, is_quiet, text_in, texts_of, substitution_in, substitutions_of, table_in, tables_of, action_of, command_of, commands_of, CutWithoutFault, Means}
 use Rattle.sedscript.specs.Targets.{becomes_command, counted, commands_in, label_in, is_label, close_in, is_close, depth_after, block_end, is_standard_output, is_file, name_in, file_at, files_in, number_in}
 use Rattle.sedscript.specs.declared.script.Named.{Named}
@@ -38,6 +39,7 @@ use Rattle.sedscript.specs.Parts.{program_of, IsNamed}
 use Rattle.sedscript.specs.Program.{Program}
 use Rattle.sedscript.specs.declared.substitution.Substitution.{Substitution}
 use Rattle.sedscript.specs.Ranges.{Sizes, sizes_of, IsOneOf, SinkWithin, AddressWithin, FileWithin, ActionWithin, CommandWithin, SubstitutionWithin, InRange}
+use Rattle.sedscript.specs.Cases.{item_of, function_after, item_with, match_to}
 use Rattle.sedscript.specs.declared.letters.Verb.{Verb}
 use Rattle.sedscript.specs.declared.letters.Verb.TheVariants.{ReadsExpression, Reads}
 use Rattle.sedscript.specs.declared.letters.Shape.{Shape}
@@ -583,7 +585,7 @@ Among u text ns is = (name : List ℕ) → list_any (bytes_eq name) (names_in u 
 file_there : (u : FileUse) (text : List ℕ) (span : ℕ × ℕ) (rest : List (List ℕ)) → is_file u (bytes_between text span.0 span.1) ≡ true → list_any (bytes_eq (bytes_between text span.0 span.1)) (cons_option (file_at u text (Some span)) rest) ≡ true
 file_there u text span rest h =
     let name : List ℕ = bytes_between text span.0 span.1 in
-    ap (λ (b : Bool). list_any (bytes_eq name) (cons_option (if b then Some name else None) rest)) h
+    ap (λ (b : Bool). list_any (bytes_eq name) (cons_option (then_some b name) rest)) h
     ∙ ap (λ (b : Bool). b || list_any (bytes_eq name) rest) ((bytes_eq-Decides name name).1 refl)
 
 any_more : (name : List ℕ) (o : Option (List ℕ)) (rest : List (List ℕ)) → list_any (bytes_eq name) rest ≡ true → list_any (bytes_eq name) (cons_option o rest) ≡ true

@@ -1,5 +1,5 @@
 -- A fault is told in the text or at its end.
-use Rattle.std.proofs.Common.{◌≡◌, ℕ, zero, suc, ◌+◌, ◌-◌, ◌<◌, ◌≤◌, ◌&&◌, ◌==◌, Bool, true, false, not, List, [], ◌∷◌, ◌++◌, length, Option, Some, None, is_some, is_none, option_map, option_and_then, Result, Ok, Err, refl, subst, arith, if◌then◌else◌, slice_get, drop, nat_lt, length-take, length-drop, ◌⊎◌, inl, inr, IfErr}
+use Rattle.std.proofs.Common.{◌≡◌, ℕ, zero, suc, ◌+◌, ◌-◌, ◌<◌, ◌≤◌, ◌&&◌, ◌==◌, Bool, true, false, not, List, [], ◌∷◌, ◌++◌, length, Option, Some, None, is_some, is_none, option_map, option_and_then, Result, Ok, Err, refl, subst, arith, if◌then◌else◌, slice_get, drop, nat_lt, length-take, length-drop, ◌⊎◌, inl, inr, IfErr, unwrap_or}
 use Rattle.std.specs.Option.{option_len, option_or}
 use Rattle.sedre.specs.declared.types.Kind.{Kind}
 use Rattle.sedre.specs.declared.types.Reason.{Reason as ExprReason}
@@ -9,6 +9,7 @@ use Rattle.sedre.specs.Brackets.{first_delimiter, next_place, delimiter_at}
 use Rattle.sedscript.specs.declared.bytes.Sort.{Sort}
 use Rattle.sedscript.specs.declared.bytes.Sort.TheVariants.{Blank, Name, Bang, Digit, Separator, Line}
 use Rattle.sedscript.specs.declared.types.ScriptFault.{ScriptFault}
+use Rattle.sedscript.specs.declared.types.Reason.TheVariants.{OpenDelimiter}
 use Rattle.sedscript.specs.declared.types.TheConstants.{NO_MEMORY}
 use Rattle.sedscript.specs.declared.types.Reason.{Reason}
 use Rattle.sedscript.specs.declared.types.Reason.TheVariants.{LengthsDiffer}
@@ -33,13 +34,14 @@ use Rattle.sedscript.specs.declared.transliteration.Char.{Char}
 use Rattle.std.specs.List.{cons_option, prefix_len, take_while}
 use Rattle.std.proofs.lemmas.List.Sums.{prefix_len-le-length}
 use Rattle.sedscript.specs.Bytes.{past, belongs, bytes_between, is_digit, is_byte, with_digits}
-use Rattle.sedscript.specs.Strings.{escapes, string_end, Piece, literal, whole, group, escaped_piece, exceeds, piece_fault, replacement_fault, escaped_byte, char_of, chars_from, chars_of, string_fault, is_among, repeated_in, repeated_fault, strings_fault}
-use Rattle.sedscript.specs.Functions.{verb_of, most_addresses, allowed, item_of, ended, may_end, text_end, ends_line, text_of, text_from, label_of, file_of, name_from, ◌>>=◌ as ◌then◌}
-use Rattle.sedscript.specs.Between.{no_flags, numbered, with_number, with_flag, with_file, ends_flags, flags_from, own_delimiter, strings_to, strings_after, substitute_strings, transliterate_strings, unless_fault, transliterate_at, flags_after, flagged, substituted}
-use Rattle.sedscript.specs.Items.{Reading, plainly, expression, ◌>>=◌, Addressed, Headed, with_addresses, line_of, folds_at, past_flag, match_to, match_at, own_match, address_of, address_at, with_second, second_at, after_first, addresses_at, with_bang, substitute_with, substitute_at, function_of, function_with, function_at, function_after, item_with, item_from, item_at}
+use Rattle.sedscript.specs.Strings.{escapes, string_end, Piece, literal, whole, group, escaped_piece, exceeds, piece_fault, replacement_fault, escaped_byte, char_of, chars_from, chars_of, string_fault, is_among, repeated_in, strings_fault}
+use Rattle.sedscript.specs.Functions.{or_fault, verb_of, most_addresses, allowed, ended, may_end, text_end, text_of, text_from, label_of, file_of, name_from, ◌>>=◌ as ◌then◌}
+use Rattle.sedscript.specs.Between.{no_flags, numbered, with_number, with_flag, with_file, ends_flags, flags_from, own_delimiter, strings_after, substitute_strings, transliterate_strings, unless_fault, transliterate_at, flags_after, flagged, substituted}
+use Rattle.sedscript.specs.Items.{Reading, plainly, expression, ◌>>=◌, Addressed, Headed, with_addresses, line_of, folds_at, past_flag, match_at, own_match, address_of, address_at, with_second, second_at, after_first, addresses_at, with_bang, substitute_with, substitute_at, function_of, function_with, function_at, item_from, item_at}
 use Rattle.sedscript.specs.Script.{Gives, value, after_expression, CutScript, done, item}
 use Rattle.sedscript.specs.FirstFault.{Fails, own, no_expression, later, Faulty, early, afterwards}
 use Rattle.sedscript.specs.Targets.{fault_if, target_fault_at, target_fault_in, depth_after, block_end, label_in}
+use Rattle.sedscript.specs.Cases.{repeated_fault, item_of, match_to, function_after, item_with}
 
 -- places
 
@@ -226,6 +228,10 @@ Any x = Unit {0}
 abbrev StringsIn : ℕ → Strings → Type 0
 StringsIn n s = (s.from ≤ s.middle) × (s.middle < s.to) × (s.to < n)
 
+-- the second string, where it ends
+abbrev strings_to : ℕ → ℕ → ℕ → Option ℕ → Result Strings ScriptFault
+strings_to d from middle o = ◌then◌ (or_fault o OpenDelimiter middle) (λ (to : ℕ). Ok (record { delimiter = d; from = from; middle = middle; to = to }))
+
 strings_to_read : (n d from middle : ℕ) (o : Option ℕ) → from ≤ middle → middle < n → FoundIn (middle + 1) n o → ReadUpTo (StringsIn n) n (strings_to d from middle o)
 strings_to_read n d from middle None a b h = omega (arith, b)
 strings_to_read n d from middle (Some to) a b h = (a, omega (arith, h.0), h.1)
@@ -291,7 +297,7 @@ right_true false t e = cc
 
 text_from_up_to : (text : List ℕ) (from : ℕ) → from ≤ length text → SpanUpTo (length text) (text_from text from)
 unfolding text_from
-text_from_up_to text from le = by_form (is_byte 92 (slice_get text from) && is_byte 10 (slice_get text (from + 1))) (ends_line (slice_get text from)) refl
+text_from_up_to text from le = by_form (is_byte 92 (slice_get text from) && is_byte 10 (slice_get text (from + 1))) (unwrap_or (slice_get text from) 10 == 10) refl
   where
     by_form : (s t : Bool) → (is_byte 92 (slice_get text from) && is_byte 10 (slice_get text (from + 1))) ≡ s →
         SpanUpTo (length text) (if s then option_map (λ to. (from + 2, to)) (text_end Due (from + 2) (drop (from + 2) text)) else if t then None else option_map (λ to. (from, to)) (text_end InLine from (drop from text)))

@@ -3,7 +3,7 @@ use Rattle.std.specs.Prelude.{ℕ, zero, suc, ◌+◌, List, [], ◌∷◌, Bool
 use Rattle.std.specs.List.{prefix_len, take_while}
 use Rattle.sedscript.specs.Types.{ScriptFault, UnknownFlag, RepeatedFlag, BadNumber, MissingName, FlagOnEmpty, Flags, OpenDelimiter, BadDelimiter, Strings, Function, Substitute, Transliterate}
 use Rattle.sedscript.specs.Bytes.{is_blank, is_digit, with_digits, bytes_between}
-use Rattle.sedscript.specs.Functions.{fault, may_end, name_from, ◌>>=◌, ended}
+use Rattle.sedscript.specs.Functions.{fault, or_fault, may_end, name_from, ◌>>=◌, ended}
 use Rattle.sedre.specs.Brackets.{delimiter_at}
 use Rattle.sedscript.specs.Strings.{string_end, replacement_fault, strings_fault}
 
@@ -41,8 +41,7 @@ with_flag empty f at b =
 
 -- the flags with the file of the `w` at a place, and the place after its name
 abbrev pub with_file : Flags → ℕ → Option (ℕ × ℕ) → Result (Flags × ℕ) ScriptFault
-with_file f at None = fault MissingName at
-with_file f at (Some name) = Ok (record f { file = Some name }, name.1)
+with_file f at found = or_fault found MissingName at >>= λ name. Ok (record f { file = Some name }, name.1)
 
 -- the flags from a place on, in any order, and the place after them. `w` is the last, since the rest of its line is a
 -- file's name. The first `skip` bytes are digits that are read already
@@ -67,27 +66,23 @@ abbrev pub own_delimiter : Option ℕ → Option ℕ
 own_delimiter None = None
 own_delimiter (Some d) = if d == 92 || d == 10 then None else Some d
 
--- two strings: the first begins and ends at these places, and the second ends at the last delimiter, if that was found
-abbrev pub strings_to : ℕ → ℕ → ℕ → Option ℕ → Result Strings ScriptFault
-strings_to d from middle None = fault OpenDelimiter middle
-strings_to d from middle (Some to) = Ok (record { delimiter = d; from = from; middle = middle; to = to })
-
 -- the two strings after a delimiter at a place: the first ends at the next one, if that was found. Where the second
 -- string `breaks`, a newline may stand in it after a backslash
 abbrev pub strings_after : List ℕ → (breaks : Bool) → ℕ → ℕ → Option ℕ → Result Strings ScriptFault
-strings_after text breaks d place None = fault OpenDelimiter place
-strings_after text breaks d place (Some middle) =
-    strings_to d (place + 1) middle (string_end breaks d false (middle + 1) (drop (middle + 1) text))
+strings_after text breaks d place first =
+    or_fault first OpenDelimiter place >>= λ middle.
+    or_fault (string_end breaks d false (middle + 1) (drop (middle + 1) text)) OpenDelimiter middle >>= λ to.
+    Ok (record { delimiter = d; from = place + 1; middle = middle; to = to })
 
 -- the strings of `s`, whose delimiter stands at a place: a regular expression and a replacement
 abbrev pub substitute_strings : List ℕ → ℕ → Option ℕ → Result Strings ScriptFault
-substitute_strings text place None = fault BadDelimiter place
-substitute_strings text place (Some d) = strings_after text true d place (delimiter_at text (place + 1) d)
+substitute_strings text place own =
+    or_fault own BadDelimiter place >>= λ d. strings_after text true d place (delimiter_at text (place + 1) d)
 
 -- the strings of `y`, whose delimiter stands at a place
 abbrev pub transliterate_strings : List ℕ → ℕ → Option ℕ → Result Strings ScriptFault
-transliterate_strings text place None = fault BadDelimiter place
-transliterate_strings text place (Some d) =
+transliterate_strings text place own =
+    or_fault own BadDelimiter place >>= λ d.
     strings_after text false d place (string_end false d false (place + 1) (drop (place + 1) text))
 
 -- what is read, where nothing before it has a fault

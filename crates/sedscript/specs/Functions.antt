@@ -1,8 +1,8 @@
 -- The letters of the functions, the addresses that they take, and what follows the letters of all but `s` and `y` (XCU sed,
 -- "Editing Commands in sed").
-use Rattle.std.specs.Prelude.{ℕ, List, Option, Some, None, if◌then◌else◌, ◌==◌, ◌+◌, [], ◌∷◌, suc, drop, Bool, true, false, ◌&&◌, ◌||◌, nat_lt, slice_get, Result, Ok, Err, option_map}
-use Rattle.std.specs.Option.{option_len}
-use Rattle.sedscript.specs.Types.{Verb, ReadsExpression, Reads, Alone, OpensBlock, ClosesBlock, Remark, NamesLabel, GoesTo, TakesText, NamesFile, TakesStrings, Read, Write, ScriptFault, Reason, UnknownCommand, TooManyAddresses, MissingText, MissingLabel, MissingName, TrailingBytes, TextUse, BranchUse, FileUse, Function, Label, Branch, Text, File, Addresses, Here, Is, Inside, InLine, Escape, Due}
+use Rattle.std.specs.Prelude.{ℕ, List, Option, Some, None, if◌then◌else◌, ◌==◌, ◌+◌, [], ◌∷◌, suc, drop, Bool, true, false, ◌&&◌, ◌||◌, nat_lt, slice_get, unwrap_or, Result, Ok, Err, option_map}
+use Rattle.std.specs.Option.{ok_or, option_len}
+use Rattle.sedscript.specs.Types.{Verb, ReadsExpression, Reads, Alone, OpensBlock, ClosesBlock, Remark, NamesLabel, GoesTo, TakesText, NamesFile, TakesStrings, Read, Write, ScriptFault, Reason, UnknownCommand, TooManyAddresses, MissingText, MissingLabel, MissingName, TrailingBytes, TextUse, BranchUse, FileUse, Function, Label, Branch, Text, File, Addresses, Inside, InLine, Escape, Due}
 use Rattle.sedscript.specs.declared.types.Simple.TheVariants.{AppendHold, AppendNext, CopyHold, Delete, DeleteFirst, Exchange, Hold, HoldMore, LineNumber, List as listing, NextLine, Print, PrintFirst, Quit}
 use Rattle.sedscript.specs.declared.types.TextUse.TheVariants.{Append, Insert, Change}
 use Rattle.sedscript.specs.declared.types.BranchUse.TheVariants.{Always, IfReplaced}
@@ -56,6 +56,10 @@ most_addresses verb = 2
 abbrev pub fault : {A : Type 0} → Reason → ℕ → Result A ScriptFault
 fault reason place = Err (record { place = place; reason = reason })
 
+-- what was found, or else this fault at a place
+abbrev pub or_fault : {A : Type 0} → Option A → Reason → ℕ → Result A ScriptFault
+or_fault found reason place = ok_or found (record { place = place; reason = reason })
+
 -- what is read, and then what is read after it, or the first fault
 infixl 10 ◌>>=◌
 abbrev pub ◌>>=◌ : {A B : Type 0} → Result A ScriptFault → (A → Result B ScriptFault) → Result B ScriptFault
@@ -92,11 +96,6 @@ text_end InLine at [] = Some at
 text_end how at [] = None
 text_end how at (b ∷ bs) = if stops how b then Some at else text_end (inside_after how b) (suc at) bs
 
--- whether a line ends before this byte, or at the end of the text
-abbrev pub ends_line : Option ℕ → Bool
-ends_line None = true
-ends_line (Some b) = b == 10
-
 -- where the text of `a`, `i` or `c` that is expected at a place, after the blanks that follow its letter, begins and
 -- ends. If no backslash and newline stand before it, it is a one-line form; after these it may be empty (both this
 -- project's own)
@@ -104,13 +103,12 @@ unfoldable pub text_from : List ℕ → ℕ → Option (ℕ × ℕ)
 text_from text from =
     if is_byte 92 (slice_get text from) && is_byte 10 (slice_get text (from + 1))
     then option_map (λ to. (from + 2, to)) (text_end Due (from + 2) (drop (from + 2) text))
-    else if ends_line (slice_get text from) then None
+    else if unwrap_or (slice_get text from) 10 == 10 then None
     else option_map (λ to. (from, to)) (text_end InLine from (drop from text))
 
 -- the function with this text, whose letter stands at a place, and the place after it
 abbrev pub text_of : TextUse → ℕ → Option (ℕ × ℕ) → Result (Function × ℕ) ScriptFault
-text_of t place None = fault MissingText place
-text_of t place (Some span) = Ok (Text t span.0 span.1, span.1)
+text_of t place found = or_fault found MissingText place >>= λ span. Ok (Text t span.0 span.1, span.1)
 
 -- the label whose name begins at a place and whose `:` stands at another, and its end. The name goes up to a newline, a
 -- semicolon, a blank or a closing brace
@@ -133,19 +131,13 @@ name_from text at =
 
 -- the function that reads or writes the file of this name, whose letter stands at a place, and the place after it
 abbrev pub file_of : FileUse → ℕ → Option (ℕ × ℕ) → Result (Function × ℕ) ScriptFault
-file_of u place None = fault MissingName place
-file_of u place (Some name) = Ok (File u name.0 name.1, name.1)
+file_of u place found = or_fault found MissingName place >>= λ name. Ok (File u name.0 name.1, name.1)
 
 -- what the letter at a place stands for, if that is a function which may have these addresses.
 -- A `!` before a function without addresses is refused (this project's own)
 abbrev pub allowed : Addresses → ℕ → Option Verb → Result Verb ScriptFault
-allowed addresses at None = fault UnknownCommand at
-allowed addresses at (Some verb) =
+allowed addresses at stands = or_fault stands UnknownCommand at >>= λ verb.
     if addresses.negate && most_addresses verb == 0 then fault UnknownCommand at
     else if nat_lt (most_addresses verb) (option_len addresses.first + option_len addresses.second)
     then fault TooManyAddresses at
     else Ok verb
-
--- an item with these addresses and the place of its letter, and the place after it
-abbrev pub item_of : Addresses → ℕ → Function × ℕ → Here
-item_of addresses place found = Is (record { addresses = addresses; place = place; function = found.0 }) found.1

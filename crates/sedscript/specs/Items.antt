@@ -1,9 +1,9 @@
 -- The items of a script: addresses, and the functions after them (XCU sed, "Addresses in sed", "Extended Description"). What
 -- is read after a regular expression may depend on the number of its groups.
 use Rattle.std.specs.Prelude.{ℕ, Bool, Result, Ok, Err, suc, ◌+◌, List, true, false, Option, Some, None, if◌then◌else◌, ◌==◌, slice_get}
-use Rattle.sedscript.specs.Types.{ScriptFault, BadAddress, OpenDelimiter, BadDelimiter, FlagOnEmpty, Address, Line, Last, Match, Addresses, UnknownCommand, Strings, Function, Plain, Open, Close, Comment, Verb, ReadsExpression, Reads, Shape, Alone, OpensBlock, ClosesBlock, Remark, NamesLabel, GoesTo, TakesText, NamesFile, TakesStrings, Here, Ends}
+use Rattle.sedscript.specs.Types.{ScriptFault, BadAddress, OpenDelimiter, BadDelimiter, FlagOnEmpty, Address, Line, Last, Match, Addresses, UnknownCommand, Strings, Function, Plain, Open, Close, Comment, Verb, ReadsExpression, Reads, Shape, Alone, OpensBlock, ClosesBlock, Remark, NamesLabel, GoesTo, TakesText, NamesFile, TakesStrings, Here, Is, Ends}
 use Rattle.sedscript.specs.Bytes.{Blank, Bang, Digit, past, bytes_between, is_digit, with_digits, is_byte, Separator, Line as LineRest}
-use Rattle.sedscript.specs.Functions.{fault, ended, label_of, branch_of, text_of, text_from, file_of, name_from, allowed, item_of, verb_of}
+use Rattle.sedscript.specs.Functions.{fault, or_fault, ended, label_of, branch_of, text_of, text_from, file_of, name_from, allowed, verb_of}
 use Rattle.sedscript.specs.Between.{own_delimiter, substitute_strings, flags_after, substituted, transliterate_at, folds}
 use Rattle.sedre.specs.Brackets.{delimiter_at}
 
@@ -55,23 +55,18 @@ past_flag text at = if folds_at text at then at + 1 else at
 abbrev pub empty_match : List ℕ → ℕ → ℕ → Result Addressed ScriptFault
 empty_match text count at = if folds_at text at then fault FlagOnEmpty at else found (Some (Match None)) at count
 
--- the address of the regular expression that begins after the delimiter at a place, given where it ends, if it does.
--- The flag `I` may stand directly after it
-abbrev pub match_to : List ℕ → ℕ → ℕ → ℕ → Option ℕ → Reading Addressed
-match_to text count delimiter place None = plainly (fault OpenDelimiter place)
-match_to text count delimiter place (Some to) =
+-- the address of the regular expression that begins after the delimiter at a place. The flag `I` may stand directly
+-- after it
+unfoldable pub match_at : List ℕ → ℕ → ℕ → ℕ → Reading Addressed
+match_at text count delimiter place =
+    plainly (or_fault (delimiter_at text (place + 1) delimiter) OpenDelimiter place) >>= λ to.
     if to == place + 1 then plainly (empty_match text count (to + 1))
     else expression (record { from = place + 1; to = to; delimiter = delimiter; folded = folds_at text (to + 1) })
     (λ groups. plainly (found (Some (Match (Some count))) (past_flag text (to + 1)) (count + 1)))
 
--- the address of the regular expression that begins after the delimiter at a place
-unfoldable pub match_at : List ℕ → ℕ → ℕ → ℕ → Reading Addressed
-match_at text count delimiter place = match_to text count delimiter place (delimiter_at text (place + 1) delimiter)
-
 -- the address of a regular expression whose own delimiter stands at a place, if it is one
 abbrev pub own_match : List ℕ → ℕ → ℕ → Option ℕ → Reading Addressed
-own_match text count place None = plainly (fault BadDelimiter place)
-own_match text count place (Some d) = match_at text count d place
+own_match text count place own = plainly (or_fault own BadDelimiter place) >>= λ d. match_at text count d place
 
 -- the address at a place, given the byte there, if one begins with it: a number, `$`, `/RE/` or `\cREc`
 abbrev pub address_of : List ℕ → ℕ → ℕ → Option ℕ → Reading Addressed
@@ -168,25 +163,19 @@ abbrev pub function_with : List ℕ → ℕ → Verb → ℕ → Reading (Functi
 function_with text count ReadsExpression at = substitute_at text count at
 function_with text count (Reads shape) at = plainly (function_of text shape at)
 
--- the item of the function that is expected at a place, after these addresses, given the letter there, if there is one
-abbrev pub item_with : List ℕ → ℕ → Addresses → ℕ → Option ℕ → Reading Here
-item_with text count addresses at None = plainly (fault UnknownCommand at)
-item_with text count addresses at (Some letter) =
-    plainly (allowed addresses at (verb_of letter)) >>= λ verb.
-    function_with text count verb at >>= λ found. plainly (Ok (item_of addresses at found))
-
 -- the item of the function that is expected at a place, after these addresses
 unfoldable pub function_at : List ℕ → ℕ → Addresses → ℕ → Reading Here
-function_at text count addresses at = item_with text count addresses at (slice_get text at)
+function_at text count addresses at =
+    plainly (or_fault (slice_get text at) UnknownCommand at) >>= λ letter.
+    plainly (allowed addresses at (verb_of letter)) >>= λ verb.
+    function_with text count verb at >>= λ found.
+    plainly (Ok (Is (record { addresses = addresses; place = at; function = found.0 }) found.1))
 
--- the item of the function that is expected after these addresses; a `!` may stand between
-abbrev pub function_after : List ℕ → Headed → Reading Here
-function_after text h = function_at text h.count (with_bang text h).addresses (with_bang text h).at
-
--- the item at a place, given the byte there, or the end where there is none
+-- the item at a place, given the byte there, or the end where there is none. A `!` may stand after its addresses
 abbrev pub item_from : List ℕ → ℕ → ℕ → Option ℕ → Reading Here
 item_from text count at None = plainly (Ok Ends)
-item_from text count at (Some b) = addresses_at text count at >>= function_after text
+item_from text count at (Some b) =
+    addresses_at text count at >>= λ h. function_at text h.count (with_bang text h).addresses (with_bang text h).at
 
 -- the next item from a place on, with so many regular expressions before it, or the end
 unfoldable pub item_at : List ℕ → ℕ → ℕ → Reading Here

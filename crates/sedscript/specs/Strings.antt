@@ -71,15 +71,11 @@ piece_fault limit place None = Some (record { place = place; reason = BadEscape 
 piece_fault limit place (Some (group k)) = fault_if (exceeds limit k) GroupAbsent place
 piece_fault limit place other = None
 
--- what is wrong with the escape of a byte, whose backslash stands at a place
-abbrev pub escape_fault : ℕ → Option ℕ → ℕ → ℕ → Option ScriptFault
-escape_fault delimiter limit place b = piece_fault limit place (escaped_piece delimiter b)
-
 -- the first fault of a replacement's text that begins at a place, given whether its first byte is escaped
 abbrev pub replacement_fault : ℕ → Option ℕ → Bool → ℕ → List ℕ → Option ScriptFault
 replacement_fault delimiter limit escaped at [] = None
 replacement_fault delimiter limit true at (b ∷ bs) =
-    option_or (escape_fault delimiter limit (at - 1) b) (replacement_fault delimiter limit false (suc at) bs)
+    option_or (piece_fault limit (at - 1) (escaped_piece delimiter b)) (replacement_fault delimiter limit false (suc at) bs)
 replacement_fault delimiter limit false at (b ∷ bs) = replacement_fault delimiter limit (b == 92) (suc at) bs
 
 -- what this byte stands for where it is escaped. The delimiter stands for itself, whatever byte it is (this project's own),
@@ -128,10 +124,6 @@ repeated_in before [] = None
 repeated_in before (c ∷ cs) =
     if is_among before c.byte then Some c.place else repeated_in (c.byte ∷ before) cs
 
--- the fault of a byte that stands a second time at a place, if one does
-abbrev pub repeated_fault : Option ℕ → Option ScriptFault
-repeated_fault found = option_map (λ place. record { place = place; reason = RepeatedByte }) found
-
 -- the first fault of the strings of a `y` whose letter stands at a place. The first string stands up to its delimiter
 -- in the middle, and the second one after that (this project's own: the first may have no byte twice, and the strings
 -- have the same length)
@@ -139,7 +131,8 @@ abbrev pub strings_fault : List ℕ → ℕ → ℕ → ℕ → ℕ → ℕ → 
 strings_fault text delimiter letter from middle to =
     option_or (string_fault delimiter false from (bytes_between text from middle))
     (option_or (string_fault delimiter false (middle + 1) (bytes_between text (middle + 1) to))
-    (option_or (repeated_fault (repeated_in [] (chars_of text delimiter from middle)))
+    (option_or (option_map (λ at. record { place = at; reason = RepeatedByte })
+    (repeated_in [] (chars_of text delimiter from middle)))
     (fault_if (not (length (chars_of text delimiter from middle) == length (chars_of text delimiter (middle + 1) to)))
     LengthsDiffer letter)))
 

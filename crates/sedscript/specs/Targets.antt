@@ -8,12 +8,9 @@ use Rattle.std.specs.Option.{option_or}
 use Rattle.sedscript.specs.Types.{FileUse, Read, Write, Function, File, Substitute, Item, ScriptFault, Reason, UnknownLabel, RepeatedLabel, OpenBlock, StrayClose, Open, Close, Label, Branch, Comment}
 use Rattle.sedscript.specs.Bytes.{bytes_between}
 
--- the name that stands for the standard output, where it is written to (this project's own)
-abbrev pub standard_output : List ℕ
-standard_output = codes "/dev/stdout"
-
+-- whether a name stands for the standard output, where it is written to (this project's own)
 abbrev pub is_standard_output : List ℕ → Bool
-is_standard_output name = bytes_eq name standard_output
+is_standard_output name = bytes_eq name (codes "/dev/stdout")
 
 -- whether a name is a file's: each that is read is, and each that is written but the standard output's (this project's
 -- own)
@@ -31,8 +28,7 @@ name_in u f = None
 -- the name that stands there, if it is a file's
 abbrev pub file_at : FileUse → List ℕ → Option (ℕ × ℕ) → Option (List ℕ)
 file_at u text None = None
-file_at u text (Some name) =
-    if is_file u (bytes_between text name.0 name.1) then Some (bytes_between text name.0 name.1) else None
+file_at u text (Some name) = then_some (is_file u (bytes_between text name.0 name.1)) (bytes_between text name.0 name.1)
 
 -- each name once, in the order in which they first stand there
 abbrev pub distinct : List (List ℕ) → List (List ℕ)

@@ -1,9 +1,9 @@
 //! Reads the items of a script: functions with their addresses.
 
 ghost use Rattle.std.specs.Prelude.{◌≡◌, ◌≤◌, ◌<◌, ◌+◌, Some, length, slice_get, IfOk};
-ghost use Rattle.sedscript.specs.Items.{substitute_at, substitute_with, function_of, function_with, function_at, function_after, item_at};
-ghost use Rattle.sedscript.specs.Functions.{item_of};
+ghost use Rattle.sedscript.specs.Items.{substitute_at, substitute_with, function_of, function_with, function_at, item_at};
 ghost use Rattle.sedscript.specs.Answers.{as_function, as_headed, as_here, ComesFrom, AreStrings, IsAfter, IsHere};
+ghost use Rattle.sedscript.specs.Cases.{function_after, item_of};
 
 use crate::addresses::{addresses_at, with_bang};
 use crate::between::{folds, substitute_strings, substituted, transliterate_at};

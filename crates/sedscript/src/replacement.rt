@@ -2,7 +2,7 @@
 
 ghost use Rattle.std.specs.Prelude.{◌≡◌, ◌≤◌, ◌+◌, ◌++◌, ◌∷◌, [], false, length, IfOk, OnOk};
 ghost use Rattle.sedscript.specs.Bytes.{bytes_between};
-ghost use Rattle.sedscript.specs.Strings.{escaped_piece, piece_of, pieces_of, exceeds, escape_fault, replacement_fault};
+ghost use Rattle.sedscript.specs.Strings.{escaped_piece, piece_of, pieces_of, exceeds, piece_fault, replacement_fault};
 ghost use Rattle.sedscript.specs.Pieces.{pieces_in, GroupsWithin};
 ghost use Rattle.sedscript.specs.Answers.{pieces_with};
 
@@ -60,7 +60,7 @@ fn exceeds(limit: Option<usize>, k: usize) -> bool
 
 /// What is wrong with the escape of a byte, if anything is. Its backslash stands at `place`.
 fn escape_fault(delimiter: u8, limit: Option<usize>, place: usize, b: u8) -> Option<ScriptFault>
-    ensures { result ≡ escape_fault delimiter limit place b }
+    ensures { result ≡ piece_fault limit place (escaped_piece delimiter b) }
 {
     match escaped_piece(delimiter, b) {
         None => Some(ScriptFault {

@@ -1,7 +1,7 @@
 //! The texts of `a`, `i` and `c` as they are written.
 
 ghost use Rattle.std.specs.Prelude.{◌≡◌, ◌≤◌, ◌<◌, ◌+◌, length, drop, IfSome};
-ghost use Rattle.sedscript.specs.Functions.{text_end, stops, inside_after, text_from, ends_line};
+ghost use Rattle.sedscript.specs.Functions.{text_end, stops, inside_after, text_from};
 
 use crate::bytes::{byte_at, is_byte};
 
@@ -14,16 +14,6 @@ pub enum Inside {
     Escape,
     /// Where a further line has to follow.
     Due,
-}
-
-/// Whether a line ends before this byte; None is the end of the text.
-fn ends_line(b: Option<u8>) -> bool
-    ensures { result ≡ ends_line b }
-{
-    match b {
-        None => true,
-        Some(b) => b == b'\n',
-    }
 }
 
 /// Whether a text ends before this byte.
@@ -86,7 +76,7 @@ pub fn text_from(text: &[u8], from: usize) -> Option<(usize, usize)>
     if is_byte(b'\\', byte_at(text, from)) && is_byte(b'\n', byte_at(text, from + 1)) {
         let to = text_end(text, Inside::Due, from + 2)?;
         Some((from + 2, to))
-    } else if ends_line(byte_at(text, from)) {
+    } else if byte_at(text, from).unwrap_or(b'\n') == b'\n' {
         None
     } else {
         let to = text_end(text, Inside::InLine, from)?;

@@ -1,6 +1,7 @@
 use Rattle.std.proofs.Common.{Err, refl, sym, ap, ◌∙◌, slice_get, length}
 use Rattle.sedscript.specs.Answers.{as_here}
-use Rattle.sedscript.specs.Items.{addresses_at, function_after}
+use Rattle.sedscript.specs.Cases.{function_after}
+use Rattle.sedscript.specs.Items.{addresses_at}
 use Rattle.sedscript.proofs.Coming.{comes_then, comes_err, comes_as_err, item_none, item_some, after_here}
 use Rattle.sedscript.proofs.item_reader.item_at.Goals as goal
 
