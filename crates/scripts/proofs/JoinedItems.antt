@@ -153,7 +153,7 @@ module _ (t whole : List ℕ) (base : ℕ) (b : Before) (between : (from to : �
   text_same other h = refl
 
   with_more : {A : Type 0} (o p : Option A) (xs ys zs : List A) → o ≡ p → zs ≡ xs ++ ys → cons_option o zs ≡ cons_option p xs ++ ys
-  with_more o p xs ys zs e f = ap₂ (λ o zs. cons_option o zs) e f ∙ by_item p
+  with_more {A = A} o p xs ys zs e f = ap₂ (λ o zs. cons_option o zs) e f ∙ by_item p
     where
       by_item : (p : Option A) → cons_option p (xs ++ ys) ≡ cons_option p xs ++ ys
       by_item None = refl

@@ -24,14 +24,14 @@ use Rattle.sedscript.specs.declared.items.Addresses.{Addresses}
 use Rattle.sedscript.specs.declared.items.Item.{Item}
 use Rattle.sedscript.specs.declared.items.Here.{Here}
 use Rattle.sedscript.specs.declared.items.Here.TheVariants.{Is, Ends}
-use Rattle.sedscript.specs.Bytes.{past, bytes_between, is_digit, is_byte, with_digits}
+use Rattle.sedscript.specs.Bytes.{past, bytes_between, is_digit, is_byte}
 use Rattle.sedscript.specs.declared.items.Flags.{Flags}
 use Rattle.sedscript.specs.declared.items.Strings.{Strings}
 use Rattle.sedscript.specs.declared.types.Reason.TheVariants.{TrailingBytes, RepeatedFlag, FlagOnEmpty}
 use Rattle.sedscript.specs.Functions.{fault, allowed, ended, may_end, text_of, text_from, file_of, name_from, ◌>>=◌ as ◌then◌, verb_of}
 use Rattle.sedscript.specs.Strings.{replacement_fault, strings_fault, counterpart, table_of}
-use Rattle.sedscript.specs.Between.{no_flags, numbered, with_number, with_flag, with_file, ends_flags, flags_from, folds, own_delimiter, substitute_strings, transliterate_strings, unless_fault, transliterate_at, flags_after, substituted}
-use Rattle.sedscript.specs.Items.{substitute_with, substitute_at, function_of, function_with, function_at, item_from, item_at, Reading, plainly, expression, ◌>>=◌, Addressed, Headed, line_of, folds_at, empty_match, match_at, own_match, address_of, address_at, with_second, second_at, after_first, addresses_at, with_bang}
+use Rattle.sedscript.specs.Between.{no_flags, numbered, with_number, with_flag, flags_from, own_delimiter, substitute_strings, transliterate_strings, unless_fault, transliterate_at, flags_after, substituted}
+use Rattle.sedscript.specs.Items.{substitute_with, substitute_at, function_of, function_with, function_at, item_from, item_at, Reading, plainly, expression, ◌>>=◌, Addressed, Headed, line_of, folds_at, match_at, own_match, address_of, address_at, with_second, second_at, after_first, addresses_at, with_bang}
 use Rattle.sedscript.specs.Script.{Gives, value, after_expression, CutScript, done, item, is_quiet, text_in, texts_of, substitution_in, substitutions_of, table_in, tables_of, action_of, command_of, commands_of, CutWithoutFault, Means}
 use Rattle.sedscript.specs.Targets.{becomes_command, counted, commands_in, label_in, is_label, close_in, is_close, depth_after, block_end, is_standard_output, is_file, name_in, file_at, files_in, number_in}
 use Rattle.sedscript.specs.declared.script.Named.{Named}
@@ -39,7 +39,7 @@ use Rattle.sedscript.specs.Parts.{program_of, IsNamed}
 use Rattle.sedscript.specs.Program.{Program}
 use Rattle.sedscript.specs.declared.substitution.Substitution.{Substitution}
 use Rattle.sedscript.specs.Ranges.{Sizes, sizes_of, IsOneOf, SinkWithin, AddressWithin, FileWithin, ActionWithin, CommandWithin, SubstitutionWithin, InRange}
-use Rattle.sedscript.specs.Cases.{item_of, function_after, item_with, match_to}
+use Rattle.sedscript.specs.Cases.{item_of, function_after, item_with, match_to, with_digits, with_file, ends_flags, folds, empty_match}
 use Rattle.sedscript.specs.declared.letters.Verb.{Verb}
 use Rattle.sedscript.specs.declared.letters.Verb.TheVariants.{ReadsExpression, Reads}
 use Rattle.sedscript.specs.declared.letters.Shape.{Shape}

@@ -1,18 +1,14 @@
 -- What stands between delimiters after `s` and `y`, and the flags of `s` (XCU sed, "Editing Commands in sed").
 use Rattle.std.specs.Prelude.{ℕ, zero, suc, ◌+◌, List, [], ◌∷◌, Bool, true, false, ◌||◌, Option, Some, None, is_some, if◌then◌else◌, ◌==◌, Result, Ok, Err, not, drop, slice_get}
-use Rattle.std.specs.List.{prefix_len, take_while}
+use Rattle.std.specs.List.{fold, prefix_len, take_while}
 use Rattle.sedscript.specs.Types.{ScriptFault, UnknownFlag, RepeatedFlag, BadNumber, MissingName, FlagOnEmpty, Flags, OpenDelimiter, BadDelimiter, Strings, Function, Substitute, Transliterate}
-use Rattle.sedscript.specs.Bytes.{is_blank, is_digit, with_digits, bytes_between}
+use Rattle.sedscript.specs.Bytes.{is_blank, is_digit, with_digit, bytes_between}
 use Rattle.sedscript.specs.Functions.{fault, or_fault, may_end, name_from, ◌>>=◌, ended}
 use Rattle.sedre.specs.Brackets.{delimiter_at}
 use Rattle.sedscript.specs.Strings.{string_end, replacement_fault, strings_fault}
 
 abbrev pub no_flags : Flags
 no_flags = record { number = None; global = false; print = false; folded = false; file = None }
-
--- whether flags end before this byte: a blank, or what ends a command
-abbrev pub ends_flags : ℕ → Bool
-ends_flags b = is_blank b || may_end (Some b)
 
 -- the flags with this number, whose digits begin at a place. It is from 1 to 2 ^ 64 - 1, and leading zeros are accepted (the
 -- end and the zeros: this project's own)
@@ -24,7 +20,7 @@ numbered f at number = fault BadNumber at
 -- project's own)
 abbrev pub with_number : Flags → ℕ → List ℕ → Result Flags ScriptFault
 with_number f at digits =
-    if is_some f.number then fault RepeatedFlag at else numbered f at (with_digits (Some 0) digits)
+    if is_some f.number then fault RepeatedFlag at else numbered f at (fold with_digit (Some 0) digits)
 
 -- these flags, unless the one at a place was there already (this project's own)
 abbrev pub once : (already : Bool) → ℕ → Flags → Result Flags ScriptFault
@@ -39,12 +35,8 @@ with_flag empty f at b =
     else if b == 73 then (if empty then fault FlagOnEmpty at else once f.folded at (record f { folded = true }))
     else fault UnknownFlag at
 
--- the flags with the file of the `w` at a place, and the place after its name
-abbrev pub with_file : Flags → ℕ → Option (ℕ × ℕ) → Result (Flags × ℕ) ScriptFault
-with_file f at found = or_fault found MissingName at >>= λ name. Ok (record f { file = Some name }, name.1)
-
--- the flags from a place on, in any order, and the place after them. `w` is the last, since the rest of its line is a
--- file's name. The first `skip` bytes are digits that are read already
+-- the flags from a place on, in any order, and the place after them. They end before a blank, or what ends a command.
+-- `w` is the last, since the rest of its line is a file's name. The first `skip` bytes are digits that are read already
 abbrev pub flags_from : List ℕ → (empty : Bool) → Flags → (skip : ℕ) → ℕ → List ℕ → Result (Flags × ℕ) ScriptFault
 flags_from text empty f skip at [] = Ok (f, at)
 flags_from text empty f (suc skip) at (b ∷ bs) = flags_from text empty f skip (suc at) bs
@@ -52,14 +44,10 @@ flags_from text empty f zero at (b ∷ bs) =
     if is_digit b
     then (with_number f at (b ∷ take_while is_digit bs) >>= λ g.
     flags_from text empty g (prefix_len is_digit bs) (suc at) bs)
-    else if ends_flags b then Ok (f, at)
-    else if b == 119 then with_file f at (name_from text (at + 1))
+    else if is_blank b || may_end (Some b) then Ok (f, at)
+    else if b == 119
+    then (or_fault (name_from text (at + 1)) MissingName at >>= λ name. Ok (record f { file = Some name }, name.1))
     else (with_flag empty f at b >>= λ g. flags_from text empty g zero (suc at) bs)
-
--- whether letters match without regard to case, by the flags that were read
-abbrev pub folds : Result (Flags × ℕ) ScriptFault → Bool
-folds (Ok found) = found.0.folded
-folds (Err f) = false
 
 -- the byte, if it may be a delimiter: neither a backslash nor a newline
 abbrev pub own_delimiter : Option ℕ → Option ℕ
@@ -100,13 +88,9 @@ transliterate_at text at =
 abbrev pub flags_after : List ℕ → Strings → (empty : Bool) → Result (Flags × ℕ) ScriptFault
 flags_after text s empty = flags_from text empty no_flags 0 (s.to + 1) (drop (s.to + 1) text)
 
--- the command `s` with the flags after its strings, and its end
-abbrev pub flagged : List ℕ → Strings → Option ℕ → Result (Function × ℕ) ScriptFault
-flagged text s e = flags_after text s (not (is_some e)) >>= λ found. ended text (Substitute s e found.0) found.1
-
 -- the command `s` with these strings, and its end. Its regular expression has this number in the script; None stands
 -- for the empty one. The groups of its replacement have numbers up to the limit, where there is one
 unfoldable pub substituted : List ℕ → Strings → Option ℕ → Option ℕ → Result (Function × ℕ) ScriptFault
 substituted text s e limit =
     unless_fault (replacement_fault s.delimiter limit false (s.middle + 1) (bytes_between text (s.middle + 1) s.to))
-    (flagged text s e)
+    (flags_after text s (not (is_some e)) >>= λ found. ended text (Substitute s e found.0) found.1)

@@ -1,9 +1,38 @@
 -- Private to the proofs: no contract of a public item cites what stands here.
--- Parts of the definitions, with what stands at a place or is found there as an argument, for proofs by cases.
-use Rattle.std.specs.Prelude.{ℕ, List, Option, Some, Ok, ◌+◌, ◌==◌, if◌then◌else◌, option_map}
-use Rattle.sedscript.specs.Types.{ScriptFault, Addresses, Match, OpenDelimiter, RepeatedByte, UnknownCommand, Function, Here, Is}
-use Rattle.sedscript.specs.Functions.{or_fault, allowed, verb_of}
-use Rattle.sedscript.specs.Items.{Reading, plainly, expression, ◌>>=◌, Addressed, Headed, found, folds_at, past_flag, empty_match, with_bang, function_with, function_at}
+-- Parts of the definitions by names, some with what stands at a place or is found there as an argument, for proofs by
+-- cases.
+use Rattle.std.specs.Prelude.{ℕ, List, Bool, not, ◌||◌, Option, Some, None, is_some, Result, Ok, ◌+◌, ◌==◌, if◌then◌else◌, option_map}
+use Rattle.std.specs.List.{fold}
+use Rattle.std.specs.Result.{result_unwrap_or}
+use Rattle.sedscript.specs.Types.{ScriptFault, Addresses, Match, OpenDelimiter, RepeatedByte, UnknownCommand, MissingName, FlagOnEmpty, Flags, Strings, Function, Substitute, Here, Is}
+use Rattle.sedscript.specs.Bytes.{is_blank, with_digit}
+use Rattle.sedscript.specs.Functions.{fault, or_fault, may_end, ended, allowed, verb_of, ◌>>=◌ as ◌then◌}
+use Rattle.sedscript.specs.Between.{no_flags, flags_after}
+use Rattle.sedscript.specs.Items.{Reading, plainly, expression, ◌>>=◌, Addressed, Headed, found, folds_at, past_flag, with_bang, function_with, function_at}
+
+-- the number with these digits at its end, if it is below 2 ^ 64
+abbrev pub with_digits : Option ℕ → List ℕ → Option ℕ
+with_digits n ds = fold with_digit n ds
+
+-- whether flags end before this byte: a blank, or what ends a command
+abbrev pub ends_flags : ℕ → Bool
+ends_flags b = is_blank b || may_end (Some b)
+
+-- the flags with the file of the `w` at a place, and the place after its name
+abbrev pub with_file : Flags → ℕ → Option (ℕ × ℕ) → Result (Flags × ℕ) ScriptFault
+with_file f at found = ◌then◌ (or_fault found MissingName at) (λ name. Ok (record f { file = Some name }, name.1))
+
+-- whether letters match without regard to case, by the flags that were read
+abbrev pub folds : Result (Flags × ℕ) ScriptFault → Bool
+folds read = (result_unwrap_or read (no_flags, 0)).0.folded
+
+-- the command `s` with the flags after its strings, and its end
+abbrev pub flagged : List ℕ → Strings → Option ℕ → Result (Function × ℕ) ScriptFault
+flagged text s e = ◌then◌ (flags_after text s (not (is_some e))) (λ found. ended text (Substitute s e found.0) found.1)
+
+-- the address of the empty regular expression, which ends before a place
+abbrev pub empty_match : List ℕ → ℕ → ℕ → Result Addressed ScriptFault
+empty_match text count at = if folds_at text at then fault FlagOnEmpty at else found (Some (Match None)) at count
 
 -- the address of the regular expression that begins after the delimiter at a place, given where it ends, if it does
 abbrev pub match_to : List ℕ → ℕ → ℕ → ℕ → Option ℕ → Reading Addressed

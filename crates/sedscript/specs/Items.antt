@@ -1,10 +1,12 @@
 -- The items of a script: addresses, and the functions after them (XCU sed, "Addresses in sed", "Extended Description"). What
 -- is read after a regular expression may depend on the number of its groups.
 use Rattle.std.specs.Prelude.{ℕ, Bool, Result, Ok, Err, suc, ◌+◌, List, true, false, Option, Some, None, if◌then◌else◌, ◌==◌, slice_get}
+use Rattle.std.specs.List.{fold}
+use Rattle.std.specs.Result.{result_unwrap_or}
 use Rattle.sedscript.specs.Types.{ScriptFault, BadAddress, OpenDelimiter, BadDelimiter, FlagOnEmpty, Address, Line, Last, Match, Addresses, UnknownCommand, Strings, Function, Plain, Open, Close, Comment, Verb, ReadsExpression, Reads, Shape, Alone, OpensBlock, ClosesBlock, Remark, NamesLabel, GoesTo, TakesText, NamesFile, TakesStrings, Here, Is, Ends}
-use Rattle.sedscript.specs.Bytes.{Blank, Bang, Digit, past, bytes_between, is_digit, with_digits, is_byte, Separator, Line as LineRest}
+use Rattle.sedscript.specs.Bytes.{Blank, Bang, Digit, past, bytes_between, is_digit, with_digit, is_byte, Separator, Line as LineRest}
 use Rattle.sedscript.specs.Functions.{fault, or_fault, ended, label_of, branch_of, text_of, text_from, file_of, name_from, allowed, verb_of}
-use Rattle.sedscript.specs.Between.{own_delimiter, substitute_strings, flags_after, substituted, transliterate_at, folds}
+use Rattle.sedscript.specs.Between.{own_delimiter, substitute_strings, flags_after, substituted, transliterate_at, no_flags}
 use Rattle.sedre.specs.Brackets.{delimiter_at}
 
 -- a regular expression in a script: where it begins, where it ends, the delimiter that stands there, and whether its
@@ -50,17 +52,13 @@ folds_at text at = is_byte 73 (slice_get text at)
 abbrev pub past_flag : List ℕ → ℕ → ℕ
 past_flag text at = if folds_at text at then at + 1 else at
 
--- the address of the empty regular expression, which ends before a place. It has no number, and takes no flag
--- (this project's own)
-abbrev pub empty_match : List ℕ → ℕ → ℕ → Result Addressed ScriptFault
-empty_match text count at = if folds_at text at then fault FlagOnEmpty at else found (Some (Match None)) at count
-
 -- the address of the regular expression that begins after the delimiter at a place. The flag `I` may stand directly
--- after it
+-- after it. The empty one has no number, and takes no flag (this project's own)
 unfoldable pub match_at : List ℕ → ℕ → ℕ → ℕ → Reading Addressed
 match_at text count delimiter place =
     plainly (or_fault (delimiter_at text (place + 1) delimiter) OpenDelimiter place) >>= λ to.
-    if to == place + 1 then plainly (empty_match text count (to + 1))
+    if to == place + 1
+    then plainly (if folds_at text (to + 1) then fault FlagOnEmpty (to + 1) else found (Some (Match None)) (to + 1) count)
     else expression (record { from = place + 1; to = to; delimiter = delimiter; folded = folds_at text (to + 1) })
     (λ groups. plainly (found (Some (Match (Some count))) (past_flag text (to + 1)) (count + 1)))
 
@@ -74,7 +72,7 @@ address_of text count at None = plainly (found None at count)
 address_of text count at (Some b) =
     if is_digit b
     then plainly
-    (line_of count at (past Digit text at) (with_digits (Some 0) (bytes_between text at (past Digit text at))))
+    (line_of count at (past Digit text at) (fold with_digit (Some 0) (bytes_between text at (past Digit text at))))
     else if b == 36 then plainly (found (Some Last) (at + 1) count)
     else if b == 47 then match_at text count 47 at
     else if b == 92 then own_match text count (at + 1) (own_delimiter (slice_get text (at + 1)))
@@ -137,7 +135,7 @@ substitute_with text count s =
       from = s.from;
       to = s.middle;
       delimiter = s.delimiter;
-      folded = folds (flags_after text s false);
+      folded = (result_unwrap_or (flags_after text s false) (no_flags, 0)).0.folded;
     })
     (λ groups. plainly (substituted text s (Some count) (Some groups)))
 

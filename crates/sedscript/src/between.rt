@@ -2,8 +2,9 @@
 
 ghost use Rattle.std.specs.Prelude.{◌≡◌, ◌≢◌, ◌≤◌, ◌<◌, ◌+◌, false, Some, length, slice_get, IfOk, IfSome};
 ghost use Rattle.sedscript.specs.Strings.{string_end};
-ghost use Rattle.sedscript.specs.Between.{own_delimiter, strings_after, substitute_strings, transliterate_strings, transliterate_at, flags_after, flagged, substituted, folds};
+ghost use Rattle.sedscript.specs.Between.{own_delimiter, strings_after, substitute_strings, transliterate_strings, transliterate_at, flags_after, substituted};
 ghost use Rattle.sedscript.specs.Answers.{AreStrings};
+ghost use Rattle.sedscript.specs.Cases.{flagged, folds};
 
 use crate::bytes::byte_at;
 use crate::flags::flags_at;
