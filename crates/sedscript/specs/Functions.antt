@@ -97,8 +97,8 @@ text_end how at [] = None
 text_end how at (b ∷ bs) = if stops how b then Some at else text_end (inside_after how b) (suc at) bs
 
 -- where the text of `a`, `i` or `c` that is expected at a place, after the blanks that follow its letter, begins and
--- ends. If no backslash and newline stand before it, it is a one-line form; after these it may be empty (both this
--- project's own)
+-- ends. If no backslash and newline stand before it, it is a one-line form, which isn't empty; after these it may be
+-- (both this project's own)
 unfoldable pub text_from : List ℕ → ℕ → Option (ℕ × ℕ)
 text_from text from =
     if is_byte 92 (slice_get text from) && is_byte 10 (slice_get text (from + 1))
