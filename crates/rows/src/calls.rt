@@ -10,7 +10,6 @@ use crate::devices::Way;
 use crate::job::limits_of;
 use crate::options::Options;
 use crate::report::{NO_MEMORY, Report};
-use crate::sheet::put_copy;
 use crate::table::Row;
 use sededit::{MemoryFile, MemoryInputs, MemoryNames, MemorySinks, command};
 use sedengine::Limits;
@@ -54,22 +53,18 @@ fn run_way(row: &Row, way: Way, report: &mut Report) {
     if !report.is_empty() {
         return;
     }
-    match limits_of(row.options(4), way.look) {
-        Ok(limits) => run_within(row, limits, way, report),
-        Err(message) => report.tell(message),
+    match (
+        limits_of(row.options(4), way.look),
+        words_of(row.alloc, row.field(0)),
+    ) {
+        (Ok(limits), Some(words)) => match devices_of(row, way) {
+            Some(mut devices) => run_words(row, words.as_slice(), limits, &mut devices, report),
+            None => report.tell(NO_MEMORY),
+        },
+        (Err(message), _) => report.tell(message),
+        (_, None) => report.tell("a word is no text"),
     }
     way.note(report);
-}
-
-/// Runs it within these limits.
-fn run_within(row: &Row, limits: Limits, way: Way, report: &mut Report) {
-    let Some(words) = words_of(row.alloc, row.field(0)) else {
-        return report.tell("a word is no text");
-    };
-    match devices_of(row, way) {
-        Some(mut devices) => run_words(row, words.as_slice(), limits, &mut devices, report),
-        None => report.tell(NO_MEMORY),
-    }
 }
 
 /// Calls the program with these words over these devices.
@@ -111,22 +106,10 @@ fn words_of(alloc: Global, written: &[u8]) -> Option<Vec<String>> {
         return Some(words);
     }
     for written in text.split(' ') {
-        let word = word_of(alloc, written)?;
-        words.push(word).ok()?;
+        let word = if written == "''" { "" } else { written };
+        words.push(word.replace(alloc, "~", " ").ok()?).ok()?;
     }
     Some(words)
-}
-
-/// A word as it is meant.
-fn word_of(alloc: Global, written: &str) -> Option<String> {
-    let mut word = String::new(alloc);
-    if written == "''" {
-        return Some(word);
-    }
-    for c in written.chars() {
-        word.push(if c == '~' { ' ' } else { c }).ok()?;
-    }
-    Some(word)
 }
 
 /// The devices of a row.
@@ -157,18 +140,11 @@ fn files_of(row: &Row) -> Option<Vec<MemoryFile>> {
     let mut files = Vec::new(row.alloc);
     for k in 0..options.files(b"f:") {
         let (name, text) = options.file(b"f:", k)?;
-        files.push(file_of(row.alloc, name, text)?).ok()?;
+        let text = text.to_vec(row.alloc).ok()?;
+        let name = String::from_str(row.alloc, str::from_utf8(name).ok()?).ok()?;
+        files.push(MemoryFile::new(name, text)).ok()?;
     }
     Some(files)
-}
-
-/// The file of a name with this text.
-fn file_of(alloc: Global, name: &[u8], text: &[u8]) -> Option<MemoryFile> {
-    let name = String::from_str(alloc, str::from_utf8(name).ok()?).ok()?;
-    match text.to_vec(alloc) {
-        Ok(text) => Some(MemoryFile::new(name, text)),
-        Err(_) => None,
-    }
 }
 
 /// The sinks. None where no sink of that number can be told to fail, and for want of memory.
@@ -193,7 +169,7 @@ fn names_of(row: &Row) -> Option<Vec<Vec<u8>>> {
     let mut names = Vec::new(row.alloc);
     for k in 0..options.files(b"w:") {
         let (name, _) = options.file(b"w:", k)?;
-        put_copy(row.alloc, name, &mut names)?;
+        names.push(name.to_vec(row.alloc).ok()?).ok()?;
     }
     Some(names)
 }
@@ -218,10 +194,7 @@ fn compare_stream(
     report: &mut Report,
 ) {
     match beginning {
-        Some(begun) => {
-            let count = begun.len().min(written.len());
-            report.compare(what, &written[..count], begun);
-        }
-        None => report.compare(what, written, wanted),
+        Some(begun) if written.starts_with(begun) => {}
+        _ => report.compare(what, written, beginning.unwrap_or(wanted)),
     }
 }

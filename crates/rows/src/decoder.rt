@@ -13,25 +13,19 @@
 use crate::options::parted;
 use crate::shape::number_in;
 use crate::sheet::Sheet;
-use anyhow::{Context, Result, ensure};
+use anyhow::{Result, ensure};
 use std::alloc::Global;
 
 /// The most copies of one part, so that a mistake in a table doesn't take all memory.
 const MAX_COPIES: usize = 10_000_000;
-
-/// The number of a copy, from 0, and how many follow it.
-#[derive(Clone, Copy)]
-struct Turn {
-    number: usize,
-    left: usize,
-}
 
 /// The bytes that a field stands for.
 pub(crate) fn decoded(alloc: Global, written: &[u8]) -> Result<Vec<u8>> {
     let mut sheet = Sheet::new(alloc);
     let is_sound = put_field(&mut sheet, written).is_some();
     ensure!(is_sound, "an escape means nothing, or isn't closed");
-    sheet.into_bytes().context("no memory")
+    ensure!(sheet.is_whole, "no memory");
+    Ok(sheet.bytes)
 }
 
 /// Writes what a field stands for. None where an escape means nothing, or isn't closed.
@@ -39,7 +33,6 @@ fn put_field(sheet: &mut Sheet, written: &[u8]) -> Option<()> {
     let mut rest = written;
     for _ in 0..written.len() {
         rest = match rest {
-            [] => return Some(()),
             [b'%', b'0'..=b'9', ..] => put_copies(sheet, &rest[1..])?,
             _ => put_item(sheet, rest, None)?,
         };
@@ -56,33 +49,23 @@ fn put_copies<'a>(sheet: &mut Sheet, written: &'a [u8]) -> Option<&'a [u8]> {
         return None;
     }
     for number in 0..count {
-        let left = count - number - 1;
-        put_part(sheet, part, Turn { number, left })?;
+        let mut left = part;
+        for _ in 0..part.len() {
+            left = put_item(sheet, left, Some((number, count - number - 1)))?;
+        }
     }
     Some(rest)
 }
 
-/// Writes one copy.
-fn put_part(sheet: &mut Sheet, part: &[u8], turn: Turn) -> Option<()> {
-    let mut rest = part;
-    for _ in 0..part.len() {
-        if rest.is_empty() {
-            return Some(());
-        }
-        rest = put_item(sheet, rest, Some(turn))?;
-    }
-    Some(())
-}
-
-/// Writes what the first byte or escape stands for, in a copy where there is a turn. Gives what follows it.
-fn put_item<'a>(sheet: &mut Sheet, written: &'a [u8], turn: Option<Turn>) -> Option<&'a [u8]> {
-    let (first, rest) = written.split_first()?;
-    if *first != b'%' {
-        sheet.put_byte(*first);
-        return Some(rest);
-    }
-    match rest {
-        [b'x', high, low, rest @ ..] => {
+/// Writes what the first byte or escape stands for, if there is one; in a copy where its number, and how many follow it, are
+/// given. Gives what follows.
+fn put_item<'a>(
+    sheet: &mut Sheet,
+    written: &'a [u8],
+    turn: Option<(usize, usize)>,
+) -> Option<&'a [u8]> {
+    match written {
+        [b'%', b'x', high, low, rest @ ..] => {
             sheet.put_byte(
                 digit_of(*high)?
                     .wrapping_mul(16)
@@ -90,23 +73,28 @@ fn put_item<'a>(sheet: &mut Sheet, written: &'a [u8], turn: Option<Turn>) -> Opt
             );
             Some(rest)
         }
-        [letter, rest @ ..] => {
+        [b'%', letter, rest @ ..] => {
             put_escape(sheet, *letter, turn)?;
             Some(rest)
         }
-        [] => None,
+        [b'%'] => None,
+        [b, rest @ ..] => {
+            sheet.put_byte(*b);
+            Some(rest)
+        }
+        [] => Some(written),
     }
 }
 
 /// Writes what a letter after a `%` stands for.
-fn put_escape(sheet: &mut Sheet, letter: u8, turn: Option<Turn>) -> Option<()> {
+fn put_escape(sheet: &mut Sheet, letter: u8, turn: Option<(usize, usize)>) -> Option<()> {
     match letter {
         b'n' => sheet.put_byte(b'\n'),
         b't' => sheet.put_byte(b'\t'),
         b's' => sheet.put_byte(b' '),
         b'%' => sheet.put_byte(b'%'),
-        b'+' => sheet.put_number(turn?.number as u128),
-        b'-' => sheet.put_number(turn?.left as u128),
+        b'+' => sheet.put_text(turn?.0),
+        b'-' => sheet.put_text(turn?.1),
         b'e' => {}
         _ => return None,
     }

@@ -8,8 +8,8 @@ ghost use Rattle.std.specs.Prelude.{◌<◌, length, None, IfOk};
 
 use crate::options::Options;
 use crate::report::{Message, NO_MEMORY, Report};
-use crate::sheet::put_copy;
 use crate::table::Row;
+use sedengine::Ended;
 use sedscript::Script;
 use sedspace::{MemoryOutputs, MemorySource, MemoryTexts, Outputs, Texts};
 use std::alloc::Global;
@@ -61,6 +61,21 @@ pub(crate) struct Devices {
     pub source: MemorySource,
     pub outputs: MemoryOutputs,
     pub texts: PiecedTexts,
+}
+
+impl Devices {
+    /// The end that names the first device that failed, where one did.
+    pub(crate) fn failed(&self) -> Option<Ended> {
+        if self.source.failures() > 0 {
+            return Some(Ended::InputBroken);
+        }
+        for sink in 0..self.outputs.sinks() {
+            if self.outputs.failures(sink) > 0 {
+                return Some(Ended::OutputBroken(sink));
+            }
+        }
+        None
+    }
 }
 
 /// Texts of which a read gives no more than so many bytes, at least one, and of which one read may fail: it gives nothing,
@@ -149,7 +164,8 @@ fn line_ends(alloc: Global, input: &[u8]) -> Option<Vec<usize>> {
 fn texts_of(alloc: Global, names: &[Vec<u8>], options: Options<'_>) -> Option<MemoryTexts> {
     let mut texts = Vec::new(alloc);
     for name in names {
-        put_copy(alloc, options.text_read(name.as_slice()), &mut texts)?;
+        let text = options.text_read(name.as_slice()).to_vec(alloc).ok()?;
+        texts.push(text).ok()?;
     }
     Some(MemoryTexts::new(texts))
 }

@@ -7,19 +7,15 @@ use sedscript::{Reason, ScriptFault};
 
 /// The number and the name of an expression's fault, as `E5 OpenGroup`.
 pub(crate) fn put_expression_fault(sheet: &mut Sheet, fault: &ExprFault) {
-    sheet.put(b"E");
-    sheet.put_number(u128::from(fault.reason.number()));
-    sheet.put(b" ");
-    sheet.put(fault.reason.name().as_bytes());
+    let reason = fault.reason;
+    sheet.put_text(format_args!("E{} {}", reason.number(), reason.name()));
 }
 
 /// The number and the name of a script's fault, as `S15 TrailingBytes`, of an expression's both.
 pub(crate) fn put_script_fault(sheet: &mut Sheet, fault: &ScriptFault) {
-    sheet.put(b"S");
-    sheet.put_number(u128::from(fault.reason.number()));
-    sheet.put(b" ");
-    sheet.put(fault.reason.name().as_bytes());
-    if let Reason::Expression(inner) = fault.reason {
+    let reason = fault.reason;
+    sheet.put_text(format_args!("S{} {}", reason.number(), reason.name()));
+    if let Reason::Expression(inner) = reason {
         sheet.put(b": ");
         put_expression_fault(sheet, &inner);
     }
@@ -27,24 +23,15 @@ pub(crate) fn put_script_fault(sheet: &mut Sheet, fault: &ScriptFault) {
 
 /// How a run ended, as `F1 line 2` or `F7 sink 0`.
 pub(crate) fn put_end(sheet: &mut Sheet, end: Ended) {
-    let (cause, place) = cause_and_place(end);
-    sheet.put(cause.as_bytes());
-    if let Some(place) = place {
-        sheet.put_number(u128::from(place));
-    }
-}
-
-/// The cause of an end, and the number of its line or sink, where it has one.
-fn cause_and_place(end: Ended) -> (&'static str, Option<u64>) {
     match end {
-        Ended::Done => ("F0", None),
-        Ended::PatternFull(line) => ("F1 line ", Some(line)),
-        Ended::HoldFull(line) => ("F2 line ", Some(line)),
-        Ended::QueueFull(line) => ("F3 line ", Some(line)),
-        Ended::TurnsSpent => ("F4", None),
-        Ended::NoPrevious(line) => ("F5 line ", Some(line)),
-        Ended::InputBroken => ("F6", None),
-        Ended::OutputBroken(sink) => ("F7 sink ", Some(sink as u64)),
-        Ended::OutputFull(sink) => ("F8 sink ", Some(sink as u64)),
+        Ended::Done => sheet.put(b"F0"),
+        Ended::PatternFull(line) => sheet.put_text(format_args!("F1 line {line}")),
+        Ended::HoldFull(line) => sheet.put_text(format_args!("F2 line {line}")),
+        Ended::QueueFull(line) => sheet.put_text(format_args!("F3 line {line}")),
+        Ended::TurnsSpent => sheet.put(b"F4"),
+        Ended::NoPrevious(line) => sheet.put_text(format_args!("F5 line {line}")),
+        Ended::InputBroken => sheet.put(b"F6"),
+        Ended::OutputBroken(sink) => sheet.put_text(format_args!("F7 sink {sink}")),
+        Ended::OutputFull(sink) => sheet.put_text(format_args!("F8 sink {sink}")),
     }
 }

@@ -52,41 +52,34 @@ pub(crate) fn script_of(row: &Row, limits: &Limits) -> Result<Script, Message>
     Ok(script)
 }
 
-/// Sees that the script is accepted, and that the options name its files.
+/// Sees that the script is accepted, and that the options name its files, each once and in its order: all that it writes,
+/// and some that it reads.
 pub(crate) fn check_script(row: &Row, report: &mut Report) {
     let options = row.options(3);
-    let nodes = options.number_or(b"nodes", 16384);
-    if nodes < 1 || nodes > 65536 {
-        return report.tell("nodes is 1 to 65536");
-    }
-    match script(row.alloc, row.field(0), options.kind(), nodes) {
+    match script(
+        row.alloc,
+        row.field(0),
+        options.kind(),
+        options.nodes_or(16384),
+    ) {
         Ok(script) => {
-            check_written(script.wfiles(), options, report);
-            check_read(script.rfiles(), options, report);
+            let (written, read) = (script.wfiles(), script.rfiles());
+            let (count, read_count) = (options.files(b"w:"), options.files(b"r:"));
+            report.compare_numbers("files of the script", written.len() as u128, count);
+            report.compare_numbers("files written", named(written, b"w:", options), count);
+            report.compare_numbers("files read", named(read, b"r:", options), read_count);
         }
         Err(fault) => report.tell(fault.reason.name()),
     }
 }
 
-/// Sees that the options `w:NAME=TEXT` name all files that the script writes, each once, in its order.
-fn check_written(names: &[Vec<u8>], options: Options<'_>, report: &mut Report) {
-    for k in 0..names.len() {
-        if !matches!(options.file(b"w:", k), Some((name, _)) if name == names[k].as_slice()) {
-            report.tell("the script writes a file that the row doesn't have, or in another order");
-        }
-    }
-    report.compare_numbers("files written", options.files(b"w:") as u128, names.len());
-}
-
-/// Sees that the options `r:NAME=TEXT` name files that the script reads, each once, in its order.
-fn check_read(names: &[Vec<u8>], options: Options<'_>, report: &mut Report) {
+/// How many options of a kind, from the first on, name files among these in their order.
+fn named(names: &[Vec<u8>], kind: &[u8], options: Options<'_>) -> u128 {
     let mut number = 0usize;
     for name in names {
-        if matches!(options.file(b"r:", number), Some((next, _)) if next == name.as_slice()) {
+        if matches!(options.file(kind, number), Some((next, _)) if next == name.as_slice()) {
             number = number.saturating_add(1);
         }
     }
-    if number < options.files(b"r:") {
-        report.tell("the script reads no such file, or in another order");
-    }
+    number as u128
 }

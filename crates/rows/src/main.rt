@@ -6,15 +6,12 @@
 #![tactic(auto)]
 
 mod calls;
-mod cycles;
 mod decoder;
 mod devices;
 mod expressions;
-mod failing;
 mod faults;
 mod job;
 mod matches;
-mod occurrences;
 mod options;
 mod readings;
 mod refusals;
@@ -51,15 +48,17 @@ fn run_row(rt: &HostRuntime, subject: &str, name: &str, row: &Row) -> Result<boo
     if report.is_empty() {
         return Ok(true);
     }
-    let difference = str::from_utf8(report.sheet.bytes()).unwrap_or("a difference");
+    let difference = str::from_utf8(report.sheet.bytes.as_slice()).unwrap_or("a difference");
     println!(rt; "{name}:{line}: {difference}")?;
     Ok(false)
 }
 
-/// Runs the rows of a table, names those that fail, and writes how many there are and how many fail. Gives both.
-fn run_rows(rt: &HostRuntime, subject: &str, name: &str, table: &[Row]) -> Result<(usize, usize)> {
+/// Runs the table that a row of the file `tables` names, and writes how many of its rows fail. Gives how many there are, and
+/// how many fail.
+fn run_table(rt: &HostRuntime, subject: &str, name: &str) -> Result<(usize, usize)> {
+    let table = table_in(rt, name)?;
     let mut failed = 0usize;
-    for row in table {
+    for row in table.as_slice() {
         if !run_row(rt, subject, name, row)? {
             failed = failed.saturating_add(1);
         }
@@ -68,29 +67,16 @@ fn run_rows(rt: &HostRuntime, subject: &str, name: &str, table: &[Row]) -> Resul
     Ok((table.len(), failed))
 }
 
-/// Runs the table that a row of the file `tables` names. Gives how many rows there are, and how many fail.
-fn run_named(rt: &HostRuntime, row: &Row) -> Result<(usize, usize)> {
-    let subject = str::from_utf8(row.field(0)).context("a subject is no text")?;
-    let name = str::from_utf8(row.field(1)).context("a name is no text")?;
-    let table = table_in(rt, name).context(format_args!("{name}"))?;
-    run_rows(rt, subject, name, table.as_slice()).context(format_args!("{name}"))
-}
-
-/// Runs the tables that these rows name. Gives the same of all.
-fn run_all(rt: &HostRuntime, tables: &[Row]) -> Result<(usize, usize)> {
-    let mut rows = 0usize;
-    let mut failed = 0usize;
-    for row in tables {
-        let count = run_named(rt, row)?;
+fn main(rt: HostRuntime) -> Result<()> {
+    let (mut rows, mut failed) = (0usize, 0usize);
+    let tables = table_in(&rt, "tables").context("tables")?;
+    for table in tables.as_slice() {
+        let subject = str::from_utf8(table.field(0)).context("a subject is no text")?;
+        let name = str::from_utf8(table.field(1)).context("a name is no text")?;
+        let count = run_table(&rt, subject, name).context(format_args!("{name}"))?;
         rows = rows.saturating_add(count.0);
         failed = failed.saturating_add(count.1);
     }
-    Ok((rows, failed))
-}
-
-fn main(rt: HostRuntime) -> Result<()> {
-    let tables = table_in(&rt, "tables").context("tables")?;
-    let (rows, failed) = run_all(&rt, tables.as_slice())?;
     println!(rt; "{rows} rows, {failed} failed")?;
     ensure!(failed == 0, "{failed} rows failed");
     Ok(())

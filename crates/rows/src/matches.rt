@@ -1,14 +1,14 @@
-//! Expressions over texts: the match and its groups. The head of the table tells its fields.
+//! Expressions over texts: the match and its groups, or all occurrences, one after another, each with its groups. The heads
+//! of the tables tell their fields.
 //!
-//! `find_span` and `is_match` have to tell the same as `find`. By tables `is_match` has to, and from the text's beginning on the
-//! first occurrence and its groups: by tables of 513 states, of 64, of two, which are emptied again and again, and of none.
+//! `find_span` and `is_match` have to tell the same as `find`. By tables `is_match` has to, and from the text's beginning on
+//! the occurrences and their groups: by tables of 513 states, of 64, of two, which are emptied again and again, and of none.
 
-ghost use Rattle.std.specs.Prelude.{◌≡◌, ◌≤◌, ◌^◌, [], ◌∷◌, length};
+ghost use Rattle.std.specs.Prelude.{◌≡◌, ◌≤◌, ◌^◌, [], ◌∷◌, IfOk, IfSome, length};
 ghost use Rattle.sedmatch.specs.Occurrences.{RoomFor};
 ghost use Rattle.sedmatch.specs.SearchRoom.{FitInto};
 
 use crate::expressions::kind_named;
-use crate::occurrences::room_to_seek;
 use crate::options::Options;
 use crate::report::{NO_MEMORY, Report};
 use crate::sheet::Sheet;
@@ -17,61 +17,89 @@ use sedmatch::{
     Found, Occurrences, Scratch, TableMatcher, TableRoom, Text, find, find_span, is_match,
 };
 use sedre::{Expr, Steps, read};
+use std::alloc::{AllocError, Global};
+use std::slice;
 
-/// What the calls of one search answer.
+/// What going over occurrences comes to.
 #[derive(Clone, Copy)]
-struct Answers {
-    found: Option<Found>,
+struct Occurred {
+    count: usize,
     steps: u128,
-    span: Option<(usize, usize)>,
-    is_match: bool,
+    group_steps: u128,
 }
 
-/// Runs a row.
+/// Runs a row of matches.
 pub(crate) fn run(row: &Row, report: &mut Report) {
-    match read(
-        row.alloc,
-        kind_named(row.field(0)),
-        row.field(1),
-        None,
-        65536,
-    ) {
-        Ok(expr) => run_over(row, &expr, row.field(2), row.number(3), report),
+    run_from(row, Some(row.number(3)), report);
+}
+
+/// Runs a row of occurrences.
+pub(crate) fn run_all(row: &Row, report: &mut Report) {
+    run_from(row, None, report);
+}
+
+/// Reads the expression, and seeks the match from a place on, or all occurrences where none is given.
+fn run_from(row: &Row, from: Option<usize>, report: &mut Report) {
+    let kind = kind_named(row.field(0));
+    match read(row.alloc, kind, row.field(1), None, 65536) {
+        Ok(expr) => run_over(row, &expr, row.field(2), from, report),
         Err(_) => report.tell("the expression has a fault"),
     }
 }
 
-/// Searches the text from this place on.
-fn run_over(row: &Row, expr: &Expr, text: &[u8], from: usize, report: &mut Report) {
+/// Searches the text by an expression that is used once, where there is a place, and by tables of each size.
+fn run_over(row: &Row, expr: &Expr, text: &[u8], from: Option<usize>, report: &mut Report) {
     let nodes = expr.nodes();
-    if nodes < 1 || nodes > 65536 || text.len() > 1 << 20 || from > text.len() {
+    let place = from.unwrap_or(0);
+    if nodes < 1 || nodes > 65536 || text.len() > 1 << 20 || place > text.len() {
         return report.tell("the text is too long, or the search begins past it");
     }
     let Ok(mut scratch) = Scratch::new(row.alloc, text.len(), nodes) else {
         return report.tell(NO_MEMORY);
     };
-    let answers = used_once(expr, text, from, &mut scratch);
-    compare(row, &answers, expr.groups(), report);
+    if from.is_some() {
+        run_once(row, expr, &Text::new(text), place, &mut scratch, report);
+    }
     run_table(row, expr, 513, text, from, &mut scratch, report);
     run_table(row, expr, 64, text, from, &mut scratch, report);
     run_table(row, expr, 2, text, from, &mut scratch, report);
     run_table(row, expr, 0, text, from, &mut scratch, report);
 }
 
-/// What the searches of an expression that is used once answer.
-fn used_once(expr: &Expr, text: &[u8], from: usize, scratch: &mut Scratch) -> Answers
+/// Whether the three searches of an expression that is used once tell the same, and what the row says.
+fn run_once(
+    row: &Row,
+    expr: &Expr,
+    text: &Text,
+    from: usize,
+    scratch: &mut Scratch,
+    report: &mut Report,
+)
     requires from { from ≤ length text.now }
     requires fits { FitInto (length text.now) (length expr.now.nodes) scratch.old }
     ensures { scratch.new ≡ scratch.old }
 {
-    let text = Text::new(text);
     let mut steps = Steps::new();
-    let found = find(expr, &text, from, scratch, &mut steps);
-    Answers {
-        found,
-        steps: steps.count(),
-        span: find_span(expr, &text, from, scratch, &mut Steps::new()),
-        is_match: is_match(expr, &text, from, scratch, &mut Steps::new()),
+    let found = find(expr, text, from, scratch, &mut steps);
+    let span = find_span(expr, text, from, scratch, &mut Steps::new());
+    let is_match = is_match(expr, text, from, scratch, &mut Steps::new());
+    if span_of(&found) != span || found.is_some() != is_match {
+        report.tell("find, find_span and is_match don't agree");
+    }
+    compare_steps("most", "least", steps.count(), row.options(5), report);
+    let mut came = Sheet::new(row.alloc);
+    match &found {
+        Some(found) => put_spans(&mut came, &found.groups, expr.groups()),
+        None => came.put(b"none"),
+    }
+    report.compare_sheet("the match", &came, row.field(4));
+}
+
+/// Where a match begins and ends.
+fn span_of(found: &Option<Found>) -> Option<(usize, usize)> {
+    match found {
+        Some(found) => Some((found.start, found.end)),
+        None => None,
     }
 }
 
@@ -81,11 +109,11 @@ fn run_table(
     expr: &Expr,
     states: usize,
     text: &[u8],
-    from: usize,
+    from: Option<usize>,
     scratch: &mut Scratch,
     report: &mut Report,
 )
-    requires from { from ≤ length text.now }
+    requires from { IfSome from (λ place. place ≤ length text.now) }
     requires fits { FitInto (length text.now) (length expr.now.nodes) scratch.old }
     requires text { length text.now ≤ 2 ^ 20 }
     requires some { 1 ≤ length expr.now.nodes }
@@ -94,33 +122,48 @@ fn run_table(
     if !report.is_empty() {
         return;
     }
-    let room = TableRoom {
-        states,
-        bytes: states.saturating_mul(1 << 20),
-    };
+    let bytes = states.saturating_mul(1 << 20);
+    let room = TableRoom { states, bytes };
     let made = TableMatcher::new(row.alloc, expr, room, &mut Steps::new());
     let Ok(mut matcher) = made else {
         return report.tell(NO_MEMORY);
     };
-    let is_match = matcher.is_match(&Text::new(text), from, scratch, &mut Steps::new());
-    if is_match == (row.field(4) == b"none".as_slice()) {
-        report.tell("is_match tells otherwise");
+    if let Some(place) = from {
+        let is_match = matcher.is_match(&Text::new(text), place, scratch, &mut Steps::new());
+        if is_match == (row.field(4) == b"none".as_slice()) {
+            report.tell("is_match tells otherwise");
+        }
     }
-    if from == 0 {
-        compare_first(row, expr, &mut matcher, text, is_match, scratch, report);
+    if from.unwrap_or(0) == 0 {
+        seek(row, expr, &mut matcher, text, from, scratch, report);
     }
     // by a call, since letting it go at the end would be proved here field by field
     drop(matcher);
     report.note(" by tables of at most so many states: ", states);
 }
 
-/// Whether the first occurrence by tables is what the row says.
-fn compare_first(
+/// Room to seek occurrences of an expression in a text, by one matcher.
+fn room_to_seek(
+    alloc: Global,
+    expr: &Expr,
+    matcher: &TableMatcher,
+    text: &[u8],
+) -> Result<Occurrences, AllocError>
+    requires matcher { matcher.now ≡ expr.now }
+    requires text { length text.now ≤ 2 ^ 20 }
+    requires some { 1 ≤ length expr.now.nodes }
+    ensures { IfOk result (RoomFor (length text.now) (matcher.now ∷ [])) }
+{
+    Occurrences::new(alloc, text.len(), expr.nodes(), slice::from_ref(matcher))
+}
+
+/// Seeks the first occurrence, or all where no place is given.
+fn seek(
     row: &Row,
     expr: &Expr,
     matcher: &mut TableMatcher,
     text: &[u8],
-    is_match: bool,
+    from: Option<usize>,
     scratch: &mut Scratch,
     report: &mut Report,
 )
@@ -130,105 +173,107 @@ fn compare_first(
     requires some { 1 ≤ length expr.now.nodes }
     ensures { scratch.new ≡ scratch.old }
 {
+    let most = if from.is_some() { 1 } else { text.len() + 2 };
+    let groups = expr.groups();
     match room_to_seek(row.alloc, expr, matcher, text) {
         Ok(mut seeking) => {
-            let answers = first_by_tables(matcher, text, is_match, &mut seeking, scratch);
-            compare(row, &answers, expr.groups(), report);
+            let text = Text::new(text);
+            let mut came = Sheet::new(row.alloc);
+            let all = all_of(
+                &mut came,
+                matcher,
+                groups,
+                &text,
+                most,
+                &mut seeking,
+                scratch,
+            );
+            compare(row, from, came, &all, report);
         }
         Err(_) => report.tell(NO_MEMORY),
     }
 }
 
-/// The first occurrence and its groups, as a matcher tells them.
-fn first_by_tables(
+/// Goes over so many occurrences at most, and writes the spans of each.
+fn all_of(
+    sheet: &mut Sheet,
     matcher: &mut TableMatcher,
-    text: &[u8],
-    is_match: bool,
+    groups: usize,
+    text: &Text,
+    most: usize,
     seeking: &mut Occurrences,
     scratch: &mut Scratch,
-) -> Answers
+) -> Occurred
     requires fits { FitInto (length text.now) (length matcher.old.nodes) scratch.old }
     requires room { RoomFor (length text.now) (matcher.old ∷ []) seeking.old }
     ensures { scratch.new ≡ scratch.old }
 {
-    let text = Text::new(text);
     let mut steps = Steps::new();
+    let mut group_steps = Steps::new();
+    let mut last = None;
+    let mut count = 0usize;
     seeking.begin(0);
-    let span = matcher.next_occurrence(&text, None, seeking, scratch, &mut steps);
-    let found = match span {
-        None => None,
-        Some((start, end)) => Some(Found {
-            start,
-            end,
-            groups: matcher.groups_of(&text, start, end, scratch, &mut steps),
-        }),
-    };
-    Answers {
-        found,
+    'occurrences: for _ in 0..most {
+        let Some((start, end)) = matcher.next_occurrence(text, last, seeking, scratch, &mut steps)
+        else {
+            break;
+        };
+        let spans = matcher.groups_of(text, start, end, scratch, &mut group_steps);
+        put_occurrence(sheet, &spans, groups);
+        count = count.saturating_add(1);
+        last = Some(end);
+    }
+    Occurred {
+        count,
         steps: steps.count(),
-        span,
-        is_match,
+        group_steps: group_steps.count(),
     }
 }
 
-/// Whether the three calls tell the same, and what the row says.
-fn compare(row: &Row, answers: &Answers, groups: usize, report: &mut Report) {
-    if !are_same(answers) {
-        report.tell("find, find_span and is_match don't agree");
-    }
-    compare_steps("most", "least", answers.steps, row.options(5), report);
-    let mut came = Sheet::new(row.alloc);
-    match &answers.found {
-        Some(found) => put_spans(&mut came, &found.groups, groups),
-        None => came.put(b"none"),
-    }
-    report.compare_sheet("the match", &came, row.field(4));
-}
-
-/// Whether the three calls tell the same.
-fn are_same(answers: &Answers) -> bool {
-    match (&answers.found, answers.span) {
-        (Some(found), Some((start, end))) => {
-            answers.is_match && start == found.start && end == found.end
+/// Whether the first occurrence, where a place is given, or all of them are what the row says.
+fn compare(row: &Row, from: Option<usize>, mut came: Sheet, all: &Occurred, report: &mut Report) {
+    let (steps, group_steps) = (all.steps, all.group_steps);
+    if from.is_some() {
+        let steps = steps.saturating_add(group_steps);
+        compare_steps("most", "least", steps, row.options(5), report);
+        if all.count == 0 {
+            came.put(b"none");
         }
-        (None, None) => !answers.is_match,
-        _ => false,
+        return report.compare_sheet("the match", &came, row.field(4));
     }
+    let (wanted, options) = (row.field(3), row.options(4));
+    compare_steps("most", "least", steps, options, report);
+    compare_steps("groups_most", "groups_least", group_steps, options, report);
+    if wanted.ends_with(b" occurrences") {
+        came = Sheet::new(row.alloc);
+        came.put_text(format_args!("{} occurrences", all.count));
+    }
+    report.compare_sheet("the occurrences", &came, wanted);
 }
 
 /// Whether there are as many steps as the options of these names say.
-pub(crate) fn compare_steps(
-    most: &str,
-    least: &str,
-    steps: u128,
-    options: Options<'_>,
-    report: &mut Report,
-) {
+fn compare_steps(most: &str, least: &str, steps: u128, options: Options<'_>, report: &mut Report) {
     let least = options.number_or(least.as_bytes(), 0);
     let most = options.number_or(most.as_bytes(), usize::MAX);
     if steps < least as u128 || (most as u128) < steps {
-        report.tell_number("steps", steps);
+        report.tell(format_args!("steps: came {steps}"));
     }
+}
+
+/// Writes the spans of an occurrence, after a blank where others stand before it.
+fn put_occurrence(sheet: &mut Sheet, spans: &[Option<(usize, usize)>; 10], groups: usize) {
+    if !sheet.is_empty() {
+        sheet.put(b" ");
+    }
+    put_spans(sheet, spans, groups);
 }
 
 /// The spans of a match and of so many groups, of nine at most.
-pub(crate) fn put_spans(sheet: &mut Sheet, spans: &[Option<(usize, usize)>; 10], groups: usize) {
-    let count = groups.min(9).saturating_add(1);
-    for span in spans.iter().take(count) {
-        put_span(sheet, *span);
-    }
-}
-
-/// The span of a group.
-fn put_span(sheet: &mut Sheet, span: Option<(usize, usize)>) {
-    match span {
-        Some((start, end)) => {
-            sheet.put(b"(");
-            sheet.put_number(start as u128);
-            sheet.put(b",");
-            sheet.put_number(end as u128);
-            sheet.put(b")");
+fn put_spans(sheet: &mut Sheet, spans: &[Option<(usize, usize)>; 10], groups: usize) {
+    for span in spans.iter().take(groups.min(9).saturating_add(1)) {
+        match *span {
+            Some((start, end)) => sheet.put_text(format_args!("({start},{end})")),
+            None => sheet.put(b"(?,?)"),
         }
-        None => sheet.put(b"(?,?)"),
     }
 }

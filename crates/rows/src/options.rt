@@ -2,6 +2,8 @@
 //!
 //! An option is a word, as `-n`, or a name and what it is set to, as `space=3` or `w:NAME=TEXT`.
 
+ghost use Rattle.std.specs.Prelude.{◌≢◌, ◌≤◌, Some};
+
 use crate::shape::number_in;
 use sedre::Kind;
 
@@ -14,14 +16,13 @@ pub(crate) struct Options<'a> {
 impl<'a> Options<'a> {
     /// What a name is set to, the last time that it stands there.
     pub(crate) fn value(self, wanted: &[u8]) -> Option<&'a [u8]> {
-        let mut found = None;
-        for option in self.written {
-            let (name, value) = name_and_value(option.as_slice());
-            if name == wanted {
-                found = Some(value);
-            }
-        }
-        found
+        let named = self
+            .written
+            .iter()
+            .map(|option| name_and_value(option.as_slice()))
+            .filter(|named| named.0 == wanted)
+            .last()?;
+        Some(named.1)
     }
 
     /// Whether the word is among them.
@@ -49,42 +50,55 @@ impl<'a> Options<'a> {
     }
 
     /// `delimiter=/`: the delimiter.
-    pub(crate) fn delimiter(self) -> Option<u8> {
-        match self.value(b"delimiter") {
-            Some([b]) => Some(*b),
-            _ => None,
+    pub(crate) fn delimiter(self) -> Option<u8>
+        ensures not_backslash { result ≢ Some 92 }
+        ensures not_newline { result ≢ Some 10 }
+    {
+        delimiter_in(self.value(b"delimiter").unwrap_or(b""))
+    }
+
+    /// `nodes=9`: the most nodes of an expression, or this many.
+    pub(crate) fn nodes_or(self, other: usize) -> usize
+        ensures some { 1 ≤ result }
+        ensures most { result ≤ 65536 }
+    {
+        self.number_or(b"nodes", other).clamp(1, 65536)
+    }
+
+    /// `F1 line 2`: the end of a run.
+    pub(crate) fn end(self) -> &'a [u8] {
+        let ends = self
+            .written
+            .iter()
+            .filter(|option| option.starts_with(b"F"));
+        match ends.last() {
+            Some(end) => end.as_slice(),
+            None => b"F0",
         }
     }
 
-    /// How many files are of a kind, as `w:` of those written `w:NAME=TEXT`.
+    /// How many options begin so, as `w:NAME=TEXT` with `w:`.
     pub(crate) fn files(self, kind: &[u8]) -> usize {
-        let mut count = 0usize;
-        for option in self.written {
-            if option.starts_with(kind) {
-                count = count.saturating_add(1);
-            }
-        }
-        count
+        self.written
+            .iter()
+            .filter(|option| option.starts_with(kind))
+            .count()
     }
 
     /// The name and the text of the file of a kind that has this number, counted from 0.
     pub(crate) fn file(self, kind: &[u8], number: usize) -> Option<(&'a [u8], &'a [u8])> {
-        let mut before = number;
-        for option in self.written {
-            if let Some(file) = option.as_slice().strip_prefix(kind) {
-                if before == 0 {
-                    return Some(name_and_value(file));
-                }
-                before -= 1;
-            }
-        }
-        None
+        let mut files = self
+            .written
+            .iter()
+            .filter_map(|option| option.as_slice().strip_prefix(kind));
+        Some(name_and_value(files.nth(number)?))
     }
 
     /// The text of the file `r:NAME=TEXT` of a name; one that isn't given is empty.
     pub(crate) fn text_read(self, wanted: &[u8]) -> &'a [u8] {
-        for k in 0..self.files(b"r:") {
-            if let Some((name, text)) = self.file(b"r:", k)
+        for option in self.written {
+            if let Some(file) = option.as_slice().strip_prefix(b"r:")
+                && let (name, text) = name_and_value(file)
                 && name == wanted
             {
                 return text;
@@ -101,10 +115,18 @@ fn name_and_value(option: &[u8]) -> (&[u8], &[u8]) {
 
 /// What stands before the first such byte, and after it.
 pub(crate) fn parted(bytes: &[u8], wanted: u8) -> Option<(&[u8], &[u8])> {
-    for k in 0..bytes.len() {
-        if bytes[k] == wanted {
-            return Some((&bytes[..k], &bytes[k + 1..]));
-        }
+    let place = bytes.iter().position(|b| *b == wanted)?;
+    Some((&bytes[..place], &bytes[place + 1..]))
+}
+
+/// The delimiter that the bytes are, if they are one.
+pub(crate) fn delimiter_in(bytes: &[u8]) -> Option<u8>
+    ensures not_backslash { result ≢ Some 92 }
+    ensures not_newline { result ≢ Some 10 }
+{
+    match bytes {
+        [b'\\' | b'\n'] => None,
+        [b] => Some(*b),
+        _ => None,
     }
-    None
 }

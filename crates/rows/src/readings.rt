@@ -44,7 +44,7 @@ fn compare_files(row: &Row, script: &Script, report: &mut Report) {
     let mut came = Sheet::new(row.alloc);
     put_files(&mut came, b"r:", script.rfiles());
     put_files(&mut came, b"w:", script.wfiles());
-    report.compare_sheet("the files", &came, wanted.bytes());
+    report.compare_sheet("the files", &came, wanted.bytes.as_slice());
 }
 
 /// Files of a kind, each with the letter of its kind and a colon.
@@ -89,7 +89,7 @@ fn put_action(sheet: &mut Sheet, script: &Script, i: usize)
 /// A letter and a number.
 fn put_target(sheet: &mut Sheet, letter: u8, k: usize) {
     sheet.put_byte(letter);
-    sheet.put_number(k as u128);
+    sheet.put_text(k);
 }
 
 /// The addresses of a command, and its `!`.
@@ -109,7 +109,7 @@ fn put_addresses(sheet: &mut Sheet, command: &Command) {
 /// An address.
 fn put_address(sheet: &mut Sheet, address: Address) {
     match address {
-        Address::Line(number) => sheet.put_number(u128::from(number)),
+        Address::Line(number) => sheet.put_text(number),
         Address::Last => sheet.put_byte(b'$'),
         Address::Match(expression) => put_expression(sheet, expression),
     }
@@ -119,7 +119,7 @@ fn put_address(sheet: &mut Sheet, address: Address) {
 fn put_expression(sheet: &mut Sheet, expression: Option<usize>) {
     sheet.put_byte(b'/');
     if let Some(k) = expression {
-        sheet.put_number(k as u128);
+        sheet.put_text(k);
     }
     sheet.put_byte(b'/');
 }
@@ -140,7 +140,7 @@ fn put_substitution(sheet: &mut Sheet, substitution: &Substitution) {
         put_part(sheet, part);
     }
     sheet.put_byte(b' ');
-    sheet.put_number(u128::from(substitution.number));
+    sheet.put_text(substitution.number);
     put_flags(sheet, substitution);
 }
 

@@ -7,26 +7,25 @@ use crate::table::Row;
 use sededit::script;
 use sedscript::{Reason, ScriptFault};
 
-/// The most nodes where the row says nothing: those of the program.
-const MOST_NODES: usize = 16384;
-
 /// The rules for the fields and the options of a row.
 pub(crate) fn shape_of(row: &Row) -> (&'static str, &'static str) {
     if row.field(1) == b"none".as_slice() {
-        ("* none", "-E nodes=#")
+        ("* none", "-E nodes=+")
     } else {
-        ("* * #", "-E nodes=# inside=#")
+        ("* * #", "-E nodes=+ inside=#")
     }
 }
 
 /// Runs a row.
 pub(crate) fn run(row: &Row, report: &mut Report) {
     let options = row.options(2);
-    let nodes = options.number_or(b"nodes", MOST_NODES);
-    if nodes < 1 || nodes > 65536 {
-        return report.tell("nodes is 1 to 65536");
-    }
-    match script(row.alloc, row.field(0), options.kind(), nodes) {
+    // the program's most nodes, where the row doesn't say
+    match script(
+        row.alloc,
+        row.field(0),
+        options.kind(),
+        options.nodes_or(16384),
+    ) {
         Ok(_) => report.compare("the fault", b"none", row.field(1)),
         Err(fault) => compare_fault(row, &fault, report),
     }
@@ -39,14 +38,11 @@ fn compare_fault(row: &Row, fault: &ScriptFault, report: &mut Report) {
     report.compare_faults(&came, row.field(1));
     report.compare_numbers("the place", fault.place as u128, row.number(2));
     if let Some(place) = row.options(3).number(b"inside") {
-        report.compare_numbers("the place inside", place_inside(fault) as u128, place);
-    }
-}
-
-/// The place of an expression's fault within the expression; of another, that in the script.
-fn place_inside(fault: &ScriptFault) -> usize {
-    match fault.reason {
-        Reason::Expression(inner) => inner.place,
-        _ => fault.place,
+        // the place of an expression's fault within it; of another, that in the script
+        let inside = match fault.reason {
+            Reason::Expression(inner) => inner.place,
+            _ => fault.place,
+        };
+        report.compare_numbers("the place inside", inside as u128, place);
     }
 }

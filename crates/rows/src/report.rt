@@ -2,6 +2,7 @@
 
 use crate::sheet::Sheet;
 use std::alloc::Global;
+use std::fmt::Display;
 
 /// So many bytes of a field are shown at most.
 const MOST_SHOWN: usize = 400;
@@ -33,27 +34,24 @@ impl Report {
 
     /// Adds to what is told, where anything is, how the row was run. The greatest number stands for any.
     pub(crate) fn note(&mut self, what: &str, number: usize) {
-        if !self.is_empty() {
-            self.sheet.put(what.as_bytes());
-            match number {
-                usize::MAX => self.sheet.put(b"any"),
-                _ => self.sheet.put_number(number as u128),
-            }
+        match number {
+            _ if self.is_empty() => {}
+            usize::MAX => self.sheet.put_text(format_args!("{what}any")),
+            _ => self.sheet.put_text(format_args!("{what}{number}")),
         }
     }
 
     /// Tells this, where nothing was told before.
-    pub(crate) fn tell(&mut self, text: &str) {
+    pub(crate) fn tell<D: Display + Drop>(&mut self, text: D) {
         if self.is_empty() {
-            self.sheet.put(text.as_bytes());
+            self.sheet.put_text(text);
         }
     }
 
     /// Notes where what came isn't what the row says.
     pub(crate) fn compare(&mut self, what: &str, came: &[u8], wanted: &[u8]) {
         if came != wanted && self.is_empty() {
-            self.sheet.put(what.as_bytes());
-            self.sheet.put(b": came ");
+            self.sheet.put_text(format_args!("{what}: came "));
             show(came, &mut self.sheet);
             self.sheet.put(b", expected ");
             show(wanted, &mut self.sheet);
@@ -62,34 +60,23 @@ impl Report {
 
     /// Notes where what was written isn't what the row says.
     pub(crate) fn compare_sheet(&mut self, what: &str, came: &Sheet, wanted: &[u8]) {
-        self.compare(what, came.bytes(), wanted);
-        if !came.is_whole() {
+        self.compare(what, came.bytes.as_slice(), wanted);
+        if !came.is_whole {
             self.tell(NO_MEMORY);
         }
     }
 
     /// Notes where a number isn't the one that the row says.
     pub(crate) fn compare_numbers(&mut self, what: &str, came: u128, wanted: usize) {
-        if came != wanted as u128 && self.is_empty() {
-            self.tell_number(what, came);
-            self.sheet.put(b", expected ");
-            self.sheet.put_number(wanted as u128);
-        }
-    }
-
-    /// Tells a number that the row doesn't allow.
-    pub(crate) fn tell_number(&mut self, what: &str, came: u128) {
-        if self.is_empty() {
-            self.sheet.put(what.as_bytes());
-            self.sheet.put(b": came ");
-            self.sheet.put_number(came);
+        if came != wanted as u128 {
+            self.tell(format_args!("{what}: came {came}, expected {wanted}"));
         }
     }
 
     /// Whether a fault is the wanted one: a row says its number and name, or the number alone.
     pub(crate) fn compare_faults(&mut self, came: &Sheet, wanted: &[u8]) {
         if !matches!(
-            came.bytes().strip_prefix(wanted),
+            came.bytes.strip_prefix(wanted),
             Some([] | [b' ' | b':', ..])
         ) {
             self.compare_sheet("the fault", came, wanted);
@@ -102,28 +89,16 @@ fn show(bytes: &[u8], sheet: &mut Sheet) {
     if bytes.is_empty() {
         sheet.put(b"%e");
     }
-    for b in &bytes[..bytes.len().min(MOST_SHOWN)] {
-        show_byte(*b, sheet);
+    for b in bytes.iter().take(MOST_SHOWN) {
+        match *b {
+            b'\n' => sheet.put(b"%n"),
+            b'\t' => sheet.put(b"%t"),
+            b'%' => sheet.put(b"%%"),
+            b' '..=b'~' => sheet.put_byte(*b),
+            _ => sheet.put_text(format_args!("%x{b:02x}")),
+        }
     }
     if bytes.len() > MOST_SHOWN {
-        sheet.put(b" .. (");
-        sheet.put_number(bytes.len() as u128);
-        sheet.put(b" bytes)");
-    }
-}
-
-/// Writes one byte.
-fn show_byte(b: u8, sheet: &mut Sheet) {
-    match b {
-        b'\n' => sheet.put(b"%n"),
-        b'\t' => sheet.put(b"%t"),
-        b'%' => sheet.put(b"%%"),
-        b' '..=b'~' => sheet.put_byte(b),
-        _ => {
-            let digits = b"0123456789abcdef";
-            sheet.put(b"%x");
-            sheet.put_byte(digits[usize::from(b / 16)]);
-            sheet.put_byte(digits[usize::from(b % 16)]);
-        }
+        sheet.put_text(format_args!(" .. ({} bytes)", bytes.len()));
     }
 }

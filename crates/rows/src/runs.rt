@@ -1,9 +1,14 @@
 //! Scripts over inputs: what is written, and how the run ends. The heads of the tables tell their fields and options.
 //!
-//! Each row runs with the input whole and in reads of 1, 2, 3 and 5 bytes, with writes and pieces of files that are read
-//! of any length and of one byte, and with 1, 2, 7 and 65,536 bytes read ahead. Where a read of the input fails, the reads
-//! are as the row says, and the read-ahead is that of the program; where one of a file fails, they are of one byte. At last
-//! an engine runs it by `cycle` and `run`, and has to stay at its end.
+//! * A row of runs runs with the input whole and in reads of 1, 2, 3 and 5 bytes, with writes and pieces of files that are
+//!   read of any length and of one byte, and with 1, 2, 7 and 65,536 bytes read ahead. Where a read of the input fails, the
+//!   reads are as the row says, and the read-ahead is that of the program; where one of a file fails, they are of one byte.
+//!   At last an engine runs it by `cycle` and `run`, and has to stay at its end.
+//! * A row of failing has one call of a device fail: the first read of the input, the second, and so on until a run meets no
+//!   failure; then the same of the writes to each sink. The input is read a byte at a time. Each run has to end as the row
+//!   says, or by the failure; each sink has to have what the row says, or by the failure a beginning of it; and the engine
+//!   has to stay at its end and to call no device, though these work again.
+//! * A row of cycles tells what one cycle writes, takes from the input and holds.
 
 use crate::devices::Way;
 use crate::faults::put_end;
@@ -22,7 +27,10 @@ const READS: [usize; 5] = [usize::MAX, 1, 2, 3, 5];
 /// The bytes read ahead, the last those of the program.
 const LOOKS: [usize; 4] = [1, 2, 7, 65536];
 
-/// Runs a row, to the first difference.
+/// The most calls of a device that are tried.
+const MOST_CALLS: usize = 1000;
+
+/// Runs a row of runs, to the first difference.
 pub(crate) fn run(row: &Row, report: &mut Report) {
     check_script(row, report);
     let way = Way::of(row.options(3));
@@ -32,25 +40,20 @@ pub(crate) fn run(row: &Row, report: &mut Report) {
         run_looks(row, Way { read, ..piecemeal }, report);
     }
     if row.options(3).has(b"cuts") {
-        run_cut(row, way, report);
+        run_cuts(row, way, report);
     }
     if !row.options(3).has(b"lost") {
-        compare(row, run_engine(row, way), report);
+        compare(row, run_engine(row, way), false, report);
     }
 }
 
 /// Runs it over the input cut at each two places.
-fn run_cut(row: &Row, way: Way, report: &mut Report) {
+fn run_cuts(row: &Row, way: Way, report: &mut Report) {
     for start in 0..row.field(1).len() {
-        run_cut_from(row, way, start, report);
-    }
-}
-
-/// Runs it over the input cut here and at each place from here on.
-fn run_cut_from(row: &Row, way: Way, start: usize, report: &mut Report) {
-    for end in start..row.field(1).len() {
-        let cuts = (start, end);
-        run_looks(row, Way { cuts, ..way }, report);
+        for end in start..row.field(1).len() {
+            let cuts = (start, end);
+            run_looks(row, Way { cuts, ..way }, report);
+        }
     }
 }
 
@@ -59,7 +62,7 @@ fn run_looks(row: &Row, way: Way, report: &mut Report) {
     for look in LOOKS {
         let way = Way { look, ..way };
         if report.is_empty() && is_asked(row.options(3), way) {
-            compare(row, run_edit(row, way), report);
+            compare(row, run_edit(row, way), false, report);
             way.note(report);
         }
     }
@@ -78,27 +81,64 @@ fn is_asked(options: Options<'_>, way: Way) -> bool {
     (is_whole || !options.has(b"read")) && (is_far || !options.has(b"look"))
 }
 
-/// Whether the run came to its end, and the sinks have what they should.
-fn compare(row: &Row, came: Result<Outcome, Message>, report: &mut Report) {
-    match came {
-        Ok(outcome) => {
-            compare_sinks(row, &outcome.outputs, false, report);
-            compare_end(row, outcome.end, None, report);
-            if !outcome.stays {
-                report.tell("the engine goes on after its end");
-            }
+/// Runs a row of failing, to the first difference.
+pub(crate) fn run_failing(row: &Row, report: &mut Report) {
+    check_script(row, report);
+    fail_device(row, None, report);
+    for sink in 0..=row.options(3).files(b"w:") {
+        fail_device(row, Some(sink), report);
+    }
+}
+
+/// Has each call of a device fail in turn, of this sink or else of the input, until a run meets no failure.
+fn fail_device(row: &Row, sink: Option<usize>, report: &mut Report) {
+    for call in 1..MOST_CALLS {
+        if !report.is_empty() {
+            return;
         }
-        Err(message) => report.tell(message),
+        let way = Way {
+            read: 1,
+            failing_read: if sink.is_none() { call } else { 0 },
+            failing_sink: sink.unwrap_or(0),
+            failing_write: if sink.is_some() { call } else { 0 },
+            ..Way::of(row.options(3))
+        };
+        let is_met = compare(row, run_engine(row, way), true, report);
+        way.note(report);
+        if !is_met {
+            return;
+        }
+    }
+    report.tell("there are more calls than are tried");
+}
+
+/// Whether the run came to its end, and the sinks have what they should; or where a device may fail, whether it ended by the
+/// failure and wrote a beginning. Says whether that failure was met.
+fn compare(row: &Row, came: Result<Outcome, Message>, may_fail: bool, report: &mut Report) -> bool {
+    let outcome = match came {
+        Ok(outcome) => outcome,
+        Err(message) => {
+            report.tell(message);
+            return false;
+        }
+    };
+    let failed = outcome.devices.failed();
+    let failed = if may_fail { failed } else { None };
+    compare_stays(&outcome, report);
+    compare_sinks(row, &outcome.devices.outputs, failed.is_some(), report);
+    compare_end(row, outcome.end, failed, report);
+    failed.is_some()
+}
+
+/// Whether the engine stayed at its end.
+fn compare_stays(outcome: &Outcome, report: &mut Report) {
+    if !outcome.stays {
+        report.tell("the engine goes on after its end");
     }
 }
 
 /// Whether each sink has what the row says, or a beginning of it where that is enough.
-pub(crate) fn compare_sinks(
-    row: &Row,
-    outputs: &MemoryOutputs,
-    is_enough: bool,
-    report: &mut Report,
-) {
+fn compare_sinks(row: &Row, outputs: &MemoryOutputs, is_enough: bool, report: &mut Report) {
     for sink in 0..outputs.sinks() {
         let written = outputs.bytes(sink);
         let wanted = wanted_of(row, sink);
@@ -121,24 +161,45 @@ fn wanted_of(row: &Row, sink: usize) -> &[u8] {
 }
 
 /// Whether the run ended by the device that failed, where one is given, and else as the row says.
-pub(crate) fn compare_end(row: &Row, end: Ended, failed: Option<Ended>, report: &mut Report) {
+fn compare_end(row: &Row, end: Ended, failed: Option<Ended>, report: &mut Report) {
     let mut came = Sheet::new(row.alloc);
     put_end(&mut came, end);
     let mut wanted = Sheet::new(row.alloc);
     match failed {
         Some(failed) => put_end(&mut wanted, failed),
-        None => wanted.put(end_in(row.options(3))),
+        None => wanted.put(row.options(3).end()),
     }
-    report.compare_sheet("the end", &came, wanted.bytes());
+    report.compare_sheet("the end", &came, wanted.bytes.as_slice());
 }
 
-/// The end that the options name.
-fn end_in(options: Options<'_>) -> &[u8] {
-    let mut end = b"F0".as_slice();
-    for option in options.written {
-        if option.starts_with(b"F") {
-            end = option.as_slice();
-        }
+/// Runs a row of cycles.
+pub(crate) fn run_cycle(row: &Row, report: &mut Report) {
+    check_script(row, report);
+    match run_engine(row, Way::of(row.options(3))) {
+        Ok(outcome) => compare_cycle(row, &outcome, report),
+        Err(message) => report.tell(message),
     }
-    end
+}
+
+/// Whether the cycle wrote what the row says, and the counts are those of the options.
+fn compare_cycle(row: &Row, outcome: &Outcome, report: &mut Report) {
+    let cycle = outcome.cycle;
+    if outcome.devices.outputs.sinks() > 0 {
+        let bytes = outcome.devices.outputs.bytes(0);
+        let count = cycle.written.min(bytes.len());
+        report.compare("the output", &bytes[..count], row.field(2));
+    }
+    let calls = outcome.devices.source.calls();
+    compare_count(row, "taken", cycle.taken as u128, report);
+    compare_count(row, "calls", u128::from(cycle.calls), report);
+    compare_count(row, "held", cycle.held, report);
+    compare_count(row, "all", u128::from(calls), report);
+    compare_stays(outcome, report);
+}
+
+/// Whether a count is that of the options, where they have one.
+fn compare_count(row: &Row, name: &str, came: u128, report: &mut Report) {
+    if let Some(wanted) = row.options(3).number(name.as_bytes()) {
+        report.compare_numbers(name, came, wanted);
+    }
 }

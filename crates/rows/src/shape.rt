@@ -1,9 +1,10 @@
 //! What the rows of a subject look like, so that a mistake in a table is told before its row runs.
 //!
-//! A field keeps to a rule: `*` any bytes, `#` a number, `/` a delimiter, else one of the words that `|` parts. An
-//! option keeps to one of the rules `-n`, a word; `space=#`, a name and the rule of what it is set to; `w:*`, a beginning.
+//! A field keeps to a rule: `*` any bytes, `#` a number, `+` a number of nodes, 1 to 65,536, `/` a delimiter, else one of the
+//! words that `|` parts. An option keeps to one of the rules `-n`, a word; `space=#`, a name and the rule of what it is set
+//! to; `w:*`, a beginning.
 
-use crate::options::parted;
+use crate::options::{delimiter_in, parted};
 use std::str;
 
 /// Whether fields keep to the rules for them, and those that follow to the rules of options. Blanks part the rules.
@@ -15,13 +16,9 @@ pub(crate) fn have_shape(fields: &[Vec<u8>], rules: &str, options: &str) -> bool
             _ => return false,
         }
     }
-    rest.iter()
-        .all(|option| is_option(option.as_slice(), options))
-}
-
-/// Whether one of the rules allows the option.
-fn is_option(option: &[u8], rules: &str) -> bool {
-    rules.split(' ').any(|rule| allows(rule, option))
+    rest.iter().all(|option| options
+        .split(' ')
+        .any(|rule| allows(rule, option.as_slice())))
 }
 
 /// Whether the rule allows the option.
@@ -43,15 +40,13 @@ fn keeps(bytes: &[u8], rule: &str) -> bool {
     match rule.as_bytes() {
         [b'*'] => true,
         [b'#'] => number_in(bytes).is_some(),
-        [b'/'] => matches!(bytes, [b] if *b != b'\\' && *b != b'\n'),
+        [b'+'] => matches!(number_in(bytes), Some(1..=65536)),
+        [b'/'] => delimiter_in(bytes).is_some(),
         _ => rule.split('|').any(|word| word.as_bytes() == bytes),
     }
 }
 
 /// The number that the bytes say, where they say one.
 pub(crate) fn number_in(bytes: &[u8]) -> Option<usize> {
-    match str::from_utf8(bytes) {
-        Ok(text) => text.parse::<usize>().ok(),
-        Err(_) => None,
-    }
+    str::from_utf8(bytes).ok()?.parse::<usize>().ok()
 }

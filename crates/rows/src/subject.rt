@@ -2,27 +2,25 @@
 
 use crate::report::Report;
 use crate::table::Row;
-use crate::{
-    calls, cycles, expressions, failing, job, matches, occurrences, readings, refusals, runs,
-};
+use crate::{calls, expressions, job, matches, readings, refusals, runs};
 
 const OCCURRENCES: &str = "most=# least=# groups_most=# groups_least=#";
 
 const RUNS: &str =
-    "-n -E cuts F* r:* w:* space=# queue=# look=# turns=# nodes=# output=# fails=# read=# room=# refuses=# lost=#";
+    "-n -E cuts F* r:* w:* space=# queue=# look=# turns=# nodes=+ output=# fails=# read=# room=# refuses=# lost=#";
 
-const FAILING: &str = "-n -E F* r:* w:* space=# queue=# look=# turns=# nodes=# output=#";
+const FAILING: &str = "-n -E F* r:* w:* space=# queue=# look=# turns=# nodes=+ output=#";
 
 const CYCLES: &str =
-    "-n -E lines taken=# calls=# all=# held=# r:* w:* space=# queue=# look=# turns=# nodes=# output=# fails=# read=# room=# refuses=#";
+    "-n -E lines taken=# calls=# all=# held=# r:* w:* space=# queue=# look=# turns=# nodes=+ output=# fails=# read=# room=# refuses=#";
 
 const CALLS: &str =
-    "errors=* errors_begin=* output_begins=* f:* w:* space=# queue=# turns=# nodes=# output=# fails=# room=# refuses=# write=#";
+    "errors=* errors_begin=* output_begins=* f:* w:* space=# queue=# turns=# nodes=+ output=# fails=# room=# refuses=# write=#";
 
 /// The rules of `shape` for the fields of such a row, and for its options. None where there is no such subject.
 pub(crate) fn shape_of(subject: &str, row: &Row) -> Option<(&'static str, &'static str)> {
     match subject {
-        "expressions" => Some(("basic|extended * * #", "delimiter=/ nodes=#")),
+        "expressions" => Some(("basic|extended * * #", "delimiter=/ nodes=+")),
         "lists" => Some(("* # is|not *", "delimiter=/")),
         "delimiters" => Some(("* # / *", "")),
         "matches" => Some(("basic|extended * * # *", "most=# least=#")),
@@ -45,12 +43,12 @@ pub(crate) fn run(subject: &str, row: &Row, report: &mut Report) {
         "lists" => expressions::run_list(row, report),
         "delimiters" => expressions::run_delimited(row, report),
         "matches" => matches::run(row, report),
-        "occurrences" => occurrences::run(row, report),
+        "occurrences" => matches::run_all(row, report),
         "refusals" => refusals::run(row, report),
         "readings" => readings::run(row, report),
         "runs" => runs::run(row, report),
-        "failing" => failing::run(row, report),
-        "cycles" => cycles::run(row, report),
+        "failing" => runs::run_failing(row, report),
+        "cycles" => runs::run_cycle(row, report),
         "limits" => job::run_limits(row, report),
         "calls" => calls::run(row, report),
         _ => report.tell("no rows are of this kind"),

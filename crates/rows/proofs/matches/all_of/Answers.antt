@@ -1,5 +1,5 @@
 use Rattle.std.proofs.Common.{[], ◌∷◌, refl}
-use Rattle.rows.proofs.occurrences.all_of.Goals as goal
+use Rattle.rows.proofs.matches.all_of.Goals as goal
 
 pub occurrences-init : goal.occurrences-init
 occurrences-init c = record {

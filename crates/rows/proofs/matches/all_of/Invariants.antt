@@ -1,7 +1,7 @@
 use Rattle.std.proofs.Common.{◌≡◌, length}
 use Rattle.sedmatch.specs.Following.{EndsWithin}
 use Rattle.sedmatch.specs.Occurrences.{Serves}
-use Rattle.rows.proofs.occurrences.all_of.Given as goal
+use Rattle.rows.proofs.matches.all_of.Given as goal
 
 abbrev pub invariant-occurrences : goal.invariant-occurrences
 invariant-occurrences l = record {
