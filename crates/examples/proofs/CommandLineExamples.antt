@@ -10,7 +10,7 @@ use Rattle.clap.specs.Words.{Text, fault_of, matches_of}
 use Rattle.clap.specs.Walk.{bundle_met, walked as word_walked}
 use Rattle.clap.specs.Faults.{defaults_fault, flags_fault, walk_fault}
 use Rattle.clap.specs.declared.error.kind.ErrorKind.TheVariants.{DisplayHelp, InvalidValue, UnknownArgument}
-use Rattle.sededit.specs.CommandLine.{Asks, ScriptPart, IsCommandLine, extended_in, file, given_to, quiet_in, sed_command, text}
+use Rattle.sededit.specs.CommandLine.{Asks, ScriptPart, IsCommandLine, file, given_to, is_given, sed_command, text}
 use Rattle.sedre.specs.Brackets.{delimiter_at}
 use Rattle.sedre.specs.Tree.{tree_at, tree_within}
 use Rattle.sedre.specs.Items.{item_at as expression_item_at}
@@ -36,8 +36,8 @@ use Rattle.examples.proofs.ProgramExamples.{Answers}
 -- that are files.
 record AsksFor (words : List Text) (quiet extended : Bool) (parts : List ScriptPart) (operands : List Text) : Type 0 where
   taken : IsCommandLine words
-  is_quiet : quiet_in (matches_of sed_command words) ≡ quiet
-  is_extended : extended_in (matches_of sed_command words) ≡ extended
+  is_quiet : is_given (codes "quiet") (matches_of sed_command words) ≡ quiet
+  is_extended : is_given (codes "extended") (matches_of sed_command words) ≡ extended
   asks : Asks (given_to (codes "expression") (matches_of sed_command words)) (given_to (codes "file") (matches_of sed_command words))
       (given_to (codes "operand") (matches_of sed_command words)) parts operands
 
@@ -93,7 +93,7 @@ f_bytes = encode_ascii 102 (omega arith)
 -- `sed`
 no_words : AsksFor [] false false [] []
 unfolding sed_command word_walked bundle_met walk_fault flags_fault defaults_fault
-no_words = record { taken = refl; is_quiet = refl; is_extended = refl; asks = (refl, refl) }
+no_words = record { taken = refl; is_quiet = refl; is_extended = refl; asks = (refl, refl, refl) }
 
 -- `sed -n`
 no_script : AsksFor (codes "-n" ∷ []) true false [] []
@@ -102,7 +102,7 @@ no_script = record {
   taken = rw n_letters refl;
   is_quiet = rw n_letters refl;
   is_extended = rw n_letters refl;
-  asks = rw n_letters (refl, refl);
+  asks = rw n_letters (refl, refl, refl);
 }
 
 -- `sed -n -n p`: an option may be repeated.
@@ -137,7 +137,7 @@ two_scripts = record {
   taken = rw (ep_letters, e_bytes, e_letters, e_bytes) refl;
   is_quiet = rw (ep_letters, e_bytes, e_letters, e_bytes) refl;
   is_extended = rw (ep_letters, e_bytes, e_letters, e_bytes) refl;
-  asks = rw (ep_letters, e_bytes, e_letters, e_bytes) (([], [], refl), refl);
+  asks = rw (ep_letters, e_bytes, e_letters, e_bytes) (refl, refl, refl);
 }
 
 -- `sed -f s a`
@@ -147,7 +147,7 @@ script_in_a_file = record {
   taken = rw (f_letters, f_bytes) refl;
   is_quiet = rw (f_letters, f_bytes) refl;
   is_extended = rw (f_letters, f_bytes) refl;
-  asks = rw (f_letters, f_bytes) (([], [], refl), refl);
+  asks = rw (f_letters, f_bytes) (refl, refl, refl);
 }
 
 -- `sed p a -n`: an option after operands (that it may stand there is this project's own).

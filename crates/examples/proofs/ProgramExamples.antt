@@ -22,7 +22,8 @@ use Rattle.examples.proofs.ComputedRun.{course, ends_after, plain, quiet, no_fil
 use Rattle.sededit.specs.CommandLine.{ScriptPart, text, file}
 use Rattle.sededit.specs.Editing.{nothing_before, start_over}
 use Rattle.sededit.specs.MemoryFiles.{File, file_of, files_of}
-use Rattle.sededit.specs.Program.{MakesText, Observed, StopsEarly, DevicesAtEnd, input_of}
+use Rattle.sededit.specs.Files.{joined_files}
+use Rattle.sededit.specs.Program.{MakesText, Observed, StopsEarly, DevicesAtEnd, or_standard}
 use Rattle.examples.proofs.LimitWords.{own}
 
 -- the files that there are: `a` with one line, `f` without a newline, and the script `s`
@@ -33,7 +34,7 @@ there =
 
 -- the input of these operands, with this standard input
 abbrev pub input : (standard : List ℕ) → (operands : List (List ℕ)) → Option (List ℕ)
-input standard operands = input_of (λ names. Some (files_of there standard names)) operands
+input standard operands = joined_files (λ names. Some (files_of there standard names)) (or_standard operands)
 
 -- the script of these parts is this text
 abbrev pub Text : List ScriptPart → List ℕ → Type 0
@@ -173,7 +174,8 @@ observed reads failures output = record { refusals = 0; reads = reads; contents 
 -- many of its reads have failed, and each sink so often.
 abbrev Stopped : (whole bytes rest : List ℕ) → ℕ → ℕ → List ℕ → Type 0
 Stopped whole bytes rest reads failures output =
-    Script whole Basic (λ p. StopsEarly own (observed 0 0 []) (observed reads failures output) (λ more. more ≡ Some rest) p (Some bytes) (λ k. None))
+    Script whole Basic (λ p. StopsEarly own (observed 0 0 []) (observed reads failures output) (λ more. more ≡ Some rest)
+    (record { script = p; input = Some bytes; texts = λ k. None }))
 
 -- A script's run over this input comes to this end whichever files the script may read.
 record OverAnyFiles (p : Program) (bytes rest output : List ℕ) (end : Ended) : Type 0 where

@@ -6,7 +6,8 @@ use Rattle.clap.specs.declared.error.kind.ErrorKind.TheVariants.{OutOfMemory, Di
 use Rattle.clap.specs.declared.parser.matches.ArgMatches.{ArgMatches}
 use Rattle.clap.proofs.OnLiterals.{clap_on_literals}
 use Rattle.clap.proofs.WalkLemmas.{raw_values-rows}
-use Rattle.sededit.specs.CommandLine.{IsCommandLine, IsRefusal, extended_in, given_to, sed_command}
+use Rattle.sededit.specs.CommandLine.{IsCommandLine, given_to, is_given, sed_command}
+use Rattle.sededit.specs.Refusals.{IsRefusal}
 use Rattle.sededit.specs.declared.asked.Refused.{Refused}
 use Rattle.sededit.specs.declared.asked.Refused.TheVariants.{NoMemory, Words}
 
@@ -63,11 +64,11 @@ parts_are : IsCommandLine (codes "-e" ∷ codes "p" ∷ codes "-" ∷ codes "-f"
 unfolding clap_on_literals sed_command
 parts_are = refl
 
-extended_is : extended_in (matches_of sed_command (codes "p" ∷ codes "-nE" ∷ [])) ≡ true
+extended_is : is_given (codes "extended") (matches_of sed_command (codes "p" ∷ codes "-nE" ∷ [])) ≡ true
 unfolding clap_on_literals sed_command
 extended_is = refl
 
-extended_is_not : extended_in (matches_of sed_command (codes "-n" ∷ codes "p" ∷ [])) ≡ false
+extended_is_not : is_given (codes "extended") (matches_of sed_command (codes "-n" ∷ codes "p" ∷ [])) ≡ false
 unfolding clap_on_literals sed_command
 extended_is_not = refl
 

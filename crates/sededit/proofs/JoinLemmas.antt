@@ -8,7 +8,7 @@ use Rattle.std.specs.String.{string_bytes}
 use Rattle.std.specs.Option.{option_map, is_none}
 use Rattle.std.specs.Fmt.{option_append}
 use Rattle.std.specs.Io.KnownBytes.{Consumes, IsAtEnd}
-use Rattle.sededit.specs.Files.{due_after, with_newline, joined, KeepsFiles, contents_of_files, Joining, left, left_of_current}
+use Rattle.sededit.specs.Files.{FilesAhead, Joining, KeepsFiles, due_after, joined, left, left_of_current, with_newline}
 use Rattle.sededit.specs.Opening.{Opens, NotesMissed, OnlyLastGives, OpensFirstFiles, OpensNext}
 
 due_after-append : (due : Bool) (a b : List ℕ) → due_after due (a ++ b) ≡ due_after (due_after due a) b
@@ -62,7 +62,7 @@ pub name_at : {Z : Type 0} (items : List (String Z)) (next : ℕ) (text : String
 name_at items next text name is bytes = rw bytes (get_or-map string_bytes items next text ∙ ap string_bytes (sym is))
 
 -- the next file was opened and noted
-pub next_opened : {I : Type 0} (current : I → Option (List ℕ)) (ahead : I → List (List ℕ) → Option (List (Option (List ℕ)))) (old before new : Joining I)
+pub next_opened : {I : Type 0} (current : I → Option (List ℕ)) (ahead : I → FilesAhead) (old before new : Joining I)
     (all : List (List ℕ)) (missed : List Bool) (next : ℕ) (name : List ℕ) (answer : Bool) →
     before ≡ old → before.names ≡ drop next all → before.missed ≡ take next missed → next < length all → length missed ≡ length all → get_or all next name ≡ name →
     new.names ≡ drop (next + 1) all → new.missed ≡ take (next + 1) (slice_set missed next (not answer)) → new.reading ≡ true → new.due ≡ false →
@@ -76,15 +76,19 @@ next_opened current ahead old before new all missed next name answer is names-ar
 
 -- ---- what is left of the file, and of those after it
 
+-- what these files give, joined
+abbrev pub all_joined : Option (List (Option (List ℕ))) → Option (List ℕ)
+all_joined files = option_map (λ fs. joined (map (λ file. unwrap_or file []) fs)) files
+
 left_read : (a b : Option (List ℕ)) (x y : Option (List (Option (List ℕ)))) (bytes : List ℕ) → Consumes a b bytes → KeepsFiles x y →
-    Consumes (option_append a (option_map (λ files. joined (contents_of_files files)) x)) (option_append b (option_map (λ files. joined (contents_of_files files)) y)) bytes
+    Consumes (option_append a (all_joined x)) (option_append b (all_joined y)) bytes
 left_read None b x y bytes p q = tt
 left_read (Some u) b None y bytes p q = tt
 left_read (Some u) None (Some x) y bytes p q = absurd p
-left_read (Some u) (Some v) (Some x) y bytes p q = rw q (ap (λ z. z ++ joined (contents_of_files x)) p ∙ append_assoc bytes v (joined (contents_of_files x)))
+left_read (Some u) (Some v) (Some x) y bytes p q = rw q (ap (λ z. z ++ joined (map (λ file. unwrap_or file []) x)) p ∙ append_assoc bytes v (joined (map (λ file. unwrap_or file []) x)))
 
 left_opened : (x : Option (List (Option (List ℕ)))) (answer : Bool) (c : Option (List ℕ)) (y : Option (List (Option (List ℕ)))) → Opens x answer c y →
-    Consumes (option_append (Some []) (option_map (λ files. joined (contents_of_files files)) x)) (option_append (option_map (with_newline false) c) (option_map (λ files. joined (contents_of_files files)) y)) []
+    Consumes (option_append (Some []) (all_joined x)) (option_append (option_map (with_newline false) c) (all_joined y)) []
 left_opened None answer c y o = tt
 left_opened (Some []) answer c y o = absurd o
 left_opened (Some (file ∷ files)) answer c y o = rw (o.1, o.2) refl
@@ -169,7 +173,7 @@ at_end (Some x) (Some y) p e = cc
 
 -- ---- files that gave no byte
 
-module _ {I : Type 0} (current : I → Option (List ℕ)) (ahead : I → List (List ℕ) → Option (List (Option (List ℕ)))) where
+module _ {I : Type 0} (current : I → Option (List ℕ)) (ahead : I → FilesAhead) where
   -- files were opened from old to new, and gave no byte
   pub record Passed (old new : Joining I) : Type 0 where
     pub none : Consumes (left current ahead old) (left current ahead new) []

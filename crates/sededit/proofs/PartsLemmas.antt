@@ -1,10 +1,10 @@
 -- The parts of a script, put into order one after another.
-use Rattle.std.proofs.Common.{◌≡◌, ◌∙◌, ◌⊎◌, inl, inr, ◌<◌, ◌+◌, ◌&&◌, ◌||◌, ℕ, zero, suc, Bool, true, false, not, List, [], ◌∷◌, ◌++◌, Some, drop, map, length, nat_lt, slice_get, refl, sym, ap, arith, append_assoc, ◌≤◌}
+use Rattle.std.proofs.Common.{◌≡◌, ◌∙◌, ◌⊎◌, inl, inr, ◌<◌, ◌+◌, ◌&&◌, ◌||◌, ℕ, zero, suc, Bool, true, false, not, List, [], ◌∷◌, ◌++◌, Some, drop, map, length, nat_lt, slice_get, refl, sym, ap, arith, append_assoc, append-nil, ◌≤◌}
 use Rattle.std.proofs.lemmas.Bool.{ltb-false}
 use Rattle.std.proofs.lemmas.List.{map-append}
 use Rattle.clap.specs.Words.{Text}
-use Rattle.sededit.specs.CommandLine.{ScriptPart, file, first_place, given, in_order, text}
-use Rattle.sededit.specs.CommandLineParts.{comes_first, place_at}
+use Rattle.sededit.specs.CommandLine.{ScriptPart, file, given, names_among, text, texts_among}
+use Rattle.sededit.specs.CommandLineParts.{comes_first, first_place, in_order, place_at}
 use Rattle.sededit.specs.declared.asked.Part.{Part}
 
 one_more : (i : ℕ) → i + 1 ≡ suc i
@@ -106,3 +106,39 @@ file_added ws fs es gs i j f parts part all at later is h =
     let next : in_order (drop i ws) (drop i es) (drop j fs) (drop j gs) ≡ file f ∷ in_order (drop i ws) (drop i es) (drop (suc j) fs) (drop (suc j) gs) =
     rw (← drop_one gs j) (file_next (drop i ws) (drop j fs) (drop i es) (drop j gs) f (drop (suc j) fs) (split_at fs j f at) choice) in
     rw (one_more j) (added parts part (file f) _ all _ is next h)
+
+-- where no word is left, all parts are made
+pub all_made : (made : List ScriptPart) (ws : List Text) (es : List ℕ) (fs : List Text) (gs : List ℕ) (i j : ℕ) → length ws ≤ i → length fs ≤ j →
+    made ++ in_order (drop i ws) (drop i es) (drop j fs) (drop j gs) ≡ in_order ws es fs gs → made ≡ in_order ws es fs gs
+all_made made ws es fs gs i j p q h = let h' = rw (none_after ws i p, none_after fs j q) at h in sym (append-nil made) ∙ h'
+
+texts_of_texts : (ws : List Text) → texts_among (map text ws) ≡ ws
+texts_of_texts [] = refl
+texts_of_texts (w ∷ ws) = ap (λ z. w ∷ z) (texts_of_texts ws)
+
+names_of_texts : (ws : List Text) → names_among (map text ws) ≡ []
+names_of_texts [] = refl
+names_of_texts (w ∷ ws) = names_of_texts ws
+
+texts_of_files : (fs : List Text) → texts_among (map file fs) ≡ []
+texts_of_files [] = refl
+texts_of_files (f ∷ fs) = texts_of_files fs
+
+names_of_files : (fs : List Text) → names_among (map file fs) ≡ fs
+names_of_files [] = refl
+names_of_files (f ∷ fs) = ap (λ z. f ∷ z) (names_of_files fs)
+
+-- put into order, the scripts and the files are all there, each in their order
+abbrev pub Among : List Text → List ℕ → List Text → List ℕ → Type 0
+Among ws es fs gs = (texts_among (in_order ws es fs gs) ≡ ws) × (names_among (in_order ws es fs gs) ≡ fs)
+
+pub all_among : (ws : List Text) (es : List ℕ) (fs : List Text) (gs : List ℕ) → Among ws es fs gs
+all_among [] es fs gs = (texts_of_files fs, names_of_files fs)
+all_among (w ∷ ws) es [] gs = (texts_of_texts (w ∷ ws), names_of_texts (w ∷ ws))
+all_among (w ∷ ws) es (f ∷ fs) gs =
+    by_place (nat_lt (first_place es) (first_place gs)) refl (all_among ws (drop 1 es) (f ∷ fs) gs) (all_among (w ∷ ws) es fs (drop 1 gs))
+  where
+    by_place : (b : Bool) → nat_lt (first_place es) (first_place gs) ≡ b → Among ws (drop 1 es) (f ∷ fs) gs → Among (w ∷ ws) es fs (drop 1 gs) →
+        Among (w ∷ ws) es (f ∷ fs) gs
+    by_place true is script name = rw is (ap (λ z. w ∷ z) script.0, script.1)
+    by_place false is script name = rw is (name.0, ap (λ z. f ∷ z) name.1)

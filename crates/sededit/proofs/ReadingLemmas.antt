@@ -2,12 +2,12 @@
 use Rattle.std.proofs.Common.{◌≡◌, ◌∙◌, ℕ, List, [], ◌∷◌, Option, Some, None}
 use Rattle.std.proofs.KnownBytes.{Keeps-trans}
 use Rattle.sedscript.specs.Script.{with_part}
-use Rattle.sededit.specs.Files.{KeepsFiles, OnlyReadsScripts}
+use Rattle.sededit.specs.Files.{FilesAhead, KeepsFiles, OnlyReadsScripts, WholeFiles}
 use Rattle.sededit.specs.CommandLine.{ScriptPart, file, text}
 use Rattle.sededit.specs.Program.{MakesText}
 
 -- files that tell the same make the same text
-pub MakesText-same : (f g : List ℕ → Option (Option (List ℕ))) (before : List ℕ) (parts : List ScriptPart) (whole : List ℕ) → ((name : List ℕ) → g name ≡ f name) →
+pub MakesText-same : (f g : WholeFiles) (before : List ℕ) (parts : List ScriptPart) (whole : List ℕ) → ((name : List ℕ) → g name ≡ f name) →
     MakesText g before parts whole → MakesText f before parts whole
 MakesText-same f g before [] whole same h = h
 MakesText-same f g before (text part ∷ parts) whole same h = MakesText-same f g (with_part before part) parts whole same h
@@ -17,8 +17,8 @@ files_kept_then : (a b c : Option (List (Option (List ℕ)))) → KeepsFiles a b
 files_kept_then None b c p q = tt
 files_kept_then (Some x) b c p q = let q' = rw p at q in q'
 
-pub OnlyReads-then : {I : Type 0} (current : I → Option (List ℕ)) (ahead : I → List (List ℕ) → Option (List (Option (List ℕ))))
-    (scripts : I → List ℕ → Option (Option (List ℕ))) (refusals failures : I → ℕ) (reference : I → List ℕ) (a b c : I) →
+pub OnlyReads-then : {I : Type 0} (current : I → Option (List ℕ)) (ahead : I → FilesAhead)
+    (scripts : I → WholeFiles) (refusals failures : I → ℕ) (reference : I → List ℕ) (a b c : I) →
     OnlyReadsScripts current ahead scripts refusals failures reference a b → OnlyReadsScripts current ahead scripts refusals failures reference b c →
     OnlyReadsScripts current ahead scripts refusals failures reference a c
 OnlyReads-then current ahead scripts refusals failures reference a b c h k = record {

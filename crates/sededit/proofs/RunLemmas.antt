@@ -2,16 +2,16 @@
 use Rattle.std.proofs.Common.{◌≡◌, ◌∙◌, ◌≤◌, ◌⊎◌, inl, inr, ℕ, Bool, true, false, List, Option, Some, None, Err, arith, subst, sym}
 use Rattle.sedspace.specs.Failures.{Rose}
 use Rattle.sedscript.specs.Program.{Program}
-use Rattle.sedengine.specs.State.{Limits, setting_of}
+use Rattle.sedengine.specs.State.{Limits, Setting, State, setting_of}
 use Rattle.sedengine.specs.DevicesAfter.{FailedSink, SinksAtEnd}
 use Rattle.sedengine.specs.Ends.{Gained, GainedWithin, SourceAtEnd, BreaksInLine}
 use Rattle.sedengine.specs.declared.ends.Ended.{Ended}
 use Rattle.sedengine.specs.declared.ends.Ended.TheVariants.{Done, InputBroken, OutputBroken, OutputFull}
-use Rattle.std.specs.Option.{option_map}
-use Rattle.sededit.specs.Editing.{nothing_before, start_over}
-use Rattle.sededit.specs.Files.{joined, KeepsFiles, contents_of_files}
+use Rattle.sededit.specs.Editing.{BeginsOutput, IsOutput, nothing_before, start_over}
+use Rattle.sededit.specs.Files.{KeepsFiles}
 use Rattle.sededit.specs.Opening.{WereRefused}
-use Rattle.sededit.specs.Program.{DevicesAtEnd, Observed, SinkAtEnd, SinkFailed, StatusMeans, StopsEarly, WritesAll, WritesBeginning}
+use Rattle.sededit.specs.Program.{DevicesAtEnd, Observed, Run, SinkAtEnd, SinkFailed, StatusMeans, StopsEarly, Writes}
+use Rattle.sededit.proofs.JoinLemmas.{all_joined}
 
 -- what sinks gained stands where they hold the same afterwards
 pub Gained-same : (old mid new : ℕ → Option (List ℕ)) (out : List (ℕ × ℕ)) → ((k : ℕ) → new k ≡ mid k) → Gained old mid out → Gained old new out
@@ -20,11 +20,9 @@ Gained-same old mid new out same h = record { each = λ k. rw (same k) (h.each k
 pub GainedWithin-same : (l : Limits) (old mid new : ℕ → Option (List ℕ)) (end : Ended) (out : List (ℕ × ℕ)) → ((k : ℕ) → new k ≡ mid k) → GainedWithin l.output nothing_before old mid (Err end) out → GainedWithin l.output nothing_before old new (Err end) out
 GainedWithin-same l old mid new end out same h = record { gained = Gained-same old mid new out same h.gained; within = h.within; full = h.full }
 
-pub WritesAll-same : (p : Program) (input : Option (List ℕ)) (texts : ℕ → Option (List ℕ)) (old mid new : ℕ → Option (List ℕ)) → ((k : ℕ) → new k ≡ mid k) → WritesAll p input texts old mid → WritesAll p input texts old new
-WritesAll-same p input texts old mid new same h = λ bytes known files told. let w = h bytes known files told in (w.0, Gained-same old mid new _ same w.1, w.2)
-
-pub WritesBeginning-same : (p : Program) (input : Option (List ℕ)) (texts : ℕ → Option (List ℕ)) (old mid new : ℕ → Option (List ℕ)) → ((k : ℕ) → new k ≡ mid k) → WritesBeginning p input texts old mid → WritesBeginning p input texts old new
-WritesBeginning-same p input texts old mid new same h = λ bytes known files told. let w = h bytes known files told in (w.0, Gained-same old mid new _ same w.1, w.2)
+pub Writes-same : (P : Setting → State → List (ℕ × ℕ) → Type 0) (p : Program) (input : Option (List ℕ)) (texts old mid new : ℕ → Option (List ℕ)) → ((k : ℕ) → new k ≡ mid k) →
+    Writes P (record { script = p; input = input; texts = texts }) old mid → Writes P (record { script = p; input = input; texts = texts }) old new
+Writes-same P p input texts old mid new same h = λ bytes known files told. let w = h bytes known files told in (w.0, Gained-same old mid new _ same w.1, w.2)
 
 Rose-more : (a b c : ℕ) → Rose a b → b ≤ c → Rose a c
 Rose-more a b c h more = omega (arith, h, more)
@@ -66,18 +64,21 @@ module _ (l : Limits) (p : Program) (texts s0 s1 : ℕ → Option (List ℕ)) (n
   abbrev now : ℕ → ℕ → Observed
   now f b = record { refusals = f; reads = b; contents = s1; failures = n1 }
 
-  rest_as : (x : Option (List ℕ)) (f0 f1 a b : ℕ) → StopsEarly l (before f0 a) (now f1 b) q p x texts → StopsEarly l (before f0 a) (now f1 b) r p x texts
+  abbrev over : Option (List ℕ) → Run
+  over x = record { script = p; input = x; texts = texts }
+
+  rest_as : (x : Option (List ℕ)) (f0 f1 a b : ℕ) → StopsEarly l (before f0 a) (now f1 b) q (over x) → StopsEarly l (before f0 a) (now f1 b) r (over x)
   rest_as x f0 f1 a b h =
       (h.0, h.1, h.2, λ bytes known files told. let (out, gained, t, cause, breaks) = h.3 bytes known files told in (out, gained, t, cause, λ is. let m = breaks is in (m.0, gives m.0 m.1, m.2)))
 
-  cause_moved : (x y : Option (List ℕ)) (f0 f1 a b f0' f1' a' b' : ℕ) → y ≡ x → a' ≡ a → b' ≡ b → StopsEarly l (before f0 a) (now f1 b) q p x texts ⊎ (WritesAll p x texts s0 s1 × SinkFailed n0 n1 × (b ≡ a)) →
-      StopsEarly l (before f0' a') (now f1' b') r p y texts ⊎ (WritesAll p y texts s0 s1 × SinkFailed n0 n1 × (b' ≡ a'))
+  cause_moved : (x y : Option (List ℕ)) (f0 f1 a b f0' f1' a' b' : ℕ) → y ≡ x → a' ≡ a → b' ≡ b → StopsEarly l (before f0 a) (now f1 b) q (over x) ⊎ (Writes IsOutput (over x) s0 s1 × SinkFailed n0 n1 × (b ≡ a)) →
+      StopsEarly l (before f0' a') (now f1' b') r (over y) ⊎ (Writes IsOutput (over y) s0 s1 × SinkFailed n0 n1 × (b' ≡ a'))
   cause_moved x y f0 f1 a b f0' f1' a' b' input same same' (inl h) = inl (rw (input, same, same') (rest_as x f0 f1 a b h))
   cause_moved x y f0 f1 a b f0' f1' a' b' input same same' (inr h) = inr (rw (input, same, same') h)
 
   -- what a status says
   pub means_moved : (status : ℕ) (x y : Option (List ℕ)) (f0 f1 a b f0' f1' a' b' : ℕ) → y ≡ x → f0' ≡ f0 → f1' ≡ f1 → a' ≡ a → b' ≡ b →
-      StatusMeans l (before f0 a) (now f1 b) q status p x texts → StatusMeans l (before f0' a') (now f1' b') r status p y texts
+      StatusMeans l (before f0 a) (now f1 b) q status (over x) → StatusMeans l (before f0' a') (now f1' b') r status (over y)
   means_moved status x y f0 f1 a b f0' f1' a' b' input refused refused' same same' h = record {
     whole = λ is. rw (input, refused, refused', same, same') (h.whole is);
     missed = λ is. rw (input, refused, refused', same, same') (h.missed is);
@@ -91,9 +92,6 @@ pub record Ready (files0 files1 : Option (List (Option (List ℕ)))) (texts0 tex
   pub same_texts : (k : ℕ) → texts1 k ≡ texts0 k
   pub same_sinks : (k : ℕ) → sinks1 k ≡ sinks0 k
 
-abbrev all_joined : Option (List (Option (List ℕ))) → Option (List ℕ)
-all_joined files = option_map (λ fs. joined (contents_of_files fs)) files
-
 told : (a b : Option (List (Option (List ℕ)))) (bytes : List ℕ) → KeepsFiles a b → all_joined a ≡ Some bytes → all_joined b ≡ Some bytes
 told None b bytes k e = cc
 told (Some x) b bytes k e = rw k e
@@ -101,15 +99,12 @@ told (Some x) b bytes k e = rw k e
 Gained-from : (a b new : ℕ → Option (List ℕ)) (out : List (ℕ × ℕ)) → ((k : ℕ) → b k ≡ a k) → Gained b new out → Gained a new out
 Gained-from a b new out same h = record { each = λ k. rw (← same k) (h.each k) }
 
-pub WritesAll-from : (p : Program) (f0 f1 : Option (List (Option (List ℕ)))) (t0 t1 s0 s1 new : ℕ → Option (List ℕ)) → Ready f0 f1 t0 t1 s0 s1 →
-    WritesAll p (all_joined f1) t1 s1 new → WritesAll p (all_joined f0) t0 s0 new
-WritesAll-from p f0 f1 t0 t1 s0 s1 new r h = λ bytes known files tells.
-    let w = h bytes (told f0 f1 bytes r.kept known) files (λ k. r.same_texts k ∙ tells k) in
-    (w.0, Gained-from s0 s1 new _ r.same_sinks w.1, w.2)
+abbrev over_files : Program → Option (List (Option (List ℕ))) → (ℕ → Option (List ℕ)) → Run
+over_files p files texts = record { script = p; input = all_joined files; texts = texts }
 
-pub WritesBeginning-from : (p : Program) (f0 f1 : Option (List (Option (List ℕ)))) (t0 t1 s0 s1 new : ℕ → Option (List ℕ)) → Ready f0 f1 t0 t1 s0 s1 →
-    WritesBeginning p (all_joined f1) t1 s1 new → WritesBeginning p (all_joined f0) t0 s0 new
-WritesBeginning-from p f0 f1 t0 t1 s0 s1 new r h = λ bytes known files tells.
+pub Writes-from : (P : Setting → State → List (ℕ × ℕ) → Type 0) (p : Program) (f0 f1 : Option (List (Option (List ℕ)))) (t0 t1 s0 s1 new : ℕ → Option (List ℕ)) → Ready f0 f1 t0 t1 s0 s1 →
+    Writes P (over_files p f1 t1) s1 new → Writes P (over_files p f0 t0) s0 new
+Writes-from P p f0 f1 t0 t1 s0 s1 new r h = λ bytes known files tells.
     let w = h bytes (told f0 f1 bytes r.kept known) files (λ k. r.same_texts k ∙ tells k) in
     (w.0, Gained-from s0 s1 new _ r.same_sinks w.1, w.2)
 
@@ -136,8 +131,8 @@ module _ (l : Limits) (p : Program) (q : Option (List ℕ) → Type 0) (f0 f1 : 
   devices-from : (end : Ended) → DevicesAtEnd l.output made last end → DevicesAtEnd l.output first last end
   devices-from end h = (subst (λ m. SourceAtEnd m i end) read h.0, sink-from l.output n0 n1 n end same h.1)
 
-  cause-from : StopsEarly l made last q p (all_joined f1) t1 ⊎ (WritesAll p (all_joined f1) t1 s1 new × SinkFailed n1 n × (i ≡ i1)) →
-      StopsEarly l first last q p (all_joined f0) t0 ⊎ (WritesAll p (all_joined f0) t0 s0 new × SinkFailed n0 n × (i ≡ i0))
+  cause-from : StopsEarly l made last q (over_files p f1 t1) ⊎ (Writes IsOutput (over_files p f1 t1) s1 new × SinkFailed n1 n × (i ≡ i1)) →
+      StopsEarly l first last q (over_files p f0 t0) ⊎ (Writes IsOutput (over_files p f0 t0) s0 new × SinkFailed n0 n × (i ≡ i0))
   cause-from (inl h) = inl (
     h.0,
     h.1,
@@ -147,12 +142,12 @@ module _ (l : Limits) (p : Program) (q : Option (List ℕ) → Type 0) (f0 f1 : 
         let P : Option (List ℕ) → Type 0 = λ input. h.0 ≡ InputBroken → (more : Option (List ℕ)) × q more × BreaksInLine (setting_of p files) (start_over p bytes) input more l.space t in
         (out, GainedWithin-from l s0 s1 new h.0 out ready.same_sinks gained, t, cause, subst P (told f0 f1 bytes ready.kept known ∙ sym known) breaks),
   )
-  cause-from (inr h) = inr (WritesAll-from p f0 f1 t0 t1 s0 s1 new ready h.0, sink_failed n0 n1 n same h.1, h.2 ∙ read)
+  cause-from (inr h) = inr (Writes-from IsOutput p f0 f1 t0 t1 s0 s1 new ready h.0, sink_failed n0 n1 n same h.1, h.2 ∙ read)
 
-  pub means-from : (status : ℕ) → StatusMeans l made last q status p (all_joined f1) t1 → StatusMeans l first last q status p (all_joined f0) t0
+  pub means-from : (status : ℕ) → StatusMeans l made last q status (over_files p f1 t1) → StatusMeans l first last q status (over_files p f0 t0)
   means-from status h = record {
-    whole = λ is. let w = h.whole is in (WritesAll-from p f0 f1 t0 t1 s0 s1 new ready w.0, w.1 ∙ refused, w.2 ∙ read);
-    missed = λ is. let w = h.missed is in (WritesAll-from p f0 f1 t0 t1 s0 s1 new ready w.0, rw (← refused) w.1, w.2 ∙ read);
-    stopped = λ is. WritesBeginning-from p f0 f1 t0 t1 s0 s1 new ready (h.stopped is);
+    whole = λ is. let w = h.whole is in (Writes-from IsOutput p f0 f1 t0 t1 s0 s1 new ready w.0, w.1 ∙ refused, w.2 ∙ read);
+    missed = λ is. let w = h.missed is in (Writes-from IsOutput p f0 f1 t0 t1 s0 s1 new ready w.0, rw (← refused) w.1, w.2 ∙ read);
+    stopped = λ is. Writes-from BeginsOutput p f0 f1 t0 t1 s0 s1 new ready (h.stopped is);
     cause = λ is. cause-from (h.cause is);
   }

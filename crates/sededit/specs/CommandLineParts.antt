@@ -1,7 +1,9 @@
 -- Private to the proofs: no contract of a public item cites what stands here.
 -- The parts of a script as they are put into order.
-use Rattle.std.specs.Prelude.{ℕ, Bool, ◌&&◌, ◌||◌, not, List, map, length, nat_lt, slice_get, unwrap_or}
+use Rattle.std.specs.Prelude.{ℕ, Bool, ◌&&◌, ◌||◌, not, List, [], ◌∷◌, drop, map, length, if◌then◌else◌, nat_lt, slice_get, unwrap_or}
 use Rattle.std.specs.String.{string_bytes}
+use Rattle.clap.specs.Words.{Text}
+use Rattle.sededit.specs.CommandLine.{ScriptPart, file, text}
 use Rattle.sededit.specs.declared.parts.Uses.{Uses}
 
 -- the words of an option's uses
@@ -16,3 +18,15 @@ place_at places number = unwrap_or (slice_get places number) 0
 abbrev pub comes_first : List (List ℕ) → List ℕ → ℕ → List (List ℕ) → List ℕ → ℕ → Bool
 comes_first scripts es i files fs j =
     nat_lt i (length scripts) && (not (nat_lt j (length files)) || nat_lt (place_at es i) (place_at fs j))
+
+-- the first of the places
+abbrev pub first_place : List ℕ → ℕ
+first_place places = unwrap_or (slice_get places 0) 0
+
+-- the scripts of -e and the files of -f, by their places among the words
+abbrev pub in_order : List Text → List ℕ → List Text → List ℕ → List ScriptPart
+in_order [] es files fs = map file files
+in_order (script ∷ scripts) es [] fs = map text (script ∷ scripts)
+in_order (script ∷ scripts) es (name ∷ files) fs =
+    if nat_lt (first_place es) (first_place fs) then text script ∷ in_order scripts (drop 1 es) (name ∷ files) fs
+    else file name ∷ in_order (script ∷ scripts) es files (drop 1 fs)

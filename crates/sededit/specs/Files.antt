@@ -11,14 +11,18 @@ use Rattle.sedspace.specs.Lines.{is_newline}
 abbrev pub dash : List ℕ
 dash = 45 ∷ []
 
+-- what the files of some names give, opened one after another, where that is told: None for one that can't be opened
+abbrev pub FilesAhead : Type 0
+FilesAhead = List (List ℕ) → Option (List (Option (List ℕ)))
+
+-- what the file of a name gives, read whole, where that is told: None where it can't be read
+abbrev pub WholeFiles : Type 0
+WholeFiles = List ℕ → Option (Option (List ℕ))
+
 -- files that are told stay as they are
 abbrev pub KeepsFiles : Option (List (Option (List ℕ))) → Option (List (Option (List ℕ))) → Type 0
 KeepsFiles None new = ⊤
 KeepsFiles (Some files) new = new ≡ Some files
-
--- what files give: one that can't be opened is as an empty one (this project's own)
-abbrev pub contents_of_files : List (Option (List ℕ)) → List (List ℕ)
-contents_of_files files = map (λ file. unwrap_or file []) files
 
 -- a file that is read whole gives its bytes, or nothing where it can't be read
 abbrev pub GivesWhole : Option (Option (List ℕ)) → Option (List ℕ) → Type 0
@@ -38,6 +42,10 @@ with_newline due bytes = bytes ++ (if due_after due bytes then 10 ∷ [] else []
 abbrev pub joined : List (List ℕ) → List ℕ
 joined files = flat_map (with_newline false) files
 
+-- what the files of these names give, joined: one that can't be opened is as an empty one (this project's own)
+abbrev pub joined_files : FilesAhead → List (List ℕ) → Option (List ℕ)
+joined_files ahead names = option_map (λ files. joined (map (λ file. unwrap_or file []) files)) (ahead names)
+
 -- files that are joined: where they are read from, the names still to open, whether a file is being read, whether a
 -- newline is due if it ends here, of each file that was opened whether it was missed, and how many openings the inputs
 -- had refused before
@@ -53,26 +61,18 @@ pub record Joining (I : Type 0) : Type 0 where
 abbrev pub left_of_current : {I : Type 0} → (I → Option (List ℕ)) → Joining I → Option (List ℕ)
 left_of_current current j = if j.reading then option_map (with_newline j.due) (current j.inputs) else Some []
 
--- what the files of these names give, joined, where they are told
-abbrev pub joined_files : {I : Type 0} → (I → List (List ℕ) → Option (List (Option (List ℕ)))) → I → List (List ℕ) → Option (List ℕ)
-joined_files ahead inputs names = option_map (λ files. joined (contents_of_files files)) (ahead inputs names)
-
--- what the files still to open give, joined
-abbrev pub left_ahead : {I : Type 0} → (I → List (List ℕ) → Option (List (Option (List ℕ)))) → Joining I → Option (List ℕ)
-left_ahead ahead j = joined_files ahead j.inputs j.names
-
--- the bytes still to come
-abbrev pub left : {I : Type 0} → (I → Option (List ℕ)) → (I → List (List ℕ) → Option (List (Option (List ℕ)))) → Joining I → Option (List ℕ)
-left current ahead j = option_append (left_of_current current j) (left_ahead ahead j)
+-- the bytes still to come: what is left of the file being read, and what the files still to open give, joined
+abbrev pub left : {I : Type 0} → (I → Option (List ℕ)) → (I → FilesAhead) → Joining I → Option (List ℕ)
+left current ahead j = option_append (left_of_current current j) (joined_files (ahead j.inputs) j.names)
 
 -- what inputs whose files are joined have still to give: what is left of the file being read, with its newline where one is
 -- due, and what further files give
-abbrev pub StillGives : {I : Type 0} → (I → Option (List ℕ)) → (I → List (List ℕ) → Option (List (Option (List ℕ)))) → I → Option (List ℕ) → Type 0
+abbrev pub StillGives : {I : Type 0} → (I → Option (List ℕ)) → (I → FilesAhead) → I → Option (List ℕ) → Type 0
 StillGives {I} current ahead inputs more = (j : Joining I) × (j.inputs ≡ inputs) × (more ≡ left current ahead j)
 
 -- no file was opened and none of the input read
-pub record OnlyReadsScripts {I : Type 0} (current : I → Option (List ℕ)) (ahead : I → List (List ℕ) → Option (List (Option (List ℕ))))
-    (text : I → List ℕ → Option (Option (List ℕ))) (refusals failures : I → ℕ) (reference : I → List ℕ) (old new : I) : Type 0 where
+pub record OnlyReadsScripts {I : Type 0} (current : I → Option (List ℕ)) (ahead : I → FilesAhead) (text : I → WholeFiles)
+    (refusals failures : I → ℕ) (reference : I → List ℕ) (old new : I) : Type 0 where
   pub same_current : Keeps (current old) (current new)
   pub same_ahead : (names : List (List ℕ)) → KeepsFiles (ahead old names) (ahead new names)
   pub texts : (name : List ℕ) → text new name ≡ text old name

@@ -2,7 +2,7 @@
 use Rattle.std.specs.Prelude.{◌≡◌, ℕ, Bool, true, false, List, [], ◌∷◌, map, Option, None, Some, unwrap_or, ⊤, ◌++◌, ◌+◌, length, not}
 use Rattle.std.specs.Option.{is_some, is_none}
 use Rattle.sedspace.specs.Failures.{Rose, raised}
-use Rattle.sededit.specs.Files.{Joining}
+use Rattle.sededit.specs.Files.{FilesAhead, Joining}
 
 -- An opening, where the file and those after it are told: whether it can be opened is answered, it is the one being
 -- read, and those after it are still ahead. One that can't be opened gives nothing.
@@ -37,14 +37,13 @@ NotesMissed (Some files) new before after =
     × (after ≡ before ++ map is_none first) × OnlyLastGives first
 
 -- the files of the first names were opened, each noted as missed or not
-abbrev pub OpensFirstFiles : {I : Type 0} → (I → List (List ℕ) → Option (List (Option (List ℕ)))) → Joining I → Joining I → Type 0
+abbrev pub OpensFirstFiles : {I : Type 0} → (I → FilesAhead) → Joining I → Joining I → Type 0
 OpensFirstFiles ahead old new =
     ((first : List (List ℕ)) × (old.names ≡ first ++ new.names) × (length new.missed ≡ length old.missed + length first))
     × NotesMissed (ahead old.inputs old.names) (ahead new.inputs new.names) old.missed new.missed
 
 -- the next file was opened: it is the one being read, and noted as missed or not
-pub record OpensNext {I : Type 0} (current : I → Option (List ℕ)) (ahead : I → List (List ℕ) → Option (List (Option (List ℕ))))
-    (old new : Joining I) : Type 0 where
+pub record OpensNext {I : Type 0} (current : I → Option (List ℕ)) (ahead : I → FilesAhead) (old new : Joining I) : Type 0 where
   pub name : List ℕ
   pub names : old.names ≡ name ∷ new.names
   pub answer : Bool

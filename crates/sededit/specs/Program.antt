@@ -1,6 +1,6 @@
 -- What the program does with the words of its command line (XCU sed, "Options", "Operands", "Exit Status").
 use Rattle.std.specs.Prelude.{◌≡◌, ◌≢◌, ◌⊎◌, ◌||◌, ℕ, Bool, true, false, List, [], ◌∷◌, map, Option, Some, None, Err, slice_get}
-use Rattle.std.specs.Option.{ForSome, option_map, option_map_or}
+use Rattle.std.specs.Option.{ForSome, option_map_or}
 use Rattle.std.specs.String.{string_bytes}
 use Rattle.clap.specs.Words.{IsAmong, Text, fault_of, matches_of, takes}
 use Rattle.clap.specs.declared.error.kind.ErrorKind.TheVariants.{DisplayHelp}
@@ -10,13 +10,13 @@ use Rattle.sedscript.specs.Program.{Program}
 use Rattle.sedre.specs.declared.types.Kind.{Kind}
 use Rattle.sedre.specs.declared.types.Kind.TheVariants.{Basic, Extended}
 use Rattle.sedengine.specs.Ends.{Gained, GainedWithin, SourceAtEnd, Cause, BreaksInLine}
-use Rattle.sedengine.specs.State.{Limits, TellsFiles, setting_of}
+use Rattle.sedengine.specs.State.{Limits, Setting, State, TellsFiles, setting_of}
 use Rattle.sedengine.specs.Move.{to_sink}
 use Rattle.sedengine.specs.declared.ends.Ended.{Ended}
 use Rattle.sedengine.specs.declared.ends.Ended.TheVariants.{Done, InputBroken, OutputBroken, OutputFull}
 use Rattle.sededit.specs.CommandLine.{ScriptPart, IsCommandLine, IsLine, file, given, sed_command, text}
 use Rattle.sededit.specs.Editing.{BeginsOutput, IsOutput, nothing_before, start_over}
-use Rattle.sededit.specs.Files.{joined, dash, GivesWhole, contents_of_files}
+use Rattle.sededit.specs.Files.{FilesAhead, GivesWhole, WholeFiles, dash, joined_files}
 use Rattle.sededit.specs.declared.asked.Line.{Line}
 
 -- the kind of a script's expressions: extended with -E, basic without it (XCU sed, "Options")
@@ -27,7 +27,7 @@ kind_with false = Basic
 -- The text that the parts of a script make, after those before: the texts of -e and what the files of -f hold, a newline
 -- after each that doesn't end with one (XCU sed, "Options"). A file that isn't told may hold any bytes; `-` names a file
 -- there like any other word (this project's own).
-abbrev pub MakesText : (List ℕ → Option (Option (List ℕ))) → List ℕ → List ScriptPart → List ℕ → Type 0
+abbrev pub MakesText : WholeFiles → List ℕ → List ScriptPart → List ℕ → Type 0
 MakesText files before [] whole = whole ≡ before
 MakesText files before (text part ∷ parts) whole = MakesText files (with_part before part) parts whole
 MakesText files before (file name ∷ parts) whole =
@@ -35,7 +35,7 @@ MakesText files before (file name ∷ parts) whole =
 
 -- A line has a part, and its parts make a text that means the script p, but that -n suppresses default output too, as a
 -- first line `#n` does (XCU sed, "Options").
-abbrev pub GivesScript : (List ℕ → Option (Option (List ℕ))) → Line → ℕ → Program → Type 0
+abbrev pub GivesScript : WholeFiles → Line → ℕ → Program → Type 0
 GivesScript files l nodes p =
     (map given l.parts.items ≢ [])
     × ((whole : List ℕ) × MakesText files [] (map given l.parts.items) whole
@@ -46,43 +46,47 @@ abbrev pub or_standard : List (List ℕ) → List (List ℕ)
 or_standard [] = dash ∷ []
 or_standard names = names
 
--- the input: the files of the operands joined, where they are told
-abbrev pub input_of : (List (List ℕ) → Option (List (Option (List ℕ)))) → List (List ℕ) → Option (List ℕ)
-input_of ahead names = option_map (λ files. joined (contents_of_files files)) (ahead (or_standard names))
-
 -- the texts that a script reads: the files of its names, where they are told
 abbrev pub texts_of : (List ℕ → Option (List ℕ)) → (ℕ → Option (List ℕ)) → Program → ℕ → Option (List ℕ)
 texts_of named others p k = option_map_or named (slice_get p.rfiles k) (others k)
 
--- A line asks for the run of a script over an input, which may read these texts. What the files hold is told by `scripts`
--- for those of -f, by `ahead` for the operands, and by `named` for those that the script reads; `created` says which files
--- were created, which are those that the script writes, in its order.
-abbrev pub RunsLine : (List ℕ → Option (Option (List ℕ))) → (List (List ℕ) → Option (List (Option (List ℕ)))) →
-    (List ℕ → Option (List ℕ)) → (ℕ → Option (List ℕ)) → ℕ → Line → (List (List ℕ) → Type 0) →
-    (Program → Option (List ℕ) → (ℕ → Option (List ℕ)) → Type 0) → Type 0
-RunsLine scripts ahead named others nodes l created P =
-    (p : Program) × GivesScript scripts l nodes p × created p.wfiles
-    × P p (input_of ahead (map string_bytes l.operands.items)) (texts_of named others p)
+-- what is told of files before a run: the scripts of -f, the input files, those that a script reads, by their names, and the
+-- texts of numbers that no name stands for
+pub record Told : Type 0 where
+  pub scripts : WholeFiles
+  pub inputs : FilesAhead
+  pub named : List ℕ → Option (List ℕ)
+  pub others : ℕ → Option (List ℕ)
 
--- the words are a command line, and the script that its line gives does what `P` says, over the input and the texts that
--- the line names
-abbrev pub Runs : (List ℕ → Option (Option (List ℕ))) → (List (List ℕ) → Option (List (Option (List ℕ)))) →
-    (List ℕ → Option (List ℕ)) → (ℕ → Option (List ℕ)) → ℕ → List Text → (List (List ℕ) → Type 0) →
-    (Program → Option (List ℕ) → (ℕ → Option (List ℕ)) → Type 0) → Type 0
-Runs scripts ahead named others nodes words created P =
-    IsCommandLine words
-    × ((l : Line) × IsLine (matches_of sed_command words) l × RunsLine scripts ahead named others nodes l created P)
+-- a run: its script, and where they are told the bytes of the input and of the texts that the script reads
+pub record Run : Type 0 where
+  pub script : Program
+  pub input : Option (List ℕ)
+  pub texts : ℕ → Option (List ℕ)
 
--- The sinks, which held the old contents and hold the new ones, have gained all that a script writes over an input, where it
--- and the texts are told.
-abbrev pub WritesAll : Program → Option (List ℕ) → (ℕ → Option (List ℕ)) → (old new : ℕ → Option (List ℕ)) → Type 0
-WritesAll p input texts old new = ForSome input (λ bytes. (files : ℕ → List ℕ) → TellsFiles texts files →
-    (out : List (ℕ × ℕ)) × Gained old new out × IsOutput (setting_of p files) (start_over p bytes) out)
+-- the run of a script that a line asks for: its input is what the files of the operands give, joined
+abbrev pub run_of : Told → Line → Program → Run
+run_of told l p = record {
+  script = p;
+  input = joined_files told.inputs (or_standard (map string_bytes l.operands.items));
+  texts = texts_of told.named told.others p;
+}
 
--- They have gained a beginning of it.
-abbrev pub WritesBeginning : Program → Option (List ℕ) → (ℕ → Option (List ℕ)) → (old new : ℕ → Option (List ℕ)) → Type 0
-WritesBeginning p input texts old new = ForSome input (λ bytes. (files : ℕ → List ℕ) → TellsFiles texts files →
-    (out : List (ℕ × ℕ)) × Gained old new out × BeginsOutput (setting_of p files) (start_over p bytes) out)
+-- the words are a command line, and the run that its line asks for is as `P` says
+abbrev pub Runs : Told → ℕ → List Text → (Run → Type 0) → Type 0
+Runs told nodes words P =
+    IsCommandLine words × ((l : Line) × IsLine (matches_of sed_command words) l
+    × ((p : Program) × GivesScript told.scripts l nodes p × P (run_of told l p)))
+
+-- where a run's input and texts are told, its setting and its start are as `P` says
+abbrev pub WhereTold : Run → (Setting → State → Type 0) → Type 0
+WhereTold run P = ForSome run.input (λ bytes. (files : ℕ → List ℕ) → TellsFiles run.texts files →
+    P (setting_of run.script files) (start_over run.script bytes))
+
+-- The sinks, which held the old contents and hold the new ones, have gained what `P` says of the run's output: all of it by
+-- `IsOutput`, a beginning of it by `BeginsOutput`.
+abbrev pub Writes : (Setting → State → List (ℕ × ℕ) → Type 0) → Run → (old new : ℕ → Option (List ℕ)) → Type 0
+Writes P run old new = WhereTold run (λ g s. (out : List (ℕ × ℕ)) × Gained old new out × P g s out)
 
 -- A sink that an end names as broken has failed, and one is named as full only where there is a limit on the output.
 abbrev pub SinkAtEnd : Option ℕ → (ℕ → ℕ) → (ℕ → ℕ) → Ended → Type 0
@@ -115,46 +119,39 @@ DevicesAtEnd most old new end = SourceAtEnd old.reads new.reads end × SinkAtEnd
 -- The run of a script came to another end than the ordinary one, and what that says of the devices holds; and where the
 -- input and the texts are told, the end has its cause, after some moves, with what the sinks gained as its output, within the
 -- limit, and no whole line is lost where the input failed. `rest` says what the input has still to give.
-abbrev pub StopsEarly : Limits → (old new : Observed) → (Option (List ℕ) → Type 0) → Program → Option (List ℕ) →
-    (ℕ → Option (List ℕ)) → Type 0
-StopsEarly limits old new rest p input texts =
-    (end : Ended) × (end ≢ Done) × DevicesAtEnd limits.output old new end × ForSome input (λ bytes.
-    (files : ℕ → List ℕ) → TellsFiles texts files →
+abbrev pub StopsEarly : Limits → (old new : Observed) → (Option (List ℕ) → Type 0) → Run → Type 0
+StopsEarly limits old new rest run =
+    (end : Ended) × (end ≢ Done) × DevicesAtEnd limits.output old new end × WhereTold run (λ g s.
     (out : List (ℕ × ℕ)) × GainedWithin limits.output nothing_before old.contents new.contents (Err end) out
-    × (t : ℕ) × Cause limits (setting_of p files) (start_over p bytes) out end t
-    × (end ≡ InputBroken → (more : Option (List ℕ)) × rest more
-    × BreaksInLine (setting_of p files) (start_over p bytes) input more limits.space t))
+    × (t : ℕ) × Cause limits g s out end t
+    × (end ≡ InputBroken → (more : Option (List ℕ)) × rest more × BreaksInLine g s run.input more limits.space t))
 
 -- What the exit status of a run of a script says (XCU sed, "Exit Status"; which number above 0 is this project's own), by what
 -- is observed before the run and after it; `rest` says what the input has still to give.
-pub record StatusMeans (limits : Limits) (old new : Observed) (rest : Option (List ℕ) → Type 0) (status : ℕ)
-    (p : Program) (input : Option (List ℕ)) (texts : ℕ → Option (List ℕ)) : Type 0 where
+pub record StatusMeans (limits : Limits) (old new : Observed) (rest : Option (List ℕ) → Type 0) (status : ℕ) (run : Run) :
+    Type 0 where
   -- 0: all was written that the script writes, no input file was missed, and no read of the input failed
-  pub whole : status ≡ 0 → WritesAll p input texts old.contents new.contents
+  pub whole : status ≡ 0 → Writes IsOutput run old.contents new.contents
       × (new.refusals ≡ old.refusals) × (new.reads ≡ old.reads)
   -- 2: all was written, no read of the input failed, and an input file couldn't be opened
-  pub missed : status ≡ 2 → WritesAll p input texts old.contents new.contents
+  pub missed : status ≡ 2 → Writes IsOutput run old.contents new.contents
       × Rose old.refusals new.refusals × (new.reads ≡ old.reads)
   -- 4: a beginning was written,
-  pub stopped : status ≡ 4 → WritesBeginning p input texts old.contents new.contents
+  pub stopped : status ≡ 4 → Writes BeginsOutput run old.contents new.contents
   -- and the run stopped for a cause, within the limits, and a device that this cause names has failed in this call, the input
   -- for no other cause, and then no whole line is lost; or all was written, no read of the input failed, and some sink did
   -- when it was flushed
-  pub cause : status ≡ 4 → StopsEarly limits old new rest p input texts
-      ⊎ (WritesAll p input texts old.contents new.contents
+  pub cause : status ≡ 4 → StopsEarly limits old new rest run
+      ⊎ (Writes IsOutput run old.contents new.contents
       × SinkFailed old.failures new.failures × (new.reads ≡ old.reads))
 
 -- clap doesn't take the words, since they ask for help (this project's own)
 abbrev pub AsksHelp : List Text → Type 0
 AsksHelp words = (takes sed_command words ≡ false) × IsAmong DisplayHelp (fault_of sed_command words)
 
--- the sinks have gained a text, all of it for sink 0 (this project's own). Which text help is, clap alone says
-abbrev pub WritesHelp : (old new : ℕ → Option (List ℕ)) → Type 0
-WritesHelp old new = (text : List ℕ) × Gained old new (to_sink 0 text)
-
 -- What the exit status says where help was asked for, by what each sink held and how often it had failed: it is 0 or 4, a text
--- was written, for sink 0 alone, and at 4 a sink has failed (this project's own).
+-- was written, all of it for sink 0, and at 4 a sink has failed (this project's own). Which text help is, clap alone says.
 pub record HelpMeans (old new : ℕ → Option (List ℕ)) (failures_old failures_new : ℕ → ℕ) (status : ℕ) : Type 0 where
   pub either : (status ≡ 0) ⊎ (status ≡ 4)
-  pub help : WritesHelp old new
+  pub help : (text : List ℕ) × Gained old new (to_sink 0 text)
   pub failed : status ≡ 4 → SinkFailed failures_old failures_new

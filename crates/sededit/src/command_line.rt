@@ -2,10 +2,11 @@
 //!
 //! Options may be given more than once, in one word or several, before operands or after them; `--` ends the options;
 //! -h and --help ask for help.
-ghost use Rattle.std.specs.Prelude.{◌≡◌, Some, false, true, map, IfOk, IfErr, OnOk};
+ghost use Rattle.std.specs.Prelude.{◌≡◌, Some, codes, false, true, map, IfOk, IfErr, OnOk};
 ghost use Rattle.clap.specs.Words.{FailsBy, app_of, fault_of, found_of, kind_of, matches_of, new_rule, rows_of, rule_of, takes};
 ghost use Rattle.clap.specs.declared.builder.action.ArgAction.TheVariants.{Append, Count};
-ghost use Rattle.sededit.specs.CommandLine.{IsCommandLine, IsLine, IsRefusal, operand_rule, sed_command};
+ghost use Rattle.sededit.specs.CommandLine.{IsCommandLine, IsLine, option_rule, sed_command};
+ghost use Rattle.sededit.specs.Refusals.{IsRefusal};
 
 use crate::asked::{Line, Refused};
 use crate::help::{CODES, USAGE};
@@ -70,7 +71,7 @@ fn read<'a, S: AsStr>(alloc: Global, words: &'a [S]) -> Result<ArgMatches<'a>, c
 
 /// An option that is counted.
 fn counted<'a>(alloc: Global, name: &'a str, letter: char, help: &'a str) -> Arg<'a>
-    ensures rule { rule_of result ≡ record (new_rule name.entry.now) { short = Some letter; action = Some Count } }
+    ensures rule { rule_of result ≡ option_rule name.entry.now letter Count }
     ensures local { result.global ≡ false }
 {
     Arg::new(alloc, name)
@@ -81,7 +82,7 @@ fn counted<'a>(alloc: Global, name: &'a str, letter: char, help: &'a str) -> Arg
 
 /// An option with a word, which may be given more than once.
 fn repeated<'a>(alloc: Global, name: &'a str, letter: char, help: &'a str) -> Arg<'a>
-    ensures rule { rule_of result ≡ record (new_rule name.entry.now) { short = Some letter; action = Some Append } }
+    ensures rule { rule_of result ≡ option_rule name.entry.now letter Append }
     ensures local { result.global ≡ false }
 {
     Arg::new(alloc, name)
@@ -92,7 +93,7 @@ fn repeated<'a>(alloc: Global, name: &'a str, letter: char, help: &'a str) -> Ar
 
 /// The operands.
 fn operands<'a>(alloc: Global) -> Arg<'a>
-    ensures rule { rule_of result ≡ operand_rule }
+    ensures rule { rule_of result ≡ record (new_rule (codes "operand")) { action = Some Append } }
     ensures local { result.global ≡ false }
 {
     Arg::new(alloc, "operand").action(ArgAction::Append).help(

@@ -66,7 +66,7 @@ impl<'a, I: Inputs> Joined<'a, I> {
           start = I.refusals inputs;
         }) }
         ensures joined { IfOk result (λ j. left I.current I.ahead j
-            ≡ joined_files I.ahead inputs (map string_bytes names.now)) }
+            ≡ joined_files (I.ahead inputs) (map string_bytes names.now)) }
     {
         let missed = vec![in alloc; false; names.len()]?;
         Ok(Joined::over(inputs, names, missed))
@@ -83,7 +83,7 @@ impl<'a, I: Inputs> Joined<'a, I> {
           missed = [];
           start = I.refusals inputs;
         } }
-        ensures joined { left I.current I.ahead result ≡ joined_files I.ahead inputs (map string_bytes names.now) }
+        ensures joined { left I.current I.ahead result ≡ joined_files (I.ahead inputs) (map string_bytes names.now) }
     {
         let start = inputs.refused();
         Joined {

@@ -2,8 +2,8 @@
 ghost use Rattle.std.specs.Prelude.{◌≡◌, ◌<◌, Some, drop, length, map, slice_get, take, IfOk};
 ghost use Rattle.std.specs.String.{string_bytes};
 ghost use Rattle.clap.specs.Words.{found_of, rows_of};
-ghost use Rattle.sededit.specs.CommandLine.{Asks, given, given_to, in_order, text};
-ghost use Rattle.sededit.specs.CommandLineParts.{comes_first, place_at, texts_in};
+ghost use Rattle.sededit.specs.CommandLine.{Asks, given, given_to, names_among, text, texts_among};
+ghost use Rattle.sededit.specs.CommandLineParts.{comes_first, in_order, place_at, texts_in};
 
 use crate::asked::Part;
 use clap::ArgMatches;
@@ -71,8 +71,10 @@ fn parts_in_order(
     scripts: Uses<'_>,
     files: Uses<'_>,
 ) -> Result<Vec<Part>, AllocError>
-    ensures { IfOk result (λ parts. map given parts.items
+    ensures order { IfOk result (λ parts. map given parts.items
         ≡ in_order (texts_in scripts.entry) scripts.entry.places.now (texts_in files.entry) files.entry.places.now) }
+    ensures all { IfOk result (λ parts. (texts_among (map given parts.items) ≡ texts_in scripts.entry)
+        × (names_among (map given parts.items) ≡ texts_in files.entry)) }
 {
     let mut parts = Vec::new(alloc);
     let mut scripted = 0;

@@ -1,12 +1,13 @@
 //! The program, over devices that its caller gives.
-ghost use Rattle.std.specs.Prelude.{◌≡◌, ◌≢◌, ◌<◌, ◌⊎◌, [], ◌∷◌, ℕ, IfErr, IfOk, IfSome, IsNone, OnOk, length, map, take, ⊤};
+ghost use Rattle.std.specs.Prelude.{◌≡◌, ◌≢◌, ◌<◌, ◌⊎◌, [], ◌∷◌, ℕ, IfErr, IfOk, IfSome, IsNone, OnOk, length, map, take};
 ghost use Rattle.std.specs.String.{string_bytes};
 ghost use Rattle.sedspace.specs.Failures.{Rose};
 ghost use Rattle.sedengine.specs.Ends.{Gained};
 ghost use Rattle.sedengine.specs.Move.{to_sink};
 ghost use Rattle.clap.specs.Words.{kind_of};
 ghost use Rattle.sededit.specs.Files.{StillGives, dash, OnlyReadsScripts, Creates, CreatesFirst};
-ghost use Rattle.sededit.specs.Program.{AsksHelp, HelpMeans, Runs, RunsLine, StatusMeans, observe, or_standard, texts_of};
+ghost use Rattle.sedscript.specs.Program.{Program};
+ghost use Rattle.sededit.specs.Program.{AsksHelp, GivesScript, HelpMeans, Runs, StatusMeans, observe, or_standard, run_of, texts_of};
 ghost use Rattle.sededit.specs.AddedSinks.{CreatesUpTo};
 
 use crate::asked::{Line, Refused};
@@ -59,11 +60,15 @@ pub fn command<S: AsStr, I: Inputs, O: Sinks, N: Names, E: Write>(
     // Another status than 1 says what became of the run of the script; or help was asked for, a text was written to the
     // standard output alone, and no input was touched.
     ensures means { result ≢ REFUSED →
-        Runs (I.text inputs.old) (I.ahead inputs.old) (N.file names.old) (N.text names.old) limits.nodes
-        (map S.text words.now) (Creates (O.names sinks.old) (O.names sinks.new))
-        (StatusMeans limits (observe I.refusals I.failures O.contents O.failures inputs.old sinks.old)
+        Runs (record {
+          scripts = I.text inputs.old;
+          inputs = I.ahead inputs.old;
+          named = N.file names.old;
+          others = N.text names.old;
+        }) limits.nodes (map S.text words.now) (λ run. Creates (O.names sinks.old) (O.names sinks.new) run.script.wfiles
+        × StatusMeans limits (observe I.refusals I.failures O.contents O.failures inputs.old sinks.old)
         (observe I.refusals I.failures O.contents O.failures inputs.new sinks.new)
-        (StillGives I.current I.ahead inputs.new) result)
+        (StillGives I.current I.ahead inputs.new) result run)
         ⊎ (AsksHelp (map S.text words.now)
         × HelpMeans (O.contents sinks.old) (O.contents sinks.new) (O.failures sinks.old) (O.failures sinks.new) result
         × (O.names sinks.new ≡ O.names sinks.old) × (inputs.new ≡ inputs.old)) }
@@ -75,8 +80,13 @@ pub fn command<S: AsStr, I: Inputs, O: Sinks, N: Names, E: Write>(
     ensures unread { result ≡ REFUSED →
         OnlyReadsScripts I.current I.ahead I.text I.refusals I.failures I.reference inputs.old inputs.new }
     ensures created { result ≡ REFUSED → (O.names sinks.new ≡ O.names sinks.old)
-        ⊎ Runs (I.text inputs.old) (I.ahead inputs.old) (N.file names.old) (N.text names.old) limits.nodes
-        (map S.text words.now) (CreatesFirst (O.names sinks.old) (O.names sinks.new)) (λ _ _ _. ⊤) }
+        ⊎ Runs (record {
+          scripts = I.text inputs.old;
+          inputs = I.ahead inputs.old;
+          named = N.file names.old;
+          others = N.text names.old;
+        }) limits.nodes (map S.text words.now)
+        (λ run. CreatesFirst (O.names sinks.old) (O.names sinks.new) run.script.wfiles) }
 {
     match line(alloc, words) {
         Ok(line) => run_line(alloc, &line, limits, inputs, sinks, names, errors),
@@ -99,18 +109,23 @@ fn run_line<I: Inputs, O: Sinks, N: Names, E: Write>(
     requires names { N.named names.old ≡ 0 }
     ensures status { (result ≡ SUCCESS) ⊎ ((result ≡ REFUSED) ⊎ ((result ≡ MISSED) ⊎ (result ≡ STOPPED))) }
     ensures means { result ≢ REFUSED →
-        RunsLine (I.text inputs.old) (I.ahead inputs.old) (N.file names.old) (N.text names.old) limits.nodes line.now
-        (Creates (O.names sinks.old) (O.names sinks.new))
-        (StatusMeans limits (observe I.refusals I.failures O.contents O.failures inputs.old sinks.old)
+        (p : Program) × GivesScript (I.text inputs.old) line.now limits.nodes p
+        × (Creates (O.names sinks.old) (O.names sinks.new) p.wfiles
+        × StatusMeans limits (observe I.refusals I.failures O.contents O.failures inputs.old sinks.old)
         (observe I.refusals I.failures O.contents O.failures inputs.new sinks.new)
-        (StillGives I.current I.ahead inputs.new) result) }
+        (StillGives I.current I.ahead inputs.new) result (run_of (record {
+          scripts = I.text inputs.old;
+          inputs = I.ahead inputs.old;
+          named = N.file names.old;
+          others = N.text names.old;
+        }) line.now p)) }
     ensures refused { result ≡ REFUSED → (k : ℕ) → O.contents sinks.new k ≡ O.contents sinks.old k }
     ensures no_sink { result ≢ STOPPED → (k : ℕ) → O.failures sinks.new k ≡ O.failures sinks.old k }
     ensures unread { result ≡ REFUSED →
         OnlyReadsScripts I.current I.ahead I.text I.refusals I.failures I.reference inputs.old inputs.new }
     ensures created { result ≡ REFUSED → (O.names sinks.new ≡ O.names sinks.old)
-        ⊎ RunsLine (I.text inputs.old) (I.ahead inputs.old) (N.file names.old) (N.text names.old) limits.nodes line.now
-        (CreatesFirst (O.names sinks.old) (O.names sinks.new)) (λ _ _ _. ⊤) }
+        ⊎ ((p : Program) × GivesScript (I.text inputs.old) line.now limits.nodes p
+        × CreatesFirst (O.names sinks.old) (O.names sinks.new) p.wfiles) }
 {
     let Ok(standard) = standard_input(alloc) else {
         return out_of_memory(errors);

@@ -108,7 +108,7 @@ fn run_joined<I: Inputs, O: Sinks, T: Texts, E: Write>(
         })
         (observe I.refusals I.failures O.contents O.failures joined.new.inputs sinks.new)
         (λ more. more ≡ left I.current I.ahead joined.new) result
-        task.entry.script (left I.current I.ahead joined.old) (T.text texts.old) }
+        (record { script = task.entry.script; input = left I.current I.ahead joined.old; texts = T.text texts.old }) }
     ensures refused { result ≡ REFUSED → sinks.new ≡ sinks.old }
     ensures no_sink { result ≢ STOPPED → (k : ℕ) → O.failures sinks.new k ≡ O.failures sinks.old k }
     ensures unread { result ≡ REFUSED → joined.new ≡ joined.old }
@@ -147,7 +147,11 @@ pub(crate) fn run<I: Inputs, O: Sinks, T: Texts, E: Write>(
         (observe I.refusals I.failures O.contents O.failures inputs.old sinks.old)
         (observe I.refusals I.failures O.contents O.failures inputs.new sinks.new)
         (StillGives I.current I.ahead inputs.new) result
-        task.entry.script (joined_files I.ahead inputs.old (map string_bytes task.entry.names.now)) (T.text texts.old) }
+        (record {
+          script = task.entry.script;
+          input = joined_files (I.ahead inputs.old) (map string_bytes task.entry.names.now);
+          texts = T.text texts.old;
+        }) }
     ensures no_sink { result ≢ STOPPED → (k : ℕ) → O.failures sinks.new k ≡ O.failures sinks.old k }
     ensures refused { result ≡ REFUSED → sinks.new ≡ sinks.old }
     ensures unread { result ≡ REFUSED → inputs.new ≡ inputs.old }

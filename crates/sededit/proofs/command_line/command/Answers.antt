@@ -1,7 +1,11 @@
-use Rattle.std.proofs.Common.{ap, ap₂, ◌≡◌, ◌∙◌, codes}
-use Rattle.clap.specs.Words.{app_of, new_app, with_rule}
-use Rattle.sededit.specs.CommandLine.{sed_command, without_name}
+use Rattle.std.proofs.Common.{ap, ap₂, ◌≡◌, ◌∙◌, codes, true}
+use Rattle.clap.specs.Words.{App, app_of, new_app, with_rule}
+use Rattle.sededit.specs.CommandLine.{sed_command}
 use Rattle.sededit.proofs.command_line.command.Goals as goal
+
+-- a command's words begin after its name
+abbrev without_name : App → App
+without_name a = record a { top = record a.top { no_binary_name = true } }
 
 pub returns-clause-shape : goal.returns-clause-shape
 unfolding sed_command

@@ -14,21 +14,23 @@ returns-clause-means g c = λ runs.
     record { kept = rw c.operands_of-operands.ensures (c.in-Ok-read_script.ensures.inputs.same_ahead names); same_texts = c.in_default-name_files.ensures; same_sinks = c.create_files.ensures.contents } in (
       c.in-Ok-read_script.script,
       rw (← c.nodes.ensures.value) c.in-Ok-read_script.ensures.gives,
-      c.run.ensures.names ∙ c.create_files.ensures.names (search rules),
-      means-from c.args.limits c.in-Ok-read_script.script _ _ _ _ _ _ _ _ _ _ _ _ _ _ _ _ _ ready c.in-Ok-read_script.ensures.inputs.refused c.in-Ok-read_script.ensures.inputs.failed c.create_files.ensures.failed _ (c.run.ensures.means runs),
+      (
+        c.run.ensures.names ∙ c.create_files.ensures.names (search rules),
+        means-from c.args.limits c.in-Ok-read_script.script _ _ _ _ _ _ _ _ _ _ _ _ _ _ _ _ _ ready c.in-Ok-read_script.ensures.inputs.refused c.in-Ok-read_script.ensures.inputs.failed c.create_files.ensures.failed _ (c.run.ensures.means runs),
+      ),
     )
 
 pub returns-in-Err-name_files-clause-created : goal.returns-in-Err-name_files-clause-created
 returns-in-Err-name_files-clause-created g c is =
     let all = c.create_files.ensures.names (search rules) in
-    inr (c.in-Ok-read_script.script, rw (← c.nodes.ensures.value) c.in-Ok-read_script.ensures.gives, all_first _ _ _ all, tt)
+    inr (c.in-Ok-read_script.script, rw (← c.nodes.ensures.value) c.in-Ok-read_script.ensures.gives, all_first _ _ _ all)
 
 pub returns-clause-created : goal.returns-clause-created
 returns-clause-created g c is =
     let all = c.run.ensures.names ∙ c.create_files.ensures.names (search rules) in
-    inr (c.in-Ok-read_script.script, rw (← c.nodes.ensures.value) c.in-Ok-read_script.ensures.gives, all_first _ _ _ all, tt)
+    inr (c.in-Ok-read_script.script, rw (← c.nodes.ensures.value) c.in-Ok-read_script.ensures.gives, all_first _ _ _ all)
 
 pub returns-in-Some-clause-created : goal.returns-in-Some-clause-created
 returns-in-Some-clause-created g c is =
     let up_to = c.in-Some.ensures.refused in
-    inr (c.in-Ok-read_script.script, rw (← c.nodes.ensures.value) c.in-Ok-read_script.ensures.gives, (up_to.0, up_to.2), tt)
+    inr (c.in-Ok-read_script.script, rw (← c.nodes.ensures.value) c.in-Ok-read_script.ensures.gives, (up_to.0, up_to.2))
