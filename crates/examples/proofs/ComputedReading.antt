@@ -6,8 +6,8 @@ use Rattle.std.proofs.lemmas.Bool.Decides.{leb_tells}
 use Rattle.sedre.specs.declared.types.Kind.{Kind}
 use Rattle.sedre.specs.declared.types.Reason.{Reason}
 use Rattle.sedre.specs.declared.types.Reason.TheVariants.{StrayClose, OpenGroup, TooDeep, TooManyNodes}
-use Rattle.sedre.specs.declared.syntax.Here.{Here}
-use Rattle.sedre.specs.declared.syntax.Here.TheVariants.{Is, Ends, Bad}
+use Rattle.sedre.specs.declared.syntax.NextItem.{NextItem}
+use Rattle.sedre.specs.declared.syntax.NextItem.TheVariants.{Is, Ends, Bad}
 use Rattle.sedre.specs.declared.syntax.Item.{Item}
 use Rattle.sedre.specs.declared.syntax.Item.TheVariants.{Byte, Open, Close, Bar, Repeat, AtBegin, AtEnd}
 use Rattle.sedre.specs.Tree.{Tree, WrittenExpression, expression_tree}
@@ -47,7 +47,7 @@ taken at rest Close next [] = faulty at StrayClose
 taken at rest i next ls = rest i next
 
 -- what stands at a place
-abbrev pub met : (len max_nodes at : ℕ) → Nesting → (Item → ℕ → Outcome) → Here → Outcome
+abbrev pub met : (len max_nodes at : ℕ) → Nesting → (Item → ℕ → Outcome) → NextItem → Outcome
 met len max_nodes at s rest (Is i next) = taken at rest i next s.below
 met len max_nodes at s rest Ends = ended len max_nodes s s.below
 met len max_nodes at s rest (Bad f) = faulty f.place f.reason
@@ -105,7 +105,7 @@ module _ (kind : Kind) (folded : Bool) (delimiter : Option ℕ) (text : List ℕ
   taken_holds s rest AtBegin ls e r f on = on (reading_step kind folded delimiter text r f (λ c. absurd cc))
   taken_holds s rest AtEnd ls e r f on = on (reading_step kind folded delimiter text r f (λ c. absurd cc))
 
-  met_holds : {before : Option Item} {at : ℕ} (s : Nesting) (rest : Item → ℕ → Outcome) (h : Here) →
+  met_holds : {before : Option Item} {at : ℕ} (s : Nesting) (rest : Item → ℕ → Outcome) (h : NextItem) →
       Reading kind folded delimiter text before at s → item_at kind folded delimiter text before at ≡ h →
       ((i : Item) (next : ℕ) → Reading kind folded delimiter text (Some i) next (step i s) → Holds (rest i next)) →
       Holds (met (length text) max_nodes at s rest h)

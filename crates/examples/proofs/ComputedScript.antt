@@ -8,8 +8,8 @@ use Rattle.sedre.specs.Grammar.{ReadsAs}
 use Rattle.examples.proofs.ComputedReading.{Outcome, outcome, reads, faulty as bad_expression, unfinished, Holds, outcome_holds, written, tree_of_written, nodes_of_written, fault_either_way, no_fault_within}
 use Rattle.sedscript.specs.declared.types.ScriptFault.{ScriptFault}
 use Rattle.sedscript.specs.declared.items.Item.{Item}
-use Rattle.sedscript.specs.declared.items.Here.{Here}
-use Rattle.sedscript.specs.declared.items.Here.TheVariants.{Is, Ends}
+use Rattle.sedscript.specs.declared.items.ItemOrEnd.{ItemOrEnd}
+use Rattle.sedscript.specs.declared.items.ItemOrEnd.TheVariants.{Is, Ends}
 use Rattle.sedscript.specs.declared.types.FileUse.TheVariants.{Read, Write}
 use Rattle.sedscript.specs.declared.bytes.Sort.TheVariants.{Separator}
 use Rattle.sedscript.specs.Bytes.{bytes_between, past}
@@ -45,7 +45,7 @@ pub data Cutting : Type 0 where
   endless : Cutting
 
 -- what stands at a place, where the separators before it end at this byte or at the end of the text
-abbrev pub met : (Item → List WrittenExpression → ℕ → Cutting) → List Item → List WrittenExpression → ℕ → Found Here → Option ℕ → Cutting
+abbrev pub met : (Item → List WrittenExpression → ℕ → Cutting) → List Item → List WrittenExpression → ℕ → Found ItemOrEnd → Option ℕ → Cutting
 met rest is es at here None = cut_to is es at
 met rest is es at (found fs (Is i next)) (Some b) = rest i fs next
 met rest is es at (found fs Ends) (Some b) = endless
@@ -149,7 +149,7 @@ module _ (text : List ℕ) (kind : Kind) (max_nodes : ℕ) where
   CutsTo (stopped f) = Faulty text kind max_nodes f
   CutsTo endless = Unit {0}
 
-  met_cuts : (rest : Item → List WrittenExpression → ℕ → Cutting) (is : List Item) (es : List WrittenExpression) (at : ℕ) (here : Found Here)
+  met_cuts : (rest : Item → List WrittenExpression → ℕ → Cutting) (is : List Item) (es : List WrittenExpression) (at : ℕ) (here : Found ItemOrEnd)
       (byte : Option ℕ) → CutScript text kind max_nodes 0 0 is es at → Says (item_at text (length es) at) here →
       slice_get text (past Separator text at) ≡ byte →
       ((i : Item) (fs : List WrittenExpression) (next : ℕ) → CutScript text kind max_nodes 0 0 (is ++ i ∷ []) (es ++ fs) next →

@@ -10,8 +10,8 @@ use Rattle.sedscript.specs.declared.types.Action.TheVariants.{Block}
 use Rattle.sedscript.specs.declared.types.Command.{Command}
 use Rattle.sedscript.specs.declared.types.FileUse.TheVariants.{Read, Write}
 use Rattle.sedscript.specs.declared.items.Function.TheVariants.{Close}
-use Rattle.sedscript.specs.declared.items.Here.{Here}
-use Rattle.sedscript.specs.declared.items.Here.TheVariants.{Is}
+use Rattle.sedscript.specs.declared.items.ItemOrEnd.{ItemOrEnd}
+use Rattle.sedscript.specs.declared.items.ItemOrEnd.TheVariants.{Is}
 use Rattle.sedscript.specs.declared.items.Item.{Item}
 use Rattle.sedscript.specs.Items.{Headed, address_at, addresses_at, addresses_of, with_bang, function_at, item_at, Reading, plainly}
 use Rattle.sedscript.specs.Bytes.{past}
@@ -91,7 +91,7 @@ blank_at_end text at after = rw (drop_all at text after) (omega arith)
 module _ (kind : Kind) (most : ℕ) where
   gives_closing : (text : List ℕ) (at : ℕ) → slice_get text at ≡ Some 125 → past Blank text (at + 1) ≡ at + 1 → may_end (slice_get text (at + 1)) ≡ true →
       Gives text kind most (item_at text 0 at) [] (Is (closing at) (at + 1))
-  gives_closing text at there blank end = subst (λ (r : Reading Here). Gives text kind most r [] (Is (closing at) (at + 1))) (sym (closes_at text at there blank end)) value
+  gives_closing text at there blank end = subst (λ (r : Reading ItemOrEnd). Gives text kind most r [] (Is (closing at) (at + 1))) (sym (closes_at text at there blank end)) value
 
   cut_closings : (text : List ℕ) (n at to : ℕ) → at + n ≡ to → length text ≡ to → ((k : ℕ) → at ≤ k → k < to → slice_get text k ≡ Some 125) →
       CutScript text kind most 0 at (closings at n) [] to

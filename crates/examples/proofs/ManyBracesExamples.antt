@@ -10,8 +10,8 @@ use Rattle.sedscript.specs.declared.bytes.Sort.{Sort}
 use Rattle.sedscript.specs.declared.bytes.Sort.TheVariants.{Separator, Blank}
 use Rattle.sedscript.specs.declared.types.Reason.TheVariants.{OpenBlock}
 use Rattle.sedscript.specs.declared.items.Item.{Item}
-use Rattle.sedscript.specs.declared.items.Here.{Here}
-use Rattle.sedscript.specs.declared.items.Here.TheVariants.{Is}
+use Rattle.sedscript.specs.declared.items.ItemOrEnd.{ItemOrEnd}
+use Rattle.sedscript.specs.declared.items.ItemOrEnd.TheVariants.{Is}
 use Rattle.sedscript.specs.declared.items.Function.TheVariants.{Open}
 use Rattle.sedscript.specs.Items.{Headed, address_at, addresses_at, addresses_of, with_bang, function_at, item_at, Reading, plainly}
 use Rattle.sedscript.specs.Bytes.{belongs, past}
@@ -75,7 +75,7 @@ opens_at text at there =
 
 module _ (kind : Kind) (most : ℕ) where
   pub gives_opening : (text : List ℕ) (at : ℕ) → slice_get text at ≡ Some 123 → Gives text kind most (item_at text 0 at) [] (Is (opening at) (at + 1))
-  gives_opening text at there = subst (λ (r : Reading Here). Gives text kind most r [] (Is (opening at) (at + 1))) (sym (opens_at text at there)) value
+  gives_opening text at there = subst (λ (r : Reading ItemOrEnd). Gives text kind most r [] (Is (opening at) (at + 1))) (sym (opens_at text at there)) value
 
   -- the text from a place on is cut into opening braces
   cut_at : (text : List ℕ) (n at to : ℕ) → at + n ≡ to → ((k : ℕ) → k < to → slice_get text k ≡ Some 123) → CutScript text kind most 0 at (openings at n) [] to

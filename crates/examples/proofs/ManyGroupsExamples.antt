@@ -8,7 +8,7 @@ use Rattle.sedre.specs.declared.types.Reason.TheVariants.{OpenGroup}
 use Rattle.sedre.specs.declared.syntax.Item.{Item}
 use Rattle.sedre.specs.declared.syntax.Item.TheVariants.{Open}
 use Rattle.sedre.specs.declared.syntax.Symbol.TheVariants.{Opening}
-use Rattle.sedre.specs.declared.syntax.Here.TheVariants.{Is, Ends}
+use Rattle.sedre.specs.declared.syntax.NextItem.TheVariants.{Is, Ends}
 use Rattle.sedre.specs.Grammar.{CutExpression, done, item, open_groups, unclosed, ExprFaulty}
 use Rattle.sedre.specs.Items.{item_at, symbol}
 

@@ -7,7 +7,7 @@ use Rattle.sedscript.specs.declared.types.Reason.TheVariants.{MissingText}
 use Rattle.sedscript.specs.declared.bytes.Sort.TheVariants.{Blank}
 use Rattle.sedscript.specs.declared.items.Function.{Function}
 use Rattle.sedscript.specs.declared.types.TextUse.{TextUse}
-use Rattle.sedscript.specs.declared.letters.Shape.TheVariants.{TakesText}
+use Rattle.sedscript.specs.declared.letters.Arguments.TheVariants.{TakesText}
 use Rattle.sedscript.specs.declared.texts.Inside.TheVariants.{InLine, Escape, Due}
 use Rattle.sedscript.specs.Bytes.{past, is_byte}
 use Rattle.sedscript.specs.Functions.{fault, text_end, text_from, text_of}

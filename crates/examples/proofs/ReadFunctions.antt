@@ -21,12 +21,12 @@ use Rattle.sedscript.specs.declared.items.Function.{Function}
 use Rattle.sedscript.specs.declared.items.Function.TheVariants.{Plain, Open, Close, Label, Branch, Substitute, Transliterate}
 use Rattle.sedscript.specs.declared.items.Addresses.{Addresses}
 use Rattle.sedscript.specs.declared.items.Item.{Item}
-use Rattle.sedscript.specs.declared.items.Here.{Here}
-use Rattle.sedscript.specs.declared.items.Here.TheVariants.{Is, Ends}
+use Rattle.sedscript.specs.declared.items.ItemOrEnd.{ItemOrEnd}
+use Rattle.sedscript.specs.declared.items.ItemOrEnd.TheVariants.{Is, Ends}
 use Rattle.sedscript.specs.declared.letters.Verb.{Verb}
 use Rattle.sedscript.specs.declared.letters.Verb.TheVariants.{ReadsExpression, Reads}
-use Rattle.sedscript.specs.declared.letters.Shape.{Shape}
-use Rattle.sedscript.specs.declared.letters.Shape.TheVariants.{Alone, OpensBlock, ClosesBlock, Remark, NamesLabel, GoesTo, TakesText, NamesFile, TakesStrings}
+use Rattle.sedscript.specs.declared.letters.Arguments.{Arguments}
+use Rattle.sedscript.specs.declared.letters.Arguments.TheVariants.{Alone, OpensBlock, ClosesBlock, Remark, NamesLabel, GoesTo, TakesText, NamesFile, TakesStrings}
 use Rattle.sedscript.specs.Bytes.{past, bytes_between, is_digit, is_byte}
 use Rattle.sedscript.specs.Strings.{string_end, exceeds, replacement_fault, is_letter, chars_of, repeated_in, string_fault, strings_fault}
 use Rattle.sedscript.specs.Items.{Reading, plainly, expression, ◌>>=◌, Addressed, line_of, folds_at, match_at, own_match, address_of, address_at, with_second, second_at, after_first, addresses_at, with_bang, substitute_with, substitute_at, function_of, function_with, function_at, item_from, item_at}
@@ -354,7 +354,7 @@ module _ (kind : Kind) (max_nodes : ℕ) (text : List ℕ) where
   letter_of_strings : (letter : ℕ) → verb_of letter ≡ Some (Reads TakesStrings) → letter ≡ 121
   letter_of_strings letter e = grind (arith, nat_tests)
 
-  function_walk : (shape : Shape) (at letter : ℕ) → slice_get text at ≡ Some letter → verb_of letter ≡ Some (Reads shape) → Walk SoundFound (function_of text shape at)
+  function_walk : (shape : Arguments) (at letter : ℕ) → slice_get text at ≡ Some letter → verb_of letter ≡ Some (Reads shape) → Walk SoundFound (function_of text shape at)
   function_walk OpensBlock at letter there is = tt
   function_walk ClosesBlock at letter there is = ended_walk Close (at + 1) tt
   function_walk Remark at letter there is = tt
@@ -392,7 +392,7 @@ module _ (kind : Kind) (max_nodes : ℕ) (text : List ℕ) where
 
   -- ---- items
 
-  abbrev SoundHere : Here → Type 0
+  abbrev SoundHere : ItemOrEnd → Type 0
   SoundHere (Is i next) = Sound i.function
   SoundHere Ends = Unit {0}
 

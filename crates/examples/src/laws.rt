@@ -13,7 +13,7 @@ ghost use Rattle.sedscript.specs.declared.items.Flags.{Flags};
 ghost use Rattle.sedscript.specs.declared.items.Strings.{Strings};
 ghost use Rattle.sedscript.specs.declared.items.Function.TheVariants.{Open, Close, Substitute, Transliterate};
 ghost use Rattle.sedscript.specs.declared.types.TextUse.{TextUse};
-ghost use Rattle.sedscript.specs.declared.letters.Shape.TheVariants.{TakesText};
+ghost use Rattle.sedscript.specs.declared.letters.Arguments.TheVariants.{TakesText};
 ghost use Rattle.sedscript.specs.declared.transliteration.Char.{Char};
 ghost use Rattle.sedscript.specs.declared.items.Item.{Item};
 ghost use Rattle.sedscript.specs.Bytes.{past, bytes_between};

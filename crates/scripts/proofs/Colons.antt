@@ -11,14 +11,14 @@ use Rattle.sedscript.specs.declared.types.FileUse.{FileUse}
 use Rattle.sedscript.specs.declared.types.TextUse.{TextUse}
 use Rattle.sedscript.specs.declared.items.Strings.{Strings}
 use Rattle.sedscript.specs.declared.items.Item.{Item}
-use Rattle.sedscript.specs.declared.items.Here.{Here}
-use Rattle.sedscript.specs.declared.items.Here.TheVariants.{Is, Ends}
+use Rattle.sedscript.specs.declared.items.ItemOrEnd.{ItemOrEnd}
+use Rattle.sedscript.specs.declared.items.ItemOrEnd.TheVariants.{Is, Ends}
 use Rattle.sedscript.specs.declared.items.Function.{Function}
 use Rattle.sedscript.specs.declared.items.Function.TheVariants.{Plain, Close, Label, Branch, Substitute, Transliterate}
 use Rattle.sedscript.specs.declared.letters.Verb.{Verb}
 use Rattle.sedscript.specs.declared.letters.Verb.TheVariants.{ReadsExpression, Reads}
-use Rattle.sedscript.specs.declared.letters.Shape.{Shape}
-use Rattle.sedscript.specs.declared.letters.Shape.TheVariants.{Alone, OpensBlock, ClosesBlock, Remark, NamesLabel, GoesTo, TakesText, NamesFile, TakesStrings}
+use Rattle.sedscript.specs.declared.letters.Arguments.{Arguments}
+use Rattle.sedscript.specs.declared.letters.Arguments.TheVariants.{Alone, OpensBlock, ClosesBlock, Remark, NamesLabel, GoesTo, TakesText, NamesFile, TakesStrings}
 use Rattle.sedscript.specs.Functions.{verb_of, most_addresses, allowed, ended, may_end, text_of, text_from, file_of, name_from, ◌>>=◌ as ◌then◌}
 use Rattle.sedscript.specs.Bytes.{past, bytes_between}
 use Rattle.sedscript.specs.Strings.{replacement_fault, is_among, strings_fault}
@@ -112,11 +112,11 @@ substitute_none text count at =
     (λ s h. readings_if NoneRead (s.middle == s.from) _ _ (substituted_none text s None None) (λ groups. substituted_none text s (Some count) (Some groups)))
 
 -- the function of a letter of this shape
-abbrev ByShape : Shape → Function × ℕ → Type 0
+abbrev ByShape : Arguments → Function × ℕ → Type 0
 ByShape NamesLabel x = Unit {0}
 ByShape other x = NoneRead x
 
-function_none : (text : List ℕ) (shape : Shape) (at : ℕ) → Read (ByShape shape) (function_of text shape at)
+function_none : (text : List ℕ) (shape : Arguments) (at : ℕ) → Read (ByShape shape) (function_of text shape at)
 function_none text OpensBlock at = tt
 function_none text ClosesBlock at = ended_none text Close (at + 1) tt
 function_none text Remark at = tt
@@ -144,7 +144,7 @@ abbrev ColonAt : List ℕ → ℕ → Function → Type 0
 ColonAt text place (Label from to) = slice_get text place ≡ Some 58
 ColonAt text place other = Unit {0}
 
-abbrev ColonHere : List ℕ → Here → Type 0
+abbrev ColonHere : List ℕ → ItemOrEnd → Type 0
 ColonHere text (Is i next) = ColonAt text i.place i.function
 ColonHere text Ends = Unit {0}
 

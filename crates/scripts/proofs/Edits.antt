@@ -9,7 +9,7 @@ use Rattle.sedscript.specs.declared.substitution.Substitution.{Substitution}
 use Rattle.sedengine.specs.State.{State, Move, Setting}
 use Rattle.sedengine.specs.Substitute.{Occurrence, replaced_from}
 use Rattle.sedengine.specs.Select.{Selection, selects, stands_for}
-use Rattle.sedengine.specs.Move.{acts, in_table, none_left, tells_at, next_move, passes, performs, reach, replaces, substitutes, to_replace_in, writing}
+use Rattle.sedengine.specs.Move.{acts, in_table, none_left, writes_text_at, next_move, passes, performs, reach, replaces, substitutes, to_replace_in, writing}
 use Rattle.scripts.proofs.Cycles.{Goes, goes_one, between, within, deleted}
 
 -- what a command does to the line: a block that ends before a command, `d`, or another text
@@ -148,7 +148,7 @@ module _ (g : Setting) (ls : List (List ℕ)) (n : ℕ) (h : List ℕ) (k : ℕ)
 
   performs_so : (c : Command) (edit : Edit) (w : List ℕ) (r : Bool) (ra : List Bool) (u : Option ℕ) (tu : ℕ) (yes end active : Bool) (v : Option ℕ) → Makes g c.action edit →
       Does n ls (slice_set ra k active) (effect yes edit k w) (performs g (at_it w r ra u tu) k c (record { yes = yes; end = end; active = active; used = v }))
-  performs_so c edit w r ra u tu true end active v is = acts_so (slice_set ra k active) (tu + 1) (tells_at c end) c.action edit w r v is
+  performs_so c edit w r ra u tu true end active v is = acts_so (slice_set ra k active) (tu + 1) (writes_text_at c end) c.action edit w r v is
   performs_so c edit w r ra u tu false end active v is = passes_so (slice_set ra k active) (tu + 1) c.action edit w r v is
 
   reach_so : (c : Command) (edit : Edit) (w : List ℕ) (r : Bool) (ra : List Bool) (u : Option ℕ) (tu : ℕ) (choice : Bool × Bool) → Chosen g c (slice_index_or ra k false) n (none_left ls) w u choice → Makes g c.action edit →

@@ -8,7 +8,7 @@ use Rattle.sedre.specs.Tree.{WrittenExpression}
 use Rattle.sedengine.proofs.Writing.{slice_get-append_add}
 use Rattle.sedscript.specs.declared.bytes.Sort.TheVariants.{Separator}
 use Rattle.sedscript.specs.declared.items.Item.{Item}
-use Rattle.sedscript.specs.declared.items.Here.TheVariants.{Is}
+use Rattle.sedscript.specs.declared.items.ItemOrEnd.TheVariants.{Is}
 use Rattle.sedscript.specs.Bytes.{past, belongs}
 use Rattle.sedscript.specs.Items.{item_at, item_from}
 use Rattle.sedscript.specs.Script.{Gives, CutScript, done, item, IsEnd}

@@ -11,8 +11,8 @@ use Rattle.sedscript.specs.declared.types.BranchUse.{BranchUse}
 use Rattle.sedscript.specs.declared.items.Strings.{Strings}
 use Rattle.sedscript.specs.declared.items.Function.{Function}
 use Rattle.sedscript.specs.declared.items.Function.TheVariants.{Plain, Open, Close, Label, Branch, Text, File, Comment, Substitute, Transliterate}
-use Rattle.sedscript.specs.declared.letters.Shape.{Shape}
-use Rattle.sedscript.specs.declared.letters.Shape.TheVariants.{Alone, OpensBlock, ClosesBlock, Remark, NamesLabel, GoesTo, TakesText, NamesFile, TakesStrings}
+use Rattle.sedscript.specs.declared.letters.Arguments.{Arguments}
+use Rattle.sedscript.specs.declared.letters.Arguments.TheVariants.{Alone, OpensBlock, ClosesBlock, Remark, NamesLabel, GoesTo, TakesText, NamesFile, TakesStrings}
 use Rattle.sedscript.specs.Bytes.{past, bytes_between}
 use Rattle.sedscript.specs.Strings.{string_end, replacement_fault}
 use Rattle.sedscript.specs.Functions.{fault, or_fault, ended, may_end, text_of, text_from, label_of, branch_of, file_of, name_from, ◌>>=◌ as ◌then◌}
@@ -197,7 +197,7 @@ module _ (before text : List ℕ) (more : Option (List ℕ)) (count : ℕ) where
 
   -- ---- the others
 
-  pub function_on : (shape : Shape) (at place : ℕ) → at < end → place ≡ base + at → Moved (function_of text shape at) (function_of whole shape place)
+  pub function_on : (shape : Arguments) (at place : ℕ) → at < end → place ≡ base + at → Moved (function_of text shape at) (function_of whole shape place)
   function_on OpensBlock at place low e = let one : place + 1 ≡ base + (at + 1) = omega (arith, e) in (ap (λ n. Ok (Open, n)) one, (tt, omega (arith, low)))
   function_on ClosesBlock at place low e = ended_on Close (at + 1) (place + 1) (omega (arith, low)) (omega (arith, e)) tt
   function_on Remark at place low e =

@@ -15,8 +15,8 @@ use Rattle.sedscript.specs.declared.items.Flags.{Flags}
 use Rattle.sedscript.specs.declared.items.Strings.{Strings}
 use Rattle.sedscript.specs.declared.items.Addresses.{Addresses}
 use Rattle.sedscript.specs.declared.items.Item.{Item}
-use Rattle.sedscript.specs.declared.items.Here.{Here}
-use Rattle.sedscript.specs.declared.items.Here.TheVariants.{Is, Ends}
+use Rattle.sedscript.specs.declared.items.ItemOrEnd.{ItemOrEnd}
+use Rattle.sedscript.specs.declared.items.ItemOrEnd.TheVariants.{Is, Ends}
 use Rattle.sedscript.specs.declared.items.Function.{Function}
 use Rattle.sedscript.specs.declared.items.Function.TheVariants.{Substitute}
 use Rattle.sedscript.specs.declared.letters.Verb.{Verb}
@@ -44,11 +44,11 @@ move_addresses count a = record { first = move_address count a.first; second = m
 abbrev pub move_item : (base count : ℕ) → Item → Item
 move_item base count i = record { addresses = move_addresses count i.addresses; place = base + i.place; function = move_function base count i.function }
 
-abbrev pub move_here : (base count : ℕ) → Here → Here
+abbrev pub move_here : (base count : ℕ) → ItemOrEnd → ItemOrEnd
 move_here base count (Is i next) = Is (move_item base count i) (base + next)
 move_here base count Ends = Ends
 
-abbrev pub HereIn : ℕ → Here → Type 0
+abbrev pub HereIn : ℕ → ItemOrEnd → Type 0
 HereIn end (Is i next) = FunctionIn end i.function × (next ≤ end)
 HereIn end Ends = Unit {0}
 
@@ -354,7 +354,7 @@ module _ (before text : List ℕ) (more : Option (List ℕ)) (n : ℕ) (kind : K
       (sym (ap₂ (λ i j. i + j) (option_len_same n a.first) (option_len_same n a.second)))
       (same_if Any (λ (verb : Verb). verb) (a.negate && most_addresses verb == 0) _ _ _ _ tt (same_if Any (λ (verb : Verb). verb) (nat_lt (most_addresses verb) (option_len a.first + option_len a.second)) _ _ _ _ tt (refl, tt)))
 
-  abbrev HereStays : Reading Here → Reading Here → Type 0
+  abbrev HereStays : Reading ItemOrEnd → Reading ItemOrEnd → Type 0
   HereStays r z = Stays (HereIn end) (move_here base n) r z
 
   function_at_on : (count at : ℕ) (a : Addresses) → HereStays (function_at text count a at) (function_at whole (n + count) (move_addresses n a) (base + at))
@@ -378,7 +378,7 @@ module _ (before text : List ℕ) (more : Option (List ℕ)) (n : ℕ) (kind : K
     where
       by_byte : (o : Option ℕ) → slice_get text (past Separator text at) ≡ o → Gives text kind m (item_from text count (past Separator text at) o) es (Is i next) →
           Gives whole kind m (item_from whole (n + count) (past Separator whole (base + at)) (slice_get whole (past Separator whole (base + at)))) es (Is (move_item base n i) (base + next)) × FunctionIn end i.function × (next ≤ end)
-      by_byte None e g = let same : ◌≡◌ {A = Here} (Is i next) Ends = gives_value text kind m Ends (Is i next) es g in absurd cc
+      by_byte None e g = let same : ◌≡◌ {A = ItemOrEnd} (Is i next) Ends = gives_value text kind m Ends (Is i next) es g in absurd cc
       by_byte (Some b) e g =
           let begins : past Separator whole (base + at) ≡ base + past Separator text at = past_separators before text more at b le e in
           let high : past Separator text at ≤ end = past_high Separator text at le in

@@ -13,7 +13,7 @@ use Rattle.sedscript.specs.Items.{found, address_at, addresses_at, addresses_of,
 use Rattle.sedscript.specs.Bytes.{past, is_digit, is_blank, bytes_between, with_digit, belongs}
 use Rattle.sedscript.specs.declared.bytes.Sort.{Sort}
 use Rattle.sedscript.specs.declared.types.Address.{Address}
-use Rattle.sedscript.specs.declared.items.Here.TheVariants.{Is}
+use Rattle.sedscript.specs.declared.items.ItemOrEnd.TheVariants.{Is}
 use Rattle.sedscript.specs.declared.items.Item.{Item}
 use Rattle.sedscript.specs.declared.items.Function.TheVariants.{Plain}
 use Rattle.sedscript.specs.declared.types.Simple.{Simple}

@@ -11,8 +11,8 @@ use Rattle.sedscript.specs.declared.bytes.Sort.TheVariants.{Blank, Separator, Ba
 use Rattle.sedscript.specs.declared.types.Address.TheVariants.{Match}
 use Rattle.sedscript.specs.declared.types.Action.TheVariants as action
 use Rattle.sedscript.specs.declared.types.Simple.TheVariants as simple
-use Rattle.sedscript.specs.declared.items.Here.{Here}
-use Rattle.sedscript.specs.declared.items.Here.TheVariants.{Is}
+use Rattle.sedscript.specs.declared.items.ItemOrEnd.{ItemOrEnd}
+use Rattle.sedscript.specs.declared.items.ItemOrEnd.TheVariants.{Is}
 use Rattle.sedscript.specs.declared.items.Item.{Item}
 use Rattle.sedscript.specs.declared.items.Function.TheVariants.{Plain}
 use Rattle.sedscript.specs.declared.types.Simple.{Simple}
@@ -63,7 +63,7 @@ module _ (re : List ℕ) (e : Tree) (groups : ℕ) (is : IsSlashed re e groups) 
   not_empty : (slash == 1) ≡ false
   not_empty = let some = is.some in grind (arith, nat_tests)
 
-  abbrev matched : Reading Here
+  abbrev matched : Reading ItemOrEnd
   matched = after_first text 1 (slash + 1) (Some (Match (Some 0))) >>= function_after text
 
   slashed_address : address_at text 0 0 ≡ expression (pattern 1 slash) (λ groups. plainly (found (Some (Match (Some 0))) (slash + 1) 1))
@@ -109,7 +109,7 @@ module _ (text : List ℕ) (at count : ℕ) where
 abbrev pub with_expression : WrittenExpression → Program → Program
 with_expression e p = record p { expressions = e ∷ [] }
 
-pub gives_one : (text : List ℕ) (e : WrittenExpression) (p : Pattern) (i : Item) (to : ℕ) (k : ℕ → Reading Here) → IsRead text Basic 65536 p e → item_at text 0 0 ≡ expression p k → k e.groups ≡ plainly (Ok (Is i to)) →
+pub gives_one : (text : List ℕ) (e : WrittenExpression) (p : Pattern) (i : Item) (to : ℕ) (k : ℕ → Reading ItemOrEnd) → IsRead text Basic 65536 p e → item_at text 0 0 ≡ expression p k → k e.groups ≡ plainly (Ok (Is i to)) →
     Gives text Basic 65536 (item_at text 0 0) (e ∷ []) (Is i to)
 gives_one text e p i to k is same last =
     subst (λ r. Gives text Basic 65536 r (e ∷ []) (Is i to)) (sym same) (after_expression e is (subst (λ r. Gives text Basic 65536 r [] (Is i to)) (sym last) value))

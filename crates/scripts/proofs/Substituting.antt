@@ -9,7 +9,7 @@ use Rattle.sedre.specs.declared.types.Kind.TheVariants.{Basic}
 use Rattle.sedscript.specs.declared.bytes.Sort.TheVariants.{Separator, Blank}
 use Rattle.sedscript.specs.declared.types.Action.TheVariants as action
 use Rattle.sedscript.specs.declared.items.Flags.{Flags}
-use Rattle.sedscript.specs.declared.items.Here.{Here}
+use Rattle.sedscript.specs.declared.items.ItemOrEnd.{ItemOrEnd}
 use Rattle.sedscript.specs.declared.items.Item.{Item}
 use Rattle.sedscript.specs.declared.items.Strings.{Strings}
 use Rattle.sedscript.specs.declared.items.Function.{Function}
@@ -100,7 +100,7 @@ module _ (re : List ℕ) (e : Tree) (groups : ℕ) (is : IsSlashed re e groups) 
   unfolding substitute_at delimiter_at
   substitute_is = rw (is.ends 2 (put ++ 47 ∷ 103 ∷ []), text_ends, not_here, flags_are) refl
 
-  abbrev with_item : Reading (Function × ℕ) → Reading Here
+  abbrev with_item : Reading (Function × ℕ) → Reading ItemOrEnd
   with_item r = r >>= λ found. plainly (Ok (item_of (addresses_of None None) 0 found))
 
   item_is : item_at text 0 0 ≡ with_item (expression (pattern 2 middle) (λ groups. plainly (substituted text strings (Some 0) (Some groups))))

@@ -10,7 +10,7 @@ use Rattle.sedspace.specs.Stream.{Stream, left, lines_left}
 use Rattle.sedspace.specs.Lines.{TakesAtMost}
 use Rattle.sedengine.specs.State.{Limits, Entry, Task, do_at, State, Move, Setting}
 use Rattle.sedengine.specs.Select.{Selection, selects}
-use Rattle.sedengine.specs.Move.{next_move, reach, performs, acts, passes, writing, quietly, queueing, then_do, none_left, in_table, is_active, tells_at}
+use Rattle.sedengine.specs.Move.{next_move, reach, performs, acts, passes, writing, quietly, queueing, then_do, none_left, in_table, is_active, writes_text_at}
 use Rattle.sedengine.specs.Ends.{WithinLimits, reaches, reads, asks_last, is_next, names_last}
 use Rattle.sedengine.specs.Meters.{SinkView}
 use Rattle.sedengine.specs.Calls.{Puts}
@@ -162,9 +162,9 @@ module _ {R : Type 0} (remaining : R → Option (List ℕ)) (old new : Stream R)
   -- The addresses chose.
   module _ (choice : Chosen) (used : Option ℕ) (e1 e2 : RunState) (chose : selects (current_in e (none_left ls)) (is_active e.state k) c ≡ Some (as_selection choice used)) (came : e1 ≡ reached_with e k (slice_set e.state.ranges k choice.active) used) where
     moves_as : (b : Bool) → choice.yes ≡ b → next_move (run_setting e files) (at_lines e ls) ≡
-        cond b (acts (run_setting e files) (at_lines (reached_with e k (slice_set e.state.ranges k choice.active) used) ls) (tells_at c choice.end) c.action) (passes (at_lines (reached_with e k (slice_set e.state.ranges k choice.active) used) ls) c.action)
+        cond b (acts (run_setting e files) (at_lines (reached_with e k (slice_set e.state.ranges k choice.active) used) ls) (writes_text_at c choice.end) c.action) (passes (at_lines (reached_with e k (slice_set e.state.ranges k choice.active) used) ls) c.action)
     moves_as b chosen = reach_as (Some (as_selection choice used)) chose ∙
-        ap (λ b. cond b (acts (run_setting e files) (at_lines (reached_with e k (slice_set e.state.ranges k choice.active) used) ls) (tells_at c choice.end) c.action) (passes (at_lines (reached_with e k (slice_set e.state.ranges k choice.active) used) ls) c.action)) chosen
+        ap (λ b. cond b (acts (run_setting e files) (at_lines (reached_with e k (slice_set e.state.ranges k choice.active) used) ls) (writes_text_at c choice.end) c.action) (passes (at_lines (reached_with e k (slice_set e.state.ranges k choice.active) used) ls) c.action)) chosen
 
     acted : (sinks sinks' : SinkView) (r : Result Unit Ended) → Moves e.limits (run_setting e files) (at_lines e ls) (at_lines e2 ls) sinks sinks' r → Steps remaining old new ls e.limits (run_setting e files) e e2 sinks sinks' r
     acted sinks sinks' (Ok u) h = (ls, taken, h)
@@ -182,10 +182,10 @@ module _ {R : Type 0} (remaining : R → Option (List ℕ)) (old new : Stream R)
     }
 
     -- the command applies; `to` is where the lines then stand
-    pub reach_acting : (to : Stream R) (sinks sinks' : SinkView) (r : Result Unit Ended) (tells : Bool) → choice.yes ≡ true → tells ≡ tells_at c choice.end →
-        PerformsSteps remaining new to ls e1.limits (run_setting e1 files) (acts (run_setting e1 files) (at_lines e1 ls) tells c.action) (is_next c.action) (at_lines e1 ls) e2 sinks sinks' r → Steps remaining old to ls e.limits (run_setting e files) e e2 sinks sinks' r
-    reach_acting to sinks sinks' r tells chosen tells_is h =
-        let Q : RunState → Type 0 = λ e1. PerformsSteps remaining new to ls e1.limits (run_setting e1 files) (acts (run_setting e1 files) (at_lines e1 ls) tells c.action) (is_next c.action) (at_lines e1 ls) e2 sinks sinks' r in
+    pub reach_acting : (to : Stream R) (sinks sinks' : SinkView) (r : Result Unit Ended) (writes_text : Bool) → choice.yes ≡ true → writes_text ≡ writes_text_at c choice.end →
+        PerformsSteps remaining new to ls e1.limits (run_setting e1 files) (acts (run_setting e1 files) (at_lines e1 ls) writes_text c.action) (is_next c.action) (at_lines e1 ls) e2 sinks sinks' r → Steps remaining old to ls e.limits (run_setting e files) e e2 sinks sinks' r
+    reach_acting to sinks sinks' r writes_text chosen tells_is h =
+        let Q : RunState → Type 0 = λ e1. PerformsSteps remaining new to ls e1.limits (run_setting e1 files) (acts (run_setting e1 files) (at_lines e1 ls) writes_text c.action) (is_next c.action) (at_lines e1 ls) e2 sinks sinks' r in
         let now : State = at_lines (reached_with e k (slice_set e.state.ranges k choice.active) used) ls in
         let S : Bool → Type 0 = λ b. PerformsSteps remaining new to ls e.limits (run_setting e files) (acts (run_setting e files) now b c.action) (is_next c.action) now e2 sinks sinks' r in
         let there = subst S tells_is (subst Q came h) in

@@ -17,7 +17,7 @@ use Rattle.sedengine.specs.Run.{RunState, at_lines, run_setting}
 use Rattle.sedengine.specs.Steps.{Moves, MakesMove}
 use Rattle.sedengine.specs.Inside.{run_of, tasks_of, IsConsistent}
 use Rattle.sedengine.specs.declared.machine.Machine.TheInside.{Inside}
-use Rattle.sedengine.specs.declared.place.Place.{Place}
+use Rattle.sedengine.specs.declared.next_step.NextStep.{NextStep}
 use Rattle.sedengine.specs.declared.ends.Ended.{Ended}
 use Rattle.sedengine.proofs.Moves.{moves_fits}
 use Rattle.sedengine.proofs.Tasks.{fits_of}
@@ -39,13 +39,13 @@ newline_absent [] h = refl
 newline_absent (b ∷ bs) h = rw (h 0 0 (omega arith)) (newline_absent bs (λ k d lt. h (suc k) d (omega arith)))
 
 -- A command that leaves c1 in the pattern space and writes these bytes, and what the call that ends the cycle says of it.
-pub deletes : (a : Inside) (e e2 : RunState) (files : ℕ → List ℕ) (ls : List (List ℕ)) (o : Option Move) (place : Place) (c1 : Contents) (old mid new : SinkView) (out : List (ℕ × ℕ)) (r : Result Unit Ended) → run_of a ≡ e →
-    o ≡ writing out (then_do (flush ∷ tasks_of place) (at_lines (with_pattern e c1.bytes) ls)) → Sent old mid out →
-    Moves a.limits (run_setting (run_of a) files) (then_do (flush ∷ tasks_of place) (at_lines (run_of (record a { pattern = c1 })) ls)) (at_lines e2 ls) mid new r →
+pub deletes : (a : Inside) (e e2 : RunState) (files : ℕ → List ℕ) (ls : List (List ℕ)) (o : Option Move) (next_step : NextStep) (c1 : Contents) (old mid new : SinkView) (out : List (ℕ × ℕ)) (r : Result Unit Ended) → run_of a ≡ e →
+    o ≡ writing out (then_do (flush ∷ tasks_of next_step) (at_lines (with_pattern e c1.bytes) ls)) → Sent old mid out →
+    Moves a.limits (run_setting (run_of a) files) (then_do (flush ∷ tasks_of next_step) (at_lines (run_of (record a { pattern = c1 })) ls)) (at_lines e2 ls) mid new r →
     MakesMove e.limits (run_setting e files) o (at_lines e ls) (at_lines e2 ls) old new r
-deletes a e e2 files ls o place c1 old mid new out r seen is gained h =
-    let Q : RunState → Type 0 = λ e. o ≡ writing out (then_do (flush ∷ tasks_of place) (at_lines (with_pattern e c1.bytes) ls)) → MakesMove e.limits (run_setting e files) o (at_lines e ls) (at_lines e2 ls) old new r in
-    let m : State = then_do (flush ∷ tasks_of place) (at_lines (run_of (record a { pattern = c1 })) ls) in
+deletes a e e2 files ls o next_step c1 old mid new out r seen is gained h =
+    let Q : RunState → Type 0 = λ e. o ≡ writing out (then_do (flush ∷ tasks_of next_step) (at_lines (with_pattern e c1.bytes) ls)) → MakesMove e.limits (run_setting e files) o (at_lines e ls) (at_lines e2 ls) old new r in
+    let m : State = then_do (flush ∷ tasks_of next_step) (at_lines (run_of (record a { pattern = c1 })) ls) in
     subst Q seen (λ is. acts_then a.limits (run_setting (run_of a) files) o (at_lines (run_of a) ls) m (at_lines e2 ls) old mid new out r is (moves_fits a.limits (run_setting (run_of a) files) m (at_lines e2 ls) mid new r h) gained refl h) is
 
 -- The text of `c` can't be written.
@@ -61,9 +61,9 @@ change_stops a e files ls o c1 old new out end seen i none is put =
     subst Q seen (λ is. acts_stopping a.limits (run_setting (run_of a) files) o (at_lines (run_of a) ls) m (at_lines (run_of (record a { pattern = c1 })) ls) old new out end is fm (record { pattern = refl; hold = refl; queue = λ _. refl; entries = omega arith }) refl put) is
 
 -- What the commands do, by what is left in the pattern space.
-pub change_is : (e : RunState) (files : ℕ → List ℕ) (ls : List (List ℕ)) (text : ℕ) (tells b : Bool) (c1 : Contents) → c1.bytes ≡ [] → tells ≡ b →
-    acts (run_setting e files) (at_lines e ls) tells (Text Change text) ≡ writing (cond b (line_to 0 (unwrap_or (slice_get e.script.texts text) [])) []) (then_do (flush ∷ begin ∷ []) (at_lines (with_pattern e c1.bytes) ls))
-change_is e files ls text tells b c1 none is = rw (none, is) refl
+pub change_is : (e : RunState) (files : ℕ → List ℕ) (ls : List (List ℕ)) (text : ℕ) (writes_text b : Bool) (c1 : Contents) → c1.bytes ≡ [] → writes_text ≡ b →
+    acts (run_setting e files) (at_lines e ls) writes_text (Text Change text) ≡ writing (cond b (line_to 0 (unwrap_or (slice_get e.script.texts text) [])) []) (then_do (flush ∷ begin ∷ []) (at_lines (with_pattern e c1.bytes) ls))
+change_is e files ls text writes_text b c1 none is = rw (none, is) refl
 
 pub delete_is : (e : RunState) (files : ℕ → List ℕ) (ls : List (List ℕ)) (c1 : Contents) → c1.bytes ≡ [] →
     acts (run_setting e files) (at_lines e ls) true (Plain Delete) ≡ quietly (then_do (flush ∷ begin ∷ []) (at_lines (with_pattern e c1.bytes) ls))

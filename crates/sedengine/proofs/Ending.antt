@@ -16,8 +16,8 @@ use Rattle.sedengine.specs.Flushing.{FlushesQueue}
 use Rattle.sedengine.specs.Queueing.{flushed, with_turns}
 use Rattle.sedengine.specs.Inside.{run_of, tasks_of, entries_of, IsConsistent, CommandQueues}
 use Rattle.sedengine.specs.declared.machine.Machine.TheInside.{Inside}
-use Rattle.sedengine.specs.declared.place.Place.{Place}
-use Rattle.sedengine.specs.declared.place.Place.TheVariants as p
+use Rattle.sedengine.specs.declared.next_step.NextStep.{NextStep}
+use Rattle.sedengine.specs.declared.next_step.NextStep.TheVariants as p
 use Rattle.sedengine.specs.declared.ends.Ended.{Ended}
 use Rattle.sedengine.specs.declared.ends.Ended.TheVariants.{TurnsSpent}
 use Rattle.sedengine.proofs.Moves.{Moves-then, Stopped-as, move_at, moves_fits, moves_then, quietly_then, ran_fits_now, ran_quietly, stopped_here, stopped_writing}
@@ -164,7 +164,7 @@ queue_is_run a q k (Ok u) i h ok room err = let same = i.queue_limit in rw ok (r
 queue_is_run a q k (Err f) i h ok room err = rw err i
 
 -- the tasks that a place stands for weigh little
-place_costs : (place : Place) → costs (tasks_of place) ≤ 2
+place_costs : (next_step : NextStep) → costs (tasks_of next_step) ≤ 2
 place_costs p.Begin = omega arith
 place_costs p.Rebegin = omega arith
 place_costs (p.Do k) = omega arith
@@ -172,9 +172,9 @@ place_costs p.Quit = omega arith
 place_costs p.Ended = omega arith
 
 -- turns were taken, and the engine goes on at this place
-pub weight_ended : (e e' : RunState) (place : Place) → e'.limits ≡ e.limits → e.state.turns ≤ e'.state.turns → e'.state.tasks ≡ tasks_of place → weight e' ≤ weight e + 8
-weight_ended e e' place limits later tasks =
-    let few : costs e'.state.tasks ≤ 2 = rw tasks (place_costs place) in
+pub weight_ended : (e e' : RunState) (next_step : NextStep) → e'.limits ≡ e.limits → e.state.turns ≤ e'.state.turns → e'.state.tasks ≡ tasks_of next_step → weight e' ≤ weight e + 8
+weight_ended e e' next_step limits later tasks =
+    let few : costs e'.state.tasks ≤ 2 = rw tasks (place_costs next_step) in
     let same = ap (λ (l : Limits). l.turns) limits in
     omega arith
 

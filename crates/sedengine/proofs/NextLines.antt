@@ -15,7 +15,7 @@ use Rattle.sedengine.specs.Run.{RunState, at_lines, run_setting, starts_cycle, l
 use Rattle.sedengine.specs.Steps.{Moves, PerformsSteps, Ran, StepsFrom, TakesLines}
 use Rattle.sedengine.specs.Bringing.{Brings, brought}
 use Rattle.sedengine.specs.Choose.{TellsLine}
-use Rattle.sedengine.specs.declared.place.Place.TheVariants as p
+use Rattle.sedengine.specs.declared.next_step.NextStep.TheVariants as p
 use Rattle.sedengine.specs.declared.ends.Ended.{Ended}
 use Rattle.sedengine.specs.declared.ends.Ended.TheVariants.{PatternFull, InputBroken}
 use Rattle.sedengine.specs.Inside.{run_of, IsConsistent}
@@ -247,10 +247,10 @@ next_broken {R} remaining o n ls g first e sinks other taken told = absurd told
 
 -- `n` where no line is left
 pub next_stops : {R : Type 0} (remaining : R → Option (List ℕ)) (o n : Stream R) (ls : List (List ℕ)) (files : ℕ → List ℕ) (a : Inside) (e : RunState) (sinks : SinkView) (last : Bool) → run_of a ≡ e → IsConsistent a → TakesLines remaining o n ls ls → last ≡ none_left ls → last ≡ true →
-    PerformsSteps remaining o n ls e.limits (run_setting e files) (next_line (at_lines e ls)) true (at_lines e ls) (run_of (record a { place = p.Quit })) sinks sinks (Ok tt)
+    PerformsSteps remaining o n ls e.limits (run_setting e files) (next_line (at_lines e ls)) true (at_lines e ls) (run_of (record a { next_step = p.Quit })) sinks sinks (Ok tt)
 next_stops {R} remaining o n ls files a e sinks last seen i taken told is =
-    let Q : RunState → Type 0 = λ e. PerformsSteps remaining o n ls e.limits (run_setting e files) (next_line (at_lines e ls)) true (at_lines e ls) (run_of (record a { place = p.Quit })) sinks sinks (Ok tt) in
+    let Q : RunState → Type 0 = λ e. PerformsSteps remaining o n ls e.limits (run_setting e files) (next_line (at_lines e ls)) true (at_lines e ls) (run_of (record a { next_step = p.Quit })) sinks sinks (Ok tt) in
     let e0 : RunState = run_of a in
     let now : State = then_do (print_pattern ∷ flush ∷ []) (at_lines e0 ls) in
-    subst Q seen (λ s c asked first. looked_moves remaining o n ls a.limits (run_setting e0 files) s (run_of (record a { place = p.Quit })) sinks sinks (Ok tt) taken c.lines
+    subst Q seen (λ s c asked first. looked_moves remaining o n ls a.limits (run_setting e0 files) s (run_of (record a { next_step = p.Quit })) sinks sinks (Ok tt) taken c.lines
     (ran_quietly a.limits (run_setting e0 files) s now sinks c.fits (first ∙ next_quits e0 e0 files ls last told is) (fits_tasks a.limits (at_lines e0 ls) (print_pattern ∷ flush ∷ []) (fits_of a ls i))))

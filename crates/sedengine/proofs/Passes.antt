@@ -31,7 +31,7 @@ use Rattle.sedengine.specs.declared.idle.Idle.{Idle}
 use Rattle.sedengine.specs.declared.meter.Cut.{Cut}
 use Rattle.sedengine.specs.declared.machine.Machine.TheInside.{Inside}
 use Rattle.sedspace.specs.Spaces.{Contents}
-use Rattle.sedengine.specs.declared.place.Place.TheVariants as p
+use Rattle.sedengine.specs.declared.next_step.NextStep.TheVariants as p
 use Rattle.sedengine.specs.declared.ends.Ended.{Ended}
 use Rattle.sedengine.specs.declared.ends.Ended.TheVariants.{InputBroken}
 use Rattle.sedengine.specs.declared.machine.passing.IdleLines.{IdleLines}
@@ -413,9 +413,9 @@ breaks_off_seen {R} old new e e' ahead start n done bytes same before less withi
     (n ≡ length (take (bytes - start) (drop start w))) ⊎ (slice_get (take (bytes - start) (drop start w)) n ≡ Some 10) → e' ≡ line_brought e (take n (drop start w)) → BreaksOffBy old new e e' done bytes in
     subst P (sym same) (λ first rest clear ends brought. breaks_off old new e e' start n done bytes before less within whole first rest clear ends taken brought) first rest clear ends brought
 
-pub brought_is : (a : Inside) (e : RunState) (pattern : Contents) (k : ℕ) (line : List ℕ) → run_of a ≡ e → pattern.bytes ≡ line → k ≡ length a.script.commands → run_of (record a { pattern = pattern; place = p.Do k }) ≡ line_brought e line
+pub brought_is : (a : Inside) (e : RunState) (pattern : Contents) (k : ℕ) (line : List ℕ) → run_of a ≡ e → pattern.bytes ≡ line → k ≡ length a.script.commands → run_of (record a { pattern = pattern; next_step = p.Do k }) ≡ line_brought e line
 brought_is a e pattern k line seen bytes all =
-    let Q : RunState → Type 0 = λ e. run_of (record a { pattern = pattern; place = p.Do k }) ≡ line_brought e line in
+    let Q : RunState → Type 0 = λ e. run_of (record a { pattern = pattern; next_step = p.Do k }) ≡ line_brought e line in
     subst Q seen (ap₂ (λ (b : List ℕ) (k : ℕ). record (run_of a) { state = record (run_of a).state { pattern = b; tasks = do_at k ∷ [] } }) bytes all)
 
 -- the same where the block was found under other names

@@ -21,7 +21,7 @@ use Rattle.sedscript.specs.declared.substitution.Substitution.{Substitution}
 use Rattle.sedengine.specs.State.{Limits, Task, begin, do_at, flush, empty_pattern, State, Move, Setting, has_match, match_with_span, search_for, setting_of}
 use Rattle.sedengine.specs.Select.{Current, Selection, answer, selects, stands_for}
 use Rattle.sedengine.specs.Substitute.{Occurrence, occurrences, occurrences_from, to_replace, with_rest}
-use Rattle.sedengine.specs.Move.{acts, after, at_end, begins, current_of, flushes, is_active, line_to, next_move, newline, next_or_stay, none_left, passes, performs, quietly, reach, reached, replaces, substitutes, tells_at, then_do, to_replace_in, to_sink, writes_of, writing, written}
+use Rattle.sedengine.specs.Move.{acts, after, at_end, begins, current_of, flushes, is_active, line_to, next_move, newline, next_or_stay, none_left, passes, performs, quietly, reach, reached, replaces, substitutes, writes_text_at, then_do, to_replace_in, to_sink, writes_of, writing, written}
 use Rattle.sedengine.specs.Meters.{Sent, SinkView}
 use Rattle.sedengine.specs.Ends.{BrokenOff, WholeOrBrokenOff, WithinLimits, Within, named_sink}
 use Rattle.sedengine.specs.Held.{HoldsAt, SameLengths}
@@ -121,17 +121,17 @@ substitutes_none g s None finds h = absurd h
 substitutes_none g s (Some t) finds h = replaces_none g s t t.expression finds h
 
 -- a command that applies to each line
-acts_by : (g : Setting) (s : State) (tells : Bool) (action : Action) (k : ℕ) → FindsAsItSearches g → s.tasks ≡ do_at (k + 1) ∷ [] → s.replaced ≡ false →
+acts_by : (g : Setting) (s : State) (writes_text : Bool) (action : Action) (k : ℕ) → FindsAsItSearches g → s.tasks ≡ do_at (k + 1) ∷ [] → s.replaced ≡ false →
     Allows g s.number (none_left s.lines) s.pattern (need_of_action g.substitutions action) →
-    acts g s tells action ≡ quietly (record s { used = option_or (judged_by (need_of_action g.substitutions action)) s.used; tasks = do_at (behind_by None action k) ∷ [] })
-acts_by g s tells (Substitute m) k finds t fresh h =
+    acts g s writes_text action ≡ quietly (record s { used = option_or (judged_by (need_of_action g.substitutions action)) s.used; tasks = do_at (behind_by None action k) ∷ [] })
+acts_by g s writes_text (Substitute m) k finds t fresh h =
     substitutes_none g s (slice_get g.substitutions m) finds h
     ∙ ap (λ ts. quietly (record s { used = option_or (judged_by (need_of_substitution (slice_get g.substitutions m))) s.used; tasks = ts })) t
-acts_by g s tells (Branch IfReplaced m) k finds t fresh h =
+acts_by g s writes_text (Branch IfReplaced m) k finds t fresh h =
     ap (λ b. quietly (cond b (then_do (do_at m ∷ []) (record s { replaced = false })) s)) fresh ∙ ap (λ ts. quietly (record s { tasks = ts })) t
-acts_by g s tells (Block m) k finds t fresh h = ap (λ ts. quietly (record s { tasks = ts })) t
-acts_by g s tells (Branch Always m) k finds t fresh h = refl
-acts_by g s tells other k finds t fresh h = absurd h
+acts_by g s writes_text (Block m) k finds t fresh h = ap (λ ts. quietly (record s { tasks = ts })) t
+acts_by g s writes_text (Branch Always m) k finds t fresh h = refl
+acts_by g s writes_text other k finds t fresh h = absurd h
 
 -- the state in which command k was reached and did nothing
 abbrev stepped : Setting → State → ℕ → Option Command → State
@@ -157,7 +157,7 @@ reach_parts g s k None second false action finds fresh idle h =
     let all : Selection = record { yes = true; end = false; active = false; used = s.used } in
     ap (λ b. option_and_then (performs g s k c) (selects (current_of g s) b c)) idle
     ∙ ap (option_and_then (performs g s k c)) (selects_all (current_of g s) second action)
-    ∙ acts_by g (reached s k all) (tells_at c false) action k finds refl fresh h
+    ∙ acts_by g (reached s k all) (writes_text_at c false) action k finds refl fresh h
     ∙ ap (λ rs. quietly (record s { ranges = rs; used = option_or (judged_by (need_of_action g.substitutions action)) s.used; tasks = do_at (behind_by None action k) ∷ []; turns = s.turns + 1 })) (idle_set s.ranges k idle)
 
 reach_idle : (g : Setting) (s : State) (k : ℕ) (o : Option Command) → FindsAsItSearches g → s.replaced ≡ false → is_active s k ≡ false → Allows g s.number (none_left s.lines) s.pattern (need_of g.substitutions o) →

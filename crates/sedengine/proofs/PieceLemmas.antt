@@ -7,8 +7,8 @@ use Rattle.sedmatch.specs.Groups.{Groups}
 use Rattle.sedscript.specs.declared.substitution.Piece.{Piece}
 use Rattle.sedscript.specs.declared.substitution.Piece.TheVariants.{Literal as literal, Whole as whole, Group as group}
 use Rattle.sedscript.specs.Pieces.{pieces_in, GroupsWithin}
-use Rattle.sedscript.specs.declared.substitution.Part.{Part}
-use Rattle.sedscript.specs.declared.substitution.Part.TheVariants.{Literal, Whole, Group}
+use Rattle.sedscript.specs.declared.substitution.ReplacementPart.{ReplacementPart}
+use Rattle.sedscript.specs.declared.substitution.ReplacementPart.TheVariants.{Literal, Whole, Group}
 use Rattle.sedengine.specs.Substitute.{Occurrence, put_for}
 use Rattle.sedengine.specs.SubstituteParts.{has_group, with_groups}
 
@@ -39,45 +39,45 @@ literals_alone [] = tt
 literals_alone (b ∷ bytes) = literals_alone bytes
 
 -- a part that is no group of the match tells nothing of groups
-no_group : (p : Part) (ps : List Part) → ((k : ℕ) → p ≡ Group k → ⊥) →
+no_group : (p : ReplacementPart) (ps : List ReplacementPart) → ((k : ℕ) → p ≡ Group k → ⊥) →
     has_group (pieces_in (p ∷ ps)) ≡ has_group (pieces_in ps)
 no_group (Literal bytes) ps other = literals_have bytes.items (pieces_in ps)
 no_group Whole ps other = refl
 no_group (Group k) ps other = absurd (other k refl)
 
-pub none_here : (parts : List Part) (k : ℕ) (p : Part) → k < length parts → p ≡ get_or parts k p →
+pub none_here : (parts : List ReplacementPart) (k : ℕ) (p : ReplacementPart) → k < length parts → p ≡ get_or parts k p →
     ((g : ℕ) → p ≡ Group g → ⊥) → has_group (pieces_in (drop k parts)) ≡ has_group (pieces_in parts) →
     has_group (pieces_in (drop (k + 1) parts)) ≡ has_group (pieces_in parts)
 none_here parts k p inside is other before =
     sym (no_group p (drop (k + 1) parts) other)
-    ∙ ap (λ (ps : List Part). has_group (pieces_in ps)) (sym (drop_next parts k p inside is)) ∙ before
+    ∙ ap (λ (ps : List ReplacementPart). has_group (pieces_in ps)) (sym (drop_next parts k p inside is)) ∙ before
 
 -- the groups of a part, and of those after it
-within_parts : (p : Part) (ps : List Part) → GroupsWithin 9 (pieces_in (p ∷ ps)) →
+within_parts : (p : ReplacementPart) (ps : List ReplacementPart) → GroupsWithin 9 (pieces_in (p ∷ ps)) →
     GroupsWithin 9 (pieces_in (p ∷ [])) × GroupsWithin 9 (pieces_in ps)
 within_parts (Literal bytes) ps within = (literals_alone bytes.items, literals_within bytes.items (pieces_in ps) within)
 within_parts Whole ps within = (tt, within)
 within_parts (Group k) ps within = ((within.0, within.1, tt), within.2)
 
-pub within_next : (parts : List Part) (k : ℕ) (p : Part) → k < length parts → p ≡ get_or parts k p →
+pub within_next : (parts : List ReplacementPart) (k : ℕ) (p : ReplacementPart) → k < length parts → p ≡ get_or parts k p →
     GroupsWithin 9 (pieces_in (drop k parts)) →
     GroupsWithin 9 (pieces_in (p ∷ [])) × GroupsWithin 9 (pieces_in (drop (k + 1) parts))
 within_next parts k p inside is within =
     within_parts p (drop (k + 1) parts)
-    (subst (λ (ps : List Part). GroupsWithin 9 (pieces_in ps)) (drop_next parts k p inside is) within)
+    (subst (λ (ps : List ReplacementPart). GroupsWithin 9 (pieces_in ps)) (drop_next parts k p inside is) within)
 
 -- what stands for a part, and for those after it
-put_parts : (w : List ℕ) (m : Occurrence) (p : Part) (ps : List Part) →
+put_parts : (w : List ℕ) (m : Occurrence) (p : ReplacementPart) (ps : List ReplacementPart) →
     put_for w m (pieces_in (p ∷ ps)) ≡ put_for w m (pieces_in (p ∷ [])) ++ put_for w m (pieces_in ps)
 put_parts w m (Literal bytes) ps = simp (put_literals, append_assoc)
 put_parts w m Whole ps = simp append_assoc
 put_parts w m (Group k) ps = simp append_assoc
 
-pub put_next : (w : List ℕ) (m : Occurrence) (parts : List Part) (k : ℕ) (p : Part) → k < length parts →
+pub put_next : (w : List ℕ) (m : Occurrence) (parts : List ReplacementPart) (k : ℕ) (p : ReplacementPart) → k < length parts →
     p ≡ get_or parts k p → put_for w m (pieces_in (drop k parts))
     ≡ put_for w m (pieces_in (p ∷ [])) ++ put_for w m (pieces_in (drop (k + 1) parts))
 put_next w m parts k p inside is =
-    ap (λ (ps : List Part). put_for w m (pieces_in ps)) (drop_next parts k p inside is)
+    ap (λ (ps : List ReplacementPart). put_for w m (pieces_in ps)) (drop_next parts k p inside is)
     ∙ put_parts w m p (drop (k + 1) parts)
 
 -- the groups of a match tell only where the replacement has one

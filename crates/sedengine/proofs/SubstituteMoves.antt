@@ -23,8 +23,8 @@ use Rattle.sedengine.specs.SubstituteCalls.{Makes, ReplacesIn, same_but_replaced
 use Rattle.sedengine.specs.Fitting.{RoomToSeek}
 use Rattle.sedengine.specs.Inside.{run_of, tasks_of, IsConsistent, IsEmptied}
 use Rattle.sedengine.specs.declared.machine.Machine.TheInside.{Inside}
-use Rattle.sedengine.specs.declared.place.Place.{Place}
-use Rattle.sedengine.specs.declared.place.Place.TheVariants as p
+use Rattle.sedengine.specs.declared.next_step.NextStep.{NextStep}
+use Rattle.sedengine.specs.declared.next_step.NextStep.TheVariants as p
 use Rattle.sedengine.specs.declared.ends.Ended.{Ended}
 use Rattle.sedengine.specs.declared.ends.Ended.TheVariants.{PatternFull, NoPrevious}
 use Rattle.sedengine.proofs.Writing.{Puts-append, Puts-left}
@@ -33,7 +33,7 @@ use Rattle.sedengine.proofs.Fitting.{sought, sought_at}
 use Rattle.sedengine.proofs.Tried.{matcher_at, standing}
 
 -- Where a command is reached the pattern space needn't be empty.
-may_hold : (p : Place) (bytes : List ℕ) → reaches (tasks_of p) ≡ true → IsEmptied p bytes
+may_hold : (p : NextStep) (bytes : List ℕ) → reaches (tasks_of p) ≡ true → IsEmptied p bytes
 may_hold p.Begin bytes h = cc
 may_hold p.Rebegin bytes h = tt
 may_hold (p.Do k) bytes h = tt
@@ -41,7 +41,7 @@ may_hold p.Quit bytes h = tt
 may_hold p.Ended bytes h = tt
 
 -- the fields of the engine after a substitution with the expression e
-pub replaced_is_run : (a : Inside) (pattern build : Contents) (scratch : SearchRoom) (seeking : Occurrences) (matchers : Vec WrittenExpression Global) (e : ℕ) (replaced : Bool) → IsConsistent a → reaches (tasks_of a.place) ≡ true → e < length a.script.expressions →
+pub replaced_is_run : (a : Inside) (pattern build : Contents) (scratch : SearchRoom) (seeking : Occurrences) (matchers : Vec WrittenExpression Global) (e : ℕ) (replaced : Bool) → IsConsistent a → reaches (tasks_of a.next_step) ≡ true → e < length a.script.expressions →
     pattern.limit ≡ a.pattern.limit → length pattern.bytes ≤ pattern.limit → build.limit ≡ a.build.limit → scratch ≡ a.scratch → RoomToSeek a.script.substitutions a.script.expressions a.limits.space seeking → matchers.items ≡ a.matchers.items →
     IsConsistent (record a { pattern = pattern; build = build; scratch = scratch; seeking = seeking; matchers = matchers; used = Some e; replaced = replaced })
 replaced_is_run a pattern build scratch seeking matchers e replaced i at within limit fits limit' same room same' = record {
@@ -57,7 +57,7 @@ replaced_is_run a pattern build scratch seeking matchers e replaced i at within 
   queue_limit = i.queue_limit;
   queue = i.queue;
   queued = i.queued;
-  empty = may_hold a.place pattern.bytes at;
+  empty = may_hold a.next_step pattern.bytes at;
   ranges = i.ranges;
   used = within;
   scratch_text = λ some. ap (λ (r : SearchRoom). r.text) same ∙ i.scratch_text some;

@@ -16,8 +16,8 @@ use Rattle.sedengine.specs.Run.{RunState, at_lines, run_setting, lost}
 use Rattle.sedengine.specs.Steps.{Ran, Moves, TakesLines, Halted, Steps}
 use Rattle.sedengine.specs.Inside.{run_of, tasks_of, entries_of, IsConsistent, IsEmptied}
 use Rattle.sedengine.specs.declared.machine.Machine.TheInside.{Inside}
-use Rattle.sedengine.specs.declared.place.Place.{Place}
-use Rattle.sedengine.specs.declared.place.Place.TheVariants as p
+use Rattle.sedengine.specs.declared.next_step.NextStep.{NextStep}
+use Rattle.sedengine.specs.declared.next_step.NextStep.TheVariants as p
 use Rattle.sedengine.specs.declared.ends.Ended.{Ended}
 use Rattle.sedengine.specs.declared.ends.Ended.TheVariants.{Done, PatternFull, TurnsSpent, InputBroken}
 use Rattle.sedengine.proofs.Streams.{line_taken, lines_end, lines_stay, lines_same, LosesPart-none, LosesPartAfter-none, TakesAtMost-none, TakesAtMost-kept}
@@ -33,7 +33,7 @@ pub fits_tasks : (l : Limits) (s : State) (ts : List Task) → WithinLimits l s 
 fits_tasks l s ts f = record { pattern = f.pattern; hold = f.hold; queue = f.queue; turns = f.turns }
 
 seen_steps : {R : Type 0} (remaining : R → Option (List ℕ)) (old new : Stream R) (a : Inside) (e e' : RunState) (ts : List Task) (files : ℕ → List ℕ) (ls : List (List ℕ)) (sinks sinks' : SinkView) (r : Result Unit Ended) →
-    run_of a ≡ e → e.state.tasks ≡ ts → (tasks_of a.place ≡ ts → Steps remaining old new ls a.limits (run_setting (run_of a) files) (run_of a) e' sinks sinks' r) →
+    run_of a ≡ e → e.state.tasks ≡ ts → (tasks_of a.next_step ≡ ts → Steps remaining old new ls a.limits (run_setting (run_of a) files) (run_of a) e' sinks sinks' r) →
     Steps remaining old new ls e.limits (run_setting e files) e e' sinks sinks' r
 seen_steps {R} remaining old new a e e' ts files ls sinks sinks' r seen t h =
     let Q : RunState → Type 0 = λ e. e.state.tasks ≡ ts → Steps remaining old new ls e.limits (run_setting e files) e e' sinks sinks' r in subst Q seen h t
@@ -50,7 +50,7 @@ halts_here {R} remaining old new l g s e sinks end f none cause same part = reco
 }
 
 -- Before a cycle the pattern space is empty.
-emptied_at : (p : Place) (bytes : List ℕ) → tasks_of p ≡ begin ∷ [] → IsEmptied p bytes → bytes ≡ []
+emptied_at : (p : NextStep) (bytes : List ℕ) → tasks_of p ≡ begin ∷ [] → IsEmptied p bytes → bytes ≡ []
 emptied_at p.Begin bytes t h = h
 emptied_at (p.Do k) bytes t h = absurd (let e : do_at k ≡ begin = cc in other k e)
   where
@@ -61,30 +61,30 @@ emptied_at p.Rebegin bytes t h = cc
 emptied_at p.Ended bytes t h = cc
 
 pub begins_empty : (a : Inside) (e : RunState) → run_of a ≡ e → IsConsistent a → e.state.tasks ≡ begin ∷ [] → e.state.pattern ≡ []
-begins_empty a e seen i at = let Q : RunState → Type 0 = λ e. e.state.tasks ≡ begin ∷ [] → e.state.pattern ≡ [] in subst Q seen (λ t. emptied_at a.place a.pattern.bytes t i.empty) at
+begins_empty a e seen i at = let Q : RunState → Type 0 = λ e. e.state.tasks ≡ begin ∷ [] → e.state.pattern ≡ [] in subst Q seen (λ t. emptied_at a.next_step a.pattern.bytes t i.empty) at
 
 -- The fields a of an engine that stands before a cycle; `sinks` are what sinks hold, of which none gains anything.
 module _ {R : Type 0} (remaining : R → Option (List ℕ)) (old new : Stream R) (a : Inside) (e : RunState) (seen : run_of a ≡ e) (i : IsConsistent a) (at : e.state.tasks ≡ begin ∷ [])
     (ls : List (List ℕ)) (known : lines_left remaining old ≡ Some ls) (files : ℕ → List ℕ) (sinks : SinkView) where
   -- the fields that a line leads to, and those where there is none
   abbrev with : Contents → Inside
-  with pattern = record a { place = p.Do 0; pattern = pattern; number = a.number + 1; replaced = false; turns = a.turns + 1 }
+  with pattern = record a { next_step = p.Do 0; pattern = pattern; number = a.number + 1; replaced = false; turns = a.turns + 1 }
 
   abbrev without : Contents → Inside
-  without pattern = record a { place = p.Ended; pattern = pattern }
+  without pattern = record a { next_step = p.Ended; pattern = pattern }
 
-  ends : (pattern : Contents) → ls ≡ [] → pattern ≡ a.pattern → tasks_of a.place ≡ begin ∷ [] → Ran a.limits (run_setting (run_of a) files) (at_lines (run_of a) ls) (at_lines (run_of (without pattern)) []) sinks sinks
+  ends : (pattern : Contents) → ls ≡ [] → pattern ≡ a.pattern → tasks_of a.next_step ≡ begin ∷ [] → Ran a.limits (run_setting (run_of a) files) (at_lines (run_of a) ls) (at_lines (run_of (without pattern)) []) sinks sinks
   ends pattern none same t =
       let f : WithinLimits a.limits (at_lines (run_of (without a.pattern)) []) = fits_at (without a.pattern) [] i.pattern i.hold i.queue i.turns in
       rw same (ran_quietly a.limits (run_setting (run_of a) files) (at_lines (run_of a) ls) (at_lines (run_of (without a.pattern)) []) sinks (fits_of a ls i) (rw none (move_at _ _ _ t)) f)
 
-  takes : (line : List ℕ) (rest : List (List ℕ)) (pattern : Contents) → ls ≡ line ∷ rest → pattern.bytes ≡ line → tasks_of a.place ≡ begin ∷ [] →
+  takes : (line : List ℕ) (rest : List (List ℕ)) (pattern : Contents) → ls ≡ line ∷ rest → pattern.bytes ≡ line → tasks_of a.next_step ≡ begin ∷ [] →
       next_move (run_setting (run_of a) files) (at_lines (run_of a) ls) ≡ quietly (at_lines (run_of (with pattern)) rest)
   takes line rest pattern is h t = rw (is, h) (move_at _ _ _ t)
 
   -- The end is asked for, and it has come.
   pub begins_last : ls ≡ [] → KeepsLines (lines_left remaining old) (lines_left remaining new) → Keeps (left remaining old) (left remaining new) →
-      Steps remaining old new ls e.limits (run_setting e files) e (run_of (record a { place = p.Ended })) sinks sinks (Ok tt)
+      Steps remaining old new ls e.limits (run_setting e files) e (run_of (record a { next_step = p.Ended })) sinks sinks (Ok tt)
   begins_last none kept bytes =
       let T : List (List ℕ) → Type 0 = λ ms. TakesLines remaining old new ls ms in
       seen_steps remaining old new a e (run_of (without a.pattern)) (begin ∷ []) files ls sinks sinks (Ok tt) seen at
@@ -92,14 +92,14 @@ module _ {R : Type 0} (remaining : R → Option (List ℕ)) (old new : Stream R)
 
   pub begins_none : (n : ℕ) (pattern : Contents) → pattern ≡ a.pattern →
       TakesAtMost (remaining old.source) (remaining new.source) n → NoLineLeft (lines_left remaining old) → NoLineLeft (lines_left remaining new) →
-      Steps remaining old new ls e.limits (run_setting e files) e (run_of (record a { place = p.Ended; pattern = pattern })) sinks sinks (Ok tt)
+      Steps remaining old new ls e.limits (run_setting e files) e (run_of (record a { next_step = p.Ended; pattern = pattern })) sinks sinks (Ok tt)
   begins_none n pattern same taken none none' =
       let r = lines_end remaining old new n ls known taken none none' in
       seen_steps remaining old new a e (run_of (without pattern)) (begin ∷ []) files ls sinks sinks (Ok tt) seen at (λ t. ([], r.1, ends pattern r.0 same t))
 
   pub begins_takes : (pattern : Contents) (line : List ℕ) → (a.turns ≡ a.limits.turns → ⊥) → pattern ≡ record a.pattern { bytes = a.pattern.bytes ++ line } → length pattern.bytes ≤ pattern.limit →
       TakesLine (left remaining old) (left remaining new) line → GivesLine (lines_left remaining old) (lines_left remaining new) line →
-      Steps remaining old new ls e.limits (run_setting e files) e (run_of (record a { place = p.Do 0; pattern = pattern; number = a.number + 1; replaced = false; turns = a.turns + 1 })) sinks sinks (Ok tt)
+      Steps remaining old new ls e.limits (run_setting e files) e (run_of (record a { next_step = p.Do 0; pattern = pattern; number = a.number + 1; replaced = false; turns = a.turns + 1 })) sinks sinks (Ok tt)
   begins_takes pattern line turns is within bytes given =
       let r = line_taken remaining old new ls line known bytes given in
       let most = i.turns in
@@ -107,7 +107,7 @@ module _ {R : Type 0} (remaining : R → Option (List ℕ)) (old new : Stream R)
       let limit : pattern.limit ≡ a.pattern.limit = ap (λ (c : Contents). c.limit) is in
       seen_steps remaining old new a e (run_of (with pattern)) (begin ∷ []) files ls sinks sinks (Ok tt) seen at
       (λ t.
-      let none : a.pattern.bytes ≡ [] = emptied_at a.place a.pattern.bytes t i.empty in
+      let none : a.pattern.bytes ≡ [] = emptied_at a.next_step a.pattern.bytes t i.empty in
       let bytes : pattern.bytes ≡ line = ap (λ (c : Contents). c.bytes) is ∙ ap (λ bs. bs ++ line) none in (
         r.0,
         r.2,
@@ -129,7 +129,7 @@ module _ {R : Type 0} (remaining : R → Option (List ℕ)) (old new : Stream R)
       let made : Contents = record { bytes = r.0; limit = 0 } in
       seen_steps remaining old new a e (run_of (record a { pattern = pattern })) (begin ∷ []) files ls sinks sinks (Err (PatternFull (a.number + 1))) seen at
       (λ t.
-      let none : length a.pattern.bytes ≡ 0 = ap length (emptied_at a.place a.pattern.bytes t i.empty) in
+      let none : length a.pattern.bytes ≡ 0 = ap length (emptied_at a.next_step a.pattern.bytes t i.empty) in
       halts_here remaining old new a.limits (run_setting (run_of a) files) (at_lines (run_of a) ls) (run_of (record a { pattern = pattern })) sinks (PatternFull (a.number + 1)) (fits_of a ls i) refl
       (ap (line_at (at_lines (run_of a) ls)) (sym t), (λ _. omega arith), (record { next = at_lines (run_of (with made)) r.1; writes = [] }, takes r.0 r.1 made r.2 refl t, omega (arith, r.3)))
       (record { pattern = ap (λ (c : Contents). length c.bytes) same; hold = refl; queue = λ _. refl; entries = omega arith }) (rw i.pattern_limit at gone))
@@ -172,7 +172,7 @@ module _ (a : Inside) (e : RunState) (seen : run_of a ≡ e) (i : IsConsistent a
       is_there (x ∷ xs) (suc k) h = is_there xs k (omega arith)
 
 -- Nothing is moved where the run has ended.
-pub ends_here : {R : Type 0} (remaining : R → Option (List ℕ)) (old : Stream R) (a : Inside) (e : RunState) (seen : run_of a ≡ e) (i : IsConsistent a) (ls : List (List ℕ)) (files : ℕ → List ℕ) (sinks : SinkView) → a.place ≡ p.Ended →
+pub ends_here : {R : Type 0} (remaining : R → Option (List ℕ)) (old : Stream R) (a : Inside) (e : RunState) (seen : run_of a ≡ e) (i : IsConsistent a) (ls : List (List ℕ)) (files : ℕ → List ℕ) (sinks : SinkView) → a.next_step ≡ p.Ended →
     Steps remaining old old ls e.limits (run_setting e files) e e sinks sinks (Err Done)
 ends_here {R} remaining old a e seen i ls files sinks over =
     let Q : RunState → Type 0 = λ e. Steps remaining old old ls e.limits (run_setting e files) e e sinks sinks (Err Done) in

@@ -2,7 +2,7 @@
 use Rattle.std.proofs.Common.{◌≡◌, ℕ, zero, suc, ◌+◌, ◌-◌, ◌*◌, ◌≤◌, Option, Some, None, subst, arith, mul-le-mul_left}
 use Rattle.std.specs.Prelude.{IfSome}
 use Rattle.sedre.specs.Steps.{Takes}
-use Rattle.sedmatch.specs.Costs.{Pays}
+use Rattle.sedmatch.specs.Costs.{CostsWithin}
 use Rattle.sedmatch.specs.Following.{LiesOn}
 use Rattle.sedengine.specs.SubstituteParts.{owed_groups, owed_groups_after, place_cost}
 
@@ -17,7 +17,7 @@ at_first k t long places rest most = omega (arith, mul-le-mul_left k most)
 -- the groups of the occurrence that comes next are paid by the places up to its end
 pub told_paid : (m n s t : ℕ) (last : Option ℕ) (span : ℕ × ℕ) → LiesOn n last span →
     Takes s t (172 * m * (m - 1) * (span.1 - span.0) + 2 * m) →
-    Pays s t (owed_groups m n last) (owed_groups_after m n (Some span))
+    CostsWithin s t (owed_groups m n last) (owed_groups_after m n (Some span))
 told_paid m n s t None span lies told =
     let parted : n - span.1 + span.1 ≡ n = omega (arith, lies.1) in
     let paid = at_first (172 * m * (m - 1)) (2 * m) (span.1 - span.0) span.1 (n - span.1) (omega arith) in
@@ -34,7 +34,7 @@ told_paid m n s t (Some q) span lies told =
 
 -- where none are told, no more is owed after the occurrence that comes next
 pub untold_paid : (m n s : ℕ) (last : Option ℕ) (r : Option (ℕ × ℕ)) → IfSome r (LiesOn n last) →
-    Pays s s (owed_groups m n last) (owed_groups_after m n r)
+    CostsWithin s s (owed_groups m n last) (owed_groups_after m n r)
 untold_paid m n s last None lies = (omega arith, omega arith)
 untold_paid m n s None (Some span) lies =
     let fewer : n - span.1 ≤ n = omega arith in
@@ -62,7 +62,7 @@ owed_most m n (Some q) =
 
 -- what telling the groups of all that is replaced takes
 pub all_took : (m n a b c : ℕ) (last : Option ℕ) (first : ℕ × ℕ) →
-    Pays a b (owed_groups m n last) (owed_groups_after m n (Some first)) → Takes b c (owed_groups m n (Some first.1)) →
+    CostsWithin a b (owed_groups m n last) (owed_groups_after m n (Some first)) → Takes b c (owed_groups m n (Some first.1)) →
     Takes a c (172 * m * m * (n + 1))
 all_took m n a b c last first paid later =
     (omega (arith, paid.0, later.0), omega (arith, paid.1, later.1, owed_most m n last))

@@ -9,12 +9,12 @@ use Rattle.sedengine.specs.State.{Entry, text, file, Task, begin, rebegin, do_at
 use Rattle.sedengine.specs.Run.{RunState}
 use Rattle.sedengine.specs.Fitting.{AllFit, RoomToSeek, Seek}
 use Rattle.sedengine.specs.Passing.{IsIdleOf}
-use Rattle.sedengine.specs.declared.place.Place.{Place}
-use Rattle.sedengine.specs.declared.place.Place.TheVariants as p
+use Rattle.sedengine.specs.declared.next_step.NextStep.{NextStep}
+use Rattle.sedengine.specs.declared.next_step.NextStep.TheVariants as p
 use Rattle.sedengine.specs.declared.machine.Machine.TheInside.{Inside}
 
 -- the tasks that a place stands for
-abbrev pub tasks_of : Place → List Task
+abbrev pub tasks_of : NextStep → List Task
 tasks_of p.Begin = begin ∷ []
 tasks_of p.Rebegin = rebegin ∷ []
 tasks_of (p.Do k) = do_at k ∷ []
@@ -48,7 +48,7 @@ run_of a = record {
     queue = entries_of a.script a.queue.items;
     ranges = a.ranges.items;
     used = a.used;
-    tasks = tasks_of a.place;
+    tasks = tasks_of a.next_step;
     turns = a.turns;
   };
   sent = [];  -- counted beside the machine
@@ -56,7 +56,7 @@ run_of a = record {
 }
 
 -- The pattern space is empty where the next line is to replace it.
-abbrev pub IsEmptied : Place → List ℕ → Type 0
+abbrev pub IsEmptied : NextStep → List ℕ → Type 0
 IsEmptied p.Begin bytes = bytes ≡ []
 IsEmptied other bytes = Unit {0}
 
@@ -103,7 +103,7 @@ pub record IsConsistent (a : Inside) : Type 0 where
   pub queue_limit : a.queue.limit ≡ a.limits.queue
   pub queue : length a.queue.items ≤ a.limits.queue
   pub queued : AllQueue a.script a.queue.items
-  pub empty : IsEmptied a.place a.pattern.bytes
+  pub empty : IsEmptied a.next_step a.pattern.bytes
   pub ranges : length a.ranges.items ≡ length a.script.commands
   pub used : IsOneOf (length a.script.expressions) a.used
   pub scratch_text : 0 < length a.script.expressions → a.scratch.text ≡ a.limits.space

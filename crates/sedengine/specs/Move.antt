@@ -119,70 +119,70 @@ next_line s = quietly (
     else then_do (print_pattern ∷ flush ∷ empty_pattern ∷ fetch ∷ s.tasks) s)
 
 -- What a command that applies does (XCU sed, "Editing Commands in sed"). The state has taken the turn, and goes on
--- after the command unless a case says otherwise. `tells` says whether `c` writes its text here.
+-- after the command unless a case says otherwise. `writes_text` says whether `c` writes its text here.
 abbrev pub acts : Setting → State → Bool → Action → Option Move
 -- `{`: "Execute a list of sed editing commands only when the pattern space is selected", so they come next
-acts g s tells (Block next) = quietly s
+acts g s writes_text (Block next) = quietly s
 -- `a`: "Write text to standard output as described previously": it waits in the queue
-acts g s tells (Text Append k) = quietly (queueing (text (unwrap_or (slice_get g.texts k) [])) s)
+acts g s writes_text (Text Append k) = quietly (queueing (text (unwrap_or (slice_get g.texts k) [])) s)
 -- `b`: "Branch to the ':' command verb bearing the label"
-acts g s tells (Branch Always target) = quietly (then_do (do_at target ∷ []) s)
+acts g s writes_text (Branch Always target) = quietly (then_do (do_at target ∷ []) s)
 -- `c`: "Delete the pattern space. With a 0 or 1 address or at the end of a 2-address range, place text on the output
 -- and start the next cycle." The next cycle starts within a range too, and before it starts, here as after `d` and `D`, what
 -- waits in the queue is written (this project's own).
-acts g s tells (Text Change k) =
-    writing (if tells then line_to 0 (unwrap_or (slice_get g.texts k) []) else [])
+acts g s writes_text (Text Change k) =
+    writing (if writes_text then line_to 0 (unwrap_or (slice_get g.texts k) []) else [])
     (record s { pattern = []; tasks = flush ∷ begin ∷ [] })
 -- `d`: "Delete the pattern space and start the next cycle."
-acts g s tells (Plain Delete) = quietly (record s { pattern = []; tasks = flush ∷ begin ∷ [] })
+acts g s writes_text (Plain Delete) = quietly (record s { pattern = []; tasks = flush ∷ begin ∷ [] })
 -- `D`: "If the pattern space contains no <newline>, start a normal new cycle as if the d command was issued. Otherwise,
 -- delete the initial segment of the pattern space through the first <newline> and start the next cycle with the resultant
 -- pattern space and without reading any new input."
-acts g s tells (Plain DeleteFirst) = quietly (
+acts g s writes_text (Plain DeleteFirst) = quietly (
     if list_any is_newline s.pattern then record s { pattern = after_first is_newline s.pattern; tasks = flush ∷ rebegin ∷ [] }
     else record s { pattern = []; tasks = flush ∷ begin ∷ [] })
 -- `i`: "Write text to standard output."
-acts g s tells (Text Insert k) = writing (line_to 0 (unwrap_or (slice_get g.texts k) [])) s
+acts g s writes_text (Text Insert k) = writing (line_to 0 (unwrap_or (slice_get g.texts k) [])) s
 -- `g`: "Replace the contents of the pattern space by the contents of the hold space."
-acts g s tells (Plain CopyHold) = quietly (record s { pattern = s.hold })
+acts g s writes_text (Plain CopyHold) = quietly (record s { pattern = s.hold })
 -- `G`: "Append to the pattern space a <newline> followed by the contents of the hold space."
-acts g s tells (Plain AppendHold) = quietly (record s { pattern = s.pattern ++ newline ∷ s.hold })
+acts g s writes_text (Plain AppendHold) = quietly (record s { pattern = s.pattern ++ newline ∷ s.hold })
 -- `h`: "Replace the contents of the hold space with the contents of the pattern space."
-acts g s tells (Plain Hold) = quietly (record s { hold = s.pattern })
+acts g s writes_text (Plain Hold) = quietly (record s { hold = s.pattern })
 -- `H`: "Append to the hold space a <newline> followed by the contents of the pattern space."
-acts g s tells (Plain HoldMore) = quietly (record s { hold = s.hold ++ newline ∷ s.pattern })
+acts g s writes_text (Plain HoldMore) = quietly (record s { hold = s.hold ++ newline ∷ s.pattern })
 -- `x`: "Exchange the contents of the pattern and hold spaces."
-acts g s tells (Plain Exchange) = quietly (record s { pattern = s.hold; hold = s.pattern })
+acts g s writes_text (Plain Exchange) = quietly (record s { pattern = s.hold; hold = s.pattern })
 -- `l`: "Write the pattern space to standard output in a visually unambiguous form."
-acts g s tells (Plain listing) = writing (to_sink 0 (listed s.pattern)) s
+acts g s writes_text (Plain listing) = writing (to_sink 0 (listed s.pattern)) s
 -- `n`: "Write the pattern space to standard output if the default output has not been suppressed, and replace the pattern
 -- space with the next line of input, less its terminating <newline>. If there is no next line of input, the n command verb
 -- shall branch to the end of the script and quit without starting a new cycle." There the pattern space is written once
 -- (this project's own).
-acts g s tells (Plain NextLine) = next_line s
+acts g s writes_text (Plain NextLine) = next_line s
 -- `N`: "Append the next line of input, less its terminating <newline>, to the pattern space, using an embedded <newline>
 -- to separate the appended material from the original material." Where no line is left, `joins` ends the run: "quit
 -- without starting a new cycle or copying the pattern space to standard output".
-acts g s tells (Plain AppendNext) = quietly (then_do (flush ∷ join ∷ s.tasks) s)
+acts g s writes_text (Plain AppendNext) = quietly (then_do (flush ∷ join ∷ s.tasks) s)
 -- `=`: writes the line number and a newline
-acts g s tells (Plain LineNumber) = writing (line_to 0 (decimal s.number)) s
+acts g s writes_text (Plain LineNumber) = writing (line_to 0 (decimal s.number)) s
 -- `p`: "Write the pattern space to standard output."
-acts g s tells (Plain Print) = writing (line_to 0 s.pattern) s
+acts g s writes_text (Plain Print) = writing (line_to 0 s.pattern) s
 -- `P`: "Write the pattern space, up to the first <newline>, to standard output."
-acts g s tells (Plain PrintFirst) = writing (line_to 0 (before_first is_newline s.pattern)) s
+acts g s writes_text (Plain PrintFirst) = writing (line_to 0 (before_first is_newline s.pattern)) s
 -- `q`: "Branch to the end of the script and quit without starting a new cycle."
-acts g s tells (Plain Quit) = quietly (then_do (print_pattern ∷ flush ∷ []) s)
+acts g s writes_text (Plain Quit) = quietly (then_do (print_pattern ∷ flush ∷ []) s)
 -- `r`: "Copy the contents of rfile to standard output as described previously": its entry waits in the queue
-acts g s tells (File Read k) = quietly (queueing (file k) s)
+acts g s writes_text (File Read k) = quietly (queueing (file k) s)
 -- `s`: "Substitute the replacement string for instances of the BRE in the pattern space."
-acts g s tells (Substitute k) = substitutes g s (slice_get g.substitutions k)
+acts g s writes_text (Substitute k) = substitutes g s (slice_get g.substitutions k)
 -- `t`: "Branch to the ':' command verb bearing the label if any substitutions have been made since the most recent reading
 -- of an input line or execution of a t"
-acts g s tells (Branch IfReplaced target) = quietly (if s.replaced then then_do (do_at target ∷ []) (record s { replaced = false }) else s)
+acts g s writes_text (Branch IfReplaced target) = quietly (if s.replaced then then_do (do_at target ∷ []) (record s { replaced = false }) else s)
 -- `w`: "Append (write) the pattern space to wfile."
-acts g s tells (File Write k) = writing (line_to k s.pattern) s
+acts g s writes_text (File Write k) = writing (line_to k s.pattern) s
 -- `y`: "Replace all occurrences of characters in string1 with the corresponding characters in string2."
-acts g s tells (Transliterate k) = quietly (record s { pattern = map (in_table (slice_get g.tables k)) s.pattern })
+acts g s writes_text (Transliterate k) = quietly (record s { pattern = map (in_table (slice_get g.tables k)) s.pattern })
 
 -- What a command that doesn't apply does: `{` passes over its block.
 abbrev pub passes : State → Action → Option Move
@@ -214,13 +214,13 @@ reached s k choice = record s {
 
 -- whether `c` writes its text: without a range, at a range's end, and with `!`. So a range that is open where the input
 -- ends writes none (this and the case of `!` are this project's own)
-abbrev pub tells_at : Command → Bool → Bool
-tells_at c end = is_none c.second || end || c.negate
+abbrev pub writes_text_at : Command → Bool → Bool
+writes_text_at c end = is_none c.second || end || c.negate
 
 -- what a command does, given what its addresses select
 abbrev pub performs : Setting → State → ℕ → Command → Selection → Option Move
 performs g s k c choice =
-    if choice.yes then acts g (reached s k choice) (tells_at c choice.end) c.action else passes (reached s k choice) c.action
+    if choice.yes then acts g (reached s k choice) (writes_text_at c choice.end) c.action else passes (reached s k choice) c.action
 
 -- A command, or the end of the script. A command that needs an expression which isn't there has no move.
 abbrev pub reach : Setting → State → ℕ → Option Command → Option Move

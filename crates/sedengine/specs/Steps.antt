@@ -85,8 +85,8 @@ writes_nothing other = uses_hold other
 
 -- What a call answers that does what such a command does where it applies, from the engine e on.
 abbrev pub ActsQuietly : RunState → RunState → Action → Result Unit Ended → Type 0
-ActsQuietly e e' action r = (files : ℕ → List ℕ) (ls : List (List ℕ)) (tells : Bool) (sinks : SinkView) →
-    MakesMove e.limits (run_setting e files) (acts (run_setting e files) (at_lines e ls) tells action)
+ActsQuietly e e' action r = (files : ℕ → List ℕ) (ls : List (List ℕ)) (writes_text : Bool) (sinks : SinkView) →
+    MakesMove e.limits (run_setting e files) (acts (run_setting e files) (at_lines e ls) writes_text action)
     (at_lines e ls) (at_lines e' ls) sinks sinks r
 
 -- Lines were taken, and no more bytes than theirs are gone.

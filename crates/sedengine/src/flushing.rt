@@ -10,7 +10,7 @@ ghost use Rattle.sedengine.specs.Flushing.{CopiesEntry, FlushesQueue};
 
 use crate::ends::Ended;
 use crate::limits::Limits;
-use crate::meter::Sinks;
+use crate::meter::MeteredSinks;
 use crate::write::write_line;
 use sedscript::{Action, FileUse, Script, TextUse};
 use sedspace::{Queue, Space, Texts};
@@ -27,7 +27,7 @@ fn piece_size(limits: &Limits, left: u64) -> usize
 
 /// Writes a file's bytes to the standard output as they are, a turn each, through the build space (XCU sed, the command
 /// `r`).
-fn copy_file<O: Sinks, T: Texts>(
+fn copy_file<O: MeteredSinks, T: Texts>(
     file: usize,
     limits: &Limits,
     turns: &mut u64,
@@ -67,7 +67,7 @@ fn copy_file<O: Sinks, T: Texts>(
 
 /// Writes an entry of the queue, by the number of its command: a text with a newline, a file as it is.
 #[inline(never)]
-fn write_entry<O: Sinks, T: Texts>(
+fn write_entry<O: MeteredSinks, T: Texts>(
     script: &Script,
     entry: u64,
     limits: &Limits,
@@ -101,7 +101,7 @@ fn write_entry<O: Sinks, T: Texts>(
 
 /// Writes the queue: texts with a newline, files as they are.
 #[inline(always)]
-pub(crate) fn flush_queue<O: Sinks, T: Texts>(
+pub(crate) fn flush_queue<O: MeteredSinks, T: Texts>(
     script: &Script,
     queue: &Queue,
     limits: &Limits,

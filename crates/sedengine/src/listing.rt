@@ -6,7 +6,7 @@ ghost use Rattle.sedengine.specs.Move.{to_sink};
 ghost use Rattle.sedengine.specs.Calls.{Puts, Delivers};
 
 use crate::ends::Ended;
-use crate::meter::Sinks;
+use crate::meter::MeteredSinks;
 use std::marker::Model;
 
 /// The most bytes of a piece of the listing.
@@ -20,7 +20,7 @@ const ROOM: usize = 1024;
 const PART: usize = ROOM / 6 - 1;
 
 /// Writes the listing of a text, as the command `l` does (XCU sed, "Editing Commands in sed").
-pub(crate) fn write_listing<O: Sinks>(outputs: &mut O, bytes: &[u8]) -> Result<(), Ended>
+pub(crate) fn write_listing<O: MeteredSinks>(outputs: &mut O, bytes: &[u8]) -> Result<(), Ended>
     requires { 0 < O.count outputs.old }
     ensures puts { Puts (O.tally outputs.old) (O.tally outputs.new) (to_sink 0 (listed bytes.now)) result }
     ensures devices { Delivers O.tally O.count outputs.old outputs.new result }

@@ -28,9 +28,9 @@ mod tasks;
 use crate::ends::{Ended, Held, Progress};
 use crate::idle::Idle;
 use crate::limits::Limits;
-use crate::meter::Sinks;
+use crate::meter::MeteredSinks;
+use crate::next_step::NextStep;
 use crate::patience::Patience;
-use crate::place::Place;
 use parts::Parts;
 use sedmatch::{Occurrences, Scratch, TableMatcher};
 use sedscript::Script;
@@ -63,7 +63,7 @@ pub(crate) struct Machine {
     // Whether a substitution was made, as the command `t` sees it.
     replaced: bool,
     number: u64,
-    place: Place,
+    next_step: NextStep,
     turns: u64,
     ended: Option<Ended>,
 }
@@ -135,13 +135,13 @@ impl Machine {
             replaced: false,
             number: 0,
             turns: 0,
-            place: Place::Begin,
+            next_step: NextStep::Begin,
             ended: None,
         }
     }
 
     /// Runs one cycle, as `Engine::cycle` does.
-    pub(crate) fn cycle<R: ByteSource, O: Sinks, T: Texts>(
+    pub(crate) fn cycle<R: ByteSource, O: MeteredSinks, T: Texts>(
         &mut self,
         lines: &mut Lines<R>,
         outputs: &mut O,
@@ -180,7 +180,7 @@ impl Machine {
     }
 
     /// Runs cycles to the end, as `Engine::run` does.
-    pub(crate) fn run<R: ByteSource, O: Sinks, T: Texts>(
+    pub(crate) fn run<R: ByteSource, O: MeteredSinks, T: Texts>(
         &mut self,
         lines: &mut Lines<R>,
         outputs: &mut O,

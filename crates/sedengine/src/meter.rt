@@ -1,6 +1,6 @@
 //! Sinks of which each takes no more than a limit.
 //!
-//! The machine's calls write to `Sinks`. In a run these are the outputs with a meter, which counts what each sink has
+//! The machine's calls write to `MeteredSinks`. In a run these are the outputs with a meter, which counts what each sink has
 //! gained since the engine was opened; where no limit is set nothing is counted.
 ghost use Rattle.std.specs.Prelude.{◌≡◌, ◌≢◌, ◌<◌, ◌≤◌, ℕ, IfOk, length, min, replicate};
 ghost use Rattle.sedengine.specs.Move.{to_sink};
@@ -87,7 +87,7 @@ pub(crate) struct Cut {
 }
 
 /// Where the machine's calls write. A write that is refused names the end of the run.
-pub(crate) trait Sinks {
+pub(crate) trait MeteredSinks {
     /// How many sinks there are.
     ghost count: { Self → ℕ };
 
@@ -115,7 +115,7 @@ pub(crate) struct Metered<'a, O: Outputs> {
     pub(crate) meter: &'a mut Meter,
 }
 
-impl<'a, O: Outputs> Sinks for Metered<'a, O> {
+impl<'a, O: Outputs> MeteredSinks for Metered<'a, O> {
     ghost count = { λ m. min (length m.meter.now.sent) (O.count m.outputs.now) };
 
     ghost tally = { λ m. record {

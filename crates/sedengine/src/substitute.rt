@@ -1,7 +1,7 @@
 //! The command `s` (XCU sed, "Editing Commands in sed"): which occurrences it replaces, and the text that it makes.
 ghost use Rattle.std.specs.Prelude.{◌≡◌, ◌+◌, ◌-◌, ◌*◌, ◌<◌, ◌≤◌, [], ◌∷◌, length, true, Some, None, IfSome, IsTrue};
 ghost use Rattle.sedre.specs.Tree.{expression_tree};
-ghost use Rattle.sedmatch.specs.Costs.{Pays};
+ghost use Rattle.sedmatch.specs.Costs.{CostsWithin};
 ghost use Rattle.sedre.specs.Steps.{Takes};
 ghost use Rattle.sedmatch.specs.Following.{EndsWithin, LiesOn};
 ghost use Rattle.sedmatch.specs.Occurrences.{KeepsRoom, Serves, ServesOn, owed, owed_after};
@@ -18,7 +18,7 @@ ghost use Rattle.sedengine.specs.SubstituteParts.{owed_groups, owed_groups_after
 
 use sedmatch::{Occurrences, Scratch, TableMatcher, Text};
 use sedre::Steps;
-use sedscript::{Part, Substitution};
+use sedscript::{ReplacementPart, Substitution};
 use sedspace::{Full, Space};
 
 /// The span of each group of an occurrence.
@@ -120,7 +120,7 @@ fn end_of_skipped(
     ensures same { SeeksAsBefore matcher.old matcher.new scratch.old scratch.new }
     ensures serves { ServesAfter matcher.old text.now result seeking.old seeking.new }
     ensures cost { let m = length matcher.old.nodes in let n = length text.now in
-        Pays findings.old.steps findings.new.steps (416 * m * (n + 1)) (owed_skipped m n result seeking.new) }
+        CostsWithin findings.old.steps findings.new.steps (416 * m * (n + 1)) (owed_skipped m n result seeking.new) }
     ensures no_groups { findings.new.group_steps ≡ findings.old.group_steps }
 {
     let mut last = None;
@@ -132,11 +132,11 @@ fn end_of_skipped(
 }
 
 /// Whether a replacement has a group of the match.
-fn needs_groups(parts: &[Part]) -> bool
+fn needs_groups(parts: &[ReplacementPart]) -> bool
     ensures { result ≡ has_group (pieces_in parts.now) }
 {
     for part in parts {
-        if let Part::Group(_) = part {
+        if let ReplacementPart::Group(_) = part {
             return true;
         }
     }
@@ -164,11 +164,11 @@ fn next_occurrence(
     ensures same { SeeksAsBefore matcher.old matcher.new scratch.old scratch.new }
     ensures serves { ServesOn matcher.old text.now result seeking.old seeking.new }
     ensures cost { let m = length matcher.old.nodes in let n = length text.now in
-        Pays findings.old.steps findings.new.steps (owed m n last seeking.old) (owed_after m n result seeking.new) }
+        CostsWithin findings.old.steps findings.new.steps (owed m n last seeking.old) (owed_after m n result seeking.new) }
     ensures group_cost { let m = length matcher.old.nodes in let n = length text.now in
         Takes findings.old.group_steps findings.new.group_steps (told_cost result wanted (51 * m * m * (n + 1) * (n + 1))) }
     ensures linear_group_cost { let m = length matcher.old.nodes in let n = length text.now in
-        Pays findings.old.group_steps findings.new.group_steps (owed_groups m n last) (owed_groups_after m n result) }
+        CostsWithin findings.old.group_steps findings.new.group_steps (owed_groups m n last) (owed_groups_after m n result) }
 {
     let steps = &mut findings.steps;
     let span = matcher.next_occurrence(&Text::new(text), last, seeking, scratch, steps)?;
@@ -255,7 +255,7 @@ fn append_replaced(
 
 /// Appends what stands for an occurrence.
 fn put(
-    parts: &[Part],
+    parts: &[ReplacementPart],
     span: (usize, usize),
     groups: &Groups,
     text: &[u8],
@@ -275,7 +275,7 @@ fn put(
 
 /// Appends what stands for a part of the replacement.
 fn put_part(
-    part: &Part,
+    part: &ReplacementPart,
     span: (usize, usize),
     groups: &Groups,
     text: &[u8],
@@ -288,9 +288,9 @@ fn put_part(
         (put_for text.now (with_groups span groups.now) (pieces_in (part.now ∷ []))) result }
 {
     match part {
-        Part::Literal(bytes) => build.append(bytes),
-        Part::Whole => build.append(&text[span.0..span.1]),
-        Part::Group(k) => build.append(group_part(text, groups, *k)),
+        ReplacementPart::Literal(bytes) => build.append(bytes),
+        ReplacementPart::Whole => build.append(&text[span.0..span.1]),
+        ReplacementPart::Group(k) => build.append(group_part(text, groups, *k)),
     }
 }
 

@@ -4,7 +4,7 @@ ghost use Rattle.sedengine.specs.Move.{line_to};
 ghost use Rattle.sedengine.specs.Calls.{Puts, Delivers};
 
 use crate::ends::Ended;
-use crate::meter::Sinks;
+use crate::meter::MeteredSinks;
 
 /// The most bytes that are copied, so that they are written with their newline at once.
 const SHORT: usize = 127;
@@ -20,7 +20,7 @@ fn with_newline(bytes: &[u8]) -> [u8; 128]
 }
 
 /// Writes all the bytes and then a newline.
-fn write_apart<O: Sinks>(outputs: &mut O, sink: usize, bytes: &[u8]) -> Result<(), Ended>
+fn write_apart<O: MeteredSinks>(outputs: &mut O, sink: usize, bytes: &[u8]) -> Result<(), Ended>
     requires { sink < O.count outputs.old }
     ensures puts { Puts (O.tally outputs.old) (O.tally outputs.new) (line_to sink bytes.now) result }
     ensures devices { Delivers O.tally O.count outputs.old outputs.new result }
@@ -30,7 +30,11 @@ fn write_apart<O: Sinks>(outputs: &mut O, sink: usize, bytes: &[u8]) -> Result<(
 }
 
 /// Writes all the bytes and a newline.
-pub(crate) fn write_line<O: Sinks>(outputs: &mut O, sink: usize, bytes: &[u8]) -> Result<(), Ended>
+pub(crate) fn write_line<O: MeteredSinks>(
+    outputs: &mut O,
+    sink: usize,
+    bytes: &[u8],
+) -> Result<(), Ended>
     requires { sink < O.count outputs.old }
     ensures puts { Puts (O.tally outputs.old) (O.tally outputs.new) (line_to sink bytes.now) result }
     ensures devices { Delivers O.tally O.count outputs.old outputs.new result }

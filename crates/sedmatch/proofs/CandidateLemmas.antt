@@ -10,7 +10,7 @@ use Rattle.sedtext.specs.Spans.{SomeFound}
 use Rattle.sedtext.specs.Bytes.{AreBytes, FirstFrom, looked_at}
 use Rattle.sedtext.specs.Choice.{ChoiceAt, ChoiceSpans, FirstChoice}
 use Rattle.sedtext.specs.Needed.{FirstLiteral, IsNeeded, passed_to}
-use Rattle.sedtext.specs.declared.needed.Needed.{Needed}
+use Rattle.sedtext.specs.declared.needed.RequiredLiteral.{RequiredLiteral}
 use Rattle.sedtext.proofs.CountLemmas.{least_counted, least_less}
 use Rattle.sedmatch.specs.Direct.{FirstWith, FormSpans, SpannedAs, StartsWith}
 use Rattle.sedmatch.specs.Candidates.{IsBefore, NoMatchBefore}
@@ -61,7 +61,7 @@ choice_after words w None k end h p le ends = h k (omega arith) p
 choice_after words w (Some q) k end h p le ends = h.3 k (omega arith) (omega (arith, ends, le)) p
 
 -- the literal that all matches hold
-pub needed_before : (e : Tree) (n : Needed) (w : List ℕ) (r : Option ℕ) → IsNeeded e (Some n) → FirstLiteral w n.finder 0 r → NoMatchBefore e w r
+pub needed_before : (e : Tree) (n : RequiredLiteral) (w : List ℕ) (r : Option ℕ) → IsNeeded e (Some n) → FirstLiteral w n.finder 0 r → NoMatchBefore e w r
 needed_before e n w r needed first = λ before line behind is ends found.
     let held = needed line found.0 found.1 found.3 found.4 in
     let occurs : OccursAt w n.finder (length before + held.0) = subst (λ (w : List ℕ). OccursAt w n.finder (length before + held.0)) (sym is) (occurs_there before line behind n.finder held.0 held.3) in

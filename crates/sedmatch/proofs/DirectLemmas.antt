@@ -12,7 +12,7 @@ use Rattle.sedre.specs.Steps.{TakesExactly, Takes, TakesAtLeast}
 use Rattle.sedtext.specs.Answer.{SpanAnswer}
 use Rattle.sedtext.specs.Beginnings.{CanBegin, NextStart}
 use Rattle.sedtext.specs.Bytes.{AreBytes, looked_at}
-use Rattle.sedtext.specs.Costs.{Pays}
+use Rattle.sedtext.specs.Costs.{CostsWithin}
 use Rattle.sedtext.specs.Following.{CanEndEarly, PassesOver}
 use Rattle.sedtext.specs.Reach.{At}
 use Rattle.sedtext.specs.Runs.{Repeated, AllRepeat, IsRun, RunBegins}
@@ -256,8 +256,8 @@ looked_rest : (first : First) (w : List ℕ) (p : ℕ) (r : Option ℕ) → p �
 looked_rest first w p None within none = omega (arith, within)
 looked_rest first w p (Some k) within here = let inside = starts_inside first w k here.1 in let after = here.0 in omega (arith, inside, after)
 
-pub end_cost : (first : First) (w : List ℕ) (n p begin start s t u : ℕ) (r : Option ℕ) → n ≡ length w → p ≤ n → begin ≤ n → start ≡ max (begin - 1) p → FirstWith first w start r → Pays s t n p →
-    Takes t u (looked_at (length w) start r) → Pays s u (3 * length w) (3 * p)
+pub end_cost : (first : First) (w : List ℕ) (n p begin start s t u : ℕ) (r : Option ℕ) → n ≡ length w → p ≤ n → begin ≤ n → start ≡ max (begin - 1) p → FirstWith first w start r → CostsWithin s t n p →
+    Takes t u (looked_at (length w) start r) → CostsWithin s u (3 * length w) (3 * p)
 end_cost first w n p begin start s t u r is low within start_is here back on =
     let rest = looked_rest first w start r (omega (arith, is, low, within, start_is)) here in
     let a = back.0 in let b = back.1 in let c = on.0 in let d = on.1 in
@@ -412,7 +412,7 @@ answer_passes e w p s t (Some f) answer bytes passed some = record {
 }
 
 -- and they go over the text once at most
-pub answer_cost : (k n p s t : ℕ) (r : Option (ℕ × ℕ)) → Pays s t (k * (end_or n r + 1)) (k * p) → IfSome r (λ f. (p ≤ f.0) × (f.0 ≤ f.1) × (f.1 ≤ n)) → Takes s t (k * (n + 1))
+pub answer_cost : (k n p s t : ℕ) (r : Option (ℕ × ℕ)) → CostsWithin s t (k * (end_or n r + 1)) (k * p) → IfSome r (λ f. (p ≤ f.0) × (f.0 ≤ f.1) × (f.1 ≤ n)) → Takes s t (k * (n + 1))
 answer_cost k n p s t None pays lies = (pays.0, (let h = pays.1 in omega (arith, h)))
 answer_cost k n p s t (Some f) pays lies =
     let on : f.1 + 1 ≤ n + 1 = (let h = lies.2 in omega (arith, h)) in

@@ -4,7 +4,7 @@ use Rattle.std.specs.Prelude.{is_some, nat_lt, not, if◌then◌else◌}
 use Rattle.std.specs.Option.{unwrap_or}
 use Rattle.std.proofs.lemmas.Bool.Decides.{nat_tests}
 use Rattle.sedre.specs.Tree.{WrittenExpression, Tree}
-use Rattle.sedtext.specs.Costs.{Pays}
+use Rattle.sedtext.specs.Costs.{CostsWithin}
 use Rattle.sedtext.specs.Answer.{SpanAnswer}
 use Rattle.sedtext.specs.Following.{EndsWithin, LiesOn, next_span}
 use Rattle.sedtext.specs.Matching.{found, unless_null_at}
@@ -64,8 +64,8 @@ next_by_null e w last at first r b b' is low answer passed same r_is =
     subst (λ v. r ≡ next_span (found e w) (length w) v) (sym is) (passed_by at first (found e w at) other r b b' (answer_found e w at first low answer) (passed other) same r_is)
 
 -- the first look answers
-pub look_paid : (m n r s t : ℕ) (last : Option ℕ) (at : ℕ) (f : Option (ℕ × ℕ)) → r ≤ 14 * m → at ≡ unwrap_or last 0 → at ≤ n → Pays s t (r * (end_or n f + 1)) (r * at) → IfSome f (LiesOn n last) →
-    Pays s t (owed_direct m n last) (owed_direct_after m n f)
+pub look_paid : (m n r s t : ℕ) (last : Option ℕ) (at : ℕ) (f : Option (ℕ × ℕ)) → r ≤ 14 * m → at ≡ unwrap_or last 0 → at ≤ n → CostsWithin s t (r * (end_or n f + 1)) (r * at) → IfSome f (LiesOn n last) →
+    CostsWithin s t (owed_direct m n last) (owed_direct_after m n f)
 look_paid m n r s t None at None small is low pays lies =
     let a = few_of m (n + 1) r small in (pays.0, (let h = pays.1 in omega (arith, a, h)))
 look_paid m n r s t None at (Some f) small is low pays lies =
@@ -93,8 +93,8 @@ look_paid m n r s t (Some q) at (Some f) small is low pays lies =
     (pays.0, (let h = pays.1 in omega (arith, a, b, c, d, e, h)))
 
 -- or the second one, after the null string at a place
-pub looks_paid : (m n r s u t q : ℕ) (f : Option (ℕ × ℕ)) → r ≤ 14 * m → q ≤ n → Pays s u (r * (q + 1)) (r * q) → Pays u t (r * (end_or n f + 1)) (r * (q + 1)) → IfSome f (λ g. (q < g.0) × (g.0 ≤ g.1) × (g.1 ≤ n)) →
-    Pays s t (owed_direct m n (Some q)) (owed_direct_after m n f)
+pub looks_paid : (m n r s u t q : ℕ) (f : Option (ℕ × ℕ)) → r ≤ 14 * m → q ≤ n → CostsWithin s u (r * (q + 1)) (r * q) → CostsWithin u t (r * (end_or n f + 1)) (r * (q + 1)) → IfSome f (λ g. (q < g.0) × (g.0 ≤ g.1) × (g.1 ≤ n)) →
+    CostsWithin s t (owed_direct m n (Some q)) (owed_direct_after m n f)
 looks_paid m n r s u t q None small low one two lies =
     let rest : n + 1 ≡ q + (n + 1 - q) = omega (arith, low) in
     let a = few_of m (n + 1 - q) r small in
@@ -123,8 +123,8 @@ least m n q o f s t up on pays =
     let falls = search_falls m n o.seeking q f up in
     omega (arith, a, b, falls, pays)
 
-pub direct_owed : (m n : ℕ) (last : Option ℕ) (o : Occurrences) (r : Option (ℕ × ℕ)) (s t : ℕ) → (last ≡ None → IsTrue o.is_fresh) → IfSome r (LiesOn n last) → Pays s t (owed_direct m n last) (owed_direct_after m n r) →
-    Pays s t (owed m n last o) (owed_after m n r o)
+pub direct_owed : (m n : ℕ) (last : Option ℕ) (o : Occurrences) (r : Option (ℕ × ℕ)) (s t : ℕ) → (last ≡ None → IsTrue o.is_fresh) → IfSome r (LiesOn n last) → CostsWithin s t (owed_direct m n last) (owed_direct_after m n r) →
+    CostsWithin s t (owed m n last o) (owed_after m n r o)
 direct_owed m n last o r s t fresh lies pays = (pays.0, by o.is_fresh refl)
   where
     open_to : (b : Bool) (q : ℕ) → o.is_fresh ≡ b → owed m n (Some q) o ≡ (if b then 372 * m * (n + 1) + owed_direct m n (Some q) else owed_behind m n o.seeking q)

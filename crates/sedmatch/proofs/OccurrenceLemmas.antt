@@ -6,7 +6,7 @@ use Rattle.std.proofs.lemmas.Bool.{cases_eq, cases_lt}
 use Rattle.std.proofs.lemmas.List.{get_or-append-add, get_or_append_left}
 use Rattle.std.proofs.lemmas.Option.{get_or_from_slice_get, slice_get-get_or, slice_get_read, slice_get_within}
 use Rattle.sedre.specs.Tree.{WrittenExpression, Tree}
-use Rattle.sedtext.specs.Costs.{Pays}
+use Rattle.sedtext.specs.Costs.{CostsWithin}
 use Rattle.sedre.specs.Steps.{TakesAtLeast}
 use Rattle.sedtext.specs.Following.{LiesOn, Occurs, bytes_passed}
 use Rattle.sedpass.specs.Kept.{KeptRoom, SameSpace}
@@ -285,7 +285,7 @@ due_enough m n (Some q) old mid some fresh same begun = by old.is_fresh refl
 
 pub paid : (m n : ℕ) (last : Option ℕ) (old mid new : Occurrences) (r : Option (ℕ × ℕ)) (s t : ℕ) → 1 ≤ m → (last ≡ None → IsTrue old.is_fresh) → (old.is_fresh ≡ false → mid ≡ old) →
     (IsTrue old.is_fresh → owed_behind m n mid.seeking 0 + 42 * m ≤ 306 * m * (n + 1)) → new.is_fresh ≡ false →
-    Pays s t (owed_search m n last mid.seeking) (owed_after_search (owed_behind m n new.seeking) r) → Pays s t (owed m n last old) (owed_after m n r new)
+    CostsWithin s t (owed_search m n last mid.seeking) (owed_after_search (owed_behind m n new.seeking) r) → CostsWithin s t (owed m n last old) (owed_after m n r new)
 paid m n last old mid new r s t some fresh same begun used pays =
     let due = due_enough m n last old mid some fresh same begun in
     let after = after_used m n r new used in

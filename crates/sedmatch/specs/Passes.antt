@@ -19,11 +19,11 @@ use Rattle.sedmatch.specs.declared.table_matcher.Engine.TheVariants.{Direct, Pas
 
 -- the way of passes forwards in which every place is a start
 abbrev pub any_way : Way
-any_way = record { mirrored = false; sweeps = true; keeps = false }
+any_way = record { mirrored = false; all_starts = true; keeps = false }
 
 -- the way of passes from the text's end, of which each place's state is kept
 abbrev pub back_way : Way
-back_way = record { mirrored = true; sweeps = true; keeps = true }
+back_way = record { mirrored = true; all_starts = true; keeps = true }
 
 -- what was found out is right for the expression
 pub record IsSought (e : WrittenExpression) (s : Sought) : Type 0 where

@@ -11,10 +11,14 @@ ghost use Rattle.sedmatch.specs.Candidates.{NoMatchBefore};
 use sedre::Steps;
 use sedtext::counted::Text;
 use sedtext::counted::lookups::find_literal;
-use sedtext::needed::Needed;
+use sedtext::needed::RequiredLiteral;
 
 /// A place of the text before which no line has a match that holds the literal, or None where no line has one.
-pub fn needed_candidate(needed: &Option<Needed>, text: &Text, steps: &mut Steps) -> Option<usize>
+pub fn needed_candidate(
+    needed: &Option<RequiredLiteral>,
+    text: &Text,
+    steps: &mut Steps,
+) -> Option<usize>
     ensures before { (e : Tree) → IsNeeded e needed.now → NoMatchBefore e text.now result }
     ensures cost { Takes steps.old steps.new (25 * (length text.now + 1)) }
     ensures counts { IfSome result (λ k. TakesAtLeast steps.old steps.new k) }

@@ -11,7 +11,7 @@ ghost use Rattle.sedre.specs.Steps.{Takes, TakesExactly, TakesAtLeast};
 ghost use Rattle.sedre.specs.declared.types.Node.TheVariants.{Seq, Set};
 ghost use Rattle.sedtext.specs.Answer.{SpanAnswer};
 ghost use Rattle.sedtext.specs.Bytes.{looked_at};
-ghost use Rattle.sedtext.specs.Costs.{Pays};
+ghost use Rattle.sedtext.specs.Costs.{CostsWithin};
 ghost use Rattle.sedtext.specs.Following.{CanEndEarly, PassesOver};
 ghost use Rattle.sedtext.specs.Spans.{SomeFound, IsIn};
 ghost use Rattle.sedtext.specs.Word.{AllWord};
@@ -345,7 +345,7 @@ fn anchor_span(anchor: Anchor, text: &Text, from: usize) -> Option<(usize, usize
 fn byte_span(first: &First, text: &Text, from: usize, steps: &mut Steps) -> Option<(usize, usize)>
     requires from { from ≤ length text.now }
     ensures span { FirstSpan (OneByte first.now) text.now from result }
-    ensures cost { Pays steps.old steps.new (4 * (end_or (length text.now) result + 1)) (4 * from) }
+    ensures cost { CostsWithin steps.old steps.new (4 * (end_or (length text.now) result + 1)) (4 * from) }
     ensures counts { IfSome result (λ f. TakesAtLeast steps.old steps.new (f.1 - from)) }
 {
     match find_first(first, text, from, steps) {
@@ -364,7 +364,7 @@ fn run_span(
 ) -> Option<(usize, usize)>
     requires from { from ≤ length text.now }
     ensures span { FirstSpan (Run members.now) text.now from result }
-    ensures cost { Pays steps.old steps.new (4 * (end_or (length text.now) result + 1)) (4 * from) }
+    ensures cost { CostsWithin steps.old steps.new (4 * (end_or (length text.now) result + 1)) (4 * from) }
     ensures counts { IfSome result (λ f. TakesAtLeast steps.old steps.new (f.1 - from)) }
 {
     Some((from, run_end(text, members, from, steps)))
@@ -381,7 +381,7 @@ fn byte_run_span(
 ) -> Option<(usize, usize)>
     requires from { from ≤ length text.now }
     ensures span { FirstSpan (ByteThenRun first.now members.now) text.now from result }
-    ensures cost { Pays steps.old steps.new (4 * (end_or (length text.now) result + 1)) (4 * from) }
+    ensures cost { CostsWithin steps.old steps.new (4 * (end_or (length text.now) result + 1)) (4 * from) }
     ensures counts { IfSome result (λ f. TakesAtLeast steps.old steps.new (f.1 - from)) }
 {
     match find_first(first, text, from, steps) {
@@ -400,7 +400,7 @@ fn run_end_span(
 ) -> Option<(usize, usize)>
     requires from { from ≤ length text.now }
     ensures span { FirstSpan (RunAtEnd members.now) text.now from result }
-    ensures cost { Pays steps.old steps.new (4 * (end_or (length text.now) result + 1)) (4 * from) }
+    ensures cost { CostsWithin steps.old steps.new (4 * (end_or (length text.now) result + 1)) (4 * from) }
     ensures counts { IfSome result (λ f. TakesAtLeast steps.old steps.new (f.1 - f.0)) }
 {
     let end = text.len();
@@ -419,7 +419,7 @@ fn byte_run_end_start(
 ) -> Option<usize>
     requires from { from ≤ length text.now }
     ensures start { FirstStart (ByteThenRunAtEnd first.now members.now) text.now from result }
-    ensures cost { Pays steps.old steps.new (3 * length text.now) (3 * from) }
+    ensures cost { CostsWithin steps.old steps.new (3 * length text.now) (3 * from) }
     ensures counts { IfSome result (λ k. TakesAtLeast steps.old steps.new (length text.now - k)) }
 {
     let run = run_begin(text, members, from, text.len(), steps);
@@ -438,7 +438,7 @@ fn byte_run_end_span(
 ) -> Option<(usize, usize)>
     requires from { from ≤ length text.now }
     ensures span { FirstSpan (ByteThenRunAtEnd first.now members.now) text.now from result }
-    ensures cost { Pays steps.old steps.new (4 * (end_or (length text.now) result + 1)) (4 * from) }
+    ensures cost { CostsWithin steps.old steps.new (4 * (end_or (length text.now) result + 1)) (4 * from) }
     ensures counts { IfSome result (λ f. TakesAtLeast steps.old steps.new (f.1 - f.0)) }
 {
     match byte_run_end_start(first, members, text, from, steps) {
@@ -458,7 +458,7 @@ fn times_span(
 ) -> Option<(usize, usize)>
     requires from { from ≤ length text.now }
     ensures span { FirstSpan (Times set.now count) text.now from result }
-    ensures cost { Pays steps.old steps.new (4 * (end_or (length text.now) result + 1)) (4 * from) }
+    ensures cost { CostsWithin steps.old steps.new (4 * (end_or (length text.now) result + 1)) (4 * from) }
     ensures counts { IfSome result (λ f. TakesAtLeast steps.old steps.new (f.1 - from)) }
 {
     match find_times(set, count, text, from, steps) {
@@ -477,7 +477,7 @@ fn literal_span(
 ) -> Option<(usize, usize)>
     requires from { from ≤ length text.now }
     ensures span { FirstSpan (LiteralForm finder.now) text.now from result }
-    ensures cost { Pays steps.old steps.new (4 * (end_or (length text.now) result + 1)) (4 * from) }
+    ensures cost { CostsWithin steps.old steps.new (4 * (end_or (length text.now) result + 1)) (4 * from) }
     ensures counts { IfSome result (λ f. TakesAtLeast steps.old steps.new (f.1 - from)) }
 {
     match find_literal(text, finder, from, steps) {
@@ -496,7 +496,7 @@ fn choice_span(
 ) -> Option<(usize, usize)>
     requires from { from ≤ length text.now }
     ensures span { FirstSpan (ChoiceForm choice.now) text.now from result }
-    ensures cost { Pays steps.old steps.new (42 * (end_or (length text.now) result + 1)) (42 * from) }
+    ensures cost { CostsWithin steps.old steps.new (42 * (end_or (length text.now) result + 1)) (42 * from) }
     ensures counts { IfSome result (λ f. TakesAtLeast steps.old steps.new (f.1 - from)) }
 {
     match choice.start(text, from, steps) {
@@ -516,7 +516,7 @@ fn form_span(
 ) -> Option<(usize, usize)>
     requires from { from ≤ length text.now }
     ensures span { FirstSpan form.now text.now from result }
-    ensures cost { Pays steps.old steps.new (rate form.now * (end_or (length text.now) result + 1)) (rate form.now * from) }
+    ensures cost { CostsWithin steps.old steps.new (rate form.now * (end_or (length text.now) result + 1)) (rate form.now * from) }
     ensures counts { IfSome result (λ f. TakesAtLeast steps.old steps.new (bytes_looked_at form.now from f)) }
 {
     match form {
@@ -545,7 +545,7 @@ pub fn direct_span(
     requires from { from ≤ length text.now }
     ensures answer { (e : WrittenExpression) → IsDirect e form.now → SpanAnswer (expression_tree e) text.now from result }
     ensures lies { IfSome result (λ f. (from ≤ f.0) × (f.0 ≤ f.1) × (f.1 ≤ length text.now)) }
-    ensures cost { Pays steps.old steps.new (rate form.now * (end_or (length text.now) result + 1)) (rate form.now * from) }
+    ensures cost { CostsWithin steps.old steps.new (rate form.now * (end_or (length text.now) result + 1)) (rate form.now * from) }
     ensures counts { IfSome result (λ f. TakesAtLeast steps.old steps.new (f.1 - f.0)) }
     ensures passes { (e : WrittenExpression) → IsDirect e form.now → CanEndEarly (expression_tree e) → IfSome result (λ f. TakesAtLeast steps.old steps.new (f.1 - from)) }
 {

@@ -3,7 +3,7 @@ ghost use Rattle.std.specs.Prelude.{◌≡◌, ℕ, List, false, ◌+◌, ◌-�
 ghost use Rattle.std.specs.Option.{unwrap_or};
 ghost use Rattle.sedre.specs.Tree.{WrittenExpression, expression_tree};
 ghost use Rattle.sedtext.specs.Answer.{SpanAnswer};
-ghost use Rattle.sedtext.specs.Costs.{Pays};
+ghost use Rattle.sedtext.specs.Costs.{CostsWithin};
 ghost use Rattle.sedtext.specs.Following.{EndsWithin, Occurs, next_span};
 ghost use Rattle.sedtext.specs.Matching.{found};
 ghost use Rattle.sedpass.specs.Occurrences.{SearchTakes, owed_behind};
@@ -218,7 +218,7 @@ fn next_with(
     ensures next { result ≡ next_span (found (expression_tree sought.now.prepared.arena.expr) text.now) (length text.now) last }
     ensures occurs { IfSome result (Occurs (expression_tree sought.now.prepared.arena.expr) text.now last) }
     ensures cost { let m = length sought.now.prepared.arena.expr.nodes in let n = length text.now in
-        Pays steps.old steps.new (owed_search m n last seeking.old) (owed_after_search (owed_behind m n seeking.new) result) }
+        CostsWithin steps.old steps.new (owed_search m n last seeking.old) (owed_after_search (owed_behind m n seeking.new) result) }
     ensures looks { SearchTakes (length sought.now.prepared.arena.expr.nodes) (length text.now) (unwrap_or last 0) steps.old steps.new result }
 {
     let subject = Subject {
@@ -245,7 +245,7 @@ fn first_with(
     ensures searched { Searched sought.now.prepared text.now ahead.old ahead.new back.old back.new seeking.old seeking.new }
     ensures answer { SpanAnswer (expression_tree sought.now.prepared.arena.expr) text.now 0 result }
     ensures cost { let m = length sought.now.prepared.arena.expr.nodes in let n = length text.now in
-        Pays steps.old steps.new (owed_search m n None seeking.old) (owed_after_search (owed_behind m n seeking.new) result) }
+        CostsWithin steps.old steps.new (owed_search m n None seeking.old) (owed_after_search (owed_behind m n seeking.new) result) }
     ensures looks { SearchTakes (length sought.now.prepared.arena.expr.nodes) (length text.now) 0 steps.old steps.new result }
 {
     let start = sought.hints.first_place(text, 0, steps)?;
@@ -275,7 +275,7 @@ pub fn next_by(
     ensures occurs { IfSome result (Occurs (expression_tree sought.now.prepared.arena.expr) text.now last) }
     ensures serves { ServesOn sought.now.prepared.arena.expr text.now result occurrences.old occurrences.new }
     ensures cost { let m = length sought.now.prepared.arena.expr.nodes in let n = length text.now in
-        Pays steps.old steps.new (owed m n last occurrences.old) (owed_after m n result occurrences.new) }
+        CostsWithin steps.old steps.new (owed m n last occurrences.old) (owed_after m n result occurrences.new) }
     ensures looks { SearchTakes (length sought.now.prepared.arena.expr.nodes) (length text.now) (unwrap_or last 0) steps.old steps.new result }
 {
     occurrences.make_ready(&sought.prepared, text);

@@ -61,14 +61,14 @@ pub struct Passes {
 /// The way of passes forwards in which every place is a start.
 pub const ANY: Way = Way {
     mirrored: false,
-    sweeps: true,
+    all_starts: true,
     keeps: false,
 };
 
 /// The way of passes from the text's end, of which each place's state is kept.
 pub const BACK: Way = Way {
     mirrored: true,
-    sweeps: true,
+    all_starts: true,
     keeps: true,
 };
 

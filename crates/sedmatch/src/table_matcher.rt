@@ -3,7 +3,7 @@ ghost use Rattle.std.specs.Prelude.{◌≡◌, ℕ, ◌+◌, ◌-◌, ◌*◌, �
 ghost use Rattle.std.specs.Option.{unwrap_or};
 ghost use Rattle.sedre.specs.Tree.{WrittenExpression, expression_tree};
 ghost use Rattle.sedre.specs.Steps.{Takes, TakesAtLeast};
-ghost use Rattle.sedtext.specs.Costs.{Pays};
+ghost use Rattle.sedtext.specs.Costs.{CostsWithin};
 ghost use Rattle.sedtext.specs.Following.{CanEndEarly, EndsWithin, LiesOn, Occurs, PassesOver, bytes_passed, next_span};
 ghost use Rattle.sedtext.specs.Matching.{found, report};
 ghost use Rattle.sedtext.specs.Answer.{SpanIn};
@@ -72,7 +72,7 @@ fn past_null(form: &DirectForm, text: &Text, at: usize, steps: &mut Steps) -> Op
     ensures next { (e : WrittenExpression) → IsDirect e form.now →
         result ≡ if nat_lt at (length text.now) then found (expression_tree e) text.now (at + 1) else None }
     ensures lies { IfSome result (λ f. (at < f.0) × (f.0 ≤ f.1) × (f.1 ≤ length text.now)) }
-    ensures cost { Pays steps.old steps.new (rate form.now * (end_or (length text.now) result + 1)) (rate form.now * (at + 1)) }
+    ensures cost { CostsWithin steps.old steps.new (rate form.now * (end_or (length text.now) result + 1)) (rate form.now * (at + 1)) }
     ensures counts { IfSome result (λ f. TakesAtLeast steps.old steps.new (f.1 - f.0)) }
     ensures passes { (e : WrittenExpression) → IsDirect e form.now → CanEndEarly (expression_tree e) → IfSome result (λ f. TakesAtLeast steps.old steps.new (f.1 - (at + 1))) }
 {
@@ -94,7 +94,7 @@ fn next_direct(
     ensures next { (e : WrittenExpression) → IsDirect e form.now → result ≡ next_span (found (expression_tree e) text.now) (length text.now) last }
     ensures lies { IfSome result (LiesOn (length text.now) last) }
     ensures cost { (e : WrittenExpression) → IsDirect e form.now → let m = length e.nodes in let n = length text.now in
-        Pays steps.old steps.new (owed_direct m n last) (owed_direct_after m n result) }
+        CostsWithin steps.old steps.new (owed_direct m n last) (owed_direct_after m n result) }
     ensures once { (e : WrittenExpression) → IsDirect e form.now → Takes steps.old steps.new (28 * length e.nodes * (length text.now + 1)) }
     ensures counts { IfSome result (λ f. TakesAtLeast steps.old steps.new (f.1 - f.0)) }
     ensures passes { (e : WrittenExpression) → IsDirect e form.now → CanEndEarly (expression_tree e) → IfSome result (λ f. TakesAtLeast steps.old steps.new (bytes_passed last f)) }
@@ -129,7 +129,7 @@ fn next_by_passes(
     ensures occurs { IfSome result (Occurs (expression_tree passes.old.sought.prepared.arena.expr) text.now last) }
     ensures serves { ServesOn passes.old.sought.prepared.arena.expr text.now result occurrences.old occurrences.new }
     ensures cost { let m = length passes.old.sought.prepared.arena.expr.nodes in let n = length text.now in
-        Pays steps.old steps.new (owed m n last occurrences.old) (owed_after m n result occurrences.new) }
+        CostsWithin steps.old steps.new (owed m n last occurrences.old) (owed_after m n result occurrences.new) }
     ensures looks { SearchTakes (length passes.old.sought.prepared.arena.expr.nodes) (length text.now) (unwrap_or last 0) steps.old steps.new result }
 {
     let sought = &passes.sought;
@@ -258,7 +258,7 @@ impl TableMatcher {
         ensures occurs { IfSome result (Occurs (expression_tree self.old) text.now last) }
         ensures serves { ServesOn self.old text.now result occurrences.old occurrences.new }
         ensures cost { let m = length self.old.nodes in let n = length text.now in
-            Pays steps.old steps.new (owed m n last occurrences.old) (owed_after m n result occurrences.new) }
+            CostsWithin steps.old steps.new (owed m n last occurrences.old) (owed_after m n result occurrences.new) }
         ensures once { let m = length self.old.nodes in let n = length text.now in
             Takes steps.old steps.new (64 * m * m * (n + 1) * (n + 1)) }
         ensures counts { IfSome result (λ f. TakesAtLeast steps.old steps.new (f.1 - f.0)) }

@@ -37,7 +37,7 @@ bits_meet m front behind met tells = (
 -- and so whether the passes meet at the place
 pub meet_here : (p : Prepared) (w : List ℕ) (t ahead : Table) (k : Kept) (a i place offset : ℕ) (met : Bool) → IsKept p w t k → k.region.from ≤ place → place < k.region.to → Follows p w ahead a i place offset →
     (IsTrue met ↔ ((c : ℕ) × (c < length p.arena.expr.nodes) × IsTrue (slice_index_or (row_of ahead.leaves (offset / 2 ^ ahead.layout.shift)) c false) × IsTrue (slice_index_or (row_of t.ends (slice_index_or k.states.items place 0)) c false))) →
-    IsTrue met ↔ Meets p.arena.expr.nodes w k.region.root (ends_told t.way.sweeps (length w) k.region.end) a (one_start i) place
+    IsTrue met ↔ Meets p.arena.expr.nodes w k.region.root (ends_told t.way.all_starts (length w) k.region.end) a (one_start i) place
 meet_here p w t ahead k a i place offset met kept above before follows tells =
     let m = length p.arena.expr.nodes in
     let region : IsRegion p w t k = kept.region in
@@ -48,40 +48,40 @@ meet_here p w t ahead k a i place offset met kept above before follows tells =
     let there : place ≤ length w = (let h = region.within in let g = region.inside in omega (arith, h, g, before)) in
     let one : IsTrue met ↔ ((c : ℕ) × IsTrue (front.entered c) × IsTrue (behind.ended c)) = bits_meet m (row_of ahead.leaves (offset / 2 ^ ahead.layout.shift)) (row_of t.ends s) met tells in
     let row : RowOfPlace p.arena.expr.nodes w a (one_start i) ahead.way.keeps place front.entered front.ended = subst (λ r. RowOfPlace p.arena.expr.nodes w r (one_start i) ahead.way.keeps place front.entered front.ended) follows.0 follows.1 in
-    let two = kept_meets p.arena.expr w t.way.mirrored t.way.sweeps t.way.keeps ahead.way.keeps k.region.root a i k.region.end place front.entered front.ended behind.entered behind.ended
+    let two = kept_meets p.arena.expr w t.way.mirrored t.way.all_starts t.way.keeps ahead.way.keeps k.region.root a i k.region.end place front.entered front.ended behind.entered behind.ended
     region.table.expr.arena region.room.mirrored region.room.keeps there region.inside row live.1.1 in
     (λ h. two.0 (one.0 h), λ h. one.1 (two.1 h))
 
 -- a place more
-pub meet_on : (p : Prepared) (w : List ℕ) (t : Table) (k : Kept) (a i from place : ℕ) → Meet p w t k a i from place → Meets p.arena.expr.nodes w k.region.root (ends_told t.way.sweeps (length w) k.region.end) a (one_start i) place →
+pub meet_on : (p : Prepared) (w : List ℕ) (t : Table) (k : Kept) (a i from place : ℕ) → Meet p w t k a i from place → Meets p.arena.expr.nodes w k.region.root (ends_told t.way.all_starts (length w) k.region.end) a (one_start i) place →
     Meet p w t k a i from (place + 1)
 meet_on p w t k a i from place met here q after before =
     ⊎_elim (λ (lt : q < place). met q after lt)
-    (λ (ge : place ≤ q). let e : place ≡ q = omega arith in subst (λ y. Meets p.arena.expr.nodes w k.region.root (ends_told t.way.sweeps (length w) k.region.end) a (one_start i) y) e here) (cases_lt q place)
+    (λ (ge : place ≤ q). let e : place ≡ q = omega arith in subst (λ y. Meets p.arena.expr.nodes w k.region.root (ends_told t.way.all_starts (length w) k.region.end) a (one_start i) y) e here) (cases_lt q place)
 
 -- nowhere at the region's end
-pub meet_end : (p : Prepared) (w : List ℕ) (t : Table) (k : Kept) (a i : ℕ) → IsKept p w t k → Meets p.arena.expr.nodes w k.region.root (ends_told t.way.sweeps (length w) k.region.end) a (one_start i) k.region.end → ⊥
+pub meet_end : (p : Prepared) (w : List ℕ) (t : Table) (k : Kept) (a i : ℕ) → IsKept p w t k → Meets p.arena.expr.nodes w k.region.root (ends_told t.way.all_starts (length w) k.region.end) a (one_start i) k.region.end → ⊥
 meet_end p w t k a i kept met =
-    let before : k.region.end < (ends_told t.way.sweeps (length w) k.region.end).last =
-    meets_early p.arena.expr.nodes w k.region.root a k.region.end (one_start i) (ends_told t.way.sweeps (length w) k.region.end) kept.region.table.expr.arena met in
-    last_told t.way.sweeps (length w) k.region.end kept.region.whole before
+    let before : k.region.end < (ends_told t.way.all_starts (length w) k.region.end).last =
+    meets_early p.arena.expr.nodes w k.region.root a k.region.end (one_start i) (ends_told t.way.all_starts (length w) k.region.end) kept.region.table.expr.arena met in
+    last_told t.way.all_starts (length w) k.region.end kept.region.whole before
   where
-    last_told : (sweeps : Bool) (n end : ℕ) → (IsTrue sweeps → end ≡ n) → end < (ends_told sweeps n end).last → ⊥
+    last_told : (all_starts : Bool) (n end : ℕ) → (IsTrue all_starts → end ≡ n) → end < (ends_told all_starts n end).last → ⊥
     last_told true n end whole before = let e : end ≡ n = whole refl in omega arith
     last_told false n end whole before = omega arith
 
 -- How the pass ahead goes on.
 
-next_row : (e : WrittenExpression) (w : List ℕ) (mirrored sweeps keeps edge : Bool) (a i place byte : ℕ) (entered ended after after_ended : ℕ → Bool) → mirrored ≡ false → sweeps ≡ false → i ≤ place → slice_get w place ≡ Some byte →
-    (IsTrue edge ↔ (place + 1 ≡ length w)) → LeadsTo (seen mirrored e).nodes a keeps entered ended (Some byte) edge sweeps after after_ended → RowOfPlace e.nodes w a (one_start i) keeps place entered ended →
+next_row : (e : WrittenExpression) (w : List ℕ) (mirrored all_starts keeps edge : Bool) (a i place byte : ℕ) (entered ended after after_ended : ℕ → Bool) → mirrored ≡ false → all_starts ≡ false → i ≤ place → slice_get w place ≡ Some byte →
+    (IsTrue edge ↔ (place + 1 ≡ length w)) → LeadsTo (seen mirrored e).nodes a keeps entered ended (Some byte) edge all_starts after after_ended → RowOfPlace e.nodes w a (one_start i) keeps place entered ended →
     RowOfPlace e.nodes w a (one_start i) keeps (place + 1) after after_ended
-next_row e w true sweeps keeps edge a i place byte entered ended after after_ended front one from got last leads row = absurd (true≢false front)
+next_row e w true all_starts keeps edge a i place byte entered ended after after_ended front one from got last leads row = absurd (true≢false front)
 next_row e w false true keeps edge a i place byte entered ended after after_ended front one from got last leads row = absurd (true≢false one)
 next_row e w false false keeps edge a i place byte entered ended after after_ended front one from got last leads row =
     let bytes : SameBytes e.nodes (slice_get w place) (Some byte) = λ x members _. ap (λ b. byte_is_in b members) got in
     leads w (one_start i) place bytes last (λ h. absurd (true≢false (sym h)), λ h. absurd (omega arith)) row
 
-pub follows_next : (p : Prepared) (w : List ℕ) (t after : Table) (a i place byte offset next : ℕ) (edge : Bool) → t.way.mirrored ≡ false → t.way.sweeps ≡ false → SameShape t after → i ≤ place → slice_get w place ≡ Some byte →
+pub follows_next : (p : Prepared) (w : List ℕ) (t after : Table) (a i place byte offset next : ℕ) (edge : Bool) → t.way.mirrored ≡ false → t.way.all_starts ≡ false → SameShape t after → i ≤ place → slice_get w place ≡ Some byte →
     (IsTrue edge ↔ (place + 1 ≡ length w)) →
     LeadsOn (nodes_of t.way p.arena.expr) t.way (state_of (length p.arena.expr.nodes) t (offset / 2 ^ t.layout.shift)) byte edge (state_of (length p.arena.expr.nodes) after (next / 2 ^ after.layout.shift)) →
     Follows p w t a i place offset → Follows p w after a i (place + 1) next
@@ -91,7 +91,7 @@ follows_next p w t after a i place byte offset next edge front one shape from go
     let new = state_of m after (next / 2 ^ after.layout.shift) in
     let root : new.root ≡ old.root = leads.0 in
     let row : RowOfPlace p.arena.expr.nodes w old.root (one_start i) t.way.keeps (place + 1) new.entered new.ended =
-    next_row p.arena.expr w t.way.mirrored t.way.sweeps t.way.keeps edge old.root i place byte old.entered old.ended new.entered new.ended front one from got last leads.1 follows.1 in (
+    next_row p.arena.expr w t.way.mirrored t.way.all_starts t.way.keeps edge old.root i place byte old.entered old.ended new.entered new.ended front one from got last leads.1 follows.1 in (
       root ∙ follows.0,
       subst (λ r. RowOfPlace p.arena.expr.nodes w r (one_start i) after.way.keeps (place + 1) new.entered new.ended) (sym root)
           (subst (λ v. RowOfPlace p.arena.expr.nodes w old.root (one_start i) v (place + 1) new.entered new.ended) (sym (ap (λ v. v.keeps) shape.0)) row),
@@ -122,7 +122,7 @@ place_cost m from place s a b c d some before one two three = omega (arith, some
 pub meet_read : (p : Prepared) (w : List ℕ) (t ahead : Table) (k : Kept) (a i place offset n s b : ℕ) (met : Bool) → IsKept p w t k → k.region.from ≤ place → place < k.region.to → Follows p w ahead a i place offset →
     n ≡ length p.arena.expr.nodes → s ≡ offset / 2 ^ ahead.layout.shift → b ≡ slice_index_or k.states.items place 0 →
     (IsTrue met ↔ ((c : ℕ) × (c < n) × IsTrue (slice_index_or (row_of ahead.leaves s) c false) × IsTrue (slice_index_or (row_of t.ends b) c false))) →
-    IsTrue met ↔ Meets p.arena.expr.nodes w k.region.root (ends_told t.way.sweeps (length w) k.region.end) a (one_start i) place
+    IsTrue met ↔ Meets p.arena.expr.nodes w k.region.root (ends_told t.way.all_starts (length w) k.region.end) a (one_start i) place
 meet_read p w t ahead k a i place offset n s b met kept above before follows count front behind tells =
     meet_here p w t ahead k a i place offset met kept above before follows
     (subst (λ v. IsTrue met ↔ ((c : ℕ) × (c < length p.arena.expr.nodes) × IsTrue (slice_index_or (row_of ahead.leaves (offset / 2 ^ ahead.layout.shift)) c false) × IsTrue (slice_index_or (row_of t.ends v) c false))) behind

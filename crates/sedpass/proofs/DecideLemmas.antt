@@ -338,12 +338,12 @@ run_found nodes groups x c facts expr inside is told =
 -- Regions.
 
 -- what a kept pass of one stop tells
-pub stops_at : (nodes : List Node) (w : List ℕ) (r stop a i p : ℕ) (sweeps : Bool) → sweeps ≡ false → CeasesAt nodes w r (ends_told sweeps (length w) stop) a i p → StopsAt nodes w r stop a i p
-stops_at nodes w r stop a i p sweeps is ceases = subst (λ b. CeasesAt nodes w r (ends_told b (length w) stop) a i p) is ceases
+pub stops_at : (nodes : List Node) (w : List ℕ) (r stop a i p : ℕ) (all_starts : Bool) → all_starts ≡ false → CeasesAt nodes w r (ends_told all_starts (length w) stop) a i p → StopsAt nodes w r stop a i p
+stops_at nodes w r stop a i p all_starts is ceases = subst (λ b. CeasesAt nodes w r (ends_told b (length w) stop) a i p) is ceases
 
-pub runs_to : (nodes : List Node) (w : List ℕ) (r stop x i p : ℕ) (sweeps : Bool) → sweeps ≡ false → IsArena nodes → IsSetAt nodes x → i ≤ p →
-    AllMarked nodes w r (ends_told sweeps (length w) stop) x true i p → (p < stop → IsTrue false ↔ ReachesEnd nodes w r (ends_told sweeps (length w) stop) x p) → RunsTo nodes w r stop x i p
-runs_to nodes w r stop x i p sweeps is arena a_set up passed found =
+pub runs_to : (nodes : List Node) (w : List ℕ) (r stop x i p : ℕ) (all_starts : Bool) → all_starts ≡ false → IsArena nodes → IsSetAt nodes x → i ≤ p →
+    AllMarked nodes w r (ends_told all_starts (length w) stop) x true i p → (p < stop → IsTrue false ↔ ReachesEnd nodes w r (ends_told all_starts (length w) stop) x p) → RunsTo nodes w r stop x i p
+runs_to nodes w r stop x i p all_starts is arena a_set up passed found =
     let all = subst (λ b. AllMarked nodes w r (ends_told b (length w) stop) x true i p) is passed in
     let last = subst (λ b. p < stop → IsTrue false ↔ ReachesEnd nodes w r (ends_told b (length w) stop) x p) is found in (
       up,
@@ -357,15 +357,15 @@ ends_still s old new here same ends = (subst (λ r. IsLastIn (nodes_in s) r here
 
 -- so are the tables' ways
 pub desk_still : (s : Subject) (inside ahead inside' ahead' : Table) (kept : Kept) → IsKept s.prepared.now s.text.now inside' kept → IsTable s.prepared.now ahead' →
-    inside.way.sweeps ≡ false → IsAhead s.prepared.now ahead → SameShape inside inside' → SameShape ahead ahead' →
+    inside.way.all_starts ≡ false → IsAhead s.prepared.now ahead → SameShape inside inside' → SameShape ahead ahead' →
     IsDesk s (record { ahead = ahead'; inside = inside' }) kept
 desk_still s inside ahead inside' ahead' kept region table one_end before same same' = record {
   region = region;
-  one_end = ap (λ v. v.sweeps) same.0 ∙ one_end;
+  one_end = ap (λ v. v.all_starts) same.0 ∙ one_end;
   ahead = record {
     table = table;
     forwards = ap (λ v. v.mirrored) same'.0 ∙ before.forwards;
-    single = ap (λ v. v.sweeps) same'.0 ∙ before.single;
+    single = ap (λ v. v.all_starts) same'.0 ∙ before.single;
     brief = ap (λ v. v.keeps) same'.0 ∙ before.brief;
   };
 }
@@ -399,8 +399,8 @@ pub desk_begun : (s : Subject) (tables : GroupTables) (old new : Kept) → HasDe
 desk_begun s tables old new desk region = record { region = region; one_end = desk.one_end; ahead = desk.ahead }
 
 -- and passes for any node may begin
-pub may_begin : (s : Subject) (tables : GroupTables) (x : ℕ) → tables.inside.way.sweeps ≡ false → x < length (nodes_in s) → MayBegin s.prepared.now tables.inside.way x
-may_begin s tables x one_end inside = (inside, λ sweeps. absurd (true≢false (sym sweeps ∙ one_end)))
+pub may_begin : (s : Subject) (tables : GroupTables) (x : ℕ) → tables.inside.way.all_starts ≡ false → x < length (nodes_in s) → MayBegin s.prepared.now tables.inside.way x
+may_begin s tables x one_end inside = (inside, λ all_starts. absurd (true≢false (sym all_starts ∙ one_end)))
 
 -- Looks at least.
 pub least_less : (s t n k : ℕ) → k ≤ n → TakesAtLeast s t n → TakesAtLeast s t k
@@ -487,11 +487,11 @@ has_desk s t r text blocks nodes tables space short cut few = record {
         (cases_lt b blocks);
     marks = λ q low. (let h = space.marks q low in omega (arith, h, few));
   };
-  one_end = ap (λ v. v.sweeps) tables.ways.inside;
+  one_end = ap (λ v. v.all_starts) tables.ways.inside;
   ahead = record {
     table = tables.ahead;
     forwards = ap (λ v. v.mirrored) tables.ways.ahead;
-    single = ap (λ v. v.sweeps) tables.ways.ahead;
+    single = ap (λ v. v.all_starts) tables.ways.ahead;
     brief = ap (λ v. v.keeps) tables.ways.ahead;
   };
 }

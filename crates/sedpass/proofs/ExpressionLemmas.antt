@@ -19,7 +19,7 @@ abbrev LeadsIn : WrittenExpression → Table → ℕ → ℕ → State → Type 
 LeadsIn e t n k b = (byte : ℕ) (edge : Bool) → byte < 256 → IsColumn t.layout byte edge k → LeadsOn (nodes_of t.way e) t.way (state_of (length e.nodes) t n) byte edge b
 
 abbrev RowIn : WrittenExpression → List ℕ → Way → (root end place : ℕ) → (ℕ → Bool) → (ℕ → Bool) → Type 0
-RowIn e w way root end place entered ended = RowOfPlace (nodes_of way e) (reverse w) root (starts_told way.sweeps (length w) end) way.keeps (length w - place) entered ended
+RowIn e w way root end place entered ended = RowOfPlace (nodes_of way e) (reverse w) root (starts_told way.all_starts (length w) end) way.keeps (length w - place) entered ended
 
 abbrev LiveIn : WrittenExpression → List ℕ → Table → (root end place : ℕ) → State → Type 0
 LiveIn e w t root end place a = (a.root ≡ root) × RowIn e w t.way root end place a.entered a.ended
@@ -30,7 +30,7 @@ begins_for p q same way root may =
     let old = p.is_prepared.last in
     let new = q.is_prepared.last in
     let nodes : length p.arena.expr.nodes ≡ length q.arena.expr.nodes = ap (λ (e : WrittenExpression). length e.nodes) same in
-    (omega (arith, may.0, nodes), λ sweeps. may.1 sweeps ∙ omega (arith, old, new, nodes))
+    (omega (arith, may.0, nodes), λ all_starts. may.1 all_starts ∙ omega (arith, old, new, nodes))
 
 module _ (p q : Prepared) (same : p.arena.expr ≡ q.arena.expr) where
   pub table_for : (t : Table) → IsTable p t → IsTable q t
@@ -42,7 +42,7 @@ module _ (p q : Prepared) (same : p.arena.expr ≡ q.arena.expr) where
     told = λ n low. subst (λ (e : WrittenExpression). IsTold (state_of (length e.nodes) t n)) same (table.told n low);
     filled = λ n k low column some. subst (λ (e : WrittenExpression). Names (length e.nodes) t (LeadsIn e t n k) (cell_of t n k)) same (table.filled n k low column some);
     begun = λ root kind may now.
-        let code = (beginning_of t (beginning_at t.way.sweeps root kind)).code in
+        let code = (beginning_of t (beginning_at t.way.all_starts root kind)).code in
         subst (λ (e : WrittenExpression). Names (length e.nodes) t (BeginsIn (nodes_of t.way e) t.way root kind) code) same (table.begun root kind (begins_for q p (sym same) t.way root may) now);
   }
 
@@ -81,6 +81,6 @@ module _ (p q : Prepared) (same : p.arena.expr ≡ q.arena.expr) where
   serves_for w back s serves = record {
     table = table_for back serves.table;
     room = room_for (length w) back s.kept serves.room;
-    sweeps = serves.sweeps;
+    all_starts = serves.all_starts;
     kept = λ begun. kept_for w back s.kept (serves.kept begun);
   }

@@ -32,15 +32,15 @@ use Rattle.sedre.proofs.MirrorLemmas.{seen-arena, seen-length}
 
 -- The starts of a pass.
 
-first_start : (sweeps : Bool) (from : ℕ) (w : List ℕ) (i : ℕ) → IsStart (starts_of sweeps from w) i → from ≤ i
+first_start : (all_starts : Bool) (from : ℕ) (w : List ℕ) (i : ℕ) → IsStart (starts_of all_starts from w) i → from ≤ i
 first_start true from w i is = is.0
 first_start false from w i is = is.0
 
-last_start : (sweeps : Bool) (from : ℕ) (w : List ℕ) (i : ℕ) → from ≤ length w → IsStart (starts_of sweeps from w) i → i ≤ length w
+last_start : (all_starts : Bool) (from : ℕ) (w : List ℕ) (i : ℕ) → from ≤ length w → IsStart (starts_of all_starts from w) i → i ≤ length w
 last_start true from w i within is = is.1
 last_start false from w i within is = let low = is.1 in omega arith
 
-next_start : (sweeps : Bool) (from : ℕ) (w : List ℕ) (p : ℕ) → from ≤ p → p < length w → IsTrue sweeps ↔ IsStart (starts_of sweeps from w) (p + 1)
+next_start : (all_starts : Bool) (from : ℕ) (w : List ℕ) (p : ℕ) → from ≤ p → p < length w → IsTrue all_starts ↔ IsStart (starts_of all_starts from w) (p + 1)
 next_start true from w p after inside = (λ h. (omega arith, omega arith), λ h. refl)
 next_start false from w p after inside = (λ h. absurd (true≢false (sym h)), λ h. let low = h.1 in absurd (omega arith))
 
@@ -67,9 +67,9 @@ module _ (nodes : List Node) (w : List ℕ) (r : ℕ) (s : Starts) where
   last_here n some = (omega arith, some, λ k low h. omega arith)
 
   -- if none ends from n on, the last one below n is the last of all
-  all_below : (sweeps : Bool) (n : ℕ) (end : Option ℕ) → ((k : ℕ) → n ≤ k → SomeSpan nodes w r s k → ⊥) → LastBelow nodes w r s n end → IsEnd sweeps nodes w r s end
-  all_below sweeps n None none last = λ k some. ⊎_elim (λ (lt : k < n). last k lt some) (λ (ge : n ≤ k). none k ge some) (cases_lt k n)
-  all_below sweeps n (Some j) none last = (last.1, λ e k some. ⊎_elim (λ (lt : k < n). last.2 k lt some) (λ (ge : n ≤ k). absurd (none k ge some)) (cases_lt k n))
+  all_below : (all_starts : Bool) (n : ℕ) (end : Option ℕ) → ((k : ℕ) → n ≤ k → SomeSpan nodes w r s k → ⊥) → LastBelow nodes w r s n end → IsEnd all_starts nodes w r s end
+  all_below all_starts n None none last = λ k some. ⊎_elim (λ (lt : k < n). last k lt some) (λ (ge : n ≤ k). none k ge some) (cases_lt k n)
+  all_below all_starts n (Some j) none last = (last.1, λ e k some. ⊎_elim (λ (lt : k < n). last.2 k lt some) (λ (ge : n ≤ k). absurd (none k ge some)) (cases_lt k n))
 
 -- the last end below a place is below it
 pub end_below : (nodes : List Node) (w : List ℕ) (r : ℕ) (s : Starts) (n : ℕ) (end : Option ℕ) → LastBelow nodes w r s (n + 1) end → IfSome end (λ j. j ≤ n)
@@ -79,7 +79,7 @@ end_below nodes w r s n (Some j) last = let low = last.0 in omega arith
 -- nothing ends before a start
 pub none_before : (p : Prepared) (way : Way) (w : List ℕ) (from : ℕ) → EndsBelow p way w from from None
 none_before p way w from k low some =
-    let after = first_start way.sweeps from w some.0 some.1 in
+    let after = first_start way.all_starts from w some.0 some.1 in
     let on = Matches-forward (tree_at (nodes_of way p.arena.expr) p.root) w some.0 k some.2 in
     omega arith
 
@@ -93,23 +93,23 @@ pub low_code : (b : Bool) (o v : ℕ) → v ≡ code_of b o → v < 2147483648 �
 low_code true o v is low = refl
 low_code false o v is low = absurd (omega arith)
 
-no_end_by : (keeps sweeps ends dead : Bool) → keeps ≡ false → ((not keeps && (ends || (dead && not sweeps))) || (keeps && dead)) ≡ false → ends ≡ false
-no_end_by true sweeps ends dead e is = absurd (true≢false e)
-no_end_by false sweeps false dead e is = refl
-no_end_by false sweeps true dead e is = absurd (true≢false is)
+no_end_by : (keeps all_starts ends dead : Bool) → keeps ≡ false → ((not keeps && (ends || (dead && not all_starts))) || (keeps && dead)) ≡ false → ends ≡ false
+no_end_by true all_starts ends dead e is = absurd (true≢false e)
+no_end_by false all_starts false dead e is = refl
+no_end_by false all_starts true dead e is = absurd (true≢false is)
 
-swept_by : (keeps sweeps ends dead : Bool) → keeps ≡ false → IsTrue sweeps → ((not keeps && (ends || (dead && not sweeps))) || (keeps && dead)) ≡ true → IsTrue ends
-swept_by true sweeps ends dead e s is = absurd (true≢false e)
+swept_by : (keeps all_starts ends dead : Bool) → keeps ≡ false → IsTrue all_starts → ((not keeps && (ends || (dead && not all_starts))) || (keeps && dead)) ≡ true → IsTrue ends
+swept_by true all_starts ends dead e s is = absurd (true≢false e)
 swept_by false false ends dead e s is = absurd (true≢false (sym s))
 swept_by false true true dead e s is = refl
 swept_by false true false true e s is = absurd (true≢false (sym is))
 swept_by false true false false e s is = absurd (true≢false (sym is))
 
 no_end : (way : Way) (f : Flags) → way.keeps ≡ false → stops way f ≡ false → f.ends ≡ false
-no_end way f keeps is = no_end_by way.keeps way.sweeps f.ends f.dead keeps is
+no_end way f keeps is = no_end_by way.keeps way.all_starts f.ends f.dead keeps is
 
-swept_end : (way : Way) (f : Flags) → way.keeps ≡ false → IsTrue way.sweeps → stops way f ≡ true → IsTrue f.ends
-swept_end way f keeps sweeps is = swept_by way.keeps way.sweeps f.ends f.dead keeps sweeps is
+swept_end : (way : Way) (f : Flags) → way.keeps ≡ false → IsTrue way.all_starts → stops way f ≡ true → IsTrue f.ends
+swept_end way f keeps all_starts is = swept_by way.keeps way.all_starts f.ends f.dead keeps all_starts is
 
 -- At a place.
 
@@ -119,7 +119,7 @@ module _ (p : Prepared) (way : Way) (w : List ℕ) (start place : ℕ) (a : Stat
   N = nodes_of way p.arena.expr
 
   abbrev S : Starts
-  S = starts_of way.sweeps start w
+  S = starts_of way.all_starts start w
 
   ends_here : IsTrue a.flags.ends ↔ SomeSpan N w p.root S place
   ends_here =
@@ -138,10 +138,10 @@ module _ (p : Prepared) (way : Way) (w : List ℕ) (start place : ℕ) (a : Stat
   )
 
   -- where no leaf is entered no match goes on
-  pub dead_end : (end : Option ℕ) → way.sweeps ≡ false → IsTrue a.flags.dead → EndsBelow p way w start (place + 1) end → IsEnd way.sweeps N w p.root S end
+  pub dead_end : (end : Option ℕ) → way.all_starts ≡ false → IsTrue a.flags.dead → EndsBelow p way w start (place + 1) end → IsEnd way.all_starts N w p.root S end
   dead_end end single is last =
       let none = row_empty N w a.root place S way.keeps a.entered a.ended here.1 (told.1.0 is) in
-      all_below N w p.root S way.sweeps (place + 1) end
+      all_below N w p.root S way.all_starts (place + 1) end
       (λ k late some.
       let one = subst (λ b. IsStart (starts_of b start w) some.0) single some.1 in
       let low = one.1 in
@@ -149,11 +149,11 @@ module _ (p : Prepared) (way : Way) (w : List ℕ) (start place : ℕ) (a : Stat
       last
 
   -- a sweep stops where a match ends
-  pub swept : IsTrue way.sweeps → stops way a.flags ≡ true → IsEnd way.sweeps N w p.root S (Some place)
-  swept sweeps is = (ends_here.0 (swept_end way a.flags keeps sweeps is), λ single. absurd (both_ways way.sweeps single sweeps))
+  pub swept : IsTrue way.all_starts → stops way a.flags ≡ true → IsEnd way.all_starts N w p.root S (Some place)
+  swept all_starts is = (ends_here.0 (swept_end way a.flags keeps all_starts is), λ single. absurd (both_ways way.all_starts single all_starts))
 
-  pub swept_ends : IsTrue way.sweeps → stops way a.flags ≡ true → IsTrue a.flags.ends
-  swept_ends sweeps is = swept_end way a.flags keeps sweeps is
+  pub swept_ends : IsTrue way.all_starts → stops way a.flags ≡ true → IsTrue a.flags.ends
+  swept_ends all_starts is = swept_end way a.flags keeps all_starts is
 
 -- a code of the state of a place
 module _ (p : Prepared) (t : Table) (w : List ℕ) (start place code o : ℕ) (end : Option ℕ) (table : IsTable p t) (keeps : t.way.keeps ≡ false) (after : start ≤ place) (within : place ≤ length w)
@@ -190,7 +190,7 @@ module _ (p : Prepared) (t : Table) (w : List ℕ) (start place code o : ℕ) (e
   }
 
   pub arrive_low : (flags : Flags) (noted : Option ℕ) (over : Bool) → code < 2147483648 → flags ≡ here.flags → (IsTrue flags.ends → noted ≡ Some place) → (flags.ends ≡ false → noted ≡ end) →
-      (IsTrue over → IsTrue t.way.sweeps ⊎ ((t.way.sweeps ≡ false) × IsTrue flags.dead)) → PassIs p t w start (record { offset = o; place = place; end = noted; over = over })
+      (IsTrue over → IsTrue t.way.all_starts ⊎ ((t.way.all_starts ≡ false) × IsTrue flags.dead)) → PassIs p t w start (record { offset = o; place = place; end = noted; over = over })
   arrive_low flags noted over low same ends none why =
       let stop : stops t.way here.flags ≡ true = low_code (stops t.way here.flags) o code code_is low in
       let told_ends = noted_ends p t.way w start place here keeps arena inside after within is_told arrived flags.ends end (ap (λ (f : Flags). f.ends) same) last in
@@ -205,11 +205,11 @@ module _ (p : Prepared) (t : Table) (w : List ℕ) (start place code o : ℕ) (e
         state = arrived;
         last = all;
         over = λ h. ⊎_elim
-            (λ (sweeps : IsTrue t.way.sweeps).
-            let end_is = ends (ap (λ (f : Flags). f.ends) same ∙ swept_ends p t.way w start place here keeps arena inside after within is_told arrived sweeps stop) in
-            subst (λ x. IsEnd t.way.sweeps (nodes_of t.way p.arena.expr) w p.root (starts_of t.way.sweeps start w) x) (sym end_is)
-            (swept p t.way w start place here keeps arena inside after within is_told arrived sweeps stop))
-            (λ (d : (t.way.sweeps ≡ false) × IsTrue flags.dead).
+            (λ (all_starts : IsTrue t.way.all_starts).
+            let end_is = ends (ap (λ (f : Flags). f.ends) same ∙ swept_ends p t.way w start place here keeps arena inside after within is_told arrived all_starts stop) in
+            subst (λ x. IsEnd t.way.all_starts (nodes_of t.way p.arena.expr) w p.root (starts_of t.way.all_starts start w) x) (sym end_is)
+            (swept p t.way w start place here keeps arena inside after within is_told arrived all_starts stop))
+            (λ (d : (t.way.all_starts ≡ false) × IsTrue flags.dead).
             dead_end p t.way w start place here keeps arena inside after within is_told arrived noted d.0 (sym (ap (λ (f : Flags). f.dead) same) ∙ d.1) all)
             (why h);
       }
@@ -220,8 +220,8 @@ pub arrives_next : (p : Prepared) (way : Way) (w : List ℕ) (start place byte :
     Arrives p way w start place a → LeadsOn (nodes_of way p.arena.expr) way a byte edge b → Arrives p way w start (place + 1) b
 arrives_next p way w start place byte edge a b after is inside edges here leads = (
   leads.0 ∙ here.0,
-  subst (λ r. StateAt (nodes_of way p.arena.expr) w (starts_of way.sweeps start w) way.keeps (place + 1) (record { root = r; entered = b.entered; ended = b.ended; flags = b.flags })) (sym leads.0)
-      (leads.1 w (starts_of way.sweeps start w) place (λ x m set. ap (λ o. byte_is_in o m) is) edges (next_start way.sweeps start w place after inside) here.1),
+  subst (λ r. StateAt (nodes_of way p.arena.expr) w (starts_of way.all_starts start w) way.keeps (place + 1) (record { root = r; entered = b.entered; ended = b.ended; flags = b.flags })) (sym leads.0)
+      (leads.1 w (starts_of way.all_starts start w) place (λ x m set. ap (λ o. byte_is_in o m) is) edges (next_start way.all_starts start w place after inside) here.1),
 )
 
 -- a pass goes on, in the table as it was or in one that was added to
@@ -249,39 +249,39 @@ follows_on p t w start byte cell place mid next at inside pass is names arrive =
 
 -- The beginning of a pass.
 
-first_is : (sweeps : Bool) (from : ℕ) (w : List ℕ) → (starts_of sweeps from w).first ≡ from
+first_is : (all_starts : Bool) (from : ℕ) (w : List ℕ) → (starts_of all_starts from w).first ≡ from
 first_is true from w = refl
 first_is false from w = refl
 
-starts_order : (sweeps : Bool) (from : ℕ) (w : List ℕ) → from ≤ length w → (starts_of sweeps from w).first ≤ (starts_of sweeps from w).last
+starts_order : (all_starts : Bool) (from : ℕ) (w : List ℕ) → from ≤ length w → (starts_of all_starts from w).first ≤ (starts_of all_starts from w).last
 starts_order true from w low = low
 starts_order false from w low = omega arith
 
 pub arrives_first : (p : Prepared) (way : Way) (w : List ℕ) (from : ℕ) (kind : Kind) (a : State) → way.mirrored ≡ false → from ≤ length w → (IsTrue kind.begin ↔ (from ≡ 0)) → (IsTrue kind.end ↔ (from ≡ length w)) →
     BeginsIn (nodes_of way p.arena.expr) way p.root kind a → Arrives p way w from from a
 arrives_first p way w from kind a mirrored low begin end begins =
-    let s = starts_of way.sweeps from w in
-    let first = first_is way.sweeps from w in
+    let s = starts_of way.all_starts from w in
+    let first = first_is way.all_starts from w in
     let place : IsPlace w s.first (at_begin way.mirrored kind) (at_end way.mirrored kind) =
     subst (λ b. IsPlace w s.first (at_begin b kind) (at_end b kind)) (sym mirrored) (subst (λ x. IsPlace w x kind.begin kind.end) (sym first) (begin, end)) in (
       begins.0,
       subst (λ r. RowOfPlace (nodes_of way p.arena.expr) w r s way.keeps from a.entered a.ended) (sym begins.0)
-          (subst (λ x. RowOfPlace (nodes_of way p.arena.expr) w p.root s way.keeps x a.entered a.ended) first (begins.1 w s place (starts_order way.sweeps from w low))),
+          (subst (λ x. RowOfPlace (nodes_of way p.arena.expr) w p.root s way.keeps x a.entered a.ended) first (begins.1 w s place (starts_order way.all_starts from w low))),
     )
 
 -- The end of a pass.
 
 pub pass_end : (p : Prepared) (t : Table) (w : List ℕ) (start : ℕ) (at : Passed) → start ≤ length w → PassIs p t w start at → (at.over ≡ true) ⊎ (length w ≤ at.place) →
-    IsEnd t.way.sweeps (nodes_of t.way p.arena.expr) w p.root (starts_of t.way.sweeps start w) at.end
+    IsEnd t.way.all_starts (nodes_of t.way p.arena.expr) w p.root (starts_of t.way.all_starts start w) at.end
 pass_end p t w start at low pass done =
     ⊎_elim
     (λ (over : at.over ≡ true). pass.over over)
     (λ (last : length w ≤ at.place).
-    let s = starts_of t.way.sweeps start w in
+    let s = starts_of t.way.all_starts start w in
     let nodes = nodes_of t.way p.arena.expr in
-    all_below nodes w p.root s t.way.sweeps (at.place + 1) at.end
+    all_below nodes w p.root s t.way.all_starts (at.place + 1) at.end
     (λ k late some.
-    let within = Matches-within (tree_at nodes p.root) w some.0 k (last_start t.way.sweeps start w some.0 low some.1) some.2 in
+    let within = Matches-within (tree_at nodes p.root) w some.0 k (last_start t.way.all_starts start w some.0 low some.1) some.2 in
     omega arith)
     pass.last)
     done
@@ -311,36 +311,36 @@ module _ (e : WrittenExpression) (r : ℕ) (w : List ℕ) (from : ℕ) (whole : 
   end_found low None none = (λ h. absurd (true≢false (sym h)), λ some. absurd (none some.1 (some.0, (some.2, some.3), from_tree some.0 some.1 some.4)))
   end_found low (Some j) is = (λ h. let some = is.0 in (some.0, j, some.1.0, some.1.1, to_tree some.0 j some.2), λ some. refl)
 
-  pub end_passes : (sweeps : Bool) (s t place : ℕ) → from ≤ length w → (end : Option ℕ) → IsEnd sweeps e.nodes w r (starts_of sweeps from w) end → IfSome end (λ j. j ≤ place) →
+  pub end_passes : (all_starts : Bool) (s t place : ℕ) → from ≤ length w → (end : Option ℕ) → IsEnd all_starts e.nodes w r (starts_of all_starts from w) end → IfSome end (λ j. j ≤ place) →
       TakesAtLeast s t (2 * (place - from) + 1) → IfSome end (λ j. PassesOver (expression_tree e) w from s t)
-  end_passes sweeps s t place low None is ended looks = tt
-  end_passes sweeps s t place low (Some j) is ended looks =
+  end_passes all_starts s t place low None is ended looks = tt
+  end_passes all_starts s t place low (Some j) is ended looks =
       let some = is.0 in
-      let after = first_start sweeps from w some.0 some.1 in
+      let after = first_start all_starts from w some.0 some.1 in
       record {
         start = some.0;
         end = j;
         later = after;
-        within = Matches-within (tree_at e.nodes r) w some.0 j (last_start sweeps from w some.0 low some.1) some.2;
+        within = Matches-within (tree_at e.nodes r) w some.0 j (last_start all_starts from w some.0 low some.1) some.2;
         spans = to_tree some.0 j some.2;
         bytes = least_less s t (2 * (place - from) + 1) (j - some.0) looks (omega (arith, ended, after));
         passed = λ early. least_less s t (2 * (place - from) + 1) (j - from) looks (omega (arith, ended));
       }
 
 -- of a pass forwards
-module _ (p : Prepared) (way u : Way) (w : List ℕ) (from : ℕ) (end : Option ℕ) (same : u ≡ way) (mirrored : way.mirrored ≡ false) (is : IsEnd u.sweeps (nodes_of u p.arena.expr) w p.root (starts_of u.sweeps from w) end) where
-  seen_end : IsEnd way.sweeps p.arena.expr.nodes w p.root (starts_of way.sweeps from w) end
-  seen_end = subst (λ b. IsEnd way.sweeps (seen b p.arena.expr).nodes w p.root (starts_of way.sweeps from w) end) mirrored
-      (subst (λ (x : Way). IsEnd x.sweeps (nodes_of x p.arena.expr) w p.root (starts_of x.sweeps from w) end) same is)
+module _ (p : Prepared) (way u : Way) (w : List ℕ) (from : ℕ) (end : Option ℕ) (same : u ≡ way) (mirrored : way.mirrored ≡ false) (is : IsEnd u.all_starts (nodes_of u p.arena.expr) w p.root (starts_of u.all_starts from w) end) where
+  seen_end : IsEnd way.all_starts p.arena.expr.nodes w p.root (starts_of way.all_starts from w) end
+  seen_end = subst (λ b. IsEnd way.all_starts (seen b p.arena.expr).nodes w p.root (starts_of way.all_starts from w) end) mirrored
+      (subst (λ (x : Way). IsEnd x.all_starts (nodes_of x p.arena.expr) w p.root (starts_of x.all_starts from w) end) same is)
 
-  pub run_longest : way.sweeps ≡ false → IsLongestFrom (expression_tree p.arena.expr) w from end
+  pub run_longest : way.all_starts ≡ false → IsLongestFrom (expression_tree p.arena.expr) w from end
   run_longest single = end_longest p.arena.expr p.root w from p.is_prepared.last end (subst (λ b. IsEnd b p.arena.expr.nodes w p.root (starts_of b from w) end) single seen_end)
 
-  pub run_found : from ≤ length w → IsTrue way.sweeps → IsTrue (is_some end) ↔ SomeFound (expression_tree p.arena.expr) w from
-  run_found low sweeps = end_found p.arena.expr p.root w from p.is_prepared.last low end (subst (λ b. IsEnd b p.arena.expr.nodes w p.root (starts_of b from w) end) sweeps seen_end)
+  pub run_found : from ≤ length w → IsTrue way.all_starts → IsTrue (is_some end) ↔ SomeFound (expression_tree p.arena.expr) w from
+  run_found low all_starts = end_found p.arena.expr p.root w from p.is_prepared.last low end (subst (λ b. IsEnd b p.arena.expr.nodes w p.root (starts_of b from w) end) all_starts seen_end)
 
   pub run_passes : (s t place : ℕ) → from ≤ length w → IfSome end (λ j. j ≤ place) → TakesAtLeast s t (2 * (place - from) + 1) → IfSome end (λ j. PassesOver (expression_tree p.arena.expr) w from s t)
-  run_passes s t place low ended looks = end_passes p.arena.expr p.root w from p.is_prepared.last way.sweeps s t place low end seen_end ended looks
+  run_passes s t place low ended looks = end_passes p.arena.expr p.root w from p.is_prepared.last way.all_starts s t place low end seen_end ended looks
 
 -- Costs.
 

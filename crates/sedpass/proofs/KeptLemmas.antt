@@ -33,45 +33,45 @@ use Rattle.sedpass.proofs.RowLemmas.{behind_reaches, meet_rows, bits_agree, bits
 use Rattle.sedre.specs.Steps.{TakesExactly, TakesAtLeast}
 
 -- the starts of the mirrored pass are the places where its matches end
-pub told_opposite : (sweeps : Bool) (n end : ℕ) → end ≤ n → Opposite n (starts_told sweeps n end) (ends_told sweeps n end)
+pub told_opposite : (all_starts : Bool) (n end : ℕ) → end ≤ n → Opposite n (starts_told all_starts n end) (ends_told all_starts n end)
 told_opposite true n end within i d sum = (λ h. (omega arith, omega arith), λ h. (omega arith, omega arith))
 told_opposite false n end within i d sum = (λ h. (omega arith, omega arith), λ h. (omega arith, omega arith))
 
-pub told_last : (sweeps : Bool) (n end : ℕ) → end ≤ n → (ends_told sweeps n end).last ≤ n
+pub told_last : (all_starts : Bool) (n end : ℕ) → end ≤ n → (ends_told all_starts n end).last ≤ n
 told_last true n end within = omega arith
 told_last false n end within = within
 
 -- a row of the pass tells which nodes are marked
-pub kept_reaches : (e : WrittenExpression) (w : List ℕ) (mirrored sweeps keeps : Bool) (r end q x : ℕ) (entered ended : ℕ → Bool) → IsArena e.nodes → IsTrue mirrored → IsTrue keeps → q ≤ length w → end ≤ length w →
-    RowOfPlace (seen mirrored e).nodes (reverse w) r (starts_told sweeps (length w) end) keeps (length w - q) entered ended →
-    IsTrue (ended x) ↔ ReachesEnd e.nodes w r (ends_told sweeps (length w) end) x q
-kept_reaches e w true sweeps true r end q x entered ended arena _ _ there within row =
-    behind_reaches e w r x q (length w - q) (starts_told sweeps (length w) end) (ends_told sweeps (length w) end) entered ended arena (told_opposite sweeps (length w) end within) (told_last sweeps (length w) end within) (omega arith) row
-kept_reaches e w false sweeps keeps r end q x entered ended arena mirror _ there within row = absurd (true≢false (sym mirror))
-kept_reaches e w true sweeps false r end q x entered ended arena _ keep there within row = absurd (true≢false (sym keep))
+pub kept_reaches : (e : WrittenExpression) (w : List ℕ) (mirrored all_starts keeps : Bool) (r end q x : ℕ) (entered ended : ℕ → Bool) → IsArena e.nodes → IsTrue mirrored → IsTrue keeps → q ≤ length w → end ≤ length w →
+    RowOfPlace (seen mirrored e).nodes (reverse w) r (starts_told all_starts (length w) end) keeps (length w - q) entered ended →
+    IsTrue (ended x) ↔ ReachesEnd e.nodes w r (ends_told all_starts (length w) end) x q
+kept_reaches e w true all_starts true r end q x entered ended arena _ _ there within row =
+    behind_reaches e w r x q (length w - q) (starts_told all_starts (length w) end) (ends_told all_starts (length w) end) entered ended arena (told_opposite all_starts (length w) end within) (told_last all_starts (length w) end within) (omega arith) row
+kept_reaches e w false all_starts keeps r end q x entered ended arena mirror _ there within row = absurd (true≢false (sym mirror))
+kept_reaches e w true all_starts false r end q x entered ended arena _ keep there within row = absurd (true≢false (sym keep))
 
 -- and with a row of a pass ahead whether the two meet
-pub kept_meets : (e : WrittenExpression) (w : List ℕ) (mirrored sweeps keeps other : Bool) (r a i end q : ℕ) (front front_ended entered ended : ℕ → Bool) → IsArena e.nodes → IsTrue mirrored → IsTrue keeps → q ≤ length w → end ≤ length w →
+pub kept_meets : (e : WrittenExpression) (w : List ℕ) (mirrored all_starts keeps other : Bool) (r a i end q : ℕ) (front front_ended entered ended : ℕ → Bool) → IsArena e.nodes → IsTrue mirrored → IsTrue keeps → q ≤ length w → end ≤ length w →
     RowOfPlace e.nodes w a (one_start i) other q front front_ended →
-    RowOfPlace (seen mirrored e).nodes (reverse w) r (starts_told sweeps (length w) end) keeps (length w - q) entered ended →
-    ((c : ℕ) × IsTrue (front c) × IsTrue (ended c)) ↔ Meets e.nodes w r (ends_told sweeps (length w) end) a (one_start i) q
-kept_meets e w true sweeps true other r a i end q front front_ended entered ended arena _ _ there within ahead row =
-    meet_rows e w r a q (length w - q) (one_start i) (starts_told sweeps (length w) end) (ends_told sweeps (length w) end) other front front_ended entered ended arena (told_opposite sweeps (length w) end within) (told_last sweeps (length w) end within) (omega arith) ahead row
-kept_meets e w false sweeps keeps other r a i end q front front_ended entered ended arena mirror _ there within ahead row = absurd (true≢false (sym mirror))
-kept_meets e w true sweeps false other r a i end q front front_ended entered ended arena _ keep there within ahead row = absurd (true≢false (sym keep))
+    RowOfPlace (seen mirrored e).nodes (reverse w) r (starts_told all_starts (length w) end) keeps (length w - q) entered ended →
+    ((c : ℕ) × IsTrue (front c) × IsTrue (ended c)) ↔ Meets e.nodes w r (ends_told all_starts (length w) end) a (one_start i) q
+kept_meets e w true all_starts true other r a i end q front front_ended entered ended arena _ _ there within ahead row =
+    meet_rows e w r a q (length w - q) (one_start i) (starts_told all_starts (length w) end) (ends_told all_starts (length w) end) other front front_ended entered ended arena (told_opposite all_starts (length w) end within) (told_last all_starts (length w) end within) (omega arith) ahead row
+kept_meets e w false all_starts keeps other r a i end q front front_ended entered ended arena mirror _ there within ahead row = absurd (true≢false (sym mirror))
+kept_meets e w true all_starts false other r a i end q front front_ended entered ended arena _ keep there within ahead row = absurd (true≢false (sym keep))
 
 -- whether a place after the first of the pass is one of its starts
-told_start : (sweeps : Bool) (n end d : ℕ) → n < d + 1 + end → d < n → IsTrue sweeps ↔ IsStart (starts_told sweeps n end) (d + 1)
+told_start : (all_starts : Bool) (n end d : ℕ) → n < d + 1 + end → d < n → IsTrue all_starts ↔ IsStart (starts_told all_starts n end) (d + 1)
 told_start true n end d after within = (λ _. (omega arith, omega arith), λ _. refl)
 told_start false n end d after within = (λ h. absurd (true≢false (sym h)), λ h. absurd (omega arith))
 
 -- the row of the next place, seen from the text's end
-pub kept_step : (e : WrittenExpression) (w : List ℕ) (mirrored sweeps keeps edge : Bool) (r end q byte : ℕ) (entered ended after after_ended : ℕ → Bool) →
+pub kept_step : (e : WrittenExpression) (w : List ℕ) (mirrored all_starts keeps edge : Bool) (r end q byte : ℕ) (entered ended after after_ended : ℕ → Bool) →
     q < end → end ≤ length w → slice_get w q ≡ Some byte → (IsTrue edge ↔ (q ≡ 0)) →
-    LeadsTo (seen mirrored e).nodes r keeps entered ended (Some byte) edge sweeps after after_ended →
-    RowOfPlace (seen mirrored e).nodes (reverse w) r (starts_told sweeps (length w) end) keeps (length w - (q + 1)) entered ended →
-    RowOfPlace (seen mirrored e).nodes (reverse w) r (starts_told sweeps (length w) end) keeps (length w - q) after after_ended
-kept_step e w mirrored sweeps keeps edge r end q byte entered ended after after_ended before within got last leads row =
+    LeadsTo (seen mirrored e).nodes r keeps entered ended (Some byte) edge all_starts after after_ended →
+    RowOfPlace (seen mirrored e).nodes (reverse w) r (starts_told all_starts (length w) end) keeps (length w - (q + 1)) entered ended →
+    RowOfPlace (seen mirrored e).nodes (reverse w) r (starts_told all_starts (length w) end) keeps (length w - q) after after_ended
+kept_step e w mirrored all_starts keeps edge r end q byte entered ended after after_ended before within got last leads row =
     let n = length w in
     let d = n - (q + 1) in
     let next : d + 1 ≡ n - q = omega arith in
@@ -79,15 +79,15 @@ kept_step e w mirrored sweeps keeps edge r end q byte entered ended after after_
     let read : slice_get (reverse w) d ≡ Some byte = get-reverse w q d byte (omega arith) got in
     let bytes : SameBytes (seen mirrored e).nodes (slice_get (reverse w) d) (Some byte) = λ x members _. ap (λ b. byte_is_in b members) read in
     let edges : IsTrue edge ↔ (d + 1 ≡ length (reverse w)) = (λ h. let at : q ≡ 0 = last.0 h in omega arith, λ h. last.1 (omega arith)) in
-    subst (λ p. RowOfPlace (seen mirrored e).nodes (reverse w) r (starts_told sweeps (length w) end) keeps p after after_ended) next
-    (leads (reverse w) (starts_told sweeps n end) d bytes edges (told_start sweeps n end d (omega arith) (omega arith)) row)
+    subst (λ p. RowOfPlace (seen mirrored e).nodes (reverse w) r (starts_told all_starts (length w) end) keeps p after after_ended) next
+    (leads (reverse w) (starts_told all_starts n end) d bytes edges (told_start all_starts n end d (omega arith) (omega arith)) row)
 
 -- the row in which the pass begins
-pub kept_first : (e : WrittenExpression) (w : List ℕ) (mirrored sweeps keeps : Bool) (r end : ℕ) (kind : Kind) (entered ended : ℕ → Bool) → IsTrue mirrored → end ≤ length w → (IsTrue sweeps → end ≡ length w) →
+pub kept_first : (e : WrittenExpression) (w : List ℕ) (mirrored all_starts keeps : Bool) (r end : ℕ) (kind : Kind) (entered ended : ℕ → Bool) → IsTrue mirrored → end ≤ length w → (IsTrue all_starts → end ≡ length w) →
     (IsTrue kind.begin ↔ (end ≡ 0)) → (IsTrue kind.end ↔ (end ≡ length w)) →
     IsFirstRow (seen mirrored e).nodes r keeps (at_begin mirrored kind) (at_end mirrored kind) entered ended →
-    RowOfPlace (seen mirrored e).nodes (reverse w) r (starts_told sweeps (length w) end) keeps (length w - end) entered ended
-kept_first e w false sweeps keeps r end kind entered ended mirror within whole begins ends first = absurd (true≢false (sym mirror))
+    RowOfPlace (seen mirrored e).nodes (reverse w) r (starts_told all_starts (length w) end) keeps (length w - end) entered ended
+kept_first e w false all_starts keeps r end kind entered ended mirror within whole begins ends first = absurd (true≢false (sym mirror))
 kept_first e w true false keeps r end kind entered ended _ within whole begins ends first =
     let turned : length (reverse w) ≡ length w = length-reverse w in
     let place : IsPlace (reverse w) (length w - end) kind.end kind.begin = (
@@ -135,9 +135,9 @@ live_other p w t root end states place s q after live =
 pub kept_down : (p : Prepared) (w : List ℕ) (way : Way) (root end q byte : ℕ) (edge : Bool) (a b : State) → q < end → end ≤ length w → slice_get w q ≡ Some byte → (IsTrue edge ↔ (q ≡ 0)) →
     LeadsOn (seen way.mirrored p.arena.expr).nodes way a byte edge b → KeptAt p w way root end (q + 1) a → KeptAt p w way root end q b
 kept_down p w way root end q byte edge a b before within got last leads at =
-    let leads-root : LeadsTo (seen way.mirrored p.arena.expr).nodes root way.keeps a.entered a.ended (Some byte) edge way.sweeps b.entered b.ended =
-    subst (λ r. LeadsTo (seen way.mirrored p.arena.expr).nodes r way.keeps a.entered a.ended (Some byte) edge way.sweeps b.entered b.ended) at.0 leads.1 in
-    (leads.0 ∙ at.0, kept_step p.arena.expr w way.mirrored way.sweeps way.keeps edge root end q byte a.entered a.ended b.entered b.ended before within got last leads-root at.1)
+    let leads-root : LeadsTo (seen way.mirrored p.arena.expr).nodes root way.keeps a.entered a.ended (Some byte) edge way.all_starts b.entered b.ended =
+    subst (λ r. LeadsTo (seen way.mirrored p.arena.expr).nodes r way.keeps a.entered a.ended (Some byte) edge way.all_starts b.entered b.ended) at.0 leads.1 in
+    (leads.0 ∙ at.0, kept_step p.arena.expr w way.mirrored way.all_starts way.keeps edge root end q byte a.entered a.ended b.entered b.ended before within got last leads-root at.1)
 
 -- Going back by one byte.
 
@@ -159,7 +159,7 @@ region_kept p w t after k other shape table places long edges root end within re
   table = table;
   room = room_kept (length p.arena.expr.nodes) (length w) t after k other shape places edges region.room;
   root = subst (λ v. MayBegin p v other.region.root) (sym shape.0) (subst (λ r. MayBegin p t.way r) (sym root) region.root);
-  whole = λ h. end ∙ region.whole (subst (λ (v : Way). IsTrue v.sweeps) shape.0 h);
+  whole = λ h. end ∙ region.whole (subst (λ (v : Way). IsTrue v.all_starts) shape.0 h);
   inside = rw end region.inside;
   within = rw end within;
   long = rw long region.long;
@@ -375,7 +375,7 @@ pub first_at : (p : Prepared) (w : List ℕ) (t : Table) (k : Kept) (way : Way) 
     KeptAt p w way k.region.root k.region.end k.region.end a
 first_at p w t k way kind a region same begins ends first =
     subst (λ v. KeptAt p w v k.region.root k.region.end k.region.end a) (sym same)
-    (first.0, kept_first p.arena.expr w t.way.mirrored t.way.sweeps t.way.keeps k.region.root k.region.end kind a.entered a.ended region.room.mirrored region.inside region.whole begins ends first.1)
+    (first.0, kept_first p.arena.expr w t.way.mirrored t.way.all_starts t.way.keeps k.region.root k.region.end kind a.entered a.ended region.room.mirrored region.inside region.whole begins ends first.1)
 
 -- the state of a block's right end
 pub load_at : (p : Prepared) (w : List ℕ) (t : Table) (k : Kept) (way : Way) (block place : ℕ) (a : State) → EdgesFrom p w t k k.region.low → k.region.low < block * (t.room - 1) + (t.room - 1) →
@@ -398,7 +398,7 @@ load_at p w t k way block place a edges some is other same row =
 
 -- whether a node is marked at a place whose state is in the table
 pub kept_mark : (p : Prepared) (w : List ℕ) (t : Table) (k : Kept) (x q : ℕ) (mark : Bool) → IsKept p w t k → x < length p.arena.expr.nodes → k.region.from ≤ q → q < k.region.to →
-    mark ≡ slice_index_or (row_of t.ends (slice_index_or k.states.items q 0)) x false → IsTrue mark ↔ ReachesEnd p.arena.expr.nodes w k.region.root (ends_told t.way.sweeps (length w) k.region.end) x q
+    mark ≡ slice_index_or (row_of t.ends (slice_index_or k.states.items q 0)) x false → IsTrue mark ↔ ReachesEnd p.arena.expr.nodes w k.region.root (ends_told t.way.all_starts (length w) k.region.end) x q
 kept_mark p w t k x q mark kept inside above before is =
     let m = length p.arena.expr.nodes in
     let region : IsRegion p w t k = kept.region in
@@ -406,8 +406,8 @@ kept_mark p w t k x q mark kept inside above before is =
     let live : IsLive p w t k.region.root k.region.end k.states.items q = kept.live q above before in
     let bit : bits m (row_of t.ends s) x ≡ mark = bits_here m (row_of t.ends s) x inside ∙ sym is in
     let there : q ≤ length w = (let h = region.within in let g = region.inside in omega (arith, h, g, before)) in
-    subst (λ b. IsTrue b ↔ ReachesEnd p.arena.expr.nodes w k.region.root (ends_told t.way.sweeps (length w) k.region.end) x q) bit
-    (kept_reaches p.arena.expr w t.way.mirrored t.way.sweeps t.way.keeps k.region.root k.region.end q x (bits m (row_of t.leaves s)) (bits m (row_of t.ends s)) region.table.expr.arena region.room.mirrored region.room.keeps there region.inside live.1.1)
+    subst (λ b. IsTrue b ↔ ReachesEnd p.arena.expr.nodes w k.region.root (ends_told t.way.all_starts (length w) k.region.end) x q) bit
+    (kept_reaches p.arena.expr w t.way.mirrored t.way.all_starts t.way.keeps k.region.root k.region.end q x (bits m (row_of t.leaves s)) (bits m (row_of t.ends s)) region.table.expr.arena region.room.mirrored region.room.keeps there region.inside live.1.1)
 
 -- where its state stands
 pub kept_row : (p : Prepared) (w : List ℕ) (t : Table) (k : Kept) (q : ℕ) → IsKept p w t k → k.region.from ≤ q → q < k.region.to →
@@ -452,23 +452,23 @@ null_spans p w kind x place null inside begins ends is =
     subst (λ b. IsTrue b ↔ At p.arena.expr.nodes w x place place) (sym is) (null_tells false p.arena.expr kind w place (begins, ends) x inside)
 
 -- and before it
-pub mark_spans : (p : Prepared) (w : List ℕ) (t : Table) (k : Kept) (x q : ℕ) (mark : Bool) → IsKept p w t k → t.way.sweeps ≡ false → IsLastIn p.arena.expr.nodes k.region.root x → k.region.from ≤ q → q < k.region.to →
+pub mark_spans : (p : Prepared) (w : List ℕ) (t : Table) (k : Kept) (x q : ℕ) (mark : Bool) → IsKept p w t k → t.way.all_starts ≡ false → IsLastIn p.arena.expr.nodes k.region.root x → k.region.from ≤ q → q < k.region.to →
     mark ≡ slice_index_or (row_of t.ends (slice_index_or k.states.items q 0)) x false → IsTrue mark ↔ At p.arena.expr.nodes w x q k.region.end
 mark_spans p w t k x q mark kept one last above before is =
     let arena = kept.region.table.expr.arena in
     let root = kept.region.root.0 in
     let up = last_inside p.arena.expr.nodes w k.region.root (one_start k.region.end) arena x last in
-    let tells : IsTrue mark ↔ ReachesEnd p.arena.expr.nodes w k.region.root (ends_told t.way.sweeps (length w) k.region.end) x q = kept_mark p w t k x q mark kept (omega (arith, root, up)) above before is in
+    let tells : IsTrue mark ↔ ReachesEnd p.arena.expr.nodes w k.region.root (ends_told t.way.all_starts (length w) k.region.end) x q = kept_mark p w t k x q mark kept (omega (arith, root, up)) above before is in
     let same : IsTrue mark ↔ ReachesEnd p.arena.expr.nodes w k.region.root (one_start k.region.end) x q =
     subst (λ b. IsTrue mark ↔ ReachesEnd p.arena.expr.nodes w k.region.root (ends_told b (length w) k.region.end) x q) one tells in
     let both = reaches_last p.arena.expr.nodes w k.region.root k.region.end x q arena last in
     (λ h. both.0 (same.0 h), λ h. same.1 (both.1 h))
 
 -- what is told of the region stays so over calls
-pub told_as : (P : ℕ → Starts → Type 0) (n : ℕ) (t after : Table) (k other : Kept) → SameShape t after → SameKept k other → P other.region.root (ends_told after.way.sweeps n other.region.end) → P k.region.root (ends_told t.way.sweeps n k.region.end)
+pub told_as : (P : ℕ → Starts → Type 0) (n : ℕ) (t after : Table) (k other : Kept) → SameShape t after → SameKept k other → P other.region.root (ends_told after.way.all_starts n other.region.end) → P k.region.root (ends_told t.way.all_starts n k.region.end)
 told_as P n t after k other shape same told =
-    subst (λ (v : Way). P k.region.root (ends_told v.sweeps n k.region.end)) shape.0
-    (subst (λ e. P k.region.root (ends_told after.way.sweeps n e)) same.end (subst (λ r. P r (ends_told after.way.sweeps n other.region.end)) same.root told))
+    subst (λ (v : Way). P k.region.root (ends_told v.all_starts n k.region.end)) shape.0
+    (subst (λ e. P k.region.root (ends_told after.way.all_starts n e)) same.end (subst (λ r. P r (ends_told after.way.all_starts n other.region.end)) same.root told))
 
 -- the same, where only the marks for its acts changed
 pub kept_same : (p : Prepared) (w : List ℕ) (t : Table) (k other : Kept) → other.region ≡ k.region → other.states ≡ k.states → other.edges ≡ k.edges → IsKept p w t k → IsKept p w t other

@@ -4,7 +4,7 @@ use Rattle.std.specs.Prelude.{cond}
 use Rattle.std.proofs.lemmas.Bool.{cases_lt}
 use Rattle.std.proofs.lemmas.Bool.Decides.{nat_tests}
 use Rattle.std.proofs.Math.Dec.{leb, ltb}
-use Rattle.sedtext.specs.Costs.{Pays}
+use Rattle.sedtext.specs.Costs.{CostsWithin}
 use Rattle.sedpass.specs.Kept.{again, due_place, owed}
 use Rattle.sedpass.specs.declared.kept.Kept.{Kept}
 use Rattle.sedpass.specs.declared.kept.Region.{Region}
@@ -117,7 +117,7 @@ made_cost : (m c d s t : ℕ) → c + 1 ≤ d → t ≤ s + (33 * m + 39 * m * d
 made_cost m c d s t less cost = let h = again_few m c in let g = mul-le-mul_left (59 * m) less in omega (arith, h, g, cost)
 
 pub owed_made : (m : ℕ) (old new : Region) (place s t : ℕ) → place < old.low → place < old.end → new.low ≡ place → new.from ≡ place → place < new.to → new.end ≡ old.end → s ≤ t →
-    t ≤ s + (33 * m + 39 * m * (old.end - place)) → Pays s t (owed m old place) (owed m new place)
+    t ≤ s + (33 * m + 39 * m * (old.end - place)) → CostsWithin s t (owed m old place) (owed m new place)
 owed_made m old new place s t below before low from to end grows cost =
     let a = owed_below m old place below in
     let b = owed_above m new place (omega (arith, low)) in
@@ -128,7 +128,7 @@ owed_made m old new place s t below before low from to end grows cost =
 
 -- the rest of the place's block is made again
 pub owed_again : (m : ℕ) (old new : Region) (place s t : ℕ) → old.low ≤ place → (place < old.from) ⊎ (old.to ≤ place) → new.low ≡ old.low → new.end ≡ old.end → new.from ≡ place → place < new.to →
-    Pays s t (again m (old.end - place)) (again m (old.end - new.to)) → Pays s t (owed m old place) (owed m new place)
+    CostsWithin s t (again m (old.end - place)) (again m (old.end - new.to)) → CostsWithin s t (owed m old place) (owed m new place)
 owed_again m old new place s t above out low end from to paid =
     let a = owed_above m old place above in
     let b = owed_above m new place (omega (arith, above, low)) in
@@ -139,9 +139,9 @@ owed_again m old new place s t above out low end from to paid =
     (paid.0, let h = paid.1 in omega (arith, a, b, before, after, h))
 
 -- as a call left what is kept
-pub owed_left : (m : ℕ) (old : Region) (place s t u : ℕ) (k other : Kept) → other ≡ k → u ≡ t → Pays s t (owed m old place) (owed m k.region place) → Pays s u (owed m old place) (owed m other.region place)
+pub owed_left : (m : ℕ) (old : Region) (place s t u : ℕ) (k other : Kept) → other ≡ k → u ≡ t → CostsWithin s t (owed m old place) (owed m k.region place) → CostsWithin s u (owed m old place) (owed m other.region place)
 owed_left m old place s t u k other same count paid =
-    subst (λ x. Pays s x (owed m old place) (owed m other.region place)) (sym count) (subst (λ x. Pays s t (owed m old place) (owed m x.region place)) (sym same) paid)
+    subst (λ x. CostsWithin s x (owed m old place) (owed m other.region place)) (sym count) (subst (λ x. CostsWithin s t (owed m old place) (owed m x.region place)) (sym same) paid)
 
 -- places are passed, or the search ends at one
 pub seek_on : (o a b e s s0 s1 s2 from place found : ℕ) → s + a + 2 * from ≤ s0 + o + 2 * place → s1 + b ≤ s + a → s2 + place ≤ s1 + (found + 1) → e ≤ b → place < found → s2 + e + 2 * from ≤ s0 + o + 2 * found

@@ -123,9 +123,9 @@ ends_all b n end is = ap (λ v. ends_told v n end) is
 pub kept_none : (p : Prepared) (w : List ℕ) (b : Bool) (r end from start : ℕ) (begins : Bool) → IsArena p.arena.expr.nodes → IsTrue b → r ≡ p.root → start ≤ length w →
     AllMarked p.arena.expr.nodes w r (ends_told b (length w) end) p.root false from start → (start < length w → IsTrue begins) → (start ≡ length w → IsTrue begins ↔ At p.arena.expr.nodes w p.root start start) → begins ≡ false →
     NotFound (expression_tree p.arena.expr) w from
-kept_none p w b r end from start begins arena sweeps root low none inside null is =
+kept_none p w b r end from start begins arena all_starts root low none inside null is =
     let at : start ≡ length w = ⊎_elim (λ (lt : start < length w). absurd (true≢false (sym (inside lt) ∙ is))) (λ (ge : length w ≤ start). omega arith) (cases_lt start (length w)) in
-    let marked : AllMarked p.arena.expr.nodes w p.root (starts_to 0 (length w)) p.root false from start = subst (λ t. AllMarked p.arena.expr.nodes w p.root t p.root false from start) (ends_all b (length w) end sweeps)
+    let marked : AllMarked p.arena.expr.nodes w p.root (starts_to 0 (length w)) p.root false from start = subst (λ t. AllMarked p.arena.expr.nodes w p.root t p.root false from start) (ends_all b (length w) end all_starts)
     (subst (λ v. AllMarked p.arena.expr.nodes w v (ends_told b (length w) end) p.root false from start) root none) in
     let before = none_marked p w arena from start low marked in
     none_kept p w arena from (subst (NoneIn (expression_tree p.arena.expr) w from) at before)
@@ -135,27 +135,27 @@ kept_none p w b r end from start begins arena sweeps root low none inside null i
 pub kept_found : (p : Prepared) (w : List ℕ) (b : Bool) (r end : ℕ) (b' : Bool) (r' end' from start stop : ℕ) → IsArena p.arena.expr.nodes → IsTrue b → r ≡ p.root → IsTrue b' → r' ≡ p.root → from ≤ start → start ≤ length w →
     AllMarked p.arena.expr.nodes w r (ends_told b (length w) end) p.root false from start → ((k : ℕ) × Matches (expression_tree p.arena.expr) w start k) →
     CeasesAt p.arena.expr.nodes w r' (ends_told b' (length w) end') p.root start stop → IsLeftmostLongest (expression_tree p.arena.expr) w from start stop
-kept_found p w b r end b' r' end' from start stop arena sweeps root sweeps' root' after low none begins ceases =
-    let marked : AllMarked p.arena.expr.nodes w p.root (starts_to 0 (length w)) p.root false from start = subst (λ t. AllMarked p.arena.expr.nodes w p.root t p.root false from start) (ends_all b (length w) end sweeps)
+kept_found p w b r end b' r' end' from start stop arena all_starts root all_starts' root' after low none begins ceases =
+    let marked : AllMarked p.arena.expr.nodes w p.root (starts_to 0 (length w)) p.root false from start = subst (λ t. AllMarked p.arena.expr.nodes w p.root t p.root false from start) (ends_all b (length w) end all_starts)
     (subst (λ v. AllMarked p.arena.expr.nodes w v (ends_told b (length w) end) p.root false from start) root none) in
-    let met : CeasesAt p.arena.expr.nodes w p.root (starts_to 0 (length w)) p.root start stop = subst (λ t. CeasesAt p.arena.expr.nodes w p.root t p.root start stop) (ends_all b' (length w) end' sweeps')
+    let met : CeasesAt p.arena.expr.nodes w p.root (starts_to 0 (length w)) p.root start stop = subst (λ t. CeasesAt p.arena.expr.nodes w p.root t p.root start stop) (ends_all b' (length w) end' all_starts')
     (subst (λ v. CeasesAt p.arena.expr.nodes w v (ends_told b' (length w) end') p.root start stop) root' ceases) in
     found_at p.arena.expr w from start stop after (none_marked p w arena from start low marked) (longest_kept p w arena start stop begins.0 low begins.1 met)
 
 -- one begins where the root is marked before the end
 pub begins_marked : (p : Prepared) (w : List ℕ) (b : Bool) (r end start : ℕ) → IsArena p.arena.expr.nodes → IsTrue b → r ≡ p.root → start ≤ length w →
     ReachesEnd p.arena.expr.nodes w r (ends_told b (length w) end) p.root start → (k : ℕ) × Matches (expression_tree p.arena.expr) w start k
-begins_marked p w b r end start arena sweeps root low reaches =
-    (begins_at p w arena start low).0 (subst (λ t. ReachesEnd p.arena.expr.nodes w p.root t p.root start) (ends_all b (length w) end sweeps)
+begins_marked p w b r end start arena all_starts root low reaches =
+    (begins_at p w arena start low).0 (subst (λ t. ReachesEnd p.arena.expr.nodes w p.root t p.root start) (ends_all b (length w) end all_starts)
     (subst (λ v. ReachesEnd p.arena.expr.nodes w v (ends_told b (length w) end) p.root start) root reaches))
 
 -- or, at the end, where it is null
 pub begins_some : (p : Prepared) (w : List ℕ) (b : Bool) (r end start : ℕ) (begins : Bool) → IsArena p.arena.expr.nodes → IsTrue b → r ≡ p.root → end ≡ length w → start ≤ length w →
     (start < end → IsTrue true ↔ ReachesEnd p.arena.expr.nodes w r (ends_told b (length w) end) p.root start) → (start ≡ length w → IsTrue begins ↔ At p.arena.expr.nodes w p.root start start) → IsTrue begins →
     (k : ℕ) × Matches (expression_tree p.arena.expr) w start k
-begins_some p w b r end start begins arena sweeps root whole low found null is =
+begins_some p w b r end start begins arena all_starts root whole low found null is =
     ⊎_elim
-    (λ (lt : start < end). begins_marked p w b r end start arena sweeps root low ((found lt).0 refl))
+    (λ (lt : start < end). begins_marked p w b r end start arena all_starts root low ((found lt).0 refl))
     (λ (ge : end ≤ start). let at : start ≡ length w = omega arith in (start, to_tree p w arena start start ((null at).0 is)))
     (cases_lt start end)
 

@@ -134,7 +134,7 @@ seen_bytes true e a b same = λ x members is.
 -- a state leads on by bytes of one class
 pub leads_same : (e : WrittenExpression) (way : Way) (a b : State) (byte other : ℕ) (edge : Bool) → SameBytes e.nodes (Some other) (Some byte) → LeadsOn (nodes_of way e) way a byte edge b → LeadsOn (nodes_of way e) way a other edge b
 leads_same e way a b byte other edge same leads =
-    (leads.0, class_row (nodes_of way e) a.root way.keeps edge way.sweeps a.entered a.ended b.entered b.ended (Some byte) (Some other) (seen_bytes way.mirrored e (Some other) (Some byte) same) leads.1)
+    (leads.0, class_row (nodes_of way e) a.root way.keeps edge way.all_starts a.entered a.ended b.entered b.ended (Some byte) (Some other) (seen_bytes way.mirrored e (Some other) (Some byte) same) leads.1)
 
 -- Beginnings.
 
@@ -170,7 +170,7 @@ kind_same one other e =
     ap (λ (x : Bool). let k : Kind = record { begin = x; end = one.end } in k) b ∙ ap (λ (x : Bool). let k : Kind = record { begin = other.begin; end = x } in k) f
 
 -- where another beginning is noted
-begin_apart : (sweeps : Bool) (root x other : ℕ) (kind kind' : Kind) → (IsTrue sweeps → x ≡ root) → (IsTrue sweeps → other ≡ root) → beginning_at sweeps x kind ≡ beginning_at sweeps other kind' → (x ≡ other) × (kind ≡ kind')
+begin_apart : (all_starts : Bool) (root x other : ℕ) (kind kind' : Kind) → (IsTrue all_starts → x ≡ root) → (IsTrue all_starts → other ≡ root) → beginning_at all_starts x kind ≡ beginning_at all_starts other kind' → (x ≡ other) × (kind ≡ kind')
 begin_apart true root x other kind kind' one two e = (one refl ∙ sym (two refl), kind_same kind kind' e)
 begin_apart false root x other kind kind' one two e =
     let a = few_kinds kind.begin kind.end in
@@ -220,12 +220,12 @@ module _ (p : Prepared) (t t' : Table) (adds : AddsStates (length p.arena.expr.n
   entry_same same i = ap (λ b. slice_index_or {A = Beginning} b.items i (record { epoch = 0; code = 0 })) same
 
   abbrev Begun : Table → Way → ℕ → Kind → Type 0
-  Begun u way root kind = MayBegin p way root → (beginning_of u (beginning_at way.sweeps root kind)).epoch ≡ u.epoch →
-      Names m u (BeginsIn (nodes_of way p.arena.expr) way root kind) (beginning_of u (beginning_at way.sweeps root kind)).code
+  Begun u way root kind = MayBegin p way root → (beginning_of u (beginning_at way.all_starts root kind)).epoch ≡ u.epoch →
+      Names m u (BeginsIn (nodes_of way p.arena.expr) way root kind) (beginning_of u (beginning_at way.all_starts root kind)).code
 
-  begun_at : (root : ℕ) (kind : Kind) → beginning_of t' (beginning_at t.way.sweeps root kind) ≡ beginning_of t (beginning_at t.way.sweeps root kind) → Begun t t.way root kind → Begun t' t.way root kind
+  begun_at : (root : ℕ) (kind : Kind) → beginning_of t' (beginning_at t.way.all_starts root kind) ≡ beginning_of t (beginning_at t.way.all_starts root kind) → Begun t t.way root kind → Begun t' t.way root kind
   begun_at root kind entry begun may is =
-      let i = beginning_at t.way.sweeps root kind in
+      let i = beginning_at t.way.all_starts root kind in
       subst (λ (b : Beginning). Names m t' (BeginsIn (nodes_of t.way p.arena.expr) t.way root kind) b.code) (sym entry)
       (names_more (BeginsIn (nodes_of t.way p.arena.expr) t.way root kind) (beginning_of t i).code
       (begun may (sym (ap (λ (b : Beginning). b.epoch) entry) ∙ is ∙ epoch)))
@@ -233,7 +233,7 @@ module _ (p : Prepared) (t t' : Table) (adds : AddsStates (length p.arena.expr.n
   begun_more : (root : ℕ) (kind : Kind) → t'.beginnings ≡ t.beginnings → Begun t t.way root kind → Begun t' t'.way root kind
   begun_more root kind same begun =
       subst (λ w. Begun t' w root kind) (sym adds.shape.0)
-      (begun_at root kind (entry_same same (beginning_at t.way.sweeps root kind)) begun)
+      (begun_at root kind (entry_same same (beginning_at t.way.all_starts root kind)) begun)
 
   -- one more state, from which nothing is known yet
   pub one_more : IsTable p t → HasRoom m t' → t'.count ≡ t.count + 1 → t'.beginnings ≡ t.beginnings →
@@ -314,12 +314,12 @@ module _ (p : Prepared) (t t' : Table) (adds : AddsStates (length p.arena.expr.n
 
   -- one more beginning is noted
   pub note_beginning : IsTable p t → HasRoom m t' → t'.count ≡ t.count → t'.cells ≡ t.cells → (root code : ℕ) (kind : Kind) →
-      t'.beginnings.items ≡ slice_set t.beginnings.items (beginning_at t.way.sweeps root kind) (record { epoch = t.epoch; code = code }) →
+      t'.beginnings.items ≡ slice_set t.beginnings.items (beginning_at t.way.all_starts root kind) (record { epoch = t.epoch; code = code }) →
       MayBegin p t.way root → Names m t (BeginsIn (nodes_of t.way p.arena.expr) t.way root kind) code → IsTable p t'
   note_beginning table room count cells root code kind is may begins =
       let none : Beginning = record { epoch = 0; code = 0 } in
       let fresh : Beginning = record { epoch = t.epoch; code = code } in
-      let at = beginning_at t.way.sweeps root kind in
+      let at = beginning_at t.way.all_starts root kind in
       let inside : at < length t.beginnings.items = table.room.begins root kind (let low = may.0 in let most = table.room.marks in omega (arith, low, most)) in
       let here : beginning_of t' at ≡ fresh = ap (λ l. slice_index_or l at none) is ∙ get_or-set_same t.beginnings.items at fresh none inside in
       let apart : (i : ℕ) → i ≢ at → beginning_of t' i ≡ beginning_of t i = (λ i ne. ap (λ l. slice_index_or l i none) is ∙ get_or-set_other t.beginnings.items at i fresh none ne) in
@@ -336,10 +336,10 @@ module _ (p : Prepared) (t t' : Table) (adds : AddsStates (length p.arena.expr.n
             ap (λ (l : Layout). slice_index_or t'.cells.items (q * 2 ^ l.shift + k) 0) adds.shape.2 ∙ ap (λ c. slice_index_or c.items (q * 2 ^ t.layout.shift + k) 0) cells in
             subst (λ v. Names m t' (LeadsBy p t' q k) v) (sym same) (filled_more q k (cell_of t q k) less (table.filled q k less near (subst (λ v. 0 < v) same some)));
         begun = λ x other. subst (λ w. Begun t' w x other) (sym adds.shape.0) (λ may' now.
-            let i = beginning_at t.way.sweeps x other in
+            let i = beginning_at t.way.all_starts x other in
             ⊎_elim
             (λ (e : i ≡ at).
-            let one = begin_apart t.way.sweeps p.root x root other kind may'.1 may.1 e in
+            let one = begin_apart t.way.all_starts p.root x root other kind may'.1 may.1 e in
             subst (λ n. Names m t' (BeginsIn (nodes_of t.way p.arena.expr) t.way x other) n) (sym (ap (λ n. (beginning_of t' n).code) e ∙ ap (λ (b : Beginning). b.code) here))
             (subst (λ n. Names m t' (BeginsIn (nodes_of t.way p.arena.expr) t.way n other) code) (sym one.0)
             (subst (λ n. Names m t' (BeginsIn (nodes_of t.way p.arena.expr) t.way root n) code) (sym one.1) (names_more (BeginsIn (nodes_of t.way p.arena.expr) t.way root kind) code begins))))
@@ -368,7 +368,7 @@ no_states p t expr room layout none past = record {
   roots = λ q low. absurd (omega arith);
   told = λ q low. absurd (omega arith);
   filled = λ q k low col some. absurd (omega arith);
-  begun = λ root kind may now. let before = past (beginning_at t.way.sweeps root kind) in absurd (omega (arith, before, now));
+  begun = λ root kind may now. let before = past (beginning_at t.way.all_starts root kind) in absurd (omega (arith, before, now));
 }
 
 -- the same states
@@ -418,16 +418,16 @@ module _ (m : ℕ) (t t' : Table) (root : ℕ) (leaves ends : List Bool) (flags 
 module _ (p : Prepared) (t u : Table) (way : Way) (q root byte v : ℕ) (loaded leaves ends : List Bool) (same_root : root ≡ (state_of (length p.arena.expr.nodes) t q).root) (same : AgreeBelow (length p.arena.expr.nodes) loaded (row_of t.leaves q))
     (n : Names (length p.arena.expr.nodes) u (HasRow root (bits (length p.arena.expr.nodes) leaves) (bits (length p.arena.expr.nodes) ends)) v) where
   abbrev Leads : Bool → Type 0
-  Leads edge = (before : ℕ → Bool) → LeadsTo (nodes_of way p.arena.expr) root way.keeps (bits (length p.arena.expr.nodes) loaded) before (Some byte) edge way.sweeps (bits (length p.arena.expr.nodes) leaves) (bits (length p.arena.expr.nodes) ends)
+  Leads edge = (before : ℕ → Bool) → LeadsTo (nodes_of way p.arena.expr) root way.keeps (bits (length p.arena.expr.nodes) loaded) before (Some byte) edge way.all_starts (bits (length p.arena.expr.nodes) leaves) (bits (length p.arena.expr.nodes) ends)
 
   leads_state : (edge : Bool) → Leads edge → (b : State) → HasRow root (bits (length p.arena.expr.nodes) leaves) (bits (length p.arena.expr.nodes) ends) b → LeadsOn (nodes_of way p.arena.expr) way (state_of (length p.arena.expr.nodes) t q) byte edge b
   leads_state edge leads b has =
       let a = state_of (length p.arena.expr.nodes) t q in (
         has.0 ∙ same_root,
-        subst (λ x. LeadsTo (nodes_of way p.arena.expr) a.root way.keeps a.entered a.ended (Some byte) edge way.sweeps b.entered x) (sym has.2)
-            (subst (λ x. LeadsTo (nodes_of way p.arena.expr) a.root way.keeps a.entered a.ended (Some byte) edge way.sweeps x (bits (length p.arena.expr.nodes) ends)) (sym has.1)
-            (subst (λ x. LeadsTo (nodes_of way p.arena.expr) x way.keeps a.entered a.ended (Some byte) edge way.sweeps (bits (length p.arena.expr.nodes) leaves) (bits (length p.arena.expr.nodes) ends)) same_root
-            (subst (λ x. LeadsTo (nodes_of way p.arena.expr) root way.keeps x a.ended (Some byte) edge way.sweeps (bits (length p.arena.expr.nodes) leaves) (bits (length p.arena.expr.nodes) ends)) (bits_agree (length p.arena.expr.nodes) loaded (row_of t.leaves q) same)
+        subst (λ x. LeadsTo (nodes_of way p.arena.expr) a.root way.keeps a.entered a.ended (Some byte) edge way.all_starts b.entered x) (sym has.2)
+            (subst (λ x. LeadsTo (nodes_of way p.arena.expr) a.root way.keeps a.entered a.ended (Some byte) edge way.all_starts x (bits (length p.arena.expr.nodes) ends)) (sym has.1)
+            (subst (λ x. LeadsTo (nodes_of way p.arena.expr) x way.keeps a.entered a.ended (Some byte) edge way.all_starts (bits (length p.arena.expr.nodes) leaves) (bits (length p.arena.expr.nodes) ends)) same_root
+            (subst (λ x. LeadsTo (nodes_of way p.arena.expr) root way.keeps x a.ended (Some byte) edge way.all_starts (bits (length p.arena.expr.nodes) leaves) (bits (length p.arena.expr.nodes) ends)) (bits_agree (length p.arena.expr.nodes) loaded (row_of t.leaves q) same)
             (leads a.ended)))),
       )
 

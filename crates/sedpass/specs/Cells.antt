@@ -9,7 +9,7 @@ use Rattle.sedpass.specs.declared.cells.Layout.{Layout}
 
 -- whether a pass stops to look at a state: its root ends, or no match that began goes on (where the ends are kept, only this)
 abbrev pub stops : Way → Flags → Bool
-stops way flags = (not way.keeps && (flags.ends || (flags.dead && not way.sweeps))) || (way.keeps && flags.dead)
+stops way flags = (not way.keeps && (flags.ends || (flags.dead && not way.all_starts))) || (way.keeps && flags.dead)
 
 -- the number that names the state whose cells begin there: so those at which a pass stops are the low ones
 abbrev pub code_of : Bool → ℕ → ℕ

@@ -7,7 +7,7 @@ use Rattle.sedre.specs.declared.types.NodeId.{NodeId}
 use Rattle.sedre.specs.declared.types.Node.TheVariants.{Set, Seq, Alt, Star}
 use Rattle.sedre.specs.Steps.{TakesAtLeast}
 use Rattle.sedtext.specs.Groups.{Groups}
-use Rattle.sedtext.specs.Costs.{Pays}
+use Rattle.sedtext.specs.Costs.{CostsWithin}
 use Rattle.sedtext.specs.Words.{row_of}
 use Rattle.sedpass.specs.Groups.{holds}
 use Rattle.sedpass.specs.Kept.{IsKept, KeptRoom, owed}
@@ -81,19 +81,19 @@ EndsRegion s r here = IsLastIn (nodes_in s) r.root here.node × (here.stop ≡ r
 pub record HasDesk (s : Subject) (tables : GroupTables) (kept : Kept) : Type 0 where
   pub inside : IsTable s.prepared.now tables.inside
   pub places : KeptRoom (length s.prepared.now.arena.expr.nodes) (length s.text.now) tables.inside kept
-  pub one_end : tables.inside.way.sweeps ≡ false
+  pub one_end : tables.inside.way.all_starts ≡ false
   pub ahead : IsAhead s.prepared.now tables.ahead
 
 -- and the region is kept
 pub record IsDesk (s : Subject) (tables : GroupTables) (kept : Kept) : Type 0 where
   pub region : IsKept s.prepared.now s.text.now tables.inside kept
-  pub one_end : tables.inside.way.sweeps ≡ false
+  pub one_end : tables.inside.way.all_starts ≡ false
   pub ahead : IsAhead s.prepared.now tables.ahead
 
 -- the way of each of the tables
 pub record HaveWays (t : GroupTables) : Type 0 where
-  pub inside : t.inside.way ≡ record { mirrored = true; sweeps = false; keeps = true }
-  pub ahead : t.ahead.way ≡ record { mirrored = false; sweeps = false; keeps = false }
+  pub inside : t.inside.way ≡ record { mirrored = true; all_starts = false; keeps = true }
+  pub ahead : t.ahead.way ≡ record { mirrored = false; all_starts = false; keeps = false }
 
 -- the tables serve the expression
 pub record AreGroupTables (p : Prepared) (t : GroupTables) : Type 0 where
@@ -194,4 +194,4 @@ tasks_cost nodes long tasks = part_cost (length nodes) long * descents nodes tas
 
 -- the tasks are done as far as those left, and paid, where none matches more than so many bytes
 abbrev pub IsSpent : List Node → List Task → List Task → ℕ → ℕ → Type 0
-IsSpent nodes old new before after = (long : ℕ) → AreShort long old → AreShort long new × Pays before after (tasks_cost nodes long old) (tasks_cost nodes long new)
+IsSpent nodes old new before after = (long : ℕ) → AreShort long old → AreShort long new × CostsWithin before after (tasks_cost nodes long old) (tasks_cost nodes long new)

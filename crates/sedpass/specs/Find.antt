@@ -9,5 +9,5 @@ use Rattle.sedpass.specs.declared.table.Table.{Table}
 pub record IsSweep (p : Prepared) (t : Table) : Type 0 where
   pub table : IsTable p t
   pub forwards : t.way.mirrored ≡ false
-  pub sweeps : IsTrue t.way.sweeps
+  pub all_starts : IsTrue t.way.all_starts
   pub brief : t.way.keeps ≡ false

@@ -23,16 +23,16 @@ LastBelow nodes w r s n (Some j) = (j < n) × SomeSpan nodes w r s j × ((k : �
 
 -- the last place of all, or in a sweep some place
 abbrev pub IsEnd : Bool → List Node → List ℕ → ℕ → Starts → Option ℕ → Type 0
-IsEnd sweeps nodes w r s None = (k : ℕ) → SomeSpan nodes w r s k → ⊥
-IsEnd sweeps nodes w r s (Some j) = SomeSpan nodes w r s j × (sweeps ≡ false → (k : ℕ) → SomeSpan nodes w r s k → k ≤ j)
+IsEnd all_starts nodes w r s None = (k : ℕ) → SomeSpan nodes w r s k → ⊥
+IsEnd all_starts nodes w r s (Some j) = SomeSpan nodes w r s j × (all_starts ≡ false → (k : ℕ) → SomeSpan nodes w r s k → k ≤ j)
 
 -- the state is that of the place, in a pass from `start` for the whole expression
 abbrev pub Arrives : Prepared → Way → List ℕ → ℕ → ℕ → State → Type 0
-Arrives p way w start place a = (a.root ≡ p.root) × StateAt (nodes_of way p.arena.expr) w (starts_of way.sweeps start w) way.keeps place a
+Arrives p way w start place a = (a.root ≡ p.root) × StateAt (nodes_of way p.arena.expr) w (starts_of way.all_starts start w) way.keeps place a
 
 -- the end is the last below the place, in such a pass
 abbrev pub EndsBelow : Prepared → Way → List ℕ → ℕ → ℕ → Option ℕ → Type 0
-EndsBelow p way w start place end = LastBelow (nodes_of way p.arena.expr) w p.root (starts_of way.sweeps start w) place end
+EndsBelow p way w start place end = LastBelow (nodes_of way p.arena.expr) w p.root (starts_of way.all_starts start w) place end
 
 -- a pass from `start` is at a place: its state there, the last end so far, and whether it needn't go on
 pub record PassIs (p : Prepared) (t : Table) (w : List ℕ) (start : ℕ) (at : Passed) : Type 0 where
@@ -40,4 +40,4 @@ pub record PassIs (p : Prepared) (t : Table) (w : List ℕ) (start : ℕ) (at : 
   pub within : at.place ≤ length w
   pub state : Arrives p t.way w start at.place (state_of (length p.arena.expr.nodes) t (at.offset / 2 ^ t.layout.shift))
   pub last : EndsBelow p t.way w start (at.place + 1) at.end
-  pub over : IsTrue at.over → IsEnd t.way.sweeps (nodes_of t.way p.arena.expr) w p.root (starts_of t.way.sweeps start w) at.end
+  pub over : IsTrue at.over → IsEnd t.way.all_starts (nodes_of t.way p.arena.expr) w p.root (starts_of t.way.all_starts start w) at.end

@@ -29,7 +29,7 @@ starts_told false n end = one_start (n - end)
 -- the row is that of the place in the pass, seen from the text's end
 abbrev pub RowKept : Prepared → List ℕ → Way → (root end place : ℕ) → (ℕ → Bool) → (ℕ → Bool) → Type 0
 RowKept p w way root end place entered ended =
-    RowOfPlace (nodes_of way p.arena.expr) (reverse w) root (starts_told way.sweeps (length w) end) way.keeps (length w - place) entered ended
+    RowOfPlace (nodes_of way p.arena.expr) (reverse w) root (starts_told way.all_starts (length w) end) way.keeps (length w - place) entered ended
 
 -- the state is that of the place in the pass
 abbrev pub KeptAt : Prepared → List ℕ → Way → (root end place : ℕ) → State → Type 0
@@ -69,7 +69,7 @@ pub record IsRegion (p : Prepared) (w : List ℕ) (t : Table) (k : Kept) : Type 
   pub table : IsTable p t
   pub room : KeptRoom (length p.arena.expr.nodes) (length w) t k
   pub root : MayBegin p t.way k.region.root
-  pub whole : IsTrue t.way.sweeps → k.region.end ≡ length w
+  pub whole : IsTrue t.way.all_starts → k.region.end ≡ length w
   pub inside : k.region.end ≤ length w
   pub within : k.region.to ≤ k.region.end
   pub long : length w < length k.states.items
@@ -123,7 +123,7 @@ Follows p w t a i place offset =
 -- the two meet at each place from one up to another
 abbrev pub Meet : Prepared → List ℕ → Table → Kept → ℕ → ℕ → ℕ → ℕ → Type 0
 Meet p w t k a i from to = (q : ℕ) → from ≤ q → q < to →
-    Meets p.arena.expr.nodes w k.region.root (ends_told t.way.sweeps (length w) k.region.end) a (one_start i) q
+    Meets p.arena.expr.nodes w k.region.root (ends_told t.way.all_starts (length w) k.region.end) a (one_start i) q
 
 -- What it may cost.
 

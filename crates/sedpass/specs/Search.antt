@@ -23,7 +23,7 @@ use Rattle.sedpass.specs.declared.search.Trials.TheVariants.{Hit, Nothing, Tired
 pub record Serves (p : Prepared) (w : List ℕ) (back : Table) (s : Seeking) : Type 0 where
   pub table : IsTable p back
   pub room : KeptRoom (length p.arena.expr.nodes) (length w) back s.kept
-  pub sweeps : IsTrue back.way.sweeps
+  pub all_starts : IsTrue back.way.all_starts
   pub kept : IsTrue s.begun → IsKept p w back s.kept
 
 -- a search may be made: it is right where matches can begin, the table ahead is right, and what is kept serves

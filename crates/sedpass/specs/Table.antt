@@ -47,7 +47,7 @@ StateAt nodes w s keeps p a = RowOfPlace nodes w a.root s keeps p a.entered a.en
 
 -- this byte leads from the one state to the other, where the text's edge comes after it, or doesn't
 abbrev pub LeadsOn : List Node → Way → State → ℕ → Bool → State → Type 0
-LeadsOn nodes way a byte edge b = (b.root ≡ a.root) × LeadsTo nodes a.root way.keeps a.entered a.ended (Some byte) edge way.sweeps b.entered b.ended
+LeadsOn nodes way a byte edge b = (b.root ≡ a.root) × LeadsTo nodes a.root way.keeps a.entered a.ended (Some byte) edge way.all_starts b.entered b.ended
 
 -- a pass for the root begins in the state, at places of the kind
 abbrev pub BeginsIn : List Node → Way → ℕ → Kind → State → Type 0
@@ -101,7 +101,7 @@ beginning_of t i = slice_index_or t.beginnings.items i (record { epoch = 0; code
 
 -- passes for the node may begin: for any, but in a sweep for the root of the expression alone
 abbrev pub MayBegin : Prepared → Way → ℕ → Type 0
-MayBegin p way root = (root < length p.arena.expr.nodes) × (IsTrue way.sweeps → root ≡ p.root)
+MayBegin p way root = (root < length p.arena.expr.nodes) × (IsTrue way.all_starts → root ≡ p.root)
 
 -- Tables.
 
@@ -121,7 +121,7 @@ pub record HasRoom (m : ℕ) (t : Table) : Type 0 where
   pub reserved : t.room * 2 ^ t.layout.shift ≤ t.reserved
   pub capacity : t.reserved ≤ vec_capacity t.cells
   pub index : 2 ≤ length t.index.items
-  pub begins : (root : ℕ) (kind : Kind) → root < t.marks → beginning_at t.way.sweeps root kind < length t.beginnings.items
+  pub begins : (root : ℕ) (kind : Kind) → root < t.marks → beginning_at t.way.all_starts root kind < length t.beginnings.items
   -- no beginning is of a later epoch, nor of one of the last two
   pub past : (i : ℕ) → (beginning_of t i).epoch ≤ t.epoch
   pub early : (i : ℕ) → (beginning_of t i).epoch < 4294967294
@@ -138,8 +138,8 @@ pub record IsTable (p : Prepared) (t : Table) : Type 0 where
   pub roots : (q : ℕ) → q < t.count → (state_of (length p.arena.expr.nodes) t q).root < length p.arena.expr.nodes
   pub told : (q : ℕ) → q < t.count → IsTold (state_of (length p.arena.expr.nodes) t q)
   pub filled : (q k : ℕ) → q < t.count → k < t.layout.width → 0 < cell_of t q k → Names (length p.arena.expr.nodes) t (LeadsBy p t q k) (cell_of t q k)
-  pub begun : (root : ℕ) (kind : Kind) → MayBegin p t.way root → (beginning_of t (beginning_at t.way.sweeps root kind)).epoch ≡ t.epoch →
-      Names (length p.arena.expr.nodes) t (BeginsIn (nodes_of t.way p.arena.expr) t.way root kind) (beginning_of t (beginning_at t.way.sweeps root kind)).code
+  pub begun : (root : ℕ) (kind : Kind) → MayBegin p t.way root → (beginning_of t (beginning_at t.way.all_starts root kind)).epoch ≡ t.epoch →
+      Names (length p.arena.expr.nodes) t (BeginsIn (nodes_of t.way p.arena.expr) t.way root kind) (beginning_of t (beginning_at t.way.all_starts root kind)).code
 
 -- what never changes
 abbrev pub SameRoom : Table → Table → Type 0
@@ -153,7 +153,7 @@ SameShape old new = (new.way ≡ old.way) × (new.room ≡ old.room) × (new.lay
 pub record IsAhead (p : Prepared) (t : Table) : Type 0 where
   pub table : IsTable p t
   pub forwards : t.way.mirrored ≡ false
-  pub single : t.way.sweeps ≡ false
+  pub single : t.way.all_starts ≡ false
   pub brief : t.way.keeps ≡ false
 
 -- a state was added at most, and those before stand as they were; or, in another epoch, all were forgotten before, as the table was full

@@ -48,7 +48,7 @@ pub fn stops(way: Way, flags: Flags) -> bool
     if way.keeps {
         flags.dead
     } else {
-        flags.ends || (flags.dead && !way.sweeps)
+        flags.ends || (flags.dead && !way.all_starts)
     }
 }
 

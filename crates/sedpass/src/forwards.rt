@@ -1,6 +1,6 @@
 //! Passes for the whole expression, which stop as soon as no later place matters.
 ghost use Rattle.std.specs.Prelude.{◌≡◌, ℕ, true, false, ◌+◌, ◌-◌, ◌*◌, ◌/◌, ◌^◌, ◌<◌, ◌≤◌, ◌↔◌, length, min, Some, IfSome, IsTrue, is_some};
-ghost use Rattle.sedtext.specs.Costs.{Pays};
+ghost use Rattle.sedtext.specs.Costs.{CostsWithin};
 ghost use Rattle.sedtext.specs.Following.{PassesOver};
 ghost use Rattle.sedtext.specs.Reach.{IsLongestFrom};
 ghost use Rattle.sedtext.specs.Spans.{SomeFound};
@@ -73,7 +73,7 @@ impl Table {
             offset,
             place,
             end: last_end(flags.ends, place, end),
-            over: self.way.sweeps || flags.dead,
+            over: self.way.all_starts || flags.dead,
         }
     }
 
@@ -96,7 +96,7 @@ impl Table {
         ensures within { result.place ≤ to }
         ensures moved { IsTrue result.over → from.place < result.place }
         ensures passes { self.now.way.keeps ≡ false → (start : ℕ) → PassIs prepared.now self.now text.now start from → PassIs prepared.now self.now text.now start result }
-        ensures cost { Pays steps.old steps.new (2 * min (result.place + 1) to) (2 * from.place) }
+        ensures cost { CostsWithin steps.old steps.new (2 * min (result.place + 1) to) (2 * from.place) }
         ensures counts { TakesAtLeast steps.old steps.new (2 * (result.place - from.place)) }
     {
         let mut bytes = Tally::new();
@@ -163,7 +163,7 @@ impl Table {
         ensures after { from.place < result.place }
         ensures within { result.place ≤ length text.now }
         ensures passes { self.old.way.keeps ≡ false → (start : ℕ) → PassIs prepared.now self.old text.now start from → PassIs prepared.now self.new text.now start result }
-        ensures cost { Pays steps.old steps.new (40 * length prepared.now.arena.expr.nodes * result.place) (40 * length prepared.now.arena.expr.nodes * from.place) }
+        ensures cost { CostsWithin steps.old steps.new (40 * length prepared.now.arena.expr.nodes * result.place) (40 * length prepared.now.arena.expr.nodes * from.place) }
         ensures counts { TakesAtLeast steps.old steps.new (2 * (result.place - from.place)) }
     {
         let last = text.len() - 1;
@@ -195,10 +195,10 @@ impl Table {
         ensures after { from ≤ result.place }
         ensures within { result.place ≤ length text.now }
         ensures reached { IfSome result.end (λ j. j ≤ result.place) }
-        ensures longest { self.old.way.sweeps ≡ false → IsLongestFrom (expression_tree prepared.now.arena.expr) text.now from result.end }
-        ensures found { IsTrue self.old.way.sweeps → IsTrue (is_some result.end) ↔ SomeFound (expression_tree prepared.now.arena.expr) text.now from }
+        ensures longest { self.old.way.all_starts ≡ false → IsLongestFrom (expression_tree prepared.now.arena.expr) text.now from result.end }
+        ensures found { IsTrue self.old.way.all_starts → IsTrue (is_some result.end) ↔ SomeFound (expression_tree prepared.now.arena.expr) text.now from }
         ensures passes { IfSome result.end (λ j. PassesOver (expression_tree prepared.now.arena.expr) text.now from steps.old steps.new) }
-        ensures cost { Pays steps.old steps.new (40 * length prepared.now.arena.expr.nodes * (result.place + 1)) (40 * length prepared.now.arena.expr.nodes * from) }
+        ensures cost { CostsWithin steps.old steps.new (40 * length prepared.now.arena.expr.nodes * (result.place + 1)) (40 * length prepared.now.arena.expr.nodes * from) }
         ensures counts { TakesAtLeast steps.old steps.new (2 * (result.place - from) + 1) }
     {
         let kind = kind_of(from, text.len());

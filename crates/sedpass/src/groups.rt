@@ -11,7 +11,7 @@ ghost use Rattle.sedre.specs.declared.types.Node.{Node};
 ghost use Rattle.sedre.specs.declared.types.Node.TheVariants.{Seq, Alt, Star, Opt};
 ghost use Rattle.sedtext.specs.Caps.{LastCut, LastCopy, IsReport};
 ghost use Rattle.sedtext.specs.Groups.{Groups};
-ghost use Rattle.sedtext.specs.Costs.{Pays};
+ghost use Rattle.sedtext.specs.Costs.{CostsWithin};
 ghost use Rattle.sedtext.specs.Places.{Ascending};
 ghost use Rattle.sedtext.specs.Reach.{At};
 ghost use Rattle.sedpass.specs.Decide.{found, undecided, HasAll, nodes_in, text_in, told_of, IsTold, Stands, IsRepetitionHere, EndsRegion, GoesOn, IsDesk, IsMatch, Turns, TurnsLooked, waiting, long_of, part_cost, kind_cost, HasNoKnownLength, LooksAt, next_of, owed_in, IsSetAt, HasDesk, IsSpent, AreGroupTables, AreRoomy, HasSpace, SameRooms, SameTables};
@@ -97,14 +97,14 @@ pub struct GroupRoom {
 /// The way of passes ahead, each from one start.
 const AHEAD: Way = Way {
     mirrored: false,
-    sweeps: false,
+    all_starts: false,
     keeps: false,
 };
 
 /// The way of passes back from a region's end.
 const INSIDE: Way = Way {
     mirrored: true,
-    sweeps: false,
+    all_starts: false,
     keeps: true,
 };
 
@@ -226,7 +226,7 @@ fn meeting_end(
     ensures desk { IsDesk subject.entry tables.new kept.new }
     ensures shape { SameTables tables.old tables.new }
     ensures space { SameSpace kept.old kept.new }
-    ensures cost { Pays steps.old steps.new (owed_in subject.entry kept.old.region from + 36 * length (nodes_in subject.entry) * (result + 1))
+    ensures cost { CostsWithin steps.old steps.new (owed_in subject.entry kept.old.region from + 36 * length (nodes_in subject.entry) * (result + 1))
         (owed_in subject.entry kept.new.region result + 36 * length (nodes_in subject.entry) * from) }
     ensures counts { TakesAtLeast steps.old steps.new (2 * (result - from) + 1) }
 {
@@ -259,7 +259,7 @@ fn run_end(
     ensures desk { IsDesk subject.entry tables.new kept.new }
     ensures shape { SameTables tables.old tables.new }
     ensures space { SameSpace kept.old kept.new }
-    ensures cost { Pays steps.old steps.new (owed_in subject.entry kept.old.region from + 2 * result + 2) (owed_in subject.entry kept.new.region result + 2 * from) }
+    ensures cost { CostsWithin steps.old steps.new (owed_in subject.entry kept.old.region from + 2 * result + 2) (owed_in subject.entry kept.new.region result + 2 * from) }
     ensures counts { TakesAtLeast steps.old steps.new (result - from) }
 {
     kept.seek(subject, &mut tables.inside, leaf, from, false, steps)

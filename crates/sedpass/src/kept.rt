@@ -4,7 +4,7 @@
 //! right end is kept too. Where the states of a block are gone, since the table was emptied after it was made, they are made again
 //! from the block's end down to the place that is looked at, so that looks from left to right make each place again once at most.
 ghost use Rattle.std.specs.Prelude.{◌≡◌, ℕ, Bool, true, false, not, min, ◌+◌, ◌-◌, ◌*◌, ◌/◌, ◌^◌, ◌<◌, ◌≤◌, ◌↔◌, length, slice_index_or, vec_capacity, IfOk, IsTrue};
-ghost use Rattle.sedtext.specs.Costs.{Pays};
+ghost use Rattle.sedtext.specs.Costs.{CostsWithin};
 ghost use Rattle.sedtext.specs.Reach.{At, one_start};
 ghost use Rattle.sedtext.specs.Words.{row_of};
 ghost use Rattle.sedre.specs.Steps.{Takes, TakesAtLeast};
@@ -106,7 +106,7 @@ impl Kept {
         requires table { IsTable subject.prepared.now table.now }
         requires room { KeptRoom (length subject.prepared.now.arena.expr.nodes) (length subject.text.now) table.now self.old }
         requires root { MayBegin subject.prepared.now table.now.way root }
-        requires whole { IsTrue table.now.way.sweeps → end ≡ length subject.text.now }
+        requires whole { IsTrue table.now.way.all_starts → end ≡ length subject.text.now }
         requires end { end ≤ length subject.text.now }
         ensures kept { IsKept subject.entry.prepared.now subject.entry.text.now table.now self.new }
         ensures root { self.new.region.root ≡ root }
@@ -185,7 +185,7 @@ impl Kept {
         ensures edges { self.new.edges ≡ self.old.edges }
         ensures to { low < self.new.region.to }
         ensures steady { table.old.count + (high - low) ≤ table.old.room → self.new.region.to ≡ self.old.region.to }
-        ensures cost { Pays steps.old steps.new (35 * length subject.entry.prepared.now.arena.expr.nodes * high) (35 * length subject.entry.prepared.now.arena.expr.nodes * low) }
+        ensures cost { CostsWithin steps.old steps.new (35 * length subject.entry.prepared.now.arena.expr.nodes * high) (35 * length subject.entry.prepared.now.arena.expr.nodes * low) }
         ensures counts { TakesAtLeast steps.old steps.new (2 * (high - low)) }
     {
         let mut offset = offset;
@@ -271,7 +271,7 @@ impl Kept {
         ensures shape { SameShape table.old table.new }
         ensures same { SameKept self.old self.new }
         ensures to { result.0 < self.new.region.to }
-        ensures cost { Pays steps.old steps.new (39 * length subject.entry.prepared.now.arena.expr.nodes * high) (39 * length subject.entry.prepared.now.arena.expr.nodes * result.0) }
+        ensures cost { CostsWithin steps.old steps.new (39 * length subject.entry.prepared.now.arena.expr.nodes * high) (39 * length subject.entry.prepared.now.arena.expr.nodes * result.0) }
         ensures counts { TakesAtLeast steps.old steps.new (2 * (high - result.0)) }
     {
         let width = table.room - 1;
@@ -384,7 +384,7 @@ impl Kept {
         ensures from { self.new.region.from ≡ place }
         ensures to { self.new.region.to ≡ min self.old.region.end (place / (table.old.room - 1) * (table.old.room - 1) + (table.old.room - 1)) }
         ensures cost { let m = length subject.entry.prepared.now.arena.expr.nodes in
-            Pays steps.old steps.new (again m (self.old.region.end - place)) (again m (self.old.region.end - self.new.region.to)) }
+            CostsWithin steps.old steps.new (again m (self.old.region.end - place)) (again m (self.old.region.end - self.new.region.to)) }
         ensures counts { TakesAtLeast steps.old steps.new (2 * (self.new.region.to - place)) }
     {
         let width = table.room - 1;
@@ -414,7 +414,7 @@ impl Kept {
         ensures from { self.new.region.from ≤ place }
         ensures to { (result ≡ self.new.region.to) × (place < result) }
         ensures cost { let m = length subject.entry.prepared.now.arena.expr.nodes in
-            Pays steps.old steps.new (owed m self.old.region place) (owed m self.new.region place) }
+            CostsWithin steps.old steps.new (owed m self.old.region place) (owed m self.new.region place) }
     {
         if place < self.region.low {
             self.make(subject, table, place, steps);
@@ -434,7 +434,7 @@ impl Kept {
         steps: &mut Steps,
     ) -> bool
         requires kept { IsKept subject.prepared.now subject.text.now table.old self.old }
-        requires sweeps { table.old.way.sweeps ≡ false }
+        requires all_starts { table.old.way.all_starts ≡ false }
         requires last { IsLastIn subject.prepared.now.arena.expr.nodes self.old.region.root x }
         requires place { place ≤ self.old.region.end }
         ensures kept { IsKept subject.entry.prepared.now subject.entry.text.now table.new self.new }
@@ -442,7 +442,7 @@ impl Kept {
         ensures same { SameKept self.old self.new }
         ensures spans { IsTrue result ↔ At subject.entry.prepared.now.arena.expr.nodes subject.entry.text.now x place self.old.region.end }
         ensures cost { let m = length subject.entry.prepared.now.arena.expr.nodes in
-            Pays steps.old steps.new (owed m self.old.region place + 1) (owed m self.new.region place) }
+            CostsWithin steps.old steps.new (owed m self.old.region place + 1) (owed m self.new.region place) }
         ensures counts { TakesAtLeast steps.old steps.new 1 }
     {
         if place == self.region.end {
@@ -473,11 +473,11 @@ impl Kept {
         ensures after { from ≤ result }
         ensures within { result ≤ self.old.region.end }
         ensures passed { AllMarked subject.entry.prepared.now.arena.expr.nodes subject.entry.text.now self.old.region.root
-            (ends_told table.old.way.sweeps (length subject.entry.text.now) self.old.region.end) x (not marked) from result }
+            (ends_told table.old.way.all_starts (length subject.entry.text.now) self.old.region.end) x (not marked) from result }
         ensures found { result < self.old.region.end → IsTrue marked ↔ ReachesEnd subject.entry.prepared.now.arena.expr.nodes subject.entry.text.now self.old.region.root
-            (ends_told table.old.way.sweeps (length subject.entry.text.now) self.old.region.end) x result }
+            (ends_told table.old.way.all_starts (length subject.entry.text.now) self.old.region.end) x result }
         ensures cost { let m = length subject.entry.prepared.now.arena.expr.nodes in
-            Pays steps.old steps.new (owed m self.old.region from + 2 * result + 2) (owed m self.new.region result + 2 * from) }
+            CostsWithin steps.old steps.new (owed m self.old.region from + 2 * result + 2) (owed m self.new.region result + 2 * from) }
         ensures counts { TakesAtLeast steps.old steps.new (result - from) }
     {
         let mut place = from;
@@ -509,10 +509,10 @@ impl Kept {
         ensures after { from ≤ result }
         ensures within { result ≤ self.now.region.to }
         ensures passed { AllMarked subject.entry.prepared.now.arena.expr.nodes subject.entry.text.now self.now.region.root
-            (ends_told table.now.way.sweeps (length subject.entry.text.now) self.now.region.end) x (not marked) from result }
+            (ends_told table.now.way.all_starts (length subject.entry.text.now) self.now.region.end) x (not marked) from result }
         ensures found { result < self.now.region.to → IsTrue marked ↔ ReachesEnd subject.entry.prepared.now.arena.expr.nodes subject.entry.text.now self.now.region.root
-            (ends_told table.now.way.sweeps (length subject.entry.text.now) self.now.region.end) x result }
-        ensures cost { Pays steps.old steps.new (result + 1) from }
+            (ends_told table.now.way.all_starts (length subject.entry.text.now) self.now.region.end) x result }
+        ensures cost { CostsWithin steps.old steps.new (result + 1) from }
         ensures counts { TakesAtLeast steps.old steps.new (result - from) }
     {
         for place in from..self.region.to {
@@ -536,7 +536,7 @@ impl Kept {
     ) -> usize
         requires kept { IsKept subject.prepared.now subject.text.now table.old self.old }
         requires ahead { IsTable subject.prepared.now ahead.old }
-        requires forwards { (ahead.old.way.mirrored ≡ false) × (ahead.old.way.sweeps ≡ false) }
+        requires forwards { (ahead.old.way.mirrored ≡ false) × (ahead.old.way.all_starts ≡ false) }
         requires a { a ≤ self.old.region.root }
         requires from { from ≤ self.old.region.end }
         ensures kept { IsKept subject.entry.prepared.now subject.entry.text.now table.new self.new }
@@ -545,9 +545,9 @@ impl Kept {
         ensures same { SameKept self.old self.new }
         ensures within { result ≤ self.old.region.end }
         ensures ceases { CeasesAt subject.entry.prepared.now.arena.expr.nodes subject.entry.text.now self.old.region.root
-            (ends_told table.old.way.sweeps (length subject.entry.text.now) self.old.region.end) a from result }
+            (ends_told table.old.way.all_starts (length subject.entry.text.now) self.old.region.end) a from result }
         ensures cost { let m = length subject.entry.prepared.now.arena.expr.nodes in
-            Pays steps.old steps.new (owed m self.old.region from + 36 * m * (result + 1)) (owed m self.new.region result + 36 * m * from) }
+            CostsWithin steps.old steps.new (owed m self.old.region from + 36 * m * (result + 1)) (owed m self.new.region result + 36 * m * from) }
         ensures counts { TakesAtLeast steps.old steps.new (2 * (result - from) + 1) }
     {
         let kind = kind_of(from, subject.text.len());
@@ -579,7 +579,7 @@ impl Kept {
     ) -> (usize, usize)
         requires kept { IsKept subject.prepared.now subject.text.now table.now self.old }
         requires ahead { IsTable subject.prepared.now ahead.old }
-        requires forwards { (ahead.old.way.mirrored ≡ false) × (ahead.old.way.sweeps ≡ false) }
+        requires forwards { (ahead.old.way.mirrored ≡ false) × (ahead.old.way.all_starts ≡ false) }
         requires offset { IsOffset ahead.old offset }
         requires from { self.old.region.from ≤ from }
         requires to { from < self.old.region.to }
@@ -595,9 +595,9 @@ impl Kept {
             Follows subject.entry.prepared.now subject.entry.text.now ahead.new a i result.0 result.1
             × Meet subject.entry.prepared.now subject.entry.text.now table.now self.old a i from result.0
             × (result.0 < self.old.region.to → Meets subject.entry.prepared.now.arena.expr.nodes subject.entry.text.now self.old.region.root
-            (ends_told table.now.way.sweeps (length subject.entry.text.now) self.old.region.end) a (one_start i) result.0 → ⊥) }
-        ensures cost { let m = length subject.entry.prepared.now.arena.expr.nodes in Pays steps.old steps.new (36 * m * result.0 + m) (36 * m * from) }
-        ensures whole { let m = length subject.entry.prepared.now.arena.expr.nodes in result.0 ≡ self.old.region.to → Pays steps.old steps.new (36 * m * result.0) (36 * m * from) }
+            (ends_told table.now.way.all_starts (length subject.entry.text.now) self.old.region.end) a (one_start i) result.0 → ⊥) }
+        ensures cost { let m = length subject.entry.prepared.now.arena.expr.nodes in CostsWithin steps.old steps.new (36 * m * result.0 + m) (36 * m * from) }
+        ensures whole { let m = length subject.entry.prepared.now.arena.expr.nodes in result.0 ≡ self.old.region.to → CostsWithin steps.old steps.new (36 * m * result.0) (36 * m * from) }
         ensures counts { TakesAtLeast steps.old steps.new (2 * (result.0 - from)) }
     {
         let length = subject.text.len();

@@ -3,7 +3,7 @@
 //! A search for each occurrence, and one more a byte further on where the null string directly after an occurrence is passed over.
 ghost use Rattle.std.specs.Prelude.{◌≡◌, ℕ, false, Option, None, Some, ◌+◌, ◌*◌, ◌<◌, ◌≤◌, length, nat_lt, if◌then◌else◌, IfSome, IsTrue};
 ghost use Rattle.sedtext.specs.Answer.{SpanAnswer};
-ghost use Rattle.sedtext.specs.Costs.{Pays};
+ghost use Rattle.sedtext.specs.Costs.{CostsWithin};
 ghost use Rattle.sedtext.specs.Following.{LiesOn, next_span};
 ghost use Rattle.sedtext.specs.Matching.{found, unless_null_at};
 ghost use Rattle.sedre.specs.Tree.{expression_tree};
@@ -23,7 +23,7 @@ use sedtext::beginnings::Begins;
 pub fn begin_text(subject: Subject, back: &Table, seeking: &mut Seeking)
     requires table { IsTable subject.prepared.now back.now }
     requires room { KeptRoom (length subject.prepared.now.arena.expr.nodes) (length subject.text.now) back.now seeking.old.kept }
-    requires sweeps { IsTrue back.now.way.sweeps }
+    requires all_starts { IsTrue back.now.way.all_starts }
     ensures kept { seeking.new.kept ≡ seeking.old.kept }
     ensures begun { seeking.new.begun ≡ false }
     ensures tried { seeking.new.tried ≡ 0 }
@@ -65,7 +65,7 @@ fn past_null(
     ensures next { result ≡ if nat_lt at (length subject.entry.text.now) then found (expression_tree subject.entry.prepared.now.arena.expr) subject.entry.text.now (at + 1) else None }
     ensures lies { IfSome result (λ f. (at < f.0) × (f.0 ≤ f.1) × (f.1 ≤ length subject.entry.text.now)) }
     ensures cost { let m = length subject.entry.prepared.now.arena.expr.nodes in let n = length subject.entry.text.now in
-        Pays steps.old steps.new (owed_search m n seeking.old (at + 1) + 42 * m) (owed_after (owed_search m n seeking.new) result) }
+        CostsWithin steps.old steps.new (owed_search m n seeking.old (at + 1) + 42 * m) (owed_after (owed_search m n seeking.new) result) }
     ensures once { Takes steps.old steps.new (further_cost (length subject.entry.prepared.now.arena.expr.nodes) (length subject.entry.text.now) at) }
     ensures counts { LooksFrom (at + 1) steps.old steps.new result }
 {
@@ -96,7 +96,7 @@ pub fn next_after(
     ensures next { result ≡ next_span (found (expression_tree subject.entry.prepared.now.arena.expr) subject.entry.text.now) (length subject.entry.text.now) (Some at) }
     ensures lies { IfSome result (LiesOn (length subject.entry.text.now) (Some at)) }
     ensures cost { let m = length subject.entry.prepared.now.arena.expr.nodes in let n = length subject.entry.text.now in
-        Pays steps.old steps.new (owed_behind m n seeking.old at) (owed_after (owed_behind m n seeking.new) result) }
+        CostsWithin steps.old steps.new (owed_behind m n seeking.old at) (owed_after (owed_behind m n seeking.new) result) }
     ensures looks { SearchTakes (length subject.entry.prepared.now.arena.expr.nodes) (length subject.entry.text.now) at steps.old steps.new result }
 {
     let first = next_match(subject, begins, ahead, back, seeking, at, steps);

@@ -30,7 +30,7 @@ pub struct Way {
     /// From the text's end, over the mirrored expression.
     pub mirrored: bool,
     /// Every place is a start, not the first alone.
-    pub sweeps: bool,
+    pub all_starts: bool,
     /// A row keeps the ends of all nodes, not those of the root alone.
     pub keeps: bool,
 }
@@ -261,11 +261,11 @@ pub fn step(
 )
     requires root { root < length prepared.now.arena.expr.nodes }
     ensures leads { (before : ℕ → Bool) → LeadsTo (nodes_of way prepared.now.arena.expr) root way.keeps
-        (bits (length prepared.now.arena.expr.nodes) work.old.leaves) before (Some byte) edge way.sweeps
+        (bits (length prepared.now.arena.expr.nodes) work.old.leaves) before (Some byte) edge way.all_starts
         (bits (length prepared.now.arena.expr.nodes) work.new.leaves) (bits (length prepared.now.arena.expr.nodes) work.new.ends) }
     // Where no node is null at places of one kind alone, it is the row at the text's edge and before it.
     ensures anywhere { SameNulls prepared.now.arena.expr.nodes → (end : Bool) (before : ℕ → Bool) → LeadsTo (nodes_of way prepared.now.arena.expr) root way.keeps
-        (bits (length prepared.now.arena.expr.nodes) work.old.leaves) before (Some byte) end way.sweeps
+        (bits (length prepared.now.arena.expr.nodes) work.old.leaves) before (Some byte) end way.all_starts
         (bits (length prepared.now.arena.expr.nodes) work.new.leaves) (bits (length prepared.now.arena.expr.nodes) work.new.ends) }
     ensures cost { Takes steps.old steps.new (17 * length prepared.now.arena.expr.nodes - 3) }
     ensures counts { TakesAtLeast steps.old steps.new
@@ -273,7 +273,7 @@ pub fn step(
 {
     let kind = edge_kind(way.mirrored, edge);
     ascend(prepared, way, root, Some(byte), kind, work, steps);
-    descend(prepared, way, root, way.sweeps, kind, work, steps);
+    descend(prepared, way, root, way.all_starts, kind, work, steps);
 }
 
 /// Makes the row in which a pass for a root begins, at a place of a kind.

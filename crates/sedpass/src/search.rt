@@ -5,7 +5,7 @@
 ghost use Rattle.std.specs.Prelude.{◌≡◌, ℕ, false, max, ◌+◌, ◌-◌, ◌*◌, ◌/◌, ◌<◌, ◌≤◌, ◌↔◌, length, IfNone, IfSome, IsTrue};
 ghost use Rattle.sedtext.specs.Answer.{SpanAnswer};
 ghost use Rattle.sedtext.specs.Beginnings.{AllBegin};
-ghost use Rattle.sedtext.specs.Costs.{Pays};
+ghost use Rattle.sedtext.specs.Costs.{CostsWithin};
 ghost use Rattle.sedtext.specs.Reach.{At};
 ghost use Rattle.sedtext.specs.Spans.{NotFound};
 ghost use Rattle.sedre.specs.Tree.{expression_tree};
@@ -71,7 +71,7 @@ fn try_next(
     ensures ahead_shape { SameShape ahead.old ahead.new }
     ensures none { IfNone result (NotFound (expression_tree subject.entry.prepared.now.arena.expr) subject.entry.text.now from) }
     ensures trial { IfSome result (IsTrial (expression_tree subject.entry.prepared.now.arena.expr) subject.entry.text.now from) }
-    ensures cost { Pays steps.old steps.new (trial_cost (length subject.entry.prepared.now.arena.expr.nodes) (length subject.entry.text.now) result) from }
+    ensures cost { CostsWithin steps.old steps.new (trial_cost (length subject.entry.prepared.now.arena.expr.nodes) (length subject.entry.text.now) result) from }
     ensures counts { IfSome result (λ t. TakesAtLeast steps.old steps.new (t.start - from + 2 * (t.place - t.start) + 1)) }
 {
     let start = next_start(begins, subject.text, from, steps)?;
@@ -114,7 +114,7 @@ fn try_all(
     ensures answer { TrialsAnswer (expression_tree subject.entry.prepared.now.arena.expr) subject.entry.text.now from result }
     ensures few { trials_room tried.new result ≤ max tried.old (length subject.entry.text.now / 8) + (length subject.entry.text.now + 1 - from) }
     ensures cost { let m = length subject.entry.prepared.now.arena.expr.nodes in
-        Pays steps.old steps.new (40 * m * tried.new + trials_cost m (length subject.entry.text.now) result) (40 * m * tried.old + from) }
+        CostsWithin steps.old steps.new (40 * m * tried.new + trials_cost m (length subject.entry.text.now) result) (40 * m * tried.old + from) }
     ensures counts { LooksInTrials from steps.old steps.new result }
 {
     let length = subject.text.len();
@@ -164,11 +164,11 @@ fn next_kept(
     requires from { from ≤ length subject.text.now }
     requires ahead { IsAhead subject.prepared.now ahead.old }
     requires kept { IsKept subject.prepared.now subject.text.now back.old kept.old }
-    requires sweeps { IsTrue back.old.way.sweeps }
+    requires all_starts { IsTrue back.old.way.all_starts }
     ensures tables { TablesStay subject.entry.prepared.now ahead.old ahead.new back.old back.new kept.old kept.new }
     ensures next { IsNextMatch subject.entry.prepared.now subject.entry.text.now from back.new kept.new steps.old steps.new result }
     ensures cost { let m = length subject.entry.prepared.now.arena.expr.nodes in let n = length subject.entry.text.now in
-        Pays steps.old steps.new (owed_kept m n kept.old.region from + 42 * m) (owed_after (λ q. owed_kept m n kept.new.region q) result) }
+        CostsWithin steps.old steps.new (owed_kept m n kept.old.region from + 42 * m) (owed_after (λ q. owed_kept m n kept.new.region q) result) }
 {
     let root = subject.prepared.root;
     let start = kept.seek(subject, back, root, from, true, steps);
@@ -192,11 +192,11 @@ pub fn next_begun(
     requires ahead { IsAhead subject.prepared.now ahead.old }
     requires table { IsTable subject.prepared.now back.old }
     requires room { KeptRoom (length subject.prepared.now.arena.expr.nodes) (length subject.text.now) back.old kept.old }
-    requires sweeps { IsTrue back.old.way.sweeps }
+    requires all_starts { IsTrue back.old.way.all_starts }
     ensures tables { TablesStay subject.entry.prepared.now ahead.old ahead.new back.old back.new kept.old kept.new }
     ensures next { IsNextMatch subject.entry.prepared.now subject.entry.text.now from back.new kept.new steps.old steps.new result }
     ensures cost { let m = length subject.entry.prepared.now.arena.expr.nodes in let n = length subject.entry.text.now in
-        Pays steps.old steps.new (142 * m * (n - from) + 42 * m) (owed_after (λ q. owed_kept m n kept.new.region q) result) }
+        CostsWithin steps.old steps.new (142 * m * (n - from) + 42 * m) (owed_after (λ q. owed_kept m n kept.new.region q) result) }
 {
     let length = subject.text.len();
     kept.begin(subject, back, subject.prepared.root, length);
@@ -218,7 +218,7 @@ pub fn next_match(
     ensures searched { Searched subject.entry.prepared.now subject.entry.text.now ahead.old ahead.new back.old back.new seeking.old seeking.new }
     ensures answer { SpanAnswer (expression_tree subject.entry.prepared.now.arena.expr) subject.entry.text.now from result }
     ensures cost { let m = length subject.entry.prepared.now.arena.expr.nodes in let n = length subject.entry.text.now in
-        Pays steps.old steps.new (owed_search m n seeking.old from + 42 * m) (owed_after (owed_search m n seeking.new) result) }
+        CostsWithin steps.old steps.new (owed_search m n seeking.old from + 42 * m) (owed_after (owed_search m n seeking.new) result) }
     ensures each { Takes steps.old steps.new (search_cost (length subject.entry.prepared.now.arena.expr.nodes) (length subject.entry.text.now) from) }
     ensures counts { LooksFrom from steps.old steps.new result }
 {

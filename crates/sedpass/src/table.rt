@@ -92,12 +92,12 @@ fn next_epoch(epoch: u32) -> u32
 }
 
 /// How many beginnings are noted: for each node those at each kind of place, in a sweep for the whole expression alone.
-fn count_beginnings(sweeps: bool, nodes: usize) -> usize
+fn count_beginnings(all_starts: bool, nodes: usize) -> usize
     requires some { 0 < nodes }
     requires few { nodes ≤ 65536 }
-    ensures begins { (root : ℕ) (kind : Kind) → root < nodes → beginning_at sweeps root kind < result }
+    ensures begins { (root : ℕ) (kind : Kind) → root < nodes → beginning_at all_starts root kind < result }
 {
-    if sweeps { 4 } else { 4 * nodes }
+    if all_starts { 4 } else { 4 * nodes }
 }
 
 impl Table {
@@ -143,7 +143,8 @@ impl Table {
             // An odd number and one: by a power of two only a digest's last bits would count.
             index: vec![in alloc; Slot { epoch: 0, state: 0 }; 2 * room + 2]?,
             beginnings: vec![in alloc; Beginning { epoch: 0, code: 0 }; count_beginnings(
-                way.sweeps, nodes
+                way.all_starts,
+                nodes
             )]?,
         })
     }
@@ -464,10 +465,10 @@ impl Table {
     #[inline(always)]
     fn beginning_at(&self, root: usize, kind: Kind) -> usize
         requires { root ≤ 65536 }
-        ensures { result ≡ beginning_at self.now.way.sweeps root kind }
+        ensures { result ≡ beginning_at self.now.way.all_starts root kind }
     {
         let k = usize::from(kind.begin) + 2 * usize::from(kind.end);
-        if self.way.sweeps { k } else { 4 * root + k }
+        if self.way.all_starts { k } else { 4 * root + k }
     }
 
     /// Notes the state in which a pass for a root begins, at a place of a kind; in the last epochs nothing is noted.

@@ -5,9 +5,9 @@ use Rattle.sedre.specs.declared.types.Kind.{Kind}
 use Rattle.sedre.specs.declared.types.Reason.{Reason}
 use Rattle.sedre.specs.declared.types.ExprFault.{ExprFault}
 use Rattle.sedre.specs.declared.types.TheConstants.{NO_MEMORY}
-use Rattle.sedre.specs.declared.parts.Part.{Part}
+use Rattle.sedre.specs.declared.parts.TreeExtent.{TreeExtent}
 use Rattle.sedre.specs.declared.stack.Stack.{Stack}
-use Rattle.sedre.specs.declared.syntax.Here.TheVariants.{Is, Ends}
+use Rattle.sedre.specs.declared.syntax.NextItem.TheVariants.{Is, Ends}
 use Rattle.sedre.specs.declared.syntax.Item.{Item}
 use Rattle.sedre.specs.declared.syntax.Item.TheVariants.{Byte, Open, Close, Bar, Repeat, AtBegin, AtEnd}
 use Rattle.sedre.specs.Items.{item_at}
@@ -53,24 +53,24 @@ no_length [] h = refl
 no_length (l ∷ ls) h = absurd (omega (arith, h))
 
 -- the one tree on the stack
-pub one_part : (limit : ℕ) (s : Stack) (t : Tree) (p : Part) → Stored limit s (t ∷ []) → p ≡ get_or s.parts.items 0 p → p ≡ part_of limit (size t) t
-one_part limit s t p st e = e ∙ ap (λ (ps : List Part). get_or ps 0 p) st.parts_are ∙ ap (λ (n : ℕ). part_of limit n t) (let h : 0 + size t ≡ size t = omega arith in h)
+pub one_part : (limit : ℕ) (s : Stack) (t : Tree) (p : TreeExtent) → Stored limit s (t ∷ []) → p ≡ get_or s.parts.items 0 p → p ≡ part_of limit (size t) t
+one_part limit s t p st e = e ∙ ap (λ (ps : List TreeExtent). get_or ps 0 p) st.parts_are ∙ ap (λ (n : ℕ). part_of limit n t) (let h : 0 + size t ≡ size t = omega arith in h)
 
 pub one_tree : (limit : ℕ) (s : Stack) (t : Tree) → Stored limit s (t ∷ []) → size t < limit → s.nodes ≡ postorder 0 t
 one_tree limit s t st h = st.nodes_are ∙ ap (written 0) (fitting_all limit 0 (t ∷ []) (omega (arith, h))) ∙ append-nil (postorder 0 t)
 
-pub small_tree : (limit : ℕ) (s : Stack) (t : Tree) (p : Part) → Stored limit s (t ∷ []) → p ≡ get_or s.parts.items 0 p → p.end < s.limit → size t < limit
-small_tree limit s t p st e h = omega (arith, h, st.limit_is, ap (λ (q : Part). q.end) (one_part limit s t p st e))
+pub small_tree : (limit : ℕ) (s : Stack) (t : Tree) (p : TreeExtent) → Stored limit s (t ∷ []) → p ≡ get_or s.parts.items 0 p → p.end < s.limit → size t < limit
+small_tree limit s t p st e h = omega (arith, h, st.limit_is, ap (λ (q : TreeExtent). q.end) (one_part limit s t p st e))
 
-pub shallow_tree : (limit : ℕ) (s : Stack) (t : Tree) (p : Part) → Stored limit s (t ∷ []) → p ≡ get_or s.parts.items 0 p → p.depth ≤ 600 → depth t ≤ 600
-shallow_tree limit s t p st e h = omega (arith, h, ap (λ (q : Part). q.depth) (one_part limit s t p st e))
+pub shallow_tree : (limit : ℕ) (s : Stack) (t : Tree) (p : TreeExtent) → Stored limit s (t ∷ []) → p ≡ get_or s.parts.items 0 p → p.depth ≤ 600 → depth t ≤ 600
+shallow_tree limit s t p st e h = omega (arith, h, ap (λ (q : TreeExtent). q.depth) (one_part limit s t p st e))
 
-pub finished_expr : (limit : ℕ) (s : Stack) (t : Tree) (p : Part) (groups opened : ℕ) → Stored limit s (t ∷ []) → p ≡ get_or s.parts.items 0 p → p.end < s.limit → opened ≡ groups → GroupsNumbered groups t → limit ≤ 65537 → IsExpr s.nodes opened
+pub finished_expr : (limit : ℕ) (s : Stack) (t : Tree) (p : TreeExtent) (groups opened : ℕ) → Stored limit s (t ∷ []) → p ≡ get_or s.parts.items 0 p → p.end < s.limit → opened ≡ groups → GroupsNumbered groups t → limit ≤ 65537 → IsExpr s.nodes opened
 finished_expr limit s t p groups opened st e h eg g most =
     let small : size t < limit = small_tree limit s t p st e h in
     subst (λ (n : ℕ). IsExpr s.nodes n) (sym eg) (whole_expr t groups s.nodes (one_tree limit s t st small) g (omega (arith, small, most)))
 
-pub finished : (limit : ℕ) (s : Nesting) (k : Stack) (p : Part) (e : WrittenExpression) (opened : ℕ) → Stored limit k (whole_level s.top ∷ []) → p ≡ get_or k.parts.items 0 p → p.end < k.limit → p.depth ≤ 600 → opened ≡ s.opened →
+pub finished : (limit : ℕ) (s : Nesting) (k : Stack) (p : TreeExtent) (e : WrittenExpression) (opened : ℕ) → Stored limit k (whole_level s.top ∷ []) → p ≡ get_or k.parts.items 0 p → p.end < k.limit → p.depth ≤ 600 → opened ≡ s.opened →
     e ≡ record { nodes = k.nodes; groups = opened } → IsFinished s limit e
 finished limit s k p e opened st read small shallow eg is =
     let size_is : size (whole_level s.top) < limit = small_tree limit k (whole_level s.top) p st read small in

@@ -8,8 +8,8 @@ use Rattle.sedre.specs.declared.types.ExprFault.{ExprFault}
 use Rattle.sedre.specs.declared.types.TheConstants.{NO_MEMORY}
 use Rattle.sedre.specs.declared.syntax.Symbol.{Symbol}
 use Rattle.sedre.specs.declared.syntax.Symbol.TheVariants.{Literal, AnyByte, Opening, Closing, Parting, Star, Plus, Question, Interval, IntervalEnd, BracketOpening, Caret, Dollar, Unknown}
-use Rattle.sedre.specs.declared.syntax.Here.{Here}
-use Rattle.sedre.specs.declared.syntax.Here.TheVariants.{Is, Ends, Bad}
+use Rattle.sedre.specs.declared.syntax.NextItem.{NextItem}
+use Rattle.sedre.specs.declared.syntax.NextItem.TheVariants.{Is, Ends, Bad}
 use Rattle.sedre.specs.declared.syntax.Item.{Item}
 use Rattle.sedre.specs.declared.syntax.Item.TheVariants.{Byte, Open, Close, Bar, Repeat, AtBegin, AtEnd}
 use Rattle.sedre.specs.Tree.{Tree}
@@ -182,9 +182,9 @@ open_alike (next {is = is} {js = js} (one {i = i}) a) n = same_open i is js (ope
 
 -- ---- what stands at a place
 
-data AlikeHere : Here → Here → Type 0 where
+data AlikeHere : NextItem → NextItem → Type 0 where
   stands : {i j : Item} {n : ℕ} → AlikeItem i j → AlikeHere (Is i n) (Is j n)
-  this : {h : Here} → AlikeHere h h
+  this : {h : NextItem} → AlikeHere h h
 
 data AlikeBefore : Option Item → Option Item → Type 0 where
   nowhere : AlikeBefore None None
@@ -195,18 +195,18 @@ list_alike f g negated at (Err x) end = this
 list_alike f g negated at (Ok set) None = this
 list_alike f g negated at (Ok set) (Some end) = stands bytes
 
-is_alike : {x y : Here} {i : Item} {n : ℕ} → AlikeHere x y → x ≡ Is i n → (j : Item) × (y ≡ Is j n) × AlikeItem i j
+is_alike : {x y : NextItem} {i : Item} {n : ℕ} → AlikeHere x y → x ≡ Is i n → (j : Item) × (y ≡ Is j n) × AlikeItem i j
 is_alike {i = i} this e = (i, e, one)
 is_alike {i = i} {n = n} (stands {i = k} {j = j} {n = m} a) e =
     let items : k ≡ i = cc in
     let places : m ≡ n = cc in
     (j, ap (λ (p : ℕ). Is j p) places, subst (λ (x : Item). AlikeItem x j) items a)
 
-ends_alike : {x y : Here} → AlikeHere x y → x ≡ Ends → y ≡ Ends
+ends_alike : {x y : NextItem} → AlikeHere x y → x ≡ Ends → y ≡ Ends
 ends_alike this e = e
 ends_alike (stands a) e = absurd cc
 
-bad_alike : {x y : Here} {r : ExprFault} → AlikeHere x y → x ≡ Bad r → y ≡ Bad r
+bad_alike : {x y : NextItem} {r : ExprFault} → AlikeHere x y → x ≡ Bad r → y ≡ Bad r
 bad_alike this e = e
 bad_alike (stands a) e = absurd cc
 
@@ -256,7 +256,7 @@ module _ (kind : Kind) (f g : Bool) (delimiter : Option ℕ) (text : List ℕ) w
   here_alike at (there (one {i = i})) = folded_for (Some i) at (symbol kind delimiter (drop at text))
   here_alike at (there (bytes {m = m} {n = n})) =
       let s = symbol kind delimiter (drop at text) in
-      subst (λ (h : Here). AlikeHere (item_for kind f delimiter text (Some (Byte m)) at s) h) (after_byte m n at s) (folded_for (Some (Byte m)) at s)
+      subst (λ (h : NextItem). AlikeHere (item_for kind f delimiter text (Some (Byte m)) at s) h) (after_byte m n at s) (folded_for (Some (Byte m)) at s)
 
   record CutAlike (before after : Option Item) (at : ℕ) (is : List Item) (to : ℕ) : Type 0 where
     pub items : List Item

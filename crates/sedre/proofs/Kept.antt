@@ -5,7 +5,7 @@ use Rattle.std.proofs.lemmas.Bool.{lt-ltb, le-ltb}
 use Rattle.std.proofs.lemmas.Bool.Decides.{leb_tells}
 use Rattle.std.proofs.lemmas.List.{take_all, take_at}
 use Rattle.sedre.specs.declared.types.Node.{Node}
-use Rattle.sedre.specs.declared.parts.Part.{Part}
+use Rattle.sedre.specs.declared.parts.TreeExtent.{TreeExtent}
 use Rattle.sedre.specs.Packed.{PartsBelow}
 use Rattle.sedre.specs.Tree.{Tree}
 use Rattle.sedre.specs.Sizes.{size, depth, without_alternation}
@@ -66,7 +66,7 @@ cut_nodes limit ts us =
 pub parts-append : (limit base : ℕ) (ts us : List Tree) → parts_of limit base (ts ++ us) ≡ parts_of limit base ts ++ parts_of limit (base + total ts) us
 parts-append limit base [] us = ap (λ (n : ℕ). parts_of limit n us) (let r : base ≡ base + 0 = omega arith in r)
 parts-append limit base (t ∷ ts) us =
-    ap (λ (r : List Part). part_of limit (base + size t) t ∷ r) (parts-append limit (base + size t) ts us ∙ ap (λ (n : ℕ). parts_of limit (base + size t) ts ++ parts_of limit n us) (let r : base + size t + total ts ≡ base + (size t + total ts) = omega arith in r))
+    ap (λ (r : List TreeExtent). part_of limit (base + size t) t ∷ r) (parts-append limit (base + size t) ts us ∙ ap (λ (n : ℕ). parts_of limit (base + size t) ts ++ parts_of limit n us) (let r : base + size t + total ts ≡ base + (size t + total ts) = omega arith in r))
 
 pub parts-append_0 : (limit : ℕ) (ts us : List Tree) → parts_of limit 0 (ts ++ us) ≡ parts_of limit 0 ts ++ parts_of limit (total ts) us
 parts-append_0 limit ts us = parts-append limit 0 ts us ∙ ap (λ (n : ℕ). parts_of limit 0 ts ++ parts_of limit n us) (let r : 0 + total ts ≡ total ts = omega arith in r)
@@ -84,7 +84,7 @@ last_end-parts limit [] = omega arith
 last_end-parts limit (t ∷ ts) = last_end_from limit 0 t ts ∙ ap (λ (n : ℕ). min n limit) (let r : 0 + total (t ∷ ts) ≡ total (t ∷ ts) = omega arith in r)
 
 -- some trees at the end become one, whose root is a new node
-pub put_nodes : (limit : ℕ) (ts us : List Tree) (t : Tree) (n : Node) (ns new : List Node) (ps : List Part) (ends : ℕ) → ns ≡ written 0 (fitting limit 0 (ts ++ us)) → ps ≡ parts_of limit 0 ts →
+pub put_nodes : (limit : ℕ) (ts us : List Tree) (t : Tree) (n : Node) (ns new : List Node) (ps : List TreeExtent) (ends : ℕ) → ns ≡ written 0 (fitting limit 0 (ts ++ us)) → ps ≡ parts_of limit 0 ts →
     ends ≡ min (total ts + total us) limit → size t ≡ 1 + total us →
     (total ts + size t < limit → PartsBelow (total ts + total us) n × (postorder (total ts) t ≡ written (total ts) us ++ n ∷ [])) →
     (ends + 1 < limit → PartsBelow (length ns) n → new ≡ ns ++ n ∷ []) → (limit ≤ ends + 1 → new ≡ take (last_end ps) ns) →
@@ -105,24 +105,24 @@ put_nodes limit ts us t n ns new ps ends is parts here sized spelled kept over =
     ]
 
 -- parts of equal measures
-pub same_part : (p : Part) (e d i : ℕ) → p.end ≡ e → p.depth ≡ d → p.inner ≡ i → p ≡ record { end = e; depth = d; inner = i }
+pub same_part : (p : TreeExtent) (e d i : ℕ) → p.end ≡ e → p.depth ≡ d → p.inner ≡ i → p ≡ record { end = e; depth = d; inner = i }
 same_part p e d i a b c =
-    let by_end : ℕ → Part = λ x. record { end = x; depth = p.depth; inner = p.inner } in
-    let by_depth : ℕ → Part = λ x. record { end = e; depth = x; inner = p.inner } in
-    let by_inner : ℕ → Part = λ x. record { end = e; depth = d; inner = x } in
+    let by_end : ℕ → TreeExtent = λ x. record { end = x; depth = p.depth; inner = p.inner } in
+    let by_depth : ℕ → TreeExtent = λ x. record { end = e; depth = x; inner = p.inner } in
+    let by_inner : ℕ → TreeExtent = λ x. record { end = e; depth = d; inner = x } in
     ap by_end a ∙ ap by_depth b ∙ ap by_inner c
 
 -- the measures of the new tree
-pub put_parts : (limit : ℕ) (ts us : List Tree) (t : Tree) (ps new : List Part) (one : Part) (ends : ℕ) → ps ≡ parts_of limit 0 ts → ends ≡ min (total ts + total us) limit → size t ≡ 1 + total us →
+pub put_parts : (limit : ℕ) (ts us : List Tree) (t : Tree) (ps new : List TreeExtent) (one : TreeExtent) (ends : ℕ) → ps ≡ parts_of limit 0 ts → ends ≡ min (total ts + total us) limit → size t ≡ 1 + total us →
     one.end ≡ min (ends + 1) limit → one.depth ≡ min 601 (depth t) → one.inner ≡ min 601 (without_alternation t (depth t)) → new ≡ ps ++ one ∷ [] → new ≡ parts_of limit 0 (ts ++ t ∷ [])
 put_parts limit ts us t ps new one ends parts here sized e d i more =
-    more ∙ ap (λ (x : List Part). x ++ one ∷ []) parts
-    ∙ ap (λ (x : Part). parts_of limit 0 ts ++ x ∷ []) (same_part one (min (total ts + size t) limit) (min 601 (depth t)) (min 601 (without_alternation t (depth t))) (omega (arith, e, here, sized)) d i)
+    more ∙ ap (λ (x : List TreeExtent). x ++ one ∷ []) parts
+    ∙ ap (λ (x : TreeExtent). parts_of limit 0 ts ++ x ∷ []) (same_part one (min (total ts + size t) limit) (min 601 (depth t)) (min 601 (without_alternation t (depth t))) (omega (arith, e, here, sized)) d i)
     ∙ sym (parts-append_0 limit ts (t ∷ []))
 
-pub last_end_found : (ps : List Part) (p : Part) → slice_get ps (length ps - 1) ≡ Some p → last_end ps ≡ p.end
+pub last_end_found : (ps : List TreeExtent) (p : TreeExtent) → slice_get ps (length ps - 1) ≡ Some p → last_end ps ≡ p.end
 last_end_found [] p h = absurd cc
-last_end_found (q ∷ []) p h = let same : q ≡ p = cc in ap (λ (x : Part). x.end) same
+last_end_found (q ∷ []) p h = let same : q ≡ p = cc in ap (λ (x : TreeExtent). x.end) same
 last_end_found (q ∷ r ∷ ps) p h =
     let n : ℕ = length ps in
     let near : slice_get (r ∷ ps) (suc n - 1) ≡ slice_get (r ∷ ps) n = ap (slice_get (r ∷ ps)) (let e : suc n - 1 ≡ n = omega arith in e) in

@@ -4,8 +4,8 @@ use Rattle.std.specs.List.{last_or}
 use Rattle.sedre.specs.declared.types.Kind.{Kind}
 use Rattle.sedre.specs.declared.types.Reason.{Reason}
 use Rattle.sedre.specs.declared.types.ExprFault.{ExprFault}
-use Rattle.sedre.specs.declared.syntax.Here.{Here}
-use Rattle.sedre.specs.declared.syntax.Here.TheVariants.{Is, Bad}
+use Rattle.sedre.specs.declared.syntax.NextItem.{NextItem}
+use Rattle.sedre.specs.declared.syntax.NextItem.TheVariants.{Is, Bad}
 use Rattle.sedre.specs.declared.syntax.Item.{Item}
 use Rattle.sedre.specs.declared.syntax.Item.TheVariants.{Close}
 use Rattle.sedre.specs.Tree.{Tree}
@@ -20,7 +20,7 @@ Same place more reason other = (place ≡ more) × (reason ≡ other)
 pub turned : {p q : ℕ} {r s : Reason} → Same p q r s → Same q p s r
 turned h = (sym h.0, sym h.1)
 
-same_bad : (p q : ℕ) (r s : Reason) → ◌≡◌ {A = Here} (Bad (record { place = p; reason = r })) (Bad (record { place = q; reason = s })) → Same p q r s
+same_bad : (p q : ℕ) (r s : Reason) → ◌≡◌ {A = NextItem} (Bad (record { place = p; reason = r })) (Bad (record { place = q; reason = s })) → Same p q r s
 same_bad p q r s e =
     let fault : ◌≡◌ {A = ExprFault} (record { place = p; reason = r }) (record { place = q; reason = s }) = cc in
     (ap (λ (f : ExprFault). f.place) fault, ap (λ (f : ExprFault). f.reason) fault)
@@ -64,7 +64,7 @@ module _ (kind : Kind) (folded : Bool) (delimiter : Option ℕ) (text : List ℕ
   either {is = is} c done = inl (record { rest = is; whole = refl; cut = c })
   either {js = js} done (item f d) = inr (record { rest = js; whole = refl; cut = item f d })
   either {before = before} {to = to} {mid = mid} (item {next = n} {i = i} {is = is} g c) (item {next = m} {i = j} {is = js} f d) =
-      let one : ◌≡◌ {A = Here} (Is i n) (Is j m) = sym g ∙ f in
+      let one : ◌≡◌ {A = NextItem} (Is i n) (Is j m) = sym g ∙ f in
       let same_item : i ≡ j = cc in
       let same_place : n ≡ m = cc in
       let C : Item → ℕ → Type 0 = λ x y. CutExpression kind folded delimiter text (Some x) y js mid in

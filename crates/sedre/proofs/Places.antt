@@ -13,8 +13,8 @@ use Rattle.sedre.specs.declared.syntax.Symbol.{Symbol}
 use Rattle.sedre.specs.declared.syntax.Symbol.TheVariants.{Literal, AnyByte, Opening, Closing, Parting, Star, Plus, Question, Interval, IntervalEnd, BracketOpening, Caret, Dollar, Unknown}
 use Rattle.sedre.specs.declared.syntax.Item.{Item}
 use Rattle.sedre.specs.declared.syntax.Item.TheVariants.{AtBegin, AtEnd}
-use Rattle.sedre.specs.declared.syntax.Here.{Here}
-use Rattle.sedre.specs.declared.syntax.Here.TheVariants.{Is, Ends, Bad}
+use Rattle.sedre.specs.declared.syntax.NextItem.{NextItem}
+use Rattle.sedre.specs.declared.syntax.NextItem.TheVariants.{Is, Ends, Bad}
 use Rattle.sedre.specs.Brackets.{elements, element, elements_from, begins, is_dash, goes_on_as_range, ListedBytes, single, between_ends, range_to, range, both, listed, judged, list_at}
 use Rattle.sedre.specs.Items.{interval, symbol, is_first, is_repeatable, is_repeat, ends_alternative, repeats, interval_item, list_item, star_item, question_item, anchor_item, item_for, item_at}
 use Rattle.sedre.specs.Grammar.{Row, bad, stray, unclosed, deep, large, FaultyWith}
@@ -110,12 +110,12 @@ list_told folded delimiter text at inside =
     (listed_told (length text) found.0 (from_up_to delimiter (length text) (at + 1) bytes (omega (arith, inside, length-drop (at + 1) text))))
 
 -- what stands at a place up to this one, or is told there
-abbrev HereUpTo : (n at : ℕ) → Here → Type 0
+abbrev HereUpTo : (n at : ℕ) → NextItem → Type 0
 HereUpTo n at (Is i next) = at ≤ n
 HereUpTo n at (Bad f) = f.place ≤ n
 HereUpTo n at Ends = Unit {0}
 
-repeats_here : (n at : ℕ) (may : Bool) (repeat : Here) → at ≤ n → HereUpTo n at repeat → HereUpTo n at (repeats may at repeat)
+repeats_here : (n at : ℕ) (may : Bool) (repeat : NextItem) → at ≤ n → HereUpTo n at repeat → HereUpTo n at (repeats may at repeat)
 repeats_here n at true repeat le h = h
 repeats_here n at false repeat le h = le
 

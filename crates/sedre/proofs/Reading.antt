@@ -4,7 +4,7 @@ use Rattle.std.specs.List.{last_or}
 use Rattle.sedre.specs.declared.types.Kind.{Kind}
 use Rattle.sedre.specs.declared.types.Reason.{Reason}
 use Rattle.sedre.specs.declared.types.Reason.TheVariants.{StrayClose, OpenGroup, TooDeep, TooManyNodes}
-use Rattle.sedre.specs.declared.syntax.Here.TheVariants.{Is, Ends, Bad}
+use Rattle.sedre.specs.declared.syntax.NextItem.TheVariants.{Is, Ends, Bad}
 use Rattle.sedre.specs.declared.syntax.Item.{Item}
 use Rattle.sedre.specs.declared.syntax.Item.TheVariants.{Byte, Open, Close, Bar, Repeat, AtBegin, AtEnd}
 use Rattle.sedre.specs.Tree.{Tree, set}

@@ -8,8 +8,8 @@ use Rattle.sedre.specs.declared.types.Kind.TheVariants.{Basic, Extended}
 use Rattle.sedre.specs.declared.types.ExprFault.{ExprFault}
 use Rattle.sedre.specs.declared.byte_set.ByteSet.{ByteSet}
 use Rattle.sedre.specs.declared.intervals.Interval.{Interval as Bounds}
-use Rattle.sedre.specs.declared.syntax.Here.{Here}
-use Rattle.sedre.specs.declared.syntax.Here.TheVariants.{Is, Ends, Bad}
+use Rattle.sedre.specs.declared.syntax.NextItem.{NextItem}
+use Rattle.sedre.specs.declared.syntax.NextItem.TheVariants.{Is, Ends, Bad}
 use Rattle.sedre.specs.declared.syntax.Symbol.{Symbol}
 use Rattle.sedre.specs.declared.syntax.Symbol.TheVariants.{Literal, AnyByte, Opening, Closing, Parting, Star, Plus, Question, Interval, IntervalEnd, BracketOpening, Caret, Dollar, Unknown}
 use Rattle.sedre.specs.declared.syntax.Item.{Item}
@@ -28,7 +28,7 @@ FineItem may (Repeat least most) = (may ≡ true) × IsInterval least most
 FineItem may AtBegin = Unit {0}
 FineItem may AtEnd = Unit {0}
 
-abbrev pub Fine : Bool → Here → Type 0
+abbrev pub Fine : Bool → NextItem → Type 0
 Fine may (Is i next) = FineItem may i
 Fine may Ends = Unit {0}
 Fine may (Bad f) = Unit {0}
@@ -117,4 +117,4 @@ fine_at kind folded delimiter text before at = fine_for kind folded delimiter te
 
 pub repeat_follows : (kind : Kind) (folded : Bool) (delimiter : Option ℕ) (text : List ℕ) (before : Option Item) (at : ℕ) {least next : ℕ} {most : Option ℕ} →
     item_at kind folded delimiter text before at ≡ Is (Repeat least most) next → (is_repeatable before ≡ true) × IsInterval least most
-repeat_follows kind folded delimiter text before at h = subst (λ (x : Here). Fine (is_repeatable before) x) h (fine_at kind folded delimiter text before at)
+repeat_follows kind folded delimiter text before at h = subst (λ (x : NextItem). Fine (is_repeatable before) x) h (fine_at kind folded delimiter text before at)

@@ -5,7 +5,7 @@ use Rattle.std.proofs.lemmas.Bool.Decides.{leb_tells}
 use Rattle.sedre.specs.declared.types.NodeId.{NodeId}
 use Rattle.sedre.specs.declared.types.Node.{Node}
 use Rattle.sedre.specs.declared.types.Node.TheVariants as node
-use Rattle.sedre.specs.declared.parts.Part.{Part}
+use Rattle.sedre.specs.declared.parts.TreeExtent.{TreeExtent}
 use Rattle.sedre.specs.declared.parts.Cover.{Cover}
 use Rattle.sedre.specs.declared.parts.Cover.TheVariants as cover
 use Rattle.sedre.specs.declared.stack.Stack.{Stack}
@@ -24,7 +24,7 @@ on_ok_map (Ok u) P Q f p = f p
 on_ok_map (Err x) P Q f p = tt
 
 -- a node was put over the last trees
-put_over : (limit : ℕ) (ts us : List Tree) (t : Tree) (ns : List Node) (ps : List Part) (new : Stack) (n : Node) (ends d i : ℕ) → Puts limit ns ps new n ends d i →
+put_over : (limit : ℕ) (ts us : List Tree) (t : Tree) (ns : List Node) (ps : List TreeExtent) (new : Stack) (n : Node) (ends d i : ℕ) → Puts limit ns ps new n ends d i →
     ns ≡ written 0 (fitting limit 0 (ts ++ us)) → ps ≡ parts_of limit 0 ts → ends ≡ min (total ts + total us) limit → size t ≡ 1 + total us →
     (total ts + size t < limit → PartsBelow (total ts + total us) n × (postorder (total ts) t ≡ written (total ts) us ++ n ∷ [])) →
     d ≡ min 601 (depth t) → i ≡ min 601 (without_alternation t (depth t)) → Stored limit new (ts ++ t ∷ [])
@@ -35,7 +35,7 @@ put_over limit ts us t ns ps new n ends d i p is parts here sized spelled ed ei 
 }
 
 -- the last part is that of the last tree
-pub last_part : (limit : ℕ) (s : Stack) (ts : List Tree) (a : Tree) (ps : List Part) (p : Part) → Stored limit s (ts ++ a ∷ []) → s.parts.items ≡ ps ++ p ∷ [] →
+pub last_part : (limit : ℕ) (s : Stack) (ts : List Tree) (a : Tree) (ps : List TreeExtent) (p : TreeExtent) → Stored limit s (ts ++ a ∷ []) → s.parts.items ≡ ps ++ p ∷ [] →
     (ps ≡ parts_of limit 0 ts) × (p ≡ part_of limit (total ts + size a) a)
 last_part limit s ts a ps p st e = snoc_last ps (parts_of limit 0 ts) p (part_of limit (total ts + size a) a) (sym e ∙ st.parts_are ∙ parts-append_0 limit ts (a ∷ []))
 
@@ -76,13 +76,13 @@ cover_below (cover.Group n) i k h = h
 cover_below (cover.Star first) i k h = h
 cover_below (cover.Opt first) i k h = h
 
-pub stored_cover : (c : Cover) (limit : ℕ) (old new : Stack) (ts : List Tree) (a : Tree) (ps : List Part) (p : Part) (root : NodeId) (made : Node) (d : ℕ) → Stored limit old (ts ++ a ∷ []) → old.parts.items ≡ ps ++ p ∷ [] →
+pub stored_cover : (c : Cover) (limit : ℕ) (old new : Stack) (ts : List Tree) (a : Tree) (ps : List TreeExtent) (p : TreeExtent) (root : NodeId) (made : Node) (d : ℕ) → Stored limit old (ts ++ a ∷ []) → old.parts.items ≡ ps ++ p ∷ [] →
     root.index ≡ p.end - 1 → made ≡ cover_node c root → d ≡ min 600 p.depth + 1 → Puts old.limit old.nodes ps new made p.end d d → Stored limit new (ts ++ covered c a ∷ [])
 stored_cover c limit old new ts a ps p root made d s e er em ed put =
     let last = last_part limit old ts a ps p s e in
     let P : ℕ → Type 0 = λ m. Puts m old.nodes ps new made p.end d d in
-    let ends : p.end ≡ min (total ts + size a) limit = ap (λ (x : Part). x.end) last.1 in
-    let deep : p.depth ≡ min 601 (depth a) = ap (λ (x : Part). x.depth) last.1 in
+    let ends : p.end ≡ min (total ts + size a) limit = ap (λ (x : TreeExtent). x.end) last.1 in
+    let deep : p.depth ≡ min 601 (depth a) = ap (λ (x : TreeExtent). x.depth) last.1 in
     let pos : 0 < size a = size_positive a in
     put_over limit ts (a ∷ []) (covered c a) old.nodes ps new made p.end d d (subst P s.limit_is put) s.nodes_are last.0 (omega (arith, ends)) (omega (arith, cover_size c a))
     (λ h. (
@@ -93,7 +93,7 @@ stored_cover c limit old new ts a ps p root made d s e er em ed put =
     (omega (arith, ed, deep, cover_depth c a)) (omega (arith, ed, deep, cover_inner c a))
 
 -- the last two parts are those of the last two trees
-last_two : (limit : ℕ) (s : Stack) (ts : List Tree) (a b : Tree) (p1 p0 : List Part) (p q : Part) → Stored limit s (ts ++ a ∷ b ∷ []) → s.parts.items ≡ p1 ++ q ∷ [] → p1 ≡ p0 ++ p ∷ [] →
+last_two : (limit : ℕ) (s : Stack) (ts : List Tree) (a b : Tree) (p1 p0 : List TreeExtent) (p q : TreeExtent) → Stored limit s (ts ++ a ∷ b ∷ []) → s.parts.items ≡ p1 ++ q ∷ [] → p1 ≡ p0 ++ p ∷ [] →
     (p0 ≡ parts_of limit 0 ts) × (p ≡ part_of limit (total ts + size a) a) × (q ≡ part_of limit (total ts + size a + size b) b)
 last_two limit s ts a b p1 p0 p q st e1 e0 =
     let all : s.parts.items ≡ (parts_of limit 0 ts ++ part_of limit (total ts + size a) a ∷ []) ++ part_of limit (total ts + size a + size b) b ∷ [] =
@@ -106,14 +106,14 @@ last_two limit s ts a b p1 p0 p q st e1 e0 =
 two_over : (over : Tree → Tree → Tree) (make : NodeId → NodeId → Node) →
     ((base : ℕ) (a b : Tree) → postorder base (over a b) ≡ (postorder base a ++ postorder (base + size a) b) ++ make (id (base + size a - 1)) (id (base + size a + size b - 1)) ∷ []) →
     ((a b : Tree) → size (over a b) ≡ 1 + size a + size b) → ((i j : NodeId) (k : ℕ) → i.index < k → j.index < k → PartsBelow k (make i j)) →
-    (limit : ℕ) (old new : Stack) (ts : List Tree) (a b : Tree) (p1 p0 : List Part) (p q : Part) (left right : NodeId) (d i : ℕ) → Stored limit old (ts ++ a ∷ b ∷ []) → old.parts.items ≡ p1 ++ q ∷ [] → p1 ≡ p0 ++ p ∷ [] →
+    (limit : ℕ) (old new : Stack) (ts : List Tree) (a b : Tree) (p1 p0 : List TreeExtent) (p q : TreeExtent) (left right : NodeId) (d i : ℕ) → Stored limit old (ts ++ a ∷ b ∷ []) → old.parts.items ≡ p1 ++ q ∷ [] → p1 ≡ p0 ++ p ∷ [] →
     left.index ≡ p.end - 1 → right.index ≡ q.end - 1 → d ≡ min 601 (depth (over a b)) → i ≡ min 601 (without_alternation (over a b) (depth (over a b))) → Puts old.limit old.nodes p0 new (make left right) q.end d i →
     Stored limit new (ts ++ over a b ∷ [])
 two_over over make spelled sized below limit old new ts a b p1 p0 p q left right d i s e1 e0 el er ed ei put =
     let last = last_two limit old ts a b p1 p0 p q s e1 e0 in
     let P : ℕ → Type 0 = λ m. Puts m old.nodes p0 new (make left right) q.end d i in
-    let p_ends : p.end ≡ min (total ts + size a) limit = ap (λ (x : Part). x.end) last.1 in
-    let q_ends : q.end ≡ min (total ts + size a + size b) limit = ap (λ (x : Part). x.end) last.2 in
+    let p_ends : p.end ≡ min (total ts + size a) limit = ap (λ (x : TreeExtent). x.end) last.1 in
+    let q_ends : q.end ≡ min (total ts + size a + size b) limit = ap (λ (x : TreeExtent). x.end) last.2 in
     let pa : 0 < size a = size_positive a in
     let pb : 0 < size b = size_positive b in
     let count : total (a ∷ b ∷ []) ≡ size a + size b = omega arith in
@@ -127,24 +127,24 @@ two_over over make spelled sized below limit old new ts a b p1 p0 p q left right
     ))
     ed ei
 
-pub stored_alt : (limit : ℕ) (old new : Stack) (ts : List Tree) (a b : Tree) (p1 p0 : List Part) (p q : Part) (left right : NodeId) (d i : ℕ) → Stored limit old (ts ++ a ∷ b ∷ []) → old.parts.items ≡ p1 ++ q ∷ [] → p1 ≡ p0 ++ p ∷ [] →
+pub stored_alt : (limit : ℕ) (old new : Stack) (ts : List Tree) (a b : Tree) (p1 p0 : List TreeExtent) (p q : TreeExtent) (left right : NodeId) (d i : ℕ) → Stored limit old (ts ++ a ∷ b ∷ []) → old.parts.items ≡ p1 ++ q ∷ [] → p1 ≡ p0 ++ p ∷ [] →
     left.index ≡ p.end - 1 → right.index ≡ q.end - 1 → i ≡ max p.depth q.inner → d ≡ min 600 i + 1 → Puts old.limit old.nodes p0 new (node.Alt left right) q.end d i → Stored limit new (ts ++ alt a b ∷ [])
 stored_alt limit old new ts a b p1 p0 p q left right d i s e1 e0 el er ei ed put =
     let last = last_two limit old ts a b p1 p0 p q s e1 e0 in
-    let deep : p.depth ≡ min 601 (depth a) = ap (λ (x : Part). x.depth) last.1 in
-    let inner : q.inner ≡ min 601 (without_alternation b (depth b)) = ap (λ (x : Part). x.inner) last.2 in
+    let deep : p.depth ≡ min 601 (depth a) = ap (λ (x : TreeExtent). x.depth) last.1 in
+    let inner : q.inner ≡ min 601 (without_alternation b (depth b)) = ap (λ (x : TreeExtent). x.inner) last.2 in
     two_over alt node.Alt (λ _ _ _. refl) (λ _ _. refl) (λ _ _ _ h g. (h, g)) limit old new ts a b p1 p0 p q left right d i s e1 e0 el er (omega (arith, ed, ei, deep, inner)) (omega (arith, ei, deep, inner)) put
 
-pub stored_seq : (limit : ℕ) (old new : Stack) (ts : List Tree) (a b : Tree) (p1 p0 : List Part) (p q : Part) (left right : NodeId) (d : ℕ) → Stored limit old (ts ++ a ∷ b ∷ []) → old.parts.items ≡ p1 ++ q ∷ [] → p1 ≡ p0 ++ p ∷ [] →
+pub stored_seq : (limit : ℕ) (old new : Stack) (ts : List Tree) (a b : Tree) (p1 p0 : List TreeExtent) (p q : TreeExtent) (left right : NodeId) (d : ℕ) → Stored limit old (ts ++ a ∷ b ∷ []) → old.parts.items ≡ p1 ++ q ∷ [] → p1 ≡ p0 ++ p ∷ [] →
     left.index ≡ p.end - 1 → right.index ≡ q.end - 1 → d ≡ max p.depth q.depth → Puts old.limit old.nodes p0 new (node.Seq left right) q.end d d → Stored limit new (ts ++ seq a b ∷ [])
 stored_seq limit old new ts a b p1 p0 p q left right d s e1 e0 el er ed put =
     let last = last_two limit old ts a b p1 p0 p q s e1 e0 in
-    let deep : p.depth ≡ min 601 (depth a) = ap (λ (x : Part). x.depth) last.1 in
-    let deeper : q.depth ≡ min 601 (depth b) = ap (λ (x : Part). x.depth) last.2 in
+    let deep : p.depth ≡ min 601 (depth a) = ap (λ (x : TreeExtent). x.depth) last.1 in
+    let deeper : q.depth ≡ min 601 (depth b) = ap (λ (x : TreeExtent). x.depth) last.2 in
     two_over seq node.Seq (λ _ _ _. refl) (λ _ _. refl) (λ _ _ _ h g. (h, g)) limit old new ts a b p1 p0 p q left right d d s e1 e0 el er (omega (arith, ed, deep, deeper)) (omega (arith, ed, deep, deeper)) put
 
 -- the last tree goes away
-pub stored_drop : (limit : ℕ) (old new : Stack) (ts : List Tree) (a : Tree) (p : Part) → Stored limit old (ts ++ a ∷ []) → old.parts.items ≡ new.parts.items ++ p ∷ [] → new.limit ≡ old.limit →
+pub stored_drop : (limit : ℕ) (old new : Stack) (ts : List Tree) (a : Tree) (p : TreeExtent) → Stored limit old (ts ++ a ∷ []) → old.parts.items ≡ new.parts.items ++ p ∷ [] → new.limit ≡ old.limit →
     new.nodes ≡ take (last_end new.parts.items) old.nodes → Stored limit new ts
 stored_drop limit old new ts a p s e el en =
     let last = last_part limit old ts a new.parts.items p s e in
@@ -155,7 +155,7 @@ stored_drop limit old new ts a p s e el en =
     }
 
 -- the last tree once more: its nodes are copied after all others, each part by as many places as the tree has nodes
-pub stored_copy : (limit : ℕ) (old new : Stack) (ts : List Tree) (a : Tree) (ps : List Part) (p one : Part) (count : ℕ) → Stored limit old (ts ++ a ∷ []) → old.parts.items ≡ ps ++ p ∷ [] →
+pub stored_copy : (limit : ℕ) (old new : Stack) (ts : List Tree) (a : Tree) (ps : List TreeExtent) (p one : TreeExtent) (count : ℕ) → Stored limit old (ts ++ a ∷ []) → old.parts.items ≡ ps ++ p ∷ [] →
     count ≡ p.end - last_end ps → one.end ≡ min (p.end + count) old.limit → one.depth ≡ p.depth → one.inner ≡ p.inner → new.limit ≡ old.limit → new.parts.items ≡ (ps ++ p ∷ []) ++ one ∷ [] →
     (one.end < old.limit → count ≤ length old.nodes → new.nodes ≡ old.nodes ++ map (shifted count) (drop (length old.nodes - count) old.nodes)) → (old.limit ≤ one.end → new.nodes ≡ old.nodes) →
     Stored limit new ((ts ++ a ∷ []) ++ a ∷ [])
@@ -163,7 +163,7 @@ stored_copy limit old new ts a ps p one count s e ec ee ed ei el ep kept over =
     let last = last_part limit old ts a ps p s e in
     let lim : old.limit ≡ limit = s.limit_is in
     let before : last_end ps ≡ min (total ts) limit = ap last_end last.0 ∙ last_end-parts limit ts in
-    let ends : p.end ≡ min (total ts + size a) limit = ap (λ (x : Part). x.end) last.1 in
+    let ends : p.end ≡ min (total ts + size a) limit = ap (λ (x : TreeExtent). x.end) last.1 in
     let both : total (ts ++ a ∷ []) ≡ total ts + size a = total-append ts (a ∷ []) ∙ omega arith in
     let all : total ((ts ++ a ∷ []) ++ a ∷ []) ≡ total ts + size a + size a = total-append (ts ++ a ∷ []) (a ∷ []) ∙ omega (arith, both) in
     record {
@@ -186,13 +186,13 @@ stored_copy limit old new ts a ps p one count s e ec ee ed ei el ep kept over =
             ∙ sym (written-append_0 (ts ++ a ∷ []) (a ∷ []))
             ∙ ap (written 0) (sym (fitting_all limit 0 ((ts ++ a ∷ []) ++ a ∷ []) (omega (arith, w.1, all)))))
       ];
-      parts_are = ep ∙ ap (λ (x : List Part). x ++ one ∷ []) (sym e ∙ s.parts_are)
-          ∙ ap (λ (x : Part). parts_of limit 0 (ts ++ a ∷ []) ++ x ∷ []) (same_part one (min (total (ts ++ a ∷ []) + size a) limit) (min 601 (depth a)) (min 601 (without_alternation a (depth a)))
-          (omega (arith, ee, ec, before, ends, lim, both)) (ed ∙ ap (λ (x : Part). x.depth) last.1) (ei ∙ ap (λ (x : Part). x.inner) last.1))
+      parts_are = ep ∙ ap (λ (x : List TreeExtent). x ++ one ∷ []) (sym e ∙ s.parts_are)
+          ∙ ap (λ (x : TreeExtent). parts_of limit 0 (ts ++ a ∷ []) ++ x ∷ []) (same_part one (min (total (ts ++ a ∷ []) + size a) limit) (min 601 (depth a)) (min 601 (without_alternation a (depth a)))
+          (omega (arith, ee, ec, before, ends, lim, both)) (ed ∙ ap (λ (x : TreeExtent). x.depth) last.1) (ei ∙ ap (λ (x : TreeExtent). x.inner) last.1))
           ∙ sym (parts-append_0 limit (ts ++ a ∷ []) (a ∷ []));
     }
 
-abbrev pub no_part : Part
+abbrev pub no_part : TreeExtent
 no_part = record { end = 0; depth = 0; inner = 0 }
 
 -- a chain of two and more is a pair

@@ -4,7 +4,7 @@ use Rattle.std.specs.Prelude.{ℕ, List, [], ◌∷◌, Bool, not, ◌||◌, Opt
 use Rattle.std.specs.List.{prefix_len}
 use Rattle.sedre.specs.Sets.{between, is_upper, is_lower, is_digit, only, any_byte, matching}
 use Rattle.sedre.specs.Brackets.{begins, is_delimiter, list_at}
-use Rattle.sedre.specs.Types.{Kind, Basic, Extended, LastBackslash, UnknownEscape, BackReference, BadInterval, NothingToRepeat, Symbol, Literal, AnyByte, Opening, Closing, Parting, Star, Plus, Question, Interval, IntervalEnd, BracketOpening, Caret, Dollar, Unknown, Reason, ExprFault, ByteSet, Bounds, Item, Byte, Open, Close, Bar, Repeat, AtBegin, AtEnd, Here, Is, Ends, Bad}
+use Rattle.sedre.specs.Types.{Kind, Basic, Extended, LastBackslash, UnknownEscape, BackReference, BadInterval, NothingToRepeat, Symbol, Literal, AnyByte, Opening, Closing, Parting, Star, Plus, Question, Interval, IntervalEnd, BracketOpening, Caret, Dollar, Unknown, Reason, ExprFault, ByteSet, Bounds, Item, Byte, Open, Close, Bar, Repeat, AtBegin, AtEnd, NextItem, Is, Ends, Bad}
 
 abbrev pub is_letter : ℕ → Bool
 is_letter c = is_upper c || is_lower c
@@ -135,44 +135,44 @@ ends_alternative (Some (Closing, n)) = true
 ends_alternative (Some (Parting, n)) = true
 ends_alternative next = false
 
-abbrev pub fault : ℕ → Reason → Here
+abbrev pub fault : ℕ → Reason → NextItem
 fault place reason = Bad (record { place = place; reason = reason })
 
 -- a repetition of what stands before, or else NothingToRepeat (for all repetitions but *, and for * after `$`, this
 -- project's own)
-abbrev pub repeats : (may : Bool) → (at : ℕ) → Here → Here
+abbrev pub repeats : (may : Bool) → (at : ℕ) → NextItem → NextItem
 repeats may at repeat = if may then repeat else fault at NothingToRepeat
 
-abbrev pub interval_item : Option Bounds → (at next : ℕ) → Here
+abbrev pub interval_item : Option Bounds → (at next : ℕ) → NextItem
 interval_item None at next = fault at BadInterval
 interval_item (Some i) at next = Is (Repeat i.least i.most) (next + i.width)
 
-abbrev pub list_item : Result (ByteSet × ℕ) ExprFault → Here
+abbrev pub list_item : Result (ByteSet × ℕ) ExprFault → NextItem
 list_item (Ok (members, next)) = Is (Byte members) next
 list_item (Err f) = Bad f
 
 -- * is a literal in a basic expression where nothing stands that it could repeat (XBD 9.3.3)
-abbrev pub star_item : Kind → (may : Bool) → (at next : ℕ) → Here
+abbrev pub star_item : Kind → (may : Bool) → (at next : ℕ) → NextItem
 star_item Basic may at next = if may then Is (Repeat 0 None) next else Is (Byte (only 42)) next
 star_item Extended may at next = repeats may at (Is (Repeat 0 None) next)
 
 -- where something stands before it, ? repeats; directly after a repetition of an extended expression it is refused (this
 -- project's own)
-abbrev pub question_item : Kind → (may repeated : Bool) → (at next : ℕ) → Here
+abbrev pub question_item : Kind → (may repeated : Bool) → (at next : ℕ) → NextItem
 question_item Basic may repeated at next = repeats may at (Is (Repeat 0 (Some 1)) next)
 question_item Extended may repeated at next = repeats (may && not repeated) at (Is (Repeat 0 (Some 1)) next)
 
 -- ^ is an anchor where it is first in a basic expression, $ where an alternative of one ends, and both are everywhere in an
 -- extended one (XBD 9.3.8, 9.4.9); that ^ is first after an opening or an alternation symbol, and that $ is an anchor
 -- before a closing or an alternation symbol of a basic expression, is this project's own
-abbrev pub anchor_item : Kind → (stands : Bool) → (b : ℕ) → (anchor : Item) → (next : ℕ) → Here
+abbrev pub anchor_item : Kind → (stands : Bool) → (b : ℕ) → (anchor : Item) → (next : ℕ) → NextItem
 anchor_item Basic false b anchor next = Is (Byte (only b)) next
 anchor_item kind stands b anchor next = Is anchor next
 
 -- what a symbol is, after an item. Where case is folded, a literal byte stands for both cases of its letter (this
 -- project's own); those of * ^ and $ are no letters. An interval's closing that stands alone is refused
 -- (this project's own)
-abbrev pub item_for : Kind → (folded : Bool) → Option ℕ → List ℕ → Option Item → (at : ℕ) → Option (Symbol × ℕ) → Here
+abbrev pub item_for : Kind → (folded : Bool) → Option ℕ → List ℕ → Option Item → (at : ℕ) → Option (Symbol × ℕ) → NextItem
 item_for kind folded delimiter text before at None = Ends
 item_for kind folded delimiter text before at (Some (Literal b, n)) = Is (Byte (matching folded (only b))) (at + n)
 item_for kind folded delimiter text before at (Some (AnyByte, n)) = Is (Byte any_byte) (at + n)
@@ -194,6 +194,6 @@ item_for kind folded delimiter text before at (Some (Dollar, n)) =
 item_for kind folded delimiter text before at (Some (Unknown reason, n)) = fault at reason
 
 -- what stands at a place of a text after an item
-unfoldable pub item_at : Kind → (folded : Bool) → Option ℕ → List ℕ → Option Item → (at : ℕ) → Here
+unfoldable pub item_at : Kind → (folded : Bool) → Option ℕ → List ℕ → Option Item → (at : ℕ) → NextItem
 item_at kind folded delimiter text before at =
     item_for kind folded delimiter text before at (symbol kind delimiter (drop at text))

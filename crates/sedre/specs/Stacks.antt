@@ -5,7 +5,7 @@ use Rattle.std.specs.Prelude.{false, nat_lt, if◌then◌else◌, Option, Some, 
 use Rattle.sedre.specs.declared.types.Node.{Node}
 use Rattle.sedre.specs.declared.types.Node.TheVariants as node
 use Rattle.sedre.specs.Types.{Item, Byte, Open, Close, Bar, Repeat, AtBegin, AtEnd}
-use Rattle.sedre.specs.declared.parts.Part.{Part}
+use Rattle.sedre.specs.declared.parts.TreeExtent.{TreeExtent}
 use Rattle.sedre.specs.declared.parts.Mark.{Mark}
 use Rattle.sedre.specs.declared.parts.Cover.{Cover}
 use Rattle.sedre.specs.declared.parts.Cover.TheVariants as cover
@@ -110,11 +110,11 @@ fitting limit base [] = []
 fitting limit base (t ∷ ts) = if nat_lt (base + size t) limit then t ∷ fitting limit (base + size t) ts else []
 
 -- what is kept of a tree whose nodes end there
-abbrev pub part_of : ℕ → ℕ → Tree → Part
+abbrev pub part_of : ℕ → ℕ → Tree → TreeExtent
 part_of limit ends t =
     record { end = min ends limit; depth = min 601 (depth t); inner = min 601 (without_alternation t (depth t)) }
 
-abbrev pub parts_of : ℕ → ℕ → List Tree → List Part
+abbrev pub parts_of : ℕ → ℕ → List Tree → List TreeExtent
 parts_of limit base [] = []
 parts_of limit base (t ∷ ts) = part_of limit (base + size t) t ∷ parts_of limit (base + size t) ts
 
@@ -124,7 +124,7 @@ IsLeaf n t = ((base : ℕ) → postorder base t ≡ n ∷ []) × (size t ≡ 1) 
     × ((k : ℕ) → PartsBelow k n)
 
 -- where the nodes of the last tree end
-abbrev pub last_end : List Part → ℕ
+abbrev pub last_end : List TreeExtent → ℕ
 last_end [] = 0
 last_end (p ∷ []) = p.end
 last_end (p ∷ q ∷ ps) = last_end (q ∷ ps)
@@ -147,7 +147,7 @@ JoinsTrees from f old new =
     Stored limit new (ts ++ f ps ∷ [])
 
 -- a tree came on the stack, whose root is this node and whose parts' nodes end there
-pub record Puts (limit : ℕ) (ns : List Node) (ps : List Part) (new : Stack) (n : Node) (ends d i : ℕ) : Type 0 where
+pub record Puts (limit : ℕ) (ns : List Node) (ps : List TreeExtent) (new : Stack) (n : Node) (ends d i : ℕ) : Type 0 where
   pub limit_is : new.limit ≡ limit
   pub parts : new.parts.items ≡ ps ++ record { end = min (ends + 1) limit; depth = d; inner = i } ∷ []
   pub kept : ends + 1 < limit → PartsBelow (length ns) n → new.nodes ≡ ns ++ n ∷ []

@@ -5,7 +5,7 @@ use Rattle.std.specs.Prelude.{◌≡◌, ℕ, ◌+◌, ◌-◌, ◌^◌, ◌≤�
 abbrev pub Takes : ℕ → ℕ → ℕ → Type 0
 Takes s t n = (s ≤ t) × (t ≤ s + n)
 
--- the count t is at most n above s; that it grew from s is said separately, by `Takes` or `Pays`
+-- the count t is at most n above s; that it grew from s is said separately, by `Takes` or `CostsWithin`
 abbrev pub StepsWithin : ℕ → ℕ → ℕ → Type 0
 StepsWithin s t n = t ≤ s + n
 

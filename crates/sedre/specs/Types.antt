@@ -14,5 +14,5 @@ pub use Rattle.sedre.specs.declared.syntax.Symbol.{Symbol}
 pub use Rattle.sedre.specs.declared.syntax.Symbol.TheVariants.{AnyByte, BracketOpening, Caret, Closing, Dollar, Interval, IntervalEnd, Literal, Opening, Parting, Plus, Question, Star, Unknown}
 pub use Rattle.sedre.specs.declared.syntax.Item.{Item}
 pub use Rattle.sedre.specs.declared.syntax.Item.TheVariants.{AtBegin, AtEnd, Bar, Byte, Close, Open, Repeat}
-pub use Rattle.sedre.specs.declared.syntax.Here.{Here}
-pub use Rattle.sedre.specs.declared.syntax.Here.TheVariants.{Bad, Ends, Is}
+pub use Rattle.sedre.specs.declared.syntax.NextItem.{NextItem}
+pub use Rattle.sedre.specs.declared.syntax.NextItem.TheVariants.{Bad, Ends, Is}

@@ -9,7 +9,7 @@ use crate::brackets::list_at;
 use crate::byte_set::ByteSet;
 use crate::intervals::{Interval, interval_at};
 use crate::symbols::symbol_at;
-use crate::syntax::{Here, Item, Symbol};
+use crate::syntax::{Item, NextItem, Symbol};
 use crate::types::{ExprFault, Kind, Reason};
 
 /// Whether an item after this one stands first in its alternative.
@@ -41,21 +41,21 @@ fn ends_alternative(symbol: Option<(Symbol, usize)>) -> bool
 }
 
 /// A fault at `place`.
-fn fault(place: usize, reason: Reason) -> Here
+fn fault(place: usize, reason: Reason) -> NextItem
     ensures { result ≡ fault place reason }
 {
-    Here::Bad(ExprFault { place, reason })
+    NextItem::Bad(ExprFault { place, reason })
 }
 
 /// The item of a literal byte that is no letter.
-fn literal(b: u8, next: usize) -> Here
-    ensures { result ≡ Here.Is (Item.Byte (only b)) next }
+fn literal(b: u8, next: usize) -> NextItem
+    ensures { result ≡ NextItem.Is (Item.Byte (only b)) next }
 {
-    Here::Is(Item::Byte(ByteSet::only(b)), next)
+    NextItem::Is(Item::Byte(ByteSet::only(b)), next)
 }
 
 /// The repetition, if what stands before it may be repeated; otherwise a fault at `at`.
-fn repeats(may: bool, at: usize, repeat: Here) -> Here
+fn repeats(may: bool, at: usize, repeat: NextItem) -> NextItem
     ensures { result ≡ repeats may at repeat }
 {
     if may {
@@ -66,10 +66,10 @@ fn repeats(may: bool, at: usize, repeat: Here) -> Here
 }
 
 /// The item of a `*` at `at`, where what stands before it may be repeated or may not.
-fn star_item(kind: Kind, may: bool, at: usize, next: usize) -> Here
+fn star_item(kind: Kind, may: bool, at: usize, next: usize) -> NextItem
     ensures { result ≡ star_item kind may at next }
 {
-    let repeat = Here::Is(Item::Repeat(0, None), next);
+    let repeat = NextItem::Is(Item::Repeat(0, None), next);
     match kind {
         Kind::Basic => if may { repeat } else { literal(b'*', next) },
         Kind::Extended => repeats(may, at, repeat),
@@ -78,10 +78,10 @@ fn star_item(kind: Kind, may: bool, at: usize, next: usize) -> Here
 
 /// The item of a `?` or `\?` at `at`, where what stands before it may be repeated or may not, and is a repetition or
 /// not.
-fn question_item(kind: Kind, may: bool, repeated: bool, at: usize, next: usize) -> Here
+fn question_item(kind: Kind, may: bool, repeated: bool, at: usize, next: usize) -> NextItem
     ensures { result ≡ question_item kind may repeated at next }
 {
-    let repeat = Here::Is(Item::Repeat(0, Some(1)), next);
+    let repeat = NextItem::Is(Item::Repeat(0, Some(1)), next);
     match kind {
         Kind::Basic => repeats(may, at, repeat),
         Kind::Extended => repeats(may && !repeated, at, repeat),
@@ -89,33 +89,33 @@ fn question_item(kind: Kind, may: bool, repeated: bool, at: usize, next: usize) 
 }
 
 /// The item of an interval at `at`, or a fault there.
-fn interval_item(interval: Option<Interval>, at: usize, next: usize) -> Here
+fn interval_item(interval: Option<Interval>, at: usize, next: usize) -> NextItem
     requires { ForSome interval (λ found. next + found.width ≤ usize.MAX) }
     ensures { result ≡ interval_item interval at next }
 {
     match interval {
         None => fault(at, Reason::BadInterval),
-        Some(found) => Here::Is(Item::Repeat(found.least, found.most), next + found.width),
+        Some(found) => NextItem::Is(Item::Repeat(found.least, found.most), next + found.width),
     }
 }
 
 /// The item of a bracket expression, or its fault.
-fn list_item(list: Result<(ByteSet, usize), ExprFault>) -> Here
+fn list_item(list: Result<(ByteSet, usize), ExprFault>) -> NextItem
     ensures { result ≡ list_item list }
 {
     match list {
-        Ok((members, next)) => Here::Is(Item::Byte(members), next),
-        Err(fault) => Here::Bad(fault),
+        Ok((members, next)) => NextItem::Is(Item::Byte(members), next),
+        Err(fault) => NextItem::Bad(fault),
     }
 }
 
 /// The item of a `^` or a `$`, the byte `b`: the anchor, but in a basic expression a literal where no anchor `stands`.
-fn anchor_item(kind: Kind, stands: bool, b: u8, anchor: Item, next: usize) -> Here
+fn anchor_item(kind: Kind, stands: bool, b: u8, anchor: Item, next: usize) -> NextItem
     ensures { result ≡ anchor_item kind stands b anchor next }
 {
     match kind {
         Kind::Basic if !stands => literal(b, next),
-        _ => Here::Is(anchor, next),
+        _ => NextItem::Is(anchor, next),
     }
 }
 
@@ -129,24 +129,24 @@ pub fn item_at(
     text: &[u8],
     before: Option<Item>,
     at: usize,
-) -> Here
+) -> NextItem
     requires { at ≤ length text.now }
     ensures item { result ≡ item_at kind folded delimiter text.now before at }
     ensures after { IsAfter at (length text.now) result }
 {
     let Some((symbol, width)) = symbol_at(kind, delimiter, text, at) else {
-        return Here::Ends;
+        return NextItem::Ends;
     };
     let next = at + width;
     let may = is_repeatable(&before);
     match symbol {
-        Symbol::Literal(b) => Here::Is(Item::Byte(ByteSet::literal(b, folded)), next),
-        Symbol::AnyByte => Here::Is(Item::Byte(ByteSet::any()), next),
-        Symbol::Opening => Here::Is(Item::Open, next),
-        Symbol::Closing => Here::Is(Item::Close, next),
-        Symbol::Parting => Here::Is(Item::Bar, next),
+        Symbol::Literal(b) => NextItem::Is(Item::Byte(ByteSet::literal(b, folded)), next),
+        Symbol::AnyByte => NextItem::Is(Item::Byte(ByteSet::any()), next),
+        Symbol::Opening => NextItem::Is(Item::Open, next),
+        Symbol::Closing => NextItem::Is(Item::Close, next),
+        Symbol::Parting => NextItem::Is(Item::Bar, next),
         Symbol::Star => star_item(kind, may, at, next),
-        Symbol::Plus => repeats(may, at, Here::Is(Item::Repeat(1, None), next)),
+        Symbol::Plus => repeats(may, at, NextItem::Is(Item::Repeat(1, None), next)),
         Symbol::Question => question_item(kind, may, is_repeat(&before), at, next),
         Symbol::Interval => {
             let interval = interval_at(kind, delimiter, &text[next..]);

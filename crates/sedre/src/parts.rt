@@ -2,7 +2,7 @@
 
 /// What is kept of a tree.
 #[derive(Clone, Copy)]
-pub struct Part {
+pub struct TreeExtent {
     /// How many nodes the trees up to and including this one have, or the limit where they have more.
     pub end: usize,
     /// How deep it nests, up to 601.

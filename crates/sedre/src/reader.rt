@@ -12,7 +12,7 @@ ghost use Rattle.sedre.specs.Finished.{GroupsNumbered, IsFinished, IsOverLimit};
 use crate::builder::Builder;
 use crate::items::item_at;
 use crate::stack::Stack;
-use crate::syntax::{Here, Item};
+use crate::syntax::{Item, NextItem};
 use crate::table::Expr;
 use crate::types::{ExprFault, Kind, NO_MEMORY, Reason};
 use std::alloc::Global;
@@ -91,8 +91,8 @@ fn read_with(
     let mut at = 0;
     'items: loop {
         match item_at(kind, folded, delimiter, text, before, at) {
-            Here::Bad(fault) => return Err(fault),
-            Here::Ends => {
+            NextItem::Bad(fault) => return Err(fault),
+            NextItem::Ends => {
                 if builder.below.len() > 0 {
                     return Err(ExprFault {
                         place: text.len(),
@@ -101,7 +101,7 @@ fn read_with(
                 }
                 return finish(builder, text.len());
             }
-            Here::Is(item, next) => {
+            NextItem::Is(item, next) => {
                 if is_stray(&builder, &item) {
                     return Err(ExprFault {
                         place: at,

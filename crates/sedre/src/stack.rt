@@ -7,7 +7,7 @@ ghost use Rattle.std.specs.Prelude.{OnOk, vec_len, false};
 ghost use Rattle.sedre.specs.Covers.{cover_node};
 
 use crate::packed::Packed;
-use crate::parts::{Cover, Part};
+use crate::parts::{Cover, TreeExtent};
 use crate::types::{Node, NodeId};
 use std::alloc::{AllocError, Global};
 
@@ -55,7 +55,7 @@ pub struct Stack {
     /// One more than the most nodes that are kept.
     pub limit: usize,
     pub nodes: Packed,
-    pub parts: Vec<Part>,
+    pub parts: Vec<TreeExtent>,
 }
 
 impl Stack {
@@ -105,7 +105,7 @@ impl Stack {
             let base = self.end();
             self.nodes.truncate(base);
         }
-        self.parts.push(Part { end, depth, inner })?;
+        self.parts.push(TreeExtent { end, depth, inner })?;
         Ok(())
     }
 
@@ -176,7 +176,7 @@ impl Stack {
         let end = sum_within(part.end, size, self.limit);
         self.copy_nodes(size, end)?;
         self.parts.push(part)?;
-        self.parts.push(Part {
+        self.parts.push(TreeExtent {
             end,
             depth: part.depth,
             inner: part.inner,

@@ -42,7 +42,7 @@ pub enum Item {
 
 /// What stands at a place of a text.
 #[derive(Clone, Copy)]
-pub enum Here {
+pub enum NextItem {
     /// an item, and the place after it
     Is(Item, usize),
     /// nothing: the text ends

@@ -22,8 +22,8 @@ use Rattle.sedscript.specs.declared.items.Function.{Function}
 use Rattle.sedscript.specs.declared.items.Function.TheVariants.{Plain, Open, Close, Label, Branch, Text, File, Comment, Substitute, Transliterate}
 use Rattle.sedscript.specs.declared.items.Addresses.{Addresses}
 use Rattle.sedscript.specs.declared.items.Item.{Item}
-use Rattle.sedscript.specs.declared.items.Here.{Here}
-use Rattle.sedscript.specs.declared.items.Here.TheVariants.{Is, Ends}
+use Rattle.sedscript.specs.declared.items.ItemOrEnd.{ItemOrEnd}
+use Rattle.sedscript.specs.declared.items.ItemOrEnd.TheVariants.{Is, Ends}
 use Rattle.sedscript.specs.Bytes.{past, bytes_between, is_digit, is_byte}
 use Rattle.sedscript.specs.declared.items.Flags.{Flags}
 use Rattle.sedscript.specs.declared.items.Strings.{Strings}
@@ -42,8 +42,8 @@ use Rattle.sedscript.specs.Ranges.{Sizes, sizes_of, IsOneOf, SinkWithin, Address
 use Rattle.sedscript.specs.Cases.{item_of, function_after, item_with, match_to, with_digits, with_file, ends_flags, folds, empty_match}
 use Rattle.sedscript.specs.declared.letters.Verb.{Verb}
 use Rattle.sedscript.specs.declared.letters.Verb.TheVariants.{ReadsExpression, Reads}
-use Rattle.sedscript.specs.declared.letters.Shape.{Shape}
-use Rattle.sedscript.specs.declared.letters.Shape.TheVariants.{Alone, OpensBlock, ClosesBlock, Remark, NamesLabel, GoesTo, TakesText, NamesFile, TakesStrings}
+use Rattle.sedscript.specs.declared.letters.Arguments.{Arguments}
+use Rattle.sedscript.specs.declared.letters.Arguments.TheVariants.{Alone, OpensBlock, ClosesBlock, Remark, NamesLabel, GoesTo, TakesText, NamesFile, TakesStrings}
 use Rattle.sedscript.proofs.Labels.{commands_snoc, counted_in}
 use Rattle.sedscript.proofs.FileTables.{any_distinct}
 
@@ -173,7 +173,7 @@ AddressedWithin n x = (x.count ≡ n) × AddressWithin n x.address
 abbrev HeadedWithin : ℕ → Headed → Type 0
 HeadedWithin n h = (h.count ≡ n) × AddressesWithin n h.addresses
 
-abbrev HereWithin : ℕ → Here → Type 0
+abbrev HereWithin : ℕ → ItemOrEnd → Type 0
 HereWithin n (Is i next) = ItemWithin n i
 HereWithin n Ends = Unit {0}
 
@@ -282,7 +282,7 @@ transliterate_within text n at = by_strings (transliterate_strings text (at + 1)
     by_strings (Ok s) = unless_within n (strings_fault text s.delimiter at s.from s.middle s.to) _ (ended_within text n (s.to + 1) (Transliterate s) tt)
     by_strings (Err f) = tt
 
-plain_within : (text : List ℕ) (n at : ℕ) (shape : Shape) → IfOk (function_of text shape at) (FoundWithin n)
+plain_within : (text : List ℕ) (n at : ℕ) (arguments : Arguments) → IfOk (function_of text arguments at) (FoundWithin n)
 plain_within text n at OpensBlock = tt
 plain_within text n at ClosesBlock = ended_within text n (at + 1) Close tt
 plain_within text n at Remark = tt
@@ -381,7 +381,7 @@ substitute_at_bounds text count at = by_strings (substitute_strings text (at + 1
 
 function_bounds : (text : List ℕ) (count at : ℕ) (verb : Verb) → Bounds FoundWithin count (function_with text count verb at)
 function_bounds text count at ReadsExpression = substitute_at_bounds text count at
-function_bounds text count at (Reads shape) = plain_within text count at shape
+function_bounds text count at (Reads arguments) = plain_within text count at arguments
 
 item_of_bounds : (text : List ℕ) (count : ℕ) (a : Addresses) (at : ℕ) → AddressesWithin count a → Bounds HereWithin count (function_at text count a at)
 unfolding function_at

@@ -17,8 +17,8 @@ use Rattle.sedscript.specs.declared.types.Reason.TheVariants.{OpenDelimiter, Bad
 use Rattle.sedscript.specs.declared.types.TheConstants.{NO_MEMORY}
 use Rattle.sedscript.specs.declared.types.Address.{Address}
 use Rattle.sedscript.specs.declared.types.Address.TheVariants.{Last, Match}
-use Rattle.sedscript.specs.declared.items.Here.{Here}
-use Rattle.sedscript.specs.declared.items.Here.TheVariants.{Is, Ends}
+use Rattle.sedscript.specs.declared.items.ItemOrEnd.{ItemOrEnd}
+use Rattle.sedscript.specs.declared.items.ItemOrEnd.TheVariants.{Is, Ends}
 use Rattle.sedscript.specs.Bytes.{bytes_between, past, is_byte, is_digit}
 use Rattle.sedscript.specs.Items.{Pattern, Reading, plainly, expression, ◌>>=◌, Addressed, found, with_addresses, folds_at, past_flag, match_at, own_match, addresses_at, after_first, address_at, address_of, line_of, item_at, item_from, substitute_with, substitute_at, function_of, function_with, function_at}
 use Rattle.sedscript.specs.declared.items.Strings.{Strings}
@@ -27,7 +27,7 @@ use Rattle.sedscript.specs.Between.{own_delimiter, substitute_strings, flags_aft
 use Rattle.sedscript.specs.Functions.{verb_of, allowed}
 use Rattle.sedscript.specs.declared.letters.Verb.{Verb}
 use Rattle.sedscript.specs.declared.letters.Verb.TheVariants.{Reads}
-use Rattle.sedscript.specs.declared.letters.Shape.{Shape}
+use Rattle.sedscript.specs.declared.letters.Arguments.{Arguments}
 use Rattle.sedscript.specs.declared.items.Addresses.{Addresses}
 use Rattle.sedscript.specs.Script.{IsRead, Gives, value, after_expression}
 use Rattle.sedscript.specs.FirstFault.{Fails, own, no_expression, later, in_script}
@@ -171,7 +171,7 @@ unfolding item_at
 item_none text kind m old new place e same =
     subst (λ (o : Option ℕ). Comes text kind m old new as_here (Ok Ends) (item_from text (length old) (past Separator text place) o)) (sym e) ([], value, sym same ∙ sym (append-nil old))
 
-pub item_some : (text : List ℕ) (kind : Kind) (m : ℕ) (old new : List WrittenExpression) (place start b : ℕ) (result : Result Here ScriptFault) → start ≡ past Separator text place → slice_get text start ≡ Some b →
+pub item_some : (text : List ℕ) (kind : Kind) (m : ℕ) (old new : List WrittenExpression) (place start b : ℕ) (result : Result ItemOrEnd ScriptFault) → start ≡ past Separator text place → slice_get text start ≡ Some b →
     Comes text kind m old new as_here result (addresses_at text (length old) start >>= function_after text) →
     Comes text kind m old new as_here result (item_at text (length old) place)
 unfolding item_at
@@ -205,7 +205,7 @@ line_comes text kind m old at b result e d h =
     subst (λ (o : Option ℕ). Comes text kind m old old as_addressed result (address_of text (length old) at o)) (sym e)
     (rw d (comes_plain text kind m old old as_addressed result _ refl h))
 
-pub after_here : (text : List ℕ) (at start next : ℕ) (result : Result Here ScriptFault) → at ≤ start → start ≤ next → IfOk result (IsAfter next (length text)) → IfOk result (IsHere text at)
+pub after_here : (text : List ℕ) (at start next : ℕ) (result : Result ItemOrEnd ScriptFault) → at ≤ start → start ≤ next → IfOk result (IsAfter next (length text)) → IfOk result (IsHere text at)
 after_here text at start next (Err x) a b h = tt
 after_here text at start next (Ok (Is i to)) a b h = (omega (arith, a, b, h.0), h.1)
 after_here text at start next (Ok Ends) a b h = absurd h
@@ -252,11 +252,11 @@ substitute_goes text kind m old new at s result e h =
 -- functions
 
 -- a function without an expression
-pub function_comes : (text : List ℕ) (kind : Kind) (m at : ℕ) (old : List WrittenExpression) (verb : Verb) (shape : Shape) (result : Result (Function × ℕ) ScriptFault) → verb ≡ Reads shape → result ≡ function_of text shape at →
+pub function_comes : (text : List ℕ) (kind : Kind) (m at : ℕ) (old : List WrittenExpression) (verb : Verb) (arguments : Arguments) (result : Result (Function × ℕ) ScriptFault) → verb ≡ Reads arguments → result ≡ function_of text arguments at →
     Comes text kind m old old as_function result (function_with text (length old) verb at)
-function_comes text kind m at old verb shape result is e =
+function_comes text kind m at old verb arguments result is e =
     subst (λ (v : Verb). Comes text kind m old old as_function result (function_with text (length old) v at)) (sym is)
-    (comes_plain text kind m old old as_function result (function_of text shape at) refl (functions_agree (length old) result (function_of text shape at) e))
+    (comes_plain text kind m old old as_function result (function_of text arguments at) refl (functions_agree (length old) result (function_of text arguments at) e))
 
 -- the item of a function whose letter may not stand there
 pub item_fault : (text : List ℕ) (kind : Kind) (m count letter at : ℕ) (a : Addresses) (f : ScriptFault) → slice_get text at ≡ Some letter → allowed a at (verb_of letter) ≡ Err f →
@@ -267,7 +267,7 @@ item_fault text kind m count letter at a f there e =
     (inl (subst (λ (r : Result Verb ScriptFault). Fails text kind m (plainly r >>= λ (v : Verb). function_with text count v at >>= λ (found : Function × ℕ). plainly (Ok (item_of a at found))) f) (sym e) own))
 
 -- the item of a function that may stand there
-pub item_goes : (text : List ℕ) (kind : Kind) (m letter at : ℕ) (verb : Verb) (a : Addresses) (old new : List WrittenExpression) (result : Result Here ScriptFault) → slice_get text at ≡ Some letter →
+pub item_goes : (text : List ℕ) (kind : Kind) (m letter at : ℕ) (verb : Verb) (a : Addresses) (old new : List WrittenExpression) (result : Result ItemOrEnd ScriptFault) → slice_get text at ≡ Some letter →
     allowed a at (verb_of letter) ≡ Ok verb →
     Comes text kind m old new as_here result (function_with text (length old) verb at >>= λ (found : Function × ℕ). plainly (Ok (item_of a at found))) →
     Comes text kind m old new as_here result (function_at text (length old) a at)
@@ -282,9 +282,9 @@ unfolding function_at
 no_function text kind m count at a e =
     inl (subst (λ (o : Option ℕ). Fails text kind m (item_with text count a at o) (record { place = at; reason = UnknownCommand })) (sym e) own)
 
-pub item_comes : (text : List ℕ) (kind : Kind) (m at : ℕ) (verb : Verb) (a : Addresses) (old new : List WrittenExpression) (found : Function × ℕ) (h : Here) → h ≡ item_of a at found →
+pub item_comes : (text : List ℕ) (kind : Kind) (m at : ℕ) (verb : Verb) (a : Addresses) (old new : List WrittenExpression) (found : Function × ℕ) (h : ItemOrEnd) → h ≡ item_of a at found →
     Comes text kind m old new as_function (Ok found) (function_with text (length old) verb at) →
     Comes text kind m old new as_here (Ok h) (function_with text (length old) verb at >>= λ (found : Function × ℕ). plainly (Ok (item_of a at found)))
 item_comes text kind m at verb a old new found h is k =
     comes_then text kind m old new new (function_with text (length old) verb at) (λ (found : Function × ℕ). plainly (Ok (item_of a at found))) found as_here (Ok h) k
-    (comes_plain text kind m new new as_here (Ok h) (Ok (item_of a at found)) refl (ap (λ (x : Here). Ok x) (sym is)))
+    (comes_plain text kind m new new as_here (Ok h) (Ok (item_of a at found)) refl (ap (λ (x : ItemOrEnd). Ok x) (sym is)))

@@ -4,8 +4,8 @@ use Rattle.std.proofs.lemmas.List.{append-nil}
 use Rattle.sedre.specs.declared.types.Kind.{Kind}
 use Rattle.sedre.specs.Tree.{WrittenExpression}
 use Rattle.sedscript.specs.declared.items.Item.{Item}
-use Rattle.sedscript.specs.declared.items.Here.{Here}
-use Rattle.sedscript.specs.declared.items.Here.TheVariants.{Is, Ends}
+use Rattle.sedscript.specs.declared.items.ItemOrEnd.{ItemOrEnd}
+use Rattle.sedscript.specs.declared.items.ItemOrEnd.TheVariants.{Is, Ends}
 use Rattle.sedscript.specs.declared.bytes.Sort.TheVariants.{Separator}
 use Rattle.sedscript.specs.Bytes.{past}
 use Rattle.sedscript.specs.Items.{plainly, item_at, item_from}
@@ -27,23 +27,23 @@ cut_more text kind m count at to next n _ _ gs i (item {i = j} {is = is} es fs f
 nothing : {A : Type 0} (text : List ℕ) (kind : Kind) (m : ℕ) (x y : A) (es : List WrittenExpression) → Gives text kind m (plainly (Ok x)) es y → es ≡ []
 nothing text kind m x y _ value = refl
 
-pub ends_nothing : (text : List ℕ) (kind : Kind) (m n at : ℕ) (es : List WrittenExpression) (h : Here) → IsEnd text at → Gives text kind m (item_at text n at) es h → es ≡ []
+pub ends_nothing : (text : List ℕ) (kind : Kind) (m n at : ℕ) (es : List WrittenExpression) (h : ItemOrEnd) → IsEnd text at → Gives text kind m (item_at text n at) es h → es ≡ []
 unfolding item_at
 ends_nothing text kind m n at es h e is = nothing text kind m Ends h es (subst (λ (o : Option ℕ). Gives text kind m (item_from text n (past Separator text at) o) es h) e is)
 
-pub end_here : (text : List ℕ) (at : ℕ) (h : Here) → h ≡ Ends → IsHere text at h → IsEnd text at
+pub end_here : (text : List ℕ) (at : ℕ) (h : ItemOrEnd) → h ≡ Ends → IsHere text at h → IsEnd text at
 end_here text at h e is = subst (IsHere text at) e is
 
-pub next_here : (text : List ℕ) (at next : ℕ) (i : Item) (h : Here) → h ≡ Is i next → IsHere text at h → (at < next) × (next ≤ length text)
+pub next_here : (text : List ℕ) (at next : ℕ) (i : Item) (h : ItemOrEnd) → h ≡ Is i next → IsHere text at h → (at < next) × (next ≤ length text)
 next_here text at next i h e is = subst (IsHere text at) e is
 
-pub cut_ends : (text : List ℕ) (kind : Kind) (m n at : ℕ) (is : List Item) (old new : List WrittenExpression) (h : Here) → CutScript text kind m 0 0 is old at → IsEnd text at →
+pub cut_ends : (text : List ℕ) (kind : Kind) (m n at : ℕ) (is : List Item) (old new : List WrittenExpression) (h : ItemOrEnd) → CutScript text kind m 0 0 is old at → IsEnd text at →
     (es : List WrittenExpression) → Gives text kind m (item_at text n at) es h → new ≡ old ++ es → CutScript text kind m 0 0 is new at
 cut_ends text kind m n at is old new h c e es read grown =
     let same : new ≡ old = grown ∙ (ap (λ (z : List WrittenExpression). old ++ z) (ends_nothing text kind m n at es h e read) ∙ append-nil old) in
     subst (λ (z : List WrittenExpression). CutScript text kind m 0 0 is z at) (sym same) c
 
-pub cut_next : (text : List ℕ) (kind : Kind) (m at next : ℕ) (is js : List Item) (old new : List WrittenExpression) (i : Item) (h : Here) → CutScript text kind m 0 0 is old at → h ≡ Is i next →
+pub cut_next : (text : List ℕ) (kind : Kind) (m at next : ℕ) (is js : List Item) (old new : List WrittenExpression) (i : Item) (h : ItemOrEnd) → CutScript text kind m 0 0 is old at → h ≡ Is i next →
     (es : List WrittenExpression) → Gives text kind m (item_at text (length old) at) es h → new ≡ old ++ es → js ≡ is ++ i ∷ [] →
     CutScript text kind m 0 0 js new next
 cut_next text kind m at next is js old new i h c e es read grown more =

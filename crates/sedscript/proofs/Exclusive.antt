@@ -5,8 +5,8 @@ use Rattle.sedre.specs.Tree.{WrittenExpression, expression_tree, Tree}
 use Rattle.sedre.specs.Grammar.{ReadsAs}
 use Rattle.sedscript.specs.declared.types.ScriptFault.{ScriptFault}
 use Rattle.sedscript.specs.declared.items.Item.{Item}
-use Rattle.sedscript.specs.declared.items.Here.{Here}
-use Rattle.sedscript.specs.declared.items.Here.TheVariants.{Is, Ends}
+use Rattle.sedscript.specs.declared.items.ItemOrEnd.{ItemOrEnd}
+use Rattle.sedscript.specs.declared.items.ItemOrEnd.TheVariants.{Is, Ends}
 use Rattle.sedscript.specs.declared.bytes.Sort.TheVariants.{Separator}
 use Rattle.sedscript.specs.Bytes.{past, bytes_between}
 use Rattle.sedscript.specs.Items.{Pattern, Reading, item_at, item_from}
@@ -47,7 +47,7 @@ unfolding item_at
 end_gives text kind m n at e = subst (λ (o : Option ℕ). Gives text kind m (item_from text n (past Separator text at) o) [] Ends) (sym e) value
 
 -- the items of the next place
-pub is_next : (i j : Item) (a b : ℕ) → ◌≡◌ {A = Here} (Is i a) (Is j b) → (i ≡ j) × (a ≡ b)
+pub is_next : (i j : Item) (a b : ℕ) → ◌≡◌ {A = ItemOrEnd} (Is i a) (Is j b) → (i ≡ j) × (a ≡ b)
 is_next i j a b e = (cc, cc)
 
 -- no fault stands after a cut that another cut goes on from
@@ -57,7 +57,7 @@ cut_no_fault text kind m count at to stop _ _ _ _ f n one done ends done e bad =
     no_fails text kind m (item_at text n at) [] Ends f one (end_gives text kind m n at ends) bad
 cut_no_fault text kind m count at to stop _ _ _ _ f n one done ends (item {next = next} {i = j} es fs is rest) e bad =
     let same = gives_one text kind m (item_at text count at) [] es Ends (Is j next) one (end_gives text kind m count at ends) is in
-    let g : ◌≡◌ {A = Here} Ends (Is j next) = same.0 in cc
+    let g : ◌≡◌ {A = ItemOrEnd} Ends (Is j next) = same.0 in cc
 cut_no_fault text kind m count at to stop _ _ _ _ f n one (item {next = next} {i = i} es fs is rest) ends done e bad =
     let same : n ≡ count = e ∙ omega arith in
     no_fails text kind m (item_at text count at) es (Is i next) f one is (subst (λ (k : ℕ). Fails text kind m (item_at text k at) f) same bad)
@@ -75,10 +75,10 @@ pub cut_same : (text : List ℕ) (kind : Kind) (m count at to stop : ℕ) (is js
 cut_same text kind m count at to stop _ _ _ _ one done ends done stops = refl
 cut_same text kind m count at to stop _ _ _ _ one done ends (item {next = next} {i = j} es fs is rest) stops =
     let same = gives_one text kind m (item_at text count at) [] es Ends (Is j next) one (end_gives text kind m count at ends) is in
-    let g : ◌≡◌ {A = Here} Ends (Is j next) = same.0 in cc
+    let g : ◌≡◌ {A = ItemOrEnd} Ends (Is j next) = same.0 in cc
 cut_same text kind m count at to stop _ _ _ _ one (item {next = next} {i = j} es fs is rest) ends done stops =
     let same = gives_one text kind m (item_at text count at) [] es Ends (Is j next) one (end_gives text kind m count at stops) is in
-    let g : ◌≡◌ {A = Here} Ends (Is j next) = same.0 in cc
+    let g : ◌≡◌ {A = ItemOrEnd} Ends (Is j next) = same.0 in cc
 cut_same text kind m count at to stop _ _ _ _ one (item {next = next} {i = i} {is = is0} es fs is rest) ends (item {next = other} {i = j} {is = js0} gs hs is' rest') stops =
     let both = gives_one text kind m (item_at text count at) es gs (Is i next) (Is j other) one is is' in
     let same = is_next i j next other both.0 in

@@ -8,60 +8,60 @@ use Rattle.sedscript.specs.declared.items.Addresses.{Addresses}
 use Rattle.sedscript.specs.declared.items.Function.{Function}
 use Rattle.sedscript.specs.declared.items.Function.TheVariants.{Comment}
 use Rattle.sedscript.specs.declared.items.Item.{Item}
-use Rattle.sedscript.specs.declared.kept.Kept.{Kept}
-use Rattle.sedscript.specs.declared.kept.Given.{Given}
-use Rattle.sedscript.specs.declared.kept.Given.TheVariants as g
-use Rattle.sedscript.specs.declared.kept.Brief.{Brief}
-use Rattle.sedscript.specs.declared.kept.Brief.TheVariants as b
-use Rattle.sedscript.specs.Kept.{Longer, no_addresses, kept_addresses, kept_function, kept_item, kept_items, IsGiven, IsBrief, IsKept}
+use Rattle.sedscript.specs.declared.kept.PackedItem.{PackedItem}
+use Rattle.sedscript.specs.declared.kept.PackedAddresses.{PackedAddresses}
+use Rattle.sedscript.specs.declared.kept.PackedAddresses.TheVariants as g
+use Rattle.sedscript.specs.declared.kept.PackedFunction.{PackedFunction}
+use Rattle.sedscript.specs.declared.kept.PackedFunction.TheVariants as b
+use Rattle.sedscript.specs.Kept.{Longer, no_addresses, kept_addresses, kept_function, kept_item, kept_items, PacksAddresses, PacksFunction, PacksItem}
 
 listed : {A : Type 0} (xs ys : List A) (n : ℕ) (d : A) → Longer xs ys → n < length xs → unwrap_or (slice_get ys n) d ≡ unwrap_or (slice_get xs n) d
 listed xs ys n d more h =
     unwrap_or-slice_get ys n d ∙ (ap (λ zs. get_or zs n d) more.1 ∙ (get_or_append_left xs more.0 d n h ∙ sym (unwrap_or-slice_get xs n d)))
 
-same_addresses : (xs ys : List Addresses) (given : Given) (n : ℕ) → Longer xs ys → IsGiven (length xs) given n → kept_addresses ys given n ≡ kept_addresses xs given n
+same_addresses : (xs ys : List Addresses) (given : PackedAddresses) (n : ℕ) → Longer xs ys → PacksAddresses (length xs) given n → kept_addresses ys given n ≡ kept_addresses xs given n
 same_addresses xs ys g.Listed n more h = listed xs ys n no_addresses more h
 same_addresses xs ys other n more h = refl
 
-same_function : (xs ys : List Function) (brief : Brief) (from to : ℕ) → Longer xs ys → IsBrief (length xs) brief from → kept_function ys brief from to ≡ kept_function xs brief from to
+same_function : (xs ys : List Function) (brief : PackedFunction) (from to : ℕ) → Longer xs ys → PacksFunction (length xs) brief from → kept_function ys brief from to ≡ kept_function xs brief from to
 same_function xs ys b.Listed from to more h = listed xs ys from Comment more h
 same_function xs ys other from to more h = refl
 
-same_item : (heads hs : List Addresses) (longs ls : List Function) (k : Kept) → Longer heads hs → Longer longs ls → IsKept (length heads) (length longs) k → kept_item hs ls k ≡ kept_item heads longs k
-same_item heads hs longs ls k a f is =
-    let x = same_addresses heads hs k.given k.head a is.0 in
-    let y = same_function longs ls k.function k.from k.to f is.1 in
+same_item : (listed_addresses hs : List Addresses) (listed_functions ls : List Function) (k : PackedItem) → Longer listed_addresses hs → Longer listed_functions ls → PacksItem (length listed_addresses) (length listed_functions) k → kept_item hs ls k ≡ kept_item listed_addresses listed_functions k
+same_item listed_addresses hs listed_functions ls k a f is =
+    let x = same_addresses listed_addresses hs k.given k.head a is.0 in
+    let y = same_function listed_functions ls k.function k.from k.to f is.1 in
     ap (λ z. record { addresses = z; place = k.place; function = kept_function ls k.function k.from k.to }) x
-    ∙ ap (λ z. record { addresses = kept_addresses heads k.given k.head; place = k.place; function = z }) y
+    ∙ ap (λ z. record { addresses = kept_addresses listed_addresses k.given k.head; place = k.place; function = z }) y
 
-same_items : (heads hs : List Addresses) (longs ls : List Function) (ks : List Kept) → Longer heads hs → Longer longs ls → All (IsKept (length heads) (length longs)) ks →
-    kept_items hs ls ks ≡ kept_items heads longs ks
-same_items heads hs longs ls [] a f all = refl
-same_items heads hs longs ls (k ∷ ks) a f all =
-    let one = same_item heads hs longs ls k a f (All-head (IsKept (length heads) (length longs)) k ks all) in
-    let rest = same_items heads hs longs ls ks a f (All-tail (IsKept (length heads) (length longs)) k ks all) in
-    ap (λ i. i ∷ kept_items hs ls ks) one ∙ ap (λ is. kept_item heads longs k ∷ is) rest
+same_items : (listed_addresses hs : List Addresses) (listed_functions ls : List Function) (ks : List PackedItem) → Longer listed_addresses hs → Longer listed_functions ls → All (PacksItem (length listed_addresses) (length listed_functions)) ks →
+    kept_items hs ls ks ≡ kept_items listed_addresses listed_functions ks
+same_items listed_addresses hs listed_functions ls [] a f all = refl
+same_items listed_addresses hs listed_functions ls (k ∷ ks) a f all =
+    let one = same_item listed_addresses hs listed_functions ls k a f (All-head (PacksItem (length listed_addresses) (length listed_functions)) k ks all) in
+    let rest = same_items listed_addresses hs listed_functions ls ks a f (All-tail (PacksItem (length listed_addresses) (length listed_functions)) k ks all) in
+    ap (λ i. i ∷ kept_items hs ls ks) one ∙ ap (λ is. kept_item listed_addresses listed_functions k ∷ is) rest
 
 -- the items with one more
-pub items_more : (heads hs : List Addresses) (longs ls : List Function) (ks ns : List Kept) (k : Kept) (i : Item) → Longer heads hs → Longer longs ls →
-    All (IsKept (length heads) (length longs)) ks → ns ≡ ks ++ k ∷ [] → kept_item hs ls k ≡ i → kept_items hs ls ns ≡ kept_items heads longs ks ++ i ∷ []
-items_more heads hs longs ls ks ns k i a f all grown is =
+pub items_more : (listed_addresses hs : List Addresses) (listed_functions ls : List Function) (ks ns : List PackedItem) (k : PackedItem) (i : Item) → Longer listed_addresses hs → Longer listed_functions ls →
+    All (PacksItem (length listed_addresses) (length listed_functions)) ks → ns ≡ ks ++ k ∷ [] → kept_item hs ls k ≡ i → kept_items hs ls ns ≡ kept_items listed_addresses listed_functions ks ++ i ∷ []
+items_more listed_addresses hs listed_functions ls ks ns k i a f all grown is =
     ap (kept_items hs ls) grown ∙ (map-append (kept_item hs ls) ks (k ∷ [])
-    ∙ (ap (λ zs. zs ++ kept_item hs ls k ∷ []) (same_items heads hs longs ls ks a f all) ∙ ap (λ j. kept_items heads longs ks ++ j ∷ []) is))
+    ∙ (ap (λ zs. zs ++ kept_item hs ls k ∷ []) (same_items listed_addresses hs listed_functions ls ks a f all) ∙ ap (λ j. kept_items listed_addresses listed_functions ks ++ j ∷ []) is))
 
 longer_is : {A : Type 0} (xs ys : List A) → Longer xs ys → length xs ≤ length ys
 longer_is xs ys more = omega (arith, ap length more.1, length-append xs more.0)
 
-more_given : (a b : ℕ) (given : Given) (n : ℕ) → a ≤ b → IsGiven a given n → IsGiven b given n
+more_given : (a b : ℕ) (given : PackedAddresses) (n : ℕ) → a ≤ b → PacksAddresses a given n → PacksAddresses b given n
 more_given a b g.Listed n le h = omega (arith, le, h)
 more_given a b other n le h = tt
 
-more_brief : (a c : ℕ) (brief : Brief) (from : ℕ) → a ≤ c → IsBrief a brief from → IsBrief c brief from
+more_brief : (a c : ℕ) (brief : PackedFunction) (from : ℕ) → a ≤ c → PacksFunction a brief from → PacksFunction c brief from
 more_brief a c b.Listed from le h = omega (arith, le, h)
 more_brief a c other from le h = tt
 
 -- what is listed stands in the longer lists too
-pub all_kept : (heads hs : List Addresses) (longs ls : List Function) (ks : List Kept) → Longer heads hs → Longer longs ls → All (IsKept (length heads) (length longs)) ks → All (IsKept (length hs) (length ls)) ks
-all_kept heads hs longs ls ks a f all =
-    All-weaker (IsKept (length heads) (length longs)) (IsKept (length hs) (length ls))
-    (λ k h. (more_given (length heads) (length hs) k.given k.head (longer_is heads hs a) h.0, more_brief (length longs) (length ls) k.function k.from (longer_is longs ls f) h.1)) ks all
+pub all_kept : (listed_addresses hs : List Addresses) (listed_functions ls : List Function) (ks : List PackedItem) → Longer listed_addresses hs → Longer listed_functions ls → All (PacksItem (length listed_addresses) (length listed_functions)) ks → All (PacksItem (length hs) (length ls)) ks
+all_kept listed_addresses hs listed_functions ls ks a f all =
+    All-weaker (PacksItem (length listed_addresses) (length listed_functions)) (PacksItem (length hs) (length ls))
+    (λ k h. (more_given (length listed_addresses) (length hs) k.given k.head (longer_is listed_addresses hs a) h.0, more_brief (length listed_functions) (length ls) k.function k.from (longer_is listed_functions ls f) h.1)) ks all

@@ -7,7 +7,7 @@ use Rattle.sedre.specs.Tree.{WrittenExpression}
 use Rattle.sedre.specs.Grammar.{ExprFaulty}
 use Rattle.sedscript.specs.declared.types.ScriptFault.{ScriptFault}
 use Rattle.sedscript.specs.declared.items.Item.{Item}
-use Rattle.sedscript.specs.declared.items.Here.TheVariants.{Is}
+use Rattle.sedscript.specs.declared.items.ItemOrEnd.TheVariants.{Is}
 use Rattle.sedscript.specs.Bytes.{bytes_between}
 use Rattle.sedscript.specs.Items.{Reading, item_at}
 use Rattle.sedscript.specs.FirstFault.{Fails, own, no_expression, later, in_script, Faulty, early, afterwards}

@@ -3,8 +3,8 @@ use Rattle.std.proofs.Common.{◌≡◌, ℕ, ◌+◌, List, [], ◌∷◌, ◌+
 use Rattle.std.proofs.lemmas.List.{map-append}
 use Rattle.sedre.specs.declared.types.Kind.{Kind}
 use Rattle.sedre.specs.Tree.{WrittenExpression, expression_tree}
-use Rattle.sedscript.specs.declared.items.Here.{Here}
-use Rattle.sedscript.specs.declared.items.Here.TheVariants.{Is, Ends}
+use Rattle.sedscript.specs.declared.items.ItemOrEnd.{ItemOrEnd}
+use Rattle.sedscript.specs.declared.items.ItemOrEnd.TheVariants.{Is, Ends}
 use Rattle.sedscript.specs.declared.items.Item.{Item}
 use Rattle.sedscript.specs.Bytes.{bytes_between}
 use Rattle.sedscript.specs.Items.{Reading, item_at}
@@ -32,10 +32,10 @@ pub cut_alike : {X : Type 0} (look : WrittenExpression → X) (text : List ℕ) 
 cut_alike look text kind m count at to stop _ _ _ _ alike one done ends done stops = refl
 cut_alike look text kind m count at to stop _ _ _ _ alike one done ends (item {next = next} {i = j} es fs is rest) stops =
     let same = gives_one text kind m (item_at text count at) [] es Ends (Is j next) one (end_gives text kind m count at ends) is in
-    let g : ◌≡◌ {A = Here} Ends (Is j next) = same.0 in absurd cc
+    let g : ◌≡◌ {A = ItemOrEnd} Ends (Is j next) = same.0 in absurd cc
 cut_alike look text kind m count at to stop _ _ _ _ alike one (item {next = next} {i = i} es fs is rest) ends done stops =
     let same = gives_one text kind m (item_at text count at) [] es Ends (Is i next) one (end_gives text kind m count at stops) is in
-    let g : ◌≡◌ {A = Here} Ends (Is i next) = same.0 in absurd cc
+    let g : ◌≡◌ {A = ItemOrEnd} Ends (Is i next) = same.0 in absurd cc
 cut_alike look text kind m count at to stop _ _ _ _ alike one (item {next = next} {i = i} {is = is0} es fs is rest) ends (item {next = other} {i = j} {is = js0} gs hs is' rest') stops =
     let both = gives_one text kind m (item_at text count at) es gs (Is i next) (Is j other) one is is' in
     let same = is_next i j next other both.0 in

@@ -3,25 +3,25 @@ use Rattle.std.proofs.Common.{◌≡◌, ℕ, ◌-◌, ◌≤◌, List, [], ◌�
 use Rattle.std.specs.List.{cons_option}
 use Rattle.std.proofs.lemmas.List.{append-nil}
 use Rattle.std.proofs.lemmas.Bool.Decides.{nat_tests}
-use Rattle.sedscript.specs.declared.substitution.Part.{Part}
-use Rattle.sedscript.specs.declared.substitution.Part.TheVariants.{Literal, Whole, Group}
+use Rattle.sedscript.specs.declared.substitution.ReplacementPart.{ReplacementPart}
+use Rattle.sedscript.specs.declared.substitution.ReplacementPart.TheVariants.{Literal, Whole, Group}
 use Rattle.sedscript.specs.Bytes.{is_digit}
 use Rattle.sedscript.specs.Strings.{escapes, Piece, literal, whole, group, escaped_piece, piece_of, pieces_from, pieces_of, is_letter}
 use Rattle.sedscript.specs.Pieces.{pieces_in, GroupsWithin}
 use Rattle.sedscript.specs.Answers.{pieces_with}
 
-pub pieces_append : (ps qs : List Part) → pieces_in (ps ++ qs) ≡ pieces_in ps ++ pieces_in qs
+pub pieces_append : (ps qs : List ReplacementPart) → pieces_in (ps ++ qs) ≡ pieces_in ps ++ pieces_in qs
 pieces_append [] qs = refl
 pieces_append (Literal v ∷ ps) qs = ap (λ (z : List Piece). map literal v.items ++ z) (pieces_append ps qs) ∙ sym (append_assoc (map literal v.items) (pieces_in ps) (pieces_in qs))
 pieces_append (Whole ∷ ps) qs = ap (λ (z : List Piece). whole ∷ z) (pieces_append ps qs)
 pieces_append (Group k ∷ ps) qs = ap (λ (z : List Piece). group k ∷ z) (pieces_append ps qs)
 
 -- bytes become a part
-pub run_ended : (old new : List Part) (run : Vec ℕ Global) → new ≡ old ++ Literal run ∷ [] → pieces_in new ≡ pieces_with old run.items
+pub run_ended : (old new : List ReplacementPart) (run : Vec ℕ Global) → new ≡ old ++ Literal run ∷ [] → pieces_in new ≡ pieces_with old run.items
 run_ended old new run e = ap pieces_in e ∙ (pieces_append old (Literal run ∷ []) ∙ ap (λ (z : List Piece). pieces_in old ++ z) (append-nil (map literal run.items)))
 
 -- a part of one piece after them
-pub part_added : (old mid new : List Part) (part : Part) (run bytes : List ℕ) (p : Piece) → pieces_in mid ≡ pieces_with old run → new ≡ mid ++ part ∷ [] → pieces_in (part ∷ []) ≡ p ∷ [] → bytes ≡ [] →
+pub part_added : (old mid new : List ReplacementPart) (part : ReplacementPart) (run bytes : List ℕ) (p : Piece) → pieces_in mid ≡ pieces_with old run → new ≡ mid ++ part ∷ [] → pieces_in (part ∷ []) ≡ p ∷ [] → bytes ≡ [] →
     pieces_with new bytes ≡ pieces_with old run ++ p ∷ []
 part_added old mid new part run bytes p e grown is none =
     ap (λ (z : List ℕ). pieces_with new z) none ∙ (append-nil (pieces_in new) ∙ (ap pieces_in grown ∙ (pieces_append mid (part ∷ []) ∙ (ap (λ (z : List Piece). z ++ pieces_in (part ∷ [])) e ∙ ap (λ (z : List Piece). pieces_with old run ++ z) is))))

@@ -22,12 +22,12 @@ use Rattle.sedscript.specs.declared.items.Function.{Function}
 use Rattle.sedscript.specs.declared.items.Function.TheVariants.{Plain, Open, Close, Label, Branch, Substitute, Transliterate}
 use Rattle.sedscript.specs.declared.items.Addresses.{Addresses}
 use Rattle.sedscript.specs.declared.items.Item.{Item}
-use Rattle.sedscript.specs.declared.items.Here.{Here}
-use Rattle.sedscript.specs.declared.items.Here.TheVariants.{Is, Ends}
+use Rattle.sedscript.specs.declared.items.ItemOrEnd.{ItemOrEnd}
+use Rattle.sedscript.specs.declared.items.ItemOrEnd.TheVariants.{Is, Ends}
 use Rattle.sedscript.specs.declared.letters.Verb.{Verb}
 use Rattle.sedscript.specs.declared.letters.Verb.TheVariants.{ReadsExpression, Reads}
-use Rattle.sedscript.specs.declared.letters.Shape.{Shape}
-use Rattle.sedscript.specs.declared.letters.Shape.TheVariants.{Alone, OpensBlock, ClosesBlock, Remark, NamesLabel, GoesTo, TakesText, NamesFile, TakesStrings}
+use Rattle.sedscript.specs.declared.letters.Arguments.{Arguments}
+use Rattle.sedscript.specs.declared.letters.Arguments.TheVariants.{Alone, OpensBlock, ClosesBlock, Remark, NamesLabel, GoesTo, TakesText, NamesFile, TakesStrings}
 use Rattle.sedscript.specs.declared.texts.Inside.{Inside}
 use Rattle.sedscript.specs.declared.texts.Inside.TheVariants.{InLine, Escape, Due}
 use Rattle.sedscript.specs.declared.transliteration.Char.{Char}
@@ -338,7 +338,7 @@ transliterate_read text at there =
     (strings_up_to text s.delimiter at s.from s.middle s.to (length text) (omega (arith, there)) h.0 h.1 (omega (arith, h.2)))
     (ended_read text (Transliterate s) (s.to + 1) (omega (arith, h.2))))
 
-function_read : (text : List ℕ) (at : ℕ) (shape : Shape) → at < length text → ReadUpTo (EndsUpTo (length text)) (length text) (function_of text shape at)
+function_read : (text : List ℕ) (at : ℕ) (arguments : Arguments) → at < length text → ReadUpTo (EndsUpTo (length text)) (length text) (function_of text arguments at)
 function_read text at OpensBlock there = omega (arith, there)
 function_read text at ClosesBlock there = ended_read text Close (at + 1) (omega (arith, there))
 function_read text at Remark there = past_up_to Line text (at + 1) (omega (arith, there))
@@ -525,7 +525,7 @@ bang_up_to text h le = by_bang (is_byte 33 (slice_get text (past Blank text h.at
 
 -- items
 
-abbrev HereUpTo : ℕ → Here → Type 0
+abbrev HereUpTo : ℕ → ItemOrEnd → Type 0
 HereUpTo n (Is i next) = (i.place ≤ n) × (next ≤ n)
 HereUpTo n Ends = Unit {0}
 
@@ -542,7 +542,7 @@ substitute_at_read text count at there =
 
 function_with_read : (text : List ℕ) (count at : ℕ) (verb : Verb) → at < length text → ReadingUpTo (EndsUpTo (length text)) (length text) (function_with text count verb at)
 function_with_read text count at ReadsExpression there = substitute_at_read text count at there
-function_with_read text count at (Reads shape) there = function_read text at shape there
+function_with_read text count at (Reads arguments) there = function_read text at arguments there
 
 function_at_read : (text : List ℕ) (count : ℕ) (a : Addresses) (at : ℕ) → at ≤ length text → ReadingUpTo (HereUpTo (length text)) (length text) (function_at text count a at)
 unfolding function_at

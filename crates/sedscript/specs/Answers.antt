@@ -7,10 +7,10 @@ use Rattle.sedre.specs.declared.types.Reason.{Reason as ExprReason}
 use Rattle.sedre.specs.declared.types.Reason.TheVariants.{NoMemory}
 use Rattle.sedre.specs.declared.types.ExprFault.{ExprFault}
 use Rattle.sedre.specs.Tree.{WrittenExpression}
-use Rattle.sedscript.specs.Types.{ScriptFault, Address, Addresses, Item, Strings, Function, Here, Is, Ends, Flags}
+use Rattle.sedscript.specs.Types.{ScriptFault, Address, Addresses, Item, Strings, Function, ItemOrEnd, Is, Ends, Flags}
 use Rattle.sedscript.specs.declared.types.TheConstants.{NO_MEMORY}
 use Rattle.sedscript.specs.declared.items.Source.{Source}
-use Rattle.sedscript.specs.declared.substitution.Part.{Part}
+use Rattle.sedscript.specs.declared.substitution.ReplacementPart.{ReplacementPart}
 use Rattle.sedscript.specs.Functions.{◌>>=◌}
 use Rattle.sedscript.specs.Between.{flags_from}
 use Rattle.sedscript.specs.Strings.{Piece, literal, is_among}
@@ -51,7 +51,7 @@ as_function x n = x
 abbrev pub as_groups : ℕ → ℕ → ℕ
 as_groups groups n = groups
 
-abbrev pub as_here : Here → ℕ → Here
+abbrev pub as_here : ItemOrEnd → ℕ → ItemOrEnd
 as_here x n = x
 
 -- the strings stand one after the other from a place on, within a text of so many bytes
@@ -63,12 +63,12 @@ pub record AreStrings (at len : ℕ) (s : Strings) : Type 0 where
   pub inside : s.to < len
 
 -- what was read stands between a place and the end
-abbrev pub IsAfter : ℕ → ℕ → Here → Type 0
+abbrev pub IsAfter : ℕ → ℕ → ItemOrEnd → Type 0
 IsAfter at len (Is item next) = (at < next) × (next ≤ len)
 IsAfter at len Ends = ⊥
 
 -- what stands at a place: an item that ends after it, or the end
-abbrev pub IsHere : List ℕ → ℕ → Here → Type 0
+abbrev pub IsHere : List ℕ → ℕ → ItemOrEnd → Type 0
 IsHere text at (Is item next) = (at < next) × (next ≤ length text)
 IsHere text at Ends = IsEnd text at
 
@@ -91,7 +91,7 @@ abbrev pub with_rest : List ℕ → (empty : Bool) → Result (Flags × ℕ) Scr
 with_rest text empty read = read >>= λ found. flags_from text empty found.0 0 found.1 (drop found.1 text)
 
 -- the pieces of parts, and of bytes after them
-abbrev pub pieces_with : List Part → List ℕ → List Piece
+abbrev pub pieces_with : List ReplacementPart → List ℕ → List Piece
 pieces_with parts bytes = pieces_in parts ++ map literal bytes
 
 -- whether each byte is one of these

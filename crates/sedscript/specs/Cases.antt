@@ -4,7 +4,7 @@
 use Rattle.std.specs.Prelude.{ℕ, List, Bool, not, ◌||◌, Option, Some, None, is_some, Result, Ok, ◌+◌, ◌==◌, if◌then◌else◌, option_map}
 use Rattle.std.specs.List.{fold}
 use Rattle.std.specs.Result.{result_unwrap_or}
-use Rattle.sedscript.specs.Types.{ScriptFault, Addresses, Match, OpenDelimiter, RepeatedByte, UnknownCommand, MissingName, FlagOnEmpty, Flags, Strings, Function, Substitute, Here, Is}
+use Rattle.sedscript.specs.Types.{ScriptFault, Addresses, Match, OpenDelimiter, RepeatedByte, UnknownCommand, MissingName, FlagOnEmpty, Flags, Strings, Function, Substitute, ItemOrEnd, Is}
 use Rattle.sedscript.specs.Bytes.{is_blank, with_digit}
 use Rattle.sedscript.specs.Functions.{fault, or_fault, may_end, ended, allowed, verb_of, ◌>>=◌ as ◌then◌}
 use Rattle.sedscript.specs.Between.{no_flags, flags_after}
@@ -42,18 +42,18 @@ match_to text count delimiter place end = plainly (or_fault end OpenDelimiter pl
     (λ groups. plainly (found (Some (Match (Some count))) (past_flag text (to + 1)) (count + 1)))
 
 -- an item with these addresses and the place of its letter, and the place after it
-abbrev pub item_of : Addresses → ℕ → Function × ℕ → Here
+abbrev pub item_of : Addresses → ℕ → Function × ℕ → ItemOrEnd
 item_of addresses place found = Is (record { addresses = addresses; place = place; function = found.0 }) found.1
 
 -- the item of the function that is expected at a place, after these addresses, given the letter there, if there is one
-abbrev pub item_with : List ℕ → ℕ → Addresses → ℕ → Option ℕ → Reading Here
+abbrev pub item_with : List ℕ → ℕ → Addresses → ℕ → Option ℕ → Reading ItemOrEnd
 item_with text count addresses at stands =
     plainly (or_fault stands UnknownCommand at) >>= λ letter.
     plainly (allowed addresses at (verb_of letter)) >>= λ verb.
     function_with text count verb at >>= λ found. plainly (Ok (item_of addresses at found))
 
 -- the item of the function that is expected after these addresses; a `!` may stand between
-abbrev pub function_after : List ℕ → Headed → Reading Here
+abbrev pub function_after : List ℕ → Headed → Reading ItemOrEnd
 function_after text h = function_at text h.count (with_bang text h).addresses (with_bang text h).at
 
 -- the fault of a byte that stands a second time at a place, if one does

@@ -3,7 +3,7 @@
 use Rattle.std.specs.Prelude.{ℕ, Bool, Result, Ok, Err, suc, ◌+◌, List, true, false, Option, Some, None, if◌then◌else◌, ◌==◌, slice_get}
 use Rattle.std.specs.List.{fold}
 use Rattle.std.specs.Result.{result_unwrap_or}
-use Rattle.sedscript.specs.Types.{ScriptFault, BadAddress, OpenDelimiter, BadDelimiter, FlagOnEmpty, Address, Line, Last, Match, Addresses, UnknownCommand, Strings, Function, Plain, Open, Close, Comment, Verb, ReadsExpression, Reads, Shape, Alone, OpensBlock, ClosesBlock, Remark, NamesLabel, GoesTo, TakesText, NamesFile, TakesStrings, Here, Is, Ends}
+use Rattle.sedscript.specs.Types.{ScriptFault, BadAddress, OpenDelimiter, BadDelimiter, FlagOnEmpty, Address, Line, Last, Match, Addresses, UnknownCommand, Strings, Function, Plain, Open, Close, Comment, Verb, ReadsExpression, Reads, Arguments, Alone, OpensBlock, ClosesBlock, Remark, NamesLabel, GoesTo, TakesText, NamesFile, TakesStrings, ItemOrEnd, Is, Ends}
 use Rattle.sedscript.specs.Bytes.{Blank, Bang, Digit, past, bytes_between, is_digit, with_digit, is_byte, Separator, Line as LineRest}
 use Rattle.sedscript.specs.Functions.{fault, or_fault, ended, label_of, branch_of, text_of, text_from, file_of, name_from, allowed, verb_of}
 use Rattle.sedscript.specs.Between.{own_delimiter, substitute_strings, flags_after, substituted, transliterate_at, no_flags}
@@ -145,7 +145,7 @@ substitute_at text count at =
     plainly (substitute_strings text (at + 1) (own_delimiter (slice_get text (at + 1)))) >>= substitute_with text count
 
 -- the function whose letter stands at a place, and the place after it. The letter is not `s`, and has this shape
-abbrev pub function_of : List ℕ → Shape → ℕ → Result (Function × ℕ) ScriptFault
+abbrev pub function_of : List ℕ → Arguments → ℕ → Result (Function × ℕ) ScriptFault
 function_of text OpensBlock at = Ok (Open, at + 1)
 function_of text ClosesBlock at = ended text Close (at + 1)
 function_of text Remark at = Ok (Comment, past LineRest text (at + 1))
@@ -159,10 +159,10 @@ function_of text (Alone s) at = ended text (Plain s) (at + 1)
 -- the function whose letter stands at a place and stands for this, and the place after it
 abbrev pub function_with : List ℕ → ℕ → Verb → ℕ → Reading (Function × ℕ)
 function_with text count ReadsExpression at = substitute_at text count at
-function_with text count (Reads shape) at = plainly (function_of text shape at)
+function_with text count (Reads arguments) at = plainly (function_of text arguments at)
 
 -- the item of the function that is expected at a place, after these addresses
-unfoldable pub function_at : List ℕ → ℕ → Addresses → ℕ → Reading Here
+unfoldable pub function_at : List ℕ → ℕ → Addresses → ℕ → Reading ItemOrEnd
 function_at text count addresses at =
     plainly (or_fault (slice_get text at) UnknownCommand at) >>= λ letter.
     plainly (allowed addresses at (verb_of letter)) >>= λ verb.
@@ -170,11 +170,11 @@ function_at text count addresses at =
     plainly (Ok (Is (record { addresses = addresses; place = at; function = found.0 }) found.1))
 
 -- the item at a place, given the byte there, or the end where there is none. A `!` may stand after its addresses
-abbrev pub item_from : List ℕ → ℕ → ℕ → Option ℕ → Reading Here
+abbrev pub item_from : List ℕ → ℕ → ℕ → Option ℕ → Reading ItemOrEnd
 item_from text count at None = plainly (Ok Ends)
 item_from text count at (Some b) =
     addresses_at text count at >>= λ h. function_at text h.count (with_bang text h).addresses (with_bang text h).at
 
 -- the next item from a place on, with so many regular expressions before it, or the end
-unfoldable pub item_at : List ℕ → ℕ → ℕ → Reading Here
+unfoldable pub item_at : List ℕ → ℕ → ℕ → Reading ItemOrEnd
 item_at text count at = item_from text count (past Separator text at) (slice_get text (past Separator text at))

@@ -1,12 +1,12 @@
 -- The pieces of a replacement as a script keeps them.
 use Rattle.std.specs.Prelude.{ℕ, ◌≤◌, List, [], ◌∷◌, ◌++◌, map}
-use Rattle.sedscript.specs.declared.substitution.Part.{Part}
-use Rattle.sedscript.specs.declared.substitution.Part.TheVariants.{Literal, Whole, Group}
+use Rattle.sedscript.specs.declared.substitution.ReplacementPart.{ReplacementPart}
+use Rattle.sedscript.specs.declared.substitution.ReplacementPart.TheVariants.{Literal, Whole, Group}
 use Rattle.sedscript.specs.declared.substitution.Piece.{Piece}
 use Rattle.sedscript.specs.declared.substitution.Piece.TheVariants.{Literal as literal, Whole as whole, Group as group}
 
 -- the pieces that parts stand for
-abbrev pub pieces_in : List Part → List Piece
+abbrev pub pieces_in : List ReplacementPart → List Piece
 pieces_in [] = []
 pieces_in (Literal bytes ∷ ps) = map literal bytes.items ++ pieces_in ps
 pieces_in (Whole ∷ ps) = whole ∷ pieces_in ps

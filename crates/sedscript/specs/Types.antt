@@ -14,13 +14,13 @@ pub use Rattle.sedscript.specs.declared.items.Addresses.{Addresses}
 pub use Rattle.sedscript.specs.declared.items.Flags.{Flags}
 pub use Rattle.sedscript.specs.declared.items.Function.{Function}
 pub use Rattle.sedscript.specs.declared.items.Function.TheVariants.{Branch, Close, Comment, File, Label, Open, Plain, Substitute, Text, Transliterate}
-pub use Rattle.sedscript.specs.declared.items.Here.{Here}
-pub use Rattle.sedscript.specs.declared.items.Here.TheVariants.{Ends, Is}
+pub use Rattle.sedscript.specs.declared.items.ItemOrEnd.{ItemOrEnd}
+pub use Rattle.sedscript.specs.declared.items.ItemOrEnd.TheVariants.{Ends, Is}
 pub use Rattle.sedscript.specs.declared.items.Item.{Item}
 pub use Rattle.sedscript.specs.declared.items.Strings.{Strings}
 pub use Rattle.sedscript.specs.declared.letters.Verb.{Verb}
 pub use Rattle.sedscript.specs.declared.letters.Verb.TheVariants.{Reads, ReadsExpression}
-pub use Rattle.sedscript.specs.declared.letters.Shape.{Shape}
-pub use Rattle.sedscript.specs.declared.letters.Shape.TheVariants.{Alone, ClosesBlock, GoesTo, NamesFile, NamesLabel, OpensBlock, Remark, TakesStrings, TakesText}
+pub use Rattle.sedscript.specs.declared.letters.Arguments.{Arguments}
+pub use Rattle.sedscript.specs.declared.letters.Arguments.TheVariants.{Alone, ClosesBlock, GoesTo, NamesFile, NamesLabel, OpensBlock, Remark, TakesStrings, TakesText}
 pub use Rattle.sedscript.specs.declared.texts.Inside.{Inside}
 pub use Rattle.sedscript.specs.declared.texts.Inside.TheVariants.{Due, Escape, InLine}

@@ -10,8 +10,8 @@ use crate::between::{folds, substitute_strings, substituted, transliterate_at};
 use crate::bytes::{Sort, byte_at, past};
 use crate::expressions::expression_at;
 use crate::functions::{allowed, branch_of, ended, file_of, label_of, text_of};
-use crate::items::{Addresses, Function, Here, Item, Source, Strings};
-use crate::letters::{Shape, Verb};
+use crate::items::{Addresses, Function, Item, ItemOrEnd, Source, Strings};
+use crate::letters::{Arguments, Verb};
 use crate::types::{Reason, ScriptFault};
 use sedre::Expr;
 
@@ -57,23 +57,27 @@ fn substitute_at(
 }
 
 /// The function whose letter stands at `at`, and the place after it. The letter is not `s`, and has this shape.
-fn function_of(text: &[u8], shape: Shape, at: usize) -> Result<(Function, usize), ScriptFault>
+fn function_of(
+    text: &[u8],
+    arguments: Arguments,
+    at: usize,
+) -> Result<(Function, usize), ScriptFault>
     requires { at < length text.now }
-    ensures is { result ≡ function_of text.now shape at }
+    ensures is { result ≡ function_of text.now arguments at }
     ensures within { IfOk result (λ found. (at < found.1) × (found.1 ≤ length text.now)) }
 {
-    match shape {
-        Shape::OpensBlock => Ok((Function::Open, at + 1)),
-        Shape::ClosesBlock => ended(text, Function::Close, at + 1),
-        Shape::Remark => Ok((Function::Comment, past(Sort::Line, text, at + 1))),
-        Shape::NamesLabel => label_of(text, at, past(Sort::Blank, text, at + 1)),
-        Shape::GoesTo(branch_use) => {
+    match arguments {
+        Arguments::OpensBlock => Ok((Function::Open, at + 1)),
+        Arguments::ClosesBlock => ended(text, Function::Close, at + 1),
+        Arguments::Remark => Ok((Function::Comment, past(Sort::Line, text, at + 1))),
+        Arguments::NamesLabel => label_of(text, at, past(Sort::Blank, text, at + 1)),
+        Arguments::GoesTo(branch_use) => {
             branch_of(text, branch_use, past(Sort::Blank, text, at + 1))
         }
-        Shape::TakesText(text_use) => text_of(text, text_use, at),
-        Shape::NamesFile(file_use) => file_of(text, file_use, at),
-        Shape::TakesStrings => transliterate_at(text, at),
-        Shape::Alone(simple) => ended(text, Function::Plain(simple), at + 1),
+        Arguments::TakesText(text_use) => text_of(text, text_use, at),
+        Arguments::NamesFile(file_use) => file_of(text, file_use, at),
+        Arguments::TakesStrings => transliterate_at(text, at),
+        Arguments::Alone(simple) => ended(text, Function::Plain(simple), at + 1),
     }
 }
 
@@ -91,15 +95,15 @@ fn function_with(
 {
     match verb {
         Verb::ReadsExpression => substitute_at(source, exprs, at),
-        Verb::Reads(shape) => function_of(source.text, shape, at),
+        Verb::Reads(arguments) => function_of(source.text, arguments, at),
     }
 }
 
 /// An item and the place after it.
-fn item_of(addresses: Addresses, place: usize, function: Function, next: usize) -> Here
+fn item_of(addresses: Addresses, place: usize, function: Function, next: usize) -> ItemOrEnd
     ensures { result ≡ item_of addresses place (function, next) }
 {
-    Here::Is(
+    ItemOrEnd::Is(
         Item {
             addresses,
             place,
@@ -116,7 +120,7 @@ fn item_with(
     addresses: Addresses,
     letter: u8,
     at: usize,
-) -> Result<Here, ScriptFault>
+) -> Result<ItemOrEnd, ScriptFault>
     requires { slice_get source.now.text.now at ≡ Some letter }
     ensures comes { ComesFrom source.now exprs.old.items exprs.new.items as_here result
         (function_at source.now.text.now (length exprs.old.items) addresses at) }
@@ -133,7 +137,7 @@ fn function_at(
     exprs: &mut Vec<Expr>,
     addresses: Addresses,
     at: usize,
-) -> Result<Here, ScriptFault>
+) -> Result<ItemOrEnd, ScriptFault>
     requires { at ≤ length source.now.text.now }
     ensures comes { ComesFrom source.now exprs.old.items exprs.new.items as_here result
         (function_at source.now.text.now (length exprs.old.items) addresses at) }
@@ -154,7 +158,7 @@ fn function_after(
     exprs: &mut Vec<Expr>,
     addresses: Addresses,
     at: usize,
-) -> Result<Here, ScriptFault>
+) -> Result<ItemOrEnd, ScriptFault>
     requires { at ≤ length source.now.text.now }
     ensures comes { ComesFrom source.now exprs.old.items exprs.new.items as_here result
         (function_after source.now.text.now (as_headed (addresses, at) (length exprs.old.items))) }
@@ -165,7 +169,7 @@ fn function_after(
 }
 
 /// The next item from a place on, or the end.
-pub fn item_at(source: &Source, exprs: &mut Vec<Expr>, at: usize) -> Result<Here, ScriptFault>
+pub fn item_at(source: &Source, exprs: &mut Vec<Expr>, at: usize) -> Result<ItemOrEnd, ScriptFault>
     requires at { at ≤ length source.now.text.now }
     ensures comes { ComesFrom source.now exprs.old.items exprs.new.items as_here result
         (item_at source.now.text.now (length exprs.old.items) at) }
@@ -173,7 +177,7 @@ pub fn item_at(source: &Source, exprs: &mut Vec<Expr>, at: usize) -> Result<Here
 {
     let start = past(Sort::Separator, source.text, at);
     match byte_at(source.text, start) {
-        None => Ok(Here::Ends),
+        None => Ok(ItemOrEnd::Ends),
         Some(_) => {
             let (addresses, next) = addresses_at(source, exprs, start)?;
             function_after(source, exprs, addresses, next)

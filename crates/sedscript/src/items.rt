@@ -83,7 +83,7 @@ pub struct Item {
 
 /// What stands at a place: an item and the place after it, or the end.
 #[derive(Clone, Copy)]
-pub enum Here {
+pub enum ItemOrEnd {
     Is(Item, usize),
     Ends,
 }

@@ -2,7 +2,7 @@
 //! each takes little room: what only a few of them need stands in lists of its own.
 
 ghost use Rattle.std.specs.Prelude.{◌≡◌, ◌<◌, ◌++◌, ◌∷◌, [], Some, length, slice_get, slice_index_or, IfOk, OnOk};
-ghost use Rattle.sedscript.specs.Kept.{kept_addresses, kept_function, kept_item, IsGiven, IsBrief, IsKept, Longer};
+ghost use Rattle.sedscript.specs.Kept.{kept_addresses, kept_function, kept_item, PacksAddresses, PacksFunction, PacksItem, Longer};
 
 use crate::items::{Addresses, Function, Item};
 use crate::types::{Address, BranchUse, FileUse, Simple, TextUse};
@@ -11,7 +11,7 @@ use std::marker::Model;
 
 /// Which addresses an item has.
 #[derive(Clone, Copy)]
-pub enum Given {
+pub enum PackedAddresses {
     /// None.
     Nothing,
     /// A line's number, which is kept in the item.
@@ -24,7 +24,7 @@ pub enum Given {
 
 /// A function without its places.
 #[derive(Clone, Copy)]
-pub enum Brief {
+pub enum PackedFunction {
     Plain(Simple),
     Open,
     Close,
@@ -39,15 +39,15 @@ pub enum Brief {
 
 /// An item in a compact form.
 #[derive(Clone, Copy)]
-pub struct Kept {
+pub struct PackedItem {
     pub place: usize,
     /// The line's number or the index that `given` asks for.
     pub head: u64,
     /// The first place or the index that `function` asks for.
     pub from: usize,
     pub to: usize,
-    pub given: Given,
-    pub function: Brief,
+    pub given: PackedAddresses,
+    pub function: PackedFunction,
 }
 
 /// The addresses of a function that has none.
@@ -59,116 +59,125 @@ const NO_ADDRESSES: Addresses = Addresses {
 
 /// The addresses that an item keeps as `given` and `head`.
 #[inline]
-fn kept_addresses(heads: &[Addresses], given: Given, head: u64) -> Addresses
-    requires { IsGiven (length heads.now) given head }
-    ensures { result ≡ kept_addresses heads.now given head }
+fn kept_addresses(listed_addresses: &[Addresses], given: PackedAddresses, head: u64) -> Addresses
+    requires { PacksAddresses (length listed_addresses.now) given head }
+    ensures { result ≡ kept_addresses listed_addresses.now given head }
 {
     match given {
-        Given::Nothing => NO_ADDRESSES,
-        Given::Line => Addresses {
+        PackedAddresses::Nothing => NO_ADDRESSES,
+        PackedAddresses::Line => Addresses {
             first: Some(Address::Line(head)),
             ..NO_ADDRESSES
         },
-        Given::Last => Addresses {
+        PackedAddresses::Last => Addresses {
             first: Some(Address::Last),
             ..NO_ADDRESSES
         },
-        Given::Listed => heads[head as usize],
+        PackedAddresses::Listed => listed_addresses[head as usize],
     }
 }
 
 /// The function that an item keeps as `function`, `from` and `to`.
 #[inline]
-fn kept_function(longs: &[Function], function: Brief, from: usize, to: usize) -> Function
-    requires { IsBrief (length longs.now) function from }
-    ensures { result ≡ kept_function longs.now function from to }
+fn kept_function(
+    listed_functions: &[Function],
+    function: PackedFunction,
+    from: usize,
+    to: usize,
+) -> Function
+    requires { PacksFunction (length listed_functions.now) function from }
+    ensures { result ≡ kept_function listed_functions.now function from to }
 {
     match function {
-        Brief::Plain(simple) => Function::Plain(simple),
-        Brief::Open => Function::Open,
-        Brief::Close => Function::Close,
-        Brief::Label => Function::Label(from, to),
-        Brief::Branch(branch_use) => Function::Branch(branch_use, from, to),
-        Brief::Text(text_use) => Function::Text(text_use, from, to),
-        Brief::File(file_use) => Function::File(file_use, from, to),
-        Brief::Comment => Function::Comment,
-        Brief::Listed => longs[from],
+        PackedFunction::Plain(simple) => Function::Plain(simple),
+        PackedFunction::Open => Function::Open,
+        PackedFunction::Close => Function::Close,
+        PackedFunction::Label => Function::Label(from, to),
+        PackedFunction::Branch(branch_use) => Function::Branch(branch_use, from, to),
+        PackedFunction::Text(text_use) => Function::Text(text_use, from, to),
+        PackedFunction::File(file_use) => Function::File(file_use, from, to),
+        PackedFunction::Comment => Function::Comment,
+        PackedFunction::Listed => listed_functions[from],
     }
 }
 
 /// What an item keeps of its addresses. They go into the list, unless they are none, one line or `$`.
 fn keep_addresses(
-    heads: &mut Vec<Addresses>,
+    listed_addresses: &mut Vec<Addresses>,
     addresses: Addresses,
-) -> Result<(Given, u64), AllocError>
-    ensures longer { Longer heads.old.items heads.new.items }
-    ensures kept { IfOk result (λ g. IsGiven (length heads.new.items) g.0 g.1
-        × (kept_addresses heads.new.items g.0 g.1 ≡ addresses)) }
+) -> Result<(PackedAddresses, u64), AllocError>
+    ensures longer { Longer listed_addresses.old.items listed_addresses.new.items }
+    ensures kept { IfOk result (λ g. PacksAddresses (length listed_addresses.new.items) g.0 g.1
+        × (kept_addresses listed_addresses.new.items g.0 g.1 ≡ addresses)) }
 {
     match addresses {
         Addresses {
             first: None,
             second: None,
             negate: false,
-        } => Ok((Given::Nothing, 0)),
+        } => Ok((PackedAddresses::Nothing, 0)),
         Addresses {
             first: Some(Address::Line(n)),
             second: None,
             negate: false,
-        } => Ok((Given::Line, n)),
+        } => Ok((PackedAddresses::Line, n)),
         Addresses {
             first: Some(Address::Last),
             second: None,
             negate: false,
-        } => Ok((Given::Last, 0)),
+        } => Ok((PackedAddresses::Last, 0)),
         _ => {
-            let at = heads.len();
-            heads.push(addresses)?;
-            Ok((Given::Listed, at as u64))
+            let at = listed_addresses.len();
+            listed_addresses.push(addresses)?;
+            Ok((PackedAddresses::Listed, at as u64))
         }
     }
 }
 
 /// What an item keeps of its function. One with more than two places goes into the list.
 fn keep_function(
-    longs: &mut Vec<Function>,
+    listed_functions: &mut Vec<Function>,
     function: Function,
-) -> Result<(Brief, usize, usize), AllocError>
-    ensures longer { Longer longs.old.items longs.new.items }
-    ensures kept { IfOk result (λ b. IsBrief (length longs.new.items) b.0 b.1
-        × (kept_function longs.new.items b.0 b.1 b.2 ≡ function)) }
+) -> Result<(PackedFunction, usize, usize), AllocError>
+    ensures longer { Longer listed_functions.old.items listed_functions.new.items }
+    ensures kept { IfOk result (λ b. PacksFunction (length listed_functions.new.items) b.0 b.1
+        × (kept_function listed_functions.new.items b.0 b.1 b.2 ≡ function)) }
 {
     match function {
-        Function::Plain(simple) => Ok((Brief::Plain(simple), 0, 0)),
-        Function::Open => Ok((Brief::Open, 0, 0)),
-        Function::Close => Ok((Brief::Close, 0, 0)),
-        Function::Label(from, to) => Ok((Brief::Label, from, to)),
-        Function::Branch(branch_use, from, to) => Ok((Brief::Branch(branch_use), from, to)),
-        Function::Text(text_use, from, to) => Ok((Brief::Text(text_use), from, to)),
-        Function::File(file_use, from, to) => Ok((Brief::File(file_use), from, to)),
-        Function::Comment => Ok((Brief::Comment, 0, 0)),
+        Function::Plain(simple) => Ok((PackedFunction::Plain(simple), 0, 0)),
+        Function::Open => Ok((PackedFunction::Open, 0, 0)),
+        Function::Close => Ok((PackedFunction::Close, 0, 0)),
+        Function::Label(from, to) => Ok((PackedFunction::Label, from, to)),
+        Function::Branch(branch_use, from, to) => Ok((
+            PackedFunction::Branch(branch_use),
+            from,
+            to,
+        )),
+        Function::Text(text_use, from, to) => Ok((PackedFunction::Text(text_use), from, to)),
+        Function::File(file_use, from, to) => Ok((PackedFunction::File(file_use), from, to)),
+        Function::Comment => Ok((PackedFunction::Comment, 0, 0)),
         _ => {
-            let at = longs.len();
-            longs.push(function)?;
-            Ok((Brief::Listed, at, 0))
+            let at = listed_functions.len();
+            listed_functions.push(function)?;
+            Ok((PackedFunction::Listed, at, 0))
         }
     }
 }
 
 /// The item in its compact form. What that has no room for goes into the lists.
 fn keep(
-    heads: &mut Vec<Addresses>,
-    longs: &mut Vec<Function>,
+    listed_addresses: &mut Vec<Addresses>,
+    listed_functions: &mut Vec<Function>,
     item: Item,
-) -> Result<Kept, AllocError>
-    ensures heads { Longer heads.old.items heads.new.items }
-    ensures longs { Longer longs.old.items longs.new.items }
-    ensures kept { IfOk result (λ k. IsKept (length heads.new.items) (length longs.new.items) k
-        × (kept_item heads.new.items longs.new.items k ≡ item)) }
+) -> Result<PackedItem, AllocError>
+    ensures listed_addresses { Longer listed_addresses.old.items listed_addresses.new.items }
+    ensures listed_functions { Longer listed_functions.old.items listed_functions.new.items }
+    ensures kept { IfOk result (λ k. PacksItem (length listed_addresses.new.items) (length listed_functions.new.items) k
+        × (kept_item listed_addresses.new.items listed_functions.new.items k ≡ item)) }
 {
-    let (given, head) = keep_addresses(heads, item.addresses)?;
-    let (function, from, to) = keep_function(longs, item.function)?;
-    Ok(Kept {
+    let (given, head) = keep_addresses(listed_addresses, item.addresses)?;
+    let (function, from, to) = keep_function(listed_functions, item.function)?;
+    Ok(PackedItem {
         place: item.place,
         head,
         from,
@@ -181,24 +190,24 @@ fn keep(
 /// The items of a script. Contracts see them as a list.
 #[derive(Drop)]
 pub struct Items {
-    kept: Vec<Kept>,
+    kept: Vec<PackedItem>,
     /// The addresses of the items that have more than a line's number or `$`.
-    heads: Vec<Addresses>,
+    listed_addresses: Vec<Addresses>,
     /// The functions that have more than two places.
-    longs: Vec<Function>,
+    listed_functions: Vec<Function>,
 }
 
 impl Model for Items {
     ghost use Rattle.std.specs.Prelude.{List, length};
     ghost use Rattle.std.specs.List.{All};
-    ghost use Rattle.sedscript.specs.Kept.{kept_items, IsKept};
+    ghost use Rattle.sedscript.specs.Kept.{kept_items, PacksItem};
     ghost use Rattle.sedscript.specs.declared.items.Item.{Item};
 
     ghost Value = { List Item };
 
-    ghost view = { λ s. kept_items s.heads.items s.longs.items s.kept.items };
+    ghost view = { λ s. kept_items s.listed_addresses.items s.listed_functions.items s.kept.items };
 
-    ghost invariant = { λ s. All (IsKept (length s.heads.items) (length s.longs.items)) s.kept.items };
+    ghost invariant = { λ s. All (PacksItem (length s.listed_addresses.items) (length s.listed_functions.items)) s.kept.items };
 }
 
 impl Items {
@@ -208,8 +217,8 @@ impl Items {
     {
         Items {
             kept: Vec::new(alloc),
-            heads: Vec::new(alloc),
-            longs: Vec::new(alloc),
+            listed_addresses: Vec::new(alloc),
+            listed_functions: Vec::new(alloc),
         }
     }
 
@@ -229,9 +238,9 @@ impl Items {
     {
         let kept = self.kept[k];
         Item {
-            addresses: kept_addresses(&self.heads, kept.given, kept.head),
+            addresses: kept_addresses(&self.listed_addresses, kept.given, kept.head),
             place: kept.place,
-            function: kept_function(&self.longs, kept.function, kept.from, kept.to),
+            function: kept_function(&self.listed_functions, kept.function, kept.from, kept.to),
         }
     }
 
@@ -239,7 +248,7 @@ impl Items {
     pub fn push(&mut self, item: Item) -> Result<(), AllocError>
         ensures { OnOk result (self.new ≡ self.old ++ item ∷ []) }
     {
-        let kept = keep(&mut self.heads, &mut self.longs, item)?;
+        let kept = keep(&mut self.listed_addresses, &mut self.listed_functions, item)?;
         self.kept.push(kept)?;
         Ok(())
     }

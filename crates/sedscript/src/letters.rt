@@ -11,12 +11,12 @@ pub enum Verb {
     /// `s`, which alone reads a regular expression.
     ReadsExpression,
     /// Each other function.
-    Reads(Shape),
+    Reads(Arguments),
 }
 
 /// What follows a letter that is not `s`.
 #[derive(Clone, Copy)]
-pub enum Shape {
+pub enum Arguments {
     /// Nothing.
     Alone(Simple),
     /// `{`, and the next command may follow at once.
@@ -42,33 +42,33 @@ pub fn verb_of(letter: u8) -> Option<Verb>
     ensures { result ≡ verb_of letter }
 {
     match letter {
-        b'{' => Some(Verb::Reads(Shape::OpensBlock)),
-        b'}' => Some(Verb::Reads(Shape::ClosesBlock)),
-        b'#' => Some(Verb::Reads(Shape::Remark)),
-        b':' => Some(Verb::Reads(Shape::NamesLabel)),
-        b'b' => Some(Verb::Reads(Shape::GoesTo(BranchUse::Always))),
-        b't' => Some(Verb::Reads(Shape::GoesTo(BranchUse::IfReplaced))),
-        b'a' => Some(Verb::Reads(Shape::TakesText(TextUse::Append))),
-        b'i' => Some(Verb::Reads(Shape::TakesText(TextUse::Insert))),
-        b'c' => Some(Verb::Reads(Shape::TakesText(TextUse::Change))),
-        b'r' => Some(Verb::Reads(Shape::NamesFile(FileUse::Read))),
-        b'w' => Some(Verb::Reads(Shape::NamesFile(FileUse::Write))),
+        b'{' => Some(Verb::Reads(Arguments::OpensBlock)),
+        b'}' => Some(Verb::Reads(Arguments::ClosesBlock)),
+        b'#' => Some(Verb::Reads(Arguments::Remark)),
+        b':' => Some(Verb::Reads(Arguments::NamesLabel)),
+        b'b' => Some(Verb::Reads(Arguments::GoesTo(BranchUse::Always))),
+        b't' => Some(Verb::Reads(Arguments::GoesTo(BranchUse::IfReplaced))),
+        b'a' => Some(Verb::Reads(Arguments::TakesText(TextUse::Append))),
+        b'i' => Some(Verb::Reads(Arguments::TakesText(TextUse::Insert))),
+        b'c' => Some(Verb::Reads(Arguments::TakesText(TextUse::Change))),
+        b'r' => Some(Verb::Reads(Arguments::NamesFile(FileUse::Read))),
+        b'w' => Some(Verb::Reads(Arguments::NamesFile(FileUse::Write))),
         b's' => Some(Verb::ReadsExpression),
-        b'y' => Some(Verb::Reads(Shape::TakesStrings)),
-        b'=' => Some(Verb::Reads(Shape::Alone(Simple::LineNumber))),
-        b'd' => Some(Verb::Reads(Shape::Alone(Simple::Delete))),
-        b'D' => Some(Verb::Reads(Shape::Alone(Simple::DeleteFirst))),
-        b'l' => Some(Verb::Reads(Shape::Alone(Simple::List))),
-        b'n' => Some(Verb::Reads(Shape::Alone(Simple::NextLine))),
-        b'N' => Some(Verb::Reads(Shape::Alone(Simple::AppendNext))),
-        b'p' => Some(Verb::Reads(Shape::Alone(Simple::Print))),
-        b'P' => Some(Verb::Reads(Shape::Alone(Simple::PrintFirst))),
-        b'q' => Some(Verb::Reads(Shape::Alone(Simple::Quit))),
-        b'g' => Some(Verb::Reads(Shape::Alone(Simple::CopyHold))),
-        b'G' => Some(Verb::Reads(Shape::Alone(Simple::AppendHold))),
-        b'h' => Some(Verb::Reads(Shape::Alone(Simple::Hold))),
-        b'H' => Some(Verb::Reads(Shape::Alone(Simple::HoldMore))),
-        b'x' => Some(Verb::Reads(Shape::Alone(Simple::Exchange))),
+        b'y' => Some(Verb::Reads(Arguments::TakesStrings)),
+        b'=' => Some(Verb::Reads(Arguments::Alone(Simple::LineNumber))),
+        b'd' => Some(Verb::Reads(Arguments::Alone(Simple::Delete))),
+        b'D' => Some(Verb::Reads(Arguments::Alone(Simple::DeleteFirst))),
+        b'l' => Some(Verb::Reads(Arguments::Alone(Simple::List))),
+        b'n' => Some(Verb::Reads(Arguments::Alone(Simple::NextLine))),
+        b'N' => Some(Verb::Reads(Arguments::Alone(Simple::AppendNext))),
+        b'p' => Some(Verb::Reads(Arguments::Alone(Simple::Print))),
+        b'P' => Some(Verb::Reads(Arguments::Alone(Simple::PrintFirst))),
+        b'q' => Some(Verb::Reads(Arguments::Alone(Simple::Quit))),
+        b'g' => Some(Verb::Reads(Arguments::Alone(Simple::CopyHold))),
+        b'G' => Some(Verb::Reads(Arguments::Alone(Simple::AppendHold))),
+        b'h' => Some(Verb::Reads(Arguments::Alone(Simple::Hold))),
+        b'H' => Some(Verb::Reads(Arguments::Alone(Simple::HoldMore))),
+        b'x' => Some(Verb::Reads(Arguments::Alone(Simple::Exchange))),
         _ => None,
     }
 }
@@ -78,8 +78,8 @@ pub fn most_addresses(verb: Verb) -> usize
     ensures { result ≡ most_addresses verb }
 {
     match verb {
-        Verb::Reads(Shape::NamesLabel | Shape::ClosesBlock | Shape::Remark) => 0,
-        Verb::Reads(Shape::Alone(Simple::Quit)) => 1,
+        Verb::Reads(Arguments::NamesLabel | Arguments::ClosesBlock | Arguments::Remark) => 0,
+        Verb::Reads(Arguments::Alone(Simple::Quit)) => 1,
         _ => 2,
     }
 }

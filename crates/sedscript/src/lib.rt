@@ -29,7 +29,7 @@ mod types;
 pub use reader::read;
 pub use script::Script;
 pub use script_text::add_part;
-pub use substitution::{Part, Piece, Replacement, Substitution};
+pub use substitution::{Piece, Replacement, ReplacementPart, Substitution};
 pub use types::{
     Action, Address, BranchUse, Command, ExprFault, FileUse, Kind, NO_MEMORY, Reason, ScriptFault,
     Simple, TextUse,

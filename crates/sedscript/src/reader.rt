@@ -11,7 +11,7 @@ ghost use Rattle.sedscript.specs.declared.types.ScriptFault.{ScriptFault};
 use crate::commands::{commands_of, is_quiet, substitutions_of, tables_of, texts_of};
 use crate::files::{Files, files_of};
 use crate::item_reader::item_at;
-use crate::items::{Here, Source};
+use crate::items::{ItemOrEnd, Source};
 use crate::kept::Items;
 use crate::script::{Named, Script};
 use crate::target_faults::target_fault;
@@ -33,8 +33,8 @@ fn cut_text(source: &Source, items: &mut Items, exprs: &mut Vec<Expr>) -> Result
     let mut at = 0;
     'items: loop {
         match item_at(source, exprs, at)? {
-            Here::Ends => return Ok(at),
-            Here::Is(item, next) => {
+            ItemOrEnd::Ends => return Ok(at),
+            ItemOrEnd::Is(item, next) => {
                 items.push(item)?;
                 at = next;
             }

@@ -8,7 +8,7 @@ ghost use Rattle.sedscript.specs.Answers.{pieces_with};
 
 use crate::bytes::bytes_between;
 use crate::strings::escapes;
-use crate::substitution::{Part, Piece};
+use crate::substitution::{Piece, ReplacementPart};
 use crate::types::{Reason, ScriptFault};
 use std::alloc::{AllocError, Global};
 
@@ -104,11 +104,11 @@ pub fn replacement_fault(
 }
 
 /// Adds the bytes that are gathered, if there are any, as a part of their own.
-fn end_run(parts: &mut Vec<Part>, run: Vec<u8>) -> Result<(), AllocError>
+fn end_run(parts: &mut Vec<ReplacementPart>, run: Vec<u8>) -> Result<(), AllocError>
     ensures { OnOk result (pieces_in parts.new.items ≡ pieces_with parts.old.items run.items) }
 {
     if !run.is_empty() {
-        parts.push(Part::Literal(run))?;
+        parts.push(ReplacementPart::Literal(run))?;
     }
     Ok(())
 }
@@ -117,7 +117,7 @@ fn end_run(parts: &mut Vec<Part>, run: Vec<u8>) -> Result<(), AllocError>
 /// ends them and becomes a part.
 fn add_piece(
     alloc: Global,
-    parts: &mut Vec<Part>,
+    parts: &mut Vec<ReplacementPart>,
     run: Vec<u8>,
     piece: Piece,
 ) -> Result<Vec<u8>, AllocError>
@@ -132,19 +132,23 @@ fn add_piece(
         }
         Piece::Whole => {
             end_run(parts, run)?;
-            parts.push(Part::Whole)?;
+            parts.push(ReplacementPart::Whole)?;
             Ok(Vec::new(alloc))
         }
         Piece::Group(k) => {
             end_run(parts, run)?;
-            parts.push(Part::Group(k))?;
+            parts.push(ReplacementPart::Group(k))?;
             Ok(Vec::new(alloc))
         }
     }
 }
 
 /// The parts of a replacement without faults. Bytes that stand together are one part.
-pub fn parts_of(alloc: Global, bytes: &[u8], delimiter: u8) -> Result<Vec<Part>, AllocError>
+pub fn parts_of(
+    alloc: Global,
+    bytes: &[u8],
+    delimiter: u8,
+) -> Result<Vec<ReplacementPart>, AllocError>
     ensures is { IfOk result (λ v. pieces_in v.items ≡ pieces_of delimiter bytes.now) }
     ensures within { IfOk result (λ v. GroupsWithin 9 (pieces_in v.items)) }
 {

@@ -7,7 +7,7 @@ use std::marker::Model;
 
 /// A part of a replacement.
 #[derive(Drop)]
-pub enum Part {
+pub enum ReplacementPart {
     /// These bytes.
     Literal(Vec<u8>),
     /// `&` (or `\0`): the matched text.
@@ -30,7 +30,7 @@ pub enum Piece {
 /// What an occurrence is replaced by. Contracts see its pieces.
 #[derive(Drop)]
 pub struct Replacement {
-    parts: Vec<Part>,
+    parts: Vec<ReplacementPart>,
 }
 
 impl Model for Replacement {
@@ -49,7 +49,7 @@ impl Replacement {
     ghost use Rattle.sedscript.specs.Pieces.{pieces_in, GroupsWithin};
 
     /// A replacement of these parts.
-    pub(crate) fn of(parts: Vec<Part>) -> Replacement
+    pub(crate) fn of(parts: Vec<ReplacementPart>) -> Replacement
         requires { GroupsWithin 9 (pieces_in parts.items) }
         ensures { result ≡ pieces_in parts.items }
     {
@@ -57,7 +57,7 @@ impl Replacement {
     }
 
     /// Its parts, in order. Their groups are 1 to 9.
-    pub fn parts(&self) -> &[Part]
+    pub fn parts(&self) -> &[ReplacementPart]
         ensures pieces { pieces_in result.now ≡ self.now }
         ensures within { GroupsWithin 9 self.now }
     {

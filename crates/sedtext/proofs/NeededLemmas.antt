@@ -11,7 +11,7 @@ use Rattle.sedre.specs.declared.types.Node.TheVariants.{Set, Seq, Group}
 use Rattle.sedtext.specs.Spans.{NotFound}
 use Rattle.sedtext.specs.Reach.{At}
 use Rattle.sedtext.specs.Needed.{IsOfSet, LinksTo, IsLiteral, GoesOnAs, AllHold, AllEndWith, IsNeeded, FirstLiteral, Narrowed}
-use Rattle.sedtext.specs.declared.needed.Needed.{Needed}
+use Rattle.sedtext.specs.declared.needed.RequiredLiteral.{RequiredLiteral}
 use Rattle.sedtext.specs.declared.needed.Literal.{Literal}
 use Rattle.sedtext.specs.declared.needed.Link.TheVariants.{OneOf, Inner}
 use Rattle.sedtext.proofs.ReachLemmas.{open_at, close_at}
@@ -117,18 +117,18 @@ module _ (w rest : List ℕ) (p : ℕ) (from : p ≤ length w) (e : rest ≡ tak
   pub literal_some : (k : ℕ) → FirstOf (OccursAt rest literal) 0 (length rest + 1) k → OccursAt rest literal k → FirstLiteral w literal p (Some (p + k))
   literal_some k least here = (omega arith, from_rest k here, λ h low high is. least.before (h - p) (omega arith) (omega arith) (to_rest h low is))
 
-module _ (e : Tree) (w : List ℕ) (p : ℕ) (n : Needed) (holds : IsNeeded e (Some n)) where
+module _ (e : Tree) (w : List ℕ) (p : ℕ) (n : RequiredLiteral) (holds : IsNeeded e (Some n)) where
   -- a text without the literal has no match
   pub needed_none : FirstLiteral w n.finder p None → NotFound e w p
   needed_none none i k low within s = let h = holds w i k within s in none h.0 (omega (arith, h.1)) h.3
 
   -- where each match begins with it, none begins before it
-  pub needed_first : (place : ℕ) → IsTrue n.leads → FirstLiteral w n.finder p (Some place) → Narrowed e w p (Some place)
-  needed_first place leads first =
+  pub needed_first : (place : ℕ) → IsTrue n.is_prefix → FirstLiteral w n.finder p (Some place) → Narrowed e w p (Some place)
+  needed_first place is_prefix first =
       let within : place ≤ length w = omega (arith, first.1.fits) in (
         first.0,
         within,
         λ i k low lt s.
             let h = holds w i k (omega arith) s in
-            first.2 i low lt (subst (OccursAt w n.finder) (h.2 leads) h.3),
+            first.2 i low lt (subst (OccursAt w n.finder) (h.2 is_prefix) h.3),
       )

@@ -2,5 +2,5 @@
 use Rattle.std.specs.Prelude.{ℕ, ◌+◌, ◌≤◌}
 
 -- the steps grew from s to t, and `before` pays for them and for `after`
-abbrev pub Pays : ℕ → ℕ → ℕ → ℕ → Type 0
-Pays s t before after = (s ≤ t) × (t + after ≤ s + before)
+abbrev pub CostsWithin : ℕ → ℕ → ℕ → ℕ → Type 0
+CostsWithin s t before after = (s ≤ t) × (t + after ≤ s + before)

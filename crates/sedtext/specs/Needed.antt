@@ -12,7 +12,7 @@ use Rattle.sedtext.specs.declared.beginnings.Begins.TheVariants.{WithSet}
 use Rattle.sedtext.specs.declared.needed.Link.{Link}
 use Rattle.sedtext.specs.declared.needed.Link.TheVariants.{OneOf, Last, Inner, Other}
 use Rattle.sedtext.specs.declared.needed.Literal.{Literal}
-use Rattle.sedtext.specs.declared.needed.Needed.{Needed}
+use Rattle.sedtext.specs.declared.needed.RequiredLiteral.{RequiredLiteral}
 
 -- the spans of the node x are of one byte of the set
 abbrev pub IsOfSet : List Node → ℕ → List Bool → Type 0
@@ -51,9 +51,9 @@ abbrev pub AllEndWith : List Node → ℕ → ℕ → Type 0
 AllEndWith nodes x y = (w : List ℕ) (i j : ℕ) → i ≤ length w → At nodes w x i j → (k : ℕ) × (i ≤ k) × (k ≤ length w) × At nodes w y k j
 
 -- each span of the expression holds the literal, if there is one, and begins with it if it leads
-abbrev pub IsNeeded : Tree → Option Needed → Type 0
+abbrev pub IsNeeded : Tree → Option RequiredLiteral → Type 0
 IsNeeded e None = Unit {0}
-IsNeeded e (Some n) = (w : List ℕ) (i j : ℕ) → i ≤ length w → Matches e w i j → (k : ℕ) × (i ≤ k) × (IsTrue n.leads → k ≡ i) × OccursAt w n.finder k
+IsNeeded e (Some n) = (w : List ℕ) (i j : ℕ) → i ≤ length w → Matches e w i j → (k : ℕ) × (i ≤ k) × (IsTrue n.is_prefix → k ≡ i) × OccursAt w n.finder k
 
 -- the first place from p on at which the literal stands, if there is one
 abbrev pub FirstLiteral : List ℕ → List ℕ → ℕ → Option ℕ → Type 0

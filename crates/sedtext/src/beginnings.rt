@@ -4,7 +4,7 @@ ghost use Rattle.sedre.specs.Arena.{IsArena};
 ghost use Rattle.sedre.specs.Tree.{expression_tree};
 ghost use Rattle.sedtext.specs.declared.beginnings.Begins.TheVariants.{WithSet};
 ghost use Rattle.sedtext.specs.Beginnings.{AllBegin, AllAt, NextStart, skip_cost, left_part, LeafBegins, IsLeftmost, alternatives};
-ghost use Rattle.sedtext.specs.Costs.{Pays};
+ghost use Rattle.sedtext.specs.Costs.{CostsWithin};
 ghost use Rattle.sedre.specs.Steps.{Takes, TakesAtLeast};
 
 use crate::counted::Text;
@@ -140,7 +140,7 @@ pub fn how_begins(expr: &Expr, steps: &mut Steps) -> Begins
 pub fn next_start(begins: &Begins, text: &Text, from: usize, steps: &mut Steps) -> Option<usize>
     requires from { from ≤ length text.now }
     ensures next { NextStart begins.now text.now from result }
-    ensures cost { Pays steps.old steps.new (skip_cost (length text.now) result) from }
+    ensures cost { CostsWithin steps.old steps.new (skip_cost (length text.now) result) from }
     ensures counts { IfSome result (λ k. TakesAtLeast steps.old steps.new (k - from)) }
 {
     match begins {

@@ -3,12 +3,12 @@
 ghost use Rattle.std.specs.Prelude.{◌-◌, ◌*◌, ◌≤◌, length, IfOk, IfSome};
 ghost use Rattle.sedre.specs.Tree.{expression_tree, Tree};
 ghost use Rattle.sedre.specs.Steps.{TakesAtLeast};
-ghost use Rattle.sedtext.specs.Costs.{Pays};
+ghost use Rattle.sedtext.specs.Costs.{CostsWithin};
 ghost use Rattle.sedtext.specs.Hints.{AreHints};
 ghost use Rattle.sedtext.specs.Needed.{Narrowed};
 
 use crate::counted::{Text, are_bytes};
-use crate::needed::{Needed, find_needed, narrowed};
+use crate::needed::{RequiredLiteral, find_needed, skip_to_literal};
 use crate::rare::{Rare, rare_of};
 use sedre::{Expr, Steps};
 use std::alloc::{AllocError, Global};
@@ -17,7 +17,7 @@ use std::alloc::{AllocError, Global};
 #[derive(Drop)]
 pub struct Hints {
     /// A literal.
-    pub needed: Option<Needed>,
+    pub needed: Option<RequiredLiteral>,
     /// The rarest bytes that stand at fixed distances after their beginning.
     pub rare: Option<Rare>,
 }
@@ -38,11 +38,11 @@ impl Hints {
     pub fn first_place(&self, text: &Text, from: usize, steps: &mut Steps) -> Option<usize>
         requires from { from ≤ length text.now }
         ensures place { (e : Tree) → AreHints e self.now → Narrowed e text.now from result }
-        ensures cost { Pays steps.old steps.new (3 * length text.now) (3 * from) }
+        ensures cost { CostsWithin steps.old steps.new (3 * length text.now) (3 * from) }
         ensures counts { IfSome result (λ k. TakesAtLeast steps.old steps.new (k - from)) }
     {
         are_bytes(text);
-        let place = narrowed(&self.needed, text, from, steps)?;
+        let place = skip_to_literal(&self.needed, text, from, steps)?;
         match &self.rare {
             None => Some(place),
             Some(rare) => rare.find(text, place, steps),

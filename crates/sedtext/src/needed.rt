@@ -5,7 +5,7 @@ ghost use Rattle.std.specs.Prelude.{◌≡◌, ◌-◌, ◌<◌, ◌≤◌, ◌�
 ghost use Rattle.sedre.specs.Tree.{expression_tree, Tree};
 ghost use Rattle.sedtext.specs.Needed.{IsOfSet, LinksTo, IsLiteral, IsSole, AllHold, AllEndWith, IsNeeded, Narrowed};
 ghost use Rattle.sedtext.specs.Nodes.{IsNode};
-ghost use Rattle.sedtext.specs.Costs.{Pays};
+ghost use Rattle.sedtext.specs.Costs.{CostsWithin};
 ghost use Rattle.sedre.specs.Steps.{Takes, TakesExactly, TakesAtLeast};
 
 use crate::counted::Text;
@@ -41,11 +41,11 @@ pub struct Literal {
 
 /// A literal that every match holds.
 #[derive(Drop)]
-pub struct Needed {
+pub struct RequiredLiteral {
     /// A search for it.
     pub finder: Finder<'static>,
     /// Whether every match begins with it.
-    pub leads: bool,
+    pub is_prefix: bool,
 }
 
 /// The set that the node at the index is, if it is one.
@@ -183,12 +183,12 @@ fn longest_literal(
 }
 
 /// A search for the literal.
-fn search_for(alloc: Global, literal: &[u8], leads: bool) -> Result<Needed, AllocError>
+fn search_for(alloc: Global, literal: &[u8], is_prefix: bool) -> Result<RequiredLiteral, AllocError>
     ensures literal { IfOk result (λ n. n.finder ≡ literal.now) }
-    ensures leads { IfOk result (λ n. n.leads ≡ leads) }
+    ensures is_prefix { IfOk result (λ n. n.is_prefix ≡ is_prefix) }
 {
     let finder = Finder::new(literal).into_owned(alloc)?;
-    Ok(Needed { finder, leads })
+    Ok(RequiredLiteral { finder, is_prefix })
 }
 
 /// A literal that every match of the expression holds, if one is found: one of two bytes or more with which all begin,
@@ -197,7 +197,7 @@ pub fn find_needed(
     alloc: Global,
     expr: &Expr,
     steps: &mut Steps,
-) -> Result<Option<Needed>, AllocError>
+) -> Result<Option<RequiredLiteral>, AllocError>
     ensures needed { IfOk result (λ n. IsNeeded (expression_tree expr.now) n) }
 {
     let root = expr.root().index();
@@ -214,8 +214,8 @@ pub fn find_needed(
 
 /// The first place from `from` on at which a match can begin, if there is one, as far as the literal tells that each
 /// match holds.
-pub fn narrowed(
-    needed: &Option<Needed>,
+pub fn skip_to_literal(
+    needed: &Option<RequiredLiteral>,
     text: &Text,
     from: usize,
     steps: &mut Steps,
@@ -223,14 +223,14 @@ pub fn narrowed(
     requires from { from ≤ length text.now }
     ensures narrowed { (e : Tree) → IsNeeded e needed.now → Narrowed e text.now from result }
     ensures lies { IfSome result (λ q. (from ≤ q) × (q ≤ length text.now)) }
-    ensures cost { Pays steps.old steps.new (length text.now) from }
+    ensures cost { CostsWithin steps.old steps.new (length text.now) from }
     ensures counts { IfSome result (λ q. TakesAtLeast steps.old steps.new (q - from)) }
 {
     match needed {
         None => Some(from),
         Some(needed) => {
             let place = find_literal(text, &needed.finder, from, steps)?;
-            Some(if needed.leads { place } else { from })
+            Some(if needed.is_prefix { place } else { from })
         }
     }
 }

@@ -5,7 +5,7 @@ ghost use Rattle.sedre.specs.Tree.{expression_tree, tree_at, Tree};
 ghost use Rattle.sedtext.specs.Bytes.{looked_at};
 ghost use Rattle.sedtext.specs.Rare.{StandsAt, HeldAt, FirstFixed, FirstRare, RareNowhere, AllStand, AllHave, AllHeld, AllRare};
 ghost use Rattle.sedtext.specs.Nodes.{IsNode};
-ghost use Rattle.sedtext.specs.Costs.{Pays};
+ghost use Rattle.sedtext.specs.Costs.{CostsWithin};
 ghost use Rattle.sedre.specs.Steps.{Takes, TakesAtLeast};
 
 use crate::counted::Text;
@@ -118,7 +118,7 @@ impl Rare {
         ensures after { from ≤ result }
         ensures within { result ≤ length text.now }
         ensures missed { RareNowhere self.now text.now from result }
-        ensures cost { Pays steps.old steps.new (2 * result) (2 * from) }
+        ensures cost { CostsWithin steps.old steps.new (2 * result) (2 * from) }
         ensures counts { TakesAtLeast steps.old steps.new (result - from) }
     {
         if !self.often {

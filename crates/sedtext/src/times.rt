@@ -5,7 +5,7 @@
 //! it aren't looked at: where such bytes are rare, most of a text is passed over unseen.
 ghost use Rattle.std.specs.Prelude.{◌≡◌, ◌+◌, ◌<◌, ◌≤◌, ◌-◌, length, Some, IfOk, IfSome, IsTrue};
 ghost use Rattle.sedtext.specs.Times.{SameBytes, AllTimes, AreWidths, FirstTimes, passed_times};
-ghost use Rattle.sedtext.specs.Costs.{Pays};
+ghost use Rattle.sedtext.specs.Costs.{CostsWithin};
 ghost use Rattle.sedre.specs.Steps.{Takes, TakesExactly, TakesAtLeast};
 
 use crate::counted::Text;
@@ -102,7 +102,7 @@ pub fn find_times(
 ) -> Option<usize>
     requires from { from ≤ length text.now }
     ensures first { FirstTimes set.now count text.now from result }
-    ensures cost { Pays steps.old steps.new (passed_times (length text.now) count result) from }
+    ensures cost { CostsWithin steps.old steps.new (passed_times (length text.now) count result) from }
     ensures counts { IfSome result (λ k. TakesAtLeast steps.old steps.new (k + count - from)) }
 {
     let mut start = from;

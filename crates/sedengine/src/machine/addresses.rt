@@ -16,7 +16,7 @@ ghost use Rattle.sedengine.specs.Choose.{Answers, JudgesAddresses, Judges, Tells
 
 use super::Machine;
 use crate::ends::Ended;
-use crate::place::Place;
+use crate::next_step::NextStep;
 use crate::select::{Chosen, choose, deciding, finds, yes_by_number};
 use sedscript::{Address, Command};
 use sedspace::{ByteSource, Lines};
@@ -123,7 +123,7 @@ impl Machine {
     {
         self.turns_fit();
         self.turns += 1;
-        self.place = Place::Do(k + 1);
+        self.next_step = NextStep::Do(k + 1);
     }
 
     /// Notes whether the range of command `k` is active.

@@ -7,7 +7,7 @@ ghost use Rattle.sedscript.specs.Ranges.{ActionWithin, sizes_of};
 ghost use Rattle.sedspace.specs.Stream.{lines_left};
 ghost use Rattle.sedengine.specs.State.{do_at, print_pattern, flush, TellsFiles};
 ghost use Rattle.sedengine.specs.Listing.{listed};
-ghost use Rattle.sedengine.specs.Move.{acts, passes, line_to, tells_at, to_sink};
+ghost use Rattle.sedengine.specs.Move.{acts, passes, line_to, writes_text_at, to_sink};
 ghost use Rattle.sedengine.specs.Ends.{reaches, is_next};
 ghost use Rattle.sedengine.specs.Meters.{SinkView};
 ghost use Rattle.sedengine.specs.Calls.{Delivers, NamesNone, Puts};
@@ -17,23 +17,23 @@ ghost use Rattle.sedengine.specs.Steps.{ActsQuietly, HasAction, KeepsRun, Leaves
 use super::Machine;
 use crate::ends::Ended;
 use crate::listing::write_listing;
-use crate::meter::Sinks;
-use crate::place::Place;
+use crate::meter::MeteredSinks;
+use crate::next_step::NextStep;
 use crate::write::write_line;
 use itoa::Buffer;
 use sedscript::{Action, BranchUse, Command, FileUse, Simple, TextUse};
 use sedspace::{ByteSource, Lines, Texts};
 
 /// Whether `c` writes its text: without a range, at a range's end, and with `!`.
-fn tells(command: &Command, end: bool) -> bool
-    ensures { result ≡ tells_at command.now end }
+fn writes_text(command: &Command, end: bool) -> bool
+    ensures { result ≡ writes_text_at command.now end }
 {
     command.second.is_none() || end || command.negate
 }
 
 impl Machine {
     /// Reaches a command, or the end of the script.
-    pub(super) fn reach<R: ByteSource, O: Sinks, T: Texts>(
+    pub(super) fn reach<R: ByteSource, O: MeteredSinks, T: Texts>(
         &mut self,
         k: usize,
         lines: &mut Lines<R>,
@@ -62,7 +62,7 @@ impl Machine {
             self.act(
                 k,
                 command.action,
-                tells(&command, choice.end),
+                writes_text(&command, choice.end),
                 lines,
                 outputs,
                 texts,
@@ -73,12 +73,12 @@ impl Machine {
         }
     }
 
-    /// Does what command `k` does where it applies. `tells` says whether `c` writes its text.
-    fn act<R: ByteSource, O: Sinks, T: Texts>(
+    /// Does what command `k` does where it applies. `writes_text` says whether `c` writes its text.
+    fn act<R: ByteSource, O: MeteredSinks, T: Texts>(
         &mut self,
         k: usize,
         action: Action,
-        tells: bool,
+        writes_text: bool,
         lines: &mut Lines<R>,
         outputs: &mut O,
         texts: &mut T,
@@ -91,7 +91,7 @@ impl Machine {
         ensures acts { lines.old.fault ≡ None → ForSome (lines_left R.remaining lines.old) (λ ls.
             (files : ℕ → List ℕ) → TellsFiles (T.text texts.old) files →
             PerformsSteps R.remaining lines.old lines.new ls self.old.limits (run_setting self.old files)
-            (acts (run_setting self.old files) (at_lines self.old ls) tells action) (is_next action) (at_lines self.old ls) self.new
+            (acts (run_setting self.old files) (at_lines self.old ls) writes_text action) (is_next action) (at_lines self.old ls) self.new
             (O.tally outputs.old) (O.tally outputs.new) result) }
         ensures falls { weight self.new ≤ weight self.old + 8 }
         ensures leaves { LeavesLines R.remaining R.failures R.reference O.tally O.count T.text self.old self.new
@@ -100,16 +100,16 @@ impl Machine {
         match action {
             Action::Plain(Simple::AppendNext) => self.act_append_next(lines, outputs, texts),
             Action::Plain(Simple::NextLine) => self.act_next_line(lines, outputs, texts),
-            _ => self.act_here(k, action, tells, outputs, texts),
+            _ => self.act_here(k, action, writes_text, outputs, texts),
         }
     }
 
     /// Does what command `k` does where it applies, if it takes no line.
-    fn act_here<O: Sinks, T: Texts>(
+    fn act_here<O: MeteredSinks, T: Texts>(
         &mut self,
         k: usize,
         action: Action,
-        tells: bool,
+        writes_text: bool,
         outputs: &mut O,
         texts: &mut T,
     ) -> Result<(), Ended>
@@ -120,14 +120,19 @@ impl Machine {
         requires sinks { length self.old.script.wfiles < O.count outputs.old }
         ensures acts { (files : ℕ → List ℕ) → TellsFiles (T.text texts.old) files → (ls : List (List ℕ)) →
             MakesMove self.old.limits (run_setting self.old files)
-            (acts (run_setting self.old files) (at_lines self.old ls) tells action) (at_lines self.old ls) (at_lines self.new ls)
+            (acts (run_setting self.old files) (at_lines self.old ls) writes_text action) (at_lines self.old ls) (at_lines self.new ls)
             (O.tally outputs.old) (O.tally outputs.new) result }
         ensures falls { weight self.new ≤ weight self.old + 8 }
         ensures leaves { LeavesGiven O.tally O.count T.text self.old self.new outputs.old outputs.new texts.old texts.new result }
     {
         self.is_within_limits();
         match action {
-            Action::Text(TextUse::Change, text) => self.act_change(text, tells, outputs, texts),
+            Action::Text(TextUse::Change, text) => self.act_change(
+                text,
+                writes_text,
+                outputs,
+                texts,
+            ),
             Action::Plain(Simple::Delete) => self.act_delete(outputs, texts),
             Action::Plain(Simple::DeleteFirst) => self.act_delete_first(outputs, texts),
             Action::Text(TextUse::Insert, text) => self.act_insert(text, outputs),
@@ -186,7 +191,7 @@ impl Machine {
         ensures same { KeepsRun self.old self.new }
     {
         if let Action::Block(next) = action {
-            self.place = Place::Do(next);
+            self.next_step = NextStep::Do(next);
         }
     }
 
@@ -194,11 +199,11 @@ impl Machine {
     fn act_branch(&mut self, target: usize)
         ensures { self.new ≡ record self.old { state = record self.old.state { tasks = do_at target ∷ [] } } }
     {
-        self.place = Place::Do(target);
+        self.next_step = NextStep::Do(target);
     }
 
     /// The command `i`: writes its text.
-    fn act_insert<O: Sinks>(&self, text: usize, outputs: &mut O) -> Result<(), Ended>
+    fn act_insert<O: MeteredSinks>(&self, text: usize, outputs: &mut O) -> Result<(), Ended>
         requires text { text < length self.now.script.texts }
         requires sink { 0 < O.count outputs.old }
         ensures puts { Puts (O.tally outputs.old) (O.tally outputs.new)
@@ -209,7 +214,7 @@ impl Machine {
     }
 
     /// The command `=`: writes the line number.
-    fn act_line_number<O: Sinks>(&self, outputs: &mut O) -> Result<(), Ended>
+    fn act_line_number<O: MeteredSinks>(&self, outputs: &mut O) -> Result<(), Ended>
         requires { 0 < O.count outputs.old }
         ensures puts { Puts (O.tally outputs.old) (O.tally outputs.new)
             (line_to 0 (decimal self.now.state.number)) result }
@@ -220,7 +225,7 @@ impl Machine {
     }
 
     /// The command `l`: writes the listing of the pattern space.
-    fn act_list<O: Sinks>(&self, outputs: &mut O) -> Result<(), Ended>
+    fn act_list<O: MeteredSinks>(&self, outputs: &mut O) -> Result<(), Ended>
         requires { 0 < O.count outputs.old }
         ensures puts { Puts (O.tally outputs.old) (O.tally outputs.new)
             (to_sink 0 (listed self.now.state.pattern)) result }
@@ -230,7 +235,11 @@ impl Machine {
     }
 
     /// The commands `p` and `w`: writes the pattern space to a sink.
-    pub(super) fn act_write<O: Sinks>(&self, sink: usize, outputs: &mut O) -> Result<(), Ended>
+    pub(super) fn act_write<O: MeteredSinks>(
+        &self,
+        sink: usize,
+        outputs: &mut O,
+    ) -> Result<(), Ended>
         requires { sink < O.count outputs.old }
         ensures puts { Puts (O.tally outputs.old) (O.tally outputs.new)
             (line_to sink self.now.state.pattern) result }
@@ -240,7 +249,7 @@ impl Machine {
     }
 
     /// The command `P`: writes the pattern space up to its first newline.
-    fn act_print_first<O: Sinks>(&self, outputs: &mut O) -> Result<(), Ended>
+    fn act_print_first<O: MeteredSinks>(&self, outputs: &mut O) -> Result<(), Ended>
         requires { 0 < O.count outputs.old }
         ensures puts { Puts (O.tally outputs.old) (O.tally outputs.new)
             (line_to 0 (before_first is_newline self.now.state.pattern)) result }
@@ -255,6 +264,6 @@ impl Machine {
           state = record self.old.state { tasks = print_pattern ∷ flush ∷ [] };
         } }
     {
-        self.place = Place::Quit;
+        self.next_step = NextStep::Quit;
     }
 }

@@ -10,18 +10,18 @@ ghost use Rattle.sedengine.specs.Steps.{LeavesGiven, MakesMove, weight};
 
 use super::Machine;
 use crate::ends::Ended;
-use crate::meter::Sinks;
-use crate::place::Place;
+use crate::meter::MeteredSinks;
+use crate::next_step::NextStep;
 use crate::write::write_line;
 use sedspace::Texts;
 
 impl Machine {
-    /// The command `c`: deletes the pattern space, writes its text where `tells` says so, writes the queue, and starts the
+    /// The command `c`: deletes the pattern space, writes its text where `writes_text` says so, writes the queue, and starts the
     /// next cycle.
-    pub(super) fn act_change<O: Sinks, T: Texts>(
+    pub(super) fn act_change<O: MeteredSinks, T: Texts>(
         &mut self,
         text: usize,
-        tells: bool,
+        writes_text: bool,
         outputs: &mut O,
         texts: &mut T,
     ) -> Result<(), Ended>
@@ -29,21 +29,21 @@ impl Machine {
         requires sink { 0 < O.count outputs.old }
         ensures acts { (files : ℕ → List ℕ) → TellsFiles (T.text texts.old) files → (ls : List (List ℕ)) →
             MakesMove self.old.limits (run_setting self.old files)
-            (acts (run_setting self.old files) (at_lines self.old ls) tells (Text Change text)) (at_lines self.old ls)
+            (acts (run_setting self.old files) (at_lines self.old ls) writes_text (Text Change text)) (at_lines self.old ls)
             (at_lines self.new ls) (O.tally outputs.old) (O.tally outputs.new) result }
         ensures falls { weight self.new ≤ weight self.old + 8 }
         ensures leaves { LeavesGiven O.tally O.count T.text self.old self.new outputs.old outputs.new texts.old texts.new result }
     {
         self.pattern.clear();
-        if !tells {
-            return self.end_cycle(Place::Begin, outputs, texts);
+        if !writes_text {
+            return self.end_cycle(NextStep::Begin, outputs, texts);
         }
         write_line(outputs, 0, self.script.text(text))?;
-        self.end_cycle(Place::Begin, outputs, texts)
+        self.end_cycle(NextStep::Begin, outputs, texts)
     }
 
     /// The command `d`: deletes the pattern space, writes the queue, and starts the next cycle.
-    pub(super) fn act_delete<O: Sinks, T: Texts>(
+    pub(super) fn act_delete<O: MeteredSinks, T: Texts>(
         &mut self,
         outputs: &mut O,
         texts: &mut T,
@@ -57,12 +57,12 @@ impl Machine {
         ensures leaves { LeavesGiven O.tally O.count T.text self.old self.new outputs.old outputs.new texts.old texts.new result }
     {
         self.pattern.clear();
-        self.end_cycle(Place::Begin, outputs, texts)
+        self.end_cycle(NextStep::Begin, outputs, texts)
     }
 
     /// The command `D`: deletes the pattern space up to its first newline, writes the queue, and starts a cycle with what is
     /// left. Without a newline it is `d`.
-    pub(super) fn act_delete_first<O: Sinks, T: Texts>(
+    pub(super) fn act_delete_first<O: MeteredSinks, T: Texts>(
         &mut self,
         outputs: &mut O,
         texts: &mut T,
@@ -76,7 +76,7 @@ impl Machine {
         ensures leaves { LeavesGiven O.tally O.count T.text self.old self.new outputs.old outputs.new texts.old texts.new result }
     {
         if self.pattern.cut_line() {
-            self.end_cycle(Place::Rebegin, outputs, texts)
+            self.end_cycle(NextStep::Rebegin, outputs, texts)
         } else {
             self.act_delete(outputs, texts)
         }

@@ -24,7 +24,7 @@ impl Machine {
         requires { self.now.state.tasks ≡ begin ∷ [] }
         ensures { self.now.state.pattern ≡ [] }
     {
-        let _place = self.place;
+        let _next_step = self.next_step;
     }
 
     /// For proofs: there are no more lines than turns, and the turns stay below their limit, which fits their type.

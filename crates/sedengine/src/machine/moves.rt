@@ -9,13 +9,13 @@ ghost use Rattle.sedengine.specs.Steps.{LeavesLines, Steps, weight};
 
 use super::Machine;
 use crate::ends::{Ended, Progress};
-use crate::meter::Sinks;
-use crate::place::Place;
+use crate::meter::MeteredSinks;
+use crate::next_step::NextStep;
 use sedspace::{ByteSource, Lines, Texts};
 
 impl Machine {
     /// Makes the next moves, or finds the end.
-    fn step<R: ByteSource, O: Sinks, T: Texts>(
+    fn step<R: ByteSource, O: MeteredSinks, T: Texts>(
         &mut self,
         lines: &mut Lines<R>,
         outputs: &mut O,
@@ -30,17 +30,17 @@ impl Machine {
         ensures leaves { LeavesLines R.remaining R.failures R.reference O.tally O.count T.text self.old self.new
             lines.old lines.new outputs.old outputs.new texts.old texts.new result }
     {
-        match self.place {
-            Place::Begin => self.begin(lines),
-            Place::Rebegin => self.rebegin(),
-            Place::Do(k) => self.reach(k, lines, outputs, texts),
-            Place::Quit => self.quit(outputs, texts),
-            Place::Ended => Err(Ended::Done),
+        match self.next_step {
+            NextStep::Begin => self.begin(lines),
+            NextStep::Rebegin => self.rebegin(),
+            NextStep::Do(k) => self.reach(k, lines, outputs, texts),
+            NextStep::Quit => self.quit(outputs, texts),
+            NextStep::Ended => Err(Ended::Done),
         }
     }
 
     /// Makes moves to the end.
-    pub(super) fn moves<R: ByteSource, O: Sinks, T: Texts>(
+    pub(super) fn moves<R: ByteSource, O: MeteredSinks, T: Texts>(
         &mut self,
         lines: &mut Lines<R>,
         outputs: &mut O,
@@ -71,11 +71,11 @@ impl Machine {
     fn at_start(&self) -> bool
         ensures { result ≡ starts_cycle self.now.state.tasks }
     {
-        matches!(self.place, Place::Begin | Place::Rebegin)
+        matches!(self.next_step, NextStep::Begin | NextStep::Rebegin)
     }
 
     /// Makes the moves of one cycle.
-    pub(super) fn moves_of_cycle<R: ByteSource, O: Sinks, T: Texts>(
+    pub(super) fn moves_of_cycle<R: ByteSource, O: MeteredSinks, T: Texts>(
         &mut self,
         lines: &mut Lines<R>,
         outputs: &mut O,

@@ -17,14 +17,14 @@ ghost use Rattle.sedengine.specs.Bringing.{Brings, brought};
 use super::Machine;
 use super::addresses::is_last;
 use crate::ends::Ended;
-use crate::meter::Sinks;
-use crate::place::Place;
+use crate::meter::MeteredSinks;
+use crate::next_step::NextStep;
 use sedspace::{ByteSource, Full, Got, LineFault, Lines, Space, Texts};
 
 impl Machine {
     /// The command `n`: writes the pattern space, unless default output is suppressed, and the queue, and goes on with the
     /// next line in place of the pattern space. Without a next line the run is to end as by `q`.
-    pub(super) fn act_next_line<R: ByteSource, O: Sinks, T: Texts>(
+    pub(super) fn act_next_line<R: ByteSource, O: MeteredSinks, T: Texts>(
         &mut self,
         lines: &mut Lines<R>,
         outputs: &mut O,
@@ -43,7 +43,7 @@ impl Machine {
             lines.old lines.new outputs.old outputs.new texts.old texts.new result }
     {
         if is_last(lines)? {
-            self.place = Place::Quit;
+            self.next_step = NextStep::Quit;
             Ok(())
         } else {
             self.print_and_fetch(lines, outputs, texts)
@@ -52,7 +52,7 @@ impl Machine {
 
     /// Writes the pattern space, unless default output is suppressed, and the queue, and puts the next line in place of
     /// the pattern space.
-    fn print_and_fetch<R: ByteSource, O: Sinks, T: Texts>(
+    fn print_and_fetch<R: ByteSource, O: MeteredSinks, T: Texts>(
         &mut self,
         lines: &mut Lines<R>,
         outputs: &mut O,
@@ -106,13 +106,13 @@ impl Machine {
                 self.number += 1;
                 self.replaced = false;
             }
-            Got::End => self.place = Place::Ended,
+            Got::End => self.next_step = NextStep::Ended,
         }
     }
 
     /// The command `N`: writes the queue, and appends a newline and the next line to the pattern space. Without a next line
     /// the run is over, and the pattern space isn't written.
-    pub(super) fn act_append_next<R: ByteSource, O: Sinks, T: Texts>(
+    pub(super) fn act_append_next<R: ByteSource, O: MeteredSinks, T: Texts>(
         &mut self,
         lines: &mut Lines<R>,
         outputs: &mut O,

@@ -14,8 +14,8 @@ use super::Machine;
 use crate::block::{clear_end, extent_of, line_length, lines_before};
 use crate::ends::Ended;
 use crate::idle::{Idle, clear_lines};
-use crate::meter::{Cut, Sinks};
-use crate::place::Place;
+use crate::meter::{Cut, MeteredSinks};
+use crate::next_step::NextStep;
 use sedspace::{ByteSource, Lines, whole_lines};
 
 /// The first of the bytes ahead, which are lines that no command touches.
@@ -89,7 +89,7 @@ impl Machine {
     }
 
     /// Writes lines as they are, unless default output is suppressed.
-    fn write_lines<O: Sinks>(&self, bytes: &[u8], outputs: &mut O) -> Result<(), Cut>
+    fn write_lines<O: MeteredSinks>(&self, bytes: &[u8], outputs: &mut O) -> Result<(), Cut>
         requires { 0 < O.count outputs.old }
         ensures writes { WritesLines (O.tally outputs.old) (O.tally outputs.new) self.now.script.quiet bytes.now
             result }
@@ -131,12 +131,12 @@ impl Machine {
             Ok(()) => {}
             Err(_) => unreachable!(),
         }
-        self.place = Place::Do(self.script.len());
+        self.next_step = NextStep::Do(self.script.len());
         lines.take_lines(end + 1);
     }
 
     /// Passes over the first of the lines ahead that no command touches.
-    fn pass_ahead<R: ByteSource, O: Sinks>(
+    fn pass_ahead<R: ByteSource, O: MeteredSinks>(
         &mut self,
         lines: &mut Lines<R>,
         outputs: &mut O,
@@ -176,12 +176,12 @@ impl Machine {
         ensures begins { IsTrue result → self.old.state.tasks ≡ begin ∷ [] }
         ensures same { self.new ≡ self.old }
     {
-        matches!(self.place, Place::Begin) && self.patience.is_due()
+        matches!(self.next_step, NextStep::Begin) && self.patience.is_due()
     }
 
     /// Passes over lines that no command touches, if it may pay.
     #[inline(always)]
-    pub(super) fn pass_over<R: ByteSource, O: Sinks>(
+    pub(super) fn pass_over<R: ByteSource, O: MeteredSinks>(
         &mut self,
         lines: &mut Lines<R>,
         outputs: &mut O,

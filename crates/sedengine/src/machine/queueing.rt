@@ -12,8 +12,8 @@ ghost use Rattle.sedengine.specs.Queueing.{QueuesOrFull, flushed, with_turns};
 use super::Machine;
 use crate::ends::Ended;
 use crate::flushing::flush_queue;
-use crate::meter::Sinks;
-use crate::place::Place;
+use crate::meter::MeteredSinks;
+use crate::next_step::NextStep;
 use sedscript::Script;
 use sedspace::{Space, Texts};
 
@@ -31,7 +31,7 @@ impl Machine {
 
     /// Writes the queue, which is then empty.
     #[inline(always)]
-    pub(super) fn flush<O: Sinks, T: Texts>(
+    pub(super) fn flush<O: MeteredSinks, T: Texts>(
         &mut self,
         outputs: &mut O,
         texts: &mut T,
@@ -62,7 +62,7 @@ impl Machine {
 
     /// Writes the pattern space, unless default output is suppressed, and then the queue.
     #[inline(always)]
-    pub(super) fn print_and_flush<O: Sinks, T: Texts>(
+    pub(super) fn print_and_flush<O: MeteredSinks, T: Texts>(
         &mut self,
         outputs: &mut O,
         texts: &mut T,
@@ -83,28 +83,28 @@ impl Machine {
     }
 
     /// Writes the queue, and starts the next cycle at this place.
-    pub(super) fn end_cycle<O: Sinks, T: Texts>(
+    pub(super) fn end_cycle<O: MeteredSinks, T: Texts>(
         &mut self,
-        place: Place,
+        next_step: NextStep,
         outputs: &mut O,
         texts: &mut T,
     ) -> Result<(), Ended>
-        requires emptied { IsEmptied place self.old.state.pattern }
+        requires emptied { IsEmptied next_step self.old.state.pattern }
         requires sink { 0 < O.count outputs.old }
         ensures moves { (files : ℕ → List ℕ) → TellsFiles (T.text texts.old) files → (ls : List (List ℕ)) →
-            Moves self.old.limits (run_setting self.old files) (then_do (flush ∷ tasks_of place) (at_lines self.old ls))
+            Moves self.old.limits (run_setting self.old files) (then_do (flush ∷ tasks_of next_step) (at_lines self.old ls))
             (at_lines self.new ls) (O.tally outputs.old) (O.tally outputs.new) result }
         ensures falls { weight self.new ≤ weight self.old + 8 }
         ensures leaves { LeavesGiven O.tally O.count T.text self.old self.new outputs.old outputs.new texts.old texts.new result }
     {
         self.flush(outputs, texts)?;
-        self.place = place;
+        self.next_step = next_step;
         Ok(())
     }
 }
 
 /// Writes the pattern space, unless default output is suppressed.
-fn print_by_default<O: Sinks>(
+fn print_by_default<O: MeteredSinks>(
     script: &Script,
     pattern: &Space,
     outputs: &mut O,

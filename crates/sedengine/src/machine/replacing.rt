@@ -13,15 +13,15 @@ ghost use Rattle.sedengine.specs.SubstituteCalls.{Makes, same_but_replaced};
 use super::Machine;
 use super::known::is_within;
 use crate::ends::Ended;
-use crate::meter::Sinks;
-use crate::place::Place;
+use crate::meter::MeteredSinks;
+use crate::next_step::NextStep;
 use crate::substitute::{Findings, Replacing, build_text};
 use sedspace::Full;
 
 impl Machine {
     /// The command `s`: replaces occurrences in the pattern space, and writes it as its flags `p` and `w` say if it did.
     #[inline(never)]
-    pub(super) fn act_substitute<O: Sinks>(
+    pub(super) fn act_substitute<O: MeteredSinks>(
         &mut self,
         k: usize,
         outputs: &mut O,
@@ -90,7 +90,7 @@ impl Machine {
     }
 
     /// Writes the pattern space as the flags `p` and `w` of the substitution of number `k` say.
-    fn write_replaced<O: Sinks>(&self, k: usize, outputs: &mut O) -> Result<(), Ended>
+    fn write_replaced<O: MeteredSinks>(&self, k: usize, outputs: &mut O) -> Result<(), Ended>
         requires number { k < length self.now.script.substitutions }
         requires sinks { length self.now.script.wfiles < O.count outputs.old }
         ensures puts { (t : Substitution) → slice_get self.now.script.substitutions k ≡ Some t →
@@ -102,7 +102,7 @@ impl Machine {
     }
 
     /// Writes the pattern space if the substitution of number `k` has the flag `p`.
-    fn print_replaced<O: Sinks>(&self, k: usize, outputs: &mut O) -> Result<(), Ended>
+    fn print_replaced<O: MeteredSinks>(&self, k: usize, outputs: &mut O) -> Result<(), Ended>
         requires number { k < length self.now.script.substitutions }
         requires sink { 0 < O.count outputs.old }
         ensures puts { (t : Substitution) → slice_get self.now.script.substitutions k ≡ Some t →
@@ -117,7 +117,7 @@ impl Machine {
     }
 
     /// Writes the pattern space to the file if the substitution of number `k` has the flag `w`.
-    fn file_replaced<O: Sinks>(&self, k: usize, outputs: &mut O) -> Result<(), Ended>
+    fn file_replaced<O: MeteredSinks>(&self, k: usize, outputs: &mut O) -> Result<(), Ended>
         requires number { k < length self.now.script.substitutions }
         requires sinks { length self.now.script.wfiles < O.count outputs.old }
         ensures puts { (t : Substitution) → slice_get self.now.script.substitutions k ≡ Some t →
@@ -141,7 +141,7 @@ impl Machine {
     {
         if self.replaced {
             self.replaced = false;
-            self.place = Place::Do(target);
+            self.next_step = NextStep::Do(target);
         }
     }
 

@@ -10,8 +10,8 @@ ghost use Rattle.sedengine.specs.Steps.{KeepsRun, LeavesGiven, Moves, Steps, wei
 
 use super::Machine;
 use crate::ends::Ended;
-use crate::meter::Sinks;
-use crate::place::Place;
+use crate::meter::MeteredSinks;
+use crate::next_step::NextStep;
 use sedspace::{ByteSource, Got, LineFault, Lines, Texts};
 
 impl Machine {
@@ -29,7 +29,7 @@ impl Machine {
         if self.turns == self.limits.turns() {
             return match lines.is_last() {
                 Ok(true) => {
-                    self.place = Place::Ended;
+                    self.next_step = NextStep::Ended;
                     Ok(())
                 }
                 Ok(false) => Err(Ended::TurnsSpent),
@@ -41,11 +41,11 @@ impl Machine {
                 self.number += 1;
                 self.turns += 1;
                 self.replaced = false;
-                self.place = Place::Do(0);
+                self.next_step = NextStep::Do(0);
                 Ok(())
             }
             Ok(Got::End) => {
-                self.place = Place::Ended;
+                self.next_step = NextStep::Ended;
                 Ok(())
             }
             Err(LineFault::TooLong) => Err(Ended::PatternFull(self.number + 1)),
@@ -67,12 +67,12 @@ impl Machine {
             return Err(Ended::TurnsSpent);
         }
         self.turns += 1;
-        self.place = Place::Do(0);
+        self.next_step = NextStep::Do(0);
         Ok(())
     }
 
     /// Ends a cycle at the end of the script: writes the pattern space and the queue, and empties the pattern space.
-    pub(super) fn finish<O: Sinks, T: Texts>(
+    pub(super) fn finish<O: MeteredSinks, T: Texts>(
         &mut self,
         k: usize,
         outputs: &mut O,
@@ -89,12 +89,12 @@ impl Machine {
     {
         self.print_and_flush(outputs, texts)?;
         self.pattern.clear();
-        self.place = Place::Begin;
+        self.next_step = NextStep::Begin;
         Ok(())
     }
 
     /// Ends the run: writes the pattern space and the queue for the last time.
-    pub(super) fn quit<O: Sinks, T: Texts>(
+    pub(super) fn quit<O: MeteredSinks, T: Texts>(
         &mut self,
         outputs: &mut O,
         texts: &mut T,
@@ -108,7 +108,7 @@ impl Machine {
         ensures leaves { LeavesGiven O.tally O.count T.text self.old self.new outputs.old outputs.new texts.old texts.new result }
     {
         self.print_and_flush(outputs, texts)?;
-        self.place = Place::Ended;
+        self.next_step = NextStep::Ended;
         Ok(())
     }
 }

@@ -6,7 +6,7 @@ ghost use Rattle.sedtext.specs.Matching.{byte_is_in};
 ghost use Rattle.sedtext.specs.Beginnings.{CanBegin, NextStart, skip_cost};
 ghost use Rattle.sedtext.specs.Bytes.{looked_at};
 ghost use Rattle.sedtext.specs.declared.beginnings.Begins.TheVariants.{WithSet};
-ghost use Rattle.sedtext.specs.Costs.{Pays};
+ghost use Rattle.sedtext.specs.Costs.{CostsWithin};
 ghost use Rattle.sedre.specs.Steps.{Takes, TakesExactly};
 
 use super::{Text, uncounted};
@@ -90,7 +90,7 @@ pub fn find_member(text: &Text, set: &ByteSet, from: usize, steps: &mut Steps) -
     requires from { from ≤ length text.now }
     ensures next { NextStart (WithSet set.now) text.now from result }
     ensures here { IfSome result (λ k. CanBegin (WithSet set.now) text.now k) }
-    ensures cost { Pays steps.old steps.new (skip_cost (length text.now) result) from }
+    ensures cost { CostsWithin steps.old steps.new (skip_cost (length text.now) result) from }
     ensures counts { TakesExactly steps.old steps.new (looked_at (length text.now) from result) }
 {
     let bytes = uncounted(text);
@@ -128,7 +128,7 @@ pub fn run_begin(text: &Text, set: &ByteSet, from: usize, to: usize, steps: &mut
     requires from { from ≤ to }
     requires to { to ≤ length text.now }
     ensures begins { RunBegins set.now text.now from to result }
-    ensures cost { Pays steps.old steps.new to from }
+    ensures cost { CostsWithin steps.old steps.new to from }
     ensures counts { TakesExactly steps.old steps.new (min (to + 1 - result) (to - from)) }
 {
     let bytes = uncounted(text);

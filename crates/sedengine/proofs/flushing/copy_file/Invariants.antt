@@ -11,10 +11,10 @@ invariant-pieces g l = record {
   turns : l.turns ≡ l.fn.turns + l.offset;
   most : l.turns ≤ l.limits.turns;
   kept : (j : ℕ) → Keeps (g.T.Texts.text l.fn.texts j) (g.T.Texts.text l.texts j);
-  output : Delivers g.O.Sinks.tally g.O.Sinks.count l.fn.outputs l.outputs (Ok tt);
+  output : Delivers g.O.MeteredSinks.tally g.O.MeteredSinks.count l.fn.outputs l.outputs (Ok tt);
   copied : (bytes : List ℕ) → g.T.Texts.text l.fn.texts l.file ≡ Some bytes →
       (l.offset ≤ length bytes)
-      × Sent (g.O.Sinks.tally l.fn.outputs) (g.O.Sinks.tally l.outputs) (to_sink 0 (take l.offset bytes));
+      × Sent (g.O.MeteredSinks.tally l.fn.outputs) (g.O.MeteredSinks.tally l.outputs) (to_sink 0 (take l.offset bytes));
 }
 
 abbrev pub decreases-pieces : goal.decreases-pieces

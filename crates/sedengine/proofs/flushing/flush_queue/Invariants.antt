@@ -13,9 +13,9 @@ invariant-loop-index g l = record {
   later : l.fn.turns ≤ l.turns;
   most : l.turns ≤ l.limits.turns;
   kept : (j : ℕ) → Keeps (g.T.Texts.text l.fn.texts j) (g.T.Texts.text l.texts j);
-  output : Delivers g.O.Sinks.tally g.O.Sinks.count l.fn.outputs l.outputs (Ok tt);
+  output : Delivers g.O.MeteredSinks.tally g.O.MeteredSinks.count l.fn.outputs l.outputs (Ok tt);
   reached : (setting : Setting) → TellsFiles (g.T.Texts.text l.fn.texts) setting.files → (s : State) (rest : List Task) →
       s.tasks ≡ flush ∷ rest → s.queue ≡ entries_of l.script l.queue.items → s.turns ≡ l.fn.turns → WithinLimits l.limits s →
       Reached l.limits setting s (at_entries s (entries_of l.script (drop l.index l.queue.items)) (flush ∷ rest) l.turns)
-      (g.O.Sinks.tally l.fn.outputs) (g.O.Sinks.tally l.outputs);
+      (g.O.MeteredSinks.tally l.fn.outputs) (g.O.MeteredSinks.tally l.outputs);
 }

@@ -8,13 +8,13 @@ use Rattle.sedengine.proofs.listing.write_listing.Goals as goal
 pub parts-init : goal.parts-init
 parts-init g c = record {
   empty = cc;
-  written = written_none (g.O.Sinks.tally c.args.outputs.now) c.args.bytes.now c.new-gathered.result.column cc;
+  written = written_none (g.O.MeteredSinks.tally c.args.outputs.now) c.args.bytes.now c.new-gathered.result.column cc;
   devices = Delivers-none _ _ _;
 }
 
 pub returns-in_err-write_all-clause-puts : goal.returns-in_err-write_all-clause-puts
 returns-in_err-write_all-clause-puts g c =
-    let tally = g.O.Sinks.tally in
+    let tally = g.O.MeteredSinks.tally in
     let l = c.parts in
     let part = c.split_at.result.0.now in
     let after = c.split_at.result.1.now in
@@ -27,7 +27,7 @@ returns-in_err-write_all-clause-puts g c =
 
 pub parts-preserved : goal.parts-preserved
 parts-preserved g c =
-    let tally = g.O.Sinks.tally in
+    let tally = g.O.MeteredSinks.tally in
     let l = c.parts in
     let part = c.split_at.result.0.now in
     let after = c.split_at.result.1.now in
@@ -44,7 +44,7 @@ parts-preserved g c =
 
 pub returns-clause-puts : goal.returns-clause-puts
 returns-clause-puts g c =
-    let tally = g.O.Sinks.tally in
+    let tally = g.O.MeteredSinks.tally in
     let l = c.parts in
     let out = rw (c.bytes-2.ensures, c.finish.ensures) at c.write_all-2.ensures.puts in
     written_end (tally c.args.outputs.now) (tally l.outputs) (tally c.write_all-2.new.self) c.args.bytes.now

@@ -6,8 +6,8 @@ use Rattle.sedengine.proofs.listing.write_listing.Given as goal
 abbrev pub invariant-parts : goal.invariant-parts
 invariant-parts g l = record {
   empty : l.gathered.bytes ≡ [];
-  written : WrittenInPart (g.O.Sinks.tally l.fn.outputs) (g.O.Sinks.tally l.outputs) l.bytes l.rest l.gathered.column;
-  devices : Delivers g.O.Sinks.tally g.O.Sinks.count l.fn.outputs l.outputs (Ok tt);
+  written : WrittenInPart (g.O.MeteredSinks.tally l.fn.outputs) (g.O.MeteredSinks.tally l.outputs) l.bytes l.rest l.gathered.column;
+  devices : Delivers g.O.MeteredSinks.tally g.O.MeteredSinks.count l.fn.outputs l.outputs (Ok tt);
 }
 
 abbrev pub decreases-parts : goal.decreases-parts

@@ -1,6 +1,6 @@
 use Rattle.std.proofs.Common.{◌∙◌, [], ◌∷◌, sym, subst}
 use Rattle.sedscript.specs.Pieces.{pieces_in}
-use Rattle.sedscript.specs.declared.substitution.Part.{Part}
+use Rattle.sedscript.specs.declared.substitution.ReplacementPart.{ReplacementPart}
 use Rattle.sedengine.specs.Substitute.{put_for}
 use Rattle.sedengine.specs.SubstituteParts.{Appends, with_groups}
 use Rattle.sedengine.proofs.Due.{appended}
@@ -14,5 +14,5 @@ returns-in-Literal c =
     let m = with_groups c.args.span c.args.groups.now in
     let put = c.deref.ensures.value ∙ put_bytes c.args.text.now m c.in-Literal.bytes.items in
     let a = c.append.ensures in
-    subst (λ (p : Part). Appends old new (put_for c.args.text.now m (pieces_in (p ∷ []))) c.append.result)
+    subst (λ (p : ReplacementPart). Appends old new (put_for c.args.text.now m (pieces_in (p ∷ []))) c.append.result)
     (sym c.in-Literal.is) (appended old new _ c.deref.result.now c.append.result put a.ok a.full a.err)

@@ -2,7 +2,7 @@ use Rattle.std.proofs.Common.{◌≡◌, ◌∙◌, ◌+◌, ◌-◌, ◌*◌, �
 use Rattle.std.specs.Option.{unwrap_or}
 use Rattle.sedre.specs.Tree.{expression_tree}
 use Rattle.sedre.specs.Steps.{TakesAtLeast}
-use Rattle.sedtext.specs.Costs.{Pays}
+use Rattle.sedtext.specs.Costs.{CostsWithin}
 use Rattle.sedtext.specs.Following.{LiesOn, bytes_passed}
 use Rattle.sedpass.proofs.OccurrenceLemmas.{lies_behind}
 use Rattle.sedmatch.specs.Direct.{end_or, rate}
@@ -62,9 +62,9 @@ returns-clause-cost c = λ e is.
     let at = c.unwrap_or-at.result in
     let r = rate c.args.form.now in
     let some = some_of c.args.last c.is_none.result at c.is_none.ensures c.if-is_none.false c.unwrap_or-at.ensures in
-    let one : Pays c.args.steps.now c.direct_span-first.new.steps (r * (at + 1)) (r * at) =
-    subst (λ f. Pays c.args.steps.now c.direct_span-first.new.steps (r * (end_or n f + 1)) (r * at)) (c.is_null_at.ensures.null c.if-not-is_null_at.false) c.direct_span-first.ensures.cost in
-    subst (λ l. Pays c.args.steps.now c.past_null.new.steps (owed_direct m n l) (owed_direct_after m n c.past_null.result)) (sym some)
+    let one : CostsWithin c.args.steps.now c.direct_span-first.new.steps (r * (at + 1)) (r * at) =
+    subst (λ f. CostsWithin c.args.steps.now c.direct_span-first.new.steps (r * (end_or n f + 1)) (r * at)) (c.is_null_at.ensures.null c.if-not-is_null_at.false) c.direct_span-first.ensures.cost in
+    subst (λ l. CostsWithin c.args.steps.now c.past_null.new.steps (owed_direct m n l) (owed_direct_after m n c.past_null.result)) (sym some)
     (looks_paid m n r c.args.steps.now c.direct_span-first.new.steps c.past_null.new.steps at c.past_null.result is.2 (within_at n c.args.last at c.unwrap_or-at.ensures c.requires.last) one c.past_null.ensures.cost c.past_null.ensures.lies)
 
 pub returns-clause-counts : goal.returns-clause-counts

@@ -1,6 +1,6 @@
 use Rattle.std.proofs.Common.{◌+◌, ◌-◌, ◌*◌, ◌≤◌, [], ◌∷◌, length, reverse, vec_capacity}
 use Rattle.sedre.specs.Steps.{TakesAtLeast}
-use Rattle.sedtext.specs.Costs.{Pays}
+use Rattle.sedtext.specs.Costs.{CostsWithin}
 use Rattle.sedpass.specs.Kept.{SameSpace}
 use Rattle.sedpass.specs.Decide.{nodes_in, text_in, told_of, undecided, found, IsTold, HasDesk, part_cost, tasks_cost, SameTables}
 use Rattle.sedpass.specs.Turns.{AreReady, AreShort, Progress, weights}
@@ -20,7 +20,7 @@ invariant-all l = record {
   progress : Progress (nodes_in l.subject) (text_in l.subject) (Apart l.subject.prepared.now.root l.fn.start l.fn.stop ∷ []) (told_of l.fn.due (undecided l.fn.start l.fn.stop))
       (reverse l.room.tasks.items) (told_of l.told.due l.told.spans) l.initial.steps l.steps;
   short : AreShort (l.fn.stop - l.fn.start) (reverse l.room.tasks.items);
-  cost : Pays l.initial.steps l.steps (part_cost (length (nodes_in l.subject)) (l.fn.stop - l.fn.start) * (length (nodes_in l.subject) - 1) + 2 * length (nodes_in l.subject))
+  cost : CostsWithin l.initial.steps l.steps (part_cost (length (nodes_in l.subject)) (l.fn.stop - l.fn.start) * (length (nodes_in l.subject) - 1) + 2 * length (nodes_in l.subject))
       (tasks_cost (nodes_in l.subject) (l.fn.stop - l.fn.start) (reverse l.room.tasks.items));
 }
 

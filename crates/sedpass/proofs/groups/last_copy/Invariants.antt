@@ -1,7 +1,7 @@
 use Rattle.std.proofs.Common.{◌≡◌, ◌⊎◌, ◌+◌, ◌-◌, ◌*◌, ◌<◌, ◌≤◌, ℕ, length}
 use Rattle.sedtext.specs.Caps.{LastCopy}
 use Rattle.sedre.specs.Steps.{TakesAtLeast}
-use Rattle.sedtext.specs.Costs.{Pays}
+use Rattle.sedtext.specs.Costs.{CostsWithin}
 use Rattle.sedtext.specs.Reach.{At}
 use Rattle.sedtext.specs.Spans.{CopiesLead}
 use Rattle.sedpass.specs.Kept.{SameSpace}
@@ -18,7 +18,7 @@ invariant-copies l = record {
   rest : CopiesLead (At (nodes_in l.subject) (text_in l.subject) l.part) l.here.stop l.end;
   walk : (c : ℕ) → ((l.end < l.here.stop) × LastCopy (At (nodes_in l.subject) (text_in l.subject) l.part) l.here.stop l.end c) ⊎ ((l.end ≡ l.here.stop) × (c ≡ l.copy)) →
       LastCopy (At (nodes_in l.subject) (text_in l.subject) l.part) l.here.stop l.here.start c;
-  cost : Pays l.initial.steps l.steps (owed_in l.subject l.initial.kept.region l.here.start + 72 * length (nodes_in l.subject) * (l.here.stop - l.here.start))
+  cost : CostsWithin l.initial.steps l.steps (owed_in l.subject l.initial.kept.region l.here.start + 72 * length (nodes_in l.subject) * (l.here.stop - l.here.start))
       (owed_in l.subject l.kept.region l.end + 72 * length (nodes_in l.subject) * (l.here.stop - l.end));
   low : l.here.start ≤ l.end;
   counts : TakesAtLeast l.initial.steps l.steps (l.end - l.here.start);

@@ -3,7 +3,7 @@ use Rattle.sedpass.proofs.DecideLemmas.{stops_at, desk_still}
 use Rattle.sedpass.proofs.groups.meeting_end.Goals as goal
 
 pub returns-clause-stops : goal.returns-clause-stops
-returns-clause-stops c = stops_at _ _ _ _ _ _ _ c.args.tables.now.inside.way.sweeps c.requires.desk.one_end c.cut.ensures.ceases
+returns-clause-stops c = stops_at _ _ _ _ _ _ _ c.args.tables.now.inside.way.all_starts c.requires.desk.one_end c.cut.ensures.ceases
 
 pub returns-clause-desk : goal.returns-clause-desk
 returns-clause-desk c =

@@ -10,7 +10,7 @@ seek-requires-clause-x c = slice_get_within (nodes_in c.args.subject) c.args.lea
 
 pub returns-clause-runs : goal.returns-clause-runs
 returns-clause-runs c =
-    runs_to _ _ _ _ _ _ _ c.args.tables.now.inside.way.sweeps c.requires.desk.one_end c.requires.arena c.requires.leaf c.seek.ensures.after c.seek.ensures.passed c.seek.ensures.found
+    runs_to _ _ _ _ _ _ _ c.args.tables.now.inside.way.all_starts c.requires.desk.one_end c.requires.arena c.requires.leaf c.seek.ensures.after c.seek.ensures.passed c.seek.ensures.found
 
 pub returns-clause-desk : goal.returns-clause-desk
 returns-clause-desk c =

@@ -12,7 +12,7 @@ pub begin-requires-clause-root : goal.begin-requires-clause-root
 begin-requires-clause-root c = may_begin c.args.subject c.args.tables.now c.args.here.node c.requires.desk.one_end c.requires.ready.0
 
 pub begin-requires-clause-whole : goal.begin-requires-clause-whole
-begin-requires-clause-whole c = λ sweeps. absurd (true≢false (sym sweeps ∙ c.requires.desk.one_end))
+begin-requires-clause-whole c = λ all_starts. absurd (true≢false (sym all_starts ∙ c.requires.desk.one_end))
 
 pub nodes-init : goal.nodes-init
 nodes-init c =

@@ -18,7 +18,7 @@ begin-requires-clause-root c =
     may_begin c.args.subject c.last_copy-copy.new.tables c.index-part.result c.last_copy-copy.ensures.desk.one_end (star_parts _ _ _ _ _ _ _ _ c.requires.here c.index-part.ensures).0
 
 pub begin-requires-clause-whole : goal.begin-requires-clause-whole
-begin-requires-clause-whole c = λ sweeps. absurd (true≢false (sym sweeps ∙ c.last_copy-copy.ensures.desk.one_end))
+begin-requires-clause-whole c = λ all_starts. absurd (true≢false (sym all_starts ∙ c.last_copy-copy.ensures.desk.one_end))
 
 pub begin-requires-clause-end : goal.begin-requires-clause-end
 begin-requires-clause-end c = c.requires.here.fits

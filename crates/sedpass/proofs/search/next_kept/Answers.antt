@@ -9,8 +9,8 @@ returns-then-not-begins_there-clause-next c =
     let k = c.args.kept.now in
     let region = c.requires.kept.region in
     let within = c.seek-start.ensures.within in
-    let none = kept_none c.args.subject.prepared.now c.args.subject.text.now c.args.back.now.way.sweeps k.region.root k.region.end c.args.from c.seek-start.result c.begins_there.result
-    region.table.expr.arena c.requires.sweeps (region.root.1 c.requires.sweeps) (omega (arith, within, region.inside)) c.seek-start.ensures.passed c.begins_there.ensures.inside c.begins_there.ensures.null (cc) in
+    let none = kept_none c.args.subject.prepared.now c.args.subject.text.now c.args.back.now.way.all_starts k.region.root k.region.end c.args.from c.seek-start.result c.begins_there.result
+    region.table.expr.arena c.requires.all_starts (region.root.1 c.requires.all_starts) (omega (arith, within, region.inside)) c.seek-start.ensures.passed c.begins_there.ensures.inside c.begins_there.ensures.null (cc) in
     record { kept = c.seek-start.ensures.kept; answer = (tt, none, tt); counts = tt }
 
 pub returns-clause-next : goal.returns-clause-next
@@ -21,16 +21,16 @@ returns-clause-next c =
     let region = c.requires.kept.region in
     let within = c.seek-start.ensures.within in
     let low : c.seek-start.result ≤ length w = omega (arith, within, region.inside) in
-    let root = region.root.1 c.requires.sweeps in
-    let begins = begins_some p w c.args.back.now.way.sweeps k.region.root k.region.end c.seek-start.result c.begins_there.result region.table.expr.arena c.requires.sweeps root (region.whole c.requires.sweeps) low
+    let root = region.root.1 c.requires.all_starts in
+    let begins = begins_some p w c.args.back.now.way.all_starts k.region.root k.region.end c.seek-start.result c.begins_there.result region.table.expr.arena c.requires.all_starts root (region.whole c.requires.all_starts) low
     c.seek-start.ensures.found c.begins_there.ensures.null (cc) in
     let on = c.cut-end.ensures.ceases.0 in
     let stop = c.cut-end.ensures.within in
     let seek = c.seek-start.ensures.cost in
     let null = c.begins_there.ensures.cost in
     let before = c.seek-start.ensures.shape in
-    let found = kept_found p w c.args.back.now.way.sweeps k.region.root k.region.end c.seek-start.new.table.way.sweeps c.seek-start.new.self.region.root c.seek-start.new.self.region.end c.args.from c.seek-start.result c.cut-end.result
-    region.table.expr.arena c.requires.sweeps root (ap (λ v. v.sweeps) before.0 ∙ c.requires.sweeps) (c.seek-start.ensures.same.root ∙ root) c.seek-start.ensures.after low c.seek-start.ensures.passed begins c.cut-end.ensures.ceases in
+    let found = kept_found p w c.args.back.now.way.all_starts k.region.root k.region.end c.seek-start.new.table.way.all_starts c.seek-start.new.self.region.root c.seek-start.new.self.region.end c.args.from c.seek-start.result c.cut-end.result
+    region.table.expr.arena c.requires.all_starts root (ap (λ v. v.all_starts) before.0 ∙ c.requires.all_starts) (c.seek-start.ensures.same.root ∙ root) c.seek-start.ensures.after low c.seek-start.ensures.passed begins c.cut-end.ensures.ceases in
     record {
       kept = c.cut-end.ensures.kept;
       answer = (found, tt, (on, omega (arith, stop, c.seek-start.ensures.same.end, region.inside)));
@@ -48,7 +48,7 @@ returns-clause-tables c =
       ahead = record {
         table = c.cut-end.ensures.ahead;
         forwards = ap (λ v. v.mirrored) ahead.0 ∙ old.forwards;
-        single = ap (λ v. v.sweeps) ahead.0 ∙ old.single;
+        single = ap (λ v. v.all_starts) ahead.0 ∙ old.single;
         brief = ap (λ v. v.keeps) ahead.0 ∙ old.brief;
       };
       ahead_shape = ahead;

@@ -1,8 +1,8 @@
 use Rattle.std.proofs.Common.{◌≡◌, ◌≢◌, ◌<◌, ◌+◌, length, arith, ap, subst, ◌∙◌, sym, inl, []}
-use Rattle.sedre.specs.declared.syntax.Here.TheVariants.{Is}
+use Rattle.sedre.specs.declared.syntax.NextItem.TheVariants.{Is}
 use Rattle.sedre.specs.declared.syntax.Item.{Item}
 use Rattle.sedre.specs.declared.syntax.Item.TheVariants.{Close}
-use Rattle.sedre.specs.declared.syntax.Here.{Here}
+use Rattle.sedre.specs.declared.syntax.NextItem.{NextItem}
 use Rattle.sedre.specs.Items.{item_at}
 use Rattle.sedre.specs.Finished.{IsAfter}
 use Rattle.sedre.specs.Sizes.{size}
@@ -43,7 +43,7 @@ items-preserved c =
     let closes : c.in-Is.item ≡ Close → s.below ≢ [] = λ e none. omega (arith, c.if-is_stray.ensures.fine e, represents_count (c.args.max_nodes + 1) c.items.builder s c.items.invariant.state.1, ap length none) in
     let f : item_at c.args.kind c.args.folded c.args.delimiter c.args.text.now c.items.before c.items.at ≡ Is c.in-Is.item c.in-Is.next = sym c.item_at.ensures.item ∙ c.in-Is.is in
     let can = can_take c.args.kind c.args.folded c.args.delimiter c.args.text.now c.in-Is.item c.items.invariant.state.2 f closes in
-    let after : IsAfter c.items.at (length c.args.text.now) (Is c.in-Is.item c.in-Is.next) = subst (λ (h : Here). IsAfter c.items.at (length c.args.text.now) h) c.in-Is.is c.item_at.ensures.after in
+    let after : IsAfter c.items.at (length c.args.text.now) (Is c.in-Is.item c.in-Is.next) = subst (λ (h : NextItem). IsAfter c.items.at (length c.args.text.now) h) c.in-Is.is c.item_at.ensures.after in
     record {
       within = after.1;
       few = omega (arith, after.0, on_ok c.take.result c.if-is_err.ensures.negation c.take.ensures.opened);

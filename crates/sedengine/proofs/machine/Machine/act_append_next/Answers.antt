@@ -14,17 +14,17 @@ pub returns-clause-acts : goal.returns-clause-acts
 returns-clause-acts g c = λ sound ls known files told.
     let e = c.args.self.now in
     performs_then g.R.ByteSource.remaining c.args.lines.now c.join.new.lines ls e.limits (run_setting e files) (acts (run_setting e files) (at_lines e ls) true (Plain AppendNext)) false (at_lines e ls) (then_do (flush ∷ join ∷ e.state.tasks) (at_lines e ls)) c.join.new.self
-    (g.O.Sinks.tally c.args.outputs.now) (g.O.Sinks.tally c.flush.new.outputs) c.join.result refl refl refl
+    (g.O.MeteredSinks.tally c.args.outputs.now) (g.O.MeteredSinks.tally c.flush.new.outputs) c.join.result refl refl refl
     (flushed_steps g.R.ByteSource.remaining c.args.lines.now c.join.new.lines ls files (λ ts. join ∷ ts) (then_do (flush ∷ join ∷ e.state.tasks) (at_lines e ls)) e c.flush.new.self c.join.new.self
-    c.flush.new.self.state.turns (g.O.Sinks.tally c.args.outputs.now) (g.O.Sinks.tally c.flush.new.outputs) (g.O.Sinks.tally c.flush.new.outputs) c.join.result c.in_ok-flush.ensures.ok refl refl
-    (c.in_ok-flush.ensures.moves files told ls (join ∷ e.state.tasks)) (c.join.ensures.steps sound ls known files (g.O.Sinks.tally c.flush.new.outputs)))
+    c.flush.new.self.state.turns (g.O.MeteredSinks.tally c.args.outputs.now) (g.O.MeteredSinks.tally c.flush.new.outputs) (g.O.MeteredSinks.tally c.flush.new.outputs) c.join.result c.in_ok-flush.ensures.ok refl refl
+    (c.in_ok-flush.ensures.moves files told ls (join ∷ e.state.tasks)) (c.join.ensures.steps sound ls known files (g.O.MeteredSinks.tally c.flush.new.outputs)))
 
 pub returns-in_err-flush-clause-acts : goal.returns-in_err-flush-clause-acts
 returns-in_err-flush-clause-acts g c = λ sound ls known files told.
     let e = c.args.self.now in
     let p = err_from_is_err_and c.from_residual.result c.from_residual.ensures.1 in
     rw (p.1, p.2) (performs_then g.R.ByteSource.remaining c.args.lines.now c.args.lines.now ls e.limits (run_setting e files) (acts (run_setting e files) (at_lines e ls) true (Plain AppendNext)) false (at_lines e ls) (then_do (flush ∷ join ∷ e.state.tasks) (at_lines e ls)) c.flush.new.self
-    (g.O.Sinks.tally c.args.outputs.now) (g.O.Sinks.tally c.flush.new.outputs) (Err c.in_err-flush.field-0.0) refl refl refl
+    (g.O.MeteredSinks.tally c.args.outputs.now) (g.O.MeteredSinks.tally c.flush.new.outputs) (Err c.in_err-flush.field-0.0) refl refl refl
     (looked_moves g.R.ByteSource.remaining c.args.lines.now c.args.lines.now ls e.limits (run_setting e files) (then_do (flush ∷ join ∷ e.state.tasks) (at_lines e ls)) c.flush.new.self _ _ (Err c.in_err-flush.field-0.0)
     (lines_same g.R.ByteSource.remaining c.args.lines.now ls known) refl
     (stopped_anyway _ _ _ c.flush.new.self ls (join ∷ e.state.tasks) _ _ c.in_err-flush.field-0.0 (c.in_err-flush.ensures.moves files told ls (join ∷ e.state.tasks)))))

@@ -4,7 +4,7 @@ use Rattle.sedscript.specs.declared.types.Simple.TheVariants.{Delete}
 use Rattle.sedspace.specs.Spaces.{Contents}
 use Rattle.sedengine.specs.Run.{run_setting, at_lines}
 use Rattle.sedengine.specs.Move.{acts}
-use Rattle.sedengine.specs.declared.place.Place.TheVariants as p
+use Rattle.sedengine.specs.declared.next_step.NextStep.TheVariants as p
 use Rattle.sedengine.proofs.Sending.{Sent-none}
 use Rattle.sedengine.proofs.Deleting.{delete_is, deletes}
 use Rattle.sedengine.proofs.machine.Machine.act_delete.Goals as goal
@@ -12,6 +12,6 @@ use Rattle.sedengine.proofs.machine.Machine.act_delete.Goals as goal
 pub returns-clause-acts : goal.returns-clause-acts
 returns-clause-acts g c = λ files told ls.
     let e = c.args.self.now in
-    let old = g.O.Sinks.tally c.args.outputs.now in
-    deletes c.self.inside e c.end_cycle.new.self files ls (acts (run_setting e files) (at_lines e ls) true (Plain Delete)) p.Begin c.clear.new.self old old (g.O.Sinks.tally c.end_cycle.new.outputs) [] c.end_cycle.result c.self.view_is
+    let old = g.O.MeteredSinks.tally c.args.outputs.now in
+    deletes c.self.inside e c.end_cycle.new.self files ls (acts (run_setting e files) (at_lines e ls) true (Plain Delete)) p.Begin c.clear.new.self old old (g.O.MeteredSinks.tally c.end_cycle.new.outputs) [] c.end_cycle.result c.self.view_is
     (delete_is e files ls c.clear.new.self (ap (λ (c : Contents). c.bytes) c.clear.ensures)) (Sent-none old) (c.end_cycle.ensures.moves files told ls)

@@ -3,7 +3,7 @@ use Rattle.sedscript.specs.declared.types.Action.TheVariants.{Plain}
 use Rattle.sedscript.specs.declared.types.Simple.TheVariants.{DeleteFirst}
 use Rattle.sedengine.specs.Run.{run_setting, at_lines}
 use Rattle.sedengine.specs.Move.{acts}
-use Rattle.sedengine.specs.declared.place.Place.TheVariants as p
+use Rattle.sedengine.specs.declared.next_step.NextStep.TheVariants as p
 use Rattle.sedengine.proofs.Sending.{Sent-none}
 use Rattle.sedengine.proofs.Deleting.{cut_seen, deletes, uncut_performs}
 use Rattle.sedengine.proofs.machine.Machine.act_delete_first.Goals as goal
@@ -11,9 +11,9 @@ use Rattle.sedengine.proofs.machine.Machine.act_delete_first.Goals as goal
 pub returns-then-cut_line-clause-acts : goal.returns-then-cut_line-clause-acts
 returns-then-cut_line-clause-acts g c = λ files told ls.
     let e = c.args.self.now in
-    let old = g.O.Sinks.tally c.args.outputs.now in
+    let old = g.O.MeteredSinks.tally c.args.outputs.now in
     let cut = c.cut_line.ensures.cut c.if-cut_line.true in
-    deletes c.self.inside e c.end_cycle.new.self files ls (acts (run_setting e files) (at_lines e ls) true (Plain DeleteFirst)) p.Rebegin c.cut_line.new.self old old (g.O.Sinks.tally c.end_cycle.new.outputs) [] c.end_cycle.result c.self.view_is
+    deletes c.self.inside e c.end_cycle.new.self files ls (acts (run_setting e files) (at_lines e ls) true (Plain DeleteFirst)) p.Rebegin c.cut_line.new.self old old (g.O.MeteredSinks.tally c.end_cycle.new.outputs) [] c.end_cycle.result c.self.view_is
     (cut_seen c.self.inside e files ls c.cut_line.new.self c.self.view_is cut.0 cut.1) (Sent-none old) (c.end_cycle.ensures.moves files told ls)
 
 pub returns-else-cut_line-clause-acts : goal.returns-else-cut_line-clause-acts

@@ -6,5 +6,5 @@ use Rattle.sedengine.proofs.machine.Machine.act_write.Goals as goal
 pub returns-clause-puts : goal.returns-clause-puts
 returns-clause-puts g c =
     puts_seen c.self.inside c.args.self.now (λ (e : RunState). line_to c.args.sink e.state.pattern)
-    (g.O.Sinks.tally c.args.outputs.now) (g.O.Sinks.tally c.write_all.new.self)
+    (g.O.MeteredSinks.tally c.args.outputs.now) (g.O.MeteredSinks.tally c.write_all.new.self)
     c.write_all.result c.self.view_is (rw c.line.ensures.value at c.write_all.ensures.puts)

@@ -11,17 +11,17 @@ use Rattle.sedengine.proofs.machine.Machine.end_cycle.Goals as goal
 pub returns-clause-moves : goal.returns-clause-moves
 returns-clause-moves g c = λ files told ls.
     let e = c.args.self.now in
-    let s : State = then_do (flush ∷ tasks_of c.args.place) (at_lines e ls) in
-    let Q : RunState → Type 0 = λ e'. Ran e.limits (run_setting e files) s (then_do (tasks_of c.args.place) (at_lines e' ls)) (g.O.Sinks.tally c.args.outputs.now) (g.O.Sinks.tally c.flush.new.outputs) in
-    subst Q (sym c.self.view_is) (c.in_ok-flush.ensures.moves files told ls (tasks_of c.args.place))
+    let s : State = then_do (flush ∷ tasks_of c.args.next_step) (at_lines e ls) in
+    let Q : RunState → Type 0 = λ e'. Ran e.limits (run_setting e files) s (then_do (tasks_of c.args.next_step) (at_lines e' ls)) (g.O.MeteredSinks.tally c.args.outputs.now) (g.O.MeteredSinks.tally c.flush.new.outputs) in
+    subst Q (sym c.self.view_is) (c.in_ok-flush.ensures.moves files told ls (tasks_of c.args.next_step))
 
 pub returns-in_err-flush-clause-moves : goal.returns-in_err-flush-clause-moves
 returns-in_err-flush-clause-moves g c = λ files told ls.
     let p = err_from_is_err_and c.from_residual.result c.from_residual.ensures.1 in
-    rw (p.1, p.2) (stopped_anyway _ _ _ c.flush.new.self ls (tasks_of c.args.place) _ _ c.in_err-flush.field-0.0 (c.in_err-flush.ensures.moves files told ls (tasks_of c.args.place)))
+    rw (p.1, p.2) (stopped_anyway _ _ _ c.flush.new.self ls (tasks_of c.args.next_step) _ _ c.in_err-flush.field-0.0 (c.in_err-flush.ensures.moves files told ls (tasks_of c.args.next_step)))
 
 pub returns-clause-falls : goal.returns-clause-falls
 returns-clause-falls g c =
     let e = c.args.self.now in
     let L : RunState → Type 0 = λ e'. e.state.turns ≤ e'.state.turns in
-    weight_ended e (run_of (record c.self.inside { place = c.args.place })) c.args.place (ap (λ (e : RunState). e.limits) (c.self.view_is ∙ c.in_ok-flush.ensures.ok)) (subst L (sym c.self.view_is) c.in_ok-flush.ensures.later) refl
+    weight_ended e (run_of (record c.self.inside { next_step = c.args.next_step })) c.args.next_step (ap (λ (e : RunState). e.limits) (c.self.view_is ∙ c.in_ok-flush.ensures.ok)) (subst L (sym c.self.view_is) c.in_ok-flush.ensures.later) refl

@@ -10,7 +10,7 @@ pub returns-clause-moves : goal.returns-clause-moves
 returns-clause-moves g c = λ files told ls rest.
     let w = c.flush_queue.new in
     flush_moves c.self.inside c.args.self.now (run_of (record c.self.inside { build = w.build; turns = w.turns; queue = c.clear.new.self })) (run_setting c.args.self.now files) ls rest w.turns
-    (g.O.Sinks.tally c.args.outputs.now) (g.O.Sinks.tally w.outputs) (Ok tt) c.self.view_is c.self.invariant (c.in_ok-flush_queue.ensures.flushes (run_setting c.args.self.now files) told)
+    (g.O.MeteredSinks.tally c.args.outputs.now) (g.O.MeteredSinks.tally w.outputs) (Ok tt) c.self.view_is c.self.invariant (c.in_ok-flush_queue.ensures.flushes (run_setting c.args.self.now files) told)
     (rw c.clear.ensures (ap (λ (e : RunState). flushed e w.turns) c.self.view_is)) (tt {0})
 
 pub returns-in_err-flush_queue-clause-moves : goal.returns-in_err-flush_queue-clause-moves
@@ -18,5 +18,5 @@ returns-in_err-flush_queue-clause-moves g c = λ files told ls rest.
     let w = c.flush_queue.new in
     let p = err_from_is_err_and c.from_residual.result c.from_residual.ensures.1 in
     rw (p.1, p.2) (flush_moves c.self.inside c.args.self.now (run_of (record c.self.inside { build = w.build; turns = w.turns })) (run_setting c.args.self.now files) ls rest w.turns
-    (g.O.Sinks.tally c.args.outputs.now) (g.O.Sinks.tally w.outputs) (Err c.in_err-flush_queue.field-0.0) c.self.view_is c.self.invariant (c.in_err-flush_queue.ensures.flushes (run_setting c.args.self.now files) told)
+    (g.O.MeteredSinks.tally c.args.outputs.now) (g.O.MeteredSinks.tally w.outputs) (Err c.in_err-flush_queue.field-0.0) c.self.view_is c.self.invariant (c.in_err-flush_queue.ensures.flushes (run_setting c.args.self.now files) told)
     (tt {0}) (ap (λ (e : RunState). with_turns e w.turns) c.self.view_is))

@@ -12,8 +12,8 @@ pub returns-clause-steps : goal.returns-clause-steps
 returns-clause-steps g c = λ sound ls known files told.
     let e = c.args.self.now in
     flushed_steps g.R.ByteSource.remaining c.args.lines.now c.fetch.new.lines ls files (λ ts. empty_pattern ∷ fetch ∷ ts) (then_do (print_pattern ∷ flush ∷ empty_pattern ∷ fetch ∷ e.state.tasks) (at_lines e ls)) e c.print_and_flush.new.self c.fetch.new.self
-    c.print_and_flush.new.self.state.turns (g.O.Sinks.tally c.args.outputs.now) (g.O.Sinks.tally c.print_and_flush.new.outputs) (g.O.Sinks.tally c.print_and_flush.new.outputs) c.fetch.result c.in_ok-print_and_flush.ensures.ok refl refl
-    (c.in_ok-print_and_flush.ensures.moves files told ls (empty_pattern ∷ fetch ∷ e.state.tasks)) (c.fetch.ensures.steps sound ls known files (g.O.Sinks.tally c.print_and_flush.new.outputs))
+    c.print_and_flush.new.self.state.turns (g.O.MeteredSinks.tally c.args.outputs.now) (g.O.MeteredSinks.tally c.print_and_flush.new.outputs) (g.O.MeteredSinks.tally c.print_and_flush.new.outputs) c.fetch.result c.in_ok-print_and_flush.ensures.ok refl refl
+    (c.in_ok-print_and_flush.ensures.moves files told ls (empty_pattern ∷ fetch ∷ e.state.tasks)) (c.fetch.ensures.steps sound ls known files (g.O.MeteredSinks.tally c.print_and_flush.new.outputs))
 
 pub returns-in_err-print_and_flush-clause-steps : goal.returns-in_err-print_and_flush-clause-steps
 returns-in_err-print_and_flush-clause-steps g c = λ sound ls known files told.

@@ -5,15 +5,15 @@ use Rattle.sedengine.proofs.machine.Machine.print_and_flush.Goals as goal
 
 pub returns-clause-moves : goal.returns-clause-moves
 returns-clause-moves g c = λ files told ls rest.
-    let old = g.O.Sinks.tally c.args.outputs.now in
-    let mid = g.O.Sinks.tally c.print_by_default.new.outputs in
-    print_moves c.args.self.now c.flush.new.self files ls rest old mid (g.O.Sinks.tally c.flush.new.outputs) c.flush.result (fits_seen c.self.inside c.args.self.now ls c.self.view_is c.self.invariant)
+    let old = g.O.MeteredSinks.tally c.args.outputs.now in
+    let mid = g.O.MeteredSinks.tally c.print_by_default.new.outputs in
+    print_moves c.args.self.now c.flush.new.self files ls rest old mid (g.O.MeteredSinks.tally c.flush.new.outputs) c.flush.result (fits_seen c.self.inside c.args.self.now ls c.self.view_is c.self.invariant)
     (printed_by c.self.inside c.args.self.now old mid (Ok tt) c.self.view_is c.in_ok-print_by_default.ensures.puts) (c.flush.ensures.moves files told ls rest)
 
 pub returns-in_err-print_by_default-clause-moves : goal.returns-in_err-print_by_default-clause-moves
 returns-in_err-print_by_default-clause-moves g c = λ files told ls rest.
-    let old = g.O.Sinks.tally c.args.outputs.now in
-    let new = g.O.Sinks.tally c.print_by_default.new.outputs in
+    let old = g.O.MeteredSinks.tally c.args.outputs.now in
+    let new = g.O.MeteredSinks.tally c.print_by_default.new.outputs in
     let p = err_from_is_err_and c.from_residual.result c.from_residual.ensures.1 in
     rw (p.1, p.2) (print_stops c.args.self.now files ls rest old new c.in_err-print_by_default.field-0.0 (fits_seen c.self.inside c.args.self.now ls c.self.view_is c.self.invariant)
     (printed_by c.self.inside c.args.self.now old new (Err c.in_err-print_by_default.field-0.0) c.self.view_is c.in_err-print_by_default.ensures.puts))

@@ -11,7 +11,7 @@ pub returns-clause-moves : goal.returns-clause-moves
 returns-clause-moves g c = λ files told ls.
     let e = c.args.self.now in
     let s : State = then_do (print_pattern ∷ flush ∷ []) (at_lines e ls) in
-    let Q : RunState → Type 0 = λ e'. Ran e.limits (run_setting e files) s (then_do [] (at_lines e' ls)) (g.O.Sinks.tally c.args.outputs.now) (g.O.Sinks.tally c.print_and_flush.new.outputs) in
+    let Q : RunState → Type 0 = λ e'. Ran e.limits (run_setting e files) s (then_do [] (at_lines e' ls)) (g.O.MeteredSinks.tally c.args.outputs.now) (g.O.MeteredSinks.tally c.print_and_flush.new.outputs) in
     quits e e (run_setting e files) ls _ _ _ (Ok tt) c.requires.at (subst Q (sym c.self.view_is) (c.in_ok-print_and_flush.ensures.moves files told ls []))
 
 pub returns-in_err-print_and_flush-clause-moves : goal.returns-in_err-print_and_flush-clause-moves

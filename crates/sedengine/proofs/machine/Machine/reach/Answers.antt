@@ -30,7 +30,7 @@ returns-in_err-choice-clause-steps g c = λ sound ls known files told.
     let p = err_from_is_err_and c.from_residual.result c.from_residual.ensures.1 in
     rw (p.1, p.2) (reach_stopping g.R.ByteSource.remaining c.args.lines.now c.judge.new.lines c.self.inside c.args.self.now c.self.view_is c.self.invariant files ls c.args.k c.command.result.now
     c.requires.at c.command.ensures.is (λ e. c.if-self-turns.false (e ∙ sym c.turns.ensures)) (c.in_err-choice.ensures.left ls known)
-    (g.O.Sinks.tally c.args.outputs.now) c.judge.new.self.state.used c.in_err-choice.field-0.0 c.judge.new.self c.in_err-choice.ensures.reaches (c.in_err-choice.ensures.judges sound ls known))
+    (g.O.MeteredSinks.tally c.args.outputs.now) c.judge.new.self.state.used c.in_err-choice.field-0.0 c.judge.new.self c.in_err-choice.ensures.reaches (c.in_err-choice.ensures.judges sound ls known))
 
 pub returns-then-choice-clause-steps : goal.returns-then-choice-clause-steps
 returns-then-choice-clause-steps g c = λ sound ls known files told.
@@ -39,7 +39,7 @@ returns-then-choice-clause-steps g c = λ sound ls known files told.
     reach_acting g.R.ByteSource.remaining c.args.lines.now c.judge.new.lines c.self.inside c.args.self.now c.self.view_is c.self.invariant files ls c.args.k c.command.result.now
     c.requires.at c.command.ensures.is (λ e. c.if-self-turns.false (e ∙ sym c.turns.ensures)) taken
     c.in_ok-choice.choice c.judge.new.self.state.used c.judge.new.self c.act.new.self (w.judges sound ls known) w.reaches
-    c.act.new.lines _ _ _ c.tells.result c.if-choice.true c.tells.ensures (c.act.ensures.acts (w.reads.input.sound sound) ls taken.known files told)
+    c.act.new.lines _ _ _ c.writes_text.result c.if-choice.true c.writes_text.ensures (c.act.ensures.acts (w.reads.input.sound sound) ls taken.known files told)
 
 pub returns-else-choice-clause-steps : goal.returns-else-choice-clause-steps
 returns-else-choice-clause-steps g c = λ sound ls known files told.

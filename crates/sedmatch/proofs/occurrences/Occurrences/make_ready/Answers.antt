@@ -23,8 +23,8 @@ begin_text-requires-clause-table c = (ready c).0
 pub begin_text-requires-clause-room : goal.begin_text-requires-clause-room
 begin_text-requires-clause-room c = (ready c).2
 
-pub begin_text-requires-clause-sweeps : goal.begin_text-requires-clause-sweeps
-begin_text-requires-clause-sweeps c = ap (λ v. v.sweeps) (ready c).1
+pub begin_text-requires-clause-all_starts : goal.begin_text-requires-clause-all_starts
+begin_text-requires-clause-all_starts c = ap (λ v. v.all_starts) (ready c).1
 
 pub returns-clause-room : goal.returns-clause-room
 returns-clause-room c =

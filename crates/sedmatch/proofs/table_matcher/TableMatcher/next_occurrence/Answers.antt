@@ -1,7 +1,7 @@
 use Rattle.std.proofs.Common.{◌≡◌, ◌∙◌, ◌+◌, ◌-◌, ◌*◌, length, IfSome, ap, refl, subst, sym, arith}
 use Rattle.sedre.specs.Tree.{expression_tree}
 use Rattle.sedre.specs.Steps.{Takes, TakesAtLeast}
-use Rattle.sedtext.specs.Costs.{Pays}
+use Rattle.sedtext.specs.Costs.{CostsWithin}
 use Rattle.sedtext.specs.Following.{Occurs, bytes_passed}
 use Rattle.sedtext.proofs.FollowingLemmas.{if_occurs}
 use Rattle.sedmatch.specs.Passes.{IsEngine, written_of}
@@ -54,18 +54,18 @@ returns-clause-cost c =
       | in-Direct w ↦
           let is = direct_is c.self.inside.engine c.args.self.now w.in-Direct.field-0 w.in-Direct.form c.self.view_is c.self.invariant w.in-Direct.is in
           let next = w.next_direct.ensures in
-          subst (λ r. Pays s c.match-self.steps (owed m n c.args.last o) (owed_after m n r c.match-self.occurrences)) (sym w.result-is)
-          (subst (λ v. Pays s v (owed m n c.args.last o) (owed_after m n w.next_direct.result c.match-self.occurrences)) (sym w.steps-is)
-          (subst (λ v. Pays s w.next_direct.new.steps (owed m n c.args.last o) (owed_after m n w.next_direct.result v)) (sym w.occurrences-is)
+          subst (λ r. CostsWithin s c.match-self.steps (owed m n c.args.last o) (owed_after m n r c.match-self.occurrences)) (sym w.result-is)
+          (subst (λ v. CostsWithin s v (owed m n c.args.last o) (owed_after m n w.next_direct.result c.match-self.occurrences)) (sym w.steps-is)
+          (subst (λ v. CostsWithin s w.next_direct.new.steps (owed m n c.args.last o) (owed_after m n w.next_direct.result v)) (sym w.occurrences-is)
           (direct_owed m n c.args.last o w.next_direct.result s w.next_direct.new.steps c.requires.serves.fresh next.lies (next.cost c.args.self.now is))))
       | in-Passes w ↦
           let inv = subst IsEngine w.in-Passes.is c.self.invariant in
           let value = w.deref_mut.ensures.value in
           let is : w.deref_mut.result.now.sought.prepared.arena.expr ≡ c.args.self.now = ap (λ (x : Passes). x.sought.prepared.arena.expr) value ∙ sym (ap written_of w.in-Passes.is) ∙ c.self.view_is in
-          subst (λ r. Pays s c.match-self.steps (owed m n c.args.last o) (owed_after m n r c.match-self.occurrences)) (sym w.result-is)
-          (subst (λ v. Pays s v (owed m n c.args.last o) (owed_after m n w.next_by_passes.result c.match-self.occurrences)) (sym w.steps-is)
-          (subst (λ v. Pays s w.next_by_passes.new.steps (owed m n c.args.last o) (owed_after m n w.next_by_passes.result v)) (sym w.occurrences-is)
-          (subst (λ v. Pays s w.next_by_passes.new.steps (owed (length v.nodes) n c.args.last o) (owed_after (length v.nodes) n w.next_by_passes.result w.next_by_passes.new.occurrences)) is w.next_by_passes.ensures.cost)))
+          subst (λ r. CostsWithin s c.match-self.steps (owed m n c.args.last o) (owed_after m n r c.match-self.occurrences)) (sym w.result-is)
+          (subst (λ v. CostsWithin s v (owed m n c.args.last o) (owed_after m n w.next_by_passes.result c.match-self.occurrences)) (sym w.steps-is)
+          (subst (λ v. CostsWithin s w.next_by_passes.new.steps (owed m n c.args.last o) (owed_after m n w.next_by_passes.result v)) (sym w.occurrences-is)
+          (subst (λ v. CostsWithin s w.next_by_passes.new.steps (owed (length v.nodes) n c.args.last o) (owed_after (length v.nodes) n w.next_by_passes.result w.next_by_passes.new.occurrences)) is w.next_by_passes.ensures.cost)))
     ]
 
 pub returns-clause-once : goal.returns-clause-once

@@ -129,7 +129,7 @@ returns-clause-ceases c =
     let end = meet_end p w c.args.table.now c.args.self.now c.args.a c.args.from c.requires.kept in (
       last.above,
       last.meets,
-      subst (λ y. Meets p.arena.expr.nodes w c.args.self.now.region.root (ends_told c.args.table.now.way.sweeps (length w) c.args.self.now.region.end) c.args.a (one_start c.args.from) y → ⊥) at end,
+      subst (λ y. Meets p.arena.expr.nodes w c.args.self.now.region.root (ends_told c.args.table.now.way.all_starts (length w) c.args.self.now.region.end) c.args.a (one_start c.args.from) y → ⊥) at end,
     )
 
 pub returns-clause-counts : goal.returns-clause-counts

@@ -96,7 +96,7 @@ loop-place-preserved c =
     let count = c.nodes-nodes.ensures.value in
     let last = c.len-length.ensures.is in
     let front = ap (λ v. v.mirrored) old.shape.0 ∙ c.requires.forwards.0 in
-    let one = ap (λ v. v.sweeps) old.shape.0 ∙ c.requires.forwards.1 in
+    let one = ap (λ v. v.all_starts) old.shape.0 ∙ c.requires.forwards.1 in
     record {
       above = (let h = old.above in omega (arith, h));
       below = (let h = ap (λ r. r.to) old.region in omega (arith, h, before));

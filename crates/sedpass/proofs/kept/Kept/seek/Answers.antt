@@ -35,16 +35,16 @@ loop-place-preserved c =
     let at : c.seek_in-found.result ≡ c.ready-to.result = (let h = seek.within in let g = c.if-found-to.false in omega (arith, h, g, is)) in
     let shape : SameShape c.args.table.now c.ready-to.new.table = same_shape c.args.table.now c.loop-place.table c.ready-to.new.table before.shape ready.shape in
     let same : SameKept c.args.self.now c.ready-to.new.self = same_kept c.args.self.now c.loop-place.self c.ready-to.new.self before.same ready.same in
-    let more : AllMarked nodes w c.args.self.now.region.root (ends_told c.args.table.now.way.sweeps (length w) c.args.self.now.region.end) c.args.x (not c.args.marked) c.loop-place.place c.ready-to.result =
+    let more : AllMarked nodes w c.args.self.now.region.root (ends_told c.args.table.now.way.all_starts (length w) c.args.self.now.region.end) c.args.x (not c.args.marked) c.loop-place.place c.ready-to.result =
     told_as (λ r t. AllMarked nodes w r t c.args.x (not c.args.marked) c.loop-place.place c.ready-to.result) (length w) c.args.table.now c.ready-to.new.table c.args.self.now c.ready-to.new.self shape same
-    (subst (λ y. AllMarked nodes w c.ready-to.new.self.region.root (ends_told c.ready-to.new.table.way.sweeps (length w) c.ready-to.new.self.region.end) c.args.x (not c.args.marked) c.loop-place.place y) at seek.passed) in
+    (subst (λ y. AllMarked nodes w c.ready-to.new.self.region.root (ends_told c.ready-to.new.table.way.all_starts (length w) c.ready-to.new.self.region.end) c.args.x (not c.args.marked) c.loop-place.place y) at seek.passed) in
     record {
       above = (let h = before.above in omega (arith, h, up));
       below = (let h = ready.kept.region.within in omega (arith, h, is));
       kept = ready.kept;
       shape = shape;
       same = same;
-      passed = marked_then nodes w c.args.self.now.region.root c.args.x (ends_told c.args.table.now.way.sweeps (length w) c.args.self.now.region.end) (not c.args.marked) c.args.from c.loop-place.place c.ready-to.result before.passed more;
+      passed = marked_then nodes w c.args.self.now.region.root c.args.x (ends_told c.args.table.now.way.all_starts (length w) c.args.self.now.region.end) (not c.args.marked) c.args.from c.loop-place.place c.ready-to.result before.passed more;
       grows = (let h = before.grows in let g = ready.cost.0 in let f = seek.cost.0 in omega (arith, h, g, f));
       cost = seek_on (owed m c.args.self.now.region c.args.from) (owed m c.loop-place.self.region c.loop-place.place) (owed m c.ready-to.new.self.region c.loop-place.place)
           (owed m c.ready-to.new.self.region c.ready-to.result) c.loop-place.steps c.args.steps.now c.ready-to.new.steps c.seek_in-found.new.steps c.args.from c.loop-place.place c.ready-to.result
@@ -60,7 +60,7 @@ returns-then-found-to-clause-passed c =
     let before = c.loop-place.invariant in
     let ready = c.ready-to.ensures in
     let found = c.seek_in-found.result in
-    marked_then nodes w c.args.self.now.region.root c.args.x (ends_told c.args.table.now.way.sweeps (length w) c.args.self.now.region.end) (not c.args.marked) c.args.from c.loop-place.place found before.passed
+    marked_then nodes w c.args.self.now.region.root c.args.x (ends_told c.args.table.now.way.all_starts (length w) c.args.self.now.region.end) (not c.args.marked) c.args.from c.loop-place.place found before.passed
     (told_as (λ r t. AllMarked nodes w r t c.args.x (not c.args.marked) c.loop-place.place found) (length w) c.args.table.now c.ready-to.new.table c.args.self.now c.ready-to.new.self
     (same_shape c.args.table.now c.loop-place.table c.ready-to.new.table before.shape ready.shape) (same_kept c.args.self.now c.loop-place.self c.ready-to.new.self before.same ready.same) c.seek_in-found.ensures.passed)
 

@@ -13,7 +13,7 @@ invariant-loop-place l = record {
   shape : SameShape l.initial.table l.table;
   same : SameKept l.initial.self l.self;
   passed : AllMarked l.subject.prepared.now.arena.expr.nodes l.subject.text.now l.initial.self.region.root
-      (ends_told l.initial.table.way.sweeps (length l.subject.text.now) l.initial.self.region.end) l.x (not l.marked) l.from l.place;
+      (ends_told l.initial.table.way.all_starts (length l.subject.text.now) l.initial.self.region.end) l.x (not l.marked) l.from l.place;
   grows : l.initial.steps ≤ l.steps;
   cost : l.steps + owed (length l.subject.prepared.now.arena.expr.nodes) l.self.region l.place + 2 * l.from
       ≤ l.initial.steps + owed (length l.subject.prepared.now.arena.expr.nodes) l.initial.self.region l.from + 2 * l.place;

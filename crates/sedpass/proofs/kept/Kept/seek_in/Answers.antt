@@ -46,7 +46,7 @@ returns-then-get-marked-clause-found c before =
     let row = kept_row p w t k c.loop-place.place c.requires.kept (omega (arith, above, from)) before in
     let is : c.index.result.now ≡ slice_index_or k.states.items c.loop-place.place 0 = c.index.ensures ∙ default_same k.states.items c.loop-place.place c.index.result.now 0 row.2 in
     let mark : c.get.result ≡ slice_index_or (row_of t.ends (slice_index_or k.states.items c.loop-place.place 0)) c.args.x false = subst (λ s. c.get.result ≡ slice_index_or (row_of t.ends s) c.args.x false) is c.get.ensures.mark in
-    as_asked (ReachesEnd p.arena.expr.nodes w k.region.root (ends_told t.way.sweeps (length w) k.region.end) c.args.x c.loop-place.place) c.get.result c.args.marked c.if-get-marked.true
+    as_asked (ReachesEnd p.arena.expr.nodes w k.region.root (ends_told t.way.all_starts (length w) k.region.end) c.args.x c.loop-place.place) c.get.result c.args.marked c.if-get-marked.true
     (kept_mark p w t k c.args.x c.loop-place.place c.get.result c.requires.kept c.requires.x (omega (arith, above, from)) before mark)
 
 pub returns-then-get-marked-clause-counts : goal.returns-then-get-marked-clause-counts
@@ -65,13 +65,13 @@ loop-place-preserved c =
     let row = kept_row p w t k c.loop-place.place c.requires.kept (omega (arith, above, from)) before in
     let is : c.index.result.now ≡ slice_index_or k.states.items c.loop-place.place 0 = c.index.ensures ∙ default_same k.states.items c.loop-place.place c.index.result.now 0 row.2 in
     let mark : c.get.result ≡ slice_index_or (row_of t.ends (slice_index_or k.states.items c.loop-place.place 0)) c.args.x false = subst (λ s. c.get.result ≡ slice_index_or (row_of t.ends s) c.args.x false) is c.get.ensures.mark in
-    let here : IsTrue (not c.args.marked) ↔ ReachesEnd p.arena.expr.nodes w k.region.root (ends_told t.way.sweeps (length w) k.region.end) c.args.x c.loop-place.place =
-    not_asked (ReachesEnd p.arena.expr.nodes w k.region.root (ends_told t.way.sweeps (length w) k.region.end) c.args.x c.loop-place.place) c.get.result c.args.marked c.if-get-marked.false
+    let here : IsTrue (not c.args.marked) ↔ ReachesEnd p.arena.expr.nodes w k.region.root (ends_told t.way.all_starts (length w) k.region.end) c.args.x c.loop-place.place =
+    not_asked (ReachesEnd p.arena.expr.nodes w k.region.root (ends_told t.way.all_starts (length w) k.region.end) c.args.x c.loop-place.place) c.get.result c.args.marked c.if-get-marked.false
     (kept_mark p w t k c.args.x c.loop-place.place c.get.result c.requires.kept c.requires.x (omega (arith, above, from)) before mark) in
     record {
       above = omega (arith, above);
       below = omega (arith, before);
-      passed = marked_on p.arena.expr.nodes w k.region.root c.args.x (ends_told t.way.sweeps (length w) k.region.end) (not c.args.marked) c.args.from c.loop-place.place old.passed here;
+      passed = marked_on p.arena.expr.nodes w k.region.root c.args.x (ends_told t.way.all_starts (length w) k.region.end) (not c.args.marked) c.args.from c.loop-place.place old.passed here;
       grows = (let h = old.grows in let g = c.get.ensures.cost.0 in omega (arith, h, g));
       cost = (let h = old.cost in let g = c.get.ensures.cost.1 in omega (arith, h, g));
       counts = least_both _ _ _ _ 1 _ old.counts (least_counted _ _ 1 c.get.ensures.counts) (omega (arith, above));

@@ -9,7 +9,7 @@ invariant-loop-place l = record {
   above : l.from ≤ l.place;
   below : l.place ≤ l.self.region.to;
   passed : AllMarked l.subject.prepared.now.arena.expr.nodes l.subject.text.now l.self.region.root
-      (ends_told l.table.way.sweeps (length l.subject.text.now) l.self.region.end) l.x (not l.marked) l.from l.place;
+      (ends_told l.table.way.all_starts (length l.subject.text.now) l.self.region.end) l.x (not l.marked) l.from l.place;
   grows : l.initial.steps ≤ l.steps;
   cost : l.steps + l.from ≤ l.initial.steps + l.place;
   counts : TakesAtLeast l.initial.steps l.steps (l.place - l.from);

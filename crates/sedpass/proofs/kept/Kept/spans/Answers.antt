@@ -59,7 +59,7 @@ returns-clause-spans c =
     let row = kept_row p w t k c.args.place c.ready.ensures.kept above before in
     let is : c.index.result.now ≡ slice_index_or k.states.items c.args.place 0 = c.index.ensures ∙ default_same k.states.items c.args.place c.index.result.now 0 row.2 in
     let mark : c.get.result ≡ slice_index_or (row_of t.ends (slice_index_or k.states.items c.args.place 0)) c.args.x false = subst (λ s. c.get.result ≡ slice_index_or (row_of t.ends s) c.args.x false) is c.get.ensures.mark in
-    let one : t.way.sweeps ≡ false = ap (λ v. v.sweeps) c.ready.ensures.shape.0 ∙ c.requires.sweeps in
+    let one : t.way.all_starts ≡ false = ap (λ v. v.all_starts) c.ready.ensures.shape.0 ∙ c.requires.all_starts in
     let last : IsLastIn p.arena.expr.nodes k.region.root c.args.x = subst (λ r. IsLastIn p.arena.expr.nodes r c.args.x) (sym c.ready.ensures.same.root) c.requires.last in
     subst (λ e. IsTrue c.get.result ↔ At p.arena.expr.nodes w c.args.x c.args.place e) c.ready.ensures.same.end
     (mark_spans p w t k c.args.x c.args.place c.get.result c.ready.ensures.kept one last above before mark)

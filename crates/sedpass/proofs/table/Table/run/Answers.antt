@@ -62,10 +62,10 @@ returns-else-at-len-clause-longest c single =
     (pass_end c.args.prepared.now c.loop-at.self c.args.text.now c.args.from c.loop-at.at c.requires.from i.passes (inr (omega (arith, c.if-at-len.false, c.len-in-loop-at.ensures.is)))) single
 
 pub returns-else-at-len-clause-found : goal.returns-else-at-len-clause-found
-returns-else-at-len-clause-found c sweeps =
+returns-else-at-len-clause-found c all_starts =
     let i = c.loop-at.invariant in
     run_found c.args.prepared.now c.args.self.now.way c.loop-at.self.way c.args.text.now c.args.from c.loop-at.at.end i.shape.0 c.requires.forwards
-    (pass_end c.args.prepared.now c.loop-at.self c.args.text.now c.args.from c.loop-at.at c.requires.from i.passes (inr (omega (arith, c.if-at-len.false, c.len-in-loop-at.ensures.is)))) c.requires.from sweeps
+    (pass_end c.args.prepared.now c.loop-at.self c.args.text.now c.args.from c.loop-at.at c.requires.from i.passes (inr (omega (arith, c.if-at-len.false, c.len-in-loop-at.ensures.is)))) c.requires.from all_starts
 
 pub returns-after-loop-at-clause-longest : goal.returns-after-loop-at-clause-longest
 returns-after-loop-at-clause-longest c single =
@@ -74,10 +74,10 @@ returns-after-loop-at-clause-longest c single =
     (pass_end c.args.prepared.now c.loop-at.self c.args.text.now c.args.from c.loop-at.at c.requires.from i.passes (inl (not-false c.loop-at.at.over c.loop-at-test.false))) single
 
 pub returns-after-loop-at-clause-found : goal.returns-after-loop-at-clause-found
-returns-after-loop-at-clause-found c sweeps =
+returns-after-loop-at-clause-found c all_starts =
     let i = c.loop-at.invariant in
     run_found c.args.prepared.now c.args.self.now.way c.loop-at.self.way c.args.text.now c.args.from c.loop-at.at.end i.shape.0 c.requires.forwards
-    (pass_end c.args.prepared.now c.loop-at.self c.args.text.now c.args.from c.loop-at.at c.requires.from i.passes (inl (not-false c.loop-at.at.over c.loop-at-test.false))) c.requires.from sweeps
+    (pass_end c.args.prepared.now c.loop-at.self c.args.text.now c.args.from c.loop-at.at c.requires.from i.passes (inl (not-false c.loop-at.at.over c.loop-at-test.false))) c.requires.from all_starts
 
 pub returns-else-at-len-clause-reached : goal.returns-else-at-len-clause-reached
 returns-else-at-len-clause-reached c = end_below _ _ _ _ c.loop-at.at.place c.loop-at.at.end c.loop-at.invariant.passes.last

@@ -19,9 +19,9 @@ returns-in-Some-clause-place c e are =
 pub returns-in-Some-clause-cost : goal.returns-in-Some-clause-cost
 returns-in-Some-clause-cost c =
     let lies = c.in_ok-place.ensures.lies in
-    let paid = rare_paid (length c.args.text.now) c.args.from c.in_ok-place.place c.args.steps.now c.narrowed.new.steps c.find.new.steps c.find.result
+    let paid = rare_paid (length c.args.text.now) c.args.from c.in_ok-place.place c.args.steps.now c.skip_to_literal.new.steps c.find.new.steps c.find.result
     lies.0 lies.1 c.find.ensures.lies c.in_ok-place.ensures.cost.1 c.find.ensures.cost.1 in
     (omega arith, omega (arith, paid))
 
 pub returns-in-Some-clause-counts : goal.returns-in-Some-clause-counts
-returns-in-Some-clause-counts c = least_later c.args.steps.now c.narrowed.new.steps c.find.new.steps c.args.from c.in_ok-place.place c.find.result c.in_ok-place.ensures.counts c.find.ensures.counts
+returns-in-Some-clause-counts c = least_later c.args.steps.now c.skip_to_literal.new.steps c.find.new.steps c.args.from c.in_ok-place.place c.find.result c.in_ok-place.ensures.counts c.find.ensures.counts

@@ -1,7 +1,7 @@
 use Rattle.std.proofs.Common.{◌≡◌, ◌<◌, ◌≤◌, length, take, refl, arith, take-take, length-take-le}
 use Rattle.std.proofs.Math.Seq.{take-length}
 use Rattle.sedengine.proofs.Sending.{Sent-one}
-use Rattle.sedengine.proofs.meter.MeteredSinks.write_part.Goals as goal
+use Rattle.sedengine.proofs.meter.MeteredMeteredSinks.write_part.Goals as goal
 
 pub returns-in-Err-clause-writes : goal.returns-in-Err-clause-writes
 returns-in-Err-clause-writes g c =

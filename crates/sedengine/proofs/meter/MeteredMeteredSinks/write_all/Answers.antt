@@ -1,5 +1,5 @@
 use Rattle.sedengine.proofs.Writing.{Puts-cut}
-use Rattle.sedengine.proofs.meter.MeteredSinks.write_all.Goals as goal
+use Rattle.sedengine.proofs.meter.MeteredMeteredSinks.write_all.Goals as goal
 
 pub returns-in-Err-clause-puts : goal.returns-in-Err-clause-puts
 returns-in-Err-clause-puts g c =

@@ -2,7 +2,7 @@ use Rattle.std.proofs.Common.{◌≡◌, ◌-◌, None, subst, arith}
 use Rattle.sedtext.specs.Needed.{IsNeeded}
 use Rattle.sedtext.proofs.CountLemmas.{least_none, least_counted}
 use Rattle.sedtext.proofs.NeededLemmas.{needed_none, needed_first}
-use Rattle.sedtext.proofs.needed.narrowed.Goals as goal
+use Rattle.sedtext.proofs.needed.skip_to_literal.Goals as goal
 
 pub returns-in_err-place-in-Some-clause-narrowed : goal.returns-in_err-place-in-Some-clause-narrowed
 returns-in_err-place-in-Some-clause-narrowed c e holds =

@@ -2,7 +2,7 @@
 
 /// What is to be done next.
 #[derive(Clone, Copy)]
-pub(crate) enum Place {
+pub(crate) enum NextStep {
     /// A cycle starts.
     Begin,
     /// A cycle starts with the pattern space as it is.
