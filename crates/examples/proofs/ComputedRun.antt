@@ -7,8 +7,9 @@ use Rattle.sedscript.specs.Program.{Program}
 use Rattle.examples.proofs.ComputedScript.{Script}
 use Rattle.sedspace.specs.Lines.{lines}
 use Rattle.sedengine.specs.State.{State, Move, Setting, setting_of}
-use Rattle.sedengine.specs.Move.{next_move, after, written, next_or_stay, writes_of, start, to_sink}
+use Rattle.sedengine.specs.Move.{next_move, after, written, start, to_sink}
 use Rattle.sededit.specs.Editing.{IsOutput}
+use Rattle.sedengine.specs.Steps.{next_or_stay, writes_of}
 
 -- what moves write, and the state that they lead to
 pub record Course : Type 0 where

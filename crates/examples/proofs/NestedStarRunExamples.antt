@@ -1,6 +1,6 @@
 -- An example of a run with stars in stars, on a line of 60 bytes a: no b stands in it, so nothing is found.
 use Rattle.std.proofs.Common.{◌≡◌, ℕ, List, [], ◌∷◌, ◌++◌, Bool, false, Option, Some, None, refl, sym, ap, subst, arith}
-use Rattle.std.specs.Prelude.{codes, is_some, replicate}
+use Rattle.std.specs.Prelude.{codes, is_some, replicate, option_map}
 use Rattle.sedre.specs.declared.types.Kind.TheVariants.{Extended}
 use Rattle.sedre.specs.Tree.{WrittenExpression, expression_tree, Tree}
 use Rattle.sedre.specs.Brackets.{delimiter_at}
@@ -18,7 +18,7 @@ use Rattle.sedscript.specs.Bytes.{past}
 use Rattle.sedscript.specs.Functions.{name_from, text_from}
 use Rattle.sedspace.specs.Lines.{lines}
 use Rattle.sedengine.specs.Move.{next_move, start, to_sink}
-use Rattle.sedengine.specs.State.{finds_in, match_with_span as occurrence_of, search_in, Setting}
+use Rattle.sedengine.specs.State.{finds_in, occurrence_at_span, search_in, Setting}
 use Rattle.sedengine.specs.Select.{selects}
 use Rattle.sedengine.specs.Substitute.{Occurrence, occurrences_from}
 use Rattle.sedengine.specs.declared.ends.Ended.TheVariants.{Done}
@@ -69,4 +69,4 @@ sixty_unchanged : StopsBy own Extended plain no_files (codes "/((a*)*)*b/d;s//x/
 unfolding verdict cutting walked item_at past function_at addresses_at address_at second_at text_from name_from lines match_at substitute_at substituted delimiter_at outcome rest_of expression_item_at
 sixty_unchanged =
     is_script (unchanged_where_nothing_is_found (finds_in expressions) (search_in expressions) (ap is_some (none_in 60))
-    (ap (occurrence_of (written twice_nested 2) sixty) (none_in 60)))
+    (ap (option_map (occurrence_at_span (written twice_nested 2) sixty)) (none_in 60)))

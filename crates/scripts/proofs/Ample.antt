@@ -1,13 +1,14 @@
 -- Ends of runs whose states stay within their limits.
 use Rattle.std.proofs.Common.{◌≡◌, ◌⊎◌, inl, inr, ℕ, zero, suc, ◌+◌, ◌-◌, ◌<◌, ◌≤◌, true, List, [], ◌++◌, length, Option, None, Some, refl, sym, ap, subst, ◌∙◌, append-nil, arith}
 use Rattle.sedengine.specs.State.{Limits, State, Move, Setting}
-use Rattle.sedengine.specs.Move.{after, next_move, next_or_stay, written}
+use Rattle.sedengine.specs.Move.{after, next_move, written}
 use Rattle.sedengine.specs.Ends.{WithinLimits, Cause, reaches}
 use Rattle.sedengine.specs.declared.ends.Ended.{Ended}
 use Rattle.sedengine.specs.declared.ends.Ended.TheVariants.{Done, PatternFull, HoldFull, QueueFull, TurnsSpent, NoPrevious, InputBroken, OutputBroken, OutputFull}
 use Rattle.sedengine.proofs.Moves.{after-add, written-add, move_at}
 use Rattle.examples.proofs.ComputedRun.{stays, stays_still}
 use Rattle.scripts.specs.Ampleness.{NoDevice}
+use Rattle.sedengine.specs.Steps.{next_or_stay}
 
 module _ (g : Setting) (s : State) where
   -- after an end nothing changes, and nothing is written

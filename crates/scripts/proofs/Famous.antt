@@ -1,6 +1,6 @@
 -- The laws of the famous scripts.
 use Rattle.std.proofs.Common.{◌≡◌, ◌≢◌, ◌⊎◌, inl, inr, ap₂, append-nil, append_assoc, ℕ, zero, suc, ◌+◌, ◌-◌, ◌^◌, ◌<◌, List, [], ◌∷◌, ◌++◌, length, map, take, drop, Bool, true, false, not, None, Some, refl, sym, ap, subst, ◌∙◌, arith}
-use Rattle.std.specs.Prelude.{codes, decimal, reverse}
+use Rattle.std.specs.Prelude.{codes, decimal, reverse, option_map}
 use Rattle.std.specs.List.{filter, flat_map}
 use Rattle.sedre.specs.Tree.{WrittenExpression, expression_tree, Tree}
 use Rattle.sedre.specs.declared.types.Kind.TheVariants.{Basic}
@@ -24,7 +24,7 @@ use Rattle.sedmatch.specs.Matching.{found, report}
 use Rattle.sedengine.specs.Ends.{part}
 use Rattle.sedengine.specs.Substitute.{Occurrence}
 use Rattle.sedengine.proofs.Gains.{part-append, part-same, part-other}
-use Rattle.sedengine.specs.State.{finds_in, match_with_span, search_in}
+use Rattle.sedengine.specs.State.{finds_in, search_in, occurrence_at_span}
 use Rattle.sedengine.specs.Substitute.{occurrences, replaced_from}
 use Rattle.std.proofs.Math.Path.{fun_ext}
 use Rattle.sedre.specs.Brackets.{delimiter_at}
@@ -216,13 +216,13 @@ module _ (one : OneMeaning) where
 
   seeks_newlines : (e : WrittenExpression) → expression_tree e ≡ newline_alone → SeeksNewlines (search_in (e ∷ []))
   seeks_newlines e same passed left = elim (first_newline left) [
-    | inl h ↦ inl (h, ap (λ t. match_with_span e (passed ++ left) (found t (passed ++ left) (length passed))) same ∙ ap (match_with_span e (passed ++ left)) (none_found passed left h))
+    | inl h ↦ inl (h, ap (λ t. option_map (occurrence_at_span e (passed ++ left)) (found t (passed ++ left) (length passed))) same ∙ ap (option_map (occurrence_at_span e (passed ++ left))) (none_found passed left h))
     | inr h ↦
         let w : List ℕ = passed ++ left in
         let i : ℕ = length passed + length h.0 in
         let m : Occurrence = record { start = i; end = i + 1; groups = report (expression_tree e) w i (i + 1) } in
         let there : found newline_alone w (length passed) ≡ Some (i, i + 1) = rw h.2 (next_found passed h.0 h.1 h.3) in
-        inr (h.0, h.1, m, h.2, h.3, ap (λ t. match_with_span e w (found t w (length passed))) same ∙ ap (match_with_span e w) there, refl, refl)
+        inr (h.0, h.1, m, h.2, h.3, ap (λ t. option_map (occurrence_at_span e w) (found t w (length passed))) same ∙ ap (option_map (occurrence_at_span e w)) there, refl, refl)
   ]
 
   joins_any : (e : WrittenExpression) → expression_tree e ≡ newline_alone → (files : ℕ → List ℕ) (ls : List (List ℕ)) → NoneBroken ls →

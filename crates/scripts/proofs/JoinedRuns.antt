@@ -13,7 +13,7 @@ use Rattle.sedscript.specs.declared.types.Command.{Command}
 use Rattle.sedscript.specs.Script.{Means, with_part}
 use Rattle.sedscript.specs.Program.{Program}
 use Rattle.sedspace.specs.Lines.{lines}
-use Rattle.sedengine.specs.State.{Setting, finds_in, search_in, has_match, search_for}
+use Rattle.sedengine.specs.State.{Setting, finds_in, search_in, search_for}
 use Rattle.sedengine.specs.Substitute.{Occurrence}
 use Rattle.sedengine.specs.Move.{start, to_sink}
 use Rattle.examples.proofs.ComputedEnds.{both}
@@ -29,9 +29,11 @@ use Rattle.scripts.proofs.JoinedFaults.{NoFiles, no_files_all}
 use Rattle.scripts.proofs.JoinedFiles.{no_files}
 use Rattle.scripts.proofs.JoinedMeans.{ShareNone, means_in_turn, share_none}
 use Rattle.scripts.proofs.JoinedParts.{ended_means, parts_are, share_still}
+use Rattle.std.specs.Option.{option_and_then, option_map_or}
 
 -- expressions of equal trees are found alike
-same_match : (o p : Option WrittenExpression) → option_map expression_tree o ≡ option_map expression_tree p → (w : List ℕ) → has_match o w ≡ has_match p w
+same_match : (o p : Option WrittenExpression) → option_map expression_tree o ≡ option_map expression_tree p → (w : List ℕ) →
+    option_map_or (λ e. is_some (found (expression_tree e) w 0)) o false ≡ option_map_or (λ e. is_some (found (expression_tree e) w 0)) p false
 same_match None None e w = refl
 same_match None (Some y) e w = absurd cc
 same_match (Some x) None e w = absurd cc
@@ -40,7 +42,8 @@ same_match (Some x) (Some y) e w = let same : expression_tree x ≡ expression_t
     has_tree : Tree → List ℕ → Bool
     has_tree t w = is_some (found t w 0)
 
-same_search : (o p : Option WrittenExpression) → option_map expression_tree o ≡ option_map expression_tree p → (w : List ℕ) (from : ℕ) → search_for o w from ≡ search_for p w from
+same_search : (o p : Option WrittenExpression) → option_map expression_tree o ≡ option_map expression_tree p → (w : List ℕ) (from : ℕ) →
+    option_and_then (λ e. search_for e w from) o ≡ option_and_then (λ e. search_for e w from) p
 same_search None None e w from = refl
 same_search None (Some y) e w from = absurd cc
 same_search (Some x) None e w from = absurd cc

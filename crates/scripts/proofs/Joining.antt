@@ -13,7 +13,7 @@ use Rattle.sedscript.specs.declared.types.Address.TheVariants.{Last}
 use Rattle.sedscript.specs.declared.substitution.Piece.{Piece}
 use Rattle.sedscript.specs.declared.substitution.Piece.TheVariants.{Literal}
 use Rattle.sedengine.specs.State.{State, Setting}
-use Rattle.sedengine.specs.Substitute.{Occurrence, next_occurrence, occurrences, occurrences_from, replaced_from, to_replace, with_rest}
+use Rattle.sedengine.specs.Substitute.{Occurrence, next_occurrence, occurrences, occurrences_from, replaced_from, to_replace}
 use Rattle.sedengine.specs.Select.{selects}
 use Rattle.sedengine.specs.Move.{next_move, after, written, newline, line_to}
 use Rattle.sededit.specs.Editing.{IsOutput}
@@ -21,6 +21,7 @@ use Rattle.scripts.proofs.Cycles.{Goes, goes_one, ends_on, between, within, begi
 use Rattle.examples.proofs.ScriptWords.{always, at, unless}
 use Rattle.scripts.proofs.LineLaws.{NoneBroken}
 use Rattle.scripts.proofs.Finding.{seeks, replacing, with_replaced}
+use Rattle.std.specs.Option.{option_map_or}
 
 -- a comma for a newline
 abbrev pub comma : ℕ → ℕ
@@ -73,7 +74,7 @@ module _ (search : ℕ → List ℕ → ℕ → Option Occurrence) (seeks_them :
   replaced_there (suc most) passed left last short at = elim (seeks_them passed left) [
     | inl h ↦
         let none = next_none (passed ++ left) (length passed) last at h.1 in
-        ap (λ o. replaced_from (passed ++ left) commas (length passed) (with_rest o (λ m. occurrences_from (search 0 (passed ++ left)) (length (passed ++ left)) most (Some m.end)))) none
+        ap (λ (o : Option Occurrence). replaced_from (passed ++ left) commas (length passed) (option_map_or (λ (m : Occurrence). m ∷ occurrences_from (search 0 (passed ++ left)) (length (passed ++ left)) most (Some m.end)) o [])) none
         ∙ drop-append_seam passed left ∙ sym (no_comma left h.0)
     | inr h ↦
         let before : List ℕ = h.0 in
@@ -89,7 +90,7 @@ module _ (search : ℕ → List ℕ → ℕ → Option Occurrence) (seeks_them :
         let tail : replaced_from (passed ++ left) commas m.end (occurrences_from (search 0 (passed ++ left)) (length (passed ++ left)) most (Some m.end)) ≡ map comma behind = rw (all, end) rest in
         let count : m.start - length passed ≡ length before = omega (arith, h.6) in
         let front : slice_range (passed ++ left) (length passed) m.start ≡ before = ap₂ (λ k bs. take k bs) count (drop-append_seam passed left ∙ h.3) ∙ take-append_seam before (10 ∷ behind) in
-        ap (λ o. replaced_from (passed ++ left) commas (length passed) (with_rest o (λ m. occurrences_from (search 0 (passed ++ left)) (length (passed ++ left)) most (Some m.end)))) some
+        ap (λ (o : Option Occurrence). replaced_from (passed ++ left) commas (length passed) (option_map_or (λ (m : Occurrence). m ∷ occurrences_from (search 0 (passed ++ left)) (length (passed ++ left)) most (Some m.end)) o [])) some
         ∙ ap₂ (λ (x y : List ℕ). (x ++ (44 ∷ [])) ++ y) front tail ∙ append_assoc before (44 ∷ []) (map comma behind)
         ∙ sym (ap (map comma) h.3 ∙ map-append comma before (10 ∷ behind) ∙ ap (λ (x : List ℕ). x ++ (44 ∷ map comma behind)) (no_comma before h.4))
   ]

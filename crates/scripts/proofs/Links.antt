@@ -10,11 +10,12 @@ use Rattle.sedscript.specs.declared.substitution.Substitution.{Substitution}
 use Rattle.sedscript.specs.Script.{Means}
 use Rattle.sedscript.specs.Program.{Program}
 use Rattle.sedspace.specs.Lines.{lines}
-use Rattle.sedengine.specs.State.{State, Setting, match_with_span, search_in, finds_in}
+use Rattle.sedengine.specs.State.{State, Setting, search_in, finds_in, occurrence_at_span}
 use Rattle.sedengine.specs.Move.{start}
 use Rattle.sededit.specs.Editing.{IsOutput}
 use Rattle.scripts.specs.Edited.{Sends}
 use Rattle.scripts.specs.Words.{match_with}
+use Rattle.std.specs.Option.{option_map}
 
 -- what the law `one_meaning` of sedscript says
 abbrev pub OneMeaning : Type 0
@@ -64,7 +65,7 @@ one_alone t [] h = absurd cc
 one_alone t (e ∷ []) h = (e, refl, cc)
 one_alone t (e ∷ f ∷ es) h = absurd cc
 
-pub found_by : (e : WrittenExpression) (w : List ℕ) (o : Option (ℕ × ℕ)) → match_with_span e w o ≡ match_with (expression_tree e) w o
+pub found_by : (e : WrittenExpression) (w : List ℕ) (o : Option (ℕ × ℕ)) → option_map (occurrence_at_span e w) o ≡ match_with (expression_tree e) w o
 found_by e w None = refl
 found_by e w (Some span) = refl
 

@@ -2,13 +2,13 @@
 use Rattle.std.proofs.Common.{◌≡◌, ℕ, zero, suc, ◌+◌, ◌<◌, List, [], ◌∷◌, ◌++◌, length, length-append, map, Bool, true, false, not, ◌&&◌, Option, None, Some, refl, sym, ap, ap₂, subst, ◌∙◌, zero-add, arith}
 use Rattle.std.specs.Prelude.{nat_eq, nat_lt, slice_get, slice_index_or, is_some, is_none, if◌then◌else◌}
 use Rattle.std.specs.List.{list_all, list_any}
-use Rattle.std.specs.Option.{option_map}
+use Rattle.std.specs.Option.{option_map, option_and_then, option_map_or}
 use Rattle.std.proofs.Math.Path.{fun_ext}
 use Rattle.std.proofs.lemmas.Bool.Decides.{nat_tests}
 use Rattle.std.proofs.lemmas.List.{length-map}
 use Rattle.std.proofs.lemmas.Option.{slice_get-map, slice_get_past}
 use Rattle.sedspace.specs.Lines.{lines}
-use Rattle.sedre.specs.Tree.{WrittenExpression}
+use Rattle.sedre.specs.Tree.{WrittenExpression, expression_tree}
 use Rattle.sedscript.specs.declared.types.Address.{Address}
 use Rattle.sedscript.specs.declared.types.Address.TheVariants.{Match, Line, Last}
 use Rattle.sedscript.specs.declared.types.Command.{Command}
@@ -17,9 +17,9 @@ use Rattle.sedscript.specs.declared.types.Action.TheVariants.{Block, Plain, Subs
 use Rattle.sedscript.specs.declared.types.Simple.TheVariants.{Delete}
 use Rattle.sedscript.specs.declared.substitution.Substitution.{Substitution}
 use Rattle.sedscript.specs.Program.{Program}
-use Rattle.sedengine.specs.State.{Setting, has_match, search_for, setting_of}
+use Rattle.sedengine.specs.State.{Setting, search_for, setting_of}
 use Rattle.sedengine.specs.Select.{Current, Selection, answer, ends_at_once, of_addresses, on_active, on_idle, selects}
-use Rattle.sedengine.specs.Move.{none_left, in_table, start, to_replace_in, to_sink}
+use Rattle.sedengine.specs.Move.{none_left, in_table, start, to_sink}
 use Rattle.sedengine.specs.Substitute.{Occurrence, occurrences, to_replace}
 use Rattle.sedengine.proofs.Writing.{slice_get-append_add}
 use Rattle.examples.proofs.ComputedEnds.{both}
@@ -32,6 +32,8 @@ use Rattle.scripts.proofs.Edits.{Test, Between, Chosen, Edit, Makes, Replaces, b
 use Rattle.scripts.proofs.EditedLines.{AreAlike, Both, Fits, RangesAgree, placed}
 use Rattle.scripts.proofs.OneAfterOther.{AnyLines, SameLines, in_turn_run}
 use Rattle.scripts.proofs.Unbroken.{Unbroken, unbroken_map, unbroken_replaced}
+use Rattle.sedengine.specs.SubstituteCalls.{to_replace_in}
+use Rattle.sedmatch.specs.Matching.{found}
 
 -- ---- places in lists
 
@@ -216,10 +218,10 @@ module _ (p : Program) (files : ℕ → List ℕ) where
     to k = b.commands + k
 
     same_finds : (e : ℕ) (x : WrittenExpression) (w : List ℕ) → slice_get p.expressions e ≡ Some x → g.finds (b.expressions + e) w ≡ g1.finds e w
-    same_finds e x w h = ap (λ o. has_match o w) (is.expressions e x h ∙ sym h)
+    same_finds e x w h = ap (λ (o : Option WrittenExpression). option_map_or (λ e. is_some (found (expression_tree e) w 0)) o false) (is.expressions e x h ∙ sym h)
 
     same_search : (e : ℕ) (x : WrittenExpression) (w : List ℕ) → slice_get p.expressions e ≡ Some x → g.search (b.expressions + e) w ≡ g1.search e w
-    same_search e x w h = ap (λ o. search_for o w) (is.expressions e x h ∙ sym h)
+    same_search e x w h = ap (λ (o : Option WrittenExpression). λ (from : ℕ). option_and_then (λ e. search_for e w from) o) (is.expressions e x h ∙ sym h)
 
     -- what it chooses there
     address_there : (counts : Bool) (a : Option Address) → asks_own counts p a ≡ true → asks_own counts r (address_behind b a) ≡ true

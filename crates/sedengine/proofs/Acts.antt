@@ -10,12 +10,12 @@ use Rattle.sedspace.specs.Stream.{Stream, left, lines_left}
 use Rattle.sedspace.specs.Lines.{TakesAtMost}
 use Rattle.sedengine.specs.State.{Limits, Entry, Task, do_at, State, Move, Setting}
 use Rattle.sedengine.specs.Select.{Selection, selects}
-use Rattle.sedengine.specs.Move.{next_move, reach, performs, acts, passes, writing, quietly, queueing, then_do, none_left, in_table, is_active, writes_text_at}
-use Rattle.sedengine.specs.Ends.{WithinLimits, reaches, reads, asks_last, is_next, names_last}
+use Rattle.sedengine.specs.Move.{next_move, reach, performs, acts, passes, writing, quietly, queueing, then_do, none_left, in_table, writes_text_at}
+use Rattle.sedengine.specs.Ends.{WithinLimits, reaches, reads, asks_last, is_next}
 use Rattle.sedengine.specs.Meters.{SinkView}
 use Rattle.sedengine.specs.Calls.{Puts}
 use Rattle.sedengine.specs.Run.{RunState, at_lines, run_setting}
-use Rattle.sedengine.specs.Choose.{Judges, as_selection, reached_with, current_in}
+use Rattle.sedengine.specs.Choose.{Judges, as_selection, reached_with, current_in, is_active, names_last}
 use Rattle.sedengine.specs.Queueing.{QueuesOrFull, queued_more}
 use Rattle.sedengine.specs.Steps.{ReachesCommand, HasAction, Moves, MakesMove, PerformsSteps, Steps, TakesLines}
 use Rattle.sedengine.specs.Inside.{run_of, entry_by, entry_for, IsConsistent}
@@ -27,6 +27,7 @@ use Rattle.sedengine.proofs.Streams.{LosesPart-none, LosesPartAfter-none, lines_
 use Rattle.sedengine.proofs.Moves.{move_at, ran_quietly, stopped_here, moves_writing}
 use Rattle.sedengine.proofs.NextLines.{looked_moves, looked_then, none_taken}
 use Rattle.sedengine.proofs.Tasks.{fits_of, halts_here, reach_spent, steps_by_moves}
+use Rattle.std.specs.Option.{option_map_or}
 
 -- what a command that takes no line does leaves the lines
 pub acts_here : {R : Type 0} (remaining : R → Option (List ℕ)) (old : Stream R) (ls : List (List ℕ)) (l : Limits) (g : Setting) (o : Option Move) (asks : Bool) (e e' : RunState) (sinks sinks' : SinkView) (r : Result Unit Ended) → lines_left remaining old ≡ Some ls →
@@ -156,7 +157,7 @@ module _ {R : Type 0} (remaining : R → Option (List ℕ)) (old new : Stream R)
           (number, (λ _. turn_left a e seen i more), ap reaches t, reach_as None without) (record { pattern = refl; hold = refl; queue = λ _. refl; entries = omega arith }) (LosesPart-none _ _ _ bytes_stay)
       stops InputBroken h =
           halts_here remaining old new e.limits (run_setting e files) (at_lines e ls) e sinks InputBroken here refl
-          (ap (reads (run_setting e files)) t ∙ ap asks_last (command_seen a e k c seen is) ∙ either (names_last c) (is_next c.action) h) (record { pattern = refl; hold = refl; queue = λ _. refl; entries = omega arith }) (LosesPart-none _ _ _ bytes_stay)
+          (ap (reads (run_setting e files)) t ∙ ap (λ o. option_map_or asks_last o false) (command_seen a e k c seen is) ∙ either (names_last c) (is_next c.action) h) (record { pattern = refl; hold = refl; queue = λ _. refl; entries = omega arith }) (LosesPart-none _ _ _ bytes_stay)
       stops other h = absurd h
 
   -- The addresses chose.
@@ -189,7 +190,7 @@ module _ {R : Type 0} (remaining : R → Option (List ℕ)) (old new : Stream R)
         let now : State = at_lines (reached_with e k (slice_set e.state.ranges k choice.active) used) ls in
         let S : Bool → Type 0 = λ b. PerformsSteps remaining new to ls e.limits (run_setting e files) (acts (run_setting e files) now b c.action) (is_next c.action) now e2 sinks sinks' r in
         let there = subst S tells_is (subst Q came h) in
-        looked_then remaining old new to ls e.limits (run_setting e files) (at_lines e ls) e2 sinks sinks' r taken (there (at_lines e ls) here_reaches (λ asks. ap (reads (run_setting e files)) t ∙ ap asks_last (command_seen a e k c seen is) ∙ or_else (names_last c) (is_next c.action) asks) (moves_as true chosen))
+        looked_then remaining old new to ls e.limits (run_setting e files) (at_lines e ls) e2 sinks sinks' r taken (there (at_lines e ls) here_reaches (λ asks. ap (reads (run_setting e files)) t ∙ ap (λ o. option_map_or asks_last o false) (command_seen a e k c seen is) ∙ or_else (names_last c) (is_next c.action) asks) (moves_as true chosen))
 
     -- it doesn't
     pub reach_passing : (sinks : SinkView) → choice.yes ≡ false →

@@ -17,9 +17,9 @@ use Rattle.sedspace.specs.Lines.{lines, is_newline}
 use Rattle.sedspace.specs.Stream.{AreWholeLines}
 use Rattle.sedspace.proofs.LineLemmas.{lines_nil}
 use Rattle.sedspace.proofs.WholeLemmas.{lines_yes, lines_no, some_lines}
-use Rattle.sedengine.specs.State.{has_match}
 use Rattle.sedengine.specs.Ends.{size_of}
 use Rattle.sedengine.specs.Passing.{ClearTo, IsLineOf, bytes_of}
+use Rattle.std.specs.Option.{option_map_or}
 
 onto-bytes : (x : ℕ) (ys : List (List ℕ)) → 0 < length ys → bytes_of (onto_first x ys) ≡ x ∷ bytes_of ys
 onto-bytes x [] h = absurd (omega arith)
@@ -138,7 +138,7 @@ clear_more ms xs i d text end r inside within before one e (k, less, is) =
 -- what a matcher tells of lines
 pub none_found : (ms : List WrittenExpression) (e : ℕ) (m : WrittenExpression) (text : List ℕ) (r : Option ℕ) (end : ℕ) → slice_get ms e ≡ Some m → NoMatchBefore (expression_tree m) text r → ((k : ℕ) → k < end → IsBefore k r) → ClearTo ms e text end
 none_found ms e m text r end is none low = λ before line behind parts less.
-    ap (λ o. has_match o line) is ∙ not_found (is_some (found (expression_tree m) line 0)) (λ yes. none before line (10 ∷ behind) parts (low (length before + length line) less) ((some_found-iff (expression_tree m) line 0 (omega arith)).0 yes))
+    ap (λ o. option_map_or (λ e. is_some (found (expression_tree e) line 0)) o false) is ∙ not_found (is_some (found (expression_tree m) line 0)) (λ yes. none before line (10 ∷ behind) parts (low (length before + length line) less) ((some_found-iff (expression_tree m) line 0 (omega arith)).0 yes))
   where
     not_found : (b : Bool) → (IsTrue b → ⊥) → b ≡ false
     not_found true h = absurd (h (search rules))

@@ -1,6 +1,6 @@
 -- How addresses are judged.
 use Rattle.std.proofs.Common.{◌≡◌, ℕ, Bool, true, false, cond, not, ◌||◌, ◌<◌, List, length, get_or, Option, Some, None, Result, Err, refl, sym, subst, ap, ◌∙◌, arith}
-use Rattle.std.specs.Prelude.{is_some, option_and_then, nat_le, nat_lt, nat_eq}
+use Rattle.std.specs.Prelude.{is_some, option_and_then, nat_le, nat_lt, nat_eq, if◌then◌else◌}
 use Rattle.std.proofs.lemmas.Bool.Decides.{nat_tests}
 use Rattle.std.proofs.lemmas.Option.{slice_get_read}
 use Rattle.sedre.specs.Tree.{WrittenExpression, expression_tree}
@@ -8,18 +8,23 @@ use Rattle.sedmatch.specs.Matching.{found}
 use Rattle.sedscript.specs.declared.types.Address.{Address}
 use Rattle.sedscript.specs.declared.types.Address.TheVariants.{Line, Last, Match}
 use Rattle.sedscript.specs.declared.types.Command.{Command}
-use Rattle.sedengine.specs.Select.{Current, AddressAnswer, Selection, answer, on_idle, on_active, of_addresses, negated, selects, ends_at_once}
+use Rattle.sedengine.specs.Select.{Current, AddressAnswer, Selection, answer, on_idle, on_active, of_addresses, selects, ends_at_once}
 use Rattle.sedengine.specs.Choose.{deciding, deciding_in, decides, choice_by_match, chosen_idle, chosen_active, as_selection, turned, yes_by_number, Answers, Judges}
 use Rattle.sedengine.specs.Ends.{is_dollar}
 use Rattle.sedengine.specs.declared.ends.Ended.{Ended}
 use Rattle.sedengine.specs.declared.ends.Ended.TheVariants.{Done, PatternFull, HoldFull, QueueFull, TurnsSpent, NoPrevious, InputBroken, OutputBroken, OutputFull}
-use Rattle.sedengine.specs.State.{has_match, finds_in}
+use Rattle.sedengine.specs.State.{finds_in}
 use Rattle.sedengine.specs.declared.select.Chosen.{Chosen}
+use Rattle.std.specs.Option.{option_map_or}
 
 -- whether there is a match, as the matcher's call answers it
 pub finds_as : (expressions : List WrittenExpression) (k : ℕ) (e : WrittenExpression) (v w : List ℕ) (b : Bool) → k < length expressions → e ≡ get_or expressions k e → v ≡ w → b ≡ is_some (found (expression_tree e) v 0) → b ≡ finds_in expressions k w
 finds_as expressions k e v w b inside is same found_as =
-    found_as ∙ ap (λ (x : List ℕ). is_some (found (expression_tree e) x 0)) same ∙ ap (λ (o : Option WrittenExpression). has_match o w) (sym (slice_get_read expressions (length expressions) k e refl inside is))
+    found_as ∙ ap (λ (x : List ℕ). is_some (found (expression_tree e) x 0)) same ∙ ap (λ (o : Option WrittenExpression). option_map_or (λ e. is_some (found (expression_tree e) w 0)) o false) (sym (slice_get_read expressions (length expressions) k e refl inside is))
+
+-- `!` turns the yes alone
+abbrev negated : Bool → Selection → Selection
+negated negate choice = record choice { yes = if negate then not choice.yes else choice.yes }
 
 -- the choice that follows from the answer of the address that decides
 abbrev follows : Current → Bool → Option Address → Option Address → AddressAnswer → Option Selection

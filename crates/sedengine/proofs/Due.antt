@@ -14,11 +14,12 @@ use Rattle.sedscript.specs.declared.substitution.Piece.{Piece}
 use Rattle.sedspace.specs.Spaces.{Contents}
 use Rattle.sedspace.specs.declared.errors.Full.{Full}
 use Rattle.sedengine.specs.Substitute.{Occurrence, to_replace, next_occurrence, occurrences, put_for, replaced_from}
-use Rattle.sedengine.specs.State.{match_with_span, search_for}
+use Rattle.sedengine.specs.State.{search_for, occurrence_at_span}
 use Rattle.sedengine.specs.SubstituteParts.{Appends, GroupsOf, ReplacesThese, Skips, has_group, with_groups}
-use Rattle.sedengine.specs.SubstituteParts.{later_cost, occurrence_at_span, occurrences_after, pending, told_cost}
+use Rattle.sedengine.specs.SubstituteParts.{later_cost, occurrences_after, pending, told_cost}
 use Rattle.sedengine.proofs.Occurrences.{after_is}
 use Rattle.sedengine.proofs.PieceLemmas.{put_same}
+use Rattle.std.specs.Option.{option_map}
 
 -- bytes are appended as a space does it
 pub appended : (old new : Contents) (bytes given : List ℕ) (r : Result Unit Full) → given ≡ bytes →
@@ -122,7 +123,7 @@ due_rest old mid new all e w ps global at (Some span) r is due rest = let never 
 
 -- after an occurrence that is replaced the next one is, with the flag `g`
 pub more_pending : (e : WrittenExpression) (w : List ℕ) (global : Bool) (q : ℕ) (r : Option (ℕ × ℕ)) → global ≡ true →
-    q ≤ length w → match_with_span e w r ≡ next_occurrence (search_for (Some e) w) (length w) (Some q) →
+    q ≤ length w → option_map (occurrence_at_span e w) r ≡ next_occurrence (search_for e w) (length w) (Some q) →
     rest_after e w global q ≡ pending e w global r
 more_pending e w true q r is fits next = after_is e w (Some q) r fits next
 more_pending e w false q r is fits next = absurd (false≢true is)
@@ -139,13 +140,13 @@ lies_on n q (Some span) lies = (lies.2.0, lies.0, lies.1)
 
 -- the chosen occurrences are pending where the first of them comes next
 pub to_replace_is : (e : WrittenExpression) (w : List ℕ) (number : ℕ) (global : Bool) (last : Option ℕ) (r : Option (ℕ × ℕ)) →
-    Skips e w (number - 1) (Some last) → match_with_span e w r ≡ next_occurrence (search_for (Some e) w) (length w) last →
-    to_replace number global (occurrences (search_for (Some e) w) (length w)) ≡ pending e w global r
+    Skips e w (number - 1) (Some last) → option_map (occurrence_at_span e w) r ≡ next_occurrence (search_for e w) (length w) last →
+    to_replace number global (occurrences (search_for e w) (length w)) ≡ pending e w global r
 to_replace_is e w number global last r skips next = by_flag global r (skips.0 ∙ after_is e w last r skips.1 next)
   where
     by_flag : (global : Bool) (r : Option (ℕ × ℕ)) →
-        drop (number - 1) (occurrences (search_for (Some e) w) (length w)) ≡ pending e w true r →
-        to_replace number global (occurrences (search_for (Some e) w) (length w)) ≡ pending e w global r
+        drop (number - 1) (occurrences (search_for e w) (length w)) ≡ pending e w true r →
+        to_replace number global (occurrences (search_for e w) (length w)) ≡ pending e w global r
     by_flag true r is = is
     by_flag false None is = ap (take 1) is
     by_flag false (Some span) is = ap (take 1) is

@@ -2,13 +2,13 @@
 use Rattle.std.proofs.Common.{◌≡◌, ℕ, suc, zero, ◌<◌, ◌+◌, ◌-◌, ◌≤◌, ◌⊎◌, inl, inr, false, List, [], ◌++◌, length, take, Option, Some, None, Result, Ok, Err, refl, subst, sym, ap, ◌∙◌, arith, length-append, append-nil, append_assoc, add-zero, add-suc}
 use Rattle.std.proofs.Math.Seq.{take-append-add}
 use Rattle.sedengine.specs.State.{Limits, Task, State, Move, Setting}
-use Rattle.sedengine.specs.Move.{next_move, first_task, after, written, next_or_stay, writes_of, writing, quietly}
+use Rattle.sedengine.specs.Move.{next_move, first_task, after, written, writing, quietly}
 use Rattle.sedengine.specs.Meters.{Sent, SinkView}
 use Rattle.sedengine.specs.Calls.{Puts}
-use Rattle.sedengine.specs.Ends.{WithinLimits, Within, WholeOrBrokenOff, Cause, BrokenOff, Whole, IsCause, named_sink}
+use Rattle.sedengine.specs.Ends.{WithinLimits, Within, Cause, BrokenOff, Whole, IsCause, named_sink}
 use Rattle.sedengine.specs.Held.{HoldsAt, SameLengths}
 use Rattle.sedengine.specs.Run.{InOneCycle, starts_cycle}
-use Rattle.sedengine.specs.Steps.{Ran, Stopped, Moves}
+use Rattle.sedengine.specs.Steps.{Ran, Stopped, Moves, WholeOrBrokenOff, next_or_stay, writes_of}
 use Rattle.sedengine.specs.declared.ends.Ended.{Ended}
 use Rattle.sedengine.proofs.Sending.{Sent-append, Sent-none}
 use Rattle.sedengine.proofs.Writing.{slice_get-append_add}

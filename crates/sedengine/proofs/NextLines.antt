@@ -7,13 +7,13 @@ use Rattle.sedspace.specs.Lines.{TakesAtMost}
 use Rattle.sedspace.specs.declared.lines.Got.{Got}
 use Rattle.sedspace.specs.declared.lines.Got.TheVariants.{Line, End}
 use Rattle.sedengine.specs.State.{Limits, Task, print_pattern, flush, empty_pattern, fetch, join, State, Move, Setting}
-use Rattle.sedengine.specs.Move.{next_move, newline, next_line, none_left, quietly, then_do, with_line}
+use Rattle.sedengine.specs.Move.{next_move, newline, none_left, quietly, then_do, with_line}
 use Rattle.sedengine.specs.Ends.{WithinLimits, IsCause, named_sink, line_at, reads, takes_turn, size_of}
 use Rattle.sedengine.specs.Held.{SameLengths}
 use Rattle.sedengine.specs.Meters.{SinkView}
 use Rattle.sedengine.specs.Run.{RunState, at_lines, run_setting, starts_cycle, lost}
 use Rattle.sedengine.specs.Steps.{Moves, PerformsSteps, Ran, StepsFrom, TakesLines}
-use Rattle.sedengine.specs.Bringing.{Brings, brought}
+use Rattle.sedengine.specs.Bringing.{Brings, brought, next_line}
 use Rattle.sedengine.specs.Choose.{TellsLine}
 use Rattle.sedengine.specs.declared.next_step.NextStep.TheVariants as p
 use Rattle.sedengine.specs.declared.ends.Ended.{Ended}

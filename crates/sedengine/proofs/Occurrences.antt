@@ -10,9 +10,10 @@ use Rattle.sedmatch.specs.Matching.{found, unless_null_at}
 use Rattle.sedmatch.specs.Following.{EndsWithin, LiesOn}
 use Rattle.sedmatch.proofs.MatchingLemmas.{found-iff, IsLeftmostLongest-within}
 use Rattle.sedmatch.proofs.SpanLemmas.{Matches-forward, Matches-within}
-use Rattle.sedengine.specs.Substitute.{Occurrence, whole_span, next_occurrence, with_rest, occurrences_from}
-use Rattle.sedengine.specs.State.{match_with_span, search_for}
-use Rattle.sedengine.specs.SubstituteParts.{Skips, occurrence_at_span, occurrences_after, pending}
+use Rattle.sedengine.specs.Substitute.{Occurrence, next_occurrence, occurrences_from}
+use Rattle.sedengine.specs.State.{search_for, occurrence_at_span}
+use Rattle.sedengine.specs.SubstituteParts.{Skips, occurrences_after, pending}
+use Rattle.std.specs.Option.{option_map, option_map_or}
 
 -- a match lies in the text, after the place from which it is sought
 pub found_lies : (e : WrittenExpression) (w : List ℕ) (p i j : ℕ) → p ≤ length w → found (expression_tree e) w p ≡ Some (i, j) →
@@ -31,13 +32,13 @@ pub record Ordered (sought : ℕ → Option Occurrence) (n : ℕ) : Type 0 where
   pub lies : (p : ℕ) (m : Occurrence) → p ≤ n → sought p ≡ Some m → LiesFrom n p m
 
 match_lies : (e : WrittenExpression) (w : List ℕ) (p : ℕ) (r : Option (ℕ × ℕ)) (m : Occurrence) → p ≤ length w →
-    found (expression_tree e) w p ≡ r → match_with_span e w r ≡ Some m → LiesFrom (length w) p m
+    found (expression_tree e) w p ≡ r → option_map (occurrence_at_span e w) r ≡ Some m → LiesFrom (length w) p m
 match_lies e w p None m fits is at = let none : None ≡ Some m = at in cc
 match_lies e w p (Some span) m fits is at =
     let same : occurrence_at_span e w span ≡ m = cc in
     subst (LiesFrom (length w) p) same (found_lies e w p span.0 span.1 fits is)
 
-ordered : (e : WrittenExpression) (w : List ℕ) → Ordered (search_for (Some e) w) (length w)
+ordered : (e : WrittenExpression) (w : List ℕ) → Ordered (search_for e w) (length w)
 ordered e w = record { lies = λ p m fits is. match_lies e w p (found (expression_tree e) w p) m fits refl is }
 
 not_empty : (s e q : ℕ) → q ≤ s → s ≤ e → (nat_eq s q && nat_eq e q) ≡ false → q < e
@@ -52,7 +53,7 @@ later_test n q false other k m here far there is =
     subst (λ (m : Occurrence). (q < m.end) × (m.end ≤ n)) same (far refl, here.2)
 
 later_match : (n q : ℕ) (r other : Option Occurrence) (m : Occurrence) → ((m : Occurrence) → r ≡ Some m → LiesFrom n q m) →
-    ((m : Occurrence) → other ≡ Some m → LiesFrom n (q + 1) m) → unless_null_at whole_span q r other ≡ Some m →
+    ((m : Occurrence) → other ≡ Some m → LiesFrom n (q + 1) m) → unless_null_at (λ m. (m.start, m.end)) q r other ≡ Some m →
     (q < m.end) × (m.end ≤ n)
 later_match n q None other m here there is = let none : None ≡ Some m = is in cc
 later_match n q (Some k) other m here there is =
@@ -70,6 +71,10 @@ later sought n q m o fits is =
         LiesFrom n (q + 1) k
     other true fits k is = o.lies (q + 1) k (fits refl) is
     other false fits k is = let none : None ≡ Some k = is in cc
+
+-- an occurrence, if there is one, and those after it
+abbrev pub with_rest : Option Occurrence → (Occurrence → List Occurrence) → List Occurrence
+with_rest o rest = option_map_or (λ m. m ∷ rest m) o []
 
 with_rest_none : (o : Option Occurrence) (f : Occurrence → List Occurrence) → o ≡ None → with_rest o f ≡ []
 with_rest_none o f none = rw none refl
@@ -124,18 +129,18 @@ from_some sought n most last m o fits some is =
 
 -- the occurrences after a place are the one that comes next and those after it
 pub after_is : (e : WrittenExpression) (w : List ℕ) (last : Option ℕ) (r : Option (ℕ × ℕ)) → EndsWithin (length w) last →
-    match_with_span e w r ≡ next_occurrence (search_for (Some e) w) (length w) last →
+    option_map (occurrence_at_span e w) r ≡ next_occurrence (search_for e w) (length w) last →
     occurrences_after e w last ≡ pending e w true r
-after_is e w None None fits is = from_none (search_for (Some e) w) (length w) (length w + 1) None (sym is)
-after_is e w (Some q) None fits is = from_none (search_for (Some e) w) (length w) (length w - q) (Some q) (sym is)
+after_is e w None None fits is = from_none (search_for e w) (length w) (length w + 1) None (sym is)
+after_is e w (Some q) None fits is = from_none (search_for e w) (length w) (length w - q) (Some q) (sym is)
 after_is e w None (Some span) fits is =
     let at = (ordered e w).lies 0 (occurrence_at_span e w span) (omega arith) (sym is) in
-    rw add-one (from_some (search_for (Some e) w) (length w) (length w) None (occurrence_at_span e w span) (ordered e w) at.2
+    rw add-one (from_some (search_for e w) (length w) (length w) None (occurrence_at_span e w span) (ordered e w) at.2
     (omega arith) (sym is))
 after_is e w (Some q) (Some span) fits is =
-    let at = later (search_for (Some e) w) (length w) q (occurrence_at_span e w span) (ordered e w) fits (sym is) in
+    let at = later (search_for e w) (length w) q (occurrence_at_span e w span) (ordered e w) fits (sym is) in
     let most : length w - q ≡ suc (length w - q - 1) = omega arith in
-    rw most (from_some (search_for (Some e) w) (length w) (length w - q - 1) (Some q) (occurrence_at_span e w span)
+    rw most (from_some (search_for e w) (length w) (length w - q - 1) (Some q) (occurrence_at_span e w span)
     (ordered e w) at.1 (omega arith) (sym is))
 
 drop_more : (ms : List Occurrence) (k count : ℕ) → k ≤ count → drop k ms ≡ [] → drop count ms ≡ []
@@ -148,7 +153,7 @@ drop_more ms k count more none =
 pub skips_none : (e : WrittenExpression) (w : List ℕ) (last : Option ℕ) (k count : ℕ) (skipped : Option (Option ℕ)) →
     skipped ≡ None → k ≤ count → EndsWithin (length w) last →
     drop k (occurrences_after e w None) ≡ occurrences_after e w last →
-    match_with_span e w None ≡ next_occurrence (search_for (Some e) w) (length w) last → Skips e w count skipped
+    option_map (occurrence_at_span e w) None ≡ next_occurrence (search_for e w) (length w) last → Skips e w count skipped
 skips_none e w last k count None none more fits skipped is =
     drop_more (occurrences_after e w None) k count more (skipped ∙ after_is e w last None fits is)
 skips_none e w last k count (Some place) none more fits skipped is = let never : Some place ≡ None = none in cc
@@ -156,7 +161,7 @@ skips_none e w last k count (Some place) none more fits skipped is = let never :
 -- one more is skipped
 pub skips_one : (e : WrittenExpression) (w : List ℕ) (last : Option ℕ) (k : ℕ) (span : ℕ × ℕ) → EndsWithin (length w) last →
     drop k (occurrences_after e w None) ≡ occurrences_after e w last →
-    match_with_span e w (Some span) ≡ next_occurrence (search_for (Some e) w) (length w) last →
+    option_map (occurrence_at_span e w) (Some span) ≡ next_occurrence (search_for e w) (length w) last →
     drop (k + 1) (occurrences_after e w None) ≡ occurrences_after e w (Some span.1)
 skips_one e w last k span fits skipped is =
     sym (drop-drop 1 k (occurrences_after e w None)) ∙ ap (drop 1) (skipped ∙ after_is e w last (Some span) fits is)

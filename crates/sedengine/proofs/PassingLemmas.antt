@@ -3,7 +3,7 @@ use Rattle.std.proofs.Common.{◌≡◌, ℕ, suc, zero, ◌<◌, ◌+◌, ◌*�
 use Rattle.std.proofs.Math.Seq.{drop-nil}
 use Rattle.std.proofs.Math.Nat.{suc-mul}
 use Rattle.std.specs.Prelude.{is_some, nat_eq, slice_get, slice_set, slice_index_or, option_and_then}
-use Rattle.std.specs.Option.{option_or, option_map}
+use Rattle.std.specs.Option.{option_or, option_map, option_map_or}
 use Rattle.std.specs.List.{All}
 use Rattle.std.proofs.lemmas.List.{set-get_or, take-append-le}
 use Rattle.std.proofs.lemmas.List.Elements.{All-cons, All-head, All-nil, All-tail}
@@ -18,12 +18,12 @@ use Rattle.sedscript.specs.declared.types.Action.{Action}
 use Rattle.sedscript.specs.declared.types.Action.TheVariants.{Block, Branch, Substitute}
 use Rattle.sedscript.specs.declared.types.BranchUse.TheVariants.{Always, IfReplaced}
 use Rattle.sedscript.specs.declared.substitution.Substitution.{Substitution}
-use Rattle.sedengine.specs.State.{Limits, Task, begin, do_at, flush, empty_pattern, State, Move, Setting, has_match, match_with_span, search_for, setting_of}
+use Rattle.sedengine.specs.State.{Limits, Task, begin, do_at, flush, empty_pattern, State, Move, Setting, search_for, setting_of, occurrence_at_span}
 use Rattle.sedengine.specs.Select.{Current, Selection, answer, selects, stands_for}
-use Rattle.sedengine.specs.Substitute.{Occurrence, occurrences, occurrences_from, to_replace, with_rest}
-use Rattle.sedengine.specs.Move.{acts, after, at_end, begins, current_of, flushes, is_active, line_to, next_move, newline, next_or_stay, none_left, passes, performs, quietly, reach, reached, replaces, substitutes, writes_text_at, then_do, to_replace_in, to_sink, writes_of, writing, written}
+use Rattle.sedengine.specs.Substitute.{Occurrence, occurrences, occurrences_from, to_replace}
+use Rattle.sedengine.specs.Move.{acts, after, at_end, begins, current_of, flushes, line_to, next_move, newline, none_left, passes, performs, quietly, reach, reached, replaces, substitutes, writes_text_at, then_do, to_sink, writing, written}
 use Rattle.sedengine.specs.Meters.{Sent, SinkView}
-use Rattle.sedengine.specs.Ends.{BrokenOff, WholeOrBrokenOff, WithinLimits, Within, named_sink}
+use Rattle.sedengine.specs.Ends.{BrokenOff, WithinLimits, Within, named_sink}
 use Rattle.sedengine.specs.Held.{HoldsAt, SameLengths}
 use Rattle.sedengine.specs.declared.ends.Ended.{Ended}
 use Rattle.sedengine.specs.declared.idle.Need.{Need}
@@ -32,6 +32,10 @@ use Rattle.sedengine.proofs.Writing.{slice_get-append_add}
 use Rattle.sedengine.specs.Passing.{need_of_address, need_of_substitution, need_of_action, need_of, behind_by, behind, place_at, need_at, judged_by, judged, IsIdleIn, judged_in, Meets, LeftAlone, AllLeftAlone, BlockLeftAlone, FindsAsItSearches, bytes_of, passed_out, passed, moves_of, line_due, Went, CanPass, MovesLedTo, StoppedPassing}
 use Rattle.sedengine.proofs.Gains.{to_sink-append}
 use Rattle.sedengine.proofs.Moves.{after-add, written-add, Within-add, move_at, within_none, after_none, written_none}
+use Rattle.sedengine.specs.Choose.{is_active}
+use Rattle.sedengine.specs.SubstituteCalls.{to_replace_in}
+use Rattle.sedengine.proofs.Occurrences.{with_rest}
+use Rattle.sedengine.specs.Steps.{WholeOrBrokenOff, next_or_stay, writes_of}
 
 pub went_none : (l : Limits) (g : Setting) (s : State) → WithinLimits l s → Went l g s s [] 0
 went_none l g s f = record { is = after_none g s; wrote = written_none g s; within = within_none l g s f }
@@ -350,11 +354,11 @@ block_left_alone g c number (line ∷ lines) rest h = (
     alone Nothing asked = tt
 
 -- a script's own expressions are found as they are searched for
-none_searched : (o : Option WrittenExpression) (w : List ℕ) → has_match o w ≡ false → search_for o w 0 ≡ None
+none_searched : (o : Option WrittenExpression) (w : List ℕ) → option_map_or (λ e. is_some (found (expression_tree e) w 0)) o false ≡ false → option_and_then (λ e. search_for e w 0) o ≡ None
 none_searched None w h = refl
 none_searched (Some e) w h = none_at (found (expression_tree e) w 0) h
   where
-    none_at : (o : Option (ℕ × ℕ)) → is_some o ≡ false → match_with_span e w o ≡ None
+    none_at : (o : Option (ℕ × ℕ)) → is_some o ≡ false → option_map (occurrence_at_span e w) o ≡ None
     none_at None h = refl
     none_at (Some span) h = cc
 

@@ -1,7 +1,7 @@
 -- What a substitution does is a move.
 use Rattle.std.proofs.Common.{◌≡◌, ℕ, zero, suc, ◌<◌, ◌≤◌, Bool, true, false, cond, List, [], ◌∷◌, length, get_or, Option, Some, Result, Ok, Err, refl, subst, sym, ap, ◌∙◌, arith, Vec, Global}
 use Rattle.std.specs.Prelude.{slice_get}
-use Rattle.std.specs.Option.{option_or}
+use Rattle.std.specs.Option.{option_or, option_map_or}
 use Rattle.sedre.specs.Tree.{WrittenExpression}
 use Rattle.sedmatch.specs.SearchRoom.{SearchRoom}
 use Rattle.sedmatch.specs.Occurrences.{KeepsRoom, RoomFor}
@@ -12,14 +12,14 @@ use Rattle.sedspace.specs.declared.errors.Full.{Full}
 use Rattle.sedengine.specs.State.{Task, begin, rebegin, do_at, print_pattern, empty_pattern, flush, copy, fetch, join, State, Move, Setting, search_in}
 use Rattle.sedengine.specs.Substitute.{Occurrence, to_replace, occurrences, replaced_from}
 use Rattle.sedengine.specs.Select.{stands_for}
-use Rattle.sedengine.specs.Move.{next_move, becomes, to_replace_in, quietly, writing, line_to, line_to_file, replaces, written_by}
+use Rattle.sedengine.specs.Move.{next_move, quietly, writing, line_to, replaces, written_by}
 use Rattle.sedengine.specs.Ends.{WithinLimits, Leads, reaches, line_at}
 use Rattle.sedengine.specs.Held.{SameLengths}
 use Rattle.sedengine.specs.Meters.{SinkView}
 use Rattle.sedengine.specs.Calls.{Puts}
 use Rattle.sedengine.specs.Run.{RunState, at_lines, run_setting}
 use Rattle.sedengine.specs.Steps.{ReachesCommand, Moves, MakesMove}
-use Rattle.sedengine.specs.SubstituteCalls.{Makes, ReplacesIn, same_but_replaced}
+use Rattle.sedengine.specs.SubstituteCalls.{Makes, ReplacesIn, same_but_replaced, to_replace_in}
 use Rattle.sedengine.specs.Fitting.{RoomToSeek}
 use Rattle.sedengine.specs.Inside.{run_of, tasks_of, IsConsistent, IsEmptied}
 use Rattle.sedengine.specs.declared.machine.Machine.TheInside.{Inside}
@@ -170,6 +170,10 @@ module _ (r r' : RunState) (ls : List (List ℕ)) (before : WithinLimits r.limit
           stopped_here r.limits g s (at_lines r' ls) old (PatternFull n) c.fits refl (number ∙ sym c.number ∙ sym (reached_line s s.tasks c.reaches), c.turn, (m, first ∙ is, more)) (lengths s c) c.lines
       stops s c first other h = absurd h
 
+-- the text with a newline for the sink of a flag `w`, where the flag is given
+abbrev pub line_to_file : Option ℕ → List ℕ → List (ℕ × ℕ)
+line_to_file o w = option_map_or (λ k. line_to k w) o []
+
 -- what the flag `p` writes, and then the flag `w`
 pub puts_both : (t : Substitution) (w : List ℕ) (old mid new : SinkView) (r : Result Unit Ended) → Puts old mid (cond t.print (line_to 0 w) []) (Ok tt) → Puts mid new (line_to_file t.file w) r → Puts old new (written_by t w) r
 puts_both t w old mid new r a h = Puts-append old mid new (cond t.print (line_to 0 w) []) (line_to_file t.file w) r a h
@@ -193,6 +197,10 @@ pub printed_seen : (a : Inside) (e : RunState) (k : ℕ) (s t : Substitution) (w
 printed_seen a e k s t w sinks sinks' r seen is is' print h =
     let Q : Bool → Type 0 = λ b. Puts sinks sinks' (cond b (line_to 0 w) []) r in
     subst Q (sym print ∙ ap (λ (x : Substitution). x.print) (one_seen a e k s t seen is is')) h
+
+-- the state in which the pattern space became a text by a substitution
+abbrev pub becomes : State → Substitution → List ℕ → Option Move
+becomes s t w = writing (written_by t w) (record s { pattern = w; replaced = true })
 
 replaces_some : (s : State) (t : Substitution) (ms : List Occurrence) → 0 < length ms → replaces s t ms ≡ becomes s t (replaced_from s.pattern t.replacement 0 ms)
 replaces_some s t [] some = absurd (omega arith)

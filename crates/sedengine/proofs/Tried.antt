@@ -51,10 +51,10 @@ answered a r named k ms b last seen same is found =
 
 -- what is replaced with the expression of a number
 pub replaces_by : (ms : List WrittenExpression) (e : ℕ) (m : WrittenExpression) (w : List ℕ) (t : Substitution) (limit : ℕ) (made : List ℕ) (r : Result Bool Full) → e < length ms → m ≡ get_or ms e m →
-    ReplacesThese w t.replacement (to_replace t.number t.global (occurrences (search_for (Some m) w) (length w))) limit made r →
+    ReplacesThese w t.replacement (to_replace t.number t.global (occurrences (search_for m w) (length w))) limit made r →
     ReplacesThese w t.replacement (to_replace t.number t.global (occurrences (search_in ms e w) (length w))) limit made r
 replaces_by ms e m w t limit made r inside is h =
-    let P : Option WrittenExpression → Type 0 = λ o. ReplacesThese w t.replacement (to_replace t.number t.global (occurrences (search_for o w) (length w))) limit made r in
+    let P : Option WrittenExpression → Type 0 = λ o. ReplacesThese w t.replacement (to_replace t.number t.global (occurrences (λ from. option_and_then (λ e. search_for e w from) o) (length w))) limit made r in
     subst P (sym (slice_get_read ms (length ms) e m refl inside is)) h
 
 -- the matcher of a number is the one that stands there

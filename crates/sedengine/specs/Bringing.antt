@@ -1,10 +1,12 @@
 -- Private to the proofs: no contract of a public item cites what stands here.
 -- What calls that bring the next line into a space promise.
-use Rattle.std.specs.Prelude.{◌≡◌, ℕ, false, ◌<◌, ◌≤◌, ◌+◌, Option, Result, Ok, Err, List, [], ◌∷◌, ◌++◌, length}
+use Rattle.std.specs.Prelude.{◌≡◌, ℕ, false, ◌<◌, ◌≤◌, ◌+◌, Option, Result, Ok, Err, List, [], ◌∷◌, ◌++◌, length, if◌then◌else◌}
 use Rattle.sedspace.specs.Spaces.{Contents}
 use Rattle.sedspace.specs.Stream.{Stream, left, LosesPart}
 use Rattle.sedspace.specs.declared.lines.Got.{Got}
 use Rattle.sedspace.specs.declared.lines.Got.TheVariants.{Line, End}
+use Rattle.sedengine.specs.State.{print_pattern, empty_pattern, flush, fetch, State, Move}
+use Rattle.sedengine.specs.Move.{none_left, quietly, then_do}
 use Rattle.sedengine.specs.Run.{RunState}
 use Rattle.sedengine.specs.Steps.{TakesLines}
 use Rattle.sedengine.specs.Types.{Ended, PatternFull, InputBroken}
@@ -29,3 +31,9 @@ Brings remaining old new ls before number s s' (Err other) = ⊥
 abbrev pub brought : RunState → Got → RunState
 brought e Line = record e { state = record e.state { number = e.state.number + 1; replaced = false } }
 brought e End = record e { state = record e.state { tasks = [] } }
+
+-- what `n` does: the next line is fetched, or the run goes to its end where there is none
+abbrev pub next_line : State → Option Move
+next_line s = quietly (
+    if none_left s.lines then then_do (print_pattern ∷ flush ∷ []) s
+    else then_do (print_pattern ∷ flush ∷ empty_pattern ∷ fetch ∷ s.tasks) s)

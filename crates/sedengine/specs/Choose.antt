@@ -1,10 +1,10 @@
 -- Private to the proofs: no contract of a public item cites what stands here.
 -- How addresses are judged: one address decides at a line, and the choice follows from whether it matches.
-use Rattle.std.specs.Prelude.{◌≡◌, ℕ, ◌+◌, Bool, true, false, not, Option, Some, None, List, [], ◌∷◌, nat_lt, nat_le, nat_eq, slice_set, Result, Ok, Err, if◌then◌else◌}
+use Rattle.std.specs.Prelude.{◌≡◌, ℕ, ◌+◌, Bool, true, false, not, Option, Some, None, List, [], ◌∷◌, nat_lt, nat_le, nat_eq, slice_index_or, slice_set, ◌||◌, Result, Ok, Err, if◌then◌else◌}
 use Rattle.sedengine.specs.Types.{Address, Line, Last, Match, Command, Ended, NoPrevious, InputBroken}
 use Rattle.sedengine.specs.Select.{Current, AddressAnswer, Selection, answer, ends_at_once, selects}
-use Rattle.sedengine.specs.State.{do_at, finds_in}
-use Rattle.sedengine.specs.Ends.{names_last}
+use Rattle.sedengine.specs.State.{do_at, State, finds_in}
+use Rattle.sedengine.specs.Ends.{is_dollar}
 use Rattle.sedengine.specs.Run.{RunState}
 use Rattle.sedengine.specs.declared.select.Chosen.{Chosen}
 
@@ -63,6 +63,10 @@ current_in e last = record {
   used = e.state.used;
 }
 
+-- whether the range of command k is active
+abbrev pub is_active : State → ℕ → Bool
+is_active s k = slice_index_or s.ranges k false
+
 -- the engine with another expression last used
 abbrev pub with_used : RunState → Option ℕ → RunState
 with_used e used = record e { state = record e.state { used = used } }
@@ -77,6 +81,10 @@ Answers c a used asks (Err _) = ⊥
 -- the choice with the expression last used after it
 abbrev pub as_selection : Chosen → Option ℕ → Selection
 as_selection c used = record { yes = c.yes; end = c.end; active = c.active; used = used }
+
+-- whether a command has an address `$`
+abbrev pub names_last : Command → Bool
+names_last c = is_dollar c.first || is_dollar c.second
 
 -- What a call that judges the addresses of a command answers, used being the expression last used after it.
 abbrev pub Judges : Current → Bool → Command → Option ℕ → Result Chosen Ended → Type 0

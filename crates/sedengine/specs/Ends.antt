@@ -1,5 +1,6 @@
 -- How a run ends: what its sinks have gained, the ends and their causes (this project's own; XCU sed names no limits).
-use Rattle.std.specs.Prelude.{◌≡◌, ℕ, ◌+◌, ◌≤◌, Option, Some, None, Result, Err, IfSome, List, [], ◌∷◌, length, nat_eq, if◌then◌else◌, suc, ◌<◌, Bool, true, false, ◌||◌, take, slice_get, is_some, not, ◌++◌, drop, ⊤}
+use Rattle.std.specs.Prelude.{◌≡◌, ℕ, ◌+◌, ◌≤◌, Option, Some, None, Result, Err, IfSome, MatchOption, List, [], ◌∷◌, length, nat_eq, if◌then◌else◌, suc, ◌<◌, Bool, true, false, ◌||◌, take, slice_get, is_some, not, ◌++◌, drop, ⊤}
+use Rattle.std.specs.Option.{option_map_or}
 use Rattle.std.specs.Io.KnownBytes.{Appends}
 use Rattle.sedspace.specs.Failures.{Rose}
 use Rattle.sedengine.specs.Types.{Ended, InputBroken, OutputBroken, OutputFull, Done, PatternFull, HoldFull, QueueFull, TurnsSpent, NoPrevious, Address, Last, Command, Action, Plain, NextLine}
@@ -70,25 +71,21 @@ abbrev pub is_dollar : Option Address → Bool
 is_dollar (Some Last) = true
 is_dollar other = false
 
--- whether a command has an address `$`
-abbrev pub names_last : Command → Bool
-names_last c = is_dollar c.first || is_dollar c.second
-
 -- whether it is the function `n`, which does one thing or another by whether a line is left
 abbrev pub is_next : Action → Bool
 is_next (Plain NextLine) = true
 is_next other = false
 
-abbrev pub asks_last : Option Command → Bool
-asks_last None = false
-asks_last (Some c) = names_last c || is_next c.action
+-- whether a command asks if a line is left
+abbrev pub asks_last : Command → Bool
+asks_last c = is_dollar c.first || is_dollar c.second || is_next c.action
 
 -- whether the first task may look at the input: it fetches a line, or reaches a command with an address `$` or an `n`
 abbrev pub reads : Setting → List Task → Bool
 reads g (begin ∷ rest) = true
 reads g (fetch ∷ rest) = true
 reads g (join ∷ rest) = true
-reads g (do_at k ∷ rest) = asks_last (slice_get g.commands k)
+reads g (do_at k ∷ rest) = option_map_or asks_last (slice_get g.commands k) false
 reads g other = false
 
 -- whether the first task reaches a command, or the end of the script
@@ -133,14 +130,9 @@ pub record BrokenOff (l : Limits) (g : Setting) (s : State) (out : List (ℕ × 
   pub due : slice_get (written g s (suc t)) b ≡ Some (k, byte)
   pub wrote : take b (written g s (suc t)) ≡ out
 
--- whole, or broken off where a sink takes no more
-abbrev pub WholeOrBrokenOff : Limits → Setting → State → List (ℕ × ℕ) → Ended → ℕ → Option ℕ → Type 0
-WholeOrBrokenOff l g s out end t None = Whole l g s out end t
-WholeOrBrokenOff l g s out end t (Some k) = BrokenOff l g s out k t
-
 -- The end has its cause after t moves from the state s, and `out` is the output till then: the bytes, each with its sink.
 abbrev pub Cause : Limits → Setting → State → List (ℕ × ℕ) → Ended → ℕ → Type 0
-Cause l g s out end t = WholeOrBrokenOff l g s out end t (named_sink end)
+Cause l g s out end t = MatchOption (named_sink end) (Whole l g s out end t) (λ k. BrokenOff l g s out k t)
 
 -- the bytes of lines, a newline counted with each
 abbrev pub size_of : List (List ℕ) → ℕ

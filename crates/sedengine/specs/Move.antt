@@ -1,6 +1,6 @@
 -- How the editor moves from one state to the next (XCU sed, Extended Description). Nothing is limited here.
 use Rattle.std.specs.Prelude.{ℕ, suc, zero, ◌+◌, Bool, true, false, ◌||◌, Option, Some, None, List, [], ◌∷◌, ◌++◌, map, decimal, is_none, length, slice_get, slice_set, slice_index_or, if◌then◌else◌}
-use Rattle.std.specs.Option.{unwrap_or}
+use Rattle.std.specs.Option.{option_map_or, unwrap_or}
 use Rattle.std.specs.List.{after_first, before_first, list_any}
 use Rattle.sedspace.specs.Lines.{is_newline}
 use Rattle.sedengine.specs.Types.{Command, Action, Block, Branch, File, Plain, Substitute, Text, Transliterate, AppendHold, AppendNext, CopyHold, Delete, DeleteFirst, Exchange, Hold, HoldMore, LineNumber, listing, NextLine, Print, PrintFirst, Quit, Append, Change, Insert, Always, IfReplaced, Read, Write, Substitution}
@@ -57,38 +57,23 @@ abbrev pub copies : State → List Task → ℕ → ℕ → Option ℕ → Optio
 copies s rest k o None = quietly (then_do rest s)
 copies s rest k o (Some b) = writing ((0, b) ∷ []) (record s { tasks = copy k (o + 1) ∷ rest; turns = s.turns + 1 })
 
--- the next line replaces the pattern space, or is appended to it; where there is none the run ends. No run fetches a line
+-- the next line is taken, of which `made` makes the pattern space; where there is none the run ends. No run fetches a line
 -- where none is left; that it would end there is this project's own
-abbrev pub fetches : State → List Task → List (List ℕ) → Option Move
-fetches s rest [] = quietly (then_do [] s)
-fetches s rest (line ∷ lines) = quietly (then_do rest (with_line line lines s))
-
-abbrev pub joins : State → List Task → List (List ℕ) → Option Move
-joins s rest [] = quietly (then_do [] s)
-joins s rest (line ∷ lines) = quietly (then_do rest (with_line (s.pattern ++ newline ∷ line) lines s))
-
--- the occurrences in the pattern space that a substitution with the expression e replaces
-abbrev pub to_replace_in : Setting → Substitution → ℕ → List ℕ → List Occurrence
-to_replace_in g t e w = to_replace t.number t.global (occurrences (g.search e w) (length w))
-
--- the text with a newline for the sink of a flag `w`, where the flag is given
-abbrev pub line_to_file : Option ℕ → List ℕ → List (ℕ × ℕ)
-line_to_file None w = []
-line_to_file (Some k) w = line_to k w
+abbrev pub takes_line : State → List Task → (List ℕ → List ℕ) → List (List ℕ) → Option Move
+takes_line s rest made [] = quietly (then_do [] s)
+takes_line s rest made (line ∷ lines) = quietly (then_do rest (with_line (made line) lines s))
 
 -- what a substitution that made the text w writes: with its flag `p` the text, and then, with its flag `w`, the text to
 -- the file (the order of the two: this project's own)
 abbrev pub written_by : Substitution → List ℕ → List (ℕ × ℕ)
-written_by t w = (if t.print then line_to 0 w else []) ++ line_to_file t.file w
+written_by t w = (if t.print then line_to 0 w else []) ++ option_map_or (λ k. line_to k w) t.file []
 
--- the state in which the pattern space became a text by a substitution
-abbrev pub becomes : State → Substitution → List ℕ → Option Move
-becomes s t w = writing (written_by t w) (record s { pattern = w; replaced = true })
-
--- these occurrences are replaced, if there are any
+-- these occurrences are replaced, if there are any, and the pattern space becomes the text that this makes
 abbrev pub replaces : State → Substitution → List Occurrence → Option Move
 replaces s t [] = quietly s
-replaces s t (m ∷ ms) = becomes s t (replaced_from s.pattern t.replacement 0 (m ∷ ms))
+replaces s t (m ∷ ms) =
+    let w = replaced_from s.pattern t.replacement 0 (m ∷ ms) in
+    writing (written_by t w) (record s { pattern = w; replaced = true })
 
 -- A substitution. Its expression, or the one that an empty one stands for, is the one last used, whether it matches or
 -- not. Without an expression used before an empty one there is no move (this project's own).
@@ -96,12 +81,11 @@ abbrev pub substitutes : Setting → State → Option Substitution → Option Mo
 substitutes g s None = quietly s
 substitutes g s (Some t) = do
   e ← stands_for t.expression s.used
-  replaces (record s { used = Some e }) t (to_replace_in g t e s.pattern)
+  replaces (record s { used = Some e }) t (to_replace t.number t.global (occurrences (g.search e s.pattern) (length s.pattern)))
 
 -- the byte that stands in a table for a byte
 abbrev pub in_table : Option (List ℕ) → ℕ → ℕ
-in_table None b = b
-in_table (Some bytes) b = slice_index_or bytes b b
+in_table table b = slice_index_or (unwrap_or table []) b b
 
 -- whether no line of input is left
 abbrev pub none_left : List (List ℕ) → Bool
@@ -111,12 +95,6 @@ none_left (line ∷ lines) = false
 -- the queue with a further entry
 abbrev pub queueing : Entry → State → State
 queueing entry s = record s { queue = s.queue ++ entry ∷ [] }
-
--- the pattern space is written and the next line fetched, or the run goes to its end where there is none
-abbrev pub next_line : State → Option Move
-next_line s = quietly (
-    if none_left s.lines then then_do (print_pattern ∷ flush ∷ []) s
-    else then_do (print_pattern ∷ flush ∷ empty_pattern ∷ fetch ∷ s.tasks) s)
 
 -- What a command that applies does (XCU sed, "Editing Commands in sed"). The state has taken the turn, and goes on
 -- after the command unless a case says otherwise. `writes_text` says whether `c` writes its text here.
@@ -159,9 +137,11 @@ acts g s writes_text (Plain listing) = writing (to_sink 0 (listed s.pattern)) s
 -- space with the next line of input, less its terminating <newline>. If there is no next line of input, the n command verb
 -- shall branch to the end of the script and quit without starting a new cycle." There the pattern space is written once
 -- (this project's own).
-acts g s writes_text (Plain NextLine) = next_line s
+acts g s writes_text (Plain NextLine) = quietly (
+    if none_left s.lines then then_do (print_pattern ∷ flush ∷ []) s
+    else then_do (print_pattern ∷ flush ∷ empty_pattern ∷ fetch ∷ s.tasks) s)
 -- `N`: "Append the next line of input, less its terminating <newline>, to the pattern space, using an embedded <newline>
--- to separate the appended material from the original material." Where no line is left, `joins` ends the run: "quit
+-- to separate the appended material from the original material." Where no line is left, `takes_line` ends the run: "quit
 -- without starting a new cycle or copying the pattern space to standard output".
 acts g s writes_text (Plain AppendNext) = quietly (then_do (flush ∷ join ∷ s.tasks) s)
 -- `=`: writes the line number and a newline
@@ -199,10 +179,6 @@ current_of g s = record {
   used = s.used;
 }
 
--- whether the range of command k is active
-abbrev pub is_active : State → ℕ → Bool
-is_active s k = slice_index_or s.ranges k false
-
 -- the state that has reached command k: the turn is taken, its addresses are judged, and the next task is the next command
 abbrev pub reached : State → ℕ → Selection → State
 reached s k choice = record s {
@@ -226,7 +202,7 @@ performs g s k c choice =
 abbrev pub reach : Setting → State → ℕ → Option Command → Option Move
 reach g s k None = quietly (then_do at_end s)
 reach g s k (Some c) = do
-  choice ← selects (current_of g s) (is_active s k) c
+  choice ← selects (current_of g s) (slice_index_or s.ranges k false) c
   performs g s k c choice
 
 -- by the first task
@@ -240,31 +216,22 @@ first_task g s (print_pattern ∷ rest) = writing (if g.quiet then [] else line_
 first_task g s (empty_pattern ∷ rest) = quietly (record s { pattern = []; tasks = rest })
 first_task g s (flush ∷ rest) = flushes s rest s.queue
 first_task g s (copy k o ∷ rest) = copies s rest k o (slice_get (g.files k) o)
-first_task g s (fetch ∷ rest) = fetches s rest s.lines
-first_task g s (join ∷ rest) = joins s rest s.lines
+first_task g s (fetch ∷ rest) = takes_line s rest (λ line. line) s.lines
+first_task g s (join ∷ rest) = takes_line s rest (λ line. s.pattern ++ newline ∷ line) s.lines
 
 -- A state that has ended has no move. One that has tasks and no move needs an expression that isn't there.
 unfoldable pub next_move : Setting → State → Option Move
 next_move g s = first_task g s s.tasks
 
--- a state that has no move stays, and writes nothing
-abbrev pub next_or_stay : State → Option Move → State
-next_or_stay s None = s
-next_or_stay s (Some m) = m.next
-
-abbrev pub writes_of : Option Move → List (ℕ × ℕ)
-writes_of None = []
-writes_of (Some m) = m.writes
-
--- the state after t moves
+-- the state after t moves; one that has no move stays, and writes nothing
 unfoldable pub after : Setting → State → ℕ → State
 after g s zero = s
-after g s (suc t) = next_or_stay (after g s t) (next_move g (after g s t))
+after g s (suc t) = option_map_or (λ m. m.next) (next_move g (after g s t)) (after g s t)
 
 -- what the first t moves write, for all sinks jointly
 unfoldable pub written : Setting → State → ℕ → List (ℕ × ℕ)
 written g s zero = []
-written g s (suc t) = written g s t ++ writes_of (next_move g (after g s t))
+written g s (suc t) = written g s t ++ option_map_or (λ m. m.writes) (next_move g (after g s t)) []
 
 -- where a run starts
 abbrev pub start : List Command → List (List ℕ) → State

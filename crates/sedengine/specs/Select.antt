@@ -33,6 +33,10 @@ abbrev pub stands_for : Option ℕ → Option ℕ → Option ℕ
 stands_for (Some e) used = Some e
 stands_for None used = used
 
+-- selected in a range, and whether it ends here
+abbrev pub in_range : Bool → Option ℕ → Selection
+in_range end used = record { yes = true; end = end; active = not end; used = used }
+
 -- One address. Without an expression used before an empty one there is no answer (this project's own).
 abbrev pub answer : Current → Address → Option AddressAnswer
 -- "a decimal number that counts input lines cumulatively across files"
@@ -55,20 +59,18 @@ abbrev pub on_idle : Current → Address → Address → Option Selection
 on_idle c first second = do
   a ← answer c first
   Some (if a.yes
-      then record { yes = true; end = ends_at_once c.number second; active = not (ends_at_once c.number second); used = a.used }
+      then in_range (ends_at_once c.number second) a.used
       else record { yes = false; end = false; active = false; used = a.used })
 
 -- An active range goes on through the pattern space that matches its second address. Where that is the number of a line
 -- that has passed, the range is over, and the pattern space is judged anew (this project's own).
 abbrev pub on_active : Current → Address → Address → Option Selection
 on_active c first (Line n) =
-    if nat_lt c.number n then Some (record { yes = true; end = false; active = true; used = c.used })
-    else (if nat_eq c.number n then Some (record { yes = true; end = true; active = false; used = c.used })
-    else on_idle c first (Line n))
-on_active c first Last = Some (record { yes = true; end = c.last; active = not c.last; used = c.used })
-on_active c first (Match e) = do
-  a ← answer c (Match e)
-  Some (record { yes = true; end = a.yes; active = not a.yes; used = a.used })
+    if nat_lt c.number n then Some (in_range false c.used)
+    else (if nat_eq c.number n then Some (in_range true c.used) else on_idle c first (Line n))
+on_active c first second = do
+  a ← answer c second
+  Some (in_range a.yes a.used)
 
 -- "An editing command with no addresses shall select every pattern space", with one address "each pattern space that
 -- matches the address", with two addresses a range
@@ -79,13 +81,10 @@ of_addresses c active (Some first) None = do
   Some (record { yes = a.yes; end = false; active = active; used = a.used })
 of_addresses c active (Some first) (Some second) = if active then on_active c first second else on_idle c first second
 
--- `!` turns the yes alone: "the function shall be applied if the addresses do not select the pattern space"
-abbrev pub negated : Bool → Selection → Selection
-negated n choice = record choice { yes = if n then not choice.yes else choice.yes }
-
 -- what the addresses of a command choose, given whether its range is active. One address is judged at most; one that isn't judged
--- asks nothing, and isn't the expression last used (this project's own)
+-- asks nothing, and isn't the expression last used (this project's own). `!` turns the yes alone: "the function shall be
+-- applied if the addresses do not select the pattern space"
 unfoldable pub selects : Current → Bool → Command → Option Selection
 selects c active command = do
   choice ← of_addresses c active command.first command.second
-  Some (negated command.negate choice)
+  Some (record choice { yes = if command.negate then not choice.yes else choice.yes })

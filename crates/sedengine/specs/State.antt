@@ -1,6 +1,7 @@
 -- A state of the editor (XCU sed, Extended Description), and what doesn't change in a run: the limits (this project's own), the
 -- script and the files that it reads.
-use Rattle.std.specs.Prelude.{ℕ, Option, Bool, List, false, Some, None, is_some, slice_get, ◌≡◌}
+use Rattle.std.specs.Prelude.{ℕ, Option, Bool, List, false, Some, is_some, slice_get, ◌≡◌}
+use Rattle.std.specs.Option.{option_and_then, option_map, option_map_or}
 use Rattle.sedengine.specs.Types.{Command, Substitution}
 use Rattle.sedengine.specs.Substitute.{Occurrence}
 use Rattle.sedre.specs.Tree.{WrittenExpression, expression_tree}
@@ -63,28 +64,21 @@ pub record Setting : Type 0 where
   pub quiet : Bool
   pub files : ℕ → List ℕ
 
--- whether an expression has a match in a text (XBD 9.1)
-abbrev pub has_match : Option WrittenExpression → List ℕ → Bool
-has_match None w = false
-has_match (Some e) w = is_some (found (expression_tree e) w 0)
-
--- whether the expression of a number has a match in a text
+-- whether the expression of a number has a match in a text (XBD 9.1)
 abbrev pub finds_in : List WrittenExpression → ℕ → List ℕ → Bool
-finds_in expressions k w = has_match (slice_get expressions k) w
+finds_in expressions k w = option_map_or (λ e. is_some (found (expression_tree e) w 0)) (slice_get expressions k) false
 
 -- the match of an expression in a text, by its span, with its groups (XBD 9.1)
-abbrev pub match_with_span : WrittenExpression → List ℕ → Option (ℕ × ℕ) → Option Occurrence
-match_with_span e w None = None
-match_with_span e w (Some span) = Some (record { start = span.0; end = span.1; groups = report (expression_tree e) w span.0 span.1 })
+abbrev pub occurrence_at_span : WrittenExpression → List ℕ → ℕ × ℕ → Occurrence
+occurrence_at_span e w span = record { start = span.0; end = span.1; groups = report (expression_tree e) w span.0 span.1 }
 
 -- the leftmost-longest match of an expression that begins at a place or later
-abbrev pub search_for : Option WrittenExpression → List ℕ → ℕ → Option Occurrence
-search_for None w from = None
-search_for (Some e) w from = match_with_span e w (found (expression_tree e) w from)
+abbrev pub search_for : WrittenExpression → List ℕ → ℕ → Option Occurrence
+search_for e w from = option_map (occurrence_at_span e w) (found (expression_tree e) w from)
 
--- the leftmost-longest match of the expression of a number that begins at a place or later
+-- the same of the expression of a number
 abbrev pub search_in : List WrittenExpression → ℕ → List ℕ → ℕ → Option Occurrence
-search_in expressions k w from = search_for (slice_get expressions k) w from
+search_in expressions k w from = option_and_then (λ e. search_for e w from) (slice_get expressions k)
 
 abbrev pub setting_of : Program → (ℕ → List ℕ) → Setting
 setting_of p files = record {

@@ -1,6 +1,7 @@
 -- Private to the proofs: no contract of a public item cites what stands here.
 -- Moves of the engine, and what its calls promise one another.
 use Rattle.std.specs.Prelude.{◌≡◌, ℕ, true, ◌+◌, ◌*◌, ◌-◌, ◌<◌, Bool, false, Option, Some, None, Result, Ok, Err, List, [], ◌∷◌, ◌++◌}
+use Rattle.std.specs.Option.{MatchOption, option_map_or}
 use Rattle.std.specs.Borrow.{GName}
 use Rattle.std.specs.Io.KnownBytes.{Keeps}
 use Rattle.sedspace.specs.Stream.{Stream, left, lines_left}
@@ -10,9 +11,20 @@ use Rattle.sedengine.specs.State.{Limits, Task, do_at, State, Move, Setting}
 use Rattle.sedengine.specs.Meters.{Sent, SinkView}
 use Rattle.sedengine.specs.Calls.{Delivers, DeliversAlone, ReadsLines}
 use Rattle.sedengine.specs.Move.{acts, next_move, after, written}
-use Rattle.sedengine.specs.Ends.{WithinLimits, HasTurn, Within, Cause, named_sink, reaches, reads, LosesPartAfter, size_of}
+use Rattle.sedengine.specs.Ends.{WithinLimits, HasTurn, Within, Cause, named_sink, reaches, reads, LosesPartAfter, size_of, Whole, BrokenOff}
 use Rattle.sedengine.specs.Held.{HoldsAt, SameLengths}
 use Rattle.sedengine.specs.Run.{RunState, InOneCycle, at_lines, lost, run_setting}
+
+-- a state that has no move stays, and writes nothing
+abbrev pub next_or_stay : State → Option Move → State
+next_or_stay s o = option_map_or (λ m. m.next) o s
+
+abbrev pub writes_of : Option Move → List (ℕ × ℕ)
+writes_of o = option_map_or (λ m. m.writes) o []
+
+-- an end that is whole, or broken off where a sink takes no more
+abbrev pub WholeOrBrokenOff : Limits → Setting → State → List (ℕ × ℕ) → Ended → ℕ → Option ℕ → Type 0
+WholeOrBrokenOff l g s out end t o = MatchOption o (Whole l g s out end t) (λ k. BrokenOff l g s out k t)
 
 -- Moves were made, which led to this state. Only the last of them may have led to the start of a cycle.
 pub record Ran (l : Limits) (g : Setting) (s now : State) (old new : SinkView) : Type 0 where

@@ -1,14 +1,18 @@
 -- Private to the proofs: no contract of a public item cites what stands here.
 -- What the engine's calls for a substitution promise one another.
-use Rattle.std.specs.Prelude.{◌≡◌, ◌<◌, Bool, true, false, Option, None, Result, Ok, Err, List, [], length}
+use Rattle.std.specs.Prelude.{◌≡◌, ℕ, ◌<◌, Bool, true, false, Option, None, Result, Ok, Err, List, [], length}
 use Rattle.sedengine.specs.Types.{Substitution, Ended, PatternFull, NoPrevious}
 use Rattle.sedspace.specs.declared.errors.Full.{Full}
 use Rattle.sedspace.specs.Spaces.{Contents}
-use Rattle.sedengine.specs.State.{Limits, State, Move}
-use Rattle.sedengine.specs.Substitute.{Occurrence, replaced_from}
+use Rattle.sedengine.specs.State.{Limits, State, Move, Setting}
+use Rattle.sedengine.specs.Substitute.{Occurrence, occurrences, to_replace, replaced_from}
 use Rattle.sedengine.specs.Move.{quietly, writing, written_by}
 use Rattle.sedengine.specs.Ends.{Leads}
 use Rattle.sedengine.specs.Run.{RunState}
+
+-- the occurrences in a text that a substitution with the expression e replaces
+abbrev pub to_replace_in : Setting → Substitution → ℕ → List ℕ → List Occurrence
+to_replace_in g t e w = to_replace t.number t.global (occurrences (g.search e w) (length w))
 
 -- A call replaces these occurrences in a space, and says whether there are any. Where there are none the space stays as
 -- it was; Full where it has no room for what would be made.

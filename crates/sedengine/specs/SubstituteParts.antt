@@ -1,7 +1,7 @@
 -- Private to the proofs: no contract of a public item cites what stands here.
 -- What the parts of a substitution tell.
 use Rattle.std.specs.Prelude.{◌≡◌, ℕ, ◌+◌, ◌-◌, ◌*◌, ◌<◌, List, [], ◌∷◌, ◌++◌, length, drop, Bool, true, false}
-use Rattle.std.specs.Prelude.{Option, Some, None, IfSome, Result, Ok, Err, if◌then◌else◌}
+use Rattle.std.specs.Prelude.{Option, Some, None, option_map, IfSome, Result, Ok, Err, if◌then◌else◌}
 use Rattle.sedre.specs.Tree.{WrittenExpression, expression_tree}
 use Rattle.sedmatch.specs.Groups.{Groups, span_of}
 use Rattle.sedmatch.specs.Answer.{SpanIn}
@@ -14,7 +14,7 @@ use Rattle.sedengine.specs.Types.{Piece, group}
 use Rattle.sedspace.specs.Spaces.{Contents}
 use Rattle.sedspace.specs.declared.errors.Full.{Full}
 use Rattle.sedengine.specs.Substitute.{Occurrence, next_occurrence, occurrences_from, occurrences, replaced_from}
-use Rattle.sedengine.specs.State.{match_with_span, search_for}
+use Rattle.sedengine.specs.State.{occurrence_at_span, search_for}
 
 -- what a substitution answers where these occurrences are to be replaced in the text w: whether there are any, and then
 -- the text made; Full where that would be longer than the space
@@ -42,10 +42,6 @@ GroupsIn n groups = (k : ℕ) → SpanIn n (span_of groups k)
 abbrev pub with_groups : ℕ × ℕ → Groups → Occurrence
 with_groups span groups = record { start = span.0; end = span.1; groups = groups }
 
--- the match of an expression that has this span in the text w
-abbrev pub occurrence_at_span : WrittenExpression → List ℕ → ℕ × ℕ → Occurrence
-occurrence_at_span e w span = with_groups span (report (expression_tree e) w span.0 span.1)
-
 -- where they are wanted, the groups are those of the occurrence that has the span, if there is one
 abbrev pub GroupsOf : WrittenExpression → List ℕ → Bool → Option (ℕ × ℕ) → Groups → Type 0
 GroupsOf e w wanted None groups = Unit {0}
@@ -55,12 +51,12 @@ GroupsOf e w wanted (Some span) groups = wanted ≡ true → groups ≡ report (
 -- span lies after that place
 abbrev pub IsNextOccurrence : WrittenExpression → List ℕ → Option ℕ → Option (ℕ × ℕ) → Type 0
 IsNextOccurrence e w last found =
-    (match_with_span e w found ≡ next_occurrence (search_for (Some e) w) (length w) last) × IfSome found (LiesOn (length w) last)
+    (option_map (occurrence_at_span e w) found ≡ next_occurrence (search_for e w) (length w) last) × IfSome found (LiesOn (length w) last)
 
 -- the occurrences after the one that ended at a place, or all
 abbrev pub occurrences_after : WrittenExpression → List ℕ → Option ℕ → List Occurrence
-occurrences_after e w None = occurrences (search_for (Some e) w) (length w)
-occurrences_after e w (Some q) = occurrences_from (search_for (Some e) w) (length w) (length w - q) (Some q)
+occurrences_after e w None = occurrences (search_for e w) (length w)
+occurrences_after e w (Some q) = occurrences_from (search_for e w) (length w) (length w - q) (Some q)
 
 -- the occurrences after a number of them, where the last of these ended if there are so many
 abbrev pub Skips : WrittenExpression → List ℕ → ℕ → Option (Option ℕ) → Type 0

@@ -76,7 +76,7 @@ pub(crate) fn build_text(
     requires serves { Serves matcher.old replacing.text.now None seeking.old }
     ensures replaces { ReplacesThese replacing.entry.text.now replacing.entry.substitution.now.replacement
         (to_replace replacing.entry.substitution.now.number replacing.entry.substitution.now.global
-        (occurrences (search_for (Some matcher.old) replacing.entry.text.now) (length replacing.entry.text.now)))
+        (occurrences (search_for matcher.old replacing.entry.text.now) (length replacing.entry.text.now)))
         build.old.limit build.new.bytes result }
     ensures limit { build.new.limit ≡ build.old.limit }
     ensures same { SeeksAsBefore matcher.old matcher.new scratch.old scratch.new }
@@ -85,7 +85,7 @@ pub(crate) fn build_text(
     ensures group_cost { let m = length matcher.old.nodes in let n = length replacing.entry.text.now in
         Takes findings.old.group_steps findings.new.group_steps (51 * m * m * (n + 1) * (n + 1)
         * length (to_replace replacing.entry.substitution.now.number replacing.entry.substitution.now.global
-        (occurrences (search_for (Some matcher.old) replacing.entry.text.now) n))) }
+        (occurrences (search_for matcher.old replacing.entry.text.now) n))) }
     ensures linear_group_cost { let m = length matcher.old.nodes in let n = length replacing.entry.text.now in
         Takes findings.old.group_steps findings.new.group_steps (172 * m * m * (n + 1)) }
 {

@@ -8,11 +8,11 @@ ghost use Rattle.sedscript.specs.Ranges.{AddressWithin, CommandWithin, sizes_of}
 ghost use Rattle.sedscript.specs.declared.types.Address.TheVariants.{Match};
 ghost use Rattle.sedspace.specs.Stream.{lines_left};
 ghost use Rattle.sedengine.specs.Select.{answer};
-ghost use Rattle.sedengine.specs.Move.{is_active, none_left};
+ghost use Rattle.sedengine.specs.Move.{none_left};
 ghost use Rattle.sedengine.specs.Ends.{is_dollar};
 ghost use Rattle.sedengine.specs.Calls.{NamesNone, ReadsAlone};
 ghost use Rattle.sedengine.specs.Steps.{TakesLines};
-ghost use Rattle.sedengine.specs.Choose.{Answers, JudgesAddresses, Judges, TellsLine, reached_with, current_in, decides, deciding, with_used};
+ghost use Rattle.sedengine.specs.Choose.{Answers, JudgesAddresses, Judges, TellsLine, reached_with, current_in, decides, deciding, with_used, is_active};
 
 use super::Machine;
 use crate::ends::Ended;

@@ -1,9 +1,10 @@
 //! The commands `s`, `t` and `y`: substitutions, what `t` sees of them, and tables (XCU sed, "Editing Commands in
 //! sed").
 ghost use Rattle.std.specs.Prelude.{◌≡◌, ◌<◌, ◌≤◌, [], ◌∷◌, Some, OnErr, ℕ, List, false, true, length, map, slice_get, if◌then◌else◌};
+ghost use Rattle.std.specs.Option.{option_map_or};
 ghost use Rattle.sedscript.specs.declared.substitution.Substitution.{Substitution};
 ghost use Rattle.sedengine.specs.State.{do_at};
-ghost use Rattle.sedengine.specs.Move.{in_table, line_to, line_to_file, substitutes, written_by};
+ghost use Rattle.sedengine.specs.Move.{in_table, line_to, substitutes, written_by};
 ghost use Rattle.sedengine.specs.Ends.{reaches};
 ghost use Rattle.sedengine.specs.Calls.{DeliversAlone, NamesNone, Puts};
 ghost use Rattle.sedengine.specs.Run.{at_lines, run_setting};
@@ -122,7 +123,7 @@ impl Machine {
         requires sinks { length self.now.script.wfiles < O.count outputs.old }
         ensures puts { (t : Substitution) → slice_get self.now.script.substitutions k ≡ Some t →
             Puts (O.tally outputs.old) (O.tally outputs.new)
-            (line_to_file t.file self.now.state.pattern) result }
+            (option_map_or (λ k. line_to k self.now.state.pattern) t.file []) result }
         ensures devices { DeliversAlone O.tally O.count outputs.old outputs.new result }
     {
         match self.script.substitution(k).file {

@@ -1,11 +1,12 @@
 use Rattle.std.proofs.Common.{◌∷◌, true, refl}
 use Rattle.std.proofs.lemmas.Result.{err_from_is_err_and}
 use Rattle.sedengine.specs.State.{print_pattern, flush, empty_pattern, fetch}
-use Rattle.sedengine.specs.Move.{next_line, then_do}
+use Rattle.sedengine.specs.Move.{then_do}
 use Rattle.sedengine.specs.Run.{at_lines, run_setting}
 use Rattle.sedengine.proofs.Streams.{ReadsLines-then, ReadsLines-told}
 use Rattle.sedengine.proofs.NextLines.{looked_then, next_broken, next_goes, next_stops, performs_then}
 use Rattle.sedengine.proofs.machine.Machine.act_next_line.Goals as goal
+use Rattle.sedengine.specs.Bringing.{next_line}
 
 pub returns-then-branch-clause-acts : goal.returns-then-branch-clause-acts
 returns-then-branch-clause-acts g c = λ sound ls known files told.
