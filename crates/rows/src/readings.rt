@@ -7,7 +7,8 @@ use crate::sheet::Sheet;
 use crate::table::Row;
 use sededit::script;
 use sedscript::{
-    Action, Address, BranchUse, Command, FileUse, Part, Script, Simple, Substitution, TextUse,
+    Action, Address, BranchUse, Command, FileUse, ReplacementPart, Script, Simple, Substitution,
+    TextUse,
 };
 
 /// The most nodes of an expression.
@@ -159,11 +160,11 @@ fn put_flags(sheet: &mut Sheet, substitution: &Substitution) {
 }
 
 /// A blank and a part of a replacement.
-fn put_part(sheet: &mut Sheet, part: &Part) {
+fn put_part(sheet: &mut Sheet, part: &ReplacementPart) {
     match part {
-        Part::Literal(bytes) => put_quoted(sheet, b' ', bytes.as_slice()),
-        Part::Whole => sheet.put(b" &"),
-        Part::Group(k) => {
+        ReplacementPart::Literal(bytes) => put_quoted(sheet, b' ', bytes.as_slice()),
+        ReplacementPart::Whole => sheet.put(b" &"),
+        ReplacementPart::Group(k) => {
             sheet.put_byte(b' ');
             put_target(sheet, b'\\', *k);
         }
