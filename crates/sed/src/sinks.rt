@@ -1,6 +1,6 @@
 //! The standard output and the files that a script writes, as sinks.
 ghost use Rattle.std.specs.Prelude.{◌≡◌, ◌<◌, [], ◌∷◌, None, length, unwrap_or, slice_get, slice_set, IfOk, IfSome};
-ghost use Rattle.sedspace.specs.Failures.{raised};
+ghost use Rattle.sedspace.specs.FailureCounts.{raised};
 
 use crate::devices::Devices;
 use sededit::Sinks;

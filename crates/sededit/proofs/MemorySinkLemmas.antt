@@ -9,7 +9,7 @@ use Rattle.std.proofs.Math.Dec.{ltb}
 use Rattle.std.proofs.lemmas.List.{append-nil}
 use Rattle.std.proofs.lemmas.Bool.Decides.{eqb_tells}
 use Rattle.std.specs.Io.KnownBytes.{Appends}
-use Rattle.sedspace.specs.Failures.{raised}
+use Rattle.sedspace.specs.FailureCounts.{raised}
 use Rattle.sedspace.specs.Memory.{Sink, Sinks, TakesBytes, sink_bytes, sink_failures}
 use Rattle.sedspace.specs.declared.errors.Broken.{Broken}
 use Rattle.sededit.specs.MemorySinks.{NextFails, SinkFiles, contents_of}

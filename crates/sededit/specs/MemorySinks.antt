@@ -2,7 +2,7 @@
 use Rattle.std.specs.Prelude.{◌≡◌, ◌<◌, ℕ, Bool, false, nat_lt, if◌then◌else◌, List, [], Option, Some, Result, Ok, Err, slice_get}
 use Rattle.std.specs.Option.{option_map_or}
 use Rattle.std.specs.Str.{bytes_eq}
-use Rattle.sedspace.specs.Failures.{raised}
+use Rattle.sedspace.specs.FailureCounts.{raised}
 use Rattle.sedspace.specs.Memory.{Sink, Sinks, sink_bytes}
 
 -- sinks over memory: all that there can be, the names of the files among them (all but the first) in their order, and how

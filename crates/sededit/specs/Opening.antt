@@ -1,7 +1,8 @@
 -- Files that are opened one after another.
 use Rattle.std.specs.Prelude.{◌≡◌, ℕ, Bool, true, false, List, [], ◌∷◌, map, Option, None, Some, unwrap_or, ⊤, ◌++◌, ◌+◌, length, not}
 use Rattle.std.specs.Option.{is_some, is_none}
-use Rattle.sedspace.specs.Failures.{Rose, raised}
+use Rattle.sedspace.specs.FailureCounts.{raised}
+use Rattle.sedspace.specs.Failures.{Rose}
 use Rattle.sededit.specs.Files.{FilesAhead, Joining}
 
 -- An opening, where the file and those after it are told: whether it can be opened is answered, it is the one being

@@ -4,7 +4,7 @@ ghost use Rattle.std.specs.Option.{option_map};
 ghost use Rattle.std.specs.Borrow.{GName};
 ghost use Rattle.std.specs.Io.{ReadsAtMost};
 ghost use Rattle.std.specs.Io.KnownBytes.{Keeps, ReadConsumes};
-ghost use Rattle.sedspace.specs.Failures.{FailsAtErr};
+ghost use Rattle.sedspace.specs.FailureCounts.{FailsAtErr};
 ghost use Rattle.sededit.specs.Opening.{CountsRefusal, Opens};
 ghost use Rattle.sededit.specs.Files.{KeepsFiles, GivesWhole};
 

@@ -5,7 +5,7 @@
 ghost use Rattle.std.specs.Prelude.{◌≡◌, ◌<◌, ◌⊎◌, [], ◌∷◌, ℕ, List, Ok, true, false, length, map, string_bytes, slice_get, unwrap_or, IfOk, None, vec_len};
 ghost use Rattle.std.specs.Io.{ReadsAtMost};
 ghost use Rattle.std.specs.Io.KnownBytes.{IsAtEnd, ReadConsumes};
-ghost use Rattle.sedspace.specs.Failures.{FailsAtErr};
+ghost use Rattle.sedspace.specs.FailureCounts.{FailsAtErr};
 ghost use Rattle.sededit.specs.Opening.{WereRefused};
 ghost use Rattle.sededit.specs.Files.{KeepsFiles};
 

@@ -4,7 +4,7 @@ ghost use Rattle.std.specs.Option.{is_some, option_map};
 ghost use Rattle.std.specs.Str.{bytes_eq};
 ghost use Rattle.std.specs.Io.{ReadsAtMost};
 ghost use Rattle.std.specs.Io.KnownBytes.{ReadConsumes};
-ghost use Rattle.sedspace.specs.Failures.{FailsAtErr, raised};
+ghost use Rattle.sedspace.specs.FailureCounts.{FailsAtErr, raised};
 ghost use Rattle.sededit.specs.Opening.{CountsRefusal, Opens};
 ghost use Rattle.sededit.specs.Files.{GivesWhole};
 ghost use Rattle.sededit.specs.MemoryFiles.{all_of, bytes_at, file_of, files_of};

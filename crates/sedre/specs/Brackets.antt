@@ -15,16 +15,13 @@ abbrev pub begins : List ℕ → ℕ → Bool
 begins [] b = false
 begins (c ∷ rest) b = c == b
 
--- ---- the elements of a list
-
 -- how many bytes stand before the first c with a ] after it
 abbrev pub before_closing : ℕ → List ℕ → Option ℕ
 before_closing c (x ∷ y ∷ rest) =
     if x == c && y == 93 then Some 0 else option_map (λ n. n + 1) (before_closing c (y ∷ rest))
 before_closing c left = None
 
--- what a form holds, from the bytes after its opening: at least one byte, so that [.].] and [=]=] name ]. A backslash and
--- the delimiter are two bytes there (both this project's own)
+-- what a form holds, after its opening: at least one byte, so that [.].] names ]; \ and the delimiter are two (this project's own)
 abbrev pub content : ℕ → List ℕ → Option (List ℕ)
 content c [] = None
 content c (x ∷ rest) = option_map (λ n. x ∷ take n rest) (before_closing c rest)
@@ -46,8 +43,8 @@ abbrev pub form : ℕ → (left : ℕ) → Option (List ℕ) → Element × ℕ
 form c left None = (Unclosed, left)
 form c left (Some held) = (form_of c held, length held + 4)
 
--- the element at the front of what is left of a list, and how many bytes it has. A backslash and the delimiter are one
--- element, the delimiter as a literal (this project's own); any other byte loses its special meaning (XBD 9.3.5, 1)
+-- the element at the front of what is left of a list, and its bytes. A backslash and the delimiter are the delimiter as a
+-- literal (this project's own); any other byte loses its special meaning (XBD 9.3.5, 1)
 abbrev pub element : Option ℕ → List ℕ → Element × ℕ
 element delimiter [] = (Unclosed, 0)
 element delimiter (b ∷ []) = (Plain b, 1)
@@ -56,9 +53,8 @@ element delimiter (b ∷ c ∷ rest) =
     else if b == 91 && (c == 58 || c == 61 || c == 46) then form c (length rest + 2) (content c rest)
     else (Plain b, 1)
 
--- the elements with their places, and the place after the closing ], None where the text ends before. A ] that stands
--- first is an element (XBD 9.3.5, 1), and any other ] without a backslash closes, also where it is the delimiter (this
--- project's own); `skip` bytes belong to the element before
+-- the elements with their places, and the place after the closing ], if there is one; `skip` bytes belong to the element
+-- before. A ] is an element where it is first (XBD 9.3.5, 1), and else closes, also as the delimiter (this project's own)
 abbrev pub elements : Option ℕ → (first : Bool) → (skip place : ℕ) → List ℕ → List (ℕ × Element) × Option ℕ
 elements delimiter first skip place [] = ([], None)
 elements delimiter first (suc skip) place (b ∷ bs) = elements delimiter first skip (place + 1) bs
@@ -68,8 +64,6 @@ elements delimiter first zero place (b ∷ bs) =
     let found = element delimiter (b ∷ bs) in
     let rest = elements delimiter false (found.1 - 1) (place + 1) bs in
     ((place, found.0) ∷ rest.0, rest.1)
-
--- ---- what the elements list
 
 -- whether an element makes a range where another one stands before and after it (XBD 9.3.5, 7)
 abbrev pub is_dash : Element → Bool
@@ -105,8 +99,7 @@ end_of (Delimiter b) = Some b
 end_of (Collating b) = Some b
 end_of other = None
 
--- a range between two ends, by byte value (XBD 9.3.5, 7); `on`: it goes on as another one, which is refused: this
--- project's own
+-- a range between two ends, by byte value (XBD 9.3.5, 7); `on`: it goes on as another one, which is refused (this project's own)
 abbrev pub between_ends : (place : ℕ) → Option ℕ → Option ℕ → (on : Bool) → ListedBytes
 between_ends place (Some a) (Some b) on =
     if nat_le a b && not on then Ok (set_of (between a b)) else fault place BadRange
@@ -139,15 +132,12 @@ listed (x ∷ y ∷ z ∷ rest) =
     if is_dash y.1 then both (range x z (goes_on_as_range rest)) (listed rest)
     else both (single x) (listed (y ∷ z ∷ rest))
 
--- ---- a whole list
-
 -- the elements from the place after the opening [ on, where a ^ makes a non-matching list (XBD 9.3.5, 3)
 abbrev pub elements_from : Option ℕ → (place : ℕ) → List ℕ → List (ℕ × Element) × Option ℕ
 elements_from delimiter place bytes =
     if begins bytes 94 then elements delimiter true 0 (place + 1) (drop 1 bytes) else elements delimiter true 0 place bytes
 
--- the bytes that a list matches: those that match for the listed ones, and for a non-matching list the others, byte 0
--- among them (this project's own)
+-- the bytes that match for the listed ones, and for a non-matching list the others, byte 0 among them (this project's own)
 abbrev pub matched : (folded negated : Bool) → List Bool → List Bool
 matched folded negated set = if negated then complement (matching folded set) else matching folded set
 
@@ -168,22 +158,16 @@ list_at folded delimiter text at =
 unfoldable pub list_end : Option ℕ → (place : ℕ) → List ℕ → Option ℕ
 list_end delimiter place bytes = (elements_from delimiter place bytes).1
 
--- a backslash at a place and its next byte
-abbrev pub after_escape : (place : ℕ) → List ℕ → Option ℕ
-after_escape place [] = None
-after_escape place (c ∷ rest) = Some (place + 2)
-
 -- the place after what stands at a place: an escape, a bracket expression or a byte; None where the text ends before
 abbrev pub next_place : (delimiter place : ℕ) → List ℕ → Option ℕ
 next_place d place [] = None
 next_place d place (b ∷ bs) =
-    if b == 92 then after_escape place bs
+    if b == 92 then (if length bs == 0 then None else Some (place + 2))
     else if b == 91 then list_end (Some d) (place + 1) bs
     else Some (place + 1)
 
--- the place of the first delimiter outside of these, from a place on; `skip` bytes are stepped over,
--- and a newline ends the line wherever it stands. A [ that is the delimiter ends the expression, and a delimiter within a
--- bracket expression doesn't (both this project's own)
+-- the place of the first delimiter outside of these, from a place on, before any newline; `skip` bytes are stepped over. A [
+-- that is the delimiter ends the expression, and a delimiter within a bracket expression doesn't (both this project's own)
 abbrev pub first_delimiter : (delimiter skip place : ℕ) → List ℕ → Option ℕ
 first_delimiter d skip place [] = None
 first_delimiter d (suc skip) place (b ∷ bs) = if b == 10 then None else first_delimiter d skip (place + 1) bs

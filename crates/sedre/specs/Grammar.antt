@@ -1,5 +1,5 @@
--- The grammar of expressions over items (XBD 9.5.2, 9.5.3): a text is alternatives, an alternative is pieces, a piece
--- is an atom with its repetitions; and the first fault of a text that is none.
+-- The grammar of expressions over items (XBD 9.5.2, 9.5.3): alternatives of pieces, which are atoms with their repetitions;
+-- and the first fault of a text that is none.
 use Rattle.std.specs.Prelude.{◌≡◌, ℕ, zero, suc, List, [], ◌∷◌, ◌++◌, length, ◌<◌, ◌≤◌, Bool, false, Option, Some, None}
 use Rattle.std.specs.List.{last_or}
 use Rattle.sedre.specs.Types.{Item, Byte, Open, Close, Bar, Repeat, AtBegin, AtEnd, Kind, Reason, StrayClose, OpenGroup, TooDeep, TooManyNodes, Is, Ends, Bad}
@@ -7,8 +7,7 @@ use Rattle.sedre.specs.Items.{item_at}
 use Rattle.sedre.specs.Tree.{Tree, set, begin, end, group}
 use Rattle.sedre.specs.Sizes.{size, depth, concatenation, alternation, repetition}
 
--- Groups are numbered by their openings from 1 (XBD 9.3.6): each fact holds from a count of the openings before the
--- items to that after them.
+-- Groups are numbered by their openings from 1 (XBD 9.3.6): a fact holds from the count of openings before the items to that after.
 mutual
   -- these items are these alternatives
   pub data AreAlternatives : ℕ → List Item → List Tree → ℕ → Type 0 where
@@ -62,8 +61,8 @@ pub record ReadsAs (kind : Kind) (folded : Bool) (delimiter : Option ℕ) (text 
   pub grammar : AreAlternatives 0 items alternatives groups
   pub is : alternation alternatives ≡ e
 
--- the fault after these items, of which so many groups are open. The places, the greatest depth of 600 and the limit of
--- nodes are this project's own
+-- the fault after these items, which leave so many groups open. Its place, the depth of 600 and the limit of nodes are this
+-- project's own
 pub data Row (kind : Kind) (folded : Bool) (delimiter : Option ℕ) (text : List ℕ) (max_nodes : ℕ) :
     List Item → (opened to place : ℕ) → Reason → Type 0 where
   -- the next item is none
@@ -89,8 +88,7 @@ pub data Row (kind : Kind) (folded : Bool) (delimiter : Option ℕ) (text : List
       depth (alternation bs) ≤ 600 → max_nodes < size (alternation bs) →
       Row kind folded delimiter text max_nodes is 0 to (length text) TooManyNodes
 
--- the first fault of the text, where case counts or is folded, has this place and reason: what stands before it is cut
--- into items, and each closing there has its opening
+-- the first fault of the text: what stands before it is cut into items, and each closing there has its opening
 pub record FaultyWith (kind : Kind) (folded : Bool) (delimiter : Option ℕ) (text : List ℕ) (max_nodes place : ℕ)
     (reason : Reason) : Type 0 where
   pub items : List Item

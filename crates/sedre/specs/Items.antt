@@ -1,5 +1,4 @@
--- The symbols of a text, what one or two bytes mean outside bracket expressions, and its items: bytes and sets of bytes,
--- anchors, groups, alternations and repetitions (XBD 9.3, 9.4).
+-- The symbols and items of a text outside bracket expressions: sets of bytes, anchors, groups, alternations, repetitions (XBD 9.3, 9.4).
 use Rattle.std.specs.Prelude.{ℕ, List, [], ◌∷◌, Bool, not, ◌||◌, Option, Some, None, if◌then◌else◌, ◌==◌, ◌+◌, ◌*◌, ◌-◌, drop, take, false, ◌&&◌, nat_lt, nat_le, true, Result, Ok, Err, option_and_then}
 use Rattle.std.specs.List.{prefix_len}
 use Rattle.sedre.specs.Sets.{between, is_upper, is_lower, is_digit, only, any_byte, matching}
@@ -9,8 +8,7 @@ use Rattle.sedre.specs.Types.{Kind, Basic, Extended, LastBackslash, UnknownEscap
 abbrev pub is_letter : ℕ → Bool
 is_letter c = is_upper c || is_lower c
 
--- the operators that stand without a backslash in an extended expression and after one in a basic one, where \| \+ \? are
--- this project's own; any other byte is `other`
+-- the operators of an extended expression, and after a backslash of a basic one, where \| \+ \? are this project's own
 abbrev pub operator : ℕ → (other : Symbol) → Symbol
 operator b other =
     if b == 40 then Opening  -- (
@@ -36,9 +34,8 @@ abbrev pub alone : Kind → ℕ → Symbol
 alone Basic b = alone_in_both b
 alone Extended b = operator b (alone_in_both b)
 
--- a byte after a backslash that is no symbol there: \n is a newline (XCU sed), \t a tab (this project's own);
--- back-references are left out by name, other letters and digits and < > ' ` are refused, and an ordinary byte is itself
--- (both this project's own)
+-- another byte after a backslash: \n is a newline (XCU sed). This project's own: \t is a tab, back-references are left out by
+-- name, other letters and digits and < > ' ` are refused, and an ordinary byte is itself
 abbrev pub escaped_literal : ℕ → Symbol
 escaped_literal b =
     if b == 110 then Literal 10  -- n
@@ -52,9 +49,8 @@ abbrev pub escaped : Kind → ℕ → Symbol
 escaped Basic b = if b == 125 then IntervalEnd else operator b (escaped_literal b)  -- }
 escaped Extended b = escaped_literal b
 
--- the symbol at the front of what is left of a text, and how many bytes it has; a backslash and the delimiter are
--- the delimiter itself (XCU sed, "Regular Expressions in sed"). That a backslash at the end is refused, and that the delimiter
--- without one keeps its meaning, is this project's own
+-- the symbol at the front of what is left of a text, and its bytes; \ and the delimiter are the delimiter itself (XCU sed,
+-- "Regular Expressions in sed"). That \ at the end is refused, and the delimiter alone keeps its meaning, is this project's own
 abbrev pub symbol : Kind → Option ℕ → List ℕ → Option (Symbol × ℕ)
 symbol kind delimiter [] = None
 symbol kind delimiter (b ∷ []) = Some (if b == 92 then (Unknown LastBackslash, 1) else (alone kind b, 1))
@@ -68,8 +64,7 @@ abbrev pub decimal : ℕ → List ℕ → ℕ
 decimal n [] = n
 decimal n (d ∷ ds) = decimal (10 * n + (d - 48)) ds
 
--- the number at the front and how many digits it has; leading zeros are accepted, and more than 255 is none (this
--- project's own)
+-- the number at the front and its digits; leading zeros are accepted, and more than 255 is none (this project's own)
 abbrev pub numeral : List ℕ → Option (ℕ × ℕ)
 numeral front =
     let digits = prefix_len is_digit front in
@@ -104,8 +99,7 @@ after_least kind delimiter front (least, digits) =
     else if begins rest 44 then limit kind delimiter least digits (drop 1 rest) (numeral (drop 1 rest))
     else None
 
--- the interval whose opening stands before what is left of a text, with the bytes that it takes from there; without a
--- first number there is none (this project's own)
+-- the interval whose opening stands before what is left, and its bytes from there; it has a first number (this project's own)
 unfoldable pub interval : Kind → Option ℕ → List ℕ → Option Bounds
 interval kind delimiter front = option_and_then (after_least kind delimiter front) (numeral front)
 
@@ -116,8 +110,8 @@ is_first (Some Open) = true
 is_first (Some Bar) = true
 is_first before = false
 
--- whether a repetition may follow: after an anchor none may (XBD 9.3.6, 9.4.6, 9.4.9; after `$` this project's own), and
--- after another repetition one may (this project's own)
+-- whether a repetition may follow: after an anchor none may (XBD 9.3.6, 9.4.6, 9.4.9; after `$`, and that one may after another
+-- repetition, this project's own)
 abbrev pub is_repeatable : Option Item → Bool
 is_repeatable (Some (Byte members)) = true
 is_repeatable (Some Close) = true
@@ -138,8 +132,7 @@ ends_alternative next = false
 abbrev pub fault : ℕ → Reason → NextItem
 fault place reason = Bad (record { place = place; reason = reason })
 
--- a repetition of what stands before, or else NothingToRepeat (for all repetitions but *, and for * after `$`, this
--- project's own)
+-- a repetition of what stands before, or else NothingToRepeat (but for a * that isn't after `$`, this project's own)
 abbrev pub repeats : (may : Bool) → (at : ℕ) → NextItem → NextItem
 repeats may at repeat = if may then repeat else fault at NothingToRepeat
 
@@ -156,22 +149,19 @@ abbrev pub star_item : Kind → (may : Bool) → (at next : ℕ) → NextItem
 star_item Basic may at next = if may then Is (Repeat 0 None) next else Is (Byte (only 42)) next
 star_item Extended may at next = repeats may at (Is (Repeat 0 None) next)
 
--- where something stands before it, ? repeats; directly after a repetition of an extended expression it is refused (this
--- project's own)
+-- ? repeats what stands before it; directly after a repetition of an extended expression it is refused (this project's own)
 abbrev pub question_item : Kind → (may repeated : Bool) → (at next : ℕ) → NextItem
 question_item Basic may repeated at next = repeats may at (Is (Repeat 0 (Some 1)) next)
 question_item Extended may repeated at next = repeats (may && not repeated) at (Is (Repeat 0 (Some 1)) next)
 
--- ^ is an anchor where it is first in a basic expression, $ where an alternative of one ends, and both are everywhere in an
--- extended one (XBD 9.3.8, 9.4.9); that ^ is first after an opening or an alternation symbol, and that $ is an anchor
--- before a closing or an alternation symbol of a basic expression, is this project's own
+-- ^ and $ are anchors in an extended expression, and in a basic one where an alternative begins or ends (XBD 9.3.8, 9.4.9; that
+-- one begins and ends within a group and at an alternation symbol too is this project's own)
 abbrev pub anchor_item : Kind → (stands : Bool) → (b : ℕ) → (anchor : Item) → (next : ℕ) → NextItem
 anchor_item Basic false b anchor next = Is (Byte (only b)) next
 anchor_item kind stands b anchor next = Is anchor next
 
--- what a symbol is, after an item. Where case is folded, a literal byte stands for both cases of its letter (this
--- project's own); those of * ^ and $ are no letters. An interval's closing that stands alone is refused
--- (this project's own)
+-- what a symbol is, after an item. Where case is folded, a literal byte stands for both cases of its letter, and an interval's
+-- closing that stands alone is refused (both this project's own)
 abbrev pub item_for : Kind → (folded : Bool) → Option ℕ → List ℕ → Option Item → (at : ℕ) → Option (Symbol × ℕ) → NextItem
 item_for kind folded delimiter text before at None = Ends
 item_for kind folded delimiter text before at (Some (Literal b, n)) = Is (Byte (matching folded (only b))) (at + n)

@@ -1,5 +1,5 @@
--- Sets of bytes: lists of 256 truth values, one for each byte, which is a character (this project's own); and the character
--- classes of the POSIX locale (XBD 7.3.1, its table). Bytes from 128 on are in no class (this project's own).
+-- Sets of bytes, each a character (this project's own): lists of 256 truth values; and the character classes of the POSIX
+-- locale (XBD 7.3.1, its table). Bytes from 128 on are in no class (this project's own).
 use Rattle.std.specs.Prelude.{ℕ, ◌+◌, ◌-◌, ◌==◌, List, Bool, true, false, not, ◌&&◌, ◌||◌, if◌then◌else◌, map, nat_le, slice_index_or, Option, Some, None, nat_eq, codes}
 use Rattle.std.specs.List.{range_with_len}
 use Rattle.std.specs.Cmp.Lexicographic.{pointwise}
@@ -34,17 +34,14 @@ union these those = set_of (λ c. has these c || has those c)
 
 abbrev pub is_upper : ℕ → Bool
 is_upper c = between 65 90 c
-
 abbrev pub is_lower : ℕ → Bool
 is_lower c = between 97 122 c
 
--- the letter that differs from a byte in its case alone, or the byte itself where there is none, in ASCII, for the flag `I`
--- (this project's own)
+-- the letter that differs from a byte in its ASCII case alone, or else the byte, for the flag `I` (this project's own)
 abbrev pub other_case : ℕ → ℕ
 other_case c = if is_upper c then c + 32 else if is_lower c then c - 32 else c
 
--- a set closed under the change of ASCII case: a byte is in it where the byte, or the letter that differs from it in its
--- case alone, is in the set
+-- a set with both cases of each of its letters
 abbrev pub folded_set : List Bool → List Bool
 folded_set set = set_of (λ c. has set c || has set (other_case c))
 
@@ -59,7 +56,6 @@ complement set = set_of (λ c. not (has set c))
 
 abbrev pub is_digit : ℕ → Bool
 is_digit c = between 48 57 c
-
 abbrev pub is_alnum : ℕ → Bool
 is_alnum c = is_upper c || is_lower c || is_digit c
 

@@ -1,10 +1,8 @@
--- What concatenations, alternations and repetitions are written out to (XBD 9.3.6, 9.4.6, 9.4.7), how many nodes a tree has,
--- and how deep it nests.
+-- What concatenations, alternations and repetitions are written out to (XBD 9.3.6, 9.4.6, 9.4.7), the nodes of a tree, its depth.
 use Rattle.std.specs.Prelude.{ℕ, zero, suc, ◌-◌, List, [], ◌∷◌, Bool, false, Option, Some, None, nat_eq, ◌+◌, max}
 use Rattle.sedre.specs.Tree.{Tree, empty, seq, alt, star, opt, group}
 
--- pieces one after the other; where there are none, in an empty text, group or alternative, they match the null string
--- (this project's own)
+-- pieces one after the other; an empty text, group or alternative matches the null string (this project's own)
 abbrev pub concatenation : List Tree → Tree
 concatenation [] = empty
 concatenation (a ∷ []) = a
@@ -50,8 +48,7 @@ abbrev pub without_alternation : Tree → (d : ℕ) → ℕ
 without_alternation (alt a b) d = d - 1
 without_alternation other d = d
 
--- how deep it nests: a group and a repetition add one, an alternation adds one for all its alternatives together (this
--- project's own)
+-- how deep it nests: a group and a repetition add one, and an alternation one for all its alternatives (this project's own)
 abbrev pub depth : Tree → ℕ
 depth (seq a b) = max (depth a) (depth b)
 depth (alt a b) = 1 + max (depth a) (without_alternation b (depth b))

@@ -1,23 +1,16 @@
 -- Expressions written out as trees, and an expression as a list of nodes, each after its parts, with the tree that it is.
 use Rattle.std.specs.Prelude.{ℕ, List, Bool, zero, suc, slice_get, ◌-◌, length}
 use Rattle.std.specs.Option.{option_map_or}
-use Rattle.sedre.specs.declared.types.Node.{Node}
-use Rattle.sedre.specs.declared.types.Node.TheVariants.{Empty, Set, Begin, End, Seq, Alt, Group, Star, Opt}
+use Rattle.sedre.specs.Types.{Node, Empty, Set, Begin, End, Seq, Alt, Group, Star, Opt}
 
 pub data Tree : Type 0 where
-  -- the null string
-  empty : Tree
-  -- one byte of a set, which is a list of 256 truth values
-  set : List Bool → Tree
-  -- the anchors ^ and $ (XBD 9.3.8, 9.4.9)
-  begin : Tree
+  empty : Tree  -- the null string
+  set : List Bool → Tree  -- one byte of a set
+  begin : Tree  -- the anchors ^ and $ (XBD 9.3.8, 9.4.9)
   end : Tree
-  -- one after the other
-  seq : Tree → Tree → Tree
-  -- either
-  alt : Tree → Tree → Tree
-  -- a group and its number
-  group : ℕ → Tree → Tree
+  seq : Tree → Tree → Tree  -- one after the other
+  alt : Tree → Tree → Tree  -- either
+  group : ℕ → Tree → Tree  -- a group and its number
   -- any number of copies, and at most one; the mark, this project's own, says that no copy stands before it
   star : Tree → Bool → Tree
   opt : Tree → Bool → Tree

@@ -2,6 +2,8 @@
 pub use Rattle.sedre.specs.declared.byte_set.ByteSet.{ByteSet}
 pub use Rattle.sedre.specs.declared.class.Class.{Class}
 pub use Rattle.sedre.specs.declared.class.Class.TheVariants.{Alnum, Alpha, Blank, Cntrl, Digit, Graph, Lower, Print, Punct, Space, Upper, Xdigit}
+pub use Rattle.sedre.specs.declared.types.Node.{Node}
+pub use Rattle.sedre.specs.declared.types.Node.TheVariants.{Alt, Begin, Empty, End, Group, Opt, Seq, Set, Star}
 pub use Rattle.sedre.specs.declared.types.Kind.{Kind}
 pub use Rattle.sedre.specs.declared.types.Kind.TheVariants.{Basic, Extended}
 pub use Rattle.sedre.specs.declared.types.ExprFault.{ExprFault}

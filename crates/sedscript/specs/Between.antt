@@ -10,14 +10,12 @@ use Rattle.sedscript.specs.Strings.{string_end, replacement_fault, strings_fault
 abbrev pub no_flags : Flags
 no_flags = record { number = None; global = false; print = false; folded = false; file = None }
 
--- the flags with this number, whose digits begin at a place. It is from 1 to 2 ^ 64 - 1, and leading zeros are accepted (the
--- end and the zeros: this project's own)
+-- the flags with this number, whose digits begin at a place: from 1 to 2 ^ 64 - 1 (the end, and leading zeros: this project's own)
 abbrev pub numbered : Flags → ℕ → Option ℕ → Result Flags ScriptFault
 numbered f at (Some (suc n)) = Ok (record f { number = Some (suc n) })
 numbered f at number = fault BadNumber at
 
--- the flags with the number that these digits write, which begin at a place. No second number may stand there (this
--- project's own)
+-- the flags with the number that these digits at a place write, if they have none (this project's own)
 abbrev pub with_number : Flags → ℕ → List ℕ → Result Flags ScriptFault
 with_number f at digits =
     if is_some f.number then fault RepeatedFlag at else numbered f at (fold with_digit (Some 0) digits)
@@ -26,8 +24,7 @@ with_number f at digits =
 abbrev pub once : (already : Bool) → ℕ → Flags → Result Flags ScriptFault
 once already at f = if already then fault RepeatedFlag at else Ok f
 
--- the flags with the one of the byte at a place: `g`, `p`, or `I` where the regular expression isn't empty (this project's
--- own)
+-- the flags with the one at a place: `g`, `p`, or `I` where the regular expression isn't empty (this project's own)
 abbrev pub with_flag : (empty : Bool) → Flags → ℕ → ℕ → Result Flags ScriptFault
 with_flag empty f at b =
     if b == 103 then once f.global at (record f { global = true })
@@ -35,8 +32,8 @@ with_flag empty f at b =
     else if b == 73 then (if empty then fault FlagOnEmpty at else once f.folded at (record f { folded = true }))
     else fault UnknownFlag at
 
--- the flags from a place on, in any order, and the place after them. They end before a blank, or what ends a command.
--- `w` is the last, since the rest of its line is a file's name. The first `skip` bytes are digits that are read already
+-- the flags from a place on, in any order, and the place after them, before a blank or what ends a command. `w` is the last:
+-- the rest of its line is a file's name. The first `skip` bytes are digits that are read already
 abbrev pub flags_from : List ℕ → (empty : Bool) → Flags → (skip : ℕ) → ℕ → List ℕ → Result (Flags × ℕ) ScriptFault
 flags_from text empty f skip at [] = Ok (f, at)
 flags_from text empty f (suc skip) at (b ∷ bs) = flags_from text empty f skip (suc at) bs
@@ -54,8 +51,8 @@ abbrev pub own_delimiter : Option ℕ → Option ℕ
 own_delimiter None = None
 own_delimiter (Some d) = if d == 92 || d == 10 then None else Some d
 
--- the two strings after a delimiter at a place: the first ends at the next one, if that was found. Where the second
--- string `breaks`, a newline may stand in it after a backslash
+-- the two strings after a delimiter at a place, the first up to the next one, if that was found. Where the second `breaks`, a
+-- newline may stand in it after a backslash
 abbrev pub strings_after : List ℕ → (breaks : Bool) → ℕ → ℕ → Option ℕ → Result Strings ScriptFault
 strings_after text breaks d place first =
     or_fault first OpenDelimiter place >>= λ middle.
@@ -88,8 +85,8 @@ transliterate_at text at =
 abbrev pub flags_after : List ℕ → Strings → (empty : Bool) → Result (Flags × ℕ) ScriptFault
 flags_after text s empty = flags_from text empty no_flags 0 (s.to + 1) (drop (s.to + 1) text)
 
--- the command `s` with these strings, and its end. Its regular expression has this number in the script; None stands
--- for the empty one. The groups of its replacement have numbers up to the limit, where there is one
+-- the command `s` with these strings, and its end. Its expression has this number in the script, None if it is empty; the
+-- groups of its replacement have numbers up to the limit, where there is one
 unfoldable pub substituted : List ℕ → Strings → Option ℕ → Option ℕ → Result (Function × ℕ) ScriptFault
 substituted text s e limit =
     unless_fault (replacement_fault s.delimiter limit false (s.middle + 1) (bytes_between text (s.middle + 1) s.to))

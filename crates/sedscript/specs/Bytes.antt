@@ -3,16 +3,14 @@ use Rattle.std.specs.Prelude.{ℕ, ◌+◌, ◌*◌, ◌-◌, ◌^◌, List, dro
 use Rattle.std.specs.List.{prefix_len}
 use Rattle.sedscript.specs.declared.bytes.Sort.{Sort}
 pub use Rattle.sedscript.specs.declared.bytes.Sort.TheVariants.{Blank, Separator, Bang, Digit, Name, Line}
--- a decimal digit
 pub use Rattle.sedre.specs.Sets.{is_digit}
 
 -- a space or a tab (XBD 7.3.1, blank)
 abbrev pub is_blank : ℕ → Bool
 is_blank b = b == 32 || b == 9
 
--- whether a byte is of the sort. Blanks, newlines and semicolons stand between commands
--- (XCU sed, "Extended Description"). A label ends at a newline or a semicolon, and at a blank or a closing brace too
--- (this project's own)
+-- whether a byte is of the sort. Blanks, newlines and semicolons stand between commands (XCU sed, "Extended Description"). A
+-- label ends at a newline or a semicolon, and at a blank or a closing brace too (this project's own)
 abbrev pub belongs : Sort → ℕ → Bool
 belongs Blank b = is_blank b
 belongs Separator b = is_blank b || b == 10 || b == 59

@@ -1,11 +1,7 @@
--- The letters of the functions, the addresses that they take, and what follows the letters of all but `s` and `y` (XCU sed,
--- "Editing Commands in sed").
+-- The functions: letters, addresses, and what follows the letters but `s` and `y` (XCU sed, "Editing Commands in sed").
 use Rattle.std.specs.Prelude.{ℕ, List, Option, Some, None, if◌then◌else◌, ◌==◌, ◌+◌, [], ◌∷◌, suc, drop, Bool, true, false, ◌&&◌, ◌||◌, nat_lt, slice_get, unwrap_or, Result, Ok, Err, option_map}
 use Rattle.std.specs.Option.{ok_or, option_len}
-use Rattle.sedscript.specs.Types.{Verb, ReadsExpression, Reads, Alone, OpensBlock, ClosesBlock, Remark, NamesLabel, GoesTo, TakesText, NamesFile, TakesStrings, Read, Write, ScriptFault, Reason, UnknownCommand, TooManyAddresses, MissingText, MissingLabel, MissingName, TrailingBytes, TextUse, BranchUse, FileUse, Function, Label, Branch, Text, File, Addresses, Inside, InLine, Escape, Due}
-use Rattle.sedscript.specs.declared.types.Simple.TheVariants.{AppendHold, AppendNext, CopyHold, Delete, DeleteFirst, Exchange, Hold, HoldMore, LineNumber, List as listing, NextLine, Print, PrintFirst, Quit}
-use Rattle.sedscript.specs.declared.types.TextUse.TheVariants.{Append, Insert, Change}
-use Rattle.sedscript.specs.declared.types.BranchUse.TheVariants.{Always, IfReplaced}
+use Rattle.sedscript.specs.Types.{Verb, ReadsExpression, Reads, Alone, OpensBlock, ClosesBlock, Remark, NamesLabel, GoesTo, TakesText, NamesFile, TakesStrings, Read, Write, ScriptFault, Reason, UnknownCommand, TooManyAddresses, MissingText, MissingLabel, MissingName, TrailingBytes, TextUse, Append, Insert, Change, BranchUse, Always, IfReplaced, AppendHold, AppendNext, CopyHold, Delete, DeleteFirst, Exchange, Hold, HoldMore, LineNumber, listing, NextLine, Print, PrintFirst, Quit, FileUse, Function, Label, Branch, Text, File, Addresses, Inside, InLine, Escape, Due}
 use Rattle.sedscript.specs.Bytes.{Blank, Name, Line, past, is_byte}
 
 -- what a letter stands for, if it is a function's
@@ -66,8 +62,8 @@ abbrev pub ◌>>=◌ : {A B : Type 0} → Result A ScriptFault → (A → Result
 (Ok x) >>= f = f x
 (Err e) >>= f = Err e
 
--- whether a command may end before this byte: a newline, a semicolon or the end of the text; a closing brace or a
--- comment (these two, and a semicolon after a closing brace: this project's own)
+-- whether a command may end before this byte: a newline, a semicolon or the end of the text; a closing brace or a comment
+-- (these two, and a semicolon after a closing brace: this project's own)
 abbrev pub may_end : Option ℕ → Bool
 may_end None = true
 may_end (Some b) = b == 10 || b == 59 || b == 125 || b == 35
@@ -83,22 +79,19 @@ abbrev pub stops : Inside → ℕ → Bool
 stops Escape b = false
 stops how b = b == 10
 
--- where the byte after this one stands: within a line, after a backslash that escapes it, or where a further line has
--- to follow
+-- where the byte after this one stands: within a line, after a backslash that escapes it, or where a further line is due
 abbrev pub inside_after : Inside → ℕ → Inside
 inside_after Escape b = if b == 10 then Due else InLine
 inside_after how b = if b == 92 then Escape else InLine
 
--- where a text whose rest begins at a place ends. None where a further line has to follow and doesn't (that this is a
--- fault: this project's own)
+-- where a text whose rest begins at a place ends, if no further line is due there (that this is a fault: this project's own)
 abbrev pub text_end : Inside → ℕ → List ℕ → Option ℕ
 text_end InLine at [] = Some at
 text_end how at [] = None
 text_end how at (b ∷ bs) = if stops how b then Some at else text_end (inside_after how b) (suc at) bs
 
--- where the text of `a`, `i` or `c` that is expected at a place, after the blanks that follow its letter, begins and
--- ends. If no backslash and newline stand before it, it is a one-line form, which isn't empty; after these it may be
--- (both this project's own)
+-- where the text of `a`, `i` or `c` that is due at a place, after its letter and blanks, begins and ends. Without a backslash
+-- and a newline before it it has one line and isn't empty; after these it may be (both this project's own)
 unfoldable pub text_from : List ℕ → ℕ → Option (ℕ × ℕ)
 text_from text from =
     if is_byte 92 (slice_get text from) && is_byte 10 (slice_get text (from + 1))
@@ -110,8 +103,7 @@ text_from text from =
 abbrev pub text_of : TextUse → ℕ → Option (ℕ × ℕ) → Result (Function × ℕ) ScriptFault
 text_of t place found = or_fault found MissingText place >>= λ span. Ok (Text t span.0 span.1, span.1)
 
--- the label whose name begins at a place and whose `:` stands at another, and its end. The name goes up to a newline, a
--- semicolon, a blank or a closing brace
+-- the label whose `:` stands at a place and whose name begins at another, and its end
 abbrev pub label_of : List ℕ → ℕ → ℕ → Result (Function × ℕ) ScriptFault
 label_of text place from =
     if past Name text from == from then fault MissingLabel place
@@ -121,9 +113,8 @@ label_of text place from =
 abbrev pub branch_of : List ℕ → BranchUse → ℕ → Result (Function × ℕ) ScriptFault
 branch_of text u from = ended text (Branch u from (past Name text from)) (past Name text from)
 
--- where the name of a file that is expected at a place, after its letter, begins and ends: blanks before it are passed
--- over, and it goes up to the newline. That no blank is needed, and that blanks at its end, semicolons and closing braces
--- belong to it, is this project's own. None where it is empty
+-- where the name of a file that is due at a place, after its letter, begins and ends, if it isn't empty: after blanks, and up
+-- to the newline. That no blank is needed, and what else stands on the line belongs to it, is this project's own
 unfoldable pub name_from : List ℕ → ℕ → Option (ℕ × ℕ)
 name_from text at =
     if past Line text (past Blank text at) == past Blank text at then None
@@ -133,8 +124,8 @@ name_from text at =
 abbrev pub file_of : FileUse → ℕ → Option (ℕ × ℕ) → Result (Function × ℕ) ScriptFault
 file_of u place found = or_fault found MissingName place >>= λ name. Ok (File u name.0 name.1, name.1)
 
--- what the letter at a place stands for, if that is a function which may have these addresses.
--- A `!` before a function without addresses is refused (this project's own)
+-- what the letter at a place stands for, a function that may have these addresses. A `!` before one that takes none is refused
+-- (this project's own)
 abbrev pub allowed : Addresses → ℕ → Option Verb → Result Verb ScriptFault
 allowed addresses at stands = or_fault stands UnknownCommand at >>= λ verb.
     if addresses.negate && most_addresses verb == 0 then fault UnknownCommand at

@@ -1,5 +1,4 @@
--- The items of a script: addresses, and the functions after them (XCU sed, "Addresses in sed", "Extended Description"). What
--- is read after a regular expression may depend on the number of its groups.
+-- The items of a script: addresses, and the functions after them (XCU sed, "Addresses in sed", "Extended Description").
 use Rattle.std.specs.Prelude.{ℕ, Bool, Result, Ok, Err, suc, ◌+◌, List, true, false, Option, Some, None, if◌then◌else◌, ◌==◌, slice_get}
 use Rattle.std.specs.List.{fold}
 use Rattle.std.specs.Result.{result_unwrap_or}
@@ -9,8 +8,8 @@ use Rattle.sedscript.specs.Functions.{fault, or_fault, ended, label_of, branch_o
 use Rattle.sedscript.specs.Between.{own_delimiter, substitute_strings, flags_after, substituted, transliterate_at, no_flags}
 use Rattle.sedre.specs.Brackets.{delimiter_at}
 
--- a regular expression in a script: where it begins, where it ends, the delimiter that stands there, and whether its
--- flag `I` makes letters match without regard to case (this project's own)
+-- a regular expression in a script: where it begins and ends, the delimiter there, and whether its flag `I` folds the case of
+-- letters (this project's own)
 pub record Pattern : Type 0 where
   pub from : ℕ
   pub to : ℕ
@@ -38,8 +37,8 @@ pub record Addressed : Type 0 where
 abbrev pub found : Option Address → ℕ → ℕ → Result Addressed ScriptFault
 found address at count = Ok (record { address = address; at = at; count = count })
 
--- the address of the line whose number has its digits between two places. Leading zeros are accepted, and the number 0 and
--- numbers from 2 ^ 64 on are refused (this project's own)
+-- the address of the line whose number has its digits between two places. Leading zeros are accepted, 0 and numbers from
+-- 2 ^ 64 on are refused (this project's own)
 abbrev pub line_of : ℕ → ℕ → ℕ → Option ℕ → Result Addressed ScriptFault
 line_of count from to (Some (suc n)) = found (Some (Line (suc n))) to count
 line_of count from to number = fault BadAddress from
@@ -52,8 +51,8 @@ folds_at text at = is_byte 73 (slice_get text at)
 abbrev pub past_flag : List ℕ → ℕ → ℕ
 past_flag text at = if folds_at text at then at + 1 else at
 
--- the address of the regular expression that begins after the delimiter at a place. The flag `I` may stand directly
--- after it. The empty one has no number, and takes no flag (this project's own)
+-- the address of the regular expression after the delimiter at a place, with its flag `I`. The empty one has no number, and
+-- takes no flag (this project's own)
 unfoldable pub match_at : List ℕ → ℕ → ℕ → ℕ → Reading Addressed
 match_at text count delimiter place =
     plainly (or_fault (delimiter_at text (place + 1) delimiter) OpenDelimiter place) >>= λ to.
@@ -104,8 +103,8 @@ with_second first place x (Some a) = with_addresses (Some first) (Some a) x.at x
 unfoldable pub second_at : List ℕ → ℕ → Address → ℕ → Reading Headed
 second_at text count first at = address_at text count at >>= λ x. plainly (with_second first at x x.address)
 
--- the addresses of a command, of which the first one, if there is one, ends at a place. A comma and a second one may
--- follow it. Blanks round the comma are passed over (this project's own)
+-- the addresses of a command, the first of which, if there is one, ends at a place; a comma and a second one may follow it, and
+-- blanks round the comma are passed over (this project's own)
 abbrev pub after_first : List ℕ → ℕ → ℕ → Option Address → Reading Headed
 after_first text count at None = plainly (with_addresses None None at count)
 after_first text count at (Some first) =
@@ -117,17 +116,16 @@ after_first text count at (Some first) =
 unfoldable pub addresses_at : List ℕ → ℕ → ℕ → Reading Headed
 addresses_at text count at = address_at text count at >>= λ x. after_first text x.count x.at x.address
 
--- the addresses with the `!` that stands after them, if one does. Several count as one.
--- Blanks round them are passed over (those after them: this project's own)
+-- the addresses with the `!` after them, if one stands there. Several are one, and blanks round them are passed over (after
+-- them this project's own)
 abbrev pub with_bang : List ℕ → Headed → Headed
 with_bang text h =
     if is_byte 33 (slice_get text (past Blank text h.at))
     then record h { addresses = record h.addresses { negate = true }; at = past Bang text (past Blank text h.at) }
     else record h { at = past Blank text h.at }
 
--- the command `s` with these strings, and its end, with so many regular expressions before it. The empty one has no
--- number, and sets no limit to the groups of the replacement (this project's own). The flags say whether letters of the
--- others match without regard to case
+-- the command `s` with these strings, and its end, with so many regular expressions before it. The empty one has no number,
+-- and sets no limit to the groups of the replacement (this project's own)
 abbrev pub substitute_with : List ℕ → ℕ → Strings → Reading (Function × ℕ)
 substitute_with text count s =
     if s.middle == s.from then plainly (substituted text s None None)
@@ -144,7 +142,7 @@ unfoldable pub substitute_at : List ℕ → ℕ → ℕ → Reading (Function ×
 substitute_at text count at =
     plainly (substitute_strings text (at + 1) (own_delimiter (slice_get text (at + 1)))) >>= substitute_with text count
 
--- the function whose letter stands at a place, and the place after it. The letter is not `s`, and has this shape
+-- the function whose letter stands at a place and takes these arguments, and the place after it
 abbrev pub function_of : List ℕ → Arguments → ℕ → Result (Function × ℕ) ScriptFault
 function_of text OpensBlock at = Ok (Open, at + 1)
 function_of text ClosesBlock at = ended text Close (at + 1)

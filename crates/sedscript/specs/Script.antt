@@ -1,15 +1,13 @@
 -- What a script means (XCU sed, "Extended Description"), and the text that its parts make (XCU sed, Options).
 use Rattle.std.specs.Prelude.{ℕ, if◌then◌else◌, List, [], ◌∷◌, ◌++◌, nat_eq, ◌≤◌, length, Some, Ok, ◌≡◌, ◌+◌, Bool, true, false, not, ◌&&◌, Option, None, ◌==◌, slice_get, unwrap_or, option_map, filter_map}
 use Rattle.std.specs.List.{cons_option, ends_with}
-use Rattle.sedre.specs.declared.types.Kind.{Kind}
-use Rattle.sedre.specs.declared.types.Reason.{Reason as ExprReason}
+use Rattle.sedre.specs.Types.{Kind, Reason as ExprReason}
 use Rattle.sedre.specs.Tree.{WrittenExpression, expression_tree}
 use Rattle.sedre.specs.Grammar.{ReadsAs, ExprFaulty}
 use Rattle.sedscript.specs.Bytes.{bytes_between, Separator, past}
 use Rattle.sedscript.specs.Items.{Pattern, Reading, plainly, expression, item_at}
-use Rattle.sedscript.specs.Types.{Action, Command, Read, Write, Function, Plain, Open, Branch, Text, File, Substitute, Transliterate, Addresses, Item, Is}
+use Rattle.sedscript.specs.Types.{Action, Command, Read, Write, Function, Plain, Open, Branch, Text, File, Substitute, Transliterate, Addresses, Item, Is, Substitution}
 use Rattle.sedscript.specs.declared.types.Action.TheVariants as action
-use Rattle.sedscript.specs.declared.substitution.Substitution.{Substitution}
 use Rattle.sedscript.specs.Strings.{pieces_of, chars_of, bytes_of, table_of}
 use Rattle.sedscript.specs.Targets.{files_in, number_in, commands_in, label_in, block_end, target_fault}
 use Rattle.sedscript.specs.Program.{Program}
@@ -85,8 +83,8 @@ table_in text f = None
 abbrev pub tables_of : List ℕ → List Item → List (List ℕ)
 tables_of text items = filter_map (λ i. table_in text i.function) items
 
--- the action of a function among all items, given those before it and those after it. A text, a substitution or a table
--- has as its number how many stand before it. None where the function doesn't become a command
+-- the action of a function among all items, given those before and after it, if it becomes a command. The number of a text, a
+-- substitution or a table is how many stand before it
 abbrev pub action_of : List ℕ → List Item → List Item → List Item → Function → Option Action
 action_of text all before after (Plain s) = Some (action.Plain s)
 action_of text all before after Open = Some (action.Block (unwrap_or (block_end before after) 0))

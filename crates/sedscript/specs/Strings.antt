@@ -5,23 +5,15 @@ use Rattle.std.specs.Option.{option_or}
 use Rattle.sedscript.specs.Types.{ScriptFault, BadEscape, GroupAbsent, LengthsDiffer, RepeatedByte}
 use Rattle.sedscript.specs.Bytes.{is_digit, bytes_between}
 use Rattle.sedscript.specs.Targets.{fault_if}
--- an ASCII letter
 pub use Rattle.sedre.specs.Items.{is_letter}
--- what a replacement is made of
-pub use Rattle.sedscript.specs.declared.substitution.Piece.{Piece}
--- a byte, the whole match, and what a group of it has
-pub use Rattle.sedscript.specs.declared.substitution.Piece.TheVariants.{Literal as literal, Whole as whole}
-pub use Rattle.sedscript.specs.declared.substitution.Piece.TheVariants.{Group as group}
--- a byte of a string, and its place (of an escape: the place of its backslash)
-pub use Rattle.sedscript.specs.declared.transliteration.Char.{Char}
+pub use Rattle.sedscript.specs.Types.{Piece, literal, whole, group, Char}
 
 -- whether a byte is a backslash that escapes the next one, given whether it is escaped itself
 abbrev pub escapes : Bool → ℕ → Bool
 escapes escaped b = b == 92 && not escaped
 
--- where a string between delimiters ends: at the first delimiter that isn't escaped. None where a newline stands before
--- that. An escaped newline may stand in a replacement, which `breaks` lines there, but not in a string of `y` (this
--- project's own)
+-- where a string between delimiters ends: at the first delimiter that isn't escaped, before any newline. An escaped newline may
+-- stand in a replacement, which `breaks` lines there, but not in a string of `y` (this project's own)
 abbrev pub string_end : (breaks : Bool) → ℕ → (escaped : Bool) → ℕ → List ℕ → Option ℕ
 string_end breaks delimiter escaped at [] = None
 string_end breaks delimiter escaped at (b ∷ bs) =
@@ -30,10 +22,9 @@ string_end breaks delimiter escaped at (b ∷ bs) =
     else if b == delimiter then Some at
     else string_end breaks delimiter (b == 92) (suc at) bs
 
--- what this byte stands for where it is escaped. The delimiter stands for itself, whatever byte it is (this project's own);
--- 0 for the whole match (this project's own), and another digit for that group of it; `n` for a newline, `t` for a tab
--- (this project's own); a newline for itself, as do other bytes that are neither letters nor digits (this
--- project's own). Other letters are refused (this project's own)
+-- what a byte after a backslash stands for: a digit for that group of the match, `n` for a newline, a newline for itself. This
+-- project's own: the delimiter stands for itself, whatever byte it is, 0 for the whole match, `t` for a tab, other bytes that
+-- are no letters for themselves, and other letters are refused
 abbrev pub escaped_piece : ℕ → ℕ → Option Piece
 escaped_piece delimiter b =
     if b == delimiter then Some (literal b)
@@ -49,8 +40,7 @@ abbrev pub piece_of : ℕ → Bool → ℕ → Option Piece
 piece_of delimiter true b = escaped_piece delimiter b
 piece_of delimiter false b = if b == 92 then None else if b == 38 then Some whole else Some (literal b)
 
--- the pieces of a replacement's text, given whether its first byte is escaped.
--- An escape that is refused leaves none
+-- the pieces of a replacement's text, given whether its first byte is escaped; an escape that is refused leaves none
 abbrev pub pieces_from : ℕ → Bool → List ℕ → List Piece
 pieces_from delimiter escaped [] = []
 pieces_from delimiter escaped (b ∷ bs) =
@@ -78,8 +68,8 @@ replacement_fault delimiter limit true at (b ∷ bs) =
     option_or (piece_fault limit (at - 1) (escaped_piece delimiter b)) (replacement_fault delimiter limit false (suc at) bs)
 replacement_fault delimiter limit false at (b ∷ bs) = replacement_fault delimiter limit (b == 92) (suc at) bs
 
--- what this byte stands for where it is escaped. The delimiter stands for itself, whatever byte it is (this project's own),
--- as does the backslash; `n` for a newline, `t` for a tab (this project's own); other bytes are refused (this project's own)
+-- what a byte after a backslash stands for: the delimiter (whatever byte it is: this project's own) and the backslash for
+-- themselves, `n` for a newline; `t` for a tab, and other bytes are refused (both this project's own)
 abbrev pub escaped_byte : ℕ → ℕ → Option ℕ
 escaped_byte delimiter b =
     if b == delimiter || b == 92 then Some b
@@ -92,8 +82,7 @@ abbrev pub char_of : ℕ → Bool → ℕ → ℕ → Option Char
 char_of delimiter true at b = option_map (λ x. record { byte = x; place = at - 1 }) (escaped_byte delimiter b)
 char_of delimiter false at b = if b == 92 then None else Some (record { byte = b; place = at })
 
--- the bytes of a string that begins at a place, given whether the first is escaped.
--- An escape that is refused leaves none
+-- the bytes of a string that begins at a place, given whether the first is escaped; an escape that is refused leaves none
 abbrev pub chars_from : ℕ → Bool → ℕ → List ℕ → List Char
 chars_from delimiter escaped at [] = []
 chars_from delimiter escaped at (b ∷ bs) =
@@ -124,9 +113,8 @@ repeated_in before [] = None
 repeated_in before (c ∷ cs) =
     if is_among before c.byte then Some c.place else repeated_in (c.byte ∷ before) cs
 
--- the first fault of the strings of a `y` whose letter stands at a place. The first string stands up to its delimiter
--- in the middle, and the second one after that (this project's own: the first may have no byte twice, and the strings
--- have the same length)
+-- the first fault of the strings of a `y` whose letter stands at a place; the delimiter in the middle is between them. That the
+-- first may have no byte twice, and that they have the same length, is this project's own
 abbrev pub strings_fault : List ℕ → ℕ → ℕ → ℕ → ℕ → ℕ → Option ScriptFault
 strings_fault text delimiter letter from middle to =
     option_or (string_fault delimiter false from (bytes_between text from middle))

@@ -1,5 +1,4 @@
--- Where names lead: the files of `r`, `w` and the flag `w` of `s`, labels and blocks, and what is wrong with these two (XCU sed,
--- "Editing Commands in sed").
+-- Where names lead: files, labels and blocks, and what is wrong with the last two (XCU sed, "Editing Commands in sed").
 use Rattle.std.specs.Prelude.{ℕ, List, [], ◌∷◌, Bool, true, not, Option, Some, None, codes, filter, filter_map, if◌then◌else◌, unwrap_or, suc, ◌-◌, ◌++◌, false, ◌&&◌, is_none, is_some, ◌==◌}
 use Rattle.std.specs.List.{position_from}
 use Rattle.std.specs.Str.{bytes_eq}
@@ -12,8 +11,7 @@ use Rattle.sedscript.specs.Bytes.{bytes_between}
 abbrev pub is_standard_output : List ℕ → Bool
 is_standard_output name = bytes_eq name (codes "/dev/stdout")
 
--- whether a name is a file's: each that is read is, and each that is written but the standard output's (this project's
--- own)
+-- whether a name is a file's: each but the standard output's where it is written (this project's own)
 abbrev pub is_file : FileUse → List ℕ → Bool
 is_file Read name = true
 is_file Write name = not (is_standard_output name)
@@ -39,8 +37,8 @@ distinct (n ∷ ns) = n ∷ filter (λ m. not (bytes_eq n m)) (distinct ns)
 abbrev pub files_in : FileUse → List ℕ → List Item → List (List ℕ)
 files_in u text items = distinct (filter_map (λ i. file_at u text (name_in u i.function)) items)
 
--- the number of what is read, or written, by a name: its place among the items' files. Those that are read are counted
--- from 0, those that are written from 1, since 0 is the standard output
+-- the number of what is read, or written, by a name: its place among the items' files, from 0 for those that are read and from 1
+-- for those that are written, since 0 is the standard output
 abbrev pub number_in : FileUse → List ℕ → List Item → List ℕ → ℕ
 number_in Read text items name = unwrap_or (position_from (bytes_eq name) 0 (files_in Read text items)) 0
 number_in Write text items name =
@@ -73,12 +71,10 @@ abbrev pub label_in : List ℕ → List ℕ → ℕ → List Item → Option ℕ
 label_in text name n [] = None
 label_in text name n (i ∷ is) = if is_label text name i.function then Some n else label_in text name (counted n i) is
 
--- whether a function opens a block
+-- whether a function opens a block, and whether it closes one
 abbrev pub is_open : Function → Bool
 is_open Open = true
 is_open f = false
-
--- whether a function closes a block
 abbrev pub is_close : Function → Bool
 is_close Close = true
 is_close f = false
@@ -87,8 +83,7 @@ is_close f = false
 abbrev pub depth_after : ℕ → Function → ℕ
 depth_after depth f = if is_open f then suc depth else if is_close f then depth - 1 else depth
 
--- the number of the command after the brace that closes a block,
--- with so many inner blocks open and so many commands before the items
+-- the number of the command after the brace that closes a block, with so many inner blocks open and commands before the items
 abbrev pub close_in : ℕ → ℕ → List Item → Option ℕ
 close_in depth n [] = None
 close_in depth n (i ∷ is) =
@@ -99,12 +94,12 @@ close_in depth n (i ∷ is) =
 abbrev pub block_end : List Item → List Item → Option ℕ
 block_end before after = close_in 0 (suc (commands_in before)) after
 
--- the fault at a place, if something is wrong
+-- the fault at a place, where something is wrong
 abbrev pub fault_if : Bool → Reason → ℕ → Option ScriptFault
 fault_if wrong reason place = then_some wrong (record { place = place; reason = reason })
 
--- what is wrong with a function at a place among all items, if anything is, given those before it, which leave so many
--- blocks open, and those after it. That a label may not stand twice is this project's own
+-- the fault of a function at a place among all items, given those before it, which leave so many blocks open, and those after
+-- it. That a label may not stand twice is this project's own
 abbrev pub target_fault_at : List ℕ → List Item → List Item → ℕ → List Item → ℕ → Function → Option ScriptFault
 target_fault_at text all before depth after place Open = fault_if (is_none (block_end before after)) OpenBlock place
 target_fault_at text all before depth after place Close = fault_if (depth == 0) StrayClose place

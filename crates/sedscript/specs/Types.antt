@@ -6,8 +6,11 @@ pub use Rattle.sedscript.specs.declared.types.Address.{Address}
 pub use Rattle.sedscript.specs.declared.types.Address.TheVariants.{Last, Line, Match}
 pub use Rattle.sedscript.specs.declared.types.Action.{Action}
 pub use Rattle.sedscript.specs.declared.types.Command.{Command}
+pub use Rattle.sedscript.specs.declared.types.Simple.TheVariants.{AppendHold, AppendNext, CopyHold, Delete, DeleteFirst, Exchange, Hold, HoldMore, LineNumber, List as listing, NextLine, Print, PrintFirst, Quit}
 pub use Rattle.sedscript.specs.declared.types.TextUse.{TextUse}
+pub use Rattle.sedscript.specs.declared.types.TextUse.TheVariants.{Append, Change, Insert}
 pub use Rattle.sedscript.specs.declared.types.BranchUse.{BranchUse}
+pub use Rattle.sedscript.specs.declared.types.BranchUse.TheVariants.{Always, IfReplaced}
 pub use Rattle.sedscript.specs.declared.types.FileUse.{FileUse}
 pub use Rattle.sedscript.specs.declared.types.FileUse.TheVariants.{Read, Write}
 pub use Rattle.sedscript.specs.declared.items.Addresses.{Addresses}
@@ -24,3 +27,7 @@ pub use Rattle.sedscript.specs.declared.letters.Arguments.{Arguments}
 pub use Rattle.sedscript.specs.declared.letters.Arguments.TheVariants.{Alone, ClosesBlock, GoesTo, NamesFile, NamesLabel, OpensBlock, Remark, TakesStrings, TakesText}
 pub use Rattle.sedscript.specs.declared.texts.Inside.{Inside}
 pub use Rattle.sedscript.specs.declared.texts.Inside.TheVariants.{Due, Escape, InLine}
+pub use Rattle.sedscript.specs.declared.substitution.Substitution.{Substitution}
+pub use Rattle.sedscript.specs.declared.substitution.Piece.{Piece}
+pub use Rattle.sedscript.specs.declared.substitution.Piece.TheVariants.{Group as group, Literal as literal, Whole as whole}
+pub use Rattle.sedscript.specs.declared.transliteration.Char.{Char}

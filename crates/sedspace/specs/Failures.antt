@@ -1,18 +1,5 @@
--- Numbers of failures, which stop at the largest 64-bit number.
-use Rattle.std.specs.Prelude.{◌≡◌, ℕ, ◌+◌, ◌-◌, ◌^◌, ◌≤◌, min, max, Result, MatchResult}
+-- Numbers of failures, which stop at the largest 64-bit number: the number rose, or stands at the largest.
+use Rattle.std.specs.Prelude.{ℕ, ◌+◌, ◌-◌, ◌^◌, ◌≤◌, min}
 
--- one more, and the same at the largest
-abbrev pub raised : ℕ → ℕ
-raised n = max n (min (n + 1) (2 ^ 64 - 1))
-
--- the number rises by one, and stays where it stands at the largest
-abbrev pub Rises : ℕ → ℕ → Type 0
-Rises old new = new ≡ raised old
-
--- the number rose, or stands at the largest
 abbrev pub Rose : ℕ → ℕ → Type 0
 Rose old new = min (old + 1) (2 ^ 64 - 1) ≤ new
-
--- an `Err` raises the number, and nothing else does
-abbrev pub FailsAtErr : {T E : Type 0} → Result T E → ℕ → ℕ → Type 0
-FailsAtErr r old new = MatchResult r (λ _. new ≡ old) (λ _. Rises old new)

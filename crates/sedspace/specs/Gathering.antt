@@ -8,7 +8,7 @@ use Rattle.sedspace.specs.declared.lines.Got.{Got}
 use Rattle.sedspace.specs.declared.lines.Got.TheVariants.{Line, End}
 use Rattle.sedspace.specs.declared.errors.LineFault.{LineFault}
 use Rattle.sedspace.specs.declared.errors.LineFault.TheVariants.{Broken, TooLong}
-use Rattle.sedspace.specs.Failures.{Rises}
+use Rattle.sedspace.specs.FailureCounts.{Rises}
 use Rattle.sedspace.specs.Lines.{is_newline, HasNoNewline}
 use Rattle.sedspace.specs.Stream.{Stream, left}
 

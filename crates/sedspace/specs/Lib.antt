@@ -1,4 +1,5 @@
 pub mod NewlineAfter
+pub mod FailureCounts
 pub mod Failures
 pub mod Gathering
 pub mod Lines

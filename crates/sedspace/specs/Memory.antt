@@ -2,7 +2,7 @@
 use Rattle.std.specs.Prelude.{Vec, unwrap_or, ◌≡◌, ℕ, ◌-◌, ◌<◌, ◌⊎◌, Bool, false, ◌&&◌, nat_lt, if◌then◌else◌, min, List, [], ◌∷◌, ◌++◌, length, take, Option, Some, None, Result, Ok, Err, slice_get}
 use Rattle.std.specs.Option.{option_map}
 use Rattle.sedspace.specs.declared.errors.Broken.{Broken}
-use Rattle.sedspace.specs.Failures.{raised}
+use Rattle.sedspace.specs.FailureCounts.{raised}
 
 -- a source over memory: its bytes, the places that no read passes, the most bytes of a read, how many bytes were
 -- taken, its calls, the call that fails, and its failures

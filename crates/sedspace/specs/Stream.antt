@@ -5,7 +5,7 @@ use Rattle.std.specs.Result.{result_err}
 use Rattle.std.specs.Io.KnownBytes.{Consumes, prepend_known}
 use Rattle.sedspace.specs.declared.errors.LineFault.{LineFault}
 use Rattle.sedspace.specs.declared.errors.LineFault.TheVariants.{Broken}
-use Rattle.sedspace.specs.Failures.{Rises}
+use Rattle.sedspace.specs.FailureCounts.{Rises}
 use Rattle.sedspace.specs.Lines.{lines, HasNoNewline}
 
 -- a reader of lines: its source, the bytes read ahead, at most how many, whether the end was seen, and the fault that

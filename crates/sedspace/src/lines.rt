@@ -8,7 +8,7 @@
 ghost use Rattle.std.specs.Prelude.{◌≡◌, ◌↔◌, ◌+◌, ◌-◌, ◌<◌, ◌≤◌, ◌^◌, ℕ, List, [], ◌∷◌, ◌++◌, length, take, drop, true, false, IsTrue, is_ok, if◌then◌else◌, None, Some, IfOk, OnOk, OnErr, Contains, vec_len, vec_capacity};
 ghost use Rattle.std.specs.List.{position, before_first};
 ghost use Rattle.std.specs.Io.KnownBytes.{Consumes, Keeps, IsAtEnd};
-ghost use Rattle.sedspace.specs.Failures.{FailsAtErr};
+ghost use Rattle.sedspace.specs.FailureCounts.{FailsAtErr};
 ghost use Rattle.sedspace.specs.Lines.{is_newline, HasNoNewline};
 ghost use Rattle.sedspace.specs.Stream.{AreWholeLines};
 

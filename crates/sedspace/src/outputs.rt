@@ -2,7 +2,7 @@
 ghost use Rattle.std.specs.Prelude.{◌≡◌, ◌≢◌, ◌<◌, ℕ, List, Option, length, take, IfErr, IfOk, MatchResult};
 ghost use Rattle.std.specs.Io.{WritesAtMost};
 ghost use Rattle.std.specs.Io.KnownBytes.{Appends, Keeps, WriteAppends};
-ghost use Rattle.sedspace.specs.Failures.{FailsAtErr};
+ghost use Rattle.sedspace.specs.FailureCounts.{FailsAtErr};
 
 use super::Broken;
 

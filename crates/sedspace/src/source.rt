@@ -4,7 +4,7 @@ ghost use Rattle.std.specs.Borrow.{GName};
 ghost use Rattle.std.specs.Io.{ReadsAtMost};
 ghost use Rattle.std.specs.Io.KnownBytes.{ReadConsumes};
 ghost use Rattle.std.specs.Option.{option_map};
-ghost use Rattle.sedspace.specs.Failures.{FailsAtErr, raised};
+ghost use Rattle.sedspace.specs.FailureCounts.{FailsAtErr, raised};
 
 use super::Broken;
 

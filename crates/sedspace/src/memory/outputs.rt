@@ -3,7 +3,7 @@ ghost use Rattle.std.specs.Prelude.{◌≡◌, ◌≢◌, ◌<◌, ℕ, [], Some
 ghost use Rattle.std.specs.Option.{option_map};
 ghost use Rattle.std.specs.Io.{WritesAtMost};
 ghost use Rattle.std.specs.Io.KnownBytes.{WriteAppends};
-ghost use Rattle.sedspace.specs.Failures.{FailsAtErr};
+ghost use Rattle.sedspace.specs.FailureCounts.{FailsAtErr};
 ghost use Rattle.sedspace.specs.Memory.{new_sink, sink_bytes, sink_failures, TakesBytes};
 
 use crate::{Broken, Outputs};

@@ -2,7 +2,7 @@
 ghost use Rattle.std.specs.Prelude.{◌≡◌, ◌↔◌, ◌+◌, ◌-◌, ◌<◌, ◌≤◌, [], Option, Some, None, length, drop, min, IfOk, IsErr, vec_len};
 ghost use Rattle.std.specs.Io.{ReadsAtMost};
 ghost use Rattle.std.specs.Io.KnownBytes.{ReadConsumes};
-ghost use Rattle.sedspace.specs.Failures.{FailsAtErr, raised};
+ghost use Rattle.sedspace.specs.FailureCounts.{FailsAtErr, raised};
 ghost use Rattle.sedspace.specs.Memory.{piece_end};
 
 use crate::{Broken, ByteSource};
