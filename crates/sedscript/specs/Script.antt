@@ -1,13 +1,15 @@
 -- What a script means (XCU sed, "Extended Description"), and the text that its parts make (XCU sed, Options).
 use Rattle.std.specs.Prelude.{ℕ, if◌then◌else◌, List, [], ◌∷◌, ◌++◌, nat_eq, ◌≤◌, length, Some, Ok, ◌≡◌, ◌+◌, Bool, true, false, not, ◌&&◌, Option, None, ◌==◌, slice_get, unwrap_or, option_map, filter_map}
 use Rattle.std.specs.List.{cons_option, ends_with}
-use Rattle.sedre.specs.Types.{Kind, Reason as ExprReason}
+use Rattle.sedre.specs.declared.types.Kind.{Kind}
+use Rattle.sedre.specs.declared.types.Reason.{Reason as ExprReason}
 use Rattle.sedre.specs.Tree.{WrittenExpression, expression_tree}
 use Rattle.sedre.specs.Grammar.{ReadsAs, ExprFaulty}
 use Rattle.sedscript.specs.Bytes.{bytes_between, Separator, past}
 use Rattle.sedscript.specs.Items.{Pattern, Reading, plainly, expression, item_at}
-use Rattle.sedscript.specs.Types.{Action, Command, Read, Write, Function, Plain, Open, Branch, Text, File, Substitute, Transliterate, Addresses, Item, Is, Substitution}
+use Rattle.sedscript.specs.Types.{Action, Command, Read, Write, Function, Plain, Open, Branch, Text, File, Substitute, Transliterate, Addresses, Item, Is}
 use Rattle.sedscript.specs.declared.types.Action.TheVariants as action
+use Rattle.sedscript.specs.declared.substitution.Substitution.{Substitution}
 use Rattle.sedscript.specs.Strings.{pieces_of, chars_of, bytes_of, table_of}
 use Rattle.sedscript.specs.Targets.{files_in, number_in, commands_in, label_in, block_end, target_fault}
 use Rattle.sedscript.specs.Program.{Program}

@@ -27,7 +27,6 @@ pub use Rattle.sedscript.specs.declared.letters.Arguments.{Arguments}
 pub use Rattle.sedscript.specs.declared.letters.Arguments.TheVariants.{Alone, ClosesBlock, GoesTo, NamesFile, NamesLabel, OpensBlock, Remark, TakesStrings, TakesText}
 pub use Rattle.sedscript.specs.declared.texts.Inside.{Inside}
 pub use Rattle.sedscript.specs.declared.texts.Inside.TheVariants.{Due, Escape, InLine}
-pub use Rattle.sedscript.specs.declared.substitution.Substitution.{Substitution}
 pub use Rattle.sedscript.specs.declared.substitution.Piece.{Piece}
 pub use Rattle.sedscript.specs.declared.substitution.Piece.TheVariants.{Group as group, Literal as literal, Whole as whole}
 pub use Rattle.sedscript.specs.declared.transliteration.Char.{Char}
