@@ -7,38 +7,33 @@ use Rattle.sedscript.specs.Bytes.{Blank, Name, Line, past, is_byte}
 -- what a letter stands for, if it is a function's
 abbrev pub verb_of : ℕ → Option Verb
 verb_of letter =
-    -- `{` `}` `#` `:` `b` `t`
-    if letter == 123 then Some (Reads OpensBlock)
-    else if letter == 125 then Some (Reads ClosesBlock)
-    else if letter == 35 then Some (Reads Remark)
-    else if letter == 58 then Some (Reads NamesLabel)
-    else if letter == 98 then Some (Reads (GoesTo Always))
-    else if letter == 116 then Some (Reads (GoesTo IfReplaced))
-    -- `a` `i` `c` `r` `w`
-    else if letter == 97 then Some (Reads (TakesText Append))
-    else if letter == 105 then Some (Reads (TakesText Insert))
-    else if letter == 99 then Some (Reads (TakesText Change))
-    else if letter == 114 then Some (Reads (NamesFile Read))
-    else if letter == 119 then Some (Reads (NamesFile Write))
-    -- `s` `y`
-    else if letter == 115 then Some ReadsExpression
-    else if letter == 121 then Some (Reads TakesStrings)
-    -- `=` `d` `D` `l` `n` `N` `p` `P` `q`
-    else if letter == 61 then Some (Reads (Alone LineNumber))
-    else if letter == 100 then Some (Reads (Alone Delete))
-    else if letter == 68 then Some (Reads (Alone DeleteFirst))
-    else if letter == 108 then Some (Reads (Alone listing))
-    else if letter == 110 then Some (Reads (Alone NextLine))
-    else if letter == 78 then Some (Reads (Alone AppendNext))
-    else if letter == 112 then Some (Reads (Alone Print))
-    else if letter == 80 then Some (Reads (Alone PrintFirst))
-    else if letter == 113 then Some (Reads (Alone Quit))
-    -- `g` `G` `h` `H` `x`
-    else if letter == 103 then Some (Reads (Alone CopyHold))
-    else if letter == 71 then Some (Reads (Alone AppendHold))
-    else if letter == 104 then Some (Reads (Alone Hold))
-    else if letter == 72 then Some (Reads (Alone HoldMore))
-    else if letter == 120 then Some (Reads (Alone Exchange))
+    if letter == 123 then Some (Reads OpensBlock)  -- {
+    else if letter == 125 then Some (Reads ClosesBlock)  -- }
+    else if letter == 35 then Some (Reads Remark)  -- #
+    else if letter == 58 then Some (Reads NamesLabel)  -- :
+    else if letter == 98 then Some (Reads (GoesTo Always))  -- b
+    else if letter == 116 then Some (Reads (GoesTo IfReplaced))  -- t
+    else if letter == 97 then Some (Reads (TakesText Append))  -- a
+    else if letter == 105 then Some (Reads (TakesText Insert))  -- i
+    else if letter == 99 then Some (Reads (TakesText Change))  -- c
+    else if letter == 114 then Some (Reads (NamesFile Read))  -- r
+    else if letter == 119 then Some (Reads (NamesFile Write))  -- w
+    else if letter == 115 then Some ReadsExpression  -- s
+    else if letter == 121 then Some (Reads TakesStrings)  -- y
+    else if letter == 61 then Some (Reads (Alone LineNumber))  -- =
+    else if letter == 100 then Some (Reads (Alone Delete))  -- d
+    else if letter == 68 then Some (Reads (Alone DeleteFirst))  -- D
+    else if letter == 108 then Some (Reads (Alone listing))  -- l
+    else if letter == 110 then Some (Reads (Alone NextLine))  -- n
+    else if letter == 78 then Some (Reads (Alone AppendNext))  -- N
+    else if letter == 112 then Some (Reads (Alone Print))  -- p
+    else if letter == 80 then Some (Reads (Alone PrintFirst))  -- P
+    else if letter == 113 then Some (Reads (Alone Quit))  -- q
+    else if letter == 103 then Some (Reads (Alone CopyHold))  -- g
+    else if letter == 71 then Some (Reads (Alone AppendHold))  -- G
+    else if letter == 104 then Some (Reads (Alone Hold))  -- h
+    else if letter == 72 then Some (Reads (Alone HoldMore))  -- H
+    else if letter == 120 then Some (Reads (Alone Exchange))  -- x
     else None
 
 -- the most addresses of a function; that `a`, `i`, `r` and `=` take two is this project's own, POSIX gives them one
