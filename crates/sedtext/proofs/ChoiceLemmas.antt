@@ -184,6 +184,10 @@ heads_more heads after words x c literal are is first inside same k other lt the
     (c, subst (λ l. slice_get l 0 ≡ Some c) (sym e) first, get_or-set_same heads c true false inside))
     (cases_lt k x))
 
+-- the same literals, in the same text
+pub first_seen : (words seen : List (List ℕ)) (bytes w : List ℕ) (p : ℕ) (r : Option ℕ) → words ≡ seen → bytes ≡ w → FirstChoice words bytes p r → FirstChoice seen w p r
+first_seen words seen bytes w p r same is first = subst (λ v. FirstChoice seen v p r) is (subst (λ v. FirstChoice v bytes p r) same first)
+
 -- a literal that stands at a place ends in the text
 pub choice_inside : (heads : List Bool) (words : List (List ℕ)) (w : List ℕ) (i : ℕ) → AreHeads heads words → ChoiceAt words w i → i < length w
 choice_inside heads words w i are at =

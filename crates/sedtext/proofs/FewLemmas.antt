@@ -1,10 +1,11 @@
 -- A few bytes with which matches begin.
-use Rattle.std.proofs.Common.{◌≡◌, ℕ, ◌+◌, ◌-◌, ◌<◌, ◌≤◌, ◌↔◌, ◌⊎◌, ◌||◌, Bool, true, List, length, take, drop, Option, Some, None, sym, ap, ◌∙◌, inl, inr, ⊎_elim, arith, length-drop}
+use Rattle.std.proofs.Common.{◌≡◌, ℕ, ◌+◌, ◌-◌, ◌<◌, ◌≤◌, ◌↔◌, ◌⊎◌, ◌||◌, Bool, true, List, length, take, drop, Option, Some, None, refl, sym, ap, ◌∙◌, inl, inr, ⊎_elim, arith, length-drop}
 use Rattle.std.specs.Prelude.{slice_index, eqb}
 use Rattle.std.proofs.lemmas.Bool.{eqb-true, eq-eqb, or_left, or_right, or_cases}
 use Rattle.std.proofs.lemmas.List.{take_rest, get_or-drop}
 use Rattle.std.proofs.lemmas.Option.{slice_get_within, get_or_from_slice_get, slice_get-get_or}
 use Rattle.memchr.specs.Find.{Passes, IsFirstByte, is_byte, is_byte2, is_byte3}
+use Rattle.sedtext.specs.Bytes.{FirstAt}
 use Rattle.sedtext.specs.Spans.{IsIn}
 use Rattle.sedtext.specs.Few.{HasFew, FewAt, FirstFew, Gathered}
 use Rattle.sedtext.specs.declared.counted.few.Few.{Few}
@@ -59,35 +60,38 @@ two_first a b hay r first = few_first (Two a b) (is_byte2 a b) (two_yes a b) (tw
 pub three_first : (a b d : ℕ) (hay : List ℕ) (r : Option ℕ) → IsFirstByte (is_byte3 a b d) hay r → FirstFew (Three a b d) hay 0 r
 three_first a b d hay r first = few_first (Three a b d) (is_byte3 a b d) (three_yes a b d) (three_no a b d) hay r first
 
+-- the first place of one byte
+pub byte_first : (w : List ℕ) (byte p : ℕ) (r : Option ℕ) → FirstFew (One byte) w p r → FirstAt w byte p r
+byte_first w byte p None none = λ k low is. none k low (byte, is, refl)
+byte_first w byte p (Some k) first = (first.0, first.1.1 ∙ ap Some first.1.2, λ h low lt is. first.2 h low lt (byte, is, refl))
+
 -- from what is left of a text to the text
-module _ (few : Few) (w rest : List ℕ) (p : ℕ) (from : p ≤ length w) (e : rest ≡ take (length w - p) (drop p w)) where
-  same_rest : rest ≡ drop p w
-  same_rest = e ∙ take_rest w p
+module _ (w rest : List ℕ) (p : ℕ) (from : p ≤ length w) (e : rest ≡ take (length w - p) (drop p w)) where
+  pub length-rest : length rest ≡ length w - p
+  length-rest = ap length (e ∙ take_rest w p) ∙ length-drop p w
 
-  length-rest : length rest ≡ length w - p
-  length-rest = ap length same_rest ∙ length-drop p w
+  pub rest_at : (k : ℕ) → slice_index rest k ≡ slice_index w (p + k)
+  rest_at k = ap (λ l. slice_index l k) (e ∙ take_rest w p) ∙ get_or-drop p w k 0
 
-  rest_at : (k : ℕ) → slice_index rest k ≡ slice_index w (p + k)
-  rest_at k = ap (λ l. slice_index l k) same_rest ∙ get_or-drop p w k 0
+  module _ (few : Few) where
+    to_rest : (k : ℕ) → p ≤ k → FewAt few w k → FewAt few rest (k - p)
+    to_rest k low at =
+        let inside = slice_get_within w k at.0 at.1 in
+        let back : p + (k - p) ≡ k = omega arith in
+        let read : slice_index rest (k - p) ≡ at.0 = rest_at (k - p) ∙ ap (λ v. slice_index w v) back ∙ get_or_from_slice_get w k at.0 0 at.1 in
+        (at.0, slice_get-get_or rest (k - p) 0 (omega (arith, length-rest)) ∙ ap Some read, at.2)
 
-  to_rest : (k : ℕ) → p ≤ k → FewAt few w k → FewAt few rest (k - p)
-  to_rest k low at =
-      let inside = slice_get_within w k at.0 at.1 in
-      let back : p + (k - p) ≡ k = omega arith in
-      let read : slice_index rest (k - p) ≡ at.0 = rest_at (k - p) ∙ ap (λ v. slice_index w v) back ∙ get_or_from_slice_get w k at.0 0 at.1 in
-      (at.0, slice_get-get_or rest (k - p) 0 (omega (arith, length-rest)) ∙ ap Some read, at.2)
+    from_rest : (k : ℕ) → FewAt few rest k → FewAt few w (p + k)
+    from_rest k at =
+        let inside = slice_get_within rest k at.0 at.1 in
+        let read : slice_index w (p + k) ≡ at.0 = sym (rest_at k) ∙ get_or_from_slice_get rest k at.0 0 at.1 in
+        (at.0, slice_get-get_or w (p + k) 0 (omega (arith, length-rest)) ∙ ap Some read, at.2)
 
-  from_rest : (k : ℕ) → FewAt few rest k → FewAt few w (p + k)
-  from_rest k at =
-      let inside = slice_get_within rest k at.0 at.1 in
-      let read : slice_index w (p + k) ≡ at.0 = sym (rest_at k) ∙ get_or_from_slice_get rest k at.0 0 at.1 in
-      (at.0, slice_get-get_or w (p + k) 0 (omega (arith, length-rest)) ∙ ap Some read, at.2)
+    pub few_none : FirstFew few rest 0 None → FirstFew few w p None
+    few_none none k low at = none (k - p) (omega arith) (to_rest k low at)
 
-  pub few_none : FirstFew few rest 0 None → FirstFew few w p None
-  few_none none k low at = none (k - p) (omega arith) (to_rest k low at)
-
-  pub few_some : (k : ℕ) → FirstFew few rest 0 (Some k) → FirstFew few w p (Some (p + k))
-  few_some k first = (omega arith, from_rest k first.1, λ h low lt at. first.2 (h - p) (omega arith) (omega arith) (to_rest h low at))
+    pub few_some : (k : ℕ) → FirstFew few rest 0 (Some k) → FirstFew few w p (Some (p + k))
+    few_some k first = (omega arith, from_rest k first.1, λ h low lt at. first.2 (h - p) (omega arith) (omega arith) (to_rest h low at))
 
 -- a place at which one stands is in the text
 pub few_inside : (few : Few) (w : List ℕ) (i : ℕ) → FewAt few w i → i < length w

@@ -7,7 +7,6 @@ pub mod FollowingLemmas
 pub mod RunLemmas
 pub mod BeginningLemmas
 pub mod StepLemmas
-pub mod BytesLemmas
 pub mod SpanLemmas
 pub mod MirrorLemmas
 pub mod ReachLemmas

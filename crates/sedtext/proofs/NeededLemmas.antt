@@ -1,7 +1,6 @@
 -- Literals that the spans of an expression hold.
-use Rattle.std.proofs.Common.{◌≡◌, ℕ, ◌+◌, ◌-◌, ◌<◌, ◌≤◌, ◌⊎◌, Bool, List, length, take, drop, Option, Some, None, IsTrue, refl, sym, ap, ◌∙◌, subst, inl, inr, ⊎_elim, arith, length-drop}
+use Rattle.std.proofs.Common.{◌≡◌, ℕ, ◌+◌, ◌-◌, ◌<◌, ◌≤◌, ◌⊎◌, Bool, List, length, take, drop, Option, Some, None, IsTrue, refl, sym, ap, ◌∙◌, subst, inl, inr, ⊎_elim, arith}
 use Rattle.std.specs.Prelude.{IfSome, slice_get, slice_index}
-use Rattle.std.proofs.lemmas.List.{take_rest, get_or-drop}
 use Rattle.memchr.specs.Find.{OccursAt, Nowhere, NoneBefore as FirstOf}
 use Rattle.sedre.specs.Tree.{Tree, tree_at}
 use Rattle.sedre.specs.Arena.{IsArena}
@@ -14,6 +13,7 @@ use Rattle.sedtext.specs.Needed.{IsOfSet, LinksTo, IsLiteral, GoesOnAs, AllHold,
 use Rattle.sedtext.specs.declared.needed.RequiredLiteral.{RequiredLiteral}
 use Rattle.sedtext.specs.declared.needed.Literal.{Literal}
 use Rattle.sedtext.specs.declared.needed.Link.TheVariants.{OneOf, Inner}
+use Rattle.sedtext.proofs.FewLemmas.{length-rest, rest_at}
 use Rattle.sedtext.proofs.ReachLemmas.{open_at, close_at}
 use Rattle.sedtext.proofs.SpanLemmas.{Matches-forward, Matches-within}
 
@@ -86,27 +86,18 @@ pub up_to_some : (x r : ℕ) (o : Option ℕ) → o ≡ Some r → IfSome o (λ 
 up_to_some x r o e h = subst (λ p. IfSome p (λ y. y ≤ x)) e h
 
 module _ (w rest : List ℕ) (p : ℕ) (from : p ≤ length w) (e : rest ≡ take (length w - p) (drop p w)) (literal : List ℕ) where
-  same_rest : rest ≡ drop p w
-  same_rest = e ∙ take_rest w p
-
-  length-rest : length rest ≡ length w - p
-  length-rest = ap length same_rest ∙ length-drop p w
-
-  rest_at : (k : ℕ) → slice_index rest k ≡ slice_index w (p + k)
-  rest_at k = ap (λ l. slice_index l k) same_rest ∙ get_or-drop p w k 0
-
   -- where the literal stands in the text from p on, it does in the rest
   to_rest : (k : ℕ) → p ≤ k → OccursAt w literal k → OccursAt rest literal (k - p)
   to_rest k low here = record {
-    fits = omega (arith, here.fits, length-rest);
-    reads = λ j lt. rest_at (k - p + j) ∙ ap (λ v. slice_index w v) (let same : p + (k - p + j) ≡ k + j = omega arith in same) ∙ here.reads j lt;
+    fits = omega (arith, here.fits, length-rest w rest p from e);
+    reads = λ j lt. rest_at w rest p from e (k - p + j) ∙ ap (λ v. slice_index w v) (let same : p + (k - p + j) ≡ k + j = omega arith in same) ∙ here.reads j lt;
   }
 
   -- and the other way round
   from_rest : (k : ℕ) → OccursAt rest literal k → OccursAt w literal (p + k)
   from_rest k here = record {
-    fits = omega (arith, here.fits, length-rest);
-    reads = λ j lt. ap (λ v. slice_index w v) (let same : p + k + j ≡ p + (k + j) = omega arith in same) ∙ sym (rest_at (k + j)) ∙ here.reads j lt;
+    fits = omega (arith, here.fits, length-rest w rest p from e);
+    reads = λ j lt. ap (λ v. slice_index w v) (let same : p + k + j ≡ p + (k + j) = omega arith in same) ∙ sym (rest_at w rest p from e (k + j)) ∙ here.reads j lt;
   }
 
   pub literal_none : Nowhere (OccursAt rest literal) 0 (length rest + 1) → FirstLiteral w literal p None

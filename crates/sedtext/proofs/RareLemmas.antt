@@ -54,24 +54,6 @@ module _ (r : Rare) (w : List ℕ) (p q : ℕ) (before : RareNowhere r w p q) wh
         ⊎_elim (λ (early : h < q). before h after early at) (λ (late : q ≤ h). first.2 h late lt at.0) (cases_lt h q),
   )
 
--- where it stands nowhere before the place from which on it is sought
-pub rare_later : (r : Rare) (w : List ℕ) (p q : ℕ) (o : Option ℕ) → p ≤ q → RareNowhere r w p q → FirstRare r w q o → FirstRare r w p o
-rare_later r w p q None low before none = λ h after at. ⊎_elim (λ (early : h < q). before h after early at) (λ (late : q ≤ h). none h late at) (cases_lt h q)
-rare_later r w p q (Some k) low before first = (
-  omega (arith, first.0),
-  first.1,
-  λ h after lt at. ⊎_elim (λ (early : h < q). before h after early at) (λ (late : q ≤ h). first.2 h late lt at) (cases_lt h q),
-)
-
-pub rare_lies : (r : Rare) (w : List ℕ) (q : ℕ) (o : Option ℕ) → FirstRare r w q o → IfSome o (λ k. k < length w)
-rare_lies r w q None none = tt
-rare_lies r w q (Some k) first = let inside = fixed_inside r.sought w k first.1.0 in omega (arith, inside)
-
-pub rare_looked : (r : Rare) (w : List ℕ) (p q s0 s1 s2 : ℕ) (o : Option ℕ) → p ≤ q → q ≤ length w → FirstRare r w q o →
-    s1 + 2 * p ≤ s0 + 2 * q → s2 ≤ s1 + 2 * looked_at (length w) q o → s2 ≤ s0 + 2 * looked_at (length w) p o
-rare_looked r w p q s0 s1 s2 None low within none pass near = omega (arith, pass, near)
-rare_looked r w p q s0 s1 s2 (Some k) low within first pass near = omega (arith, first.0, pass, near)
-
 -- a search behind another one
 pub rare_paid : (n p q s0 s1 s2 : ℕ) (o : Option ℕ) → p ≤ q → q ≤ n → IfSome o (λ k. k < n) → s1 + p ≤ s0 + n → s2 ≤ s1 + 2 * looked_at n q o → s2 + 3 * p ≤ s0 + 3 * n
 rare_paid n p q s0 s1 s2 None low within lies before more = omega (arith, before, more)

@@ -1,7 +1,7 @@
 //! What can be looked at only by calls that count.
 //!
-//! The bytes of a text without a count are seen here alone and in the modules below: in [`lookups`] and [`members`], which count
-//! what they look at, and in what works for these two on bare bytes. A text gives them out nowhere.
+//! The bytes of a text without a count are seen here alone and in the modules below: in [`lookups`], [`members`] and [`choice`],
+//! which count what they look at, and in what works for these on bare bytes. A text gives them out nowhere.
 ghost use Rattle.std.specs.Prelude.{◌≡◌, ℕ, Bool, false, true, List, ◌+◌, ◌-◌, ◌^◌, ◌<◌, ◌≤◌, length};
 ghost use Rattle.std.specs.Prelude.{slice_index_or, slice_set, slice_get, Some, IfOk, replicate, eqb, ◌≢◌, ◌*◌, IsTrue, ◌↔◌};
 ghost use Rattle.std.specs.Prelude.{vec_len};
@@ -20,7 +20,8 @@ mod node_marks;
 mod openings;
 mod rows;
 
-use memchr::memchr;
+use few::Few;
+use lookups::find_few;
 pub use node_marks::NodeMarks;
 pub use rows::Rows;
 use sedre::Steps;
@@ -99,17 +100,7 @@ impl<'a> Text<'a> {
         ensures cost { Takes steps.old steps.new (looked_at (length self.now) from result) }
         ensures counts { TakesExactly steps.old steps.new (looked_at (length self.now) from result) }
     {
-        let rest = &self.bytes[from..];
-        match memchr(value, rest) {
-            None => {
-                steps.add(rest.len());
-                None
-            }
-            Some(k) => {
-                steps.add(k + 1);
-                Some(from + k)
-            }
-        }
+        find_few(self, &Few::One(value), from, steps)
     }
 }
 

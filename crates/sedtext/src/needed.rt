@@ -49,7 +49,7 @@ pub struct RequiredLiteral {
 }
 
 /// The set that the node at the index is, if it is one.
-fn set_of(expr: &Expr, index: usize, steps: &mut Steps) -> Option<ByteSet>
+pub(crate) fn set_of(expr: &Expr, index: usize, steps: &mut Steps) -> Option<ByteSet>
     requires inside { index < length expr.now.nodes }
     ensures set { IfSome result (λ s. IsOfSet expr.now.nodes index s) }
     ensures cost { Takes steps.old steps.new 1 }

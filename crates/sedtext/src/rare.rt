@@ -130,24 +130,6 @@ impl Rare {
         }
     }
 
-    /// The first place from `from` on at which a match can begin as far as these bytes tell, if there is one. Each
-    /// place of the rarest is looked at.
-    fn find_near(&self, text: &Text, from: usize, steps: &mut Steps) -> Option<usize>
-        requires from { from ≤ length text.now }
-        ensures first { FirstRare self.now text.now from result }
-        ensures cost { Takes steps.old steps.new (2 * looked_at (length text.now) from result) }
-        ensures counts { IfSome result (λ k. TakesAtLeast steps.old steps.new (k - from)) }
-    {
-        let mut place = from;
-        while let Some(start) = self.sought.find(text, place, steps) {
-            if self.holds(text, start, steps) {
-                return Some(start);
-            }
-            place = text.after(start, 1);
-        }
-        None
-    }
-
     /// The first place from `from` on at which a match can begin as far as these bytes tell, if there is one. Vectors
     /// pass over the text before each place of the rarest is looked at.
     pub fn find(&self, text: &Text, from: usize, steps: &mut Steps) -> Option<usize>
@@ -157,8 +139,14 @@ impl Rare {
         ensures cost { Takes steps.old steps.new (2 * looked_at (length text.now) from result) }
         ensures counts { IfSome result (λ k. TakesAtLeast steps.old steps.new (k - from)) }
     {
-        let place = self.pass(text, from, steps);
-        self.find_near(text, place, steps)
+        let mut place = self.pass(text, from, steps);
+        while let Some(start) = self.sought.find(text, place, steps) {
+            if self.holds(text, start, steps) {
+                return Some(start);
+            }
+            place = text.after(start, 1);
+        }
+        None
     }
 }
 

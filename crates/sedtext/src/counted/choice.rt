@@ -12,9 +12,8 @@ ghost use Rattle.sedtext.specs.Bytes.{looked_at};
 ghost use Rattle.sedtext.specs.Nodes.{IsNode};
 ghost use Rattle.sedre.specs.Steps.{Takes, TakesExactly, TakesAtLeast};
 
-use super::Text;
-use super::lookups::{find_opened, longest_choice};
-use super::openings::{Opening, openings_of};
+use super::openings::{Opening, first_opened, openings_of};
+use super::{Text, uncounted};
 use crate::needed::{Literal, literal_from};
 use sedre::{Expr, Node, Steps};
 use std::alloc::{AllocError, Global};
@@ -24,7 +23,7 @@ use std::marker::Model;
 const MAX_LITERALS: usize = 8;
 
 /// The most bytes that the literals of a choice have together.
-pub(super) const MAX_BYTES: usize = 20;
+const MAX_BYTES: usize = 20;
 
 /// A literal of a choice.
 #[derive(Drop)]
@@ -293,24 +292,29 @@ pub(super) fn first_choice(
 }
 
 impl Choice {
-    /// The first place from `from` on at which a match begins, if there is one.
+    /// The first place from `from` on at which a match begins, if there is one. Counts two looks and the most bytes of all
+    /// literals for each byte from `from` to that place, or to the end where there is none.
     pub fn start(&self, text: &Text, from: usize, steps: &mut Steps) -> Option<usize>
         requires from { from ≤ length text.now }
         ensures first { FirstChoice self.now text.now from result }
         ensures cost { Takes steps.old steps.new (22 * looked_at (length text.now) from result) }
         ensures counts { IfSome result (λ k. (j : ℕ) → ChoiceSpans self.now text.now k j → TakesAtLeast steps.old steps.new (j - from)) }
     {
-        find_opened(
-            text,
-            &self.heads,
-            &self.openings,
-            &self.literals,
-            from,
-            steps,
-        )
+        let bytes = uncounted(text);
+        match first_opened(&self.heads, &self.openings, &self.literals, bytes, from) {
+            None => {
+                steps.add_times(bytes.len() - from, 2 + MAX_BYTES);
+                None
+            }
+            Some(place) => {
+                steps.add_times(place - from + 1, 2 + MAX_BYTES);
+                Some(place)
+            }
+        }
     }
 
     /// The end of the longest match that begins at `start`. Condition: one begins there.
+    /// Counts the most bytes of all literals.
     pub fn end(&self, text: &Text, start: usize, steps: &mut Steps) -> usize
         requires can { ChoiceAt self.now text.now start }
         ensures end { ChoiceEnd self.now text.now start result }
@@ -318,7 +322,8 @@ impl Choice {
         ensures cost { Takes steps.old steps.new 20 }
         ensures counts { TakesExactly steps.old steps.new 20 }
     {
-        match longest_choice(text, &self.literals, start, steps) {
+        steps.add(MAX_BYTES);
+        match longest_at(&self.literals, uncounted(text), start) {
             Some(len) => text.after(start, len),
             None => unreachable!(),
         }

@@ -1,17 +1,13 @@
-//! Where few bytes, literals and choices of them stand in a text, by calls that count.
+//! Where few bytes and literals stand in a text, by calls that count.
 ghost use Rattle.std.specs.Prelude.{◌+◌, ◌-◌, ◌*◌, ◌<◌, ◌≤◌, length};
 ghost use Rattle.sedtext.specs.Bytes.{looked_at};
-ghost use Rattle.sedtext.specs.Choice.{AreHeads, AreShort, FirstChoice, LongestAt};
 ghost use Rattle.sedtext.specs.Few.{FirstFew};
 ghost use Rattle.sedtext.specs.Needed.{FirstLiteral, passed_to};
-ghost use Rattle.sedtext.specs.Openings.{OpenLiterals};
 ghost use Rattle.sedtext.specs.Rare.{ApartIn};
 ghost use Rattle.sedre.specs.Steps.{Takes, TakesExactly};
 
 use super::apart::apart_to;
-use super::choice::{Alternative, MAX_BYTES, longest_at};
 use super::few::Few;
-use super::openings::{Opening, first_opened};
 use super::{Text, uncounted};
 use crate::rare::Fixed;
 use memchr::memmem::Finder;
@@ -82,56 +78,4 @@ pub(crate) fn pass_apart(
     let place = apart_to(bytes, first, second, from);
     steps.add(2 * (place - from));
     place
-}
-
-/// The first place from `from` on at which one of the literals stands, if there is one, sought by the two bytes with
-/// which each begins.
-/// Counts two looks and the most bytes of all literals for each byte from `from` to that place, or to the end where
-/// there is none.
-pub(super) fn find_opened(
-    text: &Text,
-    heads: &[bool],
-    openings: &[Opening],
-    literals: &[Alternative],
-    from: usize,
-    steps: &mut Steps,
-) -> Option<usize>
-    requires heads { AreHeads heads.now literals.now }
-    requires openings { OpenLiterals openings.now literals.now (length literals.now) }
-    requires literals { AreShort literals.now }
-    requires from { from ≤ length text.now }
-    ensures first { FirstChoice literals.now text.now from result }
-    ensures cost { Takes steps.old steps.new (22 * looked_at (length text.now) from result) }
-    ensures counts { TakesExactly steps.old steps.new (22 * looked_at (length text.now) from result) }
-{
-    let bytes = uncounted(text);
-    match first_opened(heads, openings, literals, bytes, from) {
-        None => {
-            steps.add_times(bytes.len() - from, 2 + MAX_BYTES);
-            None
-        }
-        Some(place) => {
-            steps.add_times(place - from + 1, 2 + MAX_BYTES);
-            Some(place)
-        }
-    }
-}
-
-/// How long the longest of the literals is that stand at the place, if one does.
-/// Counts the most bytes of all literals.
-pub(super) fn longest_choice(
-    text: &Text,
-    literals: &[Alternative],
-    at: usize,
-    steps: &mut Steps,
-) -> Option<usize>
-    requires literals { AreShort literals.now }
-    requires at { at ≤ length text.now }
-    ensures longest { LongestAt literals.now text.now at (length literals.now) result }
-    ensures cost { Takes steps.old steps.new 20 }
-    ensures counts { TakesExactly steps.old steps.new 20 }
-{
-    let bytes = uncounted(text);
-    steps.add(MAX_BYTES);
-    longest_at(literals, bytes, at)
 }

@@ -1,12 +1,15 @@
-use Rattle.std.proofs.Common.{ℕ, ◌-◌, ◌∙◌, IfSome, subst, arith}
-use Rattle.sedre.specs.Steps.{TakesAtLeast}
-use Rattle.sedtext.specs.Choice.{AreShort, ChoiceSpans}
-use Rattle.sedtext.proofs.ChoiceLemmas.{counts_ahead}
+use Rattle.std.proofs.Common.{None, Some, ◌∙◌, subst, arith}
+use Rattle.sedtext.specs.Choice.{AreShort}
+use Rattle.sedtext.proofs.ChoiceLemmas.{counts_ahead, first_seen}
 use Rattle.sedtext.proofs.counted.choice.Choice.start.Goals as goal
 
-pub returns-clause-counts : goal.returns-clause-counts
-returns-clause-counts c =
-    let is = c.deref-3.ensures.value ∙ c.self.view_is in
-    let few : AreShort c.deref-3.result.now = rw (c.deref-3.ensures.value) c.self.invariant.1 in
-    subst (λ words. IfSome c.find_opened.result (λ k. (j : ℕ) → ChoiceSpans words c.args.text.now k j → TakesAtLeast c.args.steps.now c.find_opened.new.steps (j - c.args.from))) is
-    (counts_ahead c.deref-3.result.now c.args.text.now c.args.from c.args.steps.now c.find_opened.new.steps _ c.find_opened.result few c.find_opened.ensures.first c.find_opened.ensures.counts (omega arith))
+pub returns-in-None-clause-first : goal.returns-in-None-clause-first
+returns-in-None-clause-first c = first_seen _ c.args.self.now _ c.args.text.now c.args.from None (c.deref-3.ensures.value ∙ c.self.view_is) c.uncounted-bytes.ensures c.in-None.ensures
+
+pub returns-in-Some-clause-first : goal.returns-in-Some-clause-first
+returns-in-Some-clause-first c = first_seen _ c.args.self.now _ c.args.text.now c.args.from (Some c.in-Some.place) (c.deref-3.ensures.value ∙ c.self.view_is) c.uncounted-bytes.ensures c.in-Some.ensures
+
+pub returns-in-Some-clause-counts : goal.returns-in-Some-clause-counts
+returns-in-Some-clause-counts c =
+    counts_ahead c.args.self.now c.args.text.now c.args.from c.args.steps.now c.add_times-in-Some.new.self _ (Some c.in-Some.place) (subst AreShort c.self.view_is c.self.invariant.1)
+    (first_seen _ c.args.self.now _ c.args.text.now c.args.from (Some c.in-Some.place) (c.deref-3.ensures.value ∙ c.self.view_is) c.uncounted-bytes.ensures c.in-Some.ensures) c.add_times-in-Some.ensures.counts (omega arith)
