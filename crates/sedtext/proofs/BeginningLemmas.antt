@@ -14,40 +14,26 @@ use Rattle.sedtext.specs.Beginnings.{CanBegin, NextStart, left_part, LeafBegins,
 use Rattle.sedtext.specs.declared.beginnings.Begins.{Begins}
 use Rattle.sedtext.proofs.ReachLemmas.{open_at}
 
--- the left part of a node
-same_part : (a y : ℕ) → Some a ≡ Some y → a ≡ y
-same_part a y e = cc
-
-no_part : (y : ℕ) → None ≡ Some y → ⊥
-no_part y e = cc
-
 module _ (nodes : List Node) (arena : IsArena nodes) (x : ℕ) where
-  -- where a node is spanned, its left part is
-  pub first_part : (node : Node) (y : ℕ) → slice_get nodes x ≡ Some node → left_part node ≡ Some y → (w : List ℕ) (i j : ℕ) → At nodes w x i j → (k : ℕ) × At nodes w y i k
-  first_part (Seq a b) y is left w i j at =
-      let f = open_at nodes w x (Seq a b) arena is i j at in
-      (f.0, subst (λ c. At nodes w c i f.0) (same_part a.index y left) f.1)
-  first_part (Group n a) y is left w i j at =
-      (j, subst (λ c. At nodes w c i j) (same_part a.index y left) (open_at nodes w x (Group n a) arena is i j at))
-  first_part Empty y is left w i j at = absurd (no_part y left)
-  first_part (Set s) y is left w i j at = absurd (no_part y left)
-  first_part Begin y is left w i j at = absurd (no_part y left)
-  first_part End y is left w i j at = absurd (no_part y left)
-  first_part (Alt a b) y is left w i j at = absurd (no_part y left)
-  first_part (Star a first) y is left w i j at = absurd (no_part y left)
-  first_part (Opt a first) y is left w i j at = absurd (no_part y left)
-
-  -- it stands before the node
-  pub first_below : (node : Node) (y : ℕ) → slice_get nodes x ≡ Some node → left_part node ≡ Some y → y < x
-  first_below (Seq a b) y is left = let below = arena.below x a.index (Seq a b) is (inl refl) in let same = same_part a.index y left in omega arith
-  first_below (Group n a) y is left = let below = arena.below x a.index (Group n a) is refl in let same = same_part a.index y left in omega arith
-  first_below Empty y is left = absurd (no_part y left)
-  first_below (Set s) y is left = absurd (no_part y left)
-  first_below Begin y is left = absurd (no_part y left)
-  first_below End y is left = absurd (no_part y left)
-  first_below (Alt a b) y is left = absurd (no_part y left)
-  first_below (Star a first) y is left = absurd (no_part y left)
-  first_below (Opt a first) y is left = absurd (no_part y left)
+  -- the left part of a node stands before it, and is spanned where it is
+  pub first_part : (node : Node) (y : ℕ) → slice_get nodes x ≡ Some node → left_part node ≡ Some y → (y < x) × ((w : List ℕ) (i j : ℕ) → At nodes w x i j → (k : ℕ) × At nodes w y i k)
+  first_part (Seq a b) y is left =
+      let same : a.index ≡ y = cc in (
+        subst (λ v. v < x) same (arena.below x a.index (Seq a b) is (inl refl)),
+        λ w i j at. let f = open_at nodes w x (Seq a b) arena is i j at in (f.0, subst (λ c. At nodes w c i f.0) same f.1),
+      )
+  first_part (Group n a) y is left =
+      let same : a.index ≡ y = cc in (
+        subst (λ v. v < x) same (arena.below x a.index (Group n a) is refl),
+        λ w i j at. (j, subst (λ c. At nodes w c i j) same (open_at nodes w x (Group n a) arena is i j at)),
+      )
+  first_part Empty y is left = absurd (none-some y left)
+  first_part (Set s) y is left = absurd (none-some y left)
+  first_part Begin y is left = absurd (none-some y left)
+  first_part End y is left = absurd (none-some y left)
+  first_part (Alt a b) y is left = absurd (none-some y left)
+  first_part (Star a first) y is left = absurd (none-some y left)
+  first_part (Opt a first) y is left = absurd (none-some y left)
 
   -- where a node without a left part is spanned, it begins as is said
   pub leaf_begins : (node : Node) (begins : Begins) → slice_get nodes x ≡ Some node → left_part node ≡ None → LeafBegins node begins → (w : List ℕ) (i j : ℕ) → At nodes w x i j → CanBegin begins w i
@@ -56,9 +42,9 @@ module _ (nodes : List Node) (arena : IsArena nodes) (x : ℕ) where
       let f = open_at nodes w x (Set s) arena is i j at in leaf w i (f.0, f.1, f.2)
   leaf_begins Begin begins is left leaf w i j at = leaf w i (open_at nodes w x Begin arena is i j at).0
   leaf_begins End begins is left leaf w i j at = leaf w i
-  leaf_begins (Seq a b) begins is left leaf w i j at = absurd (no_part a.index (sym left))
+  leaf_begins (Seq a b) begins is left leaf w i j at = absurd (none-some a.index (sym left))
   leaf_begins (Alt a b) begins is left leaf w i j at = leaf w i
-  leaf_begins (Group n a) begins is left leaf w i j at = absurd (no_part a.index (sym left))
+  leaf_begins (Group n a) begins is left leaf w i j at = absurd (none-some a.index (sym left))
   leaf_begins (Star a first) begins is left leaf w i j at = leaf w i
   leaf_begins (Opt a first) begins is left leaf w i j at = leaf w i
 

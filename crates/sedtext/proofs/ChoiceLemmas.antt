@@ -160,10 +160,10 @@ module _ (nodes : List Node) (x : ℕ) where
             (more.0 s))),
       )))
 
--- the literal at a place of the list is the only one there
-same_literal : (words : List (List ℕ)) (x k : ℕ) (these those : List ℕ) → k ≡ x → slice_get words x ≡ Some these → slice_get words k ≡ Some those → those ≡ these
-same_literal words x k these those same is also =
-    sym (get_or_from_slice_get words k those [] also) ∙ ap (λ v. slice_index_or words v []) same ∙ get_or_from_slice_get words x these [] is
+-- the only value at a place of a list
+pub same_value : {A : Type 0} (xs : List A) (k m : ℕ) (x y : A) → k ≡ m → slice_get xs k ≡ Some x → slice_get xs m ≡ Some y → x ≡ y
+same_value xs k m x y same this that =
+    sym (get_or_from_slice_get xs k x x this) ∙ ap (λ v. slice_index_or xs v x) same ∙ get_or_from_slice_get xs m y x that
 
 -- one more byte is marked
 kept_mark : (heads : List Bool) (c b : ℕ) → c < length heads → IsIn b heads → IsIn b (slice_set heads c true)
@@ -180,7 +180,7 @@ heads_more heads after words x c literal are is first inside same k other lt the
     (⊎_elim
     (λ (old : k < x). let h = are k other old there in (h.0, h.1, kept_mark heads c h.0 inside h.2))
     (λ (new : x ≤ k).
-    let e = same_literal words x k literal other (omega arith) is there in
+    let e = same_value words k x other literal (omega arith) there is in
     (c, subst (λ l. slice_get l 0 ≡ Some c) (sym e) first, get_or-set_same heads c true false inside))
     (cases_lt k x))
 

@@ -338,6 +338,21 @@ LastCopy-copy : (R : ℕ → ℕ → Type 0) (j i c : ℕ) → LastCopy R j i c 
 LastCopy-copy R j i c (only _ lt r) = r
 LastCopy-copy R j i c (then _ k _ up low r rest most last) = LastCopy-copy R j k c last
 
+-- a copy of the null string, or none
+abbrev NullCopy : Tree → Bool → List ℕ → ℕ → ℕ → Groups → Groups → Type 0
+NullCopy a first w i j old new = ((i ≡ j) × IsTrue first × Matches a w i i × Captures a w i i (forget a old) new) ⊎ ((i ≡ j) × ((IsTrue first → Matches a w i i → ⊥) × (new ≡ old)))
+
+null_copy : (a : Tree) (first : Bool) (w : List ℕ) (i j : ℕ) (old : Groups) → i ≤ j → ltb i j ≡ false → (Matches a w i i → Captures a w i i (forget a old) (groups_after a w i i (forget a old))) →
+    NullCopy a first w i j old (cond (first && spans a w i i) (groups_after a w i i (forget a old)) old)
+null_copy a first w i j old on fails inner =
+    let same : i ≡ j = ⊎_elim (λ (lt : i < j). absurd (true≢false (sym (lt-ltb i j lt) ∙ fails))) (λ (ge : j ≤ i). omega arith) (cases_lt i j) in
+    choose (NullCopy a first w i j old) (first && spans a w i i) (groups_after a w i i (forget a old)) old
+    (λ both.
+    let parts = and_parts first (spans a w i i) both in
+    let here = (spans-iff a w i i).0 parts.1 in
+    inl (same, parts.0, here, inner here))
+    (λ neither. inr (same, ((λ is_first here. true≢false (sym (and_from first (spans a w i i) is_first ((spans-iff a w i i).1 here)) ∙ neither)), refl)))
+
 pub groups_after-is : (e : Tree) (w : List ℕ) (i j : ℕ) (old : Groups) → Matches e w i j → Captures e w i j old (groups_after e w i j old)
 unfolding groups_after
 groups_after-is empty w i j old s = refl
@@ -363,33 +378,13 @@ groups_after-is (star a first) w i j old s =
     let last = last_start-is (spans a w) (Matches a w) (spans-iff a w) j i j lt (omega arith) s in
     let c = last_start j (spans a w) i j in
     inl (lt, (c, last, groups_after-is a w c j (forget a old) (LastCopy-copy (Matches a w) j i c last))))
-    (λ fails.
-    let on = CopiesLead-forward (Matches a w) j i s in
-    let not_less : i < j → ⊥ = λ lt. true≢false (sym (lt-ltb i j lt) ∙ fails) in
-    let same : i ≡ j = ⊎_elim (λ (lt : i < j). absurd (not_less lt)) (λ (ge : j ≤ i). omega arith) (cases_lt i j) in
-    choose (Captures (star a first) w i j old) (first && spans a w i i) (groups_after a w i i (forget a old)) old
-    (λ both.
-    let parts = and_parts first (spans a w i i) both in
-    let here = (spans-iff a w i i).0 parts.1 in
-    inr (inl (same, parts.0, here, groups_after-is a w i i (forget a old) here)))
-    (λ neither.
-    inr (inr (same, ((λ is_first here. true≢false (sym (and_from first (spans a w i i) is_first ((spans-iff a w i i).1 here)) ∙ neither)), refl)))))
+    (λ fails. inr (null_copy a first w i j old (CopiesLead-forward (Matches a w) j i s) fails (groups_after-is a w i i (forget a old))))
 groups_after-is (opt a first) w i j old s =
     choose (Captures (opt a first) w i j old) (ltb i j) (groups_after a w i j (forget a old)) (cond (first && spans a w i i) (groups_after a w i i (forget a old)) old)
     (λ holds.
     let lt = ltb-true i j holds in
     inl (lt, groups_after-is a w i j (forget a old) (⊎_elim (λ (e : i ≡ j). absurd (omega arith)) (λ (r : Matches a w i j). r) s)))
-    (λ fails.
-    let on = Matches-forward (opt a first) w i j s in
-    let not_less : i < j → ⊥ = λ lt. true≢false (sym (lt-ltb i j lt) ∙ fails) in
-    let same : i ≡ j = ⊎_elim (λ (lt : i < j). absurd (not_less lt)) (λ (ge : j ≤ i). omega arith) (cases_lt i j) in
-    choose (Captures (opt a first) w i j old) (first && spans a w i i) (groups_after a w i i (forget a old)) old
-    (λ both.
-    let parts = and_parts first (spans a w i i) both in
-    let here = (spans-iff a w i i).0 parts.1 in
-    inr (inl (same, parts.0, here, groups_after-is a w i i (forget a old) here)))
-    (λ neither.
-    inr (inr (same, ((λ is_first here. true≢false (sym (and_from first (spans a w i i) is_first ((spans-iff a w i i).1 here)) ∙ neither)), refl)))))
+    (λ fails. inr (null_copy a first w i j old (Matches-forward (opt a first) w i j s) fails (groups_after-is a w i i (forget a old))))
 
 pub groups_after-iff : CapsLaw
 groups_after-iff e w i j old new s = (

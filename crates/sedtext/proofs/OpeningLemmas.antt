@@ -15,13 +15,8 @@ use Rattle.sedtext.specs.Few.{HasZeros, ZerosWhere}
 use Rattle.sedtext.specs.Choice.{ChoiceAt, LongestAt, FirstChoice}
 use Rattle.sedtext.specs.Openings.{PairAt, OpensAt, OpenLiterals, PairIn, OpensIn, NextBit, FirstWithin}
 use Rattle.sedtext.specs.declared.counted.openings.Opening.{Opening}
-use Rattle.sedtext.proofs.ChoiceLemmas.{get_old, get_new}
+use Rattle.sedtext.proofs.ChoiceLemmas.{get_old, get_new, same_value}
 use Rattle.sedtext.proofs.LaneLemmas.{combined, least_long, least_zero}
-
--- the only value at a place of a list
-same_value : {A : Type 0} (xs : List A) (k m : ℕ) (x y : A) → k ≡ m → slice_get xs k ≡ Some x → slice_get xs m ≡ Some y → x ≡ y
-same_value xs k m x y same this that =
-    sym (get_or_from_slice_get xs k x x this) ∙ ap (λ v. slice_index_or xs v x) same ∙ get_or_from_slice_get xs m y x that
 
 -- one more literal, and the two bytes with which it begins
 pub more_open : (openings after : List Opening) (words : List (List ℕ)) (x : ℕ) (literal : List ℕ) (opening : Opening) → OpenLiterals openings words x → slice_get words x ≡ Some literal →
@@ -183,15 +178,6 @@ module _ (words : List (List ℕ)) (w : List ℕ) (from place : ℕ) (low : from
   pub missed_block : (p : ℕ) → p ≡ place → FirstWithin words w p (place + 32) None → (i : ℕ) → from ≤ i → i < place + 32 → ChoiceAt words w i → ⊥
   missed_block p same within i least lt here = ⊎_elim (λ (old : i < place). missed i least old here) (λ (new : place ≤ i). within i (omega (arith, same)) lt here) (cases_lt i place)
 
-  pub found_block : (p k : ℕ) → p ≡ place → FirstWithin words w p (place + 32) (Some k) → FirstChoice words w from (Some k)
-  found_block p k same within =
-      let past = within.0 in (
-        omega (arith, past, low),
-        within.1,
-        within.2,
-        λ h least lt here. ⊎_elim (λ (old : h < place). missed h least old here) (λ (new : place ≤ h). within.3 h (omega (arith, same)) lt here) (cases_lt h place),
-      )
-
   pub found_after : (r : Option ℕ) → FirstChoice words w place r → FirstChoice words w from r
   found_after None after = λ i least here. ⊎_elim (λ (old : i < place). missed i least old here) (λ (new : place ≤ i). after i new here) (cases_lt i place)
   found_after (Some k) after =
@@ -201,3 +187,6 @@ module _ (words : List (List ℕ)) (w : List ℕ) (from place : ℕ) (low : from
         after.2,
         λ h least lt here. ⊎_elim (λ (old : h < place). missed h least old here) (λ (new : place ≤ h). after.3 h new lt here) (cases_lt h place),
       )
+
+  pub found_block : (p k : ℕ) → p ≡ place → FirstWithin words w p (place + 32) (Some k) → FirstChoice words w from (Some k)
+  found_block p k same within = found_after (Some k) (subst (λ v. FirstWithin words w v (place + 32) (Some k)) same within)

@@ -8,10 +8,10 @@ use Rattle.sedtext.specs.declared.counted.few.Few.{Few}
 use Rattle.sedtext.specs.declared.needed.Link.TheVariants.{OneOf, Last}
 use Rattle.sedtext.specs.declared.rare.Fixed.{Fixed}
 use Rattle.sedtext.specs.declared.rare.Rare.{Rare}
-use Rattle.sedtext.specs.Bytes.{looked_at, AreBytes}
+use Rattle.sedtext.specs.Bytes.{looked_at, AreBytes, FirstFrom}
 use Rattle.sedtext.specs.Few.{HasFew, FewAt, FirstFew}
 use Rattle.sedtext.specs.Needed.{LinksTo, Narrowed}
-use Rattle.sedtext.specs.Rare.{StandsAt, HeldAt, RareAt, FirstFixed, FirstRare, RareNowhere, AllStand, AllHave, AllHeld, AllRare}
+use Rattle.sedtext.specs.Rare.{StandsAt, HeldAt, RareAt, RareNowhere, AllStand, AllHave, AllHeld, AllRare}
 use Rattle.sedtext.specs.Reach.{At}
 use Rattle.sedtext.specs.Beginnings.{NoneIn}
 use Rattle.sedtext.specs.Spans.{Matches, IsIn}
@@ -22,10 +22,10 @@ pub fixed_inside : (f : Fixed) (w : List ℕ) (i : ℕ) → StandsAt f w i → i
 fixed_inside f w i at = few_inside f.few w (i + f.offset) at
 
 module _ (f : Fixed) (w : List ℕ) (p : ℕ) where
-  pub fixed_none : FirstFew f.few w (p + f.offset) None → FirstFixed f w p None
+  pub fixed_none : FirstFew f.few w (p + f.offset) None → FirstFrom (StandsAt f w) p None
   fixed_none none k low at = none (k + f.offset) (omega arith) at
 
-  pub fixed_some : (k : ℕ) → FirstFew f.few w (p + f.offset) (Some k) → FirstFixed f w p (Some (k - f.offset))
+  pub fixed_some : (k : ℕ) → FirstFew f.few w (p + f.offset) (Some k) → FirstFrom (StandsAt f w) p (Some (k - f.offset))
   fixed_some k first =
       let same : k ≡ k - f.offset + f.offset = omega (arith, first.0) in
       (omega (arith, first.0), subst (FewAt f.few w) same first.1, λ h low lt at. first.2 (h + f.offset) (omega arith) (omega arith) at)
@@ -33,7 +33,7 @@ module _ (f : Fixed) (w : List ℕ) (p : ℕ) where
 -- a search for what is sought, as far as the place q
 module _ (r : Rare) (w : List ℕ) (p q : ℕ) (before : RareNowhere r w p q) where
   -- where what is held is lacking
-  pub rare_lacks : (k : ℕ) → FirstFixed r.sought w q (Some k) → (HeldAt r.held w k → ⊥) → RareNowhere r w p (k + 1)
+  pub rare_lacks : (k : ℕ) → FirstFrom (StandsAt r.sought w) q (Some k) → (HeldAt r.held w k → ⊥) → RareNowhere r w p (k + 1)
   rare_lacks k first lacks h low lt at =
       ⊎_elim
       (λ (early : h < q). before h low early at)
@@ -43,10 +43,10 @@ module _ (r : Rare) (w : List ℕ) (p q : ℕ) (before : RareNowhere r w p q) wh
       (cases_lt h k))
       (cases_lt h q)
 
-  pub rare_none : FirstFixed r.sought w q None → FirstRare r w p None
+  pub rare_none : FirstFrom (StandsAt r.sought w) q None → FirstFrom (RareAt r w) p None
   rare_none none h low at = ⊎_elim (λ (early : h < q). before h low early at) (λ (late : q ≤ h). none h late at.0) (cases_lt h q)
 
-  pub rare_some : (k : ℕ) → p ≤ q → FirstFixed r.sought w q (Some k) → HeldAt r.held w k → FirstRare r w p (Some k)
+  pub rare_some : (k : ℕ) → p ≤ q → FirstFrom (StandsAt r.sought w) q (Some k) → HeldAt r.held w k → FirstFrom (RareAt r w) p (Some k)
   rare_some k low first held = (
     omega (arith, first.0),
     (first.1, held),
@@ -89,7 +89,7 @@ module _ (e : Tree) (w : List ℕ) (bytes : AreBytes w) (from p : ℕ) (r : Rare
       held_at (Some f) is = is w bytes i j s
 
   -- the place after which they stand, or none
-  pub rare_narrowed : (o : Option ℕ) → FirstRare r w p o → from ≤ p → Narrowed e w from o
+  pub rare_narrowed : (o : Option ℕ) → FirstFrom (RareAt r w) p o → from ≤ p → Narrowed e w from o
   rare_narrowed None none low = λ i k after within s.
       ⊎_elim (λ (early : i < p). before i k after early s) (λ (late : p ≤ i). none i late (rare_at i k s)) (cases_lt i p)
   rare_narrowed (Some start) first low =

@@ -1,6 +1,6 @@
 -- Bytes of a set, always as many.
 use Rattle.std.proofs.Common.{◌≡◌, ℕ, ◌+◌, ◌<◌, ◌≤◌, Bool, List, length, Option, Some, None, IfSome, refl, sym, ap, subst, ◌∙◌, ⊎_elim, arith}
-use Rattle.std.specs.Prelude.{slice_get, slice_index, slice_index_or, false, IsTrue}
+use Rattle.std.specs.Prelude.{slice_get, slice_index, slice_index_or, false, IsTrue, SomeIff}
 use Rattle.std.proofs.lemmas.Bool.{cases_lt}
 use Rattle.sedre.specs.Tree.{set, star}
 use Rattle.sedre.specs.Arena.{IsArena}
@@ -95,10 +95,10 @@ module _ (nodes : List Node) (arena : IsArena nodes) (x : ℕ) (members : List B
   )
 
 -- a concatenation whose sum is known
-pub if_sum : (nodes : List Node) → IsArena nodes → (x : ℕ) (members : List Bool) (a b : NodeId) (first second : ℕ) (sum : Option ℕ) → slice_get nodes x ≡ Some (Seq a b) →
-    AllTimes nodes a.index members first → AllTimes nodes b.index members second → IfSome sum (λ s. s ≡ first + second) → IfSome sum (λ s. AllTimes nodes x members s)
-if_sum nodes arena x members a b first second None is left right added = tt
-if_sum nodes arena x members a b first second (Some sum) is left right added = times_seq nodes arena x members a b first second sum is added left right
+pub if_sum : (nodes : List Node) → IsArena nodes → (x : ℕ) (members : List Bool) (a b : NodeId) (first second : ℕ) (sum : Option ℕ) (P : Type 0) → slice_get nodes x ≡ Some (Seq a b) →
+    AllTimes nodes a.index members first → AllTimes nodes b.index members second → SomeIff sum P (first + second) → IfSome sum (λ s. AllTimes nodes x members s)
+if_sum nodes arena x members a b first second None P is left right added = tt
+if_sum nodes arena x members a b first second (Some sum) P is left right added = times_seq nodes arena x members a b first second sum is added.1 left right
 
 -- a width that is known
 pub width_at : (nodes : List Node) (members : List Bool) (widths : List ℕ) (x count : ℕ) → AreWidths nodes members widths → x < length widths →

@@ -95,12 +95,6 @@ marks_of-set words after n i old word v room lt is is_after same other =
     (λ (ne : k / 64 ≡ i / 64 → ⊥). ap (λ x. eqb (bit_at x (k % 64)) 1) (get_or-set_other words (i / 64) (k / 64) word 0 ne))
     (cases_eq (k / 64) (i / 64)))
 
--- at a place that is there, nothing stands in for an item
-pub index-default : (xs : List ℕ) (i d e : ℕ) → i < length xs → slice_index_or xs i d ≡ slice_index_or xs i e
-index-default [] i d e inside = absurd (omega arith)
-index-default (x ∷ xs) zero d e inside = refl
-index-default (x ∷ xs) (suc i) d e inside = index-default xs i d e (omega arith)
-
 pub marks_of-new : (words : List ℕ) (m n : ℕ) → words ≡ replicate m 0 → marks_of words n ≡ replicate n false
 marks_of-new words m n is = marks_of-none words n (λ k. ap (λ (l : List ℕ). slice_index_or l k 0) is ∙ zeros m k)
 

@@ -4,7 +4,7 @@ use Rattle.std.specs.Prelude.{ℕ, ◌+◌, ◌<◌, ◌≤◌, Bool, List, Opti
 use Rattle.sedre.specs.Tree.{Tree}
 use Rattle.sedtext.specs.Spans.{Matches}
 use Rattle.sedtext.specs.Few.{FewAt}
-use Rattle.sedtext.specs.Bytes.{AreBytes, FirstFrom}
+use Rattle.sedtext.specs.Bytes.{AreBytes}
 use Rattle.sedtext.specs.Beginnings.{CanBegin}
 use Rattle.sedtext.specs.declared.beginnings.Begins.TheVariants.{WithSet}
 use Rattle.sedtext.specs.declared.rare.Fixed.{Fixed}
@@ -23,10 +23,6 @@ HeldAt (Some f) w i = StandsAt f w i
 abbrev pub RareAt : Rare → List ℕ → ℕ → Type 0
 RareAt r w i = StandsAt r.sought w i × HeldAt r.held w i
 
--- the first place from p on after which one of the bytes stands at the distance, if there is one
-abbrev pub FirstFixed : Fixed → List ℕ → ℕ → Option ℕ → Type 0
-FirstFixed f w = FirstFrom (StandsAt f w)
-
 -- after no place from p up to but not including q one of each stands at its distance
 abbrev pub ApartIn : Fixed → Fixed → List ℕ → ℕ → ℕ → Type 0
 ApartIn f g w p q = (h : ℕ) → p ≤ h → h < q → StandsAt f w h → StandsAt g w h → ⊥
@@ -34,10 +30,6 @@ ApartIn f g w p q = (h : ℕ) → p ≤ h → h < q → StandsAt f w h → Stand
 -- after no place from p up to but not including q the rarest and the next rarest stand at their distances
 abbrev pub RareNowhere : Rare → List ℕ → ℕ → ℕ → Type 0
 RareNowhere r w p q = (h : ℕ) → p ≤ h → h < q → RareAt r w h → ⊥
-
--- the first place from p on after which the rarest and the next rarest stand at their distances, if there is one
-abbrev pub FirstRare : Rare → List ℕ → ℕ → Option ℕ → Type 0
-FirstRare r w = FirstFrom (RareAt r w)
 
 -- one of the bytes stands at the distance after the beginning of each span of the expression
 abbrev pub AllStand : Tree → Fixed → Type 0

@@ -56,21 +56,13 @@ impl<'a> Text<'a> {
         self.bytes.len()
     }
 
-    /// For proofs: it has fewer than 2^63 bytes.
-    #[inline(always)]
-    fn is_short(&self)
-        ensures { length self.now < 2 ^ 63 }
-    {
-        let _len = self.bytes.len();
-    }
-
     /// The place `count` bytes after `place`, at most one past the text's end.
     #[inline(always)]
     pub fn after(&self, place: usize, count: usize) -> usize
         requires { place + count ≤ length self.now + 1 }
         ensures { result ≡ place + count }
     {
-        self.is_short();
+        let _len = self.len();
         place + count
     }
 

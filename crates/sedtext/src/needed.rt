@@ -6,7 +6,7 @@ ghost use Rattle.sedre.specs.Tree.{expression_tree, Tree};
 ghost use Rattle.sedtext.specs.Needed.{IsOfSet, LinksTo, IsLiteral, IsSole, AllHold, AllEndWith, IsNeeded, Narrowed};
 ghost use Rattle.sedtext.specs.Nodes.{IsNode};
 ghost use Rattle.sedtext.specs.Costs.{CostsWithin};
-ghost use Rattle.sedre.specs.Steps.{Takes, TakesExactly, TakesAtLeast};
+ghost use Rattle.sedre.specs.Steps.{Takes, TakesAtLeast};
 
 use crate::counted::Text;
 use crate::counted::lookups::find_literal;
@@ -53,7 +53,6 @@ pub(crate) fn set_of(expr: &Expr, index: usize, steps: &mut Steps) -> Option<Byt
     requires inside { index < length expr.now.nodes }
     ensures set { IfSome result (λ s. IsOfSet expr.now.nodes index s) }
     ensures cost { Takes steps.old steps.new 1 }
-    ensures counts { TakesExactly steps.old steps.new 1 }
 {
     match expr.look(expr.id(index), steps) {
         Node::Set(set) => Some(set),
@@ -137,7 +136,6 @@ fn second_of(expr: &Expr, index: usize, steps: &mut Steps) -> Option<usize>
     ensures below { IfSome result (λ y. y < index) }
     ensures ends { IfSome result (λ y. AllEndWith expr.now.nodes index y) }
     ensures cost { Takes steps.old steps.new 1 }
-    ensures counts { TakesExactly steps.old steps.new 1 }
 {
     let node = expr.look(expr.id(index), steps);
     match node {

@@ -2,8 +2,8 @@
 //! next rarest are compared with what stands there.
 ghost use Rattle.std.specs.Prelude.{◌+◌, ◌-◌, ◌*◌, ◌<◌, ◌≤◌, ◌↔◌, Some, length, IfSome, IsTrue};
 ghost use Rattle.sedre.specs.Tree.{expression_tree, tree_at, Tree};
-ghost use Rattle.sedtext.specs.Bytes.{looked_at};
-ghost use Rattle.sedtext.specs.Rare.{StandsAt, HeldAt, FirstFixed, FirstRare, RareNowhere, AllStand, AllHave, AllHeld, AllRare};
+ghost use Rattle.sedtext.specs.Bytes.{FirstFrom, looked_at};
+ghost use Rattle.sedtext.specs.Rare.{StandsAt, HeldAt, RareAt, RareNowhere, AllStand, AllHave, AllHeld, AllRare};
 ghost use Rattle.sedtext.specs.Nodes.{IsNode};
 ghost use Rattle.sedtext.specs.Costs.{CostsWithin};
 ghost use Rattle.sedre.specs.Steps.{Takes, TakesAtLeast};
@@ -76,7 +76,7 @@ impl Fixed {
     /// The first place from `from` on after which one of them stands at the distance, if there is one.
     fn find(&self, text: &Text, from: usize, steps: &mut Steps) -> Option<usize>
         requires from { from ≤ length text.now }
-        ensures first { FirstFixed self.now text.now from result }
+        ensures first { FirstFrom (StandsAt self.now text.now) from result }
         ensures cost { Takes steps.old steps.new (looked_at (length text.now) from result) }
         ensures counts { IfSome result (λ k. TakesAtLeast steps.old steps.new (k + 1 - from)) }
     {
@@ -134,7 +134,7 @@ impl Rare {
     /// pass over the text before each place of the rarest is looked at.
     pub fn find(&self, text: &Text, from: usize, steps: &mut Steps) -> Option<usize>
         requires from { from ≤ length text.now }
-        ensures first { FirstRare self.now text.now from result }
+        ensures first { FirstFrom (RareAt self.now text.now) from result }
         ensures lies { IfSome result (λ k. k < length text.now) }
         ensures cost { Takes steps.old steps.new (2 * looked_at (length text.now) from result) }
         ensures counts { IfSome result (λ k. TakesAtLeast steps.old steps.new (k - from)) }

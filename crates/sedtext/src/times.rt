@@ -6,7 +6,7 @@
 ghost use Rattle.std.specs.Prelude.{◌≡◌, ◌+◌, ◌<◌, ◌≤◌, ◌-◌, length, Some, IfOk, IfSome, IsTrue};
 ghost use Rattle.sedtext.specs.Times.{SameBytes, AllTimes, AreWidths, FirstTimes, passed_times};
 ghost use Rattle.sedtext.specs.Costs.{CostsWithin};
-ghost use Rattle.sedre.specs.Steps.{Takes, TakesExactly, TakesAtLeast};
+ghost use Rattle.sedre.specs.Steps.{Takes, TakesAtLeast};
 
 use crate::counted::Text;
 use crate::counted::few::members_of;
@@ -26,13 +26,6 @@ fn same_bytes(these: &ByteSet, those: &ByteSet) -> bool
     true
 }
 
-/// The sum, if it fits.
-fn sum_of(first: usize, second: usize) -> Option<usize>
-    ensures { IfSome result (λ sum. sum ≡ first + second) }
-{
-    first.checked_add(second)
-}
-
 /// How many bytes the spans of the node at the index have, if they are all strings of that many bytes of the set.
 /// `widths` has this number for each node before it.
 fn width_of(
@@ -47,7 +40,6 @@ fn width_of(
     requires widths { AreWidths expr.now.nodes set.now widths.now.items }
     ensures width { IfSome result (λ count. AllTimes expr.now.nodes index set.now count) }
     ensures cost { Takes steps.old steps.new 1 }
-    ensures counts { TakesExactly steps.old steps.new 1 }
 {
     match expr.look(expr.id(index), steps) {
         Node::Set(other) => {
@@ -57,7 +49,7 @@ fn width_of(
                 None
             }
         }
-        Node::Seq(a, b) => sum_of(widths[a.index()], widths[b.index()]),
+        Node::Seq(a, b) => widths[a.index()].checked_add(widths[b.index()]),
         Node::Group(_, a) => Some(widths[a.index()]),
         _ => None,
     }

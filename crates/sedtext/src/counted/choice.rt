@@ -109,7 +109,6 @@ fn branches_of(expr: &Expr, index: usize, steps: &mut Steps) -> Branches
     requires inside { index < length expr.now.nodes }
     ensures branches { BranchesOf expr.now.nodes index result }
     ensures cost { Takes steps.old steps.new 1 }
-    ensures counts { TakesExactly steps.old steps.new 1 }
 {
     let node = expr.look(expr.id(index), steps);
     match node {

@@ -34,6 +34,15 @@ impl NodeMarks {
         })
     }
 
+    /// The marks, as a list of them.
+    #[inline(always)]
+    pub(super) fn list(&self) -> &Marks
+        ensures same { result.now ≡ self.now }
+        ensures room { length result.now ≡ 65536 }
+    {
+        &self.marks
+    }
+
     /// Whether the mark is set. Counts one look.
     #[inline(always)]
     pub fn get(&self, i: usize, steps: &mut Steps) -> bool

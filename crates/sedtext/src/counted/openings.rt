@@ -95,32 +95,6 @@ fn next_bit(bits: u64, from: usize) -> Option<usize>
     }
 }
 
-/// The first place from `at + skip` on and before `at + 32` at which one of the literals stands, if there is one. In
-/// `bits` a bit is set for each place from `at` on at which one can.
-#[inline(always)]
-fn first_in(
-    literals: &[Alternative],
-    bytes: &[u8],
-    at: usize,
-    skip: usize,
-    bits: u64,
-) -> Option<usize>
-    requires inside { at + 33 ≤ length bytes.now }
-    requires skip { skip ≤ 33 }
-    requires small { bits < 2 ^ 32 }
-    requires can { (k : ℕ) → k < 32 → ChoiceAt literals.now bytes.now (at + k) → bit_at bits k ≡ 1 }
-    ensures { FirstWithin literals.now bytes.now (at + skip) (at + 32) result }
-{
-    let mut from = skip;
-    while let Some(k) = next_bit(bits, from) {
-        if longest_at(literals, bytes, at + k).is_some() {
-            return Some(at + k);
-        }
-        from = k + 1;
-    }
-    None
-}
-
 /// The first place from `at + skip` on and before `at + 32` at which one of the literals stands, if there is one. The
 /// openings tell at which places one can.
 #[inline(always)]
@@ -137,32 +111,14 @@ fn first_of_block(
     ensures { FirstWithin literals.now bytes.now (at + skip) (at + 32) result }
 {
     let bits = opened(openings, bytes, at);
-    first_in(literals, bytes, at, skip, bits)
-}
-
-/// The first place from `from` on at which one of the literals stands, if there is one. Condition: at most 32 bytes are
-/// left.
-#[inline(always)]
-fn last_opened(
-    heads: &[bool],
-    openings: &[Opening],
-    literals: &[Alternative],
-    bytes: &[u8],
-    from: usize,
-) -> Option<usize>
-    requires heads { AreHeads heads.now literals.now }
-    requires openings { OpenLiterals openings.now literals.now (length literals.now) }
-    requires from { from ≤ length bytes.now }
-    requires left { length bytes.now ≤ from + 32 }
-    ensures { FirstChoice literals.now bytes.now from result }
-{
-    if bytes.len() <= LANES {
-        return first_choice(heads, literals, bytes, from);
+    let mut from = skip;
+    while let Some(k) = next_bit(bits, from) {
+        if longest_at(literals, bytes, at + k).is_some() {
+            return Some(at + k);
+        }
+        from = k + 1;
     }
-    // A vector that ends with the text, of which the places before `from` are skipped. At the last place of all stands
-    // no literal, since each has two bytes or more.
-    let at = bytes.len() - LANES - 1;
-    first_of_block(openings, literals, bytes, at, from - at)
+    None
 }
 
 /// The first place from `from` on at which one of the literals stands, if there is one.
@@ -187,5 +143,11 @@ pub(super) fn first_opened(
         }
         place += LANES;
     }
-    last_opened(heads, openings, literals, bytes, place)
+    if bytes.len() <= LANES {
+        return first_choice(heads, literals, bytes, place);
+    }
+    // A vector that ends with the text, of which the places before `place` are skipped. At the last place of all stands
+    // no literal, since each has two bytes or more.
+    let at = bytes.len() - LANES - 1;
+    first_of_block(openings, literals, bytes, at, place - at)
 }

@@ -78,7 +78,14 @@ impl Rows {
         ensures cost { Takes steps.old steps.new count }
         ensures counts { TakesExactly steps.old steps.new count }
     {
-        self.store_marks(row, &marks.marks, count, steps);
+        steps.add(count);
+        copy_words(
+            &mut self.words,
+            self.width * row,
+            &marks.list().words,
+            0,
+            count.div_ceil(64),
+        );
     }
 
     /// Whether the first `count` marks of a row are those of `marks`, and the rest of their last word too.
@@ -92,7 +99,13 @@ impl Rows {
         ensures cost { Takes steps.old steps.new count }
         ensures counts { TakesExactly steps.old steps.new count }
     {
-        self.same_marks(row, &marks.marks, count, steps)
+        steps.add(count);
+        same_words(
+            &self.words,
+            self.width * row,
+            &marks.list().words,
+            count.div_ceil(64),
+        )
     }
 
     /// Whether a mark of a row is set. Counts one look.
@@ -156,48 +169,6 @@ impl Rows {
             self.width * row,
             count.div_ceil(64),
         );
-    }
-
-    /// Copies the first `count` of `marks` into a row, a word at a time; those after them in the row may change too.
-    /// Counts a look for each of the `count`.
-    fn store_marks(&mut self, row: usize, marks: &Marks, count: usize, steps: &mut Steps)
-        requires row { row < length self.old }
-        requires inside { count ≤ length (row_of self.old row) }
-        requires there { count ≤ length marks.now }
-        ensures len { length self.new ≡ length self.old }
-        ensures lens { (q : ℕ) → q < length self.old → length (row_of self.new q) ≡ length (row_of self.old q) }
-        ensures same { AgreeBelow count (row_of self.new row) marks.now }
-        ensures other { (q : ℕ) → q < length self.old → q ≢ row → row_of self.new q ≡ row_of self.old q }
-        ensures cost { Takes steps.old steps.new count }
-        ensures counts { TakesExactly steps.old steps.new count }
-    {
-        steps.add(count);
-        copy_words(
-            &mut self.words,
-            self.width * row,
-            &marks.words,
-            0,
-            count.div_ceil(64),
-        );
-    }
-
-    /// Whether the first `count` marks of a row are those of `marks`, and the rest of their last word too.
-    /// Counts a look for each of the `count`.
-    fn same_marks(&self, row: usize, marks: &Marks, count: usize, steps: &mut Steps) -> bool
-        requires row { row < length self.now }
-        requires inside { count ≤ length (row_of self.now row) }
-        requires there { count ≤ length marks.now }
-        ensures same { IsTrue result → AgreeBelow count (row_of self.now row) marks.now }
-        ensures cost { Takes steps.old steps.new count }
-        ensures counts { TakesExactly steps.old steps.new count }
-    {
-        steps.add(count);
-        same_words(
-            &self.words,
-            self.width * row,
-            &marks.words,
-            count.div_ceil(64),
-        )
     }
 }
 

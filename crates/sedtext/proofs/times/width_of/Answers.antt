@@ -34,9 +34,9 @@ returns-in-Seq-clause-width c =
     let widths = c.args.widths.now.items in
     let is : slice_get nodes c.args.index ≡ Some (Seq c.in-Seq.a c.in-Seq.b) = cc in
     let below = seq_below nodes c.in-Seq.ensures.arena c.args.index c.in-Seq.a c.in-Seq.b is in
-    if_sum nodes c.in-Seq.ensures.arena c.args.index c.args.set.now c.in-Seq.a c.in-Seq.b c.index-in-Seq.result.now c.index-in-Seq-3.result.now c.sum_of.result is
+    if_sum nodes c.in-Seq.ensures.arena c.args.index c.args.set.now c.in-Seq.a c.in-Seq.b c.index-in-Seq.result.now c.index-in-Seq-3.result.now c.checked_add.result _ is
     (width_at nodes c.args.set.now widths c.in-Seq.a.index c.index-in-Seq.result.now c.requires.widths (omega (arith, below.0)) c.index.result c.index.ensures c.index-in-Seq.ensures)
-    (width_at nodes c.args.set.now widths c.in-Seq.b.index c.index-in-Seq-3.result.now c.requires.widths (omega (arith, below.1)) c.index-in-Seq-2.result c.index-in-Seq-2.ensures c.index-in-Seq-3.ensures) c.sum_of.ensures
+    (width_at nodes c.args.set.now widths c.in-Seq.b.index c.index-in-Seq-3.result.now c.requires.widths (omega (arith, below.1)) c.index-in-Seq-2.result c.index-in-Seq-2.ensures c.index-in-Seq-3.ensures) c.checked_add.ensures
 
 pub returns-in-Group-clause-width : goal.returns-in-Group-clause-width
 returns-in-Group-clause-width c =

@@ -1,6 +1,6 @@
 use Rattle.std.proofs.Common.{ℕ, ◌+◌, ◌-◌, ◌<◌, ◌≤◌}
 use Rattle.sedtext.specs.Choice.{ChoiceAt}
-use Rattle.sedtext.proofs.counted.openings.first_in.Given as goal
+use Rattle.sedtext.proofs.counted.openings.first_of_block.Given as goal
 
 abbrev pub invariant-loop-k : goal.invariant-loop-k
 invariant-loop-k l = record {
