@@ -7,7 +7,7 @@ use Rattle.std.specs.Prelude.{slice_get, slice_index_or}
 use Rattle.sedre.specs.Arena.{IsArena}
 use Rattle.sedre.specs.Sets.{has}
 use Rattle.sedre.specs.declared.types.Node.{Node}
-use Rattle.sedre.specs.declared.types.Node.TheVariants.{Empty, Set, Begin, End, Seq, Alt, Group, Star, Opt}
+use Rattle.sedre.specs.declared.types.Node.TheVariants.{Empty, Set, Begin, Seq, Alt, Group}
 use Rattle.sedtext.specs.Bytes.{FirstAt}
 use Rattle.sedtext.specs.Reach.{At}
 use Rattle.sedtext.specs.Beginnings.{CanBegin, NextStart, left_part, LeafBegins, AllAt, IsLeftmost, alternatives}
@@ -27,26 +27,16 @@ module _ (nodes : List Node) (arena : IsArena nodes) (x : ℕ) where
         subst (λ v. v < x) same (arena.below x a.index (Group n a) is refl),
         λ w i j at. (j, subst (λ c. At nodes w c i j) same (open_at nodes w x (Group n a) arena is i j at)),
       )
-  first_part Empty y is left = absurd (none-some y left)
-  first_part (Set s) y is left = absurd (none-some y left)
-  first_part Begin y is left = absurd (none-some y left)
-  first_part End y is left = absurd (none-some y left)
-  first_part (Alt a b) y is left = absurd (none-some y left)
-  first_part (Star a first) y is left = absurd (none-some y left)
-  first_part (Opt a first) y is left = absurd (none-some y left)
+  first_part _ y is left = absurd (none-some y left)
 
   -- where a node without a left part is spanned, it begins as is said
   pub leaf_begins : (node : Node) (begins : Begins) → slice_get nodes x ≡ Some node → left_part node ≡ None → LeafBegins node begins → (w : List ℕ) (i j : ℕ) → At nodes w x i j → CanBegin begins w i
-  leaf_begins Empty begins is left leaf w i j at = leaf w i
   leaf_begins (Set s) begins is left leaf w i j at =
       let f = open_at nodes w x (Set s) arena is i j at in leaf w i (f.0, f.1, f.2)
   leaf_begins Begin begins is left leaf w i j at = leaf w i (open_at nodes w x Begin arena is i j at).0
-  leaf_begins End begins is left leaf w i j at = leaf w i
   leaf_begins (Seq a b) begins is left leaf w i j at = absurd (none-some a.index (sym left))
-  leaf_begins (Alt a b) begins is left leaf w i j at = leaf w i
   leaf_begins (Group n a) begins is left leaf w i j at = absurd (none-some a.index (sym left))
-  leaf_begins (Star a first) begins is left leaf w i j at = leaf w i
-  leaf_begins (Opt a first) begins is left leaf w i j at = leaf w i
+  leaf_begins _ begins is left leaf w i j at = leaf w i
 
 -- one more byte that is not in the set
 pub member_step : (members : List Bool) (w : List ℕ) (from place byte : ℕ) (has : Bool) →
@@ -104,13 +94,7 @@ module _ (nodes : List Node) (arena : IsArena nodes) (x : ℕ) where
             (open_at nodes w x (Alt a b) arena is i j at),
       )
   alt_opens Empty l r is alts = absurd (none-some (l, r) alts)
-  alt_opens (Set s) l r is alts = absurd (none-some (l, r) alts)
-  alt_opens Begin l r is alts = absurd (none-some (l, r) alts)
-  alt_opens End l r is alts = absurd (none-some (l, r) alts)
-  alt_opens (Seq a b) l r is alts = absurd (none-some (l, r) alts)
-  alt_opens (Group k a) l r is alts = absurd (none-some (l, r) alts)
-  alt_opens (Star a first) l r is alts = absurd (none-some (l, r) alts)
-  alt_opens (Opt a first) l r is alts = absurd (none-some (l, r) alts)
+  alt_opens _ l r is alts = absurd (none-some (l, r) alts)
 
 -- a node whose leaf has alternatives begins as they do
 pub leaf_either : (nodes : List Node) → IsArena nodes → (x l r : ℕ) (node : Node) (begins : Begins) → IsLeftmost nodes x node → alternatives node ≡ Some (l, r) →

@@ -1,7 +1,7 @@
 -- At most one outcome belongs to a span and the groups before it.
 use Rattle.std.proofs.Common.{◌≡◌, ℕ, ◌≤◌, ◌⊎◌, List, Some, IsTrue, refl, sym, ap, ◌∙◌, subst, inl, inr, ⊎_elim, arith}
 use Rattle.std.specs.Prelude.{slice_set}
-use Rattle.sedre.specs.Tree.{Tree, empty, set, begin, end, seq, alt, group, star, opt}
+use Rattle.sedre.specs.Tree.{Tree, seq, alt, group, star, opt}
 use Rattle.sedtext.specs.Spans.{no_copy, Matches}
 use Rattle.sedtext.specs.Caps.{Captures, LastCut, LastCopy, only, then}
 use Rattle.sedtext.specs.Groups.{Groups, forget}
@@ -35,10 +35,6 @@ empty_unique i j F S P old new other same (inr h) (inr k) = h.1.1 ∙ sym k.1.1
 
 -- at most one outcome
 pub Captures-unique : (e : Tree) (w : List ℕ) (i j : ℕ) (old new other : Groups) → Captures e w i j old new → Captures e w i j old other → new ≡ other
-Captures-unique empty w i j old new other h k = h ∙ sym k
-Captures-unique (set has) w i j old new other h k = h ∙ sym k
-Captures-unique begin w i j old new other h k = h ∙ sym k
-Captures-unique end w i j old new other h k = h ∙ sym k
 Captures-unique (seq a b) w i j old new other h k =
     let same : h.0 ≡ k.0 = LastCut-unique (Matches a w) (Matches b w) i j h.0 k.0 h.1 k.1 in
     let mid : h.2.0 ≡ k.2.0 = Captures-unique a w i h.0 old h.2.0 k.2.0 h.2.1 (subst (λ v. Captures a w i v old k.2.0) (sym same) k.2.1) in
@@ -67,3 +63,4 @@ Captures-unique (opt a first) w i j old new other (inl h) (inr k) = absurd (let 
 Captures-unique (opt a first) w i j old new other (inr h) (inl k) = absurd (let lt = k.0 in ⊎_elim (λ (e : (i ≡ j) × IsTrue first × Matches a w i i × Captures a w i i (forget a old) new). (let same = e.0 in omega arith)) (λ (e : (i ≡ j) × ((IsTrue first → Matches a w i i → ⊥) × (new ≡ old))). (let same = e.0 in omega arith)) h)
 Captures-unique (opt a first) w i j old new other (inr h) (inr k) =
     empty_unique i j (IsTrue first) (Matches a w i i) (Captures a w i i (forget a old)) old new other (Captures-unique a w i i (forget a old)) h k
+Captures-unique _ w i j old new other h k = h ∙ sym k

@@ -1,11 +1,11 @@
 -- An expression without groups leaves all groups as they are.
 use Rattle.std.proofs.Common.{◌≡◌, ℕ, zero, suc, ◌<◌, Bool, true, false, List, length, Some, refl, sym, ap, ◌∙◌, subst, inl, inr, arith}
 use Rattle.std.specs.Prelude.{slice_get, cond}
-use Rattle.sedre.specs.Tree.{Tree, empty, set, begin, end, seq, alt, group, star, opt, tree_at, tree_of}
+use Rattle.sedre.specs.Tree.{Tree, seq, alt, group, star, opt, tree_at, tree_of}
 use Rattle.sedtext.specs.Spans.{Matches}
 use Rattle.sedre.specs.Arena.{IsExpr}
 use Rattle.sedre.specs.declared.types.Node.{Node}
-use Rattle.sedre.specs.declared.types.Node.TheVariants.{Empty, Set, Begin, End, Seq, Alt, Group, Star, Opt}
+use Rattle.sedre.specs.declared.types.Node.TheVariants.{Seq, Alt, Group, Star, Opt}
 use Rattle.sedre.proofs.TreeLemmas.{tree_at-node}
 use Rattle.sedtext.specs.Caps.{Captures}
 use Rattle.sedtext.specs.Groups.{Groups, forget}
@@ -23,15 +23,12 @@ NoGroups (opt a first) = NoGroups a
 NoGroups other = Unit {0}
 
 forget-none : (e : Tree) → NoGroups e → (g : Groups) → forget e g ≡ g
-forget-none empty none g = refl
-forget-none (set has) none g = refl
-forget-none begin none g = refl
-forget-none end none g = refl
 forget-none (seq a b) none g = ap (forget b) (forget-none a none.0 g) ∙ forget-none b none.1 g
 forget-none (alt a b) none g = ap (forget b) (forget-none a none.0 g) ∙ forget-none b none.1 g
 forget-none (group k a) none g = absurd none
 forget-none (star a first) none g = forget-none a none g
 forget-none (opt a first) none g = forget-none a none g
+forget-none _ none g = refl
 
 cond-same : (b : Bool) (x y g : Groups) → x ≡ g → y ≡ g → cond b x y ≡ g
 cond-same true x y g left right = left
@@ -39,10 +36,6 @@ cond-same false x y g left right = right
 
 groups_after-none : (e : Tree) → NoGroups e → (w : List ℕ) (i j : ℕ) (g : Groups) → groups_after e w i j g ≡ g
 unfolding groups_after
-groups_after-none empty none w i j g = refl
-groups_after-none (set has) none w i j g = refl
-groups_after-none begin none w i j g = refl
-groups_after-none end none w i j g = refl
 groups_after-none (seq a b) none w i j g =
     let k = cut (spans a w) (spans b w) i j in
     groups_after-none b none.1 w k j (groups_after a w i k g) ∙ groups_after-none a none.0 w i k g
@@ -54,21 +47,19 @@ groups_after-none (star a first) none w i j g =
 groups_after-none (opt a first) none w i j g =
     cond-same _ _ _ g (groups_after-none a none w i j (forget a g) ∙ forget-none a none g)
     (cond-same _ _ _ g (groups_after-none a none w i i (forget a g) ∙ forget-none a none g) refl)
+groups_after-none _ none w i j g = refl
 
 pub Captures-none : (e : Tree) → NoGroups e → (w : List ℕ) (i j : ℕ) (g : Groups) → Matches e w i j → Captures e w i j g g
 Captures-none e none w i j g s = subst (λ h. Captures e w i j g h) (groups_after-none e none w i j g) (groups_after-is e w i j g s)
 
 module _ (nodes : List Node) (groups : ℕ) (expr : IsExpr nodes groups) (few : groups ≡ 0) where
   none_of : (part : ℕ → Tree) (x : ℕ) (node : Node) → slice_get nodes x ≡ Some node → ((c : ℕ) → c < x → NoGroups (part c)) → NoGroups (tree_of part node)
-  none_of part x Empty is each = tt
-  none_of part x (Set s) is each = tt
-  none_of part x Begin is each = tt
-  none_of part x End is each = tt
   none_of part x (Seq a b) is each = (each a.index (expr.arena.below x a.index (Seq a b) is (inl refl)), each b.index (expr.arena.below x b.index (Seq a b) is (inr refl)))
   none_of part x (Alt a b) is each = (each a.index (expr.arena.below x a.index (Alt a b) is (inl refl)), each b.index (expr.arena.below x b.index (Alt a b) is (inr refl)))
   none_of part x (Group k a) is each = let number = expr.numbers x k a is in absurd (omega arith)
   none_of part x (Star a first) is each = each a.index (expr.arena.below x a.index (Star a first) is refl)
   none_of part x (Opt a first) is each = each a.index (expr.arena.below x a.index (Opt a first) is refl)
+  none_of part x _ is each = tt
 
   none_below : (n x : ℕ) → x < n → x < length nodes → NoGroups (tree_at nodes x)
   none_below zero x low inside = absurd (omega arith)

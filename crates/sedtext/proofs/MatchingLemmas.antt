@@ -226,8 +226,6 @@ CopiesLead-past R h j i still (one_more _ k lt r rest) = let same = still k r in
 past-still : (e : Tree) (w : List ℕ) (i k : ℕ) → length w < i → Matches e w i k → k ≡ i
 past-still empty w i k high s = sym s
 past-still (set has) w i k high s = let within = slice_get_within w i s.0 s.1 in absurd (omega arith)
-past-still begin w i k high s = let at = s.0 in absurd (omega arith)
-past-still end w i k high s = let at = s.0 in absurd (omega arith)
 past-still (seq a b) w i k high s =
     let left : s.0 ≡ i = past-still a w i s.0 high s.1 in
     let right : k ≡ s.0 = past-still b w s.0 k (omega arith) s.2 in
@@ -236,12 +234,11 @@ past-still (alt a b) w i k high s = ⊎_elim (past-still a w i k high) (past-sti
 past-still (group n a) w i k high s = past-still a w i k high s
 past-still (star a first) w i k high s = CopiesLead-past (Matches a w) i k i (λ l r. past-still a w i l high r) s
 past-still (opt a first) w i k high s = ⊎_elim (λ (e : i ≡ k). sym e) (past-still a w i k high) s
+past-still _ w i k high s = let at = s.0 in absurd (omega arith)
 
 past-everywhere : (e : Tree) (w : List ℕ) (i k : ℕ) → length w < i → Matches e w i k → (h : ℕ) → Matches e w h h
 past-everywhere empty w i k high s h = refl
 past-everywhere (set has) w i k high s h = let within = slice_get_within w i s.0 s.1 in absurd (omega arith)
-past-everywhere begin w i k high s h = let at = s.0 in absurd (omega arith)
-past-everywhere end w i k high s h = let at = s.0 in absurd (omega arith)
 past-everywhere (seq a b) w i k high s h =
     let left : s.0 ≡ i = past-still a w i s.0 high s.1 in
     (h, past-everywhere a w i s.0 high s.1 h, past-everywhere b w s.0 k (omega arith) s.2 h)
@@ -249,6 +246,7 @@ past-everywhere (alt a b) w i k high s h = ⊎_elim (λ (l : Matches a w i k). i
 past-everywhere (group n a) w i k high s h = past-everywhere a w i k high s h
 past-everywhere (star a first) w i k high s h = no_copy
 past-everywhere (opt a first) w i k high s h = inl refl
+past-everywhere _ w i k high s h = let at = s.0 in absurd (omega arith)
 
 -- a match that begins in the text or after it begins in the text
 pub IsLeftmostLongest-within : (e : Tree) (w : List ℕ) (p i j : ℕ) → p ≤ length w → IsLeftmostLongest e w p i j → i ≤ length w
@@ -355,10 +353,6 @@ null_copy a first w i j old on fails inner =
 
 pub groups_after-is : (e : Tree) (w : List ℕ) (i j : ℕ) (old : Groups) → Matches e w i j → Captures e w i j old (groups_after e w i j old)
 unfolding groups_after
-groups_after-is empty w i j old s = refl
-groups_after-is (set has) w i j old s = refl
-groups_after-is begin w i j old s = refl
-groups_after-is end w i j old s = refl
 groups_after-is (seq a b) w i j old s =
     let k = cut (spans a w) (spans b w) i j in
     let is = cut-is a b w i j s.0 s.1 s.2 in
@@ -385,6 +379,7 @@ groups_after-is (opt a first) w i j old s =
     let lt = ltb-true i j holds in
     inl (lt, groups_after-is a w i j (forget a old) (⊎_elim (λ (e : i ≡ j). absurd (omega arith)) (λ (r : Matches a w i j). r) s)))
     (λ fails. inr (null_copy a first w i j old (Matches-forward (opt a first) w i j s) fails (groups_after-is a w i i (forget a old))))
+groups_after-is _ w i j old s = refl
 
 pub groups_after-iff : CapsLaw
 groups_after-iff e w i j old new s = (

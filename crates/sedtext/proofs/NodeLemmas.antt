@@ -2,11 +2,11 @@
 use Rattle.std.proofs.Common.{◌≡◌, ℕ, zero, suc, ◌+◌, ◌<◌, ◌≤◌, List, [], ◌∷◌, length, Some, refl, inl, inr, arith}
 use Rattle.std.specs.Prelude.{slice_get}
 use Rattle.sedre.specs.Arena.{IsArena}
-use Rattle.sedre.specs.Tree.{tree_at, Tree, empty, set, begin, end, seq, alt, group, star, opt}
+use Rattle.sedre.specs.Tree.{tree_at, Tree, empty}
 use Rattle.sedre.specs.Packed.{PartsBelow}
 use Rattle.sedre.specs.Sizes.{size}
 use Rattle.sedre.specs.declared.types.Node.{Node}
-use Rattle.sedre.specs.declared.types.Node.TheVariants.{Empty, Set, Begin, End, Seq, Alt, Group, Star, Opt}
+use Rattle.sedre.specs.declared.types.Node.TheVariants.{Empty, Seq, Alt, Group, Star, Opt}
 use Rattle.sedre.proofs.TreeLemmas.{tree_at-node}
 use Rattle.sedtext.specs.Nodes.{total_size, parts_of}
 
@@ -18,10 +18,6 @@ node_at (node ∷ nodes) (suc x) inside = node_at nodes x (omega arith)
 
 -- the parts of the node at x are below anything from x on
 pub parts_below : (nodes : List Node) → IsArena nodes → (x : ℕ) (node : Node) → slice_get nodes x ≡ Some node → (n : ℕ) → x ≤ n → PartsBelow n node
-parts_below nodes arena x Empty is n le = tt
-parts_below nodes arena x (Set s) is n le = tt
-parts_below nodes arena x Begin is n le = tt
-parts_below nodes arena x End is n le = tt
 parts_below nodes arena x (Seq a b) is n le =
     let low = arena.below x a.index (Seq a b) is (inl refl) in
     let low' = arena.below x b.index (Seq a b) is (inr refl) in
@@ -33,28 +29,15 @@ parts_below nodes arena x (Alt a b) is n le =
 parts_below nodes arena x (Group k a) is n le = let low = arena.below x a.index (Group k a) is refl in omega arith
 parts_below nodes arena x (Star a first) is n le = let low = arena.below x a.index (Star a first) is refl in omega arith
 parts_below nodes arena x (Opt a first) is n le = let low = arena.below x a.index (Opt a first) is refl in omega arith
+parts_below nodes arena x _ is n le = tt
 
 -- a tree has a node
 pub size-pos : (t : Tree) → 1 ≤ size t
 size-pos empty = omega arith
-size-pos (set has) = omega arith
-size-pos begin = omega arith
-size-pos end = omega arith
-size-pos (seq a b) = omega arith
-size-pos (alt a b) = omega arith
-size-pos (group k a) = omega arith
-size-pos (star a first) = omega arith
-size-pos (opt a first) = omega arith
+size-pos _ = omega arith
 
 -- and one more than its parts
 module _ (nodes : List Node) (arena : IsArena nodes) (x : ℕ) where
   pub size-parts : (node : Node) → slice_get nodes x ≡ Some node → size (tree_at nodes x) ≡ 1 + total_size nodes (parts_of node)
   size-parts Empty is = rw (tree_at-node nodes x Empty arena is) refl
-  size-parts (Set s) is = rw (tree_at-node nodes x (Set s) arena is) refl
-  size-parts Begin is = rw (tree_at-node nodes x Begin arena is) refl
-  size-parts End is = rw (tree_at-node nodes x End arena is) refl
-  size-parts (Seq a b) is = rw (tree_at-node nodes x (Seq a b) arena is) (omega arith)
-  size-parts (Alt a b) is = rw (tree_at-node nodes x (Alt a b) arena is) (omega arith)
-  size-parts (Group k a) is = rw (tree_at-node nodes x (Group k a) arena is) (omega arith)
-  size-parts (Star a first) is = rw (tree_at-node nodes x (Star a first) arena is) (omega arith)
-  size-parts (Opt a first) is = rw (tree_at-node nodes x (Opt a first) arena is) (omega arith)
+  size-parts other is = rw (tree_at-node nodes x other arena is) (omega arith)

@@ -1,6 +1,6 @@
 -- The first two bytes of the literals of a choice, and the places at which they stand.
 use Rattle.std.proofs.Common.{◌≡◌, ℕ, ◌+◌, ◌-◌, ◌/◌, ◌%◌, ◌^◌, ◌<◌, ◌≤◌, true, false, List, [], ◌∷◌, ◌++◌, length, Option, Some, None, sym, ap, ◌∙◌, subst, inl, inr, ⊎_elim, arith, true≢false, w64, ltb, eqb, bit_or, map}
-use Rattle.std.specs.Prelude.{slice_get, slice_index, slice_index_or, is_some}
+use Rattle.std.specs.Prelude.{slice_get, slice_index, is_some}
 use Rattle.std.specs.Int.{bit_at, trailing_zeros}
 use Rattle.std.specs.Simd.Lanes.{mask_l, sel_l, zip2}
 use Rattle.std.proofs.Math.Nat.{div-le_self}

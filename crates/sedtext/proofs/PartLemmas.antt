@@ -3,7 +3,7 @@ use Rattle.std.proofs.Common.{◌≡◌, ℕ, zero, suc, ◌<◌, ◌≤◌, inl
 use Rattle.std.specs.Prelude.{slice_set, replicate}
 use Rattle.std.proofs.lemmas.Bool.{cases_lt, cases_eq}
 use Rattle.std.proofs.lemmas.List.{get_or-set_same, get_or-set_other, set_past}
-use Rattle.sedre.specs.Tree.{Tree, empty, set, begin, end, seq, alt, group, star, opt}
+use Rattle.sedre.specs.Tree.{Tree, seq, alt, group, star, opt}
 use Rattle.sedtext.specs.Spans.{Matches}
 use Rattle.sedtext.specs.Caps.{Captures, LastCopy, only, then, IsReport}
 use Rattle.sedtext.specs.Groups.{Groups, forget, no_groups, span_of}
@@ -25,15 +25,12 @@ Lie-set n g k v within old c =
     (cases_eq c k)
 
 Lie-forget : (n : ℕ) (e : Tree) (g : Groups) → Lie n g → Lie n (forget e g)
-Lie-forget n empty g old = old
-Lie-forget n (set s) g old = old
-Lie-forget n begin g old = old
-Lie-forget n end g old = old
 Lie-forget n (seq a b) g old = Lie-forget n b (forget a g) (Lie-forget n a g old)
 Lie-forget n (alt a b) g old = Lie-forget n b (forget a g) (Lie-forget n a g old)
 Lie-forget n (group k a) g old = Lie-forget n a (slice_set g k None) (Lie-set n g k None tt old)
 Lie-forget n (star a first) g old = Lie-forget n a g old
 Lie-forget n (opt a first) g old = Lie-forget n a g old
+Lie-forget n _ g old = old
 
 -- the last copy ends where the whole does
 LastCopy-ends : (R : ℕ → ℕ → Type 0) (j i c : ℕ) → LastCopy R j i c → c ≤ j
@@ -41,10 +38,6 @@ LastCopy-ends R j i c (only _ lt r) = omega arith
 LastCopy-ends R j i c (then _ k _ up low r rest most last) = LastCopy-ends R j k c last
 
 pub Captures-lie : (n : ℕ) (e : Tree) (w : List ℕ) (i j : ℕ) (old new : Groups) → i ≤ j → j ≤ n → Captures e w i j old new → Lie n old → Lie n new
-Captures-lie n empty w i j old new up high h lie = subst (Lie n) (sym h) lie
-Captures-lie n (set s) w i j old new up high h lie = subst (Lie n) (sym h) lie
-Captures-lie n begin w i j old new up high h lie = subst (Lie n) (sym h) lie
-Captures-lie n end w i j old new up high h lie = subst (Lie n) (sym h) lie
 Captures-lie n (seq a b) w i j old new up high h lie =
     let left = Matches-forward a w i h.0 h.1.left in
     let right = Matches-forward b w h.0 j h.1.right in
@@ -66,6 +59,7 @@ Captures-lie n (opt a first) w i j old new up high (inl h) lie =
 Captures-lie n (opt a first) w i j old new up high (inr (inl h)) lie =
     Captures-lie n a w i i (forget a old) new (omega arith) (omega arith) h.3 (Lie-forget n a old lie)
 Captures-lie n (opt a first) w i j old new up high (inr (inr h)) lie = subst (Lie n) (sym h.1.1) lie
+Captures-lie n _ w i j old new up high h lie = subst (Lie n) (sym h) lie
 
 replicate_none : (m k : ℕ) → span_of (replicate m None) k ≡ None
 replicate_none zero k = refl

@@ -5,7 +5,7 @@ use Rattle.sedtext.specs.Spans.{CopiesLead, no_copy, Matches}
 use Rattle.sedre.specs.Arena.{IsArena, IsPart}
 use Rattle.sedre.specs.Tree.{tree_of, tree_at}
 use Rattle.sedre.specs.declared.types.Node.{Node}
-use Rattle.sedre.specs.declared.types.Node.TheVariants.{Empty, Set, Begin, End, Seq, Alt, Group, Star, Opt}
+use Rattle.sedre.specs.declared.types.Node.TheVariants.{Seq, Alt, Group, Star, Opt}
 use Rattle.sedre.proofs.TreeLemmas.{tree_at-node}
 use Rattle.sedtext.specs.declared.starts.Starts.{Starts}
 use Rattle.sedtext.specs.Reach.{IsLoose, BeginsWith, At, IsStart, Enters, at_root, with_whole, after_left, again}
@@ -38,21 +38,11 @@ FromNode nodes w r p y c j (Alt a b) = Enters nodes w r p y j
 FromNode nodes w r p y c j (Group k a) = Enters nodes w r p y j
 FromNode nodes w r p y c j (Star a first) = (i : ℕ) × Enters nodes w r p y i × At nodes w y i j
 FromNode nodes w r p y c j (Opt a first) = Enters nodes w r p y j
-FromNode nodes w r p y c j Empty = ⊥
-FromNode nodes w r p y c j (Set s) = ⊥
-FromNode nodes w r p y c j Begin = ⊥
-FromNode nodes w r p y c j End = ⊥
+FromNode nodes w r p y c j _ = ⊥
 
 BeginsWith-part : (node : Node) (c : ℕ) → BeginsWith node c → IsPart node c
 BeginsWith-part (Seq a b) c h = inl h
-BeginsWith-part (Alt a b) c h = h
-BeginsWith-part (Group k a) c h = h
-BeginsWith-part (Star a first) c h = h
-BeginsWith-part (Opt a first) c h = h
-BeginsWith-part Empty c h = h
-BeginsWith-part (Set s) c h = h
-BeginsWith-part Begin c h = h
-BeginsWith-part End c h = h
+BeginsWith-part _ c h = h
 
 -- a byte that is taken is there, and in the list
 pub takes_some : (byte : Option ℕ) (members : List Bool) → IsTrue (byte_is_in byte members) → (b : ℕ) × (byte ≡ Some b) × IsTrue (slice_index_or members b false)
@@ -81,10 +71,7 @@ module _ (nodes : List Node) (w : List ℕ) (r : ℕ) (p : Starts) (arena : IsAr
   FromNode-with_whole y c j (Star a first) is begins e =
       (j, e, close_at nodes w y (Star a first) arena is j j no_copy)
   FromNode-with_whole y c j (Opt a first) is begins e = e
-  FromNode-with_whole y c j Empty is begins e = begins
-  FromNode-with_whole y c j (Set s) is begins e = begins
-  FromNode-with_whole y c j Begin is begins e = begins
-  FromNode-with_whole y c j End is begins e = begins
+  FromNode-with_whole y c j _ is begins e = begins
 
   -- two nodes with one part are one
   same_node : (y z c : ℕ) (node other : Node) → slice_get nodes y ≡ Some node → slice_get nodes z ≡ Some other → IsPart node c → IsPart other c → (y ≡ z) × (node ≡ other)
