@@ -11,7 +11,7 @@ use Rattle.sedtext.specs.declared.rare.Rare.{Rare}
 use Rattle.sedtext.specs.Bytes.{looked_at, AreBytes, FirstFrom}
 use Rattle.sedtext.specs.Few.{HasFew, FewAt, FirstFew}
 use Rattle.sedtext.specs.Needed.{LinksTo, Narrowed}
-use Rattle.sedtext.specs.Rare.{StandsAt, HeldAt, RareAt, RareNowhere, AllStand, AllHave, AllHeld, AllRare}
+use Rattle.sedtext.specs.Rare.{StandsAt, RareAt, RareNowhere, AllStand, AllHave, AllRare}
 use Rattle.sedtext.specs.Reach.{At}
 use Rattle.sedtext.specs.Beginnings.{NoneIn}
 use Rattle.sedtext.specs.Spans.{Matches, IsIn}
@@ -33,20 +33,20 @@ module _ (f : Fixed) (w : List ℕ) (p : ℕ) where
 -- a search for what is sought, as far as the place q
 module _ (r : Rare) (w : List ℕ) (p q : ℕ) (before : RareNowhere r w p q) where
   -- where what is held is lacking
-  pub rare_lacks : (k : ℕ) → FirstFrom (StandsAt r.sought w) q (Some k) → (HeldAt r.held w k → ⊥) → RareNowhere r w p (k + 1)
+  pub rare_lacks : (k : ℕ) → FirstFrom (StandsAt r.sought w) q (Some k) → (IfSome r.held (λ f. StandsAt f w k) → ⊥) → RareNowhere r w p (k + 1)
   rare_lacks k first lacks h low lt at =
       ⊎_elim
       (λ (early : h < q). before h low early at)
       (λ (late : q ≤ h). ⊎_elim
       (λ (less : h < k). first.2 h late less at.0)
-      (λ (same : k ≤ h). lacks (subst (HeldAt r.held w) (let e : h ≡ k = omega arith in e) at.1))
+      (λ (same : k ≤ h). lacks (subst (λ v. IfSome r.held (λ f. StandsAt f w v)) (let e : h ≡ k = omega arith in e) at.1))
       (cases_lt h k))
       (cases_lt h q)
 
   pub rare_none : FirstFrom (StandsAt r.sought w) q None → FirstFrom (RareAt r w) p None
   rare_none none h low at = ⊎_elim (λ (early : h < q). before h low early at) (λ (late : q ≤ h). none h late at.0) (cases_lt h q)
 
-  pub rare_some : (k : ℕ) → p ≤ q → FirstFrom (StandsAt r.sought w) q (Some k) → HeldAt r.held w k → FirstFrom (RareAt r w) p (Some k)
+  pub rare_some : (k : ℕ) → p ≤ q → FirstFrom (StandsAt r.sought w) q (Some k) → IfSome r.held (λ f. StandsAt f w k) → FirstFrom (RareAt r w) p (Some k)
   rare_some k low first held = (
     omega (arith, first.0),
     (first.1, held),
@@ -84,7 +84,7 @@ module _ (e : Tree) (w : List ℕ) (bytes : AreBytes w) (from p : ℕ) (r : Rare
   rare_at : (i j : ℕ) → Matches e w i j → RareAt r w i
   rare_at i j s = (all.0 w bytes i j s, held_at r.held all.1)
     where
-      held_at : (held : Option Fixed) → AllHeld e held → HeldAt held w i
+      held_at : (held : Option Fixed) → IfSome held (AllStand e) → IfSome held (λ f. StandsAt f w i)
       held_at None is = tt
       held_at (Some f) is = is w bytes i j s
 

@@ -1,5 +1,5 @@
 -- What a node spans by its parts, and where these are entered.
-use Rattle.std.proofs.Common.{◌≡◌, ◌≢◌, ℕ, ◌<◌, ◌≤◌, ◌⊎◌, ◌↔◌, Bool, false, List, Option, Some, None, IsTrue, refl, sym, ap, subst, inl, inr, true≢false, arith}
+use Rattle.std.proofs.Common.{◌≡◌, ◌≢◌, ℕ, ◌<◌, ◌≤◌, ◌⊎◌, ◌↔◌, Bool, false, List, Option, Some, None, IsTrue, refl, sym, ap, subst, inl, inr, ⊎_elim, true≢false, arith}
 use Rattle.std.specs.Prelude.{slice_get, slice_index_or}
 use Rattle.sedtext.specs.Spans.{CopiesLead, no_copy, Matches}
 use Rattle.sedre.specs.Arena.{IsArena, IsPart}
@@ -79,24 +79,6 @@ module _ (nodes : List Node) (w : List ℕ) (r : ℕ) (p : Starts) (arena : IsAr
       let e : y ≡ z = arena.once y z c node other is is' part part' in
       (e, let k : slice_get nodes y ≡ slice_get nodes z = ap (slice_get nodes) e in cc)
 
-  -- a part is entered through its node alone
-  pub Enters-part : (y : ℕ) → y ≤ r → (c j : ℕ) (node : Node) → slice_get nodes y ≡ Some node → IsPart node c → Enters nodes w r p c j → FromNode nodes w r p y c j node
-  Enters-part y le c j node is part (at_root _ _ last begin) =
-      let below : c < y = arena.below y c node is part in
-      absurd (omega arith)
-  Enters-part y le c j node is part (with_whole z _ _ other is' begins e) =
-      let both = same_node z y c other node is' is (BeginsWith-part other c begins) part in
-      subst (λ v. FromNode nodes w r p v c j node) both.0
-      (subst (λ n. FromNode nodes w r p z c j n) both.1 (FromNode-with_whole z c j other is' begins e))
-  Enters-part y le c j node is part (after_left z _ i _ a b is' right e at) =
-      let both = same_node z y c (Seq a b) node is' is (inr right) part in
-      subst (λ v. FromNode nodes w r p v c j node) both.0
-      (subst (λ n. FromNode nodes w r p z c j n) both.1 (inr (right, (i, e, at))))
-  Enters-part y le c j node is part (again z _ i _ a first is' inner e at) =
-      let both = same_node z y c (Star a first) node is' is inner part in
-      subst (λ v. FromNode nodes w r p v c j node) both.0
-      (subst (λ n. FromNode nodes w r p z c j n) both.1 (i, e, at))
-
   -- only r and nodes below it are entered
   pub Enters-inside : (x j : ℕ) → Enters nodes w r p x j → x ≤ r
   Enters-inside x j (at_root _ _ last e) = omega arith
@@ -113,37 +95,37 @@ module _ (nodes : List Node) (w : List ℕ) (r : ℕ) (p : Starts) (arena : IsAr
       let below : x < z = arena.below z x (Star a first) is' inner in
       omega arith
 
+  -- the node c is entered at j through the one whose part it is
+  abbrev ByNode : ℕ → ℕ → Type 0
+  ByNode c j = (z : ℕ) × (node : Node) × (slice_get nodes z ≡ Some node) × IsPart node c × (z ≤ r) × FromNode nodes w r p z c j node
+
+  how_entered : (c j : ℕ) → Enters nodes w r p c j → ((c ≡ r) × IsStart p j) ⊎ ByNode c j
+  how_entered c j (at_root _ _ last begin) = inl (last, begin)
+  how_entered c j (with_whole z _ _ other is begins e) = inr (z, other, is, BeginsWith-part other c begins, Enters-inside z j e, FromNode-with_whole z c j other is begins e)
+  how_entered c j (after_left z _ i _ a b is right e at) = inr (z, Seq a b, is, inr right, Enters-inside z i e, inr (right, (i, e, at)))
+  how_entered c j (again z _ i _ a first is inner e at) = inr (z, Star a first, is, inner, Enters-inside z i e, (i, e, at))
+
+  -- a part is entered through its node alone
+  pub Enters-part : (y : ℕ) → y ≤ r → (c j : ℕ) (node : Node) → slice_get nodes y ≡ Some node → IsPart node c → Enters nodes w r p c j → FromNode nodes w r p y c j node
+  Enters-part y le c j node is part e =
+      let below = arena.below y c node is part in
+      ⊎_elim
+      (λ (root : (c ≡ r) × IsStart p j). absurd (omega (arith, root.0, below)))
+      (λ (h : ByNode c j).
+      let both = same_node h.0 y c h.1 node h.2 is h.3 part in
+      subst (λ v. FromNode nodes w r p v c j node) both.0 (subst (λ n. FromNode nodes w r p h.0 c j n) both.1 h.5))
+      (how_entered c j e)
+
   -- the node r is entered at the starts alone
   pub Enters-root : (x j : ℕ) → x ≡ r → Enters nodes w r p x j → IsStart p j
-  Enters-root x j last (at_root _ _ _ e) = e
-  Enters-root x j last (with_whole z _ _ other is' begins e) =
-      let up = Enters-inside z j e in
-      let below : x < z = arena.below z x other is' (BeginsWith-part other x begins) in
-      absurd (omega arith)
-  Enters-root x j last (after_left z _ i _ a b is' right e at) =
-      let up = Enters-inside z i e in
-      let below : x < z = arena.below z x (Seq a b) is' (inr right) in
-      absurd (omega arith)
-  Enters-root x j last (again z _ i _ a first is' inner e at) =
-      let up = Enters-inside z i e in
-      let below : x < z = arena.below z x (Star a first) is' inner in
-      absurd (omega arith)
+  Enters-root x j last e =
+      ⊎_elim (λ (root : (x ≡ r) × IsStart p j). root.1) (λ (h : ByNode x j). let below = arena.below h.0 x h.1 h.2 h.3 in absurd (omega (arith, h.4, below))) (how_entered x j e)
 
   -- a part of a node above r is not entered
   pub Enters-loose : (c j : ℕ) → IsLoose nodes r c → c ≤ r → c ≢ r → Enters nodes w r p c j → ⊥
-  Enters-loose c j loose le ne (at_root _ _ last e) = ne last
-  Enters-loose c j loose le ne (with_whole z _ _ other is' begins e) =
-      let up = Enters-inside z j e in
-      let same : z ≡ loose.0 = arena.once z loose.0 c other loose.1 is' loose.3 (BeginsWith-part other c begins) loose.4 in
-      let high = loose.2 in
-      omega arith
-  Enters-loose c j loose le ne (after_left z _ i _ a b is' right e at) =
-      let up = Enters-inside z i e in
-      let same : z ≡ loose.0 = arena.once z loose.0 c (Seq a b) loose.1 is' loose.3 (inr right) loose.4 in
-      let high = loose.2 in
-      omega arith
-  Enters-loose c j loose le ne (again z _ i _ a first is' inner e at) =
-      let up = Enters-inside z i e in
-      let same : z ≡ loose.0 = arena.once z loose.0 c (Star a first) loose.1 is' loose.3 inner loose.4 in
-      let high = loose.2 in
-      omega arith
+  Enters-loose c j loose le ne e =
+      ⊎_elim (λ (root : (c ≡ r) × IsStart p j). ne root.0)
+      (λ (h : ByNode c j).
+      let same = arena.once h.0 loose.0 c h.1 loose.1 h.2 loose.3 h.3 loose.4 in
+      absurd (omega (arith, h.4, same, loose.2)))
+      (how_entered c j e)

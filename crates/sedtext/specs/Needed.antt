@@ -38,10 +38,6 @@ BeginsAs nodes x bytes y = (w : List ℕ) (i j : ℕ) → i ≤ length w → At 
 abbrev pub IsLiteral : List Node → ℕ → Literal → Type 0
 IsLiteral nodes x l = (w : List ℕ) (i j : ℕ) → i ≤ length w → At nodes w x i j ↔ (OccursAt w l.bytes.items i × GoesOnAs nodes w (i + length l.bytes.items) j l.rest)
 
--- the byte is the only one of the set
-abbrev pub IsSole : List Bool → ℕ → Type 0
-IsSole s byte = ((c : ℕ) → IsIn c s → c ≡ byte) × IsIn byte s
-
 -- each span of the node x holds the literal
 abbrev pub AllHold : List Node → ℕ → List ℕ → Type 0
 AllHold nodes x literal = (w : List ℕ) (i j : ℕ) → i ≤ length w → At nodes w x i j → (k : ℕ) × (i ≤ k) × OccursAt w literal k

@@ -1,6 +1,6 @@
 -- Private to the proofs: no contract that `sedmatch` makes public cites what stands here.
 -- A few bytes, one of which stands at a fixed distance after the beginning of every match.
-use Rattle.std.specs.Prelude.{ℕ, ◌+◌, ◌<◌, ◌≤◌, Bool, List, Option, Some, None}
+use Rattle.std.specs.Prelude.{ℕ, ◌+◌, ◌<◌, ◌≤◌, Bool, List, Option, Some, None, IfSome}
 use Rattle.sedre.specs.Tree.{Tree}
 use Rattle.sedtext.specs.Spans.{Matches}
 use Rattle.sedtext.specs.Few.{FewAt}
@@ -14,14 +14,9 @@ use Rattle.sedtext.specs.declared.rare.Rare.{Rare}
 abbrev pub StandsAt : Fixed → List ℕ → ℕ → Type 0
 StandsAt f w i = FewAt f.few w (i + f.offset)
 
--- one of the next rarest bytes, if there are such, stands at their distance after the place
-abbrev pub HeldAt : Option Fixed → List ℕ → ℕ → Type 0
-HeldAt None w i = Unit {0}
-HeldAt (Some f) w i = StandsAt f w i
-
 -- one of the rarest bytes and one of the next rarest stand at their distances after the place
 abbrev pub RareAt : Rare → List ℕ → ℕ → Type 0
-RareAt r w i = StandsAt r.sought w i × HeldAt r.held w i
+RareAt r w i = StandsAt r.sought w i × IfSome r.held (λ f. StandsAt f w i)
 
 -- after no place from p up to but not including q one of each stands at its distance
 abbrev pub ApartIn : Fixed → Fixed → List ℕ → ℕ → ℕ → Type 0
@@ -35,11 +30,6 @@ RareNowhere r w p q = (h : ℕ) → p ≤ h → h < q → RareAt r w h → ⊥
 abbrev pub AllStand : Tree → Fixed → Type 0
 AllStand e f = (w : List ℕ) → AreBytes w → (i j : ℕ) → Matches e w i j → StandsAt f w i
 
--- one of the next rarest bytes, if there are such, stands at their distance after the beginning of each span
-abbrev pub AllHeld : Tree → Option Fixed → Type 0
-AllHeld e None = Unit {0}
-AllHeld e (Some f) = AllStand e f
-
 -- a byte of the set stands `offset` bytes after the beginning of each span of the expression
 abbrev pub AllHave : Tree → ℕ → List Bool → Type 0
 AllHave e offset s = (w : List ℕ) (i j : ℕ) → Matches e w i j → CanBegin (WithSet s) w (i + offset)
@@ -47,4 +37,4 @@ AllHave e offset s = (w : List ℕ) (i j : ℕ) → Matches e w i j → CanBegin
 -- the rarest and the next rarest, if there are such, stand at their distances after the beginning of each span
 abbrev pub AllRare : Tree → Option Rare → Type 0
 AllRare e None = Unit {0}
-AllRare e (Some r) = AllStand e r.sought × AllHeld e r.held
+AllRare e (Some r) = AllStand e r.sought × IfSome r.held (AllStand e)

@@ -267,28 +267,6 @@ impl Marks {
         steps.add(count);
         clear_words(&mut self.words, count.div_ceil(64));
     }
-
-    /// Whether none of the first `count` marks is set, a word at a time. Counts a look for each of the `count`.
-    pub fn is_clear(&self, count: usize, steps: &mut Steps) -> bool
-        requires inside { count ≤ length self.now }
-        ensures clear { IsTrue result ↔ ((c : ℕ) → c < count → slice_index_or self.now c false ≡ false) }
-        ensures cost { Takes steps.old steps.new count }
-        ensures counts { TakesExactly steps.old steps.new count }
-    {
-        steps.add(count);
-        are_clear(&self.words, count)
-    }
-
-    /// A number made of the first `count` marks and the rest of their last word.
-    /// Counts a look for each of the `count`.
-    pub fn digest(&self, count: usize, steps: &mut Steps) -> u64
-        requires inside { count ≤ length self.now }
-        ensures cost { Takes steps.old steps.new count }
-        ensures counts { TakesExactly steps.old steps.new count }
-    {
-        steps.add(count);
-        digest_words(&self.words, count.div_ceil(64))
-    }
 }
 
 /// `count` words without a mark.

@@ -1,9 +1,10 @@
 //! A literal that every match of an expression holds: a text without it has no match.
 //!
 //! A concatenation is followed from part to part, and single bytes that stand one after another in it are a literal.
-ghost use Rattle.std.specs.Prelude.{◌≡◌, ◌-◌, ◌<◌, ◌≤◌, ◌⊎◌, length, IfOk, IfSome};
+ghost use Rattle.std.specs.Prelude.{◌≡◌, ℕ, ◌-◌, ◌<◌, ◌≤◌, ◌⊎◌, length, IfOk, IfSome};
 ghost use Rattle.sedre.specs.Tree.{expression_tree, Tree};
-ghost use Rattle.sedtext.specs.Needed.{IsOfSet, LinksTo, IsLiteral, IsSole, AllHold, AllEndWith, IsNeeded, Narrowed};
+ghost use Rattle.sedtext.specs.Needed.{IsOfSet, LinksTo, IsLiteral, AllHold, AllEndWith, IsNeeded, Narrowed};
+ghost use Rattle.sedtext.specs.Spans.{IsIn};
 ghost use Rattle.sedtext.specs.Nodes.{IsNode};
 ghost use Rattle.sedtext.specs.Costs.{CostsWithin};
 ghost use Rattle.sedre.specs.Steps.{Takes, TakesAtLeast};
@@ -82,7 +83,7 @@ pub fn link_of(expr: &Expr, index: usize, steps: &mut Steps) -> Link
 
 /// The only byte of the set, if it has no other.
 fn sole_of(set: &ByteSet) -> Option<u8>
-    ensures { IfSome result (IsSole set.now) }
+    ensures { IfSome result (λ byte. ((c : ℕ) → IsIn c set.now → c ≡ byte) × IsIn byte set.now) }
 {
     match set.sole() {
         Some(byte) if set.has(byte) => Some(byte),

@@ -1,10 +1,9 @@
 //! A few bytes, one of which stands at a fixed distance after the beginning of every match: the rarest are sought, and the
 //! next rarest are compared with what stands there.
 ghost use Rattle.std.specs.Prelude.{◌+◌, ◌-◌, ◌*◌, ◌<◌, ◌≤◌, ◌↔◌, Some, length, IfSome, IsTrue};
-ghost use Rattle.sedre.specs.Tree.{expression_tree, tree_at, Tree};
+ghost use Rattle.sedre.specs.Tree.{expression_tree, Tree};
 ghost use Rattle.sedtext.specs.Bytes.{FirstFrom, looked_at};
-ghost use Rattle.sedtext.specs.Rare.{StandsAt, HeldAt, RareAt, RareNowhere, AllStand, AllHave, AllHeld, AllRare};
-ghost use Rattle.sedtext.specs.Nodes.{IsNode};
+ghost use Rattle.sedtext.specs.Rare.{StandsAt, RareAt, RareNowhere, AllStand, AllHave, AllRare};
 ghost use Rattle.sedtext.specs.Costs.{CostsWithin};
 ghost use Rattle.sedre.specs.Steps.{Takes, TakesAtLeast};
 
@@ -103,7 +102,7 @@ impl Rare {
     /// Whether the next rarest, if there are such, stand at their distance after the place. Counts at most one look.
     fn holds(&self, text: &Text, place: usize, steps: &mut Steps) -> bool
         requires place { place ≤ length text.now }
-        ensures holds { IsTrue result ↔ HeldAt self.now.held text.now place }
+        ensures holds { IsTrue result ↔ IfSome self.now.held (λ f. StandsAt f text.now place) }
         ensures cost { Takes steps.old steps.new 1 }
     {
         match &self.held {
@@ -152,7 +151,7 @@ impl Rare {
 
 /// The rarer of what was held, if there is such, and one more.
 fn rarer(held: Option<Fixed>, more: Fixed) -> Fixed
-    ensures { (e : Tree) → AllHeld e held → AllStand e more → AllStand e result }
+    ensures { (e : Tree) → IfSome held (AllStand e) → AllStand e more → AllStand e result }
 {
     match held {
         Some(held) => if held.weight() <= more.weight() {
@@ -201,16 +200,15 @@ fn with_set(rare: Option<Rare>, offset: usize, set: &ByteSet) -> Option<Rare>
     }
 }
 
-/// The rarest bytes that stand at a fixed distance after the beginning of every span of a node, if such bytes are
-/// found: a concatenation is followed as long as its parts are sets.
-fn rare_from(expr: &Expr, from: usize, steps: &mut Steps) -> Option<Rare>
-    requires inside { IsNode expr.now.nodes from }
-    ensures rare { AllRare (tree_at expr.now.nodes from) result }
+/// The rarest bytes that stand at a fixed distance after the beginning of every match, if such bytes are found: a
+/// concatenation is followed as long as its parts are sets.
+pub fn rare_of(expr: &Expr, steps: &mut Steps) -> Option<Rare>
+    ensures rare { AllRare (expression_tree expr.now) result }
     ensures cost { Takes steps.old steps.new 131074 }
 {
     let mut rare = None;
     let mut offset = 0usize;
-    let mut index = from;
+    let mut index = expr.root().index();
     while offset < MAX_OFFSET {
         match link_of(expr, index, steps) {
             Link::OneOf(set, next) => {
@@ -224,13 +222,4 @@ fn rare_from(expr: &Expr, from: usize, steps: &mut Steps) -> Option<Rare>
         }
     }
     rare
-}
-
-/// The rarest bytes that stand at a fixed distance after the beginning of every match, if such bytes are found.
-pub fn rare_of(expr: &Expr, steps: &mut Steps) -> Option<Rare>
-    ensures rare { AllRare (expression_tree expr.now) result }
-    ensures cost { Takes steps.old steps.new 131074 }
-{
-    let root = expr.root().index();
-    rare_from(expr, root, steps)
 }

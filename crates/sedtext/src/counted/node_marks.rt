@@ -2,7 +2,7 @@
 ghost use Rattle.std.specs.Prelude.{◌≡◌, ℕ, Bool, false, List, ◌<◌, ◌≤◌, length, slice_index_or, slice_set, IsTrue, ◌↔◌};
 ghost use Rattle.sedre.specs.Steps.{Takes, TakesExactly};
 
-use super::Marks;
+use super::{Marks, are_clear, digest_words};
 use sedre::Steps;
 use std::alloc::{AllocError, Global};
 use std::marker::Model;
@@ -88,7 +88,8 @@ impl NodeMarks {
         ensures cost { Takes steps.old steps.new count }
         ensures counts { TakesExactly steps.old steps.new count }
     {
-        self.marks.is_clear(count, steps)
+        steps.add(count);
+        are_clear(&self.list().words, count)
     }
 
     /// A number made of the first `count` marks and the rest of their last word.
@@ -99,6 +100,7 @@ impl NodeMarks {
         ensures cost { Takes steps.old steps.new count }
         ensures counts { TakesExactly steps.old steps.new count }
     {
-        self.marks.digest(count, steps)
+        steps.add(count);
+        digest_words(&self.list().words, count.div_ceil(64))
     }
 }

@@ -1,9 +1,24 @@
-use Rattle.std.proofs.Common.{◌≡◌, ◌-◌, length, subst, arith}
+use Rattle.std.proofs.Common.{◌-◌, length, arith}
 use Rattle.sedre.specs.Tree.{tree_at}
-use Rattle.sedtext.specs.Rare.{AllRare}
+use Rattle.sedtext.proofs.RareLemmas.{on_set, have_set, have_last}
 use Rattle.sedtext.proofs.rare.rare_of.Goals as goal
 
-pub returns-clause-rare : goal.returns-clause-rare
-returns-clause-rare c =
-    let last : c.index-root.result ≡ length c.args.expr.now.nodes - 1 = omega arith in
-    subst (λ x. AllRare (tree_at c.args.expr.now.nodes x) c.rare_from.result) last c.rare_from.ensures.rare
+pub loop-offset-preserved-in-OneOf : goal.loop-offset-preserved-in-OneOf
+loop-offset-preserved-in-OneOf c =
+    let nodes = c.args.expr.now.nodes in
+    let links = c.in-OneOf.ensures.links in
+    let goes = c.loop-offset.invariant.goes in
+    record {
+      inside = omega (arith, links.0);
+      grows = omega arith;
+      cost = omega (arith, links.0);
+      goes = on_set nodes (length nodes - 1) c.loop-offset.offset c.loop-offset.index goes c.in-OneOf.set c.in-OneOf.next links;
+      rare = c.with_set-rare.ensures (tree_at nodes (length nodes - 1)) c.loop-offset.invariant.rare
+          (have_set nodes (length nodes - 1) c.loop-offset.offset c.loop-offset.index goes c.in-OneOf.set c.in-OneOf.next links);
+    }
+
+pub returns-in-Last-clause-rare : goal.returns-in-Last-clause-rare
+returns-in-Last-clause-rare c =
+    let nodes = c.args.expr.now.nodes in
+    c.with_set.ensures (tree_at nodes (length nodes - 1)) c.loop-offset.invariant.rare
+    (have_last nodes (length nodes - 1) c.loop-offset.offset c.loop-offset.index c.loop-offset.invariant.goes c.in-Last.set c.in-Last.ensures.links)

@@ -1,11 +1,11 @@
-use Rattle.std.proofs.Common.{◌-◌, subst, arith}
-use Rattle.sedtext.specs.Rare.{HeldAt}
+use Rattle.std.proofs.Common.{◌-◌, IfSome, subst, arith}
+use Rattle.sedtext.specs.Rare.{StandsAt}
 use Rattle.sedtext.proofs.CountLemmas.{least_none, least_counted}
 use Rattle.sedtext.proofs.rare.Rare.pass.Goals as goal
 
 pub returns-in-Some-clause-missed : goal.returns-in-Some-clause-missed
 returns-in-Some-clause-missed c h low high at =
-    c.pass_apart.ensures.apart h low high at.0 (subst (λ held. HeldAt held c.args.text.now h) c.in-Some.is at.1)
+    c.pass_apart.ensures.apart h low high at.0 (subst (λ held. IfSome held (λ f. StandsAt f c.args.text.now h)) c.in-Some.is at.1)
 
 pub returns-then-not-self-clause-counts : goal.returns-then-not-self-clause-counts
 returns-then-not-self-clause-counts c = least_none c.args.steps.now (c.args.from - c.args.from) (omega arith)
