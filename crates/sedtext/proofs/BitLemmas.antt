@@ -63,20 +63,16 @@ clear_not words word low count x is some fits inside none all =
     let set = set_at words (64 * x + k) x k refl h.2 ∙ ap (λ v. eqb (bit_at v k) 1) (sym is) ∙ ap (λ v. eqb v 1) h.3 in
     true≢false (sym set ∙ all (64 * x + k) (omega arith))
 
+-- a bit of a word from a place on
+word_bit : (words : List ℕ) (at x k : ℕ) → k < 64 → IsTrue (is_set words (64 * at + (64 * x + k))) ↔ (bit_at (slice_index_or words (at + x) 0) k ≡ 1)
+word_bit words at x k lt =
+    let e = set_at words (64 * at + (64 * x + k)) (at + x) k (omega arith) lt in
+    (λ h. eqb-true (bit_at (slice_index_or words (at + x) 0) k) 1 (sym e ∙ h), λ h. e ∙ ap (λ v. eqb v 1) h)
+
 -- rows that have a bit in common
 module _ (words other : List ℕ) (at from count : ℕ) where
   abbrev pub Meet : ℕ → Type 0
   Meet c = (c < count) × IsTrue (is_set words (64 * at + c)) × IsTrue (is_set other (64 * from + c))
-
-  here : (x k : ℕ) → k < 64 → IsTrue (is_set words (64 * at + (64 * x + k))) ↔ (bit_at (slice_index_or words (at + x) 0) k ≡ 1)
-  here x k lt =
-      let e = set_at words (64 * at + (64 * x + k)) (at + x) k (omega arith) lt in
-      (λ h. eqb-true (bit_at (slice_index_or words (at + x) 0) k) 1 (sym e ∙ h), λ h. e ∙ ap (λ v. eqb v 1) h)
-
-  there : (x k : ℕ) → k < 64 → IsTrue (is_set other (64 * from + (64 * x + k))) ↔ (bit_at (slice_index_or other (from + x) 0) k ≡ 1)
-  there x k lt =
-      let e = set_at other (64 * from + (64 * x + k)) (from + x) k (omega arith) lt in
-      (λ h. eqb-true (bit_at (slice_index_or other (from + x) 0) k) 1 (sym e ∙ h), λ h. e ∙ ap (λ v. eqb v 1) h)
 
   pub meet_here : (x word two low : ℕ) → word ≡ slice_index_or words (at + x) 0 → two ≡ slice_index_or other (from + x) 0 → low ≢ 0 → low < 2 ^ 64 →
       ((i : ℕ) → i < count - 64 * x → bit_at low i ≡ bit_at (bit_and word two) i) → ((i : ℕ) → count - 64 * x ≤ i → bit_at low i ≡ 0) → (c : ℕ) × Meet c
@@ -90,8 +86,8 @@ module _ (words other : List ℕ) (at from count : ℕ) where
         64 * x + k,
         (
           omega arith,
-          (here x k h.2).1 (ap (λ v. bit_at v k) (sym is) ∙ one),
-          (there x k h.2).1 (ap (λ v. bit_at v k) (sym is_two) ∙ other_one),
+          (word_bit words at x k h.2).1 (ap (λ v. bit_at v k) (sym is) ∙ one),
+          (word_bit other from x k h.2).1 (ap (λ v. bit_at v k) (sym is_two) ∙ other_one),
         ),
       )
 
@@ -107,7 +103,7 @@ module _ (words other : List ℕ) (at from count : ℕ) where
       let e : c ≡ 64 * x + k = omega arith in
       let small : k < 64 = omega arith in
       let zero = sym (bit_at_and word two k) ∙ low_none low (bit_and word two) (count - 64 * x) k none inside (omega arith) in
-      let one = ap (λ v. bit_at v k) is ∙ (here x k small).0 (subst (λ v. IsTrue (is_set words (64 * at + v))) e met.1) in
-      let other_one = ap (λ v. bit_at v k) is_two ∙ (there x k small).0 (subst (λ v. IsTrue (is_set other (64 * from + v))) e met.2) in
+      let one = ap (λ v. bit_at v k) is ∙ (word_bit words at x k small).0 (subst (λ v. IsTrue (is_set words (64 * at + v))) e met.1) in
+      let other_one = ap (λ v. bit_at v k) is_two ∙ (word_bit other from x k small).0 (subst (λ v. IsTrue (is_set other (64 * from + v))) e met.2) in
       omega (arith, zero, one, other_one))
       (cases_lt c (64 * x))

@@ -61,7 +61,14 @@ impl Rows {
         ensures cost { Takes steps.old steps.new count }
         ensures counts { TakesExactly steps.old steps.new count }
     {
-        self.load_marks(row, &mut marks.marks, count, steps);
+        steps.add(count);
+        copy_words(
+            &mut marks.marks.words,
+            0,
+            &self.words,
+            self.width * row,
+            count.div_ceil(64),
+        );
     }
 
     /// Copies the first `count` of `marks` into a row, a word at a time; those after them in the row may change too.
@@ -148,27 +155,6 @@ impl Rows {
             other.width * other_row,
             count,
         )
-    }
-
-    /// Copies the first `count` marks of a row into `marks`, a word at a time; those after them may change too.
-    /// Counts a look for each of the `count`.
-    fn load_marks(&self, row: usize, marks: &mut Marks, count: usize, steps: &mut Steps)
-        requires row { row < length self.now }
-        requires inside { count ≤ length (row_of self.now row) }
-        requires there { count ≤ length marks.old }
-        ensures len { length marks.new ≡ length marks.old }
-        ensures same { AgreeBelow count marks.new (row_of self.now row) }
-        ensures cost { Takes steps.old steps.new count }
-        ensures counts { TakesExactly steps.old steps.new count }
-    {
-        steps.add(count);
-        copy_words(
-            &mut marks.words,
-            0,
-            &self.words,
-            self.width * row,
-            count.div_ceil(64),
-        );
     }
 }
 

@@ -4,15 +4,6 @@ use Rattle.sedtext.specs.Beginnings.{left_part}
 use Rattle.sedtext.proofs.BeginningLemmas.{first_part}
 use Rattle.sedtext.proofs.beginnings.left_leaf.Goals as goal
 
-pub loop-part-init : goal.loop-part-init
-loop-part-init c = record {
-  inside = c.requires.inside;
-  below = omega arith;
-  grows = omega arith;
-  cost = omega arith;
-  first = λ w i j at. (j, at);
-}
-
 pub loop-part-smaller : goal.loop-part-smaller
 loop-part-smaller c =
     let is : slice_get c.args.expr.now.nodes c.loop-part.index ≡ Some c.look-node.result = cc in
@@ -31,9 +22,3 @@ loop-part-preserved c =
       cost = omega (arith, first.0);
       first = λ w i j at. let more = c.loop-part.invariant.first w i j at in first.1 w i more.0 more.1;
     }
-
-pub returns-in-None-clause-leaf : goal.returns-in-None-clause-leaf
-returns-in-None-clause-leaf c =
-    let is : slice_get c.args.expr.now.nodes c.loop-part.index ≡ Some c.look-node.result = cc in
-    let none : left_part c.look-node.result ≡ None = sym c.left_part.ensures ∙ c.in-None.is in
-    (c.loop-part.index, is, c.loop-part.invariant.below, none, c.loop-part.invariant.first)

@@ -4,9 +4,6 @@ use Rattle.sedtext.proofs.CountLemmas.{least_later}
 use Rattle.sedtext.proofs.RareLemmas.{rare_narrowed, rare_paid}
 use Rattle.sedtext.proofs.hints.Hints.first_place.Goals as goal
 
-pub find-requires : goal.find-requires
-find-requires c = record { from = c.in_ok-place.ensures.lies.1 }
-
 pub returns-in-None-clause-place : goal.returns-in-None-clause-place
 returns-in-None-clause-place c e are = c.in_ok-place.ensures.narrowed e are.0
 

@@ -37,16 +37,6 @@ pub returns-clause-first : goal.returns-clause-first
 returns-clause-first c =
     rare_none c.args.self.now c.args.text.now c.args.from c.loop-start.place c.loop-start.invariant.missed c.in_default.ensures.first
 
-pub loop-start-init : goal.loop-start-init
-loop-start-init c = record {
-  grows = omega (arith, c.pass-place.ensures.cost.0);
-  after = c.pass-place.ensures.after;
-  within = c.pass-place.ensures.within;
-  cost = omega (arith, c.pass-place.ensures.cost.1);
-  counts = c.pass-place.ensures.counts;
-  missed = c.pass-place.ensures.missed;
-}
-
 pub holds-requires : goal.holds-requires
 holds-requires c =
     let inside = fixed_inside c.args.self.now.sought c.args.text.now c.in-Some.start c.in-Some.ensures.first.1 in

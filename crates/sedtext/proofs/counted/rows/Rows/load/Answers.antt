@@ -1,7 +1,8 @@
 use Rattle.std.proofs.Common.{◌≡◌, ◌+◌, ◌≤◌, ◌∙◌, false, length, sym, ap, arith}
-use Rattle.std.specs.Prelude.{slice_index_or}
+use Rattle.std.specs.Prelude.{slice_index_or, vec_len}
+use Rattle.sedtext.specs.declared.counted.node_marks.NodeMarks.TheInside.{Inside}
 use Rattle.sedtext.proofs.WordLemmas.{length-marks_of, row_seen, marks_seen, words_there, row_agrees}
-use Rattle.sedtext.proofs.counted.rows.Rows.load_marks.Goals as goal
+use Rattle.sedtext.proofs.counted.rows.Rows.load.Goals as goal
 
 pub overflow_mul-self-inside : goal.overflow_mul-self-inside
 overflow_mul-self-inside c =
@@ -9,17 +10,22 @@ overflow_mul-self-inside c =
     omega (arith, there, c.self.inside.words.ok)
 
 pub copy_words-requires-clause-inside : goal.copy_words-requires-clause-inside
-copy_words-requires-clause-inside c = omega (arith, ap length c.marks.view_is, length-marks_of c.marks.inside.words.items c.marks.inside.count, c.marks.invariant, c.requires.there, c.marks.inside.words.ok)
+copy_words-requires-clause-inside c =
+    let n = c.marks-inside.inside.0.0.count in
+    let room : n ≡ 65536 = sym (length-marks_of c.marks-inside.inside.0.0.words.items n) ∙ ap (λ (v : Inside). length v.marks) c.marks-inside.view_is ∙ c.marks.invariant in
+    let fits : 0 + c.div_ceil.result ≤ vec_len c.marks-inside.inside.0.0.words = omega (arith, room, c.marks-inside.invariant, c.requires.there, c.marks-inside.inside.0.0.words.ok) in
+    fits
 
 pub copy_words-requires-clause-there : goal.copy_words-requires-clause-there
 copy_words-requires-clause-there c =
     let there = words_there c.self.inside.words.items c.self.inside.width c.self.inside.marks c.self.inside.count c.args.self.now c.self.view_is c.self.invariant.0 c.self.invariant.1 c.args.row c.args.count c.requires.row c.requires.inside in
     omega (arith, there)
 
-pub returns-clause-len : goal.returns-clause-len
-returns-clause-len c =
-    let n = c.marks.inside.count in
-    length-marks_of c.copy_words.new.words.items n ∙ sym (length-marks_of c.marks.inside.words.items n) ∙ ap length c.marks.view_is
+pub invariant_of-marks : goal.invariant_of-marks
+invariant_of-marks c =
+    let n = c.marks-inside.inside.0.0.count in
+    let room : n ≡ 65536 = sym (length-marks_of c.marks-inside.inside.0.0.words.items n) ∙ ap (λ (v : Inside). length v.marks) c.marks-inside.view_is ∙ c.marks.invariant in
+    length-marks_of c.copy_words.new.words.items n ∙ room
 
 pub returns-clause-same : goal.returns-clause-same
 returns-clause-same c k lt =
@@ -27,10 +33,11 @@ returns-clause-same c k lt =
     let words = c.self.inside.words.items in
     let marks = c.self.inside.marks in
     let row = c.args.row in
-    let n = c.marks.inside.count in
+    let n = c.marks-inside.inside.0.0.count in
+    let room : n ≡ 65536 = sym (length-marks_of c.marks-inside.inside.0.0.words.items n) ∙ ap (λ (v : Inside). length v.marks) c.marks-inside.view_is ∙ c.marks.invariant in
     let all = marks_seen c.self.inside.words.items c.self.inside.width c.self.inside.marks c.self.inside.count c.args.self.now c.self.view_is c.self.invariant.0 c.self.invariant.1 row c.requires.row in
     let low : c.args.count ≤ marks = omega (arith, all, c.requires.inside) in
-    let high : c.args.count ≤ n = omega (arith, ap length c.marks.view_is, length-marks_of c.marks.inside.words.items n, c.requires.there) in
+    let high : c.args.count ≤ n = omega (arith, room, c.requires.there) in
     sym (row_agrees words c.copy_words.new.words.items width marks n row c.args.count low high
     (λ x near inside.
     let same = c.copy_words.ensures.same x (omega arith) in
