@@ -254,19 +254,6 @@ impl Marks {
         let word = put_bit(self.words[i / 64], i % 64, mark);
         self.words[i / 64] = word;
     }
-
-    /// Takes the first `count` marks away, a word at a time; those after them may go too.
-    /// Counts a look for each of the `count`.
-    pub fn clear(&mut self, count: usize, steps: &mut Steps)
-        requires inside { count ≤ length self.old }
-        ensures len { length self.new ≡ length self.old }
-        ensures clear { (c : ℕ) → c < count → slice_index_or self.new c false ≡ false }
-        ensures cost { Takes steps.old steps.new count }
-        ensures counts { TakesExactly steps.old steps.new count }
-    {
-        steps.add(count);
-        clear_words(&mut self.words, count.div_ceil(64));
-    }
 }
 
 /// `count` words without a mark.

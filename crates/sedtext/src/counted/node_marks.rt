@@ -2,7 +2,7 @@
 ghost use Rattle.std.specs.Prelude.{◌≡◌, ℕ, Bool, false, List, ◌<◌, ◌≤◌, length, slice_index_or, slice_set, IsTrue, ◌↔◌};
 ghost use Rattle.sedre.specs.Steps.{Takes, TakesExactly};
 
-use super::{Marks, are_clear, digest_words};
+use super::{Marks, are_clear, clear_words, digest_words};
 use sedre::Steps;
 use std::alloc::{AllocError, Global};
 use std::marker::Model;
@@ -77,7 +77,8 @@ impl NodeMarks {
         ensures cost { Takes steps.old steps.new count }
         ensures counts { TakesExactly steps.old steps.new count }
     {
-        self.marks.clear(count, steps);
+        steps.add(count);
+        clear_words(&mut self.marks.words, count.div_ceil(64));
     }
 
     /// Whether none of the first `count` marks is set, a word at a time. Counts a look for each of the `count`.
