@@ -1,64 +1,47 @@
 -- A few bytes with which matches begin.
-use Rattle.std.proofs.Common.{◌≡◌, ℕ, ◌+◌, ◌-◌, ◌<◌, ◌≤◌, ◌↔◌, ◌⊎◌, ◌||◌, Bool, true, List, length, take, drop, Option, Some, None, refl, sym, ap, ◌∙◌, inl, inr, ⊎_elim, arith, length-drop}
+use Rattle.std.proofs.Common.{◌≡◌, ℕ, ◌+◌, ◌-◌, ◌<◌, ◌≤◌, ◌↔◌, ◌⊎◌, ◌||◌, Bool, IsTrue, List, length, take, drop, Option, Some, None, refl, sym, ap, ◌∙◌, inl, inr, ⊎_elim, arith, length-drop}
 use Rattle.std.specs.Prelude.{slice_index, eqb}
-use Rattle.std.proofs.lemmas.Bool.{eqb-true, eq-eqb, or_left, or_right, or_cases}
 use Rattle.std.proofs.lemmas.List.{take_rest, get_or-drop}
 use Rattle.std.proofs.lemmas.Option.{slice_get_within, get_or_from_slice_get, slice_get-get_or}
 use Rattle.memchr.specs.Find.{Passes, IsFirstByte, is_byte, is_byte2, is_byte3}
 use Rattle.sedtext.specs.Bytes.{FirstAt}
 use Rattle.sedtext.specs.Spans.{IsIn}
 use Rattle.sedtext.specs.Few.{HasFew, FewAt, FirstFew, Gathered}
+use Rattle.sedtext.proofs.MatchingLemmas.{either-iff, equal-iff}
 use Rattle.sedtext.specs.declared.counted.few.Few.{Few}
 use Rattle.sedtext.specs.declared.counted.few.Few.TheVariants.{One, Two, Three}
 
 -- a test of bytes that is passed by the few alone
-module _ (few : Few) (test : ℕ → Bool) (yes : (c : ℕ) → HasFew few c → test c ≡ true) (no : (c : ℕ) → test c ≡ true → HasFew few c) (hay : List ℕ) where
+module _ (few : Few) (test : ℕ → Bool) (is : (c : ℕ) → IsTrue (test c) ↔ HasFew few c) (hay : List ℕ) where
   passes_at : (k : ℕ) → FewAt few hay k → Passes test hay k
-  passes_at k at = ap test (get_or_from_slice_get hay k at.0 0 at.1) ∙ yes at.0 at.2
+  passes_at k at = ap test (get_or_from_slice_get hay k at.0 0 at.1) ∙ (is at.0).1 at.2
 
   pub few_first : (r : Option ℕ) → IsFirstByte test hay r → FirstFew few hay 0 r
   few_first None none = λ k low at. none k low (let inside = slice_get_within hay k at.0 at.1 in inside) (passes_at k at)
   few_first (Some k) first = (
     omega arith,
-    (slice_index hay k, slice_get-get_or hay k 0 first.0.high, no (slice_index hay k) first.1),
+    (slice_index hay k, slice_get-get_or hay k 0 first.0.high, (is (slice_index hay k)).0 first.1),
     λ h low lt at. first.0.before h low lt (passes_at h at),
   )
 
-one_yes : (a c : ℕ) → HasFew (One a) c → is_byte a c ≡ true
-one_yes a c has = eq-eqb c a has
+two_iff : (a b c : ℕ) → IsTrue (is_byte2 a b c) ↔ HasFew (Two a b) c
+two_iff a b c = either-iff (eqb c a) (eqb c b) (c ≡ a) (c ≡ b) (equal-iff c a) (equal-iff c b)
 
-one_no : (a c : ℕ) → is_byte a c ≡ true → HasFew (One a) c
-one_no a c passes = eqb-true c a passes
-
-two_yes : (a b c : ℕ) → HasFew (Two a b) c → is_byte2 a b c ≡ true
-two_yes a b c has = ⊎_elim (λ (e : c ≡ a). or_left (eqb c a) (eqb c b) (eq-eqb c a e)) (λ (e : c ≡ b). or_right (eqb c a) (eqb c b) (eq-eqb c b e)) has
-
-two_no : (a b c : ℕ) → is_byte2 a b c ≡ true → HasFew (Two a b) c
-two_no a b c passes = ⊎_elim (λ (e : eqb c a ≡ true). inl (eqb-true c a e)) (λ (e : eqb c b ≡ true). inr (eqb-true c b e)) (or_cases (eqb c a) (eqb c b) passes)
-
-three_yes : (a b d c : ℕ) → HasFew (Three a b d) c → is_byte3 a b d c ≡ true
-three_yes a b d c has =
-    ⊎_elim (λ (e : c ≡ a). or_left (eqb c a || eqb c b) (eqb c d) (or_left (eqb c a) (eqb c b) (eq-eqb c a e)))
-    (λ (rest : (c ≡ b) ⊎ (c ≡ d)).
-    ⊎_elim (λ (e : c ≡ b). or_left (eqb c a || eqb c b) (eqb c d) (or_right (eqb c a) (eqb c b) (eq-eqb c b e)))
-    (λ (e : c ≡ d). or_right (eqb c a || eqb c b) (eqb c d) (eq-eqb c d e)) rest) has
-
-three_no : (a b d c : ℕ) → is_byte3 a b d c ≡ true → HasFew (Three a b d) c
-three_no a b d c passes =
-    ⊎_elim
-    (λ (first : (eqb c a || eqb c b) ≡ true).
-    ⊎_elim (λ (e : eqb c a ≡ true). inl (eqb-true c a e)) (λ (e : eqb c b ≡ true). inr (inl (eqb-true c b e))) (or_cases (eqb c a) (eqb c b) first))
-    (λ (e : eqb c d ≡ true). inr (inr (eqb-true c d e)))
-    (or_cases (eqb c a || eqb c b) (eqb c d) passes)
+three_iff : (a b d c : ℕ) → IsTrue (is_byte3 a b d c) ↔ HasFew (Three a b d) c
+three_iff a b d c =
+    let is = either-iff (eqb c a || eqb c b) (eqb c d) ((c ≡ a) ⊎ (c ≡ b)) (c ≡ d) (two_iff a b c) (equal-iff c d) in (
+      λ h. ⊎_elim (λ (l : (c ≡ a) ⊎ (c ≡ b)). ⊎_elim (λ (e : c ≡ a). inl e) (λ (e : c ≡ b). inr (inl e)) l) (λ (e : c ≡ d). inr (inr e)) (is.0 h),
+      λ h. is.1 (⊎_elim (λ (e : c ≡ a). inl (inl e)) (λ (r : (c ≡ b) ⊎ (c ≡ d)). ⊎_elim (λ (e : c ≡ b). inl (inr e)) (λ (e : c ≡ d). inr e) r) h),
+    )
 
 pub one_first : (a : ℕ) (hay : List ℕ) (r : Option ℕ) → IsFirstByte (is_byte a) hay r → FirstFew (One a) hay 0 r
-one_first a hay r first = few_first (One a) (is_byte a) (one_yes a) (one_no a) hay r first
+one_first a hay r first = few_first (One a) (is_byte a) (λ c. equal-iff c a) hay r first
 
 pub two_first : (a b : ℕ) (hay : List ℕ) (r : Option ℕ) → IsFirstByte (is_byte2 a b) hay r → FirstFew (Two a b) hay 0 r
-two_first a b hay r first = few_first (Two a b) (is_byte2 a b) (two_yes a b) (two_no a b) hay r first
+two_first a b hay r first = few_first (Two a b) (is_byte2 a b) (two_iff a b) hay r first
 
 pub three_first : (a b d : ℕ) (hay : List ℕ) (r : Option ℕ) → IsFirstByte (is_byte3 a b d) hay r → FirstFew (Three a b d) hay 0 r
-three_first a b d hay r first = few_first (Three a b d) (is_byte3 a b d) (three_yes a b d) (three_no a b d) hay r first
+three_first a b d hay r first = few_first (Three a b d) (is_byte3 a b d) (three_iff a b d) hay r first
 
 -- the first place of one byte
 pub byte_first : (w : List ℕ) (byte p : ℕ) (r : Option ℕ) → FirstFew (One byte) w p r → FirstAt w byte p r

@@ -12,6 +12,7 @@ use Rattle.sedtext.specs.Reach.{IsLongestFrom}
 use Rattle.sedtext.specs.Matching.{any, greatest, copies, byte_is_in, spans, longest, first_of, found_from, found, cut, first_copy, last_start, groups_after, report}
 use Rattle.sedtext.specs.MatchingLaws.{SpansLaw, FoundLaw, NotFoundLaw, SomeFoundLaw, OneCapsLaw, CapsLaw, ReportLaw}
 use Rattle.sedtext.proofs.SpanLemmas.{CopiesLead-forward, Matches-forward, Matches-within}
+use Rattle.sedtext.proofs.ReachLemmas.{takes_some}
 use Rattle.sedtext.proofs.CapsLemmas.{Captures-unique}
 
 any-some : (test : ℕ → Bool) (n : ℕ) → any test n ≡ true → (k : ℕ) × (k < n) × (test k ≡ true)
@@ -131,10 +132,6 @@ module _ (step : ℕ → ℕ → Bool) (R : ℕ → ℕ → Type 0) (each : (i k
       (cases_Bool (ltb k j)))
       (cases_lt k j)
 
-byte_is_in-some : (has : List Bool) (byte : Option ℕ) → byte_is_in byte has ≡ true → (b : ℕ) × (byte ≡ Some b) × (slice_index_or has b false ≡ true)
-byte_is_in-some has None h = absurd (true≢false (sym h))
-byte_is_in-some has (Some b) h = (b, refl, h)
-
 -- a test of two parts
 both-iff : (x y : Bool) (P Q : Type 0) → (IsTrue x ↔ P) → (IsTrue y ↔ Q) → IsTrue (x && y) ↔ (P × Q)
 both-iff x y P Q left right = (
@@ -142,13 +139,13 @@ both-iff x y P Q left right = (
   λ h. and_from x y (left.1 h.0) (right.1 h.1),
 )
 
-either-iff : (x y : Bool) (P Q : Type 0) → (IsTrue x ↔ P) → (IsTrue y ↔ Q) → IsTrue (x || y) ↔ (P ⊎ Q)
+pub either-iff : (x y : Bool) (P Q : Type 0) → (IsTrue x ↔ P) → (IsTrue y ↔ Q) → IsTrue (x || y) ↔ (P ⊎ Q)
 either-iff x y P Q left right = (
   λ h. ⊎_elim (λ (l : x ≡ true). inl (left.0 l)) (λ (r : y ≡ true). inr (right.0 r)) (or_cases x y h),
   λ h. ⊎_elim (λ (l : P). or_left x y (left.1 l)) (λ (r : Q). or_right x y (right.1 r)) h,
 )
 
-equal-iff : (i j : ℕ) → IsTrue (eqb i j) ↔ (i ≡ j)
+pub equal-iff : (i j : ℕ) → IsTrue (eqb i j) ↔ (i ≡ j)
 equal-iff i j = (eqb-true i j, eq-eqb i j)
 
 pub spans-iff : SpansLaw
@@ -156,7 +153,7 @@ unfolding spans
 spans-iff empty w i j = equal-iff i j
 spans-iff (set has) w i j = (
   λ h. let both = and_parts (byte_is_in (slice_get w i) has) (eqb j (i + 1)) h in
-      let byte = byte_is_in-some has (slice_get w i) both.0 in
+      let byte = takes_some (slice_get w i) has both.0 in
       (byte.0, byte.1, byte.2, eqb-true j (i + 1) both.1),
   λ h. and_from (byte_is_in (slice_get w i) has) (eqb j (i + 1)) (ap (λ b. byte_is_in b has) h.1 ∙ h.2) (eq-eqb j (i + 1) h.3),
 )
@@ -332,7 +329,7 @@ choose : (P : Groups → Type 0) (b : Bool) (x y : Groups) → (b ≡ true → P
 choose P true x y holds fails = holds refl
 choose P false x y holds fails = fails refl
 
-LastCopy-copy : (R : ℕ → ℕ → Type 0) (j i c : ℕ) → LastCopy R j i c → R c j
+pub LastCopy-copy : (R : ℕ → ℕ → Type 0) (j i c : ℕ) → LastCopy R j i c → R c j
 LastCopy-copy R j i c (only _ lt r) = r
 LastCopy-copy R j i c (then _ k _ up low r rest most last) = LastCopy-copy R j k c last
 

@@ -8,6 +8,7 @@ use Rattle.sedtext.specs.Spans.{Matches}
 use Rattle.sedtext.specs.Caps.{Captures, LastCopy, only, then, IsReport}
 use Rattle.sedtext.specs.Groups.{Groups, forget, no_groups, span_of}
 use Rattle.sedtext.specs.Answer.{SpanIn}
+use Rattle.sedtext.proofs.MatchingLemmas.{LastCopy-copy}
 use Rattle.sedtext.proofs.SpanLemmas.{Matches-forward}
 
 -- all spans lie in a text of n bytes
@@ -32,11 +33,6 @@ Lie-forget n (star a first) g old = Lie-forget n a g old
 Lie-forget n (opt a first) g old = Lie-forget n a g old
 Lie-forget n _ g old = old
 
--- the last copy ends where the whole does
-LastCopy-ends : (R : ℕ → ℕ → Type 0) (j i c : ℕ) → LastCopy R j i c → c ≤ j
-LastCopy-ends R j i c (only _ lt r) = omega arith
-LastCopy-ends R j i c (then _ k _ up low r rest most last) = LastCopy-ends R j k c last
-
 pub Captures-lie : (n : ℕ) (e : Tree) (w : List ℕ) (i j : ℕ) (old new : Groups) → i ≤ j → j ≤ n → Captures e w i j old new → Lie n old → Lie n new
 Captures-lie n (seq a b) w i j old new up high h lie =
     let left = Matches-forward a w i h.0 h.1.left in
@@ -50,7 +46,7 @@ Captures-lie n (alt a b) w i j old new up high h lie =
 Captures-lie n (group k a) w i j old new up high h lie =
     subst (Lie n) (sym h.2) (Lie-set n h.0 k (Some (i, j)) (up, high) (Captures-lie n a w i j (forget (group k a) old) h.0 up high h.1 (Lie-forget n (group k a) old lie)))
 Captures-lie n (star a first) w i j old new up high (inl h) lie =
-    Captures-lie n a w h.1.0 j (forget a old) new (LastCopy-ends (Matches a w) j i h.1.0 h.1.1) high h.1.2 (Lie-forget n a old lie)
+    Captures-lie n a w h.1.0 j (forget a old) new (Matches-forward a w h.1.0 j (LastCopy-copy (Matches a w) j i h.1.0 h.1.1)) high h.1.2 (Lie-forget n a old lie)
 Captures-lie n (star a first) w i j old new up high (inr (inl h)) lie =
     Captures-lie n a w i i (forget a old) new (omega arith) (omega arith) h.3 (Lie-forget n a old lie)
 Captures-lie n (star a first) w i j old new up high (inr (inr h)) lie = subst (Lie n) (sym h.1.1) lie
