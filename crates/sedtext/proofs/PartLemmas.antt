@@ -5,7 +5,7 @@ use Rattle.std.proofs.lemmas.Bool.{cases_lt, cases_eq}
 use Rattle.std.proofs.lemmas.List.{get_or-set_same, get_or-set_other, set_past}
 use Rattle.sedre.specs.Tree.{Tree, seq, alt, group, star, opt}
 use Rattle.sedtext.specs.Spans.{Matches}
-use Rattle.sedtext.specs.Caps.{Captures, LastCopy, only, then, IsReport}
+use Rattle.sedtext.specs.Caps.{Captures, IsReport}
 use Rattle.sedtext.specs.Groups.{Groups, forget, no_groups, span_of}
 use Rattle.sedtext.specs.Answer.{SpanIn}
 use Rattle.sedtext.proofs.MatchingLemmas.{LastCopy-copy}

@@ -5,7 +5,7 @@ use Rattle.memchr.specs.Find.{OccursAt}
 use Rattle.sedre.specs.Tree.{Tree}
 use Rattle.sedre.specs.declared.types.Node.{Node}
 use Rattle.sedtext.specs.Bytes.{FirstFrom}
-use Rattle.sedtext.specs.Spans.{Matches, NotFound, IsIn}
+use Rattle.sedtext.specs.Spans.{Matches, NotFound}
 use Rattle.sedtext.specs.Reach.{At}
 use Rattle.sedtext.specs.Beginnings.{CanBegin, NoneIn}
 use Rattle.sedtext.specs.declared.beginnings.Begins.TheVariants.{WithSet}

@@ -64,12 +64,7 @@ impl Fixed {
         ensures stands { IsTrue result ↔ StandsAt self.now text.now place }
         ensures cost { Takes steps.old steps.new 1 }
     {
-        if self.offset < text.len() - place {
-            let byte = text.byte(place + self.offset, steps);
-            self.few.has(byte)
-        } else {
-            false
-        }
+        self.offset < text.len() - place && self.few.has(text.byte(place + self.offset, steps))
     }
 
     /// The first place from `from` on after which one of them stands at the distance, if there is one.
@@ -120,12 +115,9 @@ impl Rare {
         ensures cost { CostsWithin steps.old steps.new (2 * result) (2 * from) }
         ensures counts { TakesAtLeast steps.old steps.new (result - from) }
     {
-        if !self.often {
-            return from;
-        }
         match &self.held {
-            None => from,
-            Some(held) => pass_apart(text, &self.sought, held, from, steps),
+            Some(held) if self.often => pass_apart(text, &self.sought, held, from, steps),
+            _ => from,
         }
     }
 
