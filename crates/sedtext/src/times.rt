@@ -3,7 +3,7 @@
 //!
 //! The last of these bytes is looked at first. Where it isn't in the set, no match begins before it, and those before
 //! it aren't looked at: where such bytes are rare, most of a text is passed over unseen.
-ghost use Rattle.std.specs.Prelude.{◌≡◌, ◌+◌, ◌<◌, ◌≤◌, ◌-◌, length, Some, IfOk, IfSome, IsTrue};
+ghost use Rattle.std.specs.Prelude.{◌≡◌, ◌+◌, ◌<◌, ◌≤◌, ◌-◌, length, IfOk, IfSome, IsTrue};
 ghost use Rattle.sedtext.specs.Times.{SameBytes, AllTimes, AreWidths, FirstTimes, passed_times};
 ghost use Rattle.sedtext.specs.Costs.{CostsWithin};
 ghost use Rattle.sedre.specs.Steps.{Takes, TakesAtLeast};

@@ -1,5 +1,5 @@
 //! Up to three bytes, one of which is sought.
-ghost use Rattle.std.specs.Prelude.{◌≡◌, ℕ, ◌<◌, ◌↔◌, ◌⊎◌, IfSome, IsTrue};
+ghost use Rattle.std.specs.Prelude.{◌≡◌, ℕ, ◌↔◌, ◌⊎◌, IfSome, IsTrue};
 ghost use Rattle.sedtext.specs.Few.{AreMembers, Gathered, HasFew, HasZeros, FirstFew};
 ghost use Rattle.sedtext.specs.declared.counted.few.Few.TheVariants.{Two, Three};
 

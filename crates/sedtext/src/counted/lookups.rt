@@ -1,5 +1,5 @@
 //! Where few bytes and literals stand in a text, by calls that count.
-ghost use Rattle.std.specs.Prelude.{◌+◌, ◌-◌, ◌*◌, ◌<◌, ◌≤◌, length};
+ghost use Rattle.std.specs.Prelude.{◌-◌, ◌*◌, ◌≤◌, length};
 ghost use Rattle.sedtext.specs.Bytes.{looked_at};
 ghost use Rattle.sedtext.specs.Few.{FirstFew};
 ghost use Rattle.sedtext.specs.Needed.{FirstLiteral, passed_to};

@@ -2,7 +2,7 @@
 //! none of the literals stands there.
 ghost use Rattle.std.specs.Prelude.{◌≡◌, ℕ, ◌+◌, ◌^◌, ◌<◌, ◌≤◌, length, slice_get, IfOk, IfSome, Some};
 ghost use Rattle.std.specs.Int.{bit_at};
-ghost use Rattle.sedtext.specs.Choice.{AreHeads, ChoiceAt, FirstChoice};
+ghost use Rattle.sedtext.specs.Choice.{AreHeads, FirstChoice};
 ghost use Rattle.sedtext.specs.Few.{ZerosWhere};
 ghost use Rattle.sedtext.specs.Openings.{FirstWithin, NextBit, OpenLiterals, OpensAt, OpensIn, PairIn};
 

@@ -4,7 +4,7 @@ ghost use Rattle.sedtext.specs.Words.{AgreeBelow, rows_of, row_of};
 ghost use Rattle.sedre.specs.Steps.{Takes, TakesExactly};
 ghost use Rattle.sedre.specs.Words.{is_set};
 
-use super::{Marks, NodeMarks, has_bit, lowest, zero_words};
+use super::{NodeMarks, has_bit, lowest, zero_words};
 use sedre::Steps;
 use std::alloc::{AllocError, Global};
 use std::marker::Model;
