@@ -1,11 +1,9 @@
 -- The groups that are told to be due, as the state of a decision; what nodes and regions cost.
 use Rattle.std.proofs.Common.{◌≡◌, ℕ, zero, suc, ◌+◌, ◌-◌, ◌*◌, ◌<◌, ◌≤◌, ◌↔◌, ◌&&◌, not, Bool, true, false, List, [], ◌∷◌, length, Option, None, Some, IsTrue, refl, sym, ap, ◌∙◌, subst, inl, inr, ⊎_elim, true≢false, arith, mul-le-mul_left}
-use Rattle.std.specs.Prelude.{IfSome, cond, eqb, nat_lt, slice_get, slice_set, slice_index_or, vec_capacity}
+use Rattle.std.specs.Prelude.{IfSome, cond, eqb, nat_lt, slice_get, slice_set, slice_index_or, replicate, vec_capacity}
 use Rattle.std.specs.Int.{bit_at}
-use Rattle.std.proofs.lemmas.Bool.{and_parts, and_from, or_cases, or_left, or_right, cases_Bool, cases_eq, cases_lt, eqb-true, eq-eqb, lt-ltb, le-ltb}
-use Rattle.std.proofs.lemmas.Bool.Decides.{eqb_tells}
-use Rattle.std.proofs.lemmas.List.{get_or-set_other, length-set}
-use Rattle.std.proofs.Math.Dec.{ltb}
+use Rattle.std.proofs.lemmas.Bool.{and_parts, and_from, or_cases, or_left, or_right, cases_Bool, cases_eq, cases_lt, lt-ltb, le-ltb}
+use Rattle.std.proofs.lemmas.List.{length-set}
 use Rattle.std.proofs.Math.Nat.{mul-le-mul_right}
 use Rattle.sedre.specs.Tree.{Tree, empty, set, begin, end, seq, alt, group, star, opt, WrittenExpression, tree_at, expression_tree}
 use Rattle.sedre.specs.Arena.{IsExpr, IsPart, AreRanges}
@@ -38,16 +36,14 @@ use Rattle.sedpass.proofs.OwedLemmas.{owed_small}
 use Rattle.sedpass.proofs.LengthLemmas.{all_long, copies_long}
 use Rattle.sedpass.proofs.MeetingLemmas.{set_early}
 use Rattle.sedpass.specs.Groups.{reported, holds, has_group}
-use Rattle.sedpass.specs.Walks.{is_due, settle, drop_groups, GroupStandsIn, NoneDue, IsStart}
+use Rattle.sedpass.specs.Walks.{settle, drop_groups, GroupStandsIn, NoneDue, IsStart}
 use Rattle.sedpass.specs.Lengths.{AllLong}
 use Rattle.sedpass.specs.Prepared.{IsFacts, nullable, null_in, is_set, run_of}
 use Rattle.sedpass.specs.Turns.{Blank}
 use Rattle.sedpass.specs.declared.group_set.GroupSet.{GroupSet}
 use Rattle.sedpass.specs.declared.nodes.Facts.{Facts}
 use Rattle.sedpass.specs.declared.nodes.Kind.{Kind}
-use Rattle.sedpass.proofs.OverlayLemmas.{make-state, settle-due, settle-not, none_there}
-use Rattle.sedpass.proofs.TurnLemmas.{closed, same_bools, drop_as}
-use Rattle.sedpass.proofs.WalkLemmas.{copy_spans}
+use Rattle.sedpass.proofs.OneGroupLemmas.{copy_spans, deed, drop_as, has_told, left, same_bools, same_state, set_due, settle-due, settle-not}
 
 -- an entry of the flags
 pub flags_at : (s : GroupSet) (k : ℕ) → slice_index_or (flags_of s) k false ≡ holds s k
@@ -64,32 +60,6 @@ flags_at s (suc (suc (suc (suc (suc (suc (suc (suc (suc zero))))))))) = refl
 flags_at s (suc (suc (suc (suc (suc (suc (suc (suc (suc (suc k)))))))))) =
     let n : ℕ = suc (suc (suc (suc (suc (suc (suc (suc (suc (suc k))))))))) in
     sym (ap (λ b. b && eqb (bit_at s.bits n) 1) (le-ltb n 10 (omega arith)))
-
--- whether a group stands in the expression
-pub has_told : (t : Tree) (k : ℕ) → GroupStandsIn t k → has_group t k ≡ true
-has_told empty k has = absurd has
-has_told (set members) k has = absurd has
-has_told begin k has = absurd has
-has_told end k has = absurd has
-has_told (seq a b) k (inl has) = or_left (has_group a k) (has_group b k) (has_told a k has)
-has_told (seq a b) k (inr has) = or_right (has_group a k) (has_group b k) (has_told b k has)
-has_told (alt a b) k (inl has) = or_left (has_group a k) (has_group b k) (has_told a k has)
-has_told (alt a b) k (inr has) = or_right (has_group a k) (has_group b k) (has_told b k has)
-has_told (group n a) k (inl same) = or_left (eqb n k) (has_group a k) (eq-eqb n k same)
-has_told (group n a) k (inr has) = or_right (eqb n k) (has_group a k) (has_told a k has)
-has_told (star a first) k has = has_told a k has
-has_told (opt a first) k has = has_told a k has
-
-pub told_has : (t : Tree) (k : ℕ) → has_group t k ≡ true → GroupStandsIn t k
-told_has empty k is = absurd (true≢false (sym is))
-told_has (set members) k is = absurd (true≢false (sym is))
-told_has begin k is = absurd (true≢false (sym is))
-told_has end k is = absurd (true≢false (sym is))
-told_has (seq a b) k is = elim (or_cases (has_group a k) (has_group b k) is) [ inl l ↦ inl (told_has a k l) | inr r ↦ inr (told_has b k r) ]
-told_has (alt a b) k is = elim (or_cases (has_group a k) (has_group b k) is) [ inl l ↦ inl (told_has a k l) | inr r ↦ inr (told_has b k r) ]
-told_has (group n a) k is = elim (or_cases (eqb n k) (has_group a k) is) [ inl l ↦ inl (eqb-true n k l) | inr r ↦ inr (told_has a k r) ]
-told_has (star a first) k is = told_has a k is
-told_has (opt a first) k is = told_has a k is
 
 -- a group that is due is one of those that are reported
 due_reported : (due : GroupSet) (k : ℕ) → holds due 0 ≡ false → holds due k ≡ true → reported k ≡ true
@@ -111,38 +81,28 @@ none_due nodes x facts due spans is whole apart k has = elim (cases_Bool (holds 
 pub not_met : (b : Bool) (P : Type 0) → b ≡ false → (IsTrue b ↔ P) → P → ⊥
 not_met b P is tells p = true≢false (sym (tells.1 p) ∙ is)
 
-false_and : (b : Bool) → (b && false) ≡ false
-false_and true = refl
-false_and false = refl
+-- what is due and is not taken is due still
+still_due : (b r x : Bool) (v : Option (ℕ × ℕ)) → (b ≡ true → r ≡ true) → (b && not (r && x)) ≡ left b (deed x v)
+still_due false r true v told = refl
+still_due false r false v told = refl
+still_due true true true v told = refl
+still_due true true false v told = refl
+still_due true false x v told = absurd (true≢false (sym (told refl)))
 
-true_and : (b : Bool) → (b && true) ≡ b
-true_and true = refl
-true_and false = refl
+flags_left : (old other new : GroupSet) (n : ℕ) (x : Bool) (v : Option (ℕ × ℕ)) → holds old 0 ≡ false → holds other n ≡ (reported n && x) → holds new n ≡ (holds old n && not (holds other n)) →
+    slice_index_or (flags_of new) n false ≡ left (slice_index_or (flags_of old) n false) (deed x v)
+flags_left old other new n x v whole is without =
+    flags_at new n ∙ without ∙ ap (λ b. holds old n && not b) is ∙ still_due (holds old n) (reported n) x v (due_reported old n whole) ∙ ap (λ b. left b (deed x v)) (sym (flags_at old n))
 
 -- a group that is due is settled
 pub settled : (old one new : GroupSet) (k : ℕ) (v : Option (ℕ × ℕ)) (spans : Groups) → holds old 0 ≡ false → holds old k ≡ true →
     ((n : ℕ) → holds one n ≡ (reported n && eqb k n)) → ((n : ℕ) → holds new n ≡ (holds old n && not (holds one n))) →
     told_of new (slice_set spans k v) ≡ settle k v (told_of old spans)
 settled old one new k v spans whole due alone without =
-    make-state (flags_of new) (slice_set (flags_of old) k false) (slice_set spans k v) (slice_set spans k v)
-    (same_bools (flags_of new) (slice_set (flags_of old) k false) (sym (length-set (flags_of old) k false)) each) refl
+    same_state (flags_of new) (slice_set (flags_of old) k false) (slice_set spans k v) (slice_set spans k v)
+    (same_bools (flags_of new) (slice_set (flags_of old) k false) (sym (length-set (flags_of old) k false)) (λ n.
+    flags_left old one new n (eqb k n) v whole (alone n) (without n) ∙ sym (set_due k n v (flags_of old)))) refl
     ∙ sym (settle-due k v (told_of old spans) (flags_at old k ∙ due))
-  where
-    at : (n : ℕ) → n ≡ k → slice_index_or (flags_of new) n false ≡ slice_index_or (slice_set (flags_of old) k false) n false
-    at n same =
-        let one_is : holds one n ≡ true = alone n ∙ and_from (reported n) (eqb k n) (due_reported old n whole (ap (holds old) same ∙ due)) (eq-eqb k n (sym same)) in
-        flags_at new n ∙ without n ∙ ap (λ b. holds old n && not b) one_is ∙ false_and (holds old n)
-        ∙ sym (closed (flags_of old) k) ∙ ap (λ m. slice_index_or (slice_set (flags_of old) k false) m false) (sym same)
-
-    other : (n : ℕ) → (n ≡ k → ⊥) → slice_index_or (flags_of new) n false ≡ slice_index_or (slice_set (flags_of old) k false) n false
-    other n ne =
-        let differs : eqb k n ≡ false = elim (eqb_tells k n) [ inl w ↦ absurd (ne (sym w.1)) | inr w ↦ w.0 ] in
-        let one_is : holds one n ≡ false = alone n ∙ ap (λ b. reported n && b) differs ∙ false_and (reported n) in
-        flags_at new n ∙ without n ∙ ap (λ b. holds old n && not b) one_is ∙ true_and (holds old n)
-        ∙ sym (flags_at old n) ∙ sym (get_or-set_other (flags_of old) k n false false ne)
-
-    each : (n : ℕ) → slice_index_or (flags_of new) n false ≡ slice_index_or (slice_set (flags_of old) k false) n false
-    each n = ⊎_elim (at n) (other n) (cases_eq n k)
 
 -- one that isn't due is left
 pub unsettled : (due : GroupSet) (k : ℕ) (v : Option (ℕ × ℕ)) (spans : Groups) → holds due k ≡ false → told_of due spans ≡ settle k v (told_of due spans)
@@ -156,23 +116,8 @@ still_whole old other new whole without = without 0 ∙ ap (λ b. b && not (hold
 pub dropped : (nodes : List Node) (x : ℕ) (facts : Facts) (old new : GroupSet) (spans : Groups) → IsFacts (tree_at nodes x) x facts → holds old 0 ≡ false → Blank (told_of old spans) →
     ((n : ℕ) → holds new n ≡ (holds old n && not (holds facts.groups n))) → told_of new spans ≡ drop_groups (tree_at nodes x) (told_of old spans)
 dropped nodes x facts old new spans is whole blank without =
-    drop_as (tree_at nodes x) (told_of old spans) (told_of new spans) blank refl refl (λ k. (out k, back k))
-  where
-    out : (k : ℕ) → is_due (told_of new spans) k ≡ true → (is_due (told_of old spans) k ≡ true) × (GroupStandsIn (tree_at nodes x) k → ⊥)
-    out k due =
-        let parts = and_parts (holds old k) (not (holds facts.groups k)) (sym (without k) ∙ sym (flags_at new k) ∙ due) in (
-          flags_at old k ∙ parts.0,
-          λ has.
-              let in_facts : holds facts.groups k ≡ true = is.groups k ∙ and_from (reported k) (has_group (tree_at nodes x) k) (due_reported old k whole parts.0) (has_told (tree_at nodes x) k has) in
-              true≢false (sym parts.1 ∙ ap (λ b. not b) in_facts),
-        )
-
-    back : (k : ℕ) → (is_due (told_of old spans) k ≡ true) × (GroupStandsIn (tree_at nodes x) k → ⊥) → is_due (told_of new spans) k ≡ true
-    back k h =
-        let due : holds old k ≡ true = sym (flags_at old k) ∙ h.0 in
-        let lacks : has_group (tree_at nodes x) k ≡ false = elim (cases_Bool (has_group (tree_at nodes x) k)) [ inl has ↦ absurd (h.1 (told_has (tree_at nodes x) k has)) | inr lacks ↦ lacks ] in
-        let not_in : holds facts.groups k ≡ false = is.groups k ∙ ap (λ b. reported k && b) lacks ∙ false_and (reported k) in
-        flags_at new k ∙ without k ∙ and_from (holds old k) (not (holds facts.groups k)) due (ap (λ b. not b) not_in)
+    drop_as (tree_at nodes x) (told_of old spans) (told_of new spans) blank refl refl (λ k.
+    flags_left old facts.groups new k (has_group (tree_at nodes x) k) None whole (is.groups k) (without k))
 
 -- the groups of the whole expression, and a start with them
 pub all_told : (e : WrittenExpression) (root : ℕ) (facts : Facts) → root + 1 ≡ length e.nodes → IsFacts (tree_at e.nodes root) root facts → HasAll facts.groups (expression_tree e)
@@ -198,6 +143,11 @@ found_set (Some t ∷ g) zero None = omega arith
 found_set (Some t ∷ g) zero (Some u) = omega arith
 found_set (None ∷ g) (suc k) v = found_set g k v
 found_set (Some t ∷ g) (suc k) v = omega (arith, found_set g k v)
+
+none_there : (n k : ℕ) → slice_index_or {A = Option (ℕ × ℕ)} (replicate n None) k None ≡ None
+none_there zero k = refl
+none_there (suc n) zero = refl
+none_there (suc n) (suc k) = none_there n k
 
 pub starts_blank : (i j : ℕ) (due : GroupSet) → holds due 0 ≡ false → Blank (told_of due (undecided i j))
 starts_blank i j due whole zero is = absurd (true≢false (sym is ∙ whole))

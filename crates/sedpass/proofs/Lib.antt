@@ -13,7 +13,7 @@ pub mod LeaveLemmas
 pub mod LengthLemmas
 pub mod MeetingLemmas
 pub mod OccurrenceLemmas
-pub mod OverlayLemmas
+pub mod OneGroupLemmas
 pub mod OwedLemmas
 pub mod RowLemmas
 pub mod SearchLemmas

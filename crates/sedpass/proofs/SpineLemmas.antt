@@ -23,9 +23,9 @@ use Rattle.sedpass.specs.declared.groups.Then.TheVariants.{Done, One, Two}
 use Rattle.sedpass.specs.declared.kept.Region.{Region}
 use Rattle.sedpass.specs.declared.kept.Subject.{Subject}
 use Rattle.sedpass.proofs.DecideLemmas.{flags_at}
-use Rattle.sedpass.proofs.OverlayLemmas.{wanted}
+use Rattle.sedpass.proofs.OneGroupLemmas.{wanted}
 use Rattle.sedpass.specs.Groups.{holds}
-use Rattle.sedpass.proofs.TurnLemmas.{begins, leave_turn, runs_back, turned}
+use Rattle.sedpass.proofs.TurnLemmas.{begins, leave_turn, turned}
 use Rattle.sedpass.proofs.WalkLemmas.{still, goes_on}
 
 -- no group in the match is due: it is left
@@ -163,8 +163,9 @@ pub decides_due : (e : WrittenExpression) (w : List ℕ) (root i j n k : ℕ) (d
 decides_due e w root i j n zero due new groups last whole at run report is = absurd (true≢false (sym is ∙ whole))
 decides_due e w root i j n (suc k) due new groups last whole at run report is =
     let same : length e.nodes - 1 ≡ root = omega arith in
-    wanted (tree_at e.nodes root) w i j (suc k) (told_of due (undecided i j)) new groups refl (runs_back e.nodes w root i j n (told_of due (undecided i j)) new at run)
-    (subst (λ x. IsReport (tree_at e.nodes x) w i j groups) same report) (omega arith) (flags_at due (suc k) ∙ is)
+    subst (λ (s : State). slice_index_or s.spans (suc k) None ≡ slice_index_or groups (suc k) None) (sym run.4.0)
+    (wanted (tree_at e.nodes root) w i j run.1 k (told_of due (undecided i j)) run.0 groups refl at run.3
+    (subst (λ x. IsReport (tree_at e.nodes x) w i j groups) same report) (flags_at due (suc k) ∙ is))
 
 least_none : (s t : ℕ) → TakesAtLeast s t (1 - 0) → TakesAtLeast s t 0
 unfolding TakesAtLeast

@@ -1,9 +1,7 @@
 -- One look at a node after another, until all groups of a match are decided.
-use Rattle.std.proofs.Common.{◌≡◌, ℕ, zero, suc, ◌+◌, ◌<◌, ◌≤◌, ◌↔◌, Bool, true, false, List, [], ◌∷◌, ◌++◌, length, Option, None, Some, IsTrue, refl, sym, ap, ◌∙◌, subst, inl, inr, ⊎_elim, true≢false, arith}
-use Rattle.std.specs.Prelude.{slice_get, slice_set, slice_index_or, replicate}
-use Rattle.std.proofs.lemmas.Bool.{cases_Bool, cases_eq}
-use Rattle.std.proofs.lemmas.List.{get_or-set_other, set-get_or}
-use Rattle.sedre.specs.Tree.{Tree, empty, set, begin, end, seq, alt, group, star, opt, tree_of, tree_at}
+use Rattle.std.proofs.Common.{◌≡◌, ℕ, ◌+◌, ◌<◌, ◌≤◌, ◌↔◌, Bool, List, [], ◌∷◌, ◌++◌, Option, Some, IsTrue, refl, sym, ◌∙◌, subst, inl, inr, ⊎_elim, arith}
+use Rattle.std.specs.Prelude.{slice_get}
+use Rattle.sedre.specs.Tree.{Tree, tree_of, tree_at}
 use Rattle.sedre.specs.Sizes.{size}
 use Rattle.sedre.specs.Arena.{IsArena}
 use Rattle.sedre.specs.declared.types.Node.{Node}
@@ -12,145 +10,26 @@ use Rattle.sedre.specs.declared.types.Node.TheVariants.{Empty, Set, Begin, End, 
 use Rattle.sedre.proofs.TreeLemmas.{tree_at-node}
 use Rattle.sedtext.specs.Reach.{At, one_start}
 use Rattle.sedpass.specs.Regions.{ReachesEnd, IsLastIn, last_of}
-use Rattle.sedtext.specs.Caps.{LastCut, LastCopy}
+use Rattle.sedtext.specs.Caps.{LastCut, LastCopy, IsReport}
 use Rattle.sedpass.specs.Walks.{State, is_due, settle, drop_groups, GroupStandsIn, NoneDue, Walk}
-use Rattle.sedpass.specs.Overlay.{Back}
 use Rattle.sedpass.specs.declared.groups.Task.{Task}
 use Rattle.sedpass.specs.declared.groups.Task.TheVariants.{Apart, Forget}
 use Rattle.sedtext.specs.Nodes.{parts_of}
-use Rattle.sedpass.specs.Turns.{AreReady, weights, IsTurn, IsHere, Runs, Continues, entered_at, HasGroupAt, Blank, LeaveTurn, LeafTurn, SeqTurn, AltTurn, GroupTurn, StarTurn, OptTurn, EmptyTurn, SeqSpine, RunSpine, AltSpine, PartSpine, StarSpine, SeqParts, StarParts, OptParts, TurnedLaw, BeginLaw, RoomLaw, GroupsAtLaw, DropLaw}
+use Rattle.sedpass.specs.Turns.{AreReady, weights, IsTurn, IsHere, entered_at, HasGroupAt, Blank, LeaveTurn, LeafTurn, SeqTurn, AltTurn, GroupTurn, StarTurn, OptTurn, EmptyTurn, SeqSpine, RunSpine, AltSpine, PartSpine, StarSpine, SeqParts, StarParts, OptParts, TurnedLaw, BeginLaw, RoomLaw, GroupsAtLaw}
 use Rattle.sedtext.proofs.ReachLemmas.{open_at, close_at}
-use Rattle.sedpass.proofs.WalkLemmas.{copy_spans, walk_back, passes_by, none_left, one_left, part_left, both_left}
+use Rattle.sedpass.proofs.WalkLemmas.{passes_by, none_left, one_left, part_left, both_left}
 use Rattle.sedpass.proofs.LeaveLemmas.{alt_looks, reaches_last}
 use Rattle.sedpass.proofs.MeetingLemmas.{stops_at_cut, stops_at_copy, run_stops}
 use Rattle.sedtext.proofs.SpanLemmas.{Matches-forward}
 use Rattle.sedtext.proofs.NodeLemmas.{size-parts, size-pos}
-use Rattle.sedpass.proofs.OverlayLemmas.{left_due, make-state, touch-due, settle-due, settle-not, settle-is, drop-is, drop-not, left_due-stays, stays, back_report}
-
--- what is due after groups were settled or dropped
-set_due : (k : ℕ) (v : Option (ℕ × ℕ)) (s : State) → (settle k v s).due ≡ slice_set s.due k false
-set_due k v s = ap (λ t. t.due) (settle-is k v s) ∙ touch-due k v s.due
-
-pub closed : (due : List Bool) (k : ℕ) → slice_index_or (slice_set due k false) k false ≡ false
-closed [] k = refl
-closed (b ∷ due) zero = refl
-closed (b ∷ due) (suc k) = closed due k
-
-set_same : (k : ℕ) (v : Option (ℕ × ℕ)) (s : State) → is_due (settle k v s) k ≡ false
-set_same k v s = ap (λ l. slice_index_or l k false) (set_due k v s) ∙ closed s.due k
-
-set_other : (k : ℕ) (v : Option (ℕ × ℕ)) (s : State) (n : ℕ) → (n ≡ k → ⊥) → is_due (settle k v s) n ≡ is_due s n
-set_other k v s n ne = ap (λ l. slice_index_or l n false) (set_due k v s) ∙ get_or-set_other s.due k n false false ne
-
-set_stays : (k : ℕ) (v : Option (ℕ × ℕ)) (s : State) (n : ℕ) → is_due s n ≡ false → is_due (settle k v s) n ≡ false
-set_stays k v s n is =
-    ⊎_elim
-    (λ (e : n ≡ k). subst (λ m. is_due (settle k v s) m ≡ false) (sym e) (set_same k v s))
-    (λ (ne : n ≡ k → ⊥). set_other k v s n ne ∙ is)
-    (cases_eq n k)
-
-drop_stays : (t : Tree) (s : State) (k : ℕ) → is_due s k ≡ false → is_due (drop_groups t s) k ≡ false
-drop_stays t s k is = ap (λ v. is_due v k) (drop-is t s) ∙ left_due-stays s.due _ k is
-
-drop_within : (t : Tree) (s : State) (k : ℕ) → GroupStandsIn t k → is_due (drop_groups t s) k ≡ false
-drop_within empty s k has = absurd has
-drop_within (set members) s k has = absurd has
-drop_within begin s k has = absurd has
-drop_within end s k has = absurd has
-drop_within (seq a b) s k (inl has) = drop_stays b (drop_groups a s) k (drop_within a s k has)
-drop_within (seq a b) s k (inr has) = drop_within b (drop_groups a s) k has
-drop_within (alt a b) s k (inl has) = drop_stays b (drop_groups a s) k (drop_within a s k has)
-drop_within (alt a b) s k (inr has) = drop_within b (drop_groups a s) k has
-drop_within (group n a) s k (inl same) = drop_stays a (settle n None s) k (subst (λ m. is_due (settle n None s) m ≡ false) same (set_same n None s))
-drop_within (group n a) s k (inr has) = drop_within a (settle n None s) k has
-drop_within (star a first) s k has = drop_within a s k has
-drop_within (opt a first) s k has = drop_within a s k has
-
-drop_without : (t : Tree) (s : State) (k : ℕ) → (GroupStandsIn t k → ⊥) → is_due (drop_groups t s) k ≡ is_due s k
-drop_without empty s k not = refl
-drop_without (set members) s k not = refl
-drop_without begin s k not = refl
-drop_without end s k not = refl
-drop_without (seq a b) s k not = drop_without b (drop_groups a s) k (λ h. not (inr h)) ∙ drop_without a s k (λ h. not (inl h))
-drop_without (alt a b) s k not = drop_without b (drop_groups a s) k (λ h. not (inr h)) ∙ drop_without a s k (λ h. not (inl h))
-drop_without (group n a) s k not = drop_without a (settle n None s) k (λ h. not (inr h)) ∙ set_other n None s k (λ e. not (inl (sym e)))
-drop_without (star a first) s k not = drop_without a s k not
-drop_without (opt a first) s k not = drop_without a s k not
+use Rattle.sedpass.proofs.OneGroupLemmas.{copy_spans, left-not, settle_takes, drop_takes, takes_blank, drop-not, stays, walk_report}
 
 -- what is due has no span, before and after
 pub settle_blank : (k : ℕ) (v : Option (ℕ × ℕ)) (s : State) → Blank s → Blank (settle k v s)
-settle_blank k v s blank =
-    ⊎_elim
-    (λ (yes_due : is_due s k ≡ true). λ n is.
-    let ne : n ≡ k → ⊥ = λ e. true≢false (sym is ∙ subst (λ m. is_due (settle k v s) m ≡ false) (sym e) (set_same k v s)) in
-    ap (λ t. slice_index_or t.spans n None) (settle-due k v s yes_due) ∙ get_or-set_other s.spans k n v None ne
-    ∙ blank n (sym (set_other k v s n ne) ∙ is))
-    (λ (not_due : is_due s k ≡ false). subst Blank (sym (settle-not k v s not_due)) blank)
-    (cases_Bool (is_due s k))
+settle_blank k v s blank n is = takes_blank n _ s (settle k v s) (settle_takes k n v s) (blank n) is
 
 pub drop_blank : (t : Tree) (s : State) → Blank s → Blank (drop_groups t s)
-drop_blank empty s blank = blank
-drop_blank (set members) s blank = blank
-drop_blank begin s blank = blank
-drop_blank end s blank = blank
-drop_blank (seq a b) s blank = drop_blank b (drop_groups a s) (drop_blank a s blank)
-drop_blank (alt a b) s blank = drop_blank b (drop_groups a s) (drop_blank a s blank)
-drop_blank (group k a) s blank = drop_blank a (settle k None s) (settle_blank k None s blank)
-drop_blank (star a first) s blank = drop_blank a s blank
-drop_blank (opt a first) s blank = drop_blank a s blank
-
-set_spans : (k : ℕ) (s : State) → Blank s → (settle k None s).spans ≡ s.spans
-set_spans k s blank =
-    ⊎_elim
-    (λ (yes_due : is_due s k ≡ true). ap (λ t. t.spans) (settle-due k None s yes_due)
-    ∙ ap (λ v. slice_set s.spans k v) (sym (blank k yes_due)) ∙ set-get_or s.spans k None)
-    (λ (not_due : is_due s k ≡ false). ap (λ t. t.spans) (settle-not k None s not_due))
-    (cases_Bool (is_due s k))
-
-drop_spans : (t : Tree) (s : State) → Blank s → (drop_groups t s).spans ≡ s.spans
-drop_spans empty s blank = refl
-drop_spans (set members) s blank = refl
-drop_spans begin s blank = refl
-drop_spans end s blank = refl
-drop_spans (seq a b) s blank = drop_spans b (drop_groups a s) (drop_blank a s blank) ∙ drop_spans a s blank
-drop_spans (alt a b) s blank = drop_spans b (drop_groups a s) (drop_blank a s blank) ∙ drop_spans a s blank
-drop_spans (group k a) s blank = drop_spans a (settle k None s) (settle_blank k None s blank) ∙ set_spans k s blank
-drop_spans (star a first) s blank = drop_spans a s blank
-drop_spans (opt a first) s blank = drop_spans a s blank
-
-left_length : (due : List Bool) (d : List (Option (Option (ℕ × ℕ)))) → length (left_due due d) ≡ length due
-left_length due [] = refl
-left_length [] (x ∷ d) = refl
-left_length (b ∷ due) (None ∷ d) = ap (λ n. suc n) (left_length due d)
-left_length (b ∷ due) (Some v ∷ d) = ap (λ n. suc n) (left_length due d)
-
-pub same_bools : (xs ys : List Bool) → length xs ≡ length ys → ((k : ℕ) → slice_index_or xs k false ≡ slice_index_or ys k false) → xs ≡ ys
-same_bools [] [] long each = refl
-same_bools [] (y ∷ ys) long each = absurd (omega (arith, long))
-same_bools (x ∷ xs) [] long each = absurd (omega (arith, long))
-same_bools (x ∷ xs) (y ∷ ys) long each =
-    ap (λ b. b ∷ xs) (each 0) ∙ ap (λ l. y ∷ l) (same_bools xs ys (omega (arith, long)) (λ k. each (suc k)))
-
-pub same_bool : (b c : Bool) → (IsTrue b → IsTrue c) → (IsTrue c → IsTrue b) → b ≡ c
-same_bool true c to from = sym (to refl)
-same_bool false true to from = from refl
-same_bool false false to from = refl
-
-pub drop_as : DropLaw
-drop_as t s new blank same long tells =
-    make-state new.due (drop_groups t s).due new.spans (drop_groups t s).spans
-    (same_bools new.due (drop_groups t s).due
-    (long ∙ sym (ap (λ v. length v.due) (drop-is t s) ∙ left_length s.due _))
-    (λ k. same_bool (is_due new k) (is_due (drop_groups t s) k)
-    (λ h. let due = (tells k).0 h in drop_without t s k due.1 ∙ due.0)
-    (λ h. (tells k).1 (
-      ⊎_elim
-          (λ (yes_due : is_due s k ≡ true). yes_due)
-          (λ (not_due : is_due s k ≡ false). absurd (true≢false (sym h ∙ drop_stays t s k not_due)))
-          (cases_Bool (is_due s k)),
-      λ has. true≢false (sym h ∙ drop_within t s k has),
-    ))))
-    (same ∙ sym (drop_spans t s blank))
+drop_blank t s blank n is = takes_blank n _ s (drop_groups t s) (drop_takes t n s) (blank n) is
 
 pub groups_at : GroupsAtLaw
 groups_at nodes x k node arena is = by node is
@@ -245,7 +124,7 @@ seq_at nodes w x i k j a b s here cut =
       },
       λ none. record {
         run = λ rest. one_left nodes w x i j b.index k j rest s s (λ mid m walk.
-            let left = passes_by (tree_at nodes a.index) w i k mid (stays (tree_at nodes b.index) (tree_at nodes a.index) w k j s mid (walk_back (tree_at nodes b.index) w k j m s mid cut.right walk) none) in
+            let left = passes_by (tree_at nodes a.index) w i k mid (stays (tree_at nodes b.index) (tree_at nodes a.index) w k j m s mid cut.right walk none) in
             close_walk nodes w x i j (Seq a b) here s mid (1 + m) (inr (m, 0, omega arith, k, cut, mid, walk, left)));
         ready = (omega arith, on, fits, cut.right, tt);
         within = (up, omega arith, tt);
@@ -295,7 +174,7 @@ group_turn nodes w x k i j part a s here part_is =
     rw part_is (
       inner_turn nodes w x i j (Group k a) here a i s set low (size-parts nodes here.arena x (Group k a) here.is) (omega arith) here.up at (λ mid m walk. inr (m, refl, mid, walk, refl)),
       λ none.
-          let same : NoneDue inner set = λ n has. set_stays k (Some (i, j)) s n (none n has) in
+          let same : NoneDue inner set = λ n has. (settle_takes k n (Some (i, j)) s).due ∙ left-not (is_due s n) _ (none n has) in
           done_turn nodes w x i j (Group k a) here s set 1
           (close_walk nodes w x i j (Group k a) here s set 1 (inr (0, refl, set, passes_by inner w i j set same, sym (drop-not inner set same)))),
     )
@@ -411,12 +290,9 @@ turned nodes w x i j n old new tasks rest turn ready = (
   omega (arith, turn.less, weights-append nodes tasks rest),
 )
 
-pub runs_back : (nodes : List Node) (w : List ℕ) (x i j n : ℕ) (old new : State) → At nodes w x i j → Runs nodes w (Apart x i j ∷ []) old new n → Back (tree_at nodes x) w i j old new
-runs_back nodes w x i j n old new at run =
-    subst (Back (tree_at nodes x) w i j old) (sym run.4.0) (walk_back (tree_at nodes x) w i j run.1 old run.0 at run.3)
-
 pub begins : BeginLaw
-begins nodes w x i j n old new start at run = back_report (tree_at nodes x) w i j old new start (runs_back nodes w x i j n old new at run)
+begins nodes w x i j n old new start at run =
+    subst (λ (s : State). IsReport (tree_at nodes x) w i j s.spans) (sym run.4.0) (walk_report (tree_at nodes x) w i j run.1 old run.0 start at run.3)
 
 pub room : RoomLaw
 room nodes [] = omega arith

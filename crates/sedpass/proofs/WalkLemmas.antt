@@ -1,53 +1,13 @@
 -- A walk over a match, as nodes are entered one after another.
-use Rattle.std.proofs.Common.{◌≡◌, ℕ, ◌+◌, ◌<◌, ◌≤◌, ◌⊎◌, List, [], ◌∷◌, Some, reverse, refl, sym, ap, subst, inl, inr, ⊎_elim, arith}
+use Rattle.std.proofs.Common.{◌≡◌, ℕ, ◌+◌, ◌≤◌, ◌⊎◌, List, [], ◌∷◌, replicate, None, Some, reverse, refl, ap, subst, inl, ⊎_elim, arith}
 use Rattle.sedre.specs.Steps.{TakesAtLeast}
 use Rattle.sedre.specs.Tree.{Tree, empty, set, begin, end, seq, alt, group, star, opt, tree_at}
 use Rattle.sedre.specs.declared.types.Node.{Node}
-use Rattle.sedtext.specs.Caps.{LastCopy, only, then}
-use Rattle.sedtext.specs.Spans.{Matches}
 use Rattle.sedtext.proofs.GroupLemmas.{NoGroups}
-use Rattle.sedpass.specs.Overlay.{Back, all_due, WalkLaw}
 use Rattle.sedpass.specs.Turns.{Runs, Continues, Progress}
-use Rattle.sedpass.specs.Walks.{State, settle, drop_groups, GroupStandsIn, NoneDue, PassedBy, Walk, LooksAtEntered, EntersGroups}
+use Rattle.sedpass.specs.Walks.{State, drop_groups, GroupStandsIn, NoneDue, Walk, LooksAtEntered, EntersGroups}
 use Rattle.sedpass.specs.declared.groups.Task.{Task}
 use Rattle.sedpass.specs.declared.groups.Task.TheVariants.{Apart, Forget}
-use Rattle.sedpass.proofs.OverlayLemmas.{left_at_once, starts}
-
-passed_back : (e : Tree) (w : List ℕ) (i j n : ℕ) (old new : State) → Matches e w i j → PassedBy e old new n → Back e w i j old new
-passed_back e w i j n old new spans passed = subst (Back e w i j old) (sym passed.1) (left_at_once e w i j old passed.0 spans)
-
-pub copy_spans : (R : ℕ → ℕ → Type 0) (j i c : ℕ) → LastCopy R j i c → (i ≤ c) × (c < j) × R c j
-copy_spans R j i c (only _ lt r) = (omega arith, lt, r)
-copy_spans R j i c (then _ k _ up low r rest most last) = let later = copy_spans R j k c last in (omega arith, later.1, later.2)
-
--- a walk decides what is decided where no node is passed by
-pub walk_back : WalkLaw
-walk_back empty w i j n old new spans walk = walk.0
-walk_back (set has) w i j n old new spans walk = walk.0
-walk_back begin w i j n old new spans walk = walk.0
-walk_back end w i j n old new spans walk = walk.0
-walk_back (seq a b) w i j n old new spans (inl passed) = passed_back (seq a b) w i j n old new spans passed
-walk_back (seq a b) w i j n old new spans (inr h) =
-    (h.3, h.4, (h.5, walk_back b w h.3 j h.0 old h.5 h.4.right h.6, walk_back a w i h.3 h.1 h.5 new h.4.left h.7))
-walk_back (alt a b) w i j n old new spans (inl passed) = passed_back (alt a b) w i j n old new spans passed
-walk_back (alt a b) w i j n old new spans (inr (p, is, inl h)) = inl (h.0, walk_back a w i j p old new h.0 h.1)
-walk_back (alt a b) w i j n old new spans (inr (p, is, inr h)) =
-    let at : Matches b w i j = ⊎_elim (λ (l : Matches a w i j). absurd (h.0 l)) (λ (r : Matches b w i j). r) spans in
-    inr (h.0, walk_back b w i j p old new at h.1)
-walk_back (group k a) w i j n old new spans (inl passed) = passed_back (group k a) w i j n old new spans passed
-walk_back (group k a) w i j n old new spans (inr h) = (h.2, walk_back a w i j h.0 (settle k (Some (i, j)) old) h.2 spans h.3, h.4)
-walk_back (star a first) w i j n old new spans (inl passed) = passed_back (star a first) w i j n old new spans passed
-walk_back (star a first) w i j n old new spans (inr (p, is, inl h)) =
-    inl (h.0, (h.1, h.2, (h.3, walk_back a w h.1 j p old h.3 (copy_spans (Matches a w) j i h.1 h.2).2 h.4, h.5)))
-walk_back (star a first) w i j n old new spans (inr (p, is, inr (inl h))) = inr (inl (h.0, h.1, h.2, (h.3, walk_back a w i i p old h.3 h.2 h.4, h.5)))
-walk_back (star a first) w i j n old new spans (inr (p, is, inr (inr h))) = inr (inr (h.0, (h.1, h.2)))
-walk_back (opt a first) w i j n old new spans (inl passed) = passed_back (opt a first) w i j n old new spans passed
-walk_back (opt a first) w i j n old new spans (inr (p, is, inl h)) =
-    let up = h.0 in
-    let at : Matches a w i j = ⊎_elim (λ (e : i ≡ j). absurd (omega (arith, e, up))) (λ (r : Matches a w i j). r) spans in
-    inl (h.0, (h.1, walk_back a w i j p old h.1 at h.2, h.3))
-walk_back (opt a first) w i j n old new spans (inr (p, is, inr (inl h))) = inr (inl (h.0, h.1, h.2, (h.3, walk_back a w i i p old h.3 h.2 h.4, h.5)))
-walk_back (opt a first) w i j n old new spans (inr (p, is, inr (inr h))) = inr (inr (h.0, (h.1, h.2)))
 
 -- a walk passes by what has no group that is due
 pub passes_by : (e : Tree) (w : List ℕ) (i j : ℕ) (s : State) → NoneDue e s → Walk e w i j s s 0
@@ -145,8 +105,9 @@ groupless (opt a first) none k has = groupless a none k has
 -- where an expression has no group nothing is entered
 pub enters_nothing : (e : Tree) (w : List ℕ) (i j s : ℕ) → NoGroups e → EntersGroups e w i j s s
 unfolding TakesAtLeast
-enters_nothing e w i j s none = (
-  all_due i j,
-  starts e i j,
-  record { last = all_due i j; n = 0; walk = passes_by e w i j (all_due i j) (λ k has. absurd (groupless e none k has)); counts = omega arith },
-)
+enters_nothing e w i j s none =
+    let start : State = record { due = []; spans = Some (i, j) ∷ replicate 9 None } in (
+      start,
+      record { whole = refl; each = λ k low high has. absurd (groupless e none k has); none = refl },
+      record { last = start; n = 0; walk = passes_by e w i j start (λ k has. absurd (groupless e none k has)); counts = omega arith },
+    )

@@ -12,7 +12,6 @@ use Rattle.sedtext.specs.Words.{row_of}
 use Rattle.sedpass.specs.Groups.{holds}
 use Rattle.sedpass.specs.Kept.{IsKept, KeptRoom, owed}
 use Rattle.sedpass.specs.Lengths.{length_of}
-use Rattle.sedpass.specs.Overlay.{state_of}
 use Rattle.sedpass.specs.Walks.{State, GroupStandsIn}
 use Rattle.sedpass.specs.Regions.{IsLastIn}
 use Rattle.sedpass.specs.Table.{IsAhead, IsRoomy, IsTable, SameRoom, SameShape}
@@ -44,7 +43,7 @@ flags_of s = holds s 0 ∷ holds s 1 ∷ holds s 2 ∷ holds s 3 ∷ holds s 4 �
 
 -- which groups are due, and the spans of those that aren't
 abbrev pub told_of : GroupSet → Groups → State
-told_of due spans = state_of (flags_of due) spans
+told_of due spans = record { due = flags_of due; spans = spans }
 
 -- what is due has no span so far, and the whole match isn't due
 pub record IsTold (t : Told) : Type 0 where

@@ -8,7 +8,6 @@ pub mod Held
 pub mod Kept
 pub mod Lengths
 pub mod Occurrences
-pub mod Overlay
 pub mod Prepared
 pub mod Regions
 pub mod Rows

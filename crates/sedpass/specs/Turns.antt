@@ -1,8 +1,8 @@
 -- Private to the proofs: no contract that `sedmatch` makes public cites what stands here.
 -- What is left to do while the groups of a match are decided from its end.
-use Rattle.std.specs.Prelude.{◌≡◌, ◌≢◌, ℕ, ◌+◌, ◌-◌, ◌*◌, ◌<◌, ◌≤◌, ◌⊎◌, ◌↔◌, Bool, true, List, [], ◌∷◌, ◌++◌, length, slice_get, slice_index_or, None, Some, IsTrue}
+use Rattle.std.specs.Prelude.{◌≡◌, ℕ, ◌+◌, ◌-◌, ◌*◌, ◌<◌, ◌≤◌, ◌⊎◌, ◌↔◌, Bool, true, List, [], ◌∷◌, ◌++◌, length, slice_get, slice_index_or, None, Some, IsTrue}
 use Rattle.sedre.specs.Arena.{IsArena}
-use Rattle.sedre.specs.Tree.{tree_at, Tree}
+use Rattle.sedre.specs.Tree.{tree_at}
 use Rattle.sedre.specs.Sizes.{size}
 use Rattle.sedre.specs.Steps.{TakesAtLeast}
 use Rattle.sedre.specs.declared.types.Node.{Node}
@@ -220,8 +220,3 @@ RoomLaw = (nodes : List Node) (tasks : List Task) → length tasks ≤ weights n
 -- the groups of a node are those of its parts, and its own
 abbrev pub GroupsAtLaw : Type 0
 GroupsAtLaw = (nodes : List Node) (x k : ℕ) (node : Node) → IsArena nodes → slice_get nodes x ≡ Some node → GroupStandsIn (tree_at nodes x) k ↔ HasGroupAt nodes node k
-
--- where what is due has no span, to forget the groups of a tree is to take them from what is due
-abbrev pub DropLaw : Type 0
-DropLaw = (t : Tree) (s new : State) → Blank s → new.spans ≡ s.spans → length new.due ≡ length s.due →
-    ((k : ℕ) → IsTrue (is_due new k) ↔ (IsTrue (is_due s k) × (GroupStandsIn t k → ⊥))) → new ≡ drop_groups t s

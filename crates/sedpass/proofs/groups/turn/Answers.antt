@@ -1,5 +1,5 @@
 use Rattle.std.proofs.Common.{◌≡◌, arith, subst}
-use Rattle.sedpass.specs.Decide.{nodes_in, told_of, found, next_of, LooksAt}
+use Rattle.sedpass.specs.Decide.{told_of, found, next_of, LooksAt}
 use Rattle.sedpass.specs.Turns.{entered_at}
 use Rattle.sedpass.proofs.SpineLemmas.{left_turn, looked_at, unlooked, least_same, least_look, looks_more}
 use Rattle.sedpass.proofs.groups.turn.Goals as goal

@@ -1,0 +1,509 @@
+-- What becomes of one group of a match while all are decided from its end; so decided, they are those decided from the left.
+use Rattle.std.proofs.Common.{◌≡◌, ℕ, zero, suc, ◌<◌, ◌≤◌, ◌⊎◌, ◌||◌, Bool, true, false, List, [], ◌∷◌, length, Option, None, Some, refl, sym, ap, ◌∙◌, subst, inl, inr, ⊎_elim, true≢false, arith}
+use Rattle.std.specs.Prelude.{eqb, unwrap_or, slice_get, slice_set, slice_index_or, replicate}
+use Rattle.std.specs.Option.{option_or}
+use Rattle.std.proofs.lemmas.Bool.{cases_Bool, cases_lt, or_cases, or_left, or_right, eqb-true, eq-eqb}
+use Rattle.std.proofs.lemmas.Bool.Decides.{eqb_tells}
+use Rattle.std.proofs.lemmas.List.{get_or-set_other, length-set}
+use Rattle.std.proofs.lemmas.Option.{slice_get_past, none-some, same_Some, unwrap_or-slice_get}
+use Rattle.sedre.specs.Tree.{Tree, empty, set, begin, end, seq, alt, group, star, opt}
+use Rattle.sedtext.specs.Groups.{Groups, forget, no_groups}
+use Rattle.sedtext.specs.Matching.{groups_after}
+use Rattle.sedtext.specs.Caps.{Captures, LastCopy, only, then, IsReport}
+use Rattle.sedtext.specs.Spans.{Matches}
+use Rattle.sedtext.proofs.CapsLemmas.{Captures-unique}
+use Rattle.sedtext.proofs.MatchingLemmas.{groups_after-is}
+use Rattle.sedpass.specs.Groups.{has_group}
+use Rattle.sedpass.specs.Walks.{State, is_due, settle, drop_groups, GroupStandsIn, NoneDue, PassedBy, Walk, IsStart}
+
+-- whether a group stands in the expression
+pub has_told : (t : Tree) (k : ℕ) → GroupStandsIn t k → has_group t k ≡ true
+has_told empty k has = absurd has
+has_told (set members) k has = absurd has
+has_told begin k has = absurd has
+has_told end k has = absurd has
+has_told (seq a b) k (inl has) = or_left (has_group a k) (has_group b k) (has_told a k has)
+has_told (seq a b) k (inr has) = or_right (has_group a k) (has_group b k) (has_told b k has)
+has_told (alt a b) k (inl has) = or_left (has_group a k) (has_group b k) (has_told a k has)
+has_told (alt a b) k (inr has) = or_right (has_group a k) (has_group b k) (has_told b k has)
+has_told (group n a) k (inl same) = or_left (eqb n k) (has_group a k) (eq-eqb n k same)
+has_told (group n a) k (inr has) = or_right (eqb n k) (has_group a k) (has_told a k has)
+has_told (star a first) k has = has_told a k has
+has_told (opt a first) k has = has_told a k has
+
+pub told_has : (t : Tree) (k : ℕ) → has_group t k ≡ true → GroupStandsIn t k
+told_has empty k is = absurd (true≢false (sym is))
+told_has (set members) k is = absurd (true≢false (sym is))
+told_has begin k is = absurd (true≢false (sym is))
+told_has end k is = absurd (true≢false (sym is))
+told_has (seq a b) k is = elim (or_cases (has_group a k) (has_group b k) is) [ inl l ↦ inl (told_has a k l) | inr r ↦ inr (told_has b k r) ]
+told_has (alt a b) k is = elim (or_cases (has_group a k) (has_group b k) is) [ inl l ↦ inl (told_has a k l) | inr r ↦ inr (told_has b k r) ]
+told_has (group n a) k is = elim (or_cases (eqb n k) (has_group a k) is) [ inl l ↦ inl (eqb-true n k l) | inr r ↦ inr (told_has a k r) ]
+told_has (star a first) k is = told_has a k is
+told_has (opt a first) k is = told_has a k is
+
+abbrev Span : Type 0
+Span = Option (ℕ × ℕ)
+
+-- the entry of the group, if there is one, after nothing or this is done to it
+abbrev pub lay : Option Span → Option Span → Option Span
+lay None d = None
+lay (Some v) None = Some v
+lay (Some v) (Some u) = Some u
+
+-- the same where the group is due
+abbrev pub put : Bool → Option Span → Option Span → Option Span
+put true x d = lay x d
+put false x d = x
+
+-- whether it is due after that
+abbrev pub left : Bool → Option Span → Bool
+left b None = b
+left b (Some u) = false
+
+-- it is done where the test holds
+abbrev pub deed : Bool → Span → Option Span
+deed true v = Some v
+deed false v = None
+
+-- of two deeds the second is done before the first for a list, and after it for what is due
+lay-over : (x e d : Option Span) → lay x (option_or e d) ≡ lay (lay x d) e
+lay-over None e d = refl
+lay-over (Some v) None None = refl
+lay-over (Some v) None (Some t) = refl
+lay-over (Some v) (Some u) None = refl
+lay-over (Some v) (Some u) (Some t) = refl
+
+left-over : (b : Bool) (e d : Option Span) → left b (option_or e d) ≡ left (left b e) d
+left-over b None d = refl
+left-over b (Some u) None = refl
+left-over b (Some u) (Some t) = refl
+
+put-over : (b : Bool) (x e d : Option Span) → put b x (option_or e d) ≡ put (left b e) (put b x e) d
+put-over false x None d = refl
+put-over false x (Some u) d = refl
+put-over true None None d = refl
+put-over true (Some v) None d = refl
+put-over true x (Some u) d = refl
+
+put-none : (b : Bool) (x : Option Span) → put b x None ≡ x
+put-none true None = refl
+put-none true (Some v) = refl
+put-none false x = refl
+
+pub left-not : (b : Bool) (d : Option Span) → b ≡ false → left b d ≡ false
+left-not b None is = is
+left-not b (Some u) is = refl
+
+over-gone : (x y : Bool) → option_or (deed x None) (deed y None) ≡ deed (x || y) None
+over-gone true y = refl
+over-gone false y = refl
+
+gone-over : (x y : Bool) → option_or (deed y None) (deed x None) ≡ deed (x || y) None
+gone-over true true = refl
+gone-over true false = refl
+gone-over false true = refl
+gone-over false false = refl
+
+-- this becomes of group k from one state to the other
+pub record Takes (k : ℕ) (d : Option Span) (old new : State) : Type 0 where
+  pub due : is_due new k ≡ left (is_due old k) d
+  pub span : slice_get new.spans k ≡ put (is_due old k) (slice_get old.spans k) d
+  pub long : length new.due ≡ length old.due
+
+takes-then : (k : ℕ) (e d : Option Span) (old mid new : State) → Takes k e old mid → Takes k d mid new → Takes k (option_or e d) old new
+takes-then k e d old mid new one two = record {
+  due = two.due ∙ ap (λ b. left b d) one.due ∙ sym (left-over (is_due old k) e d);
+  span = two.span ∙ ap (λ b. put b (slice_get mid.spans k) d) one.due ∙ ap (λ x. put (left (is_due old k) e) x d) one.span ∙ sym (put-over (is_due old k) (slice_get old.spans k) e d);
+  long = two.long ∙ one.long;
+}
+
+takes-none : (k : ℕ) (s : State) → Takes k None s s
+takes-none k s = record { due = refl; span = sym (put-none (is_due s k) (slice_get s.spans k)); long = refl }
+
+takes-not : (k : ℕ) (d : Option Span) (s : State) → is_due s k ≡ false → Takes k d s s
+takes-not k d s is = record { due = is ∙ sym (left-not (is_due s k) d is); span = sym (ap (λ b. put b (slice_get s.spans k) d) is); long = refl }
+
+-- the last copy
+pub copy_spans : (R : ℕ → ℕ → Type 0) (j i c : ℕ) → LastCopy R j i c → (i ≤ c) × (c < j) × R c j
+copy_spans R j i c (only _ lt r) = (omega arith, lt, r)
+copy_spans R j i c (then _ k _ up low r rest most last) = let later = copy_spans R j k c last in (omega arith, later.1, later.2)
+
+-- one group is set
+set_same : (k : ℕ) (v : Span) (g : Groups) → slice_get (slice_set g k v) k ≡ lay (slice_get g k) (Some v)
+set_same k v [] = refl
+set_same zero v (x ∷ g) = refl
+set_same (suc k) v (x ∷ g) = set_same k v g
+
+set_other : (n k : ℕ) (v : Span) (g : Groups) → (n ≡ k → ⊥) → slice_get (slice_set g n v) k ≡ lay (slice_get g k) None
+set_other n k v [] ne = refl
+set_other zero zero v (x ∷ g) ne = absurd (ne refl)
+set_other zero (suc k) v (x ∷ g) ne = sym (put-none true (slice_get g k))
+set_other (suc n) zero v (x ∷ g) ne = refl
+set_other (suc n) (suc k) v (x ∷ g) ne = set_other n k v g (λ e. ne (omega (arith, e)))
+
+set_at : (n k : ℕ) (v : Span) (g : Groups) → slice_get (slice_set g n v) k ≡ lay (slice_get g k) (deed (eqb n k) v)
+set_at n k v g = elim (eqb_tells n k) [
+  | inl same ↦ ap (λ m. slice_get (slice_set g m v) k) same.1 ∙ set_same k v g ∙ ap (λ b. lay (slice_get g k) (deed b v)) (sym same.0)
+  | inr other ↦ set_other n k v g other.1 ∙ ap (λ b. lay (slice_get g k) (deed b v)) (sym other.0)
+]
+
+closed : (due : List Bool) (k : ℕ) → slice_index_or (slice_set due k false) k false ≡ false
+closed [] k = refl
+closed (b ∷ due) zero = refl
+closed (b ∷ due) (suc k) = closed due k
+
+pub set_due : (n k : ℕ) (v : Span) (due : List Bool) → slice_index_or (slice_set due n false) k false ≡ left (slice_index_or due k false) (deed (eqb n k) v)
+set_due n k v due = elim (eqb_tells n k) [
+  | inl same ↦ ap (λ m. slice_index_or (slice_set due m false) k false) same.1 ∙ closed due k ∙ ap (λ b. left (slice_index_or due k false) (deed b v)) (sym same.0)
+  | inr other ↦ get_or-set_other due n k false false (λ e. other.1 (sym e)) ∙ ap (λ b. left (slice_index_or due k false) (deed b v)) (sym other.0)
+]
+
+pub settle-due : (k : ℕ) (v : Span) (s : State) → is_due s k ≡ true → settle k v s ≡ record { due = slice_set s.due k false; spans = slice_set s.spans k v }
+settle-due k v s is = rw is refl
+
+pub settle-not : (k : ℕ) (v : Span) (s : State) → is_due s k ≡ false → settle k v s ≡ s
+settle-not k v s is = rw is refl
+
+pub settle_takes : (n k : ℕ) (v : Span) (s : State) → Takes k (deed (eqb n k) v) s (settle n v s)
+settle_takes n k v s = elim (cases_Bool (is_due s n)) [
+  | inl on ↦ subst (Takes k (deed (eqb n k) v) s) (sym (settle-due n v s on)) record { due = set_due n k v s.due; span = set_at n k v s.spans ∙ sym (as_due on); long = length-set s.due n false }
+  | inr off ↦ subst (Takes k (deed (eqb n k) v) s) (sym (settle-not n v s off)) (as_not off)
+]
+  where
+    as_due : is_due s n ≡ true → put (is_due s k) (slice_get s.spans k) (deed (eqb n k) v) ≡ lay (slice_get s.spans k) (deed (eqb n k) v)
+    as_due on = elim (eqb_tells n k) [
+      | inl same ↦ ap (λ b. put b (slice_get s.spans k) (deed (eqb n k) v)) (ap (is_due s) (sym same.1) ∙ on)
+      | inr other ↦ rw other.0 (put-none (is_due s k) (slice_get s.spans k) ∙ sym (put-none true (slice_get s.spans k)))
+    ]
+
+    as_not : is_due s n ≡ false → Takes k (deed (eqb n k) v) s s
+    as_not off = elim (eqb_tells n k) [ inl same ↦ takes-not k _ s (ap (is_due s) (sym same.1) ∙ off) | inr other ↦ rw other.0 (takes-none k s) ]
+
+pub index_as : (xs ys : Groups) (k : ℕ) → slice_get xs k ≡ slice_get ys k → slice_index_or xs k None ≡ slice_index_or ys k None
+index_as xs ys k same = sym (unwrap_or-slice_get xs k None) ∙ ap (λ x. unwrap_or x None) same ∙ unwrap_or-slice_get ys k None
+
+-- what is due has no span: so it is after this
+pub takes_blank : (k : ℕ) (d : Option Span) (old new : State) → Takes k d old new → (is_due old k ≡ true → slice_index_or old.spans k None ≡ None) → is_due new k ≡ true →
+    slice_index_or new.spans k None ≡ None
+takes_blank k None old new one blank due = index_as new.spans old.spans k (one.span ∙ put-none (is_due old k) (slice_get old.spans k)) ∙ blank (sym one.due ∙ due)
+takes_blank k (Some u) old new one blank due = absurd (true≢false (sym due ∙ one.due))
+
+blank_put : (b : Bool) (x : Option Span) (has : Bool) → (b ≡ true → unwrap_or x None ≡ None) → put b x (deed has None) ≡ x
+blank_put false x has none = refl
+blank_put true None has none = refl
+blank_put true (Some v) true none = ap (λ u. Some u) (sym (none refl))
+blank_put true (Some v) false none = refl
+
+-- the groups of an expression are dropped, or forgotten
+pub drop_takes : (t : Tree) (k : ℕ) (s : State) → Takes k (deed (has_group t k) None) s (drop_groups t s)
+drop_takes empty k s = takes-none k s
+drop_takes (set has) k s = takes-none k s
+drop_takes begin k s = takes-none k s
+drop_takes end k s = takes-none k s
+drop_takes (seq a b) k s =
+    subst (λ d. Takes k d s (drop_groups (seq a b) s)) (over-gone (has_group a k) (has_group b k)) (takes-then k _ _ s _ _ (drop_takes a k s) (drop_takes b k (drop_groups a s)))
+drop_takes (alt a b) k s =
+    subst (λ d. Takes k d s (drop_groups (alt a b) s)) (over-gone (has_group a k) (has_group b k)) (takes-then k _ _ s _ _ (drop_takes a k s) (drop_takes b k (drop_groups a s)))
+drop_takes (group n a) k s =
+    subst (λ d. Takes k d s (drop_groups (group n a) s)) (over-gone (eqb n k) (has_group a k)) (takes-then k _ _ s _ _ (settle_takes n k None s) (drop_takes a k (settle n None s)))
+drop_takes (star a first) k s = drop_takes a k s
+drop_takes (opt a first) k s = drop_takes a k s
+
+forget_two : (x : Option Span) (p q : Bool) → lay (lay x (deed p None)) (deed q None) ≡ lay x (deed (p || q) None)
+forget_two x p q = sym (lay-over x (deed q None) (deed p None)) ∙ ap (lay x) (gone-over p q)
+
+forget_at : (t : Tree) (k : ℕ) (g : Groups) → slice_get (forget t g) k ≡ lay (slice_get g k) (deed (has_group t k) None)
+forget_at empty k g = sym (put-none true (slice_get g k))
+forget_at (set has) k g = sym (put-none true (slice_get g k))
+forget_at begin k g = sym (put-none true (slice_get g k))
+forget_at end k g = sym (put-none true (slice_get g k))
+forget_at (seq a b) k g =
+    forget_at b k (forget a g) ∙ ap (λ x. lay x (deed (has_group b k) None)) (forget_at a k g) ∙ forget_two (slice_get g k) (has_group a k) (has_group b k)
+forget_at (alt a b) k g =
+    forget_at b k (forget a g) ∙ ap (λ x. lay x (deed (has_group b k) None)) (forget_at a k g) ∙ forget_two (slice_get g k) (has_group a k) (has_group b k)
+forget_at (group n a) k g =
+    forget_at a k (slice_set g n None) ∙ ap (λ x. lay x (deed (has_group a k) None)) (set_at n k None g) ∙ forget_two (slice_get g k) (eqb n k) (has_group a k)
+forget_at (star a first) k g = forget_at a k g
+forget_at (opt a first) k g = forget_at a k g
+
+-- this becomes of entry k of a list, which is nothing unless P
+record Lays (k : ℕ) (P : Type 0) (g h : Groups) (d : Option Span) : Type 0 where
+  at : slice_get h k ≡ lay (slice_get g k) d
+  none : (d ≡ None) ⊎ P
+
+-- what becomes of it as a part is decided and the groups in it are dropped; and as the part is a group too
+abbrev within : Tree → ℕ → Option Span → Option Span
+within a k d = option_or d (deed (has_group a k) None)
+
+abbrev around : ℕ → Span → Tree → ℕ → Option Span → Option Span
+around n v a k d = option_or (deed (eqb n k) v) (within a k d)
+
+both_none : (P : Type 0) (e d : Option Span) → (e ≡ None) ⊎ P → (d ≡ None) ⊎ P → (option_or e d ≡ None) ⊎ P
+both_none P e d (inl x) (inl y) = inl (ap (λ v. option_or v d) x ∙ y)
+both_none P e d (inl x) (inr p) = inr p
+both_none P e d (inr p) y = inr p
+
+none_in : (P Q : Type 0) (d : Option Span) → (P → Q) → (d ≡ None) ⊎ P → (d ≡ None) ⊎ Q
+none_in P Q d up (inl x) = inl x
+none_in P Q d up (inr p) = inr (up p)
+
+lays-wider : (k : ℕ) (P Q : Type 0) (g h : Groups) (d : Option Span) → (P → Q) → Lays k P g h d → Lays k Q g h d
+lays-wider k P Q g h d up one = record { at = one.at; none = none_in P Q d up one.none }
+
+lays-none : (k : ℕ) (P : Type 0) (g h : Groups) → h ≡ g → Lays k P g h None
+lays-none k P g h same = record { at = ap (λ l. slice_get l k) same ∙ sym (put-none true (slice_get g k)); none = inl refl }
+
+lays-then : (k : ℕ) (P : Type 0) (g m h : Groups) (d e : Option Span) → Lays k P g m d → Lays k P m h e → Lays k P g h (option_or e d)
+lays-then k P g m h d e one two = record {
+  at = two.at ∙ ap (λ x. lay x e) one.at ∙ sym (lay-over (slice_get g k) e d);
+  none = both_none P e d two.none one.none;
+}
+
+lays-forget : (a : Tree) (k : ℕ) (g : Groups) → Lays k (GroupStandsIn a k) g (forget a g) (deed (has_group a k) None)
+lays-forget a k g = record {
+  at = forget_at a k g;
+  none = elim (cases_Bool (has_group a k)) [ inl has ↦ inr (told_has a k has) | inr lacks ↦ inl (ap (λ b. deed b None) lacks) ];
+}
+
+lays-within : (a : Tree) (k : ℕ) (g h : Groups) (d : Option Span) → Lays k (GroupStandsIn a k) (forget a g) h d → Lays k (GroupStandsIn a k) g h (within a k d)
+lays-within a k g h d one = lays-then k (GroupStandsIn a k) g (forget a g) h (deed (has_group a k) None) d (lays-forget a k g) one
+
+group_at : (x d : Option Span) (v : Span) (same has : Bool) → lay (lay (lay x (deed (same || has) None)) d) (deed same v) ≡ lay x (option_or (deed same v) (option_or d (deed has None)))
+group_at None d v same has = refl
+group_at (Some u) None v true has = refl
+group_at (Some u) (Some t) v true has = refl
+group_at (Some u) d v false has = put-none true (lay (lay (Some u) (deed has None)) d) ∙ sym (lay-over (Some u) d (deed has None))
+
+lays-around : (n : ℕ) (v : Span) (a : Tree) (k : ℕ) (g h : Groups) (d : Option Span) → Lays k (GroupStandsIn a k) (forget (group n a) g) h d →
+    Lays k (GroupStandsIn (group n a) k) g (slice_set h n v) (around n v a k d)
+lays-around n v a k g h d one =
+    let P = GroupStandsIn (group n a) k in
+    record {
+      at = set_at n k v h ∙ ap (λ x. lay x (deed (eqb n k) v)) (one.at ∙ ap (λ x. lay x d) (forget_at (group n a) k g)) ∙ group_at (slice_get g k) d v (eqb n k) (has_group a k);
+      none = both_none P (deed (eqb n k) v) _
+          (elim (eqb_tells n k) [ inl same ↦ inr (inl same.1) | inr other ↦ inl (ap (λ b. deed b v) other.0) ])
+          (none_in (GroupStandsIn a k) P _ (λ h. inr h) (both_none (GroupStandsIn a k) d _ one.none (lays-forget a k g).none));
+    }
+
+-- a match, its groups decided from the left
+captured : (k : ℕ) (e : Tree) (w : List ℕ) (i j : ℕ) (g h : Groups) → Captures e w i j g h → (d : Option Span) × Lays k (GroupStandsIn e k) g h d
+captured k empty w i j g h is = (None, lays-none k _ g h is)
+captured k (set has) w i j g h is = (None, lays-none k _ g h is)
+captured k begin w i j g h is = (None, lays-none k _ g h is)
+captured k end w i j g h is = (None, lays-none k _ g h is)
+captured k (seq a b) w i j g h c =
+    let one = captured k a w i c.0 g c.2.0 c.2.1 in
+    let two = captured k b w c.0 j c.2.0 h c.2.2 in
+    let P = GroupStandsIn (seq a b) k in
+    (option_or two.0 one.0, lays-then k P g c.2.0 h one.0 two.0 (lays-wider k (GroupStandsIn a k) P g c.2.0 one.0 (λ h. inl h) one.1) (lays-wider k (GroupStandsIn b k) P c.2.0 h two.0 (λ h. inr h) two.1))
+captured k (alt a b) w i j g h (inl c) = let one = captured k a w i j g h c.1 in (one.0, lays-wider k (GroupStandsIn a k) _ g h one.0 (λ h. inl h) one.1)
+captured k (alt a b) w i j g h (inr c) = let one = captured k b w i j g h c.1 in (one.0, lays-wider k (GroupStandsIn b k) _ g h one.0 (λ h. inr h) one.1)
+captured k (group n a) w i j g h c =
+    let one = captured k a w i j (forget (group n a) g) c.0 c.1 in
+    let d = around n (Some (i, j)) a k one.0 in
+    (d, subst (λ l. Lays k (GroupStandsIn (group n a) k) g l d) (sym c.2) (lays-around n (Some (i, j)) a k g c.0 one.0 one.1))
+captured k (star a first) w i j g h (inl c) = let one = captured k a w c.1.0 j (forget a g) h c.1.2 in (within a k one.0, lays-within a k g h one.0 one.1)
+captured k (star a first) w i j g h (inr (inl c)) = let one = captured k a w i i (forget a g) h c.3 in (within a k one.0, lays-within a k g h one.0 one.1)
+captured k (star a first) w i j g h (inr (inr c)) = (None, lays-none k _ g h c.1.1)
+captured k (opt a first) w i j g h (inl c) = let one = captured k a w i j (forget a g) h c.1 in (within a k one.0, lays-within a k g h one.0 one.1)
+captured k (opt a first) w i j g h (inr (inl c)) = let one = captured k a w i i (forget a g) h c.3 in (within a k one.0, lays-within a k g h one.0 one.1)
+captured k (opt a first) w i j g h (inr (inr c)) = (None, lays-none k _ g h c.1.1)
+
+-- a walk over the match does the same to what is due
+record Ends (k : ℕ) (P : Type 0) (C : Groups → Type 0) (g : Groups) (old new : State) : Type 0 where
+  h : Groups
+  d : Option Span
+  captures : C h
+  lays : Lays k P g h d
+  takes : Takes k d old new
+
+module _ (k : ℕ) where
+  still : (P : Type 0) (C : Groups → Type 0) (g h : Groups) (old new : State) → h ≡ g → C h → new ≡ old → Ends k P C g old new
+  still P C g h old new same captures is = record {
+    h = h;
+    d = None;
+    captures = captures;
+    lays = lays-none k P g h same;
+    takes = subst (Takes k None old) (sym is) (takes-none k old);
+  }
+
+  inside : (a : Tree) (C D : Groups → Type 0) (g : Groups) (old mid new : State) → new ≡ drop_groups a mid → ((h : Groups) → C h → D h) →
+      Ends k (GroupStandsIn a k) C (forget a g) old mid → Ends k (GroupStandsIn a k) D g old new
+  inside a C D g old mid new is up one = record {
+    h = one.h;
+    d = within a k one.d;
+    captures = up one.h one.captures;
+    lays = lays-within a k g one.h one.d one.lays;
+    takes = takes-then k one.d (deed (has_group a k) None) old mid new one.takes (subst (Takes k (deed (has_group a k) None) mid) (sym is) (drop_takes a k mid));
+  }
+
+  passed : (e : Tree) (w : List ℕ) (i j n : ℕ) (old new : State) → Matches e w i j → PassedBy e old new n → (g : Groups) → Ends k (GroupStandsIn e k) (Captures e w i j g) g old new
+  passed e w i j n old new spans by g =
+      let h = groups_after e w i j g in
+      let c = groups_after-is e w i j g spans in
+      let one = captured k e w i j g h c in
+      record {
+        h = h;
+        d = one.0;
+        captures = c;
+        lays = one.1;
+        takes = subst (Takes k one.0 old) (sym by.1) (elim one.1.none [
+          | inl none ↦ subst (λ d. Takes k d old old) (sym none) (takes-none k old)
+          | inr has ↦ takes-not k one.0 old (by.0 k has)
+        ]);
+      }
+
+  walked : (e : Tree) (w : List ℕ) (i j n : ℕ) (old new : State) → Matches e w i j → Walk e w i j old new n → (g : Groups) → Ends k (GroupStandsIn e k) (Captures e w i j g) g old new
+  walked empty w i j n old new spans walk g = still _ _ g g old new refl refl walk.0
+  walked (set has) w i j n old new spans walk g = still _ _ g g old new refl refl walk.0
+  walked begin w i j n old new spans walk g = still _ _ g g old new refl refl walk.0
+  walked end w i j n old new spans walk g = still _ _ g g old new refl refl walk.0
+  walked (seq a b) w i j n old new spans (inl by) g = passed (seq a b) w i j n old new spans by g
+  walked (seq a b) w i j n old new spans (inr (p, q, is, c, cut, mid, second, first)) g =
+      let one = walked a w i c q mid new cut.left first g in
+      let two = walked b w c j p old mid cut.right second one.h in
+      let P = GroupStandsIn (seq a b) k in
+      record {
+        h = two.h;
+        d = option_or two.d one.d;
+        captures = (c, cut, (one.h, one.captures, two.captures));
+        lays = lays-then k P g one.h two.h one.d two.d (lays-wider k (GroupStandsIn a k) P g one.h one.d (λ h. inl h) one.lays) (lays-wider k (GroupStandsIn b k) P one.h two.h two.d (λ h. inr h) two.lays);
+        takes = takes-then k two.d one.d old mid new two.takes one.takes;
+      }
+  walked (alt a b) w i j n old new spans (inl by) g = passed (alt a b) w i j n old new spans by g
+  walked (alt a b) w i j n old new spans (inr (p, is, inl (at, walk))) g =
+      let one = walked a w i j p old new at walk g in
+      record { h = one.h; d = one.d; captures = inl (at, one.captures); lays = lays-wider k (GroupStandsIn a k) _ g one.h one.d (λ h. inl h) one.lays; takes = one.takes }
+  walked (alt a b) w i j n old new spans (inr (p, is, inr (not, walk))) g =
+      let at : Matches b w i j = ⊎_elim (λ (l : Matches a w i j). absurd (not l)) (λ (r : Matches b w i j). r) spans in
+      let one = walked b w i j p old new at walk g in
+      record { h = one.h; d = one.d; captures = inr (not, one.captures); lays = lays-wider k (GroupStandsIn b k) _ g one.h one.d (λ h. inr h) one.lays; takes = one.takes }
+  walked (group m a) w i j n old new spans (inl by) g = passed (group m a) w i j n old new spans by g
+  walked (group m a) w i j n old new spans (inr (p, is, mid, walk, last)) g =
+      let v = Some (i, j) in
+      let one = walked a w i j p (settle m v old) mid spans walk (forget (group m a) g) in
+      record {
+        h = slice_set one.h m v;
+        d = around m v a k one.d;
+        captures = (one.h, one.captures, refl);
+        lays = lays-around m v a k g one.h one.d one.lays;
+        takes = takes-then k (deed (eqb m k) v) (within a k one.d) old (settle m v old) new (settle_takes m k v old)
+            (takes-then k one.d (deed (has_group a k) None) (settle m v old) mid new one.takes (subst (Takes k (deed (has_group a k) None) mid) (sym last) (drop_takes a k mid)));
+      }
+  walked (star a first) w i j n old new spans (inl by) g = passed (star a first) w i j n old new spans by g
+  walked (star a first) w i j n old new spans (inr (p, is, inl (lt, c, copy, mid, walk, last))) g =
+      inside a _ _ g old mid new last (λ h captures. inl (lt, (c, copy, captures))) (walked a w c j p old mid (copy_spans (Matches a w) j i c copy).2 walk (forget a g))
+  walked (star a first) w i j n old new spans (inr (p, is, inr (inl (same, one, at, mid, walk, last)))) g =
+      inside a _ _ g old mid new last (λ h captures. inr (inl (same, one, at, captures))) (walked a w i i p old mid at walk (forget a g))
+  walked (star a first) w i j n old new spans (inr (p, is, inr (inr (same, not, still_is, none)))) g = still _ _ g g old new refl (inr (inr (same, (not, refl)))) still_is
+  walked (opt a first) w i j n old new spans (inl by) g = passed (opt a first) w i j n old new spans by g
+  walked (opt a first) w i j n old new spans (inr (p, is, inl (lt, mid, walk, last))) g =
+      let at : Matches a w i j = ⊎_elim (λ (e : i ≡ j). absurd (omega (arith, e, lt))) (λ (r : Matches a w i j). r) spans in
+      inside a _ _ g old mid new last (λ h captures. inl (lt, captures)) (walked a w i j p old mid at walk (forget a g))
+  walked (opt a first) w i j n old new spans (inr (p, is, inr (inl (same, one, at, mid, walk, last)))) g =
+      inside a _ _ g old mid new last (λ h captures. inr (inl (same, one, at, captures))) (walked a w i i p old mid at walk (forget a g))
+  walked (opt a first) w i j n old new spans (inr (p, is, inr (inr (same, not, still_is, none)))) g = still _ _ g g old new refl (inr (inr (same, (not, refl)))) still_is
+
+-- what isn't due doesn't become so
+pub stays : (e t : Tree) (w : List ℕ) (i j n : ℕ) (old new : State) → Matches e w i j → Walk e w i j old new n → NoneDue t old → NoneDue t new
+stays e t w i j n old new spans walk none k has =
+    let one = walked k e w i j n old new spans walk no_groups in
+    one.takes.due ∙ left-not (is_due old k) one.d (none k has)
+
+pub drop-not : (t : Tree) (s : State) → NoneDue t s → drop_groups t s ≡ s
+drop-not empty s none = refl
+drop-not (set has) s none = refl
+drop-not begin s none = refl
+drop-not end s none = refl
+drop-not (seq a b) s none = ap (drop_groups b) (drop-not a s (λ k h. none k (inl h))) ∙ drop-not b s (λ k h. none k (inr h))
+drop-not (alt a b) s none = ap (drop_groups b) (drop-not a s (λ k h. none k (inl h))) ∙ drop-not b s (λ k h. none k (inr h))
+drop-not (group k a) s none = ap (drop_groups a) (settle-not k None s (none k (inl refl))) ∙ drop-not a s (λ n h. none n (inr h))
+drop-not (star a first) s none = drop-not a s none
+drop-not (opt a first) s none = drop-not a s none
+
+pub same_lists : {X : Type 0} (xs ys : List X) → ((k : ℕ) → slice_get xs k ≡ slice_get ys k) → xs ≡ ys
+same_lists [] [] each = refl
+same_lists [] (y ∷ ys) each = absurd (none-some y (each 0))
+same_lists (x ∷ xs) [] each = absurd (none-some x (sym (each 0)))
+same_lists (x ∷ xs) (y ∷ ys) each = let one = same_Some x y (each 0) in ap (λ b. b ∷ xs) one ∙ ap (λ l. y ∷ l) (same_lists xs ys (λ k. each (suc k)))
+
+-- entry 0 has no part in the others
+later : (span : Span) (k : ℕ) (inner : Groups) → slice_get (slice_set inner 0 span) (suc k) ≡ slice_get inner (suc k)
+later span k [] = refl
+later span k (x ∷ inner) = refl
+
+-- from a state with the match's span alone, an entry that is due is that of the report
+due_entry : (e : Tree) (w : List ℕ) (i j n k : ℕ) (old new : State) (inner : Groups) → old.spans ≡ Some (i, j) ∷ replicate 9 None → Matches e w i j → Walk e w i j old new n →
+    Captures e w i j no_groups inner → is_due old (suc k) ≡ true → slice_get new.spans (suc k) ≡ slice_get inner (suc k)
+due_entry e w i j n k old new inner start spans walk captures due =
+    let one = walked (suc k) e w i j n old new spans walk no_groups in
+    one.takes.span ∙ ap (λ b. put b (slice_get old.spans (suc k)) one.d) due ∙ ap (λ l. lay (slice_get l (suc k)) one.d) start ∙ sym one.lays.at
+    ∙ ap (λ g. slice_get g (suc k)) (Captures-unique e w i j no_groups one.h inner one.captures captures)
+
+pub wanted : (e : Tree) (w : List ℕ) (i j n k : ℕ) (old new : State) (groups : Groups) → old.spans ≡ Some (i, j) ∷ replicate 9 None → Matches e w i j → Walk e w i j old new n →
+    IsReport e w i j groups → is_due old (suc k) ≡ true → slice_index_or new.spans (suc k) None ≡ slice_index_or groups (suc k) None
+wanted e w i j n k old new groups start spans walk report due =
+    index_as new.spans groups (suc k)
+    (due_entry e w i j n k old new report.0 start spans walk report.1 due ∙ sym (ap (λ g. slice_get g (suc k)) report.2 ∙ later (Some (i, j)) k report.0))
+
+-- and if all groups of the expression are due, all entries are
+pub walk_report : (e : Tree) (w : List ℕ) (i j n : ℕ) (old new : State) → IsStart e i j old → Matches e w i j → Walk e w i j old new n → IsReport e w i j new.spans
+walk_report e w i j n old new start spans walk =
+    let inner = groups_after e w i j no_groups in
+    let captures = groups_after-is e w i j no_groups spans in
+    (inner, captures, same_lists new.spans (slice_set inner 0 (Some (i, j))) (each inner captures))
+  where
+    first : Groups
+    first = Some (i, j) ∷ replicate 9 None
+
+    -- an entry that isn't due is as before
+    before : (k : ℕ) → is_due old k ≡ false → slice_get new.spans k ≡ slice_get first k
+    before k not = let one = walked k e w i j n old new spans walk no_groups in one.takes.span ∙ ap (λ b. put b (slice_get old.spans k) one.d) not ∙ ap (λ l. slice_get l k) start.none
+
+    each : (inner : Groups) → Captures e w i j no_groups inner → (k : ℕ) → slice_get new.spans k ≡ slice_get (slice_set inner 0 (Some (i, j))) k
+    each inner captures zero =
+        let one = captured 0 e w i j no_groups inner captures in
+        before 0 start.whole ∙ sym (set_same 0 (Some (i, j)) inner ∙ ap (λ x. lay x (Some (Some (i, j)))) one.1.at ∙ lay_some one.0)
+      where
+        lay_some : (d : Option Span) → lay (lay (Some None) d) (Some (Some (i, j))) ≡ Some (Some (i, j))
+        lay_some None = refl
+        lay_some (Some u) = refl
+    each inner captures (suc k) = elim (cases_Bool (is_due old (suc k))) [
+      | inl due ↦ due_entry e w i j n k old new inner start.none spans walk captures due ∙ sym (later (Some (i, j)) k inner)
+      | inr not ↦ before (suc k) not ∙ sym (later (Some (i, j)) k inner ∙ kept k not)
+    ]
+      where
+        kept : (k : ℕ) → is_due old (suc k) ≡ false → slice_get inner (suc k) ≡ slice_get no_groups (suc k)
+        kept k not =
+            let one = captured (suc k) e w i j no_groups inner captures in
+            let x = slice_get no_groups (suc k) in
+            one.1.at ∙ elim one.1.none [
+              | inl none ↦ ap (lay x) none ∙ put-none true x
+              | inr has ↦ elim (cases_lt (suc k) 10) [
+                | inl low ↦ absurd (true≢false (sym (start.each (suc k) (omega arith) low has) ∙ not))
+                | inr high ↦ let past = slice_get_past no_groups (suc k) high in ap (λ y. lay y one.0) past ∙ sym past
+              ]
+            ]
+
+abbrev pub made : List Bool → Groups → State
+made due spans = record { due = due; spans = spans }
+
+pub same_state : (due rest : List Bool) (g h : Groups) → due ≡ rest → g ≡ h → made due g ≡ made rest h
+same_state due rest g h one two = ap (λ v. made v g) one ∙ ap (made rest) two
+
+pub same_bools : (xs ys : List Bool) → length xs ≡ length ys → ((k : ℕ) → slice_index_or xs k false ≡ slice_index_or ys k false) → xs ≡ ys
+same_bools [] [] long each = refl
+same_bools [] (y ∷ ys) long each = absurd (omega (arith, long))
+same_bools (x ∷ xs) [] long each = absurd (omega (arith, long))
+same_bools (x ∷ xs) (y ∷ ys) long each =
+    ap (λ b. b ∷ xs) (each 0) ∙ ap (λ l. y ∷ l) (same_bools xs ys (omega (arith, long)) (λ k. each (suc k)))
+
+-- where what is due has no span, to drop the groups of a tree is to take them from what is due
+pub drop_as : (t : Tree) (s new : State) → ((k : ℕ) → is_due s k ≡ true → slice_index_or s.spans k None ≡ None) → new.spans ≡ s.spans → length new.due ≡ length s.due →
+    ((k : ℕ) → is_due new k ≡ left (is_due s k) (deed (has_group t k) None)) → new ≡ drop_groups t s
+drop_as t s new blank same long tells =
+    same_state new.due (drop_groups t s).due new.spans (drop_groups t s).spans
+    (same_bools new.due (drop_groups t s).due (long ∙ sym (drop_takes t 0 s).long) (λ k. tells k ∙ sym (drop_takes t k s).due))
+    (same ∙ same_lists s.spans (drop_groups t s).spans (λ k. sym ((drop_takes t k s).span
+    ∙ blank_put (is_due s k) (slice_get s.spans k) (has_group t k) (λ due. unwrap_or-slice_get s.spans k None ∙ blank k due))))
