@@ -254,12 +254,6 @@ starred false x c is = cc
 -- by the runs of the nodes before it
 run_by : (nodes : List Node) → IsArena nodes → AreRanges nodes → (x c : ℕ) → x < length nodes → ((y : ℕ) → y < x → run_of (tree_at nodes y) y ≡ Some c → IsRun nodes y c) →
     (m : Node) → slice_get nodes x ≡ Some m → run_of (tree_at nodes x) x ≡ Some c → IsRun nodes x c
-run_by nodes arena ranges x c inside below Empty is = rw (tree_at-node nodes x Empty arena is) (λ h. cc)
-run_by nodes arena ranges x c inside below (Set members) is = rw (tree_at-node nodes x (Set members) arena is) (λ h. cc)
-run_by nodes arena ranges x c inside below Begin is = rw (tree_at-node nodes x Begin arena is) (λ h. cc)
-run_by nodes arena ranges x c inside below End is = rw (tree_at-node nodes x End arena is) (λ h. cc)
-run_by nodes arena ranges x c inside below (Seq a b) is = rw (tree_at-node nodes x (Seq a b) arena is) (λ h. cc)
-run_by nodes arena ranges x c inside below (Alt a b) is = rw (tree_at-node nodes x (Alt a b) arena is) (λ h. cc)
 run_by nodes arena ranges x c inside below (Group k a) is =
     let next : a.index + 1 ≡ x = ranges x (Group k a) is in
     let before : x - 1 ≡ a.index = omega arith in
@@ -273,7 +267,7 @@ run_by nodes arena ranges x c inside below (Star a first) is =
     let at = both.1 in
     let here : a.index ≡ c = omega arith in
     (repeated x (a, first, is, here), subst (IsSetAt nodes) here (set_is nodes arena a.index (omega arith) both.0)))
-run_by nodes arena ranges x c inside below (Opt a first) is = rw (tree_at-node nodes x (Opt a first) arena is) (λ h. cc)
+run_by nodes arena ranges x c inside below other is = rw (tree_at-node nodes x other arena is) (λ h. cc)
 
 run_within : (n : ℕ) (nodes : List Node) → IsArena nodes → AreRanges nodes → (x c : ℕ) → x < n → x < length nodes → run_of (tree_at nodes x) x ≡ Some c → IsRun nodes x c
 run_within zero nodes arena ranges x c low inside told = absurd (omega arith)

@@ -9,7 +9,7 @@ use Rattle.sedre.specs.Arena.{IsExpr, IsPart, FollowsParts}
 use Rattle.sedre.specs.Mirror.{mirror, seen}
 use Rattle.sedre.specs.declared.types.Node.{Node}
 use Rattle.sedre.specs.declared.types.NodeId.{NodeId}
-use Rattle.sedre.specs.declared.types.Node.TheVariants.{Empty, Set, Begin, End, Seq, Alt, Group, Star, Opt}
+use Rattle.sedre.specs.declared.types.Node.TheVariants.{Set, Seq, Alt, Group, Star, Opt}
 use Rattle.sedre.proofs.TreeLemmas.{tree_at-node}
 use Rattle.sedre.proofs.Written.{size_positive}
 use Rattle.sedre.proofs.MirrorLemmas.{tree_at-mirror, seen-length}
@@ -57,15 +57,10 @@ and_swap false false = refl
 
 -- the mirrored expression is null at places of the opposite kind
 pub nullable_mirror : (first last : Bool) (t : Tree) → nullable first last (mirror t) ≡ nullable last first t
-nullable_mirror first last empty = refl
-nullable_mirror first last (set members) = refl
-nullable_mirror first last begin = refl
-nullable_mirror first last end = refl
 nullable_mirror first last (seq a b) = rw (nullable_mirror first last a, nullable_mirror first last b) (and_swap (nullable last first b) (nullable last first a))
 nullable_mirror first last (alt a b) = rw (nullable_mirror first last a, nullable_mirror first last b) refl
 nullable_mirror first last (group k a) = nullable_mirror first last a
-nullable_mirror first last (star a f) = refl
-nullable_mirror first last (opt a f) = refl
+nullable_mirror first last other = refl
 
 -- so what is told of a node serves both ways
 pub null_tells : (mirrored : Bool) (e : WrittenExpression) (kind : Kind) (w : List ℕ) (p : ℕ) → IsPlace w p (at_begin mirrored kind) (at_end mirrored kind) →
@@ -118,10 +113,6 @@ module _ (nodes : List Node) (groups : ℕ) (expr : IsExpr nodes groups) where
       (below a.index low (omega arith) (omega arith)) (below b.index (a.index + 1) (omega arith) (omega arith))
 
   range_by : (x low : ℕ) (node : Node) → slice_get nodes x ≡ Some node → FollowsParts nodes x node → RangesBelow x → low + size (tree_of (tree_at nodes) node) ≡ x + 1 → IsNodeRange nodes low x
-  range_by x low Empty is follows below long = subst (λ n. IsNodeRange nodes n x) (omega arith) (leaf_range nodes x Empty is (λ c part. part))
-  range_by x low (Set m) is follows below long = subst (λ n. IsNodeRange nodes n x) (omega arith) (leaf_range nodes x (Set m) is (λ c part. part))
-  range_by x low Begin is follows below long = subst (λ n. IsNodeRange nodes n x) (omega arith) (leaf_range nodes x Begin is (λ c part. part))
-  range_by x low End is follows below long = subst (λ n. IsNodeRange nodes n x) (omega arith) (leaf_range nodes x End is (λ c part. part))
   range_by x low (Seq a b) is follows below long =
       two_parts x low a b (Seq a b) is (inl refl) (inr refl) (λ c part. ⊎_elim (λ (l : a.index ≡ c). inl (sym l)) (λ (m : b.index ≡ c). inr (sym m)) part) follows below long
   range_by x low (Alt a b) is follows below long =
@@ -129,6 +120,7 @@ module _ (nodes : List Node) (groups : ℕ) (expr : IsExpr nodes groups) where
   range_by x low (Group k a) is follows below long = one_part x low a (Group k a) is refl (λ c part. sym part) follows below long
   range_by x low (Star a f) is follows below long = one_part x low a (Star a f) is refl (λ c part. sym part) follows below long
   range_by x low (Opt a f) is follows below long = one_part x low a (Opt a f) is refl (λ c part. sym part) follows below long
+  range_by x low other is follows below long = subst (λ n. IsNodeRange nodes n x) (omega arith) (leaf_range nodes x other is (λ c part. part))
 
   ranges_below : (n : ℕ) → n ≤ length nodes → RangesBelow n
   ranges_below zero small y low less long = absurd (omega arith)
@@ -158,25 +150,16 @@ inside_seen mirrored e x inside = subst (λ n. x < n) (sym (seen-length mirrored
 
 set_by : (t : Tree) → size t ≡ 1 → length_of t ≡ Some 1 → is_set t ≡ true
 set_by (set members) small long = refl
-set_by empty small long = absurd cc
-set_by begin small long = absurd cc
-set_by end small long = absurd cc
 set_by (seq a b) small long = absurd (omega (arith, small, size_positive a))
 set_by (alt a b) small long = absurd (omega (arith, small, size_positive a))
 set_by (group k a) small long = absurd (omega (arith, small, size_positive a))
 set_by (star a first) small long = absurd (omega (arith, small, size_positive a))
 set_by (opt a first) small long = absurd (omega (arith, small, size_positive a))
+set_by other small long = absurd cc
 
 by_set : (t : Tree) → (size t ≡ 1 → length_of t ≡ Some 1 → ⊥) → is_set t ≡ false
 by_set (set members) none = absurd (none refl refl)
-by_set empty none = refl
-by_set begin none = refl
-by_set end none = refl
-by_set (seq a b) none = refl
-by_set (alt a b) none = refl
-by_set (group k a) none = refl
-by_set (star a first) none = refl
-by_set (opt a first) none = refl
+by_set other none = refl
 
 -- a node without parts whose matches have one byte is a set
 pub told_set : (a : Tree) (x : ℕ) (part : Facts) → IsFacts a x part → part.low ≡ x → part.length ≡ Some 1 → is_set a ≡ true
@@ -216,15 +199,12 @@ short_more None i j le p = tt
 short_more (Some m) i j le p = omega (arith, le, p)
 
 length_short : (t : Tree) → IfSome (length_of t) (λ n. n ≤ size t)
-length_short empty = omega arith
-length_short (set members) = omega arith
-length_short begin = omega arith
-length_short end = omega arith
 length_short (seq a b) = short_sum (length_of a) (length_of b) (size a) (size b) (length_short a) (length_short b)
 length_short (alt a b) = short_same (length_of a) (length_of b) (size a) (size b) (length_short a)
 length_short (group k a) = short_more (length_of a) (size a) (1 + size a) (omega arith) (length_short a)
 length_short (star a first) = tt
 length_short (opt a first) = tt
+length_short other = omega arith
 
 pub told_short : (a : Tree) (x : ℕ) (part : Facts) → IsFacts a x part → size a ≤ 65536 → IsShort part.length
 told_short a x part told small = subst IsShort (sym told.long) (short_more (length_of a) (size a) 65536 small (length_short a))
@@ -311,14 +291,7 @@ told_anywhere nodes told all facts each x first last inside =
 module _ (nodes : List Node) (groups : ℕ) (expr : IsExpr nodes groups) where
   set_node : (a : ℕ) (node : Node) → slice_get nodes a ≡ Some node → is_set (tree_of (tree_at nodes) node) ≡ true → (members : List Bool) × (slice_get nodes a ≡ Some (Set members))
   set_node a (Set m) is set_here = (m, is)
-  set_node a Empty is set_here = absurd (true≢false (sym set_here))
-  set_node a Begin is set_here = absurd (true≢false (sym set_here))
-  set_node a End is set_here = absurd (true≢false (sym set_here))
-  set_node a (Seq b d) is set_here = absurd (true≢false (sym set_here))
-  set_node a (Alt b d) is set_here = absurd (true≢false (sym set_here))
-  set_node a (Group k b) is set_here = absurd (true≢false (sym set_here))
-  set_node a (Star b f) is set_here = absurd (true≢false (sym set_here))
-  set_node a (Opt b f) is set_here = absurd (true≢false (sym set_here))
+  set_node a other is set_here = absurd (true≢false (sym set_here))
 
   -- a part that is a set
   set_part : (a : ℕ) → a < length nodes → is_set (tree_at nodes a) ≡ true → (members : List Bool) × (slice_get nodes a ≡ Some (Set members))
@@ -343,12 +316,6 @@ module _ (nodes : List Node) (groups : ℕ) (expr : IsExpr nodes groups) where
       ] refl run
 
   by_node : (x c : ℕ) → ((y : ℕ) → y < x → y < length nodes → run_of (tree_at nodes y) y ≡ Some c → Run c y) → (node : Node) → slice_get nodes x ≡ Some node → run_of (tree_of (tree_at nodes) node) x ≡ Some c → Run c x
-  by_node x c below Empty is run = absurd cc
-  by_node x c below (Set m) is run = absurd cc
-  by_node x c below Begin is run = absurd cc
-  by_node x c below End is run = absurd cc
-  by_node x c below (Seq a b) is run = absurd cc
-  by_node x c below (Alt a b) is run = absurd cc
   by_node x c below (Group k a) is run =
       let next = expr.ranges x (Group k a) is in
       let inside = slice_get_within nodes x (Group k a) is in
@@ -356,7 +323,7 @@ module _ (nodes : List Node) (groups : ℕ) (expr : IsExpr nodes groups) where
       let inner = below a.index (omega arith) (omega arith) (ap (λ n. run_of (tree_at nodes a.index) n) (sym index) ∙ run) in
       (in_group x k a is inner.0, inner.1)
   by_node x c below (Star a first) is run = star_run x c a first is run
-  by_node x c below (Opt a first) is run = absurd cc
+  by_node x c below other is run = absurd cc
 
   run_by : (n x c : ℕ) → x < n → x < length nodes → run_of (tree_at nodes x) x ≡ Some c → Run c x
   run_by zero x c small inside run = absurd (omega arith)

@@ -8,7 +8,7 @@ use Rattle.sedre.specs.Mirror.{mirror_node, seen}
 use Rattle.sedre.proofs.MirrorLemmas.{seen-node, old_node}
 use Rattle.sedre.specs.declared.types.Node.{Node}
 use Rattle.sedre.specs.declared.types.NodeId.{NodeId}
-use Rattle.sedre.specs.declared.types.Node.TheVariants.{Empty, Set, Begin, End, Seq, Alt, Group, Star, Opt}
+use Rattle.sedre.specs.declared.types.Node.TheVariants.{Seq, Alt, Group, Star, Opt}
 use Rattle.sedtext.specs.declared.starts.Starts.{Starts}
 use Rattle.sedtext.specs.Spans.{no_copy}
 use Rattle.sedtext.specs.Reach.{At, BeginsWith, IsStart, one_start, Enters, at_root, with_whole, after_left, again, Ends}
@@ -25,32 +25,15 @@ OutOf nodes w r t y c i (Alt a b) = Leaves nodes w r t y i
 OutOf nodes w r t y c i (Group k a) = Leaves nodes w r t y i
 OutOf nodes w r t y c i (Star a first) = (k : ℕ) × Leaves nodes w r t y k × At nodes w y i k
 OutOf nodes w r t y c i (Opt a first) = Leaves nodes w r t y i
-OutOf nodes w r t y c i Empty = ⊥
-OutOf nodes w r t y c i (Set s) = ⊥
-OutOf nodes w r t y c i Begin = ⊥
-OutOf nodes w r t y c i End = ⊥
+OutOf nodes w r t y c i other = ⊥
 
 EndsWith-part : (node : Node) (c : ℕ) → EndsWith node c → IsPart node c
 EndsWith-part (Seq a b) c h = inr h
-EndsWith-part (Alt a b) c h = h
-EndsWith-part (Group k a) c h = h
-EndsWith-part (Star a first) c h = h
-EndsWith-part (Opt a first) c h = h
-EndsWith-part Empty c h = h
-EndsWith-part (Set s) c h = h
-EndsWith-part Begin c h = h
-EndsWith-part End c h = h
+EndsWith-part other c h = h
 
 IsLastPart-ends : (node : Node) (c : ℕ) → IsLastPart node c → EndsWith node c
-IsLastPart-ends (Seq a b) c h = h
-IsLastPart-ends (Alt a b) c h = h
-IsLastPart-ends (Group k a) c h = h
 IsLastPart-ends (Star a first) c h = absurd h
-IsLastPart-ends (Opt a first) c h = h
-IsLastPart-ends Empty c h = h
-IsLastPart-ends (Set s) c h = h
-IsLastPart-ends Begin c h = h
-IsLastPart-ends End c h = h
+IsLastPart-ends other c h = h
 
 module _ (nodes : List Node) (w : List ℕ) (r : ℕ) (t : Starts) (arena : IsArena nodes) where
   -- a part that ends where its node does
@@ -60,10 +43,7 @@ module _ (nodes : List Node) (w : List ℕ) (r : ℕ) (t : Starts) (arena : IsAr
   OutOf-with_end y c i (Group k a) is ends l = l
   OutOf-with_end y c i (Star a first) is ends l = (i, l, close_at nodes w y (Star a first) arena is i i no_copy)
   OutOf-with_end y c i (Opt a first) is ends l = l
-  OutOf-with_end y c i Empty is ends l = ends
-  OutOf-with_end y c i (Set s) is ends l = ends
-  OutOf-with_end y c i Begin is ends l = ends
-  OutOf-with_end y c i End is ends l = ends
+  OutOf-with_end y c i other is ends l = ends
 
   -- two nodes with one part are one
   one_node : (y z c : ℕ) (node other : Node) → slice_get nodes y ≡ Some node → slice_get nodes z ≡ Some other → IsPart node c → IsPart other c → (y ≡ z) × (node ≡ other)
@@ -142,10 +122,7 @@ module _ (nodes : List Node) (w : List ℕ) (r : ℕ) (t : Starts) (arena : IsAr
   OutOf-last y c i (Group k a) two last out = out
   OutOf-last y c i (Star a first) two last out = absurd last
   OutOf-last y c i (Opt a first) two last out = out
-  OutOf-last y c i Empty two last out = absurd out
-  OutOf-last y c i (Set s) two last out = absurd out
-  OutOf-last y c i Begin two last out = absurd out
-  OutOf-last y c i End two last out = absurd out
+  OutOf-last y c i other two last out = absurd out
 
   pub last_inside : (x : ℕ) → IsLastIn nodes r x → x ≤ r
   last_inside x (all_of _ same) = omega arith
@@ -207,36 +184,15 @@ ends_at nodes w r x q s = (
 -- a part that begins where the mirrored node does ends where the node does
 begins-ends : (node : Node) (c : ℕ) → BeginsWith node c → EndsWith (mirror_node node) c
 begins-ends (Seq a b) c h = h
-begins-ends (Alt a b) c h = h
-begins-ends (Group k a) c h = h
-begins-ends (Star a first) c h = h
-begins-ends (Opt a first) c h = h
-begins-ends Empty c h = h
-begins-ends (Set s) c h = h
-begins-ends Begin c h = h
-begins-ends End c h = h
+begins-ends other c h = h
 
 ends-begins : (node : Node) (c : ℕ) → EndsWith node c → BeginsWith (mirror_node node) c
 ends-begins (Seq a b) c h = h
-ends-begins (Alt a b) c h = h
-ends-begins (Group k a) c h = h
-ends-begins (Star a first) c h = h
-ends-begins (Opt a first) c h = h
-ends-begins Empty c h = h
-ends-begins (Set s) c h = h
-ends-begins Begin c h = h
-ends-begins End c h = h
+ends-begins other c h = h
 
 twice : (node : Node) → mirror_node (mirror_node node) ≡ node
 twice (Seq a b) = refl
-twice (Alt a b) = refl
-twice (Group k a) = refl
-twice (Star a first) = refl
-twice (Opt a first) = refl
-twice Empty = refl
-twice (Set s) = refl
-twice Begin = refl
-twice End = refl
+twice other = refl
 
 -- the ends t of the expression are the starts s of the mirrored one
 module _ (e : WrittenExpression) (w : List ℕ) (r : ℕ) (s t : Starts) (arena : IsArena e.nodes) (opposite : Opposite (length w) s t) (inside : t.last ≤ length w) where

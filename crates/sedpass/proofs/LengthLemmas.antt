@@ -1,7 +1,7 @@
 -- Spans of one length, and the cuts and copies that it decides.
 use Rattle.std.proofs.Common.{◌≡◌, ℕ, ◌+◌, ◌-◌, ◌<◌, ◌≤◌, Bool, true, false, List, Option, Some, None, cond, eqb, refl, sym, ap, ◌∙◌, subst, ⊎_elim, arith}
 use Rattle.std.proofs.lemmas.Bool.{cases_lt, eqb-true}
-use Rattle.sedre.specs.Tree.{Tree, empty, set, begin, end, seq, alt, group, star, opt}
+use Rattle.sedre.specs.Tree.{Tree, set, end, seq, alt, group, star, opt}
 use Rattle.sedtext.specs.Spans.{CopiesLead, no_copy, one_more, Matches}
 use Rattle.sedtext.specs.Caps.{LastCut, LastCopy, only, then}
 use Rattle.sedpass.specs.Lengths.{sum_of, same_of, length_of, AllLong}
@@ -26,10 +26,7 @@ same_parts (Some m) (Some k) n is =
     (ap (λ (v : ℕ). Some v) same.1, ap (λ (v : ℕ). Some v) (sym alike ∙ same.1))
 
 pub all_long : (e : Tree) (w : List ℕ) (n : ℕ) → length_of e ≡ Some n → (i j : ℕ) → Matches e w i j → j ≡ i + n
-all_long empty w n is i j s = let zero_long : 0 ≡ n = cc in omega arith
 all_long (set members) w n is i j s = let one_long : 1 ≡ n = cc in let next = s.3 in omega arith
-all_long begin w n is i j s = let zero_long : 0 ≡ n = cc in omega arith
-all_long end w n is i j s = let zero_long : 0 ≡ n = cc in omega arith
 all_long (seq a b) w n is i j s =
     let parts = sum_parts (length_of a) (length_of b) n is in
     let left = all_long a w parts.0 parts.2 i s.0 s.1 in
@@ -42,6 +39,7 @@ all_long (alt a b) w n is i j s =
 all_long (group k a) w n is i j s = all_long a w n is i j s
 all_long (star a first) w n is i j s = cc
 all_long (opt a first) w n is i j s = cc
+all_long other w n is i j s = let zero_long : 0 ≡ n = cc in omega arith
 
 module _ (A B : ℕ → ℕ → Type 0) (i j n : ℕ) (some : (k : ℕ) × A i k × B k j) where
   pub left_long : AllLong A n → LastCut A B i j (i + n)

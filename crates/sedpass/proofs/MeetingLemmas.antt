@@ -50,14 +50,7 @@ first_copy R j i (one_more _ l lt r rest) some = (l, lt, r, rest)
 
 BeginsWith-part : (node : Node) (c : ℕ) → BeginsWith node c → IsPart node c
 BeginsWith-part (Seq a b) c h = inl h
-BeginsWith-part (Alt a b) c h = h
-BeginsWith-part (Group k a) c h = h
-BeginsWith-part (Star a first) c h = h
-BeginsWith-part (Opt a first) c h = h
-BeginsWith-part Empty c h = h
-BeginsWith-part (Set s) c h = h
-BeginsWith-part Begin c h = h
-BeginsWith-part End c h = h
+BeginsWith-part other c h = h
 
 module _ (nodes : List Node) (w : List ℕ) (r : ℕ) (t : Starts) (a : ℕ) (s : Starts) (arena : IsArena nodes) (within : a ≤ r) where
   -- the node with this part spans p to k, and is left there
@@ -66,10 +59,6 @@ module _ (nodes : List Node) (w : List ℕ) (r : ℕ) (t : Starts) (a : ℕ) (s 
 
   -- from a part that begins where its node does
   wider : (y x : ℕ) (node : Node) → slice_get nodes y ≡ Some node → BeginsWith node x → (p q : ℕ) → At nodes w x p q → OutOf nodes w r t y x q node → Wider y p q
-  wider y x Empty is begins p q at out = absurd begins
-  wider y x (Set members) is begins p q at out = absurd begins
-  wider y x Begin is begins p q at out = absurd begins
-  wider y x End is begins p q at out = absurd begins
   wider y x (Seq b c) is begins p q at (inl out) = absurd (arena.distinct y (Seq b c) is (begins ∙ sym out.0))
   wider y x (Seq b c) is begins p q at (inr out) =
       let on = Matches-forward (tree_at nodes c.index) w q out.1.0 out.1.2 in
@@ -93,6 +82,7 @@ module _ (nodes : List Node) (w : List ℕ) (r : ℕ) (t : Starts) (a : ℕ) (s 
       (out.0, on, close_at nodes w y (Star b first) arena is p out.0 (CopiesLead-before (At nodes w b.index) out.0 q p forward copy copies), out.1)
   wider y x (Opt b first) is begins p q at out =
       (q, omega arith, close_at nodes w y (Opt b first) arena is p q (inr (subst (λ v. At nodes w v p q) (sym begins) at)), out)
+  wider y x other is begins p q at out = absurd begins
 
   -- a match of a from a start up to p ends at q or later, where a is left
   abbrev Onwards : ℕ → ℕ → Type 0

@@ -18,10 +18,6 @@ use Rattle.sedpass.specs.Walks.{State, is_due, settle, drop_groups, GroupStandsI
 
 -- whether a group stands in the expression
 pub has_told : (t : Tree) (k : ℕ) → GroupStandsIn t k → has_group t k ≡ true
-has_told empty k has = absurd has
-has_told (set members) k has = absurd has
-has_told begin k has = absurd has
-has_told end k has = absurd has
 has_told (seq a b) k (inl has) = or_left (has_group a k) (has_group b k) (has_told a k has)
 has_told (seq a b) k (inr has) = or_right (has_group a k) (has_group b k) (has_told b k has)
 has_told (alt a b) k (inl has) = or_left (has_group a k) (has_group b k) (has_told a k has)
@@ -30,17 +26,15 @@ has_told (group n a) k (inl same) = or_left (eqb n k) (has_group a k) (eq-eqb n 
 has_told (group n a) k (inr has) = or_right (eqb n k) (has_group a k) (has_told a k has)
 has_told (star a first) k has = has_told a k has
 has_told (opt a first) k has = has_told a k has
+has_told other k has = absurd has
 
 pub told_has : (t : Tree) (k : ℕ) → has_group t k ≡ true → GroupStandsIn t k
-told_has empty k is = absurd (true≢false (sym is))
-told_has (set members) k is = absurd (true≢false (sym is))
-told_has begin k is = absurd (true≢false (sym is))
-told_has end k is = absurd (true≢false (sym is))
 told_has (seq a b) k is = elim (or_cases (has_group a k) (has_group b k) is) [ inl l ↦ inl (told_has a k l) | inr r ↦ inr (told_has b k r) ]
 told_has (alt a b) k is = elim (or_cases (has_group a k) (has_group b k) is) [ inl l ↦ inl (told_has a k l) | inr r ↦ inr (told_has b k r) ]
 told_has (group n a) k is = elim (or_cases (eqb n k) (has_group a k) is) [ inl l ↦ inl (eqb-true n k l) | inr r ↦ inr (told_has a k r) ]
 told_has (star a first) k is = told_has a k is
 told_has (opt a first) k is = told_has a k is
+told_has other k is = absurd (true≢false (sym is))
 
 abbrev Span : Type 0
 Span = Option (ℕ × ℕ)
@@ -197,10 +191,6 @@ blank_put true (Some v) false none = refl
 
 -- the groups of an expression are dropped, or forgotten
 pub drop_takes : (t : Tree) (k : ℕ) (s : State) → Takes k (deed (has_group t k) None) s (drop_groups t s)
-drop_takes empty k s = takes-none k s
-drop_takes (set has) k s = takes-none k s
-drop_takes begin k s = takes-none k s
-drop_takes end k s = takes-none k s
 drop_takes (seq a b) k s =
     subst (λ d. Takes k d s (drop_groups (seq a b) s)) (over-gone (has_group a k) (has_group b k)) (takes-then k _ _ s _ _ (drop_takes a k s) (drop_takes b k (drop_groups a s)))
 drop_takes (alt a b) k s =
@@ -209,15 +199,12 @@ drop_takes (group n a) k s =
     subst (λ d. Takes k d s (drop_groups (group n a) s)) (over-gone (eqb n k) (has_group a k)) (takes-then k _ _ s _ _ (settle_takes n k None s) (drop_takes a k (settle n None s)))
 drop_takes (star a first) k s = drop_takes a k s
 drop_takes (opt a first) k s = drop_takes a k s
+drop_takes other k s = takes-none k s
 
 forget_two : (x : Option Span) (p q : Bool) → lay (lay x (deed p None)) (deed q None) ≡ lay x (deed (p || q) None)
 forget_two x p q = sym (lay-over x (deed q None) (deed p None)) ∙ ap (lay x) (gone-over p q)
 
 forget_at : (t : Tree) (k : ℕ) (g : Groups) → slice_get (forget t g) k ≡ lay (slice_get g k) (deed (has_group t k) None)
-forget_at empty k g = sym (put-none true (slice_get g k))
-forget_at (set has) k g = sym (put-none true (slice_get g k))
-forget_at begin k g = sym (put-none true (slice_get g k))
-forget_at end k g = sym (put-none true (slice_get g k))
 forget_at (seq a b) k g =
     forget_at b k (forget a g) ∙ ap (λ x. lay x (deed (has_group b k) None)) (forget_at a k g) ∙ forget_two (slice_get g k) (has_group a k) (has_group b k)
 forget_at (alt a b) k g =
@@ -226,6 +213,7 @@ forget_at (group n a) k g =
     forget_at a k (slice_set g n None) ∙ ap (λ x. lay x (deed (has_group a k) None)) (set_at n k None g) ∙ forget_two (slice_get g k) (eqb n k) (has_group a k)
 forget_at (star a first) k g = forget_at a k g
 forget_at (opt a first) k g = forget_at a k g
+forget_at other k g = sym (put-none true (slice_get g k))
 
 -- this becomes of entry k of a list, which is nothing unless P
 record Lays (k : ℕ) (P : Type 0) (g h : Groups) (d : Option Span) : Type 0 where
@@ -288,10 +276,6 @@ lays-around n v a k g h d one =
 
 -- a match, its groups decided from the left
 captured : (k : ℕ) (e : Tree) (w : List ℕ) (i j : ℕ) (g h : Groups) → Captures e w i j g h → (d : Option Span) × Lays k (GroupStandsIn e k) g h d
-captured k empty w i j g h is = (None, lays-none k _ g h is)
-captured k (set has) w i j g h is = (None, lays-none k _ g h is)
-captured k begin w i j g h is = (None, lays-none k _ g h is)
-captured k end w i j g h is = (None, lays-none k _ g h is)
 captured k (seq a b) w i j g h c =
     let one = captured k a w i c.0 g c.2.0 c.2.1 in
     let two = captured k b w c.0 j c.2.0 h c.2.2 in
@@ -309,6 +293,7 @@ captured k (star a first) w i j g h (inr (inr c)) = (None, lays-none k _ g h c.1
 captured k (opt a first) w i j g h (inl c) = let one = captured k a w i j (forget a g) h c.1 in (within a k one.0, lays-within a k g h one.0 one.1)
 captured k (opt a first) w i j g h (inr (inl c)) = let one = captured k a w i i (forget a g) h c.3 in (within a k one.0, lays-within a k g h one.0 one.1)
 captured k (opt a first) w i j g h (inr (inr c)) = (None, lays-none k _ g h c.1.1)
+captured k other w i j g h is = (None, lays-none k _ g h is)
 
 -- a walk over the match does the same to what is due
 record Ends (k : ℕ) (P : Type 0) (C : Groups → Type 0) (g : Groups) (old new : State) : Type 0 where
@@ -412,15 +397,12 @@ stays e t w i j n old new spans walk none k has =
     one.takes.due ∙ left-not (is_due old k) one.d (none k has)
 
 pub drop-not : (t : Tree) (s : State) → NoneDue t s → drop_groups t s ≡ s
-drop-not empty s none = refl
-drop-not (set has) s none = refl
-drop-not begin s none = refl
-drop-not end s none = refl
 drop-not (seq a b) s none = ap (drop_groups b) (drop-not a s (λ k h. none k (inl h))) ∙ drop-not b s (λ k h. none k (inr h))
 drop-not (alt a b) s none = ap (drop_groups b) (drop-not a s (λ k h. none k (inl h))) ∙ drop-not b s (λ k h. none k (inr h))
 drop-not (group k a) s none = ap (drop_groups a) (settle-not k None s (none k (inl refl))) ∙ drop-not a s (λ n h. none n (inr h))
 drop-not (star a first) s none = drop-not a s none
 drop-not (opt a first) s none = drop-not a s none
+drop-not other s none = refl
 
 pub same_lists : {X : Type 0} (xs ys : List X) → ((k : ℕ) → slice_get xs k ≡ slice_get ys k) → xs ≡ ys
 same_lists [] [] each = refl

@@ -33,8 +33,6 @@ module _ (nodes : List Node) (w : List ℕ) (arena : IsArena nodes) where
   pub null_by : (x j : ℕ) (node : Node) → slice_get nodes x ≡ Some node → At nodes w x j j ↔ NullBy (j ≡ 0) (j ≡ length w) (λ c. At nodes w c j j) node
   null_by x j Empty is = (λ h. tt, λ h. close_at nodes w x Empty arena is j j refl)
   null_by x j (Set m) is = (λ h. let f = open_at nodes w x (Set m) arena is j j h in absurd (omega (arith, f.3)), λ h. absurd h)
-  null_by x j Begin is = (λ h. (open_at nodes w x Begin arena is j j h).0, λ h. close_at nodes w x Begin arena is j j (h, h))
-  null_by x j End is = (λ h. (open_at nodes w x End arena is j j h).0, λ h. close_at nodes w x End arena is j j (h, h))
   null_by x j (Seq a b) is = (
     λ h. let f = open_at nodes w x (Seq a b) arena is j j h in
         let low = Matches-forward (tree_at nodes a.index) w j f.0 f.1 in
@@ -47,6 +45,7 @@ module _ (nodes : List Node) (w : List ℕ) (arena : IsArena nodes) where
   null_by x j (Group k a) is = (open_at nodes w x (Group k a) arena is j j, close_at nodes w x (Group k a) arena is j j)
   null_by x j (Star a first) is = (λ h. tt, λ h. close_at nodes w x (Star a first) arena is j j no_copy)
   null_by x j (Opt a first) is = (λ h. tt, λ h. close_at nodes w x (Opt a first) arena is j j (inl refl))
+  null_by x j other is = (λ h. (open_at nodes w x other arena is j j h).0, λ h. close_at nodes w x other arena is j j (h, h))
 
 module _ (nodes : List Node) (w : List ℕ) (r : ℕ) (s : Starts) (arena : IsArena nodes) where
   -- a whole node ends where its part does that is entered with it alone
@@ -155,10 +154,6 @@ module _ (nodes : List Node) (w : List ℕ) (r : ℕ) (s : Starts) (arena : IsAr
   -- downwards: a part is entered, by its node
   pub enters_by : (y c j : ℕ) (node : Node) → y ≤ r → slice_get nodes y ≡ Some node → IsPart node c →
       Enters nodes w r s c j ↔ EntersBy (Enters nodes w r s y j) (λ c. At nodes w c j j) (λ c. Ends nodes w r s c j) c node
-  enters_by y c j Empty le is part = absurd part
-  enters_by y c j (Set m) le is part = absurd part
-  enters_by y c j Begin le is part = absurd part
-  enters_by y c j End le is part = absurd part
   enters_by y c j (Seq a b) le is part = (
     λ h. ⊎_elim
         (λ (from : (a.index ≡ c) × Enters nodes w r s y j). inl from)
@@ -199,6 +194,7 @@ module _ (nodes : List Node) (w : List ℕ) (r : ℕ) (s : Starts) (arena : IsAr
         h,
   )
   enters_by y c j (Opt a first) le is part = (Enters-part nodes w r s arena y le c j (Opt a first) is part, with_whole y c j (Opt a first) is part)
+  enters_by y c j other le is part = absurd part
 
   -- and the root where a match may begin
   pub enters_root : (j : ℕ) → Enters nodes w r s r j ↔ IsStart s j
@@ -220,10 +216,7 @@ null_on begin begin' end end' null null' (Opt a f) first last parts h = tt
 
 ends_on : (took took' : List Bool → Type 0) (null null' ended ended' : ℕ → Type 0) (node : Node) → ((m : List Bool) → node ≡ Set m → took m → took' m) →
     ((c : ℕ) → IsPart node c → null c → null' c) → ((c : ℕ) → IsPart node c → ended c → ended' c) → EndsBy took null ended node → EndsBy took' null' ended' node
-ends_on took took' null null' ended ended' Empty takes_on nulls parts h = h
 ends_on took took' null null' ended ended' (Set m) takes_on nulls parts h = takes_on m refl h
-ends_on took took' null null' ended ended' Begin takes_on nulls parts h = h
-ends_on took took' null null' ended ended' End takes_on nulls parts h = h
 ends_on took took' null null' ended ended' (Seq a b) takes_on nulls parts h =
     ⊎_elim
     (λ (right : ended b.index). inl (parts b.index (inr refl) right))
@@ -234,13 +227,10 @@ ends_on took took' null null' ended ended' (Alt a b) takes_on nulls parts h =
 ends_on took took' null null' ended ended' (Group k a) takes_on nulls parts h = parts a.index refl h
 ends_on took took' null null' ended ended' (Star a f) takes_on nulls parts h = parts a.index refl h
 ends_on took took' null null' ended ended' (Opt a f) takes_on nulls parts h = parts a.index refl h
+ends_on took took' null null' ended ended' other takes_on nulls parts h = h
 
 enters_on : (here here' : Type 0) (null null' ended ended' : ℕ → Type 0) (c : ℕ) (node : Node) → (here → here') →
     ((c : ℕ) → IsPart node c → null c → null' c) → ((c : ℕ) → IsPart node c → ended c → ended' c) → EntersBy here null ended c node → EntersBy here' null' ended' c node
-enters_on here here' null null' ended ended' c Empty on nulls parts h = h
-enters_on here here' null null' ended ended' c (Set m) on nulls parts h = h
-enters_on here here' null null' ended ended' c Begin on nulls parts h = h
-enters_on here here' null null' ended ended' c End on nulls parts h = h
 enters_on here here' null null' ended ended' c (Seq a b) on nulls parts h =
     ⊎_elim
     (λ (left : (a.index ≡ c) × here). inl (left.0, on left.1))
@@ -257,6 +247,7 @@ enters_on here here' null null' ended ended' c (Group k a) on nulls parts h = on
 enters_on here here' null null' ended ended' c (Star a f) on nulls parts h =
     ⊎_elim (λ (l : here). inl (on l)) (λ (end : ended a.index). inr (parts a.index refl end)) h
 enters_on here here' null null' ended ended' c (Opt a f) on nulls parts h = on h
+enters_on here here' null null' ended ended' c other on nulls parts h = h
 
 -- null strings are the same at places of one kind
 module _ (nodes : List Node) (w v : List ℕ) (p q : ℕ) (arena : IsArena nodes) (first : (p ≡ 0) → (q ≡ 0)) (last : (p ≡ length w) → (q ≡ length v)) where
@@ -435,14 +426,7 @@ InTree-inside nodes arena r x (part_of y _ node is part up) =
 
 begins_part : (node : Node) (c : ℕ) → BeginsWith node c → IsPart node c
 begins_part (Seq a b) c h = inl h
-begins_part (Alt a b) c h = h
-begins_part (Group k a) c h = h
-begins_part (Star a first) c h = h
-begins_part (Opt a first) c h = h
-begins_part Empty c h = h
-begins_part (Set s) c h = h
-begins_part Begin c h = h
-begins_part End c h = h
+begins_part other c h = h
 
 -- only nodes in r are entered
 pub enters_tree : (nodes : List Node) (w : List ℕ) (r : ℕ) (s : Starts) (x j : ℕ) → Enters nodes w r s x j → InTree nodes r x
@@ -510,9 +494,6 @@ not_true A none = (λ h. absurd (true≢false (sym h)), λ a. absurd (none a))
 -- the mark of a node that ends with a byte
 ended_truth : (took : Bool) (T : List Bool → Type 0) (null ended : ℕ → Bool) (N E : ℕ → Type 0) (node : Node) → ((m : List Bool) → node ≡ Set m → IsTrue took ↔ T m) →
     ((c : ℕ) → IsPart node c → IsTrue (null c) ↔ N c) → ((c : ℕ) → IsPart node c → IsTrue (ended c) ↔ E c) → IsTrue (ended_by took null ended node) ↔ EndsBy T N E node
-ended_truth took T null ended N E Empty takes_it nulls parts = not_true ⊥ (λ h. h)
-ended_truth took T null ended N E Begin takes_it nulls parts = not_true ⊥ (λ h. h)
-ended_truth took T null ended N E End takes_it nulls parts = not_true ⊥ (λ h. h)
 ended_truth took T null ended N E (Set m) takes_it nulls parts = takes_it m refl
 ended_truth took T null ended N E (Seq a b) takes_it nulls parts =
     or_truth (ended b.index) (ended a.index && null b.index) (E b.index) (E a.index × N b.index) (parts b.index (inr refl))
@@ -522,6 +503,7 @@ ended_truth took T null ended N E (Alt a b) takes_it nulls parts =
 ended_truth took T null ended N E (Group k a) takes_it nulls parts = parts a.index refl
 ended_truth took T null ended N E (Star a first) takes_it nulls parts = parts a.index refl
 ended_truth took T null ended N E (Opt a first) takes_it nulls parts = parts a.index refl
+ended_truth took T null ended N E other takes_it nulls parts = not_true ⊥ (λ h. h)
 
 module _ (nodes : List Node) (w : List ℕ) (r x p : ℕ) (s : Starts) (node : Node) (arena : IsArena nodes) (inside : r < length nodes) (there : InTree nodes r x) (is : slice_get nodes x ≡ Some node)
     (null : ℕ → Bool) (nulls : AreNull nodes w p null) where
@@ -628,10 +610,6 @@ module _ (nodes : List Node) (w : List ℕ) (r x p : ℕ) (s : Starts) (arena : 
 
   pub down : (node : Node) (after : List Bool) → slice_get nodes x ≡ Some node → after ≡ enter_parts here_mark null ended node marks →
       Marked after (TreeFrom nodes r x) (λ c. Enters nodes w r s c p)
-  down Empty after is is_after = subst (λ l. Marked l (TreeFrom nodes r x) (λ c. Enters nodes w r s c p)) (sym is_after) (none_more Empty is (λ c part. part))
-  down (Set m) after is is_after = subst (λ l. Marked l (TreeFrom nodes r x) (λ c. Enters nodes w r s c p)) (sym is_after) (none_more (Set m) is (λ c part. part))
-  down Begin after is is_after = subst (λ l. Marked l (TreeFrom nodes r x) (λ c. Enters nodes w r s c p)) (sym is_after) (none_more Begin is (λ c part. part))
-  down End after is is_after = subst (λ l. Marked l (TreeFrom nodes r x) (λ c. Enters nodes w r s c p)) (sym is_after) (none_more End is (λ c part. part))
   down (Seq a b) after is is_after =
       let less = arena.below x a.index (Seq a b) is (inl refl) in
       let less' = arena.below x b.index (Seq a b) is (inr refl) in
@@ -652,6 +630,7 @@ module _ (nodes : List Node) (w : List ℕ) (r x p : ℕ) (s : Starts) (arena : 
   down (Opt a first) after is is_after =
       one_more_part (Opt a first) a.index here_mark after is (arena.below x a.index (Opt a first) is refl) (λ c part. part) is_after
       (with_node nodes w r x p s arena low_root here_mark here_told a.index (Opt a first) is refl (λ h. h))
+  down other after is is_after = subst (λ l. Marked l (TreeFrom nodes r x) (λ c. Enters nodes w r s c p)) (sym is_after) (none_more other is (λ c part. part))
 
 -- The row of a place, bit for bit.
 
@@ -660,14 +639,7 @@ false_bit b e h = true≢false (sym h ∙ e)
 
 is_set : (node : Node) → IsTrue (takes_any node) → (m : List Bool) × (node ≡ Set m)
 is_set (Set m) h = (m, refl)
-is_set Empty h = absurd (true≢false (sym h))
-is_set Begin h = absurd (true≢false (sym h))
-is_set End h = absurd (true≢false (sym h))
-is_set (Seq a b) h = absurd (true≢false (sym h))
-is_set (Alt a b) h = absurd (true≢false (sym h))
-is_set (Group k a) h = absurd (true≢false (sym h))
-is_set (Star a first) h = absurd (true≢false (sym h))
-is_set (Opt a first) h = absurd (true≢false (sym h))
+is_set other h = absurd (true≢false (sym h))
 
 -- what is told of one index, told of an equal one
 told_at : (f : ℕ → Bool) (P : ℕ → Type 0) (x c : ℕ) → c ≡ x → (IsTrue (f x) ↔ P x) → IsTrue (f c) ↔ P c
@@ -875,14 +847,7 @@ two_range nodes x a b low node is left right only apart next small range range' 
 
 part_mirror : (node : Node) (c : ℕ) → IsPart node c ↔ IsPart (mirror_node node) c
 part_mirror (Seq a b) c = (λ h. ⊎_elim (λ (l : a.index ≡ c). inr l) (λ (m : b.index ≡ c). inl m) h, λ h. ⊎_elim (λ (m : b.index ≡ c). inr m) (λ (l : a.index ≡ c). inl l) h)
-part_mirror (Alt a b) c = (λ h. h, λ h. h)
-part_mirror (Group k a) c = (λ h. h, λ h. h)
-part_mirror (Star a first) c = (λ h. h, λ h. h)
-part_mirror (Opt a first) c = (λ h. h, λ h. h)
-part_mirror Empty c = (λ h. h, λ h. h)
-part_mirror (Set s) c = (λ h. h, λ h. h)
-part_mirror Begin c = (λ h. h, λ h. h)
-part_mirror End c = (λ h. h, λ h. h)
+part_mirror other c = (λ h. h, λ h. h)
 
 in_mirror : (e : WrittenExpression) (r c : ℕ) → InTree e.nodes r c → InTree (seen true e).nodes r c
 in_mirror e r c (is_tree _ at) = is_tree c at
@@ -941,26 +906,16 @@ bits_agree m marks other agree = fun_ext (λ c. ⊎_elim
 -- how many marks are looked at
 pub looks_few : (node : Node) → leaf_looks node + part_looks node ≤ 3
 looks_few Empty = omega arith
-looks_few (Set m) = omega arith
-looks_few Begin = omega arith
-looks_few End = omega arith
-looks_few (Seq a b) = omega arith
-looks_few (Alt a b) = omega arith
-looks_few (Group k a) = omega arith
-looks_few (Star a first) = omega arith
-looks_few (Opt a first) = omega arith
+looks_few other = omega arith
 
 -- the node of least index is a leaf: it has no part to enter
 pub enters_few : (x : ℕ) (node : Node) → PartsBelow x node → 6 + enter_looks node + (10 * x - 4) ≤ 10 * (x + 1) - 4
-enters_few x Empty below = omega arith
-enters_few x (Set m) below = omega arith
-enters_few x Begin below = omega arith
-enters_few x End below = omega arith
 enters_few x (Seq a b) below = let low = below.0 in omega (arith, low)
 enters_few x (Alt a b) below = let low = below.0 in omega (arith, low)
 enters_few x (Group k a) below = let low = below in omega (arith, low)
 enters_few x (Star a first) below = let low = below in omega (arith, low)
 enters_few x (Opt a first) below = let low = below in omega (arith, low)
+enters_few x other below = omega arith
 
 -- a row tells, with the byte that came, which leaves took it
 pub took_bits : (nodes : List Node) (w : List ℕ) (r p : ℕ) (s : Starts) (keeps : Bool) (m : ℕ) (leaves : List Bool) (before : ℕ → Bool) (byte : Option ℕ) → length nodes ≡ m → SameBytes nodes (slice_get w p) byte →

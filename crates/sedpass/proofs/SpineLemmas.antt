@@ -4,7 +4,7 @@ use Rattle.sedre.specs.Sizes.{size}
 use Rattle.sedre.specs.Arena.{IsArena}
 use Rattle.sedre.specs.Tree.{WrittenExpression, tree_at, expression_tree}
 use Rattle.sedre.specs.declared.types.Node.{Node}
-use Rattle.sedre.specs.declared.types.Node.TheVariants.{Empty, Set, Begin, End, Seq, Alt, Group, Star, Opt}
+use Rattle.sedre.specs.declared.types.Node.TheVariants.{Empty, Set, Begin, End, Seq, Alt, Star}
 use Rattle.std.specs.Prelude.{IfSome, slice_index_or}
 use Rattle.sedre.specs.Steps.{TakesExactly, Takes, TakesAtLeast}
 use Rattle.sedtext.specs.Caps.{IsReport}
@@ -177,11 +177,7 @@ looked_at Empty s t look = least_none s t look
 looked_at (Set members) s t look = least_none s t look
 looked_at Begin s t look = least_none s t look
 looked_at End s t look = least_none s t look
-looked_at (Seq a b) s t look = look
-looked_at (Alt a b) s t look = look
-looked_at (Group k a) s t look = look
-looked_at (Star a first) s t look = look
-looked_at (Opt a first) s t look = look
+looked_at other s t look = look
 
 pub unlooked : (s : Subject) (here : Matched) (state : State) (steps : ℕ) → Turns s here state state Done 0 → TurnsLooked s here state state Done steps steps
 unfolding TakesAtLeast
@@ -210,15 +206,10 @@ least_some (Some p) s t u i up counts = least_after s t u (p.start - i) up count
 
 -- one look more, before those of the kind of node
 pub looks_more : (s : Subject) (here : Matched) (node : Node) (next : Option Matched) (before begun after : ℕ) → before ≤ begun → LooksAt s here node next begun after → LooksAt s here node next before after
-looks_more s here Empty next before begun after up looks = tt
-looks_more s here (Set members) next before begun after up looks = tt
-looks_more s here Begin next before begun after up looks = tt
-looks_more s here End next before begun after up looks = tt
 looks_more s here (Seq a b) next before begun after up looks = λ left right. least_some next before begun after here.start up (looks left right)
 looks_more s here (Alt a b) next before begun after up looks = least_after before begun after 1 up looks
-looks_more s here (Group k a) next before begun after up looks = tt
 looks_more s here (Star a first) next before begun after up looks = λ is_open. least_after before begun after (here.stop - here.start) up (looks is_open)
-looks_more s here (Opt a first) next before begun after up looks = tt
+looks_more s here other next before begun after up looks = tt
 
 -- what all nodes cost together
 pub all_paid : (s t m long rest : ℕ) → t + rest ≤ s + (part_cost m long * (m - 1) + 2 * m) → t ≤ s + (172 * m * (m - 1) * long + 2 * m)

@@ -11,7 +11,7 @@ use Rattle.sedre.specs.Tree.{WrittenExpression}
 use Rattle.sedre.specs.Mirror.{mirror_node, seen}
 use Rattle.sedre.proofs.MirrorLemmas.{old_node}
 use Rattle.sedre.specs.declared.types.Node.{Node}
-use Rattle.sedre.specs.declared.types.Node.TheVariants.{Empty, Set, Begin, End, Seq, Alt, Group, Star, Opt}
+use Rattle.sedre.specs.declared.types.Node.TheVariants.{Empty, Set}
 use Rattle.sedtext.specs.Words.{AgreeBelow, row_of}
 use Rattle.sedpass.specs.Prepared.{SameNulls}
 use Rattle.sedpass.specs.Rows.{nodes_of, at_begin, at_end, bits, SameBytes, LeadsTo, IsFirstRow}
@@ -115,14 +115,7 @@ column_within class k edge first within is = at edge (subst (λ f. ColumnAt f cl
 
 mirror_twice : (node : Node) → mirror_node (mirror_node node) ≡ node
 mirror_twice Empty = refl
-mirror_twice (Set s) = refl
-mirror_twice Begin = refl
-mirror_twice End = refl
-mirror_twice (Seq a b) = refl
-mirror_twice (Alt a b) = refl
-mirror_twice (Group k a) = refl
-mirror_twice (Star a first) = refl
-mirror_twice (Opt a first) = refl
+mirror_twice other = refl
 
 pub seen_bytes : (mirrored : Bool) (e : WrittenExpression) (a b : Option ℕ) → SameBytes e.nodes a b → SameBytes (seen mirrored e).nodes a b
 seen_bytes false e a b same = same

@@ -97,11 +97,7 @@ leaf_turn nodes w x i j node s here leaf =
     childless (Set members) leaf = refl
     childless Begin leaf = refl
     childless End leaf = refl
-    childless (Seq a b) leaf = cc
-    childless (Alt a b) leaf = cc
-    childless (Group n a) leaf = cc
-    childless (Star a first) leaf = cc
-    childless (Opt a first) leaf = cc
+    childless other leaf = cc
 
 seq_at : (nodes : List Node) (w : List ℕ) (x i k j : ℕ) (a b : NodeId) (s : State) → IsHere nodes w x i j (Seq a b) →
     LastCut (At nodes w a.index) (At nodes w b.index) i j k →

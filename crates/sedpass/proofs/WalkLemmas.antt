@@ -15,11 +15,7 @@ passes_by empty w i j s none = (refl, refl)
 passes_by (set has) w i j s none = (refl, refl)
 passes_by begin w i j s none = (refl, refl)
 passes_by end w i j s none = (refl, refl)
-passes_by (seq a b) w i j s none = inl (none, refl, refl)
-passes_by (alt a b) w i j s none = inl (none, refl, refl)
-passes_by (group k a) w i j s none = inl (none, refl, refl)
-passes_by (star a first) w i j s none = inl (none, refl, refl)
-passes_by (opt a first) w i j s none = inl (none, refl, refl)
+passes_by other w i j s none = inl (none, refl, refl)
 
 pub runs_as : (nodes : List Node) (w : List ℕ) (tasks : List Task) (old new : State) (m n : ℕ) → m ≡ n → Runs nodes w tasks old new m → Runs nodes w tasks old new n
 runs_as nodes w tasks old new m n same run = subst (Runs nodes w tasks old new) same run
@@ -92,15 +88,12 @@ enters_later e w i j a b c up enters =
     (enters.0, enters.1, record { last = looks.last; n = looks.n; walk = looks.walk; counts = let h = looks.counts in omega (arith, up, h) })
 
 groupless : (e : Tree) → NoGroups e → (k : ℕ) → GroupStandsIn e k → ⊥
-groupless empty none k has = has
-groupless (set members) none k has = has
-groupless begin none k has = has
-groupless end none k has = has
 groupless (seq a b) none k has = ⊎_elim (λ (h : GroupStandsIn a k). groupless a none.0 k h) (λ (h : GroupStandsIn b k). groupless b none.1 k h) has
 groupless (alt a b) none k has = ⊎_elim (λ (h : GroupStandsIn a k). groupless a none.0 k h) (λ (h : GroupStandsIn b k). groupless b none.1 k h) has
 groupless (group n a) none k has = none
 groupless (star a first) none k has = groupless a none k has
 groupless (opt a first) none k has = groupless a none k has
+groupless other none k has = has
 
 -- where an expression has no group nothing is entered
 pub enters_nothing : (e : Tree) (w : List ℕ) (i j s : ℕ) → NoGroups e → EntersGroups e w i j s s
