@@ -47,19 +47,10 @@ use Rattle.sedpass.proofs.OneGroupLemmas.{copy_spans, deed, drop_as, has_told, l
 
 -- an entry of the flags
 pub flags_at : (s : GroupSet) (k : ℕ) → slice_index_or (flags_of s) k false ≡ holds s k
-flags_at s zero = refl
-flags_at s (suc zero) = refl
-flags_at s (suc (suc zero)) = refl
-flags_at s (suc (suc (suc zero))) = refl
-flags_at s (suc (suc (suc (suc zero)))) = refl
-flags_at s (suc (suc (suc (suc (suc zero))))) = refl
-flags_at s (suc (suc (suc (suc (suc (suc zero)))))) = refl
-flags_at s (suc (suc (suc (suc (suc (suc (suc zero))))))) = refl
-flags_at s (suc (suc (suc (suc (suc (suc (suc (suc zero)))))))) = refl
-flags_at s (suc (suc (suc (suc (suc (suc (suc (suc (suc zero))))))))) = refl
 flags_at s (suc (suc (suc (suc (suc (suc (suc (suc (suc (suc k)))))))))) =
     let n : ℕ = suc (suc (suc (suc (suc (suc (suc (suc (suc (suc k))))))))) in
     sym (ap (λ b. b && eqb (bit_at s.bits n) 1) (le-ltb n 10 (omega arith)))
+flags_at s other = refl
 
 -- a group that is due is one of those that are reported
 due_reported : (due : GroupSet) (k : ℕ) → holds due 0 ≡ false → holds due k ≡ true → reported k ≡ true

@@ -344,7 +344,7 @@ module _ (k : ℕ) where
   walked (set has) w i j n old new spans walk g = still _ _ g g old new refl refl walk.0
   walked begin w i j n old new spans walk g = still _ _ g g old new refl refl walk.0
   walked end w i j n old new spans walk g = still _ _ g g old new refl refl walk.0
-  walked (seq a b) w i j n old new spans (inl by) g = passed (seq a b) w i j n old new spans by g
+  walked other w i j n old new spans (inl by) g = passed other w i j n old new spans by g
   walked (seq a b) w i j n old new spans (inr (p, q, is, c, cut, mid, second, first)) g =
       let one = walked a w i c q mid new cut.left first g in
       let two = walked b w c j p old mid cut.right second one.h in
@@ -356,7 +356,6 @@ module _ (k : ℕ) where
         lays = lays-then k P g one.h two.h one.d two.d (lays-wider k (GroupStandsIn a k) P g one.h one.d (λ h. inl h) one.lays) (lays-wider k (GroupStandsIn b k) P one.h two.h two.d (λ h. inr h) two.lays);
         takes = takes-then k two.d one.d old mid new two.takes one.takes;
       }
-  walked (alt a b) w i j n old new spans (inl by) g = passed (alt a b) w i j n old new spans by g
   walked (alt a b) w i j n old new spans (inr (p, is, inl (at, walk))) g =
       let one = walked a w i j p old new at walk g in
       record { h = one.h; d = one.d; captures = inl (at, one.captures); lays = lays-wider k (GroupStandsIn a k) _ g one.h one.d (λ h. inl h) one.lays; takes = one.takes }
@@ -364,7 +363,6 @@ module _ (k : ℕ) where
       let at : Matches b w i j = ⊎_elim (λ (l : Matches a w i j). absurd (not l)) (λ (r : Matches b w i j). r) spans in
       let one = walked b w i j p old new at walk g in
       record { h = one.h; d = one.d; captures = inr (not, one.captures); lays = lays-wider k (GroupStandsIn b k) _ g one.h one.d (λ h. inr h) one.lays; takes = one.takes }
-  walked (group m a) w i j n old new spans (inl by) g = passed (group m a) w i j n old new spans by g
   walked (group m a) w i j n old new spans (inr (p, is, mid, walk, last)) g =
       let v = Some (i, j) in
       let one = walked a w i j p (settle m v old) mid spans walk (forget (group m a) g) in
@@ -376,13 +374,11 @@ module _ (k : ℕ) where
         takes = takes-then k (deed (eqb m k) v) (within a k one.d) old (settle m v old) new (settle_takes m k v old)
             (takes-then k one.d (deed (has_group a k) None) (settle m v old) mid new one.takes (subst (Takes k (deed (has_group a k) None) mid) (sym last) (drop_takes a k mid)));
       }
-  walked (star a first) w i j n old new spans (inl by) g = passed (star a first) w i j n old new spans by g
   walked (star a first) w i j n old new spans (inr (p, is, inl (lt, c, copy, mid, walk, last))) g =
       inside a _ _ g old mid new last (λ h captures. inl (lt, (c, copy, captures))) (walked a w c j p old mid (copy_spans (Matches a w) j i c copy).2 walk (forget a g))
   walked (star a first) w i j n old new spans (inr (p, is, inr (inl (same, one, at, mid, walk, last)))) g =
       inside a _ _ g old mid new last (λ h captures. inr (inl (same, one, at, captures))) (walked a w i i p old mid at walk (forget a g))
   walked (star a first) w i j n old new spans (inr (p, is, inr (inr (same, not, still_is, none)))) g = still _ _ g g old new refl (inr (inr (same, (not, refl)))) still_is
-  walked (opt a first) w i j n old new spans (inl by) g = passed (opt a first) w i j n old new spans by g
   walked (opt a first) w i j n old new spans (inr (p, is, inl (lt, mid, walk, last))) g =
       let at : Matches a w i j = ⊎_elim (λ (e : i ≡ j). absurd (omega (arith, e, lt))) (λ (r : Matches a w i j). r) spans in
       inside a _ _ g old mid new last (λ h captures. inl (lt, captures)) (walked a w i j p old mid at walk (forget a g))
