@@ -1,8 +1,8 @@
 -- How classes of bytes are found.
 use Rattle.std.proofs.Common.{◌≡◌, ℕ, ◌+◌, ◌*◌, ◌<◌, ◌≤◌, ◌⊎◌, Bool, true, false, List, length, length-set, Some, refl, sym, ap, ◌∙◌, subst, inl, inr, ⊎_elim, arith}
-use Rattle.std.specs.Prelude.{slice_get, slice_index_or, slice_set, eqb, cond}
+use Rattle.std.specs.Prelude.{slice_get, slice_index_or, slice_set, cond}
 use Rattle.std.proofs.lemmas.List.{get_or-set_same, get_or-set_other}
-use Rattle.std.proofs.lemmas.Bool.{cases_eq, eqb-true, eq-eqb}
+use Rattle.std.proofs.lemmas.Bool.{ne_eqb, cases_eq, eq-eqb}
 use Rattle.sedre.specs.Sets.{has}
 use Rattle.sedre.specs.declared.types.Node.{Node}
 use Rattle.sedre.specs.declared.types.Node.TheVariants.{Set}
@@ -11,12 +11,6 @@ use Rattle.sedpass.specs.Prepared.{AreClasses}
 
 abbrev at : List ℕ → ℕ → ℕ
 at xs k = slice_index_or xs k 0
-
-apart_false : (a b : ℕ) → (a ≡ b → ⊥) → eqb a b ≡ false
-apart_false a b ne = elim (eqb a b) as (λ v. (v ≡ true → a ≡ b) → v ≡ false) [
-  | true ↦ λ tell. absurd (ne (tell refl))
-  | false ↦ λ tell. refl
-] (eqb-true a b)
 
 -- what one key more tells
 pub record Given (numbers : List ℕ) (key count : ℕ) (after : List ℕ) (next : ℕ) : Type 0 where
@@ -91,7 +85,7 @@ module _ (numbers : List ℕ) (key count : ℕ) (long : length numbers ≡ 512) 
       let yes = eq-eqb (at numbers key) 256 none in
       given_new after next (is ∙ ap (λ b. cond b (slice_set numbers key count) numbers) yes) (is' ∙ ap (λ b. cond b (count + 1) count) yes) none)
       (λ (some : at numbers key ≡ 256 → ⊥).
-      let no = apart_false (at numbers key) 256 some in
+      let no = ne_eqb (at numbers key) 256 some in
       subst (λ l. Given numbers key count l next) (sym (is ∙ ap (λ b. cond b (slice_set numbers key count) numbers) no))
       (subst (λ n. Given numbers key count numbers n) (sym (is' ∙ ap (λ b. cond b (count + 1) count) no)) (given_old some)))
       (cases_eq (at numbers key) 256)

@@ -1,14 +1,10 @@
 -- Counts of steps that stay at the largest.
 use Rattle.std.proofs.Common.{◌≡◌, ℕ, ◌+◌, ◌-◌, ◌*◌, ◌≤◌, Bool, List, Option, None, Some, IsTrue, IfSome, sym, ◌∙◌, true≢false, arith}
 use Rattle.std.specs.Prelude.{is_some}
+pub use Rattle.sedtext.proofs.CountLemmas.{least_none, least_both, least_counted, least_less, least_since, least_up}
 use Rattle.sedre.specs.Steps.{TakesExactly, TakesAtLeast}
 use Rattle.sedre.specs.Tree.{Tree}
 use Rattle.sedtext.specs.Following.{PassesOver}
-
--- nothing is counted yet
-pub least_none : (s n : ℕ) → n ≡ 0 → TakesAtLeast s s n
-unfolding TakesAtLeast
-least_none s n e = omega (arith, e)
 
 -- one look more
 pub least_one : (s a b n m : ℕ) → TakesAtLeast s a n → TakesExactly a b 1 → n + 1 ≡ m → TakesAtLeast s b m
@@ -31,33 +27,9 @@ pub least_after : (s a b c d k n m : ℕ) → TakesExactly s a k → TakesExactl
 unfolding TakesAtLeast TakesExactly
 least_after s a b c d k n m one two grows after is = omega (arith, one, two, grows, after, is)
 
--- one after the other
-pub least_both : (s a b n k m : ℕ) → TakesAtLeast s a n → TakesAtLeast a b k → m ≤ n + k → TakesAtLeast s b m
-unfolding TakesAtLeast
-least_both s a b n k m before more is = omega (arith, before, more, is)
-
--- and others after them, or before them
-pub least_up : (s a b n : ℕ) → TakesAtLeast s a n → a ≤ b → TakesAtLeast s b n
-unfolding TakesAtLeast
-least_up s a b n before grows = omega (arith, before, grows)
-
-pub least_since : (s a b n : ℕ) → s ≤ a → TakesAtLeast a b n → TakesAtLeast s b n
-unfolding TakesAtLeast
-least_since s a b n grows after = omega (arith, grows, after)
-
 pub least_fewer : (s a n m : ℕ) → m ≤ n → TakesAtLeast s a n → TakesAtLeast s a m
 unfolding TakesAtLeast
 least_fewer s a n m few least = omega (arith, few, least)
-
--- so many looks
-pub least_counted : (s t n : ℕ) → TakesExactly s t n → TakesAtLeast s t n
-unfolding TakesAtLeast TakesExactly
-least_counted s t n is = omega (arith, is)
-
--- and fewer than were counted
-pub least_less : (s t n k : ℕ) → TakesAtLeast s t n → k ≤ n → TakesAtLeast s t k
-unfolding TakesAtLeast
-least_less s t n k before less = omega (arith, before, less)
 
 -- four loops over as many nodes
 pub least_four : (s a b c d n m : ℕ) → TakesExactly s a n → TakesExactly a b n → TakesExactly b c n → TakesExactly c d n → 4 * n ≡ m → TakesAtLeast s d m

@@ -1,15 +1,16 @@
 -- The groups that are told to be due, as the state of a decision; what nodes and regions cost.
 use Rattle.std.proofs.Common.{◌≡◌, ℕ, zero, suc, ◌+◌, ◌-◌, ◌*◌, ◌<◌, ◌≤◌, ◌↔◌, ◌&&◌, not, Bool, true, false, List, [], ◌∷◌, length, Option, None, Some, IsTrue, refl, sym, ap, ◌∙◌, subst, inl, inr, ⊎_elim, true≢false, arith, mul-le-mul_left}
-use Rattle.std.specs.Prelude.{IfSome, cond, eqb, nat_lt, slice_get, slice_set, slice_index_or, replicate, vec_capacity}
+use Rattle.std.specs.Prelude.{IfSome, eqb, nat_lt, slice_get, slice_set, slice_index_or, replicate, vec_capacity}
 use Rattle.std.specs.Int.{bit_at}
 use Rattle.std.proofs.lemmas.Bool.{and_parts, and_from, or_cases, or_left, or_right, cases_Bool, cases_eq, cases_lt, lt-ltb, le-ltb}
+use Rattle.std.proofs.lemmas.Option.{cond_some}
 use Rattle.std.proofs.lemmas.List.{length-set}
 use Rattle.std.proofs.Math.Nat.{mul-le-mul_right}
 use Rattle.sedre.specs.Tree.{Tree, empty, set, begin, end, seq, alt, group, star, opt, WrittenExpression, tree_at, expression_tree}
 use Rattle.sedre.specs.Arena.{IsExpr, IsPart, AreRanges}
 use Rattle.sedre.specs.declared.types.Node.{Node}
 use Rattle.sedre.specs.Steps.{TakesAtLeast}
-use Rattle.sedre.specs.declared.types.Node.TheVariants.{Empty, Set, Begin, End, Seq, Alt, Group, Star, Opt}
+use Rattle.sedre.specs.declared.types.Node.TheVariants.{Set, Group, Star}
 use Rattle.sedre.proofs.TreeLemmas.{tree_at-node}
 use Rattle.sedtext.proofs.NodeLemmas.{node_at}
 use Rattle.sedtext.specs.Caps.{LastCut, LastCopy}
@@ -225,22 +226,11 @@ set_is : (nodes : List Node) → IsArena nodes → (x : ℕ) → x < length node
 set_is nodes arena x inside = let there = node_at nodes x inside in by there.0 there.1
   where
     by : (n : Node) → slice_get nodes x ≡ Some n → is_set (tree_at nodes x) ≡ true → IsSetAt nodes x
-    by Empty is = rw (tree_at-node nodes x Empty arena is) (λ h. absurd (true≢false (sym h)))
     by (Set members) is = λ h. (members, is)
-    by Begin is = rw (tree_at-node nodes x Begin arena is) (λ h. absurd (true≢false (sym h)))
-    by End is = rw (tree_at-node nodes x End arena is) (λ h. absurd (true≢false (sym h)))
-    by (Seq a b) is = rw (tree_at-node nodes x (Seq a b) arena is) (λ h. absurd (true≢false (sym h)))
-    by (Alt a b) is = rw (tree_at-node nodes x (Alt a b) arena is) (λ h. absurd (true≢false (sym h)))
-    by (Group k a) is = rw (tree_at-node nodes x (Group k a) arena is) (λ h. absurd (true≢false (sym h)))
-    by (Star a first) is = rw (tree_at-node nodes x (Star a first) arena is) (λ h. absurd (true≢false (sym h)))
-    by (Opt a first) is = rw (tree_at-node nodes x (Opt a first) arena is) (λ h. absurd (true≢false (sym h)))
+    by other is = rw (tree_at-node nodes x other arena is) (λ h. absurd (true≢false (sym h)))
 
 abbrev IsRun : List Node → ℕ → ℕ → Type 0
 IsRun nodes x c = IsRunOf nodes c x × IsSetAt nodes c
-
-starred : (b : Bool) (x c : ℕ) → cond b (Some x) None ≡ Some c → (b ≡ true) × (x ≡ c)
-starred true x c is = (refl, cc)
-starred false x c is = cc
 
 -- by the runs of the nodes before it
 run_by : (nodes : List Node) → IsArena nodes → AreRanges nodes → (x c : ℕ) → x < length nodes → ((y : ℕ) → y < x → run_of (tree_at nodes y) y ≡ Some c → IsRun nodes y c) →
@@ -254,7 +244,7 @@ run_by nodes arena ranges x c inside below (Group k a) is =
 run_by nodes arena ranges x c inside below (Star a first) is =
     let next : a.index + 1 ≡ x = ranges x (Star a first) is in
     rw (tree_at-node nodes x (Star a first) arena is) (λ h.
-    let both = starred (is_set (tree_at nodes a.index)) (x - 1) c h in
+    let both = cond_some (is_set (tree_at nodes a.index)) (x - 1) c h in
     let at = both.1 in
     let here : a.index ≡ c = omega arith in
     (repeated x (a, first, is, here), subst (IsSetAt nodes) here (set_is nodes arena a.index (omega arith) both.0)))
@@ -338,14 +328,6 @@ pub may_begin : (s : Subject) (tables : GroupTables) (x : ℕ) → tables.inside
 may_begin s tables x one_end inside = (inside, λ all_starts. absurd (true≢false (sym all_starts ∙ one_end)))
 
 -- Looks at least.
-pub least_less : (s t n k : ℕ) → k ≤ n → TakesAtLeast s t n → TakesAtLeast s t k
-unfolding TakesAtLeast
-least_less s t n k less counts = omega (arith, less, counts)
-
-pub least_none : (s n k : ℕ) → n ≡ k → TakesAtLeast s s (n - k)
-unfolding TakesAtLeast
-least_none s n k same = omega (arith, same)
-
 pub least_then : (s t u i k l : ℕ) → i ≤ k → k ≤ l → TakesAtLeast s t (k - i) → TakesAtLeast t u (2 * (l - k) + 1) → TakesAtLeast s u (l - i)
 unfolding TakesAtLeast
 least_then s t u i k l low high one two = omega (arith, low, high, one, two)

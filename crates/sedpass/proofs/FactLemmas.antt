@@ -1,8 +1,9 @@
 -- What is told of each node once, and what it means for passes.
 use Rattle.std.proofs.Common.{◌≡◌, ℕ, zero, suc, ◌+◌, ◌-◌, ◌<◌, ◌≤◌, ◌⊎◌, ◌↔◌, Bool, true, false, ◌&&◌, List, [], ◌∷◌, ◌++◌, length, length-append, get_or, Option, Some, None, IsTrue, refl, sym, ap, ◌∙◌, subst, inl, inr, ⊎_elim, true≢false, arith}
 use Rattle.std.specs.Prelude.{slice_get, eqb, IfSome, cond}
+use Rattle.std.proofs.Math.Bool.{and-false}
 use Rattle.std.proofs.lemmas.Bool.{cases_lt}
-use Rattle.std.proofs.lemmas.Option.{slice_get_within, slice_get_read}
+use Rattle.std.proofs.lemmas.Option.{same_Some, slice_get_within, slice_get_read}
 use Rattle.sedre.specs.Tree.{Tree, empty, set, begin, end, seq, alt, group, star, opt, WrittenExpression, tree_of, tree_at}
 use Rattle.sedre.specs.Sizes.{size}
 use Rattle.sedre.specs.Arena.{IsExpr, IsPart, FollowsParts}
@@ -209,13 +210,6 @@ length_short other = omega arith
 pub told_short : (a : Tree) (x : ℕ) (part : Facts) → IsFacts a x part → size a ≤ 65536 → IsShort part.length
 told_short a x part told small = subst IsShort (sym told.long) (short_more (length_of a) (size a) 65536 small (length_short a))
 
-and_none : (b : Bool) → (b && false) ≡ false
-and_none true = refl
-and_none false = refl
-
-some_same : (a b : Facts) → Some a ≡ Some b → a ≡ b
-some_same a b e = cc
-
 slice_get_append_left : (xs ys : List Facts) (i : ℕ) → i < length xs → slice_get (xs ++ ys) i ≡ slice_get xs i
 slice_get_append_left [] ys i inside = absurd (omega arith)
 slice_get_append_left (x ∷ xs) ys zero inside = refl
@@ -232,7 +226,7 @@ leaf_facts t x nulls n here leaf small null none long run =
     record {
       low = omega arith;
       null = λ first last. ap (λ v. null_at v first last) leaf.null ∙ null first last;
-      groups = λ k. leaf.groups k ∙ sym (ap (λ b. reported k && b) (none k) ∙ and_none (reported k));
+      groups = λ k. leaf.groups k ∙ sym (ap (λ b. reported k && b) (none k) ∙ and-false (reported k));
       long = leaf.long ∙ sym long;
       run = leaf.run ∙ sym run;
     }
@@ -269,7 +263,7 @@ module _ (nodes : List Node) (groups : ℕ) (expr : IsExpr nodes groups) where
         (λ (lt : x < length told). facts x fact (sym (slice_get_append_left told (next ∷ []) x lt) ∙ is))
         (λ (ge : length told ≤ x).
         let e : x ≡ length told = omega arith in
-        let same : next ≡ fact = some_same next fact (sym (slice_get_last told next) ∙ ap (slice_get (told ++ next ∷ [])) (sym e) ∙ is) in
+        let same : next ≡ fact = same_Some next fact (sym (slice_get_last told next) ∙ ap (slice_get (told ++ next ∷ [])) (sym e) ∙ is) in
         subst (λ f. IsFacts (tree_at nodes x) x f) same (subst (λ n. IsFacts (tree_at nodes n) n next) (sym e) here))
         (cases_lt x (length told))
 

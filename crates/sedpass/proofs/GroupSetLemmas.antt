@@ -2,11 +2,12 @@
 use Rattle.std.proofs.Common.{◌≡◌, ℕ, ◌-◌, ◌*◌, ◌%◌, ◌^◌, ◌<◌, ◌≤◌, ◌⊎◌, Bool, true, false, ◌&&◌, ◌||◌, not, IsTrue, refl, sym, ap, ◌∙◌, inl, inr, ⊎_elim, true≢false, max, min, arith, bit_and, bit_or, w16}
 use Rattle.std.specs.Prelude.{eqb, nat_lt}
 use Rattle.std.specs.Int.{bit_at, trailing_zeros}
+use Rattle.std.proofs.Math.Bool.{and-false}
 use Rattle.std.proofs.Math.Pow.{pow_mono}
 use Rattle.std.proofs.Math.Nat.{mod-eq_of_lt}
 use Rattle.std.proofs.lemmas.Nat.Bits.{bit_at_or, bit_at_and, bit_at_not, bit_at-lt, bit_at-zero, bit_at-pow_same, bit_at-pow_other, bit_at_above, bit_at_ones, bit_at-trailing_zeros}
 use Rattle.std.proofs.lemmas.Nat.{and_le_r}
-use Rattle.std.proofs.lemmas.Bool.{and_parts, and_from, cases_lt, cases_eq, eqb-true, eq-eqb, lt-ltb, ltb-true}
+use Rattle.std.proofs.lemmas.Bool.{ne_eqb, and_parts, and_from, cases_lt, cases_eq, eqb-true, eq-eqb, lt-ltb, ltb-true}
 use Rattle.sedpass.specs.Groups.{reported, holds}
 use Rattle.sedpass.specs.declared.group_set.GroupSet.{GroupSet}
 
@@ -56,16 +57,6 @@ holds_without a b k small =
     ap (λ x. eqb x 1) (bit_at_and a (65535 - b) k ∙ ap (min (bit_at a k)) turned) ∙ min_not_bits (bit_at a k) (bit_at b k) (bit_at-lt a k) (bit_at-lt b k))
     ∙ both_not (nat_lt k 10) (eqb (bit_at a k) 1) (eqb (bit_at b k) 1)
 
-apart : (a b : ℕ) → (a ≡ b → ⊥) → eqb a b ≡ false
-apart a b ne = elim (eqb a b) as (λ v. (v ≡ true → a ≡ b) → v ≡ false) [
-  | true ↦ λ tell. absurd (ne (tell refl))
-  | false ↦ λ tell. refl
-] (eqb-true a b)
-
-and_false : (b : Bool) → (b && false) ≡ false
-and_false true = refl
-and_false false = refl
-
 pub holds_one : (k n : ℕ) → 1 ≤ k → k ≤ 9 → holds (of_bits (1 * 2 ^ k % 65536)) n ≡ (reported n && eqb k n)
 holds_one k n low high =
     let most : 2 ^ k ≤ 2 ^ 9 = pow_mono high in
@@ -80,8 +71,8 @@ holds_one k n low high =
     rw (bit, below, some, same) refl)
     (λ (ne : n ≡ k → ⊥).
     let bit : bit_at (2 ^ k) n ≡ 0 = bit_at-pow_other k n ne in
-    let other : eqb k n ≡ false = apart k n (λ e. ne (sym e)) in
-    ap (λ x. nat_lt n 10 && eqb x 1) bit ∙ and_false (nat_lt n 10) ∙ sym (ap (λ x. reported n && x) other ∙ and_false (reported n)))
+    let other : eqb k n ≡ false = ne_eqb k n (λ e. ne (sym e)) in
+    ap (λ x. nat_lt n 10 && eqb x 1) bit ∙ and-false (nat_lt n 10) ∙ sym (ap (λ x. reported n && x) other ∙ and-false (reported n)))
     (cases_eq n k)
 
 bit_true : (n k : ℕ) → eqb (bit_at n k) 1 ≡ true → bit_at n k ≡ 1
@@ -113,4 +104,4 @@ pub not_none : (n : ℕ) → IsTrue (not (eqb n 0)) → n ≡ 0 → ⊥
 not_none n h e = true≢false (sym h ∙ ap not (eq-eqb n 0 e))
 
 pub some_left : (n : ℕ) → (n ≡ 0 → ⊥) → IsTrue (not (eqb n 0))
-some_left n ne = ap not (apart n 0 ne)
+some_left n ne = ap not (ne_eqb n 0 ne)

@@ -190,7 +190,7 @@ ends-begins : (node : Node) (c : ℕ) → EndsWith node c → BeginsWith (mirror
 ends-begins (Seq a b) c h = h
 ends-begins other c h = h
 
-twice : (node : Node) → mirror_node (mirror_node node) ≡ node
+pub twice : (node : Node) → mirror_node (mirror_node node) ≡ node
 twice (Seq a b) = refl
 twice other = refl
 

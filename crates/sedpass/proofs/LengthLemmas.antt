@@ -1,6 +1,7 @@
 -- Spans of one length, and the cuts and copies that it decides.
-use Rattle.std.proofs.Common.{◌≡◌, ℕ, ◌+◌, ◌-◌, ◌<◌, ◌≤◌, Bool, true, false, List, Option, Some, None, cond, eqb, refl, sym, ap, ◌∙◌, subst, ⊎_elim, arith}
+use Rattle.std.proofs.Common.{◌≡◌, ℕ, ◌+◌, ◌-◌, ◌<◌, ◌≤◌, List, Option, Some, None, eqb, refl, sym, ap, ◌∙◌, subst, ⊎_elim, arith}
 use Rattle.std.proofs.lemmas.Bool.{cases_lt, eqb-true}
+use Rattle.std.proofs.lemmas.Option.{cond_some}
 use Rattle.sedre.specs.Tree.{Tree, set, end, seq, alt, group, star, opt}
 use Rattle.sedtext.specs.Spans.{CopiesLead, no_copy, one_more, Matches}
 use Rattle.sedtext.specs.Caps.{LastCut, LastCopy, only, then}
@@ -13,15 +14,11 @@ sum_parts None second n is = cc
 sum_parts (Some m) None n is = cc
 sum_parts (Some m) (Some k) n is = (m, k, refl, refl, cc)
 
-taken : (b : Bool) (m n : ℕ) → cond b (Some m) None ≡ Some n → (b ≡ true) × (m ≡ n)
-taken true m n is = (refl, cc)
-taken false m n is = cc
-
 same_parts : (first second : Option ℕ) (n : ℕ) → same_of first second ≡ Some n → (first ≡ Some n) × (second ≡ Some n)
 same_parts None second n is = cc
 same_parts (Some m) None n is = cc
 same_parts (Some m) (Some k) n is =
-    let same = taken (eqb m k) m n is in
+    let same = cond_some (eqb m k) m n is in
     let alike = eqb-true m k same.0 in
     (ap (λ (v : ℕ). Some v) same.1, ap (λ (v : ℕ). Some v) (sym alike ∙ same.1))
 

@@ -17,6 +17,7 @@ use Rattle.sedpass.specs.Regions.{Leaves, with_end, before_right, before_copies,
 use Rattle.sedtext.proofs.SpanLemmas.{Matches-forward, CopiesLead-forward, CopiesLead-append}
 use Rattle.sedtext.proofs.ReachLemmas.{open_at, close_at, Enters-inside, star_copies}
 use Rattle.sedtext.proofs.NodeLemmas.{node_at}
+use Rattle.sedtext.proofs.TimesLemmas.{CopiesLead-join}
 use Rattle.sedpass.proofs.LeaveLemmas.{OutOf, Leaves-part, Leaves-to, last_inside, last-leaves, Leaves-last}
 
 -- copies that pass j have one that passes it, and copies lead from its end to theirs
@@ -29,11 +30,6 @@ CopiesLead-cross R P G j k each next l (one_more _ m lt r rest) p low high =
     (λ (here : j < m). each l m p r rest low here)
     (λ (later : m ≤ j). CopiesLead-cross R P G j k each next m rest (next l m lt p r) later high)
     (cases_lt j m)
-
--- copies, and copies after them
-CopiesLead-join : (R : ℕ → ℕ → Type 0) (k p i : ℕ) → CopiesLead R p i → CopiesLead R k p → CopiesLead R k i
-CopiesLead-join R k p i no_copy rest = rest
-CopiesLead-join R k p i (one_more _ m lt r on) rest = one_more i m lt r (CopiesLead-join R k p m on rest)
 
 -- a copy, which may be empty, and copies after it
 CopiesLead-before : (R : ℕ → ℕ → Type 0) (k q p : ℕ) → p ≤ q → R p q → CopiesLead R k q → CopiesLead R k p
@@ -48,7 +44,7 @@ first_copy : (R : ℕ → ℕ → Type 0) (j i : ℕ) → CopiesLead R j i → i
 first_copy R j i no_copy some = absurd (omega arith)
 first_copy R j i (one_more _ l lt r rest) some = (l, lt, r, rest)
 
-BeginsWith-part : (node : Node) (c : ℕ) → BeginsWith node c → IsPart node c
+pub BeginsWith-part : (node : Node) (c : ℕ) → BeginsWith node c → IsPart node c
 BeginsWith-part (Seq a b) c h = inl h
 BeginsWith-part other c h = h
 

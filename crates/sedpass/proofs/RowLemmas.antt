@@ -26,7 +26,7 @@ use Rattle.sedtext.proofs.SpanLemmas.{Matches-forward, Matches-within, CopiesLea
 use Rattle.sedtext.proofs.ReachLemmas.{open_at, close_at, takes_some, FromNode, Enters-from, Enters-part, Enters-inside, Enters-root, Enters-loose}
 use Rattle.sedtext.proofs.NodeLemmas.{node_at}
 use Rattle.sedpass.proofs.LeaveLemmas.{ends_at, reaches_mirror}
-use Rattle.sedpass.proofs.MeetingLemmas.{meets_whole}
+use Rattle.sedpass.proofs.MeetingLemmas.{BeginsWith-part, meets_whole}
 
 module _ (nodes : List Node) (w : List ℕ) (arena : IsArena nodes) where
   -- whether a node is null depends on its parts and on the place's kind
@@ -424,14 +424,10 @@ InTree-inside nodes arena r x (part_of y _ node is part up) =
     let less = arena.below y x node is part in
     omega arith
 
-begins_part : (node : Node) (c : ℕ) → BeginsWith node c → IsPart node c
-begins_part (Seq a b) c h = inl h
-begins_part other c h = h
-
 -- only nodes in r are entered
 pub enters_tree : (nodes : List Node) (w : List ℕ) (r : ℕ) (s : Starts) (x j : ℕ) → Enters nodes w r s x j → InTree nodes r x
 enters_tree nodes w r s x j (at_root _ _ e begin) = is_tree x e
-enters_tree nodes w r s x j (with_whole y _ _ node is begins e) = part_of y x node is (begins_part node x begins) (enters_tree nodes w r s y j e)
+enters_tree nodes w r s x j (with_whole y _ _ node is begins e) = part_of y x node is (BeginsWith-part node x begins) (enters_tree nodes w r s y j e)
 enters_tree nodes w r s x j (after_left y _ i _ a b is right e at) = part_of y x (Seq a b) is (inr right) (enters_tree nodes w r s y i e)
 enters_tree nodes w r s x j (again y _ i _ a first is inner e at) = part_of y x (Star a first) is inner (enters_tree nodes w r s y i e)
 
@@ -546,7 +542,7 @@ module _ (nodes : List Node) (w : List ℕ) (r x p : ℕ) (s : Starts) (arena : 
   with_node : (c : ℕ) (node : Node) → slice_get nodes x ≡ Some node → BeginsWith node c → (EntersBy (Enters nodes w r s x p) (λ y. At nodes w y p p) (λ y. Ends nodes w r s y p) c node → Enters nodes w r s x p) →
       IsTrue here ↔ Enters nodes w r s c p
   with_node c node is begins alone =
-      (λ h. with_whole x c p node is begins (enters.0 h), λ h. enters.1 (alone ((enters_by nodes w r s arena x c p node le is (begins_part node c begins)).0 h)))
+      (λ h. with_whole x c p node is begins (enters.0 h), λ h. enters.1 (alone ((enters_by nodes w r s arena x c p node le is (BeginsWith-part node c begins)).0 h)))
 
   right_part : (a b : NodeId) → slice_get nodes x ≡ Some (Seq a b) → (null ended : Bool) → (IsTrue null ↔ At nodes w a.index p p) → (IsTrue ended ↔ Ends nodes w r s a.index p) →
       IsTrue (ended || (here && null)) ↔ Enters nodes w r s b.index p

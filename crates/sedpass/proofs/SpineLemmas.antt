@@ -23,6 +23,7 @@ use Rattle.sedpass.specs.declared.groups.Then.TheVariants.{Done, One, Two}
 use Rattle.sedpass.specs.declared.kept.Region.{Region}
 use Rattle.sedpass.specs.declared.kept.Subject.{Subject}
 use Rattle.sedpass.proofs.DecideLemmas.{flags_at}
+use Rattle.sedpass.proofs.CountLemmas.{least_fewer, least_since}
 use Rattle.sedpass.proofs.OneGroupLemmas.{wanted}
 use Rattle.sedpass.specs.Groups.{holds}
 use Rattle.sedpass.proofs.TurnLemmas.{begins, leave_turn, turned}
@@ -167,16 +168,12 @@ decides_due e w root i j n (suc k) due new groups last whole at run report is =
     (wanted (tree_at e.nodes root) w i j run.1 k (told_of due (undecided i j)) run.0 groups refl at run.3
     (subst (λ x. IsReport (tree_at e.nodes x) w i j groups) same report) (flags_at due (suc k) ∙ is))
 
-least_none : (s t : ℕ) → TakesAtLeast s t (1 - 0) → TakesAtLeast s t 0
-unfolding TakesAtLeast
-least_none s t look = omega (arith, look)
-
 -- a node that is entered was looked at
 pub looked_at : (node : Node) (s t : ℕ) → TakesAtLeast s t (1 - 0) → TakesAtLeast s t (entered_at node)
-looked_at Empty s t look = least_none s t look
-looked_at (Set members) s t look = least_none s t look
-looked_at Begin s t look = least_none s t look
-looked_at End s t look = least_none s t look
+looked_at Empty s t look = least_fewer s t 1 0 (omega arith) look
+looked_at (Set members) s t look = least_fewer s t 1 0 (omega arith) look
+looked_at Begin s t look = least_fewer s t 1 0 (omega arith) look
+looked_at End s t look = least_fewer s t 1 0 (omega arith) look
 looked_at other s t look = look
 
 pub unlooked : (s : Subject) (here : Matched) (state : State) (steps : ℕ) → Turns s here state state Done 0 → TurnsLooked s here state state Done steps steps
@@ -184,31 +181,19 @@ unfolding TakesAtLeast
 unlooked s here state steps turn = record { n = 0; turn = turn; counts = omega arith }
 
 -- Looks for spans.
-pub least_same : (s n : ℕ) → TakesAtLeast s s (n - n)
-unfolding TakesAtLeast
-least_same s n = omega arith
-
-pub least_on : (s t u a b c : ℕ) → TakesAtLeast s t (b - a) → TakesAtLeast t u (c - b) → TakesAtLeast s u (c - a)
-unfolding TakesAtLeast
-least_on s t u a b c one two = omega (arith, one, two)
-
 pub least_look : (s t u a b : ℕ) → TakesExactly s t 1 → t ≤ u → b ≤ a + 1 → TakesAtLeast s u (b - a)
 unfolding TakesExactly TakesAtLeast
 least_look s t u a b look up few = omega (arith, look, up, few)
 
-least_after : (s t u n : ℕ) → s ≤ t → TakesAtLeast t u n → TakesAtLeast s u n
-unfolding TakesAtLeast
-least_after s t u n up counts = omega (arith, up, counts)
-
 least_some : (o : Option Matched) (s t u i : ℕ) → s ≤ t → IfSome o (λ p. TakesAtLeast t u (p.start - i)) → IfSome o (λ p. TakesAtLeast s u (p.start - i))
 least_some None s t u i up counts = tt
-least_some (Some p) s t u i up counts = least_after s t u (p.start - i) up counts
+least_some (Some p) s t u i up counts = least_since s t u (p.start - i) up counts
 
 -- one look more, before those of the kind of node
 pub looks_more : (s : Subject) (here : Matched) (node : Node) (next : Option Matched) (before begun after : ℕ) → before ≤ begun → LooksAt s here node next begun after → LooksAt s here node next before after
 looks_more s here (Seq a b) next before begun after up looks = λ left right. least_some next before begun after here.start up (looks left right)
-looks_more s here (Alt a b) next before begun after up looks = least_after before begun after 1 up looks
-looks_more s here (Star a first) next before begun after up looks = λ is_open. least_after before begun after (here.stop - here.start) up (looks is_open)
+looks_more s here (Alt a b) next before begun after up looks = least_since before begun after 1 up looks
+looks_more s here (Star a first) next before begun after up looks = λ is_open. least_since before begun after (here.stop - here.start) up (looks is_open)
 looks_more s here other next before begun after up looks = tt
 
 -- what all nodes cost together

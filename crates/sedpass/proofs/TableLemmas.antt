@@ -1,9 +1,9 @@
 -- Tables of states.
-use Rattle.std.proofs.Common.{◌≡◌, ◌≢◌, ℕ, zero, suc, ◌+◌, ◌*◌, ◌/◌, ◌%◌, ◌^◌, ◌<◌, ◌≤◌, ◌↔◌, Bool, true, false, ◌&&◌, ◌||◌, List, length, Option, Some, None, IsTrue, refl, sym, ap, ◌∙◌, subst, ⊎_elim, arith, mul-le-mul_left}
-use Rattle.std.specs.Prelude.{slice_index_or, slice_set, nat_lt, eqb, replicate}
-use Rattle.std.proofs.Math.Path.{fun_ext}
+use Rattle.std.proofs.Common.{◌≡◌, ◌≢◌, ℕ, zero, suc, ◌+◌, ◌*◌, ◌/◌, ◌%◌, ◌^◌, ◌<◌, ◌≤◌, ◌↔◌, Bool, true, false, ◌||◌, List, length, Option, Some, None, IsTrue, refl, sym, ap, ◌∙◌, subst, ⊎_elim, arith, mul-le-mul_left}
+use Rattle.std.proofs.lemmas.Nat.{same_from_place}
+use Rattle.std.specs.Prelude.{slice_index_or, slice_set, eqb, replicate}
 use Rattle.std.proofs.Math.Nat.{pow-le-pow_right}
-use Rattle.std.proofs.lemmas.Bool.{cases_eq, cases_lt, lt-ltb, le-ltb}
+use Rattle.std.proofs.lemmas.Bool.{cases_eq}
 use Rattle.std.proofs.lemmas.List.{get_or-set_same, get_or-set_other}
 use Rattle.std.proofs.lemmas.Nat.{shl-shr, shl_whole, shl_below}
 use Rattle.sedre.specs.Arena.{IsExpr}
@@ -11,7 +11,7 @@ use Rattle.sedre.specs.Tree.{WrittenExpression}
 use Rattle.sedre.specs.Mirror.{mirror_node, seen}
 use Rattle.sedre.proofs.MirrorLemmas.{old_node}
 use Rattle.sedre.specs.declared.types.Node.{Node}
-use Rattle.sedre.specs.declared.types.Node.TheVariants.{Empty, Set}
+use Rattle.sedre.specs.declared.types.Node.TheVariants.{Set}
 use Rattle.sedtext.specs.Words.{AgreeBelow, row_of}
 use Rattle.sedpass.specs.Prepared.{SameNulls}
 use Rattle.sedpass.specs.Rows.{nodes_of, at_begin, at_end, bits, SameBytes, LeadsTo, IsFirstRow}
@@ -24,28 +24,13 @@ use Rattle.sedpass.specs.declared.nodes.Prepared.{Prepared}
 use Rattle.sedpass.specs.declared.rows.Way.{Way}
 use Rattle.sedpass.specs.declared.table.Beginning.{Beginning}
 use Rattle.sedpass.specs.declared.table.Table.{Table}
-use Rattle.sedpass.proofs.RowLemmas.{class_row}
+use Rattle.sedpass.proofs.LeaveLemmas.{twice}
+use Rattle.sedpass.proofs.RowLemmas.{bits_agree, bits_clear, bits_here, class_row}
 
 -- Rows.
 
-pub bits_agree : (m : ℕ) (a b : List Bool) → AgreeBelow m a b → bits m a ≡ bits m b
-bits_agree m a b same = fun_ext (λ c.
-    ⊎_elim
-    (λ (lt : c < m). ap (λ v. nat_lt c m && v) (same c lt))
-    (λ (ge : m ≤ c). let none = le-ltb c m ge in ap (λ v. v && slice_index_or a c false) none ∙ sym (ap (λ v. v && slice_index_or b c false) none))
-    (cases_lt c m))
-
-pub bits_at : (m : ℕ) (a : List Bool) (c : ℕ) → c < m → bits m a c ≡ slice_index_or a c false
-bits_at m a c lt = ap (λ v. v && slice_index_or a c false) (lt-ltb c m lt)
-
-pub bits_clear : (m : ℕ) (a : List Bool) → ((c : ℕ) → c < m → slice_index_or a c false ≡ false) ↔ ((c : ℕ) → bits m a c ≡ false)
-bits_clear m a = (
-  λ none c. ⊎_elim
-      (λ (lt : c < m). bits_at m a c lt ∙ none c lt)
-      (λ (ge : m ≤ c). ap (λ v. v && slice_index_or a c false) (le-ltb c m ge))
-      (cases_lt c m),
-  λ none c lt. sym (bits_at m a c lt) ∙ none c,
-)
+pub bits_dead : (m : ℕ) (a : List Bool) → ((c : ℕ) → c < m → slice_index_or a c false ≡ false) ↔ ((c : ℕ) → bits m a c ≡ false)
+bits_dead m a = (bits_clear m a, λ none c lt. sym (bits_here m a c lt) ∙ none c)
 
 abbrev pub state : ℕ → (ℕ → Bool) → (ℕ → Bool) → Flags → State
 state r e d f = record { root = r; entered = e; ended = d; flags = f }
@@ -73,17 +58,6 @@ pub cell_inside : (size q k n w len : ℕ) → q < n → k < w → w ≤ size �
 cell_inside size q k n w len lt small fits is =
     let up : q + 1 ≤ n = omega arith in
     omega (arith, mul-le-mul_left size up, is, small, fits)
-
-cells_apart : (size q k p j : ℕ) → k < size → j < size → q * size + k ≡ p * size + j → (q ≡ p) × (k ≡ j)
-cells_apart size q k p j small low same =
-    ⊎_elim
-    (λ (e : q ≡ p). (e, let f = ap (λ v. v * size) e in omega (arith, f, same)))
-    (λ (ne : q ≢ p).
-    ⊎_elim
-    (λ (less : q < p). let up : q + 1 ≤ p = omega arith in absurd (omega (arith, mul-le-mul_left size up, same, small)))
-    (λ (more : p ≤ q). let up : p + 1 ≤ q = omega (arith, ne) in absurd (omega (arith, mul-le-mul_left size up, same, low)))
-    (cases_lt q p))
-    (cases_eq q p)
 
 -- Columns.
 
@@ -113,15 +87,11 @@ column_within class k edge first within is = at edge (subst (λ f. ColumnAt f cl
 
 -- Bytes of one class, however the expression is seen.
 
-mirror_twice : (node : Node) → mirror_node (mirror_node node) ≡ node
-mirror_twice Empty = refl
-mirror_twice other = refl
-
 pub seen_bytes : (mirrored : Bool) (e : WrittenExpression) (a b : Option ℕ) → SameBytes e.nodes a b → SameBytes (seen mirrored e).nodes a b
 seen_bytes false e a b same = same
 seen_bytes true e a b same = λ x members is.
     let old = old_node e.nodes x (Set members) is in
-    let set : old.0 ≡ Set members = sym (mirror_twice old.0) ∙ ap mirror_node old.2 in
+    let set : old.0 ≡ Set members = sym (twice old.0) ∙ ap mirror_node old.2 in
     same x members (old.1 ∙ ap (λ (z : Node). Some z) set)
 
 -- a state leads on by bytes of one class
@@ -294,7 +264,7 @@ module _ (p : Prepared) (t t' : Table) (adds : AddsStates (length p.arena.expr.n
             let place : cell_of t' x j ≡ slice_index_or t'.cells.items (x * size + j) 0 = ap (λ (l : Layout). slice_index_or t'.cells.items (x * 2 ^ l.shift + j) 0) adds.shape.2 in
             ⊎_elim
             (λ (e : x * size + j ≡ q * size + k).
-            let at = cells_apart size x j q k (omega arith) (omega arith) e in
+            let at = same_from_place x j q k size (omega arith) (omega arith) e in
             let value : cell_of t' x j ≡ v = place ∙ ap (λ n. slice_index_or t'.cells.items n 0) e ∙ ap (λ l. slice_index_or l (q * size + k) 0) cells ∙ get_or-set_same t.cells.items (q * size + k) v 0 inside in
             subst (λ n. Names m t' (LeadsBy p t' x j) n) (sym value)
             (subst (λ n. Names m t' (LeadsBy p t' x n) v) (sym at.1) (subst (λ n. Names m t' (LeadsBy p t' n k) v) (sym at.0) (filled_more q k v there here))))

@@ -36,14 +36,7 @@ groups_at nodes x k node arena is = by node is
   where
     by : (n : Node) → slice_get nodes x ≡ Some n → GroupStandsIn (tree_at nodes x) k ↔ HasGroupAt nodes n k
     by Empty is = rw (tree_at-node nodes x Empty arena is) (λ h. h, λ h. h)
-    by (Set s) is = rw (tree_at-node nodes x (Set s) arena is) (λ h. h, λ h. h)
-    by Begin is = rw (tree_at-node nodes x Begin arena is) (λ h. h, λ h. h)
-    by End is = rw (tree_at-node nodes x End arena is) (λ h. h, λ h. h)
-    by (Seq a b) is = rw (tree_at-node nodes x (Seq a b) arena is) (λ h. h, λ h. h)
-    by (Alt a b) is = rw (tree_at-node nodes x (Alt a b) arena is) (λ h. h, λ h. h)
-    by (Group n a) is = rw (tree_at-node nodes x (Group n a) arena is) (λ h. h, λ h. h)
-    by (Star a first) is = rw (tree_at-node nodes x (Star a first) arena is) (λ h. h, λ h. h)
-    by (Opt a first) is = rw (tree_at-node nodes x (Opt a first) arena is) (λ h. h, λ h. h)
+    by other is = rw (tree_at-node nodes x other arena is) (λ h. h, λ h. h)
 
 module _ (nodes : List Node) (w : List ℕ) (x i j : ℕ) (node : Node) (here : IsHere nodes w x i j node) where
   close_walk : (old new : State) (n : ℕ) → Walk (tree_of (tree_at nodes) node) w i j old new n → Walk (tree_at nodes x) w i j old new n
@@ -86,11 +79,7 @@ leaf_turn nodes w x i j node s here leaf =
     without (Set members) leaf k has = has
     without Begin leaf k has = has
     without End leaf k has = has
-    without (Seq a b) leaf k has = cc
-    without (Alt a b) leaf k has = cc
-    without (Group n a) leaf k has = cc
-    without (Star a first) leaf k has = cc
-    without (Opt a first) leaf k has = cc
+    without other leaf k has = cc
 
     childless : (n : Node) → parts_of n ≡ [] → entered_at n ≡ 0
     childless Empty leaf = refl

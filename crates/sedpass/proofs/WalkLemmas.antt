@@ -4,6 +4,7 @@ use Rattle.sedre.specs.Steps.{TakesAtLeast}
 use Rattle.sedre.specs.Tree.{Tree, empty, set, begin, end, seq, alt, group, star, opt, tree_at}
 use Rattle.sedre.specs.declared.types.Node.{Node}
 use Rattle.sedtext.proofs.GroupLemmas.{NoGroups}
+use Rattle.sedpass.proofs.CountLemmas.{least_fewer}
 use Rattle.sedpass.specs.Turns.{Runs, Continues, Progress}
 use Rattle.sedpass.specs.Walks.{State, drop_groups, GroupStandsIn, NoneDue, Walk, LooksAtEntered, EntersGroups}
 use Rattle.sedpass.specs.declared.groups.Task.{Task}
@@ -70,16 +71,12 @@ pub forgets : (nodes : List Node) (w : List ℕ) (x : ℕ) (rest : List Task) (s
 unfolding TakesAtLeast
 forgets nodes w x rest s steps = record { n = 0; run = λ f m run. runs_as nodes w rest (drop_groups (tree_at nodes x) s) f m (0 + m) (omega arith) run; counts = omega arith }
 
-fewer_looks : (a b n p : ℕ) → p ≤ n → TakesAtLeast a b n → TakesAtLeast a b p
-unfolding TakesAtLeast
-fewer_looks a b n p few counts = omega (arith, few, counts)
-
 -- when all tasks are done, the nodes that the walk from the root enters were looked at
 pub looked : (nodes : List Node) (w : List ℕ) (root i j : ℕ) (start now : State) (a b : ℕ) → Progress nodes w (Apart root i j ∷ []) start [] now a b →
     LooksAtEntered (tree_at nodes root) w i j start a b
 looked nodes w root i j start now a b progress =
     let run = progress.run now 0 (refl, refl) in
-    record { last = run.0; n = run.1; walk = run.3; counts = fewer_looks a b progress.n run.1 (omega (arith, run.5)) progress.counts }
+    record { last = run.0; n = run.1; walk = run.3; counts = least_fewer a b progress.n run.1 (omega (arith, run.5)) progress.counts }
 
 pub enters_later : (e : Tree) (w : List ℕ) (i j a b c : ℕ) → a ≤ b → EntersGroups e w i j b c → EntersGroups e w i j a c
 unfolding TakesAtLeast

@@ -1,6 +1,6 @@
 use Rattle.std.proofs.Common.{◌≡◌, ◌+◌, ◌-◌, ◌*◌, ◌<◌, ◌≤◌, List, [], ◌∷◌, ◌++◌, length, reverse, refl, sym, ap, ◌∙◌, subst, arith}
 use Rattle.std.proofs.lemmas.List.{nil_from_length, reverse-append}
-use Rattle.sedpass.specs.Decide.{nodes_in, text_in, told_of, undecided, found, part_cost, tasks_cost}
+use Rattle.sedpass.specs.Decide.{nodes_in, text_in, told_of, undecided, part_cost, tasks_cost}
 use Rattle.sedpass.specs.Turns.{AreReady, AreShort, Progress, weights}
 use Rattle.sedpass.specs.Walks.{LooksAtEntered}
 use Rattle.sedpass.proofs.WalkLemmas.{still, goes_on, ended, looked}
@@ -8,7 +8,8 @@ use Rattle.sedre.specs.Sizes.{size}
 use Rattle.sedre.specs.Tree.{tree_at, expression_tree}
 use Rattle.sedpass.specs.declared.groups.Task.{Task}
 use Rattle.sedpass.specs.declared.groups.Task.TheVariants.{Apart}
-use Rattle.sedpass.proofs.SpineLemmas.{decides, decides_due, all_paid, first_paid, least_same, least_on}
+use Rattle.sedpass.proofs.CountLemmas.{least_none, least_both}
+use Rattle.sedpass.proofs.SpineLemmas.{decides, decides_due, all_paid, first_paid}
 use Rattle.sedpass.proofs.KeptLemmas.{space_same, space_then}
 use Rattle.sedpass.proofs.DecideLemmas.{starts_due, starts_blank, tables_same, tables_then}
 use Rattle.sedpass.proofs.groups.decide.Goals as goal
@@ -36,7 +37,7 @@ all-init c =
       room = omega arith;
       ready = subst (AreReady nodes w) (sym begun) (inside, c.requires.order.0, c.requires.order.1, c.requires.spans, tt);
       less = subst (λ ts. weights nodes ts ≤ 2 * length nodes) (sym begun) (omega (arith, small));
-      counts = least_same c.args.steps.now 1;
+      counts = least_none c.args.steps.now (1 - 1) (omega arith);
       progress = subst (λ ts. Progress nodes w (first ∷ []) start ts start c.args.steps.now c.args.steps.now) (sym begun) (still nodes w (first ∷ []) start c.args.steps.now);
       short = subst (AreShort long) (sym begun) (omega arith, tt);
       cost = (omega arith, subst (λ ts. c.args.steps.now + tasks_cost nodes long ts ≤ c.args.steps.now + most) (sym begun) (omega (arith, paid)));
@@ -75,7 +76,7 @@ all-preserved c =
       room = omega (arith, inv.room, c.pop.ensures.capacity, c.work.ensures.room);
       ready = c.work.ensures.reduces.0;
       less = omega (arith, less, inv.less);
-      counts = least_on c.args.steps.now c.all.steps c.work.new.steps 1 (found c.all.told.spans) (found c.work.new.told.spans) inv.counts c.work.ensures.counts;
+      counts = least_both c.args.steps.now c.all.steps c.work.new.steps _ _ _ inv.counts c.work.ensures.counts (omega arith);
       progress = goes_on nodes w (Apart s.prepared.now.root c.args.start c.args.stop ∷ []) (reverse c.all.room.tasks.items) (reverse c.work.new.room.tasks.items)
           (told_of c.args.due (undecided c.args.start c.args.stop)) now after c.args.steps.now c.all.steps c.work.new.steps inv.progress
           (subst (λ ts. Progress nodes w ts now (reverse c.work.new.room.tasks.items) after c.all.steps c.work.new.steps) (sym popped) c.work.ensures.progress);

@@ -5,7 +5,8 @@ use Rattle.sedpass.specs.Lengths.{length_of}
 use Rattle.sedpass.specs.Decide.{nodes_in, text_in}
 use Rattle.sedpass.specs.Regions.{StopsAt}
 use Rattle.sedpass.proofs.KeptLemmas.{space_same, space_then}
-use Rattle.sedpass.proofs.DecideLemmas.{long_at, copy_fits, copy_named, part_low, ends_still, copy_pays, owed_here, least_none, least_then, least_less, not_open, tables_same, tables_then}
+use Rattle.sedpass.proofs.CountLemmas.{least_fewer, least_none}
+use Rattle.sedpass.proofs.DecideLemmas.{long_at, copy_fits, copy_named, part_low, ends_still, copy_pays, owed_here, least_then, not_open, tables_same, tables_then}
 use Rattle.sedpass.proofs.LengthLemmas.{copies_long}
 use Rattle.sedpass.proofs.MeetingLemmas.{copy_walk}
 use Rattle.sedpass.proofs.TurnLemmas.{star_parts, star_spine}
@@ -42,7 +43,7 @@ copies-init c = record {
   walk = λ k h. elim h [ inl w ↦ w.1 | inr w ↦ absurd (omega (arith, w.0, c.requires.some)) ];
   cost = (omega arith, omega arith);
   low = omega arith;
-  counts = least_none c.args.steps.now c.args.here.start c.args.here.start refl;
+  counts = least_none c.args.steps.now (c.args.here.start - c.args.here.start) (omega arith);
 }
 
 pub meeting_end-end-requires-clause-node : goal.meeting_end-end-requires-clause-node
@@ -110,4 +111,4 @@ pub returns-in-Some-clause-counts : goal.returns-in-Some-clause-counts
 returns-in-Some-clause-counts c = λ is_open. absurd (not_open c.in-Some.length c.facts_at.ensures.long c.in-Some.is (ap (λ x. length_of (tree_at (nodes_in c.args.subject) x)) c.index-part.ensures ∙ is_open))
 
 pub returns-clause-counts : goal.returns-clause-counts
-returns-clause-counts c = λ is_open. least_less c.args.steps.now c.copies.steps (c.copies.end - c.args.here.start) (c.args.here.stop - c.args.here.start) (omega (arith, c.copies-test.false)) c.copies.invariant.counts
+returns-clause-counts c = λ is_open. least_fewer c.args.steps.now c.copies.steps (c.copies.end - c.args.here.start) (c.args.here.stop - c.args.here.start) (omega (arith, c.copies-test.false)) c.copies.invariant.counts

@@ -1,9 +1,10 @@
-use Rattle.std.proofs.Common.{◌+◌, ◌*◌, ◌-◌, length, sym, ap, ◌∙◌, subst, inl, arith}
+use Rattle.std.proofs.Common.{◌≡◌, ◌+◌, ◌*◌, ◌-◌, length, sym, ap, ◌∙◌, subst, inl, arith}
 use Rattle.sedre.specs.Tree.{tree_at}
 use Rattle.sedpass.specs.Decide.{nodes_in, text_in}
 use Rattle.sedpass.specs.Lengths.{length_of}
 use Rattle.sedpass.specs.Regions.{StopsAt, RunsTo}
-use Rattle.sedpass.proofs.DecideLemmas.{cut_named, part_low, not_empty, owed_here, run_paid, meet_paid, least_less, least_none}
+use Rattle.sedpass.proofs.CountLemmas.{least_fewer, least_none}
+use Rattle.sedpass.proofs.DecideLemmas.{cut_named, part_low, not_empty, owed_here, run_paid, meet_paid}
 use Rattle.sedpass.proofs.TurnLemmas.{seq_parts, seq_spine, run_spine}
 use Rattle.sedpass.proofs.groups.last_cut.Goals as goal
 
@@ -68,11 +69,11 @@ returns-clause-cost c =
 
 pub returns-in-Some-clause-counts : goal.returns-in-Some-clause-counts
 returns-in-Some-clause-counts c = λ left right.
-    least_none c.args.steps.now c.in-Some.cut c.args.here.start
-    (c.in-Some.ensures.open (ap (λ x. length_of (tree_at (nodes_in c.args.subject) x)) c.index-left.ensures ∙ left) (ap (λ x. length_of (tree_at (nodes_in c.args.subject) x)) c.index-right.ensures ∙ right))
+    let same : c.in-Some.cut ≡ c.args.here.start = c.in-Some.ensures.open (ap (λ x. length_of (tree_at (nodes_in c.args.subject) x)) c.index-left.ensures ∙ left) (ap (λ x. length_of (tree_at (nodes_in c.args.subject) x)) c.index-right.ensures ∙ right) in
+    least_none c.args.steps.now (c.in-Some.cut - c.args.here.start) (omega (arith, same))
 
 pub returns-in-Some-run_at-clause-counts : goal.returns-in-Some-run_at-clause-counts
 returns-in-Some-run_at-clause-counts c = λ left right. c.run_end.ensures.counts
 
 pub returns-clause-counts : goal.returns-clause-counts
-returns-clause-counts c = λ left right. least_less c.args.steps.now c.meeting_end.new.steps (2 * (c.meeting_end.result - c.args.here.start) + 1) (c.meeting_end.result - c.args.here.start) (omega arith) c.meeting_end.ensures.counts
+returns-clause-counts c = λ left right. least_fewer c.args.steps.now c.meeting_end.new.steps (2 * (c.meeting_end.result - c.args.here.start) + 1) (c.meeting_end.result - c.args.here.start) (omega arith) c.meeting_end.ensures.counts

@@ -4,7 +4,8 @@ use Rattle.sedpass.specs.Decide.{nodes_in, told_of, waiting, found}
 use Rattle.sedpass.specs.Turns.{weights}
 use Rattle.sedpass.proofs.KeptLemmas.{space_same, space_then}
 use Rattle.sedpass.proofs.DecideLemmas.{may_begin, begun_ends, desk_begun, desk_has, tables_same, tables_then}
-use Rattle.sedpass.proofs.SpineLemmas.{Spined, spine_begins, spine_goes, spine_less, spine_reduces, least_same, least_on}
+use Rattle.sedpass.proofs.CountLemmas.{least_none, least_both}
+use Rattle.sedpass.proofs.SpineLemmas.{Spined, spine_begins, spine_goes, spine_less, spine_reduces}
 use Rattle.sedpass.proofs.TurnLemmas.{room}
 use Rattle.sedpass.proofs.groups.spine.Goals as goal
 
@@ -27,7 +28,7 @@ nodes-init c =
       room = omega arith;
       spined = spine_begins s r (told_of c.args.told.now.due c.args.told.now.spans) here c.args.room.now.tasks.items c.args.steps.now
           (begun_ends s r here.node here.start here.stop c.begin.ensures.root c.begin.ensures.end) c.requires.ready;
-      counts = least_same c.args.steps.now (found c.args.told.now.spans);
+      counts = least_none c.args.steps.now _ (omega arith);
     }
 
 pub put-at-requires : goal.put-at-requires
@@ -66,7 +67,7 @@ nodes-preserved c =
       room = omega (arith, c.nodes.invariant.room, c.put-at.ensures.room);
       spined = spine_goes s start begin old new c.args.steps.now c.nodes.steps c.turn-then.new.steps c.nodes.room.kept.region c.turn-then.new.kept.region
           c.in-Some.next stack c.put-at.new.tasks.items c.turn-then.result c.put-at.result spined c.turn-then.ensures.turn c.turn-then.ensures.goes c.turn-then.ensures.cost c.put-at.ensures.first c.put-at.ensures.items;
-      counts = least_on c.args.steps.now c.nodes.steps c.turn-then.new.steps (found c.args.told.now.spans) (found c.nodes.told.spans) (found c.turn-then.new.told.spans) c.nodes.invariant.counts c.turn-then.ensures.counts;
+      counts = least_both c.args.steps.now c.nodes.steps c.turn-then.new.steps _ _ _ c.nodes.invariant.counts c.turn-then.ensures.counts (omega arith);
     }
 
 pub returns-clause-desk : goal.returns-clause-desk

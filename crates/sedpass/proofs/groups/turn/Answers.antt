@@ -1,7 +1,8 @@
 use Rattle.std.proofs.Common.{◌≡◌, arith, subst}
 use Rattle.sedpass.specs.Decide.{told_of, found, next_of, LooksAt}
 use Rattle.sedpass.specs.Turns.{entered_at}
-use Rattle.sedpass.proofs.SpineLemmas.{left_turn, looked_at, unlooked, least_same, least_look, looks_more}
+use Rattle.sedpass.proofs.CountLemmas.{least_none}
+use Rattle.sedpass.proofs.SpineLemmas.{left_turn, looked_at, unlooked, least_look, looks_more}
 use Rattle.sedpass.proofs.groups.turn.Goals as goal
 
 pub turn_node-requires-clause-here : goal.turn_node-requires-clause-here
@@ -36,7 +37,7 @@ returns-then-is_due-clause-counts c =
     c.turn_node.ensures.few
 
 pub returns-else-is_due-clause-counts : goal.returns-else-is_due-clause-counts
-returns-else-is_due-clause-counts c = least_same c.args.steps.now (found c.args.told.now.spans)
+returns-else-is_due-clause-counts c = least_none c.args.steps.now _ (omega arith)
 
 pub returns-then-is_due-clause-looks : goal.returns-then-is_due-clause-looks
 returns-then-is_due-clause-looks c = λ node is due.

@@ -1,7 +1,7 @@
-use Rattle.std.proofs.Common.{◌∷◌, ◌-◌, reverse, sym, subst}
+use Rattle.std.proofs.Common.{arith, ◌∷◌, ◌-◌, reverse, sym, subst}
 use Rattle.sedpass.specs.Decide.{nodes_in, text_in, told_of, found, IsSpent}
 use Rattle.sedre.specs.Steps.{TakesAtLeast}
-use Rattle.sedpass.proofs.SpineLemmas.{least_same}
+use Rattle.sedpass.proofs.CountLemmas.{least_none}
 use Rattle.sedpass.specs.Turns.{Progress}
 use Rattle.sedpass.specs.Walks.{drop_groups}
 use Rattle.sedre.specs.Tree.{tree_at}
@@ -14,7 +14,7 @@ returns-in-Apart-clause-cost c =
 
 pub returns-in-Forget-clause-counts : goal.returns-in-Forget-clause-counts
 returns-in-Forget-clause-counts c =
-    subst (λ v. TakesAtLeast c.args.steps.now c.args.steps.now (found v - found c.args.told.now.spans)) (sym c.forget.ensures.spans) (least_same c.args.steps.now (found c.args.told.now.spans))
+    subst (λ v. TakesAtLeast c.args.steps.now c.args.steps.now (found v - found c.args.told.now.spans)) (sym c.forget.ensures.spans) (least_none c.args.steps.now _ (omega arith))
 
 pub returns-in-Apart-clause-progress : goal.returns-in-Apart-clause-progress
 returns-in-Apart-clause-progress c =

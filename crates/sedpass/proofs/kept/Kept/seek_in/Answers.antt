@@ -74,7 +74,7 @@ loop-place-preserved c =
       passed = marked_on p.arena.expr.nodes w k.region.root c.args.x (ends_told t.way.all_starts (length w) k.region.end) (not c.args.marked) c.args.from c.loop-place.place old.passed here;
       grows = (let h = old.grows in let g = c.get.ensures.cost.0 in omega (arith, h, g));
       cost = (let h = old.cost in let g = c.get.ensures.cost.1 in omega (arith, h, g));
-      counts = least_both _ _ _ _ 1 _ old.counts (least_counted _ _ 1 c.get.ensures.counts) (omega (arith, above));
+      counts = least_both _ _ _ _ 1 _ old.counts (least_counted _ _ 1 1 c.get.ensures.counts (omega arith)) (omega (arith, above));
     }
 
 pub returns-clause-passed : goal.returns-clause-passed

@@ -27,7 +27,7 @@ returns-then-place-self-clause-spans c =
     subst (λ e. IsTrue c.null_at.result ↔ At nodes w c.args.x c.args.place e) c.if-place-self.true null
 
 pub returns-then-place-self-clause-counts : goal.returns-then-place-self-clause-counts
-returns-then-place-self-clause-counts c = least_counted _ _ 1 c.null_at.ensures.counts
+returns-then-place-self-clause-counts c = least_counted _ _ 1 1 c.null_at.ensures.counts (omega arith)
 
 pub get-requires-clause-row : goal.get-requires-clause-row
 get-requires-clause-row c =
@@ -65,4 +65,4 @@ returns-clause-spans c =
     (mark_spans p w t k c.args.x c.args.place c.get.result c.ready.ensures.kept one last above before mark)
 
 pub returns-clause-counts : goal.returns-clause-counts
-returns-clause-counts c = least_since _ c.ready.new.steps _ _ c.ready.ensures.cost.0 (least_counted _ _ 1 c.get.ensures.counts)
+returns-clause-counts c = least_since _ c.ready.new.steps _ _ c.ready.ensures.cost.0 (least_counted _ _ 1 1 c.get.ensures.counts (omega arith))

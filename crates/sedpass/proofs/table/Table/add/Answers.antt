@@ -7,7 +7,8 @@ use Rattle.sedpass.specs.Rows.{bits}
 use Rattle.sedpass.specs.Table.{State, IsTold, HasRow, AddsStates, HasRoom, cell_of}
 use Rattle.sedpass.specs.declared.cells.Flags.{Flags}
 use Rattle.sedpass.specs.declared.table.Table.{Table}
-use Rattle.sedpass.proofs.TableLemmas.{shifted, one_shifted, few_offset, cell_inside, bits_at, bits_clear, state, state_added, state_adds, one_more}
+use Rattle.sedpass.proofs.RowLemmas.{bits_here}
+use Rattle.sedpass.proofs.TableLemmas.{shifted, one_shifted, few_offset, cell_inside, bits_dead, state, state_added, state_adds, one_more}
 use Rattle.sedpass.proofs.table.Table.add.Goals as goal
 
 pub overflow_shl-offset : goal.overflow_shl-offset
@@ -99,8 +100,8 @@ returns-clause-table c =
     (λ k low. subst (λ x. slice_index_or c.empty_cells.new.cells.items (x + k) 0 ≡ 0) place (c.empty_cells.ensures.clear k low)) in
     let dead : IsTrue c.is_clear.result ↔ ((k : ℕ) → k < m → slice_index_or L k false ≡ false) =
     subst (λ n. IsTrue c.is_clear.result ↔ ((k : ℕ) → k < n → slice_index_or L k false ≡ false)) nodes c.is_clear.ensures.clear in
-    let law = bits_clear m L in
-    let told : IsTold (state c.args.root (bits m L) (bits m E) flags) = (c.get.ensures.mark ∙ sym (bits_at m E c.args.root c.requires.root), (λ h. law.0 (dead.0 h), λ h. dead.1 (law.1 h))) in
+    let law = bits_dead m L in
+    let told : IsTold (state c.args.root (bits m L) (bits m E) flags) = (c.get.ensures.mark ∙ sym (bits_here m E c.args.root c.requires.root), (λ h. law.0 (dead.0 h), λ h. dead.1 (law.1 h))) in
     one_more c.args.prepared.now T N adds refl t room refl refl before clear
     (subst (λ (a : State). a.root < m) (sym added) c.requires.root)
     (subst (λ (a : State). IsTold a) (sym added) told)

@@ -5,7 +5,8 @@ use Rattle.sedtext.proofs.StepLemmas.{least_own, counted_twice}
 use Rattle.sedpass.specs.Rows.{bits}
 use Rattle.sedpass.specs.Table.{HasRow}
 use Rattle.sedpass.proofs.CountLemmas.{least_up}
-use Rattle.sedpass.proofs.TableLemmas.{bits_agree, names_map}
+use Rattle.sedpass.proofs.RowLemmas.{bits_agree}
+use Rattle.sedpass.proofs.TableLemmas.{names_map}
 use Rattle.sedpass.proofs.table.Table.load.Goals as goal
 
 pub returns-clause-names : goal.returns-clause-names

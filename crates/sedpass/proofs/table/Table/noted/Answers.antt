@@ -1,7 +1,7 @@
 use Rattle.std.proofs.Common.{◌<◌, ◌∙◌, length, sym, subst, arith}
 use Rattle.sedtext.specs.Words.{AgreeBelow, row_of}
 use Rattle.sedtext.proofs.MarkLemmas.{default_same}
-use Rattle.sedpass.proofs.TableLemmas.{bits_agree}
+use Rattle.sedpass.proofs.RowLemmas.{bits_agree}
 use Rattle.sedpass.proofs.table.Table.noted.Goals as goal
 
 pub returns-then-same-2-clause-has : goal.returns-then-same-2-clause-has
