@@ -67,7 +67,7 @@ none_due nodes x facts due spans is whole apart k has = elim (cases_Bool (holds 
 ]
   where
     facts_groups : holds due k ≡ true → holds facts.groups k ≡ true
-    facts_groups due_is = is.groups k ∙ and_from (reported k) (has_group (tree_at nodes x) k) (due_reported due k whole due_is) (has_told (tree_at nodes x) k has)
+    facts_groups due_is = is.groups k ∙ and_from (reported k) (has_group (tree_at nodes x) k) (due_reported due k whole due_is) ((has_told (tree_at nodes x) k).1 has)
 
 -- what a test denies
 pub not_met : (b : Bool) (P : Type 0) → b ≡ false → (IsTrue b ↔ P) → P → ⊥
@@ -117,7 +117,7 @@ all_told e root facts last is k low high has =
     let same : length e.nodes - 1 ≡ root = omega arith in
     is.groups k
     ∙ and_from (reported k) (has_group (tree_at e.nodes root) k) (and_from (nat_lt 0 k) (nat_lt k 10) (lt-ltb 0 k (omega arith)) (lt-ltb k 10 high))
-    (has_told (tree_at e.nodes root) k (subst (λ x. GroupStandsIn (tree_at e.nodes x) k) same has))
+    ((has_told (tree_at e.nodes root) k).1 (subst (λ x. GroupStandsIn (tree_at e.nodes x) k) same has))
 
 pub starts_due : (e : Tree) (i j : ℕ) (due : GroupSet) → holds due 0 ≡ false → HasAll due e → IsStart e i j (told_of due (undecided i j))
 starts_due e i j due whole all = record {

@@ -202,9 +202,7 @@ passes_down p w t after k other place offset next byte edge old table adds root 
       above = omega arith;
       there = there;
       at = subst (λ r. KeptAt p w after.way r other.region.end place (state_of m after s)) (sym root) (subst (λ e. KeptAt p w after.way k.region.root e place (state_of m after s)) (sym end) now);
-      live = λ q from before.
-          subst (λ r. IsLive p w after r other.region.end other.states.items q) (sym root) (subst (λ e. IsLive p w after k.region.root e other.states.items q) (sym end)
-          (subst (λ xs. IsLive p w after k.region.root k.region.end xs q) (sym states) (live q from before)));
+      live = λ q from before. rw (root, end, states) (live q from before);
     }
 
 -- so many looks, and then others
@@ -357,9 +355,7 @@ kept_passed p w t k other place offset passes kept low from states edges root en
       region = region_kept p w t t k other shape passes.region.table (ap (λ v. vec_capacity v) states) (ap (λ v. length v.items) states) edges root end (rw to passes.region.within) passes.region;
       low = omega (arith, low, from);
       from = (let h = passes.within in omega (arith, from, end, h));
-      live = λ q above before.
-          subst (λ r. IsLive p w t r other.region.end other.states.items q) (sym root) (subst (λ e. IsLive p w t k.region.root e other.states.items q) (sym end)
-          (subst (λ v. IsLive p w t k.region.root k.region.end v.items q) (sym states) (passes.live q (omega (arith, from, above)) (omega (arith, to, before)))));
+      live = λ q above before. rw (root, end, states) (passes.live q (omega (arith, from, above)) (omega (arith, to, before)));
       edges = edges_same p w t t k other other.region.low other.region.low shape edges root end (omega arith) kept;
     }
 
@@ -483,8 +479,6 @@ kept_same p w t k other region states edges kept =
       region = region_kept p w t t k other shape kept.region.table (ap (λ v. vec_capacity v) states) (ap (λ v. length v.items) states) edges root end (rw to kept.region.within) kept.region;
       low = (let h = kept.low in omega (arith, h, low, from));
       from = (let h = kept.from in omega (arith, h, from, end));
-      live = λ q above before.
-          subst (λ r. IsLive p w t r other.region.end other.states.items q) (sym root) (subst (λ e. IsLive p w t k.region.root e other.states.items q) (sym end)
-          (subst (λ v. IsLive p w t k.region.root k.region.end v.items q) (sym states) (kept.live q (omega (arith, from, above)) (omega (arith, to, before)))));
+      live = λ q above before. rw (root, end, states) (kept.live q (omega (arith, from, above)) (omega (arith, to, before)));
       edges = edges_same p w t t k other k.region.low other.region.low shape edges root end (omega (arith, low)) kept.edges;
     }

@@ -1,8 +1,8 @@
 -- What becomes of one group of a match while all are decided from its end; so decided, they are those decided from the left.
-use Rattle.std.proofs.Common.{◌≡◌, ℕ, zero, suc, ◌<◌, ◌≤◌, ◌⊎◌, ◌||◌, Bool, true, false, List, [], ◌∷◌, length, Option, None, Some, refl, sym, ap, ◌∙◌, subst, inl, inr, ⊎_elim, true≢false, arith}
+use Rattle.std.proofs.Common.{◌≡◌, ℕ, zero, suc, ◌<◌, ◌≤◌, ◌⊎◌, ◌↔◌, ◌||◌, Bool, true, false, List, [], ◌∷◌, length, Option, None, Some, IsTrue, refl, sym, ap, ◌∙◌, subst, inl, inr, ⊎_elim, true≢false, arith}
 use Rattle.std.specs.Prelude.{eqb, unwrap_or, slice_get, slice_set, slice_index_or, replicate}
 use Rattle.std.specs.Option.{option_or}
-use Rattle.std.proofs.lemmas.Bool.{cases_Bool, cases_lt, or_cases, or_left, or_right, eqb-true, eq-eqb}
+use Rattle.std.proofs.lemmas.Bool.{cases_Bool, cases_lt, eqb-true, eq-eqb}
 use Rattle.std.proofs.lemmas.Bool.Decides.{eqb_tells}
 use Rattle.std.proofs.lemmas.List.{get_or-set_other, length-set}
 use Rattle.std.proofs.lemmas.Option.{slice_get_past, none-some, same_Some, unwrap_or-slice_get}
@@ -13,28 +13,18 @@ use Rattle.sedtext.specs.Caps.{Captures, LastCopy, only, then, IsReport}
 use Rattle.sedtext.specs.Spans.{Matches}
 use Rattle.sedtext.proofs.CapsLemmas.{Captures-unique}
 use Rattle.sedtext.proofs.MatchingLemmas.{groups_after-is}
+use Rattle.sedpass.proofs.RowLemmas.{not_true, or_truth}
 use Rattle.sedpass.specs.Groups.{has_group}
 use Rattle.sedpass.specs.Walks.{State, is_due, settle, drop_groups, GroupStandsIn, NoneDue, PassedBy, Walk, IsStart}
 
 -- whether a group stands in the expression
-pub has_told : (t : Tree) (k : ℕ) → GroupStandsIn t k → has_group t k ≡ true
-has_told (seq a b) k (inl has) = or_left (has_group a k) (has_group b k) (has_told a k has)
-has_told (seq a b) k (inr has) = or_right (has_group a k) (has_group b k) (has_told b k has)
-has_told (alt a b) k (inl has) = or_left (has_group a k) (has_group b k) (has_told a k has)
-has_told (alt a b) k (inr has) = or_right (has_group a k) (has_group b k) (has_told b k has)
-has_told (group n a) k (inl same) = or_left (eqb n k) (has_group a k) (eq-eqb n k same)
-has_told (group n a) k (inr has) = or_right (eqb n k) (has_group a k) (has_told a k has)
-has_told (star a first) k has = has_told a k has
-has_told (opt a first) k has = has_told a k has
-has_told other k has = absurd has
-
-pub told_has : (t : Tree) (k : ℕ) → has_group t k ≡ true → GroupStandsIn t k
-told_has (seq a b) k is = elim (or_cases (has_group a k) (has_group b k) is) [ inl l ↦ inl (told_has a k l) | inr r ↦ inr (told_has b k r) ]
-told_has (alt a b) k is = elim (or_cases (has_group a k) (has_group b k) is) [ inl l ↦ inl (told_has a k l) | inr r ↦ inr (told_has b k r) ]
-told_has (group n a) k is = elim (or_cases (eqb n k) (has_group a k) is) [ inl l ↦ inl (eqb-true n k l) | inr r ↦ inr (told_has a k r) ]
-told_has (star a first) k is = told_has a k is
-told_has (opt a first) k is = told_has a k is
-told_has other k is = absurd (true≢false (sym is))
+pub has_told : (t : Tree) (k : ℕ) → IsTrue (has_group t k) ↔ GroupStandsIn t k
+has_told (seq a b) k = or_truth (has_group a k) (has_group b k) (GroupStandsIn a k) (GroupStandsIn b k) (has_told a k) (has_told b k)
+has_told (alt a b) k = or_truth (has_group a k) (has_group b k) (GroupStandsIn a k) (GroupStandsIn b k) (has_told a k) (has_told b k)
+has_told (group n a) k = or_truth (eqb n k) (has_group a k) (n ≡ k) (GroupStandsIn a k) (eqb-true n k, eq-eqb n k) (has_told a k)
+has_told (star a first) k = has_told a k
+has_told (opt a first) k = has_told a k
+has_told other k = not_true ⊥ (λ h. h)
 
 abbrev Span : Type 0
 Span = Option (ℕ × ℕ)
@@ -251,7 +241,7 @@ lays-then k P g m h d e one two = record {
 lays-forget : (a : Tree) (k : ℕ) (g : Groups) → Lays k (GroupStandsIn a k) g (forget a g) (deed (has_group a k) None)
 lays-forget a k g = record {
   at = forget_at a k g;
-  none = elim (cases_Bool (has_group a k)) [ inl has ↦ inr (told_has a k has) | inr lacks ↦ inl (ap (λ b. deed b None) lacks) ];
+  none = elim (cases_Bool (has_group a k)) [ inl has ↦ inr ((has_told a k).0 has) | inr lacks ↦ inl (ap (λ b. deed b None) lacks) ];
 }
 
 lays-within : (a : Tree) (k : ℕ) (g h : Groups) (d : Option Span) → Lays k (GroupStandsIn a k) (forget a g) h d → Lays k (GroupStandsIn a k) g h (within a k d)

@@ -462,27 +462,25 @@ or_truth a b A B l m = (
 pub and_truth : (a b : Bool) (A B : Type 0) → (IsTrue a ↔ A) → (IsTrue b ↔ B) → IsTrue (a && b) ↔ (A × B)
 and_truth a b A B l m = (λ h. let both = and_parts a b h in (l.0 both.0, m.0 both.1), λ h. and_from a b (l.1 h.0) (m.1 h.1))
 
+pub set_other : (marks after : List Bool) (x c : ℕ) (v : Bool) → (c ≡ x → ⊥) → after ≡ slice_set marks x v → slice_index_or after c false ≡ slice_index_or marks c false
+set_other marks after x c v ne is = ap (λ l. slice_index_or l c false) is ∙ get_or-set_other marks x c v false ne
+
+pub set_same : (marks after : List Bool) (x : ℕ) (v : Bool) → x < length marks → after ≡ slice_set marks x v → slice_index_or after x false ≡ v
+set_same marks after x v inside is = ap (λ l. slice_index_or l x false) is ∙ get_or-set_same marks x v false inside
+
 -- one more mark that tells the truth
 mark_one : (marks after : List Bool) (x : ℕ) (v : Bool) (S R P : ℕ → Type 0) → after ≡ slice_set marks x v → x < length marks → (IsTrue v ↔ P x) → ((c : ℕ) → R c → S c ⊎ (c ≡ x)) →
     Marked marks S P → Marked after R P
 mark_one marks after x v S R P is inside truth more marked c told =
     ⊎_elim
     (λ (e : c ≡ x).
-    let at : slice_index_or after c false ≡ v =
-    subst (λ n. slice_index_or after n false ≡ v) (sym e) (ap (λ l. slice_index_or l x false) is ∙ get_or-set_same marks x v false inside) in
+    let at = subst (λ n. slice_index_or after n false ≡ v) (sym e) (set_same marks after x v inside is) in
     (λ h. subst P (sym e) (truth.0 (sym at ∙ h)), λ h. at ∙ truth.1 (subst P e h)))
     (λ (ne : c ≡ x → ⊥).
-    let at : slice_index_or after c false ≡ slice_index_or marks c false =
-    ap (λ l. slice_index_or l c false) is ∙ get_or-set_other marks x c v false ne in
+    let at = set_other marks after x c v ne is in
     let old : IsTrue (slice_index_or marks c false) ↔ P c = ⊎_elim (λ (h : S c). marked c h) (λ (e : c ≡ x). absurd (ne e)) (more c told) in
     (λ h. old.0 (sym at ∙ h), λ h. at ∙ old.1 h))
     (cases_eq c x)
-
-pub set_other : (marks after : List Bool) (x c : ℕ) (v : Bool) → (c ≡ x → ⊥) → after ≡ slice_set marks x v → slice_index_or after c false ≡ slice_index_or marks c false
-set_other marks after x c v ne is = ap (λ l. slice_index_or l c false) is ∙ get_or-set_other marks x c v false ne
-
-pub set_same : (marks after : List Bool) (x : ℕ) (v : Bool) → x < length marks → after ≡ slice_set marks x v → slice_index_or after x false ≡ v
-set_same marks after x v inside is = ap (λ l. slice_index_or l x false) is ∙ get_or-set_same marks x v false inside
 
 pub not_true : (A : Type 0) → (A → ⊥) → IsTrue false ↔ A
 not_true A none = (λ h. absurd (true≢false (sym h)), λ a. absurd (none a))
