@@ -93,8 +93,7 @@ follows_next p w t after a i place byte offset next edge front one shape from go
     let row : RowOfPlace p.arena.expr.nodes w old.root (one_start i) t.way.keeps (place + 1) new.entered new.ended =
     next_row p.arena.expr w t.way.mirrored t.way.all_starts t.way.keeps edge old.root i place byte old.entered old.ended new.entered new.ended front one from got last leads.1 follows.1 in (
       root ∙ follows.0,
-      subst (λ r. RowOfPlace p.arena.expr.nodes w r (one_start i) after.way.keeps (place + 1) new.entered new.ended) (sym root)
-          (subst (λ v. RowOfPlace p.arena.expr.nodes w old.root (one_start i) v (place + 1) new.entered new.ended) (sym (ap (λ v. v.keeps) shape.0)) row),
+      rw (root, (ap (λ v. v.keeps) shape.0)) row,
     )
 
 first_row : (e : WrittenExpression) (w : List ℕ) (mirrored keeps : Bool) (a i : ℕ) (kind : Kind) (entered ended : ℕ → Bool) → mirrored ≡ false → (IsTrue kind.begin ↔ (i ≡ 0)) → (IsTrue kind.end ↔ (i ≡ length w)) →
@@ -108,8 +107,7 @@ follows_first p w t after a i offset kind front way begins ends first =
     let s = state_of (length p.arena.expr.nodes) after (offset / 2 ^ after.layout.shift) in
     let row : RowOfPlace p.arena.expr.nodes w a (one_start i) t.way.keeps i s.entered s.ended = first_row p.arena.expr w t.way.mirrored t.way.keeps a i kind s.entered s.ended front begins ends first.1 in (
       first.0,
-      subst (λ r. RowOfPlace p.arena.expr.nodes w r (one_start i) after.way.keeps i s.entered s.ended) (sym first.0)
-          (subst (λ v. RowOfPlace p.arena.expr.nodes w a (one_start i) v i s.entered s.ended) (sym (ap (λ v. v.keeps) way)) row),
+      rw (first.0, (ap (λ v. v.keeps) way)) row,
     )
 
 -- What it costs.

@@ -86,8 +86,7 @@ module _ (numbers : List ℕ) (key count : ℕ) (long : length numbers ≡ 512) 
       given_new after next (is ∙ ap (λ b. cond b (slice_set numbers key count) numbers) yes) (is' ∙ ap (λ b. cond b (count + 1) count) yes) none)
       (λ (some : at numbers key ≡ 256 → ⊥).
       let no = ne_eqb (at numbers key) 256 some in
-      subst (λ l. Given numbers key count l next) (sym (is ∙ ap (λ b. cond b (slice_set numbers key count) numbers) no))
-      (subst (λ n. Given numbers key count numbers n) (sym (is' ∙ ap (λ b. cond b (count + 1) count) no)) (given_old some)))
+      rw ((is ∙ ap (λ b. cond b (slice_set numbers key count) numbers) no), (is' ∙ ap (λ b. cond b (count + 1) count) no)) (given_old some))
       (cases_eq (at numbers key) 256)
 
 -- the first bytes have the numbers of their keys

@@ -233,8 +233,7 @@ edges_more p w way root end width block old mid new mark other leaf last some in
     let there = room b before in
     let first : row_of new (2 * b) ≡ row_of old (2 * b) = as_was (2 * b) (omega (arith, same)) (λ e. omega arith) ∙ kept (2 * b) (omega arith) (λ e. omega arith) in
     let second : row_of new (2 * b + 1) ≡ row_of old (2 * b + 1) = as_was (2 * b + 1) (omega (arith, same)) (λ e. omega arith) ∙ kept (2 * b + 1) (omega arith) (λ e. omega arith) in
-    subst (λ r. RowKept p w way root end (b * width + width) (bits m r) (bits m (row_of new (2 * b + 1)))) (sym first)
-    (subst (λ r. RowKept p w way root end (b * width + width) (bits m (row_of old (2 * b))) (bits m r)) (sym second) (later b far before)))
+    rw (first, second) (later b far before))
     (λ (ge : b ≤ block).
     let e : b ≡ block =
     ⊎_elim
@@ -243,9 +242,7 @@ edges_more p w way root end width block old mid new mark other leaf last some in
     (cases_lt b block) in
     let first : bits m (row_of new (2 * block)) ≡ bits m leaf = ap (λ r. bits m r) (as_was (2 * block) (omega (arith, same)) (λ e. omega arith)) ∙ row_copied m (row_of mid (2 * block)) mark leaf one two in
     let second : bits m (row_of new (2 * block + 1)) ≡ bits m last = row_copied m (row_of new (2 * block + 1)) other last three four in
-    subst (λ x. IsEdge p w way root end new width x) (sym e)
-    (subst (λ f. RowKept p w way root end (block * width + width) f (bits m (row_of new (2 * block + 1)))) (sym first)
-    (subst (λ f. RowKept p w way root end (block * width + width) (bits m leaf) f) (sym second) here)))
+    rw (e, first, second) here)
     (cases_lt block b)
 
 -- Costs.
@@ -305,12 +302,7 @@ edges_same p w t after k other place lower shape edges root end up old b above b
     let width = after.room - 1 in
     let from : place < b * width + width = omega (arith, up, above) in
     let to : b * width + width < k.region.end = subst (λ e. b * width + width < e) end before in
-    subst (λ v. IsEdge p w v other.region.root other.region.end other.edges width b) (sym shape.0)
-    (subst (λ r. IsEdge p w t.way r other.region.end other.edges width b) (sym root)
-    (subst (λ e. IsEdge p w t.way k.region.root e other.edges width b) (sym end)
-    (subst (λ (rows : List (List Bool)). IsEdge p w t.way k.region.root k.region.end rows width b) (sym edges)
-    (subst (λ r. IsEdge p w t.way k.region.root k.region.end k.edges (r - 1) b) (sym shape.1)
-    (old b (subst (λ r. place < b * (r - 1) + (r - 1)) shape.1 from) (subst (λ r. b * (r - 1) + (r - 1) < k.region.end) shape.1 to))))))
+    rw (shape.0, root, end, edges, shape.1) (old b (subst (λ r. place < b * (r - 1) + (r - 1)) shape.1 from) (subst (λ r. b * (r - 1) + (r - 1) < k.region.end) shape.1 to))
 
 -- no block ends between the last one's beginning and the region's end
 pub edges_none : (p : Prepared) (w : List ℕ) (t : Table) (k : Kept) (block : ℕ) → k.region.end ≤ block * (t.room - 1) + (t.room - 1) → EdgesFrom p w t k (block * (t.room - 1))
@@ -341,8 +333,7 @@ passes_first p w t after k other place offset region shape table states edges ro
       within = rw end within;
       above = omega (arith, to);
       there = there;
-      at = subst (λ r. KeptAt p w after.way r other.region.end place (state_of m after (offset / 2 ^ after.layout.shift))) (sym root)
-          (subst (λ e. KeptAt p w after.way k.region.root e place (state_of m after (offset / 2 ^ after.layout.shift))) (sym end) at);
+      at = rw (root, end) at;
       live = λ q from before. absurd (omega (arith, to, from, before));
     }
 
@@ -385,9 +376,7 @@ load_at p w t k way block place a edges some is other same row =
     let before : block * width + width < end = omega (arith, is, other) in
     subst (λ v. KeptAt p w v root end place a) (sym same) (
       row.0,
-      subst (λ x. RowKept p w t.way root end x a.entered a.ended) (sym at)
-          (subst (λ f. RowKept p w t.way root end (block * width + width) f a.ended) (sym row.1)
-          (subst (λ f. RowKept p w t.way root end (block * width + width) (bits (length p.arena.expr.nodes) (row_of k.edges (2 * block))) f) (sym row.2) (edges block some before))),
+      rw (at, row.1, row.2) (edges block some before),
     )
 
 -- What the marks tell.

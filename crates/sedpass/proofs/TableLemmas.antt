@@ -266,8 +266,7 @@ module _ (p : Prepared) (t t' : Table) (adds : AddsStates (length p.arena.expr.n
             (λ (e : x * size + j ≡ q * size + k).
             let at = same_from_place x j q k size (omega arith) (omega arith) e in
             let value : cell_of t' x j ≡ v = place ∙ ap (λ n. slice_index_or t'.cells.items n 0) e ∙ ap (λ l. slice_index_or l (q * size + k) 0) cells ∙ get_or-set_same t.cells.items (q * size + k) v 0 inside in
-            subst (λ n. Names m t' (LeadsBy p t' x j) n) (sym value)
-            (subst (λ n. Names m t' (LeadsBy p t' x n) v) (sym at.1) (subst (λ n. Names m t' (LeadsBy p t' n k) v) (sym at.0) (filled_more q k v there here))))
+            rw (value, at.1, at.0) (filled_more q k v there here))
             (λ (ne : x * size + j ≢ q * size + k).
             let same : cell_of t' x j ≡ cell_of t x j = place ∙ ap (λ l. slice_index_or l (x * size + j) 0) cells ∙ get_or-set_other t.cells.items (q * size + k) (x * size + j) v 0 ne in
             subst (λ n. Names m t' (LeadsBy p t' x j) n) (sym same) (filled_more x j (cell_of t x j) less (table.filled x j less near (subst (λ n. 0 < n) same some))))
@@ -303,9 +302,7 @@ module _ (p : Prepared) (t t' : Table) (adds : AddsStates (length p.arena.expr.n
             ⊎_elim
             (λ (e : i ≡ at).
             let one = begin_apart t.way.all_starts p.root x root other kind may'.1 may.1 e in
-            subst (λ n. Names m t' (BeginsIn (nodes_of t.way p.arena.expr) t.way x other) n) (sym (ap (λ n. (beginning_of t' n).code) e ∙ ap (λ (b : Beginning). b.code) here))
-            (subst (λ n. Names m t' (BeginsIn (nodes_of t.way p.arena.expr) t.way n other) code) (sym one.0)
-            (subst (λ n. Names m t' (BeginsIn (nodes_of t.way p.arena.expr) t.way root n) code) (sym one.1) (names_more (BeginsIn (nodes_of t.way p.arena.expr) t.way root kind) code begins))))
+            rw ((ap (λ n. (beginning_of t' n).code) e ∙ ap (λ (b : Beginning). b.code) here), one.0, one.1) (names_more (BeginsIn (nodes_of t.way p.arena.expr) t.way root kind) code begins))
             (λ (ne : i ≢ at). begun_at x other (apart i ne) (table.begun x other) may' now)
             (cases_eq i at));
       }
@@ -387,11 +384,9 @@ module _ (p : Prepared) (t u : Table) (way : Way) (q root byte v : ℕ) (loaded 
   leads_state edge leads b has =
       let a = state_of (length p.arena.expr.nodes) t q in (
         has.0 ∙ same_root,
-        subst (λ x. LeadsTo (nodes_of way p.arena.expr) a.root way.keeps a.entered a.ended (Some byte) edge way.all_starts b.entered x) (sym has.2)
-            (subst (λ x. LeadsTo (nodes_of way p.arena.expr) a.root way.keeps a.entered a.ended (Some byte) edge way.all_starts x (bits (length p.arena.expr.nodes) ends)) (sym has.1)
-            (subst (λ x. LeadsTo (nodes_of way p.arena.expr) x way.keeps a.entered a.ended (Some byte) edge way.all_starts (bits (length p.arena.expr.nodes) leaves) (bits (length p.arena.expr.nodes) ends)) same_root
+        rw (has.2, has.1) (subst (λ x. LeadsTo (nodes_of way p.arena.expr) x way.keeps a.entered a.ended (Some byte) edge way.all_starts (bits (length p.arena.expr.nodes) leaves) (bits (length p.arena.expr.nodes) ends)) same_root
             (subst (λ x. LeadsTo (nodes_of way p.arena.expr) root way.keeps x a.ended (Some byte) edge way.all_starts (bits (length p.arena.expr.nodes) leaves) (bits (length p.arena.expr.nodes) ends)) (bits_agree (length p.arena.expr.nodes) loaded (row_of t.leaves q) same)
-            (leads a.ended)))),
+            (leads a.ended))),
       )
 
   pub names_leads : (edge : Bool) → Leads edge → Names (length p.arena.expr.nodes) u (LeadsOn (nodes_of way p.arena.expr) way (state_of (length p.arena.expr.nodes) t q) byte edge) v
@@ -407,8 +402,7 @@ names_first p u way root v kind leaves ends n first =
     names_map (length p.arena.expr.nodes) u (HasRow root (bits (length p.arena.expr.nodes) leaves) (bits (length p.arena.expr.nodes) ends)) (BeginsIn (nodes_of way p.arena.expr) way root kind) v
     (λ b has. (
       has.0,
-      subst (λ x. IsFirstRow (nodes_of way p.arena.expr) root way.keeps (at_begin way.mirrored kind) (at_end way.mirrored kind) b.entered x) (sym has.2)
-          (subst (λ x. IsFirstRow (nodes_of way p.arena.expr) root way.keeps (at_begin way.mirrored kind) (at_end way.mirrored kind) x (bits (length p.arena.expr.nodes) ends)) (sym has.1) first),
+      rw (has.2, has.1) first,
     )) n
 
 -- What a code names.

@@ -1,6 +1,6 @@
 use Rattle.std.proofs.Common.{◌≡◌, ◌<◌, ◌≤◌, Some, length, reverse, sym, subst, true≢false, ◌∙◌, arith}
 use Rattle.std.proofs.lemmas.List.{length-reverse}
-use Rattle.sedpass.specs.Decide.{nodes_in, told_of, waiting, found}
+use Rattle.sedpass.specs.Decide.{nodes_in, told_of, waiting}
 use Rattle.sedpass.specs.Turns.{weights}
 use Rattle.sedpass.proofs.KeptLemmas.{space_same, space_then}
 use Rattle.sedpass.proofs.DecideLemmas.{may_begin, begun_ends, desk_begun, desk_has, tables_same, tables_then}

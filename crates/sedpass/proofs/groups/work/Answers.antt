@@ -3,8 +3,6 @@ use Rattle.sedpass.specs.Decide.{nodes_in, text_in, told_of, found, IsSpent}
 use Rattle.sedre.specs.Steps.{TakesAtLeast}
 use Rattle.sedpass.proofs.CountLemmas.{least_none}
 use Rattle.sedpass.specs.Turns.{Progress}
-use Rattle.sedpass.specs.Walks.{drop_groups}
-use Rattle.sedre.specs.Tree.{tree_at}
 use Rattle.sedpass.proofs.WalkLemmas.{forgets}
 use Rattle.sedpass.proofs.groups.work.Goals as goal
 
@@ -30,5 +28,4 @@ returns-in-Forget-clause-progress c =
     let rest = reverse c.args.room.now.tasks.items in
     let old = told_of c.args.told.now.due c.args.told.now.spans in
     let s = c.args.steps.now in
-    subst (λ v. Progress nodes w (c.args.task ∷ rest) old rest v s s) (sym c.forget.ensures.state)
-    (subst (λ t. Progress nodes w (t ∷ rest) old rest (drop_groups (tree_at nodes c.in-Forget.x) old) s s) (sym c.in-Forget.is) (forgets nodes w c.in-Forget.x rest old s))
+    rw (c.forget.ensures.state, c.in-Forget.is) (forgets nodes w c.in-Forget.x rest old s)
