@@ -1,5 +1,5 @@
 -- Passes for the whole expression.
-use Rattle.std.proofs.Common.{◌≡◌, ℕ, ◌+◌, ◌-◌, ◌*◌, ◌/◌, ◌^◌, ◌<◌, ◌≤◌, ◌⊎◌, ◌↔◌, Bool, true, false, not, ◌&&◌, ◌||◌, List, length, Option, Some, None, IsTrue, refl, sym, ap, ◌∙◌, subst, ⊎_elim, true≢false, arith, mul-le-mul_left, min}
+use Rattle.std.proofs.Common.{inl, inr, ◌≡◌, ℕ, ◌+◌, ◌-◌, ◌*◌, ◌/◌, ◌^◌, ◌<◌, ◌≤◌, ◌⊎◌, ◌↔◌, Bool, true, false, not, ◌&&◌, ◌||◌, List, length, Option, Some, None, IsTrue, refl, sym, ap, ◌∙◌, subst, ⊎_elim, true≢false, arith, mul-le-mul_left, min}
 use Rattle.std.specs.Prelude.{slice_get, is_some, IfSome}
 use Rattle.std.proofs.lemmas.Bool.{cases_lt, cases_Bool, both_ways}
 use Rattle.std.proofs.lemmas.Option.{slice_get_within}
@@ -49,18 +49,12 @@ next_start false from w p after inside = (λ h. absurd (true≢false (sym h)), �
 module _ (nodes : List Node) (w : List ℕ) (r : ℕ) (s : Starts) where
   last_step : (n : ℕ) (end : Option ℕ) → (SomeSpan nodes w r s n → ⊥) → LastBelow nodes w r s n end → LastBelow nodes w r s (n + 1) end
   last_step n None none last = λ k low some.
-      ⊎_elim
-      (λ (lt : k < n). last k lt some)
-      (λ (ge : n ≤ k). let e : k ≡ n = omega arith in none (subst (λ x. SomeSpan nodes w r s x) e some))
-      (cases_lt k n)
+      elim (cases_lt k n) [ inl lt ↦ last k lt some | inr ge ↦ let e : k ≡ n = omega arith in none (subst (λ x. SomeSpan nodes w r s x) e some) ]
   last_step n (Some j) none last = (
     let below = last.0 in omega arith,
     last.1,
     λ k low some.
-        ⊎_elim
-        (λ (lt : k < n). last.2 k lt some)
-        (λ (ge : n ≤ k). let e : k ≡ n = omega arith in absurd (none (subst (λ x. SomeSpan nodes w r s x) e some)))
-        (cases_lt k n),
+        elim (cases_lt k n) [ inl lt ↦ last.2 k lt some | inr ge ↦ let e : k ≡ n = omega arith in absurd (none (subst (λ x. SomeSpan nodes w r s x) e some)) ],
   )
 
   last_here : (n : ℕ) → SomeSpan nodes w r s n → LastBelow nodes w r s (n + 1) (Some n)

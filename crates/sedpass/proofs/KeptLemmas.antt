@@ -1,5 +1,5 @@
 -- What is kept of a pass backwards, and how it comes down by a place.
-use Rattle.std.proofs.Common.{◌≡◌, ℕ, ◌+◌, ◌-◌, ◌*◌, ◌/◌, ◌^◌, ◌<◌, ◌≤◌, ◌↔◌, ◌⊎◌, ⊎_elim, length-set, mul-le-mul_left, mul-le-mul_right, Bool, true, false, zero, suc, List, [], ◌∷◌, length, Some, refl, sym, ap, ◌∙◌, subst, arith, true≢false, IsTrue}
+use Rattle.std.proofs.Common.{inl, inr, ◌≡◌, ℕ, ◌+◌, ◌-◌, ◌*◌, ◌/◌, ◌^◌, ◌<◌, ◌≤◌, ◌↔◌, ◌⊎◌, ⊎_elim, length-set, mul-le-mul_left, mul-le-mul_right, Bool, true, false, zero, suc, List, [], ◌∷◌, length, Some, refl, sym, ap, ◌∙◌, subst, arith, true≢false, IsTrue}
 use Rattle.std.proofs.Math.Nat.{div-mul-le_self, lt-div-mul-add}
 use Rattle.std.proofs.Math.Bool.{beq}
 use Rattle.std.proofs.lemmas.List.{length-reverse}
@@ -236,10 +236,7 @@ edges_more p w way root end width block old mid new mark other leaf last some in
     rw (first, second) (later b far before))
     (λ (ge : b ≤ block).
     let e : b ≡ block =
-    ⊎_elim
-    (λ (lt : b < block). let up : b + 1 ≤ block = omega arith in let h = mul-le-mul_left width up in absurd (omega (arith, h, after)))
-    (λ (le : block ≤ b). omega arith)
-    (cases_lt b block) in
+    elim (cases_lt b block) [ inl lt ↦ let up : b + 1 ≤ block = omega arith in let h = mul-le-mul_left width up in absurd (omega (arith, h, after)) | inr le ↦ omega arith ] in
     let first : bits m (row_of new (2 * block)) ≡ bits m leaf = ap (λ r. bits m r) (as_was (2 * block) (omega (arith, same)) (λ e. omega arith)) ∙ row_copied m (row_of mid (2 * block)) mark leaf one two in
     let second : bits m (row_of new (2 * block + 1)) ≡ bits m last = row_copied m (row_of new (2 * block + 1)) other last three four in
     rw (e, first, second) here)
@@ -274,10 +271,7 @@ row_past (row ∷ rows) (suc q) past = row_past rows q (omega arith)
 pub rows_long : (a b c : List (List Bool)) → length b ≡ length a → length c ≡ length b → ((q : ℕ) → q < length a → length (row_of b q) ≡ length (row_of a q)) →
     ((q : ℕ) → q < length b → length (row_of c q) ≡ length (row_of b q)) → (q : ℕ) → length (row_of c q) ≡ length (row_of a q)
 rows_long a b c one two first second q =
-    ⊎_elim
-    (λ (lt : q < length a). second q (omega (arith, lt, one)) ∙ first q lt)
-    (λ (ge : length a ≤ q). row_past c q (omega (arith, ge, one, two)) ∙ sym (row_past a q ge))
-    (cases_lt q (length a))
+    elim (cases_lt q (length a)) [ inl lt ↦ second q (omega (arith, lt, one)) ∙ first q lt | inr ge ↦ row_past c q (omega (arith, ge, one, two)) ∙ sym (row_past a q ge) ]
 
 pub same_shape : (a b c : Table) → SameShape a b → SameShape b c → SameShape a c
 same_shape a b c one two = (two.0 ∙ one.0, two.1 ∙ one.1, two.2 ∙ one.2, two.3 ∙ one.3, two.4 ∙ one.4)

@@ -175,10 +175,7 @@ ends_at nodes w r x q s = (
       let same : h.0 ≡ q = omega arith in
       inr (subst (λ v. Enters nodes w r s x v) same h.1, subst (λ v. At nodes w x v q) same h.2))
       (cases_lt h.0 q),
-  λ h. ⊎_elim
-      (λ (ends : Ends nodes w r s x q). (ends.0, ends.2, ends.3))
-      (λ (null : Enters nodes w r s x q × At nodes w x q q). (q, null.0, null.1))
-      h,
+  λ h. elim h [ inl ends ↦ (ends.0, ends.2, ends.3) | inr null ↦ (q, null.0, null.1) ],
 )
 
 -- a part that begins where the mirrored node does ends where the node does

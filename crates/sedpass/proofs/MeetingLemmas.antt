@@ -26,18 +26,12 @@ CopiesLead-cross : (R : ℕ → ℕ → Type 0) (P : ℕ → Type 0) (G : Type 0
     (l : ℕ) → CopiesLead R k l → P l → l ≤ j → j < k → G
 CopiesLead-cross R P G j k each next l no_copy p low high = absurd (omega arith)
 CopiesLead-cross R P G j k each next l (one_more _ m lt r rest) p low high =
-    ⊎_elim
-    (λ (here : j < m). each l m p r rest low here)
-    (λ (later : m ≤ j). CopiesLead-cross R P G j k each next m rest (next l m lt p r) later high)
-    (cases_lt j m)
+    elim (cases_lt j m) [ inl here ↦ each l m p r rest low here | inr later ↦ CopiesLead-cross R P G j k each next m rest (next l m lt p r) later high ]
 
 -- a copy, which may be empty, and copies after it
 CopiesLead-before : (R : ℕ → ℕ → Type 0) (k q p : ℕ) → p ≤ q → R p q → CopiesLead R k q → CopiesLead R k p
 CopiesLead-before R k q p on r rest =
-    ⊎_elim
-    (λ (lt : p < q). one_more p q lt r rest)
-    (λ (ge : q ≤ p). let same : q ≡ p = omega arith in subst (λ v. CopiesLead R k v) same rest)
-    (cases_lt p q)
+    elim (cases_lt p q) [ inl lt ↦ one_more p q lt r rest | inr ge ↦ let same : q ≡ p = omega arith in subst (λ v. CopiesLead R k v) same rest ]
 
 -- copies that lead on begin with one
 first_copy : (R : ℕ → ℕ → Type 0) (j i : ℕ) → CopiesLead R j i → i < j → (l : ℕ) × (i < l) × R i l × CopiesLead R j l
@@ -62,10 +56,7 @@ module _ (nodes : List Node) (w : List ℕ) (r : ℕ) (t : Starts) (a : ℕ) (s 
   wider y x (Alt b c) is begins p q at out = (
     q,
     omega arith,
-    close_at nodes w y (Alt b c) arena is p q (⊎_elim
-        (λ (l : b.index ≡ x). inl (subst (λ v. At nodes w v p q) (sym l) at))
-        (λ (m : c.index ≡ x). inr (subst (λ v. At nodes w v p q) (sym m) at))
-        begins),
+    close_at nodes w y (Alt b c) arena is p q (elim begins [ inl l ↦ inl (subst (λ v. At nodes w v p q) (sym l) at) | inr m ↦ inr (subst (λ v. At nodes w v p q) (sym m) at) ]),
     out,
   )
   wider y x (Group g b) is begins p q at out =
@@ -234,10 +225,7 @@ meets_early nodes w r a p s t arena h = set_early nodes w r h.0 p t h.1 arena h.
 first_stop : (A B M : ℕ → Type 0) (i p k : ℕ) → i ≤ k → A k → B k → i ≤ p → ((q : ℕ) → i ≤ q → q ≤ p → M q ↔ ((l : ℕ) × (q < l) × A l × B l)) →
     ((q : ℕ) → i ≤ q → q < p → M q) → (M p → ⊥) → A p × B p × ((l : ℕ) → A l → B l → l ≤ p)
 first_stop A B M i p k low left right on tells more over =
-    let most : (l : ℕ) → A l → B l → l ≤ p = λ l first second. ⊎_elim
-    (λ (lt : p < l). absurd (over ((tells p on (omega arith)).1 (l, lt, first, second))))
-    (λ (ge : l ≤ p). ge)
-    (cases_lt p l) in
+    let most : (l : ℕ) → A l → B l → l ≤ p = λ l first second. elim (cases_lt p l) [ inl lt ↦ absurd (over ((tells p on (omega arith)).1 (l, lt, first, second))) | inr ge ↦ ge ] in
     ⊎_elim
     (λ (later : i < p).
     let g = (tells (p - 1) (omega arith) (omega arith)).0 (more (p - 1) (omega arith) (omega arith)) in

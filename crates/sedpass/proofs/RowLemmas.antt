@@ -57,18 +57,12 @@ module _ (nodes : List Node) (w : List ℕ) (r : ℕ) (s : Starts) (arena : IsAr
   -- the left part of a concatenation is entered with it
   with_seq : (x i : ℕ) (a b : NodeId) → x ≤ r → slice_get nodes x ≡ Some (Seq a b) → Enters nodes w r s a.index i → Enters nodes w r s x i
   with_seq x i a b le is e =
-      ⊎_elim
-      (λ (from : (a.index ≡ a.index) × Enters nodes w r s x i). from.1)
-      (λ (same : (b.index ≡ a.index) × ((k : ℕ) × Enters nodes w r s x k × At nodes w a.index k i)). absurd (arena.distinct x (Seq a b) is (sym same.0)))
-      (Enters-part nodes w r s arena x le a.index i (Seq a b) is (inl refl) e)
+      elim (Enters-part nodes w r s arena x le a.index i (Seq a b) is (inl refl) e) [ inl from ↦ from.1 | inr same ↦ absurd (arena.distinct x (Seq a b) is (sym same.0)) ]
 
   -- the right part where the left one ends
   after_seq : (x i : ℕ) (a b : NodeId) → x ≤ r → slice_get nodes x ≡ Some (Seq a b) → Enters nodes w r s b.index i → (k : ℕ) × Enters nodes w r s x k × At nodes w a.index k i
   after_seq x i a b le is e =
-      ⊎_elim
-      (λ (same : (a.index ≡ b.index) × Enters nodes w r s x i). absurd (arena.distinct x (Seq a b) is same.0))
-      (λ (from : (b.index ≡ b.index) × ((k : ℕ) × Enters nodes w r s x k × At nodes w a.index k i)). from.1)
-      (Enters-part nodes w r s arena x le b.index i (Seq a b) is (inr refl) e)
+      elim (Enters-part nodes w r s arena x le b.index i (Seq a b) is (inr refl) e) [ inl same ↦ absurd (arena.distinct x (Seq a b) is same.0) | inr from ↦ from.1 ]
 
   -- a repetition goes on with one more copy
   one_copy : (x j : ℕ) (a : NodeId) (first : Bool) → x ≤ r → slice_get nodes x ≡ Some (Star a first) → Ends nodes w r s a.index j →
@@ -137,17 +131,11 @@ module _ (nodes : List Node) (w : List ℕ) (r : ℕ) (s : Starts) (arena : IsAr
     up_with x j a.index (Group k a) le is refl (λ i f. f) (λ i at. close_at nodes w x (Group k a) arena is i j at),
   )
   ends_by x j (Star a first) le is = (
-    λ h. ⊎_elim
-        (λ (none : h.0 ≡ j). absurd (let less = h.1 in omega arith))
-        (λ (end : Ends nodes w r s a.index j). end)
-        (last_copy x h.0 j a first is h.2 h.3),
+    λ h. elim (last_copy x h.0 j a first is h.2 h.3) [ inl none ↦ absurd (let less = h.1 in omega arith) | inr end ↦ end ],
     one_copy x j a first le is,
   )
   ends_by x j (Opt a first) le is = (
-    λ h. ⊎_elim
-        (λ (none : h.0 ≡ j). absurd (let less = h.1 in omega arith))
-        (λ (at : At nodes w a.index h.0 j). (h.0, h.1, with_whole x a.index h.0 (Opt a first) is refl h.2, at))
-        (open_at nodes w x (Opt a first) arena is h.0 j h.3),
+    λ h. elim (open_at nodes w x (Opt a first) arena is h.0 j h.3) [ inl none ↦ absurd (let less = h.1 in omega arith) | inr at ↦ (h.0, h.1, with_whole x a.index h.0 (Opt a first) is refl h.2, at) ],
     up_with x j a.index (Opt a first) le is refl (λ i f. f) (λ i at. close_at nodes w x (Opt a first) arena is i j (inr at)),
   )
 
@@ -172,26 +160,15 @@ module _ (nodes : List Node) (w : List ℕ) (r : ℕ) (s : Starts) (arena : IsAr
     λ h. ⊎_elim
         (λ (left : (a.index ≡ c) × Enters nodes w r s y j). with_whole y c j (Seq a b) is left.0 left.1)
         (λ (right : (b.index ≡ c) × (Ends nodes w r s a.index j ⊎ (Enters nodes w r s y j × At nodes w a.index j j))).
-        ⊎_elim
-        (λ (end : Ends nodes w r s a.index j). after_left y c end.0 j a b is right.0 (with_seq y end.0 a b le is end.2) end.3)
-        (λ (null : Enters nodes w r s y j × At nodes w a.index j j). after_left y c j j a b is right.0 null.0 null.1)
-        right.1)
+        elim right.1 [ inl end ↦ after_left y c end.0 j a b is right.0 (with_seq y end.0 a b le is end.2) end.3 | inr null ↦ after_left y c j j a b is right.0 null.0 null.1 ])
         h,
   )
   enters_by y c j (Alt a b) le is part = (Enters-part nodes w r s arena y le c j (Alt a b) is part, with_whole y c j (Alt a b) is part)
   enters_by y c j (Group k a) le is part = (Enters-part nodes w r s arena y le c j (Group k a) is part, with_whole y c j (Group k a) is part)
   enters_by y c j (Star a first) le is part = (
     λ h. let from = Enters-part nodes w r s arena y le c j (Star a first) is part h in
-        ⊎_elim
-        (λ (none : from.0 ≡ j). inl (subst (λ k. Enters nodes w r s y k) none from.1))
-        (λ (end : Ends nodes w r s a.index j). inr end)
-        (last_copy y from.0 j a first is from.1 from.2),
-    λ h. ⊎_elim
-        (λ (here : Enters nodes w r s y j). with_whole y c j (Star a first) is part here)
-        (λ (end : Ends nodes w r s a.index j).
-        let more = one_copy y j a first le is end in
-        again y c more.0 j a first is part more.2 more.3)
-        h,
+        elim (last_copy y from.0 j a first is from.1 from.2) [ inl none ↦ inl (subst (λ k. Enters nodes w r s y k) none from.1) | inr end ↦ inr end ],
+    λ h. elim h [ inl here ↦ with_whole y c j (Star a first) is part here | inr end ↦ let more = one_copy y j a first le is end in again y c more.0 j a first is part more.2 more.3 ],
   )
   enters_by y c j (Opt a first) le is part = (Enters-part nodes w r s arena y le c j (Opt a first) is part, with_whole y c j (Opt a first) is part)
   enters_by y c j other le is part = absurd part
@@ -218,10 +195,7 @@ ends_on : (took took' : List Bool → Type 0) (null null' ended ended' : ℕ →
     ((c : ℕ) → IsPart node c → null c → null' c) → ((c : ℕ) → IsPart node c → ended c → ended' c) → EndsBy took null ended node → EndsBy took' null' ended' node
 ends_on took took' null null' ended ended' (Set m) takes_on nulls parts h = takes_on m refl h
 ends_on took took' null null' ended ended' (Seq a b) takes_on nulls parts h =
-    ⊎_elim
-    (λ (right : ended b.index). inl (parts b.index (inr refl) right))
-    (λ (left : ended a.index × null b.index). inr (parts a.index (inl refl) left.0, nulls b.index (inr refl) left.1))
-    h
+    elim h [ inl right ↦ inl (parts b.index (inr refl) right) | inr left ↦ inr (parts a.index (inl refl) left.0, nulls b.index (inr refl) left.1) ]
 ends_on took took' null null' ended ended' (Alt a b) takes_on nulls parts h =
     ⊎_elim (λ (l : ended a.index). inl (parts a.index (inl refl) l)) (λ (m : ended b.index). inr (parts b.index (inr refl) m)) h
 ends_on took took' null null' ended ended' (Group k a) takes_on nulls parts h = parts a.index refl h
@@ -232,16 +206,7 @@ ends_on took took' null null' ended ended' other takes_on nulls parts h = h
 enters_on : (here here' : Type 0) (null null' ended ended' : ℕ → Type 0) (c : ℕ) (node : Node) → (here → here') →
     ((c : ℕ) → IsPart node c → null c → null' c) → ((c : ℕ) → IsPart node c → ended c → ended' c) → EntersBy here null ended c node → EntersBy here' null' ended' c node
 enters_on here here' null null' ended ended' c (Seq a b) on nulls parts h =
-    ⊎_elim
-    (λ (left : (a.index ≡ c) × here). inl (left.0, on left.1))
-    (λ (right : (b.index ≡ c) × (ended a.index ⊎ (here × null a.index))). inr (
-      right.0,
-      ⊎_elim
-          (λ (end : ended a.index). inl (parts a.index (inl refl) end))
-          (λ (n : here × null a.index). inr (on n.0, nulls a.index (inl refl) n.1))
-          right.1,
-    ))
-    h
+    elim h [ inl left ↦ inl (left.0, on left.1) | inr right ↦ inr (right.0, elim right.1 [ inl end ↦ inl (parts a.index (inl refl) end) | inr n ↦ inr (on n.0, nulls a.index (inl refl) n.1) ]) ]
 enters_on here here' null null' ended ended' c (Alt a b) on nulls parts h = on h
 enters_on here here' null null' ended ended' c (Group k a) on nulls parts h = on h
 enters_on here here' null null' ended ended' c (Star a f) on nulls parts h =
@@ -548,19 +513,13 @@ module _ (nodes : List Node) (w : List ℕ) (r x p : ℕ) (s : Starts) (arena : 
       let law = enters_by nodes w r s arena x b.index p (Seq a b) le is (inr refl) in
       let truth = or_truth ended (here && null) (Ends nodes w r s a.index p) (Enters nodes w r s x p × At nodes w a.index p p) ends (and_truth here null (Enters nodes w r s x p) (At nodes w a.index p p) enters nulls) in (
         λ h. law.1 (inr (refl, truth.0 h)),
-        λ h. truth.1 (⊎_elim
-            (λ (same : (a.index ≡ b.index) × Enters nodes w r s x p). absurd (arena.distinct x (Seq a b) is same.0))
-            (λ (right : (b.index ≡ b.index) × (Ends nodes w r s a.index p ⊎ (Enters nodes w r s x p × At nodes w a.index p p))). right.1)
-            (law.0 h)),
+        λ h. truth.1 (elim (law.0 h) [ inl same ↦ absurd (arena.distinct x (Seq a b) is same.0) | inr right ↦ right.1 ]),
       )
 
   left_part : (a b : NodeId) → slice_get nodes x ≡ Some (Seq a b) → IsTrue here ↔ Enters nodes w r s a.index p
   left_part a b is =
       with_node a.index (Seq a b) is refl
-      (λ h. ⊎_elim
-      (λ (left : (a.index ≡ a.index) × Enters nodes w r s x p). left.1)
-      (λ (same : (b.index ≡ a.index) × (Ends nodes w r s a.index p ⊎ (Enters nodes w r s x p × At nodes w a.index p p))). absurd (arena.distinct x (Seq a b) is (sym same.0)))
-      h)
+      (λ h. elim h [ inl left ↦ left.1 | inr same ↦ absurd (arena.distinct x (Seq a b) is (sym same.0)) ])
 
   copy_part : (a : NodeId) (first : Bool) → slice_get nodes x ≡ Some (Star a first) → (ended : Bool) → (IsTrue ended ↔ Ends nodes w r s a.index p) → IsTrue (here || ended) ↔ Enters nodes w r s a.index p
   copy_part a first is ended ends =
@@ -598,9 +557,7 @@ module _ (nodes : List Node) (w : List ℕ) (r x p : ℕ) (s : Starts) (arena : 
       let first : Marked (slice_set marks a u) (λ c. TreeFrom nodes r (x + 1) c ⊎ (c ≡ a)) (λ c. Enters nodes w r s c p) =
       mark_one marks (slice_set marks a u) a u (TreeFrom nodes r (x + 1)) (λ c. TreeFrom nodes r (x + 1) c ⊎ (c ≡ a)) (λ c. Enters nodes w r s c p) refl (omega arith) truth (λ c t. t) marked in
       mark_one (slice_set marks a u) after b v (λ c. TreeFrom nodes r (x + 1) c ⊎ (c ≡ a)) (TreeFrom nodes r x) (λ c. Enters nodes w r s c p) is_after (omega (arith, length-set marks a u)) truth'
-      (λ c told. ⊎_elim (λ (t : TreeFrom nodes r (x + 1) c). inl (inl t))
-      (λ (part : IsPart node c). ⊎_elim (λ (l : a ≡ c). inl (inr (sym l))) (λ (m : b ≡ c). inr (sym m)) (only c part))
-      (tree_step nodes r x node is c told)) first
+      (λ c told. elim (tree_step nodes r x node is c told) [ inl t ↦ inl (inl t) | inr part ↦ ⊎_elim (λ (l : a ≡ c). inl (inr (sym l))) (λ (m : b ≡ c). inr (sym m)) (only c part) ]) first
 
   pub down : (node : Node) (after : List Bool) → slice_get nodes x ≡ Some node → after ≡ enter_parts here_mark null ended node marks →
       Marked after (TreeFrom nodes r x) (λ c. Enters nodes w r s c p)
@@ -885,10 +842,7 @@ bits_other m marks after x v is c ne = ap (λ b. nat_lt c m && b) (set_other mar
 
 pub bits_clear : (m : ℕ) (marks : List Bool) → ((c : ℕ) → c < m → slice_index_or marks c false ≡ false) → (c : ℕ) → bits m marks c ≡ false
 bits_clear m marks clear c =
-    ⊎_elim
-    (λ (lt : c < m). bits_here m marks c lt ∙ clear c lt)
-    (λ (ge : m ≤ c). ap (λ b. b && slice_index_or marks c false) (le-ltb c m ge))
-    (cases_lt c m)
+    elim (cases_lt c m) [ inl lt ↦ bits_here m marks c lt ∙ clear c lt | inr ge ↦ ap (λ b. b && slice_index_or marks c false) (le-ltb c m ge) ]
 
 -- marks that agree are the same bits
 pub bits_agree : (m : ℕ) (marks other : List Bool) → AgreeBelow m marks other → bits m marks ≡ bits m other

@@ -1,5 +1,5 @@
 -- What the pass from the text's end tells of matches of the whole expression, and what searches cost.
-use Rattle.std.proofs.Common.{◌≡◌, ℕ, zero, suc, ◌+◌, ◌-◌, ◌*◌, ◌/◌, ◌<◌, ◌≤◌, ◌↔◌, Bool, true, false, max, List, length, Option, Some, None, IsTrue, refl, sym, ap, ◌∙◌, subst, ⊎_elim, true≢false, arith, mul-le-mul_left}
+use Rattle.std.proofs.Common.{inl, inr, ◌≡◌, ℕ, zero, suc, ◌+◌, ◌-◌, ◌*◌, ◌/◌, ◌<◌, ◌≤◌, ◌↔◌, Bool, true, false, max, List, length, Option, Some, None, IsTrue, refl, sym, ap, ◌∙◌, subst, ⊎_elim, true≢false, arith, mul-le-mul_left}
 use Rattle.std.proofs.lemmas.Bool.{cases_lt}
 use Rattle.sedre.specs.Arena.{IsArena}
 use Rattle.sedre.specs.Tree.{WrittenExpression, expression_tree, tree_at, Tree}
@@ -35,18 +35,12 @@ none_later e w from i none late = λ h k low high. none h k low (omega arith)
 -- where one place more begins none
 pub none_more : (e : WrittenExpression) (w : List ℕ) (from i : ℕ) → NoneIn (expression_tree e) w from i → IsLongestFrom (expression_tree e) w i None → NoneIn (expression_tree e) w from (i + 1)
 none_more e w from i none longest = λ h k low high span.
-    ⊎_elim
-    (λ (before : h < i). none h k low before span)
-    (λ (at : i ≤ h). let same : h ≡ i = omega arith in longest k (subst (λ v. Matches (expression_tree e) w v k) same span))
-    (cases_lt h i)
+    elim (cases_lt h i) [ inl before ↦ none h k low before span | inr at ↦ let same : h ≡ i = omega arith in longest k (subst (λ v. Matches (expression_tree e) w v k) same span) ]
 
 -- and places after those that begin none
 pub none_on : (e : WrittenExpression) (w : List ℕ) (from k i : ℕ) → NoneIn (expression_tree e) w from k → NoneIn (expression_tree e) w k i → NoneIn (expression_tree e) w from i
 none_on e w from k i none more = λ h l low high span.
-    ⊎_elim
-    (λ (before : h < k). none h l low before span)
-    (λ (at : k ≤ h). more h l at high span)
-    (cases_lt h k)
+    elim (cases_lt h k) [ inl before ↦ none h l low before span | inr at ↦ more h l at high span ]
 
 module _ (p : Prepared) (w : List ℕ) (arena : IsArena p.arena.expr.nodes) where
   abbrev pub all : Starts
@@ -345,10 +339,7 @@ unbegun m n s place is = ap (λ b. if b then owed_kept m n s.kept.region place e
 -- looks of trials up to the place where they ended
 pub looks_tired : (from k n s a : ℕ) (r : Trials) → TakesAtLeast s a (k - from) → (k ≤ n → r ≡ Tired k) × (n < k → r ≡ Nothing) → LooksInTrials from s a r
 looks_tired from k n s a r looks is =
-    ⊎_elim
-    (λ (late : n < k). subst (LooksInTrials from s a) (sym (is.1 late)) tt)
-    (λ (within : k ≤ n). subst (LooksInTrials from s a) (sym (is.0 within)) looks)
-    (cases_lt n k)
+    elim (cases_lt n k) [ inl late ↦ subst (LooksInTrials from s a) (sym (is.1 late)) tt | inr within ↦ subst (LooksInTrials from s a) (sym (is.0 within)) looks ]
 
 -- looks up to a later place count too
 pub looks_later : (from k s a b : ℕ) (r : Option (ℕ × ℕ)) → TakesAtLeast s a (k - from) → LooksFrom k a b r → LooksFrom from s b r
