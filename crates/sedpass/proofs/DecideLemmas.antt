@@ -2,7 +2,7 @@
 use Rattle.std.proofs.Common.{◌≡◌, ℕ, zero, suc, ◌+◌, ◌-◌, ◌*◌, ◌<◌, ◌≤◌, ◌↔◌, ◌&&◌, not, Bool, true, false, List, [], ◌∷◌, length, Option, None, Some, IsTrue, refl, sym, ap, ◌∙◌, subst, inl, inr, ⊎_elim, true≢false, arith, mul-le-mul_left}
 use Rattle.std.specs.Prelude.{IfSome, eqb, nat_lt, slice_get, slice_set, slice_index_or, replicate, vec_capacity}
 use Rattle.std.specs.Int.{bit_at}
-use Rattle.std.proofs.lemmas.Bool.{and_parts, and_from, or_cases, or_left, or_right, cases_Bool, cases_eq, cases_lt, lt-ltb, le-ltb}
+use Rattle.std.proofs.lemmas.Bool.{and_parts, and_from, cases_Bool, cases_eq, cases_lt, lt-ltb, le-ltb}
 use Rattle.std.proofs.lemmas.Option.{cond_some}
 use Rattle.std.proofs.lemmas.List.{length-set}
 use Rattle.std.proofs.Math.Nat.{mul-le-mul_right}
@@ -33,6 +33,7 @@ use Rattle.sedpass.specs.declared.table.Table.{Table}
 use Rattle.sedpass.proofs.KeptLemmas.{same_shape}
 use Rattle.sedpass.proofs.LeaveLemmas.{last_inside}
 use Rattle.sedpass.proofs.TableLemmas.{roomy_still}
+use Rattle.sedpass.proofs.RowLemmas.{or_truth}
 use Rattle.sedpass.proofs.OwedLemmas.{owed_small}
 use Rattle.sedpass.proofs.LengthLemmas.{all_long, copies_long}
 use Rattle.sedpass.proofs.MeetingLemmas.{set_early}
@@ -176,11 +177,7 @@ null_told (seq a b) w p first last begins ends =
           and_from (nullable first last a) (nullable first last b) (left.1 (subst (λ v. Matches a w p v) here s.1)) (right.1 (subst (λ v. Matches b w v p) here s.2)),
     )
 null_told (alt a b) w p first last begins ends =
-    let left = null_told a w p first last begins ends in
-    let right = null_told b w p first last begins ends in (
-      λ h. elim (or_cases (nullable first last a) (nullable first last b) h) [ inl l ↦ inl (left.0 l) | inr r ↦ inr (right.0 r) ],
-      λ s. elim s [ inl l ↦ or_left (nullable first last a) (nullable first last b) (left.1 l) | inr r ↦ or_right (nullable first last a) (nullable first last b) (right.1 r) ],
-    )
+    or_truth (nullable first last a) (nullable first last b) (Matches a w p p) (Matches b w p p) (null_told a w p first last begins ends) (null_told b w p first last begins ends)
 null_told (group k a) w p first last begins ends = null_told a w p first last begins ends
 null_told (star a one) w p first last begins ends = (λ _. no_copy, λ _. refl)
 null_told (opt a one) w p first last begins ends = (λ _. inl refl, λ _. refl)
