@@ -264,123 +264,100 @@ lays-around n v a k g h d one =
           (none_in (GroupStandsIn a k) P _ (λ h. inr h) (both_none (GroupStandsIn a k) d _ one.none (lays-forget a k g).none));
     }
 
--- a match, its groups decided from the left
-captured : (k : ℕ) (e : Tree) (w : List ℕ) (i j : ℕ) (g h : Groups) → Captures e w i j g h → (d : Option Span) × Lays k (GroupStandsIn e k) g h d
+-- what becomes of the group in a match, its groups decided from the left
+abbrev taken : (k : ℕ) (e : Tree) (w : List ℕ) (i j : ℕ) (g h : Groups) → Captures e w i j g h → Option Span
+taken k (seq a b) w i j g h c = option_or (taken k b w c.0 j c.2.0 h c.2.2) (taken k a w i c.0 g c.2.0 c.2.1)
+taken k (alt a b) w i j g h (inl c) = taken k a w i j g h c.1
+taken k (alt a b) w i j g h (inr c) = taken k b w i j g h c.1
+taken k (group n a) w i j g h c = around n (Some (i, j)) a k (taken k a w i j (forget (group n a) g) c.0 c.1)
+taken k (star a first) w i j g h (inl c) = within a k (taken k a w c.1.0 j (forget a g) h c.1.2)
+taken k (star a first) w i j g h (inr (inl c)) = within a k (taken k a w i i (forget a g) h c.3)
+taken k (star a first) w i j g h (inr (inr c)) = None
+taken k (opt a first) w i j g h (inl c) = within a k (taken k a w i j (forget a g) h c.1)
+taken k (opt a first) w i j g h (inr (inl c)) = within a k (taken k a w i i (forget a g) h c.3)
+taken k (opt a first) w i j g h (inr (inr c)) = None
+taken k other w i j g h c = None
+
+captured : (k : ℕ) (e : Tree) (w : List ℕ) (i j : ℕ) (g h : Groups) (c : Captures e w i j g h) → Lays k (GroupStandsIn e k) g h (taken k e w i j g h c)
 captured k (seq a b) w i j g h c =
-    let one = captured k a w i c.0 g c.2.0 c.2.1 in
-    let two = captured k b w c.0 j c.2.0 h c.2.2 in
-    let P = GroupStandsIn (seq a b) k in
-    (option_or two.0 one.0, lays-then k P g c.2.0 h one.0 two.0 (lays-wider k (GroupStandsIn a k) P g c.2.0 one.0 (λ h. inl h) one.1) (lays-wider k (GroupStandsIn b k) P c.2.0 h two.0 (λ h. inr h) two.1))
-captured k (alt a b) w i j g h (inl c) = let one = captured k a w i j g h c.1 in (one.0, lays-wider k (GroupStandsIn a k) _ g h one.0 (λ h. inl h) one.1)
-captured k (alt a b) w i j g h (inr c) = let one = captured k b w i j g h c.1 in (one.0, lays-wider k (GroupStandsIn b k) _ g h one.0 (λ h. inr h) one.1)
+    lays-then k (GroupStandsIn (seq a b) k) g c.2.0 h _ _ (lays-wider k (GroupStandsIn a k) _ g c.2.0 _ (λ h. inl h) (captured k a w i c.0 g c.2.0 c.2.1))
+    (lays-wider k (GroupStandsIn b k) _ c.2.0 h _ (λ h. inr h) (captured k b w c.0 j c.2.0 h c.2.2))
+captured k (alt a b) w i j g h (inl c) = lays-wider k (GroupStandsIn a k) _ g h _ (λ h. inl h) (captured k a w i j g h c.1)
+captured k (alt a b) w i j g h (inr c) = lays-wider k (GroupStandsIn b k) _ g h _ (λ h. inr h) (captured k b w i j g h c.1)
 captured k (group n a) w i j g h c =
-    let one = captured k a w i j (forget (group n a) g) c.0 c.1 in
-    let d = around n (Some (i, j)) a k one.0 in
-    (d, subst (λ l. Lays k (GroupStandsIn (group n a) k) g l d) (sym c.2) (lays-around n (Some (i, j)) a k g c.0 one.0 one.1))
-captured k (star a first) w i j g h (inl c) = let one = captured k a w c.1.0 j (forget a g) h c.1.2 in (within a k one.0, lays-within a k g h one.0 one.1)
-captured k (star a first) w i j g h (inr (inl c)) = let one = captured k a w i i (forget a g) h c.3 in (within a k one.0, lays-within a k g h one.0 one.1)
-captured k (star a first) w i j g h (inr (inr c)) = (None, lays-none k _ g h c.1.1)
-captured k (opt a first) w i j g h (inl c) = let one = captured k a w i j (forget a g) h c.1 in (within a k one.0, lays-within a k g h one.0 one.1)
-captured k (opt a first) w i j g h (inr (inl c)) = let one = captured k a w i i (forget a g) h c.3 in (within a k one.0, lays-within a k g h one.0 one.1)
-captured k (opt a first) w i j g h (inr (inr c)) = (None, lays-none k _ g h c.1.1)
-captured k other w i j g h is = (None, lays-none k _ g h is)
+    subst (λ l. Lays k (GroupStandsIn (group n a) k) g l (taken k (group n a) w i j g h c)) (sym c.2) (lays-around n (Some (i, j)) a k g c.0 _ (captured k a w i j (forget (group n a) g) c.0 c.1))
+captured k (star a first) w i j g h (inl c) = lays-within a k g h _ (captured k a w c.1.0 j (forget a g) h c.1.2)
+captured k (star a first) w i j g h (inr (inl c)) = lays-within a k g h _ (captured k a w i i (forget a g) h c.3)
+captured k (star a first) w i j g h (inr (inr c)) = lays-none k _ g h c.1.1
+captured k (opt a first) w i j g h (inl c) = lays-within a k g h _ (captured k a w i j (forget a g) h c.1)
+captured k (opt a first) w i j g h (inr (inl c)) = lays-within a k g h _ (captured k a w i i (forget a g) h c.3)
+captured k (opt a first) w i j g h (inr (inr c)) = lays-none k _ g h c.1.1
+captured k other w i j g h is = lays-none k _ g h is
 
 -- a walk over the match does the same to what is due
-record Ends (k : ℕ) (P : Type 0) (C : Groups → Type 0) (g : Groups) (old new : State) : Type 0 where
-  h : Groups
-  d : Option Span
-  captures : C h
-  lays : Lays k P g h d
-  takes : Takes k d old new
+abbrev Ends : ℕ → Tree → List ℕ → ℕ → ℕ → Groups → State → State → Type 0
+Ends k e w i j g old new = (h : Groups) × (c : Captures e w i j g h) × Takes k (taken k e w i j g h c) old new
 
 module _ (k : ℕ) where
-  still : (P : Type 0) (C : Groups → Type 0) (g h : Groups) (old new : State) → h ≡ g → C h → new ≡ old → Ends k P C g old new
-  still P C g h old new same captures is = record {
-    h = h;
-    d = None;
-    captures = captures;
-    lays = lays-none k P g h same;
-    takes = subst (Takes k None old) (sym is) (takes-none k old);
-  }
+  still : (old new : State) → new ≡ old → Takes k None old new
+  still old new is = subst (Takes k None old) (sym is) (takes-none k old)
 
-  inside : (a : Tree) (C D : Groups → Type 0) (g : Groups) (old mid new : State) → new ≡ drop_groups a mid → ((h : Groups) → C h → D h) →
-      Ends k (GroupStandsIn a k) C (forget a g) old mid → Ends k (GroupStandsIn a k) D g old new
-  inside a C D g old mid new is up one = record {
-    h = one.h;
-    d = within a k one.d;
-    captures = up one.h one.captures;
-    lays = lays-within a k g one.h one.d one.lays;
-    takes = takes-then k one.d (deed (has_group a k) None) old mid new one.takes (subst (Takes k (deed (has_group a k) None) mid) (sym is) (drop_takes a k mid));
-  }
+  inside : (a : Tree) (d : Option Span) (old mid new : State) → new ≡ drop_groups a mid → Takes k d old mid → Takes k (within a k d) old new
+  inside a d old mid new is one = takes-then k d (deed (has_group a k) None) old mid new one (subst (Takes k (deed (has_group a k) None) mid) (sym is) (drop_takes a k mid))
 
-  passed : (e : Tree) (w : List ℕ) (i j n : ℕ) (old new : State) → Matches e w i j → PassedBy e old new n → (g : Groups) → Ends k (GroupStandsIn e k) (Captures e w i j g) g old new
+  passed : (e : Tree) (w : List ℕ) (i j n : ℕ) (old new : State) → Matches e w i j → PassedBy e old new n → (g : Groups) → Ends k e w i j g old new
   passed e w i j n old new spans by g =
       let h = groups_after e w i j g in
       let c = groups_after-is e w i j g spans in
-      let one = captured k e w i j g h c in
-      record {
-        h = h;
-        d = one.0;
-        captures = c;
-        lays = one.1;
-        takes = subst (Takes k one.0 old) (sym by.1) (elim one.1.none [
+      let d = taken k e w i j g h c in (
+        h,
+        c,
+        subst (Takes k d old) (sym by.1) (elim (captured k e w i j g h c).none [
           | inl none ↦ subst (λ d. Takes k d old old) (sym none) (takes-none k old)
-          | inr has ↦ takes-not k one.0 old (by.0 k has)
-        ]);
-      }
+          | inr has ↦ takes-not k d old (by.0 k has)
+        ]),
+      )
 
-  walked : (e : Tree) (w : List ℕ) (i j n : ℕ) (old new : State) → Matches e w i j → Walk e w i j old new n → (g : Groups) → Ends k (GroupStandsIn e k) (Captures e w i j g) g old new
-  walked empty w i j n old new spans walk g = still _ _ g g old new refl refl walk.0
-  walked (set has) w i j n old new spans walk g = still _ _ g g old new refl refl walk.0
-  walked begin w i j n old new spans walk g = still _ _ g g old new refl refl walk.0
-  walked end w i j n old new spans walk g = still _ _ g g old new refl refl walk.0
+  walked : (e : Tree) (w : List ℕ) (i j n : ℕ) (old new : State) → Matches e w i j → Walk e w i j old new n → (g : Groups) → Ends k e w i j g old new
+  walked empty w i j n old new spans walk g = (g, refl, still old new walk.0)
+  walked (set has) w i j n old new spans walk g = (g, refl, still old new walk.0)
+  walked begin w i j n old new spans walk g = (g, refl, still old new walk.0)
+  walked end w i j n old new spans walk g = (g, refl, still old new walk.0)
   walked other w i j n old new spans (inl by) g = passed other w i j n old new spans by g
   walked (seq a b) w i j n old new spans (inr (p, q, is, c, cut, mid, second, first)) g =
       let one = walked a w i c q mid new cut.left first g in
-      let two = walked b w c j p old mid cut.right second one.h in
-      let P = GroupStandsIn (seq a b) k in
-      record {
-        h = two.h;
-        d = option_or two.d one.d;
-        captures = (c, cut, (one.h, one.captures, two.captures));
-        lays = lays-then k P g one.h two.h one.d two.d (lays-wider k (GroupStandsIn a k) P g one.h one.d (λ h. inl h) one.lays) (lays-wider k (GroupStandsIn b k) P one.h two.h two.d (λ h. inr h) two.lays);
-        takes = takes-then k two.d one.d old mid new two.takes one.takes;
-      }
-  walked (alt a b) w i j n old new spans (inr (p, is, inl (at, walk))) g =
-      let one = walked a w i j p old new at walk g in
-      record { h = one.h; d = one.d; captures = inl (at, one.captures); lays = lays-wider k (GroupStandsIn a k) _ g one.h one.d (λ h. inl h) one.lays; takes = one.takes }
+      let two = walked b w c j p old mid cut.right second one.0 in
+      (two.0, (c, cut, (one.0, one.1, two.1)), takes-then k _ _ old mid new two.2 one.2)
+  walked (alt a b) w i j n old new spans (inr (p, is, inl (at, walk))) g = let one = walked a w i j p old new at walk g in (one.0, inl (at, one.1), one.2)
   walked (alt a b) w i j n old new spans (inr (p, is, inr (not, walk))) g =
       let at : Matches b w i j = ⊎_elim (λ (l : Matches a w i j). absurd (not l)) (λ (r : Matches b w i j). r) spans in
       let one = walked b w i j p old new at walk g in
-      record { h = one.h; d = one.d; captures = inr (not, one.captures); lays = lays-wider k (GroupStandsIn b k) _ g one.h one.d (λ h. inr h) one.lays; takes = one.takes }
+      (one.0, inr (not, one.1), one.2)
   walked (group m a) w i j n old new spans (inr (p, is, mid, walk, last)) g =
       let v = Some (i, j) in
       let one = walked a w i j p (settle m v old) mid spans walk (forget (group m a) g) in
-      record {
-        h = slice_set one.h m v;
-        d = around m v a k one.d;
-        captures = (one.h, one.captures, refl);
-        lays = lays-around m v a k g one.h one.d one.lays;
-        takes = takes-then k (deed (eqb m k) v) (within a k one.d) old (settle m v old) new (settle_takes m k v old)
-            (takes-then k one.d (deed (has_group a k) None) (settle m v old) mid new one.takes (subst (Takes k (deed (has_group a k) None) mid) (sym last) (drop_takes a k mid)));
-      }
+      (slice_set one.0 m v, (one.0, one.1, refl), takes-then k _ _ old (settle m v old) new (settle_takes m k v old) (inside a _ (settle m v old) mid new last one.2))
   walked (star a first) w i j n old new spans (inr (p, is, inl (lt, c, copy, mid, walk, last))) g =
-      inside a _ _ g old mid new last (λ h captures. inl (lt, (c, copy, captures))) (walked a w c j p old mid (copy_spans (Matches a w) j i c copy).2 walk (forget a g))
-  walked (star a first) w i j n old new spans (inr (p, is, inr (inl (same, one, at, mid, walk, last)))) g =
-      inside a _ _ g old mid new last (λ h captures. inr (inl (same, one, at, captures))) (walked a w i i p old mid at walk (forget a g))
-  walked (star a first) w i j n old new spans (inr (p, is, inr (inr (same, not, still_is, none)))) g = still _ _ g g old new refl (inr (inr (same, (not, refl)))) still_is
+      let one = walked a w c j p old mid (copy_spans (Matches a w) j i c copy).2 walk (forget a g) in
+      (one.0, inl (lt, (c, copy, one.1)), inside a _ old mid new last one.2)
+  walked (star a first) w i j n old new spans (inr (p, is, inr (inl (same, yes_first, at, mid, walk, last)))) g =
+      let one = walked a w i i p old mid at walk (forget a g) in
+      (one.0, inr (inl (same, yes_first, at, one.1)), inside a _ old mid new last one.2)
+  walked (star a first) w i j n old new spans (inr (p, is, inr (inr (same, not, still_is, none)))) g = (g, inr (inr (same, (not, refl))), still old new still_is)
   walked (opt a first) w i j n old new spans (inr (p, is, inl (lt, mid, walk, last))) g =
       let at : Matches a w i j = ⊎_elim (λ (e : i ≡ j). absurd (omega (arith, e, lt))) (λ (r : Matches a w i j). r) spans in
-      inside a _ _ g old mid new last (λ h captures. inl (lt, captures)) (walked a w i j p old mid at walk (forget a g))
-  walked (opt a first) w i j n old new spans (inr (p, is, inr (inl (same, one, at, mid, walk, last)))) g =
-      inside a _ _ g old mid new last (λ h captures. inr (inl (same, one, at, captures))) (walked a w i i p old mid at walk (forget a g))
-  walked (opt a first) w i j n old new spans (inr (p, is, inr (inr (same, not, still_is, none)))) g = still _ _ g g old new refl (inr (inr (same, (not, refl)))) still_is
+      let one = walked a w i j p old mid at walk (forget a g) in
+      (one.0, inl (lt, one.1), inside a _ old mid new last one.2)
+  walked (opt a first) w i j n old new spans (inr (p, is, inr (inl (same, yes_first, at, mid, walk, last)))) g =
+      let one = walked a w i i p old mid at walk (forget a g) in
+      (one.0, inr (inl (same, yes_first, at, one.1)), inside a _ old mid new last one.2)
+  walked (opt a first) w i j n old new spans (inr (p, is, inr (inr (same, not, still_is, none)))) g = (g, inr (inr (same, (not, refl))), still old new still_is)
 
 -- what isn't due doesn't become so
 pub stays : (e t : Tree) (w : List ℕ) (i j n : ℕ) (old new : State) → Matches e w i j → Walk e w i j old new n → NoneDue t old → NoneDue t new
 stays e t w i j n old new spans walk none k has =
     let one = walked k e w i j n old new spans walk no_groups in
-    one.takes.due ∙ left-not (is_due old k) one.d (none k has)
+    one.2.due ∙ left-not (is_due old k) _ (none k has)
 
 pub drop-not : (t : Tree) (s : State) → NoneDue t s → drop_groups t s ≡ s
 drop-not (seq a b) s none = ap (drop_groups b) (drop-not a s (λ k h. none k (inl h))) ∙ drop-not b s (λ k h. none k (inr h))
@@ -406,8 +383,9 @@ due_entry : (e : Tree) (w : List ℕ) (i j n k : ℕ) (old new : State) (inner :
     Captures e w i j no_groups inner → is_due old (suc k) ≡ true → slice_get new.spans (suc k) ≡ slice_get inner (suc k)
 due_entry e w i j n k old new inner start spans walk captures due =
     let one = walked (suc k) e w i j n old new spans walk no_groups in
-    one.takes.span ∙ ap (λ b. put b (slice_get old.spans (suc k)) one.d) due ∙ ap (λ l. lay (slice_get l (suc k)) one.d) start ∙ sym one.lays.at
-    ∙ ap (λ g. slice_get g (suc k)) (Captures-unique e w i j no_groups one.h inner one.captures captures)
+    let d = taken (suc k) e w i j no_groups one.0 one.1 in
+    one.2.span ∙ ap (λ b. put b (slice_get old.spans (suc k)) d) due ∙ ap (λ l. lay (slice_get l (suc k)) d) start ∙ sym (captured (suc k) e w i j no_groups one.0 one.1).at
+    ∙ ap (λ g. slice_get g (suc k)) (Captures-unique e w i j no_groups one.0 inner one.1 captures)
 
 pub wanted : (e : Tree) (w : List ℕ) (i j n k : ℕ) (old new : State) (groups : Groups) → old.spans ≡ Some (i, j) ∷ replicate 9 None → Matches e w i j → Walk e w i j old new n →
     IsReport e w i j groups → is_due old (suc k) ≡ true → slice_index_or new.spans (suc k) None ≡ slice_index_or groups (suc k) None
@@ -427,12 +405,12 @@ walk_report e w i j n old new start spans walk =
 
     -- an entry that isn't due is as before
     before : (k : ℕ) → is_due old k ≡ false → slice_get new.spans k ≡ slice_get first k
-    before k not = let one = walked k e w i j n old new spans walk no_groups in one.takes.span ∙ ap (λ b. put b (slice_get old.spans k) one.d) not ∙ ap (λ l. slice_get l k) start.none
+    before k not = let one = walked k e w i j n old new spans walk no_groups in one.2.span ∙ ap (λ b. put b (slice_get old.spans k) (taken k e w i j no_groups one.0 one.1)) not ∙ ap (λ l. slice_get l k) start.none
 
     each : (inner : Groups) → Captures e w i j no_groups inner → (k : ℕ) → slice_get new.spans k ≡ slice_get (slice_set inner 0 (Some (i, j))) k
     each inner captures zero =
-        let one = captured 0 e w i j no_groups inner captures in
-        before 0 start.whole ∙ sym (set_same 0 (Some (i, j)) inner ∙ ap (λ x. lay x (Some (Some (i, j)))) one.1.at ∙ lay_some one.0)
+        let d = taken 0 e w i j no_groups inner captures in
+        before 0 start.whole ∙ sym (set_same 0 (Some (i, j)) inner ∙ ap (λ x. lay x (Some (Some (i, j)))) (captured 0 e w i j no_groups inner captures).at ∙ lay_some d)
       where
         lay_some : (d : Option Span) → lay (lay (Some None) d) (Some (Some (i, j))) ≡ Some (Some (i, j))
         lay_some None = refl
@@ -446,11 +424,11 @@ walk_report e w i j n old new start spans walk =
         kept k not =
             let one = captured (suc k) e w i j no_groups inner captures in
             let x = slice_get no_groups (suc k) in
-            one.1.at ∙ elim one.1.none [
+            one.at ∙ elim one.none [
               | inl none ↦ ap (lay x) none ∙ put-none true x
               | inr has ↦ elim (cases_lt (suc k) 10) [
                 | inl low ↦ absurd (true≢false (sym (start.each (suc k) (omega arith) low has) ∙ not))
-                | inr high ↦ let past = slice_get_past no_groups (suc k) high in ap (λ y. lay y one.0) past ∙ sym past
+                | inr high ↦ let past = slice_get_past no_groups (suc k) high in ap (λ y. lay y (taken (suc k) e w i j no_groups inner captures)) past ∙ sym past
               ]
             ]
 
