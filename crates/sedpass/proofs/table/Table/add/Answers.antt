@@ -1,4 +1,4 @@
-use Rattle.std.proofs.Common.{◌≡◌, ℕ, ◌+◌, ◌*◌, ◌%◌, ◌^◌, ◌<◌, ◌∙◌, ◌↔◌, length, length-set, mul-le-mul_left, ◌≤◌, IsTrue, refl, sym, ap, subst, arith}
+use Rattle.std.proofs.Common.{rules, ◌≡◌, ℕ, ◌+◌, ◌*◌, ◌%◌, ◌^◌, ◌<◌, ◌∙◌, ◌↔◌, length, length-set, mul-le-mul_left, ◌≤◌, IsTrue, refl, sym, ap, subst, arith}
 use Rattle.std.specs.Prelude.{slice_index_or, false}
 use Rattle.std.specs.Vec.{with_item}
 use Rattle.sedtext.specs.Words.{AgreeBelow, row_of}
@@ -44,8 +44,8 @@ code_of-requires c =
     let t = c.requires.table in
     omega (arith, shifted T.count T.room T.layout.shift c.requires.room t.room.few t.layout.small, few_offset T.count T.room T.layout.shift c.requires.room t.room.few t.layout.small)
 
-pub returns-clause-table : goal.returns-clause-table
-returns-clause-table c =
+pub returns : goal.returns
+returns c =
     let T = c.args.self.now in
     let t = c.requires.table in
     let m = length c.args.prepared.now.arena.expr.nodes in
@@ -102,72 +102,19 @@ returns-clause-table c =
     subst (λ n. IsTrue c.is_clear.result ↔ ((k : ℕ) → k < n → slice_index_or L k false ≡ false)) nodes c.is_clear.ensures.clear in
     let law = bits_dead m L in
     let told : IsTold (state c.args.root (bits m L) (bits m E) flags) = (c.get.ensures.mark ∙ sym (bits_here m E c.args.root c.requires.root), (λ h. law.0 (dead.0 h), λ h. dead.1 (law.1 h))) in
-    one_more c.args.prepared.now T N adds refl t room refl refl before clear
-    (subst (λ (a : State). a.root < m) (sym added) c.requires.root)
-    (subst (λ (a : State). IsTold a) (sym added) told)
-
-pub returns-clause-adds : goal.returns-clause-adds
-returns-clause-adds c =
-    let T = c.args.self.now in
-    let t = c.requires.table in
-    let m = length c.args.prepared.now.arena.expr.nodes in
-    let L = c.args.work.now.leaves in
-    let E = c.args.work.now.ends in
-    let flags : Flags = record { ends = c.get.result; dead = c.is_clear.result } in
-    let N : Table = record {
-      way = T.way;
-      room = T.room;
-      marks = T.marks;
-      reserved = T.reserved;
-      layout = T.layout;
-      count = T.count + 1;
-      epoch = T.epoch;
-      leaves = c.store.new.self;
-      ends = c.store-2.new.self;
-      roots = with_item T.roots T.count c.args.root;
-      flags = with_item T.flags T.count flags;
-      cells = c.empty_cells.new.cells;
-      index = with_item T.index c.args.slot (record { epoch = T.epoch % 65536; state = T.count });
-      beginnings = T.beginnings;
-    } in
-    let nodes = c.nodes-nodes.ensures.value in
-    let leaves : AgreeBelow m (row_of c.store.new.self T.count) L = subst (λ n. AgreeBelow n (row_of c.store.new.self T.count) L) nodes c.store.ensures.same in
-    let ends : AgreeBelow m (row_of c.store-2.new.self T.count) E = subst (λ n. AgreeBelow n (row_of c.store-2.new.self T.count) E) nodes c.store-2.ensures.same in
-    state_adds m T N c.args.root L E flags c.requires.room t.room (refl, refl, refl, refl, refl) refl refl c.store.ensures.other leaves c.store-2.ensures.other ends refl refl
-
-pub returns-clause-names : goal.returns-clause-names
-returns-clause-names c =
-    let T = c.args.self.now in
-    let t = c.requires.table in
-    let m = length c.args.prepared.now.arena.expr.nodes in
-    let L = c.args.work.now.leaves in
-    let E = c.args.work.now.ends in
-    let flags : Flags = record { ends = c.get.result; dead = c.is_clear.result } in
-    let N : Table = record {
-      way = T.way;
-      room = T.room;
-      marks = T.marks;
-      reserved = T.reserved;
-      layout = T.layout;
-      count = T.count + 1;
-      epoch = T.epoch;
-      leaves = c.store.new.self;
-      ends = c.store-2.new.self;
-      roots = with_item T.roots T.count c.args.root;
-      flags = with_item T.flags T.count flags;
-      cells = c.empty_cells.new.cells;
-      index = with_item T.index c.args.slot (record { epoch = T.epoch % 65536; state = T.count });
-      beginnings = T.beginnings;
-    } in
-    let nodes = c.nodes-nodes.ensures.value in
-    let leaves : AgreeBelow m (row_of c.store.new.self T.count) L = subst (λ n. AgreeBelow n (row_of c.store.new.self T.count) L) nodes c.store.ensures.same in
-    let ends : AgreeBelow m (row_of c.store-2.new.self T.count) E = subst (λ n. AgreeBelow n (row_of c.store-2.new.self T.count) E) nodes c.store-2.ensures.same in
-    let added = state_added m T N c.args.root L E flags c.requires.room t.room (refl, refl, refl, refl, refl) refl refl c.store.ensures.other leaves c.store-2.ensures.other ends refl refl in
-    let place = shifted T.count T.room T.layout.shift c.requires.room t.room.few t.layout.small in
     record {
-      to = T.count;
-      there = omega arith;
-      code = c.code_of.ensures ∙ ap (λ b. code_of b (T.count * 2 ^ T.layout.shift % 2 ^ 64)) c.stops.ensures ∙ ap (λ x. code_of (stops T.way flags) x) place
-          ∙ ap (λ (a : State). code_of (stops T.way a.flags) (T.count * 2 ^ T.layout.shift)) (sym added);
-      is = subst (λ (a : State). HasRow c.args.root (bits m L) (bits m E) a) (sym added) (refl, refl, refl);
+      table = one_more c.args.prepared.now T N adds refl t room refl refl before clear
+          (subst (λ (a : State). a.root < m) (sym added) c.requires.root)
+          (subst (λ (a : State). IsTold a) (sym added) told);
+      adds = adds;
+      epoch = refl;
+      count = refl;
+      names = record {
+        to = T.count;
+        there = omega arith;
+        code = c.code_of.ensures ∙ ap (λ b. code_of b (T.count * 2 ^ T.layout.shift % 2 ^ 64)) c.stops.ensures ∙ ap (λ x. code_of (stops T.way flags) x) place
+            ∙ ap (λ (a : State). code_of (stops T.way a.flags) (T.count * 2 ^ T.layout.shift)) (sym added);
+        is = subst (λ (a : State). HasRow c.args.root (bits m L) (bits m E) a) (sym added) (refl, refl, refl);
+      };
+      cost = search rules;
     }
