@@ -1,4 +1,4 @@
-use Rattle.std.proofs.Common.{◌≡◌, ◌+◌, ◌<◌, ◌≤◌, refl, sym, ap, ◌∙◌, subst, true≢false, arith}
+use Rattle.std.proofs.Common.{rules, ◌≡◌, ◌+◌, ◌<◌, ◌≤◌, refl, sym, ap, ◌∙◌, subst, true≢false, arith}
 use Rattle.std.specs.Prelude.{length, slice_index_or}
 use Rattle.std.proofs.lemmas.Bool.{eqb-true, eq-eqb}
 use Rattle.sedtext.proofs.MarkLemmas.{default_same}
@@ -25,23 +25,8 @@ loop-place-init c = record {
   counts = least_none _ _ (omega arith);
 }
 
-pub meets-requires-clause-other_row : goal.meets-requires-clause-other_row
-meets-requires-clause-other_row c =
-    let p = c.args.subject.prepared.now in
-    let w = c.args.subject.text.now in
-    let t = c.args.table.now in
-    let k = c.args.self.now in
-    let old = c.loop-place.invariant in
-    let place = c.loop-place.place in
-    let above : k.region.from ≤ place = (let h = old.above in let g = c.requires.from in omega (arith, h, g)) in
-    let before : place < k.region.to = (let h = ap (λ r. r.to) old.region in let g = c.loop-place-test.true in omega (arith, h, g)) in
-    let row = kept_row p w t k place c.requires.kept above before in
-    let inside : place < length c.loop-place.self.states.items = subst (λ v. place < length v.items) (sym old.states) row.2 in
-    let is : c.index.result.now ≡ slice_index_or k.states.items place 0 = c.index.ensures ∙ default_same c.loop-place.self.states.items place c.index.result.now 0 inside ∙ ap (λ v. slice_index_or v.items place 0) old.states in
-    rw is row.0
-
-pub meets-requires-clause-there : goal.meets-requires-clause-there
-meets-requires-clause-there c =
+pub meets-requires : goal.meets-requires
+meets-requires c =
     let p = c.args.subject.prepared.now in
     let w = c.args.subject.text.now in
     let t = c.args.table.now in
@@ -54,7 +39,12 @@ meets-requires-clause-there c =
     let inside : place < length c.loop-place.self.states.items = subst (λ v. place < length v.items) (sym old.states) row.2 in
     let is : c.index.result.now ≡ slice_index_or k.states.items place 0 = c.index.ensures ∙ default_same c.loop-place.self.states.items place c.index.result.now 0 inside ∙ ap (λ v. slice_index_or v.items place 0) old.states in
     let count = c.nodes-nodes.ensures.value in
-    rw is (omega (arith, row.1, count))
+    record {
+      row = search rules;
+      other_row = rw is row.0;
+      inside = search rules;
+      there = rw is (omega (arith, row.1, count));
+    }
 
 pub returns-then-not-meets-clause-meets : goal.returns-then-not-meets-clause-meets
 returns-then-not-meets-clause-meets c a i low start follows =

@@ -18,22 +18,14 @@ loop-place-init c = record {
   counts = least_none _ _ (omega arith);
 }
 
-pub get-requires-clause-row : goal.get-requires-clause-row
-get-requires-clause-row c =
-    let above = c.loop-place.invariant.above in
-    let from = c.requires.from in
-    let row = kept_row c.args.subject.prepared.now c.args.subject.text.now c.args.table.now c.args.self.now c.loop-place.place c.requires.kept (omega (arith, above, from)) c.loop-place-test.true in
-    let is : c.index.result.now ≡ slice_index_or c.args.self.now.states.items c.loop-place.place 0 = c.index.ensures ∙ default_same c.args.self.now.states.items c.loop-place.place c.index.result.now 0 row.2 in
-    rw is row.0
-
-pub get-requires-clause-inside : goal.get-requires-clause-inside
-get-requires-clause-inside c =
+pub get-requires : goal.get-requires
+get-requires c =
     let above = c.loop-place.invariant.above in
     let from = c.requires.from in
     let row = kept_row c.args.subject.prepared.now c.args.subject.text.now c.args.table.now c.args.self.now c.loop-place.place c.requires.kept (omega (arith, above, from)) c.loop-place-test.true in
     let is : c.index.result.now ≡ slice_index_or c.args.self.now.states.items c.loop-place.place 0 = c.index.ensures ∙ default_same c.args.self.now.states.items c.loop-place.place c.index.result.now 0 row.2 in
     let x = c.requires.x in
-    rw is (omega (arith, row.1, x))
+    record { row = rw is row.0; inside = rw is (omega (arith, row.1, x)) }
 
 pub returns-then-get-marked-clause-found : goal.returns-then-get-marked-clause-found
 returns-then-get-marked-clause-found c before =

@@ -29,23 +29,15 @@ returns-then-place-self-clause-spans c =
 pub returns-then-place-self-clause-counts : goal.returns-then-place-self-clause-counts
 returns-then-place-self-clause-counts c = least_counted _ _ 1 1 c.null_at.ensures.counts (omega arith)
 
-pub get-requires-clause-row : goal.get-requires-clause-row
-get-requires-clause-row c =
-    let above = c.ready.ensures.from in
-    let to = c.ready.ensures.to in
-    let row = kept_row c.args.subject.prepared.now c.args.subject.text.now c.ready.new.table c.ready.new.self c.args.place c.ready.ensures.kept above (omega (arith, to.0, to.1)) in
-    let is : c.index.result.now ≡ slice_index_or c.ready.new.self.states.items c.args.place 0 = c.index.ensures ∙ default_same c.ready.new.self.states.items c.args.place c.index.result.now 0 row.2 in
-    rw is row.0
-
-pub get-requires-clause-inside : goal.get-requires-clause-inside
-get-requires-clause-inside c =
+pub get-requires : goal.get-requires
+get-requires c =
     let above = c.ready.ensures.from in
     let to = c.ready.ensures.to in
     let row = kept_row c.args.subject.prepared.now c.args.subject.text.now c.ready.new.table c.ready.new.self c.args.place c.ready.ensures.kept above (omega (arith, to.0, to.1)) in
     let is : c.index.result.now ≡ slice_index_or c.ready.new.self.states.items c.args.place 0 = c.index.ensures ∙ default_same c.ready.new.self.states.items c.args.place c.index.result.now 0 row.2 in
     let root = c.requires.kept.region.root.0 in
     let up = last_inside c.args.subject.prepared.now.arena.expr.nodes c.args.subject.text.now c.args.self.now.region.root (one_start 0) c.requires.kept.region.table.expr.arena c.args.x c.requires.last in
-    rw is (omega (arith, row.1, root, up))
+    record { row = rw is row.0; inside = rw is (omega (arith, row.1, root, up)) }
 
 pub returns-clause-spans : goal.returns-clause-spans
 returns-clause-spans c =
