@@ -1,4 +1,4 @@
-use Rattle.std.proofs.Common.{◌≡◌, ◌+◌, ◌-◌, ◌*◌, ◌<◌, ◌≤◌, List, [], ◌∷◌, ◌++◌, length, reverse, refl, sym, ap, ◌∙◌, subst, arith}
+use Rattle.std.proofs.Common.{rules, ◌≡◌, ◌+◌, ◌-◌, ◌*◌, ◌<◌, ◌≤◌, List, [], ◌∷◌, ◌++◌, length, reverse, refl, sym, ap, ◌∙◌, subst, arith}
 use Rattle.std.proofs.lemmas.List.{nil_from_length, reverse-append}
 use Rattle.sedpass.specs.Decide.{nodes_in, text_in, told_of, undecided, part_cost, tasks_cost}
 use Rattle.sedpass.specs.Turns.{AreReady, AreShort, Progress, weights}
@@ -84,38 +84,29 @@ all-preserved c =
       cost = (omega (arith, inv.cost.0, spent.1.0), omega (arith, before, spent.1.1));
     }
 
-pub returns-clause-report : goal.returns-clause-report
-returns-clause-report c = λ all.
-    let s = told_of c.all.told.due c.all.told.spans in
-    let empty : c.all.room.tasks.items ≡ [] = nil_from_length c.all.room.tasks.items (omega (arith, c.in_default.ensures.cases, c.all.room.tasks.ok)) in
-    let done = ended (nodes_in c.args.subject) (text_in c.args.subject) _ (told_of c.args.due (undecided c.args.start c.args.stop)) c.all.room.tasks.items _ _ _ empty c.all.invariant.progress in
-    let run = done.run s 0 (refl, refl) in
-    let p = c.args.subject.prepared.now in
-    decides p.arena.expr (text_in c.args.subject) p.root c.args.start c.args.stop _ (told_of c.args.due (undecided c.args.start c.args.stop)) s p.is_prepared.last
-    (starts_due (expression_tree p.arena.expr) c.args.start c.args.stop c.args.due c.requires.whole all) c.requires.spans run
-
-pub returns-clause-due : goal.returns-clause-due
-returns-clause-due c = λ groups k report is.
-    let s = told_of c.all.told.due c.all.told.spans in
-    let empty : c.all.room.tasks.items ≡ [] = nil_from_length c.all.room.tasks.items (omega (arith, c.in_default.ensures.cases, c.all.room.tasks.ok)) in
-    let done = ended (nodes_in c.args.subject) (text_in c.args.subject) _ (told_of c.args.due (undecided c.args.start c.args.stop)) c.all.room.tasks.items _ _ _ empty c.all.invariant.progress in
-    let run = done.run s 0 (refl, refl) in
-    let p = c.args.subject.prepared.now in
-    decides_due p.arena.expr (text_in c.args.subject) p.root c.args.start c.args.stop _ k c.args.due s groups p.is_prepared.last c.requires.whole c.requires.spans run report is
-
-pub returns-clause-entered : goal.returns-clause-entered
-returns-clause-entered c =
+pub returns : goal.returns
+returns c =
     let p = c.args.subject.prepared.now in
     let nodes = nodes_in c.args.subject in
-    let last = p.is_prepared.last in
-    let root : p.root ≡ length nodes - 1 = omega (arith, last) in
-    let empty : c.all.room.tasks.items ≡ [] = nil_from_length c.all.room.tasks.items (omega (arith, c.in_default.ensures.cases, c.all.room.tasks.ok)) in
-    let done = ended (nodes_in c.args.subject) (text_in c.args.subject) _ (told_of c.args.due (undecided c.args.start c.args.stop)) c.all.room.tasks.items _ _ _ empty c.all.invariant.progress in
+    let w = text_in c.args.subject in
+    let s = told_of c.all.told.due c.all.told.spans in
     let start = told_of c.args.due (undecided c.args.start c.args.stop) in
-    subst (λ x. LooksAtEntered (tree_at nodes x) (text_in c.args.subject) c.args.start c.args.stop start c.args.steps.now c.all.steps) root
-    (looked nodes (text_in c.args.subject) p.root c.args.start c.args.stop start (told_of c.all.told.due c.all.told.spans) c.args.steps.now c.all.steps done)
-
-pub returns-clause-cost : goal.returns-clause-cost
-returns-clause-cost c =
+    let empty : c.all.room.tasks.items ≡ [] = nil_from_length c.all.room.tasks.items (omega (arith, c.in_default.ensures.cases, c.all.room.tasks.ok)) in
+    let done = ended nodes w _ start c.all.room.tasks.items _ _ _ empty c.all.invariant.progress in
+    let run = done.run s 0 (refl, refl) in
+    let root : p.root ≡ length nodes - 1 = omega (arith, p.is_prepared.last) in
     let paid = c.all.invariant.cost in
-    (paid.0, all_paid c.args.steps.now c.all.steps (length (nodes_in c.args.subject)) (c.args.stop - c.args.start) _ paid.1)
+    record {
+      report = λ all. decides p.arena.expr w p.root c.args.start c.args.stop _ start s p.is_prepared.last
+          (starts_due (expression_tree p.arena.expr) c.args.start c.args.stop c.args.due c.requires.whole all) c.requires.spans run;
+      due = λ groups k report is. decides_due p.arena.expr w p.root c.args.start c.args.stop _ k c.args.due s groups p.is_prepared.last c.requires.whole c.requires.spans run report is;
+      tasks = search rules;
+      room = search rules;
+      desk = search rules;
+      shape = search rules;
+      space = search rules;
+      cost = (paid.0, all_paid c.args.steps.now c.all.steps (length (nodes_in c.args.subject)) (c.args.stop - c.args.start) _ paid.1);
+      counts = search rules;
+      entered = subst (λ x. LooksAtEntered (tree_at nodes x) w c.args.start c.args.stop start c.args.steps.now c.all.steps) root
+          (looked nodes w p.root c.args.start c.args.stop start s c.args.steps.now c.all.steps done);
+    }
