@@ -1,8 +1,8 @@
 //! Expressions over texts: the match and its groups, or all occurrences, one after another, each with its groups. The heads
 //! of the tables tell their fields.
 //!
-//! `find_span` and `is_match` have to tell the same as `find`. By tables `is_match` has to, and from the text's beginning on
-//! the occurrences and their groups: by tables of 513 states, of 64, of two, which are emptied again and again, and of none.
+//! By tables `is_match` has to tell the same as `find`, and from the text's beginning on the occurrences and their groups have
+//! to: by tables of 513 states, of 64, of two, which are emptied again and again, and of none.
 
 ghost use Rattle.std.specs.Prelude.{◌≡◌, ◌≤◌, ◌^◌, [], ◌∷◌, IfOk, IfSome, length};
 ghost use Rattle.sedmatch.specs.Occurrences.{RoomFor};
@@ -13,9 +13,7 @@ use crate::options::Options;
 use crate::report::{NO_MEMORY, Report};
 use crate::sheet::Sheet;
 use crate::table::Row;
-use sedmatch::{
-    Found, Occurrences, Scratch, TableMatcher, TableRoom, Text, find, find_span, is_match,
-};
+use sedmatch::{Occurrences, Scratch, TableMatcher, TableRoom, Text, find};
 use sedre::{Expr, Steps, read};
 use std::alloc::{AllocError, Global};
 use std::slice;
@@ -66,7 +64,7 @@ fn run_over(row: &Row, expr: &Expr, text: &[u8], from: Option<usize>, report: &m
     run_table(row, expr, 0, text, from, &mut scratch, report);
 }
 
-/// Whether the three searches of an expression that is used once tell the same, and what the row says.
+/// Whether the search for an expression that is used once tells what the row says.
 fn run_once(
     row: &Row,
     expr: &Expr,
@@ -81,11 +79,6 @@ fn run_once(
 {
     let mut steps = Steps::new();
     let found = find(expr, text, from, scratch, &mut steps);
-    let span = find_span(expr, text, from, scratch, &mut Steps::new());
-    let is_match = is_match(expr, text, from, scratch, &mut Steps::new());
-    if span_of(&found) != span || found.is_some() != is_match {
-        report.tell("find, find_span and is_match don't agree");
-    }
     compare_steps("most", "least", steps.count(), row.options(5), report);
     let mut came = Sheet::new(row.alloc);
     match &found {
@@ -93,14 +86,6 @@ fn run_once(
         None => came.put(b"none"),
     }
     report.compare_sheet("the match", &came, row.field(4));
-}
-
-/// Where a match begins and ends.
-fn span_of(found: &Option<Found>) -> Option<(usize, usize)> {
-    match found {
-        Some(found) => Some((found.start, found.end)),
-        None => None,
-    }
 }
 
 /// Searches by tables of at most so many states, where nothing was told before.

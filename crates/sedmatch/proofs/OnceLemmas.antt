@@ -6,13 +6,11 @@ use Rattle.std.specs.Prelude.{IfNone, IfSome}
 use Rattle.sedre.specs.Steps.{StepsWithin, Takes, TakesAtLeast}
 use Rattle.sedre.specs.Tree.{Tree}
 use Rattle.sedtext.specs.Answer.{SpanAnswer}
-use Rattle.sedtext.specs.Following.{PassesOver}
 use Rattle.sedpass.specs.Search.{LooksFrom}
 use Rattle.sedpass.specs.Kept.{KeptRoom, SameSpace}
 use Rattle.sedpass.specs.Table.{IsRoomy, IsTable, SameRoom, SameShape}
 use Rattle.sedpass.specs.declared.kept.Kept.{Kept}
 use Rattle.sedpass.specs.declared.nodes.Prepared.{Prepared}
-use Rattle.sedpass.specs.declared.rows.Work.{Work}
 use Rattle.sedpass.specs.declared.table.Table.{Table}
 use Rattle.sedpass.proofs.CountLemmas.{least_fewer, least_since}
 use Rattle.sedpass.proofs.DecideLemmas.{space_again}
@@ -27,16 +25,6 @@ use Rattle.sedmatch.proofs.PassLemmas.{blocks_suffice, table_again}
 -- the table can be fitted to the expression
 pub once_serves : (m : ℕ) (d : Desk) (o : Once) → IsOnce d o → m ≤ d.max_nodes → IsRoomy m o.back
 once_serves m d o is few = roomy_fewer m d.max_nodes o.back few is.back
-
--- where an expression was made ready in it
-pub once_fitted : (d : Desk) (o : Once) (p : Prepared) → IsOnce d o → p.arena.room ≡ o.prepared.arena.room → vec_capacity p.facts ≡ vec_capacity o.prepared.facts → IsOnce d (record o { prepared = p })
-once_fitted d o p is nodes facts = record {
-  nodes = (let h = is.nodes in omega (arith, h, nodes));
-  facts = (let h = is.facts in omega (arith, h, facts));
-  back = is.back;
-  way = is.way;
-  room = is.room;
-}
 
 -- a pass from the text's end can be made
 pub once_room : (d : Desk) (o : Once) (p : Prepared) (back : Table) (m n : ℕ) → IsDesk d → IsOnce d o → IsTable p back → SameRoom o.back back → n ≤ d.max_text → m ≤ d.max_nodes → KeptRoom m n back d.room.kept
@@ -82,17 +70,6 @@ span_again d p kept ahead ahead' is same fit shape table = record {
     ahead = table_again d.max_nodes p d.shared.ahead ahead ahead' is.shared.ahead fit shape table;
   };
   few = (let e = same.edges in let h = is.few in omega (arith, h, e));
-}
-
--- and for any
-pub any_again : (d : Desk) (p : Prepared) (work : Work) (any any' : Table) → IsDesk d → SameRoom d.any any → SameShape any any' → IsTable p any' →
-    IsDesk (record d { room = record d.room { kept = record d.room.kept { work = work } }; any = any' })
-any_again d p work any any' is fit same table = record {
-  space = record { places = is.space.places; edges = is.space.edges; marks = is.space.marks; none = is.space.none; tasks = is.space.tasks };
-  any = table_again d.max_nodes p d.any any any' is.any fit same table;
-  any_way = same.0 ∙ fit.0 ∙ is.any_way;
-  shared = is.shared;
-  few = is.few;
 }
 
 -- and after a search for the first match with a table that was fitted
@@ -179,15 +156,3 @@ counts_since (Some f) s t u grows counts = least_since s t u (f.1 - f.0) grows c
 pub if_none : {X : Type 0} (o : Option X) (P : Type 0) → P → IfNone o P
 if_none None P h = h
 if_none (Some x) P h = tt
-
--- looks before those that pass over a match take none of it away
-pub passes_since : (e : Tree) (w : List ℕ) (p s t u : ℕ) → s ≤ t → PassesOver e w p t u → PassesOver e w p s u
-passes_since e w p s t u grows over = record {
-  start = over.start;
-  end = over.end;
-  later = over.later;
-  within = over.within;
-  spans = over.spans;
-  bytes = least_since s t u (over.end - over.start) grows over.bytes;
-  passed = λ early. least_since s t u (over.end - p) grows (over.passed early);
-}

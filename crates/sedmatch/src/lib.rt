@@ -8,8 +8,7 @@
 //! [`TableMatcher::groups_of`] tells the groups of one of them, in steps in proportion to its length. A step is one look at a node,
 //! a byte, a mark or a cell of a table.
 //!
-//! [`find`] seeks an expression that is used once, with its groups; [`find_span`] without them, and [`is_match`] only whether
-//! there is a match. They make it ready for passes in the room of the scratch.
+//! [`find`] seeks an expression that is used once, with its groups. It makes it ready for passes in the room of the scratch.
 //!
 //! All of them work in the room of a [`Scratch`], and take no memory.
 #![tactic(auto)]
@@ -28,4 +27,4 @@ pub use scratch::Scratch;
 pub use sedtext::{Found, Marks, Text, found_law, groups_law, spans_law};
 pub use table_matcher::TableMatcher;
 pub use table_room::TableRoom;
-pub use whole::{find, find_span, is_match};
+pub use whole::find;

@@ -46,7 +46,7 @@ pub enum Engine {
 ///
 /// All room is taken in [`TableMatcher::new`]. An expression that a look at the text tells has no table, any other three, as far as the
 /// room that is given goes; their memory is touched as states of passes are found. Where an expression is used once, [`crate::find`]
-/// and its like are the better choice: they need no table.
+/// is the better choice: it needs no table.
 #[derive(Drop)]
 pub struct TableMatcher {
     engine: Engine,

@@ -1,10 +1,7 @@
-//! Searches of an expression that is used once (XBD 9.1). They make it ready for passes in the room of the scratch.
-ghost use Rattle.std.specs.Prelude.{◌≡◌, ◌+◌, ◌-◌, ◌*◌, ◌≤◌, ◌↔◌, length, IfNone, IfSome, IsTrue, is_some};
+//! The search for an expression that is used once (XBD 9.1). It makes it ready for passes in the room of the scratch.
+ghost use Rattle.std.specs.Prelude.{◌≡◌, ◌+◌, ◌-◌, ◌*◌, ◌≤◌, length, IfNone, IfSome};
 ghost use Rattle.sedre.specs.Tree.{expression_tree};
-ghost use Rattle.sedtext.specs.Spans.{SomeFound};
-ghost use Rattle.sedtext.specs.Following.{PassesOver};
 ghost use Rattle.sedtext.specs.Answer.{IsComputed, MatchAnswer, SpanAnswer};
-ghost use Rattle.sedtext.specs.Matching.{found};
 ghost use Rattle.sedtext.specs.SearchRoom.{FitInto};
 ghost use Rattle.sedre.specs.Steps.{StepsWithin, Takes, TakesAtLeast};
 ghost use Rattle.sedpass.specs.Walks.{EntersGroups};
@@ -13,10 +10,8 @@ ghost use Rattle.sedmatch.specs.Passes.{IsDesk, IsOnce, SameDesk};
 use crate::passes::shared_groups;
 use crate::scratch::{Desk, Once, Scratch};
 use sedpass::kept::Subject;
-use sedpass::nodes::Prepared;
 use sedpass::search::next_begun;
 use sedre::{Expr, Steps};
-use sedtext::beginnings::Begins;
 use sedtext::{Found, Text};
 
 /// Where the match begins and ends that [`find`] finds, of an expression that was made ready.
@@ -50,29 +45,6 @@ fn first_span(
     let ahead = &mut desk.shared.ahead;
     let kept = &mut desk.room.kept;
     next_begun(subject, ahead, &mut once.back, kept, from, steps)
-}
-
-/// Whether any match begins at a place or later, of an expression that was made ready.
-fn any_match(
-    prepared: &Prepared,
-    text: &Text,
-    from: usize,
-    desk: &mut Desk,
-    steps: &mut Steps,
-) -> bool
-    requires from { from ≤ length text.now }
-    requires desk { IsDesk desk.old }
-    requires few { length prepared.now.arena.expr.nodes ≤ desk.old.max_nodes }
-    ensures desk { IsDesk desk.new }
-    ensures same { SameDesk desk.old desk.new }
-    ensures matches { IsTrue result ↔ SomeFound (expression_tree prepared.now.arena.expr) text.now from }
-    ensures passes { IsTrue result → PassesOver (expression_tree prepared.now.arena.expr) text.now from steps.old steps.new }
-    ensures cost { Takes steps.old steps.new (41 * length prepared.now.arena.expr.nodes * (length text.now + 1)) }
-{
-    desk.any.fit(prepared);
-    let subject = Subject { prepared, text };
-    let work = &mut desk.room.kept.work;
-    sedpass::find::is_match(subject, &Begins::Anyhow, &mut desk.any, from, work, steps)
 }
 
 /// The leftmost-longest match that begins at `from` or later, with its groups. `None` exactly where there is no match.
@@ -115,49 +87,4 @@ pub fn find(
         end: span.1,
         groups,
     })
-}
-
-/// Where the leftmost-longest match that begins at `from` or later begins and ends. `None` exactly where there is no
-/// match. Conditions: those of [`find`].
-pub fn find_span(
-    expr: &Expr,
-    text: &Text,
-    from: usize,
-    scratch: &mut Scratch,
-    steps: &mut Steps,
-) -> Option<(usize, usize)>
-    requires from { from ≤ length text.now }
-    requires fits { FitInto (length text.now) (length expr.now.nodes) scratch.old }
-    ensures scratch { scratch.new ≡ scratch.old }
-    ensures answer { SpanAnswer (expression_tree expr.now) text.now from result }
-    ensures computed { result ≡ found (expression_tree expr.now) text.now from }
-    ensures cost { let m = length expr.now.nodes in let n = length text.now in
-        Takes steps.old steps.new (64 * m * (n + 1) * (n + 1)) }
-    ensures linear_cost { let m = length expr.now.nodes in let n = length text.now in
-        StepsWithin steps.old steps.new (143 * m * (n + 1)) }
-    ensures counts { IfSome result (λ f. TakesAtLeast steps.old steps.new (f.1 - f.0)) }
-{
-    scratch.once.prepared.fit(expr, steps);
-    first_span(&mut scratch.once, text, from, &mut scratch.desk, steps)
-}
-
-/// Whether any match begins at `from` or later. Its steps are in proportion to the text, whatever the expression.
-/// Conditions: those of [`find`].
-pub fn is_match(
-    expr: &Expr,
-    text: &Text,
-    from: usize,
-    scratch: &mut Scratch,
-    steps: &mut Steps,
-) -> bool
-    requires from { from ≤ length text.now }
-    requires fits { FitInto (length text.now) (length expr.now.nodes) scratch.old }
-    ensures scratch { scratch.new ≡ scratch.old }
-    ensures matches { IsTrue result ↔ SomeFound (expression_tree expr.now) text.now from }
-    ensures computed { result ≡ is_some (found (expression_tree expr.now) text.now from) }
-    ensures passes { IsTrue result → PassesOver (expression_tree expr.now) text.now from steps.old steps.new }
-    ensures cost { Takes steps.old steps.new (64 * length expr.now.nodes * (length text.now + 1)) }
-{
-    scratch.once.prepared.fit(expr, steps);
-    any_match(&scratch.once.prepared, text, from, &mut scratch.desk, steps)
 }
