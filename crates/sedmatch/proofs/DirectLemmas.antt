@@ -16,7 +16,7 @@ use Rattle.sedtext.specs.Costs.{CostsWithin}
 use Rattle.sedtext.specs.Following.{CanEndEarly, PassesOver}
 use Rattle.sedtext.specs.Reach.{At}
 use Rattle.sedtext.specs.Runs.{Repeated, AllRepeat, IsRun, RunBegins}
-use Rattle.sedtext.specs.Spans.{Matches, SomeFound, IsIn, no_copy}
+use Rattle.sedtext.specs.Spans.{Matches, SomeFound, IsIn}
 use Rattle.sedtext.specs.declared.beginnings.Begins.TheVariants.{WithSet}
 use Rattle.sedtext.specs.Choice.{FirstChoice}
 use Rattle.sedtext.specs.Few.{FirstFew}

@@ -15,6 +15,7 @@ use Rattle.sedmatch.specs.Occurrences.{Serves, ServesOn, owed, owed_after, owed_
 use Rattle.sedmatch.specs.Passes.{IsEngine, written_of}
 use Rattle.sedmatch.specs.declared.direct.DirectForm.{DirectForm}
 use Rattle.sedmatch.specs.declared.occurrences.Occurrences.{Occurrences}
+use Rattle.sedmatch.specs.declared.passes.Passes.{Passes}
 use Rattle.sedmatch.specs.declared.table_matcher.Engine.{Engine}
 use Rattle.sedmatch.specs.declared.table_matcher.Engine.TheVariants.{Direct}
 
@@ -22,6 +23,9 @@ use Rattle.sedmatch.specs.declared.table_matcher.Engine.TheVariants.{Direct}
 
 pub direct_is : (m : Engine) (v e : WrittenExpression) (form : DirectForm) → written_of m ≡ v → IsEngine m → m ≡ Direct e form → IsDirect v form
 direct_is m v e form view inv is = subst (λ x. IsDirect x form) (sym (ap written_of is) ∙ view) (subst IsEngine is inv)
+
+pub passes_are : (m : Engine) (v : WrittenExpression) (p q : Passes) → written_of m ≡ v → written_of m ≡ q.sought.prepared.arena.expr → p ≡ q → p.sought.prepared.arena.expr ≡ v
+passes_are m v p q view is same = ap (λ (x : Passes). x.sought.prepared.arena.expr) same ∙ sym is ∙ view
 
 pub written_is : (m : Engine) (v e : WrittenExpression) (form : DirectForm) → written_of m ≡ v → m ≡ Direct e form → e ≡ v
 written_is m v e form view is = sym (ap written_of is) ∙ view

@@ -25,7 +25,7 @@ use Rattle.sedpass.proofs.TableLemmas.{roomy_fewer, roomy_still}
 use Rattle.sedpass.specs.Search.{search_cost}
 use Rattle.sedtext.specs.Words.{row_of}
 use Rattle.std.specs.Prelude.{vec_capacity}
-use Rattle.sedmatch.proofs.PassLemmas.{blocks_suffice}
+use Rattle.sedmatch.proofs.PassLemmas.{blocks_fit, blocks_suffice}
 use Rattle.sedmatch.specs.declared.occurrences.BackTables.{BackTables}
 use Rattle.sedmatch.specs.declared.occurrences.Occurrences.{Occurrences}
 use Rattle.sedmatch.specs.Passes.{back_way}
@@ -171,13 +171,6 @@ space_by k k' is = subst (SameSpace k) (sym is) (space_refl k)
 -- an expression's own table has some states
 pub own_states : (p : Prepared) (x : ℕ) (b : BackTables) → HasOwn x p.arena.expr b → (k : ℕ) (t : Table) → slice_get b.slots.items x ≡ Some k → 0 < k → slice_get b.all.items k ≡ Some t → (2 ≤ t.room) × (t.room ≤ 65535)
 own_states p x b has k t at some there = let table = ((has.1 k at some).1 t there).1 p refl in (table.room.some, table.room.few)
-
-blocks_fit : (b w n e : ℕ) → b * w ≤ n → n < e / 2 * w → 2 * b + 1 < e
-blocks_fit b w n e low enough =
-    ⊎_elim
-    (λ (lt : b < e / 2). omega (arith, lt))
-    (λ (ge : e / 2 ≤ b). let more = mul-le-mul_left w ge in absurd (omega (arith, more, low, enough)))
-    (cases_lt b (e / 2))
 
 module _ (p : Prepared) (n : ℕ) (o : Occurrences) (b : BackTables) (k : ℕ) (room : RoomAt n o.number p.arena.expr o)
     (own : 0 < k → slice_get o.tables.slots.items o.number ≡ Some k) (others : 0 < k → b ≡ o.tables) (first : k ≡ 0 → SetsTable p 0 o.tables b) where

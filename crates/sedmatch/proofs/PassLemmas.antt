@@ -1,5 +1,5 @@
 -- An expression that is searched by passes: what they tell of a text, its tables, and the room for them.
-use Rattle.std.proofs.Common.{◌≡◌, ◌∙◌, ℕ, ◌+◌, ◌-◌, ◌*◌, ◌/◌, ◌<◌, ◌≤◌, ◌↔◌, [], List, length, vec_capacity, Bool, Option, Some, IsTrue, refl, sym, subst, ⊎_elim, arith}
+use Rattle.std.proofs.Common.{◌≡◌, ◌∙◌, ℕ, ◌+◌, ◌-◌, ◌*◌, ◌/◌, ◌<◌, ◌≤◌, ◌↔◌, [], List, length, vec_capacity, Bool, Option, Some, IsTrue, refl, sym, ap, subst, ⊎_elim, arith, mul-le-mul_left}
 use Rattle.std.specs.Prelude.{slice_set}
 use Rattle.std.proofs.lemmas.Bool.{cases_lt}
 use Rattle.std.proofs.Math.Nat.{lt-div-mul-add}
@@ -11,20 +11,21 @@ use Rattle.sedtext.specs.Groups.{no_groups}
 use Rattle.sedtext.specs.Spans.{SomeFound, Matches}
 use Rattle.sedtext.proofs.GroupLemmas.{Captures-none, no_groups_at}
 use Rattle.sedtext.specs.Needed.{Narrowed}
-use Rattle.sedpass.specs.Decide.{AreGroupTables, AreRoomy, HasDesk, HasSpace, SameRooms, SameTables}
-use Rattle.sedpass.specs.Kept.{SameSpace}
+use Rattle.sedpass.specs.Decide.{AreGroupTables, AreRoomy, HasDesk, HasSpace, SameRooms}
+use Rattle.sedpass.specs.Kept.{KeptRoom, SameSpace}
 use Rattle.sedpass.specs.Walks.{EntersGroups}
 use Rattle.sedpass.specs.Table.{IsRoomy, IsTable, SameRoom, SameShape}
 use Rattle.sedpass.specs.declared.groups.GroupRoom.{GroupRoom}
 use Rattle.sedpass.specs.declared.groups.GroupTables.{GroupTables}
+use Rattle.sedpass.specs.declared.kept.Kept.{Kept}
 use Rattle.sedpass.specs.declared.kept.Subject.{Subject}
 use Rattle.sedpass.specs.declared.nodes.Prepared.{Prepared}
 use Rattle.sedpass.specs.declared.rows.Work.{Work}
 use Rattle.sedpass.specs.declared.table.Table.{Table}
-use Rattle.sedpass.proofs.DecideLemmas.{has_desk, roomy_again, space_again}
+use Rattle.sedpass.proofs.DecideLemmas.{has_desk, space_again}
 use Rattle.sedpass.proofs.TableLemmas.{roomy_fewer, roomy_still}
 use Rattle.sedpass.proofs.WalkLemmas.{enters_nothing}
-use Rattle.sedmatch.specs.Passes.{AreOwn, IsDesk, any_way}
+use Rattle.sedmatch.specs.Passes.{AreOwn, IsDesk, IsRoomyWay, KeepsDesk, any_way, back_way}
 use Rattle.sedmatch.specs.declared.passes.OwnTables.{OwnTables}
 use Rattle.sedmatch.specs.declared.scratch.Desk.{Desk}
 
@@ -68,15 +69,16 @@ there_own p own t is are = subst (AreOwn p) is are
 -- The desk.
 
 -- room that was made
-pub desk_made : (text nodes block : ℕ) (room : GroupRoom) (any : Table) (shared : GroupTables) → HasSpace text (text / block + 1) nodes room → IsRoomy nodes any → any.way ≡ any_way →
-    AreRoomy nodes shared → shared.inside.room ≡ block + 1 → text / block + 1 ≤ 32768 →
-    IsDesk (record { room = room; any = any; shared = shared; max_text = text; max_nodes = nodes })
-desk_made text nodes block room any shared space sweep way roomy states few =
+pub desk_made : (text nodes block : ℕ) (room : GroupRoom) (any back : Table) (shared : GroupTables) → HasSpace text (text / block + 1) nodes room → IsRoomyWay any_way nodes any → IsRoomyWay back_way nodes back →
+    AreRoomy nodes shared → shared.inside.room ≡ block + 1 → back.room ≡ block + 1 → text / block + 1 ≤ 32768 →
+    IsDesk (record { room = room; any = any; back = back; shared = shared; max_text = text; max_nodes = nodes })
+desk_made text nodes block room any back shared space sweep keeps roomy states rows few =
     let width : shared.inside.room - 1 ≡ block = omega (arith, states) in
     record {
       space = subst (λ v. HasSpace text (text / v + 1) nodes room) (sym width) space;
       any = sweep;
-      any_way = way;
+      back = keeps;
+      states = rows ∙ sym states;
       shared = roomy;
       few = (let e = space.edges in omega (arith, e, few));
     }
@@ -90,7 +92,7 @@ shared_serves m d is few = record {
 }
 
 pub any_serves : (m : ℕ) (d : Desk) → IsDesk d → m ≤ d.max_nodes → IsRoomy m d.any
-any_serves m d is few = roomy_fewer m d.max_nodes d.any few is.any
+any_serves m d is few = roomy_fewer m d.max_nodes d.any few is.any.0
 
 halves : (edges blocks : ℕ) → edges ≡ 2 * blocks → edges / 2 ≡ blocks
 halves edges blocks is = omega (arith, is)
@@ -111,6 +113,31 @@ blocks_suffice text room some =
     let within : text < text / w * w + w = lt-div-mul-add one in
     omega (arith, within)
 
+pub blocks_fit : (b w n e : ℕ) → b * w ≤ n → n < e / 2 * w → 2 * b + 1 < e
+blocks_fit b w n e low enough =
+    ⊎_elim
+    (λ (lt : b < e / 2). omega (arith, lt))
+    (λ (ge : e / 2 ≤ b). let more = mul-le-mul_left w ge in absurd (omega (arith, more, low, enough)))
+    (cases_lt b (e / 2))
+
+-- a pass from the text's end can be made, by the table fitted to the expression
+pub desk_keeps : (d : Desk) (p : Prepared) (back : Table) (m n : ℕ) → IsDesk d → IsTable p back → SameRoom d.back back → n ≤ d.max_text → m ≤ d.max_nodes → KeptRoom m n back d.room.kept
+desk_keeps d p back m n is table same short few =
+    let way = same.0 ∙ is.back.1 in
+    let room : back.room ≡ d.shared.inside.room = same.1 ∙ is.states in
+    let width = d.shared.inside.room - 1 in
+    let enough = blocks_suffice d.max_text d.shared.inside.room (subst (λ v. 2 ≤ v) room table.room.some) in
+    let half = halves (length d.room.kept.edges) (d.max_text / width + 1) is.space.edges in
+    record {
+      mirrored = ap (λ v. v.mirrored) way;
+      keeps = ap (λ v. v.keeps) way;
+      places = (let h = is.space.places in omega (arith, h, short));
+      blocks = λ b low.
+          let there = subst (λ v. b * (v - 1) ≤ n) room low in
+          blocks_fit b width d.max_text (length d.room.kept.edges) (omega (arith, there, short)) (subst (λ v. d.max_text < v * width) (sym half) enough);
+      marks = λ q low. (let h = is.space.marks q low in omega (arith, h, few));
+    }
+
 -- and those that serve all do, fitted to it
 pub shared_decides : (s : Subject) (fitted : GroupTables) (d : Desk) → AreGroupTables s.prepared.now fitted → SameRooms d.shared fitted → IsDesk d → length s.text.now ≤ d.max_text →
     length s.prepared.now.arena.expr.nodes ≤ d.max_nodes → HasDesk s fitted d.room.kept
@@ -121,50 +148,45 @@ shared_decides s fitted d tables fit is short few =
     let cut : length s.text.now < all * (d.shared.inside.room - 1) = omega (arith, short, enough) in
     has_desk s fitted d.room d.max_text all d.max_nodes tables is.space short (subst (λ v. length s.text.now < all * (v - 1)) (sym fit.inside.1) cut) few
 
--- where its tables were not used, all is there again
-pub room_again : (d : Desk) (room : GroupRoom) → IsDesk d → SameSpace d.room.kept room.kept → room.tasks.items ≡ [] → vec_capacity d.room.tasks ≤ vec_capacity room.tasks → IsDesk (record d { room = room })
-room_again d room is same none grows = record {
-  space = space_again d.max_text (d.max_text / (d.shared.inside.room - 1) + 1) d.max_nodes d.room room is.space same none grows;
-  any = is.any;
-  any_way = is.any_way;
-  shared = is.shared;
-  few = (let e = same.edges in let h = is.few in omega (arith, h, e));
+-- the table goes the same way, and has as much room for expressions of at most m nodes
+pub record IsAgain (m : ℕ) (old new : Table) : Type 0 where
+  pub roomy : IsRoomy m new
+  pub way : new.way ≡ old.way
+  pub room : new.room ≡ old.room
+
+pub untouched : (m : ℕ) (t : Table) → IsRoomy m t → IsAgain m t t
+untouched m t roomy = record { roomy = roomy; way = refl; room = refl }
+
+-- after it was fitted to an expression and served it
+pub used_again : (m : ℕ) (p : Prepared) (t fitted after : Table) → IsRoomy m t → SameRoom t fitted → SameShape fitted after → IsTable p after → IsAgain m t after
+used_again m p t fitted after roomy fit same table = record {
+  roomy = roomy_still m p t after roomy (same.0 ∙ fit.0, same.1 ∙ fit.1, same.3 ∙ fit.2, same.4 ∙ fit.3) table;
+  way = same.0 ∙ fit.0;
+  room = same.1 ∙ fit.1;
 }
 
--- and after an expression whose groups they decided
-pub groups_again : (d : Desk) (s : Subject) (fitted after : GroupTables) (room : GroupRoom) → IsDesk d → SameRooms d.shared fitted → SameTables fitted after → HasDesk s after room.kept →
-    SameSpace d.room.kept room.kept → room.tasks.items ≡ [] → vec_capacity d.room.tasks ≤ vec_capacity room.tasks →
-    IsDesk (record d { room = room; shared = after })
-groups_again d s fitted after room is fit used has same none grows =
-    let states : after.inside.room ≡ d.shared.inside.room = used.inside.1 ∙ fit.inside.1 in
-    record {
-      space = subst (λ v. HasSpace d.max_text (d.max_text / (v - 1) + 1) d.max_nodes room) (sym states)
-          (space_again d.max_text (d.max_text / (d.shared.inside.room - 1) + 1) d.max_nodes d.room room is.space same none grows);
-      any = is.any;
-      any_way = is.any_way;
-      shared = roomy_again d.max_nodes s d.shared fitted after room.kept is.shared fit used has;
-      few = (let e = same.edges in let h = is.few in omega (arith, h, e));
-    }
+-- other marks take none of the room
+pub worked : (kept : Kept) (work : Work) → SameSpace kept (record kept { work = work })
+worked kept work = record { places = refl; edges = refl; marks = λ q. refl }
 
--- the desk after a search: other marks, and other tables of passes forwards
-abbrev searched : Desk → Work → Table → Table → Desk
-searched d work any ahead = record d { room = record d.room { kept = record d.room.kept { work = work } }; any = any; shared = record d.shared { ahead = ahead } }
-
-pub table_again : (m : ℕ) (p : Prepared) (t fitted after : Table) → IsRoomy m t → SameRoom t fitted → SameShape fitted after → IsTable p after → IsRoomy m after
-table_again m p t fitted after roomy fit same table =
-    roomy_still m p t after roomy (same.0 ∙ fit.0, same.1 ∙ fit.1, same.3 ∙ fit.2, same.4 ∙ fit.3) table
-
--- and after an expression that was searched by the tables that serve all
-pub search_again : (d : Desk) (p : Prepared) (work : Work) (any any' ahead ahead' : Table) → IsDesk d → SameRoom d.any any → SameShape any any' → IsTable p any' →
-    SameRoom d.shared.ahead ahead → SameShape ahead ahead' → IsTable p ahead' → IsDesk (searched d work any' ahead')
-search_again d p work any any' ahead ahead' is fit same table fit_ahead same_ahead table_ahead = record {
-  space = record { places = is.space.places; edges = is.space.edges; marks = is.space.marks; none = is.space.none; tasks = is.space.tasks };
-  any = table_again d.max_nodes p d.any any any' is.any fit same table;
-  any_way = same.0 ∙ fit.0 ∙ is.any_way;
-  shared = record {
-    ways = record { inside = is.shared.ways.inside; ahead = same_ahead.0 ∙ fit_ahead.0 ∙ is.shared.ways.ahead };
-    inside = is.shared.inside;
-    ahead = table_again d.max_nodes p d.shared.ahead ahead ahead' is.shared.ahead fit_ahead same_ahead table_ahead;
-  };
-  few = is.few;
-}
+-- the desk after a search, or after groups were decided
+pub desk_again : (d : Desk) (room : GroupRoom) (any back : Table) (shared : GroupTables) → IsDesk d → SameSpace d.room.kept room.kept → room.tasks.items ≡ [] → vec_capacity d.room.tasks ≤ vec_capacity room.tasks →
+    IsAgain d.max_nodes d.any any → IsAgain d.max_nodes d.back back → IsAgain d.max_nodes d.shared.inside shared.inside → IsAgain d.max_nodes d.shared.ahead shared.ahead →
+    KeepsDesk d (record d { room = room; any = any; back = back; shared = shared })
+desk_again d room any back shared is same none grows sweeps keeps inside ahead = (
+  record {
+    space = subst (λ v. HasSpace d.max_text (d.max_text / (v - 1) + 1) d.max_nodes room) (sym inside.room)
+        (space_again d.max_text (d.max_text / (d.shared.inside.room - 1) + 1) d.max_nodes d.room room is.space same none grows);
+    any = (sweeps.roomy, sweeps.way ∙ is.any.1);
+    back = (keeps.roomy, keeps.way ∙ is.back.1);
+    states = keeps.room ∙ is.states ∙ sym inside.room;
+    shared = record {
+      ways = record { inside = inside.way ∙ is.shared.ways.inside; ahead = ahead.way ∙ is.shared.ways.ahead };
+      inside = inside.roomy;
+      ahead = ahead.roomy;
+    };
+    few = (let e = same.edges in let h = is.few in omega (arith, h, e));
+  },
+  refl,
+  refl,
+)

@@ -1,6 +1,6 @@
 -- Private to the proofs: no contract of a public item cites what stands here.
 -- An expression that is searched by passes, with its tables, and the room for passes.
-use Rattle.std.specs.Prelude.{◌≡◌, ◌+◌, ◌-◌, ◌/◌, ◌≤◌, true, false, length, vec_capacity, Option, Some, None}
+use Rattle.std.specs.Prelude.{◌≡◌, ℕ, ◌+◌, ◌-◌, ◌/◌, ◌≤◌, true, false, length, vec_capacity, Option, Some, None}
 use Rattle.sedre.specs.Tree.{WrittenExpression, expression_tree}
 use Rattle.sedtext.specs.Beginnings.{AllBegin}
 use Rattle.sedtext.specs.Hints.{AreHints}
@@ -8,12 +8,12 @@ use Rattle.sedpass.specs.Decide.{AreGroupTables, AreRoomy, HasSpace}
 use Rattle.sedpass.specs.Table.{IsRoomy, IsTable}
 use Rattle.sedpass.specs.declared.nodes.Prepared.{Prepared}
 use Rattle.sedpass.specs.declared.rows.Way.{Way}
+use Rattle.sedpass.specs.declared.table.Table.{Table}
 use Rattle.sedmatch.specs.Direct.{IsDirect}
 use Rattle.sedmatch.specs.declared.passes.OwnTables.{OwnTables}
 use Rattle.sedmatch.specs.declared.passes.Passes.{Passes}
 use Rattle.sedmatch.specs.declared.passes.Sought.{Sought}
 use Rattle.sedmatch.specs.declared.scratch.Desk.{Desk}
-use Rattle.sedmatch.specs.declared.scratch.Once.{Once}
 use Rattle.sedmatch.specs.declared.table_matcher.Engine.{Engine}
 use Rattle.sedmatch.specs.declared.table_matcher.Engine.TheVariants.{Direct, Passes as ByPasses}
 
@@ -48,23 +48,24 @@ abbrev pub IsEngine : Engine → Type 0
 IsEngine (Direct e form) = IsDirect e form
 IsEngine (ByPasses p) = ArePasses p.value.sought.prepared.arena.expr p.value
 
+-- the table goes this way, and has room for expressions of at most m nodes
+abbrev pub IsRoomyWay : Way → ℕ → Table → Type 0
+IsRoomyWay way m t = IsRoomy m t × (t.way ≡ way)
+
 -- Passes can be made there over texts of at most `max_text` bytes, for expressions of at most `max_nodes` nodes, by the tables that
 -- serve all.
 pub record IsDesk (d : Desk) : Type 0 where
   pub space : HasSpace d.max_text (d.max_text / (d.shared.inside.room - 1) + 1) d.max_nodes d.room
-  pub any : IsRoomy d.max_nodes d.any
-  pub any_way : d.any.way ≡ any_way
+  pub any : IsRoomyWay any_way d.max_nodes d.any
+  pub back : IsRoomyWay back_way d.max_nodes d.back
+  pub states : d.back.room ≡ d.shared.inside.room
   pub shared : AreRoomy d.max_nodes d.shared
   pub few : length d.room.kept.edges ≤ 65536
 
--- an expression can be made ready there, and passes from the text's end be made, in the same texts
-pub record IsOnce (d : Desk) (o : Once) : Type 0 where
-  pub nodes : d.max_nodes ≤ o.prepared.arena.room
-  pub facts : d.max_nodes ≤ vec_capacity o.prepared.facts
-  pub back : IsRoomy d.max_nodes o.back
-  pub way : o.back.way ≡ back_way
-  pub room : o.back.room ≡ d.shared.inside.room
+-- they still can, for the same texts and expressions
+abbrev pub KeepsDesk : Desk → Desk → Type 0
+KeepsDesk old new = IsDesk new × (new.max_text ≡ old.max_text) × (new.max_nodes ≡ old.max_nodes)
 
--- it is for the same texts and expressions
-abbrev pub SameDesk : Desk → Desk → Type 0
-SameDesk old new = (new.max_text ≡ old.max_text) × (new.max_nodes ≡ old.max_nodes) × (new.shared.inside.room ≡ old.shared.inside.room)
+-- an expression of at most m nodes can be made ready there
+abbrev pub Prepares : ℕ → Prepared → Type 0
+Prepares m p = (m ≤ p.arena.room) × (m ≤ vec_capacity p.facts)

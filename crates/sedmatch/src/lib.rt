@@ -13,7 +13,6 @@
 //! All of them work in the room of a [`Scratch`], and take no memory.
 #![tactic(auto)]
 
-mod candidates;
 mod direct;
 mod occurrences;
 mod passes;

@@ -1,11 +1,12 @@
 //! An expression that is searched by passes: what is found out of it once, its tables, and what they tell of a text.
 ghost use Rattle.std.specs.Prelude.{◌≡◌, ℕ, List, ◌+◌, ◌-◌, ◌*◌, ◌/◌, ◌<◌, ◌≤◌, ◌↔◌, [], length, vec_capacity, IfOk, IfSome, IsTrue};
 ghost use Rattle.sedre.specs.Arena.{IsExpr};
-ghost use Rattle.sedre.specs.Tree.{WrittenExpression, expression_tree};
+ghost use Rattle.sedre.specs.Tree.{Tree, WrittenExpression, expression_tree};
 ghost use Rattle.sedre.specs.Steps.{Takes, TakesAtLeast};
 ghost use Rattle.sedtext.specs.Beginnings.{AllBegin};
 ghost use Rattle.sedtext.specs.declared.beginnings.Begins.TheVariants.{AtStart};
 ghost use Rattle.sedtext.specs.Following.{PassesOver};
+ghost use Rattle.sedtext.specs.Needed.{IsNeeded};
 ghost use Rattle.sedpass.specs.Find.{IsSweep};
 ghost use Rattle.sedpass.specs.Walks.{EntersGroups};
 ghost use Rattle.sedpass.specs.Table.{IsAhead, SameShape};
@@ -13,7 +14,8 @@ ghost use Rattle.sedtext.specs.Caps.{IsReport};
 ghost use Rattle.sedtext.specs.Spans.{SomeFound, Matches};
 ghost use Rattle.sedpass.specs.Decide.{HasDesk, SameTables, found};
 ghost use Rattle.sedpass.specs.Kept.{SameSpace};
-ghost use Rattle.sedmatch.specs.Passes.{AreOwn, ArePasses, IsDesk, IsSought, SameDesk};
+ghost use Rattle.sedmatch.specs.Candidates.{NoMatchBefore};
+ghost use Rattle.sedmatch.specs.Passes.{AreOwn, ArePasses, IsDesk, IsSought, KeepsDesk};
 
 use crate::scratch::Desk;
 use crate::table_room::TableRoom;
@@ -26,7 +28,9 @@ use sedpass::table::Table;
 use sedre::{Expr, Steps};
 use sedtext::beginnings::{Begins, how_begins};
 use sedtext::counted::Text;
+use sedtext::counted::lookups::find_literal;
 use sedtext::hints::{Hints, find_hints};
+use sedtext::needed::RequiredLiteral;
 use std::alloc::{AllocError, Global};
 
 /// What is found out of an expression once.
@@ -206,6 +210,23 @@ fn matches_with(
     }
 }
 
+/// A place of a text of many lines before which none has a match that holds the literal, or None where no line has one. A line is
+/// matched as a text of its own, and has no match where it ends before the literal's first place.
+pub fn needed_candidate(
+    needed: &Option<RequiredLiteral>,
+    text: &Text,
+    steps: &mut Steps,
+) -> Option<usize>
+    ensures before { (e : Tree) → IsNeeded e needed.now → NoMatchBefore e text.now result }
+    ensures cost { Takes steps.old steps.new (25 * (length text.now + 1)) }
+    ensures counts { IfSome result (λ k. TakesAtLeast steps.old steps.new k) }
+{
+    match needed {
+        Some(needed) => find_literal(text, &needed.finder, 0, steps),
+        None => Some(0),
+    }
+}
+
 /// Whether any match begins at `from` or later.
 pub fn matches_by(
     passes: &mut Passes,
@@ -220,8 +241,7 @@ pub fn matches_by(
     requires few { length passes.old.sought.prepared.arena.expr.nodes ≤ desk.old.max_nodes }
     ensures same { passes.new.sought ≡ passes.old.sought }
     ensures own { AreOwn passes.new.sought.prepared passes.new.own }
-    ensures desk { IsDesk desk.new }
-    ensures most { SameDesk desk.old desk.new }
+    ensures desk { KeepsDesk desk.old desk.new }
     ensures matches { IsTrue result ↔ SomeFound (expression_tree passes.old.sought.prepared.arena.expr) text.now from }
     ensures passes { IsTrue result → PassesOver (expression_tree passes.old.sought.prepared.arena.expr) text.now from steps.old steps.new }
     ensures cost { Takes steps.old steps.new (44 * length passes.old.sought.prepared.arena.expr.nodes * (length text.now + 1)) }
@@ -241,7 +261,7 @@ pub fn matches_by(
     matches_with(sought, text, &mut desk.any, ahead, start, work, steps)
 }
 
-/// The groups of a match of an expression that has none.
+/// The groups of a match of an expression without groups.
 pub fn whole_alone(span: (usize, usize)) -> [Option<(usize, usize)>; 10]
     ensures report { (e : WrittenExpression) (w : List ℕ) → IsExpr e.nodes e.groups → e.groups ≡ 0 → Matches (expression_tree e) w span.0 span.1 → IsReport (expression_tree e) w span.0 span.1 result }
     ensures one { found result ≡ 1 }
@@ -282,11 +302,15 @@ fn groups_with(
     ensures none { room.new.tasks.items ≡ [] }
     ensures tasks { vec_capacity room.old.tasks ≤ vec_capacity room.new.tasks }
     ensures report { IsReport (expression_tree subject.entry.prepared.now.arena.expr) subject.entry.text.now span.0 span.1 result }
+    ensures none_cost { subject.entry.prepared.now.arena.expr.groups ≡ 0 → steps.new ≡ steps.old }
     ensures cost { let m = length subject.entry.prepared.now.arena.expr.nodes in
         Takes steps.old steps.new (172 * m * (m - 1) * (span.1 - span.0) + 2 * m) }
     ensures counts { TakesAtLeast steps.old steps.new (found result - 1) }
     ensures entered { EntersGroups (expression_tree subject.entry.prepared.now.arena.expr) subject.entry.text.now span.0 span.1 steps.old steps.new }
 {
+    if subject.prepared.arena.groups() == 0 {
+        return whole_alone(span);
+    }
     let due = all_groups(subject.prepared);
     decide(subject, tables, room, due, span.0, span.1, steps)
 }
@@ -304,8 +328,7 @@ pub fn shared_groups(
     requires desk { IsDesk desk.old }
     requires short { length subject.text.now ≤ desk.old.max_text }
     requires few { length subject.prepared.now.arena.expr.nodes ≤ desk.old.max_nodes }
-    ensures desk { IsDesk desk.new }
-    ensures most { SameDesk desk.old desk.new }
+    ensures desk { KeepsDesk desk.old desk.new }
     ensures report { IsReport (expression_tree subject.entry.prepared.now.arena.expr) subject.entry.text.now span.0 span.1 result }
     ensures none_cost { subject.entry.prepared.now.arena.expr.groups ≡ 0 → steps.new ≡ steps.old }
     ensures cost { let m = length subject.entry.prepared.now.arena.expr.nodes in
@@ -313,9 +336,6 @@ pub fn shared_groups(
     ensures counts { TakesAtLeast steps.old steps.new (found result - 1) }
     ensures entered { EntersGroups (expression_tree subject.entry.prepared.now.arena.expr) subject.entry.text.now span.0 span.1 steps.old steps.new }
 {
-    if subject.prepared.arena.groups() == 0 {
-        return whole_alone(span);
-    }
     desk.shared.fit(subject.prepared);
     groups_with(subject, &mut desk.shared, span, &mut desk.room, steps)
 }
@@ -337,8 +357,7 @@ pub fn groups_by(
     requires few { length passes.old.sought.prepared.arena.expr.nodes ≤ desk.old.max_nodes }
     ensures same { passes.new.sought ≡ passes.old.sought }
     ensures own { AreOwn passes.new.sought.prepared passes.new.own }
-    ensures desk { IsDesk desk.new }
-    ensures most { SameDesk desk.old desk.new }
+    ensures desk { KeepsDesk desk.old desk.new }
     ensures report { IsReport (expression_tree passes.old.sought.prepared.arena.expr) text.now span.0 span.1 result }
     ensures none_cost { passes.old.sought.prepared.arena.expr.groups ≡ 0 → steps.new ≡ steps.old }
     ensures cost { let m = length passes.old.sought.prepared.arena.expr.nodes in
@@ -346,9 +365,6 @@ pub fn groups_by(
     ensures counts { TakesAtLeast steps.old steps.new (found result - 1) }
     ensures entered { EntersGroups (expression_tree passes.old.sought.prepared.arena.expr) text.now span.0 span.1 steps.old steps.new }
 {
-    if passes.sought.prepared.arena.groups() == 0 {
-        return whole_alone(span);
-    }
     let subject = Subject {
         prepared: &passes.sought.prepared,
         text: &*text,

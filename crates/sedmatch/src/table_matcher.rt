@@ -1,5 +1,5 @@
 //! An expression that is sought many times.
-ghost use Rattle.std.specs.Prelude.{◌≡◌, ℕ, ◌+◌, ◌-◌, ◌*◌, ◌<◌, ◌≤◌, ◌↔◌, length, IfOk, IfSome, IsTrue, is_some, nat_lt, if◌then◌else◌, None, List};
+ghost use Rattle.std.specs.Prelude.{◌≡◌, ℕ, ◌+◌, ◌-◌, ◌*◌, ◌<◌, ◌≤◌, ◌↔◌, length, IfOk, IfSome, IsTrue, is_some, nat_lt, if◌then◌else◌, None};
 ghost use Rattle.std.specs.Option.{unwrap_or};
 ghost use Rattle.sedre.specs.Tree.{WrittenExpression, expression_tree};
 ghost use Rattle.sedre.specs.Steps.{Takes, TakesAtLeast};
@@ -16,14 +16,13 @@ ghost use Rattle.sedpass.specs.Occurrences.{SearchTakes};
 ghost use Rattle.sedpass.specs.Walks.{EntersGroups};
 ghost use Rattle.sedmatch.specs.Direct.{IsDirect, end_or, rate};
 ghost use Rattle.sedmatch.specs.Occurrences.{Serves, ServesOn, owed, owed_after, owed_direct, owed_direct_after};
-ghost use Rattle.sedmatch.specs.Passes.{AreOwn, ArePasses, IsDesk, SameDesk};
+ghost use Rattle.sedmatch.specs.Passes.{AreOwn, ArePasses, IsDesk, KeepsDesk};
 
-use crate::candidates::needed_candidate;
 use crate::direct::{
     DirectForm, direct_candidate, direct_form_of, direct_matches, direct_span, is_expression,
 };
 use crate::occurrences::{Occurrences, next_by};
-use crate::passes::{Passes, groups_by, matches_by, new_passes, whole_alone};
+use crate::passes::{Passes, groups_by, matches_by, needed_candidate, new_passes, whole_alone};
 use crate::scratch::{Desk, Scratch};
 use crate::table_room::TableRoom;
 use sedpass::nodes::Prepared;
@@ -123,8 +122,7 @@ fn next_by_passes(
     requires serves { Serves passes.old.sought.prepared.arena.expr text.now last occurrences.old }
     ensures same { passes.new.sought ≡ passes.old.sought }
     ensures own { AreOwn passes.new.sought.prepared passes.new.own }
-    ensures desk { IsDesk desk.new }
-    ensures most { SameDesk desk.old desk.new }
+    ensures desk { KeepsDesk desk.old desk.new }
     ensures next { result ≡ next_span (found (expression_tree passes.old.sought.prepared.arena.expr) text.now) (length text.now) last }
     ensures occurs { IfSome result (Occurs (expression_tree passes.old.sought.prepared.arena.expr) text.now last) }
     ensures serves { ServesOn passes.old.sought.prepared.arena.expr text.now result occurrences.old occurrences.new }

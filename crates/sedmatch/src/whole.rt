@@ -5,10 +5,10 @@ ghost use Rattle.sedtext.specs.Answer.{IsComputed, MatchAnswer, SpanAnswer};
 ghost use Rattle.sedtext.specs.SearchRoom.{FitInto};
 ghost use Rattle.sedre.specs.Steps.{StepsWithin, Takes, TakesAtLeast};
 ghost use Rattle.sedpass.specs.Walks.{EntersGroups};
-ghost use Rattle.sedmatch.specs.Passes.{IsDesk, IsOnce, SameDesk};
+ghost use Rattle.sedmatch.specs.Passes.{IsDesk, KeepsDesk};
 
 use crate::passes::shared_groups;
-use crate::scratch::{Desk, Once, Scratch};
+use crate::scratch::{Desk, Scratch};
 use sedpass::kept::Subject;
 use sedpass::search::next_begun;
 use sedre::{Expr, Steps};
@@ -16,35 +16,26 @@ use sedtext::{Found, Text};
 
 /// Where the match begins and ends that [`find`] finds, of an expression that was made ready.
 fn first_span(
-    once: &mut Once,
-    text: &Text,
+    subject: Subject,
     from: usize,
     desk: &mut Desk,
     steps: &mut Steps,
 ) -> Option<(usize, usize)>
-    requires from { from ≤ length text.now }
+    requires from { from ≤ length subject.text.now }
     requires desk { IsDesk desk.old }
-    requires once { IsOnce desk.old once.old }
-    requires short { length text.now ≤ desk.old.max_text }
-    requires few { length once.old.prepared.arena.expr.nodes ≤ desk.old.max_nodes }
-    ensures prepared { once.new.prepared ≡ once.old.prepared }
-    ensures desk { IsDesk desk.new }
-    ensures once { IsOnce desk.new once.new }
-    ensures same { SameDesk desk.old desk.new }
-    ensures answer { SpanAnswer (expression_tree once.old.prepared.arena.expr) text.now from result }
-    ensures cost { let m = length once.old.prepared.arena.expr.nodes in
-        Takes steps.old steps.new (142 * m * length text.now + 42 * m) }
+    requires short { length subject.text.now ≤ desk.old.max_text }
+    requires few { length subject.prepared.now.arena.expr.nodes ≤ desk.old.max_nodes }
+    ensures desk { KeepsDesk desk.old desk.new }
+    ensures answer { SpanAnswer (expression_tree subject.entry.prepared.now.arena.expr) subject.entry.text.now from result }
+    ensures cost { let m = length subject.entry.prepared.now.arena.expr.nodes in
+        Takes steps.old steps.new (142 * m * length subject.entry.text.now + 42 * m) }
     ensures counts { IfSome result (λ f. TakesAtLeast steps.old steps.new (f.1 - f.0)) }
 {
-    desk.shared.ahead.fit(&once.prepared);
-    once.back.fit(&once.prepared);
-    let subject = Subject {
-        prepared: &once.prepared,
-        text,
-    };
+    desk.shared.ahead.fit(subject.prepared);
+    desk.back.fit(subject.prepared);
     let ahead = &mut desk.shared.ahead;
     let kept = &mut desk.room.kept;
-    next_begun(subject, ahead, &mut once.back, kept, from, steps)
+    next_begun(subject, ahead, &mut desk.back, kept, from, steps)
 }
 
 /// The leftmost-longest match that begins at `from` or later, with its groups. `None` exactly where there is no match.
@@ -75,12 +66,12 @@ pub fn find(
     ensures counts { IfSome result (λ f. TakesAtLeast steps.old steps.new (f.end - f.start)) }
     ensures entered { IfSome result (λ f. EntersGroups (expression_tree expr.now) text.now f.start f.end steps.old steps.new) }
 {
-    scratch.once.prepared.fit(expr, steps);
-    let span = first_span(&mut scratch.once, text, from, &mut scratch.desk, steps)?;
+    scratch.prepared.fit(expr, steps);
     let subject = Subject {
-        prepared: &scratch.once.prepared,
+        prepared: &scratch.prepared,
         text,
     };
+    let span = first_span(subject, from, &mut scratch.desk, steps)?;
     let groups = shared_groups(subject, span, &mut scratch.desk, steps);
     Some(Found {
         start: span.0,

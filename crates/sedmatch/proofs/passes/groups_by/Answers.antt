@@ -1,9 +1,5 @@
-use Rattle.std.proofs.Common.{◌∙◌, sym}
-use Rattle.sedmatch.proofs.PassLemmas.{one_alone, own_decides, room_again, there_own}
+use Rattle.sedmatch.proofs.PassLemmas.{desk_again, own_decides, there_own, untouched}
 use Rattle.sedmatch.proofs.passes.groups_by.Goals as goal
-
-pub returns-then-groups-eq0-clause-counts : goal.returns-then-groups-eq0-clause-counts
-returns-then-groups-eq0-clause-counts c = one_alone c.args.steps.now _ c.whole_alone.ensures.one
 
 pub groups_with-requires-clause-desk : goal.groups_with-requires-clause-desk
 groups_with-requires-clause-desk c =
@@ -12,7 +8,8 @@ groups_with-requires-clause-desk c =
 
 pub returns-then-has_blocks-clause-desk : goal.returns-then-has_blocks-clause-desk
 returns-then-has_blocks-clause-desk c =
-    room_again c.args.desk.now c.groups_with.new.room c.requires.desk c.groups_with.ensures.space c.groups_with.ensures.none c.groups_with.ensures.tasks
-
-pub returns-then-groups-eq0-clause-entered : goal.returns-then-groups-eq0-clause-entered
-returns-then-groups-eq0-clause-entered c = c.whole_alone.ensures.entered c.args.passes.now.sought.prepared.arena.expr _ _ c.groups.ensures.expr (sym c.groups.ensures.value ∙ c.if-groups-eq0.true)
+    let d = c.args.desk.now in
+    let is = c.requires.desk in
+    let done = c.groups_with.ensures in
+    desk_again d c.groups_with.new.room d.any d.back d.shared is done.space done.none done.tasks (untouched d.max_nodes d.any is.any.0) (untouched d.max_nodes d.back is.back.0)
+    (untouched d.max_nodes d.shared.inside is.shared.inside) (untouched d.max_nodes d.shared.ahead is.shared.ahead)

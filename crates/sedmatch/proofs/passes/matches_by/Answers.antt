@@ -1,7 +1,7 @@
-use Rattle.std.proofs.Common.{length}
+use Rattle.std.proofs.Common.{length, arith}
 use Rattle.sedre.specs.Tree.{expression_tree}
 use Rattle.sedpass.proofs.CountLemmas.{passes_later}
-use Rattle.sedmatch.proofs.PassLemmas.{any_serves, matches_past, search_again}
+use Rattle.sedmatch.proofs.PassLemmas.{any_serves, desk_again, matches_past, untouched, used_again, worked}
 use Rattle.sedmatch.proofs.passes.matches_by.Goals as goal
 
 pub matches_with-requires-clause-from : goal.matches_with-requires-clause-from
@@ -20,8 +20,14 @@ matches_with-requires-2-clause-from c = (c.in-Some.ensures.place (expression_tre
 
 pub returns-clause-desk : goal.returns-clause-desk
 returns-clause-desk c =
-    search_again c.args.desk.now c.args.passes.now.sought.prepared c.matches_with-2.new.work c.fit.new.self c.matches_with-2.new.any c.fit-2.new.self c.matches_with-2.new.ahead c.requires.desk
-    c.fit.ensures.room c.matches_with-2.ensures.any_shape c.matches_with-2.ensures.any.table c.fit-2.ensures.room c.matches_with-2.ensures.ahead_shape c.matches_with-2.ensures.ahead.table
+    let d = c.args.desk.now in
+    let p = c.args.passes.now.sought.prepared in
+    let is = c.requires.desk in
+    let new = c.matches_with-2.new in
+    let done = c.matches_with-2.ensures in
+    desk_again d (record d.room { kept = record d.room.kept { work = new.work } }) new.any d.back (record d.shared { ahead = new.ahead }) is (worked d.room.kept new.work) is.space.none (omega arith)
+    (used_again d.max_nodes p d.any c.fit.new.self new.any is.any.0 c.fit.ensures.room done.any_shape done.any.table) (untouched d.max_nodes d.back is.back.0) (untouched d.max_nodes d.shared.inside is.shared.inside)
+    (used_again d.max_nodes p d.shared.ahead c.fit-2.new.self new.ahead is.shared.ahead c.fit-2.ensures.room done.ahead_shape done.ahead.table)
 
 pub returns-clause-matches : goal.returns-clause-matches
 returns-clause-matches c =

@@ -1,9 +1,6 @@
-use Rattle.std.proofs.Common.{◌∙◌, length, sym}
-use Rattle.sedmatch.proofs.PassLemmas.{groups_again, one_alone, shared_decides, shared_serves}
+use Rattle.std.proofs.Common.{length}
+use Rattle.sedmatch.proofs.PassLemmas.{desk_again, shared_decides, shared_serves, untouched, used_again}
 use Rattle.sedmatch.proofs.passes.shared_groups.Goals as goal
-
-pub returns-then-groups-eq0-clause-counts : goal.returns-then-groups-eq0-clause-counts
-returns-then-groups-eq0-clause-counts c = one_alone c.args.steps.now _ c.whole_alone.ensures.one
 
 pub fit-requires : goal.fit-requires
 fit-requires c = record { roomy = shared_serves (length c.args.subject.prepared.now.arena.expr.nodes) c.args.desk.now c.requires.desk c.requires.few }
@@ -13,8 +10,12 @@ groups_with-requires-clause-desk c = shared_decides c.args.subject c.fit.new.sel
 
 pub returns-clause-desk : goal.returns-clause-desk
 returns-clause-desk c =
-    groups_again c.args.desk.now c.args.subject c.fit.new.self c.groups_with.new.tables c.groups_with.new.room c.requires.desk c.fit.ensures.room c.groups_with.ensures.shape c.groups_with.ensures.desk
-    c.groups_with.ensures.space c.groups_with.ensures.none c.groups_with.ensures.tasks
-
-pub returns-then-groups-eq0-clause-entered : goal.returns-then-groups-eq0-clause-entered
-returns-then-groups-eq0-clause-entered c = c.whole_alone.ensures.entered c.args.subject.prepared.now.arena.expr _ _ c.groups.ensures.expr (sym c.groups.ensures.value ∙ c.if-groups-eq0.true)
+    let d = c.args.desk.now in
+    let p = c.args.subject.prepared.now in
+    let is = c.requires.desk in
+    let fit = c.fit.ensures.room in
+    let after = c.groups_with.new.tables in
+    let done = c.groups_with.ensures in
+    desk_again d c.groups_with.new.room d.any d.back after is done.space done.none done.tasks (untouched d.max_nodes d.any is.any.0) (untouched d.max_nodes d.back is.back.0)
+    (used_again d.max_nodes p d.shared.inside c.fit.new.self.inside after.inside is.shared.inside fit.inside done.shape.inside done.desk.inside)
+    (used_again d.max_nodes p d.shared.ahead c.fit.new.self.ahead after.ahead is.shared.ahead fit.ahead done.shape.ahead done.desk.ahead.table)

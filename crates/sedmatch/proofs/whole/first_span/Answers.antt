@@ -1,31 +1,33 @@
-use Rattle.std.proofs.Common.{length, refl}
+use Rattle.std.proofs.Common.{length, arith}
 use Rattle.sedre.specs.Tree.{expression_tree}
-use Rattle.sedmatch.specs.declared.scratch.Desk.{Desk}
-use Rattle.sedmatch.proofs.PassLemmas.{shared_serves}
-use Rattle.sedmatch.proofs.OnceLemmas.{looks_at_span, once_again, once_room, once_serves, span_again}
+use Rattle.sedpass.proofs.TableLemmas.{roomy_fewer}
+use Rattle.sedmatch.proofs.PassLemmas.{desk_again, desk_keeps, shared_serves, untouched, used_again}
+use Rattle.sedmatch.proofs.OnceLemmas.{looks_at_span}
 use Rattle.sedmatch.proofs.whole.first_span.Goals as goal
 
 pub fit-requires : goal.fit-requires
-fit-requires c = record { roomy = (shared_serves (length c.args.once.now.prepared.arena.expr.nodes) c.args.desk.now c.requires.desk c.requires.few).ahead }
+fit-requires c = record { roomy = (shared_serves (length c.args.subject.prepared.now.arena.expr.nodes) c.args.desk.now c.requires.desk c.requires.few).ahead }
 
 pub fit-requires-2 : goal.fit-requires-2
-fit-requires-2 c = record { roomy = once_serves (length c.args.once.now.prepared.arena.expr.nodes) c.args.desk.now c.args.once.now c.requires.once c.requires.few }
+fit-requires-2 c = record { roomy = roomy_fewer (length c.args.subject.prepared.now.arena.expr.nodes) c.args.desk.now.max_nodes c.args.desk.now.back c.requires.few c.requires.desk.back.0 }
 
 pub next_begun-requires-clause-room : goal.next_begun-requires-clause-room
 next_begun-requires-clause-room c =
-    once_room c.args.desk.now c.args.once.now c.args.once.now.prepared c.fit-2.new.self (length c.args.once.now.prepared.arena.expr.nodes) (length c.args.text.now) c.requires.desk c.requires.once c.fit-2.ensures.table c.fit-2.ensures.room c.requires.short c.requires.few
+    let p = c.args.subject.prepared.now in
+    desk_keeps c.args.desk.now p c.fit-2.new.self (length p.arena.expr.nodes) (length c.args.subject.text.now) c.requires.desk c.fit-2.ensures.table c.fit-2.ensures.room c.requires.short c.requires.few
 
 pub returns-clause-desk : goal.returns-clause-desk
 returns-clause-desk c =
-    span_again c.args.desk.now c.args.once.now.prepared c.next_begun.new.kept c.fit.new.self c.next_begun.new.ahead c.requires.desk c.next_begun.ensures.tables.space c.fit.ensures.room c.next_begun.ensures.tables.ahead_shape c.next_begun.ensures.tables.ahead.table
-
-pub returns-clause-once : goal.returns-clause-once
-returns-clause-once c =
     let d = c.args.desk.now in
-    let after : Desk = record d { room = record d.room { kept = c.next_begun.new.kept }; shared = record d.shared { ahead = c.next_begun.new.ahead } } in
-    once_again d after c.args.once.now c.args.once.now.prepared c.fit-2.new.self c.next_begun.new.back (refl, refl, refl) c.requires.once c.fit-2.ensures.room c.next_begun.ensures.tables.back_shape c.next_begun.ensures.next.kept.region.table
+    let p = c.args.subject.prepared.now in
+    let is = c.requires.desk in
+    let new = c.next_begun.new in
+    let tables = c.next_begun.ensures.tables in
+    desk_again d (record d.room { kept = new.kept }) d.any new.back (record d.shared { ahead = new.ahead }) is tables.space is.space.none (omega arith) (untouched d.max_nodes d.any is.any.0)
+    (used_again d.max_nodes p d.back c.fit-2.new.self new.back is.back.0 c.fit-2.ensures.room tables.back_shape c.next_begun.ensures.next.kept.region.table) (untouched d.max_nodes d.shared.inside is.shared.inside)
+    (used_again d.max_nodes p d.shared.ahead c.fit.new.self new.ahead is.shared.ahead c.fit.ensures.room tables.ahead_shape tables.ahead.table)
 
 pub returns-clause-counts : goal.returns-clause-counts
 returns-clause-counts c =
     let next = c.next_begun.ensures.next in
-    looks_at_span (expression_tree c.args.once.now.prepared.arena.expr) c.args.text.now c.args.from c.args.steps.now c.next_begun.new.steps c.next_begun.result next.answer next.counts
+    looks_at_span (expression_tree c.args.subject.prepared.now.arena.expr) c.args.subject.text.now c.args.from c.args.steps.now c.next_begun.new.steps c.next_begun.result next.answer next.counts

@@ -1,16 +1,10 @@
-use Rattle.std.proofs.Common.{◌≤◌, vec_capacity, sym, subst}
-use Rattle.sedpass.specs.Table.{IsRoomy}
+use Rattle.sedmatch.proofs.PassLemmas.{desk_made}
 use Rattle.sedmatch.proofs.scratch.Scratch.new.Goals as goal
 
 pub invariant_of-result : goal.invariant_of-result
 invariant_of-result c =
-    let nodes = sym c.in_ok-desk.ensures.desk.2 in (
-      c.in_ok-desk.ensures.desk.0,
-      record {
-        nodes = subst (λ m. m ≤ c.in_ok-once.once.prepared.arena.room) nodes c.in_ok-once.ensures.nodes;
-        facts = subst (λ m. m ≤ vec_capacity c.in_ok-once.once.prepared.facts) nodes c.in_ok-once.ensures.facts;
-        back = subst (λ m. IsRoomy m c.in_ok-once.once.back) nodes c.in_ok-once.ensures.back;
-        way = c.in_ok-once.ensures.way;
-        room = c.in_ok-once.ensures.room;
-      },
+    let back = c.in_ok-back.ensures.table in (
+      desk_made c.args.max_text c.args.max_nodes c.width_for-block.result c.in_ok-room.room c.in_ok-any.any c.in_ok-back.back c.in_ok-shared.shared c.in_ok-room.ensures
+          (c.in_ok-any.ensures.table.0, c.in_ok-any.ensures.table.1) (back.0, back.1) c.in_ok-shared.ensures.tables c.in_ok-shared.ensures.room.0 back.2 (c.width_for-block.ensures.blocks c.requires.text),
+      (c.in_ok-prepared.ensures.nodes, c.in_ok-prepared.ensures.facts),
     )
