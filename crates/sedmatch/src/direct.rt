@@ -19,6 +19,7 @@ ghost use Rattle.sedmatch.specs.Candidates.{NoMatchBefore};
 ghost use Rattle.sedmatch.specs.Direct.{CanComeFirst, FirstWith, FirstStart, FirstSpan, HasForm, IsDirect, end_or, bytes_looked_at, rate};
 ghost use Rattle.sedmatch.specs.declared.direct.DirectForm.TheVariants.{ByteThenRunAtEnd, Anchor as AnchorForm, OneByte, Run, ByteThenRun, RunAtEnd, Times, Literal as LiteralForm, Choice as ChoiceForm};
 
+use crate::Span;
 use memchr::memmem::Finder;
 use sedre::{ByteSet, Expr, Node, NodeId, Steps};
 use sedtext::counted::choice::{Choice, choice_of};
@@ -313,36 +314,24 @@ fn find_first(first: &First, text: &Text, from: usize, steps: &mut Steps) -> Opt
     }
 }
 
-/// The first place from `from` on at which the anchors hold.
+/// The null string at the first place from `from` on at which the anchors hold.
 #[inline(always)]
-fn anchor_place(anchor: Anchor, text: &Text, from: usize) -> Option<usize>
+fn anchor_span(anchor: Anchor, text: &Text, from: usize) -> Option<Span>
     requires from { from ≤ length text.now }
-    ensures start { FirstStart (AnchorForm anchor) text.now from result }
+    ensures span { FirstSpan (AnchorForm anchor) text.now from result }
+    ensures null { IfSome result (λ f. f.1 ≡ f.0) }
 {
     let place = if anchor.at_end { text.len() } else { from };
     if anchor.at_start && place > 0 {
         None
     } else {
-        Some(place)
-    }
-}
-
-/// The null string at the first place from `from` on at which the anchors hold.
-#[inline(always)]
-fn anchor_span(anchor: Anchor, text: &Text, from: usize) -> Option<(usize, usize)>
-    requires from { from ≤ length text.now }
-    ensures span { FirstSpan (AnchorForm anchor) text.now from result }
-    ensures null { IfSome result (λ f. f.1 ≡ f.0) }
-{
-    match anchor_place(anchor, text, from) {
-        None => None,
-        Some(place) => Some((place, place)),
+        Some((place, place))
     }
 }
 
 /// The first byte from `from` on that is one.
 #[inline(always)]
-fn byte_span(first: &First, text: &Text, from: usize, steps: &mut Steps) -> Option<(usize, usize)>
+fn byte_span(first: &First, text: &Text, from: usize, steps: &mut Steps) -> Option<Span>
     requires from { from ≤ length text.now }
     ensures span { FirstSpan (OneByte first.now) text.now from result }
     ensures cost { CostsWithin steps.old steps.new (4 * (end_or (length text.now) result + 1)) (4 * from) }
@@ -356,12 +345,7 @@ fn byte_span(first: &First, text: &Text, from: usize, steps: &mut Steps) -> Opti
 
 /// The bytes of the set from `from` on.
 #[inline(always)]
-fn run_span(
-    members: &ByteSet,
-    text: &Text,
-    from: usize,
-    steps: &mut Steps,
-) -> Option<(usize, usize)>
+fn run_span(members: &ByteSet, text: &Text, from: usize, steps: &mut Steps) -> Option<Span>
     requires from { from ≤ length text.now }
     ensures span { FirstSpan (Run members.now) text.now from result }
     ensures cost { CostsWithin steps.old steps.new (4 * (end_or (length text.now) result + 1)) (4 * from) }
@@ -378,7 +362,7 @@ fn byte_run_span(
     text: &Text,
     from: usize,
     steps: &mut Steps,
-) -> Option<(usize, usize)>
+) -> Option<Span>
     requires from { from ≤ length text.now }
     ensures span { FirstSpan (ByteThenRun first.now members.now) text.now from result }
     ensures cost { CostsWithin steps.old steps.new (4 * (end_or (length text.now) result + 1)) (4 * from) }
@@ -392,12 +376,7 @@ fn byte_run_span(
 
 /// The bytes of the set that stand before the end of the text, from `from` on.
 #[inline(always)]
-fn run_end_span(
-    members: &ByteSet,
-    text: &Text,
-    from: usize,
-    steps: &mut Steps,
-) -> Option<(usize, usize)>
+fn run_end_span(members: &ByteSet, text: &Text, from: usize, steps: &mut Steps) -> Option<Span>
     requires from { from ≤ length text.now }
     ensures span { FirstSpan (RunAtEnd members.now) text.now from result }
     ensures cost { CostsWithin steps.old steps.new (4 * (end_or (length text.now) result + 1)) (4 * from) }
@@ -435,7 +414,7 @@ fn byte_run_end_span(
     text: &Text,
     from: usize,
     steps: &mut Steps,
-) -> Option<(usize, usize)>
+) -> Option<Span>
     requires from { from ≤ length text.now }
     ensures span { FirstSpan (ByteThenRunAtEnd first.now members.now) text.now from result }
     ensures cost { CostsWithin steps.old steps.new (4 * (end_or (length text.now) result + 1)) (4 * from) }
@@ -455,7 +434,7 @@ fn times_span(
     text: &Text,
     from: usize,
     steps: &mut Steps,
-) -> Option<(usize, usize)>
+) -> Option<Span>
     requires from { from ≤ length text.now }
     ensures span { FirstSpan (Times set.now count) text.now from result }
     ensures cost { CostsWithin steps.old steps.new (4 * (end_or (length text.now) result + 1)) (4 * from) }
@@ -469,12 +448,7 @@ fn times_span(
 
 /// The literal where it stands first from `from` on.
 #[inline(always)]
-fn literal_span(
-    finder: &Finder,
-    text: &Text,
-    from: usize,
-    steps: &mut Steps,
-) -> Option<(usize, usize)>
+fn literal_span(finder: &Finder, text: &Text, from: usize, steps: &mut Steps) -> Option<Span>
     requires from { from ≤ length text.now }
     ensures span { FirstSpan (LiteralForm finder.now) text.now from result }
     ensures cost { CostsWithin steps.old steps.new (4 * (end_or (length text.now) result + 1)) (4 * from) }
@@ -488,12 +462,7 @@ fn literal_span(
 
 /// The longest of the literals that stand first from `from` on.
 #[inline(always)]
-fn choice_span(
-    choice: &Choice,
-    text: &Text,
-    from: usize,
-    steps: &mut Steps,
-) -> Option<(usize, usize)>
+fn choice_span(choice: &Choice, text: &Text, from: usize, steps: &mut Steps) -> Option<Span>
     requires from { from ≤ length text.now }
     ensures span { FirstSpan (ChoiceForm choice.now) text.now from result }
     ensures cost { CostsWithin steps.old steps.new (42 * (end_or (length text.now) result + 1)) (42 * from) }
@@ -508,12 +477,7 @@ fn choice_span(
 /// The longest of the matches of this form that begin first from `from` on.
 // On short texts a call of its own costs as much as the search.
 #[inline(always)]
-fn form_span(
-    form: &DirectForm,
-    text: &Text,
-    from: usize,
-    steps: &mut Steps,
-) -> Option<(usize, usize)>
+fn form_span(form: &DirectForm, text: &Text, from: usize, steps: &mut Steps) -> Option<Span>
     requires from { from ≤ length text.now }
     ensures span { FirstSpan form.now text.now from result }
     ensures cost { CostsWithin steps.old steps.new (rate form.now * (end_or (length text.now) result + 1)) (rate form.now * from) }
@@ -536,12 +500,7 @@ fn form_span(
 
 /// Where the leftmost-longest match that begins at `from` or later begins and ends.
 #[inline(always)]
-pub fn direct_span(
-    form: &DirectForm,
-    text: &Text,
-    from: usize,
-    steps: &mut Steps,
-) -> Option<(usize, usize)>
+pub fn direct_span(form: &DirectForm, text: &Text, from: usize, steps: &mut Steps) -> Option<Span>
     requires from { from ≤ length text.now }
     ensures answer { (e : WrittenExpression) → IsDirect e form.now → SpanAnswer (expression_tree e) text.now from result }
     ensures lies { IfSome result (λ f. (from ≤ f.0) × (f.0 ≤ f.1) × (f.1 ≤ length text.now)) }

@@ -27,3 +27,6 @@ pub use sedtext::{Found, Marks, Text, found_law, groups_law, spans_law};
 pub use table_matcher::TableMatcher;
 pub use table_room::TableRoom;
 pub use whole::find;
+
+/// Where a match begins and ends.
+type Span = (usize, usize);

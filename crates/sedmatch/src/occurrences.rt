@@ -13,6 +13,7 @@ ghost use Rattle.sedpass.specs.declared.table.Table.{Table};
 ghost use Rattle.sedmatch.specs.Occurrences.{AreTables, HasTable, IsBack, KeepsRoom, RoomAt, RoomFor, Serves, ServesOn, SetsTable, TableIs, owed, owed_after, owed_search};
 ghost use Rattle.sedmatch.specs.Passes.{IsSought};
 
+use crate::Span;
 use crate::passes::{BACK, Sought, has_blocks};
 use crate::table_matcher::TableMatcher;
 use sedpass::kept::{Kept, Subject};
@@ -210,7 +211,7 @@ fn next_with(
     seeking: &mut Seeking,
     last: Option<usize>,
     steps: &mut Steps,
-) -> Option<(usize, usize)>
+) -> Option<Span>
     requires sought { IsSought sought.now.prepared.arena.expr sought.now }
     requires last { EndsWithin (length text.now) last }
     requires ready { MaySearch sought.now.prepared text.now sought.now.begins ahead.old back.old seeking.old }
@@ -239,7 +240,7 @@ fn first_with(
     back: &mut Table,
     seeking: &mut Seeking,
     steps: &mut Steps,
-) -> Option<(usize, usize)>
+) -> Option<Span>
     requires sought { IsSought sought.now.prepared.arena.expr sought.now }
     requires ready { MaySearch sought.now.prepared text.now sought.now.begins ahead.old back.old seeking.old }
     ensures searched { Searched sought.now.prepared text.now ahead.old ahead.new back.old back.new seeking.old seeking.new }
@@ -264,7 +265,7 @@ pub fn next_by(
     occurrences: &mut Occurrences,
     last: Option<usize>,
     steps: &mut Steps,
-) -> Option<(usize, usize)>
+) -> Option<Span>
     requires sought { IsSought sought.now.prepared.arena.expr sought.now }
     requires ahead { IsAhead sought.now.prepared ahead.old }
     requires last { EndsWithin (length text.now) last }

@@ -17,10 +17,11 @@ ghost use Rattle.sedpass.specs.Kept.{SameSpace};
 ghost use Rattle.sedmatch.specs.Candidates.{NoMatchBefore};
 ghost use Rattle.sedmatch.specs.Passes.{AreOwn, ArePasses, IsDesk, IsSought, KeepsDesk};
 
+use crate::Span;
 use crate::scratch::Desk;
 use crate::table_room::TableRoom;
 use sedpass::find::is_match;
-use sedpass::groups::{GroupRoom, GroupTables, all_groups, decide};
+use sedpass::groups::{GroupRoom, GroupTables, Spans, all_groups, decide};
 use sedpass::kept::{Kept, Subject};
 use sedpass::nodes::Prepared;
 use sedpass::rows::{Way, Work};
@@ -262,7 +263,7 @@ pub fn matches_by(
 }
 
 /// The groups of a match of an expression without groups.
-pub fn whole_alone(span: (usize, usize)) -> [Option<(usize, usize)>; 10]
+pub fn whole_alone(span: Span) -> Spans
     ensures report { (e : WrittenExpression) (w : List ℕ) → IsExpr e.nodes e.groups → e.groups ≡ 0 → Matches (expression_tree e) w span.0 span.1 → IsReport (expression_tree e) w span.0 span.1 result }
     ensures one { found result ≡ 1 }
     ensures entered { (e : WrittenExpression) (w : List ℕ) (s : ℕ) → IsExpr e.nodes e.groups → e.groups ≡ 0 → EntersGroups (expression_tree e) w span.0 span.1 s s }
@@ -286,10 +287,10 @@ pub fn has_blocks(kept: &Kept, states: usize, bytes: usize) -> bool
 fn groups_with(
     subject: Subject,
     tables: &mut GroupTables,
-    span: (usize, usize),
+    span: Span,
     room: &mut GroupRoom,
     steps: &mut Steps,
-) -> [Option<(usize, usize)>; 10]
+) -> Spans
     requires order { span.0 ≤ span.1 }
     requires inside { span.1 ≤ length subject.text.now }
     requires spans { Matches (expression_tree subject.prepared.now.arena.expr) subject.text.now span.0 span.1 }
@@ -316,12 +317,7 @@ fn groups_with(
 }
 
 /// The same by the tables that serve all.
-pub fn shared_groups(
-    subject: Subject,
-    span: (usize, usize),
-    desk: &mut Desk,
-    steps: &mut Steps,
-) -> [Option<(usize, usize)>; 10]
+pub fn shared_groups(subject: Subject, span: Span, desk: &mut Desk, steps: &mut Steps) -> Spans
     requires order { span.0 ≤ span.1 }
     requires inside { span.1 ≤ length subject.text.now }
     requires spans { Matches (expression_tree subject.prepared.now.arena.expr) subject.text.now span.0 span.1 }
@@ -344,10 +340,10 @@ pub fn shared_groups(
 pub fn groups_by(
     passes: &mut Passes,
     text: &Text,
-    span: (usize, usize),
+    span: Span,
     desk: &mut Desk,
     steps: &mut Steps,
-) -> [Option<(usize, usize)>; 10]
+) -> Spans
     requires order { span.0 ≤ span.1 }
     requires inside { span.1 ≤ length text.now }
     requires spans { Matches (expression_tree passes.old.sought.prepared.arena.expr) text.now span.0 span.1 }

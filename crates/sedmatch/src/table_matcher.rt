@@ -18,6 +18,7 @@ ghost use Rattle.sedmatch.specs.Direct.{IsDirect, end_or, rate};
 ghost use Rattle.sedmatch.specs.Occurrences.{Serves, ServesOn, owed, owed_after, owed_direct, owed_direct_after};
 ghost use Rattle.sedmatch.specs.Passes.{AreOwn, ArePasses, IsDesk, KeepsDesk};
 
+use crate::Span;
 use crate::direct::{
     DirectForm, direct_candidate, direct_form_of, direct_matches, direct_span, is_expression,
 };
@@ -66,7 +67,7 @@ impl Model for TableMatcher {
 /// The match sought one byte further on by a look at the text, if it goes on.
 // It is seldom called, and so kept out of its caller.
 #[inline(never)]
-fn past_null(form: &DirectForm, text: &Text, at: usize, steps: &mut Steps) -> Option<(usize, usize)>
+fn past_null(form: &DirectForm, text: &Text, at: usize, steps: &mut Steps) -> Option<Span>
     requires at { at ≤ length text.now }
     ensures next { (e : WrittenExpression) → IsDirect e form.now →
         result ≡ if nat_lt at (length text.now) then found (expression_tree e) text.now (at + 1) else None }
@@ -88,7 +89,7 @@ fn next_direct(
     text: &Text,
     last: Option<usize>,
     steps: &mut Steps,
-) -> Option<(usize, usize)>
+) -> Option<Span>
     requires last { EndsWithin (length text.now) last }
     ensures next { (e : WrittenExpression) → IsDirect e form.now → result ≡ next_span (found (expression_tree e) text.now) (length text.now) last }
     ensures lies { IfSome result (LiesOn (length text.now) last) }
@@ -114,7 +115,7 @@ fn next_by_passes(
     occurrences: &mut Occurrences,
     desk: &mut Desk,
     steps: &mut Steps,
-) -> Option<(usize, usize)>
+) -> Option<Span>
     requires passes { ArePasses passes.old.sought.prepared.arena.expr passes.old }
     requires desk { IsDesk desk.old }
     requires few { length passes.old.sought.prepared.arena.expr.nodes ≤ desk.old.max_nodes }

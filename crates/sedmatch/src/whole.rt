@@ -7,6 +7,7 @@ ghost use Rattle.sedre.specs.Steps.{StepsWithin, Takes, TakesAtLeast};
 ghost use Rattle.sedpass.specs.Walks.{EntersGroups};
 ghost use Rattle.sedmatch.specs.Passes.{IsDesk, KeepsDesk};
 
+use crate::Span;
 use crate::passes::shared_groups;
 use crate::scratch::{Desk, Scratch};
 use sedpass::kept::Subject;
@@ -15,12 +16,7 @@ use sedre::{Expr, Steps};
 use sedtext::{Found, Text};
 
 /// Where the match begins and ends that [`find`] finds, of an expression that was made ready.
-fn first_span(
-    subject: Subject,
-    from: usize,
-    desk: &mut Desk,
-    steps: &mut Steps,
-) -> Option<(usize, usize)>
+fn first_span(subject: Subject, from: usize, desk: &mut Desk, steps: &mut Steps) -> Option<Span>
     requires from { from ≤ length subject.text.now }
     requires desk { IsDesk desk.old }
     requires short { length subject.text.now ≤ desk.old.max_text }
