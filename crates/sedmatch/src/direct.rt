@@ -248,10 +248,7 @@ fn choice_form(
     if expr.nodes() < 3 {
         return Ok(None);
     }
-    match choice_of(alloc, expr, steps)? {
-        Some(choice) => Ok(Some(DirectForm::Choice(choice))),
-        None => Ok(None),
-    }
+    Ok(choice_of(alloc, expr, steps)?.map(DirectForm::Choice))
 }
 
 /// For proofs: what was read is an expression, with no more nodes than one may have.

@@ -222,10 +222,8 @@ fn next_with(
         CostsWithin steps.old steps.new (owed_search m n last seeking.old) (owed_after_search (owed_behind m n seeking.new) result) }
     ensures looks { SearchTakes (length sought.now.prepared.arena.expr.nodes) (length text.now) (unwrap_or last 0) steps.old steps.new result }
 {
-    let subject = Subject {
-        prepared: &sought.prepared,
-        text,
-    };
+    let prepared = &sought.prepared;
+    let subject = Subject { prepared, text };
     match last {
         None => first_with(sought, text, ahead, back, seeking, steps),
         Some(at) => next_after(subject, &sought.begins, ahead, back, seeking, at, steps),
@@ -250,10 +248,8 @@ fn first_with(
     ensures looks { SearchTakes (length sought.now.prepared.arena.expr.nodes) (length text.now) 0 steps.old steps.new result }
 {
     let start = sought.hints.first_place(text, 0, steps)?;
-    let subject = Subject {
-        prepared: &sought.prepared,
-        text,
-    };
+    let prepared = &sought.prepared;
+    let subject = Subject { prepared, text };
     next_match(subject, &sought.begins, ahead, back, seeking, start, steps)
 }
 
@@ -282,13 +278,6 @@ pub fn next_by(
     occurrences.make_ready(&sought.prepared, text);
     let at = occurrences.at;
     let back = &mut occurrences.tables.all[at];
-    next_with(
-        sought,
-        text,
-        ahead,
-        back,
-        &mut occurrences.seeking,
-        last,
-        steps,
-    )
+    let seeking = &mut occurrences.seeking;
+    next_with(sought, text, ahead, back, seeking, last, steps)
 }

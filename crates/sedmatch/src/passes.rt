@@ -132,10 +132,7 @@ fn own_tables(
     if size_of(prepared.nodes(), states) > room.bytes {
         return Ok(None);
     }
-    match new_tables(alloc, prepared, states) {
-        Ok(tables) => Ok(Some(tables)),
-        Err(refused) => Err(refused),
-    }
+    Ok(Some(new_tables(alloc, prepared, states)?))
 }
 
 /// An expression that is searched by passes, with its own tables if there is room for them.
@@ -173,10 +170,8 @@ fn begins_match(subject: Subject, ahead: &mut Table, work: &mut Work, steps: &mu
     ensures cost { Takes steps.old steps.new (40 * length subject.entry.prepared.now.arena.expr.nodes * (length subject.entry.text.now + 1)) }
 {
     let bytes = subject.text.forwards();
-    ahead
-        .run(subject.prepared, &bytes, 0, work, steps)
-        .end
-        .is_some()
+    let run = ahead.run(subject.prepared, &bytes, 0, work, steps);
+    run.end.is_some()
 }
 
 /// Whether any match begins at a place or later, by these tables.
@@ -201,10 +196,8 @@ fn matches_with(
     ensures passes { IsTrue result → PassesOver (expression_tree sought.now.prepared.arena.expr) text.now from steps.old steps.new }
     ensures cost { Takes steps.old steps.new (41 * length sought.now.prepared.arena.expr.nodes * (length text.now + 1)) }
 {
-    let subject = Subject {
-        prepared: &sought.prepared,
-        text,
-    };
+    let prepared = &sought.prepared;
+    let subject = Subject { prepared, text };
     match &sought.begins {
         Begins::AtStart => from == 0 && begins_match(subject, ahead, work, steps),
         _ => is_match(subject, &sought.begins, any, from, work, steps),
@@ -361,10 +354,8 @@ pub fn groups_by(
     ensures counts { TakesAtLeast steps.old steps.new (found result - 1) }
     ensures entered { EntersGroups (expression_tree passes.old.sought.prepared.arena.expr) text.now span.0 span.1 steps.old steps.new }
 {
-    let subject = Subject {
-        prepared: &passes.sought.prepared,
-        text: &*text,
-    };
+    let prepared = &passes.sought.prepared;
+    let subject = Subject { prepared, text };
     if let Some(own) = &mut passes.own {
         if has_blocks(&desk.room.kept, own.groups.inside.room, text.len()) {
             return groups_with(subject, &mut own.groups, span, &mut desk.room, steps);

@@ -133,14 +133,8 @@ fn next_by_passes(
 {
     let sought = &passes.sought;
     if let Some(own) = &mut passes.own {
-        return next_by(
-            sought,
-            text,
-            &mut own.groups.ahead,
-            occurrences,
-            last,
-            steps,
-        );
+        let ahead = &mut own.groups.ahead;
+        return next_by(sought, text, ahead, occurrences, last, steps);
     }
     let ahead = &mut desk.shared.ahead;
     ahead.fit(&sought.prepared);
@@ -296,18 +290,13 @@ impl TableMatcher {
         ensures counts { TakesAtLeast steps.old steps.new (spans_in result - 1) }
         ensures entered { EntersGroups (expression_tree self.old) text.now start end steps.old steps.new }
     {
+        let span = (start, end);
         match &mut self.engine {
             Engine::Direct(expr, _) => {
                 is_expression(expr);
-                whole_alone((start, end))
+                whole_alone(span)
             }
-            Engine::Passes(passes) => groups_by(
-                passes,
-                text,
-                (start, end),
-                &mut scratch.desk,
-                steps,
-            ),
+            Engine::Passes(passes) => groups_by(passes, text, span, &mut scratch.desk, steps),
         }
     }
 }

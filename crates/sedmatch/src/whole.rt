@@ -63,10 +63,8 @@ pub fn find(
     ensures entered { IfSome result (λ f. EntersGroups (expression_tree expr.now) text.now f.start f.end steps.old steps.new) }
 {
     scratch.prepared.fit(expr, steps);
-    let subject = Subject {
-        prepared: &scratch.prepared,
-        text,
-    };
+    let prepared = &scratch.prepared;
+    let subject = Subject { prepared, text };
     let span = first_span(subject, from, &mut scratch.desk, steps)?;
     let groups = shared_groups(subject, span, &mut scratch.desk, steps);
     Some(Found {

@@ -1,4 +1,4 @@
-use Rattle.std.proofs.Common.{◌≡◌, ◌∙◌, ◌+◌, ◌-◌, ◌*◌, ◌≤◌, true, false, IfSome, length, refl, sym, subst}
+use Rattle.std.proofs.Common.{◌≡◌, ◌∙◌, ◌+◌, ◌-◌, ◌*◌, ◌≤◌, true, false, IfSome, length, refl, ap}
 use Rattle.std.specs.Option.{unwrap_or}
 use Rattle.sedre.specs.Tree.{expression_tree}
 use Rattle.sedre.specs.Steps.{TakesAtLeast}
@@ -35,11 +35,10 @@ lies_in c =
     elim c.then-is_none.branch [
       | then-is_none-via-then-is_none v ↦
           let none = none_of c.args.last c.is_none.result c.is_none.ensures v.if-is_none.true in
-          let zero : at ≡ 0 = c.unwrap_or-at.ensures ∙ subst (λ l. unwrap_or l 0 ≡ 0) (sym none) refl in
-          subst (λ l. IfSome first (LiesOn n l)) (sym none) (lies_first n first (subst (λ k. IfSome first (λ f. (k ≤ f.0) × (f.0 ≤ f.1) × (f.1 ≤ n))) zero lies))
+          let zero : at ≡ 0 = c.unwrap_or-at.ensures ∙ ap (λ l. unwrap_or l 0) none in
+          rw none (lies_first n first (rw zero at lies))
       | then-is_none-via-else-is_none+then-not-is_null_at v ↦
-          let some = some_of c.args.last c.is_none.result at c.is_none.ensures v.if-is_none.false c.unwrap_or-at.ensures in
-          subst (λ l. IfSome first (LiesOn n l)) (sym some) (lies_behind n at first lies (v.is_null_at.ensures.after (cc)))
+          rw (some_of c.args.last c.is_none.result at c.is_none.ensures v.if-is_none.false c.unwrap_or-at.ensures) (lies_behind n at first lies (v.is_null_at.ensures.after (cc)))
     ]
 
 pub returns-then-is_none-clause-cost : goal.returns-then-is_none-clause-cost
@@ -58,27 +57,20 @@ returns-clause-next c = λ e is.
 pub returns-clause-cost : goal.returns-clause-cost
 returns-clause-cost c = λ e is.
     let n = length c.args.text.now in
-    let m = length e.nodes in
     let at = c.unwrap_or-at.result in
-    let r = rate c.args.form.now in
     let some = some_of c.args.last c.is_none.result at c.is_none.ensures c.if-is_none.false c.unwrap_or-at.ensures in
-    let one : CostsWithin c.args.steps.now c.direct_span-first.new.steps (r * (at + 1)) (r * at) =
-    subst (λ f. CostsWithin c.args.steps.now c.direct_span-first.new.steps (r * (end_or n f + 1)) (r * at)) (c.is_null_at.ensures.null c.if-not-is_null_at.false) c.direct_span-first.ensures.cost in
-    subst (λ l. CostsWithin c.args.steps.now c.past_null.new.steps (owed_direct m n l) (owed_direct_after m n c.past_null.result)) (sym some)
-    (looks_paid m n r c.args.steps.now c.direct_span-first.new.steps c.past_null.new.steps at c.past_null.result is.2 (within_at n c.args.last at c.unwrap_or-at.ensures c.requires.last) one c.past_null.ensures.cost c.past_null.ensures.lies)
+    let one = rw (c.is_null_at.ensures.null c.if-not-is_null_at.false) at c.direct_span-first.ensures.cost in
+    rw some (looks_paid (length e.nodes) n (rate c.args.form.now) c.args.steps.now c.direct_span-first.new.steps c.past_null.new.steps at c.past_null.result is.2 (within_at n c.args.last at c.unwrap_or-at.ensures c.requires.last) one c.past_null.ensures.cost c.past_null.ensures.lies)
 
 pub returns-clause-counts : goal.returns-clause-counts
 returns-clause-counts c = counts_since c.past_null.result c.args.steps.now c.direct_span-first.new.steps c.past_null.new.steps c.direct_span-first.ensures.cost.0 c.past_null.ensures.counts
 
 pub returns-then-is_none-clause-passes : goal.returns-then-is_none-clause-passes
 returns-then-is_none-clause-passes c = λ e is early.
-    let first = c.direct_span-first.result in
-    looks_passed c.args.last c.args.steps.now c.direct_span-first.new.steps first
-    (subst (λ p. IfSome first (λ f. TakesAtLeast c.args.steps.now c.direct_span-first.new.steps (f.1 - p))) c.unwrap_or-at.ensures (c.direct_span-first.ensures.passes e is early))
+    looks_passed c.args.last c.args.steps.now c.direct_span-first.new.steps c.direct_span-first.result (rw c.unwrap_or-at.ensures at (c.direct_span-first.ensures.passes e is early))
 
 pub returns-clause-passes : goal.returns-clause-passes
 returns-clause-passes c = λ e is early.
     let at = c.unwrap_or-at.result in
-    let some = some_of c.args.last c.is_none.result at c.is_none.ensures c.if-is_none.false c.unwrap_or-at.ensures in
-    let later = looks_since (λ f. f.1 - (at + 1)) c.args.steps.now c.direct_span-first.new.steps c.past_null.new.steps c.past_null.result c.direct_span-first.ensures.cost.0 (c.past_null.ensures.passes e is early) in
-    subst (λ l. IfSome c.past_null.result (λ f. TakesAtLeast c.args.steps.now c.past_null.new.steps (bytes_passed l f))) (sym some) later
+    rw (some_of c.args.last c.is_none.result at c.is_none.ensures c.if-is_none.false c.unwrap_or-at.ensures)
+    (looks_since (λ f. f.1 - (at + 1)) c.args.steps.now c.direct_span-first.new.steps c.past_null.new.steps c.past_null.result c.direct_span-first.ensures.cost.0 (c.past_null.ensures.passes e is early))
