@@ -532,9 +532,6 @@ pub fn direct_candidate(form: &DirectForm, text: &Text, steps: &mut Steps) -> Op
         DirectForm::ByteThenRunAtEnd(first, _) => find_first(first, text, 0, steps),
         DirectForm::Literal(finder) => find_literal(text, finder, 0, steps),
         DirectForm::Choice(choice) => choice.start(text, 0, steps),
-        DirectForm::Anchor(_)
-        | DirectForm::Run(_)
-        | DirectForm::RunAtEnd(_)
-        | DirectForm::Times(_, _) => Some(0),
+        _ => Some(0),
     }
 }

@@ -51,14 +51,5 @@ returns-in-Literal-clause-counts c = counts_literal (length c.args.text.now) _ c
 pub returns-in-Choice-clause-counts : goal.returns-in-Choice-clause-counts
 returns-in-Choice-clause-counts c = counts_choice c.in-Choice.choice c.args.text.now c.args.steps.now c.start.new.steps c.start.result c.start.ensures.first c.start.ensures.counts
 
-pub returns-in-Anchor-clause-counts : goal.returns-in-Anchor-clause-counts
-returns-in-Anchor-clause-counts c = least_none c.args.steps.now 0 refl
-
-pub returns-in-Anchor-2-clause-counts : goal.returns-in-Anchor-2-clause-counts
-returns-in-Anchor-2-clause-counts c = least_none c.args.steps.now 0 refl
-
-pub returns-in-Anchor-3-clause-counts : goal.returns-in-Anchor-3-clause-counts
-returns-in-Anchor-3-clause-counts c = least_none c.args.steps.now 0 refl
-
-pub returns-in-Anchor-4-clause-counts : goal.returns-in-Anchor-4-clause-counts
-returns-in-Anchor-4-clause-counts c = least_none c.args.steps.now 0 refl
+pub returns-in_default-clause-counts : goal.returns-in_default-clause-counts
+returns-in_default-clause-counts c = least_none c.args.steps.now 0 refl

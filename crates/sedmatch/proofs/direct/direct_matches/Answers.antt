@@ -1,14 +1,12 @@
-use Rattle.std.proofs.Common.{◌∙◌, ◌↔◌, length, IsTrue, subst, sym}
+use Rattle.std.proofs.Common.{◌∙◌, length, sym}
 use Rattle.sedre.specs.Tree.{expression_tree}
-use Rattle.sedtext.specs.Spans.{SomeFound}
 use Rattle.sedmatch.specs.Direct.{rate}
 use Rattle.sedmatch.proofs.DirectLemmas.{answer_cost, answer_passes, answer_some}
 use Rattle.sedmatch.proofs.direct.direct_matches.Goals as goal
 
 pub returns-clause-matches : goal.returns-clause-matches
 returns-clause-matches c e is =
-    subst (λ b. IsTrue b ↔ SomeFound (expression_tree e) c.args.text.now c.args.from) (sym c.is_some.ensures)
-    (answer_some (expression_tree e) c.args.text.now c.args.from c.direct_span.result (c.direct_span.ensures.answer e is))
+    rw c.is_some.ensures (answer_some (expression_tree e) c.args.text.now c.args.from c.direct_span.result (c.direct_span.ensures.answer e is))
 
 pub returns-clause-passes : goal.returns-clause-passes
 returns-clause-passes c e is = λ h.
