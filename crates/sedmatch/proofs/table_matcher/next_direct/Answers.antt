@@ -1,12 +1,9 @@
-use Rattle.std.proofs.Common.{◌≡◌, ◌∙◌, ◌+◌, ◌-◌, ◌*◌, ◌≤◌, true, false, IfSome, length, refl, ap}
+use Rattle.std.proofs.Common.{◌≡◌, ◌∙◌, ◌+◌, ◌-◌, true, false, IfSome, length, refl, ap}
 use Rattle.std.specs.Option.{unwrap_or}
 use Rattle.sedre.specs.Tree.{expression_tree}
-use Rattle.sedre.specs.Steps.{TakesAtLeast}
-use Rattle.sedtext.specs.Costs.{CostsWithin}
-use Rattle.sedtext.specs.Following.{LiesOn, bytes_passed}
+use Rattle.sedtext.specs.Following.{LiesOn}
 use Rattle.sedpass.proofs.OccurrenceLemmas.{lies_behind}
-use Rattle.sedmatch.specs.Direct.{end_or, rate}
-use Rattle.sedmatch.specs.Occurrences.{owed_direct, owed_direct_after}
+use Rattle.sedmatch.specs.Direct.{rate}
 use Rattle.sedmatch.proofs.MatcherLemmas.{first_next, look_paid, looks_paid, next_by_null, none_of, some_of, within_at}
 use Rattle.sedmatch.proofs.OccurrenceLemmas.{lies_first, looks_passed, looks_since}
 use Rattle.sedmatch.proofs.OnceLemmas.{counts_since}
