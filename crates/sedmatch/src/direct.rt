@@ -520,6 +520,7 @@ pub fn direct_matches(form: &DirectForm, text: &Text, from: usize, steps: &mut S
 }
 
 /// A place of the text before which no line has a match of this form, or None where no line has one.
+#[tactic(auto, using(crate::proofs::DirectLemmas::first_looked))]
 pub fn direct_candidate(form: &DirectForm, text: &Text, steps: &mut Steps) -> Option<usize>
     ensures before { (e : WrittenExpression) → IsDirect e form.now → NoMatchBefore (expression_tree e) text.now result }
     ensures cost { Takes steps.old steps.new (25 * (length text.now + 1)) }

@@ -87,14 +87,6 @@ fn size_of(nodes: usize, states: usize) -> usize {
     state.saturating_mul(TABLES).saturating_mul(states)
 }
 
-/// How many states each table has, of at least two.
-fn states_of(room: TableRoom) -> usize
-    ensures some { 2 ≤ result }
-    ensures few { result ≤ 513 }
-{
-    room.states.clamp(2, 513)
-}
-
 /// Finds out once what serves all searches for an expression.
 fn find_sought(alloc: Global, expr: &Expr, steps: &mut Steps) -> Result<Sought, AllocError>
     ensures { IfOk result (IsSought expr.now) }
@@ -128,7 +120,7 @@ fn own_tables(
 ) -> Result<Option<OwnTables>, AllocError>
     ensures { IfOk result (AreOwn prepared.now) }
 {
-    let states = states_of(room);
+    let states = room.states.clamp(2, 513);
     if size_of(prepared.nodes(), states) > room.bytes {
         return Ok(None);
     }

@@ -1,9 +1,8 @@
-use Rattle.std.proofs.Common.{length, refl, subst, arith}
+use Rattle.std.proofs.Common.{length, refl, subst}
 use Rattle.sedre.specs.Tree.{expression_tree}
 use Rattle.sedmatch.specs.Direct.{SpannedAs}
 use Rattle.sedtext.proofs.CountLemmas.{least_none}
 use Rattle.sedmatch.proofs.CandidateLemmas.{byte_before, byte_run_before, byte_run_end_before, choice_before, counts_byte, counts_choice, counts_literal, literal_before}
-use Rattle.sedmatch.proofs.DirectLemmas.{first_looked}
 use Rattle.sedmatch.proofs.direct.direct_candidate.Goals as goal
 
 pub returns-in-OneByte-clause-before : goal.returns-in-OneByte-clause-before
@@ -18,23 +17,8 @@ returns-in-Literal-clause-before c = λ e is. literal_before (expression_tree e)
 pub returns-in-Choice-clause-before : goal.returns-in-Choice-clause-before
 returns-in-Choice-clause-before c = λ e is. choice_before (expression_tree e) c.args.text.now c.are_bytes.ensures c.start.result c.in-Choice.choice c.start.ensures.first (subst (SpannedAs (expression_tree e)) c.in-Choice.is is.0)
 
-pub returns-in-OneByte-clause-cost : goal.returns-in-OneByte-clause-cost
-returns-in-OneByte-clause-cost c =
-    let looked = first_looked c.in-OneByte.first c.args.text.now 0 c.find_first.result c.find_first.ensures.first in
-    (c.find_first.ensures.cost.0, omega (arith, looked, c.find_first.ensures.cost.1))
-
-pub returns-in-ByteThenRun-clause-cost : goal.returns-in-ByteThenRun-clause-cost
-returns-in-ByteThenRun-clause-cost c =
-    let looked = first_looked c.in-ByteThenRun.first c.args.text.now 0 c.find_first-in-ByteThenRun.result c.find_first-in-ByteThenRun.ensures.first in
-    (c.find_first-in-ByteThenRun.ensures.cost.0, omega (arith, looked, c.find_first-in-ByteThenRun.ensures.cost.1))
-
 pub returns-in-ByteThenRunAtEnd-clause-before : goal.returns-in-ByteThenRunAtEnd-clause-before
 returns-in-ByteThenRunAtEnd-clause-before c = λ e is. byte_run_end_before (expression_tree e) c.args.text.now c.are_bytes.ensures c.find_first-in-ByteThenRunAtEnd.result c.in-ByteThenRunAtEnd.first c.in-ByteThenRunAtEnd.field-1 c.find_first-in-ByteThenRunAtEnd.ensures.first (subst (SpannedAs (expression_tree e)) c.in-ByteThenRunAtEnd.is is.0)
-
-pub returns-in-ByteThenRunAtEnd-clause-cost : goal.returns-in-ByteThenRunAtEnd-clause-cost
-returns-in-ByteThenRunAtEnd-clause-cost c =
-    let looked = first_looked c.in-ByteThenRunAtEnd.first c.args.text.now 0 c.find_first-in-ByteThenRunAtEnd.result c.find_first-in-ByteThenRunAtEnd.ensures.first in
-    (c.find_first-in-ByteThenRunAtEnd.ensures.cost.0, omega (arith, looked, c.find_first-in-ByteThenRunAtEnd.ensures.cost.1))
 
 pub returns-in-OneByte-clause-counts : goal.returns-in-OneByte-clause-counts
 returns-in-OneByte-clause-counts c = counts_byte (length c.args.text.now) c.args.steps.now c.find_first.new.steps c.find_first.result c.find_first.ensures.counts
