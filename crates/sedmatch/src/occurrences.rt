@@ -222,35 +222,15 @@ fn next_with(
         CostsWithin steps.old steps.new (owed_search m n last seeking.old) (owed_after_search (owed_behind m n seeking.new) result) }
     ensures looks { SearchTakes (length sought.now.prepared.arena.expr.nodes) (length text.now) (unwrap_or last 0) steps.old steps.new result }
 {
-    let prepared = &sought.prepared;
+    let (prepared, begins) = (&sought.prepared, &sought.begins);
     let subject = Subject { prepared, text };
     match last {
-        None => first_with(sought, text, ahead, back, seeking, steps),
-        Some(at) => next_after(subject, &sought.begins, ahead, back, seeking, at, steps),
+        None => match sought.hints.first_place(text, 0, steps) {
+            None => None,
+            Some(start) => next_match(subject, begins, ahead, back, seeking, start, steps),
+        },
+        Some(at) => next_after(subject, begins, ahead, back, seeking, at, steps),
     }
-}
-
-/// The first occurrence, by these tables.
-fn first_with(
-    sought: &Sought,
-    text: &Text,
-    ahead: &mut Table,
-    back: &mut Table,
-    seeking: &mut Seeking,
-    steps: &mut Steps,
-) -> Option<Span>
-    requires sought { IsSought sought.now.prepared.arena.expr sought.now }
-    requires ready { MaySearch sought.now.prepared text.now sought.now.begins ahead.old back.old seeking.old }
-    ensures searched { Searched sought.now.prepared text.now ahead.old ahead.new back.old back.new seeking.old seeking.new }
-    ensures answer { SpanAnswer (expression_tree sought.now.prepared.arena.expr) text.now 0 result }
-    ensures cost { let m = length sought.now.prepared.arena.expr.nodes in let n = length text.now in
-        CostsWithin steps.old steps.new (owed_search m n None seeking.old) (owed_after_search (owed_behind m n seeking.new) result) }
-    ensures looks { SearchTakes (length sought.now.prepared.arena.expr.nodes) (length text.now) 0 steps.old steps.new result }
-{
-    let start = sought.hints.first_place(text, 0, steps)?;
-    let prepared = &sought.prepared;
-    let subject = Subject { prepared, text };
-    next_match(subject, &sought.begins, ahead, back, seeking, start, steps)
 }
 
 /// The next occurrence after the one that ended at `last`, or the first one.
