@@ -2,7 +2,6 @@
 ghost use Rattle.std.specs.Prelude.{◌≡◌, ℕ, List, false, ◌+◌, ◌-◌, ◌*◌, ◌/◌, ◌^◌, ◌<◌, ◌≤◌, length, IfOk, IfSome, IsTrue, slice_get, Some};
 ghost use Rattle.std.specs.Option.{unwrap_or};
 ghost use Rattle.sedre.specs.Tree.{WrittenExpression, expression_tree};
-ghost use Rattle.sedtext.specs.Answer.{SpanAnswer};
 ghost use Rattle.sedtext.specs.Costs.{CostsWithin};
 ghost use Rattle.sedtext.specs.Following.{EndsWithin, Occurs, next_span};
 ghost use Rattle.sedtext.specs.Matching.{found};
