@@ -4,7 +4,6 @@ ghost use Rattle.sedre.specs.Arena.{IsExpr};
 ghost use Rattle.sedre.specs.Tree.{Tree, WrittenExpression, expression_tree};
 ghost use Rattle.sedre.specs.Steps.{Takes, TakesAtLeast};
 ghost use Rattle.sedtext.specs.Beginnings.{AllBegin};
-ghost use Rattle.sedtext.specs.declared.beginnings.Begins.TheVariants.{AtStart};
 ghost use Rattle.sedtext.specs.Following.{PassesOver};
 ghost use Rattle.sedtext.specs.Needed.{IsNeeded};
 ghost use Rattle.sedpass.specs.Find.{IsSweep};
@@ -15,7 +14,7 @@ ghost use Rattle.sedtext.specs.Spans.{SomeFound, Matches};
 ghost use Rattle.sedpass.specs.Decide.{HasDesk, SameTables, found};
 ghost use Rattle.sedpass.specs.Kept.{SameSpace};
 ghost use Rattle.sedmatch.specs.Candidates.{NoMatchBefore};
-ghost use Rattle.sedmatch.specs.Passes.{AreOwn, ArePasses, IsDesk, IsSought, KeepsDesk};
+ghost use Rattle.sedmatch.specs.Passes.{AreOwn, ArePasses, IsDesk, KeepsDesk};
 
 use crate::Span;
 use crate::scratch::Desk;
@@ -87,31 +86,6 @@ fn size_of(nodes: usize, states: usize) -> usize {
     state.saturating_mul(TABLES).saturating_mul(states)
 }
 
-/// Finds out once what serves all searches for an expression.
-fn find_sought(alloc: Global, expr: &Expr, steps: &mut Steps) -> Result<Sought, AllocError>
-    ensures { IfOk result (IsSought expr.now) }
-{
-    let begins = how_begins(expr, steps);
-    let hints = find_hints(alloc, expr, steps)?;
-    let prepared = Prepared::new(alloc, expr, steps)?;
-    Ok(Sought {
-        prepared,
-        begins,
-        hints,
-    })
-}
-
-/// Tables for an expression.
-fn new_tables(alloc: Global, prepared: &Prepared, states: usize) -> Result<OwnTables, AllocError>
-    requires some { 2 ≤ states }
-    requires few { states ≤ 513 }
-    ensures { IfOk result (λ t. AreOwn prepared.now (Some t)) }
-{
-    let any = Table::new(alloc, prepared, ANY, states)?;
-    let groups = GroupTables::new(alloc, prepared, states)?;
-    Ok(OwnTables { any, groups })
-}
-
 /// Tables for an expression, if they don't take more room than there is.
 fn own_tables(
     alloc: Global,
@@ -124,7 +98,9 @@ fn own_tables(
     if size_of(prepared.nodes(), states) > room.bytes {
         return Ok(None);
     }
-    Ok(Some(new_tables(alloc, prepared, states)?))
+    let any = Table::new(alloc, prepared, ANY, states)?;
+    let groups = GroupTables::new(alloc, prepared, states)?;
+    Ok(Some(OwnTables { any, groups }))
 }
 
 /// An expression that is searched by passes, with its own tables if there is room for them.
@@ -136,8 +112,15 @@ pub fn new_passes(
 ) -> Result<Passes, AllocError>
     ensures { IfOk result (ArePasses expr.now) }
 {
-    let sought = find_sought(alloc, expr, steps)?;
-    let own = own_tables(alloc, &sought.prepared, room)?;
+    let begins = how_begins(expr, steps);
+    let hints = find_hints(alloc, expr, steps)?;
+    let prepared = Prepared::new(alloc, expr, steps)?;
+    let own = own_tables(alloc, &prepared, room)?;
+    let sought = Sought {
+        prepared,
+        begins,
+        hints,
+    };
     Ok(Passes { sought, own })
 }
 
@@ -149,21 +132,6 @@ impl Passes {
             None => 0,
         }
     }
-}
-
-/// Whether a match begins at the text's beginning, by a table of passes from one start.
-fn begins_match(subject: Subject, ahead: &mut Table, work: &mut Work, steps: &mut Steps) -> bool
-    requires begins { AllBegin (expression_tree subject.prepared.now.arena.expr) AtStart }
-    requires ahead { IsAhead subject.prepared.now ahead.old }
-    ensures ahead { IsAhead subject.entry.prepared.now ahead.new }
-    ensures shape { SameShape ahead.old ahead.new }
-    ensures matches { IsTrue result ↔ SomeFound (expression_tree subject.entry.prepared.now.arena.expr) subject.entry.text.now 0 }
-    ensures passes { IsTrue result → PassesOver (expression_tree subject.entry.prepared.now.arena.expr) subject.entry.text.now 0 steps.old steps.new }
-    ensures cost { Takes steps.old steps.new (40 * length subject.entry.prepared.now.arena.expr.nodes * (length subject.entry.text.now + 1)) }
-{
-    let bytes = subject.text.forwards();
-    let run = ahead.run(subject.prepared, &bytes, 0, work, steps);
-    run.end.is_some()
 }
 
 /// Whether any match begins at a place or later, by these tables.
@@ -191,7 +159,10 @@ fn matches_with(
     let prepared = &sought.prepared;
     let subject = Subject { prepared, text };
     match &sought.begins {
-        Begins::AtStart => from == 0 && begins_match(subject, ahead, work, steps),
+        Begins::AtStart => {
+            let bytes = text.forwards();
+            from == 0 && ahead.run(prepared, &bytes, 0, work, steps).end.is_some()
+        }
         _ => is_match(subject, &sought.begins, any, from, work, steps),
     }
 }
