@@ -236,21 +236,6 @@ fn literal_of(
     Ok(Some(Finder::new(&bytes).into_owned(alloc)?))
 }
 
-/// How the matches of the expression look, if they are a few literals.
-fn choice_form(
-    alloc: Global,
-    expr: &Expr,
-    steps: &mut Steps,
-) -> Result<Option<DirectForm>, AllocError>
-    ensures form { IfOk result (λ r. IfSome r (HasForm (expression_tree expr.now) (14 * length expr.now.nodes))) }
-    ensures cost { Takes steps.old steps.new 1114144 }
-{
-    if expr.nodes() < 3 {
-        return Ok(None);
-    }
-    Ok(choice_of(alloc, expr, steps)?.map(DirectForm::Choice))
-}
-
 /// For proofs: what was read is an expression, with no more nodes than one may have.
 #[inline(always)]
 pub(crate) fn is_expression(expr: &Expr)
@@ -278,7 +263,10 @@ fn form_of(alloc: Global, expr: &Expr, steps: &mut Steps) -> Result<Option<Direc
     if let Some((set, count)) = times_of(alloc, expr, steps)? {
         return Ok(Some(DirectForm::Times(set, count)));
     }
-    choice_form(alloc, expr, steps)
+    if expr.nodes() < 3 {
+        return Ok(None);
+    }
+    Ok(choice_of(alloc, expr, steps)?.map(DirectForm::Choice))
 }
 
 /// The direct form of the expression, if it has one. It fails only where a request for memory was refused.
