@@ -1,11 +1,10 @@
 //! An expression that is searched by passes: what is found out of it once, its tables, and what they tell of a text.
 ghost use Rattle.std.specs.Prelude.{◌≡◌, ℕ, List, ◌+◌, ◌-◌, ◌*◌, ◌/◌, ◌<◌, ◌≤◌, ◌↔◌, [], length, vec_capacity, IfOk, IfSome, IsTrue};
 ghost use Rattle.sedre.specs.Arena.{IsExpr};
-ghost use Rattle.sedre.specs.Tree.{Tree, WrittenExpression, expression_tree};
+ghost use Rattle.sedre.specs.Tree.{WrittenExpression, expression_tree};
 ghost use Rattle.sedre.specs.Steps.{Takes, TakesAtLeast};
 ghost use Rattle.sedtext.specs.Beginnings.{AllBegin};
 ghost use Rattle.sedtext.specs.Following.{PassesOver};
-ghost use Rattle.sedtext.specs.Needed.{IsNeeded};
 ghost use Rattle.sedpass.specs.Find.{IsSweep};
 ghost use Rattle.sedpass.specs.Walks.{EntersGroups};
 ghost use Rattle.sedpass.specs.Table.{IsAhead, SameShape};
@@ -13,7 +12,6 @@ ghost use Rattle.sedtext.specs.Caps.{IsReport};
 ghost use Rattle.sedtext.specs.Spans.{SomeFound, Matches};
 ghost use Rattle.sedpass.specs.Decide.{HasDesk, SameTables, found};
 ghost use Rattle.sedpass.specs.Kept.{SameSpace};
-ghost use Rattle.sedmatch.specs.Candidates.{NoMatchBefore};
 ghost use Rattle.sedmatch.specs.Passes.{AreOwn, ArePasses, IsDesk, KeepsDesk};
 
 use crate::Span;
@@ -28,9 +26,7 @@ use sedpass::table::Table;
 use sedre::{Expr, Steps};
 use sedtext::beginnings::{Begins, how_begins};
 use sedtext::counted::Text;
-use sedtext::counted::lookups::find_literal;
 use sedtext::hints::{Hints, find_hints};
-use sedtext::needed::RequiredLiteral;
 use std::alloc::{AllocError, Global};
 
 /// What is found out of an expression once.
@@ -164,23 +160,6 @@ fn matches_with(
             from == 0 && ahead.run(prepared, &bytes, 0, work, steps).end.is_some()
         }
         _ => is_match(subject, &sought.begins, any, from, work, steps),
-    }
-}
-
-/// A place of a text of many lines before which none has a match that holds the literal, or None where no line has one. A line is
-/// matched as a text of its own, and has no match where it ends before the literal's first place.
-pub fn needed_candidate(
-    needed: &Option<RequiredLiteral>,
-    text: &Text,
-    steps: &mut Steps,
-) -> Option<usize>
-    ensures before { (e : Tree) → IsNeeded e needed.now → NoMatchBefore e text.now result }
-    ensures cost { Takes steps.old steps.new (25 * (length text.now + 1)) }
-    ensures counts { IfSome result (λ k. TakesAtLeast steps.old steps.new k) }
-{
-    match needed {
-        Some(needed) => find_literal(text, &needed.finder, 0, steps),
-        None => Some(0),
     }
 }
 

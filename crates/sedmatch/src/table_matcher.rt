@@ -23,13 +23,14 @@ use crate::direct::{
     DirectForm, direct_candidate, direct_form_of, direct_matches, direct_span, is_expression,
 };
 use crate::occurrences::{Occurrences, next_by};
-use crate::passes::{Passes, groups_by, matches_by, needed_candidate, new_passes, whole_alone};
+use crate::passes::{Passes, groups_by, matches_by, new_passes, whole_alone};
 use crate::scratch::{Desk, Scratch};
 use crate::table_room::TableRoom;
 use sedpass::nodes::Prepared;
 use sedpass::occurrences::is_null_at;
 use sedre::{Expr, Steps};
 use sedtext::counted::Text;
+use sedtext::counted::lookups::find_literal;
 use std::alloc::{AllocError, Global};
 use std::marker::Model;
 
@@ -200,7 +201,10 @@ impl TableMatcher {
     {
         match &self.engine {
             Engine::Direct(_, form) => direct_candidate(form, text, steps),
-            Engine::Passes(passes) => needed_candidate(&passes.sought.hints.needed, text, steps),
+            Engine::Passes(passes) => match &passes.sought.hints.needed {
+                Some(needed) => find_literal(text, &needed.finder, 0, steps),
+                None => Some(0),
+            },
         }
     }
 
