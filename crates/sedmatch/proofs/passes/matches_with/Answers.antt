@@ -1,4 +1,4 @@
 use Rattle.sedmatch.proofs.passes.matches_with.Goals as goal
 
-pub returns-else-from-eq0-clause-any : goal.returns-else-from-eq0-clause-any
-returns-else-from-eq0-clause-any c = c.requires.any
+pub returns-in_default-clause-any : goal.returns-in_default-clause-any
+returns-in_default-clause-any c = c.is_match.ensures.any
