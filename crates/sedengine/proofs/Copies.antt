@@ -9,10 +9,10 @@ use Rattle.sedengine.specs.State.{Limits, Task, copy, State, Setting}
 use Rattle.sedengine.specs.Move.{next_move, after, written, to_sink, copies, quietly}
 use Rattle.sedengine.specs.Meters.{Sent, SinkView}
 use Rattle.sedengine.specs.Calls.{Puts}
-use Rattle.sedengine.specs.Ends.{WithinLimits, Within, BrokenOff, takes_turn}
+use Rattle.sedengine.specs.Ends.{WithinLimits, Within, BrokenOff}
 use Rattle.sedengine.specs.Held.{HoldsAt, SameLengths}
 use Rattle.sedengine.specs.Run.{InOneCycle}
-use Rattle.sedengine.specs.Steps.{Ran, Stopped, WholeOrBrokenOff, next_or_stay, writes_of}
+use Rattle.sedengine.specs.Steps.{takes_turn, Ran, Stopped, WholeOrBrokenOff, next_or_stay, writes_of}
 use Rattle.sedengine.specs.declared.ends.Ended.{Ended}
 use Rattle.sedengine.specs.declared.ends.Ended.TheVariants.{TurnsSpent}
 use Rattle.sedengine.proofs.Gains.{to_sink-append, take-to_sink}

@@ -2,6 +2,7 @@ pub mod Gains
 pub mod Sending
 pub mod Writing
 pub mod Streams
+pub mod Causes
 pub mod Moves
 pub mod Runs
 pub mod Leaving

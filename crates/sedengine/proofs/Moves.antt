@@ -5,11 +5,12 @@ use Rattle.sedengine.specs.State.{Limits, Task, State, Move, Setting}
 use Rattle.sedengine.specs.Move.{next_move, first_task, after, written, writing, quietly}
 use Rattle.sedengine.specs.Meters.{Sent, SinkView}
 use Rattle.sedengine.specs.Calls.{Puts}
-use Rattle.sedengine.specs.Ends.{WithinLimits, Within, Cause, BrokenOff, Whole, IsCause, named_sink}
+use Rattle.sedengine.specs.Ends.{WithinLimits, Within, Cause, BrokenOff, Whole, named_sink}
 use Rattle.sedengine.specs.Held.{HoldsAt, SameLengths}
 use Rattle.sedengine.specs.Run.{InOneCycle, starts_cycle}
-use Rattle.sedengine.specs.Steps.{Ran, Stopped, Moves, WholeOrBrokenOff, next_or_stay, writes_of}
+use Rattle.sedengine.specs.Steps.{StopsTask, Ran, Stopped, Moves, WholeOrBrokenOff, next_or_stay, writes_of}
 use Rattle.sedengine.specs.declared.ends.Ended.{Ended}
+use Rattle.sedengine.proofs.Causes.{cause_is}
 use Rattle.sedengine.proofs.Sending.{Sent-append, Sent-none}
 use Rattle.sedengine.proofs.Writing.{slice_get-append_add}
 
@@ -200,9 +201,9 @@ moves_writing l g s now old new out (Ok u) f is n lines put = ran_once l g s now
 moves_writing l g s now old new out (Err end) f is n lines put = stopped_writing l g s now now old new out end f is n (same_self now) lines put
 
 -- the end has come
-pub stopped_here : (l : Limits) (g : Setting) (s now : State) (sinks : SinkView) (end : Ended) → WithinLimits l s → named_sink end ≡ None → IsCause l g s end → SameLengths s now → s.lines ≡ now.lines → Stopped l g s now sinks sinks end
+pub stopped_here : (l : Limits) (g : Setting) (s now : State) (sinks : SinkView) (end : Ended) → WithinLimits l s → named_sink end ≡ None → StopsTask l g s end → SameLengths s now → s.lines ≡ now.lines → Stopped l g s now sinks sinks end
 stopped_here l g s now sinks end f none cause same lines =
-    let whole : Whole l g s [] end 0 = record { within = within_none l g s f; wrote = rw written_none refl; cause = rw after_none cause } in
+    let whole : Whole l g s [] end 0 = record { within = within_none l g s f; wrote = rw written_none refl; cause = rw after_none (cause_is l g s end f cause) } in
     let C : Option ℕ → Type 0 = λ o. WholeOrBrokenOff l g s [] end 0 o in
     let here : SameLengths (after g s 0) now = rw after_none same in
     let H : Option ℕ → Type 0 = λ o. HoldsAt g s 0 now o in

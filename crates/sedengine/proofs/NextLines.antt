@@ -8,11 +8,11 @@ use Rattle.sedspace.specs.declared.lines.Got.{Got}
 use Rattle.sedspace.specs.declared.lines.Got.TheVariants.{Line, End}
 use Rattle.sedengine.specs.State.{Limits, Task, print_pattern, flush, empty_pattern, fetch, join, State, Move, Setting}
 use Rattle.sedengine.specs.Move.{next_move, newline, none_left, quietly, then_do, with_line}
-use Rattle.sedengine.specs.Ends.{WithinLimits, IsCause, named_sink, line_at, reads, takes_turn, size_of}
+use Rattle.sedengine.specs.Ends.{WithinLimits, named_sink, reads, size_of}
 use Rattle.sedengine.specs.Held.{SameLengths}
 use Rattle.sedengine.specs.Meters.{SinkView}
 use Rattle.sedengine.specs.Run.{RunState, at_lines, run_setting, starts_cycle, lost}
-use Rattle.sedengine.specs.Steps.{Moves, PerformsSteps, Ran, StepsFrom, TakesLines}
+use Rattle.sedengine.specs.Steps.{StopsTask, line_at, takes_turn, Moves, PerformsSteps, Ran, StepsFrom, TakesLines}
 use Rattle.sedengine.specs.Bringing.{Brings, brought, next_line}
 use Rattle.sedengine.specs.Choose.{TellsLine}
 use Rattle.sedengine.specs.declared.next_step.NextStep.TheVariants as p
@@ -91,7 +91,7 @@ module _ {R : Type 0} (remaining : R → Option (List ℕ)) (old new : Stream R)
   here = record { pattern = ap length (sym spaces); hold = ap length (sym hold); queue = λ _. ap length (sym queue); entries = let q = ap length queue in omega arith }
 
   -- the end comes where nothing was brought
-  halts : (end : Ended) → e' ≡ with_pattern e c'.bytes → c' ≡ c → named_sink end ≡ None → lost e.limits end ≡ c.limit → LosesPart (left remaining old) (left remaining new) c.limit → IsCause e.limits g s end →
+  halts : (end : Ended) → e' ≡ with_pattern e c'.bytes → c' ≡ c → named_sink end ≡ None → lost e.limits end ≡ c.limit → LosesPart (left remaining old) (left remaining new) c.limit → StopsTask e.limits g s end →
       StepsFrom remaining old new ls e.limits g s e' sinks sinks (Err end)
   halts end after is no_sink loses part cause =
       let bytes : c'.bytes ≡ e.state.pattern = ap (λ (c : Contents). c.bytes) is ∙ pattern in

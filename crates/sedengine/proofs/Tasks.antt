@@ -9,11 +9,11 @@ use Rattle.sedspace.specs.Stream.{Stream, left, lines_left, TakesLine, GivesLine
 use Rattle.sedspace.specs.Lines.{TakesAtMost}
 use Rattle.sedengine.specs.State.{Limits, Task, begin, do_at, State, Setting}
 use Rattle.sedengine.specs.Move.{next_move, start, quietly, then_do, none_left}
-use Rattle.sedengine.specs.Ends.{WithinLimits, IsCause, line_at, takes_turn, reads, named_sink}
+use Rattle.sedengine.specs.Ends.{WithinLimits, reads, named_sink}
 use Rattle.sedengine.specs.Held.{SameLengths}
 use Rattle.sedengine.specs.Meters.{SinkView}
 use Rattle.sedengine.specs.Run.{RunState, at_lines, run_setting, lost}
-use Rattle.sedengine.specs.Steps.{Ran, Moves, TakesLines, Halted, Steps}
+use Rattle.sedengine.specs.Steps.{StopsTask, line_at, takes_turn, Ran, Moves, TakesLines, Halted, Steps}
 use Rattle.sedengine.specs.Inside.{run_of, tasks_of, entries_of, IsConsistent, IsEmptied}
 use Rattle.sedengine.specs.declared.machine.Machine.TheInside.{Inside}
 use Rattle.sedengine.specs.declared.next_step.NextStep.{NextStep}
@@ -39,7 +39,7 @@ seen_steps {R} remaining old new a e e' ts files ls sinks sinks' r seen t h =
     let Q : RunState → Type 0 = λ e. e.state.tasks ≡ ts → Steps remaining old new ls e.limits (run_setting e files) e e' sinks sinks' r in subst Q seen h t
 
 -- The end comes at once, and no line was taken.
-pub halts_here : {R : Type 0} (remaining : R → Option (List ℕ)) (old new : Stream R) (l : Limits) (g : Setting) (s : State) (e : RunState) (sinks : SinkView) (end : Ended) → WithinLimits l s → named_sink end ≡ None → IsCause l g s end → SameLengths s e.state →
+pub halts_here : {R : Type 0} (remaining : R → Option (List ℕ)) (old new : Stream R) (l : Limits) (g : Setting) (s : State) (e : RunState) (sinks : SinkView) (end : Ended) → WithinLimits l s → named_sink end ≡ None → StopsTask l g s end → SameLengths s e.state →
     LosesPart (left remaining old) (left remaining new) (lost l end) → Halted remaining old new l g s e sinks sinks end
 halts_here {R} remaining old new l g s e sinks end f none cause same part = record {
   rest = s.lines;

@@ -1,12 +1,11 @@
 -- How a run ends: what its sinks have gained, the ends and their causes (this project's own; XCU sed names no limits).
-use Rattle.std.specs.Prelude.{◌≡◌, ℕ, ◌+◌, ◌≤◌, Option, Some, None, Result, Err, IfSome, MatchOption, List, [], ◌∷◌, length, nat_eq, if◌then◌else◌, suc, ◌<◌, Bool, true, false, ◌||◌, take, slice_get, is_some, not, ◌++◌, drop, ⊤}
+use Rattle.std.specs.Prelude.{◌≡◌, ◌≢◌, ℕ, ◌+◌, ◌≤◌, Option, Some, None, Result, Err, IfSome, MatchOption, List, [], ◌∷◌, length, nat_eq, if◌then◌else◌, suc, ◌<◌, Bool, true, false, ◌||◌, take, slice_get, ◌++◌, drop, ⊤}
 use Rattle.std.specs.Option.{option_map_or}
 use Rattle.std.specs.Io.KnownBytes.{Appends}
 use Rattle.sedspace.specs.Failures.{Rose}
 use Rattle.sedengine.specs.Types.{Ended, InputBroken, OutputBroken, OutputFull, Done, PatternFull, HoldFull, QueueFull, TurnsSpent, NoPrevious, Address, Last, Command, Action, Plain, NextLine}
-use Rattle.sedengine.specs.State.{Task, begin, rebegin, do_at, copy, fetch, join, State, Move, Setting}
-use Rattle.sedengine.specs.Move.{next_move, after, written, none_left}
-use Rattle.sedengine.specs.declared.limits.Limits.{Limits}
+use Rattle.sedengine.specs.State.{Limits, Task, begin, do_at, fetch, join, State, Move, Setting}
+use Rattle.sedengine.specs.Move.{next_move, after, written}
 use Rattle.sedspace.specs.Lines.{HasNoNewline}
 
 -- the bytes of one sink among bytes for all
@@ -47,25 +46,6 @@ pub record WithinLimits (l : Limits) (s : State) : Type 0 where
 unfoldable pub Within : Limits → Setting → State → ℕ → Type 0
 Within l g s t = (k : ℕ) → k ≤ t → WithinLimits l (after g s k)
 
--- whether the first task takes a turn: the start of a cycle that has a line, a command, a byte of a file
-abbrev pub takes_turn : Setting → State → List Task → Bool
-takes_turn g s (begin ∷ rest) = not (none_left s.lines)
-takes_turn g s (rebegin ∷ rest) = true
-takes_turn g s (do_at k ∷ rest) = is_some (slice_get g.commands k)
-takes_turn g s (copy k o ∷ rest) = is_some (slice_get (g.files k) o)
-takes_turn g s other = false
-
--- a first task that takes a turn has one left
-abbrev pub HasTurn : Limits → Setting → State → Type 0
-HasTurn l g s = takes_turn g s s.tasks ≡ true → s.turns < l.turns
-
--- the line that the first task is about: that of the state, or the one that it fetches
-abbrev pub line_at : State → List Task → ℕ
-line_at s (begin ∷ rest) = s.number + 1
-line_at s (fetch ∷ rest) = s.number + 1
-line_at s (join ∷ rest) = s.number + 1
-line_at s other = s.number
-
 -- whether an address is `$`
 abbrev pub is_dollar : Option Address → Bool
 is_dollar (Some Last) = true
@@ -88,14 +68,9 @@ reads g (join ∷ rest) = true
 reads g (do_at k ∷ rest) = option_map_or asks_last (slice_get g.commands k) false
 reads g other = false
 
--- whether the first task reaches a command, or the end of the script
-abbrev pub reaches : List Task → Bool
-reaches (do_at k ∷ rest) = true
-reaches other = false
-
--- there is a move, and what it leads to is so
-abbrev pub Leads : Option Move → (Move → Type 0) → Type 0
-Leads o P = (m : Move) × (o ≡ Some m) × P m
+-- the next move takes no turn too many, and leads to line n and to a state of which this is so
+abbrev pub LeadsTo : Limits → Setting → State → ℕ → (State → Type 0) → Type 0
+LeadsTo l g s n P = (m : Move) × (next_move g s ≡ Some m) × (n ≡ m.next.number) × (m.next.turns ≤ l.turns) × P m.next
 
 -- the sink that an end names, as broken or as full
 abbrev pub named_sink : Ended → Option ℕ
@@ -106,12 +81,12 @@ named_sink other = None
 -- The cause of an end that names no sink, at the state where it comes; `BrokenOff` is that of a broken or a full output.
 abbrev pub IsCause : Limits → Setting → State → Ended → Type 0
 IsCause l g s Done = s.tasks ≡ []
-IsCause l g s (PatternFull n) =
-    (n ≡ line_at s s.tasks) × HasTurn l g s × Leads (next_move g s) (λ m. l.space < length m.next.pattern)
-IsCause l g s (HoldFull n) = (n ≡ s.number) × HasTurn l g s × Leads (next_move g s) (λ m. l.space < length m.next.hold)
-IsCause l g s (QueueFull n) = (n ≡ s.number) × HasTurn l g s × Leads (next_move g s) (λ m. l.queue < length m.next.queue)
-IsCause l g s TurnsSpent = (s.turns ≡ l.turns) × (takes_turn g s s.tasks ≡ true)
-IsCause l g s (NoPrevious n) = (n ≡ s.number) × HasTurn l g s × (reaches s.tasks ≡ true) × (next_move g s ≡ None)
+IsCause l g s (PatternFull n) = LeadsTo l g s n (λ now. l.space < length now.pattern)
+IsCause l g s (HoldFull n) = LeadsTo l g s n (λ now. l.space < length now.hold)
+IsCause l g s (QueueFull n) = LeadsTo l g s n (λ now. l.queue < length now.queue)
+IsCause l g s TurnsSpent =
+    (s.turns ≡ l.turns) × (s.tasks ≢ []) × ((m : Move) → next_move g s ≡ Some m → l.turns < m.next.turns)
+IsCause l g s (NoPrevious n) = (n ≡ s.number) × (s.turns < l.turns) × (s.tasks ≢ []) × (next_move g s ≡ None)
 IsCause l g s InputBroken = reads g s.tasks ≡ true
 IsCause l g s other = ⊥
 

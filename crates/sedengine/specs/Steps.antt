@@ -1,17 +1,17 @@
 -- Private to the proofs: no contract of a public item cites what stands here.
 -- Moves of the engine, and what its calls promise one another.
-use Rattle.std.specs.Prelude.{◌≡◌, ℕ, true, ◌+◌, ◌*◌, ◌-◌, ◌<◌, Bool, false, Option, Some, None, Result, Ok, Err, List, [], ◌∷◌, ◌++◌}
+use Rattle.std.specs.Prelude.{◌≡◌, ℕ, true, ◌+◌, ◌*◌, ◌-◌, ◌<◌, Bool, false, Option, Some, None, Result, Ok, Err, List, [], ◌∷◌, ◌++◌, is_some, length, not, slice_get}
 use Rattle.std.specs.Option.{MatchOption, option_map_or}
 use Rattle.std.specs.Borrow.{GName}
 use Rattle.std.specs.Io.KnownBytes.{Keeps}
 use Rattle.sedspace.specs.Stream.{Stream, left, lines_left}
 use Rattle.sedspace.specs.Lines.{TakesAtMost}
-use Rattle.sedengine.specs.Types.{Command, Action, Block, Branch, File, Plain, Text, Transliterate, AppendHold, AppendNext, CopyHold, Exchange, Hold, HoldMore, NextLine, Quit, Append, Read, Ended}
-use Rattle.sedengine.specs.State.{Limits, Task, do_at, State, Move, Setting}
+use Rattle.sedengine.specs.Types.{Command, Action, Block, Branch, File, Plain, Text, Transliterate, AppendHold, AppendNext, CopyHold, Exchange, Hold, HoldMore, NextLine, Quit, Append, Read, Ended, Done, HoldFull, InputBroken, NoPrevious, PatternFull, QueueFull, TurnsSpent}
+use Rattle.sedengine.specs.State.{Limits, Task, begin, rebegin, do_at, copy, fetch, join, State, Move, Setting}
 use Rattle.sedengine.specs.Meters.{Sent, SinkView}
 use Rattle.sedengine.specs.Calls.{Delivers, DeliversAlone, ReadsLines}
-use Rattle.sedengine.specs.Move.{acts, next_move, after, written}
-use Rattle.sedengine.specs.Ends.{WithinLimits, HasTurn, Within, Cause, named_sink, reaches, reads, LosesPartAfter, size_of, Whole, BrokenOff}
+use Rattle.sedengine.specs.Move.{acts, next_move, after, none_left, written}
+use Rattle.sedengine.specs.Ends.{WithinLimits, Within, Cause, named_sink, reads, LosesPartAfter, size_of, Whole, BrokenOff}
 use Rattle.sedengine.specs.Held.{HoldsAt, SameLengths}
 use Rattle.sedengine.specs.Run.{RunState, InOneCycle, at_lines, lost, run_setting}
 
@@ -25,6 +25,46 @@ writes_of o = option_map_or (λ m. m.writes) o []
 -- an end that is whole, or broken off where a sink takes no more
 abbrev pub WholeOrBrokenOff : Limits → Setting → State → List (ℕ × ℕ) → Ended → ℕ → Option ℕ → Type 0
 WholeOrBrokenOff l g s out end t o = MatchOption o (Whole l g s out end t) (λ k. BrokenOff l g s out k t)
+
+-- whether the first task takes a turn: the start of a cycle that has a line, a command, a byte of a file
+abbrev pub takes_turn : Setting → State → List Task → Bool
+takes_turn g s (begin ∷ rest) = not (none_left s.lines)
+takes_turn g s (rebegin ∷ rest) = true
+takes_turn g s (do_at k ∷ rest) = is_some (slice_get g.commands k)
+takes_turn g s (copy k o ∷ rest) = is_some (slice_get (g.files k) o)
+takes_turn g s other = false
+
+-- a first task that takes a turn has one left
+abbrev pub HasTurn : Limits → Setting → State → Type 0
+HasTurn l g s = takes_turn g s s.tasks ≡ true → s.turns < l.turns
+
+-- the line that the first task is about: that of the state, or the one that it fetches
+abbrev pub line_at : State → List Task → ℕ
+line_at s (begin ∷ rest) = s.number + 1
+line_at s (fetch ∷ rest) = s.number + 1
+line_at s (join ∷ rest) = s.number + 1
+line_at s other = s.number
+
+-- whether the first task reaches a command, or the end of the script
+abbrev pub reaches : List Task → Bool
+reaches (do_at k ∷ rest) = true
+reaches other = false
+
+-- there is a move, and what it leads to is so
+abbrev pub Leads : Option Move → (Move → Type 0) → Type 0
+Leads o P = (m : Move) × (o ≡ Some m) × P m
+
+-- The cause of an end by the first task. In a state within the limits it is `IsCause`.
+abbrev pub StopsTask : Limits → Setting → State → Ended → Type 0
+StopsTask l g s Done = s.tasks ≡ []
+StopsTask l g s (PatternFull n) =
+    (n ≡ line_at s s.tasks) × HasTurn l g s × Leads (next_move g s) (λ m. l.space < length m.next.pattern)
+StopsTask l g s (HoldFull n) = (n ≡ s.number) × HasTurn l g s × Leads (next_move g s) (λ m. l.space < length m.next.hold)
+StopsTask l g s (QueueFull n) = (n ≡ s.number) × HasTurn l g s × Leads (next_move g s) (λ m. l.queue < length m.next.queue)
+StopsTask l g s TurnsSpent = (s.turns ≡ l.turns) × (takes_turn g s s.tasks ≡ true)
+StopsTask l g s (NoPrevious n) = (n ≡ s.number) × HasTurn l g s × (reaches s.tasks ≡ true) × (next_move g s ≡ None)
+StopsTask l g s InputBroken = reads g s.tasks ≡ true
+StopsTask l g s other = ⊥
 
 -- Moves were made, which led to this state. Only the last of them may have led to the start of a cycle.
 pub record Ran (l : Limits) (g : Setting) (s now : State) (old new : SinkView) : Type 0 where

@@ -7,7 +7,7 @@ use Rattle.sedspace.specs.Spaces.{Contents}
 use Rattle.sedengine.specs.State.{Limits, State, Move, Setting}
 use Rattle.sedengine.specs.Substitute.{Occurrence, occurrences, to_replace, replaced_from}
 use Rattle.sedengine.specs.Move.{quietly, writing, written_by}
-use Rattle.sedengine.specs.Ends.{Leads}
+use Rattle.sedengine.specs.Steps.{Leads}
 use Rattle.sedengine.specs.Run.{RunState}
 
 -- the occurrences in a text that a substitution with the expression e replaces

@@ -8,11 +8,11 @@ ghost use Rattle.sedspace.specs.Stream.{lines_left};
 ghost use Rattle.sedengine.specs.State.{do_at, print_pattern, flush, TellsFiles};
 ghost use Rattle.sedengine.specs.Listing.{listed};
 ghost use Rattle.sedengine.specs.Move.{acts, passes, line_to, writes_text_at, to_sink};
-ghost use Rattle.sedengine.specs.Ends.{reaches, is_next};
+ghost use Rattle.sedengine.specs.Ends.{is_next};
 ghost use Rattle.sedengine.specs.Meters.{SinkView};
 ghost use Rattle.sedengine.specs.Calls.{Delivers, NamesNone, Puts};
 ghost use Rattle.sedengine.specs.Run.{at_lines, run_setting};
-ghost use Rattle.sedengine.specs.Steps.{ActsQuietly, HasAction, KeepsRun, LeavesGiven, LeavesLines, MakesMove, PerformsSteps, Steps, writes_nothing, takes_further_line, weight};
+ghost use Rattle.sedengine.specs.Steps.{reaches, ActsQuietly, HasAction, KeepsRun, LeavesGiven, LeavesLines, MakesMove, PerformsSteps, Steps, writes_nothing, takes_further_line, weight};
 
 use super::Machine;
 use crate::ends::Ended;

@@ -1,11 +1,10 @@
 //! The commands `g`, `G`, `h`, `H` and `x`: the hold space (XCU sed, "Editing Commands in sed").
 ghost use Rattle.std.specs.Prelude.{◌≡◌, ◌≤◌, ◌+◌, ◌∷◌, ◌++◌, Err, true};
 ghost use Rattle.sedengine.specs.Move.{newline};
-ghost use Rattle.sedengine.specs.Ends.{reaches};
 ghost use Rattle.sedengine.specs.Holding.{BecomesOrFull};
 ghost use Rattle.sedengine.specs.Inside.{FillsHold, holds};
 ghost use Rattle.sedengine.specs.Calls.{NamesNone};
-ghost use Rattle.sedengine.specs.Steps.{ActsQuietly, KeepsRun, uses_hold, weight};
+ghost use Rattle.sedengine.specs.Steps.{reaches, ActsQuietly, KeepsRun, uses_hold, weight};
 
 use super::Machine;
 use crate::ends::Ended;

@@ -7,11 +7,10 @@ ghost use Rattle.sedspace.specs.Spaces.{Contents};
 ghost use Rattle.sedspace.specs.Stream.{lines_left};
 ghost use Rattle.sedengine.specs.State.{empty_pattern, fetch, flush, join, print_pattern, TellsFiles};
 ghost use Rattle.sedengine.specs.Move.{acts, newline, then_do};
-ghost use Rattle.sedengine.specs.Ends.{reaches};
 ghost use Rattle.sedengine.specs.Meters.{SinkView};
 ghost use Rattle.sedengine.specs.Calls.{ReadsAlone};
 ghost use Rattle.sedengine.specs.Run.{at_lines, run_setting};
-ghost use Rattle.sedengine.specs.Steps.{KeepsRun, LeavesLines, PerformsSteps, StepsFrom, weight};
+ghost use Rattle.sedengine.specs.Steps.{reaches, KeepsRun, LeavesLines, PerformsSteps, StepsFrom, weight};
 ghost use Rattle.sedengine.specs.Bringing.{Brings, brought, next_line};
 
 use super::Machine;

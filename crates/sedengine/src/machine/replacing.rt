@@ -5,10 +5,9 @@ ghost use Rattle.std.specs.Option.{option_map_or};
 ghost use Rattle.sedscript.specs.declared.substitution.Substitution.{Substitution};
 ghost use Rattle.sedengine.specs.State.{do_at};
 ghost use Rattle.sedengine.specs.Move.{in_table, line_to, substitutes, written_by};
-ghost use Rattle.sedengine.specs.Ends.{reaches};
 ghost use Rattle.sedengine.specs.Calls.{DeliversAlone, NamesNone, Puts};
 ghost use Rattle.sedengine.specs.Run.{at_lines, run_setting};
-ghost use Rattle.sedengine.specs.Steps.{KeepsRun, MakesMove, weight};
+ghost use Rattle.sedengine.specs.Steps.{reaches, KeepsRun, MakesMove, weight};
 ghost use Rattle.sedengine.specs.SubstituteCalls.{Makes, same_but_replaced};
 
 use super::Machine;

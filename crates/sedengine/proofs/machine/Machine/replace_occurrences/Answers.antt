@@ -2,7 +2,7 @@ use Rattle.std.proofs.Common.{◌≡◌, ◌<◌, ◌∙◌, ℕ, List, Some, Ok
 use Rattle.std.proofs.lemmas.Grind.{elements}
 use Rattle.std.specs.Prelude.{slice_get}
 use Rattle.sedscript.specs.declared.substitution.Substitution.{Substitution}
-use Rattle.sedengine.specs.Ends.{reaches}
+use Rattle.sedengine.specs.Steps.{reaches}
 use Rattle.sedengine.specs.Run.{RunState, at_lines}
 use Rattle.sedengine.specs.State.{search_in}
 use Rattle.sedengine.specs.Substitute.{to_replace, occurrences}
