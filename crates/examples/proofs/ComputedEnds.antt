@@ -1,6 +1,6 @@
 -- Ends of runs within limits as a computation, so that examples of them can be computed.
 use Rattle.std.proofs.Common.{◌≡◌, ℕ, zero, suc, ◌≤◌, Bool, false, true, ◌&&◌, List, [], ◌∷◌, ◌++◌, length, take, Option, Some, None, refl, sym, ap, subst, ◌∙◌, arith}
-use Rattle.std.specs.Prelude.{◌<◌, eqb, leb, ltb, if◌then◌else◌, slice_get}
+use Rattle.std.specs.Prelude.{◌<◌, ◌≢◌, eqb, leb, ltb, not, slice_get}
 use Rattle.std.proofs.lemmas.Bool.{leb-true, ltb-true, eqb-true}
 use Rattle.sedre.specs.declared.types.Kind.{Kind}
 use Rattle.sedre.specs.declared.types.Kind.TheVariants.{Basic}
@@ -9,7 +9,7 @@ use Rattle.examples.proofs.ComputedScript.{Script}
 use Rattle.sedspace.specs.Lines.{lines}
 use Rattle.sedengine.specs.State.{Limits, State, Task, Move, Setting, setting_of}
 use Rattle.sedengine.specs.Move.{next_move, after, start, to_sink}
-use Rattle.sedengine.specs.Ends.{WithinLimits, Within, HasTurn, IsCause, Cause, Whole, BrokenOff, named_sink, takes_turn, line_at, reaches, reads}
+use Rattle.sedengine.specs.Ends.{WithinLimits, Within, IsCause, Cause, Whole, BrokenOff, named_sink, reads}
 use Rattle.sedengine.specs.declared.ends.Ended.{Ended}
 use Rattle.sedengine.specs.declared.ends.Ended.TheVariants.{Done, PatternFull, HoldFull, QueueFull, TurnsSpent, NoPrevious, InputBroken}
 use Rattle.examples.proofs.ComputedRun.{course, course_so, stays, after_first, written_first}
@@ -64,26 +64,27 @@ module _ (l : Limits) (g : Setting) where
   unfolding Within
   within_so n s e = each_fits n s e
 
--- whether the first task has a turn left where it takes one
-abbrev pub has_turn : Limits → Setting → State → Bool
-has_turn l g s = if takes_turn g s s.tasks then ltb s.turns l.turns else true
+-- whether there is a move that takes no turn too many, and leads to line n and to a state of which this is so
+abbrev pub leads_to : Limits → ℕ → (State → Bool) → Option Move → Bool
+leads_to l n test None = false
+leads_to l n test (Some m) = eqb n m.next.number && (leb m.next.turns l.turns && test m.next)
 
-if_so : (a b : Bool) → (if a then b else true) ≡ true → a ≡ true → b ≡ true
-if_so true b e is = e
-if_so false b e is = absurd cc
+leads_so : (l : Limits) (n limit : ℕ) (size : State → ℕ) (o : Option Move) → leads_to l n (λ now. ltb limit (size now)) o ≡ true →
+    (m : Move) × (o ≡ Some m) × (n ≡ m.next.number) × (m.next.turns ≤ l.turns) × (limit < size m.next)
+leads_so l n limit size None e = absurd cc
+leads_so l n limit size (Some m) e =
+    let one = both _ _ e in
+    let two = both _ _ one.1 in
+    (m, refl, eqb-true _ _ one.0, leb-true _ _ two.0, ltb-true _ _ two.1)
 
-has_turn_so : (l : Limits) (g : Setting) (s : State) → has_turn l g s ≡ true → HasTurn l g s
-has_turn_so l g s e = λ takes. ltb-true _ _ (if_so (takes_turn g s s.tasks) _ e takes)
+-- whether a move, where there is one, takes a turn too many
+abbrev pub none_allowed : Limits → Option Move → Bool
+none_allowed l None = true
+none_allowed l (Some m) = ltb l.turns m.next.turns
 
--- whether there is a move, and what it leads to is so
-abbrev pub leads : Option Move → (Move → Bool) → Bool
-leads None test = false
-leads (Some m) test = test m
-
-leads_so : (o : Option Move) (limit : ℕ) (size : Move → ℕ) → leads o (λ m. ltb limit (size m)) ≡ true →
-    (m : Move) × (o ≡ Some m) × (limit < size m)
-leads_so None limit size e = absurd cc
-leads_so (Some m) limit size e = (m, refl, ltb-true _ _ e)
+none_allowed_so : (l : Limits) (o : Option Move) → none_allowed l o ≡ true → (m : Move) → o ≡ Some m → l.turns < m.next.turns
+none_allowed_so l None e m is = absurd cc
+none_allowed_so l (Some x) e m is = let same : x ≡ m = cc in subst (λ (y : Move). l.turns < y.next.turns) same (ltb-true _ _ e)
 
 abbrev pub no_tasks : List Task → Bool
 no_tasks [] = true
@@ -97,6 +98,10 @@ no_tasks_so : (ts : List Task) → no_tasks ts ≡ true → ts ≡ []
 no_tasks_so [] e = refl
 no_tasks_so (t ∷ ts) e = absurd cc
 
+some_tasks_so : (ts : List Task) → not (no_tasks ts) ≡ true → ts ≢ []
+some_tasks_so [] e none = absurd cc
+some_tasks_so (t ∷ ts) e none = absurd cc
+
 no_move_so : (o : Option Move) → no_move o ≡ true → o ≡ None
 no_move_so None e = refl
 no_move_so (Some m) e = absurd cc
@@ -104,37 +109,29 @@ no_move_so (Some m) e = absurd cc
 -- whether an end that names no sink has its cause at this state
 abbrev pub is_cause : Limits → Setting → State → Ended → Bool
 is_cause l g s Done = no_tasks s.tasks
-is_cause l g s (PatternFull n) =
-    eqb n (line_at s s.tasks) && (has_turn l g s && leads (next_move g s) (λ m. ltb l.space (length m.next.pattern)))
-is_cause l g s (HoldFull n) =
-    eqb n s.number && (has_turn l g s && leads (next_move g s) (λ m. ltb l.space (length m.next.hold)))
-is_cause l g s (QueueFull n) =
-    eqb n s.number && (has_turn l g s && leads (next_move g s) (λ m. ltb l.queue (length m.next.queue)))
-is_cause l g s TurnsSpent = eqb s.turns l.turns && takes_turn g s s.tasks
-is_cause l g s (NoPrevious n) = eqb n s.number && (has_turn l g s && (reaches s.tasks && no_move (next_move g s)))
+is_cause l g s (PatternFull n) = leads_to l n (λ now. ltb l.space (length now.pattern)) (next_move g s)
+is_cause l g s (HoldFull n) = leads_to l n (λ now. ltb l.space (length now.hold)) (next_move g s)
+is_cause l g s (QueueFull n) = leads_to l n (λ now. ltb l.queue (length now.queue)) (next_move g s)
+is_cause l g s TurnsSpent = eqb s.turns l.turns && (not (no_tasks s.tasks) && none_allowed l (next_move g s))
+is_cause l g s (NoPrevious n) =
+    eqb n s.number && (ltb s.turns l.turns && (not (no_tasks s.tasks) && no_move (next_move g s)))
 is_cause l g s InputBroken = reads g s.tasks
 is_cause l g s other = false
 
 cause_so : (l : Limits) (g : Setting) (s : State) (end : Ended) → is_cause l g s end ≡ true → IsCause l g s end
 cause_so l g s Done e = no_tasks_so s.tasks e
-cause_so l g s (PatternFull n) e =
+cause_so l g s (PatternFull n) e = leads_so l n l.space (λ now. length now.pattern) (next_move g s) e
+cause_so l g s (HoldFull n) e = leads_so l n l.space (λ now. length now.hold) (next_move g s) e
+cause_so l g s (QueueFull n) e = leads_so l n l.queue (λ now. length now.queue) (next_move g s) e
+cause_so l g s TurnsSpent e =
     let one = both _ _ e in
     let two = both _ _ one.1 in
-    (eqb-true _ _ one.0, has_turn_so l g s two.0, leads_so (next_move g s) l.space (λ m. length m.next.pattern) two.1)
-cause_so l g s (HoldFull n) e =
-    let one = both _ _ e in
-    let two = both _ _ one.1 in
-    (eqb-true _ _ one.0, has_turn_so l g s two.0, leads_so (next_move g s) l.space (λ m. length m.next.hold) two.1)
-cause_so l g s (QueueFull n) e =
-    let one = both _ _ e in
-    let two = both _ _ one.1 in
-    (eqb-true _ _ one.0, has_turn_so l g s two.0, leads_so (next_move g s) l.queue (λ m. length m.next.queue) two.1)
-cause_so l g s TurnsSpent e = let one = both _ _ e in (eqb-true _ _ one.0, one.1)
+    (eqb-true _ _ one.0, some_tasks_so s.tasks two.0, none_allowed_so l (next_move g s) two.1)
 cause_so l g s (NoPrevious n) e =
     let one = both _ _ e in
     let two = both _ _ one.1 in
     let three = both _ _ two.1 in
-    (eqb-true _ _ one.0, has_turn_so l g s two.0, three.0, no_move_so (next_move g s) three.1)
+    (eqb-true _ _ one.0, ltb-true _ _ two.0, some_tasks_so s.tasks three.0, no_move_so (next_move g s) three.1)
 cause_so l g s InputBroken e = e
 cause_so l g s other e = absurd cc
 

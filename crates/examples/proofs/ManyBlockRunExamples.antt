@@ -1,6 +1,6 @@
 -- Examples of runs of scripts of as many blocks as one likes, each within the one before it: each
 -- opening brace takes a turn.
-use Rattle.std.proofs.Common.{◌≡◌, ℕ, zero, suc, ◌+◌, ◌-◌, ◌<◌, ◌≤◌, Bool, true, false, List, [], ◌∷◌, ◌++◌, Some, None, refl, subst, arith}
+use Rattle.std.proofs.Common.{◌≡◌, ℕ, zero, suc, ◌+◌, ◌-◌, ◌<◌, ◌≤◌, Bool, true, false, List, [], ◌∷◌, ◌++◌, Option, Some, None, refl, sym, ap, ◌∙◌, subst, arith}
 use Rattle.std.specs.Prelude.{codes, leb, map, replicate, slice_get, slice_index_or, slice_set}
 use Rattle.std.proofs.lemmas.Bool.{le-leb}
 use Rattle.sedre.specs.declared.types.Kind.TheVariants.{Basic}
@@ -9,7 +9,7 @@ use Rattle.sedscript.specs.declared.types.Command.{Command}
 use Rattle.sedspace.specs.Lines.{lines}
 use Rattle.sedengine.specs.Ends.{Whole, WithinLimits}
 use Rattle.sedengine.specs.Move.{after, next_move, start, to_sink, written}
-use Rattle.sedengine.specs.State.{setting_of, do_at, State, Setting}
+use Rattle.sedengine.specs.State.{setting_of, do_at, State, Move, Setting}
 use Rattle.sedengine.specs.Select.{selects}
 use Rattle.sedengine.specs.declared.ends.Ended.{Ended}
 use Rattle.sedengine.specs.declared.ends.Ended.TheVariants.{Done, TurnsSpent}
@@ -83,13 +83,18 @@ finishes most n taken ranges few =
     let so : leb taken most ≡ true = le-leb taken most few in
     whole_after 5 (rw none refl) (rw none refl) (rw (none, so) refl)
 
+same_turns : (a b : Move) → ◌≡◌ {A = Option Move} (Some a) (Some b) → a.next.turns ≡ b.next.turns
+same_turns a b e = let same : a ≡ b = cc in ap (λ (m : Move). m.next.turns) same
+
+one_more : (n k taken : ℕ) (ranges : List Bool) → k < n → (m : Move) → next_move (setting n) (before ranges k taken) ≡ Some m → taken < m.next.turns
+one_more n k taken ranges below m is = omega (arith, same_turns m _ (sym is ∙ enters n k taken ranges below))
+
 -- where no turn is left, it isn't
 spent : (n k taken : ℕ) (ranges : List Bool) → k < n → Whole (turns taken) (setting n) (before ranges k taken) [] TurnsSpent 0
 unfolding after written all_fit
 spent n k taken ranges below =
-    let there : slice_get (replicate n (always (Block n))) k ≡ Some (always (Block n)) = command_there n k (always (Block n)) below in
     let so : leb taken taken ≡ true = le-leb taken taken (omega arith) in
-    record { within = within_so (turns taken) (setting n) 0 (before ranges k taken) (rw so refl); wrote = refl; cause = (refl, rw there refl) }
+    record { within = within_so (turns taken) (setting n) 0 (before ranges k taken) (rw so refl); wrote = refl; cause = (refl, (λ none. cc), one_more n k taken ranges below) }
 
 abbrev begins_at : ℕ → State
 begins_at n = start (program 65536 n).commands (lines input)

@@ -1,8 +1,8 @@
 -- Ends of runs whose states stay within their limits.
-use Rattle.std.proofs.Common.{◌≡◌, ◌⊎◌, inl, inr, ℕ, zero, suc, ◌+◌, ◌-◌, ◌<◌, ◌≤◌, true, List, [], ◌++◌, length, Option, None, Some, refl, sym, ap, subst, ◌∙◌, append-nil, arith}
+use Rattle.std.proofs.Common.{◌≡◌, ◌⊎◌, inl, inr, ℕ, zero, suc, ◌+◌, ◌-◌, ◌<◌, ◌≤◌, List, [], ◌++◌, length, Option, None, Some, refl, sym, ap, subst, ◌∙◌, append-nil, arith}
 use Rattle.sedengine.specs.State.{Limits, State, Move, Setting}
 use Rattle.sedengine.specs.Move.{after, next_move, written}
-use Rattle.sedengine.specs.Ends.{WithinLimits, Cause, reaches}
+use Rattle.sedengine.specs.Ends.{WithinLimits, Cause}
 use Rattle.sedengine.specs.declared.ends.Ended.{Ended}
 use Rattle.sedengine.specs.declared.ends.Ended.TheVariants.{Done, PatternFull, HoldFull, QueueFull, TurnsSpent, NoPrevious, InputBroken, OutputBroken, OutputFull}
 use Rattle.sedengine.proofs.Moves.{after-add, written-add, move_at}
@@ -58,29 +58,26 @@ pub ends_done : (l : Limits) (g : Setting) (s : State) (out : List (ℕ × ℕ))
     ((k : ℕ) → k ≤ n → WithinLimits l (after g s k)) → ((k : ℕ) → k ≤ n → (after g s k).turns < l.turns) → (end : Ended) (t : ℕ) → NoDevice end → Cause l g s out end t → (end ≡ Done) × (out ≡ all)
 ends_done l g s out n all ended wrote fits spare Done t free c = (refl, sym c.wrote ∙ both_ended g s n t ended c.cause ∙ wrote)
 ends_done l g s out n all ended wrote fits spare (PatternFull i) t free c =
-    let lead = c.cause.2 in
+    let lead = c.cause in
     let f = fits (suc t) (moves_before g s n t lead.0 ended lead.1) in
     let low : length lead.0.next.pattern ≤ l.space = subst (λ (x : State). length x.pattern ≤ l.space) (next_is g s t lead.0 lead.1) f.pattern in
-    absurd (omega (arith, lead.2))
+    absurd (omega (arith, lead.4))
 ends_done l g s out n all ended wrote fits spare (HoldFull i) t free c =
-    let lead = c.cause.2 in
+    let lead = c.cause in
     let f = fits (suc t) (moves_before g s n t lead.0 ended lead.1) in
     let low : length lead.0.next.hold ≤ l.space = subst (λ (x : State). length x.hold ≤ l.space) (next_is g s t lead.0 lead.1) f.hold in
-    absurd (omega (arith, lead.2))
+    absurd (omega (arith, lead.4))
 ends_done l g s out n all ended wrote fits spare (QueueFull i) t free c =
-    let lead = c.cause.2 in
+    let lead = c.cause in
     let f = fits (suc t) (moves_before g s n t lead.0 ended lead.1) in
     let low : length lead.0.next.queue ≤ l.queue = subst (λ (x : State). length x.queue ≤ l.queue) (next_is g s t lead.0 lead.1) f.queue in
-    absurd (omega (arith, lead.2))
+    absurd (omega (arith, lead.4))
 ends_done l g s out n all ended wrote fits spare TurnsSpent t free c = elim (before_or_not g s t n) [
   | inl less ↦ absurd (let few = spare t (omega arith) in omega (arith, c.cause.0))
   | inr more ↦ absurd (let few = spare n (omega arith) in let same = ap (λ (x : State). x.turns) (ended_stays g s n t ended more) in omega (arith, c.cause.0, same))
 ]
 ends_done l g s out n all ended wrote fits spare (NoPrevious i) t free c =
-    absurd (none_reached (ap reaches (sym (no_move_ended g s n t ended c.cause.3)) ∙ c.cause.2))
-  where
-    none_reached : reaches [] ≡ true → ⊥
-    none_reached e = cc
+    absurd (c.cause.2 (no_move_ended g s n t ended c.cause.3))
 ends_done l g s out n all ended wrote fits spare InputBroken t free c = absurd free
 ends_done l g s out n all ended wrote fits spare (OutputBroken k) t free c = absurd free
 ends_done l g s out n all ended wrote fits spare (OutputFull k) t free c = absurd free
