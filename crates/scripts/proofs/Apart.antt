@@ -16,7 +16,7 @@ use Rattle.sedscript.specs.declared.substitution.Substitution.{Substitution}
 use Rattle.sedengine.specs.State.{Entry, text, file, Task, begin, rebegin, do_at, print_pattern, empty_pattern, flush, copy, fetch, join, State, Move, Setting}
 use Rattle.sedengine.specs.Substitute.{Occurrence}
 use Rattle.sedengine.specs.Select.{Selection, selects, stands_for}
-use Rattle.sedengine.specs.Move.{acts, after, begins, copies, first_task, flushes, next_move, passes, performs, reach, replaces, substitutes, start, written, quietly}
+use Rattle.sedengine.specs.Move.{acts, after, begins, copies, first_task, flushes, next_move, passes, reach, replaces, substitutes, start, written, quietly}
 use Rattle.sedengine.proofs.Moves.{move_at, written_none}
 use Rattle.examples.proofs.ComputedRun.{after_first as after_next, written_first as written_next, stays_still}
 use Rattle.examples.proofs.ComputedEnds.{both}
@@ -24,7 +24,7 @@ use Rattle.sededit.specs.Editing.{IsOutput}
 use Rattle.scripts.specs.Alone.{asks_text, has_expression, stays_in_line, looks_at_line}
 use Rattle.scripts.proofs.Cycles.{Goes, goes_one, goes_on, ends_on}
 use Rattle.sedengine.specs.Steps.{next_or_stay, writes_of}
-use Rattle.sedengine.specs.Choose.{is_active}
+use Rattle.sedengine.specs.Choose.{performs, is_active}
 use Rattle.sedengine.specs.SubstituteCalls.{to_replace_in}
 
 -- the tasks of such a script, and that nothing waits in the queue where a cycle begins

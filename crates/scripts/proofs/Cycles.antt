@@ -2,12 +2,12 @@
 use Rattle.std.proofs.Common.{◌≡◌, ℕ, ◌+◌, List, [], ◌∷◌, ◌++◌, Bool, false, Option, refl, sym, ap, ap₂, subst, ◌∙◌, append_assoc, append-nil}
 use Rattle.std.specs.Prelude.{slice_get, if◌then◌else◌, None}
 use Rattle.sedengine.specs.State.{begin, do_at, flush, State, Setting}
-use Rattle.sedengine.specs.Move.{next_move, after, at_end, written, newline, to_sink, line_to, writing}
+use Rattle.sedengine.specs.Move.{next_move, after, written, newline, to_sink, line_to, writing}
 use Rattle.sedengine.proofs.Moves.{after-add, written-add}
 use Rattle.sedengine.proofs.Gains.{to_sink-append}
 use Rattle.sededit.specs.Editing.{IsOutput}
 use Rattle.scripts.specs.Edited.{text_of}
-use Rattle.sedengine.specs.Steps.{next_or_stay, writes_of}
+use Rattle.sedengine.specs.Steps.{at_end, next_or_stay, writes_of}
 
 -- moves lead from a state to another one, and write this
 pub record Goes (g : Setting) (s now : State) (out : List (ℕ × ℕ)) : Type 0 where

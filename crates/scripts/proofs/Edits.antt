@@ -9,7 +9,8 @@ use Rattle.sedscript.specs.declared.substitution.Substitution.{Substitution}
 use Rattle.sedengine.specs.State.{State, Move, Setting}
 use Rattle.sedengine.specs.Substitute.{Occurrence, replaced_from}
 use Rattle.sedengine.specs.Select.{Selection, selects, stands_for}
-use Rattle.sedengine.specs.Move.{acts, in_table, none_left, writes_text_at, next_move, passes, performs, reach, replaces, substitutes, writing}
+use Rattle.sedengine.specs.Move.{acts, in_table, none_left, writes_text_at, next_move, passes, reach, replaces, substitutes, writing}
+use Rattle.sedengine.specs.Choose.{performs}
 use Rattle.scripts.proofs.Cycles.{Goes, goes_one, between, within, deleted}
 use Rattle.sedengine.specs.SubstituteCalls.{to_replace_in}
 

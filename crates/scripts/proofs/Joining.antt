@@ -13,7 +13,8 @@ use Rattle.sedscript.specs.declared.types.Address.TheVariants.{Last}
 use Rattle.sedscript.specs.declared.substitution.Piece.{Piece}
 use Rattle.sedscript.specs.declared.substitution.Piece.TheVariants.{Literal}
 use Rattle.sedengine.specs.State.{State, Setting}
-use Rattle.sedengine.specs.Substitute.{Occurrence, next_occurrence, occurrences, occurrences_from, replaced_from, to_replace}
+use Rattle.sedengine.specs.Substitute.{Occurrence, occurrences, occurrences_from, replaced_from, to_replace}
+use Rattle.sedengine.specs.SubstituteParts.{next_occurrence}
 use Rattle.sedengine.specs.Select.{selects}
 use Rattle.sedengine.specs.Move.{next_move, after, written, newline, line_to}
 use Rattle.sededit.specs.Editing.{IsOutput}

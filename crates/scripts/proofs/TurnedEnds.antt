@@ -11,7 +11,8 @@ use Rattle.scripts.proofs.Cutting.{lines_yes, lines_no}
 use Rattle.sedengine.specs.State.{Limits, Task, begin, flush, empty_pattern, State, Setting, finds_in, search_in, setting_of}
 use Rattle.sedengine.specs.Substitute.{Occurrence}
 use Rattle.sedengine.specs.Select.{selects}
-use Rattle.sedengine.specs.Move.{after, at_end, line_to, next_move, newline, start, to_sink, writing, written}
+use Rattle.sedengine.specs.Move.{after, line_to, next_move, newline, start, to_sink, writing, written}
+use Rattle.sedengine.specs.Steps.{at_end}
 use Rattle.sedengine.specs.Ends.{size_of, Cause, Whole, Within, WithinLimits}
 use Rattle.sedengine.specs.declared.ends.Ended.{Ended}
 use Rattle.sedengine.specs.declared.ends.Ended.TheVariants.{Done}

@@ -10,13 +10,13 @@ use Rattle.sedspace.specs.Stream.{Stream, left, lines_left}
 use Rattle.sedspace.specs.Lines.{TakesAtMost}
 use Rattle.sedengine.specs.State.{Limits, Entry, Task, do_at, State, Move, Setting}
 use Rattle.sedengine.specs.Select.{Selection, selects}
-use Rattle.sedengine.specs.Move.{next_move, reach, performs, acts, passes, writing, quietly, queueing, then_do, none_left, in_table, writes_text_at}
+use Rattle.sedengine.specs.Move.{next_move, reach, acts, passes, writing, quietly, then_do, none_left, in_table, writes_text_at}
 use Rattle.sedengine.specs.Ends.{WithinLimits, reads, asks_last, is_next}
 use Rattle.sedengine.specs.Meters.{SinkView}
 use Rattle.sedengine.specs.Calls.{Puts}
 use Rattle.sedengine.specs.Run.{RunState, at_lines, run_setting}
-use Rattle.sedengine.specs.Choose.{Judges, as_selection, reached_with, current_in, is_active, names_last}
-use Rattle.sedengine.specs.Queueing.{QueuesOrFull, queued_more}
+use Rattle.sedengine.specs.Choose.{performs, Judges, as_selection, reached_with, current_in, is_active, names_last}
+use Rattle.sedengine.specs.Queueing.{queueing, QueuesOrFull, queued_more}
 use Rattle.sedengine.specs.Steps.{reaches, ReachesCommand, HasAction, Moves, MakesMove, PerformsSteps, Steps, TakesLines}
 use Rattle.sedengine.specs.Inside.{run_of, entry_by, entry_for, IsConsistent}
 use Rattle.sedengine.specs.declared.machine.Machine.TheInside.{Inside}

@@ -9,7 +9,8 @@ use Rattle.sedengine.specs.Types.{Command, Action, Block, Branch, File, Plain, S
 use Rattle.sedengine.specs.State.{Limits, Entry, text, file, Task, begin, rebegin, do_at, print_pattern, empty_pattern, flush, copy, fetch, join, State, Move, Setting}
 use Rattle.sedengine.specs.Select.{selects, stands_for}
 use Rattle.sedengine.specs.Substitute.{Occurrence, occurrences, to_replace}
-use Rattle.sedengine.specs.Move.{acts, begins, copies, current_of, first_task, flushes, next_move, none_left, passes, performs, quietly, reach, reached, replaces, substitutes, takes_line, writes_text_at}
+use Rattle.sedengine.specs.Move.{acts, begins, copies, current_of, first_task, flushes, next_move, none_left, passes, quietly, reach, reached, replaces, substitutes, takes_line, writes_text_at}
+use Rattle.sedengine.specs.Choose.{performs}
 use Rattle.sedengine.specs.Ends.{WithinLimits, IsCause}
 use Rattle.sedengine.specs.Steps.{StopsTask, line_at, reaches, takes_turn}
 

@@ -13,9 +13,9 @@ use Rattle.sedmatch.specs.Following.{LiesOn}
 use Rattle.sedscript.specs.declared.substitution.Piece.{Piece}
 use Rattle.sedspace.specs.Spaces.{Contents}
 use Rattle.sedspace.specs.declared.errors.Full.{Full}
-use Rattle.sedengine.specs.Substitute.{Occurrence, to_replace, next_occurrence, occurrences, put_for, replaced_from}
+use Rattle.sedengine.specs.Substitute.{Occurrence, to_replace, occurrences, put_for, replaced_from}
 use Rattle.sedengine.specs.State.{search_for, occurrence_at_span}
-use Rattle.sedengine.specs.SubstituteParts.{Appends, GroupsOf, ReplacesThese, Skips, has_group, with_groups}
+use Rattle.sedengine.specs.SubstituteParts.{next_occurrence, Appends, GroupsOf, ReplacesThese, Skips, has_group, with_groups}
 use Rattle.sedengine.specs.SubstituteParts.{later_cost, occurrences_after, pending, told_cost}
 use Rattle.sedengine.proofs.Occurrences.{after_is}
 use Rattle.sedengine.proofs.PieceLemmas.{put_same}

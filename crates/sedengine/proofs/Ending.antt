@@ -5,13 +5,13 @@ use Rattle.std.proofs.lemmas.Option.{slice_get_past}
 use Rattle.sedspace.specs.Spaces.{Entries}
 use Rattle.sedspace.specs.declared.errors.Full.{Full}
 use Rattle.sedengine.specs.State.{Limits, Task, begin, rebegin, do_at, print_pattern, empty_pattern, flush, State, Move, Setting}
-use Rattle.sedengine.specs.Move.{reach, writing, then_do, at_end, line_to}
+use Rattle.sedengine.specs.Move.{reach, writing, then_do, line_to}
 use Rattle.sedengine.specs.Ends.{WithinLimits}
 use Rattle.sedengine.specs.Held.{SameLengths}
 use Rattle.sedengine.specs.Meters.{Sent, SinkView}
 use Rattle.sedengine.specs.Calls.{Puts}
 use Rattle.sedengine.specs.Run.{RunState, at_lines, run_setting, starts_cycle}
-use Rattle.sedengine.specs.Steps.{takes_turn, Moves, MakesMove, costs, weight}
+use Rattle.sedengine.specs.Steps.{at_end, takes_turn, Moves, MakesMove, costs, weight}
 use Rattle.sedengine.specs.Flushing.{FlushesQueue}
 use Rattle.sedengine.specs.Queueing.{flushed, with_turns}
 use Rattle.sedengine.specs.Inside.{run_of, tasks_of, entries_of, IsConsistent, CommandQueues}

@@ -10,9 +10,9 @@ use Rattle.sedmatch.specs.Matching.{found, unless_null_at}
 use Rattle.sedmatch.specs.Following.{EndsWithin, LiesOn}
 use Rattle.sedmatch.proofs.MatchingLemmas.{found-iff, IsLeftmostLongest-within}
 use Rattle.sedmatch.proofs.SpanLemmas.{Matches-forward, Matches-within}
-use Rattle.sedengine.specs.Substitute.{Occurrence, next_occurrence, occurrences_from}
+use Rattle.sedengine.specs.Substitute.{Occurrence, occurrences_from}
 use Rattle.sedengine.specs.State.{search_for, occurrence_at_span}
-use Rattle.sedengine.specs.SubstituteParts.{Skips, occurrences_after, pending}
+use Rattle.sedengine.specs.SubstituteParts.{next_occurrence, Skips, occurrences_after, pending}
 use Rattle.std.specs.Option.{option_map, option_map_or}
 
 -- a match lies in the text, after the place from which it is sought

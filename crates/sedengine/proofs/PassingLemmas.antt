@@ -21,7 +21,7 @@ use Rattle.sedscript.specs.declared.substitution.Substitution.{Substitution}
 use Rattle.sedengine.specs.State.{Limits, Task, begin, do_at, flush, empty_pattern, State, Move, Setting, search_for, setting_of, occurrence_at_span}
 use Rattle.sedengine.specs.Select.{Current, Selection, answer, selects, stands_for}
 use Rattle.sedengine.specs.Substitute.{Occurrence, occurrences, occurrences_from, to_replace}
-use Rattle.sedengine.specs.Move.{acts, after, at_end, begins, current_of, flushes, line_to, next_move, newline, none_left, passes, performs, quietly, reach, reached, replaces, substitutes, writes_text_at, then_do, to_sink, writing, written}
+use Rattle.sedengine.specs.Move.{acts, after, begins, current_of, flushes, line_to, next_move, newline, none_left, passes, quietly, reach, reached, replaces, substitutes, writes_text_at, then_do, to_sink, writing, written}
 use Rattle.sedengine.specs.Meters.{Sent, SinkView}
 use Rattle.sedengine.specs.Ends.{BrokenOff, WithinLimits, Within, named_sink}
 use Rattle.sedengine.specs.Held.{HoldsAt, SameLengths}
@@ -32,10 +32,10 @@ use Rattle.sedengine.proofs.Writing.{slice_get-append_add}
 use Rattle.sedengine.specs.Passing.{need_of_address, need_of_substitution, need_of_action, need_of, behind_by, behind, place_at, need_at, judged_by, judged, IsIdleIn, judged_in, Meets, LeftAlone, AllLeftAlone, BlockLeftAlone, FindsAsItSearches, bytes_of, passed_out, passed, moves_of, line_due, Went, CanPass, MovesLedTo, StoppedPassing}
 use Rattle.sedengine.proofs.Gains.{to_sink-append}
 use Rattle.sedengine.proofs.Moves.{after-add, written-add, Within-add, move_at, within_none, after_none, written_none}
-use Rattle.sedengine.specs.Choose.{is_active}
+use Rattle.sedengine.specs.Choose.{performs, is_active}
 use Rattle.sedengine.specs.SubstituteCalls.{to_replace_in}
 use Rattle.sedengine.proofs.Occurrences.{with_rest}
-use Rattle.sedengine.specs.Steps.{WholeOrBrokenOff, next_or_stay, writes_of}
+use Rattle.sedengine.specs.Steps.{at_end, WholeOrBrokenOff, next_or_stay, writes_of}
 
 pub went_none : (l : Limits) (g : Setting) (s : State) → WithinLimits l s → Went l g s s [] 0
 went_none l g s f = record { is = after_none g s; wrote = written_none g s; within = within_none l g s f }

@@ -12,14 +12,14 @@ use Rattle.sedspace.specs.declared.errors.Full.{Full}
 use Rattle.sedengine.specs.State.{Task, begin, rebegin, do_at, print_pattern, empty_pattern, flush, copy, fetch, join, State, Move, Setting, search_in}
 use Rattle.sedengine.specs.Substitute.{Occurrence, to_replace, occurrences, replaced_from}
 use Rattle.sedengine.specs.Select.{stands_for}
-use Rattle.sedengine.specs.Move.{next_move, quietly, writing, line_to, replaces, written_by}
+use Rattle.sedengine.specs.Move.{next_move, quietly, writing, line_to, replaces}
 use Rattle.sedengine.specs.Ends.{WithinLimits}
 use Rattle.sedengine.specs.Held.{SameLengths}
 use Rattle.sedengine.specs.Meters.{SinkView}
 use Rattle.sedengine.specs.Calls.{Puts}
 use Rattle.sedengine.specs.Run.{RunState, at_lines, run_setting}
 use Rattle.sedengine.specs.Steps.{Leads, reaches, line_at, ReachesCommand, Moves, MakesMove}
-use Rattle.sedengine.specs.SubstituteCalls.{Makes, ReplacesIn, same_but_replaced, to_replace_in}
+use Rattle.sedengine.specs.SubstituteCalls.{written_by, Makes, ReplacesIn, same_but_replaced, to_replace_in}
 use Rattle.sedengine.specs.Fitting.{RoomToSeek}
 use Rattle.sedengine.specs.Inside.{run_of, tasks_of, IsConsistent, IsEmptied}
 use Rattle.sedengine.specs.declared.machine.Machine.TheInside.{Inside}

@@ -3,7 +3,8 @@
 use Rattle.std.specs.Prelude.{◌≡◌, ℕ, ◌+◌, Bool, true, false, not, Option, Some, None, List, [], ◌∷◌, nat_lt, nat_le, nat_eq, slice_index_or, slice_set, ◌||◌, Result, Ok, Err, if◌then◌else◌}
 use Rattle.sedengine.specs.Types.{Address, Line, Last, Match, Command, Ended, NoPrevious, InputBroken}
 use Rattle.sedengine.specs.Select.{Current, AddressAnswer, Selection, answer, ends_at_once, selects}
-use Rattle.sedengine.specs.State.{do_at, State, finds_in}
+use Rattle.sedengine.specs.State.{do_at, Move, Setting, State, finds_in}
+use Rattle.sedengine.specs.Move.{acts, passes, reached, writes_text_at}
 use Rattle.sedengine.specs.Ends.{is_dollar}
 use Rattle.sedengine.specs.Run.{RunState}
 use Rattle.sedengine.specs.declared.select.Chosen.{Chosen}
@@ -70,6 +71,11 @@ is_active s k = slice_index_or s.ranges k false
 -- the engine with another expression last used
 abbrev pub with_used : RunState → Option ℕ → RunState
 with_used e used = record e { state = record e.state { used = used } }
+
+-- what a command does, given what its addresses select
+abbrev pub performs : Setting → State → ℕ → Command → Selection → Option Move
+performs g s k c choice =
+    if choice.yes then acts g (reached s k choice) (writes_text_at c choice.end) c.action else passes (reached s k choice) c.action
 
 -- What a call that judges one address answers, used being the expression last used after it.
 abbrev pub Answers : Current → Option AddressAnswer → Option ℕ → Bool → Result Bool Ended → Type 0

@@ -22,8 +22,7 @@ abbrev pub FillsSink : Option ℕ → (ℕ → ℕ) → List (ℕ × ℕ) → Re
 FillsSink most before out (Err (OutputFull k)) = most ≡ Some (before k + length (part k out))
 FillsSink most before out other = Unit {0}
 
--- The sinks have gained these bytes, and with what each had gained already since the engine was opened, as `before`
--- tells, that is no more than the limit, where one is set.
+-- The sinks have gained these bytes, and since the engine was opened, with `before`, no more than the limit, where one is set.
 pub record GainedWithin (most : Option ℕ) (before : ℕ → ℕ) (old new : ℕ → Option (List ℕ)) (r : Result Unit Ended)
     (out : List (ℕ × ℕ)) : Type 0 where
   pub gained : Gained old new out
@@ -121,8 +120,7 @@ LosesPartAfter (Some xs) None n m = ⊥
 LosesPartAfter (Some xs) (Some ys) n m =
     (gone : List ℕ) × (xs ≡ gone ++ ys) × HasNoNewline (drop n gone) × (length gone ≤ n + m)
 
--- Where the source failed, what it gave after the last line that the first t moves took holds no newline: it is a part of
--- one line, of at most `space` bytes.
+-- A source that failed gave, after the lines that the first t moves took, a part of one line, of at most `space` bytes.
 abbrev pub BreaksInLine : Setting → State → Option (List ℕ) → Option (List ℕ) → ℕ → ℕ → Type 0
 BreaksInLine g s old new space t =
     (lines : List (List ℕ)) × (s.lines ≡ lines ++ (after g s t).lines) × LosesPartAfter old new (size_of lines) space

@@ -9,11 +9,9 @@ escape b = 92 ∷ b ∷ []
 abbrev pub octal : ℕ → List ℕ
 octal b = 92 ∷ (48 + b / 64) ∷ (48 + b / 8 % 8) ∷ (48 + b % 8) ∷ []
 
--- the text of a byte: the escapes of XBD 5 (\\ \a \b \f \r \t \v), for an embedded newline \n (this project's own), the byte
--- itself where it is printable, and else its octal number
+-- the escapes \\ \a \b \f \r \t \v of XBD 5, \n for a newline (this project's own), printable bytes as they are, others octal
 abbrev pub item : ℕ → List ℕ
 item b =
-    -- `\\` `\a` `\b` `\f` `\r` `\t` `\v` `\n`
     if b == 92 then escape 92
     else if b == 7 then escape 97
     else if b == 8 then escape 98

@@ -36,10 +36,6 @@ then_do tasks s = record s { tasks = tasks }
 abbrev pub with_line : List ℕ → List (List ℕ) → State → State
 with_line pattern rest s = record s { lines = rest; number = s.number + 1; pattern = pattern; replaced = false }
 
--- what is done at the end of the script
-abbrev pub at_end : List Task
-at_end = print_pattern ∷ flush ∷ empty_pattern ∷ begin ∷ []
-
 -- a cycle starts with the next line; where there is none the run ends
 abbrev pub begins : State → List (List ℕ) → Option Move
 begins s [] = quietly (then_do [] s)
@@ -51,8 +47,7 @@ flushes s rest [] = quietly (then_do rest s)
 flushes s rest (text bytes ∷ queue) = writing (line_to 0 bytes) (record s { queue = queue; tasks = flush ∷ rest })
 flushes s rest (file k ∷ queue) = quietly (record s { queue = queue; tasks = copy k 0 ∷ flush ∷ rest })
 
--- a file's bytes are written as they are, with no newline added after the last one; a file that can't be read is told as
--- empty, and one whose reading fails midway as what was read (all this project's own)
+-- A file's bytes, with no newline added; where it can't be read, or no further, those read till then (this project's own).
 abbrev pub copies : State → List Task → ℕ → ℕ → Option ℕ → Option Move
 copies s rest k o None = quietly (then_do rest s)
 copies s rest k o (Some b) = writing ((0, b) ∷ []) (record s { tasks = copy k (o + 1) ∷ rest; turns = s.turns + 1 })
@@ -63,17 +58,14 @@ abbrev pub takes_line : State → List Task → (List ℕ → List ℕ) → List
 takes_line s rest made [] = quietly (then_do [] s)
 takes_line s rest made (line ∷ lines) = quietly (then_do rest (with_line (made line) lines s))
 
--- what a substitution that made the text w writes: with its flag `p` the text, and then, with its flag `w`, the text to
--- the file (the order of the two: this project's own)
-abbrev pub written_by : Substitution → List ℕ → List (ℕ × ℕ)
-written_by t w = (if t.print then line_to 0 w else []) ++ option_map_or (λ k. line_to k w) t.file []
-
--- these occurrences are replaced, if there are any, and the pattern space becomes the text that this makes
+-- These occurrences are replaced, if there are any. The pattern space becomes the text that this makes, which is written with
+-- the flag `p`, and then, with the flag `w`, to the file (the order of the two: this project's own).
 abbrev pub replaces : State → Substitution → List Occurrence → Option Move
 replaces s t [] = quietly s
 replaces s t (m ∷ ms) =
     let w = replaced_from s.pattern t.replacement 0 (m ∷ ms) in
-    writing (written_by t w) (record s { pattern = w; replaced = true })
+    writing ((if t.print then line_to 0 w else []) ++ option_map_or (λ k. line_to k w) t.file [])
+    (record s { pattern = w; replaced = true })
 
 -- A substitution. Its expression, or the one that an empty one stands for, is the one last used, whether it matches or
 -- not. Without an expression used before an empty one there is no move (this project's own).
@@ -92,17 +84,13 @@ abbrev pub none_left : List (List ℕ) → Bool
 none_left [] = true
 none_left (line ∷ lines) = false
 
--- the queue with a further entry
-abbrev pub queueing : Entry → State → State
-queueing entry s = record s { queue = s.queue ++ entry ∷ [] }
-
 -- What a command that applies does (XCU sed, "Editing Commands in sed"). The state has taken the turn, and goes on
 -- after the command unless a case says otherwise. `writes_text` says whether `c` writes its text here.
 abbrev pub acts : Setting → State → Bool → Action → Option Move
 -- `{`: "Execute a list of sed editing commands only when the pattern space is selected", so they come next
 acts g s writes_text (Block next) = quietly s
 -- `a`: "Write text to standard output as described previously": it waits in the queue
-acts g s writes_text (Text Append k) = quietly (queueing (text (unwrap_or (slice_get g.texts k) [])) s)
+acts g s writes_text (Text Append k) = quietly (record s { queue = s.queue ++ text (unwrap_or (slice_get g.texts k) []) ∷ [] })
 -- `b`: "Branch to the ':' command verb bearing the label"
 acts g s writes_text (Branch Always target) = quietly (then_do (do_at target ∷ []) s)
 -- `c`: "Delete the pattern space. With a 0 or 1 address or at the end of a 2-address range, place text on the output
@@ -153,12 +141,13 @@ acts g s writes_text (Plain PrintFirst) = writing (line_to 0 (before_first is_ne
 -- `q`: "Branch to the end of the script and quit without starting a new cycle."
 acts g s writes_text (Plain Quit) = quietly (then_do (print_pattern ∷ flush ∷ []) s)
 -- `r`: "Copy the contents of rfile to standard output as described previously": its entry waits in the queue
-acts g s writes_text (File Read k) = quietly (queueing (file k) s)
+acts g s writes_text (File Read k) = quietly (record s { queue = s.queue ++ file k ∷ [] })
 -- `s`: "Substitute the replacement string for instances of the BRE in the pattern space."
 acts g s writes_text (Substitute k) = substitutes g s (slice_get g.substitutions k)
 -- `t`: "Branch to the ':' command verb bearing the label if any substitutions have been made since the most recent reading
 -- of an input line or execution of a t"
-acts g s writes_text (Branch IfReplaced target) = quietly (if s.replaced then then_do (do_at target ∷ []) (record s { replaced = false }) else s)
+acts g s writes_text (Branch IfReplaced target) =
+    quietly (if s.replaced then then_do (do_at target ∷ []) (record s { replaced = false }) else s)
 -- `w`: "Append (write) the pattern space to wfile."
 acts g s writes_text (File Write k) = writing (line_to k s.pattern) s
 -- `y`: "Replace all occurrences of characters in string1 with the corresponding characters in string2."
@@ -171,39 +160,25 @@ passes s other = quietly s
 
 -- what addresses are judged by in this state
 abbrev pub current_of : Setting → State → Current
-current_of g s = record {
-  number = s.number;
-  last = none_left s.lines;
-  pattern = s.pattern;
-  finds = g.finds;
-  used = s.used;
-}
+current_of g s = record { number = s.number; last = none_left s.lines; pattern = s.pattern; finds = g.finds; used = s.used }
 
 -- the state that has reached command k: the turn is taken, its addresses are judged, and the next task is the next command
 abbrev pub reached : State → ℕ → Selection → State
-reached s k choice = record s {
-  ranges = slice_set s.ranges k choice.active;
-  used = choice.used;
-  tasks = do_at (k + 1) ∷ [];
-  turns = s.turns + 1;
-}
+reached s k c =
+    record s { ranges = slice_set s.ranges k c.active; used = c.used; tasks = do_at (k + 1) ∷ []; turns = s.turns + 1 }
 
 -- whether `c` writes its text: without a range, at a range's end, and with `!`. So a range that is open where the input
 -- ends writes none (this and the case of `!` are this project's own)
 abbrev pub writes_text_at : Command → Bool → Bool
 writes_text_at c end = is_none c.second || end || c.negate
 
--- what a command does, given what its addresses select
-abbrev pub performs : Setting → State → ℕ → Command → Selection → Option Move
-performs g s k c choice =
-    if choice.yes then acts g (reached s k choice) (writes_text_at c choice.end) c.action else passes (reached s k choice) c.action
-
 -- A command, or the end of the script. A command that needs an expression which isn't there has no move.
 abbrev pub reach : Setting → State → ℕ → Option Command → Option Move
-reach g s k None = quietly (then_do at_end s)
+reach g s k None = quietly (then_do (print_pattern ∷ flush ∷ empty_pattern ∷ begin ∷ []) s)
 reach g s k (Some c) = do
   choice ← selects (current_of g s) (slice_index_or s.ranges k false) c
-  performs g s k c choice
+  if choice.yes then acts g (reached s k choice) (writes_text_at c choice.end) c.action
+      else passes (reached s k choice) c.action
 
 -- by the first task
 abbrev pub first_task : Setting → State → List Task → Option Move

@@ -10,14 +10,14 @@ use Rattle.sedscript.specs.Program.{Program}
 use Rattle.sedre.specs.Tree.{WrittenExpression}
 use Rattle.sedspace.specs.Lines.{lines, HasNoNewline}
 use Rattle.sedengine.specs.State.{Limits, begin, do_at, State, Setting, finds_in}
-use Rattle.sedengine.specs.Move.{after, at_end, newline, none_left, to_sink, written}
+use Rattle.sedengine.specs.Move.{after, newline, none_left, to_sink, written}
 use Rattle.sedengine.specs.Calls.{WritesPart}
 use Rattle.sedengine.specs.Meters.{Sent, SinkView}
 use Rattle.sedengine.specs.declared.meter.Cut.{Cut}
 use Rattle.sedengine.specs.Ends.{Cause, WithinLimits, Within, named_sink, LosesPartAfter, size_of}
 use Rattle.sedengine.specs.Held.{HoldsAt}
 use Rattle.sedengine.specs.Run.{RunState, at_lines, lost}
-use Rattle.sedengine.specs.Steps.{TakesLines}
+use Rattle.sedengine.specs.Steps.{at_end, TakesLines}
 use Rattle.sedengine.specs.declared.idle.Need.{Need}
 use Rattle.sedengine.specs.declared.idle.Need.TheVariants.{NoMatch, OtherNumber, NotLast, Nothing}
 use Rattle.sedengine.specs.declared.idle.Idle.{Idle}

@@ -1,9 +1,13 @@
 -- Private to the proofs: no contract of a public item cites what stands here.
 -- What the engine's calls for the queue promise one another.
 use Rattle.std.specs.Prelude.{◌≡◌, ℕ, ◌<◌, Result, Ok, Err, [], ◌∷◌, ◌++◌, length}
-use Rattle.sedengine.specs.State.{Entry}
+use Rattle.sedengine.specs.State.{Entry, State}
 use Rattle.sedengine.specs.Run.{RunState}
 use Rattle.sedengine.specs.Types.{Ended, QueueFull}
+
+-- the state with a further entry in its queue
+abbrev pub queueing : Entry → State → State
+queueing entry s = record s { queue = s.queue ++ entry ∷ [] }
 
 -- the engine with a further entry in its queue
 abbrev pub queued_more : RunState → Entry → RunState

@@ -19,16 +19,14 @@ pub record AddressAnswer : Type 0 where
   pub yes : Bool
   pub used : Option ℕ
 
--- the answer for a command's addresses: whether they select, whether this is the range's end, and after it whether the
--- range is active and the expression last used
+-- the answer for a command's addresses
 pub record Selection : Type 0 where
-  pub yes : Bool
-  pub end : Bool
-  pub active : Bool
-  pub used : Option ℕ
+  pub yes : Bool  -- whether they select
+  pub end : Bool  -- whether this is the range's end
+  pub active : Bool  -- whether the range is active after it
+  pub used : Option ℕ  -- the expression last used after it
 
--- an empty RE stands for the one last used ("If an RE is empty .. as if the last RE used in the last command applied
--- .. was specified")
+-- an empty RE ("If an RE is empty .. as if the last RE used in the last command applied .. was specified")
 abbrev pub stands_for : Option ℕ → Option ℕ → Option ℕ
 stands_for (Some e) used = Some e
 stands_for None used = used
@@ -52,14 +50,12 @@ abbrev pub ends_at_once : ℕ → Address → Bool
 ends_at_once number (Line n) = nat_le n number
 ends_at_once number other = false
 
--- A range that isn't active begins with a pattern space that matches its first address; the second is tried from the
--- next one on ("the inclusive range from the first pattern space that matches the first address through the next
--- pattern space that matches the second").
+-- A range that isn't active begins where its first address matches; the second is tried from the next pattern space on
+-- ("from the first pattern space that matches the first address through the next pattern space that matches the second").
 abbrev pub on_idle : Current → Address → Address → Option Selection
 on_idle c first second = do
   a ← answer c first
-  Some (if a.yes
-      then in_range (ends_at_once c.number second) a.used
+  Some (if a.yes then in_range (ends_at_once c.number second) a.used
       else record { yes = false; end = false; active = false; used = a.used })
 
 -- An active range goes on through the pattern space that matches its second address. Where that is the number of a line
@@ -81,9 +77,9 @@ of_addresses c active (Some first) None = do
   Some (record { yes = a.yes; end = false; active = active; used = a.used })
 of_addresses c active (Some first) (Some second) = if active then on_active c first second else on_idle c first second
 
--- what the addresses of a command choose, given whether its range is active. One address is judged at most; one that isn't judged
--- asks nothing, and isn't the expression last used (this project's own). `!` turns the yes alone: "the function shall be
--- applied if the addresses do not select the pattern space"
+-- What the addresses of a command choose, given whether its range is active. One address is judged at most; one that isn't
+-- judged asks nothing, and isn't the expression last used (this project's own). `!` turns the yes alone: "the function shall
+-- be applied if the addresses do not select the pattern space".
 unfoldable pub selects : Current → Bool → Command → Option Selection
 selects c active command = do
   choice ← of_addresses c active command.first command.second

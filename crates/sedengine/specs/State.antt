@@ -1,5 +1,4 @@
--- A state of the editor (XCU sed, Extended Description), and what doesn't change in a run: the limits (this project's own), the
--- script and the files that it reads.
+-- A state of the editor (XCU sed, Extended Description), the limits of a run (this project's own), its script and its files.
 use Rattle.std.specs.Prelude.{ℕ, Option, Bool, List, false, Some, is_some, slice_get, ◌≡◌}
 use Rattle.std.specs.Option.{option_and_then, option_map, option_map_or}
 use Rattle.sedengine.specs.Types.{Command, Substitution}
@@ -51,18 +50,16 @@ pub record Move : Type 0 where
   pub next : State
   pub writes : List (ℕ × ℕ)
 
--- What doesn't change in a run: the commands, the texts of `i` and `c`, what `s` substitutes, the tables of `y`, which of
--- the script's regular expressions have a match in which text, and which match it is from which place on, whether default
--- output is suppressed (-n), and the files to be read.
+-- what doesn't change in a run
 pub record Setting : Type 0 where
   pub commands : List Command
-  pub texts : List (List ℕ)
-  pub substitutions : List Substitution
-  pub tables : List (List ℕ)
-  pub finds : ℕ → List ℕ → Bool
-  pub search : ℕ → List ℕ → ℕ → Option Occurrence
-  pub quiet : Bool
-  pub files : ℕ → List ℕ
+  pub texts : List (List ℕ)  -- of `a`, `c` and `i`
+  pub substitutions : List Substitution  -- of `s`
+  pub tables : List (List ℕ)  -- of `y`
+  pub finds : ℕ → List ℕ → Bool  -- whether the expression of a number has a match in a text
+  pub search : ℕ → List ℕ → ℕ → Option Occurrence  -- its match that begins at a place or later
+  pub quiet : Bool  -- whether default output is suppressed (-n)
+  pub files : ℕ → List ℕ  -- the files to be read
 
 -- whether the expression of a number has a match in a text (XBD 9.1)
 abbrev pub finds_in : List WrittenExpression → ℕ → List ℕ → Bool

@@ -7,7 +7,7 @@ use Rattle.std.specs.Io.KnownBytes.{Keeps}
 use Rattle.sedspace.specs.Stream.{Stream, left, lines_left}
 use Rattle.sedspace.specs.Lines.{TakesAtMost}
 use Rattle.sedengine.specs.Types.{Command, Action, Block, Branch, File, Plain, Text, Transliterate, AppendHold, AppendNext, CopyHold, Exchange, Hold, HoldMore, NextLine, Quit, Append, Read, Ended, Done, HoldFull, InputBroken, NoPrevious, PatternFull, QueueFull, TurnsSpent}
-use Rattle.sedengine.specs.State.{Limits, Task, begin, rebegin, do_at, copy, fetch, join, State, Move, Setting}
+use Rattle.sedengine.specs.State.{Limits, Task, begin, rebegin, do_at, print_pattern, empty_pattern, flush, copy, fetch, join, State, Move, Setting}
 use Rattle.sedengine.specs.Meters.{Sent, SinkView}
 use Rattle.sedengine.specs.Calls.{Delivers, DeliversAlone, ReadsLines}
 use Rattle.sedengine.specs.Move.{acts, next_move, after, none_left, written}
@@ -25,6 +25,10 @@ writes_of o = option_map_or (λ m. m.writes) o []
 -- an end that is whole, or broken off where a sink takes no more
 abbrev pub WholeOrBrokenOff : Limits → Setting → State → List (ℕ × ℕ) → Ended → ℕ → Option ℕ → Type 0
 WholeOrBrokenOff l g s out end t o = MatchOption o (Whole l g s out end t) (λ k. BrokenOff l g s out k t)
+
+-- what is done at the end of the script
+abbrev pub at_end : List Task
+at_end = print_pattern ∷ flush ∷ empty_pattern ∷ begin ∷ []
 
 -- whether the first task takes a turn: the start of a cycle that has a line, a command, a byte of a file
 abbrev pub takes_turn : Setting → State → List Task → Bool

@@ -1,6 +1,5 @@
 -- What the function `s` makes of a text (XCU sed, "s/BRE/replacement/flags").
-use Rattle.std.specs.Prelude.{ℕ, zero, suc, ◌+◌, ◌-◌, List, [], ◌∷◌, ◌++◌, Bool, Option, Some, None, drop, take}
-use Rattle.std.specs.Prelude.{slice_range, if◌then◌else◌}
+use Rattle.std.specs.Prelude.{ℕ, zero, suc, ◌+◌, ◌-◌, List, [], ◌∷◌, ◌++◌, Bool, Option, Some, None, drop, take, slice_range, if◌then◌else◌}
 use Rattle.std.specs.Option.{option_map_or}
 use Rattle.sedmatch.specs.Groups.{Groups, span_of, part_of}
 use Rattle.sedmatch.specs.Matching.{next_match}
@@ -12,16 +11,11 @@ pub record Occurrence : Type 0 where
   pub end : ℕ
   pub groups : Groups
 
--- The next occurrence in a text of n bytes, after one that ended at a place, where there was one; `search` tells the match
--- sought from a place.
-abbrev pub next_occurrence : (ℕ → Option Occurrence) → ℕ → Option ℕ → Option Occurrence
-next_occurrence search n last = next_match (λ m. (m.start, m.end)) search n last
-
--- at most so many of the occurrences after a place
+-- at most so many occurrences in a text of n bytes, after one that ended at `last`; `search` tells the match from a place on
 unfoldable pub occurrences_from : (ℕ → Option Occurrence) → ℕ → ℕ → Option ℕ → List Occurrence
 occurrences_from search n zero last = []
 occurrences_from search n (suc most) last =
-    option_map_or (λ m. m ∷ occurrences_from search n most (Some m.end)) (next_occurrence search n last) []
+    option_map_or (λ m. m ∷ occurrences_from search n most (Some m.end)) (next_match (λ m. (m.start, m.end)) search n last) []
 
 -- all occurrences in a text of n bytes, from left to right. Each but the first ends after the one before
 abbrev pub occurrences : (ℕ → Option Occurrence) → ℕ → List Occurrence

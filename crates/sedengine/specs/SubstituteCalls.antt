@@ -1,14 +1,19 @@
 -- Private to the proofs: no contract of a public item cites what stands here.
 -- What the engine's calls for a substitution promise one another.
-use Rattle.std.specs.Prelude.{◌≡◌, ℕ, ◌<◌, Bool, true, false, Option, None, Result, Ok, Err, List, [], length}
+use Rattle.std.specs.Prelude.{◌≡◌, ℕ, ◌<◌, Bool, true, false, Option, None, Result, Ok, Err, List, [], ◌++◌, length, if◌then◌else◌}
+use Rattle.std.specs.Option.{option_map_or}
 use Rattle.sedengine.specs.Types.{Substitution, Ended, PatternFull, NoPrevious}
 use Rattle.sedspace.specs.declared.errors.Full.{Full}
 use Rattle.sedspace.specs.Spaces.{Contents}
 use Rattle.sedengine.specs.State.{Limits, State, Move, Setting}
 use Rattle.sedengine.specs.Substitute.{Occurrence, occurrences, to_replace, replaced_from}
-use Rattle.sedengine.specs.Move.{quietly, writing, written_by}
+use Rattle.sedengine.specs.Move.{line_to, quietly, writing}
 use Rattle.sedengine.specs.Steps.{Leads}
 use Rattle.sedengine.specs.Run.{RunState}
+
+-- what a substitution that made the text w writes
+abbrev pub written_by : Substitution → List ℕ → List (ℕ × ℕ)
+written_by t w = (if t.print then line_to 0 w else []) ++ option_map_or (λ k. line_to k w) t.file []
 
 -- the occurrences in a text that a substitution with the expression e replaces
 abbrev pub to_replace_in : Setting → Substitution → ℕ → List ℕ → List Occurrence

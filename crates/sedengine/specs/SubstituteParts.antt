@@ -5,7 +5,7 @@ use Rattle.std.specs.Prelude.{Option, Some, None, option_map, IfSome, Result, Ok
 use Rattle.sedre.specs.Tree.{WrittenExpression, expression_tree}
 use Rattle.sedmatch.specs.Groups.{Groups, span_of}
 use Rattle.sedmatch.specs.Answer.{SpanIn}
-use Rattle.sedmatch.specs.Matching.{report}
+use Rattle.sedmatch.specs.Matching.{next_match, report}
 use Rattle.sedmatch.specs.Following.{EndsWithin, LiesOn}
 use Rattle.sedmatch.specs.Occurrences.{KeepsRoom, Serves, owed}
 use Rattle.sedmatch.specs.SearchRoom.{SearchRoom}
@@ -13,8 +13,13 @@ use Rattle.sedmatch.specs.declared.occurrences.Occurrences.{Occurrences}
 use Rattle.sedengine.specs.Types.{Piece, group}
 use Rattle.sedspace.specs.Spaces.{Contents}
 use Rattle.sedspace.specs.declared.errors.Full.{Full}
-use Rattle.sedengine.specs.Substitute.{Occurrence, next_occurrence, occurrences_from, occurrences, replaced_from}
+use Rattle.sedengine.specs.Substitute.{Occurrence, occurrences_from, occurrences, replaced_from}
 use Rattle.sedengine.specs.State.{occurrence_at_span, search_for}
+
+-- The next occurrence in a text of n bytes, after one that ended at a place, where there was one; `search` tells the match
+-- sought from a place.
+abbrev pub next_occurrence : (ℕ → Option Occurrence) → ℕ → Option ℕ → Option Occurrence
+next_occurrence search n last = next_match (λ m. (m.start, m.end)) search n last
 
 -- what a substitution answers where these occurrences are to be replaced in the text w: whether there are any, and then
 -- the text made; Full where that would be longer than the space

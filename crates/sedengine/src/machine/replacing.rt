@@ -4,11 +4,11 @@ ghost use Rattle.std.specs.Prelude.{◌≡◌, ◌<◌, ◌≤◌, [], ◌∷◌
 ghost use Rattle.std.specs.Option.{option_map_or};
 ghost use Rattle.sedscript.specs.declared.substitution.Substitution.{Substitution};
 ghost use Rattle.sedengine.specs.State.{do_at};
-ghost use Rattle.sedengine.specs.Move.{in_table, line_to, substitutes, written_by};
+ghost use Rattle.sedengine.specs.Move.{in_table, line_to, substitutes};
 ghost use Rattle.sedengine.specs.Calls.{DeliversAlone, NamesNone, Puts};
 ghost use Rattle.sedengine.specs.Run.{at_lines, run_setting};
 ghost use Rattle.sedengine.specs.Steps.{reaches, KeepsRun, MakesMove, weight};
-ghost use Rattle.sedengine.specs.SubstituteCalls.{Makes, same_but_replaced};
+ghost use Rattle.sedengine.specs.SubstituteCalls.{written_by, Makes, same_but_replaced};
 
 use super::Machine;
 use super::known::is_within;

@@ -5,7 +5,8 @@ use Rattle.sedscript.specs.declared.types.Action.{Action}
 use Rattle.sedscript.specs.declared.types.Command.{Command}
 use Rattle.sedengine.specs.State.{do_at, print_pattern, flush}
 use Rattle.sedengine.specs.Inside.{CommandHolds, entry_for, holds}
-use Rattle.sedengine.specs.Move.{acts, quietly, queueing}
+use Rattle.sedengine.specs.Move.{acts, quietly}
+use Rattle.sedengine.specs.Queueing.{queueing}
 use Rattle.sedengine.specs.Run.{at_lines, run_setting}
 use Rattle.sedengine.specs.Steps.{HasAction}
 use Rattle.sedengine.proofs.Acts.{acts_nothing, acts_going, acts_queueing, acts_testing, acts_translating, entry_is}
