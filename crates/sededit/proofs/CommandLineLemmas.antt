@@ -8,8 +8,7 @@ use Rattle.clap.proofs.OnLiterals.{clap_on_literals}
 use Rattle.clap.proofs.WalkLemmas.{raw_values-rows}
 use Rattle.sededit.specs.CommandLine.{IsCommandLine, given_to, is_given, sed_command}
 use Rattle.sededit.specs.Refusals.{IsRefusal}
-use Rattle.sededit.specs.declared.asked.Refused.{Refused}
-use Rattle.sededit.specs.declared.asked.Refused.TheVariants.{NoMemory, Words}
+use Rattle.sededit.specs.Types.{NoMemory, Refused, Words}
 
 -- its words are read one by one
 pub is_simple-sed_command : is_simple sed_command ≡ true

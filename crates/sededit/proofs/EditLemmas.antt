@@ -9,8 +9,7 @@ use Rattle.sedengine.specs.State.{Limits, State, Setting, setting_of}
 use Rattle.sedengine.specs.Move.{start, written}
 use Rattle.sedengine.specs.Ends.{part, FillsSink, GainedWithin}
 use Rattle.sedengine.specs.Run.{RunState, Ending, Input, Sends, at_lines, run_setting}
-use Rattle.sedengine.specs.declared.ends.Ended.{Ended}
-use Rattle.sedengine.specs.declared.ends.Ended.TheVariants.{Done, OutputFull}
+use Rattle.sededit.specs.Types.{Done, Ended, OutputFull}
 use Rattle.sededit.specs.Editing.{BeginsOutput, IsOutput, nothing_before, start_over}
 use Rattle.sededit.specs.EditEnds.{EditEnds}
 use Rattle.sededit.specs.Ahead.{LeavesAhead}

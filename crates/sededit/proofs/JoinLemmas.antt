@@ -8,7 +8,8 @@ use Rattle.std.specs.String.{string_bytes}
 use Rattle.std.specs.Option.{option_map, is_none}
 use Rattle.std.specs.Fmt.{option_append}
 use Rattle.std.specs.Io.KnownBytes.{Consumes, IsAtEnd}
-use Rattle.sededit.specs.Files.{FilesAhead, Joining, KeepsFiles, due_after, joined, left, left_of_current, with_newline}
+use Rattle.sededit.specs.Files.{FilesAhead, KeepsFiles, StillGives, due_after, joined, with_newline}
+use Rattle.sededit.specs.Joining.{Joining, left, left_of_current}
 use Rattle.sededit.specs.Opening.{Opens, NotesMissed, OnlyLastGives, OpensFirstFiles, OpensNext}
 
 due_after-append : (due : Bool) (a b : List ℕ) → due_after due (a ++ b) ≡ due_after (due_after due a) b
@@ -92,6 +93,11 @@ left_opened : (x : Option (List (Option (List ℕ)))) (answer : Bool) (c : Optio
 left_opened None answer c y o = tt
 left_opened (Some []) answer c y o = absurd o
 left_opened (Some (file ∷ files)) answer c y o = rw (o.1, o.2) refl
+
+-- what is left of them is what their inputs have still to give
+pub left-StillGives : {I : Type 0} (current : I → Option (List ℕ)) (ahead : I → FilesAhead) (j : Joining I) (inputs : I) (more : Option (List ℕ)) →
+    j.inputs ≡ inputs → more ≡ left current ahead j → StillGives current ahead inputs more
+left-StillGives current ahead j inputs more same is = (j.reading, j.due, j.names, rw (← same) is)
 
 -- ---- what was opened
 

@@ -1,7 +1,7 @@
 -- Files over memory that are named by numbers.
 use Rattle.std.proofs.Common.{◌≡◌, ◌≢◌, ℕ, zero, suc, List, [], ◌∷◌, ◌++◌, length, refl, ap}
 use Rattle.sededit.specs.MemoryFiles.{File, all_of, named_text}
-use Rattle.sededit.specs.declared.memory_inputs.Current.{Current}
+use Rattle.sededit.specs.Types.{Current}
 
 -- the text that is named last
 pub named_last : (files : List File) (named : List Current) (file : Current) → named_text files (named ++ file ∷ []) (length named) ≡ all_of files [] file

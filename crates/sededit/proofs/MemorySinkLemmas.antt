@@ -1,5 +1,5 @@
 -- Sinks over memory, and the files that are created among them.
-use Rattle.std.proofs.Common.{◌≡◌, ℕ, zero, suc, ◌+◌, ◌<◌, Bool, true, false, List, [], ◌∷◌, ◌++◌, take, length, Option, Some, None, Result, Ok, Err, refl, subst, sym, ap, ◌∙◌, arith, ◌⊎◌, inl, inr, ◌≢◌, eqb}
+use Rattle.std.proofs.Common.{◌≡◌, ℕ, zero, suc, ◌+◌, ◌<◌, Bool, true, false, List, [], ◌∷◌, ◌++◌, take, length, Option, Some, None, Result, Ok, refl, subst, sym, ap, ◌∙◌, arith, ◌⊎◌, inl, inr, ◌≢◌, eqb}
 use Rattle.std.specs.Prelude.{IfSome, slice_get, unwrap_or}
 use Rattle.std.specs.Option.{option_map, option_map_or}
 use Rattle.std.specs.Str.{bytes_eq}
@@ -9,7 +9,6 @@ use Rattle.std.proofs.Math.Dec.{ltb}
 use Rattle.std.proofs.lemmas.List.{append-nil}
 use Rattle.std.proofs.lemmas.Bool.Decides.{eqb_tells}
 use Rattle.std.specs.Io.KnownBytes.{Appends}
-use Rattle.sedspace.specs.FailureCounts.{raised}
 use Rattle.sedspace.specs.Memory.{Sink, Sinks, TakesBytes, sink_bytes, sink_failures}
 use Rattle.sedspace.specs.declared.errors.Broken.{Broken}
 use Rattle.sededit.specs.MemorySinks.{NextFails, SinkFiles, contents_of}

@@ -1,17 +1,17 @@
 -- The text of a script, made part by part.
-use Rattle.std.proofs.Common.{◌≡◌, ◌∙◌, ℕ, List, [], ◌∷◌, Option, Some, None}
+use Rattle.std.proofs.Common.{◌≡◌, ◌∙◌, ℕ, List, [], ◌∷◌, Option, Some, None, string_bytes}
 use Rattle.std.proofs.KnownBytes.{Keeps-trans}
 use Rattle.sedscript.specs.Script.{with_part}
 use Rattle.sededit.specs.Files.{FilesAhead, KeepsFiles, OnlyReadsScripts, WholeFiles}
-use Rattle.sededit.specs.CommandLine.{ScriptPart, file, text}
+use Rattle.sededit.specs.Types.{File, Part, Script}
 use Rattle.sededit.specs.Program.{MakesText}
 
 -- files that tell the same make the same text
-pub MakesText-same : (f g : WholeFiles) (before : List ℕ) (parts : List ScriptPart) (whole : List ℕ) → ((name : List ℕ) → g name ≡ f name) →
+pub MakesText-same : (f g : WholeFiles) (before : List ℕ) (parts : List Part) (whole : List ℕ) → ((name : List ℕ) → g name ≡ f name) →
     MakesText g before parts whole → MakesText f before parts whole
 MakesText-same f g before [] whole same h = h
-MakesText-same f g before (text part ∷ parts) whole same h = MakesText-same f g (with_part before part) parts whole same h
-MakesText-same f g before (file name ∷ parts) whole same h = (h.0, rw (same name) at h.1, MakesText-same f g (with_part before h.0) parts whole same h.2)
+MakesText-same f g before (Script s ∷ parts) whole same h = MakesText-same f g (with_part before (string_bytes s)) parts whole same h
+MakesText-same f g before (File s ∷ parts) whole same h = (h.0, rw (same (string_bytes s)) at h.1, MakesText-same f g (with_part before h.0) parts whole same h.2)
 
 files_kept_then : (a b c : Option (List (Option (List ℕ)))) → KeepsFiles a b → KeepsFiles b c → KeepsFiles a c
 files_kept_then None b c p q = tt

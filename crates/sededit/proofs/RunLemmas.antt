@@ -5,13 +5,16 @@ use Rattle.sedscript.specs.Program.{Program}
 use Rattle.sedengine.specs.State.{Limits, Setting, State, setting_of}
 use Rattle.sedengine.specs.DevicesAfter.{FailedSink, SinksAtEnd}
 use Rattle.sedengine.specs.Ends.{Gained, GainedWithin, SourceAtEnd, BreaksInLine}
-use Rattle.sedengine.specs.declared.ends.Ended.{Ended}
-use Rattle.sedengine.specs.declared.ends.Ended.TheVariants.{Done, InputBroken, OutputBroken, OutputFull}
+use Rattle.sededit.specs.Types.{Done, Ended, InputBroken, OutputBroken, OutputFull}
 use Rattle.sededit.specs.Editing.{BeginsOutput, IsOutput, nothing_before, start_over}
 use Rattle.sededit.specs.Files.{KeepsFiles}
 use Rattle.sededit.specs.Opening.{WereRefused}
-use Rattle.sededit.specs.Program.{DevicesAtEnd, Observed, Run, SinkAtEnd, SinkFailed, StatusMeans, StopsEarly, Writes}
+use Rattle.sededit.specs.Program.{Observed, Run, SinkAtEnd, SinkFailed, StatusMeans, StopsEarly, WhereTold}
 use Rattle.sededit.proofs.JoinLemmas.{all_joined}
+
+-- what sinks that held this and hold that have gained is so of the run's output
+abbrev Writes : (Setting → State → List (ℕ × ℕ) → Type 0) → Run → (old new : ℕ → Option (List ℕ)) → Type 0
+Writes P run old new = WhereTold run (λ g s. (out : List (ℕ × ℕ)) × Gained old new out × P g s out)
 
 -- what sinks gained stands where they hold the same afterwards
 pub Gained-same : (old mid new : ℕ → Option (List ℕ)) (out : List (ℕ × ℕ)) → ((k : ℕ) → new k ≡ mid k) → Gained old mid out → Gained old new out
@@ -128,7 +131,7 @@ module _ (l : Limits) (p : Program) (q : Option (List ℕ) → Type 0) (f0 f1 : 
   abbrev last : Observed
   last = record { refusals = r; reads = i; contents = new; failures = n }
 
-  devices-from : (end : Ended) → DevicesAtEnd l.output made last end → DevicesAtEnd l.output first last end
+  devices-from : (end : Ended) → SourceAtEnd i1 i end × SinkAtEnd l.output n1 n end → SourceAtEnd i0 i end × SinkAtEnd l.output n0 n end
   devices-from end h = (subst (λ m. SourceAtEnd m i end) read h.0, sink-from l.output n0 n1 n end same h.1)
 
   cause-from : StopsEarly l made last q (over_files p f1 t1) ⊎ (Writes IsOutput (over_files p f1 t1) s1 new × SinkFailed n1 n × (i ≡ i1)) →

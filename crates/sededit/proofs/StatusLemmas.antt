@@ -34,19 +34,19 @@ module _ (told : Told) (nodes : ℕ) (words : List Text) (Created : Run → Type
 
   -- status 0
   pub status_whole : Means → status ≡ 0 →
-      RunsSo (λ run. Writes IsOutput run old.contents new.contents × (new.refusals ≡ old.refusals) × (new.reads ≡ old.reads))
+      RunsSo (λ run. Writes IsOutput run old new × (new.refusals ≡ old.refusals) × (new.reads ≡ old.reads))
       ⊎ WritesHelp
   status_whole means is = from (means (runs_at 0 (λ e. cc) is))
     where
       from : RunsSo (StatusMeans limits old new rest status) ⊎ Helps →
-          RunsSo (λ run. Writes IsOutput run old.contents new.contents × (new.refusals ≡ old.refusals) × (new.reads ≡ old.reads))
+          RunsSo (λ run. Writes IsOutput run old new × (new.refusals ≡ old.refusals) × (new.reads ≡ old.reads))
           ⊎ WritesHelp
       from (inl runs) = inl (so (StatusMeans limits old new rest status) _ (λ run h. h.whole is) runs)
       from (inr (asks, h, same)) = inr (asks, h.help, same)
 
   -- status 2
   pub status_missed : Means → status ≡ 2 →
-      RunsSo (λ run. Writes IsOutput run old.contents new.contents × Rose old.refusals new.refusals × (new.reads ≡ old.reads))
+      RunsSo (λ run. Writes IsOutput run old new × Rose old.refusals new.refusals × (new.reads ≡ old.reads))
   status_missed means is = from (means (runs_at 2 (λ e. cc) is))
     where
       either_not : (status ≡ 0) ⊎ (status ≡ 4) → ⊥
@@ -54,30 +54,30 @@ module _ (told : Told) (nodes : ℕ) (words : List Text) (Created : Run → Type
       either_not (inr e) = cc
 
       from : RunsSo (StatusMeans limits old new rest status) ⊎ Helps →
-          RunsSo (λ run. Writes IsOutput run old.contents new.contents × Rose old.refusals new.refusals × (new.reads ≡ old.reads))
+          RunsSo (λ run. Writes IsOutput run old new × Rose old.refusals new.refusals × (new.reads ≡ old.reads))
       from (inl runs) = so (StatusMeans limits old new rest status) _ (λ run h. h.missed is) runs
       from (inr (asks, h, same)) = absurd (either_not h.either)
 
   -- status 4: what was written
   pub status_stopped : Means → status ≡ 4 →
-      RunsSo (λ run. Writes BeginsOutput run old.contents new.contents) ⊎ WritesHelp
+      RunsSo (λ run. Writes BeginsOutput run old new) ⊎ WritesHelp
   status_stopped means is = from (means (runs_at 4 (λ e. cc) is))
     where
       from : RunsSo (StatusMeans limits old new rest status) ⊎ Helps →
-          RunsSo (λ run. Writes BeginsOutput run old.contents new.contents) ⊎ WritesHelp
+          RunsSo (λ run. Writes BeginsOutput run old new) ⊎ WritesHelp
       from (inl runs) = inl (so (StatusMeans limits old new rest status) _ (λ run h. h.stopped is) runs)
       from (inr (asks, h, same)) = inr (asks, h.help, same)
 
   -- status 4: why
   pub status_cause : Means → status ≡ 4 →
       RunsSo (λ run. StopsEarly limits old new rest run
-      ⊎ (Writes IsOutput run old.contents new.contents × SinkFailed old.failures new.failures × (new.reads ≡ old.reads)))
+      ⊎ (Writes IsOutput run old new × SinkFailed old.failures new.failures × (new.reads ≡ old.reads)))
       ⊎ (AsksHelp words × SinkFailed old.failures new.failures)
   status_cause means is = from (means (runs_at 4 (λ e. cc) is))
     where
       from : RunsSo (StatusMeans limits old new rest status) ⊎ Helps →
           RunsSo (λ run. StopsEarly limits old new rest run
-          ⊎ (Writes IsOutput run old.contents new.contents × SinkFailed old.failures new.failures × (new.reads ≡ old.reads)))
+          ⊎ (Writes IsOutput run old new × SinkFailed old.failures new.failures × (new.reads ≡ old.reads)))
           ⊎ (AsksHelp words × SinkFailed old.failures new.failures)
       from (inl runs) = inl (so (StatusMeans limits old new rest status) _ (λ run h. h.cause is) runs)
       from (inr (asks, h, same)) = inr (asks, h.failed is)

@@ -2,13 +2,11 @@
 -- What an edit leaves ahead, as its caller tells the input where `q` ends the run.
 use Rattle.std.specs.Prelude.{◌≡◌, ℕ, Option, List, [], ◌++◌, length}
 use Rattle.std.specs.Io.KnownBytes.{prepend_known}
-use Rattle.sedspace.specs.Lines.{lines}
 use Rattle.sedengine.specs.State.{Limits, State, Setting}
 use Rattle.sedengine.specs.Move.{after}
 use Rattle.sedengine.specs.Run.{lost}
 use Rattle.sedengine.specs.Ends.{LosesPartAfter, size_of}
-use Rattle.sedengine.specs.declared.ends.Ended.{Ended}
-use Rattle.sedengine.specs.declared.ends.Ended.TheVariants.{Done}
+use Rattle.sededit.specs.Types.{Done, Ended}
 
 -- An edit left so many bytes ahead at this end: where they still come, no more is gone than the lines that some moves took and,
 -- at an end in the middle of a line, a part of that line. At the ordinary end these are all moves of the run.

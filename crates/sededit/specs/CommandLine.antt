@@ -1,13 +1,8 @@
 -- The command line `sed [-n] [-E] [-e script].. [-f file].. [script] [file..]`, as `clap` reads it (XCU sed, Synopsis).
 -- That options may stand after operands too is this project's own.
-use Rattle.std.specs.Prelude.{◌≡◌, ℕ, Bool, true, List, [], ◌∷◌, map, Some, codes, nat_lt, unwrap_or}
-use Rattle.std.specs.String.{string_bytes}
+use Rattle.std.specs.Prelude.{◌≡◌, ℕ, Bool, true, List, [], ◌∷◌, Option, Some, None, map, filter_map, codes, nat_lt, unwrap_or, string_bytes}
 use Rattle.clap.specs.Words.{App, Row, Rule, Text, all_of, count_of, fault_of, new_app, new_rule}
-use Rattle.clap.specs.declared.builder.action.ArgAction.{ArgAction}
-use Rattle.clap.specs.declared.builder.action.ArgAction.TheVariants.{Append, Count}
-use Rattle.sededit.specs.declared.asked.Line.{Line}
-use Rattle.sededit.specs.declared.asked.Part.{Part}
-use Rattle.sededit.specs.declared.asked.Part.TheVariants.{File, Script}
+use Rattle.sededit.specs.Types.{Append, ArgAction, Count, File, Line, Part, Script}
 
 -- an option with its letter
 abbrev pub option_rule : Text → ℕ → ArgAction → Rule
@@ -39,37 +34,30 @@ is_given id rows = nat_lt 0 (count_of id rows)
 abbrev pub given_to : Text → List Row → List Text
 given_to id rows = unwrap_or (all_of id rows) []
 
--- a part of a script: its text, or the name of its file
-pub data ScriptPart : Type 0 where
-  text : List ℕ → ScriptPart
-  file : List ℕ → ScriptPart
+-- the script of a part, or None where the part is a file
+abbrev pub script_in : Part → Option Text
+script_in (Script s) = Some (string_bytes s)
+script_in (File s) = None
 
-abbrev pub given : Part → ScriptPart
-given (Script s) = text (string_bytes s)
-given (File s) = file (string_bytes s)
+-- the name of a part's file, or None where the part is a script
+abbrev pub name_in : Part → Option Text
+name_in (Script s) = None
+name_in (File s) = Some (string_bytes s)
 
--- the scripts of -e among the parts, in their order
-abbrev pub texts_among : List ScriptPart → List Text
-texts_among [] = []
-texts_among (text script ∷ parts) = script ∷ texts_among parts
-texts_among (file name ∷ parts) = texts_among parts
-
--- the files of -f among them
-abbrev pub names_among : List ScriptPart → List Text
-names_among [] = []
-names_among (text script ∷ parts) = names_among parts
-names_among (file name ∷ parts) = name ∷ names_among parts
+-- the parts have these scripts and these files, each in their order
+abbrev pub AreParts : List Part → (scripts files : List Text) → Type 0
+AreParts parts scripts files = (filter_map script_in parts ≡ scripts) × (filter_map name_in parts ≡ files)
 
 -- The parts of the script, and the operands that are files: the scripts of -e and the files of -f, each in their order;
 -- without them, the first operand is the script (XCU sed, "Operands"). How scripts and files mingle goes by the places that
 -- clap tells of its words; as no contract of clap says what they are, any are taken here.
-abbrev pub Asks : List Text → List Text → List Text → List ScriptPart → List Text → Type 0
-Asks [] [] (operand ∷ operands) parts names = (parts ≡ text operand ∷ []) × (names ≡ operands)
-Asks scripts files operands parts names = (texts_among parts ≡ scripts) × (names_among parts ≡ files) × (names ≡ operands)
+abbrev pub Asks : List Text → List Text → List Text → List Part → List Text → Type 0
+Asks [] [] (operand ∷ operands) parts names = AreParts parts (operand ∷ []) [] × (names ≡ operands)
+Asks scripts files operands parts names = AreParts parts scripts files × (names ≡ operands)
 
 -- what the matches of the words say of a line
 pub record IsLine (rows : List Row) (l : Line) : Type 0 where
   pub quiet : l.quiet ≡ is_given (codes "quiet") rows
   pub extended : l.extended ≡ is_given (codes "extended") rows
   pub asks : Asks (given_to (codes "expression") rows) (given_to (codes "file") rows) (given_to (codes "operand") rows)
-      (map given l.parts.items) (map string_bytes l.operands.items)
+      l.parts.items (map string_bytes l.operands.items)

@@ -3,8 +3,7 @@ use Rattle.std.specs.Prelude.{◌≡◌, ℕ, Option, List}
 use Rattle.sedengine.specs.State.{Limits, State, Setting}
 use Rattle.sedengine.specs.Ends.{Cause, BreaksInLine}
 use Rattle.sedengine.specs.DevicesAfter.{TakesInput, more_at}
-use Rattle.sedengine.specs.declared.ends.Ended.{Ended}
-use Rattle.sedengine.specs.declared.ends.Ended.TheVariants.{InputBroken}
+use Rattle.sededit.specs.Types.{Ended, InputBroken}
 
 -- An edit came to this end, after some moves from its start: the end has its cause there, and of the source no more was
 -- taken than these moves take and what is read ahead. `out` is its output, and `old` and `new` what the source had still to

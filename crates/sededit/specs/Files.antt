@@ -1,8 +1,6 @@
 -- The files that the program reads and creates: as they are told, by bytes or by None where one can't be opened; joined as
 -- one stream (XCU sed, Input Files); and those created for sinks (XCU sed, "w wfile").
-use Rattle.std.specs.Prelude.{ℕ, List, [], ◌∷◌, ◌≡◌, Option, None, Some, ⊤, map, unwrap_or, Bool, false, not, if◌then◌else◌, ◌++◌, take}
-use Rattle.std.specs.List.{flat_map}
-use Rattle.std.specs.Option.{option_map}
+use Rattle.std.specs.Prelude.{◌≡◌, ℕ, Bool, false, not, List, [], ◌∷◌, ◌++◌, map, flat_map, take, Option, Some, IfSome, option_map, unwrap_or, if◌then◌else◌}
 use Rattle.std.specs.Fmt.{option_append}
 use Rattle.std.specs.Io.KnownBytes.{Keeps}
 use Rattle.sedspace.specs.Lines.{is_newline}
@@ -21,13 +19,11 @@ WholeFiles = List ℕ → Option (Option (List ℕ))
 
 -- files that are told stay as they are
 abbrev pub KeepsFiles : Option (List (Option (List ℕ))) → Option (List (Option (List ℕ))) → Type 0
-KeepsFiles None new = ⊤
-KeepsFiles (Some files) new = new ≡ Some files
+KeepsFiles old new = IfSome old (λ files. new ≡ Some files)
 
 -- a file that is read whole gives its bytes, or nothing where it can't be read
 abbrev pub GivesWhole : Option (Option (List ℕ)) → Option (List ℕ) → Type 0
-GivesWhole None given = ⊤
-GivesWhole (Some file) given = given ≡ file
+GivesWhole told given = IfSome told (λ file. given ≡ file)
 
 -- whether a newline is due after these bytes: the last of them is none, or there are no bytes and one was due before
 abbrev pub due_after : Bool → List ℕ → Bool
@@ -46,29 +42,11 @@ joined files = flat_map (with_newline false) files
 abbrev pub joined_files : FilesAhead → List (List ℕ) → Option (List ℕ)
 joined_files ahead names = option_map (λ files. joined (map (λ file. unwrap_or file []) files)) (ahead names)
 
--- files that are joined: where they are read from, the names still to open, whether a file is being read, whether a
--- newline is due if it ends here, of each file that was opened whether it was missed, and how many openings the inputs
--- had refused before
-pub record Joining (I : Type 0) : Type 0 where
-  pub inputs : I
-  pub names : List (List ℕ)
-  pub reading : Bool
-  pub due : Bool
-  pub missed : List Bool
-  pub start : ℕ
-
--- what is left of the file being read, and its newline where one is due
-abbrev pub left_of_current : {I : Type 0} → (I → Option (List ℕ)) → Joining I → Option (List ℕ)
-left_of_current current j = if j.reading then option_map (with_newline j.due) (current j.inputs) else Some []
-
--- the bytes still to come: what is left of the file being read, and what the files still to open give, joined
-abbrev pub left : {I : Type 0} → (I → Option (List ℕ)) → (I → FilesAhead) → Joining I → Option (List ℕ)
-left current ahead j = option_append (left_of_current current j) (joined_files (ahead j.inputs) j.names)
-
--- what inputs whose files are joined have still to give: what is left of the file being read, with its newline where one is
--- due, and what further files give
+-- What inputs whose files are joined have still to give: what is left of the file being read, if one is, with its newline
+-- where one is due, and what further files give, joined.
 abbrev pub StillGives : {I : Type 0} → (I → Option (List ℕ)) → (I → FilesAhead) → I → Option (List ℕ) → Type 0
-StillGives {I} current ahead inputs more = (j : Joining I) × (j.inputs ≡ inputs) × (more ≡ left current ahead j)
+StillGives current ahead inputs more = (reading due : Bool) × (names : List (List ℕ)) × (more ≡ option_append
+    (if reading then option_map (with_newline due) (current inputs) else Some []) (joined_files (ahead inputs) names))
 
 -- no file was opened and none of the input read
 pub record OnlyReadsScripts {I : Type 0} (current : I → Option (List ℕ)) (ahead : I → FilesAhead) (text : I → WholeFiles)

@@ -2,8 +2,7 @@
 use Rattle.std.specs.Prelude.{ℕ, if◌then◌else◌, List, [], ◌∷◌, Option, None, Some, unwrap_or, slice_get}
 use Rattle.std.specs.Option.{option_map}
 use Rattle.std.specs.Str.{bytes_eq}
-use Rattle.sededit.specs.declared.memory_inputs.Current.{Current}
-use Rattle.sededit.specs.declared.memory_inputs.Current.TheVariants.{Nothing, Standard, Number}
+use Rattle.sededit.specs.Types.{Current, Nothing, Number, Standard}
 use Rattle.sededit.specs.Files.{dash}
 
 -- a file over memory: its name, as bytes of UTF-8, and its bytes

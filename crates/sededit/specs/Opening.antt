@@ -3,7 +3,8 @@ use Rattle.std.specs.Prelude.{◌≡◌, ℕ, Bool, true, false, List, [], ◌�
 use Rattle.std.specs.Option.{is_some, is_none}
 use Rattle.sedspace.specs.FailureCounts.{raised}
 use Rattle.sedspace.specs.Failures.{Rose}
-use Rattle.sededit.specs.Files.{FilesAhead, Joining}
+use Rattle.sededit.specs.Files.{FilesAhead}
+use Rattle.sededit.specs.Joining.{Joining}
 
 -- An opening, where the file and those after it are told: whether it can be opened is answered, it is the one being
 -- read, and those after it are still ahead. One that can't be opened gives nothing.

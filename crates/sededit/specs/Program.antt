@@ -1,44 +1,36 @@
 -- What the program does with the words of its command line (XCU sed, "Options", "Operands", "Exit Status").
-use Rattle.std.specs.Prelude.{◌≡◌, ◌≢◌, ◌⊎◌, ◌||◌, ℕ, Bool, true, false, List, [], ◌∷◌, map, Option, Some, None, Err, slice_get}
+use Rattle.std.specs.Prelude.{◌≡◌, ◌≢◌, ◌⊎◌, ◌||◌, ℕ, Bool, false, if◌then◌else◌, List, [], ◌∷◌, map, Option, Some, None, Err, slice_get, string_bytes}
 use Rattle.std.specs.Option.{ForSome, option_map_or}
-use Rattle.std.specs.String.{string_bytes}
 use Rattle.clap.specs.Words.{IsAmong, Text, fault_of, matches_of, takes}
-use Rattle.clap.specs.declared.error.kind.ErrorKind.TheVariants.{DisplayHelp}
 use Rattle.sedspace.specs.Failures.{Rose}
 use Rattle.sedscript.specs.Script.{Means, with_part}
 use Rattle.sedscript.specs.Program.{Program}
-use Rattle.sedre.specs.declared.types.Kind.{Kind}
-use Rattle.sedre.specs.declared.types.Kind.TheVariants.{Basic, Extended}
 use Rattle.sedengine.specs.Ends.{Gained, GainedWithin, SourceAtEnd, Cause, BreaksInLine}
 use Rattle.sedengine.specs.State.{Limits, Setting, State, TellsFiles, setting_of}
 use Rattle.sedengine.specs.Move.{to_sink}
-use Rattle.sedengine.specs.declared.ends.Ended.{Ended}
-use Rattle.sedengine.specs.declared.ends.Ended.TheVariants.{Done, InputBroken, OutputBroken, OutputFull}
-use Rattle.sededit.specs.CommandLine.{ScriptPart, IsCommandLine, IsLine, file, given, sed_command, text}
+use Rattle.sededit.specs.Types.{Basic, DisplayHelp, Done, Ended, Extended, File, InputBroken, Kind, Line, OutputBroken, OutputFull, Part, Script}
+use Rattle.sededit.specs.CommandLine.{IsCommandLine, IsLine, sed_command}
 use Rattle.sededit.specs.Editing.{BeginsOutput, IsOutput, nothing_before, start_over}
 use Rattle.sededit.specs.Files.{FilesAhead, GivesWhole, WholeFiles, dash, joined_files}
-use Rattle.sededit.specs.declared.asked.Line.{Line}
 
 -- the kind of a script's expressions: extended with -E, basic without it (XCU sed, "Options")
 abbrev pub kind_with : Bool → Kind
-kind_with true = Extended
-kind_with false = Basic
+kind_with extended = if extended then Extended else Basic
 
 -- The text that the parts of a script make, after those before: the texts of -e and what the files of -f hold, a newline
 -- after each that doesn't end with one (XCU sed, "Options"). A file that isn't told may hold any bytes; `-` names a file
 -- there like any other word (this project's own).
-abbrev pub MakesText : WholeFiles → List ℕ → List ScriptPart → List ℕ → Type 0
+abbrev pub MakesText : WholeFiles → List ℕ → List Part → List ℕ → Type 0
 MakesText files before [] whole = whole ≡ before
-MakesText files before (text part ∷ parts) whole = MakesText files (with_part before part) parts whole
-MakesText files before (file name ∷ parts) whole =
-    (bytes : List ℕ) × GivesWhole (files name) (Some bytes) × MakesText files (with_part before bytes) parts whole
+MakesText files before (Script s ∷ parts) whole = MakesText files (with_part before (string_bytes s)) parts whole
+MakesText files before (File s ∷ parts) whole =
+    (bytes : List ℕ) × GivesWhole (files (string_bytes s)) (Some bytes) × MakesText files (with_part before bytes) parts whole
 
 -- A line has a part, and its parts make a text that means the script p, but that -n suppresses default output too, as a
 -- first line `#n` does (XCU sed, "Options").
 abbrev pub GivesScript : WholeFiles → Line → ℕ → Program → Type 0
 GivesScript files l nodes p =
-    (map given l.parts.items ≢ [])
-    × ((whole : List ℕ) × MakesText files [] (map given l.parts.items) whole
+    (l.parts.items ≢ []) × ((whole : List ℕ) × MakesText files [] l.parts.items whole
     × ((q : Program) × Means whole (kind_with l.extended) nodes q × (p ≡ record q { quiet = l.quiet || q.quiet })))
 
 -- the names of the input files; without operands the standard input (XCU sed, "Operands"), under its name
@@ -78,26 +70,6 @@ Runs told nodes words P =
     IsCommandLine words × ((l : Line) × IsLine (matches_of sed_command words) l
     × ((p : Program) × GivesScript told.scripts l nodes p × P (run_of told l p)))
 
--- where a run's input and texts are told, its setting and its start are as `P` says
-abbrev pub WhereTold : Run → (Setting → State → Type 0) → Type 0
-WhereTold run P = ForSome run.input (λ bytes. (files : ℕ → List ℕ) → TellsFiles run.texts files →
-    P (setting_of run.script files) (start_over run.script bytes))
-
--- The sinks, which held the old contents and hold the new ones, have gained what `P` says of the run's output: all of it by
--- `IsOutput`, a beginning of it by `BeginsOutput`.
-abbrev pub Writes : (Setting → State → List (ℕ × ℕ) → Type 0) → Run → (old new : ℕ → Option (List ℕ)) → Type 0
-Writes P run old new = WhereTold run (λ g s. (out : List (ℕ × ℕ)) × Gained old new out × P g s out)
-
--- A sink that an end names as broken has failed, and one is named as full only where there is a limit on the output.
-abbrev pub SinkAtEnd : Option ℕ → (ℕ → ℕ) → (ℕ → ℕ) → Ended → Type 0
-SinkAtEnd most old new (OutputBroken k) = Rose (old k) (new k)
-SinkAtEnd most old new (OutputFull k) = most ≢ None
-SinkAtEnd most old new other = Unit {0}
-
--- some sink has failed in this call
-abbrev pub SinkFailed : (ℕ → ℕ) → (ℕ → ℕ) → Type 0
-SinkFailed old new = (k : ℕ) × Rose (old k) (new k)
-
 -- What is observed of the devices of a run, before it or after it: how many openings of files the inputs have refused, how
 -- many reads of the input have failed, what each sink holds, where it is told, and how often it has failed.
 pub record Observed : Type 0 where
@@ -111,18 +83,35 @@ abbrev pub observe : {I O : Type 0} → (refusals reads : I → ℕ) → (O → 
 observe refusals reads contents failures inputs sinks =
     record { refusals = refusals inputs; reads = reads inputs; contents = contents sinks; failures = failures sinks }
 
--- What an end says of the devices, whether they tell their bytes or not: the one that it names has failed, and the input at no
--- other end.
-abbrev pub DevicesAtEnd : Option ℕ → (old new : Observed) → Ended → Type 0
-DevicesAtEnd most old new end = SourceAtEnd old.reads new.reads end × SinkAtEnd most old.failures new.failures end
+-- where a run's input and texts are told, its setting and its start are as `P` says
+abbrev pub WhereTold : Run → (Setting → State → Type 0) → Type 0
+WhereTold run P = ForSome run.input (λ bytes. (files : ℕ → List ℕ) → TellsFiles run.texts files →
+    P (setting_of run.script files) (start_over run.script bytes))
 
--- The run of a script came to another end than the ordinary one, and what that says of the devices holds; and where the
--- input and the texts are told, the end has its cause, after some moves, with what the sinks gained as its output, within the
--- limit, and no whole line is lost where the input failed. `rest` says what the input has still to give.
+-- what the sinks have gained is as `P` says of the run's output: all of it by `IsOutput`, a beginning of it by `BeginsOutput`
+abbrev pub Writes : (Setting → State → List (ℕ × ℕ) → Type 0) → Run → (old new : Observed) → Type 0
+Writes P run old new = WhereTold run (λ g s. (out : List (ℕ × ℕ)) × Gained old.contents new.contents out × P g s out)
+
+-- some sink has failed in this call
+abbrev pub SinkFailed : (ℕ → ℕ) → (ℕ → ℕ) → Type 0
+SinkFailed old new = (k : ℕ) × Rose (old k) (new k)
+
+-- A sink that an end names as broken has failed, and one is named as full only where there is a limit on the output.
+abbrev pub SinkAtEnd : Option ℕ → (ℕ → ℕ) → (ℕ → ℕ) → Ended → Type 0
+SinkAtEnd most old new (OutputBroken k) = Rose (old k) (new k)
+SinkAtEnd most old new (OutputFull k) = most ≢ None
+SinkAtEnd most old new other = Unit {0}
+
+-- The run of a script came to another end than the ordinary one. The device that the end names has failed, and the input at
+-- no other end, whether they tell their bytes or not. Where the input and the texts are told, the end has its cause, after
+-- some moves, with what the sinks gained as its output, within the limit, and no whole line is lost where the input failed.
+-- `rest` says what the input has still to give.
 abbrev pub StopsEarly : Limits → (old new : Observed) → (Option (List ℕ) → Type 0) → Run → Type 0
 StopsEarly limits old new rest run =
-    (end : Ended) × (end ≢ Done) × DevicesAtEnd limits.output old new end × WhereTold run (λ g s.
-    (out : List (ℕ × ℕ)) × GainedWithin limits.output nothing_before old.contents new.contents (Err end) out
+    (end : Ended) × (end ≢ Done)
+    × (SourceAtEnd old.reads new.reads end × SinkAtEnd limits.output old.failures new.failures end)
+    × WhereTold run (λ g s. (out : List (ℕ × ℕ))
+    × GainedWithin limits.output nothing_before old.contents new.contents (Err end) out
     × (t : ℕ) × Cause limits g s out end t
     × (end ≡ InputBroken → (more : Option (List ℕ)) × rest more × BreaksInLine g s run.input more limits.space t))
 
@@ -131,19 +120,13 @@ StopsEarly limits old new rest run =
 pub record StatusMeans (limits : Limits) (old new : Observed) (rest : Option (List ℕ) → Type 0) (status : ℕ) (run : Run) :
     Type 0 where
   -- 0: all was written that the script writes, no input file was missed, and no read of the input failed
-  pub whole : status ≡ 0 → Writes IsOutput run old.contents new.contents
-      × (new.refusals ≡ old.refusals) × (new.reads ≡ old.reads)
+  pub whole : status ≡ 0 → Writes IsOutput run old new × (new.refusals ≡ old.refusals) × (new.reads ≡ old.reads)
   -- 2: all was written, no read of the input failed, and an input file couldn't be opened
-  pub missed : status ≡ 2 → Writes IsOutput run old.contents new.contents
-      × Rose old.refusals new.refusals × (new.reads ≡ old.reads)
-  -- 4: a beginning was written,
-  pub stopped : status ≡ 4 → Writes BeginsOutput run old.contents new.contents
-  -- and the run stopped for a cause, within the limits, and a device that this cause names has failed in this call, the input
-  -- for no other cause, and then no whole line is lost; or all was written, no read of the input failed, and some sink did
-  -- when it was flushed
+  pub missed : status ≡ 2 → Writes IsOutput run old new × Rose old.refusals new.refusals × (new.reads ≡ old.reads)
+  -- 4: a beginning was written, and the run stopped early; or all was, no read of the input failed, and a sink did when flushed
+  pub stopped : status ≡ 4 → Writes BeginsOutput run old new
   pub cause : status ≡ 4 → StopsEarly limits old new rest run
-      ⊎ (Writes IsOutput run old.contents new.contents
-      × SinkFailed old.failures new.failures × (new.reads ≡ old.reads))
+      ⊎ (Writes IsOutput run old new × SinkFailed old.failures new.failures × (new.reads ≡ old.reads))
 
 -- clap doesn't take the words, since they ask for help (this project's own)
 abbrev pub AsksHelp : List Text → Type 0

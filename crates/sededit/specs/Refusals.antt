@@ -1,8 +1,7 @@
 -- Why words are refused.
 use Rattle.std.specs.Prelude.{List}
 use Rattle.clap.specs.Words.{IsAmong, Text, fault_of, kind_of}
-use Rattle.sededit.specs.declared.asked.Refused.{Refused}
-use Rattle.sededit.specs.declared.asked.Refused.TheVariants.{NoMemory, Words}
+use Rattle.sededit.specs.Types.{NoMemory, Refused, Words}
 use Rattle.sededit.specs.CommandLine.{sed_command}
 
 -- the words are refused for a fault that clap finds in them, or there was no memory

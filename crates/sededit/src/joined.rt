@@ -30,7 +30,7 @@ pub struct Joined<'a, I: Inputs> {
 
 impl<'a, I: Inputs> Model for Joined<'a, I> {
     ghost use Rattle.std.specs.Prelude.{◌≡◌, ◌≤◌, false, map, take, drop, length, string_bytes, vec_len};
-    ghost use Rattle.sededit.specs.Files.{Joining};
+    ghost use Rattle.sededit.specs.Joining.{Joining};
     ghost use Rattle.sededit.specs.Opening.{WereRefused};
 
     ghost Value = { Joining I };
@@ -49,7 +49,8 @@ impl<'a, I: Inputs> Model for Joined<'a, I> {
 }
 
 impl<'a, I: Inputs> Joined<'a, I> {
-    ghost use Rattle.sededit.specs.Files.{Joining, joined_files, left, left_of_current};
+    ghost use Rattle.sededit.specs.Files.{joined_files};
+    ghost use Rattle.sededit.specs.Joining.{Joining, left, left_of_current};
     ghost use Rattle.sededit.specs.Opening.{OpensNext};
 
     /// Makes a source of the files of these names, of which none is opened yet. Where a request for memory is refused,
@@ -189,7 +190,7 @@ impl<'a, I: Inputs> Joined<'a, I> {
 }
 
 impl<'a, I: Inputs> ByteSource for Joined<'a, I> {
-    ghost use Rattle.sededit.specs.Files.{Joining, left, left_of_current};
+    ghost use Rattle.sededit.specs.Joining.{Joining, left, left_of_current};
     ghost use Rattle.sededit.specs.Opening.{OpensFirstFiles};
 
     ghost remaining = { λ j. left I.current I.ahead j };

@@ -1,9 +1,8 @@
 //! The parts of a script and the operands, in the order of the words.
-ghost use Rattle.std.specs.Prelude.{◌≡◌, ◌<◌, Some, drop, length, map, slice_get, take, IfOk};
-ghost use Rattle.std.specs.String.{string_bytes};
+ghost use Rattle.std.specs.Prelude.{[], ◌≡◌, ◌<◌, Some, drop, length, map, slice_get, string_bytes, take, IfOk};
 ghost use Rattle.clap.specs.Words.{found_of, rows_of};
-ghost use Rattle.sededit.specs.CommandLine.{Asks, given, given_to, names_among, text, texts_among};
-ghost use Rattle.sededit.specs.CommandLineParts.{comes_first, in_order, place_at, texts_in};
+ghost use Rattle.sededit.specs.CommandLine.{AreParts, Asks, given_to};
+ghost use Rattle.sededit.specs.CommandLineParts.{comes_first, given, in_order, place_at, texts_in};
 
 use crate::asked::Part;
 use clap::ArgMatches;
@@ -73,8 +72,7 @@ fn parts_in_order(
 ) -> Result<Vec<Part>, AllocError>
     ensures order { IfOk result (λ parts. map given parts.items
         ≡ in_order (texts_in scripts.entry) scripts.entry.places.now (texts_in files.entry) files.entry.places.now) }
-    ensures all { IfOk result (λ parts. (texts_among (map given parts.items) ≡ texts_in scripts.entry)
-        × (names_among (map given parts.items) ≡ texts_in files.entry)) }
+    ensures all { IfOk result (λ parts. AreParts parts.items (texts_in scripts.entry) (texts_in files.entry)) }
 {
     let mut parts = Vec::new(alloc);
     let mut scripted = 0;
@@ -125,7 +123,7 @@ fn after_first(words: &[String]) -> &[String]
 
 /// The first word as a script.
 fn first_as_script(alloc: Global, words: &[String]) -> Result<Vec<Part>, AllocError>
-    ensures { IfOk result (λ parts. map given parts.items ≡ map text (take 1 (map string_bytes words.now))) }
+    ensures { IfOk result (λ parts. AreParts parts.items (take 1 (map string_bytes words.now)) []) }
 {
     let mut parts = Vec::new(alloc);
     if let Some(script) = words.first() {
@@ -142,7 +140,7 @@ pub(crate) fn asked_of(
     operands: &[String],
 ) -> Result<Asked, AllocError>
     ensures { IfOk result (λ a. Asks (texts_in scripts.entry) (texts_in files.entry) (map string_bytes operands.now)
-        (map given a.parts.items) (map string_bytes a.operands.items)) }
+        a.parts.items (map string_bytes a.operands.items)) }
 {
     if scripts.words.is_empty() && files.words.is_empty() {
         return Ok(Asked {

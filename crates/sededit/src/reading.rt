@@ -1,6 +1,5 @@
 //! The script that a command line gives, read from its parts.
-ghost use Rattle.std.specs.Prelude.{◌≡◌, ◌≤◌, ◌∷◌, ℕ, List, [], map, IfOk};
-ghost use Rattle.sededit.specs.CommandLine.{given};
+ghost use Rattle.std.specs.Prelude.{◌≡◌, ◌≤◌, ◌∷◌, ℕ, List, [], IfOk};
 ghost use Rattle.sededit.specs.Program.{GivesScript, MakesText, kind_with};
 ghost use Rattle.sededit.specs.Files.{OnlyReadsScripts};
 ghost use Rattle.sededit.specs.declared.reading.NoScript.TheVariants.{NoMemory};
@@ -51,7 +50,7 @@ fn add<'a, I: Inputs>(
     inputs: &mut I,
 ) -> Result<(), NoScript<'a>>
     ensures text { IfOk result (λ _. (whole : List ℕ) (parts : _) → MakesText (I.text inputs.old) text.new.items parts whole →
-        MakesText (I.text inputs.old) text.old.items (given part.entry.now ∷ parts) whole) }
+        MakesText (I.text inputs.old) text.old.items (part.entry.now ∷ parts) whole) }
     ensures inputs { OnlyReadsScripts I.current I.ahead I.text I.refusals I.failures I.reference inputs.old inputs.new }
 {
     match part {
@@ -72,7 +71,7 @@ fn text_of<'a, I: Inputs>(
     parts: &'a [Part],
     inputs: &mut I,
 ) -> Result<Vec<u8>, NoScript<'a>>
-    ensures text { IfOk result (λ text. MakesText (I.text inputs.old) [] (map given parts.entry.now) text.items) }
+    ensures text { IfOk result (λ text. MakesText (I.text inputs.old) [] parts.entry.now text.items) }
     ensures inputs { OnlyReadsScripts I.current I.ahead I.text I.refusals I.failures I.reference inputs.old inputs.new }
 {
     let mut text = Vec::new(alloc);

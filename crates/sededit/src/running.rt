@@ -1,7 +1,8 @@
 //! The run of a script over the files of a command line, and the status that it gives.
 ghost use Rattle.std.specs.Prelude.{◌≡◌, ◌≢◌, ◌<◌, ◌≤◌, ◌⊎◌, ◌∷◌, ℕ, length, map, true, false};
 ghost use Rattle.std.specs.String.{string_bytes};
-ghost use Rattle.sededit.specs.Files.{StillGives, joined_files, left};
+ghost use Rattle.sededit.specs.Files.{StillGives, joined_files};
+ghost use Rattle.sededit.specs.Joining.{left};
 ghost use Rattle.sededit.specs.Program.{SinkFailed, StatusMeans, observe};
 
 use crate::editing::{Edited, edit_ahead};

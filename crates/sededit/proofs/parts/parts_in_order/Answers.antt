@@ -1,9 +1,8 @@
 use Rattle.std.proofs.Common.{◌≡◌, ◌∙◌, map, rules, sym, arith}
 use Rattle.std.proofs.lemmas.List.{length-map}
 use Rattle.std.specs.String.{string_bytes}
-use Rattle.sededit.specs.CommandLine.{given}
-use Rattle.sededit.specs.CommandLineParts.{in_order, texts_in}
-use Rattle.sededit.proofs.PartsLemmas.{all_among, all_made, file_added, script_added, some_below}
+use Rattle.sededit.specs.CommandLineParts.{given, in_order, texts_in}
+use Rattle.sededit.proofs.PartsLemmas.{all_made, are_parts, file_added, script_added, some_below}
 use Rattle.sededit.proofs.parts.parts_in_order.Goals as goal
 
 pub loop-scripted-preserved-then-comes_first : goal.loop-scripted-preserved-then-comes_first
@@ -31,4 +30,4 @@ returns-clause-all c =
     let made : map given c.loop-scripted.parts.items ≡ in_order (texts_in scripts) scripts.places.now (texts_in files) files.places.now =
     all_made _ (texts_in scripts) scripts.places.now (texts_in files) files.places.now c.loop-scripted.scripted c.loop-scripted.filed
     (omega (arith, length-map scripts.words.now string_bytes)) (omega (arith, length-map files.words.now string_bytes)) c.loop-scripted.invariant.all in
-    rw made (all_among (texts_in scripts) scripts.places.now (texts_in files) files.places.now)
+    are_parts _ (texts_in scripts) scripts.places.now (texts_in files) files.places.now made

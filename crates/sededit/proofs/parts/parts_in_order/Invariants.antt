@@ -1,6 +1,5 @@
 use Rattle.std.proofs.Common.{◌≡◌, ◌≤◌, ◌++◌, ◌+◌, ◌-◌, drop, length, map}
-use Rattle.sededit.specs.CommandLine.{given}
-use Rattle.sededit.specs.CommandLineParts.{in_order, texts_in}
+use Rattle.sededit.specs.CommandLineParts.{given, in_order, texts_in}
 use Rattle.sededit.proofs.parts.parts_in_order.Given as goal
 
 -- the parts made, and after them those of the words left, are all parts
