@@ -46,6 +46,7 @@ mod NestedGroupExamples
 mod NestedStarExamples
 mod NestedStarRunExamples
 mod OccurrenceExamples
+mod PartWords
 pub mod PieceReading
 mod ProgramExamples
 mod ReadFunctions

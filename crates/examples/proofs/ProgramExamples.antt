@@ -1,6 +1,6 @@
 -- Examples of what the program's command lines come to, computed by the definitions from the parts of a script on: the
 -- script's text, the files, and what is written or how the run ends (XCU sed, "Options", "Operands").
-use Rattle.std.proofs.Common.{◌≡◌, ◌≢◌, ℕ, List, [], ◌∷◌, Option, Some, None, Err, refl, subst, arith, rules}
+use Rattle.std.proofs.Common.{◌≡◌, ◌≢◌, Global, ℕ, List, [], ◌∷◌, Option, Some, None, Err, refl, subst, arith, rules}
 use Rattle.std.specs.Prelude.{codes}
 use Rattle.sedre.specs.declared.types.Kind.{Kind}
 use Rattle.sedre.specs.declared.types.Kind.TheVariants.{Basic}
@@ -11,7 +11,7 @@ use Rattle.sedscript.specs.Items.{match_at, address_at, second_at, addresses_at,
 use Rattle.sedscript.specs.Bytes.{past}
 use Rattle.sedscript.specs.Functions.{name_from, text_from}
 use Rattle.sedspace.specs.Lines.{HasNoNewline, lines}
-use Rattle.sedengine.specs.Ends.{part, GainedWithin, Cause, BreaksInLine, LosesPartAfter}
+use Rattle.sedengine.specs.Ends.{part, GainedWithin, SourceAtEnd, Cause, BreaksInLine, LosesPartAfter}
 use Rattle.sedengine.specs.Move.{after, next_move, to_sink}
 use Rattle.sedengine.specs.State.{setting_of}
 use Rattle.sedengine.specs.Select.{selects}
@@ -19,12 +19,13 @@ use Rattle.sedengine.specs.declared.ends.Ended.{Ended}
 use Rattle.sedengine.specs.declared.ends.Ended.TheVariants.{Done, NoPrevious, InputBroken, OutputBroken, OutputFull}
 use Rattle.examples.proofs.ComputedEnds.{all_fit, stops_after, stops_within, Stops}
 use Rattle.examples.proofs.ComputedRun.{course, ends_after, plain, quiet, no_files, Edits}
-use Rattle.sededit.specs.CommandLine.{ScriptPart, text, file}
+use Rattle.sededit.specs.declared.asked.Part.{Part}
 use Rattle.sededit.specs.Editing.{nothing_before, start_over}
 use Rattle.sededit.specs.MemoryFiles.{File, file_of, files_of}
 use Rattle.sededit.specs.Files.{joined_files}
-use Rattle.sededit.specs.Program.{MakesText, Observed, StopsEarly, DevicesAtEnd, or_standard}
+use Rattle.sededit.specs.Program.{MakesText, Observed, SinkAtEnd, StopsEarly, or_standard}
 use Rattle.examples.proofs.LimitWords.{own}
+use Rattle.examples.proofs.PartWords.{file, text}
 
 -- the files that there are: `a` with one line, `f` without a newline, and the script `s`
 abbrev pub there : List File
@@ -37,21 +38,21 @@ abbrev pub input : (standard : List ℕ) → (operands : List (List ℕ)) → Op
 input standard operands = joined_files (λ names. Some (files_of there standard names)) (or_standard operands)
 
 -- the script of these parts is this text
-abbrev pub Text : List ScriptPart → List ℕ → Type 0
+abbrev pub Text : List Part → List ℕ → Type 0
 Text parts whole = MakesText (λ name. Some (file_of there name)) [] parts whole
 
-two_parts : Text (text (codes "i\\") ∷ text (codes "  X") ∷ []) (codes "i\\\n  X\n")
-two_parts = refl
+two_parts : (heap : Global) → Text (text heap (codes "i\\") refl ∷ text heap (codes "  X") refl ∷ []) (codes "i\\\n  X\n")
+two_parts heap = refl
 
-part_of_a_file : Text (file (codes "s") ∷ []) (codes "#n\np\n")
-part_of_a_file = (codes "#n\np", refl, refl)
+part_of_a_file : (heap : Global) → Text (file heap (codes "s") refl ∷ []) (codes "#n\np\n")
+part_of_a_file heap = (codes "#n\np", refl, refl)
 
-part_before_a_file : Text (text (codes "p") ∷ file (codes "s") ∷ []) (codes "p\n#n\np\n")
-part_before_a_file = (codes "#n\np", refl, refl)
+part_before_a_file : (heap : Global) → Text (text heap (codes "p") refl ∷ file heap (codes "s") refl ∷ []) (codes "p\n#n\np\n")
+part_before_a_file heap = (codes "#n\np", refl, refl)
 
 -- A file that can't be read gives no script.
-no_file : (whole : List ℕ) → Text (file (codes "nofile") ∷ []) whole → ⊥
-no_file whole made = (let none : Some made.0 ≡ None = made.1 in absurd cc)
+no_file : (heap : Global) (whole : List ℕ) → Text (file heap (codes "nofile") refl ∷ []) whole → ⊥
+no_file heap whole made = (let none : Some made.0 ≡ None = made.1 in absurd cc)
 
 standard_input : input (codes "a\n") [] ≡ Some (codes "a\n")
 standard_input = refl
@@ -68,7 +69,7 @@ missed_file : input [] (codes "a" ∷ codes "nofile" ∷ []) ≡ Some (codes "x\
 missed_file = refl
 
 -- These parts make a script that over the input of these operands writes these bytes.
-pub record Answers (kind : Kind) (asked : Program → Program) (files : ℕ → List ℕ) (parts : List ScriptPart) (standard : List ℕ)
+pub record Answers (kind : Kind) (asked : Program → Program) (files : ℕ → List ℕ) (parts : List Part) (standard : List ℕ)
     (operands : List (List ℕ)) (output : List ℕ) : Type 0 where
   pub whole : List ℕ
   pub made : Text parts whole
@@ -77,9 +78,9 @@ pub record Answers (kind : Kind) (asked : Program → Program) (files : ℕ → 
   pub runs : Edits kind asked files whole bytes (to_sink 0 output)
 
 -- `sed -e 'i\' -e '  X'`, with a on the standard input
-text_over_two_parts : Answers Basic plain no_files (text (codes "i\\") ∷ text (codes "  X") ∷ []) (codes "a\n") [] (codes "  X\na\n")
+text_over_two_parts : (heap : Global) → Answers Basic plain no_files (text heap (codes "i\\") refl ∷ text heap (codes "  X") refl ∷ []) (codes "a\n") [] (codes "  X\na\n")
 unfolding verdict cutting walked item_at past function_at addresses_at address_at second_at text_from name_from lines course next_move selects
-text_over_two_parts = record {
+text_over_two_parts heap = record {
   whole = codes "i\\\n  X\n";
   made = refl;
   bytes = codes "a\n";
@@ -88,9 +89,9 @@ text_over_two_parts = record {
 }
 
 -- `sed -f s a`
-script_of_a_file : Answers Basic plain no_files (file (codes "s") ∷ []) [] (codes "a" ∷ []) (codes "x\n")
+script_of_a_file : (heap : Global) → Answers Basic plain no_files (file heap (codes "s") refl ∷ []) [] (codes "a" ∷ []) (codes "x\n")
 unfolding verdict cutting walked item_at past function_at addresses_at address_at second_at text_from name_from lines course next_move selects
-script_of_a_file = record {
+script_of_a_file heap = record {
   whole = codes "#n\np\n";
   made = (codes "#n\np", refl, refl);
   bytes = codes "x\n";
@@ -99,9 +100,9 @@ script_of_a_file = record {
 }
 
 -- `sed -e p -f s a`: `#n` is not in the first line.
-script_before_a_file : Answers Basic plain no_files (text (codes "p") ∷ file (codes "s") ∷ []) [] (codes "a" ∷ []) (codes "x\nx\nx\n")
+script_before_a_file : (heap : Global) → Answers Basic plain no_files (text heap (codes "p") refl ∷ file heap (codes "s") refl ∷ []) [] (codes "a" ∷ []) (codes "x\nx\nx\n")
 unfolding verdict cutting walked item_at past function_at addresses_at address_at second_at text_from name_from lines course next_move selects
-script_before_a_file = record {
+script_before_a_file heap = record {
   whole = codes "p\n#n\np\n";
   made = (codes "#n\np", refl, refl);
   bytes = codes "x\n";
@@ -110,9 +111,9 @@ script_before_a_file = record {
 }
 
 -- `sed p - -`
-standard_input_named_twice : Answers Basic plain no_files (text (codes "p") ∷ []) (codes "x\n") (codes "-" ∷ codes "-" ∷ []) (codes "x\nx\n")
+standard_input_named_twice : (heap : Global) → Answers Basic plain no_files (text heap (codes "p") refl ∷ []) (codes "x\n") (codes "-" ∷ codes "-" ∷ []) (codes "x\nx\n")
 unfolding verdict cutting walked item_at past function_at addresses_at address_at second_at text_from name_from lines course next_move selects
-standard_input_named_twice = record {
+standard_input_named_twice heap = record {
   whole = codes "p\n";
   made = refl;
   bytes = codes "x\n";
@@ -121,9 +122,9 @@ standard_input_named_twice = record {
 }
 
 -- `sed -n '$p' a nofile`
-last_line_before_a_missed_file : Answers Basic quiet no_files (text (codes "$p") ∷ []) [] (codes "a" ∷ codes "nofile" ∷ []) (codes "x\n")
+last_line_before_a_missed_file : (heap : Global) → Answers Basic quiet no_files (text heap (codes "$p") refl ∷ []) [] (codes "a" ∷ codes "nofile" ∷ []) (codes "x\n")
 unfolding verdict cutting walked item_at past function_at addresses_at address_at second_at text_from name_from lines course next_move selects
-last_line_before_a_missed_file = record {
+last_line_before_a_missed_file heap = record {
   whole = codes "$p\n";
   made = refl;
   bytes = codes "x\n";
@@ -132,9 +133,9 @@ last_line_before_a_missed_file = record {
 }
 
 -- `sed 1q a nofile`
-quit_before_a_file : Answers Basic plain no_files (text (codes "1q") ∷ []) [] (codes "a" ∷ codes "nofile" ∷ []) (codes "x\n")
+quit_before_a_file : (heap : Global) → Answers Basic plain no_files (text heap (codes "1q") refl ∷ []) [] (codes "a" ∷ codes "nofile" ∷ []) (codes "x\n")
 unfolding verdict cutting walked item_at past function_at addresses_at address_at second_at text_from name_from lines course next_move selects
-quit_before_a_file = record {
+quit_before_a_file heap = record {
   whole = codes "1q\n";
   made = refl;
   bytes = codes "x\n";
@@ -143,9 +144,9 @@ quit_before_a_file = record {
 }
 
 -- `sed p nofile a`
-missed_file_first : Answers Basic plain no_files (text (codes "p") ∷ []) [] (codes "nofile" ∷ codes "a" ∷ []) (codes "x\nx\n")
+missed_file_first : (heap : Global) → Answers Basic plain no_files (text heap (codes "p") refl ∷ []) [] (codes "nofile" ∷ codes "a" ∷ []) (codes "x\nx\n")
 unfolding verdict cutting walked item_at past function_at addresses_at address_at second_at text_from name_from lines course next_move selects
-missed_file_first = record {
+missed_file_first heap = record {
   whole = codes "p\n";
   made = refl;
   bytes = codes "x\n";
@@ -154,9 +155,9 @@ missed_file_first = record {
 }
 
 -- `sed 'r f' a`, where f is y and a newline
-file_of_the_script : Answers Basic plain (λ k. codes "y\n") (text (codes "r f") ∷ []) [] (codes "a" ∷ []) (codes "x\ny\n")
+file_of_the_script : (heap : Global) → Answers Basic plain (λ k. codes "y\n") (text heap (codes "r f") refl ∷ []) [] (codes "a" ∷ []) (codes "x\ny\n")
 unfolding verdict cutting walked item_at past function_at addresses_at address_at second_at text_from name_from lines course next_move selects
-file_of_the_script = record {
+file_of_the_script heap = record {
   whole = codes "r f\n";
   made = refl;
   bytes = codes "x\n";
@@ -194,7 +195,7 @@ gains_all output (OutputFull k) other = absurd (other k refl)
 gains_all output end other = record { gained = record { each = λ k. refl }; within = tt; full = tt }
 
 stopped : (whole bytes rest : List ℕ) (reads failures : ℕ) (output : List ℕ) (end : Ended) → Script whole Basic (λ p. OverAnyFiles p bytes rest output end) →
-    end ≢ Done → ((k : ℕ) → end ≢ OutputFull k) → DevicesAtEnd None (observed 0 0 []) (observed reads failures output) end → Stopped whole bytes rest reads failures output
+    end ≢ Done → ((k : ℕ) → end ≢ OutputFull k) → SourceAtEnd 0 reads end × SinkAtEnd None (λ k. 0) (λ k. failures) end → Stopped whole bytes rest reads failures output
 stopped whole bytes rest reads failures output end s other room has =
     let p = s.program in
     record {
