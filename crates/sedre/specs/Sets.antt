@@ -34,6 +34,7 @@ union these those = set_of (λ c. has these c || has those c)
 
 abbrev pub is_upper : ℕ → Bool
 is_upper c = between 65 90 c
+
 abbrev pub is_lower : ℕ → Bool
 is_lower c = between 97 122 c
 
@@ -56,6 +57,7 @@ complement set = set_of (λ c. not (has set c))
 
 abbrev pub is_digit : ℕ → Bool
 is_digit c = between 48 57 c
+
 abbrev pub is_alnum : ℕ → Bool
 is_alnum c = is_upper c || is_lower c || is_digit c
 

@@ -75,6 +75,7 @@ label_in text name n (i ∷ is) = if is_label text name i.function then Some n e
 abbrev pub is_open : Function → Bool
 is_open Open = true
 is_open f = false
+
 abbrev pub is_close : Function → Bool
 is_close Close = true
 is_close f = false
