@@ -3,7 +3,7 @@ use Rattle.std.proofs.Common.{◌≡◌, ℕ, zero, suc, ◌+◌, ◌-◌, ◌<�
 use Rattle.std.proofs.lemmas.List.{take-append-le}
 use Rattle.sedre.specs.declared.elements.Element.{Element}
 use Rattle.sedre.specs.declared.elements.Element.TheVariants.{Plain, Delimiter}
-use Rattle.sedre.specs.Brackets.{before_closing, content, form, is_delimiter, element, elements, list_end, after_escape, next_place, first_delimiter, delimiter_at}
+use Rattle.sedre.specs.Brackets.{before_closing, content, form, is_delimiter, element, elements, list_end, next_place, first_delimiter, delimiter_at}
 use Rattle.sedscript.specs.Strings.{string_end}
 use Rattle.scripts.proofs.LongerText.{tail_of, rest_on}
 
@@ -114,15 +114,20 @@ next_if : (base : ℕ) (t : Bool) (x y z w : Option ℕ) → NextOn base x z →
 next_if base true x y z w h g = h
 next_if base false x y z w h g = g
 
+some_if : (base : ℕ) (t u : Bool) (x z : ℕ) → t ≡ false → u ≡ false → z ≡ base + x → NextOn base (if t then None else Some x) (if u then None else Some z)
+some_if base t u x z h g e =
+    subst (λ (t : Bool). NextOn base (if t then None else Some x) (if u then None else Some z)) (sym h)
+    (subst (λ (u : Bool). NextOn base (Some x) (if u then None else Some z)) (sym g) (ap (λ n. Some n) e))
+
 next_on : (base : ℕ) (ys : List ℕ) (d at place b : ℕ) (bs : List ℕ) → place ≡ base + at → NextOn base (next_place d at (b ∷ bs)) (next_place d place (b ∷ (bs ++ ys)))
 next_on base ys d at place b bs e =
     next_if base (b == 92) _ _ _ _ (escape bs)
     (next_if base (b == 91) _ _ _ _ (list_on base ys (Some d) (at + 1) (place + 1) bs (omega (arith, e)))
     (let next : place + 1 ≡ base + (at + 1) = omega (arith, e) in ap (λ n. Some n) next))
   where
-    escape : (bs : List ℕ) → NextOn base (after_escape at bs) (after_escape place (bs ++ ys))
+    escape : (bs : List ℕ) → NextOn base (if length bs == 0 then None else Some (at + 2)) (if length (bs ++ ys) == 0 then None else Some (place + 2))
     escape [] = tt
-    escape (c ∷ rest) = let next : place + 2 ≡ base + (at + 2) = omega (arith, e) in ap (λ n. Some n) next
+    escape (c ∷ rest) = some_if base (length (c ∷ rest) == 0) (length (c ∷ (rest ++ ys)) == 0) (at + 2) (place + 2) (grind (arith)) (grind (arith)) (omega (arith, e))
 
 found_then : (base from end : ℕ) (f g : ℕ → Option ℕ) (x z : Option ℕ) → NextOn base x z → ((n : ℕ) → FoundOn base from end (f n) (g (base + n))) → FoundOn base from end (option_and_then f x) (option_and_then g z)
 found_then base from end f g None z h on = tt
