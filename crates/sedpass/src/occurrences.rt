@@ -26,13 +26,14 @@ pub fn begin_text(subject: Subject, back: &Table, seeking: &mut Seeking)
     requires all_starts { IsTrue back.now.way.all_starts }
     ensures kept { seeking.new.kept ≡ seeking.old.kept }
     ensures begun { seeking.new.begun ≡ false }
-    ensures tried { seeking.new.tried ≡ 0 }
+    ensures tried { seeking.new.tried ≤ length subject.entry.text.now }
     ensures serves { Serves subject.entry.prepared.now subject.entry.text.now back.now seeking.new }
     ensures owed { let m = length subject.entry.prepared.now.arena.expr.nodes in let n = length subject.entry.text.now in
         owed_behind m n seeking.new 0 + 42 * m ≤ 306 * m * (n + 1) }
 {
+    // what was left to a pass in the text before is left to it here after one trial
+    seeking.tried = if seeking.begun { subject.text.len() } else { 0 };
     seeking.begun = false;
-    seeking.tried = 0;
 }
 
 /// Whether a match is that of the null string at a place.
