@@ -1,5 +1,5 @@
 -- What is told of each node once, and what it means for passes.
-use Rattle.std.proofs.Common.{◌≡◌, ℕ, zero, suc, ◌+◌, ◌-◌, ◌<◌, ◌≤◌, ◌⊎◌, ◌↔◌, Bool, true, false, ◌&&◌, List, [], ◌∷◌, ◌++◌, length, length-append, get_or, Option, Some, None, IsTrue, refl, sym, ap, ◌∙◌, subst, inl, inr, ⊎_elim, true≢false, arith}
+use Rattle.std.proofs.Common.{◌≡◌, ℕ, zero, suc, ◌+◌, ◌-◌, ◌<◌, ◌≤◌, ◌⊎◌, ◌↔◌, Bool, true, false, ◌&&◌, List, [], ◌∷◌, ◌++◌, length, length-append, get_or, Option, Some, None, IsTrue, refl, sym, ap, ◌∙◌, subst, inl, inr, ⊎_elim, arith}
 use Rattle.std.specs.Prelude.{slice_get, eqb, IfSome, cond}
 use Rattle.std.proofs.Math.Bool.{and-false}
 use Rattle.std.proofs.lemmas.Bool.{cases_lt}
@@ -10,7 +10,7 @@ use Rattle.sedre.specs.Arena.{IsExpr, IsPart, FollowsParts}
 use Rattle.sedre.specs.Mirror.{mirror, seen}
 use Rattle.sedre.specs.declared.types.Node.{Node}
 use Rattle.sedre.specs.declared.types.NodeId.{NodeId}
-use Rattle.sedre.specs.declared.types.Node.TheVariants.{Set, Seq, Alt, Group, Star, Opt}
+use Rattle.sedre.specs.declared.types.Node.TheVariants.{Seq, Alt, Group, Star, Opt}
 use Rattle.sedre.proofs.TreeLemmas.{tree_at-node}
 use Rattle.sedre.proofs.Written.{size_positive}
 use Rattle.sedre.proofs.MirrorLemmas.{tree_at-mirror, seen-length}
@@ -19,7 +19,6 @@ use Rattle.sedtext.specs.Places.{IsPlace}
 use Rattle.sedtext.proofs.SpanLemmas.{Matches-forward}
 use Rattle.sedtext.proofs.NodeLemmas.{node_at}
 use Rattle.sedpass.specs.Groups.{reported, has_group}
-use Rattle.sedpass.specs.Regions.{IsRunOf, repeated, in_group}
 use Rattle.sedpass.specs.Lengths.{length_of, sum_of, same_of}
 use Rattle.sedpass.specs.Prepared.{nullable, null_in, null_at, is_set, run_of, IsFacts, AreFacts, IsLeaf, IsOfEachKind, IsShort, SameNulls}
 use Rattle.sedpass.specs.Rows.{at_begin, at_end, IsNodeRange, AreNull}
@@ -279,48 +278,3 @@ told_anywhere nodes told all facts each x first last inside =
     let here = fact_at told x (omega arith) in
     let fact = facts x here.0 here.1 in
     sym (fact.null first last) ∙ each x here.0 here.1 first last ∙ fact.null false false
-
--- what facts mean, in the words of regions, groups and rows
-
-module _ (nodes : List Node) (groups : ℕ) (expr : IsExpr nodes groups) where
-  set_node : (a : ℕ) (node : Node) → slice_get nodes a ≡ Some node → is_set (tree_of (tree_at nodes) node) ≡ true → (members : List Bool) × (slice_get nodes a ≡ Some (Set members))
-  set_node a (Set m) is set_here = (m, is)
-  set_node a other is set_here = absurd (true≢false (sym set_here))
-
-  -- a part that is a set
-  set_part : (a : ℕ) → a < length nodes → is_set (tree_at nodes a) ≡ true → (members : List Bool) × (slice_get nodes a ≡ Some (Set members))
-  set_part a inside set_here =
-      let here = node_at nodes a inside in
-      set_node a here.0 here.1 (sym (ap is_set (tree_at-node nodes a here.0 expr.arena here.1)) ∙ set_here)
-
-  abbrev Run : ℕ → ℕ → Type 0
-  Run c x = IsRunOf nodes c x × ((members : List Bool) × (slice_get nodes c ≡ Some (Set members)))
-
-  star_run : (x c : ℕ) (a : NodeId) (first : Bool) → slice_get nodes x ≡ Some (Star a first) → cond (is_set (tree_at nodes a.index)) (Some (x - 1)) None ≡ Some c → Run c x
-  star_run x c a first is run =
-      let next = expr.ranges x (Star a first) is in
-      let inside = slice_get_within nodes x (Star a first) is in
-      elim (is_set (tree_at nodes a.index)) as (λ v. is_set (tree_at nodes a.index) ≡ v → cond v (Some (x - 1)) None ≡ Some c → Run c x) [
-        | true ↦ λ yes at.
-            let same : x - 1 ≡ c = cc in
-            let index : a.index ≡ c = omega arith in
-            let set_here = set_part a.index (omega arith) yes in
-            (repeated x (a, first, is, index), (set_here.0, ap (slice_get nodes) (sym index) ∙ set_here.1))
-        | false ↦ λ no none. absurd cc
-      ] refl run
-
-  by_node : (x c : ℕ) → ((y : ℕ) → y < x → y < length nodes → run_of (tree_at nodes y) y ≡ Some c → Run c y) → (node : Node) → slice_get nodes x ≡ Some node → run_of (tree_of (tree_at nodes) node) x ≡ Some c → Run c x
-  by_node x c below (Group k a) is run =
-      let next = expr.ranges x (Group k a) is in
-      let inside = slice_get_within nodes x (Group k a) is in
-      let index : x - 1 ≡ a.index = omega arith in
-      let inner = below a.index (omega arith) (omega arith) (ap (λ n. run_of (tree_at nodes a.index) n) (sym index) ∙ run) in
-      (in_group x k a is inner.0, inner.1)
-  by_node x c below (Star a first) is run = star_run x c a first is run
-  by_node x c below other is run = absurd cc
-
-  run_by : (n x c : ℕ) → x < n → x < length nodes → run_of (tree_at nodes x) x ≡ Some c → Run c x
-  run_by zero x c small inside run = absurd (omega arith)
-  run_by (suc n) x c small inside run =
-      let here = node_at nodes x inside in
-      by_node x c (λ y less in_y told. run_by n y c (omega arith) in_y told) here.0 here.1 (sym (ap (λ t. run_of t x) (tree_at-node nodes x here.0 expr.arena here.1)) ∙ run)

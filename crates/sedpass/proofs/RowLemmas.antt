@@ -1,5 +1,5 @@
 -- How the marks at a place follow from what the leaves took, and that what is entered at a place decides the next.
-use Rattle.std.proofs.Common.{length-set, ◌≡◌, ℕ, zero, suc, ◌+◌, ◌-◌, ◌*◌, ◌<◌, ◌≤◌, ◌⊎◌, ◌↔◌, Bool, List, length, Option, Some, None, IsTrue, refl, sym, ap, ◌∙◌, subst, inl, inr, ⊎_elim, true≢false, true, false, ◌&&◌, ◌||◌, arith}
+use Rattle.std.proofs.Common.{length-set, ◌≡◌, ℕ, ◌+◌, ◌-◌, ◌*◌, ◌<◌, ◌≤◌, ◌⊎◌, ◌↔◌, Bool, List, length, Option, Some, None, IsTrue, refl, sym, ap, ◌∙◌, subst, inl, inr, ⊎_elim, true≢false, true, false, ◌&&◌, ◌||◌, arith}
 use Rattle.std.specs.Prelude.{slice_get, slice_index_or, slice_set, eqb, nat_lt, reverse}
 use Rattle.std.proofs.Math.Path.{fun_ext}
 use Rattle.std.proofs.lemmas.Option.{slice_get_within}
@@ -14,38 +14,18 @@ use Rattle.sedre.specs.declared.types.Node.{Node}
 use Rattle.sedre.specs.declared.types.NodeId.{NodeId}
 use Rattle.sedre.specs.declared.types.Node.TheVariants.{Empty, Set, Begin, End, Seq, Alt, Group, Star, Opt}
 use Rattle.sedtext.specs.declared.starts.Starts.{Starts}
-use Rattle.sedtext.specs.Spans.{CopiesLead, no_copy}
+use Rattle.sedtext.specs.Spans.{CopiesLead}
 use Rattle.sedtext.specs.Matching.{byte_is_in}
 use Rattle.sedtext.specs.PartMarks.{enter_parts}
 use Rattle.sedtext.specs.Places.{takes_any}
 use Rattle.sedtext.specs.Words.{AgreeBelow}
 use Rattle.sedtext.specs.Reach.{At, IsStart, one_start, SomeSpan, BeginsWith, Marked, Enters, at_root, with_whole, after_left, again, Ends}
 use Rattle.sedpass.specs.Regions.{EndsAt, Opposite, ReachesEnd, Meets}
-use Rattle.sedpass.specs.Rows.{Took, NullBy, EndsBy, EntersBy, SameBytes, SameKind, SameLeaves, NoneEntered, InTree, is_tree, part_of, IsNodeRange, TreeBelow, TreeFrom, AreNull, ended_by, leaf_looks, part_looks, enter_looks, bits, TellTook, RowOfPlace, RowFrom, LeadsTo}
-use Rattle.sedtext.proofs.SpanLemmas.{Matches-forward, Matches-within, CopiesLead-append, CopiesLead-last}
-use Rattle.sedtext.proofs.ReachLemmas.{open_at, close_at, takes_some, FromNode, Enters-from, Enters-part, Enters-inside, Enters-root, Enters-loose}
-use Rattle.sedtext.proofs.NodeLemmas.{node_at}
+use Rattle.sedpass.specs.Rows.{Took, EndsBy, EntersBy, SameBytes, NoneEntered, InTree, is_tree, part_of, IsNodeRange, TreeBelow, TreeFrom, AreNull, ended_by, leaf_looks, part_looks, enter_looks, bits, TellTook, RowOfPlace, RowFrom, LeadsTo}
+use Rattle.sedtext.proofs.SpanLemmas.{Matches-forward, CopiesLead-append, CopiesLead-last}
+use Rattle.sedtext.proofs.ReachLemmas.{open_at, close_at, takes_some, FromNode, Enters-from, Enters-part, Enters-inside, Enters-root}
 use Rattle.sedpass.proofs.LeaveLemmas.{ends_at, reaches_mirror}
 use Rattle.sedpass.proofs.MeetingLemmas.{BeginsWith-part, meets_whole}
-
-module _ (nodes : List Node) (w : List ℕ) (arena : IsArena nodes) where
-  -- whether a node is null depends on its parts and on the place's kind
-  pub null_by : (x j : ℕ) (node : Node) → slice_get nodes x ≡ Some node → At nodes w x j j ↔ NullBy (j ≡ 0) (j ≡ length w) (λ c. At nodes w c j j) node
-  null_by x j Empty is = (λ h. tt, λ h. close_at nodes w x Empty arena is j j refl)
-  null_by x j (Set m) is = (λ h. let f = open_at nodes w x (Set m) arena is j j h in absurd (omega (arith, f.3)), λ h. absurd h)
-  null_by x j (Seq a b) is = (
-    λ h. let f = open_at nodes w x (Seq a b) arena is j j h in
-        let low = Matches-forward (tree_at nodes a.index) w j f.0 f.1 in
-        let high = Matches-forward (tree_at nodes b.index) w f.0 j f.2 in
-        let e : f.0 ≡ j = omega arith in
-        (subst (λ k. At nodes w a.index j k) e f.1, subst (λ k. At nodes w b.index k j) e f.2),
-    λ h. close_at nodes w x (Seq a b) arena is j j (j, h.0, h.1),
-  )
-  null_by x j (Alt a b) is = (open_at nodes w x (Alt a b) arena is j j, close_at nodes w x (Alt a b) arena is j j)
-  null_by x j (Group k a) is = (open_at nodes w x (Group k a) arena is j j, close_at nodes w x (Group k a) arena is j j)
-  null_by x j (Star a first) is = (λ h. tt, λ h. close_at nodes w x (Star a first) arena is j j no_copy)
-  null_by x j (Opt a first) is = (λ h. tt, λ h. close_at nodes w x (Opt a first) arena is j j (inl refl))
-  null_by x j other is = (λ h. (open_at nodes w x other arena is j j h).0, λ h. close_at nodes w x other arena is j j (h, h))
 
 module _ (nodes : List Node) (w : List ℕ) (r : ℕ) (s : Starts) (arena : IsArena nodes) where
   -- a whole node ends where its part does that is entered with it alone
@@ -177,157 +157,9 @@ module _ (nodes : List Node) (w : List ℕ) (r : ℕ) (s : Starts) (arena : IsAr
   pub enters_root : (j : ℕ) → Enters nodes w r s r j ↔ IsStart s j
   enters_root j = (Enters-root nodes w r s arena r j refl, at_root r j refl)
 
--- what decides the marks of a place decides them: one way
-null_on : (begin begin' end end' : Type 0) (null null' : ℕ → Type 0) (node : Node) → (begin → begin') → (end → end') → ((c : ℕ) → IsPart node c → null c → null' c) →
-    NullBy begin end null node → NullBy begin' end' null' node
-null_on begin begin' end end' null null' Empty first last parts h = tt
-null_on begin begin' end end' null null' (Set m) first last parts h = h
-null_on begin begin' end end' null null' Begin first last parts h = first h
-null_on begin begin' end end' null null' End first last parts h = last h
-null_on begin begin' end end' null null' (Seq a b) first last parts h = (parts a.index (inl refl) h.0, parts b.index (inr refl) h.1)
-null_on begin begin' end end' null null' (Alt a b) first last parts h =
-    ⊎_elim (λ (l : null a.index). inl (parts a.index (inl refl) l)) (λ (m : null b.index). inr (parts b.index (inr refl) m)) h
-null_on begin begin' end end' null null' (Group k a) first last parts h = parts a.index refl h
-null_on begin begin' end end' null null' (Star a f) first last parts h = tt
-null_on begin begin' end end' null null' (Opt a f) first last parts h = tt
-
-ends_on : (took took' : List Bool → Type 0) (null null' ended ended' : ℕ → Type 0) (node : Node) → ((m : List Bool) → node ≡ Set m → took m → took' m) →
-    ((c : ℕ) → IsPart node c → null c → null' c) → ((c : ℕ) → IsPart node c → ended c → ended' c) → EndsBy took null ended node → EndsBy took' null' ended' node
-ends_on took took' null null' ended ended' (Set m) takes_on nulls parts h = takes_on m refl h
-ends_on took took' null null' ended ended' (Seq a b) takes_on nulls parts h =
-    elim h [ inl right ↦ inl (parts b.index (inr refl) right) | inr left ↦ inr (parts a.index (inl refl) left.0, nulls b.index (inr refl) left.1) ]
-ends_on took took' null null' ended ended' (Alt a b) takes_on nulls parts h =
-    ⊎_elim (λ (l : ended a.index). inl (parts a.index (inl refl) l)) (λ (m : ended b.index). inr (parts b.index (inr refl) m)) h
-ends_on took took' null null' ended ended' (Group k a) takes_on nulls parts h = parts a.index refl h
-ends_on took took' null null' ended ended' (Star a f) takes_on nulls parts h = parts a.index refl h
-ends_on took took' null null' ended ended' (Opt a f) takes_on nulls parts h = parts a.index refl h
-ends_on took took' null null' ended ended' other takes_on nulls parts h = h
-
-enters_on : (here here' : Type 0) (null null' ended ended' : ℕ → Type 0) (c : ℕ) (node : Node) → (here → here') →
-    ((c : ℕ) → IsPart node c → null c → null' c) → ((c : ℕ) → IsPart node c → ended c → ended' c) → EntersBy here null ended c node → EntersBy here' null' ended' c node
-enters_on here here' null null' ended ended' c (Seq a b) on nulls parts h =
-    elim h [ inl left ↦ inl (left.0, on left.1) | inr right ↦ inr (right.0, elim right.1 [ inl end ↦ inl (parts a.index (inl refl) end) | inr n ↦ inr (on n.0, nulls a.index (inl refl) n.1) ]) ]
-enters_on here here' null null' ended ended' c (Alt a b) on nulls parts h = on h
-enters_on here here' null null' ended ended' c (Group k a) on nulls parts h = on h
-enters_on here here' null null' ended ended' c (Star a f) on nulls parts h =
-    ⊎_elim (λ (l : here). inl (on l)) (λ (end : ended a.index). inr (parts a.index refl end)) h
-enters_on here here' null null' ended ended' c (Opt a f) on nulls parts h = on h
-enters_on here here' null null' ended ended' c other on nulls parts h = h
-
--- null strings are the same at places of one kind
-module _ (nodes : List Node) (w v : List ℕ) (p q : ℕ) (arena : IsArena nodes) (first : (p ≡ 0) → (q ≡ 0)) (last : (p ≡ length w) → (q ≡ length v)) where
-  pub null_same : (n x : ℕ) → x < n → x < length nodes → At nodes w x p p → At nodes v x q q
-  null_same zero x small inside at = absurd (omega arith)
-  null_same (suc n) x small inside at =
-      let here = node_at nodes x inside in
-      (null_by nodes v arena x q here.0 here.1).1
-      (null_on (p ≡ 0) (q ≡ 0) (p ≡ length w) (q ≡ length v) (λ c. At nodes w c p p) (λ c. At nodes v c q q) here.0 first last
-      (λ c part. let low = arena.below x c here.0 here.1 part in null_same n c (omega arith) (omega arith))
-      ((null_by nodes w arena x p here.0 here.1).0 at))
-
--- what is entered at one place is entered at the other, one way, if what has ended with a byte has there
-module _ (nodes : List Node) (w v : List ℕ) (r p q : ℕ) (s t : Starts) (arena : IsArena nodes) (inside : r < length nodes)
-    (first : (p ≡ 0) → (q ≡ 0)) (last : (p ≡ length w) → (q ≡ length v)) (starts : IsStart s p → IsStart t q)
-    (ended : (x : ℕ) → x ≤ r → Ends nodes w r s x p → Ends nodes v r t x q) where
-  pub entered_same : (d c : ℕ) → c ≤ r → r < c + d → Enters nodes w r s c p → Enters nodes v r t c q
-  entered_same zero c low deep h = absurd (omega arith)
-  entered_same (suc d) c low deep h =
-      ⊎_elim
-      (λ (e : c ≡ r). at_root c q e (starts (Enters-root nodes w r s arena c p e h)))
-      (λ (ne : c ≡ r → ⊥).
-      let whole = arena.each c (omega arith) in
-      let above = arena.below whole.0 c whole.1 whole.2 whole.3 in
-      ⊎_elim
-      (λ (high : r < whole.0). absurd (Enters-loose nodes w r s arena c p (whole.0, whole.1, high, whole.2, whole.3) low ne h))
-      (λ (le : whole.0 ≤ r).
-      (enters_by nodes v r t arena whole.0 c q whole.1 le whole.2 whole.3).1
-      (enters_on (Enters nodes w r s whole.0 p) (Enters nodes v r t whole.0 q) (λ x. At nodes w x p p) (λ x. At nodes v x q q)
-      (λ x. Ends nodes w r s x p) (λ x. Ends nodes v r t x q) c whole.1
-      (entered_same d whole.0 le (omega arith))
-      (λ x part. let less = arena.below whole.0 x whole.1 whole.2 part in null_same nodes w v p q arena first last (x + 1) x (omega arith) (omega arith))
-      (λ x part. let less = arena.below whole.0 x whole.1 whole.2 part in ended x (omega arith))
-      ((enters_by nodes w r s arena whole.0 c p whole.1 le whole.2 whole.3).0 h)))
-      (cases_lt r whole.0))
-      (cases_eq c r)
-
-  pub ends_same : (c : ℕ) → c ≤ r → EndsAt nodes w r s c p → EndsAt nodes v r t c q
-  ends_same c low h =
-      (ends_at nodes v r c q t).1 (⊎_elim
-      (λ (end : Ends nodes w r s c p). inl (ended c low end))
-      (λ (null : Enters nodes w r s c p × At nodes w c p p). inr (entered_same (r + 1) c low (omega arith) null.0, null_same nodes w v p q arena first last (c + 1) c (omega arith) (omega arith) null.1))
-      ((ends_at nodes w r c p s).0 h))
-
--- from one place to the next, one way
-module _ (nodes : List Node) (w v : List ℕ) (r p q : ℕ) (s t : Starts) (arena : IsArena nodes) (inside : r < length nodes)
-    (leaves : (c : ℕ) (members : List Bool) → slice_get nodes c ≡ Some (Set members) → Enters nodes w r s c p → Enters nodes v r t c q)
-    (bytes : SameBytes nodes (slice_get w p) (slice_get v q))
-    (first : (p + 1 ≡ 0) → (q + 1 ≡ 0)) (last : (p + 1 ≡ length w) → (q + 1 ≡ length v)) where
-  null_next : (c : ℕ) → c < length nodes → At nodes w c (p + 1) (p + 1) → At nodes v c (q + 1) (q + 1)
-  null_next c = null_same nodes w v (p + 1) (q + 1) arena first last (c + 1) c (omega arith)
-
-  took_next : (x : ℕ) (m : List Bool) → slice_get nodes x ≡ Some (Set m) → Took nodes w r s (p + 1) x m → Took nodes v r t (q + 1) x m
-  took_next x m is h =
-      let at : h.0 ≡ p = (let next = h.1 in omega arith) in
-      let taken : IsTrue (byte_is_in (slice_get w p) m) = subst (λ i. IsTrue (byte_is_in (slice_get w i) m)) at h.3 in
-      (q, refl, leaves x m is (subst (λ i. Enters nodes w r s x i) at h.2), sym (bytes x m is) ∙ taken)
-
-  -- upwards
-  pub ended_next : (n x : ℕ) → x < n → x ≤ r → Ends nodes w r s x (p + 1) → Ends nodes v r t x (q + 1)
-  ended_next zero x small low h = absurd (omega arith)
-  ended_next (suc n) x small low h =
-      let here = node_at nodes x (omega arith) in
-      (ends_by nodes v r t arena x (q + 1) here.0 low here.1).1
-      (ends_on (Took nodes w r s (p + 1) x) (Took nodes v r t (q + 1) x) (λ c. At nodes w c (p + 1) (p + 1)) (λ c. At nodes v c (q + 1) (q + 1))
-      (λ c. Ends nodes w r s c (p + 1)) (λ c. Ends nodes v r t c (q + 1)) here.0
-      (λ m e. took_next x m (here.1 ∙ ap (λ (z : Node). Some z) e))
-      (λ c part. let less = arena.below x c here.0 here.1 part in null_next c (omega arith))
-      (λ c part. let less = arena.below x c here.0 here.1 part in ended_next n c (omega arith) (omega arith))
-      ((ends_by nodes w r s arena x (p + 1) here.0 low here.1).0 h))
-
-  -- downwards
-  pub entered_next : (IsStart s (p + 1) → IsStart t (q + 1)) → (d c : ℕ) → c ≤ r → r < c + d → Enters nodes w r s c (p + 1) → Enters nodes v r t c (q + 1)
-  entered_next starts = entered_same nodes w v r (p + 1) (q + 1) s t arena inside first last starts (λ x low. ended_next (x + 1) x (omega arith) low)
-
-  -- a node that ends with a byte or null
-  pub ends_next : (IsStart s (p + 1) → IsStart t (q + 1)) → (c : ℕ) → c ≤ r → EndsAt nodes w r s c (p + 1) → EndsAt nodes v r t c (q + 1)
-  ends_next starts = ends_same nodes w v r (p + 1) (q + 1) s t arena inside first last starts (λ x low. ended_next (x + 1) x (omega arith) low)
-
--- both ways
-pub next_same : (nodes : List Node) (w v : List ℕ) (r p q : ℕ) (s t : Starts) → IsArena nodes → r < length nodes →
-    SameLeaves nodes r w s p v t q → SameBytes nodes (slice_get w p) (slice_get v q) → SameKind w (p + 1) v (q + 1) → (IsStart s (p + 1) ↔ IsStart t (q + 1)) →
-    (c : ℕ) → c ≤ r → (Enters nodes w r s c (p + 1) ↔ Enters nodes v r t c (q + 1)) × (EndsAt nodes w r s c (p + 1) ↔ EndsAt nodes v r t c (q + 1))
-next_same nodes w v r p q s t arena inside leaves bytes kind starts c low =
-    let there = λ (x : ℕ) (m : List Bool) (is : slice_get nodes x ≡ Some (Set m)). (leaves x m is).0 in
-    let back = λ (x : ℕ) (m : List Bool) (is : slice_get nodes x ≡ Some (Set m)). (leaves x m is).1 in
-    let bytes' : SameBytes nodes (slice_get v q) (slice_get w p) = λ x m is. sym (bytes x m is) in (
-      (
-        entered_next nodes w v r p q s t arena inside there bytes kind.0.0 kind.1.0 starts.0 (r + 1) c low (omega arith),
-        entered_next nodes v w r q p t s arena inside back bytes' kind.0.1 kind.1.1 starts.1 (r + 1) c low (omega arith),
-      ),
-      (
-        ends_next nodes w v r p q s t arena inside there bytes kind.0.0 kind.1.0 starts.0 c low,
-        ends_next nodes v w r q p t s arena inside back bytes' kind.0.1 kind.1.1 starts.1 c low,
-      ),
-    )
-
--- a pass begins
-none_ended : (nodes : List Node) (w : List ℕ) (r x p : ℕ) (s : Starts) → p ≤ s.first → Ends nodes w r s x p → ⊥
-none_ended nodes w r x p s low h = let up = Enters-from nodes w r s x h.0 h.2 in let less = h.1 in omega arith
-
-pub first_took : (nodes : List Node) (w : List ℕ) (r x p : ℕ) (s : Starts) (m : List Bool) → p ≤ s.first → Took nodes w r s p x m → ⊥
+-- before its first start no leaf took a byte
+first_took : (nodes : List Node) (w : List ℕ) (r x p : ℕ) (s : Starts) (m : List Bool) → p ≤ s.first → Took nodes w r s p x m → ⊥
 first_took nodes w r x p s m low h = let up = Enters-from nodes w r s x h.0 h.2 in let next = h.1 in omega arith
-
-pub first_same : (nodes : List Node) (w v : List ℕ) (r p q : ℕ) (s t : Starts) → IsArena nodes → r < length nodes → p ≤ s.first → q ≤ t.first → SameKind w p v q → (IsStart s p ↔ IsStart t q) →
-    (c : ℕ) → c ≤ r → (Enters nodes w r s c p ↔ Enters nodes v r t c q) × (EndsAt nodes w r s c p ↔ EndsAt nodes v r t c q)
-first_same nodes w v r p q s t arena inside early early' kind starts c low =
-    let none = λ (x : ℕ) (le : x ≤ r) (h : Ends nodes w r s x p). absurd (none_ended nodes w r x p s early h) in
-    let none' = λ (x : ℕ) (le : x ≤ r) (h : Ends nodes v r t x q). absurd (none_ended nodes v r x q t early' h) in (
-      (
-        entered_same nodes w v r p q s t arena inside kind.0.0 kind.1.0 starts.0 none (r + 1) c low (omega arith),
-        entered_same nodes v w r q p t s arena inside kind.0.1 kind.1.1 starts.1 none' (r + 1) c low (omega arith),
-      ),
-      (ends_same nodes w v r p q s t arena inside kind.0.0 kind.1.0 starts.0 none c low, ends_same nodes v w r q p t s arena inside kind.0.1 kind.1.1 starts.1 none' c low),
-    )
 
 -- the root ends where a match does
 pub root_ends : (nodes : List Node) (w : List ℕ) (r p : ℕ) (s : Starts) → IsArena nodes → EndsAt nodes w r s r p ↔ SomeSpan nodes w r s p
@@ -338,47 +170,6 @@ pub dead : (nodes : List Node) (w : List ℕ) (r p i k : ℕ) (s : Starts) → I
 dead nodes w r p i k s arena inside none start low high at =
     let met = (meets_whole nodes w r p s (one_start k) arena inside).1 (i, k, start, low, high, at, (omega arith, omega arith)) in
     none met.0 met.1 met.2 met.3
-
--- nothing ends with a byte at the next place
-module _ (nodes : List Node) (w : List ℕ) (r p : ℕ) (s : Starts) (arena : IsArena nodes) (inside : r < length nodes) (none : NoneEntered nodes w r s p) where
-  dead_ended : (x : ℕ) → x ≤ r → Ends nodes w r s x (p + 1) → ⊥
-  dead_ended x low h =
-      none_ended nodes w r x (p + 1) (one_start (p + 2)) (omega arith)
-      (ended_next nodes w w r p p s (one_start (p + 2)) arena inside (λ c m is e. absurd (none c m is e)) (λ x m is. refl) (λ e. e) (λ e. e) (x + 1) x (omega arith) low h)
-
--- the same of the places after it
-module _ (nodes : List Node) (w : List ℕ) (r p : ℕ) (s : Starts) (arena : IsArena nodes) (inside : r < length nodes) (none : NoneEntered nodes w r s p) where
-  -- at a later place no leaf is entered that isn't at p, if p is a start and the text goes on
-  stopped_leaves : IsStart s p → (d k : ℕ) → k ≡ p + d → k < length w ⊎ (k ≡ p) → NoneEntered nodes w r s k
-  stopped_leaves start zero k at more = subst (λ n. NoneEntered nodes w r s n) (omega arith) none
-  stopped_leaves start (suc d) k at more = λ c m is h.
-      let k' = p + d in
-      let next : k' + 1 ≡ k = omega arith in
-      let goes : k < length w = ⊎_elim (λ (lt : k < length w). lt) (λ (e : k ≡ p). absurd (omega arith)) more in
-      let before : NoneEntered nodes w r s k' = stopped_leaves start d k' refl (inl (omega arith)) in
-      none c m is
-      (entered_same nodes w w r (k' + 1) p s s arena inside (λ e. absurd (omega arith)) (λ e. absurd (omega arith)) (λ e. start) (λ x le e. absurd (dead_ended nodes w r k' s arena inside before x le e)) (r + 1) c
-      (Enters-inside nodes w r s arena c k h) (omega arith) (subst (λ n. Enters nodes w r s c n) (sym next) h))
-
-  -- so a match that ends later is null, and stands at the text's end as well
-  stopped_ends : IsStart s p → (k : ℕ) → p ≤ k → k + 1 ≤ length w → EndsAt nodes w r s r (k + 1) → At nodes w r (length w) (length w)
-  stopped_ends start k low high h =
-      let before : NoneEntered nodes w r s k = stopped_leaves start (k - p) k (omega arith) (inl (omega arith)) in
-      ⊎_elim
-      (λ (end : Ends nodes w r s r (k + 1)). absurd (dead_ended nodes w r k s arena inside before r (omega arith) end))
-      (λ (null : Enters nodes w r s r (k + 1) × At nodes w r (k + 1) (k + 1)).
-      null_same nodes w w (k + 1) (length w) arena (λ e. absurd (omega arith)) (λ e. refl) (r + 1) r (omega arith) inside null.1)
-      ((ends_at nodes w r r (k + 1) s).0 h)
-
--- where no leaf is entered at a start no match ends later but a null one at the text's end
-pub stopped : (nodes : List Node) (w : List ℕ) (r p i j : ℕ) (s : Starts) → IsArena nodes → r < length nodes → NoneEntered nodes w r s p → IsStart s p →
-    (At nodes w r (length w) (length w) → ⊥) → IsStart s i → i ≤ length w → p < j → At nodes w r i j → ⊥
-stopped nodes w r p i j s arena inside none start not_null begin low lt at =
-    let high = Matches-within (tree_at nodes r) w i j low at in
-    let k = j - 1 in
-    let next : k + 1 ≡ j = omega arith in
-    not_null (stopped_ends nodes w r p s arena inside none start k (omega arith) (omega arith)
-    (subst (λ n. EndsAt nodes w r s r n) (sym next) (i, at_root r i refl begin, at)))
 
 -- What the loops of `close` keep.
 
@@ -674,46 +465,6 @@ row_took nodes w r x p s keeps entered ended byte m row same is = (
       and_from (entered x) (byte_is_in byte m) ((row.leaves x).1 (m, is, subst (λ i. Enters nodes w r s x i) at h.2))
       (sym (same x m is) ∙ subst (λ i. IsTrue (byte_is_in (slice_get w i) m)) at h.3),
 )
-
--- the same of two places
-abbrev pub Alike : List Node → ℕ → List ℕ → Starts → ℕ → List ℕ → Starts → ℕ → Type 0
-Alike nodes r w s p v t q = (c : ℕ) → c ≤ r → (Enters nodes w r s c p ↔ Enters nodes v r t c q) × (EndsAt nodes w r s c p ↔ EndsAt nodes v r t c q)
-
-module _ (nodes : List Node) (w v : List ℕ) (r p q : ℕ) (s t : Starts) (keeps : Bool) (arena : IsArena nodes) (alike : Alike nodes r w s p v t q) where
-  pub row_moves : (entered ended : ℕ → Bool) → RowOfPlace nodes w r s keeps p entered ended → RowOfPlace nodes v r t keeps q entered ended
-  row_moves entered ended row =
-      record {
-        leaves = λ c. (
-          λ h. let f = (row.leaves c).0 h in (f.0, f.1, (alike c (Enters-inside nodes w r s arena c p f.2)).0.0 f.2),
-          λ h. (row.leaves c).1 (h.0, h.1, (alike c (Enters-inside nodes v r t arena c q h.2)).0.1 h.2),
-        );
-        ends = λ c. (
-          λ h. let f = (row.ends c).0 h in (f.0, (alike c (Enters-inside nodes w r s arena c f.1.0 f.1.1)).1.0 f.1),
-          λ h. (row.ends c).1 (h.0, (alike c (Enters-inside nodes v r t arena c h.1.0 h.1.1)).1.1 h.1),
-        );
-      }
-
--- one row tells the same leaves
-same_leaves : (nodes : List Node) (w v : List ℕ) (r p q : ℕ) (s t : Starts) (keeps : Bool) (entered ended : ℕ → Bool) → RowOfPlace nodes w r s keeps p entered ended → RowOfPlace nodes v r t keeps q entered ended → SameLeaves nodes r w s p v t q
-same_leaves nodes w v r p q s t keeps entered ended one other c m is = (
-  λ h. ((other.leaves c).0 ((one.leaves c).1 (m, is, h))).2,
-  λ h. ((one.leaves c).0 ((other.leaves c).1 (m, is, h))).2,
-)
-
-pub cell : (nodes : List Node) (w : List ℕ) (r p : ℕ) (s : Starts) (keeps end start : Bool) (entered ended after after_ended : ℕ → Bool) → IsArena nodes → r < length nodes →
-    RowOfPlace nodes w r s keeps p entered ended → RowOfPlace nodes w r s keeps (p + 1) after after_ended → (IsTrue end ↔ (p + 1 ≡ length w)) → (IsTrue start ↔ IsStart s (p + 1)) →
-    LeadsTo nodes r keeps entered ended (slice_get w p) end start after after_ended
-cell nodes w r p s keeps end start entered ended after after_ended arena inside row next ends starts v t q bytes ends' starts' row' =
-    row_moves nodes w v r (p + 1) (q + 1) s t keeps arena
-    (next_same nodes w v r p q s t arena inside (same_leaves nodes w v r p q s t keeps entered ended row row') (λ x m is. sym (bytes x m is))
-    ((λ e. absurd (omega arith), λ e. absurd (omega arith)), (λ e. ends'.0 (ends.1 e), λ e. ends.0 (ends'.1 e)))
-    (λ e. starts'.0 (starts.1 e), λ e. starts.0 (starts'.1 e)))
-    after after_ended next
-
-pub first_row : (nodes : List Node) (w v : List ℕ) (r p q : ℕ) (s t : Starts) (keeps : Bool) (entered ended : ℕ → Bool) → IsArena nodes → r < length nodes → p ≤ s.first → q ≤ t.first → SameKind w p v q → (IsStart s p ↔ IsStart t q) →
-    RowOfPlace nodes w r s keeps p entered ended → RowOfPlace nodes v r t keeps q entered ended
-first_row nodes w v r p q s t keeps entered ended arena inside early early' kind starts =
-    row_moves nodes w v r p q s t keeps arena (first_same nodes w v r p q s t arena inside early early' kind starts) entered ended
 
 pub class_row : (nodes : List Node) (r : ℕ) (keeps end start : Bool) (entered ended after after_ended : ℕ → Bool) (byte other : Option ℕ) → SameBytes nodes other byte →
     LeadsTo nodes r keeps entered ended byte end start after after_ended → LeadsTo nodes r keeps entered ended other end start after after_ended

@@ -37,18 +37,6 @@ bits m marks c = nat_lt c m && slice_index_or marks c false
 abbrev pub Took : List Node → List ℕ → ℕ → Starts → ℕ → ℕ → List Bool → Type 0
 Took nodes w r s j x members = (i : ℕ) × (i + 1 ≡ j) × Enters nodes w r s x i × IsTrue (byte_is_in (slice_get w i) members)
 
--- whether the node is null, by whether its parts are
-abbrev pub NullBy : Type 0 → Type 0 → (ℕ → Type 0) → Node → Type 0
-NullBy begin end null Empty = Unit {0}
-NullBy begin end null (Set members) = ⊥
-NullBy begin end null Begin = begin
-NullBy begin end null End = end
-NullBy begin end null (Seq a b) = null a.index × null b.index
-NullBy begin end null (Alt a b) = null a.index ⊎ null b.index
-NullBy begin end null (Group k a) = null a.index
-NullBy begin end null (Star a first) = Unit {0}
-NullBy begin end null (Opt a first) = Unit {0}
-
 -- whether the node ends with a byte, by whether its parts do (a leaf: whether it took the byte)
 abbrev pub EndsBy : (List Bool → Type 0) → (ℕ → Type 0) → (ℕ → Type 0) → Node → Type 0
 EndsBy took null ended Empty = ⊥
@@ -78,14 +66,6 @@ EntersBy here null ended c (Opt a first) = here
 -- the byte at p and the one at q are in the same sets
 abbrev pub SameBytes : List Node → Option ℕ → Option ℕ → Type 0
 SameBytes nodes a b = (x : ℕ) (members : List Bool) → slice_get nodes x ≡ Some (Set members) → byte_is_in a members ≡ byte_is_in b members
-
--- the place p of w and the place q of v are of one kind: null strings are the same at both
-abbrev pub SameKind : List ℕ → ℕ → List ℕ → ℕ → Type 0
-SameKind w p v q = ((p ≡ 0) ↔ (q ≡ 0)) × ((p ≡ length w) ↔ (q ≡ length v))
-
--- the leaves entered at p, in a pass over w from s, are those entered at q, in a pass over v from t
-abbrev pub SameLeaves : List Node → ℕ → List ℕ → Starts → ℕ → List ℕ → Starts → ℕ → Type 0
-SameLeaves nodes r w s p v t q = (c : ℕ) (members : List Bool) → slice_get nodes c ≡ Some (Set members) → Enters nodes w r s c p ↔ Enters nodes v r t c q
 
 -- no leaf is entered at the place
 abbrev pub NoneEntered : List Node → List ℕ → ℕ → Starts → ℕ → Type 0
