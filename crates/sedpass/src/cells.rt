@@ -1,5 +1,5 @@
 //! How a table names its states by codes, and lays out their cells.
-ghost use Rattle.std.specs.Prelude.{◌≡◌, ℕ, Bool, false, ◌+◌, ◌*◌, ◌^◌, ◌<◌, ◌≤◌, length, slice_index_or, IfSome, vec_len, vec_capacity};
+ghost use Rattle.std.specs.Prelude.{◌≡◌, ℕ, Bool, false, ◌+◌, ◌*◌, ◌^◌, ◌<◌, ◌≤◌, length, slice_index_or, IfSome, vec_capacity};
 ghost use Rattle.sedre.specs.Steps.{TakesExactly, Takes};
 ghost use Rattle.sedpass.specs.Cells.{stops, code_of, IsLayout, IsColumn};
 
@@ -147,33 +147,8 @@ impl Layout {
     }
 }
 
-/// Clears the cells from a place on.
-fn clear_cells(cells: &mut Vec<u32>, from: usize, count: usize)
-    requires inside { from + count ≤ vec_len cells.old }
-    ensures len { length cells.new.items ≡ length cells.old.items }
-    ensures capacity { vec_capacity cells.new ≡ vec_capacity cells.old }
-    ensures clear { (k : ℕ) → k < count → slice_index_or cells.new.items (from + k) 0 ≡ 0 }
-    ensures before { (k : ℕ) → k < from → slice_index_or cells.new.items k 0 ≡ slice_index_or cells.old.items k 0 }
-{
-    for k in 0..count {
-        cells[from + k] = 0;
-    }
-}
-
-/// Appends empty cells until there are so many.
-fn append_cells(cells: &mut Vec<u32>, count: usize)
-    requires room { count ≤ vec_capacity cells.old }
-    ensures long { count ≤ length cells.new.items }
-    ensures capacity { vec_capacity cells.new ≡ vec_capacity cells.old }
-    ensures same { (k : ℕ) → slice_index_or cells.new.items k 0 ≡ slice_index_or cells.old.items k 0 }
-{
-    while cells.len() < count {
-        cells.push_reserved(0);
-    }
-}
-
-/// Makes the `width` cells of a state empty, which stand from a place on, with room for `size`: those that are there are
-/// cleared, and the others appended. Counts a look for each of the state's cells.
+/// Makes the `width` cells of a state empty, which stand from a place on, with room for `size`: what stands there goes, and empty
+/// ones are appended. Counts a look for each of the state's cells.
 pub fn empty_cells(cells: &mut Vec<u32>, from: usize, width: usize, size: usize, steps: &mut Steps)
     requires there { from ≤ length cells.old.items }
     requires room { from + size ≤ vec_capacity cells.old }
@@ -186,7 +161,8 @@ pub fn empty_cells(cells: &mut Vec<u32>, from: usize, width: usize, size: usize,
     ensures counts { TakesExactly steps.old steps.new width }
 {
     steps.add(width);
-    let there = width.min(cells.len() - from);
-    clear_cells(cells, from, there);
-    append_cells(cells, from + size);
+    cells.truncate(from);
+    while cells.len() < from + size {
+        cells.push_reserved(0);
+    }
 }
