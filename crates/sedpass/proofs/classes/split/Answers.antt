@@ -1,5 +1,31 @@
-use Rattle.sedpass.proofs.ClassLemmas.{finer}
+use Rattle.std.proofs.Common.{◌+◌, ◌*◌, ◌≡◌, refl, ap, ◌∙◌, length-set, arith, inr}
+use Rattle.std.specs.Prelude.{slice_index_or, cond}
+use Rattle.std.proofs.lemmas.List.{get_or-replicate}
+use Rattle.sedpass.proofs.ClassLemmas.{key_of, given_more, finer}
 use Rattle.sedpass.proofs.classes.split.Goals as goal
 
+pub loop-byte-init : goal.loop-byte-init
+loop-byte-init c = record {
+  few = omega arith;
+  wide = refl;
+  numbering = record { known = λ k inside. inr (get_or-replicate 512 k 256 0 inside); apart = λ k o inside inside' e below. absurd (omega (arith, below)) };
+  given = λ b less. absurd (omega (arith, less));
+}
+
+pub loop-byte-preserved : goal.loop-byte-preserved
+loop-byte-preserved c =
+    let old = c.loop-byte.invariant in
+    let given = c.give-count.ensures old.numbering in
+    let few = given.few in
+    record {
+      few = omega arith;
+      wide = length-set c.loop-byte.of c.loop-byte.byte _ ∙ old.wide;
+      numbering = given.numbering;
+      given = given_more (key_of c.args.classes.now c.args.set.now) c.loop-byte.numbers c.loop-byte.of c.give-count.new.numbers _ c.loop-byte.count c.give-count.result c.loop-byte.byte c.side_key-key.result (omega arith)
+          (c.side_key-key.ensures.key ∙ ap (λ b. 2 * slice_index_or c.args.classes.now c.loop-byte.byte 0 + cond b 1 0) c.has.ensures.is) c.side_key-key.ensures.small given refl old.given;
+    }
+
 pub returns : goal.returns
-returns c = finer c.args.classes.now _ _ c.args.set.now _ c.side_keys.ensures c.numbered.ensures
+returns c =
+    let end : c.loop-byte.byte ≡ 256 = omega arith in
+    finer c.args.classes.now c.args.set.now c.loop-byte.numbers c.loop-byte.of c.loop-byte.count (omega arith) c.loop-byte.invariant.numbering (rw (← end) c.loop-byte.invariant.given)
