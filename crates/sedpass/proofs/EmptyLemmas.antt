@@ -8,9 +8,7 @@ use Rattle.sedre.specs.Sizes.{size}
 use Rattle.sedre.specs.declared.types.Node.{Node}
 use Rattle.sedre.specs.declared.types.Node.TheVariants.{Empty, Set, Group}
 use Rattle.sedpass.specs.declared.nodes.Facts.{Facts}
-use Rattle.sedpass.specs.declared.nodes.Null.{Null}
-use Rattle.sedpass.specs.Prepared.{AreClasses, AreFacts, HaveSets, IsFacts, IsLeaf, IsPrepared, SameNulls, null_at, nullable}
-use Rattle.sedpass.proofs.FactLemmas.{leaf_at}
+use Rattle.sedpass.specs.Prepared.{AreClasses, AreFacts, HaveSets, IsFacts, IsPrepared, SameNulls, nullable}
 
 -- its nodes
 abbrev pub empty_nodes : List Node
@@ -65,10 +63,9 @@ empty_expr = record {
   few = omega arith;
 }
 
-facts_only : (told : Facts) (nulls : Null) → ((first last : Bool) → null_at nulls first last ≡ true) → IsLeaf 0 nulls 0 told → AreFacts empty_nodes (told ∷ [])
-facts_only told nulls all leaf zero here is =
-    subst (λ (f : Facts). IsFacts (tree_at empty_nodes 0) 0 f) (same_Some told here is) (leaf_at empty_nodes 0 empty_expr 0 0 Empty nulls 0 told refl refl leaf refl all (λ k. refl) refl refl)
-facts_only told nulls all leaf (suc x) here is = absurd (none-some here is)
+facts_only : (told : Facts) → IsFacts empty 0 told → AreFacts empty_nodes (told ∷ [])
+facts_only told facts zero here is = rw (← same_Some told here is, one_tree) facts
+facts_only told facts (suc x) here is = absurd (none-some here is)
 
 nulls_only : SameNulls empty_nodes
 nulls_only zero first last inside = ap (nullable first last) one_tree ∙ sym (ap (nullable false false) one_tree)
@@ -77,12 +74,12 @@ nulls_only (suc x) first last inside = absurd (omega (arith, inside))
 no_sets : HaveSets empty_nodes []
 no_sets x members is = absurd (true≢false (ap is_empty (only x (Set members) is).1))
 
-pub empty_prepared : (nulls : Null) (told : Facts) (of : List ℕ) (count : ℕ) → ((first last : Bool) → null_at nulls first last ≡ true) → IsLeaf 0 nulls 0 told →
-    ((nodes : List Node) → HaveSets nodes [] → AreClasses nodes of count) → IsPrepared (record { nodes = empty_nodes; groups = 0 }) 0 (told ∷ []) of count false
-empty_prepared nulls told of count all leaf classes = record {
+pub empty_prepared : (told : Facts) (of : List ℕ) (count : ℕ) → IsFacts empty 0 told → ((nodes : List Node) → HaveSets nodes [] → AreClasses nodes of count) →
+    IsPrepared (record { nodes = empty_nodes; groups = 0 }) 0 (told ∷ []) of count false
+empty_prepared told of count facts classes = record {
   last = refl;
   all = refl;
-  facts = facts_only told nulls all leaf;
+  facts = facts_only told facts;
   classes = classes empty_nodes no_sets;
   anywhere = λ none. nulls_only;
 }

@@ -1,12 +1,14 @@
 -- What is told of each node once, and what it means for passes.
-use Rattle.std.proofs.Common.{◌≡◌, ℕ, zero, suc, ◌+◌, ◌-◌, ◌<◌, ◌≤◌, ◌⊎◌, ◌↔◌, Bool, true, false, ◌&&◌, List, [], ◌∷◌, ◌++◌, length, length-append, get_or, Option, Some, None, IsTrue, refl, sym, ap, ◌∙◌, subst, inl, inr, ⊎_elim, arith}
+use Rattle.std.proofs.Common.{◌≡◌, ℕ, zero, suc, ◌+◌, ◌-◌, ◌*◌, ◌<◌, ◌≤◌, ◌⊎◌, ◌↔◌, Bool, true, false, ◌&&◌, List, [], ◌∷◌, ◌++◌, length, Option, Some, None, IsTrue, refl, sym, ap, ◌∙◌, subst, inl, inr, ⊎_elim, true≢false, arith, min, max, bit_and, bit_or, ◌||◌}
 use Rattle.std.specs.Prelude.{slice_get, eqb, IfSome, cond}
-use Rattle.std.proofs.Math.Bool.{and-false}
+use Rattle.std.specs.Int.{bit_at, from_bool}
+use Rattle.std.specs.Option.{option_eq}
+use Rattle.std.proofs.lemmas.Nat.Bits.{bit_at_and, bit_at_or, bit_at-lt}
 use Rattle.std.proofs.lemmas.Bool.{cases_lt}
-use Rattle.std.proofs.lemmas.Option.{same_Some, slice_get_within, slice_get_read}
+use Rattle.std.proofs.lemmas.Option.{same_Some, slice_get_cases}
 use Rattle.sedre.specs.Tree.{Tree, empty, set, begin, end, seq, alt, group, star, opt, WrittenExpression, tree_of, tree_at}
 use Rattle.sedre.specs.Sizes.{size}
-use Rattle.sedre.specs.Arena.{IsExpr, IsPart, FollowsParts}
+use Rattle.sedre.specs.Arena.{IsArena, IsExpr, IsPart, FollowsParts}
 use Rattle.sedre.specs.Mirror.{mirror, seen}
 use Rattle.sedre.specs.declared.types.Node.{Node}
 use Rattle.sedre.specs.declared.types.NodeId.{NodeId}
@@ -18,13 +20,11 @@ use Rattle.sedtext.specs.Spans.{Matches, no_copy}
 use Rattle.sedtext.specs.Places.{IsPlace}
 use Rattle.sedtext.proofs.SpanLemmas.{Matches-forward}
 use Rattle.sedtext.proofs.NodeLemmas.{node_at}
-use Rattle.sedpass.specs.Groups.{reported, has_group}
 use Rattle.sedpass.specs.Lengths.{length_of, sum_of, same_of}
-use Rattle.sedpass.specs.Prepared.{nullable, null_in, null_at, is_set, run_of, IsFacts, AreFacts, IsLeaf, IsOfEachKind, IsShort, SameNulls}
+use Rattle.sedpass.specs.Prepared.{nullable, null_in, null_at, is_set, IsFacts, AreFacts, IsOfEachKind, IsShort, SameNulls}
 use Rattle.sedpass.specs.Rows.{at_begin, at_end, IsNodeRange, AreNull}
 use Rattle.sedpass.specs.declared.nodes.Facts.{Facts}
 use Rattle.sedpass.specs.declared.nodes.Kind.{Kind}
-use Rattle.sedpass.specs.declared.nodes.Null.{Null}
 use Rattle.sedpass.proofs.RowLemmas.{or_truth, and_truth, not_true, leaf_range, one_range, two_range, mirror_range}
 
 -- null strings
@@ -48,6 +48,25 @@ module _ (w : List ℕ) (p : ℕ) (first last : Bool) (there : IsPlace w p first
   nullable_is (group k a) = nullable_is a
   nullable_is (star a f) = (λ h. no_copy, λ h. refl)
   nullable_is (opt a f) = (λ h. inl refl, λ h. refl)
+
+-- kinds by bits: those of both sets, and those of either
+bits_of : (a b : ℕ) → a < 2 → b < 2 → (eqb (min a b) 1 ≡ (eqb a 1 && eqb b 1)) × (eqb (max a b) 1 ≡ (eqb a 1 || eqb b 1))
+bits_of zero zero low low' = (refl, refl)
+bits_of zero (suc zero) low low' = (refl, refl)
+bits_of (suc zero) zero low low' = (refl, refl)
+bits_of (suc zero) (suc zero) low low' = (refl, refl)
+bits_of (suc (suc a)) b low low' = absurd (omega (arith, low))
+bits_of a (suc (suc b)) low low' = absurd (omega (arith, low'))
+
+pub null_both : (a b : ℕ) (first last : Bool) → null_at (bit_and a b) first last ≡ (null_at a first last && null_at b first last)
+null_both a b first last =
+    let k = from_bool first + 2 * from_bool last in
+    ap (λ x. eqb x 1) (bit_at_and a b k) ∙ (bits_of (bit_at a k) (bit_at b k) (bit_at-lt a k) (bit_at-lt b k)).0
+
+pub null_either : (a b : ℕ) (first last : Bool) → null_at (bit_or a b) first last ≡ (null_at a first last || null_at b first last)
+null_either a b first last =
+    let k = from_bool first + 2 * from_bool last in
+    ap (λ x. eqb x 1) (bit_at_or a b k) ∙ (bits_of (bit_at a k) (bit_at b k) (bit_at-lt a k) (bit_at-lt b k)).1
 
 and_swap : (a b : Bool) → (a && b) ≡ (b && a)
 and_swap true true = refl
@@ -148,37 +167,16 @@ inside_seen mirrored e x inside = subst (λ n. x < n) (sym (seen-length mirrored
 
 -- what is told of a node, by what is told of its parts
 
-set_by : (t : Tree) → size t ≡ 1 → length_of t ≡ Some 1 → is_set t ≡ true
+-- a node without parts whose matches have one byte is a set
+set_by : (t : Tree) → size t ≡ 1 → option_eq eqb (length_of t) (Some 1) ≡ true → is_set t ≡ true
 set_by (set members) small long = refl
 set_by (seq a b) small long = absurd (omega (arith, small, size_positive a))
 set_by (alt a b) small long = absurd (omega (arith, small, size_positive a))
 set_by (group k a) small long = absurd (omega (arith, small, size_positive a))
-set_by (star a first) small long = absurd (omega (arith, small, size_positive a))
-set_by (opt a first) small long = absurd (omega (arith, small, size_positive a))
-set_by other small long = absurd cc
+set_by other small long = absurd (true≢false (sym long))
 
-by_set : (t : Tree) → (size t ≡ 1 → length_of t ≡ Some 1 → ⊥) → is_set t ≡ false
-by_set (set members) none = absurd (none refl refl)
-by_set other none = refl
-
--- a node without parts whose matches have one byte is a set
-pub told_set : (a : Tree) (x : ℕ) (part : Facts) → IsFacts a x part → part.low ≡ x → part.length ≡ Some 1 → is_set a ≡ true
-told_set a x part told low long = let size_is = told.low in set_by a (omega arith) (sym told.long ∙ long)
-
-pub told_other : (a : Tree) (x : ℕ) (part : Facts) → IsFacts a x part → (part.low ≡ x → part.length ≡ Some 1 → ⊥) → is_set a ≡ false
-told_other a x part told none = by_set a (λ small long. let size_is = told.low in none (omega arith) (told.long ∙ long))
-
-pub star_facts : (a : Tree) (first : Bool) (x : ℕ) (part : Facts) (null : Null) (run : Option ℕ) → IsFacts a x part → ((begin end : Bool) → null_at null begin end ≡ true) → run ≡ cond (is_set a) (Some x) None →
-    IsFacts (star a first) (x + 1) (record { low = part.low; null = null; groups = part.groups; length = None; run = run })
-star_facts a first x part null run told nulls runs =
-    let size_is = told.low in
-    record {
-      low = omega arith;
-      null = λ begin end. nulls begin end;
-      groups = told.groups;
-      long = refl;
-      run = runs ∙ ap (λ n. cond (is_set a) (Some n) None) (let e : x ≡ x + 1 - 1 = omega arith in e);
-    }
+pub told_set : (a : Tree) (x : ℕ) (part : Facts) → IsFacts a x part → part.low ≡ x → option_eq eqb part.length (Some 1) ≡ true → is_set a ≡ true
+told_set a x part told low long = let size_is = told.low in set_by a (omega arith) (rw (← told.long) long)
 
 -- an expression has no longer matches of one length than nodes
 short_sum : (m n : Option ℕ) (i j : ℕ) → IfSome m (λ k. k ≤ i) → IfSome n (λ k. k ≤ j) → IfSome (sum_of m n) (λ k. k ≤ 1 + i + j)
@@ -209,72 +207,23 @@ length_short other = omega arith
 pub told_short : (a : Tree) (x : ℕ) (part : Facts) → IsFacts a x part → size a ≤ 65536 → IsShort part.length
 told_short a x part told small = subst IsShort (sym told.long) (short_more (length_of a) (size a) 65536 small (length_short a))
 
-slice_get_append_left : (xs ys : List Facts) (i : ℕ) → i < length xs → slice_get (xs ++ ys) i ≡ slice_get xs i
-slice_get_append_left [] ys i inside = absurd (omega arith)
-slice_get_append_left (x ∷ xs) ys zero inside = refl
-slice_get_append_left (x ∷ xs) ys (suc i) inside = slice_get_append_left xs ys i (omega (arith, inside))
+-- what is told of one more
+last_told : (told : List Facts) (next fact : Facts) (x : ℕ) → slice_get (told ++ next ∷ []) x ≡ Some fact → (slice_get told x ≡ Some fact) ⊎ ((x ≡ length told) × (fact ≡ next))
+last_told [] next fact zero is = inr (refl, sym (same_Some next fact is))
+last_told [] next fact (suc x) is = cc
+last_told (first ∷ told) next fact zero is = inl is
+last_told (first ∷ told) next fact (suc x) is = elim (last_told told next fact x is) [ inl old ↦ inl old | inr new ↦ inr (omega (arith, new.0), new.1) ]
 
-slice_get_last : (xs : List Facts) (y : Facts) → slice_get (xs ++ y ∷ []) (length xs) ≡ Some y
-slice_get_last [] y = refl
-slice_get_last (x ∷ xs) y = slice_get_last xs y
-
-leaf_facts : (t : Tree) (x : ℕ) (nulls : Null) (n : ℕ) (here : Facts) → IsLeaf x nulls n here → size t ≡ 1 → ((first last : Bool) → null_at nulls first last ≡ nullable first last t) → ((k : ℕ) → has_group t k ≡ false) →
-    length_of t ≡ Some n → run_of t x ≡ None → IsFacts t x here
-leaf_facts t x nulls n here leaf small null none long run =
-    let low_is = leaf.low in
-    record {
-      low = omega arith;
-      null = λ first last. ap (λ v. null_at v first last) leaf.null ∙ null first last;
-      groups = λ k. leaf.groups k ∙ sym (ap (λ b. reported k && b) (none k) ∙ and-false (reported k));
-      long = leaf.long ∙ sym long;
-      run = leaf.run ∙ sym run;
-    }
-
-module _ (nodes : List Node) (groups : ℕ) (expr : IsExpr nodes groups) where
-  -- what is told of an index and of an equal one
-  pub at_node : (i x : ℕ) (node : Node) (here : Facts) → i ≡ x → slice_get nodes i ≡ Some node → IsFacts (tree_of (tree_at nodes) node) x here → IsFacts (tree_at nodes x) x here
-  at_node i x node here e is told =
-      let there : slice_get nodes x ≡ Some node = ap (slice_get nodes) (sym e) ∙ is in
-      subst (λ t. IsFacts t x here) (sym (tree_at-node nodes x node expr.arena there)) told
-
-  pub leaf_at : (i x : ℕ) (node : Node) (nulls : Null) (n : ℕ) (here : Facts) → i ≡ x → slice_get nodes i ≡ Some node → IsLeaf x nulls n here → size (tree_of (tree_at nodes) node) ≡ 1 →
-      ((first last : Bool) → null_at nulls first last ≡ nullable first last (tree_of (tree_at nodes) node)) → ((k : ℕ) → has_group (tree_of (tree_at nodes) node) k ≡ false) →
-      length_of (tree_of (tree_at nodes) node) ≡ Some n → run_of (tree_of (tree_at nodes) node) x ≡ None → IsFacts (tree_at nodes x) x here
-  leaf_at i x node nulls n here e is leaf small null none long run = at_node i x node here e is (leaf_facts (tree_of (tree_at nodes) node) x nulls n here leaf small null none long run)
-
-  pub one_at : (i x a : ℕ) (node : Node) (here : Facts) → i ≡ x → slice_get nodes i ≡ Some node → a + 1 ≡ i → IsFacts (tree_of (tree_at nodes) node) (a + 1) here → IsFacts (tree_at nodes x) x here
-  one_at i x a node here e is next told = at_node i x node here e is (subst (λ n. IsFacts (tree_of (tree_at nodes) node) n here) (next ∙ e) told)
-
-  pub short_at : (a : ℕ) (part : Facts) → a < length nodes → IsFacts (tree_at nodes a) a part → IsShort part.length
-  short_at a part inside told = let few = expr.few in let small = expr.sizes a inside in told_short (tree_at nodes a) a part told (omega arith)
-
-  module _ (told : List Facts) (facts : AreFacts nodes told) where
-    -- what was told of a part
-    pub part_facts : (i a : ℕ) (here : Facts) → i ≡ a → i < length told → here ≡ get_or told i here → IsFacts (tree_at nodes a) a here
-    part_facts i a here e inside is = subst (λ n. IsFacts (tree_at nodes n) n here) e (facts i here (slice_get_read told (length told) i here refl inside is))
-
-    -- and of one node more
-    pub facts_more : (next : Facts) → IsFacts (tree_at nodes (length told)) (length told) next → AreFacts nodes (told ++ next ∷ [])
-    facts_more next here x fact is =
-        let inside = slice_get_within (told ++ next ∷ []) x fact is in
-        let long : length (told ++ next ∷ []) ≡ length told + 1 = length-append told (next ∷ []) in
-        ⊎_elim
-        (λ (lt : x < length told). facts x fact (sym (slice_get_append_left told (next ∷ []) x lt) ∙ is))
-        (λ (ge : length told ≤ x).
-        let e : x ≡ length told = omega arith in
-        let same : next ≡ fact = same_Some next fact (sym (slice_get_last told next) ∙ ap (slice_get (told ++ next ∷ [])) (sym e) ∙ is) in
-        subst (λ f. IsFacts (tree_at nodes x) x f) same (subst (λ n. IsFacts (tree_at nodes n) n next) (sym e) here))
-        (cases_lt x (length told))
-
-fact_at : (told : List Facts) (x : ℕ) → x < length told → (here : Facts) × (slice_get told x ≡ Some here)
-fact_at [] x inside = absurd (omega arith)
-fact_at (f ∷ told) zero inside = (f, refl)
-fact_at (f ∷ told) (suc x) inside = fact_at told x (omega (arith, inside))
+pub facts_more : (nodes : List Node) (arena : IsArena nodes) (told : List Facts) (node : Node) (next : Facts) → AreFacts nodes told → slice_get nodes (length told) ≡ Some node →
+    IsFacts (tree_of (tree_at nodes) node) (length told) next → AreFacts nodes (told ++ next ∷ [])
+facts_more nodes arena told node next facts there here x fact is =
+    elim (last_told told next fact x is) [ inl old ↦ facts x fact old | inr new ↦ rw (new.0, new.1, tree_at-node nodes (length told) node arena there) here ]
 
 -- where no node is told of one kind alone
 pub told_anywhere : (nodes : List Node) (told : List Facts) → length told ≡ length nodes → AreFacts nodes told → ((x : ℕ) (here : Facts) → slice_get told x ≡ Some here → IsOfEachKind here.null) →
     SameNulls nodes
 told_anywhere nodes told all facts each x first last inside =
-    let here = fact_at told x (omega arith) in
-    let fact = facts x here.0 here.1 in
-    sym (fact.null first last) ∙ each x here.0 here.1 first last ∙ fact.null false false
+    elim (slice_get_cases told x).1 [
+      | inl some ↦ let fact = facts x some.0 some.2 in sym (fact.null first last) ∙ each x some.0 some.2 first last ∙ fact.null false false
+      | inr past ↦ let low = past.0 in absurd (omega arith)
+    ]
