@@ -3,11 +3,8 @@ use Rattle.std.proofs.Common.{◌≡◌, ℕ, ◌+◌, ◌*◌, ◌<◌, ◌≤�
 use Rattle.std.specs.Prelude.{slice_get, slice_index_or, slice_set, cond}
 use Rattle.std.proofs.lemmas.List.{get_or-set_same, get_or-set_other}
 use Rattle.std.proofs.lemmas.Bool.{cases_eq}
-use Rattle.std.proofs.lemmas.Option.{same_Some, slice_get_within}
 use Rattle.sedre.specs.Sets.{has}
-use Rattle.sedre.specs.declared.types.Node.{Node}
 use Rattle.sedpass.specs.Classes.{IsNumbering, IsGiven, IsFiner}
-use Rattle.sedpass.specs.Prepared.{AreClasses, HaveSets}
 
 abbrev at : List ℕ → ℕ → ℕ
 at xs k = slice_index_or xs k 0
@@ -63,23 +60,3 @@ pub record AreParted (sets : List (List Bool)) (n : ℕ) (of : List ℕ) (count 
   pub few : count ≤ 256
   pub below : (byte : ℕ) → byte < 256 → at of byte < count
   pub alike : (k : ℕ) (members : List Bool) → k < n → slice_get sets k ≡ Some members → (one other : ℕ) → one < 256 → other < 256 → at of one ≡ at of other → has members one ≡ has members other
-
-pub parted_more : (sets : List (List Bool)) (n : ℕ) (members : List Bool) (old of : List ℕ) (count next : ℕ) → slice_get sets n ≡ Some members → AreParted sets n old count → IsFiner old members of next → AreParted sets (n + 1) of next
-parted_more sets n members old of count next is parted finer = record {
-  few = finer.few;
-  below = finer.below;
-  alike = λ k those less at_k a b low low' e.
-      let both = finer.alike a b low low' e in
-      ⊎_elim
-      (λ (here : k ≡ n). rw (same_Some those members (sym at_k ∙ ap (slice_get sets) here ∙ is)) both.1)
-      (λ (ne : k ≡ n → ⊥). parted.alike k those (omega arith) at_k a b low low' both.0)
-      (cases_eq k n);
-}
-
-pub are_classes : (nodes : List Node) (sets : List (List Bool)) (of : List ℕ) (count : ℕ) → HaveSets nodes sets → AreParted sets (length sets) of count → AreClasses nodes of count
-are_classes nodes sets of count listed parted = record {
-  some = (let first = parted.below 0 (omega arith) in omega arith);
-  few = parted.few;
-  below = parted.below;
-  alike = λ a b less less' e x members is. let set = listed x members is in parted.alike set.0 members (slice_get_within sets set.0 members set.1) set.1 a b less less' e;
-}

@@ -22,10 +22,10 @@ use Rattle.sedtext.proofs.SpanLemmas.{Matches-forward}
 use Rattle.sedtext.proofs.NodeLemmas.{node_at}
 use Rattle.sedpass.specs.Lengths.{length_of, sum_of, same_of}
 use Rattle.sedpass.specs.Prepared.{nullable, null_in, null_at, is_set, IsFacts, AreFacts, IsOfEachKind, IsShort, SameNulls}
-use Rattle.sedpass.specs.Rows.{at_begin, at_end, IsNodeRange, AreNull}
+use Rattle.sedpass.specs.Rows.{at_begin, at_end, InTree, IsNodeRange, AreNull}
 use Rattle.sedpass.specs.declared.nodes.Facts.{Facts}
 use Rattle.sedpass.specs.declared.nodes.Kind.{Kind}
-use Rattle.sedpass.proofs.RowLemmas.{or_truth, and_truth, not_true, leaf_range, one_range, two_range, mirror_range}
+use Rattle.sedpass.proofs.RowLemmas.{or_truth, and_truth, not_true, range_of, mirror_range}
 
 -- null strings
 
@@ -114,32 +114,37 @@ module _ (nodes : List Node) (groups : ℕ) (expr : IsExpr nodes groups) where
   abbrev pub RangesBelow : ℕ → Type 0
   RangesBelow n = (y low : ℕ) → y < n → low + size (tree_at nodes y) ≡ y + 1 → IsNodeRange nodes low y
 
-  one_part : (x low : ℕ) (a : NodeId) (node : Node) → slice_get nodes x ≡ Some node → IsPart node a.index → ((c : ℕ) → IsPart node c → c ≡ a.index) → a.index + 1 ≡ x → RangesBelow x →
+  one_part : (x low : ℕ) (a : NodeId) (node : Node) → slice_get nodes x ≡ Some node → IsPart node a.index → ((c : ℕ) → IsPart node c → a.index ≡ c) → a.index + 1 ≡ x → RangesBelow x →
       low + (1 + size (tree_at nodes a.index)) ≡ x + 1 → IsNodeRange nodes low x
   one_part x low a node is part only next below long =
       let some = size_positive (tree_at nodes a.index) in
-      one_range nodes x a.index low node is part only next (omega arith) (below a.index low (omega arith) (omega arith))
+      let range = below a.index low (omega arith) (omega arith) in
+      range_of nodes x low node is (omega arith) (λ c from to. (a.index, part, (range c).0 (from, omega arith)))
+      (λ b c that tree. let g = (range c).1 (subst (λ n. InTree nodes n c) (sym (only b that)) tree) in let high = g.1 in (g.0, omega arith))
 
-  two_parts : (x low : ℕ) (a b : NodeId) (node : Node) → slice_get nodes x ≡ Some node → IsPart node a.index → IsPart node b.index → ((c : ℕ) → IsPart node c → (c ≡ a.index) ⊎ (c ≡ b.index)) →
-      (a.index + size (tree_at nodes b.index) + 1 ≡ x) × (b.index + 1 ≡ x) → RangesBelow x →
-      low + (1 + size (tree_at nodes a.index) + size (tree_at nodes b.index)) ≡ x + 1 → IsNodeRange nodes low x
+  two_parts : (x low : ℕ) (a b : NodeId) (node : Node) → slice_get nodes x ≡ Some node → IsPart node a.index → IsPart node b.index → ((c : ℕ) → IsPart node c → (a.index ≡ c) ⊎ (b.index ≡ c)) →
+      (a.index + size (tree_at nodes b.index) + 1 ≡ x) × (b.index + 1 ≡ x) → RangesBelow x → low + (1 + size (tree_at nodes a.index) + size (tree_at nodes b.index)) ≡ x + 1 → IsNodeRange nodes low x
   two_parts x low a b node is left right only follows below long =
       let some = size_positive (tree_at nodes a.index) in
       let some' = size_positive (tree_at nodes b.index) in
       let before = follows.0 in
       let next = follows.1 in
-      two_range nodes x a.index b.index low node is left right only (omega arith) next (omega arith)
-      (below a.index low (omega arith) (omega arith)) (below b.index (a.index + 1) (omega arith) (omega arith))
+      let range = below a.index low (omega arith) (omega arith) in
+      let range' = below b.index (a.index + 1) (omega arith) (omega arith) in
+      range_of nodes x low node is (omega arith)
+      (λ c from to. elim (cases_lt a.index c) [ inl lt ↦ (b.index, right, (range' c).0 (omega arith, omega arith)) | inr ge ↦ (a.index, left, (range c).0 (from, ge)) ])
+      (λ d c that tree. elim (only d that) [
+        | inl e ↦ let g = (range c).1 (subst (λ n. InTree nodes n c) (sym e) tree) in let high = g.1 in (g.0, omega arith)
+        | inr e ↦ let g = (range' c).1 (subst (λ n. InTree nodes n c) (sym e) tree) in let high = g.1 in let from = g.0 in (omega arith, omega arith)
+      ])
 
   range_by : (x low : ℕ) (node : Node) → slice_get nodes x ≡ Some node → FollowsParts nodes x node → RangesBelow x → low + size (tree_of (tree_at nodes) node) ≡ x + 1 → IsNodeRange nodes low x
-  range_by x low (Seq a b) is follows below long =
-      two_parts x low a b (Seq a b) is (inl refl) (inr refl) (λ c part. ⊎_elim (λ (l : a.index ≡ c). inl (sym l)) (λ (m : b.index ≡ c). inr (sym m)) part) follows below long
-  range_by x low (Alt a b) is follows below long =
-      two_parts x low a b (Alt a b) is (inl refl) (inr refl) (λ c part. ⊎_elim (λ (l : a.index ≡ c). inl (sym l)) (λ (m : b.index ≡ c). inr (sym m)) part) follows below long
-  range_by x low (Group k a) is follows below long = one_part x low a (Group k a) is refl (λ c part. sym part) follows below long
-  range_by x low (Star a f) is follows below long = one_part x low a (Star a f) is refl (λ c part. sym part) follows below long
-  range_by x low (Opt a f) is follows below long = one_part x low a (Opt a f) is refl (λ c part. sym part) follows below long
-  range_by x low other is follows below long = subst (λ n. IsNodeRange nodes n x) (omega arith) (leaf_range nodes x other is (λ c part. part))
+  range_by x low (Seq a b) is follows below long = two_parts x low a b (Seq a b) is (inl refl) (inr refl) (λ c part. part) follows below long
+  range_by x low (Alt a b) is follows below long = two_parts x low a b (Alt a b) is (inl refl) (inr refl) (λ c part. part) follows below long
+  range_by x low (Group k a) is follows below long = one_part x low a (Group k a) is refl (λ c part. part) follows below long
+  range_by x low (Star a f) is follows below long = one_part x low a (Star a f) is refl (λ c part. part) follows below long
+  range_by x low (Opt a f) is follows below long = one_part x low a (Opt a f) is refl (λ c part. part) follows below long
+  range_by x low other is follows below long = range_of nodes x low other is (omega arith) (λ c from to. absurd (omega arith)) (λ a c part. absurd part)
 
   ranges_below : (n : ℕ) → n ≤ length nodes → RangesBelow n
   ranges_below zero small y low less long = absurd (omega arith)

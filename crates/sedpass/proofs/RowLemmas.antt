@@ -21,11 +21,24 @@ use Rattle.sedtext.specs.Places.{takes_any}
 use Rattle.sedtext.specs.Words.{AgreeBelow}
 use Rattle.sedtext.specs.Reach.{At, IsStart, one_start, SomeSpan, BeginsWith, Marked, Enters, at_root, with_whole, after_left, again, Ends}
 use Rattle.sedpass.specs.Regions.{EndsAt, Opposite, ReachesEnd, Meets}
-use Rattle.sedpass.specs.Rows.{Took, EndsBy, EntersBy, SameBytes, NoneEntered, InTree, is_tree, part_of, IsNodeRange, TreeBelow, TreeFrom, AreNull, ended_by, leaf_looks, part_looks, enter_looks, bits, TellTook, RowOfPlace, RowFrom, LeadsTo}
+use Rattle.sedpass.specs.Rows.{Took, SameBytes, NoneEntered, InTree, is_tree, part_of, IsNodeRange, TreeBelow, TreeFrom, AreNull, ended_by, enter_looks, bits, TellTook, RowOfPlace, LeafAt, EndKept, TellFrom, RowFrom, LeadsTo}
 use Rattle.sedtext.proofs.SpanLemmas.{Matches-forward, CopiesLead-append, CopiesLead-last}
 use Rattle.sedtext.proofs.ReachLemmas.{open_at, close_at, takes_some, FromNode, Enters-from, Enters-part, Enters-inside, Enters-root}
 use Rattle.sedpass.proofs.LeaveLemmas.{ends_at, reaches_mirror}
 use Rattle.sedpass.proofs.MeetingLemmas.{BeginsWith-part, meets_whole}
+
+-- what marks tell, together
+pub or_truth : (a b : Bool) (A B : Type 0) → (IsTrue a ↔ A) → (IsTrue b ↔ B) → IsTrue (a || b) ↔ (A ⊎ B)
+or_truth a b A B l m = (
+  λ h. ⊎_elim (λ (x : a ≡ true). inl (l.0 x)) (λ (y : b ≡ true). inr (m.0 y)) (or_cases a b h),
+  λ h. ⊎_elim (λ (x : A). or_left a b (l.1 x)) (λ (y : B). or_right a b (m.1 y)) h,
+)
+
+pub and_truth : (a b : Bool) (A B : Type 0) → (IsTrue a ↔ A) → (IsTrue b ↔ B) → IsTrue (a && b) ↔ (A × B)
+and_truth a b A B l m = (λ h. let both = and_parts a b h in (l.0 both.0, m.0 both.1), λ h. and_from a b (l.1 h.0) (m.1 h.1))
+
+pub not_true : (A : Type 0) → (A → ⊥) → IsTrue false ↔ A
+not_true A none = (λ h. absurd (true≢false (sym h)), λ a. absurd (none a))
 
 module _ (nodes : List Node) (w : List ℕ) (r : ℕ) (s : Starts) (arena : IsArena nodes) where
   -- a whole node ends where its part does that is entered with it alone
@@ -63,95 +76,97 @@ module _ (nodes : List Node) (w : List ℕ) (r : ℕ) (s : Starts) (arena : IsAr
       inr (last.0, last.2, again x a.index i last.0 a first is refl e (close_at nodes w x (Star a first) arena is i last.0 last.1), last.3))
       (CopiesLead-last (At nodes w a.index) j i (open_at nodes w x (Star a first) arena is i j at))
 
-  -- upwards: a node ends with a byte, by its parts
-  pub ends_by : (x j : ℕ) (node : Node) → x ≤ r → slice_get nodes x ≡ Some node →
-      Ends nodes w r s x j ↔ EndsBy (Took nodes w r s j x) (λ c. At nodes w c j j) (λ c. Ends nodes w r s c j) node
-  ends_by x j Empty le is = (λ h. let f = open_at nodes w x Empty arena is h.0 j h.3 in absurd (let less = h.1 in omega arith), λ h. absurd h)
-  ends_by x j Begin le is = (λ h. let f = open_at nodes w x Begin arena is h.0 j h.3 in absurd (let less = h.1 in omega (arith, f.1)), λ h. absurd h)
-  ends_by x j End le is = (λ h. let f = open_at nodes w x End arena is h.0 j h.3 in absurd (let less = h.1 in omega (arith, f.0, f.1)), λ h. absurd h)
-  ends_by x j (Set m) le is = (
-    λ h. let f = open_at nodes w x (Set m) arena is h.0 j h.3 in
-        (h.0, sym f.3, h.2, subst (λ o. IsTrue (byte_is_in o m)) (sym f.1) f.2),
-    λ h. let taken = takes_some (slice_get w h.0) m h.3 in
-        let next = h.1 in
-        (h.0, omega arith, h.2, close_at nodes w x (Set m) arena is h.0 j (taken.0, taken.1, taken.2, sym next)),
-  )
-  ends_by x j (Seq a b) le is = (
-    λ h. let f = open_at nodes w x (Seq a b) arena is h.0 j h.3 in
-        let on = Matches-forward (tree_at nodes b.index) w f.0 j f.2 in
-        ⊎_elim
-        (λ (lt : f.0 < j). inl (f.0, lt, after_left x b.index h.0 f.0 a b is refl h.2 f.1, f.2))
-        (λ (ge : j ≤ f.0).
-        let e : f.0 ≡ j = omega arith in
-        inr ((h.0, h.1, with_whole x a.index h.0 (Seq a b) is refl h.2, subst (λ k. At nodes w a.index h.0 k) e f.1), subst (λ k. At nodes w b.index k j) e f.2))
-        (cases_lt f.0 j),
-    λ h. ⊎_elim
-        (λ (right : Ends nodes w r s b.index j).
-        let from = after_seq x right.0 a b le is right.2 in
-        let on = Matches-forward (tree_at nodes a.index) w from.0 right.0 from.2 in
-        let less = right.1 in
-        (from.0, omega arith, from.1, close_at nodes w x (Seq a b) arena is from.0 j (right.0, from.2, right.3)))
-        (λ (left : Ends nodes w r s a.index j × At nodes w b.index j j).
-        let end = left.0 in
-        (end.0, end.1, with_seq x end.0 a b le is end.2, close_at nodes w x (Seq a b) arena is end.0 j (j, end.3, left.1)))
-        h,
-  )
-  ends_by x j (Alt a b) le is = (
-    λ h. ⊎_elim
-        (λ (l : At nodes w a.index h.0 j). inl (h.0, h.1, with_whole x a.index h.0 (Alt a b) is (inl refl) h.2, l))
-        (λ (m : At nodes w b.index h.0 j). inr (h.0, h.1, with_whole x b.index h.0 (Alt a b) is (inr refl) h.2, m))
-        (open_at nodes w x (Alt a b) arena is h.0 j h.3),
-    λ h. ⊎_elim
-        (λ (l : Ends nodes w r s a.index j). up_with x j a.index (Alt a b) le is (inl refl) (λ i f. f) (λ i at. close_at nodes w x (Alt a b) arena is i j (inl at)) l)
-        (λ (m : Ends nodes w r s b.index j). up_with x j b.index (Alt a b) le is (inr refl) (λ i f. f) (λ i at. close_at nodes w x (Alt a b) arena is i j (inr at)) m)
-        h,
-  )
-  ends_by x j (Group k a) le is = (
-    λ h. (h.0, h.1, with_whole x a.index h.0 (Group k a) is refl h.2, open_at nodes w x (Group k a) arena is h.0 j h.3),
-    up_with x j a.index (Group k a) le is refl (λ i f. f) (λ i at. close_at nodes w x (Group k a) arena is i j at),
-  )
-  ends_by x j (Star a first) le is = (
-    λ h. elim (last_copy x h.0 j a first is h.2 h.3) [ inl none ↦ absurd (let less = h.1 in omega arith) | inr end ↦ end ],
-    one_copy x j a first le is,
-  )
-  ends_by x j (Opt a first) le is = (
-    λ h. elim (open_at nodes w x (Opt a first) arena is h.0 j h.3) [ inl none ↦ absurd (let less = h.1 in omega arith) | inr at ↦ (h.0, h.1, with_whole x a.index h.0 (Opt a first) is refl h.2, at) ],
-    up_with x j a.index (Opt a first) le is refl (λ i f. f) (λ i at. close_at nodes w x (Opt a first) arena is i j (inr at)),
-  )
+  -- upwards: the mark of a node that ends with a byte, by those of its parts
+  module _ (took : List Bool → Bool) (null ended : ℕ → Bool) (x j : ℕ) (le : x ≤ r) where
+    ended_is : (node : Node) → slice_get nodes x ≡ Some node → ((m : List Bool) → node ≡ Set m → IsTrue (took m) ↔ Took nodes w r s j x m) →
+        ((c : ℕ) → IsPart node c → IsTrue (null c) ↔ At nodes w c j j) → ((c : ℕ) → IsPart node c → IsTrue (ended c) ↔ Ends nodes w r s c j) → IsTrue (ended_by took null ended node) ↔ Ends nodes w r s x j
+    ended_is Empty is takes nulls ends = not_true (Ends nodes w r s x j) (λ h. let f = open_at nodes w x Empty arena is h.0 j h.3 in let less = h.1 in omega arith)
+    ended_is Begin is takes nulls ends = not_true (Ends nodes w r s x j) (λ h. let f = open_at nodes w x Begin arena is h.0 j h.3 in let less = h.1 in omega (arith, f.1))
+    ended_is End is takes nulls ends = not_true (Ends nodes w r s x j) (λ h. let f = open_at nodes w x End arena is h.0 j h.3 in let less = h.1 in omega (arith, f.0, f.1))
+    ended_is (Set m) is takes nulls ends =
+        let truth = takes m refl in (
+          λ h. let here = truth.0 h in
+              let taken = takes_some (slice_get w here.0) m here.3 in
+              let next = here.1 in
+              (here.0, omega arith, here.2, close_at nodes w x (Set m) arena is here.0 j (taken.0, taken.1, taken.2, sym next)),
+          λ h. let f = open_at nodes w x (Set m) arena is h.0 j h.3 in truth.1 (h.0, sym f.3, h.2, subst (λ o. IsTrue (byte_is_in o m)) (sym f.1) f.2),
+        )
+    ended_is (Seq a b) is takes nulls ends =
+        let truth = or_truth (ended b.index) (ended a.index && null b.index) (Ends nodes w r s b.index j) (Ends nodes w r s a.index j × At nodes w b.index j j) (ends b.index (inr refl))
+        (and_truth (ended a.index) (null b.index) (Ends nodes w r s a.index j) (At nodes w b.index j j) (ends a.index (inl refl)) (nulls b.index (inr refl))) in (
+          λ h. ⊎_elim
+              (λ (right : Ends nodes w r s b.index j).
+              let from = after_seq x right.0 a b le is right.2 in
+              let on = Matches-forward (tree_at nodes a.index) w from.0 right.0 from.2 in
+              let less = right.1 in
+              (from.0, omega arith, from.1, close_at nodes w x (Seq a b) arena is from.0 j (right.0, from.2, right.3)))
+              (λ (left : Ends nodes w r s a.index j × At nodes w b.index j j).
+              let end = left.0 in
+              (end.0, end.1, with_seq x end.0 a b le is end.2, close_at nodes w x (Seq a b) arena is end.0 j (j, end.3, left.1)))
+              (truth.0 h),
+          λ h. let f = open_at nodes w x (Seq a b) arena is h.0 j h.3 in
+              let on = Matches-forward (tree_at nodes b.index) w f.0 j f.2 in
+              truth.1 (⊎_elim
+              (λ (lt : f.0 < j). inl (f.0, lt, after_left x b.index h.0 f.0 a b is refl h.2 f.1, f.2))
+              (λ (ge : j ≤ f.0).
+              let e : f.0 ≡ j = omega arith in
+              inr ((h.0, h.1, with_whole x a.index h.0 (Seq a b) is refl h.2, subst (λ k. At nodes w a.index h.0 k) e f.1), subst (λ k. At nodes w b.index k j) e f.2))
+              (cases_lt f.0 j)),
+        )
+    ended_is (Alt a b) is takes nulls ends =
+        let truth = or_truth (ended a.index) (ended b.index) (Ends nodes w r s a.index j) (Ends nodes w r s b.index j) (ends a.index (inl refl)) (ends b.index (inr refl)) in (
+          λ h. ⊎_elim
+              (λ (l : Ends nodes w r s a.index j). up_with x j a.index (Alt a b) le is (inl refl) (λ i f. f) (λ i at. close_at nodes w x (Alt a b) arena is i j (inl at)) l)
+              (λ (m : Ends nodes w r s b.index j). up_with x j b.index (Alt a b) le is (inr refl) (λ i f. f) (λ i at. close_at nodes w x (Alt a b) arena is i j (inr at)) m)
+              (truth.0 h),
+          λ h. truth.1 (⊎_elim
+              (λ (l : At nodes w a.index h.0 j). inl (h.0, h.1, with_whole x a.index h.0 (Alt a b) is (inl refl) h.2, l))
+              (λ (m : At nodes w b.index h.0 j). inr (h.0, h.1, with_whole x b.index h.0 (Alt a b) is (inr refl) h.2, m))
+              (open_at nodes w x (Alt a b) arena is h.0 j h.3)),
+        )
+    ended_is (Group k a) is takes nulls ends = (
+      λ h. up_with x j a.index (Group k a) le is refl (λ i f. f) (λ i at. close_at nodes w x (Group k a) arena is i j at) ((ends a.index refl).0 h),
+      λ h. (ends a.index refl).1 (h.0, h.1, with_whole x a.index h.0 (Group k a) is refl h.2, open_at nodes w x (Group k a) arena is h.0 j h.3),
+    )
+    ended_is (Star a first) is takes nulls ends = (
+      λ h. one_copy x j a first le is ((ends a.index refl).0 h),
+      λ h. (ends a.index refl).1 (elim (last_copy x h.0 j a first is h.2 h.3) [ inl none ↦ absurd (let less = h.1 in omega arith) | inr end ↦ end ]),
+    )
+    ended_is (Opt a first) is takes nulls ends = (
+      λ h. up_with x j a.index (Opt a first) le is refl (λ i f. f) (λ i at. close_at nodes w x (Opt a first) arena is i j (inr at)) ((ends a.index refl).0 h),
+      λ h. (ends a.index refl).1
+          (elim (open_at nodes w x (Opt a first) arena is h.0 j h.3) [ inl none ↦ absurd (let less = h.1 in omega arith) | inr at ↦ (h.0, h.1, with_whole x a.index h.0 (Opt a first) is refl h.2, at) ]),
+    )
 
-  -- downwards: a part is entered, by its node
-  pub enters_by : (y c j : ℕ) (node : Node) → y ≤ r → slice_get nodes y ≡ Some node → IsPart node c →
-      Enters nodes w r s c j ↔ EntersBy (Enters nodes w r s y j) (λ c. At nodes w c j j) (λ c. Ends nodes w r s c j) c node
-  enters_by y c j (Seq a b) le is part = (
-    λ h. ⊎_elim
-        (λ (from : (a.index ≡ c) × Enters nodes w r s y j). inl from)
-        (λ (from : (b.index ≡ c) × ((i : ℕ) × Enters nodes w r s y i × At nodes w a.index i j)).
-        let on = Matches-forward (tree_at nodes a.index) w from.1.0 j from.1.2 in
-        inr (
-          from.0,
-          ⊎_elim
-              (λ (lt : from.1.0 < j). inl (from.1.0, lt, with_whole y a.index from.1.0 (Seq a b) is refl from.1.1, from.1.2))
-              (λ (ge : j ≤ from.1.0).
-              let e : from.1.0 ≡ j = omega arith in
-              inr (subst (λ k. Enters nodes w r s y k) e from.1.1, subst (λ k. At nodes w a.index k j) e from.1.2))
-              (cases_lt from.1.0 j),
-        ))
-        (Enters-part nodes w r s arena y le c j (Seq a b) is part h),
-    λ h. ⊎_elim
-        (λ (left : (a.index ≡ c) × Enters nodes w r s y j). with_whole y c j (Seq a b) is left.0 left.1)
-        (λ (right : (b.index ≡ c) × (Ends nodes w r s a.index j ⊎ (Enters nodes w r s y j × At nodes w a.index j j))).
-        elim right.1 [ inl end ↦ after_left y c end.0 j a b is right.0 (with_seq y end.0 a b le is end.2) end.3 | inr null ↦ after_left y c j j a b is right.0 null.0 null.1 ])
-        h,
-  )
-  enters_by y c j (Alt a b) le is part = (Enters-part nodes w r s arena y le c j (Alt a b) is part, with_whole y c j (Alt a b) is part)
-  enters_by y c j (Group k a) le is part = (Enters-part nodes w r s arena y le c j (Group k a) is part, with_whole y c j (Group k a) is part)
-  enters_by y c j (Star a first) le is part = (
-    λ h. let from = Enters-part nodes w r s arena y le c j (Star a first) is part h in
-        elim (last_copy y from.0 j a first is from.1 from.2) [ inl none ↦ inl (subst (λ k. Enters nodes w r s y k) none from.1) | inr end ↦ inr end ],
-    λ h. elim h [ inl here ↦ with_whole y c j (Star a first) is part here | inr end ↦ let more = one_copy y j a first le is end in again y c more.0 j a first is part more.2 more.3 ],
-  )
-  enters_by y c j (Opt a first) le is part = (Enters-part nodes w r s arena y le c j (Opt a first) is part, with_whole y c j (Opt a first) is part)
-  enters_by y c j other le is part = absurd part
+  -- downwards: the mark of a part that is entered, by that of its node
+  module _ (x p : ℕ) (le : x ≤ r) (here : Bool) (enters : IsTrue here ↔ Enters nodes w r s x p) where
+    -- a part that is entered with its node alone
+    with_node : (c : ℕ) (node : Node) → slice_get nodes x ≡ Some node → BeginsWith node c → (FromNode nodes w r s x c p node → Enters nodes w r s x p) → IsTrue here ↔ Enters nodes w r s c p
+    with_node c node is begins alone =
+        (λ h. with_whole x c p node is begins (enters.0 h), λ h. enters.1 (alone (Enters-part nodes w r s arena x le c p node is (BeginsWith-part node c begins) h)))
+
+    right_part : (a b : NodeId) → slice_get nodes x ≡ Some (Seq a b) → (null ended : Bool) → (IsTrue null ↔ At nodes w a.index p p) → (IsTrue ended ↔ Ends nodes w r s a.index p) →
+        IsTrue (ended || (here && null)) ↔ Enters nodes w r s b.index p
+    right_part a b is null ended nulls ends =
+        let truth = or_truth ended (here && null) (Ends nodes w r s a.index p) (Enters nodes w r s x p × At nodes w a.index p p) ends (and_truth here null (Enters nodes w r s x p) (At nodes w a.index p p) enters nulls) in (
+          λ h. elim (truth.0 h) [ inl end ↦ after_left x b.index end.0 p a b is refl (with_seq x end.0 a b le is end.2) end.3 | inr none ↦ after_left x b.index p p a b is refl none.0 none.1 ],
+          λ h. let from = after_seq x p a b le is h in
+              let on = Matches-forward (tree_at nodes a.index) w from.0 p from.2 in
+              truth.1 (⊎_elim
+              (λ (lt : from.0 < p). inl (from.0, lt, with_whole x a.index from.0 (Seq a b) is refl from.1, from.2))
+              (λ (ge : p ≤ from.0).
+              let e : from.0 ≡ p = omega arith in
+              inr (subst (λ k. Enters nodes w r s x k) e from.1, subst (λ k. At nodes w a.index k p) e from.2))
+              (cases_lt from.0 p)),
+        )
+
+    copy_part : (a : NodeId) (first : Bool) → slice_get nodes x ≡ Some (Star a first) → (ended : Bool) → (IsTrue ended ↔ Ends nodes w r s a.index p) → IsTrue (here || ended) ↔ Enters nodes w r s a.index p
+    copy_part a first is ended ends =
+        let truth = or_truth here ended (Enters nodes w r s x p) (Ends nodes w r s a.index p) enters ends in (
+          λ h. elim (truth.0 h) [ inl begins ↦ with_whole x a.index p (Star a first) is refl begins | inr end ↦ let more = one_copy x p a first le is end in again x a.index more.0 p a first is refl more.2 more.3 ],
+          λ h. let from = Enters-part nodes w r s arena x le a.index p (Star a first) is refl h in
+              truth.1 (elim (last_copy x from.0 p a first is from.1 from.2) [ inl none ↦ inl (subst (λ k. Enters nodes w r s x k) none from.1) | inr end ↦ inr end ]),
+        )
 
   -- and the root where a match may begin
   pub enters_root : (j : ℕ) → Enters nodes w r s r j ↔ IsStart s j
@@ -209,15 +224,6 @@ tree_step nodes r x node is c told =
     (cases_eq h.0 x))
     told.1
 
-pub or_truth : (a b : Bool) (A B : Type 0) → (IsTrue a ↔ A) → (IsTrue b ↔ B) → IsTrue (a || b) ↔ (A ⊎ B)
-or_truth a b A B l m = (
-  λ h. ⊎_elim (λ (x : a ≡ true). inl (l.0 x)) (λ (y : b ≡ true). inr (m.0 y)) (or_cases a b h),
-  λ h. ⊎_elim (λ (x : A). or_left a b (l.1 x)) (λ (y : B). or_right a b (m.1 y)) h,
-)
-
-pub and_truth : (a b : Bool) (A B : Type 0) → (IsTrue a ↔ A) → (IsTrue b ↔ B) → IsTrue (a && b) ↔ (A × B)
-and_truth a b A B l m = (λ h. let both = and_parts a b h in (l.0 both.0, m.0 both.1), λ h. and_from a b (l.1 h.0) (m.1 h.1))
-
 pub set_other : (marks after : List Bool) (x c : ℕ) (v : Bool) → (c ≡ x → ⊥) → after ≡ slice_set marks x v → slice_index_or after c false ≡ slice_index_or marks c false
 set_other marks after x c v ne is = ap (λ l. slice_index_or l c false) is ∙ get_or-set_other marks x c v false ne
 
@@ -238,23 +244,6 @@ mark_one marks after x v S R P is inside truth more marked c told =
     (λ h. old.0 (sym at ∙ h), λ h. at ∙ old.1 h))
     (cases_eq c x)
 
-pub not_true : (A : Type 0) → (A → ⊥) → IsTrue false ↔ A
-not_true A none = (λ h. absurd (true≢false (sym h)), λ a. absurd (none a))
-
--- the mark of a node that ends with a byte
-ended_truth : (took : Bool) (T : List Bool → Type 0) (null ended : ℕ → Bool) (N E : ℕ → Type 0) (node : Node) → ((m : List Bool) → node ≡ Set m → IsTrue took ↔ T m) →
-    ((c : ℕ) → IsPart node c → IsTrue (null c) ↔ N c) → ((c : ℕ) → IsPart node c → IsTrue (ended c) ↔ E c) → IsTrue (ended_by took null ended node) ↔ EndsBy T N E node
-ended_truth took T null ended N E (Set m) takes_it nulls parts = takes_it m refl
-ended_truth took T null ended N E (Seq a b) takes_it nulls parts =
-    or_truth (ended b.index) (ended a.index && null b.index) (E b.index) (E a.index × N b.index) (parts b.index (inr refl))
-    (and_truth (ended a.index) (null b.index) (E a.index) (N b.index) (parts a.index (inl refl)) (nulls b.index (inr refl)))
-ended_truth took T null ended N E (Alt a b) takes_it nulls parts =
-    or_truth (ended a.index) (ended b.index) (E a.index) (E b.index) (parts a.index (inl refl)) (parts b.index (inr refl))
-ended_truth took T null ended N E (Group k a) takes_it nulls parts = parts a.index refl
-ended_truth took T null ended N E (Star a first) takes_it nulls parts = parts a.index refl
-ended_truth took T null ended N E (Opt a first) takes_it nulls parts = parts a.index refl
-ended_truth took T null ended N E other takes_it nulls parts = not_true ⊥ (λ h. h)
-
 module _ (nodes : List Node) (w : List ℕ) (r x p : ℕ) (s : Starts) (node : Node) (arena : IsArena nodes) (inside : r < length nodes) (there : InTree nodes r x) (is : slice_get nodes x ≡ Some node)
     (null : ℕ → Bool) (nulls : AreNull nodes w p null) where
   in_tree : x ≤ r
@@ -264,15 +253,12 @@ module _ (nodes : List Node) (w : List ℕ) (r x p : ℕ) (s : Starts) (node : N
   null_part c part = let less = arena.below x c node is part in let low = in_tree in nulls c (omega arith)
 
   -- one turn of the scan upwards
-  pub up : (took v : Bool) (marks after : List Bool) → ((m : List Bool) → node ≡ Set m → IsTrue took ↔ Took nodes w r s p x m) →
+  pub up : (took : List Bool → Bool) (v : Bool) (marks after : List Bool) → ((m : List Bool) → node ≡ Set m → IsTrue (took m) ↔ Took nodes w r s p x m) →
       x < length marks → v ≡ ended_by took null (λ c. slice_index_or marks c false) node → after ≡ slice_set marks x v →
       Marked marks (TreeBelow nodes r x) (λ c. Ends nodes w r s c p) → Marked after (TreeBelow nodes r (x + 1)) (λ c. Ends nodes w r s c p)
   up took v marks after takes_it long value is_after marked =
-      let truth = ended_truth took (Took nodes w r s p x) null (λ c. slice_index_or marks c false) (λ c. At nodes w c p p) (λ c. Ends nodes w r s c p) node takes_it null_part
-      (λ c part. marked c (part_of x c node is part there, arena.below x c node is part)) in
-      let law = ends_by nodes w r s arena x p node in_tree is in
-      mark_one marks after x v (TreeBelow nodes r x) (TreeBelow nodes r (x + 1)) (λ c. Ends nodes w r s c p) is_after long
-      (λ h. law.1 (truth.0 (sym value ∙ h)), λ h. value ∙ truth.1 (law.0 h))
+      let law = ended_is nodes w r s arena took null (λ c. slice_index_or marks c false) x p in_tree node is takes_it null_part (λ c part. marked c (part_of x c node is part there, arena.below x c node is part)) in
+      mark_one marks after x v (TreeBelow nodes r x) (TreeBelow nodes r (x + 1)) (λ c. Ends nodes w r s c p) is_after long (λ h. law.0 (sym value ∙ h), λ h. value ∙ law.1 h)
       (λ c told. ⊎_elim (λ (e : c ≡ x). inr e) (λ (ne : c ≡ x → ⊥). inl (told.0, let less = told.1 in omega arith)) (cases_eq c x))
       marked
 
@@ -290,33 +276,6 @@ down_root nodes w r p y s first marks after arena all long is_after begins =
 pub here_right : (nodes : List Node) (w : List ℕ) (r x p : ℕ) (s : Starts) (marks : List Bool) → IsArena nodes → InTree nodes r x →
     Marked marks (TreeFrom nodes r (x + 1)) (λ c. Enters nodes w r s c p) → IsTrue (slice_index_or marks x false) ↔ Enters nodes w r s x p
 here_right nodes w r x p s marks arena there marked = marked x (tree_told nodes arena r x there)
-
-module _ (nodes : List Node) (w : List ℕ) (r x p : ℕ) (s : Starts) (arena : IsArena nodes) (le : x ≤ r) (here : Bool) (enters : IsTrue here ↔ Enters nodes w r s x p) where
-  -- a part that is entered with its node alone
-  with_node : (c : ℕ) (node : Node) → slice_get nodes x ≡ Some node → BeginsWith node c → (EntersBy (Enters nodes w r s x p) (λ y. At nodes w y p p) (λ y. Ends nodes w r s y p) c node → Enters nodes w r s x p) →
-      IsTrue here ↔ Enters nodes w r s c p
-  with_node c node is begins alone =
-      (λ h. with_whole x c p node is begins (enters.0 h), λ h. enters.1 (alone ((enters_by nodes w r s arena x c p node le is (BeginsWith-part node c begins)).0 h)))
-
-  right_part : (a b : NodeId) → slice_get nodes x ≡ Some (Seq a b) → (null ended : Bool) → (IsTrue null ↔ At nodes w a.index p p) → (IsTrue ended ↔ Ends nodes w r s a.index p) →
-      IsTrue (ended || (here && null)) ↔ Enters nodes w r s b.index p
-  right_part a b is null ended nulls ends =
-      let law = enters_by nodes w r s arena x b.index p (Seq a b) le is (inr refl) in
-      let truth = or_truth ended (here && null) (Ends nodes w r s a.index p) (Enters nodes w r s x p × At nodes w a.index p p) ends (and_truth here null (Enters nodes w r s x p) (At nodes w a.index p p) enters nulls) in (
-        λ h. law.1 (inr (refl, truth.0 h)),
-        λ h. truth.1 (elim (law.0 h) [ inl same ↦ absurd (arena.distinct x (Seq a b) is same.0) | inr right ↦ right.1 ]),
-      )
-
-  left_part : (a b : NodeId) → slice_get nodes x ≡ Some (Seq a b) → IsTrue here ↔ Enters nodes w r s a.index p
-  left_part a b is =
-      with_node a.index (Seq a b) is refl
-      (λ h. elim h [ inl left ↦ left.1 | inr same ↦ absurd (arena.distinct x (Seq a b) is (sym same.0)) ])
-
-  copy_part : (a : NodeId) (first : Bool) → slice_get nodes x ≡ Some (Star a first) → (ended : Bool) → (IsTrue ended ↔ Ends nodes w r s a.index p) → IsTrue (here || ended) ↔ Enters nodes w r s a.index p
-  copy_part a first is ended ends =
-      let law = enters_by nodes w r s arena x a.index p (Star a first) le is refl in
-      let truth = or_truth here ended (Enters nodes w r s x p) (Ends nodes w r s a.index p) enters ends in
-      (λ h. law.1 (truth.0 h), λ h. truth.1 (law.0 h))
 
 -- one turn of the scan downwards
 module _ (nodes : List Node) (w : List ℕ) (r x p : ℕ) (s : Starts) (arena : IsArena nodes) (inside : r < length nodes) (there : InTree nodes r x)
@@ -357,21 +316,21 @@ module _ (nodes : List Node) (w : List ℕ) (r x p : ℕ) (s : Starts) (arena : 
       let less' = arena.below x b.index (Seq a b) is (inr refl) in
       let low = low_root in
       two_more_parts (Seq a b) a.index b.index here_mark (ended a.index || (here_mark && null a.index)) after is less less' (λ c part. part) is_after
-      (left_part nodes w r x p s arena low here_mark here_told a b is)
-      (right_part nodes w r x p s arena low here_mark here_told a b is (null a.index) (ended a.index) (nulls a.index (omega arith)) (ends a.index (part_of x a.index (Seq a b) is (inl refl) there)))
+      (with_node nodes w r s arena x p low here_mark here_told a.index (Seq a b) is refl (λ h. elim h [ inl left ↦ left.1 | inr same ↦ absurd (arena.distinct x (Seq a b) is (sym same.0)) ]))
+      (right_part nodes w r s arena x p low here_mark here_told a b is (null a.index) (ended a.index) (nulls a.index (omega arith)) (ends a.index (part_of x a.index (Seq a b) is (inl refl) there)))
   down (Alt a b) after is is_after =
       two_more_parts (Alt a b) a.index b.index here_mark here_mark after is (arena.below x a.index (Alt a b) is (inl refl)) (arena.below x b.index (Alt a b) is (inr refl)) (λ c part. part) is_after
-      (with_node nodes w r x p s arena low_root here_mark here_told a.index (Alt a b) is (inl refl) (λ h. h))
-      (with_node nodes w r x p s arena low_root here_mark here_told b.index (Alt a b) is (inr refl) (λ h. h))
+      (with_node nodes w r s arena x p low_root here_mark here_told a.index (Alt a b) is (inl refl) (λ h. h))
+      (with_node nodes w r s arena x p low_root here_mark here_told b.index (Alt a b) is (inr refl) (λ h. h))
   down (Group k a) after is is_after =
       one_more_part (Group k a) a.index here_mark after is (arena.below x a.index (Group k a) is refl) (λ c part. part) is_after
-      (with_node nodes w r x p s arena low_root here_mark here_told a.index (Group k a) is refl (λ h. h))
+      (with_node nodes w r s arena x p low_root here_mark here_told a.index (Group k a) is refl (λ h. h))
   down (Star a first) after is is_after =
       one_more_part (Star a first) a.index (here_mark || ended a.index) after is (arena.below x a.index (Star a first) is refl) (λ c part. part) is_after
-      (copy_part nodes w r x p s arena low_root here_mark here_told a first is (ended a.index) (ends a.index (part_of x a.index (Star a first) is refl there)))
+      (copy_part nodes w r s arena x p low_root here_mark here_told a first is (ended a.index) (ends a.index (part_of x a.index (Star a first) is refl there)))
   down (Opt a first) after is is_after =
       one_more_part (Opt a first) a.index here_mark after is (arena.below x a.index (Opt a first) is refl) (λ c part. part) is_after
-      (with_node nodes w r x p s arena low_root here_mark here_told a.index (Opt a first) is refl (λ h. h))
+      (with_node nodes w r s arena x p low_root here_mark here_told a.index (Opt a first) is refl (λ h. h))
   down other after is is_after = subst (λ l. Marked l (TreeFrom nodes r x) (λ c. Enters nodes w r s c p)) (sym is_after) (none_more other is (λ c part. part))
 
 -- The row of a place, bit for bit.
@@ -383,33 +342,34 @@ is_set : (node : Node) → IsTrue (takes_any node) → (m : List Bool) × (node 
 is_set (Set m) h = (m, refl)
 is_set other h = absurd (true≢false (sym h))
 
--- what is told of one index, told of an equal one
-told_at : (f : ℕ → Bool) (P : ℕ → Type 0) (x c : ℕ) → c ≡ x → (IsTrue (f x) ↔ P x) → IsTrue (f c) ↔ P c
-told_at f P x c e truth = subst (λ n. IsTrue (f n) ↔ P n) (sym e) truth
+-- the bits from y on tell, by one after another
+tell_none : (bits : ℕ → Bool) (P : ℕ → Type 0) (y : ℕ) → ((c : ℕ) → bits c ≡ false) → ((c : ℕ) → P c → c < y) → TellFrom y bits P
+tell_none bits P y none all c = (λ h. absurd (false_bit (bits c) (none c) h), λ h. let low = h.0 in let less = all c h.1 in absurd (omega arith))
 
--- what is told of one bit, told of an equal one that is no less asked for
-told_as : (a b : Bool) (A B : Type 0) → a ≡ b → (A → B) → (B → A) → (IsTrue b ↔ B) → IsTrue a ↔ A
-told_as a b A B e to from truth = (λ h. from (truth.0 (sym e ∙ h)), λ h. e ∙ truth.1 (to h))
+tell_more : (bits after : ℕ → Bool) (P : ℕ → Type 0) (x : ℕ) (v : Bool) → after x ≡ v → (IsTrue v ↔ P x) → ((c : ℕ) → (c ≡ x → ⊥) → after c ≡ bits c) → TellFrom (x + 1) bits P → TellFrom x after P
+tell_more bits after P x v is truth others told c =
+    ⊎_elim
+    (λ (e : c ≡ x). (λ h. (omega arith, subst P (sym e) (truth.0 (sym is ∙ ap after (sym e) ∙ h))), λ h. ap after e ∙ is ∙ truth.1 (subst P e h.1)))
+    (λ (ne : c ≡ x → ⊥).
+    let same = others c ne in
+    (λ h. let old = (told c).0 (sym same ∙ h) in let low = old.0 in (omega arith, old.1), λ h. let low = h.0 in same ∙ (told c).1 (omega arith, h.1)))
+    (cases_eq c x)
+
+tell_all : (bits : ℕ → Bool) (P : ℕ → Type 0) (low : ℕ) → ((c : ℕ) → P c → low ≤ c) → TellFrom low bits P → (c : ℕ) → IsTrue (bits c) ↔ P c
+tell_all bits P low all told c = (λ h. ((told c).0 h).1, λ h. (told c).1 (all c h, h))
 
 module _ (nodes : List Node) (w : List ℕ) (r p : ℕ) (s : Starts) (keeps : Bool) where
   abbrev Leaf : ℕ → Type 0
-  Leaf c = (members : List Bool) × (slice_get nodes c ≡ Some (Set members)) × Enters nodes w r s c p
+  Leaf c = LeafAt nodes w r s p c
 
   abbrev Kept : ℕ → Type 0
-  Kept c = (IsTrue keeps ⊎ (c ≡ r)) × EndsAt nodes w r s c p
+  Kept c = EndKept nodes w r s keeps p c
 
   pub row_none : (y : ℕ) (entered ended : ℕ → Bool) → IsArena nodes → r < y → ((c : ℕ) → entered c ≡ false) → ((c : ℕ) → ended c ≡ false) → RowFrom nodes w r s keeps p y entered ended
-  row_none y entered ended arena past no_leaf no_end =
-      record {
-        leaves = λ c. (
-          λ h. absurd (false_bit (entered c) (no_leaf c) h),
-          λ h. let up = Enters-inside nodes w r s arena c p h.1.2 in let high = h.0 in absurd (omega arith),
-        );
-        ends = λ c. (
-          λ h. absurd (false_bit (ended c) (no_end c) h),
-          λ h. let up = Enters-inside nodes w r s arena c h.1.1.0 h.1.1.1 in let high = h.0 in absurd (omega arith),
-        );
-      }
+  row_none y entered ended arena past no_leaf no_end = (
+    tell_none entered Leaf y no_leaf (λ c h. let up = Enters-inside nodes w r s arena c p h.2 in omega arith),
+    tell_none ended Kept y no_end (λ c h. let up = Enters-inside nodes w r s arena c h.1.0 h.1.1 in omega arith),
+  )
 
   pub row_step : (x : ℕ) (node : Node) (here end null : Bool) (entered ended after after_ended : ℕ → Bool) → slice_get nodes x ≡ Some node →
       (IsTrue here ↔ Enters nodes w r s x p) → (IsTrue end ↔ Ends nodes w r s x p) → (IsTrue null ↔ At nodes w x p p) →
@@ -428,31 +388,16 @@ module _ (nodes : List Node) (w : List ℕ) (r p : ℕ) (s : Starts) (keeps : Bo
       let law = ends_at nodes w r x p s in
       let truth = or_truth end (here && null) (Ends nodes w r s x p) (Enters nodes w r s x p × At nodes w x p p) ends (and_truth here null (Enters nodes w r s x p) (At nodes w x p p) enters nulls) in
       let over : IsTrue (end || (here && null)) ↔ EndsAt nodes w r s x p = (λ h. law.1 (truth.0 h), λ h. truth.1 (law.0 h)) in
-      let kept = and_truth (keeps || eqb x r) (end || (here && null)) (IsTrue keeps ⊎ (x ≡ r)) (EndsAt nodes w r s x p) asked over in
-      let at_leaf : IsTrue (after x) ↔ ((x ≤ x) × Leaf x) =
-      told_as (after x) (takes_any node && here) ((x ≤ x) × Leaf x) (Leaf x) is_after (λ h. h.1) (λ h. (omega arith, h)) leaf in
-      let at_end : IsTrue (after_ended x) ↔ ((x ≤ x) × Kept x) =
-      told_as (after_ended x) ((keeps || eqb x r) && (end || (here && null))) ((x ≤ x) × Kept x) (Kept x) is_ended (λ h. h.1) (λ h. (omega arith, h)) kept in
-      record {
-        leaves = λ c. ⊎_elim
-            (λ (e : c ≡ x). told_at after (λ n. (x ≤ n) × Leaf n) x c e at_leaf)
-            (λ (ne : c ≡ x → ⊥).
-            told_as (after c) (entered c) ((x ≤ c) × Leaf c) ((x + 1 ≤ c) × Leaf c) (others c ne).0
-            (λ h. let low = h.0 in (omega arith, h.1)) (λ h. let low = h.0 in (omega arith, h.1)) (row.leaves c))
-            (cases_eq c x);
-        ends = λ c. ⊎_elim
-            (λ (e : c ≡ x). told_at after_ended (λ n. (x ≤ n) × Kept n) x c e at_end)
-            (λ (ne : c ≡ x → ⊥).
-            told_as (after_ended c) (ended c) ((x ≤ c) × Kept c) ((x + 1 ≤ c) × Kept c) (others c ne).1
-            (λ h. let low = h.0 in (omega arith, h.1)) (λ h. let low = h.0 in (omega arith, h.1)) (row.ends c))
-            (cases_eq c x);
-      }
+      let kept = and_truth (keeps || eqb x r) (end || (here && null)) (IsTrue keeps ⊎ (x ≡ r)) (EndsAt nodes w r s x p) asked over in (
+        tell_more entered after Leaf x (takes_any node && here) is_after leaf (λ c ne. (others c ne).0) row.0,
+        tell_more ended after_ended Kept x ((keeps || eqb x r) && (end || (here && null))) is_ended kept (λ c ne. (others c ne).1) row.1,
+      )
 
   pub row_done : (low : ℕ) (entered ended : ℕ → Bool) → ((c : ℕ) → InTree nodes r c → low ≤ c) → RowFrom nodes w r s keeps p low entered ended → RowOfPlace nodes w r s keeps p entered ended
   row_done low entered ended all row =
       record {
-        leaves = λ c. (λ h. ((row.leaves c).0 h).1, λ h. (row.leaves c).1 (all c (enters_tree nodes w r s c p h.2), h));
-        ends = λ c. (λ h. ((row.ends c).0 h).1, λ h. (row.ends c).1 (all c (enters_tree nodes w r s c h.1.0 h.1.1), h));
+        leaves = tell_all entered Leaf low (λ c h. all c (enters_tree nodes w r s c p h.2)) row.0;
+        ends = tell_all ended Kept low (λ c h. all c (enters_tree nodes w r s c h.1.0 h.1.1)) row.1;
       }
 
 -- a row tells which leaves take the byte that comes
@@ -496,52 +441,15 @@ by_part nodes x node is c (part_of y _ other is' part up) =
     (λ (h : (a : ℕ) × IsPart node a × InTree nodes a y). inr (h.0, h.1, part_of y c other is' part h.2))
     (by_part nodes x node is y up)
 
-pub leaf_range : (nodes : List Node) (x : ℕ) (node : Node) → slice_get nodes x ≡ Some node → ((c : ℕ) → IsPart node c → ⊥) → IsNodeRange nodes x x
-leaf_range nodes x node is none c = (
-  λ h. is_tree c (let low = h.0 in let high = h.1 in omega arith),
-  λ h. ⊎_elim (λ (e : c ≡ x). (omega arith, omega arith)) (λ (f : (a : ℕ) × IsPart node a × InTree nodes a c). absurd (none f.0 f.1)) (by_part nodes x node is c h),
-)
-
-pub one_range : (nodes : List Node) (x a low : ℕ) (node : Node) → slice_get nodes x ≡ Some node → IsPart node a → ((c : ℕ) → IsPart node c → c ≡ a) → a + 1 ≡ x → low ≤ a → IsNodeRange nodes low a → IsNodeRange nodes low x
-one_range nodes x a low node is part only next small range c = (
-  λ h. let from = h.0 in
-      let to = h.1 in
-      ⊎_elim (λ (e : c ≡ x). is_tree c e) (λ (ne : c ≡ x → ⊥). in_part nodes x a node is part c ((range c).0 (from, omega arith))) (cases_eq c x),
+-- the nodes in x are those from low on, if it is so of each part
+pub range_of : (nodes : List Node) (x low : ℕ) (node : Node) → slice_get nodes x ≡ Some node → low ≤ x → ((c : ℕ) → low ≤ c → c < x → (a : ℕ) × IsPart node a × InTree nodes a c) →
+    ((a c : ℕ) → IsPart node a → InTree nodes a c → (low ≤ c) × (c < x)) → IsNodeRange nodes low x
+range_of nodes x low node is small down up c = (
+  λ h. let high = h.1 in
+      ⊎_elim (λ (e : c ≡ x). is_tree c e) (λ (ne : c ≡ x → ⊥). let part = down c h.0 (omega arith) in in_part nodes x part.0 node is part.1 c part.2) (cases_eq c x),
   λ h. ⊎_elim
       (λ (e : c ≡ x). (omega arith, omega arith))
-      (λ (f : (b : ℕ) × IsPart node b × InTree nodes b c).
-      let g = (range c).1 (subst (λ n. InTree nodes n c) (only f.0 f.1) f.2) in
-      let high = g.1 in
-      (g.0, omega arith))
-      (by_part nodes x node is c h),
-)
-
-pub two_range : (nodes : List Node) (x a b low : ℕ) (node : Node) → slice_get nodes x ≡ Some node → IsPart node a → IsPart node b → ((c : ℕ) → IsPart node c → (c ≡ a) ⊎ (c ≡ b)) → a + 1 ≤ b → b + 1 ≡ x → low ≤ a →
-    IsNodeRange nodes low a → IsNodeRange nodes (a + 1) b → IsNodeRange nodes low x
-two_range nodes x a b low node is left right only apart next small range range' c = (
-  λ h. let from = h.0 in
-      let to = h.1 in
-      ⊎_elim
-      (λ (e : c ≡ x). is_tree c e)
-      (λ (ne : c ≡ x → ⊥). ⊎_elim
-      (λ (lt : a < c). in_part nodes x b node is right c ((range' c).0 (omega arith, omega arith)))
-      (λ (ge : c ≤ a). in_part nodes x a node is left c ((range c).0 (from, ge)))
-      (cases_lt a c))
-      (cases_eq c x),
-  λ h. ⊎_elim
-      (λ (e : c ≡ x). (omega arith, omega arith))
-      (λ (f : (d : ℕ) × IsPart node d × InTree nodes d c).
-      ⊎_elim
-      (λ (e : f.0 ≡ a).
-      let g = (range c).1 (subst (λ n. InTree nodes n c) e f.2) in
-      let high = g.1 in
-      (g.0, omega arith))
-      (λ (e : f.0 ≡ b).
-      let g = (range' c).1 (subst (λ n. InTree nodes n c) e f.2) in
-      let high = g.1 in
-      let from = g.0 in
-      (omega arith, omega arith))
-      (only f.0 f.1))
+      (λ (f : (a : ℕ) × IsPart node a × InTree nodes a c). let within = up f.0 c f.1 f.2 in let less = within.1 in (within.0, omega arith))
       (by_part nodes x node is c h),
 )
 
@@ -601,11 +509,6 @@ bits_agree m marks other agree = fun_ext (λ c. ⊎_elim
     (λ (lt : c < m). bits_here m marks c lt ∙ agree c lt ∙ sym (bits_here m other c lt))
     (λ (ge : m ≤ c). ap (λ b. b && slice_index_or marks c false) (le-ltb c m ge) ∙ sym (ap (λ b. b && slice_index_or other c false) (le-ltb c m ge)))
     (cases_lt c m))
-
--- how many marks are looked at
-pub looks_few : (node : Node) → leaf_looks node + part_looks node ≤ 3
-looks_few Empty = omega arith
-looks_few other = omega arith
 
 -- the node of least index is a leaf: it has no part to enter
 pub enters_few : (x : ℕ) (node : Node) → PartsBelow x node → 6 + enter_looks node + (10 * x - 4) ≤ 10 * (x + 1) - 4

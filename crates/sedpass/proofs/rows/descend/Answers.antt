@@ -1,5 +1,5 @@
-use Rattle.std.proofs.Common.{◌≡◌, ◌+◌, ◌-◌, ◌*◌, Bool, Some, refl, ap, ◌∙◌, sym, subst, arith, ◌&&◌, ◌||◌, ℕ, length}
-use Rattle.std.specs.Prelude.{slice_get, slice_index_or, false, eqb}
+use Rattle.std.proofs.Common.{◌≡◌, ◌+◌, ◌-◌, ◌*◌, Bool, Some, refl, ◌∙◌, sym, subst, arith, ℕ, length}
+use Rattle.std.specs.Prelude.{slice_get, slice_index_or, false}
 use Rattle.sedre.proofs.MirrorLemmas.{seen-arena, seen-length}
 use Rattle.sedtext.specs.PartMarks.{enter_parts}
 use Rattle.sedtext.specs.Reach.{Marked, Enters, Ends}
@@ -43,8 +43,6 @@ loop-x-preserved c =
     let ended : ℕ → Bool = λ n. slice_index_or c.loop-x.work.ended n false in
     let here : c.get-here.result ≡ slice_index_or c.loop-x.work.entered x false = c.get-here.ensures.mark in
     let value : c.enter.new.entered ≡ enter_parts (slice_index_or c.loop-x.work.entered x false) null ended node c.loop-x.work.entered = rw (← here) c.enter.ensures.marks in
-    let kept : c.end_bit-kept.result ≡ ((c.args.way.keeps || eqb x r) && (c.get-end.result || (c.get-here.result && c.null_at-null.result))) =
-    c.end_bit-kept.ensures ∙ ap (λ b. b && (c.get-end.result || (c.get-here.result && c.null_at-null.result))) c.keeps_end.ensures in
     let few = enters_few x node c.look-node.ensures.parts in
     record {
       grows = omega arith;
@@ -74,7 +72,7 @@ loop-x-preserved c =
           (λ h. end.0 (sym c.get-end.ensures.mark ∙ h), λ h. c.get-end.ensures.mark ∙ end.1 h)
           (λ h. none.0 (sym c.null_at-null.ensures.null ∙ h), λ h. c.null_at-null.ensures.null ∙ none.1 h)
           (bits_set m c.loop-x.work.leaves c.set-in-loop-x.new.self x c.leaf_bit-leaf.result (omega arith) (omega arith) c.set-in-loop-x.ensures.marks ∙ c.leaf_bit-leaf.ensures)
-          (bits_set m c.loop-x.work.ends c.set-in-loop-x-2.new.self x c.end_bit-kept.result (omega arith) (omega arith) c.set-in-loop-x-2.ensures.marks ∙ kept)
+          (bits_set m c.loop-x.work.ends c.set-in-loop-x-2.new.self x c.end_bit-kept.result (omega arith) (omega arith) c.set-in-loop-x-2.ensures.marks ∙ c.end_bit-kept.ensures)
           (λ n ne. (
             bits_other m c.loop-x.work.leaves c.set-in-loop-x.new.self x c.leaf_bit-leaf.result c.set-in-loop-x.ensures.marks n ne,
             bits_other m c.loop-x.work.ends c.set-in-loop-x-2.new.self x c.end_bit-kept.result c.set-in-loop-x-2.ensures.marks n ne,
