@@ -1,6 +1,7 @@
 -- How classes of bytes are found.
 use Rattle.std.proofs.Common.{◌≡◌, ℕ, ◌+◌, ◌*◌, ◌<◌, ◌≤◌, Bool, true, false, List, length, Some, refl, sym, ap, ◌∙◌, ⊎_elim, arith}
-use Rattle.std.specs.Prelude.{slice_get, slice_index_or, slice_set, cond}
+use Rattle.std.specs.Prelude.{slice_get, slice_index_or, slice_set}
+use Rattle.std.specs.Int.{from_bool}
 use Rattle.std.proofs.lemmas.List.{get_or-set_same, get_or-set_other}
 use Rattle.std.proofs.lemmas.Bool.{cases_eq}
 use Rattle.sedre.specs.Sets.{has}
@@ -11,7 +12,11 @@ at xs k = slice_index_or xs k 0
 
 -- the key of a byte: its class, and whether it is in the set
 abbrev pub key_of : List ℕ → List Bool → ℕ → ℕ
-key_of classes members byte = 2 * at classes byte + cond (has members byte) 1 0
+key_of classes members byte = 2 * at classes byte + from_bool (has members byte)
+
+pub bit_low : (b : Bool) → from_bool b ≤ 1
+bit_low true = omega arith
+bit_low false = omega arith
 
 -- the first n bytes have the numbers of their keys
 abbrev pub AreGiven : (ℕ → ℕ) → List ℕ → List ℕ → ℕ → ℕ → Type 0
@@ -35,7 +40,7 @@ given_more key numbers of after of' count next byte k inside is small given set 
     (was.0, there ∙ number ∙ sym (given.kept (key b) (omega arith)), omega arith))
     (cases_eq b byte)
 
-sides : (c d : ℕ) (s t : Bool) → 2 * c + cond s 1 0 ≡ 2 * d + cond t 1 0 → (c ≡ d) × (s ≡ t)
+sides : (c d : ℕ) (s t : Bool) → 2 * c + from_bool s ≡ 2 * d + from_bool t → (c ≡ d) × (s ≡ t)
 sides c d true true e = (omega arith, refl)
 sides c d false false e = (omega arith, refl)
 sides c d true false e = absurd (omega arith)

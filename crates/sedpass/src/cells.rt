@@ -1,5 +1,5 @@
 //! How a table names its states by codes, and lays out their cells.
-ghost use Rattle.std.specs.Prelude.{◌≡◌, ℕ, Bool, false, ◌+◌, ◌*◌, ◌^◌, ◌<◌, ◌≤◌, length, slice_index_or, IfSome, vec_capacity};
+ghost use Rattle.std.specs.Prelude.{◌≡◌, ℕ, Bool, ◌+◌, ◌*◌, ◌^◌, ◌<◌, ◌≤◌, length, slice_index_or, IfSome, vec_capacity};
 ghost use Rattle.sedre.specs.Steps.{TakesExactly, Takes};
 ghost use Rattle.sedpass.specs.Cells.{stops, code_of, IsLayout, IsColumn};
 
@@ -98,7 +98,7 @@ impl Layout {
         ensures { IsLayout prepared.now.arena.expr.nodes result }
     {
         let most = MOST_CELLS.min(CELLS_A_NODE * prepared.nodes());
-        let columns = prepared.columns.min(most);
+        let columns = prepared.classes.count.min(most);
         let (edge, width) = if !prepared.anchors {
             (Some(0), columns)
         } else if columns <= most / 2 {
@@ -107,7 +107,7 @@ impl Layout {
             (None, columns)
         };
         Layout {
-            classes: prepared.classes,
+            classes: prepared.classes.of,
             columns,
             edge,
             width,
@@ -134,15 +134,11 @@ impl Layout {
         ensures { IfSome result (IsColumn self.now byte edge) }
     {
         let class = self.classes[byte as usize] as usize;
-        if class >= self.columns {
-            return None;
-        }
-        if !edge {
-            return Some(class);
-        }
-        match self.edge {
-            Some(first) => first.checked_add(class),
-            None => None,
+        let first = if edge { self.edge? } else { 0 };
+        if class < self.columns {
+            first.checked_add(class)
+        } else {
+            None
         }
     }
 }

@@ -1,6 +1,6 @@
 //! Classes of bytes: those that no set of an expression tells apart are in one.
 ghost use Rattle.sedre.specs.declared.types.Node.{Node};
-ghost use Rattle.std.specs.Prelude.{◌≡◌, List, ◌+◌, ◌*◌, ◌<◌, cond};
+ghost use Rattle.std.specs.Prelude.{List, ◌<◌};
 ghost use Rattle.sedpass.specs.Classes.{IsNumbering, IsGiven, IsFiner};
 ghost use Rattle.sedpass.specs.Prepared.{AreClasses, HaveSets};
 
@@ -29,16 +29,8 @@ fn give(numbers: &mut [u16; 512], key: usize, count: usize) -> usize
     }
 }
 
-/// The key of a byte: its class, on one side of a set or the other.
-fn side_key(class: u8, side: bool) -> usize
-    ensures key { result ≡ 2 * class + cond side 1 0 }
-    ensures small { result < 512 }
-{
-    let class = usize::from(class);
-    if side { 2 * class + 1 } else { 2 * class }
-}
-
-/// The classes, parted by a set: bytes with one key are in one, numbered as they come.
+/// The classes, parted by a set: bytes with one key, which is their class and whether they are in the set, are in one, and these are
+/// numbered as they come.
 fn split(classes: &[u8; 256], set: &ByteSet) -> Classes
     ensures { IsFiner classes.now set.now result.of result.count }
 {
@@ -46,7 +38,7 @@ fn split(classes: &[u8; 256], set: &ByteSet) -> Classes
     let mut of = [0u8; 256];
     let mut count = 0;
     for byte in 0..256usize {
-        let key = side_key(classes[byte], set.has(byte as u8));
+        let key = 2 * usize::from(classes[byte]) + usize::from(set.has(byte as u8));
         count = give(&mut numbers, key, count);
         of[byte] = numbers[key] as u8;
     }

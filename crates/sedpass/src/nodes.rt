@@ -91,20 +91,14 @@ fn of_leaf(x: usize, null: u8, length: usize) -> Facts
 fn sum_of(left: Option<usize>, right: Option<usize>) -> Option<usize>
     ensures { IsShort left → IsShort right → result ≡ sum_of left right }
 {
-    match (left, right) {
-        (Some(l), Some(r)) => Some(l.saturating_add(r)),
-        _ => None,
-    }
+    Some(left?.saturating_add(right?))
 }
 
 /// The one length of both, if there is one.
 fn same_of(left: Option<usize>, right: Option<usize>) -> Option<usize>
     ensures { result ≡ same_of left right }
 {
-    match (left, right) {
-        (Some(l), Some(r)) => if l == r { Some(l) } else { None },
-        _ => None,
-    }
+    if left == right { left } else { None }
 }
 
 /// What is told of a concatenation, from what is told of its parts.
@@ -217,13 +211,11 @@ pub struct Prepared {
     pub root: usize,
     /// What is told of each node.
     pub facts: Vec<Facts>,
-    /// The class of each byte: bytes of one class are in the same sets.
-    pub classes: [u8; 256],
-    /// How many classes there are.
-    pub columns: usize,
+    /// Classes of bytes: those of one class are in the same sets.
+    pub classes: Classes,
     /// Whether some node is null at places of one kind alone, as an anchor is.
     pub anchors: bool,
-    pub ghost is_prepared: { IsPrepared arena.expr root facts.items classes columns anchors } by { Prim.hlevel props },
+    pub ghost is_prepared: { IsPrepared arena.expr root facts.items classes.of classes.count anchors } by { Prim.hlevel props },
 }
 
 impl Prepared {
@@ -237,13 +229,11 @@ impl Prepared {
         let arena = Arena::with_room(alloc, nodes)?;
         let mut facts = Vec::with_capacity(alloc, nodes)?;
         facts.push_reserved(of_leaf(0, EVERYWHERE, 0));
-        let Classes { of, count } = classes_of(&[]);
         Ok(Prepared {
             arena,
             root: 0,
             facts,
-            classes: of,
-            columns: count,
+            classes: classes_of(&[]),
             anchors: false,
         })
     }
@@ -259,10 +249,8 @@ impl Prepared {
         ensures counts { TakesAtLeast steps.old steps.new (length expr.now.nodes) }
     {
         self.arena.fill(expr, &mut self.facts, steps);
-        let Classes { of, count } = classes_of(expr.sets());
         self.root = expr.root().index();
-        self.classes = of;
-        self.columns = count;
+        self.classes = classes_of(expr.sets());
         self.anchors = has_anchor(&self.facts);
     }
 

@@ -1,7 +1,6 @@
-use Rattle.std.proofs.Common.{◌+◌, ◌*◌, ◌≡◌, refl, ap, ◌∙◌, length-set, arith, inr}
-use Rattle.std.specs.Prelude.{slice_index_or, cond}
+use Rattle.std.proofs.Common.{◌+◌, ◌*◌, ◌≡◌, refl, ◌∙◌, length-set, arith, inr}
 use Rattle.std.proofs.lemmas.List.{get_or-replicate}
-use Rattle.sedpass.proofs.ClassLemmas.{key_of, given_more, finer}
+use Rattle.sedpass.proofs.ClassLemmas.{bit_low, key_of, given_more, finer}
 use Rattle.sedpass.proofs.classes.split.Goals as goal
 
 pub loop-byte-init : goal.loop-byte-init
@@ -17,12 +16,13 @@ loop-byte-preserved c =
     let old = c.loop-byte.invariant in
     let given = c.give-count.ensures old.numbering in
     let few = given.few in
+    let key : 2 * c.from.result + c.from-in-loop-byte.result ≡ key_of c.args.classes.now c.args.set.now c.loop-byte.byte = rw (c.from.ensures, c.from-in-loop-byte.ensures, c.has.ensures.is) refl in
     record {
       few = omega arith;
       wide = length-set c.loop-byte.of c.loop-byte.byte _ ∙ old.wide;
       numbering = given.numbering;
-      given = given_more (key_of c.args.classes.now c.args.set.now) c.loop-byte.numbers c.loop-byte.of c.give-count.new.numbers _ c.loop-byte.count c.give-count.result c.loop-byte.byte c.side_key-key.result (omega arith)
-          (c.side_key-key.ensures.key ∙ ap (λ b. 2 * slice_index_or c.args.classes.now c.loop-byte.byte 0 + cond b 1 0) c.has.ensures.is) c.side_key-key.ensures.small given refl old.given;
+      given = given_more (key_of c.args.classes.now c.args.set.now) c.loop-byte.numbers c.loop-byte.of c.give-count.new.numbers _ c.loop-byte.count c.give-count.result c.loop-byte.byte (2 * c.from.result + c.from-in-loop-byte.result) (omega arith)
+          key (omega (arith, bit_low c.has.result)) given refl old.given;
     }
 
 pub returns : goal.returns

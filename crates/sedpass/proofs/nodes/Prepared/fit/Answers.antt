@@ -12,11 +12,11 @@ invariant_of-self c =
     let root = c.index-self.ensures in
     let last = c.root.ensures.last in
     record {
-      is_prepared = subst (λ w. IsPrepared w c.index-self.result told c.classes_of-count.result.of c.classes_of-count.result.count c.has_anchor-self.result) (sym c.fill.ensures.expr) (record {
+      is_prepared = subst (λ w. IsPrepared w c.index-self.result told c.classes_of-self.result.of c.classes_of-self.result.count c.has_anchor-self.result) (sym c.fill.ensures.expr) (record {
         last = omega arith;
         all = all;
         facts = facts;
-        classes = c.classes_of-count.ensures e.nodes c.sets.ensures;
+        classes = c.classes_of-self.ensures e.nodes c.sets.ensures;
         anywhere = λ none. told_anywhere e.nodes told all facts (c.has_anchor-self.ensures none);
       });
     }
