@@ -1,6 +1,6 @@
 -- What is told of each node once, and what it means for passes.
 use Rattle.std.proofs.Common.{◌≡◌, ℕ, zero, suc, ◌+◌, ◌-◌, ◌*◌, ◌<◌, ◌≤◌, ◌⊎◌, ◌↔◌, Bool, true, false, ◌&&◌, List, [], ◌∷◌, ◌++◌, length, Option, Some, None, IsTrue, refl, sym, ap, ◌∙◌, subst, inl, inr, ⊎_elim, true≢false, arith, min, max, bit_and, bit_or, ◌||◌}
-use Rattle.std.specs.Prelude.{slice_get, eqb, IfSome, cond}
+use Rattle.std.specs.Prelude.{slice_get, eqb}
 use Rattle.std.specs.Int.{bit_at, from_bool}
 use Rattle.std.specs.Option.{option_eq}
 use Rattle.std.proofs.lemmas.Nat.Bits.{bit_at_and, bit_at_or, bit_at-lt}
@@ -20,11 +20,12 @@ use Rattle.sedtext.specs.Spans.{Matches, no_copy}
 use Rattle.sedtext.specs.Places.{IsPlace}
 use Rattle.sedtext.proofs.SpanLemmas.{Matches-forward}
 use Rattle.sedtext.proofs.NodeLemmas.{node_at}
-use Rattle.sedpass.specs.Lengths.{length_of, sum_of, same_of}
+use Rattle.sedpass.specs.Lengths.{length_of}
 use Rattle.sedpass.specs.Prepared.{nullable, null_in, null_at, is_set, IsFacts, AreFacts, IsOfEachKind, IsShort, SameNulls}
 use Rattle.sedpass.specs.Rows.{at_begin, at_end, InTree, IsNodeRange, AreNull}
 use Rattle.sedpass.specs.declared.nodes.Facts.{Facts}
 use Rattle.sedpass.specs.declared.nodes.Kind.{Kind}
+use Rattle.sedpass.proofs.LengthLemmas.{sum_parts, same_parts}
 use Rattle.sedpass.proofs.RowLemmas.{or_truth, and_truth, not_true, range_of, mirror_range}
 
 -- null strings
@@ -86,24 +87,18 @@ pub null_tells : (mirrored : Bool) (e : WrittenExpression) (kind : Kind) (w : Li
     AreNull (seen mirrored e).nodes w p (null_in e.nodes kind)
 null_tells false e kind w p there c low = nullable_is w p kind.begin kind.end there (tree_at e.nodes c)
 null_tells true e kind w p there c low =
-    let law = nullable_is w p kind.end kind.begin there (tree_at (seen true e).nodes c) in
     let same : nullable kind.end kind.begin (tree_at (seen true e).nodes c) ≡ null_in e.nodes kind c =
     ap (nullable kind.end kind.begin) (tree_at-mirror e.nodes c) ∙ nullable_mirror kind.end kind.begin (tree_at e.nodes c) in
-    (λ h. law.0 (same ∙ h), λ h. sym same ∙ law.1 h)
+    rw (← same) (nullable_is w p kind.end kind.begin there (tree_at (seen true e).nodes c))
 
 -- where no node tells a kind from another, each place will do
 pub null_anywhere : (mirrored : Bool) (e : WrittenExpression) (kind : Kind) → SameNulls e.nodes →
     (w : List ℕ) (p : ℕ) (first last : Bool) → IsPlace w p first last → AreNull (seen mirrored e).nodes w p (null_in e.nodes kind)
 null_anywhere false e kind same w p first last there c low =
-    let law = nullable_is w p first last there (tree_at e.nodes c) in
-    let here : null_in e.nodes kind c ≡ nullable first last (tree_at e.nodes c) = same c kind.begin kind.end low ∙ sym (same c first last low) in
-    (λ h. law.0 (sym here ∙ h), λ h. here ∙ law.1 h)
+    rw (same c kind.begin kind.end low ∙ sym (same c first last low)) (null_tells false e (record { begin = first; end = last }) w p there c low)
 null_anywhere true e kind same w p first last there c low =
     let inside : c < length e.nodes = subst (λ n. c < n) (seen-length true e) low in
-    let law = nullable_is w p first last there (tree_at (seen true e).nodes c) in
-    let here : null_in e.nodes kind c ≡ nullable first last (tree_at (seen true e).nodes c) =
-    same c kind.begin kind.end inside ∙ sym (same c last first inside) ∙ sym (nullable_mirror first last (tree_at e.nodes c)) ∙ sym (ap (nullable first last) (tree_at-mirror e.nodes c)) in
-    (λ h. law.0 (sym here ∙ h), λ h. here ∙ law.1 h)
+    rw (same c kind.begin kind.end inside ∙ sym (same c last first inside)) (null_tells true e (record { begin = last; end = first }) w p there c low)
 
 -- trees are ranges
 
@@ -184,33 +179,23 @@ pub told_set : (a : Tree) (x : ℕ) (part : Facts) → IsFacts a x part → part
 told_set a x part told low long = let size_is = told.low in set_by a (omega arith) (rw (← told.long) long)
 
 -- an expression has no longer matches of one length than nodes
-short_sum : (m n : Option ℕ) (i j : ℕ) → IfSome m (λ k. k ≤ i) → IfSome n (λ k. k ≤ j) → IfSome (sum_of m n) (λ k. k ≤ 1 + i + j)
-short_sum None n i j p q = tt
-short_sum (Some m) None i j p q = tt
-short_sum (Some m) (Some n) i j p q = omega (arith, p, q)
+length_short : (t : Tree) (n : ℕ) → length_of t ≡ Some n → n ≤ size t
+length_short (set members) n is = let one_long : 1 ≡ n = cc in omega arith
+length_short (seq a b) n is =
+    let parts = sum_parts (length_of a) (length_of b) n is in
+    omega (arith, parts.4, length_short a parts.0 parts.2, length_short b parts.1 parts.3)
+length_short (alt a b) n is = omega (arith, length_short a n (same_parts (length_of a) (length_of b) n is).0)
+length_short (group k a) n is = omega (arith, length_short a n is)
+length_short (star a first) n is = cc
+length_short (opt a first) n is = cc
+length_short other n is = let zero_long : 0 ≡ n = cc in omega arith
 
-short_same : (m n : Option ℕ) (i j : ℕ) → IfSome m (λ k. k ≤ i) → IfSome (same_of m n) (λ k. k ≤ 1 + i + j)
-short_same None n i j p = tt
-short_same (Some m) None i j p = tt
-short_same (Some m) (Some n) i j p = elim (eqb m n) as (λ v. IfSome (cond v (Some m) None) (λ k. k ≤ 1 + i + j)) [
-  | true ↦ omega (arith, p)
-  | false ↦ tt
-]
-
-short_more : (m : Option ℕ) (i j : ℕ) → i ≤ j → IfSome m (λ k. k ≤ i) → IfSome m (λ k. k ≤ j)
-short_more None i j le p = tt
-short_more (Some m) i j le p = omega (arith, le, p)
-
-length_short : (t : Tree) → IfSome (length_of t) (λ n. n ≤ size t)
-length_short (seq a b) = short_sum (length_of a) (length_of b) (size a) (size b) (length_short a) (length_short b)
-length_short (alt a b) = short_same (length_of a) (length_of b) (size a) (size b) (length_short a)
-length_short (group k a) = short_more (length_of a) (size a) (1 + size a) (omega arith) (length_short a)
-length_short (star a first) = tt
-length_short (opt a first) = tt
-length_short other = omega arith
+short_if : (long : Option ℕ) → ((n : ℕ) → long ≡ Some n → n ≤ 65536) → IsShort long
+short_if None small = tt
+short_if (Some n) small = small n refl
 
 pub told_short : (a : Tree) (x : ℕ) (part : Facts) → IsFacts a x part → size a ≤ 65536 → IsShort part.length
-told_short a x part told small = subst IsShort (sym told.long) (short_more (length_of a) (size a) 65536 small (length_short a))
+told_short a x part told small = short_if part.length (λ n is. omega (arith, small, length_short a n (sym told.long ∙ is)))
 
 -- what is told of one more
 last_told : (told : List Facts) (next fact : Facts) (x : ℕ) → slice_get (told ++ next ∷ []) x ≡ Some fact → (slice_get told x ≡ Some fact) ⊎ ((x ≡ length told) × (fact ≡ next))

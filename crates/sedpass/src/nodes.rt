@@ -1,5 +1,4 @@
 //! An expression made ready for passes: what is told of each node once, and the classes of bytes.
-
 ghost use Rattle.std.specs.Prelude.{◌≡◌, ℕ, List, Bool, true, false, cond, ◌+◌, ◌<◌, ◌≤◌, ◌&&◌, ◌↔◌, length, vec_capacity, Some, None, slice_get, IfOk, IsTrue};
 ghost use Rattle.std.proofs.Props.{props};
 ghost use Rattle.sedre.specs.Arena.{IsArena, IsExpr};
@@ -41,10 +40,8 @@ pub fn kind_of(place: usize, length: usize) -> Kind
     }
 }
 
-/// Sets of kinds of places, a bit for each kind by its number: all kinds, none, those of a text's beginning, and of its end.
+/// Sets of kinds of places, a bit for each kind by its number: all kinds, those of a text's beginning, and of its end; 0 is none.
 const EVERYWHERE: u8 = 0b1111;
-
-const NOWHERE: u8 = 0;
 
 const AT_BEGIN: u8 = 0b1010;
 
@@ -179,7 +176,7 @@ pub fn facts_of(node: &Node, facts: &Vec<Facts>) -> Facts
     let x = facts.len();
     match *node {
         Node::Empty => of_leaf(x, EVERYWHERE, 0),
-        Node::Set(_) => of_leaf(x, NOWHERE, 1),
+        Node::Set(_) => of_leaf(x, 0, 1),
         Node::Begin => of_leaf(x, AT_BEGIN, 0),
         Node::End => of_leaf(x, AT_END, 0),
         Node::Seq(a, b) => of_seq(of_part(facts, a), of_part(facts, b)),
@@ -195,7 +192,7 @@ fn has_anchor(facts: &Vec<Facts>) -> bool
     ensures { result ≡ false → (x : ℕ) (here : Facts) → slice_get facts.now.items x ≡ Some here → IsOfEachKind here.null }
 {
     for x in 0..facts.len() {
-        if facts[x].null != EVERYWHERE && facts[x].null != NOWHERE {
+        if facts[x].null != EVERYWHERE && facts[x].null != 0 {
             return true;
         }
     }

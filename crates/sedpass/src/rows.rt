@@ -2,20 +2,17 @@
 //!
 //! The row of a place tells which leaves are entered there, in a match from one of the pass's starts, and which nodes
 //! ended there. The leaves entered decide, with the byte, the next row.
-ghost use Rattle.std.specs.Prelude.{◌≡◌, ℕ, List, Bool, false, ◌+◌, ◌-◌, ◌*◌, ◌<◌, ◌≤◌, ◌↔◌, ◌&&◌, ◌||◌, eqb};
-ghost use Rattle.std.specs.Prelude.{length, Some, slice_index_or, IsTrue};
+ghost use Rattle.std.specs.Prelude.{◌≡◌, ℕ, List, Bool, false, ◌+◌, ◌-◌, ◌*◌, ◌<◌, ◌≤◌, ◌↔◌, ◌&&◌, ◌||◌, length, Some, slice_index_or, IsTrue};
 ghost use Rattle.sedre.specs.Tree.{tree_at};
 ghost use Rattle.sedre.specs.Packed.{PartsBelow};
 ghost use Rattle.sedre.specs.Sizes.{size};
 ghost use Rattle.sedre.specs.Steps.{Takes, TakesAtLeast};
-ghost use Rattle.sedre.specs.declared.types.Node.TheVariants.{Set};
 ghost use Rattle.sedtext.specs.Matching.{byte_is_in};
 ghost use Rattle.sedtext.specs.PartMarks.{enter_parts};
 ghost use Rattle.sedtext.specs.Places.{takes_any};
 ghost use Rattle.sedtext.specs.Reach.{IsStart, Ends, Marked};
 ghost use Rattle.sedpass.specs.Prepared.{null_in, SameNulls};
-ghost use Rattle.sedpass.specs.Rows.{nodes_of, at_begin, at_end, bits, LeadsTo, IsFirstRow, RowOfPlace};
-ghost use Rattle.sedpass.specs.Rows.{InTree, AreNull, TellTook, ended_by, enter_looks};
+ghost use Rattle.sedpass.specs.Rows.{nodes_of, at_begin, at_end, bits, LeadsTo, IsFirstRow, RowOfPlace, InTree, AreNull, TellTook, ended_by, enter_looks};
 
 use crate::nodes::{Kind, Prepared};
 use sedre::{Node, Steps};
@@ -99,15 +96,17 @@ fn enter(
     node: &Node,
     here: bool,
     kind: Kind,
-    ended: &NodeMarks,
-    entered: &mut NodeMarks,
+    work: &mut Work,
     steps: &mut Steps,
 )
     requires parts { PartsBelow (length prepared.now.arena.expr.nodes) node.now }
     requires few { length prepared.now.arena.expr.nodes ≤ 65536 }
-    ensures marks { entered.new ≡ enter_parts here (null_in prepared.now.arena.expr.nodes kind) (λ c. slice_index_or ended.now c false) node.now entered.old }
+    ensures marks { work.new.entered ≡ enter_parts here (null_in prepared.now.arena.expr.nodes kind) (λ c. slice_index_or work.old.ended c false) node.now work.old.entered }
+    ensures others { (work.new.ended ≡ work.old.ended) × (work.new.leaves ≡ work.old.leaves) × (work.new.ends ≡ work.old.ends) }
     ensures cost { Takes steps.old steps.new (enter_looks node.now) }
 {
+    let ended = &work.ended;
+    let entered = &mut work.entered;
     match node {
         Node::Empty | Node::Begin | Node::End | Node::Set(_) => {}
         Node::Seq(a, b) => {
@@ -202,15 +201,7 @@ fn descend(
         let end = work.ended.get(x, steps);
         let null = prepared.null_at(x, kind, steps);
         let node = prepared.look(x, way.mirrored, steps);
-        enter(
-            prepared,
-            &node,
-            here,
-            kind,
-            &work.ended,
-            &mut work.entered,
-            steps,
-        );
+        enter(prepared, &node, here, kind, work, steps);
         let leaf = leaf_bit(&node, here);
         work.leaves.set(x, leaf, steps);
         let kept = end_bit(way, x == root, end, here, null);

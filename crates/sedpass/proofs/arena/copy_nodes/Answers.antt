@@ -2,8 +2,9 @@ use Rattle.std.proofs.Common.{◌≡◌, Some, refl, ◌+◌, ◌++◌, ◌∷�
 use Rattle.std.specs.Prelude.{slice_get, take}
 use Rattle.std.proofs.lemmas.List.{take_more, take_all}
 use Rattle.std.proofs.lemmas.Option.{slice_get_within, get_or_from_slice_get}
+use Rattle.sedre.specs.Steps.{TakesAtLeast, TakesExactly}
 use Rattle.sedtext.proofs.NodeLemmas.{parts_below}
-use Rattle.sedpass.proofs.CountLemmas.{least_none, least_one}
+use Rattle.sedpass.proofs.CountLemmas.{least_none}
 use Rattle.sedpass.proofs.FactLemmas.{facts_more}
 use Rattle.sedpass.proofs.arena.copy_nodes.Goals as goal
 
@@ -26,6 +27,7 @@ facts_of-next-requires c =
     parts_below c.args.expr.now.nodes c.groups-groups.ensures.expr.arena c.loop-x.x c.look-node.result (ap (slice_get c.args.expr.now.nodes) (sym c.id.ensures) ∙ c.look-node.ensures.node) _ (omega arith)
 
 pub loop-x-preserved : goal.loop-x-preserved
+unfolding TakesAtLeast TakesExactly
 loop-x-preserved c =
     let e = c.args.expr.now in
     let told = c.loop-x.facts.items in
@@ -38,7 +40,7 @@ loop-x-preserved c =
     record {
       grows = omega arith;
       cost = omega arith;
-      counts = least_one c.args.steps.now c.loop-x.steps c.look-node.new.steps c.loop-x.x (c.loop-x.x + 1) c.loop-x.invariant.counts c.look-node.ensures.counts refl;
+      counts = omega arith;
       copied = c.push_reserved.ensures.items ∙ ap (λ l. l ++ node ∷ []) c.loop-x.invariant.copied ∙ sym (take_more e.nodes c.loop-x.x node (omega arith) ∙ ap (λ n. take c.loop-x.x e.nodes ++ n ∷ []) (get_or_from_slice_get e.nodes c.loop-x.x node node is));
       all = omega (arith, ap length items, length-append told (next ∷ []));
       facts = rw items (facts_more e.nodes expr.arena told node next c.loop-x.invariant.facts here (c.facts_of-next.ensures e.nodes e.groups expr c.loop-x.invariant.facts here));

@@ -1,9 +1,10 @@
-use Rattle.std.proofs.Common.{◌≡◌, ◌+◌, ◌-◌, ◌*◌, refl, Some, ap, ◌∙◌, arith, ◌&&◌}
+use Rattle.std.proofs.Common.{◌≡◌, ◌-◌, refl, Some, ap, ◌∙◌, arith, ◌&&◌}
 use Rattle.std.specs.Prelude.{slice_get, slice_index_or, false}
+use Rattle.sedre.specs.Steps.{TakesAtLeast, TakesExactly}
 use Rattle.sedtext.specs.Matching.{byte_is_in}
 use Rattle.sedpass.specs.Prepared.{null_in}
 use Rattle.sedpass.specs.Rows.{nodes_of, InTree}
-use Rattle.sedpass.proofs.CountLemmas.{least_none, least_two}
+use Rattle.sedpass.proofs.CountLemmas.{least_none}
 use Rattle.sedpass.proofs.FactLemmas.{inside_seen}
 use Rattle.sedpass.proofs.RowLemmas.{up}
 use Rattle.sedpass.proofs.rows.ascend.Goals as goal
@@ -23,6 +24,7 @@ loop-x-init c = record {
 }
 
 pub loop-x-preserved : goal.loop-x-preserved
+unfolding TakesAtLeast TakesExactly
 loop-x-preserved c =
     let e = c.args.prepared.now.arena.expr in
     let nodes = nodes_of c.args.way e in
@@ -34,8 +36,7 @@ loop-x-preserved c =
       grows = omega arith;
       above = omega arith;
       cost = omega arith;
-      counts = least_two c.args.steps.now c.loop-x.steps c.look-node.new.steps c.ends_here-here.new.steps c.set.new.steps (2 * (x - c.low-low.result)) (2 * (x + 1 - c.low-low.result))
-          c.loop-x.invariant.counts c.look-node.ensures.counts (omega arith) c.set.ensures.counts (omega arith);
+      counts = omega arith;
       kept = c.loop-x.invariant.kept;
       ended = λ w s place nulls took.
           up nodes w c.args.root x place s node c.look-node.ensures.arena (inside_seen c.args.way.mirrored e c.args.root c.requires.root) there is (null_in e.nodes c.args.kind) nulls
