@@ -1,6 +1,6 @@
 -- Private to the proofs: no contract that `sedmatch` makes public cites what stands here.
 -- How classes of bytes are found: keys, and a number for each key that comes.
-use Rattle.std.specs.Prelude.{◌≡◌, ℕ, ◌+◌, ◌≤◌, ◌<◌, ◌⊎◌, Bool, List, slice_index_or}
+use Rattle.std.specs.Prelude.{◌≡◌, ℕ, ◌+◌, ◌≤◌, ◌<◌, ◌⊎◌, Bool, List, length, slice_index_or}
 use Rattle.sedre.specs.Sets.{has}
 
 -- each number below count is given once at most; a key without a number has 256
@@ -18,6 +18,7 @@ pub record IsGiven (numbers : List ℕ) (key count : ℕ) (after : List ℕ) (ne
 
 -- classes of which each lies in one old class, and within the set or outside it
 pub record IsFiner (old : List ℕ) (members : List Bool) (of : List ℕ) (count : ℕ) : Type 0 where
+  pub wide : length of ≡ 256
   pub few : count ≤ 256
   pub below : (byte : ℕ) → byte < 256 → slice_index_or of byte 0 < count
   pub alike : (one other : ℕ) → one < 256 → other < 256 → slice_index_or of one 0 ≡ slice_index_or of other 0 →

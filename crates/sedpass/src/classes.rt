@@ -45,7 +45,8 @@ fn split(classes: &[u8; 256], set: &ByteSet) -> Classes
     Classes { of, count }
 }
 
-/// The classes of bytes of an expression with these sets.
+/// The classes of bytes of an expression with these sets. A set of one byte costs nothing: that has a class of its own, as long as
+/// there are numbers.
 pub fn classes_of(sets: &[ByteSet]) -> Classes
     ensures { (nodes : List Node) → HaveSets nodes sets.now → AreClasses nodes result.of result.count }
 {
@@ -54,7 +55,13 @@ pub fn classes_of(sets: &[ByteSet]) -> Classes
         count: 1,
     };
     for i in 0..sets.len() {
-        classes = split(&classes.of, &sets[i]);
+        match sets[i].sole() {
+            Some(byte) if classes.count < 256 => {
+                classes.of[byte as usize] = classes.count as u8;
+                classes.count += 1;
+            }
+            _ => classes = split(&classes.of, &sets[i]),
+        }
     }
     classes
 }

@@ -28,4 +28,4 @@ loop-byte-preserved c =
 pub returns : goal.returns
 returns c =
     let end : c.loop-byte.byte ≡ 256 = omega arith in
-    finer c.args.classes.now c.args.set.now c.loop-byte.numbers c.loop-byte.of c.loop-byte.count (omega arith) c.loop-byte.invariant.numbering (rw (← end) c.loop-byte.invariant.given)
+    finer c.args.classes.now c.args.set.now c.loop-byte.numbers c.loop-byte.of c.loop-byte.count c.loop-byte.invariant.wide (omega arith) c.loop-byte.invariant.numbering (rw (← end) c.loop-byte.invariant.given)
