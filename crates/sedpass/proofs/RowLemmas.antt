@@ -1,4 +1,4 @@
--- How the marks at a place follow from what the leaves took, and that what is entered at a place decides the next.
+-- How the marks at a place follow from what the leaves took, and what a row tells.
 use Rattle.std.proofs.Common.{length-set, ◌≡◌, ℕ, ◌+◌, ◌-◌, ◌*◌, ◌<◌, ◌≤◌, ◌⊎◌, ◌↔◌, Bool, List, length, Option, Some, None, IsTrue, refl, sym, ap, ◌∙◌, subst, inl, inr, ⊎_elim, true≢false, true, false, ◌&&◌, ◌||◌, arith}
 use Rattle.std.specs.Prelude.{slice_get, slice_index_or, slice_set, eqb, nat_lt, reverse}
 use Rattle.std.proofs.Math.Path.{fun_ext}
@@ -186,7 +186,7 @@ dead nodes w r p i k s arena inside none start low high at =
     let met = (meets_whole nodes w r p s (one_start k) arena inside).1 (i, k, start, low, high, at, (omega arith, omega arith)) in
     none met.0 met.1 met.2 met.3
 
--- What the loops of `close` keep.
+-- What the scans keep.
 
 InTree-inside : (nodes : List Node) → IsArena nodes → (r x : ℕ) → InTree nodes r x → x ≤ r
 InTree-inside nodes arena r x (is_tree _ e) = omega arith
@@ -210,19 +210,17 @@ tree_told nodes arena r x (part_of y _ node is part up) =
     (part_of y x node is part up, inr (y, node, omega arith, high, is, part))
 
 tree_step : (nodes : List Node) (r x : ℕ) (node : Node) → slice_get nodes x ≡ Some node → (c : ℕ) → TreeFrom nodes r x c → TreeFrom nodes r (x + 1) c ⊎ IsPart node c
-tree_step nodes r x node is c told =
-    ⊎_elim
-    (λ (e : c ≡ r). inl (told.0, inl e))
-    (λ (h : (z : ℕ) × (n : Node) × (x ≤ z) × (z ≤ r) × (slice_get nodes z ≡ Some n) × IsPart n c).
-    let low = h.2 in
-    ⊎_elim
-    (λ (e : h.0 ≡ x).
-    let same : slice_get nodes h.0 ≡ slice_get nodes x = ap (slice_get nodes) e in
-    let here : h.1 ≡ node = (let at = h.4 in cc) in
-    inr (subst (λ n. IsPart n c) here h.5))
-    (λ (ne : h.0 ≡ x → ⊥). inl (told.0, inr (h.0, h.1, omega arith, h.3, h.4, h.5)))
-    (cases_eq h.0 x))
-    told.1
+tree_step nodes r x node is c told = elim told.1 [
+  | inl e ↦ inl (told.0, inl e)
+  | inr h ↦ let low = h.2 in
+      elim (cases_eq h.0 x) [
+        | inl e ↦
+            let at : slice_get nodes x ≡ Some h.1 = ap (slice_get nodes) (sym e) ∙ h.4 in
+            let here : h.1 ≡ node = cc in
+            inr (subst (λ n. IsPart n c) here h.5)
+        | inr ne ↦ inl (told.0, inr (h.0, h.1, omega arith, h.3, h.4, h.5))
+      ]
+]
 
 pub set_other : (marks after : List Bool) (x c : ℕ) (v : Bool) → (c ≡ x → ⊥) → after ≡ slice_set marks x v → slice_index_or after c false ≡ slice_index_or marks c false
 set_other marks after x c v ne is = ap (λ l. slice_index_or l c false) is ∙ get_or-set_other marks x c v false ne
@@ -230,19 +228,15 @@ set_other marks after x c v ne is = ap (λ l. slice_index_or l c false) is ∙ g
 pub set_same : (marks after : List Bool) (x : ℕ) (v : Bool) → x < length marks → after ≡ slice_set marks x v → slice_index_or after x false ≡ v
 set_same marks after x v inside is = ap (λ l. slice_index_or l x false) is ∙ get_or-set_same marks x v false inside
 
--- one more mark that tells the truth
+-- one more bit that tells the truth
+one_told : (bits after : ℕ → Bool) (P : ℕ → Type 0) (x : ℕ) (v : Bool) → after x ≡ v → (IsTrue v ↔ P x) → ((c : ℕ) → (c ≡ x → ⊥) → after c ≡ bits c) → (c : ℕ) → ((c ≡ x → ⊥) → IsTrue (bits c) ↔ P c) → IsTrue (after c) ↔ P c
+one_told bits after P x v is truth others c old = ⊎_elim (λ (e : c ≡ x). rw (e, is) truth) (λ (ne : c ≡ x → ⊥). rw (others c ne) (old ne)) (cases_eq c x)
+
 mark_one : (marks after : List Bool) (x : ℕ) (v : Bool) (S R P : ℕ → Type 0) → after ≡ slice_set marks x v → x < length marks → (IsTrue v ↔ P x) → ((c : ℕ) → R c → S c ⊎ (c ≡ x)) →
     Marked marks S P → Marked after R P
 mark_one marks after x v S R P is inside truth more marked c told =
-    ⊎_elim
-    (λ (e : c ≡ x).
-    let at = subst (λ n. slice_index_or after n false ≡ v) (sym e) (set_same marks after x v inside is) in
-    (λ h. subst P (sym e) (truth.0 (sym at ∙ h)), λ h. at ∙ truth.1 (subst P e h)))
-    (λ (ne : c ≡ x → ⊥).
-    let at = set_other marks after x c v ne is in
-    let old : IsTrue (slice_index_or marks c false) ↔ P c = ⊎_elim (λ (h : S c). marked c h) (λ (e : c ≡ x). absurd (ne e)) (more c told) in
-    (λ h. old.0 (sym at ∙ h), λ h. at ∙ old.1 h))
-    (cases_eq c x)
+    one_told (λ n. slice_index_or marks n false) (λ n. slice_index_or after n false) P x v (set_same marks after x v inside is) truth (λ n ne. set_other marks after x n v ne is) c
+    (λ ne. elim (more c told) [ inl h ↦ marked c h | inr e ↦ absurd (ne e) ])
 
 module _ (nodes : List Node) (w : List ℕ) (r x p : ℕ) (s : Starts) (node : Node) (arena : IsArena nodes) (inside : r < length nodes) (there : InTree nodes r x) (is : slice_get nodes x ≡ Some node)
     (null : ℕ → Bool) (nulls : AreNull nodes w p null) where
@@ -348,12 +342,8 @@ tell_none bits P y none all c = (λ h. absurd (false_bit (bits c) (none c) h), �
 
 tell_more : (bits after : ℕ → Bool) (P : ℕ → Type 0) (x : ℕ) (v : Bool) → after x ≡ v → (IsTrue v ↔ P x) → ((c : ℕ) → (c ≡ x → ⊥) → after c ≡ bits c) → TellFrom (x + 1) bits P → TellFrom x after P
 tell_more bits after P x v is truth others told c =
-    ⊎_elim
-    (λ (e : c ≡ x). (λ h. (omega arith, subst P (sym e) (truth.0 (sym is ∙ ap after (sym e) ∙ h))), λ h. ap after e ∙ is ∙ truth.1 (subst P e h.1)))
-    (λ (ne : c ≡ x → ⊥).
-    let same = others c ne in
-    (λ h. let old = (told c).0 (sym same ∙ h) in let low = old.0 in (omega arith, old.1), λ h. let low = h.0 in same ∙ (told c).1 (omega arith, h.1)))
-    (cases_eq c x)
+    one_told bits after (λ n. (x ≤ n) × P n) x v is (λ h. (omega arith, truth.0 h), λ h. truth.1 h.1) others c
+    (λ ne. (λ h. let old = (told c).0 h in let low = old.0 in (omega arith, old.1), λ h. let low = h.0 in (told c).1 (omega arith, h.1)))
 
 tell_all : (bits : ℕ → Bool) (P : ℕ → Type 0) (low : ℕ) → ((c : ℕ) → P c → low ≤ c) → TellFrom low bits P → (c : ℕ) → IsTrue (bits c) ↔ P c
 tell_all bits P low all told c = (λ h. ((told c).0 h).1, λ h. (told c).1 (all c h, h))

@@ -1,5 +1,5 @@
 -- Private to the proofs: no contract that `sedmatch` makes public cites what stands here.
--- What a state of a pass tells of a place, how it follows from what the leaves took, and that it decides the next.
+-- What a row tells of a place, how the marks at a place follow from what the leaves took, and when one row leads to another.
 use Rattle.std.specs.Prelude.{◌≡◌, ℕ, ◌+◌, ◌≤◌, ◌<◌, ◌⊎◌, ◌↔◌, Bool, true, false, ◌&&◌, ◌||◌, List, length, slice_get, slice_index_or, Option, Some, IsTrue, nat_lt}
 use Rattle.sedre.specs.Arena.{IsPart}
 use Rattle.sedre.specs.Tree.{WrittenExpression}
@@ -31,23 +31,17 @@ at_end false kind = kind.end
 abbrev pub bits : ℕ → List Bool → ℕ → Bool
 bits m marks c = nat_lt c m && slice_index_or marks c false
 
--- How a node's marks at a place follow from those of others.
-
 -- the leaf could begin one byte before the place, and its set has that byte
 abbrev pub Took : List Node → List ℕ → ℕ → Starts → ℕ → ℕ → List Bool → Type 0
 Took nodes w r s j x members = (i : ℕ) × (i + 1 ≡ j) × Enters nodes w r s x i × IsTrue (byte_is_in (slice_get w i) members)
 
--- What a row decides.
-
--- the byte at p and the one at q are in the same sets
+-- the two bytes are in the same sets
 abbrev pub SameBytes : List Node → Option ℕ → Option ℕ → Type 0
 SameBytes nodes a b = (x : ℕ) (members : List Bool) → slice_get nodes x ≡ Some (Set members) → byte_is_in a members ≡ byte_is_in b members
 
 -- no leaf is entered at the place
 abbrev pub NoneEntered : List Node → List ℕ → ℕ → Starts → ℕ → Type 0
 NoneEntered nodes w r s p = (c : ℕ) (members : List Bool) → slice_get nodes c ≡ Some (Set members) → Enters nodes w r s c p → ⊥
-
--- What the loops of `close` keep.
 
 -- x is the node r or stands in it
 pub data InTree (nodes : List Node) (r : ℕ) : ℕ → Type 0 where
