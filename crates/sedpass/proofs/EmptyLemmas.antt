@@ -1,5 +1,5 @@
 -- The expression of one node that matches the null string.
-use Rattle.std.proofs.Common.{◌≡◌, ℕ, zero, suc, ◌+◌, ◌<◌, ◌≤◌, Bool, true, false, true≢false, List, [], ◌∷◌, Some, refl, sym, ◌∙◌, ap, subst, arith}
+use Rattle.std.proofs.Common.{◌≡◌, ℕ, zero, suc, ◌+◌, ◌<◌, ◌≤◌, false, List, [], ◌∷◌, Some, refl, sym, ◌∙◌, ap, subst, arith}
 use Rattle.std.proofs.lemmas.Option.{same_Some, none-some}
 use Rattle.std.specs.Prelude.{slice_get}
 use Rattle.sedre.specs.Arena.{IsArena, IsExpr, IsPart, HasTwoParts, FollowsParts, GroupsWithin}
@@ -38,20 +38,11 @@ one_node : size (tree_at empty_nodes 0) ≡ 1
 one_node = ap size one_tree
 
 sizes : (x : ℕ) → x < 1 → size (tree_at empty_nodes x) ≤ x + 1
-sizes zero less = let one = one_node in omega (arith, one)
+sizes zero less = omega (arith, one_node)
 sizes (suc x) less = absurd (omega (arith, less))
 
--- a node that is a group
-abbrev is_group : Node → Bool
-is_group (Group k a) = true
-is_group other = false
-
-abbrev is_empty : Node → Bool
-is_empty Empty = true
-is_empty other = false
-
 numbers : GroupsWithin empty_nodes 0
-numbers x k a is = absurd (true≢false (sym (ap is_group (only x (Group k a) is).1)))
+numbers x k a is = let same = (only x (Group k a) is).1 in absurd cc
 
 pub empty_expr : IsExpr empty_nodes 0
 empty_expr = record {
@@ -72,7 +63,7 @@ nulls_only zero first last inside = ap (nullable first last) one_tree ∙ sym (a
 nulls_only (suc x) first last inside = absurd (omega (arith, inside))
 
 no_sets : HaveSets empty_nodes []
-no_sets x members is = absurd (true≢false (ap is_empty (only x (Set members) is).1))
+no_sets x members is = let same = (only x (Set members) is).1 in absurd cc
 
 pub empty_prepared : (told : Facts) (of : List ℕ) (count : ℕ) → IsFacts empty 0 told → ((nodes : List Node) → HaveSets nodes [] → AreClasses nodes of count) →
     IsPrepared (record { nodes = empty_nodes; groups = 0 }) 0 (told ∷ []) of count false

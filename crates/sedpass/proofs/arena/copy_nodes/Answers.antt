@@ -44,15 +44,9 @@ loop-x-preserved c =
       copied = c.push_reserved.ensures.items ∙ ap (λ l. l ++ node ∷ []) c.loop-x.invariant.copied ∙ sym (take_more e.nodes c.loop-x.x node (omega arith) ∙ ap (λ n. take c.loop-x.x e.nodes ++ n ∷ []) (get_or_from_slice_get e.nodes c.loop-x.x node node is));
       all = omega (arith, ap length items, length-append told (next ∷ []));
       facts = rw items (facts_more e.nodes expr.arena told node next c.loop-x.invariant.facts here (c.facts_of-next.ensures e.nodes e.groups expr c.loop-x.invariant.facts here));
-      nodes_room = c.push_reserved.ensures.capacity ∙ c.loop-x.invariant.nodes_room;
-      facts_room = c.push_reserved-in-loop-x.ensures.capacity ∙ c.loop-x.invariant.facts_room;
+      nodes_room = cc;
+      facts_room = cc;
     }
 
 pub returns-clause-copied : goal.returns-clause-copied
 returns-clause-copied c = c.loop-x.invariant.copied ∙ take_all c.loop-x.x c.args.expr.now.nodes (omega arith)
-
-pub returns-clause-nodes_room : goal.returns-clause-nodes_room
-returns-clause-nodes_room c = c.loop-x.invariant.nodes_room ∙ c.clear.ensures.capacity
-
-pub returns-clause-facts_room : goal.returns-clause-facts_room
-returns-clause-facts_room c = c.loop-x.invariant.facts_room ∙ c.clear-2.ensures.capacity
