@@ -1,5 +1,5 @@
 -- What a table says, and what is kept of a pass, depends on the expression alone: made ready once more, it holds as before.
-use Rattle.std.proofs.Common.{◌≡◌, ℕ, ◌-◌, ◌<◌, Bool, List, length, ap, sym, ◌∙◌, subst, arith}
+use Rattle.std.proofs.Common.{◌≡◌, ℕ, ◌<◌, Bool, List, length, ap, sym, ◌∙◌, subst, arith}
 use Rattle.sedre.specs.Tree.{WrittenExpression}
 use Rattle.sedpass.specs.Cells.{IsColumn}
 use Rattle.sedpass.specs.Kept.{IsKept, IsRegion}

@@ -168,18 +168,6 @@ module _ (nodes : List Node) (w : List ℕ) (r : ℕ) (s : Starts) (arena : IsAr
               truth.1 (elim (last_copy x from.0 p a first is from.1 from.2) [ inl none ↦ inl (subst (λ k. Enters nodes w r s x k) none from.1) | inr end ↦ inr end ]),
         )
 
-  -- and the root where a match may begin
-  pub enters_root : (j : ℕ) → Enters nodes w r s r j ↔ IsStart s j
-  enters_root j = (Enters-root nodes w r s arena r j refl, at_root r j refl)
-
--- before its first start no leaf took a byte
-first_took : (nodes : List Node) (w : List ℕ) (r x p : ℕ) (s : Starts) (m : List Bool) → p ≤ s.first → Took nodes w r s p x m → ⊥
-first_took nodes w r x p s m low h = let up = Enters-from nodes w r s x h.0 h.2 in let next = h.1 in omega arith
-
--- the root ends where a match does
-pub root_ends : (nodes : List Node) (w : List ℕ) (r p : ℕ) (s : Starts) → IsArena nodes → EndsAt nodes w r s r p ↔ SomeSpan nodes w r s p
-root_ends nodes w r p s arena = (λ h. (h.0, Enters-root nodes w r s arena r h.0 refl h.1, h.2), λ h. (h.0, at_root r h.0 refl h.1, h.2))
-
 -- where no leaf is entered no match goes on
 pub dead : (nodes : List Node) (w : List ℕ) (r p i k : ℕ) (s : Starts) → IsArena nodes → r < length nodes → NoneEntered nodes w r s p → IsStart s i → i ≤ p → p < k → At nodes w r i k → ⊥
 dead nodes w r p i k s arena inside none start low high at =
@@ -202,7 +190,8 @@ enters_tree nodes w r s x j (with_whole y _ _ node is begins e) = part_of y x no
 enters_tree nodes w r s x j (after_left y _ i _ a b is right e at) = part_of y x (Seq a b) is (inr right) (enters_tree nodes w r s y i e)
 enters_tree nodes w r s x j (again y _ i _ a first is inner e at) = part_of y x (Star a first) is inner (enters_tree nodes w r s y i e)
 
-tree_told : (nodes : List Node) → IsArena nodes → (r x : ℕ) → InTree nodes r x → TreeFrom nodes r (x + 1) x
+-- a node in r is r, or a part of one above it
+pub tree_told : (nodes : List Node) → IsArena nodes → (r x : ℕ) → InTree nodes r x → TreeFrom nodes r (x + 1) x
 tree_told nodes arena r x (is_tree _ e) = (is_tree x e, inl e)
 tree_told nodes arena r x (part_of y _ node is part up) =
     let high = InTree-inside nodes arena r y up in
@@ -260,16 +249,10 @@ module _ (nodes : List Node) (w : List ℕ) (r x p : ℕ) (s : Starts) (node : N
 pub down_root : (nodes : List Node) (w : List ℕ) (r p y : ℕ) (s : Starts) (first : Bool) (marks after : List Bool) → IsArena nodes → r < y → r < length marks → after ≡ slice_set marks r first → (IsTrue first ↔ IsStart s p) →
     Marked after (TreeFrom nodes r y) (λ c. Enters nodes w r s c p)
 down_root nodes w r p y s first marks after arena all long is_after begins =
-    let law = enters_root nodes w r s arena p in
     mark_one marks after r first (λ c. ⊥) (TreeFrom nodes r y) (λ c. Enters nodes w r s c p) is_after long
-    (λ h. law.1 (begins.0 h), λ h. begins.1 (law.0 h))
+    (λ h. at_root r p refl (begins.0 h), λ h. begins.1 (Enters-root nodes w r s arena r p refl h))
     (λ c told. ⊎_elim (λ (e : c ≡ r). inr e) (λ (h : (z : ℕ) × (n : Node) × (y ≤ z) × (z ≤ r) × (slice_get nodes z ≡ Some n) × IsPart n c). absurd (let low = h.2 in let high = h.3 in omega arith)) told.1)
     (λ c none. absurd none)
-
--- when a node's turn comes, its own mark is right
-pub here_right : (nodes : List Node) (w : List ℕ) (r x p : ℕ) (s : Starts) (marks : List Bool) → IsArena nodes → InTree nodes r x →
-    Marked marks (TreeFrom nodes r (x + 1)) (λ c. Enters nodes w r s c p) → IsTrue (slice_index_or marks x false) ↔ Enters nodes w r s x p
-here_right nodes w r x p s marks arena there marked = marked x (tree_told nodes arena r x there)
 
 -- one turn of the scan downwards
 module _ (nodes : List Node) (w : List ℕ) (r x p : ℕ) (s : Starts) (arena : IsArena nodes) (inside : r < length nodes) (there : InTree nodes r x)
@@ -279,7 +262,7 @@ module _ (nodes : List Node) (w : List ℕ) (r x p : ℕ) (s : Starts) (arena : 
   here_mark = slice_index_or marks x false
 
   here_told : IsTrue here_mark ↔ Enters nodes w r s x p
-  here_told = here_right nodes w r x p s marks arena there marked
+  here_told = marked x (tree_told nodes arena r x there)
 
   low_root : x ≤ r
   low_root = InTree-inside nodes arena r x there
@@ -405,10 +388,12 @@ pub class_row : (nodes : List Node) (r : ℕ) (keeps end start : Bool) (entered 
     LeadsTo nodes r keeps entered ended byte end start after after_ended → LeadsTo nodes r keeps entered ended other end start after after_ended
 class_row nodes r keeps end start entered ended after after_ended byte other same leads w s p at = leads w s p (λ x m is. at x m is ∙ same x m is)
 
+-- the root ends where a match does
 pub row_root : (nodes : List Node) (w : List ℕ) (r p : ℕ) (s : Starts) (keeps : Bool) (entered ended : ℕ → Bool) → IsArena nodes → RowOfPlace nodes w r s keeps p entered ended → IsTrue (ended r) ↔ SomeSpan nodes w r s p
-row_root nodes w r p s keeps entered ended arena row =
-    let law = root_ends nodes w r p s arena in
-    (λ h. law.0 ((row.ends r).0 h).1, λ h. (row.ends r).1 (inr refl, law.1 h))
+row_root nodes w r p s keeps entered ended arena row = (
+  λ h. let f = ((row.ends r).0 h).1 in (f.0, Enters-root nodes w r s arena r f.0 refl f.1, f.2),
+  λ h. (row.ends r).1 (inr refl, (h.0, at_root r h.0 refl h.1, h.2)),
+)
 
 pub row_empty : (nodes : List Node) (w : List ℕ) (r p : ℕ) (s : Starts) (keeps : Bool) (entered ended : ℕ → Bool) → RowOfPlace nodes w r s keeps p entered ended → ((c : ℕ) → entered c ≡ false) → NoneEntered nodes w r s p
 row_empty nodes w r p s keeps entered ended row none c m is h = false_bit (entered c) (none c) ((row.leaves c).1 (m, is, h))
@@ -491,14 +476,14 @@ bits_other m marks after x v is c ne = ap (λ b. nat_lt c m && b) (set_other mar
 
 pub bits_clear : (m : ℕ) (marks : List Bool) → ((c : ℕ) → c < m → slice_index_or marks c false ≡ false) → (c : ℕ) → bits m marks c ≡ false
 bits_clear m marks clear c =
-    elim (cases_lt c m) [ inl lt ↦ bits_here m marks c lt ∙ clear c lt | inr ge ↦ ap (λ b. b && slice_index_or marks c false) (le-ltb c m ge) ]
+    elim (cases_lt c m) [ inl lt ↦ bits_here m marks c lt ∙ clear c lt | inr ge ↦ rw (le-ltb c m ge) refl ]
 
 -- marks that agree are the same bits
 pub bits_agree : (m : ℕ) (marks other : List Bool) → AgreeBelow m marks other → bits m marks ≡ bits m other
-bits_agree m marks other agree = fun_ext (λ c. ⊎_elim
-    (λ (lt : c < m). bits_here m marks c lt ∙ agree c lt ∙ sym (bits_here m other c lt))
-    (λ (ge : m ≤ c). ap (λ b. b && slice_index_or marks c false) (le-ltb c m ge) ∙ sym (ap (λ b. b && slice_index_or other c false) (le-ltb c m ge)))
-    (cases_lt c m))
+bits_agree m marks other agree = fun_ext (λ c. elim (cases_lt c m) [
+  | inl lt ↦ bits_here m marks c lt ∙ agree c lt ∙ sym (bits_here m other c lt)
+  | inr ge ↦ rw (le-ltb c m ge) refl
+])
 
 -- the node of least index is a leaf: it has no part to enter
 pub enters_few : (x : ℕ) (node : Node) → PartsBelow x node → 6 + enter_looks node + (10 * x - 4) ≤ 10 * (x + 1) - 4
@@ -514,11 +499,11 @@ pub took_bits : (nodes : List Node) (w : List ℕ) (r p : ℕ) (s : Starts) (kee
     RowOfPlace nodes w r s keeps p (bits m leaves) before → TellTook nodes w r s (p + 1) byte leaves
 took_bits nodes w r p s keeps m leaves before byte long bytes row c members inside is =
     let low = slice_get_within nodes c (Set members) is in
-    let same : (bits m leaves c && byte_is_in byte members) ≡ (slice_index_or leaves c false && byte_is_in byte members) = ap (λ b. b && byte_is_in byte members) (bits_here m leaves c (omega arith)) in
-    let law = row_took nodes w r c p s keeps (bits m leaves) before byte members row bytes is in
-    (λ h. law.0 (same ∙ h), λ h. sym same ∙ law.1 h)
+    rw (← bits_here m leaves c (omega arith)) (row_took nodes w r c p s keeps (bits m leaves) before byte members row bytes is)
 
 -- none did before the first start
 pub first_bits : (nodes : List Node) (w : List ℕ) (r : ℕ) (s : Starts) (leaves : List Bool) → TellTook nodes w r s s.first None leaves
-first_bits nodes w r s leaves c members inside is =
-    (λ h. absurd (true≢false (sym (and_parts (slice_index_or leaves c false) false h).1)), λ h. absurd (first_took nodes w r c s.first s members (omega arith) h))
+first_bits nodes w r s leaves c members inside is = (
+  λ h. absurd (true≢false (sym (and_parts (slice_index_or leaves c false) false h).1)),
+  λ h. let up = Enters-from nodes w r s c h.0 h.2 in let next = h.1 in absurd (omega arith),
+)

@@ -8,7 +8,7 @@ use Rattle.sedpass.specs.Prepared.{null_in}
 use Rattle.sedpass.specs.Rows.{nodes_of, bits, InTree, TreeFrom, RowFrom}
 use Rattle.sedpass.proofs.CountLemmas.{least_none}
 use Rattle.sedpass.proofs.FactLemmas.{inside_seen}
-use Rattle.sedpass.proofs.RowLemmas.{down, down_root, enters_few, here_right, row_none, row_step, row_done, bits_clear, bits_set, bits_other}
+use Rattle.sedpass.proofs.RowLemmas.{down, down_root, enters_few, tree_told, row_none, row_step, row_done, bits_clear, bits_set, bits_other}
 use Rattle.sedpass.proofs.rows.descend.Goals as goal
 
 pub loop-x-init : goal.loop-x-init
@@ -60,7 +60,7 @@ loop-x-preserved c =
           let old : Marked c.loop-x.work.entered (TreeFrom nodes r (x + 1)) (λ n. Enters nodes w r s n place) × RowFrom nodes w r s c.args.way.keeps place (x + 1) (bits m c.loop-x.work.leaves) (bits m c.loop-x.work.ends) =
           rw (← above) (c.loop-x.invariant.told w s place nulls ends begins) in
           let told : Marked c.loop-x.work.ended (InTree nodes r) (λ n. Ends nodes w r s n place) = rw c.loop-x.invariant.kept ends in
-          let mark = here_right nodes w r x place s c.loop-x.work.entered arena there old.0 in
+          let mark = old.0 x (tree_told nodes arena r x there) in
           let end = told x there in
           let none = nulls x (inside_seen c.args.way.mirrored e x (omega arith)) in (
             down nodes w r x place s arena (inside_seen c.args.way.mirrored e r c.requires.root) there null ended nulls told c.loop-x.work.entered (omega (arith, seen-length c.args.way.mirrored e)) old.0 node c.enter.new.work.entered is value,

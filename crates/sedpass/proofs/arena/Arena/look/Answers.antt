@@ -3,7 +3,7 @@ use Rattle.std.specs.Prelude.{slice_get, length}
 use Rattle.std.proofs.lemmas.Option.{slice_get_read}
 use Rattle.sedre.specs.Arena.{IsArena}
 use Rattle.sedre.specs.Tree.{WrittenExpression}
-use Rattle.sedre.specs.Mirror.{seen, node_seen}
+use Rattle.sedre.specs.Mirror.{seen}
 use Rattle.sedre.proofs.MirrorLemmas.{seen-arena, seen-node}
 use Rattle.sedtext.proofs.NodeLemmas.{parts_below}
 use Rattle.sedpass.specs.Held.{Held}
