@@ -134,12 +134,13 @@ impl Layout {
         ensures { IfSome result (IsColumn self.now byte edge) }
     {
         let class = self.classes[byte as usize] as usize;
-        let first = if edge { self.edge? } else { 0 };
-        if class < self.columns {
-            first.checked_add(class)
-        } else {
-            None
+        if class >= self.columns {
+            return None;
         }
+        if !edge {
+            return Some(class);
+        }
+        self.edge?.checked_add(class)
     }
 }
 
