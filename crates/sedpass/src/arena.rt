@@ -117,11 +117,12 @@ impl Arena {
         node_seen(self.nodes[x], mirrored)
     }
 
-    /// For proofs: the nodes are those of an expression.
+    /// How many groups there are; and, for proofs, that the nodes are those of an expression.
     #[inline(always)]
-    pub fn is_expression(&self)
-        ensures { IsExpr self.now.expr.nodes self.now.expr.groups }
+    pub fn groups(&self) -> usize
+        ensures value { result ≡ self.now.expr.groups }
+        ensures expr { IsExpr self.now.expr.nodes self.now.expr.groups }
     {
-        let _groups = self.groups;
+        self.groups
     }
 }

@@ -57,8 +57,7 @@ impl Work {
     }
 }
 
-/// Whether the node x ends here after at least one byte, given the marks of its parts: a leaf if it was entered and took the byte
-/// that came, if one did.
+/// Whether the node x ends here after at least one byte: a leaf, if it was entered and took the byte that came.
 #[inline(always)]
 fn ends_here(
     prepared: &Prepared,
