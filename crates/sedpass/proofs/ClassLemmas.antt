@@ -1,179 +1,111 @@
 -- How classes of bytes are found.
-use Rattle.std.proofs.Common.{◌≡◌, ℕ, ◌+◌, ◌*◌, ◌<◌, ◌≤◌, ◌⊎◌, Bool, true, false, List, length, length-set, Some, refl, sym, ap, ◌∙◌, subst, inl, inr, ⊎_elim, arith}
-use Rattle.std.specs.Prelude.{slice_get, slice_index_or, slice_set, cond}
+use Rattle.std.proofs.Common.{◌≡◌, ℕ, ◌+◌, ◌*◌, ◌<◌, ◌≤◌, Bool, true, false, List, length, length-set, Some, IsTrue, refl, inl, inr, sym, ap, ◌∙◌, ⊎_elim, arith}
+use Rattle.std.specs.Prelude.{slice_get, slice_index_or, slice_set}
+use Rattle.std.specs.Int.{from_bool}
 use Rattle.std.proofs.lemmas.List.{get_or-set_same, get_or-set_other}
-use Rattle.std.proofs.lemmas.Bool.{ne_eqb, cases_eq, eq-eqb}
+use Rattle.std.proofs.lemmas.Bool.{cases_eq, cases_Bool}
+use Rattle.std.proofs.lemmas.Option.{same_Some}
 use Rattle.sedre.specs.Sets.{has}
-use Rattle.sedre.specs.declared.types.Node.{Node}
-use Rattle.sedre.specs.declared.types.Node.TheVariants.{Set}
-use Rattle.sedpass.specs.Classes.{with_number, count_with, IsNumbering, IsNumbered, side_key, own_key, AreKeys, AreParted, IsFiner}
-use Rattle.sedpass.specs.Prepared.{AreClasses}
+use Rattle.sedpass.specs.Classes.{IsNumbering, IsGiven, IsFiner}
 
 abbrev at : List ℕ → ℕ → ℕ
 at xs k = slice_index_or xs k 0
 
--- what one key more tells
-pub record Given (numbers : List ℕ) (key count : ℕ) (after : List ℕ) (next : ℕ) : Type 0 where
-  pub numbering : IsNumbering after next
-  pub here : at after key < next
-  pub grows : count ≤ next
-  pub few : next ≤ count + 1
-  pub long : length after ≡ 512
-  pub kept : (k : ℕ) → at numbers k < count → at after k ≡ at numbers k
+-- the key of a byte: its class, and whether it is in the set
+abbrev pub key_of : List ℕ → List Bool → ℕ → ℕ
+key_of classes members byte = 2 * at classes byte + from_bool (has members byte)
 
-module _ (numbers : List ℕ) (key count : ℕ) (long : length numbers ≡ 512) (low : key < 512) (few : count < 256) (numbering : IsNumbering numbers count) where
-  module _ (none : at numbers key ≡ 256) where
-    abbrev put : List ℕ
-    put = slice_set numbers key count
+pub bit_low : (b : Bool) → from_bool b ≤ 1
+bit_low true = omega arith
+bit_low false = omega arith
 
-    same_at : (k : ℕ) → k ≡ key → at put k ≡ count
-    same_at k e = ap (at put) e ∙ get_or-set_same numbers key count 0 (omega arith)
+-- the first n bytes have the numbers of their keys
+abbrev pub AreGiven : (ℕ → ℕ) → List ℕ → List ℕ → ℕ → ℕ → Type 0
+AreGiven key numbers of count n = (b : ℕ) → b < n → (key b < 512) × (at of b ≡ at numbers (key b)) × (at of b < count)
 
-    other_at : (k : ℕ) → (k ≡ key → ⊥) → at put k ≡ at numbers k
-    other_at k ne = get_or-set_other numbers key k count 0 ne
-
-    fresh : Given numbers key count put (count + 1)
-    fresh = record {
-      numbering = record {
-        known = λ k inside. ⊎_elim
-            (λ (e : k ≡ key). let is = same_at k e in inl (omega arith))
-            (λ (ne : k ≡ key → ⊥). let is = other_at k ne in ⊎_elim (λ (l : at numbers k < count). inl (omega arith)) (λ (u : at numbers k ≡ 256). inr (is ∙ u)) (numbering.known k inside))
-            (cases_eq k key);
-        apart = λ k o inside inside' e below. ⊎_elim
-            (λ (f : k ≡ key). ⊎_elim
-            (λ (g : o ≡ key). f ∙ sym g)
-            (λ (ne : o ≡ key → ⊥).
-            let is = same_at k f in
-            let is' = other_at o ne in
-            ⊎_elim (λ (l : at numbers o < count). absurd (omega arith)) (λ (u : at numbers o ≡ 256). absurd (omega arith)) (numbering.known o inside'))
-            (cases_eq o key))
-            (λ (ne : k ≡ key → ⊥).
-            let is = other_at k ne in
-            ⊎_elim
-            (λ (l : at numbers k < count). ⊎_elim
-            (λ (g : o ≡ key). let is' = same_at o g in absurd (omega arith))
-            (λ (ne' : o ≡ key → ⊥). let is' = other_at o ne' in numbering.apart k o inside inside' (sym is ∙ e ∙ is') l)
-            (cases_eq o key))
-            (λ (u : at numbers k ≡ 256). absurd (omega arith))
-            (numbering.known k inside))
-            (cases_eq k key);
-      };
-      here = (let is = same_at key refl in omega arith);
-      grows = omega arith;
-      few = omega arith;
-      long = length-set numbers key count ∙ long;
-      kept = λ k below. other_at k (λ e. let is = ap (at numbers) e in omega arith);
-    }
-
-  given_new : (after : List ℕ) (next : ℕ) → after ≡ slice_set numbers key count → next ≡ count + 1 → at numbers key ≡ 256 → Given numbers key count after next
-  given_new after next is is' none = subst (λ l. Given numbers key count l next) (sym is) (subst (λ n. Given numbers key count (slice_set numbers key count) n) (sym is') (fresh none))
-
-  given_old : (at numbers key ≡ 256 → ⊥) → Given numbers key count numbers count
-  given_old some = record {
-    numbering = numbering;
-    here = ⊎_elim (λ (l : at numbers key < count). l) (λ (u : at numbers key ≡ 256). absurd (some u)) (numbering.known key low);
-    grows = omega arith;
-    few = omega arith;
-    long = long;
-    kept = λ k below. refl;
-  }
-
-  pub given : (after : List ℕ) (next : ℕ) → after ≡ with_number numbers key count → next ≡ count_with numbers key count → Given numbers key count after next
-  given after next is is' =
-      ⊎_elim
-      (λ (none : at numbers key ≡ 256).
-      let yes = eq-eqb (at numbers key) 256 none in
-      given_new after next (is ∙ ap (λ b. cond b (slice_set numbers key count) numbers) yes) (is' ∙ ap (λ b. cond b (count + 1) count) yes) none)
-      (λ (some : at numbers key ≡ 256 → ⊥).
-      let no = ne_eqb (at numbers key) 256 some in
-      rw ((is ∙ ap (λ b. cond b (slice_set numbers key count) numbers) no), (is' ∙ ap (λ b. cond b (count + 1) count) no)) (given_old some))
-      (cases_eq (at numbers key) 256)
-
--- the first bytes have the numbers of their keys
-pub record AreGiven (keys numbers of : List ℕ) (count byte : ℕ) : Type 0 where
-  pub each : (b : ℕ) → b < byte → (at of b ≡ at numbers (at keys b)) × (at of b < count)
-
-pub given_more : (keys numbers of : List ℕ) (count byte : ℕ) (after of' : List ℕ) (next : ℕ) → byte < length of → Given numbers (at keys byte) count after next → of' ≡ slice_set of byte (at after (at keys byte)) →
-    AreGiven keys numbers of count byte → AreGiven keys after of' next (byte + 1)
-given_more keys numbers of count byte after of' next inside given is old = record {
-  each = λ b less. ⊎_elim
-      (λ (e : b ≡ byte).
-      let here : at of' b ≡ at after (at keys byte) = ap (at of') e ∙ ap (λ l. at l byte) is ∙ get_or-set_same of byte (at after (at keys byte)) 0 inside in
-      let low = given.here in
-      (here ∙ ap (λ n. at after (at keys n)) (sym e), omega arith))
-      (λ (ne : b ≡ byte → ⊥).
-      let there : at of' b ≡ at of b = ap (λ l. at l b) is ∙ get_or-set_other of byte b (at after (at keys byte)) 0 ne in
-      let was = old.each b (omega arith) in
-      let number = was.0 in
-      let low = was.1 in
-      let grows = given.grows in
-      (there ∙ number ∙ sym (given.kept (at keys b) (omega arith)), omega arith))
-      (cases_eq b byte);
-}
-
-pub all_numbered : (keys numbers of : List ℕ) (count : ℕ) → count ≤ 256 → ((b : ℕ) → b < 256 → at keys b < 512) → IsNumbering numbers count → AreGiven keys numbers of count 256 → IsNumbered keys of count
-all_numbered keys numbers of count few small numbering given = record {
-  few = few;
-  below = λ b less. (given.each b less).1;
-  alike = λ a b less less' e.
-      let one = given.each a less in
-      let other = given.each b less' in
-      let low = one.1 in
-      let is = one.0 in
-      numbering.apart (at keys a) (at keys b) (small a less) (small b less') (sym one.0 ∙ e ∙ other.0) (omega arith);
-}
-
-pub starting : (numbers : List ℕ) → ((k : ℕ) → k < 512 → at numbers k ≡ 256) → IsNumbering numbers 0
-starting numbers all = record {
-  known = λ k inside. inr (all k inside);
-  apart = λ k o inside inside' e below. absurd (omega (arith, below));
-}
-
--- one key more
-pub keys_more : (key : ℕ → ℕ) (n : ℕ) (keys after : List ℕ) (v : ℕ) → n < length keys → v ≡ key n → v < 512 → after ≡ slice_set keys n v → AreKeys key n keys → AreKeys key (n + 1) after
-keys_more key n keys after v inside is small is_after old b less =
+pub given_more : (key : ℕ → ℕ) (numbers of after of' : List ℕ) (count next byte k : ℕ) → byte < length of → k ≡ key byte → k < 512 → IsGiven numbers k count after next → of' ≡ slice_set of byte (at after k) →
+    AreGiven key numbers of count byte → AreGiven key after of' next (byte + 1)
+given_more key numbers of after of' count next byte k inside is small given set old b less =
     ⊎_elim
-    (λ (e : b ≡ n).
-    let here : at after b ≡ v = ap (at after) e ∙ ap (λ l. at l n) is_after ∙ get_or-set_same keys n v 0 inside in
-    (here ∙ is ∙ ap key (sym e), omega arith))
-    (λ (ne : b ≡ n → ⊥).
-    let there : at after b ≡ at keys b = ap (λ l. at l b) is_after ∙ get_or-set_other keys n b v 0 ne in
+    (λ (e : b ≡ byte).
+    let here : at of' b ≡ at after k = ap (at of') e ∙ ap (λ l. at l byte) set ∙ get_or-set_same of byte (at after k) 0 inside in
+    let same : key b ≡ k = ap key e ∙ sym is in
+    let low = given.here in
+    (omega arith, here ∙ ap (at after) (sym same), omega arith))
+    (λ (ne : b ≡ byte → ⊥).
+    let there : at of' b ≡ at of b = ap (λ l. at l b) set ∙ get_or-set_other of byte b (at after k) 0 ne in
     let was = old b (omega arith) in
-    let low = was.1 in
-    (there ∙ was.0, omega arith))
-    (cases_eq b n)
+    let number = was.1 in
+    let low = was.2 in
+    let grows = given.grows in
+    (was.0, there ∙ number ∙ sym (given.kept (key b) (omega arith)), omega arith))
+    (cases_eq b byte)
 
-sides : (c d : ℕ) (s t : Bool) → 2 * c + cond s 1 0 ≡ 2 * d + cond t 1 0 → (c ≡ d) × (s ≡ t)
+sides : (c d : ℕ) (s t : Bool) → 2 * c + from_bool s ≡ 2 * d + from_bool t → (c ≡ d) × (s ≡ t)
 sides c d true true e = (omega arith, refl)
 sides c d false false e = (omega arith, refl)
 sides c d true false e = absurd (omega arith)
 sides c d false true e = absurd (omega arith)
 
 -- a set parts classes
-pub finer : (classes keys of : List ℕ) (members : List Bool) (count : ℕ) → AreKeys (side_key classes members) 256 keys → IsNumbered keys of count → IsFiner classes members of
-finer classes keys of members count are numbered a b less less' e =
-    sides (at classes a) (at classes b) (has members a) (has members b) (sym (are a less).0 ∙ numbered.alike a b less less' e ∙ (are b less').0)
-
-own_same : (s t : Bool) (a b c d : ℕ) → c < 256 → d < 256 → cond s (256 + a) c ≡ cond t (256 + b) d → (a ≡ b) ⊎ ((s ≡ false) × (t ≡ false) × (c ≡ d))
-own_same true true a b c d low low' e = inl (omega arith)
-own_same true false a b c d low low' e = absurd (omega arith)
-own_same false true a b c d low low' e = absurd (omega arith)
-own_same false false a b c d low low' e = inr (refl, refl, e)
-
--- all sets part the classes that are found
-pub are_classes : (nodes : List Node) (sets : List (List Bool)) (alone : List Bool) (classes keys of : List ℕ) (count : ℕ) →
-    ((x : ℕ) (members : List Bool) → slice_get nodes x ≡ Some (Set members) → (k : ℕ) × (slice_get sets k ≡ Some members)) →
-    ((k : ℕ) (members : List Bool) → slice_get sets k ≡ Some members → AreParted alone classes members) →
-    AreKeys (own_key alone classes) 256 keys → ((b : ℕ) → b < 256 → at classes b < 256) → IsNumbered keys of count → AreClasses nodes of count
-are_classes nodes sets alone classes keys of count listed parted are small numbered = record {
-  some = (let first = numbered.below 0 (omega arith) in omega arith);
-  few = numbered.few;
-  below = numbered.below;
-  alike = λ a b less less' e x members is.
-      let set = listed x members is in
-      ⊎_elim
-      (λ (same : a ≡ b). ap (λ n. slice_index_or members n false) same)
-      (λ (free : (slice_index_or alone a false ≡ false) × (slice_index_or alone b false ≡ false) × (at classes a ≡ at classes b)). parted set.0 members set.1 a b less less' free.0 free.1 free.2)
-      (own_same (slice_index_or alone a false) (slice_index_or alone b false) a b (at classes a) (at classes b) (small a less) (small b less')
-      (sym (are a less).0 ∙ numbered.alike a b less less' e ∙ (are b less').0));
+pub finer : (classes : List ℕ) (members : List Bool) (numbers of : List ℕ) (count : ℕ) → length of ≡ 256 → count ≤ 256 → IsNumbering numbers count → AreGiven (key_of classes members) numbers of count 256 → IsFiner classes members of count
+finer classes members numbers of count wide few numbering given = record {
+  wide = wide;
+  few = few;
+  below = λ b less. (given b less).2;
+  alike = λ a b less less' e.
+      let one = given a less in
+      let other = given b less' in
+      let low = one.2 in
+      let is = one.1 in
+      sides (at classes a) (at classes b) (has members a) (has members b)
+      (numbering.apart (key_of classes members a) (key_of classes members b) one.0 other.0 (sym one.1 ∙ e ∙ other.1) (omega arith));
 }
+
+-- the first n of the sets part the classes
+pub record AreParted (sets : List (List Bool)) (n : ℕ) (of : List ℕ) (count : ℕ) : Type 0 where
+  pub wide : length of ≡ 256
+  pub few : count ≤ 256
+  pub below : (byte : ℕ) → byte < 256 → at of byte < count
+  pub alike : (k : ℕ) (members : List Bool) → k < n → slice_get sets k ≡ Some members → (one other : ℕ) → one < 256 → other < 256 → at of one ≡ at of other → has members one ≡ has members other
+
+pub parted_more : (sets : List (List Bool)) (n : ℕ) (members : List Bool) (old of : List ℕ) (count next : ℕ) → slice_get sets n ≡ Some members → AreParted sets n old count → IsFiner old members of next → AreParted sets (n + 1) of next
+parted_more sets n members old of count next is parted finer = record {
+  wide = finer.wide;
+  few = finer.few;
+  below = finer.below;
+  alike = λ k those less at_k a b low low' e.
+      let both = finer.alike a b low low' e in
+      ⊎_elim
+      (λ (here : k ≡ n). rw (same_Some those members (sym at_k ∙ ap (slice_get sets) here ∙ is)) both.1)
+      (λ (ne : k ≡ n → ⊥). parted.alike k those (omega arith) at_k a b low low' both.0)
+      (cases_eq k n);
+}
+
+-- a set of one byte parts them, if that has a class of its own
+pub alone_more : (sets : List (List Bool)) (n : ℕ) (members : List Bool) (b : ℕ) (old of : List ℕ) (count : ℕ) → slice_get sets n ≡ Some members → ((c : ℕ) → IsTrue (has members c) → c ≡ b) → count < 256 →
+    b < 256 → of ≡ slice_set old b count → AreParted sets n old count → AreParted sets (n + 1) of (count + 1)
+alone_more sets n members b old of count is sole few inside set parted =
+    let long = parted.wide in
+    let here : at of b ≡ count = ap (λ l. at l b) set ∙ get_or-set_same old b count 0 (omega arith) in
+    let there : (c : ℕ) → (c ≡ b → ⊥) → at of c ≡ at old c = λ c ne. ap (λ l. at l c) set ∙ get_or-set_other old b c count 0 ne in
+    let outside : (c : ℕ) → (c ≡ b → ⊥) → has members c ≡ false = λ c ne. elim (cases_Bool (has members c)) [ inl held ↦ absurd (ne (sole c held)) | inr free ↦ free ] in
+    record {
+      wide = ap length set ∙ length-set old b count ∙ parted.wide;
+      few = omega arith;
+      below = λ c less. ⊎_elim (λ (e : c ≡ b). let same = ap (at of) e in omega arith) (λ (ne : c ≡ b → ⊥). let same = there c ne in let low = parted.below c less in omega arith) (cases_eq c b);
+      alike = λ k those less at_k x y low low' e.
+          ⊎_elim
+          (λ (f : x ≡ b). ⊎_elim
+          (λ (g : y ≡ b). ap (has those) (f ∙ sym g))
+          (λ (ne : y ≡ b → ⊥). let same = ap (at of) f in let other = there y ne in let under = parted.below y low' in absurd (omega arith))
+          (cases_eq y b))
+          (λ (ne : x ≡ b → ⊥). ⊎_elim
+          (λ (g : y ≡ b). let same = ap (at of) g in let other = there x ne in let under = parted.below x low in absurd (omega arith))
+          (λ (ne' : y ≡ b → ⊥). ⊎_elim
+          (λ (new : k ≡ n). rw (same_Some those members (sym at_k ∙ ap (slice_get sets) new ∙ is)) (outside x ne ∙ sym (outside y ne')))
+          (λ (ne'' : k ≡ n → ⊥). parted.alike k those (omega arith) at_k x y low low' (sym (there x ne) ∙ e ∙ there y ne'))
+          (cases_eq k n))
+          (cases_eq y b))
+          (cases_eq x b);
+    }

@@ -1,31 +1,10 @@
 -- Counts of steps that stay at the largest.
-use Rattle.std.proofs.Common.{◌≡◌, ℕ, ◌+◌, ◌-◌, ◌*◌, ◌≤◌, Bool, List, Option, None, Some, IsTrue, IfSome, sym, ◌∙◌, true≢false, arith}
+use Rattle.std.proofs.Common.{◌≡◌, ℕ, ◌-◌, ◌*◌, ◌≤◌, Bool, List, Option, None, Some, IsTrue, IfSome, sym, ◌∙◌, true≢false, arith}
 use Rattle.std.specs.Prelude.{is_some}
 pub use Rattle.sedtext.proofs.CountLemmas.{least_none, least_both, least_counted, least_less, least_since, least_up}
 use Rattle.sedre.specs.Steps.{TakesExactly, TakesAtLeast}
 use Rattle.sedre.specs.Tree.{Tree}
 use Rattle.sedtext.specs.Following.{PassesOver}
-
--- one look more
-pub least_one : (s a b n m : ℕ) → TakesAtLeast s a n → TakesExactly a b 1 → n + 1 ≡ m → TakesAtLeast s b m
-unfolding TakesAtLeast TakesExactly
-least_one s a b n m before one is = omega (arith, before, one, is)
-
--- two looks more, and others between them
-pub least_two : (s a b k c n m : ℕ) → TakesAtLeast s a n → TakesExactly a b 1 → b ≤ k → TakesExactly k c 1 → n + 2 ≡ m → TakesAtLeast s c m
-unfolding TakesAtLeast TakesExactly
-least_two s a b k c n m before one grows two is = omega (arith, before, one, grows, two, is)
-
--- six looks more, and others before the last two
-pub least_six : (s a b c d e k f g n m : ℕ) → TakesAtLeast s a n → TakesExactly a b 1 → TakesExactly b c 1 → TakesExactly c d 1 → TakesExactly d e 1 → e ≤ k → TakesExactly k f 1 → TakesExactly f g 1 → n + 6 ≡ m →
-    TakesAtLeast s g m
-unfolding TakesAtLeast TakesExactly
-least_six s a b c d e k f g n m before one two three four grows five six is = omega (arith, before, one, two, three, four, grows, five, six, is)
-
--- twice so many looks, others, and what was counted after them
-pub least_after : (s a b c d k n m : ℕ) → TakesExactly s a k → TakesExactly a b k → b ≤ c → TakesAtLeast c d n → 2 * k + n ≡ m → TakesAtLeast s d m
-unfolding TakesAtLeast TakesExactly
-least_after s a b c d k n m one two grows after is = omega (arith, one, two, grows, after, is)
 
 pub least_fewer : (s a n m : ℕ) → m ≤ n → TakesAtLeast s a n → TakesAtLeast s a m
 unfolding TakesAtLeast

@@ -1,5 +1,5 @@
 -- The expression of one node that matches the null string.
-use Rattle.std.proofs.Common.{◌≡◌, ℕ, zero, suc, ◌+◌, ◌<◌, ◌≤◌, Bool, true, false, true≢false, List, [], ◌∷◌, Some, refl, sym, ◌∙◌, ap, subst, arith}
+use Rattle.std.proofs.Common.{◌≡◌, ℕ, zero, suc, ◌+◌, ◌<◌, ◌≤◌, false, List, [], ◌∷◌, Some, refl, sym, ◌∙◌, ap, subst, arith}
 use Rattle.std.proofs.lemmas.Option.{same_Some, none-some}
 use Rattle.std.specs.Prelude.{slice_get}
 use Rattle.sedre.specs.Arena.{IsArena, IsExpr, IsPart, HasTwoParts, FollowsParts, GroupsWithin}
@@ -8,9 +8,7 @@ use Rattle.sedre.specs.Sizes.{size}
 use Rattle.sedre.specs.declared.types.Node.{Node}
 use Rattle.sedre.specs.declared.types.Node.TheVariants.{Empty, Set, Group}
 use Rattle.sedpass.specs.declared.nodes.Facts.{Facts}
-use Rattle.sedpass.specs.declared.nodes.Null.{Null}
-use Rattle.sedpass.specs.Prepared.{AreClasses, AreFacts, HaveSets, IsFacts, IsLeaf, IsPrepared, SameNulls, null_at, nullable}
-use Rattle.sedpass.proofs.FactLemmas.{leaf_at}
+use Rattle.sedpass.specs.Prepared.{AreClasses, AreFacts, HaveSets, IsFacts, IsPrepared, SameNulls, nullable}
 
 -- its nodes
 abbrev pub empty_nodes : List Node
@@ -40,20 +38,11 @@ one_node : size (tree_at empty_nodes 0) ≡ 1
 one_node = ap size one_tree
 
 sizes : (x : ℕ) → x < 1 → size (tree_at empty_nodes x) ≤ x + 1
-sizes zero less = let one = one_node in omega (arith, one)
+sizes zero less = omega (arith, one_node)
 sizes (suc x) less = absurd (omega (arith, less))
 
--- a node that is a group
-abbrev is_group : Node → Bool
-is_group (Group k a) = true
-is_group other = false
-
-abbrev is_empty : Node → Bool
-is_empty Empty = true
-is_empty other = false
-
 numbers : GroupsWithin empty_nodes 0
-numbers x k a is = absurd (true≢false (sym (ap is_group (only x (Group k a) is).1)))
+numbers x k a is = let same = (only x (Group k a) is).1 in absurd cc
 
 pub empty_expr : IsExpr empty_nodes 0
 empty_expr = record {
@@ -65,24 +54,23 @@ empty_expr = record {
   few = omega arith;
 }
 
-facts_only : (told : Facts) (nulls : Null) → ((first last : Bool) → null_at nulls first last ≡ true) → IsLeaf 0 nulls 0 told → AreFacts empty_nodes (told ∷ [])
-facts_only told nulls all leaf zero here is =
-    subst (λ (f : Facts). IsFacts (tree_at empty_nodes 0) 0 f) (same_Some told here is) (leaf_at empty_nodes 0 empty_expr 0 0 Empty nulls 0 told refl refl leaf refl all (λ k. refl) refl refl)
-facts_only told nulls all leaf (suc x) here is = absurd (none-some here is)
+facts_only : (told : Facts) → IsFacts empty 0 told → AreFacts empty_nodes (told ∷ [])
+facts_only told facts zero here is = rw (← same_Some told here is, one_tree) facts
+facts_only told facts (suc x) here is = absurd (none-some here is)
 
 nulls_only : SameNulls empty_nodes
 nulls_only zero first last inside = ap (nullable first last) one_tree ∙ sym (ap (nullable false false) one_tree)
 nulls_only (suc x) first last inside = absurd (omega (arith, inside))
 
 no_sets : HaveSets empty_nodes []
-no_sets x members is = absurd (true≢false (ap is_empty (only x (Set members) is).1))
+no_sets x members is = let same = (only x (Set members) is).1 in absurd cc
 
-pub empty_prepared : (nulls : Null) (told : Facts) (of : List ℕ) (count : ℕ) → ((first last : Bool) → null_at nulls first last ≡ true) → IsLeaf 0 nulls 0 told →
-    ((nodes : List Node) → HaveSets nodes [] → AreClasses nodes of count) → IsPrepared (record { nodes = empty_nodes; groups = 0 }) 0 (told ∷ []) of count false
-empty_prepared nulls told of count all leaf classes = record {
+pub empty_prepared : (told : Facts) (of : List ℕ) (count : ℕ) → IsFacts empty 0 told → ((nodes : List Node) → HaveSets nodes [] → AreClasses nodes of count) →
+    IsPrepared (record { nodes = empty_nodes; groups = 0 }) 0 (told ∷ []) of count false
+empty_prepared told of count facts classes = record {
   last = refl;
   all = refl;
-  facts = facts_only told nulls all leaf;
+  facts = facts_only told facts;
   classes = classes empty_nodes no_sets;
   anywhere = λ none. nulls_only;
 }

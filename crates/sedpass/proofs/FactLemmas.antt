@@ -1,16 +1,18 @@
 -- What is told of each node once, and what it means for passes.
-use Rattle.std.proofs.Common.{◌≡◌, ℕ, zero, suc, ◌+◌, ◌-◌, ◌<◌, ◌≤◌, ◌⊎◌, ◌↔◌, Bool, true, false, ◌&&◌, List, [], ◌∷◌, ◌++◌, length, length-append, get_or, Option, Some, None, IsTrue, refl, sym, ap, ◌∙◌, subst, inl, inr, ⊎_elim, true≢false, arith}
-use Rattle.std.specs.Prelude.{slice_get, eqb, IfSome, cond}
-use Rattle.std.proofs.Math.Bool.{and-false}
+use Rattle.std.proofs.Common.{◌≡◌, ℕ, zero, suc, ◌+◌, ◌*◌, ◌<◌, ◌≤◌, ◌⊎◌, ◌↔◌, Bool, true, false, ◌&&◌, List, [], ◌∷◌, ◌++◌, length, Option, Some, None, IsTrue, refl, sym, ap, ◌∙◌, subst, inl, inr, ⊎_elim, true≢false, arith, min, max, bit_and, bit_or, ◌||◌}
+use Rattle.std.specs.Prelude.{slice_get, eqb}
+use Rattle.std.specs.Int.{bit_at, from_bool}
+use Rattle.std.specs.Option.{option_eq}
+use Rattle.std.proofs.lemmas.Nat.Bits.{bit_at_and, bit_at_or, bit_at-lt}
 use Rattle.std.proofs.lemmas.Bool.{cases_lt}
-use Rattle.std.proofs.lemmas.Option.{same_Some, slice_get_within, slice_get_read}
+use Rattle.std.proofs.lemmas.Option.{same_Some, slice_get_cases}
 use Rattle.sedre.specs.Tree.{Tree, empty, set, begin, end, seq, alt, group, star, opt, WrittenExpression, tree_of, tree_at}
 use Rattle.sedre.specs.Sizes.{size}
-use Rattle.sedre.specs.Arena.{IsExpr, IsPart, FollowsParts}
+use Rattle.sedre.specs.Arena.{IsArena, IsExpr, IsPart, FollowsParts}
 use Rattle.sedre.specs.Mirror.{mirror, seen}
 use Rattle.sedre.specs.declared.types.Node.{Node}
 use Rattle.sedre.specs.declared.types.NodeId.{NodeId}
-use Rattle.sedre.specs.declared.types.Node.TheVariants.{Set, Seq, Alt, Group, Star, Opt}
+use Rattle.sedre.specs.declared.types.Node.TheVariants.{Seq, Alt, Group, Star, Opt}
 use Rattle.sedre.proofs.TreeLemmas.{tree_at-node}
 use Rattle.sedre.proofs.Written.{size_positive}
 use Rattle.sedre.proofs.MirrorLemmas.{tree_at-mirror, seen-length}
@@ -18,15 +20,13 @@ use Rattle.sedtext.specs.Spans.{Matches, no_copy}
 use Rattle.sedtext.specs.Places.{IsPlace}
 use Rattle.sedtext.proofs.SpanLemmas.{Matches-forward}
 use Rattle.sedtext.proofs.NodeLemmas.{node_at}
-use Rattle.sedpass.specs.Groups.{reported, has_group}
-use Rattle.sedpass.specs.Regions.{IsRunOf, repeated, in_group}
-use Rattle.sedpass.specs.Lengths.{length_of, sum_of, same_of}
-use Rattle.sedpass.specs.Prepared.{nullable, null_in, null_at, is_set, run_of, IsFacts, AreFacts, IsLeaf, IsOfEachKind, IsShort, SameNulls}
-use Rattle.sedpass.specs.Rows.{at_begin, at_end, IsNodeRange, AreNull}
+use Rattle.sedpass.specs.Lengths.{length_of}
+use Rattle.sedpass.specs.Prepared.{nullable, null_in, null_at, is_set, IsFacts, AreFacts, IsOfEachKind, IsShort, SameNulls}
+use Rattle.sedpass.specs.Rows.{at_begin, at_end, InTree, IsNodeRange, AreNull}
 use Rattle.sedpass.specs.declared.nodes.Facts.{Facts}
 use Rattle.sedpass.specs.declared.nodes.Kind.{Kind}
-use Rattle.sedpass.specs.declared.nodes.Null.{Null}
-use Rattle.sedpass.proofs.RowLemmas.{or_truth, and_truth, not_true, leaf_range, one_range, two_range, mirror_range}
+use Rattle.sedpass.proofs.LengthLemmas.{sum_parts, same_parts}
+use Rattle.sedpass.proofs.RowLemmas.{or_truth, and_truth, not_true, range_of, mirror_range}
 
 -- null strings
 
@@ -50,6 +50,25 @@ module _ (w : List ℕ) (p : ℕ) (first last : Bool) (there : IsPlace w p first
   nullable_is (star a f) = (λ h. no_copy, λ h. refl)
   nullable_is (opt a f) = (λ h. inl refl, λ h. refl)
 
+-- kinds by bits: those of both sets, and those of either
+bits_of : (a b : ℕ) → a < 2 → b < 2 → (eqb (min a b) 1 ≡ (eqb a 1 && eqb b 1)) × (eqb (max a b) 1 ≡ (eqb a 1 || eqb b 1))
+bits_of zero zero low low' = (refl, refl)
+bits_of zero (suc zero) low low' = (refl, refl)
+bits_of (suc zero) zero low low' = (refl, refl)
+bits_of (suc zero) (suc zero) low low' = (refl, refl)
+bits_of (suc (suc a)) b low low' = absurd (omega (arith, low))
+bits_of a (suc (suc b)) low low' = absurd (omega (arith, low'))
+
+pub null_both : (a b : ℕ) (first last : Bool) → null_at (bit_and a b) first last ≡ (null_at a first last && null_at b first last)
+null_both a b first last =
+    let k = from_bool first + 2 * from_bool last in
+    ap (λ x. eqb x 1) (bit_at_and a b k) ∙ (bits_of (bit_at a k) (bit_at b k) (bit_at-lt a k) (bit_at-lt b k)).0
+
+pub null_either : (a b : ℕ) (first last : Bool) → null_at (bit_or a b) first last ≡ (null_at a first last || null_at b first last)
+null_either a b first last =
+    let k = from_bool first + 2 * from_bool last in
+    ap (λ x. eqb x 1) (bit_at_or a b k) ∙ (bits_of (bit_at a k) (bit_at b k) (bit_at-lt a k) (bit_at-lt b k)).1
+
 and_swap : (a b : Bool) → (a && b) ≡ (b && a)
 and_swap true true = refl
 and_swap true false = refl
@@ -68,24 +87,18 @@ pub null_tells : (mirrored : Bool) (e : WrittenExpression) (kind : Kind) (w : Li
     AreNull (seen mirrored e).nodes w p (null_in e.nodes kind)
 null_tells false e kind w p there c low = nullable_is w p kind.begin kind.end there (tree_at e.nodes c)
 null_tells true e kind w p there c low =
-    let law = nullable_is w p kind.end kind.begin there (tree_at (seen true e).nodes c) in
     let same : nullable kind.end kind.begin (tree_at (seen true e).nodes c) ≡ null_in e.nodes kind c =
     ap (nullable kind.end kind.begin) (tree_at-mirror e.nodes c) ∙ nullable_mirror kind.end kind.begin (tree_at e.nodes c) in
-    (λ h. law.0 (same ∙ h), λ h. sym same ∙ law.1 h)
+    rw (← same) (nullable_is w p kind.end kind.begin there (tree_at (seen true e).nodes c))
 
 -- where no node tells a kind from another, each place will do
 pub null_anywhere : (mirrored : Bool) (e : WrittenExpression) (kind : Kind) → SameNulls e.nodes →
     (w : List ℕ) (p : ℕ) (first last : Bool) → IsPlace w p first last → AreNull (seen mirrored e).nodes w p (null_in e.nodes kind)
 null_anywhere false e kind same w p first last there c low =
-    let law = nullable_is w p first last there (tree_at e.nodes c) in
-    let here : null_in e.nodes kind c ≡ nullable first last (tree_at e.nodes c) = same c kind.begin kind.end low ∙ sym (same c first last low) in
-    (λ h. law.0 (sym here ∙ h), λ h. here ∙ law.1 h)
+    rw (same c kind.begin kind.end low ∙ sym (same c first last low)) (null_tells false e (record { begin = first; end = last }) w p there c low)
 null_anywhere true e kind same w p first last there c low =
     let inside : c < length e.nodes = subst (λ n. c < n) (seen-length true e) low in
-    let law = nullable_is w p first last there (tree_at (seen true e).nodes c) in
-    let here : null_in e.nodes kind c ≡ nullable first last (tree_at (seen true e).nodes c) =
-    same c kind.begin kind.end inside ∙ sym (same c last first inside) ∙ sym (nullable_mirror first last (tree_at e.nodes c)) ∙ sym (ap (nullable first last) (tree_at-mirror e.nodes c)) in
-    (λ h. law.0 (sym here ∙ h), λ h. here ∙ law.1 h)
+    rw (same c kind.begin kind.end inside ∙ sym (same c last first inside)) (null_tells true e (record { begin = last; end = first }) w p there c low)
 
 -- trees are ranges
 
@@ -96,32 +109,37 @@ module _ (nodes : List Node) (groups : ℕ) (expr : IsExpr nodes groups) where
   abbrev pub RangesBelow : ℕ → Type 0
   RangesBelow n = (y low : ℕ) → y < n → low + size (tree_at nodes y) ≡ y + 1 → IsNodeRange nodes low y
 
-  one_part : (x low : ℕ) (a : NodeId) (node : Node) → slice_get nodes x ≡ Some node → IsPart node a.index → ((c : ℕ) → IsPart node c → c ≡ a.index) → a.index + 1 ≡ x → RangesBelow x →
+  one_part : (x low : ℕ) (a : NodeId) (node : Node) → slice_get nodes x ≡ Some node → IsPart node a.index → ((c : ℕ) → IsPart node c → a.index ≡ c) → a.index + 1 ≡ x → RangesBelow x →
       low + (1 + size (tree_at nodes a.index)) ≡ x + 1 → IsNodeRange nodes low x
   one_part x low a node is part only next below long =
       let some = size_positive (tree_at nodes a.index) in
-      one_range nodes x a.index low node is part only next (omega arith) (below a.index low (omega arith) (omega arith))
+      let range = below a.index low (omega arith) (omega arith) in
+      range_of nodes x low node is (omega arith) (λ c from to. (a.index, part, (range c).0 (from, omega arith)))
+      (λ b c that tree. let g = (range c).1 (subst (λ n. InTree nodes n c) (sym (only b that)) tree) in let high = g.1 in (g.0, omega arith))
 
-  two_parts : (x low : ℕ) (a b : NodeId) (node : Node) → slice_get nodes x ≡ Some node → IsPart node a.index → IsPart node b.index → ((c : ℕ) → IsPart node c → (c ≡ a.index) ⊎ (c ≡ b.index)) →
-      (a.index + size (tree_at nodes b.index) + 1 ≡ x) × (b.index + 1 ≡ x) → RangesBelow x →
-      low + (1 + size (tree_at nodes a.index) + size (tree_at nodes b.index)) ≡ x + 1 → IsNodeRange nodes low x
+  two_parts : (x low : ℕ) (a b : NodeId) (node : Node) → slice_get nodes x ≡ Some node → IsPart node a.index → IsPart node b.index → ((c : ℕ) → IsPart node c → (a.index ≡ c) ⊎ (b.index ≡ c)) →
+      (a.index + size (tree_at nodes b.index) + 1 ≡ x) × (b.index + 1 ≡ x) → RangesBelow x → low + (1 + size (tree_at nodes a.index) + size (tree_at nodes b.index)) ≡ x + 1 → IsNodeRange nodes low x
   two_parts x low a b node is left right only follows below long =
       let some = size_positive (tree_at nodes a.index) in
       let some' = size_positive (tree_at nodes b.index) in
       let before = follows.0 in
       let next = follows.1 in
-      two_range nodes x a.index b.index low node is left right only (omega arith) next (omega arith)
-      (below a.index low (omega arith) (omega arith)) (below b.index (a.index + 1) (omega arith) (omega arith))
+      let range = below a.index low (omega arith) (omega arith) in
+      let range' = below b.index (a.index + 1) (omega arith) (omega arith) in
+      range_of nodes x low node is (omega arith)
+      (λ c from to. elim (cases_lt a.index c) [ inl lt ↦ (b.index, right, (range' c).0 (omega arith, omega arith)) | inr ge ↦ (a.index, left, (range c).0 (from, ge)) ])
+      (λ d c that tree. elim (only d that) [
+        | inl e ↦ let g = (range c).1 (subst (λ n. InTree nodes n c) (sym e) tree) in let high = g.1 in (g.0, omega arith)
+        | inr e ↦ let g = (range' c).1 (subst (λ n. InTree nodes n c) (sym e) tree) in let high = g.1 in let from = g.0 in (omega arith, omega arith)
+      ])
 
   range_by : (x low : ℕ) (node : Node) → slice_get nodes x ≡ Some node → FollowsParts nodes x node → RangesBelow x → low + size (tree_of (tree_at nodes) node) ≡ x + 1 → IsNodeRange nodes low x
-  range_by x low (Seq a b) is follows below long =
-      two_parts x low a b (Seq a b) is (inl refl) (inr refl) (λ c part. ⊎_elim (λ (l : a.index ≡ c). inl (sym l)) (λ (m : b.index ≡ c). inr (sym m)) part) follows below long
-  range_by x low (Alt a b) is follows below long =
-      two_parts x low a b (Alt a b) is (inl refl) (inr refl) (λ c part. ⊎_elim (λ (l : a.index ≡ c). inl (sym l)) (λ (m : b.index ≡ c). inr (sym m)) part) follows below long
-  range_by x low (Group k a) is follows below long = one_part x low a (Group k a) is refl (λ c part. sym part) follows below long
-  range_by x low (Star a f) is follows below long = one_part x low a (Star a f) is refl (λ c part. sym part) follows below long
-  range_by x low (Opt a f) is follows below long = one_part x low a (Opt a f) is refl (λ c part. sym part) follows below long
-  range_by x low other is follows below long = subst (λ n. IsNodeRange nodes n x) (omega arith) (leaf_range nodes x other is (λ c part. part))
+  range_by x low (Seq a b) is follows below long = two_parts x low a b (Seq a b) is (inl refl) (inr refl) (λ c part. part) follows below long
+  range_by x low (Alt a b) is follows below long = two_parts x low a b (Alt a b) is (inl refl) (inr refl) (λ c part. part) follows below long
+  range_by x low (Group k a) is follows below long = one_part x low a (Group k a) is refl (λ c part. part) follows below long
+  range_by x low (Star a f) is follows below long = one_part x low a (Star a f) is refl (λ c part. part) follows below long
+  range_by x low (Opt a f) is follows below long = one_part x low a (Opt a f) is refl (λ c part. part) follows below long
+  range_by x low other is follows below long = range_of nodes x low other is (omega arith) (λ c from to. absurd (omega arith)) (λ a c part. absurd part)
 
   ranges_below : (n : ℕ) → n ≤ length nodes → RangesBelow n
   ranges_below zero small y low less long = absurd (omega arith)
@@ -149,178 +167,53 @@ inside_seen mirrored e x inside = subst (λ n. x < n) (sym (seen-length mirrored
 
 -- what is told of a node, by what is told of its parts
 
-set_by : (t : Tree) → size t ≡ 1 → length_of t ≡ Some 1 → is_set t ≡ true
+-- a node without parts whose matches have one byte is a set
+set_by : (t : Tree) → size t ≡ 1 → option_eq eqb (length_of t) (Some 1) ≡ true → is_set t ≡ true
 set_by (set members) small long = refl
 set_by (seq a b) small long = absurd (omega (arith, small, size_positive a))
 set_by (alt a b) small long = absurd (omega (arith, small, size_positive a))
 set_by (group k a) small long = absurd (omega (arith, small, size_positive a))
-set_by (star a first) small long = absurd (omega (arith, small, size_positive a))
-set_by (opt a first) small long = absurd (omega (arith, small, size_positive a))
-set_by other small long = absurd cc
+set_by other small long = absurd (true≢false (sym long))
 
-by_set : (t : Tree) → (size t ≡ 1 → length_of t ≡ Some 1 → ⊥) → is_set t ≡ false
-by_set (set members) none = absurd (none refl refl)
-by_set other none = refl
-
--- a node without parts whose matches have one byte is a set
-pub told_set : (a : Tree) (x : ℕ) (part : Facts) → IsFacts a x part → part.low ≡ x → part.length ≡ Some 1 → is_set a ≡ true
-told_set a x part told low long = let size_is = told.low in set_by a (omega arith) (sym told.long ∙ long)
-
-pub told_other : (a : Tree) (x : ℕ) (part : Facts) → IsFacts a x part → (part.low ≡ x → part.length ≡ Some 1 → ⊥) → is_set a ≡ false
-told_other a x part told none = by_set a (λ small long. let size_is = told.low in none (omega arith) (told.long ∙ long))
-
-pub star_facts : (a : Tree) (first : Bool) (x : ℕ) (part : Facts) (null : Null) (run : Option ℕ) → IsFacts a x part → ((begin end : Bool) → null_at null begin end ≡ true) → run ≡ cond (is_set a) (Some x) None →
-    IsFacts (star a first) (x + 1) (record { low = part.low; null = null; groups = part.groups; length = None; run = run })
-star_facts a first x part null run told nulls runs =
-    let size_is = told.low in
-    record {
-      low = omega arith;
-      null = λ begin end. nulls begin end;
-      groups = told.groups;
-      long = refl;
-      run = runs ∙ ap (λ n. cond (is_set a) (Some n) None) (let e : x ≡ x + 1 - 1 = omega arith in e);
-    }
+pub told_set : (a : Tree) (x : ℕ) (part : Facts) → IsFacts a x part → part.low ≡ x → option_eq eqb part.length (Some 1) ≡ true → is_set a ≡ true
+told_set a x part told low long = let size_is = told.low in set_by a (omega arith) (rw (← told.long) long)
 
 -- an expression has no longer matches of one length than nodes
-short_sum : (m n : Option ℕ) (i j : ℕ) → IfSome m (λ k. k ≤ i) → IfSome n (λ k. k ≤ j) → IfSome (sum_of m n) (λ k. k ≤ 1 + i + j)
-short_sum None n i j p q = tt
-short_sum (Some m) None i j p q = tt
-short_sum (Some m) (Some n) i j p q = omega (arith, p, q)
+length_short : (t : Tree) (n : ℕ) → length_of t ≡ Some n → n ≤ size t
+length_short (set members) n is = let one_long : 1 ≡ n = cc in omega arith
+length_short (seq a b) n is =
+    let parts = sum_parts (length_of a) (length_of b) n is in
+    omega (arith, parts.4, length_short a parts.0 parts.2, length_short b parts.1 parts.3)
+length_short (alt a b) n is = omega (arith, length_short a n (same_parts (length_of a) (length_of b) n is).0)
+length_short (group k a) n is = omega (arith, length_short a n is)
+length_short (star a first) n is = cc
+length_short (opt a first) n is = cc
+length_short other n is = let zero_long : 0 ≡ n = cc in omega arith
 
-short_same : (m n : Option ℕ) (i j : ℕ) → IfSome m (λ k. k ≤ i) → IfSome (same_of m n) (λ k. k ≤ 1 + i + j)
-short_same None n i j p = tt
-short_same (Some m) None i j p = tt
-short_same (Some m) (Some n) i j p = elim (eqb m n) as (λ v. IfSome (cond v (Some m) None) (λ k. k ≤ 1 + i + j)) [
-  | true ↦ omega (arith, p)
-  | false ↦ tt
-]
-
-short_more : (m : Option ℕ) (i j : ℕ) → i ≤ j → IfSome m (λ k. k ≤ i) → IfSome m (λ k. k ≤ j)
-short_more None i j le p = tt
-short_more (Some m) i j le p = omega (arith, le, p)
-
-length_short : (t : Tree) → IfSome (length_of t) (λ n. n ≤ size t)
-length_short (seq a b) = short_sum (length_of a) (length_of b) (size a) (size b) (length_short a) (length_short b)
-length_short (alt a b) = short_same (length_of a) (length_of b) (size a) (size b) (length_short a)
-length_short (group k a) = short_more (length_of a) (size a) (1 + size a) (omega arith) (length_short a)
-length_short (star a first) = tt
-length_short (opt a first) = tt
-length_short other = omega arith
+short_if : (long : Option ℕ) → ((n : ℕ) → long ≡ Some n → n ≤ 65536) → IsShort long
+short_if None small = tt
+short_if (Some n) small = small n refl
 
 pub told_short : (a : Tree) (x : ℕ) (part : Facts) → IsFacts a x part → size a ≤ 65536 → IsShort part.length
-told_short a x part told small = subst IsShort (sym told.long) (short_more (length_of a) (size a) 65536 small (length_short a))
+told_short a x part told small = short_if part.length (λ n is. omega (arith, small, length_short a n (sym told.long ∙ is)))
 
-slice_get_append_left : (xs ys : List Facts) (i : ℕ) → i < length xs → slice_get (xs ++ ys) i ≡ slice_get xs i
-slice_get_append_left [] ys i inside = absurd (omega arith)
-slice_get_append_left (x ∷ xs) ys zero inside = refl
-slice_get_append_left (x ∷ xs) ys (suc i) inside = slice_get_append_left xs ys i (omega (arith, inside))
+-- what is told of one more
+last_told : (told : List Facts) (next fact : Facts) (x : ℕ) → slice_get (told ++ next ∷ []) x ≡ Some fact → (slice_get told x ≡ Some fact) ⊎ ((x ≡ length told) × (fact ≡ next))
+last_told [] next fact zero is = inr (refl, sym (same_Some next fact is))
+last_told [] next fact (suc x) is = cc
+last_told (first ∷ told) next fact zero is = inl is
+last_told (first ∷ told) next fact (suc x) is = elim (last_told told next fact x is) [ inl old ↦ inl old | inr new ↦ inr (omega (arith, new.0), new.1) ]
 
-slice_get_last : (xs : List Facts) (y : Facts) → slice_get (xs ++ y ∷ []) (length xs) ≡ Some y
-slice_get_last [] y = refl
-slice_get_last (x ∷ xs) y = slice_get_last xs y
-
-leaf_facts : (t : Tree) (x : ℕ) (nulls : Null) (n : ℕ) (here : Facts) → IsLeaf x nulls n here → size t ≡ 1 → ((first last : Bool) → null_at nulls first last ≡ nullable first last t) → ((k : ℕ) → has_group t k ≡ false) →
-    length_of t ≡ Some n → run_of t x ≡ None → IsFacts t x here
-leaf_facts t x nulls n here leaf small null none long run =
-    let low_is = leaf.low in
-    record {
-      low = omega arith;
-      null = λ first last. ap (λ v. null_at v first last) leaf.null ∙ null first last;
-      groups = λ k. leaf.groups k ∙ sym (ap (λ b. reported k && b) (none k) ∙ and-false (reported k));
-      long = leaf.long ∙ sym long;
-      run = leaf.run ∙ sym run;
-    }
-
-module _ (nodes : List Node) (groups : ℕ) (expr : IsExpr nodes groups) where
-  -- what is told of an index and of an equal one
-  pub at_node : (i x : ℕ) (node : Node) (here : Facts) → i ≡ x → slice_get nodes i ≡ Some node → IsFacts (tree_of (tree_at nodes) node) x here → IsFacts (tree_at nodes x) x here
-  at_node i x node here e is told =
-      let there : slice_get nodes x ≡ Some node = ap (slice_get nodes) (sym e) ∙ is in
-      subst (λ t. IsFacts t x here) (sym (tree_at-node nodes x node expr.arena there)) told
-
-  pub leaf_at : (i x : ℕ) (node : Node) (nulls : Null) (n : ℕ) (here : Facts) → i ≡ x → slice_get nodes i ≡ Some node → IsLeaf x nulls n here → size (tree_of (tree_at nodes) node) ≡ 1 →
-      ((first last : Bool) → null_at nulls first last ≡ nullable first last (tree_of (tree_at nodes) node)) → ((k : ℕ) → has_group (tree_of (tree_at nodes) node) k ≡ false) →
-      length_of (tree_of (tree_at nodes) node) ≡ Some n → run_of (tree_of (tree_at nodes) node) x ≡ None → IsFacts (tree_at nodes x) x here
-  leaf_at i x node nulls n here e is leaf small null none long run = at_node i x node here e is (leaf_facts (tree_of (tree_at nodes) node) x nulls n here leaf small null none long run)
-
-  pub one_at : (i x a : ℕ) (node : Node) (here : Facts) → i ≡ x → slice_get nodes i ≡ Some node → a + 1 ≡ i → IsFacts (tree_of (tree_at nodes) node) (a + 1) here → IsFacts (tree_at nodes x) x here
-  one_at i x a node here e is next told = at_node i x node here e is (subst (λ n. IsFacts (tree_of (tree_at nodes) node) n here) (next ∙ e) told)
-
-  pub short_at : (a : ℕ) (part : Facts) → a < length nodes → IsFacts (tree_at nodes a) a part → IsShort part.length
-  short_at a part inside told = let few = expr.few in let small = expr.sizes a inside in told_short (tree_at nodes a) a part told (omega arith)
-
-  module _ (told : List Facts) (facts : AreFacts nodes told) where
-    -- what was told of a part
-    pub part_facts : (i a : ℕ) (here : Facts) → i ≡ a → i < length told → here ≡ get_or told i here → IsFacts (tree_at nodes a) a here
-    part_facts i a here e inside is = subst (λ n. IsFacts (tree_at nodes n) n here) e (facts i here (slice_get_read told (length told) i here refl inside is))
-
-    -- and of one node more
-    pub facts_more : (next : Facts) → IsFacts (tree_at nodes (length told)) (length told) next → AreFacts nodes (told ++ next ∷ [])
-    facts_more next here x fact is =
-        let inside = slice_get_within (told ++ next ∷ []) x fact is in
-        let long : length (told ++ next ∷ []) ≡ length told + 1 = length-append told (next ∷ []) in
-        ⊎_elim
-        (λ (lt : x < length told). facts x fact (sym (slice_get_append_left told (next ∷ []) x lt) ∙ is))
-        (λ (ge : length told ≤ x).
-        let e : x ≡ length told = omega arith in
-        let same : next ≡ fact = same_Some next fact (sym (slice_get_last told next) ∙ ap (slice_get (told ++ next ∷ [])) (sym e) ∙ is) in
-        subst (λ f. IsFacts (tree_at nodes x) x f) same (subst (λ n. IsFacts (tree_at nodes n) n next) (sym e) here))
-        (cases_lt x (length told))
-
-fact_at : (told : List Facts) (x : ℕ) → x < length told → (here : Facts) × (slice_get told x ≡ Some here)
-fact_at [] x inside = absurd (omega arith)
-fact_at (f ∷ told) zero inside = (f, refl)
-fact_at (f ∷ told) (suc x) inside = fact_at told x (omega (arith, inside))
+pub facts_more : (nodes : List Node) (arena : IsArena nodes) (told : List Facts) (node : Node) (next : Facts) → AreFacts nodes told → slice_get nodes (length told) ≡ Some node →
+    IsFacts (tree_of (tree_at nodes) node) (length told) next → AreFacts nodes (told ++ next ∷ [])
+facts_more nodes arena told node next facts there here x fact is =
+    elim (last_told told next fact x is) [ inl old ↦ facts x fact old | inr new ↦ rw (new.0, new.1, tree_at-node nodes (length told) node arena there) here ]
 
 -- where no node is told of one kind alone
 pub told_anywhere : (nodes : List Node) (told : List Facts) → length told ≡ length nodes → AreFacts nodes told → ((x : ℕ) (here : Facts) → slice_get told x ≡ Some here → IsOfEachKind here.null) →
     SameNulls nodes
 told_anywhere nodes told all facts each x first last inside =
-    let here = fact_at told x (omega arith) in
-    let fact = facts x here.0 here.1 in
-    sym (fact.null first last) ∙ each x here.0 here.1 first last ∙ fact.null false false
-
--- what facts mean, in the words of regions, groups and rows
-
-module _ (nodes : List Node) (groups : ℕ) (expr : IsExpr nodes groups) where
-  set_node : (a : ℕ) (node : Node) → slice_get nodes a ≡ Some node → is_set (tree_of (tree_at nodes) node) ≡ true → (members : List Bool) × (slice_get nodes a ≡ Some (Set members))
-  set_node a (Set m) is set_here = (m, is)
-  set_node a other is set_here = absurd (true≢false (sym set_here))
-
-  -- a part that is a set
-  set_part : (a : ℕ) → a < length nodes → is_set (tree_at nodes a) ≡ true → (members : List Bool) × (slice_get nodes a ≡ Some (Set members))
-  set_part a inside set_here =
-      let here = node_at nodes a inside in
-      set_node a here.0 here.1 (sym (ap is_set (tree_at-node nodes a here.0 expr.arena here.1)) ∙ set_here)
-
-  abbrev Run : ℕ → ℕ → Type 0
-  Run c x = IsRunOf nodes c x × ((members : List Bool) × (slice_get nodes c ≡ Some (Set members)))
-
-  star_run : (x c : ℕ) (a : NodeId) (first : Bool) → slice_get nodes x ≡ Some (Star a first) → cond (is_set (tree_at nodes a.index)) (Some (x - 1)) None ≡ Some c → Run c x
-  star_run x c a first is run =
-      let next = expr.ranges x (Star a first) is in
-      let inside = slice_get_within nodes x (Star a first) is in
-      elim (is_set (tree_at nodes a.index)) as (λ v. is_set (tree_at nodes a.index) ≡ v → cond v (Some (x - 1)) None ≡ Some c → Run c x) [
-        | true ↦ λ yes at.
-            let same : x - 1 ≡ c = cc in
-            let index : a.index ≡ c = omega arith in
-            let set_here = set_part a.index (omega arith) yes in
-            (repeated x (a, first, is, index), (set_here.0, ap (slice_get nodes) (sym index) ∙ set_here.1))
-        | false ↦ λ no none. absurd cc
-      ] refl run
-
-  by_node : (x c : ℕ) → ((y : ℕ) → y < x → y < length nodes → run_of (tree_at nodes y) y ≡ Some c → Run c y) → (node : Node) → slice_get nodes x ≡ Some node → run_of (tree_of (tree_at nodes) node) x ≡ Some c → Run c x
-  by_node x c below (Group k a) is run =
-      let next = expr.ranges x (Group k a) is in
-      let inside = slice_get_within nodes x (Group k a) is in
-      let index : x - 1 ≡ a.index = omega arith in
-      let inner = below a.index (omega arith) (omega arith) (ap (λ n. run_of (tree_at nodes a.index) n) (sym index) ∙ run) in
-      (in_group x k a is inner.0, inner.1)
-  by_node x c below (Star a first) is run = star_run x c a first is run
-  by_node x c below other is run = absurd cc
-
-  run_by : (n x c : ℕ) → x < n → x < length nodes → run_of (tree_at nodes x) x ≡ Some c → Run c x
-  run_by zero x c small inside run = absurd (omega arith)
-  run_by (suc n) x c small inside run =
-      let here = node_at nodes x inside in
-      by_node x c (λ y less in_y told. run_by n y c (omega arith) in_y told) here.0 here.1 (sym (ap (λ t. run_of t x) (tree_at-node nodes x here.0 expr.arena here.1)) ∙ run)
+    elim (slice_get_cases told x).1 [
+      | inl some ↦ let fact = facts x some.0 some.2 in sym (fact.null first last) ∙ each x some.0 some.2 first last ∙ fact.null false false
+      | inr past ↦ let low = past.0 in absurd (omega arith)
+    ]

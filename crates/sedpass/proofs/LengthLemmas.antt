@@ -2,19 +2,19 @@
 use Rattle.std.proofs.Common.{◌≡◌, ℕ, ◌+◌, ◌-◌, ◌<◌, ◌≤◌, List, Option, Some, None, eqb, refl, sym, ap, ◌∙◌, subst, ⊎_elim, arith}
 use Rattle.std.proofs.lemmas.Bool.{cases_lt, eqb-true}
 use Rattle.std.proofs.lemmas.Option.{cond_some}
-use Rattle.sedre.specs.Tree.{Tree, set, end, seq, alt, group, star, opt}
+use Rattle.sedre.specs.Tree.{Tree, set, seq, alt, group, star, opt}
 use Rattle.sedtext.specs.Spans.{CopiesLead, no_copy, one_more, Matches}
 use Rattle.sedtext.specs.Caps.{LastCut, LastCopy, only, then}
 use Rattle.sedpass.specs.Lengths.{sum_of, same_of, length_of, AllLong}
 use Rattle.sedtext.proofs.SpanLemmas.{CopiesLead-forward}
 
 -- the parts of a length that is known
-sum_parts : (first second : Option ℕ) (n : ℕ) → sum_of first second ≡ Some n → (m : ℕ) × (k : ℕ) × (first ≡ Some m) × (second ≡ Some k) × (n ≡ m + k)
+pub sum_parts : (first second : Option ℕ) (n : ℕ) → sum_of first second ≡ Some n → (m : ℕ) × (k : ℕ) × (first ≡ Some m) × (second ≡ Some k) × (n ≡ m + k)
 sum_parts None second n is = cc
 sum_parts (Some m) None n is = cc
 sum_parts (Some m) (Some k) n is = (m, k, refl, refl, cc)
 
-same_parts : (first second : Option ℕ) (n : ℕ) → same_of first second ≡ Some n → (first ≡ Some n) × (second ≡ Some n)
+pub same_parts : (first second : Option ℕ) (n : ℕ) → same_of first second ≡ Some n → (first ≡ Some n) × (second ≡ Some n)
 same_parts None second n is = cc
 same_parts (Some m) None n is = cc
 same_parts (Some m) (Some k) n is =

@@ -1,5 +1,4 @@
 pub mod AheadLemmas
-pub mod CellLemmas
 pub mod ClassLemmas
 pub mod CountLemmas
 pub mod DecideLemmas

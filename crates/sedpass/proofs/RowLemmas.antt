@@ -1,5 +1,5 @@
--- How the marks at a place follow from what the leaves took, and that what is entered at a place decides the next.
-use Rattle.std.proofs.Common.{length-set, ◌≡◌, ℕ, zero, suc, ◌+◌, ◌-◌, ◌*◌, ◌<◌, ◌≤◌, ◌⊎◌, ◌↔◌, Bool, List, length, Option, Some, None, IsTrue, refl, sym, ap, ◌∙◌, subst, inl, inr, ⊎_elim, true≢false, true, false, ◌&&◌, ◌||◌, arith}
+-- How the marks at a place follow from what the leaves took, and what a row tells.
+use Rattle.std.proofs.Common.{length-set, ◌≡◌, ℕ, ◌+◌, ◌-◌, ◌*◌, ◌<◌, ◌≤◌, ◌⊎◌, ◌↔◌, Bool, List, length, Option, Some, None, IsTrue, refl, sym, ap, ◌∙◌, subst, inl, inr, ⊎_elim, true≢false, true, false, ◌&&◌, ◌||◌, arith}
 use Rattle.std.specs.Prelude.{slice_get, slice_index_or, slice_set, eqb, nat_lt, reverse}
 use Rattle.std.proofs.Math.Path.{fun_ext}
 use Rattle.std.proofs.lemmas.Option.{slice_get_within}
@@ -14,38 +14,31 @@ use Rattle.sedre.specs.declared.types.Node.{Node}
 use Rattle.sedre.specs.declared.types.NodeId.{NodeId}
 use Rattle.sedre.specs.declared.types.Node.TheVariants.{Empty, Set, Begin, End, Seq, Alt, Group, Star, Opt}
 use Rattle.sedtext.specs.declared.starts.Starts.{Starts}
-use Rattle.sedtext.specs.Spans.{CopiesLead, no_copy}
+use Rattle.sedtext.specs.Spans.{CopiesLead}
 use Rattle.sedtext.specs.Matching.{byte_is_in}
 use Rattle.sedtext.specs.PartMarks.{enter_parts}
 use Rattle.sedtext.specs.Places.{takes_any}
 use Rattle.sedtext.specs.Words.{AgreeBelow}
 use Rattle.sedtext.specs.Reach.{At, IsStart, one_start, SomeSpan, BeginsWith, Marked, Enters, at_root, with_whole, after_left, again, Ends}
 use Rattle.sedpass.specs.Regions.{EndsAt, Opposite, ReachesEnd, Meets}
-use Rattle.sedpass.specs.Rows.{Took, NullBy, EndsBy, EntersBy, SameBytes, SameKind, SameLeaves, NoneEntered, InTree, is_tree, part_of, IsNodeRange, TreeBelow, TreeFrom, AreNull, ended_by, leaf_looks, part_looks, enter_looks, bits, TellTook, RowOfPlace, RowFrom, LeadsTo}
-use Rattle.sedtext.proofs.SpanLemmas.{Matches-forward, Matches-within, CopiesLead-append, CopiesLead-last}
-use Rattle.sedtext.proofs.ReachLemmas.{open_at, close_at, takes_some, FromNode, Enters-from, Enters-part, Enters-inside, Enters-root, Enters-loose}
-use Rattle.sedtext.proofs.NodeLemmas.{node_at}
+use Rattle.sedpass.specs.Rows.{Took, SameBytes, NoneEntered, InTree, is_tree, part_of, IsNodeRange, TreeBelow, TreeFrom, AreNull, ended_by, enter_looks, bits, TellTook, RowOfPlace, LeafAt, EndKept, TellFrom, RowFrom, LeadsTo}
+use Rattle.sedtext.proofs.SpanLemmas.{Matches-forward, CopiesLead-append, CopiesLead-last}
+use Rattle.sedtext.proofs.ReachLemmas.{open_at, close_at, takes_some, FromNode, Enters-from, Enters-part, Enters-inside, Enters-root}
 use Rattle.sedpass.proofs.LeaveLemmas.{ends_at, reaches_mirror}
 use Rattle.sedpass.proofs.MeetingLemmas.{BeginsWith-part, meets_whole}
 
-module _ (nodes : List Node) (w : List ℕ) (arena : IsArena nodes) where
-  -- whether a node is null depends on its parts and on the place's kind
-  pub null_by : (x j : ℕ) (node : Node) → slice_get nodes x ≡ Some node → At nodes w x j j ↔ NullBy (j ≡ 0) (j ≡ length w) (λ c. At nodes w c j j) node
-  null_by x j Empty is = (λ h. tt, λ h. close_at nodes w x Empty arena is j j refl)
-  null_by x j (Set m) is = (λ h. let f = open_at nodes w x (Set m) arena is j j h in absurd (omega (arith, f.3)), λ h. absurd h)
-  null_by x j (Seq a b) is = (
-    λ h. let f = open_at nodes w x (Seq a b) arena is j j h in
-        let low = Matches-forward (tree_at nodes a.index) w j f.0 f.1 in
-        let high = Matches-forward (tree_at nodes b.index) w f.0 j f.2 in
-        let e : f.0 ≡ j = omega arith in
-        (subst (λ k. At nodes w a.index j k) e f.1, subst (λ k. At nodes w b.index k j) e f.2),
-    λ h. close_at nodes w x (Seq a b) arena is j j (j, h.0, h.1),
-  )
-  null_by x j (Alt a b) is = (open_at nodes w x (Alt a b) arena is j j, close_at nodes w x (Alt a b) arena is j j)
-  null_by x j (Group k a) is = (open_at nodes w x (Group k a) arena is j j, close_at nodes w x (Group k a) arena is j j)
-  null_by x j (Star a first) is = (λ h. tt, λ h. close_at nodes w x (Star a first) arena is j j no_copy)
-  null_by x j (Opt a first) is = (λ h. tt, λ h. close_at nodes w x (Opt a first) arena is j j (inl refl))
-  null_by x j other is = (λ h. (open_at nodes w x other arena is j j h).0, λ h. close_at nodes w x other arena is j j (h, h))
+-- what marks tell, together
+pub or_truth : (a b : Bool) (A B : Type 0) → (IsTrue a ↔ A) → (IsTrue b ↔ B) → IsTrue (a || b) ↔ (A ⊎ B)
+or_truth a b A B l m = (
+  λ h. ⊎_elim (λ (x : a ≡ true). inl (l.0 x)) (λ (y : b ≡ true). inr (m.0 y)) (or_cases a b h),
+  λ h. ⊎_elim (λ (x : A). or_left a b (l.1 x)) (λ (y : B). or_right a b (m.1 y)) h,
+)
+
+pub and_truth : (a b : Bool) (A B : Type 0) → (IsTrue a ↔ A) → (IsTrue b ↔ B) → IsTrue (a && b) ↔ (A × B)
+and_truth a b A B l m = (λ h. let both = and_parts a b h in (l.0 both.0, m.0 both.1), λ h. and_from a b (l.1 h.0) (m.1 h.1))
+
+pub not_true : (A : Type 0) → (A → ⊥) → IsTrue false ↔ A
+not_true A none = (λ h. absurd (true≢false (sym h)), λ a. absurd (none a))
 
 module _ (nodes : List Node) (w : List ℕ) (r : ℕ) (s : Starts) (arena : IsArena nodes) where
   -- a whole node ends where its part does that is entered with it alone
@@ -83,255 +76,97 @@ module _ (nodes : List Node) (w : List ℕ) (r : ℕ) (s : Starts) (arena : IsAr
       inr (last.0, last.2, again x a.index i last.0 a first is refl e (close_at nodes w x (Star a first) arena is i last.0 last.1), last.3))
       (CopiesLead-last (At nodes w a.index) j i (open_at nodes w x (Star a first) arena is i j at))
 
-  -- upwards: a node ends with a byte, by its parts
-  pub ends_by : (x j : ℕ) (node : Node) → x ≤ r → slice_get nodes x ≡ Some node →
-      Ends nodes w r s x j ↔ EndsBy (Took nodes w r s j x) (λ c. At nodes w c j j) (λ c. Ends nodes w r s c j) node
-  ends_by x j Empty le is = (λ h. let f = open_at nodes w x Empty arena is h.0 j h.3 in absurd (let less = h.1 in omega arith), λ h. absurd h)
-  ends_by x j Begin le is = (λ h. let f = open_at nodes w x Begin arena is h.0 j h.3 in absurd (let less = h.1 in omega (arith, f.1)), λ h. absurd h)
-  ends_by x j End le is = (λ h. let f = open_at nodes w x End arena is h.0 j h.3 in absurd (let less = h.1 in omega (arith, f.0, f.1)), λ h. absurd h)
-  ends_by x j (Set m) le is = (
-    λ h. let f = open_at nodes w x (Set m) arena is h.0 j h.3 in
-        (h.0, sym f.3, h.2, subst (λ o. IsTrue (byte_is_in o m)) (sym f.1) f.2),
-    λ h. let taken = takes_some (slice_get w h.0) m h.3 in
-        let next = h.1 in
-        (h.0, omega arith, h.2, close_at nodes w x (Set m) arena is h.0 j (taken.0, taken.1, taken.2, sym next)),
-  )
-  ends_by x j (Seq a b) le is = (
-    λ h. let f = open_at nodes w x (Seq a b) arena is h.0 j h.3 in
-        let on = Matches-forward (tree_at nodes b.index) w f.0 j f.2 in
-        ⊎_elim
-        (λ (lt : f.0 < j). inl (f.0, lt, after_left x b.index h.0 f.0 a b is refl h.2 f.1, f.2))
-        (λ (ge : j ≤ f.0).
-        let e : f.0 ≡ j = omega arith in
-        inr ((h.0, h.1, with_whole x a.index h.0 (Seq a b) is refl h.2, subst (λ k. At nodes w a.index h.0 k) e f.1), subst (λ k. At nodes w b.index k j) e f.2))
-        (cases_lt f.0 j),
-    λ h. ⊎_elim
-        (λ (right : Ends nodes w r s b.index j).
-        let from = after_seq x right.0 a b le is right.2 in
-        let on = Matches-forward (tree_at nodes a.index) w from.0 right.0 from.2 in
-        let less = right.1 in
-        (from.0, omega arith, from.1, close_at nodes w x (Seq a b) arena is from.0 j (right.0, from.2, right.3)))
-        (λ (left : Ends nodes w r s a.index j × At nodes w b.index j j).
-        let end = left.0 in
-        (end.0, end.1, with_seq x end.0 a b le is end.2, close_at nodes w x (Seq a b) arena is end.0 j (j, end.3, left.1)))
-        h,
-  )
-  ends_by x j (Alt a b) le is = (
-    λ h. ⊎_elim
-        (λ (l : At nodes w a.index h.0 j). inl (h.0, h.1, with_whole x a.index h.0 (Alt a b) is (inl refl) h.2, l))
-        (λ (m : At nodes w b.index h.0 j). inr (h.0, h.1, with_whole x b.index h.0 (Alt a b) is (inr refl) h.2, m))
-        (open_at nodes w x (Alt a b) arena is h.0 j h.3),
-    λ h. ⊎_elim
-        (λ (l : Ends nodes w r s a.index j). up_with x j a.index (Alt a b) le is (inl refl) (λ i f. f) (λ i at. close_at nodes w x (Alt a b) arena is i j (inl at)) l)
-        (λ (m : Ends nodes w r s b.index j). up_with x j b.index (Alt a b) le is (inr refl) (λ i f. f) (λ i at. close_at nodes w x (Alt a b) arena is i j (inr at)) m)
-        h,
-  )
-  ends_by x j (Group k a) le is = (
-    λ h. (h.0, h.1, with_whole x a.index h.0 (Group k a) is refl h.2, open_at nodes w x (Group k a) arena is h.0 j h.3),
-    up_with x j a.index (Group k a) le is refl (λ i f. f) (λ i at. close_at nodes w x (Group k a) arena is i j at),
-  )
-  ends_by x j (Star a first) le is = (
-    λ h. elim (last_copy x h.0 j a first is h.2 h.3) [ inl none ↦ absurd (let less = h.1 in omega arith) | inr end ↦ end ],
-    one_copy x j a first le is,
-  )
-  ends_by x j (Opt a first) le is = (
-    λ h. elim (open_at nodes w x (Opt a first) arena is h.0 j h.3) [ inl none ↦ absurd (let less = h.1 in omega arith) | inr at ↦ (h.0, h.1, with_whole x a.index h.0 (Opt a first) is refl h.2, at) ],
-    up_with x j a.index (Opt a first) le is refl (λ i f. f) (λ i at. close_at nodes w x (Opt a first) arena is i j (inr at)),
-  )
-
-  -- downwards: a part is entered, by its node
-  pub enters_by : (y c j : ℕ) (node : Node) → y ≤ r → slice_get nodes y ≡ Some node → IsPart node c →
-      Enters nodes w r s c j ↔ EntersBy (Enters nodes w r s y j) (λ c. At nodes w c j j) (λ c. Ends nodes w r s c j) c node
-  enters_by y c j (Seq a b) le is part = (
-    λ h. ⊎_elim
-        (λ (from : (a.index ≡ c) × Enters nodes w r s y j). inl from)
-        (λ (from : (b.index ≡ c) × ((i : ℕ) × Enters nodes w r s y i × At nodes w a.index i j)).
-        let on = Matches-forward (tree_at nodes a.index) w from.1.0 j from.1.2 in
-        inr (
-          from.0,
-          ⊎_elim
-              (λ (lt : from.1.0 < j). inl (from.1.0, lt, with_whole y a.index from.1.0 (Seq a b) is refl from.1.1, from.1.2))
-              (λ (ge : j ≤ from.1.0).
-              let e : from.1.0 ≡ j = omega arith in
-              inr (subst (λ k. Enters nodes w r s y k) e from.1.1, subst (λ k. At nodes w a.index k j) e from.1.2))
-              (cases_lt from.1.0 j),
-        ))
-        (Enters-part nodes w r s arena y le c j (Seq a b) is part h),
-    λ h. ⊎_elim
-        (λ (left : (a.index ≡ c) × Enters nodes w r s y j). with_whole y c j (Seq a b) is left.0 left.1)
-        (λ (right : (b.index ≡ c) × (Ends nodes w r s a.index j ⊎ (Enters nodes w r s y j × At nodes w a.index j j))).
-        elim right.1 [ inl end ↦ after_left y c end.0 j a b is right.0 (with_seq y end.0 a b le is end.2) end.3 | inr null ↦ after_left y c j j a b is right.0 null.0 null.1 ])
-        h,
-  )
-  enters_by y c j (Alt a b) le is part = (Enters-part nodes w r s arena y le c j (Alt a b) is part, with_whole y c j (Alt a b) is part)
-  enters_by y c j (Group k a) le is part = (Enters-part nodes w r s arena y le c j (Group k a) is part, with_whole y c j (Group k a) is part)
-  enters_by y c j (Star a first) le is part = (
-    λ h. let from = Enters-part nodes w r s arena y le c j (Star a first) is part h in
-        elim (last_copy y from.0 j a first is from.1 from.2) [ inl none ↦ inl (subst (λ k. Enters nodes w r s y k) none from.1) | inr end ↦ inr end ],
-    λ h. elim h [ inl here ↦ with_whole y c j (Star a first) is part here | inr end ↦ let more = one_copy y j a first le is end in again y c more.0 j a first is part more.2 more.3 ],
-  )
-  enters_by y c j (Opt a first) le is part = (Enters-part nodes w r s arena y le c j (Opt a first) is part, with_whole y c j (Opt a first) is part)
-  enters_by y c j other le is part = absurd part
-
-  -- and the root where a match may begin
-  pub enters_root : (j : ℕ) → Enters nodes w r s r j ↔ IsStart s j
-  enters_root j = (Enters-root nodes w r s arena r j refl, at_root r j refl)
-
--- what decides the marks of a place decides them: one way
-null_on : (begin begin' end end' : Type 0) (null null' : ℕ → Type 0) (node : Node) → (begin → begin') → (end → end') → ((c : ℕ) → IsPart node c → null c → null' c) →
-    NullBy begin end null node → NullBy begin' end' null' node
-null_on begin begin' end end' null null' Empty first last parts h = tt
-null_on begin begin' end end' null null' (Set m) first last parts h = h
-null_on begin begin' end end' null null' Begin first last parts h = first h
-null_on begin begin' end end' null null' End first last parts h = last h
-null_on begin begin' end end' null null' (Seq a b) first last parts h = (parts a.index (inl refl) h.0, parts b.index (inr refl) h.1)
-null_on begin begin' end end' null null' (Alt a b) first last parts h =
-    ⊎_elim (λ (l : null a.index). inl (parts a.index (inl refl) l)) (λ (m : null b.index). inr (parts b.index (inr refl) m)) h
-null_on begin begin' end end' null null' (Group k a) first last parts h = parts a.index refl h
-null_on begin begin' end end' null null' (Star a f) first last parts h = tt
-null_on begin begin' end end' null null' (Opt a f) first last parts h = tt
-
-ends_on : (took took' : List Bool → Type 0) (null null' ended ended' : ℕ → Type 0) (node : Node) → ((m : List Bool) → node ≡ Set m → took m → took' m) →
-    ((c : ℕ) → IsPart node c → null c → null' c) → ((c : ℕ) → IsPart node c → ended c → ended' c) → EndsBy took null ended node → EndsBy took' null' ended' node
-ends_on took took' null null' ended ended' (Set m) takes_on nulls parts h = takes_on m refl h
-ends_on took took' null null' ended ended' (Seq a b) takes_on nulls parts h =
-    elim h [ inl right ↦ inl (parts b.index (inr refl) right) | inr left ↦ inr (parts a.index (inl refl) left.0, nulls b.index (inr refl) left.1) ]
-ends_on took took' null null' ended ended' (Alt a b) takes_on nulls parts h =
-    ⊎_elim (λ (l : ended a.index). inl (parts a.index (inl refl) l)) (λ (m : ended b.index). inr (parts b.index (inr refl) m)) h
-ends_on took took' null null' ended ended' (Group k a) takes_on nulls parts h = parts a.index refl h
-ends_on took took' null null' ended ended' (Star a f) takes_on nulls parts h = parts a.index refl h
-ends_on took took' null null' ended ended' (Opt a f) takes_on nulls parts h = parts a.index refl h
-ends_on took took' null null' ended ended' other takes_on nulls parts h = h
-
-enters_on : (here here' : Type 0) (null null' ended ended' : ℕ → Type 0) (c : ℕ) (node : Node) → (here → here') →
-    ((c : ℕ) → IsPart node c → null c → null' c) → ((c : ℕ) → IsPart node c → ended c → ended' c) → EntersBy here null ended c node → EntersBy here' null' ended' c node
-enters_on here here' null null' ended ended' c (Seq a b) on nulls parts h =
-    elim h [ inl left ↦ inl (left.0, on left.1) | inr right ↦ inr (right.0, elim right.1 [ inl end ↦ inl (parts a.index (inl refl) end) | inr n ↦ inr (on n.0, nulls a.index (inl refl) n.1) ]) ]
-enters_on here here' null null' ended ended' c (Alt a b) on nulls parts h = on h
-enters_on here here' null null' ended ended' c (Group k a) on nulls parts h = on h
-enters_on here here' null null' ended ended' c (Star a f) on nulls parts h =
-    ⊎_elim (λ (l : here). inl (on l)) (λ (end : ended a.index). inr (parts a.index refl end)) h
-enters_on here here' null null' ended ended' c (Opt a f) on nulls parts h = on h
-enters_on here here' null null' ended ended' c other on nulls parts h = h
-
--- null strings are the same at places of one kind
-module _ (nodes : List Node) (w v : List ℕ) (p q : ℕ) (arena : IsArena nodes) (first : (p ≡ 0) → (q ≡ 0)) (last : (p ≡ length w) → (q ≡ length v)) where
-  pub null_same : (n x : ℕ) → x < n → x < length nodes → At nodes w x p p → At nodes v x q q
-  null_same zero x small inside at = absurd (omega arith)
-  null_same (suc n) x small inside at =
-      let here = node_at nodes x inside in
-      (null_by nodes v arena x q here.0 here.1).1
-      (null_on (p ≡ 0) (q ≡ 0) (p ≡ length w) (q ≡ length v) (λ c. At nodes w c p p) (λ c. At nodes v c q q) here.0 first last
-      (λ c part. let low = arena.below x c here.0 here.1 part in null_same n c (omega arith) (omega arith))
-      ((null_by nodes w arena x p here.0 here.1).0 at))
-
--- what is entered at one place is entered at the other, one way, if what has ended with a byte has there
-module _ (nodes : List Node) (w v : List ℕ) (r p q : ℕ) (s t : Starts) (arena : IsArena nodes) (inside : r < length nodes)
-    (first : (p ≡ 0) → (q ≡ 0)) (last : (p ≡ length w) → (q ≡ length v)) (starts : IsStart s p → IsStart t q)
-    (ended : (x : ℕ) → x ≤ r → Ends nodes w r s x p → Ends nodes v r t x q) where
-  pub entered_same : (d c : ℕ) → c ≤ r → r < c + d → Enters nodes w r s c p → Enters nodes v r t c q
-  entered_same zero c low deep h = absurd (omega arith)
-  entered_same (suc d) c low deep h =
-      ⊎_elim
-      (λ (e : c ≡ r). at_root c q e (starts (Enters-root nodes w r s arena c p e h)))
-      (λ (ne : c ≡ r → ⊥).
-      let whole = arena.each c (omega arith) in
-      let above = arena.below whole.0 c whole.1 whole.2 whole.3 in
-      ⊎_elim
-      (λ (high : r < whole.0). absurd (Enters-loose nodes w r s arena c p (whole.0, whole.1, high, whole.2, whole.3) low ne h))
-      (λ (le : whole.0 ≤ r).
-      (enters_by nodes v r t arena whole.0 c q whole.1 le whole.2 whole.3).1
-      (enters_on (Enters nodes w r s whole.0 p) (Enters nodes v r t whole.0 q) (λ x. At nodes w x p p) (λ x. At nodes v x q q)
-      (λ x. Ends nodes w r s x p) (λ x. Ends nodes v r t x q) c whole.1
-      (entered_same d whole.0 le (omega arith))
-      (λ x part. let less = arena.below whole.0 x whole.1 whole.2 part in null_same nodes w v p q arena first last (x + 1) x (omega arith) (omega arith))
-      (λ x part. let less = arena.below whole.0 x whole.1 whole.2 part in ended x (omega arith))
-      ((enters_by nodes w r s arena whole.0 c p whole.1 le whole.2 whole.3).0 h)))
-      (cases_lt r whole.0))
-      (cases_eq c r)
-
-  pub ends_same : (c : ℕ) → c ≤ r → EndsAt nodes w r s c p → EndsAt nodes v r t c q
-  ends_same c low h =
-      (ends_at nodes v r c q t).1 (⊎_elim
-      (λ (end : Ends nodes w r s c p). inl (ended c low end))
-      (λ (null : Enters nodes w r s c p × At nodes w c p p). inr (entered_same (r + 1) c low (omega arith) null.0, null_same nodes w v p q arena first last (c + 1) c (omega arith) (omega arith) null.1))
-      ((ends_at nodes w r c p s).0 h))
-
--- from one place to the next, one way
-module _ (nodes : List Node) (w v : List ℕ) (r p q : ℕ) (s t : Starts) (arena : IsArena nodes) (inside : r < length nodes)
-    (leaves : (c : ℕ) (members : List Bool) → slice_get nodes c ≡ Some (Set members) → Enters nodes w r s c p → Enters nodes v r t c q)
-    (bytes : SameBytes nodes (slice_get w p) (slice_get v q))
-    (first : (p + 1 ≡ 0) → (q + 1 ≡ 0)) (last : (p + 1 ≡ length w) → (q + 1 ≡ length v)) where
-  null_next : (c : ℕ) → c < length nodes → At nodes w c (p + 1) (p + 1) → At nodes v c (q + 1) (q + 1)
-  null_next c = null_same nodes w v (p + 1) (q + 1) arena first last (c + 1) c (omega arith)
-
-  took_next : (x : ℕ) (m : List Bool) → slice_get nodes x ≡ Some (Set m) → Took nodes w r s (p + 1) x m → Took nodes v r t (q + 1) x m
-  took_next x m is h =
-      let at : h.0 ≡ p = (let next = h.1 in omega arith) in
-      let taken : IsTrue (byte_is_in (slice_get w p) m) = subst (λ i. IsTrue (byte_is_in (slice_get w i) m)) at h.3 in
-      (q, refl, leaves x m is (subst (λ i. Enters nodes w r s x i) at h.2), sym (bytes x m is) ∙ taken)
-
-  -- upwards
-  pub ended_next : (n x : ℕ) → x < n → x ≤ r → Ends nodes w r s x (p + 1) → Ends nodes v r t x (q + 1)
-  ended_next zero x small low h = absurd (omega arith)
-  ended_next (suc n) x small low h =
-      let here = node_at nodes x (omega arith) in
-      (ends_by nodes v r t arena x (q + 1) here.0 low here.1).1
-      (ends_on (Took nodes w r s (p + 1) x) (Took nodes v r t (q + 1) x) (λ c. At nodes w c (p + 1) (p + 1)) (λ c. At nodes v c (q + 1) (q + 1))
-      (λ c. Ends nodes w r s c (p + 1)) (λ c. Ends nodes v r t c (q + 1)) here.0
-      (λ m e. took_next x m (here.1 ∙ ap (λ (z : Node). Some z) e))
-      (λ c part. let less = arena.below x c here.0 here.1 part in null_next c (omega arith))
-      (λ c part. let less = arena.below x c here.0 here.1 part in ended_next n c (omega arith) (omega arith))
-      ((ends_by nodes w r s arena x (p + 1) here.0 low here.1).0 h))
-
-  -- downwards
-  pub entered_next : (IsStart s (p + 1) → IsStart t (q + 1)) → (d c : ℕ) → c ≤ r → r < c + d → Enters nodes w r s c (p + 1) → Enters nodes v r t c (q + 1)
-  entered_next starts = entered_same nodes w v r (p + 1) (q + 1) s t arena inside first last starts (λ x low. ended_next (x + 1) x (omega arith) low)
-
-  -- a node that ends with a byte or null
-  pub ends_next : (IsStart s (p + 1) → IsStart t (q + 1)) → (c : ℕ) → c ≤ r → EndsAt nodes w r s c (p + 1) → EndsAt nodes v r t c (q + 1)
-  ends_next starts = ends_same nodes w v r (p + 1) (q + 1) s t arena inside first last starts (λ x low. ended_next (x + 1) x (omega arith) low)
-
--- both ways
-pub next_same : (nodes : List Node) (w v : List ℕ) (r p q : ℕ) (s t : Starts) → IsArena nodes → r < length nodes →
-    SameLeaves nodes r w s p v t q → SameBytes nodes (slice_get w p) (slice_get v q) → SameKind w (p + 1) v (q + 1) → (IsStart s (p + 1) ↔ IsStart t (q + 1)) →
-    (c : ℕ) → c ≤ r → (Enters nodes w r s c (p + 1) ↔ Enters nodes v r t c (q + 1)) × (EndsAt nodes w r s c (p + 1) ↔ EndsAt nodes v r t c (q + 1))
-next_same nodes w v r p q s t arena inside leaves bytes kind starts c low =
-    let there = λ (x : ℕ) (m : List Bool) (is : slice_get nodes x ≡ Some (Set m)). (leaves x m is).0 in
-    let back = λ (x : ℕ) (m : List Bool) (is : slice_get nodes x ≡ Some (Set m)). (leaves x m is).1 in
-    let bytes' : SameBytes nodes (slice_get v q) (slice_get w p) = λ x m is. sym (bytes x m is) in (
-      (
-        entered_next nodes w v r p q s t arena inside there bytes kind.0.0 kind.1.0 starts.0 (r + 1) c low (omega arith),
-        entered_next nodes v w r q p t s arena inside back bytes' kind.0.1 kind.1.1 starts.1 (r + 1) c low (omega arith),
-      ),
-      (
-        ends_next nodes w v r p q s t arena inside there bytes kind.0.0 kind.1.0 starts.0 c low,
-        ends_next nodes v w r q p t s arena inside back bytes' kind.0.1 kind.1.1 starts.1 c low,
-      ),
+  -- upwards: the mark of a node that ends with a byte, by those of its parts
+  module _ (took : List Bool → Bool) (null ended : ℕ → Bool) (x j : ℕ) (le : x ≤ r) where
+    ended_is : (node : Node) → slice_get nodes x ≡ Some node → ((m : List Bool) → node ≡ Set m → IsTrue (took m) ↔ Took nodes w r s j x m) →
+        ((c : ℕ) → IsPart node c → IsTrue (null c) ↔ At nodes w c j j) → ((c : ℕ) → IsPart node c → IsTrue (ended c) ↔ Ends nodes w r s c j) → IsTrue (ended_by took null ended node) ↔ Ends nodes w r s x j
+    ended_is Empty is takes nulls ends = not_true (Ends nodes w r s x j) (λ h. let f = open_at nodes w x Empty arena is h.0 j h.3 in let less = h.1 in omega arith)
+    ended_is Begin is takes nulls ends = not_true (Ends nodes w r s x j) (λ h. let f = open_at nodes w x Begin arena is h.0 j h.3 in let less = h.1 in omega (arith, f.1))
+    ended_is End is takes nulls ends = not_true (Ends nodes w r s x j) (λ h. let f = open_at nodes w x End arena is h.0 j h.3 in let less = h.1 in omega (arith, f.0, f.1))
+    ended_is (Set m) is takes nulls ends =
+        let truth = takes m refl in (
+          λ h. let here = truth.0 h in
+              let taken = takes_some (slice_get w here.0) m here.3 in
+              let next = here.1 in
+              (here.0, omega arith, here.2, close_at nodes w x (Set m) arena is here.0 j (taken.0, taken.1, taken.2, sym next)),
+          λ h. let f = open_at nodes w x (Set m) arena is h.0 j h.3 in truth.1 (h.0, sym f.3, h.2, subst (λ o. IsTrue (byte_is_in o m)) (sym f.1) f.2),
+        )
+    ended_is (Seq a b) is takes nulls ends =
+        let truth = or_truth (ended b.index) (ended a.index && null b.index) (Ends nodes w r s b.index j) (Ends nodes w r s a.index j × At nodes w b.index j j) (ends b.index (inr refl))
+        (and_truth (ended a.index) (null b.index) (Ends nodes w r s a.index j) (At nodes w b.index j j) (ends a.index (inl refl)) (nulls b.index (inr refl))) in (
+          λ h. ⊎_elim
+              (λ (right : Ends nodes w r s b.index j).
+              let from = after_seq x right.0 a b le is right.2 in
+              let on = Matches-forward (tree_at nodes a.index) w from.0 right.0 from.2 in
+              let less = right.1 in
+              (from.0, omega arith, from.1, close_at nodes w x (Seq a b) arena is from.0 j (right.0, from.2, right.3)))
+              (λ (left : Ends nodes w r s a.index j × At nodes w b.index j j).
+              let end = left.0 in
+              (end.0, end.1, with_seq x end.0 a b le is end.2, close_at nodes w x (Seq a b) arena is end.0 j (j, end.3, left.1)))
+              (truth.0 h),
+          λ h. let f = open_at nodes w x (Seq a b) arena is h.0 j h.3 in
+              let on = Matches-forward (tree_at nodes b.index) w f.0 j f.2 in
+              truth.1 (⊎_elim
+              (λ (lt : f.0 < j). inl (f.0, lt, after_left x b.index h.0 f.0 a b is refl h.2 f.1, f.2))
+              (λ (ge : j ≤ f.0).
+              let e : f.0 ≡ j = omega arith in
+              inr ((h.0, h.1, with_whole x a.index h.0 (Seq a b) is refl h.2, subst (λ k. At nodes w a.index h.0 k) e f.1), subst (λ k. At nodes w b.index k j) e f.2))
+              (cases_lt f.0 j)),
+        )
+    ended_is (Alt a b) is takes nulls ends =
+        let truth = or_truth (ended a.index) (ended b.index) (Ends nodes w r s a.index j) (Ends nodes w r s b.index j) (ends a.index (inl refl)) (ends b.index (inr refl)) in (
+          λ h. ⊎_elim
+              (λ (l : Ends nodes w r s a.index j). up_with x j a.index (Alt a b) le is (inl refl) (λ i f. f) (λ i at. close_at nodes w x (Alt a b) arena is i j (inl at)) l)
+              (λ (m : Ends nodes w r s b.index j). up_with x j b.index (Alt a b) le is (inr refl) (λ i f. f) (λ i at. close_at nodes w x (Alt a b) arena is i j (inr at)) m)
+              (truth.0 h),
+          λ h. truth.1 (⊎_elim
+              (λ (l : At nodes w a.index h.0 j). inl (h.0, h.1, with_whole x a.index h.0 (Alt a b) is (inl refl) h.2, l))
+              (λ (m : At nodes w b.index h.0 j). inr (h.0, h.1, with_whole x b.index h.0 (Alt a b) is (inr refl) h.2, m))
+              (open_at nodes w x (Alt a b) arena is h.0 j h.3)),
+        )
+    ended_is (Group k a) is takes nulls ends = (
+      λ h. up_with x j a.index (Group k a) le is refl (λ i f. f) (λ i at. close_at nodes w x (Group k a) arena is i j at) ((ends a.index refl).0 h),
+      λ h. (ends a.index refl).1 (h.0, h.1, with_whole x a.index h.0 (Group k a) is refl h.2, open_at nodes w x (Group k a) arena is h.0 j h.3),
+    )
+    ended_is (Star a first) is takes nulls ends = (
+      λ h. one_copy x j a first le is ((ends a.index refl).0 h),
+      λ h. (ends a.index refl).1 (elim (last_copy x h.0 j a first is h.2 h.3) [ inl none ↦ absurd (let less = h.1 in omega arith) | inr end ↦ end ]),
+    )
+    ended_is (Opt a first) is takes nulls ends = (
+      λ h. up_with x j a.index (Opt a first) le is refl (λ i f. f) (λ i at. close_at nodes w x (Opt a first) arena is i j (inr at)) ((ends a.index refl).0 h),
+      λ h. (ends a.index refl).1
+          (elim (open_at nodes w x (Opt a first) arena is h.0 j h.3) [ inl none ↦ absurd (let less = h.1 in omega arith) | inr at ↦ (h.0, h.1, with_whole x a.index h.0 (Opt a first) is refl h.2, at) ]),
     )
 
--- a pass begins
-none_ended : (nodes : List Node) (w : List ℕ) (r x p : ℕ) (s : Starts) → p ≤ s.first → Ends nodes w r s x p → ⊥
-none_ended nodes w r x p s low h = let up = Enters-from nodes w r s x h.0 h.2 in let less = h.1 in omega arith
+  -- downwards: the mark of a part that is entered, by that of its node
+  module _ (x p : ℕ) (le : x ≤ r) (here : Bool) (enters : IsTrue here ↔ Enters nodes w r s x p) where
+    -- a part that is entered with its node alone
+    with_node : (c : ℕ) (node : Node) → slice_get nodes x ≡ Some node → BeginsWith node c → (FromNode nodes w r s x c p node → Enters nodes w r s x p) → IsTrue here ↔ Enters nodes w r s c p
+    with_node c node is begins alone =
+        (λ h. with_whole x c p node is begins (enters.0 h), λ h. enters.1 (alone (Enters-part nodes w r s arena x le c p node is (BeginsWith-part node c begins) h)))
 
-pub first_took : (nodes : List Node) (w : List ℕ) (r x p : ℕ) (s : Starts) (m : List Bool) → p ≤ s.first → Took nodes w r s p x m → ⊥
-first_took nodes w r x p s m low h = let up = Enters-from nodes w r s x h.0 h.2 in let next = h.1 in omega arith
+    right_part : (a b : NodeId) → slice_get nodes x ≡ Some (Seq a b) → (null ended : Bool) → (IsTrue null ↔ At nodes w a.index p p) → (IsTrue ended ↔ Ends nodes w r s a.index p) →
+        IsTrue (ended || (here && null)) ↔ Enters nodes w r s b.index p
+    right_part a b is null ended nulls ends =
+        let truth = or_truth ended (here && null) (Ends nodes w r s a.index p) (Enters nodes w r s x p × At nodes w a.index p p) ends (and_truth here null (Enters nodes w r s x p) (At nodes w a.index p p) enters nulls) in (
+          λ h. elim (truth.0 h) [ inl end ↦ after_left x b.index end.0 p a b is refl (with_seq x end.0 a b le is end.2) end.3 | inr none ↦ after_left x b.index p p a b is refl none.0 none.1 ],
+          λ h. let from = after_seq x p a b le is h in
+              let on = Matches-forward (tree_at nodes a.index) w from.0 p from.2 in
+              truth.1 (⊎_elim
+              (λ (lt : from.0 < p). inl (from.0, lt, with_whole x a.index from.0 (Seq a b) is refl from.1, from.2))
+              (λ (ge : p ≤ from.0).
+              let e : from.0 ≡ p = omega arith in
+              inr (subst (λ k. Enters nodes w r s x k) e from.1, subst (λ k. At nodes w a.index k p) e from.2))
+              (cases_lt from.0 p)),
+        )
 
-pub first_same : (nodes : List Node) (w v : List ℕ) (r p q : ℕ) (s t : Starts) → IsArena nodes → r < length nodes → p ≤ s.first → q ≤ t.first → SameKind w p v q → (IsStart s p ↔ IsStart t q) →
-    (c : ℕ) → c ≤ r → (Enters nodes w r s c p ↔ Enters nodes v r t c q) × (EndsAt nodes w r s c p ↔ EndsAt nodes v r t c q)
-first_same nodes w v r p q s t arena inside early early' kind starts c low =
-    let none = λ (x : ℕ) (le : x ≤ r) (h : Ends nodes w r s x p). absurd (none_ended nodes w r x p s early h) in
-    let none' = λ (x : ℕ) (le : x ≤ r) (h : Ends nodes v r t x q). absurd (none_ended nodes v r x q t early' h) in (
-      (
-        entered_same nodes w v r p q s t arena inside kind.0.0 kind.1.0 starts.0 none (r + 1) c low (omega arith),
-        entered_same nodes v w r q p t s arena inside kind.0.1 kind.1.1 starts.1 none' (r + 1) c low (omega arith),
-      ),
-      (ends_same nodes w v r p q s t arena inside kind.0.0 kind.1.0 starts.0 none c low, ends_same nodes v w r q p t s arena inside kind.0.1 kind.1.1 starts.1 none' c low),
-    )
-
--- the root ends where a match does
-pub root_ends : (nodes : List Node) (w : List ℕ) (r p : ℕ) (s : Starts) → IsArena nodes → EndsAt nodes w r s r p ↔ SomeSpan nodes w r s p
-root_ends nodes w r p s arena = (λ h. (h.0, Enters-root nodes w r s arena r h.0 refl h.1, h.2), λ h. (h.0, at_root r h.0 refl h.1, h.2))
+    copy_part : (a : NodeId) (first : Bool) → slice_get nodes x ≡ Some (Star a first) → (ended : Bool) → (IsTrue ended ↔ Ends nodes w r s a.index p) → IsTrue (here || ended) ↔ Enters nodes w r s a.index p
+    copy_part a first is ended ends =
+        let truth = or_truth here ended (Enters nodes w r s x p) (Ends nodes w r s a.index p) enters ends in (
+          λ h. elim (truth.0 h) [ inl begins ↦ with_whole x a.index p (Star a first) is refl begins | inr end ↦ let more = one_copy x p a first le is end in again x a.index more.0 p a first is refl more.2 more.3 ],
+          λ h. let from = Enters-part nodes w r s arena x le a.index p (Star a first) is refl h in
+              truth.1 (elim (last_copy x from.0 p a first is from.1 from.2) [ inl none ↦ inl (subst (λ k. Enters nodes w r s x k) none from.1) | inr end ↦ inr end ]),
+        )
 
 -- where no leaf is entered no match goes on
 pub dead : (nodes : List Node) (w : List ℕ) (r p i k : ℕ) (s : Starts) → IsArena nodes → r < length nodes → NoneEntered nodes w r s p → IsStart s i → i ≤ p → p < k → At nodes w r i k → ⊥
@@ -339,48 +174,7 @@ dead nodes w r p i k s arena inside none start low high at =
     let met = (meets_whole nodes w r p s (one_start k) arena inside).1 (i, k, start, low, high, at, (omega arith, omega arith)) in
     none met.0 met.1 met.2 met.3
 
--- nothing ends with a byte at the next place
-module _ (nodes : List Node) (w : List ℕ) (r p : ℕ) (s : Starts) (arena : IsArena nodes) (inside : r < length nodes) (none : NoneEntered nodes w r s p) where
-  dead_ended : (x : ℕ) → x ≤ r → Ends nodes w r s x (p + 1) → ⊥
-  dead_ended x low h =
-      none_ended nodes w r x (p + 1) (one_start (p + 2)) (omega arith)
-      (ended_next nodes w w r p p s (one_start (p + 2)) arena inside (λ c m is e. absurd (none c m is e)) (λ x m is. refl) (λ e. e) (λ e. e) (x + 1) x (omega arith) low h)
-
--- the same of the places after it
-module _ (nodes : List Node) (w : List ℕ) (r p : ℕ) (s : Starts) (arena : IsArena nodes) (inside : r < length nodes) (none : NoneEntered nodes w r s p) where
-  -- at a later place no leaf is entered that isn't at p, if p is a start and the text goes on
-  stopped_leaves : IsStart s p → (d k : ℕ) → k ≡ p + d → k < length w ⊎ (k ≡ p) → NoneEntered nodes w r s k
-  stopped_leaves start zero k at more = subst (λ n. NoneEntered nodes w r s n) (omega arith) none
-  stopped_leaves start (suc d) k at more = λ c m is h.
-      let k' = p + d in
-      let next : k' + 1 ≡ k = omega arith in
-      let goes : k < length w = ⊎_elim (λ (lt : k < length w). lt) (λ (e : k ≡ p). absurd (omega arith)) more in
-      let before : NoneEntered nodes w r s k' = stopped_leaves start d k' refl (inl (omega arith)) in
-      none c m is
-      (entered_same nodes w w r (k' + 1) p s s arena inside (λ e. absurd (omega arith)) (λ e. absurd (omega arith)) (λ e. start) (λ x le e. absurd (dead_ended nodes w r k' s arena inside before x le e)) (r + 1) c
-      (Enters-inside nodes w r s arena c k h) (omega arith) (subst (λ n. Enters nodes w r s c n) (sym next) h))
-
-  -- so a match that ends later is null, and stands at the text's end as well
-  stopped_ends : IsStart s p → (k : ℕ) → p ≤ k → k + 1 ≤ length w → EndsAt nodes w r s r (k + 1) → At nodes w r (length w) (length w)
-  stopped_ends start k low high h =
-      let before : NoneEntered nodes w r s k = stopped_leaves start (k - p) k (omega arith) (inl (omega arith)) in
-      ⊎_elim
-      (λ (end : Ends nodes w r s r (k + 1)). absurd (dead_ended nodes w r k s arena inside before r (omega arith) end))
-      (λ (null : Enters nodes w r s r (k + 1) × At nodes w r (k + 1) (k + 1)).
-      null_same nodes w w (k + 1) (length w) arena (λ e. absurd (omega arith)) (λ e. refl) (r + 1) r (omega arith) inside null.1)
-      ((ends_at nodes w r r (k + 1) s).0 h)
-
--- where no leaf is entered at a start no match ends later but a null one at the text's end
-pub stopped : (nodes : List Node) (w : List ℕ) (r p i j : ℕ) (s : Starts) → IsArena nodes → r < length nodes → NoneEntered nodes w r s p → IsStart s p →
-    (At nodes w r (length w) (length w) → ⊥) → IsStart s i → i ≤ length w → p < j → At nodes w r i j → ⊥
-stopped nodes w r p i j s arena inside none start not_null begin low lt at =
-    let high = Matches-within (tree_at nodes r) w i j low at in
-    let k = j - 1 in
-    let next : k + 1 ≡ j = omega arith in
-    not_null (stopped_ends nodes w r p s arena inside none start k (omega arith) (omega arith)
-    (subst (λ n. EndsAt nodes w r s r n) (sym next) (i, at_root r i refl begin, at)))
-
--- What the loops of `close` keep.
+-- What the scans keep.
 
 InTree-inside : (nodes : List Node) → IsArena nodes → (r x : ℕ) → InTree nodes r x → x ≤ r
 InTree-inside nodes arena r x (is_tree _ e) = omega arith
@@ -396,7 +190,8 @@ enters_tree nodes w r s x j (with_whole y _ _ node is begins e) = part_of y x no
 enters_tree nodes w r s x j (after_left y _ i _ a b is right e at) = part_of y x (Seq a b) is (inr right) (enters_tree nodes w r s y i e)
 enters_tree nodes w r s x j (again y _ i _ a first is inner e at) = part_of y x (Star a first) is inner (enters_tree nodes w r s y i e)
 
-tree_told : (nodes : List Node) → IsArena nodes → (r x : ℕ) → InTree nodes r x → TreeFrom nodes r (x + 1) x
+-- a node in r is r, or a part of one above it
+pub tree_told : (nodes : List Node) → IsArena nodes → (r x : ℕ) → InTree nodes r x → TreeFrom nodes r (x + 1) x
 tree_told nodes arena r x (is_tree _ e) = (is_tree x e, inl e)
 tree_told nodes arena r x (part_of y _ node is part up) =
     let high = InTree-inside nodes arena r y up in
@@ -404,28 +199,17 @@ tree_told nodes arena r x (part_of y _ node is part up) =
     (part_of y x node is part up, inr (y, node, omega arith, high, is, part))
 
 tree_step : (nodes : List Node) (r x : ℕ) (node : Node) → slice_get nodes x ≡ Some node → (c : ℕ) → TreeFrom nodes r x c → TreeFrom nodes r (x + 1) c ⊎ IsPart node c
-tree_step nodes r x node is c told =
-    ⊎_elim
-    (λ (e : c ≡ r). inl (told.0, inl e))
-    (λ (h : (z : ℕ) × (n : Node) × (x ≤ z) × (z ≤ r) × (slice_get nodes z ≡ Some n) × IsPart n c).
-    let low = h.2 in
-    ⊎_elim
-    (λ (e : h.0 ≡ x).
-    let same : slice_get nodes h.0 ≡ slice_get nodes x = ap (slice_get nodes) e in
-    let here : h.1 ≡ node = (let at = h.4 in cc) in
-    inr (subst (λ n. IsPart n c) here h.5))
-    (λ (ne : h.0 ≡ x → ⊥). inl (told.0, inr (h.0, h.1, omega arith, h.3, h.4, h.5)))
-    (cases_eq h.0 x))
-    told.1
-
-pub or_truth : (a b : Bool) (A B : Type 0) → (IsTrue a ↔ A) → (IsTrue b ↔ B) → IsTrue (a || b) ↔ (A ⊎ B)
-or_truth a b A B l m = (
-  λ h. ⊎_elim (λ (x : a ≡ true). inl (l.0 x)) (λ (y : b ≡ true). inr (m.0 y)) (or_cases a b h),
-  λ h. ⊎_elim (λ (x : A). or_left a b (l.1 x)) (λ (y : B). or_right a b (m.1 y)) h,
-)
-
-pub and_truth : (a b : Bool) (A B : Type 0) → (IsTrue a ↔ A) → (IsTrue b ↔ B) → IsTrue (a && b) ↔ (A × B)
-and_truth a b A B l m = (λ h. let both = and_parts a b h in (l.0 both.0, m.0 both.1), λ h. and_from a b (l.1 h.0) (m.1 h.1))
+tree_step nodes r x node is c told = elim told.1 [
+  | inl e ↦ inl (told.0, inl e)
+  | inr h ↦ let low = h.2 in
+      elim (cases_eq h.0 x) [
+        | inl e ↦
+            let at : slice_get nodes x ≡ Some h.1 = ap (slice_get nodes) (sym e) ∙ h.4 in
+            let here : h.1 ≡ node = cc in
+            inr (subst (λ n. IsPart n c) here h.5)
+        | inr ne ↦ inl (told.0, inr (h.0, h.1, omega arith, h.3, h.4, h.5))
+      ]
+]
 
 pub set_other : (marks after : List Bool) (x c : ℕ) (v : Bool) → (c ≡ x → ⊥) → after ≡ slice_set marks x v → slice_index_or after c false ≡ slice_index_or marks c false
 set_other marks after x c v ne is = ap (λ l. slice_index_or l c false) is ∙ get_or-set_other marks x c v false ne
@@ -433,36 +217,15 @@ set_other marks after x c v ne is = ap (λ l. slice_index_or l c false) is ∙ g
 pub set_same : (marks after : List Bool) (x : ℕ) (v : Bool) → x < length marks → after ≡ slice_set marks x v → slice_index_or after x false ≡ v
 set_same marks after x v inside is = ap (λ l. slice_index_or l x false) is ∙ get_or-set_same marks x v false inside
 
--- one more mark that tells the truth
+-- one more bit that tells the truth
+one_told : (bits after : ℕ → Bool) (P : ℕ → Type 0) (x : ℕ) (v : Bool) → after x ≡ v → (IsTrue v ↔ P x) → ((c : ℕ) → (c ≡ x → ⊥) → after c ≡ bits c) → (c : ℕ) → ((c ≡ x → ⊥) → IsTrue (bits c) ↔ P c) → IsTrue (after c) ↔ P c
+one_told bits after P x v is truth others c old = ⊎_elim (λ (e : c ≡ x). rw (e, is) truth) (λ (ne : c ≡ x → ⊥). rw (others c ne) (old ne)) (cases_eq c x)
+
 mark_one : (marks after : List Bool) (x : ℕ) (v : Bool) (S R P : ℕ → Type 0) → after ≡ slice_set marks x v → x < length marks → (IsTrue v ↔ P x) → ((c : ℕ) → R c → S c ⊎ (c ≡ x)) →
     Marked marks S P → Marked after R P
 mark_one marks after x v S R P is inside truth more marked c told =
-    ⊎_elim
-    (λ (e : c ≡ x).
-    let at = subst (λ n. slice_index_or after n false ≡ v) (sym e) (set_same marks after x v inside is) in
-    (λ h. subst P (sym e) (truth.0 (sym at ∙ h)), λ h. at ∙ truth.1 (subst P e h)))
-    (λ (ne : c ≡ x → ⊥).
-    let at = set_other marks after x c v ne is in
-    let old : IsTrue (slice_index_or marks c false) ↔ P c = ⊎_elim (λ (h : S c). marked c h) (λ (e : c ≡ x). absurd (ne e)) (more c told) in
-    (λ h. old.0 (sym at ∙ h), λ h. at ∙ old.1 h))
-    (cases_eq c x)
-
-pub not_true : (A : Type 0) → (A → ⊥) → IsTrue false ↔ A
-not_true A none = (λ h. absurd (true≢false (sym h)), λ a. absurd (none a))
-
--- the mark of a node that ends with a byte
-ended_truth : (took : Bool) (T : List Bool → Type 0) (null ended : ℕ → Bool) (N E : ℕ → Type 0) (node : Node) → ((m : List Bool) → node ≡ Set m → IsTrue took ↔ T m) →
-    ((c : ℕ) → IsPart node c → IsTrue (null c) ↔ N c) → ((c : ℕ) → IsPart node c → IsTrue (ended c) ↔ E c) → IsTrue (ended_by took null ended node) ↔ EndsBy T N E node
-ended_truth took T null ended N E (Set m) takes_it nulls parts = takes_it m refl
-ended_truth took T null ended N E (Seq a b) takes_it nulls parts =
-    or_truth (ended b.index) (ended a.index && null b.index) (E b.index) (E a.index × N b.index) (parts b.index (inr refl))
-    (and_truth (ended a.index) (null b.index) (E a.index) (N b.index) (parts a.index (inl refl)) (nulls b.index (inr refl)))
-ended_truth took T null ended N E (Alt a b) takes_it nulls parts =
-    or_truth (ended a.index) (ended b.index) (E a.index) (E b.index) (parts a.index (inl refl)) (parts b.index (inr refl))
-ended_truth took T null ended N E (Group k a) takes_it nulls parts = parts a.index refl
-ended_truth took T null ended N E (Star a first) takes_it nulls parts = parts a.index refl
-ended_truth took T null ended N E (Opt a first) takes_it nulls parts = parts a.index refl
-ended_truth took T null ended N E other takes_it nulls parts = not_true ⊥ (λ h. h)
+    one_told (λ n. slice_index_or marks n false) (λ n. slice_index_or after n false) P x v (set_same marks after x v inside is) truth (λ n ne. set_other marks after x n v ne is) c
+    (λ ne. elim (more c told) [ inl h ↦ marked c h | inr e ↦ absurd (ne e) ])
 
 module _ (nodes : List Node) (w : List ℕ) (r x p : ℕ) (s : Starts) (node : Node) (arena : IsArena nodes) (inside : r < length nodes) (there : InTree nodes r x) (is : slice_get nodes x ≡ Some node)
     (null : ℕ → Bool) (nulls : AreNull nodes w p null) where
@@ -473,15 +236,12 @@ module _ (nodes : List Node) (w : List ℕ) (r x p : ℕ) (s : Starts) (node : N
   null_part c part = let less = arena.below x c node is part in let low = in_tree in nulls c (omega arith)
 
   -- one turn of the scan upwards
-  pub up : (took v : Bool) (marks after : List Bool) → ((m : List Bool) → node ≡ Set m → IsTrue took ↔ Took nodes w r s p x m) →
+  pub up : (took : List Bool → Bool) (v : Bool) (marks after : List Bool) → ((m : List Bool) → node ≡ Set m → IsTrue (took m) ↔ Took nodes w r s p x m) →
       x < length marks → v ≡ ended_by took null (λ c. slice_index_or marks c false) node → after ≡ slice_set marks x v →
       Marked marks (TreeBelow nodes r x) (λ c. Ends nodes w r s c p) → Marked after (TreeBelow nodes r (x + 1)) (λ c. Ends nodes w r s c p)
   up took v marks after takes_it long value is_after marked =
-      let truth = ended_truth took (Took nodes w r s p x) null (λ c. slice_index_or marks c false) (λ c. At nodes w c p p) (λ c. Ends nodes w r s c p) node takes_it null_part
-      (λ c part. marked c (part_of x c node is part there, arena.below x c node is part)) in
-      let law = ends_by nodes w r s arena x p node in_tree is in
-      mark_one marks after x v (TreeBelow nodes r x) (TreeBelow nodes r (x + 1)) (λ c. Ends nodes w r s c p) is_after long
-      (λ h. law.1 (truth.0 (sym value ∙ h)), λ h. value ∙ truth.1 (law.0 h))
+      let law = ended_is nodes w r s arena took null (λ c. slice_index_or marks c false) x p in_tree node is takes_it null_part (λ c part. marked c (part_of x c node is part there, arena.below x c node is part)) in
+      mark_one marks after x v (TreeBelow nodes r x) (TreeBelow nodes r (x + 1)) (λ c. Ends nodes w r s c p) is_after long (λ h. law.0 (sym value ∙ h), λ h. value ∙ law.1 h)
       (λ c told. ⊎_elim (λ (e : c ≡ x). inr e) (λ (ne : c ≡ x → ⊥). inl (told.0, let less = told.1 in omega arith)) (cases_eq c x))
       marked
 
@@ -489,43 +249,10 @@ module _ (nodes : List Node) (w : List ℕ) (r x p : ℕ) (s : Starts) (node : N
 pub down_root : (nodes : List Node) (w : List ℕ) (r p y : ℕ) (s : Starts) (first : Bool) (marks after : List Bool) → IsArena nodes → r < y → r < length marks → after ≡ slice_set marks r first → (IsTrue first ↔ IsStart s p) →
     Marked after (TreeFrom nodes r y) (λ c. Enters nodes w r s c p)
 down_root nodes w r p y s first marks after arena all long is_after begins =
-    let law = enters_root nodes w r s arena p in
     mark_one marks after r first (λ c. ⊥) (TreeFrom nodes r y) (λ c. Enters nodes w r s c p) is_after long
-    (λ h. law.1 (begins.0 h), λ h. begins.1 (law.0 h))
+    (λ h. at_root r p refl (begins.0 h), λ h. begins.1 (Enters-root nodes w r s arena r p refl h))
     (λ c told. ⊎_elim (λ (e : c ≡ r). inr e) (λ (h : (z : ℕ) × (n : Node) × (y ≤ z) × (z ≤ r) × (slice_get nodes z ≡ Some n) × IsPart n c). absurd (let low = h.2 in let high = h.3 in omega arith)) told.1)
     (λ c none. absurd none)
-
--- when a node's turn comes, its own mark is right
-pub here_right : (nodes : List Node) (w : List ℕ) (r x p : ℕ) (s : Starts) (marks : List Bool) → IsArena nodes → InTree nodes r x →
-    Marked marks (TreeFrom nodes r (x + 1)) (λ c. Enters nodes w r s c p) → IsTrue (slice_index_or marks x false) ↔ Enters nodes w r s x p
-here_right nodes w r x p s marks arena there marked = marked x (tree_told nodes arena r x there)
-
-module _ (nodes : List Node) (w : List ℕ) (r x p : ℕ) (s : Starts) (arena : IsArena nodes) (le : x ≤ r) (here : Bool) (enters : IsTrue here ↔ Enters nodes w r s x p) where
-  -- a part that is entered with its node alone
-  with_node : (c : ℕ) (node : Node) → slice_get nodes x ≡ Some node → BeginsWith node c → (EntersBy (Enters nodes w r s x p) (λ y. At nodes w y p p) (λ y. Ends nodes w r s y p) c node → Enters nodes w r s x p) →
-      IsTrue here ↔ Enters nodes w r s c p
-  with_node c node is begins alone =
-      (λ h. with_whole x c p node is begins (enters.0 h), λ h. enters.1 (alone ((enters_by nodes w r s arena x c p node le is (BeginsWith-part node c begins)).0 h)))
-
-  right_part : (a b : NodeId) → slice_get nodes x ≡ Some (Seq a b) → (null ended : Bool) → (IsTrue null ↔ At nodes w a.index p p) → (IsTrue ended ↔ Ends nodes w r s a.index p) →
-      IsTrue (ended || (here && null)) ↔ Enters nodes w r s b.index p
-  right_part a b is null ended nulls ends =
-      let law = enters_by nodes w r s arena x b.index p (Seq a b) le is (inr refl) in
-      let truth = or_truth ended (here && null) (Ends nodes w r s a.index p) (Enters nodes w r s x p × At nodes w a.index p p) ends (and_truth here null (Enters nodes w r s x p) (At nodes w a.index p p) enters nulls) in (
-        λ h. law.1 (inr (refl, truth.0 h)),
-        λ h. truth.1 (elim (law.0 h) [ inl same ↦ absurd (arena.distinct x (Seq a b) is same.0) | inr right ↦ right.1 ]),
-      )
-
-  left_part : (a b : NodeId) → slice_get nodes x ≡ Some (Seq a b) → IsTrue here ↔ Enters nodes w r s a.index p
-  left_part a b is =
-      with_node a.index (Seq a b) is refl
-      (λ h. elim h [ inl left ↦ left.1 | inr same ↦ absurd (arena.distinct x (Seq a b) is (sym same.0)) ])
-
-  copy_part : (a : NodeId) (first : Bool) → slice_get nodes x ≡ Some (Star a first) → (ended : Bool) → (IsTrue ended ↔ Ends nodes w r s a.index p) → IsTrue (here || ended) ↔ Enters nodes w r s a.index p
-  copy_part a first is ended ends =
-      let law = enters_by nodes w r s arena x a.index p (Star a first) le is refl in
-      let truth = or_truth here ended (Enters nodes w r s x p) (Ends nodes w r s a.index p) enters ends in
-      (λ h. law.1 (truth.0 h), λ h. truth.1 (law.0 h))
 
 -- one turn of the scan downwards
 module _ (nodes : List Node) (w : List ℕ) (r x p : ℕ) (s : Starts) (arena : IsArena nodes) (inside : r < length nodes) (there : InTree nodes r x)
@@ -535,7 +262,7 @@ module _ (nodes : List Node) (w : List ℕ) (r x p : ℕ) (s : Starts) (arena : 
   here_mark = slice_index_or marks x false
 
   here_told : IsTrue here_mark ↔ Enters nodes w r s x p
-  here_told = here_right nodes w r x p s marks arena there marked
+  here_told = marked x (tree_told nodes arena r x there)
 
   low_root : x ≤ r
   low_root = InTree-inside nodes arena r x there
@@ -566,21 +293,21 @@ module _ (nodes : List Node) (w : List ℕ) (r x p : ℕ) (s : Starts) (arena : 
       let less' = arena.below x b.index (Seq a b) is (inr refl) in
       let low = low_root in
       two_more_parts (Seq a b) a.index b.index here_mark (ended a.index || (here_mark && null a.index)) after is less less' (λ c part. part) is_after
-      (left_part nodes w r x p s arena low here_mark here_told a b is)
-      (right_part nodes w r x p s arena low here_mark here_told a b is (null a.index) (ended a.index) (nulls a.index (omega arith)) (ends a.index (part_of x a.index (Seq a b) is (inl refl) there)))
+      (with_node nodes w r s arena x p low here_mark here_told a.index (Seq a b) is refl (λ h. elim h [ inl left ↦ left.1 | inr same ↦ absurd (arena.distinct x (Seq a b) is (sym same.0)) ]))
+      (right_part nodes w r s arena x p low here_mark here_told a b is (null a.index) (ended a.index) (nulls a.index (omega arith)) (ends a.index (part_of x a.index (Seq a b) is (inl refl) there)))
   down (Alt a b) after is is_after =
       two_more_parts (Alt a b) a.index b.index here_mark here_mark after is (arena.below x a.index (Alt a b) is (inl refl)) (arena.below x b.index (Alt a b) is (inr refl)) (λ c part. part) is_after
-      (with_node nodes w r x p s arena low_root here_mark here_told a.index (Alt a b) is (inl refl) (λ h. h))
-      (with_node nodes w r x p s arena low_root here_mark here_told b.index (Alt a b) is (inr refl) (λ h. h))
+      (with_node nodes w r s arena x p low_root here_mark here_told a.index (Alt a b) is (inl refl) (λ h. h))
+      (with_node nodes w r s arena x p low_root here_mark here_told b.index (Alt a b) is (inr refl) (λ h. h))
   down (Group k a) after is is_after =
       one_more_part (Group k a) a.index here_mark after is (arena.below x a.index (Group k a) is refl) (λ c part. part) is_after
-      (with_node nodes w r x p s arena low_root here_mark here_told a.index (Group k a) is refl (λ h. h))
+      (with_node nodes w r s arena x p low_root here_mark here_told a.index (Group k a) is refl (λ h. h))
   down (Star a first) after is is_after =
       one_more_part (Star a first) a.index (here_mark || ended a.index) after is (arena.below x a.index (Star a first) is refl) (λ c part. part) is_after
-      (copy_part nodes w r x p s arena low_root here_mark here_told a first is (ended a.index) (ends a.index (part_of x a.index (Star a first) is refl there)))
+      (copy_part nodes w r s arena x p low_root here_mark here_told a first is (ended a.index) (ends a.index (part_of x a.index (Star a first) is refl there)))
   down (Opt a first) after is is_after =
       one_more_part (Opt a first) a.index here_mark after is (arena.below x a.index (Opt a first) is refl) (λ c part. part) is_after
-      (with_node nodes w r x p s arena low_root here_mark here_told a.index (Opt a first) is refl (λ h. h))
+      (with_node nodes w r s arena x p low_root here_mark here_told a.index (Opt a first) is refl (λ h. h))
   down other after is is_after = subst (λ l. Marked l (TreeFrom nodes r x) (λ c. Enters nodes w r s c p)) (sym is_after) (none_more other is (λ c part. part))
 
 -- The row of a place, bit for bit.
@@ -592,33 +319,30 @@ is_set : (node : Node) → IsTrue (takes_any node) → (m : List Bool) × (node 
 is_set (Set m) h = (m, refl)
 is_set other h = absurd (true≢false (sym h))
 
--- what is told of one index, told of an equal one
-told_at : (f : ℕ → Bool) (P : ℕ → Type 0) (x c : ℕ) → c ≡ x → (IsTrue (f x) ↔ P x) → IsTrue (f c) ↔ P c
-told_at f P x c e truth = subst (λ n. IsTrue (f n) ↔ P n) (sym e) truth
+-- the bits from y on tell, by one after another
+tell_none : (bits : ℕ → Bool) (P : ℕ → Type 0) (y : ℕ) → ((c : ℕ) → bits c ≡ false) → ((c : ℕ) → P c → c < y) → TellFrom y bits P
+tell_none bits P y none all c = (λ h. absurd (false_bit (bits c) (none c) h), λ h. let low = h.0 in let less = all c h.1 in absurd (omega arith))
 
--- what is told of one bit, told of an equal one that is no less asked for
-told_as : (a b : Bool) (A B : Type 0) → a ≡ b → (A → B) → (B → A) → (IsTrue b ↔ B) → IsTrue a ↔ A
-told_as a b A B e to from truth = (λ h. from (truth.0 (sym e ∙ h)), λ h. e ∙ truth.1 (to h))
+tell_more : (bits after : ℕ → Bool) (P : ℕ → Type 0) (x : ℕ) (v : Bool) → after x ≡ v → (IsTrue v ↔ P x) → ((c : ℕ) → (c ≡ x → ⊥) → after c ≡ bits c) → TellFrom (x + 1) bits P → TellFrom x after P
+tell_more bits after P x v is truth others told c =
+    one_told bits after (λ n. (x ≤ n) × P n) x v is (λ h. (omega arith, truth.0 h), λ h. truth.1 h.1) others c
+    (λ ne. (λ h. let old = (told c).0 h in let low = old.0 in (omega arith, old.1), λ h. let low = h.0 in (told c).1 (omega arith, h.1)))
+
+tell_all : (bits : ℕ → Bool) (P : ℕ → Type 0) (low : ℕ) → ((c : ℕ) → P c → low ≤ c) → TellFrom low bits P → (c : ℕ) → IsTrue (bits c) ↔ P c
+tell_all bits P low all told c = (λ h. ((told c).0 h).1, λ h. (told c).1 (all c h, h))
 
 module _ (nodes : List Node) (w : List ℕ) (r p : ℕ) (s : Starts) (keeps : Bool) where
   abbrev Leaf : ℕ → Type 0
-  Leaf c = (members : List Bool) × (slice_get nodes c ≡ Some (Set members)) × Enters nodes w r s c p
+  Leaf c = LeafAt nodes w r s p c
 
   abbrev Kept : ℕ → Type 0
-  Kept c = (IsTrue keeps ⊎ (c ≡ r)) × EndsAt nodes w r s c p
+  Kept c = EndKept nodes w r s keeps p c
 
   pub row_none : (y : ℕ) (entered ended : ℕ → Bool) → IsArena nodes → r < y → ((c : ℕ) → entered c ≡ false) → ((c : ℕ) → ended c ≡ false) → RowFrom nodes w r s keeps p y entered ended
-  row_none y entered ended arena past no_leaf no_end =
-      record {
-        leaves = λ c. (
-          λ h. absurd (false_bit (entered c) (no_leaf c) h),
-          λ h. let up = Enters-inside nodes w r s arena c p h.1.2 in let high = h.0 in absurd (omega arith),
-        );
-        ends = λ c. (
-          λ h. absurd (false_bit (ended c) (no_end c) h),
-          λ h. let up = Enters-inside nodes w r s arena c h.1.1.0 h.1.1.1 in let high = h.0 in absurd (omega arith),
-        );
-      }
+  row_none y entered ended arena past no_leaf no_end = (
+    tell_none entered Leaf y no_leaf (λ c h. let up = Enters-inside nodes w r s arena c p h.2 in omega arith),
+    tell_none ended Kept y no_end (λ c h. let up = Enters-inside nodes w r s arena c h.1.0 h.1.1 in omega arith),
+  )
 
   pub row_step : (x : ℕ) (node : Node) (here end null : Bool) (entered ended after after_ended : ℕ → Bool) → slice_get nodes x ≡ Some node →
       (IsTrue here ↔ Enters nodes w r s x p) → (IsTrue end ↔ Ends nodes w r s x p) → (IsTrue null ↔ At nodes w x p p) →
@@ -637,31 +361,16 @@ module _ (nodes : List Node) (w : List ℕ) (r p : ℕ) (s : Starts) (keeps : Bo
       let law = ends_at nodes w r x p s in
       let truth = or_truth end (here && null) (Ends nodes w r s x p) (Enters nodes w r s x p × At nodes w x p p) ends (and_truth here null (Enters nodes w r s x p) (At nodes w x p p) enters nulls) in
       let over : IsTrue (end || (here && null)) ↔ EndsAt nodes w r s x p = (λ h. law.1 (truth.0 h), λ h. truth.1 (law.0 h)) in
-      let kept = and_truth (keeps || eqb x r) (end || (here && null)) (IsTrue keeps ⊎ (x ≡ r)) (EndsAt nodes w r s x p) asked over in
-      let at_leaf : IsTrue (after x) ↔ ((x ≤ x) × Leaf x) =
-      told_as (after x) (takes_any node && here) ((x ≤ x) × Leaf x) (Leaf x) is_after (λ h. h.1) (λ h. (omega arith, h)) leaf in
-      let at_end : IsTrue (after_ended x) ↔ ((x ≤ x) × Kept x) =
-      told_as (after_ended x) ((keeps || eqb x r) && (end || (here && null))) ((x ≤ x) × Kept x) (Kept x) is_ended (λ h. h.1) (λ h. (omega arith, h)) kept in
-      record {
-        leaves = λ c. ⊎_elim
-            (λ (e : c ≡ x). told_at after (λ n. (x ≤ n) × Leaf n) x c e at_leaf)
-            (λ (ne : c ≡ x → ⊥).
-            told_as (after c) (entered c) ((x ≤ c) × Leaf c) ((x + 1 ≤ c) × Leaf c) (others c ne).0
-            (λ h. let low = h.0 in (omega arith, h.1)) (λ h. let low = h.0 in (omega arith, h.1)) (row.leaves c))
-            (cases_eq c x);
-        ends = λ c. ⊎_elim
-            (λ (e : c ≡ x). told_at after_ended (λ n. (x ≤ n) × Kept n) x c e at_end)
-            (λ (ne : c ≡ x → ⊥).
-            told_as (after_ended c) (ended c) ((x ≤ c) × Kept c) ((x + 1 ≤ c) × Kept c) (others c ne).1
-            (λ h. let low = h.0 in (omega arith, h.1)) (λ h. let low = h.0 in (omega arith, h.1)) (row.ends c))
-            (cases_eq c x);
-      }
+      let kept = and_truth (keeps || eqb x r) (end || (here && null)) (IsTrue keeps ⊎ (x ≡ r)) (EndsAt nodes w r s x p) asked over in (
+        tell_more entered after Leaf x (takes_any node && here) is_after leaf (λ c ne. (others c ne).0) row.0,
+        tell_more ended after_ended Kept x ((keeps || eqb x r) && (end || (here && null))) is_ended kept (λ c ne. (others c ne).1) row.1,
+      )
 
   pub row_done : (low : ℕ) (entered ended : ℕ → Bool) → ((c : ℕ) → InTree nodes r c → low ≤ c) → RowFrom nodes w r s keeps p low entered ended → RowOfPlace nodes w r s keeps p entered ended
   row_done low entered ended all row =
       record {
-        leaves = λ c. (λ h. ((row.leaves c).0 h).1, λ h. (row.leaves c).1 (all c (enters_tree nodes w r s c p h.2), h));
-        ends = λ c. (λ h. ((row.ends c).0 h).1, λ h. (row.ends c).1 (all c (enters_tree nodes w r s c h.1.0 h.1.1), h));
+        leaves = tell_all entered Leaf low (λ c h. all c (enters_tree nodes w r s c p h.2)) row.0;
+        ends = tell_all ended Kept low (λ c h. all c (enters_tree nodes w r s c h.1.0 h.1.1)) row.1;
       }
 
 -- a row tells which leaves take the byte that comes
@@ -675,54 +384,16 @@ row_took nodes w r x p s keeps entered ended byte m row same is = (
       (sym (same x m is) ∙ subst (λ i. IsTrue (byte_is_in (slice_get w i) m)) at h.3),
 )
 
--- the same of two places
-abbrev pub Alike : List Node → ℕ → List ℕ → Starts → ℕ → List ℕ → Starts → ℕ → Type 0
-Alike nodes r w s p v t q = (c : ℕ) → c ≤ r → (Enters nodes w r s c p ↔ Enters nodes v r t c q) × (EndsAt nodes w r s c p ↔ EndsAt nodes v r t c q)
-
-module _ (nodes : List Node) (w v : List ℕ) (r p q : ℕ) (s t : Starts) (keeps : Bool) (arena : IsArena nodes) (alike : Alike nodes r w s p v t q) where
-  pub row_moves : (entered ended : ℕ → Bool) → RowOfPlace nodes w r s keeps p entered ended → RowOfPlace nodes v r t keeps q entered ended
-  row_moves entered ended row =
-      record {
-        leaves = λ c. (
-          λ h. let f = (row.leaves c).0 h in (f.0, f.1, (alike c (Enters-inside nodes w r s arena c p f.2)).0.0 f.2),
-          λ h. (row.leaves c).1 (h.0, h.1, (alike c (Enters-inside nodes v r t arena c q h.2)).0.1 h.2),
-        );
-        ends = λ c. (
-          λ h. let f = (row.ends c).0 h in (f.0, (alike c (Enters-inside nodes w r s arena c f.1.0 f.1.1)).1.0 f.1),
-          λ h. (row.ends c).1 (h.0, (alike c (Enters-inside nodes v r t arena c h.1.0 h.1.1)).1.1 h.1),
-        );
-      }
-
--- one row tells the same leaves
-same_leaves : (nodes : List Node) (w v : List ℕ) (r p q : ℕ) (s t : Starts) (keeps : Bool) (entered ended : ℕ → Bool) → RowOfPlace nodes w r s keeps p entered ended → RowOfPlace nodes v r t keeps q entered ended → SameLeaves nodes r w s p v t q
-same_leaves nodes w v r p q s t keeps entered ended one other c m is = (
-  λ h. ((other.leaves c).0 ((one.leaves c).1 (m, is, h))).2,
-  λ h. ((one.leaves c).0 ((other.leaves c).1 (m, is, h))).2,
-)
-
-pub cell : (nodes : List Node) (w : List ℕ) (r p : ℕ) (s : Starts) (keeps end start : Bool) (entered ended after after_ended : ℕ → Bool) → IsArena nodes → r < length nodes →
-    RowOfPlace nodes w r s keeps p entered ended → RowOfPlace nodes w r s keeps (p + 1) after after_ended → (IsTrue end ↔ (p + 1 ≡ length w)) → (IsTrue start ↔ IsStart s (p + 1)) →
-    LeadsTo nodes r keeps entered ended (slice_get w p) end start after after_ended
-cell nodes w r p s keeps end start entered ended after after_ended arena inside row next ends starts v t q bytes ends' starts' row' =
-    row_moves nodes w v r (p + 1) (q + 1) s t keeps arena
-    (next_same nodes w v r p q s t arena inside (same_leaves nodes w v r p q s t keeps entered ended row row') (λ x m is. sym (bytes x m is))
-    ((λ e. absurd (omega arith), λ e. absurd (omega arith)), (λ e. ends'.0 (ends.1 e), λ e. ends.0 (ends'.1 e)))
-    (λ e. starts'.0 (starts.1 e), λ e. starts.0 (starts'.1 e)))
-    after after_ended next
-
-pub first_row : (nodes : List Node) (w v : List ℕ) (r p q : ℕ) (s t : Starts) (keeps : Bool) (entered ended : ℕ → Bool) → IsArena nodes → r < length nodes → p ≤ s.first → q ≤ t.first → SameKind w p v q → (IsStart s p ↔ IsStart t q) →
-    RowOfPlace nodes w r s keeps p entered ended → RowOfPlace nodes v r t keeps q entered ended
-first_row nodes w v r p q s t keeps entered ended arena inside early early' kind starts =
-    row_moves nodes w v r p q s t keeps arena (first_same nodes w v r p q s t arena inside early early' kind starts) entered ended
-
 pub class_row : (nodes : List Node) (r : ℕ) (keeps end start : Bool) (entered ended after after_ended : ℕ → Bool) (byte other : Option ℕ) → SameBytes nodes other byte →
     LeadsTo nodes r keeps entered ended byte end start after after_ended → LeadsTo nodes r keeps entered ended other end start after after_ended
 class_row nodes r keeps end start entered ended after after_ended byte other same leads w s p at = leads w s p (λ x m is. at x m is ∙ same x m is)
 
+-- the root ends where a match does
 pub row_root : (nodes : List Node) (w : List ℕ) (r p : ℕ) (s : Starts) (keeps : Bool) (entered ended : ℕ → Bool) → IsArena nodes → RowOfPlace nodes w r s keeps p entered ended → IsTrue (ended r) ↔ SomeSpan nodes w r s p
-row_root nodes w r p s keeps entered ended arena row =
-    let law = root_ends nodes w r p s arena in
-    (λ h. law.0 ((row.ends r).0 h).1, λ h. (row.ends r).1 (inr refl, law.1 h))
+row_root nodes w r p s keeps entered ended arena row = (
+  λ h. let f = ((row.ends r).0 h).1 in (f.0, Enters-root nodes w r s arena r f.0 refl f.1, f.2),
+  λ h. (row.ends r).1 (inr refl, (h.0, at_root r h.0 refl h.1, h.2)),
+)
 
 pub row_empty : (nodes : List Node) (w : List ℕ) (r p : ℕ) (s : Starts) (keeps : Bool) (entered ended : ℕ → Bool) → RowOfPlace nodes w r s keeps p entered ended → ((c : ℕ) → entered c ≡ false) → NoneEntered nodes w r s p
 row_empty nodes w r p s keeps entered ended row none c m is h = false_bit (entered c) (none c) ((row.leaves c).1 (m, is, h))
@@ -745,52 +416,15 @@ by_part nodes x node is c (part_of y _ other is' part up) =
     (λ (h : (a : ℕ) × IsPart node a × InTree nodes a y). inr (h.0, h.1, part_of y c other is' part h.2))
     (by_part nodes x node is y up)
 
-pub leaf_range : (nodes : List Node) (x : ℕ) (node : Node) → slice_get nodes x ≡ Some node → ((c : ℕ) → IsPart node c → ⊥) → IsNodeRange nodes x x
-leaf_range nodes x node is none c = (
-  λ h. is_tree c (let low = h.0 in let high = h.1 in omega arith),
-  λ h. ⊎_elim (λ (e : c ≡ x). (omega arith, omega arith)) (λ (f : (a : ℕ) × IsPart node a × InTree nodes a c). absurd (none f.0 f.1)) (by_part nodes x node is c h),
-)
-
-pub one_range : (nodes : List Node) (x a low : ℕ) (node : Node) → slice_get nodes x ≡ Some node → IsPart node a → ((c : ℕ) → IsPart node c → c ≡ a) → a + 1 ≡ x → low ≤ a → IsNodeRange nodes low a → IsNodeRange nodes low x
-one_range nodes x a low node is part only next small range c = (
-  λ h. let from = h.0 in
-      let to = h.1 in
-      ⊎_elim (λ (e : c ≡ x). is_tree c e) (λ (ne : c ≡ x → ⊥). in_part nodes x a node is part c ((range c).0 (from, omega arith))) (cases_eq c x),
+-- the nodes in x are those from low on, if it is so of each part
+pub range_of : (nodes : List Node) (x low : ℕ) (node : Node) → slice_get nodes x ≡ Some node → low ≤ x → ((c : ℕ) → low ≤ c → c < x → (a : ℕ) × IsPart node a × InTree nodes a c) →
+    ((a c : ℕ) → IsPart node a → InTree nodes a c → (low ≤ c) × (c < x)) → IsNodeRange nodes low x
+range_of nodes x low node is small down up c = (
+  λ h. let high = h.1 in
+      ⊎_elim (λ (e : c ≡ x). is_tree c e) (λ (ne : c ≡ x → ⊥). let part = down c h.0 (omega arith) in in_part nodes x part.0 node is part.1 c part.2) (cases_eq c x),
   λ h. ⊎_elim
       (λ (e : c ≡ x). (omega arith, omega arith))
-      (λ (f : (b : ℕ) × IsPart node b × InTree nodes b c).
-      let g = (range c).1 (subst (λ n. InTree nodes n c) (only f.0 f.1) f.2) in
-      let high = g.1 in
-      (g.0, omega arith))
-      (by_part nodes x node is c h),
-)
-
-pub two_range : (nodes : List Node) (x a b low : ℕ) (node : Node) → slice_get nodes x ≡ Some node → IsPart node a → IsPart node b → ((c : ℕ) → IsPart node c → (c ≡ a) ⊎ (c ≡ b)) → a + 1 ≤ b → b + 1 ≡ x → low ≤ a →
-    IsNodeRange nodes low a → IsNodeRange nodes (a + 1) b → IsNodeRange nodes low x
-two_range nodes x a b low node is left right only apart next small range range' c = (
-  λ h. let from = h.0 in
-      let to = h.1 in
-      ⊎_elim
-      (λ (e : c ≡ x). is_tree c e)
-      (λ (ne : c ≡ x → ⊥). ⊎_elim
-      (λ (lt : a < c). in_part nodes x b node is right c ((range' c).0 (omega arith, omega arith)))
-      (λ (ge : c ≤ a). in_part nodes x a node is left c ((range c).0 (from, ge)))
-      (cases_lt a c))
-      (cases_eq c x),
-  λ h. ⊎_elim
-      (λ (e : c ≡ x). (omega arith, omega arith))
-      (λ (f : (d : ℕ) × IsPart node d × InTree nodes d c).
-      ⊎_elim
-      (λ (e : f.0 ≡ a).
-      let g = (range c).1 (subst (λ n. InTree nodes n c) e f.2) in
-      let high = g.1 in
-      (g.0, omega arith))
-      (λ (e : f.0 ≡ b).
-      let g = (range' c).1 (subst (λ n. InTree nodes n c) e f.2) in
-      let high = g.1 in
-      let from = g.0 in
-      (omega arith, omega arith))
-      (only f.0 f.1))
+      (λ (f : (a : ℕ) × IsPart node a × InTree nodes a c). let within = up f.0 c f.1 f.2 in let less = within.1 in (within.0, omega arith))
       (by_part nodes x node is c h),
 )
 
@@ -842,19 +476,14 @@ bits_other m marks after x v is c ne = ap (λ b. nat_lt c m && b) (set_other mar
 
 pub bits_clear : (m : ℕ) (marks : List Bool) → ((c : ℕ) → c < m → slice_index_or marks c false ≡ false) → (c : ℕ) → bits m marks c ≡ false
 bits_clear m marks clear c =
-    elim (cases_lt c m) [ inl lt ↦ bits_here m marks c lt ∙ clear c lt | inr ge ↦ ap (λ b. b && slice_index_or marks c false) (le-ltb c m ge) ]
+    elim (cases_lt c m) [ inl lt ↦ bits_here m marks c lt ∙ clear c lt | inr ge ↦ rw (le-ltb c m ge) refl ]
 
 -- marks that agree are the same bits
 pub bits_agree : (m : ℕ) (marks other : List Bool) → AgreeBelow m marks other → bits m marks ≡ bits m other
-bits_agree m marks other agree = fun_ext (λ c. ⊎_elim
-    (λ (lt : c < m). bits_here m marks c lt ∙ agree c lt ∙ sym (bits_here m other c lt))
-    (λ (ge : m ≤ c). ap (λ b. b && slice_index_or marks c false) (le-ltb c m ge) ∙ sym (ap (λ b. b && slice_index_or other c false) (le-ltb c m ge)))
-    (cases_lt c m))
-
--- how many marks are looked at
-pub looks_few : (node : Node) → leaf_looks node + part_looks node ≤ 3
-looks_few Empty = omega arith
-looks_few other = omega arith
+bits_agree m marks other agree = fun_ext (λ c. elim (cases_lt c m) [
+  | inl lt ↦ bits_here m marks c lt ∙ agree c lt ∙ sym (bits_here m other c lt)
+  | inr ge ↦ rw (le-ltb c m ge) refl
+])
 
 -- the node of least index is a leaf: it has no part to enter
 pub enters_few : (x : ℕ) (node : Node) → PartsBelow x node → 6 + enter_looks node + (10 * x - 4) ≤ 10 * (x + 1) - 4
@@ -870,11 +499,11 @@ pub took_bits : (nodes : List Node) (w : List ℕ) (r p : ℕ) (s : Starts) (kee
     RowOfPlace nodes w r s keeps p (bits m leaves) before → TellTook nodes w r s (p + 1) byte leaves
 took_bits nodes w r p s keeps m leaves before byte long bytes row c members inside is =
     let low = slice_get_within nodes c (Set members) is in
-    let same : (bits m leaves c && byte_is_in byte members) ≡ (slice_index_or leaves c false && byte_is_in byte members) = ap (λ b. b && byte_is_in byte members) (bits_here m leaves c (omega arith)) in
-    let law = row_took nodes w r c p s keeps (bits m leaves) before byte members row bytes is in
-    (λ h. law.0 (same ∙ h), λ h. sym same ∙ law.1 h)
+    rw (← bits_here m leaves c (omega arith)) (row_took nodes w r c p s keeps (bits m leaves) before byte members row bytes is)
 
 -- none did before the first start
 pub first_bits : (nodes : List Node) (w : List ℕ) (r : ℕ) (s : Starts) (leaves : List Bool) → TellTook nodes w r s s.first None leaves
-first_bits nodes w r s leaves c members inside is =
-    (λ h. absurd (true≢false (sym (and_parts (slice_index_or leaves c false) false h).1)), λ h. absurd (first_took nodes w r c s.first s members (omega arith) h))
+first_bits nodes w r s leaves c members inside is = (
+  λ h. absurd (true≢false (sym (and_parts (slice_index_or leaves c false) false h).1)),
+  λ h. let up = Enters-from nodes w r s c h.0 h.2 in let next = h.1 in absurd (omega arith),
+)

@@ -1,6 +1,7 @@
 -- Private to the proofs: no contract that `sedmatch` makes public cites what stands here.
 -- What is told of an expression once: facts of each node, and classes of bytes.
-use Rattle.std.specs.Prelude.{◌≡◌, ℕ, ◌+◌, ◌-◌, ◌≤◌, ◌<◌, Bool, true, false, ◌&&◌, ◌||◌, List, length, slice_get, slice_index_or, cond, Option, Some, None, IfSome}
+use Rattle.std.specs.Prelude.{◌≡◌, ℕ, ◌+◌, ◌-◌, ◌*◌, ◌≤◌, ◌<◌, Bool, true, false, ◌&&◌, ◌||◌, eqb, List, length, slice_get, slice_index_or, cond, Option, Some, None, IfSome}
+use Rattle.std.specs.Int.{bit_at, from_bool}
 use Rattle.sedre.specs.Tree.{Tree, set, begin, end, seq, alt, group, star, WrittenExpression, tree_at}
 use Rattle.sedre.specs.Sizes.{size}
 use Rattle.sedre.specs.declared.types.Node.{Node}
@@ -10,7 +11,6 @@ use Rattle.sedpass.specs.Lengths.{length_of}
 use Rattle.sedpass.specs.Rows.{SameBytes}
 use Rattle.sedpass.specs.declared.nodes.Facts.{Facts}
 use Rattle.sedpass.specs.declared.nodes.Kind.{Kind}
-use Rattle.sedpass.specs.declared.nodes.Null.{Null}
 
 -- the expression matches the null string at a place that is the text's beginning, or isn't, and its end, or isn't
 abbrev pub nullable : Bool → Bool → Tree → Bool
@@ -26,12 +26,9 @@ nullable first last other = true
 abbrev pub null_in : List Node → Kind → ℕ → Bool
 null_in nodes kind x = nullable kind.begin kind.end (tree_at nodes x)
 
--- what is told of null strings at places of a kind
-abbrev pub null_at : Null → Bool → Bool → Bool
-null_at null true true = null.both
-null_at null true false = null.begin
-null_at null false true = null.end
-null_at null false false = null.inside
+-- what is told of null strings at places of a kind: a bit for each
+abbrev pub null_at : ℕ → Bool → Bool → Bool
+null_at kinds first last = eqb (bit_at kinds (from_bool first + 2 * from_bool last)) 1
 
 -- the expression is one byte of a set
 abbrev pub is_set : Tree → Bool
@@ -56,20 +53,12 @@ pub record IsFacts (t : Tree) (x : ℕ) (facts : Facts) : Type 0 where
 abbrev pub AreFacts : List Node → List Facts → Type 0
 AreFacts nodes facts = (x : ℕ) (here : Facts) → slice_get facts x ≡ Some here → IsFacts (tree_at nodes x) x here
 
--- what is told of a node without parts
-pub record IsLeaf (x : ℕ) (nulls : Null) (n : ℕ) (facts : Facts) : Type 0 where
-  pub low : facts.low ≡ x
-  pub null : facts.null ≡ nulls
-  pub groups : (k : ℕ) → holds facts.groups k ≡ false
-  pub long : facts.length ≡ Some n
-  pub run : facts.run ≡ None
-
 -- the length, if one is known, is no more than an expression has nodes
 abbrev pub IsShort : Option ℕ → Type 0
 IsShort long = IfSome long (λ n. n ≤ 65536)
 
 -- null strings are matched at places of each kind, or at none
-abbrev pub IsOfEachKind : Null → Type 0
+abbrev pub IsOfEachKind : ℕ → Type 0
 IsOfEachKind null = (first last : Bool) → null_at null first last ≡ null_at null false false
 
 -- each set of the nodes is among these

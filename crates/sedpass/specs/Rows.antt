@@ -1,5 +1,5 @@
 -- Private to the proofs: no contract that `sedmatch` makes public cites what stands here.
--- What a state of a pass tells of a place, how it follows from what the leaves took, and that it decides the next.
+-- What a row tells of a place, how the marks at a place follow from what the leaves took, and when one row leads to another.
 use Rattle.std.specs.Prelude.{◌≡◌, ℕ, ◌+◌, ◌≤◌, ◌<◌, ◌⊎◌, ◌↔◌, Bool, true, false, ◌&&◌, ◌||◌, List, length, slice_get, slice_index_or, Option, Some, IsTrue, nat_lt}
 use Rattle.sedre.specs.Arena.{IsPart}
 use Rattle.sedre.specs.Tree.{WrittenExpression}
@@ -31,67 +31,17 @@ at_end false kind = kind.end
 abbrev pub bits : ℕ → List Bool → ℕ → Bool
 bits m marks c = nat_lt c m && slice_index_or marks c false
 
--- How a node's marks at a place follow from those of others.
-
 -- the leaf could begin one byte before the place, and its set has that byte
 abbrev pub Took : List Node → List ℕ → ℕ → Starts → ℕ → ℕ → List Bool → Type 0
 Took nodes w r s j x members = (i : ℕ) × (i + 1 ≡ j) × Enters nodes w r s x i × IsTrue (byte_is_in (slice_get w i) members)
 
--- whether the node is null, by whether its parts are
-abbrev pub NullBy : Type 0 → Type 0 → (ℕ → Type 0) → Node → Type 0
-NullBy begin end null Empty = Unit {0}
-NullBy begin end null (Set members) = ⊥
-NullBy begin end null Begin = begin
-NullBy begin end null End = end
-NullBy begin end null (Seq a b) = null a.index × null b.index
-NullBy begin end null (Alt a b) = null a.index ⊎ null b.index
-NullBy begin end null (Group k a) = null a.index
-NullBy begin end null (Star a first) = Unit {0}
-NullBy begin end null (Opt a first) = Unit {0}
-
--- whether the node ends with a byte, by whether its parts do (a leaf: whether it took the byte)
-abbrev pub EndsBy : (List Bool → Type 0) → (ℕ → Type 0) → (ℕ → Type 0) → Node → Type 0
-EndsBy took null ended Empty = ⊥
-EndsBy took null ended (Set members) = took members
-EndsBy took null ended Begin = ⊥
-EndsBy took null ended End = ⊥
-EndsBy took null ended (Seq a b) = ended b.index ⊎ (ended a.index × null b.index)
-EndsBy took null ended (Alt a b) = ended a.index ⊎ ended b.index
-EndsBy took null ended (Group k a) = ended a.index
-EndsBy took null ended (Star a first) = ended a.index
-EndsBy took null ended (Opt a first) = ended a.index
-
--- whether the part c of the node is entered, by whether the node is, and which of its parts ended
-abbrev pub EntersBy : Type 0 → (ℕ → Type 0) → (ℕ → Type 0) → ℕ → Node → Type 0
-EntersBy here null ended c Empty = ⊥
-EntersBy here null ended c (Set members) = ⊥
-EntersBy here null ended c Begin = ⊥
-EntersBy here null ended c End = ⊥
-EntersBy here null ended c (Seq a b) = ((a.index ≡ c) × here) ⊎ ((b.index ≡ c) × (ended a.index ⊎ (here × null a.index)))
-EntersBy here null ended c (Alt a b) = here
-EntersBy here null ended c (Group k a) = here
-EntersBy here null ended c (Star a first) = here ⊎ ended a.index
-EntersBy here null ended c (Opt a first) = here
-
--- What a row decides.
-
--- the byte at p and the one at q are in the same sets
+-- the two bytes are in the same sets
 abbrev pub SameBytes : List Node → Option ℕ → Option ℕ → Type 0
 SameBytes nodes a b = (x : ℕ) (members : List Bool) → slice_get nodes x ≡ Some (Set members) → byte_is_in a members ≡ byte_is_in b members
-
--- the place p of w and the place q of v are of one kind: null strings are the same at both
-abbrev pub SameKind : List ℕ → ℕ → List ℕ → ℕ → Type 0
-SameKind w p v q = ((p ≡ 0) ↔ (q ≡ 0)) × ((p ≡ length w) ↔ (q ≡ length v))
-
--- the leaves entered at p, in a pass over w from s, are those entered at q, in a pass over v from t
-abbrev pub SameLeaves : List Node → ℕ → List ℕ → Starts → ℕ → List ℕ → Starts → ℕ → Type 0
-SameLeaves nodes r w s p v t q = (c : ℕ) (members : List Bool) → slice_get nodes c ≡ Some (Set members) → Enters nodes w r s c p ↔ Enters nodes v r t c q
 
 -- no leaf is entered at the place
 abbrev pub NoneEntered : List Node → List ℕ → ℕ → Starts → ℕ → Type 0
 NoneEntered nodes w r s p = (c : ℕ) (members : List Bool) → slice_get nodes c ≡ Some (Set members) → Enters nodes w r s c p → ⊥
-
--- What the loops of `close` keep.
 
 -- x is the node r or stands in it
 pub data InTree (nodes : List Node) (r : ℕ) : ℕ → Type 0 where
@@ -119,9 +69,9 @@ abbrev pub TellTook : List Node → List ℕ → ℕ → Starts → ℕ → Opti
 TellTook nodes w r s p byte marks = (c : ℕ) (members : List Bool) → InTree nodes r c → slice_get nodes c ≡ Some (Set members) →
     IsTrue (slice_index_or marks c false && byte_is_in byte members) ↔ Took nodes w r s p c members
 
--- the mark of a node that ends with a byte (of a leaf: whether it took the byte)
-abbrev pub ended_by : Bool → (ℕ → Bool) → (ℕ → Bool) → Node → Bool
-ended_by took null ended (Set members) = took
+-- the mark of a node that ends with a byte
+abbrev pub ended_by : (List Bool → Bool) → (ℕ → Bool) → (ℕ → Bool) → Node → Bool
+ended_by took null ended (Set members) = took members
 ended_by took null ended (Seq a b) = ended b.index || (ended a.index && null b.index)
 ended_by took null ended (Alt a b) = ended a.index || ended b.index
 ended_by took null ended (Group k a) = ended a.index
@@ -129,17 +79,7 @@ ended_by took null ended (Star a first) = ended a.index
 ended_by took null ended (Opt a first) = ended a.index
 ended_by took null ended other = false
 
--- how many marks are looked at for that: the leaf's, and those of its parts
-abbrev pub leaf_looks : Node → ℕ
-leaf_looks (Set members) = 1
-leaf_looks other = 0
-
-abbrev pub part_looks : Node → ℕ
-part_looks (Seq a b) = 3
-part_looks (Alt a b) = 2
-part_looks other = 1
-
--- and how many are looked at or set where its parts begin
+-- how many marks are looked at or set where its parts begin
 abbrev pub enter_looks : Node → ℕ
 enter_looks Empty = 0
 enter_looks (Set members) = 0
@@ -147,15 +87,25 @@ enter_looks Begin = 0
 enter_looks End = 0
 enter_looks other = 4
 
--- the row of the place: which leaves are entered there, and which nodes have ended (of all in r where it keeps them, else r alone)
+-- the node is a leaf that is entered at the place
+abbrev pub LeafAt : List Node → List ℕ → ℕ → Starts → ℕ → ℕ → Type 0
+LeafAt nodes w r s p c = (members : List Bool) × (slice_get nodes c ≡ Some (Set members)) × Enters nodes w r s c p
+
+-- the node has ended at the place: any in r where the row keeps them, else r alone
+abbrev pub EndKept : List Node → List ℕ → ℕ → Starts → Bool → ℕ → ℕ → Type 0
+EndKept nodes w r s keeps p c = (IsTrue keeps ⊎ (c ≡ r)) × EndsAt nodes w r s c p
+
+-- the row of the place: which leaves are entered there, and which nodes have ended
 pub record RowOfPlace (nodes : List Node) (w : List ℕ) (r : ℕ) (s : Starts) (keeps : Bool) (p : ℕ) (entered ended : ℕ → Bool) : Type 0 where
-  pub leaves : (c : ℕ) → IsTrue (entered c) ↔ ((members : List Bool) × (slice_get nodes c ≡ Some (Set members)) × Enters nodes w r s c p)
-  pub ends : (c : ℕ) → IsTrue (ended c) ↔ ((IsTrue keeps ⊎ (c ≡ r)) × EndsAt nodes w r s c p)
+  pub leaves : (c : ℕ) → IsTrue (entered c) ↔ LeafAt nodes w r s p c
+  pub ends : (c : ℕ) → IsTrue (ended c) ↔ EndKept nodes w r s keeps p c
 
 -- the same of the nodes from y on alone
-pub record RowFrom (nodes : List Node) (w : List ℕ) (r : ℕ) (s : Starts) (keeps : Bool) (p y : ℕ) (entered ended : ℕ → Bool) : Type 0 where
-  pub leaves : (c : ℕ) → IsTrue (entered c) ↔ ((y ≤ c) × ((members : List Bool) × (slice_get nodes c ≡ Some (Set members)) × Enters nodes w r s c p))
-  pub ends : (c : ℕ) → IsTrue (ended c) ↔ ((y ≤ c) × ((IsTrue keeps ⊎ (c ≡ r)) × EndsAt nodes w r s c p))
+abbrev pub TellFrom : ℕ → (ℕ → Bool) → (ℕ → Type 0) → Type 0
+TellFrom y bits P = (c : ℕ) → IsTrue (bits c) ↔ ((y ≤ c) × P c)
+
+abbrev pub RowFrom : List Node → List ℕ → ℕ → Starts → Bool → (p y : ℕ) → (entered ended : ℕ → Bool) → Type 0
+RowFrom nodes w r s keeps p y entered ended = TellFrom y entered (LeafAt nodes w r s p) × TellFrom y ended (EndKept nodes w r s keeps p)
 
 -- from one row this byte leads to the other, at a place that is the text's end or not, and a start or not
 abbrev pub LeadsTo : List Node → ℕ → Bool → (ℕ → Bool) → (ℕ → Bool) → Option ℕ → Bool → Bool → (ℕ → Bool) → (ℕ → Bool) → Type 0

@@ -1,5 +1,5 @@
 //! The nodes of an expression, copied into room that is made once.
-ghost use Rattle.std.specs.Prelude.{◌≡◌, ◌++◌, ◌∷◌, [], ◌+◌, ◌≤◌, ◌<◌, length, vec_capacity, Some, slice_get, IfOk};
+ghost use Rattle.std.specs.Prelude.{◌≡◌, ◌∷◌, [], ◌≤◌, ◌<◌, length, vec_capacity, Some, slice_get, IfOk};
 ghost use Rattle.sedre.specs.Arena.{IsArena, IsExpr};
 ghost use Rattle.sedre.specs.declared.types.Node.TheVariants.{Empty};
 ghost use Rattle.sedre.specs.Mirror.{node_seen, seen};
@@ -47,14 +47,6 @@ fn node_seen(node: Node, mirrored: bool) -> Node
     }
 }
 
-/// For proofs: what is read is an expression.
-#[inline(always)]
-fn is_expression(expr: &Expr)
-    ensures { IsExpr expr.now.nodes expr.now.groups }
-{
-    let _groups = expr.groups();
-}
-
 /// Copies the nodes of an expression, and finds out what is told of each. Counts a look for each.
 fn copy_nodes(expr: &Expr, nodes: &mut Vec<Node>, facts: &mut Vec<Facts>, steps: &mut Steps)
     requires nodes { length expr.now.nodes ≤ vec_capacity nodes.old }
@@ -67,12 +59,13 @@ fn copy_nodes(expr: &Expr, nodes: &mut Vec<Node>, facts: &mut Vec<Facts>, steps:
     ensures cost { Takes steps.old steps.new (length expr.now.nodes) }
     ensures counts { TakesAtLeast steps.old steps.new (length expr.now.nodes) }
 {
-    is_expression(expr);
+    // For proofs: what is read is an expression.
+    let _groups = expr.groups();
     nodes.clear();
     facts.clear();
     for x in 0..expr.nodes() {
         let node = expr.look(expr.id(x), steps);
-        let next = facts_of(expr, &node, facts, x);
+        let next = facts_of(&node, facts);
         nodes.push_reserved(node);
         facts.push_reserved(next);
     }
@@ -124,15 +117,8 @@ impl Arena {
         node_seen(self.nodes[x], mirrored)
     }
 
-    /// For proofs: the nodes are those of an expression.
+    /// How many groups there are; and, for proofs, that the nodes are those of an expression.
     #[inline(always)]
-    pub fn is_expression(&self)
-        ensures { IsExpr self.now.expr.nodes self.now.expr.groups }
-    {
-        let _groups = self.groups;
-    }
-
-    /// How many groups there are.
     pub fn groups(&self) -> usize
         ensures value { result ≡ self.now.expr.groups }
         ensures expr { IsExpr self.now.expr.nodes self.now.expr.groups }

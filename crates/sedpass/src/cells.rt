@@ -1,5 +1,5 @@
 //! How a table names its states by codes, and lays out their cells.
-ghost use Rattle.std.specs.Prelude.{◌≡◌, ℕ, Bool, false, ◌+◌, ◌*◌, ◌^◌, ◌<◌, ◌≤◌, length, slice_index_or, IfSome, vec_len, vec_capacity};
+ghost use Rattle.std.specs.Prelude.{◌≡◌, ℕ, Bool, ◌+◌, ◌*◌, ◌^◌, ◌<◌, ◌≤◌, length, slice_index_or, IfSome, vec_capacity};
 ghost use Rattle.sedre.specs.Steps.{TakesExactly, Takes};
 ghost use Rattle.sedpass.specs.Cells.{stops, code_of, IsLayout, IsColumn};
 
@@ -98,7 +98,7 @@ impl Layout {
         ensures { IsLayout prepared.now.arena.expr.nodes result }
     {
         let most = MOST_CELLS.min(CELLS_A_NODE * prepared.nodes());
-        let columns = prepared.columns.min(most);
+        let columns = prepared.classes.count.min(most);
         let (edge, width) = if !prepared.anchors {
             (Some(0), columns)
         } else if columns <= most / 2 {
@@ -107,7 +107,7 @@ impl Layout {
             (None, columns)
         };
         Layout {
-            classes: prepared.classes,
+            classes: prepared.classes.of,
             columns,
             edge,
             width,
@@ -140,40 +140,12 @@ impl Layout {
         if !edge {
             return Some(class);
         }
-        match self.edge {
-            Some(first) => first.checked_add(class),
-            None => None,
-        }
+        self.edge?.checked_add(class)
     }
 }
 
-/// Clears the cells from a place on.
-fn clear_cells(cells: &mut Vec<u32>, from: usize, count: usize)
-    requires inside { from + count ≤ vec_len cells.old }
-    ensures len { length cells.new.items ≡ length cells.old.items }
-    ensures capacity { vec_capacity cells.new ≡ vec_capacity cells.old }
-    ensures clear { (k : ℕ) → k < count → slice_index_or cells.new.items (from + k) 0 ≡ 0 }
-    ensures before { (k : ℕ) → k < from → slice_index_or cells.new.items k 0 ≡ slice_index_or cells.old.items k 0 }
-{
-    for k in 0..count {
-        cells[from + k] = 0;
-    }
-}
-
-/// Appends empty cells until there are so many.
-fn append_cells(cells: &mut Vec<u32>, count: usize)
-    requires room { count ≤ vec_capacity cells.old }
-    ensures long { count ≤ length cells.new.items }
-    ensures capacity { vec_capacity cells.new ≡ vec_capacity cells.old }
-    ensures same { (k : ℕ) → slice_index_or cells.new.items k 0 ≡ slice_index_or cells.old.items k 0 }
-{
-    while cells.len() < count {
-        cells.push_reserved(0);
-    }
-}
-
-/// Makes the `width` cells of a state empty, which stand from a place on, with room for `size`: those that are there are
-/// cleared, and the others appended. Counts a look for each of the state's cells.
+/// Makes the `width` cells of a state empty, which stand from a place on, with room for `size`: what stands there goes, and empty
+/// ones are appended. Counts a look for each of the state's cells.
 pub fn empty_cells(cells: &mut Vec<u32>, from: usize, width: usize, size: usize, steps: &mut Steps)
     requires there { from ≤ length cells.old.items }
     requires room { from + size ≤ vec_capacity cells.old }
@@ -186,7 +158,8 @@ pub fn empty_cells(cells: &mut Vec<u32>, from: usize, width: usize, size: usize,
     ensures counts { TakesExactly steps.old steps.new width }
 {
     steps.add(width);
-    let there = width.min(cells.len() - from);
-    clear_cells(cells, from, there);
-    append_cells(cells, from + size);
+    cells.truncate(from);
+    while cells.len() < from + size {
+        cells.push_reserved(0);
+    }
 }

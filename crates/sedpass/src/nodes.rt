@@ -1,22 +1,23 @@
 //! An expression made ready for passes: what is told of each node once, and the classes of bytes.
-
-ghost use Rattle.std.specs.Prelude.{◌≡◌, ℕ, Bool, true, false, ◌+◌, ◌<◌, ◌≤◌, ◌&&◌, ◌||◌, ◌↔◌, length, vec_capacity, Some, slice_get, IfOk, IsTrue};
+ghost use Rattle.std.specs.Prelude.{◌≡◌, ℕ, List, Bool, true, false, cond, ◌+◌, ◌<◌, ◌≤◌, ◌&&◌, ◌↔◌, length, vec_capacity, Some, None, slice_get, IfOk, IsTrue};
 ghost use Rattle.std.proofs.Props.{props};
 ghost use Rattle.sedre.specs.Arena.{IsArena, IsExpr};
-ghost use Rattle.sedre.specs.Tree.{tree_at, Tree, seq, alt, group, star, opt};
+ghost use Rattle.sedre.specs.declared.types.Node.{Node};
+ghost use Rattle.sedre.specs.Tree.{tree_at, tree_of, Tree, seq, alt, group, star, opt};
 ghost use Rattle.sedre.specs.Mirror.{seen};
 ghost use Rattle.sedre.specs.Packed.{PartsBelow};
 ghost use Rattle.sedre.specs.Steps.{Takes, TakesExactly, TakesAtLeast};
 ghost use Rattle.sedre.specs.Sizes.{size};
-ghost use Rattle.sedpass.specs.Lengths.{sum_of, same_of};
-ghost use Rattle.sedpass.specs.Prepared.{IsPrepared, IsFacts, AreFacts, IsLeaf, IsShort, IsOfEachKind, null_at, null_in};
+ghost use Rattle.sedpass.specs.Groups.{has_group};
+ghost use Rattle.sedpass.specs.Lengths.{sum_of, same_of, length_of};
+ghost use Rattle.sedpass.specs.Prepared.{IsPrepared, IsFacts, AreFacts, IsShort, IsOfEachKind, is_set, run_of, null_at, null_in, nullable};
 ghost use Rattle.sedpass.specs.Rows.{IsNodeRange};
 ghost use Rattle.sedpass.specs.declared.nodes.Facts.{Facts};
 
 use crate::arena::Arena;
 use crate::classes::{Classes, classes_of};
 use crate::group_set::GroupSet;
-use sedre::{Expr, Node, Steps};
+use sedre::{Expr, Node, NodeId, Steps};
 use std::alloc::{AllocError, Global};
 
 /// A kind of place: whether it is the text's beginning, and whether it is its end. An expression matches the null string
@@ -39,96 +40,19 @@ pub fn kind_of(place: usize, length: usize) -> Kind
     }
 }
 
-/// Whether a node matches the null string, at places of each kind.
-#[derive(Clone, Copy)]
-pub struct Null {
-    pub inside: bool,
-    pub begin: bool,
-    pub end: bool,
-    pub both: bool,
-}
+/// Sets of kinds of places, a bit for each kind by its number: all kinds, those of a text's beginning, and of its end; 0 is none.
+const EVERYWHERE: u8 = 0b1111;
 
-impl Null {
-    /// At all places, or at none.
-    fn all(null: bool) -> Null
-        ensures { (first last : Bool) → null_at result first last ≡ null }
-    {
-        Null {
-            inside: null,
-            begin: null,
-            end: null,
-            both: null,
-        }
-    }
+const AT_BEGIN: u8 = 0b1010;
 
-    /// Where the text begins.
-    fn at_begin() -> Null
-        ensures { (first last : Bool) → null_at result first last ≡ first }
-    {
-        Null {
-            inside: false,
-            begin: true,
-            end: false,
-            both: true,
-        }
-    }
+const AT_END: u8 = 0b1100;
 
-    /// Where the text ends.
-    fn at_end() -> Null
-        ensures { (first last : Bool) → null_at result first last ≡ last }
-    {
-        Null {
-            inside: false,
-            begin: false,
-            end: true,
-            both: true,
-        }
-    }
-
-    /// Where this one does and another.
-    fn and(self, other: Null) -> Null
-        ensures { (first last : Bool) → null_at result first last ≡ (null_at self first last && null_at other first last) }
-    {
-        Null {
-            inside: self.inside && other.inside,
-            begin: self.begin && other.begin,
-            end: self.end && other.end,
-            both: self.both && other.both,
-        }
-    }
-
-    /// Where this one does or another.
-    fn or(self, other: Null) -> Null
-        ensures { (first last : Bool) → null_at result first last ≡ (null_at self first last || null_at other first last) }
-    {
-        Null {
-            inside: self.inside || other.inside,
-            begin: self.begin || other.begin,
-            end: self.end || other.end,
-            both: self.both || other.both,
-        }
-    }
-
-    /// Whether it is told otherwise at some kind of place than at another.
-    fn differs(self) -> bool
-        ensures { result ≡ false → IsOfEachKind self }
-    {
-        self.inside != self.begin || self.inside != self.end || self.inside != self.both
-    }
-
-    /// At places of a kind.
-    #[inline(always)]
-    pub fn at(self, kind: Kind) -> bool
-        ensures { result ≡ null_at self kind.begin kind.end }
-    {
-        if kind.begin {
-            if kind.end { self.both } else { self.begin }
-        } else if kind.end {
-            self.end
-        } else {
-            self.inside
-        }
-    }
+/// Whether a kind is among those with these bits. Its number is 1 for the beginning, 2 for the end, and their sum for both.
+#[inline(always)]
+fn has_kind(kinds: u8, kind: Kind) -> bool
+    ensures { result ≡ null_at kinds kind.begin kind.end }
+{
+    (kinds >> (u8::from(kind.begin) + 2 * u8::from(kind.end))) & 1 == 1
 }
 
 /// What is told of a node once.
@@ -136,8 +60,8 @@ impl Null {
 pub struct Facts {
     /// The least index in its tree: the nodes of the tree are those from `low` to the node itself.
     pub low: usize,
-    /// Where it matches the null string.
-    pub null: Null,
+    /// Where it matches the null string: at places of these kinds.
+    pub null: u8,
     /// The groups of its tree.
     pub groups: GroupSet,
     /// How long all its matches are, where they are of one length.
@@ -147,8 +71,9 @@ pub struct Facts {
 }
 
 /// What is told of a node without parts.
-fn of_leaf(x: usize, null: Null, length: usize) -> Facts
-    ensures { IsLeaf x null length result }
+fn of_leaf(x: usize, null: u8, length: usize) -> Facts
+    ensures { (t : Tree) → size t ≡ 1 → ((first last : Bool) → null_at null first last ≡ nullable first last t) → ((k : ℕ) → has_group t k ≡ false) →
+        length_of t ≡ Some length → run_of t x ≡ None → IsFacts t x result }
 {
     Facts {
         low: x,
@@ -163,115 +88,102 @@ fn of_leaf(x: usize, null: Null, length: usize) -> Facts
 fn sum_of(left: Option<usize>, right: Option<usize>) -> Option<usize>
     ensures { IsShort left → IsShort right → result ≡ sum_of left right }
 {
-    match (left, right) {
-        (Some(l), Some(r)) => Some(l.saturating_add(r)),
-        _ => None,
-    }
+    Some(left?.saturating_add(right?))
 }
 
 /// The one length of both, if there is one.
 fn same_of(left: Option<usize>, right: Option<usize>) -> Option<usize>
     ensures { result ≡ same_of left right }
 {
-    match (left, right) {
-        (Some(l), Some(r)) => if l == r { Some(l) } else { None },
-        _ => None,
-    }
+    if left == right { left } else { None }
 }
 
 /// What is told of a concatenation, from what is told of its parts.
 fn of_seq(left: Facts, right: Facts) -> Facts
-    ensures { (a b : Tree) (x y : ℕ) → IsFacts a x left → IsFacts b y right → x + size b ≡ y → IsShort left.length → IsShort right.length →
-        IsFacts (seq a b) (y + 1) result }
+    ensures { (a b : Tree) (x y z : ℕ) → IsFacts a x left → IsFacts b y right → x + size b + 1 ≡ z → y + 1 ≡ z → size a + size b ≤ 65536 → IsFacts (seq a b) z result }
 {
     Facts {
-        low: left.low,
-        null: left.null.and(right.null),
+        null: left.null & right.null,
         groups: left.groups.union(right.groups),
         length: sum_of(left.length, right.length),
         run: None,
+        ..left
     }
 }
 
 /// What is told of an alternation, from what is told of its parts.
 fn of_alt(left: Facts, right: Facts) -> Facts
-    ensures { (a b : Tree) (x y : ℕ) → IsFacts a x left → IsFacts b y right → x + size b ≡ y → IsFacts (alt a b) (y + 1) result }
+    ensures { (a b : Tree) (x y z : ℕ) → IsFacts a x left → IsFacts b y right → x + size b + 1 ≡ z → y + 1 ≡ z → IsFacts (alt a b) z result }
 {
     Facts {
-        low: left.low,
-        null: left.null.or(right.null),
+        null: left.null | right.null,
         groups: left.groups.union(right.groups),
         length: same_of(left.length, right.length),
         run: None,
+        ..left
     }
 }
 
 /// What is told of a group, from what is told of its part.
 fn of_group(k: usize, part: Facts) -> Facts
-    ensures { (a : Tree) (x : ℕ) → IsFacts a x part → IsFacts (group k a) (x + 1) result }
+    ensures { (a : Tree) (x z : ℕ) → IsFacts a x part → x + 1 ≡ z → IsFacts (group k a) z result }
 {
     Facts {
-        low: part.low,
-        null: part.null,
         groups: part.groups.union(GroupSet::one(k)),
-        length: part.length,
-        run: part.run,
+        ..part
     }
 }
 
-/// Whether the node `x` is a set: it has no parts, and its matches have one byte.
-fn is_set(x: usize, facts: &Facts) -> bool
-    ensures { IsTrue result ↔ ((facts.now.low ≡ x) × (facts.now.length ≡ Some 1)) }
+/// The index of a part, if that is a set: it has no parts, and its matches have one byte.
+fn set_at(part: NodeId, told: Facts) -> Option<usize>
+    ensures { (a : Tree) → IsFacts a part.index told → result ≡ cond (is_set a) (Some part.index) None }
 {
-    facts.low == x && matches!(facts.length, Some(1))
-}
-
-/// What is told of a repetition, from what is told of its part, the node `x`.
-fn of_star(x: usize, part: Facts) -> Facts
-    ensures { (a : Tree) (first : Bool) → IsFacts a x part → IsFacts (star a first) (x + 1) result }
-{
-    let is_set = is_set(x, &part);
-    Facts {
-        low: part.low,
-        null: Null::all(true),
-        groups: part.groups,
-        length: None,
-        run: if is_set { Some(x) } else { None },
+    let x = part.index();
+    if told.low == x && told.length == Some(1) {
+        Some(x)
+    } else {
+        None
     }
 }
 
-/// What is told of a part that may be left out, from what is told of it.
-fn of_opt(part: Facts) -> Facts
-    ensures { (a : Tree) (first : Bool) (x : ℕ) → IsFacts a x part → IsFacts (opt a first) (x + 1) result }
+/// What is told of a repetition, or of a part that may be left out, from what is told of the part. `run` is the set that it repeats.
+fn of_many(part: Facts, run: Option<usize>) -> Facts
+    ensures star { (a : Tree) (first : Bool) (x z : ℕ) → IsFacts a x part → x + 1 ≡ z → run ≡ cond (is_set a) (Some x) None → IsFacts (star a first) z result }
+    ensures opt { (a : Tree) (first : Bool) (x z : ℕ) → IsFacts a x part → x + 1 ≡ z → run ≡ None → IsFacts (opt a first) z result }
 {
     Facts {
-        low: part.low,
-        null: Null::all(true),
-        groups: part.groups,
+        null: EVERYWHERE,
         length: None,
-        run: None,
+        run,
+        ..part
     }
 }
 
-/// What is told of a node, from what is told of those before it.
-pub fn facts_of(expr: &Expr, node: &Node, facts: &Vec<Facts>, x: usize) -> Facts
-    requires expr { IsExpr expr.now.nodes expr.now.groups }
-    requires inside { x < length expr.now.nodes }
-    requires node { slice_get expr.now.nodes x ≡ Some node.now }
-    requires before { length facts.now.items ≡ x }
-    requires facts { AreFacts expr.now.nodes facts.now.items }
-    ensures { IsFacts (tree_at expr.now.nodes x) x result }
+/// What was told of a part.
+fn of_part(facts: &Vec<Facts>, part: NodeId) -> Facts
+    requires { part.index < length facts.now.items }
+    ensures { slice_get facts.now.items part.index ≡ Some result }
 {
+    facts[part.index()]
+}
+
+/// What is told of the next node, from what is told of those before it.
+pub fn facts_of(node: &Node, facts: &Vec<Facts>) -> Facts
+    requires { PartsBelow (length facts.now.items) node.now }
+    ensures { (nodes : List Node) (groups : ℕ) → IsExpr nodes groups → AreFacts nodes facts.now.items → slice_get nodes (length facts.now.items) ≡ Some node.now →
+        IsFacts (tree_of (tree_at nodes) node.now) (length facts.now.items) result }
+{
+    let x = facts.len();
     match *node {
-        Node::Empty => of_leaf(x, Null::all(true), 0),
-        Node::Set(_) => of_leaf(x, Null::all(false), 1),
-        Node::Begin => of_leaf(x, Null::at_begin(), 0),
-        Node::End => of_leaf(x, Null::at_end(), 0),
-        Node::Seq(a, b) => of_seq(facts[a.index()], facts[b.index()]),
-        Node::Alt(a, b) => of_alt(facts[a.index()], facts[b.index()]),
-        Node::Group(k, a) => of_group(k, facts[a.index()]),
-        Node::Star(a, _) => of_star(a.index(), facts[a.index()]),
-        Node::Opt(a, _) => of_opt(facts[a.index()]),
+        Node::Empty => of_leaf(x, EVERYWHERE, 0),
+        Node::Set(_) => of_leaf(x, 0, 1),
+        Node::Begin => of_leaf(x, AT_BEGIN, 0),
+        Node::End => of_leaf(x, AT_END, 0),
+        Node::Seq(a, b) => of_seq(of_part(facts, a), of_part(facts, b)),
+        Node::Alt(a, b) => of_alt(of_part(facts, a), of_part(facts, b)),
+        Node::Group(k, a) => of_group(k, of_part(facts, a)),
+        Node::Star(a, _) => of_many(of_part(facts, a), set_at(a, of_part(facts, a))),
+        Node::Opt(a, _) => of_many(of_part(facts, a), None),
     }
 }
 
@@ -280,7 +192,7 @@ fn has_anchor(facts: &Vec<Facts>) -> bool
     ensures { result ≡ false → (x : ℕ) (here : Facts) → slice_get facts.now.items x ≡ Some here → IsOfEachKind here.null }
 {
     for x in 0..facts.len() {
-        if facts[x].null.differs() {
+        if facts[x].null != EVERYWHERE && facts[x].null != 0 {
             return true;
         }
     }
@@ -296,13 +208,11 @@ pub struct Prepared {
     pub root: usize,
     /// What is told of each node.
     pub facts: Vec<Facts>,
-    /// The class of each byte: bytes of one class are in the same sets.
-    pub classes: [u8; 256],
-    /// How many classes there are.
-    pub columns: usize,
+    /// Classes of bytes: those of one class are in the same sets.
+    pub classes: Classes,
     /// Whether some node is null at places of one kind alone, as an anchor is.
     pub anchors: bool,
-    pub ghost is_prepared: { IsPrepared arena.expr root facts.items classes columns anchors } by { Prim.hlevel props },
+    pub ghost is_prepared: { IsPrepared arena.expr root facts.items classes.of classes.count anchors } by { Prim.hlevel props },
 }
 
 impl Prepared {
@@ -315,14 +225,12 @@ impl Prepared {
     {
         let arena = Arena::with_room(alloc, nodes)?;
         let mut facts = Vec::with_capacity(alloc, nodes)?;
-        facts.push_reserved(of_leaf(0, Null::all(true), 0));
-        let Classes { of, count } = classes_of(&[]);
+        facts.push_reserved(of_leaf(0, EVERYWHERE, 0));
         Ok(Prepared {
             arena,
             root: 0,
             facts,
-            classes: of,
-            columns: count,
+            classes: classes_of(&[]),
             anchors: false,
         })
     }
@@ -338,10 +246,8 @@ impl Prepared {
         ensures counts { TakesAtLeast steps.old steps.new (length expr.now.nodes) }
     {
         self.arena.fill(expr, &mut self.facts, steps);
-        let Classes { of, count } = classes_of(expr.sets());
         self.root = expr.root().index();
-        self.classes = of;
-        self.columns = count;
+        self.classes = classes_of(expr.sets());
         self.anchors = has_anchor(&self.facts);
     }
 
@@ -386,7 +292,7 @@ impl Prepared {
         ensures size { result + size (tree_at self.now.arena.expr.nodes x) ≡ x + 1 }
         ensures range { (mirrored : Bool) → IsNodeRange (seen mirrored self.now.arena.expr).nodes result x }
     {
-        self.arena.is_expression();
+        let _groups = self.arena.groups();
         self.facts[x].low
     }
 
@@ -399,7 +305,7 @@ impl Prepared {
         ensures counts { TakesExactly steps.old steps.new 1 }
     {
         steps.add(1);
-        self.facts[x].null.at(kind)
+        has_kind(self.facts[x].null, kind)
     }
 
     /// How many nodes there are.
@@ -409,7 +315,7 @@ impl Prepared {
         ensures few { length self.now.arena.expr.nodes ≤ 65536 }
         ensures expr { IsExpr self.now.arena.expr.nodes self.now.arena.expr.groups }
     {
-        self.arena.is_expression();
+        let _groups = self.arena.groups();
         self.root + 1
     }
 }

@@ -2,20 +2,17 @@
 //!
 //! The row of a place tells which leaves are entered there, in a match from one of the pass's starts, and which nodes
 //! ended there. The leaves entered decide, with the byte, the next row.
-ghost use Rattle.std.specs.Prelude.{◌≡◌, ℕ, List, Bool, false, ◌+◌, ◌-◌, ◌*◌, ◌<◌, ◌≤◌, ◌↔◌, ◌&&◌, ◌||◌, eqb};
-ghost use Rattle.std.specs.Prelude.{length, Some, slice_index_or, IsTrue};
+ghost use Rattle.std.specs.Prelude.{◌≡◌, ℕ, List, Bool, false, ◌+◌, ◌-◌, ◌*◌, ◌<◌, ◌≤◌, ◌↔◌, ◌&&◌, ◌||◌, length, Some, slice_index_or, IsTrue};
 ghost use Rattle.sedre.specs.Tree.{tree_at};
 ghost use Rattle.sedre.specs.Packed.{PartsBelow};
 ghost use Rattle.sedre.specs.Sizes.{size};
 ghost use Rattle.sedre.specs.Steps.{Takes, TakesAtLeast};
-ghost use Rattle.sedre.specs.declared.types.Node.TheVariants.{Set};
 ghost use Rattle.sedtext.specs.Matching.{byte_is_in};
 ghost use Rattle.sedtext.specs.PartMarks.{enter_parts};
 ghost use Rattle.sedtext.specs.Places.{takes_any};
 ghost use Rattle.sedtext.specs.Reach.{IsStart, Ends, Marked};
 ghost use Rattle.sedpass.specs.Prepared.{null_in, SameNulls};
-ghost use Rattle.sedpass.specs.Rows.{nodes_of, at_begin, at_end, bits, LeadsTo, IsFirstRow, RowOfPlace};
-ghost use Rattle.sedpass.specs.Rows.{InTree, AreNull, TellTook, ended_by, leaf_looks, part_looks, enter_looks};
+ghost use Rattle.sedpass.specs.Rows.{nodes_of, at_begin, at_end, bits, LeadsTo, IsFirstRow, RowOfPlace, InTree, AreNull, TellTook, ended_by, enter_looks};
 
 use crate::nodes::{Kind, Prepared};
 use sedre::{Node, Steps};
@@ -60,45 +57,34 @@ impl Work {
     }
 }
 
-/// Whether the node x is a leaf that was entered and took the byte that came, if one did.
-#[inline(always)]
-fn took(node: &Node, x: usize, byte: Option<u8>, leaves: &NodeMarks, steps: &mut Steps) -> bool
-    requires { x < 65536 }
-    ensures took { (members : List Bool) → node.now ≡ Set members → result ≡ (slice_index_or leaves.now x false && byte_is_in byte members) }
-    ensures cost { Takes steps.old steps.new (leaf_looks node.now) }
-{
-    match node {
-        Node::Set(set) => leaves.get(x, steps) && takes_byte(set, byte),
-        _ => false,
-    }
-}
-
-/// Whether a node ends here after at least one byte, given the marks of its parts; a leaf if it took the byte.
+/// Whether the node x ends here after at least one byte: a leaf, if it was entered and took the byte that came.
 #[inline(always)]
 fn ends_here(
     prepared: &Prepared,
     node: &Node,
-    took: bool,
+    x: usize,
+    byte: Option<u8>,
     kind: Kind,
-    ended: &NodeMarks,
+    work: &Work,
     steps: &mut Steps,
 ) -> bool
     requires parts { PartsBelow (length prepared.now.arena.expr.nodes) node.now }
     requires few { length prepared.now.arena.expr.nodes ≤ 65536 }
-    ensures mark { result ≡ ended_by took (null_in prepared.now.arena.expr.nodes kind) (λ c. slice_index_or ended.now c false) node.now }
-    ensures cost { Takes steps.old steps.new (part_looks node.now) }
+    requires inside { x < 65536 }
+    ensures mark { result ≡ ended_by (λ members. slice_index_or work.now.leaves x false && byte_is_in byte members) (null_in prepared.now.arena.expr.nodes kind)
+        (λ c. slice_index_or work.now.ended c false) node.now }
+    ensures cost { Takes steps.old steps.new 3 }
 {
+    let ended = &work.ended;
     match node {
         Node::Empty | Node::Begin | Node::End => false,
-        Node::Set(_) => took,
+        Node::Set(set) => work.leaves.get(x, steps) && takes_byte(set, byte),
         Node::Seq(a, b) => {
             ended.get(b.index(), steps)
                 || (ended.get(a.index(), steps) && prepared.null_at(b.index(), kind, steps))
         }
         Node::Alt(a, b) => ended.get(a.index(), steps) || ended.get(b.index(), steps),
-        Node::Group(_, a) => ended.get(a.index(), steps),
-        Node::Star(a, _) => ended.get(a.index(), steps),
-        Node::Opt(a, _) => ended.get(a.index(), steps),
+        Node::Group(_, a) | Node::Star(a, _) | Node::Opt(a, _) => ended.get(a.index(), steps),
     }
 }
 
@@ -109,15 +95,17 @@ fn enter(
     node: &Node,
     here: bool,
     kind: Kind,
-    ended: &NodeMarks,
-    entered: &mut NodeMarks,
+    work: &mut Work,
     steps: &mut Steps,
 )
     requires parts { PartsBelow (length prepared.now.arena.expr.nodes) node.now }
     requires few { length prepared.now.arena.expr.nodes ≤ 65536 }
-    ensures marks { entered.new ≡ enter_parts here (null_in prepared.now.arena.expr.nodes kind) (λ c. slice_index_or ended.now c false) node.now entered.old }
+    ensures marks { work.new.entered ≡ enter_parts here (null_in prepared.now.arena.expr.nodes kind) (λ c. slice_index_or work.old.ended c false) node.now work.old.entered }
+    ensures others { (work.new.ended ≡ work.old.ended) × (work.new.leaves ≡ work.old.leaves) × (work.new.ends ≡ work.old.ends) }
     ensures cost { Takes steps.old steps.new (enter_looks node.now) }
 {
+    let ended = &work.ended;
+    let entered = &mut work.entered;
     match node {
         Node::Empty | Node::Begin | Node::End | Node::Set(_) => {}
         Node::Seq(a, b) => {
@@ -149,20 +137,12 @@ fn leaf_bit(node: &Node, here: bool) -> bool
     }
 }
 
-/// Whether a node has ended, if the row keeps it.
+/// Whether a row keeps that the node x has ended, after at least one byte or as the null string where it is entered.
 #[inline(always)]
-fn end_bit(kept: bool, end: bool, here: bool, null: bool) -> bool
-    ensures { result ≡ (kept && (end || (here && null))) }
+fn end_bit(way: Way, is_root: bool, end: bool, here: bool, null: bool) -> bool
+    ensures { result ≡ ((way.keeps || is_root) && (end || (here && null))) }
 {
-    kept && (end || (here && null))
-}
-
-/// Whether a row keeps the end of a node.
-#[inline(always)]
-fn keeps_end(way: Way, x: usize, root: usize) -> bool
-    ensures { result ≡ (way.keeps || eqb x root) }
-{
-    way.keeps || x == root
+    (way.keeps || is_root) && (end || (here && null))
 }
 
 /// From the lowest node up: which nodes end here after at least one byte. `byte` is the one that came, if one did; the row
@@ -186,8 +166,7 @@ fn ascend(
     let low = prepared.low(root);
     for x in low..root + 1 {
         let node = prepared.look(x, way.mirrored, steps);
-        let took = took(&node, x, byte, &work.leaves, steps);
-        let here = ends_here(prepared, &node, took, kind, &work.ended, steps);
+        let here = ends_here(prepared, &node, x, byte, kind, work, steps);
         work.ended.set(x, here, steps);
     }
 }
@@ -221,18 +200,10 @@ fn descend(
         let end = work.ended.get(x, steps);
         let null = prepared.null_at(x, kind, steps);
         let node = prepared.look(x, way.mirrored, steps);
-        enter(
-            prepared,
-            &node,
-            here,
-            kind,
-            &work.ended,
-            &mut work.entered,
-            steps,
-        );
+        enter(prepared, &node, here, kind, work, steps);
         let leaf = leaf_bit(&node, here);
         work.leaves.set(x, leaf, steps);
-        let kept = end_bit(keeps_end(way, x, root), end, here, null);
+        let kept = end_bit(way, x == root, end, here, null);
         work.ends.set(x, kept, steps);
     }
 }

@@ -8,11 +8,8 @@ fn is_narrow(width: usize, max_text: usize) -> bool
     ensures short { width < 512 → IsTrue result ↔ 16 * width * width ≤ max_text }
     ensures long { 512 ≤ width → IsTrue result ↔ 32768 * width ≤ max_text }
 {
-    if width < 512 {
-        16 * width * width <= max_text
-    } else {
-        32768 * width <= max_text
-    }
+    let least = if width < 512 { 16 * width } else { 32768 };
+    least * width <= max_text
 }
 
 /// How many places a block has, for texts of at most `max_text` bytes: 16 in short ones, 512 from a megabyte on, more from 16

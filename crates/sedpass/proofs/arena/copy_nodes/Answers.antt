@@ -1,10 +1,10 @@
-use Rattle.std.proofs.Common.{refl, ◌+◌, ◌++◌, ◌∷◌, [], length, ap, sym, subst, ◌∙◌, length-append, arith}
+use Rattle.std.proofs.Common.{◌≡◌, Some, refl, ◌++◌, ◌∷◌, [], length, ap, sym, ◌∙◌, length-append, arith}
 use Rattle.std.specs.Prelude.{slice_get, take}
 use Rattle.std.proofs.lemmas.List.{take_more, take_all}
 use Rattle.std.proofs.lemmas.Option.{slice_get_within, get_or_from_slice_get}
-use Rattle.sedre.specs.Tree.{tree_at}
-use Rattle.sedpass.specs.Prepared.{IsFacts, AreFacts}
-use Rattle.sedpass.proofs.CountLemmas.{least_none, least_one}
+use Rattle.sedre.specs.Steps.{TakesAtLeast, TakesExactly}
+use Rattle.sedtext.proofs.NodeLemmas.{parts_below}
+use Rattle.sedpass.proofs.CountLemmas.{least_none}
 use Rattle.sedpass.proofs.FactLemmas.{facts_more}
 use Rattle.sedpass.proofs.arena.copy_nodes.Goals as goal
 
@@ -22,7 +22,12 @@ loop-x-init c =
       facts_room = refl;
     }
 
+pub facts_of-next-requires : goal.facts_of-next-requires
+facts_of-next-requires c =
+    parts_below c.args.expr.now.nodes c.groups-groups.ensures.expr.arena c.loop-x.x c.look-node.result (ap (slice_get c.args.expr.now.nodes) (sym c.id.ensures) ∙ c.look-node.ensures.node) _ (omega arith)
+
 pub loop-x-preserved : goal.loop-x-preserved
+unfolding TakesAtLeast TakesExactly
 loop-x-preserved c =
     let e = c.args.expr.now in
     let told = c.loop-x.facts.items in
@@ -30,23 +35,18 @@ loop-x-preserved c =
     let node = c.look-node.result in
     let is = ap (slice_get e.nodes) (sym c.id.ensures) ∙ c.look-node.ensures.node in
     let items = c.push_reserved-in-loop-x.ensures.items in
-    let at = sym c.loop-x.invariant.all in
+    let expr = c.groups-groups.ensures.expr in
+    let here : slice_get e.nodes (length told) ≡ Some node = rw c.loop-x.invariant.all is in
     record {
       grows = omega arith;
       cost = omega arith;
-      counts = least_one c.args.steps.now c.loop-x.steps c.look-node.new.steps c.loop-x.x (c.loop-x.x + 1) c.loop-x.invariant.counts c.look-node.ensures.counts refl;
+      counts = omega arith;
       copied = c.push_reserved.ensures.items ∙ ap (λ l. l ++ node ∷ []) c.loop-x.invariant.copied ∙ sym (take_more e.nodes c.loop-x.x node (omega arith) ∙ ap (λ n. take c.loop-x.x e.nodes ++ n ∷ []) (get_or_from_slice_get e.nodes c.loop-x.x node node is));
       all = omega (arith, ap length items, length-append told (next ∷ []));
-      facts = subst (λ l. AreFacts e.nodes l) (sym items) (facts_more e.nodes e.groups c.is_expression.ensures told c.loop-x.invariant.facts next (subst (λ n. IsFacts (tree_at e.nodes n) n next) at c.facts_of-next.ensures));
-      nodes_room = c.push_reserved.ensures.capacity ∙ c.loop-x.invariant.nodes_room;
-      facts_room = c.push_reserved-in-loop-x.ensures.capacity ∙ c.loop-x.invariant.facts_room;
+      facts = rw items (facts_more e.nodes expr.arena told node next c.loop-x.invariant.facts here (c.facts_of-next.ensures e.nodes e.groups expr c.loop-x.invariant.facts here));
+      nodes_room = cc;
+      facts_room = cc;
     }
 
 pub returns-clause-copied : goal.returns-clause-copied
 returns-clause-copied c = c.loop-x.invariant.copied ∙ take_all c.loop-x.x c.args.expr.now.nodes (omega arith)
-
-pub returns-clause-nodes_room : goal.returns-clause-nodes_room
-returns-clause-nodes_room c = c.loop-x.invariant.nodes_room ∙ c.clear.ensures.capacity
-
-pub returns-clause-facts_room : goal.returns-clause-facts_room
-returns-clause-facts_room c = c.loop-x.invariant.facts_room ∙ c.clear-2.ensures.capacity

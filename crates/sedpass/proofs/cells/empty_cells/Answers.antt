@@ -1,17 +1,25 @@
-use Rattle.std.proofs.Common.{◌+◌, ◌∙◌, ◌<◌, ◌≤◌, ⊎_elim, arith}
-use Rattle.std.proofs.lemmas.Bool.{cases_lt}
-use Rattle.sedpass.proofs.CellLemmas.{none_there}
+use Rattle.std.proofs.Common.{◌≡◌, ℕ, zero, suc, ◌+◌, ◌∙◌, List, [], ◌∷◌, ◌++◌, refl, ap, arith}
+use Rattle.std.specs.Prelude.{slice_index_or}
+use Rattle.std.proofs.lemmas.List.{get_or-take, get_or_past}
 use Rattle.sedpass.proofs.cells.empty_cells.Goals as goal
 
+-- an empty cell after the others reads as none does
+empty_appended : (cells : List ℕ) (k : ℕ) → slice_index_or (cells ++ 0 ∷ []) k 0 ≡ slice_index_or cells k 0
+empty_appended [] zero = refl
+empty_appended [] (suc k) = refl
+empty_appended (x ∷ cells) zero = refl
+empty_appended (x ∷ cells) (suc k) = empty_appended cells k
+
+pub loop-cells-preserved : goal.loop-cells-preserved
+loop-cells-preserved c =
+    let before = c.loop-cells.invariant in
+    record {
+      capacity = c.push_reserved.ensures.capacity ∙ before.capacity;
+      same = λ k. ap (λ l. slice_index_or l k 0) c.push_reserved.ensures.items ∙ empty_appended c.loop-cells.cells.items k ∙ before.same k;
+    }
+
 pub returns-clause-clear : goal.returns-clause-clear
-returns-clause-clear c k low =
-    let from = c.args.from in
-    let old = c.args.cells.now.items in
-    ⊎_elim
-    (λ (lt : k < c.min-there.result). c.append_cells.ensures.same (from + k) ∙ c.clear_cells.ensures.clear k lt)
-    (λ (ge : c.min-there.result ≤ k).
-    c.append_cells.ensures.same (from + k) ∙ none_there c.clear_cells.new.cells.items (from + k) (omega (arith, c.clear_cells.ensures.len, low, ge)))
-    (cases_lt k c.min-there.result)
+returns-clause-clear c k low = c.loop-cells.invariant.same (c.args.from + k) ∙ get_or_past c.truncate.new.self.items (c.args.from + k) 0 (omega arith)
 
 pub returns-clause-before : goal.returns-clause-before
-returns-clause-before c k low = c.append_cells.ensures.same k ∙ c.clear_cells.ensures.before k low
+returns-clause-before c k low = c.loop-cells.invariant.same k ∙ ap (λ l. slice_index_or l k 0) c.truncate.ensures.items ∙ get_or-take c.args.from c.args.cells.now.items k 0 low

@@ -1,11 +1,12 @@
-use Rattle.std.proofs.Common.{◌≡◌, ◌+◌, ◌-◌, ◌*◌, refl, Some, ap, ◌∙◌, sym, arith, ◌&&◌}
+use Rattle.std.proofs.Common.{◌≡◌, refl, Some, ap, ◌∙◌, arith, ◌&&◌}
 use Rattle.std.specs.Prelude.{slice_get, slice_index_or, false}
+use Rattle.sedre.specs.Steps.{TakesAtLeast, TakesExactly}
 use Rattle.sedtext.specs.Matching.{byte_is_in}
 use Rattle.sedpass.specs.Prepared.{null_in}
 use Rattle.sedpass.specs.Rows.{nodes_of, InTree}
-use Rattle.sedpass.proofs.CountLemmas.{least_none, least_two}
+use Rattle.sedpass.proofs.CountLemmas.{least_none}
 use Rattle.sedpass.proofs.FactLemmas.{inside_seen}
-use Rattle.sedpass.proofs.RowLemmas.{up, looks_few}
+use Rattle.sedpass.proofs.RowLemmas.{up}
 use Rattle.sedpass.proofs.rows.ascend.Goals as goal
 
 pub loop-x-init : goal.loop-x-init
@@ -23,6 +24,7 @@ loop-x-init c = record {
 }
 
 pub loop-x-preserved : goal.loop-x-preserved
+unfolding TakesAtLeast TakesExactly
 loop-x-preserved c =
     let e = c.args.prepared.now.arena.expr in
     let nodes = nodes_of c.args.way e in
@@ -30,21 +32,16 @@ loop-x-preserved c =
     let node = c.look-node.result in
     let is : slice_get nodes x ≡ Some node = c.look-node.ensures.node in
     let there : InTree nodes c.args.root x = (c.low-low.ensures.range c.args.way.mirrored x).0 (omega arith, omega arith) in
-    let few = looks_few node in
     record {
       grows = omega arith;
       above = omega arith;
       cost = omega arith;
-      counts = least_two c.args.steps.now c.loop-x.steps c.look-node.new.steps c.ends_here-here.new.steps c.set.new.steps (2 * (x - c.low-low.result)) (2 * (x + 1 - c.low-low.result))
-          c.loop-x.invariant.counts c.look-node.ensures.counts (omega arith) c.set.ensures.counts (omega arith);
+      counts = omega arith;
       kept = c.loop-x.invariant.kept;
       ended = λ w s place nulls took.
-          up nodes w c.args.root x place s node c.look-node.ensures.arena (inside_seen c.args.way.mirrored e c.args.root c.requires.root) there is (null_in e.nodes c.args.kind) nulls c.took-took.result c.ends_here-here.result c.loop-x.work.ended c.set.new.self
-          (λ m same.
-          let law = took x m there (is ∙ ap (λ n. Some n) same) in
-          let bit : c.took-took.result ≡ (slice_index_or c.args.work.now.leaves x false && byte_is_in c.args.byte m) =
-          c.took-took.ensures.took m same ∙ ap (λ l. slice_index_or l x false && byte_is_in c.args.byte m) c.loop-x.invariant.kept in
-          (λ h. law.0 (sym bit ∙ h), λ h. bit ∙ law.1 h))
+          up nodes w c.args.root x place s node c.look-node.ensures.arena (inside_seen c.args.way.mirrored e c.args.root c.requires.root) there is (null_in e.nodes c.args.kind) nulls
+          (λ m. slice_index_or c.loop-x.work.leaves x false && byte_is_in c.args.byte m) c.ends_here-here.result c.loop-x.work.ended c.set.new.self
+          (λ m same. rw c.loop-x.invariant.kept (took x m there (is ∙ ap (λ n. Some n) same)))
           (omega arith) c.ends_here-here.ensures.mark c.set.ensures.marks (c.loop-x.invariant.ended w s place nulls took);
     }
 

@@ -1,13 +1,14 @@
-use Rattle.std.proofs.Common.{◌≡◌, ◌+◌, ◌-◌, ◌*◌, Bool, Some, refl, ap, ◌∙◌, sym, subst, arith, ◌&&◌, ◌||◌, ℕ, length}
-use Rattle.std.specs.Prelude.{slice_get, slice_index_or, false, eqb}
+use Rattle.std.proofs.Common.{◌≡◌, ◌+◌, ◌-◌, Bool, Some, refl, ◌∙◌, arith, ℕ, length}
+use Rattle.std.specs.Prelude.{slice_get, slice_index_or, slice_set, false}
+use Rattle.sedre.specs.Steps.{TakesAtLeast, TakesExactly}
 use Rattle.sedre.proofs.MirrorLemmas.{seen-arena, seen-length}
 use Rattle.sedtext.specs.PartMarks.{enter_parts}
 use Rattle.sedtext.specs.Reach.{Marked, Enters, Ends}
 use Rattle.sedpass.specs.Prepared.{null_in}
 use Rattle.sedpass.specs.Rows.{nodes_of, bits, InTree, TreeFrom, RowFrom}
-use Rattle.sedpass.proofs.CountLemmas.{least_none, least_six, least_after}
+use Rattle.sedpass.proofs.CountLemmas.{least_none}
 use Rattle.sedpass.proofs.FactLemmas.{inside_seen}
-use Rattle.sedpass.proofs.RowLemmas.{down, down_root, enters_few, here_right, row_none, row_step, row_done, bits_clear, bits_set, bits_other}
+use Rattle.sedpass.proofs.RowLemmas.{down, down_root, enters_few, tree_told, row_none, row_step, row_done, bits_clear, bits_set, bits_other}
 use Rattle.sedpass.proofs.rows.descend.Goals as goal
 
 pub loop-x-init : goal.loop-x-init
@@ -22,12 +23,15 @@ loop-x-init c =
       cost = omega arith;
       counts = least_none c.set.new.steps _ (omega arith);
       kept = refl;
-      entered = λ w s place nulls ended begins. down_root nodes w c.args.root place (c.args.root + 1) s c.args.first c.args.work.now.entered c.set.new.self arena (omega arith) (omega arith) c.set.ensures.marks begins;
-      row = λ w s place nulls ended begins. row_none nodes w c.args.root place s c.args.way.keeps (c.args.root + 1) (bits m c.clear.new.self) (bits m c.clear-2.new.self) arena (omega arith)
-          (bits_clear m c.clear.new.self (λ n less. c.clear.ensures.clear n (omega arith))) (bits_clear m c.clear-2.new.self (λ n less. c.clear-2.ensures.clear n (omega arith)));
+      told = λ w s place nulls ended begins. (
+        down_root nodes w c.args.root place (c.args.root + 1) s c.args.first c.args.work.now.entered c.set.new.self arena (omega arith) (omega arith) c.set.ensures.marks begins,
+        row_none nodes w c.args.root place s c.args.way.keeps (c.args.root + 1) (bits m c.clear.new.self) (bits m c.clear-2.new.self) arena (omega arith)
+            (bits_clear m c.clear.new.self (λ n less. c.clear.ensures.clear n (omega arith))) (bits_clear m c.clear-2.new.self (λ n less. c.clear-2.ensures.clear n (omega arith))),
+      );
     }
 
 pub loop-x-preserved : goal.loop-x-preserved
+unfolding TakesAtLeast TakesExactly
 loop-x-preserved c =
     let e = c.args.prepared.now.arena.expr in
     let m = length e.nodes in
@@ -42,43 +46,34 @@ loop-x-preserved c =
     let null : ℕ → Bool = null_in e.nodes c.args.kind in
     let ended : ℕ → Bool = λ n. slice_index_or c.loop-x.work.ended n false in
     let here : c.get-here.result ≡ slice_index_or c.loop-x.work.entered x false = c.get-here.ensures.mark in
-    let value : c.enter.new.entered ≡ enter_parts (slice_index_or c.loop-x.work.entered x false) null ended node c.loop-x.work.entered = rw (← here) c.enter.ensures.marks in
-    let kept : c.end_bit-kept.result ≡ ((c.args.way.keeps || eqb x r) && (c.get-end.result || (c.get-here.result && c.null_at-null.result))) =
-    c.end_bit-kept.ensures ∙ ap (λ b. b && (c.get-end.result || (c.get-here.result && c.null_at-null.result))) c.keeps_end.ensures in
+    let value : c.enter.new.work.entered ≡ enter_parts (slice_index_or c.loop-x.work.entered x false) null ended node c.loop-x.work.entered = rw (← here) c.enter.ensures.marks in
+    let leaf_set : c.set-in-loop-x.new.self ≡ slice_set c.loop-x.work.leaves x c.leaf_bit-leaf.result = rw (← c.enter.ensures.others.1) c.set-in-loop-x.ensures.marks in
+    let end_set : c.set-in-loop-x-2.new.self ≡ slice_set c.loop-x.work.ends x c.end_bit-kept.result = rw (← c.enter.ensures.others.2) c.set-in-loop-x-2.ensures.marks in
     let few = enters_few x node c.look-node.ensures.parts in
     record {
       grows = omega arith;
       above = omega arith;
       cost = omega arith;
-      counts = least_six c.set.new.steps c.loop-x.steps c.get-here.new.steps c.get-end.new.steps c.null_at-null.new.steps c.look-node.new.steps c.enter.new.steps c.set-in-loop-x.new.steps c.set-in-loop-x-2.new.steps
-          (6 * (r + 1 - c.loop-x.x)) (6 * (r + 1 - x)) c.loop-x.invariant.counts c.get-here.ensures.counts c.get-end.ensures.counts c.null_at-null.ensures.counts c.look-node.ensures.counts (omega arith)
-          c.set-in-loop-x.ensures.counts c.set-in-loop-x-2.ensures.counts (omega arith);
-      kept = c.loop-x.invariant.kept;
-      entered = λ w s place nulls ends begins.
-          let marked : Marked c.loop-x.work.entered (TreeFrom nodes r (x + 1)) (λ n. Enters nodes w r s n place) =
-          subst (λ y. Marked c.loop-x.work.entered (TreeFrom nodes r y) (λ n. Enters nodes w r s n place)) above (c.loop-x.invariant.entered w s place nulls ends begins) in
-          let told : Marked c.loop-x.work.ended (InTree nodes r) (λ n. Ends nodes w r s n place) = subst (λ l. Marked l (InTree nodes r) (λ n. Ends nodes w r s n place)) (sym c.loop-x.invariant.kept) ends in
-          down nodes w r x place s arena (inside_seen c.args.way.mirrored e r c.requires.root) there null ended nulls told c.loop-x.work.entered (omega (arith, seen-length c.args.way.mirrored e)) marked node c.enter.new.entered is value;
-      row = λ w s place nulls ends begins.
-          let marked : Marked c.loop-x.work.entered (TreeFrom nodes r (x + 1)) (λ n. Enters nodes w r s n place) =
-          subst (λ y. Marked c.loop-x.work.entered (TreeFrom nodes r y) (λ n. Enters nodes w r s n place)) above (c.loop-x.invariant.entered w s place nulls ends begins) in
-          let told : Marked c.loop-x.work.ended (InTree nodes r) (λ n. Ends nodes w r s n place) = subst (λ l. Marked l (InTree nodes r) (λ n. Ends nodes w r s n place)) (sym c.loop-x.invariant.kept) ends in
-          let old : RowFrom nodes w r s c.args.way.keeps place (x + 1) (bits m c.loop-x.work.leaves) (bits m c.loop-x.work.ends) =
-          subst (λ y. RowFrom nodes w r s c.args.way.keeps place y (bits m c.loop-x.work.leaves) (bits m c.loop-x.work.ends)) above (c.loop-x.invariant.row w s place nulls ends begins) in
-          let mark = here_right nodes w r x place s c.loop-x.work.entered arena there marked in
+      counts = omega arith;
+      kept = c.enter.ensures.others.0 ∙ c.loop-x.invariant.kept;
+      told = λ w s place nulls ends begins.
+          let old : Marked c.loop-x.work.entered (TreeFrom nodes r (x + 1)) (λ n. Enters nodes w r s n place) × RowFrom nodes w r s c.args.way.keeps place (x + 1) (bits m c.loop-x.work.leaves) (bits m c.loop-x.work.ends) =
+          rw (← above) (c.loop-x.invariant.told w s place nulls ends begins) in
+          let told : Marked c.loop-x.work.ended (InTree nodes r) (λ n. Ends nodes w r s n place) = rw c.loop-x.invariant.kept ends in
+          let mark = old.0 x (tree_told nodes arena r x there) in
           let end = told x there in
-          let none = nulls x (inside_seen c.args.way.mirrored e x (omega arith)) in
-          row_step nodes w r place s c.args.way.keeps x node c.get-here.result c.get-end.result c.null_at-null.result
-          (bits m c.loop-x.work.leaves) (bits m c.loop-x.work.ends) (bits m c.set-in-loop-x.new.self) (bits m c.set-in-loop-x-2.new.self) is
-          (λ h. mark.0 (sym here ∙ h), λ h. here ∙ mark.1 h)
-          (λ h. end.0 (sym c.get-end.ensures.mark ∙ h), λ h. c.get-end.ensures.mark ∙ end.1 h)
-          (λ h. none.0 (sym c.null_at-null.ensures.null ∙ h), λ h. c.null_at-null.ensures.null ∙ none.1 h)
-          (bits_set m c.loop-x.work.leaves c.set-in-loop-x.new.self x c.leaf_bit-leaf.result (omega arith) (omega arith) c.set-in-loop-x.ensures.marks ∙ c.leaf_bit-leaf.ensures)
-          (bits_set m c.loop-x.work.ends c.set-in-loop-x-2.new.self x c.end_bit-kept.result (omega arith) (omega arith) c.set-in-loop-x-2.ensures.marks ∙ kept)
-          (λ n ne. (
-            bits_other m c.loop-x.work.leaves c.set-in-loop-x.new.self x c.leaf_bit-leaf.result c.set-in-loop-x.ensures.marks n ne,
-            bits_other m c.loop-x.work.ends c.set-in-loop-x-2.new.self x c.end_bit-kept.result c.set-in-loop-x-2.ensures.marks n ne,
-          )) old;
+          let none = nulls x (inside_seen c.args.way.mirrored e x (omega arith)) in (
+            down nodes w r x place s arena (inside_seen c.args.way.mirrored e r c.requires.root) there null ended nulls told c.loop-x.work.entered (omega (arith, seen-length c.args.way.mirrored e)) old.0 node c.enter.new.work.entered is value,
+            row_step nodes w r place s c.args.way.keeps x node c.get-here.result c.get-end.result c.null_at-null.result
+                (bits m c.loop-x.work.leaves) (bits m c.loop-x.work.ends) (bits m c.set-in-loop-x.new.self) (bits m c.set-in-loop-x-2.new.self) is
+                (rw here mark) (rw c.get-end.ensures.mark end) (rw c.null_at-null.ensures.null none)
+                (bits_set m c.enter.new.work.leaves c.set-in-loop-x.new.self x c.leaf_bit-leaf.result (omega arith) (omega arith) c.set-in-loop-x.ensures.marks ∙ c.leaf_bit-leaf.ensures)
+                (bits_set m c.enter.new.work.ends c.set-in-loop-x-2.new.self x c.end_bit-kept.result (omega arith) (omega arith) c.set-in-loop-x-2.ensures.marks ∙ c.end_bit-kept.ensures)
+                (λ n ne. (
+                  bits_other m c.loop-x.work.leaves c.set-in-loop-x.new.self x c.leaf_bit-leaf.result leaf_set n ne,
+                  bits_other m c.loop-x.work.ends c.set-in-loop-x-2.new.self x c.end_bit-kept.result end_set n ne,
+                )) old.1,
+          );
     }
 
 pub returns-clause-row : goal.returns-clause-row
@@ -87,11 +82,8 @@ returns-clause-row c w s place nulls ended begins =
     let m = length e.nodes in
     row_done (nodes_of c.args.way e) w c.args.root place s c.args.way.keeps c.loop-x.x (bits m c.loop-x.work.leaves) (bits m c.loop-x.work.ends)
     (λ n there. let from = ((c.low-low.ensures.range c.args.way.mirrored n).1 there).0 in omega arith)
-    (c.loop-x.invariant.row w s place nulls ended begins)
+    (c.loop-x.invariant.told w s place nulls ended begins).1
 
 pub returns-clause-counts : goal.returns-clause-counts
-returns-clause-counts c =
-    let m = length c.args.prepared.now.arena.expr.nodes in
-    let first : c.nodes-nodes.result ≡ m = c.nodes-nodes.ensures.value in
-    least_after c.args.steps.now c.clear.new.steps c.clear-2.new.steps c.set.new.steps c.loop-x.steps c.nodes-nodes.result (6 * (c.args.root + 1 - c.loop-x.x)) _
-    c.clear.ensures.counts c.clear-2.ensures.counts (omega arith) c.loop-x.invariant.counts (omega arith)
+unfolding TakesAtLeast TakesExactly
+returns-clause-counts c = omega arith

@@ -13,10 +13,8 @@ invariant-loop-x l = record {
   cost : l.steps + (10 * l.x - 4) ≤ l.initial.steps + (10 * (l.root + 1) - 4);
   counts : TakesAtLeast l.initial.steps l.steps (6 * (l.root + 1 - l.x));
   kept : l.work.ended ≡ l.initial.work.ended;
-  entered : (w : List ℕ) (s : Starts) (place : ℕ) → AreNull (nodes_of l.way l.prepared.arena.expr) w place (null_in l.prepared.arena.expr.nodes l.kind) →
+  told : (w : List ℕ) (s : Starts) (place : ℕ) → AreNull (nodes_of l.way l.prepared.arena.expr) w place (null_in l.prepared.arena.expr.nodes l.kind) →
       Marked l.initial.work.ended (InTree (nodes_of l.way l.prepared.arena.expr) l.root) (λ c. Ends (nodes_of l.way l.prepared.arena.expr) w l.root s c place) → (IsTrue l.first ↔ IsStart s place) →
-      Marked l.work.entered (TreeFrom (nodes_of l.way l.prepared.arena.expr) l.root l.x) (λ c. Enters (nodes_of l.way l.prepared.arena.expr) w l.root s c place);
-  row : (w : List ℕ) (s : Starts) (place : ℕ) → AreNull (nodes_of l.way l.prepared.arena.expr) w place (null_in l.prepared.arena.expr.nodes l.kind) →
-      Marked l.initial.work.ended (InTree (nodes_of l.way l.prepared.arena.expr) l.root) (λ c. Ends (nodes_of l.way l.prepared.arena.expr) w l.root s c place) → (IsTrue l.first ↔ IsStart s place) →
-      RowFrom (nodes_of l.way l.prepared.arena.expr) w l.root s l.way.keeps place l.x (bits (length l.prepared.arena.expr.nodes) l.work.leaves) (bits (length l.prepared.arena.expr.nodes) l.work.ends);
+      Marked l.work.entered (TreeFrom (nodes_of l.way l.prepared.arena.expr) l.root l.x) (λ c. Enters (nodes_of l.way l.prepared.arena.expr) w l.root s c place)
+      × RowFrom (nodes_of l.way l.prepared.arena.expr) w l.root s l.way.keeps place l.x (bits (length l.prepared.arena.expr.nodes) l.work.leaves) (bits (length l.prepared.arena.expr.nodes) l.work.ends);
 }

@@ -1,19 +1,13 @@
-use Rattle.std.proofs.Common.{◌≡◌, ℕ, ◌<◌, ◌≤◌, ◌∙◌, Bool, get_or, refl, ap, sym, Some, subst, arith}
+use Rattle.std.proofs.Common.{◌≡◌, ◌<◌, ◌≤◌, ◌∙◌, refl, ap, sym, Some, subst, arith}
 use Rattle.std.specs.Prelude.{slice_get, length}
 use Rattle.std.proofs.lemmas.Option.{slice_get_read}
 use Rattle.sedre.specs.Arena.{IsArena}
 use Rattle.sedre.specs.Tree.{WrittenExpression}
-use Rattle.sedre.specs.Mirror.{seen, node_seen}
-use Rattle.sedre.specs.declared.types.Node.{Node}
+use Rattle.sedre.specs.Mirror.{seen}
 use Rattle.sedre.proofs.MirrorLemmas.{seen-arena, seen-node}
 use Rattle.sedtext.proofs.NodeLemmas.{parts_below}
 use Rattle.sedpass.specs.Held.{Held}
 use Rattle.sedpass.proofs.arena.Arena.look.Goals as goal
-
--- the node of an index, seen so
-node_there : (mirrored : Bool) (e : WrittenExpression) (x : ℕ) (node result : Node) → x < length e.nodes → node ≡ get_or e.nodes x node → result ≡ node_seen mirrored node → slice_get (seen mirrored e).nodes x ≡ Some result
-node_there mirrored e x node result inside is same =
-    seen-node mirrored e x node (slice_get_read e.nodes (length e.nodes) x node refl inside is) ∙ ap Some (sym same)
 
 pub returns-clause-arena : goal.returns-clause-arena
 returns-clause-arena c =
@@ -23,9 +17,10 @@ returns-clause-arena c =
 pub returns-clause-node : goal.returns-clause-node
 returns-clause-node c =
     let e : WrittenExpression = record { nodes = c.self.inside.nodes.items; groups = c.self.inside.groups } in
+    let node = c.index.result.now in
     let inside = subst (λ (h : Held). c.args.x < length h.expr.nodes) (sym c.self.view_is) c.requires.inside in
     subst (λ (h : Held). slice_get (seen c.args.mirrored h.expr).nodes c.args.x ≡ Some c.node_seen.result) c.self.view_is
-    (node_there c.args.mirrored e c.args.x c.index.result.now c.node_seen.result inside c.index.ensures c.node_seen.ensures)
+    (seen-node c.args.mirrored e c.args.x node (slice_get_read e.nodes (length e.nodes) c.args.x node refl inside c.index.ensures) ∙ ap Some (sym c.node_seen.ensures))
 
 pub returns-clause-parts : goal.returns-clause-parts
 returns-clause-parts c = parts_below (seen c.args.mirrored c.args.self.now.expr).nodes (returns-clause-arena c) c.args.x c.node_seen.result (returns-clause-node c) c.args.x (omega arith)

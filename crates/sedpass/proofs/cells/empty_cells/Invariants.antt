@@ -1,6 +1,6 @@
-use Rattle.std.proofs.Common.{◌≡◌, ℕ, ◌-◌}
-use Rattle.std.specs.Prelude.{length, slice_index_or, vec_capacity}
-use Rattle.sedpass.proofs.cells.append_cells.Given as goal
+use Rattle.std.proofs.Common.{◌≡◌, ℕ, ◌+◌, ◌-◌, length}
+use Rattle.std.specs.Prelude.{slice_index_or, vec_capacity}
+use Rattle.sedpass.proofs.cells.empty_cells.Given as goal
 
 abbrev pub invariant-loop-cells : goal.invariant-loop-cells
 invariant-loop-cells l = record {
@@ -9,4 +9,4 @@ invariant-loop-cells l = record {
 }
 
 abbrev pub decreases-loop-cells : goal.decreases-loop-cells
-decreases-loop-cells l = l.count - length l.cells.items
+decreases-loop-cells l = l.from + l.size - length l.cells.items
