@@ -3,7 +3,7 @@ use Rattle.std.proofs.Common.{inl, inr, ◌≡◌, ℕ, ◌+◌, ◌-◌, ◌*�
 use Rattle.std.proofs.Math.Nat.{div-mul-le_self, lt-div-mul-add}
 use Rattle.std.proofs.Math.Bool.{beq}
 use Rattle.std.proofs.lemmas.List.{length-reverse}
-use Rattle.std.specs.Prelude.{min, not, reverse, slice_get, slice_index_or, slice_set, vec_capacity}
+use Rattle.std.specs.Prelude.{not, reverse, slice_get, slice_index_or, slice_set, vec_capacity}
 use Rattle.std.proofs.lemmas.List.{get_or-set_same, get_or-set_other}
 use Rattle.sedre.specs.Arena.{IsArena}
 use Rattle.sedre.specs.Tree.{WrittenExpression}
@@ -22,7 +22,7 @@ use Rattle.sedpass.specs.Kept.{starts_told, ends_told, RowKept, KeptAt, IsLive, 
 use Rattle.sedpass.specs.Table.{State, state_of, HasRow, LeadsOn, BeginsIn, IsTable, MayBegin, SameShape, AddsStates, IsOffset}
 use Rattle.sedpass.specs.declared.kept.Kept.{Kept}
 use Rattle.sedpass.specs.Rows.{nodes_of}
-use Rattle.std.proofs.lemmas.Bool.{cases_lt}
+use Rattle.std.proofs.lemmas.Bool.{cases_eq, cases_lt}
 use Rattle.sedpass.specs.declared.nodes.Prepared.{Prepared}
 use Rattle.sedpass.specs.declared.rows.Way.{Way}
 use Rattle.sedpass.specs.declared.table.Table.{Table}
@@ -351,27 +351,26 @@ make_cost m low d place end s a t at is first pass =
     omega (arith, h, first)
 
 -- the state of the region's end
-pub first_at : (p : Prepared) (w : List ℕ) (t : Table) (k : Kept) (way : Way) (kind : Kind) (a : State) → IsRegion p w t k → way ≡ t.way →
-    (IsTrue kind.begin ↔ (k.region.end ≡ 0)) → (IsTrue kind.end ↔ (k.region.end ≡ length w)) → BeginsIn (nodes_of t.way p.arena.expr) t.way k.region.root kind a →
-    KeptAt p w way k.region.root k.region.end k.region.end a
-first_at p w t k way kind a region same begins ends first =
-    subst (λ v. KeptAt p w v k.region.root k.region.end k.region.end a) (sym same)
-    (first.0, kept_first p.arena.expr w t.way.mirrored t.way.all_starts t.way.keeps k.region.root k.region.end kind a.entered a.ended region.room.mirrored region.inside region.whole begins ends first.1)
+pub first_at : (p : Prepared) (w : List ℕ) (t : Table) (k : Kept) (way : Way) (place : ℕ) (kind : Kind) (a : State) → IsRegion p w t k → way ≡ t.way → place ≡ k.region.end →
+    (IsTrue kind.begin ↔ (place ≡ 0)) → (IsTrue kind.end ↔ (place ≡ length w)) → BeginsIn (nodes_of t.way p.arena.expr) t.way k.region.root kind a →
+    KeptAt p w way k.region.root k.region.end place a
+first_at p w t k way place kind a region same at begins ends first =
+    rw (same, at) (
+      first.0,
+      kept_first p.arena.expr w t.way.mirrored t.way.all_starts t.way.keeps k.region.root k.region.end kind a.entered a.ended region.room.mirrored region.inside region.whole
+          (subst (λ e. IsTrue kind.begin ↔ (e ≡ 0)) at begins) (subst (λ e. IsTrue kind.end ↔ (e ≡ length w)) at ends) first.1,
+    )
 
 -- the state of a block's right end
-pub load_at : (p : Prepared) (w : List ℕ) (t : Table) (k : Kept) (way : Way) (block place : ℕ) (a : State) → EdgesFrom p w t k k.region.low → k.region.low < block * (t.room - 1) + (t.room - 1) →
-    place ≡ min k.region.end (block * (t.room - 1) + (t.room - 1)) → (place ≡ k.region.end → ⊥) → way ≡ t.way →
+pub load_at : (p : Prepared) (w : List ℕ) (t : Table) (k : Kept) (way : Way) (block place : ℕ) (a : State) → place ≡ block * (t.room - 1) + (t.room - 1) →
+    IsEdge p w t.way k.region.root k.region.end k.edges (t.room - 1) block → way ≡ t.way →
     HasRow k.region.root (bits (length p.arena.expr.nodes) (row_of k.edges (2 * block))) (bits (length p.arena.expr.nodes) (row_of k.edges (2 * block + 1))) a → KeptAt p w way k.region.root k.region.end place a
-load_at p w t k way block place a edges some is other same row =
-    let width = t.room - 1 in
-    let root = k.region.root in
-    let end = k.region.end in
-    let at : place ≡ block * width + width = omega (arith, is, other) in
-    let before : block * width + width < end = omega (arith, is, other) in
-    subst (λ v. KeptAt p w v root end place a) (sym same) (
-      row.0,
-      rw (at, row.1, row.2) (edges block some before),
-    )
+load_at p w t k way block place a at edge same row = (row.0, rw (same, at, row.1, row.2) edge)
+
+-- a table that had no states has one at most
+pub added_few : (m : ℕ) (t after : Table) → AddsStates m t after → t.count ≡ 0 → after.count ≤ 1
+added_few m t after adds none =
+    ⊎_elim (λ (e : after.epoch ≡ t.epoch). let up = (adds.grows e).1 in omega arith) (λ (ne : after.epoch ≡ t.epoch → ⊥). adds.forgot ne) (cases_eq after.epoch t.epoch)
 
 -- What the marks tell.
 
@@ -404,15 +403,13 @@ kept_row p w t k q kept above before =
 -- a mark that is as asked, and one that isn't
 pub as_asked : (A : Type 0) (mark asked : Bool) → beq mark asked ≡ true → (IsTrue mark ↔ A) → IsTrue asked ↔ A
 as_asked A true true same tells = tells
-as_asked A true false same tells = absurd (true≢false (sym same))
-as_asked A false true same tells = absurd (true≢false (sym same))
 as_asked A false false same tells = tells
+as_asked A mark asked same tells = absurd (true≢false (sym same))
 
 pub not_asked : (A : Type 0) (mark asked : Bool) → beq mark asked ≡ false → (IsTrue mark ↔ A) → IsTrue (not asked) ↔ A
-not_asked A true true other tells = absurd (true≢false other)
 not_asked A true false other tells = tells
 not_asked A false true other tells = tells
-not_asked A false false other tells = absurd (true≢false other)
+not_asked A mark asked other tells = absurd (true≢false other)
 
 -- a place more was passed
 pub marked_on : (nodes : List Node) (w : List ℕ) (r x : ℕ) (t : Starts) (asked : Bool) (from place : ℕ) → AllMarked nodes w r t x asked from place → (IsTrue asked ↔ ReachesEnd nodes w r t x place) → AllMarked nodes w r t x asked from (place + 1)

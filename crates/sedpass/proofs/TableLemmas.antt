@@ -16,12 +16,14 @@ use Rattle.sedtext.specs.Words.{AgreeBelow, row_of}
 use Rattle.sedpass.specs.Prepared.{SameNulls}
 use Rattle.sedpass.specs.Rows.{nodes_of, at_begin, at_end, bits, SameBytes, LeadsTo, IsFirstRow}
 use Rattle.sedpass.specs.Cells.{stops, code_of, ColumnAt, EdgeApart, EdgeFits, IsLayout, IsColumn}
-use Rattle.sedpass.specs.Table.{State, state_of, IsTold, HasRow, LeadsOn, BeginsIn, Names, IsOffset, cell_of, LeadsBy, kind_number, beginning_at, beginning_of, MayBegin, HasRoom, IsRoomy, IsTable, SameRoom, SameShape, AddsStates}
+use Rattle.sedpass.specs.Table.{State, state_of, IsTold, HasRow, HasMarks, LeadsOn, BeginsIn, Names, IsOffset, cell_of, LeadsBy, kind_number, beginning_at, beginning_of, MayBegin, HasRoom, IsRoomy, IsTable, SameRoom, SameShape, AddsStates, Codes}
 use Rattle.sedpass.specs.declared.cells.Flags.{Flags}
 use Rattle.sedpass.specs.declared.cells.Layout.{Layout}
 use Rattle.sedpass.specs.declared.nodes.Kind.{Kind}
 use Rattle.sedpass.specs.declared.nodes.Prepared.{Prepared}
 use Rattle.sedpass.specs.declared.rows.Way.{Way}
+use Rattle.sedpass.specs.declared.rows.Work.{Work}
+use Rattle.sedtext.proofs.MarkLemmas.{default_same}
 use Rattle.sedpass.specs.declared.table.Beginning.{Beginning}
 use Rattle.sedpass.specs.declared.table.Table.{Table}
 use Rattle.sedpass.proofs.LeaveLemmas.{twice}
@@ -110,21 +112,18 @@ end_in n = eqb n 2 || eqb n 3
 
 begin_is : (a b : Bool) → begin_in (kind_number a b) ≡ a
 begin_is false false = refl
-begin_is false true = refl
 begin_is true false = refl
-begin_is true true = refl
+begin_is begin end = refl
 
 end_is : (a b : Bool) → end_in (kind_number a b) ≡ b
 end_is false false = refl
-end_is false true = refl
 end_is true false = refl
-end_is true true = refl
+end_is begin end = refl
 
 pub few_kinds : (a b : Bool) → kind_number a b < 4
 few_kinds false false = omega arith
-few_kinds false true = omega arith
 few_kinds true false = omega arith
-few_kinds true true = omega arith
+few_kinds begin end = omega arith
 
 kind_same : (one other : Kind) → kind_number one.begin one.end ≡ kind_number other.begin other.end → one ≡ other
 kind_same one other e =
@@ -148,6 +147,9 @@ code_by way a shift q = code_of (stops way a.flags) (q * 2 ^ shift)
 pub names_map : (m : ℕ) (t : Table) (P Q : State → Type 0) (v : ℕ) → ((a : State) → P a → Q a) → Names m t P v → Names m t Q v
 names_map m t P Q v up n = record { to = n.to; there = n.there; code = n.code; is = up (state_of m t n.to) n.is }
 
+pub codes_map : (p : Prepared) (t t' : Table) (P Q : State → Type 0) (v : ℕ) → ((a : State) → P a → Q a) → Codes p t t' P v → Codes p t t' Q v
+codes_map p t t' P Q v up c = record { table = c.table; adds = c.adds; names = names_map (length p.arena.expr.nodes) t' P Q v up c.names }
+
 module _ (p : Prepared) (t t' : Table) (adds : AddsStates (length p.arena.expr.nodes) t t') (epoch : t'.epoch ≡ t.epoch) where
   abbrev m : ℕ
   m = length p.arena.expr.nodes
@@ -162,6 +164,9 @@ module _ (p : Prepared) (t t' : Table) (adds : AddsStates (length p.arena.expr.n
         ∙ ap (λ a. code_by t'.way a t'.layout.shift n.to) (sym (adds.kept epoch n.to n.there));
     is = subst P (sym (adds.kept epoch n.to n.there)) n.is;
   }
+
+  pub offset_more : (o : ℕ) → IsOffset t o → IsOffset t' o
+  offset_more o at = let up = (adds.grows epoch).0 in let low = at.0 in rw adds.shape.2 (omega arith, at.1)
 
   -- a state of the old table is one of the new table
   pub names_moved : (Q : Way → State → State → Type 0) (o v : ℕ) → o / 2 ^ t.layout.shift < t.count → Names m t' (Q t.way (state_of m t (o / 2 ^ t.layout.shift))) v → Names m t' (Q t'.way (state_of m t' (o / 2 ^ t'.layout.shift))) v
@@ -331,6 +336,32 @@ no_states p t expr room layout none past = record {
   begun = λ root kind may now. let before = past (beginning_at t.way.all_starts root kind) in absurd (omega (arith, before, now));
 }
 
+-- one that forgot all its states, in an epoch that no beginning has
+pub emptied : (p : Prepared) (t : Table) (epoch : ℕ) → IsExpr p.arena.expr.nodes p.arena.expr.groups → HasRoom (length p.arena.expr.nodes) t → IsLayout p.arena.expr.nodes t.layout →
+    ((noted : ℕ) → noted ≤ t.epoch → noted < 4294967294 → noted < epoch) → IsTable p (record t { count = 0; epoch = epoch })
+emptied p t epoch expr room layout later =
+    let past : (i : ℕ) → (beginning_of t i).epoch < epoch = λ i. later (beginning_of t i).epoch (room.past i) (room.early i) in
+    let empty : HasRoom (length p.arena.expr.nodes) (record t { count = 0; epoch = epoch }) = record {
+      count = omega arith;
+      some = room.some;
+      few = room.few;
+      marks = room.marks;
+      leaves = room.leaves;
+      ends = room.ends;
+      leaf_marks = room.leaf_marks;
+      end_marks = room.end_marks;
+      roots = room.roots;
+      flags = room.flags;
+      cells = omega arith;
+      reserved = room.reserved;
+      capacity = room.capacity;
+      index = room.index;
+      begins = room.begins;
+      past = λ i. let h = past i in omega (arith, h);
+      early = room.early;
+    } in
+    no_states p (record t { count = 0; epoch = epoch }) expr empty layout refl past
+
 -- the same states
 pub adds_same : (m : ℕ) (t t' : Table) → SameShape t t' → t'.epoch ≡ t.epoch → t'.count ≡ t.count → ((q : ℕ) → state_of m t' q ≡ state_of m t q) → AddsStates m t t'
 adds_same m t t' shape epoch count same = record {
@@ -375,25 +406,35 @@ module _ (m : ℕ) (t t' : Table) (root : ℕ) (leaves ends : List Bool) (flags 
   }
 
 -- the next state, as it was added to the table or found there
-module _ (p : Prepared) (t u : Table) (way : Way) (q root byte v : ℕ) (loaded leaves ends : List Bool) (same_root : root ≡ (state_of (length p.arena.expr.nodes) t q).root) (same : AgreeBelow (length p.arena.expr.nodes) loaded (row_of t.leaves q))
-    (n : Names (length p.arena.expr.nodes) u (HasRow root (bits (length p.arena.expr.nodes) leaves) (bits (length p.arena.expr.nodes) ends)) v) where
+module _ (p : Prepared) (t u : Table) (table : IsTable p t) (offset : ℕ) (there : IsOffset t offset) (state n root byte v : ℕ) (loaded : List Bool) (work : Work) (at : state ≡ offset / 2 ^ t.layout.shift) (nodes : n ≡ length p.arena.expr.nodes)
+    (root_is : root ≡ slice_index_or t.roots.items state root) (row : AgreeBelow n loaded (row_of t.leaves state)) (names : Names (length p.arena.expr.nodes) u (HasMarks p root work) v) where
+  abbrev here : State
+  here = state_of (length p.arena.expr.nodes) t (offset / 2 ^ t.layout.shift)
+
+  same_root : root ≡ here.root
+  same_root =
+      let inside : offset / 2 ^ t.layout.shift < length t.roots.items = omega (arith, there.0, table.room.count, table.room.roots) in
+      root_is ∙ ap (λ x. slice_index_or t.roots.items x root) at ∙ default_same t.roots.items (offset / 2 ^ t.layout.shift) root 0 inside
+
+  same_row : bits (length p.arena.expr.nodes) loaded ≡ here.entered
+  same_row = bits_agree (length p.arena.expr.nodes) loaded (row_of t.leaves (offset / 2 ^ t.layout.shift))
+      (subst (λ x. AgreeBelow (length p.arena.expr.nodes) loaded (row_of t.leaves x)) at (subst (λ x. AgreeBelow x loaded (row_of t.leaves state)) nodes row))
+
   abbrev Leads : Bool → Type 0
-  Leads edge = (before : ℕ → Bool) → LeadsTo (nodes_of way p.arena.expr) root way.keeps (bits (length p.arena.expr.nodes) loaded) before (Some byte) edge way.all_starts (bits (length p.arena.expr.nodes) leaves) (bits (length p.arena.expr.nodes) ends)
+  Leads edge = (before : ℕ → Bool) → LeadsTo (nodes_of t.way p.arena.expr) root t.way.keeps (bits (length p.arena.expr.nodes) loaded) before (Some byte) edge t.way.all_starts (bits (length p.arena.expr.nodes) work.leaves) (bits (length p.arena.expr.nodes) work.ends)
 
-  leads_state : (edge : Bool) → Leads edge → (b : State) → HasRow root (bits (length p.arena.expr.nodes) leaves) (bits (length p.arena.expr.nodes) ends) b → LeadsOn (nodes_of way p.arena.expr) way (state_of (length p.arena.expr.nodes) t q) byte edge b
-  leads_state edge leads b has =
-      let a = state_of (length p.arena.expr.nodes) t q in (
-        has.0 ∙ same_root,
-        rw (has.2, has.1) (subst (λ x. LeadsTo (nodes_of way p.arena.expr) x way.keeps a.entered a.ended (Some byte) edge way.all_starts (bits (length p.arena.expr.nodes) leaves) (bits (length p.arena.expr.nodes) ends)) same_root
-            (subst (λ x. LeadsTo (nodes_of way p.arena.expr) root way.keeps x a.ended (Some byte) edge way.all_starts (bits (length p.arena.expr.nodes) leaves) (bits (length p.arena.expr.nodes) ends)) (bits_agree (length p.arena.expr.nodes) loaded (row_of t.leaves q) same)
-            (leads a.ended))),
-      )
+  leads_state : (edge : Bool) → Leads edge → (b : State) → HasMarks p root work b → LeadsOn (nodes_of t.way p.arena.expr) t.way here byte edge b
+  leads_state edge leads b has = (
+    has.0 ∙ same_root,
+    rw (has.2, has.1) (subst (λ x. LeadsTo (nodes_of t.way p.arena.expr) x t.way.keeps here.entered here.ended (Some byte) edge t.way.all_starts (bits (length p.arena.expr.nodes) work.leaves) (bits (length p.arena.expr.nodes) work.ends)) same_root
+        (subst (λ x. LeadsTo (nodes_of t.way p.arena.expr) root t.way.keeps x here.ended (Some byte) edge t.way.all_starts (bits (length p.arena.expr.nodes) work.leaves) (bits (length p.arena.expr.nodes) work.ends)) same_row (leads here.ended))),
+  )
 
-  pub names_leads : (edge : Bool) → Leads edge → Names (length p.arena.expr.nodes) u (LeadsOn (nodes_of way p.arena.expr) way (state_of (length p.arena.expr.nodes) t q) byte edge) v
-  names_leads edge leads = names_map (length p.arena.expr.nodes) u (HasRow root (bits (length p.arena.expr.nodes) leaves) (bits (length p.arena.expr.nodes) ends)) (LeadsOn (nodes_of way p.arena.expr) way (state_of (length p.arena.expr.nodes) t q) byte edge) v (leads_state edge leads) n
+  pub names_leads : (edge : Bool) → Leads edge → Names (length p.arena.expr.nodes) u (LeadsOn (nodes_of t.way p.arena.expr) t.way here byte edge) v
+  names_leads edge leads = names_map (length p.arena.expr.nodes) u (HasMarks p root work) (LeadsOn (nodes_of t.way p.arena.expr) t.way here byte edge) v (leads_state edge leads) names
 
-  pub names_anywhere : ((edge : Bool) → Leads edge) → Names (length p.arena.expr.nodes) u (λ b. (edge : Bool) → LeadsOn (nodes_of way p.arena.expr) way (state_of (length p.arena.expr.nodes) t q) byte edge b) v
-  names_anywhere leads = names_map (length p.arena.expr.nodes) u (HasRow root (bits (length p.arena.expr.nodes) leaves) (bits (length p.arena.expr.nodes) ends)) (λ b. (edge : Bool) → LeadsOn (nodes_of way p.arena.expr) way (state_of (length p.arena.expr.nodes) t q) byte edge b) v (λ b has edge. leads_state edge (leads edge) b has) n
+  pub names_anywhere : ((edge : Bool) → Leads edge) → Names (length p.arena.expr.nodes) u (λ b. (edge : Bool) → LeadsOn (nodes_of t.way p.arena.expr) t.way here byte edge b) v
+  names_anywhere leads = names_map (length p.arena.expr.nodes) u (HasMarks p root work) (λ b. (edge : Bool) → LeadsOn (nodes_of t.way p.arena.expr) t.way here byte edge b) v (λ b has edge. leads_state edge (leads edge) b has) names
 
 -- a first state
 pub names_first : (p : Prepared) (u : Table) (way : Way) (root v : ℕ) (kind : Kind) (leaves ends : List Bool) → Names (length p.arena.expr.nodes) u (HasRow root (bits (length p.arena.expr.nodes) leaves) (bits (length p.arena.expr.nodes) ends)) v →

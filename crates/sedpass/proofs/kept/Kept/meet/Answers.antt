@@ -93,16 +93,16 @@ loop-place-preserved c =
       region = old.region;
       states = old.states;
       edges = old.edges;
-      ahead = next.table;
-      shape = same_shape c.args.ahead.now c.loop-place.ahead c.next-code.new.self old.shape next.adds.shape;
-      offset = names_offset p c.next-code.new.self next.table _ _ _ next.names c.offset_of-offset.ensures;
+      ahead = next.codes.table;
+      shape = same_shape c.args.ahead.now c.loop-place.ahead c.next-code.new.self old.shape next.codes.adds.shape;
+      offset = names_offset p c.next-code.new.self next.codes.table _ _ _ next.codes.names c.offset_of-offset.ensures;
       meets = λ a i low start follows.
           let on = old.meets a i low start follows in
           let read = meet_read p w t c.loop-place.ahead k a i place c.loop-place.offset c.nodes-nodes.result c.state_at.result c.index.result.now c.meets.result c.requires.kept above before on.0
           c.nodes-nodes.ensures.value c.state_at.ensures is c.meets.ensures.meets in (
-            follows_next p w c.loop-place.ahead c.next-code.new.self a i place c.byte-byte.result c.loop-place.offset c.offset_of-offset.result _ front one next.adds.shape (let h = old.above in omega (arith, h, start)) c.byte-byte.ensures.byte
+            follows_next p w c.loop-place.ahead c.next-code.new.self a i place c.byte-byte.result c.loop-place.offset c.offset_of-offset.result _ front one next.codes.adds.shape (let h = old.above in omega (arith, h, start)) c.byte-byte.ensures.byte
                 (λ h. eqb-true (place + 1) c.len-length.result h ∙ last, λ e. eq-eqb (place + 1) c.len-length.result (e ∙ sym last))
-                (names_state p c.next-code.new.self next.table _ _ _ next.names c.offset_of-offset.ensures) on.0,
+                (names_state p c.next-code.new.self next.codes.table _ _ _ next.codes.names c.offset_of-offset.ensures) on.0,
             meet_on p w t k a i c.args.from place on.1 (read.0 c.if-not-meets.false),
           );
       grows = (let h = old.grows in let g = c.meets.ensures.cost.0 in let f = c.byte-byte.ensures.cost.0 in let e = next.cost.0 in omega (arith, h, g, f, e));
