@@ -18,7 +18,7 @@ use Rattle.sedpass.specs.Regions.{IsLastIn, Opposite, ReachesEnd, Meets}
 use Rattle.sedpass.specs.Prepared.{null_in}
 use Rattle.sedpass.specs.Rows.{bits, RowOfPlace, LeadsTo, IsFirstRow, SameBytes, at_begin, at_end}
 use Rattle.sedtext.specs.Words.{AgreeBelow, row_of}
-use Rattle.sedpass.specs.Kept.{starts_told, ends_told, RowKept, KeptAt, IsLive, KeptRoom, IsRegion, PassesDownTo, IsEdge, AllMarked, SameKept, SameSpace, EdgesFrom, IsKept}
+use Rattle.sedpass.specs.Kept.{starts_told, ends_told, ComesDown, RowKept, KeptAt, IsLive, KeptRoom, IsRegion, PassesDownTo, IsEdge, AllMarked, SameKept, SameSpace, EdgesFrom, IsKept}
 use Rattle.sedpass.specs.Table.{State, state_of, HasRow, LeadsOn, BeginsIn, IsTable, MayBegin, SameShape, AddsStates, IsOffset}
 use Rattle.sedpass.specs.declared.kept.Kept.{Kept}
 use Rattle.sedpass.specs.Rows.{nodes_of}
@@ -275,6 +275,24 @@ rows_long a b c one two first second q =
 
 pub same_shape : (a b c : Table) → SameShape a b → SameShape b c → SameShape a c
 same_shape a b c one two = (two.0 ∙ one.0, two.1 ∙ one.1, two.2 ∙ one.2, two.3 ∙ one.3, two.4 ∙ one.4)
+
+-- a pass comes down by a place more
+pub comes_down : (p : Prepared) (w : List ℕ) (first t after : Table) (start k other : Kept) (place offset next byte : ℕ) (edge : Bool) →
+    ComesDown p w first t start k (place + 1) offset → IsTable p after → AddsStates (length p.arena.expr.nodes) t after →
+    other.region.root ≡ k.region.root → other.region.end ≡ k.region.end → other.region.low ≡ k.region.low → other.region.from ≡ k.region.from → other.edges ≡ k.edges →
+    vec_capacity other.states ≡ vec_capacity k.states → other.states.items ≡ slice_set k.states.items place (next / 2 ^ after.layout.shift) →
+    ((after.epoch ≡ t.epoch → ⊥) × (other.region.to ≡ place + 1)) ⊎ ((after.epoch ≡ t.epoch) × (other.region.to ≡ k.region.to)) →
+    IsOffset after next → slice_get w place ≡ Some byte → (IsTrue edge ↔ (place ≡ 0)) →
+    LeadsOn (nodes_of t.way p.arena.expr) t.way (state_of (length p.arena.expr.nodes) t (offset / 2 ^ t.layout.shift)) byte edge (state_of (length p.arena.expr.nodes) after (next / 2 ^ after.layout.shift)) →
+    ComesDown p w first after start other place next
+comes_down p w first t after start k other place offset next byte edge down table adds root end low from edges places states to there got last leads = record {
+  passes = passes_down p w t after k other place offset next byte edge down.passes table adds root end edges places states to there got last leads;
+  shape = same_shape first t after down.shape adds.shape;
+  same = same_kept start k other down.same (record { root = root; end = end; places = places; edges = ap (λ rows. length rows) edges; marks = λ q. ap (λ rows. length (row_of rows q)) edges });
+  low = low ∙ down.low;
+  from = from ∙ down.from;
+  edges = edges ∙ down.edges;
+}
 
 -- Blocks.
 

@@ -11,7 +11,7 @@ ghost use Rattle.sedre.specs.Steps.{Takes, TakesAtLeast};
 ghost use Rattle.sedpass.specs.Regions.{IsLastIn, Meets, ReachesEnd};
 ghost use Rattle.sedpass.specs.Rows.{nodes_of};
 ghost use Rattle.sedpass.specs.Table.{AddsStates, IsOffset, IsTable, MayBegin, SameShape, StateAt, state_of};
-ghost use Rattle.sedpass.specs.Kept.{AllMarked, CeasesAt, EdgesFrom, Follows, IsEdge, IsKept, IsRegion, KeptAt, KeptRoom, Meet, PassesDownTo, SameKept, SameSpace, again, ends_told, owed};
+ghost use Rattle.sedpass.specs.Kept.{AllMarked, CeasesAt, ComesDown, EdgesFrom, Follows, IsEdge, IsKept, IsRegion, KeptAt, KeptRoom, Meet, PassesDownTo, SameKept, SameSpace, again, ends_told, owed};
 
 use crate::cells::offset_of;
 use crate::nodes::{Prepared, kind_of};
@@ -125,46 +125,6 @@ impl Kept {
         };
     }
 
-    /// Goes back over the byte before a place above 0, and keeps the state that it comes to; gives where its cells begin.
-    #[inline(always)]
-    fn go_back(
-        &mut self,
-        subject: Subject,
-        table: &mut Table,
-        place: usize,
-        offset: usize,
-        steps: &mut Steps,
-    ) -> usize
-        requires passes { PassesDownTo subject.prepared.now subject.text.now table.old self.old (place + 1) offset }
-        ensures passes { PassesDownTo subject.entry.prepared.now subject.entry.text.now table.new self.new place result }
-        ensures shape { SameShape table.old table.new }
-        ensures same { SameKept self.old self.new }
-        ensures low { self.new.region.low ≡ self.old.region.low }
-        ensures from { self.new.region.from ≡ self.old.region.from }
-        ensures edges { self.new.edges ≡ self.old.edges }
-        ensures to { place < self.new.region.to }
-        ensures steady { table.old.count < table.old.room → (self.new.region.to ≡ self.old.region.to) × (table.new.count ≤ table.old.count + 1) }
-        ensures cost { Takes steps.old steps.new (35 * length subject.entry.prepared.now.arena.expr.nodes) }
-        ensures counts { TakesAtLeast steps.old steps.new 2 }
-    {
-        let byte = subject.text.byte(place, steps);
-        let epoch = table.epoch;
-        let code = table.next(
-            subject.prepared,
-            offset,
-            byte,
-            place == 0,
-            &mut self.work,
-            steps,
-        );
-        let next = offset_of(code);
-        self.states[place] = table.state_at(next) as u16;
-        if table.epoch != epoch {
-            self.region.to = place + 1;
-        }
-        next
-    }
-
     /// Goes back from a place to another, and keeps the states; gives where the last one's cells begin.
     fn pass(
         &mut self,
@@ -177,12 +137,7 @@ impl Kept {
     ) -> usize
         requires passes { PassesDownTo subject.prepared.now subject.text.now table.old self.old high offset }
         requires order { low < high }
-        ensures passes { PassesDownTo subject.entry.prepared.now subject.entry.text.now table.new self.new low result }
-        ensures shape { SameShape table.old table.new }
-        ensures same { SameKept self.old self.new }
-        ensures low { self.new.region.low ≡ self.old.region.low }
-        ensures from { self.new.region.from ≡ self.old.region.from }
-        ensures edges { self.new.edges ≡ self.old.edges }
+        ensures down { ComesDown subject.entry.prepared.now subject.entry.text.now table.old table.new self.old self.new low result }
         ensures to { low < self.new.region.to }
         ensures steady { table.old.count + (high - low) ≤ table.old.room → self.new.region.to ≡ self.old.region.to }
         ensures cost { CostsWithin steps.old steps.new (35 * length subject.entry.prepared.now.arena.expr.nodes * high) (35 * length subject.entry.prepared.now.arena.expr.nodes * low) }
@@ -190,7 +145,21 @@ impl Kept {
     {
         let mut offset = offset;
         for place in (low..high).rev() {
-            offset = self.go_back(subject, table, place, offset, steps);
+            let byte = subject.text.byte(place, steps);
+            let epoch = table.epoch;
+            let code = table.next(
+                subject.prepared,
+                offset,
+                byte,
+                place == 0,
+                &mut self.work,
+                steps,
+            );
+            offset = offset_of(code);
+            self.states[place] = table.state_at(offset) as u16;
+            if table.epoch != epoch {
+                self.region.to = place + 1;
+            }
         }
         offset
     }

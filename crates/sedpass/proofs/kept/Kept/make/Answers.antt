@@ -43,13 +43,13 @@ loop-place-preserved c =
     record {
       order = omega arith;
       below = (let h = before.below in omega (arith, h));
-      end_is = now.same.end ∙ edge.same.end ∙ before.end_is;
-      passes = now.passes;
+      end_is = now.down.same.end ∙ edge.same.end ∙ before.end_is;
+      passes = now.down.passes;
       edges = edges_same c.args.subject.prepared.now c.args.subject.text.now c.loop-place.table c.pass-offset.new.table c.keep_edge.new.self c.pass-offset.new.self _ least
-          now.shape now.edges now.same.root now.same.end (omega arith) edge.edges;
-      right = λ some below. ((c.loop-place.place - 1) / (c.loop-place.table.room - 1), (let h = now.shape.1 in rw h (omega (arith, some))));
-      shape = same_shape c.edge_state-offset.new.table c.loop-place.table c.pass-offset.new.table before.shape now.shape;
-      same = same_kept _ c.keep_edge.new.self c.pass-offset.new.self (same_kept _ c.loop-place.self c.keep_edge.new.self before.same edge.same) now.same;
+          now.down.shape now.down.edges now.down.same.root now.down.same.end (omega arith) edge.edges;
+      right = λ some below. ((c.loop-place.place - 1) / (c.loop-place.table.room - 1), (let h = now.down.shape.1 in rw h (omega (arith, some))));
+      shape = same_shape c.edge_state-offset.new.table c.loop-place.table c.pass-offset.new.table before.shape now.down.shape;
+      same = same_kept _ c.keep_edge.new.self c.pass-offset.new.self (same_kept _ c.loop-place.self c.keep_edge.new.self before.same edge.same) now.down.same;
       to = λ below. now.to;
       grows = (let h = before.grows in let g = edge.cost.0 in let f = now.cost.0 in omega (arith, h, g, f));
       cost = (let h = before.cost in let g = block_cost _ least c.loop-place.place c.loop-place.steps c.keep_edge.new.steps c.pass-offset.new.steps (omega arith) edge.cost.1 now.cost.1 in omega (arith, h, g));

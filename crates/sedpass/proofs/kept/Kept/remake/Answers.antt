@@ -32,12 +32,12 @@ returns-clause-kept c =
     let w = c.args.subject.text.now in
     let now = c.pass.ensures in
     let old = c.edge_state-offset.ensures in
-    let low = now.low ∙ ap (λ r. r.low) old.region in
+    let low = now.down.low ∙ ap (λ r. r.low) old.region in
     let edges : EdgesFrom p w c.pass.new.table c.pass.new.self c.pass.new.self.region.low =
     edges_same p w c.args.table.now c.pass.new.table c.args.self.now c.pass.new.self c.args.self.now.region.low c.pass.new.self.region.low
-    (same_shape c.args.table.now c.empty.new.self c.pass.new.table c.empty.ensures.shape (same_shape c.empty.new.self c.edge_state-offset.new.table c.pass.new.table old.adds.shape now.shape)) (now.edges ∙ old.edges)
-    (now.same.root ∙ ap (λ r. r.root) old.region) (now.same.end ∙ ap (λ r. r.end) old.region) (omega (arith, low)) c.requires.kept.edges in
-    kept_passed p w c.pass.new.table c.pass.new.self c.pass.new.self c.args.place c.pass.result now.passes edges (let h = c.requires.low in omega (arith, low, h)) now.from refl refl refl refl refl
+    (same_shape c.args.table.now c.empty.new.self c.pass.new.table c.empty.ensures.shape (same_shape c.empty.new.self c.edge_state-offset.new.table c.pass.new.table old.adds.shape now.down.shape)) (now.down.edges ∙ old.edges)
+    (now.down.same.root ∙ ap (λ r. r.root) old.region) (now.down.same.end ∙ ap (λ r. r.end) old.region) (omega (arith, low)) c.requires.kept.edges in
+    kept_passed p w c.pass.new.table c.pass.new.self c.pass.new.self c.args.place c.pass.result now.down.passes edges (let h = c.requires.low in omega (arith, low, h)) now.down.from refl refl refl refl refl
 
 pub returns-clause-to : goal.returns-clause-to
 returns-clause-to c =
