@@ -31,7 +31,7 @@ pub struct Subject<'a> {
 }
 
 /// The places from which a node is matched up to an end, and of which of them the states are known.
-#[derive(Clone, Copy)]
+#[derive(Clone, Copy, Default)]
 pub struct Region {
     /// The node.
     pub root: usize,
@@ -87,13 +87,7 @@ impl Kept {
         ensures marks { IfOk result (λ k. (q : ℕ) → q < length k.edges → length (row_of k.edges q) ≡ nodes) }
     {
         Ok(Kept {
-            region: Region {
-                root: 0,
-                end: 0,
-                low: 0,
-                from: 0,
-                to: 0,
-            },
+            region: Region::default(),
             states: Vec::with_capacity(alloc, max_text + 1)?,
             edges: Rows::new(alloc, 2 * blocks, nodes)?,
             work: Work::new(alloc)?,

@@ -94,11 +94,8 @@ fn begins_there(subject: Subject, start: usize, steps: &mut Steps) -> bool
     ensures cost { Takes steps.old steps.new 1 }
 {
     let length = subject.text.len();
-    let root = subject.prepared.root;
-    start < length
-        || subject
-            .prepared
-            .null_at(root, kind_of(start, length), steps)
+    let prepared = subject.prepared;
+    start < length || prepared.null_at(prepared.root, kind_of(start, length), steps)
 }
 
 /// The match from a place on, by the pass from the text's end.

@@ -25,8 +25,8 @@ returns-in-Some-end-clause-answer c =
     let first = c.in-Some.first in
     let run = c.run-passed.ensures in
     let i = c.loop-start.invariant in
-    let is = trial_is (expression_tree e) w c.forwards-bytes.result c.args.begins.now c.loop-start.start first c.run-passed.result.place c.run-passed.result.end c.forwards-bytes.ensures c.requires.begins c.in-Some.ensures.next run.after run.within run.reached
-    (run.longest i.ahead.single) in
+    let is = trial_is (expression_tree e) w c.forwards-bytes.result c.args.begins.now c.loop-start.start first c.run-passed.result.place c.run-passed.result.end c.forwards-bytes.ensures c.requires.begins c.in-Some.ensures.next run.after run.within run.tells.reached
+    (run.tells.longest i.ahead.single) in
     let long : IsLongestFrom (expression_tree e) w first (Some c.in-Some-end.end) = subst (IsLongestFrom (expression_tree e) w first) c.in-Some-end.is is.longest in (
       found_at e w c.args.from first c.in-Some-end.end (omega (arith, i.after, is.after)) (none_on e w c.args.from c.loop-start.start first i.none is.none) long,
       Matches-within (expression_tree e) w first c.in-Some-end.end (omega (arith, is.passed, is.within)) long.0,
@@ -39,8 +39,8 @@ returns-in-Some-end-clause-few c =
     let first = c.in-Some.first in
     let run = c.run-passed.ensures in
     let i = c.loop-start.invariant in
-    let is = trial_is (expression_tree e) w c.forwards-bytes.result c.args.begins.now c.loop-start.start first c.run-passed.result.place c.run-passed.result.end c.forwards-bytes.ensures c.requires.begins c.in-Some.ensures.next run.after run.within run.reached
-    (run.longest i.ahead.single) in
+    let is = trial_is (expression_tree e) w c.forwards-bytes.result c.args.begins.now c.loop-start.start first c.run-passed.result.place c.run-passed.result.end c.forwards-bytes.ensures c.requires.begins c.in-Some.ensures.next run.after run.within run.tells.reached
+    (run.tells.longest i.ahead.single) in
     let long : IsLongestFrom (expression_tree e) w first (Some c.in-Some-end.end) = subst (IsLongestFrom (expression_tree e) w first) c.in-Some-end.is is.longest in
     let on = Matches-forward (expression_tree e) w first c.in-Some-end.end long.0 in
     let within = Matches-within (expression_tree e) w first c.in-Some-end.end (omega (arith, is.passed, is.within)) long.0 in
@@ -54,8 +54,8 @@ returns-in-Some-end-clause-cost c =
     let first = c.in-Some.first in
     let run = c.run-passed.ensures in
     let i = c.loop-start.invariant in
-    let is = trial_is (expression_tree e) w c.forwards-bytes.result c.args.begins.now c.loop-start.start first c.run-passed.result.place c.run-passed.result.end c.forwards-bytes.ensures c.requires.begins c.in-Some.ensures.next run.after run.within run.reached
-    (run.longest i.ahead.single) in
+    let is = trial_is (expression_tree e) w c.forwards-bytes.result c.args.begins.now c.loop-start.start first c.run-passed.result.place c.run-passed.result.end c.forwards-bytes.ensures c.requires.begins c.in-Some.ensures.next run.after run.within run.tells.reached
+    (run.tells.longest i.ahead.single) in
     let last = c.args.subject.prepared.now.is_prepared.last in
     let long : IsLongestFrom (expression_tree e) w first (Some c.in-Some-end.end) = subst (IsLongestFrom (expression_tree e) w first) c.in-Some-end.is is.longest in
     let on = Matches-forward (expression_tree e) w first c.in-Some-end.end long.0 in
@@ -73,8 +73,8 @@ returns-in-Some-end-clause-counts c =
     let first = c.in-Some.first in
     let run = c.run-passed.ensures in
     let i = c.loop-start.invariant in
-    let is = trial_is (expression_tree e) w c.forwards-bytes.result c.args.begins.now c.loop-start.start first c.run-passed.result.place c.run-passed.result.end c.forwards-bytes.ensures c.requires.begins c.in-Some.ensures.next run.after run.within run.reached
-    (run.longest i.ahead.single) in
+    let is = trial_is (expression_tree e) w c.forwards-bytes.result c.args.begins.now c.loop-start.start first c.run-passed.result.place c.run-passed.result.end c.forwards-bytes.ensures c.requires.begins c.in-Some.ensures.next run.after run.within run.tells.reached
+    (run.tells.longest i.ahead.single) in
     let reached : c.in-Some-end.end ≤ c.run-passed.result.place = subst (λ (o : Option ℕ). IfSome o (λ j. j ≤ c.run-passed.result.place)) c.in-Some-end.is is.reached in
     looks_tried c.args.from c.loop-start.start first c.run-passed.result.place c.args.steps.now c.loop-start.steps c.next_start.new.steps c.run-passed.new.steps i.counts c.in-Some.ensures.counts run.counts (c.in-Some-end.end + 1 - c.args.from) (omega (arith, reached, is.after, is.passed))
 
@@ -85,8 +85,8 @@ returns-then-tried-length-clause-answer c =
     let first = c.in-Some.first in
     let run = c.run-passed.ensures in
     let i = c.loop-start.invariant in
-    let is = trial_is (expression_tree e) w c.forwards-bytes.result c.args.begins.now c.loop-start.start first c.run-passed.result.place c.run-passed.result.end c.forwards-bytes.ensures c.requires.begins c.in-Some.ensures.next run.after run.within run.reached
-    (run.longest i.ahead.single) in
+    let is = trial_is (expression_tree e) w c.forwards-bytes.result c.args.begins.now c.loop-start.start first c.run-passed.result.place c.run-passed.result.end c.forwards-bytes.ensures c.requires.begins c.in-Some.ensures.next run.after run.within run.tells.reached
+    (run.tells.longest i.ahead.single) in
     let within = c.if-start-length.true in
     let len = c.len-length.ensures.is in (
       omega (arith, i.after, is.after),
@@ -101,8 +101,8 @@ returns-then-tried-length-clause-few c =
     let first = c.in-Some.first in
     let run = c.run-passed.ensures in
     let i = c.loop-start.invariant in
-    let is = trial_is (expression_tree e) w c.forwards-bytes.result c.args.begins.now c.loop-start.start first c.run-passed.result.place c.run-passed.result.end c.forwards-bytes.ensures c.requires.begins c.in-Some.ensures.next run.after run.within run.reached
-    (run.longest i.ahead.single) in
+    let is = trial_is (expression_tree e) w c.forwards-bytes.result c.args.begins.now c.loop-start.start first c.run-passed.result.place c.run-passed.result.end c.forwards-bytes.ensures c.requires.begins c.in-Some.ensures.next run.after run.within run.tells.reached
+    (run.tells.longest i.ahead.single) in
     let few = i.few (let h = c.loop-start-test.true in let g = c.len-length.ensures.is in omega (arith, h, g)) in
     omega (arith, few, is.passed, is.within, i.after, is.after)
 
@@ -113,8 +113,8 @@ returns-then-tried-length-clause-cost c =
     let first = c.in-Some.first in
     let run = c.run-passed.ensures in
     let i = c.loop-start.invariant in
-    let is = trial_is (expression_tree e) w c.forwards-bytes.result c.args.begins.now c.loop-start.start first c.run-passed.result.place c.run-passed.result.end c.forwards-bytes.ensures c.requires.begins c.in-Some.ensures.next run.after run.within run.reached
-    (run.longest i.ahead.single) in
+    let is = trial_is (expression_tree e) w c.forwards-bytes.result c.args.begins.now c.loop-start.start first c.run-passed.result.place c.run-passed.result.end c.forwards-bytes.ensures c.requires.begins c.in-Some.ensures.next run.after run.within run.tells.reached
+    (run.tells.longest i.ahead.single) in
     let next = c.in-Some.ensures.cost in
     let paid = trial_cost (length e.nodes) c.loop-start.start first c.run-passed.result.place c.loop-start.steps c.next_start.new.steps c.run-passed.new.steps is.passed next.1 run.cost.1 in
     (omega (arith, i.grows, next, run.cost), omega (arith, i.cost, paid))
@@ -126,8 +126,8 @@ returns-then-tried-length-clause-counts c =
     let first = c.in-Some.first in
     let run = c.run-passed.ensures in
     let i = c.loop-start.invariant in
-    let is = trial_is (expression_tree e) w c.forwards-bytes.result c.args.begins.now c.loop-start.start first c.run-passed.result.place c.run-passed.result.end c.forwards-bytes.ensures c.requires.begins c.in-Some.ensures.next run.after run.within run.reached
-    (run.longest i.ahead.single) in
+    let is = trial_is (expression_tree e) w c.forwards-bytes.result c.args.begins.now c.loop-start.start first c.run-passed.result.place c.run-passed.result.end c.forwards-bytes.ensures c.requires.begins c.in-Some.ensures.next run.after run.within run.tells.reached
+    (run.tells.longest i.ahead.single) in
     looks_tried c.args.from c.loop-start.start first c.run-passed.result.place c.args.steps.now c.loop-start.steps c.next_start.new.steps c.run-passed.new.steps i.counts c.in-Some.ensures.counts run.counts (first + 1 - c.args.from) (omega (arith, is.after))
 
 pub returns-clause-cost : goal.returns-clause-cost
@@ -156,8 +156,8 @@ loop-start-preserved c =
     let first = c.in-Some.first in
     let run = c.run-passed.ensures in
     let i = c.loop-start.invariant in
-    let is = trial_is (expression_tree e) w c.forwards-bytes.result c.args.begins.now c.loop-start.start first c.run-passed.result.place c.run-passed.result.end c.forwards-bytes.ensures c.requires.begins c.in-Some.ensures.next run.after run.within run.reached
-    (run.longest i.ahead.single) in
+    let is = trial_is (expression_tree e) w c.forwards-bytes.result c.args.begins.now c.loop-start.start first c.run-passed.result.place c.run-passed.result.end c.forwards-bytes.ensures c.requires.begins c.in-Some.ensures.next run.after run.within run.tells.reached
+    (run.tells.longest i.ahead.single) in
     let none : c.run-passed.result.end ≡ None = cc in
     let next = c.in-Some.ensures.cost in
     let few = i.few (let h = c.loop-start-test.true in let g = c.len-length.ensures.is in omega (arith, h, g)) in
