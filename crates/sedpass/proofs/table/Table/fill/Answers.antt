@@ -1,10 +1,9 @@
-use Rattle.std.proofs.Common.{Bool, ◌+◌, ◌/◌, ◌^◌, length, length-set, refl, ap, subst, arith}
-use Rattle.std.specs.Prelude.{slice_set}
+use Rattle.std.proofs.Common.{Bool, ◌+◌, length, refl, subst, arith}
 use Rattle.std.specs.Vec.{with_item}
 use Rattle.sedre.specs.Steps.{TakesAtLeast}
 use Rattle.sedtext.proofs.StepLemmas.{least_own}
 use Rattle.sedpass.specs.Rows.{nodes_of}
-use Rattle.sedpass.specs.Table.{AddsStates, HasRoom, IsNext, IsOffset, LeadsOn}
+use Rattle.sedpass.specs.Table.{AddsStates, IsNext, IsOffset, LeadsOn}
 use Rattle.sedpass.specs.declared.table.Table.{Table}
 use Rattle.sedpass.proofs.CountLemmas.{least_up}
 use Rattle.sedpass.proofs.TableLemmas.{adds_same, adds_then, cell_there, names_anywhere, names_leads, names_more, names_moved, note_cell, offset_more}
@@ -43,29 +42,8 @@ returns-in-Some-clause-codes c =
     let at : IsOffset S offset = offset_more p T S codes.adds epoch offset c.requires.offset in
     let leads = names_leads p T S c.requires.table offset c.requires.offset c.state_at-state.result c.nodes.result c.index-root.result.now byte next c.load.new.marks c.step.new.work c.state_at-state.ensures c.nodes.ensures.value
     c.index-root.ensures c.load.ensures.same codes.names c.args.edge c.step.ensures.leads in
-    let old = codes.table.room in
-    let room : HasRoom m N = record {
-      count = old.count;
-      some = old.some;
-      few = old.few;
-      marks = old.marks;
-      leaves = old.leaves;
-      ends = old.ends;
-      leaf_marks = old.leaf_marks;
-      end_marks = old.end_marks;
-      roots = old.roots;
-      flags = old.flags;
-      cells = omega (arith, length-set S.cells.items (offset + column) next, old.cells);
-      reserved = old.reserved;
-      capacity = old.capacity;
-      index = old.index;
-      begins = old.begins;
-      past = old.past;
-      early = old.early;
-    } in
     record {
-      table = note_cell p S N same refl codes.table room refl refl (offset / 2 ^ S.layout.shift) column next byte c.args.edge at.0 (omega arith) c.in-Some.ensures
-          (ap (λ x. slice_set S.cells.items (x + column) next) at.1)
+      table = note_cell p S codes.table offset column next byte c.args.edge at (omega arith) c.in-Some.ensures
           (names_moved p T S codes.adds epoch (λ w a b. LeadsOn (nodes_of w p.arena.expr) w a byte c.args.edge b) offset next c.requires.offset.0 leads)
           (λ none. names_moved p T S codes.adds epoch (λ w a b. (end : Bool) → LeadsOn (nodes_of w p.arena.expr) w a byte end b) offset next c.requires.offset.0
           (names_anywhere p T S c.requires.table offset c.requires.offset c.state_at-state.result c.nodes.result c.index-root.result.now byte next c.load.new.marks c.step.new.work c.state_at-state.ensures c.nodes.ensures.value
