@@ -1,9 +1,10 @@
 -- Private to the proofs: no contract that `sedmatch` makes public cites what stands here.
 -- Searches in one text, from places that don't fall: what they find, and what they may cost.
-use Rattle.std.specs.Prelude.{ℕ, ◌+◌, ◌-◌, ◌*◌, ◌<◌, ◌≤◌, if◌then◌else◌, List, length, Option, Some, None, IfSome, IsTrue}
+use Rattle.std.specs.Prelude.{ℕ, max, ◌+◌, ◌-◌, ◌*◌, ◌/◌, ◌<◌, ◌≤◌, if◌then◌else◌, List, length, Option, Some, None, IfSome, IsTrue}
 use Rattle.sedre.specs.Tree.{expression_tree, Tree}
 use Rattle.sedre.specs.Steps.{TakesAtLeast}
 use Rattle.sedtext.specs.Answer.{SpanAnswer}
+use Rattle.sedtext.specs.Costs.{CostsWithin}
 use Rattle.sedtext.specs.Beginnings.{AllBegin, NoneIn}
 use Rattle.sedtext.specs.Spans.{IsLeftmostLongest, NotFound}
 use Rattle.sedtext.specs.declared.beginnings.Begins.{Begins}
@@ -77,6 +78,13 @@ trials_cost m n (Tired k) = k
 abbrev pub trials_room : ℕ → Trials → ℕ
 trials_room tried (Hit i j) = tried + (j + 1 - i)
 trials_room tried other = tried
+
+-- trials from the place on found this: in so many steps, and over so many places in no match, before and after
+pub record TrialsMade (e : Tree) (w : List ℕ) (m from tried tried' before after : ℕ) (r : Trials) : Type 0 where
+  pub answer : TrialsAnswer e w from r
+  pub few : trials_room tried' r ≤ max tried (length w / 8) + (length w + 1 - from)
+  pub cost : CostsWithin before after (40 * m * tried' + trials_cost m (length w) r) (40 * m * tried + from)
+  pub counts : LooksInTrials from before after r
 
 -- of one search from a place on, whatever was found out before it: by a pass from the text's end over the rest of the text, or by
 -- trials over that rest and an eighth of the text besides, and by such a pass after them, from a later place on

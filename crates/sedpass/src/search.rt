@@ -11,7 +11,7 @@ ghost use Rattle.sedre.specs.Tree.{expression_tree};
 ghost use Rattle.sedre.specs.Steps.{Takes};
 ghost use Rattle.sedpass.specs.Table.{IsAhead, IsTable, SameShape};
 ghost use Rattle.sedpass.specs.Kept.{IsKept, KeptRoom, owed};
-ghost use Rattle.sedpass.specs.Search.{IsNextMatch, LooksFrom, LooksInTrials, MaySearch, Searched, TablesStay, TrialsAnswer, trials_cost, trials_room, owed_kept, owed_search, owed_after, search_cost};
+ghost use Rattle.sedpass.specs.Search.{IsNextMatch, LooksFrom, MaySearch, Searched, TablesStay, TrialsMade, owed_kept, owed_search, owed_after, search_cost};
 
 use crate::kept::{Kept, Subject};
 use crate::nodes::kind_of;
@@ -58,11 +58,7 @@ fn try_all(
     requires tried { tried.old ≤ length subject.text.now }
     ensures ahead { IsAhead subject.entry.prepared.now ahead.new }
     ensures ahead_shape { SameShape ahead.old ahead.new }
-    ensures answer { TrialsAnswer (expression_tree subject.entry.prepared.now.arena.expr) subject.entry.text.now from result }
-    ensures few { trials_room tried.new result ≤ max tried.old (length subject.entry.text.now / 8) + (length subject.entry.text.now + 1 - from) }
-    ensures cost { let m = length subject.entry.prepared.now.arena.expr.nodes in
-        CostsWithin steps.old steps.new (40 * m * tried.new + trials_cost m (length subject.entry.text.now) result) (40 * m * tried.old + from) }
-    ensures counts { LooksInTrials from steps.old steps.new result }
+    ensures made { TrialsMade (expression_tree subject.entry.prepared.now.arena.expr) subject.entry.text.now (length subject.entry.prepared.now.arena.expr.nodes) from tried.old tried.new steps.old steps.new result }
 {
     let length = subject.text.len();
     let bytes = subject.text.forwards();
