@@ -13,6 +13,7 @@ use Rattle.sedtext.specs.Matching.{byte_is_in}
 use Rattle.sedtext.specs.declared.starts.Starts.{Starts}
 use Rattle.sedtext.specs.Reach.{At, IsStart, one_start, starts_to}
 use Rattle.sedtext.specs.Places.{IsPlace}
+use Rattle.sedtext.proofs.MarkLemmas.{default_same}
 use Rattle.sedtext.proofs.MirrorLemmas.{get-reverse}
 use Rattle.sedpass.specs.Regions.{IsLastIn, Opposite, ReachesEnd, Meets}
 use Rattle.sedpass.specs.Prepared.{null_in}
@@ -392,31 +393,34 @@ added_few m t after adds none =
 
 -- What the marks tell.
 
+-- the number of a place's state, as it is read
+pub kept_read : (p : Prepared) (w : List ℕ) (t : Table) (k : Kept) (q s : ℕ) → IsKept p w t k → q < k.region.to → s ≡ slice_index_or k.states.items q s → s ≡ slice_index_or k.states.items q 0
+kept_read p w t k q s kept before is =
+    let inside : q < length k.states.items = (let h = kept.region.within in let g = kept.region.inside in let f = kept.region.long in omega (arith, h, g, f, before)) in
+    is ∙ default_same k.states.items q s 0 inside
+
 -- whether a node is marked at a place whose state is in the table
-pub kept_mark : (p : Prepared) (w : List ℕ) (t : Table) (k : Kept) (x q : ℕ) (mark : Bool) → IsKept p w t k → x < length p.arena.expr.nodes → k.region.from ≤ q → q < k.region.to →
-    mark ≡ slice_index_or (row_of t.ends (slice_index_or k.states.items q 0)) x false → IsTrue mark ↔ ReachesEnd p.arena.expr.nodes w k.region.root (ends_told t.way.all_starts (length w) k.region.end) x q
-kept_mark p w t k x q mark kept inside above before is =
+pub kept_mark : (p : Prepared) (w : List ℕ) (t : Table) (k : Kept) (x q s : ℕ) (mark : Bool) → IsKept p w t k → x < length p.arena.expr.nodes → k.region.from ≤ q → q < k.region.to → s ≡ slice_index_or k.states.items q s →
+    mark ≡ slice_index_or (row_of t.ends s) x false → IsTrue mark ↔ ReachesEnd p.arena.expr.nodes w k.region.root (ends_told t.way.all_starts (length w) k.region.end) x q
+kept_mark p w t k x q s mark kept inside above before read is =
     let m = length p.arena.expr.nodes in
     let region : IsRegion p w t k = kept.region in
-    let s = slice_index_or k.states.items q 0 in
     let live : IsLive p w t k.region.root k.region.end k.states.items q = kept.live q above before in
+    let at : KeptAt p w t.way k.region.root k.region.end q (state_of m t s) = subst (λ v. KeptAt p w t.way k.region.root k.region.end q (state_of m t v)) (sym (kept_read p w t k q s kept before read)) live.1 in
     let bit : bits m (row_of t.ends s) x ≡ mark = bits_here m (row_of t.ends s) x inside ∙ sym is in
     let there : q ≤ length w = (let h = region.within in let g = region.inside in omega (arith, h, g, before)) in
     subst (λ b. IsTrue b ↔ ReachesEnd p.arena.expr.nodes w k.region.root (ends_told t.way.all_starts (length w) k.region.end) x q) bit
-    (kept_reaches p.arena.expr w t.way.mirrored t.way.all_starts t.way.keeps k.region.root k.region.end q x (bits m (row_of t.leaves s)) (bits m (row_of t.ends s)) region.table.expr.arena region.room.mirrored region.room.keeps there region.inside live.1.1)
+    (kept_reaches p.arena.expr w t.way.mirrored t.way.all_starts t.way.keeps k.region.root k.region.end q x (bits m (row_of t.leaves s)) (bits m (row_of t.ends s)) region.table.expr.arena region.room.mirrored region.room.keeps there region.inside at.1)
 
--- where its state stands
-pub kept_row : (p : Prepared) (w : List ℕ) (t : Table) (k : Kept) (q : ℕ) → IsKept p w t k → k.region.from ≤ q → q < k.region.to →
-    (slice_index_or k.states.items q 0 < length t.ends) × (length p.arena.expr.nodes ≤ length (row_of t.ends (slice_index_or k.states.items q 0))) × (q < length k.states.items)
-kept_row p w t k q kept above before =
-    let region : IsRegion p w t k = kept.region in
+-- and its row there
+pub kept_row : (p : Prepared) (w : List ℕ) (t : Table) (k : Kept) (q s : ℕ) → IsKept p w t k → k.region.from ≤ q → q < k.region.to → s ≡ slice_index_or k.states.items q s →
+    (s < length t.ends) × (length p.arena.expr.nodes ≤ length (row_of t.ends s))
+kept_row p w t k q s kept above before read =
+    let room = kept.region.table.room in
+    let is = kept_read p w t k q s kept before read in
     let live = (kept.live q above before).0 in
-    let most = region.table.room.count in
-    let rows = region.table.room.ends in (
-      omega (arith, live, most, rows),
-      (let all = region.table.room.end_marks (slice_index_or k.states.items q 0) (omega (arith, live, most)) in let marks = region.table.room.marks in omega (arith, all, marks)),
-      (let h = region.within in let g = region.inside in let f = region.long in omega (arith, h, g, f, before)),
-    )
+    let low : s < t.room = (let most = room.count in omega (arith, live, most, is)) in
+    (omega (arith, low, room.ends), (let all = room.end_marks s low in let marks = room.marks in omega (arith, all, marks)))
 
 -- a mark that is as asked, and one that isn't
 pub as_asked : (A : Type 0) (mark asked : Bool) → beq mark asked ≡ true → (IsTrue mark ↔ A) → IsTrue asked ↔ A
@@ -446,13 +450,13 @@ null_spans p w kind x place null inside begins ends is =
     subst (λ b. IsTrue b ↔ At p.arena.expr.nodes w x place place) (sym is) (null_tells false p.arena.expr kind w place (begins, ends) x inside)
 
 -- and before it
-pub mark_spans : (p : Prepared) (w : List ℕ) (t : Table) (k : Kept) (x q : ℕ) (mark : Bool) → IsKept p w t k → t.way.all_starts ≡ false → IsLastIn p.arena.expr.nodes k.region.root x → k.region.from ≤ q → q < k.region.to →
-    mark ≡ slice_index_or (row_of t.ends (slice_index_or k.states.items q 0)) x false → IsTrue mark ↔ At p.arena.expr.nodes w x q k.region.end
-mark_spans p w t k x q mark kept one last above before is =
+pub mark_spans : (p : Prepared) (w : List ℕ) (t : Table) (k : Kept) (x q s : ℕ) (mark : Bool) → IsKept p w t k → t.way.all_starts ≡ false → IsLastIn p.arena.expr.nodes k.region.root x → k.region.from ≤ q → q < k.region.to → s ≡ slice_index_or k.states.items q s →
+    mark ≡ slice_index_or (row_of t.ends s) x false → IsTrue mark ↔ At p.arena.expr.nodes w x q k.region.end
+mark_spans p w t k x q s mark kept one last above before read is =
     let arena = kept.region.table.expr.arena in
     let root = kept.region.root.0 in
     let up = last_inside p.arena.expr.nodes w k.region.root (one_start k.region.end) arena x last in
-    let tells : IsTrue mark ↔ ReachesEnd p.arena.expr.nodes w k.region.root (ends_told t.way.all_starts (length w) k.region.end) x q = kept_mark p w t k x q mark kept (omega (arith, root, up)) above before is in
+    let tells : IsTrue mark ↔ ReachesEnd p.arena.expr.nodes w k.region.root (ends_told t.way.all_starts (length w) k.region.end) x q = kept_mark p w t k x q s mark kept (omega (arith, root, up)) above before read is in
     let same : IsTrue mark ↔ ReachesEnd p.arena.expr.nodes w k.region.root (one_start k.region.end) x q =
     subst (λ b. IsTrue mark ↔ ReachesEnd p.arena.expr.nodes w k.region.root (ends_told b (length w) k.region.end) x q) one tells in
     let both = reaches_last p.arena.expr.nodes w k.region.root k.region.end x q arena last in
