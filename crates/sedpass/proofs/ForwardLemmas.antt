@@ -20,7 +20,7 @@ use Rattle.sedtext.specs.Places.{IsPlace}
 use Rattle.sedpass.specs.Rows.{nodes_of, at_begin, at_end, RowOfPlace}
 use Rattle.sedpass.specs.Cells.{stops, code_of}
 use Rattle.sedpass.specs.Table.{State, state_of, IsTold, StateAt, LeadsOn, BeginsIn, Names, IsTable}
-use Rattle.sedpass.specs.Forwards.{starts_of, LastBelow, IsEnd, Arrives, EndsBelow, PassIs, Tells}
+use Rattle.sedpass.specs.Forwards.{starts_of, LastBelow, IsEnd, Arrives, EndsBelow, PassIs}
 use Rattle.sedpass.specs.declared.cells.Flags.{Flags}
 use Rattle.sedpass.specs.declared.nodes.Kind.{Kind}
 use Rattle.sedpass.specs.declared.nodes.Prepared.{Prepared}
@@ -331,15 +331,14 @@ module _ (p : Prepared) (way u : Way) (w : List ℕ) (from : ℕ) (end : Option 
   seen_end = subst (λ b. IsEnd way.all_starts (seen b p.arena.expr).nodes w p.root (starts_of way.all_starts from w) end) mirrored
       (subst (λ (x : Way). IsEnd x.all_starts (nodes_of x p.arena.expr) w p.root (starts_of x.all_starts from w) end) same is)
 
-  pub run_tells : (s t place : ℕ) → from ≤ length w → IfSome end (λ j. j ≤ place) → TakesAtLeast s t (2 * (place - from) + 1) → Tells (expression_tree p.arena.expr) w way.all_starts from place s t end
-  run_tells s t place low ended looks =
-      let last = p.is_prepared.last in
-      record {
-        reached = ended;
-        longest = λ single. end_longest p.arena.expr p.root w from last end (subst (λ b. IsEnd b p.arena.expr.nodes w p.root (starts_of b from w) end) single seen_end);
-        found = λ all_starts. end_found p.arena.expr p.root w from last low end (subst (λ b. IsEnd b p.arena.expr.nodes w p.root (starts_of b from w) end) all_starts seen_end);
-        passes = end_passes p.arena.expr p.root w from last way.all_starts s t place low end seen_end ended looks;
-      }
+  pub run_longest : way.all_starts ≡ false → IsLongestFrom (expression_tree p.arena.expr) w from end
+  run_longest single = end_longest p.arena.expr p.root w from p.is_prepared.last end (subst (λ b. IsEnd b p.arena.expr.nodes w p.root (starts_of b from w) end) single seen_end)
+
+  pub run_found : from ≤ length w → IsTrue way.all_starts → IsTrue (is_some end) ↔ SomeFound (expression_tree p.arena.expr) w from
+  run_found low all_starts = end_found p.arena.expr p.root w from p.is_prepared.last low end (subst (λ b. IsEnd b p.arena.expr.nodes w p.root (starts_of b from w) end) all_starts seen_end)
+
+  pub run_passes : (s t place : ℕ) → from ≤ length w → IfSome end (λ j. j ≤ place) → TakesAtLeast s t (2 * (place - from) + 1) → IfSome end (λ j. PassesOver (expression_tree p.arena.expr) w from s t)
+  run_passes s t place low ended looks = end_passes p.arena.expr p.root w from p.is_prepared.last way.all_starts s t place low end seen_end ended looks
 
 -- Costs.
 

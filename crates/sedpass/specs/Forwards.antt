@@ -1,12 +1,9 @@
 -- Private to the proofs: no contract that `sedmatch` makes public cites what stands here.
 -- Passes for the whole expression in which the root's ends alone are kept.
-use Rattle.std.specs.Prelude.{◌≡◌, ℕ, ◌+◌, ◌/◌, ◌^◌, ◌<◌, ◌≤◌, ◌↔◌, Bool, true, false, List, length, Option, Some, None, IfSome, IsTrue, is_some}
+use Rattle.std.specs.Prelude.{◌≡◌, ℕ, ◌+◌, ◌/◌, ◌^◌, ◌<◌, ◌≤◌, Bool, true, false, List, length, Option, Some, None, IsTrue}
 use Rattle.sedre.specs.declared.types.Node.{Node}
 use Rattle.sedtext.specs.declared.starts.Starts.{Starts}
-use Rattle.sedtext.specs.Following.{PassesOver}
-use Rattle.sedtext.specs.Reach.{IsLongestFrom, SomeSpan}
-use Rattle.sedtext.specs.Spans.{SomeFound}
-use Rattle.sedre.specs.Tree.{Tree}
+use Rattle.sedtext.specs.Reach.{SomeSpan}
 use Rattle.sedpass.specs.Rows.{nodes_of}
 use Rattle.sedpass.specs.Table.{State, state_of, StateAt}
 use Rattle.sedpass.specs.declared.nodes.Prepared.{Prepared}
@@ -44,10 +41,3 @@ pub record PassIs (p : Prepared) (t : Table) (w : List ℕ) (start : ℕ) (at : 
   pub state : Arrives p t.way w start at.place (state_of (length p.arena.expr.nodes) t (at.offset / 2 ^ t.layout.shift))
   pub last : EndsBelow p t.way w start (at.place + 1) at.end
   pub over : IsTrue at.over → IsEnd t.way.all_starts (nodes_of t.way p.arena.expr) w p.root (starts_of t.way.all_starts start w) at.end
-
--- what a pass from a place tells that went up to another: the longest match from there, or in a sweep whether there is one from there on
-pub record Tells (e : Tree) (w : List ℕ) (all_starts : Bool) (from place before after : ℕ) (end : Option ℕ) : Type 0 where
-  pub reached : IfSome end (λ j. j ≤ place)
-  pub longest : all_starts ≡ false → IsLongestFrom e w from end
-  pub found : IsTrue all_starts → IsTrue (is_some end) ↔ SomeFound e w from
-  pub passes : IfSome end (λ j. PassesOver e w from before after)

@@ -106,7 +106,8 @@ pub record SameKept (old new : Kept) : Type 0 where
   pub edges : length new.edges ≡ length old.edges
   pub marks : (q : ℕ) → length (row_of new.edges q) ≡ length (row_of old.edges q)
 
--- from a table and what was kept, a pass came down to the place: the states apart, and the place before which they are in the table, all is as it was
+-- from a table and what was kept, a pass came down to the place: all is as it was but for the states, and the place before which they
+-- are in the table
 pub record ComesDown (p : Prepared) (w : List ℕ) (t t' : Table) (k k' : Kept) (place offset : ℕ) : Type 0 where
   pub passes : PassesDownTo p w t' k' place offset
   pub shape : SameShape t t'

@@ -1,11 +1,14 @@
 //! Passes for the whole expression, which stop as soon as no later place matters.
 ghost use Rattle.std.specs.Prelude.{◌≡◌, ℕ, true, false, ◌+◌, ◌-◌, ◌*◌, ◌/◌, ◌^◌, ◌<◌, ◌≤◌, ◌↔◌, length, min, Some, IfSome, IsTrue, is_some};
 ghost use Rattle.sedtext.specs.Costs.{CostsWithin};
+ghost use Rattle.sedtext.specs.Following.{PassesOver};
+ghost use Rattle.sedtext.specs.Reach.{IsLongestFrom};
+ghost use Rattle.sedtext.specs.Spans.{SomeFound};
 ghost use Rattle.sedre.specs.Tree.{expression_tree};
 ghost use Rattle.sedre.specs.Steps.{Takes, TakesAtLeast};
 ghost use Rattle.sedpass.specs.Rows.{nodes_of};
 ghost use Rattle.sedpass.specs.Table.{Names, IsOffset, IsTable, SameShape};
-ghost use Rattle.sedpass.specs.Forwards.{Arrives, EndsBelow, PassIs, Tells};
+ghost use Rattle.sedpass.specs.Forwards.{Arrives, EndsBelow, PassIs};
 
 use crate::cells::{PLAIN, offset_of};
 use crate::nodes::{Prepared, kind_of};
@@ -155,7 +158,10 @@ impl Table {
         ensures shape { SameShape self.old self.new }
         ensures after { from ≤ result.place }
         ensures within { result.place ≤ length text.now }
-        ensures tells { Tells (expression_tree prepared.now.arena.expr) text.now self.old.way.all_starts from result.place steps.old steps.new result.end }
+        ensures reached { IfSome result.end (λ j. j ≤ result.place) }
+        ensures longest { self.old.way.all_starts ≡ false → IsLongestFrom (expression_tree prepared.now.arena.expr) text.now from result.end }
+        ensures found { IsTrue self.old.way.all_starts → IsTrue (is_some result.end) ↔ SomeFound (expression_tree prepared.now.arena.expr) text.now from }
+        ensures passes { IfSome result.end (λ j. PassesOver (expression_tree prepared.now.arena.expr) text.now from steps.old steps.new) }
         ensures cost { CostsWithin steps.old steps.new (40 * length prepared.now.arena.expr.nodes * (result.place + 1)) (40 * length prepared.now.arena.expr.nodes * from) }
         ensures counts { TakesAtLeast steps.old steps.new (2 * (result.place - from) + 1) }
     {

@@ -193,7 +193,7 @@ impl Kept {
     }
 
     /// The state of a place that is the region's end, or the right end of a block of which the row is kept; gives where its cells
-    /// begin.
+    /// begin. At the region's end the block counts for nothing.
     fn edge_state(
         &mut self,
         subject: Subject,

@@ -42,7 +42,7 @@ pub enum Trials {
     Tired(usize),
 }
 
-/// Trials from a place on, until a match is found, or many places are in none: passes from each place at which a match can begin.
+/// Trials from a place on, a pass from each place at which a match can begin, until one is found, or many places are in none.
 fn try_all(
     subject: Subject,
     begins: &Begins,

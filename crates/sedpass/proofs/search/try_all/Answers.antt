@@ -34,8 +34,8 @@ returns-in-Some-end-clause-made c =
     let run = c.run-passed.ensures in
     let place = c.run-passed.result.place in
     let i = c.loop-start.invariant in
-    let is = trial_is (expression_tree e) w c.forwards-bytes.result c.args.begins.now c.loop-start.start first c.run-passed.result.place c.run-passed.result.end c.forwards-bytes.ensures c.requires.begins c.in-Some.ensures.next run.after run.within run.tells.reached
-    (run.tells.longest i.ahead.single) in
+    let is = trial_is (expression_tree e) w c.forwards-bytes.result c.args.begins.now c.loop-start.start first c.run-passed.result.place c.run-passed.result.end c.forwards-bytes.ensures c.requires.begins c.in-Some.ensures.next run.after run.within run.reached
+    (run.longest i.ahead.single) in
     let end = c.in-Some-end.end in
     let last = c.args.subject.prepared.now.is_prepared.last in
     let long : IsLongestFrom (expression_tree e) w first (Some end) = subst (IsLongestFrom (expression_tree e) w first) c.in-Some-end.is is.longest in
@@ -64,8 +64,8 @@ returns-then-tried-length-clause-made c =
     let run = c.run-passed.ensures in
     let place = c.run-passed.result.place in
     let i = c.loop-start.invariant in
-    let is = trial_is (expression_tree e) w c.forwards-bytes.result c.args.begins.now c.loop-start.start first c.run-passed.result.place c.run-passed.result.end c.forwards-bytes.ensures c.requires.begins c.in-Some.ensures.next run.after run.within run.tells.reached
-    (run.tells.longest i.ahead.single) in
+    let is = trial_is (expression_tree e) w c.forwards-bytes.result c.args.begins.now c.loop-start.start first c.run-passed.result.place c.run-passed.result.end c.forwards-bytes.ensures c.requires.begins c.in-Some.ensures.next run.after run.within run.reached
+    (run.longest i.ahead.single) in
     let within = c.if-start-length.true in
     let len = c.len-length.ensures.is in
     let none : c.run-passed.result.end ≡ None = cc in
@@ -115,8 +115,8 @@ loop-start-preserved c =
     let first = c.in-Some.first in
     let run = c.run-passed.ensures in
     let i = c.loop-start.invariant in
-    let is = trial_is (expression_tree e) w c.forwards-bytes.result c.args.begins.now c.loop-start.start first c.run-passed.result.place c.run-passed.result.end c.forwards-bytes.ensures c.requires.begins c.in-Some.ensures.next run.after run.within run.tells.reached
-    (run.tells.longest i.ahead.single) in
+    let is = trial_is (expression_tree e) w c.forwards-bytes.result c.args.begins.now c.loop-start.start first c.run-passed.result.place c.run-passed.result.end c.forwards-bytes.ensures c.requires.begins c.in-Some.ensures.next run.after run.within run.reached
+    (run.longest i.ahead.single) in
     let none : c.run-passed.result.end ≡ None = cc in
     let next = c.in-Some.ensures.cost in
     let few = i.few (let h = c.loop-start-test.true in let g = c.len-length.ensures.is in omega (arith, h, g)) in

@@ -6,7 +6,7 @@ use Rattle.sedpass.specs.Forwards.{Arrives}
 use Rattle.sedpass.specs.declared.rows.Way.{Way}
 use Rattle.sedpass.proofs.CountLemmas.{least_both, least_fewer}
 use Rattle.sedpass.proofs.TableLemmas.{names_map}
-use Rattle.sedpass.proofs.ForwardLemmas.{arrives_first, end_below, none_before, pass_end, run_tells}
+use Rattle.sedpass.proofs.ForwardLemmas.{arrives_first, end_below, none_before, pass_end, run_longest, run_found, run_passes}
 use Rattle.sedpass.proofs.table.Table.run.Goals as goal
 
 pub loop-at-init : goal.loop-at-init
@@ -55,16 +55,46 @@ loop-at-preserved c =
       counts = least_both c.args.steps.now c.loop-at.steps c.go_on-at.new.steps (2 * (c.loop-at.at.place - c.args.from) + 1) (2 * (c.go_on-at.result.place - c.loop-at.at.place)) (2 * (c.go_on-at.result.place - c.args.from) + 1) i.counts go.counts (omega (arith, after, moved));
     }
 
-pub returns-else-at-len-clause-tells : goal.returns-else-at-len-clause-tells
-returns-else-at-len-clause-tells c =
+pub returns-else-at-len-clause-longest : goal.returns-else-at-len-clause-longest
+returns-else-at-len-clause-longest c single =
     let i = c.loop-at.invariant in
-    run_tells c.args.prepared.now c.args.self.now.way c.loop-at.self.way c.args.text.now c.args.from c.loop-at.at.end i.shape.0 c.requires.forwards
+    run_longest c.args.prepared.now c.args.self.now.way c.loop-at.self.way c.args.text.now c.args.from c.loop-at.at.end i.shape.0 c.requires.forwards
+    (pass_end c.args.prepared.now c.loop-at.self c.args.text.now c.args.from c.loop-at.at c.requires.from i.passes (inr (omega (arith, c.if-at-len.false, c.len-in-loop-at.ensures.is)))) single
+
+pub returns-else-at-len-clause-found : goal.returns-else-at-len-clause-found
+returns-else-at-len-clause-found c all_starts =
+    let i = c.loop-at.invariant in
+    run_found c.args.prepared.now c.args.self.now.way c.loop-at.self.way c.args.text.now c.args.from c.loop-at.at.end i.shape.0 c.requires.forwards
+    (pass_end c.args.prepared.now c.loop-at.self c.args.text.now c.args.from c.loop-at.at c.requires.from i.passes (inr (omega (arith, c.if-at-len.false, c.len-in-loop-at.ensures.is)))) c.requires.from all_starts
+
+pub returns-after-loop-at-clause-longest : goal.returns-after-loop-at-clause-longest
+returns-after-loop-at-clause-longest c single =
+    let i = c.loop-at.invariant in
+    run_longest c.args.prepared.now c.args.self.now.way c.loop-at.self.way c.args.text.now c.args.from c.loop-at.at.end i.shape.0 c.requires.forwards
+    (pass_end c.args.prepared.now c.loop-at.self c.args.text.now c.args.from c.loop-at.at c.requires.from i.passes (inl (not-false c.loop-at.at.over c.loop-at-test.false))) single
+
+pub returns-after-loop-at-clause-found : goal.returns-after-loop-at-clause-found
+returns-after-loop-at-clause-found c all_starts =
+    let i = c.loop-at.invariant in
+    run_found c.args.prepared.now c.args.self.now.way c.loop-at.self.way c.args.text.now c.args.from c.loop-at.at.end i.shape.0 c.requires.forwards
+    (pass_end c.args.prepared.now c.loop-at.self c.args.text.now c.args.from c.loop-at.at c.requires.from i.passes (inl (not-false c.loop-at.at.over c.loop-at-test.false))) c.requires.from all_starts
+
+pub returns-else-at-len-clause-reached : goal.returns-else-at-len-clause-reached
+returns-else-at-len-clause-reached c = end_below _ _ _ _ c.loop-at.at.place c.loop-at.at.end c.loop-at.invariant.passes.last
+
+pub returns-after-loop-at-clause-reached : goal.returns-after-loop-at-clause-reached
+returns-after-loop-at-clause-reached c = end_below _ _ _ _ c.loop-at.at.place c.loop-at.at.end c.loop-at.invariant.passes.last
+
+pub returns-else-at-len-clause-passes : goal.returns-else-at-len-clause-passes
+returns-else-at-len-clause-passes c =
+    let i = c.loop-at.invariant in
+    run_passes c.args.prepared.now c.args.self.now.way c.loop-at.self.way c.args.text.now c.args.from c.loop-at.at.end i.shape.0 c.requires.forwards
     (pass_end c.args.prepared.now c.loop-at.self c.args.text.now c.args.from c.loop-at.at c.requires.from i.passes (inr (omega (arith, c.if-at-len.false, c.len-in-loop-at.ensures.is))))
     c.args.steps.now c.loop-at.steps c.loop-at.at.place c.requires.from (end_below _ _ _ _ c.loop-at.at.place c.loop-at.at.end i.passes.last) i.counts
 
-pub returns-after-loop-at-clause-tells : goal.returns-after-loop-at-clause-tells
-returns-after-loop-at-clause-tells c =
+pub returns-after-loop-at-clause-passes : goal.returns-after-loop-at-clause-passes
+returns-after-loop-at-clause-passes c =
     let i = c.loop-at.invariant in
-    run_tells c.args.prepared.now c.args.self.now.way c.loop-at.self.way c.args.text.now c.args.from c.loop-at.at.end i.shape.0 c.requires.forwards
+    run_passes c.args.prepared.now c.args.self.now.way c.loop-at.self.way c.args.text.now c.args.from c.loop-at.at.end i.shape.0 c.requires.forwards
     (pass_end c.args.prepared.now c.loop-at.self c.args.text.now c.args.from c.loop-at.at c.requires.from i.passes (inl (not-false c.loop-at.at.over c.loop-at-test.false)))
     c.args.steps.now c.loop-at.steps c.loop-at.at.place c.requires.from (end_below _ _ _ _ c.loop-at.at.place c.loop-at.at.end i.passes.last) i.counts
