@@ -7,7 +7,7 @@ use Rattle.sedre.specs.Mirror.{seen}
 use Rattle.sedtext.specs.Matching.{byte_is_in}
 use Rattle.sedtext.specs.Reach.{one_start}
 use Rattle.sedtext.specs.Words.{row_of}
-use Rattle.sedpass.specs.Kept.{ends_told, Follows, IsKept, IsLive, IsRegion, Meet}
+use Rattle.sedpass.specs.Kept.{ends_told, Follows, IsKept, IsLive, IsRegion, KeptAt, Meet}
 use Rattle.sedpass.specs.Regions.{Meets}
 use Rattle.sedpass.specs.Rows.{bits, nodes_of, at_begin, at_end, RowOfPlace, LeadsTo, IsFirstRow, SameBytes}
 use Rattle.sedpass.specs.Table.{state_of, BeginsIn, LeadsOn, SameShape}
@@ -15,7 +15,7 @@ use Rattle.sedpass.specs.declared.kept.Kept.{Kept}
 use Rattle.sedpass.specs.declared.nodes.Kind.{Kind}
 use Rattle.sedpass.specs.declared.nodes.Prepared.{Prepared}
 use Rattle.sedpass.specs.declared.table.Table.{Table}
-use Rattle.sedpass.proofs.KeptLemmas.{kept_meets}
+use Rattle.sedpass.proofs.KeptLemmas.{kept_meets, kept_read}
 use Rattle.sedpass.proofs.MeetingLemmas.{meets_early}
 
 -- Where they meet.
@@ -34,22 +34,25 @@ bits_meet m front behind met tells = (
   λ h. let one = bit_out m front h.0 h.1 in let two = bit_out m behind h.0 h.2 in tells.1 (h.0, one.0, one.1, two.1),
 )
 
--- and so whether the passes meet at the place
-pub meet_here : (p : Prepared) (w : List ℕ) (t ahead : Table) (k : Kept) (a i place offset : ℕ) (met : Bool) → IsKept p w t k → k.region.from ≤ place → place < k.region.to → Follows p w ahead a i place offset →
-    (IsTrue met ↔ ((c : ℕ) × (c < length p.arena.expr.nodes) × IsTrue (slice_index_or (row_of ahead.leaves (offset / 2 ^ ahead.layout.shift)) c false) × IsTrue (slice_index_or (row_of t.ends (slice_index_or k.states.items place 0)) c false))) →
+-- and so whether the passes meet at the place, as its state is read
+pub meet_read : (p : Prepared) (w : List ℕ) (t ahead : Table) (k : Kept) (a i place offset n front_state s : ℕ) (met : Bool) → IsKept p w t k → k.region.from ≤ place → place < k.region.to → Follows p w ahead a i place offset →
+    n ≡ length p.arena.expr.nodes → front_state ≡ offset / 2 ^ ahead.layout.shift → s ≡ slice_index_or k.states.items place s →
+    (IsTrue met ↔ ((c : ℕ) × (c < n) × IsTrue (slice_index_or (row_of ahead.leaves front_state) c false) × IsTrue (slice_index_or (row_of t.ends s) c false))) →
     IsTrue met ↔ Meets p.arena.expr.nodes w k.region.root (ends_told t.way.all_starts (length w) k.region.end) a (one_start i) place
-meet_here p w t ahead k a i place offset met kept above before follows tells =
+meet_read p w t ahead k a i place offset n front_state s met kept above before follows count front_is read tells =
     let m = length p.arena.expr.nodes in
     let region : IsRegion p w t k = kept.region in
-    let s = slice_index_or k.states.items place 0 in
     let front = state_of m ahead (offset / 2 ^ ahead.layout.shift) in
     let behind = state_of m t s in
     let live : IsLive p w t k.region.root k.region.end k.states.items place = kept.live place above before in
+    let at : KeptAt p w t.way k.region.root k.region.end place behind = subst (λ v. KeptAt p w t.way k.region.root k.region.end place (state_of m t v)) (sym (kept_read p w t k place s kept before read)) live.1 in
     let there : place ≤ length w = (let h = region.within in let g = region.inside in omega (arith, h, g, before)) in
-    let one : IsTrue met ↔ ((c : ℕ) × IsTrue (front.entered c) × IsTrue (behind.ended c)) = bits_meet m (row_of ahead.leaves (offset / 2 ^ ahead.layout.shift)) (row_of t.ends s) met tells in
+    let one : IsTrue met ↔ ((c : ℕ) × IsTrue (front.entered c) × IsTrue (behind.ended c)) = bits_meet m (row_of ahead.leaves (offset / 2 ^ ahead.layout.shift)) (row_of t.ends s) met
+    (subst (λ v. IsTrue met ↔ ((c : ℕ) × (c < m) × IsTrue (slice_index_or (row_of ahead.leaves v) c false) × IsTrue (slice_index_or (row_of t.ends s) c false))) front_is
+    (subst (λ v. IsTrue met ↔ ((c : ℕ) × (c < v) × IsTrue (slice_index_or (row_of ahead.leaves front_state) c false) × IsTrue (slice_index_or (row_of t.ends s) c false))) count tells)) in
     let row : RowOfPlace p.arena.expr.nodes w a (one_start i) ahead.way.keeps place front.entered front.ended = subst (λ r. RowOfPlace p.arena.expr.nodes w r (one_start i) ahead.way.keeps place front.entered front.ended) follows.0 follows.1 in
     let two = kept_meets p.arena.expr w t.way.mirrored t.way.all_starts t.way.keeps ahead.way.keeps k.region.root a i k.region.end place front.entered front.ended behind.entered behind.ended
-    region.table.expr.arena region.room.mirrored region.room.keeps there region.inside row live.1.1 in
+    region.table.expr.arena region.room.mirrored region.room.keeps there region.inside row at.1 in
     (λ h. two.0 (one.0 h), λ h. one.1 (two.1 h))
 
 -- a place more
@@ -115,14 +118,3 @@ follows_first p w t after a i offset kind front way begins ends first =
 -- a place with its look at two rows, its byte, and its act
 pub place_cost : (m from place s a b c d : ℕ) → 1 ≤ m → s + 36 * m * from ≤ a + 36 * m * place → b ≤ s + m → c ≤ b + 1 → d ≤ c + 34 * m → d + 36 * m * from ≤ a + 36 * m * (place + 1)
 place_cost m from place s a b c d some before one two three = omega (arith, some, before, one, two, three)
-
--- the same, as it is read
-pub meet_read : (p : Prepared) (w : List ℕ) (t ahead : Table) (k : Kept) (a i place offset n s b : ℕ) (met : Bool) → IsKept p w t k → k.region.from ≤ place → place < k.region.to → Follows p w ahead a i place offset →
-    n ≡ length p.arena.expr.nodes → s ≡ offset / 2 ^ ahead.layout.shift → b ≡ slice_index_or k.states.items place 0 →
-    (IsTrue met ↔ ((c : ℕ) × (c < n) × IsTrue (slice_index_or (row_of ahead.leaves s) c false) × IsTrue (slice_index_or (row_of t.ends b) c false))) →
-    IsTrue met ↔ Meets p.arena.expr.nodes w k.region.root (ends_told t.way.all_starts (length w) k.region.end) a (one_start i) place
-meet_read p w t ahead k a i place offset n s b met kept above before follows count front behind tells =
-    meet_here p w t ahead k a i place offset met kept above before follows
-    (subst (λ v. IsTrue met ↔ ((c : ℕ) × (c < length p.arena.expr.nodes) × IsTrue (slice_index_or (row_of ahead.leaves (offset / 2 ^ ahead.layout.shift)) c false) × IsTrue (slice_index_or (row_of t.ends v) c false))) behind
-    (subst (λ v. IsTrue met ↔ ((c : ℕ) × (c < length p.arena.expr.nodes) × IsTrue (slice_index_or (row_of ahead.leaves v) c false) × IsTrue (slice_index_or (row_of t.ends b) c false))) front
-    (subst (λ v. IsTrue met ↔ ((c : ℕ) × (c < v) × IsTrue (slice_index_or (row_of ahead.leaves s) c false) × IsTrue (slice_index_or (row_of t.ends b) c false))) count tells)))

@@ -10,11 +10,6 @@ pub least_fewer : (s a n m : ℕ) → m ≤ n → TakesAtLeast s a n → TakesAt
 unfolding TakesAtLeast
 least_fewer s a n m few least = omega (arith, few, least)
 
--- four loops over as many nodes
-pub least_four : (s a b c d n m : ℕ) → TakesExactly s a n → TakesExactly a b n → TakesExactly b c n → TakesExactly c d n → 4 * n ≡ m → TakesAtLeast s d m
-unfolding TakesAtLeast TakesExactly
-least_four s a b c d n m one two three four is = omega (arith, one, two, three, four, is)
-
 -- what passes over a match from a later place on does so from an earlier one, where the looks before went as far
 pub passes_later : (e : Tree) (w : List ℕ) (p q s t u : ℕ) → p ≤ q → s ≤ t → TakesAtLeast s t (q - p) → PassesOver e w q t u → PassesOver e w p s u
 passes_later e w p q s t u low grows looks over = record {

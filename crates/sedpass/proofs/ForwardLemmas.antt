@@ -1,6 +1,8 @@
 -- Passes for the whole expression.
 use Rattle.std.proofs.Common.{inl, inr, ◌≡◌, ℕ, ◌+◌, ◌-◌, ◌*◌, ◌/◌, ◌^◌, ◌<◌, ◌≤◌, ◌⊎◌, ◌↔◌, Bool, true, false, not, ◌&&◌, ◌||◌, List, length, Option, Some, None, IsTrue, refl, sym, ap, ◌∙◌, subst, ⊎_elim, true≢false, arith, mul-le-mul_left, min}
 use Rattle.std.specs.Prelude.{slice_get, is_some, IfSome}
+use Rattle.std.specs.Bool.{then_some}
+use Rattle.std.specs.Option.{option_or}
 use Rattle.std.proofs.lemmas.Bool.{cases_lt, cases_Bool, both_ways}
 use Rattle.std.proofs.lemmas.Option.{slice_get_within}
 use Rattle.sedre.specs.Arena.{IsArena}
@@ -183,9 +185,11 @@ module _ (p : Prepared) (t : Table) (w : List ℕ) (start place code o : ℕ) (e
     over = λ h. absurd (true≢false (sym h));
   }
 
-  pub arrive_low : (flags : Flags) (noted : Option ℕ) (over : Bool) → code < 2147483648 → flags ≡ here.flags → (IsTrue flags.ends → noted ≡ Some place) → (flags.ends ≡ false → noted ≡ end) →
+  pub arrive_low : (flags : Flags) (noted : Option ℕ) (over : Bool) → code < 2147483648 → flags ≡ here.flags → noted ≡ option_or (then_some flags.ends place) end →
       (IsTrue over → IsTrue t.way.all_starts ⊎ ((t.way.all_starts ≡ false) × IsTrue flags.dead)) → PassIs p t w start (record { offset = o; place = place; end = noted; over = over })
-  arrive_low flags noted over low same ends none why =
+  arrive_low flags noted over low same is_noted why =
+      let ends : IsTrue flags.ends → noted ≡ Some place = λ is. is_noted ∙ ap (λ b. option_or (then_some b place) end) is in
+      let none : flags.ends ≡ false → noted ≡ end = λ is. is_noted ∙ ap (λ b. option_or (then_some b place) end) is in
       let stop : stops t.way here.flags ≡ true = low_code (stops t.way here.flags) o code code_is low in
       let told_ends = noted_ends p t.way w start place here keeps arena inside after within is_told arrived flags.ends end (ap (λ (f : Flags). f.ends) same) last in
       let all : EndsBelow p t.way w start (place + 1) noted =
@@ -346,16 +350,8 @@ over_cost m from place last s0 s1 some moved cost =
     let all : 40 * m * place ≡ 40 * m * (from + d) = ap (λ v. 40 * m * v) e in
     omega (arith, most, all)
 
-pub fill_cost : (m from place last s0 s1 s2 s3 : ℕ) → 1 ≤ m → from ≤ place → s1 + 2 * from ≤ s0 + 2 * min (place + 1) last → s2 ≤ s1 + 1 → s3 ≤ s2 + 37 * m → s3 + 40 * m * from ≤ s0 + 40 * m * (place + 1)
+pub fill_cost : (m from place last s0 s1 s2 s3 : ℕ) → 1 ≤ m → from ≤ place → s1 + 2 * from ≤ s0 + 2 * min (place + 1) last → s2 ≤ s1 + 1 → s3 ≤ s2 + 34 * m → s3 + 40 * m * from ≤ s0 + 40 * m * (place + 1)
 fill_cost m from place last s0 s1 s2 s3 some low cost byte act =
-    let d = place - from in
-    let e : place ≡ from + d = omega arith in
-    let most = mul-le-mul_left d some in
-    let all : 40 * m * (place + 1) ≡ 40 * m * (from + d + 1) = ap (λ v. 40 * m * (v + 1)) e in
-    omega (arith, most, all)
-
-pub last_cost : (m from place last s0 s1 s2 s3 : ℕ) → 1 ≤ m → from ≤ place → place ≡ last → s1 + 2 * from ≤ s0 + 2 * min (place + 1) last → s2 ≤ s1 + 1 → s3 ≤ s2 + 38 * m → s3 + 40 * m * from ≤ s0 + 40 * m * (place + 1)
-last_cost m from place last s0 s1 s2 s3 some low is cost byte act =
     let d = place - from in
     let e : place ≡ from + d = omega arith in
     let most = mul-le-mul_left d some in

@@ -3,7 +3,7 @@ use Rattle.std.proofs.Common.{inl, inr, ◌≡◌, ℕ, ◌+◌, ◌-◌, ◌*�
 use Rattle.std.proofs.Math.Nat.{div-mul-le_self, lt-div-mul-add}
 use Rattle.std.proofs.Math.Bool.{beq}
 use Rattle.std.proofs.lemmas.List.{length-reverse}
-use Rattle.std.specs.Prelude.{min, not, reverse, slice_get, slice_index_or, slice_set, vec_capacity}
+use Rattle.std.specs.Prelude.{not, reverse, slice_get, slice_index_or, slice_set, vec_capacity}
 use Rattle.std.proofs.lemmas.List.{get_or-set_same, get_or-set_other}
 use Rattle.sedre.specs.Arena.{IsArena}
 use Rattle.sedre.specs.Tree.{WrittenExpression}
@@ -13,16 +13,17 @@ use Rattle.sedtext.specs.Matching.{byte_is_in}
 use Rattle.sedtext.specs.declared.starts.Starts.{Starts}
 use Rattle.sedtext.specs.Reach.{At, IsStart, one_start, starts_to}
 use Rattle.sedtext.specs.Places.{IsPlace}
+use Rattle.sedtext.proofs.MarkLemmas.{default_same}
 use Rattle.sedtext.proofs.MirrorLemmas.{get-reverse}
 use Rattle.sedpass.specs.Regions.{IsLastIn, Opposite, ReachesEnd, Meets}
 use Rattle.sedpass.specs.Prepared.{null_in}
 use Rattle.sedpass.specs.Rows.{bits, RowOfPlace, LeadsTo, IsFirstRow, SameBytes, at_begin, at_end}
 use Rattle.sedtext.specs.Words.{AgreeBelow, row_of}
-use Rattle.sedpass.specs.Kept.{starts_told, ends_told, RowKept, KeptAt, IsLive, KeptRoom, IsRegion, PassesDownTo, IsEdge, AllMarked, SameKept, SameSpace, EdgesFrom, IsKept}
+use Rattle.sedpass.specs.Kept.{starts_told, ends_told, ComesDown, RowKept, KeptAt, IsLive, KeptRoom, IsRegion, PassesDownTo, IsEdge, AllMarked, SameKept, SameSpace, EdgesFrom, IsKept}
 use Rattle.sedpass.specs.Table.{State, state_of, HasRow, LeadsOn, BeginsIn, IsTable, MayBegin, SameShape, AddsStates, IsOffset}
 use Rattle.sedpass.specs.declared.kept.Kept.{Kept}
 use Rattle.sedpass.specs.Rows.{nodes_of}
-use Rattle.std.proofs.lemmas.Bool.{cases_lt}
+use Rattle.std.proofs.lemmas.Bool.{cases_eq, cases_lt}
 use Rattle.sedpass.specs.declared.nodes.Prepared.{Prepared}
 use Rattle.sedpass.specs.declared.rows.Way.{Way}
 use Rattle.sedpass.specs.declared.table.Table.{Table}
@@ -276,6 +277,24 @@ rows_long a b c one two first second q =
 pub same_shape : (a b c : Table) → SameShape a b → SameShape b c → SameShape a c
 same_shape a b c one two = (two.0 ∙ one.0, two.1 ∙ one.1, two.2 ∙ one.2, two.3 ∙ one.3, two.4 ∙ one.4)
 
+-- a pass comes down by a place more
+pub comes_down : (p : Prepared) (w : List ℕ) (first t after : Table) (start k other : Kept) (place offset next byte : ℕ) (edge : Bool) →
+    ComesDown p w first t start k (place + 1) offset → IsTable p after → AddsStates (length p.arena.expr.nodes) t after →
+    other.region.root ≡ k.region.root → other.region.end ≡ k.region.end → other.region.low ≡ k.region.low → other.region.from ≡ k.region.from → other.edges ≡ k.edges →
+    vec_capacity other.states ≡ vec_capacity k.states → other.states.items ≡ slice_set k.states.items place (next / 2 ^ after.layout.shift) →
+    ((after.epoch ≡ t.epoch → ⊥) × (other.region.to ≡ place + 1)) ⊎ ((after.epoch ≡ t.epoch) × (other.region.to ≡ k.region.to)) →
+    IsOffset after next → slice_get w place ≡ Some byte → (IsTrue edge ↔ (place ≡ 0)) →
+    LeadsOn (nodes_of t.way p.arena.expr) t.way (state_of (length p.arena.expr.nodes) t (offset / 2 ^ t.layout.shift)) byte edge (state_of (length p.arena.expr.nodes) after (next / 2 ^ after.layout.shift)) →
+    ComesDown p w first after start other place next
+comes_down p w first t after start k other place offset next byte edge down table adds root end low from edges places states to there got last leads = record {
+  passes = passes_down p w t after k other place offset next byte edge down.passes table adds root end edges places states to there got last leads;
+  shape = same_shape first t after down.shape adds.shape;
+  same = same_kept start k other down.same (record { root = root; end = end; places = places; edges = ap (λ rows. length rows) edges; marks = λ q. ap (λ rows. length (row_of rows q)) edges });
+  low = low ∙ down.low;
+  from = from ∙ down.from;
+  edges = edges ∙ down.edges;
+}
+
 -- Blocks.
 
 -- a place where a block begins is the right end of that of the place before it
@@ -351,68 +370,68 @@ make_cost m low d place end s a t at is first pass =
     omega (arith, h, first)
 
 -- the state of the region's end
-pub first_at : (p : Prepared) (w : List ℕ) (t : Table) (k : Kept) (way : Way) (kind : Kind) (a : State) → IsRegion p w t k → way ≡ t.way →
-    (IsTrue kind.begin ↔ (k.region.end ≡ 0)) → (IsTrue kind.end ↔ (k.region.end ≡ length w)) → BeginsIn (nodes_of t.way p.arena.expr) t.way k.region.root kind a →
-    KeptAt p w way k.region.root k.region.end k.region.end a
-first_at p w t k way kind a region same begins ends first =
-    subst (λ v. KeptAt p w v k.region.root k.region.end k.region.end a) (sym same)
-    (first.0, kept_first p.arena.expr w t.way.mirrored t.way.all_starts t.way.keeps k.region.root k.region.end kind a.entered a.ended region.room.mirrored region.inside region.whole begins ends first.1)
+pub first_at : (p : Prepared) (w : List ℕ) (t : Table) (k : Kept) (way : Way) (place : ℕ) (kind : Kind) (a : State) → IsRegion p w t k → way ≡ t.way → place ≡ k.region.end →
+    (IsTrue kind.begin ↔ (place ≡ 0)) → (IsTrue kind.end ↔ (place ≡ length w)) → BeginsIn (nodes_of t.way p.arena.expr) t.way k.region.root kind a →
+    KeptAt p w way k.region.root k.region.end place a
+first_at p w t k way place kind a region same at begins ends first =
+    rw (same, at) (
+      first.0,
+      kept_first p.arena.expr w t.way.mirrored t.way.all_starts t.way.keeps k.region.root k.region.end kind a.entered a.ended region.room.mirrored region.inside region.whole
+          (subst (λ e. IsTrue kind.begin ↔ (e ≡ 0)) at begins) (subst (λ e. IsTrue kind.end ↔ (e ≡ length w)) at ends) first.1,
+    )
 
 -- the state of a block's right end
-pub load_at : (p : Prepared) (w : List ℕ) (t : Table) (k : Kept) (way : Way) (block place : ℕ) (a : State) → EdgesFrom p w t k k.region.low → k.region.low < block * (t.room - 1) + (t.room - 1) →
-    place ≡ min k.region.end (block * (t.room - 1) + (t.room - 1)) → (place ≡ k.region.end → ⊥) → way ≡ t.way →
+pub load_at : (p : Prepared) (w : List ℕ) (t : Table) (k : Kept) (way : Way) (block place : ℕ) (a : State) → place ≡ block * (t.room - 1) + (t.room - 1) →
+    IsEdge p w t.way k.region.root k.region.end k.edges (t.room - 1) block → way ≡ t.way →
     HasRow k.region.root (bits (length p.arena.expr.nodes) (row_of k.edges (2 * block))) (bits (length p.arena.expr.nodes) (row_of k.edges (2 * block + 1))) a → KeptAt p w way k.region.root k.region.end place a
-load_at p w t k way block place a edges some is other same row =
-    let width = t.room - 1 in
-    let root = k.region.root in
-    let end = k.region.end in
-    let at : place ≡ block * width + width = omega (arith, is, other) in
-    let before : block * width + width < end = omega (arith, is, other) in
-    subst (λ v. KeptAt p w v root end place a) (sym same) (
-      row.0,
-      rw (at, row.1, row.2) (edges block some before),
-    )
+load_at p w t k way block place a at edge same row = (row.0, rw (same, at, row.1, row.2) edge)
+
+-- a table that had no states has one at most
+pub added_few : (m : ℕ) (t after : Table) → AddsStates m t after → t.count ≡ 0 → after.count ≤ 1
+added_few m t after adds none =
+    ⊎_elim (λ (e : after.epoch ≡ t.epoch). let up = (adds.grows e).1 in omega arith) (λ (ne : after.epoch ≡ t.epoch → ⊥). adds.forgot ne) (cases_eq after.epoch t.epoch)
 
 -- What the marks tell.
 
+-- the number of a place's state, as it is read
+pub kept_read : (p : Prepared) (w : List ℕ) (t : Table) (k : Kept) (q s : ℕ) → IsKept p w t k → q < k.region.to → s ≡ slice_index_or k.states.items q s → s ≡ slice_index_or k.states.items q 0
+kept_read p w t k q s kept before is =
+    let inside : q < length k.states.items = (let h = kept.region.within in let g = kept.region.inside in let f = kept.region.long in omega (arith, h, g, f, before)) in
+    is ∙ default_same k.states.items q s 0 inside
+
 -- whether a node is marked at a place whose state is in the table
-pub kept_mark : (p : Prepared) (w : List ℕ) (t : Table) (k : Kept) (x q : ℕ) (mark : Bool) → IsKept p w t k → x < length p.arena.expr.nodes → k.region.from ≤ q → q < k.region.to →
-    mark ≡ slice_index_or (row_of t.ends (slice_index_or k.states.items q 0)) x false → IsTrue mark ↔ ReachesEnd p.arena.expr.nodes w k.region.root (ends_told t.way.all_starts (length w) k.region.end) x q
-kept_mark p w t k x q mark kept inside above before is =
+pub kept_mark : (p : Prepared) (w : List ℕ) (t : Table) (k : Kept) (x q s : ℕ) (mark : Bool) → IsKept p w t k → x < length p.arena.expr.nodes → k.region.from ≤ q → q < k.region.to → s ≡ slice_index_or k.states.items q s →
+    mark ≡ slice_index_or (row_of t.ends s) x false → IsTrue mark ↔ ReachesEnd p.arena.expr.nodes w k.region.root (ends_told t.way.all_starts (length w) k.region.end) x q
+kept_mark p w t k x q s mark kept inside above before read is =
     let m = length p.arena.expr.nodes in
     let region : IsRegion p w t k = kept.region in
-    let s = slice_index_or k.states.items q 0 in
     let live : IsLive p w t k.region.root k.region.end k.states.items q = kept.live q above before in
+    let at : KeptAt p w t.way k.region.root k.region.end q (state_of m t s) = subst (λ v. KeptAt p w t.way k.region.root k.region.end q (state_of m t v)) (sym (kept_read p w t k q s kept before read)) live.1 in
     let bit : bits m (row_of t.ends s) x ≡ mark = bits_here m (row_of t.ends s) x inside ∙ sym is in
     let there : q ≤ length w = (let h = region.within in let g = region.inside in omega (arith, h, g, before)) in
     subst (λ b. IsTrue b ↔ ReachesEnd p.arena.expr.nodes w k.region.root (ends_told t.way.all_starts (length w) k.region.end) x q) bit
-    (kept_reaches p.arena.expr w t.way.mirrored t.way.all_starts t.way.keeps k.region.root k.region.end q x (bits m (row_of t.leaves s)) (bits m (row_of t.ends s)) region.table.expr.arena region.room.mirrored region.room.keeps there region.inside live.1.1)
+    (kept_reaches p.arena.expr w t.way.mirrored t.way.all_starts t.way.keeps k.region.root k.region.end q x (bits m (row_of t.leaves s)) (bits m (row_of t.ends s)) region.table.expr.arena region.room.mirrored region.room.keeps there region.inside at.1)
 
--- where its state stands
-pub kept_row : (p : Prepared) (w : List ℕ) (t : Table) (k : Kept) (q : ℕ) → IsKept p w t k → k.region.from ≤ q → q < k.region.to →
-    (slice_index_or k.states.items q 0 < length t.ends) × (length p.arena.expr.nodes ≤ length (row_of t.ends (slice_index_or k.states.items q 0))) × (q < length k.states.items)
-kept_row p w t k q kept above before =
-    let region : IsRegion p w t k = kept.region in
+-- and its row there
+pub kept_row : (p : Prepared) (w : List ℕ) (t : Table) (k : Kept) (q s : ℕ) → IsKept p w t k → k.region.from ≤ q → q < k.region.to → s ≡ slice_index_or k.states.items q s →
+    (s < length t.ends) × (length p.arena.expr.nodes ≤ length (row_of t.ends s))
+kept_row p w t k q s kept above before read =
+    let room = kept.region.table.room in
+    let is = kept_read p w t k q s kept before read in
     let live = (kept.live q above before).0 in
-    let most = region.table.room.count in
-    let rows = region.table.room.ends in (
-      omega (arith, live, most, rows),
-      (let all = region.table.room.end_marks (slice_index_or k.states.items q 0) (omega (arith, live, most)) in let marks = region.table.room.marks in omega (arith, all, marks)),
-      (let h = region.within in let g = region.inside in let f = region.long in omega (arith, h, g, f, before)),
-    )
+    let low : s < t.room = (let most = room.count in omega (arith, live, most, is)) in
+    (omega (arith, low, room.ends), (let all = room.end_marks s low in let marks = room.marks in omega (arith, all, marks)))
 
 -- a mark that is as asked, and one that isn't
 pub as_asked : (A : Type 0) (mark asked : Bool) → beq mark asked ≡ true → (IsTrue mark ↔ A) → IsTrue asked ↔ A
 as_asked A true true same tells = tells
-as_asked A true false same tells = absurd (true≢false (sym same))
-as_asked A false true same tells = absurd (true≢false (sym same))
 as_asked A false false same tells = tells
+as_asked A mark asked same tells = absurd (true≢false (sym same))
 
 pub not_asked : (A : Type 0) (mark asked : Bool) → beq mark asked ≡ false → (IsTrue mark ↔ A) → IsTrue (not asked) ↔ A
-not_asked A true true other tells = absurd (true≢false other)
 not_asked A true false other tells = tells
 not_asked A false true other tells = tells
-not_asked A false false other tells = absurd (true≢false other)
+not_asked A mark asked other tells = absurd (true≢false other)
 
 -- a place more was passed
 pub marked_on : (nodes : List Node) (w : List ℕ) (r x : ℕ) (t : Starts) (asked : Bool) (from place : ℕ) → AllMarked nodes w r t x asked from place → (IsTrue asked ↔ ReachesEnd nodes w r t x place) → AllMarked nodes w r t x asked from (place + 1)
@@ -431,13 +450,13 @@ null_spans p w kind x place null inside begins ends is =
     subst (λ b. IsTrue b ↔ At p.arena.expr.nodes w x place place) (sym is) (null_tells false p.arena.expr kind w place (begins, ends) x inside)
 
 -- and before it
-pub mark_spans : (p : Prepared) (w : List ℕ) (t : Table) (k : Kept) (x q : ℕ) (mark : Bool) → IsKept p w t k → t.way.all_starts ≡ false → IsLastIn p.arena.expr.nodes k.region.root x → k.region.from ≤ q → q < k.region.to →
-    mark ≡ slice_index_or (row_of t.ends (slice_index_or k.states.items q 0)) x false → IsTrue mark ↔ At p.arena.expr.nodes w x q k.region.end
-mark_spans p w t k x q mark kept one last above before is =
+pub mark_spans : (p : Prepared) (w : List ℕ) (t : Table) (k : Kept) (x q s : ℕ) (mark : Bool) → IsKept p w t k → t.way.all_starts ≡ false → IsLastIn p.arena.expr.nodes k.region.root x → k.region.from ≤ q → q < k.region.to → s ≡ slice_index_or k.states.items q s →
+    mark ≡ slice_index_or (row_of t.ends s) x false → IsTrue mark ↔ At p.arena.expr.nodes w x q k.region.end
+mark_spans p w t k x q s mark kept one last above before read is =
     let arena = kept.region.table.expr.arena in
     let root = kept.region.root.0 in
     let up = last_inside p.arena.expr.nodes w k.region.root (one_start k.region.end) arena x last in
-    let tells : IsTrue mark ↔ ReachesEnd p.arena.expr.nodes w k.region.root (ends_told t.way.all_starts (length w) k.region.end) x q = kept_mark p w t k x q mark kept (omega (arith, root, up)) above before is in
+    let tells : IsTrue mark ↔ ReachesEnd p.arena.expr.nodes w k.region.root (ends_told t.way.all_starts (length w) k.region.end) x q = kept_mark p w t k x q s mark kept (omega (arith, root, up)) above before read is in
     let same : IsTrue mark ↔ ReachesEnd p.arena.expr.nodes w k.region.root (one_start k.region.end) x q =
     subst (λ b. IsTrue mark ↔ ReachesEnd p.arena.expr.nodes w k.region.root (ends_told b (length w) k.region.end) x q) one tells in
     let both = reaches_last p.arena.expr.nodes w k.region.root k.region.end x q arena last in

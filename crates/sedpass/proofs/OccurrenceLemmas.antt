@@ -1,14 +1,13 @@
 -- What the searches for all occurrences in one text find, and what they cost together.
-use Rattle.std.proofs.Common.{◌≡◌, ℕ, zero, suc, ◌+◌, ◌-◌, ◌*◌, ◌<◌, ◌≤◌, Bool, true, false, List, length, Option, Some, None, IfSome, sym, ap, ◌∙◌, subst, ⊎_elim, true≢false, arith, mul-le-mul_left}
+use Rattle.std.proofs.Common.{◌≡◌, ℕ, zero, suc, ◌+◌, ◌-◌, ◌*◌, ◌<◌, ◌≤◌, Bool, true, false, List, length, Option, Some, None, IfSome, sym, ap, ◌∙◌, subst, arith, mul-le-mul_left}
 use Rattle.std.specs.Prelude.{nat_lt, if◌then◌else◌}
-use Rattle.std.proofs.lemmas.Bool.{cases_lt}
 use Rattle.std.proofs.lemmas.Bool.Decides.{nat_tests}
 use Rattle.sedre.specs.Tree.{Tree}
 use Rattle.sedtext.specs.Answer.{SpanAnswer}
 use Rattle.sedtext.specs.Following.{LiesOn}
 use Rattle.sedtext.specs.Matching.{found, unless_null_at}
 use Rattle.sedtext.proofs.MatchingLemmas.{found-iff, not_found-iff}
-use Rattle.sedpass.specs.Occurrences.{further_cost, owed_behind}
+use Rattle.sedpass.specs.Occurrences.{owed_behind}
 use Rattle.sedpass.specs.Search.{owed_after, owed_kept, owed_search, search_cost}
 use Rattle.sedpass.specs.declared.search.Seeking.{Seeking}
 use Rattle.sedpass.proofs.OwedLemmas.{owed_falls}
@@ -25,17 +24,12 @@ pub answer_lies : (e : Tree) (w : List ℕ) (from : ℕ) (r : Option (ℕ × ℕ
 answer_lies e w from None is = tt
 answer_lies e w from (Some f) is = (is.0.after, is.2.0, is.2.1)
 
-pub answer_further : (e : Tree) (w : List ℕ) (at : ℕ) (r : Option (ℕ × ℕ)) → SpanAnswer e w (at + 1) r → IfSome r (λ f. (at < f.0) × (f.0 ≤ f.1) × (f.1 ≤ length w))
-answer_further e w at None is = tt
-answer_further e w at (Some f) is = let after = is.0.after in (omega (arith, after), is.2.0, is.2.1)
+-- one byte further on, where the text goes on, and where it doesn't
+pub further_found : (n at : ℕ) (x : Option (ℕ × ℕ)) → at < n → x ≡ (if nat_lt at n then x else None)
+further_found n at x on = grind (arith, nat_tests)
 
--- one byte further on, where the text goes on
-pub further_found : (n at : ℕ) (r x : Option (ℕ × ℕ)) → at < n → r ≡ x → r ≡ (if nat_lt at n then x else None)
-further_found n at r x on is = by (nat_lt at n) (let h : nat_lt at n ≡ true = grind (arith, nat_tests) in h)
-  where
-    by : (b : Bool) → b ≡ true → r ≡ (if b then x else None)
-    by true goes = is
-    by false goes = absurd (true≢false (sym goes))
+pub further_none : (n at : ℕ) (x : Option (ℕ × ℕ)) → n ≤ at → None ≡ (if nat_lt at n then x else None)
+further_none n at x end = grind (arith, nat_tests)
 
 -- the first match stands, or the other one, as the test says
 pub passed_by : (at : ℕ) (first sought other r : Option (ℕ × ℕ)) (b b' : Bool) → first ≡ sought → unless_null_at (λ (f : ℕ × ℕ). f) at first other ≡ (if b then other else first) → b ≡ b' →
@@ -47,9 +41,9 @@ pub lies_behind : (n at : ℕ) (r : Option (ℕ × ℕ)) → IfSome r (λ f. (at
 lies_behind n at None lies after = tt
 lies_behind n at (Some f) lies after = let high = after lies.0 lies.1 in (lies.1, lies.2, (lies.0, omega (arith, high)))
 
-pub lies_further : (n at : ℕ) (r : Option (ℕ × ℕ)) → IfSome r (λ f. (at < f.0) × (f.0 ≤ f.1) × (f.1 ≤ n)) → IfSome r (LiesOn n (Some at))
-lies_further n at None lies = tt
-lies_further n at (Some f) lies = let low = lies.0 in let on = lies.1 in (on, lies.2, (omega arith, omega arith))
+pub lies_further : (e : Tree) (w : List ℕ) (at : ℕ) (r : Option (ℕ × ℕ)) → SpanAnswer e w (at + 1) r → IfSome r (LiesOn (length w) (Some at))
+lies_further e w at None is = tt
+lies_further e w at (Some f) is = let low = is.0.after in let on = is.2.0 in (on, is.2.1, (omega arith, omega arith))
 
 -- What it costs.
 
@@ -122,27 +116,11 @@ both_inner : (k at : ℕ) → at ≤ k →
     (5 * (k + 1) + 142 * (k + 1 - at) + 40 * (k + 1 - at - 1) + 42) + (5 * (k + 1) + 142 * (k + 1 - (at + 1)) + 40 * (k + 1 - (at + 1) - 1) + 42) ≤ 64 * (k + 2) * (k + 2)
 both_inner k at low = let h = twice k in omega (arith, h)
 
-pub further : (m n at : ℕ) → at < n → further_cost m n at ≡ search_cost m n (at + 1)
-further m n at on = grind (arith, nat_tests)
-
-further_none : (m n at : ℕ) → n ≤ at → further_cost m n at ≡ 0
-further_none m n at end = grind (arith, nat_tests)
-
-pub both_square : (m n at : ℕ) → 1 ≤ m → at ≤ n → search_cost m n at + further_cost m n at ≤ 64 * m * m * (n + 1) * (n + 1)
-both_square m n at some low =
-    ⊎_elim
-    (λ (on : at < n).
+pub both_square : (m n at : ℕ) → 1 ≤ m → at < n → search_cost m n at + search_cost m n (at + 1) ≤ 64 * m * m * (n + 1) * (n + 1)
+both_square m n at some on =
     let k = n - 1 in
     let is : n ≡ k + 1 = omega arith in
     let inner = mul-le-mul_left m (both_inner k at (omega arith)) in
-    let two = further m n at on in
     let more = mul-le-mul_left (m * (64 * (k + 2) * (k + 2))) some in
     let all : search_cost m (k + 1) at + search_cost m (k + 1) (at + 1) ≤ 64 * m * m * (k + 1 + 1) * (k + 1 + 1) = omega (arith, inner, more) in
-    let whole : search_cost m n at + search_cost m n (at + 1) ≤ 64 * m * m * (n + 1) * (n + 1) =
-    subst (λ v. search_cost m v at + search_cost m v (at + 1) ≤ 64 * m * m * (v + 1) * (v + 1)) (sym is) all in
-    omega (arith, two, whole))
-    (λ (end : n ≤ at).
-    let one = one_square m n at some in
-    let none = further_none m n at end in
-    omega (arith, one, none))
-    (cases_lt at n)
+    subst (λ v. search_cost m v at + search_cost m v (at + 1) ≤ 64 * m * m * (v + 1) * (v + 1)) (sym is) all

@@ -49,13 +49,13 @@ again_some m zero some = absurd (omega arith)
 again_some m (suc d) some = refl
 
 -- a block up to another one, or up to the region's end
-again_inside : (m d e s t a : ℕ) → 1 ≤ d → 1 ≤ e → a ≤ s + 24 * m → t ≤ a + 35 * m * d → t + again m e ≤ s + again m (d + e)
+again_inside : (m d e s t a : ℕ) → 1 ≤ d → 1 ≤ e → a ≤ s + 20 * m → t ≤ a + 35 * m * d → t + again m e ≤ s + again m (d + e)
 again_inside m d e s t a some more first pass = omega (arith, first, pass, again_some m e more, again_some m (d + e) (omega arith), mul-le-mul_left (24 * m) some)
 
-again_last : (m d s t a : ℕ) → 1 ≤ d → a ≤ s + 37 * m → t ≤ a + 35 * m * d → t ≤ s + again m d
+again_last : (m d s t a : ℕ) → 1 ≤ d → a ≤ s + 33 * m → t ≤ a + 35 * m * d → t ≤ s + again m d
 again_last m d s t a some first pass = omega (arith, first, pass, again_some m d some, mul-le-mul_left (24 * m) some)
 
-pub again_cost : (m low to end s a t : ℕ) → low < to → to ≤ end → a ≤ s + 37 * m → (to < end → a ≤ s + 24 * m) → t + 35 * m * low ≤ a + 35 * m * to → t + again m (end - to) ≤ s + again m (end - low)
+pub again_cost : (m low to end s a t : ℕ) → low < to → to ≤ end → a ≤ s + 33 * m → (to < end → a ≤ s + 20 * m) → t + 35 * m * low ≤ a + 35 * m * to → t + again m (end - to) ≤ s + again m (end - low)
 again_cost m low to end s a t some within first inside pass =
     let d = to - low in
     let long : low + d ≡ to = omega arith in

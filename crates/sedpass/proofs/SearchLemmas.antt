@@ -9,18 +9,19 @@ use Rattle.sedpass.proofs.CountLemmas.{least_both, least_fewer, least_since}
 use Rattle.sedtext.specs.Answer.{SpanAnswer}
 use Rattle.sedtext.specs.declared.starts.Starts.{Starts}
 use Rattle.sedtext.specs.Reach.{At, one_start, IsLongestFrom, starts_to}
-use Rattle.sedtext.specs.Beginnings.{NoneIn}
+use Rattle.sedtext.specs.Beginnings.{AllBegin, NextStart, NoneIn}
+use Rattle.sedtext.specs.declared.beginnings.Begins.{Begins}
+use Rattle.sedpass.specs.Table.{IsAhead, IsTable, SameShape}
+use Rattle.sedpass.specs.declared.table.Table.{Table}
 use Rattle.sedtext.specs.Spans.{Matches, IsLeftmostLongest, NotFound}
 use Rattle.sedtext.proofs.SpanLemmas.{Matches-forward, Matches-within}
 use Rattle.sedpass.specs.Kept.{AllMarked, CeasesAt, ends_told}
 use Rattle.sedpass.specs.Regions.{all_of, ReachesEnd}
-use Rattle.sedpass.specs.Search.{LooksFrom, LooksInTrials, TrialsAnswer, owed_kept, owed_search, search_cost}
+use Rattle.sedpass.specs.Search.{LooksFrom, owed_kept, owed_search, search_cost}
 use Rattle.sedpass.specs.declared.kept.Region.{Region}
 use Rattle.sedpass.proofs.OwedLemmas.{owed_small}
 use Rattle.sedpass.specs.declared.search.Seeking.{Seeking}
 use Rattle.sedpass.specs.declared.nodes.Prepared.{Prepared}
-use Rattle.sedpass.specs.declared.search.Trials.{Trials}
-use Rattle.sedpass.specs.declared.search.Trials.TheVariants.{Nothing, Tired}
 use Rattle.sedpass.proofs.LeaveLemmas.{reaches_ends}
 use Rattle.sedpass.proofs.MeetingLemmas.{meets_whole}
 
@@ -305,13 +306,54 @@ hit_paid m from start here place end tried old s0 s1 s2 some low on up paid tria
     let most = mul-le-mul_left m few in
     omega (arith, most, paid, trial)
 
--- what trials answer that go no further than before a place
-pub tired_answer : (e : WrittenExpression) (w : List ℕ) (from k : ℕ) (r : Trials) → from < k → NoneIn (expression_tree e) w from k → (k ≤ length w → r ≡ Tired k) × (length w < k → r ≡ Nothing) → TrialsAnswer (expression_tree e) w from r
-tired_answer e w from k r low none is =
-    ⊎_elim
-    (λ (late : length w < k). subst (TrialsAnswer (expression_tree e) w from) (sym (is.1 late)) (none_later e w from k none late))
-    (λ (within : k ≤ length w). subst (TrialsAnswer (expression_tree e) w from) (sym (is.0 within)) (low, within, none))
-    (cases_lt (length w) k)
+-- a trial is paid: a search for where it begins, and a pass
+pub trial_cost : (m from start place s0 s1 s2 : ℕ) → start ≤ place → s1 + from ≤ s0 + (start + 1) → s2 + 40 * m * start ≤ s1 + 40 * m * (place + 1) → s2 + from ≤ s0 + (start + 1 + 40 * m * (place + 1 - start))
+trial_cost m from start place s0 s1 s2 low first pass =
+    let d = place + 1 - start in
+    let is : place + 1 ≡ start + d = omega arith in
+    let all : 40 * m * (place + 1) ≡ 40 * m * (start + d) = ap (λ x. 40 * m * x) is in
+    omega (arith, all, first, pass)
+
+-- no match begins from the place on before the trial's, and it tells the longest one from there
+pub record IsTrial (e : Tree) (w : List ℕ) (from start place : ℕ) (end : Option ℕ) : Type 0 where
+  pub after : from ≤ start
+  pub passed : start ≤ place
+  pub within : place ≤ length w
+  pub reached : IfSome end (λ j. j ≤ place)
+  pub none : NoneIn e w from start
+  pub longest : IsLongestFrom e w start end
+
+-- so it is where the first place is tried at which one can begin
+pub trial_is : (e : Tree) (w v : List ℕ) (begins : Begins) (from start place : ℕ) (end : Option ℕ) → v ≡ w → AllBegin e begins → NextStart begins w from (Some start) → start ≤ place → place ≤ length v →
+    IfSome end (λ j. j ≤ place) → IsLongestFrom e v start end → IsTrial e w from start place end
+trial_is e w v begins from start place end same all next passed within reached longest = record {
+  after = next.0;
+  passed = passed;
+  within = subst (λ x. place ≤ length x) same within;
+  reached = reached;
+  none = λ i k low high span. next.2 i low high (all w i k span);
+  longest = subst (λ x. IsLongestFrom e x start end) same longest;
+}
+
+-- where none can begin any more none is found
+pub none_further : (e : Tree) (w : List ℕ) (begins : Begins) (from p : ℕ) → AllBegin e begins → NoneIn e w from p → NextStart begins w p None → NotFound e w from
+none_further e w begins from p all none next i k low high span =
+    elim (cases_lt i p) [ inl before ↦ none i k low before span | inr at ↦ next i at high (all w i k span) ]
+
+-- looks of trials, and of one more, up to a place
+pub looks_tried : (from start here place s a b c : ℕ) → TakesAtLeast s a (start - from) → TakesAtLeast a b (here - start) → TakesAtLeast b c (2 * (place - here) + 1) → (n : ℕ) → n ≤ start - from + (here - start + 2 * (place - here) + 1) →
+    TakesAtLeast s c n
+looks_tried from start here place s a b c before first pass n low =
+    least_both s a c (start - from) (here - start + 2 * (place - here) + 1) n before (least_both a b c (here - start) (2 * (place - here) + 1) (here - start + 2 * (place - here) + 1) first pass (omega arith)) low
+
+-- a table of passes ahead is one still
+pub ahead_still : (p : Prepared) (a b : Table) → IsAhead p a → IsTable p b → SameShape a b → IsAhead p b
+ahead_still p a b is table shape = record {
+  table = table;
+  forwards = ap (λ v. v.mirrored) shape.0 ∙ is.forwards;
+  single = ap (λ v. v.all_starts) shape.0 ∙ is.single;
+  brief = ap (λ v. v.keeps) shape.0 ∙ is.brief;
+}
 
 -- the match from a place on, where none begins before another
 pub later_answer : (e : Tree) (w : List ℕ) (from k : ℕ) (r : Option (ℕ × ℕ)) → from ≤ k → NoneIn e w from k → SpanAnswer e w k r → SpanAnswer e w from r
@@ -335,11 +377,6 @@ later_answer e w from k (Some f) low none is =
 -- what searches by trials may still take
 pub unbegun : (m n : ℕ) (s : Seeking) (place : ℕ) → s.begun ≡ false → owed_search m n s place ≡ 40 * m * (2 * n + 1 - s.tried) + 142 * m * (n - place)
 unbegun m n s place is = ap (λ b. if b then owed_kept m n s.kept.region place else 40 * m * (2 * n + 1 - s.tried) + 142 * m * (n - place)) is
-
--- looks of trials up to the place where they ended
-pub looks_tired : (from k n s a : ℕ) (r : Trials) → TakesAtLeast s a (k - from) → (k ≤ n → r ≡ Tired k) × (n < k → r ≡ Nothing) → LooksInTrials from s a r
-looks_tired from k n s a r looks is =
-    elim (cases_lt n k) [ inl late ↦ subst (LooksInTrials from s a) (sym (is.1 late)) tt | inr within ↦ subst (LooksInTrials from s a) (sym (is.0 within)) looks ]
 
 -- looks up to a later place count too
 pub looks_later : (from k s a b : ℕ) (r : Option (ℕ × ℕ)) → TakesAtLeast s a (k - from) → LooksFrom k a b r → LooksFrom from s b r

@@ -1,7 +1,8 @@
 -- Tables of states.
-use Rattle.std.proofs.Common.{◌≡◌, ◌≢◌, ℕ, zero, suc, ◌+◌, ◌*◌, ◌/◌, ◌%◌, ◌^◌, ◌<◌, ◌≤◌, ◌↔◌, Bool, true, false, ◌||◌, List, length, Option, Some, None, IsTrue, refl, sym, ap, ◌∙◌, subst, ⊎_elim, arith, mul-le-mul_left}
+use Rattle.std.proofs.Common.{◌≡◌, ◌≢◌, ℕ, zero, suc, ◌+◌, ◌*◌, ◌/◌, ◌%◌, ◌^◌, ◌<◌, ◌≤◌, ◌↔◌, Bool, true, false, ◌||◌, List, length, length-set, Option, Some, None, IsTrue, refl, sym, ap, ◌∙◌, subst, ⊎_elim, arith, mul-le-mul_left}
 use Rattle.std.proofs.lemmas.Nat.{same_from_place}
 use Rattle.std.specs.Prelude.{slice_index_or, slice_set, eqb, replicate}
+use Rattle.std.specs.Vec.{with_item}
 use Rattle.std.proofs.Math.Nat.{pow-le-pow_right}
 use Rattle.std.proofs.lemmas.Bool.{cases_eq}
 use Rattle.std.proofs.lemmas.List.{get_or-set_same, get_or-set_other}
@@ -16,12 +17,14 @@ use Rattle.sedtext.specs.Words.{AgreeBelow, row_of}
 use Rattle.sedpass.specs.Prepared.{SameNulls}
 use Rattle.sedpass.specs.Rows.{nodes_of, at_begin, at_end, bits, SameBytes, LeadsTo, IsFirstRow}
 use Rattle.sedpass.specs.Cells.{stops, code_of, ColumnAt, EdgeApart, EdgeFits, IsLayout, IsColumn}
-use Rattle.sedpass.specs.Table.{State, state_of, IsTold, HasRow, LeadsOn, BeginsIn, Names, IsOffset, cell_of, LeadsBy, kind_number, beginning_at, beginning_of, MayBegin, HasRoom, IsRoomy, IsTable, SameRoom, SameShape, AddsStates}
+use Rattle.sedpass.specs.Table.{State, state_of, IsTold, HasRow, HasMarks, LeadsOn, BeginsIn, Names, IsNext, IsOffset, cell_of, LeadsBy, kind_number, beginning_at, beginning_of, MayBegin, HasRoom, IsRoomy, IsTable, SameRoom, SameShape, AddsStates, Codes}
 use Rattle.sedpass.specs.declared.cells.Flags.{Flags}
 use Rattle.sedpass.specs.declared.cells.Layout.{Layout}
 use Rattle.sedpass.specs.declared.nodes.Kind.{Kind}
 use Rattle.sedpass.specs.declared.nodes.Prepared.{Prepared}
 use Rattle.sedpass.specs.declared.rows.Way.{Way}
+use Rattle.sedpass.specs.declared.rows.Work.{Work}
+use Rattle.sedtext.proofs.MarkLemmas.{default_same}
 use Rattle.sedpass.specs.declared.table.Beginning.{Beginning}
 use Rattle.sedpass.specs.declared.table.Table.{Table}
 use Rattle.sedpass.proofs.LeaveLemmas.{twice}
@@ -110,21 +113,18 @@ end_in n = eqb n 2 || eqb n 3
 
 begin_is : (a b : Bool) → begin_in (kind_number a b) ≡ a
 begin_is false false = refl
-begin_is false true = refl
 begin_is true false = refl
-begin_is true true = refl
+begin_is begin end = refl
 
 end_is : (a b : Bool) → end_in (kind_number a b) ≡ b
 end_is false false = refl
-end_is false true = refl
 end_is true false = refl
-end_is true true = refl
+end_is begin end = refl
 
 pub few_kinds : (a b : Bool) → kind_number a b < 4
 few_kinds false false = omega arith
-few_kinds false true = omega arith
 few_kinds true false = omega arith
-few_kinds true true = omega arith
+few_kinds begin end = omega arith
 
 kind_same : (one other : Kind) → kind_number one.begin one.end ≡ kind_number other.begin other.end → one ≡ other
 kind_same one other e =
@@ -148,6 +148,9 @@ code_by way a shift q = code_of (stops way a.flags) (q * 2 ^ shift)
 pub names_map : (m : ℕ) (t : Table) (P Q : State → Type 0) (v : ℕ) → ((a : State) → P a → Q a) → Names m t P v → Names m t Q v
 names_map m t P Q v up n = record { to = n.to; there = n.there; code = n.code; is = up (state_of m t n.to) n.is }
 
+pub codes_map : (p : Prepared) (t t' : Table) (P Q : State → Type 0) (v : ℕ) → ((a : State) → P a → Q a) → Codes p t t' P v → Codes p t t' Q v
+codes_map p t t' P Q v up c = record { table = c.table; adds = c.adds; names = names_map (length p.arena.expr.nodes) t' P Q v up c.names }
+
 module _ (p : Prepared) (t t' : Table) (adds : AddsStates (length p.arena.expr.nodes) t t') (epoch : t'.epoch ≡ t.epoch) where
   abbrev m : ℕ
   m = length p.arena.expr.nodes
@@ -162,6 +165,9 @@ module _ (p : Prepared) (t t' : Table) (adds : AddsStates (length p.arena.expr.n
         ∙ ap (λ a. code_by t'.way a t'.layout.shift n.to) (sym (adds.kept epoch n.to n.there));
     is = subst P (sym (adds.kept epoch n.to n.there)) n.is;
   }
+
+  pub offset_more : (o : ℕ) → IsOffset t o → IsOffset t' o
+  offset_more o at = let up = (adds.grows epoch).0 in let low = at.0 in rw adds.shape.2 (omega arith, at.1)
 
   -- a state of the old table is one of the new table
   pub names_moved : (Q : Way → State → State → Type 0) (o v : ℕ) → o / 2 ^ t.layout.shift < t.count → Names m t' (Q t.way (state_of m t (o / 2 ^ t.layout.shift))) v → Names m t' (Q t'.way (state_of m t' (o / 2 ^ t'.layout.shift))) v
@@ -179,24 +185,18 @@ module _ (p : Prepared) (t t' : Table) (adds : AddsStates (length p.arena.expr.n
   filled_more : (q k v : ℕ) → q < t.count → Names m t (LeadsBy p t q k) v → Names m t' (LeadsBy p t' q k) v
   filled_more q k v there n = names_map m t' (LeadsBy p t q k) (LeadsBy p t' q k) v (leads_more q k there) (names_more (LeadsBy p t q k) v n)
 
-  entry_same : t'.beginnings ≡ t.beginnings → (i : ℕ) → beginning_of t' i ≡ beginning_of t i
-  entry_same same i = ap (λ b. slice_index_or {A = Beginning} b.items i (record { epoch = 0; code = 0 })) same
-
   abbrev Begun : Table → Way → ℕ → Kind → Type 0
   Begun u way root kind = MayBegin p way root → (beginning_of u (beginning_at way.all_starts root kind)).epoch ≡ u.epoch →
       Names m u (BeginsIn (nodes_of way p.arena.expr) way root kind) (beginning_of u (beginning_at way.all_starts root kind)).code
 
-  begun_at : (root : ℕ) (kind : Kind) → beginning_of t' (beginning_at t.way.all_starts root kind) ≡ beginning_of t (beginning_at t.way.all_starts root kind) → Begun t t.way root kind → Begun t' t.way root kind
-  begun_at root kind entry begun may is =
-      let i = beginning_at t.way.all_starts root kind in
-      subst (λ (b : Beginning). Names m t' (BeginsIn (nodes_of t.way p.arena.expr) t.way root kind) b.code) (sym entry)
-      (names_more (BeginsIn (nodes_of t.way p.arena.expr) t.way root kind) (beginning_of t i).code
-      (begun may (sym (ap (λ (b : Beginning). b.epoch) entry) ∙ is ∙ epoch)))
-
   begun_more : (root : ℕ) (kind : Kind) → t'.beginnings ≡ t.beginnings → Begun t t.way root kind → Begun t' t'.way root kind
   begun_more root kind same begun =
-      subst (λ w. Begun t' w root kind) (sym adds.shape.0)
-      (begun_at root kind (entry_same same (beginning_at t.way.all_starts root kind)) begun)
+      let i = beginning_at t.way.all_starts root kind in
+      let entry : beginning_of t' i ≡ beginning_of t i = ap (λ b. slice_index_or {A = Beginning} b.items i (record { epoch = 0; code = 0 })) same in
+      subst (λ w. Begun t' w root kind) (sym adds.shape.0) (λ may is.
+      subst (λ (b : Beginning). Names m t' (BeginsIn (nodes_of t.way p.arena.expr) t.way root kind) b.code) (sym entry)
+      (names_more (BeginsIn (nodes_of t.way p.arena.expr) t.way root kind) (beginning_of t i).code
+      (begun may (sym (ap (λ (b : Beginning). b.epoch) entry) ∙ is ∙ epoch))))
 
   -- one more state, from which nothing is known yet
   pub one_more : IsTable p t → HasRoom m t' → t'.count ≡ t.count + 1 → t'.beginnings ≡ t.beginnings →
@@ -226,87 +226,6 @@ module _ (p : Prepared) (t t' : Table) (adds : AddsStates (length p.arena.expr.n
     begun = λ root kind. begun_more root kind begins (table.begun root kind);
   }
 
-  -- one more cell is filled
-  pub note_cell : IsTable p t → HasRoom m t' → t'.count ≡ t.count → t'.beginnings ≡ t.beginnings → (q k v byte : ℕ) (edge : Bool) →
-      q < t.count → byte < 256 → IsColumn t.layout byte edge k → t'.cells.items ≡ slice_set t.cells.items (q * 2 ^ t.layout.shift + k) v →
-      Names m t (LeadsOn (nodes_of t.way p.arena.expr) t.way (state_of m t q) byte edge) v →
-      (SameNulls p.arena.expr.nodes → Names m t (λ b. (end : Bool) → LeadsOn (nodes_of t.way p.arena.expr) t.way (state_of m t q) byte end b) v) →
-      IsTable p t'
-  note_cell table room count begins q k v byte edge there small column cells leads anywhere =
-      let size = 2 ^ t.layout.shift in
-      let wide = table.layout.fits in
-      let class = slice_index_or t.layout.classes byte 0 in
-      let narrow : k < t.layout.width = column_below t.layout.columns t.layout.width class k edge t.layout.edge table.layout.columns table.layout.edge column.0 column.1 in
-      let inside : q * size + k < length t.cells.items = cell_inside size q k t.count t.layout.width (length t.cells.items) there narrow wide table.room.cells in
-      let here : Names m t (LeadsBy p t q k) v =
-      ⊎_elim
-      (λ (within : (t.layout.edge ≡ Some 0) × SameNulls p.arena.expr.nodes).
-      names_map m t (λ b. (end : Bool) → LeadsOn (nodes_of t.way p.arena.expr) t.way (state_of m t q) byte end b) (LeadsBy p t q k) v
-      (λ b on o end low at.
-      let one = sym (column_within (slice_index_or t.layout.classes o 0) k end t.layout.edge within.0 at.1) ∙ column_within class k edge t.layout.edge within.0 column.1 in
-      leads_same p.arena.expr t.way (state_of m t q) b byte o end (table.layout.classes o byte low small one) (on end)) (anywhere within.1))
-      (λ (apart : EdgeApart t.layout.columns t.layout.edge).
-      names_map m t (LeadsOn (nodes_of t.way p.arena.expr) t.way (state_of m t q) byte edge) (LeadsBy p t q k) v
-      (λ b on o end low at.
-      let one = column_apart t.layout.columns class (slice_index_or t.layout.classes o 0) k edge end t.layout.edge apart column.0 at.0 column.1 at.1 in
-      leads_same p.arena.expr t.way (state_of m t q) b byte o end (table.layout.classes o byte low small one.0)
-      (subst (λ x. LeadsOn (nodes_of t.way p.arena.expr) t.way (state_of m t q) byte x b) (sym one.1) on)) leads)
-      table.layout.apart in
-      record {
-        expr = table.expr;
-        room = room;
-        layout = subst (λ l. IsLayout p.arena.expr.nodes l) (sym adds.shape.2) table.layout;
-        roots = λ x low. let less : x < t.count = omega arith in subst (λ (a : State). a.root < m) (sym (adds.kept epoch x less)) (table.roots x less);
-        told = λ x low. let less : x < t.count = omega arith in subst (λ (a : State). IsTold a) (sym (adds.kept epoch x less)) (table.told x less);
-        filled = λ x j low col some.
-            let less : x < t.count = omega arith in
-            let near : j < t.layout.width = subst (λ (l : Layout). j < l.width) adds.shape.2 col in
-            let place : cell_of t' x j ≡ slice_index_or t'.cells.items (x * size + j) 0 = ap (λ (l : Layout). slice_index_or t'.cells.items (x * 2 ^ l.shift + j) 0) adds.shape.2 in
-            ⊎_elim
-            (λ (e : x * size + j ≡ q * size + k).
-            let at = same_from_place x j q k size (omega arith) (omega arith) e in
-            let value : cell_of t' x j ≡ v = place ∙ ap (λ n. slice_index_or t'.cells.items n 0) e ∙ ap (λ l. slice_index_or l (q * size + k) 0) cells ∙ get_or-set_same t.cells.items (q * size + k) v 0 inside in
-            rw (value, at.1, at.0) (filled_more q k v there here))
-            (λ (ne : x * size + j ≢ q * size + k).
-            let same : cell_of t' x j ≡ cell_of t x j = place ∙ ap (λ l. slice_index_or l (x * size + j) 0) cells ∙ get_or-set_other t.cells.items (q * size + k) (x * size + j) v 0 ne in
-            subst (λ n. Names m t' (LeadsBy p t' x j) n) (sym same) (filled_more x j (cell_of t x j) less (table.filled x j less near (subst (λ n. 0 < n) same some))))
-            (cases_eq (x * size + j) (q * size + k));
-        begun = λ root kind. begun_more root kind begins (table.begun root kind);
-      }
-
-  -- one more beginning is noted
-  pub note_beginning : IsTable p t → HasRoom m t' → t'.count ≡ t.count → t'.cells ≡ t.cells → (root code : ℕ) (kind : Kind) →
-      t'.beginnings.items ≡ slice_set t.beginnings.items (beginning_at t.way.all_starts root kind) (record { epoch = t.epoch; code = code }) →
-      MayBegin p t.way root → Names m t (BeginsIn (nodes_of t.way p.arena.expr) t.way root kind) code → IsTable p t'
-  note_beginning table room count cells root code kind is may begins =
-      let none : Beginning = record { epoch = 0; code = 0 } in
-      let fresh : Beginning = record { epoch = t.epoch; code = code } in
-      let at = beginning_at t.way.all_starts root kind in
-      let inside : at < length t.beginnings.items = table.room.begins root kind (let low = may.0 in let most = table.room.marks in omega (arith, low, most)) in
-      let here : beginning_of t' at ≡ fresh = ap (λ l. slice_index_or l at none) is ∙ get_or-set_same t.beginnings.items at fresh none inside in
-      let apart : (i : ℕ) → i ≢ at → beginning_of t' i ≡ beginning_of t i = (λ i ne. ap (λ l. slice_index_or l i none) is ∙ get_or-set_other t.beginnings.items at i fresh none ne) in
-      record {
-        expr = table.expr;
-        room = room;
-        layout = subst (λ l. IsLayout p.arena.expr.nodes l) (sym adds.shape.2) table.layout;
-        roots = λ q low. let less : q < t.count = omega arith in subst (λ (a : State). a.root < m) (sym (adds.kept epoch q less)) (table.roots q less);
-        told = λ q low. let less : q < t.count = omega arith in subst (λ (a : State). IsTold a) (sym (adds.kept epoch q less)) (table.told q less);
-        filled = λ q k low col some.
-            let less : q < t.count = omega arith in
-            let near : k < t.layout.width = subst (λ (l : Layout). k < l.width) adds.shape.2 col in
-            let same : cell_of t' q k ≡ cell_of t q k =
-            ap (λ (l : Layout). slice_index_or t'.cells.items (q * 2 ^ l.shift + k) 0) adds.shape.2 ∙ ap (λ c. slice_index_or c.items (q * 2 ^ t.layout.shift + k) 0) cells in
-            subst (λ v. Names m t' (LeadsBy p t' q k) v) (sym same) (filled_more q k (cell_of t q k) less (table.filled q k less near (subst (λ v. 0 < v) same some)));
-        begun = λ x other. subst (λ w. Begun t' w x other) (sym adds.shape.0) (λ may' now.
-            let i = beginning_at t.way.all_starts x other in
-            ⊎_elim
-            (λ (e : i ≡ at).
-            let one = begin_apart t.way.all_starts p.root x root other kind may'.1 may.1 e in
-            rw ((ap (λ n. (beginning_of t' n).code) e ∙ ap (λ (b : Beginning). b.code) here), one.0, one.1) (names_more (BeginsIn (nodes_of t.way p.arena.expr) t.way root kind) code begins))
-            (λ (ne : i ≢ at). begun_at x other (apart i ne) (table.begun x other) may' now)
-            (cases_eq i at));
-      }
-
 -- the epochs of all beginnings are as asked, where one more is noted
 pub noted_all : (P : ℕ → Type 0) (items : List Beginning) (at epoch code : ℕ) → at < length items → P epoch → ((i : ℕ) → P (slice_index_or items i (record { epoch = 0; code = 0 })).epoch) →
     (i : ℕ) → P (slice_index_or (slice_set items at (record { epoch = epoch; code = code })) i (record { epoch = 0; code = 0 })).epoch
@@ -317,6 +236,125 @@ noted_all P items at epoch code inside here all i =
     (λ (e : i ≡ at). subst (λ (b : Beginning). P b.epoch) (sym (ap (λ x. slice_index_or (slice_set items at fresh) x none) e ∙ get_or-set_same items at fresh none inside)) here)
     (λ (ne : i ≢ at). subst (λ (b : Beginning). P b.epoch) (sym (get_or-set_other items at i fresh none ne)) (all i))
     (cases_eq i at)
+
+-- one more cell is filled
+pub note_cell : (p : Prepared) (t : Table) → IsTable p t → (offset k v byte : ℕ) (edge : Bool) → IsOffset t offset → byte < 256 → IsColumn t.layout byte edge k → Names (length p.arena.expr.nodes) t (IsNext p t offset byte edge) v →
+    (SameNulls p.arena.expr.nodes → Names (length p.arena.expr.nodes) t (λ b. (end : Bool) → IsNext p t offset byte end b) v) → IsTable p (record t { cells = with_item t.cells (offset + k) v })
+note_cell p t table offset k v byte edge there small column leads anywhere =
+    let m = length p.arena.expr.nodes in
+    let N : Table = record t { cells = with_item t.cells (offset + k) v } in
+    let old = table.room in
+    let size = 2 ^ t.layout.shift in
+    let wide = table.layout.fits in
+    let q = offset / size in
+    let low = there.0 in
+    let is = there.1 in
+    let class = slice_index_or t.layout.classes byte 0 in
+    let narrow : k < t.layout.width = column_below t.layout.columns t.layout.width class k edge t.layout.edge table.layout.columns table.layout.edge column.0 column.1 in
+    let inside : offset + k < length t.cells.items = (let h = cell_inside size q k t.count t.layout.width (length t.cells.items) low narrow wide old.cells in omega (arith, h, is)) in
+    let room : HasRoom m N = record {
+      count = old.count;
+      some = old.some;
+      few = old.few;
+      marks = old.marks;
+      leaves = old.leaves;
+      ends = old.ends;
+      leaf_marks = old.leaf_marks;
+      end_marks = old.end_marks;
+      roots = old.roots;
+      flags = old.flags;
+      cells = omega (arith, length-set t.cells.items (offset + k) v, old.cells);
+      reserved = old.reserved;
+      capacity = old.capacity;
+      index = old.index;
+      begins = old.begins;
+      past = old.past;
+      early = old.early;
+    } in
+    let here : Names m t (LeadsBy p t q k) v =
+    ⊎_elim
+    (λ (within : (t.layout.edge ≡ Some 0) × SameNulls p.arena.expr.nodes).
+    names_map m t (λ b. (end : Bool) → IsNext p t offset byte end b) (LeadsBy p t q k) v
+    (λ b on o end few at.
+    let one = sym (column_within (slice_index_or t.layout.classes o 0) k end t.layout.edge within.0 at.1) ∙ column_within class k edge t.layout.edge within.0 column.1 in
+    leads_same p.arena.expr t.way (state_of m t q) b byte o end (table.layout.classes o byte few small one) (on end)) (anywhere within.1))
+    (λ (apart : EdgeApart t.layout.columns t.layout.edge).
+    names_map m t (IsNext p t offset byte edge) (LeadsBy p t q k) v
+    (λ b on o end few at.
+    let one = column_apart t.layout.columns class (slice_index_or t.layout.classes o 0) k edge end t.layout.edge apart column.0 at.0 column.1 at.1 in
+    leads_same p.arena.expr t.way (state_of m t q) b byte o end (table.layout.classes o byte few small one.0) (subst (λ x. IsNext p t offset byte x b) (sym one.1) on)) leads)
+    table.layout.apart in
+    let same_names : (P : State → Type 0) (x : ℕ) → Names m t P x → Names m N P x = λ P x n. record { to = n.to; there = n.there; code = n.code; is = n.is } in
+    record {
+      expr = table.expr;
+      room = room;
+      layout = table.layout;
+      roots = table.roots;
+      told = table.told;
+      filled = λ x j less near some.
+          ⊎_elim
+          (λ (e : x * size + j ≡ offset + k).
+          let at = same_from_place x j q k size (omega arith) (omega arith) (omega (arith, e, is)) in
+          let value : cell_of N x j ≡ v = ap (λ n. slice_index_or N.cells.items n 0) e ∙ get_or-set_same t.cells.items (offset + k) v 0 inside in
+          rw (value, at.1, at.0) (same_names (LeadsBy p t q k) v here))
+          (λ (ne : x * size + j ≢ offset + k).
+          let same : cell_of N x j ≡ cell_of t x j = get_or-set_other t.cells.items (offset + k) (x * size + j) v 0 ne in
+          subst (λ n. Names m N (LeadsBy p N x j) n) (sym same) (same_names (LeadsBy p t x j) (cell_of t x j) (table.filled x j less near (subst (λ n. 0 < n) same some))))
+          (cases_eq (x * size + j) (offset + k));
+      begun = λ root kind may now. same_names (BeginsIn (nodes_of t.way p.arena.expr) t.way root kind) (beginning_of t (beginning_at t.way.all_starts root kind)).code (table.begun root kind may now);
+    }
+
+-- one more beginning is noted
+pub note_beginning : (p : Prepared) (t : Table) → IsTable p t → (root code : ℕ) (kind : Kind) → MayBegin p t.way root → t.epoch < 4294967294 → Names (length p.arena.expr.nodes) t (BeginsIn (nodes_of t.way p.arena.expr) t.way root kind) code →
+    IsTable p (record t { beginnings = with_item t.beginnings (beginning_at t.way.all_starts root kind) (record { epoch = t.epoch; code = code }) })
+note_beginning p t table root code kind may epoch begins =
+    let m = length p.arena.expr.nodes in
+    let none : Beginning = record { epoch = 0; code = 0 } in
+    let fresh : Beginning = record { epoch = t.epoch; code = code } in
+    let at = beginning_at t.way.all_starts root kind in
+    let N : Table = record t { beginnings = with_item t.beginnings at fresh } in
+    let old = table.room in
+    let inside : at < length t.beginnings.items = old.begins root kind (let low = may.0 in let most = old.marks in omega (arith, low, most)) in
+    let room : HasRoom m N = record {
+      count = old.count;
+      some = old.some;
+      few = old.few;
+      marks = old.marks;
+      leaves = old.leaves;
+      ends = old.ends;
+      leaf_marks = old.leaf_marks;
+      end_marks = old.end_marks;
+      roots = old.roots;
+      flags = old.flags;
+      cells = old.cells;
+      reserved = old.reserved;
+      capacity = old.capacity;
+      index = old.index;
+      begins = λ x other low. omega (arith, length-set t.beginnings.items at fresh, old.begins x other low);
+      past = noted_all (λ n. n ≤ t.epoch) t.beginnings.items at t.epoch code inside (omega arith) old.past;
+      early = noted_all (λ n. n < 4294967294) t.beginnings.items at t.epoch code inside (omega (arith, epoch)) old.early;
+    } in
+    let same_names : (P : State → Type 0) (x : ℕ) → Names m t P x → Names m N P x = λ P x n. record { to = n.to; there = n.there; code = n.code; is = n.is } in
+    record {
+      expr = table.expr;
+      room = room;
+      layout = table.layout;
+      roots = table.roots;
+      told = table.told;
+      filled = λ q k low near some. same_names (LeadsBy p t q k) (cell_of t q k) (table.filled q k low near some);
+      begun = λ x other may' now.
+          let i = beginning_at t.way.all_starts x other in
+          ⊎_elim
+          (λ (e : i ≡ at).
+          let one = begin_apart t.way.all_starts p.root x root other kind may'.1 may.1 e in
+          let here : beginning_of N i ≡ fresh = ap (beginning_of N) e ∙ get_or-set_same t.beginnings.items at fresh none inside in
+          rw (ap (λ (b : Beginning). b.code) here, one.0, one.1) (same_names (BeginsIn (nodes_of t.way p.arena.expr) t.way root kind) code begins))
+          (λ (ne : i ≢ at).
+          let same : beginning_of N i ≡ beginning_of t i = get_or-set_other t.beginnings.items at i fresh none ne in
+          subst (λ (b : Beginning). Names m N (BeginsIn (nodes_of t.way p.arena.expr) t.way x other) b.code) (sym same)
+          (same_names (BeginsIn (nodes_of t.way p.arena.expr) t.way x other) (beginning_of t i).code (table.begun x other may' (sym (ap (λ (b : Beginning). b.epoch) same) ∙ now))))
+          (cases_eq i at);
+    }
 
 -- a table without states
 pub no_states : (p : Prepared) (t : Table) → IsExpr p.arena.expr.nodes p.arena.expr.groups → HasRoom (length p.arena.expr.nodes) t → IsLayout p.arena.expr.nodes t.layout → t.count ≡ 0 →
@@ -330,6 +368,32 @@ no_states p t expr room layout none past = record {
   filled = λ q k low col some. absurd (omega arith);
   begun = λ root kind may now. let before = past (beginning_at t.way.all_starts root kind) in absurd (omega (arith, before, now));
 }
+
+-- one that forgot all its states, in an epoch that no beginning has
+pub emptied : (p : Prepared) (t : Table) (epoch : ℕ) → IsExpr p.arena.expr.nodes p.arena.expr.groups → HasRoom (length p.arena.expr.nodes) t → IsLayout p.arena.expr.nodes t.layout →
+    ((noted : ℕ) → noted ≤ t.epoch → noted < 4294967294 → noted < epoch) → IsTable p (record t { count = 0; epoch = epoch })
+emptied p t epoch expr room layout later =
+    let past : (i : ℕ) → (beginning_of t i).epoch < epoch = λ i. later (beginning_of t i).epoch (room.past i) (room.early i) in
+    let empty : HasRoom (length p.arena.expr.nodes) (record t { count = 0; epoch = epoch }) = record {
+      count = omega arith;
+      some = room.some;
+      few = room.few;
+      marks = room.marks;
+      leaves = room.leaves;
+      ends = room.ends;
+      leaf_marks = room.leaf_marks;
+      end_marks = room.end_marks;
+      roots = room.roots;
+      flags = room.flags;
+      cells = omega arith;
+      reserved = room.reserved;
+      capacity = room.capacity;
+      index = room.index;
+      begins = room.begins;
+      past = λ i. let h = past i in omega (arith, h);
+      early = room.early;
+    } in
+    no_states p (record t { count = 0; epoch = epoch }) expr empty layout refl past
 
 -- the same states
 pub adds_same : (m : ℕ) (t t' : Table) → SameShape t t' → t'.epoch ≡ t.epoch → t'.count ≡ t.count → ((q : ℕ) → state_of m t' q ≡ state_of m t q) → AddsStates m t t'
@@ -375,25 +439,35 @@ module _ (m : ℕ) (t t' : Table) (root : ℕ) (leaves ends : List Bool) (flags 
   }
 
 -- the next state, as it was added to the table or found there
-module _ (p : Prepared) (t u : Table) (way : Way) (q root byte v : ℕ) (loaded leaves ends : List Bool) (same_root : root ≡ (state_of (length p.arena.expr.nodes) t q).root) (same : AgreeBelow (length p.arena.expr.nodes) loaded (row_of t.leaves q))
-    (n : Names (length p.arena.expr.nodes) u (HasRow root (bits (length p.arena.expr.nodes) leaves) (bits (length p.arena.expr.nodes) ends)) v) where
+module _ (p : Prepared) (t u : Table) (table : IsTable p t) (offset : ℕ) (there : IsOffset t offset) (state n root byte v : ℕ) (loaded : List Bool) (work : Work) (at : state ≡ offset / 2 ^ t.layout.shift) (nodes : n ≡ length p.arena.expr.nodes)
+    (root_is : root ≡ slice_index_or t.roots.items state root) (row : AgreeBelow n loaded (row_of t.leaves state)) (names : Names (length p.arena.expr.nodes) u (HasMarks p root work) v) where
+  abbrev here : State
+  here = state_of (length p.arena.expr.nodes) t (offset / 2 ^ t.layout.shift)
+
+  same_root : root ≡ here.root
+  same_root =
+      let inside : offset / 2 ^ t.layout.shift < length t.roots.items = omega (arith, there.0, table.room.count, table.room.roots) in
+      root_is ∙ ap (λ x. slice_index_or t.roots.items x root) at ∙ default_same t.roots.items (offset / 2 ^ t.layout.shift) root 0 inside
+
+  same_row : bits (length p.arena.expr.nodes) loaded ≡ here.entered
+  same_row = bits_agree (length p.arena.expr.nodes) loaded (row_of t.leaves (offset / 2 ^ t.layout.shift))
+      (subst (λ x. AgreeBelow (length p.arena.expr.nodes) loaded (row_of t.leaves x)) at (subst (λ x. AgreeBelow x loaded (row_of t.leaves state)) nodes row))
+
   abbrev Leads : Bool → Type 0
-  Leads edge = (before : ℕ → Bool) → LeadsTo (nodes_of way p.arena.expr) root way.keeps (bits (length p.arena.expr.nodes) loaded) before (Some byte) edge way.all_starts (bits (length p.arena.expr.nodes) leaves) (bits (length p.arena.expr.nodes) ends)
+  Leads edge = (before : ℕ → Bool) → LeadsTo (nodes_of t.way p.arena.expr) root t.way.keeps (bits (length p.arena.expr.nodes) loaded) before (Some byte) edge t.way.all_starts (bits (length p.arena.expr.nodes) work.leaves) (bits (length p.arena.expr.nodes) work.ends)
 
-  leads_state : (edge : Bool) → Leads edge → (b : State) → HasRow root (bits (length p.arena.expr.nodes) leaves) (bits (length p.arena.expr.nodes) ends) b → LeadsOn (nodes_of way p.arena.expr) way (state_of (length p.arena.expr.nodes) t q) byte edge b
-  leads_state edge leads b has =
-      let a = state_of (length p.arena.expr.nodes) t q in (
-        has.0 ∙ same_root,
-        rw (has.2, has.1) (subst (λ x. LeadsTo (nodes_of way p.arena.expr) x way.keeps a.entered a.ended (Some byte) edge way.all_starts (bits (length p.arena.expr.nodes) leaves) (bits (length p.arena.expr.nodes) ends)) same_root
-            (subst (λ x. LeadsTo (nodes_of way p.arena.expr) root way.keeps x a.ended (Some byte) edge way.all_starts (bits (length p.arena.expr.nodes) leaves) (bits (length p.arena.expr.nodes) ends)) (bits_agree (length p.arena.expr.nodes) loaded (row_of t.leaves q) same)
-            (leads a.ended))),
-      )
+  leads_state : (edge : Bool) → Leads edge → (b : State) → HasMarks p root work b → LeadsOn (nodes_of t.way p.arena.expr) t.way here byte edge b
+  leads_state edge leads b has = (
+    has.0 ∙ same_root,
+    rw (has.2, has.1) (subst (λ x. LeadsTo (nodes_of t.way p.arena.expr) x t.way.keeps here.entered here.ended (Some byte) edge t.way.all_starts (bits (length p.arena.expr.nodes) work.leaves) (bits (length p.arena.expr.nodes) work.ends)) same_root
+        (subst (λ x. LeadsTo (nodes_of t.way p.arena.expr) root t.way.keeps x here.ended (Some byte) edge t.way.all_starts (bits (length p.arena.expr.nodes) work.leaves) (bits (length p.arena.expr.nodes) work.ends)) same_row (leads here.ended))),
+  )
 
-  pub names_leads : (edge : Bool) → Leads edge → Names (length p.arena.expr.nodes) u (LeadsOn (nodes_of way p.arena.expr) way (state_of (length p.arena.expr.nodes) t q) byte edge) v
-  names_leads edge leads = names_map (length p.arena.expr.nodes) u (HasRow root (bits (length p.arena.expr.nodes) leaves) (bits (length p.arena.expr.nodes) ends)) (LeadsOn (nodes_of way p.arena.expr) way (state_of (length p.arena.expr.nodes) t q) byte edge) v (leads_state edge leads) n
+  pub names_leads : (edge : Bool) → Leads edge → Names (length p.arena.expr.nodes) u (LeadsOn (nodes_of t.way p.arena.expr) t.way here byte edge) v
+  names_leads edge leads = names_map (length p.arena.expr.nodes) u (HasMarks p root work) (LeadsOn (nodes_of t.way p.arena.expr) t.way here byte edge) v (leads_state edge leads) names
 
-  pub names_anywhere : ((edge : Bool) → Leads edge) → Names (length p.arena.expr.nodes) u (λ b. (edge : Bool) → LeadsOn (nodes_of way p.arena.expr) way (state_of (length p.arena.expr.nodes) t q) byte edge b) v
-  names_anywhere leads = names_map (length p.arena.expr.nodes) u (HasRow root (bits (length p.arena.expr.nodes) leaves) (bits (length p.arena.expr.nodes) ends)) (λ b. (edge : Bool) → LeadsOn (nodes_of way p.arena.expr) way (state_of (length p.arena.expr.nodes) t q) byte edge b) v (λ b has edge. leads_state edge (leads edge) b has) n
+  pub names_anywhere : ((edge : Bool) → Leads edge) → Names (length p.arena.expr.nodes) u (λ b. (edge : Bool) → LeadsOn (nodes_of t.way p.arena.expr) t.way here byte edge b) v
+  names_anywhere leads = names_map (length p.arena.expr.nodes) u (HasMarks p root work) (λ b. (edge : Bool) → LeadsOn (nodes_of t.way p.arena.expr) t.way here byte edge b) v (λ b has edge. leads_state edge (leads edge) b has) names
 
 -- a first state
 pub names_first : (p : Prepared) (u : Table) (way : Way) (root v : ℕ) (kind : Kind) (leaves ends : List Bool) → Names (length p.arena.expr.nodes) u (HasRow root (bits (length p.arena.expr.nodes) leaves) (bits (length p.arena.expr.nodes) ends)) v →

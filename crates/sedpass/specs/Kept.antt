@@ -7,7 +7,7 @@ use Rattle.sedtext.specs.Reach.{one_start, starts_to}
 use Rattle.sedtext.specs.Words.{row_of}
 use Rattle.sedpass.specs.Regions.{ReachesEnd, Meets}
 use Rattle.sedpass.specs.Rows.{nodes_of, bits, RowOfPlace}
-use Rattle.sedpass.specs.Table.{State, state_of, StateAt, IsOffset, IsTable, MayBegin}
+use Rattle.sedpass.specs.Table.{State, state_of, StateAt, IsOffset, IsTable, MayBegin, SameShape}
 use Rattle.sedpass.specs.declared.nodes.Prepared.{Prepared}
 use Rattle.sedpass.specs.declared.rows.Way.{Way}
 use Rattle.sedpass.specs.declared.table.Table.{Table}
@@ -92,14 +92,6 @@ pub record PassesDownTo (p : Prepared) (w : List ℕ) (t : Table) (k : Kept) (pl
   pub at : KeptAt p w t.way k.region.root k.region.end place (state_of (length p.arena.expr.nodes) t (offset / 2 ^ t.layout.shift))
   pub live : LiveFrom p w t k place
 
--- what is kept of the region is right
-pub record IsKept (p : Prepared) (w : List ℕ) (t : Table) (k : Kept) : Type 0 where
-  pub region : IsRegion p w t k
-  pub low : k.region.low ≤ k.region.from
-  pub from : k.region.from ≤ k.region.end
-  pub live : LiveFrom p w t k k.region.from
-  pub edges : EdgesFrom p w t k k.region.low
-
 -- the room is the same: the places, and the rows for blocks' ends
 pub record SameSpace (old new : Kept) : Type 0 where
   pub places : vec_capacity new.states ≡ vec_capacity old.states
@@ -113,6 +105,24 @@ pub record SameKept (old new : Kept) : Type 0 where
   pub places : vec_capacity new.states ≡ vec_capacity old.states
   pub edges : length new.edges ≡ length old.edges
   pub marks : (q : ℕ) → length (row_of new.edges q) ≡ length (row_of old.edges q)
+
+-- from a table and what was kept, a pass came down to the place: all is as it was but for the states, and the place before which they
+-- are in the table
+pub record ComesDown (p : Prepared) (w : List ℕ) (t t' : Table) (k k' : Kept) (place offset : ℕ) : Type 0 where
+  pub passes : PassesDownTo p w t' k' place offset
+  pub shape : SameShape t t'
+  pub same : SameKept k k'
+  pub low : k'.region.low ≡ k.region.low
+  pub from : k'.region.from ≡ k.region.from
+  pub edges : k'.edges ≡ k.edges
+
+-- what is kept of the region is right
+pub record IsKept (p : Prepared) (w : List ℕ) (t : Table) (k : Kept) : Type 0 where
+  pub region : IsRegion p w t k
+  pub low : k.region.low ≤ k.region.from
+  pub from : k.region.from ≤ k.region.end
+  pub live : LiveFrom p w t k k.region.from
+  pub edges : EdgesFrom p w t k k.region.low
 
 -- What a pass ahead over a node a from the place i is beside it: in the state whose cells begin at the offset.
 abbrev pub Follows : Prepared → List ℕ → Table → ℕ → ℕ → ℕ → ℕ → Type 0

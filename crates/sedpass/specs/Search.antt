@@ -1,10 +1,10 @@
 -- Private to the proofs: no contract that `sedmatch` makes public cites what stands here.
 -- Searches in one text, from places that don't fall: what they find, and what they may cost.
-use Rattle.std.specs.Prelude.{ℕ, ◌+◌, ◌-◌, ◌*◌, ◌<◌, ◌≤◌, if◌then◌else◌, List, length, Option, Some, None, IfSome, IsTrue}
+use Rattle.std.specs.Prelude.{ℕ, max, ◌+◌, ◌-◌, ◌*◌, ◌/◌, ◌<◌, ◌≤◌, if◌then◌else◌, List, length, Option, Some, None, IfSome, IsTrue}
 use Rattle.sedre.specs.Tree.{expression_tree, Tree}
 use Rattle.sedre.specs.Steps.{TakesAtLeast}
 use Rattle.sedtext.specs.Answer.{SpanAnswer}
-use Rattle.sedtext.specs.Reach.{IsLongestFrom}
+use Rattle.sedtext.specs.Costs.{CostsWithin}
 use Rattle.sedtext.specs.Beginnings.{AllBegin, NoneIn}
 use Rattle.sedtext.specs.Spans.{IsLeftmostLongest, NotFound}
 use Rattle.sedtext.specs.declared.beginnings.Begins.{Begins}
@@ -15,7 +15,6 @@ use Rattle.sedpass.specs.declared.table.Table.{Table}
 use Rattle.sedpass.specs.declared.kept.Kept.{Kept}
 use Rattle.sedpass.specs.declared.kept.Region.{Region}
 use Rattle.sedpass.specs.declared.search.Seeking.{Seeking}
-use Rattle.sedpass.specs.declared.search.Trial.{Trial}
 use Rattle.sedpass.specs.declared.search.Trials.{Trials}
 use Rattle.sedpass.specs.declared.search.Trials.TheVariants.{Hit, Nothing, Tired}
 
@@ -45,15 +44,6 @@ pub record Searched (p : Prepared) (w : List ℕ) (a a' b b' : Table) (s s' : Se
   pub tables : TablesStay p a a' b b' s.kept s'.kept
   pub serves : Serves p w b' s'
 
--- no match begins from the place on before the trial's, and it tells the longest one from there
-pub record IsTrial (e : Tree) (w : List ℕ) (from : ℕ) (t : Trial) : Type 0 where
-  pub after : from ≤ t.start
-  pub passed : t.start ≤ t.place
-  pub within : t.place ≤ length w
-  pub reached : IfSome t.end (λ j. j ≤ t.place)
-  pub none : NoneIn e w from t.start
-  pub longest : IsLongestFrom e w t.start t.end
-
 -- what trials from the place on found
 abbrev pub TrialsAnswer : Tree → List ℕ → ℕ → Trials → Type 0
 TrialsAnswer e w from (Hit i j) = IsLeftmostLongest e w from i j × (j ≤ length w)
@@ -78,12 +68,7 @@ pub record IsNextMatch (p : Prepared) (w : List ℕ) (from : ℕ) (back : Table)
 
 -- Costs, with m nodes in a text of n bytes.
 
--- of a trial, besides the place from which it was made
-abbrev pub trial_cost : ℕ → ℕ → Option Trial → ℕ
-trial_cost m n None = n + 1
-trial_cost m n (Some t) = t.start + 1 + 40 * m * (t.place + 1 - t.start)
-
--- of trials, besides that place and the places that are in no match
+-- of trials, besides the place from which they are made and the places that are in no match
 abbrev pub trials_cost : ℕ → ℕ → Trials → ℕ
 trials_cost m n (Hit i j) = i + 1 + 40 * m * (j + 1 - i)
 trials_cost m n Nothing = n + 1
@@ -93,6 +78,13 @@ trials_cost m n (Tired k) = k
 abbrev pub trials_room : ℕ → Trials → ℕ
 trials_room tried (Hit i j) = tried + (j + 1 - i)
 trials_room tried other = tried
+
+-- trials from the place on found this: in so many steps, and over so many places in no match, before and after
+pub record TrialsMade (e : Tree) (w : List ℕ) (m from tried tried' before after : ℕ) (r : Trials) : Type 0 where
+  pub answer : TrialsAnswer e w from r
+  pub few : trials_room tried' r ≤ max tried (length w / 8) + (length w + 1 - from)
+  pub cost : CostsWithin before after (40 * m * tried' + trials_cost m (length w) r) (40 * m * tried + from)
+  pub counts : LooksInTrials from before after r
 
 -- of one search from a place on, whatever was found out before it: by a pass from the text's end over the rest of the text, or by
 -- trials over that rest and an eighth of the text besides, and by such a pass after them, from a later place on

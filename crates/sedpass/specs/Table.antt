@@ -9,6 +9,7 @@ use Rattle.sedpass.specs.Rows.{nodes_of, at_begin, at_end, bits, RowOfPlace, Lea
 use Rattle.sedpass.specs.declared.nodes.Kind.{Kind}
 use Rattle.sedpass.specs.declared.nodes.Prepared.{Prepared}
 use Rattle.sedpass.specs.declared.rows.Way.{Way}
+use Rattle.sedpass.specs.declared.rows.Work.{Work}
 use Rattle.sedpass.specs.declared.cells.Flags.{Flags}
 use Rattle.sedpass.specs.declared.cells.Layout.{Layout}
 use Rattle.sedpass.specs.Cells.{stops, code_of, IsLayout, IsColumn}
@@ -66,11 +67,13 @@ pub record Names (m : ℕ) (t : Table) (P : State → Type 0) (v : ℕ) : Type 0
 abbrev pub IsOffset : Table → ℕ → Type 0
 IsOffset t offset = (offset / 2 ^ t.layout.shift < t.count) × (offset ≡ offset / 2 ^ t.layout.shift * 2 ^ t.layout.shift)
 
--- the number is the code of the state after the one whose cells begin at the offset, and this byte, where the text's edge comes after it,
--- or doesn't
-abbrev pub NamesNext : Prepared → (old new : Table) → (offset byte : ℕ) → Bool → ℕ → Type 0
-NamesNext p old new offset byte edge v =
-    Names (length p.arena.expr.nodes) new (LeadsOn (nodes_of old.way p.arena.expr) old.way (state_of (length p.arena.expr.nodes) old (offset / 2 ^ old.layout.shift)) byte edge) v
+-- the state has this root and the row of the marks
+abbrev pub HasMarks : Prepared → ℕ → Work → State → Type 0
+HasMarks p root work = HasRow root (bits (length p.arena.expr.nodes) work.leaves) (bits (length p.arena.expr.nodes) work.ends)
+
+-- the state comes after the one whose cells begin at the offset, and this byte, where the text's edge comes after it, or doesn't
+abbrev pub IsNext : Prepared → Table → (offset byte : ℕ) → Bool → State → Type 0
+IsNext p t offset byte edge = LeadsOn (nodes_of t.way p.arena.expr) t.way (state_of (length p.arena.expr.nodes) t (offset / 2 ^ t.layout.shift)) byte edge
 
 -- Cells.
 
@@ -163,3 +166,9 @@ pub record AddsStates (m : ℕ) (old new : Table) : Type 0 where
   pub kept : new.epoch ≡ old.epoch → (q : ℕ) → q < old.count → state_of m new q ≡ state_of m old q
   pub full : old.count < old.room → new.epoch ≡ old.epoch
   pub forgot : (new.epoch ≡ old.epoch → ⊥) → new.count ≤ 1
+
+-- the new table is right, a state was added at most, and the number is the code of a state of which P holds
+pub record Codes (p : Prepared) (old new : Table) (P : State → Type 0) (v : ℕ) : Type 0 where
+  pub table : IsTable p new
+  pub adds : AddsStates (length p.arena.expr.nodes) old new
+  pub names : Names (length p.arena.expr.nodes) new P v

@@ -32,16 +32,11 @@ pub fn is_match(
     ensures passes { IsTrue result → PassesOver (expression_tree subject.entry.prepared.now.arena.expr) subject.entry.text.now from steps.old steps.new }
     ensures cost { Takes steps.old steps.new (41 * length subject.entry.prepared.now.arena.expr.nodes * (length subject.entry.text.now + 1)) }
 {
+    let bytes = subject.text.forwards();
     match next_start(begins, subject.text, from, steps) {
         None => false,
         Some(start) => any
-            .run(
-                subject.prepared,
-                &subject.text.forwards(),
-                start,
-                work,
-                steps,
-            )
+            .run(subject.prepared, &bytes, start, work, steps)
             .end
             .is_some(),
     }

@@ -7,7 +7,7 @@ ghost use Rattle.sedtext.specs.Spans.{SomeFound};
 ghost use Rattle.sedre.specs.Tree.{expression_tree};
 ghost use Rattle.sedre.specs.Steps.{Takes, TakesAtLeast};
 ghost use Rattle.sedpass.specs.Rows.{nodes_of};
-ghost use Rattle.sedpass.specs.Table.{Names, NamesNext, IsOffset, IsTable, SameShape};
+ghost use Rattle.sedpass.specs.Table.{Names, IsOffset, IsTable, SameShape};
 ghost use Rattle.sedpass.specs.Forwards.{Arrives, EndsBelow, PassIs};
 
 use crate::cells::{PLAIN, offset_of};
@@ -28,15 +28,6 @@ pub struct Passed {
     pub end: Option<usize>,
     /// Whether it needn't go on.
     pub over: bool,
-}
-
-/// The last end, where the root ends at this place or doesn't.
-#[inline(always)]
-fn last_end(ends: bool, place: usize, before: Option<usize>) -> Option<usize>
-    ensures here { IsTrue ends → result ≡ Some place }
-    ensures before { ends ≡ false → result ≡ before }
-{
-    if ends { Some(place) } else { before }
 }
 
 impl Table {
@@ -72,7 +63,7 @@ impl Table {
         Passed {
             offset,
             place,
-            end: last_end(flags.ends, place, end),
+            end: flags.ends.then_some(place).or(end),
             over: self.way.all_starts || flags.dead,
         }
     }
@@ -117,33 +108,6 @@ impl Table {
         at
     }
 
-    /// The code of the state after a state and a byte: at the text's edge, or where the cell is known to be empty.
-    #[inline(always)]
-    fn step_on(
-        &mut self,
-        prepared: &Prepared,
-        offset: usize,
-        byte: u8,
-        edge: bool,
-        work: &mut Work,
-        steps: &mut Steps,
-    ) -> u32
-        requires table { IsTable prepared.now self.old }
-        requires offset { IsOffset self.old offset }
-        ensures table { IsTable prepared.now self.new }
-        ensures shape { SameShape self.old self.new }
-        ensures names { NamesNext prepared.now self.old self.new offset byte edge result }
-        ensures cost { Takes steps.old steps.new (38 * length prepared.now.arena.expr.nodes) }
-        ensures inside { edge ≡ false → Takes steps.old steps.new (37 * length prepared.now.arena.expr.nodes) }
-        ensures counts { TakesAtLeast steps.old steps.new 1 }
-    {
-        if edge {
-            self.next(prepared, offset, byte, edge, work, steps)
-        } else {
-            self.fill(prepared, offset, byte, edge, work, steps)
-        }
-    }
-
     /// Goes on to the next place whose state the cells don't tell, or to where the pass needn't go on.
     fn go_on(
         &mut self,
@@ -172,7 +136,7 @@ impl Table {
             return at;
         }
         let byte = text.byte(at.place, steps);
-        let code = self.step_on(prepared, at.offset, byte, at.place == last, work, steps);
+        let code = self.next(prepared, at.offset, byte, at.place == last, work, steps);
         self.arrive(prepared, text, code, at.place + 1, at.end)
     }
 

@@ -11,7 +11,7 @@ ghost use Rattle.sedre.specs.Steps.{Takes, TakesAtLeast};
 ghost use Rattle.sedpass.specs.Regions.{IsLastIn, Meets, ReachesEnd};
 ghost use Rattle.sedpass.specs.Rows.{nodes_of};
 ghost use Rattle.sedpass.specs.Table.{AddsStates, IsOffset, IsTable, MayBegin, SameShape, StateAt, state_of};
-ghost use Rattle.sedpass.specs.Kept.{AllMarked, CeasesAt, EdgesFrom, Follows, IsKept, IsRegion, KeptAt, KeptRoom, Meet, PassesDownTo, SameKept, SameSpace, again, ends_told, owed};
+ghost use Rattle.sedpass.specs.Kept.{AllMarked, CeasesAt, ComesDown, EdgesFrom, Follows, IsEdge, IsKept, IsRegion, KeptAt, KeptRoom, Meet, PassesDownTo, SameKept, SameSpace, again, ends_told, owed};
 
 use crate::cells::offset_of;
 use crate::nodes::{Prepared, kind_of};
@@ -31,7 +31,7 @@ pub struct Subject<'a> {
 }
 
 /// The places from which a node is matched up to an end, and of which of them the states are known.
-#[derive(Clone, Copy)]
+#[derive(Clone, Copy, Default)]
 pub struct Region {
     /// The node.
     pub root: usize,
@@ -87,13 +87,7 @@ impl Kept {
         ensures marks { IfOk result (λ k. (q : ℕ) → q < length k.edges → length (row_of k.edges q) ≡ nodes) }
     {
         Ok(Kept {
-            region: Region {
-                root: 0,
-                end: 0,
-                low: 0,
-                from: 0,
-                to: 0,
-            },
+            region: Region::default(),
             states: Vec::with_capacity(alloc, max_text + 1)?,
             edges: Rows::new(alloc, 2 * blocks, nodes)?,
             work: Work::new(alloc)?,
@@ -125,46 +119,6 @@ impl Kept {
         };
     }
 
-    /// Goes back over the byte before a place above 0, and keeps the state that it comes to; gives where its cells begin.
-    #[inline(always)]
-    fn go_back(
-        &mut self,
-        subject: Subject,
-        table: &mut Table,
-        place: usize,
-        offset: usize,
-        steps: &mut Steps,
-    ) -> usize
-        requires passes { PassesDownTo subject.prepared.now subject.text.now table.old self.old (place + 1) offset }
-        ensures passes { PassesDownTo subject.entry.prepared.now subject.entry.text.now table.new self.new place result }
-        ensures shape { SameShape table.old table.new }
-        ensures same { SameKept self.old self.new }
-        ensures low { self.new.region.low ≡ self.old.region.low }
-        ensures from { self.new.region.from ≡ self.old.region.from }
-        ensures edges { self.new.edges ≡ self.old.edges }
-        ensures to { place < self.new.region.to }
-        ensures steady { table.old.count < table.old.room → (self.new.region.to ≡ self.old.region.to) × (table.new.count ≤ table.old.count + 1) }
-        ensures cost { Takes steps.old steps.new (35 * length subject.entry.prepared.now.arena.expr.nodes) }
-        ensures counts { TakesAtLeast steps.old steps.new 2 }
-    {
-        let byte = subject.text.byte(place, steps);
-        let epoch = table.epoch;
-        let code = table.next(
-            subject.prepared,
-            offset,
-            byte,
-            place == 0,
-            &mut self.work,
-            steps,
-        );
-        let next = offset_of(code);
-        self.states[place] = table.state_at(next) as u16;
-        if table.epoch != epoch {
-            self.region.to = place + 1;
-        }
-        next
-    }
-
     /// Goes back from a place to another, and keeps the states; gives where the last one's cells begin.
     fn pass(
         &mut self,
@@ -177,12 +131,7 @@ impl Kept {
     ) -> usize
         requires passes { PassesDownTo subject.prepared.now subject.text.now table.old self.old high offset }
         requires order { low < high }
-        ensures passes { PassesDownTo subject.entry.prepared.now subject.entry.text.now table.new self.new low result }
-        ensures shape { SameShape table.old table.new }
-        ensures same { SameKept self.old self.new }
-        ensures low { self.new.region.low ≡ self.old.region.low }
-        ensures from { self.new.region.from ≡ self.old.region.from }
-        ensures edges { self.new.edges ≡ self.old.edges }
+        ensures down { ComesDown subject.entry.prepared.now subject.entry.text.now table.old table.new self.old self.new low result }
         ensures to { low < self.new.region.to }
         ensures steady { table.old.count + (high - low) ≤ table.old.room → self.new.region.to ≡ self.old.region.to }
         ensures cost { CostsWithin steps.old steps.new (35 * length subject.entry.prepared.now.arena.expr.nodes * high) (35 * length subject.entry.prepared.now.arena.expr.nodes * low) }
@@ -190,42 +139,27 @@ impl Kept {
     {
         let mut offset = offset;
         for place in (low..high).rev() {
-            offset = self.go_back(subject, table, place, offset, steps);
+            let byte = subject.text.byte(place, steps);
+            let epoch = table.epoch;
+            let code = table.next(
+                subject.prepared,
+                offset,
+                byte,
+                place == 0,
+                &mut self.work,
+                steps,
+            );
+            offset = offset_of(code);
+            self.states[place] = table.state_at(offset) as u16;
+            if table.epoch != epoch {
+                self.region.to = place + 1;
+            }
         }
         offset
     }
 
-    /// Keeps the row of a state as that of the right end of a block.
-    fn keep_edge(
-        &mut self,
-        subject: Subject,
-        table: &Table,
-        block: usize,
-        offset: usize,
-        steps: &mut Steps,
-    )
-        requires passes { PassesDownTo subject.prepared.now subject.text.now table.now self.old (block * (table.now.room - 1) + (table.now.room - 1)) offset }
-        requires edges { EdgesFrom subject.prepared.now subject.text.now table.now self.old (block * (table.now.room - 1) + (table.now.room - 1)) }
-        ensures passes { PassesDownTo subject.entry.prepared.now subject.entry.text.now table.now self.new (block * (table.now.room - 1) + (table.now.room - 1)) offset }
-        ensures edges { EdgesFrom subject.entry.prepared.now subject.entry.text.now table.now self.new (block * (table.now.room - 1)) }
-        ensures same { SameKept self.old self.new }
-        ensures region { self.new.region ≡ self.old.region }
-        ensures cost { Takes steps.old steps.new (4 * length subject.entry.prepared.now.arena.expr.nodes) }
-        ensures counts { TakesAtLeast steps.old steps.new (4 * length subject.entry.prepared.now.arena.expr.nodes) }
-    {
-        let nodes = subject.prepared.nodes();
-        let state = table.state_at(offset);
-        table
-            .leaves
-            .load(state, &mut self.work.leaves, nodes, steps);
-        table.ends.load(state, &mut self.work.ends, nodes, steps);
-        self.edges.store(2 * block, &self.work.leaves, nodes, steps);
-        self.edges
-            .store(2 * block + 1, &self.work.ends, nodes, steps);
-    }
-
     /// Keeps the row of a state as that of the right end of a block, unless the region ends there.
-    fn keep_right(
+    fn keep_edge(
         &mut self,
         subject: Subject,
         table: &Table,
@@ -244,61 +178,60 @@ impl Kept {
         ensures region { self.new.region ≡ self.old.region }
         ensures cost { Takes steps.old steps.new (4 * length subject.entry.prepared.now.arena.expr.nodes) }
     {
-        if place < self.region.end {
-            self.keep_edge(subject, table, block, offset, steps);
+        if place >= self.region.end {
+            return;
         }
+        let nodes = subject.prepared.nodes();
+        let state = table.state_at(offset);
+        table
+            .leaves
+            .load(state, &mut self.work.leaves, nodes, steps);
+        table.ends.load(state, &mut self.work.ends, nodes, steps);
+        self.edges.store(2 * block, &self.work.leaves, nodes, steps);
+        self.edges
+            .store(2 * block + 1, &self.work.ends, nodes, steps);
     }
 
-    /// Keeps the states of a block, from the place `high` down to `low` or to the block's beginning; gives this place, and where
-    /// its state's cells begin.
-    fn make_block(
+    /// The state of a place that is the region's end, or the right end of a block of which the row is kept; gives where its cells
+    /// begin. At the region's end the block counts for nothing.
+    fn edge_state(
         &mut self,
         subject: Subject,
         table: &mut Table,
-        low: usize,
-        high: usize,
-        offset: usize,
+        block: usize,
+        place: usize,
         steps: &mut Steps,
-    ) -> (usize, usize)
-        requires passes { PassesDownTo subject.prepared.now subject.text.now table.old self.old high offset }
-        requires edges { EdgesFrom subject.prepared.now subject.text.now table.old self.old high }
-        requires order { low < high }
-        requires right { high < self.old.region.end → (b : ℕ) × (high ≡ b * (table.old.room - 1)) }
-        ensures passes { PassesDownTo subject.entry.prepared.now subject.entry.text.now table.new self.new result.0 result.1 }
-        ensures edges { EdgesFrom subject.entry.prepared.now subject.entry.text.now table.new self.new result.0 }
-        ensures down { (low ≤ result.0) × (result.0 < high) }
-        ensures right { low < result.0 → (b : ℕ) × (result.0 ≡ b * (table.new.room - 1)) }
-        ensures shape { SameShape table.old table.new }
-        ensures same { SameKept self.old self.new }
-        ensures to { result.0 < self.new.region.to }
-        ensures cost { CostsWithin steps.old steps.new (39 * length subject.entry.prepared.now.arena.expr.nodes * high) (39 * length subject.entry.prepared.now.arena.expr.nodes * result.0) }
-        ensures counts { TakesAtLeast steps.old steps.new (2 * (high - result.0)) }
-    {
-        let width = table.room - 1;
-        let block = (high - 1) / width;
-        self.keep_right(subject, table, block, high, offset, steps);
-        let least = low.max(block * width);
-        let next = self.pass(subject, table, least, high, offset, steps);
-        (least, next)
-    }
-
-    /// The state of the region's end; gives where its cells begin.
-    fn last_state(&mut self, subject: Subject, table: &mut Table, steps: &mut Steps) -> usize
+    ) -> usize
         requires region { IsRegion subject.prepared.now subject.text.now table.old self.old }
+        requires place { place ≤ self.old.region.end }
+        requires edge { place < self.old.region.end → (place ≡ block * (table.old.room - 1) + (table.old.room - 1)) ×
+            IsEdge subject.prepared.now subject.text.now table.old.way self.old.region.root self.old.region.end self.old.edges (table.old.room - 1) block }
         ensures table { IsTable subject.entry.prepared.now table.new }
         ensures adds { AddsStates (length subject.entry.prepared.now.arena.expr.nodes) table.old table.new }
         ensures region { self.new.region ≡ self.old.region }
         ensures edges { self.new.edges ≡ self.old.edges }
         ensures states { self.new.states ≡ self.old.states }
         ensures there { IsOffset table.new result }
-        ensures at { KeptAt subject.entry.prepared.now subject.entry.text.now table.new.way self.old.region.root self.old.region.end self.old.region.end
+        ensures at { KeptAt subject.entry.prepared.now subject.entry.text.now table.new.way self.old.region.root self.old.region.end place
             (state_of (length subject.entry.prepared.now.arena.expr.nodes) table.new (result / 2 ^ table.new.layout.shift)) }
         ensures cost { Takes steps.old steps.new (33 * length subject.entry.prepared.now.arena.expr.nodes) }
+        ensures inside { place < self.old.region.end → Takes steps.old steps.new (20 * length subject.entry.prepared.now.arena.expr.nodes) }
         ensures counts { TakesAtLeast steps.old steps.new 1 }
     {
         let root = self.region.root;
-        let kind = kind_of(self.region.end, subject.text.len());
-        let code = table.first(subject.prepared, root, kind, &mut self.work, steps);
+        if place == self.region.end {
+            let kind = kind_of(place, subject.text.len());
+            let code = table.first(subject.prepared, root, kind, &mut self.work, steps);
+            return offset_of(code);
+        }
+        let code = table.load(
+            subject.prepared,
+            root,
+            block,
+            &self.edges,
+            &mut self.work,
+            steps,
+        );
         offset_of(code)
     }
 
@@ -318,57 +251,19 @@ impl Kept {
         ensures counts { TakesAtLeast steps.old steps.new (2 * (self.old.region.end - low)) }
     {
         let end = self.region.end;
-        let mut offset = self.last_state(subject, table, steps);
+        let mut offset = self.edge_state(subject, table, 0, end, steps);
         self.region.to = end;
         let mut place = end;
         while place > low {
-            let (reached, next) = self.make_block(subject, table, low, place, offset, steps);
-            place = reached;
-            offset = next;
+            let width = table.room - 1;
+            let block = (place - 1) / width;
+            let least = low.max(block * width);
+            self.keep_edge(subject, table, block, place, offset, steps);
+            offset = self.pass(subject, table, least, place, offset, steps);
+            place = least;
         }
         self.region.low = low;
         self.region.from = low;
-    }
-
-    /// Empties the table but for the state of a block's right end; gives where its cells begin.
-    fn right_end(
-        &mut self,
-        subject: Subject,
-        table: &mut Table,
-        block: usize,
-        place: usize,
-        steps: &mut Steps,
-    ) -> usize
-        requires region { IsRegion subject.prepared.now subject.text.now table.old self.old }
-        requires edges { EdgesFrom subject.prepared.now subject.text.now table.old self.old self.old.region.low }
-        requires some { self.old.region.low < block * (table.old.room - 1) + (table.old.room - 1) }
-        requires place { place ≡ min self.old.region.end (block * (table.old.room - 1) + (table.old.room - 1)) }
-        ensures table { IsTable subject.entry.prepared.now table.new }
-        ensures shape { SameShape table.old table.new }
-        ensures region { self.new.region ≡ self.old.region }
-        ensures edges { self.new.edges ≡ self.old.edges }
-        ensures states { self.new.states ≡ self.old.states }
-        ensures there { IsOffset table.new result }
-        ensures at { KeptAt subject.entry.prepared.now subject.entry.text.now table.new.way self.old.region.root self.old.region.end place
-            (state_of (length subject.entry.prepared.now.arena.expr.nodes) table.new (result / 2 ^ table.new.layout.shift)) }
-        ensures one { table.new.count ≤ 1 }
-        ensures cost { Takes steps.old steps.new (37 * length subject.entry.prepared.now.arena.expr.nodes) }
-        ensures inside { place < self.old.region.end → Takes steps.old steps.new (24 * length subject.entry.prepared.now.arena.expr.nodes) }
-    {
-        table.empty(subject.prepared);
-        if place == self.region.end {
-            return self.last_state(subject, table, steps);
-        }
-        let root = self.region.root;
-        let code = table.load(
-            subject.prepared,
-            root,
-            block,
-            &self.edges,
-            &mut self.work,
-            steps,
-        );
-        offset_of(code)
     }
 
     /// Makes the states from a place up to the end of its block again, in an emptied table.
@@ -390,7 +285,8 @@ impl Kept {
         let width = table.room - 1;
         let block = place / width;
         let to = self.region.end.min(block * width + width);
-        let offset = self.right_end(subject, table, block, to, steps);
+        table.empty(subject.prepared);
+        let offset = self.edge_state(subject, table, block, to, steps);
         self.region.from = place;
         self.region.to = to;
         self.pass(subject, table, place, to, offset, steps);

@@ -1,16 +1,15 @@
 //! All occurrences in one text, one after another.
 //!
 //! A search for each occurrence, and one more a byte further on where the null string directly after an occurrence is passed over.
-ghost use Rattle.std.specs.Prelude.{◌≡◌, ℕ, false, Option, None, Some, ◌+◌, ◌*◌, ◌<◌, ◌≤◌, length, nat_lt, if◌then◌else◌, IfSome, IsTrue};
+ghost use Rattle.std.specs.Prelude.{◌≡◌, ℕ, false, Option, Some, ◌+◌, ◌*◌, ◌<◌, ◌≤◌, length, if◌then◌else◌, IfSome, IsTrue};
 ghost use Rattle.sedtext.specs.Answer.{SpanAnswer};
 ghost use Rattle.sedtext.specs.Costs.{CostsWithin};
 ghost use Rattle.sedtext.specs.Following.{LiesOn, next_span};
 ghost use Rattle.sedtext.specs.Matching.{found, unless_null_at};
 ghost use Rattle.sedre.specs.Tree.{expression_tree};
-ghost use Rattle.sedre.specs.Steps.{Takes};
 ghost use Rattle.sedpass.specs.Kept.{KeptRoom};
-ghost use Rattle.sedpass.specs.Occurrences.{SearchTakes, further_cost, owed_behind};
-ghost use Rattle.sedpass.specs.Search.{LooksFrom, MaySearch, Searched, Serves, owed_after, owed_search};
+ghost use Rattle.sedpass.specs.Occurrences.{SearchTakes, owed_behind};
+ghost use Rattle.sedpass.specs.Search.{MaySearch, Searched, Serves, owed_after, owed_search};
 ghost use Rattle.sedpass.specs.Table.{IsTable};
 
 use crate::kept::Subject;
@@ -48,34 +47,6 @@ pub fn is_null_at(span: Option<(usize, usize)>, at: usize) -> bool
     }
 }
 
-/// The match sought one byte further on, if the text goes on.
-// It is seldom called, and so kept out of its caller.
-#[inline(never)]
-fn past_null(
-    subject: Subject,
-    begins: &Begins,
-    ahead: &mut Table,
-    back: &mut Table,
-    seeking: &mut Seeking,
-    at: usize,
-    steps: &mut Steps,
-) -> Option<(usize, usize)>
-    requires at { at ≤ length subject.text.now }
-    requires ready { MaySearch subject.prepared.now subject.text.now begins.now ahead.old back.old seeking.old }
-    ensures searched { Searched subject.entry.prepared.now subject.entry.text.now ahead.old ahead.new back.old back.new seeking.old seeking.new }
-    ensures next { result ≡ if nat_lt at (length subject.entry.text.now) then found (expression_tree subject.entry.prepared.now.arena.expr) subject.entry.text.now (at + 1) else None }
-    ensures lies { IfSome result (λ f. (at < f.0) × (f.0 ≤ f.1) × (f.1 ≤ length subject.entry.text.now)) }
-    ensures cost { let m = length subject.entry.prepared.now.arena.expr.nodes in let n = length subject.entry.text.now in
-        CostsWithin steps.old steps.new (owed_search m n seeking.old (at + 1) + 42 * m) (owed_after (owed_search m n seeking.new) result) }
-    ensures once { Takes steps.old steps.new (further_cost (length subject.entry.prepared.now.arena.expr.nodes) (length subject.entry.text.now) at) }
-    ensures counts { LooksFrom (at + 1) steps.old steps.new result }
-{
-    if at >= subject.text.len() {
-        return None;
-    }
-    next_match(subject, begins, ahead, back, seeking, at + 1, steps)
-}
-
 /// The next occurrence in a text after one that ended at `at`: the leftmost of the longest matches from there on, or one byte
 /// further where that is the null string at `at`.
 ///
@@ -104,5 +75,8 @@ pub fn next_after(
     if !is_null_at(first, at) {
         return first;
     }
-    past_null(subject, begins, ahead, back, seeking, at, steps)
+    if at >= subject.text.len() {
+        return None;
+    }
+    next_match(subject, begins, ahead, back, seeking, at + 1, steps)
 }

@@ -2,18 +2,16 @@
 //!
 //! A trial is a pass from one place at which a match can begin. Where trials went over many places that are in no match, a pass
 //! from the text's end is kept for the rest of the text: it tells where matches begin, and how far one leads.
-ghost use Rattle.std.specs.Prelude.{◌≡◌, ℕ, false, max, ◌+◌, ◌-◌, ◌*◌, ◌/◌, ◌<◌, ◌≤◌, ◌↔◌, length, IfNone, IfSome, IsTrue};
+ghost use Rattle.std.specs.Prelude.{◌≡◌, ℕ, false, max, ◌+◌, ◌-◌, ◌*◌, ◌/◌, ◌<◌, ◌≤◌, ◌↔◌, length, IsTrue};
 ghost use Rattle.sedtext.specs.Answer.{SpanAnswer};
 ghost use Rattle.sedtext.specs.Beginnings.{AllBegin};
 ghost use Rattle.sedtext.specs.Costs.{CostsWithin};
 ghost use Rattle.sedtext.specs.Reach.{At};
-ghost use Rattle.sedtext.specs.Spans.{NotFound};
 ghost use Rattle.sedre.specs.Tree.{expression_tree};
-ghost use Rattle.sedre.specs.Steps.{Takes, TakesAtLeast};
-ghost use Rattle.sedpass.specs.declared.search.Trials.TheVariants.{Nothing, Tired};
+ghost use Rattle.sedre.specs.Steps.{Takes};
 ghost use Rattle.sedpass.specs.Table.{IsAhead, IsTable, SameShape};
 ghost use Rattle.sedpass.specs.Kept.{IsKept, KeptRoom, owed};
-ghost use Rattle.sedpass.specs.Search.{IsNextMatch, IsTrial, LooksFrom, LooksInTrials, MaySearch, Searched, TablesStay, TrialsAnswer, trial_cost, trials_cost, trials_room, owed_kept, owed_search, owed_after, search_cost};
+ghost use Rattle.sedpass.specs.Search.{IsNextMatch, LooksFrom, MaySearch, Searched, TablesStay, TrialsMade, owed_kept, owed_search, owed_after, search_cost};
 
 use crate::kept::{Kept, Subject};
 use crate::nodes::kind_of;
@@ -33,17 +31,6 @@ pub struct Seeking {
     pub tried: usize,
 }
 
-/// A pass from one place.
-#[derive(Clone, Copy)]
-pub struct Trial {
-    /// The place.
-    pub start: usize,
-    /// The end of the longest match from there, if there is one.
-    pub end: Option<usize>,
-    /// How far the pass went.
-    pub place: usize,
-}
-
 /// What trials found.
 #[derive(Clone, Copy)]
 pub enum Trials {
@@ -55,47 +42,7 @@ pub enum Trials {
     Tired(usize),
 }
 
-/// One trial, from the first place at which a match can begin.
-fn try_next(
-    subject: Subject,
-    begins: &Begins,
-    ahead: &mut Table,
-    from: usize,
-    work: &mut Work,
-    steps: &mut Steps,
-) -> Option<Trial>
-    requires from { from ≤ length subject.text.now }
-    requires begins { AllBegin (expression_tree subject.prepared.now.arena.expr) begins.now }
-    requires ahead { IsAhead subject.prepared.now ahead.old }
-    ensures ahead { IsAhead subject.entry.prepared.now ahead.new }
-    ensures ahead_shape { SameShape ahead.old ahead.new }
-    ensures none { IfNone result (NotFound (expression_tree subject.entry.prepared.now.arena.expr) subject.entry.text.now from) }
-    ensures trial { IfSome result (IsTrial (expression_tree subject.entry.prepared.now.arena.expr) subject.entry.text.now from) }
-    ensures cost { CostsWithin steps.old steps.new (trial_cost (length subject.entry.prepared.now.arena.expr.nodes) (length subject.entry.text.now) result) from }
-    ensures counts { IfSome result (λ t. TakesAtLeast steps.old steps.new (t.start - from + 2 * (t.place - t.start) + 1)) }
-{
-    let start = next_start(begins, subject.text, from, steps)?;
-    let bytes = subject.text.forwards();
-    let passed = ahead.run(subject.prepared, &bytes, start, work, steps);
-    Some(Trial {
-        start,
-        end: passed.end,
-        place: passed.place,
-    })
-}
-
-/// Where trials end that found no match before a place.
-fn tired_at(start: usize, length: usize) -> Trials
-    ensures { (start ≤ length → result ≡ Tired start) × (length < start → result ≡ Nothing) }
-{
-    if start <= length {
-        Trials::Tired(start)
-    } else {
-        Trials::Nothing
-    }
-}
-
-/// Trials from a place on, until a match is found, or many places are in none.
+/// Trials from a place on, a pass from each place at which a match can begin, until one is found, or many places are in none.
 fn try_all(
     subject: Subject,
     begins: &Begins,
@@ -111,26 +58,24 @@ fn try_all(
     requires tried { tried.old ≤ length subject.text.now }
     ensures ahead { IsAhead subject.entry.prepared.now ahead.new }
     ensures ahead_shape { SameShape ahead.old ahead.new }
-    ensures answer { TrialsAnswer (expression_tree subject.entry.prepared.now.arena.expr) subject.entry.text.now from result }
-    ensures few { trials_room tried.new result ≤ max tried.old (length subject.entry.text.now / 8) + (length subject.entry.text.now + 1 - from) }
-    ensures cost { let m = length subject.entry.prepared.now.arena.expr.nodes in
-        CostsWithin steps.old steps.new (40 * m * tried.new + trials_cost m (length subject.entry.text.now) result) (40 * m * tried.old + from) }
-    ensures counts { LooksInTrials from steps.old steps.new result }
+    ensures made { TrialsMade (expression_tree subject.entry.prepared.now.arena.expr) subject.entry.text.now (length subject.entry.prepared.now.arena.expr.nodes) from tried.old tried.new steps.old steps.new result }
 {
     let length = subject.text.len();
+    let bytes = subject.text.forwards();
     let mut start = from;
     while start <= length {
-        let Some(trial) = try_next(subject, begins, ahead, start, work, steps) else {
+        let Some(first) = next_start(begins, subject.text, start, steps) else {
             return Trials::Nothing;
         };
-        if let Some(end) = trial.end {
-            *tried += trial.place.saturating_sub(end);
-            return Trials::Hit(trial.start, end);
+        let passed = ahead.run(subject.prepared, &bytes, first, work, steps);
+        if let Some(end) = passed.end {
+            *tried += passed.place.saturating_sub(end);
+            return Trials::Hit(first, end);
         }
-        *tried += trial.place + 1 - trial.start;
-        start = trial.start + 1;
-        if *tried > length / 8 {
-            return tired_at(start, length);
+        *tried += passed.place + 1 - first;
+        start = first + 1;
+        if start <= length && *tried > length / 8 {
+            return Trials::Tired(start);
         }
     }
     Trials::Nothing
@@ -145,11 +90,8 @@ fn begins_there(subject: Subject, start: usize, steps: &mut Steps) -> bool
     ensures cost { Takes steps.old steps.new 1 }
 {
     let length = subject.text.len();
-    let root = subject.prepared.root;
-    start < length
-        || subject
-            .prepared
-            .null_at(root, kind_of(start, length), steps)
+    let prepared = subject.prepared;
+    start < length || prepared.null_at(prepared.root, kind_of(start, length), steps)
 }
 
 /// The match from a place on, by the pass from the text's end.

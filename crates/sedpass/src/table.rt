@@ -6,11 +6,12 @@
 ghost use Rattle.std.specs.Prelude.{◌≡◌, ℕ, Bool, false, ◌+◌, ◌*◌, ◌/◌, ◌^◌, ◌<◌, ◌≤◌, length, slice_index_or, IfOk, IfSome, vec_len};
 ghost use Rattle.sedtext.specs.Words.{row_of};
 ghost use Rattle.sedre.specs.Steps.{Takes, TakesAtLeast};
-ghost use Rattle.sedpass.specs.Prepared.{SameNulls};
 ghost use Rattle.sedpass.specs.Rows.{nodes_of, bits};
-ghost use Rattle.sedpass.specs.Cells.{stops, code_of};
+ghost use Rattle.sedre.specs.Arena.{IsExpr};
+ghost use Rattle.sedpass.specs.Cells.{IsLayout};
 ghost use Rattle.sedpass.specs.declared.nodes.Kind.{Kind};
-ghost use Rattle.sedpass.specs.Table.{state_of, HasRow, LeadsOn, BeginsIn, Names, NamesNext, IsOffset, beginning_at, beginning_of, MayBegin, HasRoom, IsRoomy, IsTable, SameRoom, SameShape, AddsStates};
+ghost use Rattle.sedpass.specs.declared.nodes.Prepared.{Prepared};
+ghost use Rattle.sedpass.specs.Table.{state_of, HasRow, HasMarks, BeginsIn, Names, IsNext, IsOffset, beginning_at, MayBegin, IsRoomy, IsTable, SameRoom, SameShape, Codes};
 
 use crate::cells::{Flags, Layout, code_of, empty_cells, stops};
 use crate::nodes::{Kind, Prepared};
@@ -28,14 +29,6 @@ const LAST_EPOCHS: u32 = u32::MAX - 1;
 pub struct Beginning {
     pub epoch: u32,
     pub code: u32,
-}
-
-/// For proofs: the number of some rows fits its type.
-#[inline(always)]
-fn count_fits(rows: &Rows)
-    ensures { length rows.now < 2 ^ 64 }
-{
-    let _count = rows.len();
 }
 
 /// A slot of the index: a state, and the low half of the epoch in which it was noted. A wrong slot costs a state, never an
@@ -114,14 +107,10 @@ impl Table {
         requires nodes { 1 ≤ nodes }
         requires short { nodes ≤ 65536 }
         requires layout { layout.shift ≤ 8 }
-        ensures has { IfOk result (λ t. HasRoom nodes t) }
-        ensures none { IfOk result (λ t. t.count ≡ 0) }
-        ensures begun { IfOk result (λ t. (i : ℕ) → (beginning_of t i).epoch < t.epoch) }
+        ensures table { IfOk result (λ t. (p : Prepared) → IsExpr p.arena.expr.nodes p.arena.expr.groups → IsLayout p.arena.expr.nodes layout → nodes ≡ length p.arena.expr.nodes → IsTable p t) }
+        ensures roomy { layout.shift ≡ 8 → IfOk result (λ t. IsRoomy nodes t × (t.way ≡ way) × (t.room ≡ room)) }
         ensures way { IfOk result (λ t. t.way ≡ way) }
         ensures room { IfOk result (λ t. t.room ≡ room) }
-        ensures layout { IfOk result (λ t. t.layout ≡ layout) }
-        ensures marks { IfOk result (λ t. t.marks ≡ nodes) }
-        ensures reserved { IfOk result (λ t. t.reserved ≡ room * 2 ^ layout.shift) }
     {
         let reserved = room << layout.shift;
         Ok(Table {
@@ -162,10 +151,7 @@ impl Table {
         ensures way { IfOk result (λ t. t.way ≡ way) }
         ensures room { IfOk result (λ t. t.room ≡ room) }
     {
-        let nodes = prepared.nodes();
-        let layout = Layout::new(prepared);
-        let empty = Table::made(alloc, way, room, nodes, layout)?;
-        Ok(empty)
+        Table::made(alloc, way, room, prepared.nodes(), Layout::new(prepared))
     }
 
     /// An empty table with room for so many states of any expression of at most so many nodes, which serves none yet. Fails only
@@ -182,8 +168,7 @@ impl Table {
         requires short { nodes ≤ 65536 }
         ensures table { IfOk result (λ t. IsRoomy nodes t × (t.way ≡ way) × (t.room ≡ room)) }
     {
-        let empty = Table::made(alloc, way, room, nodes, Layout::widest())?;
-        Ok(empty)
+        Table::made(alloc, way, room, nodes, Layout::widest())
     }
 
     /// Begins to serve an expression: lays the cells out anew, and forgets all states.
@@ -220,19 +205,6 @@ impl Table {
         offset >> self.layout.shift
     }
 
-    /// The code of a state.
-    #[inline(always)]
-    fn code(&self, prepared: &Prepared, state: usize) -> u32
-        requires table { IsTable prepared.now self.now }
-        requires state { state < self.now.count }
-        ensures { result ≡ code_of (stops self.now.way (state_of (length prepared.now.arena.expr.nodes) self.now state).flags) (state * 2 ^ self.now.layout.shift) }
-    {
-        code_of(
-            stops(self.way, self.flags[state]),
-            state << self.layout.shift,
-        )
-    }
-
     /// The slot of the index, or the one before it, where a state with this root and row is noted, if there is one.
     fn slot_of(&self, nodes: usize, root: usize, work: &Work, steps: &mut Steps) -> usize
         requires nodes { nodes ≤ 65536 }
@@ -246,16 +218,19 @@ impl Table {
         ((digest ^ root as u64) % (self.index.len() - 1) as u64) as usize
     }
 
-    /// Whether a slot of the index notes a state.
-    fn notes(&self, slot: usize) -> bool
+    /// The state that a slot of the index notes, if it notes one.
+    fn noted(&self, slot: usize) -> Option<usize>
         requires { slot < vec_len self.now.index }
+        ensures { IfSome result (λ q. q < self.now.count) }
     {
         let noted = self.index[slot];
-        noted.epoch == (self.epoch % 65536) as u16 && (noted.state as usize) < self.count
+        let state = noted.state as usize;
+        let known = noted.epoch == (self.epoch % 65536) as u16 && state < self.count;
+        known.then_some(state)
     }
 
-    /// The state that a slot notes, if it has this root and the row of the marks.
-    fn noted(
+    /// The state with this root and the row of the marks, if the slot or the one after it notes it.
+    fn find(
         &self,
         prepared: &Prepared,
         root: usize,
@@ -264,25 +239,23 @@ impl Table {
         steps: &mut Steps,
     ) -> Option<usize>
         requires table { IsTable prepared.now self.now }
-        requires slot { slot < vec_len self.now.index }
+        requires slot { slot + 1 < vec_len self.now.index }
         ensures there { IfSome result (λ q. q < self.now.count) }
-        ensures has { IfSome result (λ q. HasRow root (bits (length prepared.now.arena.expr.nodes) work.now.leaves)
-            (bits (length prepared.now.arena.expr.nodes) work.now.ends) (state_of (length prepared.now.arena.expr.nodes) self.now q)) }
-        ensures cost { Takes steps.old steps.new (2 * length prepared.now.arena.expr.nodes + 1) }
+        ensures has { IfSome result (λ q. HasMarks prepared.now root work.now (state_of (length prepared.now.arena.expr.nodes) self.now q)) }
+        ensures cost { Takes steps.old steps.new (4 * length prepared.now.arena.expr.nodes + 2) }
     {
-        steps.add(1);
         let nodes = prepared.nodes();
-        let state = self.index[slot].state as usize;
-        if self.notes(slot)
-            && state < self.count
-            && self.roots[state] == root
-            && self.leaves.same(state, &work.leaves, nodes, steps)
-            && self.ends.same(state, &work.ends, nodes, steps)
-        {
-            Some(state)
-        } else {
-            None
+        for at in slot..slot + 2 {
+            steps.add(1);
+            if let Some(state) = self.noted(at)
+                && self.roots[state] == root
+                && self.leaves.same(state, &work.leaves, nodes, steps)
+                && self.ends.same(state, &work.ends, nodes, steps)
+            {
+                return Some(state);
+            }
         }
+        None
     }
 
     /// Adds a state with this root and row. There is room.
@@ -298,12 +271,8 @@ impl Table {
         requires room { self.old.count < self.old.room }
         requires root { root < length prepared.now.arena.expr.nodes }
         requires slot { slot < vec_len self.old.index }
-        ensures table { IsTable prepared.now self.new }
-        ensures adds { AddsStates (length prepared.now.arena.expr.nodes) self.old self.new }
-        ensures epoch { self.new.epoch ≡ self.old.epoch }
+        ensures codes { Codes prepared.now self.old self.new (HasMarks prepared.now root work.now) result }
         ensures count { self.new.count ≡ self.old.count + 1 }
-        ensures names { Names (length prepared.now.arena.expr.nodes) self.new (HasRow root (bits (length prepared.now.arena.expr.nodes) work.now.leaves)
-            (bits (length prepared.now.arena.expr.nodes) work.now.ends)) result }
         ensures cost { Takes steps.old steps.new (5 * length prepared.now.arena.expr.nodes + 1) }
     {
         let nodes = prepared.nodes();
@@ -327,65 +296,26 @@ impl Table {
         code_of(stops(self.way, flags), offset)
     }
 
-    /// The code of a state with this root and row, if it is found.
-    fn find(
-        &self,
-        prepared: &Prepared,
-        root: usize,
-        slot: usize,
-        work: &Work,
-        steps: &mut Steps,
-    ) -> Option<usize>
-        requires table { IsTable prepared.now self.now }
-        requires slot { slot + 1 < vec_len self.now.index }
-        ensures there { IfSome result (λ q. q < self.now.count) }
-        ensures has { IfSome result (λ q. HasRow root (bits (length prepared.now.arena.expr.nodes) work.now.leaves)
-            (bits (length prepared.now.arena.expr.nodes) work.now.ends) (state_of (length prepared.now.arena.expr.nodes) self.now q)) }
-        ensures cost { Takes steps.old steps.new (4 * length prepared.now.arena.expr.nodes + 2) }
-    {
-        match self.noted(prepared, root, slot, work, steps) {
-            Some(state) => Some(state),
-            None => self.noted(prepared, root, slot + 1, work, steps),
-        }
-    }
-
     /// The code of the state with this root and row, which is added unless it is found; a full table is emptied before.
     fn intern(&mut self, prepared: &Prepared, root: usize, work: &Work, steps: &mut Steps) -> u32
         requires table { IsTable prepared.now self.old }
         requires root { root < length prepared.now.arena.expr.nodes }
-        ensures table { IsTable prepared.now self.new }
-        ensures adds { AddsStates (length prepared.now.arena.expr.nodes) self.old self.new }
-        ensures names { Names (length prepared.now.arena.expr.nodes) self.new (HasRow root (bits (length prepared.now.arena.expr.nodes) work.now.leaves)
-            (bits (length prepared.now.arena.expr.nodes) work.now.ends)) result }
+        ensures codes { Codes prepared.now self.old self.new (HasMarks prepared.now root work.now) result }
         ensures cost { Takes steps.old steps.new (11 * length prepared.now.arena.expr.nodes + 3) }
         ensures counts { TakesAtLeast steps.old steps.new (2 * length prepared.now.arena.expr.nodes) }
     {
         let slot = self.slot_of(prepared.nodes(), root, work, steps);
         if let Some(state) = self.find(prepared, root, slot, work, steps) {
-            return self.code(prepared, state);
+            return code_of(
+                stops(self.way, self.flags[state]),
+                state << self.layout.shift,
+            );
         }
         if self.count == self.room {
             self.empty(prepared);
         }
-        let at = if self.notes(slot) { slot + 1 } else { slot };
+        let at = slot + usize::from(self.noted(slot).is_some());
         self.add(prepared, root, at, work, steps)
-    }
-
-    /// Notes in its cell which state comes after a state and a byte.
-    fn note_next(&mut self, prepared: &Prepared, offset: usize, byte: u8, edge: bool, next: u32)
-        requires table { IsTable prepared.now self.old }
-        requires offset { IsOffset self.old offset }
-        requires leads { NamesNext prepared.now self.old self.old offset byte edge next }
-        requires anywhere { SameNulls prepared.now.arena.expr.nodes → Names (length prepared.now.arena.expr.nodes) self.old (λ b. (end : Bool) → LeadsOn (nodes_of self.old.way prepared.now.arena.expr) self.old.way
-            (state_of (length prepared.now.arena.expr.nodes) self.old (offset / 2 ^ self.old.layout.shift)) byte end b) next }
-        ensures table { IsTable prepared.now self.new }
-        ensures adds { AddsStates (length prepared.now.arena.expr.nodes) self.old self.new }
-        ensures epoch { self.new.epoch ≡ self.old.epoch }
-        ensures count { self.new.count ≡ self.old.count }
-    {
-        if let Some(column) = self.layout.column(byte, edge) {
-            self.cells[offset + column] = next;
-        }
     }
 
     /// Makes the state after a state and a byte, and fills its cell unless the table was emptied for it.
@@ -401,9 +331,7 @@ impl Table {
     ) -> u32
         requires table { IsTable prepared.now self.old }
         requires offset { IsOffset self.old offset }
-        ensures table { IsTable prepared.now self.new }
-        ensures adds { AddsStates (length prepared.now.arena.expr.nodes) self.old self.new }
-        ensures names { NamesNext prepared.now self.old self.new offset byte edge result }
+        ensures codes { Codes prepared.now self.old self.new (IsNext prepared.now self.old offset byte edge) result }
         ensures cost { Takes steps.old steps.new (33 * length prepared.now.arena.expr.nodes) }
         ensures counts { TakesAtLeast steps.old steps.new (length prepared.now.arena.expr.nodes) }
     {
@@ -414,8 +342,10 @@ impl Table {
         step(prepared, self.way, root, byte, edge, work, steps);
         let epoch = self.epoch;
         let next = self.intern(prepared, root, work, steps);
-        if self.epoch == epoch {
-            self.note_next(prepared, offset, byte, edge, next);
+        if self.epoch == epoch
+            && let Some(column) = self.layout.column(byte, edge)
+        {
+            self.cells[offset + column] = next;
         }
         next
     }
@@ -425,7 +355,7 @@ impl Table {
     pub fn known(&self, prepared: &Prepared, offset: usize, byte: u8, edge: bool) -> u32
         requires table { IsTable prepared.now self.now }
         requires offset { IsOffset self.now offset }
-        ensures { 0 < result → NamesNext prepared.now self.now self.now offset byte edge result }
+        ensures { 0 < result → Names (length prepared.now.arena.expr.nodes) self.now (IsNext prepared.now self.now offset byte edge) result }
     {
         match self.layout.column(byte, edge) {
             Some(column) => self.cells[offset + column],
@@ -447,9 +377,7 @@ impl Table {
     ) -> u32
         requires table { IsTable prepared.now self.old }
         requires offset { IsOffset self.old offset }
-        ensures table { IsTable prepared.now self.new }
-        ensures adds { AddsStates (length prepared.now.arena.expr.nodes) self.old self.new }
-        ensures names { NamesNext prepared.now self.old self.new offset byte edge result }
+        ensures codes { Codes prepared.now self.old self.new (IsNext prepared.now self.old offset byte edge) result }
         ensures cost { Takes steps.old steps.new (34 * length prepared.now.arena.expr.nodes) }
         ensures counts { TakesAtLeast steps.old steps.new 1 }
     {
@@ -471,26 +399,7 @@ impl Table {
         if self.way.all_starts { k } else { 4 * root + k }
     }
 
-    /// Notes the state in which a pass for a root begins, at a place of a kind; in the last epochs nothing is noted.
-    fn note_first(&mut self, prepared: &Prepared, root: usize, kind: Kind, code: u32)
-        requires table { IsTable prepared.now self.old }
-        requires root { MayBegin prepared.now self.old.way root }
-        requires begins { Names (length prepared.now.arena.expr.nodes) self.old (BeginsIn (nodes_of self.old.way prepared.now.arena.expr) self.old.way root kind) code }
-        ensures table { IsTable prepared.now self.new }
-        ensures adds { AddsStates (length prepared.now.arena.expr.nodes) self.old self.new }
-        ensures epoch { self.new.epoch ≡ self.old.epoch }
-        ensures count { self.new.count ≡ self.old.count }
-    {
-        if self.epoch < LAST_EPOCHS {
-            let at = self.beginning_at(root, kind);
-            self.beginnings[at] = Beginning {
-                epoch: self.epoch,
-                code,
-            };
-        }
-    }
-
-    /// Makes the state in which a pass for a root begins, at a place of a kind, and notes it.
+    /// Makes the state in which a pass for a root begins, at a place of a kind, and notes it; in the last epochs nothing is noted.
     #[inline(never)]
     fn begin(
         &mut self,
@@ -502,14 +411,18 @@ impl Table {
     ) -> u32
         requires table { IsTable prepared.now self.old }
         requires root { MayBegin prepared.now self.old.way root }
-        ensures table { IsTable prepared.now self.new }
-        ensures adds { AddsStates (length prepared.now.arena.expr.nodes) self.old self.new }
-        ensures names { Names (length prepared.now.arena.expr.nodes) self.new (BeginsIn (nodes_of self.old.way prepared.now.arena.expr) self.old.way root kind) result }
+        ensures codes { Codes prepared.now self.old self.new (BeginsIn (nodes_of self.old.way prepared.now.arena.expr) self.old.way root kind) result }
         ensures cost { Takes steps.old steps.new (32 * length prepared.now.arena.expr.nodes) }
     {
         first(prepared, self.way, root, kind, work, steps);
         let code = self.intern(prepared, root, work, steps);
-        self.note_first(prepared, root, kind, code);
+        if self.epoch < LAST_EPOCHS {
+            let at = self.beginning_at(root, kind);
+            self.beginnings[at] = Beginning {
+                epoch: self.epoch,
+                code,
+            };
+        }
         code
     }
 
@@ -525,9 +438,7 @@ impl Table {
     ) -> u32
         requires table { IsTable prepared.now self.old }
         requires root { MayBegin prepared.now self.old.way root }
-        ensures table { IsTable prepared.now self.new }
-        ensures adds { AddsStates (length prepared.now.arena.expr.nodes) self.old self.new }
-        ensures names { Names (length prepared.now.arena.expr.nodes) self.new (BeginsIn (nodes_of self.old.way prepared.now.arena.expr) self.old.way root kind) result }
+        ensures codes { Codes prepared.now self.old self.new (BeginsIn (nodes_of self.old.way prepared.now.arena.expr) self.old.way root kind) result }
         ensures cost { Takes steps.old steps.new (33 * length prepared.now.arena.expr.nodes) }
         ensures counts { TakesAtLeast steps.old steps.new 1 }
     {
@@ -555,15 +466,14 @@ impl Table {
         requires row { 2 * row + 1 < length edges.now }
         requires leaf_marks { length prepared.now.arena.expr.nodes ≤ length (row_of edges.now (2 * row)) }
         requires end_marks { length prepared.now.arena.expr.nodes ≤ length (row_of edges.now (2 * row + 1)) }
-        ensures table { IsTable prepared.now self.new }
-        ensures adds { AddsStates (length prepared.now.arena.expr.nodes) self.old self.new }
-        ensures names { Names (length prepared.now.arena.expr.nodes) self.new (HasRow root (bits (length prepared.now.arena.expr.nodes) (row_of edges.now (2 * row)))
+        ensures codes { Codes prepared.now self.old self.new (HasRow root (bits (length prepared.now.arena.expr.nodes) (row_of edges.now (2 * row)))
             (bits (length prepared.now.arena.expr.nodes) (row_of edges.now (2 * row + 1)))) result }
         ensures cost { Takes steps.old steps.new (20 * length prepared.now.arena.expr.nodes) }
         ensures counts { TakesAtLeast steps.old steps.new (2 * length prepared.now.arena.expr.nodes) }
     {
         let nodes = prepared.nodes();
-        count_fits(edges);
+        // For proofs: the number of the rows fits its type.
+        let _rows = edges.len();
         edges.load(2 * row, &mut work.leaves, nodes, steps);
         edges.load(2 * row + 1, &mut work.ends, nodes, steps);
         self.intern(prepared, root, work, steps)

@@ -1,7 +1,7 @@
 use Rattle.std.proofs.Common.{◌+◌, ◌-◌, ◌*◌, ◌≤◌, length, ap, ◌∙◌, arith}
 use Rattle.sedpass.proofs.CountLemmas.{least_both, least_up}
 use Rattle.sedpass.proofs.KeptLemmas.{same_shape}
-use Rattle.sedpass.proofs.SearchLemmas.{begins_some, kept_cost, kept_found, kept_none, none_cost}
+use Rattle.sedpass.proofs.SearchLemmas.{ahead_still, begins_some, kept_cost, kept_found, kept_none, none_cost}
 use Rattle.sedpass.proofs.search.next_kept.Goals as goal
 
 pub returns-then-not-begins_there-clause-next : goal.returns-then-not-begins_there-clause-next
@@ -43,14 +43,8 @@ returns-clause-tables c =
     let ahead = c.cut-end.ensures.shape.1 in
     let same = c.seek-start.ensures.same in
     let then = c.cut-end.ensures.same in
-    let old = c.requires.ahead in
     record {
-      ahead = record {
-        table = c.cut-end.ensures.ahead;
-        forwards = ap (λ v. v.mirrored) ahead.0 ∙ old.forwards;
-        single = ap (λ v. v.all_starts) ahead.0 ∙ old.single;
-        brief = ap (λ v. v.keeps) ahead.0 ∙ old.brief;
-      };
+      ahead = ahead_still c.args.subject.prepared.now c.args.ahead.now c.cut-end.new.ahead c.requires.ahead c.cut-end.ensures.ahead ahead;
       ahead_shape = ahead;
       back_shape = same_shape c.args.back.now c.seek-start.new.table c.cut-end.new.table c.seek-start.ensures.shape c.cut-end.ensures.shape.0;
       space = record { places = then.places ∙ same.places; edges = then.edges ∙ same.edges; marks = λ q. then.marks q ∙ same.marks q };

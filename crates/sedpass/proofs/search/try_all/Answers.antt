@@ -1,82 +1,98 @@
-use Rattle.std.proofs.Common.{◌≡◌, ◌+◌, ◌-◌, ◌*◌, ◌≤◌, ℕ, length, Option, None, Some, refl, subst, sym, arith}
-use Rattle.sedtext.specs.Reach.{IsLongestFrom}
+use Rattle.std.proofs.Common.{◌≡◌, ◌+◌, ◌-◌, ◌≤◌, ℕ, length, Option, None, Some, refl, subst, arith}
 use Rattle.sedre.specs.Tree.{expression_tree}
-use Rattle.sedtext.proofs.SpanLemmas.{Matches-forward, Matches-within}
 use Rattle.std.specs.Prelude.{IfSome}
-use Rattle.sedpass.proofs.CountLemmas.{least_none, least_both}
+use Rattle.sedtext.specs.Reach.{IsLongestFrom}
+use Rattle.sedtext.proofs.SpanLemmas.{Matches-forward, Matches-within}
+use Rattle.sedpass.proofs.CountLemmas.{least_none}
 use Rattle.sedpass.proofs.KeptLemmas.{same_shape}
-use Rattle.sedpass.proofs.SearchLemmas.{found_at, hit_paid, hit_room, looks_tired, none_more, none_on, tired_answer}
+use Rattle.sedpass.proofs.SearchLemmas.{ahead_still, found_at, hit_paid, hit_room, none_further, none_later, none_more, none_on, looks_tried, trial_cost, trial_is}
 use Rattle.sedpass.proofs.search.try_all.Goals as goal
+use Rattle.sedpass.proofs.search.try_all.Goals.{else-start-length-via-then-start-length+else-tried-length, else-start-length-via-else-start-length}
 
-pub returns-in-Some-end-clause-answer : goal.returns-in-Some-end-clause-answer
-returns-in-Some-end-clause-answer c =
-    let e = c.args.subject.prepared.now.arena.expr in
-    let w = c.args.subject.text.now in
-    let t = c.in-Some.trial in
-    let is = c.in-Some.ensures.trial in
+pub run-passed-requires-clause-from : goal.run-passed-requires-clause-from
+run-passed-requires-clause-from c =
+    let next = c.in-Some.ensures.next in
+    rw c.forwards-bytes.ensures next.1
+
+pub returns-in_default-clause-made : goal.returns-in_default-clause-made
+returns-in_default-clause-made c =
+    let next = c.in_default.ensures in
     let i = c.loop-start.invariant in
-    let long : IsLongestFrom (expression_tree e) w t.start (Some c.in-Some-end.end) = subst (IsLongestFrom (expression_tree e) w t.start) c.in-Some-end.is is.longest in (
-      found_at e w c.args.from t.start c.in-Some-end.end (omega (arith, i.after, is.after)) (none_on e w c.args.from c.loop-start.start t.start i.none is.none) long,
-      Matches-within (expression_tree e) w t.start c.in-Some-end.end (omega (arith, is.passed, is.within)) long.0,
-    )
+    record {
+      answer = none_further (expression_tree c.args.subject.prepared.now.arena.expr) c.args.subject.text.now c.args.begins.now c.args.from c.loop-start.start c.requires.begins i.none next.next;
+      few = i.room;
+      cost = (omega (arith, i.grows, next.cost), omega (arith, i.cost, next.cost));
+      counts = tt;
+    }
 
-pub returns-in-Some-end-clause-few : goal.returns-in-Some-end-clause-few
-returns-in-Some-end-clause-few c =
+pub returns-in-Some-end-clause-made : goal.returns-in-Some-end-clause-made
+returns-in-Some-end-clause-made c =
     let e = c.args.subject.prepared.now.arena.expr in
     let w = c.args.subject.text.now in
-    let t = c.in-Some.trial in
-    let is = c.in-Some.ensures.trial in
-    let long : IsLongestFrom (expression_tree e) w t.start (Some c.in-Some-end.end) = subst (IsLongestFrom (expression_tree e) w t.start) c.in-Some-end.is is.longest in
-    let on = Matches-forward (expression_tree e) w t.start c.in-Some-end.end long.0 in
-    let within = Matches-within (expression_tree e) w t.start c.in-Some-end.end (omega (arith, is.passed, is.within)) long.0 in
-    rw c.saturating_sub.ensures (hit_room c.loop-start.tried t.place c.in-Some-end.end c.args.from t.start (length w) _ (let i = c.loop-start.invariant in omega (arith, i.after, is.after)) is.passed is.within on within c.loop-start.invariant.few)
-
-pub returns-in-Some-end-clause-cost : goal.returns-in-Some-end-clause-cost
-returns-in-Some-end-clause-cost c =
-    let e = c.args.subject.prepared.now.arena.expr in
-    let w = c.args.subject.text.now in
-    let t = c.in-Some.trial in
-    let is = c.in-Some.ensures.trial in
+    let first = c.in-Some.first in
+    let next = c.in-Some.ensures in
+    let run = c.run-passed.ensures in
+    let place = c.run-passed.result.place in
     let i = c.loop-start.invariant in
+    let is = trial_is (expression_tree e) w c.forwards-bytes.result c.args.begins.now c.loop-start.start first c.run-passed.result.place c.run-passed.result.end c.forwards-bytes.ensures c.requires.begins c.in-Some.ensures.next run.after run.within run.reached
+    (run.longest i.ahead.single) in
+    let end = c.in-Some-end.end in
     let last = c.args.subject.prepared.now.is_prepared.last in
-    let long : IsLongestFrom (expression_tree e) w t.start (Some c.in-Some-end.end) = subst (IsLongestFrom (expression_tree e) w t.start) c.in-Some-end.is is.longest in
-    let on = Matches-forward (expression_tree e) w t.start c.in-Some-end.end long.0 in
-    let cost = c.in-Some.ensures.cost in (
-      omega (arith, i.grows, cost),
-      rw c.saturating_sub.ensures (hit_paid (length e.nodes) c.args.from c.loop-start.start t.start t.place c.in-Some-end.end c.loop-start.tried c.args.tried.now c.args.steps.now c.loop-start.steps c.try_next.new.steps
-          (omega (arith, last)) is.after on is.passed i.cost cost.1),
-    )
+    let long : IsLongestFrom (expression_tree e) w first (Some end) = subst (IsLongestFrom (expression_tree e) w first) c.in-Some-end.is is.longest in
+    let reached : end ≤ place = subst (λ (o : Option ℕ). IfSome o (λ j. j ≤ place)) c.in-Some-end.is is.reached in
+    let on = Matches-forward (expression_tree e) w first end long.0 in
+    let within = Matches-within (expression_tree e) w first end (omega (arith, is.passed, is.within)) long.0 in
+    let few = i.few (let h = c.loop-start-test.true in let g = c.len-length.ensures.is in omega (arith, h, g)) in
+    let paid = trial_cost (length e.nodes) c.loop-start.start first place c.loop-start.steps c.next_start.new.steps c.run-passed.new.steps is.passed next.cost.1 run.cost.1 in
+    record {
+      answer = (found_at e w c.args.from first end (omega (arith, i.after, is.after)) (none_on e w c.args.from c.loop-start.start first i.none is.none) long, within);
+      few = rw c.saturating_sub.ensures (hit_room c.loop-start.tried place end c.args.from first (length w) _ (omega (arith, i.after, is.after)) is.passed is.within on within few);
+      cost = (
+        omega (arith, i.grows, next.cost, run.cost),
+        rw c.saturating_sub.ensures (hit_paid (length e.nodes) c.args.from c.loop-start.start first place end c.loop-start.tried c.args.tried.now c.args.steps.now c.loop-start.steps c.run-passed.new.steps (omega (arith, last))
+            is.after on is.passed i.cost paid),
+      );
+      counts = looks_tried c.args.from c.loop-start.start first c.run-passed.result.place c.args.steps.now c.loop-start.steps c.next_start.new.steps c.run-passed.new.steps i.counts c.in-Some.ensures.counts run.counts (end + 1 - c.args.from) (omega (arith, reached, is.after, is.passed));
+    }
 
-pub returns-then-tried-length-clause-answer : goal.returns-then-tried-length-clause-answer
-returns-then-tried-length-clause-answer c =
+pub returns-then-tried-length-clause-made : goal.returns-then-tried-length-clause-made
+returns-then-tried-length-clause-made c =
     let e = c.args.subject.prepared.now.arena.expr in
     let w = c.args.subject.text.now in
-    let t = c.in-Some.trial in
-    let is = c.in-Some.ensures.trial in
+    let first = c.in-Some.first in
+    let next = c.in-Some.ensures in
+    let run = c.run-passed.ensures in
+    let place = c.run-passed.result.place in
     let i = c.loop-start.invariant in
-    tired_answer e w c.args.from (t.start + 1) c.tired_at.result (omega (arith, i.after, is.after))
-    (none_more e w c.args.from t.start (none_on e w c.args.from c.loop-start.start t.start i.none is.none) (let none : t.end ≡ None = cc in subst (IsLongestFrom (expression_tree e) w t.start) none is.longest)) (rw (sym c.len-length.ensures.is) c.tired_at.ensures)
+    let is = trial_is (expression_tree e) w c.forwards-bytes.result c.args.begins.now c.loop-start.start first c.run-passed.result.place c.run-passed.result.end c.forwards-bytes.ensures c.requires.begins c.in-Some.ensures.next run.after run.within run.reached
+    (run.longest i.ahead.single) in
+    let within = c.if-start-length.true in
+    let len = c.len-length.ensures.is in
+    let none : c.run-passed.result.end ≡ None = cc in
+    let few = i.few (let h = c.loop-start-test.true in let g = c.len-length.ensures.is in omega (arith, h, g)) in
+    let paid = trial_cost (length e.nodes) c.loop-start.start first place c.loop-start.steps c.next_start.new.steps c.run-passed.new.steps is.passed next.cost.1 run.cost.1 in
+    record {
+      answer = (
+        omega (arith, i.after, is.after),
+        omega (arith, within, len),
+        none_more e w c.args.from first (none_on e w c.args.from c.loop-start.start first i.none is.none) (subst (IsLongestFrom (expression_tree e) w first) none is.longest),
+      );
+      few = omega (arith, few, is.passed, is.within, i.after, is.after);
+      cost = (omega (arith, i.grows, next.cost, run.cost), omega (arith, i.cost, paid));
+      counts = looks_tried c.args.from c.loop-start.start first c.run-passed.result.place c.args.steps.now c.loop-start.steps c.next_start.new.steps c.run-passed.new.steps i.counts c.in-Some.ensures.counts run.counts (first + 1 - c.args.from) (omega (arith, is.after));
+    }
 
-pub returns-clause-cost : goal.returns-clause-cost
-returns-clause-cost c =
+pub returns-clause-made : goal.returns-clause-made
+returns-clause-made c =
     let i = c.loop-start.invariant in
-    (i.grows, omega (arith, i.cost, i.within))
-
-pub returns-in-Some-end-clause-counts : goal.returns-in-Some-end-clause-counts
-returns-in-Some-end-clause-counts c =
-    let t = c.in-Some.trial in
-    let is = c.in-Some.ensures.trial in
-    let reached : c.in-Some-end.end ≤ t.place = subst (λ (o : Option ℕ). IfSome o (λ j. j ≤ t.place)) c.in-Some-end.is is.reached in
-    least_both c.args.steps.now c.loop-start.steps c.try_next.new.steps (c.loop-start.start - c.args.from) (t.start - c.loop-start.start + 2 * (t.place - t.start) + 1) (c.in-Some-end.end + 1 - c.args.from)
-    c.loop-start.invariant.counts c.in-Some.ensures.counts (omega (arith, reached, is.after, is.passed))
-
-pub returns-then-tried-length-clause-counts : goal.returns-then-tried-length-clause-counts
-returns-then-tried-length-clause-counts c =
-    let t = c.in-Some.trial in
-    let is = c.in-Some.ensures.trial in
-    let looks = least_both c.args.steps.now c.loop-start.steps c.try_next.new.steps (c.loop-start.start - c.args.from) (t.start - c.loop-start.start + 2 * (t.place - t.start) + 1) (t.start + 1 - c.args.from)
-    c.loop-start.invariant.counts c.in-Some.ensures.counts (omega (arith, is.after)) in
-    looks_tired c.args.from (t.start + 1) c.len-length.result c.args.steps.now c.try_next.new.steps c.tired_at.result looks c.tired_at.ensures
+    let end = c.loop-start-test.false in
+    let len = c.len-length.ensures.is in
+    record {
+      answer = none_later c.args.subject.prepared.now.arena.expr c.args.subject.text.now c.args.from c.loop-start.start i.none (omega (arith, end, len));
+      few = i.room;
+      cost = (i.grows, omega (arith, i.cost, i.within));
+      counts = tt;
+    }
 
 pub loop-start-init : goal.loop-start-init
 loop-start-init c = record {
@@ -85,7 +101,8 @@ loop-start-init c = record {
   none = λ h k low high. absurd (omega arith);
   after = omega arith;
   within = omega arith;
-  few = omega arith;
+  few = λ h. omega arith;
+  room = omega arith;
   grows = omega arith;
   counts = least_none c.args.steps.now (c.args.from - c.args.from) (omega arith);
   cost = omega arith;
@@ -95,19 +112,27 @@ pub loop-start-preserved : goal.loop-start-preserved
 loop-start-preserved c =
     let e = c.args.subject.prepared.now.arena.expr in
     let w = c.args.subject.text.now in
-    let t = c.in-Some.trial in
-    let is = c.in-Some.ensures.trial in
+    let first = c.in-Some.first in
+    let run = c.run-passed.ensures in
     let i = c.loop-start.invariant in
-    let none : t.end ≡ None = cc in
+    let is = trial_is (expression_tree e) w c.forwards-bytes.result c.args.begins.now c.loop-start.start first c.run-passed.result.place c.run-passed.result.end c.forwards-bytes.ensures c.requires.begins c.in-Some.ensures.next run.after run.within run.reached
+    (run.longest i.ahead.single) in
+    let none : c.run-passed.result.end ≡ None = cc in
+    let next = c.in-Some.ensures.cost in
+    let few = i.few (let h = c.loop-start-test.true in let g = c.len-length.ensures.is in omega (arith, h, g)) in
+    let paid = trial_cost (length e.nodes) c.loop-start.start first c.run-passed.result.place c.loop-start.steps c.next_start.new.steps c.run-passed.new.steps is.passed next.1 run.cost.1 in
     record {
-      ahead = c.in-Some.ensures.ahead;
-      ahead_shape = same_shape c.args.ahead.now c.loop-start.ahead c.try_next.new.ahead i.ahead_shape c.in-Some.ensures.ahead_shape;
-      none = none_more e w c.args.from t.start (none_on e w c.args.from c.loop-start.start t.start i.none is.none) (subst (IsLongestFrom (expression_tree e) w t.start) none is.longest);
+      ahead = ahead_still c.args.subject.prepared.now c.loop-start.ahead c.run-passed.new.self i.ahead run.table run.shape;
+      ahead_shape = same_shape c.args.ahead.now c.loop-start.ahead c.run-passed.new.self i.ahead_shape run.shape;
+      none = none_more e w c.args.from first (none_on e w c.args.from c.loop-start.start first i.none is.none) (subst (IsLongestFrom (expression_tree e) w first) none is.longest);
       after = omega (arith, i.after, is.after);
       within = omega (arith, is.passed, is.within);
-      few = omega (arith, c.if-tried-length.false, c.len-length.ensures.is);
-      grows = omega (arith, i.grows, c.in-Some.ensures.cost);
-      counts = least_both c.args.steps.now c.loop-start.steps c.try_next.new.steps (c.loop-start.start - c.args.from) (t.start - c.loop-start.start + 2 * (t.place - t.start) + 1) (t.start + 1 - c.args.from)
-          i.counts c.in-Some.ensures.counts (omega (arith, is.after));
-      cost = omega (arith, i.cost, c.in-Some.ensures.cost.1);
+      few = λ h. elim c.else-start-length.branch [
+        | else-start-length-via-then-start-length+else-tried-length w ↦ (let f = w.if-tried-length.false in let g = c.len-length.ensures.is in omega (arith, f, g))
+        | else-start-length-via-else-start-length w ↦ (let f = w.if-start-length.false in let g = c.len-length.ensures.is in absurd (omega (arith, f, g, h)))
+      ];
+      room = omega (arith, few, is.passed, is.within, i.after, is.after);
+      grows = omega (arith, i.grows, next, run.cost);
+      counts = looks_tried c.args.from c.loop-start.start first c.run-passed.result.place c.args.steps.now c.loop-start.steps c.next_start.new.steps c.run-passed.new.steps i.counts c.in-Some.ensures.counts run.counts (first + 1 - c.args.from) (omega (arith, is.after));
+      cost = omega (arith, i.cost, paid);
     }

@@ -12,7 +12,8 @@ invariant-loop-start l = record {
   none : NoneIn (expression_tree l.subject.prepared.now.arena.expr) l.subject.text.now l.from l.start;
   after : l.from ≤ l.start;
   within : l.start ≤ length l.subject.text.now + 1;
-  few : l.tried ≤ max l.initial.tried (length l.subject.text.now / 8);
+  few : l.start ≤ length l.subject.text.now → l.tried ≤ max l.initial.tried (length l.subject.text.now / 8);
+  room : l.tried ≤ max l.initial.tried (length l.subject.text.now / 8) + (length l.subject.text.now + 1 - l.from);
   grows : l.initial.steps ≤ l.steps;
   counts : TakesAtLeast l.initial.steps l.steps (l.start - l.from);
   cost : l.steps + (40 * length l.subject.prepared.now.arena.expr.nodes * l.initial.tried + l.from)

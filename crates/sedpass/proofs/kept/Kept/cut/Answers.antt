@@ -21,14 +21,14 @@ loop-place-init c =
       above = omega arith;
       below = c.requires.from;
       kept = kept_same p w c.args.table.now c.args.self.now _ refl refl refl c.requires.kept;
-      ahead = first.table;
+      ahead = first.codes.table;
       shape = (refl, refl, refl, refl, refl);
       ahead_shape = (refl, refl, refl, refl, refl);
       same = record { root = refl; end = refl; places = refl; edges = refl; marks = λ q. refl };
-      offset = names_offset p c.first-code.new.self first.table _ _ _ first.names c.offset_of-offset.ensures;
-      follows = follows_first p w c.args.ahead.now c.first-code.new.self c.args.a c.args.from c.offset_of-offset.result c.kind_of-kind.result c.requires.forwards.0 first.adds.shape.0
+      offset = names_offset p c.first-code.new.self first.codes.table _ _ _ first.codes.names c.offset_of-offset.ensures;
+      follows = follows_first p w c.args.ahead.now c.first-code.new.self c.args.a c.args.from c.offset_of-offset.result c.kind_of-kind.result c.requires.forwards.0 first.codes.adds.shape.0
           c.kind_of-kind.ensures.begin (subst (λ n. IsTrue c.kind_of-kind.result.end ↔ (c.args.from ≡ n)) c.len.ensures.is c.kind_of-kind.ensures.end)
-          (names_state p c.first-code.new.self first.table _ _ _ first.names c.offset_of-offset.ensures);
+          (names_state p c.first-code.new.self first.codes.table _ _ _ first.codes.names c.offset_of-offset.ensures);
       meets = λ q after before. absurd (omega arith);
       grows = omega arith;
       cost = omega arith;

@@ -2,8 +2,7 @@ use Rattle.std.proofs.Common.{◌≡◌, ◌+◌, ◌-◌, ◌*◌, ◌/◌, ◌
 use Rattle.std.specs.Prelude.{length}
 use Rattle.sedtext.specs.Words.{AgreeBelow, row_of}
 use Rattle.sedpass.specs.Kept.{IsRegion}
-use Rattle.sedpass.proofs.CountLemmas.{least_four}
-use Rattle.sedpass.proofs.KeptLemmas.{edges_more, rows_long}
+use Rattle.sedpass.proofs.KeptLemmas.{edges_more, edges_none, rows_long}
 use Rattle.sedpass.proofs.kept.Kept.keep_edge.Goals as goal
 
 pub returns-clause-edges : goal.returns-clause-edges
@@ -14,13 +13,14 @@ returns-clause-edges c b after before =
     let region : IsRegion c.args.subject.prepared.now c.args.subject.text.now t k = c.requires.passes.region in
     let q = c.args.offset / 2 ^ t.layout.shift in
     let some = region.table.room.some in
+    let at : c.args.place ≡ c.args.block * (t.room - 1) + (t.room - 1) = c.requires.right (let h = c.if-place-self.false in omega (arith, h)) in
     let there : 2 * c.args.block + 1 < length k.edges = region.room.blocks c.args.block (let h = c.requires.passes.within in let g = region.inside in omega arith) in
     edges_more c.args.subject.prepared.now c.args.subject.text.now t.way k.region.root k.region.end (t.room - 1) c.args.block k.edges c.store.new.self c.store-2.new.self c.load.new.marks c.load-2.new.marks (row_of t.leaves q) (row_of t.ends q)
     (omega arith) there c.store.ensures.len (subst (λ n. AgreeBelow n (row_of c.store.new.self (2 * c.args.block)) c.load.new.marks) c.nodes-nodes.ensures.value c.store.ensures.same)
     (subst (λ x. AgreeBelow m c.load.new.marks (row_of t.leaves x)) c.state_at-state.ensures (subst (λ n. AgreeBelow n c.load.new.marks (row_of t.leaves c.state_at-state.result)) c.nodes-nodes.ensures.value c.load.ensures.same))
     (λ x low ne. c.store.ensures.other x low ne) (subst (λ n. AgreeBelow n (row_of c.store-2.new.self (2 * c.args.block + 1)) c.load-2.new.marks) c.nodes-nodes.ensures.value c.store-2.ensures.same)
     (subst (λ x. AgreeBelow m c.load-2.new.marks (row_of t.ends x)) c.state_at-state.ensures (subst (λ n. AgreeBelow n c.load-2.new.marks (row_of t.ends c.state_at-state.result)) c.nodes-nodes.ensures.value c.load-2.ensures.same))
-    (λ x low ne. c.store-2.ensures.other x low ne) c.requires.passes.at.1 c.requires.edges
+    (λ x low ne. c.store-2.ensures.other x low ne) (rw (← at) c.requires.passes.at.1) (rw (← at) c.requires.edges)
     (λ x low. region.room.blocks x (let g = region.inside in omega arith)) b after before
 
 pub returns-clause-same : goal.returns-clause-same
@@ -29,9 +29,6 @@ returns-clause-same c =
     let two = c.store-2.ensures in
     record { root = refl; end = refl; places = refl; edges = two.len ∙ one.len; marks = rows_long c.args.self.now.edges c.store.new.self c.store-2.new.self one.len two.len one.lens two.lens }
 
-pub returns-clause-counts : goal.returns-clause-counts
-returns-clause-counts c =
-    let m = length c.args.subject.prepared.now.arena.expr.nodes in
-    let n = c.nodes-nodes.result in
-    let is : n ≡ m = c.nodes-nodes.ensures.value in
-    least_four c.args.steps.now c.load.new.steps c.load-2.new.steps c.store.new.steps c.store-2.new.steps n (4 * m) c.load.ensures.counts c.load-2.ensures.counts c.store.ensures.counts c.store-2.ensures.counts (omega (arith, is))
+pub returns-then-place-self-clause-edges : goal.returns-then-place-self-clause-edges
+returns-then-place-self-clause-edges c =
+    edges_none c.args.subject.prepared.now c.args.subject.text.now c.args.table.now c.args.self.now c.args.block (let h = c.requires.within in let g = c.if-place-self.true in omega (arith, h, g))

@@ -1,18 +1,18 @@
-use Rattle.std.proofs.Common.{◌-◌, refl, ap, ◌∙◌, arith}
+use Rattle.std.proofs.Common.{◌-◌, ◌*◌, ◌/◌, refl, ap, ◌∙◌, arith}
 use Rattle.sedpass.specs.Kept.{EdgesFrom}
-use Rattle.sedpass.proofs.CountLemmas.{least_none, least_both}
-use Rattle.sedpass.proofs.KeptLemmas.{edges_same, kept_passed, make_cost, passes_first, same_kept, same_shape}
+use Rattle.sedpass.proofs.CountLemmas.{least_none, least_both, least_since}
+use Rattle.sedpass.proofs.KeptLemmas.{block_cost, block_right, edges_same, kept_passed, make_cost, passes_first, same_kept, same_shape}
 use Rattle.sedpass.proofs.kept.Kept.make.Goals as goal
 
 pub loop-place-init : goal.loop-place-init
 loop-place-init c =
-    let first = c.last_state-offset.ensures in
+    let first = c.edge_state-offset.ensures in
     let end_is = ap (λ r. r.end) first.region in
     record {
       order = omega arith;
       below = omega arith;
       end_is = end_is;
-      passes = passes_first c.args.subject.prepared.now c.args.subject.text.now c.args.table.now c.last_state-offset.new.table c.args.self.now _ c.args.self.now.region.end c.last_state-offset.result
+      passes = passes_first c.args.subject.prepared.now c.args.subject.text.now c.args.table.now c.edge_state-offset.new.table c.args.self.now _ c.args.self.now.region.end c.edge_state-offset.result
           c.requires.kept.region first.adds.shape first.table first.states first.edges (ap (λ r. r.root) first.region) end_is refl (omega arith) first.there first.at;
       edges = λ b above before. absurd (omega (arith, above, before, end_is));
       right = λ some before. absurd (omega arith);
@@ -24,23 +24,36 @@ loop-place-init c =
       counts = least_none _ _ (omega arith);
     }
 
+pub keep_edge-requires-clause-right : goal.keep_edge-requires-clause-right
+keep_edge-requires-clause-right c before =
+    let old = c.loop-place.invariant in
+    let some = old.passes.region.table.room.some in
+    let on = c.loop-place-test.true in
+    let is = old.end_is in
+    let at = old.right (omega (arith, on)) (omega (arith, before, is)) in
+    block_right c.loop-place.place (c.loop-place.table.room - 1) at.0 (omega (arith, some)) (omega (arith, on)) at.1
+
 pub loop-place-preserved : goal.loop-place-preserved
 loop-place-preserved c =
     let before = c.loop-place.invariant in
-    let now = c.make_block-reached.ensures in
+    let edge = c.keep_edge.ensures in
+    let now = c.pass-offset.ensures in
+    let least = c.max-least.result in
+    let on = c.loop-place-test.true in
     record {
-      order = now.down.0;
-      below = (let h = before.below in let g = now.down.1 in omega (arith, h, g));
-      end_is = now.same.end ∙ before.end_is;
-      passes = now.passes;
-      edges = now.edges;
-      right = λ some below. now.right some;
-      shape = same_shape c.last_state-offset.new.table c.loop-place.table c.make_block-reached.new.table before.shape now.shape;
-      same = same_kept _ c.loop-place.self c.make_block-reached.new.self before.same now.same;
+      order = omega arith;
+      below = (let h = before.below in omega (arith, h));
+      end_is = now.down.same.end ∙ edge.same.end ∙ before.end_is;
+      passes = now.down.passes;
+      edges = edges_same c.args.subject.prepared.now c.args.subject.text.now c.loop-place.table c.pass-offset.new.table c.keep_edge.new.self c.pass-offset.new.self _ least
+          now.down.shape now.down.edges now.down.same.root now.down.same.end (omega arith) edge.edges;
+      right = λ some below. ((c.loop-place.place - 1) / (c.loop-place.table.room - 1), (let h = now.down.shape.1 in rw h (omega (arith, some))));
+      shape = same_shape c.edge_state-offset.new.table c.loop-place.table c.pass-offset.new.table before.shape now.down.shape;
+      same = same_kept _ c.keep_edge.new.self c.pass-offset.new.self (same_kept _ c.loop-place.self c.keep_edge.new.self before.same edge.same) now.down.same;
       to = λ below. now.to;
-      grows = (let h = before.grows in let g = now.cost.0 in omega (arith, h, g));
-      cost = (let h = before.cost in let g = now.cost.1 in omega (arith, h, g));
-      counts = least_both _ _ _ _ _ _ before.counts now.counts (let h = before.below in let g = now.down.1 in omega (arith, h, g));
+      grows = (let h = before.grows in let g = edge.cost.0 in let f = now.cost.0 in omega (arith, h, g, f));
+      cost = (let h = before.cost in let g = block_cost _ least c.loop-place.place c.loop-place.steps c.keep_edge.new.steps c.pass-offset.new.steps (omega arith) edge.cost.1 now.cost.1 in omega (arith, h, g));
+      counts = least_both _ c.loop-place.steps _ _ (2 * (c.loop-place.place - least)) _ before.counts (least_since _ c.keep_edge.new.steps _ _ edge.cost.0 now.counts) (let h = before.below in omega (arith, h));
     }
 
 pub returns-clause-kept : goal.returns-clause-kept
@@ -54,10 +67,10 @@ returns-clause-kept c =
 
 pub returns-clause-cost : goal.returns-clause-cost
 returns-clause-cost c =
-    let one = c.last_state-offset.ensures.cost in
+    let one = c.edge_state-offset.ensures.cost in
     let last = c.loop-place.invariant in
     let grows = last.grows in
-    (omega (arith, one.0, grows), make_cost _ c.args.low (c.args.self.now.region.end - c.args.low) c.loop-place.place c.args.self.now.region.end _ c.last_state-offset.new.steps _ (omega arith) (omega arith) one.1 last.cost)
+    (omega (arith, one.0, grows), make_cost _ c.args.low (c.args.self.now.region.end - c.args.low) c.loop-place.place c.args.self.now.region.end _ c.edge_state-offset.new.steps _ (omega arith) (omega arith) one.1 last.cost)
 
 pub returns-clause-counts : goal.returns-clause-counts
-returns-clause-counts c = least_both _ c.last_state-offset.new.steps _ _ _ _ c.last_state-offset.ensures.counts c.loop-place.invariant.counts (omega arith)
+returns-clause-counts c = least_both _ c.edge_state-offset.new.steps _ _ _ _ c.edge_state-offset.ensures.counts c.loop-place.invariant.counts (omega arith)

@@ -1,7 +1,6 @@
 use Rattle.std.proofs.Common.{rules, ◌≡◌, ◌+◌, ◌<◌, ◌≤◌, refl, sym, ap, ◌∙◌, subst, true≢false, arith}
 use Rattle.std.specs.Prelude.{length, slice_index_or}
 use Rattle.std.proofs.lemmas.Bool.{eqb-true, eq-eqb}
-use Rattle.sedtext.proofs.MarkLemmas.{default_same}
 use Rattle.sedpass.specs.Kept.{Follows, Meet}
 use Rattle.sedpass.proofs.AheadLemmas.{follows_next, meet_on, meet_read, place_cost}
 use Rattle.sedpass.proofs.CountLemmas.{least_none, least_both, least_since, least_up}
@@ -35,15 +34,14 @@ meets-requires c =
     let place = c.loop-place.place in
     let above : k.region.from ≤ place = (let h = old.above in let g = c.requires.from in omega (arith, h, g)) in
     let before : place < k.region.to = (let h = ap (λ r. r.to) old.region in let g = c.loop-place-test.true in omega (arith, h, g)) in
-    let row = kept_row p w t k place c.requires.kept above before in
-    let inside : place < length c.loop-place.self.states.items = subst (λ v. place < length v.items) (sym old.states) row.2 in
-    let is : c.index.result.now ≡ slice_index_or k.states.items place 0 = c.index.ensures ∙ default_same c.loop-place.self.states.items place c.index.result.now 0 inside ∙ ap (λ v. slice_index_or v.items place 0) old.states in
+    let read = subst (λ v. c.index.result.now ≡ slice_index_or v.items place c.index.result.now) old.states c.index.ensures in
+    let row = kept_row p w t k place c.index.result.now c.requires.kept above before read in
     let count = c.nodes-nodes.ensures.value in
     record {
       row = search rules;
-      other_row = rw is row.0;
+      other_row = row.0;
       inside = search rules;
-      there = rw is (omega (arith, row.1, count));
+      there = omega (arith, row.1, count);
     }
 
 pub returns-then-not-meets-clause-meets : goal.returns-then-not-meets-clause-meets
@@ -56,13 +54,11 @@ returns-then-not-meets-clause-meets c a i low start follows =
     let place = c.loop-place.place in
     let above : k.region.from ≤ place = (let h = old.above in let g = c.requires.from in omega (arith, h, g)) in
     let before : place < k.region.to = (let h = ap (λ r. r.to) old.region in let g = c.loop-place-test.true in omega (arith, h, g)) in
-    let row = kept_row p w t k place c.requires.kept above before in
-    let inside : place < length c.loop-place.self.states.items = subst (λ v. place < length v.items) (sym old.states) row.2 in
-    let is : c.index.result.now ≡ slice_index_or k.states.items place 0 = c.index.ensures ∙ default_same c.loop-place.self.states.items place c.index.result.now 0 inside ∙ ap (λ v. slice_index_or v.items place 0) old.states in
+    let read = subst (λ v. c.index.result.now ≡ slice_index_or v.items place c.index.result.now) old.states c.index.ensures in
     let on = old.meets a i low start follows in
-    let read = meet_read p w t c.loop-place.ahead k a i place c.loop-place.offset c.nodes-nodes.result c.state_at.result c.index.result.now c.meets.result c.requires.kept above before on.0
-    c.nodes-nodes.ensures.value c.state_at.ensures is c.meets.ensures.meets in
-    (on.0, on.1, λ under met. true≢false (sym (read.1 met) ∙ c.if-not-meets.true))
+    let tells = meet_read p w t c.loop-place.ahead k a i place c.loop-place.offset c.nodes-nodes.result c.state_at.result c.index.result.now c.meets.result c.requires.kept above before on.0
+    c.nodes-nodes.ensures.value c.state_at.ensures read c.meets.ensures.meets in
+    (on.0, on.1, λ under met. true≢false (sym (tells.1 met) ∙ c.if-not-meets.true))
 
 pub returns-then-not-meets-clause-counts : goal.returns-then-not-meets-clause-counts
 returns-then-not-meets-clause-counts c = least_up _ c.loop-place.steps _ _ c.loop-place.invariant.counts c.meets.ensures.cost.0
@@ -77,9 +73,7 @@ loop-place-preserved c =
     let place = c.loop-place.place in
     let above : k.region.from ≤ place = (let h = old.above in let g = c.requires.from in omega (arith, h, g)) in
     let before : place < k.region.to = (let h = ap (λ r. r.to) old.region in let g = c.loop-place-test.true in omega (arith, h, g)) in
-    let row = kept_row p w t k place c.requires.kept above before in
-    let inside : place < length c.loop-place.self.states.items = subst (λ v. place < length v.items) (sym old.states) row.2 in
-    let is : c.index.result.now ≡ slice_index_or k.states.items place 0 = c.index.ensures ∙ default_same c.loop-place.self.states.items place c.index.result.now 0 inside ∙ ap (λ v. slice_index_or v.items place 0) old.states in
+    let read = subst (λ v. c.index.result.now ≡ slice_index_or v.items place c.index.result.now) old.states c.index.ensures in
     let m = length p.arena.expr.nodes in
     let next = c.next-code.ensures in
     let some : 1 ≤ m = (let h = c.requires.kept.region.root.0 in omega (arith, h)) in
@@ -93,17 +87,17 @@ loop-place-preserved c =
       region = old.region;
       states = old.states;
       edges = old.edges;
-      ahead = next.table;
-      shape = same_shape c.args.ahead.now c.loop-place.ahead c.next-code.new.self old.shape next.adds.shape;
-      offset = names_offset p c.next-code.new.self next.table _ _ _ next.names c.offset_of-offset.ensures;
+      ahead = next.codes.table;
+      shape = same_shape c.args.ahead.now c.loop-place.ahead c.next-code.new.self old.shape next.codes.adds.shape;
+      offset = names_offset p c.next-code.new.self next.codes.table _ _ _ next.codes.names c.offset_of-offset.ensures;
       meets = λ a i low start follows.
           let on = old.meets a i low start follows in
-          let read = meet_read p w t c.loop-place.ahead k a i place c.loop-place.offset c.nodes-nodes.result c.state_at.result c.index.result.now c.meets.result c.requires.kept above before on.0
-          c.nodes-nodes.ensures.value c.state_at.ensures is c.meets.ensures.meets in (
-            follows_next p w c.loop-place.ahead c.next-code.new.self a i place c.byte-byte.result c.loop-place.offset c.offset_of-offset.result _ front one next.adds.shape (let h = old.above in omega (arith, h, start)) c.byte-byte.ensures.byte
+          let tells = meet_read p w t c.loop-place.ahead k a i place c.loop-place.offset c.nodes-nodes.result c.state_at.result c.index.result.now c.meets.result c.requires.kept above before on.0
+          c.nodes-nodes.ensures.value c.state_at.ensures read c.meets.ensures.meets in (
+            follows_next p w c.loop-place.ahead c.next-code.new.self a i place c.byte-byte.result c.loop-place.offset c.offset_of-offset.result _ front one next.codes.adds.shape (let h = old.above in omega (arith, h, start)) c.byte-byte.ensures.byte
                 (λ h. eqb-true (place + 1) c.len-length.result h ∙ last, λ e. eq-eqb (place + 1) c.len-length.result (e ∙ sym last))
-                (names_state p c.next-code.new.self next.table _ _ _ next.names c.offset_of-offset.ensures) on.0,
-            meet_on p w t k a i c.args.from place on.1 (read.0 c.if-not-meets.false),
+                (names_state p c.next-code.new.self next.codes.table _ _ _ next.codes.names c.offset_of-offset.ensures) on.0,
+            meet_on p w t k a i c.args.from place on.1 (tells.0 c.if-not-meets.false),
           );
       grows = (let h = old.grows in let g = c.meets.ensures.cost.0 in let f = c.byte-byte.ensures.cost.0 in let e = next.cost.0 in omega (arith, h, g, f, e));
       cost = place_cost m c.args.from place c.loop-place.steps c.args.steps.now c.meets.new.steps c.byte-byte.new.steps c.next-code.new.steps some old.cost (let h = c.meets.ensures.cost.1 in omega (arith, h, count)) c.byte-byte.ensures.cost.1 next.cost.1;

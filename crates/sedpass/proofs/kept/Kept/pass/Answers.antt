@@ -1,19 +1,17 @@
-use Rattle.std.proofs.Common.{◌≡◌, ◌+◌, ◌-◌, ◌*◌, ◌<◌, refl, ◌∙◌, arith}
+use Rattle.std.proofs.Common.{◌≡◌, ◌+◌, ◌-◌, ◌*◌, inl, inr, refl, subst, arith}
 use Rattle.std.specs.Prelude.{length}
+use Rattle.std.proofs.lemmas.Bool.{eqb-true, eq-eqb}
+use Rattle.sedpass.specs.Kept.{ComesDown}
 use Rattle.sedpass.proofs.CountLemmas.{least_none, least_both}
-use Rattle.sedpass.proofs.KeptLemmas.{down_cost, same_kept, same_shape}
+use Rattle.sedpass.proofs.KeptLemmas.{comes_down, down_cost, least_then}
+use Rattle.sedpass.proofs.TableLemmas.{names_offset, names_state}
 use Rattle.sedpass.proofs.kept.Kept.pass.Goals as goal
 
 pub loop-place-init : goal.loop-place-init
 loop-place-init c = record {
   order = omega arith;
   below = omega arith;
-  passes = c.requires.passes;
-  shape = (refl, refl, refl, refl, refl);
-  same = record { root = refl; end = refl; places = refl; edges = refl; marks = λ q. refl };
-  low_is = refl;
-  from_is = refl;
-  edges = refl;
+  down = record { passes = c.requires.passes; shape = (refl, refl, refl, refl, refl); same = record { root = refl; end = refl; places = refl; edges = refl; marks = λ q. refl }; low = refl; from = refl; edges = refl };
   to = λ h. absurd (omega arith);
   steady = λ h. (refl, h);
   grows = omega arith;
@@ -21,27 +19,56 @@ loop-place-init c = record {
   counts = least_none _ _ (omega arith);
 }
 
+pub overflow_cast-state_at : goal.overflow_cast-state_at
+overflow_cast-state_at c =
+    let codes = c.next-code.ensures.codes in
+    let low = (names_offset c.args.subject.prepared.now c.next-code.new.self codes.table _ _ _ codes.names c.offset_of-offset.ensures).0 in
+    omega (arith, c.state_at.ensures, low, codes.table.room.count, codes.table.room.few)
+
 pub loop-place-preserved : goal.loop-place-preserved
 loop-place-preserved c =
+    let p = c.args.subject.prepared.now in
     let before = c.loop-place.invariant in
-    let now = c.go_back-offset.ensures in
-    let above : c.loop-place.place ≡ c.loop-place.place - 1 + 1 = omega arith in
+    let next = c.next-code.ensures in
+    let after = c.next-code.new.self in
+    let place = c.loop-place.place - 1 in
+    let above : c.loop-place.place ≡ place + 1 = omega arith in
+    let some = before.down.passes.region.root.0 in
     record {
       order = omega arith;
       below = omega arith;
-      passes = now.passes;
-      shape = same_shape c.args.table.now c.loop-place.table c.go_back-offset.new.table before.shape now.shape;
-      same = same_kept c.args.self.now c.loop-place.self c.go_back-offset.new.self before.same now.same;
-      low_is = now.low ∙ before.low_is;
-      from_is = now.from ∙ before.from_is;
-      edges = now.edges ∙ before.edges;
-      to = λ h. now.to;
-      steady = λ h.
-          let steady = before.steady h in
-          let fits : c.loop-place.table.count < c.loop-place.table.room = (let g = before.shape.1 in let f = steady.1 in omega arith) in
-          let next = now.steady fits in
-          (next.0 ∙ steady.0, (let f = steady.1 in let g = next.1 in omega arith));
-      grows = (let g = before.grows in let f = now.cost.0 in omega arith);
-      cost = down_cost (35 * length c.args.subject.prepared.now.arena.expr.nodes) (c.loop-place.place - 1) c.loop-place.place c.loop-place.steps c.go_back-offset.new.steps _ above now.cost.1 before.cost;
-      counts = least_both _ _ _ _ 2 _ before.counts now.counts (omega arith);
+      down = comes_down p c.args.subject.text.now c.args.table.now c.loop-place.table after c.args.self.now c.loop-place.self _ place c.loop-place.offset c.offset_of-offset.result c.byte-byte.result _
+          (subst (λ x. ComesDown p c.args.subject.text.now c.args.table.now c.loop-place.table c.args.self.now c.loop-place.self x c.loop-place.offset) above before.down)
+          next.codes.table next.codes.adds refl refl refl refl refl refl (rw (← c.state_at.ensures) refl) (inr (c.if-table-epoch.false, refl))
+          (names_offset p after next.codes.table _ _ _ next.codes.names c.offset_of-offset.ensures) c.byte-byte.ensures.byte (eqb-true place 0, eq-eqb place 0)
+          (names_state p after next.codes.table _ _ _ next.codes.names c.offset_of-offset.ensures);
+      to = λ h. (let g = before.down.passes.above in omega (arith, g));
+      steady = λ h. (let s = before.steady h in let up = (next.codes.adds.grows c.if-table-epoch.false).1 in (s.0, (let g = s.1 in omega (arith, g, up))));
+      grows = (let g = before.grows in let f = next.cost.0 in let h = c.byte-byte.ensures.cost.0 in omega (arith, g, f, h));
+      cost = down_cost (35 * length p.arena.expr.nodes) place c.loop-place.place c.loop-place.steps c.next-code.new.steps _ above (let f = next.cost.1 in let h = c.byte-byte.ensures.cost.1 in omega (arith, f, h, some)) before.cost;
+      counts = least_both _ _ _ _ 2 _ before.counts (least_then _ c.byte-byte.new.steps _ 1 1 2 c.byte-byte.ensures.counts next.counts refl) (omega arith);
+    }
+
+pub loop-place-preserved-then-table-epoch : goal.loop-place-preserved-then-table-epoch
+loop-place-preserved-then-table-epoch c =
+    let p = c.args.subject.prepared.now in
+    let before = c.loop-place.invariant in
+    let next = c.next-code.ensures in
+    let after = c.next-code.new.self in
+    let place = c.loop-place.place - 1 in
+    let above : c.loop-place.place ≡ place + 1 = omega arith in
+    let some = before.down.passes.region.root.0 in
+    record {
+      order = omega arith;
+      below = omega arith;
+      down = comes_down p c.args.subject.text.now c.args.table.now c.loop-place.table after c.args.self.now c.loop-place.self _ place c.loop-place.offset c.offset_of-offset.result c.byte-byte.result _
+          (subst (λ x. ComesDown p c.args.subject.text.now c.args.table.now c.loop-place.table c.args.self.now c.loop-place.self x c.loop-place.offset) above before.down)
+          next.codes.table next.codes.adds refl refl refl refl refl refl (rw (← c.state_at.ensures) refl) (inl (c.if-table-epoch.true, refl))
+          (names_offset p after next.codes.table _ _ _ next.codes.names c.offset_of-offset.ensures) c.byte-byte.ensures.byte (eqb-true place 0, eq-eqb place 0)
+          (names_state p after next.codes.table _ _ _ next.codes.names c.offset_of-offset.ensures);
+      to = λ h. omega arith;
+      steady = λ h. (let s = before.steady h in let room = before.down.shape.1 in absurd (c.if-table-epoch.true (next.codes.adds.full (let g = s.1 in omega (arith, g, room)))));
+      grows = (let g = before.grows in let f = next.cost.0 in let h = c.byte-byte.ensures.cost.0 in omega (arith, g, f, h));
+      cost = down_cost (35 * length p.arena.expr.nodes) place c.loop-place.place c.loop-place.steps c.next-code.new.steps _ above (let f = next.cost.1 in let h = c.byte-byte.ensures.cost.1 in omega (arith, f, h, some)) before.cost;
+      counts = least_both _ _ _ _ 2 _ before.counts (least_then _ c.byte-byte.new.steps _ 1 1 2 c.byte-byte.ensures.counts next.counts refl) (omega arith);
     }

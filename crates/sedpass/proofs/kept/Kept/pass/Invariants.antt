@@ -1,20 +1,14 @@
 use Rattle.std.proofs.Common.{◌≡◌, ◌+◌, ◌-◌, ◌*◌, ◌<◌, ◌≤◌}
 use Rattle.std.specs.Prelude.{length}
 use Rattle.sedre.specs.Steps.{TakesAtLeast}
-use Rattle.sedpass.specs.Table.{SameShape}
-use Rattle.sedpass.specs.Kept.{PassesDownTo, SameKept}
+use Rattle.sedpass.specs.Kept.{ComesDown}
 use Rattle.sedpass.proofs.kept.Kept.pass.Given as goal
 
 abbrev pub invariant-loop-place : goal.invariant-loop-place
 invariant-loop-place l = record {
   order : l.low ≤ l.place;
   below : l.place ≤ l.high;
-  passes : PassesDownTo l.subject.prepared.now l.subject.text.now l.table l.self l.place l.offset;
-  shape : SameShape l.initial.table l.table;
-  same : SameKept l.initial.self l.self;
-  low_is : l.self.region.low ≡ l.initial.self.region.low;
-  from_is : l.self.region.from ≡ l.initial.self.region.from;
-  edges : l.self.edges ≡ l.initial.self.edges;
+  down : ComesDown l.subject.prepared.now l.subject.text.now l.initial.table l.table l.initial.self l.self l.place l.offset;
   to : l.place < l.high → l.place < l.self.region.to;
   steady : l.initial.table.count + (l.high - l.low) ≤ l.initial.table.room →
       (l.self.region.to ≡ l.initial.self.region.to) × (l.table.count + (l.place - l.low) ≤ l.initial.table.room);

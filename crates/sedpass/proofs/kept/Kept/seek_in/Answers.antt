@@ -1,7 +1,5 @@
-use Rattle.std.proofs.Common.{◌≡◌, ◌↔◌, false, ◌∙◌, subst, IsTrue, arith}
-use Rattle.std.specs.Prelude.{length, not, slice_index_or}
-use Rattle.sedtext.proofs.MarkLemmas.{default_same}
-use Rattle.sedtext.specs.Words.{row_of}
+use Rattle.std.proofs.Common.{◌↔◌, IsTrue, arith}
+use Rattle.std.specs.Prelude.{length, not}
 use Rattle.sedpass.specs.Kept.{ends_told}
 use Rattle.sedpass.specs.Regions.{ReachesEnd}
 use Rattle.sedpass.proofs.CountLemmas.{least_none, least_both, least_counted, least_up}
@@ -22,10 +20,9 @@ pub get-requires : goal.get-requires
 get-requires c =
     let above = c.loop-place.invariant.above in
     let from = c.requires.from in
-    let row = kept_row c.args.subject.prepared.now c.args.subject.text.now c.args.table.now c.args.self.now c.loop-place.place c.requires.kept (omega (arith, above, from)) c.loop-place-test.true in
-    let is : c.index.result.now ≡ slice_index_or c.args.self.now.states.items c.loop-place.place 0 = c.index.ensures ∙ default_same c.args.self.now.states.items c.loop-place.place c.index.result.now 0 row.2 in
+    let row = kept_row c.args.subject.prepared.now c.args.subject.text.now c.args.table.now c.args.self.now c.loop-place.place c.index.result.now c.requires.kept (omega (arith, above, from)) c.loop-place-test.true c.index.ensures in
     let x = c.requires.x in
-    record { row = rw is row.0; inside = rw is (omega (arith, row.1, x)) }
+    record { row = row.0; inside = omega (arith, row.1, x) }
 
 pub returns-then-get-marked-clause-found : goal.returns-then-get-marked-clause-found
 returns-then-get-marked-clause-found c before =
@@ -35,11 +32,8 @@ returns-then-get-marked-clause-found c before =
     let k = c.args.self.now in
     let above = c.loop-place.invariant.above in
     let from = c.requires.from in
-    let row = kept_row p w t k c.loop-place.place c.requires.kept (omega (arith, above, from)) before in
-    let is : c.index.result.now ≡ slice_index_or k.states.items c.loop-place.place 0 = c.index.ensures ∙ default_same k.states.items c.loop-place.place c.index.result.now 0 row.2 in
-    let mark : c.get.result ≡ slice_index_or (row_of t.ends (slice_index_or k.states.items c.loop-place.place 0)) c.args.x false = subst (λ s. c.get.result ≡ slice_index_or (row_of t.ends s) c.args.x false) is c.get.ensures.mark in
     as_asked (ReachesEnd p.arena.expr.nodes w k.region.root (ends_told t.way.all_starts (length w) k.region.end) c.args.x c.loop-place.place) c.get.result c.args.marked c.if-get-marked.true
-    (kept_mark p w t k c.args.x c.loop-place.place c.get.result c.requires.kept c.requires.x (omega (arith, above, from)) before mark)
+    (kept_mark p w t k c.args.x c.loop-place.place c.index.result.now c.get.result c.requires.kept c.requires.x (omega (arith, above, from)) before c.index.ensures c.get.ensures.mark)
 
 pub returns-then-get-marked-clause-counts : goal.returns-then-get-marked-clause-counts
 returns-then-get-marked-clause-counts c = least_up _ c.loop-place.steps _ _ c.loop-place.invariant.counts c.get.ensures.cost.0
@@ -54,12 +48,9 @@ loop-place-preserved c =
     let above = old.above in
     let from = c.requires.from in
     let before = c.loop-place-test.true in
-    let row = kept_row p w t k c.loop-place.place c.requires.kept (omega (arith, above, from)) before in
-    let is : c.index.result.now ≡ slice_index_or k.states.items c.loop-place.place 0 = c.index.ensures ∙ default_same k.states.items c.loop-place.place c.index.result.now 0 row.2 in
-    let mark : c.get.result ≡ slice_index_or (row_of t.ends (slice_index_or k.states.items c.loop-place.place 0)) c.args.x false = subst (λ s. c.get.result ≡ slice_index_or (row_of t.ends s) c.args.x false) is c.get.ensures.mark in
     let here : IsTrue (not c.args.marked) ↔ ReachesEnd p.arena.expr.nodes w k.region.root (ends_told t.way.all_starts (length w) k.region.end) c.args.x c.loop-place.place =
     not_asked (ReachesEnd p.arena.expr.nodes w k.region.root (ends_told t.way.all_starts (length w) k.region.end) c.args.x c.loop-place.place) c.get.result c.args.marked c.if-get-marked.false
-    (kept_mark p w t k c.args.x c.loop-place.place c.get.result c.requires.kept c.requires.x (omega (arith, above, from)) before mark) in
+    (kept_mark p w t k c.args.x c.loop-place.place c.index.result.now c.get.result c.requires.kept c.requires.x (omega (arith, above, from)) before c.index.ensures c.get.ensures.mark) in
     record {
       above = omega (arith, above);
       below = omega (arith, before);

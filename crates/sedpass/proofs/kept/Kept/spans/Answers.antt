@@ -1,8 +1,6 @@
 use Rattle.std.proofs.Common.{◌≡◌, ◌<◌, ◌↔◌, sym, ap, ◌∙◌, subst, IsTrue, arith}
-use Rattle.std.specs.Prelude.{false, slice_index_or}
-use Rattle.sedtext.proofs.MarkLemmas.{default_same}
+use Rattle.std.specs.Prelude.{false}
 use Rattle.sedtext.specs.Reach.{At, one_start}
-use Rattle.sedtext.specs.Words.{row_of}
 use Rattle.sedpass.specs.Regions.{IsLastIn}
 use Rattle.sedpass.proofs.LeaveLemmas.{last_inside}
 use Rattle.sedpass.proofs.CountLemmas.{least_counted, least_since}
@@ -33,11 +31,10 @@ pub get-requires : goal.get-requires
 get-requires c =
     let above = c.ready.ensures.from in
     let to = c.ready.ensures.to in
-    let row = kept_row c.args.subject.prepared.now c.args.subject.text.now c.ready.new.table c.ready.new.self c.args.place c.ready.ensures.kept above (omega (arith, to.0, to.1)) in
-    let is : c.index.result.now ≡ slice_index_or c.ready.new.self.states.items c.args.place 0 = c.index.ensures ∙ default_same c.ready.new.self.states.items c.args.place c.index.result.now 0 row.2 in
+    let row = kept_row c.args.subject.prepared.now c.args.subject.text.now c.ready.new.table c.ready.new.self c.args.place c.index.result.now c.ready.ensures.kept above (omega (arith, to.0, to.1)) c.index.ensures in
     let root = c.requires.kept.region.root.0 in
     let up = last_inside c.args.subject.prepared.now.arena.expr.nodes c.args.subject.text.now c.args.self.now.region.root (one_start 0) c.requires.kept.region.table.expr.arena c.args.x c.requires.last in
-    record { row = rw is row.0; inside = rw is (omega (arith, row.1, root, up)) }
+    record { row = row.0; inside = omega (arith, row.1, root, up) }
 
 pub returns-clause-spans : goal.returns-clause-spans
 returns-clause-spans c =
@@ -48,13 +45,10 @@ returns-clause-spans c =
     let above = c.ready.ensures.from in
     let to = c.ready.ensures.to in
     let before : c.args.place < k.region.to = omega (arith, to.0, to.1) in
-    let row = kept_row p w t k c.args.place c.ready.ensures.kept above before in
-    let is : c.index.result.now ≡ slice_index_or k.states.items c.args.place 0 = c.index.ensures ∙ default_same k.states.items c.args.place c.index.result.now 0 row.2 in
-    let mark : c.get.result ≡ slice_index_or (row_of t.ends (slice_index_or k.states.items c.args.place 0)) c.args.x false = subst (λ s. c.get.result ≡ slice_index_or (row_of t.ends s) c.args.x false) is c.get.ensures.mark in
     let one : t.way.all_starts ≡ false = ap (λ v. v.all_starts) c.ready.ensures.shape.0 ∙ c.requires.all_starts in
     let last : IsLastIn p.arena.expr.nodes k.region.root c.args.x = subst (λ r. IsLastIn p.arena.expr.nodes r c.args.x) (sym c.ready.ensures.same.root) c.requires.last in
     subst (λ e. IsTrue c.get.result ↔ At p.arena.expr.nodes w c.args.x c.args.place e) c.ready.ensures.same.end
-    (mark_spans p w t k c.args.x c.args.place c.get.result c.ready.ensures.kept one last above before mark)
+    (mark_spans p w t k c.args.x c.args.place c.index.result.now c.get.result c.ready.ensures.kept one last above before c.index.ensures c.get.ensures.mark)
 
 pub returns-clause-counts : goal.returns-clause-counts
 returns-clause-counts c = least_since _ c.ready.new.steps _ _ c.ready.ensures.cost.0 (least_counted _ _ 1 1 c.get.ensures.counts (omega arith))

@@ -103,18 +103,19 @@ returns c =
     let law = bits_dead m L in
     let told : IsTold (state c.args.root (bits m L) (bits m E) flags) = (c.get.ensures.mark ∙ sym (bits_here m E c.args.root c.requires.root), (λ h. law.0 (dead.0 h), λ h. dead.1 (law.1 h))) in
     record {
-      table = one_more c.args.prepared.now T N adds refl t room refl refl before clear
-          (subst (λ (a : State). a.root < m) (sym added) c.requires.root)
-          (subst (λ (a : State). IsTold a) (sym added) told);
-      adds = adds;
-      epoch = refl;
-      count = refl;
-      names = record {
-        to = T.count;
-        there = omega arith;
-        code = c.code_of.ensures ∙ ap (λ b. code_of b (T.count * 2 ^ T.layout.shift % 2 ^ 64)) c.stops.ensures ∙ ap (λ x. code_of (stops T.way flags) x) place
-            ∙ ap (λ (a : State). code_of (stops T.way a.flags) (T.count * 2 ^ T.layout.shift)) (sym added);
-        is = subst (λ (a : State). HasRow c.args.root (bits m L) (bits m E) a) (sym added) (refl, refl, refl);
+      codes = record {
+        table = one_more c.args.prepared.now T N adds refl t room refl refl before clear
+            (subst (λ (a : State). a.root < m) (sym added) c.requires.root)
+            (subst (λ (a : State). IsTold a) (sym added) told);
+        adds = adds;
+        names = record {
+          to = T.count;
+          there = omega arith;
+          code = c.code_of.ensures ∙ ap (λ b. code_of b (T.count * 2 ^ T.layout.shift % 2 ^ 64)) c.stops.ensures ∙ ap (λ x. code_of (stops T.way flags) x) place
+              ∙ ap (λ (a : State). code_of (stops T.way a.flags) (T.count * 2 ^ T.layout.shift)) (sym added);
+          is = subst (λ (a : State). HasRow c.args.root (bits m L) (bits m E) a) (sym added) (refl, refl, refl);
+        };
       };
+      count = refl;
       cost = search rules;
     }

@@ -1,5 +1,6 @@
 use Rattle.std.proofs.Common.{◌*◌, ◌/◌, ◌^◌, ◌<◌, ◌∙◌, false, length, ap, inl, inr, arith}
 use Rattle.std.specs.Prelude.{slice_index_or}
+use Rattle.std.specs.Option.{option_or}
 use Rattle.sedtext.proofs.MarkLemmas.{default_same}
 use Rattle.sedpass.specs.Cells.{stops}
 use Rattle.sedpass.specs.Table.{state_of}
@@ -35,7 +36,7 @@ returns-then-self-clause-passes c keeps start after within names last =
     let flags = c.index-flags.ensures ∙ ap (λ x. slice_index_or T.flags.items x c.index-flags.result.now) c.state_at.ensures
     ∙ default_same T.flags.items (c.offset_of-offset.result / 2 ^ T.layout.shift) c.index-flags.result.now (record { ends = false; dead = false }) inside in
     arrive_low c.args.prepared.now T c.args.text.now start c.args.place c.args.code c.offset_of-offset.result c.args.end c.requires.table keeps after within c.offset_of-offset.ensures names last
-    c.index-flags.result.now c.last_end.result T.way.all_starts c.if-code-ge-PLAIN.false flags c.last_end.ensures.here c.last_end.ensures.before (λ h. inl h)
+    c.index-flags.result.now c.or.result T.way.all_starts c.if-code-ge-PLAIN.false flags (c.or.ensures ∙ ap (λ o. option_or o c.args.end) c.then_some.ensures) (λ h. inl h)
 
 pub returns-else-self-clause-offset : goal.returns-else-self-clause-offset
 returns-else-self-clause-offset c = names_offset c.args.prepared.now c.args.self.now c.requires.table (λ a. Unit {0}) c.args.code c.offset_of-offset.result c.requires.code c.offset_of-offset.ensures
@@ -48,4 +49,4 @@ returns-else-self-clause-passes c keeps start after within names last =
     let flags = c.index-flags.ensures ∙ ap (λ x. slice_index_or T.flags.items x c.index-flags.result.now) c.state_at.ensures
     ∙ default_same T.flags.items (c.offset_of-offset.result / 2 ^ T.layout.shift) c.index-flags.result.now (record { ends = false; dead = false }) inside in
     arrive_low c.args.prepared.now T c.args.text.now start c.args.place c.args.code c.offset_of-offset.result c.args.end c.requires.table keeps after within c.offset_of-offset.ensures names last
-    c.index-flags.result.now c.last_end.result c.index-flags.result.now.dead c.if-code-ge-PLAIN.false flags c.last_end.ensures.here c.last_end.ensures.before (λ h. inr (c.if-self.false, h))
+    c.index-flags.result.now c.or.result c.index-flags.result.now.dead c.if-code-ge-PLAIN.false flags (c.or.ensures ∙ ap (λ o. option_or o c.args.end) c.then_some.ensures) (λ h. inr (c.if-self.false, h))

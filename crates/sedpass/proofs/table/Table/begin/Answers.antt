@@ -1,30 +1,41 @@
-use Rattle.std.proofs.Common.{length, sym, subst}
+use Rattle.std.proofs.Common.{length, refl, sym, subst}
+use Rattle.std.specs.Vec.{with_item}
 use Rattle.sedpass.specs.Rows.{nodes_of}
-use Rattle.sedpass.specs.Table.{BeginsIn, MayBegin, Names}
+use Rattle.sedpass.specs.Table.{AddsStates, BeginsIn, IsTable, MayBegin, Names}
 use Rattle.sedpass.specs.declared.rows.Way.{Way}
-use Rattle.sedpass.proofs.TableLemmas.{adds_then, names_first, names_more}
+use Rattle.sedpass.specs.declared.table.Beginning.{Beginning}
+use Rattle.sedpass.specs.declared.table.Table.{Table}
+use Rattle.sedpass.proofs.TableLemmas.{adds_same, adds_then, names_first, names_more, note_beginning}
 use Rattle.sedpass.proofs.table.Table.begin.Goals as goal
 
-pub note_first-requires-clause-root : goal.note_first-requires-clause-root
-note_first-requires-clause-root c = subst (λ (w : Way). MayBegin c.args.prepared.now w c.args.root) (sym c.intern-code.ensures.adds.shape.0) c.requires.root
-
-pub note_first-requires-clause-begins : goal.note_first-requires-clause-begins
-note_first-requires-clause-begins c =
+pub returns-then-self-lt-LAST_EPOCHS-clause-codes : goal.returns-then-self-lt-LAST_EPOCHS-clause-codes
+returns-then-self-lt-LAST_EPOCHS-clause-codes c =
     let p = c.args.prepared.now in
+    let m = length p.arena.expr.nodes in
+    let T = c.args.self.now in
     let S = c.intern-code.new.self in
-    subst (λ (w : Way). Names (length p.arena.expr.nodes) S (BeginsIn (nodes_of w p.arena.expr) w c.args.root c.args.kind) c.intern-code.result) (sym c.intern-code.ensures.adds.shape.0)
-    (names_first p S c.args.self.now.way c.args.root c.intern-code.result c.args.kind c.first.new.work.leaves c.first.new.work.ends c.intern-code.ensures.names c.first.ensures.first)
+    let codes = c.intern-code.ensures.codes in
+    let code = c.intern-code.result in
+    let root = c.args.root in
+    let kind = c.args.kind in
+    let at = c.beginning_at-at.result in
+    let fresh : Beginning = record { epoch = S.epoch; code = code } in
+    let N : Table = record S { beginnings = with_item S.beginnings at fresh } in
+    let same : AddsStates m S N = adds_same m S N (refl, refl, refl, refl, refl) refl refl (λ x. refl) in
+    let begins = names_first p S T.way root code kind c.first.new.work.leaves c.first.new.work.ends codes.names c.first.ensures.first in
+    let begins_now : Names m S (BeginsIn (nodes_of S.way p.arena.expr) S.way root kind) code = subst (λ (w : Way). Names m S (BeginsIn (nodes_of w p.arena.expr) w root kind) code) (sym codes.adds.shape.0) begins in
+    let may : MayBegin p S.way root = subst (λ (w : Way). MayBegin p w root) (sym codes.adds.shape.0) c.requires.root in
+    record {
+      table = subst (λ i. IsTable p (record S { beginnings = with_item S.beginnings i fresh })) (sym c.beginning_at-at.ensures) (note_beginning p S codes.table root code kind may c.if-self-lt-LAST_EPOCHS.true begins_now);
+      adds = adds_then m T S N codes.adds same refl refl;
+      names = names_more p S N same refl (BeginsIn (nodes_of T.way p.arena.expr) T.way root kind) code begins;
+    }
 
-pub returns-clause-adds : goal.returns-clause-adds
-returns-clause-adds c =
-    let noted = c.note_first.ensures in
-    adds_then (length c.args.prepared.now.arena.expr.nodes) c.args.self.now c.intern-code.new.self c.note_first.new.self c.intern-code.ensures.adds noted.adds noted.epoch noted.count
-
-pub returns-clause-names : goal.returns-clause-names
-returns-clause-names c =
-    let p = c.args.prepared.now in
-    let S = c.intern-code.new.self in
-    let way = c.args.self.now.way in
-    let noted = c.note_first.ensures in
-    names_more p S c.note_first.new.self noted.adds noted.epoch (BeginsIn (nodes_of way p.arena.expr) way c.args.root c.args.kind) c.intern-code.result
-    (names_first p S way c.args.root c.intern-code.result c.args.kind c.first.new.work.leaves c.first.new.work.ends c.intern-code.ensures.names c.first.ensures.first)
+pub returns-else-self-lt-LAST_EPOCHS-clause-codes : goal.returns-else-self-lt-LAST_EPOCHS-clause-codes
+returns-else-self-lt-LAST_EPOCHS-clause-codes c =
+    let codes = c.intern-code.ensures.codes in
+    record {
+      table = codes.table;
+      adds = codes.adds;
+      names = names_first c.args.prepared.now c.intern-code.new.self c.args.self.now.way c.args.root c.intern-code.result c.args.kind c.first.new.work.leaves c.first.new.work.ends codes.names c.first.ensures.first;
+    }

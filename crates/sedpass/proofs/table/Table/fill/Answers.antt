@@ -1,64 +1,69 @@
-use Rattle.std.proofs.Common.{rules, ◌≡◌, Bool, ◌/◌, ◌^◌, ◌<◌, ◌∙◌, length, ap, subst, arith}
-use Rattle.std.specs.Prelude.{slice_index_or}
+use Rattle.std.proofs.Common.{Bool, ◌+◌, length, refl, subst, arith}
+use Rattle.std.specs.Vec.{with_item}
 use Rattle.sedre.specs.Steps.{TakesAtLeast}
-use Rattle.sedtext.specs.Words.{AgreeBelow, row_of}
-use Rattle.sedtext.proofs.MarkLemmas.{default_same}
 use Rattle.sedtext.proofs.StepLemmas.{least_own}
 use Rattle.sedpass.specs.Rows.{nodes_of}
-use Rattle.sedpass.specs.Table.{state_of, LeadsOn}
+use Rattle.sedpass.specs.Table.{AddsStates, IsNext, IsOffset, LeadsOn}
+use Rattle.sedpass.specs.declared.table.Table.{Table}
 use Rattle.sedpass.proofs.CountLemmas.{least_up}
-use Rattle.sedpass.proofs.TableLemmas.{names_leads, names_anywhere, names_more, names_moved}
+use Rattle.sedpass.proofs.TableLemmas.{adds_same, adds_then, cell_there, names_anywhere, names_leads, names_more, names_moved, note_cell, offset_more}
 use Rattle.sedpass.proofs.table.Table.fill.Goals as goal
 
-pub note_next-requires : goal.note_next-requires
-note_next-requires c =
+pub overflow_add-offset : goal.overflow_add-offset
+overflow_add-offset c =
+    let S = c.intern-next.new.self in
+    let codes = c.intern-next.ensures.codes in
+    let at = offset_more c.args.prepared.now c.args.self.now S codes.adds c.if-self-epoch.true c.args.offset c.requires.offset in
+    let there = cell_there c.args.prepared.now S codes.table c.args.offset c.args.byte c.in-Some.column c.args.edge at c.in-Some.ensures in
+    omega (arith, there, S.cells.ok)
+
+pub index_mut-requires : goal.index_mut-requires
+index_mut-requires c =
+    let S = c.intern-next.new.self in
+    let codes = c.intern-next.ensures.codes in
+    let at = offset_more c.args.prepared.now c.args.self.now S codes.adds c.if-self-epoch.true c.args.offset c.requires.offset in
+    let there = cell_there c.args.prepared.now S codes.table c.args.offset c.args.byte c.in-Some.column c.args.edge at c.in-Some.ensures in
+    omega (arith, there, S.cells.ok)
+
+pub returns-in-Some-clause-codes : goal.returns-in-Some-clause-codes
+returns-in-Some-clause-codes c =
     let p = c.args.prepared.now in
+    let m = length p.arena.expr.nodes in
     let T = c.args.self.now in
     let S = c.intern-next.new.self in
-    let q = c.args.offset / 2 ^ T.layout.shift in
-    let root = c.index-root.result.now in
-    let inside : q < length T.roots.items = omega (arith, c.requires.offset.0, c.requires.table.room.count, c.requires.table.room.roots) in
-    let same_root : root ≡ slice_index_or T.roots.items q 0 = c.index-root.ensures ∙ ap (λ x. slice_index_or T.roots.items x root) c.state_at-state.ensures ∙ default_same T.roots.items q root 0 inside in
-    let same : AgreeBelow (length p.arena.expr.nodes) c.load.new.marks (row_of T.leaves q) =
-    subst (λ x. AgreeBelow (length p.arena.expr.nodes) c.load.new.marks (row_of T.leaves x)) c.state_at-state.ensures (subst (λ n. AgreeBelow n c.load.new.marks (row_of T.leaves c.state_at-state.result)) c.nodes.ensures.value c.load.ensures.same) in
+    let codes = c.intern-next.ensures.codes in
+    let epoch = c.if-self-epoch.true in
+    let next = c.intern-next.result in
+    let offset = c.args.offset in
+    let byte = c.args.byte in
+    let column = c.in-Some.column in
+    let N : Table = record S { cells = with_item S.cells (offset + column) next } in
+    let same : AddsStates m S N = adds_same m S N (refl, refl, refl, refl, refl) refl refl (λ x. refl) in
+    let at : IsOffset S offset = offset_more p T S codes.adds epoch offset c.requires.offset in
+    let leads = names_leads p T S c.requires.table offset c.requires.offset c.state_at-state.result c.nodes.result c.index-root.result.now byte next c.load.new.marks c.step.new.work c.state_at-state.ensures c.nodes.ensures.value
+    c.index-root.ensures c.load.ensures.same codes.names c.args.edge c.step.ensures.leads in
     record {
-      table = search rules;
-      offset = search rules;
-      leads = names_moved p T S c.intern-next.ensures.adds c.if-self-epoch.true (λ w a b. LeadsOn (nodes_of w p.arena.expr) w a c.args.byte c.args.edge b) c.args.offset c.intern-next.result c.requires.offset.0
-          (names_leads p T S T.way q root c.args.byte c.intern-next.result c.load.new.marks c.step.new.work.leaves c.step.new.work.ends same_root same c.intern-next.ensures.names c.args.edge c.step.ensures.leads);
-      anywhere = λ none. names_moved p T S c.intern-next.ensures.adds c.if-self-epoch.true (λ w a b. (end : Bool) → LeadsOn (nodes_of w p.arena.expr) w a c.args.byte end b) c.args.offset c.intern-next.result c.requires.offset.0
-          (names_anywhere p T S T.way q root c.args.byte c.intern-next.result c.load.new.marks c.step.new.work.leaves c.step.new.work.ends same_root same c.intern-next.ensures.names (c.step.ensures.anywhere none));
+      table = note_cell p S codes.table offset column next byte c.args.edge at (omega arith) c.in-Some.ensures
+          (names_moved p T S codes.adds epoch (λ w a b. LeadsOn (nodes_of w p.arena.expr) w a byte c.args.edge b) offset next c.requires.offset.0 leads)
+          (λ none. names_moved p T S codes.adds epoch (λ w a b. (end : Bool) → LeadsOn (nodes_of w p.arena.expr) w a byte end b) offset next c.requires.offset.0
+          (names_anywhere p T S c.requires.table offset c.requires.offset c.state_at-state.result c.nodes.result c.index-root.result.now byte next c.load.new.marks c.step.new.work c.state_at-state.ensures c.nodes.ensures.value
+          c.index-root.ensures c.load.ensures.same codes.names (c.step.ensures.anywhere none)));
+      adds = adds_then m T S N codes.adds same refl refl;
+      names = names_more p S N same refl (IsNext p T offset byte c.args.edge) next leads;
     }
 
-pub returns-then-self-epoch-clause-names : goal.returns-then-self-epoch-clause-names
-returns-then-self-epoch-clause-names c =
-    let p = c.args.prepared.now in
-    let T = c.args.self.now in
-    let S = c.intern-next.new.self in
-    let q = c.args.offset / 2 ^ T.layout.shift in
-    let root = c.index-root.result.now in
-    let inside : q < length T.roots.items = omega (arith, c.requires.offset.0, c.requires.table.room.count, c.requires.table.room.roots) in
-    let same_root : root ≡ slice_index_or T.roots.items q 0 = c.index-root.ensures ∙ ap (λ x. slice_index_or T.roots.items x root) c.state_at-state.ensures ∙ default_same T.roots.items q root 0 inside in
-    let same : AgreeBelow (length p.arena.expr.nodes) c.load.new.marks (row_of T.leaves q) =
-    subst (λ x. AgreeBelow (length p.arena.expr.nodes) c.load.new.marks (row_of T.leaves x)) c.state_at-state.ensures (subst (λ n. AgreeBelow n c.load.new.marks (row_of T.leaves c.state_at-state.result)) c.nodes.ensures.value c.load.ensures.same) in
-    names_more p S c.note_next.new.self c.note_next.ensures.adds c.note_next.ensures.epoch (LeadsOn (nodes_of T.way p.arena.expr) T.way (state_of (length p.arena.expr.nodes) T q) c.args.byte c.args.edge) c.intern-next.result
-    (names_leads p T S T.way q root c.args.byte c.intern-next.result c.load.new.marks c.step.new.work.leaves c.step.new.work.ends same_root same c.intern-next.ensures.names c.args.edge c.step.ensures.leads)
+pub returns-else-self-epoch-clause-codes : goal.returns-else-self-epoch-clause-codes
+returns-else-self-epoch-clause-codes c =
+    let codes = c.intern-next.ensures.codes in
+    record {
+      table = codes.table;
+      adds = codes.adds;
+      names = names_leads c.args.prepared.now c.args.self.now c.intern-next.new.self c.requires.table c.args.offset c.requires.offset c.state_at-state.result c.nodes.result c.index-root.result.now c.args.byte c.intern-next.result
+          c.load.new.marks c.step.new.work c.state_at-state.ensures c.nodes.ensures.value c.index-root.ensures c.load.ensures.same codes.names c.args.edge c.step.ensures.leads;
+    }
 
-pub returns-else-self-epoch-clause-names : goal.returns-else-self-epoch-clause-names
-returns-else-self-epoch-clause-names c =
-    let p = c.args.prepared.now in
-    let T = c.args.self.now in
-    let S = c.intern-next.new.self in
-    let q = c.args.offset / 2 ^ T.layout.shift in
-    let root = c.index-root.result.now in
-    let inside : q < length T.roots.items = omega (arith, c.requires.offset.0, c.requires.table.room.count, c.requires.table.room.roots) in
-    let same_root : root ≡ slice_index_or T.roots.items q 0 = c.index-root.ensures ∙ ap (λ x. slice_index_or T.roots.items x root) c.state_at-state.ensures ∙ default_same T.roots.items q root 0 inside in
-    let same : AgreeBelow (length p.arena.expr.nodes) c.load.new.marks (row_of T.leaves q) =
-    subst (λ x. AgreeBelow (length p.arena.expr.nodes) c.load.new.marks (row_of T.leaves x)) c.state_at-state.ensures (subst (λ n. AgreeBelow n c.load.new.marks (row_of T.leaves c.state_at-state.result)) c.nodes.ensures.value c.load.ensures.same) in
-    names_leads p T S T.way q root c.args.byte c.intern-next.result c.load.new.marks c.step.new.work.leaves c.step.new.work.ends same_root same c.intern-next.ensures.names c.args.edge c.step.ensures.leads
-
-pub returns-then-self-epoch-clause-counts : goal.returns-then-self-epoch-clause-counts
-returns-then-self-epoch-clause-counts c =
+pub returns-in-Some-clause-counts : goal.returns-in-Some-clause-counts
+returns-in-Some-clause-counts c =
     let m = length c.args.prepared.now.arena.expr.nodes in
     let stepped = c.step.ensures.cost in
     let interned = c.intern-next.ensures.cost in

@@ -6,19 +6,19 @@ use Rattle.sedpass.specs.Rows.{bits}
 use Rattle.sedpass.specs.Table.{HasRow}
 use Rattle.sedpass.proofs.CountLemmas.{least_up}
 use Rattle.sedpass.proofs.RowLemmas.{bits_agree}
-use Rattle.sedpass.proofs.TableLemmas.{names_map}
+use Rattle.sedpass.proofs.TableLemmas.{codes_map}
 use Rattle.sedpass.proofs.table.Table.load.Goals as goal
 
-pub returns-clause-names : goal.returns-clause-names
-returns-clause-names c =
+pub returns-clause-codes : goal.returns-clause-codes
+returns-clause-codes c =
     let m = length c.args.prepared.now.arena.expr.nodes in
     let row = 2 * c.args.row in
     let nodes = c.nodes-nodes.ensures.value in
     let leaves : AgreeBelow m c.load.new.marks (row_of c.args.edges.now row) = subst (λ n. AgreeBelow n c.load.new.marks (row_of c.args.edges.now row)) nodes c.load.ensures.same in
     let ends : AgreeBelow m c.load-2.new.marks (row_of c.args.edges.now (row + 1)) = subst (λ n. AgreeBelow n c.load-2.new.marks (row_of c.args.edges.now (row + 1))) nodes c.load-2.ensures.same in
-    names_map m c.intern.new.self (HasRow c.args.root (bits m c.load.new.marks) (bits m c.load-2.new.marks)) (HasRow c.args.root (bits m (row_of c.args.edges.now row)) (bits m (row_of c.args.edges.now (row + 1)))) c.intern.result
+    codes_map c.args.prepared.now c.args.self.now c.intern.new.self _ (HasRow c.args.root (bits m (row_of c.args.edges.now row)) (bits m (row_of c.args.edges.now (row + 1)))) c.intern.result
     (λ a has. (has.0, has.1 ∙ bits_agree m c.load.new.marks (row_of c.args.edges.now row) leaves, has.2 ∙ bits_agree m c.load-2.new.marks (row_of c.args.edges.now (row + 1)) ends))
-    c.intern.ensures.names
+    c.intern.ensures.codes
 
 pub returns-clause-counts : goal.returns-clause-counts
 returns-clause-counts c =

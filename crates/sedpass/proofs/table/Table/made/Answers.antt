@@ -1,13 +1,12 @@
-use Rattle.std.proofs.Common.{◌≡◌, ◌*◌, ◌^◌, ◌≤◌, ◌%◌, length, arith}
-use Rattle.std.specs.Prelude.{replicate}
+use Rattle.std.proofs.Common.{◌≡◌, ◌*◌, ◌^◌, ◌≤◌, ◌%◌, length, refl, ap, subst, arith}
 use Rattle.std.proofs.lemmas.Nat.{shl_whole}
-use Rattle.sedpass.specs.declared.table.Beginning.{Beginning}
 use Rattle.sedpass.specs.declared.table.Table.{Table}
-use Rattle.sedpass.proofs.TableLemmas.{none_noted}
+use Rattle.sedpass.specs.Table.{HasRoom}
+use Rattle.sedpass.proofs.TableLemmas.{made_roomy, no_states, none_noted}
 use Rattle.sedpass.proofs.table.Table.made.Goals as goal
 
-pub returns-clause-has : goal.returns-clause-has
-returns-clause-has c =
+pub returns : goal.returns
+returns c =
     let layout = c.args.layout in
     let T : Table = record {
       way = c.args.way;
@@ -30,10 +29,8 @@ returns-clause-has c =
     let shifted = shl_whole c.args.room 16 layout.shift 64 (omega (arith, c.requires.few)) (omega (arith, c.requires.layout)) in
     let index : 2 ≤ length T.index.items = omega (arith, c.in_ok-vec-3.ensures.len, T.index.ok) in
     let begins : length T.beginnings.items ≡ c.count_beginnings.result = omega (arith, c.in_ok-vec-4.ensures.len, T.beginnings.ok) in
-    let none : Beginning = record { epoch = 0; code = 0 } in
-    let is : T.beginnings.items ≡ replicate c.count_beginnings.result none = c.in_ok-vec-4.ensures.items_if_clones_equal (λ y h. h) in
-    let noted = none_noted T.beginnings.items c.count_beginnings.result is in
-    record {
+    let noted = none_noted T.beginnings.items c.count_beginnings.result (c.in_ok-vec-4.ensures.items_if_clones_equal (λ y h. h)) in
+    let has : HasRoom c.args.nodes T = record {
       count = omega arith;
       some = c.requires.some;
       few = c.requires.few;
@@ -51,13 +48,10 @@ returns-clause-has c =
       begins = λ root kind low. omega (arith, begins, c.count_beginnings.ensures.begins root kind low);
       past = λ i. let zero = noted i in omega (arith, zero);
       early = λ i. let zero = noted i in omega (arith, zero);
+    } in
+    record {
+      table = λ p expr laid nodes. no_states p T expr (subst (λ n. HasRoom n T) nodes has) laid refl (λ i. let zero = noted i in omega (arith, zero));
+      roomy = λ wide. (made_roomy c.args.nodes T has (omega (arith, shifted, ap (λ s. c.args.room * 2 ^ s) wide)), refl, refl);
+      way = refl;
+      room = refl;
     }
-
-pub returns-clause-begun : goal.returns-clause-begun
-returns-clause-begun c i =
-    let none : Beginning = record { epoch = 0; code = 0 } in
-    let zero = none_noted c.in_ok-vec-4.field-0.items c.count_beginnings.result (c.in_ok-vec-4.ensures.items_if_clones_equal (λ y h. h)) i in
-    omega (arith, zero)
-
-pub returns-clause-reserved : goal.returns-clause-reserved
-returns-clause-reserved c = shl_whole c.args.room 16 c.args.layout.shift 64 (omega (arith, c.requires.few)) (omega (arith, c.requires.layout))

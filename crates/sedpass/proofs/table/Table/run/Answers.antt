@@ -17,18 +17,18 @@ loop-at-init c =
     let S = c.first-code.new.self in
     let w = c.args.text.now in
     let from = c.args.from in
-    let way = c.first-code.ensures.adds.shape.0 in
+    let way = c.first-code.ensures.codes.adds.shape.0 in
     let kind = c.kind_of-kind.result in
     let here = c.arrive-at.ensures.place in
     let end = c.kind_of-kind.ensures.end in
     let is = c.len.ensures.is in
     let names = subst (λ (x : Way). Names m S (Arrives p x w from from) c.first-code.result) (sym way)
     (names_map m S (BeginsIn (nodes_of T.way p.arena.expr) T.way p.root kind) (Arrives p T.way w from from) c.first-code.result
-    (λ a begins. arrives_first p T.way w from kind a c.requires.forwards c.requires.from c.kind_of-kind.ensures.begin ((λ h. end.0 h ∙ is), (λ e. end.1 (e ∙ sym is))) begins) c.first-code.ensures.names) in
+    (λ a begins. arrives_first p T.way w from kind a c.requires.forwards c.requires.from c.kind_of-kind.ensures.begin ((λ h. end.0 h ∙ is), (λ e. end.1 (e ∙ sym is))) begins) c.first-code.ensures.codes.names) in
     let cost = c.first-code.ensures.cost in
     record {
-      table = c.first-code.ensures.table;
-      shape = c.first-code.ensures.adds.shape;
+      table = c.first-code.ensures.codes.table;
+      shape = c.first-code.ensures.codes.adds.shape;
       offset = c.arrive-at.ensures.offset;
       passes = c.arrive-at.ensures.passes (subst (λ (x : Way). x.keeps ≡ false) (sym way) c.requires.keeps) from (omega arith) c.requires.from names (none_before p S.way w from);
       grown = cost.0;
