@@ -7,7 +7,6 @@ use Rattle.sedre.specs.Tree.{WrittenExpression, tree_at}
 use Rattle.sedre.specs.Mirror.{mirror_node, seen}
 use Rattle.sedre.proofs.MirrorLemmas.{seen-node, old_node}
 use Rattle.sedre.specs.declared.types.Node.{Node}
-use Rattle.sedre.specs.declared.types.NodeId.{NodeId}
 use Rattle.sedre.specs.declared.types.Node.TheVariants.{Seq, Alt, Group, Star, Opt}
 use Rattle.sedtext.specs.declared.starts.Starts.{Starts}
 use Rattle.sedtext.specs.Spans.{no_copy}
@@ -156,13 +155,6 @@ reaches_last nodes w r j x p arena last =
           subst (λ v. At nodes w x p v) same g.2,
       λ at. both.1 (j, (omega arith, omega arith), at),
     )
-
-pub alt_looks : (nodes : List Node) (w : List ℕ) (r j x i : ℕ) (a b : NodeId) → IsArena nodes → IsLastIn nodes r x → slice_get nodes x ≡ Some (Alt a b) →
-    (ReachesEnd nodes w r (one_start j) a.index i ↔ At nodes w a.index i j) × (ReachesEnd nodes w r (one_start j) b.index i ↔ At nodes w b.index i j)
-alt_looks nodes w r j x i a b arena last is = (
-  reaches_last nodes w r j a.index i arena (last_of x a.index (Alt a b) is (inl refl) last),
-  reaches_last nodes w r j b.index i arena (last_of x b.index (Alt a b) is (inr refl) last),
-)
 
 -- a node ends with a byte or without
 pub ends_at : (nodes : List Node) (w : List ℕ) (r x q : ℕ) (s : Starts) → EndsAt nodes w r s x q ↔ (Ends nodes w r s x q ⊎ (Enters nodes w r s x q × At nodes w x q q))

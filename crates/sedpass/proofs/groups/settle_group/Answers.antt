@@ -1,6 +1,5 @@
 use Rattle.std.proofs.Common.{Some, sym, subst, ◌∙◌}
-use Rattle.sedpass.specs.Decide.{told_of}
-use Rattle.sedpass.specs.Turns.{Blank}
+use Rattle.sedpass.specs.Decide.{told_of, Blank}
 use Rattle.sedpass.proofs.TurnLemmas.{settle_blank}
 use Rattle.sedpass.proofs.DecideLemmas.{settled, unsettled, still_whole, found_set}
 use Rattle.sedpass.proofs.groups.settle_group.Goals as goal
