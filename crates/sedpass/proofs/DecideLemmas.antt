@@ -2,9 +2,9 @@
 use Rattle.std.proofs.Common.{◌≡◌, ℕ, zero, suc, ◌+◌, ◌-◌, ◌*◌, ◌<◌, ◌≤◌, ◌↔◌, ◌&&◌, not, Bool, true, false, List, [], ◌∷◌, length, Option, None, Some, IsTrue, refl, sym, ap, ◌∙◌, subst, inl, inr, ⊎_elim, true≢false, arith, mul-le-mul_left}
 use Rattle.std.specs.Prelude.{IfSome, eqb, nat_lt, slice_get, slice_set, slice_index_or, replicate, vec_capacity}
 use Rattle.std.specs.Int.{bit_at}
-use Rattle.std.proofs.lemmas.Bool.{and_parts, and_from, cases_Bool, cases_eq, cases_lt, lt-ltb, le-ltb}
+use Rattle.std.proofs.lemmas.Bool.{and_parts, and_from, cases_Bool, cases_lt, lt-ltb, le-ltb}
 use Rattle.std.proofs.lemmas.Option.{cond_some}
-use Rattle.std.proofs.lemmas.List.{length-set}
+use Rattle.std.proofs.lemmas.List.{ext_get_or, length-set}
 use Rattle.std.proofs.Math.Nat.{mul-le-mul_right}
 use Rattle.sedre.specs.Tree.{Tree, WrittenExpression, tree_at, expression_tree}
 use Rattle.sedre.specs.Arena.{IsArena, IsExpr, IsPart, AreRanges}
@@ -44,7 +44,7 @@ use Rattle.sedpass.proofs.KeptLemmas.{kept_space, same_shape, space_same, space_
 use Rattle.sedpass.proofs.LeaveLemmas.{last_inside}
 use Rattle.sedpass.proofs.LengthLemmas.{all_long, copies_long, left_long, right_long}
 use Rattle.sedpass.proofs.MeetingLemmas.{run_stops, set_early, stops_at_copy, stops_at_cut}
-use Rattle.sedpass.proofs.OneGroupLemmas.{copy_spans, deed, drop_as, has_told, left, same_bools, same_state, set_due, settle-due, settle-not}
+use Rattle.sedpass.proofs.OneGroupLemmas.{copy_spans, deed, drop_as, has_told, left, same_state, set_due, settle-due, settle-not}
 use Rattle.sedpass.proofs.OwedLemmas.{owed_small}
 use Rattle.sedpass.proofs.TurnLemmas.{opened}
 
@@ -94,7 +94,7 @@ pub settled : (old one new : GroupSet) (k : ℕ) (v : Option (ℕ × ℕ)) (span
     told_of new (slice_set spans k v) ≡ settle k v (told_of old spans)
 settled old one new k v spans whole due alone without =
     same_state (flags_of new) (slice_set (flags_of old) k false) (slice_set spans k v) (slice_set spans k v)
-    (same_bools (flags_of new) (slice_set (flags_of old) k false) (sym (length-set (flags_of old) k false)) (λ n.
+    (ext_get_or false (flags_of new) (slice_set (flags_of old) k false) (sym (length-set (flags_of old) k false)) (λ n _.
     flags_left old one new n (eqb k n) v whole (alone n) (without n) ∙ sym (set_due k n v (flags_of old)))) refl
     ∙ sym (settle-due k v (told_of old spans) (flags_at old k ∙ due))
 
@@ -351,26 +351,17 @@ pub owed_here : (s : Subject) (r : Region) (here : Matched) → EndsRegion s r h
 owed_here s r here ends =
     subst (λ v. owed (length (nodes_in s)) r here.start ≤ 100 * length (nodes_in s) * (v - here.start)) (sym ends.1) (owed_small (length (nodes_in s)) r here.start)
 
-pub not_empty : (i j : ℕ) → i ≤ j → (i ≡ j → ⊥) → i < j
-not_empty i j up other = ⊎_elim (λ (e : i ≡ j). absurd (other e)) (λ (ne : i ≡ j → ⊥). omega (arith, up, ne)) (cases_eq i j)
-
-meet_long : (m s t o o' i k long : ℕ) → 1 ≤ long → k ≤ i + long → o ≤ 100 * m * long → t + (o' + 36 * m * i) ≤ s + (o + 36 * m * (k + 1)) → t ≤ s + 172 * m * long
-meet_long m s t o o' i k long some on owed_is pays =
+-- a pass ahead up to a place, from where a match of so many bytes begins
+pub meet_paid : (m s t o o' i k long : ℕ) → 1 ≤ long → k ≤ i + long → o ≤ 100 * m * long → t + (o' + 36 * m * i) ≤ s + (o + 36 * m * (k + 1)) → t ≤ s + 172 * m * long
+meet_paid m s t o o' i k long some on owed_is pays =
     let far : k + 1 ≤ i + long + 1 = omega arith in
     omega (arith, owed_is, pays, mul-le-mul_left (36 * m) far, mul-le-mul_left (36 * m) some)
 
--- a pass ahead up to a place
-pub meet_paid : (m s t o o' i k j : ℕ) → i < j → k ≤ j → o ≤ 100 * m * (j - i) → t + (o' + 36 * m * i) ≤ s + (o + 36 * m * (k + 1)) → t ≤ s + 172 * m * (j - i)
-meet_paid m s t o o' i k j some on owed_is pays = meet_long m s t o o' i k (j - i) (omega arith) (omega arith) owed_is pays
-
-run_long : (m s t o o' i k long : ℕ) → 1 ≤ m → 1 ≤ long → k ≤ i + long → o ≤ 100 * m * long → t + (o' + 2 * i) ≤ s + (o + 2 * k + 2) → t ≤ s + 172 * m * long
-run_long m s t o o' i k long some more on owed_is pays =
+-- looks at a run
+pub run_paid : (m s t o o' i k long : ℕ) → 1 ≤ m → 1 ≤ long → k ≤ i + long → o ≤ 100 * m * long → t + (o' + 2 * i) ≤ s + (o + 2 * k + 2) → t ≤ s + 172 * m * long
+run_paid m s t o o' i k long some more on owed_is pays =
     let each : 1 * long ≤ m * long = mul-le-mul_right long some in
     omega (arith, owed_is, pays, on, more, each)
-
--- looks at a run
-pub run_paid : (m s t o o' i k j : ℕ) → 1 ≤ m → i < j → k ≤ j → o ≤ 100 * m * (j - i) → t + (o' + 2 * i) ≤ s + (o + 2 * k + 2) → t ≤ s + 172 * m * (j - i)
-run_paid m s t o o' i k j some more on owed_is pays = run_long m s t o o' i k (j - i) some (omega arith) (omega arith) owed_is pays
 
 copy_part : (m s t o o' i e d : ℕ) → t + (o' + 36 * m * i) ≤ s + (o + 36 * m * (i + (1 + e) + 1)) → t + (o' + 72 * m * d) ≤ s + (o + 72 * m * ((1 + e) + d))
 copy_part m s t o o' i e d pays = omega (arith, pays)

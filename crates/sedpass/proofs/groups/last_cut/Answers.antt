@@ -1,9 +1,9 @@
-use Rattle.std.proofs.Common.{◌+◌, ◌-◌, ◌*◌, length, refl, inl, arith}
+use Rattle.std.proofs.Common.{◌+◌, ◌-◌, ◌*◌, ◌<◌, length, refl, inl, arith}
 use Rattle.std.proofs.lemmas.Option.{slice_get_within}
 use Rattle.sedre.specs.declared.types.Node.TheVariants.{Seq}
 use Rattle.sedpass.specs.Decide.{nodes_in}
 use Rattle.sedpass.proofs.CountLemmas.{least_fewer, least_none}
-use Rattle.sedpass.proofs.DecideLemmas.{part_low, not_empty, owed_here, run_paid, meet_paid, cut_ceases, cut_runs}
+use Rattle.sedpass.proofs.DecideLemmas.{part_low, owed_here, run_paid, meet_paid, cut_ceases, cut_runs}
 use Rattle.sedpass.proofs.TurnLemmas.{part_inside}
 use Rattle.sedpass.proofs.groups.last_cut.Goals as goal
 
@@ -29,13 +29,11 @@ returns-in-Some-run-clause-cut c =
 pub returns-in-Some-run-clause-cost : goal.returns-in-Some-run-clause-cost
 returns-in-Some-run-clause-cost c =
     let here = c.args.here in
-    let inside = c.requires.stands.there.inside in
-    let on = c.seek.ensures.within in
-    let ends = c.requires.ends.1 in
-    let some = not_empty here.start here.stop c.requires.stands.there.up (c.fixed_cut.ensures.some c.in_default.is) in (
+    let there = c.requires.stands.there in
+    let some : here.start < here.stop = omega (arith, there.up, c.fixed_cut.ensures.some c.in_default.is) in (
       c.seek.ensures.cost.0,
-      run_paid (length (nodes_in c.args.subject)) c.args.steps.now c.seek.new.steps _ _ here.start c.seek.result here.stop (omega (arith, inside)) some (omega (arith, on, ends))
-          (owed_here c.args.subject c.args.kept.now.region here c.requires.ends) c.seek.ensures.cost.1,
+      run_paid (length (nodes_in c.args.subject)) c.args.steps.now c.seek.new.steps _ _ here.start c.seek.result (here.stop - here.start) (omega (arith, there.inside)) (omega (arith, some))
+          (omega (arith, some, c.seek.ensures.within, c.requires.ends.1)) (owed_here c.args.subject c.args.kept.now.region here c.requires.ends) c.seek.ensures.cost.1,
     )
 
 pub cut-requires-clause-a : goal.cut-requires-clause-a
@@ -49,12 +47,10 @@ returns-clause-cut c =
 pub returns-clause-cost : goal.returns-clause-cost
 returns-clause-cost c =
     let here = c.args.here in
-    let on = c.cut.ensures.within in
-    let ends = c.requires.ends.1 in
-    let some = not_empty here.start here.stop c.requires.stands.there.up (c.fixed_cut.ensures.some c.in_default.is) in (
+    let some : here.start < here.stop = omega (arith, c.requires.stands.there.up, c.fixed_cut.ensures.some c.in_default.is) in (
       c.cut.ensures.cost.0,
-      meet_paid (length (nodes_in c.args.subject)) c.args.steps.now c.cut.new.steps _ _ here.start c.cut.result here.stop some (omega (arith, on, ends))
-          (owed_here c.args.subject c.args.kept.now.region here c.requires.ends) c.cut.ensures.cost.1,
+      meet_paid (length (nodes_in c.args.subject)) c.args.steps.now c.cut.new.steps _ _ here.start c.cut.result (here.stop - here.start) (omega (arith, some))
+          (omega (arith, some, c.cut.ensures.within, c.requires.ends.1)) (owed_here c.args.subject c.args.kept.now.region here c.requires.ends) c.cut.ensures.cost.1,
     )
 
 pub returns-clause-counts : goal.returns-clause-counts
