@@ -1,19 +1,18 @@
 -- What holds while a spine is followed from node to node, and while tasks wait.
-use Rattle.std.proofs.Common.{◌≡◌, ℕ, zero, suc, true, false, true≢false, ◌+◌, ◌-◌, ◌*◌, ◌≤◌, List, [], ◌∷◌, ◌++◌, length, reverse, Option, None, Some, refl, sym, ap, ◌∙◌, subst, arith, mul-le-mul_left}
+use Rattle.std.proofs.Common.{◌≡◌, ℕ, zero, suc, true, false, true≢false, ◌+◌, ◌-◌, ◌*◌, ◌≤◌, List, [], ◌∷◌, ◌++◌, length, reverse, Option, None, Some, refl, sym, ap, ◌∙◌, subst, inl, inr, arith, mul-le-mul_left}
 use Rattle.std.proofs.lemmas.List.{reverse-append}
-use Rattle.std.specs.Prelude.{IfSome, slice_get, slice_index_or}
+use Rattle.std.specs.Prelude.{slice_index_or}
 use Rattle.sedre.specs.Sizes.{size}
 use Rattle.sedre.specs.Tree.{Tree, tree_at, expression_tree}
-use Rattle.sedre.specs.Steps.{TakesExactly, TakesAtLeast}
+use Rattle.sedre.specs.Steps.{Takes, TakesExactly, TakesAtLeast}
 use Rattle.sedre.specs.declared.types.Node.{Node}
-use Rattle.sedre.specs.declared.types.Node.TheVariants.{Seq, Alt, Star}
 use Rattle.sedtext.specs.Caps.{IsReport}
 use Rattle.sedtext.specs.Groups.{Groups}
 use Rattle.sedtext.specs.Spans.{Matches}
 use Rattle.sedtext.proofs.NodeLemmas.{size-pos}
-use Rattle.sedpass.specs.Decide.{told_of, told_in, found, IsTold, LooksAt, NodeTurned, Turned, Works, undecided, next_of, part_cost, kind_cost, nodes_in, text_in, AreReady, AreWithin, Runs, weights, looks, descents, tasks_of, entered_at}
+use Rattle.sedpass.specs.Decide.{told_of, told_in, found, GoesOn, IsTold, IsTurn, Turned, Works, undecided, next_of, part_cost, kind_cost, nodes_in, text_in, AreReady, AreShort, AreWithin, Runs, weights, looks, descents, tasks_of, entered_at}
 use Rattle.sedpass.specs.Groups.{holds}
-use Rattle.sedpass.specs.Walks.{State, drop_groups, NoneDue, Walk}
+use Rattle.sedpass.specs.Walks.{State, drop_groups, Walk}
 use Rattle.sedpass.specs.declared.group_set.GroupSet.{GroupSet}
 use Rattle.sedpass.specs.declared.groups.Matched.{Matched}
 use Rattle.sedpass.specs.declared.groups.Task.{Task}
@@ -23,7 +22,7 @@ use Rattle.sedpass.specs.declared.groups.Then.TheVariants.{Done, One, Two}
 use Rattle.sedpass.specs.declared.groups.Told.{Told}
 use Rattle.sedpass.specs.declared.kept.Region.{Region}
 use Rattle.sedpass.specs.declared.kept.Subject.{Subject}
-use Rattle.sedpass.proofs.CountLemmas.{least_both, least_fewer, least_none, least_since}
+use Rattle.sedpass.proofs.CountLemmas.{least_both, least_fewer, least_none}
 use Rattle.sedpass.proofs.DecideLemmas.{flags_at}
 use Rattle.sedpass.proofs.OneGroupLemmas.{wanted}
 use Rattle.sedpass.proofs.TurnLemmas.{left_turn}
@@ -38,7 +37,7 @@ works_none s tasks told steps is ready = record {
   told = is;
   ready = ready;
   less = omega arith;
-  spent = λ i j within. (within, (omega arith, omega arith));
+  spent = λ long short. (short, (omega arith, omega arith));
   n = 0;
   run = λ f m run. runs_as s tasks (told_in told) f m (0 + m) (omega arith) run;
   entered = least_none steps 0 refl;
@@ -50,9 +49,9 @@ works_then s t0 t1 t2 a b c d e n x y z few one two = record {
   told = two.told;
   ready = two.ready;
   less = omega (arith, few, one.less, two.less);
-  spent = λ i j within.
-      let first = one.spent i j within in
-      let second = two.spent i j first.0 in
+  spent = λ long short.
+      let first = one.spent long short in
+      let second = two.spent long first.0 in
       (second.0, (omega (arith, first.1.0, second.1.0), omega (arith, first.1.1, second.1.1)));
   n = one.n + two.n;
   run = λ f m run. runs_as s t0 (told_in a) f _ _ (omega arith) (one.run f (two.n + m) (two.run f m run));
@@ -67,7 +66,7 @@ works_forget s x rest old new steps ready told state spans = record {
   told = told;
   ready = ready.1;
   less = omega arith;
-  spent = λ i j within. (within, (omega arith, omega arith));
+  spent = λ long short. (short, (omega arith, omega arith));
   n = 0;
   run = λ f m run. runs_as s rest (drop_groups (tree_at (nodes_in s) x) (told_in old)) f m (0 + m) (omega arith) (subst (λ v. Runs (nodes_in s) (text_in s) rest v f m) state run);
   entered = least_none steps 0 refl;
@@ -123,79 +122,50 @@ no_more nodes [] = omega arith
 no_more nodes (Apart here ∷ tasks) = omega (arith, no_more nodes tasks, size-pos (tree_at nodes here.node))
 no_more nodes (Forget x ∷ tasks) = omega (arith, no_more nodes tasks)
 
--- matches within one that is within i..j
-within-append : (i j p q : ℕ) (tasks rest : List Task) → i ≤ p → q ≤ j → AreWithin p q tasks → AreWithin i j rest → AreWithin i j (tasks ++ rest)
-within-append i j p q [] rest low high within all = all
-within-append i j p q (Apart here ∷ tasks) rest low high within all = (omega (arith, low, within.0), omega (arith, high, within.1), within-append i j p q tasks rest low high within.2 all)
-within-append i j p q (Forget x ∷ tasks) rest low high within all = within-append i j p q tasks rest low high within all
+-- matches within a short one are short
+short-append : (long i j : ℕ) (tasks rest : List Task) → j ≤ i + long → AreWithin i j tasks → AreShort long rest → AreShort long (tasks ++ rest)
+short-append long i j [] rest short within all = all
+short-append long i j (Apart here ∷ tasks) rest short within all = (omega (arith, short, within.0, within.1), short-append long i j tasks rest short within.2 all)
+short-append long i j (Forget x ∷ tasks) rest short within all = short-append long i j tasks rest short within all
 
-pub works_turn : (s : Subject) (here : Matched) (then : Then) (rest : List Task) (old new : Told) (r : Region) (before after : ℕ) → AreReady (nodes_in s) (text_in s) (Apart here ∷ rest) →
-    Turned s here (told_in old) (told_in new) r then before after → IsTold new → TakesAtLeast before after (found new.spans - found old.spans) →
-    Works s (Apart here ∷ rest) old (tasks_of then ++ rest) new 1 before after
-works_turn s here then rest old new r before after ready turned told counts =
+turn_works : (s : Subject) (here : Matched) (then : Then) (rest : List Task) (old new : Told) (n before after : ℕ) → AreReady (nodes_in s) (text_in s) (Apart here ∷ rest) →
+    IsTurn s here (told_in old) (told_in new) then n → Takes before after (kind_cost s here (next_of then) + 1) → TakesAtLeast before after n → IsTold new →
+    TakesAtLeast before after (found new.spans - found old.spans) → Works s (Apart here ∷ rest) old (tasks_of then ++ rest) new 1 before after
+turn_works s here then rest old new n before after ready turn cost entered told counts =
     let nodes = nodes_in s in
-    let turn = turned.turn in
     let fewer = turn_fewer nodes (size (tree_at nodes here.node)) then rest turn.fewer in
     record {
       told = told;
       ready = ready-append nodes (text_in s) (tasks_of then) rest turn.ready ready.1;
       less = omega (arith, turn.less, weights-append nodes (tasks_of then) rest);
-      spent = λ i j within. (
-        within-append i j here.start here.stop (tasks_of then) rest within.0 within.1 turn.within within.2,
-        (turned.cost.0, turn_paid s here (next_of then) (j - i) _ _ _ _ before after (let low = within.0 in let high = within.1 in omega (arith, low, high)) fewer.1 fewer.0 turned.cost.1),
+      spent = λ long short. (
+        short-append long here.start here.stop (tasks_of then) rest short.0 turn.within short.1,
+        (cost.0, turn_paid s here (next_of then) long _ _ _ _ before after (omega (arith, short.0)) fewer.1 fewer.0 cost.1),
       );
-      n = turned.n;
+      n = n;
       run = turn.run rest;
-      entered = turned.counts;
+      entered = entered;
       counts = counts;
     }
 
--- Looks for spans.
 pub least_look : (s t u a b : ℕ) → TakesExactly s t 1 → t ≤ u → b ≤ a + 1 → TakesAtLeast s u (b - a)
 unfolding TakesExactly TakesAtLeast
 least_look s t u a b look up few = omega (arith, look, up, few)
 
-least_some : (o : Option Matched) (s t u i : ℕ) → s ≤ t → IfSome o (λ p. TakesAtLeast t u (p.start - i)) → IfSome o (λ p. TakesAtLeast s u (p.start - i))
-least_some None s t u i up counts = tt
-least_some (Some p) s t u i up counts = least_since s t u (p.start - i) up counts
-
--- one look more, before those of the kind of node
-looks_more : (s : Subject) (here : Matched) (node : Node) (next : Option Matched) (before begun after : ℕ) → before ≤ begun → LooksAt s here node next begun after → LooksAt s here node next before after
-looks_more s here (Seq a b) next before begun after up looks = λ left right. least_some next before begun after here.start up (looks left right)
-looks_more s here (Alt a b) next before begun after up looks = least_since before begun after 1 up looks
-looks_more s here (Star a first) next before begun after up looks = λ is_open. least_since before begun after (here.stop - here.start) up (looks is_open)
-looks_more s here other next before begun after up looks = tt
-
--- A node that is looked at, or not.
-
--- no group of the match is due
-pub not_turned : (s : Subject) (here : Matched) (state : State) (r : Region) (steps : ℕ) → NoneDue (tree_at (nodes_in s) here.node) state → Turned s here state state r Done steps steps
-not_turned s here state r steps none = record {
-  n = 0;
-  turn = left_turn s here state none;
-  counts = least_none steps 0 refl;
-  goes = tt;
-  cost = (omega arith, omega arith);
-  entered = λ due. absurd (due none);
-  looks = λ node is due. absurd (due none);
-}
-
-pub node_turned : (s : Subject) (here : Matched) (node : Node) (old new : State) (r : Region) (then : Then) (before begun after : ℕ) → slice_get (nodes_in s) here.node ≡ Some node → TakesExactly before begun 1 → before ≤ begun → begun ≤ before + 1 →
-    NodeTurned s here node old new r then begun after → Turned s here old new r then before after
-unfolding TakesExactly TakesAtLeast
-node_turned s here node old new r then before begun after is look up once turned =
+-- whether the node was looked at or not
+pub works_turn : (s : Subject) (here : Matched) (then : Then) (rest : List Task) (old new : Told) (r : Region) (before after : ℕ) → AreReady (nodes_in s) (text_in s) (Apart here ∷ rest) →
+    Turned s here (told_in old) (told_in new) r then before after → IsTold new → TakesAtLeast before after (found new.spans - found old.spans) →
+    Works s (Apart here ∷ rest) old (tasks_of then ++ rest) new 1 before after
+works_turn s here then rest old new r before after ready (inl (none, same, nothing, still)) told counts =
+    turn_works s here then rest old new 0 before after ready (rw (same, nothing) (left_turn s here (told_in old) none)) (rw (nothing, still) (omega arith, omega arith)) (rw still (least_none before 0 refl)) told counts
+works_turn s here then rest old new r before after ready (inr (node, begun, is, look, once, turned)) told counts =
     let cost = turned.cost in
-    record {
-      n = entered_at node;
-      turn = turned.turn;
-      counts = omega (arith, look, cost.0);
-      goes = turned.goes;
-      cost = (omega (arith, up, cost.0), omega (arith, once, cost.1));
-      entered = λ due. omega (arith, look, cost.0);
-      looks = λ other is_other due.
-          let same : node ≡ other = cc in
-          subst (λ n. LooksAt s here n (next_of then) before after) same (looks_more s here node (next_of then) before begun after up turned.looks);
-    }
+    turn_works s here then rest old new (entered_at node) before after ready turned.turn (omega (arith, once.0, cost.0), omega (arith, once.1, cost.1))
+    (least_fewer before after 1 (entered_at node) (omega arith) (least_look before begun after 0 1 look cost.0 (omega arith))) told counts
+
+pub turned_goes : (s : Subject) (here : Matched) (then : Then) (old new : State) (r : Region) (before after : ℕ) → Turned s here old new r then before after → GoesOn s r (next_of then)
+turned_goes s here then old new r before after (inl (none, same, nothing, still)) = rw nothing tt
+turned_goes s here then old new r before after (inr (node, begun, is, look, once, turned)) = turned.goes
 
 -- All tasks are done.
 

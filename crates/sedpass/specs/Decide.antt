@@ -3,7 +3,7 @@
 use Rattle.std.specs.Prelude.{◌≡◌, ℕ, ◌+◌, ◌-◌, ◌*◌, ◌<◌, ◌≤◌, ◌⊎◌, Bool, true, false, replicate, IsTrue, List, [], ◌∷◌, ◌++◌, reverse, length, min, slice_get, slice_index_or, vec_capacity, IfSome, Option, None, Some}
 use Rattle.sedre.specs.Arena.{IsArena}
 use Rattle.sedre.specs.Sizes.{size}
-use Rattle.sedre.specs.Steps.{Takes, TakesAtLeast}
+use Rattle.sedre.specs.Steps.{Takes, TakesExactly, TakesAtLeast}
 use Rattle.sedre.specs.Tree.{tree_at, Tree}
 use Rattle.sedre.specs.declared.types.Node.{Node}
 use Rattle.sedre.specs.declared.types.Node.TheVariants.{Set, Seq, Alt, Star}
@@ -125,6 +125,12 @@ AreWithin i j [] = Unit {0}
 AreWithin i j (Apart here ∷ tasks) = (i ≤ here.start) × (here.stop ≤ j) × AreWithin i j tasks
 AreWithin i j (Forget x ∷ tasks) = AreWithin i j tasks
 
+-- each node to be decided matches no more than so many bytes
+abbrev pub AreShort : ℕ → List Task → Type 0
+AreShort long [] = Unit {0}
+AreShort long (Apart here ∷ tasks) = (here.stop ≤ here.start + long) × AreShort long tasks
+AreShort long (Forget x ∷ tasks) = AreShort long tasks
+
 -- so many nodes were entered: those tasks that are left bring the new state to where all bring the old one
 abbrev pub Continues : List Node → List ℕ → List Task → State → List Task → State → ℕ → Type 0
 Continues nodes w tasks old rest new n = (f : State) (m : ℕ) → Runs nodes w rest new f m → Runs nodes w tasks old f (n + m)
@@ -226,8 +232,7 @@ next_of (Two next later) = Some next
 
 -- it goes on in the region
 abbrev pub GoesOn : Subject → Region → Option Matched → Type 0
-GoesOn s r None = Unit {0}
-GoesOn s r (Some next) = EndsRegion s r next
+GoesOn s r next = IfSome next (EndsRegion s r)
 
 -- the matches of the node have no length that is known
 abbrev pub HasNoKnownLength : List Node → ℕ → Type 0
@@ -278,15 +283,11 @@ pub record NodeTurned (s : Subject) (here : Matched) (node : Node) (old new : St
   pub cost : Takes before after (kind_cost s here (next_of then))
   pub looks : LooksAt s here node (next_of then) before after
 
--- the same of a match of which no group may be due, and then its node isn't looked at
-pub record Turned (s : Subject) (here : Matched) (old new : State) (r : Region) (then : Then) (before after : ℕ) : Type 0 where
-  pub n : ℕ
-  pub turn : IsTurn s here old new then n
-  pub counts : TakesAtLeast before after n
-  pub goes : GoesOn s r (next_of then)
-  pub cost : Takes before after (kind_cost s here (next_of then) + 1)
-  pub entered : (NoneDue (tree_at (nodes_in s) here.node) old → ⊥) → TakesAtLeast before after 1
-  pub looks : (node : Node) → slice_get (nodes_in s) here.node ≡ Some node → (NoneDue (tree_at (nodes_in s) here.node) old → ⊥) → LooksAt s here node (next_of then) before after
+-- of a match nothing comes where no group of it is due; else its node is looked at
+abbrev pub Turned : Subject → Matched → State → State → Region → Then → ℕ → ℕ → Type 0
+Turned s here old new r then before after =
+    (NoneDue (tree_at (nodes_in s) here.node) old × (new ≡ old) × (then ≡ Done) × (after ≡ before))
+    ⊎ ((node : Node) × (begun : ℕ) × (slice_get (nodes_in s) here.node ≡ Some node) × TakesExactly before begun 1 × Takes before begun 1 × NodeTurned s here node old new r then begun after)
 
 -- the tasks can be done there
 pub record MayWork (s : Subject) (tables : GroupTables) (room : GroupRoom) (told : Told) (tasks : List Task) : Type 0 where
@@ -296,13 +297,13 @@ pub record MayWork (s : Subject) (tables : GroupTables) (room : GroupRoom) (told
   pub desk : HasDesk s tables room.kept
   pub is_told : IsTold told
 
--- The tasks are done as far as those left, which are ready, and of which d fewer can still come: what is told then, what it cost, where all
--- match within i..j, and n nodes that were entered, each of which was looked at.
+-- The tasks are done as far as those left, which are ready, and of which d fewer can still come: what is told then, what it cost, where
+-- none matches more than so many bytes, and n nodes that were entered, each of which was looked at.
 pub record Works (s : Subject) (tasks : List Task) (old : Told) (rest : List Task) (new : Told) (d before after : ℕ) : Type 0 where
   pub told : IsTold new
   pub ready : AreReady (nodes_in s) (text_in s) rest
   pub less : weights (nodes_in s) rest + d ≤ weights (nodes_in s) tasks
-  pub spent : (i j : ℕ) → AreWithin i j tasks → AreWithin i j rest × CostsWithin before after (tasks_cost (nodes_in s) (j - i) tasks) (tasks_cost (nodes_in s) (j - i) rest)
+  pub spent : (long : ℕ) → AreShort long tasks → AreShort long rest × CostsWithin before after (tasks_cost (nodes_in s) long tasks) (tasks_cost (nodes_in s) long rest)
   pub n : ℕ
   pub run : Continues (nodes_in s) (text_in s) tasks (told_in old) rest (told_in new) n
   pub entered : TakesAtLeast before after n

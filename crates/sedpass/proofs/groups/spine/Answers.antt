@@ -1,11 +1,11 @@
-use Rattle.std.proofs.Common.{◌≡◌, ◌∷◌, Some, length, reverse, sym, subst, arith}
+use Rattle.std.proofs.Common.{◌≡◌, ◌∷◌, Some, length, reverse, sym, ap, subst, arith}
 use Rattle.std.proofs.lemmas.List.{length-reverse}
-use Rattle.sedpass.specs.Decide.{GoesOn, Works, waiting, nodes_in}
+use Rattle.sedpass.specs.Decide.{AreReady, GoesOn, Works, nodes_in, text_in, waiting, weights}
 use Rattle.sedpass.specs.Regions.{all_of}
 use Rattle.sedpass.specs.declared.groups.Task.TheVariants.{Apart}
 use Rattle.sedpass.proofs.DecideLemmas.{desk_then, tables_same}
 use Rattle.sedpass.proofs.KeptLemmas.{space_same}
-use Rattle.sedpass.proofs.SpineLemmas.{done, done_once, no_more, works_none, works_then, works_turn}
+use Rattle.sedpass.proofs.SpineLemmas.{done, done_once, no_more, turned_goes, works_none, works_then, works_turn}
 use Rattle.sedpass.proofs.groups.spine.Goals as goal
 
 pub nodes-init : goal.nodes-init
@@ -26,6 +26,15 @@ put-at-requires c =
     let same : length (reverse stack) ≡ length stack = simp length-reverse in
     omega (arith, works.less, same, no_more (nodes_in c.args.subject) (waiting (Some c.in-Some.next) stack), c.requires.enough, c.nodes.invariant.room, c.nodes.room.tasks.ok)
 
+pub nodes-smaller : goal.nodes-smaller
+nodes-smaller c =
+    let s = c.args.subject in
+    let stack = c.nodes.room.tasks.items in
+    let turn = c.turn-then in
+    let ready = subst (λ at. AreReady (nodes_in s) (text_in s) (waiting at stack)) c.in-Some.is c.nodes.invariant.works.ready in
+    let turned = works_turn s c.in-Some.next turn.result (reverse stack) c.nodes.told turn.new.told turn.new.kept.region c.nodes.steps turn.new.steps ready turn.ensures.turned turn.ensures.told turn.ensures.counts in
+    omega (arith, turned.less, ap (weights (nodes_in s)) c.put-at.ensures.items, ap (λ at. weights (nodes_in s) (waiting at stack)) c.in-Some.is)
+
 pub nodes-preserved : goal.nodes-preserved
 nodes-preserved c =
     let s = c.args.subject in
@@ -38,7 +47,7 @@ nodes-preserved c =
     turn.ensures.counts in
     record {
       keeps = desk_then s c.args.tables.now c.nodes.tables turn.new.tables c.begin.new.self c.nodes.room.kept turn.new.kept inv.keeps turn.ensures.desk;
-      goes = subst (GoesOn s turn.new.kept.region) (sym put.ensures.first) turn.ensures.turned.goes;
+      goes = subst (GoesOn s turn.new.kept.region) (sym put.ensures.first) (turned_goes s c.in-Some.next turn.result _ _ turn.new.kept.region c.nodes.steps turn.new.steps turn.ensures.turned);
       room = omega (arith, inv.room, put.ensures.room);
       works = subst (λ tasks. Works s first c.args.told.now tasks turn.new.told (done put.result) c.args.steps.now turn.new.steps) (sym put.ensures.items)
           (works_then s first _ _ c.args.told.now c.nodes.told turn.new.told 0 1 (done put.result) c.args.steps.now c.nodes.steps turn.new.steps (done_once put.result) works turned);

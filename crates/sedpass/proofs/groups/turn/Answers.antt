@@ -1,25 +1,24 @@
-use Rattle.std.proofs.Common.{arith}
-use Rattle.sedpass.specs.Decide.{told_in, found, nodes_in}
+use Rattle.std.proofs.Common.{inl, inr, refl, arith}
+use Rattle.sedpass.specs.Decide.{found, nodes_in}
 use Rattle.sedpass.proofs.CountLemmas.{least_none}
 use Rattle.sedpass.proofs.DecideLemmas.{none_due, not_met}
-use Rattle.sedpass.proofs.SpineLemmas.{least_look, node_turned, not_turned}
+use Rattle.sedpass.proofs.SpineLemmas.{least_look}
 use Rattle.sedpass.proofs.groups.turn.Goals as goal
 
 pub returns-then-not-meets-clause-turned : goal.returns-then-not-meets-clause-turned
 returns-then-not-meets-clause-turned c =
     let told = c.args.told.now in
-    not_turned c.args.subject c.args.here (told_in told) c.args.kept.now.region c.args.steps.now
-    (none_due (nodes_in c.args.subject) c.args.here.node c.facts_at.result told.due told.spans c.facts_at.ensures.facts c.requires.told.whole
-    (λ k has due. not_met _ _ c.if-not-meets.true c.meets.ensures (k, has, due)))
+    let none = none_due (nodes_in c.args.subject) c.args.here.node c.facts_at.result told.due told.spans c.facts_at.ensures.facts c.requires.told.whole
+    (λ k has due. not_met _ _ c.if-not-meets.true c.meets.ensures (k, has, due)) in
+    inl (none, refl, refl, refl)
 
 pub returns-then-not-meets-clause-counts : goal.returns-then-not-meets-clause-counts
 returns-then-not-meets-clause-counts c = least_none c.args.steps.now _ (omega arith)
 
 pub returns-clause-turned : goal.returns-clause-turned
 returns-clause-turned c =
-    let turn = c.turn_node in
-    node_turned c.args.subject c.args.here c.look-node.result (told_in c.args.told.now) (told_in turn.new.told) turn.new.kept.region turn.result c.args.steps.now c.look-node.new.steps turn.new.steps
-    c.look-node.ensures.node c.look-node.ensures.counts c.look-node.ensures.cost.0 c.look-node.ensures.cost.1 turn.ensures.turned
+    let look = c.look-node in
+    inr (look.result, look.new.steps, look.ensures.node, look.ensures.counts, look.ensures.cost, c.turn_node.ensures.turned)
 
 pub returns-clause-counts : goal.returns-clause-counts
 returns-clause-counts c =
