@@ -2,50 +2,51 @@
 use Rattle.std.proofs.Common.{◌≡◌, ℕ, zero, suc, ◌+◌, ◌-◌, ◌*◌, ◌<◌, ◌≤◌, ◌↔◌, ◌&&◌, not, Bool, true, false, List, [], ◌∷◌, length, Option, None, Some, IsTrue, refl, sym, ap, ◌∙◌, subst, inl, inr, ⊎_elim, true≢false, arith, mul-le-mul_left}
 use Rattle.std.specs.Prelude.{IfSome, eqb, nat_lt, slice_get, slice_set, slice_index_or, replicate, vec_capacity}
 use Rattle.std.specs.Int.{bit_at}
-use Rattle.std.proofs.lemmas.Bool.{and_parts, and_from, cases_Bool, cases_eq, cases_lt, lt-ltb, le-ltb}
+use Rattle.std.proofs.lemmas.Bool.{and_parts, and_from, cases_Bool, cases_lt, lt-ltb, le-ltb}
 use Rattle.std.proofs.lemmas.Option.{cond_some}
-use Rattle.std.proofs.lemmas.List.{length-set}
+use Rattle.std.proofs.lemmas.List.{ext_get_or, length-set}
 use Rattle.std.proofs.Math.Nat.{mul-le-mul_right}
-use Rattle.sedre.specs.Tree.{Tree, empty, set, begin, end, seq, alt, group, star, opt, WrittenExpression, tree_at, expression_tree}
-use Rattle.sedre.specs.Arena.{IsExpr, IsPart, AreRanges}
+use Rattle.sedre.specs.Tree.{Tree, WrittenExpression, tree_at, expression_tree}
+use Rattle.sedre.specs.Arena.{IsArena, IsExpr, IsPart, AreRanges}
+use Rattle.sedre.specs.Steps.{Takes, TakesAtLeast}
 use Rattle.sedre.specs.declared.types.Node.{Node}
-use Rattle.sedre.specs.Steps.{TakesAtLeast}
-use Rattle.sedre.specs.declared.types.Node.TheVariants.{Set, Group, Star}
+use Rattle.sedre.specs.declared.types.NodeId.{NodeId}
+use Rattle.sedre.specs.declared.types.Node.TheVariants.{Set, Seq, Group, Star}
 use Rattle.sedre.proofs.TreeLemmas.{tree_at-node}
-use Rattle.sedtext.proofs.NodeLemmas.{node_at}
 use Rattle.sedtext.specs.Caps.{LastCut, LastCopy}
+use Rattle.sedtext.specs.Costs.{CostsWithin}
 use Rattle.sedtext.specs.Groups.{Groups}
 use Rattle.sedtext.specs.Reach.{At, one_start}
-use Rattle.sedre.specs.Arena.{IsArena}
-use Rattle.sedtext.specs.Spans.{Matches, CopiesLead, no_copy}
+use Rattle.sedtext.specs.Spans.{CopiesLead}
+use Rattle.sedtext.proofs.NodeLemmas.{node_at}
+use Rattle.sedtext.proofs.ReachLemmas.{close_at}
 use Rattle.sedtext.proofs.SpanLemmas.{Matches-forward}
-use Rattle.sedpass.specs.Decide.{found, undecided, HasAll, flags_of, told_of, nodes_in, text_in, EndsRegion, IsDesk, HasDesk, IsSetAt, AreGroupTables, AreRoomy, HasSpace, SameRooms, SameTables, owed_in}
-use Rattle.sedpass.specs.Kept.{AllMarked, CeasesAt, IsKept, SameKept, SameSpace, ends_told}
-use Rattle.sedpass.specs.Regions.{IsLastIn, all_of, ReachesEnd, StopsAt, RunsTo, IsRunOf, repeated, in_group}
-use Rattle.sedpass.specs.Table.{IsAhead, IsTable, SameRoom, SameShape, MayBegin}
+use Rattle.sedpass.specs.Decide.{found, undecided, HasAll, flags_of, told_of, EndsRegion, IsAtEnd, IsDesk, HasDesk, IsSetAt, AreGroupTables, HasSpace, SameTables, KeepsDesk, part_cost, nodes_in, text_in, Blank, Stands}
+use Rattle.sedpass.specs.Groups.{reported, holds, has_group}
+use Rattle.sedpass.specs.Kept.{AllMarked, CeasesAt, IsKept, SameKept, SameSpace, ends_told, owed}
+use Rattle.sedpass.specs.Lengths.{AllLong}
+use Rattle.sedpass.specs.Prepared.{IsFacts, null_in, is_set, run_of}
+use Rattle.sedpass.specs.Regions.{IsLastIn, NextCopy, ReachesEnd, IsRunOf, repeated, in_group}
+use Rattle.sedpass.specs.Table.{IsTable, SameShape, MayBegin}
+use Rattle.sedpass.specs.Walks.{settle, drop_groups, GroupStandsIn, NoneDue, IsStart}
+use Rattle.sedpass.specs.declared.group_set.GroupSet.{GroupSet}
 use Rattle.sedpass.specs.declared.groups.GroupRoom.{GroupRoom}
 use Rattle.sedpass.specs.declared.groups.GroupTables.{GroupTables}
 use Rattle.sedpass.specs.declared.groups.Matched.{Matched}
 use Rattle.sedpass.specs.declared.kept.Kept.{Kept}
 use Rattle.sedpass.specs.declared.kept.Region.{Region}
 use Rattle.sedpass.specs.declared.kept.Subject.{Subject}
-use Rattle.sedpass.specs.declared.table.Table.{Table}
-use Rattle.sedpass.proofs.KeptLemmas.{same_shape}
-use Rattle.sedpass.proofs.LeaveLemmas.{last_inside}
-use Rattle.sedpass.proofs.TableLemmas.{roomy_still}
-use Rattle.sedpass.proofs.RowLemmas.{or_truth}
-use Rattle.sedpass.proofs.OwedLemmas.{owed_small}
-use Rattle.sedpass.proofs.LengthLemmas.{all_long, copies_long}
-use Rattle.sedpass.proofs.MeetingLemmas.{set_early}
-use Rattle.sedpass.specs.Groups.{reported, holds, has_group}
-use Rattle.sedpass.specs.Walks.{settle, drop_groups, GroupStandsIn, NoneDue, IsStart}
-use Rattle.sedpass.specs.Lengths.{AllLong}
-use Rattle.sedpass.specs.Prepared.{IsFacts, nullable, null_in, is_set, run_of}
-use Rattle.sedpass.specs.Turns.{Blank}
-use Rattle.sedpass.specs.declared.group_set.GroupSet.{GroupSet}
 use Rattle.sedpass.specs.declared.nodes.Facts.{Facts}
 use Rattle.sedpass.specs.declared.nodes.Kind.{Kind}
-use Rattle.sedpass.proofs.OneGroupLemmas.{copy_spans, deed, drop_as, has_told, left, same_bools, same_state, set_due, settle-due, settle-not}
+use Rattle.sedpass.specs.declared.table.Table.{Table}
+use Rattle.sedpass.proofs.FactLemmas.{null_tells}
+use Rattle.sedpass.proofs.KeptLemmas.{kept_space, same_shape, space_same, space_then}
+use Rattle.sedpass.proofs.LeaveLemmas.{last_inside}
+use Rattle.sedpass.proofs.LengthLemmas.{all_long, copies_long, left_long, right_long}
+use Rattle.sedpass.proofs.MeetingLemmas.{run_stops, set_early, stops_at_copy, stops_at_cut}
+use Rattle.sedpass.proofs.OneGroupLemmas.{copy_spans, deed, drop_as, has_told, left, same_state, set_due, settle-due, settle-not}
+use Rattle.sedpass.proofs.OwedLemmas.{owed_small}
+use Rattle.sedpass.proofs.TurnLemmas.{opened}
 
 -- an entry of the flags
 pub flags_at : (s : GroupSet) (k : ℕ) → slice_index_or (flags_of s) k false ≡ holds s k
@@ -93,7 +94,7 @@ pub settled : (old one new : GroupSet) (k : ℕ) (v : Option (ℕ × ℕ)) (span
     told_of new (slice_set spans k v) ≡ settle k v (told_of old spans)
 settled old one new k v spans whole due alone without =
     same_state (flags_of new) (slice_set (flags_of old) k false) (slice_set spans k v) (slice_set spans k v)
-    (same_bools (flags_of new) (slice_set (flags_of old) k false) (sym (length-set (flags_of old) k false)) (λ n.
+    (ext_get_or false (flags_of new) (slice_set (flags_of old) k false) (sym (length-set (flags_of old) k false)) (λ n _.
     flags_left old one new n (eqb k n) v whole (alone n) (without n) ∙ sym (set_due k n v (flags_of old)))) refl
     ∙ sym (settle-due k v (told_of old spans) (flags_at old k ∙ due))
 
@@ -149,78 +150,67 @@ starts_blank i j due whole (suc k) is = none_there 9 k
 -- Places.
 
 -- a cut of a null string
-pub null_cut : (nodes : List Node) (w : List ℕ) (a b i j : ℕ) → (k : ℕ) × At nodes w a i k × At nodes w b k j → i ≡ j → LastCut (At nodes w a) (At nodes w b) i j i
-null_cut nodes w a b i j parts same =
-    let up = Matches-forward (tree_at nodes a) w i parts.0 parts.1 in
-    let on = Matches-forward (tree_at nodes b) w parts.0 j parts.2 in
-    let here : parts.0 ≡ i = omega arith in
+pub null_cut : (s : Subject) (here : Matched) (a b : NodeId) → Stands s here (Seq a b) → here.start ≡ here.stop → LastCut (At (nodes_in s) (text_in s) a.index) (At (nodes_in s) (text_in s) b.index) here.start here.stop here.start
+null_cut s here a b stands same =
+    let nodes = nodes_in s in
+    let w = text_in s in
+    let parts = opened s here (Seq a b) stands in
+    let up = Matches-forward (tree_at nodes a.index) w here.start parts.0 parts.1 in
+    let on = Matches-forward (tree_at nodes b.index) w parts.0 here.stop parts.2 in
+    let there : parts.0 ≡ here.start = omega arith in
     record {
-      left = subst (λ v. At nodes w a i v) here parts.1;
-      right = subst (λ v. At nodes w b v j) here parts.2;
-      greatest = λ l left right. let on = Matches-forward (tree_at nodes b) w l j right in omega arith;
+      left = subst (λ v. At nodes w a.index here.start v) there parts.1;
+      right = subst (λ v. At nodes w b.index v here.stop) there parts.2;
+      greatest = λ l left right. let on = Matches-forward (tree_at nodes b.index) w l here.stop right in omega arith;
     }
 
 -- the null string is matched where it is told
-pub null_told : (t : Tree) (w : List ℕ) (p : ℕ) (first last : Bool) → (IsTrue first ↔ (p ≡ 0)) → (IsTrue last ↔ (p ≡ length w)) → IsTrue (nullable first last t) ↔ Matches t w p p
-null_told empty w p first last begins ends = (λ _. refl, λ _. refl)
-null_told (set members) w p first last begins ends = (λ h. absurd (true≢false (sym h)), λ s. let next = s.3 in absurd (omega arith))
-null_told begin w p first last begins ends = (λ h. (begins.0 h, begins.0 h), λ s. begins.1 s.0)
-null_told end w p first last begins ends = (λ h. (ends.0 h, ends.0 h), λ s. ends.1 s.0)
-null_told (seq a b) w p first last begins ends =
-    let left = null_told a w p first last begins ends in
-    let right = null_told b w p first last begins ends in (
-      λ h. let both = and_parts (nullable first last a) (nullable first last b) h in (p, left.0 both.0, right.0 both.1),
-      λ s.
-          let up = Matches-forward a w p s.0 s.1 in
-          let on = Matches-forward b w s.0 p s.2 in
-          let here : s.0 ≡ p = omega arith in
-          and_from (nullable first last a) (nullable first last b) (left.1 (subst (λ v. Matches a w p v) here s.1)) (right.1 (subst (λ v. Matches b w v p) here s.2)),
-    )
-null_told (alt a b) w p first last begins ends =
-    or_truth (nullable first last a) (nullable first last b) (Matches a w p p) (Matches b w p p) (null_told a w p first last begins ends) (null_told b w p first last begins ends)
-null_told (group k a) w p first last begins ends = null_told a w p first last begins ends
-null_told (star a one) w p first last begins ends = (λ _. no_copy, λ _. refl)
-null_told (opt a one) w p first last begins ends = (λ _. inl refl, λ _. refl)
-
--- the same of a node, by its facts
-pub empty_told : (nodes : List Node) (w : List ℕ) (x p n : ℕ) (kind : Kind) (first result : Bool) → first ≡ true → n ≡ length w →
-    (IsTrue kind.begin ↔ (p ≡ 0)) → (IsTrue kind.end ↔ (p ≡ n)) → result ≡ null_in nodes kind x → IsTrue result ↔ (IsTrue first × At nodes w x p p)
-empty_told nodes w x p n kind first result is_first same begins ends told =
-    let both = null_told (tree_at nodes x) w p kind.begin kind.end begins (subst (λ v. IsTrue kind.end ↔ (p ≡ v)) same ends) in
+pub empty_told : (e : WrittenExpression) (w : List ℕ) (x p n : ℕ) (kind : Kind) (first result : Bool) → x < length e.nodes → first ≡ true → n ≡ length w →
+    (IsTrue kind.begin ↔ (p ≡ 0)) → (IsTrue kind.end ↔ (p ≡ n)) → result ≡ null_in e.nodes kind x → IsTrue result ↔ (IsTrue first × At e.nodes w x p p)
+empty_told e w x p n kind first result inside is_first same begins ends told =
+    let both = null_tells false e kind w p (begins, subst (λ v. IsTrue kind.end ↔ (p ≡ v)) same ends) x inside in
     (λ h. (is_first, both.0 (sym told ∙ h)), λ h. told ∙ both.1 h.1)
 
--- lengths that are told
-pub long_at : (nodes : List Node) (w : List ℕ) (x n : ℕ) (facts : Facts) → IsFacts (tree_at nodes x) x facts → facts.length ≡ Some n → AllLong (At nodes w x) n
-long_at nodes w x n facts is told = all_long (tree_at nodes x) w n (sym is.long ∙ told)
+-- a length that is told
+long_at : (nodes : List Node) (w : List ℕ) (x c n : ℕ) (facts : Facts) → x ≡ c → IsFacts (tree_at nodes x) x facts → facts.length ≡ Some n → AllLong (At nodes w c) n
+long_at nodes w x c n facts same is told = subst (λ v. AllLong (At nodes w v) n) same (all_long (tree_at nodes x) w n (sym is.long ∙ told))
 
--- a length that is known
-pub not_open : {told all : Option ℕ} (n : ℕ) → told ≡ all → told ≡ Some n → all ≡ None → ⊥
-not_open n same known none = cc
+-- it decides a cut, of the left part or of the right one, and a copy
+pub left_fixed : (s : Subject) (here : Matched) (a b : NodeId) (x n : ℕ) (facts : Facts) → Stands s here (Seq a b) → x ≡ a.index → IsFacts (tree_at (nodes_in s) x) x facts → facts.length ≡ Some n →
+    (here.start + n ≤ length (text_in s)) × LastCut (At (nodes_in s) (text_in s) a.index) (At (nodes_in s) (text_in s) b.index) here.start here.stop (here.start + n)
+left_fixed s here a b x n facts stands same is told =
+    let parts = opened s here (Seq a b) stands in
+    let long = long_at (nodes_in s) (text_in s) x a.index n facts same is told in
+    let on = Matches-forward (tree_at (nodes_in s) b.index) (text_in s) parts.0 here.stop parts.2 in
+    let fits = stands.there.fits in
+    (omega (arith, long here.start parts.0 parts.1, on, fits), left_long (At (nodes_in s) (text_in s) a.index) (At (nodes_in s) (text_in s) b.index) here.start here.stop n parts long)
 
-pub copy_fits : (nodes : List Node) (w : List ℕ) (x i j n : ℕ) → AllLong (At nodes w x) n → i < j → CopiesLead (At nodes w x) j i → n ≤ j
-copy_fits nodes w x i j n long some copies =
-    let copy = copy_spans (At nodes w x) j i (j - n) (copies_long (At nodes w x) j n long i some copies) in
-    let all = long (j - n) j copy.2 in
-    omega arith
+pub right_fixed : (s : Subject) (here : Matched) (a b : NodeId) (x n : ℕ) (facts : Facts) → Stands s here (Seq a b) → x ≡ b.index → IsFacts (tree_at (nodes_in s) x) x facts → facts.length ≡ Some n →
+    (n ≤ here.stop) × LastCut (At (nodes_in s) (text_in s) a.index) (At (nodes_in s) (text_in s) b.index) here.start here.stop (here.stop - n)
+right_fixed s here a b x n facts stands same is told =
+    let parts = opened s here (Seq a b) stands in
+    let long = long_at (nodes_in s) (text_in s) x b.index n facts same is told in
+    (omega (arith, long parts.0 here.stop parts.2), right_long (At (nodes_in s) (text_in s) a.index) (At (nodes_in s) (text_in s) b.index) here.start here.stop n parts long)
 
--- names of parts
-pub cut_named : (nodes : List Node) (w : List ℕ) (a b c d i j k : ℕ) → a ≡ c → b ≡ d → LastCut (At nodes w a) (At nodes w b) i j k → LastCut (At nodes w c) (At nodes w d) i j k
-cut_named nodes w a b c d i j k left right cut =
-    subst (λ v. LastCut (At nodes w c) (At nodes w v) i j k) right (subst (λ v. LastCut (At nodes w v) (At nodes w b) i j k) left cut)
+pub copy_fixed : (s : Subject) (here : Matched) (a : NodeId) (first : Bool) (x n : ℕ) (facts : Facts) → Stands s here (Star a first) → here.start < here.stop → x ≡ a.index → IsFacts (tree_at (nodes_in s) x) x facts →
+    facts.length ≡ Some n → (n ≤ here.stop) × LastCopy (At (nodes_in s) (text_in s) a.index) here.stop here.start (here.stop - n)
+copy_fixed s here a first x n facts stands some same is told =
+    let long = long_at (nodes_in s) (text_in s) x a.index n facts same is told in
+    let last = copies_long (At (nodes_in s) (text_in s) a.index) here.stop n long here.start some (opened s here (Star a first) stands) in
+    let copy = copy_spans (At (nodes_in s) (text_in s) a.index) here.stop here.start (here.stop - n) last in
+    (omega (arith, long (here.stop - n) here.stop copy.2), last)
 
-pub copy_named : (nodes : List Node) (w : List ℕ) (a c i j k : ℕ) → a ≡ c → LastCopy (At nodes w a) j i k → LastCopy (At nodes w c) j i k
-copy_named nodes w a c i j k same copy = subst (λ v. LastCopy (At nodes w v) j i k) same copy
-
--- a part of a node that is last in the region of r is no later than r
-pub part_low : (nodes : List Node) (w : List ℕ) (r x c : ℕ) (node : Node) → IsArena nodes → slice_get nodes x ≡ Some node → IsPart node c → IsLastIn nodes r x → c ≤ r
-part_low nodes w r x c node arena is part last =
-    let below = arena.below x c node is part in
-    let inside = last_inside nodes w r (one_start 0) arena x last in
+-- a part of the node is no later than the region's
+pub part_low : (s : Subject) (r : Region) (here : Matched) (node : Node) (c : ℕ) → Stands s here node → EndsRegion s r here → IsPart node c → c ≤ r.root
+part_low s r here node c stands ends part =
+    let below = stands.arena.below here.node c node stands.is part in
+    let inside = last_inside (nodes_in s) (text_in s) r.root (one_start 0) stands.arena here.node ends.0 in
     omega arith
 
 -- Runs.
-set_is : (nodes : List Node) → IsArena nodes → (x : ℕ) → x < length nodes → is_set (tree_at nodes x) ≡ true → IsSetAt nodes x
-set_is nodes arena x inside = let there = node_at nodes x inside in by there.0 there.1
+
+is_set_at : (nodes : List Node) → IsArena nodes → (x : ℕ) → x < length nodes → is_set (tree_at nodes x) ≡ true → IsSetAt nodes x
+is_set_at nodes arena x inside = let there = node_at nodes x inside in by there.0 there.1
   where
     by : (n : Node) → slice_get nodes x ≡ Some n → is_set (tree_at nodes x) ≡ true → IsSetAt nodes x
     by (Set members) is = λ h. (members, is)
@@ -229,98 +219,119 @@ set_is nodes arena x inside = let there = node_at nodes x inside in by there.0 t
 abbrev IsRun : List Node → ℕ → ℕ → Type 0
 IsRun nodes x c = IsRunOf nodes c x × IsSetAt nodes c
 
--- by the runs of the nodes before it
-run_by : (nodes : List Node) → IsArena nodes → AreRanges nodes → (x c : ℕ) → x < length nodes → ((y : ℕ) → y < x → run_of (tree_at nodes y) y ≡ Some c → IsRun nodes y c) →
-    (m : Node) → slice_get nodes x ≡ Some m → run_of (tree_at nodes x) x ≡ Some c → IsRun nodes x c
-run_by nodes arena ranges x c inside below (Group k a) is =
-    let next : a.index + 1 ≡ x = ranges x (Group k a) is in
-    let before : x - 1 ≡ a.index = omega arith in
-    rw (tree_at-node nodes x (Group k a) arena is) (λ h.
-    let inner = below a.index (omega arith) (subst (λ v. run_of (tree_at nodes a.index) v ≡ Some c) before h) in
-    (in_group x k a is inner.0, inner.1))
-run_by nodes arena ranges x c inside below (Star a first) is =
-    let next : a.index + 1 ≡ x = ranges x (Star a first) is in
-    rw (tree_at-node nodes x (Star a first) arena is) (λ h.
-    let both = cond_some (is_set (tree_at nodes a.index)) (x - 1) c h in
-    let at = both.1 in
-    let here : a.index ≡ c = omega arith in
-    (repeated x (a, first, is, here), subst (IsSetAt nodes) here (set_is nodes arena a.index (omega arith) both.0)))
-run_by nodes arena ranges x c inside below other is = rw (tree_at-node nodes x other arena is) (λ h. cc)
-
 run_within : (n : ℕ) (nodes : List Node) → IsArena nodes → AreRanges nodes → (x c : ℕ) → x < n → x < length nodes → run_of (tree_at nodes x) x ≡ Some c → IsRun nodes x c
 run_within zero nodes arena ranges x c low inside told = absurd (omega arith)
 run_within (suc n) nodes arena ranges x c low inside told =
     let there = node_at nodes x inside in
-    run_by nodes arena ranges x c inside (λ y less. run_within n nodes arena ranges y c (omega arith) (omega arith)) there.0 there.1 told
+    by (λ y less. run_within n nodes arena ranges y c (omega arith) (omega arith)) there.0 there.1 told
+  where
+    by : ((y : ℕ) → y < x → run_of (tree_at nodes y) y ≡ Some c → IsRun nodes y c) → (m : Node) → slice_get nodes x ≡ Some m → run_of (tree_at nodes x) x ≡ Some c → IsRun nodes x c
+    by below (Group k a) is =
+        let next : a.index + 1 ≡ x = ranges x (Group k a) is in
+        let before : x - 1 ≡ a.index = omega arith in
+        rw (tree_at-node nodes x (Group k a) arena is) (λ h.
+        let inner = below a.index (omega arith) (subst (λ v. run_of (tree_at nodes a.index) v ≡ Some c) before h) in
+        (in_group x k a is inner.0, inner.1))
+    by below (Star a first) is =
+        let next : a.index + 1 ≡ x = ranges x (Star a first) is in
+        rw (tree_at-node nodes x (Star a first) arena is) (λ h.
+        let both = cond_some (is_set (tree_at nodes a.index)) (x - 1) c h in
+        let at = both.1 in
+        let here : a.index ≡ c = omega arith in
+        (repeated x (a, first, is, here), subst (IsSetAt nodes) here (is_set_at nodes arena a.index (omega arith) both.0)))
+    by below other is = rw (tree_at-node nodes x other arena is) (λ h. cc)
 
-pub run_found : (nodes : List Node) (groups x c : ℕ) (facts : Facts) → IsExpr nodes groups → x < length nodes → IsFacts (tree_at nodes x) x facts → facts.run ≡ Some c → IsRunOf nodes c x × IsSetAt nodes c
-run_found nodes groups x c facts expr inside is told =
-    run_within (x + 1) nodes expr.arena expr.ranges x c (omega arith) inside (sym is.run ∙ told)
+pub run_told : (nodes : List Node) (groups x : ℕ) (facts : Facts) (run : Option ℕ) → IsExpr nodes groups → x < length nodes → IsFacts (tree_at nodes x) x facts → facts.run ≡ run →
+    IfSome run (λ c. IsRunOf nodes c x × IsSetAt nodes c)
+run_told nodes groups x facts None expr inside is told = tt
+run_told nodes groups x facts (Some c) expr inside is told = run_within (x + 1) nodes expr.arena expr.ranges x c (omega arith) inside (sym is.run ∙ told)
 
 -- Regions.
 
--- what a kept pass of one stop tells
-pub stops_at : (nodes : List Node) (w : List ℕ) (r stop a i p : ℕ) (all_starts : Bool) → all_starts ≡ false → CeasesAt nodes w r (ends_told all_starts (length w) stop) a i p → StopsAt nodes w r stop a i p
-stops_at nodes w r stop a i p all_starts is ceases = subst (λ b. CeasesAt nodes w r (ends_told b (length w) stop) a i p) is ceases
+-- the match ends at the one end that a kept pass tells of
+pub ends_there : (s : Subject) (tables : GroupTables) (kept : Kept) (here : Matched) (node : Node) → IsAtEnd s tables kept here node →
+    ends_told tables.inside.way.all_starts (length (text_in s)) kept.region.end ≡ one_start here.stop
+ends_there s tables kept here node at = rw at.desk.one_end (ap one_start (sym at.ends.1))
 
-pub runs_to : (nodes : List Node) (w : List ℕ) (r stop x i p : ℕ) (all_starts : Bool) → all_starts ≡ false → IsArena nodes → IsSetAt nodes x → i ≤ p →
-    AllMarked nodes w r (ends_told all_starts (length w) stop) x true i p → (p < stop → IsTrue false ↔ ReachesEnd nodes w r (ends_told all_starts (length w) stop) x p) → RunsTo nodes w r stop x i p
-runs_to nodes w r stop x i p all_starts is arena a_set up passed found =
-    let all = subst (λ b. AllMarked nodes w r (ends_told b (length w) stop) x true i p) is passed in
-    let last = subst (λ b. p < stop → IsTrue false ↔ ReachesEnd nodes w r (ends_told b (length w) stop) x p) is found in (
+-- where a pass over the left part ceases to meet the kept one is the cut
+pub cut_ceases : (s : Subject) (tables : GroupTables) (kept : Kept) (here : Matched) (a b : NodeId) (p : ℕ) → IsAtEnd s tables kept here (Seq a b) →
+    CeasesAt (nodes_in s) (text_in s) kept.region.root (ends_told tables.inside.way.all_starts (length (text_in s)) kept.region.end) a.index here.start p →
+    LastCut (At (nodes_in s) (text_in s) a.index) (At (nodes_in s) (text_in s) b.index) here.start here.stop p
+cut_ceases s tables kept here a b p at ceases =
+    let stands = at.stands in
+    stops_at_cut (nodes_in s) (text_in s) kept.region.root here.stop here.node a b stands.arena at.ends.0 stands.is here.start p stands.there.at
+    (subst (λ t. CeasesAt (nodes_in s) (text_in s) kept.region.root t a.index here.start p) (ends_there s tables kept here (Seq a b) at) ceases)
+
+-- so is the end of a run, where the left part is one
+pub cut_runs : (s : Subject) (tables : GroupTables) (kept : Kept) (here : Matched) (a b : NodeId) (leaf p : ℕ) → IsAtEnd s tables kept here (Seq a b) → IsRunOf (nodes_in s) leaf a.index → IsSetAt (nodes_in s) leaf →
+    here.start ≤ p → AllMarked (nodes_in s) (text_in s) kept.region.root (ends_told tables.inside.way.all_starts (length (text_in s)) kept.region.end) leaf true here.start p →
+    (p < kept.region.end → IsTrue false ↔ ReachesEnd (nodes_in s) (text_in s) kept.region.root (ends_told tables.inside.way.all_starts (length (text_in s)) kept.region.end) leaf p) →
+    LastCut (At (nodes_in s) (text_in s) a.index) (At (nodes_in s) (text_in s) b.index) here.start here.stop p
+cut_runs s tables kept here a b leaf p at run a_set up passed found =
+    let stands = at.stands in
+    let nodes = nodes_in s in
+    let w = text_in s in
+    let r = kept.region.root in
+    let there = ends_there s tables kept here (Seq a b) at in
+    let all = subst (λ t. AllMarked nodes w r t leaf true here.start p) there passed in
+    let last = subst (λ t. p < kept.region.end → IsTrue false ↔ ReachesEnd nodes w r t leaf p) there found in
+    let stop = at.ends.1 in
+    run_stops nodes w r here.stop here.node a b stands.arena at.ends.0 stands.is leaf a_set.0 run a_set.1 here.start p stands.there.at (
       up,
       λ q from to. (all q from to).0 refl,
-      λ reaches. true≢false (sym ((last (set_early nodes w r x p (one_start stop) a_set.0 arena a_set.1 reaches)).1 reaches)),
+      λ reaches.
+          let early : p < here.stop = set_early nodes w r leaf p (one_start here.stop) a_set.0 stands.arena a_set.1 reaches in
+          true≢false (sym ((last (omega arith)).1 reaches)),
     )
+
+-- where a pass over the part of a repetition ceases to meet the kept one is the end of the next copy
+pub copy_ceases : (s : Subject) (tables : GroupTables) (kept : Kept) (here : Matched) (a : NodeId) (first : Bool) (i p : ℕ) → IsAtEnd s tables kept here (Star a first) →
+    CopiesLead (At (nodes_in s) (text_in s) a.index) here.stop i → i < here.stop →
+    CeasesAt (nodes_in s) (text_in s) kept.region.root (ends_told tables.inside.way.all_starts (length (text_in s)) kept.region.end) a.index i p →
+    NextCopy (At (nodes_in s) (text_in s) a.index) i here.stop p
+copy_ceases s tables kept here a first i p at copies lt ceases =
+    let stands = at.stands in
+    stops_at_copy (nodes_in s) (text_in s) kept.region.root here.stop here.node a first stands.arena at.ends.0 stands.is i p
+    (close_at (nodes_in s) (text_in s) here.node (Star a first) stands.arena stands.is i here.stop copies) lt
+    (subst (λ t. CeasesAt (nodes_in s) (text_in s) kept.region.root t a.index i p) (ends_there s tables kept here (Star a first) at) ceases)
 
 -- the region is the same
 pub ends_still : (s : Subject) (old new : Kept) (here : Matched) → SameKept old new → EndsRegion s old.region here → EndsRegion s new.region here
 ends_still s old new here same ends = (subst (λ r. IsLastIn (nodes_in s) r here.node) (sym same.root) ends.0, ends.1 ∙ sym same.end)
 
--- so are the tables' ways
-pub desk_still : (s : Subject) (inside ahead inside' ahead' : Table) (kept : Kept) → IsKept s.prepared.now s.text.now inside' kept → IsTable s.prepared.now ahead' →
-    inside.way.all_starts ≡ false → IsAhead s.prepared.now ahead → SameShape inside inside' → SameShape ahead ahead' →
-    IsDesk s (record { ahead = ahead'; inside = inside' }) kept
-desk_still s inside ahead inside' ahead' kept region table one_end before same same' = record {
-  region = region;
-  one_end = ap (λ v. v.all_starts) same.0 ∙ one_end;
-  ahead = record {
-    table = table;
-    forwards = ap (λ v. v.mirrored) same'.0 ∙ before.forwards;
-    single = ap (λ v. v.all_starts) same'.0 ∙ before.single;
-    brief = ap (λ v. v.keeps) same'.0 ∙ before.brief;
-  };
-}
+-- The desk.
 
--- the same tables, and over two calls
 pub tables_same : (t : GroupTables) → SameTables t t
 tables_same t = record { inside = (refl, refl, refl, refl, refl); ahead = (refl, refl, refl, refl, refl) }
 
 pub tables_then : (a b c : GroupTables) → SameTables a b → SameTables b c → SameTables a c
 tables_then a b c one two = record { inside = same_shape a.inside b.inside c.inside one.inside two.inside; ahead = same_shape a.ahead b.ahead c.ahead one.ahead two.ahead }
 
--- a part that goes on in the region
-pub part_ends : (s : Subject) (old new : Kept) (here : Matched) (part : ℕ) → SameKept old new → IsLastIn (nodes_in s) old.region.root part → EndsRegion s old.region here → EndsRegion s new.region (record here { node = part })
-part_ends s old new here part same last ends = ends_still s old new (record here { node = part }) same (last, ends.1)
+pub desk_same : (s : Subject) (t : GroupTables) (k : Kept) → IsDesk s t k → KeepsDesk s t t k k
+desk_same s t k desk = record { desk = desk; shape = tables_same t; space = space_same k }
 
--- a region that begins with the part
-pub begun_ends : (s : Subject) (r : Region) (part start stop : ℕ) → r.root ≡ part → r.end ≡ stop → EndsRegion s r (record { node = part; start = start; stop = stop })
-begun_ends s r part start stop root ends = (all_of part (sym root), sym ends)
+pub desk_then : (s : Subject) (a b c : GroupTables) (k l m : Kept) → KeepsDesk s a b k l → KeepsDesk s b c l m → KeepsDesk s a c k m
+desk_then s a b c k l m one two = record { desk = two.desk; shape = tables_then a b c one.shape two.shape; space = space_then k l m one.space two.space }
 
--- a desk serves any region
-pub desk_has : (s : Subject) (tables : GroupTables) (kept : Kept) → IsDesk s tables kept → HasDesk s tables kept
-desk_has s tables kept desk = record {
-  inside = desk.region.region.table;
-  places = desk.region.region.room;
-  one_end = desk.one_end;
-  ahead = desk.ahead;
+-- after passes of both tables
+pub desk_ahead : (s : Subject) (t : GroupTables) (inside ahead : Table) (old new : Kept) → IsDesk s t old → IsKept s.prepared.now s.text.now inside new → IsTable s.prepared.now ahead →
+    SameShape t.inside inside → SameShape t.ahead ahead → SameKept old new → KeepsDesk s t (record { ahead = ahead; inside = inside }) old new
+desk_ahead s t inside ahead old new desk region table same same' kept = record {
+  desk = record {
+    region = region;
+    one_end = ap (λ v. v.all_starts) same.0 ∙ desk.one_end;
+    ahead = record {
+      table = table;
+      forwards = ap (λ v. v.mirrored) same'.0 ∙ desk.ahead.forwards;
+      single = ap (λ v. v.all_starts) same'.0 ∙ desk.ahead.single;
+      brief = ap (λ v. v.keeps) same'.0 ∙ desk.ahead.brief;
+    };
+  };
+  shape = record { inside = same; ahead = same' };
+  space = kept_space old new kept;
 }
 
--- with a region that was begun it is one again
-pub desk_begun : (s : Subject) (tables : GroupTables) (old new : Kept) → HasDesk s tables old → IsKept s.prepared.now s.text.now tables.inside new → IsDesk s tables new
-desk_begun s tables old new desk region = record { region = region; one_end = desk.one_end; ahead = desk.ahead }
-
--- and passes for any node may begin
+-- passes for any node may begin
 pub may_begin : (s : Subject) (tables : GroupTables) (x : ℕ) → tables.inside.way.all_starts ≡ false → x < length (nodes_in s) → MayBegin s.prepared.now tables.inside.way x
 may_begin s tables x one_end inside = (inside, λ all_starts. absurd (true≢false (sym all_starts ∙ one_end)))
 
@@ -336,30 +347,21 @@ least_no_byte s t i j up none = omega (arith, up, none)
 -- Costs.
 
 -- looks into a region from where the match begins that ends with it
-pub owed_here : (s : Subject) (r : Region) (here : Matched) → EndsRegion s r here → owed_in s r here.start ≤ 100 * length (nodes_in s) * (here.stop - here.start)
+pub owed_here : (s : Subject) (r : Region) (here : Matched) → EndsRegion s r here → owed (length (nodes_in s)) r here.start ≤ 100 * length (nodes_in s) * (here.stop - here.start)
 owed_here s r here ends =
-    subst (λ v. owed_in s r here.start ≤ 100 * length (nodes_in s) * (v - here.start)) (sym ends.1) (owed_small (length (nodes_in s)) r here.start)
+    subst (λ v. owed (length (nodes_in s)) r here.start ≤ 100 * length (nodes_in s) * (v - here.start)) (sym ends.1) (owed_small (length (nodes_in s)) r here.start)
 
-pub not_empty : (i j : ℕ) → i ≤ j → (i ≡ j → ⊥) → i < j
-not_empty i j up other = ⊎_elim (λ (e : i ≡ j). absurd (other e)) (λ (ne : i ≡ j → ⊥). omega (arith, up, ne)) (cases_eq i j)
-
-meet_long : (m s t o o' i k long : ℕ) → 1 ≤ long → k ≤ i + long → o ≤ 100 * m * long → t + (o' + 36 * m * i) ≤ s + (o + 36 * m * (k + 1)) → t ≤ s + 172 * m * long
-meet_long m s t o o' i k long some on owed_is pays =
+-- a pass ahead up to a place, from where a match of so many bytes begins
+pub meet_paid : (m s t o o' i k long : ℕ) → 1 ≤ long → k ≤ i + long → o ≤ 100 * m * long → t + (o' + 36 * m * i) ≤ s + (o + 36 * m * (k + 1)) → t ≤ s + 172 * m * long
+meet_paid m s t o o' i k long some on owed_is pays =
     let far : k + 1 ≤ i + long + 1 = omega arith in
     omega (arith, owed_is, pays, mul-le-mul_left (36 * m) far, mul-le-mul_left (36 * m) some)
 
--- a pass ahead up to a place
-pub meet_paid : (m s t o o' i k j : ℕ) → i < j → k ≤ j → o ≤ 100 * m * (j - i) → t + (o' + 36 * m * i) ≤ s + (o + 36 * m * (k + 1)) → t ≤ s + 172 * m * (j - i)
-meet_paid m s t o o' i k j some on owed_is pays = meet_long m s t o o' i k (j - i) (omega arith) (omega arith) owed_is pays
-
-run_long : (m s t o o' i k long : ℕ) → 1 ≤ m → 1 ≤ long → k ≤ i + long → o ≤ 100 * m * long → t + (o' + 2 * i) ≤ s + (o + 2 * k + 2) → t ≤ s + 172 * m * long
-run_long m s t o o' i k long some more on owed_is pays =
+-- looks at a run
+pub run_paid : (m s t o o' i k long : ℕ) → 1 ≤ m → 1 ≤ long → k ≤ i + long → o ≤ 100 * m * long → t + (o' + 2 * i) ≤ s + (o + 2 * k + 2) → t ≤ s + 172 * m * long
+run_paid m s t o o' i k long some more on owed_is pays =
     let each : 1 * long ≤ m * long = mul-le-mul_right long some in
     omega (arith, owed_is, pays, on, more, each)
-
--- looks at a run
-pub run_paid : (m s t o o' i k j : ℕ) → 1 ≤ m → i < j → k ≤ j → o ≤ 100 * m * (j - i) → t + (o' + 2 * i) ≤ s + (o + 2 * k + 2) → t ≤ s + 172 * m * (j - i)
-run_paid m s t o o' i k j some more on owed_is pays = run_long m s t o o' i k (j - i) some (omega arith) (omega arith) owed_is pays
 
 copy_part : (m s t o o' i e d : ℕ) → t + (o' + 36 * m * i) ≤ s + (o + 36 * m * (i + (1 + e) + 1)) → t + (o' + 72 * m * d) ≤ s + (o + 72 * m * ((1 + e) + d))
 copy_part m s t o o' i e d pays = omega (arith, pays)
@@ -372,15 +374,13 @@ copy_pays m s t o o' i k j up on pays =
     subst (λ v. t + (o' + 72 * m * (j - k)) ≤ s + (o + 72 * m * v)) rest
     (copy_part m s t o o' i (k - (i + 1)) (j - k) (subst (λ v. t + (o' + 36 * m * i) ≤ s + (o + 36 * m * (v + 1))) (sym whole) pays))
 
--- a look at one place
-pub look_paid : (m s t o o' long : ℕ) → o ≤ 100 * m * long → t + o' ≤ s + (o + 1) → t ≤ s + (172 * m * long + 1)
-look_paid m s t o o' long owed_is pays = omega (arith, owed_is, pays)
-
--- if a run is told
-pub run_told : (nodes : List Node) (groups x : ℕ) (facts : Facts) (run : Option ℕ) → IsExpr nodes groups → x < length nodes → IsFacts (tree_at nodes x) x facts → facts.run ≡ run →
-    IfSome run (λ c. IsRunOf nodes c x × IsSetAt nodes c)
-run_told nodes groups x facts None expr inside is told = tt
-run_told nodes groups x facts (Some c) expr inside is told = run_found nodes groups x c facts expr inside is told
+-- a look at one place, where the match begins
+pub look_paid : (s : Subject) (r : Region) (here : Matched) (before after left : ℕ) → EndsRegion s r here → CostsWithin before after (owed (length (nodes_in s)) r here.start + 1) left →
+    Takes before after (part_cost (length (nodes_in s)) (here.stop - here.start) + 1)
+look_paid s r here before after left ends paid = (paid.0, look_long (length (nodes_in s)) (here.stop - here.start) before after _ left (owed_here s r here ends) paid.1)
+  where
+    look_long : (m long s t o o' : ℕ) → o ≤ 100 * m * long → t + o' ≤ s + (o + 1) → t ≤ s + (172 * m * long + 1)
+    look_long m long s t o o' owed_is pays = omega (arith, owed_is, pays)
 
 -- Tables and room that were made.
 
@@ -410,26 +410,7 @@ has_desk s t r text blocks nodes tables space short cut few = record {
   };
 }
 
--- Tables that serve one expression after another.
-
-shape_room : (a b : Table) → SameShape a b → SameRoom a b
-shape_room a b same = (same.0, same.1, same.3, same.4)
-
-room_then : (a b c : Table) → SameRoom a b → SameRoom b c → SameRoom a c
-room_then a b c one two = (two.0 ∙ one.0, two.1 ∙ one.1, two.2 ∙ one.2, two.3 ∙ one.3)
-
--- after an expression that they were fitted to, they have all their room again
-pub roomy_again : (m : ℕ) (s : Subject) (t fitted after : GroupTables) (kept : Kept) → AreRoomy m t → SameRooms t fitted → SameTables fitted after → HasDesk s after kept → AreRoomy m after
-roomy_again m s t fitted after kept roomy fit used desk =
-    let inside = room_then t.inside fitted.inside after.inside fit.inside (shape_room fitted.inside after.inside used.inside) in
-    let ahead = room_then t.ahead fitted.ahead after.ahead fit.ahead (shape_room fitted.ahead after.ahead used.ahead) in
-    record {
-      ways = record { inside = inside.0 ∙ roomy.ways.inside; ahead = ahead.0 ∙ roomy.ways.ahead };
-      inside = roomy_still m s.prepared.now t.inside after.inside roomy.inside inside desk.inside;
-      ahead = roomy_still m s.prepared.now t.ahead after.ahead roomy.ahead ahead desk.ahead.table;
-    }
-
--- and so has the room for the groups
+-- after an expression that it served, there is all the room again
 pub space_again : (text blocks nodes : ℕ) (r after : GroupRoom) → HasSpace text blocks nodes r → SameSpace r.kept after.kept → after.tasks.items ≡ [] → vec_capacity r.tasks ≤ vec_capacity after.tasks →
     HasSpace text blocks nodes after
 space_again text blocks nodes r after space same none grows = record {

@@ -1,5 +1,5 @@
 -- The bits of a set of groups.
-use Rattle.std.proofs.Common.{◌≡◌, ℕ, ◌-◌, ◌*◌, ◌%◌, ◌^◌, ◌<◌, ◌≤◌, ◌⊎◌, Bool, true, false, ◌&&◌, ◌||◌, not, IsTrue, refl, sym, ap, ◌∙◌, inl, inr, ⊎_elim, true≢false, max, min, arith, bit_and, bit_or, w16}
+use Rattle.std.proofs.Common.{◌≡◌, ℕ, zero, suc, ◌-◌, ◌*◌, ◌%◌, ◌^◌, ◌<◌, ◌≤◌, Bool, true, false, ◌&&◌, ◌||◌, not, IsTrue, refl, sym, ap, ◌∙◌, ⊎_elim, true≢false, max, min, arith, bit_and, bit_or, w16}
 use Rattle.std.specs.Prelude.{eqb, nat_lt}
 use Rattle.std.specs.Int.{bit_at, trailing_zeros}
 use Rattle.std.proofs.Math.Bool.{and-false}
@@ -14,22 +14,14 @@ use Rattle.sedpass.specs.declared.group_set.GroupSet.{GroupSet}
 abbrev of_bits : ℕ → GroupSet
 of_bits n = record { bits = n }
 
-is_one : (n : ℕ) → n < 2 → (n ≡ 0) ⊎ (n ≡ 1)
-is_one n small = ⊎_elim (λ (e : n ≡ 0). inl e) (λ (ne : n ≡ 0 → ⊥). inr (omega arith)) (cases_eq n 0)
-
-max_bits : (a b : ℕ) → a < 2 → b < 2 → eqb (max a b) 1 ≡ (eqb a 1 || eqb b 1)
-max_bits a b small small' =
-    ⊎_elim
-    (λ (e : a ≡ 0). ⊎_elim (λ (f : b ≡ 0). rw (e, f) refl) (λ (f : b ≡ 1). rw (e, f) refl) (is_one b small'))
-    (λ (e : a ≡ 1). ⊎_elim (λ (f : b ≡ 0). rw (e, f) refl) (λ (f : b ≡ 1). rw (e, f) refl) (is_one b small'))
-    (is_one a small)
-
-min_not_bits : (a b : ℕ) → a < 2 → b < 2 → eqb (min a (1 - b)) 1 ≡ (eqb a 1 && not (eqb b 1))
-min_not_bits a b small small' =
-    ⊎_elim
-    (λ (e : a ≡ 0). ⊎_elim (λ (f : b ≡ 0). rw (e, f) refl) (λ (f : b ≡ 1). rw (e, f) refl) (is_one b small'))
-    (λ (e : a ≡ 1). ⊎_elim (λ (f : b ≡ 0). rw (e, f) refl) (λ (f : b ≡ 1). rw (e, f) refl) (is_one b small'))
-    (is_one a small)
+-- what holds of each two bits
+two_bits : (P : ℕ → ℕ → Type 0) → P 0 0 → P 0 1 → P 1 0 → P 1 1 → (a b : ℕ) → a < 2 → b < 2 → P a b
+two_bits P p q r s zero zero small small' = p
+two_bits P p q r s zero (suc zero) small small' = q
+two_bits P p q r s (suc zero) zero small small' = r
+two_bits P p q r s (suc zero) (suc zero) small small' = s
+two_bits P p q r s (suc (suc a)) b small small' = absurd (omega (arith, small))
+two_bits P p q r s a (suc (suc b)) small small' = absurd (omega (arith, small'))
 
 both_or : (l x y : Bool) → (l && (x || y)) ≡ ((l && x) || (l && y))
 both_or true x y = refl
@@ -45,7 +37,7 @@ under false x y same = refl
 
 pub holds_union : (a b k : ℕ) → holds (of_bits (bit_or a b)) k ≡ (holds (of_bits a) k || holds (of_bits b) k)
 holds_union a b k =
-    ap (λ x. nat_lt k 10 && eqb x 1) (bit_at_or a b k) ∙ ap (λ x. nat_lt k 10 && x) (max_bits (bit_at a k) (bit_at b k) (bit_at-lt a k) (bit_at-lt b k))
+    ap (λ x. nat_lt k 10 && eqb x 1) (bit_at_or a b k) ∙ ap (λ x. nat_lt k 10 && x) (two_bits (λ x y. eqb (max x y) 1 ≡ (eqb x 1 || eqb y 1)) refl refl refl refl (bit_at a k) (bit_at b k) (bit_at-lt a k) (bit_at-lt b k))
     ∙ both_or (nat_lt k 10) (eqb (bit_at a k) 1) (eqb (bit_at b k) 1)
 
 pub holds_without : (a b k : ℕ) → b < 65536 → holds (of_bits (bit_and a (65535 - b))) k ≡ (holds (of_bits a) k && not (holds (of_bits b) k))
@@ -54,7 +46,7 @@ holds_without a b k small =
     (λ low.
     let less = ltb-true k 10 low in
     let turned : bit_at (65535 - b) k ≡ 1 - bit_at b k = bit_at_not w16 b k small (omega arith) in
-    ap (λ x. eqb x 1) (bit_at_and a (65535 - b) k ∙ ap (min (bit_at a k)) turned) ∙ min_not_bits (bit_at a k) (bit_at b k) (bit_at-lt a k) (bit_at-lt b k))
+    ap (λ x. eqb x 1) (bit_at_and a (65535 - b) k ∙ ap (min (bit_at a k)) turned) ∙ two_bits (λ x y. eqb (min x (1 - y)) 1 ≡ (eqb x 1 && not (eqb y 1))) refl refl refl refl (bit_at a k) (bit_at b k) (bit_at-lt a k) (bit_at-lt b k))
     ∙ both_not (nat_lt k 10) (eqb (bit_at a k) 1) (eqb (bit_at b k) 1)
 
 pub holds_one : (k n : ℕ) → 1 ≤ k → k ≤ 9 → holds (of_bits (1 * 2 ^ k % 65536)) n ≡ (reported n && eqb k n)

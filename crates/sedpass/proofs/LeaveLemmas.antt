@@ -7,7 +7,6 @@ use Rattle.sedre.specs.Tree.{WrittenExpression, tree_at}
 use Rattle.sedre.specs.Mirror.{mirror_node, seen}
 use Rattle.sedre.proofs.MirrorLemmas.{seen-node, old_node}
 use Rattle.sedre.specs.declared.types.Node.{Node}
-use Rattle.sedre.specs.declared.types.NodeId.{NodeId}
 use Rattle.sedre.specs.declared.types.Node.TheVariants.{Seq, Alt, Group, Star, Opt}
 use Rattle.sedtext.specs.declared.starts.Starts.{Starts}
 use Rattle.sedtext.specs.Spans.{no_copy}
@@ -69,50 +68,26 @@ module _ (nodes : List Node) (w : List ℕ) (r : ℕ) (t : Starts) (arena : IsAr
   Leaves-part y le c i node is part (before_copies z _ _ k a first is' inner l at) =
       moved y z c i node (Star a first) is is' part inner (k, l, at)
 
-  -- only r and nodes below it are left
-  pub Leaves-inside : (x i : ℕ) → Leaves nodes w r t x i → x ≤ r
-  Leaves-inside x i (at_end _ _ last stop) = omega arith
-  Leaves-inside x i (with_end z _ _ other is' ends l) =
-      let up = Leaves-inside z i l in
+  -- only r and nodes below it are left, r at the ends alone, and nothing after the last end
+  pub Leaves-all : (x i : ℕ) → Leaves nodes w r t x i → (x ≤ r) × (x ≡ r → IsStart t i) × (i ≤ t.last)
+  Leaves-all x i (at_end _ _ last stop) = (omega arith, λ _. stop, omega arith)
+  Leaves-all x i (with_end z _ _ other is' ends l) =
+      let up = Leaves-all z i l in
       let below : x < z = arena.below z x other is' (EndsWith-part other x ends) in
-      omega arith
-  Leaves-inside x i (before_right z _ _ k a b is' left l at) =
-      let up = Leaves-inside z k l in
+      (omega (arith, up.0), λ same. absurd (omega (arith, up.0, same)), up.2)
+  Leaves-all x i (before_right z _ _ k a b is' left l at) =
+      let up = Leaves-all z k l in
       let below : x < z = arena.below z x (Seq a b) is' (inl left) in
-      omega arith
-  Leaves-inside x i (before_copies z _ _ k a first is' inner l at) =
-      let up = Leaves-inside z k l in
-      let below : x < z = arena.below z x (Star a first) is' inner in
-      omega arith
-
-  -- the node r is left at the ends alone
-  pub Leaves-root : (x i : ℕ) → x ≡ r → Leaves nodes w r t x i → IsStart t i
-  Leaves-root x i last (at_end _ _ _ stop) = stop
-  Leaves-root x i last (with_end z _ _ other is' ends l) =
-      let up = Leaves-inside z i l in
-      let below : x < z = arena.below z x other is' (EndsWith-part other x ends) in
-      absurd (omega arith)
-  Leaves-root x i last (before_right z _ _ k a b is' left l at) =
-      let up = Leaves-inside z k l in
-      let below : x < z = arena.below z x (Seq a b) is' (inl left) in
-      absurd (omega arith)
-  Leaves-root x i last (before_copies z _ _ k a first is' inner l at) =
-      let up = Leaves-inside z k l in
-      let below : x < z = arena.below z x (Star a first) is' inner in
-      absurd (omega arith)
-
-  -- nothing is left after the last end
-  pub Leaves-to : (x i : ℕ) → Leaves nodes w r t x i → i ≤ t.last
-  Leaves-to x i (at_end _ _ last stop) = omega arith
-  Leaves-to x i (with_end z _ _ other is' ends l) = Leaves-to z i l
-  Leaves-to x i (before_right z _ _ k a b is' left l at) =
-      let late = Leaves-to z k l in
       let on = Matches-forward (tree_at nodes b.index) w i k at in
-      omega arith
-  Leaves-to x i (before_copies z _ _ k a first is' inner l at) =
-      let late = Leaves-to z k l in
+      (omega (arith, up.0), λ same. absurd (omega (arith, up.0, same)), omega (arith, up.2))
+  Leaves-all x i (before_copies z _ _ k a first is' inner l at) =
+      let up = Leaves-all z k l in
+      let below : x < z = arena.below z x (Star a first) is' inner in
       let on = Matches-forward (tree_at nodes z) w i k at in
-      omega arith
+      (omega (arith, up.0), λ same. absurd (omega (arith, up.0, same)), omega (arith, up.2))
+
+  pub Leaves-to : (x i : ℕ) → Leaves nodes w r t x i → i ≤ t.last
+  Leaves-to x i l = (Leaves-all x i l).2
 
   -- a part that ends wherever its node does is left where the node is
   OutOf-last : (y c i : ℕ) (node : Node) → HasTwoParts node → IsLastPart node c → OutOf nodes w r t y c i node → Leaves nodes w r t y i
@@ -137,7 +112,7 @@ module _ (nodes : List Node) (w : List ℕ) (r : ℕ) (t : Starts) (arena : IsAr
   Leaves-last x i (last_of y _ node is last up) stop = with_end y x i node is (IsLastPart-ends node x last) (Leaves-last y i up stop)
 
   pub last-leaves : (x i : ℕ) → IsLastIn nodes r x → Leaves nodes w r t x i → IsStart t i
-  last-leaves x i (all_of _ same) l = Leaves-root x i same l
+  last-leaves x i (all_of _ same) l = (Leaves-all x i l).1 same
   last-leaves x i (last_of y _ node is last up) l =
       let part = EndsWith-part node x (IsLastPart-ends node x last) in
       last-leaves y i up (OutOf-last y x i node (arena.distinct y node is) last (Leaves-part y (last_inside y up) x i node is part l))
@@ -156,13 +131,6 @@ reaches_last nodes w r j x p arena last =
           subst (λ v. At nodes w x p v) same g.2,
       λ at. both.1 (j, (omega arith, omega arith), at),
     )
-
-pub alt_looks : (nodes : List Node) (w : List ℕ) (r j x i : ℕ) (a b : NodeId) → IsArena nodes → IsLastIn nodes r x → slice_get nodes x ≡ Some (Alt a b) →
-    (ReachesEnd nodes w r (one_start j) a.index i ↔ At nodes w a.index i j) × (ReachesEnd nodes w r (one_start j) b.index i ↔ At nodes w b.index i j)
-alt_looks nodes w r j x i a b arena last is = (
-  reaches_last nodes w r j a.index i arena (last_of x a.index (Alt a b) is (inl refl) last),
-  reaches_last nodes w r j b.index i arena (last_of x b.index (Alt a b) is (inr refl) last),
-)
 
 -- a node ends with a byte or without
 pub ends_at : (nodes : List Node) (w : List ℕ) (r x q : ℕ) (s : Starts) → EndsAt nodes w r s x q ↔ (Ends nodes w r s x q ⊎ (Enters nodes w r s x q × At nodes w x q q))

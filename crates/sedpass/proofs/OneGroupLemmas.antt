@@ -4,7 +4,7 @@ use Rattle.std.specs.Prelude.{eqb, unwrap_or, slice_get, slice_set, slice_index_
 use Rattle.std.specs.Option.{option_or}
 use Rattle.std.proofs.lemmas.Bool.{cases_Bool, cases_lt, eqb-true, eq-eqb}
 use Rattle.std.proofs.lemmas.Bool.Decides.{eqb_tells}
-use Rattle.std.proofs.lemmas.List.{get_or-set_other, length-set}
+use Rattle.std.proofs.lemmas.List.{ext_get_or, get_or-set_other, length-set}
 use Rattle.std.proofs.lemmas.Option.{slice_get_past, none-some, same_Some, unwrap_or-slice_get}
 use Rattle.sedre.specs.Tree.{Tree, empty, set, begin, end, seq, alt, group, star, opt}
 use Rattle.sedtext.specs.Groups.{Groups, forget, no_groups}
@@ -438,18 +438,11 @@ made due spans = record { due = due; spans = spans }
 pub same_state : (due rest : List Bool) (g h : Groups) → due ≡ rest → g ≡ h → made due g ≡ made rest h
 same_state due rest g h one two = ap (λ v. made v g) one ∙ ap (made rest) two
 
-pub same_bools : (xs ys : List Bool) → length xs ≡ length ys → ((k : ℕ) → slice_index_or xs k false ≡ slice_index_or ys k false) → xs ≡ ys
-same_bools [] [] long each = refl
-same_bools [] (y ∷ ys) long each = absurd (omega (arith, long))
-same_bools (x ∷ xs) [] long each = absurd (omega (arith, long))
-same_bools (x ∷ xs) (y ∷ ys) long each =
-    ap (λ b. b ∷ xs) (each 0) ∙ ap (λ l. y ∷ l) (same_bools xs ys (omega (arith, long)) (λ k. each (suc k)))
-
 -- where what is due has no span, to drop the groups of a tree is to take them from what is due
 pub drop_as : (t : Tree) (s new : State) → ((k : ℕ) → is_due s k ≡ true → slice_index_or s.spans k None ≡ None) → new.spans ≡ s.spans → length new.due ≡ length s.due →
     ((k : ℕ) → is_due new k ≡ left (is_due s k) (deed (has_group t k) None)) → new ≡ drop_groups t s
 drop_as t s new blank same long tells =
     same_state new.due (drop_groups t s).due new.spans (drop_groups t s).spans
-    (same_bools new.due (drop_groups t s).due (long ∙ sym (drop_takes t 0 s).long) (λ k. tells k ∙ sym (drop_takes t k s).due))
+    (ext_get_or false new.due (drop_groups t s).due (long ∙ sym (drop_takes t 0 s).long) (λ k _. tells k ∙ sym (drop_takes t k s).due))
     (same ∙ same_lists s.spans (drop_groups t s).spans (λ k. sym ((drop_takes t k s).span
     ∙ blank_put (is_due s k) (slice_get s.spans k) (has_group t k) (λ due. unwrap_or-slice_get s.spans k None ∙ blank k due))))

@@ -1,29 +1,30 @@
--- One look at a node after another, until all groups of a match are decided.
-use Rattle.std.proofs.Common.{◌≡◌, ℕ, ◌+◌, ◌<◌, ◌≤◌, ◌⊎◌, ◌↔◌, Bool, List, [], ◌∷◌, ◌++◌, length, Option, Some, IsTrue, refl, sym, ◌∙◌, subst, inl, inr, ⊎_elim, arith}
-use Rattle.std.specs.Prelude.{slice_get}
+-- What comes in place of a node, by its kind.
+use Rattle.std.proofs.Common.{◌≡◌, ℕ, ◌+◌, ◌-◌, ◌<◌, ◌≤◌, ◌⊎◌, Bool, List, [], ◌∷◌, length, Option, None, Some, IsTrue, refl, sym, ap, ◌∙◌, subst, inl, inr, ⊎_elim, arith}
 use Rattle.sedre.specs.Tree.{Tree, tree_of, tree_at}
 use Rattle.sedre.specs.Sizes.{size}
-use Rattle.sedre.specs.Arena.{IsArena}
+use Rattle.sedre.specs.Arena.{IsPart}
+use Rattle.sedre.specs.Steps.{Takes, TakesAtLeast}
 use Rattle.sedre.specs.declared.types.Node.{Node}
 use Rattle.sedre.specs.declared.types.NodeId.{NodeId}
 use Rattle.sedre.specs.declared.types.Node.TheVariants.{Empty, Set, Begin, End, Seq, Alt, Group, Star, Opt}
 use Rattle.sedre.proofs.TreeLemmas.{tree_at-node}
-use Rattle.sedtext.specs.Reach.{At, one_start}
-use Rattle.sedpass.specs.Regions.{ReachesEnd, IsLastIn, IsRunOf, NextCopy, RunsTo, StopsAt, last_of}
-use Rattle.sedtext.specs.Caps.{LastCut, LastCopy, IsReport}
-use Rattle.sedtext.specs.Spans.{CopiesLead}
-use Rattle.sedpass.specs.Walks.{State, is_due, settle, drop_groups, GroupStandsIn, NoneDue, Walk, IsStart}
-use Rattle.sedpass.specs.declared.groups.Task.{Task}
-use Rattle.sedpass.specs.declared.groups.Task.TheVariants.{Apart, Forget}
-use Rattle.sedtext.specs.Nodes.{parts_of}
-use Rattle.sedpass.specs.Turns.{AreReady, weights, IsTurn, IsHere, Reduces, Runs, entered_at, HasGroupAt, Blank}
-use Rattle.sedtext.proofs.ReachLemmas.{open_at, close_at}
-use Rattle.sedpass.proofs.WalkLemmas.{passes_by, none_left, one_left, part_left, both_left}
-use Rattle.sedpass.proofs.LeaveLemmas.{alt_looks, reaches_last}
-use Rattle.sedpass.proofs.MeetingLemmas.{stops_at_cut, stops_at_copy, run_stops}
+use Rattle.sedtext.specs.Reach.{At}
+use Rattle.sedtext.specs.Caps.{LastCut}
+use Rattle.sedtext.specs.Nodes.{parts_of, total_size}
+use Rattle.sedtext.specs.Spans.{Matches}
+use Rattle.sedtext.proofs.ReachLemmas.{open_at}
 use Rattle.sedtext.proofs.SpanLemmas.{Matches-forward}
 use Rattle.sedtext.proofs.NodeLemmas.{size-parts, size-pos}
-use Rattle.sedpass.proofs.OneGroupLemmas.{copy_spans, left-not, settle_takes, drop_takes, takes_blank, drop-not, stays, walk_report}
+use Rattle.sedpass.specs.Decide.{EndsRegion, HasNoKnownLength, IsCopyFrom, LooksAt, NodeTurned, part_cost, nodes_in, text_in, Stands, IsTurn, Blank, entered_at}
+use Rattle.sedpass.specs.Regions.{all_of, last_of}
+use Rattle.sedpass.specs.Walks.{State, settle, drop_groups, NoneDue, Walk}
+use Rattle.sedpass.specs.declared.groups.Matched.{Matched}
+use Rattle.sedpass.specs.declared.groups.Task.TheVariants.{Apart, Forget}
+use Rattle.sedpass.specs.declared.groups.Then.TheVariants.{Done, One, Two}
+use Rattle.sedpass.specs.declared.kept.Region.{Region}
+use Rattle.sedpass.specs.declared.kept.Subject.{Subject}
+use Rattle.sedpass.proofs.OneGroupLemmas.{copy_spans, settle_takes, drop_takes, takes_blank}
+use Rattle.sedpass.proofs.WalkLemmas.{passes_by}
 
 -- what is due has no span, before and after
 pub settle_blank : (k : ℕ) (v : Option (ℕ × ℕ)) (s : State) → Blank s → Blank (settle k v s)
@@ -32,285 +33,223 @@ settle_blank k v s blank n is = takes_blank n _ s (settle k v s) (settle_takes k
 pub drop_blank : (t : Tree) (s : State) → Blank s → Blank (drop_groups t s)
 drop_blank t s blank n is = takes_blank n _ s (drop_groups t s) (drop_takes t n s) (blank n) is
 
--- the groups of a node are those of its parts, and its own
-pub groups_at : (nodes : List Node) (x k : ℕ) (node : Node) → IsArena nodes → slice_get nodes x ≡ Some node → GroupStandsIn (tree_at nodes x) k ↔ HasGroupAt nodes node k
-groups_at nodes x k node arena is = by node is
-  where
-    by : (n : Node) → slice_get nodes x ≡ Some n → GroupStandsIn (tree_at nodes x) k ↔ HasGroupAt nodes n k
-    by Empty is = rw (tree_at-node nodes x Empty arena is) (λ h. h, λ h. h)
-    by other is = rw (tree_at-node nodes x other arena is) (λ h. h, λ h. h)
+-- nothing comes in place of the node
+done_turn : (s : Subject) (here : Matched) (old new : State) (n : ℕ) → Walk (tree_at (nodes_in s) here.node) (text_in s) here.start here.stop old new n → IsTurn s here old new Done n
+done_turn s here old new n walk = record {
+  run = λ rest f m run. (new, n, m, walk, run, refl);
+  ready = tt;
+  within = tt;
+  less = omega (arith, size-pos (tree_at (nodes_in s) here.node));
+  fewer = omega (arith, size-pos (tree_at (nodes_in s) here.node));
+}
 
-module _ (nodes : List Node) (w : List ℕ) (x i j : ℕ) (node : Node) (here : IsHere nodes w x i j node) where
-  close_walk : (old new : State) (n : ℕ) → Walk (tree_of (tree_at nodes) node) w i j old new n → Walk (tree_at nodes x) w i j old new n
-  close_walk old new n walk = subst (λ t. Walk t w i j old new n) (sym (tree_at-node nodes x node here.arena here.is)) walk
+-- no group of it is due: it is left
+pub left_turn : (s : Subject) (here : Matched) (state : State) → NoneDue (tree_at (nodes_in s) here.node) state → IsTurn s here state state Done 0
+left_turn s here state none = done_turn s here state state 0 (passes_by (tree_at (nodes_in s) here.node) (text_in s) here.start here.stop state none)
 
-  -- nothing is left of the node
-  done_turn : (old new : State) (n : ℕ) → Walk (tree_at nodes x) w i j old new n → IsTurn nodes w x i j old new [] n
-  done_turn old new n walk = record {
-    run = λ rest. none_left nodes w x i j n rest old new walk;
-    ready = tt;
-    within = tt;
-    less = omega (arith, size-pos (tree_at nodes x));
-    fewer = omega (arith, size-pos (tree_at nodes x));
-  }
+module _ (s : Subject) (here : Matched) (node : Node) (stands : Stands s here node) where
+  -- the match, by its parts
+  pub opened : Matches (tree_of (tree_at (nodes_in s)) node) (text_in s) here.start here.stop
+  opened = open_at (nodes_in s) (text_in s) here.node node stands.arena stands.is here.start here.stop stands.there.at
 
-  -- what is in it is decided, and what is still due then is forgotten
-  inner_turn : (a : NodeId) (c : ℕ) (old new : State) → a.index < x → size (tree_at nodes x) ≡ 1 + (size (tree_at nodes a.index) + 0) → i ≤ c → c ≤ j → At nodes w a.index c j →
-      ((mid : State) (m : ℕ) → Walk (tree_at nodes a.index) w c j new mid m → Walk (tree_of (tree_at nodes) node) w i j old (drop_groups (tree_at nodes a.index) mid) (1 + m)) →
-      IsTurn nodes w x i j old new (Apart a.index c j ∷ Forget a.index ∷ []) 1
-  inner_turn a c old new low long from up at go =
-      let inside = here.inside in
+  pub part_inside : (c : ℕ) → IsPart node c → c < length (nodes_in s)
+  part_inside c part =
+      let below = stands.arena.below here.node c node stands.is part in
+      let inside = stands.there.inside in
+      omega (arith, below, inside)
+
+  long : size (tree_at (nodes_in s) here.node) ≡ 1 + total_size (nodes_in s) (parts_of node)
+  long = size-parts (nodes_in s) stands.arena here.node node stands.is
+
+  close_walk : (old new : State) (n : ℕ) → Walk (tree_of (tree_at (nodes_in s)) node) (text_in s) here.start here.stop old new n → Walk (tree_at (nodes_in s) here.node) (text_in s) here.start here.stop old new n
+  close_walk old new n walk = subst (λ t. Walk t (text_in s) here.start here.stop old new n) (sym (tree_at-node (nodes_in s) here.node node stands.arena stands.is)) walk
+
+  -- the match of a part comes in its place, and what is still due in the part then is forgotten
+  inner_turn : (a : NodeId) (c : ℕ) (old new : State) → IsPart node a.index → parts_of node ≡ a.index ∷ [] → here.start ≤ c → c ≤ here.stop → At (nodes_in s) (text_in s) a.index c here.stop →
+      ((mid : State) (m : ℕ) → Walk (tree_at (nodes_in s) a.index) (text_in s) c here.stop new mid m →
+      Walk (tree_of (tree_at (nodes_in s)) node) (text_in s) here.start here.stop old (drop_groups (tree_at (nodes_in s) a.index) mid) (1 + m)) →
+      IsTurn s here old new (Two (record { node = a.index; start = c; stop = here.stop }) (Forget a.index)) 1
+  inner_turn a c old new part parts from up at go =
+      let inside = part_inside a.index part in
+      let size_is = ap (total_size (nodes_in s)) parts in
       record {
-        run = λ rest. part_left nodes w x i j a.index c rest old new (λ mid m walk. close_walk old _ _ (go mid m walk));
-        ready = (omega arith, up, here.fits, at, (omega arith, tt));
+        run = λ rest f m run. (drop_groups (tree_at (nodes_in s) a.index) run.0, 1 + run.1, run.2, close_walk old _ _ (go run.0 run.1 run.3), run.4, omega (arith, run.5));
+        ready = (record { inside = inside; up = up; fits = stands.there.fits; at = at }, (inside, tt));
         within = (from, omega arith, tt);
-        less = omega (arith, long);
-        fewer = omega (arith, long);
+        less = omega (arith, long, size_is);
+        fewer = omega (arith, long, size_is);
       }
 
--- no group of the node is due: it is left
-pub leave_turn : (nodes : List Node) (w : List ℕ) (x i j : ℕ) (node : Node) (s : State) → IsHere nodes w x i j node → NoneDue (tree_at nodes x) s →
-    IsTurn nodes w x i j s s [] 0
-leave_turn nodes w x i j node s here none = done_turn nodes w x i j node here s s 0 (passes_by (tree_at nodes x) w i j s none)
+-- nothing comes in place of a node without parts
+pub leaf_told : (node : Node) → (node ≡ Empty) ⊎ (((members : List Bool) × (node ≡ Set members)) ⊎ ((node ≡ Begin) ⊎ (node ≡ End))) → parts_of node ≡ []
+leaf_told node (inl is) = ap parts_of is
+leaf_told node (inr (inl (members, is))) = ap parts_of is
+leaf_told node (inr (inr (inl is))) = ap parts_of is
+leaf_told node (inr (inr (inr is))) = ap parts_of is
 
--- so is a node without parts
-pub leaf_turn : (nodes : List Node) (w : List ℕ) (x i j : ℕ) (node : Node) (s : State) → IsHere nodes w x i j node → parts_of node ≡ [] → IsTurn nodes w x i j s s [] (entered_at node)
-leaf_turn nodes w x i j node s here leaf =
-    subst (IsTurn nodes w x i j s s []) (sym (childless node leaf))
-    (leave_turn nodes w x i j node s here (λ k has. absurd (without node leaf k ((groups_at nodes x k node here.arena here.is).0 has))))
+pub leaf_turned : (s : Subject) (here : Matched) (node : Node) (state : State) (r : Region) (steps : ℕ) → Stands s here node → parts_of node ≡ [] → NodeTurned s here node state state r Done steps steps
+leaf_turned s here node state r steps stands leaf =
+    let both = by node leaf in
+    record { turn = done_turn s here state state (entered_at node) (close_walk s here node stands state state _ both.0); goes = tt; cost = (omega arith, omega arith); looks = both.1 }
   where
-    without : (n : Node) → parts_of n ≡ [] → (k : ℕ) → HasGroupAt nodes n k → ⊥
-    without Empty leaf k has = has
-    without (Set members) leaf k has = has
-    without Begin leaf k has = has
-    without End leaf k has = has
-    without other leaf k has = cc
+    by : (n : Node) → parts_of n ≡ [] → Walk (tree_of (tree_at (nodes_in s)) n) (text_in s) here.start here.stop state state (entered_at n) × LooksAt s here n None steps steps
+    by Empty leaf = ((refl, refl), tt)
+    by (Set members) leaf = ((refl, refl), tt)
+    by Begin leaf = ((refl, refl), tt)
+    by End leaf = ((refl, refl), tt)
+    by other leaf = absurd cc
 
-    childless : (n : Node) → parts_of n ≡ [] → entered_at n ≡ 0
-    childless Empty leaf = refl
-    childless (Set members) leaf = refl
-    childless Begin leaf = refl
-    childless End leaf = refl
-    childless other leaf = cc
-
--- a concatenation goes on with its right part; the left one is a task, unless no group of it is due
-pub seq_turn : (nodes : List Node) (w : List ℕ) (x i k j left right : ℕ) (a b : NodeId) (s : State) → IsHere nodes w x i j (Seq a b) → left ≡ a.index → right ≡ b.index →
-    LastCut (At nodes w left) (At nodes w right) i j k →
-    IsTurn nodes w x i j s s (Apart right k j ∷ Apart left i k ∷ []) 1 × (NoneDue (tree_at nodes left) s → IsTurn nodes w x i j s s (Apart right k j ∷ []) 1)
-seq_turn nodes w x i k j left right a b s here left_is right_is cut =
-    let cut = rw (left_is, right_is) at cut in
-    rw (left_is, right_is) (
-    let low = here.arena.below x a.index (Seq a b) here.is (inl refl) in
-    let low' = here.arena.below x b.index (Seq a b) here.is (inr refl) in
-    let up = Matches-forward (tree_at nodes a.index) w i k cut.left in
-    let on = Matches-forward (tree_at nodes b.index) w k j cut.right in
-    let inside = here.inside in
-    let fits = here.fits in
-    let long = size-parts nodes here.arena x (Seq a b) here.is in (
-      record {
-        run = λ rest. both_left nodes w x i j k b.index a.index rest s (λ mid end p q first second.
-            close_walk nodes w x i j (Seq a b) here s end (1 + (p + q)) (inr (p, q, refl, k, cut, mid, first, second)));
-        ready = (omega arith, on, fits, cut.right, (omega arith, up, omega arith, cut.left, tt));
+-- a concatenation goes on with its right part; the left one is a task
+pub seq_turned : (s : Subject) (here : Matched) (a b : NodeId) (k : ℕ) (state : State) (r : Region) (before after : ℕ) → Stands s here (Seq a b) → EndsRegion s r here →
+    LastCut (At (nodes_in s) (text_in s) a.index) (At (nodes_in s) (text_in s) b.index) here.start here.stop k → Takes before after (part_cost (length (nodes_in s)) (here.stop - here.start)) →
+    (HasNoKnownLength (nodes_in s) a.index → HasNoKnownLength (nodes_in s) b.index → TakesAtLeast before after (k - here.start)) →
+    NodeTurned s here (Seq a b) state state r (Two (record { node = b.index; start = k; stop = here.stop }) (Apart (record { node = a.index; start = here.start; stop = k }))) before after
+seq_turned s here a b k state r before after stands ends cut cost looks =
+    let nodes = nodes_in s in
+    let w = text_in s in
+    let up = Matches-forward (tree_at nodes a.index) w here.start k cut.left in
+    let on = Matches-forward (tree_at nodes b.index) w k here.stop cut.right in
+    let fits = stands.there.fits in
+    let size_is = long s here (Seq a b) stands in
+    record {
+      turn = record {
+        run = λ rest f m run.
+            let next = run.4 in (
+              next.0,
+              1 + (run.1 + next.1),
+              next.2,
+              close_walk s here (Seq a b) stands state next.0 _ (inr (run.1, next.1, refl, k, cut, run.0, run.3, next.3)),
+              next.4,
+              omega (arith, run.5, next.5),
+            );
+        ready = (
+          record { inside = part_inside s here (Seq a b) stands b.index (inr refl); up = on; fits = fits; at = cut.right },
+          (record { inside = part_inside s here (Seq a b) stands a.index (inl refl); up = up; fits = omega (arith, on, fits); at = cut.left }, tt),
+        );
         within = (up, omega arith, (omega arith, on, tt));
-        less = omega (arith, long);
-        fewer = omega (arith, long);
-      },
-      λ none. record {
-        run = λ rest. one_left nodes w x i j b.index k j rest s s (λ mid m walk.
-            let left = passes_by (tree_at nodes a.index) w i k mid (stays (tree_at nodes b.index) (tree_at nodes a.index) w k j m s mid cut.right walk none) in
-            close_walk nodes w x i j (Seq a b) here s mid (1 + m) (inr (m, 0, omega arith, k, cut, mid, walk, left)));
-        ready = (omega arith, on, fits, cut.right, tt);
-        within = (up, omega arith, tt);
-        less = omega (arith, long);
-        fewer = omega (arith, long);
-      },
-    ))
+        less = omega (arith, size_is);
+        fewer = omega (arith, size_is);
+      };
+      goes = (last_of here.node b.index (Seq a b) stands.is refl ends.0, ends.1);
+      cost = (cost.0, omega (arith, cost.1));
+      looks = looks;
+    }
 
 -- an alternation goes on with the left alternative, or with the right one if the left one doesn't match
-pub alt_turn : (nodes : List Node) (w : List ℕ) (x i j left right : ℕ) (a b : NodeId) (s : State) → IsHere nodes w x i j (Alt a b) → left ≡ a.index → right ≡ b.index →
-    (At nodes w left i j → IsTurn nodes w x i j s s (Apart left i j ∷ []) 1) × ((At nodes w left i j → ⊥) → IsTurn nodes w x i j s s (Apart right i j ∷ []) 1)
-alt_turn nodes w x i j left right a b s here left_is right_is =
-    rw (left_is, right_is) (
-    let low = here.arena.below x a.index (Alt a b) here.is (inl refl) in
-    let low' = here.arena.below x b.index (Alt a b) here.is (inr refl) in
-    let inside = here.inside in
-    let long = size-parts nodes here.arena x (Alt a b) here.is in (
-      λ at. record {
-        run = λ rest. one_left nodes w x i j a.index i j rest s s (λ mid m walk. close_walk nodes w x i j (Alt a b) here s mid (1 + m) (inr (m, refl, inl (at, walk))));
-        ready = (omega arith, here.up, here.fits, at, tt);
+pub alt_turned : (s : Subject) (here : Matched) (a b : NodeId) (c : ℕ) (state : State) (r : Region) (before after : ℕ) → Stands s here (Alt a b) → EndsRegion s r here →
+    ((c ≡ a.index) × At (nodes_in s) (text_in s) a.index here.start here.stop) ⊎ ((c ≡ b.index) × (At (nodes_in s) (text_in s) a.index here.start here.stop → ⊥)) →
+    Takes before after (part_cost (length (nodes_in s)) (here.stop - here.start) + 1) → TakesAtLeast before after 1 →
+    NodeTurned s here (Alt a b) state state r (One (record { node = c; start = here.start; stop = here.stop })) before after
+alt_turned s here a b c state r before after stands ends which cost looks =
+    let nodes = nodes_in s in
+    let w = text_in s in
+    let part : IsPart (Alt a b) c = elim which [ inl left ↦ inl (sym left.0) | inr right ↦ inr (sym right.0) ] in
+    let at : At nodes w c here.start here.stop = elim which [
+      | inl left ↦ subst (λ v. At nodes w v here.start here.stop) (sym left.0) left.1
+      | inr right ↦ subst (λ v. At nodes w v here.start here.stop) (sym right.0)
+          (⊎_elim (λ (l : At nodes w a.index here.start here.stop). absurd (right.1 l)) (λ (r : At nodes w b.index here.start here.stop). r) (opened s here (Alt a b) stands))
+    ] in
+    let walk : (mid : State) (m : ℕ) → Walk (tree_at nodes c) w here.start here.stop state mid m → Walk (tree_of (tree_at nodes) (Alt a b)) w here.start here.stop state mid (1 + m) = λ mid m go. elim which [
+      | inl left ↦ inr (m, refl, inl (left.1, subst (λ v. Walk (tree_at nodes v) w here.start here.stop state mid m) left.0 go))
+      | inr right ↦ inr (m, refl, inr (right.1, subst (λ v. Walk (tree_at nodes v) w here.start here.stop state mid m) right.0 go))
+    ] in
+    let size_is = long s here (Alt a b) stands in
+    let less : size (tree_at nodes c) ≤ size (tree_at nodes a.index) + size (tree_at nodes b.index) =
+    elim which [ inl left ↦ omega (arith, ap (λ v. size (tree_at nodes v)) left.0) | inr right ↦ omega (arith, ap (λ v. size (tree_at nodes v)) right.0) ] in
+    record {
+      turn = record {
+        run = λ rest f m run. (run.0, 1 + run.1, run.2, close_walk s here (Alt a b) stands state run.0 _ (walk run.0 run.1 run.3), run.4, omega (arith, run.5));
+        ready = (record { inside = part_inside s here (Alt a b) stands c part; up = stands.there.up; fits = stands.there.fits; at = at }, tt);
         within = (omega arith, omega arith, tt);
-        less = omega (arith, long);
-        fewer = omega (arith, long);
-      },
-      λ missing.
-          let at : At nodes w b.index i j = ⊎_elim (λ (l : At nodes w a.index i j). absurd (missing l)) (λ (r : At nodes w b.index i j). r) (open_at nodes w x (Alt a b) here.arena here.is i j here.at) in
-          record {
-            run = λ rest. one_left nodes w x i j b.index i j rest s s (λ mid m walk. close_walk nodes w x i j (Alt a b) here s mid (1 + m) (inr (m, refl, inr (missing, walk))));
-            ready = (omega arith, here.up, here.fits, at, tt);
-            within = (omega arith, omega arith, tt);
-            less = omega (arith, long);
-            fewer = omega (arith, long);
-          },
-    ))
+        less = omega (arith, size_is, less);
+        fewer = omega (arith, size_is, less);
+      };
+      goes = (last_of here.node c (Alt a b) stands.is part ends.0, ends.1);
+      cost = cost;
+      looks = looks;
+    }
 
--- a group gets its span, if it is due; what is in it follows, unless no group of it is due
-pub group_turn : (nodes : List Node) (w : List ℕ) (x k i j part : ℕ) (a : NodeId) (s : State) → IsHere nodes w x i j (Group k a) → part ≡ a.index →
-    IsTurn nodes w x i j s (settle k (Some (i, j)) s) (Apart part i j ∷ Forget part ∷ []) 1
-    × (NoneDue (tree_at nodes part) s → IsTurn nodes w x i j s (settle k (Some (i, j)) s) [] 1)
-group_turn nodes w x k i j part a s here part_is =
-    let low = here.arena.below x a.index (Group k a) here.is refl in
-    let set = settle k (Some (i, j)) s in
-    let inner = tree_at nodes a.index in
-    let at : At nodes w a.index i j = open_at nodes w x (Group k a) here.arena here.is i j here.at in
-    rw part_is (
-      inner_turn nodes w x i j (Group k a) here a i s set low (size-parts nodes here.arena x (Group k a) here.is) (omega arith) here.up at (λ mid m walk. inr (m, refl, mid, walk, refl)),
-      λ none.
-          let same : NoneDue inner set = λ n has. (settle_takes k n (Some (i, j)) s).due ∙ left-not (is_due s n) _ (none n has) in
-          done_turn nodes w x i j (Group k a) here s set 1
-          (close_walk nodes w x i j (Group k a) here s set 1 (inr (0, refl, set, passes_by inner w i j set same, sym (drop-not inner set same)))),
-    )
+-- a group gets its span, if it is due; what is in it follows
+pub group_turned : (s : Subject) (here : Matched) (k : ℕ) (a : NodeId) (state : State) (r : Region) (steps : ℕ) → Stands s here (Group k a) → EndsRegion s r here →
+    NodeTurned s here (Group k a) state (settle k (Some (here.start, here.stop)) state) r (Two (record { node = a.index; start = here.start; stop = here.stop }) (Forget a.index)) steps steps
+group_turned s here k a state r steps stands ends = record {
+  turn = inner_turn s here (Group k a) stands a here.start state (settle k (Some (here.start, here.stop)) state) refl refl (omega arith) stands.there.up (opened s here (Group k a) stands)
+      (λ mid m walk. inr (m, refl, mid, walk, refl));
+  goes = (last_of here.node a.index (Group k a) stands.is refl ends.0, ends.1);
+  cost = (omega arith, omega arith);
+  looks = tt;
+}
 
--- a repetition: its last copy
-pub star_turn : (nodes : List Node) (w : List ℕ) (x i c j part : ℕ) (a : NodeId) (first : Bool) (s : State) → IsHere nodes w x i j (Star a first) → part ≡ a.index → i < j →
-    LastCopy (At nodes w part) j i c → IsTurn nodes w x i j s s (Apart part c j ∷ Forget part ∷ []) 1
-star_turn nodes w x i c j part a first s here part_is lt last =
-    let last = rw part_is at last in
-    rw part_is (
-    let low = here.arena.below x a.index (Star a first) here.is refl in
-    let copy = copy_spans (At nodes w a.index) j i c last in
-    inner_turn nodes w x i j (Star a first) here a c s s low (size-parts nodes here.arena x (Star a first) here.is) copy.0 (let less = copy.1 in omega arith) copy.2
-    (λ mid m walk. inr (m, refl, inl (lt, c, last, mid, walk, refl))))
+-- a repetition goes on with its last copy, in a region of its own
+pub star_turned : (s : Subject) (here : Matched) (a : NodeId) (first : Bool) (c : ℕ) (state : State) (r : Region) (before after : ℕ) → Stands s here (Star a first) → IsCopyFrom s here a first (Some c) →
+    r.root ≡ a.index → r.end ≡ here.stop → Takes before after (part_cost (length (nodes_in s)) (here.stop - here.start) + 1) → LooksAt s here (Star a first) None before after →
+    NodeTurned s here (Star a first) state state r (Two (record { node = a.index; start = c; stop = here.stop }) (Forget a.index)) before after
+star_turned s here a first c state r before after stands copy root end cost looks = record { turn = by copy; goes = (all_of a.index (sym root), sym end); cost = cost; looks = looks }
+  where
+    by : IsCopyFrom s here a first (Some c) → IsTurn s here state state (Two (record { node = a.index; start = c; stop = here.stop }) (Forget a.index)) 1
+    by (inl (lt, last)) =
+        let spans = copy_spans (At (nodes_in s) (text_in s) a.index) here.stop here.start c last in
+        inner_turn s here (Star a first) stands a c state state refl refl spans.0 (let less = spans.1 in omega arith) spans.2 (λ mid m walk. inr (m, refl, inl (lt, c, last, mid, walk, refl)))
+    by (inr (same, null, there)) =
+        let start : c ≡ here.start = there in
+        let stop : c ≡ here.stop = there ∙ same in
+        inner_turn s here (Star a first) stands a c state state refl refl (omega arith) (omega arith) (subst (At (nodes_in s) (text_in s) a.index c) stop null.1)
+        (λ mid m walk. inr (
+          m,
+          refl,
+          inr (inl (
+            same,
+            null.0,
+            subst (λ v. At (nodes_in s) (text_in s) a.index v v) start null.1,
+            mid,
+            subst (λ v. Walk (tree_at (nodes_in s) a.index) (text_in s) here.start v state mid m) (sym same) (subst (λ v. Walk (tree_at (nodes_in s) a.index) (text_in s) v here.stop state mid m) start walk),
+            refl,
+          )),
+        ))
 
--- what may be there once, and is
-pub opt_turn : (nodes : List Node) (w : List ℕ) (x i j part : ℕ) (a : NodeId) (first : Bool) (s : State) → IsHere nodes w x i j (Opt a first) → part ≡ a.index → i < j →
-    IsTurn nodes w x i j s s (Apart part i j ∷ Forget part ∷ []) 1
-opt_turn nodes w x i j part a first s here part_is lt =
-    let low = here.arena.below x a.index (Opt a first) here.is refl in
-    let at : At nodes w a.index i j = ⊎_elim (λ (e : i ≡ j). absurd (omega arith)) (λ (r : At nodes w a.index i j). r) (open_at nodes w x (Opt a first) here.arena here.is i j here.at) in
-    rw part_is
-    (inner_turn nodes w x i j (Opt a first) here a i s s low (size-parts nodes here.arena x (Opt a first) here.is) (omega arith) here.up at (λ mid m walk. inr (m, refl, inl (lt, mid, walk, refl))))
+-- or it has no copy
+pub star_done : (s : Subject) (here : Matched) (a : NodeId) (first : Bool) (state : State) (r : Region) (before after : ℕ) → Stands s here (Star a first) → IsCopyFrom s here a first None →
+    Takes before after (part_cost (length (nodes_in s)) (here.stop - here.start) + 1) → LooksAt s here (Star a first) None before after → NodeTurned s here (Star a first) state state r Done before after
+star_done s here a first state r before after stands none cost looks =
+    let nothing : here.stop - here.start ≡ 0 = omega (arith, none.0) in
+    record {
+      turn = done_turn s here state state 1 (close_walk s here (Star a first) stands state state 1 (inr (0, refl, inr (inr (none.0, λ is at. none.1 (is, at), refl, refl)))));
+      goes = tt;
+      cost = (let most = rw nothing at cost in (most.0, omega (arith, most.1)));
+      looks = looks;
+    }
 
-abbrev Empties : (nodes : List Node) (w : List ℕ) (x i j part : ℕ) (first : Bool) (s : State) → Type 0
-Empties nodes w x i j part first s =
-    ((IsTrue first × At nodes w part i i) → IsTurn nodes w x i j s s (Apart part i j ∷ Forget part ∷ []) 1)
-    × (((IsTrue first × At nodes w part i i) → ⊥) → IsTurn nodes w x i j s s [] 1)
+-- what may be there once is, or an empty copy of it is taken
+pub opt_turned : (s : Subject) (here : Matched) (a : NodeId) (first : Bool) (state : State) (r : Region) (before after : ℕ) → Stands s here (Opt a first) → EndsRegion s r here →
+    (here.start < here.stop) ⊎ ((here.stop ≤ here.start) × (IsTrue first × At (nodes_in s) (text_in s) a.index here.start here.start)) → Takes before after 1 →
+    NodeTurned s here (Opt a first) state state r (Two (record { node = a.index; start = here.start; stop = here.stop }) (Forget a.index)) before after
+opt_turned s here a first state r before after stands ends which cost = record {
+  turn = by which;
+  goes = (last_of here.node a.index (Opt a first) stands.is refl ends.0, ends.1);
+  cost = (cost.0, omega (arith, cost.1));
+  looks = tt;
+}
+  where
+    by : (here.start < here.stop) ⊎ ((here.stop ≤ here.start) × (IsTrue first × At (nodes_in s) (text_in s) a.index here.start here.start)) →
+        IsTurn s here state state (Two (record { node = a.index; start = here.start; stop = here.stop }) (Forget a.index)) 1
+    by (inl lt) =
+        let at : At (nodes_in s) (text_in s) a.index here.start here.stop =
+        ⊎_elim (λ (e : here.start ≡ here.stop). absurd (omega arith)) (λ (r : At (nodes_in s) (text_in s) a.index here.start here.stop). r) (opened s here (Opt a first) stands) in
+        inner_turn s here (Opt a first) stands a here.start state state refl refl (omega arith) stands.there.up at (λ mid m walk. inr (m, refl, inl (lt, mid, walk, refl)))
+    by (inr (le, null)) =
+        let up = stands.there.up in
+        let same : here.start ≡ here.stop = omega arith in
+        inner_turn s here (Opt a first) stands a here.start state state refl refl (omega arith) up (subst (At (nodes_in s) (text_in s) a.index here.start) same null.1)
+        (λ mid m walk. inr (m, refl, inr (inl (same, null.0, null.1, mid, subst (λ v. Walk (tree_at (nodes_in s) a.index) (text_in s) here.start v state mid m) (sym same) walk, refl))))
 
-star_empty : (nodes : List Node) (w : List ℕ) (x i : ℕ) (a : NodeId) (first : Bool) (s : State) → IsHere nodes w x i i (Star a first) → Empties nodes w x i i a.index first s
-star_empty nodes w x i a first s here =
-    let low = here.arena.below x a.index (Star a first) here.is refl in (
-      λ h. inner_turn nodes w x i i (Star a first) here a i s s low (size-parts nodes here.arena x (Star a first) here.is) (omega arith) (omega arith) h.1
-          (λ mid m walk. inr (m, refl, inr (inl (refl, h.0, h.1, mid, walk, refl)))),
-      λ not. done_turn nodes w x i i (Star a first) here s s 1
-          (close_walk nodes w x i i (Star a first) here s s 1 (inr (0, refl, inr (inr (refl, λ is_first at. not (is_first, at), refl, refl))))),
-    )
-
-opt_empty : (nodes : List Node) (w : List ℕ) (x i : ℕ) (a : NodeId) (first : Bool) (s : State) → IsHere nodes w x i i (Opt a first) → Empties nodes w x i i a.index first s
-opt_empty nodes w x i a first s here =
-    let low = here.arena.below x a.index (Opt a first) here.is refl in (
-      λ h. inner_turn nodes w x i i (Opt a first) here a i s s low (size-parts nodes here.arena x (Opt a first) here.is) (omega arith) (omega arith) h.1
-          (λ mid m walk. inr (m, refl, inr (inl (refl, h.0, h.1, mid, walk, refl)))),
-      λ not. done_turn nodes w x i i (Opt a first) here s s 1
-          (close_walk nodes w x i i (Opt a first) here s s 1 (inr (0, refl, inr (inr (refl, λ is_first at. not (is_first, at), refl, refl))))),
-    )
-
--- either of them on an empty span: an empty copy, if it would be the first one and its part matches the null string there
-pub empty_turn : (nodes : List Node) (w : List ℕ) (x i j part : ℕ) (a : NodeId) (first : Bool) (s : State) → IsHere nodes w x i j (Star a first) ⊎ IsHere nodes w x i j (Opt a first) →
-    part ≡ a.index → j ≤ i →
-    ((IsTrue first × At nodes w part i i) → IsTurn nodes w x i j s s (Apart part i j ∷ Forget part ∷ []) 1)
-    × (((IsTrue first × At nodes w part i i) → ⊥) → IsTurn nodes w x i j s s [] 1)
-empty_turn nodes w x i j part a first s (inl here) part_is le =
-    let up = here.up in
-    let same : i ≡ j = omega arith in
-    rw part_is (subst (λ v. Empties nodes w x i v a.index first s) same (star_empty nodes w x i a first s (subst (λ v. IsHere nodes w x i v (Star a first)) (sym same) here)))
-empty_turn nodes w x i j part a first s (inr here) part_is le =
-    let up = here.up in
-    let same : i ≡ j = omega arith in
-    rw part_is (subst (λ v. Empties nodes w x i v a.index first s) same (opt_empty nodes w x i a first s (subst (λ v. IsHere nodes w x i v (Opt a first)) (sym same) here)))
-
--- the parts of a node are there, and match parts of its span
-pub seq_parts : (nodes : List Node) (w : List ℕ) (x i j left right : ℕ) (a b : NodeId) → IsHere nodes w x i j (Seq a b) → left ≡ a.index → right ≡ b.index →
-    (left < length nodes) × (right < length nodes) × ((k : ℕ) × At nodes w left i k × At nodes w right k j)
-seq_parts nodes w x i j left right a b here left_is right_is =
-    let low = here.arena.below x a.index (Seq a b) here.is (inl refl) in
-    let low' = here.arena.below x b.index (Seq a b) here.is (inr refl) in
-    let inside = here.inside in
-    (omega arith, omega arith, rw (left_is, right_is) (open_at nodes w x (Seq a b) here.arena here.is i j here.at))
-
-pub star_parts : (nodes : List Node) (w : List ℕ) (x i j part : ℕ) (a : NodeId) (first : Bool) → IsHere nodes w x i j (Star a first) → part ≡ a.index →
-    (part < length nodes) × CopiesLead (At nodes w part) j i
-star_parts nodes w x i j part a first here part_is =
-    let low = here.arena.below x a.index (Star a first) here.is refl in
-    let inside = here.inside in
-    (omega arith, rw part_is (open_at nodes w x (Star a first) here.arena here.is i j here.at))
-
-pub opt_parts : (nodes : List Node) (w : List ℕ) (x i j part : ℕ) (a : NodeId) (first : Bool) → IsHere nodes w x i j (Opt a first) → part ≡ a.index →
-    (part < length nodes) × ((i ≡ j) ⊎ At nodes w part i j)
-opt_parts nodes w x i j part a first here part_is =
-    let low = here.arena.below x a.index (Opt a first) here.is refl in
-    let inside = here.inside in
-    (omega arith, rw part_is (open_at nodes w x (Opt a first) here.arena here.is i j here.at))
-
--- what the region (r, j) tells of a node that is last in it, and which part goes on in the same region
--- a concatenation: the place where the passes cease to meet is the cut
-pub seq_spine : (nodes : List Node) (w : List ℕ) (r x i p j left right : ℕ) (a b : NodeId) → IsHere nodes w x i j (Seq a b) → left ≡ a.index → right ≡ b.index → IsLastIn nodes r x →
-    IsLastIn nodes r right × (StopsAt nodes w r j left i p → LastCut (At nodes w left) (At nodes w right) i j p)
-seq_spine nodes w r x i p j left right a b here left_is right_is last =
-    rw (left_is, right_is) (last_of x b.index (Seq a b) here.is refl last, λ stops. stops_at_cut nodes w r j x a b here.arena last here.is i p here.at stops)
-
--- or the place where a run of one set ends
-pub run_spine : (nodes : List Node) (w : List ℕ) (r x i p j c left right : ℕ) (a b : NodeId) (members : List Bool) → IsHere nodes w x i j (Seq a b) → left ≡ a.index → right ≡ b.index → IsLastIn nodes r x →
-    IsRunOf nodes c left → slice_get nodes c ≡ Some (Set members) → RunsTo nodes w r j c i p → LastCut (At nodes w left) (At nodes w right) i j p
-run_spine nodes w r x i p j c left right a b members here left_is right_is last run is_set runs =
-    rw (left_is, right_is) (run_stops nodes w r j x a b here.arena last here.is c members (rw left_is at run) is_set i p here.at runs)
-
--- an alternation: the left alternative's mark
-pub alt_spine : (nodes : List Node) (w : List ℕ) (r x i j left right : ℕ) (a b : NodeId) → IsHere nodes w x i j (Alt a b) → left ≡ a.index → right ≡ b.index → IsLastIn nodes r x →
-    IsLastIn nodes r left × IsLastIn nodes r right × (ReachesEnd nodes w r (one_start j) left i ↔ At nodes w left i j)
-alt_spine nodes w r x i j left right a b here left_is right_is last =
-    rw (left_is, right_is)
-    (last_of x a.index (Alt a b) here.is (inl refl) last, last_of x b.index (Alt a b) here.is (inr refl) last, (alt_looks nodes w r j x i a b here.arena last here.is).0)
-
-part_last : (nodes : List Node) (w : List ℕ) (r i j part : ℕ) → IsArena nodes → IsLastIn nodes r part → IsLastIn nodes r part × (ReachesEnd nodes w r (one_start j) part i ↔ At nodes w part i j)
-part_last nodes w r i j part arena last = (last, reaches_last nodes w r j part i arena last)
-
--- a group, or what may be there once
-pub part_spine : (nodes : List Node) (w : List ℕ) (r x k i j part : ℕ) (a : NodeId) (first : Bool) → IsHere nodes w x i j (Group k a) ⊎ IsHere nodes w x i j (Opt a first) → part ≡ a.index → IsLastIn nodes r x →
-    IsLastIn nodes r part × (ReachesEnd nodes w r (one_start j) part i ↔ At nodes w part i j)
-part_spine nodes w r x k i j part a first (inl here) part_is last = rw part_is (part_last nodes w r i j a.index here.arena (last_of x a.index (Group k a) here.is refl last))
-part_spine nodes w r x k i j part a first (inr here) part_is last = rw part_is (part_last nodes w r i j a.index here.arena (last_of x a.index (Opt a first) here.is refl last))
-
--- a repetition: from a place from which copies lead on to the region's end, the passes cease to meet at the end of the next copy
-pub star_spine : (nodes : List Node) (w : List ℕ) (r x i p j l part : ℕ) (a : NodeId) (first : Bool) → IsHere nodes w x i j (Star a first) → part ≡ a.index → IsLastIn nodes r x →
-    CopiesLead (At nodes w part) j l → l < j → StopsAt nodes w r j part l p → NextCopy (At nodes w part) l j p
-star_spine nodes w r x i p j l part a first here part_is last copies lt stops =
-    let whole : At nodes w x l j = close_at nodes w x (Star a first) here.arena here.is l j (rw part_is at copies) in
-    rw part_is (stops_at_copy nodes w r j x a first here.arena last here.is l p whole lt (rw part_is at stops))
-
-ready-append : (nodes : List Node) (w : List ℕ) (xs ys : List Task) → AreReady nodes w xs → AreReady nodes w ys → AreReady nodes w (xs ++ ys)
-ready-append nodes w [] ys left right = right
-ready-append nodes w (Apart x i j ∷ xs) ys left right = (left.0, left.1, left.2, left.3, ready-append nodes w xs ys left.4 right)
-ready-append nodes w (Forget x ∷ xs) ys left right = (left.0, ready-append nodes w xs ys left.1 right)
-
-weights-append : (nodes : List Node) (xs ys : List Task) → weights nodes (xs ++ ys) ≡ weights nodes xs + weights nodes ys
-weights-append nodes [] ys = omega arith
-weights-append nodes (Apart x i j ∷ xs) ys = omega (arith, weights-append nodes xs ys)
-weights-append nodes (Forget x ∷ xs) ys = omega (arith, weights-append nodes xs ys)
-
--- after a turn the tasks on the stack are fewer, as the loop needs it
-pub turned : (nodes : List Node) (w : List ℕ) (x i j n : ℕ) (old new : State) (tasks rest : List Task) → IsTurn nodes w x i j old new tasks n →
-    AreReady nodes w (Apart x i j ∷ rest) → Reduces nodes w (Apart x i j ∷ rest) (tasks ++ rest)
-turned nodes w x i j n old new tasks rest turn ready = (
-  ready-append nodes w tasks rest turn.ready ready.4,
-  omega (arith, turn.less, weights-append nodes tasks rest),
-)
-
--- what the tasks that are left give is the report, when the match alone is to be decided
-pub begins : (nodes : List Node) (w : List ℕ) (x i j n : ℕ) (old new : State) → IsStart (tree_at nodes x) i j old → At nodes w x i j → Runs nodes w (Apart x i j ∷ []) old new n → IsReport (tree_at nodes x) w i j new.spans
-begins nodes w x i j n old new start at run =
-    subst (λ (s : State). IsReport (tree_at nodes x) w i j s.spans) (sym run.4.0) (walk_report (tree_at nodes x) w i j run.1 old run.0 start at run.3)
-
--- there are no more tasks than they weigh: so no more than twice as many as the first node has nodes
-pub room : (nodes : List Node) (tasks : List Task) → length tasks ≤ weights nodes tasks
-room nodes [] = omega arith
-room nodes (Apart x i j ∷ tasks) = omega (arith, room nodes tasks, size-pos (tree_at nodes x))
-room nodes (Forget x ∷ tasks) = omega (arith, room nodes tasks)
+pub opt_done : (s : Subject) (here : Matched) (a : NodeId) (first : Bool) (state : State) (r : Region) (before after : ℕ) → Stands s here (Opt a first) → here.stop ≤ here.start →
+    ((IsTrue first × At (nodes_in s) (text_in s) a.index here.start here.start) → ⊥) → Takes before after 1 → NodeTurned s here (Opt a first) state state r Done before after
+opt_done s here a first state r before after stands le not cost =
+    let up = stands.there.up in
+    let same : here.start ≡ here.stop = omega arith in
+    record {
+      turn = done_turn s here state state 1 (close_walk s here (Opt a first) stands state state 1 (inr (0, refl, inr (inr (same, λ is at. not (is, at), refl, refl)))));
+      goes = tt;
+      cost = cost;
+      looks = tt;
+    }

@@ -1,27 +1,31 @@
 -- Private to the proofs: no contract that the engine sees cites what stands here.
--- What is told of a match's groups while they are decided from its end, and what that costs.
-use Rattle.std.specs.Prelude.{◌≡◌, ℕ, ◌+◌, ◌-◌, ◌*◌, ◌<◌, ◌≤◌, Bool, true, false, replicate, IsTrue, List, [], ◌∷◌, reverse, length, slice_get, vec_capacity, IfSome, Option, None, Some}
+-- What is told of a match's groups while they are decided from its end, what is left to do, and what that costs.
+use Rattle.std.specs.Prelude.{◌≡◌, ℕ, ◌+◌, ◌-◌, ◌*◌, ◌<◌, ◌≤◌, ◌⊎◌, Bool, true, false, replicate, IsTrue, List, [], ◌∷◌, ◌++◌, reverse, length, min, slice_get, slice_index_or, vec_capacity, IfSome, Option, None, Some}
+use Rattle.sedre.specs.Arena.{IsArena}
+use Rattle.sedre.specs.Sizes.{size}
+use Rattle.sedre.specs.Steps.{Takes, TakesExactly, TakesAtLeast}
 use Rattle.sedre.specs.Tree.{tree_at, Tree}
 use Rattle.sedre.specs.declared.types.Node.{Node}
-use Rattle.sedre.specs.declared.types.NodeId.{NodeId}
 use Rattle.sedre.specs.declared.types.Node.TheVariants.{Set, Seq, Alt, Star}
-use Rattle.sedre.specs.Steps.{TakesAtLeast}
-use Rattle.sedtext.specs.Groups.{Groups}
+use Rattle.sedre.specs.declared.types.NodeId.{NodeId}
+use Rattle.sedtext.specs.Caps.{LastCopy}
 use Rattle.sedtext.specs.Costs.{CostsWithin}
+use Rattle.sedtext.specs.Groups.{Groups}
+use Rattle.sedtext.specs.Nodes.{parts_of}
+use Rattle.sedtext.specs.Reach.{At}
 use Rattle.sedtext.specs.Words.{row_of}
 use Rattle.sedpass.specs.Groups.{holds}
-use Rattle.sedpass.specs.Kept.{IsKept, KeptRoom, owed}
+use Rattle.sedpass.specs.Kept.{IsKept, KeptRoom, SameSpace}
 use Rattle.sedpass.specs.Lengths.{length_of}
-use Rattle.sedpass.specs.Walks.{State, GroupStandsIn}
 use Rattle.sedpass.specs.Regions.{IsLastIn}
 use Rattle.sedpass.specs.Table.{IsAhead, IsRoomy, IsTable, SameRoom, SameShape}
-use Rattle.sedpass.specs.Turns.{Blank, IsHere, IsTurn, AreReady, AreShort, looks, descents, tasks_of}
+use Rattle.sedpass.specs.Walks.{State, is_due, drop_groups, GroupStandsIn, NoneDue, Walk}
 use Rattle.sedpass.specs.declared.group_set.GroupSet.{GroupSet}
 use Rattle.sedpass.specs.declared.groups.GroupRoom.{GroupRoom}
 use Rattle.sedpass.specs.declared.groups.GroupTables.{GroupTables}
 use Rattle.sedpass.specs.declared.groups.Matched.{Matched}
 use Rattle.sedpass.specs.declared.groups.Task.{Task}
-use Rattle.sedpass.specs.declared.groups.Task.TheVariants.{Apart}
+use Rattle.sedpass.specs.declared.groups.Task.TheVariants.{Apart, Forget}
 use Rattle.sedpass.specs.declared.groups.Then.{Then}
 use Rattle.sedpass.specs.declared.groups.Then.TheVariants.{Done, One, Two}
 use Rattle.sedpass.specs.declared.groups.Told.{Told}
@@ -29,13 +33,6 @@ use Rattle.sedpass.specs.declared.kept.Kept.{Kept}
 use Rattle.sedpass.specs.declared.kept.Region.{Region}
 use Rattle.sedpass.specs.declared.kept.Subject.{Subject}
 use Rattle.sedpass.specs.declared.nodes.Prepared.{Prepared}
-
--- the nodes of the expression, and the text
-abbrev pub nodes_in : Subject → List Node
-nodes_in s = s.prepared.now.arena.expr.nodes
-
-abbrev pub text_in : Subject → List ℕ
-text_in s = s.text.now
 
 -- which of the entries 0 to 9 are in the set
 abbrev pub flags_of : GroupSet → List Bool
@@ -45,9 +42,16 @@ flags_of s = holds s 0 ∷ holds s 1 ∷ holds s 2 ∷ holds s 3 ∷ holds s 4 �
 abbrev pub told_of : GroupSet → Groups → State
 told_of due spans = record { due = flags_of due; spans = spans }
 
--- what is due has no span so far, and the whole match isn't due
+abbrev pub told_in : Told → State
+told_in t = told_of t.due t.spans
+
+-- what is due has no span so far
+abbrev pub Blank : State → Type 0
+Blank s = (k : ℕ) → is_due s k ≡ true → slice_index_or s.spans k None ≡ None
+
+-- and the whole match isn't due
 pub record IsTold (t : Told) : Type 0 where
-  pub blank : Blank (told_of t.due t.spans)
+  pub blank : Blank (told_in t)
   pub whole : holds t.due 0 ≡ false
 
 -- how many entries have a span
@@ -64,13 +68,90 @@ undecided start stop = Some (start, stop) ∷ replicate 9 None
 abbrev pub HasAll : GroupSet → Tree → Type 0
 HasAll due e = (k : ℕ) → 1 ≤ k → k < 10 → GroupStandsIn e k → IsTrue (holds due k)
 
--- the match is there, and what its node is
-abbrev pub Stands : Subject → Matched → Node → Type 0
-Stands s here node = IsHere (nodes_in s) (text_in s) here.node here.start here.stop node
+-- the nodes of the expression, and the text
+abbrev pub nodes_in : Subject → List Node
+nodes_in s = s.prepared.now.arena.expr.nodes
 
--- the match of a repetition of the node a is there
-abbrev pub IsRepetitionHere : Subject → Matched → NodeId → Type 0
-IsRepetitionHere s here a = (first : Bool) × Stands s here (Star a first)
+abbrev pub text_in : Subject → List ℕ
+text_in s = s.text.now
+
+-- the node matches its span, within the text
+pub record IsMatch (nodes : List Node) (w : List ℕ) (here : Matched) : Type 0 where
+  pub inside : here.node < length nodes
+  pub up : here.start ≤ here.stop
+  pub fits : here.stop ≤ length w
+  pub at : At nodes w here.node here.start here.stop
+
+-- the match is there, and what its node is
+pub record Stands (s : Subject) (here : Matched) (node : Node) : Type 0 where
+  pub arena : IsArena (nodes_in s)
+  pub is : slice_get (nodes_in s) here.node ≡ Some node
+  pub there : IsMatch (nodes_in s) (text_in s) here
+
+-- the tasks, the first one first, bring the state `old` to the state `new`, and enter n nodes
+abbrev pub Runs : List Node → List ℕ → List Task → State → State → ℕ → Type 0
+Runs nodes w [] old new n = (new ≡ old) × (n ≡ 0)
+Runs nodes w (Apart here ∷ tasks) old new n =
+    (mid : State) × (p : ℕ) × (q : ℕ) × Walk (tree_at nodes here.node) w here.start here.stop old mid p × Runs nodes w tasks mid new q × (n ≡ p + q)
+Runs nodes w (Forget x ∷ tasks) old new n = Runs nodes w tasks (drop_groups (tree_at nodes x) old) new n
+
+-- each node is there, and one to be decided matches its span within the text
+abbrev pub AreReady : List Node → List ℕ → List Task → Type 0
+AreReady nodes w [] = Unit {0}
+AreReady nodes w (Apart here ∷ tasks) = IsMatch nodes w here × AreReady nodes w tasks
+AreReady nodes w (Forget x ∷ tasks) = (x < length nodes) × AreReady nodes w tasks
+
+-- how many tasks can still come of these
+abbrev pub weights : List Node → List Task → ℕ
+weights nodes [] = 0
+weights nodes (Apart here ∷ tasks) = 2 * size (tree_at nodes here.node) + weights nodes tasks
+weights nodes (Forget x ∷ tasks) = 1 + weights nodes tasks
+
+-- the sizes of all trees to be decided: so many nodes can still be looked at
+abbrev pub looks : List Node → List Task → ℕ
+looks nodes [] = 0
+looks nodes (Apart here ∷ tasks) = size (tree_at nodes here.node) + looks nodes tasks
+looks nodes (Forget x ∷ tasks) = looks nodes tasks
+
+-- the sizes of all trees to be decided, without their first nodes: so many nodes can still be gone on to
+abbrev pub descents : List Node → List Task → ℕ
+descents nodes [] = 0
+descents nodes (Apart here ∷ tasks) = (size (tree_at nodes here.node) - 1) + descents nodes tasks
+descents nodes (Forget x ∷ tasks) = descents nodes tasks
+
+-- each node to be decided matches within i..j
+abbrev pub AreWithin : ℕ → ℕ → List Task → Type 0
+AreWithin i j [] = Unit {0}
+AreWithin i j (Apart here ∷ tasks) = (i ≤ here.start) × (here.stop ≤ j) × AreWithin i j tasks
+AreWithin i j (Forget x ∷ tasks) = AreWithin i j tasks
+
+-- each node to be decided matches no more than so many bytes
+abbrev pub AreShort : ℕ → List Task → Type 0
+AreShort long [] = Unit {0}
+AreShort long (Apart here ∷ tasks) = (here.stop ≤ here.start + long) × AreShort long tasks
+AreShort long (Forget x ∷ tasks) = AreShort long tasks
+
+-- so many nodes were entered: those tasks that are left bring the new state to where all bring the old one
+abbrev pub Continues : List Node → List ℕ → List Task → State → List Task → State → ℕ → Type 0
+Continues nodes w tasks old rest new n = (f : State) (m : ℕ) → Runs nodes w rest new f m → Runs nodes w tasks old f (n + m)
+
+-- what comes in place of a node, the first task first
+abbrev pub tasks_of : Then → List Task
+tasks_of Done = []
+tasks_of (One next) = Apart next ∷ []
+tasks_of (Two next later) = Apart next ∷ later ∷ []
+
+-- a turn at the match enters n nodes: this comes in its place, and the state is the new one
+pub record IsTurn (s : Subject) (here : Matched) (old new : State) (then : Then) (n : ℕ) : Type 0 where
+  pub run : (rest : List Task) → Continues (nodes_in s) (text_in s) (Apart here ∷ rest) old (tasks_of then ++ rest) new n
+  pub ready : AreReady (nodes_in s) (text_in s) (tasks_of then)
+  pub within : AreWithin here.start here.stop (tasks_of then)
+  pub less : weights (nodes_in s) (tasks_of then) + 1 ≤ 2 * size (tree_at (nodes_in s) here.node)
+  pub fewer : looks (nodes_in s) (tasks_of then) + 1 ≤ size (tree_at (nodes_in s) here.node)
+
+-- how many nodes a turn enters: itself, unless it has no part
+abbrev pub entered_at : Node → ℕ
+entered_at node = min 1 (length (parts_of node))
 
 -- the node is last in the region, and its match ends where the region does
 abbrev pub EndsRegion : Subject → Region → Matched → Type 0
@@ -88,6 +169,12 @@ pub record IsDesk (s : Subject) (tables : GroupTables) (kept : Kept) : Type 0 wh
   pub region : IsKept s.prepared.now s.text.now tables.inside kept
   pub one_end : tables.inside.way.all_starts ≡ false
   pub ahead : IsAhead s.prepared.now tables.ahead
+
+-- the match of the node is there, and ends where the region does that is kept
+pub record IsAtEnd (s : Subject) (tables : GroupTables) (kept : Kept) (here : Matched) (node : Node) : Type 0 where
+  pub stands : Stands s here node
+  pub ends : EndsRegion s kept.region here
+  pub desk : IsDesk s tables kept
 
 -- the way of each of the tables
 pub record HaveWays (t : GroupTables) : Type 0 where
@@ -124,6 +211,19 @@ pub record SameTables (old new : GroupTables) : Type 0 where
   pub inside : SameShape old.inside new.inside
   pub ahead : SameShape old.ahead new.ahead
 
+-- a region is kept again, in the same room
+pub record KeepsDesk (s : Subject) (old new : GroupTables) (before after : Kept) : Type 0 where
+  pub desk : IsDesk s new after
+  pub shape : SameTables old new
+  pub space : SameSpace before after
+
+-- groups can be decided again, in the same room
+pub record KeepsRoom (s : Subject) (old new : GroupTables) (before after : GroupRoom) : Type 0 where
+  pub desk : HasDesk s new after.kept
+  pub shape : SameTables old new
+  pub space : SameSpace before.kept after.kept
+  pub tasks : vec_capacity before.tasks ≤ vec_capacity after.tasks
+
 -- which match comes first in place of a node
 abbrev pub next_of : Then → Option Matched
 next_of Done = None
@@ -132,22 +232,7 @@ next_of (Two next later) = Some next
 
 -- it goes on in the region
 abbrev pub GoesOn : Subject → Region → Option Matched → Type 0
-GoesOn s r None = Unit {0}
-GoesOn s r (Some next) = EndsRegion s r next
-
--- the match is there, within the text
-abbrev pub IsMatch : Subject → Matched → Type 0
-IsMatch s here = AreReady (nodes_in s) (text_in s) (Apart here.node here.start here.stop ∷ [])
-
--- a turn at the node, which enters n nodes: what comes in its place
-abbrev pub Turns : Subject → Matched → State → State → Then → ℕ → Type 0
-Turns s here old new then n = IsTurn (nodes_in s) (text_in s) here.node here.start here.stop old new (tasks_of then) n
-
--- the nodes that it enters were looked at
-pub record TurnsLooked (s : Subject) (here : Matched) (old new : State) (then : Then) (before after : ℕ) : Type 0 where
-  pub n : ℕ
-  pub turn : Turns s here old new then n
-  pub counts : TakesAtLeast before after n
+GoesOn s r next = IfSome next (EndsRegion s r)
 
 -- the matches of the node have no length that is known
 abbrev pub HasNoKnownLength : List Node → ℕ → Type 0
@@ -161,22 +246,21 @@ LooksAt s here (Alt a b) next before after = TakesAtLeast before after 1
 LooksAt s here (Star a first) next before after = HasNoKnownLength (nodes_in s) a.index → TakesAtLeast before after (here.stop - here.start)
 LooksAt s here node next before after = Unit {0}
 
+-- the last copy of the part in a match of a repetition begins there, or is an empty one; or there is none
+abbrev pub IsCopyFrom : Subject → Matched → NodeId → Bool → Option ℕ → Type 0
+IsCopyFrom s here a first (Some c) =
+    ((here.start < here.stop) × LastCopy (At (nodes_in s) (text_in s) a.index) here.stop here.start c)
+    ⊎ ((here.start ≡ here.stop) × (IsTrue first × At (nodes_in s) (text_in s) a.index c c) × (c ≡ here.start))
+IsCopyFrom s here a first None = (here.start ≡ here.stop) × ((IsTrue first × At (nodes_in s) (text_in s) a.index here.start here.start) → ⊥)
+
 -- the tasks that wait, and before them one match
 abbrev pub waiting : Option Matched → List Task → List Task
 waiting None stack = reverse stack
-waiting (Some p) stack = Apart p.node p.start p.stop ∷ reverse stack
+waiting (Some here) stack = Apart here ∷ reverse stack
 
 -- the node is a set
 abbrev pub IsSetAt : List Node → ℕ → Type 0
 IsSetAt nodes x = (members : List Bool) × (slice_get nodes x ≡ Some (Set members))
-
--- the steps that looks into a region from a place on may take
-abbrev pub owed_in : Subject → Region → ℕ → ℕ
-owed_in s r place = owed (length (nodes_in s)) r place
-
--- how many bytes the match has
-abbrev pub long_of : Matched → ℕ
-long_of here = here.stop - here.start
 
 -- the steps to go on from a node to a part of it, in a match of so many bytes: looks into one region, and passes ahead over the parts
 abbrev pub part_cost : ℕ → ℕ → ℕ
@@ -185,12 +269,42 @@ part_cost m long = 172 * m * long
 -- those of a node that is decided by its kind: where nothing goes on, no region is looked into
 abbrev pub kind_cost : Subject → Matched → Option Matched → ℕ
 kind_cost s here None = 1
-kind_cost s here (Some next) = part_cost (length (nodes_in s)) (long_of here) + 1
+kind_cost s here (Some next) = part_cost (length (nodes_in s)) (here.stop - here.start) + 1
 
 -- those of tasks, where none matches more than so many bytes: two for each node, and those to go on to each part
 abbrev pub tasks_cost : List Node → ℕ → List Task → ℕ
 tasks_cost nodes long tasks = part_cost (length nodes) long * descents nodes tasks + 2 * looks nodes tasks
 
--- the tasks are done as far as those left, and paid, where none matches more than so many bytes
-abbrev pub IsSpent : List Node → List Task → List Task → ℕ → ℕ → Type 0
-IsSpent nodes old new before after = (long : ℕ) → AreShort long old → AreShort long new × CostsWithin before after (tasks_cost nodes long old) (tasks_cost nodes long new)
+-- A turn at a match of the node enters it, unless it has no part: this comes in its place, the first match in the region; what it costs,
+-- and what was looked at.
+pub record NodeTurned (s : Subject) (here : Matched) (node : Node) (old new : State) (r : Region) (then : Then) (before after : ℕ) : Type 0 where
+  pub turn : IsTurn s here old new then (entered_at node)
+  pub goes : GoesOn s r (next_of then)
+  pub cost : Takes before after (kind_cost s here (next_of then))
+  pub looks : LooksAt s here node (next_of then) before after
+
+-- of a match nothing comes where no group of it is due; else its node is looked at
+abbrev pub Turned : Subject → Matched → State → State → Region → Then → ℕ → ℕ → Type 0
+Turned s here old new r then before after =
+    (NoneDue (tree_at (nodes_in s) here.node) old × (new ≡ old) × (then ≡ Done) × (after ≡ before))
+    ⊎ ((node : Node) × (begun : ℕ) × (slice_get (nodes_in s) here.node ≡ Some node) × TakesExactly before begun 1 × Takes before begun 1 × NodeTurned s here node old new r then begun after)
+
+-- the tasks can be done there
+pub record MayWork (s : Subject) (tables : GroupTables) (room : GroupRoom) (told : Told) (tasks : List Task) : Type 0 where
+  pub arena : IsArena (nodes_in s)
+  pub ready : AreReady (nodes_in s) (text_in s) tasks
+  pub enough : weights (nodes_in s) tasks ≤ vec_capacity room.tasks
+  pub desk : HasDesk s tables room.kept
+  pub is_told : IsTold told
+
+-- The tasks are done as far as those left, which are ready, and of which d fewer can still come: what is told then, what it cost, where
+-- none matches more than so many bytes, and n nodes that were entered, each of which was looked at.
+pub record Works (s : Subject) (tasks : List Task) (old : Told) (rest : List Task) (new : Told) (d before after : ℕ) : Type 0 where
+  pub told : IsTold new
+  pub ready : AreReady (nodes_in s) (text_in s) rest
+  pub less : weights (nodes_in s) rest + d ≤ weights (nodes_in s) tasks
+  pub spent : (long : ℕ) → AreShort long tasks → AreShort long rest × CostsWithin before after (tasks_cost (nodes_in s) long tasks) (tasks_cost (nodes_in s) long rest)
+  pub n : ℕ
+  pub run : Continues (nodes_in s) (text_in s) tasks (told_in old) rest (told_in new) n
+  pub entered : TakesAtLeast before after n
+  pub counts : TakesAtLeast before after (found new.spans - found old.spans)

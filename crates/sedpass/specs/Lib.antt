@@ -13,5 +13,4 @@ pub mod Regions
 pub mod Rows
 pub mod Search
 pub mod Table
-pub mod Turns
 pub mod Walks

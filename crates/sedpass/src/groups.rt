@@ -2,27 +2,22 @@
 //!
 //! A spine goes from a node to what ends where the node does, in one region of the kept pass, and writes the groups that
 //! are due. What stands left of it waits as a task.
-ghost use Rattle.std.specs.Prelude.{◌≡◌, ℕ, false, List, [], ◌∷◌, ◌++◌, reverse, ◌+◌, ◌-◌, ◌*◌, ◌^◌, ◌<◌, ◌≤◌, ◌↔◌, length, IsTrue, Option, Some, None, IfOk, IfSome, slice_index_or, vec_len, vec_capacity, slice_get};
+ghost use Rattle.std.specs.Prelude.{◌≡◌, ℕ, false, [], ◌∷◌, ◌++◌, reverse, ◌+◌, ◌-◌, ◌*◌, ◌^◌, ◌≤◌, ◌<◌, ◌↔◌, length, IsTrue, None, Some, IfOk, IfSome, slice_index_or, vec_len, vec_capacity};
 ghost use Rattle.sedre.specs.Arena.{IsArena};
 ghost use Rattle.sedre.specs.Tree.{tree_at, expression_tree};
 ghost use Rattle.sedre.specs.Steps.{Takes, TakesAtLeast};
-ghost use Rattle.sedpass.specs.Regions.{StopsAt, RunsTo, IsRunOf};
-ghost use Rattle.sedre.specs.declared.types.Node.{Node};
 ghost use Rattle.sedre.specs.declared.types.Node.TheVariants.{Seq, Alt, Star, Opt};
-ghost use Rattle.sedtext.specs.Caps.{LastCut, LastCopy, IsReport};
+ghost use Rattle.sedtext.specs.Caps.{LastCut, IsReport};
 ghost use Rattle.sedtext.specs.Groups.{Groups};
-ghost use Rattle.sedtext.specs.Costs.{CostsWithin};
 ghost use Rattle.sedtext.specs.Places.{Ascending};
 ghost use Rattle.sedtext.specs.Reach.{At};
-ghost use Rattle.sedpass.specs.Decide.{found, undecided, HasAll, nodes_in, text_in, told_of, IsTold, Stands, IsRepetitionHere, EndsRegion, GoesOn, IsDesk, IsMatch, Turns, TurnsLooked, waiting, long_of, part_cost, kind_cost, HasNoKnownLength, LooksAt, next_of, owed_in, IsSetAt, HasDesk, IsSpent, AreGroupTables, AreRoomy, HasSpace, SameRooms, SameTables};
-ghost use Rattle.sedpass.specs.Prepared.{IsFacts};
-ghost use Rattle.sedpass.specs.Turns.{AreReady, Progress, Reduces, weights, looks, tasks_of, entered_at};
-ghost use Rattle.sedpass.specs.Walks.{State, settle, drop_groups, NoneDue, LooksAtEntered};
-ghost use Rattle.sedpass.specs.declared.groups.Task.{Task};
-ghost use Rattle.sedpass.specs.declared.groups.Task.TheVariants.{Apart};
-ghost use Rattle.sedpass.specs.Kept.{SameKept, SameSpace};
+ghost use Rattle.sedpass.specs.Decide.{found, undecided, HasAll, told_of, told_in, IsTold, EndsRegion, IsDesk, IsAtEnd, IsCopyFrom, NodeTurned, Turned, MayWork, Works, waiting, part_cost, HasNoKnownLength, next_of, IsSetAt, HasDesk, AreGroupTables, AreRoomy, HasSpace, SameRooms, SameTables, KeepsDesk, KeepsRoom, nodes_in, text_in, IsMatch, Stands, tasks_of};
 ghost use Rattle.sedpass.specs.Groups.{holds};
-ghost use Rattle.sedpass.specs.declared.groups.GroupTables.{GroupTables};
+ghost use Rattle.sedpass.specs.Kept.{SameKept, SameSpace};
+ghost use Rattle.sedpass.specs.Prepared.{IsFacts};
+ghost use Rattle.sedpass.specs.Regions.{IsRunOf};
+ghost use Rattle.sedpass.specs.Walks.{State, settle, drop_groups, LooksAtEntered};
+ghost use Rattle.sedpass.specs.declared.groups.Task.TheVariants.{Apart};
 ghost use Rattle.sedpass.specs.declared.kept.Region.{Region};
 
 use crate::group_set::GroupSet;
@@ -51,7 +46,7 @@ pub struct Matched {
 #[derive(Clone, Copy)]
 pub enum Task {
     /// Decide the groups of a node on a span, in a region of its own.
-    Apart(usize, usize, usize),
+    Apart(Matched),
     /// What is still due of a node's groups has no span.
     Forget(usize),
 }
@@ -170,25 +165,18 @@ impl GroupRoom {
 /// What is told of a node.
 fn facts_at(prepared: &Prepared, x: usize) -> Facts
     requires { x < length prepared.now.arena.expr.nodes }
-    ensures { IsFacts (tree_at prepared.now.arena.expr.nodes x) x result }
+    ensures facts { IsFacts (tree_at prepared.now.arena.expr.nodes x) x result }
+    ensures run { IfSome result.run (λ c. IsRunOf prepared.now.arena.expr.nodes c x × IsSetAt prepared.now.arena.expr.nodes c) }
 {
+    prepared.is_expression();
     prepared.facts[x]
-}
-
-/// Whether a group of a node is due.
-fn is_due(prepared: &Prepared, x: usize, due: GroupSet) -> bool
-    requires inside { x < length prepared.now.arena.expr.nodes }
-    requires whole { holds due 0 ≡ false }
-    ensures { result ≡ false → (spans : Groups) → NoneDue (tree_at prepared.now.arena.expr.nodes x) (told_of due spans) }
-{
-    facts_at(prepared, x).groups.meets(due)
 }
 
 /// Gives a group its span, if it is due.
 fn settle_group(told: &mut Told, k: usize, span: (usize, usize))
     requires { IsTold told.old }
     ensures told { IsTold told.new }
-    ensures state { told_of told.new.due told.new.spans ≡ settle k (Some span) (told_of told.old.due told.old.spans) }
+    ensures state { told_in told.new ≡ settle k (Some span) (told_in told.old) }
     ensures few { found told.new.spans ≤ found told.old.spans + 1 }
 {
     if told.due.has(k) {
@@ -202,131 +190,81 @@ fn forget(prepared: &Prepared, told: &mut Told, x: usize)
     requires inside { x < length prepared.now.arena.expr.nodes }
     requires told { IsTold told.old }
     ensures told { IsTold told.new }
+    ensures state { told_in told.new ≡ drop_groups (tree_at prepared.now.arena.expr.nodes x) (told_in told.old) }
     ensures spans { told.new.spans ≡ told.old.spans }
-    ensures state { told_of told.new.due told.new.spans ≡ drop_groups (tree_at prepared.now.arena.expr.nodes x) (told_of told.old.due told.old.spans) }
 {
     told.due = told.due.without(facts_at(prepared, x).groups);
 }
 
-/// Where a pass over a node from a place and the kept one cease to meet.
-fn meeting_end(
+/// Whether a repetition that matches the null string at a place takes one empty copy of its part.
+fn has_empty_copy(
     subject: Subject,
-    tables: &mut GroupTables,
-    kept: &mut Kept,
-    node: usize,
-    from: usize,
+    part: usize,
+    first: bool,
+    place: usize,
     steps: &mut Steps,
-) -> usize
-    requires node { node ≤ kept.old.region.root }
-    requires from { from ≤ kept.old.region.end }
-    requires desk { IsDesk subject tables.old kept.old }
-    ensures stops { StopsAt (nodes_in subject.entry) (text_in subject.entry) kept.old.region.root kept.old.region.end node from result }
-    ensures within { result ≤ kept.old.region.end }
-    ensures same { SameKept kept.old kept.new }
-    ensures desk { IsDesk subject.entry tables.new kept.new }
-    ensures shape { SameTables tables.old tables.new }
-    ensures space { SameSpace kept.old kept.new }
-    ensures cost { CostsWithin steps.old steps.new (owed_in subject.entry kept.old.region from + 36 * length (nodes_in subject.entry) * (result + 1))
-        (owed_in subject.entry kept.new.region result + 36 * length (nodes_in subject.entry) * from) }
-    ensures counts { TakesAtLeast steps.old steps.new (2 * (result - from) + 1) }
+) -> bool
+    requires { part < length (nodes_in subject) }
+    ensures copy { IsTrue result ↔ (IsTrue first × At (nodes_in subject.entry) (text_in subject.entry) part place place) }
+    ensures cost { Takes steps.old steps.new 1 }
 {
-    kept.cut(
-        subject,
-        &mut tables.inside,
-        &mut tables.ahead,
-        node,
-        from,
-        steps,
-    )
+    first
+        && subject
+            .prepared
+            .null_at(part, kind_of(place, subject.text.len()), steps)
 }
 
-/// Where a run of the set at a leaf ends.
-fn run_end(
-    subject: Subject,
-    tables: &mut GroupTables,
-    kept: &mut Kept,
-    leaf: usize,
-    from: usize,
-    steps: &mut Steps,
-) -> usize
-    requires arena { IsArena (nodes_in subject) }
-    requires leaf { IsSetAt (nodes_in subject) leaf }
-    requires from { from ≤ kept.old.region.end }
-    requires desk { IsDesk subject tables.old kept.old }
-    ensures runs { RunsTo (nodes_in subject.entry) (text_in subject.entry) kept.old.region.root kept.old.region.end leaf from result }
-    ensures within { result ≤ kept.old.region.end }
-    ensures same { SameKept kept.old kept.new }
-    ensures desk { IsDesk subject.entry tables.new kept.new }
-    ensures shape { SameTables tables.old tables.new }
-    ensures space { SameSpace kept.old kept.new }
-    ensures cost { CostsWithin steps.old steps.new (owed_in subject.entry kept.old.region from + 2 * result + 2) (owed_in subject.entry kept.new.region result + 2 * from) }
-    ensures counts { TakesAtLeast steps.old steps.new (result - from) }
-{
-    kept.seek(subject, &mut tables.inside, leaf, from, false, steps)
-}
-
-/// Where the last copy of a repetition begins.
+/// Where the last copy of a repetition begins, if it takes one.
 fn last_copy(
     subject: Subject,
     tables: &mut GroupTables,
     kept: &mut Kept,
     here: Matched,
     a: NodeId,
+    first: bool,
     steps: &mut Steps,
-) -> usize
-    requires here { IsRepetitionHere subject here a }
-    requires some { here.start < here.stop }
-    requires ends { EndsRegion subject kept.old.region here }
-    requires desk { IsDesk subject tables.old kept.old }
-    ensures copy { LastCopy (At (nodes_in subject.entry) (text_in subject.entry) a.index) here.stop here.start result }
-    ensures desk { IsDesk subject.entry tables.new kept.new }
-    ensures shape { SameTables tables.old tables.new }
-    ensures space { SameSpace kept.old kept.new }
-    ensures cost { Takes steps.old steps.new (part_cost (length (nodes_in subject.entry)) (long_of here)) }
+) -> Option<usize>
+    requires { IsAtEnd subject tables.old kept.old here (Star a first) }
+    ensures copy { IsCopyFrom subject.entry here a first result }
+    ensures desk { KeepsDesk subject.entry tables.old tables.new kept.old kept.new }
+    ensures cost { Takes steps.old steps.new (part_cost (length (nodes_in subject.entry)) (here.stop - here.start) + 1) }
     ensures counts { HasNoKnownLength (nodes_in subject.entry) a.index → TakesAtLeast steps.old steps.new (here.stop - here.start) }
 {
     let part = a.index();
+    if here.start == here.stop {
+        let taken = has_empty_copy(subject, part, first, here.start, steps);
+        return if taken { Some(here.start) } else { None };
+    }
     if let Some(length) = facts_at(subject.prepared, part).length {
-        return here.stop - length;
+        return Some(here.stop - length);
     }
     let mut copy = here.start;
     let mut end = here.start;
     'copies: while end < here.stop {
         copy = end;
-        end = meeting_end(subject, tables, kept, part, copy, steps);
+        let (inside, ahead) = (&mut tables.inside, &mut tables.ahead);
+        end = kept.cut(subject, inside, ahead, part, copy, steps);
     }
-    copy
+    Some(copy)
 }
 
 /// Where a concatenation is cut, if the length of a part decides it.
-fn fixed_cut(subject: Subject, here: Matched, left: usize, right: usize) -> Option<usize>
-    requires left { left < length (nodes_in subject) }
-    requires right { right < length (nodes_in subject) }
-    requires fits { here.stop ≤ length (text_in subject) }
-    requires parts { (k : ℕ) × At (nodes_in subject) (text_in subject) left here.start k × At (nodes_in subject) (text_in subject) right k here.stop }
-    ensures cut { IfSome result (λ k. LastCut (At (nodes_in subject.entry) (text_in subject.entry) left) (At (nodes_in subject.entry) (text_in subject.entry) right) here.start here.stop k) }
+fn fixed_cut(subject: Subject, here: Matched, a: NodeId, b: NodeId) -> Option<usize>
+    requires { Stands subject here (Seq a b) }
+    ensures cut { IfSome result (λ k. LastCut (At (nodes_in subject.entry) (text_in subject.entry) a.index) (At (nodes_in subject.entry) (text_in subject.entry) b.index) here.start here.stop k) }
     ensures some { result ≡ None → here.start ≡ here.stop → ⊥ }
-    ensures open { HasNoKnownLength (nodes_in subject.entry) left → HasNoKnownLength (nodes_in subject.entry) right → IfSome result (λ k. k ≡ here.start) }
+    ensures open { HasNoKnownLength (nodes_in subject.entry) a.index → HasNoKnownLength (nodes_in subject.entry) b.index → IfSome result (λ k. k ≡ here.start) }
 {
     if here.start == here.stop {
         return Some(here.start);
     }
-    if let Some(length) = facts_at(subject.prepared, left).length {
+    if let Some(length) = facts_at(subject.prepared, a.index()).length {
         return Some(subject.text.after(here.start, length));
     }
-    if let Some(length) = facts_at(subject.prepared, right).length {
+    if let Some(length) = facts_at(subject.prepared, b.index()).length {
         return Some(here.stop - length);
     }
     None
-}
-
-/// The set that a node repeats, if it repeats one.
-fn run_at(prepared: &Prepared, x: usize) -> Option<usize>
-    requires { x < length prepared.now.arena.expr.nodes }
-    ensures { IfSome result (λ c. IsRunOf prepared.now.arena.expr.nodes c x × IsSetAt prepared.now.arena.expr.nodes c) }
-{
-    prepared.is_expression();
-    facts_at(prepared, x).run
 }
 
 /// Where a concatenation is cut: the greatest place at which its left part ends and from which its right part matches.
@@ -339,81 +277,50 @@ fn last_cut(
     b: NodeId,
     steps: &mut Steps,
 ) -> usize
-    requires here { Stands subject here (Seq a b) }
-    requires ends { EndsRegion subject kept.old.region here }
-    requires desk { IsDesk subject tables.old kept.old }
+    requires { IsAtEnd subject tables.old kept.old here (Seq a b) }
     ensures cut { LastCut (At (nodes_in subject.entry) (text_in subject.entry) a.index) (At (nodes_in subject.entry) (text_in subject.entry) b.index) here.start here.stop result }
     ensures same { SameKept kept.old kept.new }
-    ensures desk { IsDesk subject.entry tables.new kept.new }
-    ensures shape { SameTables tables.old tables.new }
-    ensures space { SameSpace kept.old kept.new }
-    ensures cost { Takes steps.old steps.new (part_cost (length (nodes_in subject.entry)) (long_of here)) }
+    ensures desk { KeepsDesk subject.entry tables.old tables.new kept.old kept.new }
+    ensures cost { Takes steps.old steps.new (part_cost (length (nodes_in subject.entry)) (here.stop - here.start)) }
     ensures counts { HasNoKnownLength (nodes_in subject.entry) a.index → HasNoKnownLength (nodes_in subject.entry) b.index → TakesAtLeast steps.old steps.new (result - here.start) }
 {
-    let (left, right) = (a.index(), b.index());
-    if let Some(cut) = fixed_cut(subject, here, left, right) {
+    if let Some(cut) = fixed_cut(subject, here, a, b) {
         return cut;
     }
-    if let Some(leaf) = run_at(subject.prepared, left) {
-        return run_end(subject, tables, kept, leaf, here.start, steps);
+    let left = a.index();
+    let (inside, ahead) = (&mut tables.inside, &mut tables.ahead);
+    if let Some(leaf) = facts_at(subject.prepared, left).run {
+        return kept.seek(subject, inside, leaf, here.start, false, steps);
     }
-    meeting_end(subject, tables, kept, left, here.start, steps)
+    kept.cut(subject, inside, ahead, left, here.start, steps)
 }
 
-/// Whether a repetition that matches the null string at a place takes one empty copy of its part.
-fn has_empty_copy(
-    subject: Subject,
-    part: usize,
-    first: bool,
-    place: usize,
-    steps: &mut Steps,
-) -> bool
-    requires part { part < length (nodes_in subject) }
-    requires place { place ≤ length (text_in subject) }
-    ensures copy { IsTrue result ↔ (IsTrue first × At (nodes_in subject.entry) (text_in subject.entry) part place place) }
-    ensures cost { Takes steps.old steps.new 1 }
-{
-    first
-        && subject
-            .prepared
-            .null_at(part, kind_of(place, subject.text.len()), steps)
-}
-
-/// What comes in place of a concatenation: its right part, and then the left one, if a group of it is due.
+/// What comes in place of a concatenation: its right part, and then the left one.
 fn turn_seq(
     subject: Subject,
     tables: &mut GroupTables,
     kept: &mut Kept,
-    due: GroupSet,
     here: Matched,
-    parts: (NodeId, NodeId),
+    a: NodeId,
+    b: NodeId,
     steps: &mut Steps,
 ) -> Then
-    requires here { Stands subject here (Seq parts.0 parts.1) }
-    requires whole { holds due 0 ≡ false }
-    requires ends { EndsRegion subject kept.old.region here }
-    requires desk { IsDesk subject tables.old kept.old }
-    ensures turn { (spans : Groups) → Turns subject.entry here (told_of due spans) (told_of due spans) result 1 }
-    ensures goes { GoesOn subject.entry kept.new.region (next_of result) }
-    ensures desk { IsDesk subject.entry tables.new kept.new }
-    ensures shape { SameTables tables.old tables.new }
-    ensures space { SameSpace kept.old kept.new }
-    ensures cost { Takes steps.old steps.new (kind_cost subject.entry here (next_of result)) }
-    ensures looks { LooksAt subject.entry here (Seq parts.0 parts.1) (next_of result) steps.old steps.new }
+    requires { IsAtEnd subject tables.old kept.old here (Seq a b) }
+    ensures turned { (s : State) → NodeTurned subject.entry here (Seq a b) s s kept.new.region result steps.old steps.new }
+    ensures desk { KeepsDesk subject.entry tables.old tables.new kept.old kept.new }
 {
-    let (a, b) = parts;
-    let (left, right) = (a.index(), b.index());
     let cut = last_cut(subject, tables, kept, here, a, b, steps);
-    let next = Matched {
-        node: right,
+    let left = Matched {
+        node: a.index(),
+        start: here.start,
+        stop: cut,
+    };
+    let right = Matched {
+        node: b.index(),
         start: cut,
         stop: here.stop,
     };
-    if is_due(subject.prepared, left, due) {
-        Then::Two(next, Task::Apart(left, here.start, cut))
-    } else {
-        Then::One(next)
-    }
+    Then::Two(right, Task::Apart(left))
 }
 
 /// What comes in place of an alternation: the left alternative, if it matches, and else the right one.
@@ -426,27 +333,14 @@ fn turn_alt(
     b: NodeId,
     steps: &mut Steps,
 ) -> Then
-    requires here { Stands subject here (Alt a b) }
-    requires ends { EndsRegion subject kept.old.region here }
-    requires desk { IsDesk subject tables.old kept.old }
-    ensures turn { (s : State) → Turns subject.entry here s s result 1 }
-    ensures goes { GoesOn subject.entry kept.new.region (next_of result) }
-    ensures desk { IsDesk subject.entry tables.new kept.new }
-    ensures shape { SameTables tables.old tables.new }
-    ensures space { SameSpace kept.old kept.new }
-    ensures cost { Takes steps.old steps.new (kind_cost subject.entry here (next_of result)) }
-    ensures looks { LooksAt subject.entry here (Alt a b) (next_of result) steps.old steps.new }
+    requires { IsAtEnd subject tables.old kept.old here (Alt a b) }
+    ensures turned { (s : State) → NodeTurned subject.entry here (Alt a b) s s kept.new.region result steps.old steps.new }
+    ensures desk { KeepsDesk subject.entry tables.old tables.new kept.old kept.new }
 {
-    let (left, right) = (a.index(), b.index());
+    let left = a.index();
     let spans = kept.spans(subject, &mut tables.inside, left, here.start, steps);
-    if spans {
-        Then::One(Matched { node: left, ..here })
-    } else {
-        Then::One(Matched {
-            node: right,
-            ..here
-        })
-    }
+    let node = if spans { left } else { b.index() };
+    Then::One(Matched { node, ..here })
 }
 
 /// What comes in place of any number of copies: the last one, in a region of its own.
@@ -459,46 +353,27 @@ fn turn_star(
     first: bool,
     steps: &mut Steps,
 ) -> Then
-    requires here { Stands subject here (Star a first) }
-    requires ends { EndsRegion subject kept.old.region here }
-    requires desk { IsDesk subject tables.old kept.old }
-    ensures turn { (s : State) → Turns subject.entry here s s result 1 }
-    ensures goes { GoesOn subject.entry kept.new.region (next_of result) }
-    ensures desk { IsDesk subject.entry tables.new kept.new }
-    ensures shape { SameTables tables.old tables.new }
-    ensures space { SameSpace kept.old kept.new }
-    ensures cost { Takes steps.old steps.new (kind_cost subject.entry here (next_of result)) }
-    ensures looks { LooksAt subject.entry here (Star a first) (next_of result) steps.old steps.new }
+    requires { IsAtEnd subject tables.old kept.old here (Star a first) }
+    ensures turned { (s : State) → NodeTurned subject.entry here (Star a first) s s kept.new.region result steps.old steps.new }
+    ensures desk { KeepsDesk subject.entry tables.old tables.new kept.old kept.new }
 {
-    let part = a.index();
-    if here.start < here.stop {
-        let copy = last_copy(subject, tables, kept, here, a, steps);
-        kept.begin(subject, &tables.inside, part, here.stop);
-        let next = Matched {
-            node: part,
-            start: copy,
-            stop: here.stop,
-        };
-        Then::Two(next, Task::Forget(part))
-    } else if has_empty_copy(subject, part, first, here.start, steps) {
-        kept.begin(subject, &tables.inside, part, here.stop);
-        Then::Two(Matched { node: part, ..here }, Task::Forget(part))
-    } else {
-        Then::Done
+    match last_copy(subject, tables, kept, here, a, first, steps) {
+        None => Then::Done,
+        Some(start) => {
+            let (node, stop) = (a.index(), here.stop);
+            kept.begin(subject, &tables.inside, node, stop);
+            Then::Two(Matched { node, start, stop }, Task::Forget(node))
+        }
     }
 }
 
 /// What comes in place of one copy or none.
 fn turn_opt(subject: Subject, here: Matched, a: NodeId, first: bool, steps: &mut Steps) -> Then
-    requires here { Stands subject here (Opt a first) }
-    ensures turn { (s : State) → Turns subject.entry here s s result 1 }
-    ensures goes { (r : Region) → EndsRegion subject.entry r here → GoesOn subject.entry r (next_of result) }
-    ensures cost { Takes steps.old steps.new (kind_cost subject.entry here (next_of result)) }
+    requires { Stands subject here (Opt a first) }
+    ensures { (s : State) (r : Region) → EndsRegion subject.entry r here → NodeTurned subject.entry here (Opt a first) s s r result steps.old steps.new }
 {
     let part = a.index();
-    if here.start < here.stop {
-        Then::Two(Matched { node: part, ..here }, Task::Forget(part))
-    } else if has_empty_copy(subject, part, first, here.start, steps) {
+    if here.start < here.stop || has_empty_copy(subject, part, first, here.start, steps) {
         Then::Two(Matched { node: part, ..here }, Task::Forget(part))
     } else {
         Then::Done
@@ -515,26 +390,16 @@ fn turn_node(
     node: &Node,
     steps: &mut Steps,
 ) -> Then
-    requires here { Stands subject here node.now }
-    requires ends { EndsRegion subject kept.old.region here }
-    requires desk { IsDesk subject tables.old kept.old }
+    requires at { IsAtEnd subject tables.old kept.old here node.now }
     requires told { IsTold told.old }
-    ensures turn { Turns subject.entry here (told_of told.old.due told.old.spans) (told_of told.new.due told.new.spans) result (entered_at node.now) }
-    ensures goes { GoesOn subject.entry kept.new.region (next_of result) }
-    ensures desk { IsDesk subject.entry tables.new kept.new }
-    ensures shape { SameTables tables.old tables.new }
-    ensures space { SameSpace kept.old kept.new }
+    ensures turned { NodeTurned subject.entry here node.now (told_in told.old) (told_in told.new) kept.new.region result steps.old steps.new }
+    ensures desk { KeepsDesk subject.entry tables.old tables.new kept.old kept.new }
     ensures told { IsTold told.new }
     ensures few { found told.new.spans ≤ found told.old.spans + 1 }
-    ensures cost { Takes steps.old steps.new (kind_cost subject.entry here (next_of result)) }
-    ensures looks { LooksAt subject.entry here node.now (next_of result) steps.old steps.new }
 {
     match node {
-        Node::Empty => Then::Done,
-        Node::Set(_) => Then::Done,
-        Node::Begin => Then::Done,
-        Node::End => Then::Done,
-        Node::Seq(a, b) => turn_seq(subject, tables, kept, told.due, here, (*a, *b), steps),
+        Node::Empty | Node::Set(_) | Node::Begin | Node::End => Then::Done,
+        Node::Seq(a, b) => turn_seq(subject, tables, kept, here, *a, *b, steps),
         Node::Alt(a, b) => turn_alt(subject, tables, kept, here, *a, *b, steps),
         Node::Group(k, a) => {
             settle_group(told, *k, (here.start, here.stop));
@@ -556,28 +421,21 @@ fn turn(
     steps: &mut Steps,
 ) -> Then
     requires arena { IsArena (nodes_in subject) }
-    requires there { IsMatch subject here }
+    requires there { IsMatch (nodes_in subject) (text_in subject) here }
     requires ends { EndsRegion subject kept.old.region here }
     requires desk { IsDesk subject tables.old kept.old }
     requires told { IsTold told.old }
-    ensures turn { TurnsLooked subject.entry here (told_of told.old.due told.old.spans) (told_of told.new.due told.new.spans) result steps.old steps.new }
-    ensures goes { GoesOn subject.entry kept.new.region (next_of result) }
-    ensures desk { IsDesk subject.entry tables.new kept.new }
-    ensures shape { SameTables tables.old tables.new }
-    ensures space { SameSpace kept.old kept.new }
+    ensures turned { Turned subject.entry here (told_in told.old) (told_in told.new) kept.new.region result steps.old steps.new }
+    ensures desk { KeepsDesk subject.entry tables.old tables.new kept.old kept.new }
     ensures told { IsTold told.new }
-    ensures cost { Takes steps.old steps.new (kind_cost subject.entry here (next_of result) + 1) }
     ensures counts { TakesAtLeast steps.old steps.new (found told.new.spans - found told.old.spans) }
-    ensures entered { (NoneDue (tree_at (nodes_in subject.entry) here.node) (told_of told.old.due told.old.spans) → ⊥) → TakesAtLeast steps.old steps.new 1 }
-    ensures looks { (node : Node) → slice_get (nodes_in subject.entry) here.node ≡ Some node → (NoneDue (tree_at (nodes_in subject.entry) here.node) (told_of told.old.due told.old.spans) → ⊥) →
-        LooksAt subject.entry here node (next_of result) steps.old steps.new }
 {
-    if is_due(subject.prepared, here.node, told.due) {
-        let node = subject.prepared.look(here.node, false, steps);
-        turn_node(subject, tables, kept, told, here, &node, steps)
-    } else {
-        Then::Done
+    let groups = facts_at(subject.prepared, here.node).groups;
+    if !groups.meets(told.due) {
+        return Then::Done;
     }
+    let node = subject.prepared.look(here.node, false, steps);
+    turn_node(subject, tables, kept, told, here, &node, steps)
 }
 
 /// Lets the task wait that comes after the match, and gives the match.
@@ -606,21 +464,9 @@ fn spine(
     here: Matched,
     steps: &mut Steps,
 )
-    requires arena { IsArena (nodes_in subject) }
-    requires ready { AreReady (nodes_in subject) (text_in subject) (waiting (Some here) room.old.tasks.items) }
-    requires room { weights (nodes_in subject) (waiting (Some here) room.old.tasks.items) ≤ vec_capacity room.old.tasks }
-    requires desk { HasDesk subject tables.old room.old.kept }
-    requires told { IsTold told.old }
-    ensures room { vec_capacity room.old.tasks ≤ vec_capacity room.new.tasks }
-    ensures desk { HasDesk subject.entry tables.new room.new.kept }
-    ensures shape { SameTables tables.old tables.new }
-    ensures space { SameSpace room.old.kept room.new.kept }
-    ensures told { IsTold told.new }
-    ensures reduces { Reduces (nodes_in subject.entry) (text_in subject.entry) (waiting (Some here) room.old.tasks.items) (reverse room.new.tasks.items) }
-    ensures progress { Progress (nodes_in subject.entry) (text_in subject.entry) (waiting (Some here) room.old.tasks.items) (told_of told.old.due told.old.spans)
-        (reverse room.new.tasks.items) (told_of told.new.due told.new.spans) steps.old steps.new }
-    ensures cost { IsSpent (nodes_in subject.entry) (waiting (Some here) room.old.tasks.items) (reverse room.new.tasks.items) steps.old steps.new }
-    ensures counts { TakesAtLeast steps.old steps.new (found told.new.spans - found told.old.spans) }
+    requires { MayWork subject tables.old room.old told.old (Apart here ∷ reverse room.old.tasks.items) }
+    ensures room { KeepsRoom subject.entry tables.old tables.new room.old room.new }
+    ensures works { Works subject.entry (Apart here ∷ reverse room.old.tasks.items) told.old (reverse room.new.tasks.items) told.new 1 steps.old steps.new }
 {
     room.kept
         .begin(subject, &tables.inside, here.node, here.stop);
@@ -628,46 +474,6 @@ fn spine(
     'nodes: while let Some(next) = at {
         let then = turn(subject, tables, &mut room.kept, told, next, steps);
         at = put(then, &mut room.tasks);
-    }
-}
-
-/// Does one task.
-fn work(
-    subject: Subject,
-    tables: &mut GroupTables,
-    room: &mut GroupRoom,
-    told: &mut Told,
-    task: Task,
-    steps: &mut Steps,
-)
-    requires arena { IsArena (nodes_in subject) }
-    requires ready { AreReady (nodes_in subject) (text_in subject) (task ∷ reverse room.old.tasks.items) }
-    requires room { weights (nodes_in subject) (task ∷ reverse room.old.tasks.items) ≤ vec_capacity room.old.tasks }
-    requires desk { HasDesk subject tables.old room.old.kept }
-    requires told { IsTold told.old }
-    ensures room { vec_capacity room.old.tasks ≤ vec_capacity room.new.tasks }
-    ensures desk { HasDesk subject.entry tables.new room.new.kept }
-    ensures shape { SameTables tables.old tables.new }
-    ensures space { SameSpace room.old.kept room.new.kept }
-    ensures told { IsTold told.new }
-    ensures reduces { Reduces (nodes_in subject.entry) (text_in subject.entry) (task ∷ reverse room.old.tasks.items) (reverse room.new.tasks.items) }
-    ensures progress { Progress (nodes_in subject.entry) (text_in subject.entry) (task ∷ reverse room.old.tasks.items) (told_of told.old.due told.old.spans)
-        (reverse room.new.tasks.items) (told_of told.new.due told.new.spans) steps.old steps.new }
-    ensures cost { IsSpent (nodes_in subject.entry) (task ∷ reverse room.old.tasks.items) (reverse room.new.tasks.items) steps.old steps.new }
-    ensures counts { TakesAtLeast steps.old steps.new (found told.new.spans - found told.old.spans) }
-{
-    match task {
-        Task::Forget(x) => forget(subject.prepared, told, x),
-        Task::Apart(node, start, stop) => {
-            spine(
-                subject,
-                tables,
-                room,
-                told,
-                Matched { node, start, stop },
-                steps,
-            )
-        }
     }
 }
 
@@ -712,10 +518,14 @@ pub fn decide(
     let mut spans = [None; 10];
     spans[0] = Some((start, stop));
     let mut told = Told { due, spans };
-    room.tasks
-        .push_reserved(Task::Apart(subject.prepared.root, start, stop));
+    let node = subject.prepared.root;
+    let whole = Matched { node, start, stop };
+    room.tasks.push_reserved(Task::Apart(whole));
     'all: while let Some(task) = room.tasks.pop() {
-        work(subject, tables, room, &mut told, task, steps);
+        match task {
+            Task::Forget(x) => forget(subject.prepared, &mut told, x),
+            Task::Apart(here) => spine(subject, tables, room, &mut told, here, steps),
+        }
     }
     told.spans
 }

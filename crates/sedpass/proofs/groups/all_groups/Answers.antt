@@ -2,7 +2,7 @@ use Rattle.sedpass.proofs.DecideLemmas.{all_told}
 use Rattle.sedpass.proofs.groups.all_groups.Goals as goal
 
 pub returns-clause-whole : goal.returns-clause-whole
-returns-clause-whole c = c.facts_at.ensures.groups 0
+returns-clause-whole c = c.facts_at.ensures.facts.groups 0
 
 pub returns-clause-all : goal.returns-clause-all
-returns-clause-all c = all_told c.args.prepared.now.arena.expr c.args.prepared.now.root c.facts_at.result c.args.prepared.now.is_prepared.last c.facts_at.ensures
+returns-clause-all c = all_told c.args.prepared.now.arena.expr c.args.prepared.now.root c.facts_at.result c.args.prepared.now.is_prepared.last c.facts_at.ensures.facts

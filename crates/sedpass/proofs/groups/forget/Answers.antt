@@ -1,22 +1,20 @@
-use Rattle.std.proofs.Common.{sym, subst}
+use Rattle.std.proofs.Common.{refl, sym, subst}
 use Rattle.sedre.specs.Tree.{tree_at}
-use Rattle.sedpass.specs.Decide.{told_of}
-use Rattle.sedpass.specs.Turns.{Blank}
+use Rattle.sedpass.specs.Decide.{told_of, Blank}
 use Rattle.sedpass.proofs.TurnLemmas.{drop_blank}
 use Rattle.sedpass.proofs.DecideLemmas.{dropped, still_whole}
 use Rattle.sedpass.proofs.groups.forget.Goals as goal
 
-pub returns-clause-told : goal.returns-clause-told
-returns-clause-told c =
+pub returns : goal.returns
+returns c =
     let t = c.args.told.now in
     let nodes = c.args.prepared.now.arena.expr.nodes in
-    let state = dropped nodes c.args.x c.facts_at.result t.due c.without-told.result t.spans c.facts_at.ensures c.requires.told.whole c.requires.told.blank c.without-told.ensures in
+    let state = dropped nodes c.args.x c.facts_at.result t.due c.without-told.result t.spans c.facts_at.ensures.facts c.requires.told.whole c.requires.told.blank c.without-told.ensures in
     record {
-      blank = subst Blank (sym state) (drop_blank (tree_at nodes c.args.x) (told_of t.due t.spans) c.requires.told.blank);
-      whole = still_whole t.due c.facts_at.result.groups c.without-told.result c.requires.told.whole c.without-told.ensures;
+      told = record {
+        blank = subst Blank (sym state) (drop_blank (tree_at nodes c.args.x) (told_of t.due t.spans) c.requires.told.blank);
+        whole = still_whole t.due c.facts_at.result.groups c.without-told.result c.requires.told.whole c.without-told.ensures;
+      };
+      state = state;
+      spans = refl;
     }
-
-pub returns-clause-state : goal.returns-clause-state
-returns-clause-state c =
-    let t = c.args.told.now in
-    dropped c.args.prepared.now.arena.expr.nodes c.args.x c.facts_at.result t.due c.without-told.result t.spans c.facts_at.ensures c.requires.told.whole c.requires.told.blank c.without-told.ensures

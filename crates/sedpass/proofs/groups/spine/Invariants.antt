@@ -1,22 +1,16 @@
-use Rattle.std.proofs.Common.{◌-◌, ◌≤◌, Some, vec_capacity}
-use Rattle.sedpass.specs.Kept.{SameSpace}
-use Rattle.sedpass.specs.Decide.{found, told_of, waiting, IsTold, IsDesk, SameTables}
-use Rattle.sedre.specs.Steps.{TakesAtLeast}
-use Rattle.sedpass.proofs.SpineLemmas.{Spined}
-use Rattle.sedpass.specs.Turns.{weights}
+use Rattle.std.proofs.Common.{◌≤◌, ◌∷◌, reverse, vec_capacity}
+use Rattle.sedpass.specs.Decide.{GoesOn, KeepsDesk, Works, waiting, nodes_in, weights}
+use Rattle.sedpass.specs.declared.groups.Task.TheVariants.{Apart}
+use Rattle.sedpass.proofs.SpineLemmas.{done}
 use Rattle.sedpass.proofs.groups.spine.Given as goal
 
 abbrev pub invariant-nodes : goal.invariant-nodes
 invariant-nodes l = record {
-  desk : IsDesk l.subject l.tables l.room.kept;
-  shape : SameTables l.initial.tables l.tables;
-  space : SameSpace l.initial.room.kept l.room.kept;
-  told : IsTold l.told;
+  keeps : KeepsDesk l.subject l.initial.tables l.tables l.initial.room.kept l.room.kept;
+  goes : GoesOn l.subject l.room.kept.region l.at;
   room : vec_capacity l.initial.room.tasks ≤ vec_capacity l.room.tasks;
-  spined : Spined l.subject (waiting (Some l.fn.here) l.initial.room.tasks.items) (told_of l.initial.told.due l.initial.told.spans) l.initial.steps
-      l.room.kept.region (told_of l.told.due l.told.spans) l.at l.room.tasks.items l.steps;
-  counts : TakesAtLeast l.initial.steps l.steps (found l.told.spans - found l.initial.told.spans);
+  works : Works l.subject (Apart l.fn.here ∷ reverse l.initial.room.tasks.items) l.initial.told (waiting l.at l.room.tasks.items) l.told (done l.at) l.initial.steps l.steps;
 }
 
 abbrev pub decreases-nodes : goal.decreases-nodes
-decreases-nodes l = weights l.subject.prepared.now.arena.expr.nodes (waiting l.at l.room.tasks.items)
+decreases-nodes l = weights (nodes_in l.subject) (waiting l.at l.room.tasks.items)

@@ -1,31 +1,27 @@
-use Rattle.std.proofs.Common.{inr, arith}
-use Rattle.std.proofs.lemmas.Bool.{both_ways}
-use Rattle.sedpass.specs.Decide.{nodes_in, text_in}
-use Rattle.sedpass.proofs.TurnLemmas.{opt_parts, opt_turn, empty_turn, part_spine}
+use Rattle.std.proofs.Common.{refl, sym, inl, inr, ◌∙◌, arith}
+use Rattle.std.proofs.lemmas.Bool.{both_ways, lt-ltb}
+use Rattle.sedre.specs.declared.types.Node.TheVariants.{Opt}
+use Rattle.sedpass.proofs.TurnLemmas.{part_inside, opt_turned, opt_done}
 use Rattle.sedpass.proofs.groups.turn_opt.Goals as goal
+use Rattle.sedpass.proofs.groups.turn_opt.Goals.{then-here, else-here}
 
-pub has_empty_copy-requires-clause-part : goal.has_empty_copy-requires-clause-part
-has_empty_copy-requires-clause-part c = (opt_parts _ _ _ _ _ _ _ _ c.requires.here c.index-part.ensures).0
+pub has_empty_copy-requires : goal.has_empty_copy-requires
+has_empty_copy-requires c = rw c.index-part.ensures (part_inside c.args.subject c.args.here (Opt c.args.a c.args.first) c.requires c.args.a.index refl)
 
-pub returns-then-here-clause-turn : goal.returns-then-here-clause-turn
-returns-then-here-clause-turn c = λ s. opt_turn _ _ _ _ _ _ _ _ s c.requires.here c.index-part.ensures c.if-here.true
+pub returns-then-has_empty_copy : goal.returns-then-has_empty_copy
+returns-then-has_empty_copy c = λ state r ends. rw c.index-part.ensures (elim c.if-here.branch [
+  | then-here w ↦ opt_turned c.args.subject c.args.here c.args.a c.args.first state r c.args.steps.now c.if-here.steps c.requires ends (inl w.if-here.true) (omega (arith, w.steps-is), omega (arith, w.steps-is))
+  | else-here w ↦
+      let copy = rw c.index-part.ensures at w.has_empty_copy.ensures.copy in
+      opt_turned c.args.subject c.args.here c.args.a c.args.first state r c.args.steps.now c.if-here.steps c.requires ends
+      (inr (w.if-here.false, copy.0 (sym w.value-is ∙ c.if-has_empty_copy.true))) (rw w.steps-is w.has_empty_copy.ensures.cost)
+])
 
-pub returns-then-here-clause-goes : goal.returns-then-here-clause-goes
-returns-then-here-clause-goes c = λ r ends.
-    let here = c.args.here in
-    let last = (part_spine (nodes_in c.args.subject) (text_in c.args.subject) r.root here.node 0 here.start here.stop c.index-part.result c.args.a c.args.first (inr c.requires.here) c.index-part.ensures ends.0).0 in
-    (last, ends.1)
-
-pub returns-then-has_empty_copy-clause-turn : goal.returns-then-has_empty_copy-clause-turn
-returns-then-has_empty_copy-clause-turn c = λ s.
-    (empty_turn _ _ _ _ _ _ c.args.a c.args.first s (inr c.requires.here) c.index-part.ensures (omega arith)).0 (c.has_empty_copy.ensures.copy.0 c.if-has_empty_copy.true)
-
-pub returns-then-has_empty_copy-clause-goes : goal.returns-then-has_empty_copy-clause-goes
-returns-then-has_empty_copy-clause-goes c = λ r ends.
-    let here = c.args.here in
-    let last = (part_spine (nodes_in c.args.subject) (text_in c.args.subject) r.root here.node 0 here.start here.stop c.index-part.result c.args.a c.args.first (inr c.requires.here) c.index-part.ensures ends.0).0 in
-    (last, ends.1)
-
-pub returns-else-has_empty_copy-clause-turn : goal.returns-else-has_empty_copy-clause-turn
-returns-else-has_empty_copy-clause-turn c = λ s.
-    (empty_turn _ _ _ _ _ _ c.args.a c.args.first s (inr c.requires.here) c.index-part.ensures (omega arith)).1 (λ h. both_ways _ c.if-has_empty_copy.false (c.has_empty_copy.ensures.copy.1 h))
+pub returns-else-has_empty_copy : goal.returns-else-has_empty_copy
+returns-else-has_empty_copy c = λ state r ends. elim c.if-here.branch [
+  | then-here w ↦ absurd (both_ways _ (sym w.value-is ∙ c.if-has_empty_copy.false) (lt-ltb c.args.here.start c.args.here.stop w.if-here.true))
+  | else-here w ↦
+      let copy = rw c.index-part.ensures at w.has_empty_copy.ensures.copy in
+      opt_done c.args.subject c.args.here c.args.a c.args.first state r c.args.steps.now c.if-here.steps c.requires w.if-here.false
+      (λ h. both_ways _ (sym w.value-is ∙ c.if-has_empty_copy.false) (copy.1 h)) (rw w.steps-is w.has_empty_copy.ensures.cost)
+]
