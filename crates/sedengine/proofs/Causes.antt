@@ -5,8 +5,8 @@ use Rattle.std.specs.Prelude.{if◌then◌else◌, is_some, slice_get, slice_ind
 use Rattle.std.specs.Option.{option_and_then}
 use Rattle.std.specs.List.{list_any}
 use Rattle.sedspace.specs.Lines.{is_newline}
-use Rattle.sedengine.specs.Types.{Command, Action, Block, Branch, File, Plain, Substitute, Text, Change, DeleteFirst, NextLine, IfReplaced, Read, Substitution, Ended, Done, PatternFull, HoldFull, QueueFull, TurnsSpent, NoPrevious, InputBroken, OutputBroken, OutputFull}
-use Rattle.sedengine.specs.State.{Limits, Entry, text, file, Task, begin, rebegin, do_at, print_pattern, empty_pattern, flush, copy, fetch, join, State, Move, Setting}
+use Rattle.sedengine.specs.Types.{Command, Action, Block, Branch, File, Plain, Substitute, Text, Change, DeleteFirst, NextLine, IfReplaced, Read, Substitution, Ended, Done, PatternFull, HoldFull, QueueFull, TurnsSpent, NoPrevious, InputBroken}
+use Rattle.sedengine.specs.State.{Limits, Entry, text, file, Task, begin, do_at, flush, copy, fetch, join, State, Move, Setting}
 use Rattle.sedengine.specs.Select.{selects, stands_for}
 use Rattle.sedengine.specs.Substitute.{Occurrence, occurrences, to_replace}
 use Rattle.sedengine.specs.Move.{acts, begins, copies, current_of, first_task, flushes, next_move, none_left, passes, quietly, reach, reached, replaces, substitutes, takes_line, writes_text_at}
@@ -97,14 +97,12 @@ takes_line_goes s rest made (line ∷ lines) = (refl, inl refl, inr (refl, refl)
 first_goes : (g : Setting) (s : State) (ts : List Task) → Goes (takes_turn g s ts) (line_at s ts) s (first_task g s ts)
 first_goes g s [] = tt
 first_goes g s (begin ∷ rest) = begins_goes s s.lines
-first_goes g s (rebegin ∷ rest) = (refl, inl refl, inl refl)
 first_goes g s (do_at k ∷ rest) = reach_goes g s k (slice_get g.commands k)
-first_goes g s (print_pattern ∷ rest) = (refl, inl refl, inl refl)
-first_goes g s (empty_pattern ∷ rest) = (refl, inl refl, inl refl)
 first_goes g s (flush ∷ rest) = flushes_goes s rest s.queue
 first_goes g s (copy k o ∷ rest) = copies_goes s rest k o (slice_get (g.files k) o)
 first_goes g s (fetch ∷ rest) = takes_line_goes s rest _ s.lines
 first_goes g s (join ∷ rest) = takes_line_goes s rest _ s.lines
+first_goes g s (other ∷ rest) = (refl, inl refl, inl refl)
 
 module _ (g : Setting) (s : State) where
   move_goes : (m : Move) → next_move g s ≡ Some m → Goes (takes_turn g s s.tasks) (line_at s s.tasks) s (Some m)
@@ -164,5 +162,4 @@ cause_is l g s TurnsSpent f (spent, takes) =
 cause_is l g s (NoPrevious n) f (at, turn, reach, none) =
     let takes = stuck_takes g s reach none in (at, turn takes, has_tasks g s takes, none)
 cause_is l g s InputBroken f h = h
-cause_is l g s (OutputBroken k) f h = absurd h
-cause_is l g s (OutputFull k) f h = absurd h
+cause_is l g s other f h = absurd h

@@ -51,7 +51,7 @@ reads_on None now bytes buf o n told keeps read len le = cc
 reads_on (Some xs) None bytes buf o n told keeps read len le = absurd keeps
 reads_on (Some xs) (Some ys) bytes buf o n told keeps read len le =
     let same : ys ≡ bytes = cc in
-    let (is, within, ends) : ReadsAt (Some bytes) o n buf = let P : List ℕ → Type 0 = λ zs. ReadsAt (Some zs) o n buf in subst P same read in
+    let (is, within, ends) : ReadsAt (Some bytes) o n buf = rw same at read in
     (sym (take_all n buf (omega arith)) ∙ is, omega (arith, length-drop o bytes))
 
 pub reads_end : (old now : Option (List ℕ)) (bytes : List ℕ) (o n : ℕ) → old ≡ Some bytes → Keeps old now → IfSome now (λ xs. n ≡ 0 → length xs ≤ o) → n ≡ 0 → length bytes ≤ o
@@ -66,9 +66,8 @@ reads_end (Some xs) (Some ys) bytes o n told keeps ends none =
 pub put_on : (old mid new : SinkView) (bytes piece : List ℕ) (o n : ℕ) (r : Result Unit Ended) → Sent old mid (to_sink 0 (take o bytes)) → piece ≡ take n (drop o bytes) →
     Puts mid new (to_sink 0 piece) r → Puts old new (to_sink 0 (take (o + n) bytes)) r
 put_on old mid new bytes piece o n r gained is put =
-    let Q : List (ℕ × ℕ) → Type 0 = λ out. Puts old new out r in
     let all : to_sink 0 (take o bytes) ++ to_sink 0 piece ≡ to_sink 0 (take (o + n) bytes) = rw (take-add, to_sink-append, is) refl in
-    subst Q all (Puts-append old mid new (to_sink 0 (take o bytes)) (to_sink 0 piece) r gained put)
+    rw (← all) (Puts-append old mid new (to_sink 0 (take o bytes)) (to_sink 0 piece) r gained put)
 
 -- While bytes are written, lengths are told as at the first of them.
 same_copied : (s now : State) (k : ℕ) (rest : List Task) (o : ℕ) → SameLengths s now → SameLengths (copied s k rest o) now
@@ -116,12 +115,11 @@ module _ (g : Setting) (s : State) (k : ℕ) (rest : List Task) (at : s.tasks �
       o ≤ length (g.files k) → length (g.files k) ≤ o → Sent old new (to_sink 0 (take o (g.files k))) →
       Ran l g s (record s { tasks = rest; turns = turns }) old new
   copied_all l old new o turns f are fits inside all gained =
-      let R : ℕ → Type 0 = λ n. Ran l g s (record s { tasks = rest; turns = n }) old new in
       let here : WithinLimits l (copied s k rest o) = record { pattern = f.pattern; hold = f.hold; queue = f.queue; turns = omega arith } in
       let there : WithinLimits l (record s { tasks = rest; turns = s.turns + o }) = record { pattern = f.pattern; hold = f.hold; queue = f.queue; turns = omega arith } in
       let last = ran_quietly l g (copied s k rest o) _ new here (at_end o all) there in
       let M : State → Type 0 = λ m. Ran l g m (record s { tasks = rest; turns = s.turns + o }) new new in
-      subst R (sym are) (chain l g s _ old new new o (Ok tt) (within_copied l o inside f (omega arith)) (one_copied o inside)
+      rw are (chain l g s _ old new new o (Ok tt) (within_copied l o inside f (omega arith)) (one_copied o inside)
       (rw (written_copied o inside) gained) (subst M (sym (after_copied o inside)) last))
 
   -- a further byte is due, and no turn is left

@@ -84,8 +84,7 @@ InOneCycle-add g s t n h i = λ k some k_lt. elim (less_or_more k t) [ inl less 
     later : (k : ℕ) → t < k → k < t + n → starts_cycle (after g s k).tasks ≡ false
     later k more k_lt =
         let at : k ≡ t + (k - t) = omega arith in
-        let P : ℕ → Type 0 = λ k. starts_cycle (after g s k).tasks ≡ false in
-        subst P (sym at) (rw after-add (i (k - t) (omega arith) (omega arith)))
+        rw at (rw after-add (i (k - t) (omega arith) (omega arith)))
 
 -- none of the moves starts a cycle, the last one too
 pub InOneCycle-more : (g : Setting) (s : State) (t : ℕ) → InOneCycle g s t → starts_cycle (after g s t).tasks ≡ false → InOneCycle g s (t + 1)
@@ -268,7 +267,7 @@ pub ran_fits : (l : Limits) (g : Setting) (s now : State) (sinks sinks' : SinkVi
 ran_fits l g s now sinks sinks' h = fits_first l g s h.t h.within
 
 pub ran_fits_now : (l : Limits) (g : Setting) (s now : State) (sinks sinks' : SinkView) → Ran l g s now sinks sinks' → WithinLimits l now
-ran_fits_now l g s now sinks sinks' h = let Q : State → Type 0 = λ s. WithinLimits l s in subst Q h.is (fits_last l g s h.t h.within)
+ran_fits_now l g s now sinks sinks' h = rw (← h.is) (fits_last l g s h.t h.within)
 
 stopped_within : (l : Limits) (g : Setting) (s : State) (out : List (ℕ × ℕ)) (end : Ended) (t : ℕ) (o : Option ℕ) → WholeOrBrokenOff l g s out end t o → WithinLimits l s
 stopped_within l g s out end t None h = fits_first l g s t h.within

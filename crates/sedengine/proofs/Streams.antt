@@ -127,7 +127,7 @@ TakesLines-then {R} remaining a b c ls ms ns s t = record {
 }
 
 FailedSource-then : {T : Type 0} (a b c : ℕ) (r : Result T Ended) → b ≡ a → FailedSource b c r → FailedSource a c r
-FailedSource-then {T} a b c r same h = let P : ℕ → Type 0 = λ n. FailedSource n c r in subst P same h
+FailedSource-then {T} a b c r same h = rw (← same) h
 
 sound-then : {T : Type 0} (a b c : Type 0) (r : Result T Ended) → (a → b) → OnOk r (b → c) → OnOk r (a → c)
 sound-then {T} a b c (Ok u) f g = λ x. g (f x)

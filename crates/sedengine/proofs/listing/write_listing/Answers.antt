@@ -46,7 +46,7 @@ pub returns-clause-puts : goal.returns-clause-puts
 returns-clause-puts g c =
     let tally = g.O.MeteredSinks.tally in
     let l = c.parts in
-    let out = rw (c.bytes-2.ensures, c.finish.ensures) at c.write_all-2.ensures.puts in
+    let out = rw (c.bytes-2.ensures, c.append.ensures) at c.write_all-2.ensures.puts in
     written_end (tally c.args.outputs.now) (tally l.outputs) (tally c.write_all-2.new.self) c.args.bytes.now
     l.rest.now l.gathered c.list-2.new.self c.write_all-2.result l.invariant.written l.invariant.empty
     c.list-2.ensures.lists out
