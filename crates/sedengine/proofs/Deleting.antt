@@ -81,8 +81,7 @@ pub cut_seen : (a : Inside) (e : RunState) (files : ℕ → List ℕ) (ls : List
     acts (run_setting e files) (at_lines e ls) true (Plain DeleteFirst) ≡ quietly (then_do (flush ∷ rebegin ∷ []) (at_lines (with_pattern e c1.bytes) ls))
 cut_seen a e files ls c1 seen there is =
     let same : a.pattern.bytes ≡ e.state.pattern = ap (λ (e : RunState). e.state.pattern) seen in
-    let N : List ℕ → Type 0 = λ bytes. list_any is_newline bytes ≡ true in
-    cut_is e files ls c1 (subst N same (newline_there a.pattern.bytes there)) (ap (λ (c : Contents). c.bytes) is ∙ ap (λ bytes. after_first is_newline bytes) same)
+    cut_is e files ls c1 (rw (← same) (newline_there a.pattern.bytes there)) (ap (λ (c : Contents). c.bytes) is ∙ ap (λ bytes. after_first is_newline bytes) same)
 
 -- without a newline the space stays, and `D` is `d`
 pub uncut_performs : (a : Inside) (e e' : RunState) (files : ℕ → List ℕ) (ls : List (List ℕ)) (c1 : Contents) (sinks sinks' : SinkView) (r : Result Unit Ended) → run_of a ≡ e → HasNoNewline a.pattern.bytes → c1 ≡ a.pattern →

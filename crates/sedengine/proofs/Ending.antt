@@ -1,5 +1,5 @@
 -- The queue is written, and a cycle, or the run, ends.
-use Rattle.std.proofs.Common.{◌≡◌, ℕ, ◌+◌, ◌<◌, ◌≤◌, true, false, cond, List, [], ◌∷◌, ◌++◌, length, length-append, Option, Result, Ok, Err, refl, subst, sym, ap, ◌∙◌, arith}
+use Rattle.std.proofs.Common.{◌≡◌, ℕ, ◌+◌, ◌<◌, ◌≤◌, false, cond, List, [], ◌∷◌, ◌++◌, length, length-append, Option, Result, Ok, Err, refl, ap, ◌∙◌, arith}
 use Rattle.std.specs.Prelude.{OnOk, OnErr, slice_get}
 use Rattle.std.proofs.lemmas.Option.{slice_get_past}
 use Rattle.sedspace.specs.Spaces.{Entries}
@@ -11,7 +11,7 @@ use Rattle.sedengine.specs.Held.{SameLengths}
 use Rattle.sedengine.specs.Meters.{Sent, SinkView}
 use Rattle.sedengine.specs.Calls.{Puts}
 use Rattle.sedengine.specs.Run.{RunState, at_lines, run_setting, starts_cycle}
-use Rattle.sedengine.specs.Steps.{MovesTo, at_end, takes_turn, Moves, MakesMove, costs, weight}
+use Rattle.sedengine.specs.Steps.{MovesTo, at_end, Moves, MakesMove, costs, weight}
 use Rattle.sedengine.specs.Queueing.{flushed, with_turns}
 use Rattle.sedengine.specs.Inside.{run_of, tasks_of, entries_of, IsConsistent, CommandQueues}
 use Rattle.sedengine.specs.declared.machine.Machine.TheInside.{Inside}
@@ -106,16 +106,13 @@ rebegins a e g ls sinks e' seen i at more is =
     let f = fits_seen a e ls seen i in
     let most = i.turns in
     let less : a.turns + 1 ≤ a.limits.turns = omega arith in
-    let L : RunState → Type 0 = λ e. e.state.turns + 1 ≤ e.limits.turns in
-    rw is (ran_quietly e.limits g (at_lines e ls) _ sinks f (move_at _ _ _ at) (record { pattern = f.pattern; hold = f.hold; queue = f.queue; turns = subst L seen less }))
+    rw is (ran_quietly e.limits g (at_lines e ls) _ sinks f (move_at _ _ _ at) (record { pattern = f.pattern; hold = f.hold; queue = f.queue; turns = rw (← seen) less }))
 
 pub rebegin_spent : (a : Inside) (e : RunState) (g : Setting) (ls : List (List ℕ)) (sinks : SinkView) → run_of a ≡ e → IsConsistent a → e.state.tasks ≡ rebegin ∷ [] → a.turns ≡ a.limits.turns →
     Moves e.limits g (at_lines e ls) (at_lines e ls) sinks sinks (Err TurnsSpent)
 rebegin_spent a e g ls sinks seen i at spent =
     let f = fits_seen a e ls seen i in
-    let L : RunState → Type 0 = λ e. e.state.turns ≡ e.limits.turns in
-    let T : List Task → Type 0 = λ ts. takes_turn g (at_lines e ls) ts ≡ true in
-    stopped_here e.limits g (at_lines e ls) (at_lines e ls) sinks TurnsSpent f refl (subst L seen spent, subst T (sym at) refl) (record { pattern = refl; hold = refl; queue = λ _. refl; entries = omega arith }) refl
+    stopped_here e.limits g (at_lines e ls) (at_lines e ls) sinks TurnsSpent f refl (rw (← seen) spent, rw at refl) (record { pattern = refl; hold = refl; queue = λ _. refl; entries = omega arith }) refl
 
 -- A command that makes a move which writes these bytes, and then what h says.
 pub acts_then : (l : Limits) (g : Setting) (o : Option Move) (there m now : State) (old mid new : SinkView) (out : List (ℕ × ℕ)) (r : Result Unit Ended) → o ≡ writing out m → WithinLimits l m → Sent old mid out → starts_cycle m.tasks ≡ false →
@@ -170,11 +167,6 @@ weight_ended e e' next_step limits later tasks =
 -- a command that queues is one of the engine's script
 pub queues_seen : (a : Inside) (e : RunState) (k : ℕ) → run_of a ≡ e → CommandQueues (slice_get e.script.commands k) → CommandQueues (slice_get a.script.commands k)
 queues_seen a e k seen h = rw (← seen) at h
-
--- what is printed by default, as the engine is seen
-pub printed_by : (a : Inside) (e : RunState) (old new : SinkView) (r : Result Unit Ended) → run_of a ≡ e → Puts old new (cond a.script.quiet [] (line_to 0 a.pattern.bytes)) r →
-    Puts old new (cond e.script.quiet [] (line_to 0 e.state.pattern)) r
-printed_by a e old new r seen h = rw (← seen) h
 
 -- what is written, as the engine is seen
 pub puts_seen : (a : Inside) (e : RunState) (f : RunState → List (ℕ × ℕ)) (sinks sinks' : SinkView) (r : Result Unit Ended) → run_of a ≡ e → Puts sinks sinks' (f (run_of a)) r → Puts sinks sinks' (f e) r

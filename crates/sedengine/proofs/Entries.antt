@@ -1,5 +1,5 @@
 -- Entries of the queue, written one after another.
-use Rattle.std.proofs.Common.{◌≡◌, ℕ, ◌+◌, ◌≤◌, false, List, [], ◌∷◌, length, Option, Some, None, Result, Ok, Err, refl, subst, sym, ap, ◌∙◌, arith}
+use Rattle.std.proofs.Common.{◌≡◌, ℕ, ◌+◌, ◌≤◌, false, List, [], ◌∷◌, length, Option, Some, None, Result, Ok, Err, refl, ap, ◌∙◌, arith}
 use Rattle.std.specs.Io.KnownBytes.{Keeps}
 use Rattle.sedengine.specs.State.{Limits, Entry, text, file, Task, flush, copy, State, Setting, TellsFiles}
 use Rattle.sedengine.specs.Move.{next_move, after, written, flushes, line_to}
@@ -86,8 +86,7 @@ reached_none l g s sinks f = record { t = 0; is = after_none g s; one = one_sing
 -- a call that makes moves from there, within the cycle
 pub reached_more : (l : Limits) (g : Setting) (s m m' : State) (old mid new : SinkView) → Reached l g s m old mid → Ran l g m m' mid new → starts_cycle m'.tasks ≡ false → Reached l g s m' old new
 reached_more l g s m m' old mid new a b goes =
-    let M : State → Type 0 = λ m. Ran l g m m' mid new in
-    let h = subst M (sym a.is) b in
+    let h : Ran l g (after g s a.t) m' mid new = rw a.is b in
     let at = after-add g s a.t h.t ∙ h.is in
     record {
       t = a.t + h.t;
@@ -100,8 +99,7 @@ reached_more l g s m m' old mid new a b goes =
 -- the last call
 pub reached_last : (l : Limits) (g : Setting) (s m now : State) (old mid new : SinkView) (r : Result Unit Ended) → Reached l g s m old mid → Moves l g m now mid new r → Moves l g s now old new r
 reached_last l g s m now old mid new r a b =
-    let M : State → Type 0 = λ m. Moves l g m now mid new r in
-    chain l g s now old mid new a.t r a.within a.one a.gained (subst M (sym a.is) b)
+    chain l g s now old mid new a.t r a.within a.one a.gained (rw a.is b)
 
 -- a queue before its first entry is written
 pub flush_begun : (l : Limits) (g : Setting) (s : State) (later : List Entry) (rest : List Task) (turns : ℕ) (sinks : SinkView) → s.tasks ≡ flush ∷ rest → s.queue ≡ later → s.turns ≡ turns → WithinLimits l s →
@@ -115,9 +113,8 @@ flush_begun l g s later rest turns sinks at queue same f =
 pub flush_done : (l : Limits) (g : Setting) (s : State) (later : List Entry) (rest : List Task) (turns : ℕ) (old new : SinkView) → WithinLimits l s → turns ≤ l.turns → later ≡ [] →
     Reached l g s (at_entries s later (flush ∷ rest) turns) old new → Ran l g s (at_entries s [] rest turns) old new
 flush_done l g s later rest turns old new f most none a =
-    let R : List Entry → Type 0 = λ q. Reached l g s (at_entries s q (flush ∷ rest) turns) old new in
     let m = at_entries s [] (flush ∷ rest) turns in
     let here = fits_later l s [] (flush ∷ rest) turns f (omega arith) most in
     let there = fits_later l s [] rest turns f (omega arith) most in
-    reached_last l g s m (at_entries s [] rest turns) old new new (Ok tt) (subst R none a)
+    reached_last l g s m (at_entries s [] rest turns) old new new (Ok tt) (rw none at a)
     (ran_quietly l g m (at_entries s [] rest turns) new here (move_at g m (flush ∷ rest) refl) there)

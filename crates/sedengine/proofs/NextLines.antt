@@ -95,8 +95,7 @@ module _ {R : Type 0} (remaining : R → Option (List ℕ)) (old new : Stream R)
       StepsFrom remaining old new ls e.limits g s e' sinks sinks (Err end)
   halts end after is no_sink loses part cause =
       let bytes : c'.bytes ≡ e.state.pattern = ap (λ (c : Contents). c.bytes) is ∙ pattern in
-      let L : ℕ → Type 0 = λ n. LosesPart (left remaining old) (left remaining new) n in
-      rw after (rw bytes (halts_here remaining old new e.limits g s e sinks end fits no_sink cause here (subst L (sym loses) part)))
+      rw after (rw bytes (halts_here remaining old new e.limits g s e sinks end fits no_sink cause here (rw loses part)))
 
   pub brings_steps : (r : Result Got Ended) → AfterBringing e c' e' r → Brings remaining old new ls before (e.state.number + 1) c c' r → StepsFrom remaining old new ls e.limits g s e' sinks sinks (told r)
   brings_steps (Ok Line) after (line, rest, are, taken, is, fit) =

@@ -42,8 +42,7 @@ went_none l g s f = record { is = after_none g s; wrote = written_none g s; with
 
 pub went_on : (l : Limits) (g : Setting) (s m now : State) (out more : List (ℕ × ℕ)) (t u : ℕ) → Went l g s m out t → Went l g m now more u → Went l g s now (out ++ more) (t + u)
 went_on l g s m now out more t u a b =
-    let W : State → Type 0 = λ m. Went l g m now more u in
-    let c = subst W (sym a.is) b in
+    let c : Went l g (after g s t) now more u = rw a.is b in
     record { is = after-add g s t u ∙ c.is; wrote = written-add g s t u ∙ ap₂ (λ x y. x ++ y) a.wrote c.wrote; within = Within-add l g s t u a.within c.within }
 
 one_is : (g : Setting) (s : State) (m : Move) → next_move g s ≡ Some m → after g s 1 ≡ m.next

@@ -74,10 +74,9 @@ module _ {R : Type 0} (remaining : R → Option (List ℕ)) (from at to : Stream
           cause = Cause-add a.limits g s h.stopped.out end r.t u r.within h.stopped.cause;
           takes = takes_of remaining from to a.limits g s (r.t + u) (lost a.limits end) (more_at a.limits end) (r.taken.lines ++ h.lines) are all shrinks (rw look at ahead) (lost_more a.limits end);
           broken = λ is.
-              let P : Option (List ℕ) → Type 0 = λ o. LosesPartAfter (left remaining from) o (size_of (r.taken.lines ++ h.lines)) a.limits.space in
               let L : Ended → Type 0 = λ end. LosesPartAfter (left remaining from) (left remaining to) (size_of (r.taken.lines ++ h.lines)) (lost a.limits end) in
               let all_left : left remaining to ≡ remaining to.source = ap (λ bs. prepend_known bs (remaining to.source)) (drained is) ∙ prepend_known-nil _ in
-              (r.taken.lines ++ h.lines, are, subst P all_left (subst L is all));
+              (r.taken.lines ++ h.lines, are, rw (← all_left) (subst L is all));
           holds = HoldsAt-add g s e'.state r.t u (named_sink end) (without_lines g (after g s r.t) u e' h.rest (named_sink end) h.stopped.holds);
         },
       )

@@ -1,5 +1,5 @@
 -- A run: calls that make moves, one after another, up to the end.
-use Rattle.std.proofs.Common.{◌≡◌, ℕ, ◌<◌, ◌+◌, ◌≤◌, inl, inr, true, List, ◌++◌, length, [], Option, Some, None, Ok, Err, refl, subst, sym, ap, ◌∙◌, arith, append_assoc}
+use Rattle.std.proofs.Common.{subst, ◌≡◌, ℕ, ◌<◌, ◌+◌, ◌≤◌, inl, inr, true, List, ◌++◌, length, [], Option, Some, None, Ok, Err, refl, sym, ap, ◌∙◌, arith, append_assoc}
 use Rattle.std.specs.Prelude.{max}
 use Rattle.sedspace.specs.Stream.{Stream, left, lines_left}
 use Rattle.sedspace.specs.Lines.{TakesAtMost}
@@ -116,10 +116,9 @@ module _ {R : Type 0} (remaining : R → Option (List ℕ)) (from at to : Stream
           cause = Cause-add a.limits g s h.stopped.out end r.t u r.within h.stopped.cause;
           takes = takes_of remaining from to a.limits g s (r.t + u) (lost a.limits end) (more_at a.limits end) (r.taken.lines ++ h.lines) are all shrinks (rw look at ahead) (lost_more a.limits end);
           broken = λ is.
-              let P : Option (List ℕ) → Type 0 = λ o. LosesPartAfter (left remaining from) o (size_of (r.taken.lines ++ h.lines)) a.limits.space in
               let L : Ended → Type 0 = λ end. LosesPartAfter (left remaining from) (left remaining to) (size_of (r.taken.lines ++ h.lines)) (lost a.limits end) in
               let all_left : left remaining to ≡ remaining to.source = ap (λ bs. prepend_known bs (remaining to.source)) (drained is) ∙ prepend_known-nil _ in
-              (r.taken.lines ++ h.lines, are, subst P all_left (subst L is all));
+              (r.taken.lines ++ h.lines, are, rw (← all_left) (subst L is all));
           holds = HoldsAt-add g s e'.state r.t u (named_sink end) (without_lines g (after g s r.t) u e' h.rest (named_sink end) h.stopped.holds);
         },
       )

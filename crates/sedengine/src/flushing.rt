@@ -15,16 +15,6 @@ use crate::write::write_line;
 use sedscript::{Action, FileUse, Script, TextUse};
 use sedspace::{Queue, Space, Texts};
 
-/// How many bytes of a file are asked for at once: as many as the build space holds and as turns are left, but at least
-/// one, which tells whether a turn is due.
-fn piece_size(limits: &Limits, left: u64) -> usize
-    ensures least { 1 ≤ result }
-    ensures room { result ≤ limits.now.space }
-    ensures turns { 0 < left → result ≤ left }
-{
-    left.min(limits.space() as u64).max(1) as usize
-}
-
 /// Writes a file's bytes to the standard output as they are, a turn each, through the build space (XCU sed, the command
 /// `r`).
 fn copy_file<O: MeteredSinks, T: Texts>(
@@ -52,7 +42,9 @@ fn copy_file<O: MeteredSinks, T: Texts>(
     let mut offset: u64 = 0;
     'pieces: loop {
         let left = limits.turns() - *turns;
-        let count = build.fill(texts, file, offset, piece_size(limits, left));
+        // At least one byte is asked for, which tells whether a turn is due.
+        let most = left.min(limits.space() as u64).max(1) as usize;
+        let count = build.fill(texts, file, offset, most);
         if count == 0 {
             return Ok(());
         }

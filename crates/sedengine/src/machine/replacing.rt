@@ -61,7 +61,6 @@ impl Machine {
         let Some(e) = self.script.substitution(k).expression.or(self.used) else {
             return Err(Ended::NoPrevious(self.number));
         };
-        self.limits.are_in_range();
         self.used = Some(e);
         self.seeking.begin(e);
         let built = build_text(
