@@ -39,7 +39,7 @@ parts-preserved g c =
     record {
       empty = ap (λ (x : Listing). x.bytes) c.clear.ensures;
       written = rw c.clear.ensures w;
-      devices = Delivers-then _ _ _ _ _ _ l.invariant.devices c.in_ok-write_all.ensures.devices;
+      devices = Delivers-then tally g.O.MeteredSinks.count c.args.outputs.now l.outputs c.write_all.new.self _ l.invariant.devices c.in_ok-write_all.ensures.devices;
     }
 
 pub returns-clause-puts : goal.returns-clause-puts

@@ -18,5 +18,5 @@ pub returns-clause-output : goal.returns-clause-output
 returns-clause-output g c = λ fresh.
     let out = c.run-end.ensures.leaves.output in
     let limit = ap (λ (e : RunState). e.limits.output) c.self.view_is in
-    sinks_at_end _ _ _ _ g.O.Outputs.failures c.args.outputs.now c.run-end.new.outputs.outputs.now c.outputs-1.given.0 _ _ _ (search rules) out out.failed refl
+    sinks_at_end _ _ _ _ g.O.Outputs.failures c.args.outputs.now c.run-end.new.outputs.outputs.now _ _ _ _ (search rules) out out.failed refl
     (ap (λ (f : Frame). f.most) out.same_frame ∙ c.self.invariant.0 ∙ limit)

@@ -5,7 +5,6 @@ use Rattle.sedengine.proofs.Runs.{Reached-none, SameRun-then, step_on, stop_on}
 use Rattle.sedengine.proofs.PassingRuns.{pass_on, pass_stop}
 use Rattle.sedengine.proofs.Entries.{tells_on}
 use Rattle.sedengine.proofs.machine.Machine.run.Goals as goal
-use Rattle.sedengine.specs.Run.{SameRun}
 
 pub moves-init : goal.moves-init
 moves-init g c = record {
