@@ -1,4 +1,4 @@
-use Rattle.std.proofs.Common.{◌≡◌, ◌++◌, ap, take-append-drop}
+use Rattle.std.proofs.Common.{◌≡◌, ◌++◌, Ok, ap, take-append-drop}
 use Rattle.std.proofs.lemmas.Result.{err_from_is_err_and}
 use Rattle.sedengine.specs.ListingParts.{Listing}
 use Rattle.sedengine.proofs.ListingLemmas.{written_none, written_more, written_not, written_end}
@@ -39,7 +39,7 @@ parts-preserved g c =
     record {
       empty = ap (λ (x : Listing). x.bytes) c.clear.ensures;
       written = rw c.clear.ensures w;
-      devices = Delivers-then tally g.O.MeteredSinks.count c.args.outputs.now l.outputs c.write_all.new.self _ l.invariant.devices c.in_ok-write_all.ensures.devices;
+      devices = Delivers-then tally g.O.MeteredSinks.count c.args.outputs.now l.outputs c.write_all.new.self (Ok tt) l.invariant.devices c.in_ok-write_all.ensures.devices;
     }
 
 pub returns-clause-puts : goal.returns-clause-puts
