@@ -1,7 +1,6 @@
 -- What commands do are moves.
 use Rattle.std.proofs.Common.{◌≡◌, ℕ, ◌<◌, ◌≤◌, Bool, true, false, cond, List, [], ◌∷◌, ◌++◌, length, map, Option, Some, None, Result, Ok, Err, refl, subst, sym, ap, ◌∙◌, arith, length-append}
-use Rattle.std.specs.Prelude.{slice_get, slice_set, option_and_then, ◌||◌}
-use Rattle.std.proofs.lemmas.Bool.{false≢true}
+use Rattle.std.specs.Prelude.{slice_get, slice_set, option_and_then}
 use Rattle.std.proofs.lemmas.List.{length-map}
 use Rattle.sedscript.specs.declared.types.Command.{Command}
 use Rattle.sedscript.specs.declared.types.Action.{Action}
@@ -26,6 +25,7 @@ use Rattle.sedengine.specs.declared.ends.Ended.TheVariants.{QueueFull, TurnsSpen
 use Rattle.sedengine.proofs.Streams.{LosesPart-none, LosesPartAfter-none, lines_same}
 use Rattle.sedengine.proofs.Moves.{move_at, ran_quietly, stopped_here, moves_writing}
 use Rattle.sedengine.proofs.NextLines.{looked_moves, looked_then, none_taken}
+use Rattle.sedengine.proofs.Choices.{or_left, or_right}
 use Rattle.sedengine.proofs.Tasks.{fits_of, halts_here, reach_spent, steps_by_moves}
 use Rattle.std.specs.Option.{option_map_or}
 
@@ -53,49 +53,43 @@ module _ (e : RunState) (ls : List (List ℕ)) (fits : WithinLimits e.limits (at
   acts_writing out r is put = λ s c first. moves_writing e.limits g s (at_lines e ls) old new out r c.fits (first ∙ is) fits c.lines put
 
   -- one that leads to another engine and writes nothing
-  pub acts_leading : (e' : RunState) → WithinLimits e.limits (at_lines e' ls) → o ≡ quietly (at_lines e' ls) → MakesMove e.limits g o (at_lines e ls) (at_lines e' ls) old old (Ok tt)
-  acts_leading e' there is = λ s c first. ran_quietly e.limits g s (at_lines e' ls) old c.fits (first ∙ is) there
+  pub acts_leading : (made e' : RunState) → e' ≡ made → WithinLimits e.limits (at_lines made ls) → o ≡ quietly (at_lines made ls) → MakesMove e.limits g o (at_lines e ls) (at_lines e' ls) old old (Ok tt)
+  acts_leading made e' same there is =
+      rw same (λ s c first. ran_quietly e.limits g s (at_lines made ls) old c.fits (first ∙ is) there)
 
   -- one that does nothing
   pub acts_nothing : o ≡ quietly (at_lines e ls) → MakesMove e.limits g o (at_lines e ls) (at_lines e ls) old old (Ok tt)
-  acts_nothing is = acts_leading e fits is
+  acts_nothing is = acts_leading e e refl fits is
 
   -- one that goes on elsewhere
   pub acts_going : (ts : List Task) (e' : RunState) → e' ≡ going e ts → o ≡ quietly (then_do ts (at_lines e ls)) → MakesMove e.limits g o (at_lines e ls) (at_lines e' ls) old old (Ok tt)
-  acts_going ts e' same is =
-      let Q : RunState → Type 0 = λ e'. MakesMove e.limits g o (at_lines e ls) (at_lines e' ls) old old (Ok tt) in
-      subst Q (sym same) (acts_leading (going e ts) (record { pattern = fits.pattern; hold = fits.hold; queue = fits.queue; turns = fits.turns }) is)
+  acts_going ts e' same is = acts_leading (going e ts) e' same (record { pattern = fits.pattern; hold = fits.hold; queue = fits.queue; turns = fits.turns }) is
 
   -- `t`
   pub acts_testing : (target : ℕ) (e' : RunState) → e' ≡ tested e target e.state.replaced → o ≡ quietly (cond e.state.replaced (then_do (do_at target ∷ []) (record (at_lines e ls) { replaced = false })) (at_lines e ls)) →
       MakesMove e.limits g o (at_lines e ls) (at_lines e' ls) old old (Ok tt)
-  acts_testing target e' same is =
-      let Q : RunState → Type 0 = λ e'. MakesMove e.limits g o (at_lines e ls) (at_lines e' ls) old old (Ok tt) in
-      subst Q (sym same) (leads e.state.replaced is)
+  acts_testing target e' same is = leads e.state.replaced same is
     where
-      leads : (b : Bool) → o ≡ quietly (cond b (then_do (do_at target ∷ []) (record (at_lines e ls) { replaced = false })) (at_lines e ls)) →
-          MakesMove e.limits g o (at_lines e ls) (at_lines (tested e target b) ls) old old (Ok tt)
-      leads true is = acts_leading (tested e target true) (record { pattern = fits.pattern; hold = fits.hold; queue = fits.queue; turns = fits.turns }) is
-      leads false is = acts_leading e fits is
+      leads : (b : Bool) → e' ≡ tested e target b → o ≡ quietly (cond b (then_do (do_at target ∷ []) (record (at_lines e ls) { replaced = false })) (at_lines e ls)) →
+          MakesMove e.limits g o (at_lines e ls) (at_lines e' ls) old old (Ok tt)
+      leads true same is = acts_leading (tested e target true) e' same (record { pattern = fits.pattern; hold = fits.hold; queue = fits.queue; turns = fits.turns }) is
+      leads false same is = acts_leading e e' same fits is
 
   -- `y`
   pub acts_translating : (table : Option (List ℕ)) (e' : RunState) → e' ≡ translated e table → o ≡ quietly (record (at_lines e ls) { pattern = map (in_table table) e.state.pattern }) →
       MakesMove e.limits g o (at_lines e ls) (at_lines e' ls) old old (Ok tt)
   acts_translating table e' same is =
-      let Q : RunState → Type 0 = λ e'. MakesMove e.limits g o (at_lines e ls) (at_lines e' ls) old old (Ok tt) in
       let long : length (map (in_table table) e.state.pattern) ≡ length e.state.pattern = length-map e.state.pattern (in_table table) in
-      subst Q (sym same) (acts_leading (translated e table) (record { pattern = rw long fits.pattern; hold = fits.hold; queue = fits.queue; turns = fits.turns }) is)
+      acts_leading (translated e table) e' same (record { pattern = rw long fits.pattern; hold = fits.hold; queue = fits.queue; turns = fits.turns }) is
 
   -- `a` and `r`: an entry is put into the queue, or there is no room for it
   pub acts_queueing : (entry : Entry) (e' : RunState) (r : Result Unit Ended) → o ≡ quietly (queueing entry (at_lines e ls)) → QueuesOrFull e e' entry r → MakesMove e.limits g o (at_lines e ls) (at_lines e' ls) old old r
   acts_queueing entry e' (Ok u) is (same, room) =
-      let Q : RunState → Type 0 = λ e'. MakesMove e.limits g o (at_lines e ls) (at_lines e' ls) old old (Ok tt) in
       let more : length (e.state.queue ++ entry ∷ []) ≤ e.limits.queue = omega (arith, length-append e.state.queue (entry ∷ [])) in
-      subst Q (sym same) (acts_leading (queued_more e entry) (record { pattern = fits.pattern; hold = fits.hold; queue = more; turns = fits.turns }) is)
+      acts_leading (queued_more e entry) e' same (record { pattern = fits.pattern; hold = fits.hold; queue = more; turns = fits.turns }) is
   acts_queueing entry e' (Err (QueueFull n)) is (same, number, full) =
-      let Q : RunState → Type 0 = λ e'. MakesMove e.limits g o (at_lines e ls) (at_lines e' ls) old old (Err (QueueFull n)) in
       let more : e.limits.queue < length (e.state.queue ++ entry ∷ []) = omega (arith, length-append e.state.queue (entry ∷ [])) in
-      subst Q (sym same) (λ s c first. stopped_here e.limits g s (at_lines e ls) old (QueueFull n) c.fits refl (number ∙ sym c.number, c.turn, (_, first ∙ is, more)) c.same c.lines)
+      rw same (λ s c first. stopped_here e.limits g s (at_lines e ls) old (QueueFull n) c.fits refl (number ∙ sym c.number, c.turn, (_, first ∙ is, more)) c.same c.lines)
   acts_queueing entry e' (Err other) is h = absurd h
 
 -- what no `{` does that doesn't apply
@@ -108,12 +102,11 @@ pub turn_left : (a : Inside) (e : RunState) → run_of a ≡ e → IsConsistent 
 turn_left a e seen i more =
     let most = i.turns in
     let less : a.turns < a.limits.turns = omega arith in
-    let Q : RunState → Type 0 = λ e. e.state.turns < e.limits.turns in
-    subst Q seen less
+    rw (← seen) less
 
 -- the command of the script as it is seen
 pub command_seen : (a : Inside) (e : RunState) (k : ℕ) (c : Command) → run_of a ≡ e → slice_get a.script.commands k ≡ Some c → slice_get e.script.commands k ≡ Some c
-command_seen a e k c seen is = let Q : RunState → Type 0 = λ e. slice_get e.script.commands k ≡ Some c in subst Q seen is
+command_seen a e k c seen is = rw (← seen) is
 
 -- no turn is left
 pub steps_spent : {R : Type 0} (remaining : R → Option (List ℕ)) (old : Stream R) (a : Inside) (e : RunState) (seen : run_of a ≡ e) (i : IsConsistent a) (files : ℕ → List ℕ) (ls : List (List ℕ)) → lines_left remaining old ≡ Some ls → (sinks : SinkView) (k : ℕ) →
@@ -121,20 +114,11 @@ pub steps_spent : {R : Type 0} (remaining : R → Option (List ℕ)) (old : Stre
 steps_spent {R} remaining old a e seen i files ls known sinks k t there spent =
     steps_by_moves remaining old ls e.limits (run_setting e files) e e sinks sinks (Err TurnsSpent) known (reach_spent a e seen i files ls k t sinks there spent)
 
-or_else : (x y : Bool) → y ≡ true → x || y ≡ true
-or_else true y h = refl
-or_else false y h = h
-
--- an address `$` is one of the two that ask for the last line
-either : (x y : Bool) → x ≡ true → x || y ≡ true
-either true y h = refl
-either false y h = absurd (false≢true h)
-
 -- Coming to the command c, of number k, with a turn left; a are the fields of the engine, which is seen as e.
 module _ {R : Type 0} (remaining : R → Option (List ℕ)) (old new : Stream R) (a : Inside) (e : RunState) (seen : run_of a ≡ e) (i : IsConsistent a) (files : ℕ → List ℕ) (ls : List (List ℕ)) (k : ℕ) (c : Command)
     (t : e.state.tasks ≡ do_at k ∷ []) (is : slice_get a.script.commands k ≡ Some c) (more : a.turns ≡ a.limits.turns → ⊥) (taken : TakesLines remaining old new ls ls) where
   here : WithinLimits e.limits (at_lines e ls)
-  here = let Q : RunState → Type 0 = λ e. WithinLimits e.limits (at_lines e ls) in subst Q seen (fits_of a ls i)
+  here = rw (← seen) (fits_of a ls i)
 
   bytes_stay : TakesAtMost (left remaining old) (left remaining new) 0
   bytes_stay = rw (none_taken taken.lines ls taken.are) at taken.bytes
@@ -148,8 +132,7 @@ module _ {R : Type 0} (remaining : R → Option (List ℕ)) (old new : Stream R)
   pub reach_stopping : (sinks : SinkView) (used : Option ℕ) (end : Ended) (e' : RunState) → e' ≡ e → Judges (current_in e (none_left ls)) (is_active e.state k) c used (Err end) →
       Steps remaining old new ls e.limits (run_setting e files) e e' sinks sinks (Err end)
   reach_stopping sinks used end e' same h =
-      let Q : RunState → Type 0 = λ e'. Steps remaining old new ls e.limits (run_setting e files) e e' sinks sinks (Err end) in
-      subst Q (sym same) (stops end h)
+      rw same (stops end h)
     where
       stops : (end : Ended) → Judges (current_in e (none_left ls)) (is_active e.state k) c used (Err end) → Steps remaining old new ls e.limits (run_setting e files) e e sinks sinks (Err end)
       stops (NoPrevious n) (without, number) =
@@ -157,7 +140,7 @@ module _ {R : Type 0} (remaining : R → Option (List ℕ)) (old new : Stream R)
           (number, (λ _. turn_left a e seen i more), ap reaches t, reach_as None without) (record { pattern = refl; hold = refl; queue = λ _. refl; entries = omega arith }) (LosesPart-none _ _ _ bytes_stay)
       stops InputBroken h =
           halts_here remaining old new e.limits (run_setting e files) (at_lines e ls) e sinks InputBroken here refl
-          (ap (reads (run_setting e files)) t ∙ ap (λ o. option_map_or asks_last o false) (command_seen a e k c seen is) ∙ either (names_last c) (is_next c.action) h) (record { pattern = refl; hold = refl; queue = λ _. refl; entries = omega arith }) (LosesPart-none _ _ _ bytes_stay)
+          (ap (reads (run_setting e files)) t ∙ ap (λ o. option_map_or asks_last o false) (command_seen a e k c seen is) ∙ or_left (names_last c) (is_next c.action) h) (record { pattern = refl; hold = refl; queue = λ _. refl; entries = omega arith }) (LosesPart-none _ _ _ bytes_stay)
       stops other h = absurd h
 
   -- The addresses chose.
@@ -190,7 +173,7 @@ module _ {R : Type 0} (remaining : R → Option (List ℕ)) (old new : Stream R)
         let now : State = at_lines (reached_with e k (slice_set e.state.ranges k choice.active) used) ls in
         let S : Bool → Type 0 = λ b. PerformsSteps remaining new to ls e.limits (run_setting e files) (acts (run_setting e files) now b c.action) (is_next c.action) now e2 sinks sinks' r in
         let there = subst S tells_is (subst Q came h) in
-        looked_then remaining old new to ls e.limits (run_setting e files) (at_lines e ls) e2 sinks sinks' r taken (there (at_lines e ls) here_reaches (λ asks. ap (reads (run_setting e files)) t ∙ ap (λ o. option_map_or asks_last o false) (command_seen a e k c seen is) ∙ or_else (names_last c) (is_next c.action) asks) (moves_as true chosen))
+        looked_then remaining old new to ls e.limits (run_setting e files) (at_lines e ls) e2 sinks sinks' r taken (there (at_lines e ls) here_reaches (λ asks. ap (reads (run_setting e files)) t ∙ ap (λ o. option_map_or asks_last o false) (command_seen a e k c seen is) ∙ or_right (names_last c) (is_next c.action) asks) (moves_as true chosen))
 
     -- it doesn't
     pub reach_passing : (sinks : SinkView) → choice.yes ≡ false →

@@ -5,8 +5,8 @@ use Rattle.std.specs.Prelude.{if◌then◌else◌, is_some, slice_get, slice_ind
 use Rattle.std.specs.Option.{option_and_then}
 use Rattle.std.specs.List.{list_any}
 use Rattle.sedspace.specs.Lines.{is_newline}
-use Rattle.sedengine.specs.Types.{Command, Action, Block, Branch, File, Plain, Substitute, Text, Transliterate, AppendHold, AppendNext, CopyHold, Delete, DeleteFirst, Exchange, Hold, HoldMore, LineNumber, listing, NextLine, Print, PrintFirst, Quit, Append, Change, Insert, Always, IfReplaced, Read, Write, Substitution, Ended, Done, PatternFull, HoldFull, QueueFull, TurnsSpent, NoPrevious, InputBroken, OutputBroken, OutputFull}
-use Rattle.sedengine.specs.State.{Limits, Entry, text, file, Task, begin, rebegin, do_at, print_pattern, empty_pattern, flush, copy, fetch, join, State, Move, Setting}
+use Rattle.sedengine.specs.Types.{Command, Action, Block, Branch, File, Plain, Substitute, Text, Change, DeleteFirst, NextLine, IfReplaced, Read, Substitution, Ended, Done, PatternFull, HoldFull, QueueFull, TurnsSpent, NoPrevious, InputBroken}
+use Rattle.sedengine.specs.State.{Limits, Entry, text, file, Task, begin, do_at, flush, copy, fetch, join, State, Move, Setting}
 use Rattle.sedengine.specs.Select.{selects, stands_for}
 use Rattle.sedengine.specs.Substitute.{Occurrence, occurrences, to_replace}
 use Rattle.sedengine.specs.Move.{acts, begins, copies, current_of, first_task, flushes, next_move, none_left, passes, quietly, reach, reached, replaces, substitutes, takes_line, writes_text_at}
@@ -43,30 +43,13 @@ substitutes_has g s (Some t) =
     (stands_for t.expression s.used) (λ e. replaces_has (record s { used = Some e }) t _)
 
 acts_has : (g : Setting) (s : State) (w : Bool) (a : Action) → Has s.number s.turns (acts g s w a)
-acts_has g s w (Block next) = (refl, refl)
-acts_has g s w (Text Append k) = (refl, refl)
 acts_has g s w (Text Change k) = (refl, refl)
-acts_has g s w (Text Insert k) = (refl, refl)
-acts_has g s w (Branch Always target) = (refl, refl)
 acts_has g s w (Branch IfReplaced target) = either_state s.number s.turns _ _ s.replaced (refl, refl) (refl, refl)
-acts_has g s w (Plain Delete) = (refl, refl)
 acts_has g s w (Plain DeleteFirst) = either_state s.number s.turns _ _ (list_any is_newline s.pattern) (refl, refl) (refl, refl)
-acts_has g s w (Plain CopyHold) = (refl, refl)
-acts_has g s w (Plain AppendHold) = (refl, refl)
-acts_has g s w (Plain Hold) = (refl, refl)
-acts_has g s w (Plain HoldMore) = (refl, refl)
-acts_has g s w (Plain Exchange) = (refl, refl)
-acts_has g s w (Plain listing) = (refl, refl)
 acts_has g s w (Plain NextLine) = either_state s.number s.turns _ _ (none_left s.lines) (refl, refl) (refl, refl)
-acts_has g s w (Plain AppendNext) = (refl, refl)
-acts_has g s w (Plain LineNumber) = (refl, refl)
-acts_has g s w (Plain Print) = (refl, refl)
-acts_has g s w (Plain PrintFirst) = (refl, refl)
-acts_has g s w (Plain Quit) = (refl, refl)
 acts_has g s w (File Read k) = (refl, refl)
-acts_has g s w (File Write k) = (refl, refl)
 acts_has g s w (Substitute k) = substitutes_has g s (slice_get g.substitutions k)
-acts_has g s w (Transliterate k) = (refl, refl)
+acts_has g s w other = (refl, refl)
 
 passes_has : (s : State) (a : Action) → Has s.number s.turns (passes s a)
 passes_has s (Block next) = (refl, refl)
@@ -114,14 +97,12 @@ takes_line_goes s rest made (line ∷ lines) = (refl, inl refl, inr (refl, refl)
 first_goes : (g : Setting) (s : State) (ts : List Task) → Goes (takes_turn g s ts) (line_at s ts) s (first_task g s ts)
 first_goes g s [] = tt
 first_goes g s (begin ∷ rest) = begins_goes s s.lines
-first_goes g s (rebegin ∷ rest) = (refl, inl refl, inl refl)
 first_goes g s (do_at k ∷ rest) = reach_goes g s k (slice_get g.commands k)
-first_goes g s (print_pattern ∷ rest) = (refl, inl refl, inl refl)
-first_goes g s (empty_pattern ∷ rest) = (refl, inl refl, inl refl)
 first_goes g s (flush ∷ rest) = flushes_goes s rest s.queue
 first_goes g s (copy k o ∷ rest) = copies_goes s rest k o (slice_get (g.files k) o)
 first_goes g s (fetch ∷ rest) = takes_line_goes s rest _ s.lines
 first_goes g s (join ∷ rest) = takes_line_goes s rest _ s.lines
+first_goes g s (other ∷ rest) = (refl, inl refl, inl refl)
 
 module _ (g : Setting) (s : State) where
   move_goes : (m : Move) → next_move g s ≡ Some m → Goes (takes_turn g s s.tasks) (line_at s s.tasks) s (Some m)
@@ -181,5 +162,4 @@ cause_is l g s TurnsSpent f (spent, takes) =
 cause_is l g s (NoPrevious n) f (at, turn, reach, none) =
     let takes = stuck_takes g s reach none in (at, turn takes, has_tasks g s takes, none)
 cause_is l g s InputBroken f h = h
-cause_is l g s (OutputBroken k) f h = absurd h
-cause_is l g s (OutputFull k) f h = absurd h
+cause_is l g s other f h = absurd h

@@ -1,8 +1,8 @@
 -- How addresses are judged.
-use Rattle.std.proofs.Common.{◌≡◌, ℕ, Bool, true, false, cond, not, ◌||◌, ◌<◌, List, length, get_or, Option, Some, None, Result, Err, refl, sym, subst, ap, ◌∙◌, arith}
+use Rattle.std.proofs.Common.{◌≡◌, ℕ, Bool, true, false, cond, not, ◌||◌, ◌<◌, List, length, get_or, Option, Some, None, Result, Err, refl, sym, ap, ◌∙◌, arith}
 use Rattle.std.specs.Prelude.{is_some, option_and_then, nat_le, nat_lt, nat_eq, if◌then◌else◌}
 use Rattle.std.proofs.lemmas.Bool.Decides.{nat_tests}
-use Rattle.std.proofs.lemmas.Option.{slice_get_read}
+use Rattle.std.proofs.lemmas.Option.{same_Some, slice_get_read}
 use Rattle.sedre.specs.Tree.{WrittenExpression, expression_tree}
 use Rattle.sedmatch.specs.Matching.{found}
 use Rattle.sedscript.specs.declared.types.Address.{Address}
@@ -12,7 +12,7 @@ use Rattle.sedengine.specs.Select.{Current, AddressAnswer, Selection, answer, on
 use Rattle.sedengine.specs.Choose.{deciding, deciding_in, decides, choice_by_match, chosen_idle, chosen_active, as_selection, turned, yes_by_number, Answers, Judges}
 use Rattle.sedengine.specs.Ends.{is_dollar}
 use Rattle.sedengine.specs.declared.ends.Ended.{Ended}
-use Rattle.sedengine.specs.declared.ends.Ended.TheVariants.{Done, PatternFull, HoldFull, QueueFull, TurnsSpent, NoPrevious, InputBroken, OutputBroken, OutputFull}
+use Rattle.sedengine.specs.declared.ends.Ended.TheVariants.{NoPrevious, InputBroken}
 use Rattle.sedengine.specs.State.{finds_in}
 use Rattle.sedengine.specs.declared.select.Chosen.{Chosen}
 use Rattle.std.specs.Option.{option_map_or}
@@ -83,11 +83,11 @@ dollar_in : (first : Address) (before : Bool) → is_dollar (cond before None (S
 dollar_in first true h = cc
 dollar_in first false h = h
 
-or_left : (a b : Bool) → a ≡ true → (a || b) ≡ true
+pub or_left : (a b : Bool) → a ≡ true → (a || b) ≡ true
 or_left true b h = refl
 or_left false b h = cc
 
-or_right : (a b : Bool) → b ≡ true → (a || b) ≡ true
+pub or_right : (a b : Bool) → b ≡ true → (a || b) ≡ true
 or_right true b h = refl
 or_right false b h = h
 
@@ -104,13 +104,7 @@ pub judges_err : (c : Current) (a active : Bool) (command : Command) (number : �
     Answers c (decides c (deciding command.first command.second a number)) used (is_dollar (deciding command.first command.second a number)) (Err end) → Judges c active command used (Err end)
 judges_err c a active command number used (NoPrevious n) same_active same (none, is) = (rw (← same_active) (selects_none c a command (rw same at none)), is)
 judges_err c a active command number used InputBroken same_active same h = deciding_dollar command.first command.second a number h
-judges_err c a active command number used Done same_active same h = h
-judges_err c a active command number used (PatternFull n) same_active same h = h
-judges_err c a active command number used (HoldFull n) same_active same h = h
-judges_err c a active command number used (QueueFull n) same_active same h = h
-judges_err c a active command number used TurnsSpent same_active same h = h
-judges_err c a active command number used (OutputBroken k) same_active same h = h
-judges_err c a active command number used (OutputFull k) same_active same h = h
+judges_err c a active command number used other same_active same h = h
 
 pub judges_ok : (c : Current) (a active : Bool) (command : Command) (matched : Bool) (number : ℕ) (used used' : Option ℕ) (choice : Chosen) → a ≡ active → number ≡ c.number → used' ≡ used →
     choice ≡ turned command.negate (choice_by_match command.first command.second a number matched) → decides c (deciding command.first command.second a c.number) ≡ Some (record { yes = matched; used = used }) →
@@ -119,18 +113,13 @@ judges_ok c a active command matched number used used' choice same_active same_n
     rw (is, same_used, same_number, ← same_active) (selects_some c a command matched used h)
 
 pub answers_at : (c : Current) (a b : Address) (used : Option ℕ) (r : Result Bool Ended) → a ≡ b → Answers c (answer c b) used (is_dollar (Some b)) r → Answers c (answer c a) used (is_dollar (Some a)) r
-answers_at c a b used r same h = let P : Address → Type 0 = λ x. Answers c (answer c x) used (is_dollar (Some x)) r in subst P (sym same) h
-
-some_of : (a b : Bool) → Some a ≡ Some b → a ≡ b
-some_of a b h = cc
+answers_at c a b used r same h = rw same h
 
 straight : (c : Current) (active : Bool) (first second : Option Address) (negate applies : Bool) → yes_by_number first second negate c.number ≡ Some applies →
     option_and_then (λ choice. Some (negated negate choice)) (of_addresses c active first second) ≡ Some (as_selection (record { yes = applies; end = false; active = active }) c.used)
-straight c active None second negate applies h = ap (λ b. Some (as_selection (record { yes = b; end = false; active = active }) c.used)) (some_of _ _ h)
-straight c active (Some (Line n)) None negate applies h = ap (λ b. Some (as_selection (record { yes = b; end = false; active = active }) c.used)) (some_of _ _ h)
-straight c active (Some (Line n)) (Some second) negate applies h = cc
-straight c active (Some Last) second negate applies h = cc
-straight c active (Some (Match e)) second negate applies h = cc
+straight c active None second negate applies h = ap (λ b. Some (as_selection (record { yes = b; end = false; active = active }) c.used)) (same_Some _ _ h)
+straight c active (Some (Line n)) None negate applies h = ap (λ b. Some (as_selection (record { yes = b; end = false; active = active }) c.used)) (same_Some _ _ h)
+straight c active (Some first) second negate applies h = cc
 
 -- what the line number alone tells
 pub selects_by_number : (c : Current) (a active : Bool) (command : Command) (applies : Bool) (number : ℕ) (used : Option ℕ) → a ≡ active → number ≡ c.number → used ≡ c.used →

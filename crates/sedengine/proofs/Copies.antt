@@ -1,5 +1,5 @@
 -- A file's bytes, written one after another.
-use Rattle.std.proofs.Common.{◌≡◌, ℕ, suc, zero, ◌<◌, ◌+◌, ◌≤◌, inl, true, List, [], ◌∷◌, ◌++◌, length, take, drop, get_or, Option, Some, None, Result, Ok, Err, refl, subst, sym, ap, ◌∙◌, arith, add-zero, length-drop, length-take-le, take-take, take-add, take_all, rules}
+use Rattle.std.proofs.Common.{◌≡◌, ℕ, suc, zero, ◌<◌, ◌+◌, ◌≤◌, inl, true, List, [], ◌∷◌, ◌++◌, length, take, drop, get_or, Option, Some, None, Result, Ok, Err, refl, sym, ap, ◌∙◌, arith, add-zero, length-drop, length-take-le, take-take, take-add, take_all, rules}
 use Rattle.std.specs.Prelude.{slice_get, is_some, IfSome}
 use Rattle.std.specs.Io.KnownBytes.{Keeps}
 use Rattle.std.proofs.Math.Seq.{take-suc}
@@ -10,9 +10,9 @@ use Rattle.sedengine.specs.Move.{next_move, after, written, to_sink, copies, qui
 use Rattle.sedengine.specs.Meters.{Sent, SinkView}
 use Rattle.sedengine.specs.Calls.{Puts}
 use Rattle.sedengine.specs.Ends.{WithinLimits, Within, BrokenOff}
-use Rattle.sedengine.specs.Held.{HoldsAt, SameLengths}
+use Rattle.sedengine.specs.Held.{SameLengths}
 use Rattle.sedengine.specs.Run.{InOneCycle}
-use Rattle.sedengine.specs.Steps.{takes_turn, Ran, Stopped, WholeOrBrokenOff, next_or_stay, writes_of}
+use Rattle.sedengine.specs.Steps.{takes_turn, Ran, Stopped, next_or_stay, writes_of}
 use Rattle.sedengine.specs.declared.ends.Ended.{Ended}
 use Rattle.sedengine.specs.declared.ends.Ended.TheVariants.{TurnsSpent}
 use Rattle.sedengine.proofs.Gains.{to_sink-append, take-to_sink}
@@ -51,7 +51,7 @@ reads_on None now bytes buf o n told keeps read len le = cc
 reads_on (Some xs) None bytes buf o n told keeps read len le = absurd keeps
 reads_on (Some xs) (Some ys) bytes buf o n told keeps read len le =
     let same : ys ≡ bytes = cc in
-    let (is, within, ends) : ReadsAt (Some bytes) o n buf = let P : List ℕ → Type 0 = λ zs. ReadsAt (Some zs) o n buf in subst P same read in
+    let (is, within, ends) : ReadsAt (Some bytes) o n buf = rw same at read in
     (sym (take_all n buf (omega arith)) ∙ is, omega (arith, length-drop o bytes))
 
 pub reads_end : (old now : Option (List ℕ)) (bytes : List ℕ) (o n : ℕ) → old ≡ Some bytes → Keeps old now → IfSome now (λ xs. n ≡ 0 → length xs ≤ o) → n ≡ 0 → length bytes ≤ o
@@ -66,9 +66,8 @@ reads_end (Some xs) (Some ys) bytes o n told keeps ends none =
 pub put_on : (old mid new : SinkView) (bytes piece : List ℕ) (o n : ℕ) (r : Result Unit Ended) → Sent old mid (to_sink 0 (take o bytes)) → piece ≡ take n (drop o bytes) →
     Puts mid new (to_sink 0 piece) r → Puts old new (to_sink 0 (take (o + n) bytes)) r
 put_on old mid new bytes piece o n r gained is put =
-    let Q : List (ℕ × ℕ) → Type 0 = λ out. Puts old new out r in
     let all : to_sink 0 (take o bytes) ++ to_sink 0 piece ≡ to_sink 0 (take (o + n) bytes) = rw (take-add, to_sink-append, is) refl in
-    subst Q all (Puts-append old mid new (to_sink 0 (take o bytes)) (to_sink 0 piece) r gained put)
+    rw (← all) (Puts-append old mid new (to_sink 0 (take o bytes)) (to_sink 0 piece) r gained put)
 
 -- While bytes are written, lengths are told as at the first of them.
 same_copied : (s now : State) (k : ℕ) (rest : List Task) (o : ℕ) → SameLengths s now → SameLengths (copied s k rest o) now
@@ -116,13 +115,11 @@ module _ (g : Setting) (s : State) (k : ℕ) (rest : List Task) (at : s.tasks �
       o ≤ length (g.files k) → length (g.files k) ≤ o → Sent old new (to_sink 0 (take o (g.files k))) →
       Ran l g s (record s { tasks = rest; turns = turns }) old new
   copied_all l old new o turns f are fits inside all gained =
-      let R : ℕ → Type 0 = λ n. Ran l g s (record s { tasks = rest; turns = n }) old new in
       let here : WithinLimits l (copied s k rest o) = record { pattern = f.pattern; hold = f.hold; queue = f.queue; turns = omega arith } in
       let there : WithinLimits l (record s { tasks = rest; turns = s.turns + o }) = record { pattern = f.pattern; hold = f.hold; queue = f.queue; turns = omega arith } in
       let last = ran_quietly l g (copied s k rest o) _ new here (at_end o all) there in
-      let M : State → Type 0 = λ m. Ran l g m (record s { tasks = rest; turns = s.turns + o }) new new in
-      subst R (sym are) (chain l g s _ old new new o (Ok tt) (within_copied l o inside f (omega arith)) (one_copied o inside)
-      (rw (written_copied o inside) gained) (subst M (sym (after_copied o inside)) last))
+      rw are (chain l g s _ old new new o (Ok tt) (within_copied l o inside f (omega arith)) (one_copied o inside)
+      (rw (written_copied o inside) gained) (rw (after_copied o inside) last))
 
   -- a further byte is due, and no turn is left
   pub copied_spent : (l : Limits) (now : State) (old new : SinkView) (o : ℕ) → WithinLimits l s → s.turns + o ≡ l.turns → o < length (g.files k) →
@@ -132,17 +129,14 @@ module _ (g : Setting) (s : State) (k : ℕ) (rest : List Task) (at : s.tasks �
       let here : WithinLimits l m = record { pattern = f.pattern; hold = f.hold; queue = f.queue; turns = omega arith } in
       let due : takes_turn g m m.tasks ≡ true = ap is_some (slice_get-get_or (g.files k) o 0 inside) in
       let last = stopped_here l g m now new TurnsSpent here refl (spent, due) (same_copied s now k rest o same) lines in
-      let M : State → Type 0 = λ m. Stopped l g m now new new TurnsSpent in
       chain l g s now old new new o (Err TurnsSpent) (within_copied l o (omega arith) f (omega arith)) (one_copied o (omega arith))
-      (rw (written_copied o (omega arith)) gained) (subst M (sym (after_copied o (omega arith))) last)
+      (rw (written_copied o (omega arith)) gained) (rw (after_copied o (omega arith)) last)
 
   -- the sink took no more at one of the first n bytes
   pub copied_broken : (l : Limits) (now : State) (old new : SinkView) (n : ℕ) (end : Ended) → WithinLimits l s → s.turns + n ≤ l.turns → n ≤ length (g.files k) →
       Puts old new (to_sink 0 (take n (g.files k))) (Err end) → SameLengths s now → s.lines ≡ now.lines → Stopped l g s now old new end
   copied_broken l now old new n end f fits inside (j, b, byte, end_is, due, sent) same lines =
       let file : List ℕ = g.files k in
-      let C : Option ℕ → Type 0 = λ o. WholeOrBrokenOff l g s (take b (to_sink 0 (take n file))) end b o in
-      let H : Option ℕ → Type 0 = λ o. HoldsAt g s b now o in
       let lt : b < n = let within = slice_get_within (to_sink 0 (take n file)) b (j, byte) due in omega (arith, length-to_sink 0 (take n file), length-take-le n file inside) in
       let less : b ≤ length file = omega arith in
       let more : suc b ≤ length file = omega arith in
@@ -161,8 +155,8 @@ module _ (g : Setting) (s : State) (k : ℕ) (rest : List Task) (at : s.tasks �
         t = b;
         out = take b (to_sink 0 (take n file));
         sinks = sent;
-        cause = subst C (sym end_is) cut;
-        holds = subst H (sym end_is) (inl here);
+        cause = rw end_is cut;
+        holds = rw end_is (inl here);
         one = one_copied b less;
         lines = ap (λ (x : State). x.lines) (after_copied b less) ∙ lines;
       }

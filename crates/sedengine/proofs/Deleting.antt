@@ -1,5 +1,5 @@
 -- The pattern space is deleted, or its first line, and a cycle starts.
-use Rattle.std.proofs.Common.{◌≡◌, ℕ, zero, suc, Bool, true, false, cond, List, [], ◌∷◌, length, Option, Some, Result, Err, refl, subst, sym, ap, ◌∙◌, arith}
+use Rattle.std.proofs.Common.{◌≡◌, ℕ, zero, suc, Bool, true, false, cond, List, [], ◌∷◌, length, Option, Some, Result, Err, refl, subst, ap, ◌∙◌, arith}
 use Rattle.std.specs.Prelude.{slice_get, ◌||◌}
 use Rattle.std.specs.Option.{unwrap_or}
 use Rattle.std.specs.List.{Contains, after_first, list_any}
@@ -81,22 +81,18 @@ pub cut_seen : (a : Inside) (e : RunState) (files : ℕ → List ℕ) (ls : List
     acts (run_setting e files) (at_lines e ls) true (Plain DeleteFirst) ≡ quietly (then_do (flush ∷ rebegin ∷ []) (at_lines (with_pattern e c1.bytes) ls))
 cut_seen a e files ls c1 seen there is =
     let same : a.pattern.bytes ≡ e.state.pattern = ap (λ (e : RunState). e.state.pattern) seen in
-    let N : List ℕ → Type 0 = λ bytes. list_any is_newline bytes ≡ true in
-    cut_is e files ls c1 (subst N same (newline_there a.pattern.bytes there)) (ap (λ (c : Contents). c.bytes) is ∙ ap (λ bytes. after_first is_newline bytes) same)
+    cut_is e files ls c1 (rw (← same) (newline_there a.pattern.bytes there)) (ap (λ (c : Contents). c.bytes) is ∙ ap (λ bytes. after_first is_newline bytes) same)
 
 -- without a newline the space stays, and `D` is `d`
 pub uncut_performs : (a : Inside) (e e' : RunState) (files : ℕ → List ℕ) (ls : List (List ℕ)) (c1 : Contents) (sinks sinks' : SinkView) (r : Result Unit Ended) → run_of a ≡ e → HasNoNewline a.pattern.bytes → c1 ≡ a.pattern →
     MakesMove a.limits (run_setting (run_of a) files) (acts (run_setting (run_of a) files) (at_lines (run_of (record a { pattern = c1 })) ls) true (Plain Delete)) (at_lines (run_of (record a { pattern = c1 })) ls) (at_lines e' ls) sinks sinks' r →
     MakesMove e.limits (run_setting e files) (acts (run_setting e files) (at_lines e ls) true (Plain DeleteFirst)) (at_lines e ls) (at_lines e' ls) sinks sinks' r
 uncut_performs a e e' files ls c1 sinks sinks' r seen absent is h =
-    let Q : RunState → Type 0 = λ e. MakesMove e.limits (run_setting e files) (acts (run_setting e files) (at_lines e ls) true (Plain DeleteFirst)) (at_lines e ls) (at_lines e' ls) sinks sinks' r in
     let S : Contents → Type 0 = λ c1. MakesMove a.limits (run_setting (run_of a) files) (acts (run_setting (run_of a) files) (at_lines (run_of (record a { pattern = c1 })) ls) true (Plain Delete)) (at_lines (run_of (record a { pattern = c1 })) ls) (at_lines e' ls) sinks sinks' r in
-    let O : Option Move → Type 0 = λ o. MakesMove a.limits (run_setting (run_of a) files) o (at_lines (run_of a) ls) (at_lines e' ls) sinks sinks' r in
-    subst Q seen (subst O (sym (uncut_is (run_of a) files ls (newline_absent a.pattern.bytes absent))) (subst S is h))
+    rw (← seen) (rw (uncut_is (run_of a) files ls (newline_absent a.pattern.bytes absent)) (subst S is h))
 
 -- the text of `c`, as the engine is seen
 pub text_put : (a : Inside) (e : RunState) (text : ℕ) (bytes : List ℕ) (old new : SinkView) (r : Result Unit Ended) → run_of a ≡ e → slice_get a.script.texts text ≡ Some bytes → Puts old new (line_to 0 bytes) r →
     Puts old new (line_to 0 (unwrap_or (slice_get e.script.texts text) [])) r
 text_put a e text bytes old new r seen there h =
-    let Q : RunState → Type 0 = λ e. Puts old new (line_to 0 (unwrap_or (slice_get e.script.texts text) [])) r in
-    subst Q seen (rw there h)
+    rw (← seen) (rw there h)

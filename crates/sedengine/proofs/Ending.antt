@@ -1,5 +1,5 @@
 -- The queue is written, and a cycle, or the run, ends.
-use Rattle.std.proofs.Common.{◌≡◌, ℕ, ◌+◌, ◌<◌, ◌≤◌, true, false, cond, List, [], ◌∷◌, ◌++◌, length, length-append, Option, Result, Ok, Err, refl, subst, sym, ap, ◌∙◌, arith}
+use Rattle.std.proofs.Common.{◌≡◌, ℕ, ◌+◌, ◌<◌, ◌≤◌, false, cond, List, [], ◌∷◌, ◌++◌, length, length-append, Option, Result, Ok, Err, refl, ap, ◌∙◌, arith}
 use Rattle.std.specs.Prelude.{OnOk, OnErr, slice_get}
 use Rattle.std.proofs.lemmas.Option.{slice_get_past}
 use Rattle.sedspace.specs.Spaces.{Entries}
@@ -11,8 +11,7 @@ use Rattle.sedengine.specs.Held.{SameLengths}
 use Rattle.sedengine.specs.Meters.{Sent, SinkView}
 use Rattle.sedengine.specs.Calls.{Puts}
 use Rattle.sedengine.specs.Run.{RunState, at_lines, run_setting, starts_cycle}
-use Rattle.sedengine.specs.Steps.{at_end, takes_turn, Moves, MakesMove, costs, weight}
-use Rattle.sedengine.specs.Flushing.{FlushesQueue}
+use Rattle.sedengine.specs.Steps.{MovesTo, at_end, Moves, MakesMove, costs, weight}
 use Rattle.sedengine.specs.Queueing.{flushed, with_turns}
 use Rattle.sedengine.specs.Inside.{run_of, tasks_of, entries_of, IsConsistent, CommandQueues}
 use Rattle.sedengine.specs.declared.machine.Machine.TheInside.{Inside}
@@ -26,28 +25,24 @@ use Rattle.sedengine.proofs.Tasks.{fits_of, fits_tasks}
 
 -- what is known of the fields holds of the engine as it is seen
 pub fits_seen : (a : Inside) (e : RunState) (ls : List (List ℕ)) → run_of a ≡ e → IsConsistent a → WithinLimits e.limits (at_lines e ls)
-fits_seen a e ls seen i = let Q : RunState → Type 0 = λ e. WithinLimits e.limits (at_lines e ls) in subst Q seen (fits_of a ls i)
+fits_seen a e ls seen i = rw (← seen) (fits_of a ls i)
 
 -- a state that has these tasks already
 pub then_same : (s : State) (ts : List Task) → s.tasks ≡ ts → then_do ts s ≡ s
-then_same s ts h = let Q : List Task → Type 0 = λ ts. then_do ts s ≡ s in subst Q h refl
+then_same s ts h = rw (← h) refl
 
 -- The queue of an engine with the fields a is written.
 pub flush_moves : (a : Inside) (e e' : RunState) (g : Setting) (ls : List (List ℕ)) (rest : List Task) (turns : ℕ) (sinks sinks' : SinkView) (r : Result Unit Ended) → run_of a ≡ e → IsConsistent a →
-    ((s : State) (rest : List Task) → s.tasks ≡ flush ∷ rest → s.queue ≡ entries_of a.script a.queue.items → s.turns ≡ a.turns → WithinLimits a.limits s → FlushesQueue a.limits g s (record s { queue = []; tasks = rest; turns = turns }) sinks sinks' r) →
+    ((s : State) (rest : List Task) → s.tasks ≡ flush ∷ rest → s.queue ≡ entries_of a.script a.queue.items → s.turns ≡ a.turns → WithinLimits a.limits s → MovesTo a.limits g s (record s { queue = []; tasks = rest; turns = turns }) s sinks sinks' r) →
     OnOk r (e' ≡ flushed e turns) → OnErr r (e' ≡ with_turns e turns) →
     Moves e.limits g (then_do (flush ∷ rest) (at_lines e ls)) (then_do rest (at_lines e' ls)) sinks sinks' r
 flush_moves a e e' g ls rest turns sinks sinks' (Ok u) seen i h ok err =
-    let Q : RunState → Type 0 = λ e'. Moves e.limits g (then_do (flush ∷ rest) (at_lines e ls)) (then_do rest (at_lines e' ls)) sinks sinks' (Ok u) in
-    let S : RunState → Type 0 = λ e. Moves e.limits g (then_do (flush ∷ rest) (at_lines e ls)) (then_do rest (at_lines (flushed e turns) ls)) sinks sinks' (Ok u) in
     let f = fits_tasks a.limits (at_lines (run_of a) ls) (flush ∷ rest) (fits_of a ls i) in
-    subst Q (sym ok) (subst S seen (h (then_do (flush ∷ rest) (at_lines (run_of a) ls)) rest refl refl refl f))
+    rw ok (rw (← seen) (h (then_do (flush ∷ rest) (at_lines (run_of a) ls)) rest refl refl refl f))
 flush_moves a e e' g ls rest turns sinks sinks' (Err end) seen i h ok err =
-    let Q : RunState → Type 0 = λ e'. Moves e.limits g (then_do (flush ∷ rest) (at_lines e ls)) (then_do rest (at_lines e' ls)) sinks sinks' (Err end) in
-    let S : RunState → Type 0 = λ e. Moves e.limits g (then_do (flush ∷ rest) (at_lines e ls)) (then_do rest (at_lines (with_turns e turns) ls)) sinks sinks' (Err end) in
     let f = fits_tasks a.limits (at_lines (run_of a) ls) (flush ∷ rest) (fits_of a ls i) in
     let s : State = then_do (flush ∷ rest) (at_lines (run_of a) ls) in
-    subst Q (sym err) (subst S seen (Stopped-as a.limits g s s (then_do rest (at_lines (with_turns (run_of a) turns) ls)) sinks sinks' end refl refl refl refl (h s rest refl refl refl f)))
+    rw err (rw (← seen) (Stopped-as a.limits g s s (then_do rest (at_lines (with_turns (run_of a) turns) ls)) sinks sinks' end refl refl refl refl (h s rest refl refl refl f)))
 
 -- The pattern space is written, and then what comes after it.
 pub print_moves : (e e' : RunState) (files : ℕ → List ℕ) (ls : List (List ℕ)) (rest : List Task) (old mid new : SinkView) (r : Result Unit Ended) → WithinLimits e.limits (at_lines e ls) →
@@ -81,12 +76,11 @@ pub finished : (e e' final : RunState) (files : ℕ → List ℕ) (ls : List (Li
     Moves e.limits (run_setting e files) (then_do at_end (at_lines e ls)) (then_do (empty_pattern ∷ begin ∷ []) (at_lines e' ls)) old new (Ok tt) → final ≡ emptied e' →
     Moves e.limits (run_setting e files) (at_lines e ls) (at_lines final ls) old new (Ok tt)
 finished e e' final files ls k old new at over h is =
-    let Q : RunState → Type 0 = λ final. Moves e.limits (run_setting e files) (at_lines e ls) (at_lines final ls) old new (Ok tt) in
     let g : Setting = run_setting e files in
     let m : State = then_do (empty_pattern ∷ begin ∷ []) (at_lines e' ls) in
     let f = moves_fits e.limits g (then_do at_end (at_lines e ls)) m old new (Ok tt) h in
     let f' = ran_fits_now e.limits g (then_do at_end (at_lines e ls)) m old new h in
-    subst Q (sym is) (end_moves e files ls k (at_lines (emptied e') ls) old new (Ok tt) (record { pattern = f.pattern; hold = f.hold; queue = f.queue; turns = f.turns }) at over
+    rw is (end_moves e files ls k (at_lines (emptied e') ls) old new (Ok tt) (record { pattern = f.pattern; hold = f.hold; queue = f.queue; turns = f.turns }) at over
     (Moves-then e.limits g (then_do at_end (at_lines e ls)) m (at_lines (emptied e') ls) old new new (Ok tt) h refl
     (ran_quietly e.limits g m (at_lines (emptied e') ls) new f' (move_at _ _ _ refl) (record { pattern = omega arith; hold = f'.hold; queue = f'.queue; turns = f'.turns }))))
 
@@ -103,27 +97,22 @@ finish_stopped e e' files ls k rest old new end at over h =
 pub quits : (e e' : RunState) (g : Setting) (ls : List (List ℕ)) (sinks sinks' : SinkView) (now : State) (r : Result Unit Ended) → e.state.tasks ≡ print_pattern ∷ flush ∷ [] →
     Moves e.limits g (then_do (print_pattern ∷ flush ∷ []) (at_lines e ls)) now sinks sinks' r → Moves e.limits g (at_lines e ls) now sinks sinks' r
 quits e e' g ls sinks sinks' now r at h =
-    let Q : State → Type 0 = λ s. Moves e.limits g s now sinks sinks' r in
-    subst Q (then_same (at_lines e ls) (print_pattern ∷ flush ∷ []) at) h
+    rw (← (then_same (at_lines e ls) (print_pattern ∷ flush ∷ []) at)) h
 
 -- a cycle starts with the pattern space as it is
 pub rebegins : (a : Inside) (e : RunState) (g : Setting) (ls : List (List ℕ)) (sinks : SinkView) (e' : RunState) → run_of a ≡ e → IsConsistent a → e.state.tasks ≡ rebegin ∷ [] → (a.turns ≡ a.limits.turns → ⊥) →
     e' ≡ record e { state = record e.state { tasks = do_at 0 ∷ []; turns = e.state.turns + 1 } } → Moves e.limits g (at_lines e ls) (at_lines e' ls) sinks sinks (Ok tt)
 rebegins a e g ls sinks e' seen i at more is =
-    let Q : RunState → Type 0 = λ e'. Moves e.limits g (at_lines e ls) (at_lines e' ls) sinks sinks (Ok tt) in
     let f = fits_seen a e ls seen i in
     let most = i.turns in
     let less : a.turns + 1 ≤ a.limits.turns = omega arith in
-    let L : RunState → Type 0 = λ e. e.state.turns + 1 ≤ e.limits.turns in
-    subst Q (sym is) (ran_quietly e.limits g (at_lines e ls) _ sinks f (move_at _ _ _ at) (record { pattern = f.pattern; hold = f.hold; queue = f.queue; turns = subst L seen less }))
+    rw is (ran_quietly e.limits g (at_lines e ls) _ sinks f (move_at _ _ _ at) (record { pattern = f.pattern; hold = f.hold; queue = f.queue; turns = rw (← seen) less }))
 
 pub rebegin_spent : (a : Inside) (e : RunState) (g : Setting) (ls : List (List ℕ)) (sinks : SinkView) → run_of a ≡ e → IsConsistent a → e.state.tasks ≡ rebegin ∷ [] → a.turns ≡ a.limits.turns →
     Moves e.limits g (at_lines e ls) (at_lines e ls) sinks sinks (Err TurnsSpent)
 rebegin_spent a e g ls sinks seen i at spent =
     let f = fits_seen a e ls seen i in
-    let L : RunState → Type 0 = λ e. e.state.turns ≡ e.limits.turns in
-    let T : List Task → Type 0 = λ ts. takes_turn g (at_lines e ls) ts ≡ true in
-    stopped_here e.limits g (at_lines e ls) (at_lines e ls) sinks TurnsSpent f refl (subst L seen spent, subst T (sym at) refl) (record { pattern = refl; hold = refl; queue = λ _. refl; entries = omega arith }) refl
+    stopped_here e.limits g (at_lines e ls) (at_lines e ls) sinks TurnsSpent f refl (rw (← seen) spent, rw at refl) (record { pattern = refl; hold = refl; queue = λ _. refl; entries = omega arith }) refl
 
 -- A command that makes a move which writes these bytes, and then what h says.
 pub acts_then : (l : Limits) (g : Setting) (o : Option Move) (there m now : State) (old mid new : SinkView) (out : List (ℕ × ℕ)) (r : Result Unit Ended) → o ≡ writing out m → WithinLimits l m → Sent old mid out → starts_cycle m.tasks ≡ false →
@@ -166,10 +155,7 @@ queue_is_run a q k (Err f) i h ok room err = rw err i
 -- the tasks that a place stands for weigh little
 place_costs : (next_step : NextStep) → costs (tasks_of next_step) ≤ 2
 place_costs p.Begin = omega arith
-place_costs p.Rebegin = omega arith
-place_costs (p.Do k) = omega arith
-place_costs p.Quit = omega arith
-place_costs p.Ended = omega arith
+place_costs other = omega arith
 
 -- turns were taken, and the engine goes on at this place
 pub weight_ended : (e e' : RunState) (next_step : NextStep) → e'.limits ≡ e.limits → e.state.turns ≤ e'.state.turns → e'.state.tasks ≡ tasks_of next_step → weight e' ≤ weight e + 8
@@ -180,16 +166,11 @@ weight_ended e e' next_step limits later tasks =
 
 -- a command that queues is one of the engine's script
 pub queues_seen : (a : Inside) (e : RunState) (k : ℕ) → run_of a ≡ e → CommandQueues (slice_get e.script.commands k) → CommandQueues (slice_get a.script.commands k)
-queues_seen a e k seen h = let Q : RunState → Type 0 = λ e. CommandQueues (slice_get e.script.commands k) in subst Q (sym seen) h
-
--- what is printed by default, as the engine is seen
-pub printed_by : (a : Inside) (e : RunState) (old new : SinkView) (r : Result Unit Ended) → run_of a ≡ e → Puts old new (cond a.script.quiet [] (line_to 0 a.pattern.bytes)) r →
-    Puts old new (cond e.script.quiet [] (line_to 0 e.state.pattern)) r
-printed_by a e old new r seen h = let Q : RunState → Type 0 = λ e. Puts old new (cond e.script.quiet [] (line_to 0 e.state.pattern)) r in subst Q seen h
+queues_seen a e k seen h = rw (← seen) at h
 
 -- what is written, as the engine is seen
 pub puts_seen : (a : Inside) (e : RunState) (f : RunState → List (ℕ × ℕ)) (sinks sinks' : SinkView) (r : Result Unit Ended) → run_of a ≡ e → Puts sinks sinks' (f (run_of a)) r → Puts sinks sinks' (f e) r
-puts_seen a e f sinks sinks' r seen h = let Q : RunState → Type 0 = λ e. Puts sinks sinks' (f e) r in subst Q seen h
+puts_seen a e f sinks sinks' r seen h = rw (← seen) h
 
 -- an end that came while the queue was written is told of the engine, whatever it was to do next
 pub stopped_anyway : (l : Limits) (g : Setting) (s : State) (e : RunState) (ls : List (List ℕ)) (rest : List Task) (sinks sinks' : SinkView) (end : Ended) → Moves l g s (then_do rest (at_lines e ls)) sinks sinks' (Err end) → Moves l g s (at_lines e ls) sinks sinks' (Err end)

@@ -1,5 +1,5 @@
 -- Entries of the queue, written one after another.
-use Rattle.std.proofs.Common.{◌≡◌, ℕ, ◌+◌, ◌≤◌, false, List, [], ◌∷◌, length, Option, Some, None, Result, Ok, Err, refl, subst, sym, ap, ◌∙◌, arith}
+use Rattle.std.proofs.Common.{◌≡◌, ℕ, ◌+◌, ◌≤◌, false, List, [], ◌∷◌, length, Option, Some, None, Result, Ok, Err, refl, ap, ◌∙◌, arith}
 use Rattle.std.specs.Io.KnownBytes.{Keeps}
 use Rattle.sedengine.specs.State.{Limits, Entry, text, file, Task, flush, copy, State, Setting, TellsFiles}
 use Rattle.sedengine.specs.Move.{next_move, after, written, flushes, line_to}
@@ -8,8 +8,7 @@ use Rattle.sedengine.specs.Calls.{Puts}
 use Rattle.sedengine.specs.Ends.{WithinLimits, Within}
 use Rattle.sedengine.specs.Held.{SameLengths}
 use Rattle.sedengine.specs.Run.{InOneCycle, starts_cycle}
-use Rattle.sedengine.specs.Steps.{Ran, Moves}
-use Rattle.sedengine.specs.Flushing.{CopiesEntry}
+use Rattle.sedengine.specs.Steps.{MovesTo, Ran, Moves}
 use Rattle.sedengine.specs.declared.ends.Ended.{Ended}
 use Rattle.sedengine.proofs.Sending.{Sent-append, Sent-none}
 use Rattle.sedengine.proofs.Moves.{chain, ran_once, ran_quietly, stopped_writing, Moves-then, move_at, after-add, written-add, Within-add, InOneCycle-add, InOneCycle-more, after_none, written_none, within_none, one_single}
@@ -47,11 +46,10 @@ module _ (l : Limits) (g : Setting) (s : State) (rest : List Task) (entry : Entr
 
   -- a text is written
   pub text_written : (bytes : List ℕ) (now : State) (old new : SinkView) (turns : ℕ) (r : Result Unit Ended) → entry ≡ text bytes → turns ≡ s.turns → SameLengths s now → s.lines ≡ now.lines →
-      Puts old new (line_to 0 bytes) r → CopiesEntry l g s (at_entries s later (flush ∷ rest) turns) now old new r
+      Puts old new (line_to 0 bytes) r → MovesTo l g s (at_entries s later (flush ∷ rest) turns) now old new r
   text_written bytes now old new turns (Ok u) is same_turns same lines put =
-      let T : ℕ → Type 0 = λ n. Ran l g s (at_entries s later (flush ∷ rest) n) old new in
       let next = at_entries s later (flush ∷ rest) s.turns in
-      subst T (sym same_turns) (ran_once l g s next old new (line_to 0 bytes) f (next_entry ∙ ap (λ e. flushes s rest (e ∷ later)) is) (fits_later l s later (flush ∷ rest) s.turns f shorter f.turns) put)
+      rw same_turns (ran_once l g s next old new (line_to 0 bytes) f (next_entry ∙ ap (λ e. flushes s rest (e ∷ later)) is) (fits_later l s later (flush ∷ rest) s.turns f shorter f.turns) put)
   text_written bytes now old new turns (Err end) is same_turns same lines put =
       let next = at_entries s later (flush ∷ rest) s.turns in
       stopped_writing l g s next now old new (line_to 0 bytes) end f (next_entry ∙ ap (λ e. flushes s rest (e ∷ later)) is) (fits_later l s later (flush ∷ rest) s.turns f shorter f.turns)
@@ -60,8 +58,8 @@ module _ (l : Limits) (g : Setting) (s : State) (rest : List Task) (entry : Entr
   -- a file is written, by a call from the state in which it stands first
   pub file_written : (k : ℕ) (now : State) (old new : SinkView) (turns : ℕ) (r : Result Unit Ended) → entry ≡ file k → SameLengths s now →
       (WithinLimits l (at_entries s later (copy k 0 ∷ flush ∷ rest) s.turns) → SameLengths (at_entries s later (copy k 0 ∷ flush ∷ rest) s.turns) now →
-      CopiesEntry l g (at_entries s later (copy k 0 ∷ flush ∷ rest) s.turns) (at_entries s later (flush ∷ rest) turns) now old new r) →
-      CopiesEntry l g s (at_entries s later (flush ∷ rest) turns) now old new r
+      MovesTo l g (at_entries s later (copy k 0 ∷ flush ∷ rest) s.turns) (at_entries s later (flush ∷ rest) turns) now old new r) →
+      MovesTo l g s (at_entries s later (flush ∷ rest) turns) now old new r
   file_written k now old new turns r is same call =
       let m = at_entries s later (copy k 0 ∷ flush ∷ rest) s.turns in
       let fits = fits_later l s later (copy k 0 ∷ flush ∷ rest) s.turns f shorter f.turns in
@@ -69,8 +67,8 @@ module _ (l : Limits) (g : Setting) (s : State) (rest : List Task) (entry : Entr
       go r opened (call fits (same_opened s now later k (flush ∷ rest) same shorter))
     where
       go : (r : Result Unit Ended) → Ran l g s (at_entries s later (copy k 0 ∷ flush ∷ rest) s.turns) old old →
-          CopiesEntry l g (at_entries s later (copy k 0 ∷ flush ∷ rest) s.turns) (at_entries s later (flush ∷ rest) turns) now old new r →
-          CopiesEntry l g s (at_entries s later (flush ∷ rest) turns) now old new r
+          MovesTo l g (at_entries s later (copy k 0 ∷ flush ∷ rest) s.turns) (at_entries s later (flush ∷ rest) turns) now old new r →
+          MovesTo l g s (at_entries s later (flush ∷ rest) turns) now old new r
       go (Ok u) opened h = Moves-then l g s _ _ old old new (Ok u) opened refl h
       go (Err end) opened h = Moves-then l g s _ _ old old new (Err end) opened refl h
 
@@ -88,8 +86,7 @@ reached_none l g s sinks f = record { t = 0; is = after_none g s; one = one_sing
 -- a call that makes moves from there, within the cycle
 pub reached_more : (l : Limits) (g : Setting) (s m m' : State) (old mid new : SinkView) → Reached l g s m old mid → Ran l g m m' mid new → starts_cycle m'.tasks ≡ false → Reached l g s m' old new
 reached_more l g s m m' old mid new a b goes =
-    let M : State → Type 0 = λ m. Ran l g m m' mid new in
-    let h = subst M (sym a.is) b in
+    let h : Ran l g (after g s a.t) m' mid new = rw a.is b in
     let at = after-add g s a.t h.t ∙ h.is in
     record {
       t = a.t + h.t;
@@ -102,25 +99,22 @@ reached_more l g s m m' old mid new a b goes =
 -- the last call
 pub reached_last : (l : Limits) (g : Setting) (s m now : State) (old mid new : SinkView) (r : Result Unit Ended) → Reached l g s m old mid → Moves l g m now mid new r → Moves l g s now old new r
 reached_last l g s m now old mid new r a b =
-    let M : State → Type 0 = λ m. Moves l g m now mid new r in
-    chain l g s now old mid new a.t r a.within a.one a.gained (subst M (sym a.is) b)
+    chain l g s now old mid new a.t r a.within a.one a.gained (rw a.is b)
 
 -- a queue before its first entry is written
 pub flush_begun : (l : Limits) (g : Setting) (s : State) (later : List Entry) (rest : List Task) (turns : ℕ) (sinks : SinkView) → s.tasks ≡ flush ∷ rest → s.queue ≡ later → s.turns ≡ turns → WithinLimits l s →
     Reached l g s (at_entries s later (flush ∷ rest) turns) sinks sinks
 flush_begun l g s later rest turns sinks at queue same f =
-    let R : State → Type 0 = λ m. Reached l g s m sinks sinks in
     let is : s ≡ at_entries s later (flush ∷ rest) turns =
     ap (λ q. at_entries s q s.tasks s.turns) queue ∙ ap (λ ts. at_entries s later ts s.turns) at ∙ ap (λ n. at_entries s later (flush ∷ rest) n) same in
-    subst R is (reached_none l g s sinks f)
+    rw (← is) (reached_none l g s sinks f)
 
 -- a queue whose entries all were written
 pub flush_done : (l : Limits) (g : Setting) (s : State) (later : List Entry) (rest : List Task) (turns : ℕ) (old new : SinkView) → WithinLimits l s → turns ≤ l.turns → later ≡ [] →
     Reached l g s (at_entries s later (flush ∷ rest) turns) old new → Ran l g s (at_entries s [] rest turns) old new
 flush_done l g s later rest turns old new f most none a =
-    let R : List Entry → Type 0 = λ q. Reached l g s (at_entries s q (flush ∷ rest) turns) old new in
     let m = at_entries s [] (flush ∷ rest) turns in
     let here = fits_later l s [] (flush ∷ rest) turns f (omega arith) most in
     let there = fits_later l s [] rest turns f (omega arith) most in
-    reached_last l g s m (at_entries s [] rest turns) old new new (Ok tt) (subst R none a)
+    reached_last l g s m (at_entries s [] rest turns) old new new (Ok tt) (rw none at a)
     (ran_quietly l g m (at_entries s [] rest turns) new here (move_at g m (flush ∷ rest) refl) there)

@@ -1,5 +1,5 @@
 -- What sinks gain, by parts.
-use Rattle.std.proofs.Common.{◌≡◌, ◌≢◌, ℕ, suc, zero, ◌<◌, ◌⊎◌, inl, inr, true, false, cond, List, [], ◌∷◌, ◌++◌, length, take, Option, Some, None, refl, subst, sym, ap, ◌∙◌, append_assoc, append-nil, arith, rules}
+use Rattle.std.proofs.Common.{◌≡◌, ◌≢◌, ℕ, suc, zero, ◌<◌, ◌⊎◌, inl, inr, true, false, cond, List, [], ◌∷◌, ◌++◌, length, take, Option, Some, None, refl, sym, ap, ◌∙◌, append_assoc, append-nil, arith, rules}
 use Rattle.std.specs.Prelude.{nat_eq, slice_get}
 use Rattle.std.proofs.lemmas.Bool.Decides.{nat_tests}
 use Rattle.std.specs.Io.KnownBytes.{Appends, Keeps}
@@ -38,8 +38,7 @@ Keeps-same (Some xs) = refl
 -- one gain after another
 pub Gained-append : {old mid new : ℕ → Option (List ℕ)} {xs ys : List (ℕ × ℕ)} → Gained old mid xs → Gained mid new ys → Gained old new (xs ++ ys)
 Gained-append {old} {mid} {new} {xs} {ys} a b = record {
-  each = λ k. let P : List ℕ → Type 0 = λ l. Appends (old k) (new k) l in
-      subst P (sym (part-append k xs ys)) (Appends-append (old k) (mid k) (new k) _ _ (a.each k) (b.each k));
+  each = λ k. rw (part-append k xs ys) (Appends-append (old k) (mid k) (new k) _ _ (a.each k) (b.each k));
 }
 
 pub Gained-none : (old : ℕ → Option (List ℕ)) → Gained old old []

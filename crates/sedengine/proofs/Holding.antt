@@ -1,5 +1,5 @@
 -- What the commands of the hold space do is a move.
-use Rattle.std.proofs.Common.{◌≡◌, ℕ, ◌≤◌, List, length, Option, Result, Ok, Err, refl, subst, sym, ◌∙◌}
+use Rattle.std.proofs.Common.{◌≡◌, ℕ, ◌≤◌, List, length, Option, Result, Ok, Err, refl, sym, ◌∙◌}
 use Rattle.sedengine.specs.State.{Move, Setting}
 use Rattle.sedengine.specs.Move.{quietly}
 use Rattle.sedengine.specs.Ends.{WithinLimits}
@@ -23,8 +23,7 @@ module _ (e : RunState) (ls : List (List ℕ)) (fits : WithinLimits e.limits (at
   leads : (pattern hold : List ℕ) (e' : RunState) → e' ≡ holding e pattern hold → length pattern ≤ e.limits.space → length hold ≤ e.limits.space → o ≡ quietly (at_lines (holding e pattern hold) ls) →
       MakesMove e.limits g o (at_lines e ls) (at_lines e' ls) sinks sinks (Ok tt)
   leads pattern hold e' same short short' is =
-      let Q : RunState → Type 0 = λ e'. MakesMove e.limits g o (at_lines e ls) (at_lines e' ls) sinks sinks (Ok tt) in
-      subst Q (sym same) (acts_leading e ls fits g sinks sinks o (holding e pattern hold) (record { pattern = short; hold = short'; queue = fits.queue; turns = fits.turns }) is)
+      acts_leading e ls fits g sinks sinks o (holding e pattern hold) e' same (record { pattern = short; hold = short'; queue = fits.queue; turns = fits.turns }) is
 
   -- `g`
   pub acts_copying : (e' : RunState) → e' ≡ holding e e.state.hold e.state.hold → o ≡ quietly (at_lines (holding e e.state.hold e.state.hold) ls) →
@@ -46,11 +45,9 @@ module _ (e : RunState) (ls : List (List ℕ)) (fits : WithinLimits e.limits (at
       MakesMove e.limits g o (at_lines e ls) (at_lines e' ls) sinks sinks r
   acts_growing pattern hold e' (Ok u) (same, short, short') is = leads pattern hold e' same short short' is
   acts_growing pattern hold e' (Err (PatternFull n)) (same, number, more) is =
-      let Q : RunState → Type 0 = λ e'. MakesMove e.limits g o (at_lines e ls) (at_lines e' ls) sinks sinks (Err (PatternFull n)) in
-      subst Q (sym same) (λ s c first. stopped_here e.limits g s (at_lines e ls) sinks (PatternFull n) c.fits refl
+      rw same (λ s c first. stopped_here e.limits g s (at_lines e ls) sinks (PatternFull n) c.fits refl
       (number ∙ sym c.number ∙ sym (reached_line s s.tasks c.reaches), c.turn, (_, first ∙ is, more)) c.same c.lines)
   acts_growing pattern hold e' (Err (HoldFull n)) (same, number, more) is =
-      let Q : RunState → Type 0 = λ e'. MakesMove e.limits g o (at_lines e ls) (at_lines e' ls) sinks sinks (Err (HoldFull n)) in
-      subst Q (sym same) (λ s c first. stopped_here e.limits g s (at_lines e ls) sinks (HoldFull n) c.fits refl
+      rw same (λ s c first. stopped_here e.limits g s (at_lines e ls) sinks (HoldFull n) c.fits refl
       (number ∙ sym c.number, c.turn, (_, first ∙ is, more)) c.same c.lines)
   acts_growing pattern hold e' (Err other) h is = absurd h

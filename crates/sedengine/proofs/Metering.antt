@@ -72,33 +72,32 @@ sends e e' m m' old new f f' a a' r out limit same frame before now within full 
     }
 
 -- A call of the machine m by the meter, which became m' and led to the machine m', is one of the engine that is seen as e.
-module _ {O : Type 0} (contents : O → ℕ → Option (List ℕ)) (m m' : RunState) (meter meter' : Meter) (e : RunState) (before after now : O) (f f' : ℕ → ℕ) (a a' : Frame) (files : ℕ → List ℕ) (ls : List (List ℕ)) (old new : Input)
-    (seen : record m { sent = meter.sent } ≡ e) (limit : meter.most ≡ m.limits.output) (is : now ≡ after) (same : meter'.most ≡ meter.most) (frame : a'.most ≡ meter'.most) (within : InLimit meter'.most meter'.sent) where
+module _ {O : Type 0} (contents : O → ℕ → Option (List ℕ)) (m m' : RunState) (meter meter' : Meter) (ended ended' : Option Ended) (e : RunState) (before after now : O) (f f' : ℕ → ℕ) (a a' : Frame) (files : ℕ → List ℕ) (ls : List (List ℕ)) (old new : Input)
+    (seen : record m { sent = meter.sent; ended = ended } ≡ e) (limit : meter.most ≡ m.limits.output) (is : now ≡ after) (same : meter'.most ≡ meter.most) (frame : a'.most ≡ meter'.most) (within : InLimit meter'.most meter'.sent) where
   sends_all : (r : Result Unit Ended) → FullSink (tally_of (contents after) f' meter'.most meter'.sent a') r → (out : List (ℕ × ℕ)) →
       Sent (tally_of (contents before) f meter.most meter.sent a) (tally_of (contents after) f' meter'.most meter'.sent a') out →
-      Sends (record m { sent = meter.sent }) (record m' { sent = meter'.sent }) (contents before) (contents now) r out
+      Sends (record m { sent = meter.sent; ended = ended }) (record m' { sent = meter'.sent; ended = ended' }) (contents before) (contents now) r out
   sends_all r full out h =
-      let Q : O → Type 0 = λ o. Sends (record m { sent = meter.sent }) (record m' { sent = meter'.sent }) (contents before) (contents o) r out in
-      subst Q (sym is) (sends (record m { sent = meter.sent }) (record m' { sent = meter'.sent }) meter meter' (contents before) (contents after) f f' a a' r out limit same frame refl refl within full h)
+      rw is (sends (record m { sent = meter.sent; ended = ended }) (record m' { sent = meter'.sent; ended = ended' }) meter meter' (contents before) (contents after) f f' a a' r out limit same frame refl refl within full h)
 
   pub cycles_metered : (left : Option (List (List ℕ))) (r : Progress) → FullSink (tally_of (contents after) f' meter'.most meter'.sent a') (outcome r) →
       (out : List (ℕ × ℕ)) × Sent (tally_of (contents before) f meter.most meter.sent a) (tally_of (contents after) f' meter'.most meter'.sent a') out × Cycles m.limits (run_setting m files) (at_lines m ls) out old new m' left r →
-      (out : List (ℕ × ℕ)) × Sends e (record m' { sent = meter'.sent }) (contents before) (contents now) (outcome r) out
-      × Cycles e.limits (run_setting e files) (at_lines e ls) out old new (record m' { sent = meter'.sent }) left r
+      (out : List (ℕ × ℕ)) × Sends e (record m' { sent = meter'.sent; ended = ended' }) (contents before) (contents now) (outcome r) out
+      × Cycles e.limits (run_setting e files) (at_lines e ls) out old new (record m' { sent = meter'.sent; ended = ended' }) left r
   cycles_metered left r full (out, sent, h) =
-      let Q : RunState → Type 0 = λ e. Sends e (record m' { sent = meter'.sent }) (contents before) (contents now) (outcome r) out × Cycles e.limits (run_setting e files) (at_lines e ls) out old new (record m' { sent = meter'.sent }) left r in
+      let Q : RunState → Type 0 = λ e. Sends e (record m' { sent = meter'.sent; ended = ended' }) (contents before) (contents now) (outcome r) out × Cycles e.limits (run_setting e files) (at_lines e ls) out old new (record m' { sent = meter'.sent; ended = ended' }) left r in
       let both = subst Q seen (sends_all (outcome r) full out sent, cycles_of left r h) in
       (out, both.0, both.1)
     where
       cycles_of : (left : Option (List (List ℕ))) (r : Progress) → Cycles m.limits (run_setting m files) (at_lines m ls) out old new m' left r →
-          Cycles m.limits (run_setting m files) (at_lines m ls) out old new (record m' { sent = meter'.sent }) left r
+          Cycles m.limits (run_setting m files) (at_lines m ls) out old new (record m' { sent = meter'.sent; ended = ended' }) left r
       cycles_of left progress.More h = h
       cycles_of left (progress.Ended end) h = h
 
   pub ending_metered : (end : Ended) → FullSink (tally_of (contents after) f' meter'.most meter'.sent a') (Err end) →
       (out : List (ℕ × ℕ)) × Sent (tally_of (contents before) f meter.most meter.sent a) (tally_of (contents after) f' meter'.most meter'.sent a') out × Ending m.limits (run_setting m files) (at_lines m ls) out old new m'.state end →
-      (out : List (ℕ × ℕ)) × Sends e (record m' { sent = meter'.sent }) (contents before) (contents now) (Err end) out × Ending e.limits (run_setting e files) (at_lines e ls) out old new m'.state end
+      (out : List (ℕ × ℕ)) × Sends e (record m' { sent = meter'.sent; ended = ended' }) (contents before) (contents now) (Err end) out × Ending e.limits (run_setting e files) (at_lines e ls) out old new m'.state end
   ending_metered end full (out, sent, h) =
-      let Q : RunState → Type 0 = λ e. Sends e (record m' { sent = meter'.sent }) (contents before) (contents now) (Err end) out × Ending e.limits (run_setting e files) (at_lines e ls) out old new m'.state end in
+      let Q : RunState → Type 0 = λ e. Sends e (record m' { sent = meter'.sent; ended = ended' }) (contents before) (contents now) (Err end) out × Ending e.limits (run_setting e files) (at_lines e ls) out old new m'.state end in
       let both = subst Q seen (sends_all (Err end) full out sent, h) in
       (out, both.0, both.1)

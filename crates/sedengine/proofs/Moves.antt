@@ -1,5 +1,5 @@
 -- Moves one after another.
-use Rattle.std.proofs.Common.{◌≡◌, ℕ, suc, zero, ◌<◌, ◌+◌, ◌-◌, ◌≤◌, ◌⊎◌, inl, inr, false, List, [], ◌++◌, length, take, Option, Some, None, Result, Ok, Err, refl, subst, sym, ap, ◌∙◌, arith, length-append, append-nil, append_assoc, add-zero, add-suc}
+use Rattle.std.proofs.Common.{◌≡◌, ℕ, suc, zero, ◌<◌, ◌+◌, ◌-◌, ◌≤◌, ◌⊎◌, inl, inr, false, List, [], ◌++◌, length, take, Option, Some, None, Result, Ok, Err, refl, sym, ap, ◌∙◌, arith, length-append, append-nil, append_assoc, add-zero, add-suc}
 use Rattle.std.proofs.Math.Seq.{take-append-add}
 use Rattle.sedengine.specs.State.{Limits, Task, State, Move, Setting}
 use Rattle.sedengine.specs.Move.{next_move, first_task, after, written, writing, quietly}
@@ -84,8 +84,7 @@ InOneCycle-add g s t n h i = λ k some k_lt. elim (less_or_more k t) [ inl less 
     later : (k : ℕ) → t < k → k < t + n → starts_cycle (after g s k).tasks ≡ false
     later k more k_lt =
         let at : k ≡ t + (k - t) = omega arith in
-        let P : ℕ → Type 0 = λ k. starts_cycle (after g s k).tasks ≡ false in
-        subst P (sym at) (rw after-add (i (k - t) (omega arith) (omega arith)))
+        rw at (rw after-add (i (k - t) (omega arith) (omega arith)))
 
 -- none of the moves starts a cycle, the last one too
 pub InOneCycle-more : (g : Setting) (s : State) (t : ℕ) → InOneCycle g s t → starts_cycle (after g s t).tasks ≡ false → InOneCycle g s (t + 1)
@@ -145,9 +144,7 @@ chain l g s now old mid new t (Err end) within one gained b = record {
 pub Moves-then : (l : Limits) (g : Setting) (s m now : State) (old mid new : SinkView) (r : Result Unit Ended) → Ran l g s m old mid → starts_cycle m.tasks ≡ false →
     Moves l g m now mid new r → Moves l g s now old new r
 Moves-then l g s m now old mid new r a goes b =
-    let Q : State → Type 0 = λ m. Moves l g m now mid new r in
-    let S : State → Type 0 = λ m. starts_cycle m.tasks ≡ false in
-    chain l g s now old mid new a.t r a.within (InOneCycle-more g s a.t a.one (subst S (sym a.is) goes)) a.sinks (subst Q (sym a.is) b)
+    chain l g s now old mid new a.t r a.within (InOneCycle-more g s a.t a.one (rw a.is goes)) a.sinks (rw a.is b)
 
 -- one move that writes these bytes
 pub ran_once : (l : Limits) (g : Setting) (s now : State) (old new : SinkView) (out : List (ℕ × ℕ)) → WithinLimits l s → next_move g s ≡ writing out now → WithinLimits l now → Sent old new out → Ran l g s now old new
@@ -170,8 +167,6 @@ ran_quietly l g s now sinks f is n = ran_once l g s now sinks sinks [] f is n (S
 pub stopped_writing : (l : Limits) (g : Setting) (s next now : State) (old new : SinkView) (out : List (ℕ × ℕ)) (end : Ended) → WithinLimits l s → next_move g s ≡ writing out next → WithinLimits l next →
     SameLengths next now → s.lines ≡ now.lines → Puts old new out (Err end) → Stopped l g s now old new end
 stopped_writing l g s next now old new out end f is n same lines (k, b, byte, end_is, due, sent) =
-    let C : Option ℕ → Type 0 = λ o. WholeOrBrokenOff l g s (take b out) end 0 o in
-    let H : Option ℕ → Type 0 = λ o. HoldsAt g s 0 now o in
     let m : Move = record { next = next; writes = out } in
     let at : after g s 1 ≡ next = after_one g s m is in
     let all : written g s 1 ≡ out = written_one g s m is in
@@ -188,8 +183,8 @@ stopped_writing l g s next now old new out end f is n same lines (k, b, byte, en
       t = 0;
       out = take b out;
       sinks = sent;
-      cause = subst C (sym end_is) cut;
-      holds = subst H (sym end_is) (inr last);
+      cause = rw end_is cut;
+      holds = rw end_is (inr last);
       one = one_single g s;
       lines = ap (λ (x : State). x.lines) (after_none g s) ∙ lines;
     }
@@ -204,15 +199,13 @@ moves_writing l g s now old new out (Err end) f is n lines put = stopped_writing
 pub stopped_here : (l : Limits) (g : Setting) (s now : State) (sinks : SinkView) (end : Ended) → WithinLimits l s → named_sink end ≡ None → StopsTask l g s end → SameLengths s now → s.lines ≡ now.lines → Stopped l g s now sinks sinks end
 stopped_here l g s now sinks end f none cause same lines =
     let whole : Whole l g s [] end 0 = record { within = within_none l g s f; wrote = rw written_none refl; cause = rw after_none (cause_is l g s end f cause) } in
-    let C : Option ℕ → Type 0 = λ o. WholeOrBrokenOff l g s [] end 0 o in
     let here : SameLengths (after g s 0) now = rw after_none same in
-    let H : Option ℕ → Type 0 = λ o. HoldsAt g s 0 now o in
     record {
       t = 0;
       out = [];
       sinks = Sent-none sinks;
-      cause = subst C (sym none) whole;
-      holds = subst H (sym none) here;
+      cause = rw none whole;
+      holds = rw none here;
       one = one_single g s;
       lines = ap (λ (x : State). x.lines) (after_none g s) ∙ lines;
     }
@@ -268,7 +261,7 @@ pub ran_fits : (l : Limits) (g : Setting) (s now : State) (sinks sinks' : SinkVi
 ran_fits l g s now sinks sinks' h = fits_first l g s h.t h.within
 
 pub ran_fits_now : (l : Limits) (g : Setting) (s now : State) (sinks sinks' : SinkView) → Ran l g s now sinks sinks' → WithinLimits l now
-ran_fits_now l g s now sinks sinks' h = let Q : State → Type 0 = λ s. WithinLimits l s in subst Q h.is (fits_last l g s h.t h.within)
+ran_fits_now l g s now sinks sinks' h = rw (← h.is) (fits_last l g s h.t h.within)
 
 stopped_within : (l : Limits) (g : Setting) (s : State) (out : List (ℕ × ℕ)) (end : Ended) (t : ℕ) (o : Option ℕ) → WholeOrBrokenOff l g s out end t o → WithinLimits l s
 stopped_within l g s out end t None h = fits_first l g s t h.within

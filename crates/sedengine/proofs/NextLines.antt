@@ -95,28 +95,21 @@ module _ {R : Type 0} (remaining : R → Option (List ℕ)) (old new : Stream R)
       StepsFrom remaining old new ls e.limits g s e' sinks sinks (Err end)
   halts end after is no_sink loses part cause =
       let bytes : c'.bytes ≡ e.state.pattern = ap (λ (c : Contents). c.bytes) is ∙ pattern in
-      let Q : RunState → Type 0 = λ e'. StepsFrom remaining old new ls e.limits g s e' sinks sinks (Err end) in
-      let B : List ℕ → Type 0 = λ bytes. StepsFrom remaining old new ls e.limits g s (with_pattern e bytes) sinks sinks (Err end) in
-      let L : ℕ → Type 0 = λ n. LosesPart (left remaining old) (left remaining new) n in
-      subst Q (sym after) (subst B (sym bytes) (halts_here remaining old new e.limits g s e sinks end fits no_sink cause here (subst L (sym loses) part)))
+      rw after (rw bytes (halts_here remaining old new e.limits g s e sinks end fits no_sink cause here (rw loses part)))
 
   pub brings_steps : (r : Result Got Ended) → AfterBringing e c' e' r → Brings remaining old new ls before (e.state.number + 1) c c' r → StepsFrom remaining old new ls e.limits g s e' sinks sinks (told r)
   brings_steps (Ok Line) after (line, rest, are, taken, is, fit) =
-      let Q : RunState → Type 0 = λ e'. StepsFrom remaining old new ls e.limits g s e' sinks sinks (Ok tt) in
       let bytes : c'.bytes ≡ before ++ line = ap (λ (c : Contents). c.bytes) is in
-      let B : List ℕ → Type 0 = λ bytes. StepsFrom remaining old new ls e.limits g s (brought (with_pattern e bytes) Line) sinks sinks (Ok tt) in
-      subst Q (sym after) (subst B (sym bytes) (
+      rw after (rw bytes (
         rest,
         taken,
         ran_quietly e.limits g s (at_lines (brought (with_pattern e (before ++ line)) Line) rest) sinks fits (one line rest are)
             (record { pattern = omega (arith, fit, limit); hold = f.hold; queue = f.queue; turns = f.turns }),
       ))
   brings_steps (Ok End) after (are, taken, is) =
-      let Q : RunState → Type 0 = λ e'. StepsFrom remaining old new ls e.limits g s e' sinks sinks (Ok tt) in
       let bytes : c'.bytes ≡ e.state.pattern = ap (λ (c : Contents). c.bytes) is ∙ pattern in
-      let B : List ℕ → Type 0 = λ bytes. StepsFrom remaining old new ls e.limits g s (brought (with_pattern e bytes) End) sinks sinks (Ok tt) in
       let over : State = then_do [] (at_lines e []) in
-      subst Q (sym after) (subst B (sym bytes) ([], taken, ran_quietly e.limits g s over sinks fits (none are ∙ ap (λ ls. quietly (then_do [] (at_lines e ls))) are) (record { pattern = f.pattern; hold = f.hold; queue = f.queue; turns = f.turns })))
+      rw after (rw bytes ([], taken, ran_quietly e.limits g s over sinks fits (none are ∙ ap (λ ls. quietly (then_do [] (at_lines e ls))) are) (record { pattern = f.pattern; hold = f.hold; queue = f.queue; turns = f.turns })))
   brings_steps (Err (PatternFull n)) after (number, (line, rest, are, more), is, gone) =
       halts (PatternFull n) after is refl (sym limit) gone (number ∙ sym line_is, (λ h. absurd (false≢true (sym no_turn ∙ h))), (_, one line rest are, omega (arith, more, limit)))
   brings_steps (Err InputBroken) after (is, part) = halts InputBroken after is refl (sym limit) part may_read
@@ -155,14 +148,12 @@ module _ {R : Type 0} (remaining : R → Option (List ℕ)) (old new : Stream R)
   pub fetches_next : (c : Contents) → c ≡ record a.pattern { bytes = [] } → AfterBringing (run_of a) c' e' r → Brings remaining old new ls c.bytes (a.number + 1) c c' r →
       StepsFrom remaining old new ls e.limits (run_setting e files) (then_do (empty_pattern ∷ fetch ∷ e.state.tasks) (at_lines e ls)) e' sinks sinks (told r)
   fetches_next c is after brings =
-      let Q : RunState → Type 0 = λ e. StepsFrom remaining old new ls e.limits (run_setting e files) (then_do (empty_pattern ∷ fetch ∷ e.state.tasks) (at_lines e ls)) e' sinks sinks (told r) in
-      subst Q seen (fetch_steps remaining old new ls files (run_of a) e' sinks c c' r (fits_of a ls i) (ap (λ (c : Contents). c.limit) is ∙ i.pattern_limit) (ap (λ (c : Contents). c.bytes) is) after brings)
+      rw (← seen) (fetch_steps remaining old new ls files (run_of a) e' sinks c c' r (fits_of a ls i) (ap (λ (c : Contents). c.limit) is ∙ i.pattern_limit) (ap (λ (c : Contents). c.bytes) is) after brings)
 
   pub joins_next : AfterBringing (run_of a) c' e' r → Brings remaining old new ls (a.pattern.bytes ++ newline ∷ []) (a.number + 1) a.pattern c' r →
       StepsFrom remaining old new ls e.limits (run_setting e files) (then_do (join ∷ e.state.tasks) (at_lines e ls)) e' sinks sinks (told r)
   joins_next after brings =
-      let Q : RunState → Type 0 = λ e. StepsFrom remaining old new ls e.limits (run_setting e files) (then_do (join ∷ e.state.tasks) (at_lines e ls)) e' sinks sinks (told r) in
-      subst Q seen (join_steps remaining old new ls files (run_of a) e' sinks a.pattern c' r (fits_of a ls i) i.pattern_limit refl after brings)
+      rw (← seen) (join_steps remaining old new ls files (run_of a) e' sinks a.pattern c' r (fits_of a ls i) i.pattern_limit refl after brings)
 
 -- A call for a line has brought it, or there is none.
 pub brings_got : {R : Type 0} (remaining : R → Option (List ℕ)) (old new : Stream R) (ls : List (List ℕ)) (number n : ℕ) (s s' : Contents) (got : Got) → lines_left remaining old ≡ Some ls →
@@ -249,8 +240,7 @@ next_broken {R} remaining o n ls g first e sinks other taken told = absurd told
 pub next_stops : {R : Type 0} (remaining : R → Option (List ℕ)) (o n : Stream R) (ls : List (List ℕ)) (files : ℕ → List ℕ) (a : Inside) (e : RunState) (sinks : SinkView) (last : Bool) → run_of a ≡ e → IsConsistent a → TakesLines remaining o n ls ls → last ≡ none_left ls → last ≡ true →
     PerformsSteps remaining o n ls e.limits (run_setting e files) (next_line (at_lines e ls)) true (at_lines e ls) (run_of (record a { next_step = p.Quit })) sinks sinks (Ok tt)
 next_stops {R} remaining o n ls files a e sinks last seen i taken told is =
-    let Q : RunState → Type 0 = λ e. PerformsSteps remaining o n ls e.limits (run_setting e files) (next_line (at_lines e ls)) true (at_lines e ls) (run_of (record a { next_step = p.Quit })) sinks sinks (Ok tt) in
     let e0 : RunState = run_of a in
     let now : State = then_do (print_pattern ∷ flush ∷ []) (at_lines e0 ls) in
-    subst Q seen (λ s c asked first. looked_moves remaining o n ls a.limits (run_setting e0 files) s (run_of (record a { next_step = p.Quit })) sinks sinks (Ok tt) taken c.lines
+    rw (← seen) (λ s c asked first. looked_moves remaining o n ls a.limits (run_setting e0 files) s (run_of (record a { next_step = p.Quit })) sinks sinks (Ok tt) taken c.lines
     (ran_quietly a.limits (run_setting e0 files) s now sinks c.fits (first ∙ next_quits e0 e0 files ls last told is) (fits_tasks a.limits (at_lines e0 ls) (print_pattern ∷ flush ∷ []) (fits_of a ls i))))

@@ -24,7 +24,7 @@ use Rattle.sedengine.specs.Meters.{Sent, SinkView}
 use Rattle.sedengine.specs.Ends.{WithinLimits, named_sink}
 use Rattle.sedengine.specs.Calls.{ReadsLines}
 use Rattle.sedengine.specs.Run.{RunState, at_lines, run_setting, FailedSource}
-use Rattle.sedengine.specs.Passing.{AllowsLines, BlockLeftAlone, BreaksOff, BreaksOffBy, ClearTo, HaltedPassing, IsClear, IsExtent, IsIdleOf, IsLineOf, PassesOver, RangesIdle, StepsPassing, WritesLines, bytes_of, counted_block, engine_after, judged, line_brought}
+use Rattle.sedengine.specs.Passing.{AllowsLines, BlockLeftAlone, BreaksOff, BreaksOffBy, ClearTo, IsClear, IsExtent, IsIdleOf, IsLineOf, PassesOver, RangesIdle, StepsPassing, WritesLines, bytes_of, counted_block, engine_after, judged, line_brought}
 use Rattle.sedengine.specs.Inside.{IsConsistent, entries_of, run_of}
 use Rattle.sedengine.specs.declared.block.Extent.{Extent}
 use Rattle.sedengine.specs.declared.idle.Idle.{Idle}
@@ -130,8 +130,7 @@ passes_fewer e ahead w b n h fewer is whole some =
 pub nothing_passed : {R : Type 0} (remaining : R → Option (List ℕ)) (from : Stream R) (ls : List (List ℕ)) (e e' : RunState) (g : Setting) (sinks : SinkView) → lines_left remaining from ≡ Some ls → WithinLimits e.limits (at_lines e ls) → e' ≡ e →
     StepsPassing remaining from from ls e.limits g (at_lines e ls) e' sinks sinks (Ok tt)
 nothing_passed {R} remaining from ls e e' g sinks known fits same =
-    let Q : RunState → Type 0 = λ e'. StepsPassing remaining from from ls e.limits g (at_lines e ls) e' sinks sinks (Ok tt) in
-    subst Q (sym same) (ls, lines_same remaining from ls known, record { t = 0; is = after_none g (at_lines e ls); within = within_none e.limits g (at_lines e ls) fits; sinks = rw written_none (Sent-none sinks) })
+    rw same (ls, lines_same remaining from ls known, record { t = 0; is = after_none g (at_lines e ls); within = within_none e.limits g (at_lines e ls) fits; sinks = rw written_none (Sent-none sinks) })
 
 same_engine : (e : RunState) (files : ℕ → List ℕ) (b : IdleLines) (k : ℕ) → b.judged ≡ judged e.script.commands e.script.substitutions b.reached → b.lines ≡ k → engine_after e (run_setting e files) b.reached k ≡ counted_block e b
 same_engine e files b k used count = cc
@@ -153,9 +152,7 @@ passes {R} remaining from to ls e e' files b old new known h fits begins empty t
     k.2 ∙ ap (λ a. lines (a ++ k.0)) (sym (take-append-drop n from.ahead)) ∙ ap lines (append_assoc w (drop n from.ahead) k.0) ∙ whole_then w bytes h.whole ∙ ap (λ w. lines w ++ lines bytes) p.1 in
     let count : b.lines ≡ length (lines (p.0 ++ 10 ∷ [])) = h.count ∙ ap (λ w. length (lines w)) p.1 in
     let size : length (p.0 ++ 10 ∷ []) ≤ e.limits.space = let n = ap length p.1 in omega (arith, n, length-take-le b.bytes from.ahead h.within, h.short) in
-    let S : List (List ℕ) → Type 0 = λ ls. StepsPassing remaining from to ls e.limits (run_setting e files) (at_lines e ls) e' old new (Ok tt) in
-    let E : RunState → Type 0 = λ e'. StepsPassing remaining from to (lines (p.0 ++ 10 ∷ []) ++ lines bytes) e.limits (run_setting e files) (at_lines e (lines (p.0 ++ 10 ∷ []) ++ lines bytes)) e' old new (Ok tt) in
-    subst S (sym all) (subst E (same_engine e files b (length (lines (p.0 ++ 10 ∷ []))) h.judged count ∙ sym counted)
+    rw all (rw (← (same_engine e files b (length (lines (p.0 ++ 10 ∷ []))) h.judged count ∙ sym counted))
     (block_passed remaining from to p.0 bytes e (run_setting e files) b.reached old new was is (program_finds e.script files) h.idle
     (record { fits = record { pattern = fits.pattern; hold = fits.hold; queue = fits.queue; turns = fits.turns }; begins = begins; empty = empty; none = h.none; ranges = h.ranges })
     (subst (λ (w : List ℕ). BlockLeftAlone (run_setting e files) b.reached e.state.number (lines w) (lines bytes)) p.1 (alone_of e files from.ahead k.0 b h))
@@ -199,8 +196,7 @@ breaks {R} remaining from to ls e e' files b done old new end known h fits begin
     let alone : BlockLeftAlone (run_setting e files) b.reached e.state.number (lines (p ++ 10 ∷ [])) (lines (x.rest ++ k.0)) =
     subst (λ (r : List ℕ). BlockLeftAlone (run_setting e files) b.reached e.state.number (lines (p ++ 10 ∷ [])) (lines (r ++ k.0))) rest_left
     (subst (λ (w : List ℕ). BlockLeftAlone (run_setting e files) b.reached e.state.number (lines w) (lines (drop n from.ahead ++ k.0))) (sym taken_is) (alone_of e files from.ahead k.0 b' h')) in
-    let S : List (List ℕ) → Type 0 = λ ls. HaltedPassing remaining from to e.limits (run_setting e files) (at_lines e ls) e' old new end in
-    subst S (sym all)
+    rw all
     (block_broken remaining from to p x.rest k.0 e e' (run_setting e files) b.reached (lines first) x.line d old new end was is line_is (program_finds e.script files) h.idle
     (record { fits = record { pattern = fits.pattern; hold = fits.hold; queue = fits.queue; turns = fits.turns }; begins = begins; empty = empty; none = h.none; ranges = h.ranges })
     alone (block_short p e.limits.space short) h'.turns loud (omega (arith, at, before_size, x.inside)) took names
@@ -214,8 +210,7 @@ breaks {R} remaining from to ls e e' files b done old new end known h fits begin
 pub reads_ahead : {R : Type 0} (remaining : R → Option (List ℕ)) (failures : R → ℕ) (reference : R → List GName) (from to : Stream R) (rest : List ℕ) (r : Result Unit Ended) → to ≡ record from { ahead = rest } → length rest ≤ length from.ahead →
     (r ≡ Err InputBroken → ⊥) → ReadsLines remaining failures reference from to r
 reads_ahead {R} remaining failures reference from to rest r is fewer sound =
-    let T : Stream R → Type 0 = λ to. ReadsLines remaining failures reference from to r in
-    subst T (sym is) (record {
+    rw is (record {
       same_look = refl;
       same_reference = refl;
       ahead = omega (arith, fewer);
@@ -251,8 +246,7 @@ turns_left turns limit c most m within fewer cost =
 
 pub allows : (a : Inside) (e : RunState) (c most m : ℕ) → run_of a ≡ e → IsConsistent a → length a.queue.items ≤ 0 → RangesIdle a.script.commands c a.ranges.items → IsClear a.script.commands a.script.substitutions c a.number most → m ≤ most → m ≤ (a.limits.turns - a.turns) / (c + 1) → AllowsLines e c m
 allows a e c most m seen i none ranges clear fewer cost =
-    let Q : RunState → Type 0 = λ e. AllowsLines e c m in
-    subst Q seen (record {
+    rw (← seen) (record {
       none = no_entries a none;
       ranges = ranges;
       clear = λ n asked. fewer_clear n a.number most m fewer (clear n asked);
@@ -260,7 +254,7 @@ allows a e c most m seen i none ranges clear fewer cost =
     })
 
 pub turns_fit : (a : Inside) (e : RunState) (k : ℕ) → run_of a ≡ e → e.state.turns + k ≤ e.limits.turns → a.turns + k ≤ a.limits.turns
-turns_fit a e k seen h = let Q : RunState → Type 0 = λ e. e.state.turns + k ≤ e.limits.turns in subst Q (sym seen) h
+turns_fit a e k seen h = rw (← seen) at h
 
 pub le_mul : (n c : ℕ) → n ≤ n * (c + 1)
 le_mul n c = let h = mul_le 1 (c + 1) n (omega arith) in grind (arith, mul_comm n (c + 1))
@@ -415,8 +409,7 @@ breaks_off_seen {R} old new e e' ahead start n done bytes same before less withi
 
 pub brought_is : (a : Inside) (e : RunState) (pattern : Contents) (k : ℕ) (line : List ℕ) → run_of a ≡ e → pattern.bytes ≡ line → k ≡ length a.script.commands → run_of (record a { pattern = pattern; next_step = p.Do k }) ≡ line_brought e line
 brought_is a e pattern k line seen bytes all =
-    let Q : RunState → Type 0 = λ e. run_of (record a { pattern = pattern; next_step = p.Do k }) ≡ line_brought e line in
-    subst Q seen (ap₂ (λ (b : List ℕ) (k : ℕ). record (run_of a) { state = record (run_of a).state { pattern = b; tasks = do_at k ∷ [] } }) bytes all)
+    rw (← seen) (ap₂ (λ (b : List ℕ) (k : ℕ). record (run_of a) { state = record (run_of a).state { pattern = b; tasks = do_at k ∷ [] } }) bytes all)
 
 -- the same where the block was found under other names
 module _ {R : Type 0} (remaining : R → Option (List ℕ)) (from to : Stream R) (ls : List (List ℕ)) (e e₁ e' : RunState) (files : ℕ → List ℕ) (b : IdleLines) (ahead : List ℕ) where

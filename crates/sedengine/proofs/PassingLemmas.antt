@@ -42,8 +42,7 @@ went_none l g s f = record { is = after_none g s; wrote = written_none g s; with
 
 pub went_on : (l : Limits) (g : Setting) (s m now : State) (out more : List (ℕ × ℕ)) (t u : ℕ) → Went l g s m out t → Went l g m now more u → Went l g s now (out ++ more) (t + u)
 went_on l g s m now out more t u a b =
-    let W : State → Type 0 = λ m. Went l g m now more u in
-    let c = subst W (sym a.is) b in
+    let c : Went l g (after g s t) now more u = rw a.is b in
     record { is = after-add g s t u ∙ c.is; wrote = written-add g s t u ∙ ap₂ (λ x y. x ++ y) a.wrote c.wrote; within = Within-add l g s t u a.within c.within }
 
 one_is : (g : Setting) (s : State) (m : Move) → next_move g s ≡ Some m → after g s 1 ≡ m.next
@@ -230,8 +229,7 @@ module _ (l : Limits) (g : Setting) (c : ℕ) (finds : FindsAsItSearches g) (idl
       let before : WithinLimits l (at_command j) = fits_in line (option_or (judged_in g j) s.used) (s.turns + 1 + j) (do_at (place_at g.commands j) ∷ []) short (omega arith) in
       let behind : WithinLimits l (at_command (suc j)) = fits_in line (option_or (judged_in g (suc j)) s.used) (s.turns + 1 + suc j) (do_at (place_at g.commands (suc j)) ∷ []) short (omega arith) in
       let n : 1 + j + 1 ≡ 1 + suc j = omega arith in
-      let W : ℕ → Type 0 = λ n. Went l g s (at_command (suc j)) [] n in
-      subst W n (went_on l g s (at_command j) (at_command (suc j)) [] [] (1 + j) 1 (reaches j (omega arith)) (went_one l g (at_command j) (at_command (suc j)) [] before (command_moves j (omega arith)) behind))
+      rw (← n) (went_on l g s (at_command j) (at_command (suc j)) [] [] (1 + j) 1 (reaches j (omega arith)) (went_one l g (at_command j) (at_command (suc j)) [] before (command_moves j (omega arith)) behind))
 
   -- the state at the end of the script, with these tasks
   abbrev at_last : List ℕ → List Task → State
@@ -247,8 +245,7 @@ module _ (l : Limits) (g : Setting) (c : ℕ) (finds : FindsAsItSearches g) (idl
   pub idle_to_print : Went l g s (at_last line at_end) [] (c + 2)
   idle_to_print =
       let n : 1 + c + 1 ≡ c + 2 = omega arith in
-      let W : ℕ → Type 0 = λ n. Went l g s (at_last line at_end) [] n in
-      subst W n (went_on l g s (at_command c) (at_last line at_end) [] [] (1 + c) 1 (reaches c (omega arith))
+      rw (← n) (went_on l g s (at_command c) (at_last line at_end) [] [] (1 + c) 1 (reaches c (omega arith))
       (went_one l g (at_command c) (at_last line at_end) [] (fits_last line (do_at (place_at g.commands c) ∷ []) short) script_ends (fits_last line at_end short)))
 
   pub prints : next_move g (at_last line at_end) ≡ writing (passed_out g.quiet (line ∷ [])) (at_last line (flush ∷ empty_pattern ∷ begin ∷ []))

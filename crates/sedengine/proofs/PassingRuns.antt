@@ -13,9 +13,9 @@ use Rattle.sedengine.specs.Meters.{Sent, SinkView}
 use Rattle.sedengine.specs.Ends.{named_sink, LosesPartAfter, size_of}
 use Rattle.std.specs.Io.KnownBytes.{prepend_known}
 use Rattle.std.proofs.KnownBytes.{prepend_known-nil}
-use Rattle.sedengine.specs.Run.{RunState, run_setting, at_lines, lost, input_of, Ending}
+use Rattle.sedengine.specs.Run.{SameRun, RunState, run_setting, at_lines, lost, input_of, Ending}
 use Rattle.sedengine.specs.DevicesAfter.{more_at}
-use Rattle.sedengine.specs.Steps.{TakesLines, KeepsRun}
+use Rattle.sedengine.specs.Steps.{TakesLines}
 use Rattle.sedengine.specs.Passing.{IsIdleIn, AllLeftAlone, BlockLeftAlone, FindsAsItSearches, bytes_of, passed_out, moves_of, CanPass, MovesLedTo, HaltedPassing, StepsPassing, engine_after}
 use Rattle.sedengine.specs.declared.ends.Ended.{Ended}
 use Rattle.sedengine.specs.declared.ends.Ended.TheVariants.{PatternFull, InputBroken}
@@ -29,22 +29,16 @@ use Rattle.sedengine.proofs.PassingLemmas.{idle_block, broken_block, block_left_
 use Rattle.sedengine.proofs.Gains.{to_sink-append}
 
 -- The run that began with the engine a and the lines `from`, and came to the engine e.
-module _ {R : Type 0} (remaining : R → Option (List ℕ)) (from at to : Stream R) (files : ℕ → List ℕ) (a : RunState) (s : State) (e : RunState) (old mid new : SinkView) (same : KeepsRun a e)
+module _ {R : Type 0} (remaining : R → Option (List ℕ)) (from at to : Stream R) (files : ℕ → List ℕ) (a : RunState) (s : State) (e : RunState) (old mid new : SinkView) (same : SameRun a e)
     (r : Reached remaining from at a.limits (run_setting a files) s e old mid) where
   pub passed_on : (e' : RunState) (rest : List (List ℕ)) → MovesLedTo e.limits (run_setting e files) (at_lines e r.rest) (at_lines e' rest) mid new → MovesLedTo a.limits (run_setting a files) (after (run_setting a files) s r.t) (at_lines e' rest) mid new
   passed_on e' rest h =
-      let P : Limits → Type 0 = λ l. MovesLedTo l (run_setting e files) (at_lines e r.rest) (at_lines e' rest) mid new in
-      let Q : Setting → Type 0 = λ g. MovesLedTo a.limits g (at_lines e r.rest) (at_lines e' rest) mid new in
-      let S : State → Type 0 = λ m. MovesLedTo a.limits (run_setting a files) m (at_lines e' rest) mid new in
-      subst S (sym r.is) (subst Q (same_setting a e files same) (subst P same.limits h))
+      rw r.is (rw (← (same_setting a e files same)) (rw (← same.limits) h))
 
   pub passing_halted_on : (e' : RunState) (end : Ended) → HaltedPassing remaining at to e.limits (run_setting e files) (at_lines e r.rest) e' mid new end →
       HaltedPassing remaining at to a.limits (run_setting a files) (after (run_setting a files) s r.t) e' mid new end
   passing_halted_on e' end h =
-      let P : Limits → Type 0 = λ l. HaltedPassing remaining at to l (run_setting e files) (at_lines e r.rest) e' mid new end in
-      let Q : Setting → Type 0 = λ g. HaltedPassing remaining at to a.limits g (at_lines e r.rest) e' mid new end in
-      let S : State → Type 0 = λ m. HaltedPassing remaining at to a.limits (run_setting a files) m e' mid new end in
-      subst S (sym r.is) (subst Q (same_setting a e files same) (subst P same.limits h))
+      rw r.is (rw (← (same_setting a e files same)) (rw (← same.limits) h))
 
   -- the run goes on
   abbrev pub pass_on : (e' : RunState) → StepsPassing remaining at to r.rest e.limits (run_setting e files) (at_lines e r.rest) e' mid new (Ok tt) → Reached remaining from to a.limits (run_setting a files) s e' old new
@@ -80,10 +74,9 @@ module _ {R : Type 0} (remaining : R → Option (List ℕ)) (from at to : Stream
           cause = Cause-add a.limits g s h.stopped.out end r.t u r.within h.stopped.cause;
           takes = takes_of remaining from to a.limits g s (r.t + u) (lost a.limits end) (more_at a.limits end) (r.taken.lines ++ h.lines) are all shrinks (rw look at ahead) (lost_more a.limits end);
           broken = λ is.
-              let P : Option (List ℕ) → Type 0 = λ o. LosesPartAfter (left remaining from) o (size_of (r.taken.lines ++ h.lines)) a.limits.space in
               let L : Ended → Type 0 = λ end. LosesPartAfter (left remaining from) (left remaining to) (size_of (r.taken.lines ++ h.lines)) (lost a.limits end) in
               let all_left : left remaining to ≡ remaining to.source = ap (λ bs. prepend_known bs (remaining to.source)) (drained is) ∙ prepend_known-nil _ in
-              (r.taken.lines ++ h.lines, are, subst P all_left (subst L is all));
+              (r.taken.lines ++ h.lines, are, rw (← all_left) (subst L is all));
           holds = HoldsAt-add g s e'.state r.t u (named_sink end) (without_lines g (after g s r.t) u e' h.rest (named_sink end) h.stopped.holds);
         },
       )

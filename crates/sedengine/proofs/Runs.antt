@@ -1,5 +1,5 @@
 -- A run: calls that make moves, one after another, up to the end.
-use Rattle.std.proofs.Common.{◌≡◌, ℕ, ◌<◌, ◌+◌, ◌≤◌, inl, inr, true, List, ◌++◌, length, [], Option, Some, None, Ok, Err, refl, subst, sym, ap, ◌∙◌, arith, append_assoc}
+use Rattle.std.proofs.Common.{subst, ◌≡◌, ℕ, ◌<◌, ◌+◌, ◌≤◌, inl, inr, true, List, ◌++◌, length, [], Option, Some, None, Ok, Err, refl, sym, ap, ◌∙◌, arith, append_assoc}
 use Rattle.std.specs.Prelude.{max}
 use Rattle.sedspace.specs.Stream.{Stream, left, lines_left}
 use Rattle.sedspace.specs.Lines.{TakesAtMost}
@@ -8,11 +8,11 @@ use Rattle.sedengine.specs.Move.{after, written}
 use Rattle.sedengine.specs.Meters.{Sent, SinkView}
 use Rattle.sedengine.specs.Ends.{WithinLimits, Within, named_sink, size_of, LosesPartAfter}
 use Rattle.sedengine.specs.Held.{HoldsAt, SameLengths}
-use Rattle.sedengine.specs.Run.{RunState, run_setting, at_lines, lost, Input, input_of, TakesLeft, Ending, EndingInCycle, Cycled, InOneCycle, starts_cycle}
+use Rattle.sedengine.specs.Run.{SameRun, RunState, run_setting, at_lines, lost, input_of, TakesLeft, Ending, Cycled, InOneCycle, starts_cycle}
 use Rattle.sedengine.specs.DevicesAfter.{more_at}
-use Rattle.sedengine.specs.Steps.{Ran, TakesLines, Halted, Steps, KeepsRun}
+use Rattle.sedengine.specs.Steps.{Ran, TakesLines, Halted, Steps}
 use Rattle.sedengine.specs.declared.ends.Ended.{Ended}
-use Rattle.sedengine.specs.declared.ends.Ended.TheVariants.{PatternFull, InputBroken}
+use Rattle.sedengine.specs.declared.ends.Ended.TheVariants.{InputBroken}
 use Rattle.sedengine.proofs.Sending.{Sent-append, Sent-none}
 use Rattle.std.specs.Io.KnownBytes.{prepend_known}
 use Rattle.std.proofs.KnownBytes.{prepend_known-nil}
@@ -48,11 +48,11 @@ Reached-none {R} remaining from l g e ls sinks known f = record {
   gained = rw written_none (Sent-none sinks);
 }
 
-pub same_setting : (old new : RunState) (files : ℕ → List ℕ) → KeepsRun old new → run_setting new files ≡ run_setting old files
+pub same_setting : (old new : RunState) (files : ℕ → List ℕ) → SameRun old new → run_setting new files ≡ run_setting old files
 same_setting old new files s = ap (λ p. setting_of p files) s.script
 
-pub KeepsRun-then : {a b c : RunState} → KeepsRun a b → KeepsRun b c → KeepsRun a c
-KeepsRun-then s t = record { script = t.script ∙ s.script; limits = t.limits ∙ s.limits; ended = t.ended ∙ s.ended }
+pub SameRun-then : {a b c : RunState} → SameRun a b → SameRun b c → SameRun a c
+SameRun-then s t = record { script = t.script ∙ s.script; limits = t.limits ∙ s.limits }
 
 -- what was taken from the source, by what was taken of all that was still to come
 pub takes_of : {R : Type 0} (remaining : R → Option (List ℕ)) (from to : Stream R) (l : Limits) (g : Setting) (s : State) (t n m : ℕ) (lines : List (List ℕ)) → s.lines ≡ lines ++ (after g s t).lines →
@@ -68,28 +68,21 @@ takes_of {R} remaining from to l g s t n m lines are gone shrinks ahead most = r
 }
 
 pub lost_more : (l : Limits) (end : Ended) → lost l end + l.look ≤ more_at l end
-lost_more l (PatternFull n) = omega arith
 lost_more l InputBroken = omega arith
 lost_more l other = omega arith
 
 -- The run that began with the engine a and the lines `from`, and came to the engine e.
-module _ {R : Type 0} (remaining : R → Option (List ℕ)) (from at to : Stream R) (files : ℕ → List ℕ) (a : RunState) (s : State) (e : RunState) (old mid new : SinkView) (same : KeepsRun a e)
+module _ {R : Type 0} (remaining : R → Option (List ℕ)) (from at to : Stream R) (files : ℕ → List ℕ) (a : RunState) (s : State) (e : RunState) (old mid new : SinkView) (same : SameRun a e)
     (r : Reached remaining from at a.limits (run_setting a files) s e old mid) where
   -- what a call answers, for the run's own limits, from the state reached
   pub ran_on : (e' : RunState) (rest : List (List ℕ)) → Ran e.limits (run_setting e files) (at_lines e r.rest) (at_lines e' rest) mid new → Ran a.limits (run_setting a files) (after (run_setting a files) s r.t) (at_lines e' rest) mid new
   ran_on e' rest h =
-      let P : Limits → Type 0 = λ l. Ran l (run_setting e files) (at_lines e r.rest) (at_lines e' rest) mid new in
-      let Q : Setting → Type 0 = λ g. Ran a.limits g (at_lines e r.rest) (at_lines e' rest) mid new in
-      let S : State → Type 0 = λ m. Ran a.limits (run_setting a files) m (at_lines e' rest) mid new in
-      subst S (sym r.is) (subst Q (same_setting a e files same) (subst P same.limits h))
+      rw r.is (rw (← (same_setting a e files same)) (rw (← same.limits) h))
 
   pub halted_on : (e' : RunState) (end : Ended) → Halted remaining at to e.limits (run_setting e files) (at_lines e r.rest) e' mid new end →
       Halted remaining at to a.limits (run_setting a files) (after (run_setting a files) s r.t) e' mid new end
   halted_on e' end h =
-      let P : Limits → Type 0 = λ l. Halted remaining at to l (run_setting e files) (at_lines e r.rest) e' mid new end in
-      let Q : Setting → Type 0 = λ g. Halted remaining at to a.limits g (at_lines e r.rest) e' mid new end in
-      let S : State → Type 0 = λ m. Halted remaining at to a.limits (run_setting a files) m e' mid new end in
-      subst S (sym r.is) (subst Q (same_setting a e files same) (subst P same.limits h))
+      rw r.is (rw (← (same_setting a e files same)) (rw (← same.limits) h))
 
   abbrev pub step_on : (e' : RunState) → Steps remaining at to r.rest e.limits (run_setting e files) e e' mid new (Ok tt) → Reached remaining from to a.limits (run_setting a files) s e' old new
   step_on e' (rest, taken, ran) =
@@ -123,10 +116,9 @@ module _ {R : Type 0} (remaining : R → Option (List ℕ)) (from at to : Stream
           cause = Cause-add a.limits g s h.stopped.out end r.t u r.within h.stopped.cause;
           takes = takes_of remaining from to a.limits g s (r.t + u) (lost a.limits end) (more_at a.limits end) (r.taken.lines ++ h.lines) are all shrinks (rw look at ahead) (lost_more a.limits end);
           broken = λ is.
-              let P : Option (List ℕ) → Type 0 = λ o. LosesPartAfter (left remaining from) o (size_of (r.taken.lines ++ h.lines)) a.limits.space in
               let L : Ended → Type 0 = λ end. LosesPartAfter (left remaining from) (left remaining to) (size_of (r.taken.lines ++ h.lines)) (lost a.limits end) in
               let all_left : left remaining to ≡ remaining to.source = ap (λ bs. prepend_known bs (remaining to.source)) (drained is) ∙ prepend_known-nil _ in
-              (r.taken.lines ++ h.lines, are, subst P all_left (subst L is all));
+              (r.taken.lines ++ h.lines, are, rw (← all_left) (subst L is all));
           holds = HoldsAt-add g s e'.state r.t u (named_sink end) (without_lines g (after g s r.t) u e' h.rest (named_sink end) h.stopped.holds);
         },
       )
@@ -165,10 +157,3 @@ cycled {R} remaining from to l g s e old new r some one starts shrinks ahead loo
         takes = takes_of remaining from to l g s r.t 0 l.look r.taken.lines are (LosesPartAfter-bytes _ _ _ r.taken.bytes) shrinks (rw look at ahead) (omega arith);
       },
     )
-
--- the end is that of the engine as it is seen
-pub ending_seen : {l : Limits} {g : Setting} {s : State} {out : List (ℕ × ℕ)} {old new : Input} {end : Ended} (e e' : RunState) → e' ≡ e → Ending l g s out old new e.state end → Ending l g s out old new e'.state end
-ending_seen {l} {g} {s} {out} {old} {new} {end} e e' same h = let S : RunState → Type 0 = λ e. Ending l g s out old new e.state end in subst S (sym same) h
-
-pub cycle_seen : {l : Limits} {g : Setting} {s : State} {out : List (ℕ × ℕ)} {old new : Input} {end : Ended} (e e' : RunState) → e' ≡ e → EndingInCycle l g s out old new e.state end → EndingInCycle l g s out old new e'.state end
-cycle_seen {l} {g} {s} {out} {old} {new} {end} e e' same h = let S : RunState → Type 0 = λ e. EndingInCycle l g s out old new e.state end in subst S (sym same) h

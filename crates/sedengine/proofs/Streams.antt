@@ -59,8 +59,7 @@ TakesAtMost-then (Some xs) (Some ys) (Some zs) n m (t, e, f) (u, d, g) =
 pub lines_stay : {R : Type 0} (remaining : R → Option (List ℕ)) (old new : Stream R) (ls : List (List ℕ)) → lines_left remaining old ≡ Some ls →
     KeepsLines (lines_left remaining old) (lines_left remaining new) → Keeps (left remaining old) (left remaining new) → TakesLines remaining old new ls ls
 lines_stay {R} remaining old new ls known kept bytes =
-    let K : Option (List (List ℕ)) → Type 0 = λ o. KeepsLines o (lines_left remaining new) in
-    record { known = stay ls (lines_left remaining new) (subst K known kept); lines = []; are = refl; bytes = TakesAtMost-kept _ _ bytes }
+    record { known = stay ls (lines_left remaining new) (rw known at kept); lines = []; are = refl; bytes = TakesAtMost-kept _ _ bytes }
   where
     stay : (ls : List (List ℕ)) (o : Option (List (List ℕ))) → KeepsLines (Some ls) o → o ≡ Some ls
     stay ls None h = absurd h
@@ -84,8 +83,7 @@ pub line_taken : {R : Type 0} (remaining : R → Option (List ℕ)) (old new : S
     TakesLine (left remaining old) (left remaining new) line → GivesLine (lines_left remaining old) (lines_left remaining new) line →
     (rest : List (List ℕ)) × (ls ≡ line ∷ rest) × TakesLines remaining old new ls rest
 line_taken {R} remaining old new ls line known bytes given =
-    let G : Option (List (List ℕ)) → Type 0 = λ o. GivesLine o (lines_left remaining new) line in
-    let r = gives_line ls (lines_left remaining new) line (subst G known given) in
+    let r = gives_line ls (lines_left remaining new) line (rw known at given) in
     (r.0, r.2, record { known = r.1; lines = line ∷ []; are = r.2; bytes = takes_line _ _ line bytes })
 
 no_lines : (o : Option (List (List ℕ))) (ls : List (List ℕ)) → o ≡ Some ls → NoLineLeft o → ls ≡ []
@@ -127,7 +125,7 @@ TakesLines-then {R} remaining a b c ls ms ns s t = record {
 }
 
 FailedSource-then : {T : Type 0} (a b c : ℕ) (r : Result T Ended) → b ≡ a → FailedSource b c r → FailedSource a c r
-FailedSource-then {T} a b c r same h = let P : ℕ → Type 0 = λ n. FailedSource n c r in subst P same h
+FailedSource-then {T} a b c r same h = rw (← same) h
 
 sound-then : {T : Type 0} (a b c : Type 0) (r : Result T Ended) → (a → b) → OnOk r (b → c) → OnOk r (a → c)
 sound-then {T} a b c (Ok u) f g = λ x. g (f x)

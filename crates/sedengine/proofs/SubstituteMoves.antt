@@ -2,6 +2,7 @@
 use Rattle.std.proofs.Common.{◌≡◌, ℕ, zero, suc, ◌<◌, ◌≤◌, Bool, true, false, cond, List, [], ◌∷◌, length, get_or, Option, Some, Result, Ok, Err, refl, subst, sym, ap, ◌∙◌, arith, Vec, Global}
 use Rattle.std.specs.Prelude.{slice_get}
 use Rattle.std.specs.Option.{option_or, option_map_or}
+use Rattle.std.proofs.lemmas.Option.{same_Some}
 use Rattle.sedre.specs.Tree.{WrittenExpression}
 use Rattle.sedmatch.specs.SearchRoom.{SearchRoom}
 use Rattle.sedmatch.specs.Occurrences.{KeepsRoom, RoomFor}
@@ -9,7 +10,7 @@ use Rattle.sedmatch.specs.declared.occurrences.Occurrences.{Occurrences}
 use Rattle.sedscript.specs.declared.substitution.Substitution.{Substitution}
 use Rattle.sedspace.specs.Spaces.{Contents}
 use Rattle.sedspace.specs.declared.errors.Full.{Full}
-use Rattle.sedengine.specs.State.{Task, begin, rebegin, do_at, print_pattern, empty_pattern, flush, copy, fetch, join, State, Move, Setting, search_in}
+use Rattle.sedengine.specs.State.{Task, do_at, State, Move, Setting, search_in}
 use Rattle.sedengine.specs.Substitute.{Occurrence, to_replace, occurrences, replaced_from}
 use Rattle.sedengine.specs.Select.{stands_for}
 use Rattle.sedengine.specs.Move.{next_move, quietly, writing, line_to, replaces}
@@ -35,10 +36,7 @@ use Rattle.sedengine.proofs.Tried.{matcher_at, standing}
 -- Where a command is reached the pattern space needn't be empty.
 may_hold : (p : NextStep) (bytes : List ℕ) → reaches (tasks_of p) ≡ true → IsEmptied p bytes
 may_hold p.Begin bytes h = cc
-may_hold p.Rebegin bytes h = tt
-may_hold (p.Do k) bytes h = tt
-may_hold p.Quit bytes h = tt
-may_hold p.Ended bytes h = tt
+may_hold other bytes h = tt
 
 -- the fields of the engine after a substitution with the expression e
 pub replaced_is_run : (a : Inside) (pattern build : Contents) (scratch : SearchRoom) (seeking : Occurrences) (matchers : Vec WrittenExpression Global) (e : ℕ) (replaced : Bool) → IsConsistent a → reaches (tasks_of a.next_step) ≡ true → e < length a.script.expressions →
@@ -101,15 +99,12 @@ makes_full a r seen es same k e files ls t new now f limit is h =
     let more : a.limits.space < length (replaced_from a.pattern.bytes t.replacement 0 (to_replace_in (run_setting (run_of a) files) t e a.pattern.bytes)) = rw limit at made.1 in
     (leads_full (record (at_lines (run_of a) ls) { used = Some e }) t (to_replace_in (run_setting (run_of a) files) t e a.pattern.bytes) a.limits.space made.0 more, refl)) is
 
-some_of : {A : Type 0} (x y : A) → Some x ≡ Some y → x ≡ y
-some_of x y h = cc
-
 -- the expression that the substitution k stands for
 pub stands : (a : Inside) (r : RunState) (k e : ℕ) (t t' : Substitution) → run_of a ≡ r → slice_get r.script.substitutions k ≡ Some t → slice_get a.script.substitutions k ≡ Some t' → Some e ≡ option_or t'.expression a.used →
     stands_for t.expression r.state.used ≡ Some e
 stands a r k e t t' seen is is' h =
     let Q : RunState → Type 0 = λ r. slice_get r.script.substitutions k ≡ Some t → stands_for t.expression r.state.used ≡ Some e in
-    subst Q seen (λ is. let same : t' ≡ t = some_of t' t (sym is' ∙ is) in sym (standing t.expression a.used) ∙ ap (λ (t : Substitution). option_or t.expression a.used) (sym same) ∙ sym h) is
+    subst Q seen (λ is. let same : t' ≡ t = same_Some t' t (sym is' ∙ is) in sym (standing t.expression a.used) ∙ ap (λ (t : Substitution). option_or t.expression a.used) (sym same) ∙ sym h) is
 
 -- there is an element at each place
 pub there_is : {A : Type 0} (xs : List A) (k : ℕ) → k < length xs → (x : A) × (slice_get xs k ≡ Some x)
@@ -121,14 +116,7 @@ there_is (x ∷ xs) (suc k) h = there_is xs k (omega arith)
 pub reached_line : (s : State) (ts : List Task) → reaches ts ≡ true → line_at s ts ≡ s.number
 reached_line s [] h = cc
 reached_line s (do_at k ∷ rest) h = refl
-reached_line s (begin ∷ rest) h = cc
-reached_line s (rebegin ∷ rest) h = cc
-reached_line s (fetch ∷ rest) h = cc
-reached_line s (join ∷ rest) h = cc
-reached_line s (copy k o ∷ rest) h = cc
-reached_line s (print_pattern ∷ rest) h = cc
-reached_line s (empty_pattern ∷ rest) h = cc
-reached_line s (flush ∷ rest) h = cc
+reached_line s (other ∷ rest) h = cc
 
 -- An engine within its limits, r, was led to the engine r' by a call that makes the move o of a substitution.
 module _ (r r' : RunState) (ls : List (List ℕ)) (before : WithinLimits r.limits (at_lines r ls)) (same : r' ≡ same_but_replaced r r'.state) (within : length r'.state.pattern ≤ r'.limits.space) (g : Setting) (old new : SinkView) (o : Option Move) (t : Substitution) where
@@ -183,7 +171,7 @@ puts_first t w old new end h = Puts-left old new (cond t.print (line_to 0 w) [])
 
 -- the substitution of a number, as the engine is seen
 one_seen : (a : Inside) (e : RunState) (k : ℕ) (s t : Substitution) → run_of a ≡ e → slice_get a.script.substitutions k ≡ Some s → slice_get e.script.substitutions k ≡ Some t → s ≡ t
-one_seen a e k s t seen is is' = some_of s t (sym is ∙ ap (λ (r : RunState). slice_get r.script.substitutions k) seen ∙ is')
+one_seen a e k s t seen is is' = same_Some s t (sym is ∙ ap (λ (r : RunState). slice_get r.script.substitutions k) seen ∙ is')
 
 -- what its flags write
 pub filed_seen : (a : Inside) (e : RunState) (k : ℕ) (s t : Substitution) (sink : ℕ) (w : List ℕ) (sinks sinks' : SinkView) (r : Result Unit Ended) → run_of a ≡ e → slice_get a.script.substitutions k ≡ Some s →

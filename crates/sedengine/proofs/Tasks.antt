@@ -35,8 +35,7 @@ fits_tasks l s ts f = record { pattern = f.pattern; hold = f.hold; queue = f.que
 seen_steps : {R : Type 0} (remaining : R → Option (List ℕ)) (old new : Stream R) (a : Inside) (e e' : RunState) (ts : List Task) (files : ℕ → List ℕ) (ls : List (List ℕ)) (sinks sinks' : SinkView) (r : Result Unit Ended) →
     run_of a ≡ e → e.state.tasks ≡ ts → (tasks_of a.next_step ≡ ts → Steps remaining old new ls a.limits (run_setting (run_of a) files) (run_of a) e' sinks sinks' r) →
     Steps remaining old new ls e.limits (run_setting e files) e e' sinks sinks' r
-seen_steps {R} remaining old new a e e' ts files ls sinks sinks' r seen t h =
-    let Q : RunState → Type 0 = λ e. e.state.tasks ≡ ts → Steps remaining old new ls e.limits (run_setting e files) e e' sinks sinks' r in subst Q seen h t
+seen_steps {R} remaining old new a e e' ts files ls sinks sinks' r seen t h = rw (← seen) (h (rw (← seen) at t))
 
 -- The end comes at once, and no line was taken.
 pub halts_here : {R : Type 0} (remaining : R → Option (List ℕ)) (old new : Stream R) (l : Limits) (g : Setting) (s : State) (e : RunState) (sinks : SinkView) (end : Ended) → WithinLimits l s → named_sink end ≡ None → StopsTask l g s end → SameLengths s e.state →
@@ -56,12 +55,10 @@ emptied_at (p.Do k) bytes t h = absurd (let e : do_at k ≡ begin = cc in other 
   where
     other : (k : ℕ) → do_at k ≡ begin → ⊥
     other k e = cc
-emptied_at p.Quit bytes t h = cc
-emptied_at p.Rebegin bytes t h = cc
-emptied_at p.Ended bytes t h = cc
+emptied_at other bytes t h = cc
 
 pub begins_empty : (a : Inside) (e : RunState) → run_of a ≡ e → IsConsistent a → e.state.tasks ≡ begin ∷ [] → e.state.pattern ≡ []
-begins_empty a e seen i at = let Q : RunState → Type 0 = λ e. e.state.tasks ≡ begin ∷ [] → e.state.pattern ≡ [] in subst Q seen (λ t. emptied_at a.next_step a.pattern.bytes t i.empty) at
+begins_empty a e seen i at = rw (← seen) (emptied_at a.next_step a.pattern.bytes (rw (← seen) at at) i.empty)
 
 -- The fields a of an engine that stands before a cycle; `sinks` are what sinks hold, of which none gains anything.
 module _ {R : Type 0} (remaining : R → Option (List ℕ)) (old new : Stream R) (a : Inside) (e : RunState) (seen : run_of a ≡ e) (i : IsConsistent a) (at : e.state.tasks ≡ begin ∷ [])
@@ -175,8 +172,7 @@ module _ (a : Inside) (e : RunState) (seen : run_of a ≡ e) (i : IsConsistent a
 pub ends_here : {R : Type 0} (remaining : R → Option (List ℕ)) (old : Stream R) (a : Inside) (e : RunState) (seen : run_of a ≡ e) (i : IsConsistent a) (ls : List (List ℕ)) (files : ℕ → List ℕ) (sinks : SinkView) → a.next_step ≡ p.Ended →
     Steps remaining old old ls e.limits (run_setting e files) e e sinks sinks (Err Done)
 ends_here {R} remaining old a e seen i ls files sinks over =
-    let Q : RunState → Type 0 = λ e. Steps remaining old old ls e.limits (run_setting e files) e e sinks sinks (Err Done) in
-    subst Q seen (halts_here remaining old old a.limits (run_setting (run_of a) files) (at_lines (run_of a) ls) (run_of a) sinks Done (fits_of a ls i) refl (ap tasks_of over) (record { pattern = refl; hold = refl; queue = λ _. refl; entries = omega arith }) (LosesPart-none _ _ _ (TakesAtMost-none _)))
+    rw (← seen) (halts_here remaining old old a.limits (run_setting (run_of a) files) (at_lines (run_of a) ls) (run_of a) sinks Done (fits_of a ls i) refl (ap tasks_of over) (record { pattern = refl; hold = refl; queue = λ _. refl; entries = omega arith }) (LosesPart-none _ _ _ (TakesAtMost-none _)))
 
 -- What takes no lines keeps those that are left.
 pub steps_by_moves : {R : Type 0} (remaining : R → Option (List ℕ)) (old : Stream R) (ls : List (List ℕ)) (l : Limits) (g : Setting) (e e' : RunState) (sinks sinks' : SinkView) (r : Result Unit Ended) → lines_left remaining old ≡ Some ls →

@@ -2,7 +2,7 @@
 use Rattle.std.proofs.Common.{◌≡◌, ℕ, ◌<◌, Bool, List, length, get_or, Option, Some, None, Result, refl, sym, subst, ap, ◌∙◌}
 use Rattle.std.specs.Prelude.{option_and_then}
 use Rattle.std.specs.Option.{option_or}
-use Rattle.std.proofs.lemmas.Option.{slice_get_read}
+use Rattle.std.proofs.lemmas.Option.{same_Some, slice_get_read}
 use Rattle.sedre.specs.Tree.{WrittenExpression}
 use Rattle.sedscript.specs.Ranges.{AddressWithin, IsOneOf}
 use Rattle.sedscript.specs.declared.types.Address.TheVariants.{Match}
@@ -23,12 +23,9 @@ pub standing : (named used : Option ℕ) → option_or named used ≡ stands_for
 standing None used = refl
 standing (Some e) used = refl
 
-some_of : (x y : ℕ) → Some x ≡ Some y → x ≡ y
-some_of x y h = cc
-
 within_by : (n : ℕ) (named used : Option ℕ) (k : ℕ) → AddressWithin n (Some (Match named)) → IsOneOf n used → Some k ≡ option_or named used → k < n
-within_by n (Some j) used k h one is = let same : k ≡ j = some_of k j is in rw same h
-within_by n None (Some j) k h one is = let same : k ≡ j = some_of k j is in rw same one
+within_by n (Some j) used k h one is = let same : k ≡ j = same_Some k j is in rw same h
+within_by n None (Some j) k h one is = let same : k ≡ j = same_Some k j is in rw same one
 within_by n None None k h one is = cc
 
 -- an address tries an expression of the script
@@ -42,12 +39,11 @@ tried_within a r named k seen i h is =
 pub answered : (a : Inside) (r : RunState) (named : Option ℕ) (k : ℕ) (ms : List WrittenExpression) (b last : Bool) → run_of a ≡ r → ms ≡ a.script.expressions → Some k ≡ option_or named a.used → b ≡ finds_in ms k a.pattern.bytes →
     answer (current_in r last) (Match named) ≡ Some (record { yes = b; used = Some k })
 answered a r named k ms b last seen same is found =
-    let Q : RunState → Type 0 = λ r. answer (current_in r last) (Match named) ≡ Some (record { yes = b; used = Some k }) in
     let f : ℕ → Option AddressAnswer = λ j. Some (record { yes = finds_in a.script.expressions j a.pattern.bytes; used = Some j }) in
     let stands : stands_for named a.used ≡ Some k = sym (is ∙ standing named a.used) in
     let yes : finds_in a.script.expressions k a.pattern.bytes ≡ b = sym (found ∙ ap (λ (es : List WrittenExpression). finds_in es k a.pattern.bytes) same) in
     let put : Bool → Option AddressAnswer = λ x. Some (record { yes = x; used = Some k }) in
-    subst Q seen (ap (λ (o : Option ℕ). option_and_then f o) stands ∙ ap put yes)
+    rw (← seen) (ap (λ (o : Option ℕ). option_and_then f o) stands ∙ ap put yes)
 
 -- what is replaced with the expression of a number
 pub replaces_by : (ms : List WrittenExpression) (e : ℕ) (m : WrittenExpression) (w : List ℕ) (t : Substitution) (limit : ℕ) (made : List ℕ) (r : Result Bool Full) → e < length ms → m ≡ get_or ms e m →
@@ -64,5 +60,4 @@ matcher_at ms e m inside is = slice_get_read ms (length ms) e m refl inside is
 -- a matcher that is as it was leaves all as they were
 pub matchers_kept : (ms : List WrittenExpression) (e : ℕ) (m m' : WrittenExpression) → m ≡ get_or ms e m → m' ≡ m → slice_set ms e m' ≡ ms
 matchers_kept ms e m m' is same =
-    let P : WrittenExpression → Type 0 = λ x. slice_set ms e x ≡ ms in
-    subst P (sym (same ∙ is)) (set-get_or ms e m)
+    rw (same ∙ is) (set-get_or ms e m)

@@ -3,7 +3,7 @@ use Rattle.std.proofs.Common.{◌≡◌, ℕ, suc, ◌<◌, ◌+◌, ◌≤◌, 
 use Rattle.std.specs.Prelude.{is_some, slice_get}
 use Rattle.std.specs.List.{All}
 use Rattle.std.specs.Option.{option_or, option_map}
-use Rattle.std.proofs.lemmas.Option.{slice_get_past}
+use Rattle.std.proofs.lemmas.Option.{same_Some, slice_get_past}
 use Rattle.sedscript.specs.declared.types.Address.{Address}
 use Rattle.sedscript.specs.declared.types.Address.TheVariants.{Line, Last, Match}
 use Rattle.sedscript.specs.declared.types.Action.{Action}
@@ -15,7 +15,7 @@ use Rattle.sedengine.specs.State.{Setting}
 use Rattle.sedengine.specs.Move.{none_left}
 use Rattle.sedengine.specs.Passing.{Cleared, IsClear, NeedWithin, need_by, need_of, need_of_action, need_of_address, need_of_substitution, behind, behind_by, place_at, need_at, judged_by, judged, Walked, Notes, Describes, BlockLeftAlone}
 use Rattle.sedengine.specs.declared.idle.Need.{Need}
-use Rattle.sedengine.specs.declared.idle.Need.TheVariants.{NoMatch, NotLast, Nothing, OtherNumber}
+use Rattle.sedengine.specs.declared.idle.Need.TheVariants.{NoMatch, NotLast, OtherNumber}
 use Rattle.sedengine.specs.declared.idle.Idle.{Idle}
 use Rattle.sedengine.proofs.PassingLemmas.{place_zero, place_suc, judged_zero, judged_suc}
 
@@ -51,17 +51,12 @@ walked_more cs ts a b c need place w is needed behind_is n =
     same_need other j same asked =
         let here : slice_get cs (place_at cs a.reached) ≡ Some c = ap (slice_get cs) (sym w.place) ∙ is in
         let need_is : need_at cs ts a.reached ≡ Some need = ap (need_of ts) here ∙ sym needed in
-        inside need other (sym need_is ∙ ap (need_at cs ts) (sym same) ∙ asked)
-      where
-        inside : (a b : Need) → Some a ≡ Some b → a ≡ b
-        inside a b h = cc
+        same_Some need other (sym need_is ∙ ap (need_at cs ts) (sym same) ∙ asked)
 
 -- the expression judged last is one of the script
 pub one_more : (n : ℕ) (need : Need) (old new : Option ℕ) → NeedWithin n (Some need) → IsOneOf n old → new ≡ option_or (judged_by (Some need)) old → IsOneOf n new
 one_more n (NoMatch e) old new within one is = subst (IsOneOf n) (sym is) within
-one_more n (OtherNumber m) old new within one is = subst (IsOneOf n) (sym is) one
-one_more n NotLast old new within one is = subst (IsOneOf n) (sym is) one
-one_more n Nothing old new within one is = subst (IsOneOf n) (sym is) one
+one_more n other old new within one is = subst (IsOneOf n) (sym is) one
 
 -- the script ends
 pub walked_all : (cs : List Command) (ts : List Substitution) (i : Idle) → Walked cs ts i → length cs ≤ i.place → Describes cs ts i

@@ -70,3 +70,8 @@ unfilled t other h = tt
 -- an end that comes without a write
 pub Delivers-unwritten : {O : Type 0} (tally : O → SinkView) (count : O → ℕ) (a : O) (end : Ended) → NoSinkFailed {T = Unit {0}} (Err end) → Delivers tally count a a (Err end)
 Delivers-unwritten tally count a end h = record { same_count = refl; same_frame = refl; failed = unwritten (tally a).failures end h; full = unfilled (tally a) end h }
+
+-- a call that may end, and writes nothing
+pub Delivers-quiet : {O : Type 0} (tally : O → SinkView) (count : O → ℕ) (a : O) (r : Result Unit Ended) → NoSinkFailed r → Delivers tally count a a r
+Delivers-quiet tally count a (Ok u) h = Delivers-none tally count a
+Delivers-quiet tally count a (Err end) h = Delivers-unwritten tally count a end h

@@ -51,8 +51,8 @@ run_of a = record {
     tasks = tasks_of a.next_step;
     turns = a.turns;
   };
-  sent = [];  -- counted beside the machine
-  ended = a.ended;
+  sent = [];  -- what the sinks gained and how the run ended is kept beside the machine
+  ended = None;
 }
 
 -- The pattern space is empty where the next line is to replace it.

@@ -4,7 +4,6 @@ pub mod Calls
 pub mod Choose
 pub mod Ends
 pub mod Fitting
-pub mod Flushing
 pub mod Held
 pub mod Holding
 pub mod Inside

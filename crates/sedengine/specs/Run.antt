@@ -1,6 +1,5 @@
 -- The engine as its callers see it, and how a run of it ends (this project's own).
 use Rattle.std.specs.Prelude.{◌≡◌, ℕ, ◌+◌, ◌<◌, Bool, true, false, Option, Some, None, Result, Ok, Err, List, ◌∷◌, length, get_or, IfSome}
-use Rattle.std.specs.Borrow.{GName}
 use Rattle.sedscript.specs.Program.{Program}
 use Rattle.sedspace.specs.Stream.{Stream, left}
 use Rattle.sedengine.specs.State.{Limits, Task, begin, rebegin, State, Setting, setting_of}
@@ -123,7 +122,3 @@ pub record SameRun (old new : RunState) : Type 0 where
 abbrev pub FailedSource : {T : Type 0} → ℕ → ℕ → Result T Ended → Type 0
 FailedSource old new (Ok x) = new ≡ old
 FailedSource old new (Err end) = SourceAtEnd old new end
-
--- Lines are read ahead as far as before, and the source holds the same references.
-abbrev pub SameLines : {R : Type 0} → (R → List GName) → Stream R → Stream R → Type 0
-SameLines reference old new = (new.look ≡ old.look) × (reference new.source ≡ reference old.source)

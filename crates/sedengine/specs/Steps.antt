@@ -7,13 +7,13 @@ use Rattle.std.specs.Io.KnownBytes.{Keeps}
 use Rattle.sedspace.specs.Stream.{Stream, left, lines_left}
 use Rattle.sedspace.specs.Lines.{TakesAtMost}
 use Rattle.sedengine.specs.Types.{Command, Action, Block, Branch, File, Plain, Text, Transliterate, AppendHold, AppendNext, CopyHold, Exchange, Hold, HoldMore, NextLine, Quit, Append, Read, Ended, Done, HoldFull, InputBroken, NoPrevious, PatternFull, QueueFull, TurnsSpent}
-use Rattle.sedengine.specs.State.{Limits, Task, begin, rebegin, do_at, print_pattern, empty_pattern, flush, copy, fetch, join, State, Move, Setting}
+use Rattle.sedengine.specs.State.{Limits, Task, begin, rebegin, do_at, print_pattern, empty_pattern, flush, copy, fetch, join, State, Move, Setting, TellsFiles}
 use Rattle.sedengine.specs.Meters.{Sent, SinkView}
 use Rattle.sedengine.specs.Calls.{Delivers, DeliversAlone, ReadsLines}
 use Rattle.sedengine.specs.Move.{acts, next_move, after, none_left, written}
 use Rattle.sedengine.specs.Ends.{WithinLimits, Within, Cause, named_sink, reads, LosesPartAfter, size_of, Whole, BrokenOff}
 use Rattle.sedengine.specs.Held.{HoldsAt, SameLengths}
-use Rattle.sedengine.specs.Run.{RunState, InOneCycle, at_lines, lost, run_setting}
+use Rattle.sedengine.specs.Run.{SameRun, RunState, InOneCycle, at_lines, lost, run_setting}
 
 -- a state that has no move stays, and writes nothing
 abbrev pub next_or_stay : State → Option Move → State
@@ -94,6 +94,11 @@ abbrev pub Moves : Limits → Setting → State → State → SinkView → SinkV
 Moves l g s now old new (Ok u) = Ran l g s now old new
 Moves l g s now old new (Err end) = Stopped l g s now old new end
 
+-- The same where the moves lead to the state `there`, and an end is told of the state `now`.
+abbrev pub MovesTo : Limits → Setting → State → State → State → SinkView → SinkView → Result Unit Ended → Type 0
+MovesTo l g s there now old new (Ok u) = Ran l g s there old new
+MovesTo l g s there now old new (Err end) = Stopped l g s now old new end
+
 -- A state in which a command is reached with a turn left. In the state `there` the turn is taken, and the command acts.
 pub record ReachesCommand (l : Limits) (g : Setting) (s there : State) : Type 0 where
   pub fits : WithinLimits l s
@@ -145,6 +150,14 @@ ActsQuietly e e' action r = (files : ℕ → List ℕ) (ls : List (List ℕ)) (w
     MakesMove e.limits (run_setting e files) (acts (run_setting e files) (at_lines e ls) writes_text action)
     (at_lines e ls) (at_lines e' ls) sinks sinks r
 
+-- The same of any command that takes no line; w says whether `c` writes its text.
+abbrev pub ActsHere : {T : Type 0} → (T → ℕ → Option (List ℕ)) → T → RunState → RunState → Bool → Action → SinkView → SinkView →
+    Result Unit Ended → Type 0
+ActsHere text texts e e' w action old new r =
+    (files : ℕ → List ℕ) → TellsFiles (text texts) files → (ls : List (List ℕ)) →
+    MakesMove e.limits (run_setting e files) (acts (run_setting e files) (at_lines e ls) w action) (at_lines e ls)
+    (at_lines e' ls) old new r
+
 -- Lines were taken, and no more bytes than theirs are gone.
 pub record TakesLines {R : Type 0} (remaining : R → Option (List ℕ)) (old new : Stream R)
     (ls rest : List (List ℕ)) : Type 0 where
@@ -194,18 +207,12 @@ costs (t ∷ ts) = cost t + costs ts
 abbrev pub weight : RunState → ℕ
 weight e = 16 * (e.limits.turns - e.state.turns) + costs e.state.tasks
 
--- what a private call leaves as it is
-pub record KeepsRun (old new : RunState) : Type 0 where
-  pub script : new.script ≡ old.script
-  pub limits : new.limits ≡ old.limits
-  pub ended : new.ended ≡ old.ended
-
 -- How a call of the machine leaves what it was given, besides its moves: the sinks as its answer says, the input without a
 -- failure, the run as it is, and the texts.
 pub record LeavesGiven {O T : Type 0} (tally : O → SinkView) (count : O → ℕ) (text : T → ℕ → Option (List ℕ))
     (old new : RunState) (outputs outputs' : O) (texts texts' : T) (result : Result Unit Ended) : Type 0 where
   pub devices : DeliversAlone tally count outputs outputs' result
-  pub same : KeepsRun old new
+  pub same : SameRun old new
   pub kept : (j : ℕ) → Keeps (text texts j) (text texts' j)
 
 -- The same of a call that may take lines.
@@ -214,5 +221,5 @@ pub record LeavesLines {R O T : Type 0} (remaining : R → Option (List ℕ)) (f
     (outputs outputs' : O) (texts texts' : T) (result : Result Unit Ended) : Type 0 where
   pub input : ReadsLines remaining failures reference lines lines' result
   pub output : Delivers tally count outputs outputs' result
-  pub same : KeepsRun old new
+  pub same : SameRun old new
   pub kept : (j : ℕ) → Keeps (text texts j) (text texts' j)

@@ -1,6 +1,7 @@
 //! How a run goes on and ends, and what it holds.
 ghost use Rattle.std.specs.Prelude.{◌≡◌};
 ghost use Rattle.sedengine.specs.Held.{total_of};
+ghost use Rattle.sedengine.specs.Run.{end_answered};
 
 /// How a run ended. Lines are counted from 1, as the line number is.
 #[derive(Clone, Copy, Debug, PartialEq, Eq)]
@@ -33,6 +34,18 @@ pub enum Progress {
     More,
     /// The run has ended.
     Ended(Ended),
+}
+
+impl Progress {
+    /// The end, where the run has come to one.
+    pub(crate) fn end(self) -> Option<Ended>
+        ensures { result ≡ end_answered self }
+    {
+        match self {
+            Progress::More => None,
+            Progress::Ended(end) => Some(end),
+        }
+    }
 }
 
 /// How much an engine holds: the bytes in its three spaces, as many bytes as may be read ahead, whether they are or not,

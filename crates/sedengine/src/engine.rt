@@ -27,6 +27,8 @@ use std::marker::Model;
 pub struct Engine {
     machine: Machine,
     meter: Meter,
+    // How the run ended, where it has.
+    ended: Option<Ended>,
 }
 
 impl Model for Engine {
@@ -35,7 +37,7 @@ impl Model for Engine {
 
     ghost Value = { RunState };
 
-    ghost view = { λ s. record s.machine { sent = s.meter.sent } };
+    ghost view = { λ s. record s.machine { sent = s.meter.sent; ended = s.ended } };
 
     ghost invariant = { λ s. (s.meter.most ≡ s.machine.limits.output)
         × (length s.meter.sent ≡ length s.machine.script.wfiles + 1) };
@@ -69,7 +71,11 @@ impl Engine {
     {
         let meter = Meter::new(alloc, limits.output(), script.wfiles().len() + 1)?;
         let machine = Machine::open(alloc, script, limits)?;
-        Ok(Engine { machine, meter })
+        Ok(Engine {
+            machine,
+            meter,
+            ended: None,
+        })
     }
 
     /// Runs one cycle (XCU sed, "Extended Description"): reads the next line, runs the script over it, and writes the
@@ -115,11 +121,16 @@ impl Engine {
             × SameSinks O.count O.names outputs.old outputs.new }
         ensures same_texts { (k : ℕ) → Keeps (T.text texts.old k) (T.text texts.new k) }
     {
+        if let Some(end) = self.ended {
+            is_within_look(lines);
+            return Progress::Ended(end);
+        }
         let mut sinks = Metered {
             outputs: &mut *outputs,
             meter: &mut self.meter,
         };
         let progress = self.machine.cycle(lines, &mut sinks, texts);
+        self.ended = progress.end();
         self.meter.is_within_limit();
         is_within_look(lines);
         progress
@@ -160,11 +171,16 @@ impl Engine {
             × SameSinks O.count O.names outputs.old outputs.new }
         ensures same_texts { (k : ℕ) → Keeps (T.text texts.old k) (T.text texts.new k) }
     {
+        if let Some(end) = self.ended {
+            is_within_look(lines);
+            return end;
+        }
         let mut sinks = Metered {
             outputs: &mut *outputs,
             meter: &mut self.meter,
         };
         let end = self.machine.run(lines, &mut sinks, texts);
+        self.ended = Some(end);
         self.meter.is_within_limit();
         is_within_look(lines);
         end

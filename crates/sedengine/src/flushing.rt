@@ -6,7 +6,7 @@ ghost use Rattle.sedengine.specs.Calls.{DeliversAlone};
 ghost use Rattle.sedengine.specs.Ends.{WithinLimits};
 ghost use Rattle.sedengine.specs.Held.{SameLengths};
 ghost use Rattle.sedengine.specs.Inside.{AllQueue, CommandQueues, entries_of, entry_by};
-ghost use Rattle.sedengine.specs.Flushing.{CopiesEntry, FlushesQueue};
+ghost use Rattle.sedengine.specs.Steps.{MovesTo};
 
 use crate::ends::Ended;
 use crate::limits::Limits;
@@ -14,16 +14,6 @@ use crate::meter::MeteredSinks;
 use crate::write::write_line;
 use sedscript::{Action, FileUse, Script, TextUse};
 use sedspace::{Queue, Space, Texts};
-
-/// How many bytes of a file are asked for at once: as many as the build space holds and as turns are left, but at least
-/// one, which tells whether a turn is due.
-fn piece_size(limits: &Limits, left: u64) -> usize
-    ensures least { 1 ≤ result }
-    ensures room { result ≤ limits.now.space }
-    ensures turns { 0 < left → result ≤ left }
-{
-    left.min(limits.space() as u64).max(1) as usize
-}
 
 /// Writes a file's bytes to the standard output as they are, a turn each, through the build space (XCU sed, the command
 /// `r`).
@@ -41,7 +31,7 @@ fn copy_file<O: MeteredSinks, T: Texts>(
     ensures copies { (g : Setting) → TellsFiles (T.text texts.old) g.files → (s now : State) (rest : List Task) →
         s.tasks ≡ copy file 0 ∷ rest → s.turns ≡ turns.old → WithinLimits limits.now s →
         SameLengths s now → s.lines ≡ now.lines →
-        CopiesEntry limits.now g s (record s { tasks = rest; turns = turns.new }) now
+        MovesTo limits.now g s (record s { tasks = rest; turns = turns.new }) now
         (O.tally outputs.old) (O.tally outputs.new) result }
     ensures devices { DeliversAlone O.tally O.count outputs.old outputs.new result }
     ensures limit { build.new.limit ≡ build.old.limit }
@@ -52,7 +42,9 @@ fn copy_file<O: MeteredSinks, T: Texts>(
     let mut offset: u64 = 0;
     'pieces: loop {
         let left = limits.turns() - *turns;
-        let count = build.fill(texts, file, offset, piece_size(limits, left));
+        // At least one byte is asked for, which tells whether a turn is due.
+        let most = left.min(limits.space() as u64).max(1) as usize;
+        let count = build.fill(texts, file, offset, most);
         if count == 0 {
             return Ok(());
         }
@@ -84,7 +76,7 @@ fn write_entry<O: MeteredSinks, T: Texts>(
         (later : List Entry) → s.tasks ≡ flush ∷ rest →
         s.queue ≡ entry_by script.now.texts (slice_get script.now.commands entry) ∷ later → s.turns ≡ turns.old →
         WithinLimits limits.now s → SameLengths s now → s.lines ≡ now.lines →
-        CopiesEntry limits.now g s (record s { queue = later; tasks = flush ∷ rest; turns = turns.new }) now
+        MovesTo limits.now g s (record s { queue = later; tasks = flush ∷ rest; turns = turns.new }) now
         (O.tally outputs.old) (O.tally outputs.new) result }
     ensures devices { DeliversAlone O.tally O.count outputs.old outputs.new result }
     ensures limit { build.new.limit ≡ build.old.limit }
@@ -117,7 +109,7 @@ pub(crate) fn flush_queue<O: MeteredSinks, T: Texts>(
     ensures flushes { (g : Setting) → TellsFiles (T.text texts.old) g.files → (s : State) (rest : List Task) →
         s.tasks ≡ flush ∷ rest → s.queue ≡ entries_of script.now queue.now.items → s.turns ≡ turns.old →
         WithinLimits limits.now s →
-        FlushesQueue limits.now g s (record s { queue = []; tasks = rest; turns = turns.new })
+        MovesTo limits.now g s (record s { queue = []; tasks = rest; turns = turns.new }) s
         (O.tally outputs.old) (O.tally outputs.new) result }
     ensures devices { DeliversAlone O.tally O.count outputs.old outputs.new result }
     ensures limit { build.new.limit ≡ build.old.limit }

@@ -10,7 +10,7 @@
 //! the end; between cycles `machine/passing` passes over lines that no command touches, with `idle`, `block` and `patience`.
 //! All of them write through `meter`, which limits what each sink gains. What a machine holds is made in
 //! `machine/parts`, and `machine/known` says for proofs what is known of every one. `specs/Bringing`, `Calls`, `Choose`,
-//! `Fitting`, `Flushing`, `Holding`, `Inside`, `ListingParts`, `Meters`, `Parts`, `Passing`, `Queueing`, `Steps`,
+//! `Fitting`, `Holding`, `Inside`, `ListingParts`, `Meters`, `Parts`, `Passing`, `Queueing`, `Steps`,
 //! `SubstituteCalls` and `SubstituteParts` are private to this crate: what its calls promise one another.
 //!
 //! Where a new command goes is told in docs/ARCHITECTURE.md.

@@ -76,14 +76,6 @@ impl Limits {
         }
     }
 
-    /// For proofs: each limit is in its range.
-    #[inline(always)]
-    pub(crate) fn are_in_range(&self)
-        ensures { AreLimits self.now }
-    {
-        let _space = self.most_space;
-    }
-
     /// The most bytes that a space may hold, 1 to 2^30.
     pub fn space(&self) -> usize
         ensures value { result ≡ self.now.space }

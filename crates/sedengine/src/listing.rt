@@ -1,6 +1,6 @@
 //! The command `l` (XCU sed, "Editing Commands in sed"): the listing of a text.
-ghost use Rattle.std.specs.Prelude.{◌≡◌, ◌+◌, ◌*◌, ◌<◌, ◌≤◌, [], ◌∷◌, ◌++◌, length, take};
-ghost use Rattle.sedengine.specs.Listing.{escape, item, listed, octal};
+ghost use Rattle.std.specs.Prelude.{◌≡◌, ◌+◌, ◌*◌, ◌<◌, ◌≤◌, [], ◌++◌, length, take};
+ghost use Rattle.sedengine.specs.Listing.{item, listed};
 ghost use Rattle.sedengine.specs.ListingParts.{ArePlain, Lists, plain, with_item, with_run};
 ghost use Rattle.sedengine.specs.Move.{to_sink};
 ghost use Rattle.sedengine.specs.Calls.{Puts, Delivers};
@@ -35,7 +35,7 @@ pub(crate) fn write_listing<O: MeteredSinks>(outputs: &mut O, bytes: &[u8]) -> R
         rest = after;
     }
     gathered.list(rest);
-    gathered.finish();
+    gathered.append(b"$\n");
     outputs.write_all(0, gathered.bytes())
 }
 
@@ -85,14 +85,6 @@ impl Gathered {
         self.end = 0;
     }
 
-    /// Ends the listing.
-    fn finish(&mut self)
-        requires { length self.old.bytes + 6 ≤ ROOM }
-        ensures { self.new ≡ record self.old { bytes = self.old.bytes ++ 36 ∷ 10 ∷ [] } }
-    {
-        self.append(b"$\n");
-    }
-
     /// Lists a part of a text.
     fn list(&mut self, part: &[u8])
         requires { length self.old.bytes + 6 * length part.now ≤ ROOM }
@@ -119,11 +111,35 @@ impl Gathered {
         let most = (MOST_LISTED - self.column).min(part.len());
         let run = plain_run(&part[..most]);
         if run == 0 {
-            self.put_item(Item::of(part[0]).bytes());
+            self.list_byte(part[0]);
             return 1;
         }
         self.put_run(&part[..run]);
         run
+    }
+
+    /// Lists a byte: by its escape, as it is, or by its octal number.
+    fn list_byte(&mut self, byte: u8)
+        requires { length self.old.bytes + 6 ≤ ROOM }
+        ensures { self.new ≡ with_item self.old (item byte) }
+    {
+        match byte {
+            b'\\' => self.put_item(b"\\\\"),
+            7 => self.put_item(b"\\a"),
+            8 => self.put_item(b"\\b"),
+            12 => self.put_item(b"\\f"),
+            13 => self.put_item(b"\\r"),
+            9 => self.put_item(b"\\t"),
+            11 => self.put_item(b"\\v"),
+            10 => self.put_item(b"\\n"),
+            32..=126 => self.put_item(&[byte]),
+            _ => self.put_item(&[
+                b'\\',
+                b'0' + byte / 64,
+                b'0' + byte / 8 % 8,
+                b'0' + byte % 8,
+            ]),
+        }
     }
 
     /// Appends bytes to the current piece.
@@ -186,74 +202,4 @@ fn is_plain(byte: u8) -> bool
     ensures { result ≡ plain byte }
 {
     32 <= byte && byte <= 126 && byte != b'\\'
-}
-
-/// The text of a byte in a listing.
-#[derive(Drop)]
-struct Item {
-    held: [u8; 4],
-    end: usize,
-}
-
-impl Model for Item {
-    ghost use Rattle.std.specs.Prelude.{List, ℕ, ◌≤◌, take};
-
-    ghost Value = { List ℕ };
-
-    ghost view = { λ s. take s.end s.held };
-
-    ghost invariant = { λ s. s.end ≤ 4 };
-}
-
-impl Item {
-    /// The item of a byte.
-    fn of(byte: u8) -> Item
-        ensures { result ≡ item byte }
-    {
-        match byte {
-            b'\\' => Item::escape(b'\\'),
-            7 => Item::escape(b'a'),
-            8 => Item::escape(b'b'),
-            12 => Item::escape(b'f'),
-            13 => Item::escape(b'r'),
-            9 => Item::escape(b't'),
-            11 => Item::escape(b'v'),
-            10 => Item::escape(b'n'),
-            32..=126 => Item {
-                held: [byte, 0, 0, 0],
-                end: 1,
-            },
-            _ => Item::octal(byte),
-        }
-    }
-
-    /// A backslash and a letter.
-    fn escape(letter: u8) -> Item
-        ensures { result ≡ escape letter }
-    {
-        Item {
-            held: [b'\\', letter, 0, 0],
-            end: 2,
-        }
-    }
-
-    /// A backslash and the octal number of a byte.
-    fn octal(byte: u8) -> Item
-        ensures { result ≡ octal byte }
-    {
-        let high = b'0' + byte / 64;
-        let middle = b'0' + byte / 8 % 8;
-        Item {
-            held: [b'\\', high, middle, b'0' + byte % 8],
-            end: 4,
-        }
-    }
-
-    /// Its bytes.
-    fn bytes(&self) -> &[u8]
-        ensures is { result.now ≡ self.now }
-        ensures short { length result.now ≤ 4 }
-    {
-        &self.held[..self.end]
-    }
 }

@@ -1,16 +1,8 @@
-//! The machine that makes the moves of a run: its parts, and the calls that run it.
-ghost use Rattle.std.specs.Prelude.{◌≡◌, ◌<◌, ◌≤◌, [], None, Some, Ok, Err, IfOk, IfSome, IsNone, length, ℕ, Option, List};
-ghost use Rattle.std.specs.Option.{ForSome};
-ghost use Rattle.std.specs.Io.KnownBytes.{Keeps};
-ghost use Rattle.sedspace.specs.Stream.{lines_left};
+//! The machine that makes the moves of a run: its parts, and what it holds.
+ghost use Rattle.std.specs.Prelude.{◌≡◌, ◌≤◌, [], None, IfOk, length};
 ghost use Rattle.sedengine.specs.Move.{start};
-ghost use Rattle.sedengine.specs.Ends.{SourceAtEnd};
-ghost use Rattle.sedengine.specs.Calls.{Delivers};
-ghost use Rattle.sedengine.specs.Meters.{Sent};
 ghost use Rattle.sedengine.specs.Held.{total_of, bound_of};
 ghost use Rattle.sedengine.specs.Parts.{AreParts};
-ghost use Rattle.sedengine.specs.Run.{outcome, Cycles, Ending, SameRun, at_lines, end_answered, run_setting, input_of, FailedSource, SameLines};
-ghost use Rattle.sedengine.specs.State.{TellsFiles};
 
 mod addresses;
 mod commands;
@@ -25,20 +17,20 @@ mod queueing;
 mod replacing;
 mod tasks;
 
-use crate::ends::{Ended, Held, Progress};
+use crate::ends::Held;
 use crate::idle::Idle;
 use crate::limits::Limits;
-use crate::meter::MeteredSinks;
 use crate::next_step::NextStep;
 use crate::patience::Patience;
 use parts::Parts;
 use sedmatch::{Occurrences, Scratch, TableMatcher};
 use sedscript::Script;
-use sedspace::{ByteSource, Lines, Queue, Space, Texts};
+use sedspace::{Queue, Space};
 use std::alloc::{AllocError, Global};
 use std::marker::Model;
 
-/// The editor without its counts of what sinks have gained: contracts see it as a `RunState` that has none.
+/// The editor without its counts of what sinks have gained, and without its end: contracts see it as a `RunState` that has
+/// none.
 #[derive(Drop)]
 pub(crate) struct Machine {
     script: Script,
@@ -65,7 +57,6 @@ pub(crate) struct Machine {
     number: u64,
     next_step: NextStep,
     turns: u64,
-    ended: Option<Ended>,
 }
 
 impl Model for Machine {
@@ -136,81 +127,7 @@ impl Machine {
             number: 0,
             turns: 0,
             next_step: NextStep::Begin,
-            ended: None,
         }
-    }
-
-    /// Runs one cycle, as `Engine::cycle` does.
-    pub(crate) fn cycle<R: ByteSource, O: MeteredSinks, T: Texts>(
-        &mut self,
-        lines: &mut Lines<R>,
-        outputs: &mut O,
-        texts: &mut T,
-    ) -> Progress
-        requires look { lines.old.look ≡ self.old.limits.look }
-        requires sinks { length self.old.script.wfiles < O.count outputs.old }
-        ensures cycles { IsNone self.old.ended → lines.old.fault ≡ None →
-            ForSome (lines_left R.remaining lines.old) (λ ls.
-            (files : ℕ → List ℕ) → TellsFiles (T.text texts.old) files →
-            (out : List (ℕ × ℕ)) × Sent (O.tally outputs.old) (O.tally outputs.new) out
-            × Cycles self.old.limits (run_setting self.old files) (at_lines self.old ls) out
-            (input_of R.remaining lines.old) (input_of R.remaining lines.new)
-            self.new (lines_left R.remaining lines.new) result) }
-        ensures input { IsNone self.old.ended → lines.old.fault ≡ None →
-            FailedSource (R.failures lines.old.source) (R.failures lines.new.source) (outcome result) }
-        ensures output { IsNone self.old.ended →
-            Delivers O.tally O.count outputs.old outputs.new (outcome result) }
-        ensures sound { result ≡ Progress.More → lines.old.fault ≡ None → lines.new.fault ≡ None }
-        ensures ended { self.new.ended ≡ end_answered result }
-        ensures again { IfSome self.old.ended (λ end. (result ≡ Progress.Ended end) × (self.new ≡ self.old)
-            × (lines.new ≡ lines.old) × (outputs.new ≡ outputs.old) × (texts.new ≡ texts.old)) }
-        ensures same_run { SameRun self.old self.new }
-        ensures same_devices { SameLines R.reference lines.old lines.new
-            × ((O.tally outputs.new).frame ≡ (O.tally outputs.old).frame) }
-        ensures same_texts { (k : ℕ) → Keeps (T.text texts.old k) (T.text texts.new k) }
-    {
-        if let Some(end) = self.ended {
-            return Progress::Ended(end);
-        }
-        let progress = self.moves_of_cycle(lines, outputs, texts);
-        if let Progress::Ended(end) = progress {
-            self.ended = Some(end);
-        }
-        progress
-    }
-
-    /// Runs cycles to the end, as `Engine::run` does.
-    pub(crate) fn run<R: ByteSource, O: MeteredSinks, T: Texts>(
-        &mut self,
-        lines: &mut Lines<R>,
-        outputs: &mut O,
-        texts: &mut T,
-    ) -> Ended
-        requires look { lines.old.look ≡ self.old.limits.look }
-        requires sinks { length self.old.script.wfiles < O.count outputs.old }
-        ensures ends { IsNone self.old.ended → lines.old.fault ≡ None →
-            ForSome (lines_left R.remaining lines.old) (λ ls.
-            (files : ℕ → List ℕ) → TellsFiles (T.text texts.old) files →
-            (out : List (ℕ × ℕ)) × Sent (O.tally outputs.old) (O.tally outputs.new) out
-            × Ending self.old.limits (run_setting self.old files) (at_lines self.old ls) out
-            (input_of R.remaining lines.old) (input_of R.remaining lines.new) self.new.state result) }
-        ensures input { IsNone self.old.ended → lines.old.fault ≡ None →
-            SourceAtEnd (R.failures lines.old.source) (R.failures lines.new.source) result }
-        ensures output { IsNone self.old.ended → Delivers O.tally O.count outputs.old outputs.new (Err result) }
-        ensures ended { self.new.ended ≡ Some result }
-        ensures again { IfSome self.old.ended (λ end. (result ≡ end) × (self.new ≡ self.old)
-            × (lines.new ≡ lines.old) × (outputs.new ≡ outputs.old) × (texts.new ≡ texts.old)) }
-        ensures same_run { SameRun self.old self.new }
-        ensures same_devices { SameLines R.reference lines.old lines.new
-            × ((O.tally outputs.new).frame ≡ (O.tally outputs.old).frame) }
-        ensures same_texts { (k : ℕ) → Keeps (T.text texts.old k) (T.text texts.new k) }
-    {
-        if let Some(end) = self.ended {
-            return end;
-        }
-        let end = self.moves(lines, outputs, texts);
-        self.ended = Some(end);
-        end
     }
 
     /// What the machine holds. The read-ahead counts with its whole room.

@@ -1,6 +1,6 @@
 //! How much room a script needs in the spaces besides the pattern space.
-ghost use Rattle.std.specs.Prelude.{◌≡◌, ◌<◌, ◌≤◌, ℕ, false, length, slice_get};
-ghost use Rattle.sedengine.specs.Inside.{FillsHold, CommandHolds, holds};
+ghost use Rattle.std.specs.Prelude.{◌≡◌, ◌<◌, ◌≤◌, length};
+ghost use Rattle.sedengine.specs.Inside.{FillsHold, holds};
 
 use crate::limits::Limits;
 use sedscript::{Action, Script, Simple};
@@ -15,27 +15,16 @@ fn is_holding(action: &Action) -> bool
     )
 }
 
-/// Whether one of the commands puts something into the hold space.
-fn fills_hold(script: &Script) -> bool
-    ensures { result ≡ false → (i : ℕ) → CommandHolds (slice_get script.now.commands i) → ⊥ }
-{
-    for k in 0..script.len() {
-        if is_holding(&script.command(k).action) {
-            return true;
-        }
-    }
-    false
-}
-
 /// How many bytes the hold space has room for: none where no command puts any into it.
 pub(crate) fn hold_room(script: &Script, limits: &Limits) -> usize
     ensures { FillsHold script.now → result ≡ limits.now.space }
 {
-    if fills_hold(script) {
-        limits.space()
-    } else {
-        0
+    for k in 0..script.len() {
+        if is_holding(&script.command(k).action) {
+            return limits.space();
+        }
     }
+    0
 }
 
 /// How many bytes the build space has room for: none where there is no substitution, and no file to copy.

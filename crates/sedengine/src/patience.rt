@@ -18,7 +18,8 @@ pub(crate) struct Patience {
     wait: u32,
     // How many cycles the last short block made the next one wait.
     last: u32,
-    window: usize,
+    /// How many bytes a search looks at.
+    pub(crate) window: usize,
 }
 
 impl Patience {
@@ -29,11 +30,6 @@ impl Patience {
             last: 0,
             window: LEAST_WINDOW,
         }
-    }
-
-    /// How many bytes a search looks at.
-    pub(crate) fn window(&self) -> usize {
-        self.window
     }
 
     /// Whether lines are to be tried at the start of this cycle.

@@ -4,7 +4,6 @@
 //! judged, and the choice follows from whether it matches.
 ghost use Rattle.std.specs.Prelude.{◌≡◌, ◌<◌, ◌≤◌, length};
 ghost use Rattle.sedengine.specs.Choose.{choice_by_match, chosen_active, chosen_idle, deciding, turned, yes_by_number};
-ghost use Rattle.sedengine.specs.Select.{ends_at_once};
 ghost use Rattle.sedengine.specs.Fitting.{AllFit};
 ghost use Rattle.sedengine.specs.State.{finds_in};
 
@@ -96,7 +95,8 @@ fn choose_idle(second: Address, number: u64, matched: bool) -> Chosen
             active: false,
         };
     }
-    let over = ends_at_once(second, number);
+    // A range that begins at the line of its second address, or past it, is over there.
+    let over = matches!(second, Address::Line(line) if line <= number);
     Chosen {
         yes: true,
         end: over,
@@ -125,16 +125,6 @@ fn choose_active(second: Address, number: u64, matched: bool) -> Chosen
             end: matched,
             active: !matched,
         },
-    }
-}
-
-/// Whether a range that begins at the line of this number is over there.
-fn ends_at_once(second: Address, number: u64) -> bool
-    ensures { result ≡ ends_at_once number second }
-{
-    match second {
-        Address::Line(line) => line <= number,
-        Address::Last | Address::Match(_) => false,
     }
 }
 

@@ -1,5 +1,5 @@
 //! The command `s` (XCU sed, "Editing Commands in sed"): which occurrences it replaces, and the text that it makes.
-ghost use Rattle.std.specs.Prelude.{◌≡◌, ◌+◌, ◌-◌, ◌*◌, ◌<◌, ◌≤◌, [], ◌∷◌, length, true, Some, None, IfSome, IsTrue};
+ghost use Rattle.std.specs.Prelude.{◌≡◌, ◌+◌, ◌-◌, ◌*◌, ◌<◌, ◌≤◌, [], ◌∷◌, length, true, Some, None};
 ghost use Rattle.sedre.specs.Tree.{expression_tree};
 ghost use Rattle.sedmatch.specs.Costs.{CostsWithin};
 ghost use Rattle.sedre.specs.Steps.{Takes};
@@ -7,7 +7,6 @@ ghost use Rattle.sedmatch.specs.Following.{EndsWithin, LiesOn};
 ghost use Rattle.sedmatch.specs.Occurrences.{KeepsRoom, Serves, ServesOn, owed, owed_after};
 ghost use Rattle.sedmatch.specs.SearchRoom.{FitInto};
 ghost use Rattle.sedmatch.specs.Matching.{report};
-ghost use Rattle.sedmatch.specs.Groups.{part_of, span_of};
 ghost use Rattle.sedmatch.specs.Spans.{Matches};
 ghost use Rattle.sedscript.specs.Pieces.{GroupsWithin, pieces_in};
 ghost use Rattle.sedengine.specs.Substitute.{to_replace, occurrences, put_for, replaced_from};
@@ -273,7 +272,7 @@ fn put(
     Ok(())
 }
 
-/// Appends what stands for a part of the replacement.
+/// Appends what stands for a part of the replacement: nothing for a group without a match.
 fn put_part(
     part: &ReplacementPart,
     span: (usize, usize),
@@ -290,18 +289,9 @@ fn put_part(
     match part {
         ReplacementPart::Literal(bytes) => build.append(bytes),
         ReplacementPart::Whole => build.append(&text[span.0..span.1]),
-        ReplacementPart::Group(k) => build.append(group_part(text, groups, *k)),
-    }
-}
-
-/// The bytes of group `k` in the text; empty where the group has no match.
-fn group_part<'a>(text: &'a [u8], groups: &Groups, k: usize) -> &'a [u8]
-    requires group { k ≤ 9 }
-    requires lies { GroupsIn (length text.now) groups.now }
-    ensures { result.now ≡ part_of text.now (span_of groups.now k) }
-{
-    match groups[k] {
-        None => &[],
-        Some((start, end)) => &text[start..end],
+        ReplacementPart::Group(k) => match groups[*k] {
+            None => Ok(()),
+            Some((start, end)) => build.append(&text[start..end]),
+        },
     }
 }

@@ -1,5 +1,5 @@
 //! Writing lines to a sink.
-ghost use Rattle.std.specs.Prelude.{◌≡◌, ◌<◌, ◌≤◌, ◌+◌, [], ◌∷◌, ◌++◌, length, take};
+ghost use Rattle.std.specs.Prelude.{◌<◌};
 ghost use Rattle.sedengine.specs.Move.{line_to};
 ghost use Rattle.sedengine.specs.Calls.{Puts, Delivers};
 
@@ -8,26 +8,6 @@ use crate::meter::MeteredSinks;
 
 /// The most bytes that are copied, so that they are written with their newline at once.
 const SHORT: usize = 127;
-
-/// The bytes, followed by newlines.
-fn with_newline(bytes: &[u8]) -> [u8; 128]
-    requires { length bytes.now ≤ 127 }
-    ensures { take (length bytes.now + 1) result ≡ bytes.now ++ 10 ∷ [] }
-{
-    let mut line = [b'\n'; 128];
-    line[..bytes.len()].copy_from_slice(bytes);
-    line
-}
-
-/// Writes all the bytes and then a newline.
-fn write_apart<O: MeteredSinks>(outputs: &mut O, sink: usize, bytes: &[u8]) -> Result<(), Ended>
-    requires { sink < O.count outputs.old }
-    ensures puts { Puts (O.tally outputs.old) (O.tally outputs.new) (line_to sink bytes.now) result }
-    ensures devices { Delivers O.tally O.count outputs.old outputs.new result }
-{
-    outputs.write_all(sink, bytes)?;
-    outputs.write_all(sink, b"\n")
-}
 
 /// Writes all the bytes and a newline.
 pub(crate) fn write_line<O: MeteredSinks>(
@@ -40,8 +20,10 @@ pub(crate) fn write_line<O: MeteredSinks>(
     ensures devices { Delivers O.tally O.count outputs.old outputs.new result }
 {
     if bytes.len() > SHORT {
-        return write_apart(outputs, sink, bytes);
+        outputs.write_all(sink, bytes)?;
+        return outputs.write_all(sink, b"\n");
     }
-    let line = with_newline(bytes);
+    let mut line = [b'\n'; 128];
+    line[..bytes.len()].copy_from_slice(bytes);
     outputs.write_all(sink, &line[..bytes.len() + 1])
 }

@@ -115,27 +115,16 @@ impl Machine {
         self.ranges[k]
     }
 
-    /// Reaches command `k`: takes the turn, and goes on after the command.
-    fn take_turn(&mut self, k: usize)
+    /// Reaches command `k`: notes whether its range is active, takes the turn, and goes on after the command.
+    fn take_turn(&mut self, k: usize, active: bool)
         requires there { k < length self.old.script.commands }
         requires turn { self.old.state.turns < self.old.limits.turns }
-        ensures { self.new ≡ reached_with self.old k self.old.state.ranges self.old.state.used }
+        ensures { self.new ≡ reached_with self.old k (slice_set self.old.state.ranges k active) self.old.state.used }
     {
         self.turns_fit();
+        self.ranges[k] = active;
         self.turns += 1;
         self.next_step = NextStep::Do(k + 1);
-    }
-
-    /// Notes whether the range of command `k` is active.
-    fn set_active(&mut self, k: usize, active: bool)
-        requires { k < length self.old.script.commands }
-        ensures { self.new ≡ record self.old {
-          state = record self.old.state {
-            ranges = slice_set self.old.state.ranges k active;
-          };
-        } }
-    {
-        self.ranges[k] = active;
     }
 
     /// Judges the addresses of command `k`, and reaches it.
@@ -158,7 +147,7 @@ impl Machine {
     {
         let active = self.is_active(k);
         if let Some(yes) = yes_by_number(command, self.number) {
-            self.take_turn(k);
+            self.take_turn(k, active);
             return Ok(Chosen {
                 yes,
                 end: false,
@@ -167,8 +156,7 @@ impl Machine {
         }
         let matched = self.decide(command, active, lines)?;
         let choice = choose(command, active, self.number, matched);
-        self.set_active(k, choice.active);
-        self.take_turn(k);
+        self.take_turn(k, choice.active);
         Ok(choice)
     }
 }

@@ -1,18 +1,15 @@
 //! The commands (XCU sed, "Editing Commands in sed"): `act` and the calls that it passes commands on to have a case for each.
-ghost use Rattle.std.specs.Prelude.{◌≡◌, ◌<◌, ◌≤◌, ◌+◌, [], ◌∷◌, None, Ok, Err, OnOk, ℕ, List, true, false, decimal, length, slice_get};
-ghost use Rattle.sedspace.specs.Lines.{is_newline};
-ghost use Rattle.std.specs.List.{before_first};
-ghost use Rattle.std.specs.Option.{ForSome, unwrap_or};
+ghost use Rattle.std.specs.Prelude.{◌≡◌, ◌<◌, ◌≤◌, ◌+◌, [], ◌∷◌, None, Ok, Err, OnOk, ℕ, List, true, false, length, slice_get};
+ghost use Rattle.std.specs.Option.{ForSome};
 ghost use Rattle.sedscript.specs.Ranges.{ActionWithin, sizes_of};
 ghost use Rattle.sedspace.specs.Stream.{lines_left};
-ghost use Rattle.sedengine.specs.State.{do_at, print_pattern, flush, TellsFiles};
-ghost use Rattle.sedengine.specs.Listing.{listed};
-ghost use Rattle.sedengine.specs.Move.{acts, passes, line_to, writes_text_at, to_sink};
+ghost use Rattle.sedengine.specs.State.{do_at, TellsFiles};
+ghost use Rattle.sedengine.specs.Move.{acts, passes, line_to, writes_text_at};
 ghost use Rattle.sedengine.specs.Ends.{is_next};
 ghost use Rattle.sedengine.specs.Meters.{SinkView};
 ghost use Rattle.sedengine.specs.Calls.{Delivers, NamesNone, Puts};
-ghost use Rattle.sedengine.specs.Run.{at_lines, run_setting};
-ghost use Rattle.sedengine.specs.Steps.{reaches, ActsQuietly, HasAction, KeepsRun, LeavesGiven, LeavesLines, MakesMove, PerformsSteps, Steps, writes_nothing, takes_further_line, weight};
+ghost use Rattle.sedengine.specs.Run.{SameRun, at_lines, run_setting};
+ghost use Rattle.sedengine.specs.Steps.{reaches, ActsHere, ActsQuietly, HasAction, LeavesGiven, LeavesLines, MakesMove, PerformsSteps, Steps, writes_nothing, takes_further_line, weight};
 
 use super::Machine;
 use crate::ends::Ended;
@@ -118,10 +115,8 @@ impl Machine {
         requires action { HasAction (slice_get self.old.script.commands k) action }
         requires here { takes_further_line action ≡ false }
         requires sinks { length self.old.script.wfiles < O.count outputs.old }
-        ensures acts { (files : ℕ → List ℕ) → TellsFiles (T.text texts.old) files → (ls : List (List ℕ)) →
-            MakesMove self.old.limits (run_setting self.old files)
-            (acts (run_setting self.old files) (at_lines self.old ls) writes_text action) (at_lines self.old ls) (at_lines self.new ls)
-            (O.tally outputs.old) (O.tally outputs.new) result }
+        ensures acts { ActsHere T.text texts.old self.old self.new writes_text action (O.tally outputs.old)
+            (O.tally outputs.new) result }
         ensures falls { weight self.new ≤ weight self.old + 8 }
         ensures leaves { LeavesGiven O.tally O.count T.text self.old self.new outputs.old outputs.new texts.old texts.new result }
     {
@@ -135,11 +130,14 @@ impl Machine {
             ),
             Action::Plain(Simple::Delete) => self.act_delete(outputs, texts),
             Action::Plain(Simple::DeleteFirst) => self.act_delete_first(outputs, texts),
-            Action::Text(TextUse::Insert, text) => self.act_insert(text, outputs),
-            Action::Plain(Simple::LineNumber) => self.act_line_number(outputs),
-            Action::Plain(Simple::List) => self.act_list(outputs),
+            Action::Text(TextUse::Insert, text) => write_line(outputs, 0, self.script.text(text)),
+            Action::Plain(Simple::LineNumber) => {
+                let mut buffer = Buffer::new();
+                write_line(outputs, 0, buffer.format(self.number).as_bytes())
+            },
+            Action::Plain(Simple::List) => write_listing(outputs, self.pattern.bytes()),
             Action::Plain(Simple::Print) => self.act_write(0, outputs),
-            Action::Plain(Simple::PrintFirst) => self.act_print_first(outputs),
+            Action::Plain(Simple::PrintFirst) => outputs.write_all(0, self.pattern.first_line()),
             Action::Substitute(k) => self.act_substitute(k, outputs),
             Action::File(FileUse::Write, sink) => self.act_write(sink, outputs),
             _ => self.act_quietly(k, action),
@@ -155,7 +153,7 @@ impl Machine {
         ensures acts { ActsQuietly self.old self.new action result }
         ensures devices { NamesNone result }
         ensures falls { weight self.new ≤ weight self.old + 8 }
-        ensures same { KeepsRun self.old self.new }
+        ensures same { SameRun self.old self.new }
     {
         self.is_within_limits();
         match action {
@@ -163,11 +161,11 @@ impl Machine {
             Action::File(FileUse::Read, _) => self.act_queue(k),
             Action::Block(_) => Ok(()),
             Action::Branch(BranchUse::Always, target) => {
-                self.act_branch(target);
+                self.next_step = NextStep::Do(target);
                 Ok(())
             }
             Action::Plain(Simple::Quit) => {
-                self.act_quit();
+                self.next_step = NextStep::Quit;
                 Ok(())
             }
             Action::Branch(BranchUse::IfReplaced, target) => {
@@ -188,50 +186,11 @@ impl Machine {
             MakesMove self.old.limits (run_setting self.old files) (passes (at_lines self.old ls) action)
             (at_lines self.old ls) (at_lines self.new ls) sinks sinks (Ok tt) }
         ensures falls { weight self.new ≤ weight self.old + 8 }
-        ensures same { KeepsRun self.old self.new }
+        ensures same { SameRun self.old self.new }
     {
         if let Action::Block(next) = action {
             self.next_step = NextStep::Do(next);
         }
-    }
-
-    /// The command `b`: goes on at its target.
-    fn act_branch(&mut self, target: usize)
-        ensures { self.new ≡ record self.old { state = record self.old.state { tasks = do_at target ∷ [] } } }
-    {
-        self.next_step = NextStep::Do(target);
-    }
-
-    /// The command `i`: writes its text.
-    fn act_insert<O: MeteredSinks>(&self, text: usize, outputs: &mut O) -> Result<(), Ended>
-        requires text { text < length self.now.script.texts }
-        requires sink { 0 < O.count outputs.old }
-        ensures puts { Puts (O.tally outputs.old) (O.tally outputs.new)
-            (line_to 0 (unwrap_or (slice_get self.now.script.texts text) [])) result }
-        ensures output { Delivers O.tally O.count outputs.old outputs.new result }
-    {
-        write_line(outputs, 0, self.script.text(text))
-    }
-
-    /// The command `=`: writes the line number.
-    fn act_line_number<O: MeteredSinks>(&self, outputs: &mut O) -> Result<(), Ended>
-        requires { 0 < O.count outputs.old }
-        ensures puts { Puts (O.tally outputs.old) (O.tally outputs.new)
-            (line_to 0 (decimal self.now.state.number)) result }
-        ensures output { Delivers O.tally O.count outputs.old outputs.new result }
-    {
-        let mut buffer = Buffer::new();
-        write_line(outputs, 0, buffer.format(self.number).as_bytes())
-    }
-
-    /// The command `l`: writes the listing of the pattern space.
-    fn act_list<O: MeteredSinks>(&self, outputs: &mut O) -> Result<(), Ended>
-        requires { 0 < O.count outputs.old }
-        ensures puts { Puts (O.tally outputs.old) (O.tally outputs.new)
-            (to_sink 0 (listed self.now.state.pattern)) result }
-        ensures output { Delivers O.tally O.count outputs.old outputs.new result }
-    {
-        write_listing(outputs, self.pattern.bytes())
     }
 
     /// The commands `p` and `w`: writes the pattern space to a sink.
@@ -246,24 +205,5 @@ impl Machine {
         ensures output { Delivers O.tally O.count outputs.old outputs.new result }
     {
         outputs.write_all(sink, self.pattern.line())
-    }
-
-    /// The command `P`: writes the pattern space up to its first newline.
-    fn act_print_first<O: MeteredSinks>(&self, outputs: &mut O) -> Result<(), Ended>
-        requires { 0 < O.count outputs.old }
-        ensures puts { Puts (O.tally outputs.old) (O.tally outputs.new)
-            (line_to 0 (before_first is_newline self.now.state.pattern)) result }
-        ensures output { Delivers O.tally O.count outputs.old outputs.new result }
-    {
-        outputs.write_all(0, self.pattern.first_line())
-    }
-
-    /// The command `q`: the pattern space and the queue are written for the last time.
-    fn act_quit(&mut self)
-        ensures { self.new ≡ record self.old {
-          state = record self.old.state { tasks = print_pattern ∷ flush ∷ [] };
-        } }
-    {
-        self.next_step = NextStep::Quit;
     }
 }

@@ -1,12 +1,9 @@
 //! The commands `c`, `d` and `D`: the pattern space is deleted, and a cycle starts (XCU sed, "Editing Commands in sed").
-ghost use Rattle.std.specs.Prelude.{◌<◌, ◌≤◌, ◌+◌, ℕ, List, true, length};
+ghost use Rattle.std.specs.Prelude.{◌<◌, ◌≤◌, ◌+◌, true, length};
 ghost use Rattle.sedscript.specs.declared.types.Action.TheVariants.{Plain, Text};
 ghost use Rattle.sedscript.specs.declared.types.Simple.TheVariants.{Delete, DeleteFirst};
 ghost use Rattle.sedscript.specs.declared.types.TextUse.TheVariants.{Change};
-ghost use Rattle.sedengine.specs.Move.{acts};
-ghost use Rattle.sedengine.specs.Run.{at_lines, run_setting};
-ghost use Rattle.sedengine.specs.State.{TellsFiles};
-ghost use Rattle.sedengine.specs.Steps.{LeavesGiven, MakesMove, weight};
+ghost use Rattle.sedengine.specs.Steps.{ActsHere, LeavesGiven, weight};
 
 use super::Machine;
 use crate::ends::Ended;
@@ -27,10 +24,8 @@ impl Machine {
     ) -> Result<(), Ended>
         requires text { text < length self.old.script.texts }
         requires sink { 0 < O.count outputs.old }
-        ensures acts { (files : ℕ → List ℕ) → TellsFiles (T.text texts.old) files → (ls : List (List ℕ)) →
-            MakesMove self.old.limits (run_setting self.old files)
-            (acts (run_setting self.old files) (at_lines self.old ls) writes_text (Text Change text)) (at_lines self.old ls)
-            (at_lines self.new ls) (O.tally outputs.old) (O.tally outputs.new) result }
+        ensures acts { ActsHere T.text texts.old self.old self.new writes_text (Text Change text) (O.tally outputs.old)
+            (O.tally outputs.new) result }
         ensures falls { weight self.new ≤ weight self.old + 8 }
         ensures leaves { LeavesGiven O.tally O.count T.text self.old self.new outputs.old outputs.new texts.old texts.new result }
     {
@@ -49,10 +44,8 @@ impl Machine {
         texts: &mut T,
     ) -> Result<(), Ended>
         requires { 0 < O.count outputs.old }
-        ensures acts { (files : ℕ → List ℕ) → TellsFiles (T.text texts.old) files → (ls : List (List ℕ)) →
-            MakesMove self.old.limits (run_setting self.old files)
-            (acts (run_setting self.old files) (at_lines self.old ls) true (Plain Delete)) (at_lines self.old ls)
-            (at_lines self.new ls) (O.tally outputs.old) (O.tally outputs.new) result }
+        ensures acts { ActsHere T.text texts.old self.old self.new true (Plain Delete) (O.tally outputs.old)
+            (O.tally outputs.new) result }
         ensures falls { weight self.new ≤ weight self.old + 8 }
         ensures leaves { LeavesGiven O.tally O.count T.text self.old self.new outputs.old outputs.new texts.old texts.new result }
     {
@@ -68,10 +61,8 @@ impl Machine {
         texts: &mut T,
     ) -> Result<(), Ended>
         requires { 0 < O.count outputs.old }
-        ensures acts { (files : ℕ → List ℕ) → TellsFiles (T.text texts.old) files → (ls : List (List ℕ)) →
-            MakesMove self.old.limits (run_setting self.old files)
-            (acts (run_setting self.old files) (at_lines self.old ls) true (Plain DeleteFirst)) (at_lines self.old ls)
-            (at_lines self.new ls) (O.tally outputs.old) (O.tally outputs.new) result }
+        ensures acts { ActsHere T.text texts.old self.old self.new true (Plain DeleteFirst) (O.tally outputs.old)
+            (O.tally outputs.new) result }
         ensures falls { weight self.new ≤ weight self.old + 8 }
         ensures leaves { LeavesGiven O.tally O.count T.text self.old self.new outputs.old outputs.new texts.old texts.new result }
     {

@@ -4,7 +4,8 @@ ghost use Rattle.sedengine.specs.Move.{newline};
 ghost use Rattle.sedengine.specs.Holding.{BecomesOrFull};
 ghost use Rattle.sedengine.specs.Inside.{FillsHold, holds};
 ghost use Rattle.sedengine.specs.Calls.{NamesNone};
-ghost use Rattle.sedengine.specs.Steps.{reaches, ActsQuietly, KeepsRun, uses_hold, weight};
+ghost use Rattle.sedengine.specs.Steps.{reaches, ActsQuietly, uses_hold, weight};
+ghost use Rattle.sedengine.specs.Run.{SameRun};
 
 use super::Machine;
 use crate::ends::Ended;
@@ -19,7 +20,7 @@ impl Machine {
         ensures acts { ActsQuietly self.old self.new action result }
         ensures devices { NamesNone result }
         ensures falls { weight self.new ≤ weight self.old + 8 }
-        ensures same { KeepsRun self.old self.new }
+        ensures same { SameRun self.old self.new }
     {
         self.is_within_limits();
         match action {

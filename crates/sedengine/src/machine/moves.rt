@@ -40,7 +40,7 @@ impl Machine {
     }
 
     /// Makes moves to the end.
-    pub(super) fn moves<R: ByteSource, O: MeteredSinks, T: Texts>(
+    pub(crate) fn run<R: ByteSource, O: MeteredSinks, T: Texts>(
         &mut self,
         lines: &mut Lines<R>,
         outputs: &mut O,
@@ -75,7 +75,7 @@ impl Machine {
     }
 
     /// Makes the moves of one cycle.
-    pub(super) fn moves_of_cycle<R: ByteSource, O: MeteredSinks, T: Texts>(
+    pub(crate) fn cycle<R: ByteSource, O: MeteredSinks, T: Texts>(
         &mut self,
         lines: &mut Lines<R>,
         outputs: &mut O,

@@ -3,14 +3,13 @@ ghost use Rattle.std.specs.Prelude.{◌≡◌, ◌≢◌, ◌<◌, ◌≤◌, �
 ghost use Rattle.std.specs.Option.{ForSome};
 ghost use Rattle.sedscript.specs.declared.types.Action.TheVariants.{Plain};
 ghost use Rattle.sedscript.specs.declared.types.Simple.TheVariants.{AppendNext};
-ghost use Rattle.sedspace.specs.Spaces.{Contents};
 ghost use Rattle.sedspace.specs.Stream.{lines_left};
-ghost use Rattle.sedengine.specs.State.{empty_pattern, fetch, flush, join, print_pattern, TellsFiles};
+ghost use Rattle.sedengine.specs.State.{empty_pattern, fetch, flush, join, TellsFiles};
 ghost use Rattle.sedengine.specs.Move.{acts, newline, then_do};
 ghost use Rattle.sedengine.specs.Meters.{SinkView};
 ghost use Rattle.sedengine.specs.Calls.{ReadsAlone};
-ghost use Rattle.sedengine.specs.Run.{at_lines, run_setting};
-ghost use Rattle.sedengine.specs.Steps.{reaches, KeepsRun, LeavesLines, PerformsSteps, StepsFrom, weight};
+ghost use Rattle.sedengine.specs.Run.{SameRun, at_lines, run_setting};
+ghost use Rattle.sedengine.specs.Steps.{reaches, LeavesLines, PerformsSteps, StepsFrom, weight};
 ghost use Rattle.sedengine.specs.Bringing.{Brings, brought, next_line};
 
 use super::Machine;
@@ -43,32 +42,8 @@ impl Machine {
     {
         if is_last(lines)? {
             self.next_step = NextStep::Quit;
-            Ok(())
-        } else {
-            self.print_and_fetch(lines, outputs, texts)
+            return Ok(());
         }
-    }
-
-    /// Writes the pattern space, unless default output is suppressed, and the queue, and puts the next line in place of
-    /// the pattern space.
-    fn print_and_fetch<R: ByteSource, O: MeteredSinks, T: Texts>(
-        &mut self,
-        lines: &mut Lines<R>,
-        outputs: &mut O,
-        texts: &mut T,
-    ) -> Result<(), Ended>
-        requires at { reaches self.old.state.tasks ≡ true }
-        requires number { self.old.state.number < self.old.state.turns }
-        requires sink { 0 < O.count outputs.old }
-        ensures steps { lines.old.fault ≡ None → ForSome (lines_left R.remaining lines.old) (λ ls.
-            (files : ℕ → List ℕ) → TellsFiles (T.text texts.old) files →
-            StepsFrom R.remaining lines.old lines.new ls self.old.limits (run_setting self.old files)
-            (then_do (print_pattern ∷ flush ∷ empty_pattern ∷ fetch ∷ self.old.state.tasks) (at_lines self.old ls)) self.new
-            (O.tally outputs.old) (O.tally outputs.new) result) }
-        ensures falls { weight self.new ≤ weight self.old }
-        ensures leaves { LeavesLines R.remaining R.failures R.reference O.tally O.count T.text self.old self.new
-            lines.old lines.new outputs.old outputs.new texts.old texts.new result }
-    {
         self.print_and_flush(outputs, texts)?;
         self.fetch(lines)
     }
@@ -84,7 +59,7 @@ impl Machine {
             sinks sinks result) }
         ensures reads { ReadsAlone R.remaining R.failures R.reference lines.old lines.new result }
         ensures falls { weight self.new ≤ weight self.old }
-        ensures same { KeepsRun self.old self.new }
+        ensures same { SameRun self.old self.new }
     {
         self.turns_fit();
         self.pattern.clear();
@@ -144,7 +119,7 @@ impl Machine {
             sinks sinks result) }
         ensures reads { ReadsAlone R.remaining R.failures R.reference lines.old lines.new result }
         ensures falls { weight self.new ≤ weight self.old }
-        ensures same { KeepsRun self.old self.new }
+        ensures same { SameRun self.old self.new }
     {
         self.turns_fit();
         let got = join_line(&mut self.pattern, lines, self.number + 1)?;
@@ -173,21 +148,6 @@ fn bring_line<R: ByteSource>(
     }
 }
 
-/// Asks whether there is a next line, for a space that is too full to take one.
-fn bring_none<R: ByteSource>(lines: &mut Lines<R>, number: u64) -> Result<Got, Ended>
-    ensures brings { lines.old.fault ≡ None → ForSome (lines_left R.remaining lines.old) (λ ls.
-        (before : List ℕ) (s : Contents) → s.limit < length before →
-        Brings R.remaining lines.old lines.new ls before number s s result) }
-    ensures reads { ReadsAlone R.remaining R.failures R.reference lines.old lines.new result }
-    ensures none { result ≢ Ok Got.Line }
-{
-    if is_last(lines)? {
-        Ok(Got::End)
-    } else {
-        Err(Ended::PatternFull(number))
-    }
-}
-
 /// Appends a newline and the next line, which has this number, to a space, and says whether there was one.
 fn join_line<R: ByteSource>(
     space: &mut Space,
@@ -202,7 +162,10 @@ fn join_line<R: ByteSource>(
 {
     let len = space.len();
     if let Err(Full) = space.append(b"\n") {
-        return bring_none(lines, number);
+        if is_last(lines)? {
+            return Ok(Got::End);
+        }
+        return Err(Ended::PatternFull(number));
     }
     let brought = bring_line(space, lines, number);
     if !matches!(&brought, Ok(Got::Line)) {

@@ -1,6 +1,6 @@
 //! The parts of a machine as they are made, each in a call of its own: a refused request drops all that was made before it,
 //! so the proof of one call for all of them would be long.
-ghost use Rattle.std.specs.Prelude.{◌≡◌, ◌≤◌, IfOk, false, replicate};
+ghost use Rattle.std.specs.Prelude.{◌≤◌, IfOk};
 ghost use Rattle.sedengine.specs.Parts.{AreParts, AreSeekers, IsStore};
 
 use crate::idle::{Idle, idle_of};
@@ -27,7 +27,7 @@ impl Parts {
         requires { script.now.max_nodes ≤ limits.now.nodes }
         ensures { IfOk result (AreParts script.now limits.now) }
     {
-        let ranges = idle_ranges(alloc, script.len())?;
+        let ranges = vec![in alloc; false; script.len()]?;
         let idle = idle_of(alloc, script)?;
         let store = Store::new(alloc, script, limits)?;
         let seekers = Seekers::new(alloc, script, limits)?;
@@ -38,13 +38,6 @@ impl Parts {
             seekers,
         })
     }
-}
-
-/// The states of `count` ranges, none of them active.
-fn idle_ranges(alloc: Global, count: usize) -> Result<Vec<bool>, AllocError>
-    ensures { IfOk result (λ ranges. ranges.items ≡ replicate count false) }
-{
-    vec![in alloc; false; count]
 }
 
 /// The spaces and the queue of an engine.

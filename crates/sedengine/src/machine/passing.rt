@@ -6,8 +6,8 @@ ghost use Rattle.sedspace.specs.Stream.{AreWholeLines};
 ghost use Rattle.sedspace.specs.Stream.{lines_left};
 ghost use Rattle.sedengine.specs.State.{begin};
 ghost use Rattle.sedengine.specs.Calls.{ReadsLines, Delivers, end_of};
-ghost use Rattle.sedengine.specs.Run.{at_lines, run_setting};
-ghost use Rattle.sedengine.specs.Steps.{KeepsRun, weight};
+ghost use Rattle.sedengine.specs.Run.{SameRun, at_lines, run_setting};
+ghost use Rattle.sedengine.specs.Steps.{weight};
 ghost use Rattle.sedengine.specs.Passing.{AllowsLines, BreaksOffBy, PassesOver, StepsPassing, WritesLines, counted_block, need_at};
 
 use super::Machine;
@@ -58,7 +58,7 @@ impl Machine {
         let seen = ahead
             .len()
             .min(self.limits.space())
-            .min(self.patience.window());
+            .min(self.patience.window);
         let end = clear_end(&self.matchers, &idle.expressions, &ahead[..seen]);
         let whole = lines_before(ahead, end, idle.asks_last);
         let extent = extent_of(&ahead[..whole], most);
@@ -149,7 +149,7 @@ impl Machine {
         ensures input { ReadsLines R.remaining R.failures R.reference lines.old lines.new result }
         ensures output { Delivers O.tally O.count outputs.old outputs.new result }
         ensures falls { OnOk result (weight self.new ≤ weight self.old) }
-        ensures same { KeepsRun self.old self.new }
+        ensures same { SameRun self.old self.new }
     {
         self.is_within_limits();
         self.is_emptied();
@@ -193,7 +193,7 @@ impl Machine {
         ensures input { ReadsLines R.remaining R.failures R.reference lines.old lines.new result }
         ensures output { Delivers O.tally O.count outputs.old outputs.new result }
         ensures falls { OnOk result (weight self.new ≤ weight self.old) }
-        ensures same { KeepsRun self.old self.new }
+        ensures same { SameRun self.old self.new }
     {
         self.is_within_limits();
         if self.may_pass() {

@@ -1,17 +1,15 @@
 //! The commands `s`, `t` and `y`: substitutions, what `t` sees of them, and tables (XCU sed, "Editing Commands in
 //! sed").
 ghost use Rattle.std.specs.Prelude.{◌≡◌, ◌<◌, ◌≤◌, [], ◌∷◌, Some, OnErr, ℕ, List, false, true, length, map, slice_get, if◌then◌else◌};
-ghost use Rattle.std.specs.Option.{option_map_or};
 ghost use Rattle.sedscript.specs.declared.substitution.Substitution.{Substitution};
 ghost use Rattle.sedengine.specs.State.{do_at};
 ghost use Rattle.sedengine.specs.Move.{in_table, line_to, substitutes};
 ghost use Rattle.sedengine.specs.Calls.{DeliversAlone, NamesNone, Puts};
-ghost use Rattle.sedengine.specs.Run.{at_lines, run_setting};
-ghost use Rattle.sedengine.specs.Steps.{reaches, KeepsRun, MakesMove, weight};
+ghost use Rattle.sedengine.specs.Run.{SameRun, at_lines, run_setting};
+ghost use Rattle.sedengine.specs.Steps.{reaches, MakesMove, weight};
 ghost use Rattle.sedengine.specs.SubstituteCalls.{written_by, Makes, same_but_replaced};
 
 use super::Machine;
-use super::known::is_within;
 use crate::ends::Ended;
 use crate::meter::MeteredSinks;
 use crate::next_step::NextStep;
@@ -36,7 +34,7 @@ impl Machine {
             (O.tally outputs.old) (O.tally outputs.new) result }
         ensures devices { DeliversAlone O.tally O.count outputs.old outputs.new result }
         ensures falls { weight self.new ≤ weight self.old }
-        ensures same { KeepsRun self.old self.new }
+        ensures same { SameRun self.old self.new }
     {
         self.is_within_limits();
         if self.replace_occurrences(k)? {
@@ -63,7 +61,6 @@ impl Machine {
         let Some(e) = self.script.substitution(k).expression.or(self.used) else {
             return Err(Ended::NoPrevious(self.number));
         };
-        self.limits.are_in_range();
         self.used = Some(e);
         self.seeking.begin(e);
         let built = build_text(
@@ -79,7 +76,8 @@ impl Machine {
         );
         match built {
             Ok(true) => {
-                is_within(&self.build);
+                // For proofs: what it holds is within its limit.
+                let _len = self.build.len();
                 self.pattern.swap(&mut self.build);
                 self.replaced = true;
                 Ok(true)
@@ -98,7 +96,10 @@ impl Machine {
         ensures devices { DeliversAlone O.tally O.count outputs.old outputs.new result }
     {
         self.print_replaced(k, outputs)?;
-        self.file_replaced(k, outputs)
+        match self.script.substitution(k).file {
+            Some(sink) => self.act_write(sink, outputs),
+            None => Ok(()),
+        }
     }
 
     /// Writes the pattern space if the substitution of number `k` has the flag `p`.
@@ -114,21 +115,6 @@ impl Machine {
             return Ok(());
         }
         self.act_write(0, outputs)
-    }
-
-    /// Writes the pattern space to the file if the substitution of number `k` has the flag `w`.
-    fn file_replaced<O: MeteredSinks>(&self, k: usize, outputs: &mut O) -> Result<(), Ended>
-        requires number { k < length self.now.script.substitutions }
-        requires sinks { length self.now.script.wfiles < O.count outputs.old }
-        ensures puts { (t : Substitution) → slice_get self.now.script.substitutions k ≡ Some t →
-            Puts (O.tally outputs.old) (O.tally outputs.new)
-            (option_map_or (λ k. line_to k self.now.state.pattern) t.file []) result }
-        ensures devices { DeliversAlone O.tally O.count outputs.old outputs.new result }
-    {
-        match self.script.substitution(k).file {
-            Some(sink) => self.act_write(sink, outputs),
-            None => Ok(()),
-        }
     }
 
     /// The command `t`: goes on at its target if a substitution was made, which is then forgotten.

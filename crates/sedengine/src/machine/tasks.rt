@@ -5,8 +5,8 @@ ghost use Rattle.sedspace.specs.Stream.{lines_left};
 ghost use Rattle.sedengine.specs.State.{begin, rebegin, do_at, print_pattern, flush, TellsFiles};
 ghost use Rattle.sedengine.specs.Meters.{SinkView};
 ghost use Rattle.sedengine.specs.Calls.{NamesNone, ReadsAlone};
-ghost use Rattle.sedengine.specs.Run.{at_lines, run_setting};
-ghost use Rattle.sedengine.specs.Steps.{KeepsRun, LeavesGiven, Moves, Steps, weight};
+ghost use Rattle.sedengine.specs.Run.{SameRun, at_lines, run_setting};
+ghost use Rattle.sedengine.specs.Steps.{LeavesGiven, Moves, Steps, weight};
 
 use super::Machine;
 use crate::ends::Ended;
@@ -24,7 +24,7 @@ impl Machine {
             sinks sinks result) }
         ensures reads { ReadsAlone R.remaining R.failures R.reference lines.old lines.new result }
         ensures falls { OnOk result (weight self.new < weight self.old) }
-        ensures same { KeepsRun self.old self.new }
+        ensures same { SameRun self.old self.new }
     {
         if self.turns == self.limits.turns() {
             return match lines.is_last() {
@@ -61,7 +61,7 @@ impl Machine {
             (at_lines self.new ls) sinks sinks result }
         ensures devices { NamesNone result }
         ensures falls { OnOk result (weight self.new < weight self.old) }
-        ensures same { KeepsRun self.old self.new }
+        ensures same { SameRun self.old self.new }
     {
         if self.turns == self.limits.turns() {
             return Err(Ended::TurnsSpent);

@@ -1,4 +1,4 @@
-use Rattle.std.proofs.Common.{◌≡◌, ◌++◌, ap, take-append-drop}
+use Rattle.std.proofs.Common.{◌≡◌, ◌++◌, Ok, ap, take-append-drop}
 use Rattle.std.proofs.lemmas.Result.{err_from_is_err_and}
 use Rattle.sedengine.specs.ListingParts.{Listing}
 use Rattle.sedengine.proofs.ListingLemmas.{written_none, written_more, written_not, written_end}
@@ -39,14 +39,14 @@ parts-preserved g c =
     record {
       empty = ap (λ (x : Listing). x.bytes) c.clear.ensures;
       written = rw c.clear.ensures w;
-      devices = Delivers-then _ _ _ _ _ _ l.invariant.devices c.in_ok-write_all.ensures.devices;
+      devices = Delivers-then tally g.O.MeteredSinks.count c.args.outputs.now l.outputs c.write_all.new.self (Ok tt) l.invariant.devices c.in_ok-write_all.ensures.devices;
     }
 
 pub returns-clause-puts : goal.returns-clause-puts
 returns-clause-puts g c =
     let tally = g.O.MeteredSinks.tally in
     let l = c.parts in
-    let out = rw (c.bytes-2.ensures, c.finish.ensures) at c.write_all-2.ensures.puts in
+    let out = rw (c.bytes-2.ensures, c.append.ensures) at c.write_all-2.ensures.puts in
     written_end (tally c.args.outputs.now) (tally l.outputs) (tally c.write_all-2.new.self) c.args.bytes.now
     l.rest.now l.gathered c.list-2.new.self c.write_all-2.result l.invariant.written l.invariant.empty
     c.list-2.ensures.lists out

@@ -1,5 +1,4 @@
-use Rattle.std.proofs.Common.{refl, subst, sym, ap, ◌∙◌, rules}
-use Rattle.std.specs.Prelude.{IsNone}
+use Rattle.std.proofs.Common.{Some, refl, ap, ◌∙◌, rules}
 use Rattle.sedengine.specs.Meters.{Frame}
 use Rattle.sedengine.specs.Run.{RunState}
 use Rattle.sedengine.proofs.Metering.{ending_metered, sinks_at_end}
@@ -7,19 +6,17 @@ use Rattle.sedengine.proofs.engine.Engine.run.Goals as goal
 
 pub returns-clause-ends : goal.returns-clause-ends
 returns-clause-ends g c = λ fresh sound ls known files told.
-    let machine = c.self.inside.machine in
     let w = c.run-end.ensures in
-    let N : RunState → Type 0 = λ e. IsNone e.ended in
-    let unended = subst N (sym c.self.view_is) fresh in
-    ending_metered g.O.Outputs.contents machine c.run-end.new.self c.self.inside.meter c.run-end.new.outputs.meter.now c.args.self.now c.args.outputs.now c.run-end.new.outputs.outputs.now _ _ _ _ _ files ls _ _
-    c.self.view_is c.self.invariant.0 (search rules) (ap (λ (f : Frame). f.most) w.same_devices.1) refl c.is_within_limit.ensures _ (w.output unended).full
-    (w.ends unended sound ls known files told)
+    ending_metered g.O.Outputs.contents c.self.inside.machine c.run-end.new.self c.self.inside.meter c.run-end.new.outputs.meter.now c.self.inside.ended (Some c.run-end.result) c.args.self.now c.args.outputs.now c.run-end.new.outputs.outputs.now _ _ _ _ _ files ls _ _
+    c.self.view_is c.self.invariant.0 (search rules) (ap (λ (f : Frame). f.most) w.leaves.output.same_frame) refl c.is_within_limit.ensures _ w.leaves.output.full
+    (w.ends sound ls known files told)
+
+pub returns-clause-input : goal.returns-clause-input
+returns-clause-input g c = λ fresh sound. c.run-end.ensures.leaves.input.failed sound
 
 pub returns-clause-output : goal.returns-clause-output
 returns-clause-output g c = λ fresh.
-    let w = c.run-end.ensures in
-    let N : RunState → Type 0 = λ e. IsNone e.ended in
-    let out = w.output (subst N (sym c.self.view_is) fresh) in
+    let out = c.run-end.ensures.leaves.output in
     let limit = ap (λ (e : RunState). e.limits.output) c.self.view_is in
-    sinks_at_end _ _ _ _ g.O.Outputs.failures c.args.outputs.now c.run-end.new.outputs.outputs.now c.outputs-1.given.0 _ _ _ (search rules) out out.failed refl
-    (ap (λ (f : Frame). f.most) w.same_devices.1 ∙ c.self.invariant.0 ∙ limit)
+    sinks_at_end _ _ _ _ g.O.Outputs.failures c.args.outputs.now c.run-end.new.outputs.outputs.now _ _ _ _ (search rules) out out.failed refl
+    (ap (λ (f : Frame). f.most) out.same_frame ∙ c.self.invariant.0 ∙ limit)

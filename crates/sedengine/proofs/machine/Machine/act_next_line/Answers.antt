@@ -1,33 +1,52 @@
-use Rattle.std.proofs.Common.{◌∷◌, true, refl}
+use Rattle.std.proofs.Common.{◌∷◌, true, Err, refl, rules}
 use Rattle.std.proofs.lemmas.Result.{err_from_is_err_and}
 use Rattle.sedengine.specs.State.{print_pattern, flush, empty_pattern, fetch}
 use Rattle.sedengine.specs.Move.{then_do}
 use Rattle.sedengine.specs.Run.{at_lines, run_setting}
-use Rattle.sedengine.proofs.Streams.{ReadsLines-then, ReadsLines-told}
-use Rattle.sedengine.proofs.NextLines.{looked_then, next_broken, next_goes, next_stops, performs_then}
-use Rattle.sedengine.proofs.machine.Machine.act_next_line.Goals as goal
 use Rattle.sedengine.specs.Bringing.{next_line}
+use Rattle.sedengine.proofs.Streams.{ReadsLines-then, ReadsLines-told}
+use Rattle.sedengine.proofs.Writing.{Delivers-then, Delivers-quiet}
+use Rattle.sedengine.proofs.Ending.{stopped_anyway}
+use Rattle.sedengine.proofs.NextLines.{flushed_steps, looked_moves, looked_then, next_broken, next_goes, next_stops, performs_then}
+use Rattle.sedengine.proofs.machine.Machine.act_next_line.Goals as goal
 
 pub returns-then-branch-clause-acts : goal.returns-then-branch-clause-acts
 returns-then-branch-clause-acts g c = λ sound ls known files told.
     let w = c.in_ok-is_last.ensures in
     next_stops g.R.ByteSource.remaining c.args.lines.now c.is_last.new.lines ls files c.self.inside c.args.self.now (g.O.MeteredSinks.tally c.args.outputs.now) c.in_ok-is_last.field-0 c.self.view_is c.self.invariant (w.left ls known) (w.last sound ls known) c.if-branch.true
 
-pub returns-else-branch-clause-acts : goal.returns-else-branch-clause-acts
-returns-else-branch-clause-acts g c = λ sound ls known files told.
+pub returns-clause-acts : goal.returns-clause-acts
+returns-clause-acts g c = λ sound ls known files told.
     let w = c.in_ok-is_last.ensures in
     let e = c.args.self.now in
     let taken = w.left ls known in
-    performs_then g.R.ByteSource.remaining c.args.lines.now c.print_and_fetch.new.lines ls e.limits (run_setting e files) (next_line (at_lines e ls)) true (at_lines e ls)
-    (then_do (print_pattern ∷ flush ∷ empty_pattern ∷ fetch ∷ e.state.tasks) (at_lines e ls)) c.print_and_fetch.new.self (g.O.MeteredSinks.tally c.args.outputs.now) (g.O.MeteredSinks.tally c.print_and_fetch.new.outputs) c.print_and_fetch.result
+    let due = then_do (print_pattern ∷ flush ∷ empty_pattern ∷ fetch ∷ e.state.tasks) (at_lines e ls) in
+    performs_then g.R.ByteSource.remaining c.args.lines.now c.fetch.new.lines ls e.limits (run_setting e files) (next_line (at_lines e ls)) true (at_lines e ls) due c.fetch.new.self _ _ c.fetch.result
     (next_goes e e files ls c.in_ok-is_last.field-0 (w.last sound ls known) c.if-branch.false) refl refl
-    (looked_then g.R.ByteSource.remaining c.args.lines.now c.is_last.new.lines c.print_and_fetch.new.lines ls e.limits (run_setting e files) _ c.print_and_fetch.new.self _ _ c.print_and_fetch.result taken
-    (c.print_and_fetch.ensures.steps (w.reads.input.sound sound) ls taken.known files told))
+    (looked_then g.R.ByteSource.remaining c.args.lines.now c.is_last.new.lines c.fetch.new.lines ls e.limits (run_setting e files) _ c.fetch.new.self _ _ c.fetch.result taken
+    (flushed_steps g.R.ByteSource.remaining c.is_last.new.lines c.fetch.new.lines ls files (λ ts. empty_pattern ∷ fetch ∷ ts) due e c.print_and_flush.new.self c.fetch.new.self
+    c.print_and_flush.new.self.state.turns _ _ _ c.fetch.result c.in_ok-print_and_flush.ensures.ok refl refl
+    (c.in_ok-print_and_flush.ensures.moves files told ls (empty_pattern ∷ fetch ∷ e.state.tasks)) (c.fetch.ensures.steps (w.reads.input.sound sound) ls taken.known files (g.O.MeteredSinks.tally c.print_and_flush.new.outputs))))
 
-pub returns-else-branch-clause-leaves : goal.returns-else-branch-clause-leaves
-returns-else-branch-clause-leaves g c =
-    let w = c.print_and_fetch.ensures.leaves in
-    record { input = ReadsLines-then _ _ _ _ _ _ _ (ReadsLines-told _ _ _ _ _ _ c.in_ok-is_last.ensures.reads.input) w.input; output = w.output; same = w.same; kept = w.kept }
+pub returns-clause-leaves : goal.returns-clause-leaves
+returns-clause-leaves g c = record {
+  input = ReadsLines-then _ _ _ _ _ _ _ (ReadsLines-told _ _ _ _ _ _ c.in_ok-is_last.ensures.reads.input) c.fetch.ensures.reads.input;
+  output = Delivers-then _ _ _ _ _ _ c.in_ok-print_and_flush.ensures.devices.output (Delivers-quiet _ _ _ _ c.fetch.ensures.reads.output);
+  same = search rules;
+  kept = c.in_ok-print_and_flush.ensures.kept;
+}
+
+pub returns-in_err-print_and_flush-clause-acts : goal.returns-in_err-print_and_flush-clause-acts
+returns-in_err-print_and_flush-clause-acts g c = λ sound ls known files told.
+    let w = c.in_ok-is_last.ensures in
+    let e = c.args.self.now in
+    let end = c.in_err-print_and_flush.field-0.0 in
+    let due = then_do (print_pattern ∷ flush ∷ empty_pattern ∷ fetch ∷ e.state.tasks) (at_lines e ls) in
+    let p = err_from_is_err_and c.from_residual-in_err-print_and_flush.result c.from_residual-in_err-print_and_flush.ensures.1 in
+    rw (p.1, p.2) (performs_then g.R.ByteSource.remaining c.args.lines.now c.is_last.new.lines ls e.limits (run_setting e files) (next_line (at_lines e ls)) true (at_lines e ls) due c.print_and_flush.new.self _ _ (Err end)
+    (next_goes e e files ls c.in_ok-is_last.field-0 (w.last sound ls known) c.if-branch.false) refl refl
+    (looked_moves g.R.ByteSource.remaining c.args.lines.now c.is_last.new.lines ls e.limits (run_setting e files) due c.print_and_flush.new.self _ _ (Err end) (w.left ls known) refl
+    (stopped_anyway _ _ _ c.print_and_flush.new.self ls (empty_pattern ∷ fetch ∷ e.state.tasks) _ _ end (c.in_err-print_and_flush.ensures.moves files told ls (empty_pattern ∷ fetch ∷ e.state.tasks)))))
 
 pub returns-in_err-is_last-clause-acts : goal.returns-in_err-is_last-clause-acts
 returns-in_err-is_last-clause-acts g c = λ sound ls known files told.

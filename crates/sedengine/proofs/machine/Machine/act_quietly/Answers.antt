@@ -9,7 +9,7 @@ use Rattle.sedengine.specs.Move.{acts, quietly}
 use Rattle.sedengine.specs.Queueing.{queueing}
 use Rattle.sedengine.specs.Run.{at_lines, run_setting}
 use Rattle.sedengine.specs.Steps.{HasAction}
-use Rattle.sedengine.proofs.Acts.{acts_nothing, acts_going, acts_queueing, acts_testing, acts_translating, entry_is}
+use Rattle.sedengine.proofs.Acts.{going, acts_nothing, acts_going, acts_queueing, acts_testing, acts_translating, entry_is}
 use Rattle.sedengine.proofs.machine.Machine.act_quietly.Goals as goal
 
 pub returns-in-Block-clause-acts : goal.returns-in-Block-clause-acts
@@ -20,12 +20,12 @@ returns-in-Block-clause-acts c = λ files ls writes_text sinks.
 pub returns-in-Branch-Always-default-clause-acts : goal.returns-in-Branch-Always-default-clause-acts
 returns-in-Branch-Always-default-clause-acts c = λ files ls writes_text sinks.
     acts_going c.args.self.now ls (c.is_within_limits.ensures ls) (run_setting c.args.self.now files) sinks sinks _
-    (do_at c.in-Branch-Always-default.target ∷ []) c.act_branch.new.self c.act_branch.ensures (ap (acts (run_setting c.args.self.now files) (at_lines c.args.self.now ls) writes_text) (c.in-Branch-Always-default.is ∙ ap (λ u. Branch u c.in-Branch-Always-default.target) (rw c.in-Branch-Always-default.is at c.in-Branch-Always-default.field-0-is)))
+    (do_at c.in-Branch-Always-default.target ∷ []) _ (ap (λ e. going e (do_at c.in-Branch-Always-default.target ∷ [])) c.self.view_is) (ap (acts (run_setting c.args.self.now files) (at_lines c.args.self.now ls) writes_text) (c.in-Branch-Always-default.is ∙ ap (λ u. Branch u c.in-Branch-Always-default.target) (rw c.in-Branch-Always-default.is at c.in-Branch-Always-default.field-0-is)))
 
 pub returns-in-Plain-Quit-clause-acts : goal.returns-in-Plain-Quit-clause-acts
 returns-in-Plain-Quit-clause-acts c = λ files ls writes_text sinks.
     acts_going c.args.self.now ls (c.is_within_limits.ensures ls) (run_setting c.args.self.now files) sinks sinks _
-    (print_pattern ∷ flush ∷ []) c.act_quit.new.self c.act_quit.ensures (ap (acts (run_setting c.args.self.now files) (at_lines c.args.self.now ls) writes_text) (c.in-Plain-Quit.is ∙ ap (λ s. Plain s) (rw c.in-Plain-Quit.is at c.in-Plain-Quit.field-0-is)))
+    (print_pattern ∷ flush ∷ []) _ (ap (λ e. going e (print_pattern ∷ flush ∷ [])) c.self.view_is) (ap (acts (run_setting c.args.self.now files) (at_lines c.args.self.now ls) writes_text) (c.in-Plain-Quit.is ∙ ap (λ s. Plain s) (rw c.in-Plain-Quit.is at c.in-Plain-Quit.field-0-is)))
 
 pub returns-in-Branch-IfReplaced-default-clause-acts : goal.returns-in-Branch-IfReplaced-default-clause-acts
 returns-in-Branch-IfReplaced-default-clause-acts c = λ files ls writes_text sinks.

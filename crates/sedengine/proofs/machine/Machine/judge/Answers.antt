@@ -15,7 +15,7 @@ returns-in-Some-clause-judges g c = λ sound ls known.
 pub returns-clause-judges : goal.returns-clause-judges
 returns-clause-judges g c = λ sound ls known.
     let number : c.self-2.inside.number ≡ c.args.self.now.state.number = ap (λ (e : RunState). e.state.number) (c.self-2.view_is ∙ c.in_ok-matched.ensures.same) in
-    let used : c.take_turn-2.new.self.state.used ≡ c.decide.new.self.state.used = ap (λ (e : RunState). e.state.used) (c.take_turn-2.ensures) ∙ ap (λ (e : RunState). e.state.used) c.set_active.ensures in
+    let used : c.take_turn-2.new.self.state.used ≡ c.decide.new.self.state.used = ap (λ (e : RunState). e.state.used) (c.take_turn-2.ensures) in
     judges_ok (current_in c.args.self.now (none_left ls)) c.is_active-active.result _ c.args.command.now c.in_ok-matched.matched c.self-2.inside.number _ _ c.choose-choice.result c.is_active-active.ensures number used c.choose-choice.ensures
     (c.in_ok-matched.ensures.answers sound ls known)
 

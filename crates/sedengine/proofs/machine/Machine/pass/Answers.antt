@@ -17,5 +17,5 @@ returns-in_default c = record {
       acts_nothing c.args.self.now ls (fits_seen c.self.inside c.args.self.now ls c.self.view_is c.self.invariant) (run_setting c.args.self.now files) sinks sinks _
       (passes_other (at_lines c.args.self.now ls) c.args.action c.in_default.not-Block);
   falls = omega arith;
-  same = record { script = refl; limits = refl; ended = refl };
+  same = record { script = refl; limits = refl };
 }

@@ -1,6 +1,8 @@
-use Rattle.std.proofs.Common.{Ok, Err}
+use Rattle.std.proofs.Common.{[], cond, Ok, Err}
 use Rattle.std.proofs.lemmas.Result.{err_from_is_err_and}
-use Rattle.sedengine.proofs.Ending.{fits_seen, print_moves, print_stops, printed_by}
+use Rattle.sedengine.specs.Move.{line_to}
+use Rattle.sedengine.specs.Run.{RunState}
+use Rattle.sedengine.proofs.Ending.{fits_seen, print_moves, print_stops, puts_seen}
 use Rattle.sedengine.proofs.machine.Machine.print_and_flush.Goals as goal
 
 pub returns-clause-moves : goal.returns-clause-moves
@@ -8,7 +10,7 @@ returns-clause-moves g c = λ files told ls rest.
     let old = g.O.MeteredSinks.tally c.args.outputs.now in
     let mid = g.O.MeteredSinks.tally c.print_by_default.new.outputs in
     print_moves c.args.self.now c.flush.new.self files ls rest old mid (g.O.MeteredSinks.tally c.flush.new.outputs) c.flush.result (fits_seen c.self.inside c.args.self.now ls c.self.view_is c.self.invariant)
-    (printed_by c.self.inside c.args.self.now old mid (Ok tt) c.self.view_is c.in_ok-print_by_default.ensures.puts) (c.flush.ensures.moves files told ls rest)
+    (puts_seen c.self.inside c.args.self.now (λ (e : RunState). cond e.script.quiet [] (line_to 0 e.state.pattern)) old mid (Ok tt) c.self.view_is c.in_ok-print_by_default.ensures.puts) (c.flush.ensures.moves files told ls rest)
 
 pub returns-in_err-print_by_default-clause-moves : goal.returns-in_err-print_by_default-clause-moves
 returns-in_err-print_by_default-clause-moves g c = λ files told ls rest.
@@ -16,4 +18,4 @@ returns-in_err-print_by_default-clause-moves g c = λ files told ls rest.
     let new = g.O.MeteredSinks.tally c.print_by_default.new.outputs in
     let p = err_from_is_err_and c.from_residual.result c.from_residual.ensures.1 in
     rw (p.1, p.2) (print_stops c.args.self.now files ls rest old new c.in_err-print_by_default.field-0.0 (fits_seen c.self.inside c.args.self.now ls c.self.view_is c.self.invariant)
-    (printed_by c.self.inside c.args.self.now old new (Err c.in_err-print_by_default.field-0.0) c.self.view_is c.in_err-print_by_default.ensures.puts))
+    (puts_seen c.self.inside c.args.self.now (λ (e : RunState). cond e.script.quiet [] (line_to 0 e.state.pattern)) old new (Err c.in_err-print_by_default.field-0.0) c.self.view_is c.in_err-print_by_default.ensures.puts))

@@ -1,9 +1,12 @@
-use Rattle.sedengine.proofs.SubstituteMoves.{puts_both, puts_first}
+use Rattle.sedengine.proofs.SubstituteMoves.{filed_seen, puts_both, puts_first}
 use Rattle.std.proofs.lemmas.Result.{err_from_is_err_and}
 use Rattle.sedengine.proofs.machine.Machine.write_replaced.Goals as goal
 
-pub returns-clause-puts : goal.returns-clause-puts
-returns-clause-puts g c = λ t is. puts_both t c.args.self.now.state.pattern _ _ _ c.file_replaced.result (c.in_ok-print_replaced.ensures.puts t is) (c.file_replaced.ensures.puts t is)
+pub returns-in-Some-clause-puts : goal.returns-in-Some-clause-puts
+returns-in-Some-clause-puts g c = λ t is.
+    let w = c.args.self.now.state.pattern in
+    puts_both t w _ _ _ c.act_write.result (c.in_ok-print_replaced.ensures.puts t is)
+    (filed_seen c.self.inside c.args.self.now c.args.k c.substitution.result.now t c.in-Some.sink w _ _ c.act_write.result c.self.view_is c.substitution.ensures.is is c.in-Some.is c.act_write.ensures.puts)
 
 pub returns-in_err-print_replaced-clause-puts : goal.returns-in_err-print_replaced-clause-puts
 returns-in_err-print_replaced-clause-puts g c = λ t is.

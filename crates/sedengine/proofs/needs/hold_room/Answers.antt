@@ -1,6 +1,6 @@
 use Rattle.std.proofs.Common.{◌∙◌, sym, arith}
 use Rattle.sedengine.proofs.Filling.{holds_within, none_holds}
-use Rattle.sedengine.proofs.needs.fills_hold.Goals as goal
+use Rattle.sedengine.proofs.needs.hold_room.Goals as goal
 
 pub loop-k-preserved : goal.loop-k-preserved
 loop-k-preserved c =
@@ -8,7 +8,8 @@ loop-k-preserved c =
     (sym c.is_holding.ensures ∙ c.if-is_holding.false) c.loop-k.invariant
 
 pub returns : goal.returns
-returns c = λ no i h.
+returns c = λ fills.
+    let (i, h) = fills in
     let inside = holds_within c.args.script.now.commands i h in
     let count = c.len-k-end.ensures in
-    c.loop-k.invariant i (omega arith) h
+    absurd (c.loop-k.invariant i (omega arith) h)
