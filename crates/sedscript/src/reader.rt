@@ -4,22 +4,21 @@ ghost use Rattle.std.specs.Prelude.{◌≡◌, ◌≤◌, ◌⊎◌, [], IfOk, I
 ghost use Rattle.sedscript.specs.Script.{CutScript, IsEnd, Means};
 ghost use Rattle.sedscript.specs.FirstFault.{Faulty};
 ghost use Rattle.sedscript.specs.Answers.{IsJudged};
-ghost use Rattle.sedscript.specs.Parts.{IsNamed};
-ghost use Rattle.sedscript.specs.Tables.{TargetsAre, FilesAre};
+ghost use Rattle.sedscript.specs.Tables.{TargetsAre};
 ghost use Rattle.sedscript.specs.declared.types.ScriptFault.{ScriptFault};
 
-use crate::commands::{commands_of, is_quiet, substitutions_of, tables_of, texts_of};
+use crate::commands::{commands_of, is_quiet};
 use crate::files::{Files, files_of};
 use crate::item_reader::item_at;
 use crate::items::{ItemOrEnd, Source};
 use crate::kept::Items;
-use crate::script::{Named, Script};
+use crate::script::{Named, Operands, Script};
 use crate::target_faults::target_fault;
 use crate::targets::{Targets, targets_of};
 use crate::types::{Kind, NO_MEMORY, ScriptFault};
 use sedre::Expr;
 use sedre::laws::{fault_within, reads_as_one};
-use std::alloc::{AllocError, Global};
+use std::alloc::Global;
 
 /// Answers where the last item of a text ends, and cuts the text into its items and regular expressions.
 fn cut_text(source: &Source, items: &mut Items, exprs: &mut Vec<Expr>) -> Result<usize, ScriptFault>
@@ -63,31 +62,6 @@ fn judge<'a>(
         Some(fault) => Err(fault),
         None => Ok(targets),
     }
-}
-
-/// What the commands of the items name by numbers.
-fn named_of<'a>(
-    alloc: Global,
-    text: &'a [u8],
-    items: &Items,
-    exprs: Vec<Expr>,
-    files: Files<'a>,
-) -> Result<Named, AllocError>
-    requires { FilesAre text.now items.now files }
-    ensures { IfOk result (IsNamed text.now items.now exprs.items) }
-{
-    let texts = texts_of(alloc, text, items)?;
-    let substitutions = substitutions_of(alloc, text, items, &files)?;
-    let tables = tables_of(alloc, text, items)?;
-    let Files { read, written } = files;
-    Ok(Named {
-        exprs,
-        texts,
-        substitutions,
-        tables,
-        rfiles: read.names,
-        wfiles: written.names,
-    })
 }
 
 /// Reads a text as a script, or answers its first fault.
@@ -136,7 +110,18 @@ fn read_script(
     };
     let targets = judge(&source, &mut items, &mut exprs)?;
     let files = files_of(alloc, text, &items)?;
-    let commands = commands_of(alloc, text, &items, &targets, &files)?;
-    let named = named_of(alloc, text, &items, exprs, files)?;
+    let mut operands = Operands {
+        texts: Vec::new(alloc),
+        substitutions: Vec::new(alloc),
+        tables: Vec::new(alloc),
+    };
+    let commands = commands_of(alloc, text, &items, &targets, &files, &mut operands)?;
+    let Files { read, written } = files;
+    let named = Named {
+        exprs,
+        operands,
+        rfiles: read.names,
+        wfiles: written.names,
+    };
     Ok(Script::of(commands, named, is_quiet(text), max_nodes))
 }
