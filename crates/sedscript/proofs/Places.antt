@@ -1,6 +1,7 @@
 -- Faults are told in the text or at its end, and what is read names expressions that were read.
 use Rattle.std.proofs.Common.{◌≡◌, ℕ, zero, suc, ◌+◌, ◌-◌, ◌<◌, ◌≤◌, ◌&&◌, ◌==◌, Bool, true, false, not, List, [], ◌∷◌, ◌++◌, length, Option, Some, None, is_some, is_none, option_map, option_and_then, Result, Ok, Err, refl, sym, subst, ◌∙◌, arith, if◌then◌else◌, slice_get, drop, nat_lt, length-take, length-drop, length-append, ◌⊎◌, inl, inr, IfErr, unwrap_or}
 use Rattle.std.specs.Option.{option_len, option_or}
+use Rattle.std.specs.Result.{IsErrAnd}
 use Rattle.sedre.specs.declared.types.Kind.{Kind}
 use Rattle.sedre.specs.declared.types.Reason.{Reason as ExprReason}
 use Rattle.sedre.specs.Tree.{WrittenExpression}
@@ -653,8 +654,8 @@ fault_within told text kind m f (afterwards is es to cut ends found) =
     let reached = cut_up_to text kind m 0 0 to (length es) is es cut (omega arith) (omega arith) in
     subst (FaultUpTo (length text)) found (target_up_to (length text) text is [] 0 is reached.1)
 
-pub read_within : {A : Type 0} → ExprFaultWithin → (text : List ℕ) (kind : Kind) (m : ℕ) (r : Result A ScriptFault) →
-    IfErr r (λ f. Faulty text kind m f ⊎ (f ≡ NO_MEMORY)) → IfErr r (λ f. f.place ≤ length text)
-read_within told text kind m (Ok s) h = tt
-read_within told text kind m (Err f) (inl bad) = fault_within told text kind m f bad
-read_within told text kind m (Err f) (inr is) = rw is (omega arith)
+pub read_within : {A : Type 0} → ExprFaultWithin → (text : List ℕ) (kind : Kind) (m : ℕ) (r : Result A ScriptFault) (f : ScriptFault) →
+    IsErrAnd r (λ g. g ≡ f) → Faulty text kind m f ⊎ (f ≡ NO_MEMORY) → IfErr r (λ g. g.place ≤ length text)
+read_within told text kind m (Ok s) f is h = tt
+read_within told text kind m (Err g) f is (inl bad) = rw is (fault_within told text kind m f bad)
+read_within told text kind m (Err g) f is (inr none) = rw is (rw none (omega arith))

@@ -114,14 +114,7 @@ pub fn transliterate_at(text: &[u8], at: usize) -> Result<(Function, usize), Scr
     ensures within { IfOk result (λ found. (at < found.1) × (found.1 ≤ length text.now)) }
 {
     let strings = transliterate_strings(text, at + 1)?;
-    if let Some(fault) = strings_fault(
-        text,
-        strings.delimiter,
-        at,
-        strings.from,
-        strings.middle,
-        strings.to,
-    ) {
+    if let Some(fault) = strings_fault(text, strings, at) {
         return Err(fault);
     }
     ended(text, Function::Transliterate(strings), strings.to + 1)
@@ -166,13 +159,7 @@ pub fn substituted(
     ensures is { result ≡ substituted text.now strings expression limit }
     ensures within { IfOk result (λ found. (strings.to < found.1) × (found.1 ≤ length text.now)) }
 {
-    if let Some(fault) = replacement_fault(
-        text,
-        strings.delimiter,
-        limit,
-        strings.middle + 1,
-        strings.to,
-    ) {
+    if let Some(fault) = replacement_fault(text, strings, limit) {
         return Err(fault);
     }
     flagged(text, strings, expression)

@@ -1,8 +1,8 @@
 //! Reads the items of a script: functions with their addresses.
 
 ghost use Rattle.std.specs.Prelude.{◌≡◌, ◌≤◌, ◌<◌, ◌+◌, length, IfOk};
-ghost use Rattle.sedscript.specs.Items.{substitute_at, substitute_with, function_of, function_with, function_at, item_at};
-ghost use Rattle.sedscript.specs.Answers.{as_function, as_here, ComesFrom, AreStrings, IsAfter, IsHere};
+ghost use Rattle.sedscript.specs.Items.{substitute_at, function_of, function_with, function_at, item_at};
+ghost use Rattle.sedscript.specs.Answers.{as_function, as_here, ComesFrom, IsAfter, IsHere};
 ghost use Rattle.sedscript.specs.Cases.{item_of};
 
 use crate::addresses::{addresses_at, with_bang};
@@ -10,36 +10,10 @@ use crate::between::{folds, substitute_strings, substituted, transliterate_at};
 use crate::bytes::{Sort, byte_at, past};
 use crate::expressions::expression_at;
 use crate::functions::{allowed, ended, file_of, label_of, text_of};
-use crate::items::{Addresses, Function, Item, ItemOrEnd, Source, Strings};
+use crate::items::{Addresses, Function, Item, ItemOrEnd, Source};
 use crate::letters::{Arguments, Verb};
 use crate::types::{Reason, ScriptFault};
 use sedre::Expr;
-
-/// The command `s` with these strings, and its end.
-fn substitute_with(
-    source: &Source,
-    exprs: &mut Vec<Expr>,
-    strings: Strings,
-) -> Result<(Function, usize), ScriptFault>
-    requires { AreStrings 0 (length source.now.text.now) strings }
-    ensures comes { ComesFrom source.now exprs.old.items exprs.new.items as_function result
-        (substitute_with source.now.text.now (length exprs.old.items) strings) }
-    ensures within { IfOk result (λ found. (strings.to < found.1) × (found.1 ≤ length source.now.text.now)) }
-{
-    if strings.middle == strings.from {
-        return substituted(source.text, strings, None, None);
-    }
-    let number = exprs.len();
-    let groups = expression_at(
-        source,
-        exprs,
-        strings.delimiter,
-        folds(source.text, strings),
-        strings.from,
-        strings.middle,
-    )?;
-    substituted(source.text, strings, Some(number), Some(groups))
-}
 
 /// The command `s` whose letter stands at `at`, and its end.
 fn substitute_at(
@@ -53,7 +27,19 @@ fn substitute_at(
     ensures within { IfOk result (λ found. (at < found.1) × (found.1 ≤ length source.now.text.now)) }
 {
     let strings = substitute_strings(source.text, at + 1)?;
-    substitute_with(source, exprs, strings)
+    if strings.middle == strings.from {
+        return substituted(source.text, strings, None, None);
+    }
+    let number = exprs.len();
+    let groups = expression_at(
+        source,
+        exprs,
+        strings.delimiter,
+        folds(source.text, strings),
+        strings.from,
+        strings.middle,
+    )?;
+    substituted(source.text, strings, Some(number), Some(groups))
 }
 
 /// The function whose letter stands at `at`, and the place after it. The letter is not `s`, and has this shape.

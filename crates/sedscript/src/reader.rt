@@ -84,21 +84,6 @@ pub fn read(alloc: Global, text: &[u8], kind: Kind, max_nodes: usize) -> Result<
     ensures within { IfErr result (λ f. f.place ≤ length text.now) }
 {
     fault_within();
-    read_script(alloc, text, kind, max_nodes)
-}
-
-/// Reads a text as a script, or answers its first fault, wherever that is told.
-fn read_script(
-    alloc: Global,
-    text: &[u8],
-    kind: Kind,
-    max_nodes: usize,
-) -> Result<Script, ScriptFault>
-    requires nodes { (1 ≤ max_nodes) × (max_nodes ≤ 65536) }
-    ensures means { IfOk result (λ s. Means text.now kind max_nodes s) }
-    ensures no_fault { OnOk result ((f : ScriptFault) → Faulty text.now kind max_nodes f → ⊥) }
-    ensures fault { IfErr result (λ f. Faulty text.now kind max_nodes f ⊎ (f ≡ NO_MEMORY)) }
-{
     reads_as_one();
     let mut items = Items::new(alloc);
     let mut exprs = Vec::new(alloc);
