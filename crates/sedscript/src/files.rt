@@ -127,7 +127,7 @@ fn add_file<'a>(
 }
 
 /// The files that the items read, or write.
-fn numbered<'a>(
+pub fn numbered<'a>(
     alloc: Global,
     text: &'a [u8],
     file_use: FileUse,
@@ -146,15 +146,6 @@ fn numbered<'a>(
         k += 1;
     }
     Ok(files)
-}
-
-/// The files that the items name.
-pub fn files_of<'a>(alloc: Global, text: &'a [u8], items: &Items) -> Result<Files<'a>, AllocError>
-    ensures { IfOk result (λ files. FilesAre text.now items.now files) }
-{
-    let read = numbered(alloc, text, FileUse::Read, items)?;
-    let written = numbered(alloc, text, FileUse::Write, items)?;
-    Ok(Files { read, written })
 }
 
 impl<'a> NumberedFiles<'a> {

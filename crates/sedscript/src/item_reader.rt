@@ -6,7 +6,7 @@ ghost use Rattle.sedscript.specs.Answers.{as_function, as_here, ComesFrom, IsAft
 ghost use Rattle.sedscript.specs.Cases.{item_of};
 
 use crate::addresses::{addresses_at, with_bang};
-use crate::between::{folds, substitute_strings, substituted, transliterate_at};
+use crate::between::{folds, strings_at, substituted, transliterate_at};
 use crate::bytes::{Sort, byte_at, past};
 use crate::expressions::expression_at;
 use crate::functions::{allowed, ended, file_of, label_of, text_of};
@@ -26,7 +26,7 @@ fn substitute_at(
         (substitute_at source.now.text.now (length exprs.old.items) at) }
     ensures within { IfOk result (λ found. (at < found.1) × (found.1 ≤ length source.now.text.now)) }
 {
-    let strings = substitute_strings(source.text, at + 1)?;
+    let strings = strings_at(source.text, true, at + 1)?;
     if strings.middle == strings.from {
         return substituted(source.text, strings, None, None);
     }

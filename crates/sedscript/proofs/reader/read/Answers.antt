@@ -7,13 +7,13 @@ use Rattle.sedscript.proofs.reader.read.Goals as goal
 
 pub of-requires : goal.of-requires
 of-requires c =
-    let named : Named = record { exprs = c.judge.new.exprs; operands = c.commands_of.new.operands; rfiles = c.in_ok-files.files.read.names; wfiles = c.in_ok-files.files.written.names } in
+    let named : Named = record { exprs = c.judge.new.exprs; operands = c.commands_of.new.operands; rfiles = c.in_ok-read.read.names; wfiles = c.in_ok-written.written.names } in
     means_named c.args.text.now c.args.kind c.args.max_nodes c.in_ok-targets.ensures.judged.to c.judge.new.items c.judge.new.exprs.items c.in_ok-commands.commands.items named c.is_quiet.result
     c.in_ok-targets.ensures.judged.judged c.in_ok-commands.ensures.commands (record {
       exprs = refl;
       operands = c.in_ok-commands.ensures.operands;
-      rfiles = c.in_ok-files.ensures.read.names_are;
-      wfiles = c.in_ok-files.ensures.written.names_are;
+      rfiles = c.in_ok-read.ensures.names_are;
+      wfiles = c.in_ok-written.ensures.names_are;
     }) c.is_quiet.ensures
 
 pub returns-clause-no_fault : goal.returns-clause-no_fault
