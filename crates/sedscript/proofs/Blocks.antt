@@ -2,7 +2,7 @@
 use Rattle.std.proofs.Common.{◌≡◌, ℕ, zero, suc, ◌+◌, ◌-◌, ◌≤◌, ◌&&◌, ◌==◌, Bool, true, false, List, [], ◌∷◌, ◌++◌, length, take, drop, reverse, Option, Some, None, refl, sym, ap, ◌∙◌, arith, inl, inr, unwrap_or, if◌then◌else◌, slice_get, drop_of_length-le, MatchOption, option_to_list}
 use Rattle.std.proofs.lemmas.Grind.{reverse_onto}
 use Rattle.std.proofs.lemmas.List.{reverse-append, reverse-reverse}
-use Rattle.sedscript.proofs.Labels.{take_item, drop_item, counted_in}
+use Rattle.sedscript.proofs.Labels.{take_item, drop_item, counted_in, one_each}
 use Rattle.std.proofs.lemmas.Bool.Decides.{eqb_tells}
 use Rattle.sedscript.specs.declared.items.Item.{Item}
 use Rattle.sedscript.specs.declared.items.Function.{Function}
@@ -101,13 +101,7 @@ end_known items ends k blocks i end are at counted read = λ opens.
 -- how many blocks are opened up to an item
 blocks_snoc : (is : List Item) (i : Item) → blocks_in (is ++ i ∷ []) ≡ opened (blocks_in is) i.function
 blocks_snoc [] i = refl
-blocks_snoc (j ∷ is) i = by_open (is_open j.function) (is_open i.function) (blocks_in (is ++ i ∷ [])) (blocks_in is) (blocks_snoc is i)
-  where
-    by_open : (b c : Bool) (x n : ℕ) → x ≡ (if c then suc n else n) → (if b then suc x else x) ≡ (if c then suc (if b then suc n else n) else (if b then suc n else n))
-    by_open true true x n e = ap suc e
-    by_open true false x n e = ap suc e
-    by_open false true x n e = e
-    by_open false false x n e = e
+blocks_snoc (j ∷ is) i = one_each (is_open j.function) (is_open i.function) (blocks_in (is ++ i ∷ [])) (blocks_in is) (blocks_snoc is i)
 
 pub blocks_step : (items : List Item) (k n next : ℕ) (i : Item) → slice_get items k ≡ Some i → n ≡ blocks_in (take k items) → next ≡ opened n i.function →
     next ≡ blocks_in (take (k + 1) items)

@@ -1,6 +1,6 @@
 -- How what functions answer is put together.
 use Rattle.std.proofs.Common.{◌≡◌, ◌≢◌, ◌≤◌, ℕ, ◌+◌, Bool, true, false, ◌==◌, List, [], ◌∷◌, ◌++◌, length, Option, Some, None, Result, Ok, Err, IfOk, refl, sym, ap, subst, ◌∙◌, inl, inr, ◌⊎◌, append_assoc, arith, slice_get, if◌then◌else◌}
-use Rattle.std.proofs.lemmas.Bool.Decides.{eqb_tells}
+use Rattle.std.proofs.lemmas.Bool.Decides.{eqb_tells, Decides-eqb}
 use Rattle.std.specs.Result.{IsErrAnd}
 use Rattle.std.proofs.lemmas.List.{append-nil}
 use Rattle.sedre.specs.declared.types.Kind.{Kind}
@@ -36,9 +36,6 @@ use Rattle.sedscript.specs.Cases.{match_to, function_after, item_with, item_of, 
 
 not_equal : (a b : ℕ) → a ≢ b → (a == b) ≡ false
 not_equal a b n = elim (eqb_tells a b) [ inl h ↦ absurd (n h.1) | inr h ↦ h.0 ]
-
-equal : (a b : ℕ) → a ≡ b → (a == b) ≡ true
-equal a b e = elim (eqb_tells a b) [ inl h ↦ h.0 | inr h ↦ absurd (h.1 e) ]
 
 pub if_true : {A : Type 0} (x y : A) (b : Bool) → b ≡ true → (if b then x else y) ≡ x
 if_true x y true e = refl
@@ -154,7 +151,7 @@ match_comes text kind m d place to number groups next folded old new e n f same 
 match_empty : (text : List ℕ) (count d place to : ℕ) → delimiter_at text (place + 1) d ≡ Some to → to ≡ place + 1 →
     match_at text count d place ≡ plainly (empty_match text count (to + 1))
 unfolding match_at
-match_empty text count d place to e same = ap (match_to text count d place) e ∙ if_true _ _ (to == place + 1) (equal to (place + 1) same)
+match_empty text count d place to e same = ap (match_to text count d place) e ∙ if_true _ _ (to == place + 1) ((Decides-eqb to (place + 1)).1 same)
 
 pub empty_comes : (text : List ℕ) (kind : Kind) (m d place to : ℕ) (old : List WrittenExpression) (result : Result (Option Address × ℕ) ScriptFault) → delimiter_at text (place + 1) d ≡ Some to → to ≡ place + 1 →
     Agrees as_addressed (length old) result (empty_match text (length old) (to + 1)) → Comes text kind m old old as_addressed result (match_at text (length old) d place)
@@ -238,7 +235,7 @@ functions_agree n (Ok x) r e = sym e
 functions_agree n (Err x) r e = sym e
 
 pub substitute_empty : (text : List ℕ) (count : ℕ) (s : Strings) → s.middle ≡ s.from → substitute_with text count s ≡ plainly (substituted text s None None)
-substitute_empty text count s e = if_true _ _ (s.middle == s.from) (equal s.middle s.from e)
+substitute_empty text count s e = if_true _ _ (s.middle == s.from) ((Decides-eqb s.middle s.from).1 e)
 
 pub substitute_is : (text : List ℕ) (count : ℕ) (s : Strings) (folded : Bool) → s.middle ≢ s.from → folded ≡ folds (flags_after text s false) →
     substitute_with text count s ≡ (expression (record { from = s.from; to = s.middle; delimiter = s.delimiter; folded = folded }) (λ (groups : ℕ). plainly (Ok groups)) >>= λ (groups : ℕ). plainly (substituted text s (Some count) (Some groups)))

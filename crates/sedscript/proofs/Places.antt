@@ -36,7 +36,7 @@ use Rattle.sedscript.specs.declared.transliteration.Char.{Char}
 use Rattle.std.specs.List.{cons_option, prefix_len, take_while}
 use Rattle.std.proofs.lemmas.List.Sums.{prefix_len-le-length}
 use Rattle.sedscript.specs.Bytes.{past, belongs, bytes_between, is_digit, is_byte}
-use Rattle.sedscript.specs.Strings.{escapes, string_end, Piece, literal, whole, group, escaped_piece, exceeds, piece_fault, replacement_fault, escaped_byte, char_of, chars_from, chars_of, string_fault, is_among, repeated_in, strings_fault}
+use Rattle.sedscript.specs.Strings.{escapes, string_end, Piece, group, escaped_piece, exceeds, piece_fault, replacement_fault, escaped_byte, char_of, chars_from, chars_of, string_fault, is_among, repeated_in, strings_fault}
 use Rattle.sedscript.specs.Functions.{or_fault, verb_of, most_addresses, allowed, ended, may_end, text_end, text_of, text_from, label_of, file_of, name_from, ◌>>=◌ as ◌then◌}
 use Rattle.sedscript.specs.Between.{no_flags, numbered, with_number, with_flag, flags_from, own_delimiter, strings_after, substitute_strings, transliterate_strings, unless_fault, transliterate_at, flags_after, substituted}
 use Rattle.sedscript.specs.Items.{Reading, plainly, expression, ◌>>=◌, Addressed, Headed, with_addresses, line_of, folds_at, past_flag, match_at, own_match, address_of, address_at, with_second, second_at, after_first, addresses_at, with_bang, substitute_with, substitute_at, function_of, function_with, function_at, item_from, item_at}
@@ -44,7 +44,7 @@ use Rattle.sedscript.specs.Script.{Gives, value, after_expression, CutScript, do
 use Rattle.sedscript.specs.FirstFault.{Fails, own, no_expression, later, Faulty, early, afterwards}
 use Rattle.sedscript.specs.Targets.{fault_if, target_fault_at, target_fault_in, depth_after, block_end, label_in}
 use Rattle.sedscript.specs.Ranges.{IsOneOf, AddressWithin}
-use Rattle.sedscript.specs.Cases.{repeated_fault, item_of, match_to, function_after, item_with, with_digits, with_file, ends_flags, flagged}
+use Rattle.sedscript.specs.Cases.{repeated_fault, item_of, match_to, function_after, item_with, with_digits, with_file, ends_flags}
 
 -- places
 
@@ -110,15 +110,10 @@ string_in breaks d escaped at end (b ∷ bs) le =
 
 text_in : (how : Inside) (at end : ℕ) (bs : List ℕ) → at + length bs < end → FoundIn at end (text_end how at bs)
 text_in InLine at end [] le = (omega arith, omega (arith, le))
-text_in Escape at end [] le = tt
-text_in Due at end [] le = tt
+text_in how at end [] le = tt
 text_in Escape at end (b ∷ bs) le =
     found_later at (suc at) end (text_end (if b == 10 then Due else InLine) (suc at) bs) (omega arith) (text_in (if b == 10 then Due else InLine) (suc at) end bs (omega (arith, le)))
-text_in InLine at end (b ∷ bs) le =
-    let here : FoundIn at end (Some at) = (omega arith, omega (arith, le)) in
-    found_if at end (b == 10) (Some at) (text_end (if b == 92 then Escape else InLine) (suc at) bs) here
-    (found_later at (suc at) end (text_end (if b == 92 then Escape else InLine) (suc at) bs) (omega arith) (text_in (if b == 92 then Escape else InLine) (suc at) end bs (omega (arith, le))))
-text_in Due at end (b ∷ bs) le =
+text_in how at end (b ∷ bs) le =
     let here : FoundIn at end (Some at) = (omega arith, omega (arith, le)) in
     found_if at end (b == 10) (Some at) (text_end (if b == 92 then Escape else InLine) (suc at) bs) here
     (found_later at (suc at) end (text_end (if b == 92 then Escape else InLine) (suc at) bs) (omega arith) (text_in (if b == 92 then Escape else InLine) (suc at) end bs (omega (arith, le))))
@@ -144,9 +139,8 @@ fault_choice n false x y h g = g
 
 piece_up_to : (n : ℕ) (limit : Option ℕ) (place : ℕ) (o : Option Piece) → place ≤ n → FaultUpTo n (piece_fault limit place o)
 piece_up_to n limit place None le = le
-piece_up_to n limit place (Some (literal b)) le = tt
-piece_up_to n limit place (Some whole) le = tt
 piece_up_to n limit place (Some (group k)) le = fault_if_up_to n (exceeds limit k) _ place le
+piece_up_to n limit place other le = tt
 
 replacement_up_to : (n d : ℕ) (limit : Option ℕ) (escaped : Bool) (at : ℕ) (bs : List ℕ) → at + length bs ≤ n → FaultUpTo n (replacement_fault d limit escaped at bs)
 replacement_up_to n d limit escaped at [] le = tt
@@ -371,9 +365,8 @@ abbrev FlagsUpTo : ℕ → Flags × ℕ → Type 0
 FlagsUpTo n found = FlagsWithin found.0 × (found.1 ≤ n)
 
 numbered_read : (n : ℕ) (f : Flags) (at : ℕ) (o : Option ℕ) → at ≤ n → ReadUpTo FlagsWithin n (numbered f at o)
-numbered_read n f at None le = le
-numbered_read n f at (Some zero) le = le
 numbered_read n f at (Some (suc k)) le = omega arith
+numbered_read n f at other le = le
 
 number_read : (n : ℕ) (f : Flags) (at : ℕ) (digits : List ℕ) → at ≤ n → ReadUpTo FlagsWithin n (with_number f at digits)
 number_read n f at digits le = read_if FlagsWithin n (is_some f.number) _ _ le (numbered_read n f at (with_digits (Some 0) digits) le)
@@ -406,7 +399,7 @@ flags_read text empty f zero at (b ∷ bs) h le =
 substituted_read : (text : List ℕ) (count : ℕ) (s : Strings) (e limit : Option ℕ) → IsOneOf count e → StringsIn (length text) s → ReadUpTo (EndsUpTo (length text) count) (length text) (substituted text s e limit)
 unfolding substituted
 substituted_read text count s e limit one h =
-    unless_up_to (EndsUpTo (length text) count) (length text) (replacement_fault s.delimiter limit false (s.middle + 1) (bytes_between text (s.middle + 1) s.to)) (flagged text s e)
+    unless_up_to (EndsUpTo (length text) count) (length text) (replacement_fault s.delimiter limit false (s.middle + 1) (bytes_between text (s.middle + 1) s.to)) _
     (replacement_up_to (length text) s.delimiter limit false (s.middle + 1) (bytes_between text (s.middle + 1) s.to) (omega (arith, h.2, between_short text (s.middle + 1) s.to (omega (arith, h.1)))))
     (read_then (FlagsUpTo (length text)) (EndsUpTo (length text) count) (length text) (flags_after text s (not (is_some e))) (λ (found : Flags × ℕ). ended text (Substitute s e found.0) found.1)
     (flags_read text (not (is_some e)) no_flags 0 (s.to + 1) (drop (s.to + 1) text) (omega arith) (omega (arith, h.2, length-drop (s.to + 1) text)))
@@ -471,9 +464,8 @@ abbrev HeadedUpTo : ℕ → ℕ → Headed → Type 0
 HeadedUpTo n count h = (h.count ≡ count) × AddressesWithin count h.addresses × (h.at ≤ n)
 
 line_read : (n count from to : ℕ) (o : Option ℕ) → from ≤ n → to ≤ n → ReadUpTo (AddressedUpTo n count) n (line_of count from to o)
-line_read n count from to None low high = low
-line_read n count from to (Some zero) low high = low
 line_read n count from to (Some (suc k)) low high = (refl, omega arith, high)
+line_read n count from to other low high = low
 
 flag_up_to : (text : List ℕ) (at : ℕ) → at ≤ length text → past_flag text at ≤ length text
 flag_up_to text at le = by_flag (folds_at text at) refl

@@ -5,7 +5,7 @@ ghost use Rattle.std.specs.Prelude.{slice_get, reverse, unwrap_or, if◌then◌e
 ghost use Rattle.std.specs.Option.{option_or};
 ghost use Rattle.sedscript.specs.Targets.{counted, commands_in, is_label, label_in};
 ghost use Rattle.sedscript.specs.declared.items.Item.{Item};
-ghost use Rattle.sedscript.specs.Tables.{TargetsAre, ends_in, with_end, opened, unopened_by, is_earlier, labelled};
+ghost use Rattle.sedscript.specs.Tables.{TargetsAre, ends_in, with_end, opened, unopened_by, labelled};
 
 use crate::bytes::bytes_between;
 use crate::items::{Function, Item};
@@ -171,16 +171,6 @@ pub fn targets_of<'a>(
     })
 }
 
-/// Whether the first item with a label is another one than that at index `k`; false where no item has the label.
-fn is_earlier(k: usize, label: Option<FirstLabel>) -> bool
-    ensures { result ≡ is_earlier k label }
-{
-    match label {
-        None => false,
-        Some(first) => first.item != k,
-    }
-}
-
 impl<'a> Targets<'a> {
     /// The first label of a name.
     fn first_label(&self, name: &'a [u8]) -> Option<FirstLabel>
@@ -208,7 +198,10 @@ impl<'a> Targets<'a> {
             slice_get items k ≡ Some i → is_label text name.now i.function ≡ true →
             result ≡ is_some (label_in text name.now 0 (take k items)) }
     {
-        is_earlier(k, self.first_label(name))
+        match self.first_label(name) {
+            None => false,
+            Some(first) => first.item != k,
+        }
     }
 
     /// The number of the command after the end of a block; None where it isn't closed, or where no block is left. Before it
