@@ -1,6 +1,6 @@
 //! Where labels and blocks lead: tables that are made once, so that nothing is searched anew.
 
-ghost use Rattle.std.specs.Prelude.{◌≡◌, ◌<◌, ◌≤◌, ◌+◌, ℕ, List, Option, Some, None, true, is_some, length, take};
+ghost use Rattle.std.specs.Prelude.{◌≡◌, ◌<◌, ◌≤◌, ◌+◌, ℕ, List, Option, Some, None, true, is_some, take};
 ghost use Rattle.std.specs.Prelude.{slice_get, reverse, unwrap_or, if◌then◌else◌, IfOk, OnOk};
 ghost use Rattle.std.specs.Option.{option_or};
 ghost use Rattle.sedscript.specs.Targets.{counted, commands_in, is_label, label_in};
