@@ -164,12 +164,8 @@ at_each P a b c d (suc (suc (suc zero))) lt = d
 at_each P a b c d (suc (suc (suc (suc n)))) lt = absurd (omega arith)
 
 pub word_small : (words : List ℕ) → AreWords words → (place : ℕ) → place < 4 → slice_index_or words place 0 < 2 ^ 64
-word_small [] are place lt = absurd are
-word_small (a ∷ []) are place lt = absurd are
-word_small (a ∷ b ∷ []) are place lt = absurd are
-word_small (a ∷ b ∷ c ∷ []) are place lt = absurd are
 word_small (a ∷ b ∷ c ∷ d ∷ []) are place lt = at_each (λ p. slice_index_or (a ∷ b ∷ c ∷ d ∷ []) p 0 < 2 ^ 64) are.0 are.1 are.2 are.3 place lt
-word_small (a ∷ b ∷ c ∷ d ∷ e ∷ rest) are place lt = absurd are
+word_small _ are place lt = absurd are
 
 pub only_is : (b : ℕ) (none set : List Bool) → none ≡ set_of (λ c. false) → set ≡ union none (only b) → set ≡ only b
 only_is b none set is_none is =

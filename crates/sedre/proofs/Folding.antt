@@ -7,7 +7,7 @@ use Rattle.sedre.specs.declared.types.Reason.{Reason}
 use Rattle.sedre.specs.declared.types.ExprFault.{ExprFault}
 use Rattle.sedre.specs.declared.types.TheConstants.{NO_MEMORY}
 use Rattle.sedre.specs.declared.syntax.Symbol.{Symbol}
-use Rattle.sedre.specs.declared.syntax.Symbol.TheVariants.{Literal, AnyByte, Opening, Closing, Parting, Star, Plus, Question, Interval, IntervalEnd, BracketOpening, Caret, Dollar, Unknown}
+use Rattle.sedre.specs.declared.syntax.Symbol.TheVariants.{Literal, BracketOpening}
 use Rattle.sedre.specs.declared.syntax.NextItem.{NextItem}
 use Rattle.sedre.specs.declared.syntax.NextItem.TheVariants.{Is, Ends, Bad}
 use Rattle.sedre.specs.declared.syntax.Item.{Item}
@@ -44,13 +44,9 @@ size-same (stars p) = omega (arith, size-same p)
 size-same (opts p) = omega (arith, size-same p)
 
 less-same : {c d : Tree} {m n : ℕ} → Same c d → m ≡ n → without_alternation c m ≡ without_alternation d n
-less-same sets e = e
 less-same same e = ap (without_alternation _) e
-less-same (seqs p q) e = e
 less-same (alts p q) e = ap (λ m. m - 1) e
-less-same (groups p) e = e
-less-same (stars p) e = e
-less-same (opts p) e = e
+less-same _ e = e
 
 depth-same : {a b : Tree} → Same a b → depth a ≡ depth b
 depth-same sets = refl
@@ -216,39 +212,14 @@ close_alike one = refl
 module _ (kind : Kind) (f g : Bool) (delimiter : Option ℕ) (text : List ℕ) where
   folded_for : (before : Option Item) (at : ℕ) (s : Option (Symbol × ℕ)) → AlikeHere (item_for kind f delimiter text before at s) (item_for kind g delimiter text before at s)
   unfolding list_at
-  folded_for before at None = this
   folded_for before at (Some (Literal b, n)) = stands bytes
-  folded_for before at (Some (AnyByte, n)) = this
-  folded_for before at (Some (Opening, n)) = this
-  folded_for before at (Some (Closing, n)) = this
-  folded_for before at (Some (Parting, n)) = this
-  folded_for before at (Some (Star, n)) = this
-  folded_for before at (Some (Plus, n)) = this
-  folded_for before at (Some (Question, n)) = this
-  folded_for before at (Some (Interval, n)) = this
-  folded_for before at (Some (IntervalEnd, n)) = this
   folded_for before at (Some (BracketOpening, n)) =
       list_alike f g (begins (drop (at + 1) text) 94) at (listed (elements_from delimiter (at + 1) (drop (at + 1) text)).0) (elements_from delimiter (at + 1) (drop (at + 1) text)).1
-  folded_for before at (Some (Caret, n)) = this
-  folded_for before at (Some (Dollar, n)) = this
-  folded_for before at (Some (Unknown reason, n)) = this
+  folded_for before at _ = this
 
   after_byte : (m n : List Bool) (at : ℕ) (s : Option (Symbol × ℕ)) → item_for kind g delimiter text (Some (Byte m)) at s ≡ item_for kind g delimiter text (Some (Byte n)) at s
   after_byte m n at None = refl
-  after_byte m n at (Some (Literal b, k)) = refl
-  after_byte m n at (Some (AnyByte, k)) = refl
-  after_byte m n at (Some (Opening, k)) = refl
-  after_byte m n at (Some (Closing, k)) = refl
-  after_byte m n at (Some (Parting, k)) = refl
-  after_byte m n at (Some (Star, k)) = refl
-  after_byte m n at (Some (Plus, k)) = refl
-  after_byte m n at (Some (Question, k)) = refl
-  after_byte m n at (Some (Interval, k)) = refl
-  after_byte m n at (Some (IntervalEnd, k)) = refl
-  after_byte m n at (Some (BracketOpening, k)) = refl
-  after_byte m n at (Some (Caret, k)) = refl
-  after_byte m n at (Some (Dollar, k)) = refl
-  after_byte m n at (Some (Unknown reason, k)) = refl
+  after_byte m n at _ = refl
 
   here_alike : {before after : Option Item} (at : ℕ) → AlikeBefore before after → AlikeHere (item_at kind f delimiter text before at) (item_at kind g delimiter text after at)
   unfolding item_at

@@ -191,15 +191,8 @@ module _ (ns : List Node) (arena : IsArena ns) where
 -- ---- the numbers of groups
 
 abbrev NumberedNode : ℕ → Node → Type 0
-NumberedNode most node.Empty = Unit {0}
-NumberedNode most (node.Set s) = Unit {0}
-NumberedNode most node.Begin = Unit {0}
-NumberedNode most node.End = Unit {0}
-NumberedNode most (node.Seq a b) = Unit {0}
-NumberedNode most (node.Alt a b) = Unit {0}
 NumberedNode most (node.Group k a) = (1 ≤ k) × (k ≤ most)
-NumberedNode most (node.Star a first) = Unit {0}
-NumberedNode most (node.Opt a first) = Unit {0}
+NumberedNode most _ = Unit {0}
 
 abbrev AllNumbered : ℕ → List Node → Type 0
 AllNumbered most [] = Unit {0}
@@ -210,15 +203,12 @@ all-append most [] ys p q = q
 all-append most (x ∷ xs) ys p q = (p.0, all-append most xs ys p.1 q)
 
 numbered_nodes : (most base : ℕ) (t : Tree) → GroupsNumbered most t → AllNumbered most (postorder base t)
-numbered_nodes most base empty h = (tt, tt)
-numbered_nodes most base (set members) h = (tt, tt)
-numbered_nodes most base begin h = (tt, tt)
-numbered_nodes most base end h = (tt, tt)
 numbered_nodes most base (seq a b) h = all-append most (postorder base a ++ postorder (base + size a) b) _ (all-append most (postorder base a) (postorder (base + size a) b) (numbered_nodes most base a h.0) (numbered_nodes most (base + size a) b h.1)) (tt, tt)
 numbered_nodes most base (alt a b) h = all-append most (postorder base a ++ postorder (base + size a) b) _ (all-append most (postorder base a) (postorder (base + size a) b) (numbered_nodes most base a h.0) (numbered_nodes most (base + size a) b h.1)) (tt, tt)
 numbered_nodes most base (group k a) h = all-append most (postorder base a) _ (numbered_nodes most base a h.2) ((h.0, h.1), tt)
 numbered_nodes most base (star a first) h = all-append most (postorder base a) _ (numbered_nodes most base a h) (tt, tt)
 numbered_nodes most base (opt a first) h = all-append most (postorder base a) _ (numbered_nodes most base a h) (tt, tt)
+numbered_nodes most base _ h = (tt, tt)
 
 number_at : (most : ℕ) (ns : List Node) (x : ℕ) (n : Node) → AllNumbered most ns → slice_get ns x ≡ Some n → NumberedNode most n
 number_at most [] x n h f = absurd cc

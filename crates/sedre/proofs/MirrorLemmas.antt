@@ -3,48 +3,39 @@ use Rattle.std.proofs.Common.{◌≡◌, ℕ, zero, suc, ◌+◌, ◌<◌, List,
 use Rattle.std.specs.Prelude.{slice_get, option_map}
 use Rattle.std.proofs.lemmas.Option.{slice_get-map}
 use Rattle.std.proofs.lemmas.List.{length-map}
-use Rattle.sedre.specs.Tree.{Tree, empty, set, begin, end, seq, alt, group, star, opt, WrittenExpression, tree_of, tree_within, tree_at}
+use Rattle.sedre.specs.Tree.{Tree, empty, seq, alt, group, star, opt, WrittenExpression, tree_of, tree_within, tree_at}
 use Rattle.std.specs.Option.{option_map_or}
 use Rattle.sedre.specs.Sizes.{size}
 use Rattle.sedre.specs.Arena.{IsArena, IsPart, HasTwoParts}
 use Rattle.sedre.specs.Mirror.{mirror, mirror_node, node_seen, seen}
 use Rattle.sedre.specs.declared.types.Node.{Node}
-use Rattle.sedre.specs.declared.types.Node.TheVariants.{Empty, Set, Begin, End, Seq, Alt, Group, Star, Opt}
+use Rattle.sedre.specs.declared.types.Node.TheVariants.{Seq, Alt, Group, Star, Opt}
 
 -- mirrored twice it is as it was
 pub mirror-mirror : (t : Tree) → mirror (mirror t) ≡ t
-mirror-mirror empty = refl
-mirror-mirror (set members) = refl
-mirror-mirror begin = refl
-mirror-mirror end = refl
 mirror-mirror (seq a b) = rw (mirror-mirror a, mirror-mirror b)
 mirror-mirror (alt a b) = rw (mirror-mirror a, mirror-mirror b)
 mirror-mirror (group k a) = rw (mirror-mirror a)
 mirror-mirror (star a first) = rw (mirror-mirror a)
 mirror-mirror (opt a first) = rw (mirror-mirror a)
+mirror-mirror _ = refl
 
 pub size-mirror : (t : Tree) → size (mirror t) ≡ size t
-size-mirror empty = refl
-size-mirror (set members) = refl
-size-mirror begin = refl
-size-mirror end = refl
 size-mirror (seq a b) = omega (arith, size-mirror a, size-mirror b)
 size-mirror (alt a b) = omega (arith, size-mirror a, size-mirror b)
 size-mirror (group k a) = omega (arith, size-mirror a)
 size-mirror (star a first) = omega (arith, size-mirror a)
 size-mirror (opt a first) = omega (arith, size-mirror a)
+size-mirror _ = refl
 
 -- the trees of a mirrored node
 tree_of-mirror : (f g : ℕ → Tree) → ((c : ℕ) → f c ≡ mirror (g c)) → (node : Node) → tree_of f (mirror_node node) ≡ mirror (tree_of g node)
-tree_of-mirror f g same Empty = refl
-tree_of-mirror f g same (Set s) = refl
-tree_of-mirror f g same Begin = refl
-tree_of-mirror f g same End = refl
 tree_of-mirror f g same (Seq a b) = rw (same a.index, same b.index)
 tree_of-mirror f g same (Alt a b) = rw (same a.index, same b.index)
 tree_of-mirror f g same (Group k a) = rw (same a.index)
 tree_of-mirror f g same (Star a first) = rw (same a.index)
 tree_of-mirror f g same (Opt a first) = rw (same a.index)
+tree_of-mirror f g same _ = refl
 
 node-mirror : (f g : ℕ → Tree) → ((c : ℕ) → f c ≡ mirror (g c)) → (o : Option Node) → option_map_or (tree_of f) (option_map mirror_node o) empty ≡ mirror (option_map_or (tree_of g) o empty)
 node-mirror f g same None = refl
@@ -62,37 +53,16 @@ tree_at-mirror nodes x = tree_within-mirror nodes (suc x) x
 
 -- a mirrored node has the same parts
 part_from : (node : Node) (c : ℕ) → IsPart (mirror_node node) c → IsPart node c
-part_from Empty c h = h
-part_from (Set s) c h = h
-part_from Begin c h = h
-part_from End c h = h
 part_from (Seq a b) c h = ⊎_elim (λ (r : b.index ≡ c). inr r) (λ (l : a.index ≡ c). inl l) h
-part_from (Alt a b) c h = h
-part_from (Group k a) c h = h
-part_from (Star a first) c h = h
-part_from (Opt a first) c h = h
+part_from _ c h = h
 
 part_to : (node : Node) (c : ℕ) → IsPart node c → IsPart (mirror_node node) c
-part_to Empty c h = h
-part_to (Set s) c h = h
-part_to Begin c h = h
-part_to End c h = h
 part_to (Seq a b) c h = ⊎_elim (λ (l : a.index ≡ c). inr l) (λ (r : b.index ≡ c). inl r) h
-part_to (Alt a b) c h = h
-part_to (Group k a) c h = h
-part_to (Star a first) c h = h
-part_to (Opt a first) c h = h
+part_to _ c h = h
 
 two_to : (node : Node) → HasTwoParts node → HasTwoParts (mirror_node node)
-two_to Empty h = h
-two_to (Set s) h = h
-two_to Begin h = h
-two_to End h = h
 two_to (Seq a b) h = λ e. h (sym e)
-two_to (Alt a b) h = h
-two_to (Group k a) h = h
-two_to (Star a first) h = h
-two_to (Opt a first) h = h
+two_to _ h = h
 
 some_from : (o : Option Node) (node : Node) → option_map mirror_node o ≡ Some node → (old : Node) × (o ≡ Some old) × (mirror_node old ≡ node)
 some_from None node is = cc

@@ -1,9 +1,9 @@
 -- The groups of what is read are numbered by their openings.
 use Rattle.std.proofs.Common.{ℕ, zero, suc, ◌-◌, ◌≤◌, List, [], ◌∷◌, ◌++◌, Bool, false, Option, Some, None, arith, nat_eq}
 use Rattle.sedre.specs.declared.syntax.Item.{Item}
-use Rattle.sedre.specs.Tree.{Tree, empty, set, begin, end, seq, alt, group, star, opt}
+use Rattle.sedre.specs.Tree.{Tree, seq, alt, group, star, opt}
 use Rattle.sedre.specs.Sizes.{concatenation, alternation, copies, optional, further, repetition}
-use Rattle.sedre.specs.Grammar.{AreAlternatives, ArePieces, IsPiece, first, another, none, more, byte, begin_anchor, end_anchor, subexpression, repeated}
+use Rattle.sedre.specs.Grammar.{AreAlternatives, ArePieces, IsPiece, first, another, none, more, subexpression, repeated}
 use Rattle.sedre.specs.Finished.{GroupsNumbered}
 
 abbrev AllOf : ℕ → List Tree → Type 0
@@ -11,15 +11,12 @@ AllOf most [] = Unit {0}
 AllOf most (t ∷ ts) = GroupsNumbered most t × AllOf most ts
 
 more_groups : (m n : ℕ) (t : Tree) → m ≤ n → GroupsNumbered m t → GroupsNumbered n t
-more_groups m n empty h p = tt
-more_groups m n (set members) h p = tt
-more_groups m n begin h p = tt
-more_groups m n end h p = tt
 more_groups m n (seq a b) h p = (more_groups m n a h p.0, more_groups m n b h p.1)
 more_groups m n (alt a b) h p = (more_groups m n a h p.0, more_groups m n b h p.1)
 more_groups m n (group k a) h p = (p.0, omega (arith, p.1, h), more_groups m n a h p.2)
 more_groups m n (star a mark) h p = more_groups m n a h p
 more_groups m n (opt a mark) h p = more_groups m n a h p
+more_groups m n _ h p = tt
 
 all_more : (m n : ℕ) (ts : List Tree) → m ≤ n → AllOf m ts → AllOf n ts
 all_more m n [] h p = tt
@@ -71,8 +68,6 @@ mutual
       (omega (arith, a.0, b.0), all_snoc k ts t (all_more h k ts b.0 a.1) b.1)
 
   of_piece : {g h : ℕ} {is : List Item} {t : Tree} → IsPiece g is t h → (g ≤ h) × GroupsNumbered h t
-  of_piece byte = (omega arith, tt)
-  of_piece begin_anchor = (omega arith, tt)
-  of_piece end_anchor = (omega arith, tt)
   of_piece (subexpression {g = g} {h = h} {bs = bs} a) = let r = of_alternatives a in (omega (arith, r.0), (omega arith, omega (arith, r.0), of_alternation h bs r.1))
   of_piece (repeated {h = h} least most {t = t} q) = let r = of_piece q in (r.0, of_repetition h least most t r.1)
+  of_piece _ = (omega arith, tt)

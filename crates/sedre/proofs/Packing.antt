@@ -1,5 +1,5 @@
 -- Nodes as entries of a table.
-use Rattle.std.proofs.Common.{◌≡◌, ℕ, zero, suc, ◌+◌, ◌-◌, ◌<◌, ◌≤◌, length, get_or, slice_get, List, [], ◌∷◌, ◌++◌, map, take, drop, Bool, true, false, Some, refl, ap, subst, ◌∙◌, sym, append_assoc, arith, length-append, length-drop, get_or-drop, inl, inr, OnOk, Result, Ok, Err}
+use Rattle.std.proofs.Common.{◌≡◌, ℕ, zero, suc, ◌+◌, ◌-◌, ◌<◌, ◌≤◌, length, get_or, slice_get, List, [], ◌∷◌, ◌++◌, map, take, drop, Bool, Some, refl, ap, subst, ◌∙◌, sym, append_assoc, arith, length-append, length-drop, get_or-drop, inl, inr, OnOk, Result, Ok, Err}
 use Rattle.std.specs.declared.alloc.AllocError.{AllocError}
 use Rattle.std.proofs.lemmas.Bool.Decides.{leb_tells}
 use Rattle.std.proofs.lemmas.List.{take_more, get_or_append_left}
@@ -25,17 +25,8 @@ fit-append sets x [] fs p q = subst (λ (n : ℕ). FitFrom sets n fs) (let h : x
 fit-append sets x (e ∷ es) fs p q = (p.0, fit-append sets (x + 1) es fs p.1 (subst (λ (n : ℕ). FitFrom sets n fs) (let h : x + suc (length es) ≡ x + 1 + length es = omega arith in h) q))
 
 fit_shape_grown : (sets more : List (List Bool)) (x : ℕ) (s : Shape) (left right : ℕ) → FitsShape sets x s left right → FitsShape (sets ++ more) x s left right
-fit_shape_grown sets more x shape.Empty left right p = tt
 fit_shape_grown sets more x shape.Set left right p = omega (arith, p, length-append sets more)
-fit_shape_grown sets more x shape.Begin left right p = tt
-fit_shape_grown sets more x shape.End left right p = tt
-fit_shape_grown sets more x shape.Seq left right p = p
-fit_shape_grown sets more x shape.Alt left right p = p
-fit_shape_grown sets more x shape.Group left right p = p
-fit_shape_grown sets more x shape.FirstStar left right p = p
-fit_shape_grown sets more x shape.Star left right p = p
-fit_shape_grown sets more x shape.FirstOpt left right p = p
-fit_shape_grown sets more x shape.Opt left right p = p
+fit_shape_grown sets more x _ left right p = p
 
 pub fit_grown : (sets more : List (List Bool)) (x : ℕ) (es : List Entry) → FitFrom sets x es → FitFrom (sets ++ more) x es
 fit_grown sets more x [] p = tt
@@ -47,17 +38,8 @@ get_grown (s ∷ sets) more zero h = refl
 get_grown (s ∷ sets) more (suc k) h = get_grown sets more k (omega (arith, h))
 
 node_grown : (sets more : List (List Bool)) (x : ℕ) (s : Shape) (left right : ℕ) → FitsShape sets x s left right → node_of (sets ++ more) x s left right ≡ node_of sets x s left right
-node_grown sets more x shape.Empty left right p = refl
 node_grown sets more x shape.Set left right p = ap (λ (s : List Bool). node.Set s) (get_grown sets more left p)
-node_grown sets more x shape.Begin left right p = refl
-node_grown sets more x shape.End left right p = refl
-node_grown sets more x shape.Seq left right p = refl
-node_grown sets more x shape.Alt left right p = refl
-node_grown sets more x shape.Group left right p = refl
-node_grown sets more x shape.FirstStar left right p = refl
-node_grown sets more x shape.Star left right p = refl
-node_grown sets more x shape.FirstOpt left right p = refl
-node_grown sets more x shape.Opt left right p = refl
+node_grown sets more x _ left right p = refl
 
 pub nodes_grown : (sets more : List (List Bool)) (x : ℕ) (es : List Entry) → FitFrom sets x es → nodes_from (sets ++ more) x es ≡ nodes_from sets x es
 nodes_grown sets more x [] p = refl
@@ -72,11 +54,7 @@ fit_shape_on sets x y shape.Begin left right h p = tt
 fit_shape_on sets x y shape.End left right h p = tt
 fit_shape_on sets x y shape.Seq left right h p = (omega (arith, p.0, h), omega (arith, p.1, h))
 fit_shape_on sets x y shape.Alt left right h p = (omega (arith, p.0, h), omega (arith, p.1, h))
-fit_shape_on sets x y shape.Group left right h p = omega (arith, p, h)
-fit_shape_on sets x y shape.FirstStar left right h p = omega (arith, p, h)
-fit_shape_on sets x y shape.Star left right h p = omega (arith, p, h)
-fit_shape_on sets x y shape.FirstOpt left right h p = omega (arith, p, h)
-fit_shape_on sets x y shape.Opt left right h p = omega (arith, p, h)
+fit_shape_on sets x y _ left right h p = omega (arith, p, h)
 
 pub fit_on : (sets : List (List Bool)) (x y : ℕ) (es : List Entry) → x ≤ y → FitFrom sets x es → FitFrom sets y es
 fit_on sets x y [] h p = tt
@@ -131,17 +109,13 @@ found_below (r ∷ sets) zero s h = omega arith
 found_below (r ∷ sets) (suc k) s h = omega (arith, found_below sets k s h)
 
 pub entry_stands : (sets : List (List Bool)) (x number : ℕ) (n : Node) → HasNumber sets number n → PartsBelow x n → node_at sets x (entry_of x number n) ≡ n
-entry_stands sets x number node.Empty h p = refl
 entry_stands sets x number (node.Set s) h p = ap (λ (m : List Bool). node.Set m) (found_set sets number s h)
-entry_stands sets x number node.Begin h p = refl
-entry_stands sets x number node.End h p = refl
 entry_stands sets x number (node.Seq a b) h p = ap (λ (m : ℕ). node.Seq (id m) (id (x - (x - b.index)))) (back x a.index p.0) ∙ ap (λ (m : ℕ). node.Seq a (id m)) (back x b.index p.1)
 entry_stands sets x number (node.Alt a b) h p = ap (λ (m : ℕ). node.Alt (id m) (id (x - (x - b.index)))) (back x a.index p.0) ∙ ap (λ (m : ℕ). node.Alt a (id m)) (back x b.index p.1)
 entry_stands sets x number (node.Group k a) h p = ap (λ (m : ℕ). node.Group k (id m)) (back x a.index p)
-entry_stands sets x number (node.Star a true) h p = ap (λ (m : ℕ). node.Star (id m) true) (back x a.index p)
-entry_stands sets x number (node.Star a false) h p = ap (λ (m : ℕ). node.Star (id m) false) (back x a.index p)
-entry_stands sets x number (node.Opt a true) h p = ap (λ (m : ℕ). node.Opt (id m) true) (back x a.index p)
-entry_stands sets x number (node.Opt a false) h p = ap (λ (m : ℕ). node.Opt (id m) false) (back x a.index p)
+entry_stands sets x number (node.Star a first) h p = ap (λ (m : ℕ). node.Star (id m) first) (back x a.index p)
+entry_stands sets x number (node.Opt a first) h p = ap (λ (m : ℕ). node.Opt (id m) first) (back x a.index p)
+entry_stands sets x number _ h p = refl
 
 pub entry_fits : (sets : List (List Bool)) (x number : ℕ) (n : Node) → HasNumber sets number n → Fits sets x (entry_of x number n)
 entry_fits sets x number node.Empty h = tt
@@ -150,28 +124,19 @@ entry_fits sets x number node.Begin h = tt
 entry_fits sets x number node.End h = tt
 entry_fits sets x number (node.Seq a b) h = (omega arith, omega arith)
 entry_fits sets x number (node.Alt a b) h = (omega arith, omega arith)
-entry_fits sets x number (node.Group k a) h = omega arith
-entry_fits sets x number (node.Star a true) h = omega arith
-entry_fits sets x number (node.Star a false) h = omega arith
-entry_fits sets x number (node.Opt a true) h = omega arith
-entry_fits sets x number (node.Opt a false) h = omega arith
+entry_fits sets x number _ h = omega arith
 
 -- the entries of some nodes, read further on
 on : (x d k : ℕ) → k ≤ x → x + d - k ≡ x - k + d
 on x d k h = omega (arith, h)
 
 shape_on : (sets : List (List Bool)) (x d : ℕ) (s : Shape) (left right : ℕ) → FitsShape sets x s left right → node_of sets (x + d) s left right ≡ shifted d (node_of sets x s left right)
-shape_on sets x d shape.Empty left right p = refl
-shape_on sets x d shape.Set left right p = refl
-shape_on sets x d shape.Begin left right p = refl
-shape_on sets x d shape.End left right p = refl
 shape_on sets x d shape.Seq left right p = ap (λ (m : ℕ). node.Seq (id m) (id (x + d - right))) (on x d left p.0) ∙ ap (λ (m : ℕ). node.Seq (id (x - left + d)) (id m)) (on x d right p.1)
 shape_on sets x d shape.Alt left right p = ap (λ (m : ℕ). node.Alt (id m) (id (x + d - right))) (on x d left p.0) ∙ ap (λ (m : ℕ). node.Alt (id (x - left + d)) (id m)) (on x d right p.1)
 shape_on sets x d shape.Group left right p = ap (λ (m : ℕ). node.Group left (id m)) (on x d right p)
-shape_on sets x d shape.FirstStar left right p = ap (λ (m : ℕ). node.Star (id m) true) (on x d right p)
-shape_on sets x d shape.Star left right p = ap (λ (m : ℕ). node.Star (id m) false) (on x d right p)
-shape_on sets x d shape.FirstOpt left right p = ap (λ (m : ℕ). node.Opt (id m) true) (on x d right p)
-shape_on sets x d shape.Opt left right p = ap (λ (m : ℕ). node.Opt (id m) false) (on x d right p)
+shape_on sets x d (shape.Star first) left right p = ap (λ (m : ℕ). node.Star (id m) first) (on x d right p)
+shape_on sets x d (shape.Opt first) left right p = ap (λ (m : ℕ). node.Opt (id m) first) (on x d right p)
+shape_on sets x d _ left right p = refl
 
 pub nodes_on : (sets : List (List Bool)) (x d : ℕ) (es : List Entry) → FitFrom sets x es → nodes_from sets (x + d) es ≡ map (shifted d) (nodes_from sets x es)
 nodes_on sets x d [] p = refl
@@ -261,16 +226,7 @@ on_ok_map (Err x) P Q f p = tt
 -- the set of a node is among the sets
 set_shape : (sets : List (List Bool)) (x : ℕ) (s : Shape) (left right : ℕ) (m : List Bool) → FitsShape sets x s left right → node_of sets x s left right ≡ node.Set m → (k : ℕ) × (slice_get sets k ≡ Some m)
 set_shape sets x shape.Set left right m p e = let same : get_or sets left [] ≡ m = cc in (left, slice_get-get_or sets left [] p ∙ ap (λ (s : List Bool). Some s) same)
-set_shape sets x shape.Empty left right m p e = absurd cc
-set_shape sets x shape.Begin left right m p e = absurd cc
-set_shape sets x shape.End left right m p e = absurd cc
-set_shape sets x shape.Seq left right m p e = absurd cc
-set_shape sets x shape.Alt left right m p e = absurd cc
-set_shape sets x shape.Group left right m p e = absurd cc
-set_shape sets x shape.FirstStar left right m p e = absurd cc
-set_shape sets x shape.Star left right m p e = absurd cc
-set_shape sets x shape.FirstOpt left right m p e = absurd cc
-set_shape sets x shape.Opt left right m p e = absurd cc
+set_shape sets x _ left right m p e = absurd cc
 
 pub set_listed : (sets : List (List Bool)) (base : ℕ) (es : List Entry) (x : ℕ) (m : List Bool) → FitFrom sets base es → slice_get (nodes_from sets base es) x ≡ Some (node.Set m) → (k : ℕ) × (slice_get sets k ≡ Some m)
 set_listed sets base [] x m p is = absurd cc

@@ -10,14 +10,14 @@ use Rattle.sedre.specs.declared.elements.Element.TheVariants.{Plain, Delimiter, 
 use Rattle.sedre.specs.declared.byte_set.ByteSet.{ByteSet}
 use Rattle.sedre.specs.declared.intervals.Interval.{Interval as Bounds}
 use Rattle.sedre.specs.declared.syntax.Symbol.{Symbol}
-use Rattle.sedre.specs.declared.syntax.Symbol.TheVariants.{Literal, AnyByte, Opening, Closing, Parting, Star, Plus, Question, Interval, IntervalEnd, BracketOpening, Caret, Dollar, Unknown}
+use Rattle.sedre.specs.declared.syntax.Symbol.TheVariants.{Star, Plus, Question, Interval, BracketOpening, Caret, Dollar}
 use Rattle.sedre.specs.declared.syntax.Item.{Item}
 use Rattle.sedre.specs.declared.syntax.Item.TheVariants.{AtBegin, AtEnd}
 use Rattle.sedre.specs.declared.syntax.NextItem.{NextItem}
 use Rattle.sedre.specs.declared.syntax.NextItem.TheVariants.{Is, Ends, Bad}
 use Rattle.sedre.specs.Brackets.{elements, element, elements_from, begins, is_dash, goes_on_as_range, ListedBytes, single, between_ends, range_to, range, both, listed, judged, list_at}
 use Rattle.sedre.specs.Items.{interval, symbol, is_first, is_repeatable, is_repeat, ends_alternative, repeats, interval_item, list_item, star_item, question_item, anchor_item, item_for, item_at}
-use Rattle.sedre.specs.Grammar.{Row, bad, stray, unclosed, deep, large, FaultyWith}
+use Rattle.sedre.specs.Grammar.{Row, bad, stray, FaultyWith}
 
 -- the elements of a list stand up to a place
 abbrev StandUpTo : ℕ → List (ℕ × Element) → Type 0
@@ -54,13 +54,8 @@ both_told n (Ok x) (Err f) h g = g
 both_told n (Ok x) (Ok y) h g = tt
 
 single_told : (n : ℕ) (x : ℕ × Element) → x.0 ≤ n → ToldUpTo n (single x)
-single_told n (place, Plain b) h = tt
-single_told n (place, Delimiter b) h = tt
-single_told n (place, OfClass class) h = tt
-single_told n (place, Equivalent b) h = tt
-single_told n (place, Collating b) h = tt
 single_told n (place, Wrong reason) h = h
-single_told n (place, Unclosed) h = tt
+single_told n _ h = tt
 
 between_told : (n place : ℕ) (first last : Option ℕ) (on : Bool) → place ≤ n → ToldUpTo n (between_ends place first last on)
 between_told n place None last on h = h
@@ -144,23 +139,17 @@ anchor_here n at next Extended stands b anchor le = le
 module _ (kind : Kind) (folded : Bool) (delimiter : Option ℕ) (text : List ℕ) where
   symbol_here : (before : Option Item) (at : ℕ) (s : Option (Symbol × ℕ)) → at < length text → HereUpTo (length text) at (item_for kind folded delimiter text before at s)
   symbol_here before at None inside = tt
-  symbol_here before at (Some (Literal b, n)) inside = omega (arith, inside)
-  symbol_here before at (Some (AnyByte, n)) inside = omega (arith, inside)
-  symbol_here before at (Some (Opening, n)) inside = omega (arith, inside)
-  symbol_here before at (Some (Closing, n)) inside = omega (arith, inside)
-  symbol_here before at (Some (Parting, n)) inside = omega (arith, inside)
   symbol_here before at (Some (Star, n)) inside = star_here (length text) at (at + n) kind (is_repeatable before) (omega (arith, inside))
   symbol_here before at (Some (Plus, n)) inside = repeats_here (length text) at (is_repeatable before) _ (omega (arith, inside)) (omega (arith, inside))
   symbol_here before at (Some (Question, n)) inside = question_here (length text) at (at + n) kind (is_repeatable before) (is_repeat before) (omega (arith, inside))
   symbol_here before at (Some (Interval, n)) inside =
       repeats_here (length text) at (is_repeatable before) _ (omega (arith, inside))
       (interval_here (length text) at (at + n) (interval kind delimiter (drop (at + n) text)) (omega (arith, inside)))
-  symbol_here before at (Some (IntervalEnd, n)) inside = omega (arith, inside)
   symbol_here before at (Some (BracketOpening, n)) inside = list_here (length text) at (list_at folded delimiter text at) (omega (arith, inside)) (list_told folded delimiter text at inside)
   symbol_here before at (Some (Caret, n)) inside = anchor_here (length text) at (at + n) kind (is_first before) 94 AtBegin (omega (arith, inside))
   symbol_here before at (Some (Dollar, n)) inside =
       anchor_here (length text) at (at + n) kind (ends_alternative (symbol kind delimiter (drop (at + n) text))) 36 AtEnd (omega (arith, inside))
-  symbol_here before at (Some (Unknown reason, n)) inside = omega (arith, inside)
+  symbol_here before at _ inside = omega (arith, inside)
 
   rest_here : (before : Option Item) (at : ℕ) (bs : List ℕ) → drop at text ≡ bs → HereUpTo (length text) at (item_for kind folded delimiter text before at (symbol kind delimiter bs))
   rest_here before at [] e = tt
@@ -173,9 +162,7 @@ module _ (kind : Kind) (folded : Bool) (delimiter : Option ℕ) (text : List ℕ
   row_within : (max_nodes : ℕ) {is : List Item} {opened to place : ℕ} {reason : Reason} → Row kind folded delimiter text max_nodes is opened to place reason → place ≤ length text
   row_within max_nodes (bad {is = is} {to = to} e) = subst (HereUpTo (length text) to) e (item_here (last_or None is) to)
   row_within max_nodes (stray {is = is} {to = to} e) = subst (HereUpTo (length text) to) e (item_here (last_or None is) to)
-  row_within max_nodes (unclosed e) = omega arith
-  row_within max_nodes (deep bs e a far) = omega arith
-  row_within max_nodes (large bs e a near far) = omega arith
+  row_within max_nodes _ = omega arith
 
   -- the first fault of a text is told in it or at its end
   pub fault_within : (max_nodes : ℕ) {place : ℕ} {reason : Reason} → FaultyWith kind folded delimiter text max_nodes place reason → place ≤ length text

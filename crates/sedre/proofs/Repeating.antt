@@ -11,22 +11,17 @@ use Rattle.sedre.specs.declared.intervals.Interval.{Interval as Bounds}
 use Rattle.sedre.specs.declared.syntax.NextItem.{NextItem}
 use Rattle.sedre.specs.declared.syntax.NextItem.TheVariants.{Is, Ends, Bad}
 use Rattle.sedre.specs.declared.syntax.Symbol.{Symbol}
-use Rattle.sedre.specs.declared.syntax.Symbol.TheVariants.{Literal, AnyByte, Opening, Closing, Parting, Star, Plus, Question, Interval, IntervalEnd, BracketOpening, Caret, Dollar, Unknown}
+use Rattle.sedre.specs.declared.syntax.Symbol.TheVariants.{Star, Plus, Question, Interval, BracketOpening, Caret, Dollar}
 use Rattle.sedre.specs.declared.syntax.Item.{Item}
-use Rattle.sedre.specs.declared.syntax.Item.TheVariants.{Byte, Open, Close, Bar, Repeat, AtBegin, AtEnd}
+use Rattle.sedre.specs.declared.syntax.Item.TheVariants.{Repeat, AtBegin, AtEnd}
 use Rattle.sedre.specs.Stacks.{IsInterval}
 use Rattle.sedre.specs.Brackets.{begins, list_at}
 use Rattle.sedre.specs.Items.{symbol, numeral, closes, limit, after_least, interval, item_at, item_for, is_repeatable, is_repeat, is_first, ends_alternative, repeats, interval_item, list_item, star_item, question_item, anchor_item}
 
 -- a repetition stands where one may, with bounds in order
 abbrev pub FineItem : Bool → Item → Type 0
-FineItem may (Byte members) = Unit {0}
-FineItem may Open = Unit {0}
-FineItem may Close = Unit {0}
-FineItem may Bar = Unit {0}
 FineItem may (Repeat least most) = (may ≡ true) × IsInterval least most
-FineItem may AtBegin = Unit {0}
-FineItem may AtEnd = Unit {0}
+FineItem may _ = Unit {0}
 
 abbrev pub Fine : Bool → NextItem → Type 0
 Fine may (Is i next) = FineItem may i
@@ -95,21 +90,14 @@ fine_anchor Basic may false b anchor next h = tt
 fine_anchor Extended may stands b anchor next h = h
 
 fine_for : (kind : Kind) (folded : Bool) (delimiter : Option ℕ) (text : List ℕ) (before : Option Item) (at : ℕ) (o : Option (Symbol × ℕ)) → Fine (is_repeatable before) (item_for kind folded delimiter text before at o)
-fine_for kind folded delimiter text before at None = tt
-fine_for kind folded delimiter text before at (Some (Literal b, n)) = tt
-fine_for kind folded delimiter text before at (Some (AnyByte, n)) = tt
-fine_for kind folded delimiter text before at (Some (Opening, n)) = tt
-fine_for kind folded delimiter text before at (Some (Closing, n)) = tt
-fine_for kind folded delimiter text before at (Some (Parting, n)) = tt
 fine_for kind folded delimiter text before at (Some (Star, n)) = fine_star kind (is_repeatable before) at (at + n)
 fine_for kind folded delimiter text before at (Some (Plus, n)) = fine_plus (is_repeatable before) at (at + n)
 fine_for kind folded delimiter text before at (Some (Question, n)) = fine_question kind (is_repeatable before) (is_repeat before) at (at + n)
 fine_for kind folded delimiter text before at (Some (Interval, n)) = fine_interval_item (is_repeatable before) (interval kind delimiter (drop (at + n) text)) at (at + n) (fine_interval kind delimiter (drop (at + n) text))
-fine_for kind folded delimiter text before at (Some (IntervalEnd, n)) = tt
 fine_for kind folded delimiter text before at (Some (BracketOpening, n)) = fine_list (is_repeatable before) (list_at folded delimiter text at)
 fine_for kind folded delimiter text before at (Some (Caret, n)) = fine_anchor kind (is_repeatable before) (is_first before) 94 AtBegin (at + n) tt
 fine_for kind folded delimiter text before at (Some (Dollar, n)) = fine_anchor kind (is_repeatable before) (ends_alternative (symbol kind delimiter (drop (at + n) text))) 36 AtEnd (at + n) tt
-fine_for kind folded delimiter text before at (Some (Unknown reason, n)) = tt
+fine_for kind folded delimiter text before at _ = tt
 
 fine_at : (kind : Kind) (folded : Bool) (delimiter : Option ℕ) (text : List ℕ) (before : Option Item) (at : ℕ) → Fine (is_repeatable before) (item_at kind folded delimiter text before at)
 unfolding item_at

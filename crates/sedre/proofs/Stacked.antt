@@ -53,28 +53,23 @@ stored_leaf limit old new ts t n ends leaf s here p =
 
 cover_spelled : (c : Cover) (base : ℕ) (a : Tree) → postorder base (covered c a) ≡ postorder base a ++ cover_node c (id (base + size a - 1)) ∷ []
 cover_spelled (cover.Group k) base a = refl
-cover_spelled (cover.Star first) base a = refl
-cover_spelled (cover.Opt first) base a = refl
+cover_spelled _ base a = refl
 
 cover_size : (c : Cover) (a : Tree) → size (covered c a) ≡ 1 + size a
 cover_size (cover.Group k) a = refl
-cover_size (cover.Star first) a = refl
-cover_size (cover.Opt first) a = refl
+cover_size _ a = refl
 
 cover_depth : (c : Cover) (a : Tree) → depth (covered c a) ≡ 1 + depth a
 cover_depth (cover.Group k) a = refl
-cover_depth (cover.Star first) a = refl
-cover_depth (cover.Opt first) a = refl
+cover_depth _ a = refl
 
 cover_inner : (c : Cover) (a : Tree) → without_alternation (covered c a) (depth (covered c a)) ≡ 1 + depth a
 cover_inner (cover.Group k) a = refl
-cover_inner (cover.Star first) a = refl
-cover_inner (cover.Opt first) a = refl
+cover_inner _ a = refl
 
 cover_below : (c : Cover) (i : NodeId) (k : ℕ) → i.index < k → PartsBelow k (cover_node c i)
 cover_below (cover.Group n) i k h = h
-cover_below (cover.Star first) i k h = h
-cover_below (cover.Opt first) i k h = h
+cover_below _ i k h = h
 
 pub stored_cover : (c : Cover) (limit : ℕ) (old new : Stack) (ts : List Tree) (a : Tree) (ps : List TreeExtent) (p : TreeExtent) (root : NodeId) (made : Node) (d : ℕ) → Stored limit old (ts ++ a ∷ []) → old.parts.items ≡ ps ++ p ∷ [] →
     root.index ≡ p.end - 1 → made ≡ cover_node c root → d ≡ min 600 p.depth + 1 → Puts old.limit old.nodes ps new made p.end d d → Stored limit new (ts ++ covered c a ∷ [])

@@ -4,7 +4,7 @@ use Rattle.std.specs.Prelude.{slice_get}
 use Rattle.std.proofs.lemmas.Bool.Decides.{eqb_tells, leb_tells}
 use Rattle.sedre.specs.declared.types.Node.{Node}
 use Rattle.sedre.specs.declared.types.Node.TheVariants as node
-use Rattle.sedre.specs.Tree.{Tree, empty, set, begin, end, seq, alt, group, star, opt}
+use Rattle.sedre.specs.Tree.{Tree, seq, alt, group, star, opt}
 use Rattle.sedre.specs.Sizes.{size}
 use Rattle.sedre.specs.Arena.{IsPart, HasTwoParts, IsArena}
 use Rattle.sedre.specs.Packed.{id}
@@ -13,15 +13,12 @@ use Rattle.sedre.proofs.Written.{size_positive, length-postorder}
 
 -- the parts of a node
 abbrev pub parts : Node → List ℕ
-parts node.Empty = []
-parts (node.Set members) = []
-parts node.Begin = []
-parts node.End = []
 parts (node.Seq a b) = a.index ∷ b.index ∷ []
 parts (node.Alt a b) = a.index ∷ b.index ∷ []
 parts (node.Group k a) = a.index ∷ []
 parts (node.Star a first) = a.index ∷ []
 parts (node.Opt a first) = a.index ∷ []
+parts _ = []
 
 -- the parts of all nodes
 abbrev pub all_parts : List Node → List ℕ
@@ -115,15 +112,12 @@ two_once base a b i n e p q =
 
 -- each node of a tree but its root is a part once, and no other number is
 pub parts_once : (base : ℕ) (t : Tree) (i : ℕ) → Once base (base + size t - 1) i (times i (all_parts (postorder base t)))
-parts_once base empty i = record { inside = λ a b. absurd (omega arith); under = λ a. refl; over = λ a. refl }
-parts_once base (set members) i = record { inside = λ a b. absurd (omega arith); under = λ a. refl; over = λ a. refl }
-parts_once base begin i = record { inside = λ a b. absurd (omega arith); under = λ a. refl; over = λ a. refl }
-parts_once base end i = record { inside = λ a b. absurd (omega arith); under = λ a. refl; over = λ a. refl }
 parts_once base (seq a b) i = two_once base a b i (node.Seq (id (base + size a - 1)) (id (base + size a + size b - 1))) refl (parts_once base a i) (parts_once (base + size a) b i)
 parts_once base (alt a b) i = two_once base a b i (node.Alt (id (base + size a - 1)) (id (base + size a + size b - 1))) refl (parts_once base a i) (parts_once (base + size a) b i)
 parts_once base (group k a) i = one_once base a i (node.Group k (id (base + size a - 1))) refl (parts_once base a i)
 parts_once base (star a first) i = one_once base a i (node.Star (id (base + size a - 1)) first) refl (parts_once base a i)
 parts_once base (opt a first) i = one_once base a i (node.Opt (id (base + size a - 1)) first) refl (parts_once base a i)
+parts_once base _ i = record { inside = λ a b. absurd (omega arith); under = λ a. refl; over = λ a. refl }
 
 below-append : (base : ℕ) (xs ys : List Node) → AreBelow base xs → AreBelow (base + length xs) ys → AreBelow base (xs ++ ys)
 below-append base [] ys p q = subst (λ (n : ℕ). AreBelow n ys) (let e : base + 0 ≡ base = omega arith in e) q
@@ -134,10 +128,6 @@ below_last base xs n p h = below-append base xs (n ∷ []) p (h, tt)
 
 -- the parts of each node stand before it
 pub parts_below : (base : ℕ) (t : Tree) → AreBelow base (postorder base t)
-parts_below base empty = (tt, tt)
-parts_below base (set members) = (tt, tt)
-parts_below base begin = (tt, tt)
-parts_below base end = (tt, tt)
 parts_below base (seq a b) = below_last base (postorder base a ++ postorder (base + size a) b) (node.Seq (id (base + size a - 1)) (id (base + size a + size b - 1)))
     (below-append base (postorder base a) (postorder (base + size a) b) (parts_below base a) (subst (λ (m : ℕ). AreBelow m (postorder (base + size a) b)) (ap (λ (m : ℕ). base + m) (sym (length-postorder base a))) (parts_below (base + size a) b))) (
       omega (arith, length-append (postorder base a) (postorder (base + size a) b), length-postorder base a, length-postorder (base + size a) b, size_positive a, size_positive b),
@@ -151,6 +141,7 @@ parts_below base (alt a b) = below_last base (postorder base a ++ postorder (bas
 parts_below base (group k a) = below_last base (postorder base a) (node.Group k (id (base + size a - 1))) (parts_below base a) (omega (arith, length-postorder base a, size_positive a), tt)
 parts_below base (star a first) = below_last base (postorder base a) (node.Star (id (base + size a - 1)) first) (parts_below base a) (omega (arith, length-postorder base a, size_positive a), tt)
 parts_below base (opt a first) = below_last base (postorder base a) (node.Opt (id (base + size a - 1)) first) (parts_below base a) (omega (arith, length-postorder base a, size_positive a), tt)
+parts_below base _ = (tt, tt)
 
 -- ---- the same by index
 
@@ -164,10 +155,6 @@ first_hit : (x c : ℕ) (xs : List ℕ) → x ≡ c → 1 ≤ times c (x ∷ xs)
 first_hit x c xs e = let P : ℕ → Type 0 = λ n. 1 ≤ times c (n ∷ xs) in subst P (sym e) (omega (arith, times_self c xs))
 
 has_part : (n : Node) (c : ℕ) → IsPart n c → 1 ≤ times c (parts n)
-has_part node.Empty c p = absurd p
-has_part (node.Set s) c p = absurd p
-has_part node.Begin c p = absurd p
-has_part node.End c p = absurd p
 has_part (node.Seq a b) c (inl p) = first_hit a.index c (b.index ∷ []) p
 has_part (node.Seq a b) c (inr p) = omega (arith, first_hit b.index c [] p)
 has_part (node.Alt a b) c (inl p) = first_hit a.index c (b.index ∷ []) p
@@ -175,6 +162,7 @@ has_part (node.Alt a b) c (inr p) = omega (arith, first_hit b.index c [] p)
 has_part (node.Group k a) c p = first_hit a.index c [] p
 has_part (node.Star a first) c p = first_hit a.index c [] p
 has_part (node.Opt a first) c p = first_hit a.index c [] p
+has_part _ c p = absurd p
 
 -- a number that is counted is one of them
 hit_is : (x c : ℕ) → 1 ≤ (if x == c then 1 else 0) → x ≡ c
@@ -193,15 +181,12 @@ only_one : (x c : ℕ) → 1 ≤ times c (x ∷ []) → x ≡ c
 only_one x c h = hit_is x c (omega (arith, h))
 
 part_of_node : (n : Node) (c : ℕ) → 1 ≤ times c (parts n) → IsPart n c
-part_of_node node.Empty c h = absurd (omega (arith, h))
-part_of_node (node.Set s) c h = absurd (omega (arith, h))
-part_of_node node.Begin c h = absurd (omega (arith, h))
-part_of_node node.End c h = absurd (omega (arith, h))
 part_of_node (node.Seq a b) c h = one_of a.index b.index c h
 part_of_node (node.Alt a b) c h = one_of a.index b.index c h
 part_of_node (node.Group k a) c h = only_one a.index c h
 part_of_node (node.Star a first) c h = only_one a.index c h
 part_of_node (node.Opt a first) c h = only_one a.index c h
+part_of_node _ c h = absurd (omega (arith, h))
 
 some_part : (ns : List Node) (x c : ℕ) (n : Node) → slice_get ns x ≡ Some n → IsPart n c → 1 ≤ times c (all_parts ns)
 some_part [] x c n h p = absurd cc
@@ -231,15 +216,9 @@ two_differ i j h e =
     omega (arith, once, times_self i (i ∷ []), times_self i [])
 
 distinct_parts : (n : Node) → ((c : ℕ) → times c (parts n) ≤ 1) → HasTwoParts n
-distinct_parts node.Empty h = tt
-distinct_parts (node.Set s) h = tt
-distinct_parts node.Begin h = tt
-distinct_parts node.End h = tt
 distinct_parts (node.Seq a b) h = two_differ a.index b.index h
 distinct_parts (node.Alt a b) h = two_differ a.index b.index h
-distinct_parts (node.Group k a) h = tt
-distinct_parts (node.Star a first) h = tt
-distinct_parts (node.Opt a first) h = tt
+distinct_parts _ h = tt
 
 distinct_at : (ns : List Node) (x : ℕ) (n : Node) → ((c : ℕ) → times c (all_parts ns) ≤ 1) → slice_get ns x ≡ Some n → HasTwoParts n
 distinct_at [] x n h f = absurd cc
@@ -249,10 +228,6 @@ distinct_at (m ∷ ns) zero n h f =
 distinct_at (m ∷ ns) (suc x) n h f = distinct_at ns x n (λ c. omega (arith, h c, times-append c (parts m) (all_parts ns))) f
 
 less_part : (n : Node) (bound c : ℕ) → AllLess bound (parts n) → IsPart n c → c < bound
-less_part node.Empty bound c h p = absurd p
-less_part (node.Set s) bound c h p = absurd p
-less_part node.Begin bound c h p = absurd p
-less_part node.End bound c h p = absurd p
 less_part (node.Seq a b) bound c h (inl p) = omega (arith, h.0, p)
 less_part (node.Seq a b) bound c h (inr p) = omega (arith, h.1.0, p)
 less_part (node.Alt a b) bound c h (inl p) = omega (arith, h.0, p)
@@ -260,6 +235,7 @@ less_part (node.Alt a b) bound c h (inr p) = omega (arith, h.1.0, p)
 less_part (node.Group k a) bound c h p = omega (arith, h.0, p)
 less_part (node.Star a first) bound c h p = omega (arith, h.0, p)
 less_part (node.Opt a first) bound c h p = omega (arith, h.0, p)
+less_part _ bound c h p = absurd p
 
 below_at : (ns : List Node) (base x c : ℕ) (n : Node) → AreBelow base ns → slice_get ns x ≡ Some n → IsPart n c → c < base + x
 below_at [] base x c n h f p = absurd cc

@@ -5,19 +5,16 @@ use Rattle.sedre.specs.Tree.{Tree, empty, tree_of, tree_within, tree_at}
 use Rattle.std.specs.Option.{option_map_or}
 use Rattle.sedre.specs.Arena.{IsArena, IsPart}
 use Rattle.sedre.specs.declared.types.Node.{Node}
-use Rattle.sedre.specs.declared.types.Node.TheVariants.{Empty, Set, Begin, End, Seq, Alt, Group, Star, Opt}
+use Rattle.sedre.specs.declared.types.Node.TheVariants.{Seq, Alt, Group, Star, Opt}
 
 -- two ways to give the parts' trees agree at the parts of the node
 tree_of-same : (f g : ℕ → Tree) (node : Node) → ((c : ℕ) → IsPart node c → f c ≡ g c) → tree_of f node ≡ tree_of g node
-tree_of-same f g Empty same = refl
-tree_of-same f g (Set s) same = refl
-tree_of-same f g Begin same = refl
-tree_of-same f g End same = refl
 tree_of-same f g (Seq a b) same = rw (same a.index (inl refl), same b.index (inr refl))
 tree_of-same f g (Alt a b) same = rw (same a.index (inl refl), same b.index (inr refl))
 tree_of-same f g (Group k a) same = rw (same a.index refl)
 tree_of-same f g (Star a first) same = rw (same a.index refl)
 tree_of-same f g (Opt a first) same = rw (same a.index refl)
+tree_of-same f g _ same = refl
 
 node-same : (f g : ℕ → Tree) (node : Option Node) → ((n : Node) (c : ℕ) → node ≡ Some n → IsPart n c → f c ≡ g c) → option_map_or (tree_of f) node empty ≡ option_map_or (tree_of g) node empty
 node-same f g None same = refl

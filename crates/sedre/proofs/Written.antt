@@ -2,31 +2,21 @@
 use Rattle.std.proofs.Common.{◌≡◌, ℕ, ◌+◌, ◌<◌, length, List, [], ◌∷◌, ◌++◌, refl, ap, ◌∙◌, sym, append_assoc, arith, length-append, Option, Some}
 use Rattle.std.specs.Option.{option_to_list}
 use Rattle.sedre.specs.declared.types.Node.{Node}
-use Rattle.sedre.specs.Tree.{Tree, empty, set, begin, end, seq, alt, group, star, opt}
+use Rattle.sedre.specs.Tree.{Tree, empty, seq, alt, group, star, opt}
 use Rattle.sedre.specs.Sizes.{size}
 use Rattle.sedre.specs.Stacks.{postorder, written, total}
 
 pub size_positive : (t : Tree) → 0 < size t
 size_positive empty = omega arith
-size_positive (set members) = omega arith
-size_positive begin = omega arith
-size_positive end = omega arith
-size_positive (seq a b) = omega arith
-size_positive (alt a b) = omega arith
-size_positive (group k a) = omega arith
-size_positive (star a first) = omega arith
-size_positive (opt a first) = omega arith
+size_positive _ = omega arith
 
 pub length-postorder : (base : ℕ) (t : Tree) → length (postorder base t) ≡ size t
-length-postorder base empty = refl
-length-postorder base (set members) = refl
-length-postorder base begin = refl
-length-postorder base end = refl
 length-postorder base (seq a b) = simp (length-append, length-postorder base a, length-postorder (base + size a) b) (omega arith)
 length-postorder base (alt a b) = simp (length-append, length-postorder base a, length-postorder (base + size a) b) (omega arith)
 length-postorder base (group k a) = simp (length-append, length-postorder base a) (omega arith)
 length-postorder base (star a first) = simp (length-append, length-postorder base a) (omega arith)
 length-postorder base (opt a first) = simp (length-append, length-postorder base a) (omega arith)
+length-postorder base _ = refl
 
 pub written-append : (base : ℕ) (ts us : List Tree) → written base (ts ++ us) ≡ written base ts ++ written (base + total ts) us
 written-append base [] us = ap (λ (n : ℕ). written n us) (omega arith)

@@ -1,6 +1,6 @@
 -- Private to the proofs: no contract of a public item cites what stands here.
 -- Nodes as numbers: what the table keeps of each, and the node that this stands for.
-use Rattle.std.specs.Prelude.{◌≡◌, ◌<◌, ◌≤◌, ℕ, ◌+◌, ◌-◌, List, [], ◌∷◌, ◌++◌, Bool, true, false, length, slice_get}
+use Rattle.std.specs.Prelude.{◌≡◌, ◌<◌, ◌≤◌, ℕ, ◌+◌, ◌-◌, List, [], ◌∷◌, ◌++◌, Bool, length, slice_get}
 use Rattle.std.specs.Prelude.{slice_index_or, Option, Some}
 use Rattle.std.specs.BTreeMap.{BTreeMap, get_by}
 use Rattle.std.specs.Cmp.Lexicographic.{slice_cmp}
@@ -25,10 +25,8 @@ node_of sets x shape.End left right = node.End
 node_of sets x shape.Seq left right = node.Seq (id (x - left)) (id (x - right))
 node_of sets x shape.Alt left right = node.Alt (id (x - left)) (id (x - right))
 node_of sets x shape.Group left right = node.Group left (id (x - right))
-node_of sets x shape.FirstStar left right = node.Star (id (x - right)) true
-node_of sets x shape.Star left right = node.Star (id (x - right)) false
-node_of sets x shape.FirstOpt left right = node.Opt (id (x - right)) true
-node_of sets x shape.Opt left right = node.Opt (id (x - right)) false
+node_of sets x (shape.Star first) left right = node.Star (id (x - right)) first
+node_of sets x (shape.Opt first) left right = node.Opt (id (x - right)) first
 
 abbrev pub node_at : List (List Bool) → ℕ → Entry → Node
 node_at sets x e = node_of sets x e.shape e.left e.right
@@ -56,14 +54,6 @@ FitFrom sets x [] = Unit {0}
 FitFrom sets x (e ∷ es) = Fits sets x e × FitFrom sets (x + 1) es
 
 -- what is kept of a node at the index x, whose set has this number
-abbrev pub star_shape : Bool → Shape
-star_shape true = shape.FirstStar
-star_shape false = shape.Star
-
-abbrev pub opt_shape : Bool → Shape
-opt_shape true = shape.FirstOpt
-opt_shape false = shape.Opt
-
 abbrev pub entry_with : Shape → ℕ → ℕ → Entry
 entry_with s left right = record { shape = s; left = left; right = right }
 
@@ -75,8 +65,8 @@ entry_of x number node.End = entry_with shape.End 0 0
 entry_of x number (node.Seq a b) = entry_with shape.Seq (x - a.index) (x - b.index)
 entry_of x number (node.Alt a b) = entry_with shape.Alt (x - a.index) (x - b.index)
 entry_of x number (node.Group k a) = entry_with shape.Group k (x - a.index)
-entry_of x number (node.Star a first) = entry_with (star_shape first) 0 (x - a.index)
-entry_of x number (node.Opt a first) = entry_with (opt_shape first) 0 (x - a.index)
+entry_of x number (node.Star a first) = entry_with (shape.Star first) 0 (x - a.index)
+entry_of x number (node.Opt a first) = entry_with (shape.Opt first) 0 (x - a.index)
 
 -- the number that the map has by the words of a set
 abbrev pub numbered : BTreeMap (List ℕ) ℕ → List Bool → Option ℕ

@@ -82,7 +82,7 @@ impl Builder {
         ensures opened { OnOk result (self.new.opened ≤ self.old.opened + 1) }
     {
         self.stack.concatenate(self.top.pieces)?;
-        self.stack.alternate(self.top.alternatives)?;
+        self.stack.join_all(self.top.alternatives, true)?;
         self.stack.cover(Cover::Group(self.top.number))?;
         self.top = self.below.pop().unwrap();
         Ok(())
@@ -123,7 +123,7 @@ impl Builder {
             Stored limit self.new.stack (whole_level s.top ∷ []) × (self.new.opened ≡ s.opened)) }
     {
         self.stack.concatenate(self.top.pieces)?;
-        self.stack.alternate(0)?;
+        self.stack.join_all(0, true)?;
         Ok(())
     }
 }

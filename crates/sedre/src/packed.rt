@@ -1,7 +1,7 @@
 //! The nodes of an expression as a table: a shape and two numbers for each node, and each set once.
 ghost use Rattle.std.specs.Prelude.{◌≡◌, ◌≤◌, ◌<◌, ◌+◌, ◌-◌, ◌++◌, ◌∷◌, [], List, Bool, Some, IfOk, IfSome, OnOk};
 ghost use Rattle.std.specs.Prelude.{ℕ, length, map, take, drop, slice_get, vec_len};
-ghost use Rattle.sedre.specs.Packed.{node_at, nodes_from, Fits, FitFrom, star_shape, opt_shape, entry_of, HasNumber};
+ghost use Rattle.sedre.specs.Packed.{node_at, nodes_from, Fits, FitFrom, entry_of, HasNumber};
 ghost use Rattle.sedre.specs.Packed.{AddsSets, PartsBelow, numbered, shifted};
 ghost use Rattle.std.specs.Prelude.{option_map, true};
 ghost use Rattle.sedre.specs.declared.types.Node.TheVariants.{Set};
@@ -22,10 +22,8 @@ pub enum Shape {
     Seq,
     Alt,
     Group,
-    FirstStar,
-    Star,
-    FirstOpt,
-    Opt,
+    Star(bool),
+    Opt(bool),
 }
 
 /// What is kept of a node: for a set its number, for a group its number, and for a part how many places it stands
@@ -35,20 +33,6 @@ pub struct Entry {
     pub shape: Shape,
     pub left: usize,
     pub right: usize,
-}
-
-/// The shape of a `Star` with this mark.
-fn star_shape(first: bool) -> Shape
-    ensures { result ≡ star_shape first }
-{
-    if first { Shape::FirstStar } else { Shape::Star }
-}
-
-/// The shape of an `Opt` with this mark.
-fn opt_shape(first: bool) -> Shape
-    ensures { result ≡ opt_shape first }
-{
-    if first { Shape::FirstOpt } else { Shape::Opt }
 }
 
 /// What is kept of a node at the index `at`. `number` is that of its set, if it is one.
@@ -71,8 +55,8 @@ fn entry_of(at: usize, number: usize, node: Node) -> Entry
             at.saturating_sub(b.index),
         ),
         Node::Group(k, a) => (Shape::Group, k, at.saturating_sub(a.index)),
-        Node::Star(a, first) => (star_shape(first), 0, at.saturating_sub(a.index)),
-        Node::Opt(a, first) => (opt_shape(first), 0, at.saturating_sub(a.index)),
+        Node::Star(a, first) => (Shape::Star(first), 0, at.saturating_sub(a.index)),
+        Node::Opt(a, first) => (Shape::Opt(first), 0, at.saturating_sub(a.index)),
     };
     Entry { shape, left, right }
 }
@@ -96,10 +80,8 @@ fn node_at(sets: &[ByteSet], at: usize, entry: Entry) -> Node
         Shape::Seq => Node::Seq(left, right),
         Shape::Alt => Node::Alt(left, right),
         Shape::Group => Node::Group(entry.left, right),
-        Shape::FirstStar => Node::Star(right, true),
-        Shape::Star => Node::Star(right, false),
-        Shape::FirstOpt => Node::Opt(right, true),
-        Shape::Opt => Node::Opt(right, false),
+        Shape::Star(first) => Node::Star(right, first),
+        Shape::Opt(first) => Node::Opt(right, first),
     }
 }
 

@@ -60,7 +60,7 @@ pub struct Stack {
 
 impl Stack {
     ghost use Rattle.sedre.specs.Tree.{Tree};
-    ghost use Rattle.sedre.specs.Sizes.{size, depth, concatenation, alternation};
+    ghost use Rattle.sedre.specs.Sizes.{size, depth, concatenation};
     ghost use Rattle.sedre.specs.Packed.{shifted};
     ghost use Rattle.sedre.specs.Stacks.{Stored, LastBecomes, JoinsTrees, IsLeaf, Puts, last_end, pair, chain, covered};
 
@@ -219,14 +219,5 @@ impl Stack {
         } else {
             self.join_all(from, false)
         }
-    }
-
-    /// Makes the trees from number `from` on one alternation. There is at least one of them.
-    pub fn alternate(&mut self, from: usize) -> Result<(), AllocError>
-        requires { from < vec_len self.old.parts }
-        ensures trees { OnOk result (JoinsTrees from alternation self.old self.new) }
-        ensures count { OnOk result (vec_len self.new.parts ≡ from + 1) }
-    {
-        self.join_all(from, true)
     }
 }

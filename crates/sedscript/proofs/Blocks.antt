@@ -1,13 +1,14 @@
 -- The table of blocks.
-use Rattle.std.proofs.Common.{◌≡◌, ℕ, zero, suc, ◌+◌, ◌-◌, ◌<◌, ◌≤◌, ◌&&◌, ◌==◌, Bool, true, false, List, [], ◌∷◌, ◌++◌, length, take, drop, reverse, Option, Some, None, refl, sym, ap, ◌∙◌, arith, inl, inr, unwrap_or, if◌then◌else◌, slice_get, drop_of_length-le}
-use Rattle.std.proofs.lemmas.Option.{slice_get_within}
-use Rattle.sedscript.proofs.Labels.{take_item, drop_item, counted_in}
+use Rattle.std.proofs.Common.{◌≡◌, ℕ, zero, suc, ◌+◌, ◌-◌, ◌≤◌, ◌&&◌, ◌==◌, Bool, true, false, List, [], ◌∷◌, ◌++◌, length, take, drop, reverse, Option, Some, None, refl, sym, ap, ◌∙◌, arith, inl, inr, unwrap_or, if◌then◌else◌, slice_get, drop_of_length-le, MatchOption, option_to_list}
+use Rattle.std.proofs.lemmas.Grind.{reverse_onto}
+use Rattle.std.proofs.lemmas.List.{reverse-append, reverse-reverse}
+use Rattle.sedscript.proofs.Labels.{take_item, drop_item, counted_in, one_each}
 use Rattle.std.proofs.lemmas.Bool.Decides.{eqb_tells}
 use Rattle.sedscript.specs.declared.items.Item.{Item}
 use Rattle.sedscript.specs.declared.items.Function.{Function}
 use Rattle.sedscript.specs.declared.items.Function.TheVariants.{Open, Close}
 use Rattle.sedscript.specs.Targets.{counted, commands_in, is_open, is_close, close_in, depth_after, block_end, becomes_command}
-use Rattle.sedscript.specs.Tables.{unopened, unopened_by, opened, blocks_in, with_end, ends_in}
+use Rattle.sedscript.specs.Tables.{unopened, unopened_by, opened, blocks_in, with_end, ends_in, EndIs}
 
 after_first : (us : List ℕ) (d : ℕ) → slice_get us (suc d) ≡ slice_get (drop 1 us) d
 after_first [] d = refl
@@ -37,19 +38,31 @@ unopened_step items k n next i at e =
 pub none_after : (items : List Item) (n : ℕ) → [] ≡ reverse (unopened n (drop (length items) items))
 none_after items n = let e : drop (length items) items ≡ [] = drop_of_length-le items (omega arith) in rw e refl
 
+-- what was taken from a stack is the first in the list that it has in reverse
+pub popped_top : (us old new : List ℕ) (n left : ℕ) (o : Option ℕ) → old ≡ reverse us → old ≡ new ++ option_to_list o → n ≡ length old →
+    MatchOption o ((n ≡ 0) × (left ≡ 0)) (λ x. left + 1 ≡ n) → o ≡ slice_get us 0
+popped_top us old new n left None e f long cases =
+    let short : length old ≤ 0 = omega (arith, long, cases.0) in
+    let none : old ≡ [] = drop_of_length-le old short in
+    let nothing : us ≡ [] = sym (reverse-reverse us) ∙ ap reverse (sym e ∙ none) in
+    rw nothing refl
+popped_top us old new n left (Some x) e f long cases =
+    let turned : us ≡ x ∷ reverse new = sym (reverse-reverse us) ∙ (ap reverse (sym e ∙ f) ∙ reverse-append new (x ∷ [])) in
+    rw turned refl
+
+-- the end of one block more
+pub end_pushed : (us : List ℕ) (es old new : List (Option ℕ)) (f : Function) (end : Option ℕ) → f ≡ Open → end ≡ slice_get us 0 → old ≡ reverse es → new ≡ old ++ end ∷ [] →
+    new ≡ reverse (with_end f (slice_get us 0) es)
+end_pushed us es old new f end opens top are grown =
+    rw opens (grown ∙ (ap (λ (z : List (Option ℕ)). z ++ end ∷ []) are ∙ (ap (λ (o : Option ℕ). reverse es ++ o ∷ []) top ∙ sym (reverse_onto es (slice_get us 0) []))))
+
 -- the table one item further back
-pub ends_step : (items : List Item) (k n next : ℕ) (i : Item) (end : Option ℕ) (ends : List (Option ℕ)) → slice_get items k ≡ Some i → n ≡ counted next i →
-    ends ≡ ends_in n (drop (k + 1) items) → (is_open i.function ≡ true → end ≡ slice_get (unopened n (drop (k + 1) items)) 0) →
-    with_end i.function end ends ≡ ends_in next (drop k items)
-ends_step items k n next i end ends at e below new =
-    by_open (is_open i.function) new
+pub ends_step : (items : List Item) (k n next : ℕ) (i : Item) → slice_get items k ≡ Some i → n ≡ counted next i →
+    with_end i.function (slice_get (unopened n (drop (k + 1) items)) 0) (ends_in n (drop (k + 1) items)) ≡ ends_in next (drop k items)
+ends_step items k n next i at e =
+    ap (λ (o : Option ℕ). with_end i.function o (ends_in n (drop (k + 1) items))) (sym (close_is 0 n (drop (k + 1) items)))
     ∙ (ap (λ (m : ℕ). with_end i.function (close_in 0 m (drop (k + 1) items)) (ends_in m (drop (k + 1) items))) e
     ∙ sym (ap (ends_in next) (drop_item items k i at)))
-  where
-    by_open : (b : Bool) → (b ≡ true → end ≡ slice_get (unopened n (drop (k + 1) items)) 0) →
-        (if b then end ∷ ends else ends) ≡ (if b then close_in 0 n (drop (k + 1) items) ∷ ends_in n (drop (k + 1) items) else ends_in n (drop (k + 1) items))
-    by_open true h = ap (λ (o : Option ℕ). o ∷ ends) (h refl ∙ sym (close_is 0 n (drop (k + 1) items))) ∙ ap (λ (os : List (Option ℕ)). close_in 0 n (drop (k + 1) items) ∷ os) below
-    by_open false h = below
 
 open_first : (f : Function) (n : ℕ) (is : List Item) → f ≡ Open →
     slice_get (with_end f (close_in 0 (if becomes_command f then suc n else n) is) (ends_in (if becomes_command f then suc n else n) is)) 0 ≡ Some (close_in 0 (suc n) is)
@@ -80,48 +93,17 @@ end_found items ends k i are at opens =
     ∙ (ap (λ (m : ℕ). Some (close_in 0 (suc m) (drop (suc k) items))) none
     ∙ ap (λ (m : ℕ). Some (close_in 0 (suc (commands_in (take k items))) (drop m items))) one))
 
-pub end_within : (items : List Item) (ends : List (Option ℕ)) (k blocks : ℕ) (i : Item) → ends ≡ ends_in 0 items → slice_get items k ≡ Some i → i.function ≡ Open →
-    blocks ≡ blocks_in (take k items) → blocks < length ends
-end_within items ends k blocks i are at opens counted =
-    slice_get_within ends blocks (block_end (take k items) (drop (k + 1) items)) (ap (slice_get ends) counted ∙ end_found items ends k i are at opens)
-
-pub end_known : (items : List Item) (ends : List (Option ℕ)) (k blocks : ℕ) (i : Item) (end : Option ℕ) → ends ≡ ends_in 0 items → slice_get items k ≡ Some i → i.function ≡ Open →
-    blocks ≡ blocks_in (take k items) → slice_get ends blocks ≡ Some end → end ≡ block_end (take k items) (drop (k + 1) items)
-end_known items ends k blocks i end are at opens counted read =
-    let known : Some end ≡ Some (block_end (take k items) (drop (k + 1) items)) = sym read ∙ (ap (slice_get ends) counted ∙ end_found items ends k i are at opens) in
-    ap (λ (o : Option (Option ℕ)). unwrap_or o None) known
+pub end_known : (items : List Item) (ends : List (Option ℕ)) (k blocks : ℕ) (i : Item) (end : Option ℕ) → ends ≡ ends_in 0 items → slice_get items k ≡ Some i →
+    blocks ≡ blocks_in (take k items) → end ≡ unwrap_or (slice_get ends blocks) None → EndIs (take k items) (drop (k + 1) items) i.function end
+end_known items ends k blocks i end are at counted read = λ opens.
+    read ∙ ap (λ (o : Option (Option ℕ)). unwrap_or o None) (ap (slice_get ends) counted ∙ end_found items ends k i are at opens)
 
 -- how many blocks are opened up to an item
 blocks_snoc : (is : List Item) (i : Item) → blocks_in (is ++ i ∷ []) ≡ opened (blocks_in is) i.function
 blocks_snoc [] i = refl
-blocks_snoc (j ∷ is) i = by_open (is_open j.function) (is_open i.function) (blocks_in (is ++ i ∷ [])) (blocks_in is) (blocks_snoc is i)
-  where
-    by_open : (b c : Bool) (x n : ℕ) → x ≡ (if c then suc n else n) → (if b then suc x else x) ≡ (if c then suc (if b then suc n else n) else (if b then suc n else n))
-    by_open true true x n e = ap suc e
-    by_open true false x n e = ap suc e
-    by_open false true x n e = e
-    by_open false false x n e = e
+blocks_snoc (j ∷ is) i = one_each (is_open j.function) (is_open i.function) (blocks_in (is ++ i ∷ [])) (blocks_in is) (blocks_snoc is i)
 
 pub blocks_step : (items : List Item) (k n next : ℕ) (i : Item) → slice_get items k ≡ Some i → n ≡ blocks_in (take k items) → next ≡ opened n i.function →
     next ≡ blocks_in (take (k + 1) items)
 blocks_step items k n next i at e f =
     f ∙ (ap (λ (m : ℕ). opened m i.function) e ∙ (sym (blocks_snoc (take k items) i) ∙ ap blocks_in (sym (take_item items k i at))))
-
--- and back
-pub blocks_back : (items : List Item) (k n next : ℕ) (i : Item) → slice_get items k ≡ Some i → n ≡ blocks_in (take (k + 1) items) → n ≡ opened next i.function →
-    next ≡ blocks_in (take k items)
-blocks_back items k n next i at e f =
-    by_open (is_open i.function) (sym f ∙ (e ∙ (ap blocks_in (take_item items k i at) ∙ blocks_snoc (take k items) i)))
-  where
-    by_open : (b : Bool) → (if b then suc next else next) ≡ (if b then suc (blocks_in (take k items)) else blocks_in (take k items)) → next ≡ blocks_in (take k items)
-    by_open true g = cc
-    by_open false g = g
-
-pub blocks_some : (items : List Item) (k n : ℕ) (i : Item) → slice_get items k ≡ Some i → n ≡ blocks_in (take (k + 1) items) → opened 0 i.function ≤ n
-blocks_some items k n i at e =
-    let f : n ≡ opened (blocks_in (take k items)) i.function = e ∙ (ap blocks_in (take_item items k i at) ∙ blocks_snoc (take k items) i) in
-    by_open (is_open i.function) f
-  where
-    by_open : (b : Bool) → n ≡ (if b then suc (blocks_in (take k items)) else blocks_in (take k items)) → (if b then 1 else 0) ≤ n
-    by_open true g = omega (arith, g)
-    by_open false g = omega arith

@@ -1,14 +1,11 @@
 -- Tables of all bytes.
-use Rattle.std.proofs.Common.{◌≡◌, ◌≢◌, ℕ, zero, suc, ◌+◌, ◌<◌, List, [], ◌∷◌, ◌++◌, map, set, length, get_or, drop, replicate, min, Bool, true, false, ◌==◌, refl, sym, ap, subst, ◌∙◌, ◌⊎◌, inl, inr, arith, drop-cons, drop_of_length-le, length-set, get_or-set_same, get_or-set_other}
+use Rattle.std.proofs.Common.{◌≡◌, ◌≢◌, ℕ, zero, suc, ◌+◌, ◌<◌, List, [], ◌∷◌, ◌++◌, map, set, length, get_or, drop, replicate, min, Bool, true, false, refl, sym, ap, subst, ◌∙◌, ◌⊎◌, inl, inr, arith, drop-cons, drop_of_length-le, length-set, get_or-set_same, get_or-set_other}
 use Rattle.std.specs.List.{range_with_len}
-use Rattle.std.proofs.lemmas.Bool.Decides.{eqb_tells, leb_tells}
+use Rattle.std.proofs.lemmas.Bool.Decides.{eqb_tells, leb_tells, Decides-eqb}
 use Rattle.std.proofs.lemmas.List.{get_or-replicate}
 use Rattle.std.proofs.lemmas.List.FromFn.{fill_by_all, length-map-range_with_len, get_or-map-range_with_len, length-range_with_len, get_or-range_with_len}
 use Rattle.sedscript.specs.Strings.{table_of, counterpart, is_among}
 use Rattle.sedscript.specs.Answers.{marks_of}
-
-equal_self : (a : ℕ) → (a == a) ≡ true
-equal_self a = elim (eqb_tells a a) [ inl h ↦ h.0 | inr h ↦ absurd (h.1 refl) ]
 
 -- a list of all bytes' values with one written is that of a function that differs there
 set_filled : {X : Type 0} (f g : ℕ → X) (n s : ℕ) (x : X) → s < n → g s ≡ x → ((k : ℕ) → k ≢ s → f k ≡ g k) → set (map f (range_with_len 0 n)) s x ≡ map g (range_with_len 0 n)
@@ -24,14 +21,14 @@ set_filled f g n s x lt here else_ =
 pub table_more : (s t : ℕ) (string1 string2 : List ℕ) → s < 256 → set (table_of string1 string2) s t ≡ table_of (s ∷ string1) (t ∷ string2)
 unfolding table_of
 table_more s t string1 string2 lt =
-    set_filled (counterpart string1 string2) (counterpart (s ∷ string1) (t ∷ string2)) 256 s t lt (rw (equal_self s) refl)
+    set_filled (counterpart string1 string2) (counterpart (s ∷ string1) (t ∷ string2)) 256 s t lt (rw ((Decides-eqb s s).1 refl) refl)
     (λ (k : ℕ) (other : k ≢ s). elim (eqb_tells s k) [ inl h ↦ absurd (other (sym h.1)) | inr h ↦ rw h.0 refl ])
 
 -- a byte more
 pub marks_more : (b : ℕ) (bs : List ℕ) → b < 256 → set (marks_of bs) b true ≡ marks_of (b ∷ bs)
 unfolding marks_of
 marks_more b bs lt =
-    set_filled (is_among bs) (is_among (b ∷ bs)) 256 b true lt (rw (equal_self b) refl)
+    set_filled (is_among bs) (is_among (b ∷ bs)) 256 b true lt (rw ((Decides-eqb b b).1 refl) refl)
     (λ (k : ℕ) (other : k ≢ b). elim (eqb_tells b k) [ inl h ↦ absurd (other (sym h.1)) | inr h ↦ rw h.0 refl ])
 
 pub marks_at : (b : ℕ) (bs : List ℕ) (d : Bool) → b < 256 → get_or (marks_of bs) b d ≡ is_among bs b

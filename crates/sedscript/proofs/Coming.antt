@@ -1,6 +1,6 @@
 -- How what functions answer is put together.
 use Rattle.std.proofs.Common.{◌≡◌, ◌≢◌, ◌≤◌, ℕ, ◌+◌, Bool, true, false, ◌==◌, List, [], ◌∷◌, ◌++◌, length, Option, Some, None, Result, Ok, Err, IfOk, refl, sym, ap, subst, ◌∙◌, inl, inr, ◌⊎◌, append_assoc, arith, slice_get, if◌then◌else◌}
-use Rattle.std.proofs.lemmas.Bool.Decides.{eqb_tells}
+use Rattle.std.proofs.lemmas.Bool.Decides.{eqb_tells, Decides-eqb}
 use Rattle.std.specs.Result.{IsErrAnd}
 use Rattle.std.proofs.lemmas.List.{append-nil}
 use Rattle.sedre.specs.declared.types.Kind.{Kind}
@@ -13,14 +13,14 @@ use Rattle.sedre.specs.Brackets.{delimiter_at}
 use Rattle.sedre.specs.Grammar.{ExprFaulty}
 use Rattle.sedscript.specs.declared.bytes.Sort.TheVariants.{Blank, Separator, Digit}
 use Rattle.sedscript.specs.declared.types.ScriptFault.{ScriptFault}
-use Rattle.sedscript.specs.declared.types.Reason.TheVariants.{OpenDelimiter, BadDelimiter, UnknownCommand}
+use Rattle.sedscript.specs.declared.types.Reason.TheVariants.{OpenDelimiter, BadAddress, BadDelimiter, UnknownCommand}
 use Rattle.sedscript.specs.declared.types.TheConstants.{NO_MEMORY}
 use Rattle.sedscript.specs.declared.types.Address.{Address}
 use Rattle.sedscript.specs.declared.types.Address.TheVariants.{Last, Match}
 use Rattle.sedscript.specs.declared.items.ItemOrEnd.{ItemOrEnd}
 use Rattle.sedscript.specs.declared.items.ItemOrEnd.TheVariants.{Is, Ends}
 use Rattle.sedscript.specs.Bytes.{bytes_between, past, is_byte, is_digit}
-use Rattle.sedscript.specs.Items.{Pattern, Reading, plainly, expression, ◌>>=◌, Addressed, found, with_addresses, folds_at, past_flag, match_at, own_match, addresses_at, after_first, address_at, address_of, line_of, item_at, item_from, substitute_with, substitute_at, function_of, function_with, function_at}
+use Rattle.sedscript.specs.Items.{Pattern, Reading, plainly, expression, ◌>>=◌, Addressed, found, addresses_of, with_addresses, with_second, folds_at, past_flag, match_at, own_match, addresses_at, after_first, second_at, address_at, address_of, line_of, item_at, item_from, substitute_with, substitute_at, function_of, function_with, function_at}
 use Rattle.sedscript.specs.declared.items.Strings.{Strings}
 use Rattle.sedscript.specs.declared.items.Function.{Function}
 use Rattle.sedscript.specs.Between.{own_delimiter, substitute_strings, flags_after, substituted}
@@ -31,14 +31,11 @@ use Rattle.sedscript.specs.declared.letters.Arguments.{Arguments}
 use Rattle.sedscript.specs.declared.items.Addresses.{Addresses}
 use Rattle.sedscript.specs.Script.{IsRead, Gives, value, after_expression}
 use Rattle.sedscript.specs.FirstFault.{Fails, own, no_expression, later, in_script}
-use Rattle.sedscript.specs.Answers.{as_here, as_function, as_groups, as_addressed, Comes, Agrees, IsAfter, IsHere, is_no_memory, fault_of}
+use Rattle.sedscript.specs.Answers.{as_here, as_function, as_groups, as_addressed, as_headed, Comes, Agrees, IsAfter, IsHere, is_no_memory, fault_of}
 use Rattle.sedscript.specs.Cases.{match_to, function_after, item_with, item_of, with_digits, empty_match, folds}
 
 not_equal : (a b : ℕ) → a ≢ b → (a == b) ≡ false
 not_equal a b n = elim (eqb_tells a b) [ inl h ↦ absurd (n h.1) | inr h ↦ h.0 ]
-
-equal : (a b : ℕ) → a ≡ b → (a == b) ≡ true
-equal a b e = elim (eqb_tells a b) [ inl h ↦ h.0 | inr h ↦ absurd (h.1 e) ]
 
 pub if_true : {A : Type 0} (x y : A) (b : Bool) → b ≡ true → (if b then x else y) ≡ x
 if_true x y true e = refl
@@ -154,7 +151,7 @@ match_comes text kind m d place to number groups next folded old new e n f same 
 match_empty : (text : List ℕ) (count d place to : ℕ) → delimiter_at text (place + 1) d ≡ Some to → to ≡ place + 1 →
     match_at text count d place ≡ plainly (empty_match text count (to + 1))
 unfolding match_at
-match_empty text count d place to e same = ap (match_to text count d place) e ∙ if_true _ _ (to == place + 1) (equal to (place + 1) same)
+match_empty text count d place to e same = ap (match_to text count d place) e ∙ if_true _ _ (to == place + 1) ((Decides-eqb to (place + 1)).1 same)
 
 pub empty_comes : (text : List ℕ) (kind : Kind) (m d place to : ℕ) (old : List WrittenExpression) (result : Result (Option Address × ℕ) ScriptFault) → delimiter_at text (place + 1) d ≡ Some to → to ≡ place + 1 →
     Agrees as_addressed (length old) result (empty_match text (length old) (to + 1)) → Comes text kind m old old as_addressed result (match_at text (length old) d place)
@@ -197,6 +194,27 @@ pub only_first : (text : List ℕ) (count at : ℕ) (first : Address) (o : Optio
     after_first text count at o ≡ plainly (with_addresses (Some first) None at count)
 only_first text count at first o e d = ap (after_first text count at) e ∙ if_false _ _ (is_byte 44 (slice_get text (past Blank text at))) d
 
+-- a second address, which isn't there or is
+pub no_second : (text : List ℕ) (kind : Kind) (m : ℕ) (first : Address) (at next : ℕ) (o : Option Address) (old mid : List WrittenExpression) →
+    (es : List WrittenExpression) × Gives text kind m (address_at text (length old) at) es (as_addressed (o, next) (length mid)) × (mid ≡ old ++ es) → o ≡ None →
+    Comes text kind m old mid as_headed (Err (record { place = at; reason = BadAddress })) (second_at text (length old) first at)
+unfolding second_at
+no_second text kind m first at next o old mid read none =
+    comes_then text kind m old mid mid (address_at text (length old) at) (λ (x : Addressed). plainly (with_second first at x x.address)) (as_addressed (o, next) (length mid)) as_headed (Err (record { place = at; reason = BadAddress })) read
+    (comes_plain text kind m mid mid as_headed (Err (record { place = at; reason = BadAddress })) _ refl (ap (with_second first at (as_addressed (o, next) (length mid))) none))
+
+second_agrees : (first : Address) (place : ℕ) (x : Addressed) (second : Address) (o : Option Address) (both : Addresses) → o ≡ Some second → both ≡ addresses_of (Some first) o →
+    with_second first place x o ≡ Ok (record { addresses = both; at = x.at; count = x.count })
+second_agrees first place x second o both is made = rw made (rw is refl)
+
+pub second_comes : (text : List ℕ) (kind : Kind) (m : ℕ) (first : Address) (at next : ℕ) (second : Address) (o : Option Address) (old mid : List WrittenExpression) (both : Addresses) →
+    (es : List WrittenExpression) × Gives text kind m (address_at text (length old) at) es (as_addressed (o, next) (length mid)) × (mid ≡ old ++ es) → o ≡ Some second → both ≡ addresses_of (Some first) o →
+    Comes text kind m old mid as_headed (Ok (both, next)) (second_at text (length old) first at)
+unfolding second_at
+second_comes text kind m first at next second o old mid both read is made =
+    comes_then text kind m old mid mid (address_at text (length old) at) (λ (x : Addressed). plainly (with_second first at x x.address)) (as_addressed (o, next) (length mid)) as_headed (Ok (both, next)) read
+    (comes_plain text kind m mid mid as_headed (Ok (both, next)) _ refl (second_agrees first at (as_addressed (o, next) (length mid)) second o both is made))
+
 pub line_comes : (text : List ℕ) (kind : Kind) (m : ℕ) (old : List WrittenExpression) (at b : ℕ) (result : Result (Option Address × ℕ) ScriptFault) → slice_get text at ≡ Some b → is_digit b ≡ true →
     Agrees as_addressed (length old) result (line_of (length old) at (past Digit text at) (with_digits (Some 0) (bytes_between text at (past Digit text at)))) →
     Comes text kind m old old as_addressed result (address_at text (length old) at)
@@ -217,7 +235,7 @@ functions_agree n (Ok x) r e = sym e
 functions_agree n (Err x) r e = sym e
 
 pub substitute_empty : (text : List ℕ) (count : ℕ) (s : Strings) → s.middle ≡ s.from → substitute_with text count s ≡ plainly (substituted text s None None)
-substitute_empty text count s e = if_true _ _ (s.middle == s.from) (equal s.middle s.from e)
+substitute_empty text count s e = if_true _ _ (s.middle == s.from) ((Decides-eqb s.middle s.from).1 e)
 
 pub substitute_is : (text : List ℕ) (count : ℕ) (s : Strings) (folded : Bool) → s.middle ≢ s.from → folded ≡ folds (flags_after text s false) →
     substitute_with text count s ≡ (expression (record { from = s.from; to = s.middle; delimiter = s.delimiter; folded = folded }) (λ (groups : ℕ). plainly (Ok groups)) >>= λ (groups : ℕ). plainly (substituted text s (Some count) (Some groups)))

@@ -21,18 +21,15 @@ use Rattle.sedscript.specs.Tables.{labelled, first_label, LabelsAre, is_earlier}
 abbrev Labels : Type 0
 Labels = BTreeMap (Bor (List ℕ)) FirstLabel
 
+-- one more at both ends
+pub one_each : (b c : Bool) (x n : ℕ) → x ≡ (if c then suc n else n) → (if b then suc x else x) ≡ (if c then suc (if b then suc n else n) else (if b then suc n else n))
+one_each true true x n e = ap suc e
+one_each true false x n e = ap suc e
+one_each false c x n e = e
+
 pub commands_snoc : (is : List Item) (i : Item) → commands_in (is ++ i ∷ []) ≡ counted (commands_in is) i
-commands_snoc [] i = by_leaf (becomes_command i.function)
-  where
-    by_leaf : (b : Bool) → (if b then suc 0 else 0) ≡ (if b then suc 0 else 0)
-    by_leaf b = refl
-commands_snoc (j ∷ is) i = by_leaf (becomes_command j.function) (becomes_command i.function) (commands_in (is ++ i ∷ [])) (commands_in is) (commands_snoc is i)
-  where
-    by_leaf : (b c : Bool) (x n : ℕ) → x ≡ (if c then suc n else n) → (if b then suc x else x) ≡ (if c then suc (if b then suc n else n) else (if b then suc n else n))
-    by_leaf true true x n e = ap suc e
-    by_leaf true false x n e = ap suc e
-    by_leaf false true x n e = e
-    by_leaf false false x n e = e
+commands_snoc [] i = refl
+commands_snoc (j ∷ is) i = one_each (becomes_command j.function) (becomes_command i.function) (commands_in (is ++ i ∷ [])) (commands_in is) (commands_snoc is i)
 
 -- one item more
 pub take_item : (items : List Item) (k : ℕ) (i : Item) → slice_get items k ≡ Some i → take (k + 1) items ≡ take k items ++ i ∷ []
@@ -114,9 +111,6 @@ label_of_first text name k n (i ∷ is) = by_label (is_label text name i.functio
     by_label true x y e = refl
     by_label false x y e = e
 
-eq_same : (k : ℕ) → (k == k) ≡ true
-eq_same k = (Decides-eqb k k).1 refl
-
 eq_more : (j k : ℕ) → (j == j + suc k) ≡ false
 eq_more j k = elim (eqb_tells j (j + suc k)) [ inl h ↦ absurd (omega (arith, h.1)) | inr h ↦ h.0 ]
 
@@ -128,7 +122,7 @@ earlier_label text name zero j n m t (x ∷ is) i e l f =
     let same : x ≡ i = cc in
     let lx : is_label text name x.function ≡ true = ap (λ (y : Item). is_label text name y.function) same ∙ l in
     let tj : t ≡ j = f ∙ omega arith in
-    rw lx (rw tj (rw (eq_same j) refl))
+    rw lx (rw tj (rw ((Decides-eqb j j).1 refl) refl))
 earlier_label text name (suc k) j n m t (x ∷ is) i e l f =
     by_label (is_label text name x.function) (first_label text name (suc j) (counted m x) is) (label_in text name (counted n x) (take k is))
     (earlier_label text name k (suc j) (counted n x) (counted m x) t is i e l (f ∙ omega arith))

@@ -12,5 +12,5 @@ pub mod Labels
 pub mod FileTables
 pub mod Blocks
 pub mod TargetFaults
-pub mod Bounds
 pub mod Places
+pub mod Bounds

@@ -13,7 +13,7 @@ use Rattle.sedscript.specs.Items.{Reading, item_at}
 use Rattle.sedscript.specs.FirstFault.{Fails, own, no_expression, later, in_script, Faulty, early, afterwards}
 use Rattle.sedscript.specs.Script.{CutScript, done, item}
 use Rattle.sedscript.specs.Targets.{target_fault}
-use Rattle.sedscript.proofs.Exclusive.{ReadsAsOne, as_other, gives_one, no_fails, is_next, cut_no_fault, cut_same}
+use Rattle.sedscript.proofs.Exclusive.{ReadsAsOne, as_other, no_fails, same_rest, cut_no_fault, cut_same}
 
 -- an expression's text has one first fault at most
 abbrev pub OneExprFault : Type 0
@@ -51,13 +51,10 @@ cut_one_fault text kind m count at to stop _ _ _ _ f g n k one once (item {next 
     let same : k ≡ count = d ∙ omega arith in
     absurd (no_fails text kind m (item_at text count at) es (Is i next) g one is (subst (λ (x : ℕ). Fails text kind m (item_at text x at) g) same worse))
 cut_one_fault text kind m count at to stop _ _ _ _ f g n k one once (item {next = next} {i = i} {is = is0} es fs is rest) e bad (item {next = other} {i = j} {is = js0} gs hs is' rest') d worse =
-    let both = gives_one text kind m (item_at text count at) es gs (Is i next) (Is j other) one is is' in
-    let same = is_next i j next other both.0 in
-    let long : length gs ≡ length es = sym both.1 in
+    let same = same_rest text kind m count at next other stop i j js0 es gs hs one is is' rest' in
     cut_one_fault text kind m (count + length es) next to stop is0 js0 fs hs f g n k one once
     rest (e ∙ (ap (λ (x : ℕ). count + x) (length-append es fs) ∙ omega arith)) bad
-    (subst (λ (x : ℕ). CutScript text kind m (count + x) next js0 hs stop) long (subst (λ (x : ℕ). CutScript text kind m (count + length gs) x js0 hs stop) (sym same.1) rest'))
-    (d ∙ (ap (λ (x : ℕ). count + x) (length-append gs hs) ∙ omega (arith, long))) worse
+    same.2 (d ∙ (ap (λ (x : ℕ). count + x) (length-append gs hs) ∙ omega (arith, same.1))) worse
 
 -- the first fault of a text is one
 pub one_fault : ReadsAsOne → OneExprFault → (text : List ℕ) (kind : Kind) (m : ℕ) (f g : ScriptFault) → Faulty text kind m f → Faulty text kind m g → f ≡ g
@@ -68,5 +65,5 @@ one_fault one once text kind m f g (early is es to cut bad) (afterwards js fs st
 one_fault one once text kind m f g (afterwards is es to cut ends found) (early js fs stop cut' worse) =
     absurd (cut_no_fault text kind m 0 0 to stop is js es fs g (length fs) one cut ends cut' (omega arith) worse)
 one_fault one once text kind m f g (afterwards is es to cut ends found) (afterwards js fs stop cut' ends' other) =
-    let items : is ≡ js = cut_same text kind m 0 0 to stop is js es fs one cut ends cut' ends' in
+    let items : is ≡ js = cut_same text kind m to stop is js es fs one cut ends cut' ends' in
     let both : ◌≡◌ {A = Option ScriptFault} (Some f) (Some g) = sym found ∙ (ap (target_fault text) items ∙ other) in cc

@@ -1,5 +1,5 @@
 -- The pieces of parts.
-use Rattle.std.proofs.Common.{◌≡◌, ℕ, ◌-◌, ◌≤◌, List, [], ◌∷◌, ◌++◌, map, length, Option, Some, None, Bool, true, false, ◌==◌, if◌then◌else◌, refl, sym, ap, subst, ◌∙◌, append_assoc, arith, drop, drop_of_length-le, Vec, Global}
+use Rattle.std.proofs.Common.{◌≡◌, ℕ, ◌-◌, ◌≤◌, List, [], ◌∷◌, ◌++◌, map, length, Option, Some, Bool, true, false, ◌==◌, if◌then◌else◌, refl, sym, ap, subst, ◌∙◌, append_assoc, arith, drop, drop_of_length-le, Vec, Global}
 use Rattle.std.specs.List.{cons_option}
 use Rattle.std.proofs.lemmas.List.{append-nil}
 use Rattle.std.proofs.lemmas.Bool.Decides.{nat_tests}
@@ -28,10 +28,8 @@ part_added old mid new part run bytes p e grown is none =
 
 -- a digit's group is from 1 to 9, since 0 is the whole match
 abbrev OfPiece : ℕ → Option Piece → Type 0
-OfPiece n None = Unit {0}
-OfPiece n (Some (literal b)) = Unit {0}
-OfPiece n (Some whole) = Unit {0}
 OfPiece n (Some (group k)) = (1 ≤ k) × (k ≤ n)
+OfPiece n other = Unit {0}
 
 if_within : (n : ℕ) (t : Bool) (x y : Option Piece) → (t ≡ true → OfPiece n x) → (t ≡ false → OfPiece n y) → OfPiece n (if t then x else y)
 if_within n true x y h g = h refl
@@ -54,10 +52,8 @@ piece_within d true b = escaped_within d b
 piece_within d false b = if_within 9 (b == 92) _ _ (λ _. tt) (λ _. if_within 9 (b == 38) _ _ (λ _. tt) (λ _. tt))
 
 with_within : (n : ℕ) (o : Option Piece) (ps : List Piece) → OfPiece n o → GroupsWithin n ps → GroupsWithin n (cons_option o ps)
-with_within n None ps h g = g
-with_within n (Some (literal b)) ps h g = g
-with_within n (Some whole) ps h g = g
 with_within n (Some (group k)) ps h g = (h.0, h.1, g)
+with_within n other ps h g = g
 
 from_within : (d : ℕ) (escaped : Bool) (bs : List ℕ) → GroupsWithin 9 (pieces_from d escaped bs)
 from_within d escaped [] = tt

@@ -1,6 +1,7 @@
--- A fault is told in the text or at its end.
-use Rattle.std.proofs.Common.{◌≡◌, ℕ, zero, suc, ◌+◌, ◌-◌, ◌<◌, ◌≤◌, ◌&&◌, ◌==◌, Bool, true, false, not, List, [], ◌∷◌, ◌++◌, length, Option, Some, None, is_some, is_none, option_map, option_and_then, Result, Ok, Err, refl, subst, arith, if◌then◌else◌, slice_get, drop, nat_lt, length-take, length-drop, ◌⊎◌, inl, inr, IfErr, unwrap_or}
+-- Faults are told in the text or at its end, and what is read names expressions that were read.
+use Rattle.std.proofs.Common.{◌≡◌, ℕ, zero, suc, ◌+◌, ◌-◌, ◌<◌, ◌≤◌, ◌&&◌, ◌==◌, Bool, true, false, not, List, [], ◌∷◌, ◌++◌, length, Option, Some, None, is_some, is_none, option_map, option_and_then, Result, Ok, Err, refl, sym, subst, ◌∙◌, arith, if◌then◌else◌, slice_get, drop, nat_lt, length-take, length-drop, length-append, ◌⊎◌, inl, inr, IfErr, unwrap_or}
 use Rattle.std.specs.Option.{option_len, option_or}
+use Rattle.std.specs.Result.{IsErrAnd}
 use Rattle.sedre.specs.declared.types.Kind.{Kind}
 use Rattle.sedre.specs.declared.types.Reason.{Reason as ExprReason}
 use Rattle.sedre.specs.Tree.{WrittenExpression}
@@ -14,6 +15,7 @@ use Rattle.sedscript.specs.declared.types.TheConstants.{NO_MEMORY}
 use Rattle.sedscript.specs.declared.types.Reason.{Reason}
 use Rattle.sedscript.specs.declared.types.Reason.TheVariants.{LengthsDiffer}
 use Rattle.sedscript.specs.declared.types.Address.{Address}
+use Rattle.sedscript.specs.declared.types.Address.TheVariants.{Line as line, Match}
 use Rattle.sedscript.specs.declared.types.TextUse.{TextUse}
 use Rattle.sedscript.specs.declared.types.FileUse.{FileUse}
 use Rattle.sedscript.specs.declared.items.Flags.{Flags}
@@ -34,14 +36,15 @@ use Rattle.sedscript.specs.declared.transliteration.Char.{Char}
 use Rattle.std.specs.List.{cons_option, prefix_len, take_while}
 use Rattle.std.proofs.lemmas.List.Sums.{prefix_len-le-length}
 use Rattle.sedscript.specs.Bytes.{past, belongs, bytes_between, is_digit, is_byte}
-use Rattle.sedscript.specs.Strings.{escapes, string_end, Piece, literal, whole, group, escaped_piece, exceeds, piece_fault, replacement_fault, escaped_byte, char_of, chars_from, chars_of, string_fault, is_among, repeated_in, strings_fault}
+use Rattle.sedscript.specs.Strings.{escapes, string_end, Piece, group, escaped_piece, exceeds, piece_fault, replacement_fault, escaped_byte, char_of, chars_from, chars_of, string_fault, is_among, repeated_in, strings_fault}
 use Rattle.sedscript.specs.Functions.{or_fault, verb_of, most_addresses, allowed, ended, may_end, text_end, text_of, text_from, label_of, file_of, name_from, ◌>>=◌ as ◌then◌}
 use Rattle.sedscript.specs.Between.{no_flags, numbered, with_number, with_flag, flags_from, own_delimiter, strings_after, substitute_strings, transliterate_strings, unless_fault, transliterate_at, flags_after, substituted}
 use Rattle.sedscript.specs.Items.{Reading, plainly, expression, ◌>>=◌, Addressed, Headed, with_addresses, line_of, folds_at, past_flag, match_at, own_match, address_of, address_at, with_second, second_at, after_first, addresses_at, with_bang, substitute_with, substitute_at, function_of, function_with, function_at, item_from, item_at}
 use Rattle.sedscript.specs.Script.{Gives, value, after_expression, CutScript, done, item}
 use Rattle.sedscript.specs.FirstFault.{Fails, own, no_expression, later, Faulty, early, afterwards}
 use Rattle.sedscript.specs.Targets.{fault_if, target_fault_at, target_fault_in, depth_after, block_end, label_in}
-use Rattle.sedscript.specs.Cases.{repeated_fault, item_of, match_to, function_after, item_with, with_digits, with_file, ends_flags, flagged}
+use Rattle.sedscript.specs.Ranges.{IsOneOf, AddressWithin}
+use Rattle.sedscript.specs.Cases.{repeated_fault, item_of, match_to, function_after, item_with, with_digits, with_file, ends_flags}
 
 -- places
 
@@ -107,15 +110,10 @@ string_in breaks d escaped at end (b ∷ bs) le =
 
 text_in : (how : Inside) (at end : ℕ) (bs : List ℕ) → at + length bs < end → FoundIn at end (text_end how at bs)
 text_in InLine at end [] le = (omega arith, omega (arith, le))
-text_in Escape at end [] le = tt
-text_in Due at end [] le = tt
+text_in how at end [] le = tt
 text_in Escape at end (b ∷ bs) le =
     found_later at (suc at) end (text_end (if b == 10 then Due else InLine) (suc at) bs) (omega arith) (text_in (if b == 10 then Due else InLine) (suc at) end bs (omega (arith, le)))
-text_in InLine at end (b ∷ bs) le =
-    let here : FoundIn at end (Some at) = (omega arith, omega (arith, le)) in
-    found_if at end (b == 10) (Some at) (text_end (if b == 92 then Escape else InLine) (suc at) bs) here
-    (found_later at (suc at) end (text_end (if b == 92 then Escape else InLine) (suc at) bs) (omega arith) (text_in (if b == 92 then Escape else InLine) (suc at) end bs (omega (arith, le))))
-text_in Due at end (b ∷ bs) le =
+text_in how at end (b ∷ bs) le =
     let here : FoundIn at end (Some at) = (omega arith, omega (arith, le)) in
     found_if at end (b == 10) (Some at) (text_end (if b == 92 then Escape else InLine) (suc at) bs) here
     (found_later at (suc at) end (text_end (if b == 92 then Escape else InLine) (suc at) bs) (omega arith) (text_in (if b == 92 then Escape else InLine) (suc at) end bs (omega (arith, le))))
@@ -141,9 +139,8 @@ fault_choice n false x y h g = g
 
 piece_up_to : (n : ℕ) (limit : Option ℕ) (place : ℕ) (o : Option Piece) → place ≤ n → FaultUpTo n (piece_fault limit place o)
 piece_up_to n limit place None le = le
-piece_up_to n limit place (Some (literal b)) le = tt
-piece_up_to n limit place (Some whole) le = tt
 piece_up_to n limit place (Some (group k)) le = fault_if_up_to n (exceeds limit k) _ place le
+piece_up_to n limit place other le = tt
 
 replacement_up_to : (n d : ℕ) (limit : Option ℕ) (escaped : Bool) (at : ℕ) (bs : List ℕ) → at + length bs ≤ n → FaultUpTo n (replacement_fault d limit escaped at bs)
 replacement_up_to n d limit escaped at [] le = tt
@@ -271,16 +268,22 @@ transliterate_strings_read text place le = by_delimiter (own_delimiter (slice_ge
 
 -- functions
 
--- what was read ends up to a place
-abbrev EndsUpTo : {A : Type 0} → ℕ → A × ℕ → Type 0
-EndsUpTo n found = found.1 ≤ n
+-- the expression of an `s` is one of so many, and its number counts from 1
+abbrev pub FunctionWithin : ℕ → Function → Type 0
+FunctionWithin n (Substitute s e f) = IsOneOf n e × (1 ≤ unwrap_or f.number 1)
+FunctionWithin n f = Unit {0}
 
-ended_read : (text : List ℕ) (f : Function) (at : ℕ) → at ≤ length text → ReadUpTo (EndsUpTo (length text)) (length text) (ended text f at)
-ended_read text f at le = read_if (EndsUpTo (length text)) (length text) (may_end (slice_get text (past Blank text at))) _ _ (past_up_to Blank text at le) (past_up_to Blank text at le)
+-- a function is within so many expressions, and ends up to a place
+abbrev EndsUpTo : ℕ → ℕ → Function × ℕ → Type 0
+EndsUpTo n count found = FunctionWithin count found.0 × (found.1 ≤ n)
 
-label_read : (text : List ℕ) (place from : ℕ) → place ≤ length text → from ≤ length text → ReadUpTo (EndsUpTo (length text)) (length text) (label_of text place from)
-label_read text place from low le =
-    read_if (EndsUpTo (length text)) (length text) (past Name text from == from) _ _ low (ended_read text (Label from (past Name text from)) (past Name text from) (past_up_to Name text from le))
+ended_read : (text : List ℕ) (count : ℕ) (f : Function) (at : ℕ) → FunctionWithin count f → at ≤ length text → ReadUpTo (EndsUpTo (length text) count) (length text) (ended text f at)
+ended_read text count f at h le =
+    read_if (EndsUpTo (length text) count) (length text) (may_end (slice_get text (past Blank text at))) _ _ (h, past_up_to Blank text at le) (past_up_to Blank text at le)
+
+label_read : (text : List ℕ) (count place from : ℕ) → place ≤ length text → from ≤ length text → ReadUpTo (EndsUpTo (length text) count) (length text) (label_of text place from)
+label_read text count place from low le =
+    read_if (EndsUpTo (length text) count) (length text) (past Name text from == from) _ _ low (ended_read text count (Label from (past Name text from)) (past Name text from) tt (past_up_to Name text from le))
 
 -- the span of a text or a name ends up to a place
 abbrev SpanUpTo : ℕ → Option (ℕ × ℕ) → Type 0
@@ -307,9 +310,9 @@ text_from_up_to text from le = by_form (is_byte 92 (slice_get text from) && is_b
     by_form false true e = tt
     by_form false false e = mapped_up_to from (length text) from (text_end InLine from (drop from text)) (text_in InLine from (suc (length text)) (drop from text) (omega (arith, le, length-drop from text)))
 
-text_read : (n place : ℕ) (u : TextUse) (o : Option (ℕ × ℕ)) → place ≤ n → SpanUpTo n o → ReadUpTo (EndsUpTo n) n (text_of u place o)
-text_read n place u None le h = le
-text_read n place u (Some span) le h = h
+text_read : (n count place : ℕ) (u : TextUse) (o : Option (ℕ × ℕ)) → place ≤ n → SpanUpTo n o → ReadUpTo (EndsUpTo n count) n (text_of u place o)
+text_read n count place u None le h = le
+text_read n count place u (Some span) le h = (tt, h)
 
 name_up_to : (text : List ℕ) (at : ℕ) → at ≤ length text → SpanUpTo (length text) (name_from text at)
 unfolding name_from
@@ -319,128 +322,150 @@ name_up_to text at le = by_test (past Line text (past Blank text at) == past Bla
     by_test true = tt
     by_test false = past_up_to Line text (past Blank text at) (past_up_to Blank text at le)
 
-file_read : (n place : ℕ) (u : FileUse) (o : Option (ℕ × ℕ)) → place ≤ n → SpanUpTo n o → ReadUpTo (EndsUpTo n) n (file_of u place o)
-file_read n place u None le h = le
-file_read n place u (Some name) le h = h
+file_read : (n count place : ℕ) (u : FileUse) (o : Option (ℕ × ℕ)) → place ≤ n → SpanUpTo n o → ReadUpTo (EndsUpTo n count) n (file_of u place o)
+file_read n count place u None le h = le
+file_read n count place u (Some name) le h = (tt, h)
 
 allowed_read : (n : ℕ) (a : Addresses) (at : ℕ) (o : Option Verb) → at ≤ n → ReadUpTo Any n (allowed a at o)
 allowed_read n a at None le = le
 allowed_read n a at (Some verb) le =
     read_if Any n (a.negate && most_addresses verb == 0) _ _ le (read_if Any n (nat_lt (most_addresses verb) (option_len a.first + option_len a.second)) _ _ le tt)
 
-transliterate_read : (text : List ℕ) (at : ℕ) → at < length text → ReadUpTo (EndsUpTo (length text)) (length text) (transliterate_at text at)
+transliterate_read : (text : List ℕ) (count at : ℕ) → at < length text → ReadUpTo (EndsUpTo (length text) count) (length text) (transliterate_at text at)
 unfolding transliterate_at
-transliterate_read text at there =
-    read_then (StringsIn (length text)) (EndsUpTo (length text)) (length text) (transliterate_strings text (at + 1) (own_delimiter (slice_get text (at + 1))))
+transliterate_read text count at there =
+    read_then (StringsIn (length text)) (EndsUpTo (length text) count) (length text) (transliterate_strings text (at + 1) (own_delimiter (slice_get text (at + 1))))
     (λ (s : Strings). unless_fault (strings_fault text s.delimiter at s.from s.middle s.to) (ended text (Transliterate s) (s.to + 1)))
     (transliterate_strings_read text (at + 1) (omega (arith, there)))
-    (λ s h. unless_up_to (EndsUpTo (length text)) (length text) (strings_fault text s.delimiter at s.from s.middle s.to) (ended text (Transliterate s) (s.to + 1))
+    (λ s h. unless_up_to (EndsUpTo (length text) count) (length text) (strings_fault text s.delimiter at s.from s.middle s.to) (ended text (Transliterate s) (s.to + 1))
     (strings_up_to text s.delimiter at s.from s.middle s.to (length text) (omega (arith, there)) h.0 h.1 (omega (arith, h.2)))
-    (ended_read text (Transliterate s) (s.to + 1) (omega (arith, h.2))))
+    (ended_read text count (Transliterate s) (s.to + 1) tt (omega (arith, h.2))))
 
-function_read : (text : List ℕ) (at : ℕ) (arguments : Arguments) → at < length text → ReadUpTo (EndsUpTo (length text)) (length text) (function_of text arguments at)
-function_read text at OpensBlock there = omega (arith, there)
-function_read text at ClosesBlock there = ended_read text Close (at + 1) (omega (arith, there))
-function_read text at Remark there = past_up_to Line text (at + 1) (omega (arith, there))
-function_read text at NamesLabel there = label_read text at (past Blank text (at + 1)) (omega (arith, there)) (past_up_to Blank text (at + 1) (omega (arith, there)))
-function_read text at (GoesTo u) there =
-    ended_read text (Branch u (past Blank text (at + 1)) (past Name text (past Blank text (at + 1)))) (past Name text (past Blank text (at + 1)))
+function_read : (text : List ℕ) (count at : ℕ) (arguments : Arguments) → at < length text → ReadUpTo (EndsUpTo (length text) count) (length text) (function_of text arguments at)
+function_read text count at OpensBlock there = (tt, omega (arith, there))
+function_read text count at ClosesBlock there = ended_read text count Close (at + 1) tt (omega (arith, there))
+function_read text count at Remark there = (tt, past_up_to Line text (at + 1) (omega (arith, there)))
+function_read text count at NamesLabel there = label_read text count at (past Blank text (at + 1)) (omega (arith, there)) (past_up_to Blank text (at + 1) (omega (arith, there)))
+function_read text count at (GoesTo u) there =
+    ended_read text count (Branch u (past Blank text (at + 1)) (past Name text (past Blank text (at + 1)))) (past Name text (past Blank text (at + 1))) tt
     (past_up_to Name text (past Blank text (at + 1)) (past_up_to Blank text (at + 1) (omega (arith, there))))
-function_read text at (TakesText t) there =
-    text_read (length text) at t (text_from text (past Blank text (at + 1))) (omega (arith, there)) (text_from_up_to text (past Blank text (at + 1)) (past_up_to Blank text (at + 1) (omega (arith, there))))
-function_read text at (NamesFile u) there = file_read (length text) at u (name_from text (at + 1)) (omega (arith, there)) (name_up_to text (at + 1) (omega (arith, there)))
-function_read text at TakesStrings there = transliterate_read text at there
-function_read text at (Alone s) there = ended_read text (Plain s) (at + 1) (omega (arith, there))
+function_read text count at (TakesText t) there =
+    text_read (length text) count at t (text_from text (past Blank text (at + 1))) (omega (arith, there)) (text_from_up_to text (past Blank text (at + 1)) (past_up_to Blank text (at + 1) (omega (arith, there))))
+function_read text count at (NamesFile u) there = file_read (length text) count at u (name_from text (at + 1)) (omega (arith, there)) (name_up_to text (at + 1) (omega (arith, there)))
+function_read text count at TakesStrings there = transliterate_read text count at there
+function_read text count at (Alone s) there = ended_read text count (Plain s) (at + 1) tt (omega (arith, there))
 
 -- flags of `s`
 
-numbered_read : (n : ℕ) (f : Flags) (at : ℕ) (o : Option ℕ) → at ≤ n → ReadUpTo Any n (numbered f at o)
-numbered_read n f at None le = le
-numbered_read n f at (Some zero) le = le
-numbered_read n f at (Some (suc k)) le = tt
+-- a number of flags counts from 1
+abbrev FlagsWithin : Flags → Type 0
+FlagsWithin f = 1 ≤ unwrap_or f.number 1
 
-number_read : (n : ℕ) (f : Flags) (at : ℕ) (digits : List ℕ) → at ≤ n → ReadUpTo Any n (with_number f at digits)
-number_read n f at digits le = read_if Any n (is_some f.number) _ _ le (numbered_read n f at (with_digits (Some 0) digits) le)
+abbrev FlagsUpTo : ℕ → Flags × ℕ → Type 0
+FlagsUpTo n found = FlagsWithin found.0 × (found.1 ≤ n)
 
-flag_read : (n : ℕ) (empty : Bool) (f : Flags) (at b : ℕ) → at ≤ n → ReadUpTo Any n (with_flag empty f at b)
-flag_read n empty f at b le =
-    read_if Any n (b == 103) _ _ (read_if Any n f.global _ _ le tt)
-    (read_if Any n (b == 112) _ _ (read_if Any n f.print _ _ le tt)
-    (read_if Any n (b == 73) _ _ (read_if Any n empty _ _ le (read_if Any n f.folded _ _ le tt)) le))
+numbered_read : (n : ℕ) (f : Flags) (at : ℕ) (o : Option ℕ) → at ≤ n → ReadUpTo FlagsWithin n (numbered f at o)
+numbered_read n f at (Some (suc k)) le = omega arith
+numbered_read n f at other le = le
 
-file_flag_read : (n : ℕ) (f : Flags) (at : ℕ) (o : Option (ℕ × ℕ)) → at ≤ n → SpanUpTo n o → ReadUpTo (EndsUpTo n) n (with_file f at o)
-file_flag_read n f at None le h = le
-file_flag_read n f at (Some name) le h = h
+number_read : (n : ℕ) (f : Flags) (at : ℕ) (digits : List ℕ) → at ≤ n → ReadUpTo FlagsWithin n (with_number f at digits)
+number_read n f at digits le = read_if FlagsWithin n (is_some f.number) _ _ le (numbered_read n f at (with_digits (Some 0) digits) le)
 
-flags_read : (text : List ℕ) (empty : Bool) (f : Flags) (skip at : ℕ) (bs : List ℕ) → at + length bs ≤ length text → ReadUpTo (EndsUpTo (length text)) (length text) (flags_from text empty f skip at bs)
-flags_read text empty f skip at [] le = omega (arith, le)
-flags_read text empty f (suc skip) at (b ∷ bs) le = flags_read text empty f skip (suc at) bs (omega (arith, le))
-flags_read text empty f zero at (b ∷ bs) le =
-    read_if (EndsUpTo (length text)) (length text) (is_digit b) _ _
-    (read_then Any (EndsUpTo (length text)) (length text) (with_number f at (b ∷ take_while is_digit bs)) (λ (g : Flags). flags_from text empty g (prefix_len is_digit bs) (suc at) bs)
+flag_read : (n : ℕ) (empty : Bool) (f : Flags) (at b : ℕ) → FlagsWithin f → at ≤ n → ReadUpTo FlagsWithin n (with_flag empty f at b)
+flag_read n empty f at b h le =
+    read_if FlagsWithin n (b == 103) _ _ (read_if FlagsWithin n f.global _ _ le h)
+    (read_if FlagsWithin n (b == 112) _ _ (read_if FlagsWithin n f.print _ _ le h)
+    (read_if FlagsWithin n (b == 73) _ _ (read_if FlagsWithin n empty _ _ le (read_if FlagsWithin n f.folded _ _ le h)) le))
+
+file_flag_read : (n : ℕ) (f : Flags) (at : ℕ) (o : Option (ℕ × ℕ)) → FlagsWithin f → at ≤ n → SpanUpTo n o → ReadUpTo (FlagsUpTo n) n (with_file f at o)
+file_flag_read n f at None h le up = le
+file_flag_read n f at (Some name) h le up = (h, up)
+
+flags_read : (text : List ℕ) (empty : Bool) (f : Flags) (skip at : ℕ) (bs : List ℕ) → FlagsWithin f → at + length bs ≤ length text → ReadUpTo (FlagsUpTo (length text)) (length text) (flags_from text empty f skip at bs)
+flags_read text empty f skip at [] h le = (h, omega (arith, le))
+flags_read text empty f (suc skip) at (b ∷ bs) h le = flags_read text empty f skip (suc at) bs h (omega (arith, le))
+flags_read text empty f zero at (b ∷ bs) h le =
+    read_if (FlagsUpTo (length text)) (length text) (is_digit b) _ _
+    (read_then FlagsWithin (FlagsUpTo (length text)) (length text) (with_number f at (b ∷ take_while is_digit bs)) (λ (g : Flags). flags_from text empty g (prefix_len is_digit bs) (suc at) bs)
     (number_read (length text) f at (b ∷ take_while is_digit bs) (omega (arith, le)))
-    (λ g h. flags_read text empty g (prefix_len is_digit bs) (suc at) bs (omega (arith, le))))
-    (read_if (EndsUpTo (length text)) (length text) (ends_flags b) _ _ (omega (arith, le))
-    (read_if (EndsUpTo (length text)) (length text) (b == 119) _ _
-    (file_flag_read (length text) f at (name_from text (at + 1)) (omega (arith, le)) (name_up_to text (at + 1) (omega (arith, le))))
-    (read_then Any (EndsUpTo (length text)) (length text) (with_flag empty f at b) (λ (g : Flags). flags_from text empty g zero (suc at) bs)
-    (flag_read (length text) empty f at b (omega (arith, le)))
-    (λ g h. flags_read text empty g zero (suc at) bs (omega (arith, le))))))
+    (λ g w. flags_read text empty g (prefix_len is_digit bs) (suc at) bs w (omega (arith, le))))
+    (read_if (FlagsUpTo (length text)) (length text) (ends_flags b) _ _ (h, omega (arith, le))
+    (read_if (FlagsUpTo (length text)) (length text) (b == 119) _ _
+    (file_flag_read (length text) f at (name_from text (at + 1)) h (omega (arith, le)) (name_up_to text (at + 1) (omega (arith, le))))
+    (read_then FlagsWithin (FlagsUpTo (length text)) (length text) (with_flag empty f at b) (λ (g : Flags). flags_from text empty g zero (suc at) bs)
+    (flag_read (length text) empty f at b h (omega (arith, le)))
+    (λ g w. flags_read text empty g zero (suc at) bs w (omega (arith, le))))))
 
-substituted_read : (text : List ℕ) (s : Strings) (e limit : Option ℕ) → StringsIn (length text) s → ReadUpTo (EndsUpTo (length text)) (length text) (substituted text s e limit)
+substituted_read : (text : List ℕ) (count : ℕ) (s : Strings) (e limit : Option ℕ) → IsOneOf count e → StringsIn (length text) s → ReadUpTo (EndsUpTo (length text) count) (length text) (substituted text s e limit)
 unfolding substituted
-substituted_read text s e limit h =
-    unless_up_to (EndsUpTo (length text)) (length text) (replacement_fault s.delimiter limit false (s.middle + 1) (bytes_between text (s.middle + 1) s.to)) (flagged text s e)
+substituted_read text count s e limit one h =
+    unless_up_to (EndsUpTo (length text) count) (length text) (replacement_fault s.delimiter limit false (s.middle + 1) (bytes_between text (s.middle + 1) s.to)) _
     (replacement_up_to (length text) s.delimiter limit false (s.middle + 1) (bytes_between text (s.middle + 1) s.to) (omega (arith, h.2, between_short text (s.middle + 1) s.to (omega (arith, h.1)))))
-    (read_then (EndsUpTo (length text)) (EndsUpTo (length text)) (length text) (flags_after text s (not (is_some e))) (λ (found : Flags × ℕ). ended text (Substitute s e found.0) found.1)
-    (flags_read text (not (is_some e)) no_flags 0 (s.to + 1) (drop (s.to + 1) text) (omega (arith, h.2, length-drop (s.to + 1) text)))
-    (λ found g. ended_read text (Substitute s e found.0) found.1 g))
+    (read_then (FlagsUpTo (length text)) (EndsUpTo (length text) count) (length text) (flags_after text s (not (is_some e))) (λ (found : Flags × ℕ). ended text (Substitute s e found.0) found.1)
+    (flags_read text (not (is_some e)) no_flags 0 (s.to + 1) (drop (s.to + 1) text) (omega arith) (omega (arith, h.2, length-drop (s.to + 1) text)))
+    (λ found g. ended_read text count (Substitute s e found.0) found.1 (one, g.0) g.1))
 
 -- readings
 
--- the same of a reading, whose expressions stand up to the place
-abbrev ReadingUpTo : {A : Type 0} → (A → Type 0) → ℕ → Reading A → Type 0
-ReadingUpTo P n (plainly r) = ReadUpTo P n r
-ReadingUpTo P n (expression p k) = (p.from ≤ p.to) × (p.to ≤ n) × ((groups : ℕ) → ReadingUpTo P n (k groups))
+-- the same of a reading, whose expressions stand up to the place: the value is as it should be for so many expressions
+abbrev ReadingUpTo : {A : Type 0} → (ℕ → A → Type 0) → ℕ → ℕ → Reading A → Type 0
+ReadingUpTo P n count (plainly r) = ReadUpTo (P count) n r
+ReadingUpTo P n count (expression p k) = (p.from ≤ p.to) × (p.to ≤ n) × ((groups : ℕ) → ReadingUpTo P n (suc count) (k groups))
 
-reading_if : {A : Type 0} (P : A → Type 0) (n : ℕ) (t : Bool) (r s : Reading A) → ReadingUpTo P n r → ReadingUpTo P n s → ReadingUpTo P n (if t then r else s)
-reading_if P n true r s h g = h
-reading_if P n false r s h g = g
+reading_if : {A : Type 0} (P : ℕ → A → Type 0) (n count : ℕ) (t : Bool) (r s : Reading A) → ReadingUpTo P n count r → ReadingUpTo P n count s → ReadingUpTo P n count (if t then r else s)
+reading_if P n count true r s h g = h
+reading_if P n count false r s h g = g
 
-reading_then : {A B : Type 0} (P : A → Type 0) (Q : B → Type 0) (n : ℕ) (r : Reading A) (f : A → Reading B) → ReadingUpTo P n r → ((x : A) → P x → ReadingUpTo Q n (f x)) →
-    ReadingUpTo Q n (r >>= f)
-reading_then P Q n (plainly (Ok x)) f h g = g x h
-reading_then P Q n (plainly (Err e)) f h g = h
-reading_then P Q n (expression p k) f h g = (h.0, h.1, λ groups. reading_then P Q n (k groups) f (h.2 groups) g)
+reading_plain : {A B : Type 0} (P : A → Type 0) (Q : ℕ → B → Type 0) (n count : ℕ) (r : Result A ScriptFault) (f : A → Reading B) → ReadUpTo P n r → ((x : A) → P x → ReadingUpTo Q n count (f x)) →
+    ReadingUpTo Q n count (plainly r >>= f)
+reading_plain P Q n count (Ok x) f h g = g x h
+reading_plain P Q n count (Err e) f h g = h
 
--- what is given is as it should be
-reading_gives : {A : Type 0} (P : A → Type 0) (n : ℕ) (text : List ℕ) (kind : Kind) (m : ℕ) (r : Reading A) (es : List WrittenExpression) (x : A) → Gives text kind m r es x → ReadingUpTo P n r → P x
-reading_gives P n text kind m _ _ x value h = h
-reading_gives P n text kind m _ _ x (after_expression {k = k} {es = es} e is g) h = reading_gives P n text kind m (k e.groups) es x g (h.2 e.groups)
+reading_then : {A B : Type 0} (P : ℕ → A → Type 0) (Q : ℕ → B → Type 0) (n count : ℕ) (r : Reading A) (f : A → Reading B) → ReadingUpTo P n count r →
+    ((k : ℕ) (x : A) → count ≤ k → P k x → ReadingUpTo Q n k (f x)) → ReadingUpTo Q n count (r >>= f)
+reading_then P Q n count (plainly (Ok x)) f h g = g count x (omega arith) h
+reading_then P Q n count (plainly (Err e)) f h g = h
+reading_then P Q n count (expression p k) f h g = (h.0, h.1, λ groups. reading_then P Q n (suc count) (k groups) f (h.2 groups) (λ j x le. g j x (omega (arith, le))))
+
+-- what is given is as it should be for the count after all its expressions
+reading_gives : {A : Type 0} (P : ℕ → A → Type 0) (n : ℕ) (text : List ℕ) (kind : Kind) (m count : ℕ) (r : Reading A) (es : List WrittenExpression) (x : A) → Gives text kind m r es x → ReadingUpTo P n count r → P (count + length es) x
+reading_gives P n text kind m count _ _ x value h = subst (λ (k : ℕ). P k x) (let e : count ≡ count + 0 = omega arith in e) h
+reading_gives P n text kind m count _ _ x (after_expression {k = k} {es = es} e is g) h =
+    subst (λ (j : ℕ). P j x) (let same : suc count + length es ≡ count + suc (length es) = omega arith in same) (reading_gives P n text kind m (suc count) (k e.groups) es x g (h.2 e.groups))
 
 -- the first fault of an expression's text is told in it or at its end
 abbrev pub ExprFaultWithin : Type 0
 ExprFaultWithin = (kind : Kind) (delimiter : Option ℕ) (text : List ℕ) (max_nodes place : ℕ) (reason : ExprReason) → ExprFaulty kind delimiter text max_nodes place reason → place ≤ length text
 
-reading_fails : {A : Type 0} (P : A → Type 0) (text : List ℕ) (kind : Kind) (m : ℕ) (r : Reading A) (f : ScriptFault) → ExprFaultWithin → Fails text kind m r f → ReadingUpTo P (length text) r → f.place ≤ length text
-reading_fails P text kind m _ _ told own h = h
-reading_fails P text kind m _ _ told (no_expression {p = p} {f = f} bad) h =
+reading_fails : {A : Type 0} (P : ℕ → A → Type 0) (text : List ℕ) (kind : Kind) (m count : ℕ) (r : Reading A) (f : ScriptFault) → ExprFaultWithin → Fails text kind m r f → ReadingUpTo P (length text) count r → f.place ≤ length text
+reading_fails P text kind m count _ _ told own h = h
+reading_fails P text kind m count _ _ told (no_expression {p = p} {f = f} bad) h =
     let low = told kind (Some p.delimiter) (bytes_between text p.from p.to) m f.place f.reason bad in
     omega (arith, low, h.0, h.1, between_short text p.from p.to h.0)
-reading_fails P text kind m _ f told (later {k = k} e is bad) h = reading_fails P text kind m (k e.groups) f told bad (h.2 e.groups)
+reading_fails P text kind m count _ f told (later {k = k} e is bad) h = reading_fails P text kind m (suc count) (k e.groups) f told bad (h.2 e.groups)
 
 -- addresses
 
-abbrev AddressedUpTo : ℕ → Addressed → Type 0
-AddressedUpTo n x = x.at ≤ n
+abbrev pub AddressesWithin : ℕ → Addresses → Type 0
+AddressesWithin n a = AddressWithin n a.first × AddressWithin n a.second
 
-abbrev HeadedUpTo : ℕ → Headed → Type 0
-HeadedUpTo n h = h.at ≤ n
+address_more : (m n : ℕ) (a : Option Address) → m ≤ n → AddressWithin m a → AddressWithin n a
+address_more m n (Some (line k)) le h = h
+address_more m n (Some (Match (Some k))) le h = omega (arith, le, h)
+address_more m n other le h = tt
 
-line_read : (n count from to : ℕ) (o : Option ℕ) → from ≤ n → to ≤ n → ReadUpTo (AddressedUpTo n) n (line_of count from to o)
-line_read n count from to None low high = low
-line_read n count from to (Some zero) low high = low
-line_read n count from to (Some (suc k)) low high = high
+addresses_more : (m n : ℕ) (a : Addresses) → m ≤ n → AddressesWithin m a → AddressesWithin n a
+addresses_more m n a le h = (address_more m n a.first le h.0, address_more m n a.second le h.1)
+
+abbrev AddressedUpTo : ℕ → ℕ → Addressed → Type 0
+AddressedUpTo n count x = (x.count ≡ count) × AddressWithin count x.address × (x.at ≤ n)
+
+abbrev HeadedUpTo : ℕ → ℕ → Headed → Type 0
+HeadedUpTo n count h = (h.count ≡ count) × AddressesWithin count h.addresses × (h.at ≤ n)
+
+line_read : (n count from to : ℕ) (o : Option ℕ) → from ≤ n → to ≤ n → ReadUpTo (AddressedUpTo n count) n (line_of count from to o)
+line_read n count from to (Some (suc k)) low high = (refl, omega arith, high)
+line_read n count from to other low high = low
 
 flag_up_to : (text : List ℕ) (at : ℕ) → at ≤ length text → past_flag text at ≤ length text
 flag_up_to text at le = by_flag (folds_at text at) refl
@@ -449,136 +474,155 @@ flag_up_to text at le = by_flag (folds_at text at) refl
     by_flag true e = let there = byte_inside 73 text at e in omega (arith, there)
     by_flag false e = le
 
-match_read : (text : List ℕ) (count d place : ℕ) → place < length text → ReadingUpTo (AddressedUpTo (length text)) (length text) (match_at text count d place)
+match_read : (text : List ℕ) (count d place : ℕ) → place < length text → ReadingUpTo (AddressedUpTo (length text)) (length text) count (match_at text count d place)
 unfolding match_at
 match_read text count d place there = by_end (delimiter_at text (place + 1) d) (delimiter_in text (place + 1) d (omega (arith, there)))
   where
-    by_end : (o : Option ℕ) → FoundIn (place + 1) (length text) o → ReadingUpTo (AddressedUpTo (length text)) (length text) (match_to text count d place o)
+    by_end : (o : Option ℕ) → FoundIn (place + 1) (length text) o → ReadingUpTo (AddressedUpTo (length text)) (length text) count (match_to text count d place o)
     by_end None h = omega (arith, there)
     by_end (Some to) h =
-        reading_if (AddressedUpTo (length text)) (length text) (to == place + 1) _ _
-        (read_if (AddressedUpTo (length text)) (length text) (folds_at text (to + 1)) _ _ (omega (arith, h.1)) (omega (arith, h.1)))
-        (h.0, omega (arith, h.1), λ groups. flag_up_to text (to + 1) (omega (arith, h.1)))
+        reading_if (AddressedUpTo (length text)) (length text) count (to == place + 1) _ _
+        (read_if (AddressedUpTo (length text) count) (length text) (folds_at text (to + 1)) _ _ (omega (arith, h.1)) (refl, tt, omega (arith, h.1)))
+        (h.0, omega (arith, h.1), λ groups. (omega arith, omega arith, flag_up_to text (to + 1) (omega (arith, h.1))))
 
-own_read : (text : List ℕ) (count place : ℕ) → place ≤ length text → ReadingUpTo (AddressedUpTo (length text)) (length text) (own_match text count place (own_delimiter (slice_get text place)))
+own_read : (text : List ℕ) (count place : ℕ) → place ≤ length text → ReadingUpTo (AddressedUpTo (length text)) (length text) count (own_match text count place (own_delimiter (slice_get text place)))
 own_read text count place le = by_delimiter (own_delimiter (slice_get text place)) refl
   where
-    by_delimiter : (o : Option ℕ) → own_delimiter (slice_get text place) ≡ o → ReadingUpTo (AddressedUpTo (length text)) (length text) (own_match text count place o)
+    by_delimiter : (o : Option ℕ) → own_delimiter (slice_get text place) ≡ o → ReadingUpTo (AddressedUpTo (length text)) (length text) count (own_match text count place o)
     by_delimiter None e = le
     by_delimiter (Some d) e = match_read text count d place (own_inside text place d e)
 
-address_read : (text : List ℕ) (count at : ℕ) → at ≤ length text → ReadingUpTo (AddressedUpTo (length text)) (length text) (address_at text count at)
+address_read : (text : List ℕ) (count at : ℕ) → at ≤ length text → ReadingUpTo (AddressedUpTo (length text)) (length text) count (address_at text count at)
 unfolding address_at
 address_read text count at le = by_byte (slice_get text at) refl
   where
-    Told : Reading Addressed → Type 0
-    Told r = ReadingUpTo (AddressedUpTo (length text)) (length text) r
-
-    by_byte : (o : Option ℕ) → slice_get text at ≡ o → ReadingUpTo (AddressedUpTo (length text)) (length text) (address_of text count at o)
-    by_byte None e = le
+    by_byte : (o : Option ℕ) → slice_get text at ≡ o → ReadingUpTo (AddressedUpTo (length text)) (length text) count (address_of text count at o)
+    by_byte None e = (refl, tt, le)
     by_byte (Some b) e =
         let there = inside text at b e in
-        reading_if (AddressedUpTo (length text)) (length text) (is_digit b) _ _
+        reading_if (AddressedUpTo (length text)) (length text) count (is_digit b) _ _
         (line_read (length text) count at (past Digit text at) (with_digits (Some 0) (bytes_between text at (past Digit text at))) le (past_up_to Digit text at le))
-        (reading_if (AddressedUpTo (length text)) (length text) (b == 36) _ _ (omega (arith, there))
-        (reading_if (AddressedUpTo (length text)) (length text) (b == 47) _ _ (match_read text count 47 at there)
-        (reading_if (AddressedUpTo (length text)) (length text) (b == 92) _ _ (own_read text count (at + 1) (omega (arith, there))) le)))
+        (reading_if (AddressedUpTo (length text)) (length text) count (b == 36) _ _ (refl, tt, omega (arith, there))
+        (reading_if (AddressedUpTo (length text)) (length text) count (b == 47) _ _ (match_read text count 47 at there)
+        (reading_if (AddressedUpTo (length text)) (length text) count (b == 92) _ _ (own_read text count (at + 1) (omega (arith, there))) (refl, tt, le))))
 
-with_second_read : (n : ℕ) (first : Address) (place : ℕ) (x : Addressed) (o : Option Address) → place ≤ n → x.at ≤ n → ReadUpTo (HeadedUpTo n) n (with_second first place x o)
-with_second_read n first place x None low le = low
-with_second_read n first place x (Some a) low le = le
+with_second_read : (n count : ℕ) (first : Address) (place : ℕ) (x : Addressed) (o : Option Address) → x.count ≡ count → AddressWithin count (Some first) → AddressWithin count o → place ≤ n → x.at ≤ n →
+    ReadUpTo (HeadedUpTo n count) n (with_second first place x o)
+with_second_read n count first place x None e h g low le = low
+with_second_read n count first place x (Some a) e h g low le = (e, (h, g), le)
 
-second_read : (text : List ℕ) (count : ℕ) (first : Address) (at : ℕ) → at ≤ length text → ReadingUpTo (HeadedUpTo (length text)) (length text) (second_at text count first at)
+second_read : (text : List ℕ) (count : ℕ) (first : Address) (at : ℕ) → AddressWithin count (Some first) → at ≤ length text → ReadingUpTo (HeadedUpTo (length text)) (length text) count (second_at text count first at)
 unfolding second_at
-second_read text count first at le =
-    reading_then (AddressedUpTo (length text)) (HeadedUpTo (length text)) (length text) (address_at text count at) (λ (x : Addressed). plainly (with_second first at x x.address))
-    (address_read text count at le) (λ x h. with_second_read (length text) first at x x.address le h)
+second_read text count first at h le =
+    reading_then (AddressedUpTo (length text)) (HeadedUpTo (length text)) (length text) count (address_at text count at) (λ (x : Addressed). plainly (with_second first at x x.address))
+    (address_read text count at le) (λ k x more p. with_second_read (length text) k first at x x.address p.0 (address_more count k (Some first) more h) p.1 le p.2)
 
-after_read : (text : List ℕ) (count at : ℕ) (o : Option Address) → at ≤ length text → ReadingUpTo (HeadedUpTo (length text)) (length text) (after_first text count at o)
-after_read text count at None le = le
-after_read text count at (Some first) le = by_comma (is_byte 44 (slice_get text (past Blank text at))) refl
+after_read : (text : List ℕ) (count at : ℕ) (o : Option Address) → AddressWithin count o → at ≤ length text → ReadingUpTo (HeadedUpTo (length text)) (length text) count (after_first text count at o)
+after_read text count at None h le = (refl, (tt, tt), le)
+after_read text count at (Some first) h le = by_comma (is_byte 44 (slice_get text (past Blank text at))) refl
   where
     by_comma : (t : Bool) → is_byte 44 (slice_get text (past Blank text at)) ≡ t →
-        ReadingUpTo (HeadedUpTo (length text)) (length text) (if t then second_at text count first (past Blank text (past Blank text at + 1)) else plainly (with_addresses (Some first) None at count))
+        ReadingUpTo (HeadedUpTo (length text)) (length text) count (if t then second_at text count first (past Blank text (past Blank text at + 1)) else plainly (with_addresses (Some first) None at count))
     by_comma true e =
         let there = byte_inside 44 text (past Blank text at) e in
-        second_read text count first (past Blank text (past Blank text at + 1)) (past_up_to Blank text (past Blank text at + 1) (omega (arith, there)))
-    by_comma false e = le
+        second_read text count first (past Blank text (past Blank text at + 1)) h (past_up_to Blank text (past Blank text at + 1) (omega (arith, there)))
+    by_comma false e = (refl, (h, tt), le)
 
-addresses_read : (text : List ℕ) (count at : ℕ) → at ≤ length text → ReadingUpTo (HeadedUpTo (length text)) (length text) (addresses_at text count at)
+addresses_read : (text : List ℕ) (count at : ℕ) → at ≤ length text → ReadingUpTo (HeadedUpTo (length text)) (length text) count (addresses_at text count at)
 unfolding addresses_at
 addresses_read text count at le =
-    reading_then (AddressedUpTo (length text)) (HeadedUpTo (length text)) (length text) (address_at text count at) (λ (x : Addressed). after_first text x.count x.at x.address)
-    (address_read text count at le) (λ x h. after_read text x.count x.at x.address h)
+    reading_then (AddressedUpTo (length text)) (HeadedUpTo (length text)) (length text) count (address_at text count at) (λ (x : Addressed). after_first text x.count x.at x.address)
+    (address_read text count at le)
+    (λ k x more p. subst (λ (j : ℕ). ReadingUpTo (HeadedUpTo (length text)) (length text) j (after_first text x.count x.at x.address)) p.0
+    (after_read text x.count x.at x.address (address_more k x.count x.address (omega (arith, p.0)) p.1) p.2))
 
-bang_up_to : (text : List ℕ) (h : Headed) → h.at ≤ length text → (with_bang text h).at ≤ length text
-bang_up_to text h le = by_bang (is_byte 33 (slice_get text (past Blank text h.at)))
+bang_up_to : (text : List ℕ) (h : Headed) (n : ℕ) → AddressesWithin n h.addresses → h.at ≤ length text → AddressesWithin n (with_bang text h).addresses × ((with_bang text h).at ≤ length text)
+bang_up_to text h n g le = by_bang (is_byte 33 (slice_get text (past Blank text h.at)))
   where
     Of : Headed → Type 0
-    Of x = x.at ≤ length text
+    Of x = AddressesWithin n x.addresses × (x.at ≤ length text)
 
     by_bang : (b : Bool) → Of
         (if b then record { addresses = record { first = h.addresses.first; second = h.addresses.second; negate = true }; at = past Bang text (past Blank text h.at); count = h.count }
         else record { addresses = h.addresses; at = past Blank text h.at; count = h.count })
-    by_bang true = past_up_to Bang text (past Blank text h.at) (past_up_to Blank text h.at le)
-    by_bang false = past_up_to Blank text h.at le
+    by_bang true = (g, past_up_to Bang text (past Blank text h.at) (past_up_to Blank text h.at le))
+    by_bang false = (g, past_up_to Blank text h.at le)
 
 -- items
 
-abbrev HereUpTo : ℕ → ItemOrEnd → Type 0
-HereUpTo n (Is i next) = (i.place ≤ n) × (next ≤ n)
-HereUpTo n Ends = Unit {0}
+abbrev pub ItemWithin : ℕ → Item → Type 0
+ItemWithin n i = AddressesWithin n i.addresses × FunctionWithin n i.function
 
-substitute_read : (text : List ℕ) (count : ℕ) (s : Strings) → StringsIn (length text) s → ReadingUpTo (EndsUpTo (length text)) (length text) (substitute_with text count s)
-substitute_read text count s h =
-    reading_if (EndsUpTo (length text)) (length text) (s.middle == s.from) _ _ (substituted_read text s None None h)
-    (h.0, omega (arith, h.1, h.2), λ groups. substituted_read text s (Some count) (Some groups) h)
-
-substitute_at_read : (text : List ℕ) (count at : ℕ) → at < length text → ReadingUpTo (EndsUpTo (length text)) (length text) (substitute_at text count at)
-unfolding substitute_at
-substitute_at_read text count at there =
-    reading_then (StringsIn (length text)) (EndsUpTo (length text)) (length text) (plainly (substitute_strings text (at + 1) (own_delimiter (slice_get text (at + 1))))) (substitute_with text count)
-    (substitute_strings_read text (at + 1) (omega (arith, there))) (λ s h. substitute_read text count s h)
-
-function_with_read : (text : List ℕ) (count at : ℕ) (verb : Verb) → at < length text → ReadingUpTo (EndsUpTo (length text)) (length text) (function_with text count verb at)
-function_with_read text count at ReadsExpression there = substitute_at_read text count at there
-function_with_read text count at (Reads arguments) there = function_read text at arguments there
-
-function_at_read : (text : List ℕ) (count : ℕ) (a : Addresses) (at : ℕ) → at ≤ length text → ReadingUpTo (HereUpTo (length text)) (length text) (function_at text count a at)
-unfolding function_at
-function_at_read text count a at le = by_letter (slice_get text at) refl
+item_more : (m n : ℕ) (i : Item) → m ≤ n → ItemWithin m i → ItemWithin n i
+item_more m n i le h = (addresses_more m n i.addresses le h.0, by_function i.function h.1)
   where
-    by_letter : (o : Option ℕ) → slice_get text at ≡ o → ReadingUpTo (HereUpTo (length text)) (length text) (item_with text count a at o)
+    by_function : (f : Function) → FunctionWithin m f → FunctionWithin n f
+    by_function (Substitute s (Some k) f) g = (omega (arith, le, g.0), g.1)
+    by_function (Substitute s None f) g = g
+    by_function f g = tt
+
+abbrev HereUpTo : ℕ → ℕ → ItemOrEnd → Type 0
+HereUpTo n count (Is i next) = ItemWithin count i × (i.place ≤ n) × (next ≤ n)
+HereUpTo n count Ends = Unit {0}
+
+substitute_read : (text : List ℕ) (count : ℕ) (s : Strings) → StringsIn (length text) s → ReadingUpTo (EndsUpTo (length text)) (length text) count (substitute_with text count s)
+substitute_read text count s h =
+    reading_if (EndsUpTo (length text)) (length text) count (s.middle == s.from) _ _ (substituted_read text count s None None tt h)
+    (h.0, omega (arith, h.1, h.2), λ groups. substituted_read text (suc count) s (Some count) (Some groups) (omega arith) h)
+
+function_with_read : (text : List ℕ) (count at : ℕ) (verb : Verb) → at < length text → ReadingUpTo (EndsUpTo (length text)) (length text) count (function_with text count verb at)
+unfolding substitute_at
+function_with_read text count at ReadsExpression there =
+    reading_plain (StringsIn (length text)) (EndsUpTo (length text)) (length text) count (substitute_strings text (at + 1) (own_delimiter (slice_get text (at + 1)))) (substitute_with text count)
+    (substitute_strings_read text (at + 1) (omega (arith, there))) (λ s h. substitute_read text count s h)
+function_with_read text count at (Reads arguments) there = function_read text count at arguments there
+
+function_at_read : (text : List ℕ) (count : ℕ) (a : Addresses) (at : ℕ) → AddressesWithin count a → at ≤ length text → ReadingUpTo (HereUpTo (length text)) (length text) count (function_at text count a at)
+unfolding function_at
+function_at_read text count a at within le = by_letter (slice_get text at) refl
+  where
+    by_letter : (o : Option ℕ) → slice_get text at ≡ o → ReadingUpTo (HereUpTo (length text)) (length text) count (item_with text count a at o)
     by_letter None e = le
     by_letter (Some letter) e =
         let there = inside text at letter e in
-        reading_then Any (HereUpTo (length text)) (length text) (plainly (allowed a at (verb_of letter)))
+        reading_plain Any (HereUpTo (length text)) (length text) count (allowed a at (verb_of letter))
         (λ (verb : Verb). function_with text count verb at >>= λ (found : Function × ℕ). plainly (Ok (item_of a at found)))
         (allowed_read (length text) a at (verb_of letter) le)
-        (λ verb h. reading_then (EndsUpTo (length text)) (HereUpTo (length text)) (length text) (function_with text count verb at) (λ (found : Function × ℕ). plainly (Ok (item_of a at found)))
-        (function_with_read text count at verb there) (λ found g. (le, g)))
+        (λ verb h. reading_then (EndsUpTo (length text)) (HereUpTo (length text)) (length text) count (function_with text count verb at) (λ (found : Function × ℕ). plainly (Ok (item_of a at found)))
+        (function_with_read text count at verb there) (λ k found more g. ((addresses_more count k a more within, g.0), le, g.1)))
 
-item_read : (text : List ℕ) (count at : ℕ) → at ≤ length text → ReadingUpTo (HereUpTo (length text)) (length text) (item_at text count at)
+item_read : (text : List ℕ) (count at : ℕ) → at ≤ length text → ReadingUpTo (HereUpTo (length text)) (length text) count (item_at text count at)
 unfolding item_at
 item_read text count at le = by_byte (slice_get text (past Separator text at))
   where
-    by_byte : (o : Option ℕ) → ReadingUpTo (HereUpTo (length text)) (length text) (item_from text count (past Separator text at) o)
+    after : (k : ℕ) (h : Headed) → HeadedUpTo (length text) k h → ReadingUpTo (HereUpTo (length text)) (length text) k (function_after text h)
+    after k h p =
+        let bang = bang_up_to text h h.count (subst (λ (j : ℕ). AddressesWithin j h.addresses) (sym p.0) p.1) p.2 in
+        subst (λ (j : ℕ). ReadingUpTo (HereUpTo (length text)) (length text) j (function_after text h)) p.0 (function_at_read text h.count (with_bang text h).addresses (with_bang text h).at bang.0 bang.1)
+
+    by_byte : (o : Option ℕ) → ReadingUpTo (HereUpTo (length text)) (length text) count (item_from text count (past Separator text at) o)
     by_byte None = tt
     by_byte (Some b) =
-        reading_then (HeadedUpTo (length text)) (HereUpTo (length text)) (length text) (addresses_at text count (past Separator text at)) (function_after text)
-        (addresses_read text count (past Separator text at) (past_up_to Separator text at le))
-        (λ h g. function_at_read text h.count (with_bang text h).addresses (with_bang text h).at (bang_up_to text h g))
+        reading_then (HeadedUpTo (length text)) (HereUpTo (length text)) (length text) count (addresses_at text count (past Separator text at)) (function_after text)
+        (addresses_read text count (past Separator text at) (past_up_to Separator text at le)) (λ k h more p. after k h p)
 
 abbrev ItemsUpTo : ℕ → List Item → Type 0
 ItemsUpTo n [] = Unit {0}
 ItemsUpTo n (i ∷ is) = (i.place ≤ n) × ItemsUpTo n is
 
-cut_up_to : (text : List ℕ) (kind : Kind) (m count at to : ℕ) (is : List Item) (es : List WrittenExpression) → CutScript text kind m count at is es to → at ≤ length text → (to ≤ length text) × ItemsUpTo (length text) is
-cut_up_to text kind m count at to _ _ done le = (le, tt)
-cut_up_to text kind m count at to _ _ (item {next = next} {i = i} {is = is} es fs read rest) le =
-    let here = reading_gives (HereUpTo (length text)) (length text) text kind m (item_at text count at) es (Is i next) read (item_read text count at le) in
-    let rest_of = cut_up_to text kind m (count + length es) next to is fs rest here.1 in
-    (rest_of.0, (here.0, rest_of.1))
+abbrev pub ItemsWithin : ℕ → List Item → Type 0
+ItemsWithin n [] = Unit {0}
+ItemsWithin n (i ∷ is) = ItemWithin n i × ItemsWithin n is
+
+-- the items of a cut stand within the text, and what they name is among its expressions
+pub cut_up_to : (text : List ℕ) (kind : Kind) (m count at to n : ℕ) (is : List Item) (es : List WrittenExpression) → CutScript text kind m count at is es to → at ≤ length text → n ≡ count + length es →
+    (to ≤ length text) × ItemsUpTo (length text) is × ItemsWithin n is
+cut_up_to text kind m count at to n _ _ done le e = (le, tt, tt)
+cut_up_to text kind m count at to n _ _ (item {next = next} {i = i} {is = is} es fs read rest) le e =
+    let here = reading_gives (HereUpTo (length text)) (length text) text kind m count (item_at text count at) es (Is i next) read (item_read text count at le) in
+    let rest_of = cut_up_to text kind m (count + length es) next to n is fs rest here.2 (e ∙ omega (arith, length-append es fs)) in
+    let more : count + length es ≤ n = omega (arith, e, length-append es fs) in
+    (rest_of.0, (here.1, rest_of.1), (item_more (count + length es) n i more here.0, rest_of.2))
 
 target_at_up_to : (n : ℕ) (text : List ℕ) (all before : List Item) (depth : ℕ) (after : List Item) (place : ℕ) (f : Function) → place ≤ n → FaultUpTo n (target_fault_at text all before depth after place f)
 target_at_up_to n text all before depth after place Open le = fault_if_up_to n (is_none (block_end before after)) _ place le
@@ -596,14 +640,14 @@ target_up_to n text all before depth (i ∷ is) h =
 -- the first fault of a text is told in it or at its end
 pub fault_within : ExprFaultWithin → (text : List ℕ) (kind : Kind) (m : ℕ) (f : ScriptFault) → Faulty text kind m f → f.place ≤ length text
 fault_within told text kind m f (early is es to cut bad) =
-    let reached = cut_up_to text kind m 0 0 to is es cut (omega arith) in
-    reading_fails (HereUpTo (length text)) text kind m (item_at text (length es) to) f told bad (item_read text (length es) to reached.0)
+    let reached = cut_up_to text kind m 0 0 to (length es) is es cut (omega arith) (omega arith) in
+    reading_fails (HereUpTo (length text)) text kind m (length es) (item_at text (length es) to) f told bad (item_read text (length es) to reached.0)
 fault_within told text kind m f (afterwards is es to cut ends found) =
-    let reached = cut_up_to text kind m 0 0 to is es cut (omega arith) in
+    let reached = cut_up_to text kind m 0 0 to (length es) is es cut (omega arith) (omega arith) in
     subst (FaultUpTo (length text)) found (target_up_to (length text) text is [] 0 is reached.1)
 
-pub read_within : {A : Type 0} → ExprFaultWithin → (text : List ℕ) (kind : Kind) (m : ℕ) (r : Result A ScriptFault) →
-    IfErr r (λ f. Faulty text kind m f ⊎ (f ≡ NO_MEMORY)) → IfErr r (λ f. f.place ≤ length text)
-read_within told text kind m (Ok s) h = tt
-read_within told text kind m (Err f) (inl bad) = fault_within told text kind m f bad
-read_within told text kind m (Err f) (inr is) = rw is (omega arith)
+pub read_within : {A : Type 0} → ExprFaultWithin → (text : List ℕ) (kind : Kind) (m : ℕ) (r : Result A ScriptFault) (f : ScriptFault) →
+    IsErrAnd r (λ g. g ≡ f) → Faulty text kind m f ⊎ (f ≡ NO_MEMORY) → IfErr r (λ g. g.place ≤ length text)
+read_within told text kind m (Ok s) f is h = tt
+read_within told text kind m (Err g) f is (inl bad) = rw is (fault_within told text kind m f bad)
+read_within told text kind m (Err g) f is (inr none) = rw is (rw none (omega arith))

@@ -1,5 +1,5 @@
 -- What is wrong with one item, and what it does.
-use Rattle.std.proofs.Common.{◌≡◌, ℕ, Bool, true, false, not, List, Option, Some, None, is_some, is_none, unwrap_or, refl, sym, ap, ◌∙◌, ◌+◌, [], ◌∷◌, ◌++◌, take, drop, slice_get, append_assoc, length, length-append, filter_map, option_map, subst, arith}
+use Rattle.std.proofs.Common.{◌≡◌, ℕ, Bool, true, false, not, List, Option, Some, None, is_some, is_none, unwrap_or, refl, sym, ap, ◌∙◌, ◌+◌, [], ◌∷◌, ◌++◌, take, drop, slice_get, append_assoc, map, filter_map, option_map, subst}
 use Rattle.std.specs.List.{cons_option}
 use Rattle.std.proofs.lemmas.List.Elements.{filter_map-append}
 use Rattle.std.specs.Option.{option_or}
@@ -8,15 +8,14 @@ use Rattle.sedscript.specs.declared.types.Reason.TheVariants.{OpenBlock, Repeate
 use Rattle.sedscript.specs.declared.types.Action.{Action}
 use Rattle.sedscript.specs.declared.types.Action.TheVariants.{Block}
 use Rattle.sedscript.specs.Script.{action_of, command_of, commands_of, text_in, substitution_in, table_in}
-use Rattle.sedscript.specs.Tables.{CountsAre, counts_with, opened}
+use Rattle.sedscript.specs.Parts.{OperandsAre}
 use Rattle.sedscript.specs.declared.types.Command.{Command}
 use Rattle.sedscript.specs.declared.items.Item.{Item}
-use Rattle.sedscript.specs.declared.commands.Counts.{Counts}
+use Rattle.sedscript.specs.declared.script.Operands.{Operands}
 use Rattle.sedscript.specs.declared.items.Function.{Function}
-use Rattle.sedscript.specs.declared.items.Function.TheVariants.{Open, Label, Text, Substitute, Transliterate}
+use Rattle.sedscript.specs.declared.items.Function.TheVariants.{Open, Label}
 use Rattle.sedscript.specs.Bytes.{bytes_between}
 use Rattle.sedscript.specs.Targets.{target_fault_at, target_fault_in, depth_after, fault_if, block_end, label_in, is_label}
-use Rattle.sedscript.proofs.Blocks.{blocks_step}
 use Rattle.sedscript.proofs.Labels.{own_name, none_of, take_item, drop_item}
 
 missing : {A : Type 0} (o : Option A) (b : Bool) → is_some o ≡ not b → b ≡ is_none o
@@ -43,6 +42,19 @@ pub action_open : (text : List ℕ) (all before after : List Item) (to : ℕ) (f
     f ≡ Open → o ≡ block_end before after → to ≡ unwrap_or o 0 → ◌≡◌ {A = Option Action} (Some (Block to)) (action_of text all before after f)
 action_open text all before after to f o is end e =
     ap (λ (k : ℕ). Some (Block k)) (e ∙ ap (λ (x : Option ℕ). unwrap_or x 0) end) ∙ ap (action_of text all before after) (sym is)
+
+first_some : {A : Type 0} (o x : Option A) (b : Bool) → b ≡ is_some o → b ≡ true → o ≡ option_or o x
+first_some None x b e f = let g : false ≡ true = sym e ∙ f in cc
+first_some (Some y) x b e f = refl
+
+-- one item more, which has a fault
+pub target_fault_here : (text : List ℕ) (all : List Item) (k depth : ℕ) (i : Item) (f : Option ScriptFault) (b : Bool) (whole : Option ScriptFault) → slice_get all k ≡ Some i →
+    f ≡ target_fault_at text all (take k all) depth (drop (k + 1) all) i.place i.function → b ≡ is_some f → b ≡ true →
+    whole ≡ target_fault_in text all (take k all) depth (drop k all) → f ≡ whole
+target_fault_here text all k depth i f b whole at is some wrong so_far =
+    let rest : Option ScriptFault = target_fault_in text all (take k all ++ i ∷ []) (depth_after depth i.function) (drop (k + 1) all) in
+    first_some f rest b some wrong ∙ (ap (λ (o : Option ScriptFault). option_or o rest) is
+    ∙ (sym (ap (target_fault_in text all (take k all) depth) (drop_item all k i at)) ∙ sym so_far))
 
 -- one item more without a fault
 pub target_fault_step : (text : List ℕ) (all : List Item) (k depth next : ℕ) (i : Item) (f : Option ScriptFault) (b : Bool) (whole : Option ScriptFault) → slice_get all k ≡ Some i →
@@ -71,36 +83,19 @@ commands_step text all k i action old new whole at is grown so_far =
     ∙ (ap (λ (cs : List Command). old ++ cs) (with_more one rest)
     ∙ (sym (append_assoc old (cons_option one []) rest) ∙ ap (λ (cs : List Command). cs ++ rest) (sym grown))))))
 
--- the number of what is taken of items, with one item more
-one_more : {A : Type 0} (h : Item → Option A) (is : List Item) (i : Item) (n m : ℕ) → n ≡ length (filter_map h is) → m ≡ n + length (cons_option (h i) []) → m ≡ length (filter_map h (is ++ i ∷ []))
-one_more h is i n m e more =
-    more ∙ (ap (λ (k : ℕ). k + length (cons_option (h i) [])) e
-    ∙ sym (ap (λ xs. length xs) (filter_map-append h is (i ∷ [])) ∙ length-append (filter_map h is) (cons_option (h i) [])))
+-- what is taken of items, with one item more
+taken : {A : Type 0} (h : Item → Option A) (is : List Item) (i : Item) (old new : List A) → old ≡ filter_map h is → new ≡ old ++ cons_option (h i) [] → new ≡ filter_map h (is ++ i ∷ [])
+taken h is i old new e grown = grown ∙ (ap (λ xs. xs ++ cons_option (h i) []) e ∙ sym (filter_map-append h is (i ∷ [])))
 
-text_more : (text : List ℕ) (n : Counts) (f : Function) → (counts_with n f).texts ≡ n.texts + length (cons_option (text_in text f) [])
-text_more text n (Text t from to) = omega arith
-text_more text n f = omega arith
-
-substitution_more : (text : List ℕ) (all : List Item) (n : Counts) (f : Function) → (counts_with n f).substitutions ≡ n.substitutions + length (cons_option (substitution_in text all f) [])
-substitution_more text all n (Substitute s e f) = omega arith
-substitution_more text all n f = omega arith
-
-table_more : (text : List ℕ) (n : Counts) (f : Function) → (counts_with n f).tables ≡ n.tables + length (cons_option (table_in text f) [])
-table_more text n (Transliterate s) = omega arith
-table_more text n f = omega arith
-
-opens : (n : Counts) (f : Function) → (counts_with n f).blocks ≡ opened n.blocks f
-opens n Open = refl
-opens n f = refl
-
--- the counts with one item more
-pub counts_step : (text : List ℕ) (all : List Item) (k : ℕ) (n m : Counts) (i : Item) → slice_get all k ≡ Some i → CountsAre text all (take k all) n → m ≡ counts_with n i.function →
-    CountsAre text all (take (k + 1) all) m
-counts_step text all k n m i at h e =
-    let here : List Item = take k all in
-    subst (CountsAre text all (take (k + 1) all)) (sym e) (record {
-      blocks = blocks_step all k n.blocks (counts_with n i.function).blocks i at h.blocks (opens n i.function);
-      texts = rw (take_item all k i at) (one_more (λ (j : Item). text_in text j.function) here i n.texts _ h.texts (text_more text n i.function));
-      substitutions = rw (take_item all k i at) (one_more (λ (j : Item). substitution_in text all j.function) here i n.substitutions _ h.substitutions (substitution_more text all n i.function));
-      tables = rw (take_item all k i at) (one_more (λ (j : Item). table_in text j.function) here i n.tables _ h.tables (table_more text n i.function));
+-- the texts, substitutions and tables with those of one item more
+pub operands_step : (text : List ℕ) (all : List Item) (k : ℕ) (i : Item) (old new : Operands) → slice_get all k ≡ Some i → OperandsAre text all (take k all) old →
+    map (λ t. t.items) new.texts.items ≡ map (λ t. t.items) old.texts.items ++ cons_option (text_in text i.function) [] →
+    new.substitutions.items ≡ old.substitutions.items ++ cons_option (substitution_in text all i.function) [] →
+    map (λ t. t.items) new.tables.items ≡ map (λ t. t.items) old.tables.items ++ cons_option (table_in text i.function) [] →
+    OperandsAre text all (take (k + 1) all) new
+operands_step text all k i old new at h texts substitutions tables =
+    subst (λ (is : List Item). OperandsAre text all is new) (sym (take_item all k i at)) (record {
+      texts = taken (λ (j : Item). text_in text j.function) (take k all) i _ _ h.texts texts;
+      substitutions = taken (λ (j : Item). substitution_in text all j.function) (take k all) i _ _ h.substitutions substitutions;
+      tables = taken (λ (j : Item). table_in text j.function) (take k all) i _ _ h.tables tables;
     })

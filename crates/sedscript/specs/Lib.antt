@@ -2,9 +2,7 @@ pub mod Types
 pub mod Bytes
 pub mod Faults
 pub mod Functions
-pub mod Replacement
 pub mod Strings
-pub mod Transliteration
 pub mod Between
 pub mod Items
 pub mod Targets

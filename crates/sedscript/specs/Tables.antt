@@ -1,6 +1,6 @@
 -- Private to the proofs: no contract of a public item cites what stands here.
 -- The tables by which labels, blocks and files are found without searching anew.
-use Rattle.std.specs.Prelude.{◌≡◌, ◌≤◌, ℕ, suc, List, length, [], ◌∷◌, ◌++◌, drop, Bool, false, not, ◌==◌, Option, Some, None, if◌then◌else◌, map}
+use Rattle.std.specs.Prelude.{◌≡◌, ℕ, suc, List, [], ◌∷◌, ◌++◌, drop, Bool, false, not, ◌==◌, Option, Some, None, if◌then◌else◌, map}
 use Rattle.std.specs.Borrow.{Bor}
 use Rattle.std.specs.BTreeMap.{BTreeMap, get_by}
 use Rattle.std.specs.Cmp.Lexicographic.{slice_cmp}
@@ -10,10 +10,8 @@ use Rattle.std.specs.Str.{bytes_eq}
 use Rattle.sedscript.specs.declared.targets.FirstLabel.{FirstLabel}
 use Rattle.sedscript.specs.declared.files.Files.{Files}
 use Rattle.sedscript.specs.declared.files.NumberedFiles.{NumberedFiles}
-use Rattle.sedscript.specs.declared.commands.Counts.{Counts}
-use Rattle.sedscript.specs.Types.{FileUse, Read, Write, Item, Function, Open, Text, Substitute, Transliterate}
-use Rattle.sedscript.specs.Script.{texts_of, substitutions_of, tables_of}
-use Rattle.sedscript.specs.Targets.{files_in, is_label, counted, commands_in, is_open, is_close, close_in}
+use Rattle.sedscript.specs.Types.{FileUse, Read, Write, Item, Function, Open}
+use Rattle.sedscript.specs.Targets.{files_in, is_label, counted, commands_in, is_open, is_close, close_in, block_end}
 
 -- the first item with a label of this name, and the number of the command after it, where the items begin with this
 -- index and so many commands before them
@@ -64,6 +62,10 @@ abbrev pub ends_in : ℕ → List Item → List (Option ℕ)
 ends_in n [] = []
 ends_in n (i ∷ is) = with_end i.function (close_in 0 (counted n i) is) (ends_in (counted n i) is)
 
+-- where a function between these items opens a block, that ends there
+abbrev pub EndIs : List Item → List Item → Function → Option ℕ → Type 0
+EndIs before after f end = f ≡ Open → end ≡ block_end before after
+
 -- the names with one more, if it is new
 abbrev pub with_name : List (List ℕ) → Option (List ℕ) → List (List ℕ)
 with_name names None = names
@@ -78,34 +80,15 @@ abbrev pub first_number : FileUse → ℕ
 first_number Read = 0
 first_number Write = 1
 
--- the files that the items read, or write, and their numbers
-pub record AreNumbered (u : FileUse) (text : List ℕ) (items : List Item) (f : NumberedFiles) : Type 0 where
-  pub names : map (λ n. n.items) f.names.items ≡ files_in u text items
-  pub numbers : NumbersAre (first_number u) (files_in u text items) f.numbers
+-- these are the names of the files, and their numbers
+pub record AreNumbered (u : FileUse) (names : List (List ℕ)) (f : NumberedFiles) : Type 0 where
+  pub names_are : map (λ n. n.items) f.names.items ≡ names
+  pub numbers_are : NumbersAre (first_number u) names f.numbers
 
 -- the files that the items name
 pub record FilesAre (text : List ℕ) (items : List Item) (f : Files) : Type 0 where
-  pub read : AreNumbered Read text items f.read
-  pub written : AreNumbered Write text items f.written
-
--- how many of each there are up to and including a function, where there are so many before it
-abbrev pub counts_with : Counts → Function → Counts
-counts_with n Open = record n { blocks = suc n.blocks }
-counts_with n (Text t from to) = record n { texts = suc n.texts }
-counts_with n (Substitute s e f) = record n { substitutions = suc n.substitutions }
-counts_with n (Transliterate s) = record n { tables = suc n.tables }
-counts_with n f = n
-
--- so many of each stand in these items among all items
-pub record CountsAre (text : List ℕ) (all items : List Item) (n : Counts) : Type 0 where
-  pub blocks : n.blocks ≡ blocks_in items
-  pub texts : n.texts ≡ length (texts_of text items)
-  pub substitutions : n.substitutions ≡ length (substitutions_of text all items)
-  pub tables : n.tables ≡ length (tables_of text items)
-
--- at most so many of each
-abbrev pub AtMost : ℕ → Counts → Type 0
-AtMost most n = (n.blocks ≤ most) × (n.texts ≤ most) × (n.substitutions ≤ most) × (n.tables ≤ most)
+  pub read : AreNumbered Read (files_in Read text items) f.read
+  pub written : AreNumbered Write (files_in Write text items) f.written
 
 -- the tables are those of all items
 pub record TargetsAre (text : List ℕ) (items : List Item) (labels : BTreeMap (Bor (List ℕ)) FirstLabel)

@@ -3,7 +3,7 @@
 ghost use Rattle.std.specs.Prelude.{◌≡◌, ◌≢◌, ◌≤◌, ◌<◌, ◌+◌, ℕ, Option, Some, length, slice_get, IfOk};
 ghost use Rattle.sedscript.specs.declared.types.Address.{Address};
 ghost use Rattle.sedscript.specs.Bytes.{bytes_between};
-ghost use Rattle.sedscript.specs.Items.{folds_at, past_flag, match_at, own_match, address_at, after_first, second_at, with_second, addresses_at, with_bang, addresses_of, line_of};
+ghost use Rattle.sedscript.specs.Items.{folds_at, past_flag, match_at, own_match, address_at, after_first, second_at, addresses_at, with_bang, addresses_of, line_of};
 ghost use Rattle.sedscript.specs.Between.{own_delimiter};
 ghost use Rattle.sedscript.specs.Answers.{as_addressed, as_headed, ComesFrom, Agrees};
 ghost use Rattle.sedscript.specs.Cases.{with_digits, empty_match};
@@ -156,26 +156,6 @@ fn addresses_of(first: Option<Address>, second: Option<Address>) -> Addresses
     }
 }
 
-/// Both addresses and the place `next` after them; a fault at `place` where there is no second address.
-fn with_second(
-    first: Address,
-    place: usize,
-    next: usize,
-    second: Option<Address>,
-) -> Result<(Addresses, usize), ScriptFault>
-    ensures is { (count : ℕ) → Agrees as_headed count result
-        (with_second first place (record { address = second; at = next; count = count }) second) }
-    ensures next { IfOk result (λ found. found.1 ≡ next) }
-{
-    match second {
-        None => Err(ScriptFault {
-            place,
-            reason: Reason::BadAddress,
-        }),
-        Some(_) => Ok((addresses_of(Some(first), second), next)),
-    }
-}
-
 /// Both addresses and the place after them. The second one has to stand at `at`.
 fn second_at(
     source: &Source,
@@ -189,7 +169,13 @@ fn second_at(
     ensures within { IfOk result (λ found. (at ≤ found.1) × (found.1 ≤ length source.now.text.now)) }
 {
     let (second, next) = address_at(source, exprs, at)?;
-    with_second(first, at, next, second)
+    match second {
+        None => Err(ScriptFault {
+            place: at,
+            reason: Reason::BadAddress,
+        }),
+        Some(_) => Ok((addresses_of(Some(first), second), next)),
+    }
 }
 
 /// The addresses of a command and the place after them. The first one, if there is one, ends at `at`, where a comma and
@@ -239,7 +225,7 @@ pub fn addresses_at(
 /// The addresses with the `!` that may follow them at a place, and the place after it.
 pub fn with_bang(text: &[u8], addresses: Addresses, at: usize) -> (Addresses, usize)
     requires { at ≤ length text.now }
-    ensures is { as_headed result 0 ≡ with_bang text.now (as_headed (addresses, at) 0) }
+    ensures is { (count : ℕ) → as_headed result count ≡ with_bang text.now (as_headed (addresses, at) count) }
     ensures within { (at ≤ result.1) × (result.1 ≤ length text.now) }
 {
     let bang = past(Sort::Blank, text, at);

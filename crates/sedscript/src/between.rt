@@ -1,10 +1,10 @@
 //! What stands between delimiters after `s` and `y`.
 
-ghost use Rattle.std.specs.Prelude.{◌≡◌, ◌≢◌, ◌≤◌, ◌<◌, ◌+◌, false, Some, length, slice_get, IfOk, IfSome};
+ghost use Rattle.std.specs.Prelude.{◌≡◌, ◌≢◌, ◌≤◌, ◌<◌, ◌+◌, false, Some, length, slice_get, if◌then◌else◌, IfOk, IfSome};
 ghost use Rattle.sedscript.specs.Strings.{string_end};
 ghost use Rattle.sedscript.specs.Between.{own_delimiter, strings_after, substitute_strings, transliterate_strings, transliterate_at, flags_after, substituted};
 ghost use Rattle.sedscript.specs.Answers.{AreStrings};
-ghost use Rattle.sedscript.specs.Cases.{flagged, folds};
+ghost use Rattle.sedscript.specs.Cases.{folds};
 
 use crate::bytes::byte_at;
 use crate::flags::flags_at;
@@ -64,10 +64,12 @@ fn strings_after(
     }
 }
 
-/// The strings of `s`, whose delimiter stands at a place: a regular expression and a replacement.
-pub fn substitute_strings(text: &[u8], place: usize) -> Result<Strings, ScriptFault>
+/// The strings whose first delimiter stands at a place: a regular expression and a replacement, as `s` has them, where the
+/// second `breaks`, or those of `y`.
+pub fn strings_at(text: &[u8], breaks: bool, place: usize) -> Result<Strings, ScriptFault>
     requires { place ≤ length text.now }
-    ensures is { result ≡ substitute_strings text.now place (own_delimiter (slice_get text.now place)) }
+    ensures is { result ≡ (if breaks then substitute_strings text.now place (own_delimiter (slice_get text.now place))
+        else transliterate_strings text.now place (own_delimiter (slice_get text.now place))) }
     ensures within { IfOk result (AreStrings (place + 1) (length text.now)) }
 {
     match own_delimiter(byte_at(text, place)) {
@@ -75,34 +77,13 @@ pub fn substitute_strings(text: &[u8], place: usize) -> Result<Strings, ScriptFa
             place,
             reason: Reason::BadDelimiter,
         }),
-        Some(delimiter) => strings_after(
-            text,
-            true,
-            delimiter,
-            place,
-            delimited(text, place + 1, delimiter),
-        ),
-    }
-}
-
-/// The strings of `y`, whose delimiter stands at a place.
-fn transliterate_strings(text: &[u8], place: usize) -> Result<Strings, ScriptFault>
-    requires { place ≤ length text.now }
-    ensures is { result ≡ transliterate_strings text.now place (own_delimiter (slice_get text.now place)) }
-    ensures within { IfOk result (AreStrings (place + 1) (length text.now)) }
-{
-    match own_delimiter(byte_at(text, place)) {
-        None => Err(ScriptFault {
-            place,
-            reason: Reason::BadDelimiter,
-        }),
-        Some(delimiter) => strings_after(
-            text,
-            false,
-            delimiter,
-            place,
-            string_end(text, false, delimiter, place + 1),
-        ),
+        Some(delimiter) => if breaks {
+            let middle = delimited(text, place + 1, delimiter);
+            strings_after(text, true, delimiter, place, middle)
+        } else {
+            let middle = string_end(text, false, delimiter, place + 1);
+            strings_after(text, false, delimiter, place, middle)
+        },
     }
 }
 
@@ -113,15 +94,8 @@ pub fn transliterate_at(text: &[u8], at: usize) -> Result<(Function, usize), Scr
     ensures is { result ≡ transliterate_at text.now at }
     ensures within { IfOk result (λ found. (at < found.1) × (found.1 ≤ length text.now)) }
 {
-    let strings = transliterate_strings(text, at + 1)?;
-    if let Some(fault) = strings_fault(
-        text,
-        strings.delimiter,
-        at,
-        strings.from,
-        strings.middle,
-        strings.to,
-    ) {
+    let strings = strings_at(text, false, at + 1)?;
+    if let Some(fault) = strings_fault(text, strings, at) {
         return Err(fault);
     }
     ended(text, Function::Transliterate(strings), strings.to + 1)
@@ -139,20 +113,6 @@ pub fn folds(text: &[u8], strings: Strings) -> bool
     }
 }
 
-/// The command `s` with the flags after its strings, and its end.
-fn flagged(
-    text: &[u8],
-    strings: Strings,
-    expression: Option<usize>,
-) -> Result<(Function, usize), ScriptFault>
-    requires { strings.to < length text.now }
-    ensures is { result ≡ flagged text.now strings expression }
-    ensures within { IfOk result (λ found. (strings.to < found.1) × (found.1 ≤ length text.now)) }
-{
-    let (flags, end) = flags_at(text, expression.is_none(), strings.to + 1)?;
-    ended(text, Function::Substitute(strings, expression, flags), end)
-}
-
 /// The command `s` with these strings, and its end. Its regular expression has this number in the script; None stands
 /// for the empty one. The groups of the replacement have numbers up to `limit`, where there is one.
 #[tactic(auto, unfolding(crate::specs::Between::substituted))]
@@ -166,14 +126,9 @@ pub fn substituted(
     ensures is { result ≡ substituted text.now strings expression limit }
     ensures within { IfOk result (λ found. (strings.to < found.1) × (found.1 ≤ length text.now)) }
 {
-    if let Some(fault) = replacement_fault(
-        text,
-        strings.delimiter,
-        limit,
-        strings.middle + 1,
-        strings.to,
-    ) {
+    if let Some(fault) = replacement_fault(text, strings, limit) {
         return Err(fault);
     }
-    flagged(text, strings, expression)
+    let (flags, end) = flags_at(text, expression.is_none(), strings.to + 1)?;
+    ended(text, Function::Substitute(strings, expression, flags), end)
 }

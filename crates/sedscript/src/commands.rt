@@ -1,13 +1,13 @@
 //! The commands that the items become, and what they name by numbers.
 
-ghost use Rattle.std.specs.Prelude.{◌≡◌, ◌<◌, ◌≤◌, ◌+◌, ◌-◌, ◌++◌, List, [], Some, false, map, drop, take};
-ghost use Rattle.std.specs.Prelude.{slice_get, option_map, IfOk, OnOk};
+ghost use Rattle.std.specs.Prelude.{◌≡◌, ◌++◌, List, [], Some, false, map, option_map, IfOk, OnOk};
 ghost use Rattle.std.specs.List.{cons_option};
 ghost use Rattle.sedscript.specs.Bytes.{bytes_between};
-ghost use Rattle.sedscript.specs.Tables.{TargetsAre, FilesAre, CountsAre, AtMost, counts_with};
+ghost use Rattle.sedscript.specs.Tables.{TargetsAre, FilesAre, EndIs};
+ghost use Rattle.sedscript.specs.Parts.{OperandsAre};
 ghost use Rattle.sedscript.specs.Targets.{number_in};
 ghost use Rattle.sedscript.specs.Types.{Write, Substitute};
-ghost use Rattle.sedscript.specs.Script.{action_of, command_of, commands_of, texts_of, substitution_in, substitutions_of, tables_of, unescaped_from, is_quiet};
+ghost use Rattle.sedscript.specs.Script.{action_of, command_of, commands_of, text_in, substitution_in, table_in, unescaped_from, is_quiet};
 ghost use Rattle.sedscript.specs.declared.items.Item.{Item};
 
 use crate::bytes::bytes_between;
@@ -15,70 +15,32 @@ use crate::files::Files;
 use crate::items::{Addresses, Flags, Function, Item, Strings};
 use crate::kept::Items;
 use crate::replacement::parts_of;
+use crate::script::Operands;
 use crate::strings::second_of;
 use crate::substitution::{Replacement, Substitution};
-use crate::targets::Targets;
+use crate::targets::{Targets, opened};
 use crate::transliteration::table_between;
 use crate::types::{Action, Command, FileUse};
 use std::alloc::{AllocError, Global};
 
-/// How many blocks, texts, substitutions and tables there are.
-#[derive(Clone, Copy)]
-struct Counts {
-    blocks: usize,
-    texts: usize,
-    substitutions: usize,
-    tables: usize,
-}
-
-/// How many of each there are up to and including this function, where there are `n` before it.
-fn counts_with(n: Counts, function: Function) -> Counts
-    requires { AtMost (usize.MAX - 1) n }
-    ensures is { result ≡ counts_with n function }
-    ensures few { (result.blocks ≤ n.blocks + 1) × (result.texts ≤ n.texts + 1)
-        × (result.substitutions ≤ n.substitutions + 1) × (result.tables ≤ n.tables + 1) }
-{
-    match function {
-        Function::Open => Counts {
-            blocks: n.blocks + 1,
-            ..n
-        },
-        Function::Text(..) => Counts {
-            texts: n.texts + 1,
-            ..n
-        },
-        Function::Substitute(..) => Counts {
-            substitutions: n.substitutions + 1,
-            ..n
-        },
-        Function::Transliterate(_) => Counts {
-            tables: n.tables + 1,
-            ..n
-        },
-        _ => n,
-    }
-}
-
-/// The action of the item at index `k`; None where it doesn't become a command. So many blocks, texts, substitutions and
-/// tables as `counts` says stand in the items before it.
+/// The action of a function; None where it doesn't become a command. The operands of the functions before it are `operands`,
+/// and the block that it opens ends at `end`, if it opens one.
 fn action_of<'a>(
     text: &'a [u8],
-    items: &Items,
     targets: &Targets<'a>,
     files: &Files<'a>,
-    k: usize,
-    counts: Counts,
-    item: Item,
+    operands: &Operands,
+    end: Option<usize>,
+    function: Function,
 ) -> Option<Action>
-    requires item { slice_get items.now k ≡ Some item }
-    requires counts { CountsAre text.now items.now (take k items.now) counts }
-    requires targets { TargetsAre text.now items.now targets.now.labels targets.now.ends.items targets.now.commands }
-    requires files { FilesAre text.now items.now files.now }
-    ensures { result ≡ action_of text.now items.now (take k items.now) (drop (k + 1) items.now) item.function }
+    ensures { (all before after : List Item) →
+        TargetsAre text.now all targets.now.labels targets.now.ends.items targets.now.commands →
+        FilesAre text.now all files.now → OperandsAre text.now all before operands.now →
+        EndIs before after function end → result ≡ action_of text.now all before after function }
 {
-    match item.function {
+    match function {
         Function::Plain(simple) => Some(Action::Plain(simple)),
-        Function::Open => Some(Action::Block(targets.block_end(counts.blocks).unwrap_or(0))),
+        Function::Open => Some(Action::Block(end.unwrap_or(0))),
         Function::Branch(branch_use, from, to) => {
             if from == to {
                 Some(Action::Branch(branch_use, targets.commands))
@@ -89,15 +51,15 @@ fn action_of<'a>(
                 ))
             }
         }
-        Function::Text(text_use, _, _) => Some(Action::Text(text_use, counts.texts)),
+        Function::Text(text_use, _, _) => Some(Action::Text(text_use, operands.texts.len())),
         Function::File(file_use, from, to) => {
             Some(Action::File(
                 file_use,
                 files.number(file_use, bytes_between(text, from, to)),
             ))
         }
-        Function::Substitute(..) => Some(Action::Substitute(counts.substitutions)),
-        Function::Transliterate(_) => Some(Action::Transliterate(counts.tables)),
+        Function::Substitute(..) => Some(Action::Substitute(operands.substitutions.len())),
+        Function::Transliterate(_) => Some(Action::Transliterate(operands.tables.len())),
         Function::Close | Function::Label(..) | Function::Comment => None,
     }
 }
@@ -126,39 +88,6 @@ fn add_command(
     Ok(())
 }
 
-/// The commands that the items become, in order.
-pub fn commands_of<'a>(
-    alloc: Global,
-    text: &'a [u8],
-    items: &Items,
-    targets: &Targets<'a>,
-    files: &Files<'a>,
-) -> Result<Vec<Command>, AllocError>
-    requires targets { TargetsAre text.now items.now targets.now.labels targets.now.ends.items targets.now.commands }
-    requires files { FilesAre text.now items.now files.now }
-    ensures { IfOk result (λ v. v.items ≡ commands_of text.now items.now [] items.now) }
-{
-    let mut commands = Vec::with_capacity(alloc, targets.commands)?;
-    let mut counts = Counts {
-        blocks: 0,
-        texts: 0,
-        substitutions: 0,
-        tables: 0,
-    };
-    let mut k = 0;
-    'items: while k < items.len() {
-        let item = items.get(k);
-        add_command(
-            &mut commands,
-            item,
-            action_of(text, items, targets, files, k, counts, item),
-        )?;
-        counts = counts_with(counts, item.function);
-        k += 1;
-    }
-    Ok(commands)
-}
-
 /// A text without the backslashes that escape its bytes.
 fn unescaped(alloc: Global, bytes: &[u8]) -> Result<Vec<u8>, AllocError>
     ensures { IfOk result (λ v. v.items ≡ unescaped_from false bytes.now) }
@@ -177,21 +106,6 @@ fn unescaped(alloc: Global, bytes: &[u8]) -> Result<Vec<u8>, AllocError>
         k += 1;
     }
     Ok(plain)
-}
-
-/// The texts of the items, in order.
-pub fn texts_of(alloc: Global, text: &[u8], items: &Items) -> Result<Vec<Vec<u8>>, AllocError>
-    ensures { IfOk result (λ v. map (λ t. t.items) v.items ≡ texts_of text.now items.now) }
-{
-    let mut texts = Vec::new(alloc);
-    let mut k = 0;
-    'items: while k < items.len() {
-        if let Function::Text(_, from, to) = items.get(k).function {
-            texts.push(unescaped(alloc, bytes_between(text, from, to))?)?;
-        }
-        k += 1;
-    }
-    Ok(texts)
 }
 
 /// The number of the sink that the flag `w` names, if the flag is there.
@@ -226,40 +140,70 @@ fn substitution_of<'a>(
     })
 }
 
-/// The substitutions of the items, in order.
-pub fn substitutions_of<'a>(
+/// Adds the text, the substitution or the table of a function, if it has one.
+fn add_operand<'a>(
+    alloc: Global,
+    text: &'a [u8],
+    files: &Files<'a>,
+    operands: &mut Operands,
+    function: Function,
+) -> Result<(), AllocError>
+    ensures texts { OnOk result (map (λ t. t.items) operands.new.texts.items
+        ≡ map (λ t. t.items) operands.old.texts.items ++ cons_option (text_in text.now function) []) }
+    ensures substitutions { OnOk result ((all : List Item) → FilesAre text.now all files.now →
+        operands.new.substitutions.items
+        ≡ operands.old.substitutions.items ++ cons_option (substitution_in text.now all function) []) }
+    ensures tables { OnOk result (map (λ t. t.items) operands.new.tables.items
+        ≡ map (λ t. t.items) operands.old.tables.items ++ cons_option (table_in text.now function) []) }
+{
+    match function {
+        Function::Text(_, from, to) => {
+            operands
+                .texts
+                .push(unescaped(alloc, bytes_between(text, from, to))?)?;
+        }
+        Function::Substitute(strings, expression, flags) => {
+            operands.substitutions.push(substitution_of(
+                alloc, text, files, strings, expression, flags,
+            )?)?;
+        }
+        Function::Transliterate(strings) => {
+            operands.tables.push(table_between(alloc, text, strings)?)?;
+        }
+        _ => {}
+    }
+    Ok(())
+}
+
+/// The commands that the items become, in order. Their texts, substitutions and tables are added to `operands`, where none
+/// were.
+pub fn commands_of<'a>(
     alloc: Global,
     text: &'a [u8],
     items: &Items,
+    targets: &Targets<'a>,
     files: &Files<'a>,
-) -> Result<Vec<Substitution>, AllocError>
-    requires { FilesAre text.now items.now files.now }
-    ensures { IfOk result (λ v. v.items ≡ substitutions_of text.now items.now items.now) }
+    operands: &mut Operands,
+) -> Result<Vec<Command>, AllocError>
+    requires targets { TargetsAre text.now items.now targets.now.labels targets.now.ends.items targets.now.commands }
+    requires files { FilesAre text.now items.now files.now }
+    requires none { OperandsAre text.now items.now [] operands.old }
+    ensures commands { IfOk result (λ v. v.items ≡ commands_of text.now items.now [] items.now) }
+    ensures operands { OnOk result (OperandsAre text.now items.now items.now operands.new) }
 {
-    let mut substitutions = Vec::new(alloc);
+    let mut commands = Vec::with_capacity(alloc, targets.commands)?;
+    let mut blocks = 0;
     let mut k = 0;
     'items: while k < items.len() {
-        if let Function::Substitute(strings, expression, flags) = items.get(k).function {
-            substitutions.push(substitution_of(alloc, text, files, strings, expression, flags)?)?;
-        }
+        let item = items.get(k);
+        let end = targets.block_end(blocks);
+        let action = action_of(text, targets, files, operands, end, item.function);
+        add_command(&mut commands, item, action)?;
+        add_operand(alloc, text, files, operands, item.function)?;
+        blocks = opened(blocks, item.function);
         k += 1;
     }
-    Ok(substitutions)
-}
-
-/// The tables of the items, in order.
-pub fn tables_of(alloc: Global, text: &[u8], items: &Items) -> Result<Vec<Vec<u8>>, AllocError>
-    ensures { IfOk result (λ v. map (λ t. t.items) v.items ≡ tables_of text.now items.now) }
-{
-    let mut tables = Vec::new(alloc);
-    let mut k = 0;
-    'items: while k < items.len() {
-        if let Function::Transliterate(strings) = items.get(k).function {
-            tables.push(table_between(alloc, text, strings)?)?;
-        }
-        k += 1;
-    }
-    Ok(tables)
+    Ok(commands)
 }
 
 /// Whether the first line of a script is exactly `#n`.

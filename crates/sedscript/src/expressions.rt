@@ -7,32 +7,24 @@ ghost use Rattle.sedre.specs.Tree.{expression_tree};
 ghost use Rattle.sedre.specs.Grammar.{ReadsAs, ExprFaulty};
 ghost use Rattle.sedscript.specs.Bytes.{bytes_between};
 ghost use Rattle.sedscript.specs.Items.{plainly, expression};
-ghost use Rattle.sedscript.specs.Answers.{as_groups, ComesFrom, is_no_memory, fault_of};
+ghost use Rattle.sedscript.specs.Answers.{as_groups, ComesFrom, fault_of};
 
 use crate::items::Source;
 use crate::types::{ExprFault, NO_MEMORY, Reason, ScriptFault};
 use sedre::{Expr, read_folded};
 use std::alloc::{AllocError, Global};
 
-/// Whether the reason is that a request for memory was refused.
-fn is_no_memory(reason: sedre::Reason) -> bool
-    ensures { result ≡ is_no_memory reason }
-{
-    matches!(reason, sedre::Reason::NoMemory)
-}
-
 /// The fault of the script, where the regular expression that begins at `from` has this fault.
 fn fault_of(from: usize, fault: ExprFault) -> ScriptFault
     requires { from + fault.place ≤ usize.MAX }
     ensures { result ≡ fault_of from fault }
 {
-    if is_no_memory(fault.reason) {
-        NO_MEMORY
-    } else {
-        ScriptFault {
+    match fault.reason {
+        sedre::Reason::NoMemory => NO_MEMORY,
+        _ => ScriptFault {
             place: from + fault.place,
             reason: Reason::Expression(fault),
-        }
+        },
     }
 }
 

@@ -1,8 +1,8 @@
 //! The files that a script names: tables that are made once, so that no name is compared with all earlier ones.
 
-ghost use Rattle.std.specs.Prelude.{◌≡◌, ◌≤◌, ◌<◌, ◌+◌, ℕ, List, Some, map, length, unwrap_or, is_some, IfOk, OnOk};
-ghost use Rattle.sedscript.specs.Targets.{is_standard_output, is_file, name_in, file_at, number_in};
-ghost use Rattle.sedscript.specs.Tables.{labelled, with_name, first_number, NumbersAre, AreNumbered, FilesAre};
+ghost use Rattle.std.specs.Prelude.{◌≡◌, ◌≤◌, ◌<◌, ◌+◌, ℕ, List, Some, length, unwrap_or, is_some, IfOk, OnOk};
+ghost use Rattle.sedscript.specs.Targets.{is_standard_output, is_file, name_in, file_at, files_in, number_in};
+ghost use Rattle.sedscript.specs.Tables.{labelled, with_name, first_number, AreNumbered, FilesAre};
 ghost use Rattle.sedscript.specs.declared.items.Item.{Item};
 
 use crate::bytes::bytes_between;
@@ -80,27 +80,24 @@ fn is_numbered<'a>(numbers: &BTreeMap<&'a [u8], usize>, name: &'a [u8]) -> bool
     numbers.contains_key(&name)
 }
 
-/// Adds a name with the next number, unless it has one. The numbers begin with `first`.
+/// Adds a name with the next number, unless it has one.
 fn add_name<'a>(
     alloc: Global,
-    names: &mut Vec<Vec<u8>>,
-    numbers: &mut BTreeMap<&'a [u8], usize>,
-    first: usize,
+    files: &mut NumberedFiles<'a>,
+    file_use: FileUse,
     name: &'a [u8],
 ) -> Result<(), AllocError>
-    requires { first + length names.old.items < usize.MAX }
-    ensures few { OnOk result (length names.new.items ≤ length names.old.items + 1) }
-    ensures added { OnOk result ((ns : List (List ℕ)) → map (λ n. n.items) names.old.items ≡ ns →
-        NumbersAre first ns numbers.old →
-        (map (λ n. n.items) names.new.items ≡ with_name ns (Some name.now))
-        × NumbersAre first (with_name ns (Some name.now)) numbers.new) }
+    requires { first_number file_use + length files.old.names.items < usize.MAX }
+    ensures few { OnOk result (length files.new.names.items ≤ length files.old.names.items + 1) }
+    ensures added { OnOk result ((ns : List (List ℕ)) → AreNumbered file_use ns files.old →
+        AreNumbered file_use (with_name ns (Some name.now)) files.new) }
 {
-    if is_numbered(numbers, name) {
+    if is_numbered(&files.numbers, name) {
         return Ok(());
     }
-    let number = first + names.len();
-    names.push(name.to_vec(alloc)?)?;
-    match numbers.insert(name, number) {
+    let number = first_number(file_use) + files.names.len();
+    files.names.push(name.to_vec(alloc)?)?;
+    match files.numbers.insert(name, number) {
         Ok(_) => Ok(()),
         Err(_) => Err(AllocError),
     }
@@ -110,17 +107,14 @@ fn add_name<'a>(
 fn add_file<'a>(
     alloc: Global,
     text: &'a [u8],
+    files: &mut NumberedFiles<'a>,
     file_use: FileUse,
-    names: &mut Vec<Vec<u8>>,
-    numbers: &mut BTreeMap<&'a [u8], usize>,
     found: Option<(usize, usize)>,
 ) -> Result<(), AllocError>
-    requires { first_number file_use + length names.old.items < usize.MAX }
-    ensures few { OnOk result (length names.new.items ≤ length names.old.items + 1) }
-    ensures added { OnOk result ((ns : List (List ℕ)) → map (λ n. n.items) names.old.items ≡ ns →
-        NumbersAre (first_number file_use) ns numbers.old →
-        (map (λ n. n.items) names.new.items ≡ with_name ns (file_at file_use text.now found))
-        × NumbersAre (first_number file_use) (with_name ns (file_at file_use text.now found)) numbers.new) }
+    requires { first_number file_use + length files.old.names.items < usize.MAX }
+    ensures few { OnOk result (length files.new.names.items ≤ length files.old.names.items + 1) }
+    ensures added { OnOk result ((ns : List (List ℕ)) → AreNumbered file_use ns files.old →
+        AreNumbered file_use (with_name ns (file_at file_use text.now found)) files.new) }
 {
     let Some((from, to)) = found else {
         return Ok(());
@@ -129,36 +123,29 @@ fn add_file<'a>(
     if !is_file(file_use, name) {
         return Ok(());
     }
-    add_name(alloc, names, numbers, first_number(file_use), name)
+    add_name(alloc, files, file_use, name)
 }
 
 /// The files that the items read, or write.
-fn numbered<'a>(
+pub fn numbered<'a>(
     alloc: Global,
     text: &'a [u8],
     file_use: FileUse,
     items: &Items,
 ) -> Result<NumberedFiles<'a>, AllocError>
-    ensures { IfOk result (λ files. AreNumbered file_use text.now items.now files) }
+    ensures { IfOk result (AreNumbered file_use (files_in file_use text.now items.now)) }
 {
-    let mut names = Vec::new(alloc);
-    let mut numbers = BTreeMap::new(alloc);
+    let mut files = NumberedFiles {
+        names: Vec::new(alloc),
+        numbers: BTreeMap::new(alloc),
+    };
     let mut k = 0;
     'items: while k < items.len() {
         let found = name_in(file_use, items.get(k).function);
-        add_file(alloc, text, file_use, &mut names, &mut numbers, found)?;
+        add_file(alloc, text, &mut files, file_use, found)?;
         k += 1;
     }
-    Ok(NumberedFiles { names, numbers })
-}
-
-/// The files that the items name.
-pub fn files_of<'a>(alloc: Global, text: &'a [u8], items: &Items) -> Result<Files<'a>, AllocError>
-    ensures { IfOk result (λ files. FilesAre text.now items.now files) }
-{
-    let read = numbered(alloc, text, FileUse::Read, items)?;
-    let written = numbered(alloc, text, FileUse::Write, items)?;
-    Ok(Files { read, written })
+    Ok(files)
 }
 
 impl<'a> NumberedFiles<'a> {

@@ -3,13 +3,13 @@
 ghost use Rattle.std.specs.Prelude.{◌≡◌, ◌≤◌, ◌<◌, ◌+◌, length, IfOk, IfSome};
 ghost use Rattle.std.specs.Option.{option_len};
 ghost use Rattle.sedscript.specs.Bytes.{past};
-ghost use Rattle.sedscript.specs.Functions.{verb_of, may_end, ended, label_of, branch_of, text_of, text_from, name_from, file_of, allowed};
+ghost use Rattle.sedscript.specs.Functions.{verb_of, may_end, ended, label_of, text_of, text_from, name_from, file_of, allowed};
 
 use crate::bytes::{Sort, byte_at, past};
 use crate::items::{Addresses, Function};
 use crate::letters::{Verb, most_addresses, verb_of};
 use crate::texts::text_from;
-use crate::types::{Address, BranchUse, FileUse, Reason, ScriptFault, TextUse};
+use crate::types::{Address, FileUse, Reason, ScriptFault, TextUse};
 
 /// Whether a command may end before this byte; None is the end of the text.
 pub fn may_end(next: Option<u8>) -> bool
@@ -53,20 +53,6 @@ pub fn label_of(text: &[u8], place: usize, from: usize) -> Result<(Function, usi
     } else {
         ended(text, Function::Label(from, end), end)
     }
-}
-
-/// The branch whose label begins at `from`, and its end.
-pub fn branch_of(
-    text: &[u8],
-    branch_use: BranchUse,
-    from: usize,
-) -> Result<(Function, usize), ScriptFault>
-    requires { from ≤ length text.now }
-    ensures is { result ≡ branch_of text.now branch_use from }
-    ensures within { IfOk result (λ found. (from ≤ found.1) × (found.1 ≤ length text.now)) }
-{
-    let end = past(Sort::Name, text, from);
-    ended(text, Function::Branch(branch_use, from, end), end)
 }
 
 /// The function whose letter stands at `at`, with the text that follows, and the place after it.

@@ -1,31 +1,32 @@
 //! Reads the items of a script: functions with their addresses.
 
-ghost use Rattle.std.specs.Prelude.{◌≡◌, ◌≤◌, ◌<◌, ◌+◌, Some, length, slice_get, IfOk};
-ghost use Rattle.sedscript.specs.Items.{substitute_at, substitute_with, function_of, function_with, function_at, item_at};
-ghost use Rattle.sedscript.specs.Answers.{as_function, as_headed, as_here, ComesFrom, AreStrings, IsAfter, IsHere};
-ghost use Rattle.sedscript.specs.Cases.{function_after, item_of};
+ghost use Rattle.std.specs.Prelude.{◌≡◌, ◌≤◌, ◌<◌, ◌+◌, length, IfOk};
+ghost use Rattle.sedscript.specs.Items.{substitute_at, function_of, function_with, function_at, item_at};
+ghost use Rattle.sedscript.specs.Answers.{as_function, as_here, ComesFrom, IsAfter, IsHere};
+ghost use Rattle.sedscript.specs.Cases.{item_of};
 
 use crate::addresses::{addresses_at, with_bang};
-use crate::between::{folds, substitute_strings, substituted, transliterate_at};
+use crate::between::{folds, strings_at, substituted, transliterate_at};
 use crate::bytes::{Sort, byte_at, past};
 use crate::expressions::expression_at;
-use crate::functions::{allowed, branch_of, ended, file_of, label_of, text_of};
-use crate::items::{Addresses, Function, Item, ItemOrEnd, Source, Strings};
+use crate::functions::{allowed, ended, file_of, label_of, text_of};
+use crate::items::{Addresses, Function, Item, ItemOrEnd, Source};
 use crate::letters::{Arguments, Verb};
 use crate::types::{Reason, ScriptFault};
 use sedre::Expr;
 
-/// The command `s` with these strings, and its end.
-fn substitute_with(
+/// The command `s` whose letter stands at `at`, and its end.
+fn substitute_at(
     source: &Source,
     exprs: &mut Vec<Expr>,
-    strings: Strings,
+    at: usize,
 ) -> Result<(Function, usize), ScriptFault>
-    requires { AreStrings 0 (length source.now.text.now) strings }
+    requires { at < length source.now.text.now }
     ensures comes { ComesFrom source.now exprs.old.items exprs.new.items as_function result
-        (substitute_with source.now.text.now (length exprs.old.items) strings) }
-    ensures within { IfOk result (λ found. (strings.to < found.1) × (found.1 ≤ length source.now.text.now)) }
+        (substitute_at source.now.text.now (length exprs.old.items) at) }
+    ensures within { IfOk result (λ found. (at < found.1) × (found.1 ≤ length source.now.text.now)) }
 {
+    let strings = strings_at(source.text, true, at + 1)?;
     if strings.middle == strings.from {
         return substituted(source.text, strings, None, None);
     }
@@ -39,21 +40,6 @@ fn substitute_with(
         strings.middle,
     )?;
     substituted(source.text, strings, Some(number), Some(groups))
-}
-
-/// The command `s` whose letter stands at `at`, and its end.
-fn substitute_at(
-    source: &Source,
-    exprs: &mut Vec<Expr>,
-    at: usize,
-) -> Result<(Function, usize), ScriptFault>
-    requires { at < length source.now.text.now }
-    ensures comes { ComesFrom source.now exprs.old.items exprs.new.items as_function result
-        (substitute_at source.now.text.now (length exprs.old.items) at) }
-    ensures within { IfOk result (λ found. (at < found.1) × (found.1 ≤ length source.now.text.now)) }
-{
-    let strings = substitute_strings(source.text, at + 1)?;
-    substitute_with(source, exprs, strings)
 }
 
 /// The function whose letter stands at `at`, and the place after it. The letter is not `s`, and has this shape.
@@ -72,7 +58,9 @@ fn function_of(
         Arguments::Remark => Ok((Function::Comment, past(Sort::Line, text, at + 1))),
         Arguments::NamesLabel => label_of(text, at, past(Sort::Blank, text, at + 1)),
         Arguments::GoesTo(branch_use) => {
-            branch_of(text, branch_use, past(Sort::Blank, text, at + 1))
+            let from = past(Sort::Blank, text, at + 1);
+            let end = past(Sort::Name, text, from);
+            ended(text, Function::Branch(branch_use, from, end), end)
         }
         Arguments::TakesText(text_use) => text_of(text, text_use, at),
         Arguments::NamesFile(file_use) => file_of(text, file_use, at),
@@ -113,24 +101,6 @@ fn item_of(addresses: Addresses, place: usize, function: Function, next: usize) 
     )
 }
 
-/// The item of the function whose letter stands at `at`, if that may have these addresses.
-fn item_with(
-    source: &Source,
-    exprs: &mut Vec<Expr>,
-    addresses: Addresses,
-    letter: u8,
-    at: usize,
-) -> Result<ItemOrEnd, ScriptFault>
-    requires { slice_get source.now.text.now at ≡ Some letter }
-    ensures comes { ComesFrom source.now exprs.old.items exprs.new.items as_here result
-        (function_at source.now.text.now (length exprs.old.items) addresses at) }
-    ensures within { IfOk result (IsAfter at (length source.now.text.now)) }
-{
-    let verb = allowed(addresses, letter, at)?;
-    let (function, next) = function_with(source, exprs, verb, at)?;
-    Ok(item_of(addresses, at, function, next))
-}
-
 /// The item of the function that is expected at `at`, after these addresses.
 fn function_at(
     source: &Source,
@@ -143,29 +113,15 @@ fn function_at(
         (function_at source.now.text.now (length exprs.old.items) addresses at) }
     ensures within { IfOk result (IsAfter at (length source.now.text.now)) }
 {
-    match byte_at(source.text, at) {
-        None => Err(ScriptFault {
+    let Some(letter) = byte_at(source.text, at) else {
+        return Err(ScriptFault {
             place: at,
             reason: Reason::UnknownCommand,
-        }),
-        Some(letter) => item_with(source, exprs, addresses, letter, at),
-    }
-}
-
-/// The item of the function that is expected after these addresses, which end at `at`; a `!` may stand between.
-fn function_after(
-    source: &Source,
-    exprs: &mut Vec<Expr>,
-    addresses: Addresses,
-    at: usize,
-) -> Result<ItemOrEnd, ScriptFault>
-    requires { at ≤ length source.now.text.now }
-    ensures comes { ComesFrom source.now exprs.old.items exprs.new.items as_here result
-        (function_after source.now.text.now (as_headed (addresses, at) (length exprs.old.items))) }
-    ensures within { IfOk result (IsAfter at (length source.now.text.now)) }
-{
-    let (addresses, next) = with_bang(source.text, addresses, at);
-    function_at(source, exprs, addresses, next)
+        });
+    };
+    let verb = allowed(addresses, letter, at)?;
+    let (function, next) = function_with(source, exprs, verb, at)?;
+    Ok(item_of(addresses, at, function, next))
 }
 
 /// The next item from a place on, or the end.
@@ -179,8 +135,9 @@ pub fn item_at(source: &Source, exprs: &mut Vec<Expr>, at: usize) -> Result<Item
     match byte_at(source.text, start) {
         None => Ok(ItemOrEnd::Ends),
         Some(_) => {
-            let (addresses, next) = addresses_at(source, exprs, start)?;
-            function_after(source, exprs, addresses, next)
+            let (plain, end) = addresses_at(source, exprs, start)?;
+            let (addresses, next) = with_bang(source.text, plain, end);
+            function_at(source, exprs, addresses, next)
         }
     }
 }

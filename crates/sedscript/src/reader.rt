@@ -4,22 +4,21 @@ ghost use Rattle.std.specs.Prelude.{◌≡◌, ◌≤◌, ◌⊎◌, [], IfOk, I
 ghost use Rattle.sedscript.specs.Script.{CutScript, IsEnd, Means};
 ghost use Rattle.sedscript.specs.FirstFault.{Faulty};
 ghost use Rattle.sedscript.specs.Answers.{IsJudged};
-ghost use Rattle.sedscript.specs.Parts.{IsNamed};
-ghost use Rattle.sedscript.specs.Tables.{TargetsAre, FilesAre};
+ghost use Rattle.sedscript.specs.Tables.{TargetsAre};
 ghost use Rattle.sedscript.specs.declared.types.ScriptFault.{ScriptFault};
 
-use crate::commands::{commands_of, is_quiet, substitutions_of, tables_of, texts_of};
-use crate::files::{Files, files_of};
+use crate::commands::{commands_of, is_quiet};
+use crate::files::{Files, numbered};
 use crate::item_reader::item_at;
 use crate::items::{ItemOrEnd, Source};
 use crate::kept::Items;
-use crate::script::{Named, Script};
+use crate::script::{Named, Operands, Script};
 use crate::target_faults::target_fault;
 use crate::targets::{Targets, targets_of};
-use crate::types::{Kind, NO_MEMORY, ScriptFault};
+use crate::types::{FileUse, Kind, NO_MEMORY, ScriptFault};
 use sedre::Expr;
 use sedre::laws::{fault_within, reads_as_one};
-use std::alloc::{AllocError, Global};
+use std::alloc::Global;
 
 /// Answers where the last item of a text ends, and cuts the text into its items and regular expressions.
 fn cut_text(source: &Source, items: &mut Items, exprs: &mut Vec<Expr>) -> Result<usize, ScriptFault>
@@ -65,31 +64,6 @@ fn judge<'a>(
     }
 }
 
-/// What the commands of the items name by numbers.
-fn named_of<'a>(
-    alloc: Global,
-    text: &'a [u8],
-    items: &Items,
-    exprs: Vec<Expr>,
-    files: Files<'a>,
-) -> Result<Named, AllocError>
-    requires { FilesAre text.now items.now files }
-    ensures { IfOk result (IsNamed text.now items.now exprs.items) }
-{
-    let texts = texts_of(alloc, text, items)?;
-    let substitutions = substitutions_of(alloc, text, items, &files)?;
-    let tables = tables_of(alloc, text, items)?;
-    let Files { read, written } = files;
-    Ok(Named {
-        exprs,
-        texts,
-        substitutions,
-        tables,
-        rfiles: read.names,
-        wfiles: written.names,
-    })
-}
-
 /// Reads a text as a script, or answers its first fault.
 /// `max_nodes` is the most nodes that a regular expression may have, 1 to 65,536.
 /// The work and the memory grow with the text, and for its regular expressions with `max_nodes`.
@@ -110,21 +84,6 @@ pub fn read(alloc: Global, text: &[u8], kind: Kind, max_nodes: usize) -> Result<
     ensures within { IfErr result (λ f. f.place ≤ length text.now) }
 {
     fault_within();
-    read_script(alloc, text, kind, max_nodes)
-}
-
-/// Reads a text as a script, or answers its first fault, wherever that is told.
-fn read_script(
-    alloc: Global,
-    text: &[u8],
-    kind: Kind,
-    max_nodes: usize,
-) -> Result<Script, ScriptFault>
-    requires nodes { (1 ≤ max_nodes) × (max_nodes ≤ 65536) }
-    ensures means { IfOk result (λ s. Means text.now kind max_nodes s) }
-    ensures no_fault { OnOk result ((f : ScriptFault) → Faulty text.now kind max_nodes f → ⊥) }
-    ensures fault { IfErr result (λ f. Faulty text.now kind max_nodes f ⊎ (f ≡ NO_MEMORY)) }
-{
     reads_as_one();
     let mut items = Items::new(alloc);
     let mut exprs = Vec::new(alloc);
@@ -135,8 +94,21 @@ fn read_script(
         max_nodes,
     };
     let targets = judge(&source, &mut items, &mut exprs)?;
-    let files = files_of(alloc, text, &items)?;
-    let commands = commands_of(alloc, text, &items, &targets, &files)?;
-    let named = named_of(alloc, text, &items, exprs, files)?;
+    let read = numbered(alloc, text, FileUse::Read, &items)?;
+    let written = numbered(alloc, text, FileUse::Write, &items)?;
+    let files = Files { read, written };
+    let mut operands = Operands {
+        texts: Vec::new(alloc),
+        substitutions: Vec::new(alloc),
+        tables: Vec::new(alloc),
+    };
+    let commands = commands_of(alloc, text, &items, &targets, &files, &mut operands)?;
+    let Files { read, written } = files;
+    let named = Named {
+        exprs,
+        operands,
+        rfiles: read.names,
+        wfiles: written.names,
+    };
     Ok(Script::of(commands, named, is_quiet(text), max_nodes))
 }

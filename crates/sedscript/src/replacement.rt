@@ -1,13 +1,13 @@
 //! Replacements of `s`.
 
-ghost use Rattle.std.specs.Prelude.{◌≡◌, ◌≤◌, ◌+◌, ◌++◌, ◌∷◌, [], false, length, IfOk, OnOk};
+ghost use Rattle.std.specs.Prelude.{◌≡◌, ◌≤◌, ◌<◌, ◌+◌, ◌++◌, ◌∷◌, [], false, length, IfOk, OnOk};
 ghost use Rattle.sedscript.specs.Bytes.{bytes_between};
 ghost use Rattle.sedscript.specs.Strings.{escaped_piece, piece_of, pieces_of, exceeds, piece_fault, replacement_fault};
 ghost use Rattle.sedscript.specs.Pieces.{pieces_in, GroupsWithin};
 ghost use Rattle.sedscript.specs.Answers.{pieces_with};
 
-use crate::bytes::bytes_between;
-use crate::strings::escapes;
+use crate::items::Strings;
+use crate::strings::{escapes, second_of};
 use crate::substitution::{Piece, ReplacementPart};
 use crate::types::{Reason, ScriptFault};
 use std::alloc::{AllocError, Global};
@@ -75,25 +75,21 @@ fn escape_fault(delimiter: u8, limit: Option<usize>, place: usize, b: u8) -> Opt
     }
 }
 
-/// The first fault of the replacement between two places, if it has one. Groups have numbers up to `limit`, where there
-/// is one.
-pub fn replacement_fault(
-    text: &[u8],
-    delimiter: u8,
-    limit: Option<usize>,
-    from: usize,
-    to: usize,
-) -> Option<ScriptFault>
-    requires { (from ≤ to) × (to ≤ length text.now) }
-    ensures { result ≡ replacement_fault delimiter limit false from (bytes_between text.now from to) }
+/// The first fault of the replacement, the second of the strings, if it has one. Groups have numbers up to `limit`, where
+/// there is one.
+pub fn replacement_fault(text: &[u8], strings: Strings, limit: Option<usize>) -> Option<ScriptFault>
+    requires { (strings.middle < strings.to) × (strings.to ≤ length text.now) }
+    ensures { result ≡ replacement_fault strings.delimiter limit false (strings.middle + 1)
+        (bytes_between text.now (strings.middle + 1) strings.to) }
 {
-    let bytes = bytes_between(text, from, to);
+    let from = strings.middle + 1;
+    let bytes = second_of(text, strings);
     let mut escaped = false;
     let mut k = 0;
     'bytes: while k < bytes.len() {
         let b = bytes[k];
         if escaped {
-            if let Some(fault) = escape_fault(delimiter, limit, from + k - 1, b) {
+            if let Some(fault) = escape_fault(strings.delimiter, limit, from + k - 1, b) {
                 return Some(fault);
             }
         }

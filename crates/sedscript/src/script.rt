@@ -7,17 +7,24 @@ use crate::types::Command;
 use sedre::Expr;
 use std::marker::Model;
 
-/// What the commands of a script name by numbers.
+/// The texts, substitutions and tables that the commands of a script name by numbers.
 #[derive(Drop)]
-pub(crate) struct Named {
-    /// The regular expressions.
-    pub exprs: Vec<Expr>,
+pub(crate) struct Operands {
     /// The texts of `a`, `i` and `c`.
     pub texts: Vec<Vec<u8>>,
     /// The substitutions of `s`.
     pub substitutions: Vec<Substitution>,
     /// The tables of `y`.
     pub tables: Vec<Vec<u8>>,
+}
+
+/// What the commands of a script name by numbers.
+#[derive(Drop)]
+pub(crate) struct Named {
+    /// The regular expressions.
+    pub exprs: Vec<Expr>,
+    /// The texts, substitutions and tables.
+    pub operands: Operands,
     /// The names of the files that `r` reads.
     pub rfiles: Vec<Vec<u8>>,
     /// The names of the files that `w` and the flag `w` write.
@@ -99,7 +106,7 @@ impl Script {
     pub fn substitutions(&self) -> usize
         ensures { result ≡ length self.now.substitutions }
     {
-        self.named.substitutions.len()
+        self.named.operands.substitutions.len()
     }
 
     /// The text of a number, counted from 0, without its last newline.
@@ -107,7 +114,7 @@ impl Script {
         requires { k < length self.now.texts }
         ensures { slice_get self.now.texts k ≡ Some result.now }
     {
-        &self.named.texts[k]
+        &self.named.operands.texts[k]
     }
 
     /// The substitution of a number, counted from 0.
@@ -116,7 +123,7 @@ impl Script {
         ensures is { slice_get self.now.substitutions k ≡ Some result.now }
         ensures within { SubstitutionWithin (sizes_of self.now) result.now }
     {
-        &self.named.substitutions[k]
+        &self.named.operands.substitutions[k]
     }
 
     /// The table of a number, counted from 0: for each byte the one that stands for it.
@@ -125,7 +132,7 @@ impl Script {
         ensures is { slice_get self.now.tables k ≡ Some result.now }
         ensures whole { length result.now ≡ 256 }
     {
-        &self.named.tables[k]
+        &self.named.operands.tables[k]
     }
 
     /// The names of the files that `r` reads: each once, in the order in which they first stand in the text.

@@ -1,13 +1,14 @@
 //! Faults of labels and blocks, which are judged once the whole text is cut.
 
-ghost use Rattle.std.specs.Prelude.{◌≡◌, ◌<◌, ◌≤◌, ◌+◌, Some, drop, take, slice_get};
+ghost use Rattle.std.specs.Prelude.{◌≡◌, ◌<◌, ◌≤◌, ◌+◌, List, Some, drop, take, slice_get};
 ghost use Rattle.sedscript.specs.Targets.{fault_if, target_fault_at, target_fault, depth_after};
-ghost use Rattle.sedscript.specs.Tables.{TargetsAre, blocks_in};
+ghost use Rattle.sedscript.specs.Tables.{TargetsAre, EndIs};
+ghost use Rattle.sedscript.specs.declared.items.Item.{Item};
 
 use crate::bytes::bytes_between;
 use crate::items::{Function, Item};
 use crate::kept::Items;
-use crate::targets::{Targets, is_close, is_open, opened};
+use crate::targets::{Targets, opened};
 use crate::types::{Reason, ScriptFault};
 
 /// The fault at a place, if something is wrong.
@@ -17,29 +18,23 @@ pub fn fault_if(wrong: bool, reason: Reason, place: usize) -> Option<ScriptFault
     wrong.then_some(ScriptFault { place, reason })
 }
 
-/// What is wrong with the item at index `k`, if anything is. The items before it open `before` blocks, and leave
-/// `depth` of them open.
+/// What is wrong with the item at index `k`, if anything is. The block that it opens ends at `end`, if it opens one, and
+/// `depth` blocks are open before it.
 fn target_fault_at<'a>(
     text: &'a [u8],
-    items: &Items,
     targets: &Targets<'a>,
-    k: usize,
-    before: usize,
+    end: Option<usize>,
     depth: usize,
+    k: usize,
     item: Item,
 ) -> Option<ScriptFault>
-    requires item { slice_get items.now k ≡ Some item }
-    requires opened { before ≡ blocks_in (take k items.now) }
-    requires targets { TargetsAre text.now items.now targets.now.labels targets.now.ends.items targets.now.commands }
-    ensures { result ≡
-        target_fault_at text.now items.now (take k items.now) depth (drop (k + 1) items.now) item.place item.function }
+    ensures { (items : List Item) →
+        TargetsAre text.now items targets.now.labels targets.now.ends.items targets.now.commands →
+        slice_get items k ≡ Some item → EndIs (take k items) (drop (k + 1) items) item.function end →
+        result ≡ target_fault_at text.now items (take k items) depth (drop (k + 1) items) item.place item.function }
 {
     match item.function {
-        Function::Open => fault_if(
-            targets.block_end(before).is_none(),
-            Reason::OpenBlock,
-            item.place,
-        ),
+        Function::Open => fault_if(end.is_none(), Reason::OpenBlock, item.place),
         Function::Close => fault_if(depth == 0, Reason::StrayClose, item.place),
         Function::Label(from, to) => {
             fault_if(
@@ -65,12 +60,10 @@ fn depth_after(depth: usize, function: Function) -> usize
     ensures is { result ≡ depth_after depth function }
     ensures few { result ≤ depth + 1 }
 {
-    if is_open(function) {
-        depth + 1
-    } else if is_close(function) {
-        depth.saturating_sub(1)
-    } else {
-        depth
+    match function {
+        Function::Open => depth + 1,
+        Function::Close => depth.saturating_sub(1),
+        _ => depth,
     }
 }
 
@@ -84,7 +77,7 @@ pub fn target_fault<'a>(text: &'a [u8], items: &Items, targets: &Targets<'a>) ->
     let mut k = 0;
     'items: while k < items.len() {
         let item = items.get(k);
-        let fault = target_fault_at(text, items, targets, k, blocks, depth, item);
+        let fault = target_fault_at(text, targets, targets.block_end(blocks), depth, k, item);
         if fault.is_some() {
             return fault;
         }

@@ -128,19 +128,17 @@ fn count(bytes: &[u8], delimiter: u8, from: usize) -> usize
     count
 }
 
-/// The first fault of the strings of a `y`, if they have one. The first string ends at `middle`, where a delimiter
-/// stands, and the second begins after that.
-pub fn strings_fault(
-    text: &[u8],
-    delimiter: u8,
-    letter: usize,
-    from: usize,
-    middle: usize,
-    to: usize,
-) -> Option<ScriptFault>
-    requires { (from ≤ middle) × (middle < to) × (to ≤ length text.now) }
-    ensures { result ≡ strings_fault text.now delimiter letter from middle to }
+/// The first fault of the strings of a `y` whose letter stands at `letter`, if they have one.
+pub fn strings_fault(text: &[u8], strings: Strings, letter: usize) -> Option<ScriptFault>
+    requires { (strings.from ≤ strings.middle) × (strings.middle < strings.to) × (strings.to ≤ length text.now) }
+    ensures { result ≡ strings_fault text.now strings.delimiter letter strings.from strings.middle strings.to }
 {
+    let Strings {
+        delimiter,
+        from,
+        middle,
+        to,
+    } = strings;
     let string1 = bytes_between(text, from, middle);
     let string2 = bytes_between(text, middle + 1, to);
     if let Some(fault) = string_fault(string1, delimiter, from) {

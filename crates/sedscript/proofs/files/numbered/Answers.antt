@@ -1,6 +1,6 @@
 use Rattle.std.proofs.Common.{◌≡◌, ◌+◌, ◌∙◌, arith, subst, sym, ap, take, ℕ, List, Option}
 use Rattle.sedscript.specs.Targets.{files_in, file_at}
-use Rattle.sedscript.specs.Tables.{first_number, with_name, NumbersAre}
+use Rattle.sedscript.specs.Tables.{with_name, AreNumbered}
 use Rattle.sedscript.proofs.FileTables.{files_step}
 use Rattle.sedscript.proofs.files.numbered.Goals as goal
 
@@ -10,10 +10,8 @@ items-preserved c =
     let step : files_in c.args.file_use c.args.text.now (take (c.items.k + 1) c.args.items.now) ≡ with_name before (file_at c.args.file_use c.args.text.now c.name_in-found.result) =
     files_step c.args.file_use c.args.text.now c.args.items.now c.items.k c.get.result c.get.ensures.is
     ∙ ap (λ (o : Option (ℕ × ℕ)). with_name before (file_at c.args.file_use c.args.text.now o)) (sym c.name_in-found.ensures) in
-    let both = c.in_ok-add_file.ensures.added before c.items.invariant.names c.items.invariant.numbers in
     record {
       within = omega arith;
       few = omega (arith, c.in_ok-add_file.ensures.few);
-      names = both.0 ∙ sym step;
-      numbers = subst (λ (ns : List (List ℕ)). NumbersAre (first_number c.args.file_use) ns c.add_file.new.numbers) (sym step) both.1;
+      numbered = subst (λ (ns : List (List ℕ)). AreNumbered c.args.file_use ns c.add_file.new.files) (sym step) (c.in_ok-add_file.ensures.added before c.items.invariant.numbered);
     }

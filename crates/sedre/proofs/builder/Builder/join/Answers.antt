@@ -6,4 +6,4 @@ pub concatenate-requires : goal.concatenate-requires
 concatenate-requires c = let h = represents_pieces c.requires.0 c.args.self.now c.requires.1 c.requires.2 in omega (arith, h)
 
 pub returns : goal.returns
-returns c = λ limit s r none. (represents_join limit c.args.self.now s _ _ r none c.in_ok-concatenate.ensures.trees c.in_ok-alternate.ensures.trees, r.opened)
+returns c = λ limit s r none. (represents_join limit c.args.self.now s _ _ r none c.in_ok-concatenate.ensures.trees c.in_ok-join_all.ensures.trees, r.opened)

@@ -15,5 +15,5 @@ lent_whole ts k v bytes inside is lent each =
 
 pub returns-clause-whole : goal.returns-clause-whole
 returns-clause-whole c =
-    lent_whole c.self.inside.named.tables.items c.args.k c.index.result.now c.deref.result.now
+    lent_whole c.self.inside.named.operands.tables.items c.args.k c.index.result.now c.deref.result.now
     (subst (λ (p : Program). c.args.k < length p.tables) (sym c.self.view_is) c.requires) c.index.ensures c.deref.ensures.value c.self.invariant.tables

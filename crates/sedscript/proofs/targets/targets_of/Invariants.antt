@@ -1,13 +1,13 @@
 use Rattle.std.proofs.Common.{◌≡◌, ◌≤◌, ◌-◌, length, take}
 use Rattle.sedscript.specs.Targets.{commands_in}
 use Rattle.sedscript.specs.Tables.{LabelsAre}
-use Rattle.sedscript.proofs.targets.labels_of.Given as goal
+use Rattle.sedscript.proofs.targets.targets_of.Given as goal
 
 abbrev pub invariant-items : goal.invariant-items
 invariant-items l = record {
   within : l.k ≤ length l.items;
-  few : l.n ≤ l.k;
-  counted : l.n ≡ commands_in (take l.k l.items);
+  few : l.commands ≤ l.k;
+  counted : l.commands ≡ commands_in (take l.k l.items);
   labels : LabelsAre l.text (take l.k l.items) l.labels;
 }
 

@@ -1,1 +1,0 @@
--- Replacements (XCU sed, "Editing Commands in sed": `s`).

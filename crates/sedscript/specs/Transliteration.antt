@@ -1,1 +1,0 @@
--- The strings of `y` (XCU sed, "Editing Commands in sed": `y`).
