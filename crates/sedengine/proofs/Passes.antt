@@ -334,11 +334,6 @@ newline_there ahead start bytes n less within whole clear (inr is) =
     let few : n < bytes - start = omega (arith, low, length-take (bytes - start) (drop start ahead)) in
     (omega (arith, few), sym (get_or-drop start ahead n 0) ∙ sym (get_or-take (bytes - start) (drop start ahead) n 0 few) ∙ get_or_from_slice_get _ n 10 0 is)
 
--- whole lines one after another
-pub whole_more : (v w : List ℕ) → AreWholeLines v → AreWholeLines w → AreWholeLines (v ++ w)
-whole_more v w a (inl none) = subst AreWholeLines (sym (ap (λ w. v ++ w) none ∙ append-nil v)) a
-whole_more v w a (inr (p, is)) = inr (v ++ p, ap (λ w. v ++ w) is ∙ sym (append_assoc v p (10 ∷ [])))
-
 -- the line that begins at a place and ends with a newline
 pub line_parts : (ahead : List ℕ) (start n : ℕ) → start + n < length ahead → get_or ahead (start + n) 0 ≡ 10 → ahead ≡ take start ahead ++ (take n (drop start ahead) ++ 10 ∷ drop (start + n + 1) ahead)
 line_parts ahead start n less is =

@@ -37,9 +37,6 @@ use Rattle.sedengine.specs.SubstituteCalls.{to_replace_in}
 use Rattle.sedengine.proofs.Occurrences.{with_rest}
 use Rattle.sedengine.specs.Steps.{at_end, WholeOrBrokenOff, next_or_stay, writes_of}
 
-pub went_none : (l : Limits) (g : Setting) (s : State) → WithinLimits l s → Went l g s s [] 0
-went_none l g s f = record { is = after_none g s; wrote = written_none g s; within = within_none l g s f }
-
 pub went_on : (l : Limits) (g : Setting) (s m now : State) (out more : List (ℕ × ℕ)) (t u : ℕ) → Went l g s m out t → Went l g m now more u → Went l g s now (out ++ more) (t + u)
 went_on l g s m now out more t u a b =
     let c : Went l g (after g s t) now more u = rw a.is b in

@@ -118,12 +118,3 @@ pub place_within : (cs : List Command) (ts : List Substitution) (k : ℕ) → is
 place_within [] ts k h = cc
 place_within (c ∷ cs) ts zero h = omega arith
 place_within (c ∷ cs) ts (suc k) h = let less = place_within cs ts k h in omega arith
-
--- A block that has what was found out is left alone.
-pub found_alone : (g : Setting) (i : Idle) (number most : ℕ) (lines rest : List (List ℕ)) → Describes g.commands g.substitutions i → IsClear g.commands g.substitutions i.reached number most → length lines ≤ most →
-    ((e : ℕ) → Contains i.expressions.items e → All (λ line. g.finds e line ≡ false) lines) → (i.asks_last ≡ true → none_left rest ≡ false) → BlockLeftAlone g i.reached number lines rest
-found_alone g i number most lines rest d clear fewer matches last = record {
-  matches = λ e asked. matches e (d.expressions e asked);
-  numbers = λ n asked. fewer_clear n number most (length lines) fewer (clear n asked);
-  last = λ asked. last (d.last asked);
-}

@@ -273,18 +273,6 @@ begun d place text =
     begun_at d place bytes
     ∙ ap (elements d true 0 (elements_start place bytes)) (drop-drop (elements_start 0 bytes) place text ∙ ap (λ n. drop n text) (start_add place (begins bytes 94)))
 
-closed_front : (d : Option ℕ) (first : Bool) (place : ℕ) (bs : List ℕ) → 0 < length bs → (get_or bs 0 0 == 93 && not first) ≡ true → elements d first 0 place bs ≡ ([], Some (place + 1))
-closed_front d first place [] some is = absurd (omega arith)
-closed_front d first place (b ∷ bs) some is = closed d first place b bs is
-
-front_at : (text : List ℕ) (place : ℕ) → get_or (drop place text) 0 0 ≡ get_or text place 0
-front_at text place = get_or-drop place text 0 0 ∙ ap (λ k. get_or text k 0) (let e : place + 0 ≡ place = omega arith in e)
-
-pub closed_at : (d : Option ℕ) (text : List ℕ) (first : Bool) (place : ℕ) → place < length text → (get_or text place 0 == 93 && not first) ≡ true →
-    elements d first 0 place (drop place text) ≡ ([], Some (place + 1))
-closed_at d text first place inside is =
-    closed_front d first place (drop place text) (omega (arith, length-drop place text)) (ap (λ b. b == 93 && not first) (front_at text place) ∙ is)
-
 pub union_none : (a b : List Bool) → union (union a b) no_byte ≡ union a b
 union_none a b =
     set_of-same (λ k. has (union a b) k || has no_byte k) (λ k. has a k || has b k)

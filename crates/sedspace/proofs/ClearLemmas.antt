@@ -12,15 +12,6 @@ use Rattle.sedspace.specs.Lines.{is_newline, HasNoNewline}
 use Rattle.sedspace.specs.NewlineAfter.{IsClear}
 use Rattle.sedspace.proofs.LineLemmas.{position_cases, none_cases}
 
--- of no byte it is known
-pub clear_none : (bytes : List ℕ) → IsClear 0 0 bytes
-clear_none bytes = record {
-  first_within = omega arith;
-  last_within = omega arith;
-  first_clear = λ k d inside. absurd (omega (arith, inside));
-  last_clear = rw (drop_all (length bytes - 0) bytes (omega arith)) (λ k d inside. absurd (omega (arith, inside)));
-}
-
 last_more : (b : ℕ) (xs ys : List ℕ) → b ≤ length xs → HasNoNewline (drop (length xs - b) xs) → HasNoNewline ys → HasNoNewline (drop (length (xs ++ ys) - (b + length ys)) (xs ++ ys))
 last_more b xs ys within h none =
     let n : length (xs ++ ys) - (b + length ys) ≡ length xs - b = omega (arith, length-append xs ys) in

@@ -8,11 +8,6 @@ pub least_none : (s n : ℕ) → n ≡ 0 → TakesAtLeast s s n
 unfolding TakesAtLeast
 least_none s n e = omega (arith, e)
 
--- one look more
-pub least_one : (s a b n m : ℕ) → TakesAtLeast s a n → TakesExactly a b 1 → m ≤ n + 1 → TakesAtLeast s b m
-unfolding TakesAtLeast TakesExactly
-least_one s a b n m before one is = omega (arith, before, one, is)
-
 -- one after the other
 pub least_both : (s a b n k m : ℕ) → TakesAtLeast s a n → TakesAtLeast a b k → m ≤ n + k → TakesAtLeast s b m
 unfolding TakesAtLeast

@@ -120,12 +120,3 @@ module _ (nodes : List Node) (w : List ℕ) (r : ℕ) (p : Starts) (arena : IsAr
   pub Enters-root : (x j : ℕ) → x ≡ r → Enters nodes w r p x j → IsStart p j
   Enters-root x j last e =
       ⊎_elim (λ (root : (x ≡ r) × IsStart p j). root.1) (λ (h : ByNode x j). let below = arena.below h.0 x h.1 h.2 h.3 in absurd (omega (arith, h.4, below))) (how_entered x j e)
-
-  -- a part of a node above r is not entered
-  pub Enters-loose : (c j : ℕ) → IsLoose nodes r c → c ≤ r → c ≢ r → Enters nodes w r p c j → ⊥
-  Enters-loose c j loose le ne e =
-      ⊎_elim (λ (root : (c ≡ r) × IsStart p j). ne root.0)
-      (λ (h : ByNode c j).
-      let same = arena.once h.0 loose.0 c h.1 loose.1 h.2 loose.3 h.3 loose.4 in
-      absurd (omega (arith, h.4, same, loose.2)))
-      (how_entered c j e)
