@@ -31,6 +31,14 @@ pub struct Beginning {
     pub code: u32,
 }
 
+/// For proofs: the number of some rows fits its type.
+#[inline(always)]
+fn count_fits(rows: &Rows)
+    ensures { length rows.now < 2 ^ 64 }
+{
+    let _count = rows.len();
+}
+
 /// A slot of the index: a state, and the low half of the epoch in which it was noted. A wrong slot costs a state, never an
 /// answer, since rows are compared.
 #[derive(Clone, Copy)]
@@ -472,8 +480,7 @@ impl Table {
         ensures counts { TakesAtLeast steps.old steps.new (2 * length prepared.now.arena.expr.nodes) }
     {
         let nodes = prepared.nodes();
-        // For proofs: the number of the rows fits its type.
-        let _rows = edges.len();
+        count_fits(edges);
         edges.load(2 * row, &mut work.leaves, nodes, steps);
         edges.load(2 * row + 1, &mut work.ends, nodes, steps);
         self.intern(prepared, root, work, steps)

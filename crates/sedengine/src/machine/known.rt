@@ -1,12 +1,13 @@
 //! What is known of every machine: calls for proofs alone, which say a fact by their names and do nothing when they run.
 //!
 //! A fact that always holds of a type's fields is known where one of them is looked at, as these calls do.
-ghost use Rattle.std.specs.Prelude.{◌≡◌, ◌<◌, ◌≤◌, ◌^◌, [], ◌∷◌, List, ℕ};
+ghost use Rattle.std.specs.Prelude.{◌≡◌, ◌<◌, ◌≤◌, ◌^◌, [], ◌∷◌, List, ℕ, length};
 ghost use Rattle.sedengine.specs.State.{begin};
 ghost use Rattle.sedengine.specs.Ends.{WithinLimits};
 ghost use Rattle.sedengine.specs.Run.{at_lines};
 
 use super::Machine;
+use sedspace::Space;
 
 impl Machine {
     /// For proofs: the state is within the limits, whatever lines are left.
@@ -35,4 +36,12 @@ impl Machine {
     {
         let _most = self.limits.turns();
     }
+}
+
+/// For proofs: what a space holds is within its limit.
+#[inline(always)]
+pub(super) fn is_within(space: &Space)
+    ensures { length space.now.bytes ≤ space.now.limit }
+{
+    let _len = space.len();
 }

@@ -10,6 +10,7 @@ ghost use Rattle.sedengine.specs.Steps.{reaches, MakesMove, weight};
 ghost use Rattle.sedengine.specs.SubstituteCalls.{written_by, Makes, same_but_replaced};
 
 use super::Machine;
+use super::known::is_within;
 use crate::ends::Ended;
 use crate::meter::MeteredSinks;
 use crate::next_step::NextStep;
@@ -76,8 +77,7 @@ impl Machine {
         );
         match built {
             Ok(true) => {
-                // For proofs: what it holds is within its limit.
-                let _len = self.build.len();
+                is_within(&self.build);
                 self.pattern.swap(&mut self.build);
                 self.replaced = true;
                 Ok(true)
