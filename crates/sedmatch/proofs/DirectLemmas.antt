@@ -188,6 +188,11 @@ first_member s w p (Some k) next here = (next.0, here, λ h low lt starts. next.
 starts_inside : (first : First) (w : List ℕ) (i : ℕ) → StartsWith first w i → i < length w
 starts_inside first w i starts = slice_get_within w i starts.0 starts.1
 
+-- no more bytes are looked at than there are
+pub first_looked : (first : First) (w : List ℕ) (p : ℕ) (r : Option ℕ) → FirstWith first w p r → looked_at (length w) p r ≤ length w
+first_looked first w p None none = omega arith
+first_looked first w p (Some k) here = let inside = starts_inside first w k here.1 in omega (arith, inside)
+
 -- what can come first tells where a match begins
 pub start_byte : (first : First) (w : List ℕ) (p : ℕ) (r : Option ℕ) → FirstWith first w p r → FirstStart (OneByte first) w p r
 start_byte first w p None none = λ k low within starts. none k low starts

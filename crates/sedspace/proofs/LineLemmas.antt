@@ -87,6 +87,16 @@ newline_none bytes e =
     let past = none_cases bytes e in
     λ k d l. fails_before_first is_newline bytes k d (omega arith)
 
+-- what a search for the first newline gives
+pub position_from_first : (bytes : List ℕ) (r : Option ℕ) → IsFirstByte (is_byte 10) bytes r → r ≡ position is_newline bytes
+position_from_first bytes None h =
+    let past : position_or_len is_newline bytes ≡ length bytes = position_or_len_is is_newline bytes (length bytes) 0 (omega arith) (λ k l. not_true _ (h k (omega arith) l)) (λ l. absurd (omega arith)) in
+    grind (arith, nat_tests)
+position_from_first bytes (Some k) h =
+    let low : k < length bytes = h.0.high in
+    let at : position_or_len is_newline bytes ≡ k = position_or_len_is is_newline bytes k 0 (omega arith) (λ j l. not_true _ (h.0.before j (omega arith) l)) (λ _. h.1) in
+    grind (arith, nat_tests)
+
 first_at_end : (bytes : List ℕ) → 0 < length bytes → position_or_len is_newline bytes ≡ length bytes → lines bytes ≡ before_first is_newline bytes ∷ lines (after_first is_newline bytes)
 first_at_end bytes some e =
     let none : HasNoNewline bytes = λ k d l. fails_before_first is_newline bytes k d (omega arith) in

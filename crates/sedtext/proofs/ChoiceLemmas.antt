@@ -56,6 +56,10 @@ more_spans words literal w i j = (
       s),
 )
 
+pub no_bytes : bytes_in [] ≡ 0
+unfolding bytes_in
+no_bytes = refl
+
 pub more_bytes : (words : List (List ℕ)) (literal : List ℕ) → bytes_in (words ++ literal ∷ []) ≡ bytes_in words + length literal
 unfolding bytes_in
 more_bytes [] literal = omega arith
