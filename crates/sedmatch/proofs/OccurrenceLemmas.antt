@@ -1,17 +1,20 @@
 -- The tables by which all occurrences are found, and what the searches cost.
-use Rattle.std.proofs.Common.{◌≡◌, [], ◌∷◌, ◌++◌, length-append, ℕ, zero, suc, ◌+◌, ◌-◌, ◌*◌, ◌/◌, ◌<◌, ◌≤◌, ◌⊎◌, Bool, true, false, List, length, get_or, Option, Some, None, IfSome, IsTrue, refl, sym, ap, ◌∙◌, subst, ⊎_elim, inl, inr, arith, mul-le-mul_left, length-set, get_or-set_same, get_or-set_other}
+use Rattle.std.proofs.Common.{◌≡◌, [], ◌∷◌, ◌++◌, length-append, ℕ, zero, suc, ◌+◌, ◌-◌, ◌*◌, ◌/◌, ◌<◌, ◌≤◌, ◌⊎◌, Bool, true, false, List, length, get_or, Option, Some, None, IfSome, IsTrue, refl, sym, ap, ◌∙◌, subst, true≢false, ⊎_elim, inl, inr, arith, mul-le-mul_left, length-set, get_or-set_same, get_or-set_other}
 use Rattle.std.specs.Option.{unwrap_or}
-use Rattle.std.specs.Prelude.{slice_get, slice_set, if◌then◌else◌}
+use Rattle.std.specs.Prelude.{slice_get, slice_set, vec_capacity, if◌then◌else◌}
+use Rattle.std.specs.Vec.{with_item}
 use Rattle.std.proofs.lemmas.Bool.{cases_eq, cases_lt}
-use Rattle.std.proofs.lemmas.List.{get_or-append-add, get_or_append_left}
+use Rattle.std.proofs.lemmas.Grind.{get_or-set_at}
+use Rattle.std.proofs.lemmas.List.{get_or_append_left, get_or_push}
 use Rattle.std.proofs.lemmas.Option.{get_or_from_slice_get, slice_get-get_or, slice_get_read, slice_get_within}
 use Rattle.sedre.specs.Tree.{WrittenExpression, Tree}
 use Rattle.sedtext.specs.Costs.{CostsWithin}
 use Rattle.sedre.specs.Steps.{TakesAtLeast}
 use Rattle.sedtext.specs.Following.{LiesOn, Occurs, bytes_passed}
+use Rattle.sedtext.specs.Words.{row_of}
 use Rattle.sedpass.specs.Kept.{KeptRoom, SameSpace}
 use Rattle.sedpass.specs.Occurrences.{owed_behind}
-use Rattle.sedpass.specs.Search.{Serves as SearchServes, owed_after as owed_after_search}
+use Rattle.sedpass.specs.Search.{Searched, Serves as SearchServes, owed_after as owed_after_search, search_cost}
 use Rattle.sedpass.specs.Table.{IsRoomy, IsTable, SameRoom, SameShape}
 use Rattle.sedpass.specs.declared.search.Seeking.{Seeking}
 use Rattle.sedpass.specs.declared.kept.Kept.{Kept}
@@ -22,143 +25,54 @@ use Rattle.sedpass.proofs.ExpressionLemmas.{serves_for, table_for}
 use Rattle.sedpass.proofs.OccurrenceLemmas.{search_falls}
 use Rattle.sedpass.proofs.SearchLemmas.{search_long}
 use Rattle.sedpass.proofs.TableLemmas.{roomy_fewer, roomy_still}
-use Rattle.sedpass.specs.Search.{search_cost}
-use Rattle.sedtext.specs.Words.{row_of}
-use Rattle.std.specs.Prelude.{vec_capacity}
-use Rattle.sedmatch.proofs.PassLemmas.{blocks_fit, blocks_suffice}
-use Rattle.sedmatch.specs.declared.occurrences.BackTables.{BackTables}
+use Rattle.sedmatch.proofs.PassLemmas.{blocks_suffice, halves, kept_room}
 use Rattle.sedmatch.specs.declared.occurrences.Occurrences.{Occurrences}
-use Rattle.sedmatch.specs.Passes.{back_way}
-use Rattle.sedmatch.specs.Occurrences.{AreApart, HasOwn, HasTable, IsBack, IsShared, RoomAt, RoomFor, Serves, SetsTable, TableIs, AreTables, owed, owed_after, owed_search}
+use Rattle.sedmatch.specs.Passes.{IsRoomyWay, back_way}
+use Rattle.sedmatch.specs.Occurrences.{HasTable, HaveOwn, IsBack, IsReady, KeepsRoom, RoomAt, RoomFor, Serves, ServesIn, ServesOn, owed, owed_after, owed_search}
 
--- Lists of tables.
+-- Lists.
 
-pub set_long : (ts : List Table) (k : ℕ) (t : Table) → length (slice_set ts k t) ≡ length ts
-set_long ts k t = length-set ts k t
+module _ {A : Type 0} where
+  -- an element after one was set is an old one, or that
+  pub set_cases : (xs : List A) (k j : ℕ) (v y : A) → slice_get (slice_set xs k v) j ≡ Some y → (slice_get xs j ≡ Some y) ⊎ ((j ≡ k) × (y ≡ v))
+  set_cases xs k j v y is =
+      let inside = slice_get_within (slice_set xs k v) j y is in
+      let long = length-set xs k v in
+      let there : get_or (slice_set xs k v) j v ≡ y = get_or_from_slice_get (slice_set xs k v) j y v is in
+      ⊎_elim
+      (λ (same : j ≡ k). inr (same, sym there ∙ get_or-set_at xs k j v v same (omega (arith, inside, long, same))))
+      (λ (other : j ≡ k → ⊥). inl (slice_get-get_or xs j v (omega (arith, inside, long)) ∙ ap (λ z. Some z) (sym (get_or-set_other xs k j v v other) ∙ there)))
+      (cases_eq j k)
 
-pub set_same : (ts : List Table) (k : ℕ) (t x : Table) → k < length ts → slice_get (slice_set ts k t) k ≡ Some x → x ≡ t
-set_same ts k t x inside is =
-    sym (get_or_from_slice_get (slice_set ts k t) k x t is) ∙ get_or-set_same ts k t t inside
+  pub set_there : (xs : List A) (k : ℕ) (v : A) → k < length xs → slice_get (slice_set xs k v) k ≡ Some v
+  set_there xs k v inside =
+      let long = length-set xs k v in
+      slice_get-get_or (slice_set xs k v) k v (omega (arith, inside, long)) ∙ ap (λ z. Some z) (get_or-set_same xs k v v inside)
 
-pub set_other : (ts : List Table) (k j : ℕ) (t x : Table) → (j ≡ k → ⊥) → slice_get (slice_set ts k t) j ≡ Some x → slice_get ts j ≡ Some x
-set_other ts k j t x other is =
-    let inside = slice_get_within (slice_set ts k t) j x is in
-    let long = set_long ts k t in
-    let here : get_or ts j t ≡ x = sym (get_or-set_other ts k j t t other) ∙ get_or_from_slice_get (slice_set ts k t) j x t is in
-    slice_get-get_or ts j t (omega (arith, inside, long)) ∙ ap (λ v. Some v) here
+  -- and one after a push
+  pub push_cases : (xs : List A) (v y : A) (i : ℕ) → slice_get (xs ++ v ∷ []) i ≡ Some y → (slice_get xs i ≡ Some y) ⊎ ((i ≡ length xs) × (y ≡ v))
+  push_cases xs v y i is =
+      let inside = slice_get_within (xs ++ v ∷ []) i y is in
+      let long = length-append xs (v ∷ []) in
+      let there : get_or (xs ++ v ∷ []) i v ≡ y = get_or_from_slice_get (xs ++ v ∷ []) i y v is in
+      ⊎_elim
+      (λ (lt : i < length xs). inl (slice_get-get_or xs i v lt ∙ ap (λ z. Some z) (sym (get_or_append_left xs (v ∷ []) v i lt) ∙ there)))
+      (λ (ge : length xs ≤ i). let last : i ≡ length xs = omega (arith, ge, inside, long) in inr (last, sym there ∙ get_or_push xs v v i (sym last)))
+      (cases_lt i (length xs))
 
--- the table of a number that was changed
-pub room_at : (ts : List Table) (k : ℕ) (x t after : Table) → x ≡ get_or ts k x → slice_get ts k ≡ Some t → SameRoom x after → SameRoom t after
-room_at ts k x t after is at same = subst (λ v. SameRoom v after) (is ∙ get_or_from_slice_get ts k t x at) same
+  same_there : (x y : A) → Some x ≡ Some y → x ≡ y
+  same_there x y h = cc
 
-pub room_at_shape : (ts : List Table) (k : ℕ) (x t after : Table) → x ≡ get_or ts k x → slice_get ts k ≡ Some t → SameShape x after → SameRoom t after
-room_at_shape ts k x t after is at same = room_at ts k x t after is at (same.0, same.1, same.3, same.4)
+-- Room.
 
-some_written : (x y : WrittenExpression) → Some x ≡ Some y → x ≡ y
-some_written x y h = cc
-
--- Room that stays.
-
-kept_still : (text nodes : ℕ) (kept kept' : Kept) (t t' : Table) → KeptRoom nodes text t kept → t'.way ≡ t.way → t'.room ≡ t.room → SameSpace kept kept' → KeptRoom nodes text t' kept'
-kept_still text nodes kept kept' t t' has way room same = record {
-  mirrored = ap (λ v. v.mirrored) way ∙ has.mirrored;
-  keeps = ap (λ v. v.keeps) way ∙ has.keeps;
+pub kept_still : (text nodes : ℕ) (kept kept' : Kept) (t t' : Table) → KeptRoom nodes text t kept → SameRoom t t' → SameSpace kept kept' → KeptRoom nodes text t' kept'
+kept_still text nodes kept kept' t t' has room same = record {
+  mirrored = ap (λ v. v.mirrored) room.0 ∙ has.mirrored;
+  keeps = ap (λ v. v.keeps) room.0 ∙ has.keeps;
   places = (let old = has.places in let is = same.places in omega (arith, old, is));
-  blocks = λ b low. let old = has.blocks b (subst (λ v. b * (v - 1) ≤ text) room low) in let long = same.edges in omega (arith, old, long);
+  blocks = λ b low. let old = has.blocks b (subst (λ v. b * (v - 1) ≤ text) room.1 low) in let long = same.edges in omega (arith, old, long);
   marks = λ q low. let long = same.edges in let old = has.marks q (omega (arith, low, long)) in let is = same.marks q in omega (arith, old, is);
 }
-
-shared_still : (p : Prepared) (text nodes : ℕ) (kept kept' : Kept) (t t' : Table) → IsShared text nodes kept t → SameRoom t t' → IsTable p t' → SameSpace kept kept' → IsShared text nodes kept' t'
-shared_still p text nodes kept kept' t t' has same table space =
-    (roomy_still nodes p t t' has.0 same table, same.0 ∙ has.1, kept_still text nodes kept kept' t t' has.2 same.0 same.1 space)
-
-space_still : (text nodes : ℕ) (kept kept' : Kept) (t : Table) → IsShared text nodes kept t → SameSpace kept kept' → IsShared text nodes kept' t
-space_still text nodes kept kept' t has space = (has.0, has.1, kept_still text nodes kept kept' t t has.2 refl refl space)
-
-few_still : (kept kept' : Kept) → SameSpace kept kept' → length kept.edges ≤ 65536 → length kept'.edges ≤ 65536
-few_still kept kept' same few = let long = same.edges in omega (arith, few, long)
-
--- where the tables are as they were
-pub at_same : (text x : ℕ) (e : WrittenExpression) (o o' : Occurrences) → o'.tables ≡ o.tables → SameSpace o.seeking.kept o'.seeking.kept → RoomAt text x e o → RoomAt text x e o'
-at_same text x e o o' tables space at = record {
-  shared = subst (λ (b : BackTables). TableIs b.all.items 0 (IsShared text (length e.nodes) o'.seeking.kept)) (sym tables)
-      (at.shared.0, λ t is. space_still text (length e.nodes) o.seeking.kept o'.seeking.kept t (at.shared.1 t is) space);
-  few = few_still o.seeking.kept o'.seeking.kept space at.few;
-  own = subst (HasOwn x e) (sym tables) at.own;
-}
-
-pub for_same : (text : ℕ) (es : List WrittenExpression) (o o' : Occurrences) → o'.tables ≡ o.tables → SameSpace o.seeking.kept o'.seeking.kept → RoomFor text es o → RoomFor text es o'
-for_same text es o o' tables space room = record {
-  each = λ x e is. at_same text x e o o' tables space (room.each x e is);
-  apart = subst (λ (b : BackTables). AreApart b.slots.items) (sym tables) room.apart;
-}
-
--- where one of them serves an expression
-module _ (p : Prepared) (k : ℕ) (o o' : Occurrences) (sets : SetsTable p k o.tables o'.tables) (space : SameSpace o.seeking.kept o'.seeking.kept) where
-  abbrev before : List Table
-  before = o.tables.all.items
-
-  abbrev after : List Table
-  after = o'.tables.all.items
-
-  long_still : length after ≡ length before
-  long_still = ap (λ (ts : List Table). length ts) sets.all ∙ set_long before k sets.after
-
-  here : (x : Table) → k < length before → slice_get after k ≡ Some x → x ≡ sets.after
-  here x inside is = set_same before k sets.after x inside (sym (ap (λ ts. slice_get ts k) sets.all) ∙ is)
-
-  there : (j : ℕ) (x : Table) → (j ≡ k → ⊥) → slice_get after j ≡ Some x → slice_get before j ≡ Some x
-  there j x other is = set_other before k j sets.after x other (sym (ap (λ ts. slice_get ts j) sets.all) ∙ is)
-
-  first_still : (text nodes : ℕ) → TableIs before 0 (IsShared text nodes o.seeking.kept) → TableIs after 0 (IsShared text nodes o'.seeking.kept)
-  first_still text nodes at = (omega (arith, at.0, long_still), λ x is. by (cases_eq 0 k) x is)
-    where
-      by : ((0 ≡ k) ⊎ (0 ≡ k → ⊥)) → (x : Table) → slice_get after 0 ≡ Some x → IsShared text nodes o'.seeking.kept x
-      by cases x is = ⊎_elim
-          (λ (same : 0 ≡ k).
-          let new : x ≡ sets.after = here x (omega (arith, at.0, same)) (subst (λ j. slice_get after j ≡ Some x) same is) in
-          let old = slice_get-get_or before 0 x at.0 in
-          let was = at.1 (get_or before 0 x) old in
-          subst (IsShared text nodes o'.seeking.kept) (sym new)
-          (shared_still p text nodes o.seeking.kept o'.seeking.kept (get_or before 0 x) sets.after was (sets.same (get_or before 0 x) (subst (λ j. slice_get before j ≡ Some (get_or before 0 x)) same old)) sets.is space))
-          (λ (other : 0 ≡ k → ⊥). space_still text nodes o.seeking.kept o'.seeking.kept x (at.1 x (there 0 x other is)) space)
-          cases
-
-  own_still : (x : ℕ) (e : WrittenExpression) → ((j : ℕ) → slice_get o.tables.slots.items x ≡ Some j → 0 < j → j ≡ k → p.arena.expr ≡ e) → HasOwn x e o.tables → HasOwn x e o'.tables
-  own_still x e mine has = subst (λ slots. (x < length slots.items) × ((j : ℕ) → slice_get slots.items x ≡ Some j → 0 < j → TableIs after j (IsBack e))) (sym sets.slots)
-      (has.0, λ j at some. let old = has.1 j at some in (omega (arith, old.0, long_still), λ t is. by j (cases_eq j k) at some old t is))
-    where
-      by : (j : ℕ) → ((j ≡ k) ⊎ (j ≡ k → ⊥)) → slice_get o.tables.slots.items x ≡ Some j → 0 < j → TableIs before j (IsBack e) → (t : Table) → slice_get after j ≡ Some t → IsBack e t
-      by j cases at some old t is = ⊎_elim
-          (λ (same : j ≡ k).
-          let new : t ≡ sets.after = here t (omega (arith, old.0, same)) (subst (λ i. slice_get after i ≡ Some t) same is) in
-          let was = slice_get-get_or before j t old.0 in
-          let way = sets.same (get_or before j t) (subst (λ i. slice_get before i ≡ Some (get_or before j t)) same was) in
-          let expr = mine j at some same in
-          subst (IsBack e) (sym new) (way.0 ∙ (old.1 (get_or before j t) was).0, λ q is'. table_for p q (expr ∙ sym is') sets.after sets.is))
-          (λ (other : j ≡ k → ⊥). old.1 t (there j t other is))
-          cases
-
-  pub at_set : (text x : ℕ) (e : WrittenExpression) → ((j : ℕ) → slice_get o.tables.slots.items x ≡ Some j → 0 < j → j ≡ k → p.arena.expr ≡ e) → RoomAt text x e o → RoomAt text x e o'
-  at_set text x e mine at = record {
-    shared = first_still text (length e.nodes) at.shared;
-    few = few_still o.seeking.kept o'.seeking.kept space at.few;
-    own = own_still x e mine at.own;
-  }
-
-  pub for_set : (text : ℕ) (es : List WrittenExpression) → (k ≡ 0) ⊎ (slice_get o.tables.slots.items o.number ≡ Some k) → slice_get es o.number ≡ Some p.arena.expr → RoomFor text es o → RoomFor text es o'
-  for_set text es choice sought room = record {
-    each = λ x e is. at_set text x e (λ j at some same. whose x e j is at some same choice) (room.each x e is);
-    apart = subst (λ slots. AreApart slots.items) (sym sets.slots) room.apart;
-  }
-    where
-      whose : (x : ℕ) (e : WrittenExpression) (j : ℕ) → slice_get es x ≡ Some e → slice_get o.tables.slots.items x ≡ Some j → 0 < j → j ≡ k → (k ≡ 0) ⊎ (slice_get o.tables.slots.items o.number ≡ Some k) → p.arena.expr ≡ e
-      whose x e j is at some same choice = ⊎_elim
-          (λ (none : k ≡ 0). absurd (omega (arith, some, same, none)))
-          (λ (mine : slice_get o.tables.slots.items o.number ≡ Some k).
-          let one : x ≡ o.number = room.apart x o.number j at (mine ∙ ap (λ v. Some v) (sym same)) some in
-          some_written p.arena.expr e (sym sought ∙ sym (ap (λ v. slice_get es v) one) ∙ is))
-          choice
 
 pub space_refl : (k : Kept) → SameSpace k k
 space_refl k = record { places = refl; edges = refl; marks = λ q. refl }
@@ -166,82 +80,92 @@ space_refl k = record { places = refl; edges = refl; marks = λ q. refl }
 pub space_by : (k k' : Kept) → k' ≡ k → SameSpace k k'
 space_by k k' is = subst (SameSpace k) (sym is) (space_refl k)
 
+shape_room : (t t' : Table) → SameShape t t' → SameRoom t t'
+shape_room t t' same = (same.0, same.1, same.3, same.4)
+
+-- a table for an expression is one however that was made ready
+pub back_made : (p : Prepared) (e : WrittenExpression) (t : Table) → p.arena.expr ≡ e → IsTable p t → t.way ≡ back_way → IsBack e t
+back_made p e t is table way = (way, λ q is'. table_for p q (is ∙ sym is') t table)
+
+serves_each : (p : Prepared) (w : List ℕ) (t : Table) (s : Seeking) → SearchServes p w t s → ServesIn p.arena.expr w s t
+serves_each p w t s serves q is = serves_for p q (sym is) w t s serves
+
+-- the tables are as they were, but that one may be for the expression now, with as much room
+record KeepsTables (e : WrittenExpression) (old new : Occurrences) : Type 0 where
+  pub number : new.number ≡ old.number
+  pub space : SameSpace old.seeking.kept new.seeking.kept
+  pub room : SameRoom old.shared new.shared
+  pub roomy : (nodes : ℕ) → IsRoomy nodes old.shared → IsRoomy nodes new.shared
+  pub own : (x : ℕ) (t : Table) → slice_get new.own.items x ≡ Some (Some t) → (slice_get old.own.items x ≡ Some (Some t)) ⊎ ((x ≡ old.number) × IsBack e t)
+
+module _ (e : WrittenExpression) (old new : Occurrences) (keeps : KeepsTables e old new) where
+  at_after : (text x : ℕ) (f : WrittenExpression) → (x ≡ old.number → e ≡ f) → RoomAt text x f old → RoomAt text x f new
+  at_after text x f same at = record {
+    shared = (
+      keeps.roomy (length f.nodes) at.shared.0,
+      keeps.room.0 ∙ at.shared.1,
+      kept_still text (length f.nodes) old.seeking.kept new.seeking.kept old.shared new.shared at.shared.2 keeps.room keeps.space,
+    );
+    few = (let few = at.few in let long = keeps.space.edges in omega (arith, few, long));
+    own = λ t is. ⊎_elim
+        (λ (was : slice_get old.own.items x ≡ Some (Some t)). at.own t was)
+        (λ (now : (x ≡ old.number) × IsBack e t). subst (λ v. IsBack v t) (same now.0) now.1)
+        (keeps.own x t is);
+  }
+
+  still_ready : (w : List ℕ) → RoomAt (length w) old.number e old → HasTable e w new → IsReady e w old new
+  still_ready w at has = record {
+    keeps = (
+      keeps.number,
+      λ text es sought room. record {
+        each = λ x f is. at_after text x f (λ same. same_there e f (sym sought ∙ ap (λ v. slice_get es v) (sym same) ∙ is)) (room.each x f is);
+      },
+    );
+    room = subst (λ x. RoomAt (length w) x e new) (sym keeps.number) (at_after (length w) old.number e (λ same. refl) at);
+    table = has;
+  }
+
 -- Where a search begins: the table that is chosen.
 
--- an expression's own table has some states
-pub own_states : (p : Prepared) (x : ℕ) (b : BackTables) → HasOwn x p.arena.expr b → (k : ℕ) (t : Table) → slice_get b.slots.items x ≡ Some k → 0 < k → slice_get b.all.items k ≡ Some t → (2 ≤ t.room) × (t.room ≤ 65535)
-own_states p x b has k t at some there = let table = ((has.1 k at some).1 t there).1 p refl in (table.room.some, table.room.few)
+module _ (p : Prepared) (w : List ℕ) (o : Occurrences) (at : RoomAt (length w) o.number p.arena.expr o) where
+  -- an expression's own table has some states
+  pub own_states : (t : Table) → slice_get o.own.items o.number ≡ Some (Some t) → (2 ≤ t.room) × (t.room ≤ 65535)
+  own_states t there = let table = (at.own t there).1 p refl in (table.room.some, table.room.few)
 
-module _ (p : Prepared) (n : ℕ) (o : Occurrences) (b : BackTables) (k : ℕ) (room : RoomAt n o.number p.arena.expr o)
-    (own : 0 < k → slice_get o.tables.slots.items o.number ≡ Some k) (others : 0 < k → b ≡ o.tables) (first : k ≡ 0 → SetsTable p 0 o.tables b) where
-  abbrev pub IsReady : Table → Type 0
-  IsReady t = IsTable p t × (t.way ≡ back_way) × KeptRoom (length p.arena.expr.nodes) n t o.seeking.kept
+  -- its own is ready for the text, where its blocks are enough
+  pub own_kept : (t : Table) → slice_get o.own.items o.number ≡ Some (Some t) → length w < length o.seeking.kept.edges / 2 * (t.room - 1) →
+      KeptRoom (length p.arena.expr.nodes) (length w) t o.seeking.kept
+  own_kept t there enough =
+      let kept = at.shared.2 in
+      kept_room (length p.arena.expr.nodes) (length w) t o.seeking.kept (at.own t there).0 kept.places enough kept.marks
 
-  own_ready : (some : 0 < k) (t : Table) → n < length o.seeking.kept.edges / 2 * (t.room - 1) → slice_get o.tables.all.items k ≡ Some t → IsReady t
-  own_ready some t enough there =
-      let is = (room.own.1 k (own some) some).1 t there in
-      let shared = room.shared.1 (get_or o.tables.all.items 0 t) (slice_get-get_or o.tables.all.items 0 t room.shared.0) in
-      let kept = shared.2 in (
-        is.1 p refl,
-        is.0,
-        record {
-          mirrored = ap (λ v. v.mirrored) is.0;
-          keeps = ap (λ v. v.keeps) is.0;
-          places = kept.places;
-          blocks = λ i low. blocks_fit i (t.room - 1) n (length o.seeking.kept.edges) low enough;
-          marks = kept.marks;
-        },
-      )
+  pub own_ready : (s : Seeking) (t : Table) → slice_get o.own.items o.number ≡ Some (Some t) → s.kept ≡ o.seeking.kept → SearchServes p w t s →
+      IsReady p.arena.expr w o (record o { seeking = s; by_own = true; is_fresh = false })
+  own_ready s t there same serves =
+      let new : Occurrences = record o { seeking = s; by_own = true; is_fresh = false } in
+      still_ready p.arena.expr o new (record {
+        number = refl;
+        space = space_by o.seeking.kept s.kept same;
+        room = (refl, refl, refl, refl);
+        roomy = λ nodes roomy. roomy;
+        own = λ x u is. inl is;
+      }) w at (record { own = λ h. (t, there, serves_each p w t s serves); shared = λ h. absurd (true≢false h) })
 
-  first_ready : (none : k ≡ 0) (t : Table) → slice_get b.all.items 0 ≡ Some t → IsReady t
-  first_ready none t there =
-      let sets = first none in
-      let old = slice_get-get_or o.tables.all.items 0 t room.shared.0 in
-      let was = room.shared.1 (get_or o.tables.all.items 0 t) old in
-      let same = sets.same (get_or o.tables.all.items 0 t) old in
-      let new : t ≡ sets.after = set_same o.tables.all.items 0 sets.after t room.shared.0 (sym (ap (λ ts. slice_get ts 0) sets.all) ∙ there) in
-      subst IsReady (sym new) (sets.is, same.0 ∙ was.1, kept_still n (length p.arena.expr.nodes) o.seeking.kept o.seeking.kept (get_or o.tables.all.items 0 t) sets.after was.2 same.0 same.1 (space_refl o.seeking.kept))
+  -- that of all is, fitted to the expression
+  pub shared_kept : (t : Table) → SameRoom o.shared t → KeptRoom (length p.arena.expr.nodes) (length w) t o.seeking.kept
+  shared_kept t same = kept_still (length w) (length p.arena.expr.nodes) o.seeking.kept o.seeking.kept o.shared t at.shared.2 same (space_refl o.seeking.kept)
 
-  pub table_ready : (0 < k → (t : Table) → slice_get o.tables.all.items k ≡ Some t → n < length o.seeking.kept.edges / 2 * (t.room - 1)) → (t : Table) → slice_get b.all.items k ≡ Some t → IsReady t
-  table_ready enough t there =
-      ⊎_elim
-      (λ (some : 0 < k). let at = subst (λ (v : BackTables). slice_get v.all.items k ≡ Some t) (others some) there in own_ready some t (enough some t at) at)
-      (λ (none : k ≤ 0). let zero : k ≡ 0 = omega (arith, none) in first_ready zero t (subst (λ j. slice_get b.all.items j ≡ Some t) zero there))
-      (cases_lt 0 k)
-
-  pub table_chosen : (k ≡ 0) ⊎ (slice_get b.slots.items o.number ≡ Some k)
-  table_chosen =
-      ⊎_elim
-      (λ (some : 0 < k). inr (subst (λ (v : BackTables). slice_get v.slots.items o.number ≡ Some k) (sym (others some)) (own some)))
-      (λ (none : k ≤ 0). inl (omega (arith, none)))
-      (cases_lt 0 k)
-
-  -- it is there
-  pub table_there : k < length b.all.items
-  table_there =
-      ⊎_elim
-      (λ (some : 0 < k). subst (λ (v : BackTables). k < length v.all.items) (sym (others some)) (room.own.1 k (own some) some).0)
-      (λ (none : k ≤ 0). let sets = first (omega (arith, none)) in let long = ap (λ (ts : List Table). length ts) sets.all ∙ set_long o.tables.all.items 0 sets.after in let some = room.shared.0 in omega (arith, none, long, some))
-      (cases_lt 0 k)
-
-  module _ (o' : Occurrences) (tables : o'.tables ≡ b) (space : SameSpace o.seeking.kept o'.seeking.kept) where
-    pub ready_at : RoomAt n o.number p.arena.expr o'
-    ready_at =
-        ⊎_elim
-        (λ (some : 0 < k). at_same n o.number p.arena.expr o o' (tables ∙ others some) space room)
-        (λ (none : k ≤ 0). at_set p 0 o o' (subst (SetsTable p 0 o.tables) (sym tables) (first (omega (arith, none)))) space n o.number p.arena.expr (λ j at some same. refl) room)
-        (cases_lt 0 k)
-
-    pub ready_for : (text : ℕ) (es : List WrittenExpression) → slice_get es o.number ≡ Some p.arena.expr → RoomFor text es o → RoomFor text es o'
-    ready_for text es sought all =
-        ⊎_elim
-        (λ (some : 0 < k). for_same text es o o' (tables ∙ others some) space all)
-        (λ (none : k ≤ 0). for_set p 0 o o' (subst (SetsTable p 0 o.tables) (sym tables) (first (omega (arith, none)))) space text es (inl refl) sought all)
-        (cases_lt 0 k)
-
--- a search that begins serves however the expression was made ready
-pub serves_each : (p : Prepared) (e : WrittenExpression) (w : List ℕ) (t : Table) (s : Seeking) → p.arena.expr ≡ e → SearchServes p w t s → (q : Prepared) → q.arena.expr ≡ e → SearchServes q w t s
-serves_each p e w t s is serves q is' = serves_for p q (is ∙ sym is') w t s serves
+  pub shared_ready : (s : Seeking) (t : Table) → SameRoom o.shared t → IsTable p t → s.kept ≡ o.seeking.kept → SearchServes p w t s →
+      IsReady p.arena.expr w o (record o { seeking = s; shared = t; by_own = false; is_fresh = false })
+  shared_ready s t room table same serves =
+      let new : Occurrences = record o { seeking = s; shared = t; by_own = false; is_fresh = false } in
+      still_ready p.arena.expr o new (record {
+        number = refl;
+        space = space_by o.seeking.kept s.kept same;
+        room = room;
+        roomy = λ nodes roomy. roomy_still nodes p o.shared t roomy room table;
+        own = λ x u is. inl is;
+      }) w at (record { own = λ h. absurd (true≢false (sym h)); shared = λ h. serves_each p w t s serves })
 
 -- What the searches cost.
 
@@ -284,161 +208,102 @@ paid m n last old mid new r s t some fresh same begun used pays =
     let after = after_used m n r new used in
     (pays.0, (let h = pays.1 in omega (arith, h, due, after)))
 
+-- its own table, where it is in use
+pub own_there : (e : WrittenExpression) (w : List ℕ) (o : Occurrences) → HasTable e w o → IsTrue o.by_own → o.number < length o.own.items
+own_there e w o has by = let own = has.own by in slice_get_within o.own.items o.number (Some own.0) own.1
+
+pub own_is : (e : WrittenExpression) (w : List ℕ) (o : Occurrences) → HasTable e w o → IsTrue o.by_own → (v u : Option Table) → v ≡ get_or o.own.items o.number v → v ≡ u → slice_get o.own.items o.number ≡ Some u
+own_is e w o has by v u at is = slice_get_read o.own.items (length o.own.items) o.number v refl (own_there e w o has by) at ∙ ap (λ z. Some z) is
+
+pub own_serves : (p : Prepared) (w : List ℕ) (o : Occurrences) (b : Table) → HasTable p.arena.expr w o → IsTrue o.by_own → slice_get o.own.items o.number ≡ Some (Some b) → SearchServes p w b o.seeking
+own_serves p w o b has by is =
+    let own = has.own by in
+    let same : own.0 ≡ b = same_there own.0 b (same_there (Some own.0) (Some b) (sym own.1 ∙ is)) in
+    subst (λ t. SearchServes p w t o.seeking) same (own.2 p refl)
+
+pub own_missing : (e : WrittenExpression) (w : List ℕ) (o : Occurrences) → HasTable e w o → IsTrue o.by_own → slice_get o.own.items o.number ≡ Some None → ⊥
+own_missing e w o has by none = let own = has.own by in let h : Some (Some own.0) ≡ Some None = sym own.1 ∙ none in cc
+
 -- After a search.
 
-module _ (p : Prepared) (w : List ℕ) (o o' : Occurrences) (back : Table) (at : RoomAt (length w) o.number p.arena.expr o) (has : HasTable p.arena.expr w o) (used : o'.is_fresh ≡ false)
-    (number : o'.number ≡ o.number) (same_at : o'.at ≡ o.at) (slots : o'.tables.slots ≡ o.tables.slots) (all : o'.tables.all.items ≡ slice_set o.tables.all.items o.at back)
-    (shape : (t : Table) → slice_get o.tables.all.items o.at ≡ Some t → SameRoom t back) (serves : SearchServes p w back o'.seeking) (space : SameSpace o.seeking.kept o'.seeking.kept) where
-  is_set : SetsTable p o.at o.tables o'.tables
-  is_set = record { after = back; is = serves.table; same = shape; all = all; slots = slots }
+module _ (p : Prepared) (w : List ℕ) (a a' b b' : Table) (o : Occurrences) (s : Seeking) (at : RoomAt (length w) o.number p.arena.expr o) (done : Searched p w a a' b b' o.seeking s) where
+  pub shared_searched : o.by_own ≡ false → o.shared ≡ b → IsReady p.arena.expr w o (record o { seeking = s; shared = b' })
+  shared_searched by is =
+      let new : Occurrences = record o { seeking = s; shared = b' } in
+      let room : SameRoom o.shared b' = subst (λ v. SameRoom v b') (sym is) (shape_room b b' done.tables.back_shape) in
+      still_ready p.arena.expr o new (record {
+        number = refl;
+        space = done.tables.space;
+        room = room;
+        roomy = λ nodes roomy. roomy_still nodes p o.shared b' roomy room done.serves.table;
+        own = λ x u is. inl is;
+      }) w at (record { own = λ h. absurd (true≢false (sym h ∙ by)); shared = λ h. serves_each p w b' s done.serves })
 
-  pub keeps_on : (text : ℕ) (es : List WrittenExpression) → slice_get es o.number ≡ Some p.arena.expr → RoomFor text es o → RoomFor text es o'
-  keeps_on text es sought room = for_set p o.at o o' is_set space text es has.choice sought room
+  pub own_searched : IsTrue o.by_own → slice_get o.own.items o.number ≡ Some (Some b) → IsReady p.arena.expr w o (record o { seeking = s; own = with_item o.own o.number (Some b') })
+  own_searched by is =
+      let new : Occurrences = record o { seeking = s; own = with_item o.own o.number (Some b') } in
+      let back = back_made p p.arena.expr b' refl done.serves.table (done.tables.back_shape.0 ∙ (at.own b is).0) in
+      still_ready p.arena.expr o new (record {
+        number = refl;
+        space = done.tables.space;
+        room = (refl, refl, refl, refl);
+        roomy = λ nodes roomy. roomy;
+        own = λ x u is'. ⊎_elim
+            (λ (was : slice_get o.own.items x ≡ Some (Some u)). inl was)
+            (λ (now : (x ≡ o.number) × (Some u ≡ Some b')). inr (now.0, subst (IsBack p.arena.expr) (sym (same_there u b' now.1)) back))
+            (set_cases o.own.items o.number x (Some b') (Some u) is');
+      }) w at (record {
+        own = λ h. (b', set_there o.own.items o.number (Some b') (slice_get_within o.own.items o.number (Some b) is), serves_each p w b' s done.serves);
+        shared = λ h. absurd (true≢false (sym by ∙ h));
+      })
 
-  serves_at : (last : ℕ) → Serves p.arena.expr w (Some last) o'
-  serves_at last = record {
-    room = subst (λ x. RoomAt (length w) x p.arena.expr o') (sym number) (at_set p o.at o o' is_set space (length w) o.number p.arena.expr (λ j is some same. refl) at);
-    fresh = λ h. cc;
-    used = λ h. record {
-      choice = subst (λ x. (x ≡ 0) ⊎ (slice_get o'.tables.slots.items o'.number ≡ Some x)) (sym same_at)
-          (subst (λ v. (o.at ≡ 0) ⊎ (slice_get v.items o'.number ≡ Some o.at)) (sym slots) (subst (λ x. (o.at ≡ 0) ⊎ (slice_get o.tables.slots.items x ≡ Some o.at)) (sym number) has.choice));
-      serves = subst (λ x. TableIs o'.tables.all.items x (λ t. (q : Prepared) → q.arena.expr ≡ p.arena.expr → SearchServes q w t o'.seeking)) (sym same_at)
-          (subst (λ ts. TableIs ts o.at (λ t. (q : Prepared) → q.arena.expr ≡ p.arena.expr → SearchServes q w t o'.seeking)) (sym all) (
-            (let inside = has.serves.0 in let long = set_long o.tables.all.items o.at back in omega (arith, inside, long)),
-            λ t is q expr.
-                subst (λ x. SearchServes q w x o'.seeking) (sym (set_same o.tables.all.items o.at back t has.serves.0 is)) (serves_for p q (sym expr) w back o'.seeking serves),
-          ));
-    };
-  }
-
-  pub serves_on : (r : Option (ℕ × ℕ)) → IfSome r (λ f. Serves p.arena.expr w (Some f.1) o')
-  serves_on None = tt
-  serves_on (Some f) = serves_at f.1
+pub serves_on : (e : WrittenExpression) (w : List ℕ) (old mid new : Occurrences) (r : Option (ℕ × ℕ)) → IsReady e w old mid → IsReady e w mid new → ServesOn e w r old new
+serves_on e w old mid new r first next = (
+  (
+    next.keeps.0 ∙ first.keeps.0,
+    λ text es sought room. next.keeps.1 text es (subst (λ x. slice_get es x ≡ Some e) (sym first.keeps.0) sought) (first.keeps.1 text es sought room),
+  ),
+  serves r,
+)
+  where
+    serves : (r : Option (ℕ × ℕ)) → IfSome r (λ f. Serves e w (Some f.1) new)
+    serves None = tt
+    serves (Some f) = record { room = next.room; fresh = λ h. cc; used = λ h. next.table }
 
 -- Making the tables.
 
-module _ {A : Type 0} where
-  pub push_kept : (xs : List A) (v y : A) (i : ℕ) → slice_get xs i ≡ Some y → slice_get (xs ++ v ∷ []) i ≡ Some y
-  push_kept xs v y i is =
-      let inside = slice_get_within xs i y is in
-      let long = length-append xs (v ∷ []) in
-      slice_get_read (xs ++ v ∷ []) (length (xs ++ v ∷ [])) i y refl (omega (arith, inside, long)) (sym (get_or_append_left xs (v ∷ []) y i inside ∙ get_or_from_slice_get xs i y y is))
+-- those of the first n of these expressions
+pub record AreFirst (es : List WrittenExpression) (n : ℕ) (own : List (Option Table)) : Type 0 where
+  pub long : length own ≡ n
+  pub each : HaveOwn es own
 
-  pub push_last : (xs : List A) (v y : A) → slice_get (xs ++ v ∷ []) (length xs) ≡ Some y → y ≡ v
-  push_last xs v y is =
-      let at : get_or (xs ++ v ∷ []) (length xs) y ≡ v = subst (λ i. get_or (xs ++ v ∷ []) i y ≡ v) (omega arith) (get_or-append-add xs (v ∷ []) 0 y) in
-      sym (get_or_from_slice_get (xs ++ v ∷ []) (length xs) y y is) ∙ at
-
-  pub push_cases : (xs : List A) (v y : A) (i : ℕ) → slice_get (xs ++ v ∷ []) i ≡ Some y → (slice_get xs i ≡ Some y) ⊎ ((i ≡ length xs) × (y ≡ v))
-  push_cases xs v y i is =
-      let inside = slice_get_within (xs ++ v ∷ []) i y is in
-      let long = length-append xs (v ∷ []) in
-      ⊎_elim
-      (λ (lt : i < length xs). inl (slice_get_read xs (length xs) i y refl lt (sym (sym (get_or_append_left xs (v ∷ []) y i lt) ∙ get_or_from_slice_get (xs ++ v ∷ []) i y y is))))
-      (λ (ge : length xs ≤ i). let last : i ≡ length xs = omega (arith, ge, inside, long) in inr (last, push_last xs v y (subst (λ j. slice_get (xs ++ v ∷ []) j ≡ Some y) last is)))
-      (cases_lt i (length xs))
-
-  same_there : (x y : A) → Some x ≡ Some y → x ≡ y
-  same_there x y h = cc
-
--- the tables for the first n of these expressions
-pub record AreFirst (es : List WrittenExpression) (n : ℕ) (shared : Table) (all : List Table) (slots : List ℕ) : Type 0 where
-  pub first : slice_get all 0 ≡ Some shared
-  pub long : length slots ≡ n
-  pub within : (x k : ℕ) → slice_get slots x ≡ Some k → k < length all
-  pub own : (x k : ℕ) (e : WrittenExpression) → slice_get es x ≡ Some e → slice_get slots x ≡ Some k → 0 < k → TableIs all k (IsBack e)
-  pub apart : AreApart slots
-
-pub none_yet : (es : List WrittenExpression) (shared : Table) (all : List Table) (slots : List ℕ) → all ≡ [] ++ shared ∷ [] → slots ≡ [] → AreFirst es 0 shared all slots
-none_yet es shared all slots is none = record {
-  first = ap (λ (ts : List Table). slice_get ts 0) is;
-  long = ap (λ (xs : List ℕ). length xs) none;
-  within = λ x k at. absurd (empty x k at);
-  own = λ x k e is at. absurd (empty x k at);
-  apart = λ x y k at. absurd (empty x k at);
-}
-  where
-    empty : (x k : ℕ) → slice_get slots x ≡ Some k → ⊥
-    empty x k at = let inside = slice_get_within slots x k at in let zero = ap (λ (xs : List ℕ). length xs) none in omega (arith, inside, zero)
-
-module _ (es : List WrittenExpression) (n : ℕ) (shared : Table) (all all' : List Table) (slots slots' : List ℕ) (k : ℕ) (e : WrittenExpression) (are : AreFirst es n shared all slots)
-    (sought : slice_get es n ≡ Some e) (there : k < length all') (mine : 0 < k → TableIs all' k (IsBack e) × (length all ≤ k)) (longer : length all ≤ length all')
-    (kept : (j : ℕ) (t : Table) → slice_get all j ≡ Some t → slice_get all' j ≡ Some t) (push : slots' ≡ slots ++ k ∷ []) where
-  slot : (x j : ℕ) → slice_get slots' x ≡ Some j → (slice_get slots x ≡ Some j) ⊎ ((x ≡ n) × (j ≡ k))
-  slot x j is = ⊎_elim inl (λ (new : (x ≡ length slots) × (j ≡ k)). inr (new.0 ∙ are.long, new.1)) (push_cases slots k j x (sym (ap (λ xs. slice_get xs x) push) ∙ is))
-
-  moved : (j : ℕ) (P : Table → Type 0) → TableIs all j P → TableIs all' j P
-  moved j P is = (
-    let inside = is.0 in omega (arith, inside, longer),
-    λ t at.
-        let old = slice_get-get_or all j t is.0 in
-        let same : get_or all j t ≡ t = same_there (get_or all j t) t (sym (kept j (get_or all j t) old) ∙ at) in
-        subst P same (is.1 (get_or all j t) old),
-  )
-
-  pub one_more : AreFirst es (n + 1) shared all' slots'
-  one_more = record {
-    first = kept 0 shared are.first;
-    long = (let h = ap (λ (xs : List ℕ). length xs) push in let l = length-append slots (k ∷ []) in let m = are.long in omega (arith, h, l, m));
-    within = λ x j at. ⊎_elim (λ (old : slice_get slots x ≡ Some j). let h = are.within x j old in omega (arith, h, longer)) (λ (new : (x ≡ n) × (j ≡ k)). let h = new.1 in omega (arith, h, there)) (slot x j at);
-    own = λ x j e' is at some. ⊎_elim
-        (λ (old : slice_get slots x ≡ Some j). moved j (IsBack e') (are.own x j e' is old some))
-        (λ (new : (x ≡ n) × (j ≡ k)).
-        let one : e ≡ e' = same_there e e' (sym sought ∙ ap (λ v. slice_get es v) (sym new.0) ∙ is) in
-        subst (λ v. TableIs all' j (IsBack v)) one (subst (λ v. TableIs all' v (IsBack e)) (sym new.1) (mine (let h = new.1 in omega (arith, some, h))).0))
-        (slot x j at);
-    apart = λ x y j at at' some. ⊎_elim
-        (λ (old : slice_get slots x ≡ Some j). ⊎_elim
-        (λ (old' : slice_get slots y ≡ Some j). are.apart x y j old old' some)
-        (λ (new : (y ≡ n) × (j ≡ k)). let low = are.within x j old in let h = new.1 in let high = (mine (omega (arith, some, h))).1 in absurd (omega (arith, low, h, high)))
-        (slot y j at'))
-        (λ (new : (x ≡ n) × (j ≡ k)). ⊎_elim
-        (λ (old' : slice_get slots y ≡ Some j). let low = are.within y j old' in let h = new.1 in let high = (mine (omega (arith, some, h))).1 in absurd (omega (arith, low, h, high)))
-        (λ (new' : (y ≡ n) × (j ≡ k)). new.0 ∙ sym new'.0)
-        (slot y j at'))
-        (slot x j at);
-  }
-
-pub all_tables : (es : List WrittenExpression) (n : ℕ) (shared : Table) (b : BackTables) → AreFirst es n shared b.all.items b.slots.items → length es ≤ n → AreTables es shared b
-all_tables es n shared b are most = record {
-  first = are.first;
-  own = λ x e is. (let inside = slice_get_within es x e is in let long = are.long in omega (arith, inside, long, most), λ k at some. are.own x k e is at some);
-  apart = are.apart;
+pub one_more : (es : List WrittenExpression) (n : ℕ) (own own' : List (Option Table)) (e : WrittenExpression) (o : Option Table) → AreFirst es n own → slice_get es n ≡ Some e → IfSome o (IsBack e) → own' ≡ own ++ o ∷ [] → AreFirst es (n + 1) own'
+one_more es n own own' e o are sought back push = record {
+  long = (let h = ap (λ (xs : List (Option Table)). length xs) push in let l = length-append own (o ∷ []) in let m = are.long in omega (arith, h, l, m));
+  each = λ x f is t at. ⊎_elim
+      (λ (old : slice_get own x ≡ Some (Some t)). are.each x f is t old)
+      (λ (new : (x ≡ length own) × (Some t ≡ o)).
+      let one : e ≡ f = same_there e f (sym sought ∙ ap (λ v. slice_get es v) (sym (new.0 ∙ are.long)) ∙ is) in
+      subst (λ v. IsBack v t) one (subst (λ (v : Option Table). IfSome v (IsBack e)) (sym new.1) back))
+      (push_cases own o (Some t) x (sym (ap (λ xs. slice_get xs x) push) ∙ at));
 }
 
-pub room_made : (text most width : ℕ) (es : List WrittenExpression) (kept : Kept) (shared : Table) (b : BackTables) (o : Occurrences) → text < vec_capacity kept.states → length kept.edges ≡ 2 * (text / width + 1) →
-    ((q : ℕ) → q < length kept.edges → length (row_of kept.edges q) ≡ most) → 1 ≤ width → text / width + 1 ≤ 32768 → IsRoomy most shared → shared.way ≡ back_way → shared.room ≡ width + 1 →
-    AreTables es shared b → ((x : ℕ) (e : WrittenExpression) → slice_get es x ≡ Some e → length e.nodes ≤ most) → o.tables ≡ b → o.seeking.kept ≡ kept → RoomFor text es o
-room_made text most width es kept shared b o places edges marks some few roomy way room tables fit is_tables is_kept = record {
-  each = λ x e is. record {
-    shared = subst (λ (v : BackTables). TableIs v.all.items 0 (IsShared text (length e.nodes) o.seeking.kept)) (sym is_tables)
-        (subst (λ v. TableIs b.all.items 0 (IsShared text (length e.nodes) v)) (sym is_kept)
-        (slice_get_within b.all.items 0 shared tables.first, λ t at. subst (IsShared text (length e.nodes) kept) (same_there shared t (sym tables.first ∙ at)) (one (length e.nodes) (fit x e is))));
-    few = subst (λ (v : Kept). length v.edges ≤ 65536) (sym is_kept) (omega (arith, edges, few));
-    own = subst (HasOwn x e) (sym is_tables) (tables.own x e is);
+pub room_made : (text most width : ℕ) (es : List WrittenExpression) (o : Occurrences) → text < vec_capacity o.seeking.kept.states → length o.seeking.kept.edges ≡ 2 * (text / width + 1) →
+    ((q : ℕ) → q < length o.seeking.kept.edges → length (row_of o.seeking.kept.edges q) ≡ most) → 1 ≤ width → text / width + 1 ≤ 32768 → IsRoomyWay back_way most o.shared → o.shared.room ≡ width + 1 →
+    HaveOwn es o.own.items → ((x : ℕ) (e : WrittenExpression) → slice_get es x ≡ Some e → length e.nodes ≤ most) → RoomFor text es o
+room_made text most width es o places edges marks some few roomy room own fit = record {
+  each = λ x e is. let less = fit x e is in record {
+    shared = (roomy_fewer (length e.nodes) most o.shared less roomy.0, roomy.1, kept_room (length e.nodes) text o.shared o.seeking.kept roomy.1 places enough (λ q low. let long = marks q low in omega (arith, long, less)));
+    few = omega (arith, edges, few);
+    own = own x e is;
   };
-  apart = subst (λ (v : BackTables). AreApart v.slots.items) (sym is_tables) tables.apart;
 }
   where
-    enough : text < length kept.edges / 2 * width
+    enough : text < length o.seeking.kept.edges / 2 * (o.shared.room - 1)
     enough =
-        let h = blocks_suffice text (width + 1) (omega (arith, some)) in
-        let w : width + 1 - 1 ≡ width = omega arith in
-        let half : length kept.edges / 2 ≡ text / width + 1 = omega (arith, edges) in
-        subst (λ v. text < v * width) (sym half) (subst (λ v. text < (text / v + 1) * v) w h)
-
-    one : (nodes : ℕ) → nodes ≤ most → IsShared text nodes kept shared
-    one nodes less = (
-      roomy_fewer nodes most shared less roomy,
-      way,
-      record {
-        mirrored = ap (λ v. v.mirrored) way;
-        keeps = ap (λ v. v.keeps) way;
-        places = places;
-        blocks = λ i low. blocks_fit i width text (length kept.edges) (subst (λ v. i * v ≤ text) (omega (arith, room)) low) enough;
-        marks = λ q low. let is = marks q low in omega (arith, is, less);
-      },
-    )
+        let wide : width ≡ o.shared.room - 1 = omega (arith, room) in
+        let half = halves (length o.seeking.kept.edges) (text / width + 1) edges ∙ ap (λ v. text / v + 1) wide in
+        subst (λ v. text < v * (o.shared.room - 1)) (sym half) (blocks_suffice text o.shared.room (omega (arith, some, room)))
 
 -- The first occurrence.
 
@@ -462,10 +327,6 @@ first_square m n start s a t some looks each =
     let c = mul-le-mul_left m (squared n) in
     let d = mul-le-mul_left (m * (64 * (n + 1) * (n + 1))) some in
     omega (arith, looks, each, long, less, c, d)
-
--- a table that was made for an expression
-pub back_made : (p : Prepared) (e : WrittenExpression) (t : Table) → p.arena.expr ≡ e → IsTable p t → t.way ≡ back_way → IsBack e t
-back_made p e t is table way = (way, λ q is'. table_for p q (is ∙ sym is') t table)
 
 pub lies_first : (n : ℕ) (r : Option (ℕ × ℕ)) → IfSome r (λ f. (0 ≤ f.0) × (f.0 ≤ f.1) × (f.1 ≤ n)) → IfSome r (LiesOn n None)
 lies_first n None lies = tt

@@ -13,6 +13,7 @@ use Rattle.sedtext.proofs.GroupLemmas.{Captures-none, no_groups_at}
 use Rattle.sedtext.specs.Needed.{Narrowed}
 use Rattle.sedpass.specs.Decide.{AreGroupTables, AreRoomy, HasDesk, HasSpace, SameRooms}
 use Rattle.sedpass.specs.Kept.{KeptRoom, SameSpace}
+use Rattle.sedtext.specs.Words.{row_of}
 use Rattle.sedpass.specs.Walks.{EntersGroups}
 use Rattle.sedpass.specs.Table.{IsRoomy, IsTable, SameRoom, SameShape}
 use Rattle.sedpass.specs.declared.groups.GroupRoom.{GroupRoom}
@@ -94,7 +95,7 @@ shared_serves m d is few = record {
 pub any_serves : (m : ℕ) (d : Desk) → IsDesk d → m ≤ d.max_nodes → IsRoomy m d.any
 any_serves m d is few = roomy_fewer m d.max_nodes d.any few is.any.0
 
-halves : (edges blocks : ℕ) → edges ≡ 2 * blocks → edges / 2 ≡ blocks
+pub halves : (edges blocks : ℕ) → edges ≡ 2 * blocks → edges / 2 ≡ blocks
 halves edges blocks is = omega (arith, is)
 
 -- an expression's own tables decide groups there, where its blocks are enough
@@ -120,23 +121,25 @@ blocks_fit b w n e low enough =
     (λ (ge : e / 2 ≤ b). let more = mul-le-mul_left w ge in absurd (omega (arith, more, low, enough)))
     (cases_lt b (e / 2))
 
--- a pass from the text's end can be made, by the table fitted to the expression
+-- a pass from the text's end can be made where all its blocks have rows
+pub kept_room : (m n : ℕ) (t : Table) (k : Kept) → t.way ≡ back_way → n < vec_capacity k.states → n < length k.edges / 2 * (t.room - 1) → ((q : ℕ) → q < length k.edges → m ≤ length (row_of k.edges q)) →
+    KeptRoom m n t k
+kept_room m n t k way places enough marks = record {
+  mirrored = ap (λ v. v.mirrored) way;
+  keeps = ap (λ v. v.keeps) way;
+  places = places;
+  blocks = λ b low. blocks_fit b (t.room - 1) n (length k.edges) low enough;
+  marks = marks;
+}
+
+-- so it can by the table fitted to the expression
 pub desk_keeps : (d : Desk) (p : Prepared) (back : Table) (m n : ℕ) → IsDesk d → IsTable p back → SameRoom d.back back → n ≤ d.max_text → m ≤ d.max_nodes → KeptRoom m n back d.room.kept
 desk_keeps d p back m n is table same short few =
-    let way = same.0 ∙ is.back.1 in
     let room : back.room ≡ d.shared.inside.room = same.1 ∙ is.states in
-    let width = d.shared.inside.room - 1 in
-    let enough = blocks_suffice d.max_text d.shared.inside.room (subst (λ v. 2 ≤ v) room table.room.some) in
-    let half = halves (length d.room.kept.edges) (d.max_text / width + 1) is.space.edges in
-    record {
-      mirrored = ap (λ v. v.mirrored) way;
-      keeps = ap (λ v. v.keeps) way;
-      places = (let h = is.space.places in omega (arith, h, short));
-      blocks = λ b low.
-          let there = subst (λ v. b * (v - 1) ≤ n) room low in
-          blocks_fit b width d.max_text (length d.room.kept.edges) (omega (arith, there, short)) (subst (λ v. d.max_text < v * width) (sym half) enough);
-      marks = λ q low. (let h = is.space.marks q low in omega (arith, h, few));
-    }
+    let half = halves (length d.room.kept.edges) (d.max_text / (d.shared.inside.room - 1) + 1) is.space.edges ∙ ap (λ v. d.max_text / (v - 1) + 1) (sym room) in
+    let enough : d.max_text < length d.room.kept.edges / 2 * (back.room - 1) = subst (λ v. d.max_text < v * (back.room - 1)) (sym half) (blocks_suffice d.max_text back.room table.room.some) in
+    let places = is.space.places in
+    kept_room m n back d.room.kept (same.0 ∙ is.back.1) (omega (arith, places, short)) (omega (arith, enough, short)) (λ q low. let marks = is.space.marks q low in omega (arith, marks, few))
 
 -- and those that serve all do, fitted to it
 pub shared_decides : (s : Subject) (fitted : GroupTables) (d : Desk) → AreGroupTables s.prepared.now fitted → SameRooms d.shared fitted → IsDesk d → length s.text.now ≤ d.max_text →

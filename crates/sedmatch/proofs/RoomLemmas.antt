@@ -9,25 +9,20 @@ pub room_within : (text more : ℕ) (es : List WrittenExpression) (o : Occurrenc
 room_within text more es o short h = record {
   each = λ x e at.
       let r = h.each x e at in
+      let kept = r.shared.2 in
       record {
         shared = (
           r.shared.0,
-          λ t is.
-              let s = r.shared.1 t is in
-              let k = s.2 in (
-                s.0,
-                s.1,
-                record {
-                  mirrored = k.mirrored;
-                  keeps = k.keeps;
-                  places = let all = k.places in omega (arith, all, short);
-                  blocks = λ b low. k.blocks b (omega (arith, low, short));
-                  marks = k.marks;
-                },
-              ),
+          r.shared.1,
+          record {
+            mirrored = kept.mirrored;
+            keeps = kept.keeps;
+            places = let all = kept.places in omega (arith, all, short);
+            blocks = λ b low. kept.blocks b (omega (arith, low, short));
+            marks = kept.marks;
+          },
         );
         few = r.few;
         own = r.own;
       };
-  apart = h.apart;
 }

@@ -7,9 +7,9 @@ ghost use Rattle.sedtext.specs.Following.{EndsWithin, Occurs, next_span};
 ghost use Rattle.sedtext.specs.Matching.{found};
 ghost use Rattle.sedpass.specs.Occurrences.{SearchTakes, owed_behind};
 ghost use Rattle.sedpass.specs.Search.{MaySearch, Searched, owed_after as owed_after_search};
-ghost use Rattle.sedpass.specs.Table.{IsAhead, IsRoomy, SameShape};
+ghost use Rattle.sedpass.specs.Table.{IsAhead, SameShape};
 ghost use Rattle.sedpass.specs.declared.table.Table.{Table};
-ghost use Rattle.sedmatch.specs.Occurrences.{AreTables, HasTable, IsBack, KeepsRoom, RoomAt, RoomFor, Serves, ServesOn, SetsTable, TableIs, owed, owed_after, owed_search};
+ghost use Rattle.sedmatch.specs.Occurrences.{HasTable, HaveOwn, IsBack, IsReady, RoomAt, RoomFor, Serves, ServesOn, owed, owed_after, owed_search};
 ghost use Rattle.sedmatch.specs.Passes.{IsSought};
 
 use crate::Span;
@@ -43,65 +43,64 @@ const OWN_STATES: usize = 513;
 #[derive(Drop)]
 pub struct Occurrences {
     seeking: Seeking,
-    tables: BackTables,
+    // The table that serves each expression that has none of its own,
+    shared: Table,
+    // and those of the first expressions, each by its number.
+    own: Vec<Option<Table>>,
     // The expression that is sought,
     number: usize,
-    // and the table that serves it.
-    at: usize,
+    // and whether its own table serves it.
+    by_own: bool,
     // Whether nothing was sought in the text by passes yet.
     is_fresh: bool,
 }
 
-/// Tables of passes from the text's end.
-#[derive(Drop)]
-pub struct BackTables {
-    /// The first one serves each expression that has none of its own.
-    pub all: Vec<Table>,
-    /// For each expression by its number which table serves it.
-    pub slots: Vec<usize>,
-}
-
-/// Adds a table for the expression of a number, if it is one of the first and has tables of its own, and says which serves it.
-fn add_table(
-    alloc: Global,
-    number: usize,
-    matcher: &TableMatcher,
-    all: &mut Vec<Table>,
-) -> Result<usize, AllocError>
-    requires some { 0 < length all.old.items }
-    ensures slot { IfOk result (λ k. k < length all.new.items) }
-    ensures own { IfOk result (λ k. 0 < k → TableIs all.new.items k (IsBack matcher.now) × (length all.old.items ≤ k)) }
-    ensures longer { length all.old.items ≤ length all.new.items }
-    ensures kept { (k : ℕ) (t : Table) → slice_get all.old.items k ≡ Some t → slice_get all.new.items k ≡ Some t }
+/// A table of its own for passes from the text's end, where the expression has tables.
+fn own_table(alloc: Global, matcher: &TableMatcher) -> Result<Option<Table>, AllocError>
+    ensures { IfOk result (λ r. IfSome r (IsBack matcher.now)) }
 {
-    if number >= MOST_OWN {
-        return Ok(0);
+    match matcher.prepared() {
+        Some(prepared) => Ok(Some(Table::new(alloc, prepared, BACK, OWN_STATES)?)),
+        None => Ok(None),
     }
-    let Some(prepared) = matcher.prepared() else {
-        return Ok(0);
-    };
-    let slot = all.len();
-    let table = Table::new(alloc, prepared, BACK, OWN_STATES)?;
-    all.push(table)?;
-    Ok(slot)
 }
 
-/// Tables for each of the first expressions that have tables of their own, after one that serves all others.
-fn new_tables(
+/// Such tables for the first of the expressions.
+fn own_tables(
     alloc: Global,
-    shared: Table,
     matchers: &[TableMatcher],
-) -> Result<BackTables, AllocError>
-    ensures { IfOk result (AreTables matchers.now shared) }
+) -> Result<Vec<Option<Table>>, AllocError>
+    ensures { IfOk result (λ own. HaveOwn matchers.now own.items) }
 {
-    let mut all = Vec::new(alloc);
-    all.push(shared)?;
-    let mut slots = Vec::with_capacity(alloc, matchers.len())?;
-    for x in 0..matchers.len() {
-        let slot = add_table(alloc, x, &matchers[x], &mut all)?;
-        slots.push(slot)?;
+    let count = matchers.len().min(MOST_OWN);
+    let mut own = Vec::with_capacity(alloc, count)?;
+    for x in 0..count {
+        own.push(own_table(alloc, &matchers[x])?)?;
     }
-    Ok(BackTables { all, slots })
+    Ok(own)
+}
+
+/// The table of its own of the expression of this number, where it has one and what is kept has room for the blocks of its passes over
+/// a text of so many bytes.
+fn own_for<'a>(
+    own: &'a Vec<Option<Table>>,
+    number: usize,
+    kept: &Kept,
+    bytes: usize,
+) -> Option<&'a Table>
+    requires states { (t : Table) → slice_get own.now.items number ≡ Some (Some t) → (2 ≤ t.room) × (t.room ≤ 65535) }
+    requires few { length kept.now.edges ≤ 65536 }
+    ensures own { IfSome result (λ t. slice_get own.now.items number ≡ Some (Some t.now)) }
+    ensures room { IfSome result (λ t. bytes < length kept.now.edges / 2 * (t.now.room - 1)) }
+{
+    let Some(Some(table)) = own.get(number) else {
+        return None;
+    };
+    if has_blocks(kept, table.room, bytes) {
+        Some(table)
+    } else {
+        None
+    }
 }
 
 impl Occurrences {
@@ -122,16 +121,17 @@ impl Occurrences {
         let width = width_for(max_text);
         let kept = Kept::new(alloc, max_text, max_text / width + 1, max_nodes)?;
         let shared = Table::with_room(alloc, BACK, width + 1, max_nodes)?;
-        let tables = new_tables(alloc, shared, matchers)?;
+        let own = own_tables(alloc, matchers)?;
         Ok(Occurrences {
             seeking: Seeking {
                 kept,
                 begun: false,
                 tried: 0,
             },
-            tables,
+            shared,
+            own,
             number: 0,
-            at: 0,
+            by_own: false,
             is_fresh: true,
         })
     }
@@ -151,10 +151,8 @@ impl Occurrences {
     fn make_ready(&mut self, prepared: &Prepared, text: &Text)
         requires room { RoomAt (length text.now) self.old.number prepared.now.arena.expr self.old }
         requires used { self.old.is_fresh ≡ false → HasTable prepared.now.arena.expr text.now self.old }
-        ensures room { KeepsRoom prepared.now.arena.expr self.old self.new }
-        ensures at { RoomAt (length text.now) self.new.number prepared.now.arena.expr self.new }
-        ensures ready { self.new.is_fresh ≡ false }
-        ensures used { HasTable prepared.now.arena.expr text.now self.new }
+        ensures ready { IsReady prepared.now.arena.expr text.now self.old self.new }
+        ensures used { self.new.is_fresh ≡ false }
         ensures same { self.old.is_fresh ≡ false → self.new ≡ self.old }
         ensures owed { let m = length prepared.now.arena.expr.nodes in let n = length text.now in
             IsTrue self.old.is_fresh → owed_behind m n self.new.seeking 0 + 42 * m ≤ 306 * m * (n + 1) }
@@ -162,42 +160,19 @@ impl Occurrences {
         if !self.is_fresh {
             return;
         }
-        let at = own_table(&self.tables, self.number, &self.seeking.kept, text.len());
-        fit_first(&mut self.tables, at, prepared);
-        self.at = at;
-        let subject = Subject { prepared, text };
-        begin_text(subject, &self.tables.all[self.at], &mut self.seeking);
         self.is_fresh = false;
-    }
-}
-
-/// The table of the expression of this number, where it has its own and what is kept has room for the blocks of its passes over a text
-/// of so many bytes; else the first one.
-fn own_table(tables: &BackTables, number: usize, kept: &Kept, bytes: usize) -> usize
-    requires number { number < length tables.now.slots.items }
-    requires within { (k : ℕ) → slice_get tables.now.slots.items number ≡ Some k → 0 < k → k < length tables.now.all.items }
-    requires states { (k : ℕ) (t : Table) → slice_get tables.now.slots.items number ≡ Some k → 0 < k → slice_get tables.now.all.items k ≡ Some t →
-        (2 ≤ t.room) × (t.room ≤ 65535) }
-    requires few { length kept.now.edges ≤ 65536 }
-    ensures own { 0 < result → slice_get tables.now.slots.items number ≡ Some result }
-    ensures room { 0 < result → (t : Table) → slice_get tables.now.all.items result ≡ Some t → bytes < length kept.now.edges / 2 * (t.room - 1) }
-{
-    let slot = tables.slots[number];
-    if slot > 0 && has_blocks(kept, tables.all[slot].room, bytes) {
-        slot
-    } else {
-        0
-    }
-}
-
-/// Has the first table serve the expression, where it is to.
-fn fit_first(tables: &mut BackTables, at: usize, prepared: &Prepared)
-    requires first { at ≡ 0 → TableIs tables.old.all.items 0 (λ t. IsRoomy (length prepared.now.arena.expr.nodes) t) }
-    ensures others { 0 < at → tables.new ≡ tables.old }
-    ensures first { at ≡ 0 → SetsTable prepared.now 0 tables.old tables.new }
-{
-    if at == 0 {
-        tables.all[0].fit(prepared);
+        let subject = Subject { prepared, text };
+        match own_for(&self.own, self.number, &self.seeking.kept, text.len()) {
+            Some(own) => {
+                self.by_own = true;
+                begin_text(subject, own, &mut self.seeking);
+            }
+            None => {
+                self.by_own = false;
+                self.shared.fit(prepared);
+                begin_text(subject, &self.shared, &mut self.seeking);
+            }
+        }
     }
 }
 
@@ -255,8 +230,13 @@ pub fn next_by(
     ensures looks { SearchTakes (length sought.now.prepared.arena.expr.nodes) (length text.now) (unwrap_or last 0) steps.old steps.new result }
 {
     occurrences.make_ready(&sought.prepared, text);
-    let at = occurrences.at;
-    let back = &mut occurrences.tables.all[at];
     let seeking = &mut occurrences.seeking;
-    next_with(sought, text, ahead, back, seeking, last, steps)
+    if !occurrences.by_own {
+        let back = &mut occurrences.shared;
+        return next_with(sought, text, ahead, back, seeking, last, steps);
+    }
+    match &mut occurrences.own[occurrences.number] {
+        Some(back) => next_with(sought, text, ahead, back, seeking, last, steps),
+        None => unreachable!(),
+    }
 }

@@ -1,5 +1,0 @@
-use Rattle.sedmatch.proofs.OccurrenceLemmas.{AreFirst}
-use Rattle.sedmatch.proofs.occurrences.new_tables.Given as goal
-
-abbrev pub invariant-loop-x : goal.invariant-loop-x
-invariant-loop-x l = AreFirst l.fn.matchers l.x l.fn.shared l.all.items l.slots.items

@@ -1,0 +1,5 @@
+use Rattle.sedmatch.proofs.OccurrenceLemmas.{AreFirst}
+use Rattle.sedmatch.proofs.occurrences.own_tables.Given as goal
+
+abbrev pub invariant-loop-x : goal.invariant-loop-x
+invariant-loop-x l = AreFirst l.fn.matchers l.x l.own.items
