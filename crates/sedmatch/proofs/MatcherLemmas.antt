@@ -173,9 +173,10 @@ square zero = omega arith
 square (suc n) = omega arith
 
 -- the groups of a match of so many bytes, in a text of n bytes
-pub groups_within : (m n long : ℕ) → 1 ≤ m → long ≤ n → 172 * m * (m - 1) * long + 2 * m ≤ 51 * m * m * (n + 1) * (n + 1)
-groups_within m n long some few =
-    let k = m - 1 in
+pub groups_within : (m n long : ℕ) → long ≤ n → 172 * m * (m - 1) * long + 2 * m ≤ 51 * m * m * (n + 1) * (n + 1)
+groups_within zero n long few = omega arith
+groups_within (suc k) n long few =
+    let m = suc k in
     let is : m ≡ k + 1 = omega arith in
     let sq = square n in
     let ksq = mul-le-mul_left k sq in

@@ -7,13 +7,14 @@ use Rattle.std.proofs.lemmas.Bool.{cases_eq, cases_lt}
 use Rattle.std.proofs.lemmas.Grind.{get_or-set_at}
 use Rattle.std.proofs.lemmas.List.{get_or_append_left, get_or_push}
 use Rattle.std.proofs.lemmas.Option.{get_or_from_slice_get, slice_get-get_or, slice_get_read, slice_get_within}
-use Rattle.sedre.specs.Tree.{WrittenExpression, Tree}
+use Rattle.sedre.specs.Tree.{WrittenExpression, expression_tree, Tree}
 use Rattle.sedtext.specs.Costs.{CostsWithin}
 use Rattle.sedre.specs.Steps.{TakesAtLeast}
-use Rattle.sedtext.specs.Following.{LiesOn, Occurs, bytes_passed}
+use Rattle.sedtext.specs.Following.{LiesOn, Occurs, bytes_passed, next_span}
+use Rattle.sedtext.specs.Matching.{found}
 use Rattle.sedtext.specs.Words.{row_of}
 use Rattle.sedpass.specs.Kept.{KeptRoom, SameSpace}
-use Rattle.sedpass.specs.Occurrences.{owed_behind}
+use Rattle.sedpass.specs.Occurrences.{SearchTakes, owed_behind}
 use Rattle.sedpass.specs.Search.{Searched, Serves as SearchServes, owed_after as owed_after_search, search_cost}
 use Rattle.sedpass.specs.Table.{IsRoomy, IsTable, SameRoom, SameShape}
 use Rattle.sedpass.specs.declared.search.Seeking.{Seeking}
@@ -25,10 +26,10 @@ use Rattle.sedpass.proofs.ExpressionLemmas.{serves_for, table_for}
 use Rattle.sedpass.proofs.OccurrenceLemmas.{search_falls}
 use Rattle.sedpass.proofs.SearchLemmas.{search_long}
 use Rattle.sedpass.proofs.TableLemmas.{roomy_fewer, roomy_still}
-use Rattle.sedmatch.proofs.PassLemmas.{blocks_suffice, halves, kept_room}
+use Rattle.sedmatch.proofs.PassLemmas.{blocks_suffice, few_looks, halves, kept_room}
 use Rattle.sedmatch.specs.declared.occurrences.Occurrences.{Occurrences}
 use Rattle.sedmatch.specs.Passes.{IsRoomyWay, back_way}
-use Rattle.sedmatch.specs.Occurrences.{HasTable, HaveOwn, IsBack, IsReady, KeepsRoom, RoomAt, RoomFor, Serves, ServesIn, ServesOn, owed, owed_after, owed_search}
+use Rattle.sedmatch.specs.Occurrences.{HasTable, HaveOwn, IsBack, IsReady, RoomAt, RoomFor, Serves, ServesIn, ServesOn, TellsNext, owed, owed_after, owed_search}
 
 -- Lists.
 
@@ -180,9 +181,6 @@ behind_falls m n q s =
     let b = mul-le-mul_left (84 * m) rest in
     omega (arith, a, b)
 
-few_looks : (m n : ℕ) → 1 ≤ m → 3 * n ≤ 3 * m * (n + 1)
-few_looks m n some = let h = mul-le-mul_left (n + 1) some in omega (arith, h)
-
 due_enough : (m n : ℕ) (last : Option ℕ) (old mid : Occurrences) → 1 ≤ m → (last ≡ None → IsTrue old.is_fresh) → (old.is_fresh ≡ false → mid ≡ old) →
     (IsTrue old.is_fresh → owed_behind m n mid.seeking 0 + 42 * m ≤ 306 * m * (n + 1)) → owed_search m n last mid.seeking ≤ owed m n last old
 due_enough m n None old mid some fresh same begun =
@@ -200,7 +198,7 @@ due_enough m n (Some q) old mid some fresh same begun = by old.is_fresh refl
         subst (λ (b : Bool). owed_behind m n mid.seeking q ≤ (if b then 372 * m * (n + 1) + 28 * m * (n + 1 - q) else owed_behind m n old.seeking q)) (sym is)
         (subst (λ (x : Occurrences). owed_behind m n x.seeking q ≤ owed_behind m n old.seeking q) (sym (same is)) (omega arith))
 
-pub paid : (m n : ℕ) (last : Option ℕ) (old mid new : Occurrences) (r : Option (ℕ × ℕ)) (s t : ℕ) → 1 ≤ m → (last ≡ None → IsTrue old.is_fresh) → (old.is_fresh ≡ false → mid ≡ old) →
+paid : (m n : ℕ) (last : Option ℕ) (old mid new : Occurrences) (r : Option (ℕ × ℕ)) (s t : ℕ) → 1 ≤ m → (last ≡ None → IsTrue old.is_fresh) → (old.is_fresh ≡ false → mid ≡ old) →
     (IsTrue old.is_fresh → owed_behind m n mid.seeking 0 + 42 * m ≤ 306 * m * (n + 1)) → new.is_fresh ≡ false →
     CostsWithin s t (owed_search m n last mid.seeking) (owed_after_search (owed_behind m n new.seeking) r) → CostsWithin s t (owed m n last old) (owed_after m n r new)
 paid m n last old mid new r s t some fresh same begun used pays =
@@ -257,7 +255,7 @@ module _ (p : Prepared) (w : List ℕ) (a a' b b' : Table) (o : Occurrences) (s 
         shared = λ h. absurd (true≢false (sym by ∙ h));
       })
 
-pub serves_on : (e : WrittenExpression) (w : List ℕ) (old mid new : Occurrences) (r : Option (ℕ × ℕ)) → IsReady e w old mid → IsReady e w mid new → ServesOn e w r old new
+serves_on : (e : WrittenExpression) (w : List ℕ) (old mid new : Occurrences) (r : Option (ℕ × ℕ)) → IsReady e w old mid → IsReady e w mid new → ServesOn e w r old new
 serves_on e w old mid new r first next = (
   (
     next.keeps.0 ∙ first.keeps.0,
@@ -334,7 +332,7 @@ lies_first n (Some f) lies = (lies.1, lies.2, tt)
 
 -- What is looked at at least, where an occurrence is sought after the last one.
 
-pub looks_at_occurrence : (e : Tree) (w : List ℕ) (last : Option ℕ) (s t : ℕ) (r : Option (ℕ × ℕ)) → IfSome r (Occurs e w last) → IfSome r (λ f. TakesAtLeast s t (f.1 - unwrap_or last 0)) →
+looks_at_occurrence : (e : Tree) (w : List ℕ) (last : Option ℕ) (s t : ℕ) (r : Option (ℕ × ℕ)) → IfSome r (Occurs e w last) → IfSome r (λ f. TakesAtLeast s t (f.1 - unwrap_or last 0)) →
     IfSome r (λ f. TakesAtLeast s t (f.1 - f.0))
 looks_at_occurrence e w last s t None occurs looks = tt
 looks_at_occurrence e w None s t (Some f) occurs looks = least_fewer s t (f.1 - 0) (f.1 - f.0) (omega arith) looks
@@ -348,3 +346,19 @@ looks_passed (Some q) s t (Some f) looks = least_fewer s t (f.1 - q) (f.1 - (q +
 pub looks_since : (passed : ℕ × ℕ → ℕ) (s t u : ℕ) (r : Option (ℕ × ℕ)) → s ≤ t → IfSome r (λ f. TakesAtLeast t u (passed f)) → IfSome r (λ f. TakesAtLeast s u (passed f))
 looks_since passed s t u None grows looks = tt
 looks_since passed s t u (Some f) grows looks = least_since s t u (passed f) grows looks
+
+-- what a search by passes tells
+pub tells : (e : WrittenExpression) (w : List ℕ) (last : Option ℕ) (old mid new : Occurrences) (r : Option (ℕ × ℕ)) (s t : ℕ) → 1 ≤ length e.nodes → Serves e w last old → IsReady e w old mid → IsReady e w mid new →
+    (old.is_fresh ≡ false → mid ≡ old) → (IsTrue old.is_fresh → owed_behind (length e.nodes) (length w) mid.seeking 0 + 42 * length e.nodes ≤ 306 * length e.nodes * (length w + 1)) → new.is_fresh ≡ false →
+    r ≡ next_span (found (expression_tree e) w) (length w) last → IfSome r (Occurs (expression_tree e) w last) →
+    CostsWithin s t (owed_search (length e.nodes) (length w) last mid.seeking) (owed_after_search (owed_behind (length e.nodes) (length w) new.seeking) r) →
+    SearchTakes (length e.nodes) (length w) (unwrap_or last 0) s t r → TellsNext e w last old new s t r
+tells e w last old mid new r s t some serves ready searched same owed used next occurs cost looks = record {
+  next = next;
+  occurs = occurs;
+  serves = serves_on e w old mid new r ready searched;
+  cost = paid (length e.nodes) (length w) last old mid new r s t some serves.fresh same owed used cost;
+  once = looks.once;
+  counts = looks_at_occurrence (expression_tree e) w last s t r occurs looks.counts;
+  passes = λ early. looks_passed last s t r looks.counts;
+}

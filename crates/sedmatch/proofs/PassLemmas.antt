@@ -4,9 +4,10 @@ use Rattle.std.specs.Prelude.{slice_set}
 use Rattle.std.proofs.lemmas.Bool.{cases_lt}
 use Rattle.std.proofs.Math.Nat.{lt-div-mul-add}
 use Rattle.sedre.specs.Arena.{IsExpr}
-use Rattle.sedre.specs.Tree.{WrittenExpression, expression_tree, Tree}
-use Rattle.sedre.specs.Steps.{TakesAtLeast}
-use Rattle.sedtext.specs.Caps.{IsReport}
+use Rattle.sedre.specs.Tree.{WrittenExpression, expression_tree}
+use Rattle.sedre.specs.Steps.{Takes, TakesAtLeast}
+use Rattle.sedtext.specs.Costs.{CostsWithin}
+use Rattle.sedtext.specs.Following.{PassesOver}
 use Rattle.sedtext.specs.Groups.{no_groups}
 use Rattle.sedtext.specs.Spans.{SomeFound, Matches}
 use Rattle.sedtext.proofs.GroupLemmas.{Captures-none, no_groups_at}
@@ -14,7 +15,6 @@ use Rattle.sedtext.specs.Needed.{Narrowed}
 use Rattle.sedpass.specs.Decide.{AreGroupTables, AreRoomy, HasDesk, HasSpace, SameRooms}
 use Rattle.sedpass.specs.Kept.{KeptRoom, SameSpace}
 use Rattle.sedtext.specs.Words.{row_of}
-use Rattle.sedpass.specs.Walks.{EntersGroups}
 use Rattle.sedpass.specs.Table.{IsRoomy, IsTable, SameRoom, SameShape}
 use Rattle.sedpass.specs.declared.groups.GroupRoom.{GroupRoom}
 use Rattle.sedpass.specs.declared.groups.GroupTables.{GroupTables}
@@ -23,43 +23,51 @@ use Rattle.sedpass.specs.declared.kept.Subject.{Subject}
 use Rattle.sedpass.specs.declared.nodes.Prepared.{Prepared}
 use Rattle.sedpass.specs.declared.rows.Work.{Work}
 use Rattle.sedpass.specs.declared.table.Table.{Table}
+use Rattle.sedpass.proofs.CountLemmas.{passes_later}
 use Rattle.sedpass.proofs.DecideLemmas.{has_desk, space_again}
 use Rattle.sedpass.proofs.TableLemmas.{roomy_fewer, roomy_still}
 use Rattle.sedpass.proofs.WalkLemmas.{enters_nothing}
-use Rattle.sedmatch.specs.Passes.{AreOwn, IsDesk, IsRoomyWay, KeepsDesk, any_way, back_way}
+use Rattle.sedmatch.specs.Passes.{AreOwn, IsDesk, IsRoomyWay, KeepsDesk, TellsGroups, TellsMatch, any_way, back_way}
 use Rattle.sedmatch.specs.declared.passes.OwnTables.{OwnTables}
 use Rattle.sedmatch.specs.declared.scratch.Desk.{Desk}
 
 -- What is told of a text.
 
+pub few_looks : (m n : ℕ) → 1 ≤ m → 3 * n ≤ 3 * m * (n + 1)
+few_looks m n some = let h = mul-le-mul_left (n + 1) some in omega (arith, h)
+
 -- where none begins before a place, one begins from there on if one does from an earlier place on
-found_past : (e : Tree) (w : List ℕ) (from start : ℕ) → Narrowed e w from (Some start) → SomeFound e w start ↔ SomeFound e w from
-found_past e w from start is = (
-  (λ f. (f.0, f.1, (let after = f.2 in let past = is.0 in omega (arith, after, past)), f.3, f.4)),
-  λ f. (f.0, f.1, ⊎_elim (λ (before : f.0 < start). absurd (is.2 f.0 f.1 f.2 before f.4)) (λ (after : start ≤ f.0). after) (cases_lt f.0 start), f.3, f.4),
-)
-
-pub matches_past : (told : Bool) (e : Tree) (w : List ℕ) (from start : ℕ) → Narrowed e w from (Some start) → (IsTrue told ↔ SomeFound e w start) → IsTrue told ↔ SomeFound e w from
-matches_past told e w from start is tells =
-    let past = found_past e w from start is in
-    ((λ b. past.0 (tells.0 b)), λ f. tells.1 (past.1 f))
-
--- what an expression without groups reports
-pub whole_reported : (e : WrittenExpression) (w : List ℕ) (i j : ℕ) → IsExpr e.nodes e.groups → e.groups ≡ 0 → Matches (expression_tree e) w i j → IsReport (expression_tree e) w i j (slice_set no_groups 0 (Some (i, j)))
-whole_reported e w i j expr none s =
-    let some = expr.arena.nonempty in
-    (no_groups, Captures-none (expression_tree e) (no_groups_at e.nodes e.groups expr none (length e.nodes - 1) (omega (arith, some))) w i j no_groups s, refl)
-
--- no node is entered for an expression without groups
-pub none_entered : (e : WrittenExpression) (w : List ℕ) (i j s : ℕ) → IsExpr e.nodes e.groups → e.groups ≡ 0 → EntersGroups (expression_tree e) w i j s s
-none_entered e w i j s expr none =
-    let some = expr.arena.nonempty in
-    enters_nothing (expression_tree e) w i j s (no_groups_at e.nodes e.groups expr none (length e.nodes - 1) (omega (arith, some)))
+pub told_past : (e : WrittenExpression) (w : List ℕ) (from start s t u : ℕ) (told : Bool) → 1 ≤ length e.nodes → Narrowed (expression_tree e) w from (Some start) → CostsWithin s t (3 * length w) (3 * from) →
+    TakesAtLeast s t (start - from) → (IsTrue told ↔ SomeFound (expression_tree e) w start) → (IsTrue told → PassesOver (expression_tree e) w start t u) → Takes t u (41 * length e.nodes * (length w + 1)) →
+    TellsMatch e w from s u told
+told_past e w from start s t u told some is looks counts tells over cost =
+    let few = few_looks (length e.nodes) (length w) some in
+    record {
+      matches = (
+        (λ b. let f = tells.0 b in (f.0, f.1, (let after = f.2 in let past = is.0 in omega (arith, after, past)), f.3, f.4)),
+        λ f. tells.1 (f.0, f.1, ⊎_elim (λ (before : f.0 < start). absurd (is.2 f.0 f.1 f.2 before f.4)) (λ (after : start ≤ f.0). after) (cases_lt f.0 start), f.3, f.4),
+      );
+      passes = λ h. passes_later (expression_tree e) w from start s t u is.0 looks.0 counts (over h);
+      cost = ((let a = looks.0 in let b = cost.0 in omega (arith, a, b)), (let a = looks.1 in let b = cost.1 in omega (arith, a, b, few)));
+    }
 
 -- one entry alone takes no step
-pub one_alone : (s n : ℕ) → n ≡ 1 → TakesAtLeast s s (n - 1)
+one_alone : (s n : ℕ) → n ≡ 1 → TakesAtLeast s s (n - 1)
 unfolding TakesAtLeast
 one_alone s n one = omega (arith, one)
+
+-- what an expression without groups reports; no node is entered for it
+pub whole_told : (e : WrittenExpression) (w : List ℕ) (span : ℕ × ℕ) (s : ℕ) → IsExpr e.nodes e.groups → e.groups ≡ 0 → Matches (expression_tree e) w span.0 span.1 → TellsGroups e w span s s (slice_set no_groups 0 (Some span))
+whole_told e w span s expr none spans =
+    let some = expr.arena.nonempty in
+    let bare = no_groups_at e.nodes e.groups expr none (length e.nodes - 1) (omega (arith, some)) in
+    record {
+      report = (no_groups, Captures-none (expression_tree e) bare w span.0 span.1 no_groups spans, refl);
+      none_cost = λ h. refl;
+      cost = (omega arith, omega arith);
+      counts = one_alone s 1 refl;
+      entered = enters_nothing (expression_tree e) w span.0 span.1 s bare;
+    }
 
 -- Tables.
 

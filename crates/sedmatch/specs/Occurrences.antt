@@ -1,7 +1,11 @@
 -- What the searches for all occurrences in one text keep, and what they may cost. `Occurrences::new` and `begin` give it, and callers
 -- hand it on from call to call, so that nobody has to read it.
 use Rattle.std.specs.Prelude.{◌≡◌, ℕ, ◌+◌, ◌-◌, ◌*◌, ◌≤◌, false, if◌then◌else◌, List, length, slice_get, Option, Some, None, IfSome, IsTrue}
-use Rattle.sedre.specs.Tree.{WrittenExpression}
+use Rattle.sedre.specs.Steps.{Takes, TakesAtLeast}
+use Rattle.sedre.specs.Tree.{WrittenExpression, expression_tree}
+use Rattle.sedtext.specs.Costs.{CostsWithin}
+use Rattle.sedtext.specs.Following.{CanEndEarly, Occurs, bytes_passed, next_span}
+use Rattle.sedtext.specs.Matching.{found}
 use Rattle.sedpass.specs.Kept.{KeptRoom}
 use Rattle.sedpass.specs.Occurrences.{owed_behind}
 use Rattle.sedpass.specs.Search.{Serves as SearchServes}
@@ -95,3 +99,13 @@ owed m n (Some q) o = owed_from m n q o
 abbrev pub owed_after : ℕ → ℕ → Option (ℕ × ℕ) → Occurrences → ℕ
 owed_after m n None o = 0
 owed_after m n (Some f) o = owed m n (Some f.1) o
+
+-- what one call tells: the next occurrence after the last one; what is kept serves on, and pays for the steps
+pub record TellsNext (e : WrittenExpression) (w : List ℕ) (last : Option ℕ) (old new : Occurrences) (before after : ℕ) (r : Option (ℕ × ℕ)) : Type 0 where
+  pub next : r ≡ next_span (found (expression_tree e) w) (length w) last
+  pub occurs : IfSome r (Occurs (expression_tree e) w last)
+  pub serves : ServesOn e w r old new
+  pub cost : CostsWithin before after (owed (length e.nodes) (length w) last old) (owed_after (length e.nodes) (length w) r new)
+  pub once : Takes before after (64 * length e.nodes * length e.nodes * (length w + 1) * (length w + 1))
+  pub counts : IfSome r (λ f. TakesAtLeast before after (f.1 - f.0))
+  pub passes : CanEndEarly (expression_tree e) → IfSome r (λ f. TakesAtLeast before after (bytes_passed last f))

@@ -1,11 +1,17 @@
 -- Private to the proofs: no contract of a public item cites what stands here.
 -- An expression that is searched by passes, with its tables, and the room for passes.
-use Rattle.std.specs.Prelude.{◌≡◌, ℕ, ◌+◌, ◌-◌, ◌/◌, ◌≤◌, true, false, length, vec_capacity, Option, Some, None}
+use Rattle.std.specs.Prelude.{◌≡◌, ℕ, ◌+◌, ◌-◌, ◌*◌, ◌/◌, ◌≤◌, ◌↔◌, Bool, true, false, List, length, vec_capacity, Option, Some, None, IsTrue}
 use Rattle.sedre.specs.Tree.{WrittenExpression, expression_tree}
+use Rattle.sedre.specs.Steps.{Takes, TakesAtLeast}
 use Rattle.sedtext.specs.Beginnings.{AllBegin}
+use Rattle.sedtext.specs.Caps.{IsReport}
+use Rattle.sedtext.specs.Following.{PassesOver}
+use Rattle.sedtext.specs.Groups.{Groups}
 use Rattle.sedtext.specs.Hints.{AreHints}
-use Rattle.sedpass.specs.Decide.{AreGroupTables, AreRoomy, HasSpace}
+use Rattle.sedtext.specs.Spans.{SomeFound}
+use Rattle.sedpass.specs.Decide.{AreGroupTables, AreRoomy, HasSpace, found}
 use Rattle.sedpass.specs.Table.{IsRoomy, IsTable}
+use Rattle.sedpass.specs.Walks.{EntersGroups}
 use Rattle.sedpass.specs.declared.nodes.Prepared.{Prepared}
 use Rattle.sedpass.specs.declared.rows.Way.{Way}
 use Rattle.sedpass.specs.declared.table.Table.{Table}
@@ -69,3 +75,19 @@ KeepsDesk old new = IsDesk new × (new.max_text ≡ old.max_text) × (new.max_no
 -- an expression of at most m nodes can be made ready there
 abbrev pub Prepares : ℕ → Prepared → Type 0
 Prepares m p = (m ≤ p.arena.room) × (m ≤ vec_capacity p.facts)
+
+-- What one call tells of an expression in a text, in how many steps.
+
+-- whether a match begins at the place or later
+pub record TellsMatch (e : WrittenExpression) (w : List ℕ) (from before after : ℕ) (told : Bool) : Type 0 where
+  pub matches : IsTrue told ↔ SomeFound (expression_tree e) w from
+  pub passes : IsTrue told → PassesOver (expression_tree e) w from before after
+  pub cost : Takes before after (64 * length e.nodes * (length w + 1))
+
+-- the groups of a match that begins and ends at these places
+pub record TellsGroups (e : WrittenExpression) (w : List ℕ) (span : ℕ × ℕ) (before after : ℕ) (groups : Groups) : Type 0 where
+  pub report : IsReport (expression_tree e) w span.0 span.1 groups
+  pub none_cost : e.groups ≡ 0 → after ≡ before
+  pub cost : Takes before after (172 * length e.nodes * (length e.nodes - 1) * (span.1 - span.0) + 2 * length e.nodes)
+  pub counts : TakesAtLeast before after (found groups - 1)
+  pub entered : EntersGroups (expression_tree e) w span.0 span.1 before after

@@ -12,11 +12,12 @@ ghost use Rattle.sedre.specs.declared.types.Node.TheVariants.{Seq, Set};
 ghost use Rattle.sedtext.specs.Answer.{SpanAnswer};
 ghost use Rattle.sedtext.specs.Bytes.{looked_at};
 ghost use Rattle.sedtext.specs.Costs.{CostsWithin};
-ghost use Rattle.sedtext.specs.Following.{CanEndEarly, PassesOver};
-ghost use Rattle.sedtext.specs.Spans.{SomeFound, IsIn};
+ghost use Rattle.sedtext.specs.Following.{CanEndEarly};
+ghost use Rattle.sedtext.specs.Spans.{IsIn};
 ghost use Rattle.sedtext.specs.Word.{AllWord};
 ghost use Rattle.sedmatch.specs.Candidates.{NoMatchBefore};
 ghost use Rattle.sedmatch.specs.Direct.{CanComeFirst, FirstWith, FirstStart, FirstSpan, HasForm, IsDirect, end_or, bytes_looked_at, rate};
+ghost use Rattle.sedmatch.specs.Passes.{TellsMatch};
 ghost use Rattle.sedmatch.specs.declared.direct.DirectForm.TheVariants.{ByteThenRunAtEnd, Anchor as AnchorForm, OneByte, Run, ByteThenRun, RunAtEnd, Times, Literal as LiteralForm, Choice as ChoiceForm};
 
 use crate::Span;
@@ -500,9 +501,7 @@ pub fn direct_span(form: &DirectForm, text: &Text, from: usize, steps: &mut Step
 /// Whether any match begins at `from` or later.
 pub fn direct_matches(form: &DirectForm, text: &Text, from: usize, steps: &mut Steps) -> bool
     requires from { from ≤ length text.now }
-    ensures matches { (e : WrittenExpression) → IsDirect e form.now → IsTrue result ↔ SomeFound (expression_tree e) text.now from }
-    ensures passes { (e : WrittenExpression) → IsDirect e form.now → IsTrue result → PassesOver (expression_tree e) text.now from steps.old steps.new }
-    ensures cost { Takes steps.old steps.new (rate form.now * (length text.now + 1)) }
+    ensures { (e : WrittenExpression) → IsDirect e form.now → TellsMatch e text.now from steps.old steps.new result }
 {
     direct_span(form, text, from, steps).is_some()
 }

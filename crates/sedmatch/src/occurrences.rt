@@ -9,7 +9,7 @@ ghost use Rattle.sedpass.specs.Occurrences.{SearchTakes, owed_behind};
 ghost use Rattle.sedpass.specs.Search.{MaySearch, Searched, owed_after as owed_after_search};
 ghost use Rattle.sedpass.specs.Table.{IsAhead, SameShape};
 ghost use Rattle.sedpass.specs.declared.table.Table.{Table};
-ghost use Rattle.sedmatch.specs.Occurrences.{HasTable, HaveOwn, IsBack, IsReady, RoomAt, RoomFor, Serves, ServesOn, owed, owed_after, owed_search};
+ghost use Rattle.sedmatch.specs.Occurrences.{HasTable, HaveOwn, IsBack, IsReady, RoomAt, RoomFor, Serves, TellsNext, owed_search};
 ghost use Rattle.sedmatch.specs.Passes.{IsSought};
 
 use crate::Span;
@@ -222,12 +222,7 @@ pub fn next_by(
     requires serves { Serves sought.now.prepared.arena.expr text.now last occurrences.old }
     ensures ahead { IsAhead sought.now.prepared ahead.new }
     ensures ahead_shape { SameShape ahead.old ahead.new }
-    ensures next { result ≡ next_span (found (expression_tree sought.now.prepared.arena.expr) text.now) (length text.now) last }
-    ensures occurs { IfSome result (Occurs (expression_tree sought.now.prepared.arena.expr) text.now last) }
-    ensures serves { ServesOn sought.now.prepared.arena.expr text.now result occurrences.old occurrences.new }
-    ensures cost { let m = length sought.now.prepared.arena.expr.nodes in let n = length text.now in
-        CostsWithin steps.old steps.new (owed m n last occurrences.old) (owed_after m n result occurrences.new) }
-    ensures looks { SearchTakes (length sought.now.prepared.arena.expr.nodes) (length text.now) (unwrap_or last 0) steps.old steps.new result }
+    ensures told { TellsNext sought.now.prepared.arena.expr text.now last occurrences.old occurrences.new steps.old steps.new result }
 {
     occurrences.make_ready(&sought.prepared, text);
     let seeking = &mut occurrences.seeking;

@@ -2,17 +2,15 @@
 ghost use Rattle.std.specs.Prelude.{◌≡◌, ℕ, List, ◌+◌, ◌-◌, ◌*◌, ◌/◌, ◌<◌, ◌≤◌, ◌↔◌, [], length, vec_capacity, IfOk, IsTrue};
 ghost use Rattle.sedre.specs.Arena.{IsExpr};
 ghost use Rattle.sedre.specs.Tree.{WrittenExpression, expression_tree};
-ghost use Rattle.sedre.specs.Steps.{Takes, TakesAtLeast};
+ghost use Rattle.sedre.specs.Steps.{Takes};
 ghost use Rattle.sedtext.specs.Beginnings.{AllBegin};
 ghost use Rattle.sedtext.specs.Following.{PassesOver};
 ghost use Rattle.sedpass.specs.Find.{IsSweep};
-ghost use Rattle.sedpass.specs.Walks.{EntersGroups};
 ghost use Rattle.sedpass.specs.Table.{IsAhead, SameShape};
-ghost use Rattle.sedtext.specs.Caps.{IsReport};
 ghost use Rattle.sedtext.specs.Spans.{SomeFound, Matches};
-ghost use Rattle.sedpass.specs.Decide.{HasDesk, SameTables, found};
+ghost use Rattle.sedpass.specs.Decide.{HasDesk, SameTables};
 ghost use Rattle.sedpass.specs.Kept.{SameSpace};
-ghost use Rattle.sedmatch.specs.Passes.{AreOwn, ArePasses, IsDesk, KeepsDesk};
+ghost use Rattle.sedmatch.specs.Passes.{AreOwn, ArePasses, IsDesk, KeepsDesk, TellsGroups, TellsMatch};
 
 use crate::Span;
 use crate::scratch::Desk;
@@ -178,9 +176,7 @@ pub fn matches_by(
     ensures same { passes.new.sought ≡ passes.old.sought }
     ensures own { AreOwn passes.new.sought.prepared passes.new.own }
     ensures desk { KeepsDesk desk.old desk.new }
-    ensures matches { IsTrue result ↔ SomeFound (expression_tree passes.old.sought.prepared.arena.expr) text.now from }
-    ensures passes { IsTrue result → PassesOver (expression_tree passes.old.sought.prepared.arena.expr) text.now from steps.old steps.new }
-    ensures cost { Takes steps.old steps.new (44 * length passes.old.sought.prepared.arena.expr.nodes * (length text.now + 1)) }
+    ensures told { TellsMatch passes.old.sought.prepared.arena.expr text.now from steps.old steps.new result }
 {
     let sought = &passes.sought;
     let Some(start) = sought.hints.first_place(text, from, steps) else {
@@ -199,9 +195,8 @@ pub fn matches_by(
 
 /// The groups of a match of an expression without groups.
 pub fn whole_alone(span: Span) -> Spans
-    ensures report { (e : WrittenExpression) (w : List ℕ) → IsExpr e.nodes e.groups → e.groups ≡ 0 → Matches (expression_tree e) w span.0 span.1 → IsReport (expression_tree e) w span.0 span.1 result }
-    ensures one { found result ≡ 1 }
-    ensures entered { (e : WrittenExpression) (w : List ℕ) (s : ℕ) → IsExpr e.nodes e.groups → e.groups ≡ 0 → EntersGroups (expression_tree e) w span.0 span.1 s s }
+    ensures { (e : WrittenExpression) (w : List ℕ) (s : ℕ) → IsExpr e.nodes e.groups → e.groups ≡ 0 → Matches (expression_tree e) w span.0 span.1 →
+        TellsGroups e w span s s result }
 {
     let mut groups = [None; 10];
     groups[0] = Some(span);
@@ -237,12 +232,7 @@ fn groups_with(
     ensures space { SameSpace room.old.kept room.new.kept }
     ensures none { room.new.tasks.items ≡ [] }
     ensures tasks { vec_capacity room.old.tasks ≤ vec_capacity room.new.tasks }
-    ensures report { IsReport (expression_tree subject.entry.prepared.now.arena.expr) subject.entry.text.now span.0 span.1 result }
-    ensures none_cost { subject.entry.prepared.now.arena.expr.groups ≡ 0 → steps.new ≡ steps.old }
-    ensures cost { let m = length subject.entry.prepared.now.arena.expr.nodes in
-        Takes steps.old steps.new (172 * m * (m - 1) * (span.1 - span.0) + 2 * m) }
-    ensures counts { TakesAtLeast steps.old steps.new (found result - 1) }
-    ensures entered { EntersGroups (expression_tree subject.entry.prepared.now.arena.expr) subject.entry.text.now span.0 span.1 steps.old steps.new }
+    ensures told { TellsGroups subject.entry.prepared.now.arena.expr subject.entry.text.now span steps.old steps.new result }
 {
     if subject.prepared.arena.groups() == 0 {
         return whole_alone(span);
@@ -260,12 +250,7 @@ pub fn shared_groups(subject: Subject, span: Span, desk: &mut Desk, steps: &mut 
     requires short { length subject.text.now ≤ desk.old.max_text }
     requires few { length subject.prepared.now.arena.expr.nodes ≤ desk.old.max_nodes }
     ensures desk { KeepsDesk desk.old desk.new }
-    ensures report { IsReport (expression_tree subject.entry.prepared.now.arena.expr) subject.entry.text.now span.0 span.1 result }
-    ensures none_cost { subject.entry.prepared.now.arena.expr.groups ≡ 0 → steps.new ≡ steps.old }
-    ensures cost { let m = length subject.entry.prepared.now.arena.expr.nodes in
-        Takes steps.old steps.new (172 * m * (m - 1) * (span.1 - span.0) + 2 * m) }
-    ensures counts { TakesAtLeast steps.old steps.new (found result - 1) }
-    ensures entered { EntersGroups (expression_tree subject.entry.prepared.now.arena.expr) subject.entry.text.now span.0 span.1 steps.old steps.new }
+    ensures told { TellsGroups subject.entry.prepared.now.arena.expr subject.entry.text.now span steps.old steps.new result }
 {
     desk.shared.fit(subject.prepared);
     groups_with(subject, &mut desk.shared, span, &mut desk.room, steps)
@@ -289,12 +274,7 @@ pub fn groups_by(
     ensures same { passes.new.sought ≡ passes.old.sought }
     ensures own { AreOwn passes.new.sought.prepared passes.new.own }
     ensures desk { KeepsDesk desk.old desk.new }
-    ensures report { IsReport (expression_tree passes.old.sought.prepared.arena.expr) text.now span.0 span.1 result }
-    ensures none_cost { passes.old.sought.prepared.arena.expr.groups ≡ 0 → steps.new ≡ steps.old }
-    ensures cost { let m = length passes.old.sought.prepared.arena.expr.nodes in
-        Takes steps.old steps.new (172 * m * (m - 1) * (span.1 - span.0) + 2 * m) }
-    ensures counts { TakesAtLeast steps.old steps.new (found result - 1) }
-    ensures entered { EntersGroups (expression_tree passes.old.sought.prepared.arena.expr) text.now span.0 span.1 steps.old steps.new }
+    ensures told { TellsGroups passes.old.sought.prepared.arena.expr text.now span steps.old steps.new result }
 {
     let prepared = &passes.sought.prepared;
     let subject = Subject { prepared, text };

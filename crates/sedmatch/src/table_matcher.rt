@@ -1,6 +1,5 @@
 //! An expression that is sought many times.
 ghost use Rattle.std.specs.Prelude.{◌≡◌, ℕ, ◌+◌, ◌-◌, ◌*◌, ◌<◌, ◌≤◌, ◌↔◌, length, IfOk, IfSome, IsTrue, is_some, nat_lt, if◌then◌else◌, None};
-ghost use Rattle.std.specs.Option.{unwrap_or};
 ghost use Rattle.sedre.specs.Tree.{WrittenExpression, expression_tree};
 ghost use Rattle.sedre.specs.Steps.{Takes, TakesAtLeast};
 ghost use Rattle.sedtext.specs.Costs.{CostsWithin};
@@ -12,10 +11,9 @@ ghost use Rattle.sedtext.specs.SearchRoom.{FitInto};
 ghost use Rattle.sedtext.specs.Spans.{SomeFound, Matches};
 ghost use Rattle.sedmatch.specs.Candidates.{NoMatchBefore};
 ghost use Rattle.sedpass.specs.Decide.{found as spans_in};
-ghost use Rattle.sedpass.specs.Occurrences.{SearchTakes};
 ghost use Rattle.sedpass.specs.Walks.{EntersGroups};
 ghost use Rattle.sedmatch.specs.Direct.{IsDirect, end_or, rate};
-ghost use Rattle.sedmatch.specs.Occurrences.{Serves, ServesOn, owed, owed_after, owed_direct, owed_direct_after};
+ghost use Rattle.sedmatch.specs.Occurrences.{Serves, ServesOn, TellsNext, owed, owed_after, owed_direct, owed_direct_after};
 ghost use Rattle.sedmatch.specs.Passes.{AreOwn, ArePasses, IsDesk, KeepsDesk};
 
 use crate::Span;
@@ -125,12 +123,7 @@ fn next_by_passes(
     ensures same { passes.new.sought ≡ passes.old.sought }
     ensures own { AreOwn passes.new.sought.prepared passes.new.own }
     ensures desk { KeepsDesk desk.old desk.new }
-    ensures next { result ≡ next_span (found (expression_tree passes.old.sought.prepared.arena.expr) text.now) (length text.now) last }
-    ensures occurs { IfSome result (Occurs (expression_tree passes.old.sought.prepared.arena.expr) text.now last) }
-    ensures serves { ServesOn passes.old.sought.prepared.arena.expr text.now result occurrences.old occurrences.new }
-    ensures cost { let m = length passes.old.sought.prepared.arena.expr.nodes in let n = length text.now in
-        CostsWithin steps.old steps.new (owed m n last occurrences.old) (owed_after m n result occurrences.new) }
-    ensures looks { SearchTakes (length passes.old.sought.prepared.arena.expr.nodes) (length text.now) (unwrap_or last 0) steps.old steps.new result }
+    ensures told { TellsNext passes.old.sought.prepared.arena.expr text.now last occurrences.old occurrences.new steps.old steps.new result }
 {
     let sought = &passes.sought;
     if let Some(own) = &mut passes.own {

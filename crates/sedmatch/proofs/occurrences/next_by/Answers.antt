@@ -1,7 +1,6 @@
-use Rattle.std.proofs.Common.{Some, length, refl, arith}
+use Rattle.std.proofs.Common.{Some, refl, arith}
 use Rattle.std.specs.Vec.{with_item}
-use Rattle.sedmatch.specs.declared.occurrences.Occurrences.{Occurrences}
-use Rattle.sedmatch.proofs.OccurrenceLemmas.{own_is, own_missing, own_searched, own_serves, own_there, paid, serves_on, shared_searched}
+use Rattle.sedmatch.proofs.OccurrenceLemmas.{own_is, own_missing, own_searched, own_serves, own_there, shared_searched, tells}
 use Rattle.sedmatch.proofs.occurrences.next_by.Goals as goal
 
 pub index_mut-requires : goal.index_mut-requires
@@ -22,45 +21,29 @@ unreachable-requires c =
     own_missing c.args.sought.now.prepared.arena.expr c.args.text.now c.make_ready.new.self c.make_ready.ensures.ready.table c.if-not-occurrences.false
     (own_is c.args.sought.now.prepared.arena.expr c.args.text.now c.make_ready.new.self c.make_ready.ensures.ready.table c.if-not-occurrences.false _ _ c.index_mut.ensures.value c.in-None.is)
 
-pub returns-then-not-occurrences-clause-serves : goal.returns-then-not-occurrences-clause-serves
-returns-then-not-occurrences-clause-serves c =
+pub returns-then-not-occurrences-clause-told : goal.returns-then-not-occurrences-clause-told
+returns-then-not-occurrences-clause-told c =
     let p = c.args.sought.now.prepared in
     let w = c.args.text.now in
     let mid = c.make_ready.new.self in
-    let ready = c.make_ready.ensures.ready in
-    let done = c.next_with.new in
-    let new : Occurrences = record mid { seeking = done.seeking; shared = done.back } in
-    serves_on p.arena.expr w c.args.occurrences.now mid new c.next_with.result ready
-    (shared_searched p w c.args.ahead.now done.ahead mid.shared done.back mid done.seeking ready.room c.next_with.ensures.searched c.if-not-occurrences.true refl)
-
-pub returns-then-not-occurrences-clause-cost : goal.returns-then-not-occurrences-clause-cost
-returns-then-not-occurrences-clause-cost c =
-    let mid = c.make_ready.new.self in
     let first = c.make_ready.ensures in
-    let done = c.next_with.new in
-    let new : Occurrences = record mid { seeking = done.seeking; shared = done.back } in
-    let last = c.args.sought.now.prepared.is_prepared.last in
-    paid (length c.args.sought.now.prepared.arena.expr.nodes) (length c.args.text.now) c.args.last c.args.occurrences.now mid new c.next_with.result c.args.steps.now done.steps (omega (arith, last)) c.requires.serves.fresh
-    first.same first.owed first.used c.next_with.ensures.cost
+    let new = c.next_with.new in
+    let done = c.next_with.ensures in
+    let next = shared_searched p w c.args.ahead.now new.ahead mid.shared new.back mid new.seeking first.ready.room done.searched c.if-not-occurrences.true refl in
+    let last = p.is_prepared.last in
+    tells p.arena.expr w c.args.last c.args.occurrences.now mid (record mid { seeking = new.seeking; shared = new.back }) c.next_with.result c.args.steps.now new.steps (omega (arith, last)) c.requires.serves first.ready next
+    first.same first.owed first.used done.next done.occurs done.cost done.looks
 
-pub returns-clause-serves : goal.returns-clause-serves
-returns-clause-serves c =
+pub returns-clause-told : goal.returns-clause-told
+returns-clause-told c =
     let p = c.args.sought.now.prepared in
     let w = c.args.text.now in
     let mid = c.make_ready.new.self in
-    let ready = c.make_ready.ensures.ready in
-    let done = c.next_with-in-Some.new in
-    let new : Occurrences = record mid { seeking = done.seeking; own = with_item mid.own mid.number (Some done.back) } in
-    serves_on p.arena.expr w c.args.occurrences.now mid new c.next_with-in-Some.result ready
-    (own_searched p w c.args.ahead.now done.ahead c.in-Some.back done.back mid done.seeking ready.room c.next_with-in-Some.ensures.searched c.if-not-occurrences.false
-    (own_is c.args.sought.now.prepared.arena.expr c.args.text.now c.make_ready.new.self c.make_ready.ensures.ready.table c.if-not-occurrences.false _ _ c.index_mut.ensures.value c.in-Some.is))
-
-pub returns-clause-cost : goal.returns-clause-cost
-returns-clause-cost c =
-    let mid = c.make_ready.new.self in
     let first = c.make_ready.ensures in
-    let done = c.next_with-in-Some.new in
-    let new : Occurrences = record mid { seeking = done.seeking; own = with_item mid.own mid.number (Some done.back) } in
-    let last = c.args.sought.now.prepared.is_prepared.last in
-    paid (length c.args.sought.now.prepared.arena.expr.nodes) (length c.args.text.now) c.args.last c.args.occurrences.now mid new c.next_with-in-Some.result c.args.steps.now done.steps (omega (arith, last)) c.requires.serves.fresh
-    first.same first.owed first.used c.next_with-in-Some.ensures.cost
+    let new = c.next_with-in-Some.new in
+    let done = c.next_with-in-Some.ensures in
+    let is = own_is p.arena.expr w mid first.ready.table c.if-not-occurrences.false _ _ c.index_mut.ensures.value c.in-Some.is in
+    let next = own_searched p w c.args.ahead.now new.ahead c.in-Some.back new.back mid new.seeking first.ready.room done.searched c.if-not-occurrences.false is in
+    let last = p.is_prepared.last in
+    tells p.arena.expr w c.args.last c.args.occurrences.now mid (record mid { seeking = new.seeking; own = with_item mid.own mid.number (Some new.back) }) c.next_with-in-Some.result c.args.steps.now new.steps (omega (arith, last))
+    c.requires.serves first.ready next first.same first.owed first.used done.next done.occurs done.cost done.looks

@@ -1,16 +1,19 @@
 use Rattle.std.proofs.Common.{length, arith}
 use Rattle.sedre.specs.Tree.{expression_tree}
-use Rattle.sedpass.proofs.CountLemmas.{passes_later}
-use Rattle.sedmatch.proofs.PassLemmas.{any_serves, desk_again, matches_past, untouched, used_again, worked}
+use Rattle.sedmatch.proofs.PassLemmas.{any_serves, desk_again, told_past, untouched, used_again, worked}
 use Rattle.sedmatch.proofs.passes.matches_by.Goals as goal
 
 pub matches_with-requires-clause-from : goal.matches_with-requires-clause-from
 matches_with-requires-clause-from c = (c.in-Some.ensures.place (expression_tree c.args.passes.now.sought.prepared.arena.expr) c.requires.passes.0.hints).1
 
-pub returns-in-Some-own-clause-matches : goal.returns-in-Some-own-clause-matches
-returns-in-Some-own-clause-matches c =
-    let e = expression_tree c.args.passes.now.sought.prepared.arena.expr in
-    matches_past c.matches_with.result e c.args.text.now c.args.from c.in-Some.start (c.in-Some.ensures.place e c.requires.passes.0.hints) c.matches_with.ensures.matches
+pub returns-in-Some-own-clause-told : goal.returns-in-Some-own-clause-told
+returns-in-Some-own-clause-told c =
+    let p = c.args.passes.now.sought.prepared in
+    let last = p.is_prepared.last in
+    let first = c.in-Some.ensures in
+    let done = c.matches_with.ensures in
+    told_past p.arena.expr c.args.text.now c.args.from c.in-Some.start c.args.steps.now c.first_place.new.steps c.matches_with.new.steps c.matches_with.result (omega (arith, last))
+    (first.place (expression_tree p.arena.expr) c.requires.passes.0.hints) first.cost first.counts done.matches done.passes done.cost
 
 pub fit-requires : goal.fit-requires
 fit-requires c = record { roomy = any_serves (length c.args.passes.now.sought.prepared.arena.expr.nodes) c.args.desk.now c.requires.desk c.requires.few }
@@ -29,19 +32,11 @@ returns-clause-desk c =
     (used_again d.max_nodes p d.any c.fit.new.self new.any is.any.0 c.fit.ensures.room done.any_shape done.any.table) (untouched d.max_nodes d.back is.back.0) (untouched d.max_nodes d.shared.inside is.shared.inside)
     (used_again d.max_nodes p d.shared.ahead c.fit-2.new.self new.ahead is.shared.ahead c.fit-2.ensures.room done.ahead_shape done.ahead.table)
 
-pub returns-clause-matches : goal.returns-clause-matches
-returns-clause-matches c =
-    let e = expression_tree c.args.passes.now.sought.prepared.arena.expr in
-    matches_past c.matches_with-2.result e c.args.text.now c.args.from c.in-Some.start (c.in-Some.ensures.place e c.requires.passes.0.hints) c.matches_with-2.ensures.matches
-
-pub returns-in-Some-own-clause-passes : goal.returns-in-Some-own-clause-passes
-returns-in-Some-own-clause-passes c = λ h.
-    let e = expression_tree c.args.passes.now.sought.prepared.arena.expr in
-    passes_later e c.args.text.now c.args.from c.in-Some.start c.args.steps.now c.first_place.new.steps c.matches_with.new.steps (c.in-Some.ensures.place e c.requires.passes.0.hints).0 c.in-Some.ensures.cost.0 c.in-Some.ensures.counts
-    (c.matches_with.ensures.passes h)
-
-pub returns-clause-passes : goal.returns-clause-passes
-returns-clause-passes c = λ h.
-    let e = expression_tree c.args.passes.now.sought.prepared.arena.expr in
-    passes_later e c.args.text.now c.args.from c.in-Some.start c.args.steps.now c.first_place.new.steps c.matches_with-2.new.steps (c.in-Some.ensures.place e c.requires.passes.0.hints).0 c.in-Some.ensures.cost.0 c.in-Some.ensures.counts
-    (c.matches_with-2.ensures.passes h)
+pub returns-clause-told : goal.returns-clause-told
+returns-clause-told c =
+    let p = c.args.passes.now.sought.prepared in
+    let last = p.is_prepared.last in
+    let first = c.in-Some.ensures in
+    let done = c.matches_with-2.ensures in
+    told_past p.arena.expr c.args.text.now c.args.from c.in-Some.start c.args.steps.now c.first_place.new.steps c.matches_with-2.new.steps c.matches_with-2.result (omega (arith, last))
+    (first.place (expression_tree p.arena.expr) c.requires.passes.0.hints) first.cost first.counts done.matches done.passes done.cost
