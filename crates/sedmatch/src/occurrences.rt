@@ -66,10 +66,7 @@ fn own_table(alloc: Global, matcher: &TableMatcher) -> Result<Option<Table>, All
 }
 
 /// Such tables for the first of the expressions.
-fn own_tables(
-    alloc: Global,
-    matchers: &[TableMatcher],
-) -> Result<Vec<Option<Table>>, AllocError>
+fn own_tables(alloc: Global, matchers: &[TableMatcher]) -> Result<Vec<Option<Table>>, AllocError>
     ensures { IfOk result (λ own. HaveOwn matchers.now own.items) }
 {
     let count = matchers.len().min(MOST_OWN);
