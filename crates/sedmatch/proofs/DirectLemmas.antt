@@ -1,6 +1,6 @@
 -- Expressions whose matches a look at the text tells.
 use Rattle.std.proofs.Common.{◌≡◌, ℕ, max, min, ◌+◌, ◌-◌, ◌*◌, ◌<◌, ◌≤◌, ◌↔◌, Bool, true, false, List, length, Option, Some, None, Result, Ok, Err, IsTrue, refl, sym, ◌∙◌, subst, true≢false, ⊎_elim, arith, mul-le-mul_left}
-use Rattle.std.specs.Prelude.{slice_get, IfOk, IfSome, is_some}
+use Rattle.std.specs.Prelude.{slice_get, IfOk, IfSome, is_some, if◌then◌else◌}
 use Rattle.std.proofs.lemmas.Bool.{cases_lt}
 use Rattle.std.proofs.lemmas.Option.{slice_get_within}
 use Rattle.sedre.specs.Tree.{Tree, set, WrittenExpression, expression_tree, tree_at}
@@ -24,7 +24,7 @@ use Rattle.sedtext.specs.Needed.{IsLiteral, GoesOnAs, FirstLiteral}
 use Rattle.sedtext.specs.Word.{WordSpans, AllWord}
 use Rattle.sedtext.specs.declared.counted.few.Few.{Few}
 use Rattle.sedtext.specs.declared.needed.Literal.{Literal as Bytes}
-use Rattle.sedmatch.specs.Direct.{CanComeFirst, EndsText, StartsWith, FormSpans, SpannedAs, HasForm, IsDirect, CanStart, FirstWith, FirstStart, FirstSpan, bytes_looked_at, end_or}
+use Rattle.sedmatch.specs.Direct.{CanComeFirst, StartsWith, FormSpans, SpannedAs, HasForm, IsDirect, CanStart, FirstWith, FirstStart, FirstSpan, bytes_looked_at, end_or, is_sought_back}
 use Rattle.sedmatch.specs.declared.direct.Anchor.{Anchor as Anchors}
 use Rattle.sedmatch.specs.declared.direct.First.{First}
 use Rattle.sedmatch.specs.declared.direct.First.TheVariants.{Among, Member}
@@ -302,21 +302,19 @@ span_lies form w p None none = tt
 span_lies form w p (Some f) span = (span.0.0, ends_on form w f.0 f.1 span.1.0, span.1.1)
 
 -- the null string takes no look
-pub null_counts : (s : ℕ) (anchors : Anchors) (p : ℕ) (r : Option (ℕ × ℕ)) → IfSome r (λ f. TakesAtLeast s s (bytes_looked_at (Anchor anchors) p f))
-null_counts s anchors p None = tt
-null_counts s anchors p (Some f) = least_none s 0 refl
+pub null_counts : (s : ℕ) (r : Option (ℕ × ℕ)) → IfSome r (λ f. f.1 ≡ f.0) → IfSome r (λ f. TakesAtLeast s s (f.1 - f.0))
+null_counts s None null = tt
+null_counts s (Some f) null = least_none s (f.1 - f.0) (omega (arith, null))
 
--- how many bytes of a match are looked at
-looked_bytes : (form : DirectForm) (w : List ℕ) (p i j : ℕ) → FirstSpan form w p (Some (i, j)) → j - i ≤ bytes_looked_at form p (i, j)
-looked_bytes (Anchor anchors) w p i j span = omega (arith, span.1.0.1)
-looked_bytes (OneByte first) w p i j span = omega (arith, span.0.0)
-looked_bytes (Run members) w p i j span = omega (arith, span.0.0)
-looked_bytes (ByteThenRun first members) w p i j span = omega (arith, span.0.0)
-looked_bytes (RunAtEnd members) w p i j span = omega arith
-looked_bytes (ByteThenRunAtEnd first members) w p i j span = omega arith
-looked_bytes (Times members count) w p i j span = omega (arith, span.0.0)
-looked_bytes (Literal literal) w p i j span = omega (arith, span.0.0)
-looked_bytes (Choice literals) w p i j span = omega (arith, span.0.0)
+-- those of the match are looked at,
+looked_match : (back : Bool) (p i j : ℕ) → p ≤ i → j - i ≤ (if back then j - i else j - p)
+looked_match true p i j low = omega arith
+looked_match false p i j low = omega (arith, low)
+
+pub looks_at_match : (form : DirectForm) (w : List ℕ) (p s t : ℕ) (r : Option (ℕ × ℕ)) → FirstSpan form w p r → IfSome r (λ f. TakesAtLeast s t (bytes_looked_at form p f)) →
+    IfSome r (λ f. TakesAtLeast s t (f.1 - f.0))
+looks_at_match form w p s t None span looks = tt
+looks_at_match form w p s t (Some (i, j)) span looks = least_less s t (bytes_looked_at form p (i, j)) (j - i) looks (looked_match (is_sought_back form) p i j span.0.0)
 
 -- anchors that hold anywhere but at the end hold where they are sought
 anchored : (anchors : Anchors) (w : List ℕ) (p i : ℕ) → (IsTrue anchors.at_end → ⊥) → FirstStart (Anchor anchors) w p (Some i) → i ≤ p
@@ -326,49 +324,38 @@ anchored anchors w p i free first =
     (λ (here : i ≤ p). here)
     (cases_lt p i)
 
--- and how many from the place on from which it is sought
-bytes_from : (form : DirectForm) (w : List ℕ) (p i j : ℕ) → (EndsText form → ⊥) → FirstSpan form w p (Some (i, j)) → j - p ≤ bytes_looked_at form p (i, j)
-bytes_from (Anchor anchors) w p i j free span = let low = anchored anchors w p i free span.0 in omega (arith, low, span.1.0.1)
-bytes_from (OneByte first) w p i j free span = omega arith
-bytes_from (Run members) w p i j free span = omega arith
-bytes_from (ByteThenRun first members) w p i j free span = omega arith
-bytes_from (RunAtEnd members) w p i j free span = absurd (free tt)
-bytes_from (ByteThenRunAtEnd first members) w p i j free span = absurd (free tt)
-bytes_from (Times members count) w p i j free span = omega arith
-bytes_from (Literal literal) w p i j free span = omega arith
-bytes_from (Choice literals) w p i j free span = omega arith
+-- a match that is sought back is the null string where it is sought, unless all matches end with the text
+sought_here : (e : Tree) (form : DirectForm) (w : List ℕ) (p i j : ℕ) → SpannedAs e form → CanEndEarly e → FirstSpan form w p (Some (i, j)) → is_sought_back form ≡ true → j ≤ p
+sought_here e (Anchor anchors) w p i j is (v, bytes, h, k, early, spans) first back =
+    let low = Matches-forward e v h k spans in
+    let at = (is v bytes h k (omega (arith, low, early))).0 spans in
+    let here = anchored anchors w p i (λ ends. let end = at.0.1 ends in omega (arith, early, end, at.1)) first.0 in
+    omega (arith, here, first.1.0.1)
+sought_here e (RunAtEnd members) w p i j is (v, bytes, h, k, early, spans) first back =
+    let low = Matches-forward e v h k spans in
+    let at = (is v bytes h k (omega (arith, low, early))).0 spans in
+    absurd (omega (arith, early, at.1))
+sought_here e (ByteThenRunAtEnd first members) w p i j is (v, bytes, h, k, early, spans) found back =
+    let low = Matches-forward e v h k spans in
+    let at = (is v bytes h k (omega (arith, low, early))).0 spans in
+    absurd (omega (arith, early, at.2))
+sought_here e (OneByte first) w p i j is early found back = absurd (true≢false (sym back))
+sought_here e (Run members) w p i j is early found back = absurd (true≢false (sym back))
+sought_here e (ByteThenRun first members) w p i j is early found back = absurd (true≢false (sym back))
+sought_here e (Times members count) w p i j is early found back = absurd (true≢false (sym back))
+sought_here e (Literal literal) w p i j is early found back = absurd (true≢false (sym back))
+sought_here e (Choice literals) w p i j is early found back = absurd (true≢false (sym back))
 
-pub looks_at_match : (form : DirectForm) (w : List ℕ) (p s t : ℕ) (r : Option (ℕ × ℕ)) → FirstSpan form w p r → IfSome r (λ f. TakesAtLeast s t (bytes_looked_at form p f)) →
-    IfSome r (λ f. TakesAtLeast s t (f.1 - f.0))
-looks_at_match form w p s t None span looks = tt
-looks_at_match form w p s t (Some (i, j)) span looks = least_less s t (bytes_looked_at form p (i, j)) (j - i) looks (looked_bytes form w p i j span)
-
--- a form whose matches end with the text is no form of an expression that has others
-ends_early : (e : Tree) (form : DirectForm) → SpannedAs e form → CanEndEarly e → EndsText form → ⊥
-ends_early e (Anchor anchors) is (w, bytes, i, j, early, span) ends =
-    let low = Matches-forward e w i j span in
-    let at = (is w bytes i j (omega (arith, low, early))).0 span in
-    let end = at.0.1 ends in
-    omega (arith, early, end, at.1)
-ends_early e (RunAtEnd members) is (w, bytes, i, j, early, span) ends =
-    let low = Matches-forward e w i j span in
-    let at = (is w bytes i j (omega (arith, low, early))).0 span in
-    omega (arith, early, at.1)
-ends_early e (ByteThenRunAtEnd first members) is (w, bytes, i, j, early, span) ends =
-    let low = Matches-forward e w i j span in
-    let at = (is w bytes i j (omega (arith, low, early))).0 span in
-    omega (arith, early, at.2)
-ends_early e (OneByte first) is early ends = absurd ends
-ends_early e (Run members) is early ends = absurd ends
-ends_early e (ByteThenRun first members) is early ends = absurd ends
-ends_early e (Times members count) is early ends = absurd ends
-ends_early e (Literal literal) is early ends = absurd ends
-ends_early e (Choice literals) is early ends = absurd ends
+-- and all from the place on from which it is sought
+looked_from : (back : Bool) (p i j : ℕ) → (back ≡ true → j ≤ p) → j - p ≤ (if back then j - i else j - p)
+looked_from true p i j here = let none = here refl in omega (arith, none)
+looked_from false p i j here = omega arith
 
 pub looks_from : (e : Tree) (form : DirectForm) (w : List ℕ) (p s t : ℕ) (r : Option (ℕ × ℕ)) → SpannedAs e form → CanEndEarly e → FirstSpan form w p r →
     IfSome r (λ f. TakesAtLeast s t (bytes_looked_at form p f)) → IfSome r (λ f. TakesAtLeast s t (f.1 - p))
 looks_from e form w p s t None is early span looks = tt
-looks_from e form w p s t (Some (i, j)) is early span looks = least_less s t (bytes_looked_at form p (i, j)) (j - p) looks (bytes_from form w p i j (ends_early e form is early) span)
+looks_from e form w p s t (Some (i, j)) is early span looks =
+    least_less s t (bytes_looked_at form p (i, j)) (j - p) looks (looked_from (is_sought_back form) p i j (sought_here e form w p i j is early span))
 
 -- an expression of the form
 module _ (e : WrittenExpression) (form : DirectForm) (is : IsDirect e form) (w : List ℕ) (bytes : AreBytes w) (p : ℕ) where

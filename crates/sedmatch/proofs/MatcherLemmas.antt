@@ -99,23 +99,12 @@ look_paid m n r s t (Some q) at (Some f) small is low pays lies =
 -- or the second one, after the null string at a place
 pub looks_paid : (m n r s u t q : ℕ) (f : Option (ℕ × ℕ)) → r ≤ 14 * m → q ≤ n → CostsWithin s u (r * (q + 1)) (r * q) → CostsWithin u t (r * (end_or n f + 1)) (r * (q + 1)) → IfSome f (λ g. (q < g.0) × (g.0 ≤ g.1) × (g.1 ≤ n)) →
     CostsWithin s t (owed_direct m n (Some q)) (owed_direct_after m n f)
-looks_paid m n r s u t q None small low one two lies =
-    let rest : n + 1 ≡ q + (n + 1 - q) = omega (arith, low) in
-    let a = few_of m (n + 1 - q) r small in
-    let b : r * (n + 1) ≡ r * q + r * (n + 1 - q) = ap (λ x. r * x) rest ∙ mul-add r q (n + 1 - q) in
-    (omega (arith, one.0, two.0), (let h = one.1 in let k = two.1 in omega (arith, a, b, h, k)))
-looks_paid m n r s u t q (Some f) small low one two lies =
-    let after = lies.0 in
-    let up = lies.1 in
-    let on = lies.2 in
-    let far : f.1 + 1 ≡ q + (f.1 + 1 - q) = omega (arith, after, up) in
-    let rest : n + 1 - q ≡ n + 1 - f.1 + (f.1 - q) = omega (arith, after, up, on) in
-    let twice : f.1 + 1 - q ≤ 2 * (f.1 - q) = omega (arith, after, up) in
-    let a = few_of m (f.1 + 1 - q) r small in
-    let b : r * (f.1 + 1) ≡ r * q + r * (f.1 + 1 - q) = ap (λ x. r * x) far ∙ mul-add r q (f.1 + 1 - q) in
-    let d : 28 * m * (n + 1 - q) ≡ 28 * m * (n + 1 - f.1) + 28 * m * (f.1 - q) = ap (λ x. 28 * m * x) rest ∙ mul-add (28 * m) (n + 1 - f.1) (f.1 - q) in
-    let e = mul-le-mul_left (14 * m) twice in
-    (omega (arith, one.0, two.0), (let h = one.1 in let k = two.1 in omega (arith, a, b, d, e, h, k)))
+looks_paid m n r s u t q f small low one two lies =
+    look_paid m n r s t (Some q) q f small refl low (omega (arith, one.0, two.0), (let h = one.1 in let k = two.1 in omega (arith, h, k))) (lies_past f lies)
+  where
+    lies_past : (f : Option (ℕ × ℕ)) → IfSome f (λ g. (q < g.0) × (g.0 ≤ g.1) × (g.1 ≤ n)) → IfSome f (LiesOn n (Some q))
+    lies_past None lies = tt
+    lies_past (Some g) lies = (lies.1, lies.2, (omega (arith, lies.0), omega (arith, lies.0, lies.1)))
 
 -- What a search costs, by either way.
 

@@ -1,6 +1,6 @@
 -- Private to the proofs: no contract that `sedmatch` makes public cites what stands here.
 -- Expressions whose matches a look at the text tells.
-use Rattle.std.specs.Prelude.{◌≡◌, ℕ, ◌+◌, ◌-◌, ◌*◌, ◌<◌, ◌≤◌, ◌↔◌, List, length, slice_get, Option, Some, None, IsTrue}
+use Rattle.std.specs.Prelude.{◌≡◌, ℕ, ◌+◌, ◌-◌, ◌*◌, ◌<◌, ◌≤◌, ◌↔◌, Bool, true, false, if◌then◌else◌, List, length, slice_get, Option, Some, None, IsTrue}
 use Rattle.memchr.specs.Find.{OccursAt}
 use Rattle.sedre.specs.Tree.{WrittenExpression, expression_tree, Tree}
 use Rattle.sedtext.specs.Bytes.{AreBytes, FirstFrom}
@@ -45,20 +45,16 @@ FormSpans (Choice literals) w i j = ChoiceSpans literals w i j
 abbrev pub SpannedAs : Tree → DirectForm → Type 0
 SpannedAs e form = (w : List ℕ) → AreBytes w → (i j : ℕ) → i ≤ length w → Matches e w i j ↔ FormSpans form w i j
 
--- all matches end where the text does
-abbrev pub EndsText : DirectForm → Type 0
-EndsText (Anchor anchors) = IsTrue anchors.at_end
-EndsText (RunAtEnd members) = Unit {0}
-EndsText (ByteThenRunAtEnd first members) = Unit {0}
-EndsText other = ⊥
+-- a match is sought from the text's end, or no byte decides
+abbrev pub is_sought_back : DirectForm → Bool
+is_sought_back (Anchor anchors) = true
+is_sought_back (RunAtEnd members) = true
+is_sought_back (ByteThenRunAtEnd first members) = true
+is_sought_back other = false
 
--- how many bytes are looked at at least where such a match is found from p on: those of the match alone where it is sought from the
--- text's end, and none where no byte decides
+-- how many bytes are looked at at least where such a match is found from p on: where it is sought back, those of the match alone
 abbrev pub bytes_looked_at : DirectForm → ℕ → ℕ × ℕ → ℕ
-bytes_looked_at (Anchor anchors) p f = 0
-bytes_looked_at (RunAtEnd members) p f = f.1 - f.0
-bytes_looked_at (ByteThenRunAtEnd first members) p f = f.1 - f.0
-bytes_looked_at other p f = f.1 - p
+bytes_looked_at form p f = if is_sought_back form then f.1 - f.0 else f.1 - p
 
 -- how many looks there are at most for each byte that is passed
 abbrev pub rate : DirectForm → ℕ

@@ -45,6 +45,10 @@ AreOwn p (Some t) = IsTable p t.any × (t.any.way ≡ any_way) × AreGroupTables
 abbrev pub ArePasses : WrittenExpression → Passes → Type 0
 ArePasses e p = IsSought e p.sought × AreOwn p.sought.prepared p.own
 
+-- what was found out is the same, and its own tables are still for it
+abbrev pub KeepsPasses : Passes → Passes → Type 0
+KeepsPasses old new = (new.sought ≡ old.sought) × AreOwn new.sought.prepared new.own
+
 -- the expression that is searched, and that it is searched rightly
 abbrev pub written_of : Engine → WrittenExpression
 written_of (Direct e form) = e

@@ -10,7 +10,7 @@ ghost use Rattle.sedpass.specs.Table.{IsAhead, SameShape};
 ghost use Rattle.sedtext.specs.Spans.{SomeFound, Matches};
 ghost use Rattle.sedpass.specs.Decide.{HasDesk, SameTables};
 ghost use Rattle.sedpass.specs.Kept.{SameSpace};
-ghost use Rattle.sedmatch.specs.Passes.{AreOwn, ArePasses, IsDesk, KeepsDesk, TellsGroups, TellsMatch};
+ghost use Rattle.sedmatch.specs.Passes.{AreOwn, ArePasses, IsDesk, KeepsDesk, KeepsPasses, TellsGroups, TellsMatch};
 
 use crate::Span;
 use crate::scratch::Desk;
@@ -173,8 +173,7 @@ pub fn matches_by(
     requires passes { ArePasses passes.old.sought.prepared.arena.expr passes.old }
     requires desk { IsDesk desk.old }
     requires few { length passes.old.sought.prepared.arena.expr.nodes ≤ desk.old.max_nodes }
-    ensures same { passes.new.sought ≡ passes.old.sought }
-    ensures own { AreOwn passes.new.sought.prepared passes.new.own }
+    ensures passes { KeepsPasses passes.old passes.new }
     ensures desk { KeepsDesk desk.old desk.new }
     ensures told { TellsMatch passes.old.sought.prepared.arena.expr text.now from steps.old steps.new result }
 {
@@ -271,8 +270,7 @@ pub fn groups_by(
     requires desk { IsDesk desk.old }
     requires short { length text.now ≤ desk.old.max_text }
     requires few { length passes.old.sought.prepared.arena.expr.nodes ≤ desk.old.max_nodes }
-    ensures same { passes.new.sought ≡ passes.old.sought }
-    ensures own { AreOwn passes.new.sought.prepared passes.new.own }
+    ensures passes { KeepsPasses passes.old passes.new }
     ensures desk { KeepsDesk desk.old desk.new }
     ensures told { TellsGroups passes.old.sought.prepared.arena.expr text.now span steps.old steps.new result }
 {

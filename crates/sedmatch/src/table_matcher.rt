@@ -14,7 +14,7 @@ ghost use Rattle.sedpass.specs.Decide.{found as spans_in};
 ghost use Rattle.sedpass.specs.Walks.{EntersGroups};
 ghost use Rattle.sedmatch.specs.Direct.{IsDirect, end_or, rate};
 ghost use Rattle.sedmatch.specs.Occurrences.{Serves, ServesOn, TellsNext, owed, owed_after, owed_direct, owed_direct_after};
-ghost use Rattle.sedmatch.specs.Passes.{AreOwn, ArePasses, IsDesk, KeepsDesk};
+ghost use Rattle.sedmatch.specs.Passes.{ArePasses, IsDesk, KeepsDesk, KeepsPasses};
 
 use crate::Span;
 use crate::direct::{
@@ -120,8 +120,7 @@ fn next_by_passes(
     requires few { length passes.old.sought.prepared.arena.expr.nodes ≤ desk.old.max_nodes }
     requires last { EndsWithin (length text.now) last }
     requires serves { Serves passes.old.sought.prepared.arena.expr text.now last occurrences.old }
-    ensures same { passes.new.sought ≡ passes.old.sought }
-    ensures own { AreOwn passes.new.sought.prepared passes.new.own }
+    ensures passes { KeepsPasses passes.old passes.new }
     ensures desk { KeepsDesk desk.old desk.new }
     ensures told { TellsNext passes.old.sought.prepared.arena.expr text.now last occurrences.old occurrences.new steps.old steps.new result }
 {
