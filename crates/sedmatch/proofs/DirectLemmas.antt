@@ -1,5 +1,5 @@
 -- Expressions whose matches a look at the text tells.
-use Rattle.std.proofs.Common.{◌≡◌, ℕ, max, min, ◌+◌, ◌-◌, ◌*◌, ◌<◌, ◌≤◌, ◌↔◌, Bool, true, false, List, length, Option, Some, None, Result, Ok, Err, IsTrue, refl, sym, ◌∙◌, subst, true≢false, ⊎_elim, arith, mul-le-mul_left}
+use Rattle.std.proofs.Common.{◌≡◌, ℕ, max, min, ◌+◌, ◌-◌, ◌*◌, ◌<◌, ◌≤◌, ◌↔◌, Bool, true, false, List, length, Option, Some, None, Result, Ok, Err, IsTrue, refl, sym, ◌∙◌, subst, true≢false, ⊎_elim, inl, inr, arith, mul-le-mul_left}
 use Rattle.std.specs.Prelude.{slice_get, IfOk, IfSome, is_some, if◌then◌else◌}
 use Rattle.std.proofs.lemmas.Bool.{cases_lt}
 use Rattle.std.proofs.lemmas.Option.{slice_get_within}
@@ -29,7 +29,7 @@ use Rattle.sedmatch.specs.declared.direct.Anchor.{Anchor as Anchors}
 use Rattle.sedmatch.specs.declared.direct.First.{First}
 use Rattle.sedmatch.specs.declared.direct.First.TheVariants.{Among, Member}
 use Rattle.sedmatch.specs.declared.direct.DirectForm.{DirectForm}
-use Rattle.sedmatch.specs.declared.direct.DirectForm.TheVariants.{Anchor, OneByte, Run, ByteThenRun, RunAtEnd, ByteThenRunAtEnd, Times, Literal, Choice}
+use Rattle.sedmatch.specs.declared.direct.DirectForm.TheVariants.{Anchor, OneByte, Run, ByteThenRun, RunAtEnd, ByteThenRunAtEnd, AtEitherEnd, Times, Literal, Choice}
 use Rattle.sedtext.proofs.ReachLemmas.{open_at, close_at}
 use Rattle.sedtext.proofs.RunLemmas.{run_longest}
 use Rattle.sedtext.proofs.SpanLemmas.{CopiesLead-forward, Matches-forward}
@@ -37,11 +37,11 @@ use Rattle.sedtext.proofs.CountLemmas.{least_counted, least_less, least_none, le
 use Rattle.sedtext.proofs.TimesLemmas.{repeated_cut}
 
 -- what comes first, where its bytes are those of the set
-abbrev AreFirst : First → List Bool → Type 0
+abbrev pub AreFirst : First → List Bool → Type 0
 AreFirst first members = (c : ℕ) → c < 256 → CanComeFirst first c ↔ IsIn c members
 
 -- a span of a set
-set_spans : (members : List Bool) (first : First) → AreFirst first members → (w : List ℕ) → AreBytes w → (i j : ℕ) →
+pub set_spans : (members : List Bool) (first : First) → AreFirst first members → (w : List ℕ) → AreBytes w → (i j : ℕ) →
     Matches (set members) w i j ↔ (StartsWith first w i × (j ≡ i + 1))
 set_spans members first same w bytes i j = (
   (λ s. ((s.0, s.1, (same s.0 (bytes i s.0 s.1)).1 s.2), s.3)),
@@ -281,6 +281,8 @@ spans_start (Run members) w i j s = tt
 spans_start (ByteThenRun first members) w i j s = s.0
 spans_start (RunAtEnd members) w i j s = subst (Repeated members w i) s.1 s.0
 spans_start (ByteThenRunAtEnd first members) w i j s = (s.0, subst (Repeated members w (i + 1)) s.2 s.1)
+spans_start (AtEitherEnd first members) w i j s =
+    (s.0, ⊎_elim (λ (zero : i ≡ 0). inl zero) (λ (end : j ≡ length w). inr (subst (Repeated members w (i + 1)) end s.1)) s.2)
 spans_start (Times members count) w i j s = subst (Repeated members w i) s.1 s.0
 spans_start (Literal literal) w i j s = s.0
 spans_start (Choice literals) w i j s = (s.0, s.1, s.2, s.3)
@@ -293,6 +295,7 @@ ends_on (Run members) w i j s = CopiesLead-forward (Matches (set members) w) j i
 ends_on (ByteThenRun first members) w i j s = omega (arith, CopiesLead-forward (Matches (set members) w) j (i + 1) s.1)
 ends_on (RunAtEnd members) w i j s = CopiesLead-forward (Matches (set members) w) j i s.0
 ends_on (ByteThenRunAtEnd first members) w i j s = omega (arith, CopiesLead-forward (Matches (set members) w) j (i + 1) s.1)
+ends_on (AtEitherEnd first members) w i j s = omega (arith, CopiesLead-forward (Matches (set members) w) j (i + 1) s.1)
 ends_on (Times members count) w i j s = omega (arith, s.1)
 ends_on (Literal literal) w i j s = omega (arith, s.1)
 ends_on (Choice literals) w i j s = let long = s.4 in omega (arith, long)
@@ -342,6 +345,7 @@ sought_here e (ByteThenRunAtEnd first members) w p i j is (v, bytes, h, k, early
 sought_here e (OneByte first) w p i j is early found back = absurd (true≢false (sym back))
 sought_here e (Run members) w p i j is early found back = absurd (true≢false (sym back))
 sought_here e (ByteThenRun first members) w p i j is early found back = absurd (true≢false (sym back))
+sought_here e (AtEitherEnd first members) w p i j is early found back = absurd (true≢false (sym back))
 sought_here e (Times members count) w p i j is early found back = absurd (true≢false (sym back))
 sought_here e (Literal literal) w p i j is early found back = absurd (true≢false (sym back))
 sought_here e (Choice literals) w p i j is early found back = absurd (true≢false (sym back))

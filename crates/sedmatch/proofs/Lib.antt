@@ -2,6 +2,7 @@ pub use Rattle.sedtext.proofs.MatchingLemmas
 pub use Rattle.sedtext.proofs.SpanLemmas
 pub mod CandidateLemmas
 pub mod DirectLemmas
+pub mod EitherEndLemmas
 pub mod MatcherLemmas
 pub mod OccurrenceLemmas
 pub mod OnceLemmas

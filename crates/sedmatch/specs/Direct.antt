@@ -1,6 +1,6 @@
 -- Private to the proofs: no contract that `sedmatch` makes public cites what stands here.
 -- Expressions whose matches a look at the text tells.
-use Rattle.std.specs.Prelude.{◌≡◌, ℕ, ◌+◌, ◌-◌, ◌*◌, ◌<◌, ◌≤◌, ◌↔◌, Bool, true, false, if◌then◌else◌, List, length, slice_get, Option, Some, None, IsTrue}
+use Rattle.std.specs.Prelude.{◌≡◌, ℕ, ◌+◌, ◌-◌, ◌*◌, ◌<◌, ◌≤◌, ◌↔◌, ◌⊎◌, Bool, true, false, if◌then◌else◌, List, length, slice_get, Option, Some, None, IsTrue}
 use Rattle.memchr.specs.Find.{OccursAt}
 use Rattle.sedre.specs.Tree.{WrittenExpression, expression_tree, Tree}
 use Rattle.sedtext.specs.Bytes.{AreBytes, FirstFrom}
@@ -14,7 +14,7 @@ use Rattle.sedmatch.specs.declared.direct.Anchor.{Anchor as Anchors}
 use Rattle.sedmatch.specs.declared.direct.First.{First}
 use Rattle.sedmatch.specs.declared.direct.First.TheVariants.{Among, Member}
 use Rattle.sedmatch.specs.declared.direct.DirectForm.{DirectForm}
-use Rattle.sedmatch.specs.declared.direct.DirectForm.TheVariants.{Anchor, OneByte, Run, ByteThenRun, RunAtEnd, ByteThenRunAtEnd, Times, Literal, Choice}
+use Rattle.sedmatch.specs.declared.direct.DirectForm.TheVariants.{Anchor, OneByte, Run, ByteThenRun, RunAtEnd, ByteThenRunAtEnd, AtEitherEnd, Times, Literal, Choice}
 
 -- the byte can come first
 abbrev pub CanComeFirst : First → ℕ → Type 0
@@ -37,6 +37,7 @@ FormSpans (Run members) w i j = Repeated members w i j
 FormSpans (ByteThenRun first members) w i j = StartsWith first w i × Repeated members w (i + 1) j
 FormSpans (RunAtEnd members) w i j = Repeated members w i j × (j ≡ length w)
 FormSpans (ByteThenRunAtEnd first members) w i j = StartsWith first w i × Repeated members w (i + 1) j × (j ≡ length w)
+FormSpans (AtEitherEnd first members) w i j = StartsWith first w i × Repeated members w (i + 1) j × ((i ≡ 0) ⊎ (j ≡ length w))
 FormSpans (Times members count) w i j = HasTimes members count w i j
 FormSpans (Literal literal) w i j = WordSpans literal w i j
 FormSpans (Choice literals) w i j = ChoiceSpans literals w i j
@@ -77,6 +78,7 @@ CanStart (Run members) w i = Unit {0}
 CanStart (ByteThenRun first members) w i = StartsWith first w i
 CanStart (RunAtEnd members) w i = Repeated members w i (length w)
 CanStart (ByteThenRunAtEnd first members) w i = StartsWith first w i × Repeated members w (i + 1) (length w)
+CanStart (AtEitherEnd first members) w i = StartsWith first w i × ((i ≡ 0) ⊎ Repeated members w (i + 1) (length w))
 CanStart (Times members count) w i = Repeated members w i (i + count)
 CanStart (Literal literal) w i = OccursAt w literal i
 CanStart (Choice literals) w i = ChoiceAt literals w i

@@ -7,6 +7,7 @@ pub use Rattle.sedtext.specs.SearchRoom
 pub use Rattle.sedtext.specs.Costs
 pub use Rattle.sedtext.specs.Following
 pub mod Direct
+pub mod EitherEnd
 pub mod Candidates
 pub mod Passes
 pub mod Occurrences

@@ -1,5 +1,6 @@
 //! Direct forms: expressions whose matches a look at the text tells. Anchors alone, a byte of a set, a run of such bytes, always
-//! as many of them, a byte and a run, a run at the end of the text, a byte before one, a literal, one of a few literals.
+//! as many of them, a byte and a run, a run at the end of the text, a byte before one, the same at either end, a literal, one of a few
+//! literals.
 //!
 //! Where such a match begins is told by its bytes, and where the longest ends by those that follow, so that nothing
 //! has to be found out of the expression in a search. What a search costs falls with the place from which it starts: all
@@ -21,6 +22,7 @@ ghost use Rattle.sedmatch.specs.Passes.{TellsMatch};
 ghost use Rattle.sedmatch.specs.declared.direct.DirectForm.TheVariants.{ByteThenRunAtEnd, Anchor as AnchorForm, OneByte, Run, ByteThenRun, RunAtEnd, Times, Literal as LiteralForm, Choice as ChoiceForm};
 
 use crate::Span;
+use crate::either_end::{either_end_form, either_end_span};
 use memchr::memmem::Finder;
 use sedre::{ByteSet, Expr, Node, NodeId, Steps};
 use sedtext::counted::choice::{Choice, choice_of};
@@ -78,6 +80,8 @@ pub enum DirectForm {
     RunAtEnd(ByteSet),
     /// One byte, and bytes of the set up to the end of the text, any number of them.
     ByteThenRunAtEnd(First, ByteSet),
+    /// One byte, and bytes of the set, any number of them, at the beginning of the text or up to its end.
+    AtEitherEnd(First, ByteSet),
     /// As many bytes of the set as the number says.
     Times(ByteSet, usize),
     /// A literal of two bytes or more, as it is sought.
@@ -87,7 +91,7 @@ pub enum DirectForm {
 }
 
 /// A member of a set, as it is sought.
-fn first_of(set: &ByteSet) -> First
+pub fn first_of(set: &ByteSet) -> First
     ensures { (c : ℕ) → c < 256 → CanComeFirst result c ↔ IsIn c set.now }
 {
     match members_of(set) {
@@ -200,13 +204,14 @@ fn byte_run_then(
     }
 }
 
-/// How the matches of the expression look, if they are of one byte, a run or both.
+/// How the matches of the expression look, if they are of one byte, a run or both, or both at either end.
 fn run_form(expr: &Expr, steps: &mut Steps) -> Option<DirectForm>
     ensures form { IfSome result (HasForm (expression_tree expr.now) 4) }
-    ensures cost { Takes steps.old steps.new 7 }
+    ensures cost { Takes steps.old steps.new 15 }
 {
     let root = expr.root().index();
     match expr.look(expr.id(root), steps) {
+        Node::Alt(a, b) => either_end_form(expr, a, b, steps),
         Node::Set(set) => Some(DirectForm::OneByte(first_of(&set))),
         Node::Seq(a, b) => match expr.look(a, steps) {
             Node::Set(set) => byte_then(expr, (a, b), &set, steps),
@@ -249,7 +254,7 @@ pub(crate) fn is_expression(expr: &Expr)
 /// How the matches of the expression look, if a look at the text tells them.
 fn form_of(alloc: Global, expr: &Expr, steps: &mut Steps) -> Result<Option<DirectForm>, AllocError>
     ensures form { IfOk result (λ r. IfSome r (HasForm (expression_tree expr.now) (14 * length expr.now.nodes))) }
-    ensures cost { Takes steps.old steps.new 1572914 }
+    ensures cost { Takes steps.old steps.new 1572922 }
 {
     is_expression(expr);
     if let Some(form) = anchor_form(expr, steps) {
@@ -277,7 +282,7 @@ pub fn direct_form_of(
     steps: &mut Steps,
 ) -> Result<Option<DirectForm>, AllocError>
     ensures form { IfOk result (λ r. IfSome r (IsDirect expr.now)) }
-    ensures cost { Takes steps.old steps.new 1572914 }
+    ensures cost { Takes steps.old steps.new 1572922 }
 {
     if expr.groups() > 0 {
         return Ok(None);
@@ -478,6 +483,7 @@ fn form_span(form: &DirectForm, text: &Text, from: usize, steps: &mut Steps) -> 
         DirectForm::ByteThenRunAtEnd(first, members) => {
             byte_run_end_span(first, members, text, from, steps)
         },
+        DirectForm::AtEitherEnd(first, members) => either_end_span(first, members, text, from, steps),
         DirectForm::Times(set, count) => times_span(set, *count, text, from, steps),
         DirectForm::Literal(finder) => literal_span(finder, text, from, steps),
         DirectForm::Choice(choice) => choice_span(choice, text, from, steps),

@@ -14,6 +14,7 @@
 #![tactic(auto)]
 
 mod direct;
+mod either_end;
 mod occurrences;
 mod passes;
 mod scratch;

@@ -118,7 +118,7 @@ impl ByteSet {
     }
 
     /// Whether the sets have the same members.
-    pub(crate) fn same(&self, other: &ByteSet) -> bool
+    pub fn same(&self, other: &ByteSet) -> bool
         ensures { IsTrue result ↔ (self.now ≡ other.now) }
     {
         self.words == other.words
