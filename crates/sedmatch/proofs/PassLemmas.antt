@@ -1,17 +1,20 @@
 -- An expression that is searched by passes: what they tell of a text, its tables, and the room for them.
-use Rattle.std.proofs.Common.{◌≡◌, ◌∙◌, ℕ, ◌+◌, ◌-◌, ◌*◌, ◌/◌, ◌<◌, ◌≤◌, ◌↔◌, [], List, length, vec_capacity, Bool, Option, Some, IsTrue, refl, sym, ap, subst, ⊎_elim, arith, mul-le-mul_left}
-use Rattle.std.specs.Prelude.{slice_set}
+use Rattle.std.proofs.Common.{◌≡◌, ◌∙◌, ℕ, ◌+◌, ◌-◌, ◌*◌, ◌/◌, ◌<◌, ◌≤◌, ◌↔◌, [], List, length, vec_capacity, Bool, Option, Some, None, IsTrue, true≢false, refl, sym, ap, subst, ⊎_elim, arith, mul-le-mul_left}
+use Rattle.std.specs.Prelude.{is_some, slice_set}
 use Rattle.std.proofs.lemmas.Bool.{cases_lt}
 use Rattle.std.proofs.Math.Nat.{lt-div-mul-add}
 use Rattle.sedre.specs.Arena.{IsExpr}
-use Rattle.sedre.specs.Tree.{WrittenExpression, expression_tree}
+use Rattle.sedre.specs.Tree.{WrittenExpression, expression_tree, Tree}
 use Rattle.sedre.specs.Steps.{Takes, TakesAtLeast}
+use Rattle.sedtext.specs.Beginnings.{AllBegin}
 use Rattle.sedtext.specs.Costs.{CostsWithin}
+use Rattle.sedtext.specs.declared.beginnings.Begins.TheVariants.{AtStart}
 use Rattle.sedtext.specs.Following.{PassesOver}
 use Rattle.sedtext.specs.Groups.{no_groups}
 use Rattle.sedtext.specs.Spans.{SomeFound, Matches}
 use Rattle.sedtext.proofs.GroupLemmas.{Captures-none, no_groups_at}
 use Rattle.sedtext.specs.Needed.{Narrowed}
+use Rattle.sedtext.specs.Reach.{IsLongestFrom}
 use Rattle.sedpass.specs.Decide.{AreGroupTables, AreRoomy, HasDesk, HasSpace, SameRooms}
 use Rattle.sedpass.specs.Kept.{KeptRoom, SameSpace}
 use Rattle.sedtext.specs.Words.{row_of}
@@ -50,6 +53,14 @@ told_past e w from start s t u told some is looks counts tells over cost =
       passes = λ h. passes_later (expression_tree e) w from start s t u is.0 looks.0 counts (over h);
       cost = ((let a = looks.0 in let b = cost.0 in omega (arith, a, b)), (let a = looks.1 in let b = cost.1 in omega (arith, a, b, few)));
     }
+
+-- an anchored match is sought at the start alone
+pub anchored_told : (e : Tree) (w : List ℕ) (from : ℕ) (r : Option ℕ) (told : Bool) → from ≡ 0 → AllBegin e AtStart → IsLongestFrom e w 0 r → told ≡ is_some r → IsTrue told ↔ SomeFound e w from
+anchored_told e w from None told zero begins longest is = (
+  (λ h. absurd (true≢false (sym h ∙ is))),
+  (λ f. absurd (longest f.1 (subst (λ i. Matches e w i f.1) (begins w f.0 f.1 f.4) f.4))),
+)
+anchored_told e w from (Some j) told zero begins longest is = ((λ h. (0, j, omega (arith, zero), omega arith, longest.0)), (λ f. is))
 
 -- one entry alone takes no step
 one_alone : (s n : ℕ) → n ≡ 1 → TakesAtLeast s s (n - 1)
