@@ -1,5 +1,5 @@
 -- Where in a text of many lines a line may have a match.
-use Rattle.std.proofs.Common.{◌≡◌, ℕ, ◌+◌, ◌-◌, ◌<◌, ◌≤◌, Bool, List, ◌++◌, length, length-append, get_or, Option, Some, None, refl, sym, subst, ap, ◌∙◌, arith}
+use Rattle.std.proofs.Common.{◌≡◌, ℕ, ◌+◌, ◌-◌, ◌<◌, ◌≤◌, ◌⊎◌, ⊎_elim, Bool, List, ◌++◌, length, length-append, get_or, Option, Some, None, refl, sym, subst, ap, ◌∙◌, arith}
 use Rattle.std.specs.Prelude.{slice_get, IfSome}
 use Rattle.std.proofs.lemmas.List.{get_or-append-add, get_or_append_left}
 use Rattle.std.proofs.lemmas.Option.{slice_get_within, slice_get-get_or, get_or_from_slice_get}
@@ -80,14 +80,19 @@ module _ (e : Tree) (w : List ℕ) (bytes : AreBytes w) (r : Option ℕ) where
       let there : StartsWith first w (length before + at.0) = subst (λ (w : List ℕ). StartsWith first w (length before + at.0)) (sym is) (starts_there before line behind first at.0 at.1) in
       first_after (StartsWith first w) r (length before + at.0) (length before + length line) h there (omega (arith, less)) ends
 
-  pub byte_before : (first : First) → FirstWith first w 0 r → SpannedAs e (OneByte first) → NoMatchBefore e w r
-  byte_before first h form = with_before (OneByte first) first form (λ v i j within s. (i, s.0)) h
-
-  pub byte_run_before : (first : First) (members : List Bool) → FirstWith first w 0 r → SpannedAs e (ByteThenRun first members) → NoMatchBefore e w r
-  byte_run_before first members h form = with_before (ByteThenRun first members) first form (λ v i j within s. (i, s.0)) h
-
-  pub byte_run_end_before : (first : First) (members : List Bool) → FirstWith first w 0 r → SpannedAs e (ByteThenRunAtEnd first members) → NoMatchBefore e w r
-  byte_run_end_before first members h form = with_before (ByteThenRunAtEnd first members) first form (λ v i j within s. (i, s.0)) h
+  pub byte_before : (s : DirectForm) (first : First) → (s ≡ OneByte first) ⊎ (((x : List Bool) × (s ≡ ByteThenRun first x)) ⊎ ((x : List Bool) × (s ≡ ByteThenRunAtEnd first x))) → FirstWith first w 0 r → SpannedAs e s → NoMatchBefore e w r
+  byte_before s first is h form = with_before s first form (λ v i j within spans. (i, begins v i j spans)) h
+    where
+      begins : (v : List ℕ) (i j : ℕ) → FormSpans s v i j → StartsWith first v i
+      begins v i j spans =
+          let of : (t : DirectForm) → s ≡ t → FormSpans t v i j = λ t same. subst (λ f. FormSpans f v i j) same spans in
+          ⊎_elim
+          (λ (one : s ≡ OneByte first). (of (OneByte first) one).0)
+          (λ (more : ((x : List Bool) × (s ≡ ByteThenRun first x)) ⊎ ((x : List Bool) × (s ≡ ByteThenRunAtEnd first x))). ⊎_elim
+          (λ (run : (x : List Bool) × (s ≡ ByteThenRun first x)). (of (ByteThenRun first run.0) run.1).0)
+          (λ (end : (x : List Bool) × (s ≡ ByteThenRunAtEnd first x)). (of (ByteThenRunAtEnd first end.0) end.1).0)
+          more)
+          is
 
   pub literal_before : (literal : List ℕ) → FirstLiteral w literal 0 r → SpannedAs e (Literal literal) → NoMatchBefore e w r
   literal_before literal h form = λ before line behind is ends found.

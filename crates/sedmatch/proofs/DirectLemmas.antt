@@ -215,6 +215,10 @@ pub span_byte : (first : First) (w : List ℕ) (p i j : ℕ) → FirstWith first
 span_byte first w p i j here is =
     (start_byte first w p (Some i) here, ((here.1, is), (let inside = starts_inside first w i here.1 in omega (arith, inside, is)), λ k h. omega (arith, h.1, is)))
 
+pub span_literal : (literal w : List ℕ) (p i j : ℕ) → FirstLiteral w literal p (Some i) → j ≡ i + length literal → FirstSpan (Literal literal) w p (Some (i, j))
+span_literal literal w p i j here is =
+    (start_literal literal w p (Some i) here, ((here.1, is), (let fits = here.1.fits in omega (arith, fits, is)), λ k h. omega (arith, h.1, is)))
+
 pub span_run : (members : List Bool) (w : List ℕ) (p k : ℕ) → p ≤ length w → IsRun members w p k → FirstSpan (Run members) w p (Some (p, k))
 span_run members w p k within run =
     let far = run_longest members w p k run in

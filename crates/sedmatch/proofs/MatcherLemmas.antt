@@ -97,12 +97,12 @@ look_paid m n r s t (Some q) at (Some f) small is low pays lies =
     (pays.0, (let h = pays.1 in omega (arith, a, b, c, d, e, h)))
 
 -- or the second one, after the null string at a place
-pub looks_paid : (m n r s u t q : ℕ) (f : Option (ℕ × ℕ)) → r ≤ 14 * m → q ≤ n → CostsWithin s u (r * (q + 1)) (r * q) → CostsWithin u t (r * (end_or n f + 1)) (r * (q + 1)) → IfSome f (λ g. (q < g.0) × (g.0 ≤ g.1) × (g.1 ≤ n)) →
+pub looks_paid : (m n r s u t q : ℕ) (f : Option (ℕ × ℕ)) → r ≤ 14 * m → q ≤ n → CostsWithin s u (r * (q + 1)) (r * q) → CostsWithin u t (r * (end_or n f + 1)) (r * (q + 1)) → IfSome f (λ g. (q + 1 ≤ g.0) × (g.0 ≤ g.1) × (g.1 ≤ n)) →
     CostsWithin s t (owed_direct m n (Some q)) (owed_direct_after m n f)
 looks_paid m n r s u t q f small low one two lies =
     look_paid m n r s t (Some q) q f small refl low (omega (arith, one.0, two.0), (let h = one.1 in let k = two.1 in omega (arith, h, k))) (lies_past f lies)
   where
-    lies_past : (f : Option (ℕ × ℕ)) → IfSome f (λ g. (q < g.0) × (g.0 ≤ g.1) × (g.1 ≤ n)) → IfSome f (LiesOn n (Some q))
+    lies_past : (f : Option (ℕ × ℕ)) → IfSome f (λ g. (q + 1 ≤ g.0) × (g.0 ≤ g.1) × (g.1 ≤ n)) → IfSome f (LiesOn n (Some q))
     lies_past None lies = tt
     lies_past (Some g) lies = (lies.1, lies.2, (omega (arith, lies.0), omega (arith, lies.0, lies.1)))
 

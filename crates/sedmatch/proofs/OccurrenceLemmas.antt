@@ -26,7 +26,7 @@ use Rattle.sedpass.proofs.ExpressionLemmas.{serves_for, table_for}
 use Rattle.sedpass.proofs.OccurrenceLemmas.{search_falls}
 use Rattle.sedpass.proofs.SearchLemmas.{search_long}
 use Rattle.sedpass.proofs.TableLemmas.{roomy_fewer, roomy_still}
-use Rattle.sedmatch.proofs.PassLemmas.{blocks_suffice, few_looks, halves, kept_room}
+use Rattle.sedmatch.proofs.PassLemmas.{blocks_enough, few_looks, kept_room}
 use Rattle.sedmatch.specs.declared.occurrences.Occurrences.{Occurrences}
 use Rattle.sedmatch.specs.Passes.{IsRoomyWay, back_way}
 use Rattle.sedmatch.specs.Occurrences.{HasTable, HaveOwn, IsBack, IsReady, RoomAt, RoomFor, Serves, ServesIn, ServesOn, TellsNext, owed, owed_after, owed_search}
@@ -298,10 +298,7 @@ room_made text most width es o places edges marks some few roomy room own fit = 
 }
   where
     enough : text < length o.seeking.kept.edges / 2 * (o.shared.room - 1)
-    enough =
-        let wide : width ≡ o.shared.room - 1 = omega (arith, room) in
-        let half = halves (length o.seeking.kept.edges) (text / width + 1) edges ∙ ap (λ v. text / v + 1) wide in
-        subst (λ v. text < v * (o.shared.room - 1)) (sym half) (blocks_suffice text o.shared.room (omega (arith, some, room)))
+    enough = blocks_enough text width o.shared.room (length o.seeking.kept.edges) some (omega (arith, room)) edges
 
 -- The first occurrence.
 

@@ -1,17 +1,20 @@
 -- An expression that is searched by passes: what they tell of a text, its tables, and the room for them.
-use Rattle.std.proofs.Common.{◌≡◌, ◌∙◌, ℕ, ◌+◌, ◌-◌, ◌*◌, ◌/◌, ◌<◌, ◌≤◌, ◌↔◌, [], List, length, vec_capacity, Bool, Option, Some, IsTrue, refl, sym, ap, subst, ⊎_elim, arith, mul-le-mul_left}
-use Rattle.std.specs.Prelude.{slice_set}
+use Rattle.std.proofs.Common.{◌≡◌, ◌∙◌, ℕ, ◌+◌, ◌-◌, ◌*◌, ◌/◌, ◌<◌, ◌≤◌, ◌↔◌, [], List, length, vec_capacity, Bool, Option, Some, None, IsTrue, true≢false, refl, sym, ap, subst, ⊎_elim, arith, mul-le-mul_left}
+use Rattle.std.specs.Prelude.{is_some, slice_set}
 use Rattle.std.proofs.lemmas.Bool.{cases_lt}
 use Rattle.std.proofs.Math.Nat.{lt-div-mul-add}
 use Rattle.sedre.specs.Arena.{IsExpr}
-use Rattle.sedre.specs.Tree.{WrittenExpression, expression_tree}
+use Rattle.sedre.specs.Tree.{WrittenExpression, expression_tree, Tree}
 use Rattle.sedre.specs.Steps.{Takes, TakesAtLeast}
+use Rattle.sedtext.specs.Beginnings.{AllBegin}
 use Rattle.sedtext.specs.Costs.{CostsWithin}
+use Rattle.sedtext.specs.declared.beginnings.Begins.TheVariants.{AtStart}
 use Rattle.sedtext.specs.Following.{PassesOver}
 use Rattle.sedtext.specs.Groups.{no_groups}
 use Rattle.sedtext.specs.Spans.{SomeFound, Matches}
 use Rattle.sedtext.proofs.GroupLemmas.{Captures-none, no_groups_at}
 use Rattle.sedtext.specs.Needed.{Narrowed}
+use Rattle.sedtext.specs.Reach.{IsLongestFrom}
 use Rattle.sedpass.specs.Decide.{AreGroupTables, AreRoomy, HasDesk, HasSpace, SameRooms}
 use Rattle.sedpass.specs.Kept.{KeptRoom, SameSpace}
 use Rattle.sedtext.specs.Words.{row_of}
@@ -50,6 +53,14 @@ told_past e w from start s t u told some is looks counts tells over cost =
       passes = λ h. passes_later (expression_tree e) w from start s t u is.0 looks.0 counts (over h);
       cost = ((let a = looks.0 in let b = cost.0 in omega (arith, a, b)), (let a = looks.1 in let b = cost.1 in omega (arith, a, b, few)));
     }
+
+-- an anchored match is sought at the start alone
+pub anchored_told : (e : Tree) (w : List ℕ) (from : ℕ) (r : Option ℕ) (told : Bool) → from ≡ 0 → AllBegin e AtStart → IsLongestFrom e w 0 r → told ≡ is_some r → IsTrue told ↔ SomeFound e w from
+anchored_told e w from None told zero begins longest is = (
+  (λ h. absurd (true≢false (sym h ∙ is))),
+  (λ f. absurd (longest f.1 (subst (λ i. Matches e w i f.1) (begins w f.0 f.1 f.4) f.4))),
+)
+anchored_told e w from (Some j) told zero begins longest is = ((λ h. (0, j, omega (arith, zero), omega arith, longest.0)), (λ f. is))
 
 -- one entry alone takes no step
 one_alone : (s n : ℕ) → n ≡ 1 → TakesAtLeast s s (n - 1)
@@ -103,7 +114,7 @@ shared_serves m d is few = record {
 pub any_serves : (m : ℕ) (d : Desk) → IsDesk d → m ≤ d.max_nodes → IsRoomy m d.any
 any_serves m d is few = roomy_fewer m d.max_nodes d.any few is.any.0
 
-pub halves : (edges blocks : ℕ) → edges ≡ 2 * blocks → edges / 2 ≡ blocks
+halves : (edges blocks : ℕ) → edges ≡ 2 * blocks → edges / 2 ≡ blocks
 halves edges blocks is = omega (arith, is)
 
 -- an expression's own tables decide groups there, where its blocks are enough
@@ -115,12 +126,11 @@ own_decides s t d bytes tables is short few long enough =
     let half = halves (length d.room.kept.edges) all is.space.edges in
     has_desk s t d.room d.max_text all d.max_nodes tables is.space short (subst (λ v. length s.text.now < v * (t.inside.room - 1)) half blocks) few
 
-pub blocks_suffice : (text room : ℕ) → 2 ≤ room → text < (text / (room - 1) + 1) * (room - 1)
-blocks_suffice text room some =
-    let w = room - 1 in
-    let one : 1 ≤ w = omega (arith, some) in
-    let within : text < text / w * w + w = lt-div-mul-add one in
-    omega (arith, within)
+-- two rows for each block, in which a table has a state for each place and one more, are enough
+pub blocks_enough : (text width room edges : ℕ) → 1 ≤ width → room - 1 ≡ width → edges ≡ 2 * (text / width + 1) → text < edges / 2 * (room - 1)
+blocks_enough text width room edges some is rows =
+    let within : text < text / width * width + width = lt-div-mul-add some in
+    subst (λ v. text < edges / 2 * v) (sym is) (subst (λ v. text < v * width) (sym (halves edges (text / width + 1) rows)) (omega (arith, within)))
 
 pub blocks_fit : (b w n e : ℕ) → b * w ≤ n → n < e / 2 * w → 2 * b + 1 < e
 blocks_fit b w n e low enough =
@@ -140,12 +150,13 @@ kept_room m n t k way places enough marks = record {
   marks = marks;
 }
 
--- so it can by the table fitted to the expression
+-- those of a desk are enough for its tables, also where they are fitted to an expression
+desk_enough : (d : Desk) (room : ℕ) → IsDesk d → room ≡ d.shared.inside.room → 2 ≤ room → d.max_text < length d.room.kept.edges / 2 * (room - 1)
+desk_enough d room is same some = blocks_enough d.max_text (d.shared.inside.room - 1) room (length d.room.kept.edges) (omega (arith, same, some)) (ap (λ v. v - 1) same) is.space.edges
+
 pub desk_keeps : (d : Desk) (p : Prepared) (back : Table) (m n : ℕ) → IsDesk d → IsTable p back → SameRoom d.back back → n ≤ d.max_text → m ≤ d.max_nodes → KeptRoom m n back d.room.kept
 desk_keeps d p back m n is table same short few =
-    let room : back.room ≡ d.shared.inside.room = same.1 ∙ is.states in
-    let half = halves (length d.room.kept.edges) (d.max_text / (d.shared.inside.room - 1) + 1) is.space.edges ∙ ap (λ v. d.max_text / (v - 1) + 1) (sym room) in
-    let enough : d.max_text < length d.room.kept.edges / 2 * (back.room - 1) = subst (λ v. d.max_text < v * (back.room - 1)) (sym half) (blocks_suffice d.max_text back.room table.room.some) in
+    let enough = desk_enough d back.room is (same.1 ∙ is.states) table.room.some in
     let places = is.space.places in
     kept_room m n back d.room.kept (same.0 ∙ is.back.1) (omega (arith, places, short)) (omega (arith, enough, short)) (λ q low. let marks = is.space.marks q low in omega (arith, marks, few))
 
@@ -153,11 +164,8 @@ desk_keeps d p back m n is table same short few =
 pub shared_decides : (s : Subject) (fitted : GroupTables) (d : Desk) → AreGroupTables s.prepared.now fitted → SameRooms d.shared fitted → IsDesk d → length s.text.now ≤ d.max_text →
     length s.prepared.now.arena.expr.nodes ≤ d.max_nodes → HasDesk s fitted d.room.kept
 shared_decides s fitted d tables fit is short few =
-    let all = d.max_text / (d.shared.inside.room - 1) + 1 in
-    let some : 2 ≤ d.shared.inside.room = subst (λ v. 2 ≤ v) fit.inside.1 tables.inside.room.some in
-    let enough = blocks_suffice d.max_text d.shared.inside.room some in
-    let cut : length s.text.now < all * (d.shared.inside.room - 1) = omega (arith, short, enough) in
-    has_desk s fitted d.room d.max_text all d.max_nodes tables is.space short (subst (λ v. length s.text.now < all * (v - 1)) (sym fit.inside.1) cut) few
+    let enough = desk_enough d fitted.inside.room is fit.inside.1 tables.inside.room.some in
+    own_decides s fitted d (length s.text.now) tables is short few refl (omega (arith, enough, short))
 
 -- the table goes the same way, and has as much room for expressions of at most m nodes
 pub record IsAgain (m : ℕ) (old new : Table) : Type 0 where

@@ -521,9 +521,9 @@ pub fn direct_candidate(form: &DirectForm, text: &Text, steps: &mut Steps) -> Op
 {
     are_bytes(text);
     match form {
-        DirectForm::OneByte(first) => find_first(first, text, 0, steps),
-        DirectForm::ByteThenRun(first, _) => find_first(first, text, 0, steps),
-        DirectForm::ByteThenRunAtEnd(first, _) => find_first(first, text, 0, steps),
+        DirectForm::OneByte(first)
+        | DirectForm::ByteThenRun(first, _)
+        | DirectForm::ByteThenRunAtEnd(first, _) => find_first(first, text, 0, steps),
         DirectForm::Literal(finder) => find_literal(text, finder, 0, steps),
         DirectForm::Choice(choice) => choice.start(text, 0, steps),
         _ => Some(0),

@@ -70,7 +70,7 @@ fn past_null(form: &DirectForm, text: &Text, at: usize, steps: &mut Steps) -> Op
     requires at { at ≤ length text.now }
     ensures next { (e : WrittenExpression) → IsDirect e form.now →
         result ≡ if nat_lt at (length text.now) then found (expression_tree e) text.now (at + 1) else None }
-    ensures lies { IfSome result (λ f. (at < f.0) × (f.0 ≤ f.1) × (f.1 ≤ length text.now)) }
+    ensures lies { IfSome result (λ f. (at + 1 ≤ f.0) × (f.0 ≤ f.1) × (f.1 ≤ length text.now)) }
     ensures cost { CostsWithin steps.old steps.new (rate form.now * (end_or (length text.now) result + 1)) (rate form.now * (at + 1)) }
     ensures counts { IfSome result (λ f. TakesAtLeast steps.old steps.new (f.1 - f.0)) }
     ensures passes { (e : WrittenExpression) → IsDirect e form.now → CanEndEarly (expression_tree e) → IfSome result (λ f. TakesAtLeast steps.old steps.new (f.1 - (at + 1))) }

@@ -2,32 +2,21 @@ use Rattle.std.proofs.Common.{length, refl, subst}
 use Rattle.sedre.specs.Tree.{expression_tree}
 use Rattle.sedmatch.specs.Direct.{SpannedAs}
 use Rattle.sedtext.proofs.CountLemmas.{least_none}
-use Rattle.sedmatch.proofs.CandidateLemmas.{byte_before, byte_run_before, byte_run_end_before, choice_before, counts_byte, counts_choice, counts_literal, literal_before}
+use Rattle.sedmatch.proofs.CandidateLemmas.{byte_before, choice_before, counts_byte, counts_choice, counts_literal, literal_before}
 use Rattle.sedmatch.proofs.direct.direct_candidate.Goals as goal
 
 pub returns-in-OneByte-clause-before : goal.returns-in-OneByte-clause-before
-returns-in-OneByte-clause-before c = λ e is. byte_before (expression_tree e) c.args.text.now c.are_bytes.ensures c.find_first.result c.in-OneByte.first c.find_first.ensures.first (subst (SpannedAs (expression_tree e)) c.in-OneByte.is is.0)
+returns-in-OneByte-clause-before c = λ e is.
+    byte_before (expression_tree e) c.args.text.now c.are_bytes.ensures c.find_first.result c.args.form.now c.in-OneByte.first c.in-OneByte.is c.find_first.ensures.first is.0
 
-pub returns-in-ByteThenRun-clause-before : goal.returns-in-ByteThenRun-clause-before
-returns-in-ByteThenRun-clause-before c = λ e is. byte_run_before (expression_tree e) c.args.text.now c.are_bytes.ensures c.find_first-in-ByteThenRun.result c.in-ByteThenRun.first c.in-ByteThenRun.field-1 c.find_first-in-ByteThenRun.ensures.first (subst (SpannedAs (expression_tree e)) c.in-ByteThenRun.is is.0)
+pub returns-in-OneByte-clause-counts : goal.returns-in-OneByte-clause-counts
+returns-in-OneByte-clause-counts c = counts_byte (length c.args.text.now) c.args.steps.now c.find_first.new.steps c.find_first.result c.find_first.ensures.counts
 
 pub returns-in-Literal-clause-before : goal.returns-in-Literal-clause-before
 returns-in-Literal-clause-before c = λ e is. literal_before (expression_tree e) c.args.text.now c.are_bytes.ensures c.find_literal.result c.in-Literal.finder c.find_literal.ensures.first (subst (SpannedAs (expression_tree e)) c.in-Literal.is is.0)
 
 pub returns-in-Choice-clause-before : goal.returns-in-Choice-clause-before
 returns-in-Choice-clause-before c = λ e is. choice_before (expression_tree e) c.args.text.now c.are_bytes.ensures c.start.result c.in-Choice.choice c.start.ensures.first (subst (SpannedAs (expression_tree e)) c.in-Choice.is is.0)
-
-pub returns-in-ByteThenRunAtEnd-clause-before : goal.returns-in-ByteThenRunAtEnd-clause-before
-returns-in-ByteThenRunAtEnd-clause-before c = λ e is. byte_run_end_before (expression_tree e) c.args.text.now c.are_bytes.ensures c.find_first-in-ByteThenRunAtEnd.result c.in-ByteThenRunAtEnd.first c.in-ByteThenRunAtEnd.field-1 c.find_first-in-ByteThenRunAtEnd.ensures.first (subst (SpannedAs (expression_tree e)) c.in-ByteThenRunAtEnd.is is.0)
-
-pub returns-in-OneByte-clause-counts : goal.returns-in-OneByte-clause-counts
-returns-in-OneByte-clause-counts c = counts_byte (length c.args.text.now) c.args.steps.now c.find_first.new.steps c.find_first.result c.find_first.ensures.counts
-
-pub returns-in-ByteThenRun-clause-counts : goal.returns-in-ByteThenRun-clause-counts
-returns-in-ByteThenRun-clause-counts c = counts_byte (length c.args.text.now) c.args.steps.now c.find_first-in-ByteThenRun.new.steps c.find_first-in-ByteThenRun.result c.find_first-in-ByteThenRun.ensures.counts
-
-pub returns-in-ByteThenRunAtEnd-clause-counts : goal.returns-in-ByteThenRunAtEnd-clause-counts
-returns-in-ByteThenRunAtEnd-clause-counts c = counts_byte (length c.args.text.now) c.args.steps.now c.find_first-in-ByteThenRunAtEnd.new.steps c.find_first-in-ByteThenRunAtEnd.result c.find_first-in-ByteThenRunAtEnd.ensures.counts
 
 pub returns-in-Literal-clause-counts : goal.returns-in-Literal-clause-counts
 returns-in-Literal-clause-counts c = counts_literal (length c.args.text.now) _ c.args.steps.now c.find_literal.new.steps c.find_literal.result c.find_literal.ensures.counts

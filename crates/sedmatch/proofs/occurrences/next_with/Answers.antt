@@ -16,6 +16,17 @@ returns-in-None-first_place-clause-next c =
     let e = expression_tree c.args.sought.now.prepared.arena.expr in
     rw c.in-None.is (answer_found e c.args.text.now 0 None (omega arith) (tt, c.in-None-first_place.ensures.place e c.requires.sought.hints, tt))
 
+pub returns-in-None-first_place-clause-cost : goal.returns-in-None-first_place-clause-cost
+returns-in-None-first_place-clause-cost c = let looks = c.first_place.ensures.cost in rw c.in-None.is (looks.0, omega (arith, looks.1))
+
+pub returns-in-None-first_place-clause-looks : goal.returns-in-None-first_place-clause-looks
+returns-in-None-first_place-clause-looks c =
+    let a = c.first_place.new.steps in
+    let looks = c.first_place.ensures.cost in
+    let last = c.args.sought.now.prepared.is_prepared.last in
+    let square = first_square (length c.args.sought.now.prepared.arena.expr.nodes) (length c.args.text.now) 0 c.args.steps.now a a (omega (arith, last)) (omega (arith, looks.1)) (omega arith) in
+    rw c.in-None.is record { once = (looks.0, square); counts = tt }
+
 first : (c : goal.After-next_match) → SpanAnswer (expression_tree c.args.sought.now.prepared.arena.expr) c.args.text.now 0 c.next_match.result
 first c =
     let e = expression_tree c.args.sought.now.prepared.arena.expr in

@@ -1,4 +1,4 @@
-use Rattle.std.proofs.Common.{length, arith}
+use Rattle.std.proofs.Common.{◌-◌, ◌*◌, ◌≤◌, length, arith, mul-le-mul_left}
 use Rattle.sedre.specs.Tree.{expression_tree}
 use Rattle.sedpass.proofs.TableLemmas.{roomy_fewer}
 use Rattle.sedmatch.proofs.PassLemmas.{desk_again, desk_keeps, shared_serves, untouched, used_again}
@@ -26,6 +26,18 @@ returns-clause-desk c =
     desk_again d (record d.room { kept = new.kept }) d.any new.back (record d.shared { ahead = new.ahead }) is tables.space is.space.none (omega arith) (untouched d.max_nodes d.any is.any.0)
     (used_again d.max_nodes p d.back c.fit-2.new.self new.back is.back.0 c.fit-2.ensures.room tables.back_shape c.next_begun.ensures.next.kept.region.table) (untouched d.max_nodes d.shared.inside is.shared.inside)
     (used_again d.max_nodes p d.shared.ahead c.fit.new.self new.ahead is.shared.ahead c.fit.ensures.room tables.ahead_shape tables.ahead.table)
+
+pub returns-clause-answer : goal.returns-clause-answer
+returns-clause-answer c = c.next_begun.ensures.next.answer
+
+pub returns-clause-cost : goal.returns-clause-cost
+returns-clause-cost c =
+    let m = length c.args.subject.prepared.now.arena.expr.nodes in
+    let n = length c.args.subject.text.now in
+    let less : n - c.args.from ≤ n = omega arith in
+    let more = mul-le-mul_left (142 * m) less in
+    let pays = c.next_begun.ensures.cost in
+    (pays.0, omega (arith, pays.1, more))
 
 pub returns-clause-counts : goal.returns-clause-counts
 returns-clause-counts c =
