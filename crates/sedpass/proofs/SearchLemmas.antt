@@ -15,8 +15,8 @@ use Rattle.sedpass.specs.Table.{IsAhead, IsTable, SameShape}
 use Rattle.sedpass.specs.declared.table.Table.{Table}
 use Rattle.sedtext.specs.Spans.{Matches, IsLeftmostLongest, NotFound}
 use Rattle.sedtext.proofs.SpanLemmas.{Matches-forward, Matches-within}
-use Rattle.sedpass.specs.Kept.{AllMarked, CeasesAt, SameSpace, ends_told}
-use Rattle.sedpass.specs.Regions.{all_of, ReachesEnd}
+use Rattle.sedpass.specs.Kept.{AllMarked, SameSpace, ends_told}
+use Rattle.sedpass.specs.Regions.{CeasesAt, all_of, ReachesEnd}
 use Rattle.sedpass.specs.Search.{LooksFrom, TrialsMade, owed_after, owed_kept, owed_search, search_cost}
 use Rattle.sedpass.specs.declared.kept.Region.{Region}
 use Rattle.sedpass.proofs.KeptLemmas.{space_same}
