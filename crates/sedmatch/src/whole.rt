@@ -11,7 +11,7 @@ use crate::Span;
 use crate::passes::shared_groups;
 use crate::scratch::{Desk, Scratch};
 use sedpass::kept::Subject;
-use sedpass::search::next_begun;
+use sedpass::search::next_kept;
 use sedre::{Expr, Steps};
 use sedtext::{Found, Text};
 
@@ -31,7 +31,13 @@ fn first_span(subject: Subject, from: usize, desk: &mut Desk, steps: &mut Steps)
     desk.back.fit(subject.prepared);
     let ahead = &mut desk.shared.ahead;
     let kept = &mut desk.room.kept;
-    next_begun(subject, ahead, &mut desk.back, kept, from, steps)
+    kept.begin(
+        subject,
+        &desk.back,
+        subject.prepared.root,
+        subject.text.len(),
+    );
+    next_kept(subject, ahead, &mut desk.back, kept, from, steps)
 }
 
 /// The leftmost-longest match that begins at `from` or later, with its groups. `None` exactly where there is no match.

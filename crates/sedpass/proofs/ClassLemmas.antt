@@ -1,9 +1,10 @@
 -- How classes of bytes are found.
-use Rattle.std.proofs.Common.{◌≡◌, ℕ, ◌+◌, ◌*◌, ◌<◌, ◌≤◌, Bool, true, false, List, length, length-set, Some, IsTrue, refl, inl, inr, sym, ap, ◌∙◌, ⊎_elim, arith}
+use Rattle.std.proofs.Common.{◌≡◌, ℕ, ◌+◌, ◌*◌, ◌<◌, ◌≤◌, Bool, true, false, List, length, length-set, Some, IsTrue, refl, sym, ap, ◌∙◌, subst, ⊎_elim, arith}
 use Rattle.std.specs.Prelude.{slice_get, slice_index_or, slice_set}
 use Rattle.std.specs.Int.{from_bool}
 use Rattle.std.proofs.lemmas.List.{get_or-set_same, get_or-set_other}
-use Rattle.std.proofs.lemmas.Bool.{cases_eq, cases_Bool}
+use Rattle.std.proofs.lemmas.Bool.{cases_eq}
+use Rattle.std.proofs.lemmas.Bool.Decides.{same_from_decides}
 use Rattle.std.proofs.lemmas.Option.{same_Some}
 use Rattle.sedre.specs.Sets.{has}
 use Rattle.sedpass.specs.Classes.{IsNumbering, IsGiven, IsFiner}
@@ -62,16 +63,20 @@ finer classes members numbers of count wide few numbering given = record {
       (numbering.apart (key_of classes members a) (key_of classes members b) one.0 other.0 (sym one.1 ∙ e ∙ other.1) (omega arith));
 }
 
--- the first n of the sets part the classes
-pub record AreParted (sets : List (List Bool)) (n : ℕ) (of : List ℕ) (count : ℕ) : Type 0 where
+-- the first n of the sets part the classes, and no other byte has the class of one that is marked
+pub record AreParted (sets : List (List Bool)) (n : ℕ) (of : List ℕ) (count : ℕ) (alone : List Bool) : Type 0 where
   pub wide : length of ≡ 256
+  pub each : length alone ≡ 256
   pub few : count ≤ 256
   pub below : (byte : ℕ) → byte < 256 → at of byte < count
   pub alike : (k : ℕ) (members : List Bool) → k < n → slice_get sets k ≡ Some members → (one other : ℕ) → one < 256 → other < 256 → at of one ≡ at of other → has members one ≡ has members other
+  pub apart : (b other : ℕ) → b < 256 → other < 256 → IsTrue (slice_index_or alone b false) → at of other ≡ at of b → other ≡ b
 
-pub parted_more : (sets : List (List Bool)) (n : ℕ) (members : List Bool) (old of : List ℕ) (count next : ℕ) → slice_get sets n ≡ Some members → AreParted sets n old count → IsFiner old members of next → AreParted sets (n + 1) of next
-parted_more sets n members old of count next is parted finer = record {
+pub parted_more : (sets : List (List Bool)) (n : ℕ) (members alone : List Bool) (old of : List ℕ) (count next : ℕ) → slice_get sets n ≡ Some members → AreParted sets n old count alone → IsFiner old members of next →
+    AreParted sets (n + 1) of next alone
+parted_more sets n members alone old of count next is parted finer = record {
   wide = finer.wide;
+  each = parted.each;
   few = finer.few;
   below = finer.below;
   alike = λ k those less at_k a b low low' e.
@@ -80,32 +85,54 @@ parted_more sets n members old of count next is parted finer = record {
       (λ (here : k ≡ n). rw (same_Some those members (sym at_k ∙ ap (slice_get sets) here ∙ is)) both.1)
       (λ (ne : k ≡ n → ⊥). parted.alike k those (omega arith) at_k a b low low' both.0)
       (cases_eq k n);
+  apart = λ b other low low' marked e. parted.apart b other low low' marked (finer.alike other b low' low e).0;
 }
 
--- a set of one byte parts them, if that has a class of its own
-pub alone_more : (sets : List (List Bool)) (n : ℕ) (members : List Bool) (b : ℕ) (old of : List ℕ) (count : ℕ) → slice_get sets n ≡ Some members → ((c : ℕ) → IsTrue (has members c) → c ≡ b) → count < 256 →
-    b < 256 → of ≡ slice_set old b count → AreParted sets n old count → AreParted sets (n + 1) of (count + 1)
-alone_more sets n members b old of count is sole few inside set parted =
-    let long = parted.wide in
-    let here : at of b ≡ count = ap (λ l. at l b) set ∙ get_or-set_same old b count 0 (omega arith) in
-    let there : (c : ℕ) → (c ≡ b → ⊥) → at of c ≡ at old c = λ c ne. ap (λ l. at l c) set ∙ get_or-set_other old b c count 0 ne in
-    let outside : (c : ℕ) → (c ≡ b → ⊥) → has members c ≡ false = λ c ne. elim (cases_Bool (has members c)) [ inl held ↦ absurd (ne (sole c held)) | inr free ↦ free ] in
+-- a set of one byte that is marked parts nothing more
+pub alone_more : (sets : List (List Bool)) (n : ℕ) (members alone : List Bool) (b : ℕ) (of : List ℕ) (count : ℕ) → slice_get sets n ≡ Some members → ((c : ℕ) → IsTrue (has members c) → c ≡ b) →
+    IsTrue (slice_index_or alone b false) → AreParted sets n of count alone → AreParted sets (n + 1) of count alone
+alone_more sets n members alone b of count is sole marked parted =
+    let both : (x y : ℕ) → x < 256 → y < 256 → at of x ≡ at of y → IsTrue (has members x) → IsTrue (has members y) = λ x y low low' e held.
+    let here = sole x held in
+    let there = parted.apart b y (omega arith) low' marked (sym e ∙ ap (at of) here) in
+    subst (λ z. IsTrue (has members z)) (here ∙ sym there) held in
     record {
-      wide = ap length set ∙ length-set old b count ∙ parted.wide;
-      few = omega arith;
-      below = λ c less. ⊎_elim (λ (e : c ≡ b). let same = ap (at of) e in omega arith) (λ (ne : c ≡ b → ⊥). let same = there c ne in let low = parted.below c less in omega arith) (cases_eq c b);
+      wide = parted.wide;
+      each = parted.each;
+      few = parted.few;
+      below = parted.below;
       alike = λ k those less at_k x y low low' e.
           ⊎_elim
-          (λ (f : x ≡ b). ⊎_elim
-          (λ (g : y ≡ b). ap (has those) (f ∙ sym g))
-          (λ (ne : y ≡ b → ⊥). let same = ap (at of) f in let other = there y ne in let under = parted.below y low' in absurd (omega arith))
-          (cases_eq y b))
-          (λ (ne : x ≡ b → ⊥). ⊎_elim
-          (λ (g : y ≡ b). let same = ap (at of) g in let other = there x ne in let under = parted.below x low in absurd (omega arith))
-          (λ (ne' : y ≡ b → ⊥). ⊎_elim
-          (λ (new : k ≡ n). rw (same_Some those members (sym at_k ∙ ap (slice_get sets) new ∙ is)) (outside x ne ∙ sym (outside y ne')))
-          (λ (ne'' : k ≡ n → ⊥). parted.alike k those (omega arith) at_k x y low low' (sym (there x ne) ∙ e ∙ there y ne'))
-          (cases_eq k n))
-          (cases_eq y b))
+          (λ (new : k ≡ n). rw (same_Some those members (sym at_k ∙ ap (slice_get sets) new ∙ is)) (same_from_decides (has members x) (has members y) (both x y low low' e, both y x low' low (sym e)) (λ h. h, λ h. h)))
+          (λ (ne : k ≡ n → ⊥). parted.alike k those (omega arith) at_k x y low low' e)
+          (cases_eq k n);
+      apart = parted.apart;
+    }
+
+-- a byte is marked that gets a class of its own
+pub apart_more : (sets : List (List Bool)) (n : ℕ) (alone : List Bool) (b : ℕ) (of : List ℕ) (count : ℕ) → count < 256 → b < 256 → AreParted sets n of count alone →
+    AreParted sets n (slice_set of b count) (count + 1) (slice_set alone b true)
+apart_more sets n alone b of count few inside parted =
+    let long = parted.wide in
+    let after = slice_set of b count in
+    let here : at after b ≡ count = get_or-set_same of b count 0 (omega arith) in
+    let there : (c : ℕ) → (c ≡ b → ⊥) → at after c ≡ at of c = λ c ne. get_or-set_other of b c count 0 ne in
+    let alone_there : (x y : ℕ) → x < 256 → y < 256 → at after x ≡ at after y → x ≡ b → y ≡ b = λ x y low low' e is.
+    ⊎_elim (λ (at : y ≡ b). at) (λ (ne : y ≡ b → ⊥). let same = ap (at after) is in let old = there y ne in let under = parted.below y low' in absurd (omega arith)) (cases_eq y b) in
+    let old_class : (x y : ℕ) → x < 256 → y < 256 → at after x ≡ at after y → at of x ≡ at of y = λ x y low low' e.
+    ⊎_elim
+    (λ (is : x ≡ b). ap (at of) (is ∙ sym (alone_there x y low low' e is)))
+    (λ (ne : x ≡ b → ⊥). sym (there x ne) ∙ e ∙ there y (λ is. ne (alone_there y x low' low (sym e) is)))
+    (cases_eq x b) in
+    record {
+      wide = length-set of b count ∙ parted.wide;
+      each = length-set alone b true ∙ parted.each;
+      few = omega arith;
+      below = λ c less. ⊎_elim (λ (is : c ≡ b). let same = ap (at after) is in omega arith) (λ (ne : c ≡ b → ⊥). let same = there c ne in let low = parted.below c less in omega arith) (cases_eq c b);
+      alike = λ k those less at_k x y low low' e. parted.alike k those less at_k x y low low' (old_class x y low low' e);
+      apart = λ x y low low' marked e.
+          ⊎_elim
+          (λ (is : x ≡ b). alone_there x y low low' (sym e) is ∙ sym is)
+          (λ (ne : x ≡ b → ⊥). parted.apart x y low low' (sym (get_or-set_other alone b x true false ne) ∙ marked) (old_class y x low' low e))
           (cases_eq x b);
     }

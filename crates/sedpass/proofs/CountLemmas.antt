@@ -1,8 +1,8 @@
 -- Counts of steps that stay at the largest.
-use Rattle.std.proofs.Common.{◌≡◌, ℕ, ◌-◌, ◌*◌, ◌≤◌, Bool, List, Option, None, Some, IsTrue, IfSome, sym, ◌∙◌, true≢false, arith}
+use Rattle.std.proofs.Common.{◌≡◌, ℕ, ◌-◌, ◌≤◌, Bool, List, Option, None, Some, IsTrue, IfSome, sym, ◌∙◌, true≢false, arith}
 use Rattle.std.specs.Prelude.{is_some}
 pub use Rattle.sedtext.proofs.CountLemmas.{least_none, least_both, least_counted, least_less, least_since, least_up}
-use Rattle.sedre.specs.Steps.{TakesExactly, TakesAtLeast}
+use Rattle.sedre.specs.Steps.{TakesAtLeast}
 use Rattle.sedre.specs.Tree.{Tree}
 use Rattle.sedtext.specs.Following.{PassesOver}
 

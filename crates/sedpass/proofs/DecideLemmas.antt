@@ -23,10 +23,10 @@ use Rattle.sedtext.proofs.ReachLemmas.{close_at}
 use Rattle.sedtext.proofs.SpanLemmas.{Matches-forward}
 use Rattle.sedpass.specs.Decide.{found, undecided, HasAll, flags_of, told_of, EndsRegion, IsAtEnd, IsDesk, HasDesk, IsSetAt, AreGroupTables, HasSpace, SameTables, KeepsDesk, part_cost, nodes_in, text_in, Blank, Stands}
 use Rattle.sedpass.specs.Groups.{reported, holds, has_group}
-use Rattle.sedpass.specs.Kept.{AllMarked, CeasesAt, IsKept, SameKept, SameSpace, ends_told, owed}
+use Rattle.sedpass.specs.Kept.{AllMarked, IsKept, SameKept, SameSpace, ends_told, owed}
 use Rattle.sedpass.specs.Lengths.{AllLong}
 use Rattle.sedpass.specs.Prepared.{IsFacts, null_in, is_set, run_of}
-use Rattle.sedpass.specs.Regions.{IsLastIn, NextCopy, ReachesEnd, IsRunOf, repeated, in_group}
+use Rattle.sedpass.specs.Regions.{CeasesAt, IsLastIn, NextCopy, ReachesEnd, IsRunOf, repeated, in_group}
 use Rattle.sedpass.specs.Table.{IsTable, SameShape, MayBegin}
 use Rattle.sedpass.specs.Walks.{settle, drop_groups, GroupStandsIn, NoneDue, IsStart}
 use Rattle.sedpass.specs.declared.group_set.GroupSet.{GroupSet}

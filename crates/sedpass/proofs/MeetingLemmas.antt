@@ -13,7 +13,7 @@ use Rattle.sedtext.specs.Spans.{CopiesLead, no_copy, one_more}
 use Rattle.sedtext.specs.Caps.{LastCut, LastCopy, only, then}
 use Rattle.sedtext.specs.Nodes.{IsRepetitionOf}
 use Rattle.sedtext.specs.Reach.{At, BeginsWith, IsStart, one_start, Enters, at_root, with_whole, after_left, again}
-use Rattle.sedpass.specs.Regions.{Leaves, with_end, before_right, before_copies, ReachesEnd, IsLastIn, all_of, Meets, GoesOn, StopsAt, RunsTo, NextCopy, IsRunOf, repeated, in_group}
+use Rattle.sedpass.specs.Regions.{Leaves, with_end, before_right, before_copies, ReachesEnd, IsLastIn, all_of, Meets, GoesOn, CeasesAt, RunsTo, NextCopy, IsRunOf, repeated, in_group}
 use Rattle.sedtext.proofs.SpanLemmas.{Matches-forward, CopiesLead-forward, CopiesLead-append}
 use Rattle.sedtext.proofs.ReachLemmas.{open_at, close_at, Enters-inside, star_copies}
 use Rattle.sedtext.proofs.NodeLemmas.{node_at}
@@ -277,7 +277,7 @@ module _ (nodes : List Node) (w : List ℕ) (r j x : ℕ) (a b : NodeId) (arena 
       record { left = stop.0; right = stop.1; greatest = stop.2 }
 
   -- so a pass over a that goes on while they meet stops at the greatest cut
-  pub stops_at_cut : (i p : ℕ) → At nodes w x i j → StopsAt nodes w r j a.index i p → LastCut (At nodes w a.index) (At nodes w b.index) i j p
+  pub stops_at_cut : (i p : ℕ) → At nodes w x i j → CeasesAt nodes w r (one_start j) a.index i p → LastCut (At nodes w a.index) (At nodes w b.index) i j p
   stops_at_cut i p at stops = cut_at i p (Meets nodes w r (one_start j) a.index (one_start i)) at stops.0 (λ q low up. meets-cut i q low) stops.1 stops.2
 
 module _ (nodes : List Node) (w : List ℕ) (r j x : ℕ) (a : NodeId) (first : Bool) (arena : IsArena nodes) (last : IsLastIn nodes r x) (is : slice_get nodes x ≡ Some (Star a first)) where
@@ -307,7 +307,7 @@ module _ (nodes : List Node) (w : List ℕ) (r j x : ℕ) (a : NodeId) (first : 
       )
 
   -- a pass over a copy stops at the greatest end from which copies lead on
-  pub stops_at_copy : (i p : ℕ) → At nodes w x i j → i < j → StopsAt nodes w r j a.index i p → NextCopy (At nodes w a.index) i j p
+  pub stops_at_copy : (i p : ℕ) → At nodes w x i j → i < j → CeasesAt nodes w r (one_start j) a.index i p → NextCopy (At nodes w a.index) i j p
   stops_at_copy i p at some stops =
       let R = At nodes w a.index in
       let one = first_copy R j i (open_at nodes w x (Star a first) arena is i j at) some in

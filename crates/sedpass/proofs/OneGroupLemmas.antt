@@ -15,7 +15,7 @@ use Rattle.sedtext.proofs.CapsLemmas.{Captures-unique}
 use Rattle.sedtext.proofs.MatchingLemmas.{groups_after-is}
 use Rattle.sedpass.proofs.RowLemmas.{not_true, or_truth}
 use Rattle.sedpass.specs.Groups.{has_group}
-use Rattle.sedpass.specs.Walks.{State, is_due, settle, drop_groups, GroupStandsIn, NoneDue, PassedBy, Walk, IsStart}
+use Rattle.sedpass.specs.Walks.{State, is_due, settle, drop_groups, GroupStandsIn, PassedBy, Walk, IsStart}
 
 -- whether a group stands in the expression
 pub has_told : (t : Tree) (k : ℕ) → IsTrue (has_group t k) ↔ GroupStandsIn t k
@@ -352,20 +352,6 @@ module _ (k : ℕ) where
       let one = walked a w i i p old mid at walk (forget a g) in
       (one.0, inr (inl (same, yes_first, at, one.1)), inside a _ old mid new last one.2)
   walked (opt a first) w i j n old new spans (inr (p, is, inr (inr (same, not, still_is, none)))) g = (g, inr (inr (same, (not, refl))), still old new still_is)
-
--- what isn't due doesn't become so
-pub stays : (e t : Tree) (w : List ℕ) (i j n : ℕ) (old new : State) → Matches e w i j → Walk e w i j old new n → NoneDue t old → NoneDue t new
-stays e t w i j n old new spans walk none k has =
-    let one = walked k e w i j n old new spans walk no_groups in
-    one.2.due ∙ left-not (is_due old k) _ (none k has)
-
-pub drop-not : (t : Tree) (s : State) → NoneDue t s → drop_groups t s ≡ s
-drop-not (seq a b) s none = ap (drop_groups b) (drop-not a s (λ k h. none k (inl h))) ∙ drop-not b s (λ k h. none k (inr h))
-drop-not (alt a b) s none = ap (drop_groups b) (drop-not a s (λ k h. none k (inl h))) ∙ drop-not b s (λ k h. none k (inr h))
-drop-not (group k a) s none = ap (drop_groups a) (settle-not k None s (none k (inl refl))) ∙ drop-not a s (λ n h. none n (inr h))
-drop-not (star a first) s none = drop-not a s none
-drop-not (opt a first) s none = drop-not a s none
-drop-not other s none = refl
 
 pub same_lists : {X : Type 0} (xs ys : List X) → ((k : ℕ) → slice_get xs k ≡ slice_get ys k) → xs ≡ ys
 same_lists [] [] each = refl

@@ -5,7 +5,7 @@ use Rattle.sedre.specs.Arena.{IsArena}
 use Rattle.sedre.specs.Tree.{WrittenExpression, expression_tree, tree_at, Tree}
 use Rattle.std.specs.Prelude.{IfSome, if◌then◌else◌}
 use Rattle.sedre.specs.Steps.{TakesAtLeast}
-use Rattle.sedpass.proofs.CountLemmas.{least_both, least_fewer, least_since}
+use Rattle.sedpass.proofs.CountLemmas.{least_both, least_fewer, least_none, least_since}
 use Rattle.sedtext.specs.Answer.{SpanAnswer}
 use Rattle.sedtext.specs.declared.starts.Starts.{Starts}
 use Rattle.sedtext.specs.Reach.{At, one_start, IsLongestFrom, starts_to}
@@ -15,12 +15,14 @@ use Rattle.sedpass.specs.Table.{IsAhead, IsTable, SameShape}
 use Rattle.sedpass.specs.declared.table.Table.{Table}
 use Rattle.sedtext.specs.Spans.{Matches, IsLeftmostLongest, NotFound}
 use Rattle.sedtext.proofs.SpanLemmas.{Matches-forward, Matches-within}
-use Rattle.sedpass.specs.Kept.{AllMarked, CeasesAt, ends_told}
-use Rattle.sedpass.specs.Regions.{all_of, ReachesEnd}
-use Rattle.sedpass.specs.Search.{LooksFrom, owed_kept, owed_search, search_cost}
+use Rattle.sedpass.specs.Kept.{AllMarked, SameSpace, ends_told}
+use Rattle.sedpass.specs.Regions.{CeasesAt, all_of, ReachesEnd}
+use Rattle.sedpass.specs.Search.{LooksFrom, TrialsMade, owed_after, owed_kept, owed_search, search_cost}
 use Rattle.sedpass.specs.declared.kept.Region.{Region}
+use Rattle.sedpass.proofs.KeptLemmas.{space_same}
 use Rattle.sedpass.proofs.OwedLemmas.{owed_small}
 use Rattle.sedpass.specs.declared.search.Seeking.{Seeking}
+use Rattle.sedpass.specs.declared.search.Trials.TheVariants.{Tired}
 use Rattle.sedpass.specs.declared.nodes.Prepared.{Prepared}
 use Rattle.sedpass.proofs.LeaveLemmas.{reaches_ends}
 use Rattle.sedpass.proofs.MeetingLemmas.{meets_whole}
@@ -177,9 +179,6 @@ none_cost m n from start s0 s1 s2 o0 o1 some low within seek null =
     let most = mul-le-mul_left d some in
     omega (arith, most, seek, null)
 
-pub begun_cost : (m n from s t o after : ℕ) → o ≤ 100 * m * (n - from) → t + after ≤ s + (o + 42 * m * (n - from) + 42 * m) → t + after ≤ s + (142 * m * (n - from) + 42 * m)
-begun_cost m n from s t o after begins pays = omega (arith, begins, pays)
-
 -- a hit
 pub hit_cost : (m n from i j tried tried' s t : ℕ) → 1 ≤ m → from ≤ i → i ≤ j → j ≤ n → tried ≤ n → tried' ≤ 2 * n + 1 → t + (40 * m * tried + from) ≤ s + (40 * m * tried' + (i + 1 + 40 * m * (j + 1 - i))) →
     t + (40 * m * (2 * n + 1 - tried') + 142 * m * (n - j)) ≤ s + (40 * m * (2 * n + 1 - tried) + 142 * m * (n - from) + 42 * m)
@@ -214,10 +213,10 @@ nothing_cost m n from tried tried' s t some low few few' pays =
     let most = mul-le-mul_left d some in
     omega (arith, most, a3, a4)
 
--- a pass from the end after trials
-pub tired_cost : (m n from k tried tried' s t1 t2 after : ℕ) → 1 ≤ m → from < k → k ≤ n → tried ≤ n → tried' ≤ 2 * n + 1 → t1 + (40 * m * tried + from) ≤ s + (40 * m * tried' + k) →
-    t2 + after ≤ t1 + (142 * m * (n - k) + 42 * m) → t2 + after ≤ s + (40 * m * (2 * n + 1 - tried) + 142 * m * (n - from) + 42 * m)
-tired_cost m n from k tried tried' s t1 t2 after some low within few few' pays more =
+-- a pass from the end is left to do after trials
+tired_cost : (m n from k tried tried' s t : ℕ) → 1 ≤ m → from < k → k ≤ n → tried ≤ n → tried' ≤ 2 * n + 1 → t + (40 * m * tried + from) ≤ s + (40 * m * tried' + k) →
+    t + (40 * m * (2 * n + 1 - tried') + 142 * m * (n - k)) ≤ s + (40 * m * (2 * n + 1 - tried) + 142 * m * (n - from))
+tired_cost m n from k tried tried' s t some low within few few' pays =
     let d = k - from in
     let u = 2 * n + 1 - tried in
     let v = 2 * n + 1 - tried' in
@@ -259,9 +258,9 @@ nothing_each m n from tried tried' s t some low few pays =
     let all = mul-le-mul_left x some in
     omega (arith, most, all, a, pays)
 
-pub tired_each : (m n from k tried tried' s t1 t2 after : ℕ) → 1 ≤ m → from < k → k ≤ n → tried' ≤ max tried (n / 8) + (n + 1 - from) → t1 + (40 * m * tried + from) ≤ s + (40 * m * tried' + k) →
-    t2 + after ≤ t1 + (142 * m * (n - k) + 42 * m) → t2 ≤ s + search_cost m n from
-tired_each m n from k tried tried' s t1 t2 after some low within few pays more =
+tired_each : (m n from k tried tried' s t1 t2 : ℕ) → 1 ≤ m → from < k → k ≤ n → tried' ≤ max tried (n / 8) + (n + 1 - from) → t1 + (40 * m * tried + from) ≤ s + (40 * m * tried' + k) →
+    t2 ≤ t1 + (142 * m * (n - k) + 42 * m) → t2 ≤ s + search_cost m n from
+tired_each m n from k tried tried' s t1 t2 some low within few pays more =
     let y = n - from - 1 in
     let d = k - from - 1 in
     let e1 : n + 1 - from ≡ y + 2 = omega arith in
@@ -275,16 +274,12 @@ tired_each m n from k tried tried' s t1 t2 after some low within few pays more =
     omega (arith, most, all, a1, a2, a3, pays, more)
 
 -- of one by a pass from the text's end alone
-pub begun_each : (m n from s t o after : ℕ) → o ≤ 142 * m * (n - from) → t + after ≤ s + (o + 42 * m) → t ≤ s + search_cost m n from
-begun_each m n from s t o after few pays = omega (arith, few, pays)
-
--- and of all from a place on
-pub kept_small : (m n : ℕ) (r : Region) (place : ℕ) → r.end ≤ n → owed_kept m n r place ≤ 142 * m * (n - place)
-kept_small m n r place inside =
-    let small = owed_small m r place in
-    let less : r.end - place ≤ n - place = omega arith in
+pub kept_each : (m n : ℕ) (r : Region) (from s t after : ℕ) → r.end ≤ n → t + after ≤ s + (owed_kept m n r from + 42 * m) → t ≤ s + (142 * m * (n - from) + 42 * m)
+kept_each m n r from s t after inside pays =
+    let small = owed_small m r from in
+    let less : r.end - from ≤ n - from = omega arith in
     let all = mul-le-mul_left (100 * m) less in
-    omega (arith, small, all)
+    omega (arith, small, all, pays)
 
 -- of a search in a text, by its length
 pub search_long : (m n from : ℕ) → search_cost m n from ≤ m * (192 * n + 48)
@@ -377,6 +372,66 @@ later_answer e w from k (Some f) low none is =
 -- what searches by trials may still take
 pub unbegun : (m n : ℕ) (s : Seeking) (place : ℕ) → s.begun ≡ false → owed_search m n s place ≡ 40 * m * (2 * n + 1 - s.tried) + 142 * m * (n - place)
 unbegun m n s place is = ap (λ b. if b then owed_kept m n s.kept.region place else 40 * m * (2 * n + 1 - s.tried) + 142 * m * (n - place)) is
+
+-- and by the pass from the text's end
+by_pass : (m n : ℕ) (s : Seeking) → IsTrue s.begun → owed_search m n s ≡ owed_kept m n s.kept.region
+by_pass m n s is = ap (λ b q. if b then owed_kept m n s.kept.region q else 40 * m * (2 * n + 1 - s.tried) + 142 * m * (n - q)) is
+
+pub pass_paid : (m n : ℕ) (mid begun new : Seeking) (start s t : ℕ) (r : Option (ℕ × ℕ)) → IsTrue begun.begun → IsTrue new.begun → owed_search m n begun start ≤ owed_search m n mid start →
+    t + owed_after (λ q. owed_kept m n new.kept.region q) r ≤ s + (owed_kept m n begun.kept.region start + 42 * m) → t + owed_after (owed_search m n new) r ≤ s + (owed_search m n mid start + 42 * m)
+pass_paid m n mid begun new start s t r is is' falls pays =
+    let old = ap (λ due. due start) (by_pass m n begun is) in
+    rw (by_pass m n new is') (omega (arith, old, falls, pays))
+
+-- a search came to a place from which it goes on by that pass: none begins before, and the steps so far are paid
+pub record ComesTo (p : Prepared) (w : List ℕ) (a a' : Table) (old mid : Seeking) (from place before after : ℕ) : Type 0 where
+  pub shape : SameShape a a'
+  pub space : SameSpace old.kept mid.kept
+  pub up : from ≤ place
+  pub within : place ≤ length w
+  pub none : NoneIn (expression_tree p.arena.expr) w from place
+  pub grows : before ≤ after
+  pub cost : after + owed_search (length p.arena.expr.nodes) (length w) mid place ≤ before + owed_search (length p.arena.expr.nodes) (length w) old from
+  pub each : (t : ℕ) → t ≤ after + (142 * length p.arena.expr.nodes * (length w - place) + 42 * length p.arena.expr.nodes) → t ≤ before + search_cost (length p.arena.expr.nodes) (length w) from
+  pub counts : TakesAtLeast before after (place - from)
+
+-- at once,
+pub comes_at_once : (p : Prepared) (w : List ℕ) (a : Table) (s : Seeking) (from before : ℕ) → from ≤ length w → ComesTo p w a a s s from from before before
+comes_at_once p w a s from before low = record {
+  shape = (refl, refl, refl, refl, refl);
+  space = space_same s.kept;
+  up = omega arith;
+  within = low;
+  none = λ h k low high. absurd (omega arith);
+  grows = omega arith;
+  cost = omega arith;
+  each = λ t few. omega (arith, few);
+  counts = least_none before (from - from) (omega arith);
+}
+
+-- or after trials
+pub comes_tired : (p : Prepared) (w : List ℕ) (a a' : Table) (old mid : Seeking) (from place before after : ℕ) → SameShape a a' → SameSpace old.kept mid.kept → old.begun ≡ false → mid.begun ≡ false → old.tried ≤ length w →
+    TrialsMade (expression_tree p.arena.expr) w (length p.arena.expr.nodes) from old.tried mid.tried before after (Tired place) → ComesTo p w a a' old mid from place before after
+comes_tired p w a a' old mid from place before after shape space is is' few made =
+    let m = length p.arena.expr.nodes in
+    let n = length w in
+    let last = p.is_prepared.last in
+    let answer = made.answer in
+    let most = made.few in
+    let was = unbegun m n old from is in
+    let now = unbegun m n mid place is' in
+    let paid = tired_cost m n from place old.tried mid.tried before after (omega (arith, last)) answer.0 answer.1 few (omega (arith, most, few)) made.cost.1 in
+    record {
+      shape = shape;
+      space = space;
+      up = omega (arith, answer.0);
+      within = answer.1;
+      none = answer.2;
+      grows = made.cost.0;
+      cost = omega (arith, paid, was, now);
+      each = λ t more. tired_each m n from place old.tried mid.tried before after t (omega (arith, last)) answer.0 answer.1 most made.cost.1 more;
+      counts = made.counts;
+    }
 
 -- looks up to a later place count too
 pub looks_later : (from k s a b : ℕ) (r : Option (ℕ × ℕ)) → TakesAtLeast s a (k - from) → LooksFrom k a b r → LooksFrom from s b r

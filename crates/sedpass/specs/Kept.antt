@@ -39,11 +39,6 @@ KeptAt p w way root end place a = (a.root ≡ root) × RowKept p w way root end 
 abbrev pub AllMarked : List Node → List ℕ → ℕ → Starts → ℕ → Bool → ℕ → ℕ → Type 0
 AllMarked nodes w r t x marked from to = (q : ℕ) → from ≤ q → q < to → IsTrue marked ↔ ReachesEnd nodes w r t x q
 
--- a pass over a from i and the kept one meet at each place before p, and not at p
-abbrev pub CeasesAt : List Node → List ℕ → ℕ → Starts → ℕ → ℕ → ℕ → Type 0
-CeasesAt nodes w r t a i p =
-    (i ≤ p) × ((q : ℕ) → i ≤ q → q < p → Meets nodes w r t a (one_start i) q) × (Meets nodes w r t a (one_start i) p → ⊥)
-
 -- What holds of it.
 
 -- the number kept for a place is that of a state which is the place's

@@ -45,8 +45,8 @@ fn split(classes: &[u8; 256], set: &ByteSet) -> Classes
     Classes { of, count }
 }
 
-/// The classes of bytes of an expression with these sets. A set of one byte costs nothing: that has a class of its own, as long as
-/// there are numbers.
+/// The classes of bytes of an expression with these sets. A set of one byte costs nothing: the first time that gets a class of its own,
+/// as long as there are numbers, and then it has one.
 pub fn classes_of(sets: &[ByteSet]) -> Classes
     ensures { (nodes : List Node) → HaveSets nodes sets.now → AreClasses nodes result.of result.count }
 {
@@ -54,9 +54,12 @@ pub fn classes_of(sets: &[ByteSet]) -> Classes
         of: [0; 256],
         count: 1,
     };
+    let mut alone = [false; 256];
     for i in 0..sets.len() {
         match sets[i].sole() {
+            Some(byte) if alone[byte as usize] => {}
             Some(byte) if classes.count < 256 => {
+                alone[byte as usize] = true;
                 classes.of[byte as usize] = classes.count as u8;
                 classes.count += 1;
             }

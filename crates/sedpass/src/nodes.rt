@@ -262,29 +262,6 @@ impl Prepared {
         Ok(prepared)
     }
 
-    /// The node of an index, as it is or mirrored. Counts one look.
-    #[inline(always)]
-    pub fn look(&self, x: usize, mirrored: bool, steps: &mut Steps) -> Node
-        requires inside { x < length self.now.arena.expr.nodes }
-        ensures node { slice_get (seen mirrored self.now.arena.expr).nodes x ≡ Some result }
-        ensures cost { Takes steps.old steps.new 1 }
-        ensures counts { TakesExactly steps.old steps.new 1 }
-        ensures parts { PartsBelow x result }
-        ensures arena { IsArena (seen mirrored self.now.arena.expr).nodes }
-        ensures few { length self.now.arena.expr.nodes ≤ 65536 }
-    {
-        self.arena.look(x, mirrored, steps)
-    }
-
-    /// For proofs: the nodes are those of an expression, and there are not more than one may have.
-    #[inline(always)]
-    pub fn is_expression(&self)
-        ensures expr { IsExpr self.now.arena.expr.nodes self.now.arena.expr.groups }
-        ensures few { length self.now.arena.expr.nodes ≤ 65536 }
-    {
-        let _nodes = self.nodes();
-    }
-
     /// The least index in a node's tree: its nodes are those from there to the node itself.
     #[inline(always)]
     pub fn low(&self, x: usize) -> usize

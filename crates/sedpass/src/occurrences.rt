@@ -25,7 +25,7 @@ pub fn begin_text(subject: Subject, back: &Table, seeking: &mut Seeking)
     requires all_starts { IsTrue back.now.way.all_starts }
     ensures kept { seeking.new.kept ≡ seeking.old.kept }
     ensures begun { seeking.new.begun ≡ false }
-    ensures tried { seeking.new.tried ≤ length subject.entry.text.now }
+    ensures tried { seeking.new.tried ≡ if seeking.old.begun then length subject.entry.text.now else 0 }
     ensures serves { Serves subject.entry.prepared.now subject.entry.text.now back.now seeking.new }
     ensures owed { let m = length subject.entry.prepared.now.arena.expr.nodes in let n = length subject.entry.text.now in
         owed_behind m n seeking.new 0 + 42 * m ≤ 306 * m * (n + 1) }

@@ -165,7 +165,7 @@ fn ascend(
 {
     let low = prepared.low(root);
     for x in low..root + 1 {
-        let node = prepared.look(x, way.mirrored, steps);
+        let node = prepared.arena.look(x, way.mirrored, steps);
         let here = ends_here(prepared, &node, x, byte, kind, work, steps);
         work.ended.set(x, here, steps);
     }
@@ -199,7 +199,7 @@ fn descend(
         let here = work.entered.get(x, steps);
         let end = work.ended.get(x, steps);
         let null = prepared.null_at(x, kind, steps);
-        let node = prepared.look(x, way.mirrored, steps);
+        let node = prepared.arena.look(x, way.mirrored, steps);
         enter(prepared, &node, here, kind, work, steps);
         let leaf = leaf_bit(&node, here);
         work.leaves.set(x, leaf, steps);

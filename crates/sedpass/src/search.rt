@@ -9,9 +9,9 @@ ghost use Rattle.sedtext.specs.Costs.{CostsWithin};
 ghost use Rattle.sedtext.specs.Reach.{At};
 ghost use Rattle.sedre.specs.Tree.{expression_tree};
 ghost use Rattle.sedre.specs.Steps.{Takes};
-ghost use Rattle.sedpass.specs.Table.{IsAhead, IsTable, SameShape};
-ghost use Rattle.sedpass.specs.Kept.{IsKept, KeptRoom, owed};
-ghost use Rattle.sedpass.specs.Search.{IsNextMatch, LooksFrom, MaySearch, Searched, TablesStay, TrialsMade, owed_kept, owed_search, owed_after, search_cost};
+ghost use Rattle.sedpass.specs.Table.{IsAhead, SameShape};
+ghost use Rattle.sedpass.specs.Kept.{IsKept, SameSpace};
+ghost use Rattle.sedpass.specs.Search.{IsNextMatch, LooksFrom, MaySearch, Searched, Serves, TablesStay, TrialsMade, owed_kept, owed_search, owed_after, search_cost};
 
 use crate::kept::{Kept, Subject};
 use crate::nodes::kind_of;
@@ -94,8 +94,8 @@ fn begins_there(subject: Subject, start: usize, steps: &mut Steps) -> bool
     start < length || prepared.null_at(prepared.root, kind_of(start, length), steps)
 }
 
-/// The match from a place on, by the pass from the text's end.
-fn next_kept(
+/// The match from a place on, by the pass from the text's end, which was begun.
+pub fn next_kept(
     subject: Subject,
     ahead: &mut Table,
     back: &mut Table,
@@ -111,6 +111,8 @@ fn next_kept(
     ensures next { IsNextMatch subject.entry.prepared.now subject.entry.text.now from back.new kept.new steps.old steps.new result }
     ensures cost { let m = length subject.entry.prepared.now.arena.expr.nodes in let n = length subject.entry.text.now in
         CostsWithin steps.old steps.new (owed_kept m n kept.old.region from + 42 * m) (owed_after (λ q. owed_kept m n kept.new.region q) result) }
+    ensures each { let m = length subject.entry.prepared.now.arena.expr.nodes in
+        Takes steps.old steps.new (142 * m * (length subject.entry.text.now - from) + 42 * m) }
 {
     let root = subject.prepared.root;
     let start = kept.seek(subject, back, root, from, true, steps);
@@ -121,28 +123,22 @@ fn next_kept(
     Some((start, end))
 }
 
-/// The same, of a text of which nothing is kept yet.
-pub fn next_begun(
-    subject: Subject,
-    ahead: &mut Table,
-    back: &mut Table,
-    kept: &mut Kept,
-    from: usize,
-    steps: &mut Steps,
-) -> Option<(usize, usize)>
-    requires from { from ≤ length subject.text.now }
-    requires ahead { IsAhead subject.prepared.now ahead.old }
-    requires table { IsTable subject.prepared.now back.old }
-    requires room { KeptRoom (length subject.prepared.now.arena.expr.nodes) (length subject.text.now) back.old kept.old }
-    requires all_starts { IsTrue back.old.way.all_starts }
-    ensures tables { TablesStay subject.entry.prepared.now ahead.old ahead.new back.old back.new kept.old kept.new }
-    ensures next { IsNextMatch subject.entry.prepared.now subject.entry.text.now from back.new kept.new steps.old steps.new result }
-    ensures cost { let m = length subject.entry.prepared.now.arena.expr.nodes in let n = length subject.entry.text.now in
-        CostsWithin steps.old steps.new (142 * m * (n - from) + 42 * m) (owed_after (λ q. owed_kept m n kept.new.region q) result) }
+/// Begins the pass from the text's end, unless it was begun.
+fn begin_kept(subject: Subject, back: &Table, seeking: &mut Seeking)
+    requires { Serves subject.prepared.now subject.text.now back.now seeking.old }
+    ensures begun { IsTrue seeking.new.begun }
+    ensures kept { IsKept subject.entry.prepared.now subject.entry.text.now back.now seeking.new.kept }
+    ensures space { SameSpace seeking.old.kept seeking.new.kept }
+    ensures owed { let m = length subject.entry.prepared.now.arena.expr.nodes in let n = length subject.entry.text.now in
+        (place : ℕ) → place ≤ n → owed_search m n seeking.new place ≤ owed_search m n seeking.old place }
 {
-    let length = subject.text.len();
-    kept.begin(subject, back, subject.prepared.root, length);
-    next_kept(subject, ahead, back, kept, from, steps)
+    if !seeking.begun {
+        let length = subject.text.len();
+        seeking.begun = true;
+        seeking
+            .kept
+            .begin(subject, back, subject.prepared.root, length);
+    }
 }
 
 /// The leftmost of the longest matches that begin at a place or later. For one text the places don't fall from call to call.
@@ -164,27 +160,22 @@ pub fn next_match(
     ensures each { Takes steps.old steps.new (search_cost (length subject.entry.prepared.now.arena.expr.nodes) (length subject.entry.text.now) from) }
     ensures counts { LooksFrom from steps.old steps.new result }
 {
-    if seeking.begun {
-        return next_kept(subject, ahead, back, &mut seeking.kept, from, steps);
-    }
-    if seeking.tried > subject.text.len() {
-        seeking.begun = true;
-        return next_begun(subject, ahead, back, &mut seeking.kept, from, steps);
-    }
-    match try_all(
-        subject,
-        begins,
-        ahead,
-        from,
-        &mut seeking.kept.work,
-        &mut seeking.tried,
-        steps,
-    ) {
-        Trials::Hit(start, end) => Some((start, end)),
-        Trials::Nothing => None,
-        Trials::Tired(start) => {
-            seeking.begun = true;
-            next_begun(subject, ahead, back, &mut seeking.kept, start, steps)
+    let mut start = from;
+    if !seeking.begun && seeking.tried <= subject.text.len() {
+        match try_all(
+            subject,
+            begins,
+            ahead,
+            from,
+            &mut seeking.kept.work,
+            &mut seeking.tried,
+            steps,
+        ) {
+            Trials::Hit(first, end) => return Some((first, end)),
+            Trials::Nothing => return None,
+            Trials::Tired(later) => start = later,
         }
     }
+    begin_kept(subject, back, seeking);
+    next_kept(subject, ahead, back, &mut seeking.kept, start, steps)
 }

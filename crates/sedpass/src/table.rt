@@ -185,7 +185,7 @@ impl Table {
         ensures table { IsTable prepared.now self.new }
         ensures room { SameRoom self.old self.new }
     {
-        prepared.is_expression();
+        prepared.arena.is_expression();
         self.layout = Layout::new(prepared);
         self.count = 0;
         self.epoch = next_epoch(self.epoch);

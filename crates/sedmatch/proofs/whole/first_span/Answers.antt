@@ -1,5 +1,6 @@
 use Rattle.std.proofs.Common.{◌-◌, ◌*◌, ◌≤◌, length, arith, mul-le-mul_left}
 use Rattle.sedre.specs.Tree.{expression_tree}
+use Rattle.sedpass.proofs.KeptLemmas.{space_then}
 use Rattle.sedpass.proofs.TableLemmas.{roomy_fewer}
 use Rattle.sedmatch.proofs.PassLemmas.{desk_again, desk_keeps, shared_serves, untouched, used_again}
 use Rattle.sedmatch.proofs.OnceLemmas.{looks_at_span}
@@ -11,8 +12,8 @@ fit-requires c = record { roomy = (shared_serves (length c.args.subject.prepared
 pub fit-requires-2 : goal.fit-requires-2
 fit-requires-2 c = record { roomy = roomy_fewer (length c.args.subject.prepared.now.arena.expr.nodes) c.args.desk.now.max_nodes c.args.desk.now.back c.requires.few c.requires.desk.back.0 }
 
-pub next_begun-requires-clause-room : goal.next_begun-requires-clause-room
-next_begun-requires-clause-room c =
+pub begin-requires-clause-room : goal.begin-requires-clause-room
+begin-requires-clause-room c =
     let p = c.args.subject.prepared.now in
     desk_keeps c.args.desk.now p c.fit-2.new.self (length p.arena.expr.nodes) (length c.args.subject.text.now) c.requires.desk c.fit-2.ensures.table c.fit-2.ensures.room c.requires.short c.requires.few
 
@@ -21,10 +22,11 @@ returns-clause-desk c =
     let d = c.args.desk.now in
     let p = c.args.subject.prepared.now in
     let is = c.requires.desk in
-    let new = c.next_begun.new in
-    let tables = c.next_begun.ensures.tables in
-    desk_again d (record d.room { kept = new.kept }) d.any new.back (record d.shared { ahead = new.ahead }) is tables.space is.space.none (omega arith) (untouched d.max_nodes d.any is.any.0)
-    (used_again d.max_nodes p d.back c.fit-2.new.self new.back is.back.0 c.fit-2.ensures.room tables.back_shape c.next_begun.ensures.next.kept.region.table) (untouched d.max_nodes d.shared.inside is.shared.inside)
+    let new = c.next_kept.new in
+    let tables = c.next_kept.ensures.tables in
+    let space = space_then d.room.kept c.begin.new.self new.kept c.begin.ensures.space tables.space in
+    desk_again d (record d.room { kept = new.kept }) d.any new.back (record d.shared { ahead = new.ahead }) is space is.space.none (omega arith) (untouched d.max_nodes d.any is.any.0)
+    (used_again d.max_nodes p d.back c.fit-2.new.self new.back is.back.0 c.fit-2.ensures.room tables.back_shape c.next_kept.ensures.next.kept.region.table) (untouched d.max_nodes d.shared.inside is.shared.inside)
     (used_again d.max_nodes p d.shared.ahead c.fit.new.self new.ahead is.shared.ahead c.fit.ensures.room tables.ahead_shape tables.ahead.table)
 
 pub returns-clause-answer : goal.returns-clause-answer
@@ -41,5 +43,5 @@ returns-clause-cost c =
 
 pub returns-clause-counts : goal.returns-clause-counts
 returns-clause-counts c =
-    let next = c.next_begun.ensures.next in
-    looks_at_span (expression_tree c.args.subject.prepared.now.arena.expr) c.args.subject.text.now c.args.from c.args.steps.now c.next_begun.new.steps c.next_begun.result next.answer next.counts
+    let next = c.next_kept.ensures.next in
+    looks_at_span (expression_tree c.args.subject.prepared.now.arena.expr) c.args.subject.text.now c.args.from c.args.steps.now c.next_kept.new.steps c.next_kept.result next.answer next.counts

@@ -1,7 +1,7 @@
 use Rattle.std.proofs.Common.{◌+◌, ◌-◌, ◌*◌, ◌≤◌, length, ap, ◌∙◌, arith}
 use Rattle.sedpass.proofs.CountLemmas.{least_both, least_up}
 use Rattle.sedpass.proofs.KeptLemmas.{same_shape}
-use Rattle.sedpass.proofs.SearchLemmas.{ahead_still, begins_some, kept_cost, kept_found, kept_none, none_cost}
+use Rattle.sedpass.proofs.SearchLemmas.{ahead_still, begins_some, kept_cost, kept_each, kept_found, kept_none, none_cost}
 use Rattle.sedpass.proofs.search.next_kept.Goals as goal
 
 pub returns-then-not-begins_there-clause-next : goal.returns-then-not-begins_there-clause-next
@@ -77,3 +77,13 @@ returns-then-not-begins_there-clause-cost c =
       none_cost (length c.args.subject.prepared.now.arena.expr.nodes) (length c.args.subject.text.now) c.args.from c.seek-start.result c.args.steps.now c.seek-start.new.steps c.begins_there.new.steps _ _ (omega (arith, last))
           c.seek-start.ensures.after (omega (arith, within, region.inside)) seek.1 null.1,
     )
+
+pub returns-clause-each : goal.returns-clause-each
+returns-clause-each c =
+    let cost = returns-clause-cost c in
+    (cost.0, kept_each _ _ c.args.kept.now.region c.args.from c.args.steps.now c.cut-end.new.steps _ c.requires.kept.region.inside cost.1)
+
+pub returns-then-not-begins_there-clause-each : goal.returns-then-not-begins_there-clause-each
+returns-then-not-begins_there-clause-each c =
+    let cost = returns-then-not-begins_there-clause-cost c in
+    (cost.0, kept_each _ _ c.args.kept.now.region c.args.from c.args.steps.now c.begins_there.new.steps _ c.requires.kept.region.inside cost.1)

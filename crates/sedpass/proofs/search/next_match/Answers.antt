@@ -1,23 +1,15 @@
-use Rattle.std.proofs.Common.{◌≡◌, ◌≤◌, false, length, arith}
+use Rattle.std.proofs.Common.{◌≡◌, ◌≤◌, false, length, ap, refl, ◌∙◌, arith}
 use Rattle.sedre.specs.Tree.{expression_tree}
 use Rattle.sedtext.proofs.SpanLemmas.{Matches-forward}
-use Rattle.sedpass.specs.Search.{owed_kept}
-use Rattle.sedpass.proofs.SearchLemmas.{begun_each, hit_cost, hit_each, kept_small, later_answer, looks_later, nothing_cost, nothing_each, tired_cost, tired_each, unbegun}
+use Rattle.sedpass.proofs.KeptLemmas.{same_shape, space_then}
+use Rattle.sedpass.proofs.SearchLemmas.{ComesTo, comes_at_once, comes_tired, hit_cost, hit_each, later_answer, looks_later, nothing_cost, nothing_each, pass_paid, unbegun}
+use Rattle.sedpass.proofs.search.next_match.Goals.{then-not-seeking+then-seeking-len+in-Tired, else-not-seeking}
 use Rattle.sedpass.proofs.search.next_match.Goals as goal
-
-pub returns-then-seeking-clause-each : goal.returns-then-seeking-clause-each
-returns-then-seeking-clause-each c =
-    let m = length c.args.subject.prepared.now.arena.expr.nodes in
-    let n = length c.args.subject.text.now in
-    let region = c.args.seeking.now.kept.region in
-    let kept = c.requires.ready.serves.kept c.if-seeking.true in
-    let cost = c.next_kept.ensures.cost in
-    (cost.0, begun_each m n c.args.from c.args.steps.now c.next_kept.new.steps (owed_kept m n region c.args.from) _ (kept_small m n region c.args.from kept.region.inside) cost.1)
 
 pub returns-in-Hit-clause-answer : goal.returns-in-Hit-clause-answer
 returns-in-Hit-clause-answer c =
     let answer = c.in-Hit.ensures.made.answer in
-    (answer.0, tt, (Matches-forward (expression_tree c.args.subject.prepared.now.arena.expr) c.args.subject.text.now c.in-Hit.start c.in-Hit.end answer.0.spans, answer.1))
+    (answer.0, tt, (Matches-forward (expression_tree c.args.subject.prepared.now.arena.expr) c.args.subject.text.now c.in-Hit.first c.in-Hit.end answer.0.spans, answer.1))
 
 pub returns-in-Hit-clause-cost : goal.returns-in-Hit-clause-cost
 returns-in-Hit-clause-cost c =
@@ -25,13 +17,13 @@ returns-in-Hit-clause-cost c =
     let n = length c.args.subject.text.now in
     let last = c.args.subject.prepared.now.is_prepared.last in
     let answer = c.in-Hit.ensures.made.answer in
-    let on = Matches-forward (expression_tree c.args.subject.prepared.now.arena.expr) c.args.subject.text.now c.in-Hit.start c.in-Hit.end answer.0.spans in
+    let on = Matches-forward (expression_tree c.args.subject.prepared.now.arena.expr) c.args.subject.text.now c.in-Hit.first c.in-Hit.end answer.0.spans in
     let begun : c.args.seeking.now.begun ≡ false = cc in
     let few = c.in-Hit.ensures.made.few in
-    let low : c.args.seeking.now.tried ≤ n = omega (arith, c.if-seeking-len.false, c.len.ensures.is) in
+    let low : c.args.seeking.now.tried ≤ n = omega (arith, c.if-seeking-len.true, c.len.ensures.is) in
     let old = unbegun m n c.args.seeking.now c.args.from begun in
     let new = unbegun m n (record c.args.seeking.now { kept = record c.args.seeking.now.kept { work = c.try_all.new.work }; tried = c.try_all.new.tried }) c.in-Hit.end begun in
-    let cost = hit_cost m n c.args.from c.in-Hit.start c.in-Hit.end c.args.seeking.now.tried c.try_all.new.tried c.args.steps.now c.try_all.new.steps (omega (arith, last)) answer.0.after on answer.1 low
+    let cost = hit_cost m n c.args.from c.in-Hit.first c.in-Hit.end c.args.seeking.now.tried c.try_all.new.tried c.args.steps.now c.try_all.new.steps (omega (arith, last)) answer.0.after on answer.1 low
     (omega (arith, few, low)) c.in-Hit.ensures.made.cost.1 in
     (c.in-Hit.ensures.made.cost.0, omega (arith, cost, old, new))
 
@@ -39,7 +31,7 @@ pub returns-in-Hit-clause-each : goal.returns-in-Hit-clause-each
 returns-in-Hit-clause-each c =
     let m = length c.args.subject.prepared.now.arena.expr.nodes in
     let n = length c.args.subject.text.now in
-    let i = c.in-Hit.start in
+    let i = c.in-Hit.first in
     let j = c.in-Hit.end in
     let last = c.args.subject.prepared.now.is_prepared.last in
     let answer = c.in-Hit.ensures.made.answer in
@@ -55,7 +47,7 @@ returns-in-Nothing-clause-cost c =
     let last = c.args.subject.prepared.now.is_prepared.last in
     let begun : c.args.seeking.now.begun ≡ false = cc in
     let few = c.in-Nothing.ensures.made.few in
-    let low : c.args.seeking.now.tried ≤ n = omega (arith, c.if-seeking-len.false, c.len.ensures.is) in
+    let low : c.args.seeking.now.tried ≤ n = omega (arith, c.if-seeking-len.true, c.len.ensures.is) in
     let old = unbegun m n c.args.seeking.now c.args.from begun in
     let cost = nothing_cost m n c.args.from c.args.seeking.now.tried c.try_all.new.tried c.args.steps.now c.try_all.new.steps (omega (arith, last)) c.requires.from low (omega (arith, few, low)) c.in-Nothing.ensures.made.cost.1 in
     (c.in-Nothing.ensures.made.cost.0, omega (arith, cost, old))
@@ -69,41 +61,52 @@ returns-in-Nothing-clause-each c =
       nothing_each m n c.args.from c.args.seeking.now.tried c.try_all.new.tried c.args.steps.now c.try_all.new.steps (omega (arith, last)) c.requires.from c.in-Nothing.ensures.made.few c.in-Nothing.ensures.made.cost.1,
     )
 
-pub returns-in-Tired-clause-answer : goal.returns-in-Tired-clause-answer
-returns-in-Tired-clause-answer c =
-    let answer = c.in-Tired.ensures.made.answer in
-    later_answer (expression_tree c.args.subject.prepared.now.arena.expr) c.args.subject.text.now c.args.from c.in-Tired.start c.next_begun-in-Tired.result (omega (arith, answer.0)) answer.2 c.next_begun-in-Tired.ensures.next.answer
+-- where the pass from the text's end goes on
+comes : (c : goal.After-next_kept) → ComesTo c.args.subject.prepared.now c.args.subject.text.now c.args.ahead.now c.if-not-seeking.ahead c.args.seeking.now c.if-not-seeking.seeking c.args.from c.if-not-seeking.start c.args.steps.now c.if-not-seeking.steps
+comes c = elim c.if-not-seeking.branch [
+  | then-not-seeking+then-seeking-len+in-Tired w ↦ rw (w.ahead-is, w.seeking-is, w.steps-is, w.start-is)
+      (comes_tired c.args.subject.prepared.now c.args.subject.text.now c.args.ahead.now _ c.args.seeking.now _ c.args.from _ c.args.steps.now _ w.in-Tired.ensures.ahead_shape
+      (record { places = refl; edges = refl; marks = λ q. refl }) (cc) (cc) (omega (arith, w.if-seeking-len.true, w.len.ensures.is)) w.in-Tired.ensures.made)
+  | else-not-seeking w ↦ rw (w.ahead-is, w.seeking-is, w.steps-is, w.start-is)
+      (comes_at_once c.args.subject.prepared.now c.args.subject.text.now c.args.ahead.now c.args.seeking.now c.args.from c.args.steps.now c.requires.from)
+]
 
-pub returns-in-Tired-clause-cost : goal.returns-in-Tired-clause-cost
-returns-in-Tired-clause-cost c =
-    let m = length c.args.subject.prepared.now.arena.expr.nodes in
-    let n = length c.args.subject.text.now in
-    let last = c.args.subject.prepared.now.is_prepared.last in
-    let answer = c.in-Tired.ensures.made.answer in
-    let begun : c.args.seeking.now.begun ≡ false = cc in
-    let few = c.in-Tired.ensures.made.few in
-    let low : c.args.seeking.now.tried ≤ n = omega (arith, c.if-seeking-len.false, c.len.ensures.is) in
-    let old = unbegun m n c.args.seeking.now c.args.from begun in
-    let first = c.in-Tired.ensures.made.cost in
-    let then = c.next_begun-in-Tired.ensures.cost in
-    let cost = tired_cost m n c.args.from c.in-Tired.start c.args.seeking.now.tried c.try_all.new.tried c.args.steps.now c.try_all.new.steps c.next_begun-in-Tired.new.steps _ (omega (arith, last)) answer.0 answer.1 low
-    (omega (arith, few, low)) first.1 then.1 in
-    (omega (arith, first.0, then.0), omega (arith, cost, old))
+pub returns-clause-searched : goal.returns-clause-searched
+returns-clause-searched c =
+    let came = comes c in
+    let tables = c.next_kept.ensures.tables in
+    let kept = c.next_kept.ensures.next.kept in
+    record {
+      tables = record {
+        ahead = tables.ahead;
+        ahead_shape = same_shape c.args.ahead.now c.if-not-seeking.ahead c.next_kept.new.ahead came.shape tables.ahead_shape;
+        back_shape = tables.back_shape;
+        space = space_then c.args.seeking.now.kept c.if-not-seeking.seeking.kept c.next_kept.new.kept came.space (space_then c.if-not-seeking.seeking.kept c.begin_kept.new.seeking.kept c.next_kept.new.kept c.begin_kept.ensures.space tables.space);
+      };
+      serves = record { table = kept.region.table; room = kept.region.room; all_starts = ap (λ v. v.all_starts) tables.back_shape.0 ∙ c.requires.ready.serves.all_starts; kept = λ _. kept };
+    }
 
-pub returns-in-Tired-clause-each : goal.returns-in-Tired-clause-each
-returns-in-Tired-clause-each c =
-    let m = length c.args.subject.prepared.now.arena.expr.nodes in
-    let n = length c.args.subject.text.now in
-    let last = c.args.subject.prepared.now.is_prepared.last in
-    let answer = c.in-Tired.ensures.made.answer in
-    let first = c.in-Tired.ensures.made.cost in
-    let then = c.next_begun-in-Tired.ensures.cost in (
-      omega (arith, first.0, then.0),
-      tired_each m n c.args.from c.in-Tired.start c.args.seeking.now.tried c.try_all.new.tried c.args.steps.now c.try_all.new.steps c.next_begun-in-Tired.new.steps _ (omega (arith, last)) answer.0 answer.1 c.in-Tired.ensures.made.few first.1
-          then.1,
-    )
+pub returns-clause-answer : goal.returns-clause-answer
+returns-clause-answer c =
+    let came = comes c in
+    later_answer (expression_tree c.args.subject.prepared.now.arena.expr) c.args.subject.text.now c.args.from c.if-not-seeking.start c.next_kept.result came.up came.none c.next_kept.ensures.next.answer
 
-pub returns-in-Tired-clause-counts : goal.returns-in-Tired-clause-counts
-returns-in-Tired-clause-counts c =
-    let answer = c.in-Tired.ensures.made.answer in
-    looks_later c.args.from c.in-Tired.start c.args.steps.now c.try_all.new.steps c.next_begun-in-Tired.new.steps c.next_begun-in-Tired.result c.in-Tired.ensures.made.counts c.next_begun-in-Tired.ensures.next.counts
+pub returns-clause-cost : goal.returns-clause-cost
+returns-clause-cost c =
+    let came = comes c in
+    let next = c.next_kept in
+    let cost = next.ensures.cost in
+    let begun = c.begin_kept.new.seeking in
+    let paid = pass_paid (length c.args.subject.prepared.now.arena.expr.nodes) (length c.args.subject.text.now) c.if-not-seeking.seeking begun (record begun { kept = next.new.kept }) c.if-not-seeking.start c.if-not-seeking.steps next.new.steps next.result
+    c.begin_kept.ensures.begun c.begin_kept.ensures.begun (c.begin_kept.ensures.owed c.if-not-seeking.start came.within) cost.1 in
+    (omega (arith, came.grows, cost.0), omega (arith, came.cost, paid))
+
+pub returns-clause-each : goal.returns-clause-each
+returns-clause-each c =
+    let came = comes c in
+    let each = c.next_kept.ensures.each in
+    (omega (arith, came.grows, each.0), came.each c.next_kept.new.steps each.1)
+
+pub returns-clause-counts : goal.returns-clause-counts
+returns-clause-counts c =
+    looks_later c.args.from c.if-not-seeking.start c.args.steps.now c.if-not-seeking.steps c.next_kept.new.steps c.next_kept.result (comes c).counts c.next_kept.ensures.next.counts
