@@ -6,17 +6,18 @@ use Rattle.std.proofs.lemmas.Option.{none-some, slice_get_within}
 use Rattle.std.specs.Prelude.{slice_get, slice_index_or}
 use Rattle.sedre.specs.Arena.{IsArena}
 use Rattle.sedre.specs.Sets.{has}
+use Rattle.sedre.specs.declared.types.NodeId.{NodeId}
 use Rattle.sedre.specs.declared.types.Node.{Node}
 use Rattle.sedre.specs.declared.types.Node.TheVariants.{Empty, Set, Begin, Seq, Alt, Group}
 use Rattle.sedtext.specs.Bytes.{FirstAt}
 use Rattle.sedtext.specs.Reach.{At}
-use Rattle.sedtext.specs.Beginnings.{CanBegin, NextStart, left_part, LeafBegins, AllAt, IsLeftmost, alternatives}
+use Rattle.sedtext.specs.Beginnings.{CanBegin, NextStart, left_part, LeafBegins, AllAt, LeadsWith, IsLeftmost, alternatives}
 use Rattle.sedtext.specs.declared.beginnings.Begins.{Begins}
 use Rattle.sedtext.proofs.ReachLemmas.{open_at}
 
 module _ (nodes : List Node) (arena : IsArena nodes) (x : ℕ) where
   -- the left part of a node stands before it, and is spanned where it is
-  pub first_part : (node : Node) (y : ℕ) → slice_get nodes x ≡ Some node → left_part node ≡ Some y → (y < x) × ((w : List ℕ) (i j : ℕ) → At nodes w x i j → (k : ℕ) × At nodes w y i k)
+  pub first_part : (node : Node) (y : ℕ) → slice_get nodes x ≡ Some node → left_part node ≡ Some y → (y < x) × LeadsWith nodes x y
   first_part (Seq a b) y is left =
       let same : a.index ≡ y = cc in (
         subst (λ v. v < x) same (arena.below x a.index (Seq a b) is (inl refl)),
@@ -28,6 +29,13 @@ module _ (nodes : List Node) (arena : IsArena nodes) (x : ℕ) where
         λ w i j at. (j, subst (λ c. At nodes w c i j) same (open_at nodes w x (Group n a) arena is i j at)),
       )
   first_part _ y is left = absurd (none-some y left)
+
+  -- what follows a `^` is spanned where both are
+  pub behind_anchor : (a b : NodeId) → slice_get nodes x ≡ Some (Seq a b) → slice_get nodes a.index ≡ Some Begin → LeadsWith nodes x b.index
+  behind_anchor a b is anchor w i j at =
+      let f = open_at nodes w x (Seq a b) arena is i j at in
+      let null = open_at nodes w a.index Begin arena anchor i f.0 f.1 in
+      (j, subst (λ p. At nodes w b.index p j) (null.1 ∙ sym null.0) f.2)
 
   -- where a node without a left part is spanned, it begins as is said
   pub leaf_begins : (node : Node) (begins : Begins) → slice_get nodes x ≡ Some node → left_part node ≡ None → LeafBegins node begins → (w : List ℕ) (i j : ℕ) → At nodes w x i j → CanBegin begins w i
@@ -69,9 +77,10 @@ same_right a b l r e = let same : ◌≡◌ {A = ℕ × ℕ} (a, b) (l, r) = cc 
 
 module _ (nodes : List Node) (arena : IsArena nodes) (x : ℕ) where
   -- a leaf that is a set
-  pub leaf_set : (s : List Bool) → IsLeftmost nodes x (Set s) → AllAt nodes x (WithSet s)
-  leaf_set s leaf w i j at =
-      let first = leaf.4 w i j at in
+  pub leaf_set : (y : ℕ) (s : List Bool) → LeadsWith nodes x y → IsLeftmost nodes y (Set s) → AllAt nodes x (WithSet s)
+  leaf_set y s leads leaf w i j at =
+      let part = leads w i j at in
+      let first = leaf.4 w i part.0 part.1 in
       let f = open_at nodes w leaf.0 (Set s) arena leaf.1 i first.0 first.1 in
       (f.0, f.1, f.2)
 
@@ -105,12 +114,12 @@ leaf_either nodes arena x l r node begins leaf alts left right w i j at =
     ⊎_elim (λ (h : At nodes w l i first.0). left w i first.0 h) (λ (h : At nodes w r i first.0). right w i first.0 h) (opens.2 w i first.0 first.1)
 
 -- the looks at one alternative more, of at most four
-pub turn_cost : (m turn s0 s1 s t : ℕ) → 1 ≤ m → turn ≤ 3 → s1 ≤ s0 + m → s + 2 * m ≤ s1 + 2 * m * turn → t ≤ s + 1 + m → t ≤ s0 + 8 * m
-turn_cost m turn s0 s1 s t some few first before here =
+pub turn_cost : (m turn s0 s1 s t : ℕ) → turn ≤ 3 → s1 ≤ s0 + 2 * m → s + 2 * m ≤ s1 + 2 * m * turn → t ≤ s + 2 * m → t ≤ s0 + 8 * m
+turn_cost m turn s0 s1 s t few first before here =
     let all = mul-le-mul_left (2 * m) few in
     omega (arith, all)
 
-pub turns_cost : (m turn s0 s1 s : ℕ) → turn ≤ 4 → s1 ≤ s0 + m → s + 2 * m ≤ s1 + 2 * m * turn → s ≤ s0 + 8 * m
+pub turns_cost : (m turn s0 s1 s : ℕ) → turn ≤ 4 → s1 ≤ s0 + 2 * m → s + 2 * m ≤ s1 + 2 * m * turn → s ≤ s0 + 8 * m
 turns_cost m turn s0 s1 s few first before =
     let all = mul-le-mul_left (2 * m) few in
     omega (arith, all)

@@ -1,5 +1,5 @@
 -- What a node spans by its parts, and where these are entered.
-use Rattle.std.proofs.Common.{◌≡◌, ◌≢◌, ℕ, ◌<◌, ◌≤◌, ◌⊎◌, ◌↔◌, Bool, false, List, Option, Some, None, IsTrue, refl, sym, ap, subst, inl, inr, ⊎_elim, true≢false, arith}
+use Rattle.std.proofs.Common.{◌≡◌, ℕ, ◌<◌, ◌≤◌, ◌⊎◌, ◌↔◌, Bool, false, List, Option, Some, None, IsTrue, refl, sym, ap, subst, inl, inr, ⊎_elim, true≢false, arith}
 use Rattle.std.specs.Prelude.{slice_get, slice_index_or}
 use Rattle.sedtext.specs.Spans.{CopiesLead, no_copy, Matches}
 use Rattle.sedre.specs.Arena.{IsArena, IsPart}
@@ -8,7 +8,7 @@ use Rattle.sedre.specs.declared.types.Node.{Node}
 use Rattle.sedre.specs.declared.types.Node.TheVariants.{Seq, Alt, Group, Star, Opt}
 use Rattle.sedre.proofs.TreeLemmas.{tree_at-node}
 use Rattle.sedtext.specs.declared.starts.Starts.{Starts}
-use Rattle.sedtext.specs.Reach.{IsLoose, BeginsWith, At, IsStart, Enters, at_root, with_whole, after_left, again}
+use Rattle.sedtext.specs.Reach.{BeginsWith, At, IsStart, Enters, at_root, with_whole, after_left, again}
 use Rattle.sedtext.specs.Nodes.{IsRepetitionOf}
 use Rattle.sedtext.specs.Matching.{byte_is_in}
 use Rattle.sedtext.proofs.SpanLemmas.{Matches-forward}

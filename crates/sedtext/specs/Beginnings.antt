@@ -48,9 +48,13 @@ LeafBegins (Seq a b) begins = Unit {0}
 LeafBegins (Group k a) begins = Unit {0}
 LeafBegins other begins = (w : List ℕ) (i : ℕ) → CanBegin begins w i
 
+-- each span of the node x begins with a span of the node y
+abbrev pub LeadsWith : List Node → ℕ → ℕ → Type 0
+LeadsWith nodes x y = (w : List ℕ) (i j : ℕ) → At nodes w x i j → (k : ℕ) × At nodes w y i k
+
 -- the node has no part with which its spans begin, and each span of the node x begins with a span of it
 abbrev pub IsLeftmost : List Node → ℕ → Node → Type 0
-IsLeftmost nodes x node = (y : ℕ) × (slice_get nodes y ≡ Some node) × (y ≤ x) × (left_part node ≡ None) × ((w : List ℕ) (i j : ℕ) → At nodes w x i j → (k : ℕ) × At nodes w y i k)
+IsLeftmost nodes x node = (y : ℕ) × (slice_get nodes y ≡ Some node) × (y ≤ x) × (left_part node ≡ None) × LeadsWith nodes x y
 
 -- the two alternatives of a node
 abbrev pub alternatives : Node → Option (ℕ × ℕ)

@@ -3,7 +3,7 @@ ghost use Rattle.std.specs.Prelude.{◌≡◌, ◌+◌, ◌-◌, ◌*◌, ◌<�
 ghost use Rattle.sedre.specs.Arena.{IsArena};
 ghost use Rattle.sedre.specs.Tree.{expression_tree};
 ghost use Rattle.sedtext.specs.declared.beginnings.Begins.TheVariants.{WithSet};
-ghost use Rattle.sedtext.specs.Beginnings.{AllBegin, AllAt, NextStart, skip_cost, left_part, LeafBegins, IsLeftmost, alternatives};
+ghost use Rattle.sedtext.specs.Beginnings.{AllBegin, AllAt, NextStart, skip_cost, left_part, LeafBegins, IsLeftmost, LeadsWith, alternatives};
 ghost use Rattle.sedtext.specs.Costs.{CostsWithin};
 ghost use Rattle.sedre.specs.Steps.{Takes, TakesAtLeast};
 
@@ -66,13 +66,31 @@ fn left_leaf(expr: &Expr, from: usize, steps: &mut Steps) -> Node
     }
 }
 
+/// The node with which every span of a node begins: what follows a `^` where it begins with one, or else the node itself.
+fn past_anchor(expr: &Expr, from: usize, steps: &mut Steps) -> usize
+    requires inside { from < length expr.now.nodes }
+    ensures within { result ≤ from }
+    ensures leads { LeadsWith expr.now.nodes from result }
+    ensures cost { Takes steps.old steps.new 2 }
+{
+    let node = expr.look(expr.id(from), steps);
+    match node {
+        Node::Seq(a, b) => match expr.look(a, steps) {
+            Node::Begin => b.index(),
+            _ => from,
+        },
+        _ => from,
+    }
+}
+
 /// The set with which every span of a node begins, if there is one.
 fn first_set(expr: &Expr, from: usize, steps: &mut Steps) -> Option<ByteSet>
     requires inside { from < length expr.now.nodes }
     ensures begins { IfSome result (λ s. AllAt expr.now.nodes from (WithSet s)) }
-    ensures cost { Takes steps.old steps.new (from + 1) }
+    ensures cost { Takes steps.old steps.new (from + 3) }
 {
-    match left_leaf(expr, from, steps) {
+    let first = past_anchor(expr, from, steps);
+    match left_leaf(expr, first, steps) {
         Node::Set(set) => Some(set),
         _ => None,
     }
@@ -90,8 +108,8 @@ fn alternatives(node: &Node) -> Option<(usize, usize)>
 
 /// How every span of two alternatives begins. The second may have alternatives of its own.
 fn begins_either(expr: &Expr, left: usize, right: usize, steps: &mut Steps) -> Begins
-    requires left { left < length expr.now.nodes }
-    requires right { right < length expr.now.nodes }
+    requires left { left + 1 < length expr.now.nodes }
+    requires right { right + 1 < length expr.now.nodes }
     ensures left { AllAt expr.now.nodes left result }
     ensures right { AllAt expr.now.nodes right result }
     ensures cost { Takes steps.old steps.new (8 * length expr.now.nodes) }

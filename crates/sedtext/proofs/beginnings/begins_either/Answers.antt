@@ -19,7 +19,7 @@ returns-in_default-first_set-clause-cost c =
     let alts : alternatives c.look-node.result ≡ Some (c.in-Some-alternatives.part, c.in-Some-alternatives.next) = sym c.alternatives.ensures ∙ c.in-Some-alternatives.is in
     let opens = alt_opens c.args.expr.now.nodes c.look-node.ensures.arena c.loop-turn.rest c.look-node.result c.in-Some-alternatives.part c.in-Some-alternatives.next is alts in
     let paid = turn_cost (length c.args.expr.now.nodes) c.loop-turn._turn c.args.steps.now c.first_set.new.steps c.loop-turn.steps c.first_set-in-Some-alternatives.new.steps
-    (omega arith) (omega arith) (omega arith) c.loop-turn.invariant.cost (omega (arith, opens.0)) in
+    (omega arith) (omega arith) c.loop-turn.invariant.cost (omega (arith, opens.0)) in
     (omega arith, omega (arith, paid))
 
 pub returns-clause-cost : goal.returns-clause-cost

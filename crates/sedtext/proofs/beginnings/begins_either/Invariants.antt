@@ -6,7 +6,7 @@ use Rattle.sedtext.proofs.beginnings.begins_either.Given as goal
 
 abbrev pub invariant-loop-turn : goal.invariant-loop-turn
 invariant-loop-turn l = record {
-  inside : l.rest < length l.expr.nodes;
+  inside : l.rest + 1 < length l.expr.nodes;
   grows : l.initial.steps ≤ l.steps;
   cost : l.steps + 2 * length l.expr.nodes ≤ l.initial.steps + 2 * length l.expr.nodes * l._turn;
   left : AllAt l.expr.nodes l.left (WithSet l.members);
