@@ -6,7 +6,7 @@
 ghost use Rattle.std.specs.Prelude.{◌≡◌, ℕ, List, ◌+◌, ◌*◌, ◌<◌, ◌≤◌, ◌-◌, ◌↔◌, length, IfOk, IfSome, IsTrue, slice_get, Some};
 ghost use Rattle.memchr.specs.Find.{OccursAt};
 ghost use Rattle.sedtext.specs.Word.{AllWord};
-ghost use Rattle.sedtext.specs.Choice.{AllChoice, AreHeads, AreShort, BranchesOf, ChoiceAt, ChoiceEnd, ChoiceSpans, FirstChoice, Longer, LongestAt};
+ghost use Rattle.sedtext.specs.Choice.{AllChoice, AreHeads, AreShort, ChoiceAt, ChoiceEnd, ChoiceSpans, FirstChoice, Longer, LongestAt};
 ghost use Rattle.sedtext.specs.Openings.{PairAt};
 ghost use Rattle.sedtext.specs.Bytes.{looked_at};
 ghost use Rattle.sedtext.specs.Nodes.{IsNode};
@@ -14,8 +14,9 @@ ghost use Rattle.sedre.specs.Steps.{Takes, TakesExactly, TakesAtLeast};
 
 use super::openings::{Opening, first_opened, openings_of};
 use super::{Text, uncounted};
+use crate::forms::{Form, form_of};
 use crate::needed::{Literal, literal_from};
-use sedre::{Expr, Node, Steps};
+use sedre::{Expr, Steps};
 use std::alloc::{AllocError, Global};
 use std::marker::Model;
 
@@ -93,31 +94,6 @@ impl Model for Choice {
     ghost invariant = { λ c. AreHeads c.heads.items c.literals.items × AreShort c.literals.items × OpenLiterals c.openings.items c.literals.items (length c.literals.items) };
 }
 
-/// What the spans of a node are made of.
-#[derive(Clone, Copy)]
-pub enum Branches {
-    /// The spans of either node.
-    Both(usize, usize),
-    /// The spans of this node.
-    Inner(usize),
-    /// That isn't known.
-    Alone,
-}
-
-/// The alternatives of the node, or what stands in it where it is a group.
-fn branches_of(expr: &Expr, index: usize, steps: &mut Steps) -> Branches
-    requires inside { index < length expr.now.nodes }
-    ensures branches { BranchesOf expr.now.nodes index result }
-    ensures cost { Takes steps.old steps.new 1 }
-{
-    let node = expr.look(expr.id(index), steps);
-    match node {
-        Node::Alt(a, b) => Branches::Both(a.index(), b.index()),
-        Node::Group(_, a) => Branches::Inner(a.index()),
-        _ => Branches::Alone,
-    }
-}
-
 /// The literal that the node matches and nothing else, if there is one, of a byte or more and of at most `most`.
 fn literal_at(
     alloc: Global,
@@ -153,9 +129,9 @@ fn literals_of(
     let mut index = expr.root().index();
     let mut left = MAX_BYTES;
     while literals.len() < MAX_LITERALS - 1 {
-        match branches_of(expr, index, steps) {
-            Branches::Inner(part) => index = part,
-            Branches::Both(part, rest) => {
+        match form_of(expr, index, steps) {
+            Form::Inner(part) => index = part,
+            Form::Either(part, rest) => {
                 let Some(literal) = literal_at(alloc, expr, part, left, steps)? else {
                     return Ok(None);
                 };
@@ -163,7 +139,7 @@ fn literals_of(
                 literals.push(literal)?;
                 index = rest;
             }
-            Branches::Alone => break,
+            _ => break,
         }
     }
     let Some(last) = literal_at(alloc, expr, index, left, steps)? else {

@@ -1,6 +1,6 @@
 use Rattle.std.proofs.Common.{◌+◌, ◌<◌, ◌≤◌, length}
 use Rattle.sedtext.specs.Beginnings.{LeadsWith}
-use Rattle.sedtext.proofs.beginnings.left_leaf.Given as goal
+use Rattle.sedtext.proofs.beginnings.leftmost.Given as goal
 
 abbrev pub invariant-loop-part : goal.invariant-loop-part
 invariant-loop-part l = record {
