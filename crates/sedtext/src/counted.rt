@@ -307,17 +307,18 @@ fn lowest(word: u64, count: usize) -> u64
     }
 }
 
-/// Whether none of the first `count` bits of the words is set.
-fn are_clear(words: &Vec<u64>, count: usize) -> bool
-    requires { count ≤ 64 * vec_len words.now }
-    ensures { IsTrue result ↔ ((c : ℕ) → c < count → is_set words.now.items c ≡ false) }
+/// Whether some of the first `count` bits of the words from `at` on is set in those of `other` from `from` on too.
+fn words_meet(words: &Vec<u64>, at: usize, other: &Vec<u64>, from: usize, count: usize) -> bool
+    requires inside { 64 * at + count ≤ 64 * vec_len words.now }
+    requires there { 64 * from + count ≤ 64 * vec_len other.now }
+    ensures { IsTrue result ↔ ((c : ℕ) × (c < count) × IsTrue (is_set words.now.items (64 * at + c)) × IsTrue (is_set other.now.items (64 * from + c))) }
 {
     for x in 0..count.div_ceil(64) {
-        if lowest(words[x], count - 64 * x) != 0 {
-            return false;
+        if lowest(words[at + x] & other[from + x], count - 64 * x) != 0 {
+            return true;
         }
     }
-    true
+    false
 }
 
 /// A number made of the first `count` words.
