@@ -22,4 +22,3 @@ pub mod OpeningLemmas
 pub mod FewLemmas
 pub mod RareLemmas
 pub mod LaneLemmas
-pub mod RunBackLemmas

@@ -11,6 +11,7 @@ use Rattle.sedtext.specs.declared.beginnings.Begins.TheVariants.{WithSet}
 use Rattle.sedtext.specs.Times.{SameBytes, HasTimes, AllTimes, AreWidths, FirstTimes}
 use Rattle.sedtext.proofs.SpanLemmas.{Matches-within}
 use Rattle.sedtext.proofs.MarkLemmas.{default_same}
+use Rattle.sedtext.proofs.BeginningLemmas.{member_step}
 use Rattle.sedtext.specs.Forms.{HasForm, IsOfSet}
 use Rattle.sedtext.specs.declared.forms.Form.TheVariants.{Both, Inner}
 
@@ -60,6 +61,18 @@ pub repeated_more : (members : List Bool) (w : List ℕ) (before place to byte :
     Repeated members w place to → Repeated members w before to
 repeated_more members w before place to byte has next is value holds rest =
     repeated_before members w before to (byte, is, sym value ∙ holds) (subst (λ v. Repeated members w v to) (sym next) rest)
+
+-- after a byte that isn't in the set the run begins
+pub run_stops : (members : List Bool) (w : List ℕ) (p q before place byte : ℕ) (has : Bool) → before + 1 ≡ place → p ≤ before → place ≤ q → slice_get w before ≡ Some byte →
+    has ≡ slice_index_or members byte false → has ≡ false → Repeated members w place q → RunBegins members w p q (before + 1)
+run_stops members w p q before place byte has next low high is value missing copies = (
+  omega arith,
+  omega (arith, next),
+  subst (λ v. Repeated members w v q) (sym next) copies,
+  λ h after lt all.
+      let can = repeated_in members w h before q (omega arith) (omega (arith, next)) all in
+      member_step members w before before byte has is value missing (λ k these those. absurd (omega arith)) before (omega arith) (omega arith) can,
+)
 
 module _ (nodes : List Node) (x : ℕ) (members : List Bool) where
   -- a set with these bytes
