@@ -1,31 +1,12 @@
 -- How the spans of a node begin, by the part that stands first in it.
-use Rattle.std.proofs.Common.{◌≡◌, ℕ, ◌+◌, ◌<◌, ◌≤◌, Bool, false, List, Some, None, IsTrue, sym, ◌∙◌, subst, ⊎_elim, arith, Option, mul-le-mul_left, ◌*◌}
+use Rattle.std.proofs.Common.{◌≡◌, ℕ, ◌+◌, ◌<◌, ◌≤◌, Bool, false, List, Some, None, IsTrue, ◌∙◌, subst, ⊎_elim, arith, Option, mul-le-mul_left, ◌*◌}
 use Rattle.std.proofs.lemmas.Bool.{both_ways, cases_lt}
 use Rattle.sedtext.specs.declared.beginnings.Begins.TheVariants.{WithByte, WithSet}
 use Rattle.std.proofs.lemmas.Option.{slice_get_within}
 use Rattle.std.specs.Prelude.{slice_get, slice_index_or}
 use Rattle.sedre.specs.Sets.{has}
-use Rattle.sedre.specs.declared.types.Node.{Node}
 use Rattle.sedtext.specs.Bytes.{FirstAt}
-use Rattle.sedtext.specs.Reach.{At}
-use Rattle.sedtext.specs.Beginnings.{CanBegin, NextStart, AllAt, LeadsWith}
-use Rattle.sedtext.specs.Forms.{HasForm, IsLeftmost}
-use Rattle.sedtext.specs.declared.forms.Form.TheVariants.{Byte, Start, Both}
-
-module _ (nodes : List Node) (x : ℕ) where
-  -- what follows a `^` is spanned where both are
-  pub behind_anchor : (y z : ℕ) → HasForm nodes x (Both y z) → HasForm nodes y Start → LeadsWith nodes x z
-  behind_anchor y z both anchor w i j at =
-      let f = (both.2 w i j).0 at in
-      let null = (anchor w i f.0).0 f.1 in
-      (j, subst (λ p. At nodes w z p j) (null.1 ∙ sym null.0) f.2)
-
-  -- a leaf that is a set
-  pub leaf_set : (y : ℕ) (s : List Bool) → LeadsWith nodes x y → IsLeftmost nodes y (Byte s) → AllAt nodes x (WithSet s)
-  leaf_set y s leads leaf w i j at =
-      let part = leads w i j at in
-      let first = leaf.3 w i part.0 part.1 in
-      ((leaf.1 w i first.0).0 first.1).0
+use Rattle.sedtext.specs.Beginnings.{CanBegin, NextStart}
 
 -- one more byte that is not in the set
 pub member_step : (members : List Bool) (w : List ℕ) (from place byte : ℕ) (has : Bool) →

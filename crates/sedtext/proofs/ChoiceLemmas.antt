@@ -10,7 +10,7 @@ use Rattle.sedre.specs.declared.types.Node.{Node}
 use Rattle.sedtext.specs.Spans.{IsIn}
 use Rattle.sedtext.specs.Reach.{At}
 use Rattle.sedtext.specs.Word.{WordSpans, AllWord}
-use Rattle.sedtext.specs.Choice.{ChoiceAt, ChoiceSpans, ChoiceOr, AllChoice, HeadsIn, AreHeads, AreShort, FirstChoice, bytes_in}
+use Rattle.sedtext.specs.Choice.{ChoiceAt, ChoiceSpans, ChoiceOr, AllChoice, AreHeads, AreShort, FirstChoice, bytes_in}
 use Rattle.sedtext.specs.Forms.{HasForm}
 use Rattle.sedtext.specs.declared.forms.Form.TheVariants.{Either}
 use Rattle.sedtext.proofs.CountLemmas.{least_ahead, least_less}
@@ -132,23 +132,12 @@ same_value xs k m x y same this that =
     sym (get_or_from_slice_get xs k x x this) ∙ ap (λ v. slice_index_or xs v x) same ∙ get_or_from_slice_get xs m y x that
 
 -- one more byte is marked
-kept_mark : (heads : List Bool) (c b : ℕ) → c < length heads → IsIn b heads → IsIn b (slice_set heads c true)
+pub kept_mark : (heads : List Bool) (c b : ℕ) → c < length heads → IsIn b heads → IsIn b (slice_set heads c true)
 kept_mark heads c b inside is =
     ⊎_elim
     (λ (e : b ≡ c). subst (λ v. IsIn v (slice_set heads c true)) (sym e) (get_or-set_same heads c true false inside))
     (λ (ne : b ≡ c → ⊥). get_or-set_other heads c b true false ne ∙ is)
     (cases_eq b c)
-
-pub heads_more : (heads after : List Bool) (words : List (List ℕ)) (x c : ℕ) (literal : List ℕ) → HeadsIn heads words x → slice_get words x ≡ Some literal → slice_get literal 0 ≡ Some c →
-    c < length heads → after ≡ slice_set heads c true → HeadsIn after words (x + 1)
-heads_more heads after words x c literal are is first inside same k other lt there =
-    subst (λ h. (b : ℕ) × (slice_get other 0 ≡ Some b) × IsIn b h) (sym same)
-    (⊎_elim
-    (λ (old : k < x). let h = are k other old there in (h.0, h.1, kept_mark heads c h.0 inside h.2))
-    (λ (new : x ≤ k).
-    let e = same_value words k x other literal (omega arith) there is in
-    (c, subst (λ l. slice_get l 0 ≡ Some c) (sym e) first, get_or-set_same heads c true false inside))
-    (cases_lt k x))
 
 -- the same literals, in the same text
 pub first_seen : (words seen : List (List ℕ)) (bytes w : List ℕ) (p : ℕ) (r : Option ℕ) → words ≡ seen → bytes ≡ w → FirstChoice words bytes p r → FirstChoice seen w p r

@@ -1,5 +1,5 @@
 -- Literals that the spans of an expression hold.
-use Rattle.std.proofs.Common.{◌≡◌, ℕ, ◌+◌, ◌-◌, ◌<◌, ◌≤◌, ◌⊎◌, Bool, List, length, take, drop, Option, Some, None, IsTrue, refl, sym, ap, ◌∙◌, subst, inl, inr, ⊎_elim, arith}
+use Rattle.std.proofs.Common.{◌≡◌, ℕ, ◌+◌, ◌-◌, ◌<◌, ◌≤◌, ◌⊎◌, List, length, take, drop, Option, Some, None, IsTrue, refl, sym, ap, ◌∙◌, subst, inl, inr, ⊎_elim, arith}
 use Rattle.std.specs.Prelude.{IfSome, slice_get, slice_index}
 use Rattle.memchr.specs.Find.{OccursAt, Nowhere, NoneBefore as FirstOf}
 use Rattle.sedre.specs.Tree.{Tree, tree_at}
@@ -9,12 +9,11 @@ use Rattle.sedre.specs.declared.types.NodeId.{NodeId}
 use Rattle.sedre.specs.declared.types.Node.TheVariants.{Seq}
 use Rattle.sedtext.specs.Spans.{NotFound}
 use Rattle.sedtext.specs.Reach.{At}
-use Rattle.sedtext.specs.Forms.{HasForm, IsOfSet}
+use Rattle.sedtext.specs.Forms.{HasForm}
 use Rattle.sedtext.specs.declared.forms.Form.TheVariants.{Both}
-use Rattle.sedtext.specs.Needed.{LinksTo, IsLiteral, GoesOnAs, AllHold, AllEndWith, IsNeeded, FirstLiteral, Narrowed}
+use Rattle.sedtext.specs.Needed.{IsLiteral, GoesOnAs, AllHold, AllEndWith, IsNeeded, FirstLiteral, Narrowed}
 use Rattle.sedtext.specs.declared.needed.RequiredLiteral.{RequiredLiteral}
 use Rattle.sedtext.specs.declared.needed.Literal.{Literal}
-use Rattle.sedtext.specs.declared.needed.Link.TheVariants.{OneOf}
 use Rattle.sedtext.proofs.FewLemmas.{length-rest, rest_at}
 use Rattle.sedtext.proofs.SpanLemmas.{Matches-forward, Matches-within}
 
@@ -24,16 +23,6 @@ module _ (nodes : List Node) (arena : IsArena nodes) (x : ℕ) where
   seq_below a b is = (arena.below x a.index (Seq a b) is (inl refl), arena.below x b.index (Seq a b) is (inr refl))
 
 module _ (nodes : List Node) (x : ℕ) where
-  -- a byte of a set, and what stands after it
-  pub set_links : (left y : ℕ) (s : List Bool) → HasForm nodes x (Both left y) → IsOfSet nodes left s → LinksTo nodes x (OneOf s y)
-  set_links left y s both first = (
-    both.1,
-    λ w i j. (
-      λ at. let f = (both.2 w i j).0 at in let h = (first w i f.0).0 f.1 in (h.0, subst (λ p. At nodes w y p j) h.1 f.2),
-      λ h. (both.2 w i j).1 (i + 1, (first w i (i + 1)).1 (h.0, refl), h.1),
-    ),
-  )
-
   -- the second part of a concatenation
   pub second_ends : (a y : ℕ) → HasForm nodes x (Both a y) → AllEndWith nodes x y
   second_ends a y both w i j within at =

@@ -10,7 +10,7 @@ use Rattle.sedtext.specs.Reach.{At}
 use Rattle.sedtext.specs.Beginnings.{CanBegin}
 use Rattle.sedtext.specs.declared.beginnings.Begins.TheVariants.{WithSet}
 use Rattle.sedtext.specs.Forms.{HasForm, IsOfSet}
-use Rattle.sedtext.specs.declared.forms.Form.TheVariants.{Inner, Copies}
+use Rattle.sedtext.specs.declared.forms.Form.TheVariants.{Copies}
 use Rattle.sedtext.specs.Runs.{Repeated, AllRepeat, IsRun}
 use Rattle.sedtext.proofs.SpanLemmas.{CopiesLead-forward, CopiesLead-append}
 
@@ -47,14 +47,9 @@ copies_alike : (R S : ℕ → ℕ → Type 0) → ((p q : ℕ) → R p q → S p
 copies_alike R S each j i no_copy = no_copy
 copies_alike R S each j i (one_more _ k lt r rest) = one_more i k lt (each i k r) (copies_alike R S each j k rest)
 
-module _ (nodes : List Node) (x : ℕ) (members : List Bool) (y : ℕ) where
-  -- a repetition of a set
-  pub star_repeats : HasForm nodes x (Copies y) → IsOfSet nodes y members → AllRepeat nodes x members
-  star_repeats star inner w i j = (
-    λ at. copies_alike (At nodes w y) (Matches (set members) w) (λ p q at. let f = (inner w p q).0 at in (f.0.0, f.0.1, f.0.2, f.1)) j i ((star.1 w i j).0 at),
-    λ copies. (star.1 w i j).1 (copies_alike (Matches (set members) w) (At nodes w y) (λ p q r. (inner w p q).1 ((r.0, r.1, r.2), r.3)) j i copies),
-  )
-
-  -- in a group
-  pub group_repeats : HasForm nodes x (Inner y) → AllRepeat nodes y members → AllRepeat nodes x members
-  group_repeats group inner w i j = (λ at. (inner w i j).0 ((group.1 w i j).0 at), λ copies. (group.1 w i j).1 ((inner w i j).1 copies))
+-- a repetition of a set
+pub star_repeats : (nodes : List Node) (x y : ℕ) (members : List Bool) → HasForm nodes x (Copies y) → IsOfSet nodes y members → AllRepeat nodes x members
+star_repeats nodes x y members star inner w i j = (
+  λ at. copies_alike (At nodes w y) (Matches (set members) w) (λ p q at. let f = (inner w p q).0 at in (f.0.0, f.0.1, f.0.2, f.1)) j i ((star.1 w i j).0 at),
+  λ copies. (star.1 w i j).1 (copies_alike (Matches (set members) w) (At nodes w y) (λ p q r. (inner w p q).1 ((r.0, r.1, r.2), r.3)) j i copies),
+)

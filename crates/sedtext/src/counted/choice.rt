@@ -12,7 +12,7 @@ ghost use Rattle.sedtext.specs.Bytes.{looked_at};
 ghost use Rattle.sedtext.specs.Nodes.{IsNode};
 ghost use Rattle.sedre.specs.Steps.{Takes, TakesExactly, TakesAtLeast};
 
-use super::openings::{Opening, first_opened, openings_of};
+use super::openings::{Opening, first_opened, heads_of, openings_of};
 use super::{Text, uncounted};
 use crate::forms::{Form, form_of};
 use crate::needed::{Literal, literal_from};
@@ -58,17 +58,6 @@ impl Alternative {
             first: self.bytes[0],
             second: self.bytes[1],
         })
-    }
-
-    /// The byte with which it begins.
-    fn head(&self) -> Option<u8>
-        ensures { IfSome result (λ c. slice_get self.now 0 ≡ Some c) }
-    {
-        if self.bytes.is_empty() {
-            None
-        } else {
-            Some(self.bytes[0])
-        }
     }
 }
 
@@ -149,20 +138,6 @@ fn literals_of(
     Ok(Some(literals))
 }
 
-/// A mark for each byte, set at those with which a literal begins, if no literal is empty.
-fn heads_of(alloc: Global, literals: &[Alternative]) -> Result<Option<Vec<bool>>, AllocError>
-    ensures { IfOk result (λ r. IfSome r (λ h. AreHeads h.items literals.now)) }
-{
-    let mut heads = vec![in alloc; false; 256]?;
-    for x in 0..literals.len() {
-        let Some(byte) = literals[x].head() else {
-            return Ok(None);
-        };
-        heads[usize::from(byte)] = true;
-    }
-    Ok(Some(heads))
-}
-
 /// The two literals or more that the expression matches and nothing else, if there are such and they are few and short, and
 /// each has two bytes.
 pub fn choice_of(
@@ -179,14 +154,11 @@ pub fn choice_of(
     if literals.len() < 2 {
         return Ok(None);
     }
-    let Some(heads) = heads_of(alloc, &literals)? else {
-        return Ok(None);
-    };
     let Some(openings) = openings_of(alloc, &literals)? else {
         return Ok(None);
     };
     Ok(Some(Choice {
-        heads,
+        heads: heads_of(alloc, &openings)?,
         openings,
         literals,
     }))
