@@ -1,8 +1,8 @@
 -- The lowest bits of words.
-use Rattle.std.proofs.Common.{◌≡◌, ◌≢◌, ℕ, ◌+◌, ◌-◌, ◌*◌, ◌/◌, ◌%◌, ◌^◌, ◌<◌, ◌≤◌, ◌↔◌, false, List, IsTrue, refl, sym, ap, ◌∙◌, subst, ⊎_elim, true≢false, arith, bit_and, w64, min}
+use Rattle.std.proofs.Common.{◌≡◌, ◌≢◌, ℕ, ◌+◌, ◌-◌, ◌*◌, ◌/◌, ◌%◌, ◌^◌, ◌<◌, ◌≤◌, ◌↔◌, Bool, false, not, List, IsTrue, sym, ap, ◌∙◌, subst, ⊎_elim, true≢false, arith, bit_and, w64, min}
 use Rattle.std.specs.Prelude.{eqb, slice_index_or}
 use Rattle.std.specs.Int.{bit_at, trailing_zeros}
-use Rattle.std.proofs.lemmas.Bool.{cases_lt, eqb-true}
+use Rattle.std.proofs.lemmas.Bool.{cases_lt, eqb-true, false_from_ne_true, not-true, not_from_false}
 use Rattle.std.proofs.lemmas.Nat.{one_shl}
 use Rattle.std.proofs.lemmas.Nat.Bits.{bit_at-zero, bit_at_and, bit_at_ones, bit_at_ones_above, bit_at-lt, bit_at-trailing_zeros}
 use Rattle.sedre.specs.Words.{is_set}
@@ -39,29 +39,6 @@ low_some low word count some fits inside none =
     (λ (lt : k < count). (k, lt, first.0, sym (inside k lt) ∙ first.1))
     (λ (ge : count ≤ k). let zero = none k ge in absurd (omega (arith, zero, first.1)))
     (cases_lt k count)
-
--- words without a bit up to a number
-pub clear_more : (words : List ℕ) (word low count x : ℕ) → word ≡ slice_index_or words x 0 → low ≡ 0 → ((i : ℕ) → i < count - 64 * x → bit_at low i ≡ bit_at word i) →
-    ((c : ℕ) → c < count → c < 64 * x → is_set words c ≡ false) → (c : ℕ) → c < count → c < 64 * (x + 1) → is_set words c ≡ false
-clear_more words word low count x is none inside before c lt up =
-    ⊎_elim
-    (λ (less : c < 64 * x). before c lt less)
-    (λ (ge : 64 * x ≤ c).
-    let k = c - 64 * x in
-    set_at words c x k (omega arith) (omega arith)
-    ∙ ap (λ v. eqb (bit_at v k) 1) (sym is)
-    ∙ ap (λ v. eqb v 1) (low_none low word (count - 64 * x) k none inside (omega arith)))
-    (cases_lt c (64 * x))
-
--- one of which has a bit
-pub clear_not : (words : List ℕ) (word low count x : ℕ) → word ≡ slice_index_or words x 0 → low ≢ 0 → low < 2 ^ 64 → ((i : ℕ) → i < count - 64 * x → bit_at low i ≡ bit_at word i) → ((i : ℕ) → count - 64 * x ≤ i → bit_at low i ≡ 0) →
-    ((c : ℕ) → c < count → is_set words c ≡ false) → ⊥
-clear_not words word low count x is some fits inside none all =
-    let h = low_some low word (count - 64 * x) some fits inside none in
-    let k = h.0 in
-    let lt = h.1 in
-    let set = set_at words (64 * x + k) x k refl h.2 ∙ ap (λ v. eqb (bit_at v k) 1) (sym is) ∙ ap (λ v. eqb v 1) h.3 in
-    true≢false (sym set ∙ all (64 * x + k) (omega arith))
 
 -- a bit of a word from a place on
 word_bit : (words : List ℕ) (at x k : ℕ) → k < 64 → IsTrue (is_set words (64 * at + (64 * x + k))) ↔ (bit_at (slice_index_or words (at + x) 0) k ≡ 1)
@@ -107,3 +84,13 @@ module _ (words other : List ℕ) (at from count : ℕ) where
       let other_one = ap (λ v. bit_at v k) is_two ∙ (word_bit other from x k small).0 (subst (λ v. IsTrue (is_set other (64 * from + v))) e met.2) in
       omega (arith, zero, one, other_one))
       (cases_lt c (64 * x))
+
+-- words that have no bit in common with themselves have none
+pub meets_itself : (words : List ℕ) (count : ℕ) (met : Bool) → IsTrue met ↔ ((c : ℕ) × (c < count) × IsTrue (is_set words (64 * 0 + c)) × IsTrue (is_set words (64 * 0 + c))) →
+    IsTrue (not met) ↔ ((c : ℕ) → c < count → is_set words c ≡ false)
+meets_itself words count met is = (
+  λ h c lt. false_from_ne_true (is_set words c)
+      (λ set. let here = subst (λ v. IsTrue (is_set words v)) (let e : c ≡ 64 * 0 + c = omega arith in e) set in true≢false (sym (is.1 (c, lt, here, here)) ∙ not-true met h)),
+  λ all. not_from_false met (false_from_ne_true met
+      (λ h. let m = is.0 h in true≢false (sym m.2 ∙ all (64 * 0 + m.0) (omega (arith, m.1))))),
+)

@@ -4,19 +4,16 @@ use Rattle.std.specs.Prelude.{◌-◌, ◌*◌, slice_get, slice_index_or, slice
 use Rattle.std.proofs.lemmas.Bool.{cases_lt, cases_eq}
 use Rattle.std.proofs.lemmas.List.{get_or_append_left, get_or_push, get_or-set_same, get_or-set_other}
 use Rattle.std.proofs.lemmas.Option.{slice_get_within, get_or_from_slice_get, slice_get-get_or}
-use Rattle.sedre.specs.Arena.{IsArena}
 use Rattle.sedre.specs.Steps.{TakesExactly, TakesAtLeast}
 use Rattle.sedtext.specs.Bytes.{looked_at}
 use Rattle.sedre.specs.declared.types.Node.{Node}
-use Rattle.sedre.specs.declared.types.NodeId.{NodeId}
-use Rattle.sedre.specs.declared.types.Node.TheVariants.{Alt, Group}
 use Rattle.sedtext.specs.Spans.{IsIn}
 use Rattle.sedtext.specs.Reach.{At}
 use Rattle.sedtext.specs.Word.{WordSpans, AllWord}
-use Rattle.sedtext.specs.Choice.{ChoiceAt, ChoiceSpans, ChoiceOr, AllChoice, BranchesOf, HeadsIn, AreHeads, AreShort, FirstChoice, bytes_in}
-use Rattle.sedtext.specs.declared.counted.choice.Branches.TheVariants.{Both, Inner}
+use Rattle.sedtext.specs.Choice.{ChoiceAt, ChoiceSpans, ChoiceOr, AllChoice, AreHeads, AreShort, FirstChoice, bytes_in}
+use Rattle.sedtext.specs.Forms.{HasForm}
+use Rattle.sedtext.specs.declared.forms.Form.TheVariants.{Either}
 use Rattle.sedtext.proofs.CountLemmas.{least_ahead, least_less}
-use Rattle.sedtext.proofs.ReachLemmas.{open_at, close_at}
 
 -- what stands in a list with one more at its end
 module _ {A : Type 0} (xs : List A) (y : A) where
@@ -88,39 +85,8 @@ counts_ahead words w p s t looks None short first counted few = tt
 counts_ahead words w p s t looks (Some k) short first counted few = counts_to_end words w p s t (Some k) short (least_ahead s t (length w) p looks (Some k) first.0 counted few)
 
 module _ (nodes : List Node) (x : ℕ) where
-  -- the branches of a node
-  pub both_branches : IsArena nodes → (a b : NodeId) (y z : ℕ) → slice_get nodes x ≡ Some (Alt a b) → y ≡ a.index → z ≡ b.index → BranchesOf nodes x (Both y z)
-  both_branches arena a b y z is y_is z_is =
-      let below = arena.below x a.index (Alt a b) is (inl refl) in
-      let below' = arena.below x b.index (Alt a b) is (inr refl) in (
-        omega (arith, below, y_is),
-        omega (arith, below', z_is),
-        λ w i j. (
-          (λ at.
-              ⊎_elim
-              (λ (l : At nodes w a.index i j). inl (subst (λ v. At nodes w v i j) (sym y_is) l))
-              (λ (r : At nodes w b.index i j). inr (subst (λ v. At nodes w v i j) (sym z_is) r))
-              (open_at nodes w x (Alt a b) arena is i j at)),
-          (λ h.
-              close_at nodes w x (Alt a b) arena is i j (⊎_elim
-              (λ (l : At nodes w y i j). inl (subst (λ v. At nodes w v i j) y_is l))
-              (λ (r : At nodes w z i j). inr (subst (λ v. At nodes w v i j) z_is r))
-              h)),
-        ),
-      )
-
-  pub inner_branch : IsArena nodes → (g : ℕ) (a : NodeId) (y : ℕ) → slice_get nodes x ≡ Some (Group g a) → y ≡ a.index → BranchesOf nodes x (Inner y)
-  inner_branch arena g a y is y_is =
-      let below = arena.below x a.index (Group g a) is refl in (
-        omega (arith, below, y_is),
-        λ w i j. (
-          (λ at. subst (λ v. At nodes w v i j) (sym y_is) (open_at nodes w x (Group g a) arena is i j at)),
-          (λ h. close_at nodes w x (Group g a) arena is i j (subst (λ v. At nodes w v i j) y_is h)),
-        ),
-      )
-
   -- one more literal, and what is left
-  pub choice_both : (words : List (List ℕ)) (literal : List ℕ) (y a b : ℕ) → ChoiceOr nodes x words y → BranchesOf nodes y (Both a b) → AllWord nodes a literal → ChoiceOr nodes x (words ++ literal ∷ []) b
+  pub choice_both : (words : List (List ℕ)) (literal : List ℕ) (y a b : ℕ) → ChoiceOr nodes x words y → HasForm nodes y (Either a b) → AllWord nodes a literal → ChoiceOr nodes x (words ++ literal ∷ []) b
   choice_both words literal y a b choice both all w i j within =
       let more = more_spans words literal w i j in (
         (λ at.
@@ -166,23 +132,12 @@ same_value xs k m x y same this that =
     sym (get_or_from_slice_get xs k x x this) ∙ ap (λ v. slice_index_or xs v x) same ∙ get_or_from_slice_get xs m y x that
 
 -- one more byte is marked
-kept_mark : (heads : List Bool) (c b : ℕ) → c < length heads → IsIn b heads → IsIn b (slice_set heads c true)
+pub kept_mark : (heads : List Bool) (c b : ℕ) → c < length heads → IsIn b heads → IsIn b (slice_set heads c true)
 kept_mark heads c b inside is =
     ⊎_elim
     (λ (e : b ≡ c). subst (λ v. IsIn v (slice_set heads c true)) (sym e) (get_or-set_same heads c true false inside))
     (λ (ne : b ≡ c → ⊥). get_or-set_other heads c b true false ne ∙ is)
     (cases_eq b c)
-
-pub heads_more : (heads after : List Bool) (words : List (List ℕ)) (x c : ℕ) (literal : List ℕ) → HeadsIn heads words x → slice_get words x ≡ Some literal → slice_get literal 0 ≡ Some c →
-    c < length heads → after ≡ slice_set heads c true → HeadsIn after words (x + 1)
-heads_more heads after words x c literal are is first inside same k other lt there =
-    subst (λ h. (b : ℕ) × (slice_get other 0 ≡ Some b) × IsIn b h) (sym same)
-    (⊎_elim
-    (λ (old : k < x). let h = are k other old there in (h.0, h.1, kept_mark heads c h.0 inside h.2))
-    (λ (new : x ≤ k).
-    let e = same_value words k x other literal (omega arith) there is in
-    (c, subst (λ l. slice_get l 0 ≡ Some c) (sym e) first, get_or-set_same heads c true false inside))
-    (cases_lt k x))
 
 -- the same literals, in the same text
 pub first_seen : (words seen : List (List ℕ)) (bytes w : List ℕ) (p : ℕ) (r : Option ℕ) → words ≡ seen → bytes ≡ w → FirstChoice words bytes p r → FirstChoice seen w p r

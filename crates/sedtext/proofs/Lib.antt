@@ -10,6 +10,7 @@ pub mod StepLemmas
 pub mod SpanLemmas
 pub mod MirrorLemmas
 pub mod ReachLemmas
+pub mod FormLemmas
 pub mod WordLemmas
 pub mod BitLemmas
 pub mod MarkLemmas
@@ -21,4 +22,3 @@ pub mod OpeningLemmas
 pub mod FewLemmas
 pub mod RareLemmas
 pub mod LaneLemmas
-pub mod RunBackLemmas

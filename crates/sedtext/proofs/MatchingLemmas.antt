@@ -133,7 +133,7 @@ module _ (step : ℕ → ℕ → Bool) (R : ℕ → ℕ → Type 0) (each : (i k
       (cases_lt k j)
 
 -- a test of two parts
-both-iff : (x y : Bool) (P Q : Type 0) → (IsTrue x ↔ P) → (IsTrue y ↔ Q) → IsTrue (x && y) ↔ (P × Q)
+pub both-iff : (x y : Bool) (P Q : Type 0) → (IsTrue x ↔ P) → (IsTrue y ↔ Q) → IsTrue (x && y) ↔ (P × Q)
 both-iff x y P Q left right = (
   λ h. let both = and_parts x y h in (left.0 both.0, right.0 both.1),
   λ h. and_from x y (left.1 h.0) (right.1 h.1),

@@ -1,68 +1,34 @@
 -- Literals that the spans of an expression hold.
-use Rattle.std.proofs.Common.{◌≡◌, ℕ, ◌+◌, ◌-◌, ◌<◌, ◌≤◌, ◌⊎◌, Bool, List, length, take, drop, Option, Some, None, IsTrue, refl, sym, ap, ◌∙◌, subst, inl, inr, ⊎_elim, arith}
+use Rattle.std.proofs.Common.{◌≡◌, ℕ, ◌+◌, ◌-◌, ◌<◌, ◌≤◌, ◌⊎◌, List, length, take, drop, Option, Some, None, IsTrue, refl, sym, ap, ◌∙◌, subst, inl, inr, ⊎_elim, arith}
 use Rattle.std.specs.Prelude.{IfSome, slice_get, slice_index}
 use Rattle.memchr.specs.Find.{OccursAt, Nowhere, NoneBefore as FirstOf}
 use Rattle.sedre.specs.Tree.{Tree, tree_at}
 use Rattle.sedre.specs.Arena.{IsArena}
 use Rattle.sedre.specs.declared.types.Node.{Node}
 use Rattle.sedre.specs.declared.types.NodeId.{NodeId}
-use Rattle.sedre.specs.declared.types.Node.TheVariants.{Set, Seq, Group}
+use Rattle.sedre.specs.declared.types.Node.TheVariants.{Seq}
 use Rattle.sedtext.specs.Spans.{NotFound}
 use Rattle.sedtext.specs.Reach.{At}
-use Rattle.sedtext.specs.Needed.{IsOfSet, LinksTo, IsLiteral, GoesOnAs, AllHold, AllEndWith, IsNeeded, FirstLiteral, Narrowed}
+use Rattle.sedtext.specs.Forms.{HasForm}
+use Rattle.sedtext.specs.declared.forms.Form.TheVariants.{Both}
+use Rattle.sedtext.specs.Needed.{IsLiteral, GoesOnAs, AllHold, AllEndWith, IsNeeded, FirstLiteral, Narrowed}
 use Rattle.sedtext.specs.declared.needed.RequiredLiteral.{RequiredLiteral}
 use Rattle.sedtext.specs.declared.needed.Literal.{Literal}
-use Rattle.sedtext.specs.declared.needed.Link.TheVariants.{OneOf, Inner}
 use Rattle.sedtext.proofs.FewLemmas.{length-rest, rest_at}
-use Rattle.sedtext.proofs.ReachLemmas.{open_at, close_at}
 use Rattle.sedtext.proofs.SpanLemmas.{Matches-forward, Matches-within}
 
 module _ (nodes : List Node) (arena : IsArena nodes) (x : ℕ) where
-  -- a set
-  pub node_set : (s : List Bool) → slice_get nodes x ≡ Some (Set s) → IsOfSet nodes x s
-  node_set s is w i j = (
-    (λ at. let f = open_at nodes w x (Set s) arena is i j at in ((f.0, f.1, f.2), f.3)),
-    (λ h. close_at nodes w x (Set s) arena is i j (h.0.0, h.0.1, h.0.2, h.1)),
-  )
-
   -- the parts of a concatenation stand before it
   pub seq_below : (a b : NodeId) → slice_get nodes x ≡ Some (Seq a b) → (a.index < x) × (b.index < x)
   seq_below a b is = (arena.below x a.index (Seq a b) is (inl refl), arena.below x b.index (Seq a b) is (inr refl))
 
-  -- a byte of a set, and what stands after it
-  pub set_links : (a b : NodeId) (y left : ℕ) (s : List Bool) → slice_get nodes x ≡ Some (Seq a b) → left ≡ a.index → y ≡ b.index → IsOfSet nodes left s → LinksTo nodes x (OneOf s y)
-  set_links a b y left s is left_is y_is first =
-      let below = seq_below a b is in (
-        omega (arith, below.1),
-        λ w i j. (
-          (λ at.
-              let f = open_at nodes w x (Seq a b) arena is i j at in
-              let h = (first w i f.0).0 (subst (λ v. At nodes w v i f.0) (sym left_is) f.1) in
-              (h.0, subst (λ p. At nodes w y p j) h.1 (subst (λ v. At nodes w v f.0 j) (sym y_is) f.2))),
-          (λ h.
-              close_at nodes w x (Seq a b) arena is i j
-              (i + 1, subst (λ v. At nodes w v i (i + 1)) left_is ((first w i (i + 1)).1 (h.0, refl)), subst (λ v. At nodes w v (i + 1) j) y_is h.1)),
-        ),
-      )
-
-  -- a group
-  pub group_links : (g : ℕ) (a : NodeId) (y : ℕ) → slice_get nodes x ≡ Some (Group g a) → y ≡ a.index → LinksTo nodes x (Inner y)
-  group_links g a y is y_is =
-      let below = arena.below x a.index (Group g a) is refl in (
-        omega (arith, below),
-        λ w i j. (
-          (λ at. subst (λ v. At nodes w v i j) (sym y_is) (open_at nodes w x (Group g a) arena is i j at)),
-          (λ h. close_at nodes w x (Group g a) arena is i j (subst (λ v. At nodes w v i j) y_is h)),
-        ),
-      )
-
-  -- the second part of a concatenation
-  pub second_ends : (a b : NodeId) (y : ℕ) → slice_get nodes x ≡ Some (Seq a b) → y ≡ b.index → AllEndWith nodes x y
-  second_ends a b y is y_is w i j within at =
-      let f = open_at nodes w x (Seq a b) arena is i j at in
-      (f.0, Matches-forward (tree_at nodes a.index) w i f.0 f.1, Matches-within (tree_at nodes a.index) w i f.0 within f.1, subst (λ v. At nodes w v f.0 j) (sym y_is) f.2)
-
 module _ (nodes : List Node) (x : ℕ) where
+  -- the second part of a concatenation
+  pub second_ends : (a y : ℕ) → HasForm nodes x (Both a y) → AllEndWith nodes x y
+  second_ends a y both w i j within at =
+      let f = (both.2 w i j).0 at in
+      (f.0, Matches-forward (tree_at nodes a) w i f.0 f.1, Matches-within (tree_at nodes a) w i f.0 within f.1, f.2)
+
   -- the longer of what it holds and what a part at its end begins with
   pub hold_longer : (y : ℕ) (l : Literal) (these result : List ℕ) → AllEndWith nodes x y → IsLiteral nodes y l → AllHold nodes x these →
       (result ≡ these) ⊎ (result ≡ l.bytes.items) → AllHold nodes x result

@@ -1,6 +1,6 @@
 -- The first two bytes of the literals of a choice, and the places at which they stand.
-use Rattle.std.proofs.Common.{◌≡◌, ℕ, ◌+◌, ◌-◌, ◌/◌, ◌%◌, ◌^◌, ◌<◌, ◌≤◌, true, false, List, [], ◌∷◌, ◌++◌, length, Option, Some, None, sym, ap, ◌∙◌, subst, inl, inr, ⊎_elim, arith, true≢false, w64, ltb, eqb, bit_or, map}
-use Rattle.std.specs.Prelude.{slice_get, slice_index, is_some}
+use Rattle.std.proofs.Common.{◌≡◌, ℕ, ◌+◌, ◌-◌, ◌/◌, ◌%◌, ◌^◌, ◌<◌, ◌≤◌, Bool, true, false, List, [], ◌∷◌, ◌++◌, length, Option, Some, None, sym, ap, ◌∙◌, subst, inl, inr, ⊎_elim, arith, true≢false, w64, ltb, eqb, bit_or, map}
+use Rattle.std.specs.Prelude.{slice_get, slice_index, slice_set, is_some}
 use Rattle.std.specs.Int.{bit_at, trailing_zeros}
 use Rattle.std.specs.Simd.Lanes.{mask_l, sel_l, zip2}
 use Rattle.std.proofs.Math.Nat.{div-le_self}
@@ -8,14 +8,15 @@ use Rattle.std.proofs.lemmas.Bool.{cases_lt}
 use Rattle.std.proofs.lemmas.Nat.{shr-shr}
 use Rattle.std.proofs.lemmas.Nat.Bits.{bit_at-zero, bit_at_above, bit_at-trailing_zeros}
 use Rattle.std.proofs.lemmas.Option.{slice_get_within, get_or_from_slice_get, slice_get-get_or}
-use Rattle.std.proofs.lemmas.List.{length-map}
+use Rattle.std.proofs.lemmas.List.{length-map, get_or-set_same}
 use Rattle.std.proofs.lemmas.Simd.{length-zip2, mask_l-lt}
 use Rattle.memchr.specs.Find.{OccursAt}
 use Rattle.sedtext.specs.Few.{HasZeros, ZerosWhere}
-use Rattle.sedtext.specs.Choice.{ChoiceAt, LongestAt, FirstChoice}
+use Rattle.sedtext.specs.Choice.{AreHeads, ChoiceAt, LongestAt, FirstChoice}
+use Rattle.sedtext.specs.Spans.{IsIn}
 use Rattle.sedtext.specs.Openings.{PairAt, OpensAt, OpenLiterals, PairIn, OpensIn, NextBit, FirstWithin}
 use Rattle.sedtext.specs.declared.counted.openings.Opening.{Opening}
-use Rattle.sedtext.proofs.ChoiceLemmas.{get_old, get_new, same_value}
+use Rattle.sedtext.proofs.ChoiceLemmas.{get_old, get_new, same_value, kept_mark}
 use Rattle.sedtext.proofs.LaneLemmas.{combined, least_long, least_zero}
 
 -- one more literal, and the two bytes with which it begins
@@ -29,6 +30,27 @@ more_open openings after words x literal opening are is begins same k other lt t
     let e = same_value words x k literal other (omega arith) is there in
     (length openings, opening, subst (λ l. PairAt opening l 0) e begins, get_new openings opening))
     (cases_lt k x))
+
+-- the first bytes of the first n openings are among the heads
+abbrev pub FirstsIn : List Bool → List Opening → ℕ → Type 0
+FirstsIn heads openings n = (m : ℕ) (opening : Opening) → m < n → slice_get openings m ≡ Some opening → IsIn opening.first heads
+
+pub firsts_more : (heads : List Bool) (openings : List Opening) (x c : ℕ) (opening : Opening) → FirstsIn heads openings x → slice_get openings x ≡ Some opening → opening.first ≡ c →
+    c < length heads → FirstsIn (slice_set heads c true) openings (x + 1)
+firsts_more heads openings x c opening are is first inside m other lt there =
+    ⊎_elim
+    (λ (old : m < x). kept_mark heads c other.first inside (are m other old there))
+    (λ (new : x ≤ m).
+    let e = same_value openings m x other opening (omega arith) there is in
+    subst (λ b. IsIn b (slice_set heads c true)) (sym (ap (λ (o : Opening). o.first) e ∙ first)) (get_or-set_same heads c true false inside))
+    (cases_lt m x)
+
+-- so each literal begins with a byte among them
+pub heads_from : (heads : List Bool) (openings : List Opening) (words : List (List ℕ)) → length heads ≡ 256 → FirstsIn heads openings (length openings) → OpenLiterals openings words (length words) → AreHeads heads words
+heads_from heads openings words bytes firsts are = (
+  bytes,
+  λ k literal lt is. let h = are k literal lt is in (h.1.first, h.2.0, firsts h.0 h.1 (slice_get_within openings h.0 h.1 h.3) h.3),
+)
 
 -- what stands in a literal stands in the text where the literal does
 occurring : (literal w : List ℕ) (i j c : ℕ) → OccursAt w literal i → slice_get literal j ≡ Some c → slice_get w (i + j) ≡ Some c

@@ -1,5 +1,5 @@
 -- What a node spans by its parts, and where these are entered.
-use Rattle.std.proofs.Common.{◌≡◌, ◌≢◌, ℕ, ◌<◌, ◌≤◌, ◌⊎◌, ◌↔◌, Bool, false, List, Option, Some, None, IsTrue, refl, sym, ap, subst, inl, inr, ⊎_elim, true≢false, arith}
+use Rattle.std.proofs.Common.{◌≡◌, ℕ, ◌<◌, ◌≤◌, ◌⊎◌, ◌↔◌, Bool, false, List, Option, Some, None, IsTrue, refl, sym, ap, subst, inl, inr, ⊎_elim, true≢false, arith}
 use Rattle.std.specs.Prelude.{slice_get, slice_index_or}
 use Rattle.sedtext.specs.Spans.{CopiesLead, no_copy, Matches}
 use Rattle.sedre.specs.Arena.{IsArena, IsPart}
@@ -8,7 +8,7 @@ use Rattle.sedre.specs.declared.types.Node.{Node}
 use Rattle.sedre.specs.declared.types.Node.TheVariants.{Seq, Alt, Group, Star, Opt}
 use Rattle.sedre.proofs.TreeLemmas.{tree_at-node}
 use Rattle.sedtext.specs.declared.starts.Starts.{Starts}
-use Rattle.sedtext.specs.Reach.{IsLoose, BeginsWith, At, IsStart, Enters, at_root, with_whole, after_left, again}
+use Rattle.sedtext.specs.Reach.{BeginsWith, At, IsStart, Enters, at_root, with_whole, after_left, again}
 use Rattle.sedtext.specs.Nodes.{IsRepetitionOf}
 use Rattle.sedtext.specs.Matching.{byte_is_in}
 use Rattle.sedtext.proofs.SpanLemmas.{Matches-forward}
@@ -40,9 +40,15 @@ FromNode nodes w r p y c j (Star a first) = (i : ℕ) × Enters nodes w r p y i 
 FromNode nodes w r p y c j (Opt a first) = Enters nodes w r p y j
 FromNode nodes w r p y c j _ = ⊥
 
-BeginsWith-part : (node : Node) (c : ℕ) → BeginsWith node c → IsPart node c
+pub BeginsWith-part : (node : Node) (c : ℕ) → BeginsWith node c → IsPart node c
 BeginsWith-part (Seq a b) c h = inl h
 BeginsWith-part _ c h = h
+
+-- two nodes with one part are one
+pub same_node : (nodes : List Node) → IsArena nodes → (y z c : ℕ) (node other : Node) → slice_get nodes y ≡ Some node → slice_get nodes z ≡ Some other → IsPart node c → IsPart other c → (y ≡ z) × (node ≡ other)
+same_node nodes arena y z c node other is is' part part' =
+    let e : y ≡ z = arena.once y z c node other is is' part part' in
+    (e, let k : slice_get nodes y ≡ slice_get nodes z = ap (slice_get nodes) e in cc)
 
 -- a byte that is taken is there, and in the list
 pub takes_some : (byte : Option ℕ) (members : List Bool) → IsTrue (byte_is_in byte members) → (b : ℕ) × (byte ≡ Some b) × IsTrue (slice_index_or members b false)
@@ -72,12 +78,6 @@ module _ (nodes : List Node) (w : List ℕ) (r : ℕ) (p : Starts) (arena : IsAr
       (j, e, close_at nodes w y (Star a first) arena is j j no_copy)
   FromNode-with_whole y c j (Opt a first) is begins e = e
   FromNode-with_whole y c j _ is begins e = begins
-
-  -- two nodes with one part are one
-  same_node : (y z c : ℕ) (node other : Node) → slice_get nodes y ≡ Some node → slice_get nodes z ≡ Some other → IsPart node c → IsPart other c → (y ≡ z) × (node ≡ other)
-  same_node y z c node other is is' part part' =
-      let e : y ≡ z = arena.once y z c node other is is' part part' in
-      (e, let k : slice_get nodes y ≡ slice_get nodes z = ap (slice_get nodes) e in cc)
 
   -- only r and nodes below it are entered
   pub Enters-inside : (x j : ℕ) → Enters nodes w r p x j → x ≤ r
@@ -112,7 +112,7 @@ module _ (nodes : List Node) (w : List ℕ) (r : ℕ) (p : Starts) (arena : IsAr
       ⊎_elim
       (λ (root : (c ≡ r) × IsStart p j). absurd (omega (arith, root.0, below)))
       (λ (h : ByNode c j).
-      let both = same_node h.0 y c h.1 node h.2 is h.3 part in
+      let both = same_node nodes arena h.0 y c h.1 node h.2 is h.3 part in
       subst (λ v. FromNode nodes w r p v c j node) both.0 (subst (λ n. FromNode nodes w r p h.0 c j n) both.1 h.5))
       (how_entered c j e)
 

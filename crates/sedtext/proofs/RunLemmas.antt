@@ -4,18 +4,15 @@ use Rattle.std.specs.Prelude.{slice_get, slice_index_or}
 use Rattle.std.proofs.lemmas.Bool.{cases_lt}
 use Rattle.std.proofs.lemmas.Option.{slice_get_within}
 use Rattle.sedre.specs.Tree.{set}
-use Rattle.sedre.specs.Arena.{IsArena}
 use Rattle.sedre.specs.declared.types.Node.{Node}
-use Rattle.sedre.specs.declared.types.NodeId.{NodeId}
-use Rattle.sedre.specs.declared.types.Node.TheVariants.{Group, Star}
 use Rattle.sedtext.specs.Spans.{Matches, CopiesLead, no_copy, one_more}
 use Rattle.sedtext.specs.Reach.{At}
 use Rattle.sedtext.specs.Beginnings.{CanBegin}
 use Rattle.sedtext.specs.declared.beginnings.Begins.TheVariants.{WithSet}
-use Rattle.sedtext.specs.Needed.{IsOfSet}
+use Rattle.sedtext.specs.Forms.{HasForm, IsOfSet}
+use Rattle.sedtext.specs.declared.forms.Form.TheVariants.{Copies}
 use Rattle.sedtext.specs.Runs.{Repeated, AllRepeat, IsRun}
 use Rattle.sedtext.proofs.SpanLemmas.{CopiesLead-forward, CopiesLead-append}
-use Rattle.sedtext.proofs.ReachLemmas.{open_at, close_at}
 
 -- copies end in the run
 pub in_run : (members : List Bool) (w : List ℕ) (k j i : ℕ) → i ≤ k → (CanBegin (WithSet members) w k → ⊥) → CopiesLead (Matches (set members) w) j i → j ≤ k
@@ -50,17 +47,9 @@ copies_alike : (R S : ℕ → ℕ → Type 0) → ((p q : ℕ) → R p q → S p
 copies_alike R S each j i no_copy = no_copy
 copies_alike R S each j i (one_more _ k lt r rest) = one_more i k lt (each i k r) (copies_alike R S each j k rest)
 
-module _ (nodes : List Node) (arena : IsArena nodes) (x : ℕ) where
-  -- a repetition of a set
-  pub star_repeats : (a : NodeId) (first : Bool) (y : ℕ) → slice_get nodes x ≡ Some (Star a first) → y ≡ a.index → (members : List Bool) → IsOfSet nodes y members → AllRepeat nodes x members
-  star_repeats a first y is y_is members inner w i j =
-      let one = subst (λ v. IsOfSet nodes v members) y_is inner w in (
-        λ at. copies_alike (At nodes w a.index) (Matches (set members) w) (λ p q at. let f = (one p q).0 at in (f.0.0, f.0.1, f.0.2, f.1)) j i (open_at nodes w x (Star a first) arena is i j at),
-        λ copies. close_at nodes w x (Star a first) arena is i j (copies_alike (Matches (set members) w) (At nodes w a.index) (λ p q r. (one p q).1 ((r.0, r.1, r.2), r.3)) j i copies),
-      )
-
-  -- in a group
-  pub group_repeats : (g : ℕ) (a : NodeId) (y : ℕ) → slice_get nodes x ≡ Some (Group g a) → y ≡ a.index → (members : List Bool) → AllRepeat nodes y members → AllRepeat nodes x members
-  group_repeats g a y is y_is members inner w i j =
-      let one = subst (λ v. AllRepeat nodes v members) y_is inner w i j in
-      (λ at. one.0 (open_at nodes w x (Group g a) arena is i j at), λ copies. close_at nodes w x (Group g a) arena is i j (one.1 copies))
+-- a repetition of a set
+pub star_repeats : (nodes : List Node) (x y : ℕ) (members : List Bool) → HasForm nodes x (Copies y) → IsOfSet nodes y members → AllRepeat nodes x members
+star_repeats nodes x y members star inner w i j = (
+  λ at. copies_alike (At nodes w y) (Matches (set members) w) (λ p q at. let f = (inner w p q).0 at in (f.0.0, f.0.1, f.0.2, f.1)) j i ((star.1 w i j).0 at),
+  λ copies. (star.1 w i j).1 (copies_alike (Matches (set members) w) (At nodes w y) (λ p q r. (inner w p q).1 ((r.0, r.1, r.2), r.3)) j i copies),
+)

@@ -1,12 +1,9 @@
 -- Bytes of a set, always as many.
-use Rattle.std.proofs.Common.{◌≡◌, ℕ, ◌+◌, ◌<◌, ◌≤◌, Bool, List, length, Option, Some, None, IfSome, refl, sym, ap, subst, ◌∙◌, ⊎_elim, arith}
-use Rattle.std.specs.Prelude.{slice_get, slice_index, slice_index_or, false, IsTrue, SomeIff}
+use Rattle.std.proofs.Common.{◌≡◌, ℕ, ◌+◌, ◌<◌, ◌≤◌, Bool, List, length, Option, Some, None, IfSome, refl, sym, subst, ◌∙◌, ⊎_elim, arith}
+use Rattle.std.specs.Prelude.{slice_get, slice_index_or, false, IsTrue, SomeIff}
 use Rattle.std.proofs.lemmas.Bool.{cases_lt}
 use Rattle.sedre.specs.Tree.{set, star}
-use Rattle.sedre.specs.Arena.{IsArena}
 use Rattle.sedre.specs.declared.types.Node.{Node}
-use Rattle.sedre.specs.declared.types.NodeId.{NodeId}
-use Rattle.sedre.specs.declared.types.Node.TheVariants.{Set, Seq, Group}
 use Rattle.sedtext.specs.Spans.{Matches, CopiesLead, no_copy, one_more}
 use Rattle.sedtext.specs.Runs.{Repeated, RunBegins}
 use Rattle.sedtext.specs.Beginnings.{CanBegin}
@@ -14,7 +11,9 @@ use Rattle.sedtext.specs.declared.beginnings.Begins.TheVariants.{WithSet}
 use Rattle.sedtext.specs.Times.{SameBytes, HasTimes, AllTimes, AreWidths, FirstTimes}
 use Rattle.sedtext.proofs.SpanLemmas.{Matches-within}
 use Rattle.sedtext.proofs.MarkLemmas.{default_same}
-use Rattle.sedtext.proofs.ReachLemmas.{open_at, close_at}
+use Rattle.sedtext.proofs.BeginningLemmas.{member_step}
+use Rattle.sedtext.specs.Forms.{HasForm, IsOfSet}
+use Rattle.sedtext.specs.declared.forms.Form.TheVariants.{Both, Inner}
 
 -- copies and more copies after them
 pub CopiesLead-join : (R : ℕ → ℕ → Type 0) (j k i : ℕ) → CopiesLead R k i → CopiesLead R j k → CopiesLead R j i
@@ -63,49 +62,56 @@ pub repeated_more : (members : List Bool) (w : List ℕ) (before place to byte :
 repeated_more members w before place to byte has next is value holds rest =
     repeated_before members w before to (byte, is, sym value ∙ holds) (subst (λ v. Repeated members w v to) (sym next) rest)
 
-module _ (nodes : List Node) (arena : IsArena nodes) (x : ℕ) (members : List Bool) where
+-- after a byte that isn't in the set the run begins
+pub run_stops : (members : List Bool) (w : List ℕ) (p q before place byte : ℕ) (has : Bool) → before + 1 ≡ place → p ≤ before → place ≤ q → slice_get w before ≡ Some byte →
+    has ≡ slice_index_or members byte false → has ≡ false → Repeated members w place q → RunBegins members w p q (before + 1)
+run_stops members w p q before place byte has next low high is value missing copies = (
+  omega arith,
+  omega (arith, next),
+  subst (λ v. Repeated members w v q) (sym next) copies,
+  λ h after lt all.
+      let can = repeated_in members w h before q (omega arith) (omega (arith, next)) all in
+      member_step members w before before byte has is value missing (λ k these those. absurd (omega arith)) before (omega arith) (omega arith) can,
+)
+
+module _ (nodes : List Node) (x : ℕ) (members : List Bool) where
   -- a set with these bytes
-  pub times_set : (other : List Bool) → slice_get nodes x ≡ Some (Set other) → SameBytes other members → AllTimes nodes x members 1
+  pub times_set : (other : List Bool) → IsOfSet nodes x other → SameBytes other members → AllTimes nodes x members 1
   times_set other is same w bytes i j = (
-    (λ at. let s = open_at nodes w x (Set other) arena is i j at in repeated_one members w i j (s.0, s.1, (same s.0 (bytes i s.0 s.1)).0 s.2, s.3)),
+    (λ at. let s = (is w i j).0 at in repeated_one members w i j (s.0.0, s.0.1, (same s.0.0 (bytes i s.0.0 s.0.1)).0 s.0.2, s.1)),
     (λ h.
         let can = repeated_first members w j i (omega (arith, h.1)) h.0 in
-        close_at nodes w x (Set other) arena is i j (can.0, can.1, (same can.0 (bytes i can.0 can.1)).1 can.2, h.1)),
+        (is w i j).1 ((can.0, can.1, (same can.0 (bytes i can.0 can.1)).1 can.2), h.1)),
   )
 
   -- a concatenation
-  pub times_seq : (a b : NodeId) (first second sum : ℕ) → slice_get nodes x ≡ Some (Seq a b) → sum ≡ first + second →
-      AllTimes nodes a.index members first → AllTimes nodes b.index members second → AllTimes nodes x members sum
-  times_seq a b first second sum is added left right w bytes i j = (
+  times_seq : (a b first second : ℕ) → HasForm nodes x (Both a b) → AllTimes nodes a members first → AllTimes nodes b members second → AllTimes nodes x members (first + second)
+  times_seq a b first second both left right w bytes i j = (
     (λ at.
-        let f = open_at nodes w x (Seq a b) arena is i j at in
+        let f = (both.2 w i j).0 at in
         let these = (left w bytes i f.0).0 f.1 in
         let those = (right w bytes f.0 j).0 f.2 in
         (CopiesLead-join (Matches (set members) w) j f.0 i these.0 those.0, omega (arith, these.1, those.1))),
     (λ h.
         let cut = repeated_cut members w (i + first) j i (omega arith) (omega (arith, h.1)) h.0 in
-        close_at nodes w x (Seq a b) arena is i j (i + first, (left w bytes i (i + first)).1 (cut.0, refl), (right w bytes (i + first) j).1 (cut.1, omega (arith, h.1)))),
+        (both.2 w i j).1 (i + first, (left w bytes i (i + first)).1 (cut.0, refl), (right w bytes (i + first) j).1 (cut.1, omega (arith, h.1)))),
   )
+
+  -- whose sum is known
+  pub if_sum : (a b first second : ℕ) (sum : Option ℕ) (P : Type 0) → HasForm nodes x (Both a b) → AllTimes nodes a members first → AllTimes nodes b members second →
+      SomeIff sum P (first + second) → IfSome sum (λ s. AllTimes nodes x members s)
+  if_sum a b first second None P both left right added = tt
+  if_sum a b first second (Some sum) P both left right added = subst (λ v. AllTimes nodes x members v) (sym added.1) (times_seq a b first second both left right)
 
   -- a group
-  pub times_group : (g : ℕ) (a : NodeId) (count : ℕ) → slice_get nodes x ≡ Some (Group g a) → AllTimes nodes a.index members count → AllTimes nodes x members count
-  times_group g a count is inner w bytes i j = (
-    (λ at. (inner w bytes i j).0 (open_at nodes w x (Group g a) arena is i j at)),
-    (λ h. close_at nodes w x (Group g a) arena is i j ((inner w bytes i j).1 h)),
-  )
-
--- a concatenation whose sum is known
-pub if_sum : (nodes : List Node) → IsArena nodes → (x : ℕ) (members : List Bool) (a b : NodeId) (first second : ℕ) (sum : Option ℕ) (P : Type 0) → slice_get nodes x ≡ Some (Seq a b) →
-    AllTimes nodes a.index members first → AllTimes nodes b.index members second → SomeIff sum P (first + second) → IfSome sum (λ s. AllTimes nodes x members s)
-if_sum nodes arena x members a b first second None P is left right added = tt
-if_sum nodes arena x members a b first second (Some sum) P is left right added = times_seq nodes arena x members a b first second sum is added.1 left right
+  pub times_group : (a count : ℕ) → HasForm nodes x (Inner a) → AllTimes nodes a members count → AllTimes nodes x members count
+  times_group a count group inner w bytes i j = (λ at. (inner w bytes i j).0 ((group.1 w i j).0 at), λ h. (group.1 w i j).1 ((inner w bytes i j).1 h))
 
 -- a width that is known
 pub width_at : (nodes : List Node) (members : List Bool) (widths : List ℕ) (x count : ℕ) → AreWidths nodes members widths → x < length widths →
-    (y : ℕ) → y ≡ x → count ≡ slice_index_or widths y count → AllTimes nodes x members count
-width_at nodes members widths x count are lt y there is =
-    let same : slice_index widths x ≡ count = sym (is ∙ ap (λ v. slice_index_or widths v count) there ∙ default_same widths x count 0 lt) in
-    subst (λ v. AllTimes nodes x members v) same (are x lt)
+    count ≡ slice_index_or widths x count → AllTimes nodes x members count
+width_at nodes members widths x count are lt is =
+    subst (λ v. AllTimes nodes x members v) (sym (is ∙ default_same widths x count 0 lt)) (are x lt)
 
 module _ (members : List Bool) (count : ℕ) (w : List ℕ) (from : ℕ) where
   -- no so many bytes begin before a run that begins among those

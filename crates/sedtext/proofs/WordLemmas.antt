@@ -1,47 +1,38 @@
 -- Marks as words of 64.
-use Rattle.std.proofs.Common.{◌≡◌, ◌≢◌, ℕ, zero, suc, ◌*◌, ◌+◌, ◌/◌, ◌%◌, ◌<◌, ◌≤◌, Bool, false, List, ◌∷◌, length, refl, sym, ap, ◌∙◌, ◌⊎◌, ⊎_elim, inl, inr, subst, mul-le-mul_left, arith}
+use Rattle.std.proofs.Common.{[], ◌≡◌, ◌≢◌, ℕ, zero, suc, ◌*◌, ◌+◌, ◌/◌, ◌%◌, ◌<◌, ◌≤◌, Bool, false, List, length, refl, sym, ap, ◌∙◌, ◌⊎◌, ⊎_elim, inl, inr, subst, mul-le-mul_left, arith}
 use Rattle.std.specs.Prelude.{eqb, slice_index_or, slice_set, replicate}
 use Rattle.std.specs.Int.{bit_at}
 use Rattle.sedre.specs.Words.{is_set}
 use Rattle.std.proofs.lemmas.Bool.{cases_eq, cases_lt}
-use Rattle.std.proofs.lemmas.List.{get_or-set_same, get_or-set_other}
+use Rattle.std.proofs.lemmas.List.{get_or-set_same, get_or-set_other, get_or-replicate, length-replicate, length-set, same_lists}
+use Rattle.std.proofs.lemmas.List.FromFn.{get_or-map-range_with_len, length-map-range_with_len}
 use Rattle.std.proofs.lemmas.Nat.Bits.{bit_at-zero}
-use Rattle.sedtext.specs.Words.{table, marks_of, row_at, rows_from, rows_of, row_of}
+use Rattle.sedtext.specs.declared.counted.rows.Rows.TheInside.{Inside}
+use Rattle.sedtext.specs.Words.{table, marks_of, row_at, rows_of, row_of}
+use Rattle.sedtext.proofs.MarkLemmas.{default_same}
 
-length-table : (f : ℕ → Bool) (n : ℕ) → length (table f n) ≡ n
+length-table : {X : Type 0} → (f : ℕ → X) (n : ℕ) → length (table f n) ≡ n
 unfolding table
-length-table f zero = refl
-length-table f (suc n) = omega (arith, length-table (λ k. f (suc k)) n)
+length-table f n = length-map-range_with_len f 0 n
 
-table-get : (f : ℕ → Bool) (n i : ℕ) → i < n → slice_index_or (table f n) i false ≡ f i
+table-get : {X : Type 0} → (f : ℕ → X) (n i : ℕ) (d : X) → i < n → slice_index_or (table f n) i d ≡ f i
 unfolding table
-table-get f zero i lt = absurd (omega arith)
-table-get f (suc n) zero lt = refl
-table-get f (suc n) (suc i) lt = table-get (λ k. f (suc k)) n i (omega arith)
+table-get f n i d lt = get_or-map-range_with_len f 0 n i i d lt (omega arith)
 
-table-same : (f g : ℕ → Bool) (n : ℕ) → ((k : ℕ) → k < n → f k ≡ g k) → table f n ≡ table g n
-unfolding table
-table-same f g zero same = refl
-table-same f g (suc n) same =
-    ap (λ v. v ∷ table (λ k. f (suc k)) n) (same 0 (omega arith))
-    ∙ ap (λ (l : List Bool). g 0 ∷ l) (table-same (λ k. f (suc k)) (λ k. g (suc k)) n (λ k lt. same (suc k) (omega arith)))
+-- the list that has these values
+table-is : (f : ℕ → Bool) (n : ℕ) (xs : List Bool) → length xs ≡ n → ((k : ℕ) → k < n → f k ≡ slice_index_or xs k false) → table f n ≡ xs
+table-is f n xs long same =
+    same_lists (table f n) xs (length-table f n ∙ sym long)
+    (λ k d lt. let low : k < n = omega (arith, length-table f n, lt) in table-get f n k d low ∙ same k low ∙ default_same xs k false d (omega (arith, long, low)))
 
 table-set : (f g : ℕ → Bool) (n i : ℕ) (v : Bool) → i < n → g i ≡ v → ((k : ℕ) → k < n → k ≢ i → g k ≡ f k) → table g n ≡ slice_set (table f n) i v
-unfolding table
-table-set f g zero i v lt here other = absurd (omega arith)
-table-set f g (suc n) zero v lt here other =
-    ap (λ b. b ∷ table (λ k. g (suc k)) n) here
-    ∙ ap (λ (l : List Bool). v ∷ l) (table-same (λ k. g (suc k)) (λ k. f (suc k)) n (λ k low. other (suc k) (omega arith) (λ e. omega arith)))
-table-set f g (suc n) (suc i) v lt here other =
-    ap (λ b. b ∷ table (λ k. g (suc k)) n) (other 0 (omega arith) (λ e. omega arith))
-    ∙ ap (λ (l : List Bool). f 0 ∷ l) (table-set (λ k. f (suc k)) (λ k. g (suc k)) n i v (omega arith) here (λ k low apart. other (suc k) (omega arith) (λ e. apart (omega arith))))
-
-table-none : (f : ℕ → Bool) (n : ℕ) → ((k : ℕ) → k < n → f k ≡ false) → table f n ≡ replicate n false
-unfolding table
-table-none f zero none = refl
-table-none f (suc n) none =
-    ap (λ b. b ∷ table (λ k. f (suc k)) n) (none 0 (omega arith))
-    ∙ ap (λ (l : List Bool). false ∷ l) (table-none (λ k. f (suc k)) n (λ k lt. none (suc k) (omega arith)))
+table-set f g n i v lt here other =
+    table-is g n (slice_set (table f n) i v) (length-set (table f n) i v ∙ length-table f n)
+    (λ k low.
+    ⊎_elim
+    (λ (e : k ≡ i). subst (λ x. g x ≡ slice_index_or (slice_set (table f n) i v) x false) (sym e) (here ∙ sym (get_or-set_same (table f n) i v false (omega (arith, length-table f n, lt)))))
+    (λ (ne : k ≢ i). other k low ne ∙ sym (table-get f n k false low) ∙ sym (get_or-set_other (table f n) i k v false ne))
+    (cases_eq k i))
 
 pub length-marks_of : (words : List ℕ) (n : ℕ) → length (marks_of words n) ≡ n
 unfolding marks_of
@@ -49,12 +40,12 @@ length-marks_of words n = length-table (is_set words) n
 
 pub marks_of-get : (words : List ℕ) (n i word : ℕ) → i < n → word ≡ slice_index_or words (i / 64) 0 → eqb (bit_at word (i % 64)) 1 ≡ slice_index_or (marks_of words n) i false
 unfolding marks_of is_set
-marks_of-get words n i word lt is = ap (λ v. eqb (bit_at v (i % 64)) 1) is ∙ sym (table-get (is_set words) n i lt)
+marks_of-get words n i word lt is = ap (λ v. eqb (bit_at v (i % 64)) 1) is ∙ sym (table-get (is_set words) n i false lt)
 
 -- a mark is a bit
 pub mark_bit : (words : List ℕ) (n i : ℕ) → i < n → slice_index_or (marks_of words n) i false ≡ is_set words i
 unfolding marks_of
-mark_bit words n i lt = table-get (is_set words) n i lt
+mark_bit words n i lt = table-get (is_set words) n i false lt
 
 zero_unmarked : (words : List ℕ) (i : ℕ) → slice_index_or words (i / 64) 0 ≡ 0 → is_set words i ≡ false
 unfolding is_set
@@ -62,13 +53,9 @@ zero_unmarked words i is = ap (λ v. eqb (bit_at v (i % 64)) 1) is ∙ ap (λ v.
 
 pub marks_of-clear : (words : List ℕ) (n i : ℕ) → i < n → slice_index_or words (i / 64) 0 ≡ 0 → slice_index_or (marks_of words n) i false ≡ false
 unfolding marks_of
-marks_of-clear words n i lt is = table-get (is_set words) n i lt ∙ zero_unmarked words i is
+marks_of-clear words n i lt is = table-get (is_set words) n i false lt ∙ zero_unmarked words i is
 
-pub marks_of-none : (words : List ℕ) (n : ℕ) → ((k : ℕ) → slice_index_or words k 0 ≡ 0) → marks_of words n ≡ replicate n false
-unfolding marks_of
-marks_of-none words n none = table-none (is_set words) n (λ k lt. zero_unmarked words k (none (k / 64)))
-
-pub zeros : (m k : ℕ) → slice_index_or (replicate {A = ℕ} m 0) k 0 ≡ 0
+zeros : (m k : ℕ) → slice_index_or (replicate {A = ℕ} m 0) k 0 ≡ 0
 zeros zero k = refl
 zeros (suc m) zero = refl
 zeros (suc m) (suc k) = zeros m k
@@ -96,32 +83,23 @@ marks_of-set words after n i old word v room lt is is_after same other =
     (cases_eq (k / 64) (i / 64)))
 
 pub marks_of-new : (words : List ℕ) (m n : ℕ) → words ≡ replicate m 0 → marks_of words n ≡ replicate n false
-marks_of-new words m n is = marks_of-none words n (λ k. ap (λ (l : List ℕ). slice_index_or l k 0) is ∙ zeros m k)
+unfolding marks_of
+marks_of-new words m n is =
+    table-is (is_set words) n (replicate n false) (length-replicate n false)
+    (λ k lt. zero_unmarked words k (ap (λ (l : List ℕ). slice_index_or l (k / 64) 0) is ∙ zeros m (k / 64)) ∙ sym (get_or-replicate n k false false lt))
 
 -- a mark of a row
 pub length-row_at : (words : List ℕ) (width marks q : ℕ) → length (row_at words width marks q) ≡ marks
 unfolding row_at
 length-row_at words width marks q = length-table (λ k. is_set words (64 * (width * q) + k)) marks
 
-length-rows_from : (words : List ℕ) (width marks q n : ℕ) → length (rows_from words width marks q n) ≡ n
-unfolding rows_from
-length-rows_from words width marks q zero = refl
-length-rows_from words width marks q (suc n) = omega (arith, length-rows_from words width marks (suc q) n)
-
 pub length-rows_of : (words : List ℕ) (width marks n : ℕ) → length (rows_of words width marks n) ≡ n
 unfolding rows_of
-length-rows_of words width marks n = length-rows_from words width marks 0 n
-
-rows_from-get : (words : List ℕ) (width marks q n i : ℕ) → i < n → row_of (rows_from words width marks q n) i ≡ row_at words width marks (q + i)
-unfolding rows_from
-rows_from-get words width marks q zero i lt = absurd (omega arith)
-rows_from-get words width marks q (suc n) zero lt = ap (row_at words width marks) (let e : q ≡ q + 0 = omega arith in e)
-rows_from-get words width marks q (suc n) (suc i) lt =
-    rows_from-get words width marks (suc q) n i (omega arith) ∙ ap (row_at words width marks) (let e : suc q + i ≡ q + suc i = omega arith in e)
+length-rows_of words width marks n = length-table (row_at words width marks) n
 
 pub rows_of-get : (words : List ℕ) (width marks n q : ℕ) → q < n → row_of (rows_of words width marks n) q ≡ row_at words width marks q
 unfolding rows_of
-rows_of-get words width marks n q lt = rows_from-get words width marks 0 n q lt ∙ ap (row_at words width marks) (let e : 0 + q ≡ q = omega arith in e)
+rows_of-get words width marks n q lt = table-get (row_at words width marks) n q [] lt
 
 pub length-row : (words : List ℕ) (width marks n q : ℕ) → q < n → length (row_of (rows_of words width marks n) q) ≡ marks
 length-row words width marks n q lt = ap length (rows_of-get words width marks n q lt) ∙ length-row_at words width marks q
@@ -147,9 +125,9 @@ pub row_agrees : (words other : List ℕ) (width marks n q count : ℕ) → coun
     (i : ℕ) → i < count → slice_index_or (row_at words width marks q) i false ≡ slice_index_or (marks_of other n) i false
 unfolding row_at marks_of
 row_agrees words other width marks n q count low high same i lt =
-    table-get (λ k. is_set words (64 * (width * q) + k)) marks i (omega arith)
+    table-get (λ k. is_set words (64 * (width * q) + k)) marks i false (omega arith)
     ∙ marked_same words other (width * q) i (same (i / 64) (omega arith) (omega arith))
-    ∙ sym (table-get (is_set other) n i (omega arith))
+    ∙ sym (table-get (is_set other) n i false (omega arith))
 
 marked_kept : (words after : List ℕ) (i : ℕ) → slice_index_or after (i / 64) 0 ≡ slice_index_or words (i / 64) 0 → is_set after i ≡ is_set words i
 unfolding is_set
@@ -160,11 +138,12 @@ pub row_kept : (words after : List ℕ) (width marks q : ℕ) → marks ≤ 64 *
     ((k : ℕ) → k < width → slice_index_or after (width * q + k) 0 ≡ slice_index_or words (width * q + k) 0) → row_at after width marks q ≡ row_at words width marks q
 unfolding row_at
 row_kept words after width marks q low same =
-    table-same (λ k. is_set after (64 * (width * q) + k)) (λ k. is_set words (64 * (width * q) + k)) marks
+    table-is (λ k. is_set after (64 * (width * q) + k)) marks (table (λ k. is_set words (64 * (width * q) + k)) marks) (length-table (λ k. is_set words (64 * (width * q) + k)) marks)
     (λ i lt.
     let place : (64 * (width * q) + i) / 64 ≡ width * q + i / 64 = omega arith in
     marked_kept words after (64 * (width * q) + i)
-    (subst (λ x. slice_index_or after x 0 ≡ slice_index_or words x 0) (sym place) (same (i / 64) (omega arith))))
+    (subst (λ x. slice_index_or after x 0 ≡ slice_index_or words x 0) (sym place) (same (i / 64) (omega arith)))
+    ∙ sym (table-get (λ k. is_set words (64 * (width * q) + k)) marks i false lt))
 
 -- words of one row are not those of another
 pub row_apart : (width q p k c : ℕ) → k < width → c ≤ width → q ≢ p → (width * q + k < width * p) ⊎ (width * p + c ≤ width * q + k)
@@ -175,25 +154,25 @@ row_apart width q p k c lt low apart =
     (cases_lt q p)
 
 -- what is known of the words of a row, for rows that contracts see as a list
-module _ (words : List ℕ) (width marks rows : ℕ) (seen : List (List Bool)) (is : rows_of words width marks rows ≡ seen) (wide : marks ≤ 64 * width) (long : width * rows ≤ length words) where
-  pub rows_seen : rows ≡ length seen
-  rows_seen = sym (length-rows_of words width marks rows) ∙ ap length is
+module _ (r : Inside) (seen : List (List Bool)) (is : rows_of r.words.items r.width r.marks r.count ≡ seen) (inside : (r.marks ≤ 64 * r.width) × (r.width * r.count ≤ length r.words.items)) where
+  pub rows_seen : r.count ≡ length seen
+  rows_seen = sym (length-rows_of r.words.items r.width r.marks r.count) ∙ ap length is
 
-  pub row_seen : (q : ℕ) → q < length seen → row_at words width marks q ≡ row_of seen q
-  row_seen q lt = let few = rows_seen in sym (rows_of-get words width marks rows q (omega arith)) ∙ ap (λ l. row_of l q) is
+  pub row_seen : (q : ℕ) → q < length seen → row_at r.words.items r.width r.marks q ≡ row_of seen q
+  row_seen q lt = let few = rows_seen in sym (rows_of-get r.words.items r.width r.marks r.count q (omega arith)) ∙ ap (λ l. row_of l q) is
 
-  pub marks_seen : (q : ℕ) → q < length seen → marks ≡ length (row_of seen q)
-  marks_seen q lt = sym (length-row_at words width marks q) ∙ ap length (row_seen q lt)
+  pub marks_seen : (q : ℕ) → q < length seen → r.marks ≡ length (row_of seen q)
+  marks_seen q lt = sym (length-row_at r.words.items r.width r.marks q) ∙ ap length (row_seen q lt)
 
-  pub words_there : (q c : ℕ) → q < length seen → c ≤ length (row_of seen q) → width * q + (c + 63) / 64 ≤ length words
+  pub words_there : (q c : ℕ) → q < length seen → c ≤ length (row_of seen q) → r.width * q + (c + 63) / 64 ≤ length r.words.items
   words_there q c lt low =
       let few = rows_seen in
       let all = marks_seen q lt in
-      let most : (c + 63) / 64 ≤ width = omega arith in
-      row_inside width rows q ((c + 63) / 64) (length words) (omega arith) most long
+      let most : (c + 63) / 64 ≤ r.width = omega (arith, all, inside.0) in
+      row_inside r.width r.count q ((c + 63) / 64) (length r.words.items) (omega arith) most inside.1
 
-  pub row_bit : (q i : ℕ) → q < length seen → i < length (row_of seen q) → slice_index_or (row_of seen q) i false ≡ is_set words (64 * (width * q) + i)
+  pub row_bit : (q i : ℕ) → q < length seen → i < length (row_of seen q) → slice_index_or (row_of seen q) i false ≡ is_set r.words.items (64 * (r.width * q) + i)
   unfolding row_at
   row_bit q i lt low =
       let all = marks_seen q lt in
-      ap (λ l. slice_index_or l i false) (sym (row_seen q lt)) ∙ table-get (λ k. is_set words (64 * (width * q) + k)) marks i (omega arith)
+      ap (λ l. slice_index_or l i false) (sym (row_seen q lt)) ∙ table-get (λ k. is_set r.words.items (64 * (r.width * q) + k)) r.marks i false (omega (arith, all, low))

@@ -3,7 +3,6 @@
 use Rattle.std.specs.Prelude.{◌≡◌, ℕ, ◌+◌, ◌<◌, ◌≤◌, List, length, slice_get, Option, Some, None}
 use Rattle.sedre.specs.Tree.{Tree}
 use Rattle.sedre.specs.declared.types.Node.{Node}
-use Rattle.sedre.specs.declared.types.Node.TheVariants.{Set, Begin, Seq, Alt, Group}
 use Rattle.sedtext.specs.Spans.{Matches, IsIn}
 use Rattle.sedtext.specs.declared.beginnings.Begins.{Begins}
 use Rattle.sedtext.specs.declared.beginnings.Begins.TheVariants.{Anyhow, AtStart, WithByte, WithSet}
@@ -34,28 +33,9 @@ abbrev pub skip_cost : ℕ → Option ℕ → ℕ
 skip_cost n None = n + 1
 skip_cost n (Some start) = start + 1
 
--- the part with which every span of the node begins
-abbrev pub left_part : Node → Option ℕ
-left_part (Seq a b) = Some a.index
-left_part (Group k a) = Some a.index
-left_part other = None
-
--- all spans of the node, which has no such part, begin so
-abbrev pub LeafBegins : Node → Begins → Type 0
-LeafBegins (Set s) begins = (w : List ℕ) (i : ℕ) → CanBegin (WithSet s) w i → CanBegin begins w i
-LeafBegins Begin begins = (w : List ℕ) (i : ℕ) → CanBegin AtStart w i → CanBegin begins w i
-LeafBegins (Seq a b) begins = Unit {0}
-LeafBegins (Group k a) begins = Unit {0}
-LeafBegins other begins = (w : List ℕ) (i : ℕ) → CanBegin begins w i
-
--- the node has no part with which its spans begin, and each span of the node x begins with a span of it
-abbrev pub IsLeftmost : List Node → ℕ → Node → Type 0
-IsLeftmost nodes x node = (y : ℕ) × (slice_get nodes y ≡ Some node) × (y ≤ x) × (left_part node ≡ None) × ((w : List ℕ) (i j : ℕ) → At nodes w x i j → (k : ℕ) × At nodes w y i k)
-
--- the two alternatives of a node
-abbrev pub alternatives : Node → Option (ℕ × ℕ)
-alternatives (Alt a b) = Some (a.index, b.index)
-alternatives other = None
+-- each span of the node x begins with a span of the node y
+abbrev pub LeadsWith : List Node → ℕ → ℕ → Type 0
+LeadsWith nodes x y = (w : List ℕ) (i j : ℕ) → At nodes w x i j → (k : ℕ) × At nodes w y i k
 
 -- no place from p up to but not including q begins a match
 abbrev pub NoneIn : Tree → List ℕ → ℕ → ℕ → Type 0

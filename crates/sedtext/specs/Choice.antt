@@ -5,8 +5,6 @@ use Rattle.memchr.specs.Find.{OccursAt}
 use Rattle.sedre.specs.declared.types.Node.{Node}
 use Rattle.sedtext.specs.Spans.{IsIn}
 use Rattle.sedtext.specs.Reach.{At}
-use Rattle.sedtext.specs.declared.counted.choice.Branches.{Branches}
-use Rattle.sedtext.specs.declared.counted.choice.Branches.TheVariants.{Both, Inner, Alone}
 
 -- one of the literals stands at the place
 abbrev pub ChoiceAt : List (List ℕ) → List ℕ → ℕ → Type 0
@@ -23,12 +21,6 @@ AllChoice nodes x words = (w : List ℕ) (i j : ℕ) → i ≤ length w → At n
 -- the spans of the node x are those of the literals and those of the node y
 abbrev pub ChoiceOr : List Node → ℕ → List (List ℕ) → ℕ → Type 0
 ChoiceOr nodes x words y = (w : List ℕ) (i j : ℕ) → i ≤ length w → At nodes w x i j ↔ (ChoiceSpans words w i j ⊎ At nodes w y i j)
-
--- the spans of the node x are those of its branches
-abbrev pub BranchesOf : List Node → ℕ → Branches → Type 0
-BranchesOf nodes x (Both y z) = (y < x) × (z < x) × ((w : List ℕ) (i j : ℕ) → At nodes w x i j ↔ (At nodes w y i j ⊎ At nodes w z i j))
-BranchesOf nodes x (Inner y) = (y < x) × ((w : List ℕ) (i j : ℕ) → At nodes w x i j ↔ At nodes w y i j)
-BranchesOf nodes x Alone = Unit {0}
 
 -- each of the first n literals begins with a byte among the heads
 abbrev pub HeadsIn : List Bool → List (List ℕ) → ℕ → Type 0

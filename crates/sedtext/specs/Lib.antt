@@ -13,6 +13,7 @@ pub mod PartMarks
 pub mod Reach
 pub mod Places
 pub mod Beginnings
+pub mod Forms
 pub mod Runs
 pub mod Following
 pub mod Needed

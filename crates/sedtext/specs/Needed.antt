@@ -1,6 +1,6 @@
 -- Private to the proofs: no contract that `sedmatch` makes public cites what stands here.
 -- Literals that the spans of an expression hold.
-use Rattle.std.specs.Prelude.{◌≡◌, ℕ, ◌+◌, ◌-◌, ◌<◌, ◌≤◌, ◌↔◌, Bool, List, length, Option, Some, None, IsTrue}
+use Rattle.std.specs.Prelude.{◌≡◌, ℕ, ◌+◌, ◌-◌, ◌<◌, ◌≤◌, ◌↔◌, List, length, Option, Some, None, IsTrue}
 use Rattle.memchr.specs.Find.{OccursAt}
 use Rattle.sedre.specs.Tree.{Tree}
 use Rattle.sedre.specs.declared.types.Node.{Node}
@@ -8,15 +8,12 @@ use Rattle.sedtext.specs.Bytes.{FirstFrom}
 use Rattle.sedtext.specs.Spans.{Matches, NotFound}
 use Rattle.sedtext.specs.Reach.{At}
 use Rattle.sedtext.specs.Beginnings.{CanBegin, NoneIn}
+use Rattle.sedtext.specs.Forms.{IsOfSet}
 use Rattle.sedtext.specs.declared.beginnings.Begins.TheVariants.{WithSet}
 use Rattle.sedtext.specs.declared.needed.Link.{Link}
 use Rattle.sedtext.specs.declared.needed.Link.TheVariants.{OneOf, Last, Inner, Other}
 use Rattle.sedtext.specs.declared.needed.Literal.{Literal}
 use Rattle.sedtext.specs.declared.needed.RequiredLiteral.{RequiredLiteral}
-
--- the spans of the node x are of one byte of the set
-abbrev pub IsOfSet : List Node → ℕ → List Bool → Type 0
-IsOfSet nodes x s = (w : List ℕ) (i j : ℕ) → At nodes w x i j ↔ (CanBegin (WithSet s) w i × (j ≡ i + 1))
 
 -- the spans of the node x are those that begin as the link says
 abbrev pub LinksTo : List Node → ℕ → Link → Type 0

@@ -53,10 +53,6 @@ Marked marks S P = (c : ℕ) → S c → IsTrue (slice_index_or marks c false) �
 abbrev pub PartFrom : List Node → ℕ → ℕ → ℕ → Type 0
 PartFrom nodes r y c = (c ≡ r) ⊎ ((z : ℕ) × (node : Node) × (y ≤ z) × (z ≤ r) × (slice_get nodes z ≡ Some node) × IsPart node c)
 
--- c is a part of a node above r
-abbrev pub IsLoose : List Node → ℕ → ℕ → Type 0
-IsLoose nodes r c = (z : ℕ) × (node : Node) × (r < z) × (slice_get nodes z ≡ Some node) × IsPart node c
-
 -- the longest span from i, if there is one
 abbrev pub IsLongestFrom : Tree → List ℕ → ℕ → Option ℕ → Type 0
 IsLongestFrom e w i None = (k : ℕ) → Matches e w i k → ⊥

@@ -1,15 +1,17 @@
 //! From which places a match can begin at all, so that the others are passed over.
-ghost use Rattle.std.specs.Prelude.{◌≡◌, ◌+◌, ◌-◌, ◌*◌, ◌<◌, ◌≤◌, length, IfSome};
+ghost use Rattle.std.specs.Prelude.{ℕ, List, ◌+◌, ◌-◌, ◌*◌, ◌<◌, ◌≤◌, length, IfSome};
 ghost use Rattle.sedre.specs.Arena.{IsArena};
 ghost use Rattle.sedre.specs.Tree.{expression_tree};
 ghost use Rattle.sedtext.specs.declared.beginnings.Begins.TheVariants.{WithSet};
-ghost use Rattle.sedtext.specs.Beginnings.{AllBegin, AllAt, NextStart, skip_cost, left_part, LeafBegins, IsLeftmost, alternatives};
+ghost use Rattle.sedtext.specs.Beginnings.{CanBegin, AllBegin, AllAt, LeadsWith, NextStart, skip_cost};
+ghost use Rattle.sedtext.specs.Forms.{IsLeftmost};
 ghost use Rattle.sedtext.specs.Costs.{CostsWithin};
 ghost use Rattle.sedre.specs.Steps.{Takes, TakesAtLeast};
 
 use crate::counted::Text;
 use crate::counted::members::find_member;
-use sedre::{ByteSet, Expr, Node, Steps};
+use crate::forms::{Form, form_of};
+use sedre::{ByteSet, Expr, Steps};
 
 /// How every span of an expression begins.
 #[derive(Clone, Copy)]
@@ -24,45 +26,44 @@ pub enum Begins {
     WithSet(ByteSet),
 }
 
-/// The part with which every span of a node begins, if the node has one.
-fn left_part(node: &Node) -> Option<usize>
-    ensures { result ≡ left_part node.now }
+/// What begins with a byte of the set.
+fn begins_with(set: ByteSet) -> Begins
+    ensures { (w : List ℕ) (i : ℕ) → CanBegin (WithSet set) w i → CanBegin result w i }
 {
-    match node {
-        Node::Seq(a, _) | Node::Group(_, a) => Some(a.index()),
-        _ => None,
+    match set.sole() {
+        Some(byte) => Begins::WithByte(byte),
+        None => Begins::WithSet(set),
     }
 }
 
-/// How every span of a node begins, if the node has no part with which all of them begin.
-fn begins_of(node: &Node) -> Begins
-    ensures { LeafBegins node.now result }
-{
-    match node {
-        Node::Set(set) => match set.sole() {
-            Some(byte) => Begins::WithByte(byte),
-            None => Begins::WithSet(*set),
-        },
-        Node::Begin => Begins::AtStart,
-        _ => Begins::Anyhow,
-    }
-}
-
-/// The node with which every span of a node begins and which has no such part itself: the last one on the way down its
-/// left side.
-fn left_leaf(expr: &Expr, from: usize, steps: &mut Steps) -> Node
+/// The form of the node with which every span of a node begins, the last one on the way down its left side.
+fn leftmost(expr: &Expr, from: usize, steps: &mut Steps) -> Form
     requires inside { from < length expr.now.nodes }
-    ensures leaf { IsLeftmost expr.now.nodes from result }
+    ensures leftmost { IsLeftmost expr.now.nodes from result }
     ensures cost { Takes steps.old steps.new (from + 1) }
-    ensures arena { IsArena expr.now.nodes }
 {
     let mut index = from;
     loop {
-        let node = expr.look(expr.id(index), steps);
-        match left_part(&node) {
-            Some(part) => index = part,
-            None => return node,
+        match form_of(expr, index, steps) {
+            Form::Both(part, _) | Form::Inner(part) => index = part,
+            form => return form,
         }
+    }
+}
+
+/// The node with which every span of a node begins: what follows a `^` where it begins with one, or else the node itself.
+fn past_anchor(expr: &Expr, from: usize, steps: &mut Steps) -> usize
+    requires inside { from < length expr.now.nodes }
+    ensures within { result ≤ from }
+    ensures leads { LeadsWith expr.now.nodes from result }
+    ensures cost { Takes steps.old steps.new 2 }
+{
+    match form_of(expr, from, steps) {
+        Form::Both(anchor, rest) => match form_of(expr, anchor, steps) {
+            Form::Start => rest,
+            _ => from,
+        },
+        _ => from,
     }
 }
 
@@ -70,56 +71,35 @@ fn left_leaf(expr: &Expr, from: usize, steps: &mut Steps) -> Node
 fn first_set(expr: &Expr, from: usize, steps: &mut Steps) -> Option<ByteSet>
     requires inside { from < length expr.now.nodes }
     ensures begins { IfSome result (λ s. AllAt expr.now.nodes from (WithSet s)) }
-    ensures cost { Takes steps.old steps.new (from + 1) }
+    ensures cost { Takes steps.old steps.new (from + 3) }
 {
-    match left_leaf(expr, from, steps) {
-        Node::Set(set) => Some(set),
+    let first = past_anchor(expr, from, steps);
+    match leftmost(expr, first, steps) {
+        Form::Byte(set) => Some(set),
         _ => None,
     }
 }
 
-/// The two alternatives of a node, if it has them.
-fn alternatives(node: &Node) -> Option<(usize, usize)>
-    ensures { result ≡ alternatives node.now }
-{
-    match node {
-        Node::Alt(a, b) => Some((a.index(), b.index())),
-        _ => None,
-    }
-}
-
-/// How every span of two alternatives begins. The second may have alternatives of its own.
-fn begins_either(expr: &Expr, left: usize, right: usize, steps: &mut Steps) -> Begins
-    requires left { left < length expr.now.nodes }
-    requires right { right < length expr.now.nodes }
-    ensures left { AllAt expr.now.nodes left result }
-    ensures right { AllAt expr.now.nodes right result }
+/// The set with which every span of two alternatives begins, if there is one. The second may have alternatives of its own.
+fn either_set(expr: &Expr, left: usize, right: usize, steps: &mut Steps) -> Option<ByteSet>
+    requires left { left + 1 < length expr.now.nodes }
+    requires right { right + 1 < length expr.now.nodes }
+    ensures left { IfSome result (λ s. AllAt expr.now.nodes left (WithSet s)) }
+    ensures right { IfSome result (λ s. AllAt expr.now.nodes right (WithSet s)) }
     ensures cost { Takes steps.old steps.new (8 * length expr.now.nodes) }
 {
-    let Some(set) = first_set(expr, left, steps) else {
-        return Begins::Anyhow;
-    };
-    let mut members = set;
+    let mut members = first_set(expr, left, steps)?;
     let mut rest = right;
     for _turn in 1..4usize {
-        let node = expr.look(expr.id(rest), steps);
-        match alternatives(&node) {
-            Some((part, next)) => {
-                let Some(set) = first_set(expr, part, steps) else {
-                    return Begins::Anyhow;
-                };
-                members = members.union(&set);
-                rest = next;
-            }
-            None => {
-                let Some(set) = first_set(expr, rest, steps) else {
-                    return Begins::Anyhow;
-                };
-                return Begins::WithSet(members.union(&set));
-            }
-        }
+        let Form::Either(part, next) = form_of(expr, rest, steps) else {
+            let last = first_set(expr, rest, steps)?;
+            return Some(members.union(&last));
+        };
+        let set = first_set(expr, part, steps)?;
+        members = members.union(&set);
+        rest = next;
     }
-    Begins::Anyhow
+    None
 }
 
 /// How every span of the expression begins, as far as the nodes tell that can come first in one.
@@ -129,10 +109,14 @@ pub fn how_begins(expr: &Expr, steps: &mut Steps) -> Begins
     ensures arena { IsArena expr.now.nodes }
 {
     let root = expr.root().index();
-    let leaf = left_leaf(expr, root, steps);
-    match alternatives(&leaf) {
-        Some((left, right)) => begins_either(expr, left, right, steps),
-        None => begins_of(&leaf),
+    match leftmost(expr, root, steps) {
+        Form::Byte(set) => begins_with(set),
+        Form::Start => Begins::AtStart,
+        Form::Either(left, right) => match either_set(expr, left, right, steps) {
+            Some(set) => begins_with(set),
+            None => Begins::Anyhow,
+        },
+        _ => Begins::Anyhow,
     }
 }
 

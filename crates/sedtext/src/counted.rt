@@ -34,6 +34,9 @@ pub struct Text<'a> {
     bytes: &'a [u8],
 }
 
+/// A text that a loop looks at which counts its looks in a tally.
+pub type Bytes<'a> = Text<'a>;
+
 impl<'a> Model for Text<'a> {
     ghost Value = { List ℕ };
 
@@ -66,11 +69,11 @@ impl<'a> Text<'a> {
         place + count
     }
 
-    /// Its bytes, for a loop that counts its looks in a tally.
+    /// The text again, for a loop that counts its looks in a tally.
     pub fn forwards(&self) -> Bytes<'a>
         ensures { result ≡ self.now }
     {
-        Bytes { bytes: self.bytes }
+        Text { bytes: self.bytes }
     }
 
     /// The byte at a place. Counts one look.
@@ -81,6 +84,17 @@ impl<'a> Text<'a> {
         ensures counts { TakesExactly steps.old steps.new 1 }
     {
         steps.add(1);
+        self.bytes[i]
+    }
+
+    /// The byte at a place. Counts one look in the tally.
+    pub fn tallied(&self, i: usize, tally: &mut Tally) -> u8
+        requires inside { i < length self.now }
+        requires fits { tally.old + 1 < 2 ^ 64 }
+        ensures byte { slice_get self.now i ≡ Some result }
+        ensures cost { tally.new ≡ tally.old + 1 }
+    {
+        tally.add();
         self.bytes[i]
     }
 
@@ -118,18 +132,6 @@ fn all_bytes(bytes: &[u8])
     let _count = bytes.len();
 }
 
-/// The bytes of a text, looked at by calls that count, in a tally too.
-#[derive(Drop)]
-pub struct Bytes<'a> {
-    bytes: &'a [u8],
-}
-
-impl<'a> Model for Bytes<'a> {
-    ghost Value = { List ℕ };
-
-    ghost view = { λ b. b.bytes.now };
-}
-
 /// The bytes that one loop looks at, counted apart from the steps, to which they are added at its end: so the count
 /// stays in a register.
 #[derive(Drop)]
@@ -164,38 +166,6 @@ impl Tally {
         ensures { result ≡ self.now }
     {
         self.count
-    }
-}
-
-impl<'a> Bytes<'a> {
-    /// How many bytes there are.
-    pub fn len(&self) -> usize
-        ensures is { result ≡ length self.now }
-        ensures short { result < 2 ^ 63 }
-    {
-        self.bytes.len()
-    }
-
-    /// The byte at a place. Counts one look.
-    pub fn byte(&self, i: usize, steps: &mut Steps) -> u8
-        requires inside { i < length self.now }
-        ensures byte { slice_get self.now i ≡ Some result }
-        ensures cost { Takes steps.old steps.new 1 }
-        ensures counts { TakesExactly steps.old steps.new 1 }
-    {
-        steps.add(1);
-        self.bytes[i]
-    }
-
-    /// The byte at a place. Counts one look in the tally.
-    pub fn tallied(&self, i: usize, tally: &mut Tally) -> u8
-        requires inside { i < length self.now }
-        requires fits { tally.old + 1 < 2 ^ 64 }
-        ensures byte { slice_get self.now i ≡ Some result }
-        ensures cost { tally.new ≡ tally.old + 1 }
-    {
-        tally.add();
-        self.bytes[i]
     }
 }
 
@@ -307,17 +277,18 @@ fn lowest(word: u64, count: usize) -> u64
     }
 }
 
-/// Whether none of the first `count` bits of the words is set.
-fn are_clear(words: &Vec<u64>, count: usize) -> bool
-    requires { count ≤ 64 * vec_len words.now }
-    ensures { IsTrue result ↔ ((c : ℕ) → c < count → is_set words.now.items c ≡ false) }
+/// Whether some of the first `count` bits of the words from `at` on is set in those of `other` from `from` on too.
+fn words_meet(words: &Vec<u64>, at: usize, other: &Vec<u64>, from: usize, count: usize) -> bool
+    requires inside { 64 * at + count ≤ 64 * vec_len words.now }
+    requires there { 64 * from + count ≤ 64 * vec_len other.now }
+    ensures { IsTrue result ↔ ((c : ℕ) × (c < count) × IsTrue (is_set words.now.items (64 * at + c)) × IsTrue (is_set other.now.items (64 * from + c))) }
 {
     for x in 0..count.div_ceil(64) {
-        if lowest(words[x], count - 64 * x) != 0 {
-            return false;
+        if lowest(words[at + x] & other[from + x], count - 64 * x) != 0 {
+            return true;
         }
     }
-    true
+    false
 }
 
 /// A number made of the first `count` words.

@@ -14,6 +14,7 @@
 
 pub mod beginnings;
 pub mod counted;
+mod forms;
 mod found;
 pub mod hints;
 mod laws;

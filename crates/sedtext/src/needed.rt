@@ -3,7 +3,7 @@
 //! A concatenation is followed from part to part, and single bytes that stand one after another in it are a literal.
 ghost use Rattle.std.specs.Prelude.{◌≡◌, ℕ, ◌-◌, ◌<◌, ◌≤◌, ◌⊎◌, length, IfOk, IfSome};
 ghost use Rattle.sedre.specs.Tree.{expression_tree, Tree};
-ghost use Rattle.sedtext.specs.Needed.{IsOfSet, LinksTo, IsLiteral, AllHold, AllEndWith, IsNeeded, Narrowed};
+ghost use Rattle.sedtext.specs.Needed.{LinksTo, IsLiteral, AllHold, AllEndWith, IsNeeded, Narrowed};
 ghost use Rattle.sedtext.specs.Spans.{IsIn};
 ghost use Rattle.sedtext.specs.Nodes.{IsNode};
 ghost use Rattle.sedtext.specs.Costs.{CostsWithin};
@@ -11,8 +11,9 @@ ghost use Rattle.sedre.specs.Steps.{Takes, TakesAtLeast};
 
 use crate::counted::Text;
 use crate::counted::lookups::find_literal;
+use crate::forms::{Form, form_of, set_of};
 use memchr::memmem::Finder;
-use sedre::{ByteSet, Expr, Node, Steps};
+use sedre::{ByteSet, Expr, Steps};
 use std::alloc::{AllocError, Global};
 
 /// The most bytes of a literal.
@@ -49,35 +50,20 @@ pub struct RequiredLiteral {
     pub is_prefix: bool,
 }
 
-/// The set that the node at the index is, if it is one.
-pub(crate) fn set_of(expr: &Expr, index: usize, steps: &mut Steps) -> Option<ByteSet>
-    requires inside { index < length expr.now.nodes }
-    ensures set { IfSome result (λ s. IsOfSet expr.now.nodes index s) }
-    ensures cost { Takes steps.old steps.new 1 }
-{
-    match expr.look(expr.id(index), steps) {
-        Node::Set(set) => Some(set),
-        _ => None,
-    }
-}
-
 /// How the spans of the node begin.
 pub fn link_of(expr: &Expr, index: usize, steps: &mut Steps) -> Link
     requires inside { index < length expr.now.nodes }
     ensures links { LinksTo expr.now.nodes index result }
     ensures cost { Takes steps.old steps.new 2 }
 {
-    let node = expr.look(expr.id(index), steps);
-    match node {
-        Node::Seq(a, b) => match set_of(expr, a.index(), steps) {
-            Some(set) => Link::OneOf(set, b.index()),
+    match form_of(expr, index, steps) {
+        Form::Both(first, next) => match set_of(expr, first, steps) {
+            Some(set) => Link::OneOf(set, next),
             None => Link::Other,
         },
-        Node::Group(_, a) => Link::Inner(a.index()),
-        _ => match set_of(expr, index, steps) {
-            Some(set) => Link::Last(set),
-            None => Link::Other,
-        },
+        Form::Inner(part) => Link::Inner(part),
+        Form::Byte(set) => Link::Last(set),
+        _ => Link::Other,
     }
 }
 
@@ -131,20 +117,6 @@ pub fn literal_from(
     })
 }
 
-/// The second part of the node at the index, if it is a concatenation.
-fn second_of(expr: &Expr, index: usize, steps: &mut Steps) -> Option<usize>
-    requires inside { index < length expr.now.nodes }
-    ensures below { IfSome result (λ y. y < index) }
-    ensures ends { IfSome result (λ y. AllEndWith expr.now.nodes index y) }
-    ensures cost { Takes steps.old steps.new 1 }
-{
-    let node = expr.look(expr.id(index), steps);
-    match node {
-        Node::Seq(_, b) => Some(b.index()),
-        _ => None,
-    }
-}
-
 /// The longer of two literals.
 fn longer(first: Vec<u8>, second: Vec<u8>) -> Vec<u8>
     ensures { (result.items ≡ first.items) ⊎ (result.items ≡ second.items) }
@@ -174,7 +146,7 @@ fn longest_literal(
         let Some(rest) = rest else {
             return Ok(best);
         };
-        let Some(next) = second_of(expr, rest, steps) else {
+        let Form::Both(_, next) = form_of(expr, rest, steps) else {
             return Ok(best);
         };
         index = next;

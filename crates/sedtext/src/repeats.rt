@@ -3,8 +3,8 @@ ghost use Rattle.std.specs.Prelude.{◌<◌, length, IfSome};
 ghost use Rattle.sedtext.specs.Runs.{AllRepeat};
 ghost use Rattle.sedre.specs.Steps.{Takes};
 
-use crate::needed::set_of;
-use sedre::{ByteSet, Expr, Node, Steps};
+use crate::forms::{Form, form_of, set_of};
+use sedre::{ByteSet, Expr, Steps};
 
 /// The set that the node at the index repeats, if it is a repetition of a set.
 fn bare_star_set(expr: &Expr, index: usize, steps: &mut Steps) -> Option<ByteSet>
@@ -12,8 +12,8 @@ fn bare_star_set(expr: &Expr, index: usize, steps: &mut Steps) -> Option<ByteSet
     ensures repeats { IfSome result (λ s. AllRepeat expr.now.nodes index s) }
     ensures cost { Takes steps.old steps.new 2 }
 {
-    match expr.look(expr.id(index), steps) {
-        Node::Star(a, _) => set_of(expr, a.index(), steps),
+    match form_of(expr, index, steps) {
+        Form::Copies(part) => set_of(expr, part, steps),
         _ => None,
     }
 }
@@ -24,8 +24,8 @@ pub fn star_set(expr: &Expr, index: usize, steps: &mut Steps) -> Option<ByteSet>
     ensures repeats { IfSome result (λ s. AllRepeat expr.now.nodes index s) }
     ensures cost { Takes steps.old steps.new 3 }
 {
-    match expr.look(expr.id(index), steps) {
-        Node::Group(_, a) => bare_star_set(expr, a.index(), steps),
+    match form_of(expr, index, steps) {
+        Form::Inner(part) => bare_star_set(expr, part, steps),
         _ => bare_star_set(expr, index, steps),
     }
 }

@@ -11,7 +11,8 @@ ghost use Rattle.sedre.specs.Steps.{Takes, TakesAtLeast};
 use crate::counted::Text;
 use crate::counted::few::members_of;
 use crate::counted::members::run_begin;
-use sedre::{ByteSet, Expr, Node, Steps};
+use crate::forms::{Form, form_of, set_of};
+use sedre::{ByteSet, Expr, Steps};
 use std::alloc::{AllocError, Global};
 
 /// Whether the sets have the same bytes.
@@ -41,16 +42,16 @@ fn width_of(
     ensures width { IfSome result (λ count. AllTimes expr.now.nodes index set.now count) }
     ensures cost { Takes steps.old steps.new 1 }
 {
-    match expr.look(expr.id(index), steps) {
-        Node::Set(other) => {
+    match form_of(expr, index, steps) {
+        Form::Byte(other) => {
             if same_bytes(&other, set) {
                 Some(1)
             } else {
                 None
             }
         }
-        Node::Seq(a, b) => widths[a.index()].checked_add(widths[b.index()]),
-        Node::Group(_, a) => Some(widths[a.index()]),
+        Form::Both(first, second) => widths[first].checked_add(widths[second]),
+        Form::Inner(part) => Some(widths[part]),
         _ => None,
     }
 }
@@ -66,7 +67,7 @@ pub fn times_of(
     ensures cost { Takes steps.old steps.new 65537 }
 {
     let count = expr.nodes();
-    let Node::Set(set) = expr.look(expr.id(0), steps) else {
+    let Some(set) = set_of(expr, 0, steps) else {
         return Ok(None);
     };
     if members_of(&set).is_some() {

@@ -6,16 +6,17 @@
 ghost use Rattle.std.specs.Prelude.{◌≡◌, ℕ, List, ◌+◌, ◌*◌, ◌<◌, ◌≤◌, ◌-◌, ◌↔◌, length, IfOk, IfSome, IsTrue, slice_get, Some};
 ghost use Rattle.memchr.specs.Find.{OccursAt};
 ghost use Rattle.sedtext.specs.Word.{AllWord};
-ghost use Rattle.sedtext.specs.Choice.{AllChoice, AreHeads, AreShort, BranchesOf, ChoiceAt, ChoiceEnd, ChoiceSpans, FirstChoice, Longer, LongestAt};
+ghost use Rattle.sedtext.specs.Choice.{AllChoice, AreHeads, AreShort, ChoiceAt, ChoiceEnd, ChoiceSpans, FirstChoice, Longer, LongestAt};
 ghost use Rattle.sedtext.specs.Openings.{PairAt};
 ghost use Rattle.sedtext.specs.Bytes.{looked_at};
 ghost use Rattle.sedtext.specs.Nodes.{IsNode};
 ghost use Rattle.sedre.specs.Steps.{Takes, TakesExactly, TakesAtLeast};
 
-use super::openings::{Opening, first_opened, openings_of};
+use super::openings::{Opening, first_opened, heads_of, openings_of};
 use super::{Text, uncounted};
+use crate::forms::{Form, form_of};
 use crate::needed::{Literal, literal_from};
-use sedre::{Expr, Node, Steps};
+use sedre::{Expr, Steps};
 use std::alloc::{AllocError, Global};
 use std::marker::Model;
 
@@ -58,17 +59,6 @@ impl Alternative {
             second: self.bytes[1],
         })
     }
-
-    /// The byte with which it begins.
-    fn head(&self) -> Option<u8>
-        ensures { IfSome result (λ c. slice_get self.now 0 ≡ Some c) }
-    {
-        if self.bytes.is_empty() {
-            None
-        } else {
-            Some(self.bytes[0])
-        }
-    }
 }
 
 /// A few literals, one of which is sought.
@@ -91,31 +81,6 @@ impl Model for Choice {
     ghost view = { λ c. c.literals.items };
 
     ghost invariant = { λ c. AreHeads c.heads.items c.literals.items × AreShort c.literals.items × OpenLiterals c.openings.items c.literals.items (length c.literals.items) };
-}
-
-/// What the spans of a node are made of.
-#[derive(Clone, Copy)]
-pub enum Branches {
-    /// The spans of either node.
-    Both(usize, usize),
-    /// The spans of this node.
-    Inner(usize),
-    /// That isn't known.
-    Alone,
-}
-
-/// The alternatives of the node, or what stands in it where it is a group.
-fn branches_of(expr: &Expr, index: usize, steps: &mut Steps) -> Branches
-    requires inside { index < length expr.now.nodes }
-    ensures branches { BranchesOf expr.now.nodes index result }
-    ensures cost { Takes steps.old steps.new 1 }
-{
-    let node = expr.look(expr.id(index), steps);
-    match node {
-        Node::Alt(a, b) => Branches::Both(a.index(), b.index()),
-        Node::Group(_, a) => Branches::Inner(a.index()),
-        _ => Branches::Alone,
-    }
 }
 
 /// The literal that the node matches and nothing else, if there is one, of a byte or more and of at most `most`.
@@ -153,9 +118,9 @@ fn literals_of(
     let mut index = expr.root().index();
     let mut left = MAX_BYTES;
     while literals.len() < MAX_LITERALS - 1 {
-        match branches_of(expr, index, steps) {
-            Branches::Inner(part) => index = part,
-            Branches::Both(part, rest) => {
+        match form_of(expr, index, steps) {
+            Form::Inner(part) => index = part,
+            Form::Either(part, rest) => {
                 let Some(literal) = literal_at(alloc, expr, part, left, steps)? else {
                     return Ok(None);
                 };
@@ -163,7 +128,7 @@ fn literals_of(
                 literals.push(literal)?;
                 index = rest;
             }
-            Branches::Alone => break,
+            _ => break,
         }
     }
     let Some(last) = literal_at(alloc, expr, index, left, steps)? else {
@@ -171,20 +136,6 @@ fn literals_of(
     };
     literals.push(last)?;
     Ok(Some(literals))
-}
-
-/// A mark for each byte, set at those with which a literal begins, if no literal is empty.
-fn heads_of(alloc: Global, literals: &[Alternative]) -> Result<Option<Vec<bool>>, AllocError>
-    ensures { IfOk result (λ r. IfSome r (λ h. AreHeads h.items literals.now)) }
-{
-    let mut heads = vec![in alloc; false; 256]?;
-    for x in 0..literals.len() {
-        let Some(byte) = literals[x].head() else {
-            return Ok(None);
-        };
-        heads[usize::from(byte)] = true;
-    }
-    Ok(Some(heads))
 }
 
 /// The two literals or more that the expression matches and nothing else, if there are such and they are few and short, and
@@ -203,14 +154,11 @@ pub fn choice_of(
     if literals.len() < 2 {
         return Ok(None);
     }
-    let Some(heads) = heads_of(alloc, &literals)? else {
-        return Ok(None);
-    };
     let Some(openings) = openings_of(alloc, &literals)? else {
         return Ok(None);
     };
     Ok(Some(Choice {
-        heads,
+        heads: heads_of(alloc, &openings)?,
         openings,
         literals,
     }))

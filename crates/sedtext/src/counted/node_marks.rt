@@ -2,7 +2,7 @@
 ghost use Rattle.std.specs.Prelude.{◌≡◌, ℕ, Bool, false, List, ◌<◌, ◌≤◌, length, slice_index_or, slice_set, IsTrue, ◌↔◌};
 ghost use Rattle.sedre.specs.Steps.{Takes, TakesExactly};
 
-use super::{Marks, are_clear, clear_words, digest_words};
+use super::{Marks, clear_words, digest_words, words_meet};
 use sedre::Steps;
 use std::alloc::{AllocError, Global};
 use std::marker::Model;
@@ -90,7 +90,8 @@ impl NodeMarks {
         ensures counts { TakesExactly steps.old steps.new count }
     {
         steps.add(count);
-        are_clear(&self.list().words, count)
+        let words = &self.list().words;
+        !words_meet(words, 0, words, 0, count)
     }
 
     /// A number made of the first `count` marks and the rest of their last word.

@@ -1,6 +1,6 @@
 //! The first two bytes of each literal of a choice, compared with 32 places at once: at nearly every place they tell that
 //! none of the literals stands there.
-ghost use Rattle.std.specs.Prelude.{◌≡◌, ℕ, ◌+◌, ◌^◌, ◌<◌, ◌≤◌, length, slice_get, IfOk, IfSome, Some};
+ghost use Rattle.std.specs.Prelude.{◌≡◌, ℕ, List, ◌+◌, ◌^◌, ◌<◌, ◌≤◌, length, slice_get, IfOk, IfSome, Some};
 ghost use Rattle.std.specs.Int.{bit_at};
 ghost use Rattle.sedtext.specs.Choice.{AreHeads, FirstChoice};
 ghost use Rattle.sedtext.specs.Few.{ZerosWhere};
@@ -53,6 +53,18 @@ fn opening_at(openings: &[Opening], x: usize) -> Opening
     ensures opening { slice_get openings.now x ≡ Some result }
 {
     openings[x]
+}
+
+/// A mark for each byte, set at those with which an opening begins.
+pub(super) fn heads_of(alloc: Global, openings: &[Opening]) -> Result<Vec<bool>, AllocError>
+    ensures { IfOk result (λ h. (words : List (List ℕ)) → OpenLiterals openings.now words (length words) → AreHeads h.items words) }
+{
+    let mut heads = vec![in alloc; false; 256]?;
+    for x in 0..openings.len() {
+        let opening = opening_at(openings, x);
+        heads[usize::from(opening.first)] = true;
+    }
+    Ok(heads)
 }
 
 /// Lanes of which those are 0 in which one of the openings stands.

@@ -2,9 +2,8 @@
 ghost use Rattle.std.specs.Prelude.{◌≡◌, ◌≢◌, ℕ, Bool, List, ◌+◌, ◌*◌, ◌<◌, ◌≤◌, length, slice_index_or, vec_len, IfOk, IsTrue, ◌↔◌, false};
 ghost use Rattle.sedtext.specs.Words.{AgreeBelow, rows_of, row_of};
 ghost use Rattle.sedre.specs.Steps.{Takes, TakesExactly};
-ghost use Rattle.sedre.specs.Words.{is_set};
 
-use super::{NodeMarks, has_bit, lowest, zero_words};
+use super::{NodeMarks, has_bit, words_meet, zero_words};
 use sedre::Steps;
 use std::alloc::{AllocError, Global};
 use std::marker::Model;
@@ -184,18 +183,4 @@ fn same_words(words: &Vec<u64>, at: usize, other: &Vec<u64>, count: usize) -> bo
         }
     }
     true
-}
-
-/// Whether some of the first `count` bits of the words from `at` on is set in those of `other` from `from` on too.
-fn words_meet(words: &Vec<u64>, at: usize, other: &Vec<u64>, from: usize, count: usize) -> bool
-    requires inside { 64 * at + count ≤ 64 * vec_len words.now }
-    requires there { 64 * from + count ≤ 64 * vec_len other.now }
-    ensures { IsTrue result ↔ ((c : ℕ) × (c < count) × IsTrue (is_set words.now.items (64 * at + c)) × IsTrue (is_set other.now.items (64 * from + c))) }
-{
-    for x in 0..count.div_ceil(64) {
-        if lowest(words[at + x] & other[from + x], count - 64 * x) != 0 {
-            return true;
-        }
-    }
-    false
 }

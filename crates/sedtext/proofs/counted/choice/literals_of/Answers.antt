@@ -10,15 +10,15 @@ loop-steps-preserved c =
     let nodes = c.args.expr.now.nodes in
     let old = c.loop-steps.literals.items in
     let literal = c.in-Some.literal in
-    let read = c.in_ok-literal-in-Both.ensures in
-    let all = subst (λ r. IfSome r (λ a. AllWord nodes c.in-Both.part a)) c.in-Some.is read.literal in
+    let read = c.in_ok-literal-in-Either.ensures in
+    let all = subst (λ r. IfSome r (λ a. AllWord nodes c.in-Either.part a)) c.in-Some.is read.literal in
     let long = subst (λ r. IfSome r (λ a. (0 < length a) × (length a ≤ c.loop-steps.left))) c.in-Some.is read.long in
-    let items = c.in_ok-push-in-Both.ensures.items in
+    let items = c.in_ok-push-in-Either.ensures.items in
     let count : length c.push.new.self.items ≡ length old + 1 = ap length items ∙ length-append old (literal ∷ []) in
     let sum : bytes_in c.push.new.self.items ≡ bytes_in old + length literal = ap bytes_in items ∙ more_bytes old literal in
     let cut : length c.bytes.result.now ≡ length literal = ap length c.bytes.ensures in
     let fits = long.1 in
-    let below = c.in-Both.ensures.branches.1 in
+    let below = c.in-Either.ensures.form.1 in
     let so = c.loop-steps.invariant in
     record {
       inside = omega (arith, below);
@@ -26,8 +26,8 @@ loop-steps-preserved c =
       short = omega (arith, sum, cut, fits, so.short);
       grows = omega arith;
       cost = omega (arith, count, below, so.cost);
-      choice = subst (λ v. ChoiceOr nodes (length nodes - 1) v c.in-Both.rest) (sym items)
-          (choice_both nodes (length nodes - 1) old literal c.loop-steps.index c.in-Both.part c.in-Both.rest so.choice c.in-Both.ensures.branches all);
+      choice = subst (λ v. ChoiceOr nodes (length nodes - 1) v c.in-Either.rest) (sym items)
+          (choice_both nodes (length nodes - 1) old literal c.loop-steps.index c.in-Either.part c.in-Either.rest so.choice c.in-Either.ensures.form all);
     }
 
 pub returns-clause-choice : goal.returns-clause-choice

@@ -6,7 +6,7 @@ use Rattle.sedtext.proofs.counted.rows.Rows.load.Goals as goal
 
 pub overflow_mul-self-inside : goal.overflow_mul-self-inside
 overflow_mul-self-inside c =
-    let there = words_there c.self.inside.words.items c.self.inside.width c.self.inside.marks c.self.inside.count c.args.self.now c.self.view_is c.self.invariant.0 c.self.invariant.1 c.args.row c.args.count c.requires.row c.requires.inside in
+    let there = words_there c.self.inside c.args.self.now c.self.view_is c.self.invariant c.args.row c.args.count c.requires.row c.requires.inside in
     omega (arith, there, c.self.inside.words.ok)
 
 pub copy_words-requires-clause-inside : goal.copy_words-requires-clause-inside
@@ -18,7 +18,7 @@ copy_words-requires-clause-inside c =
 
 pub copy_words-requires-clause-there : goal.copy_words-requires-clause-there
 copy_words-requires-clause-there c =
-    let there = words_there c.self.inside.words.items c.self.inside.width c.self.inside.marks c.self.inside.count c.args.self.now c.self.view_is c.self.invariant.0 c.self.invariant.1 c.args.row c.args.count c.requires.row c.requires.inside in
+    let there = words_there c.self.inside c.args.self.now c.self.view_is c.self.invariant c.args.row c.args.count c.requires.row c.requires.inside in
     omega (arith, there)
 
 pub invariant_of-marks : goal.invariant_of-marks
@@ -35,7 +35,7 @@ returns-clause-same c k lt =
     let row = c.args.row in
     let n = c.marks-inside.inside.0.0.count in
     let room : n ≡ 65536 = sym (length-marks_of c.marks-inside.inside.0.0.words.items n) ∙ ap (λ (v : Inside). length v.marks) c.marks-inside.view_is ∙ c.marks.invariant in
-    let all = marks_seen c.self.inside.words.items c.self.inside.width c.self.inside.marks c.self.inside.count c.args.self.now c.self.view_is c.self.invariant.0 c.self.invariant.1 row c.requires.row in
+    let all = marks_seen c.self.inside c.args.self.now c.self.view_is c.self.invariant row c.requires.row in
     let low : c.args.count ≤ marks = omega (arith, all, c.requires.inside) in
     let high : c.args.count ≤ n = omega (arith, room, c.requires.there) in
     sym (row_agrees words c.copy_words.new.words.items width marks n row c.args.count low high
@@ -43,4 +43,4 @@ returns-clause-same c k lt =
     let same = c.copy_words.ensures.same x (omega arith) in
     let e : 0 + x ≡ x = omega arith in
     sym same ∙ ap (λ v. slice_index_or c.copy_words.new.words.items v 0) e) k lt)
-    ∙ ap (λ l. slice_index_or l k false) (row_seen c.self.inside.words.items c.self.inside.width c.self.inside.marks c.self.inside.count c.args.self.now c.self.view_is c.self.invariant.0 c.self.invariant.1 row c.requires.row)
+    ∙ ap (λ l. slice_index_or l k false) (row_seen c.self.inside c.args.self.now c.self.view_is c.self.invariant row c.requires.row)

@@ -5,12 +5,12 @@ use Rattle.sedtext.proofs.counted.rows.Rows.same.Goals as goal
 
 pub overflow_mul-self-inside : goal.overflow_mul-self-inside
 overflow_mul-self-inside c =
-    let there = words_there c.self.inside.words.items c.self.inside.width c.self.inside.marks c.self.inside.count c.args.self.now c.self.view_is c.self.invariant.0 c.self.invariant.1 c.args.row c.args.count c.requires.row c.requires.inside in
+    let there = words_there c.self.inside c.args.self.now c.self.view_is c.self.invariant c.args.row c.args.count c.requires.row c.requires.inside in
     omega (arith, there, c.self.inside.words.ok)
 
 pub same_words-requires-clause-inside : goal.same_words-requires-clause-inside
 same_words-requires-clause-inside c =
-    let there = words_there c.self.inside.words.items c.self.inside.width c.self.inside.marks c.self.inside.count c.args.self.now c.self.view_is c.self.invariant.0 c.self.invariant.1 c.args.row c.args.count c.requires.row c.requires.inside in
+    let there = words_there c.self.inside c.args.self.now c.self.view_is c.self.invariant c.args.row c.args.count c.requires.row c.requires.inside in
     omega (arith, there)
 
 pub same_words-requires-clause-there : goal.same_words-requires-clause-there
@@ -23,10 +23,10 @@ returns-clause-same c hit k lt =
     let marks = c.self.inside.marks in
     let row = c.args.row in
     let n = c.behind-marks.inside.count in
-    let all = marks_seen c.self.inside.words.items c.self.inside.width c.self.inside.marks c.self.inside.count c.args.self.now c.self.view_is c.self.invariant.0 c.self.invariant.1 row c.requires.row in
+    let all = marks_seen c.self.inside c.args.self.now c.self.view_is c.self.invariant row c.requires.row in
     let low : c.args.count ≤ marks = omega (arith, all, c.requires.inside) in
     let high : c.args.count ≤ n = omega (arith, ap length c.behind-marks.view_is, c.list.ensures.room, length-marks_of c.behind-marks.inside.words.items n, c.requires.there) in
-    ap (λ l. slice_index_or l k false) (sym (row_seen c.self.inside.words.items c.self.inside.width c.self.inside.marks c.self.inside.count c.args.self.now c.self.view_is c.self.invariant.0 c.self.invariant.1 row c.requires.row))
+    ap (λ l. slice_index_or l k false) (sym (row_seen c.self.inside c.args.self.now c.self.view_is c.self.invariant row c.requires.row))
     ∙ row_agrees words c.behind-marks.inside.words.items width marks n row c.args.count low high
     (λ x near inside. c.same_words.ensures.same hit x (omega arith)) k lt
     ∙ ap (λ l. slice_index_or l k false) (c.behind-marks.view_is ∙ c.list.ensures.same)

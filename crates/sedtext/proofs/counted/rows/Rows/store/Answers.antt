@@ -5,12 +5,12 @@ use Rattle.sedtext.proofs.counted.rows.Rows.store.Goals as goal
 
 pub overflow_mul-self-inside : goal.overflow_mul-self-inside
 overflow_mul-self-inside c =
-    let there = words_there c.self.inside.words.items c.self.inside.width c.self.inside.marks c.self.inside.count c.args.self.now c.self.view_is c.self.invariant.0 c.self.invariant.1 c.args.row c.args.count c.requires.row c.requires.inside in
+    let there = words_there c.self.inside c.args.self.now c.self.view_is c.self.invariant c.args.row c.args.count c.requires.row c.requires.inside in
     omega (arith, there, c.self.inside.words.ok)
 
 pub copy_words-requires-clause-inside : goal.copy_words-requires-clause-inside
 copy_words-requires-clause-inside c =
-    let there = words_there c.self.inside.words.items c.self.inside.width c.self.inside.marks c.self.inside.count c.args.self.now c.self.view_is c.self.invariant.0 c.self.invariant.1 c.args.row c.args.count c.requires.row c.requires.inside in
+    let there = words_there c.self.inside c.args.self.now c.self.view_is c.self.invariant c.args.row c.args.count c.requires.row c.requires.inside in
     omega (arith, there)
 
 pub copy_words-requires-clause-there : goal.copy_words-requires-clause-there
@@ -18,12 +18,12 @@ copy_words-requires-clause-there c = omega (arith, ap length c.behind-marks.view
 
 pub returns-clause-len : goal.returns-clause-len
 returns-clause-len c =
-    length-rows_of c.copy_words.new.words.items c.self.inside.width c.self.inside.marks c.self.inside.count ∙ rows_seen c.self.inside.words.items c.self.inside.width c.self.inside.marks c.self.inside.count c.args.self.now c.self.view_is c.self.invariant.0 c.self.invariant.1
+    length-rows_of c.copy_words.new.words.items c.self.inside.width c.self.inside.marks c.self.inside.count ∙ rows_seen c.self.inside c.args.self.now c.self.view_is c.self.invariant
 
 pub returns-clause-lens : goal.returns-clause-lens
 returns-clause-lens c q lt =
-    let few = rows_seen c.self.inside.words.items c.self.inside.width c.self.inside.marks c.self.inside.count c.args.self.now c.self.view_is c.self.invariant.0 c.self.invariant.1 in
-    length-row c.copy_words.new.words.items c.self.inside.width c.self.inside.marks c.self.inside.count q (omega (arith, few, lt)) ∙ marks_seen c.self.inside.words.items c.self.inside.width c.self.inside.marks c.self.inside.count c.args.self.now c.self.view_is c.self.invariant.0 c.self.invariant.1 q lt
+    let few = rows_seen c.self.inside c.args.self.now c.self.view_is c.self.invariant in
+    length-row c.copy_words.new.words.items c.self.inside.width c.self.inside.marks c.self.inside.count q (omega (arith, few, lt)) ∙ marks_seen c.self.inside c.args.self.now c.self.view_is c.self.invariant q lt
 
 pub returns-clause-same : goal.returns-clause-same
 returns-clause-same c k lt =
@@ -32,8 +32,8 @@ returns-clause-same c k lt =
     let marks = c.self.inside.marks in
     let row = c.args.row in
     let n = c.behind-marks.inside.count in
-    let few = rows_seen c.self.inside.words.items c.self.inside.width c.self.inside.marks c.self.inside.count c.args.self.now c.self.view_is c.self.invariant.0 c.self.invariant.1 in
-    let all = marks_seen c.self.inside.words.items c.self.inside.width c.self.inside.marks c.self.inside.count c.args.self.now c.self.view_is c.self.invariant.0 c.self.invariant.1 row c.requires.row in
+    let few = rows_seen c.self.inside c.args.self.now c.self.view_is c.self.invariant in
+    let all = marks_seen c.self.inside c.args.self.now c.self.view_is c.self.invariant row c.requires.row in
     let low : c.args.count ≤ marks = omega (arith, all, c.requires.inside) in
     let high : c.args.count ≤ n = omega (arith, ap length c.behind-marks.view_is, c.list.ensures.room, length-marks_of c.behind-marks.inside.words.items n, c.requires.there) in
     ap (λ l. slice_index_or l k false) (rows_of-get after width marks c.self.inside.count row (omega (arith, few, c.requires.row)))
@@ -51,8 +51,8 @@ returns-clause-other c q lt apart =
     let after = c.copy_words.new.words.items in
     let marks = c.self.inside.marks in
     let row = c.args.row in
-    let few = rows_seen c.self.inside.words.items c.self.inside.width c.self.inside.marks c.self.inside.count c.args.self.now c.self.view_is c.self.invariant.0 c.self.invariant.1 in
-    let all = marks_seen c.self.inside.words.items c.self.inside.width c.self.inside.marks c.self.inside.count c.args.self.now c.self.view_is c.self.invariant.0 c.self.invariant.1 row c.requires.row in
+    let few = rows_seen c.self.inside c.args.self.now c.self.view_is c.self.invariant in
+    let all = marks_seen c.self.inside c.args.self.now c.self.view_is c.self.invariant row c.requires.row in
     let wide = c.self.invariant.0 in
     let most : c.div_ceil.result ≤ width = omega (arith, all, c.requires.inside, wide) in
     rows_of-get after width marks c.self.inside.count q (omega (arith, few, lt))
@@ -60,4 +60,4 @@ returns-clause-other c q lt apart =
     (λ x low.
     ⊎_elim (c.copy_words.ensures.before (width * q + x)) (c.copy_words.ensures.rest (width * q + x))
     (row_apart width q row x c.div_ceil.result low most apart))
-    ∙ row_seen c.self.inside.words.items c.self.inside.width c.self.inside.marks c.self.inside.count c.args.self.now c.self.view_is c.self.invariant.0 c.self.invariant.1 q lt
+    ∙ row_seen c.self.inside c.args.self.now c.self.view_is c.self.invariant q lt

@@ -2,7 +2,7 @@ use Rattle.std.proofs.Common.{◌≡◌, ◌+◌, ◌<◌, ◌∙◌, length, re
 use Rattle.std.specs.Prelude.{slice_index_or}
 use Rattle.sedtext.proofs.BitLemmas.{meet_here, meet_later}
 use Rattle.sedtext.proofs.MarkLemmas.{default_same}
-use Rattle.sedtext.proofs.counted.rows.words_meet.Goals as goal
+use Rattle.sedtext.proofs.counted.words_meet.Goals as goal
 
 pub returns-then-lowest-ne0 : goal.returns-then-lowest-ne0
 returns-then-lowest-ne0 c =

@@ -1,6 +1,6 @@
-use Rattle.std.proofs.Common.{ℕ, ◌+◌, ◌<◌, ◌≤◌, List, length}
-use Rattle.sedtext.specs.Reach.{At}
-use Rattle.sedtext.proofs.beginnings.left_leaf.Given as goal
+use Rattle.std.proofs.Common.{◌+◌, ◌<◌, ◌≤◌, length}
+use Rattle.sedtext.specs.Beginnings.{LeadsWith}
+use Rattle.sedtext.proofs.beginnings.leftmost.Given as goal
 
 abbrev pub invariant-loop-part : goal.invariant-loop-part
 invariant-loop-part l = record {
@@ -8,7 +8,7 @@ invariant-loop-part l = record {
   below : l.index ≤ l.from;
   grows : l.initial.steps ≤ l.steps;
   cost : l.steps + l.index ≤ l.initial.steps + l.from;
-  first : (w : List ℕ) (i j : ℕ) → At l.expr.nodes w l.from i j → (k : ℕ) × At l.expr.nodes w l.index i k;
+  first : LeadsWith l.expr.nodes l.from l.index;
 }
 
 abbrev pub decreases-loop-part : goal.decreases-loop-part

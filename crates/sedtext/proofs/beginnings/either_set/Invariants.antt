@@ -2,11 +2,11 @@ use Rattle.std.proofs.Common.{ℕ, ◌+◌, ◌*◌, ◌<◌, ◌≤◌, ◌⊎�
 use Rattle.sedtext.specs.Reach.{At}
 use Rattle.sedtext.specs.Beginnings.{AllAt, CanBegin}
 use Rattle.sedtext.specs.declared.beginnings.Begins.TheVariants.{WithSet}
-use Rattle.sedtext.proofs.beginnings.begins_either.Given as goal
+use Rattle.sedtext.proofs.beginnings.either_set.Given as goal
 
 abbrev pub invariant-loop-turn : goal.invariant-loop-turn
 invariant-loop-turn l = record {
-  inside : l.rest < length l.expr.nodes;
+  inside : l.rest + 1 < length l.expr.nodes;
   grows : l.initial.steps ≤ l.steps;
   cost : l.steps + 2 * length l.expr.nodes ≤ l.initial.steps + 2 * length l.expr.nodes * l._turn;
   left : AllAt l.expr.nodes l.left (WithSet l.members);

@@ -1,0 +1,39 @@
+-- Private to the proofs: no contract that `sedmatch` makes public cites what stands here.
+-- What the spans of a node are made of.
+use Rattle.std.specs.Prelude.{◌≡◌, ℕ, ◌+◌, ◌<◌, ◌≤◌, ◌⊎◌, ◌↔◌, Bool, List}
+use Rattle.sedre.specs.declared.types.Node.{Node}
+use Rattle.sedre.specs.declared.types.Node.TheVariants.{Set, Begin, Seq, Alt, Group, Star}
+use Rattle.sedtext.specs.Spans.{CopiesLead}
+use Rattle.sedtext.specs.Reach.{At}
+use Rattle.sedtext.specs.Beginnings.{CanBegin, LeadsWith}
+use Rattle.sedtext.specs.declared.beginnings.Begins.TheVariants.{WithSet}
+use Rattle.sedtext.specs.declared.forms.Form.{Form}
+use Rattle.sedtext.specs.declared.forms.Form.TheVariants.{Byte, Start, Both, Either, Inner, Copies, Other}
+
+-- the form of a node
+abbrev pub node_form : Node → Form
+node_form (Set s) = Byte s
+node_form Begin = Start
+node_form (Seq a b) = Both a.index b.index
+node_form (Alt a b) = Either a.index b.index
+node_form (Group k a) = Inner a.index
+node_form (Star a first) = Copies a.index
+node_form other = Other
+
+-- the spans of the node x are of one byte of the set
+abbrev pub IsOfSet : List Node → ℕ → List Bool → Type 0
+IsOfSet nodes x s = (w : List ℕ) (i j : ℕ) → At nodes w x i j ↔ (CanBegin (WithSet s) w i × (j ≡ i + 1))
+
+-- the node x has the form: its spans are made as it says, of those of nodes before it
+abbrev pub HasForm : List Node → ℕ → Form → Type 0
+HasForm nodes x (Byte s) = IsOfSet nodes x s
+HasForm nodes x Start = (w : List ℕ) (i j : ℕ) → At nodes w x i j ↔ ((i ≡ 0) × (j ≡ 0))
+HasForm nodes x (Both y z) = (y < x) × (z < x) × ((w : List ℕ) (i j : ℕ) → At nodes w x i j ↔ ((k : ℕ) × At nodes w y i k × At nodes w z k j))
+HasForm nodes x (Either y z) = (y < x) × (z < x) × ((w : List ℕ) (i j : ℕ) → At nodes w x i j ↔ (At nodes w y i j ⊎ At nodes w z i j))
+HasForm nodes x (Inner y) = (y < x) × ((w : List ℕ) (i j : ℕ) → At nodes w x i j ↔ At nodes w y i j)
+HasForm nodes x (Copies y) = (y < x) × ((w : List ℕ) (i j : ℕ) → At nodes w x i j ↔ CopiesLead (At nodes w y) j i)
+HasForm nodes x Other = Unit {0}
+
+-- each span of the node x begins with one of a node of this form, which is x or stands before it
+abbrev pub IsLeftmost : List Node → ℕ → Form → Type 0
+IsLeftmost nodes x form = (y : ℕ) × HasForm nodes y form × (y ≤ x) × LeadsWith nodes x y
