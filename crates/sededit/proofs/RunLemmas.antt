@@ -1,5 +1,5 @@
 -- From the end of an edit to the status of the program.
-use Rattle.std.proofs.Common.{◌≡◌, ◌≢◌, ◌∙◌, ◌≤◌, ◌⊎◌, inl, inr, ℕ, Bool, true, false, List, Option, Some, None, Err, arith, subst, sym}
+use Rattle.std.proofs.Common.{◌≡◌, ◌≢◌, ◌∙◌, ◌≤◌, ◌⊎◌, inl, inr, ℕ, Bool, true, false, List, Option, Some, None, Result, Ok, Err, arith, subst, sym}
 use Rattle.std.specs.Option.{ForSome}
 use Rattle.sedspace.specs.Failures.{Rose}
 use Rattle.sedscript.specs.Program.{Program}
@@ -10,6 +10,7 @@ use Rattle.sededit.specs.Types.{Done, Ended, InputBroken, OutputBroken, OutputFu
 use Rattle.sededit.specs.Editing.{BeginsOutput, IsOutput, nothing_before, start_over}
 use Rattle.sededit.specs.Files.{KeepsFiles}
 use Rattle.sededit.specs.Opening.{WereRefused}
+use Rattle.sededit.specs.AddedSinks.{FailsFlush}
 use Rattle.sededit.specs.Ahead.{Edits}
 use Rattle.sededit.specs.RunStatus.{Finishes, Ran}
 use Rattle.sededit.specs.Program.{Observed, Run, SinkAtEnd, SinkFailed, StopsEarly, WhereTold}
@@ -29,6 +30,11 @@ GainedWithin-same l old mid new end out same h = record { gained = Gained-same o
 
 Rose-more : (a b c : ℕ) → Rose a b → b ≤ c → Rose a c
 Rose-more a b c h more = omega (arith, h, more)
+
+-- no number of failures falls in a flush
+pub flush_rises : (r : Result Unit ℕ) (old new : ℕ → ℕ) → FailsFlush r old new → (k : ℕ) → old k ≤ new k
+flush_rises (Ok u) old new same k = omega (arith, same k)
+flush_rises (Err sink) old new failed k = failed.1 k
 
 -- what an end says of a sink it says after a flush too
 pub sink_flushed : (most : Option ℕ) (old mid new : ℕ → ℕ) (end : Ended) → SinksAtEnd most old mid (Err end) → ((k : ℕ) → mid k ≤ new k) →
