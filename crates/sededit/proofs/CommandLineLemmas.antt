@@ -1,14 +1,14 @@
 -- The command line that `clap` is given.
-use Rattle.std.proofs.Common.{◌≡◌, ◌≢◌, ◌∙◌, inl, inr, List, [], ◌∷◌, Option, Result, Ok, Err, IfOk, IfErr, true, false, refl, ap, codes, unwrap_or, option_map}
+use Rattle.std.proofs.Common.{◌≡◌, ◌≢◌, ◌∙◌, inl, inr, List, [], Option, None, Some, Result, Ok, Err, IfOk, IfErr, true, refl, ap, map, unwrap_or, option_map}
+use Rattle.std.specs.Borrow.{Bor}
 use Rattle.clap.specs.Words.{App, Text, found_of, matched_of, raw_values, is_simple, is_simple_and_free, kind_of, fault_of, matches_of, rows_of, takes, FailsBy, HasKind, HasMatchesOf}
 use Rattle.clap.specs.declared.error.Error.{Error}
-use Rattle.clap.specs.declared.error.kind.ErrorKind.TheVariants.{OutOfMemory, DisplayHelp, UnknownArgument}
+use Rattle.clap.specs.declared.error.kind.ErrorKind.TheVariants.{OutOfMemory}
 use Rattle.clap.specs.declared.parser.matches.ArgMatches.{ArgMatches}
-use Rattle.clap.proofs.OnLiterals.{clap_on_literals}
 use Rattle.clap.proofs.WalkLemmas.{raw_values-rows}
-use Rattle.sededit.specs.CommandLine.{IsCommandLine, given_to, is_given, sed_command}
+use Rattle.sededit.specs.CommandLine.{Asks, given_to, sed_command}
 use Rattle.sededit.specs.Refusals.{IsRefusal}
-use Rattle.sededit.specs.Types.{NoMemory, Refused, Words}
+use Rattle.sededit.specs.Types.{NoMemory, Part, Refused, Words}
 
 -- its words are read one by one
 pub is_simple-sed_command : is_simple sed_command ≡ true
@@ -46,51 +46,12 @@ refusal_of words e (Words x) h memory other =
     elim h [ inl is ↦ absurd (wanting is) | inr among ↦ rw same among ]
 
 -- what an option or the operands were given, from the matches
-pub given_to-matches : (m : ArgMatches) (id : Text) (given : Option (List Text)) → given ≡ option_map raw_values (matched_of (found_of m) id) →
-    unwrap_or given [] ≡ given_to id (rows_of (found_of m))
-given_to-matches m id given is = ap (λ t. unwrap_or t []) (is ∙ raw_values-rows (found_of m) id)
+pub given_to-matches : (m : ArgMatches) (id : Text) (given : Option (Bor (List (Bor Text)))) (none words : Bor (List (Bor Text))) → option_map (λ s. map (λ v. v.now) s.now) given ≡ option_map raw_values (matched_of (found_of m) id) →
+    none.now ≡ [] → words ≡ unwrap_or given none → map (λ v. v.now) words.now ≡ given_to id (rows_of (found_of m))
+given_to-matches m id None none words is empty e = rw (e, empty) (ap (λ t. unwrap_or t []) (is ∙ raw_values-rows (found_of m) id))
+given_to-matches m id (Some given) none words is empty e = rw e (ap (λ t. unwrap_or t []) (is ∙ raw_values-rows (found_of m) id))
 
--- some words that are a command line, and some that aren't
-two_are : IsCommandLine (codes "-n" ∷ codes "p" ∷ [])
-unfolding clap_on_literals sed_command
-two_are = refl
-
-extended_are : IsCommandLine (codes "-nE" ∷ codes "p" ∷ codes "-E" ∷ [])
-unfolding clap_on_literals sed_command
-extended_are = refl
-
-parts_are : IsCommandLine (codes "-e" ∷ codes "p" ∷ codes "-" ∷ codes "-f" ∷ codes "s" ∷ codes "a" ∷ [])
-unfolding clap_on_literals sed_command
-parts_are = refl
-
-extended_is : is_given (codes "extended") (matches_of sed_command (codes "p" ∷ codes "-nE" ∷ [])) ≡ true
-unfolding clap_on_literals sed_command
-extended_is = refl
-
-extended_is_not : is_given (codes "extended") (matches_of sed_command (codes "-n" ∷ codes "p" ∷ [])) ≡ false
-unfolding clap_on_literals sed_command
-extended_is_not = refl
-
-operands_are : given_to (codes "operand") (matches_of sed_command (codes "p" ∷ codes "-n" ∷ codes "-" ∷ codes "a" ∷ [])) ≡ codes "p" ∷ codes "-" ∷ codes "a" ∷ []
-unfolding clap_on_literals sed_command
-operands_are = refl
-
-scripts_are : given_to (codes "expression") (matches_of sed_command (codes "-e" ∷ codes "p" ∷ codes "a" ∷ codes "-ne" ∷ codes "d" ∷ [])) ≡ codes "p" ∷ codes "d" ∷ []
-unfolding clap_on_literals sed_command
-scripts_are = refl
-
-files_are : given_to (codes "file") (matches_of sed_command (codes "-f" ∷ codes "s" ∷ codes "-fx" ∷ [])) ≡ codes "s" ∷ codes "x" ∷ []
-unfolding clap_on_literals sed_command
-files_are = refl
-
-none_are : IsCommandLine []
-unfolding clap_on_literals sed_command
-none_are = refl
-
-help_asks : fault_of sed_command (codes "-h" ∷ []) ≡ DisplayHelp ∷ []
-unfolding clap_on_literals sed_command
-help_asks = refl
-
-unknown_is_refused : fault_of sed_command (codes "-i" ∷ codes "p" ∷ []) ≡ UnknownArgument ∷ []
-unfolding clap_on_literals sed_command
-unknown_is_refused = refl
+-- what is asked for by the same words
+pub Asks-same : (scripts files operands scripts' files' operands' : List Text) (parts : List Part) (names : List Text) → scripts ≡ scripts' → files ≡ files' → operands ≡ operands' →
+    Asks scripts files operands parts names → Asks scripts' files' operands' parts names
+Asks-same scripts files operands scripts' files' operands' parts names s f o asks = rw (← s, ← f, ← o) asks

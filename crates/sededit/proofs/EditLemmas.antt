@@ -12,7 +12,7 @@ use Rattle.sedengine.specs.Run.{RunState, Ending, Input, Sends, at_lines, run_se
 use Rattle.sededit.specs.Types.{Done, Ended, OutputFull}
 use Rattle.sededit.specs.Editing.{BeginsOutput, IsOutput, nothing_before, start_over}
 use Rattle.sededit.specs.EditEnds.{EditEnds}
-use Rattle.sededit.specs.Ahead.{LeavesAhead}
+use Rattle.sededit.specs.Ahead.{Edits}
 use Rattle.sedengine.specs.Steps.{WholeOrBrokenOff}
 
 -- an engine that was opened
@@ -41,37 +41,32 @@ from_start l p e' old new r out h = record {
   full = full_from_start l.output (length p.wfiles + 1) out r h.gains.full;
 }
 
--- a run of an opened engine over all lines is an edit
-pub EditEnds-run : (l : Limits) (p : Program) (files : ℕ → List ℕ) (e e' : RunState) (x : List ℕ) (sinks sinks' : ℕ → Option (List ℕ)) (old new : Option (List ℕ)) (before after : Input) (now : State) (end : Ended) →
-    e ≡ opened l p → before.source ≡ old → before.all ≡ old → after.source ≡ new → (out : List (ℕ × ℕ)) × Sends e e' sinks sinks' (Err end) out × Ending e.limits (run_setting e files) (at_lines e (lines x)) out before after now end →
-    (out : List (ℕ × ℕ)) × GainedWithin l.output nothing_before sinks sinks' (Err end) out × EditEnds l (setting_of p files) (start_over p x) out old new end
-EditEnds-run l p files e e' x sinks sinks' old new before after now end is same_old none_ahead same_new (out, sent, h) =
+-- a run of an opened engine over all lines is an edit, which leaves ahead what is ahead of the lines
+pub Edits-run : (l : Limits) (p : Program) (files : ℕ → List ℕ) (e e' : RunState) (x : List ℕ) (sinks sinks' : ℕ → Option (List ℕ)) (old new : Option (List ℕ)) (before after : Input) (now : State) (end : Ended) (bytes : List ℕ) (count : ℕ) →
+    e ≡ opened l p → before.source ≡ old → before.all ≡ old → after.source ≡ new → after.all ≡ prepend_known bytes after.source → count ≡ length bytes →
+    (out : List (ℕ × ℕ)) × Sends e e' sinks sinks' (Err end) out × Ending e.limits (run_setting e files) (at_lines e (lines x)) out before after now end →
+    Edits l (setting_of p files) (start_over p x) old new sinks sinks' count end
+Edits-run l p files e e' x sinks sinks' old new before after now end bytes count is same_old none_ahead same_new is_ahead counted (out, sent, h) =
     let sent' = rw is at sent in
-    let h' = rw is at h in (
-      out,
-      from_start l p e' sinks sinks' (Err end) out sent',
-      record {
+    let h' = rw is at h in
+    record {
+      out = out;
+      gained = from_start l p e' sinks sinks' (Err end) out sent';
+      ends = record {
         t = h'.t;
         cause = h'.cause;
         takes = (let input = h'.takes.input in rw (same_old, same_new) at input);
         broken = λ is. (let part = h'.broken is in rw (none_ahead, same_new) at part);
-      },
-    )
-
--- what it left ahead
-pub Leaves-run : (l : Limits) (p : Program) (files : ℕ → List ℕ) (e : RunState) (x : List ℕ) (out : List (ℕ × ℕ)) (old new : Option (List ℕ)) (before after : Input) (now : State) (end : Ended) (bytes : List ℕ) (count : ℕ) →
-    e ≡ opened l p → before.all ≡ old → after.source ≡ new → after.all ≡ prepend_known bytes after.source → count ≡ length bytes → Ending e.limits (run_setting e files) (at_lines e (lines x)) out before after now end →
-    LeavesAhead l (setting_of p files) (start_over p x) old new count end
-Leaves-run l p files e x out old new before after now end bytes count is none_ahead same_new is_ahead counted h =
-    let h' = rw is at h in
-    record {
-      t = h'.t;
-      over = λ done. (let w = rw done at h'.cause in w.cause);
-      lines = h'.takes.input.lines;
-      are = h'.takes.input.are;
-      ahead = bytes;
-      counts = counted;
-      gone = (let part = h'.takes.all in rw (none_ahead, is_ahead, same_new) at part);
+      };
+      left = record {
+        t = h'.t;
+        over = λ done. (let w = rw done at h'.cause in w.cause);
+        lines = h'.takes.input.lines;
+        are = h'.takes.input.are;
+        ahead = bytes;
+        counts = counted;
+        gone = (let part = h'.takes.all in rw (none_ahead, is_ahead, same_new) at part);
+      };
     }
 
 -- the output at an end is a beginning of what is written

@@ -192,6 +192,9 @@ module _ {I : Type 0} (current : I → Option (List ℕ)) (ahead : I → FilesAh
     pub rest : new ≡ record now { inputs = new.inputs; reading = new.reading; due = new.due }
     pub kept : (names : List (List ℕ)) → KeepsFiles (ahead now.inputs names) (ahead new.inputs names)
 
+  pub start_kept : (now new : Joining I) → Reads now new → new.start ≡ now.start
+  start_kept now new r = ap (λ j. j.start) r.rest
+
   waits_on : (old now mid : Joining I) → (now ≡ old) ⊎ IsAtEnd (left_of_current current old) → Consumes (left_of_current current now) (left_of_current current mid) [] → mid.reading ≡ false → IsAtEnd (left_of_current current old)
   waits_on old now mid (inl same) p idle = let p' = rw same at p in at_end _ _ p' (rw idle refl)
   waits_on old now mid (inr end) p idle = end

@@ -1,15 +1,20 @@
 -- From the end of an edit to the status of the program.
-use Rattle.std.proofs.Common.{◌≡◌, ◌∙◌, ◌≤◌, ◌⊎◌, inl, inr, ℕ, Bool, true, false, List, Option, Some, None, Err, arith, subst, sym}
+use Rattle.std.proofs.Common.{◌≡◌, ◌≢◌, ◌∙◌, ◌≤◌, ◌⊎◌, inl, inr, ℕ, Bool, true, false, List, Option, Some, None, Result, Ok, Err, arith, subst, sym}
+use Rattle.std.specs.Option.{ForSome}
 use Rattle.sedspace.specs.Failures.{Rose}
 use Rattle.sedscript.specs.Program.{Program}
-use Rattle.sedengine.specs.State.{Limits, Setting, State, setting_of}
+use Rattle.sedengine.specs.State.{Limits, Setting, State, TellsFiles, setting_of}
 use Rattle.sedengine.specs.DevicesAfter.{FailedSink, SinksAtEnd}
 use Rattle.sedengine.specs.Ends.{Gained, GainedWithin, SourceAtEnd, BreaksInLine}
 use Rattle.sededit.specs.Types.{Done, Ended, InputBroken, OutputBroken, OutputFull}
 use Rattle.sededit.specs.Editing.{BeginsOutput, IsOutput, nothing_before, start_over}
 use Rattle.sededit.specs.Files.{KeepsFiles}
 use Rattle.sededit.specs.Opening.{WereRefused}
-use Rattle.sededit.specs.Program.{Observed, Run, SinkAtEnd, SinkFailed, StatusMeans, StopsEarly, WhereTold}
+use Rattle.sededit.specs.AddedSinks.{FailsFlush}
+use Rattle.sededit.specs.Ahead.{Edits}
+use Rattle.sededit.specs.RunStatus.{Finishes, Ran}
+use Rattle.sededit.specs.Program.{Observed, Run, SinkAtEnd, SinkFailed, StopsEarly, WhereTold}
+use Rattle.sededit.proofs.EditLemmas.{BeginsOutput-at, IsOutput-at}
 use Rattle.sededit.proofs.JoinLemmas.{all_joined}
 
 -- what sinks that held this and hold that have gained is so of the run's output
@@ -23,12 +28,13 @@ Gained-same old mid new out same h = record { each = λ k. rw (same k) (h.each k
 pub GainedWithin-same : (l : Limits) (old mid new : ℕ → Option (List ℕ)) (end : Ended) (out : List (ℕ × ℕ)) → ((k : ℕ) → new k ≡ mid k) → GainedWithin l.output nothing_before old mid (Err end) out → GainedWithin l.output nothing_before old new (Err end) out
 GainedWithin-same l old mid new end out same h = record { gained = Gained-same old mid new out same h.gained; within = h.within; full = h.full }
 
-pub Writes-same : (P : Setting → State → List (ℕ × ℕ) → Type 0) (p : Program) (input : Option (List ℕ)) (texts old mid new : ℕ → Option (List ℕ)) → ((k : ℕ) → new k ≡ mid k) →
-    Writes P (record { script = p; input = input; texts = texts }) old mid → Writes P (record { script = p; input = input; texts = texts }) old new
-Writes-same P p input texts old mid new same h = λ bytes known files told. let w = h bytes known files told in (w.0, Gained-same old mid new _ same w.1, w.2)
-
 Rose-more : (a b c : ℕ) → Rose a b → b ≤ c → Rose a c
 Rose-more a b c h more = omega (arith, h, more)
+
+-- no number of failures falls in a flush
+pub flush_rises : (r : Result Unit ℕ) (old new : ℕ → ℕ) → FailsFlush r old new → (k : ℕ) → old k ≤ new k
+flush_rises (Ok u) old new same k = omega (arith, same k)
+flush_rises (Err sink) old new failed k = failed.1 k
 
 -- what an end says of a sink it says after a flush too
 pub sink_flushed : (most : Option ℕ) (old mid new : ℕ → ℕ) (end : Ended) → SinksAtEnd most old mid (Err end) → ((k : ℕ) → mid k ≤ new k) →
@@ -45,6 +51,10 @@ source_kept old new end is failed = let all : SourceAtEnd old new Done = rw is a
 pub sink_failed : (old mid new : ℕ → ℕ) → ((k : ℕ) → mid k ≡ old k) → SinkFailed mid new → SinkFailed old new
 sink_failed old mid new same (k, rose) = (k, rw (← same k) rose)
 
+-- and one that had failed before
+pub sink_failed-more : (old mid new : ℕ → ℕ) → ((k : ℕ) → mid k ≤ new k) → SinkFailed old mid → SinkFailed old new
+sink_failed-more old mid new more (k, rose) = (k, Rose-more _ _ _ rose (more k))
+
 -- no sink has failed in a run that came to the ordinary end
 pub none_failed : (old new : ℕ → ℕ) (end : Ended) → end ≡ Done → FailedSink old new (Err end) → (k : ℕ) → new k ≡ old k
 none_failed old new end is failed = let all : FailedSink old new (Err Done) = rw is at failed in all
@@ -58,36 +68,74 @@ pub some_refused : (b : Bool) (old new : ℕ) → b ≡ true → WereRefused b o
 some_refused true old new is h = h
 some_refused false old new is h = absurd cc
 
--- how a run stopped, said of the same input and numbers under other names
-module _ (l : Limits) (p : Program) (texts s0 s1 : ℕ → Option (List ℕ)) (n0 n1 : ℕ → ℕ) (q r : Option (List ℕ) → Type 0) (gives : (more : Option (List ℕ)) → q more → r more) where
-  -- what is observed before and after, with these numbers of refusals and of reads
-  abbrev before : ℕ → ℕ → Observed
-  before f a = record { refusals = f; reads = a; contents = s0; failures = n0 }
+-- an edit, and the flush behind it, as they are observed
+module _ (l : Limits) (p : Program) (input more : Option (List ℕ)) (texts c0 c1 c2 : ℕ → Option (List ℕ)) (n0 n1 n2 : ℕ → ℕ) (r0 r1 i0 i1 ahead : ℕ) (end : Ended) (rest : Option (List ℕ) → Type 0)
+    (edits : ForSome input (λ bytes. (files : ℕ → List ℕ) → TellsFiles texts files → Edits l (setting_of p files) (start_over p bytes) input more c0 c1 ahead end))
+    (same : (k : ℕ) → c2 k ≡ c1 k) (source : SourceAtEnd i0 i1 end) (sinks : SinksAtEnd l.output n0 n1 (Err end)) (stays : rest more) where
+  abbrev run : Run
+  run = record { script = p; input = input; texts = texts }
 
-  abbrev now : ℕ → ℕ → Observed
-  now f b = record { refusals = f; reads = b; contents = s1; failures = n1 }
+  abbrev before : Observed
+  before = record { refusals = r0; reads = i0; contents = c0; failures = n0 }
 
-  abbrev over : Option (List ℕ) → Run
-  over x = record { script = p; input = x; texts = texts }
+  abbrev now : Observed
+  now = record { refusals = r1; reads = i1; contents = c2; failures = n2 }
 
-  rest_as : (x : Option (List ℕ)) (f0 f1 a b : ℕ) → StopsEarly l (before f0 a) (now f1 b) q (over x) → StopsEarly l (before f0 a) (now f1 b) r (over x)
-  rest_as x f0 f1 a b h =
-      (h.0, h.1, h.2, λ bytes known files told. let (out, gained, t, cause, breaks) = h.3 bytes known files told in (out, gained, t, cause, λ is. let m = breaks is in (m.0, gives m.0 m.1, m.2)))
+  begun : Writes BeginsOutput run c0 c2
+  begun = λ bytes known files told. let e = edits bytes known files told in (e.out, Gained-same c0 c1 c2 e.out same e.gained.gained, BeginsOutput-at _ _ _ _ _ _ _ e.ends.cause)
 
-  cause_moved : (x y : Option (List ℕ)) (f0 f1 a b f0' f1' a' b' : ℕ) → y ≡ x → a' ≡ a → b' ≡ b → StopsEarly l (before f0 a) (now f1 b) q (over x) ⊎ (Writes IsOutput (over x) s0 s1 × SinkFailed n0 n1 × (b ≡ a)) →
-      StopsEarly l (before f0' a') (now f1' b') r (over y) ⊎ (Writes IsOutput (over y) s0 s1 × SinkFailed n0 n1 × (b' ≡ a'))
-  cause_moved x y f0 f1 a b f0' f1' a' b' input same same' (inl h) = inl (rw (input, same, same') (rest_as x f0 f1 a b h))
-  cause_moved x y f0 f1 a b f0' f1' a' b' input same same' (inr h) = inr (rw (input, same, same') h)
+  whole : end ≡ Done → Writes IsOutput run c0 c2
+  whole is = λ bytes known files told. let e = edits bytes known files told in (e.out, Gained-same c0 c1 c2 e.out same e.gained.gained, IsOutput-at _ _ _ _ _ _ _ is e.ends)
 
-  -- what a status says
-  pub means_moved : (status : ℕ) (x y : Option (List ℕ)) (f0 f1 a b f0' f1' a' b' : ℕ) → y ≡ x → f0' ≡ f0 → f1' ≡ f1 → a' ≡ a → b' ≡ b →
-      StatusMeans l (before f0 a) (now f1 b) q status (over x) → StatusMeans l (before f0' a') (now f1' b') r status (over y)
-  means_moved status x y f0 f1 a b f0' f1' a' b' input refused refused' same same' h = record {
-    whole = λ is. rw (input, refused, refused', same, same') (h.whole is);
-    missed = λ is. rw (input, refused, refused', same, same') (h.missed is);
-    stopped = λ is. rw input (h.stopped is);
-    cause = λ is. cause_moved x y f0 f1 a b f0' f1' a' b' input same same' (h.cause is);
+  stops : end ≢ Done → ((k : ℕ) → n1 k ≤ n2 k) → StopsEarly l before now rest run
+  stops early rose = (
+    end,
+    early,
+    (source, sink_flushed l.output n0 n1 n2 end sinks rose),
+    λ bytes known files told. let e = edits bytes known files told in (e.out, GainedWithin-same l c0 c1 c2 end e.out same e.gained, e.ends.t, e.ends.cause, λ is. (more, stays, e.ends.broken is)),
+  )
+
+  pub Ran-finished : (missed : Bool) (status : ℕ) → Finishes n1 n2 missed end status → WereRefused missed r0 r1 → Ran l before now rest run status
+  Ran-finished missed status (inl (done, kept, inl (none, is))) refused = record {
+    is_one = inl is;
+    means = record {
+      whole = λ _. (whole done, none_refused missed r0 r1 none refused, source_kept i0 i1 end done source);
+      missed = λ two. absurd (cc);
+      stopped = λ four. absurd (cc);
+      cause = λ four. absurd (cc);
+    };
+    no_sink = λ _ k. kept k ∙ none_failed n0 n1 end done sinks.0 k;
   }
+  Ran-finished missed status (inl (done, kept, inr (some, is))) refused = record {
+    is_one = inr (inl is);
+    means = record {
+      whole = λ zero. absurd (cc);
+      missed = λ _. (whole done, some_refused missed r0 r1 some refused, source_kept i0 i1 end done source);
+      stopped = λ four. absurd (cc);
+      cause = λ four. absurd (cc);
+    };
+    no_sink = λ _ k. kept k ∙ none_failed n0 n1 end done sinks.0 k;
+  }
+  Ran-finished missed status (inr (is, rose, why)) refused = record {
+    is_one = inr (inr is);
+    means = record {
+      whole = λ zero. absurd (cc);
+      missed = λ two. absurd (cc);
+      stopped = λ _. begun;
+      cause = λ _. elim why [
+        | inl early ↦ inl (stops early rose)
+        | inr flushed ↦ inr (whole flushed.0, sink_failed n0 n1 n2 (none_failed n0 n1 end flushed.0 sinks.0) flushed.1, source_kept i0 i1 end flushed.0 source)
+      ];
+    };
+    no_sink = λ other. absurd (other is);
+  }
+
+-- the same of the same input and numbers under other names
+pub Ran-as : (l : Limits) (p : Program) (texts c0 c1 : ℕ → Option (List ℕ)) (n0 n1 : ℕ → ℕ) (rest : Option (List ℕ) → Type 0) (status : ℕ) (x y : Option (List ℕ)) (r0 r1 i0 i1 r0' r1' i0' i1' : ℕ) →
+    y ≡ x → r0' ≡ r0 → r1' ≡ r1 → i0' ≡ i0 → i1' ≡ i1 →
+    Ran l (record { refusals = r0; reads = i0; contents = c0; failures = n0 }) (record { refusals = r1; reads = i1; contents = c1; failures = n1 }) rest (record { script = p; input = x; texts = texts }) status →
+    Ran l (record { refusals = r0'; reads = i0'; contents = c0; failures = n0 }) (record { refusals = r1'; reads = i1'; contents = c1; failures = n1 }) rest (record { script = p; input = y; texts = texts }) status
+Ran-as l p texts c0 c1 n0 n1 rest status x y r0 r1 i0 i1 r0' r1' i0' i1' input refused refused' same same' h = rw (input, refused, refused', same, same') h
 
 -- a run over what was made ready for it, said of how things stood before
 pub record Ready (files0 files1 : Option (List (Option (List ℕ)))) (texts0 texts1 sinks0 sinks1 : ℕ → Option (List ℕ)) : Type 0 where
@@ -147,10 +195,14 @@ module _ (l : Limits) (p : Program) (q : Option (List ℕ) → Type 0) (f0 f1 : 
   )
   cause-from (inr h) = inr (Writes-from IsOutput p f0 f1 t0 t1 s0 s1 new ready h.0, sink_failed n0 n1 n same h.1, h.2 ∙ read)
 
-  pub means-from : (status : ℕ) → StatusMeans l made last q status (over_files p f1 t1) → StatusMeans l first last q status (over_files p f0 t0)
-  means-from status h = record {
-    whole = λ is. let w = h.whole is in (Writes-from IsOutput p f0 f1 t0 t1 s0 s1 new ready w.0, w.1 ∙ refused, w.2 ∙ read);
-    missed = λ is. let w = h.missed is in (Writes-from IsOutput p f0 f1 t0 t1 s0 s1 new ready w.0, rw (← refused) w.1, w.2 ∙ read);
-    stopped = λ is. Writes-from BeginsOutput p f0 f1 t0 t1 s0 s1 new ready (h.stopped is);
-    cause = λ is. cause-from (h.cause is);
+  pub Ran-from : (status : ℕ) → Ran l made last q (over_files p f1 t1) status → Ran l first last q (over_files p f0 t0) status
+  Ran-from status ran = let h = ran.means in record {
+    is_one = ran.is_one;
+    means = record {
+      whole = λ is. let w = h.whole is in (Writes-from IsOutput p f0 f1 t0 t1 s0 s1 new ready w.0, w.1 ∙ refused, w.2 ∙ read);
+      missed = λ is. let w = h.missed is in (Writes-from IsOutput p f0 f1 t0 t1 s0 s1 new ready w.0, rw (← refused) w.1, w.2 ∙ read);
+      stopped = λ is. Writes-from BeginsOutput p f0 f1 t0 t1 s0 s1 new ready (h.stopped is);
+      cause = λ is. cause-from (h.cause is);
+    };
+    no_sink = λ other k. ran.no_sink other k ∙ same k;
   }

@@ -1,7 +1,6 @@
 -- Sinks that files are added to, and their flush (XCU sed, "w wfile").
-use Rattle.std.specs.Prelude.{◌≡◌, ℕ, ◌+◌, Bool, true, false, List, [], ◌∷◌, ◌++◌, take, slice_get, Some, ◌≤◌, Result, Ok, Err}
+use Rattle.std.specs.Prelude.{◌≡◌, ℕ, ◌+◌, Bool, true, false, List, [], ◌∷◌, ◌++◌, ◌≤◌, Result, Ok, Err}
 use Rattle.sedspace.specs.Failures.{Rose}
-use Rattle.sededit.specs.Files.{Creates}
 
 -- a sink more where one was added
 abbrev pub AddsSink : Bool → ℕ → ℕ → Type 0
@@ -12,10 +11,6 @@ AddsSink false old new = new ≡ old
 abbrev pub AddsName : Bool → List ℕ → List (List ℕ) → List (List ℕ) → Type 0
 AddsName true name old new = new ≡ old ++ name ∷ []
 AddsName false name old new = new ≡ old
-
--- files of the names before this one were created in their order, after those that were there
-abbrev pub CreatesUpTo : List (List ℕ) → List (List ℕ) → List (List ℕ) → List ℕ → Type 0
-CreatesUpTo old new names name = (k : ℕ) × (slice_get names k ≡ Some name) × Creates old new (take k names)
 
 -- No sink failed at an Ok, and the one that an Err names did. No number of failures falls.
 abbrev pub FailsFlush : Result Unit ℕ → (ℕ → ℕ) → (ℕ → ℕ) → Type 0

@@ -13,7 +13,7 @@ given (File s) = inr (string_bytes s)
 
 -- the words of an option's uses
 abbrev pub texts_in : Uses → List (List ℕ)
-texts_in uses = map string_bytes uses.words.now
+texts_in uses = map (λ s. s.now) uses.words.now
 
 -- the place of a word among all words
 abbrev pub place_at : List ℕ → ℕ → ℕ

@@ -10,7 +10,7 @@ ghost use Rattle.sededit.specs.Refusals.{IsRefusal};
 
 use crate::asked::{Line, Refused};
 use crate::help::{CODES, USAGE};
-use crate::parts::{Uses, asked_of, words_of};
+use crate::parts::{Uses, asked_of};
 use clap::error::ErrorKind;
 use clap::{Arg, ArgAction, ArgMatches, Command};
 use std::alloc::{AllocError, Global};
@@ -39,23 +39,21 @@ pub fn line<S: AsStr>(alloc: Global, words: &[S]) -> Result<Line, Refused>
 fn line_of(alloc: Global, matches: &ArgMatches<'_>) -> Result<Line, AllocError>
     ensures { IfOk result (IsLine (rows_of (found_of matches.now))) }
 {
-    let scripts = words_of(alloc, matches, "expression")?;
-    let files = words_of(alloc, matches, "file")?;
-    let operands = words_of(alloc, matches, "operand")?;
     let scripts = Uses {
-        words: scripts.as_slice(),
+        words: matches.get_strs("expression").unwrap_or(&[]),
         places: matches.indices_of("expression").unwrap_or(&[]),
     };
     let files = Uses {
-        words: files.as_slice(),
+        words: matches.get_strs("file").unwrap_or(&[]),
         places: matches.indices_of("file").unwrap_or(&[]),
     };
-    let line = asked_of(alloc, scripts, files, operands.as_slice())?;
+    let operands = matches.get_strs("operand").unwrap_or(&[]);
+    let asked = asked_of(alloc, scripts, files, operands)?;
     Ok(Line {
         quiet: matches.get_count("quiet") > 0,
         extended: matches.get_count("extended") > 0,
-        parts: line.parts,
-        operands: line.operands,
+        parts: asked.parts,
+        operands: asked.operands,
     })
 }
 

@@ -10,7 +10,7 @@ ghost use Rattle.sedengine.specs.DevicesAfter.{SameSinks, SinksAtEnd};
 ghost use Rattle.sedengine.specs.State.{TellsFiles, setting_of};
 ghost use Rattle.sededit.specs.Editing.{BeginsOutput, IsOutput, nothing_before, start_over};
 ghost use Rattle.sededit.specs.EditEnds.{EditEnds};
-ghost use Rattle.sededit.specs.Ahead.{LeavesAhead};
+ghost use Rattle.sededit.specs.Ahead.{Edits};
 
 use sedengine::{Ended, Engine, Limits};
 use sedscript::{Kind, NO_MEMORY, Script, ScriptFault};
@@ -117,20 +117,12 @@ pub(crate) fn edit_ahead<R: ByteSource, O: Outputs, T: Texts>(
 ) -> Result<Edited, AllocError>
     requires sinks { length script.wfiles < O.count outputs.old }
     requires nodes { script.max_nodes ≤ limits.nodes }
-    ensures ending { IfOk result (λ edited. ForSome (R.remaining source.old) (λ bytes.
+    // So many bytes were left ahead, and with them still to come only the lines that were taken are gone.
+    ensures edits { IfOk result (λ edited. ForSome (R.remaining source.old) (λ bytes.
         (files : ℕ → List ℕ) → TellsFiles (T.text texts.old) files →
-        (out : List (ℕ × ℕ))
-        × GainedWithin limits.output nothing_before (O.contents outputs.old) (O.contents outputs.new) (Err edited.end) out
-        × EditEnds limits (setting_of script files) (start_over script bytes) out
-        (R.remaining source.old) (R.remaining source.new) edited.end)) }
-    ensures output { OnOk result (ForSome (R.remaining source.old) (λ bytes.
-        (files : ℕ → List ℕ) → TellsFiles (T.text texts.old) files →
-        (out : List (ℕ × ℕ)) × Gained (O.contents outputs.old) (O.contents outputs.new) out
-        × BeginsOutput (setting_of script files) (start_over script bytes) out)) }
-    ensures whole { IfOk result (λ edited. edited.end ≡ Ended.Done → ForSome (R.remaining source.old) (λ bytes.
-        (files : ℕ → List ℕ) → TellsFiles (T.text texts.old) files →
-        (out : List (ℕ × ℕ)) × Gained (O.contents outputs.old) (O.contents outputs.new) out
-        × IsOutput (setting_of script files) (start_over script bytes) out)) }
+        Edits limits (setting_of script files) (start_over script bytes) (R.remaining source.old) (R.remaining source.new)
+        (O.contents outputs.old) (O.contents outputs.new) edited.ahead edited.end)) }
+    ensures ahead { IfOk result (λ edited. edited.ahead ≤ limits.look) }
     ensures input { IfOk result (λ edited.
         SourceAtEnd (R.failures source.old) (R.failures source.new) edited.end) }
     ensures failed { IfOk result (λ edited.
@@ -140,12 +132,6 @@ pub(crate) fn edit_ahead<R: ByteSource, O: Outputs, T: Texts>(
     ensures same_texts { (k : ℕ) → Keeps (T.text texts.old k) (T.text texts.new k) }
     ensures untouched { OnErr result ((source.new ≡ source.old) × (outputs.new ≡ outputs.old)
         × (texts.new ≡ texts.old)) }
-    // So many bytes were left ahead, and with them still to come only the lines that were taken are gone.
-    ensures left { IfOk result (λ edited. ForSome (R.remaining source.old) (λ bytes.
-        (files : ℕ → List ℕ) → TellsFiles (T.text texts.old) files →
-        LeavesAhead limits (setting_of script files) (start_over script bytes)
-        (R.remaining source.old) (R.remaining source.new) edited.ahead edited.end)) }
-    ensures ahead { IfOk result (λ edited. edited.ahead ≤ limits.look) }
 {
     let room = Room::new(alloc, limits.look())?;
     let mut engine = Engine::open(alloc, script, limits)?;

@@ -29,15 +29,30 @@ pub(crate) fn say_fault<E: Write>(errors: &mut E, fault: &ScriptFault) -> io::Re
 pub(crate) fn say_end<E: Write>(errors: &mut E, end: Ended) -> io::Result<()> {
     match end {
         Ended::Done => Ok(()),
-        Ended::PatternFull(number) => writeln!(errors, "sed: line {number}: F1 PatternFull"),
-        Ended::HoldFull(number) => writeln!(errors, "sed: line {number}: F2 HoldFull"),
-        Ended::QueueFull(number) => writeln!(errors, "sed: line {number}: F3 QueueFull"),
-        Ended::TurnsSpent => writeln!(errors, "sed: F4 TurnsSpent"),
-        Ended::NoPrevious(number) => writeln!(errors, "sed: line {number}: F5 NoPrevious"),
-        Ended::InputBroken => writeln!(errors, "sed: F6 InputBroken"),
-        Ended::OutputBroken(sink) => writeln!(errors, "sed: F7 OutputBroken {sink}"),
-        Ended::OutputFull(sink) => writeln!(errors, "sed: F8 OutputFull {sink}"),
+        Ended::PatternFull(number) => say_at(errors, number, "F1 PatternFull"),
+        Ended::HoldFull(number) => say_at(errors, number, "F2 HoldFull"),
+        Ended::QueueFull(number) => say_at(errors, number, "F3 QueueFull"),
+        Ended::TurnsSpent => say(errors, "F4 TurnsSpent"),
+        Ended::NoPrevious(number) => say_at(errors, number, "F5 NoPrevious"),
+        Ended::InputBroken => say(errors, "F6 InputBroken"),
+        Ended::OutputBroken(sink) => say_of(errors, "F7 OutputBroken", sink),
+        Ended::OutputFull(sink) => say_of(errors, "F8 OutputFull", sink),
     }
+}
+
+/// Says how a run ended at a line.
+fn say_at<E: Write>(errors: &mut E, number: u64, what: &str) -> io::Result<()> {
+    writeln!(errors, "sed: line {number}: {what}")
+}
+
+/// Says how a run ended because of a sink.
+fn say_of<E: Write>(errors: &mut E, what: &str, sink: usize) -> io::Result<()> {
+    writeln!(errors, "sed: {what} {sink}")
+}
+
+/// Says what there is to say in a line.
+fn say<E: Write>(errors: &mut E, what: &str) -> io::Result<()> {
+    writeln!(errors, "sed: {what}")
 }
 
 /// Says that a file can't be opened. The name's bytes are written as they are.
@@ -49,12 +64,12 @@ pub(crate) fn say_cannot_open<E: Write>(errors: &mut E, name: &[u8]) -> io::Resu
 
 /// Says that a request for memory was refused.
 pub(crate) fn say_no_memory<E: Write>(errors: &mut E) -> io::Result<()> {
-    writeln!(errors, "sed: no memory")
+    say(errors, "no memory")
 }
 
 /// Says that no script was given.
 pub(crate) fn say_no_script<E: Write>(errors: &mut E) -> io::Result<()> {
-    writeln!(errors, "sed: no script")
+    say(errors, "no script")
 }
 
 /// Says that a command line is refused: what `clap` says of it, but for its advice to take an option for an operand.

@@ -1,14 +1,10 @@
 //! The program, over devices that its caller gives.
-ghost use Rattle.std.specs.Prelude.{◌≡◌, ◌≢◌, ◌<◌, ◌⊎◌, [], ◌∷◌, ℕ, IfErr, IfOk, IfSome, IsNone, OnOk, length, map, take};
-ghost use Rattle.std.specs.String.{string_bytes};
-ghost use Rattle.sedspace.specs.Failures.{Rose};
-ghost use Rattle.sedengine.specs.Ends.{Gained};
-ghost use Rattle.sedengine.specs.Move.{to_sink};
+ghost use Rattle.std.specs.Prelude.{◌≡◌, ◌≢◌, ◌<◌, ◌⊎◌, ℕ, IfOk, length, map, true};
 ghost use Rattle.clap.specs.Words.{kind_of};
-ghost use Rattle.sededit.specs.Files.{StillGives, dash, OnlyReadsScripts, Creates, CreatesFirst};
+ghost use Rattle.sededit.specs.Files.{StillGives, OnlyReadsScripts, Creates, CreatesFirst};
 ghost use Rattle.sedscript.specs.Program.{Program};
-ghost use Rattle.sededit.specs.Program.{AsksHelp, GivesScript, HelpMeans, Runs, StatusMeans, observe, or_standard, run_of, texts_of};
-ghost use Rattle.sededit.specs.AddedSinks.{CreatesUpTo};
+ghost use Rattle.sededit.specs.Program.{AsksHelp, GivesScript, HelpMeans, Runs, StatusMeans, observe, run_of, texts_of};
+ghost use Rattle.sededit.specs.RunStatus.{Helps, Ran, Refuses};
 
 use crate::asked::{Line, Refused};
 use crate::command_line::line;
@@ -16,7 +12,7 @@ use crate::inputs::Inputs;
 use crate::messages::{say_cannot_open, say_fault, say_no_script, say_refused};
 use crate::names::Names;
 use crate::reading::{NoScript, read_script};
-use crate::running::{MISSED, REFUSED, STOPPED, SUCCESS, Task, out_of_memory, run, stopped};
+use crate::running::{MISSED, REFUSED, STOPPED, SUCCESS, Task, finish, out_of_memory, run};
 use crate::sinks::Sinks;
 use clap::error::ErrorKind;
 use sedengine::{Ended, Limits};
@@ -107,67 +103,40 @@ fn run_line<I: Inputs, O: Sinks, N: Names, E: Write>(
 ) -> u8
     requires sinks { O.count sinks.old ≡ 1 }
     requires names { N.named names.old ≡ 0 }
-    ensures status { (result ≡ SUCCESS) ⊎ ((result ≡ REFUSED) ⊎ ((result ≡ MISSED) ⊎ (result ≡ STOPPED))) }
-    ensures means { result ≢ REFUSED →
-        (p : Program) × GivesScript (I.text inputs.old) line.now limits.nodes p
+    ensures { Refuses (observe I.refusals I.failures O.contents O.failures inputs.old sinks.old)
+        (observe I.refusals I.failures O.contents O.failures inputs.new sinks.new) result
+        (OnlyReadsScripts I.current I.ahead I.text I.refusals I.failures I.reference inputs.old inputs.new)
+        ((O.names sinks.new ≡ O.names sinks.old) ⊎ ((p : Program) × GivesScript (I.text inputs.old) line.now limits.nodes p
+        × CreatesFirst (O.names sinks.old) (O.names sinks.new) p.wfiles))
+        ⊎ ((p : Program) × GivesScript (I.text inputs.old) line.now limits.nodes p
         × (Creates (O.names sinks.old) (O.names sinks.new) p.wfiles
-        × StatusMeans limits (observe I.refusals I.failures O.contents O.failures inputs.old sinks.old)
-        (observe I.refusals I.failures O.contents O.failures inputs.new sinks.new)
-        (StillGives I.current I.ahead inputs.new) result (run_of (record {
+        × Ran limits (observe I.refusals I.failures O.contents O.failures inputs.old sinks.old)
+        (observe I.refusals I.failures O.contents O.failures inputs.new sinks.new) (StillGives I.current I.ahead inputs.new)
+        (run_of (record {
           scripts = I.text inputs.old;
           inputs = I.ahead inputs.old;
           named = N.file names.old;
           others = N.text names.old;
-        }) line.now p)) }
-    ensures refused { result ≡ REFUSED → (k : ℕ) → O.contents sinks.new k ≡ O.contents sinks.old k }
-    ensures no_sink { result ≢ STOPPED → (k : ℕ) → O.failures sinks.new k ≡ O.failures sinks.old k }
-    ensures unread { result ≡ REFUSED →
-        OnlyReadsScripts I.current I.ahead I.text I.refusals I.failures I.reference inputs.old inputs.new }
-    ensures created { result ≡ REFUSED → (O.names sinks.new ≡ O.names sinks.old)
-        ⊎ ((p : Program) × GivesScript (I.text inputs.old) line.now limits.nodes p
-        × CreatesFirst (O.names sinks.old) (O.names sinks.new) p.wfiles) }
+        }) line.now p) result)) }
 {
-    let Ok(standard) = standard_input(alloc) else {
-        return out_of_memory(errors);
-    };
     let script = match read_script(alloc, line, limits.nodes(), inputs) {
         Ok(script) => script,
         Err(refusal) => return refuse(refusal, errors),
     };
-    if let Some(name) = create_files(&script, sinks) {
-        let _ = say_cannot_open(errors, name);
+    if !create_files(&script, sinks, errors) {
         return REFUSED;
     }
     if let Err(AllocError) = name_files(&script, names) {
         return out_of_memory(errors);
     }
-    let operands = operands_of(line, standard.as_slice());
     let task = Task {
         script,
-        names: operands,
+        operands: line.operands.as_slice(),
         limits,
     };
-    run(alloc, task, inputs, sinks, names, errors)
-}
-
-/// The operands where none are given.
-fn standard_input(alloc: Global) -> Result<Vec<String>, AllocError>
-    ensures { IfOk result (λ names. map string_bytes names.items ≡ dash ∷ []) }
-{
-    let mut names = Vec::new(alloc);
-    names.push(String::from_str(alloc, "-")?)?;
-    Ok(names)
-}
-
-/// The files of a line's operands, or the standard input where it has none.
-fn operands_of<'a>(line: &'a Line, standard: &'a [String]) -> &'a [String]
-    requires { map string_bytes standard.now ≡ dash ∷ [] }
-    ensures { map string_bytes result.now ≡ or_standard (map string_bytes line.now.operands.items) }
-{
-    if line.operands.is_empty() {
-        standard
-    } else {
-        line.operands.as_slice()
+    match run(alloc, task, inputs, sinks, names, errors) {
+        Ok(status) => status,
+        Err(AllocError) => out_of_memory(errors),
     }
 }
 
@@ -179,13 +148,9 @@ fn answer_words<O: Sinks, E: Write>(
     errors: &mut E,
 ) -> u8
     requires { 0 < O.count sinks.old }
-    ensures status { (result ≡ SUCCESS) ⊎ ((result ≡ REFUSED) ⊎ (result ≡ STOPPED)) }
-    ensures asked { result ≢ REFUSED → kind_of error.now ≡ ErrorKind.DisplayHelp }
-    ensures means { result ≢ REFUSED → HelpMeans (O.contents sinks.old) (O.contents sinks.new)
-        (O.failures sinks.old) (O.failures sinks.new) result }
-    ensures names { O.names sinks.new ≡ O.names sinks.old }
-    ensures refused { result ≡ REFUSED → sinks.new ≡ sinks.old }
-    ensures no_sink { result ≢ STOPPED → (k : ℕ) → O.failures sinks.new k ≡ O.failures sinks.old k }
+    ensures { ((result ≡ REFUSED) × (sinks.new ≡ sinks.old))
+        ⊎ ((kind_of error.now ≡ ErrorKind.DisplayHelp) × Helps (O.contents sinks.old) (O.contents sinks.new)
+        (O.failures sinks.old) (O.failures sinks.new) (O.names sinks.old) (O.names sinks.new) result) }
 {
     let Ok(text) = error.to_string(alloc) else {
         return out_of_memory(errors);
@@ -194,47 +159,37 @@ fn answer_words<O: Sinks, E: Write>(
         let _ = say_refused(errors, text.as_str());
         return REFUSED;
     };
-    match write_out(sinks, text.as_bytes()) {
-        Ok(()) => SUCCESS,
-        Err(end) => stopped(end, errors),
-    }
+    write_help(text.as_bytes(), sinks, errors)
 }
 
-/// Writes the bytes to sink 0 and flushes it.
-fn write_out<O: Sinks>(sinks: &mut O, bytes: &[u8]) -> Result<(), Ended>
+/// Writes the help to sink 0 and flushes it.
+fn write_help<O: Sinks, E: Write>(text: &[u8], sinks: &mut O, errors: &mut E) -> u8
     requires { 0 < O.count sinks.old }
-    ensures whole { OnOk result (Gained (O.contents sinks.old) (O.contents sinks.new) (to_sink 0 bytes.now)) }
-    ensures part { (count : ℕ) × Gained (O.contents sinks.old) (O.contents sinks.new) (to_sink 0 (take count bytes.now)) }
-    ensures names { O.names sinks.new ≡ O.names sinks.old }
-    ensures kept { OnOk result ((k : ℕ) → O.failures sinks.new k ≡ O.failures sinks.old k) }
-    ensures failed { IfErr result (λ end. (k : ℕ)
-        × (end ≡ Ended.OutputBroken k) × Rose (O.failures sinks.old k) (O.failures sinks.new k)) }
+    ensures { Helps (O.contents sinks.old) (O.contents sinks.new) (O.failures sinks.old) (O.failures sinks.new)
+        (O.names sinks.old) (O.names sinks.new) result }
 {
-    if let Err(_) = write_all(sinks, 0, bytes) {
-        return Err(Ended::OutputBroken(0));
-    }
-    match sinks.flush() {
-        Ok(()) => Ok(()),
-        Err(sink) => Err(Ended::OutputBroken(sink)),
+    match write_all(sinks, 0, text) {
+        Ok(()) => finish(Ended::Done, false, sinks, errors),
+        Err(_) => finish(Ended::OutputBroken(0), false, sinks, errors),
     }
 }
 
-/// Creates the files that a script writes, in their order. Stops at one that can't be created, and answers its name.
-fn create_files<'a, O: Sinks>(script: &'a Script, sinks: &mut O) -> Option<&'a [u8]>
+/// Creates the files that a script writes, in their order. Stops at one that can't be created, and says so.
+fn create_files<O: Sinks, E: Write>(script: &Script, sinks: &mut O, errors: &mut E) -> bool
     requires { O.count sinks.old ≡ 1 }
-    ensures count { IsNone result → length script.entry.now.wfiles < O.count sinks.new }
-    ensures names { IsNone result → Creates (O.names sinks.old) (O.names sinks.new) script.entry.now.wfiles }
-    ensures refused { IfSome result (λ name.
-        CreatesUpTo (O.names sinks.old) (O.names sinks.new) script.entry.now.wfiles name.now) }
+    ensures all { result ≡ true → Creates (O.names sinks.old) (O.names sinks.new) script.now.wfiles
+        × (length script.now.wfiles < O.count sinks.new) }
+    ensures first { CreatesFirst (O.names sinks.old) (O.names sinks.new) script.now.wfiles }
     ensures contents { (k : ℕ) → O.contents sinks.new k ≡ O.contents sinks.old k }
     ensures failed { (k : ℕ) → O.failures sinks.new k ≡ O.failures sinks.old k }
 {
     for name in script.wfiles() {
         if !sinks.create(name.as_slice()) {
-            return Some(name.as_slice());
+            let _ = say_cannot_open(errors, name.as_slice());
+            return false;
         }
     }
-    None
+    true
 }
 
 /// Gives the texts the names of the files that a script reads.

@@ -11,7 +11,7 @@ use sedscript::{Kind, Reason, Script, ScriptFault, add_part};
 use std::alloc::{AllocError, Global};
 
 /// Why there is no script to run.
-#[derive(Clone, Copy, Debug)]
+#[derive(Clone, Copy)]
 pub(crate) enum NoScript<'a> {
     /// No part was given.
     NotGiven,

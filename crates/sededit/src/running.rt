@@ -1,9 +1,10 @@
 //! The run of a script over the files of a command line, and the status that it gives.
-ghost use Rattle.std.specs.Prelude.{◌≡◌, ◌≢◌, ◌<◌, ◌≤◌, ◌⊎◌, ◌∷◌, ℕ, length, map, true, false};
+ghost use Rattle.std.specs.Prelude.{◌≡◌, ◌<◌, ◌≤◌, ◌∷◌, ℕ, IfOk, OnErr, [], length, map};
 ghost use Rattle.std.specs.String.{string_bytes};
-ghost use Rattle.sededit.specs.Files.{StillGives, joined_files};
-ghost use Rattle.sededit.specs.Joining.{left};
-ghost use Rattle.sededit.specs.Program.{SinkFailed, StatusMeans, observe};
+ghost use Rattle.sededit.specs.Files.{StillGives, dash, joined_files};
+ghost use Rattle.sededit.specs.Opening.{WereRefused};
+ghost use Rattle.sededit.specs.Program.{observe, or_standard};
+ghost use Rattle.sededit.specs.RunStatus.{Finishes, Ran};
 
 use crate::editing::{Edited, edit_ahead};
 use crate::inputs::Inputs;
@@ -28,11 +29,11 @@ pub(crate) const MISSED: u8 = 2;
 /// The run ended before its time: a limit or a device ended it.
 pub(crate) const STOPPED: u8 = 4;
 
-/// A script, the files that it is run over, and the limits of the run.
+/// A script, the operands that name the files that it is run over, and the limits of the run.
 #[derive(Drop)]
 pub(crate) struct Task<'a> {
     pub(crate) script: Script,
-    pub(crate) names: &'a [String],
+    pub(crate) operands: &'a [String],
     pub(crate) limits: Limits,
 }
 
@@ -52,31 +53,62 @@ pub(crate) fn out_of_memory<E: Write>(errors: &mut E) -> u8
     REFUSED
 }
 
-/// Names the files that were missed, in their order.
-fn say_missed<I: Inputs, E: Write>(joined: &Joined<'_, I>, names: &[String], errors: &mut E) {
+/// The name of the standard input alone.
+fn standard_input(alloc: Global) -> Result<Vec<String>, AllocError>
+    ensures { IfOk result (λ names. map string_bytes names.items ≡ dash ∷ []) }
+{
+    let mut names = Vec::new(alloc);
+    names.push(String::from_str(alloc, "-")?)?;
+    Ok(names)
+}
+
+/// The names of the input files: the operands, or the standard input where there are none.
+fn names_of<'a>(operands: &'a [String], standard: &'a [String]) -> &'a [String]
+    requires { map string_bytes standard.now ≡ dash ∷ [] }
+    ensures { map string_bytes result.now ≡ or_standard (map string_bytes operands.now) }
+{
+    if operands.is_empty() {
+        standard
+    } else {
+        operands
+    }
+}
+
+/// Gives back what an edit left ahead that `q` ended, names the files that were missed, in their order, and answers whether
+/// any was.
+fn close<I: Inputs, E: Write>(
+    joined: &Joined<'_, I>,
+    edited: &Result<Edited, AllocError>,
+    names: &[String],
+    errors: &mut E,
+) -> bool
+    ensures { WereRefused result joined.now.start (I.refusals joined.now.inputs) }
+{
+    if let Ok(
+        Edited {
+            end: Ended::Done,
+            ahead,
+        },
+    ) = edited
+    {
+        joined.give_back(*ahead);
+    }
     for (number, name) in names.iter().enumerate() {
         if joined.missed(number) {
             let _ = say_cannot_open(errors, name.as_bytes());
         }
     }
-}
-
-/// Gives back what a run left ahead that `q` ended.
-fn give_back<I: Inputs>(joined: &Joined<'_, I>, edited: Edited) {
-    if let Ended::Done = edited.end {
-        joined.give_back(edited.ahead);
-    }
+    joined.has_missed()
 }
 
 /// Writes out what is held back, says how the run ended, and gives the status.
-fn finish<O: Sinks, E: Write>(end: Ended, has_missed: bool, sinks: &mut O, errors: &mut E) -> u8
-    ensures status { (result ≡ SUCCESS) ⊎ ((result ≡ MISSED) ⊎ (result ≡ STOPPED)) }
-    ensures whole { result ≡ SUCCESS → (end ≡ Ended.Done) × (has_missed ≡ false) }
-    ensures missed { result ≡ MISSED → (end ≡ Ended.Done) × (has_missed ≡ true) }
-    ensures stopped { result ≡ STOPPED → (end ≢ Ended.Done) ⊎ ((end ≡ Ended.Done)
-        × SinkFailed (O.failures sinks.old) (O.failures sinks.new)) }
-    ensures failures { (k : ℕ) → O.failures sinks.old k ≤ O.failures sinks.new k }
-    ensures no_sink { result ≢ STOPPED → (k : ℕ) → O.failures sinks.new k ≡ O.failures sinks.old k }
+pub(crate) fn finish<O: Sinks, E: Write>(
+    end: Ended,
+    has_missed: bool,
+    sinks: &mut O,
+    errors: &mut E,
+) -> u8
+    ensures finishes { Finishes (O.failures sinks.old) (O.failures sinks.new) has_missed end result }
     ensures contents { (k : ℕ) → O.contents sinks.new k ≡ O.contents sinks.old k }
     ensures names { O.names sinks.new ≡ O.names sinks.old }
 {
@@ -88,51 +120,7 @@ fn finish<O: Sinks, E: Write>(end: Ended, has_missed: bool, sinks: &mut O, error
     }
 }
 
-/// Runs a script over files that are joined.
-fn run_joined<I: Inputs, O: Sinks, T: Texts, E: Write>(
-    alloc: Global,
-    task: Task<'_>,
-    joined: &mut Joined<'_, I>,
-    sinks: &mut O,
-    texts: &mut T,
-    errors: &mut E,
-) -> u8
-    requires sinks { length task.script.wfiles < O.count sinks.old }
-    requires nodes { task.script.max_nodes ≤ task.limits.nodes }
-    ensures status { (result ≡ SUCCESS) ⊎ ((result ≡ REFUSED) ⊎ ((result ≡ MISSED) ⊎ (result ≡ STOPPED))) }
-    ensures means { result ≢ REFUSED → StatusMeans task.entry.limits
-        (record {
-          refusals = joined.new.start;
-          reads = I.failures joined.old.inputs;
-          contents = O.contents sinks.old;
-          failures = O.failures sinks.old;
-        })
-        (observe I.refusals I.failures O.contents O.failures joined.new.inputs sinks.new)
-        (λ more. more ≡ left I.current I.ahead joined.new) result
-        (record { script = task.entry.script; input = left I.current I.ahead joined.old; texts = T.text texts.old }) }
-    ensures refused { result ≡ REFUSED → sinks.new ≡ sinks.old }
-    ensures no_sink { result ≢ STOPPED → (k : ℕ) → O.failures sinks.new k ≡ O.failures sinks.old k }
-    ensures unread { result ≡ REFUSED → joined.new ≡ joined.old }
-    ensures names { O.names sinks.new ≡ O.names sinks.old }
-    ensures same_reference { joined.new.start ∷ I.reference joined.new.inputs
-        ≡ joined.old.start ∷ I.reference joined.old.inputs }
-{
-    let Task {
-        script,
-        names,
-        limits,
-    } = task;
-    let edited = match edit_ahead(alloc, script, limits, &mut *joined, sinks, texts) {
-        Ok(edited) => edited,
-        Err(AllocError) => return out_of_memory(errors),
-    };
-    give_back(&*joined, edited);
-    say_missed(&*joined, names, errors);
-    let has_missed = joined.has_missed();
-    finish(edited.end, has_missed, sinks, errors)
-}
-
-/// Runs a script over the files of these names, joined.
+/// Runs a script over the files that the operands name, joined, and gives the status.
 pub(crate) fn run<I: Inputs, O: Sinks, T: Texts, E: Write>(
     alloc: Global,
     task: Task<'_>,
@@ -140,30 +128,36 @@ pub(crate) fn run<I: Inputs, O: Sinks, T: Texts, E: Write>(
     sinks: &mut O,
     texts: &mut T,
     errors: &mut E,
-) -> u8
+) -> Result<u8, AllocError>
     requires sinks { length task.script.wfiles < O.count sinks.old }
     requires nodes { task.script.max_nodes ≤ task.limits.nodes }
-    ensures status { (result ≡ SUCCESS) ⊎ ((result ≡ REFUSED) ⊎ ((result ≡ MISSED) ⊎ (result ≡ STOPPED))) }
-    ensures means { result ≢ REFUSED → StatusMeans task.entry.limits
+    ensures ran { IfOk result (Ran task.entry.limits
         (observe I.refusals I.failures O.contents O.failures inputs.old sinks.old)
         (observe I.refusals I.failures O.contents O.failures inputs.new sinks.new)
-        (StillGives I.current I.ahead inputs.new) result
+        (StillGives I.current I.ahead inputs.new)
         (record {
           script = task.entry.script;
-          input = joined_files (I.ahead inputs.old) (map string_bytes task.entry.names.now);
+          input = joined_files (I.ahead inputs.old) (or_standard (map string_bytes task.entry.operands.now));
           texts = T.text texts.old;
-        }) }
-    ensures no_sink { result ≢ STOPPED → (k : ℕ) → O.failures sinks.new k ≡ O.failures sinks.old k }
-    ensures refused { result ≡ REFUSED → sinks.new ≡ sinks.old }
-    ensures unread { result ≡ REFUSED → inputs.new ≡ inputs.old }
+        })) }
+    ensures untouched { OnErr result ((inputs.new ≡ inputs.old) × (sinks.new ≡ sinks.old)) }
     ensures names { O.names sinks.new ≡ O.names sinks.old }
 {
-    let Ok(missed) = vec![in alloc; false; task.names.len()] else {
-        return out_of_memory(errors);
-    };
-    let mut joined = Joined::over(&mut *inputs, task.names, missed);
-    let status = run_joined(alloc, task, &mut joined, sinks, texts, errors);
+    let Task {
+        script,
+        operands,
+        limits,
+    } = task;
+    let standard = standard_input(alloc)?;
+    let names = names_of(operands, standard.as_slice());
+    let missed = vec![in alloc; false; names.len()]?;
+    let mut joined = Joined::over(&mut *inputs, names, missed);
+    let edited = edit_ahead(alloc, script, limits, &mut joined, sinks, texts);
+    let has_missed = close(&joined, &edited, names, errors);
     // They give the inputs back, and what became of these is known.
     let _inputs = joined.into_inputs();
-    status
+    match edited {
+        Ok(edited) => Ok(finish(edited.end, has_missed, sinks, errors)),
+        Err(AllocError) => Err(AllocError),
+    }
 }

@@ -1,9 +1,42 @@
-use Rattle.std.proofs.Common.{inl, inr, ⊎_elim}
+use Rattle.std.proofs.Common.{inl, inr}
+use Rattle.sededit.proofs.ProgramLemmas.{not_refused, one_of_four}
 use Rattle.sededit.proofs.program.command.Goals as goal
 
+pub returns-in-Ok-clause-status : goal.returns-in-Ok-clause-status
+returns-in-Ok-clause-status g c = elim c.run_line.ensures [
+  | inl refused ↦ inr (inl refused.is_refused)
+  | inr ran ↦ one_of_four _ ran.2.1.is_one
+]
+
 pub returns-in-Ok-clause-means : goal.returns-in-Ok-clause-means
-returns-in-Ok-clause-means g c = λ runs. inl (c.in-Ok.ensures.sound, (c.in-Ok.line, c.in-Ok.ensures.line, c.run_line.ensures.means runs))
+returns-in-Ok-clause-means g c = λ runs. elim c.run_line.ensures [
+  | inl refused ↦ absurd (runs refused.is_refused)
+  | inr ran ↦ inl (c.in-Ok.ensures.sound, (c.in-Ok.line, c.in-Ok.ensures.line, (ran.0, ran.1, (ran.2.0, ran.2.1.means))))
+]
+
+pub returns-in-Ok-clause-no_sink : goal.returns-in-Ok-clause-no_sink
+returns-in-Ok-clause-no_sink g c = λ goes_on k. elim c.run_line.ensures [
+  | inl refused ↦ refused.failures k
+  | inr ran ↦ ran.2.1.no_sink goes_on k
+]
+
+pub returns-in-Ok-clause-refused : goal.returns-in-Ok-clause-refused
+returns-in-Ok-clause-refused g c = λ is k. elim c.run_line.ensures [
+  | inl refused ↦ refused.contents k
+  | inr ran ↦ absurd (not_refused _ ran.2.1.is_one is)
+]
+
+pub returns-in-Ok-clause-unread : goal.returns-in-Ok-clause-unread
+returns-in-Ok-clause-unread g c = λ is. elim c.run_line.ensures [
+  | inl refused ↦ refused.unread
+  | inr ran ↦ absurd (not_refused _ ran.2.1.is_one is)
+]
 
 pub returns-in-Ok-clause-created : goal.returns-in-Ok-clause-created
-returns-in-Ok-clause-created g c is =
-    ⊎_elim inl (λ r. inr (c.in-Ok.ensures.sound, (c.in-Ok.line, c.in-Ok.ensures.line, r))) (c.run_line.ensures.created is)
+returns-in-Ok-clause-created g c = λ is. elim c.run_line.ensures [
+  | inl refused ↦ elim refused.created [
+    | inl none ↦ inl none
+    | inr some ↦ inr (c.in-Ok.ensures.sound, (c.in-Ok.line, c.in-Ok.ensures.line, some))
+  ]
+  | inr ran ↦ absurd (not_refused _ ran.2.1.is_one is)
+]
