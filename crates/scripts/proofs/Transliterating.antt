@@ -13,7 +13,7 @@ use Rattle.sedscript.specs.declared.items.Strings.{Strings}
 use Rattle.sedscript.specs.declared.items.Function.{Function}
 use Rattle.sedscript.specs.declared.items.Function.TheVariants.{Transliterate}
 use Rattle.sedscript.specs.Items.{address_at, addresses_at, addresses_of, function_at, item_at, plainly, ◌>>=◌}
-use Rattle.sedscript.specs.Between.{transliterate_at}
+use Rattle.sedscript.specs.Letters.{transliterate_at}
 use Rattle.sedscript.specs.Bytes.{bytes_between}
 use Rattle.sedscript.specs.Script.{Means}
 use Rattle.sedscript.specs.Program.{Program}

@@ -20,11 +20,11 @@ use Rattle.sedscript.specs.declared.types.Address.TheVariants.{Last, Match}
 use Rattle.sedscript.specs.declared.items.ItemOrEnd.{ItemOrEnd}
 use Rattle.sedscript.specs.declared.items.ItemOrEnd.TheVariants.{Is, Ends}
 use Rattle.sedscript.specs.Bytes.{bytes_between, past, is_byte, is_digit}
-use Rattle.sedscript.specs.Items.{Pattern, Reading, plainly, expression, ◌>>=◌, Addressed, found, addresses_of, with_addresses, with_second, folds_at, past_flag, match_at, own_match, addresses_at, after_first, second_at, address_at, address_of, line_of, item_at, item_from, substitute_with, substitute_at, function_of, function_with, function_at}
+use Rattle.sedscript.specs.Items.{Pattern, Reading, plainly, expression, ◌>>=◌, Addressed, found, addresses_of, with_addresses, with_second, folds_at, past_flag, match_at, own_match, addresses_at, after_first, second_at, address_at, address_of, line_of, item_at, item_from, substitute_with, substitute_at, function_with, function_at}
 use Rattle.sedscript.specs.declared.items.Strings.{Strings}
 use Rattle.sedscript.specs.declared.items.Function.{Function}
-use Rattle.sedscript.specs.Between.{own_delimiter, substitute_strings, flags_after, substituted}
-use Rattle.sedscript.specs.Functions.{verb_of, allowed}
+use Rattle.sedscript.specs.Between.{own_delimiter, substitute_strings, flags_after}
+use Rattle.sedscript.specs.Letters.{function_of, substituted, verb_of, allowed}
 use Rattle.sedscript.specs.declared.letters.Verb.{Verb}
 use Rattle.sedscript.specs.declared.letters.Verb.TheVariants.{Reads}
 use Rattle.sedscript.specs.declared.letters.Arguments.{Arguments}

@@ -37,9 +37,10 @@ use Rattle.std.specs.List.{cons_option, prefix_len, take_while}
 use Rattle.std.proofs.lemmas.List.Sums.{prefix_len-le-length}
 use Rattle.sedscript.specs.Bytes.{past, belongs, bytes_between, is_digit, is_byte}
 use Rattle.sedscript.specs.Strings.{escapes, string_end, Piece, group, escaped_piece, exceeds, piece_fault, replacement_fault, escaped_byte, char_of, chars_from, chars_of, string_fault, is_among, repeated_in, strings_fault}
-use Rattle.sedscript.specs.Functions.{or_fault, verb_of, most_addresses, allowed, ended, may_end, text_end, text_of, text_from, label_of, file_of, name_from, ◌>>=◌ as ◌then◌}
-use Rattle.sedscript.specs.Between.{no_flags, numbered, with_number, with_flag, flags_from, own_delimiter, strings_after, substitute_strings, transliterate_strings, unless_fault, transliterate_at, flags_after, substituted}
-use Rattle.sedscript.specs.Items.{Reading, plainly, expression, ◌>>=◌, Addressed, Headed, with_addresses, line_of, folds_at, past_flag, match_at, own_match, address_of, address_at, with_second, second_at, after_first, addresses_at, with_bang, substitute_with, substitute_at, function_of, function_with, function_at, item_from, item_at}
+use Rattle.sedscript.specs.Functions.{or_fault, ended, may_end, text_end, text_of, text_from, file_of, name_from, ◌>>=◌ as ◌then◌}
+use Rattle.sedscript.specs.Between.{no_flags, numbered, with_number, with_flag, flags_from, own_delimiter, strings_after, substitute_strings, transliterate_strings, unless_fault, flags_after}
+use Rattle.sedscript.specs.Items.{Reading, plainly, expression, ◌>>=◌, Addressed, Headed, with_addresses, line_of, folds_at, past_flag, match_at, own_match, address_of, address_at, with_second, second_at, after_first, addresses_at, with_bang, substitute_with, substitute_at, function_with, function_at, item_from, item_at}
+use Rattle.sedscript.specs.Letters.{verb_of, most_addresses, allowed, label_of, transliterate_at, substituted, function_of}
 use Rattle.sedscript.specs.Script.{Gives, value, after_expression, CutScript, done, item}
 use Rattle.sedscript.specs.FirstFault.{Fails, own, no_expression, later, Faulty, early, afterwards}
 use Rattle.sedscript.specs.Targets.{fault_if, target_fault_at, target_fault_in, depth_after, block_end, label_in}
@@ -283,7 +284,7 @@ ended_read text count f at h le =
 
 label_read : (text : List ℕ) (count place from : ℕ) → place ≤ length text → from ≤ length text → ReadUpTo (EndsUpTo (length text) count) (length text) (label_of text place from)
 label_read text count place from low le =
-    read_if (EndsUpTo (length text) count) (length text) (past Name text from == from) _ _ low (ended_read text count (Label from (past Name text from)) (past Name text from) tt (past_up_to Name text from le))
+    read_if (EndsUpTo (length text) count) (length text) (past Name text from == from) _ _ low (ended_read text count _ (past Name text from) tt (past_up_to Name text from le))
 
 -- the span of a text or a name ends up to a place
 abbrev SpanUpTo : ℕ → Option (ℕ × ℕ) → Type 0
@@ -335,25 +336,23 @@ transliterate_read : (text : List ℕ) (count at : ℕ) → at < length text →
 unfolding transliterate_at
 transliterate_read text count at there =
     read_then (StringsIn (length text)) (EndsUpTo (length text) count) (length text) (transliterate_strings text (at + 1) (own_delimiter (slice_get text (at + 1))))
-    (λ (s : Strings). unless_fault (strings_fault text s.delimiter at s.from s.middle s.to) (ended text (Transliterate s) (s.to + 1)))
-    (transliterate_strings_read text (at + 1) (omega (arith, there)))
-    (λ s h. unless_up_to (EndsUpTo (length text) count) (length text) (strings_fault text s.delimiter at s.from s.middle s.to) (ended text (Transliterate s) (s.to + 1))
+    _ (transliterate_strings_read text (at + 1) (omega (arith, there)))
+    (λ s h. unless_up_to (EndsUpTo (length text) count) (length text) (strings_fault text s.delimiter at s.from s.middle s.to) _
     (strings_up_to text s.delimiter at s.from s.middle s.to (length text) (omega (arith, there)) h.0 h.1 (omega (arith, h.2)))
-    (ended_read text count (Transliterate s) (s.to + 1) tt (omega (arith, h.2))))
+    (ended_read text count _ (s.to + 1) tt (omega (arith, h.2))))
 
 function_read : (text : List ℕ) (count at : ℕ) (arguments : Arguments) → at < length text → ReadUpTo (EndsUpTo (length text) count) (length text) (function_of text arguments at)
 function_read text count at OpensBlock there = (tt, omega (arith, there))
-function_read text count at ClosesBlock there = ended_read text count Close (at + 1) tt (omega (arith, there))
 function_read text count at Remark there = (tt, past_up_to Line text (at + 1) (omega (arith, there)))
 function_read text count at NamesLabel there = label_read text count at (past Blank text (at + 1)) (omega (arith, there)) (past_up_to Blank text (at + 1) (omega (arith, there)))
 function_read text count at (GoesTo u) there =
-    ended_read text count (Branch u (past Blank text (at + 1)) (past Name text (past Blank text (at + 1)))) (past Name text (past Blank text (at + 1))) tt
+    ended_read text count _ (past Name text (past Blank text (at + 1))) tt
     (past_up_to Name text (past Blank text (at + 1)) (past_up_to Blank text (at + 1) (omega (arith, there))))
 function_read text count at (TakesText t) there =
     text_read (length text) count at t (text_from text (past Blank text (at + 1))) (omega (arith, there)) (text_from_up_to text (past Blank text (at + 1)) (past_up_to Blank text (at + 1) (omega (arith, there))))
 function_read text count at (NamesFile u) there = file_read (length text) count at u (name_from text (at + 1)) (omega (arith, there)) (name_up_to text (at + 1) (omega (arith, there)))
 function_read text count at TakesStrings there = transliterate_read text count at there
-function_read text count at (Alone s) there = ended_read text count (Plain s) (at + 1) tt (omega (arith, there))
+function_read text count at other there = ended_read text count _ (at + 1) tt (omega (arith, there))
 
 -- flags of `s`
 
@@ -401,9 +400,9 @@ unfolding substituted
 substituted_read text count s e limit one h =
     unless_up_to (EndsUpTo (length text) count) (length text) (replacement_fault s.delimiter limit false (s.middle + 1) (bytes_between text (s.middle + 1) s.to)) _
     (replacement_up_to (length text) s.delimiter limit false (s.middle + 1) (bytes_between text (s.middle + 1) s.to) (omega (arith, h.2, between_short text (s.middle + 1) s.to (omega (arith, h.1)))))
-    (read_then (FlagsUpTo (length text)) (EndsUpTo (length text) count) (length text) (flags_after text s (not (is_some e))) (λ (found : Flags × ℕ). ended text (Substitute s e found.0) found.1)
+    (read_then (FlagsUpTo (length text)) (EndsUpTo (length text) count) (length text) (flags_after text s (not (is_some e))) _
     (flags_read text (not (is_some e)) no_flags 0 (s.to + 1) (drop (s.to + 1) text) (omega arith) (omega (arith, h.2, length-drop (s.to + 1) text)))
-    (λ found g. ended_read text count (Substitute s e found.0) found.1 (one, g.0) g.1))
+    (λ found g. ended_read text count _ found.1 (one, g.0) g.1))
 
 -- readings
 

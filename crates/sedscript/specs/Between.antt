@@ -1,11 +1,11 @@
 -- What stands between delimiters after `s` and `y`, and the flags of `s` (XCU sed, "Editing Commands in sed").
-use Rattle.std.specs.Prelude.{ℕ, zero, suc, ◌+◌, List, [], ◌∷◌, Bool, true, false, ◌||◌, Option, Some, None, is_some, if◌then◌else◌, ◌==◌, Result, Ok, Err, not, drop, slice_get}
+use Rattle.std.specs.Prelude.{ℕ, zero, suc, ◌+◌, List, [], ◌∷◌, Bool, true, false, ◌||◌, Option, Some, None, is_some, if◌then◌else◌, ◌==◌, Result, Ok, Err, drop}
 use Rattle.std.specs.List.{fold, prefix_len, take_while}
-use Rattle.sedscript.specs.Types.{ScriptFault, UnknownFlag, RepeatedFlag, BadNumber, MissingName, FlagOnEmpty, Flags, OpenDelimiter, BadDelimiter, Strings, Function, Substitute, Transliterate}
-use Rattle.sedscript.specs.Bytes.{is_blank, is_digit, with_digit, bytes_between}
-use Rattle.sedscript.specs.Functions.{fault, or_fault, may_end, name_from, ◌>>=◌, ended}
+use Rattle.sedscript.specs.Types.{ScriptFault, UnknownFlag, RepeatedFlag, BadNumber, MissingName, FlagOnEmpty, Flags, OpenDelimiter, BadDelimiter, Strings}
+use Rattle.sedscript.specs.Bytes.{is_blank, is_digit, with_digit}
+use Rattle.sedscript.specs.Functions.{fault, or_fault, may_end, name_from, ◌>>=◌}
 use Rattle.sedre.specs.Brackets.{delimiter_at}
-use Rattle.sedscript.specs.Strings.{string_end, replacement_fault, strings_fault}
+use Rattle.sedscript.specs.Strings.{string_end}
 
 abbrev pub no_flags : Flags
 no_flags = record { number = None; global = false; print = false; folded = false; file = None }
@@ -75,19 +75,6 @@ abbrev pub unless_fault : {A : Type 0} → Option ScriptFault → Result A Scrip
 unless_fault None read = read
 unless_fault (Some f) read = Err f
 
--- the command `y` whose letter stands at a place, and its end
-unfoldable pub transliterate_at : List ℕ → ℕ → Result (Function × ℕ) ScriptFault
-transliterate_at text at =
-    transliterate_strings text (at + 1) (own_delimiter (slice_get text (at + 1))) >>= λ s.
-    unless_fault (strings_fault text s.delimiter at s.from s.middle s.to) (ended text (Transliterate s) (s.to + 1))
-
 -- the flags of `s`, whose regular expression is empty or not, and the place after them
 abbrev pub flags_after : List ℕ → Strings → (empty : Bool) → Result (Flags × ℕ) ScriptFault
 flags_after text s empty = flags_from text empty no_flags 0 (s.to + 1) (drop (s.to + 1) text)
-
--- the command `s` with these strings, and its end. Its expression has this number in the script, None if it is empty; the
--- groups of its replacement have numbers up to the limit, where there is one
-unfoldable pub substituted : List ℕ → Strings → Option ℕ → Option ℕ → Result (Function × ℕ) ScriptFault
-substituted text s e limit =
-    unless_fault (replacement_fault s.delimiter limit false (s.middle + 1) (bytes_between text (s.middle + 1) s.to))
-    (flags_after text s (not (is_some e)) >>= λ found. ended text (Substitute s e found.0) found.1)

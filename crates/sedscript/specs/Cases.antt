@@ -1,13 +1,14 @@
 -- Private to the proofs: no contract of a public item cites what stands here.
 -- Parts of the definitions by names, some with what stands at a place or is found there as an argument, for proofs by
 -- cases.
-use Rattle.std.specs.Prelude.{ℕ, List, Bool, not, ◌||◌, Option, Some, None, is_some, Result, Ok, ◌+◌, ◌==◌, if◌then◌else◌, option_map}
+use Rattle.std.specs.Prelude.{ℕ, List, Bool, ◌||◌, Option, Some, None, Result, Ok, ◌+◌, ◌==◌, if◌then◌else◌, option_map}
 use Rattle.std.specs.List.{fold}
 use Rattle.std.specs.Result.{result_unwrap_or}
-use Rattle.sedscript.specs.Types.{ScriptFault, Addresses, Match, OpenDelimiter, RepeatedByte, UnknownCommand, MissingName, FlagOnEmpty, Flags, Strings, Function, Substitute, ItemOrEnd, Is}
+use Rattle.sedscript.specs.Types.{ScriptFault, Addresses, Match, OpenDelimiter, RepeatedByte, UnknownCommand, MissingName, FlagOnEmpty, Flags, Function, ItemOrEnd, Is}
 use Rattle.sedscript.specs.Bytes.{is_blank, with_digit}
-use Rattle.sedscript.specs.Functions.{fault, or_fault, may_end, ended, allowed, verb_of, ◌>>=◌ as ◌then◌}
-use Rattle.sedscript.specs.Between.{no_flags, flags_after}
+use Rattle.sedscript.specs.Functions.{fault, or_fault, may_end, ◌>>=◌ as ◌then◌}
+use Rattle.sedscript.specs.Letters.{allowed, verb_of}
+use Rattle.sedscript.specs.Between.{no_flags}
 use Rattle.sedscript.specs.Items.{Reading, plainly, expression, ◌>>=◌, Addressed, Headed, found, folds_at, past_flag, with_bang, function_with, function_at}
 
 -- the number with these digits at its end, if it is below 2 ^ 64
@@ -25,10 +26,6 @@ with_file f at found = ◌then◌ (or_fault found MissingName at) (λ name. Ok (
 -- whether letters match without regard to case, by the flags that were read
 abbrev pub folds : Result (Flags × ℕ) ScriptFault → Bool
 folds read = (result_unwrap_or read (no_flags, 0)).0.folded
-
--- the command `s` with the flags after its strings, and its end
-abbrev pub flagged : List ℕ → Strings → Option ℕ → Result (Function × ℕ) ScriptFault
-flagged text s e = ◌then◌ (flags_after text s (not (is_some e))) (λ found. ended text (Substitute s e found.0) found.1)
 
 -- the address of the empty regular expression, which ends before a place
 abbrev pub empty_match : List ℕ → ℕ → ℕ → Result Addressed ScriptFault

@@ -2,10 +2,11 @@
 use Rattle.std.specs.Prelude.{ℕ, Bool, Result, Ok, Err, suc, ◌+◌, List, true, false, Option, Some, None, if◌then◌else◌, ◌==◌, slice_get}
 use Rattle.std.specs.List.{fold}
 use Rattle.std.specs.Result.{result_unwrap_or}
-use Rattle.sedscript.specs.Types.{ScriptFault, BadAddress, OpenDelimiter, BadDelimiter, FlagOnEmpty, Address, Line, Last, Match, Addresses, UnknownCommand, Strings, Function, Plain, Open, Close, Comment, Verb, ReadsExpression, Reads, Arguments, Alone, OpensBlock, ClosesBlock, Remark, NamesLabel, GoesTo, TakesText, NamesFile, TakesStrings, ItemOrEnd, Is, Ends}
-use Rattle.sedscript.specs.Bytes.{Blank, Bang, Digit, past, bytes_between, is_digit, with_digit, is_byte, Separator, Line as LineRest}
-use Rattle.sedscript.specs.Functions.{fault, or_fault, ended, label_of, branch_of, text_of, text_from, file_of, name_from, allowed, verb_of}
-use Rattle.sedscript.specs.Between.{own_delimiter, substitute_strings, flags_after, substituted, transliterate_at, no_flags}
+use Rattle.sedscript.specs.Types.{ScriptFault, BadAddress, OpenDelimiter, BadDelimiter, FlagOnEmpty, UnknownCommand, Address, Line, Last, Match, Addresses, Strings, Function, Verb, ReadsExpression, Reads, ItemOrEnd, Is, Ends}
+use Rattle.sedscript.specs.Bytes.{Blank, Bang, Digit, past, bytes_between, is_digit, with_digit, is_byte, Separator}
+use Rattle.sedscript.specs.Functions.{fault, or_fault}
+use Rattle.sedscript.specs.Between.{own_delimiter, substitute_strings, flags_after, no_flags}
+use Rattle.sedscript.specs.Letters.{verb_of, allowed, substituted, function_of}
 use Rattle.sedre.specs.Brackets.{delimiter_at}
 
 -- a regular expression in a script: where it begins and ends, the delimiter there, and whether its flag `I` folds the case of
@@ -141,18 +142,6 @@ substitute_with text count s =
 unfoldable pub substitute_at : List ℕ → ℕ → ℕ → Reading (Function × ℕ)
 substitute_at text count at =
     plainly (substitute_strings text (at + 1) (own_delimiter (slice_get text (at + 1)))) >>= substitute_with text count
-
--- the function whose letter stands at a place and takes these arguments, and the place after it
-abbrev pub function_of : List ℕ → Arguments → ℕ → Result (Function × ℕ) ScriptFault
-function_of text OpensBlock at = Ok (Open, at + 1)
-function_of text ClosesBlock at = ended text Close (at + 1)
-function_of text Remark at = Ok (Comment, past LineRest text (at + 1))
-function_of text NamesLabel at = label_of text at (past Blank text (at + 1))
-function_of text (GoesTo u) at = branch_of text u (past Blank text (at + 1))
-function_of text (TakesText t) at = text_of t at (text_from text (past Blank text (at + 1)))
-function_of text (NamesFile u) at = file_of u at (name_from text (at + 1))
-function_of text TakesStrings at = transliterate_at text at
-function_of text (Alone s) at = ended text (Plain s) (at + 1)
 
 -- the function whose letter stands at a place and stands for this, and the place after it
 abbrev pub function_with : List ℕ → ℕ → Verb → ℕ → Reading (Function × ℕ)

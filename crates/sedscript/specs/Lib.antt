@@ -4,6 +4,7 @@ pub mod Faults
 pub mod Functions
 pub mod Strings
 pub mod Between
+pub mod Letters
 pub mod Items
 pub mod Targets
 pub mod Program

@@ -1,18 +1,14 @@
 //! What stands between delimiters after `s` and `y`.
 
 ghost use Rattle.std.specs.Prelude.{◌≡◌, ◌≢◌, ◌≤◌, ◌<◌, ◌+◌, false, Some, length, slice_get, if◌then◌else◌, IfOk, IfSome};
-ghost use Rattle.sedscript.specs.Strings.{string_end};
-ghost use Rattle.sedscript.specs.Between.{own_delimiter, strings_after, substitute_strings, transliterate_strings, transliterate_at, flags_after, substituted};
+ghost use Rattle.sedscript.specs.Between.{own_delimiter, strings_after, substitute_strings, transliterate_strings, flags_after};
 ghost use Rattle.sedscript.specs.Answers.{AreStrings};
 ghost use Rattle.sedscript.specs.Cases.{folds};
 
 use crate::bytes::byte_at;
 use crate::flags::flags_at;
-use crate::functions::ended;
-use crate::items::{Function, Strings};
-use crate::replacement::replacement_fault;
+use crate::items::Strings;
 use crate::strings::string_end;
-use crate::transliteration::strings_fault;
 use crate::types::{Reason, ScriptFault};
 use sedre::delimited;
 
@@ -87,20 +83,6 @@ pub fn strings_at(text: &[u8], breaks: bool, place: usize) -> Result<Strings, Sc
     }
 }
 
-/// The command `y` whose letter stands at `at`, and its end.
-#[tactic(auto, unfolding(crate::specs::Between::transliterate_at))]
-pub fn transliterate_at(text: &[u8], at: usize) -> Result<(Function, usize), ScriptFault>
-    requires { at < length text.now }
-    ensures is { result ≡ transliterate_at text.now at }
-    ensures within { IfOk result (λ found. (at < found.1) × (found.1 ≤ length text.now)) }
-{
-    let strings = strings_at(text, false, at + 1)?;
-    if let Some(fault) = strings_fault(text, strings, at) {
-        return Err(fault);
-    }
-    ended(text, Function::Transliterate(strings), strings.to + 1)
-}
-
 /// Whether the flags of `s`, whose regular expression isn't empty, make letters match without regard to case. They
 /// stand after the expression but are looked at before it is read; its faults are told before theirs.
 pub fn folds(text: &[u8], strings: Strings) -> bool
@@ -111,24 +93,4 @@ pub fn folds(text: &[u8], strings: Strings) -> bool
         Ok((flags, _)) => flags.folded,
         Err(_) => false,
     }
-}
-
-/// The command `s` with these strings, and its end. Its regular expression has this number in the script; None stands
-/// for the empty one. The groups of the replacement have numbers up to `limit`, where there is one.
-#[tactic(auto, unfolding(crate::specs::Between::substituted))]
-pub fn substituted(
-    text: &[u8],
-    strings: Strings,
-    expression: Option<usize>,
-    limit: Option<usize>,
-) -> Result<(Function, usize), ScriptFault>
-    requires { AreStrings 0 (length text.now) strings }
-    ensures is { result ≡ substituted text.now strings expression limit }
-    ensures within { IfOk result (λ found. (strings.to < found.1) × (found.1 ≤ length text.now)) }
-{
-    if let Some(fault) = replacement_fault(text, strings, limit) {
-        return Err(fault);
-    }
-    let (flags, end) = flags_at(text, expression.is_none(), strings.to + 1)?;
-    ended(text, Function::Substitute(strings, expression, flags), end)
 }
