@@ -21,7 +21,7 @@ use Rattle.sedscript.specs.declared.types.FileUse.{FileUse}
 use Rattle.sedscript.specs.declared.items.Flags.{Flags}
 use Rattle.sedscript.specs.declared.items.Strings.{Strings}
 use Rattle.sedscript.specs.declared.items.Function.{Function}
-use Rattle.sedscript.specs.declared.items.Function.TheVariants.{Plain, Open, Close, Label, Branch, Substitute, Transliterate}
+use Rattle.sedscript.specs.declared.items.Function.TheVariants.{Open, Close, Label, Branch, Substitute}
 use Rattle.sedscript.specs.declared.items.Addresses.{Addresses}
 use Rattle.sedscript.specs.declared.items.Item.{Item}
 use Rattle.sedscript.specs.declared.items.ItemOrEnd.{ItemOrEnd}
@@ -29,7 +29,7 @@ use Rattle.sedscript.specs.declared.items.ItemOrEnd.TheVariants.{Is, Ends}
 use Rattle.sedscript.specs.declared.letters.Verb.{Verb}
 use Rattle.sedscript.specs.declared.letters.Verb.TheVariants.{ReadsExpression, Reads}
 use Rattle.sedscript.specs.declared.letters.Arguments.{Arguments}
-use Rattle.sedscript.specs.declared.letters.Arguments.TheVariants.{Alone, OpensBlock, ClosesBlock, Remark, NamesLabel, GoesTo, TakesText, NamesFile, TakesStrings}
+use Rattle.sedscript.specs.declared.letters.Arguments.TheVariants.{OpensBlock, Remark, NamesLabel, GoesTo, TakesText, NamesFile, TakesStrings}
 use Rattle.sedscript.specs.declared.texts.Inside.{Inside}
 use Rattle.sedscript.specs.declared.texts.Inside.TheVariants.{InLine, Escape, Due}
 use Rattle.sedscript.specs.declared.transliteration.Char.{Char}
@@ -154,9 +154,13 @@ string_up_to n d escaped at [] le = tt
 string_up_to n d escaped at (b ∷ bs) le =
     fault_choice n (escaped && is_none (escaped_byte d b)) _ _ (omega (arith, le)) (string_up_to n d (escapes escaped b) (suc at) bs (omega (arith, le)))
 
+-- each of a list is as it should be
+abbrev pub Each : {A : Type 0} → (A → Type 0) → List A → Type 0
+Each P [] = Unit {0}
+Each P (x ∷ xs) = P x × Each P xs
+
 abbrev CharsUpTo : ℕ → List Char → Type 0
-CharsUpTo n [] = Unit {0}
-CharsUpTo n (c ∷ cs) = (c.place ≤ n) × CharsUpTo n cs
+CharsUpTo n cs = Each (λ c. c.place ≤ n) cs
 
 abbrev CharUpTo : ℕ → Option Char → Type 0
 CharUpTo n None = Unit {0}
@@ -606,12 +610,10 @@ item_read text count at le = by_byte (slice_get text (past Separator text at))
         (addresses_read text count (past Separator text at) (past_up_to Separator text at le)) (λ k h more p. after k h p)
 
 abbrev ItemsUpTo : ℕ → List Item → Type 0
-ItemsUpTo n [] = Unit {0}
-ItemsUpTo n (i ∷ is) = (i.place ≤ n) × ItemsUpTo n is
+ItemsUpTo n is = Each (λ i. i.place ≤ n) is
 
 abbrev pub ItemsWithin : ℕ → List Item → Type 0
-ItemsWithin n [] = Unit {0}
-ItemsWithin n (i ∷ is) = ItemWithin n i × ItemsWithin n is
+ItemsWithin n is = Each (ItemWithin n) is
 
 -- the items of a cut stand within the text, and what they name is among its expressions
 pub cut_up_to : (text : List ℕ) (kind : Kind) (m count at to n : ℕ) (is : List Item) (es : List WrittenExpression) → CutScript text kind m count at is es to → at ≤ length text → n ≡ count + length es →

@@ -1,6 +1,6 @@
 -- The letters of the functions: what each stands for, the addresses that it takes, and what follows it (XCU sed, "Editing Commands
 -- in sed").
-use Rattle.std.specs.Prelude.{ℕ, List, Option, Some, None, is_some, if◌then◌else◌, ◌==◌, ◌+◌, Bool, true, false, not, ◌&&◌, nat_lt, slice_get, Result, Ok}
+use Rattle.std.specs.Prelude.{ℕ, List, Option, Some, None, is_some, if◌then◌else◌, ◌==◌, ◌+◌, false, not, ◌&&◌, nat_lt, slice_get, Result, Ok}
 use Rattle.std.specs.Option.{option_len}
 use Rattle.sedscript.specs.Types.{ScriptFault, UnknownCommand, TooManyAddresses, MissingLabel, Addresses, Strings, Verb, ReadsExpression, Reads, Arguments, Alone, OpensBlock, ClosesBlock, Remark, NamesLabel, GoesTo, TakesText, NamesFile, TakesStrings, BranchUse, Always, IfReplaced, Append, Insert, Change, Read, Write, AppendHold, AppendNext, CopyHold, Delete, DeleteFirst, Exchange, Hold, HoldMore, LineNumber, listing, NextLine, Print, PrintFirst, Quit, Function, Plain, Open, Close, Label, Branch, Substitute, Transliterate, Comment}
 use Rattle.sedscript.specs.Bytes.{Blank, Name, Line, past, bytes_between}

@@ -41,16 +41,10 @@ fn strings_after(
     ensures within { IfOk result (AreStrings (place + 1) (length text.now)) }
 {
     let Some(middle) = first else {
-        return Err(ScriptFault {
-            place,
-            reason: Reason::OpenDelimiter,
-        });
+        return Err(Reason::OpenDelimiter.at(place));
     };
     match string_end(text, breaks, delimiter, middle + 1) {
-        None => Err(ScriptFault {
-            place: middle,
-            reason: Reason::OpenDelimiter,
-        }),
+        None => Err(Reason::OpenDelimiter.at(middle)),
         Some(to) => Ok(Strings {
             delimiter,
             from: place + 1,
@@ -69,10 +63,7 @@ pub fn strings_at(text: &[u8], breaks: bool, place: usize) -> Result<Strings, Sc
     ensures within { IfOk result (AreStrings (place + 1) (length text.now)) }
 {
     match own_delimiter(byte_at(text, place)) {
-        None => Err(ScriptFault {
-            place,
-            reason: Reason::BadDelimiter,
-        }),
+        None => Err(Reason::BadDelimiter.at(place)),
         Some(delimiter) => if breaks {
             let middle = delimited(text, place + 1, delimiter);
             strings_after(text, true, delimiter, place, middle)

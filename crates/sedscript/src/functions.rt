@@ -29,10 +29,7 @@ pub fn ended(text: &[u8], function: Function, at: usize) -> Result<(Function, us
     if may_end(byte_at(text, end)) {
         Ok((function, end))
     } else {
-        Err(ScriptFault {
-            place: end,
-            reason: Reason::TrailingBytes,
-        })
+        Err(Reason::TrailingBytes.at(end))
     }
 }
 
@@ -43,10 +40,7 @@ pub fn text_of(text: &[u8], text_use: TextUse, at: usize) -> Result<(Function, u
     ensures within { IfOk result (λ found. (at < found.1) × (found.1 ≤ length text.now)) }
 {
     match text_from(text, past(Sort::Blank, text, at + 1)) {
-        None => Err(ScriptFault {
-            place: at,
-            reason: Reason::MissingText,
-        }),
+        None => Err(Reason::MissingText.at(at)),
         Some((from, to)) => Ok((Function::Text(text_use, from, to), to)),
     }
 }
@@ -70,10 +64,7 @@ pub fn file_of(text: &[u8], file_use: FileUse, at: usize) -> Result<(Function, u
     ensures within { IfOk result (λ found. (at < found.1) × (found.1 ≤ length text.now)) }
 {
     match name_from(text, at + 1) {
-        None => Err(ScriptFault {
-            place: at,
-            reason: Reason::MissingName,
-        }),
+        None => Err(Reason::MissingName.at(at)),
         Some((from, to)) => Ok((Function::File(file_use, from, to), to)),
     }
 }

@@ -86,10 +86,7 @@ fn function_at(
     ensures within { IfOk result (IsAfter at (length source.now.text.now)) }
 {
     let Some(letter) = byte_at(source.text, at) else {
-        return Err(ScriptFault {
-            place: at,
-            reason: Reason::UnknownCommand,
-        });
+        return Err(Reason::UnknownCommand.at(at));
     };
     let verb = allowed(addresses, letter, at)?;
     let (function, next) = function_with(source, exprs, verb, at)?;

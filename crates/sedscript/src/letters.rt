@@ -108,22 +108,13 @@ pub fn allowed(addresses: Addresses, letter: u8, at: usize) -> Result<Verb, Scri
     ensures { result ≡ allowed addresses at (verb_of letter) }
 {
     match verb_of(letter) {
-        None => Err(ScriptFault {
-            place: at,
-            reason: Reason::UnknownCommand,
-        }),
+        None => Err(Reason::UnknownCommand.at(at)),
         Some(verb) => {
             let most = most_addresses(verb);
             if addresses.negate && most == 0 {
-                Err(ScriptFault {
-                    place: at,
-                    reason: Reason::UnknownCommand,
-                })
+                Err(Reason::UnknownCommand.at(at))
             } else if most < given(addresses.first) + given(addresses.second) {
-                Err(ScriptFault {
-                    place: at,
-                    reason: Reason::TooManyAddresses,
-                })
+                Err(Reason::TooManyAddresses.at(at))
             } else {
                 Ok(verb)
             }
@@ -139,10 +130,7 @@ fn label_of(text: &[u8], place: usize, from: usize) -> Result<(Function, usize),
 {
     let end = past(Sort::Name, text, from);
     if end == from {
-        Err(ScriptFault {
-            place,
-            reason: Reason::MissingLabel,
-        })
+        Err(Reason::MissingLabel.at(place))
     } else {
         ended(text, Function::Label(from, end), end)
     }

@@ -218,7 +218,7 @@ impl<'a> Targets<'a> {
 pub fn fault_if(wrong: bool, reason: Reason, place: usize) -> Option<ScriptFault>
     ensures { result ≡ fault_if wrong reason place }
 {
-    wrong.then_some(ScriptFault { place, reason })
+    wrong.then_some(reason.at(place))
 }
 
 /// What is wrong with the item at index `k`, if anything is. The block that it opens ends at `end`, if it opens one, and

@@ -65,10 +65,7 @@ fn string_fault(bytes: &[u8], delimiter: u8, from: usize) -> Option<ScriptFault>
     'bytes: while k < bytes.len() {
         let b = bytes[k];
         if escaped && escaped_byte(delimiter, b).is_none() {
-            return Some(ScriptFault {
-                place: from + k - 1,
-                reason: Reason::BadEscape,
-            });
+            return Some(Reason::BadEscape.at(from + k - 1));
         }
         escaped = escapes(escaped, b);
         k += 1;
@@ -147,10 +144,7 @@ pub fn strings_fault(text: &[u8], strings: Strings, letter: usize) -> Option<Scr
         return Some(fault);
     }
     if let Some(place) = repeated(string1, delimiter, from) {
-        return Some(ScriptFault {
-            place,
-            reason: Reason::RepeatedByte,
-        });
+        return Some(Reason::RepeatedByte.at(place));
     }
     let differ = count(string1, delimiter, from) != count(string2, delimiter, middle + 1);
     fault_if(differ, Reason::LengthsDiffer, letter)
