@@ -13,7 +13,7 @@ use Rattle.sedscript.specs.declared.types.Command.{Command}
 use Rattle.sedscript.specs.declared.types.FileUse.{FileUse}
 use Rattle.sedscript.specs.declared.types.FileUse.TheVariants.{Read, Write}
 use Rattle.sedscript.specs.declared.items.Function.{Function}
-use Rattle.sedscript.specs.declared.items.Function.TheVariants.{Open, Close, Branch, Text, File, Substitute, Transliterate}
+use Rattle.sedscript.specs.declared.items.Function.TheVariants.{Open, Close, Branch, File, Substitute, Transliterate}
 use Rattle.sedscript.specs.declared.items.Addresses.{Addresses}
 use Rattle.sedscript.specs.declared.items.Item.{Item}
 use Rattle.sedscript.specs.declared.items.ItemOrEnd.TheVariants.{Is}
@@ -95,12 +95,9 @@ may_act text all before after n Open files whole count long =
 may_act text all before after n (Branch u from to) files whole count long =
     branch_bound n.commands (from == to) (commands_in all) (label_in text (bytes_between text from to) 0 all) (omega (arith, whole))
     (subst (λ (m : ℕ). AtMost m (label_in text (bytes_between text from to) 0 all)) (let e : 0 + commands_in all ≡ n.commands = omega (arith, whole) in e) (label_bound text (bytes_between text from to) 0 all))
-may_act text all before after n (Text u from to) files whole count long = omega (arith, long.0)
 may_act text all before after n (File Read from to) files whole count long = files Read
 may_act text all before after n (File Write from to) files whole count long = files Write
-may_act text all before after n (Substitute s e f) files whole count long = omega (arith, long.1)
-may_act text all before after n (Transliterate s) files whole count long = omega (arith, long.2)
-may_act text all before after n other files whole count long = tt
+may_act text all before after n other files whole count long = search (arith, long.0, long.1, long.2)
 
 -- commands
 

@@ -35,17 +35,16 @@ use Rattle.sedscript.specs.declared.texts.Inside.TheVariants.{InLine, Escape, Du
 use Rattle.sedscript.specs.declared.transliteration.Char.{Char}
 use Rattle.std.specs.List.{cons_option, prefix_len, take_while}
 use Rattle.std.proofs.lemmas.List.Sums.{prefix_len-le-length}
-use Rattle.sedscript.specs.Bytes.{past, belongs, bytes_between, is_digit, is_byte}
-use Rattle.sedscript.specs.Strings.{escapes, string_end, Piece, group, escaped_piece, exceeds, piece_fault, replacement_fault, escaped_byte, char_of, chars_from, chars_of, string_fault, is_among, repeated_in, strings_fault}
+use Rattle.sedscript.specs.Bytes.{past, belongs, bytes_between, is_digit, is_byte, with_digits}
+use Rattle.sedscript.specs.Strings.{escapes, string_end, Piece, group, escaped_piece, exceeds, piece_fault, replacement_fault, escaped_byte, char_of, chars_from, chars_of, string_fault, is_among, repeated_in, strings_fault, repeated_fault}
 use Rattle.sedscript.specs.Functions.{or_fault, ended, may_end, text_end, text_of, text_from, file_of, name_from, ◌>>=◌ as ◌then◌}
-use Rattle.sedscript.specs.Between.{no_flags, numbered, with_number, with_flag, flags_from, own_delimiter, strings_after, substitute_strings, transliterate_strings, unless_fault, flags_after}
-use Rattle.sedscript.specs.Items.{Reading, plainly, expression, ◌>>=◌, Addressed, Headed, with_addresses, line_of, folds_at, past_flag, match_at, own_match, address_of, address_at, with_second, second_at, after_first, addresses_at, with_bang, substitute_with, substitute_at, function_with, function_at, item_from, item_at}
+use Rattle.sedscript.specs.Between.{no_flags, numbered, with_number, with_flag, flags_from, own_delimiter, strings_after, substitute_strings, transliterate_strings, unless_fault, flags_after, with_file, ends_flags}
+use Rattle.sedscript.specs.Items.{Reading, plainly, expression, ◌>>=◌, Addressed, Headed, with_addresses, line_of, folds_at, past_flag, match_at, own_match, address_of, address_at, with_second, second_at, after_first, addresses_at, with_bang, substitute_with, substitute_at, function_with, function_at, item_from, item_at, item_of, match_to, function_after, item_with}
 use Rattle.sedscript.specs.Letters.{verb_of, most_addresses, allowed, label_of, transliterate_at, substituted, function_of}
 use Rattle.sedscript.specs.Script.{Gives, value, after_expression, CutScript, done, item}
 use Rattle.sedscript.specs.FirstFault.{Fails, own, no_expression, later, Faulty, early, afterwards}
 use Rattle.sedscript.specs.Targets.{fault_if, target_fault_at, target_fault_in, depth_after, block_end, label_in}
 use Rattle.sedscript.specs.Ranges.{IsOneOf, AddressWithin}
-use Rattle.sedscript.specs.Cases.{repeated_fault, item_of, match_to, function_after, item_with, with_digits, with_file, ends_flags}
 
 -- places
 

@@ -13,7 +13,6 @@ pub mod FirstFault
 pub mod Ranges
 pub mod Parts
 pub mod Answers
-pub mod Cases
 pub mod Kept
 pub mod Tables
 pub mod Pieces

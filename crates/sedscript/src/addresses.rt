@@ -2,11 +2,10 @@
 
 ghost use Rattle.std.specs.Prelude.{◌≡◌, ◌≢◌, ◌≤◌, ◌<◌, ◌+◌, ℕ, Option, Some, length, slice_get, IfOk};
 ghost use Rattle.sedscript.specs.declared.types.Address.{Address};
-ghost use Rattle.sedscript.specs.Bytes.{bytes_between};
-ghost use Rattle.sedscript.specs.Items.{folds_at, past_flag, match_at, own_match, address_at, after_first, second_at, addresses_at, with_bang, addresses_of, line_of};
+ghost use Rattle.sedscript.specs.Bytes.{bytes_between, with_digits};
+ghost use Rattle.sedscript.specs.Items.{folds_at, past_flag, match_at, own_match, address_at, after_first, second_at, addresses_at, with_bang, addresses_of, line_of, empty_match};
 ghost use Rattle.sedscript.specs.Between.{own_delimiter};
 ghost use Rattle.sedscript.specs.Answers.{as_addressed, as_headed, ComesFrom, Agrees};
-ghost use Rattle.sedscript.specs.Cases.{with_digits, empty_match};
 
 use crate::between::own_delimiter;
 use crate::bytes::{Sort, byte_at, is_byte, number_of, past};
@@ -217,9 +216,8 @@ pub fn with_bang(text: &[u8], addresses: Addresses, at: usize) -> (Addresses, us
     if is_byte(b'!', byte_at(text, bang)) {
         (
             Addresses {
-                first: addresses.first,
-                second: addresses.second,
                 negate: true,
+                ..addresses
             },
             past(Sort::Bang, text, bang),
         )

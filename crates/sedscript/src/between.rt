@@ -1,9 +1,8 @@
 //! What stands between delimiters after `s` and `y`.
 
 ghost use Rattle.std.specs.Prelude.{◌≡◌, ◌≢◌, ◌≤◌, ◌<◌, ◌+◌, false, Some, length, slice_get, if◌then◌else◌, IfOk, IfSome};
-ghost use Rattle.sedscript.specs.Between.{own_delimiter, strings_after, substitute_strings, transliterate_strings, flags_after};
+ghost use Rattle.sedscript.specs.Between.{own_delimiter, strings_after, substitute_strings, transliterate_strings, flags_after, folds};
 ghost use Rattle.sedscript.specs.Answers.{AreStrings};
-ghost use Rattle.sedscript.specs.Cases.{folds};
 
 use crate::bytes::byte_at;
 use crate::flags::flags_at;

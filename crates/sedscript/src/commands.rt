@@ -9,7 +9,7 @@ ghost use Rattle.sedscript.specs.declared.items.Item.{Item};
 
 use crate::bytes::bytes_between;
 use crate::files::Files;
-use crate::items::{Addresses, Flags, Function, Item, Strings};
+use crate::items::{Flags, Function, Item, Strings};
 use crate::kept::Items;
 use crate::replacement::parts_of;
 use crate::script::Operands;
@@ -70,15 +70,10 @@ fn add_command(
     ensures { OnOk result (commands.new.items ≡ commands.old.items ++ cons_option (option_map (command_of item.addresses) action) []) }
 {
     if let Some(action) = action {
-        let Addresses {
-            first,
-            second,
-            negate,
-        } = item.addresses;
         commands.push(Command {
-            first,
-            second,
-            negate,
+            first: item.addresses.first,
+            second: item.addresses.second,
+            negate: item.addresses.negate,
             action,
         })?;
     }

@@ -1,10 +1,9 @@
 //! The flags of `s`.
 
 ghost use Rattle.std.specs.Prelude.{◌≡◌, ◌≤◌, ◌<◌, ◌+◌, length, drop, false, slice_index, IfOk};
-ghost use Rattle.sedscript.specs.Between.{no_flags, with_number, with_flag, flags_from};
+ghost use Rattle.sedscript.specs.Between.{no_flags, with_number, with_flag, flags_from, ends_flags, with_file};
 ghost use Rattle.sedscript.specs.Functions.{name_from};
 ghost use Rattle.sedscript.specs.Answers.{with_rest};
-ghost use Rattle.sedscript.specs.Cases.{ends_flags, with_file};
 
 use crate::bytes::{Sort, bytes_between, is_blank, number_of, past};
 use crate::functions::{may_end, name_from};

@@ -1,9 +1,8 @@
 //! Reads the items of a script: functions with their addresses.
 
 ghost use Rattle.std.specs.Prelude.{◌≡◌, ◌≤◌, ◌<◌, length, IfOk};
-ghost use Rattle.sedscript.specs.Items.{substitute_at, function_with, function_at, item_at};
+ghost use Rattle.sedscript.specs.Items.{substitute_at, function_with, function_at, item_at, item_of};
 ghost use Rattle.sedscript.specs.Answers.{as_function, as_here, ComesFrom, IsAfter, IsHere};
-ghost use Rattle.sedscript.specs.Cases.{item_of};
 
 use crate::addresses::{addresses_at, with_bang};
 use crate::between::{folds, strings_at};
