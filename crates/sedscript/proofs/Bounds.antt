@@ -28,17 +28,13 @@ use Rattle.sedscript.specs.declared.substitution.Substitution.{Substitution}
 use Rattle.sedscript.specs.Ranges.{Sizes, sizes_of, SinkWithin, FileWithin, ActionWithin, CommandWithin, SubstitutionWithin, InRange}
 use Rattle.sedscript.proofs.Labels.{commands_snoc, counted_in}
 use Rattle.sedscript.proofs.FileTables.{any_distinct}
-use Rattle.sedscript.proofs.Places.{Each, AddressesWithin, FunctionWithin, ItemsWithin, cut_up_to}
+use Rattle.sedscript.proofs.Places.{if_both, Each, AddressesWithin, FunctionWithin, ItemsWithin, cut_up_to}
 
 -- targets
 
 abbrev AtMost : ℕ → Option ℕ → Type 0
 AtMost n None = Unit {0}
 AtMost n (Some k) = k ≤ n
-
-at_most_if : (b : Bool) (n k : ℕ) (o : Option ℕ) → k ≤ n → AtMost n o → AtMost n (if b then Some k else o)
-at_most_if true n k o h g = h
-at_most_if false n k o h g = g
 
 at_most_or : (n : ℕ) (o : Option ℕ) → AtMost n o → unwrap_or o 0 ≤ n
 at_most_or n None h = omega arith
@@ -47,13 +43,13 @@ at_most_or n (Some k) h = h
 close_bound : (depth n : ℕ) (is : List Item) → AtMost (n + commands_in is) (close_in depth n is)
 close_bound depth n [] = tt
 close_bound depth n (i ∷ is) =
-    at_most_if (is_close i.function && depth == 0) (n + commands_in (i ∷ is)) n (close_in (depth_after depth i.function) (counted n i) is) (omega arith)
+    if_both (AtMost (n + commands_in (i ∷ is))) (is_close i.function && depth == 0) (Some n) (close_in (depth_after depth i.function) (counted n i) is) (omega arith)
     (subst (λ (m : ℕ). AtMost m (close_in (depth_after depth i.function) (counted n i) is)) (counted_in n i is) (close_bound (depth_after depth i.function) (counted n i) is))
 
 label_bound : (text name : List ℕ) (n : ℕ) (is : List Item) → AtMost (n + commands_in is) (label_in text name n is)
 label_bound text name n [] = tt
 label_bound text name n (i ∷ is) =
-    at_most_if (is_label text name i.function) (n + commands_in (i ∷ is)) n (label_in text name (counted n i) is) (omega arith)
+    if_both (AtMost (n + commands_in (i ∷ is))) (is_label text name i.function) (Some n) (label_in text name (counted n i) is) (omega arith)
     (subst (λ (m : ℕ). AtMost m (label_in text name (counted n i) is)) (counted_in n i is) (label_bound text name (counted n i) is))
 
 -- actions
@@ -97,7 +93,7 @@ may_act text all before after n (Branch u from to) files whole count long =
     (subst (λ (m : ℕ). AtMost m (label_in text (bytes_between text from to) 0 all)) (let e : 0 + commands_in all ≡ n.commands = omega (arith, whole) in e) (label_bound text (bytes_between text from to) 0 all))
 may_act text all before after n (File Read from to) files whole count long = files Read
 may_act text all before after n (File Write from to) files whole count long = files Write
-may_act text all before after n other files whole count long = search (arith, long.0, long.1, long.2)
+may_act text all before after n other files whole count long = search arith
 
 -- commands
 

@@ -46,6 +46,11 @@ use Rattle.sedscript.specs.FirstFault.{Fails, own, no_expression, later, Faulty,
 use Rattle.sedscript.specs.Targets.{fault_if, target_fault_at, target_fault_in, depth_after, block_end, label_in}
 use Rattle.sedscript.specs.Ranges.{IsOneOf, AddressWithin}
 
+-- what holds of both sides of a test holds of the one that it takes
+pub if_both : {A : Type 0} (P : A → Type 0) (t : Bool) (x y : A) → P x → P y → P (if t then x else y)
+if_both P true x y h g = h
+if_both P false x y h g = g
+
 -- places
 
 -- a byte that is there stands before the end
@@ -74,10 +79,6 @@ abbrev FoundIn : (from end : ℕ) → Option ℕ → Type 0
 FoundIn from end None = Unit {0}
 FoundIn from end (Some to) = (from ≤ to) × (to < end)
 
-found_if : (from end : ℕ) (t : Bool) (x y : Option ℕ) → FoundIn from end x → FoundIn from end y → FoundIn from end (if t then x else y)
-found_if from end true x y h g = h
-found_if from end false x y h g = g
-
 found_later : (from next end : ℕ) (o : Option ℕ) → from ≤ next → FoundIn next end o → FoundIn from end o
 found_later from next end None le h = tt
 found_later from next end (Some to) le h = (omega (arith, le, h.0), h.1)
@@ -89,10 +90,10 @@ found_then from end f (Some n) h = h n
 first_in : (d skip at end : ℕ) (bs : List ℕ) → at + length bs ≤ end → FoundIn at end (first_delimiter d skip at bs)
 first_in d skip at end [] le = tt
 first_in d (suc skip) at end (b ∷ bs) le =
-    found_if at end (b == 10) _ _ tt (found_later at (at + 1) end _ (omega arith) (first_in d skip (at + 1) end bs (omega (arith, le))))
+    if_both (FoundIn at end) (b == 10) _ _ tt (found_later at (at + 1) end _ (omega arith) (first_in d skip (at + 1) end bs (omega (arith, le))))
 first_in d zero at end (b ∷ bs) le =
-    found_if at end (b == 10) _ _ tt
-    (found_if at end (b == d) _ _ (omega arith, omega (arith, le))
+    if_both (FoundIn at end) (b == 10) _ _ tt
+    (if_both (FoundIn at end) (b == d) _ _ (omega arith, omega (arith, le))
     (found_then at end (λ next. first_delimiter d (next - (at + 1)) (at + 1) bs) (next_place d at (b ∷ bs))
     (λ next. found_later at (at + 1) end _ (omega arith) (first_in d (next - (at + 1)) (at + 1) end bs (omega (arith, le))))))
 
@@ -103,9 +104,9 @@ delimiter_in text at d le = first_in d 0 at (length text) (drop at text) (omega 
 string_in : (breaks : Bool) (d : ℕ) (escaped : Bool) (at end : ℕ) (bs : List ℕ) → at + length bs ≤ end → FoundIn at end (string_end breaks d escaped at bs)
 string_in breaks d escaped at end [] le = tt
 string_in breaks d escaped at end (b ∷ bs) le =
-    found_if at end (b == 10 && not (breaks && escaped)) _ _ tt
-    (found_if at end escaped _ _ (found_later at (suc at) end _ (omega arith) (string_in breaks d false (suc at) end bs (omega (arith, le))))
-    (found_if at end (b == d) _ _ (omega arith, omega (arith, le))
+    if_both (FoundIn at end) (b == 10 && not (breaks && escaped)) _ _ tt
+    (if_both (FoundIn at end) escaped _ _ (found_later at (suc at) end _ (omega arith) (string_in breaks d false (suc at) end bs (omega (arith, le))))
+    (if_both (FoundIn at end) (b == d) _ _ (omega arith, omega (arith, le))
     (found_later at (suc at) end _ (omega arith) (string_in breaks d (b == 92) (suc at) end bs (omega (arith, le))))))
 
 text_in : (how : Inside) (at end : ℕ) (bs : List ℕ) → at + length bs < end → FoundIn at end (text_end how at bs)
@@ -115,7 +116,7 @@ text_in Escape at end (b ∷ bs) le =
     found_later at (suc at) end (text_end (if b == 10 then Due else InLine) (suc at) bs) (omega arith) (text_in (if b == 10 then Due else InLine) (suc at) end bs (omega (arith, le)))
 text_in how at end (b ∷ bs) le =
     let here : FoundIn at end (Some at) = (omega arith, omega (arith, le)) in
-    found_if at end (b == 10) (Some at) (text_end (if b == 92 then Escape else InLine) (suc at) bs) here
+    if_both (FoundIn at end) (b == 10) (Some at) (text_end (if b == 92 then Escape else InLine) (suc at) bs) here
     (found_later at (suc at) end (text_end (if b == 92 then Escape else InLine) (suc at) bs) (omega arith) (text_in (if b == 92 then Escape else InLine) (suc at) end bs (omega (arith, le))))
 
 -- faults
@@ -133,10 +134,6 @@ fault_or : (n : ℕ) (x y : Option ScriptFault) → FaultUpTo n x → FaultUpTo 
 fault_or n None y h g = g
 fault_or n (Some f) y h g = h
 
-fault_choice : (n : ℕ) (t : Bool) (x y : Option ScriptFault) → FaultUpTo n x → FaultUpTo n y → FaultUpTo n (if t then x else y)
-fault_choice n true x y h g = h
-fault_choice n false x y h g = g
-
 piece_up_to : (n : ℕ) (limit : Option ℕ) (place : ℕ) (o : Option Piece) → place ≤ n → FaultUpTo n (piece_fault limit place o)
 piece_up_to n limit place None le = le
 piece_up_to n limit place (Some (group k)) le = fault_if_up_to n (exceeds limit k) _ place le
@@ -151,7 +148,7 @@ replacement_up_to n d limit false at (b ∷ bs) le = replacement_up_to n d limit
 string_up_to : (n d : ℕ) (escaped : Bool) (at : ℕ) (bs : List ℕ) → at + length bs ≤ n → FaultUpTo n (string_fault d escaped at bs)
 string_up_to n d escaped at [] le = tt
 string_up_to n d escaped at (b ∷ bs) le =
-    fault_choice n (escaped && is_none (escaped_byte d b)) _ _ (omega (arith, le)) (string_up_to n d (escapes escaped b) (suc at) bs (omega (arith, le)))
+    if_both (FaultUpTo n) (escaped && is_none (escaped_byte d b)) _ _ (omega (arith, le)) (string_up_to n d (escapes escaped b) (suc at) bs (omega (arith, le)))
 
 -- each of a list is as it should be
 abbrev pub Each : {A : Type 0} → (A → Type 0) → List A → Type 0
@@ -207,10 +204,6 @@ strings_up_to text d letter from middle to n low a b high =
 abbrev ReadUpTo : {A : Type 0} → (A → Type 0) → ℕ → Result A ScriptFault → Type 0
 ReadUpTo P n (Ok x) = P x
 ReadUpTo P n (Err f) = f.place ≤ n
-
-read_if : {A : Type 0} (P : A → Type 0) (n : ℕ) (t : Bool) (r s : Result A ScriptFault) → ReadUpTo P n r → ReadUpTo P n s → ReadUpTo P n (if t then r else s)
-read_if P n true r s h g = h
-read_if P n false r s h g = g
 
 read_then : {A B : Type 0} (P : A → Type 0) (Q : B → Type 0) (n : ℕ) (r : Result A ScriptFault) (f : A → Result B ScriptFault) → ReadUpTo P n r → ((x : A) → P x → ReadUpTo Q n (f x)) →
     ReadUpTo Q n (◌then◌ r f)
@@ -283,11 +276,11 @@ EndsUpTo n count found = FunctionWithin count found.0 × (found.1 ≤ n)
 
 ended_read : (text : List ℕ) (count : ℕ) (f : Function) (at : ℕ) → FunctionWithin count f → at ≤ length text → ReadUpTo (EndsUpTo (length text) count) (length text) (ended text f at)
 ended_read text count f at h le =
-    read_if (EndsUpTo (length text) count) (length text) (may_end (slice_get text (past Blank text at))) _ _ (h, past_up_to Blank text at le) (past_up_to Blank text at le)
+    if_both (ReadUpTo (EndsUpTo (length text) count) (length text)) (may_end (slice_get text (past Blank text at))) _ _ (h, past_up_to Blank text at le) (past_up_to Blank text at le)
 
 label_read : (text : List ℕ) (count place from : ℕ) → place ≤ length text → from ≤ length text → ReadUpTo (EndsUpTo (length text) count) (length text) (label_of text place from)
 label_read text count place from low le =
-    read_if (EndsUpTo (length text) count) (length text) (past Name text from == from) _ _ low (ended_read text count _ (past Name text from) tt (past_up_to Name text from le))
+    if_both (ReadUpTo (EndsUpTo (length text) count) (length text)) (past Name text from == from) _ _ low (ended_read text count _ (past Name text from) tt (past_up_to Name text from le))
 
 -- the span of a text or a name ends up to a place
 abbrev SpanUpTo : ℕ → Option (ℕ × ℕ) → Type 0
@@ -333,7 +326,7 @@ file_read n count place u (Some name) le h = (tt, h)
 allowed_read : (n : ℕ) (a : Addresses) (at : ℕ) (o : Option Verb) → at ≤ n → ReadUpTo Any n (allowed a at o)
 allowed_read n a at None le = le
 allowed_read n a at (Some verb) le =
-    read_if Any n (a.negate && most_addresses verb == 0) _ _ le (read_if Any n (nat_lt (most_addresses verb) (option_len a.first + option_len a.second)) _ _ le tt)
+    if_both (ReadUpTo Any n) (a.negate && most_addresses verb == 0) _ _ le (if_both (ReadUpTo Any n) (nat_lt (most_addresses verb) (option_len a.first + option_len a.second)) _ _ le tt)
 
 transliterate_read : (text : List ℕ) (count at : ℕ) → at < length text → ReadUpTo (EndsUpTo (length text) count) (length text) (transliterate_at text at)
 unfolding transliterate_at
@@ -371,13 +364,13 @@ numbered_read n f at (Some (suc k)) le = omega arith
 numbered_read n f at other le = le
 
 number_read : (n : ℕ) (f : Flags) (at : ℕ) (digits : List ℕ) → at ≤ n → ReadUpTo FlagsWithin n (with_number f at digits)
-number_read n f at digits le = read_if FlagsWithin n (is_some f.number) _ _ le (numbered_read n f at (with_digits (Some 0) digits) le)
+number_read n f at digits le = if_both (ReadUpTo FlagsWithin n) (is_some f.number) _ _ le (numbered_read n f at (with_digits (Some 0) digits) le)
 
 flag_read : (n : ℕ) (empty : Bool) (f : Flags) (at b : ℕ) → FlagsWithin f → at ≤ n → ReadUpTo FlagsWithin n (with_flag empty f at b)
 flag_read n empty f at b h le =
-    read_if FlagsWithin n (b == 103) _ _ (read_if FlagsWithin n f.global _ _ le h)
-    (read_if FlagsWithin n (b == 112) _ _ (read_if FlagsWithin n f.print _ _ le h)
-    (read_if FlagsWithin n (b == 73) _ _ (read_if FlagsWithin n empty _ _ le (read_if FlagsWithin n f.folded _ _ le h)) le))
+    if_both (ReadUpTo FlagsWithin n) (b == 103) _ _ (if_both (ReadUpTo FlagsWithin n) f.global _ _ le h)
+    (if_both (ReadUpTo FlagsWithin n) (b == 112) _ _ (if_both (ReadUpTo FlagsWithin n) f.print _ _ le h)
+    (if_both (ReadUpTo FlagsWithin n) (b == 73) _ _ (if_both (ReadUpTo FlagsWithin n) empty _ _ le (if_both (ReadUpTo FlagsWithin n) f.folded _ _ le h)) le))
 
 file_flag_read : (n : ℕ) (f : Flags) (at : ℕ) (o : Option (ℕ × ℕ)) → FlagsWithin f → at ≤ n → SpanUpTo n o → ReadUpTo (FlagsUpTo n) n (with_file f at o)
 file_flag_read n f at None h le up = le
@@ -387,12 +380,12 @@ flags_read : (text : List ℕ) (empty : Bool) (f : Flags) (skip at : ℕ) (bs : 
 flags_read text empty f skip at [] h le = (h, omega (arith, le))
 flags_read text empty f (suc skip) at (b ∷ bs) h le = flags_read text empty f skip (suc at) bs h (omega (arith, le))
 flags_read text empty f zero at (b ∷ bs) h le =
-    read_if (FlagsUpTo (length text)) (length text) (is_digit b) _ _
+    if_both (ReadUpTo (FlagsUpTo (length text)) (length text)) (is_digit b) _ _
     (read_then FlagsWithin (FlagsUpTo (length text)) (length text) (with_number f at (b ∷ take_while is_digit bs)) (λ (g : Flags). flags_from text empty g (prefix_len is_digit bs) (suc at) bs)
     (number_read (length text) f at (b ∷ take_while is_digit bs) (omega (arith, le)))
     (λ g w. flags_read text empty g (prefix_len is_digit bs) (suc at) bs w (omega (arith, le))))
-    (read_if (FlagsUpTo (length text)) (length text) (ends_flags b) _ _ (h, omega (arith, le))
-    (read_if (FlagsUpTo (length text)) (length text) (b == 119) _ _
+    (if_both (ReadUpTo (FlagsUpTo (length text)) (length text)) (ends_flags b) _ _ (h, omega (arith, le))
+    (if_both (ReadUpTo (FlagsUpTo (length text)) (length text)) (b == 119) _ _
     (file_flag_read (length text) f at (name_from text (at + 1)) h (omega (arith, le)) (name_up_to text (at + 1) (omega (arith, le))))
     (read_then FlagsWithin (FlagsUpTo (length text)) (length text) (with_flag empty f at b) (λ (g : Flags). flags_from text empty g zero (suc at) bs)
     (flag_read (length text) empty f at b h (omega (arith, le)))
@@ -413,10 +406,6 @@ substituted_read text count s e limit one h =
 abbrev ReadingUpTo : {A : Type 0} → (ℕ → A → Type 0) → ℕ → ℕ → Reading A → Type 0
 ReadingUpTo P n count (plainly r) = ReadUpTo (P count) n r
 ReadingUpTo P n count (expression p k) = (p.from ≤ p.to) × (p.to ≤ n) × ((groups : ℕ) → ReadingUpTo P n (suc count) (k groups))
-
-reading_if : {A : Type 0} (P : ℕ → A → Type 0) (n count : ℕ) (t : Bool) (r s : Reading A) → ReadingUpTo P n count r → ReadingUpTo P n count s → ReadingUpTo P n count (if t then r else s)
-reading_if P n count true r s h g = h
-reading_if P n count false r s h g = g
 
 reading_plain : {A B : Type 0} (P : A → Type 0) (Q : ℕ → B → Type 0) (n count : ℕ) (r : Result A ScriptFault) (f : A → Reading B) → ReadUpTo P n r → ((x : A) → P x → ReadingUpTo Q n count (f x)) →
     ReadingUpTo Q n count (plainly r >>= f)
@@ -483,8 +472,8 @@ match_read text count d place there = by_end (delimiter_at text (place + 1) d) (
     by_end : (o : Option ℕ) → FoundIn (place + 1) (length text) o → ReadingUpTo (AddressedUpTo (length text)) (length text) count (match_to text count d place o)
     by_end None h = omega (arith, there)
     by_end (Some to) h =
-        reading_if (AddressedUpTo (length text)) (length text) count (to == place + 1) _ _
-        (read_if (AddressedUpTo (length text) count) (length text) (folds_at text (to + 1)) _ _ (omega (arith, h.1)) (refl, tt, omega (arith, h.1)))
+        if_both (ReadingUpTo (AddressedUpTo (length text)) (length text) count) (to == place + 1) _ _
+        (if_both (ReadUpTo (AddressedUpTo (length text) count) (length text)) (folds_at text (to + 1)) _ _ (omega (arith, h.1)) (refl, tt, omega (arith, h.1)))
         (h.0, omega (arith, h.1), λ groups. (omega arith, omega arith, flag_up_to text (to + 1) (omega (arith, h.1))))
 
 own_read : (text : List ℕ) (count place : ℕ) → place ≤ length text → ReadingUpTo (AddressedUpTo (length text)) (length text) count (own_match text count place (own_delimiter (slice_get text place)))
@@ -502,11 +491,11 @@ address_read text count at le = by_byte (slice_get text at) refl
     by_byte None e = (refl, tt, le)
     by_byte (Some b) e =
         let there = inside text at b e in
-        reading_if (AddressedUpTo (length text)) (length text) count (is_digit b) _ _
+        if_both (ReadingUpTo (AddressedUpTo (length text)) (length text) count) (is_digit b) _ _
         (line_read (length text) count at (past Digit text at) (with_digits (Some 0) (bytes_between text at (past Digit text at))) le (past_up_to Digit text at le))
-        (reading_if (AddressedUpTo (length text)) (length text) count (b == 36) _ _ (refl, tt, omega (arith, there))
-        (reading_if (AddressedUpTo (length text)) (length text) count (b == 47) _ _ (match_read text count 47 at there)
-        (reading_if (AddressedUpTo (length text)) (length text) count (b == 92) _ _ (own_read text count (at + 1) (omega (arith, there))) (refl, tt, le))))
+        (if_both (ReadingUpTo (AddressedUpTo (length text)) (length text) count) (b == 36) _ _ (refl, tt, omega (arith, there))
+        (if_both (ReadingUpTo (AddressedUpTo (length text)) (length text) count) (b == 47) _ _ (match_read text count 47 at there)
+        (if_both (ReadingUpTo (AddressedUpTo (length text)) (length text) count) (b == 92) _ _ (own_read text count (at + 1) (omega (arith, there))) (refl, tt, le))))
 
 with_second_read : (n count : ℕ) (first : Address) (place : ℕ) (x : Addressed) (o : Option Address) → x.count ≡ count → AddressWithin count (Some first) → AddressWithin count o → place ≤ n → x.at ≤ n →
     ReadUpTo (HeadedUpTo n count) n (with_second first place x o)
@@ -569,7 +558,7 @@ HereUpTo n count Ends = Unit {0}
 
 substitute_read : (text : List ℕ) (count : ℕ) (s : Strings) → StringsIn (length text) s → ReadingUpTo (EndsUpTo (length text)) (length text) count (substitute_with text count s)
 substitute_read text count s h =
-    reading_if (EndsUpTo (length text)) (length text) count (s.middle == s.from) _ _ (substituted_read text count s None None tt h)
+    if_both (ReadingUpTo (EndsUpTo (length text)) (length text) count) (s.middle == s.from) _ _ (substituted_read text count s None None tt h)
     (h.0, omega (arith, h.1, h.2), λ groups. substituted_read text (suc count) s (Some count) (Some groups) (omega arith) h)
 
 function_with_read : (text : List ℕ) (count at : ℕ) (verb : Verb) → at < length text → ReadingUpTo (EndsUpTo (length text)) (length text) count (function_with text count verb at)

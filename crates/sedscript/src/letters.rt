@@ -170,7 +170,7 @@ pub fn substituted(
     ended(text, Function::Substitute(strings, expression, flags), end)
 }
 
-/// The function whose letter stands at `at`, and the place after it. The letter is not `s`, and has this shape.
+/// The function whose letter stands at `at` and takes these arguments, and the place after it.
 pub fn function_of(
     text: &[u8],
     arguments: Arguments,

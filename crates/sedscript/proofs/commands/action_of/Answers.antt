@@ -1,5 +1,6 @@
-use Rattle.std.proofs.Common.{◌∙◌, ℕ, Option, Some, unwrap_or, ap, sym, rules}
-use Rattle.sedscript.specs.declared.types.Action.TheVariants.{Block}
+use Rattle.std.proofs.Common.{◌≡◌, ◌∙◌, ℕ, List, Option, Some, unwrap_or, length, map, ap, sym, arith, rules, Vec, Global}
+use Rattle.std.proofs.lemmas.List.{length-map}
+use Rattle.sedscript.specs.declared.types.Action.TheVariants.{Block, Text}
 use Rattle.sedscript.specs.Script.{action_of}
 use Rattle.sedscript.specs.Targets.{is_open}
 use Rattle.sedscript.proofs.commands.action_of.Goals as goal
@@ -10,3 +11,9 @@ returns-in-Open c = λ all before after t f o end.
 
 pub returns-else-from-to : goal.returns-else-from-to
 returns-else-from-to c = search rules
+
+pub returns-in-Text : goal.returns-in-Text
+returns-in-Text c = λ all before after t f o end.
+    let texts : List (Vec ℕ Global) = c.args.operands.now.texts.items in
+    let count : c.len.result ≡ length (map (λ (v : Vec ℕ Global). v.items) texts) = omega (arith, c.len.ensures, c.args.operands.now.texts.ok, length-map texts (λ (v : Vec ℕ Global). v.items)) in
+    ap (λ (k : ℕ). Some (Text c.in-Text.text_use k)) (count ∙ ap (λ (ts : List (List ℕ)). length ts) o.texts) ∙ ap (action_of c.args.text.now all before after) (sym c.in-Text.is)
