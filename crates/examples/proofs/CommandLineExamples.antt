@@ -17,7 +17,7 @@ use Rattle.sedre.specs.Items.{item_at as expression_item_at}
 use Rattle.sedre.specs.Sets.{set_of}
 use Rattle.sedmatch.specs.Matching.{any, greatest, copies, spans, longest, found_from, found, cut, first_copy, last_start, groups_after, report}
 use Rattle.sedscript.specs.Items.{match_at, address_at, second_at, addresses_at, substitute_at, function_at, item_at}
-use Rattle.sedscript.specs.Between.{substituted}
+use Rattle.sedscript.specs.Letters.{substituted}
 use Rattle.sedscript.specs.Bytes.{past}
 use Rattle.sedscript.specs.Functions.{name_from, text_from}
 use Rattle.sedscript.specs.Program.{Program}

@@ -11,7 +11,7 @@ use Rattle.sedscript.specs.declared.letters.Arguments.TheVariants.{TakesText}
 use Rattle.sedscript.specs.declared.texts.Inside.TheVariants.{InLine, Escape, Due}
 use Rattle.sedscript.specs.Bytes.{past, is_byte}
 use Rattle.sedscript.specs.Functions.{fault, text_end, text_from, text_of}
-use Rattle.sedscript.specs.Items.{function_of}
+use Rattle.sedscript.specs.Letters.{function_of}
 use Rattle.examples.specs.Backslashes.{NoneUnescaped}
 use Rattle.examples.specs.Texts.{EndsInBackslash, HasNoText}
 use Rattle.examples.proofs.BackslashLemmas.{next, Free, free_between, between_free, get_drop, same_byte, behind, onto, not_first, escaped_first, even_again, even_plain, backslash_here}

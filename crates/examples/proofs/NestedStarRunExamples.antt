@@ -13,7 +13,7 @@ use Rattle.sedscript.specs.declared.types.Simple.TheVariants.{Delete}
 use Rattle.sedscript.specs.declared.types.Address.TheVariants.{Match}
 use Rattle.sedscript.specs.declared.types.Command.{Command}
 use Rattle.sedscript.specs.Items.{match_at, address_at, second_at, addresses_at, substitute_at, function_at, item_at}
-use Rattle.sedscript.specs.Between.{substituted}
+use Rattle.sedscript.specs.Letters.{substituted}
 use Rattle.sedscript.specs.Bytes.{past}
 use Rattle.sedscript.specs.Functions.{name_from, text_from}
 use Rattle.sedspace.specs.Lines.{lines}

@@ -27,16 +27,16 @@ use Rattle.sedscript.specs.declared.letters.Verb.{Verb}
 use Rattle.sedscript.specs.declared.letters.Verb.TheVariants.{ReadsExpression, Reads}
 use Rattle.sedscript.specs.declared.letters.Arguments.{Arguments}
 use Rattle.sedscript.specs.declared.letters.Arguments.TheVariants.{Alone, OpensBlock, ClosesBlock, Remark, NamesLabel, GoesTo, TakesText, NamesFile, TakesStrings}
-use Rattle.sedscript.specs.Bytes.{past, bytes_between, is_digit, is_byte}
-use Rattle.sedscript.specs.Strings.{string_end, exceeds, replacement_fault, is_letter, chars_of, repeated_in, string_fault, strings_fault}
-use Rattle.sedscript.specs.Items.{Reading, plainly, expression, ◌>>=◌, Addressed, line_of, folds_at, match_at, own_match, address_of, address_at, with_second, second_at, after_first, addresses_at, with_bang, substitute_with, substitute_at, function_of, function_with, function_at, item_from, item_at}
-use Rattle.sedscript.specs.Functions.{or_fault, allowed, ended, may_end, text_of, text_from, file_of, name_from, ◌>>=◌ as ◌then◌, verb_of, most_addresses}
-use Rattle.sedscript.specs.Between.{no_flags, numbered, with_number, with_flag, flags_from, own_delimiter, strings_after, substitute_strings, transliterate_strings, unless_fault, transliterate_at, flags_after, substituted}
+use Rattle.sedscript.specs.Bytes.{past, bytes_between, is_digit, is_byte, with_digits}
+use Rattle.sedscript.specs.Strings.{string_end, exceeds, replacement_fault, is_letter, chars_of, repeated_in, string_fault, strings_fault, repeated_fault}
+use Rattle.sedscript.specs.Items.{Reading, plainly, expression, ◌>>=◌, Addressed, line_of, folds_at, match_at, own_match, address_of, address_at, with_second, second_at, after_first, addresses_at, with_bang, substitute_with, substitute_at, function_with, function_at, item_from, item_at, match_to, function_after, item_with, item_of}
+use Rattle.sedscript.specs.Functions.{or_fault, ended, may_end, text_of, text_from, file_of, name_from, ◌>>=◌ as ◌then◌}
+use Rattle.sedscript.specs.Between.{no_flags, numbered, with_number, with_flag, flags_from, own_delimiter, strings_after, substitute_strings, transliterate_strings, unless_fault, flags_after, with_file, ends_flags, folds}
+use Rattle.sedscript.specs.Letters.{function_of, allowed, verb_of, most_addresses, transliterate_at, substituted}
 use Rattle.sedscript.specs.Targets.{fault_if, label_in, block_end, depth_after, target_fault_at, target_fault_in, target_fault}
 use Rattle.sedscript.specs.Script.{Gives, value, after_expression, IsRead, CutScript, done, item, Means, IsEnd}
 use Rattle.sedscript.specs.FirstFault.{Fails, Faulty, own, no_expression, later, early, afterwards}
 use Rattle.sedscript.specs.Program.{Program}
-use Rattle.sedscript.specs.Cases.{repeated_fault, match_to, function_after, item_with, item_of, with_digits, with_file, ends_flags, folds}
 use Rattle.examples.specs.Blocks.{IsStray, IsUnclosed}
 use Rattle.examples.specs.Escapes.{wrong_in_string, wrong_in_replacement, IsFirstWrong, FirstWrong, HasGroups, IsSubstitute, IsWrongEscape, in_first, in_second, in_replacement}
 use Rattle.examples.specs.Strings.{IsTransliterate, RepeatsFirst}

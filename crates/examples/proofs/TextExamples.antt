@@ -21,7 +21,7 @@ use Rattle.sedre.specs.Brackets.{list_at, list_end, delimiter_at}
 use Rattle.examples.proofs.ComputedReading.{outcome, rest_of, written as written_out}
 use Rattle.sedscript.specs.Bytes.{past}
 use Rattle.sedscript.specs.Items.{match_at, address_at, second_at, addresses_at, substitute_at, function_at, item_at}
-use Rattle.sedscript.specs.Between.{substituted, transliterate_at}
+use Rattle.sedscript.specs.Letters.{substituted, transliterate_at}
 use Rattle.sedscript.specs.Functions.{text_from, name_from}
 
 -- Texts of `a`, `i` and `c`; the one-line form is this project's own.

@@ -19,7 +19,7 @@ ghost use Rattle.sedscript.specs.declared.items.Item.{Item};
 ghost use Rattle.sedscript.specs.Bytes.{past, bytes_between};
 ghost use Rattle.sedscript.specs.Between.{flags_from, no_flags};
 ghost use Rattle.sedscript.specs.Functions.{fault, name_from, text_from};
-ghost use Rattle.sedscript.specs.Items.{function_of};
+ghost use Rattle.sedscript.specs.Letters.{function_of};
 ghost use Rattle.sedscript.specs.declared.substitution.Piece.{Piece};
 ghost use Rattle.sedscript.specs.Strings.{pieces_of, replacement_fault, string_end, table_of, escaped_byte, chars_from, chars_of, bytes_of, is_among, string_fault};
 ghost use Rattle.sedscript.specs.Pieces.{GroupsWithin};

@@ -19,14 +19,14 @@ use Rattle.sedscript.specs.declared.letters.Verb.{Verb}
 use Rattle.sedscript.specs.declared.letters.Verb.TheVariants.{ReadsExpression, Reads}
 use Rattle.sedscript.specs.declared.letters.Arguments.{Arguments}
 use Rattle.sedscript.specs.declared.letters.Arguments.TheVariants.{Alone, OpensBlock, ClosesBlock, Remark, NamesLabel, GoesTo, TakesText, NamesFile, TakesStrings}
-use Rattle.sedscript.specs.Functions.{verb_of, most_addresses, allowed, ended, may_end, text_of, text_from, file_of, name_from, ◌>>=◌ as ◌then◌}
+use Rattle.sedscript.specs.Functions.{ended, may_end, text_of, text_from, file_of, name_from, ◌>>=◌ as ◌then◌}
 use Rattle.sedscript.specs.Bytes.{past, bytes_between}
 use Rattle.sedscript.specs.Strings.{replacement_fault, is_among, strings_fault}
-use Rattle.sedscript.specs.Between.{own_delimiter, substitute_strings, transliterate_strings, unless_fault, transliterate_at, flags_after, substituted}
-use Rattle.sedscript.specs.Items.{Reading, plainly, expression, ◌>>=◌, addresses_at, with_bang, substitute_with, substitute_at, function_of, function_with, function_at, item_from, item_at}
+use Rattle.sedscript.specs.Between.{own_delimiter, substitute_strings, transliterate_strings, unless_fault, flags_after}
+use Rattle.sedscript.specs.Items.{Reading, plainly, expression, ◌>>=◌, addresses_at, with_bang, substitute_with, substitute_at, function_with, function_at, item_from, item_at, function_after, item_with}
+use Rattle.sedscript.specs.Letters.{verb_of, most_addresses, allowed, transliterate_at, substituted, function_of}
 use Rattle.sedscript.specs.Script.{Gives, value, after_expression, CutScript, done, item}
 use Rattle.sedscript.specs.Targets.{counted, is_label, label_in}
-use Rattle.sedscript.specs.Cases.{function_after, item_with}
 use Rattle.scripts.specs.OneText.{HasLabel}
 
 -- what is so of a value that is read

@@ -30,7 +30,7 @@ use Rattle.std.proofs.Math.Path.{fun_ext}
 use Rattle.sedre.specs.Brackets.{delimiter_at}
 use Rattle.sedre.specs.Items.{interval, item_at as expression_item_at}
 use Rattle.sedre.specs.Sets.{set_of}
-use Rattle.sedscript.specs.Between.{substituted}
+use Rattle.sedscript.specs.Letters.{substituted}
 use Rattle.sedscript.specs.declared.substitution.Piece.TheVariants.{Literal}
 use Rattle.examples.specs.WrittenReplacements.{written_pieces}
 use Rattle.examples.proofs.ComputedReading.{outcome, rest_of, written, tree_of_written}

@@ -14,7 +14,7 @@ use Rattle.sedscript.specs.declared.types.Address.TheVariants.{Match}
 use Rattle.sedscript.specs.declared.types.Reason.TheVariants.{RepeatedLabel}
 use Rattle.sedscript.specs.declared.substitution.Piece.TheVariants.{Literal}
 use Rattle.sedscript.specs.Items.{address_at, match_at, second_at, addresses_at, function_at, item_at, substitute_at}
-use Rattle.sedscript.specs.Between.{substituted, transliterate_at}
+use Rattle.sedscript.specs.Letters.{substituted, transliterate_at}
 use Rattle.sedscript.specs.Bytes.{past}
 use Rattle.sedscript.specs.Functions.{name_from, text_from}
 use Rattle.sedscript.specs.Script.{Means}

@@ -15,9 +15,9 @@ use Rattle.sedscript.specs.declared.letters.Arguments.{Arguments}
 use Rattle.sedscript.specs.declared.letters.Arguments.TheVariants.{Alone, OpensBlock, ClosesBlock, Remark, NamesLabel, GoesTo, TakesText, NamesFile, TakesStrings}
 use Rattle.sedscript.specs.Bytes.{past, bytes_between}
 use Rattle.sedscript.specs.Strings.{string_end, replacement_fault}
-use Rattle.sedscript.specs.Functions.{fault, or_fault, ended, may_end, text_of, text_from, label_of, branch_of, file_of, name_from, ◌>>=◌ as ◌then◌}
-use Rattle.sedscript.specs.Between.{no_flags, flags_from, own_delimiter, strings_after, substitute_strings, transliterate_strings, transliterate_at, flags_after, substituted}
-use Rattle.sedscript.specs.Items.{function_of}
+use Rattle.sedscript.specs.Functions.{fault, or_fault, ended, may_end, text_of, text_from, file_of, name_from, ◌>>=◌ as ◌then◌}
+use Rattle.sedscript.specs.Between.{no_flags, flags_from, own_delimiter, strings_after, substitute_strings, transliterate_strings, flags_after}
+use Rattle.sedscript.specs.Letters.{label_of, branch_of, transliterate_at, substituted, function_of}
 use Rattle.scripts.proofs.LongerText.{tail_of, past_low, past_high, near, past_on, between_on}
 use Rattle.scripts.proofs.LongerStrings.{FoundOn, delimiter_on, string_there}
 use Rattle.scripts.proofs.LongerFlags.{Same, same_if, same_then, same_unless, replacement_same, strings_same, SpanIn, SpanOn, same_test, move_flags, move_flagged, FileIn, FlagsIn, name_on, text_on, flags_on}

@@ -21,13 +21,13 @@ use Rattle.sedscript.specs.declared.items.Function.{Function}
 use Rattle.sedscript.specs.declared.items.Function.TheVariants.{Substitute}
 use Rattle.sedscript.specs.declared.letters.Verb.{Verb}
 use Rattle.sedscript.specs.declared.letters.Verb.TheVariants.{ReadsExpression, Reads}
-use Rattle.sedscript.specs.Functions.{verb_of, most_addresses, ended, fault, allowed, ◌>>=◌ as ◌then◌}
-use Rattle.sedscript.specs.Bytes.{past, bytes_between, is_digit, is_byte}
-use Rattle.sedscript.specs.Between.{own_delimiter, substitute_strings, unless_fault, flags_after, substituted}
+use Rattle.sedscript.specs.Functions.{ended, fault, ◌>>=◌ as ◌then◌}
+use Rattle.sedscript.specs.Bytes.{past, bytes_between, is_digit, is_byte, with_digits}
+use Rattle.sedscript.specs.Between.{own_delimiter, substitute_strings, unless_fault, flags_after, folds}
+use Rattle.sedscript.specs.Letters.{verb_of, most_addresses, allowed, substituted, flagged}
 use Rattle.sedscript.specs.Strings.{replacement_fault}
-use Rattle.sedscript.specs.Items.{Pattern, Reading, plainly, expression, ◌>>=◌, Addressed, Headed, found, with_addresses, line_of, folds_at, past_flag, match_at, own_match, address_of, address_at, with_second, second_at, after_first, addresses_at, with_bang, substitute_with, substitute_at, function_with, function_at, item_from, item_at}
+use Rattle.sedscript.specs.Items.{Pattern, Reading, plainly, expression, ◌>>=◌, Addressed, Headed, found, with_addresses, line_of, folds_at, past_flag, match_at, own_match, address_of, address_at, with_second, second_at, after_first, addresses_at, with_bang, substitute_with, substitute_at, function_with, function_at, item_from, item_at, match_to, function_after, item_with, empty_match}
 use Rattle.sedscript.specs.Script.{Gives, value, after_expression}
-use Rattle.sedscript.specs.Cases.{match_to, function_after, item_with, with_digits, folds, flagged, empty_match}
 use Rattle.sedscript.proofs.Coming.{gives_then}
 use Rattle.scripts.proofs.LongerText.{tail_of, past_low, past_high, near, there, past_on, past_separators, between_on}
 use Rattle.scripts.proofs.LongerStrings.{FoundOn, delimiter_on}

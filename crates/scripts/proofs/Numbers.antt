@@ -9,8 +9,8 @@ use Rattle.std.proofs.Math.Seq.{drop-append_seam, take-append_seam}
 use Rattle.std.proofs.lemmas.Bool.Decides.{nat_tests}
 use Rattle.sedscript.specs.declared.bytes.Sort.TheVariants.{Blank, Separator, Digit}
 use Rattle.sedscript.specs.declared.types.Address.TheVariants.{Line}
-use Rattle.sedscript.specs.Items.{found, address_at, addresses_at, addresses_of, after_first, with_addresses, second_at, with_bang, with_second, function_at, item_at, plainly, ◌>>=◌}
-use Rattle.sedscript.specs.Bytes.{past, is_digit, is_blank, bytes_between, with_digit, belongs}
+use Rattle.sedscript.specs.Items.{found, address_at, addresses_at, addresses_of, after_first, with_addresses, second_at, with_bang, with_second, function_at, item_at, plainly, ◌>>=◌, function_after, item_with, item_of}
+use Rattle.sedscript.specs.Bytes.{past, is_digit, is_blank, bytes_between, with_digit, belongs, with_digits}
 use Rattle.sedscript.specs.declared.bytes.Sort.{Sort}
 use Rattle.sedscript.specs.declared.types.Address.{Address}
 use Rattle.sedscript.specs.declared.items.ItemOrEnd.TheVariants.{Is}
@@ -21,7 +21,6 @@ use Rattle.sedscript.specs.declared.types.Simple.TheVariants.{Quit, Delete}
 use Rattle.sedscript.specs.Script.{IsEnd, Means, item, done, is_quiet, Gives, value}
 use Rattle.sedscript.specs.Functions.{ended}
 use Rattle.sedscript.specs.Targets.{target_fault}
-use Rattle.sedscript.specs.Cases.{function_after, item_with, item_of, with_digits}
 use Rattle.sedre.specs.Tree.{WrittenExpression}
 use Rattle.sedre.specs.declared.types.Kind.TheVariants.{Basic}
 use Rattle.sedscript.specs.declared.items.Function.{Function}

@@ -17,11 +17,10 @@ use Rattle.sedscript.specs.declared.items.Item.{Item}
 use Rattle.sedscript.specs.declared.items.Function.TheVariants.{Plain}
 use Rattle.sedscript.specs.declared.types.Simple.{Simple}
 use Rattle.sedscript.specs.declared.types.Simple.TheVariants.{Print, Delete}
-use Rattle.sedscript.specs.Items.{found, address_at, addresses_at, addresses_of, after_first, with_addresses, match_at, with_bang, function_at, item_at, Pattern, Reading, plainly, expression, ◌>>=◌}
+use Rattle.sedscript.specs.Items.{found, address_at, addresses_at, addresses_of, after_first, with_addresses, match_at, with_bang, function_at, item_at, Pattern, Reading, plainly, expression, ◌>>=◌, function_after, item_with, item_of}
 use Rattle.sedscript.specs.Bytes.{past, bytes_between, is_blank, belongs}
 use Rattle.sedscript.specs.Script.{IsRead, Gives, value, after_expression, Means}
 use Rattle.sedscript.specs.Program.{Program}
-use Rattle.sedscript.specs.Cases.{function_after, item_with, item_of}
 use Rattle.examples.proofs.ComputedReading.{written, tree_of_written, nodes_of_written, no_fault_within}
 use Rattle.scripts.specs.Slashed.{IsSlashed}
 use Rattle.examples.proofs.ScriptWords.{at, unless}

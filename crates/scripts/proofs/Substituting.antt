@@ -15,14 +15,14 @@ use Rattle.sedscript.specs.declared.items.Strings.{Strings}
 use Rattle.sedscript.specs.declared.items.Function.{Function}
 use Rattle.sedscript.specs.declared.items.Function.TheVariants.{Substitute}
 use Rattle.sedscript.specs.declared.substitution.Piece.{Piece}
-use Rattle.sedscript.specs.Items.{address_at, addresses_at, addresses_of, function_at, item_at, substitute_at, Reading, plainly, expression, ◌>>=◌}
-use Rattle.sedscript.specs.Between.{substituted, flags_after, unless_fault, flags_from, no_flags}
+use Rattle.sedscript.specs.Items.{address_at, addresses_at, addresses_of, function_at, item_at, substitute_at, Reading, plainly, expression, ◌>>=◌, item_of}
+use Rattle.sedscript.specs.Between.{flags_after, unless_fault, flags_from, no_flags}
+use Rattle.sedscript.specs.Letters.{substituted, flagged}
 use Rattle.sedscript.specs.Bytes.{bytes_between}
 use Rattle.sedscript.specs.Pieces.{GroupsWithin}
 use Rattle.sedscript.specs.Strings.{pieces_of, replacement_fault, string_end}
 use Rattle.sedscript.specs.Script.{Means}
 use Rattle.sedscript.specs.Program.{Program}
-use Rattle.sedscript.specs.Cases.{item_of, flagged}
 use Rattle.examples.specs.WrittenReplacements.{written_pieces}
 use Rattle.examples.proofs.ComputedReading.{written}
 use Rattle.examples.proofs.WrittenEnds.{replacement_whole}

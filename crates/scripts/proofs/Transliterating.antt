@@ -12,13 +12,12 @@ use Rattle.sedscript.specs.declared.items.ItemOrEnd.TheVariants.{Is}
 use Rattle.sedscript.specs.declared.items.Strings.{Strings}
 use Rattle.sedscript.specs.declared.items.Function.{Function}
 use Rattle.sedscript.specs.declared.items.Function.TheVariants.{Transliterate}
-use Rattle.sedscript.specs.Items.{address_at, addresses_at, addresses_of, function_at, item_at, plainly, ◌>>=◌}
-use Rattle.sedscript.specs.Between.{transliterate_at}
+use Rattle.sedscript.specs.Items.{address_at, addresses_at, addresses_of, function_at, item_at, plainly, ◌>>=◌, item_of}
+use Rattle.sedscript.specs.Letters.{transliterate_at}
 use Rattle.sedscript.specs.Bytes.{bytes_between}
 use Rattle.sedscript.specs.Script.{Means}
 use Rattle.sedscript.specs.Program.{Program}
 use Rattle.sedscript.specs.Strings.{string_end, bytes_of, chars_from, is_among, repeated_in, strings_fault, table_of}
-use Rattle.sedscript.specs.Cases.{item_of}
 use Rattle.examples.specs.Strings.{written}
 use Rattle.examples.proofs.ScriptWords.{always}
 use Rattle.examples.proofs.StringReading.{string_read}

@@ -93,10 +93,14 @@ end_found items ends k i are at opens =
     ∙ (ap (λ (m : ℕ). Some (close_in 0 (suc m) (drop (suc k) items))) none
     ∙ ap (λ (m : ℕ). Some (close_in 0 (suc (commands_in (take k items))) (drop m items))) one))
 
+the_brace : (f : Function) → is_open f ≡ true → f ≡ Open
+the_brace Open e = refl
+the_brace f e = cc
+
 pub end_known : (items : List Item) (ends : List (Option ℕ)) (k blocks : ℕ) (i : Item) (end : Option ℕ) → ends ≡ ends_in 0 items → slice_get items k ≡ Some i →
     blocks ≡ blocks_in (take k items) → end ≡ unwrap_or (slice_get ends blocks) None → EndIs (take k items) (drop (k + 1) items) i.function end
 end_known items ends k blocks i end are at counted read = λ opens.
-    read ∙ ap (λ (o : Option (Option ℕ)). unwrap_or o None) (ap (slice_get ends) counted ∙ end_found items ends k i are at opens)
+    read ∙ ap (λ (o : Option (Option ℕ)). unwrap_or o None) (ap (slice_get ends) counted ∙ end_found items ends k i are at (the_brace i.function opens))
 
 -- how many blocks are opened up to an item
 blocks_snoc : (is : List Item) (i : Item) → blocks_in (is ++ i ∷ []) ≡ opened (blocks_in is) i.function

@@ -13,7 +13,7 @@ use Rattle.sedscript.specs.declared.types.Command.{Command}
 use Rattle.sedscript.specs.declared.types.FileUse.{FileUse}
 use Rattle.sedscript.specs.declared.types.FileUse.TheVariants.{Read, Write}
 use Rattle.sedscript.specs.declared.items.Function.{Function}
-use Rattle.sedscript.specs.declared.items.Function.TheVariants.{Open, Close, Label, Branch, Text, File, Comment, Substitute, Transliterate}
+use Rattle.sedscript.specs.declared.items.Function.TheVariants.{Open, Close, Branch, File, Substitute, Transliterate}
 use Rattle.sedscript.specs.declared.items.Addresses.{Addresses}
 use Rattle.sedscript.specs.declared.items.Item.{Item}
 use Rattle.sedscript.specs.declared.items.ItemOrEnd.TheVariants.{Is}
@@ -21,26 +21,20 @@ use Rattle.sedscript.specs.Bytes.{bytes_between}
 use Rattle.sedscript.specs.Functions.{◌>>=◌ as ◌then◌}
 use Rattle.sedscript.specs.Strings.{counterpart, table_of}
 use Rattle.sedscript.specs.Items.{item_at, Reading}
-use Rattle.sedscript.specs.Script.{Gives, value, after_expression, CutScript, done, item, is_quiet, text_in, texts_of, substitution_in, substitutions_of, table_in, tables_of, action_of, command_of, commands_of, CutWithoutFault, Means}
-use Rattle.sedscript.specs.Targets.{becomes_command, counted, commands_in, label_in, is_label, close_in, is_close, depth_after, block_end, is_standard_output, is_file, name_in, file_at, files_in, number_in}
-use Rattle.sedscript.specs.declared.script.Named.{Named}
-use Rattle.sedscript.specs.Parts.{program_of, IsNamed}
+use Rattle.sedscript.specs.Script.{Gives, value, after_expression, CutScript, done, item, text_in, texts_of, substitution_in, substitutions_of, table_in, tables_of, action_of, command_of, commands_of, Means}
+use Rattle.sedscript.specs.Targets.{becomes_command, counted, commands_in, label_in, is_label, close_in, is_close, depth_after, block_end, is_standard_output, is_file, name_in, file_at, files_in, number_in, sink_in}
 use Rattle.sedscript.specs.Program.{Program}
 use Rattle.sedscript.specs.declared.substitution.Substitution.{Substitution}
 use Rattle.sedscript.specs.Ranges.{Sizes, sizes_of, SinkWithin, FileWithin, ActionWithin, CommandWithin, SubstitutionWithin, InRange}
 use Rattle.sedscript.proofs.Labels.{commands_snoc, counted_in}
 use Rattle.sedscript.proofs.FileTables.{any_distinct}
-use Rattle.sedscript.proofs.Places.{AddressesWithin, FunctionWithin, ItemsWithin, cut_up_to}
+use Rattle.sedscript.proofs.Places.{if_both, Each, AddressesWithin, FunctionWithin, ItemsWithin, cut_up_to}
 
 -- targets
 
 abbrev AtMost : ℕ → Option ℕ → Type 0
 AtMost n None = Unit {0}
 AtMost n (Some k) = k ≤ n
-
-at_most_if : (b : Bool) (n k : ℕ) (o : Option ℕ) → k ≤ n → AtMost n o → AtMost n (if b then Some k else o)
-at_most_if true n k o h g = h
-at_most_if false n k o h g = g
 
 at_most_or : (n : ℕ) (o : Option ℕ) → AtMost n o → unwrap_or o 0 ≤ n
 at_most_or n None h = omega arith
@@ -49,13 +43,13 @@ at_most_or n (Some k) h = h
 close_bound : (depth n : ℕ) (is : List Item) → AtMost (n + commands_in is) (close_in depth n is)
 close_bound depth n [] = tt
 close_bound depth n (i ∷ is) =
-    at_most_if (is_close i.function && depth == 0) (n + commands_in (i ∷ is)) n (close_in (depth_after depth i.function) (counted n i) is) (omega arith)
+    if_both (AtMost (n + commands_in (i ∷ is))) (is_close i.function && depth == 0) (Some n) (close_in (depth_after depth i.function) (counted n i) is) (omega arith)
     (subst (λ (m : ℕ). AtMost m (close_in (depth_after depth i.function) (counted n i) is)) (counted_in n i is) (close_bound (depth_after depth i.function) (counted n i) is))
 
 label_bound : (text name : List ℕ) (n : ℕ) (is : List Item) → AtMost (n + commands_in is) (label_in text name n is)
 label_bound text name n [] = tt
 label_bound text name n (i ∷ is) =
-    at_most_if (is_label text name i.function) (n + commands_in (i ∷ is)) n (label_in text name (counted n i) is) (omega arith)
+    if_both (AtMost (n + commands_in (i ∷ is))) (is_label text name i.function) (Some n) (label_in text name (counted n i) is) (omega arith)
     (subst (λ (m : ℕ). AtMost m (label_in text name (counted n i) is)) (counted_in n i is) (label_bound text name (counted n i) is))
 
 -- actions
@@ -64,18 +58,17 @@ abbrev MayAct : Sizes → Option Action → Type 0
 MayAct n None = Unit {0}
 MayAct n (Some a) = ActionWithin n a
 
-abbrev sink_of : List ℕ → List Item → Option (ℕ × ℕ) → Option ℕ
-sink_of text all file = option_map (λ name. number_in Write text all (bytes_between text name.0 name.1)) file
+-- the name that stands there, if one does, is among the sizes
+abbrev NameWithin : List ℕ → List Item → Sizes → FileUse → Option (ℕ × ℕ) → Type 0
+NameWithin text all n u None = Unit {0}
+NameWithin text all n u (Some name) = FileWithin n u (number_in u text all (bytes_between text name.0 name.1))
 
 -- what a function names among all items is among the sizes
 abbrev FilesWithin : List ℕ → List Item → Sizes → Function → Type 0
-FilesWithin text all n (File u from to) = FileWithin n u (number_in u text all (bytes_between text from to))
-FilesWithin text all n (Substitute s e f) = SinkWithin n.wfiles (sink_of text all f.file)
-FilesWithin text all n f = Unit {0}
+FilesWithin text all n f = (u : FileUse) → NameWithin text all n u (name_in u f)
 
 abbrev AllFilesWithin : List ℕ → List Item → Sizes → List Item → Type 0
-AllFilesWithin text all n [] = Unit {0}
-AllFilesWithin text all n (i ∷ is) = FilesWithin text all n i.function × AllFilesWithin text all n is
+AllFilesWithin text all n is = Each (λ i. FilesWithin text all n i.function) is
 
 branch_bound : (n : ℕ) (same : Bool) (m : ℕ) (o : Option ℕ) → m ≤ n → AtMost n o → (if same then m else unwrap_or o 0) ≤ n
 branch_bound n true m o h g = h
@@ -98,24 +91,18 @@ may_act text all before after n Open files whole count long =
 may_act text all before after n (Branch u from to) files whole count long =
     branch_bound n.commands (from == to) (commands_in all) (label_in text (bytes_between text from to) 0 all) (omega (arith, whole))
     (subst (λ (m : ℕ). AtMost m (label_in text (bytes_between text from to) 0 all)) (let e : 0 + commands_in all ≡ n.commands = omega (arith, whole) in e) (label_bound text (bytes_between text from to) 0 all))
-may_act text all before after n (Text u from to) files whole count long = omega (arith, long.0)
-may_act text all before after n (File u from to) files whole count long = files
-may_act text all before after n (Substitute s e f) files whole count long = omega (arith, long.1)
-may_act text all before after n (Transliterate s) files whole count long = omega (arith, long.2)
-may_act text all before after n other files whole count long = tt
+may_act text all before after n (File Read from to) files whole count long = files Read
+may_act text all before after n (File Write from to) files whole count long = files Write
+may_act text all before after n other files whole count long = search arith
 
 -- commands
 
-abbrev AllWithin : Sizes → List Command → Type 0
-AllWithin n [] = Unit {0}
-AllWithin n (c ∷ cs) = CommandWithin n c × AllWithin n cs
+each_at : {A : Type 0} (P : A → Type 0) (xs : List A) (k : ℕ) (x : A) → Each P xs → slice_get xs k ≡ Some x → P x
+each_at {A} P [] k x h g = let bad : ◌≡◌ {A = Option A} None (Some x) = g in cc
+each_at P (y ∷ xs) zero x h g = let same : y ≡ x = cc in subst P same h.0
+each_at P (y ∷ xs) (suc k) x h g = each_at P xs k x h.1 g
 
-all_at : (n : Sizes) (cs : List Command) (k : ℕ) (c : Command) → AllWithin n cs → slice_get cs k ≡ Some c → CommandWithin n c
-all_at n [] k c h g = let bad : ◌≡◌ {A = Option Command} None (Some c) = g in cc
-all_at n (d ∷ cs) zero c h g = let same : d ≡ c = cc in subst (CommandWithin n) same h.0
-all_at n (d ∷ cs) (suc k) c h g = all_at n cs k c h.1 g
-
-with_within : (n : Sizes) (a : Addresses) (o : Option Action) (cs : List Command) → AddressesWithin n.expressions a → MayAct n o → AllWithin n cs → AllWithin n (cons_option (option_map (command_of a) o) cs)
+with_within : (n : Sizes) (a : Addresses) (o : Option Action) (cs : List Command) → AddressesWithin n.expressions a → MayAct n o → Each (CommandWithin n) cs → Each (CommandWithin n) (cons_option (option_map (command_of a) o) cs)
 with_within n a None cs h g k = k
 with_within n a (Some x) cs h g k = (record { first = h.0; second = h.1; action = g }, k)
 
@@ -138,7 +125,7 @@ AllSums text all n before is =
     × (length (tables_of text before) + length (tables_of text is) ≡ n.tables)
 
 commands_within : (text : List ℕ) (all before is : List Item) (n : Sizes) → commands_in all ≡ n.commands → commands_in before + commands_in is ≡ n.commands → AllSums text all n before is →
-    ItemsWithin n.expressions is → AllFilesWithin text all n is → AllWithin n (commands_of text all before is)
+    ItemsWithin n.expressions is → AllFilesWithin text all n is → Each (CommandWithin n) (commands_of text all before is)
 commands_within text all before [] n whole count long h files = tt
 commands_within text all before (i ∷ is) n whole count long h files =
     with_within n i.addresses (action_of text all before is i.function) (commands_of text all (before ++ i ∷ []) is) h.0.0
@@ -153,9 +140,7 @@ commands_within text all before (i ∷ is) n whole count long h files =
 
 leaf_length : (text : List ℕ) (all before after : List Item) (n : ℕ) (a : Addresses) (f : Function) (cs : List Command) → length cs ≡ n →
     length (cons_option (option_map (command_of a) (action_of text all before after f)) cs) ≡ (if becomes_command f then suc n else n)
-leaf_length text all before after n a Close cs h = h
-leaf_length text all before after n a (Label from to) cs h = h
-leaf_length text all before after n a Comment cs h = h
+leaf_length text all before after n a Close cs h = omega (arith, h)
 leaf_length text all before after n a other cs h = omega (arith, h)
 
 commands_length : (text : List ℕ) (all before is : List Item) → length (commands_of text all before is) ≡ commands_in is
@@ -166,8 +151,7 @@ commands_length text all before (i ∷ is) =
 -- expressions
 
 abbrev AllFit : ℕ → List WrittenExpression → Type 0
-AllFit m [] = Unit {0}
-AllFit m (e ∷ es) = (length e.nodes ≤ m) × AllFit m es
+AllFit m es = Each (λ e. length e.nodes ≤ m) es
 
 fit_append : (m : ℕ) (es fs : List WrittenExpression) → AllFit m es → AllFit m fs → AllFit m (es ++ fs)
 fit_append m [] fs h g = g
@@ -182,45 +166,35 @@ cut_fit text kind m count at to _ _ done = tt
 cut_fit text kind m count at to _ _ (item {next = next} {i = i} {is = is} es fs read rest) =
     fit_append m es fs (fit_read text kind m (item_at text count at) es (Is i next) read) (cut_fit text kind m (count + length es) next to is fs rest)
 
-fit_at : (m : ℕ) (es : List WrittenExpression) (k : ℕ) (e : WrittenExpression) → AllFit m es → slice_get es k ≡ Some e → length e.nodes ≤ m
-fit_at m [] k e h g = let bad : ◌≡◌ {A = Option WrittenExpression} None (Some e) = g in cc
-fit_at m (f ∷ es) zero e h g = let same : f ≡ e = cc in subst (λ (x : WrittenExpression). length x.nodes ≤ m) same h.0
-fit_at m (f ∷ es) (suc k) e h g = fit_at m es k e h.1 g
-
 from_none : (n m : ℕ) → m ≡ n → 0 + n ≡ m
 from_none n m e = omega (arith, e)
 
 -- substitutions and tables
 
-no_item : {A B : Type 0} (x : A) → ◌≡◌ {A = Option A} None (Some x) → B
-no_item x h = cc
-
-same_item : {A : Type 0} {x y : A} → Some x ≡ Some y → x ≡ y
-same_item h = cc
-
-substitution_at : (n : Sizes) (text : List ℕ) (all is : List Item) (k : ℕ) (t : Substitution) → ItemsWithin n.expressions is → AllFilesWithin text all n is → slice_get (substitutions_of text all is) k ≡ Some t → SubstitutionWithin n t
-substitution_at n text all [] k t h files g = no_item t g
-substitution_at n text all (i ∷ is) k t h files g = by_function i.function h.0.1 files.0 k g (λ k g. substitution_at n text all is k t h.1 files.1 g)
+substitutions_within : (n : Sizes) (text : List ℕ) (all is : List Item) → ItemsWithin n.expressions is → AllFilesWithin text all n is → Each (SubstitutionWithin n) (substitutions_of text all is)
+substitutions_within n text all [] h files = tt
+substitutions_within n text all (i ∷ is) h files = by_function i.function h.0.1 files.0 (substitutions_within n text all is h.1 files.1)
   where
-    by_function : (f : Function) → FunctionWithin n.expressions f → FilesWithin text all n f → (k : ℕ) → slice_get (cons_option (substitution_in text all f) (substitutions_of text all is)) k ≡ Some t →
-        ((k : ℕ) → slice_get (substitutions_of text all is) k ≡ Some t → SubstitutionWithin n t) → SubstitutionWithin n t
-    by_function (Substitute s e f) w v zero g rest =
-        subst (SubstitutionWithin n) (same_item g) (record { expression = w.0; number = w.1; file = v })
-    by_function (Substitute s e f) w v (suc k) g rest = rest k g
-    by_function f w v k g rest = rest k g
+    by_file : (o : Option (ℕ × ℕ)) → NameWithin text all n Write o → SinkWithin n.wfiles (sink_in text all o)
+    by_file None v = tt
+    by_file (Some name) v = v
+
+    by_function : (f : Function) → FunctionWithin n.expressions f → FilesWithin text all n f → Each (SubstitutionWithin n) (substitutions_of text all is) →
+        Each (SubstitutionWithin n) (cons_option (substitution_in text all f) (substitutions_of text all is))
+    by_function (Substitute s e f) w v rest = (record { expression = w.0; number = w.1; file = by_file f.file (v Write) }, rest)
+    by_function f w v rest = rest
 
 table_whole : (source target : List ℕ) → length (table_of source target) ≡ 256
 unfolding table_of
 table_whole source target = length-map-range_with_len (counterpart source target) 0 256
 
-table_at : (text : List ℕ) (is : List Item) (k : ℕ) (t : List ℕ) → slice_get (tables_of text is) k ≡ Some t → length t ≡ 256
-table_at text [] k t g = no_item t g
-table_at text (i ∷ is) k t g = by_function i.function k g (λ k g. table_at text is k t g)
+tables_whole : (text : List ℕ) (is : List Item) → Each (λ t. length t ≡ 256) (tables_of text is)
+tables_whole text [] = tt
+tables_whole text (i ∷ is) = by_function i.function (tables_whole text is)
   where
-    by_function : (f : Function) (k : ℕ) → slice_get (cons_option (table_in text f) (tables_of text is)) k ≡ Some t → ((k : ℕ) → slice_get (tables_of text is) k ≡ Some t → length t ≡ 256) → length t ≡ 256
-    by_function (Transliterate s) zero g rest = subst (λ (t : List ℕ). length t ≡ 256) (same_item g) (table_whole _ _)
-    by_function (Transliterate s) (suc k) g rest = rest k g
-    by_function f k g rest = rest k g
+    by_function : (f : Function) → Each (λ t. length t ≡ 256) (tables_of text is) → Each (λ t. length t ≡ 256) (cons_option (table_in text f) (tables_of text is))
+    by_function (Transliterate s) rest = (table_whole _ _, rest)
+    by_function f rest = rest
 
 -- files
 
@@ -247,9 +221,9 @@ file_number Write text all n name r w h = by_output (is_standard_output name) re
     by_output true e = omega arith
     by_output false e = omega (arith, w, number_below name 1 (files_in Write text all) (h (ap not e)))
 
--- the items' names are among these
-abbrev Among : FileUse → List ℕ → List (List ℕ) → List Item → Type 0
-Among u text ns is = (name : List ℕ) → list_any (bytes_eq name) (names_in u text is) ≡ true → list_any (bytes_eq name) ns ≡ true
+-- names are those of files of all items
+abbrev Among : FileUse → List ℕ → List Item → List (List ℕ) → Type 0
+Among u text all ns = (name : List ℕ) → list_any (bytes_eq name) ns ≡ true → list_any (bytes_eq name) (files_in u text all) ≡ true
 
 -- a name that stands at these places
 file_there : (u : FileUse) (text : List ℕ) (span : ℕ × ℕ) (rest : List (List ℕ)) → is_file u (bytes_between text span.0 span.1) ≡ true → list_any (bytes_eq (bytes_between text span.0 span.1)) (cons_option (file_at u text (Some span)) rest) ≡ true
@@ -267,29 +241,18 @@ any_more name (Some n) rest h = by_same (bytes_eq name n)
     by_same false = h
 
 files_within : (text : List ℕ) (all : List Item) (n : Sizes) (is : List Item) → n.rfiles ≡ length (files_in Read text all) → n.wfiles ≡ length (files_in Write text all) →
-    Among Read text (files_in Read text all) is → Among Write text (files_in Write text all) is → AllFilesWithin text all n is
-files_within text all n [] r w a b = tt
-files_within text all n (i ∷ is) r w a b = (
-  by_function i.function
-      (λ name h. a name h)
-      (λ name h. b name h),
-  files_within text all n is r w
-      (λ name h. a name (any_more name (file_at Read text (name_in Read i.function)) (names_in Read text is) h))
-      (λ name h. b name (any_more name (file_at Write text (name_in Write i.function)) (names_in Write text is) h)),
+    ((u : FileUse) → Among u text all (names_in u text is)) → AllFilesWithin text all n is
+files_within text all n [] r w among = tt
+files_within text all n (i ∷ is) r w among = (
+  λ u. by_name u (name_in u i.function) (among u),
+  files_within text all n is r w (λ u name h. among u name (any_more name (file_at u text (name_in u i.function)) (names_in u text is) h)),
 )
   where
-    by_flag : (o : Option (ℕ × ℕ)) → ((name : List ℕ) → list_any (bytes_eq name) (cons_option (file_at Write text o) (names_in Write text is)) ≡ true → list_any (bytes_eq name) (files_in Write text all) ≡ true) → SinkWithin n.wfiles (sink_of text all o)
-    by_flag None b = tt
-    by_flag (Some span) b = file_number Write text all n (bytes_between text span.0 span.1) r w (λ h. b (bytes_between text span.0 span.1) (file_there Write text span (names_in Write text is) h))
-
-    by_function : (f : Function) →
-        ((name : List ℕ) → list_any (bytes_eq name) (cons_option (file_at Read text (name_in Read f)) (names_in Read text is)) ≡ true → list_any (bytes_eq name) (files_in Read text all) ≡ true) →
-        ((name : List ℕ) → list_any (bytes_eq name) (cons_option (file_at Write text (name_in Write f)) (names_in Write text is)) ≡ true → list_any (bytes_eq name) (files_in Write text all) ≡ true) →
-        FilesWithin text all n f
-    by_function (File Read from to) a b = file_number Read text all n (bytes_between text from to) r w (λ h. a (bytes_between text from to) (file_there Read text (from, to) (names_in Read text is) h))
-    by_function (File Write from to) a b = file_number Write text all n (bytes_between text from to) r w (λ h. b (bytes_between text from to) (file_there Write text (from, to) (names_in Write text is) h))
-    by_function (Substitute s e f) a b = by_flag f.file b
-    by_function f a b = tt
+    by_name : (u : FileUse) (o : Option (ℕ × ℕ)) → Among u text all (cons_option (file_at u text o) (names_in u text is)) → NameWithin text all n u o
+    by_name u None h = tt
+    by_name u (Some span) h =
+        let name : List ℕ = bytes_between text span.0 span.1 in
+        file_number u text all n name r w (λ e. h name (file_there u text span (names_in u text is) e))
 
 -- what a text means is in range
 pub means_in_range : (text : List ℕ) (kind : Kind) (m : ℕ) (s : Program) → Means text kind m s → InRange s
@@ -302,32 +265,15 @@ means_in_range text kind m s h =
     let tables : 0 + length (tables_of text is) ≡ length s.tables = from_none _ _ (ap (λ (xs : List (List ℕ)). length xs) h.tables) in
     let files : AllFilesWithin text is (sizes_of s) is =
     files_within text is (sizes_of s) is (ap (λ (xs : List (List ℕ)). length xs) h.rfiles) (ap (λ (xs : List (List ℕ)). length xs) h.wfiles)
-    (λ name g. any_distinct name (names_in Read text is) g) (λ name g. any_distinct name (names_in Write text is) g) in
-    let all : AllWithin (sizes_of s) s.commands =
-    subst (AllWithin (sizes_of s)) (sym h.commands)
+    (λ u name g. any_distinct name (names_in u text is) g) in
+    let all : Each (CommandWithin (sizes_of s)) s.commands =
+    subst (Each (CommandWithin (sizes_of s))) (sym h.commands)
     (commands_within text is [] is (sizes_of s) (sym long) (omega (arith, long)) (texts, substitutions, tables)
     items files) in
+    let fit : AllFit m s.expressions = cut_fit text kind m 0 0 h.to is s.expressions h.judged.cut in
     record {
-      each = λ i x g. all_at (sizes_of s) s.commands i x all g;
-      nodes = λ k e g. subst (λ (n : ℕ). length e.nodes ≤ n) (sym h.nodes) (fit_at m s.expressions k e (cut_fit text kind m 0 0 h.to is s.expressions h.judged.cut) g);
-      substitutions = λ k t g. substitution_at (sizes_of s) text is is k t items files (subst (λ (ss : List Substitution). slice_get ss k ≡ Some t) h.substitutions g);
-      tables = λ k t g. table_at text is k t (subst (λ (ts : List (List ℕ)). slice_get ts k ≡ Some t) h.tables g);
+      each = λ i x g. each_at (CommandWithin (sizes_of s)) s.commands i x all g;
+      nodes = λ k e g. subst (λ (n : ℕ). length e.nodes ≤ n) (sym h.nodes) (each_at (λ e. length e.nodes ≤ m) s.expressions k e fit g);
+      substitutions = λ k x g. each_at (SubstitutionWithin (sizes_of s)) _ k x (substitutions_within (sizes_of s) text is is items files) (ap (λ ss. slice_get ss k) (sym h.substitutions) ∙ g);
+      tables = λ k x g. each_at (λ t. length t ≡ 256) _ k x (tables_whole text is) (ap (λ ts. slice_get ts k) (sym h.tables) ∙ g);
     }
-
--- the parts that were made are in range
-pub means_named : (text : List ℕ) (kind : Kind) (m to : ℕ) (is : List Item) (es : List WrittenExpression) (cs : List Command) (named : Named) (quiet : Bool) → CutWithoutFault text kind m is es to →
-    cs ≡ commands_of text is [] is → IsNamed text is es named → quiet ≡ is_quiet text → InRange (program_of cs named quiet m)
-means_named text kind m to is es cs named quiet j c n q =
-    means_in_range text kind m (program_of cs named quiet m) (record {
-      items = is;
-      to = to;
-      judged = subst (λ (es : List WrittenExpression). CutWithoutFault text kind m is es to) (sym n.exprs) j;
-      commands = c;
-      texts = n.operands.texts;
-      substitutions = n.operands.substitutions;
-      tables = n.operands.tables;
-      rfiles = n.rfiles;
-      wfiles = n.wfiles;
-      quiet = q;
-      nodes = refl;
-    })

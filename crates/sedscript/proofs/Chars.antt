@@ -4,8 +4,7 @@ use Rattle.std.specs.List.{cons_option}
 use Rattle.sedscript.specs.Strings.{escapes, Char, escaped_byte, char_of, chars_from, chars_of, bytes_of, table_of, repeated_in, is_among}
 use Rattle.sedscript.specs.declared.items.Strings.{Strings}
 use Rattle.sedscript.specs.Bytes.{bytes_between}
-use Rattle.sedscript.specs.Script.{table_in}
-use Rattle.sedscript.specs.declared.items.Function.TheVariants.{Transliterate}
+use Rattle.sedscript.specs.Script.{table_between}
 
 chars_step : (d from k : ℕ) (e f : Bool) (bytes : List ℕ) (o : Option Char) → k < length bytes → o ≡ char_of d e (from + k) (get_or bytes k 0) → f ≡ escapes e (get_or bytes k 0) →
     chars_from d e (from + k) (drop k bytes) ≡ cons_option o (chars_from d f (from + (k + 1)) (drop (k + 1) bytes))
@@ -61,7 +60,7 @@ same_bytes d at n e (b ∷ bs) = same_byte d at n e b _ _ (same_bytes d (suc at)
 
 -- the table of two strings
 pub table_is : (text : List ℕ) (s : Strings) (table string1 string2 first second : List ℕ) → first ≡ bytes_between text s.from s.middle → second ≡ bytes_between text (s.middle + 1) s.to →
-    string1 ≡ bytes_of (chars_from s.delimiter false 0 first) → string2 ≡ bytes_of (chars_from s.delimiter false 0 second) → table ≡ table_of string1 string2 → Some table ≡ table_in text (Transliterate s)
+    string1 ≡ bytes_of (chars_from s.delimiter false 0 first) → string2 ≡ bytes_of (chars_from s.delimiter false 0 second) → table ≡ table_of string1 string2 → table ≡ table_between text s
 table_is text s table string1 string2 first second one other from to is =
-    ap Some (is ∙ ap (λ (x : List ℕ). table_of x string2) (from ∙ (ap (λ (x : List ℕ). bytes_of (chars_from s.delimiter false 0 x)) one ∙ same_bytes s.delimiter 0 s.from false (bytes_between text s.from s.middle)))
-    ∙ ap (table_of (bytes_of (chars_of text s.delimiter s.from s.middle))) (to ∙ (ap (λ (x : List ℕ). bytes_of (chars_from s.delimiter false 0 x)) other ∙ same_bytes s.delimiter 0 (s.middle + 1) false (bytes_between text (s.middle + 1) s.to))))
+    is ∙ ap (λ (x : List ℕ). table_of x string2) (from ∙ (ap (λ (x : List ℕ). bytes_of (chars_from s.delimiter false 0 x)) one ∙ same_bytes s.delimiter 0 s.from false (bytes_between text s.from s.middle)))
+    ∙ ap (table_of (bytes_of (chars_of text s.delimiter s.from s.middle))) (to ∙ (ap (λ (x : List ℕ). bytes_of (chars_from s.delimiter false 0 x)) other ∙ same_bytes s.delimiter 0 (s.middle + 1) false (bytes_between text (s.middle + 1) s.to)))

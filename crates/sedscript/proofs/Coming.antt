@@ -19,12 +19,12 @@ use Rattle.sedscript.specs.declared.types.Address.{Address}
 use Rattle.sedscript.specs.declared.types.Address.TheVariants.{Last, Match}
 use Rattle.sedscript.specs.declared.items.ItemOrEnd.{ItemOrEnd}
 use Rattle.sedscript.specs.declared.items.ItemOrEnd.TheVariants.{Is, Ends}
-use Rattle.sedscript.specs.Bytes.{bytes_between, past, is_byte, is_digit}
-use Rattle.sedscript.specs.Items.{Pattern, Reading, plainly, expression, ◌>>=◌, Addressed, found, addresses_of, with_addresses, with_second, folds_at, past_flag, match_at, own_match, addresses_at, after_first, second_at, address_at, address_of, line_of, item_at, item_from, substitute_with, substitute_at, function_of, function_with, function_at}
+use Rattle.sedscript.specs.Bytes.{bytes_between, past, is_byte, is_digit, with_digits}
+use Rattle.sedscript.specs.Items.{Pattern, Reading, plainly, expression, ◌>>=◌, Addressed, found, addresses_of, with_addresses, with_second, folds_at, past_flag, match_at, own_match, addresses_at, after_first, second_at, address_at, address_of, line_of, item_at, item_from, substitute_with, substitute_at, function_with, function_at, match_to, function_after, item_with, item_of, empty_match}
 use Rattle.sedscript.specs.declared.items.Strings.{Strings}
 use Rattle.sedscript.specs.declared.items.Function.{Function}
-use Rattle.sedscript.specs.Between.{own_delimiter, substitute_strings, flags_after, substituted}
-use Rattle.sedscript.specs.Functions.{verb_of, allowed}
+use Rattle.sedscript.specs.Between.{own_delimiter, substitute_strings, flags_after, folds}
+use Rattle.sedscript.specs.Letters.{function_of, substituted, verb_of, allowed}
 use Rattle.sedscript.specs.declared.letters.Verb.{Verb}
 use Rattle.sedscript.specs.declared.letters.Verb.TheVariants.{Reads}
 use Rattle.sedscript.specs.declared.letters.Arguments.{Arguments}
@@ -32,7 +32,6 @@ use Rattle.sedscript.specs.declared.items.Addresses.{Addresses}
 use Rattle.sedscript.specs.Script.{IsRead, Gives, value, after_expression}
 use Rattle.sedscript.specs.FirstFault.{Fails, own, no_expression, later, in_script}
 use Rattle.sedscript.specs.Answers.{as_here, as_function, as_groups, as_addressed, as_headed, Comes, Agrees, IsAfter, IsHere, is_no_memory, fault_of}
-use Rattle.sedscript.specs.Cases.{match_to, function_after, item_with, item_of, with_digits, empty_match, folds}
 
 not_equal : (a b : ℕ) → a ≢ b → (a == b) ≡ false
 not_equal a b n = elim (eqb_tells a b) [ inl h ↦ absurd (n h.1) | inr h ↦ h.0 ]

@@ -8,9 +8,8 @@ use Rattle.sedscript.specs.declared.types.ScriptFault.{ScriptFault}
 use Rattle.sedscript.specs.declared.items.Flags.{Flags}
 use Rattle.sedscript.specs.Bytes.{is_digit, belongs, past, bytes_between}
 use Rattle.sedscript.specs.Functions.{name_from, ◌>>=◌}
-use Rattle.sedscript.specs.Between.{flags_from, with_number}
+use Rattle.sedscript.specs.Between.{flags_from, with_number, ends_flags, with_file}
 use Rattle.sedscript.specs.Answers.{with_rest}
-use Rattle.sedscript.specs.Cases.{ends_flags, with_file}
 
 -- digits that were read are passed over
 skipped : (text : List ℕ) (empty : Bool) (f : Flags) (k at : ℕ) (bs : List ℕ) → k ≤ length bs → flags_from text empty f k at bs ≡ flags_from text empty f 0 (at + k) (drop k bs)

@@ -6,7 +6,6 @@ use Rattle.std.proofs.lemmas.List.Elements.{All-head, All-tail, All-weaker}
 use Rattle.std.proofs.lemmas.Option.{unwrap_or-slice_get}
 use Rattle.sedscript.specs.declared.items.Addresses.{Addresses}
 use Rattle.sedscript.specs.declared.items.Function.{Function}
-use Rattle.sedscript.specs.declared.items.Function.TheVariants.{Comment}
 use Rattle.sedscript.specs.declared.items.Item.{Item}
 use Rattle.sedscript.specs.declared.kept.PackedItem.{PackedItem}
 use Rattle.sedscript.specs.declared.kept.PackedAddresses.{PackedAddresses}
@@ -24,7 +23,7 @@ same_addresses xs ys g.Listed n more h = listed xs ys n no_addresses more h
 same_addresses xs ys other n more h = refl
 
 same_function : (xs ys : List Function) (brief : PackedFunction) (from to : ℕ) → Longer xs ys → PacksFunction (length xs) brief from → kept_function ys brief from to ≡ kept_function xs brief from to
-same_function xs ys b.Listed from to more h = listed xs ys from Comment more h
+same_function xs ys b.Listed from to more h = listed xs ys from _ more h
 same_function xs ys other from to more h = refl
 
 same_item : (listed_addresses hs : List Addresses) (listed_functions ls : List Function) (k : PackedItem) → Longer listed_addresses hs → Longer listed_functions ls → PacksItem (length listed_addresses) (length listed_functions) k → kept_item hs ls k ≡ kept_item listed_addresses listed_functions k

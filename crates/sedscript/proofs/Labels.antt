@@ -13,8 +13,6 @@ use Rattle.std.proofs.lemmas.Slice.Eq.{bytes_eq-Decides}
 use Rattle.sedscript.specs.declared.targets.FirstLabel.{FirstLabel}
 use Rattle.sedscript.specs.declared.items.Item.{Item}
 use Rattle.sedscript.specs.declared.items.Function.{Function}
-use Rattle.sedscript.specs.declared.items.Function.TheVariants.{Label}
-use Rattle.sedscript.specs.Bytes.{bytes_between}
 use Rattle.sedscript.specs.Targets.{is_label, counted, commands_in, label_in, becomes_command}
 use Rattle.sedscript.specs.Tables.{labelled, first_label, LabelsAre, is_earlier}
 
@@ -151,13 +149,12 @@ pub none_of : {A : Type 0} (o : Option A) (b : Bool) → b ≡ is_some o → b �
 none_of None b e f = refl
 none_of (Some x) b e f = let g : true ≡ false = sym e ∙ f in cc
 
-pub label_inserted : (text bs : List ℕ) (from to k n : ℕ) (f : Function) (b : Bool) (old new : Labels) → f ≡ Label from to → bs ≡ bytes_between text from to →
+pub label_inserted : (text bs : List ℕ) (k n : ℕ) (f : Function) (b : Bool) (old new : Labels) → ((name : List ℕ) → is_label text name f ≡ bytes_eq bs name) →
     UpdatesBy (λ x y. slice_cmp nat_cmp x.now y.now) (λ x. slice_cmp nat_cmp bs x.now) old new (Some (record { item = k; number = n })) → b ≡ is_some (labelled old bs) → b ≡ false →
     (name : List ℕ) → labelled new name ≡ option_or (labelled old name) (if is_label text name f then Some (record { item = k; number = n }) else None)
-label_inserted text bs from to k n f b old new is name_is u found absent = λ name.
+label_inserted text bs k n f b old new is u found absent = λ name.
     label_added bs (record { item = k; number = n }) old new u (none_of (labelled old bs) b found absent) name
-    ∙ ap (λ (c : Bool). option_or (labelled old name) (if c then Some (record { item = k; number = n }) else None))
-    (ap (λ (z : List ℕ). bytes_eq z name) name_is ∙ sym (ap (is_label text name) is))
+    ∙ ap (λ (c : Bool). option_or (labelled old name) (if c then Some (record { item = k; number = n }) else None)) (sym (is name))
 
 -- what the table says of a name
 pub label_found : (text name : List ℕ) (items : List Item) (m : Labels) (o : Option FirstLabel) → LabelsAre text items m → o ≡ labelled m name → option_map (λ (l : FirstLabel). l.number) o ≡ label_in text name 0 items
@@ -166,7 +163,3 @@ label_found text name items m o are is = ap (option_map (λ (l : FirstLabel). l.
 pub label_repeated : (text name : List ℕ) (items : List Item) (m : Labels) (o : Option FirstLabel) (k : ℕ) (i : Item) → LabelsAre text items m → o ≡ labelled m name →
     slice_get items k ≡ Some i → is_label text name i.function ≡ true → is_earlier k o ≡ is_some (label_in text name 0 (take k items))
 label_repeated text name items m o k i are is e l = ap (is_earlier k) (is ∙ are name) ∙ earlier_label text name k 0 0 0 k items i e l (omega arith)
-
--- a label has its own name
-pub own_name : (text : List ℕ) (f : Function) (from to : ℕ) → f ≡ Label from to → is_label text (bytes_between text from to) f ≡ true
-own_name text f from to is = ap (is_label text (bytes_between text from to)) is ∙ (bytes_eq-Decides (bytes_between text from to) (bytes_between text from to)).1 refl

@@ -21,7 +21,7 @@ use Rattle.sedscript.specs.declared.types.FileUse.{FileUse}
 use Rattle.sedscript.specs.declared.items.Flags.{Flags}
 use Rattle.sedscript.specs.declared.items.Strings.{Strings}
 use Rattle.sedscript.specs.declared.items.Function.{Function}
-use Rattle.sedscript.specs.declared.items.Function.TheVariants.{Plain, Open, Close, Label, Branch, Substitute, Transliterate}
+use Rattle.sedscript.specs.declared.items.Function.TheVariants.{Open, Close, Label, Branch, Substitute}
 use Rattle.sedscript.specs.declared.items.Addresses.{Addresses}
 use Rattle.sedscript.specs.declared.items.Item.{Item}
 use Rattle.sedscript.specs.declared.items.ItemOrEnd.{ItemOrEnd}
@@ -29,22 +29,27 @@ use Rattle.sedscript.specs.declared.items.ItemOrEnd.TheVariants.{Is, Ends}
 use Rattle.sedscript.specs.declared.letters.Verb.{Verb}
 use Rattle.sedscript.specs.declared.letters.Verb.TheVariants.{ReadsExpression, Reads}
 use Rattle.sedscript.specs.declared.letters.Arguments.{Arguments}
-use Rattle.sedscript.specs.declared.letters.Arguments.TheVariants.{Alone, OpensBlock, ClosesBlock, Remark, NamesLabel, GoesTo, TakesText, NamesFile, TakesStrings}
+use Rattle.sedscript.specs.declared.letters.Arguments.TheVariants.{OpensBlock, Remark, NamesLabel, GoesTo, TakesText, NamesFile, TakesStrings}
 use Rattle.sedscript.specs.declared.texts.Inside.{Inside}
 use Rattle.sedscript.specs.declared.texts.Inside.TheVariants.{InLine, Escape, Due}
 use Rattle.sedscript.specs.declared.transliteration.Char.{Char}
 use Rattle.std.specs.List.{cons_option, prefix_len, take_while}
 use Rattle.std.proofs.lemmas.List.Sums.{prefix_len-le-length}
-use Rattle.sedscript.specs.Bytes.{past, belongs, bytes_between, is_digit, is_byte}
-use Rattle.sedscript.specs.Strings.{escapes, string_end, Piece, group, escaped_piece, exceeds, piece_fault, replacement_fault, escaped_byte, char_of, chars_from, chars_of, string_fault, is_among, repeated_in, strings_fault}
-use Rattle.sedscript.specs.Functions.{or_fault, verb_of, most_addresses, allowed, ended, may_end, text_end, text_of, text_from, label_of, file_of, name_from, ◌>>=◌ as ◌then◌}
-use Rattle.sedscript.specs.Between.{no_flags, numbered, with_number, with_flag, flags_from, own_delimiter, strings_after, substitute_strings, transliterate_strings, unless_fault, transliterate_at, flags_after, substituted}
-use Rattle.sedscript.specs.Items.{Reading, plainly, expression, ◌>>=◌, Addressed, Headed, with_addresses, line_of, folds_at, past_flag, match_at, own_match, address_of, address_at, with_second, second_at, after_first, addresses_at, with_bang, substitute_with, substitute_at, function_of, function_with, function_at, item_from, item_at}
+use Rattle.sedscript.specs.Bytes.{past, belongs, bytes_between, is_digit, is_byte, with_digits}
+use Rattle.sedscript.specs.Strings.{escapes, string_end, Piece, group, escaped_piece, exceeds, piece_fault, replacement_fault, escaped_byte, char_of, chars_from, chars_of, string_fault, is_among, repeated_in, strings_fault, repeated_fault}
+use Rattle.sedscript.specs.Functions.{or_fault, ended, may_end, text_end, text_of, text_from, file_of, name_from, ◌>>=◌ as ◌then◌}
+use Rattle.sedscript.specs.Between.{no_flags, numbered, with_number, with_flag, flags_from, own_delimiter, strings_after, substitute_strings, transliterate_strings, unless_fault, flags_after, with_file, ends_flags}
+use Rattle.sedscript.specs.Items.{Reading, plainly, expression, ◌>>=◌, Addressed, Headed, with_addresses, line_of, folds_at, past_flag, match_at, own_match, address_of, address_at, with_second, second_at, after_first, addresses_at, with_bang, substitute_with, substitute_at, function_with, function_at, item_from, item_at, item_of, match_to, function_after, item_with}
+use Rattle.sedscript.specs.Letters.{verb_of, most_addresses, allowed, label_of, transliterate_at, substituted, function_of}
 use Rattle.sedscript.specs.Script.{Gives, value, after_expression, CutScript, done, item}
 use Rattle.sedscript.specs.FirstFault.{Fails, own, no_expression, later, Faulty, early, afterwards}
 use Rattle.sedscript.specs.Targets.{fault_if, target_fault_at, target_fault_in, depth_after, block_end, label_in}
 use Rattle.sedscript.specs.Ranges.{IsOneOf, AddressWithin}
-use Rattle.sedscript.specs.Cases.{repeated_fault, item_of, match_to, function_after, item_with, with_digits, with_file, ends_flags}
+
+-- what holds of both sides of a test holds of the one that it takes
+pub if_both : {A : Type 0} (P : A → Type 0) (t : Bool) (x y : A) → P x → P y → P (if t then x else y)
+if_both P true x y h g = h
+if_both P false x y h g = g
 
 -- places
 
@@ -74,10 +79,6 @@ abbrev FoundIn : (from end : ℕ) → Option ℕ → Type 0
 FoundIn from end None = Unit {0}
 FoundIn from end (Some to) = (from ≤ to) × (to < end)
 
-found_if : (from end : ℕ) (t : Bool) (x y : Option ℕ) → FoundIn from end x → FoundIn from end y → FoundIn from end (if t then x else y)
-found_if from end true x y h g = h
-found_if from end false x y h g = g
-
 found_later : (from next end : ℕ) (o : Option ℕ) → from ≤ next → FoundIn next end o → FoundIn from end o
 found_later from next end None le h = tt
 found_later from next end (Some to) le h = (omega (arith, le, h.0), h.1)
@@ -89,10 +90,10 @@ found_then from end f (Some n) h = h n
 first_in : (d skip at end : ℕ) (bs : List ℕ) → at + length bs ≤ end → FoundIn at end (first_delimiter d skip at bs)
 first_in d skip at end [] le = tt
 first_in d (suc skip) at end (b ∷ bs) le =
-    found_if at end (b == 10) _ _ tt (found_later at (at + 1) end _ (omega arith) (first_in d skip (at + 1) end bs (omega (arith, le))))
+    if_both (FoundIn at end) (b == 10) _ _ tt (found_later at (at + 1) end _ (omega arith) (first_in d skip (at + 1) end bs (omega (arith, le))))
 first_in d zero at end (b ∷ bs) le =
-    found_if at end (b == 10) _ _ tt
-    (found_if at end (b == d) _ _ (omega arith, omega (arith, le))
+    if_both (FoundIn at end) (b == 10) _ _ tt
+    (if_both (FoundIn at end) (b == d) _ _ (omega arith, omega (arith, le))
     (found_then at end (λ next. first_delimiter d (next - (at + 1)) (at + 1) bs) (next_place d at (b ∷ bs))
     (λ next. found_later at (at + 1) end _ (omega arith) (first_in d (next - (at + 1)) (at + 1) end bs (omega (arith, le))))))
 
@@ -103,9 +104,9 @@ delimiter_in text at d le = first_in d 0 at (length text) (drop at text) (omega 
 string_in : (breaks : Bool) (d : ℕ) (escaped : Bool) (at end : ℕ) (bs : List ℕ) → at + length bs ≤ end → FoundIn at end (string_end breaks d escaped at bs)
 string_in breaks d escaped at end [] le = tt
 string_in breaks d escaped at end (b ∷ bs) le =
-    found_if at end (b == 10 && not (breaks && escaped)) _ _ tt
-    (found_if at end escaped _ _ (found_later at (suc at) end _ (omega arith) (string_in breaks d false (suc at) end bs (omega (arith, le))))
-    (found_if at end (b == d) _ _ (omega arith, omega (arith, le))
+    if_both (FoundIn at end) (b == 10 && not (breaks && escaped)) _ _ tt
+    (if_both (FoundIn at end) escaped _ _ (found_later at (suc at) end _ (omega arith) (string_in breaks d false (suc at) end bs (omega (arith, le))))
+    (if_both (FoundIn at end) (b == d) _ _ (omega arith, omega (arith, le))
     (found_later at (suc at) end _ (omega arith) (string_in breaks d (b == 92) (suc at) end bs (omega (arith, le))))))
 
 text_in : (how : Inside) (at end : ℕ) (bs : List ℕ) → at + length bs < end → FoundIn at end (text_end how at bs)
@@ -115,7 +116,7 @@ text_in Escape at end (b ∷ bs) le =
     found_later at (suc at) end (text_end (if b == 10 then Due else InLine) (suc at) bs) (omega arith) (text_in (if b == 10 then Due else InLine) (suc at) end bs (omega (arith, le)))
 text_in how at end (b ∷ bs) le =
     let here : FoundIn at end (Some at) = (omega arith, omega (arith, le)) in
-    found_if at end (b == 10) (Some at) (text_end (if b == 92 then Escape else InLine) (suc at) bs) here
+    if_both (FoundIn at end) (b == 10) (Some at) (text_end (if b == 92 then Escape else InLine) (suc at) bs) here
     (found_later at (suc at) end (text_end (if b == 92 then Escape else InLine) (suc at) bs) (omega arith) (text_in (if b == 92 then Escape else InLine) (suc at) end bs (omega (arith, le))))
 
 -- faults
@@ -133,10 +134,6 @@ fault_or : (n : ℕ) (x y : Option ScriptFault) → FaultUpTo n x → FaultUpTo 
 fault_or n None y h g = g
 fault_or n (Some f) y h g = h
 
-fault_choice : (n : ℕ) (t : Bool) (x y : Option ScriptFault) → FaultUpTo n x → FaultUpTo n y → FaultUpTo n (if t then x else y)
-fault_choice n true x y h g = h
-fault_choice n false x y h g = g
-
 piece_up_to : (n : ℕ) (limit : Option ℕ) (place : ℕ) (o : Option Piece) → place ≤ n → FaultUpTo n (piece_fault limit place o)
 piece_up_to n limit place None le = le
 piece_up_to n limit place (Some (group k)) le = fault_if_up_to n (exceeds limit k) _ place le
@@ -151,11 +148,15 @@ replacement_up_to n d limit false at (b ∷ bs) le = replacement_up_to n d limit
 string_up_to : (n d : ℕ) (escaped : Bool) (at : ℕ) (bs : List ℕ) → at + length bs ≤ n → FaultUpTo n (string_fault d escaped at bs)
 string_up_to n d escaped at [] le = tt
 string_up_to n d escaped at (b ∷ bs) le =
-    fault_choice n (escaped && is_none (escaped_byte d b)) _ _ (omega (arith, le)) (string_up_to n d (escapes escaped b) (suc at) bs (omega (arith, le)))
+    if_both (FaultUpTo n) (escaped && is_none (escaped_byte d b)) _ _ (omega (arith, le)) (string_up_to n d (escapes escaped b) (suc at) bs (omega (arith, le)))
+
+-- each of a list is as it should be
+abbrev pub Each : {A : Type 0} → (A → Type 0) → List A → Type 0
+Each P [] = Unit {0}
+Each P (x ∷ xs) = P x × Each P xs
 
 abbrev CharsUpTo : ℕ → List Char → Type 0
-CharsUpTo n [] = Unit {0}
-CharsUpTo n (c ∷ cs) = (c.place ≤ n) × CharsUpTo n cs
+CharsUpTo n cs = Each (λ c. c.place ≤ n) cs
 
 abbrev CharUpTo : ℕ → Option Char → Type 0
 CharUpTo n None = Unit {0}
@@ -203,10 +204,6 @@ strings_up_to text d letter from middle to n low a b high =
 abbrev ReadUpTo : {A : Type 0} → (A → Type 0) → ℕ → Result A ScriptFault → Type 0
 ReadUpTo P n (Ok x) = P x
 ReadUpTo P n (Err f) = f.place ≤ n
-
-read_if : {A : Type 0} (P : A → Type 0) (n : ℕ) (t : Bool) (r s : Result A ScriptFault) → ReadUpTo P n r → ReadUpTo P n s → ReadUpTo P n (if t then r else s)
-read_if P n true r s h g = h
-read_if P n false r s h g = g
 
 read_then : {A B : Type 0} (P : A → Type 0) (Q : B → Type 0) (n : ℕ) (r : Result A ScriptFault) (f : A → Result B ScriptFault) → ReadUpTo P n r → ((x : A) → P x → ReadUpTo Q n (f x)) →
     ReadUpTo Q n (◌then◌ r f)
@@ -279,11 +276,11 @@ EndsUpTo n count found = FunctionWithin count found.0 × (found.1 ≤ n)
 
 ended_read : (text : List ℕ) (count : ℕ) (f : Function) (at : ℕ) → FunctionWithin count f → at ≤ length text → ReadUpTo (EndsUpTo (length text) count) (length text) (ended text f at)
 ended_read text count f at h le =
-    read_if (EndsUpTo (length text) count) (length text) (may_end (slice_get text (past Blank text at))) _ _ (h, past_up_to Blank text at le) (past_up_to Blank text at le)
+    if_both (ReadUpTo (EndsUpTo (length text) count) (length text)) (may_end (slice_get text (past Blank text at))) _ _ (h, past_up_to Blank text at le) (past_up_to Blank text at le)
 
 label_read : (text : List ℕ) (count place from : ℕ) → place ≤ length text → from ≤ length text → ReadUpTo (EndsUpTo (length text) count) (length text) (label_of text place from)
 label_read text count place from low le =
-    read_if (EndsUpTo (length text) count) (length text) (past Name text from == from) _ _ low (ended_read text count (Label from (past Name text from)) (past Name text from) tt (past_up_to Name text from le))
+    if_both (ReadUpTo (EndsUpTo (length text) count) (length text)) (past Name text from == from) _ _ low (ended_read text count _ (past Name text from) tt (past_up_to Name text from le))
 
 -- the span of a text or a name ends up to a place
 abbrev SpanUpTo : ℕ → Option (ℕ × ℕ) → Type 0
@@ -329,31 +326,29 @@ file_read n count place u (Some name) le h = (tt, h)
 allowed_read : (n : ℕ) (a : Addresses) (at : ℕ) (o : Option Verb) → at ≤ n → ReadUpTo Any n (allowed a at o)
 allowed_read n a at None le = le
 allowed_read n a at (Some verb) le =
-    read_if Any n (a.negate && most_addresses verb == 0) _ _ le (read_if Any n (nat_lt (most_addresses verb) (option_len a.first + option_len a.second)) _ _ le tt)
+    if_both (ReadUpTo Any n) (a.negate && most_addresses verb == 0) _ _ le (if_both (ReadUpTo Any n) (nat_lt (most_addresses verb) (option_len a.first + option_len a.second)) _ _ le tt)
 
 transliterate_read : (text : List ℕ) (count at : ℕ) → at < length text → ReadUpTo (EndsUpTo (length text) count) (length text) (transliterate_at text at)
 unfolding transliterate_at
 transliterate_read text count at there =
     read_then (StringsIn (length text)) (EndsUpTo (length text) count) (length text) (transliterate_strings text (at + 1) (own_delimiter (slice_get text (at + 1))))
-    (λ (s : Strings). unless_fault (strings_fault text s.delimiter at s.from s.middle s.to) (ended text (Transliterate s) (s.to + 1)))
-    (transliterate_strings_read text (at + 1) (omega (arith, there)))
-    (λ s h. unless_up_to (EndsUpTo (length text) count) (length text) (strings_fault text s.delimiter at s.from s.middle s.to) (ended text (Transliterate s) (s.to + 1))
+    _ (transliterate_strings_read text (at + 1) (omega (arith, there)))
+    (λ s h. unless_up_to (EndsUpTo (length text) count) (length text) (strings_fault text s.delimiter at s.from s.middle s.to) _
     (strings_up_to text s.delimiter at s.from s.middle s.to (length text) (omega (arith, there)) h.0 h.1 (omega (arith, h.2)))
-    (ended_read text count (Transliterate s) (s.to + 1) tt (omega (arith, h.2))))
+    (ended_read text count _ (s.to + 1) tt (omega (arith, h.2))))
 
 function_read : (text : List ℕ) (count at : ℕ) (arguments : Arguments) → at < length text → ReadUpTo (EndsUpTo (length text) count) (length text) (function_of text arguments at)
 function_read text count at OpensBlock there = (tt, omega (arith, there))
-function_read text count at ClosesBlock there = ended_read text count Close (at + 1) tt (omega (arith, there))
 function_read text count at Remark there = (tt, past_up_to Line text (at + 1) (omega (arith, there)))
 function_read text count at NamesLabel there = label_read text count at (past Blank text (at + 1)) (omega (arith, there)) (past_up_to Blank text (at + 1) (omega (arith, there)))
 function_read text count at (GoesTo u) there =
-    ended_read text count (Branch u (past Blank text (at + 1)) (past Name text (past Blank text (at + 1)))) (past Name text (past Blank text (at + 1))) tt
+    ended_read text count _ (past Name text (past Blank text (at + 1))) tt
     (past_up_to Name text (past Blank text (at + 1)) (past_up_to Blank text (at + 1) (omega (arith, there))))
 function_read text count at (TakesText t) there =
     text_read (length text) count at t (text_from text (past Blank text (at + 1))) (omega (arith, there)) (text_from_up_to text (past Blank text (at + 1)) (past_up_to Blank text (at + 1) (omega (arith, there))))
 function_read text count at (NamesFile u) there = file_read (length text) count at u (name_from text (at + 1)) (omega (arith, there)) (name_up_to text (at + 1) (omega (arith, there)))
 function_read text count at TakesStrings there = transliterate_read text count at there
-function_read text count at (Alone s) there = ended_read text count (Plain s) (at + 1) tt (omega (arith, there))
+function_read text count at other there = ended_read text count _ (at + 1) tt (omega (arith, there))
 
 -- flags of `s`
 
@@ -369,13 +364,13 @@ numbered_read n f at (Some (suc k)) le = omega arith
 numbered_read n f at other le = le
 
 number_read : (n : ℕ) (f : Flags) (at : ℕ) (digits : List ℕ) → at ≤ n → ReadUpTo FlagsWithin n (with_number f at digits)
-number_read n f at digits le = read_if FlagsWithin n (is_some f.number) _ _ le (numbered_read n f at (with_digits (Some 0) digits) le)
+number_read n f at digits le = if_both (ReadUpTo FlagsWithin n) (is_some f.number) _ _ le (numbered_read n f at (with_digits (Some 0) digits) le)
 
 flag_read : (n : ℕ) (empty : Bool) (f : Flags) (at b : ℕ) → FlagsWithin f → at ≤ n → ReadUpTo FlagsWithin n (with_flag empty f at b)
 flag_read n empty f at b h le =
-    read_if FlagsWithin n (b == 103) _ _ (read_if FlagsWithin n f.global _ _ le h)
-    (read_if FlagsWithin n (b == 112) _ _ (read_if FlagsWithin n f.print _ _ le h)
-    (read_if FlagsWithin n (b == 73) _ _ (read_if FlagsWithin n empty _ _ le (read_if FlagsWithin n f.folded _ _ le h)) le))
+    if_both (ReadUpTo FlagsWithin n) (b == 103) _ _ (if_both (ReadUpTo FlagsWithin n) f.global _ _ le h)
+    (if_both (ReadUpTo FlagsWithin n) (b == 112) _ _ (if_both (ReadUpTo FlagsWithin n) f.print _ _ le h)
+    (if_both (ReadUpTo FlagsWithin n) (b == 73) _ _ (if_both (ReadUpTo FlagsWithin n) empty _ _ le (if_both (ReadUpTo FlagsWithin n) f.folded _ _ le h)) le))
 
 file_flag_read : (n : ℕ) (f : Flags) (at : ℕ) (o : Option (ℕ × ℕ)) → FlagsWithin f → at ≤ n → SpanUpTo n o → ReadUpTo (FlagsUpTo n) n (with_file f at o)
 file_flag_read n f at None h le up = le
@@ -385,12 +380,12 @@ flags_read : (text : List ℕ) (empty : Bool) (f : Flags) (skip at : ℕ) (bs : 
 flags_read text empty f skip at [] h le = (h, omega (arith, le))
 flags_read text empty f (suc skip) at (b ∷ bs) h le = flags_read text empty f skip (suc at) bs h (omega (arith, le))
 flags_read text empty f zero at (b ∷ bs) h le =
-    read_if (FlagsUpTo (length text)) (length text) (is_digit b) _ _
+    if_both (ReadUpTo (FlagsUpTo (length text)) (length text)) (is_digit b) _ _
     (read_then FlagsWithin (FlagsUpTo (length text)) (length text) (with_number f at (b ∷ take_while is_digit bs)) (λ (g : Flags). flags_from text empty g (prefix_len is_digit bs) (suc at) bs)
     (number_read (length text) f at (b ∷ take_while is_digit bs) (omega (arith, le)))
     (λ g w. flags_read text empty g (prefix_len is_digit bs) (suc at) bs w (omega (arith, le))))
-    (read_if (FlagsUpTo (length text)) (length text) (ends_flags b) _ _ (h, omega (arith, le))
-    (read_if (FlagsUpTo (length text)) (length text) (b == 119) _ _
+    (if_both (ReadUpTo (FlagsUpTo (length text)) (length text)) (ends_flags b) _ _ (h, omega (arith, le))
+    (if_both (ReadUpTo (FlagsUpTo (length text)) (length text)) (b == 119) _ _
     (file_flag_read (length text) f at (name_from text (at + 1)) h (omega (arith, le)) (name_up_to text (at + 1) (omega (arith, le))))
     (read_then FlagsWithin (FlagsUpTo (length text)) (length text) (with_flag empty f at b) (λ (g : Flags). flags_from text empty g zero (suc at) bs)
     (flag_read (length text) empty f at b h (omega (arith, le)))
@@ -401,9 +396,9 @@ unfolding substituted
 substituted_read text count s e limit one h =
     unless_up_to (EndsUpTo (length text) count) (length text) (replacement_fault s.delimiter limit false (s.middle + 1) (bytes_between text (s.middle + 1) s.to)) _
     (replacement_up_to (length text) s.delimiter limit false (s.middle + 1) (bytes_between text (s.middle + 1) s.to) (omega (arith, h.2, between_short text (s.middle + 1) s.to (omega (arith, h.1)))))
-    (read_then (FlagsUpTo (length text)) (EndsUpTo (length text) count) (length text) (flags_after text s (not (is_some e))) (λ (found : Flags × ℕ). ended text (Substitute s e found.0) found.1)
+    (read_then (FlagsUpTo (length text)) (EndsUpTo (length text) count) (length text) (flags_after text s (not (is_some e))) _
     (flags_read text (not (is_some e)) no_flags 0 (s.to + 1) (drop (s.to + 1) text) (omega arith) (omega (arith, h.2, length-drop (s.to + 1) text)))
-    (λ found g. ended_read text count (Substitute s e found.0) found.1 (one, g.0) g.1))
+    (λ found g. ended_read text count _ found.1 (one, g.0) g.1))
 
 -- readings
 
@@ -411,10 +406,6 @@ substituted_read text count s e limit one h =
 abbrev ReadingUpTo : {A : Type 0} → (ℕ → A → Type 0) → ℕ → ℕ → Reading A → Type 0
 ReadingUpTo P n count (plainly r) = ReadUpTo (P count) n r
 ReadingUpTo P n count (expression p k) = (p.from ≤ p.to) × (p.to ≤ n) × ((groups : ℕ) → ReadingUpTo P n (suc count) (k groups))
-
-reading_if : {A : Type 0} (P : ℕ → A → Type 0) (n count : ℕ) (t : Bool) (r s : Reading A) → ReadingUpTo P n count r → ReadingUpTo P n count s → ReadingUpTo P n count (if t then r else s)
-reading_if P n count true r s h g = h
-reading_if P n count false r s h g = g
 
 reading_plain : {A B : Type 0} (P : A → Type 0) (Q : ℕ → B → Type 0) (n count : ℕ) (r : Result A ScriptFault) (f : A → Reading B) → ReadUpTo P n r → ((x : A) → P x → ReadingUpTo Q n count (f x)) →
     ReadingUpTo Q n count (plainly r >>= f)
@@ -481,8 +472,8 @@ match_read text count d place there = by_end (delimiter_at text (place + 1) d) (
     by_end : (o : Option ℕ) → FoundIn (place + 1) (length text) o → ReadingUpTo (AddressedUpTo (length text)) (length text) count (match_to text count d place o)
     by_end None h = omega (arith, there)
     by_end (Some to) h =
-        reading_if (AddressedUpTo (length text)) (length text) count (to == place + 1) _ _
-        (read_if (AddressedUpTo (length text) count) (length text) (folds_at text (to + 1)) _ _ (omega (arith, h.1)) (refl, tt, omega (arith, h.1)))
+        if_both (ReadingUpTo (AddressedUpTo (length text)) (length text) count) (to == place + 1) _ _
+        (if_both (ReadUpTo (AddressedUpTo (length text) count) (length text)) (folds_at text (to + 1)) _ _ (omega (arith, h.1)) (refl, tt, omega (arith, h.1)))
         (h.0, omega (arith, h.1), λ groups. (omega arith, omega arith, flag_up_to text (to + 1) (omega (arith, h.1))))
 
 own_read : (text : List ℕ) (count place : ℕ) → place ≤ length text → ReadingUpTo (AddressedUpTo (length text)) (length text) count (own_match text count place (own_delimiter (slice_get text place)))
@@ -500,11 +491,11 @@ address_read text count at le = by_byte (slice_get text at) refl
     by_byte None e = (refl, tt, le)
     by_byte (Some b) e =
         let there = inside text at b e in
-        reading_if (AddressedUpTo (length text)) (length text) count (is_digit b) _ _
+        if_both (ReadingUpTo (AddressedUpTo (length text)) (length text) count) (is_digit b) _ _
         (line_read (length text) count at (past Digit text at) (with_digits (Some 0) (bytes_between text at (past Digit text at))) le (past_up_to Digit text at le))
-        (reading_if (AddressedUpTo (length text)) (length text) count (b == 36) _ _ (refl, tt, omega (arith, there))
-        (reading_if (AddressedUpTo (length text)) (length text) count (b == 47) _ _ (match_read text count 47 at there)
-        (reading_if (AddressedUpTo (length text)) (length text) count (b == 92) _ _ (own_read text count (at + 1) (omega (arith, there))) (refl, tt, le))))
+        (if_both (ReadingUpTo (AddressedUpTo (length text)) (length text) count) (b == 36) _ _ (refl, tt, omega (arith, there))
+        (if_both (ReadingUpTo (AddressedUpTo (length text)) (length text) count) (b == 47) _ _ (match_read text count 47 at there)
+        (if_both (ReadingUpTo (AddressedUpTo (length text)) (length text) count) (b == 92) _ _ (own_read text count (at + 1) (omega (arith, there))) (refl, tt, le))))
 
 with_second_read : (n count : ℕ) (first : Address) (place : ℕ) (x : Addressed) (o : Option Address) → x.count ≡ count → AddressWithin count (Some first) → AddressWithin count o → place ≤ n → x.at ≤ n →
     ReadUpTo (HeadedUpTo n count) n (with_second first place x o)
@@ -567,7 +558,7 @@ HereUpTo n count Ends = Unit {0}
 
 substitute_read : (text : List ℕ) (count : ℕ) (s : Strings) → StringsIn (length text) s → ReadingUpTo (EndsUpTo (length text)) (length text) count (substitute_with text count s)
 substitute_read text count s h =
-    reading_if (EndsUpTo (length text)) (length text) count (s.middle == s.from) _ _ (substituted_read text count s None None tt h)
+    if_both (ReadingUpTo (EndsUpTo (length text)) (length text) count) (s.middle == s.from) _ _ (substituted_read text count s None None tt h)
     (h.0, omega (arith, h.1, h.2), λ groups. substituted_read text (suc count) s (Some count) (Some groups) (omega arith) h)
 
 function_with_read : (text : List ℕ) (count at : ℕ) (verb : Verb) → at < length text → ReadingUpTo (EndsUpTo (length text)) (length text) count (function_with text count verb at)
@@ -607,12 +598,10 @@ item_read text count at le = by_byte (slice_get text (past Separator text at))
         (addresses_read text count (past Separator text at) (past_up_to Separator text at le)) (λ k h more p. after k h p)
 
 abbrev ItemsUpTo : ℕ → List Item → Type 0
-ItemsUpTo n [] = Unit {0}
-ItemsUpTo n (i ∷ is) = (i.place ≤ n) × ItemsUpTo n is
+ItemsUpTo n is = Each (λ i. i.place ≤ n) is
 
 abbrev pub ItemsWithin : ℕ → List Item → Type 0
-ItemsWithin n [] = Unit {0}
-ItemsWithin n (i ∷ is) = ItemWithin n i × ItemsWithin n is
+ItemsWithin n is = Each (ItemWithin n) is
 
 -- the items of a cut stand within the text, and what they name is among its expressions
 pub cut_up_to : (text : List ℕ) (kind : Kind) (m count at to n : ℕ) (is : List Item) (es : List WrittenExpression) → CutScript text kind m count at is es to → at ≤ length text → n ≡ count + length es →

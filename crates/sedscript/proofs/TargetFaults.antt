@@ -1,47 +1,24 @@
 -- What is wrong with one item, and what it does.
-use Rattle.std.proofs.Common.{◌≡◌, ℕ, Bool, true, false, not, List, Option, Some, None, is_some, is_none, unwrap_or, refl, sym, ap, ◌∙◌, ◌+◌, [], ◌∷◌, ◌++◌, take, drop, slice_get, append_assoc, map, filter_map, option_map, subst}
+use Rattle.std.proofs.Common.{◌≡◌, ℕ, Bool, true, false, not, List, Option, Some, None, is_some, is_none, refl, sym, ap, ◌∙◌, ◌+◌, [], ◌∷◌, ◌++◌, take, drop, slice_get, append_assoc, map, filter_map, option_map, subst}
 use Rattle.std.specs.List.{cons_option}
 use Rattle.std.proofs.lemmas.List.Elements.{filter_map-append}
 use Rattle.std.specs.Option.{option_or}
 use Rattle.sedscript.specs.declared.types.ScriptFault.{ScriptFault}
-use Rattle.sedscript.specs.declared.types.Reason.TheVariants.{OpenBlock, RepeatedLabel}
 use Rattle.sedscript.specs.declared.types.Action.{Action}
-use Rattle.sedscript.specs.declared.types.Action.TheVariants.{Block}
 use Rattle.sedscript.specs.Script.{action_of, command_of, commands_of, text_in, substitution_in, table_in}
 use Rattle.sedscript.specs.Parts.{OperandsAre}
 use Rattle.sedscript.specs.declared.types.Command.{Command}
 use Rattle.sedscript.specs.declared.items.Item.{Item}
 use Rattle.sedscript.specs.declared.script.Operands.{Operands}
-use Rattle.sedscript.specs.declared.items.Function.{Function}
-use Rattle.sedscript.specs.declared.items.Function.TheVariants.{Open, Label}
-use Rattle.sedscript.specs.Bytes.{bytes_between}
-use Rattle.sedscript.specs.Targets.{target_fault_at, target_fault_in, depth_after, fault_if, block_end, label_in, is_label}
-use Rattle.sedscript.proofs.Labels.{own_name, none_of, take_item, drop_item}
+use Rattle.sedscript.specs.Targets.{target_fault_at, target_fault_in, depth_after}
+use Rattle.sedscript.proofs.Labels.{none_of, take_item, drop_item}
 
-missing : {A : Type 0} (o : Option A) (b : Bool) → is_some o ≡ not b → b ≡ is_none o
+-- whether one is missing, as the test tells it
+pub missing : {A : Type 0} (o : Option A) (b : Bool) → is_some o ≡ not b → b ≡ is_none o
 missing None true e = refl
 missing None false e = cc
 missing (Some x) true e = cc
 missing (Some x) false e = refl
-
-pub target_fault_open : (text : List ℕ) (all before after : List Item) (depth place : ℕ) (f : Function) (b : Bool) (o : Option ℕ) (r : Option ScriptFault) →
-    f ≡ Open → o ≡ block_end before after → is_some o ≡ not b → r ≡ fault_if b OpenBlock place → r ≡ target_fault_at text all before depth after place f
-target_fault_open text all before after depth place f b o r is end some e =
-    e ∙ (ap (λ (c : Bool). fault_if c OpenBlock place) (missing o b some ∙ ap (λ (x : Option ℕ). is_none x) end)
-    ∙ ap (target_fault_at text all before depth after place) (sym is))
-
-pub target_fault_label : (text name : List ℕ) (all before after : List Item) (depth place from to : ℕ) (f : Function) (b : Bool) (r : Option ScriptFault) →
-    f ≡ Label from to → name ≡ bytes_between text from to → (is_label text name f ≡ true → b ≡ is_some (label_in text name 0 before)) → r ≡ fault_if b RepeatedLabel place →
-    r ≡ target_fault_at text all before depth after place f
-target_fault_label text name all before after depth place from to f b r is named earlier e =
-    let own : is_label text name f ≡ true = ap (λ (n : List ℕ). is_label text n f) named ∙ own_name text f from to is in
-    e ∙ (ap (λ (c : Bool). fault_if c RepeatedLabel place) (earlier own ∙ ap (λ (n : List ℕ). is_some (label_in text n 0 before)) named)
-    ∙ ap (target_fault_at text all before depth after place) (sym is))
-
-pub action_open : (text : List ℕ) (all before after : List Item) (to : ℕ) (f : Function) (o : Option ℕ) →
-    f ≡ Open → o ≡ block_end before after → to ≡ unwrap_or o 0 → ◌≡◌ {A = Option Action} (Some (Block to)) (action_of text all before after f)
-action_open text all before after to f o is end e =
-    ap (λ (k : ℕ). Some (Block k)) (e ∙ ap (λ (x : Option ℕ). unwrap_or x 0) end) ∙ ap (action_of text all before after) (sym is)
 
 first_some : {A : Type 0} (o x : Option A) (b : Bool) → b ≡ is_some o → b ≡ true → o ≡ option_or o x
 first_some None x b e f = let g : false ≡ true = sym e ∙ f in cc

@@ -1,11 +1,12 @@
 -- What stands between delimiters after `s` and `y`, and the flags of `s` (XCU sed, "Editing Commands in sed").
-use Rattle.std.specs.Prelude.{ℕ, zero, suc, ◌+◌, List, [], ◌∷◌, Bool, true, false, ◌||◌, Option, Some, None, is_some, if◌then◌else◌, ◌==◌, Result, Ok, Err, not, drop, slice_get}
-use Rattle.std.specs.List.{fold, prefix_len, take_while}
-use Rattle.sedscript.specs.Types.{ScriptFault, UnknownFlag, RepeatedFlag, BadNumber, MissingName, FlagOnEmpty, Flags, OpenDelimiter, BadDelimiter, Strings, Function, Substitute, Transliterate}
-use Rattle.sedscript.specs.Bytes.{is_blank, is_digit, with_digit, bytes_between}
-use Rattle.sedscript.specs.Functions.{fault, or_fault, may_end, name_from, ◌>>=◌, ended}
+use Rattle.std.specs.Prelude.{ℕ, zero, suc, ◌+◌, List, [], ◌∷◌, Bool, true, false, ◌||◌, Option, Some, None, is_some, if◌then◌else◌, ◌==◌, Result, Ok, Err, drop}
+use Rattle.std.specs.List.{prefix_len, take_while}
+use Rattle.std.specs.Result.{result_unwrap_or}
+use Rattle.sedscript.specs.Types.{ScriptFault, UnknownFlag, RepeatedFlag, BadNumber, MissingName, FlagOnEmpty, Flags, OpenDelimiter, BadDelimiter, Strings}
+use Rattle.sedscript.specs.Bytes.{is_blank, is_digit, with_digits}
+use Rattle.sedscript.specs.Functions.{fault, or_fault, may_end, name_from, ◌>>=◌}
 use Rattle.sedre.specs.Brackets.{delimiter_at}
-use Rattle.sedscript.specs.Strings.{string_end, replacement_fault, strings_fault}
+use Rattle.sedscript.specs.Strings.{string_end}
 
 abbrev pub no_flags : Flags
 no_flags = record { number = None; global = false; print = false; folded = false; file = None }
@@ -18,7 +19,7 @@ numbered f at number = fault BadNumber at
 -- the flags with the number that these digits at a place write, if they have none (this project's own)
 abbrev pub with_number : Flags → ℕ → List ℕ → Result Flags ScriptFault
 with_number f at digits =
-    if is_some f.number then fault RepeatedFlag at else numbered f at (fold with_digit (Some 0) digits)
+    if is_some f.number then fault RepeatedFlag at else numbered f at (with_digits (Some 0) digits)
 
 -- these flags, unless the one at a place was there already (this project's own)
 abbrev pub once : (already : Bool) → ℕ → Flags → Result Flags ScriptFault
@@ -32,6 +33,14 @@ with_flag empty f at b =
     else if b == 73 then (if empty then fault FlagOnEmpty at else once f.folded at (record f { folded = true }))
     else fault UnknownFlag at
 
+-- whether flags end before this byte: a blank, or what ends a command
+abbrev pub ends_flags : ℕ → Bool
+ends_flags b = is_blank b || may_end (Some b)
+
+-- the flags with the file of the `w` at a place, and the place after its name
+abbrev pub with_file : Flags → ℕ → Option (ℕ × ℕ) → Result (Flags × ℕ) ScriptFault
+with_file f at found = or_fault found MissingName at >>= λ name. Ok (record f { file = Some name }, name.1)
+
 -- the flags from a place on, in any order, and the place after them, before a blank or what ends a command. `w` is the last:
 -- the rest of its line is a file's name. The first `skip` bytes are digits that are read already
 abbrev pub flags_from : List ℕ → (empty : Bool) → Flags → (skip : ℕ) → ℕ → List ℕ → Result (Flags × ℕ) ScriptFault
@@ -41,9 +50,8 @@ flags_from text empty f zero at (b ∷ bs) =
     if is_digit b
     then (with_number f at (b ∷ take_while is_digit bs) >>= λ g.
     flags_from text empty g (prefix_len is_digit bs) (suc at) bs)
-    else if is_blank b || may_end (Some b) then Ok (f, at)
-    else if b == 119
-    then (or_fault (name_from text (at + 1)) MissingName at >>= λ name. Ok (record f { file = Some name }, name.1))
+    else if ends_flags b then Ok (f, at)
+    else if b == 119 then with_file f at (name_from text (at + 1))
     else (with_flag empty f at b >>= λ g. flags_from text empty g zero (suc at) bs)
 
 -- the byte, if it may be a delimiter: neither a backslash nor a newline
@@ -75,19 +83,10 @@ abbrev pub unless_fault : {A : Type 0} → Option ScriptFault → Result A Scrip
 unless_fault None read = read
 unless_fault (Some f) read = Err f
 
--- the command `y` whose letter stands at a place, and its end
-unfoldable pub transliterate_at : List ℕ → ℕ → Result (Function × ℕ) ScriptFault
-transliterate_at text at =
-    transliterate_strings text (at + 1) (own_delimiter (slice_get text (at + 1))) >>= λ s.
-    unless_fault (strings_fault text s.delimiter at s.from s.middle s.to) (ended text (Transliterate s) (s.to + 1))
-
 -- the flags of `s`, whose regular expression is empty or not, and the place after them
 abbrev pub flags_after : List ℕ → Strings → (empty : Bool) → Result (Flags × ℕ) ScriptFault
 flags_after text s empty = flags_from text empty no_flags 0 (s.to + 1) (drop (s.to + 1) text)
 
--- the command `s` with these strings, and its end. Its expression has this number in the script, None if it is empty; the
--- groups of its replacement have numbers up to the limit, where there is one
-unfoldable pub substituted : List ℕ → Strings → Option ℕ → Option ℕ → Result (Function × ℕ) ScriptFault
-substituted text s e limit =
-    unless_fault (replacement_fault s.delimiter limit false (s.middle + 1) (bytes_between text (s.middle + 1) s.to))
-    (flags_after text s (not (is_some e)) >>= λ found. ended text (Substitute s e found.0) found.1)
+-- whether letters match without regard to case, by the flags that were read (this project's own)
+abbrev pub folds : Result (Flags × ℕ) ScriptFault → Bool
+folds read = (result_unwrap_or read (no_flags, 0)).0.folded

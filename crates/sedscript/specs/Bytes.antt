@@ -1,6 +1,6 @@
 -- Places of a text, counted from 0.
 use Rattle.std.specs.Prelude.{ℕ, ◌+◌, ◌*◌, ◌-◌, ◌^◌, List, drop, take, Bool, false, not, ◌||◌, Option, Some, None, if◌then◌else◌, nat_lt, ◌==◌}
-use Rattle.std.specs.List.{prefix_len}
+use Rattle.std.specs.List.{fold, prefix_len}
 use Rattle.sedscript.specs.declared.bytes.Sort.{Sort}
 pub use Rattle.sedscript.specs.declared.bytes.Sort.TheVariants.{Blank, Separator, Bang, Digit, Name, Line}
 pub use Rattle.sedre.specs.Sets.{is_digit}
@@ -31,6 +31,10 @@ bytes_between text from to = take (to - from) (drop from text)
 abbrev pub with_digit : Option ℕ → ℕ → Option ℕ
 with_digit None d = None
 with_digit (Some n) d = if nat_lt (n * 10 + (d - 48)) (2 ^ 64) then Some (n * 10 + (d - 48)) else None
+
+-- the number with these digits at its end, if it is below 2 ^ 64
+abbrev pub with_digits : Option ℕ → List ℕ → Option ℕ
+with_digits n ds = fold with_digit n ds
 
 -- whether the byte that was found is this one
 abbrev pub is_byte : ℕ → Option ℕ → Bool

@@ -1,48 +1,8 @@
--- The functions: letters, addresses, and what follows the letters but `s` and `y` (XCU sed, "Editing Commands in sed").
-use Rattle.std.specs.Prelude.{ℕ, List, Option, Some, None, if◌then◌else◌, ◌==◌, ◌+◌, [], ◌∷◌, suc, drop, Bool, true, false, ◌&&◌, ◌||◌, nat_lt, slice_get, unwrap_or, Result, Ok, Err, option_map}
-use Rattle.std.specs.Option.{ok_or, option_len}
-use Rattle.sedscript.specs.Types.{Verb, ReadsExpression, Reads, Alone, OpensBlock, ClosesBlock, Remark, NamesLabel, GoesTo, TakesText, NamesFile, TakesStrings, Read, Write, ScriptFault, Reason, UnknownCommand, TooManyAddresses, MissingText, MissingLabel, MissingName, TrailingBytes, TextUse, Append, Insert, Change, BranchUse, Always, IfReplaced, AppendHold, AppendNext, CopyHold, Delete, DeleteFirst, Exchange, Hold, HoldMore, LineNumber, listing, NextLine, Print, PrintFirst, Quit, FileUse, Function, Label, Branch, Text, File, Addresses, Inside, InLine, Escape, Due}
-use Rattle.sedscript.specs.Bytes.{Blank, Name, Line, past, is_byte}
-
--- what a letter stands for, if it is a function's
-abbrev pub verb_of : ℕ → Option Verb
-verb_of letter =
-    if letter == 123 then Some (Reads OpensBlock)  -- {
-    else if letter == 125 then Some (Reads ClosesBlock)  -- }
-    else if letter == 35 then Some (Reads Remark)  -- #
-    else if letter == 58 then Some (Reads NamesLabel)  -- :
-    else if letter == 98 then Some (Reads (GoesTo Always))  -- b
-    else if letter == 116 then Some (Reads (GoesTo IfReplaced))  -- t
-    else if letter == 97 then Some (Reads (TakesText Append))  -- a
-    else if letter == 105 then Some (Reads (TakesText Insert))  -- i
-    else if letter == 99 then Some (Reads (TakesText Change))  -- c
-    else if letter == 114 then Some (Reads (NamesFile Read))  -- r
-    else if letter == 119 then Some (Reads (NamesFile Write))  -- w
-    else if letter == 115 then Some ReadsExpression  -- s
-    else if letter == 121 then Some (Reads TakesStrings)  -- y
-    else if letter == 61 then Some (Reads (Alone LineNumber))  -- =
-    else if letter == 100 then Some (Reads (Alone Delete))  -- d
-    else if letter == 68 then Some (Reads (Alone DeleteFirst))  -- D
-    else if letter == 108 then Some (Reads (Alone listing))  -- l
-    else if letter == 110 then Some (Reads (Alone NextLine))  -- n
-    else if letter == 78 then Some (Reads (Alone AppendNext))  -- N
-    else if letter == 112 then Some (Reads (Alone Print))  -- p
-    else if letter == 80 then Some (Reads (Alone PrintFirst))  -- P
-    else if letter == 113 then Some (Reads (Alone Quit))  -- q
-    else if letter == 103 then Some (Reads (Alone CopyHold))  -- g
-    else if letter == 71 then Some (Reads (Alone AppendHold))  -- G
-    else if letter == 104 then Some (Reads (Alone Hold))  -- h
-    else if letter == 72 then Some (Reads (Alone HoldMore))  -- H
-    else if letter == 120 then Some (Reads (Alone Exchange))  -- x
-    else None
-
--- the most addresses of a function; that `a`, `i`, `r` and `=` take two is this project's own, POSIX gives them one
-abbrev pub most_addresses : Verb → ℕ
-most_addresses (Reads NamesLabel) = 0
-most_addresses (Reads ClosesBlock) = 0
-most_addresses (Reads Remark) = 0
-most_addresses (Reads (Alone Quit)) = 1
-most_addresses verb = 2
+-- What follows the letters of functions: texts and names, and the end of a command (XCU sed, "Editing Commands in sed").
+use Rattle.std.specs.Prelude.{ℕ, List, Option, Some, None, if◌then◌else◌, ◌==◌, ◌+◌, [], ◌∷◌, suc, drop, Bool, true, false, ◌&&◌, ◌||◌, slice_get, unwrap_or, Result, Ok, Err, option_map}
+use Rattle.std.specs.Option.{ok_or}
+use Rattle.sedscript.specs.Types.{ScriptFault, Reason, MissingText, MissingName, TrailingBytes, TextUse, FileUse, Function, Text, File, Inside, InLine, Escape, Due}
+use Rattle.sedscript.specs.Bytes.{Blank, Line, past, is_byte}
 
 abbrev pub fault : {A : Type 0} → Reason → ℕ → Result A ScriptFault
 fault reason place = Err (record { place = place; reason = reason })
@@ -98,16 +58,6 @@ text_from text from =
 abbrev pub text_of : TextUse → ℕ → Option (ℕ × ℕ) → Result (Function × ℕ) ScriptFault
 text_of t place found = or_fault found MissingText place >>= λ span. Ok (Text t span.0 span.1, span.1)
 
--- the label whose `:` stands at a place and whose name begins at another, and its end
-abbrev pub label_of : List ℕ → ℕ → ℕ → Result (Function × ℕ) ScriptFault
-label_of text place from =
-    if past Name text from == from then fault MissingLabel place
-    else ended text (Label from (past Name text from)) (past Name text from)
-
--- the branch whose label begins at a place, and its end. An empty label stands for the end of the script
-abbrev pub branch_of : List ℕ → BranchUse → ℕ → Result (Function × ℕ) ScriptFault
-branch_of text u from = ended text (Branch u from (past Name text from)) (past Name text from)
-
 -- where the name of a file that is due at a place, after its letter, begins and ends, if it isn't empty: after blanks, and up
 -- to the newline. That no blank is needed, and what else stands on the line belongs to it, is this project's own
 unfoldable pub name_from : List ℕ → ℕ → Option (ℕ × ℕ)
@@ -118,12 +68,3 @@ name_from text at =
 -- the function that reads or writes the file of this name, whose letter stands at a place, and the place after it
 abbrev pub file_of : FileUse → ℕ → Option (ℕ × ℕ) → Result (Function × ℕ) ScriptFault
 file_of u place found = or_fault found MissingName place >>= λ name. Ok (File u name.0 name.1, name.1)
-
--- what the letter at a place stands for, a function that may have these addresses. A `!` before one that takes none is refused
--- (this project's own)
-abbrev pub allowed : Addresses → ℕ → Option Verb → Result Verb ScriptFault
-allowed addresses at stands = or_fault stands UnknownCommand at >>= λ verb.
-    if addresses.negate && most_addresses verb == 0 then fault UnknownCommand at
-    else if nat_lt (most_addresses verb) (option_len addresses.first + option_len addresses.second)
-    then fault TooManyAddresses at
-    else Ok verb

@@ -1,11 +1,10 @@
 -- The items of a script: addresses, and the functions after them (XCU sed, "Addresses in sed", "Extended Description").
 use Rattle.std.specs.Prelude.{ℕ, Bool, Result, Ok, Err, suc, ◌+◌, List, true, false, Option, Some, None, if◌then◌else◌, ◌==◌, slice_get}
-use Rattle.std.specs.List.{fold}
-use Rattle.std.specs.Result.{result_unwrap_or}
-use Rattle.sedscript.specs.Types.{ScriptFault, BadAddress, OpenDelimiter, BadDelimiter, FlagOnEmpty, Address, Line, Last, Match, Addresses, UnknownCommand, Strings, Function, Plain, Open, Close, Comment, Verb, ReadsExpression, Reads, Arguments, Alone, OpensBlock, ClosesBlock, Remark, NamesLabel, GoesTo, TakesText, NamesFile, TakesStrings, ItemOrEnd, Is, Ends}
-use Rattle.sedscript.specs.Bytes.{Blank, Bang, Digit, past, bytes_between, is_digit, with_digit, is_byte, Separator, Line as LineRest}
-use Rattle.sedscript.specs.Functions.{fault, or_fault, ended, label_of, branch_of, text_of, text_from, file_of, name_from, allowed, verb_of}
-use Rattle.sedscript.specs.Between.{own_delimiter, substitute_strings, flags_after, substituted, transliterate_at, no_flags}
+use Rattle.sedscript.specs.Types.{ScriptFault, BadAddress, OpenDelimiter, BadDelimiter, FlagOnEmpty, UnknownCommand, Address, Line, Last, Match, Addresses, Strings, Function, Verb, ReadsExpression, Reads, ItemOrEnd, Is, Ends}
+use Rattle.sedscript.specs.Bytes.{Blank, Bang, Digit, past, bytes_between, is_digit, with_digits, is_byte, Separator}
+use Rattle.sedscript.specs.Functions.{fault, or_fault}
+use Rattle.sedscript.specs.Between.{own_delimiter, substitute_strings, flags_after, folds}
+use Rattle.sedscript.specs.Letters.{verb_of, allowed, substituted, function_of}
 use Rattle.sedre.specs.Brackets.{delimiter_at}
 
 -- a regular expression in a script: where it begins and ends, the delimiter there, and whether its flag `I` folds the case of
@@ -51,15 +50,20 @@ folds_at text at = is_byte 73 (slice_get text at)
 abbrev pub past_flag : List ℕ → ℕ → ℕ
 past_flag text at = if folds_at text at then at + 1 else at
 
--- the address of the regular expression after the delimiter at a place, with its flag `I`. The empty one has no number, and
--- takes no flag (this project's own)
-unfoldable pub match_at : List ℕ → ℕ → ℕ → ℕ → Reading Addressed
-match_at text count delimiter place =
-    plainly (or_fault (delimiter_at text (place + 1) delimiter) OpenDelimiter place) >>= λ to.
-    if to == place + 1
-    then plainly (if folds_at text (to + 1) then fault FlagOnEmpty (to + 1) else found (Some (Match None)) (to + 1) count)
+-- the address of the empty regular expression, which ends before a place. It has no number, and takes no flag (this project's own)
+abbrev pub empty_match : List ℕ → ℕ → ℕ → Result Addressed ScriptFault
+empty_match text count at = if folds_at text at then fault FlagOnEmpty at else found (Some (Match None)) at count
+
+-- the address of the regular expression that begins after the delimiter at a place, given where it ends, if it does
+abbrev pub match_to : List ℕ → ℕ → ℕ → ℕ → Option ℕ → Reading Addressed
+match_to text count delimiter place end = plainly (or_fault end OpenDelimiter place) >>= λ to.
+    if to == place + 1 then plainly (empty_match text count (to + 1))
     else expression (record { from = place + 1; to = to; delimiter = delimiter; folded = folds_at text (to + 1) })
     (λ groups. plainly (found (Some (Match (Some count))) (past_flag text (to + 1)) (count + 1)))
+
+-- the address of the regular expression after the delimiter at a place, with its flag `I`
+unfoldable pub match_at : List ℕ → ℕ → ℕ → ℕ → Reading Addressed
+match_at text count delimiter place = match_to text count delimiter place (delimiter_at text (place + 1) delimiter)
 
 -- the address of a regular expression whose own delimiter stands at a place, if it is one
 abbrev pub own_match : List ℕ → ℕ → ℕ → Option ℕ → Reading Addressed
@@ -71,7 +75,7 @@ address_of text count at None = plainly (found None at count)
 address_of text count at (Some b) =
     if is_digit b
     then plainly
-    (line_of count at (past Digit text at) (fold with_digit (Some 0) (bytes_between text at (past Digit text at))))
+    (line_of count at (past Digit text at) (with_digits (Some 0) (bytes_between text at (past Digit text at))))
     else if b == 36 then plainly (found (Some Last) (at + 1) count)
     else if b == 47 then match_at text count 47 at
     else if b == 92 then own_match text count (at + 1) (own_delimiter (slice_get text (at + 1)))
@@ -133,7 +137,7 @@ substitute_with text count s =
       from = s.from;
       to = s.middle;
       delimiter = s.delimiter;
-      folded = (result_unwrap_or (flags_after text s false) (no_flags, 0)).0.folded;
+      folded = folds (flags_after text s false);
     })
     (λ groups. plainly (substituted text s (Some count) (Some groups)))
 
@@ -142,36 +146,33 @@ unfoldable pub substitute_at : List ℕ → ℕ → ℕ → Reading (Function ×
 substitute_at text count at =
     plainly (substitute_strings text (at + 1) (own_delimiter (slice_get text (at + 1)))) >>= substitute_with text count
 
--- the function whose letter stands at a place and takes these arguments, and the place after it
-abbrev pub function_of : List ℕ → Arguments → ℕ → Result (Function × ℕ) ScriptFault
-function_of text OpensBlock at = Ok (Open, at + 1)
-function_of text ClosesBlock at = ended text Close (at + 1)
-function_of text Remark at = Ok (Comment, past LineRest text (at + 1))
-function_of text NamesLabel at = label_of text at (past Blank text (at + 1))
-function_of text (GoesTo u) at = branch_of text u (past Blank text (at + 1))
-function_of text (TakesText t) at = text_of t at (text_from text (past Blank text (at + 1)))
-function_of text (NamesFile u) at = file_of u at (name_from text (at + 1))
-function_of text TakesStrings at = transliterate_at text at
-function_of text (Alone s) at = ended text (Plain s) (at + 1)
-
 -- the function whose letter stands at a place and stands for this, and the place after it
 abbrev pub function_with : List ℕ → ℕ → Verb → ℕ → Reading (Function × ℕ)
 function_with text count ReadsExpression at = substitute_at text count at
 function_with text count (Reads arguments) at = plainly (function_of text arguments at)
 
--- the item of the function that is expected at a place, after these addresses
-unfoldable pub function_at : List ℕ → ℕ → Addresses → ℕ → Reading ItemOrEnd
-function_at text count addresses at =
-    plainly (or_fault (slice_get text at) UnknownCommand at) >>= λ letter.
-    plainly (allowed addresses at (verb_of letter)) >>= λ verb.
-    function_with text count verb at >>= λ found.
-    plainly (Ok (Is (record { addresses = addresses; place = at; function = found.0 }) found.1))
+-- an item with these addresses and the place of its letter, and the place after it
+abbrev pub item_of : Addresses → ℕ → Function × ℕ → ItemOrEnd
+item_of addresses place found = Is (record { addresses = addresses; place = place; function = found.0 }) found.1
 
--- the item at a place, given the byte there, or the end where there is none. A `!` may stand after its addresses
+-- the item of the function that is expected at a place, after these addresses, given the letter there, if there is one
+abbrev pub item_with : List ℕ → ℕ → Addresses → ℕ → Option ℕ → Reading ItemOrEnd
+item_with text count addresses at stands =
+    plainly (or_fault stands UnknownCommand at) >>= λ letter.
+    plainly (allowed addresses at (verb_of letter)) >>= λ verb.
+    function_with text count verb at >>= λ found. plainly (Ok (item_of addresses at found))
+
+unfoldable pub function_at : List ℕ → ℕ → Addresses → ℕ → Reading ItemOrEnd
+function_at text count addresses at = item_with text count addresses at (slice_get text at)
+
+-- the item of the function that is expected after these addresses; a `!` may stand between
+abbrev pub function_after : List ℕ → Headed → Reading ItemOrEnd
+function_after text h = function_at text h.count (with_bang text h).addresses (with_bang text h).at
+
+-- the item at a place, given the byte there, or the end where there is none
 abbrev pub item_from : List ℕ → ℕ → ℕ → Option ℕ → Reading ItemOrEnd
 item_from text count at None = plainly (Ok Ends)
-item_from text count at (Some b) =
-    addresses_at text count at >>= λ h. function_at text h.count (with_bang text h).addresses (with_bang text h).at
+item_from text count at (Some b) = addresses_at text count at >>= function_after text
 
 -- the next item from a place on, with so many regular expressions before it, or the end
 unfoldable pub item_at : List ℕ → ℕ → ℕ → Reading ItemOrEnd

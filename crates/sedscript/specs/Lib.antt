@@ -4,6 +4,7 @@ pub mod Faults
 pub mod Functions
 pub mod Strings
 pub mod Between
+pub mod Letters
 pub mod Items
 pub mod Targets
 pub mod Program
@@ -12,7 +13,6 @@ pub mod FirstFault
 pub mod Ranges
 pub mod Parts
 pub mod Answers
-pub mod Cases
 pub mod Kept
 pub mod Tables
 pub mod Pieces

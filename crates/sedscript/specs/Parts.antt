@@ -1,11 +1,9 @@
 -- Private to the proofs: no contract of a public item cites what stands here.
 -- The parts that a script is kept in.
 use Rattle.std.specs.Prelude.{◌≡◌, ℕ, List, Bool, map}
-use Rattle.sedre.specs.Tree.{WrittenExpression}
-use Rattle.sedscript.specs.Types.{Item, Command, Read, Write}
+use Rattle.sedscript.specs.Types.{Item, Command}
 use Rattle.sedscript.specs.declared.script.Named.{Named}
 use Rattle.sedscript.specs.declared.script.Operands.{Operands}
-use Rattle.sedscript.specs.Targets.{files_in}
 use Rattle.sedscript.specs.Script.{texts_of, substitutions_of, tables_of}
 use Rattle.sedscript.specs.Program.{Program}
 
@@ -28,10 +26,3 @@ pub record OperandsAre (text : List ℕ) (all items : List Item) (o : Operands) 
   pub texts : map (λ t. t.items) o.texts.items ≡ texts_of text items
   pub substitutions : o.substitutions.items ≡ substitutions_of text all items
   pub tables : map (λ t. t.items) o.tables.items ≡ tables_of text items
-
--- these parts are what the items name, with these expressions
-pub record IsNamed (text : List ℕ) (items : List Item) (expressions : List WrittenExpression) (named : Named) : Type 0 where
-  pub exprs : named.exprs.items ≡ expressions
-  pub operands : OperandsAre text items items named.operands
-  pub rfiles : map (λ n. n.items) named.rfiles.items ≡ files_in Read text items
-  pub wfiles : map (λ n. n.items) named.wfiles.items ≡ files_in Write text items

@@ -7,11 +7,11 @@ use Rattle.sedre.specs.Tree.{WrittenExpression, expression_tree}
 use Rattle.sedre.specs.Grammar.{ReadsAs, ExprFaulty}
 use Rattle.sedscript.specs.Bytes.{bytes_between, Separator, past}
 use Rattle.sedscript.specs.Items.{Pattern, Reading, plainly, expression, item_at}
-use Rattle.sedscript.specs.Types.{Action, Command, Read, Write, Function, Plain, Open, Branch, Text, File, Substitute, Transliterate, Addresses, Item, Is}
+use Rattle.sedscript.specs.Types.{Action, Command, Flags, Strings, Function, Plain, Open, Branch, Text, File, Substitute, Transliterate, Addresses, Item, Is}
 use Rattle.sedscript.specs.declared.types.Action.TheVariants as action
 use Rattle.sedscript.specs.declared.substitution.Substitution.{Substitution}
 use Rattle.sedscript.specs.Strings.{pieces_of, chars_of, bytes_of, table_of}
-use Rattle.sedscript.specs.Targets.{files_in, number_in, commands_in, label_in, block_end, target_fault}
+use Rattle.sedscript.specs.Targets.{read_files, written_files, number_in, sink_in, commands_in, label_in, block_end, target_fault}
 use Rattle.sedscript.specs.Program.{Program}
 
 -- the text with one part more, and a newline where the part doesn't end with one
@@ -58,27 +58,35 @@ text_in text f = None
 abbrev pub texts_of : List ℕ → List Item → List (List ℕ)
 texts_of text items = filter_map (λ i. text_in text i.function) items
 
--- the substitution of a function among all items, if it is an `s`. Without a number it begins with the first occurrence
-abbrev pub substitution_in : List ℕ → List Item → Function → Option Substitution
-substitution_in text all (Substitute s e f) = Some (record {
+-- the substitution of an `s` among all items, with these strings, this expression and these flags. Without a number it begins
+-- with the first occurrence
+abbrev pub substitution_of : List ℕ → List Item → Strings → Option ℕ → Flags → Substitution
+substitution_of text all s e f = record {
   expression = e;
   replacement = pieces_of s.delimiter (bytes_between text (s.middle + 1) s.to);
   number = unwrap_or f.number 1;
   global = f.global;
   print = f.print;
-  file = option_map (λ name. number_in Write text all (bytes_between text name.0 name.1)) f.file;
-})
+  file = sink_in text all f.file;
+}
+
+-- the substitution of a function among all items, if it is an `s`
+abbrev pub substitution_in : List ℕ → List Item → Function → Option Substitution
+substitution_in text all (Substitute s e f) = Some (substitution_of text all s e f)
 substitution_in text all f = None
 
 -- the substitutions of items among all items, in order
 abbrev pub substitutions_of : List ℕ → List Item → List Item → List Substitution
 substitutions_of text all items = filter_map (λ i. substitution_in text all i.function) items
 
+-- the table of a `y` whose strings stand there
+abbrev pub table_between : List ℕ → Strings → List ℕ
+table_between text s =
+    table_of (bytes_of (chars_of text s.delimiter s.from s.middle)) (bytes_of (chars_of text s.delimiter (s.middle + 1) s.to))
+
 -- the table of a function, if it is a `y`
 abbrev pub table_in : List ℕ → Function → Option (List ℕ)
-table_in text (Transliterate s) =
-    Some (table_of (bytes_of (chars_of text s.delimiter s.from s.middle))
-    (bytes_of (chars_of text s.delimiter (s.middle + 1) s.to)))
+table_in text (Transliterate s) = Some (table_between text s)
 table_in text f = None
 
 -- the tables of the items, in order
@@ -133,7 +141,7 @@ pub record Means (text : List ℕ) (kind : Kind) (max_nodes : ℕ) (s : Program)
   pub texts : s.texts ≡ texts_of text items
   pub substitutions : s.substitutions ≡ substitutions_of text items items
   pub tables : s.tables ≡ tables_of text items
-  pub rfiles : s.rfiles ≡ files_in Read text items
-  pub wfiles : s.wfiles ≡ files_in Write text items
+  pub rfiles : s.rfiles ≡ read_files text items
+  pub wfiles : s.wfiles ≡ written_files text items
   pub quiet : s.quiet ≡ is_quiet text
   pub nodes : s.max_nodes ≡ max_nodes

@@ -113,14 +113,17 @@ repeated_in before [] = None
 repeated_in before (c ∷ cs) =
     if is_among before c.byte then Some c.place else repeated_in (c.byte ∷ before) cs
 
+-- the fault of a byte that stands a second time at a place, if one does
+abbrev pub repeated_fault : Option ℕ → Option ScriptFault
+repeated_fault found = option_map (λ at. record { place = at; reason = RepeatedByte }) found
+
 -- the first fault of the strings of a `y` whose letter stands at a place; the delimiter in the middle is between them. That the
 -- first may have no byte twice, and that they have the same length, is this project's own
 abbrev pub strings_fault : List ℕ → ℕ → ℕ → ℕ → ℕ → ℕ → Option ScriptFault
 strings_fault text delimiter letter from middle to =
     option_or (string_fault delimiter false from (bytes_between text from middle))
     (option_or (string_fault delimiter false (middle + 1) (bytes_between text (middle + 1) to))
-    (option_or (option_map (λ at. record { place = at; reason = RepeatedByte })
-    (repeated_in [] (chars_of text delimiter from middle)))
+    (option_or (repeated_fault (repeated_in [] (chars_of text delimiter from middle)))
     (fault_if (not (length (chars_of text delimiter from middle) == length (chars_of text delimiter (middle + 1) to)))
     LengthsDiffer letter)))
 

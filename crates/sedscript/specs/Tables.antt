@@ -1,6 +1,6 @@
 -- Private to the proofs: no contract of a public item cites what stands here.
 -- The tables by which labels, blocks and files are found without searching anew.
-use Rattle.std.specs.Prelude.{◌≡◌, ℕ, suc, List, [], ◌∷◌, ◌++◌, drop, Bool, false, not, ◌==◌, Option, Some, None, if◌then◌else◌, map}
+use Rattle.std.specs.Prelude.{◌≡◌, ℕ, suc, List, [], ◌∷◌, ◌++◌, drop, Bool, true, false, not, ◌==◌, Option, Some, None, if◌then◌else◌, map}
 use Rattle.std.specs.Borrow.{Bor}
 use Rattle.std.specs.BTreeMap.{BTreeMap, get_by}
 use Rattle.std.specs.Cmp.Lexicographic.{slice_cmp}
@@ -10,8 +10,8 @@ use Rattle.std.specs.Str.{bytes_eq}
 use Rattle.sedscript.specs.declared.targets.FirstLabel.{FirstLabel}
 use Rattle.sedscript.specs.declared.files.Files.{Files}
 use Rattle.sedscript.specs.declared.files.NumberedFiles.{NumberedFiles}
-use Rattle.sedscript.specs.Types.{FileUse, Read, Write, Item, Function, Open}
-use Rattle.sedscript.specs.Targets.{files_in, is_label, counted, commands_in, is_open, is_close, close_in, block_end}
+use Rattle.sedscript.specs.Types.{Item, Function}
+use Rattle.sedscript.specs.Targets.{read_files, written_files, is_label, counted, commands_in, is_open, is_close, close_in, block_end}
 
 -- the first item with a label of this name, and the number of the command after it, where the items begin with this
 -- index and so many commands before them
@@ -64,7 +64,7 @@ ends_in n (i ∷ is) = with_end i.function (close_in 0 (counted n i) is) (ends_i
 
 -- where a function between these items opens a block, that ends there
 abbrev pub EndIs : List Item → List Item → Function → Option ℕ → Type 0
-EndIs before after f end = f ≡ Open → end ≡ block_end before after
+EndIs before after f end = is_open f ≡ true → end ≡ block_end before after
 
 -- the names with one more, if it is new
 abbrev pub with_name : List (List ℕ) → Option (List ℕ) → List (List ℕ)
@@ -75,20 +75,15 @@ with_name names (Some name) = if list_any (bytes_eq name) names then names else 
 abbrev pub NumbersAre : ℕ → List (List ℕ) → BTreeMap (Bor (List ℕ)) ℕ → Type 0
 NumbersAre first names m = (name : List ℕ) → labelled m name ≡ position_from (bytes_eq name) first names
 
--- where the numbers of files begin
-abbrev pub first_number : FileUse → ℕ
-first_number Read = 0
-first_number Write = 1
-
--- these are the names of the files, and their numbers
-pub record AreNumbered (u : FileUse) (names : List (List ℕ)) (f : NumberedFiles) : Type 0 where
+-- these are the names of the files, and their numbers, counted from the first
+pub record AreNumbered (first : ℕ) (names : List (List ℕ)) (f : NumberedFiles) : Type 0 where
   pub names_are : map (λ n. n.items) f.names.items ≡ names
-  pub numbers_are : NumbersAre (first_number u) names f.numbers
+  pub numbers_are : NumbersAre first names f.numbers
 
--- the files that the items name
+-- the files that the items name; 0 is the number of the standard output
 pub record FilesAre (text : List ℕ) (items : List Item) (f : Files) : Type 0 where
-  pub read : AreNumbered Read (files_in Read text items) f.read
-  pub written : AreNumbered Write (files_in Write text items) f.written
+  pub read : AreNumbered 0 (read_files text items) f.read
+  pub written : AreNumbered 1 (written_files text items) f.written
 
 -- the tables are those of all items
 pub record TargetsAre (text : List ℕ) (items : List Item) (labels : BTreeMap (Bor (List ℕ)) FirstLabel)

@@ -1,5 +1,5 @@
 -- Where names lead: files, labels and blocks, and what is wrong with the last two (XCU sed, "Editing Commands in sed").
-use Rattle.std.specs.Prelude.{ℕ, List, [], ◌∷◌, Bool, true, not, Option, Some, None, codes, filter, filter_map, if◌then◌else◌, unwrap_or, suc, ◌-◌, ◌++◌, false, ◌&&◌, is_none, is_some, ◌==◌}
+use Rattle.std.specs.Prelude.{ℕ, List, [], ◌∷◌, Bool, true, not, Option, Some, None, codes, filter, filter_map, option_map, if◌then◌else◌, unwrap_or, suc, ◌-◌, ◌++◌, false, ◌&&◌, is_none, is_some, ◌==◌}
 use Rattle.std.specs.List.{position_from}
 use Rattle.std.specs.Str.{bytes_eq}
 use Rattle.std.specs.Bool.{then_some}
@@ -37,13 +37,23 @@ distinct (n ∷ ns) = n ∷ filter (λ m. not (bytes_eq n m)) (distinct ns)
 abbrev pub files_in : FileUse → List ℕ → List Item → List (List ℕ)
 files_in u text items = distinct (filter_map (λ i. file_at u text (name_in u i.function)) items)
 
+abbrev pub read_files : List ℕ → List Item → List (List ℕ)
+read_files text items = files_in Read text items
+
+abbrev pub written_files : List ℕ → List Item → List (List ℕ)
+written_files text items = files_in Write text items
+
 -- the number of what is read, or written, by a name: its place among the items' files, from 0 for those that are read and from 1
 -- for those that are written, since 0 is the standard output
 abbrev pub number_in : FileUse → List ℕ → List Item → List ℕ → ℕ
-number_in Read text items name = unwrap_or (position_from (bytes_eq name) 0 (files_in Read text items)) 0
+number_in Read text items name = unwrap_or (position_from (bytes_eq name) 0 (read_files text items)) 0
 number_in Write text items name =
     if is_standard_output name then 0
-    else unwrap_or (position_from (bytes_eq name) 1 (files_in Write text items)) 0
+    else unwrap_or (position_from (bytes_eq name) 1 (written_files text items)) 0
+
+-- the number of the sink of the name that stands there, if one does
+abbrev pub sink_in : List ℕ → List Item → Option (ℕ × ℕ) → Option ℕ
+sink_in text items name = option_map (λ n. number_in Write text items (bytes_between text n.0 n.1)) name
 
 -- whether a function becomes a command: all but `}`, `:` and `#` do
 abbrev pub becomes_command : Function → Bool

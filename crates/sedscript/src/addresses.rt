@@ -2,11 +2,10 @@
 
 ghost use Rattle.std.specs.Prelude.{◌≡◌, ◌≢◌, ◌≤◌, ◌<◌, ◌+◌, ℕ, Option, Some, length, slice_get, IfOk};
 ghost use Rattle.sedscript.specs.declared.types.Address.{Address};
-ghost use Rattle.sedscript.specs.Bytes.{bytes_between};
-ghost use Rattle.sedscript.specs.Items.{folds_at, past_flag, match_at, own_match, address_at, after_first, second_at, addresses_at, with_bang, addresses_of, line_of};
+ghost use Rattle.sedscript.specs.Bytes.{bytes_between, with_digits};
+ghost use Rattle.sedscript.specs.Items.{folds_at, past_flag, match_at, own_match, address_at, after_first, second_at, addresses_at, with_bang, addresses_of, line_of, empty_match};
 ghost use Rattle.sedscript.specs.Between.{own_delimiter};
 ghost use Rattle.sedscript.specs.Answers.{as_addressed, as_headed, ComesFrom, Agrees};
-ghost use Rattle.sedscript.specs.Cases.{with_digits, empty_match};
 
 use crate::between::own_delimiter;
 use crate::bytes::{Sort, byte_at, is_byte, number_of, past};
@@ -23,10 +22,7 @@ fn line_at(text: &[u8], from: usize, to: usize) -> Result<(Option<Address>, usiz
     ensures to { IfOk result (λ found. found.1 ≡ to) }
 {
     match number_of(&text[from..to]) {
-        None | Some(0) => Err(ScriptFault {
-            place: from,
-            reason: Reason::BadAddress,
-        }),
+        None | Some(0) => Err(Reason::BadAddress.at(from)),
         Some(n) => Ok((Some(Address::Line(n)), to)),
     }
 }
@@ -54,10 +50,7 @@ fn empty_match(text: &[u8], at: usize) -> Result<(Option<Address>, usize), Scrip
     ensures at { IfOk result (λ found. found.1 ≡ at) }
 {
     if folds_at(text, at) {
-        Err(ScriptFault {
-            place: at,
-            reason: Reason::FlagOnEmpty,
-        })
+        Err(Reason::FlagOnEmpty.at(at))
     } else {
         Ok((Some(Address::Match(None)), at))
     }
@@ -80,10 +73,7 @@ fn match_at(
 {
     let from = place + 1;
     let Some(to) = delimited(source.text, from, delimiter) else {
-        return Err(ScriptFault {
-            place,
-            reason: Reason::OpenDelimiter,
-        });
+        return Err(Reason::OpenDelimiter.at(place));
     };
     if to == from {
         return empty_match(source.text, to + 1);
@@ -110,10 +100,7 @@ fn own_match(
     ensures within { IfOk result (λ found. (place ≤ found.1) × (found.1 ≤ length source.now.text.now)) }
 {
     match own_delimiter(byte_at(source.text, place)) {
-        None => Err(ScriptFault {
-            place,
-            reason: Reason::BadDelimiter,
-        }),
+        None => Err(Reason::BadDelimiter.at(place)),
         Some(delimiter) => match_at(source, exprs, delimiter, place),
     }
 }
@@ -170,10 +157,7 @@ fn second_at(
 {
     let (second, next) = address_at(source, exprs, at)?;
     match second {
-        None => Err(ScriptFault {
-            place: at,
-            reason: Reason::BadAddress,
-        }),
+        None => Err(Reason::BadAddress.at(at)),
         Some(_) => Ok((addresses_of(Some(first), second), next)),
     }
 }
@@ -232,9 +216,8 @@ pub fn with_bang(text: &[u8], addresses: Addresses, at: usize) -> (Addresses, us
     if is_byte(b'!', byte_at(text, bang)) {
         (
             Addresses {
-                first: addresses.first,
-                second: addresses.second,
                 negate: true,
+                ..addresses
             },
             past(Sort::Bang, text, bang),
         )

@@ -1,18 +1,13 @@
 //! What stands between delimiters after `s` and `y`.
 
 ghost use Rattle.std.specs.Prelude.{◌≡◌, ◌≢◌, ◌≤◌, ◌<◌, ◌+◌, false, Some, length, slice_get, if◌then◌else◌, IfOk, IfSome};
-ghost use Rattle.sedscript.specs.Strings.{string_end};
-ghost use Rattle.sedscript.specs.Between.{own_delimiter, strings_after, substitute_strings, transliterate_strings, transliterate_at, flags_after, substituted};
+ghost use Rattle.sedscript.specs.Between.{own_delimiter, strings_after, substitute_strings, transliterate_strings, flags_after, folds};
 ghost use Rattle.sedscript.specs.Answers.{AreStrings};
-ghost use Rattle.sedscript.specs.Cases.{folds};
 
 use crate::bytes::byte_at;
 use crate::flags::flags_at;
-use crate::functions::ended;
-use crate::items::{Function, Strings};
-use crate::replacement::replacement_fault;
+use crate::items::Strings;
 use crate::strings::string_end;
-use crate::transliteration::strings_fault;
 use crate::types::{Reason, ScriptFault};
 use sedre::delimited;
 
@@ -45,16 +40,10 @@ fn strings_after(
     ensures within { IfOk result (AreStrings (place + 1) (length text.now)) }
 {
     let Some(middle) = first else {
-        return Err(ScriptFault {
-            place,
-            reason: Reason::OpenDelimiter,
-        });
+        return Err(Reason::OpenDelimiter.at(place));
     };
     match string_end(text, breaks, delimiter, middle + 1) {
-        None => Err(ScriptFault {
-            place: middle,
-            reason: Reason::OpenDelimiter,
-        }),
+        None => Err(Reason::OpenDelimiter.at(middle)),
         Some(to) => Ok(Strings {
             delimiter,
             from: place + 1,
@@ -73,10 +62,7 @@ pub fn strings_at(text: &[u8], breaks: bool, place: usize) -> Result<Strings, Sc
     ensures within { IfOk result (AreStrings (place + 1) (length text.now)) }
 {
     match own_delimiter(byte_at(text, place)) {
-        None => Err(ScriptFault {
-            place,
-            reason: Reason::BadDelimiter,
-        }),
+        None => Err(Reason::BadDelimiter.at(place)),
         Some(delimiter) => if breaks {
             let middle = delimited(text, place + 1, delimiter);
             strings_after(text, true, delimiter, place, middle)
@@ -85,20 +71,6 @@ pub fn strings_at(text: &[u8], breaks: bool, place: usize) -> Result<Strings, Sc
             strings_after(text, false, delimiter, place, middle)
         },
     }
-}
-
-/// The command `y` whose letter stands at `at`, and its end.
-#[tactic(auto, unfolding(crate::specs::Between::transliterate_at))]
-pub fn transliterate_at(text: &[u8], at: usize) -> Result<(Function, usize), ScriptFault>
-    requires { at < length text.now }
-    ensures is { result ≡ transliterate_at text.now at }
-    ensures within { IfOk result (λ found. (at < found.1) × (found.1 ≤ length text.now)) }
-{
-    let strings = strings_at(text, false, at + 1)?;
-    if let Some(fault) = strings_fault(text, strings, at) {
-        return Err(fault);
-    }
-    ended(text, Function::Transliterate(strings), strings.to + 1)
 }
 
 /// Whether the flags of `s`, whose regular expression isn't empty, make letters match without regard to case. They
@@ -111,24 +83,4 @@ pub fn folds(text: &[u8], strings: Strings) -> bool
         Ok((flags, _)) => flags.folded,
         Err(_) => false,
     }
-}
-
-/// The command `s` with these strings, and its end. Its regular expression has this number in the script; None stands
-/// for the empty one. The groups of the replacement have numbers up to `limit`, where there is one.
-#[tactic(auto, unfolding(crate::specs::Between::substituted))]
-pub fn substituted(
-    text: &[u8],
-    strings: Strings,
-    expression: Option<usize>,
-    limit: Option<usize>,
-) -> Result<(Function, usize), ScriptFault>
-    requires { AreStrings 0 (length text.now) strings }
-    ensures is { result ≡ substituted text.now strings expression limit }
-    ensures within { IfOk result (λ found. (strings.to < found.1) × (found.1 ≤ length text.now)) }
-{
-    if let Some(fault) = replacement_fault(text, strings, limit) {
-        return Err(fault);
-    }
-    let (flags, end) = flags_at(text, expression.is_none(), strings.to + 1)?;
-    ended(text, Function::Substitute(strings, expression, flags), end)
 }

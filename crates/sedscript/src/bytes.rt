@@ -1,8 +1,7 @@
 //! Places of a text.
 
 ghost use Rattle.std.specs.Prelude.{◌≡◌, ◌≤◌, ◌<◌, ◌+◌, Some, length, slice_get};
-ghost use Rattle.sedscript.specs.Bytes.{belongs, past, bytes_between, with_digit};
-ghost use Rattle.sedscript.specs.Cases.{with_digits};
+ghost use Rattle.sedscript.specs.Bytes.{belongs, past, bytes_between, with_digit, with_digits};
 
 /// Bytes that are passed over together.
 #[derive(Clone, Copy)]

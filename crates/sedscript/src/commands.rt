@@ -1,18 +1,15 @@
 //! The commands that the items become, and what they name by numbers.
 
-ghost use Rattle.std.specs.Prelude.{◌≡◌, ◌++◌, List, [], Some, false, map, option_map, IfOk, OnOk};
+ghost use Rattle.std.specs.Prelude.{◌≡◌, ◌++◌, List, [], false, map, option_map, IfOk, OnOk};
 ghost use Rattle.std.specs.List.{cons_option};
-ghost use Rattle.sedscript.specs.Bytes.{bytes_between};
 ghost use Rattle.sedscript.specs.Tables.{TargetsAre, FilesAre, EndIs};
 ghost use Rattle.sedscript.specs.Parts.{OperandsAre};
-ghost use Rattle.sedscript.specs.Targets.{number_in};
-ghost use Rattle.sedscript.specs.Types.{Write, Substitute};
-ghost use Rattle.sedscript.specs.Script.{action_of, command_of, commands_of, text_in, substitution_in, table_in, unescaped_from, is_quiet};
+ghost use Rattle.sedscript.specs.Script.{action_of, command_of, commands_of, text_in, substitution_of, substitution_in, table_in, unescaped_from, is_quiet};
 ghost use Rattle.sedscript.specs.declared.items.Item.{Item};
 
 use crate::bytes::bytes_between;
 use crate::files::Files;
-use crate::items::{Addresses, Flags, Function, Item, Strings};
+use crate::items::{Flags, Function, Item, Strings};
 use crate::kept::Items;
 use crate::replacement::parts_of;
 use crate::script::Operands;
@@ -20,7 +17,7 @@ use crate::strings::second_of;
 use crate::substitution::{Replacement, Substitution};
 use crate::targets::{Targets, opened};
 use crate::transliteration::table_between;
-use crate::types::{Action, Command, FileUse};
+use crate::types::{Action, Command};
 use std::alloc::{AllocError, Global};
 
 /// The action of a function; None where it doesn't become a command. The operands of the functions before it are `operands`,
@@ -60,7 +57,7 @@ fn action_of<'a>(
         }
         Function::Substitute(..) => Some(Action::Substitute(operands.substitutions.len())),
         Function::Transliterate(_) => Some(Action::Transliterate(operands.tables.len())),
-        Function::Close | Function::Label(..) | Function::Comment => None,
+        _ => None,
     }
 }
 
@@ -73,15 +70,10 @@ fn add_command(
     ensures { OnOk result (commands.new.items ≡ commands.old.items ++ cons_option (option_map (command_of item.addresses) action) []) }
 {
     if let Some(action) = action {
-        let Addresses {
-            first,
-            second,
-            negate,
-        } = item.addresses;
         commands.push(Command {
-            first,
-            second,
-            negate,
+            first: item.addresses.first,
+            second: item.addresses.second,
+            negate: item.addresses.negate,
             action,
         })?;
     }
@@ -108,15 +100,6 @@ fn unescaped(alloc: Global, bytes: &[u8]) -> Result<Vec<u8>, AllocError>
     Ok(plain)
 }
 
-/// The number of the sink that the flag `w` names, if the flag is there.
-fn sink_of<'a>(text: &'a [u8], files: &Files<'a>, name: Option<(usize, usize)>) -> Option<usize>
-    ensures { (items : List Item) →
-        FilesAre text.now items files.now → result ≡ option_map (λ n. number_in Write text.now items (bytes_between text.now n.0 n.1)) name }
-{
-    let (from, to) = name?;
-    Some(files.number(FileUse::Write, bytes_between(text, from, to)))
-}
-
 /// The substitution that an `s` makes.
 fn substitution_of<'a>(
     alloc: Global,
@@ -127,7 +110,7 @@ fn substitution_of<'a>(
     flags: Flags,
 ) -> Result<Substitution, AllocError>
     ensures { IfOk result (λ s. (items : List Item) →
-        FilesAre text.now items files.now → Some s ≡ substitution_in text.now items (Substitute strings expression flags)) }
+        FilesAre text.now items files.now → s ≡ substitution_of text.now items strings expression flags) }
 {
     let parts = parts_of(alloc, second_of(text, strings), strings.delimiter)?;
     Ok(Substitution {
@@ -136,7 +119,7 @@ fn substitution_of<'a>(
         number: flags.number.unwrap_or(1),
         global: flags.global,
         print: flags.print,
-        file: sink_of(text, files, flags.file),
+        file: files.sink(text, flags.file),
     })
 }
 

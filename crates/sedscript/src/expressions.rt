@@ -21,10 +21,7 @@ fn fault_of(from: usize, fault: ExprFault) -> ScriptFault
 {
     match fault.reason {
         sedre::Reason::NoMemory => NO_MEMORY,
-        _ => ScriptFault {
-            place: from + fault.place,
-            reason: Reason::Expression(fault),
-        },
+        _ => Reason::Expression(fault).at(from + fault.place),
     }
 }
 

@@ -1,8 +1,8 @@
 //! The files that a script names: tables that are made once, so that no name is compared with all earlier ones.
 
 ghost use Rattle.std.specs.Prelude.{◌≡◌, ◌≤◌, ◌<◌, ◌+◌, ℕ, List, Some, length, unwrap_or, is_some, IfOk, OnOk};
-ghost use Rattle.sedscript.specs.Targets.{is_standard_output, is_file, name_in, file_at, files_in, number_in};
-ghost use Rattle.sedscript.specs.Tables.{labelled, with_name, first_number, AreNumbered, FilesAre};
+ghost use Rattle.sedscript.specs.Targets.{is_standard_output, is_file, name_in, file_at, files_in, number_in, sink_in};
+ghost use Rattle.sedscript.specs.Tables.{labelled, with_name, AreNumbered, FilesAre};
 ghost use Rattle.sedscript.specs.declared.items.Item.{Item};
 
 use crate::bytes::bytes_between;
@@ -62,17 +62,6 @@ fn name_in(file_use: FileUse, function: Function) -> Option<(usize, usize)>
     }
 }
 
-/// The number of the first file that is read, or written. Those that are written begin with 1: 0 is the standard
-/// output.
-fn first_number(file_use: FileUse) -> usize
-    ensures { result ≡ first_number file_use }
-{
-    match file_use {
-        FileUse::Read => 0,
-        FileUse::Write => 1,
-    }
-}
-
 /// Whether a name has a number.
 fn is_numbered<'a>(numbers: &BTreeMap<&'a [u8], usize>, name: &'a [u8]) -> bool
     ensures { result ≡ is_some (labelled numbers.now name.now) }
@@ -80,22 +69,22 @@ fn is_numbered<'a>(numbers: &BTreeMap<&'a [u8], usize>, name: &'a [u8]) -> bool
     numbers.contains_key(&name)
 }
 
-/// Adds a name with the next number, unless it has one.
+/// Adds a name with the next number, unless it has one. The first one has the number `first`.
 fn add_name<'a>(
     alloc: Global,
     files: &mut NumberedFiles<'a>,
-    file_use: FileUse,
+    first: usize,
     name: &'a [u8],
 ) -> Result<(), AllocError>
-    requires { first_number file_use + length files.old.names.items < usize.MAX }
+    requires { first + length files.old.names.items < usize.MAX }
     ensures few { OnOk result (length files.new.names.items ≤ length files.old.names.items + 1) }
-    ensures added { OnOk result ((ns : List (List ℕ)) → AreNumbered file_use ns files.old →
-        AreNumbered file_use (with_name ns (Some name.now)) files.new) }
+    ensures added { OnOk result ((ns : List (List ℕ)) → AreNumbered first ns files.old →
+        AreNumbered first (with_name ns (Some name.now)) files.new) }
 {
     if is_numbered(&files.numbers, name) {
         return Ok(());
     }
-    let number = first_number(file_use) + files.names.len();
+    let number = first + files.names.len();
     files.names.push(name.to_vec(alloc)?)?;
     match files.numbers.insert(name, number) {
         Ok(_) => Ok(()),
@@ -109,12 +98,13 @@ fn add_file<'a>(
     text: &'a [u8],
     files: &mut NumberedFiles<'a>,
     file_use: FileUse,
+    first: usize,
     found: Option<(usize, usize)>,
 ) -> Result<(), AllocError>
-    requires { first_number file_use + length files.old.names.items < usize.MAX }
+    requires { first + length files.old.names.items < usize.MAX }
     ensures few { OnOk result (length files.new.names.items ≤ length files.old.names.items + 1) }
-    ensures added { OnOk result ((ns : List (List ℕ)) → AreNumbered file_use ns files.old →
-        AreNumbered file_use (with_name ns (file_at file_use text.now found)) files.new) }
+    ensures added { OnOk result ((ns : List (List ℕ)) → AreNumbered first ns files.old →
+        AreNumbered first (with_name ns (file_at file_use text.now found)) files.new) }
 {
     let Some((from, to)) = found else {
         return Ok(());
@@ -123,17 +113,19 @@ fn add_file<'a>(
     if !is_file(file_use, name) {
         return Ok(());
     }
-    add_name(alloc, files, file_use, name)
+    add_name(alloc, files, first, name)
 }
 
-/// The files that the items read, or write.
-pub fn numbered<'a>(
+/// The files that the items read, or write, with numbers from `first` on.
+fn numbered<'a>(
     alloc: Global,
     text: &'a [u8],
     file_use: FileUse,
+    first: usize,
     items: &Items,
 ) -> Result<NumberedFiles<'a>, AllocError>
-    ensures { IfOk result (AreNumbered file_use (files_in file_use text.now items.now)) }
+    requires { first ≤ 1 }
+    ensures { IfOk result (AreNumbered first (files_in file_use text.now items.now)) }
 {
     let mut files = NumberedFiles {
         names: Vec::new(alloc),
@@ -142,10 +134,20 @@ pub fn numbered<'a>(
     let mut k = 0;
     'items: while k < items.len() {
         let found = name_in(file_use, items.get(k).function);
-        add_file(alloc, text, &mut files, file_use, found)?;
+        add_file(alloc, text, &mut files, file_use, first, found)?;
         k += 1;
     }
     Ok(files)
+}
+
+/// The files that the items name. Those that are written have numbers from 1 on: 0 is the standard output.
+pub fn files_of<'a>(alloc: Global, text: &'a [u8], items: &Items) -> Result<Files<'a>, AllocError>
+    ensures { IfOk result (FilesAre text.now items.now) }
+{
+    Ok(Files {
+        read: numbered(alloc, text, FileUse::Read, 0, items)?,
+        written: numbered(alloc, text, FileUse::Write, 1, items)?,
+    })
 }
 
 impl<'a> NumberedFiles<'a> {
@@ -171,5 +173,13 @@ impl<'a> Files<'a> {
                 self.written.number(name)
             },
         }
+    }
+
+    /// The number of the sink of the name between two places, if there is one.
+    pub fn sink(&self, text: &'a [u8], name: Option<(usize, usize)>) -> Option<usize>
+        ensures { (items : List Item) → FilesAre text.now items self.now → result ≡ sink_in text.now items name }
+    {
+        let (from, to) = name?;
+        Some(self.number(FileUse::Write, bytes_between(text, from, to)))
     }
 }

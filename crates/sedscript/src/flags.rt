@@ -1,10 +1,9 @@
 //! The flags of `s`.
 
 ghost use Rattle.std.specs.Prelude.{◌≡◌, ◌≤◌, ◌<◌, ◌+◌, length, drop, false, slice_index, IfOk};
-ghost use Rattle.sedscript.specs.Between.{no_flags, with_number, with_flag, flags_from};
+ghost use Rattle.sedscript.specs.Between.{no_flags, with_number, with_flag, flags_from, ends_flags, with_file};
 ghost use Rattle.sedscript.specs.Functions.{name_from};
 ghost use Rattle.sedscript.specs.Answers.{with_rest};
-ghost use Rattle.sedscript.specs.Cases.{ends_flags, with_file};
 
 use crate::bytes::{Sort, bytes_between, is_blank, number_of, past};
 use crate::functions::{may_end, name_from};
@@ -23,16 +22,10 @@ fn with_number(flags: Flags, at: usize, digits: &[u8]) -> Result<Flags, ScriptFa
     ensures { result ≡ with_number flags at digits.now }
 {
     if flags.number.is_some() {
-        return Err(ScriptFault {
-            place: at,
-            reason: Reason::RepeatedFlag,
-        });
+        return Err(Reason::RepeatedFlag.at(at));
     }
     match number_of(digits) {
-        None | Some(0) => Err(ScriptFault {
-            place: at,
-            reason: Reason::BadNumber,
-        }),
+        None | Some(0) => Err(Reason::BadNumber.at(at)),
         number => Ok(Flags { number, ..flags }),
     }
 }
@@ -50,22 +43,13 @@ fn with_flag(empty: bool, flags: Flags, at: usize, b: u8) -> Result<Flags, Scrip
             print: true,
             ..flags
         }),
-        b'I' if empty => Err(ScriptFault {
-            place: at,
-            reason: Reason::FlagOnEmpty,
-        }),
+        b'I' if empty => Err(Reason::FlagOnEmpty.at(at)),
         b'I' if !flags.folded => Ok(Flags {
             folded: true,
             ..flags
         }),
-        b'g' | b'p' | b'I' => Err(ScriptFault {
-            place: at,
-            reason: Reason::RepeatedFlag,
-        }),
-        _ => Err(ScriptFault {
-            place: at,
-            reason: Reason::UnknownFlag,
-        }),
+        b'g' | b'p' | b'I' => Err(Reason::RepeatedFlag.at(at)),
+        _ => Err(Reason::UnknownFlag.at(at)),
     }
 }
 
@@ -76,10 +60,7 @@ fn with_file(text: &[u8], flags: Flags, at: usize) -> Result<(Flags, usize), Scr
     ensures within { IfOk result (λ next. (at < next.1) × (next.1 ≤ length text.now)) }
 {
     match name_from(text, at + 1) {
-        None => Err(ScriptFault {
-            place: at,
-            reason: Reason::MissingName,
-        }),
+        None => Err(Reason::MissingName.at(at)),
         Some(name) => Ok((
             Flags {
                 file: Some(name),

@@ -1,15 +1,13 @@
-//! What follows the letters of all functions but `s` and `y`.
+//! What follows the letters of functions: texts and names, and the end of a command.
 
 ghost use Rattle.std.specs.Prelude.{◌≡◌, ◌≤◌, ◌<◌, ◌+◌, length, IfOk, IfSome};
-ghost use Rattle.std.specs.Option.{option_len};
 ghost use Rattle.sedscript.specs.Bytes.{past};
-ghost use Rattle.sedscript.specs.Functions.{verb_of, may_end, ended, label_of, text_of, text_from, name_from, file_of, allowed};
+ghost use Rattle.sedscript.specs.Functions.{may_end, ended, text_of, text_from, name_from, file_of};
 
 use crate::bytes::{Sort, byte_at, past};
-use crate::items::{Addresses, Function};
-use crate::letters::{Verb, most_addresses, verb_of};
+use crate::items::Function;
 use crate::texts::text_from;
-use crate::types::{Address, FileUse, Reason, ScriptFault, TextUse};
+use crate::types::{FileUse, Reason, ScriptFault, TextUse};
 
 /// Whether a command may end before this byte; None is the end of the text.
 pub fn may_end(next: Option<u8>) -> bool
@@ -31,27 +29,7 @@ pub fn ended(text: &[u8], function: Function, at: usize) -> Result<(Function, us
     if may_end(byte_at(text, end)) {
         Ok((function, end))
     } else {
-        Err(ScriptFault {
-            place: end,
-            reason: Reason::TrailingBytes,
-        })
-    }
-}
-
-/// The label whose name begins at `from` and whose `:` stands at `place`, and its end.
-pub fn label_of(text: &[u8], place: usize, from: usize) -> Result<(Function, usize), ScriptFault>
-    requires { from ≤ length text.now }
-    ensures is { result ≡ label_of text.now place from }
-    ensures within { IfOk result (λ found. (from ≤ found.1) × (found.1 ≤ length text.now)) }
-{
-    let end = past(Sort::Name, text, from);
-    if end == from {
-        Err(ScriptFault {
-            place,
-            reason: Reason::MissingLabel,
-        })
-    } else {
-        ended(text, Function::Label(from, end), end)
+        Err(Reason::TrailingBytes.at(end))
     }
 }
 
@@ -62,10 +40,7 @@ pub fn text_of(text: &[u8], text_use: TextUse, at: usize) -> Result<(Function, u
     ensures within { IfOk result (λ found. (at < found.1) × (found.1 ≤ length text.now)) }
 {
     match text_from(text, past(Sort::Blank, text, at + 1)) {
-        None => Err(ScriptFault {
-            place: at,
-            reason: Reason::MissingText,
-        }),
+        None => Err(Reason::MissingText.at(at)),
         Some((from, to)) => Ok((Function::Text(text_use, from, to), to)),
     }
 }
@@ -89,48 +64,7 @@ pub fn file_of(text: &[u8], file_use: FileUse, at: usize) -> Result<(Function, u
     ensures within { IfOk result (λ found. (at < found.1) × (found.1 ≤ length text.now)) }
 {
     match name_from(text, at + 1) {
-        None => Err(ScriptFault {
-            place: at,
-            reason: Reason::MissingName,
-        }),
+        None => Err(Reason::MissingName.at(at)),
         Some((from, to)) => Ok((Function::File(file_use, from, to), to)),
-    }
-}
-
-/// 1 where there is an address, and 0 where there is none.
-fn given(address: Option<Address>) -> usize
-    ensures { result ≡ option_len address }
-{
-    match address {
-        None => 0,
-        Some(_) => 1,
-    }
-}
-
-/// What the letter at `at` stands for, if that is a function which may have these addresses.
-pub fn allowed(addresses: Addresses, letter: u8, at: usize) -> Result<Verb, ScriptFault>
-    ensures { result ≡ allowed addresses at (verb_of letter) }
-{
-    match verb_of(letter) {
-        None => Err(ScriptFault {
-            place: at,
-            reason: Reason::UnknownCommand,
-        }),
-        Some(verb) => {
-            let most = most_addresses(verb);
-            if addresses.negate && most == 0 {
-                Err(ScriptFault {
-                    place: at,
-                    reason: Reason::UnknownCommand,
-                })
-            } else if most < given(addresses.first) + given(addresses.second) {
-                Err(ScriptFault {
-                    place: at,
-                    reason: Reason::TooManyAddresses,
-                })
-            } else {
-                Ok(verb)
-            }
-        }
     }
 }

@@ -1,17 +1,15 @@
 //! Reads the items of a script: functions with their addresses.
 
-ghost use Rattle.std.specs.Prelude.{◌≡◌, ◌≤◌, ◌<◌, ◌+◌, length, IfOk};
-ghost use Rattle.sedscript.specs.Items.{substitute_at, function_of, function_with, function_at, item_at};
+ghost use Rattle.std.specs.Prelude.{◌≡◌, ◌≤◌, ◌<◌, length, IfOk};
+ghost use Rattle.sedscript.specs.Items.{substitute_at, function_with, function_at, item_at, item_of};
 ghost use Rattle.sedscript.specs.Answers.{as_function, as_here, ComesFrom, IsAfter, IsHere};
-ghost use Rattle.sedscript.specs.Cases.{item_of};
 
 use crate::addresses::{addresses_at, with_bang};
-use crate::between::{folds, strings_at, substituted, transliterate_at};
+use crate::between::{folds, strings_at};
 use crate::bytes::{Sort, byte_at, past};
 use crate::expressions::expression_at;
-use crate::functions::{allowed, ended, file_of, label_of, text_of};
 use crate::items::{Addresses, Function, Item, ItemOrEnd, Source};
-use crate::letters::{Arguments, Verb};
+use crate::letters::{Verb, allowed, function_of, substituted};
 use crate::types::{Reason, ScriptFault};
 use sedre::Expr;
 
@@ -40,33 +38,6 @@ fn substitute_at(
         strings.middle,
     )?;
     substituted(source.text, strings, Some(number), Some(groups))
-}
-
-/// The function whose letter stands at `at`, and the place after it. The letter is not `s`, and has this shape.
-fn function_of(
-    text: &[u8],
-    arguments: Arguments,
-    at: usize,
-) -> Result<(Function, usize), ScriptFault>
-    requires { at < length text.now }
-    ensures is { result ≡ function_of text.now arguments at }
-    ensures within { IfOk result (λ found. (at < found.1) × (found.1 ≤ length text.now)) }
-{
-    match arguments {
-        Arguments::OpensBlock => Ok((Function::Open, at + 1)),
-        Arguments::ClosesBlock => ended(text, Function::Close, at + 1),
-        Arguments::Remark => Ok((Function::Comment, past(Sort::Line, text, at + 1))),
-        Arguments::NamesLabel => label_of(text, at, past(Sort::Blank, text, at + 1)),
-        Arguments::GoesTo(branch_use) => {
-            let from = past(Sort::Blank, text, at + 1);
-            let end = past(Sort::Name, text, from);
-            ended(text, Function::Branch(branch_use, from, end), end)
-        }
-        Arguments::TakesText(text_use) => text_of(text, text_use, at),
-        Arguments::NamesFile(file_use) => file_of(text, file_use, at),
-        Arguments::TakesStrings => transliterate_at(text, at),
-        Arguments::Alone(simple) => ended(text, Function::Plain(simple), at + 1),
-    }
 }
 
 /// The function of this verb, whose letter stands at `at`, and the place after it.
@@ -114,10 +85,7 @@ fn function_at(
     ensures within { IfOk result (IsAfter at (length source.now.text.now)) }
 {
     let Some(letter) = byte_at(source.text, at) else {
-        return Err(ScriptFault {
-            place: at,
-            reason: Reason::UnknownCommand,
-        });
+        return Err(Reason::UnknownCommand.at(at));
     };
     let verb = allowed(addresses, letter, at)?;
     let (function, next) = function_with(source, exprs, verb, at)?;

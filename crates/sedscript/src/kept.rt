@@ -110,22 +110,10 @@ fn keep_addresses(
     ensures kept { IfOk result (λ g. PacksAddresses (length listed_addresses.new.items) g.0 g.1
         × (kept_addresses listed_addresses.new.items g.0 g.1 ≡ addresses)) }
 {
-    match addresses {
-        Addresses {
-            first: None,
-            second: None,
-            negate: false,
-        } => Ok((PackedAddresses::Nothing, 0)),
-        Addresses {
-            first: Some(Address::Line(n)),
-            second: None,
-            negate: false,
-        } => Ok((PackedAddresses::Line, n)),
-        Addresses {
-            first: Some(Address::Last),
-            second: None,
-            negate: false,
-        } => Ok((PackedAddresses::Last, 0)),
+    match (addresses.first, addresses.second, addresses.negate) {
+        (None, None, false) => Ok((PackedAddresses::Nothing, 0)),
+        (Some(Address::Line(n)), None, false) => Ok((PackedAddresses::Line, n)),
+        (Some(Address::Last), None, false) => Ok((PackedAddresses::Last, 0)),
         _ => {
             let at = listed_addresses.len();
             listed_addresses.push(addresses)?;

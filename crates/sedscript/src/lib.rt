@@ -20,7 +20,6 @@ mod script;
 mod script_text;
 mod strings;
 mod substitution;
-mod target_faults;
 mod targets;
 mod texts;
 mod transliteration;

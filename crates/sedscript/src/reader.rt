@@ -8,14 +8,13 @@ ghost use Rattle.sedscript.specs.Tables.{TargetsAre};
 ghost use Rattle.sedscript.specs.declared.types.ScriptFault.{ScriptFault};
 
 use crate::commands::{commands_of, is_quiet};
-use crate::files::{Files, numbered};
+use crate::files::{Files, files_of};
 use crate::item_reader::item_at;
 use crate::items::{ItemOrEnd, Source};
 use crate::kept::Items;
 use crate::script::{Named, Operands, Script};
-use crate::target_faults::target_fault;
-use crate::targets::{Targets, targets_of};
-use crate::types::{FileUse, Kind, NO_MEMORY, ScriptFault};
+use crate::targets::{Targets, target_fault, targets_of};
+use crate::types::{Kind, NO_MEMORY, ScriptFault};
 use sedre::Expr;
 use sedre::laws::{fault_within, reads_as_one};
 use std::alloc::Global;
@@ -94,9 +93,7 @@ pub fn read(alloc: Global, text: &[u8], kind: Kind, max_nodes: usize) -> Result<
         max_nodes,
     };
     let targets = judge(&source, &mut items, &mut exprs)?;
-    let read = numbered(alloc, text, FileUse::Read, &items)?;
-    let written = numbered(alloc, text, FileUse::Write, &items)?;
-    let files = Files { read, written };
+    let files = files_of(alloc, text, &items)?;
     let mut operands = Operands {
         texts: Vec::new(alloc),
         substitutions: Vec::new(alloc),

@@ -63,14 +63,8 @@ fn escape_fault(delimiter: u8, limit: Option<usize>, place: usize, b: u8) -> Opt
     ensures { result ≡ piece_fault limit place (escaped_piece delimiter b) }
 {
     match escaped_piece(delimiter, b) {
-        None => Some(ScriptFault {
-            place,
-            reason: Reason::BadEscape,
-        }),
-        Some(Piece::Group(k)) if exceeds(limit, k) => Some(ScriptFault {
-            place,
-            reason: Reason::GroupAbsent,
-        }),
+        None => Some(Reason::BadEscape.at(place)),
+        Some(Piece::Group(k)) if exceeds(limit, k) => Some(Reason::GroupAbsent.at(place)),
         Some(_) => None,
     }
 }

@@ -1,17 +1,16 @@
 //! The strings of `y`.
 
-ghost use Rattle.std.specs.Prelude.{◌≡◌, ◌≤◌, ◌<◌, ◌+◌, ℕ, List, [], ◌∷◌, true, false, Some, length, IfOk};
+ghost use Rattle.std.specs.Prelude.{◌≡◌, ◌≤◌, ◌<◌, ◌+◌, ℕ, List, [], ◌∷◌, true, false, length, IfOk};
 ghost use Rattle.std.specs.List.{range_with_len};
 ghost use Rattle.sedscript.specs.Bytes.{bytes_between};
 ghost use Rattle.sedscript.specs.Strings.{escaped_byte, char_of, chars_from, bytes_of, string_fault, is_among, repeated_in, strings_fault, table_of};
 ghost use Rattle.sedscript.specs.Answers.{marks_of};
-ghost use Rattle.sedscript.specs.Script.{table_in};
-ghost use Rattle.sedscript.specs.Types.{Transliterate};
+ghost use Rattle.sedscript.specs.Script.{table_between};
 
 use crate::bytes::bytes_between;
 use crate::items::Strings;
 use crate::strings::{escapes, second_of};
-use crate::target_faults::fault_if;
+use crate::targets::fault_if;
 use crate::types::{Reason, ScriptFault};
 use std::alloc::{AllocError, Global};
 
@@ -66,10 +65,7 @@ fn string_fault(bytes: &[u8], delimiter: u8, from: usize) -> Option<ScriptFault>
     'bytes: while k < bytes.len() {
         let b = bytes[k];
         if escaped && escaped_byte(delimiter, b).is_none() {
-            return Some(ScriptFault {
-                place: from + k - 1,
-                reason: Reason::BadEscape,
-            });
+            return Some(Reason::BadEscape.at(from + k - 1));
         }
         escaped = escapes(escaped, b);
         k += 1;
@@ -148,10 +144,7 @@ pub fn strings_fault(text: &[u8], strings: Strings, letter: usize) -> Option<Scr
         return Some(fault);
     }
     if let Some(place) = repeated(string1, delimiter, from) {
-        return Some(ScriptFault {
-            place,
-            reason: Reason::RepeatedByte,
-        });
+        return Some(Reason::RepeatedByte.at(place));
     }
     let differ = count(string1, delimiter, from) != count(string2, delimiter, middle + 1);
     fault_if(differ, Reason::LengthsDiffer, letter)
@@ -201,7 +194,7 @@ fn table_from(alloc: Global, string1: &[u8], string2: &[u8]) -> Result<Vec<u8>, 
 
 /// The table of a `y`, whose strings stand in the text: what stands for each byte.
 pub fn table_between(alloc: Global, text: &[u8], strings: Strings) -> Result<Vec<u8>, AllocError>
-    ensures { IfOk result (λ v. Some v.items ≡ table_in text.now (Transliterate strings)) }
+    ensures { IfOk result (λ v. v.items ≡ table_between text.now strings) }
 {
     let delimiter = strings.delimiter;
     let string1 = bytes_of(

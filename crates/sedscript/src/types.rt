@@ -168,6 +168,16 @@ pub enum Reason {
 }
 
 impl Reason {
+    /// The fault of this reason at a place.
+    pub(crate) fn at(self, place: usize) -> ScriptFault
+        ensures { result ≡ record { place = place; reason = self } }
+    {
+        ScriptFault {
+            place,
+            reason: self,
+        }
+    }
+
     /// The reason's number, as 1 of S1.
     pub fn number(self) -> u32
         ensures { result ≡ number_of self }

@@ -2,8 +2,7 @@ use Rattle.std.proofs.Common.{ℕ, sym, subst, ◌∙◌, length}
 use Rattle.sedscript.specs.Answers.{as_addressed, Agrees}
 use Rattle.sedscript.specs.Items.{address_at, line_of}
 use Rattle.std.proofs.Common.{Some}
-use Rattle.sedscript.specs.Bytes.{bytes_between}
-use Rattle.sedscript.specs.Cases.{with_digits}
+use Rattle.sedscript.specs.Bytes.{bytes_between, with_digits}
 use Rattle.sedscript.proofs.Coming.{gives_plain, line_comes, no_byte, last_address, no_address}
 use Rattle.sedscript.proofs.addresses.address_at.Goals as goal
 

@@ -7,7 +7,7 @@ use Rattle.sedscript.proofs.Coming.{comes_err, comes_as_err, match_open, empty_c
 use Rattle.sedscript.proofs.addresses.match_at.Goals as goal
 
 pub returns-in_default-clause-comes : goal.returns-in_default-clause-comes
-returns-in_default-clause-comes c = inl (match_open c.args.source.now.text.now c.args.source.now.kind c.args.source.now.max_nodes _ c.args.delimiter c.args.place (sym c.delimited.ensures.is ∙ c.in_default.is))
+returns-in_default-clause-comes c = rw c.at.ensures (inl (match_open c.args.source.now.text.now c.args.source.now.kind c.args.source.now.max_nodes _ c.args.delimiter c.args.place (sym c.delimited.ensures.is ∙ c.in_default.is)))
 
 pub returns-in_err-expression_at-clause-comes : goal.returns-in_err-expression_at-clause-comes
 returns-in_err-expression_at-clause-comes c =

@@ -11,7 +11,7 @@ returns-in_err-second-clause-comes c =
     (comes_err c.args.source.now.text.now c.args.source.now.kind c.args.source.now.max_nodes (address_at c.args.source.now.text.now (length c.args.exprs.now.items) c.args.at) (λ (x : Addressed). plainly (with_second c.args.first c.args.at x x.address)) c.in_err-second.field-0.0 c.in_err-second.ensures.comes)
 
 pub returns-in-None-clause-comes : goal.returns-in-None-clause-comes
-returns-in-None-clause-comes c = no_second c.args.source.now.text.now c.args.source.now.kind c.args.source.now.max_nodes c.args.first c.args.at _ _ c.args.exprs.now.items c.address_at.new.exprs.items c.in_ok-second.ensures.comes c.in-None.is
+returns-in-None-clause-comes c = rw c.at.ensures (no_second c.args.source.now.text.now c.args.source.now.kind c.args.source.now.max_nodes c.args.first c.args.at _ _ c.args.exprs.now.items c.address_at.new.exprs.items c.in_ok-second.ensures.comes c.in-None.is)
 
 pub returns-in-Some-clause-comes : goal.returns-in-Some-clause-comes
 returns-in-Some-clause-comes c =

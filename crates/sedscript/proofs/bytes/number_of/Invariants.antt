@@ -1,4 +1,4 @@
-use Rattle.sedscript.specs.Cases.{with_digits}
+use Rattle.sedscript.specs.Bytes.{with_digits}
 use Rattle.std.proofs.Common.{◌≡◌, ◌≤◌, ◌-◌, length, drop, Some}
 use Rattle.sedscript.proofs.bytes.number_of.Given as goal
 

@@ -13,5 +13,5 @@ items-preserved c =
     record {
       within = omega arith;
       few = omega (arith, c.in_ok-add_file.ensures.few);
-      numbered = subst (λ (ns : List (List ℕ)). AreNumbered c.args.file_use ns c.add_file.new.files) (sym step) (c.in_ok-add_file.ensures.added before c.items.invariant.numbered);
+      numbered = subst (λ (ns : List (List ℕ)). AreNumbered c.args.first ns c.add_file.new.files) (sym step) (c.in_ok-add_file.ensures.added before c.items.invariant.numbered);
     }

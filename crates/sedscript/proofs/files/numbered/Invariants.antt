@@ -7,7 +7,7 @@ abbrev pub invariant-items : goal.invariant-items
 invariant-items l = record {
   within : l.k ≤ length l.items;
   few : length l.files.names.items ≤ l.k;
-  numbered : AreNumbered l.file_use (files_in l.file_use l.text (take l.k l.items)) l.files;
+  numbered : AreNumbered l.first (files_in l.file_use l.text (take l.k l.items)) l.files;
 }
 
 abbrev pub decreases-items : goal.decreases-items

@@ -4,7 +4,7 @@ use Rattle.sedscript.proofs.Coming.{no_function, item_fault, item_goes, item_com
 use Rattle.sedscript.proofs.item_reader.function_at.Goals as goal
 
 pub returns-in_default-clause-comes : goal.returns-in_default-clause-comes
-returns-in_default-clause-comes c = no_function c.args.source.now.text.now c.args.source.now.kind c.args.source.now.max_nodes (length c.args.exprs.now.items) c.args.at c.args.addresses (sym c.byte_at.ensures ∙ c.in_default.is)
+returns-in_default-clause-comes c = rw c.at.ensures (no_function c.args.source.now.text.now c.args.source.now.kind c.args.source.now.max_nodes (length c.args.exprs.now.items) c.args.at c.args.addresses (sym c.byte_at.ensures ∙ c.in_default.is))
 
 pub returns-in_err-verb-clause-comes : goal.returns-in_err-verb-clause-comes
 returns-in_err-verb-clause-comes c =

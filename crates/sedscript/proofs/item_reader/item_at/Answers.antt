@@ -1,7 +1,6 @@
 use Rattle.std.proofs.Common.{Err, refl, sym, ap, subst, ◌∙◌, slice_get, length, arith}
 use Rattle.sedscript.specs.Answers.{as_here, Comes}
-use Rattle.sedscript.specs.Cases.{function_after}
-use Rattle.sedscript.specs.Items.{Headed, addresses_at, function_at}
+use Rattle.sedscript.specs.Items.{Headed, addresses_at, function_at, function_after}
 use Rattle.sedscript.proofs.Coming.{comes_then, comes_err, comes_as_err, item_none, item_some, after_here}
 use Rattle.sedscript.proofs.item_reader.item_at.Goals as goal
 

@@ -1,20 +1,24 @@
 use Rattle.std.proofs.Common.{refl}
-use Rattle.sedscript.specs.declared.script.Named.{Named}
-use Rattle.sedscript.proofs.Bounds.{means_named}
+use Rattle.sedscript.proofs.Bounds.{means_in_range}
 use Rattle.sedscript.proofs.Exclusive.{judged_no_fault}
 use Rattle.sedscript.proofs.Places.{read_within}
 use Rattle.sedscript.proofs.reader.read.Goals as goal
 
 pub of-requires : goal.of-requires
 of-requires c =
-    let named : Named = record { exprs = c.judge.new.exprs; operands = c.commands_of.new.operands; rfiles = c.in_ok-read.read.names; wfiles = c.in_ok-written.written.names } in
-    means_named c.args.text.now c.args.kind c.args.max_nodes c.in_ok-targets.ensures.judged.to c.judge.new.items c.judge.new.exprs.items c.in_ok-commands.commands.items named c.is_quiet.result
-    c.in_ok-targets.ensures.judged.judged c.in_ok-commands.ensures.commands (record {
-      exprs = refl;
-      operands = c.in_ok-commands.ensures.operands;
-      rfiles = c.in_ok-read.ensures.names_are;
-      wfiles = c.in_ok-written.ensures.names_are;
-    }) c.is_quiet.ensures
+    means_in_range c.args.text.now c.args.kind c.args.max_nodes _ (record {
+      items = c.judge.new.items;
+      to = c.in_ok-targets.ensures.judged.to;
+      judged = c.in_ok-targets.ensures.judged.judged;
+      commands = c.in_ok-commands.ensures.commands;
+      texts = c.in_ok-commands.ensures.operands.texts;
+      substitutions = c.in_ok-commands.ensures.operands.substitutions;
+      tables = c.in_ok-commands.ensures.operands.tables;
+      rfiles = c.in_ok-files.ensures.read.names_are;
+      wfiles = c.in_ok-files.ensures.written.names_are;
+      quiet = c.is_quiet.ensures;
+      nodes = refl;
+    })
 
 pub returns-clause-no_fault : goal.returns-clause-no_fault
 returns-clause-no_fault c = λ f bad.
