@@ -1,5 +1,4 @@
--- The files that the program reads and creates: as they are told, by bytes or by None where one can't be opened; joined as
--- one stream (XCU sed, Input Files); and those created for sinks (XCU sed, "w wfile").
+-- The files that the program reads, joined as one stream (XCU sed, Input Files), and those that it creates (XCU sed, "w wfile").
 use Rattle.std.specs.Prelude.{◌≡◌, ℕ, Bool, false, not, List, [], ◌∷◌, ◌++◌, map, flat_map, take, Option, Some, IfSome, option_map, unwrap_or, if◌then◌else◌}
 use Rattle.std.specs.Fmt.{option_append}
 use Rattle.std.specs.Io.KnownBytes.{Keeps}
@@ -42,8 +41,7 @@ joined files = flat_map (with_newline false) files
 abbrev pub joined_files : FilesAhead → List (List ℕ) → Option (List ℕ)
 joined_files ahead names = option_map (λ files. joined (map (λ file. unwrap_or file []) files)) (ahead names)
 
--- What inputs whose files are joined have still to give: what is left of the file being read, if one is, with its newline
--- where one is due, and what further files give, joined.
+-- What joined inputs have still to give: what is left of the file being read, if one is, and what further files give, joined.
 abbrev pub StillGives : {I : Type 0} → (I → Option (List ℕ)) → (I → FilesAhead) → I → Option (List ℕ) → Type 0
 StillGives current ahead inputs more = (reading due : Bool) × (names : List (List ℕ)) × (more ≡ option_append
     (if reading then option_map (with_newline due) (current inputs) else Some []) (joined_files (ahead inputs) names))

@@ -17,17 +17,15 @@ use Rattle.sededit.specs.Files.{FilesAhead, GivesWhole, WholeFiles, dash, joined
 abbrev pub kind_with : Bool → Kind
 kind_with extended = if extended then Extended else Basic
 
--- The text that the parts of a script make, after those before: the texts of -e and what the files of -f hold, a newline
--- after each that doesn't end with one (XCU sed, "Options"). A file that isn't told may hold any bytes; `-` names a file
--- there like any other word (this project's own).
+-- The text that parts make after those before: texts of -e, and what files of -f hold, with a newline after each (XCU sed, "Options").
+-- A file that isn't told may hold any bytes; `-` names a file there like any other word (this project's own).
 abbrev pub MakesText : WholeFiles → List ℕ → List Part → List ℕ → Type 0
 MakesText files before [] whole = whole ≡ before
 MakesText files before (Script s ∷ parts) whole = MakesText files (with_part before (string_bytes s)) parts whole
 MakesText files before (File s ∷ parts) whole =
     (bytes : List ℕ) × GivesWhole (files (string_bytes s)) (Some bytes) × MakesText files (with_part before bytes) parts whole
 
--- A line has a part, and its parts make a text that means the script p, but that -n suppresses default output too, as a
--- first line `#n` does (XCU sed, "Options").
+-- A line has a part, and its parts make a text that means p, but that -n suppresses default output too, as `#n` does (XCU sed, "Options").
 abbrev pub GivesScript : WholeFiles → Line → ℕ → Program → Type 0
 GivesScript files l nodes p =
     (l.parts.items ≢ []) × ((whole : List ℕ) × MakesText files [] l.parts.items whole
@@ -42,8 +40,7 @@ or_standard names = names
 abbrev pub texts_of : (List ℕ → Option (List ℕ)) → (ℕ → Option (List ℕ)) → Program → ℕ → Option (List ℕ)
 texts_of named others p k = option_map_or named (slice_get p.rfiles k) (others k)
 
--- what is told of files before a run: the scripts of -f, the input files, those that a script reads, by their names, and the
--- texts of numbers that no name stands for
+-- what is told before a run of the files of -f, the inputs and those that a script reads, by name, and of texts without a name
 pub record Told : Type 0 where
   pub scripts : WholeFiles
   pub inputs : FilesAhead
@@ -59,9 +56,8 @@ pub record Run : Type 0 where
 -- the run of a script that a line asks for: its input is what the files of the operands give, joined
 abbrev pub run_of : Told → Line → Program → Run
 run_of told l p = record {
-  script = p;
+  script = p; texts = texts_of told.named told.others p;
   input = joined_files told.inputs (or_standard (map string_bytes l.operands.items));
-  texts = texts_of told.named told.others p;
 }
 
 -- the words are a command line, and the run that its line asks for is as `P` says

@@ -167,8 +167,7 @@ abbrev pub reached : State → ℕ → Selection → State
 reached s k c =
     record s { ranges = slice_set s.ranges k c.active; used = c.used; tasks = do_at (k + 1) ∷ []; turns = s.turns + 1 }
 
--- whether `c` writes its text: without a range, at a range's end, and with `!`. So a range that is open where the input
--- ends writes none (this and the case of `!` are this project's own)
+-- whether `c` writes its text: without a range, at its end (never, if the input ends first), and with `!` (both this project's own)
 abbrev pub writes_text_at : Command → Bool → Bool
 writes_text_at c end = is_none c.second || end || c.negate
 
@@ -211,14 +210,6 @@ written g s (suc t) = written g s t ++ option_map_or (λ m. m.writes) (next_move
 -- where a run starts
 abbrev pub start : List Command → List (List ℕ) → State
 start commands lines = record {
-  lines = lines;
-  number = 0;
-  pattern = [];
-  hold = [];
-  replaced = false;
-  queue = [];
-  ranges = map (λ _. false) commands;
-  used = None;
-  tasks = begin ∷ [];
-  turns = 0;
+  lines = lines; number = 0; pattern = []; hold = []; replaced = false; queue = []; ranges = map (λ _. false) commands; used = None;
+  tasks = begin ∷ []; turns = 0;
 }

@@ -58,8 +58,7 @@ on_idle c first second = do
   Some (if a.yes then in_range (ends_at_once c.number second) a.used
       else record { yes = false; end = false; active = false; used = a.used })
 
--- An active range goes on through the pattern space that matches its second address. Where that is the number of a line
--- that has passed, the range is over, and the pattern space is judged anew (this project's own).
+-- An active range ends where its second address matches. If that is a line that has passed, all is judged anew (this project's own).
 abbrev pub on_active : Current → Address → Address → Option Selection
 on_active c first (Line n) =
     if nat_lt c.number n then Some (in_range false c.used)
@@ -68,8 +67,7 @@ on_active c first second = do
   a ← answer c second
   Some (in_range a.yes a.used)
 
--- "An editing command with no addresses shall select every pattern space", with one address "each pattern space that
--- matches the address", with two addresses a range
+-- "with no addresses shall select every pattern space", with one "each pattern space that matches the address", with two a range
 abbrev pub of_addresses : Current → Bool → Option Address → Option Address → Option Selection
 of_addresses c active None second = Some (record { yes = true; end = false; active = active; used = c.used })
 of_addresses c active (Some first) None = do

@@ -18,8 +18,7 @@ numbered f at number = fault BadNumber at
 
 -- the flags with the number that these digits at a place write, if they have none (this project's own)
 abbrev pub with_number : Flags → ℕ → List ℕ → Result Flags ScriptFault
-with_number f at digits =
-    if is_some f.number then fault RepeatedFlag at else numbered f at (with_digits (Some 0) digits)
+with_number f at digits = if is_some f.number then fault RepeatedFlag at else numbered f at (with_digits (Some 0) digits)
 
 -- these flags, unless the one at a place was there already (this project's own)
 abbrev pub once : (already : Bool) → ℕ → Flags → Result Flags ScriptFault
@@ -48,8 +47,7 @@ flags_from text empty f skip at [] = Ok (f, at)
 flags_from text empty f (suc skip) at (b ∷ bs) = flags_from text empty f skip (suc at) bs
 flags_from text empty f zero at (b ∷ bs) =
     if is_digit b
-    then (with_number f at (b ∷ take_while is_digit bs) >>= λ g.
-    flags_from text empty g (prefix_len is_digit bs) (suc at) bs)
+    then (with_number f at (b ∷ take_while is_digit bs) >>= λ g. flags_from text empty g (prefix_len is_digit bs) (suc at) bs)
     else if ends_flags b then Ok (f, at)
     else if b == 119 then with_file f at (name_from text (at + 1))
     else (with_flag empty f at b >>= λ g. flags_from text empty g zero (suc at) bs)
@@ -59,8 +57,7 @@ abbrev pub own_delimiter : Option ℕ → Option ℕ
 own_delimiter None = None
 own_delimiter (Some d) = if d == 92 || d == 10 then None else Some d
 
--- the two strings after a delimiter at a place, the first up to the next one, if that was found. Where the second `breaks`, a
--- newline may stand in it after a backslash
+-- the two strings after a delimiter at a place, the first up to the next, if found. Where the second `breaks`, it may break by `\` newline
 abbrev pub strings_after : List ℕ → (breaks : Bool) → ℕ → ℕ → Option ℕ → Result Strings ScriptFault
 strings_after text breaks d place first =
     or_fault first OpenDelimiter place >>= λ middle.

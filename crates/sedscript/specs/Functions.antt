@@ -17,8 +17,7 @@ abbrev pub ◌>>=◌ : {A B : Type 0} → Result A ScriptFault → (A → Result
 (Ok x) >>= f = f x
 (Err e) >>= f = Err e
 
--- whether a command may end before this byte: a newline, a semicolon or the end of the text; a closing brace or a comment
--- (these two, and a semicolon after a closing brace: this project's own)
+-- whether a command may end before this byte: a newline, `;` or no byte; `}` or `#` (these two, and a `;` after a `}`: this project's own)
 abbrev pub may_end : Option ℕ → Bool
 may_end None = true
 may_end (Some b) = b == 10 || b == 59 || b == 125 || b == 35
@@ -58,8 +57,7 @@ text_from text from =
 abbrev pub text_of : TextUse → ℕ → Option (ℕ × ℕ) → Result (Function × ℕ) ScriptFault
 text_of t place found = or_fault found MissingText place >>= λ span. Ok (Text t span.0 span.1, span.1)
 
--- where the name of a file that is due at a place, after its letter, begins and ends, if it isn't empty: after blanks, and up
--- to the newline. That no blank is needed, and what else stands on the line belongs to it, is this project's own
+-- where a file's name begins and ends, if it isn't empty: after blanks, if any, up to the newline, with all between (this project's own)
 unfoldable pub name_from : List ℕ → ℕ → Option (ℕ × ℕ)
 name_from text at =
     if past Line text (past Blank text at) == past Blank text at then None

@@ -7,8 +7,7 @@ use Rattle.sedscript.specs.Between.{own_delimiter, substitute_strings, flags_aft
 use Rattle.sedscript.specs.Letters.{verb_of, allowed, substituted, function_of}
 use Rattle.sedre.specs.Brackets.{delimiter_at}
 
--- a regular expression in a script: where it begins and ends, the delimiter there, and whether its flag `I` folds the case of
--- letters (this project's own)
+-- a regular expression in a script: where it begins and ends, the delimiter there, and whether its flag `I` folds case (this project's own)
 pub record Pattern : Type 0 where
   pub from : ℕ
   pub to : ℕ
@@ -36,8 +35,7 @@ pub record Addressed : Type 0 where
 abbrev pub found : Option Address → ℕ → ℕ → Result Addressed ScriptFault
 found address at count = Ok (record { address = address; at = at; count = count })
 
--- the address of the line whose number has its digits between two places. Leading zeros are accepted, 0 and numbers from
--- 2 ^ 64 on are refused (this project's own)
+-- the address of the line whose number has its digits between two places: 1 to 2 ^ 64 - 1, zeros before it or not (this project's own)
 abbrev pub line_of : ℕ → ℕ → ℕ → Option ℕ → Result Addressed ScriptFault
 line_of count from to (Some (suc n)) = found (Some (Line (suc n))) to count
 line_of count from to number = fault BadAddress from
@@ -73,9 +71,7 @@ own_match text count place own = plainly (or_fault own BadDelimiter place) >>= �
 abbrev pub address_of : List ℕ → ℕ → ℕ → Option ℕ → Reading Addressed
 address_of text count at None = plainly (found None at count)
 address_of text count at (Some b) =
-    if is_digit b
-    then plainly
-    (line_of count at (past Digit text at) (with_digits (Some 0) (bytes_between text at (past Digit text at))))
+    if is_digit b then plainly (line_of count at (past Digit text at) (with_digits (Some 0) (bytes_between text at (past Digit text at))))
     else if b == 36 then plainly (found (Some Last) (at + 1) count)
     else if b == 47 then match_at text count 47 at
     else if b == 92 then own_match text count (at + 1) (own_delimiter (slice_get text (at + 1)))
@@ -107,8 +103,7 @@ with_second first place x (Some a) = with_addresses (Some first) (Some a) x.at x
 unfoldable pub second_at : List ℕ → ℕ → Address → ℕ → Reading Headed
 second_at text count first at = address_at text count at >>= λ x. plainly (with_second first at x x.address)
 
--- the addresses of a command, the first of which, if there is one, ends at a place; a comma and a second one may follow it, and
--- blanks round the comma are passed over (this project's own)
+-- the addresses, the first of which, if any, ends at a place; a comma with blanks round it (this project's own) and a second may follow
 abbrev pub after_first : List ℕ → ℕ → ℕ → Option Address → Reading Headed
 after_first text count at None = plainly (with_addresses None None at count)
 after_first text count at (Some first) =
@@ -120,25 +115,18 @@ after_first text count at (Some first) =
 unfoldable pub addresses_at : List ℕ → ℕ → ℕ → Reading Headed
 addresses_at text count at = address_at text count at >>= λ x. after_first text x.count x.at x.address
 
--- the addresses with the `!` after them, if one stands there. Several are one, and blanks round them are passed over (after
--- them this project's own)
+-- the addresses with the `!` after them, if any. Several are one; blanks round them are passed over (those after: this project's own)
 abbrev pub with_bang : List ℕ → Headed → Headed
 with_bang text h =
     if is_byte 33 (slice_get text (past Blank text h.at))
     then record h { addresses = record h.addresses { negate = true }; at = past Bang text (past Blank text h.at) }
     else record h { at = past Blank text h.at }
 
--- the command `s` with these strings, and its end, with so many regular expressions before it. The empty one has no number,
--- and sets no limit to the groups of the replacement (this project's own)
+-- the command `s` with these strings, and its end. An empty expression has no number, and sets no limit to groups (this project's own)
 abbrev pub substitute_with : List ℕ → ℕ → Strings → Reading (Function × ℕ)
 substitute_with text count s =
     if s.middle == s.from then plainly (substituted text s None None)
-    else expression (record {
-      from = s.from;
-      to = s.middle;
-      delimiter = s.delimiter;
-      folded = folds (flags_after text s false);
-    })
+    else expression (record { from = s.from; to = s.middle; delimiter = s.delimiter; folded = folds (flags_after text s false) })
     (λ groups. plainly (substituted text s (Some count) (Some groups)))
 
 -- the command `s` whose letter stands at a place, and its end

@@ -1,5 +1,4 @@
--- The letters of the functions: what each stands for, the addresses that it takes, and what follows it (XCU sed, "Editing Commands
--- in sed").
+-- The letters of the functions: what each stands for, its addresses, and what follows it (XCU sed, "Editing Commands in sed").
 use Rattle.std.specs.Prelude.{ℕ, List, Option, Some, None, is_some, if◌then◌else◌, ◌==◌, ◌+◌, false, not, ◌&&◌, nat_lt, slice_get, Result, Ok}
 use Rattle.std.specs.Option.{option_len}
 use Rattle.sedscript.specs.Types.{ScriptFault, UnknownCommand, TooManyAddresses, MissingLabel, Addresses, Strings, Verb, ReadsExpression, Reads, Arguments, Alone, OpensBlock, ClosesBlock, Remark, NamesLabel, GoesTo, TakesText, NamesFile, TakesStrings, BranchUse, Always, IfReplaced, Append, Insert, Change, Read, Write, AppendHold, AppendNext, CopyHold, Delete, DeleteFirst, Exchange, Hold, HoldMore, LineNumber, listing, NextLine, Print, PrintFirst, Quit, Function, Plain, Open, Close, Label, Branch, Substitute, Transliterate, Comment}
@@ -48,8 +47,7 @@ most_addresses (Reads Remark) = 0
 most_addresses (Reads (Alone Quit)) = 1
 most_addresses verb = 2
 
--- what the letter at a place stands for, a function that may have these addresses. A `!` before one that takes none is refused
--- (this project's own)
+-- what the letter at a place stands for, if it may have these addresses; none takes no `!` (this project's own)
 abbrev pub allowed : Addresses → ℕ → Option Verb → Result Verb ScriptFault
 allowed addresses at stands = or_fault stands UnknownCommand at >>= λ verb.
     if addresses.negate && most_addresses verb == 0 then fault UnknownCommand at
@@ -73,8 +71,7 @@ transliterate_at text at =
     transliterate_strings text (at + 1) (own_delimiter (slice_get text (at + 1))) >>= λ s.
     unless_fault (strings_fault text s.delimiter at s.from s.middle s.to) (ended text (Transliterate s) (s.to + 1))
 
--- the command `s` with these strings and the flags after them, and its end. Its expression has this number in the script, None if
--- it is empty
+-- the command `s` with these strings and the flags after them, and its end. Its expression has this number, None if it is empty
 abbrev pub flagged : List ℕ → Strings → Option ℕ → Result (Function × ℕ) ScriptFault
 flagged text s e = flags_after text s (not (is_some e)) >>= λ found. ended text (Substitute s e found.0) found.1
 

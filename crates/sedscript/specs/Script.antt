@@ -58,8 +58,7 @@ text_in text f = None
 abbrev pub texts_of : List ℕ → List Item → List (List ℕ)
 texts_of text items = filter_map (λ i. text_in text i.function) items
 
--- the substitution of an `s` among all items, with these strings, this expression and these flags. Without a number it begins
--- with the first occurrence
+-- the substitution of an `s` with these strings, expression and flags. Without a number it begins with the first occurrence
 abbrev pub substitution_of : List ℕ → List Item → Strings → Option ℕ → Flags → Substitution
 substitution_of text all s e f = record {
   expression = e;
@@ -93,17 +92,14 @@ table_in text f = None
 abbrev pub tables_of : List ℕ → List Item → List (List ℕ)
 tables_of text items = filter_map (λ i. table_in text i.function) items
 
--- the action of a function among all items, given those before and after it, if it becomes a command. The number of a text, a
--- substitution or a table is how many stand before it
+-- the action of a function, if it becomes a command. The number of a text, a substitution or a table is how many stand before it
 abbrev pub action_of : List ℕ → List Item → List Item → List Item → Function → Option Action
 action_of text all before after (Plain s) = Some (action.Plain s)
 action_of text all before after Open = Some (action.Block (unwrap_or (block_end before after) 0))
 action_of text all before after (Branch u from to) =
-    Some (action.Branch u
-    (if from == to then commands_in all else unwrap_or (label_in text (bytes_between text from to) 0 all) 0))
+    Some (action.Branch u (if from == to then commands_in all else unwrap_or (label_in text (bytes_between text from to) 0 all) 0))
 action_of text all before after (Text t from to) = Some (action.Text t (length (texts_of text before)))
-action_of text all before after (File u from to) =
-    Some (action.File u (number_in u text all (bytes_between text from to)))
+action_of text all before after (File u from to) = Some (action.File u (number_in u text all (bytes_between text from to)))
 action_of text all before after (Substitute s e f) = Some (action.Substitute (length (substitutions_of text all before)))
 action_of text all before after (Transliterate s) = Some (action.Transliterate (length (tables_of text before)))
 action_of text all before after f = None
@@ -116,8 +112,7 @@ command_of a does = record { first = a.first; second = a.second; negate = a.nega
 abbrev pub commands_of : List ℕ → List Item → List Item → List Item → List Command
 commands_of text all before [] = []
 commands_of text all before (i ∷ is) =
-    cons_option (option_map (command_of i.addresses) (action_of text all before is i.function))
-    (commands_of text all (before ++ i ∷ []) is)
+    cons_option (option_map (command_of i.addresses) (action_of text all before is i.function)) (commands_of text all (before ++ i ∷ []) is)
 
 -- whether the first line of the whole text, whatever parts made it, is exactly `#n` (this project's own narrowing)
 abbrev pub is_quiet : List ℕ → Bool

@@ -43,8 +43,7 @@ piece_of delimiter false b = if b == 92 then None else if b == 38 then Some whol
 -- the pieces of a replacement's text, given whether its first byte is escaped; an escape that is refused leaves none
 abbrev pub pieces_from : ℕ → Bool → List ℕ → List Piece
 pieces_from delimiter escaped [] = []
-pieces_from delimiter escaped (b ∷ bs) =
-    cons_option (piece_of delimiter escaped b) (pieces_from delimiter (escapes escaped b) bs)
+pieces_from delimiter escaped (b ∷ bs) = cons_option (piece_of delimiter escaped b) (pieces_from delimiter (escapes escaped b) bs)
 
 -- the pieces of a replacement's text
 abbrev pub pieces_of : ℕ → List ℕ → List Piece
@@ -85,8 +84,7 @@ char_of delimiter false at b = if b == 92 then None else Some (record { byte = b
 -- the bytes of a string that begins at a place, given whether the first is escaped; an escape that is refused leaves none
 abbrev pub chars_from : ℕ → Bool → ℕ → List ℕ → List Char
 chars_from delimiter escaped at [] = []
-chars_from delimiter escaped at (b ∷ bs) =
-    cons_option (char_of delimiter escaped at b) (chars_from delimiter (escapes escaped b) (suc at) bs)
+chars_from delimiter escaped at (b ∷ bs) = cons_option (char_of delimiter escaped at b) (chars_from delimiter (escapes escaped b) (suc at) bs)
 
 -- the bytes of the string that stands between two places
 abbrev pub chars_of : List ℕ → ℕ → ℕ → ℕ → List Char
@@ -110,15 +108,13 @@ is_among bs b = list_any (λ x. x == b) bs
 -- the place of the first byte that stands a second time, given those that stand before the string
 abbrev pub repeated_in : List ℕ → List Char → Option ℕ
 repeated_in before [] = None
-repeated_in before (c ∷ cs) =
-    if is_among before c.byte then Some c.place else repeated_in (c.byte ∷ before) cs
+repeated_in before (c ∷ cs) = if is_among before c.byte then Some c.place else repeated_in (c.byte ∷ before) cs
 
 -- the fault of a byte that stands a second time at a place, if one does
 abbrev pub repeated_fault : Option ℕ → Option ScriptFault
 repeated_fault found = option_map (λ at. record { place = at; reason = RepeatedByte }) found
 
--- the first fault of the strings of a `y` whose letter stands at a place; the delimiter in the middle is between them. That the
--- first may have no byte twice, and that they have the same length, is this project's own
+-- the first fault of the strings of a `y`, parted at `middle`. That no byte stands twice, and equal lengths: this project's own
 abbrev pub strings_fault : List ℕ → ℕ → ℕ → ℕ → ℕ → ℕ → Option ScriptFault
 strings_fault text delimiter letter from middle to =
     option_or (string_fault delimiter false from (bytes_between text from middle))

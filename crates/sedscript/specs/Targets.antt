@@ -43,8 +43,7 @@ read_files text items = files_in Read text items
 abbrev pub written_files : List ℕ → List Item → List (List ℕ)
 written_files text items = files_in Write text items
 
--- the number of what is read, or written, by a name: its place among the items' files, from 0 for those that are read and from 1
--- for those that are written, since 0 is the standard output
+-- the number of a name among the items' files: from 0 for those read, and from 1 for those written, since 0 is the standard output
 abbrev pub number_in : FileUse → List ℕ → List Item → List ℕ → ℕ
 number_in Read text items name = unwrap_or (position_from (bytes_eq name) 0 (read_files text items)) 0
 number_in Write text items name =
