@@ -17,7 +17,7 @@ use Rattle.sededit.specs.Files.{FilesAhead, GivesWhole, WholeFiles, dash, joined
 abbrev pub kind_with : Bool → Kind
 kind_with extended = if extended then Extended else Basic
 
--- The text that parts make after those before: texts of -e, and what files of -f hold, with a newline after each (XCU sed, "Options").
+-- The text that parts make after those before: texts of -e, and what files of -f hold, each ended by a newline (XCU sed, "Options").
 -- A file that isn't told may hold any bytes; `-` names a file there like any other word (this project's own).
 abbrev pub MakesText : WholeFiles → List ℕ → List Part → List ℕ → Type 0
 MakesText files before [] whole = whole ≡ before
