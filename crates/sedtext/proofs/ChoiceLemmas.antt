@@ -146,7 +146,7 @@ first_seen words seen bytes w p r same is first = subst (λ v. FirstChoice seen 
 -- a literal that stands at a place ends in the text
 pub choice_inside : (heads : List Bool) (words : List (List ℕ)) (w : List ℕ) (i : ℕ) → AreHeads heads words → ChoiceAt words w i → i < length w
 choice_inside heads words w i are at =
-    let h = are.1 at.1 at.0 (slice_get_within words at.1 at.0 at.2) at.2 in
+    let h = are.1 at.1 at.0 at.2 in
     let inside = slice_get_within at.0 0 h.0 h.1 in
     let fits = at.3.fits in
     omega (arith, inside, fits)

@@ -49,7 +49,7 @@ firsts_more heads openings x c opening are is first inside m other lt there =
 pub heads_from : (heads : List Bool) (openings : List Opening) (words : List (List ℕ)) → length heads ≡ 256 → FirstsIn heads openings (length openings) → OpenLiterals openings words (length words) → AreHeads heads words
 heads_from heads openings words bytes firsts are = (
   bytes,
-  λ k literal lt is. let h = are k literal lt is in (h.1.first, h.2.0, firsts h.0 h.1 (slice_get_within openings h.0 h.1 h.3) h.3),
+  λ k literal is. let h = are k literal (slice_get_within words k literal is) is in (h.1.first, h.2.0, firsts h.0 h.1 (slice_get_within openings h.0 h.1 h.3) h.3),
 )
 
 -- what stands in a literal stands in the text where the literal does

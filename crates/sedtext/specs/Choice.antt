@@ -22,13 +22,9 @@ AllChoice nodes x words = (w : List ℕ) (i j : ℕ) → i ≤ length w → At n
 abbrev pub ChoiceOr : List Node → ℕ → List (List ℕ) → ℕ → Type 0
 ChoiceOr nodes x words y = (w : List ℕ) (i j : ℕ) → i ≤ length w → At nodes w x i j ↔ (ChoiceSpans words w i j ⊎ At nodes w y i j)
 
--- each of the first n literals begins with a byte among the heads
-abbrev pub HeadsIn : List Bool → List (List ℕ) → ℕ → Type 0
-HeadsIn heads words n = (k : ℕ) (literal : List ℕ) → k < n → slice_get words k ≡ Some literal → (c : ℕ) × (slice_get literal 0 ≡ Some c) × IsIn c heads
-
 -- there is a mark for each byte, and each literal begins with a byte that is marked
 abbrev pub AreHeads : List Bool → List (List ℕ) → Type 0
-AreHeads heads words = (length heads ≡ 256) × HeadsIn heads words (length words)
+AreHeads heads words = (length heads ≡ 256) × ((k : ℕ) (literal : List ℕ) → slice_get words k ≡ Some literal → (c : ℕ) × (slice_get literal 0 ≡ Some c) × IsIn c heads)
 
 -- how many bytes the literals have together
 unfoldable pub bytes_in : List (List ℕ) → ℕ

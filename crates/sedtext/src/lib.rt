@@ -5,7 +5,8 @@
 //! what is looked for in a text's bytes: bytes of a set, a few bytes, a literal, a choice of literals. No bytes of a text are
 //! seen without a count outside of that module and those below it.
 //!
-//! [`beginnings`] tells from which places a match can begin at all, [`repeats`] which set of bytes a node repeats. [`needed`],
+//! [`forms`] tells by one look what the spans of a node are made of, and what follows asks nodes by it alone. [`beginnings`] tells
+//! from which places a match can begin at all, [`repeats`] which set of bytes a node repeats. [`needed`],
 //! [`rare`], [`times`] and [`hints`] find out once what an expression tells of all its matches, by which places are passed over
 //! at which none begins. No search for a match of any expression stands here.
 //!
