@@ -1,7 +1,7 @@
 //! An expression made ready for passes: what is told of each node once, and the classes of bytes.
 ghost use Rattle.std.specs.Prelude.{◌≡◌, ℕ, List, Bool, true, false, cond, ◌+◌, ◌<◌, ◌≤◌, ◌&&◌, ◌↔◌, length, vec_capacity, Some, None, slice_get, IfOk, IsTrue};
 ghost use Rattle.std.proofs.Props.{props};
-ghost use Rattle.sedre.specs.Arena.{IsArena, IsExpr};
+ghost use Rattle.sedre.specs.Arena.{IsExpr};
 ghost use Rattle.sedre.specs.declared.types.Node.{Node};
 ghost use Rattle.sedre.specs.Tree.{tree_at, tree_of, Tree, seq, alt, group, star, opt};
 ghost use Rattle.sedre.specs.Mirror.{seen};
