@@ -1,6 +1,6 @@
-use Rattle.std.proofs.Common.{◌∷◌, ◌++◌, ◌∙◌, ap, refl}
+use Rattle.std.proofs.Common.{◌∷◌, ◌++◌, ◌∙◌, ap}
 use Rattle.sedscript.specs.declared.types.Action.TheVariants.{Plain}
-use Rattle.std.specs.Prelude.{[], decimal, slice_get}
+use Rattle.std.specs.Prelude.{[], decimal}
 use Rattle.std.specs.List.{before_first}
 use Rattle.sedspace.specs.Lines.{is_newline}
 use Rattle.sedengine.specs.State.{flush, print_pattern}
@@ -37,7 +37,6 @@ pub returns-in-Exchange-clause-acts : goal.returns-in-Exchange-clause-acts
 returns-in-Exchange-clause-acts g c = λ writes_text files told ls.
     acts_exchanging c.args.self.now ls (c.is_within_limits.ensures ls) (run_setting c.args.self.now files) (g.O.MeteredSinks.tally c.args.outputs.now) _
     c.act_exchange.new.self c.act_exchange.ensures (ap (λ s. acts (run_setting c.args.self.now files) (at_lines c.args.self.now ls) writes_text (Plain s)) c.in-Exchange.is)
-
 
 pub returns-in-Quit-clause-acts : goal.returns-in-Quit-clause-acts
 returns-in-Quit-clause-acts g c = λ writes_text files told ls.
