@@ -2,6 +2,7 @@
 use Rattle.std.proofs.Common.{◌≡◌, ℕ, ◌<◌, ◌≤◌, Bool, true, false, cond, List, [], ◌∷◌, ◌++◌, length, map, Option, Some, None, Result, Ok, Err, refl, subst, sym, ap, ◌∙◌, arith, length-append}
 use Rattle.std.specs.Prelude.{slice_get, slice_set, option_and_then}
 use Rattle.std.proofs.lemmas.List.{length-map}
+use Rattle.sedscript.specs.Program.{Program}
 use Rattle.sedscript.specs.declared.types.Command.{Command}
 use Rattle.sedscript.specs.declared.types.Action.{Action}
 use Rattle.sedscript.specs.declared.types.Action.TheVariants.{Block}
@@ -17,7 +18,7 @@ use Rattle.sedengine.specs.Run.{RunState, at_lines, run_setting}
 use Rattle.sedengine.specs.Choose.{performs, Judges, as_selection, reached_with, current_in, is_active, names_last}
 use Rattle.sedengine.specs.Queueing.{queueing, QueuesOrFull, queued_more}
 use Rattle.sedengine.specs.Steps.{reaches, ReachesCommand, HasAction, Moves, MakesMove, PerformsSteps, Steps, TakesLines}
-use Rattle.sedengine.specs.Inside.{run_of, entry_by, entry_for, IsConsistent}
+use Rattle.sedengine.specs.Inside.{run_of, entry_by, entry_for, holds, CommandHolds, FillsHold, IsConsistent}
 use Rattle.sedengine.specs.declared.machine.Machine.TheInside.{Inside}
 use Rattle.sedengine.specs.declared.select.Chosen.{Chosen}
 use Rattle.sedengine.specs.declared.ends.Ended.{Ended}
@@ -187,3 +188,11 @@ module _ {R : Type 0} (remaining : R → Option (List ℕ)) (old new : Stream R)
 pub entry_is : (texts : List (List ℕ)) (o : Option Command) (action : Action) → HasAction o action → entry_by texts o ≡ entry_for texts action
 entry_is texts None action h = absurd h
 entry_is texts (Some c) action h = ap (entry_for texts) h
+
+-- a command that has this action puts something into the hold space
+pub fills : (p : Program) (k : ℕ) (action : Action) → HasAction (slice_get p.commands k) action → holds action ≡ true → FillsHold p
+fills p k action h is = (k, held (slice_get p.commands k) h)
+  where
+    held : (o : Option Command) → HasAction o action → CommandHolds o
+    held None h = absurd h
+    held (Some c) h = ap holds h ∙ is

@@ -83,7 +83,7 @@ due_next old mid all e w ps global at groups (Some this) span is told due =
     ++ (put ++ replaced_from w ps s.1 (rest_after e w global s.1))) in
     let flat : Parts this (put_for w (occurrence_at_span e w this) ps) = due_as old mid all _ _ (simp append_assoc) due in
     subst (λ (s : ℕ × ℕ). Parts s (put_for w (with_groups s groups) ps)) same
-    (subst (Parts this) (sym (put_same w this groups (report (expression_tree e) w this.0 this.1) ps told)) flat)
+    (subst (Parts this) (sym (put_same w this groups (report (expression_tree e) w this.0 this.1) ps (λ some. (told some).0))) flat)
 
 -- after the text before it, what stands for it is due
 pub due_cut : (old mid cut : Contents) (all : List ℕ) (e : WrittenExpression) (w : List ℕ) (ps qs : List Piece) (global : Bool)

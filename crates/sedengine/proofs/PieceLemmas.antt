@@ -2,6 +2,7 @@
 use Rattle.std.proofs.Common.{◌≡◌, ℕ, suc, ◌+◌, ◌<◌, List, [], ◌∷◌, ◌++◌, true, length, get_or, drop, map, refl}
 use Rattle.std.proofs.Common.{sym, subst, ap, ◌∙◌, add-one, append_assoc, append-nil}
 use Rattle.std.specs.Prelude.{slice_range}
+use Rattle.std.proofs.lemmas.Bool.{true≢false}
 use Rattle.std.proofs.Math.Seq.{drop-cons}
 use Rattle.sedmatch.specs.Groups.{Groups}
 use Rattle.sedscript.specs.declared.substitution.Piece.{Piece}
@@ -65,6 +66,21 @@ pub within_next : (parts : List ReplacementPart) (k : ℕ) (p : ReplacementPart)
 within_next parts k p inside is within =
     within_parts p (drop (k + 1) parts)
     (subst (λ (ps : List ReplacementPart). GroupsWithin 9 (pieces_in ps)) (drop_next parts k p inside is) within)
+
+-- what is known where one of the parts is a group is known where this one is, and where one of those after it is
+wanted_parts : (X : Type 0) (p : ReplacementPart) (ps : List ReplacementPart) → (has_group (pieces_in (p ∷ ps)) ≡ true → X) →
+    (has_group (pieces_in (p ∷ [])) ≡ true → X) × (has_group (pieces_in ps) ≡ true → X)
+wanted_parts X (Literal bytes) ps h =
+    (λ some. absurd (true≢false (sym some ∙ literals_have bytes.items [])), λ some. h (literals_have bytes.items (pieces_in ps) ∙ some))
+wanted_parts X Whole ps h = (λ some. absurd (true≢false (sym some)), h)
+wanted_parts X (Group k) ps h = (λ some. h refl, λ some. h refl)
+
+pub wanted_next : (X : Type 0) (parts : List ReplacementPart) (k : ℕ) (p : ReplacementPart) → k < length parts → p ≡ get_or parts k p →
+    (has_group (pieces_in (drop k parts)) ≡ true → X) →
+    (has_group (pieces_in (p ∷ [])) ≡ true → X) × (has_group (pieces_in (drop (k + 1) parts)) ≡ true → X)
+wanted_next X parts k p inside is h =
+    wanted_parts X p (drop (k + 1) parts)
+    (λ some. h (ap (λ (ps : List ReplacementPart). has_group (pieces_in ps)) (drop_next parts k p inside is) ∙ some))
 
 -- what stands for a part, and for those after it
 put_parts : (w : List ℕ) (m : Occurrence) (p : ReplacementPart) (ps : List ReplacementPart) →

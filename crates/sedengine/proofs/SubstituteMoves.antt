@@ -24,6 +24,7 @@ use Rattle.sedengine.specs.SubstituteCalls.{written_by, Makes, ReplacesIn, same_
 use Rattle.sedengine.specs.Fitting.{RoomToSeek}
 use Rattle.sedengine.specs.Inside.{run_of, tasks_of, IsConsistent, IsEmptied}
 use Rattle.sedengine.specs.declared.machine.Machine.TheInside.{Inside}
+use Rattle.sedengine.specs.declared.substitute.Findings.{Findings}
 use Rattle.sedengine.specs.declared.next_step.NextStep.{NextStep}
 use Rattle.sedengine.specs.declared.next_step.NextStep.TheVariants as p
 use Rattle.sedengine.specs.declared.ends.Ended.{Ended}
@@ -39,10 +40,10 @@ may_hold p.Begin bytes h = cc
 may_hold other bytes h = tt
 
 -- the fields of the engine after a substitution with the expression e
-pub replaced_is_run : (a : Inside) (pattern build : Contents) (scratch : SearchRoom) (seeking : Occurrences) (matchers : Vec WrittenExpression Global) (e : ℕ) (replaced : Bool) → IsConsistent a → reaches (tasks_of a.next_step) ≡ true → e < length a.script.expressions →
+pub replaced_is_run : (a : Inside) (pattern build : Contents) (scratch : SearchRoom) (seeking : Occurrences) (findings : Findings) (matchers : Vec WrittenExpression Global) (e : ℕ) (replaced : Bool) → IsConsistent a → reaches (tasks_of a.next_step) ≡ true → e < length a.script.expressions →
     pattern.limit ≡ a.pattern.limit → length pattern.bytes ≤ pattern.limit → build.limit ≡ a.build.limit → scratch ≡ a.scratch → RoomToSeek a.script.substitutions a.script.expressions a.limits.space seeking → matchers.items ≡ a.matchers.items →
-    IsConsistent (record a { pattern = pattern; build = build; scratch = scratch; seeking = seeking; matchers = matchers; used = Some e; replaced = replaced })
-replaced_is_run a pattern build scratch seeking matchers e replaced i at within limit fits limit' same room same' = record {
+    IsConsistent (record a { pattern = pattern; build = build; scratch = scratch; seeking = seeking; findings = findings; matchers = matchers; used = Some e; replaced = replaced })
+replaced_is_run a pattern build scratch seeking findings matchers e replaced i at within limit fits limit' same room same' = record {
   number = i.number;
   turns = i.turns;
   pattern_limit = limit ∙ i.pattern_limit;

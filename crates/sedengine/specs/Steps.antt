@@ -6,7 +6,7 @@ use Rattle.std.specs.Borrow.{GName}
 use Rattle.std.specs.Io.KnownBytes.{Keeps}
 use Rattle.sedspace.specs.Stream.{Stream, left, lines_left}
 use Rattle.sedspace.specs.Lines.{TakesAtMost}
-use Rattle.sedengine.specs.Types.{Command, Action, Block, Branch, File, Plain, Text, Transliterate, AppendHold, AppendNext, CopyHold, Exchange, Hold, HoldMore, NextLine, Quit, Append, Read, Ended, Done, HoldFull, InputBroken, NoPrevious, PatternFull, QueueFull, TurnsSpent}
+use Rattle.sedengine.specs.Types.{Command, Action, Plain, AppendNext, NextLine, Ended, Done, HoldFull, InputBroken, NoPrevious, PatternFull, QueueFull, TurnsSpent}
 use Rattle.sedengine.specs.State.{Limits, Task, begin, rebegin, do_at, print_pattern, empty_pattern, flush, copy, fetch, join, State, Move, Setting, TellsFiles}
 use Rattle.sedengine.specs.Meters.{Sent, SinkView}
 use Rattle.sedengine.specs.Calls.{Delivers, DeliversAlone, ReadsLines}
@@ -124,33 +124,8 @@ takes_further_line (Plain NextLine) = true
 takes_further_line (Plain AppendNext) = true
 takes_further_line other = false
 
--- whether a command works on the hold space
-abbrev pub uses_hold : Action → Bool
-uses_hold (Plain CopyHold) = true
-uses_hold (Plain AppendHold) = true
-uses_hold (Plain Hold) = true
-uses_hold (Plain HoldMore) = true
-uses_hold (Plain Exchange) = true
-uses_hold other = false
-
--- whether the call for a command writes nothing and takes no line. Not `d` and `D`, whose calls write the queue too, nor `s`,
--- which may write
-abbrev pub writes_nothing : Action → Bool
-writes_nothing (Text Append k) = true
-writes_nothing (File Read k) = true
-writes_nothing (Block k) = true
-writes_nothing (Branch u k) = true
-writes_nothing (Plain Quit) = true
-writes_nothing (Transliterate k) = true
-writes_nothing other = uses_hold other
-
--- What a call answers that does what such a command does where it applies, from the engine e on.
-abbrev pub ActsQuietly : RunState → RunState → Action → Result Unit Ended → Type 0
-ActsQuietly e e' action r = (files : ℕ → List ℕ) (ls : List (List ℕ)) (writes_text : Bool) (sinks : SinkView) →
-    MakesMove e.limits (run_setting e files) (acts (run_setting e files) (at_lines e ls) writes_text action)
-    (at_lines e ls) (at_lines e' ls) sinks sinks r
-
--- The same of any command that takes no line; w says whether `c` writes its text.
+-- What a call answers that does what a command does where it applies, if it takes no line, from the engine e on; w says whether
+-- `c` writes its text.
 abbrev pub ActsHere : {T : Type 0} → (T → ℕ → Option (List ℕ)) → T → RunState → RunState → Bool → Action → SinkView → SinkView →
     Result Unit Ended → Type 0
 ActsHere text texts e e' w action old new r =

@@ -47,10 +47,11 @@ GroupsIn n groups = (k : ℕ) → SpanIn n (span_of groups k)
 abbrev pub with_groups : ℕ × ℕ → Groups → Occurrence
 with_groups span groups = record { start = span.0; end = span.1; groups = groups }
 
--- where they are wanted, the groups are those of the occurrence that has the span, if there is one
+-- where they are wanted, the groups are those of the occurrence that has the span, if there is one, and lie in the text
 abbrev pub GroupsOf : WrittenExpression → List ℕ → Bool → Option (ℕ × ℕ) → Groups → Type 0
 GroupsOf e w wanted None groups = Unit {0}
-GroupsOf e w wanted (Some span) groups = wanted ≡ true → groups ≡ report (expression_tree e) w span.0 span.1
+GroupsOf e w wanted (Some span) groups =
+    wanted ≡ true → (groups ≡ report (expression_tree e) w span.0 span.1) × GroupsIn (length w) groups
 
 -- what was found is the next occurrence in the text w after the one that ended at a place, or none where there is none; its
 -- span lies after that place

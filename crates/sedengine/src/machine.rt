@@ -22,6 +22,7 @@ use crate::idle::Idle;
 use crate::limits::Limits;
 use crate::next_step::NextStep;
 use crate::patience::Patience;
+use crate::substitute::Findings;
 use parts::Parts;
 use sedmatch::{Occurrences, Scratch, TableMatcher};
 use sedscript::Script;
@@ -42,6 +43,8 @@ pub(crate) struct Machine {
     scratch: Scratch,
     // How far a substitution has searched.
     seeking: Occurrences,
+    // What it found.
+    findings: Findings,
     // For each regular expression of the script, what seeks it.
     matchers: Vec<TableMatcher>,
     // For each command, whether its range is active.
@@ -118,6 +121,7 @@ impl Machine {
             queue: store.queue,
             scratch: seekers.scratch,
             seeking: seekers.seeking,
+            findings: Findings::new(),
             matchers: seekers.matchers,
             ranges,
             idle,

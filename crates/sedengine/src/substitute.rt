@@ -32,10 +32,11 @@ pub(crate) struct Replacing<'a> {
     pub(crate) text: &'a [u8],
 }
 
-/// What is told of the occurrences of one substitution, one after another, and what telling it took.
+/// What is told of the occurrences of substitutions, one after another, and what telling it took.
+// A machine keeps one, since making it for each line costs as much as a short search.
 #[derive(Drop)]
 pub(crate) struct Findings {
-    /// The groups of the last occurrence of which they were told.
+    /// The groups of the last occurrence of which they were told, perhaps in an earlier text.
     groups: Groups,
     /// The steps of the searches.
     steps: Steps,
@@ -94,7 +95,6 @@ pub(crate) fn build_text(
         return Ok(false);
     };
     let wanted = needs_groups(substitution.replacement.parts());
-    findings.groups = [None; 10];
     let Some(first) = next_occurrence(matcher, text, last, wanted, seeking, scratch, findings)
     else {
         return Ok(false);
@@ -159,7 +159,6 @@ fn next_occurrence(
     requires serves { Serves matcher.old text.now last seeking.old }
     ensures next { IsNextOccurrence matcher.old text.now last result }
     ensures groups { GroupsOf matcher.old text.now wanted result findings.new.groups }
-    ensures groups_in { GroupsIn (length text.now) findings.old.groups → GroupsIn (length text.now) findings.new.groups }
     ensures same { SeeksAsBefore matcher.old matcher.new scratch.old scratch.new }
     ensures serves { ServesOn matcher.old text.now result seeking.old seeking.new }
     ensures cost { let m = length matcher.old.nodes in let n = length text.now in
@@ -218,7 +217,6 @@ fn append_replaced(
     requires fits { FitInto (length replacing.text.now) (length matcher.old.nodes) scratch.old }
     requires lies { LiesOn (length replacing.text.now) None first }
     requires groups { GroupsOf matcher.old replacing.text.now (has_group replacing.substitution.now.replacement) (Some first) findings.old.groups }
-    requires groups_in { GroupsIn (length replacing.text.now) findings.old.groups }
     requires serves { Serves matcher.old replacing.text.now (Some first.1) seeking.old }
     ensures appends { Appends build.old build.new
         (replaced_from replacing.entry.text.now replacing.entry.substitution.now.replacement 0
@@ -262,7 +260,7 @@ fn put(
 ) -> Result<(), Full>
     requires within { GroupsWithin 9 (pieces_in parts.now) }
     requires lies { LiesOn (length text.now) None span }
-    requires groups_in { GroupsIn (length text.now) groups.now }
+    requires groups_in { has_group (pieces_in parts.now) ≡ true → GroupsIn (length text.now) groups.now }
     ensures { Appends build.old build.new
         (put_for text.now (with_groups span groups.now) (pieces_in parts.now)) result }
 {
@@ -282,7 +280,7 @@ fn put_part(
 ) -> Result<(), Full>
     requires within { GroupsWithin 9 (pieces_in (part.now ∷ [])) }
     requires lies { LiesOn (length text.now) None span }
-    requires groups_in { GroupsIn (length text.now) groups.now }
+    requires groups_in { has_group (pieces_in (part.now ∷ [])) ≡ true → GroupsIn (length text.now) groups.now }
     ensures { Appends build.old build.new
         (put_for text.now (with_groups span groups.now) (pieces_in (part.now ∷ []))) result }
 {

@@ -1,15 +1,16 @@
 //! The commands (XCU sed, "Editing Commands in sed"): `act` and the calls that it passes commands on to have a case for each.
-ghost use Rattle.std.specs.Prelude.{◌≡◌, ◌<◌, ◌≤◌, ◌+◌, [], ◌∷◌, None, Ok, Err, OnOk, ℕ, List, true, false, length, slice_get};
+ghost use Rattle.std.specs.Prelude.{◌≡◌, ◌<◌, ◌≤◌, ◌+◌, [], ◌∷◌, None, Ok, Err, OnOk, Bool, ℕ, List, true, false, length, slice_get};
 ghost use Rattle.std.specs.Option.{ForSome};
 ghost use Rattle.sedscript.specs.Ranges.{ActionWithin, sizes_of};
+ghost use Rattle.sedscript.specs.declared.types.Action.TheVariants.{Plain};
 ghost use Rattle.sedspace.specs.Stream.{lines_left};
-ghost use Rattle.sedengine.specs.State.{do_at, TellsFiles};
+ghost use Rattle.sedengine.specs.State.{do_at, flush, print_pattern, TellsFiles};
 ghost use Rattle.sedengine.specs.Move.{acts, passes, line_to, writes_text_at};
 ghost use Rattle.sedengine.specs.Ends.{is_next};
 ghost use Rattle.sedengine.specs.Meters.{SinkView};
-ghost use Rattle.sedengine.specs.Calls.{Delivers, NamesNone, Puts};
+ghost use Rattle.sedengine.specs.Calls.{Delivers, Puts};
 ghost use Rattle.sedengine.specs.Run.{SameRun, at_lines, run_setting};
-ghost use Rattle.sedengine.specs.Steps.{reaches, ActsHere, ActsQuietly, HasAction, LeavesGiven, LeavesLines, MakesMove, PerformsSteps, Steps, writes_nothing, takes_further_line, weight};
+ghost use Rattle.sedengine.specs.Steps.{reaches, ActsHere, HasAction, LeavesGiven, LeavesLines, MakesMove, PerformsSteps, Steps, takes_further_line, weight};
 
 use super::Machine;
 use crate::ends::Ended;
@@ -122,62 +123,89 @@ impl Machine {
     {
         self.is_within_limits();
         match action {
+            Action::Plain(simple) => self.act_plain(k, simple, outputs, texts),
+            Action::Text(TextUse::Append, _) => self.act_queue(k),
             Action::Text(TextUse::Change, text) => self.act_change(
                 text,
                 writes_text,
                 outputs,
                 texts,
             ),
-            Action::Plain(Simple::Delete) => self.act_delete(outputs, texts),
-            Action::Plain(Simple::DeleteFirst) => self.act_delete_first(outputs, texts),
             Action::Text(TextUse::Insert, text) => write_line(outputs, 0, self.script.text(text)),
-            Action::Plain(Simple::LineNumber) => {
-                let mut buffer = Buffer::new();
-                write_line(outputs, 0, buffer.format(self.number).as_bytes())
-            },
-            Action::Plain(Simple::List) => write_listing(outputs, self.pattern.bytes()),
-            Action::Plain(Simple::Print) => self.act_write(0, outputs),
-            Action::Plain(Simple::PrintFirst) => outputs.write_all(0, self.pattern.first_line()),
-            Action::Substitute(k) => self.act_substitute(k, outputs),
-            Action::File(FileUse::Write, sink) => self.act_write(sink, outputs),
-            _ => self.act_quietly(k, action),
-        }
-    }
-
-    /// Does what command `k` does where it applies, if it writes nothing and takes no line.
-    fn act_quietly(&mut self, k: usize, action: Action) -> Result<(), Ended>
-        requires at { reaches self.old.state.tasks ≡ true }
-        requires within { ActionWithin (sizes_of self.old.script) action }
-        requires action { HasAction (slice_get self.old.script.commands k) action }
-        requires quiet { writes_nothing action ≡ true }
-        ensures acts { ActsQuietly self.old self.new action result }
-        ensures devices { NamesNone result }
-        ensures falls { weight self.new ≤ weight self.old + 8 }
-        ensures same { SameRun self.old self.new }
-    {
-        self.is_within_limits();
-        match action {
-            Action::Text(TextUse::Append, _) => self.act_queue(k),
             Action::File(FileUse::Read, _) => self.act_queue(k),
-            Action::Block(_) => Ok(()),
+            Action::File(FileUse::Write, sink) => self.act_write(sink, outputs),
             Action::Branch(BranchUse::Always, target) => {
                 self.next_step = NextStep::Do(target);
-                Ok(())
-            }
-            Action::Plain(Simple::Quit) => {
-                self.next_step = NextStep::Quit;
                 Ok(())
             }
             Action::Branch(BranchUse::IfReplaced, target) => {
                 self.act_test(target);
                 Ok(())
             }
+            Action::Block(_) => Ok(()),
+            Action::Substitute(k) => self.act_substitute(k, outputs),
             Action::Transliterate(k) => {
                 self.act_transliterate(k);
                 Ok(())
             }
-            _ => self.act_on_hold(action),
         }
+    }
+
+    /// Does what a command without arguments does, number `k`, where it applies, if it takes no line.
+    fn act_plain<O: MeteredSinks, T: Texts>(
+        &mut self,
+        k: usize,
+        simple: Simple,
+        outputs: &mut O,
+        texts: &mut T,
+    ) -> Result<(), Ended>
+        requires at { reaches self.old.state.tasks ≡ true }
+        requires action { HasAction (slice_get self.old.script.commands k) (Plain simple) }
+        requires here { takes_further_line (Plain simple) ≡ false }
+        requires sink { 0 < O.count outputs.old }
+        ensures acts { (writes_text : Bool) → ActsHere T.text texts.old self.old self.new writes_text (Plain simple)
+            (O.tally outputs.old) (O.tally outputs.new) result }
+        ensures falls { weight self.new ≤ weight self.old + 8 }
+        ensures leaves { LeavesGiven O.tally O.count T.text self.old self.new outputs.old outputs.new texts.old texts.new result }
+    {
+        self.is_within_limits();
+        match simple {
+            Simple::AppendHold => self.act_append_hold(),
+            Simple::CopyHold => {
+                self.act_copy_hold();
+                Ok(())
+            }
+            Simple::Delete => self.act_delete(outputs, texts),
+            Simple::DeleteFirst => self.act_delete_first(outputs, texts),
+            Simple::Exchange => {
+                self.act_exchange();
+                Ok(())
+            }
+            Simple::Hold => {
+                self.act_hold();
+                Ok(())
+            }
+            Simple::HoldMore => self.act_hold_more(),
+            Simple::LineNumber => {
+                let mut buffer = Buffer::new();
+                write_line(outputs, 0, buffer.format(self.number).as_bytes())
+            }
+            Simple::List => write_listing(outputs, self.pattern.bytes()),
+            Simple::Print => self.act_write(0, outputs),
+            Simple::PrintFirst => outputs.write_all(0, self.pattern.first_line()),
+            Simple::Quit => {
+                self.act_quit();
+                Ok(())
+            }
+            _ => unreachable!(),
+        }
+    }
+
+    /// The command `q`: the run is to end once the pattern space and the queue are written.
+    fn act_quit(&mut self)
+        ensures { self.new ≡ record self.old { state = record self.old.state { tasks = print_pattern ∷ flush ∷ [] } } }
+    {
+        self.next_step = NextStep::Quit;
     }
 
     /// Does what a command does where it doesn't apply: `{` passes over its block.

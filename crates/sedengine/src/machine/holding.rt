@@ -1,47 +1,14 @@
 //! The commands `g`, `G`, `h`, `H` and `x`: the hold space (XCU sed, "Editing Commands in sed").
-ghost use Rattle.std.specs.Prelude.{◌≡◌, ◌≤◌, ◌+◌, ◌∷◌, ◌++◌, Err, true};
+ghost use Rattle.std.specs.Prelude.{◌≡◌, ◌∷◌, ◌++◌, true};
 ghost use Rattle.sedengine.specs.Move.{newline};
 ghost use Rattle.sedengine.specs.Holding.{BecomesOrFull};
-ghost use Rattle.sedengine.specs.Inside.{FillsHold, holds};
-ghost use Rattle.sedengine.specs.Calls.{NamesNone};
-ghost use Rattle.sedengine.specs.Steps.{reaches, ActsQuietly, uses_hold, weight};
-ghost use Rattle.sedengine.specs.Run.{SameRun};
+ghost use Rattle.sedengine.specs.Inside.{FillsHold};
+ghost use Rattle.sedengine.specs.Steps.{reaches};
 
 use super::Machine;
 use crate::ends::Ended;
-use sedscript::{Action, Simple};
 
 impl Machine {
-    /// Does what a command on the hold space does.
-    pub(super) fn act_on_hold(&mut self, action: Action) -> Result<(), Ended>
-        requires at { reaches self.old.state.tasks ≡ true }
-        requires uses { uses_hold action ≡ true }
-        requires fills { holds action ≡ true → FillsHold self.old.script }
-        ensures acts { ActsQuietly self.old self.new action result }
-        ensures devices { NamesNone result }
-        ensures falls { weight self.new ≤ weight self.old + 8 }
-        ensures same { SameRun self.old self.new }
-    {
-        self.is_within_limits();
-        match action {
-            Action::Plain(Simple::CopyHold) => {
-                self.act_copy_hold();
-                Ok(())
-            }
-            Action::Plain(Simple::AppendHold) => self.act_append_hold(),
-            Action::Plain(Simple::Hold) => {
-                self.act_hold();
-                Ok(())
-            }
-            Action::Plain(Simple::HoldMore) => self.act_hold_more(),
-            Action::Plain(Simple::Exchange) => {
-                self.act_exchange();
-                Ok(())
-            }
-            _ => unreachable!(),
-        }
-    }
-
     /// The command `g`: the pattern space becomes what the hold space is.
     pub(super) fn act_copy_hold(&mut self)
         requires { reaches self.old.state.tasks ≡ true }

@@ -14,7 +14,7 @@ use super::known::is_within;
 use crate::ends::Ended;
 use crate::meter::MeteredSinks;
 use crate::next_step::NextStep;
-use crate::substitute::{Findings, Replacing, build_text};
+use crate::substitute::{Replacing, build_text};
 use sedspace::Full;
 
 impl Machine {
@@ -73,7 +73,7 @@ impl Machine {
             &mut self.build,
             &mut self.seeking,
             &mut self.scratch,
-            &mut Findings::new(),
+            &mut self.findings,
         );
         match built {
             Ok(true) => {

@@ -1,10 +1,15 @@
-use Rattle.std.proofs.Common.{arith, ◌-◌, ◌∙◌, Bool, Err, ap, drop, length, refl, subst, take}
+use Rattle.std.proofs.Common.{arith, ◌-◌, ◌∙◌, Bool, Err, ap, drop, length, refl, subst, sym, take}
 use Rattle.std.specs.Prelude.{slice_range}
 use Rattle.sedengine.specs.SubstituteParts.{GroupsOf, has_group}
 use Rattle.sedengine.proofs.Due.{appended, due_after, due_cut, due_full, due_next, due_rest}
 use Rattle.sedengine.proofs.Due.{groups_paid, lies_on, more_pending, none_pending}
 use Rattle.sedengine.proofs.Fitting.{keeps_trans}
 use Rattle.sedengine.proofs.substitute.append_replaced.Goals as goal
+
+pub put-requires-clause-groups_in : goal.put-requires-clause-groups_in
+put-requires-clause-groups_in c = λ some.
+    let told = rw c.in-Some.is at c.occurrences.invariant.groups in
+    (told (ap has_group (sym c.parts-parts.ensures.pieces) ∙ some)).1
 
 pub returns-in_err-append-clause-appends : goal.returns-in_err-append-clause-appends
 returns-in_err-append-clause-appends c =
@@ -68,7 +73,6 @@ occurrences-preserved-then-substitution c =
       copied = lies.2;
       lies = lies_on (length w) span.1 next.result next.ensures.next.1;
       groups = subst (λ (b : Bool). GroupsOf e w b next.result next.new.findings.groups) wanted (rw i.matcher at next.ensures.groups);
-      groups_in = next.ensures.groups_in i.groups_in;
       made = due.1;
     }
 
@@ -99,7 +103,6 @@ occurrences-preserved c =
       copied = lies.2;
       lies = tt;
       groups = tt;
-      groups_in = i.groups_in;
       made = due.1;
     }
 

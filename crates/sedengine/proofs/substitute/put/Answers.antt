@@ -1,13 +1,18 @@
 use Rattle.std.proofs.Common.{arith}
 use Rattle.sedengine.specs.SubstituteParts.{with_groups}
 use Rattle.sedengine.proofs.Due.{due_as, due_less, due_full}
-use Rattle.sedengine.proofs.PieceLemmas.{within_next, put_next}
+use Rattle.sedengine.proofs.PieceLemmas.{within_next, put_next, wanted_next}
 use Rattle.sedengine.proofs.substitute.put.Goals as goal
 
 pub put_part-requires-clause-within : goal.put_part-requires-clause-within
 put_part-requires-clause-within c =
     let l = c.loop-part in
     (within_next c.args.parts.now l.part-index c.part-item.result (omega arith) c.part-item.is l.invariant.within).0
+
+pub put_part-requires-clause-groups_in : goal.put_part-requires-clause-groups_in
+put_part-requires-clause-groups_in c =
+    let l = c.loop-part in
+    (wanted_next _ c.args.parts.now l.part-index c.part-item.result (omega arith) c.part-item.is l.invariant.groups_in).0
 
 pub returns-in_err-put_part : goal.returns-in_err-put_part
 returns-in_err-put_part c =
@@ -30,5 +35,6 @@ loop-part-preserved c =
     record {
       limit = less.0;
       within = (within_next parts l.part-index c.part-item.result (omega arith) c.part-item.is l.invariant.within).1;
+      groups_in = (wanted_next _ parts l.part-index c.part-item.result (omega arith) c.part-item.is l.invariant.groups_in).1;
       put = less.1;
     }

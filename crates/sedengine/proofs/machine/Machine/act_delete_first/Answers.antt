@@ -20,3 +20,6 @@ pub returns-else-cut_line-clause-acts : goal.returns-else-cut_line-clause-acts
 returns-else-cut_line-clause-acts g c = λ files told ls.
     let whole = c.cut_line.ensures.whole c.if-cut_line.false in
     uncut_performs c.self.inside c.args.self.now c.act_delete.new.self files ls c.cut_line.new.self _ _ c.act_delete.result c.self.view_is whole.0 whole.1 (c.act_delete.ensures.acts files told ls)
+
+pub end_cycle-requires-clause-emptied : goal.end_cycle-requires-clause-emptied
+end_cycle-requires-clause-emptied g c = tt

@@ -8,3 +8,6 @@ returns-clause-puts g c =
     puts_seen c.self.inside c.args.self.now (λ (e : RunState). line_to c.args.sink e.state.pattern)
     (g.O.MeteredSinks.tally c.args.outputs.now) (g.O.MeteredSinks.tally c.write_all.new.self)
     c.write_all.result c.self.view_is (rw c.line.ensures.value at c.write_all.ensures.puts)
+
+pub returns-clause-output : goal.returns-clause-output
+returns-clause-output g c = c.write_all.ensures.devices

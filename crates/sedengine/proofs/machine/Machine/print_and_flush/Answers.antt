@@ -2,6 +2,7 @@ use Rattle.std.proofs.Common.{[], cond, Ok, Err}
 use Rattle.std.proofs.lemmas.Result.{err_from_is_err_and}
 use Rattle.sedengine.specs.Move.{line_to}
 use Rattle.sedengine.specs.Run.{RunState}
+use Rattle.sedengine.proofs.Writing.{Delivers-then}
 use Rattle.sedengine.proofs.Ending.{fits_seen, print_moves, print_stops, puts_seen}
 use Rattle.sedengine.proofs.machine.Machine.print_and_flush.Goals as goal
 
@@ -19,3 +20,8 @@ returns-in_err-print_by_default-clause-moves g c = λ files told ls rest.
     let p = err_from_is_err_and c.from_residual.result c.from_residual.ensures.1 in
     rw (p.1, p.2) (print_stops c.args.self.now files ls rest old new c.in_err-print_by_default.field-0.0 (fits_seen c.self.inside c.args.self.now ls c.self.view_is c.self.invariant)
     (puts_seen c.self.inside c.args.self.now (λ (e : RunState). cond e.script.quiet [] (line_to 0 e.state.pattern)) old new (Err c.in_err-print_by_default.field-0.0) c.self.view_is c.in_err-print_by_default.ensures.puts))
+
+pub returns-clause-devices : goal.returns-clause-devices
+returns-clause-devices g c =
+    let w = c.flush.ensures.devices in
+    record { output = Delivers-then _ _ _ _ _ _ c.in_ok-print_by_default.ensures.devices.output w.output; input = w.input }

@@ -55,7 +55,7 @@ invariant_of-self c =
     let h = c.index_mut.ensures.value in
     let is_m : m ≡ get_or a.matchers.items c.in-Some.e m = grind (arith, elements) in
     let at = one_sought a c.in-Some.e m c.self.invariant inside is_m in
-    replaced_is_run a _ _ _ _ _ c.in-Some.e true c.self.invariant
+    replaced_is_run a _ _ _ _ _ _ c.in-Some.e true c.self.invariant
     (ap (λ (e : RunState). reaches e.state.tasks) c.self.view_is ∙ c.requires.at) inside (search rules) (search rules) (search rules) (search rules) (room_kept a c.in-Some.e m c.begin.new.self _ c.self.invariant at c.begin.ensures.room c.begin.ensures.number c.build_text-built.ensures.kept)
     (matchers_kept a.matchers.items c.in-Some.e m c.build_text-built.new.matcher is_m c.build_text-built.ensures.same.0)
 
@@ -68,7 +68,7 @@ invariant_of-self-in-Ok-false c =
     let h = c.index_mut.ensures.value in
     let is_m : m ≡ get_or a.matchers.items c.in-Some.e m = grind (arith, elements) in
     let at = one_sought a c.in-Some.e m c.self.invariant inside is_m in
-    replaced_is_run a _ _ _ _ _ c.in-Some.e a.replaced c.self.invariant
+    replaced_is_run a _ _ _ _ _ _ c.in-Some.e a.replaced c.self.invariant
     (ap (λ (e : RunState). reaches e.state.tasks) c.self.view_is ∙ c.requires.at) inside (search rules) (search rules) (search rules) (search rules) (room_kept a c.in-Some.e m c.begin.new.self _ c.self.invariant at c.begin.ensures.room c.begin.ensures.number c.build_text-built.ensures.kept)
     (matchers_kept a.matchers.items c.in-Some.e m c.build_text-built.new.matcher is_m c.build_text-built.ensures.same.0)
 
@@ -81,7 +81,7 @@ invariant_of-self-in-Err c =
     let h = c.index_mut.ensures.value in
     let is_m : m ≡ get_or a.matchers.items c.in-Some.e m = grind (arith, elements) in
     let at = one_sought a c.in-Some.e m c.self.invariant inside is_m in
-    replaced_is_run a _ _ _ _ _ c.in-Some.e a.replaced c.self.invariant
+    replaced_is_run a _ _ _ _ _ _ c.in-Some.e a.replaced c.self.invariant
     (ap (λ (e : RunState). reaches e.state.tasks) c.self.view_is ∙ c.requires.at) inside (search rules) (search rules) (search rules) (search rules) (room_kept a c.in-Some.e m c.begin.new.self _ c.self.invariant at c.begin.ensures.room c.begin.ensures.number c.build_text-built.ensures.kept)
     (matchers_kept a.matchers.items c.in-Some.e m c.build_text-built.new.matcher is_m c.build_text-built.ensures.same.0)
 

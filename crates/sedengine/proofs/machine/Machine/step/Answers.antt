@@ -1,3 +1,5 @@
+use Rattle.sedengine.proofs.Leaving.{leaves_texts}
+use Rattle.sedengine.proofs.Writing.{Delivers-quiet}
 use Rattle.sedengine.proofs.Tasks.{ends_here, steps_by_moves}
 use Rattle.sedengine.proofs.machine.Machine.step.Goals as goal
 
@@ -15,3 +17,11 @@ returns-in-Ended-clause-steps g c = λ sound ls known files told.
 pub returns-in-Rebegin-clause-steps : goal.returns-in-Rebegin-clause-steps
 returns-in-Rebegin-clause-steps g c = λ sound ls known files told.
     steps_by_moves g.R.ByteSource.remaining _ ls _ _ c.args.self.now c.rebegin.new.self _ _ _ known (c.rebegin.ensures.moves files ls _)
+
+pub returns-in-Begin-clause-falls : goal.returns-in-Begin-clause-falls
+returns-in-Begin-clause-falls g c = c.begin.ensures.falls
+
+pub returns-in-Begin-clause-leaves : goal.returns-in-Begin-clause-leaves
+returns-in-Begin-clause-leaves g c =
+    let w = c.begin.ensures in
+    leaves_texts w.reads.input (Delivers-quiet _ _ _ _ w.reads.output) w.same

@@ -1,6 +1,19 @@
-use Rattle.std.proofs.Common.{arith}
-use Rattle.std.proofs.lemmas.Grind.{common_steps}
+use Rattle.std.proofs.Common.{◌≡◌, Bool, ℕ, List, Result, Ok, Err, false, rules}
+use Rattle.sedengine.specs.Meters.{SinkView}
+use Rattle.sedengine.specs.Calls.{WritesPart}
+use Rattle.sedengine.specs.Passing.{WritesLines}
+use Rattle.sedengine.specs.declared.meter.Cut.{Cut}
 use Rattle.sedengine.proofs.machine.Machine.write_lines.Goals as goal
 
-pub returns : goal.returns
-returns c = grind (arith, common_steps)
+-- lines are written where default output isn't suppressed
+lines_written : (old new : SinkView) (quiet : Bool) (bytes : List ℕ) (r : Result Unit Cut) → quiet ≡ false → WritesPart old new 0 bytes r → WritesLines old new quiet bytes r
+lines_written old new quiet bytes (Ok u) loud h = rw loud h
+lines_written old new quiet bytes (Err cut) loud h = (loud, h)
+
+pub returns-clause-writes : goal.returns-clause-writes
+returns-clause-writes g c =
+    let loud : c.args.self.now.script.quiet ≡ false = search rules in
+    lines_written _ _ c.args.self.now.script.quiet c.args.bytes.now c.write_part.result loud c.write_part.ensures.writes
+
+pub returns-clause-output : goal.returns-clause-output
+returns-clause-output g c = c.write_part.ensures.devices
