@@ -45,3 +45,6 @@ pub returns-clause-counts : goal.returns-clause-counts
 returns-clause-counts c =
     let next = c.next_kept.ensures.next in
     looks_at_span (expression_tree c.args.subject.prepared.now.arena.expr) c.args.subject.text.now c.args.from c.args.steps.now c.next_kept.new.steps c.next_kept.result next.answer next.counts
+
+pub returns-clause-answer : goal.returns-clause-answer
+returns-clause-answer c = c.next_kept.ensures.next.answer
