@@ -48,9 +48,8 @@ name_in (File s) = Some (string_bytes s)
 abbrev pub AreParts : List Part → (scripts files : List Text) → Type 0
 AreParts parts scripts files = (filter_map script_in parts ≡ scripts) × (filter_map name_in parts ≡ files)
 
--- The parts of the script, and the operands that are files: the scripts of -e and the files of -f, each in their order;
--- without them, the first operand is the script (XCU sed, "Operands"). How scripts and files mingle goes by the places that
--- clap tells of its words; as no contract of clap says what they are, any are taken here.
+-- The parts of the script, and the operands that are files: the scripts of -e and the files of -f, each in their order; without
+-- them, the first operand is the script (XCU sed, "Operands"). As no contract of clap says how these mingle, any order is taken here.
 abbrev pub Asks : List Text → List Text → List Text → List Part → List Text → Type 0
 Asks [] [] (operand ∷ operands) parts names = AreParts parts (operand ∷ []) [] × (names ≡ operands)
 Asks scripts files operands parts names = AreParts parts scripts files × (names ≡ operands)

@@ -56,7 +56,8 @@ pub record Run : Type 0 where
 -- the run of a script that a line asks for: its input is what the files of the operands give, joined
 abbrev pub run_of : Told → Line → Program → Run
 run_of told l p = record {
-  script = p; texts = texts_of told.named told.others p;
+  script = p;
+  texts = texts_of told.named told.others p;
   input = joined_files told.inputs (or_standard (map string_bytes l.operands.items));
 }
 
@@ -66,8 +67,7 @@ Runs told nodes words P =
     IsCommandLine words × ((l : Line) × IsLine (matches_of sed_command words) l
     × ((p : Program) × GivesScript told.scripts l nodes p × P (run_of told l p)))
 
--- What is observed of the devices of a run, before it or after it: how many openings of files the inputs have refused, how
--- many reads of the input have failed, what each sink holds, where it is told, and how often it has failed.
+-- What is observed of devices: openings of files refused, failed reads of the input, and of each sink what it holds and its failures.
 pub record Observed : Type 0 where
   pub refusals : ℕ
   pub reads : ℕ
@@ -98,10 +98,9 @@ SinkAtEnd most old new (OutputBroken k) = Rose (old k) (new k)
 SinkAtEnd most old new (OutputFull k) = most ≢ None
 SinkAtEnd most old new other = Unit {0}
 
--- The run of a script came to another end than the ordinary one. The device that the end names has failed, and the input at
--- no other end, whether they tell their bytes or not. Where the input and the texts are told, the end has its cause, after
--- some moves, with what the sinks gained as its output, within the limit, and no whole line is lost where the input failed.
--- `rest` says what the input has still to give.
+-- The run came to another end than the ordinary one. The device that the end names has failed, and the input at no other end. Where
+-- input and texts are told, the end has its cause, after some moves, with what the sinks gained as its output, within the limit.
+-- No whole line is lost where the input failed; `rest` says what it has still to give.
 abbrev pub StopsEarly : Limits → (old new : Observed) → (Option (List ℕ) → Type 0) → Run → Type 0
 StopsEarly limits old new rest run =
     (end : Ended) × (end ≢ Done)
@@ -111,8 +110,7 @@ StopsEarly limits old new rest run =
     × (t : ℕ) × Cause limits g s out end t
     × (end ≡ InputBroken → (more : Option (List ℕ)) × rest more × BreaksInLine g s run.input more limits.space t))
 
--- What the exit status of a run of a script says (XCU sed, "Exit Status"; which number above 0 is this project's own), by what
--- is observed before the run and after it; `rest` says what the input has still to give.
+-- What a run's exit status says (XCU sed, "Exit Status"; which number above 0: this project's own); `rest`: what the input has still to give.
 pub record StatusMeans (limits : Limits) (old new : Observed) (rest : Option (List ℕ) → Type 0) (status : ℕ) (run : Run) :
     Type 0 where
   -- 0: all was written that the script writes, no input file was missed, and no read of the input failed

@@ -52,14 +52,12 @@ abbrev pub copies : State → List Task → ℕ → ℕ → Option ℕ → Optio
 copies s rest k o None = quietly (then_do rest s)
 copies s rest k o (Some b) = writing ((0, b) ∷ []) (record s { tasks = copy k (o + 1) ∷ rest; turns = s.turns + 1 })
 
--- the next line is taken, of which `made` makes the pattern space; where there is none the run ends. No run fetches a line
--- where none is left; that it would end there is this project's own
+-- the next line, of which `made` makes the pattern space; without one, to which no run comes here, the run ends (this project's own)
 abbrev pub takes_line : State → List Task → (List ℕ → List ℕ) → List (List ℕ) → Option Move
 takes_line s rest made [] = quietly (then_do [] s)
 takes_line s rest made (line ∷ lines) = quietly (then_do rest (with_line (made line) lines s))
 
--- These occurrences are replaced, if there are any. The pattern space becomes the text that this makes, which is written with
--- the flag `p`, and then, with the flag `w`, to the file (the order of the two: this project's own).
+-- These occurrences are replaced, if any; what this makes is written with `p`, and then with `w` to the file (the order: this project's own).
 abbrev pub replaces : State → Substitution → List Occurrence → Option Move
 replaces s t [] = quietly s
 replaces s t (m ∷ ms) =
@@ -67,8 +65,7 @@ replaces s t (m ∷ ms) =
     writing ((if t.print then line_to 0 w else []) ++ option_map_or (λ k. line_to k w) t.file [])
     (record s { pattern = w; replaced = true })
 
--- A substitution. Its expression, or the one that an empty one stands for, is the one last used, whether it matches or
--- not. Without an expression used before an empty one there is no move (this project's own).
+-- Its expression, or what an empty one stands for, is then the one last used. Where it stands for none is no move (this project's own).
 abbrev pub substitutes : Setting → State → Option Substitution → Option Move
 substitutes g s None = quietly s
 substitutes g s (Some t) = do
@@ -210,6 +207,14 @@ written g s (suc t) = written g s t ++ option_map_or (λ m. m.writes) (next_move
 -- where a run starts
 abbrev pub start : List Command → List (List ℕ) → State
 start commands lines = record {
-  lines = lines; number = 0; pattern = []; hold = []; replaced = false; queue = []; ranges = map (λ _. false) commands; used = None;
-  tasks = begin ∷ []; turns = 0;
+  lines = lines;
+  number = 0;
+  pattern = [];
+  hold = [];
+  replaced = false;
+  queue = [];
+  ranges = map (λ _. false) commands;
+  used = None;
+  tasks = begin ∷ [];
+  turns = 0;
 }

@@ -75,9 +75,8 @@ of_addresses c active (Some first) None = do
   Some (record { yes = a.yes; end = false; active = active; used = a.used })
 of_addresses c active (Some first) (Some second) = if active then on_active c first second else on_idle c first second
 
--- What the addresses of a command choose, given whether its range is active. One address is judged at most; one that isn't
--- judged asks nothing, and isn't the expression last used (this project's own). `!` turns the yes alone: "the function shall
--- be applied if the addresses do not select the pattern space".
+-- What a command's addresses choose, given whether its range is active. One is judged at most; another isn't the one last used (this
+-- project's own). `!` turns the yes alone: "the function shall be applied if the addresses do not select the pattern space".
 unfoldable pub selects : Current → Bool → Command → Option Selection
 selects c active command = do
   choice ← of_addresses c active command.first command.second

@@ -88,10 +88,10 @@ form_either_end nodes arena x a b set members first y z is y_is z_is left right 
           (open_at nodes w x (Alt a b) arena is i j at)),
       (λ h.
           close_at nodes w x (Alt a b) arena is i j (
-            ⊎_elim
-            (λ (zero : i ≡ 0). inl (subst (λ v. At nodes w v i j) y_is ((left w i j).1 (zero, (can h.0, h.1)))))
-            (λ (end : j ≡ length w). inr (subst (λ v. At nodes w v i j) z_is ((right w i j).1 (end, (can h.0, h.1)))))
-            h.2)),
+          ⊎_elim
+          (λ (zero : i ≡ 0). inl (subst (λ v. At nodes w v i j) y_is ((left w i j).1 (zero, (can h.0, h.1)))))
+          (λ (end : j ≡ length w). inr (subst (λ v. At nodes w v i j) z_is ((right w i j).1 (end, (can h.0, h.1)))))
+          h.2)),
     )
 
 -- the run up to a place, and the byte there
@@ -168,8 +168,12 @@ module _ (first : First) (members : List Bool) (w : List ℕ) (p : ℕ) (not_fir
   one_at_end k n is start =
       let low = start.0 in (
         (start.0, start.1, (start.2.0, inr start.2.1), λ h from lt can. start.3 h from lt (ends h from can)),
-        ((start.2.0, subst (Repeated members w (k + 1)) (sym is) start.2.1, inr is), omega (arith, is), λ j s.
-        ⊎_elim (λ (zero : k ≡ 0). absurd (only_end k low s.0 zero)) (λ (end : j ≡ length w). omega (arith, is, end)) s.2),
+        (
+          (start.2.0, subst (Repeated members w (k + 1)) (sym is) start.2.1, inr is),
+          omega (arith, is),
+          λ j s.
+              ⊎_elim (λ (zero : k ≡ 0). absurd (only_end k low s.0 zero)) (λ (end : j ≡ length w). omega (arith, is, end)) s.2,
+        ),
       )
 
 -- what was looked at after other steps

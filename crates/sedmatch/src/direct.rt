@@ -483,7 +483,9 @@ fn form_span(form: &DirectForm, text: &Text, from: usize, steps: &mut Steps) -> 
         DirectForm::ByteThenRunAtEnd(first, members) => {
             byte_run_end_span(first, members, text, from, steps)
         },
-        DirectForm::AtEitherEnd(first, members) => either_end_span(first, members, text, from, steps),
+        DirectForm::AtEitherEnd(first, members) => either_end_span(
+            first, members, text, from, steps,
+        ),
         DirectForm::Times(set, count) => times_span(set, *count, text, from, steps),
         DirectForm::Literal(finder) => literal_span(finder, text, from, steps),
         DirectForm::Choice(choice) => choice_span(choice, text, from, steps),

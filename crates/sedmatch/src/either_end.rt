@@ -12,8 +12,8 @@ ghost use Rattle.sedmatch.specs.declared.direct.DirectForm.TheVariants.{AtEither
 use crate::Span;
 use crate::direct::{DirectForm, First, first_of};
 use sedre::{ByteSet, Expr, Node, NodeId, Steps};
-use sedtext::counted::{Tally, Text};
 use sedtext::counted::members::run_end;
+use sedtext::counted::{Tally, Text};
 use sedtext::repeats::star_set;
 
 /// The sets of a node that is one byte and a run.

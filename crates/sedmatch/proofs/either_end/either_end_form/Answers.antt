@@ -20,7 +20,9 @@ returns-then-same-2-clause-form c =
     let run = c.if-same-2.ensures.0 refl in
     let set = c.if-same.ensures.0 refl in
     let right =
-        subst (λ v. AllAtEnd nodes c.index-2.result v c.in_ok-set.members) (sym set)
-        (subst (λ v. AllAtEnd nodes c.index-2.result c.in_ok-other.other v) (sym run) c.in_ok-other.ensures.sets) in
-    (form_either_end nodes c.requires.arena (length nodes - 1) c.args.a c.args.b c.in_ok-set.set c.in_ok-set.members c.first_of.result c.index.result c.index-2.result c.requires.root c.index.ensures c.index-2.ensures
-    c.in_ok-set.ensures.sets right c.first_of.ensures, omega arith)
+    subst (λ v. AllAtEnd nodes c.index-2.result v c.in_ok-set.members) (sym set)
+    (subst (λ v. AllAtEnd nodes c.index-2.result c.in_ok-other.other v) (sym run) c.in_ok-other.ensures.sets) in (
+      form_either_end nodes c.requires.arena (length nodes - 1) c.args.a c.args.b c.in_ok-set.set c.in_ok-set.members c.first_of.result c.index.result c.index-2.result c.requires.root c.index.ensures c.index-2.ensures
+          c.in_ok-set.ensures.sets right c.first_of.ensures,
+      omega arith,
+    )
