@@ -29,16 +29,13 @@ returns-clause-desk c =
     (used_again d.max_nodes p d.back c.fit-2.new.self new.back is.back.0 c.fit-2.ensures.room tables.back_shape c.next_kept.ensures.next.kept.region.table) (untouched d.max_nodes d.shared.inside is.shared.inside)
     (used_again d.max_nodes p d.shared.ahead c.fit.new.self new.ahead is.shared.ahead c.fit.ensures.room tables.ahead_shape tables.ahead.table)
 
-pub returns-clause-answer : goal.returns-clause-answer
-returns-clause-answer c = c.next_begun.ensures.next.answer
-
 pub returns-clause-cost : goal.returns-clause-cost
 returns-clause-cost c =
     let m = length c.args.subject.prepared.now.arena.expr.nodes in
     let n = length c.args.subject.text.now in
     let less : n - c.args.from ≤ n = omega arith in
     let more = mul-le-mul_left (142 * m) less in
-    let pays = c.next_begun.ensures.cost in
+    let pays = c.next_kept.ensures.each in
     (pays.0, omega (arith, pays.1, more))
 
 pub returns-clause-counts : goal.returns-clause-counts
