@@ -7,9 +7,10 @@
 //! piece, from its beginning on. What is printed is the number of calls with a hit, so it depends on the words and the text alone:
 //! `bench/matching` takes the times.
 
-ghost use Rattle.std.specs.Prelude.{◌≡◌, ◌<◌, ◌≤◌, ◌^◌, None, IfOk, IfSome, length};
+ghost use Rattle.std.specs.Prelude.{◌≡◌, ◌<◌, ◌≤◌, ◌^◌, ◌∷◌, [], None, IfOk, IfSome, length};
 ghost use Rattle.sedre.specs.Tree.{expression_tree};
 ghost use Rattle.sedmatch.specs.Following.{Occurs};
+ghost use Rattle.sedmatch.specs.Occurrences.{RoomFor};
 ghost use Rattle.benches.specs.Ready.{IsReady};
 
 use anyhow::{Context, Result, bail, ensure};
@@ -111,15 +112,42 @@ impl Searcher {
         requires nodes { length expr.now.nodes ≤ 16384 }
         ensures { IfOk result (λ s. IsReady expr.now s × (s.size ≡ size)) }
     {
-        let scratch = Scratch::new(alloc, size, MAX_NODES)?;
         let tables = TableMatcher::new(alloc, expr, TableRoom::ample(), &mut Steps::new())?;
-        let seeking = Occurrences::new(alloc, size, MAX_NODES, slice::from_ref(&tables))?;
-        Ok(Searcher {
-            tables,
-            seeking,
-            scratch,
-            size,
-        })
+        match Occurrences::new(alloc, size, MAX_NODES, slice::from_ref(&tables)) {
+            Ok(seeking) => Searcher::of(alloc, tables, seeking, size),
+            Err(refused) => {
+                drop(tables);
+                Err(refused.into())
+            }
+        }
+    }
+
+    /// The same of these tables and the room to go on in.
+    fn of(
+        alloc: Global,
+        tables: TableMatcher,
+        seeking: Occurrences,
+        size: usize,
+    ) -> Result<Searcher>
+        requires size { size ≤ 2 ^ 20 }
+        requires nodes { length tables.nodes ≤ 16384 }
+        requires room { RoomFor size (tables ∷ []) seeking }
+        ensures { IfOk result (λ s. IsReady tables s × (s.size ≡ size)) }
+    {
+        match Scratch::new(alloc, size, MAX_NODES) {
+            Ok(scratch) => Ok(Searcher {
+                tables,
+                seeking,
+                scratch,
+                size,
+            }),
+            Err(refused) => {
+                // by calls: what is let go of where it stands is proved field by field
+                drop(tables);
+                drop(seeking);
+                Err(refused.into())
+            }
+        }
     }
 
     /// Where the first occurrence begins and ends.

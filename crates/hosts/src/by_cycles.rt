@@ -44,7 +44,7 @@ pub fn run(alloc: Global, text: &[u8], input: &[u8]) -> Result<(Vec<u8>, Option<
     let mut output = ToWriter::new(Vec::new(alloc));
     let mut texts = MemoryTexts::new(Vec::new(alloc));
     let end = first_cycles(&mut engine, &mut lines, &mut output, &mut texts);
-    // by a call: an engine that is let go of where it stands is proved field by field, each time
-    drop(engine);
+    // by its own call: where it goes out of scope, it is proved field by field
+    engine.close();
     Ok((output.into_writer(), end))
 }

@@ -95,7 +95,7 @@ fn run_to_end(
     let is_ended = again == end && progress == Progress::Ended(end);
     let stays = is_ended && calls_of(lines.source(), &outputs, &texts) == calls;
     // by a call: at the end of its scope all its fields would be proved to be let go of
-    drop(engine);
+    engine.close();
     let source = lines.into_source();
     Outcome {
         end,

@@ -140,6 +140,6 @@ pub(crate) fn edit_ahead<R: ByteSource, O: Outputs, T: Texts>(
     let ahead = lines.ahead_len();
     // The lines give the source back, and what became of it is known.
     let _source = lines.into_source();
-    drop(engine);
+    engine.close();
     Ok(Edited { end, ahead })
 }

@@ -198,4 +198,7 @@ impl Engine {
     {
         self.machine.held()
     }
+
+    /// Lets the engine go. One that goes out of scope is let go of field by field, which each crate above proves anew.
+    pub fn close(self) {}
 }

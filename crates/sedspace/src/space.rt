@@ -176,6 +176,10 @@ impl Space {
         if self.most - self.len() < count {
             return Err(Full);
         }
+        // Before a match at a line's beginning, as after one at its end, stands nothing.
+        if count == 0 {
+            return Ok(());
+        }
         let (front, end) = append_to(&mut self.held, self.front, self.end, self.most, text, count);
         self.front = front;
         self.end = end;

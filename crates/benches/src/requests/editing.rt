@@ -32,7 +32,7 @@ fn held_at_start(alloc: Global, script: Script, limits: Limits) -> Result<u128, 
 {
     let engine = Engine::open(alloc, script, limits)?;
     let held = engine.held().total();
-    drop(engine);
+    engine.close();
     Ok(held)
 }
 
@@ -110,7 +110,7 @@ fn run_cycles(rt: &HostRuntime, text: &[u8]) -> Result<()> {
     begin(rt);
     let ended = cycles(&mut engine, &mut lines, &mut outputs, &mut texts, &mut held);
     end(rt);
-    drop(engine);
+    engine.close();
     println!(rt; "{ended:?}, wrote {:?}, held {held:?}", written(&outputs))?;
     Ok(())
 }

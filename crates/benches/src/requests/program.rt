@@ -101,16 +101,17 @@ fn make_sinks(rt: &HostRuntime) -> Result<()> {
 }
 
 fn run_command(rt: &HostRuntime, script: &str) -> Result<()> {
-    let words = words_with(rt.alloc(), script)?;
-    let mut inputs = inputs(rt.alloc())?;
-    let mut sinks = sinks(rt.alloc())?;
-    let mut names = MemoryNames::new(rt.alloc(), files(rt.alloc())?);
+    let limits = limits()?;
     let mut errors = Vec::with_capacity(rt.alloc(), ROOM)?;
+    let words = words_with(rt.alloc(), script)?;
+    let mut names = MemoryNames::new(rt.alloc(), files(rt.alloc())?);
+    let mut sinks = sinks(rt.alloc())?;
+    let mut inputs = inputs(rt.alloc())?;
     begin(rt);
     let status = command(
         rt.alloc(),
         words.as_slice(),
-        limits()?,
+        limits,
         &mut inputs,
         &mut sinks,
         &mut names,

@@ -1,4 +1,5 @@
 //! Readers of expressions and scripts, and what searches need.
+ghost use Rattle.std.specs.Prelude.{◌≤◌, length};
 
 use crate::requests::given::{NODES, expression_of};
 use crate::requests::marks::{begin, end};
@@ -6,6 +7,7 @@ use anyhow::Result;
 use sedmatch::{Occurrences, Scratch, TableMatcher, TableRoom};
 use sedre::{Expr, ExprFault, Kind, Steps};
 use sedscript::{Script, ScriptFault};
+use std::alloc::{AllocError, Global};
 use std::slice;
 
 /// The most bytes of a text that is searched.
@@ -75,11 +77,25 @@ fn add_part(rt: &HostRuntime, part: &[u8]) -> Result<()> {
     Ok(())
 }
 
+/// Makes room for searches, and lets it go by a call: where it stands it is let go of field by field.
+fn make_scratch(alloc: Global) -> Result<(), AllocError> {
+    drop(Scratch::new(alloc, TEXT, NODES)?);
+    Ok(())
+}
+
 fn scratch(rt: &HostRuntime) -> Result<()> {
     begin(rt);
-    let is_made = Scratch::new(rt.alloc(), TEXT, NODES).is_ok();
+    let is_made = make_scratch(rt.alloc()).is_ok();
     end(rt);
     println!(rt; "{is_made}")?;
+    Ok(())
+}
+
+/// Makes room to seek the occurrences of an expression.
+fn make_occurrences(alloc: Global, matcher: &TableMatcher) -> Result<(), AllocError>
+    requires { length matcher.now.nodes ≤ 1000 }
+{
+    drop(Occurrences::new(alloc, TEXT, NODES, slice::from_ref(matcher))?);
     Ok(())
 }
 
@@ -88,19 +104,23 @@ fn occurrences(rt: &HostRuntime, text: &[u8]) -> Result<()> {
     let room = TableRoom::ample();
     let matcher = TableMatcher::new(rt.alloc(), &expr, room, &mut Steps::new())?;
     begin(rt);
-    let is_made = Occurrences::new(rt.alloc(), TEXT, NODES, slice::from_ref(&matcher)).is_ok();
+    let is_made = make_occurrences(rt.alloc(), &matcher).is_ok();
     end(rt);
-    // by a call: what is let go of where it stands is proved field by field
     drop(matcher);
     println!(rt; "{is_made}")?;
+    Ok(())
+}
+
+/// Makes the matcher of an expression.
+fn make_matcher(alloc: Global, expr: &Expr) -> Result<(), AllocError> {
+    drop(TableMatcher::new(alloc, expr, TableRoom::ample(), &mut Steps::new())?);
     Ok(())
 }
 
 fn matcher(rt: &HostRuntime, text: &[u8]) -> Result<()> {
     let expr = expression_of(rt.alloc(), text)?;
     begin(rt);
-    let room = TableRoom::ample();
-    let is_made = TableMatcher::new(rt.alloc(), &expr, room, &mut Steps::new()).is_ok();
+    let is_made = make_matcher(rt.alloc(), &expr).is_ok();
     end(rt);
     println!(rt; "{is_made}")?;
     Ok(())
