@@ -97,7 +97,10 @@ fn check(alloc: Global, script: &[u8], flags: u32, limits: &SedLimits) -> Outcom
     };
     match read(alloc, script, &asked) {
         Err(refusal) => refusal,
-        Ok(_program) => Outcome::Done(0),
+        Ok(program) => {
+            program.close();
+            Outcome::Done(0)
+        }
     }
 }
 

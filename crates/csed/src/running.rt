@@ -41,6 +41,7 @@ fn without_files(mut program: Script, quiet: bool) -> Result<Script, Outcome>
     ensures refused { IfErr result (λ o. (o ≡ HasFiles) × (0 < length program.wfiles)) }
 {
     if !program.wfiles().is_empty() {
+        program.close();
         return Err(Outcome::WritesFiles);
     }
     if quiet {

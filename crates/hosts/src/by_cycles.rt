@@ -36,7 +36,10 @@ pub fn run(alloc: Global, text: &[u8], input: &[u8]) -> Result<(Vec<u8>, Option<
     };
     let script = match read(alloc, text, Kind::Basic, limits.nodes()) {
         Ok(script) if script.wfiles().is_empty() => script,
-        Ok(_) => bail!("it writes files"),
+        Ok(script) => {
+            script.close();
+            bail!("it writes files")
+        }
         Err(fault) => bail!("byte {}: {}", fault.place, fault.reason.name()),
     };
     let mut lines = Lines::new(alloc, FromReader::new(input), limits.look())?;

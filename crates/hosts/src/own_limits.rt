@@ -23,7 +23,10 @@ pub fn run(alloc: Global, text: &[u8], input: &[u8]) -> Result<(Vec<u8>, Ended)>
     let limits = own_limits()?;
     let script = match script(alloc, text, Kind::Extended, limits.nodes()) {
         Ok(script) if script.wfiles().is_empty() => script,
-        Ok(_) => bail!("it writes files"),
+        Ok(script) => {
+            script.close();
+            bail!("it writes files")
+        }
         Err(fault) => bail!("byte {}: {}", fault.place, fault.reason.name()),
     };
     let mut source = FromReader::new(input);

@@ -47,6 +47,7 @@ pub(crate) fn script_of(row: &Row, limits: &Limits) -> Result<Script, Message>
         script.set_quiet();
     }
     if script.max_nodes() > limits.nodes() {
+        script.close();
         return Err("the script has too many nodes");
     }
     Ok(script)

@@ -124,9 +124,11 @@ fn run_line<I: Inputs, O: Sinks, N: Names, E: Write>(
         Err(refusal) => return refuse(refusal, errors),
     };
     if !create_files(&script, sinks, errors) {
+        script.close();
         return REFUSED;
     }
     if let Err(AllocError) = name_files(&script, names) {
+        script.close();
         return out_of_memory(errors);
     }
     let task = Task {

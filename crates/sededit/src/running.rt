@@ -148,9 +148,15 @@ pub(crate) fn run<I: Inputs, O: Sinks, T: Texts, E: Write>(
         operands,
         limits,
     } = task;
-    let standard = standard_input(alloc)?;
+    let Ok(standard) = standard_input(alloc) else {
+        script.close();
+        return Err(AllocError);
+    };
     let names = names_of(operands, standard.as_slice());
-    let missed = vec![in alloc; false; names.len()]?;
+    let Ok(missed) = vec![in alloc; false; names.len()] else {
+        script.close();
+        return Err(AllocError);
+    };
     let mut joined = Joined::over(&mut *inputs, names, missed);
     let edited = edit_ahead(alloc, script, limits, &mut joined, sinks, texts);
     let has_missed = close(&joined, &edited, names, errors);

@@ -170,4 +170,9 @@ impl Script {
     {
         self.max_nodes
     }
+
+    /// Lets the script go. By this call what it holds is proved to be let go of once, and not in each crate above.
+    pub fn close(self) {
+        drop(self);
+    }
 }

@@ -47,7 +47,10 @@ pub(crate) fn script_of(alloc: Global, text: &[u8]) -> Result<Script>
 {
     match sedscript::read(alloc, text, Kind::Basic, NODES) {
         Ok(script) if script.max_nodes() <= NODES => Ok(script),
-        Ok(_) => bail!("the expressions are too large"),
+        Ok(script) => {
+            script.close();
+            bail!("the expressions are too large")
+        }
         Err(fault) => bail!("the script is refused: {fault:?}"),
     }
 }

@@ -1,6 +1,7 @@
 //! The parts of a machine as they are made, each in a call of its own: a refused request drops all that was made before it,
 //! so the proof of one call for all of them would be long.
-ghost use Rattle.std.specs.Prelude.{◌≤◌, IfOk};
+ghost use Rattle.std.specs.Prelude.{◌≡◌, ◌<◌, ◌≤◌, IfOk, length};
+ghost use Rattle.sedengine.specs.Fitting.{AllFit, Seek};
 ghost use Rattle.sedengine.specs.Parts.{AreParts, AreSeekers, IsStore};
 
 use crate::idle::{Idle, idle_of};
@@ -82,12 +83,40 @@ impl Seekers {
         ensures { IfOk result (AreSeekers script.now limits.now) }
     {
         let matchers = matchers_of(alloc, script, limits.nodes())?;
-        let scratch = room_to_search(alloc, script, &matchers, limits)?;
-        let seeking = room_to_seek(alloc, script, &matchers, limits)?;
-        Ok(Seekers {
-            matchers,
-            scratch,
-            seeking,
-        })
+        match room_to_search(alloc, script, &matchers, limits) {
+            Ok(scratch) => Seekers::of(alloc, script, limits, matchers, scratch),
+            Err(refused) => {
+                drop(matchers);
+                Err(refused)
+            }
+        }
+    }
+
+    /// These matchers and the room to search for them, with room to seek occurrences.
+    fn of(
+        alloc: Global,
+        script: &Script,
+        limits: &Limits,
+        matchers: Vec<TableMatcher>,
+        scratch: Scratch,
+    ) -> Result<Seekers, AllocError>
+        requires seek { Seek script.now.expressions limits.now.nodes matchers.items }
+        requires text { 0 < length script.now.expressions → scratch.text ≡ limits.now.space }
+        requires nodes { AllFit scratch.nodes matchers.items }
+        ensures { IfOk result (AreSeekers script.now limits.now) }
+    {
+        match room_to_seek(alloc, script, &matchers, limits) {
+            Ok(seeking) => Ok(Seekers {
+                matchers,
+                scratch,
+                seeking,
+            }),
+            Err(refused) => {
+                // By calls: what is let go of where it stands is proved field by field.
+                drop(matchers);
+                drop(scratch);
+                Err(refused)
+            }
+        }
     }
 }
