@@ -117,8 +117,14 @@ impl Occurrences {
     {
         let width = width_for(max_text);
         let kept = Kept::new(alloc, max_text, max_text / width + 1, max_nodes)?;
-        let shared = Table::with_room(alloc, BACK, width + 1, max_nodes)?;
-        let own = own_tables(alloc, matchers)?;
+        let Ok(shared) = Table::with_room(alloc, BACK, width + 1, max_nodes) else {
+            drop(kept);
+            return Err(AllocError);
+        };
+        let Ok(own) = own_tables(alloc, matchers) else {
+            drop((kept, shared));
+            return Err(AllocError);
+        };
         Ok(Occurrences {
             seeking: Seeking {
                 kept,

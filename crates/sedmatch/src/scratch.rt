@@ -57,11 +57,24 @@ impl Scratch {
         ensures { IfOk result (λ s. (s.text ≡ max_text) × (s.nodes ≡ max_nodes)) }
     {
         let block = width_for(max_text);
+        // What was made is let go of by calls: where it stands it is proved field by field.
         let room = GroupRoom::new(alloc, max_text, max_text / block + 1, max_nodes)?;
-        let any = Table::with_room(alloc, ANY, block + 1, max_nodes)?;
-        let shared = GroupTables::with_room(alloc, block + 1, max_nodes)?;
-        let prepared = Prepared::with_room(alloc, max_nodes)?;
-        let back = Table::with_room(alloc, BACK, block + 1, max_nodes)?;
+        let Ok(any) = Table::with_room(alloc, ANY, block + 1, max_nodes) else {
+            drop(room);
+            return Err(AllocError);
+        };
+        let Ok(shared) = GroupTables::with_room(alloc, block + 1, max_nodes) else {
+            drop((room, any));
+            return Err(AllocError);
+        };
+        let Ok(prepared) = Prepared::with_room(alloc, max_nodes) else {
+            drop((room, any, shared));
+            return Err(AllocError);
+        };
+        let Ok(back) = Table::with_room(alloc, BACK, block + 1, max_nodes) else {
+            drop((room, any, shared, prepared));
+            return Err(AllocError);
+        };
         let desk = Desk {
             room,
             any,
