@@ -62,6 +62,8 @@ fn run_over(row: &Row, expr: &Expr, text: &[u8], from: Option<usize>, report: &m
     run_table(row, expr, 64, text, from, &mut scratch, report);
     run_table(row, expr, 2, text, from, &mut scratch, report);
     run_table(row, expr, 0, text, from, &mut scratch, report);
+    // by a call: what is let go of where it stands is proved field by field
+    drop(scratch);
 }
 
 /// Whether the search for an expression that is used once tells what the row says.
@@ -122,7 +124,6 @@ fn run_table(
     if from.unwrap_or(0) == 0 {
         seek(row, expr, &mut matcher, text, from, scratch, report);
     }
-    // by a call, since letting it go at the end would be proved here field by field
     drop(matcher);
     report.note(" by tables of at most so many states: ", states);
 }
@@ -174,6 +175,7 @@ fn seek(
                 scratch,
             );
             compare(row, from, came, &all, report);
+            drop(seeking);
         }
         Err(_) => report.tell(NO_MEMORY),
     }
