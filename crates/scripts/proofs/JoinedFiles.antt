@@ -14,6 +14,7 @@ use Rattle.sedscript.specs.declared.letters.Verb.{Verb}
 use Rattle.sedscript.specs.declared.letters.Verb.TheVariants.{File, Substitute}
 use Rattle.sedscript.specs.Bytes.{bytes_between}
 use Rattle.sedscript.specs.Targets.{written_in, is_standard_output, is_file, sink_name, name_in, file_in, distinct, files_in, number_in}
+use Rattle.sedscript.proofs.Bounds.{any_more, file_there}
 use Rattle.sedscript.proofs.FileTables.{any_distinct, any_number}
 use Rattle.scripts.specs.InTurn.{Before, sink_behind}
 use Rattle.scripts.specs.OneText.{apart}
@@ -209,18 +210,6 @@ number_behind Write t whole all every b first name e long none h = by_test (is_s
 
 -- ---- the items' files
 
-any_more : (name : List ℕ) (o : Option (List ℕ)) (rest : List (List ℕ)) → list_any (bytes_eq name) rest ≡ true → list_any (bytes_eq name) (cons_option o rest) ≡ true
-any_more name None rest h = h
-any_more name (Some n) rest h = or_true (bytes_eq name n) (list_any (bytes_eq name) rest) h
-  where
-    or_true : (s t : Bool) → t ≡ true → (s || t) ≡ true
-    or_true true t e = refl
-    or_true false t e = e
-
-any_here : (u : FileUse) (name : List ℕ) (rest : List (List ℕ)) → is_file u name ≡ true → list_any (bytes_eq name) (cons_option (file_in u (Some name)) rest) ≡ true
-any_here u name rest h =
-    ap (λ (t : Bool). list_any (bytes_eq name) (cons_option (then_some t name) rest)) h ∙ ap (λ (t : Bool). t || list_any (bytes_eq name) rest) ((bytes_eq-Decides name name).1 refl)
-
 module _ (t : List ℕ) (all : List Item) (whole : List ℕ) (every : List Item) (b : Before) where
   -- each name among these has its number
   abbrev pub Numbers : List Item → Type 0
@@ -231,8 +220,8 @@ module _ (t : List ℕ) (all : List Item) (whole : List ℕ) (every : List Item)
   Counted rest verb a = (u : FileUse) (name : List ℕ) → (is_file u name ≡ true → list_any (bytes_eq name) (cons_option (file_in u (name_in u t verb a)) (of_use u rest)) ≡ true) → NumberOn t all whole every b u name
 
   name_on : (verb : Verb) (a : Argument) (rest : List (List ℕ) × List (List ℕ)) → Counted rest verb a → NameOn t all whole every b verb a
-  name_on (File Read) a rest on = on Read (written_in t a) (λ h. any_here Read (written_in t a) rest.0 h)
-  name_on (File Write) a rest on = on Write (written_in t a) (λ h. any_here Write (written_in t a) rest.1 h)
+  name_on (File Read) a rest on = on Read (written_in t a) (λ h. file_there Read (written_in t a) rest.0 h)
+  name_on (File Write) a rest on = on Write (written_in t a) (λ h. file_there Write (written_in t a) rest.1 h)
   name_on other a rest on = tt
 
   flag_on : (verb : Verb) (a : Argument) (rest : List (List ℕ) × List (List ℕ)) → Follows verb a → Counted rest verb a → FlagOn t all whole every b a
@@ -240,7 +229,7 @@ module _ (t : List ℕ) (all : List Item) (whole : List ℕ) (every : List Item)
     where
       by_flag : (o : Option (List ℕ)) → ((name : List ℕ) → (is_file Write name ≡ true → list_any (bytes_eq name) (cons_option (file_in Write o) rest.1) ≡ true) → NumberOn t all whole every b Write name) → SinkOn t all whole every b o
       by_flag None on = tt
-      by_flag (Some name) on = on name (λ h. any_here Write name rest.1 h)
+      by_flag (Some name) on = on name (λ h. file_there Write name rest.1 h)
   flag_on other (FlaggedPair s e f) rest follows on = absurd follows
   flag_on other a rest follows on = tt
 

@@ -28,6 +28,7 @@ use Rattle.sedscript.specs.Program.{Program}
 use Rattle.sedre.specs.declared.types.Kind.{Kind}
 use Rattle.sedscript.proofs.Chars.{same_bytes}
 use Rattle.sedscript.proofs.Labels.{commands_snoc, counted_in}
+use Rattle.sedscript.proofs.Bounds.{length_with}
 use Rattle.sedscript.proofs.Places.{Each, Follows, ItemsWithin, cut_up_to}
 use Rattle.scripts.specs.InTurn.{Before, address_behind, action_behind, command_behind, substitution_behind, file_behind, sink_behind}
 use Rattle.scripts.proofs.LongerStrings.{NextOn}
@@ -127,10 +128,6 @@ address_same b (Some Last) = refl
 -- what is taken of items, with one item more
 pub taken_snoc : {A : Type 0} (h : Item → Option A) (is : List Item) (i : Item) → length (filter_map h (is ++ i ∷ [])) ≡ length (filter_map h is) + length (cons_option (h i) [])
 taken_snoc h is i = ap (λ xs. length xs) (filter_map-append h is (i ∷ [])) ∙ length-append (filter_map h is) (cons_option (h i) [])
-
-length_with : {A : Type 0} (o : Option A) (xs : List A) → length (cons_option o xs) ≡ length (cons_option o []) + length xs
-length_with None xs = omega arith
-length_with (Some x) xs = omega arith
 
 -- what is taken of an item is counted after it as before it
 taken_on : {A : Type 0} (h : Item → Option A) (is js : List Item) (i : Item) (k : ℕ) → k ≡ length (filter_map h (is ++ i ∷ [])) + length (filter_map h js) → k ≡ length (filter_map h is) + length (filter_map h (i ∷ js))

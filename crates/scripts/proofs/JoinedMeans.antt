@@ -15,7 +15,7 @@ use Rattle.sedscript.specs.declared.types.FileUse.TheVariants.{Read, Write}
 use Rattle.sedscript.specs.declared.items.Item.{Item}
 use Rattle.sedscript.specs.declared.items.Argument.{Argument}
 use Rattle.sedscript.specs.declared.letters.Verb.{Verb}
-use Rattle.sedscript.specs.declared.letters.Verb.TheVariants.{Close, Label, Branch, Comment}
+use Rattle.sedscript.specs.declared.letters.Verb.TheVariants.{Label, Branch}
 use Rattle.sedscript.specs.Bytes.{bytes_between}
 use Rattle.sedscript.specs.Targets.{distinct, files_in, number_in, written_in, becomes_command, commands_in, is_label, label_in, branch_in, target_fault_in, depth_after, target_fault_at}
 use Rattle.sedscript.specs.Script.{CutScript, IsEnd, Means, action_of, command_of, commands_of, texts_of, substitutions_of, tables_of, is_quiet}
@@ -28,22 +28,10 @@ use Rattle.scripts.proofs.NoneBefore.{same_file_number, none_before, same_comman
 use Rattle.scripts.proofs.JoinedCuts.{ItemsIn, same_text, joined_cut}
 use Rattle.scripts.proofs.LongerStrings.{NextOn}
 use Rattle.scripts.proofs.JoinedItems.{all_follow, AllClose, texts_on, tables_on, substitutions_on, Stands, Reaches, commands_on, BranchOn, BranchesOn, FilesOn}
+use Rattle.sedscript.proofs.Bounds.{commands_length}
 use Rattle.sedscript.proofs.FileTables.{any_distinct}
 use Rattle.scripts.proofs.JoinedFiles.{Disjoint, disjoint, distinct_both, file_names, files_of, files_on, names_there, none_distinct, number_behind, number_front}
 use Rattle.scripts.proofs.JoinedFaults.{all_close, none_open, none_named, names, LabelIs, LabelsAre, faults_on, or_parts, parts_of, Passes, leads_somewhere, label_on, label_skip, commands_moved, names_on}
-
--- ---- counts
-
-commands_length : (text : List ℕ) (all before is : List Item) → length (commands_of text all before is) ≡ commands_in is
-commands_length text all before [] = refl
-commands_length text all before (i ∷ is) =
-    leaf i.verb (commands_of text all (before ++ i ∷ []) is) (commands_length text all (before ++ i ∷ []) is)
-  where
-    leaf : (verb : Verb) (cs : List Command) → length cs ≡ commands_in is → length (cons_option (option_map (command_of i.addresses) (action_of text all before is verb i.argument)) cs) ≡ (if becomes_command verb then suc (commands_in is) else commands_in is)
-    leaf Close cs e = e
-    leaf Label cs e = e
-    leaf Comment cs e = e
-    leaf other cs e = ap suc e
 
 -- ---- `#n`
 

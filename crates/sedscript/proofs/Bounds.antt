@@ -109,7 +109,7 @@ with_within : (n : Sizes) (a : Addresses) (o : Option Action) (cs : List Command
 with_within n a None cs h g k = k
 with_within n a (Some x) cs h g k = (record { first = h.0; second = h.1; action = g }, k)
 
-length_with : {A : Type 0} (o : Option A) (xs : List A) → length (cons_option o xs) ≡ length (cons_option o []) + length xs
+pub length_with : {A : Type 0} (o : Option A) (xs : List A) → length (cons_option o xs) ≡ length (cons_option o []) + length xs
 length_with None xs = omega arith
 length_with (Some x) xs = omega arith
 
@@ -146,7 +146,7 @@ leaf_length : (text : List ℕ) (all before after : List Item) (n : ℕ) (a : Ad
 leaf_length text all before after n a Open follows cs h = omega (arith, h)
 leaf_length text all before after n a verb follows cs h = omega (arith, h)
 
-commands_length : (text : List ℕ) (all before is : List Item) → length (commands_of text all before is) ≡ commands_in is
+pub commands_length : (text : List ℕ) (all before is : List Item) → length (commands_of text all before is) ≡ commands_in is
 commands_length text all before [] = refl
 commands_length text all before (i ∷ is) =
     leaf_length text all before is (commands_in is) i.addresses i.verb i.argument (commands_of text all (before ++ i ∷ []) is) (commands_length text all (before ++ i ∷ []) is)
@@ -230,12 +230,12 @@ abbrev Among : FileUse → List ℕ → List Item → List (List ℕ) → Type 0
 Among u text all ns = (name : List ℕ) → list_any (bytes_eq name) ns ≡ true → list_any (bytes_eq name) (files_in u text all) ≡ true
 
 -- a file's name
-file_there : (u : FileUse) (name : List ℕ) (rest : List (List ℕ)) → is_file u name ≡ true → list_any (bytes_eq name) (cons_option (file_in u (Some name)) rest) ≡ true
+pub file_there : (u : FileUse) (name : List ℕ) (rest : List (List ℕ)) → is_file u name ≡ true → list_any (bytes_eq name) (cons_option (file_in u (Some name)) rest) ≡ true
 file_there u name rest h =
     ap (λ (b : Bool). list_any (bytes_eq name) (cons_option (then_some b name) rest)) h
     ∙ ap (λ (b : Bool). b || list_any (bytes_eq name) rest) ((bytes_eq-Decides name name).1 refl)
 
-any_more : (name : List ℕ) (o : Option (List ℕ)) (rest : List (List ℕ)) → list_any (bytes_eq name) rest ≡ true → list_any (bytes_eq name) (cons_option o rest) ≡ true
+pub any_more : (name : List ℕ) (o : Option (List ℕ)) (rest : List (List ℕ)) → list_any (bytes_eq name) rest ≡ true → list_any (bytes_eq name) (cons_option o rest) ≡ true
 any_more name None rest h = h
 any_more name (Some n) rest h = by_same (bytes_eq name n)
   where
