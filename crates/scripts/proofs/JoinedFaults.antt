@@ -1,5 +1,5 @@
 -- Two texts with a newline between them: no label and no block is wrong there if none is in the two.
-use Rattle.std.proofs.Common.{◌⊎◌, inl, inr, not, ◌≡◌, ℕ, zero, suc, ◌+◌, ◌-◌, ◌≤◌, ◌&&◌, ◌||◌, ◌==◌, Bool, true, false, List, [], ◌∷◌, ◌++◌, length, map, Option, Some, None, is_none, is_some, refl, sym, ap, ap₂, subst, ◌∙◌, arith, if◌then◌else◌, slice_get, zero-add, append_assoc, length-append, option_map}
+use Rattle.std.proofs.Common.{not, ◌≡◌, ℕ, zero, suc, ◌+◌, ◌-◌, ◌≤◌, ◌&&◌, ◌||◌, ◌==◌, Bool, true, false, List, [], ◌∷◌, ◌++◌, length, map, Option, Some, None, is_none, is_some, refl, sym, ap, ap₂, subst, ◌∙◌, arith, if◌then◌else◌, slice_get, zero-add, append_assoc, length-append, option_map}
 use Rattle.std.specs.List.{cons_option, list_all, list_any}
 use Rattle.std.specs.Option.{option_or}
 use Rattle.std.specs.Str.{bytes_eq}
@@ -17,7 +17,7 @@ use Rattle.sedscript.specs.declared.items.Argument.TheVariants.{FlaggedPair}
 use Rattle.sedscript.specs.declared.letters.Verb.{Verb}
 use Rattle.sedscript.specs.declared.letters.Verb.TheVariants.{Open, Close, Label, Branch, File, Substitute}
 use Rattle.sedscript.specs.Bytes.{bytes_between}
-use Rattle.sedscript.specs.Targets.{written_in, sink_name, becomes_command, counted, commands_in, is_close, is_label, label_in, branch_in, depth_after, close_in, number_in, fault_if, target_fault_at, target_fault_in}
+use Rattle.sedscript.specs.Targets.{written_in, becomes_command, counted, commands_in, is_close, is_label, label_in, branch_in, depth_after, close_in, number_in, fault_if, target_fault_at, target_fault_in}
 use Rattle.sedscript.specs.Script.{substitution_in, substitutions_of, action_of, command_of, commands_of}
 use Rattle.sedscript.specs.Program.{Program}
 use Rattle.examples.proofs.ComputedEnds.{both}

@@ -1,6 +1,6 @@
 -- What two texts with a newline between them mean.
-use Rattle.std.proofs.Common.{bytes_eq, ◌≡◌, ℕ, suc, ◌+◌, ◌≤◌, ◌&&◌, ◌||◌, ◌==◌, ◌⊎◌, inl, inr, Bool, true, false, List, [], ◌∷◌, ◌++◌, length, map, Option, Some, None, refl, sym, ap, ap₂, subst, ◌∙◌, arith, if◌then◌else◌, option_map}
-use Rattle.std.specs.List.{cons_option, list_all, list_any}
+use Rattle.std.proofs.Common.{bytes_eq, ◌≡◌, ℕ, ◌+◌, ◌≤◌, ◌&&◌, ◌||◌, ◌==◌, ◌⊎◌, inl, inr, Bool, true, false, List, [], ◌∷◌, ◌++◌, length, map, Option, Some, None, refl, sym, ap, ap₂, subst, ◌∙◌, arith}
+use Rattle.std.specs.List.{list_all, list_any}
 use Rattle.std.specs.Prelude.{nat_lt, unwrap_or}
 use Rattle.std.proofs.lemmas.Bool.Decides.{eqb_tells, nat_tests}
 use Rattle.std.proofs.lemmas.List.{append-nil}
@@ -17,8 +17,8 @@ use Rattle.sedscript.specs.declared.items.Argument.{Argument}
 use Rattle.sedscript.specs.declared.letters.Verb.{Verb}
 use Rattle.sedscript.specs.declared.letters.Verb.TheVariants.{Label, Branch}
 use Rattle.sedscript.specs.Bytes.{bytes_between}
-use Rattle.sedscript.specs.Targets.{distinct, files_in, number_in, written_in, becomes_command, commands_in, is_label, label_in, branch_in, target_fault_in, depth_after, target_fault_at}
-use Rattle.sedscript.specs.Script.{CutScript, IsEnd, Means, action_of, command_of, commands_of, texts_of, substitutions_of, tables_of, is_quiet}
+use Rattle.sedscript.specs.Targets.{distinct, files_in, number_in, written_in, commands_in, is_label, label_in, branch_in, target_fault_in, depth_after, target_fault_at}
+use Rattle.sedscript.specs.Script.{CutScript, IsEnd, Means, action_of, commands_of, texts_of, substitutions_of, tables_of, is_quiet}
 use Rattle.sedscript.specs.Program.{Program}
 use Rattle.scripts.specs.InTurn.{all_of, command_behind, substitution_behind, in_turn}
 use Rattle.scripts.specs.OneText.{leads_inside, EachLeadsInside, ShareNoFile, apart as apart_names, ShareNoLabel}

@@ -16,7 +16,6 @@ use Rattle.sedscript.specs.Types.{Verb, Open, Branch, File, Substitute, Translit
 use Rattle.sedscript.specs.declared.items.Addresses.{Addresses}
 use Rattle.sedscript.specs.declared.items.Item.{Item}
 use Rattle.sedscript.specs.declared.items.ItemOrEnd.TheVariants.{Is}
-use Rattle.sedscript.specs.Bytes.{bytes_between}
 use Rattle.sedscript.specs.Functions.{◌>>=◌ as ◌then◌}
 use Rattle.sedscript.specs.Strings.{counterpart, table_of}
 use Rattle.sedscript.specs.Items.{item_at, Reading}

@@ -33,7 +33,7 @@ use Rattle.sedscript.specs.Strings.{escapes, string_end, Piece, group, escaped_p
 use Rattle.sedscript.specs.Functions.{or_fault, ended, may_end, text_end, text_from, name_from, spanned, ◌>>=◌ as ◌then◌}
 use Rattle.sedscript.specs.Between.{no_flags, numbered, with_number, with_flag, flags_from, own_delimiter, strings_after, substitute_strings, transliterate_strings, unless_fault, flags_after, with_file, ends_flags}
 use Rattle.sedscript.specs.Items.{Reading, plainly, expression, ◌>>=◌, Addressed, Headed, with_addresses, line_of, folds_at, past_flag, match_at, own_match, address_of, address_at, with_second, second_at, after_first, addresses_at, with_bang, substitute_with, substitute_at, argument_with, function_at, item_from, item_at, item_of, match_to, function_after, item_with}
-use Rattle.sedscript.specs.Letters.{verb_of, most_addresses, allowed, name_at, label_at, transliterate_at, substituted, argument_of}
+use Rattle.sedscript.specs.Letters.{verb_of, most_addresses, allowed, label_at, transliterate_at, substituted, argument_of}
 use Rattle.sedscript.specs.Script.{Gives, value, after_expression, CutScript, done, item}
 use Rattle.sedscript.specs.FirstFault.{Fails, own, no_expression, later, Faulty, early, afterwards}
 use Rattle.sedscript.specs.Targets.{fault_if, target_fault_at, target_fault_in, depth_after, block_end, written_in, branch_in, label_in}

@@ -1,6 +1,6 @@
 //! What follows the letters of functions: texts and names, and the end of a command.
 
-ghost use Rattle.std.specs.Prelude.{◌≡◌, ◌≤◌, ◌<◌, ◌+◌, length, IfOk, IfSome};
+ghost use Rattle.std.specs.Prelude.{◌≡◌, ◌≤◌, ◌<◌, length, IfOk, IfSome};
 ghost use Rattle.sedscript.specs.Bytes.{past};
 ghost use Rattle.sedscript.specs.Functions.{may_end, ended, name_from, spanned};
 
