@@ -9,7 +9,8 @@ use Rattle.sedscript.specs.declared.bytes.Sort.TheVariants.{Separator, Blank}
 use Rattle.sedscript.specs.declared.types.Action.TheVariants.{Block}
 use Rattle.sedscript.specs.declared.types.Command.{Command}
 use Rattle.sedscript.specs.declared.types.FileUse.TheVariants.{Read, Write}
-use Rattle.sedscript.specs.declared.items.Function.TheVariants.{Close}
+use Rattle.sedscript.specs.declared.letters.Verb.TheVariants.{Close}
+use Rattle.sedscript.specs.declared.items.Argument.TheVariants.{Nothing}
 use Rattle.sedscript.specs.declared.items.ItemOrEnd.{ItemOrEnd}
 use Rattle.sedscript.specs.declared.items.ItemOrEnd.TheVariants.{Is}
 use Rattle.sedscript.specs.declared.items.Item.{Item}
@@ -24,7 +25,7 @@ use Rattle.examples.proofs.ScriptWords.{always}
 
 -- a closing brace
 abbrev closing : ℕ → Item
-closing place = record { addresses = addresses_of None None; place = place; function = Close }
+closing place = record { addresses = addresses_of None None; place = place; verb = Close; argument = Nothing }
 
 -- so many of them, one after the other from a place on
 abbrev closings : ℕ → ℕ → List Item
@@ -157,9 +158,9 @@ blocks_well text all before (suc k) n depth at to e =
 
 commands-snoc : (before : List Item) (at : ℕ) → commands_in (before ++ opening at ∷ []) ≡ suc (commands_in before)
 commands-snoc [] at = refl
-commands-snoc (i ∷ is) at = by_kind (becomes_command i.function) refl (commands-snoc is at)
+commands-snoc (i ∷ is) at = by_kind (becomes_command i.verb) refl (commands-snoc is at)
   where
-    by_kind : (b : Bool) → becomes_command i.function ≡ b → commands_in (is ++ opening at ∷ []) ≡ suc (commands_in is) → commands_in (i ∷ is ++ opening at ∷ []) ≡ suc (commands_in (i ∷ is))
+    by_kind : (b : Bool) → becomes_command i.verb ≡ b → commands_in (is ++ opening at ∷ []) ≡ suc (commands_in is) → commands_in (i ∷ is ++ opening at ∷ []) ≡ suc (commands_in (i ∷ is))
     by_kind true e h = rw e (ap suc h)
     by_kind false e h = rw e h
 

@@ -12,7 +12,8 @@ use Rattle.sedscript.specs.declared.types.Reason.TheVariants.{OpenBlock}
 use Rattle.sedscript.specs.declared.items.Item.{Item}
 use Rattle.sedscript.specs.declared.items.ItemOrEnd.{ItemOrEnd}
 use Rattle.sedscript.specs.declared.items.ItemOrEnd.TheVariants.{Is}
-use Rattle.sedscript.specs.declared.items.Function.TheVariants.{Open}
+use Rattle.sedscript.specs.declared.letters.Verb.TheVariants.{Open}
+use Rattle.sedscript.specs.declared.items.Argument.TheVariants.{Nothing}
 use Rattle.sedscript.specs.Items.{Headed, address_at, addresses_at, addresses_of, with_bang, function_at, item_at, Reading, plainly}
 use Rattle.sedscript.specs.Bytes.{belongs, past}
 use Rattle.sedscript.specs.Script.{Gives, value, CutScript, done, item, IsEnd}
@@ -22,7 +23,7 @@ use Rattle.examples.proofs.ScriptWords.{fault_at}
 
 -- an opening brace without addresses
 abbrev pub opening : ℕ → Item
-opening place = record { addresses = addresses_of None None; place = place; function = Open }
+opening place = record { addresses = addresses_of None None; place = place; verb = Open; argument = Nothing }
 
 -- so many of them, one after the other from a place on
 abbrev pub openings : ℕ → ℕ → List Item

@@ -5,13 +5,13 @@ use Rattle.std.proofs.lemmas.Option.{slice_get_within}
 use Rattle.sedscript.specs.declared.types.ScriptFault.{ScriptFault}
 use Rattle.sedscript.specs.declared.types.Reason.TheVariants.{MissingText}
 use Rattle.sedscript.specs.declared.bytes.Sort.TheVariants.{Blank}
-use Rattle.sedscript.specs.declared.items.Function.{Function}
+use Rattle.sedscript.specs.declared.items.Argument.{Argument}
 use Rattle.sedscript.specs.declared.types.TextUse.{TextUse}
-use Rattle.sedscript.specs.declared.letters.Arguments.TheVariants.{TakesText}
+use Rattle.sedscript.specs.declared.letters.Verb.TheVariants.{Text}
 use Rattle.sedscript.specs.declared.texts.Inside.TheVariants.{InLine, Escape, Due}
 use Rattle.sedscript.specs.Bytes.{past, is_byte}
-use Rattle.sedscript.specs.Functions.{fault, text_end, text_from, text_of}
-use Rattle.sedscript.specs.Letters.{function_of}
+use Rattle.sedscript.specs.Functions.{fault, text_end, text_from, spanned as found_at}
+use Rattle.sedscript.specs.Letters.{argument_of}
 use Rattle.examples.specs.Backslashes.{NoneUnescaped}
 use Rattle.examples.specs.Texts.{EndsInBackslash, HasNoText}
 use Rattle.examples.proofs.BackslashLemmas.{next, Free, free_between, between_free, get_drop, same_byte, behind, onto, not_first, escaped_first, even_again, even_plain, backslash_here}
@@ -271,18 +271,18 @@ nothing_there script from (inr (inr u)) = by_form (is_byte 92 (slice_get script 
     by_form false h = by_line (unwrap_or (slice_get script from) 10 == 10)
 
 abbrev Found : Type 0
-Found = Result (Function × ℕ) ScriptFault
+Found = Result (Argument × ℕ) ScriptFault
 
 pub text_missing : (script : List ℕ) (at : ℕ) (t : TextUse) →
-    ((f : ScriptFault) → function_of script (TakesText t) at ≡ Err f → (f.place ≡ at) × (f.reason ≡ MissingText) × HasNoText script (past Blank script (at + 1)))
-    × (HasNoText script (past Blank script (at + 1)) → function_of script (TakesText t) at ≡ fault MissingText at)
-text_missing script at t = (refused, λ h. ap (text_of t at) (nothing_there script (past Blank script (at + 1)) h))
+    ((f : ScriptFault) → argument_of script (Text t) at ≡ Err f → (f.place ≡ at) × (f.reason ≡ MissingText) × HasNoText script (past Blank script (at + 1)))
+    × (HasNoText script (past Blank script (at + 1)) → argument_of script (Text t) at ≡ fault MissingText at)
+text_missing script at t = (refused, λ h. ap (found_at MissingText at) (nothing_there script (past Blank script (at + 1)) h))
   where
-    by_span : (f : ScriptFault) (o : Option (ℕ × ℕ)) → text_from script (past Blank script (at + 1)) ≡ o → text_of t at o ≡ Err f → (f.place ≡ at) × (f.reason ≡ MissingText) × HasNoText script (past Blank script (at + 1))
+    by_span : (f : ScriptFault) (o : Option (ℕ × ℕ)) → text_from script (past Blank script (at + 1)) ≡ o → found_at MissingText at o ≡ Err f → (f.place ≡ at) × (f.reason ≡ MissingText) × HasNoText script (past Blank script (at + 1))
     by_span f None is e =
         let same : ◌≡◌ {A = ScriptFault} (record { place = at; reason = MissingText }) f = cc in
         (sym (ap (λ (x : ScriptFault). x.place) same), sym (ap (λ (x : ScriptFault). x.reason) same), none_there script (past Blank script (at + 1)) is)
     by_span f (Some span) is e = absurd cc
 
-    refused : (f : ScriptFault) → function_of script (TakesText t) at ≡ Err f → (f.place ≡ at) × (f.reason ≡ MissingText) × HasNoText script (past Blank script (at + 1))
+    refused : (f : ScriptFault) → argument_of script (Text t) at ≡ Err f → (f.place ≡ at) × (f.reason ≡ MissingText) × HasNoText script (past Blank script (at + 1))
     refused f e = by_span f (text_from script (past Blank script (at + 1))) refl e

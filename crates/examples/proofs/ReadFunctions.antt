@@ -10,30 +10,27 @@ use Rattle.sedre.specs.Brackets.{delimiter_at}
 use Rattle.sedscript.specs.declared.bytes.Sort.TheVariants.{Blank, Name, Digit, Separator}
 use Rattle.sedscript.specs.declared.types.ScriptFault.{ScriptFault}
 use Rattle.sedscript.specs.declared.types.Reason.{Reason}
-use Rattle.sedscript.specs.declared.types.Reason.TheVariants.{OpenDelimiter, RepeatedByte, MissingText, BadEscape, LengthsDiffer, GroupAbsent, OpenBlock, StrayClose, UnknownLabel, RepeatedLabel}
+use Rattle.sedscript.specs.declared.types.Reason.TheVariants.{OpenDelimiter, RepeatedByte, MissingText, BadEscape, LengthsDiffer, GroupAbsent, OpenBlock, StrayClose, UnknownLabel, RepeatedLabel, MissingName}
 use Rattle.sedscript.specs.declared.types.Address.{Address}
 use Rattle.sedscript.specs.declared.types.TextUse.{TextUse}
 use Rattle.sedscript.specs.declared.types.TextUse.TheVariants.{Append, Insert, Change}
-use Rattle.sedscript.specs.declared.types.FileUse.{FileUse}
 use Rattle.sedscript.specs.declared.items.Strings.{Strings}
 use Rattle.sedscript.specs.declared.items.Flags.{Flags}
-use Rattle.sedscript.specs.declared.items.Function.{Function}
-use Rattle.sedscript.specs.declared.items.Function.TheVariants.{Plain, Open, Close, Label, Branch, Substitute, Transliterate}
+use Rattle.sedscript.specs.declared.items.Argument.{Argument}
+use Rattle.sedscript.specs.declared.items.Argument.TheVariants.{Between, FlaggedPair, Nothing, Pair}
 use Rattle.sedscript.specs.declared.items.Addresses.{Addresses}
 use Rattle.sedscript.specs.declared.items.Item.{Item}
 use Rattle.sedscript.specs.declared.items.ItemOrEnd.{ItemOrEnd}
 use Rattle.sedscript.specs.declared.items.ItemOrEnd.TheVariants.{Is, Ends}
 use Rattle.sedscript.specs.declared.letters.Verb.{Verb}
-use Rattle.sedscript.specs.declared.letters.Verb.TheVariants.{ReadsExpression, Reads}
-use Rattle.sedscript.specs.declared.letters.Arguments.{Arguments}
-use Rattle.sedscript.specs.declared.letters.Arguments.TheVariants.{Alone, OpensBlock, ClosesBlock, Remark, NamesLabel, GoesTo, TakesText, NamesFile, TakesStrings}
+use Rattle.sedscript.specs.declared.letters.Verb.TheVariants.{Branch, Close, Comment, File, Label, Open, Substitute, Text, Transliterate}
 use Rattle.sedscript.specs.Bytes.{past, bytes_between, is_digit, is_byte, with_digits}
 use Rattle.sedscript.specs.Strings.{string_end, exceeds, replacement_fault, is_letter, chars_of, repeated_in, string_fault, strings_fault, repeated_fault}
-use Rattle.sedscript.specs.Items.{Reading, plainly, expression, ◌>>=◌, Addressed, line_of, folds_at, match_at, own_match, address_of, address_at, with_second, second_at, after_first, addresses_at, with_bang, substitute_with, substitute_at, function_with, function_at, item_from, item_at, match_to, function_after, item_with, item_of}
-use Rattle.sedscript.specs.Functions.{or_fault, ended, may_end, text_of, text_from, file_of, name_from, ◌>>=◌ as ◌then◌}
+use Rattle.sedscript.specs.Items.{Reading, plainly, expression, ◌>>=◌, Addressed, line_of, folds_at, match_at, own_match, address_of, address_at, with_second, second_at, after_first, addresses_at, with_bang, substitute_with, substitute_at, argument_with, function_at, item_from, item_at, match_to, function_after, item_with, item_of}
+use Rattle.sedscript.specs.Functions.{or_fault, ended, may_end, text_from, name_from, spanned, ◌>>=◌ as ◌then◌}
 use Rattle.sedscript.specs.Between.{no_flags, numbered, with_number, with_flag, flags_from, own_delimiter, strings_after, substitute_strings, transliterate_strings, unless_fault, flags_after, with_file, ends_flags, folds}
-use Rattle.sedscript.specs.Letters.{function_of, allowed, verb_of, most_addresses, transliterate_at, substituted}
-use Rattle.sedscript.specs.Targets.{fault_if, label_in, block_end, depth_after, target_fault_at, target_fault_in, target_fault}
+use Rattle.sedscript.specs.Letters.{argument_of, allowed, verb_of, most_addresses, transliterate_at, substituted}
+use Rattle.sedscript.specs.Targets.{fault_if, written_in, branch_in, label_in, block_end, depth_after, target_fault_at, target_fault_in, target_fault}
 use Rattle.sedscript.specs.Script.{Gives, value, after_expression, IsRead, CutScript, done, item, Means, IsEnd}
 use Rattle.sedscript.specs.FirstFault.{Fails, Faulty, own, no_expression, later, early, afterwards}
 use Rattle.sedscript.specs.Program.{Program}
@@ -90,7 +87,7 @@ OfTargetsIf (Some f) = OfTargets f.reason
 
 targets_in : (text : List ℕ) (all before : List Item) (d : ℕ) (is : List Item) → OfTargetsIf (target_fault_in text all before d is)
 targets_in text all before d [] = tt
-targets_in text all before d (i ∷ is) = first (target_fault_at text all before d is i.place i.function) _ (by_function i.function) (targets_in text all (before ++ i ∷ []) (depth_after d i.function) is)
+targets_in text all before d (i ∷ is) = first (target_fault_at text all before d is i.place i.verb i.argument) _ (by_verb i.verb) (targets_in text all (before ++ i ∷ []) (depth_after d i.verb) is)
   where
     first : (x y : Option ScriptFault) → OfTargetsIf x → OfTargetsIf y → OfTargetsIf (option_or x y)
     first None y h g = g
@@ -100,12 +97,12 @@ targets_in text all before d (i ∷ is) = first (target_fault_at text all before
     by_test true r h = h
     by_test false r h = tt
 
-    by_function : (f : Function) → OfTargetsIf (target_fault_at text all before d is i.place f)
-    by_function Open = by_test (is_none (block_end before is)) OpenBlock tt
-    by_function Close = by_test (d == 0) StrayClose tt
-    by_function (Label from to) = by_test (is_some (label_in text (bytes_between text from to) 0 before)) RepeatedLabel tt
-    by_function (Branch u from to) = by_test (not (from == to) && is_none (label_in text (bytes_between text from to) 0 all)) UnknownLabel tt
-    by_function f = tt
+    by_verb : (verb : Verb) → OfTargetsIf (target_fault_at text all before d is i.place verb i.argument)
+    by_verb Open = by_test (is_none (block_end before is)) OpenBlock tt
+    by_verb Close = by_test (d == 0) StrayClose tt
+    by_verb Label = by_test (is_some (label_in text (written_in text i.argument) 0 before)) RepeatedLabel tt
+    by_verb (Branch u) = by_test (is_none (branch_in text all (written_in text i.argument))) UnknownLabel tt
+    by_verb verb = tt
 
 targets_reason : (text : List ℕ) (items : List Item) (f : ScriptFault) → target_fault text items ≡ Some f → OfTargets f.reason
 targets_reason text items f e = subst OfTargetsIf e (targets_in text items [] 0 items)
@@ -270,15 +267,15 @@ module _ (kind : Kind) (max_nodes : ℕ) (text : List ℕ) where
   -- ---- functions
 
   -- what is so of a `y` and of an `s`
-  abbrev Sound : Function → Type 0
-  Sound (Transliterate s) = Pairs text s × NoneWrong text s
-  Sound (Substitute s e f) = (groups : Option ℕ) × HasGroups kind max_nodes text s groups × FirstWrong (wrong_in_replacement s.delimiter groups) text (s.middle + 1) s.to None
+  abbrev Sound : Argument → Type 0
+  Sound (Pair s) = Pairs text s × NoneWrong text s
+  Sound (FlaggedPair s e f) = (groups : Option ℕ) × HasGroups kind max_nodes text s groups × FirstWrong (wrong_in_replacement s.delimiter groups) text (s.middle + 1) s.to None
   Sound differs = Unit {0}
 
-  abbrev SoundFound : Function × ℕ → Type 0
+  abbrev SoundFound : Argument × ℕ → Type 0
   SoundFound x = Sound x.0
 
-  ended_walk : (f : Function) (at : ℕ) → Sound f → Walk SoundFound (ended text f at)
+  ended_walk : (f : Argument) (at : ℕ) → Sound f → Walk SoundFound (ended text f at)
   ended_walk f at h = walk_if SoundFound (may_end (slice_get text (past Blank text at))) _ _ h tt
 
   -- the second string, where it ends
@@ -333,37 +330,36 @@ module _ (kind : Kind) (max_nodes : ℕ) (text : List ℕ) where
   unfolding transliterate_at
   transliterate_walk at letter =
       walk_then (λ (s : Strings). transliterate_strings text (at + 1) (own_delimiter (slice_get text (at + 1))) ≡ Ok s) SoundFound (transliterate_strings text (at + 1) (own_delimiter (slice_get text (at + 1))))
-      (λ (s : Strings). unless_fault (strings_fault text s.delimiter at s.from s.middle s.to) (ended text (Transliterate s) (s.to + 1)))
+      (λ (s : Strings). unless_fault (strings_fault text s.delimiter at s.from s.middle s.to) (ended text (Pair s) (s.to + 1)))
       (walk_read (transliterate_strings text (at + 1) (own_delimiter (slice_get text (at + 1)))) (transliterate_strings_walk (at + 1) (own_delimiter (slice_get text (at + 1)))))
-      (λ s is. walk_unless SoundFound (strings_fault text s.delimiter at s.from s.middle s.to) (ended text (Transliterate s) (s.to + 1)) (strings_told at s (letter, is))
-      (λ none. ended_walk (Transliterate s) (s.to + 1) (pairs text at s none, none_wrong text at s none)))
+      (λ s is. walk_unless SoundFound (strings_fault text s.delimiter at s.from s.middle s.to) (ended text (Pair s) (s.to + 1)) (strings_told at s (letter, is))
+      (λ none. ended_walk (Pair s) (s.to + 1) (pairs text at s none, none_wrong text at s none)))
 
-  letter_of_text : (u : TextUse) (letter : ℕ) → verb_of letter ≡ Some (Reads (TakesText u)) → letter ≡ letter_of u
+  letter_of_text : (u : TextUse) (letter : ℕ) → verb_of letter ≡ Some (Text u) → letter ≡ letter_of u
   letter_of_text Append letter e = grind (arith, nat_tests)
   letter_of_text Insert letter e = grind (arith, nat_tests)
   letter_of_text Change letter e = grind (arith, nat_tests)
 
-  text_walk : (u : TextUse) (at : ℕ) (o : Option (ℕ × ℕ)) → slice_get text at ≡ Some (letter_of u) → text_from text (past Blank text (at + 1)) ≡ o → Walk SoundFound (text_of u at o)
+  text_walk : (u : TextUse) (at : ℕ) (o : Option (ℕ × ℕ)) → slice_get text at ≡ Some (letter_of u) → text_from text (past Blank text (at + 1)) ≡ o → Walk SoundFound (spanned MissingText at o)
   text_walk u at None letter e = (u, letter, none_there text (past Blank text (at + 1)) e)
   text_walk u at (Some span) letter e = tt
 
-  file_walk : (u : FileUse) (at : ℕ) (o : Option (ℕ × ℕ)) → Walk SoundFound (file_of u at o)
-  file_walk u at None = tt
-  file_walk u at (Some name) = tt
+  file_walk : (at : ℕ) (o : Option (ℕ × ℕ)) → Walk SoundFound (spanned MissingName at o)
+  file_walk at None = tt
+  file_walk at (Some name) = tt
 
-  letter_of_strings : (letter : ℕ) → verb_of letter ≡ Some (Reads TakesStrings) → letter ≡ 121
+  letter_of_strings : (letter : ℕ) → verb_of letter ≡ Some Transliterate → letter ≡ 121
   letter_of_strings letter e = grind (arith, nat_tests)
 
-  function_walk : (shape : Arguments) (at letter : ℕ) → slice_get text at ≡ Some letter → verb_of letter ≡ Some (Reads shape) → Walk SoundFound (function_of text shape at)
-  function_walk OpensBlock at letter there is = tt
-  function_walk ClosesBlock at letter there is = ended_walk Close (at + 1) tt
-  function_walk Remark at letter there is = tt
-  function_walk NamesLabel at letter there is = walk_if SoundFound (past Name text (past Blank text (at + 1)) == past Blank text (at + 1)) _ _ tt (ended_walk (Label _ _) _ tt)
-  function_walk (GoesTo u) at letter there is = ended_walk (Branch u _ _) _ tt
-  function_walk (TakesText u) at letter there is = text_walk u at (text_from text (past Blank text (at + 1))) (there ∙ ap (λ (b : ℕ). Some b) (letter_of_text u letter is)) refl
-  function_walk (NamesFile u) at letter there is = file_walk u at (name_from text (at + 1))
-  function_walk TakesStrings at letter there is = transliterate_walk at (there ∙ ap (λ (b : ℕ). Some b) (letter_of_strings letter is))
-  function_walk (Alone s) at letter there is = ended_walk (Plain s) (at + 1) tt
+  argument_walk : (verb : Verb) (at letter : ℕ) → slice_get text at ≡ Some letter → verb_of letter ≡ Some verb → Walk SoundFound (argument_of text verb at)
+  argument_walk Open at letter there is = tt
+  argument_walk Comment at letter there is = tt
+  argument_walk Label at letter there is = walk_if SoundFound (past Name text (past Blank text (at + 1)) == past Blank text (at + 1)) _ _ tt (ended_walk (Between _ _) _ tt)
+  argument_walk (Branch u) at letter there is = ended_walk (Between _ _) _ tt
+  argument_walk (Text u) at letter there is = text_walk u at (text_from text (past Blank text (at + 1))) (there ∙ ap (λ (b : ℕ). Some b) (letter_of_text u letter is)) refl
+  argument_walk (File u) at letter there is = file_walk at (name_from text (at + 1))
+  argument_walk Transliterate at letter there is = transliterate_walk at (there ∙ ap (λ (b : ℕ). Some b) (letter_of_strings letter is))
+  argument_walk verb at letter there is = ended_walk Nothing (at + 1) tt
 
   substituted_walk : (at : ℕ) (s : Strings) (e groups : Option ℕ) → IsSubstitute text at s → HasGroups kind max_nodes text s groups → Walk SoundFound (substituted text s e groups)
   unfolding substituted
@@ -371,9 +367,9 @@ module _ (kind : Kind) (max_nodes : ℕ) (text : List ℕ) where
       walk_unless SoundFound (replacement_fault s.delimiter groups false (s.middle + 1) (bytes_between text (s.middle + 1) s.to)) _
       (escape_told (wrong_in_replacement s.delimiter groups) (s.middle + 1) s.to _ (replacement_reason s.delimiter groups) (λ f h. in_replacement at s groups there has h)
       (replacement_fault_first text s.delimiter groups (s.middle + 1) s.to))
-      (λ none. walk_then Any SoundFound (flags_after text s (not (is_some e))) (λ (found : Flags × ℕ). ended text (Substitute s e found.0) found.1)
+      (λ none. walk_then Any SoundFound (flags_after text s (not (is_some e))) (λ (found : Flags × ℕ). ended text (FlaggedPair s e found.0) found.1)
       (flags_walk (not (is_some e)) no_flags 0 (s.to + 1) (drop (s.to + 1) text))
-      (λ found h. ended_walk (Substitute s e found.0) found.1
+      (λ found h. ended_walk (FlaggedPair s e found.0) found.1
       (groups, has, subst (FirstWrong (wrong_in_replacement s.delimiter groups) text (s.middle + 1) s.to) none (replacement_fault_first text s.delimiter groups (s.middle + 1) s.to))))
 
   substitute_walk : (count at : ℕ) → slice_get text at ≡ Some 115 → Walks SoundFound (substitute_at text count at)
@@ -393,7 +389,7 @@ module _ (kind : Kind) (max_nodes : ℕ) (text : List ℕ) where
   -- ---- items
 
   abbrev SoundHere : ItemOrEnd → Type 0
-  SoundHere (Is i next) = Sound i.function
+  SoundHere (Is i next) = Sound i.argument
   SoundHere Ends = Unit {0}
 
   allowed_walk : (a : Addresses) (at : ℕ) (o : Option Verb) → Walk (λ (verb : Verb). o ≡ Some verb) (allowed a at o)
@@ -402,12 +398,12 @@ module _ (kind : Kind) (max_nodes : ℕ) (text : List ℕ) where
       walk_if (λ (v : Verb). Some verb ≡ Some v) (a.negate && most_addresses verb == 0) _ _ tt
       (walk_if (λ (v : Verb). Some verb ≡ Some v) (nat_lt (most_addresses verb) (option_len a.first + option_len a.second)) _ _ tt refl)
 
-  letter_of_substitute : (letter : ℕ) → verb_of letter ≡ Some ReadsExpression → letter ≡ 115
+  letter_of_substitute : (letter : ℕ) → verb_of letter ≡ Some Substitute → letter ≡ 115
   letter_of_substitute letter e = grind (arith, nat_tests)
 
-  verb_walk : (count : ℕ) (verb : Verb) (at letter : ℕ) → slice_get text at ≡ Some letter → verb_of letter ≡ Some verb → Walks SoundFound (function_with text count verb at)
-  verb_walk count ReadsExpression at letter there is = substitute_walk count at (there ∙ ap (λ (b : ℕ). Some b) (letter_of_substitute letter is))
-  verb_walk count (Reads shape) at letter there is = function_walk shape at letter there is
+  verb_walk : (count : ℕ) (verb : Verb) (at letter : ℕ) → slice_get text at ≡ Some letter → verb_of letter ≡ Some verb → Walks SoundFound (argument_with text count verb at)
+  verb_walk count Substitute at letter there is = substitute_walk count at (there ∙ ap (λ (b : ℕ). Some b) (letter_of_substitute letter is))
+  verb_walk count verb at letter there is = argument_walk verb at letter there is
 
   here_walk : (count at : ℕ) (a : Addresses) → Walks SoundHere (function_at text count a at)
   unfolding function_at
@@ -417,9 +413,9 @@ module _ (kind : Kind) (max_nodes : ℕ) (text : List ℕ) where
       by_letter None e = tt
       by_letter (Some letter) e =
           walks_then (λ (verb : Verb). verb_of letter ≡ Some verb) SoundHere (plainly (allowed a at (verb_of letter)))
-          (λ (verb : Verb). function_with text count verb at >>= λ (found : Function × ℕ). plainly (Ok (item_of a at found)))
+          (λ (verb : Verb). argument_with text count verb at >>= λ (found : Argument × ℕ). plainly (Ok (item_of a at verb found)))
           (allowed_walk a at (verb_of letter))
-          (λ verb is. walks_then SoundFound SoundHere (function_with text count verb at) (λ (found : Function × ℕ). plainly (Ok (item_of a at found))) (verb_walk count verb at letter e is) (λ x h. h))
+          (λ verb is. walks_then SoundFound SoundHere (argument_with text count verb at) (λ (found : Argument × ℕ). plainly (Ok (item_of a at verb found))) (verb_walk count verb at letter e is) (λ x h. h))
 
   item_walk : (count at : ℕ) → Walks SoundHere (item_at text count at)
   unfolding item_at
@@ -431,14 +427,14 @@ module _ (kind : Kind) (max_nodes : ℕ) (text : List ℕ) where
           walks_then Any SoundHere (addresses_at text count (past Separator text at)) (function_after text) (addresses_walk count (past Separator text at))
           (λ h any. here_walk h.count (with_bang text h).at (with_bang text h).addresses)
 
-  all_sound : (count at to : ℕ) (is : List Item) (es : List WrittenExpression) → CutScript text kind max_nodes count at is es to → (k : ℕ) (i : Item) → slice_get is k ≡ Some i → Sound i.function
+  all_sound : (count at to : ℕ) (is : List Item) (es : List WrittenExpression) → CutScript text kind max_nodes count at is es to → (k : ℕ) (i : Item) → slice_get is k ≡ Some i → Sound i.argument
   all_sound count at to _ _ done k i e = let no : ◌≡◌ {A = Option Item} None (Some i) = e in absurd cc
   all_sound count at to _ _ (item {next = next} {i = i} {is = is} es fs given rest) zero j e =
       let same : i ≡ j = cc in
-      subst (λ (x : Item). Sound x.function) same (gives_so SoundHere (item_at text count at) es (Is i next) given (item_walk count at))
+      subst (λ (x : Item). Sound x.argument) same (gives_so SoundHere (item_at text count at) es (Is i next) given (item_walk count at))
   all_sound count at to _ _ (item {next = next} {i = i} {is = is} es fs given rest) (suc k) j e = all_sound (count + length es) next to is fs rest k j e
 
-  sound_at : (script : Program) (means : Means text kind max_nodes script) (k : ℕ) (i : Item) (f : Function) → slice_get means.items k ≡ Some i → i.function ≡ f → Sound f
+  sound_at : (script : Program) (means : Means text kind max_nodes script) (k : ℕ) (i : Item) (f : Argument) → slice_get means.items k ≡ Some i → i.argument ≡ f → Sound f
   sound_at script means k i f at is = subst Sound is (all_sound 0 0 means.to means.items script.expressions means.judged.cut k i at)
 
   -- ---- faults
@@ -450,14 +446,14 @@ module _ (kind : Kind) (max_nodes : ℕ) (text : List ℕ) where
   told_of f r (early items es to cut bad) is never = subst (By f.place) is (told_early items es to f bad)
   told_of f r (afterwards items es to cut ends found) is never = absurd (never (subst OfTargets is (targets_reason text items f found)))
 
-  pub strings_accepted : (script : Program) (means : Means text kind max_nodes script) (k : ℕ) (i : Item) (s : Strings) → slice_get means.items k ≡ Some i → i.function ≡ Transliterate s → Pairs text s
-  strings_accepted script means k i s at is = (sound_at script means k i (Transliterate s) at is).0
+  pub strings_accepted : (script : Program) (means : Means text kind max_nodes script) (k : ℕ) (i : Item) (s : Strings) → slice_get means.items k ≡ Some i → i.argument ≡ Pair s → Pairs text s
+  strings_accepted script means k i s at is = (sound_at script means k i (Pair s) at is).0
 
   pub escapes_accepted : (script : Program) (means : Means text kind max_nodes script) (k : ℕ) (i : Item) → slice_get means.items k ≡ Some i →
-      ((s : Strings) → i.function ≡ Transliterate s → NoneWrong text s)
-      × ((s : Strings) (e : Option ℕ) (f : Flags) → i.function ≡ Substitute s e f →
+      ((s : Strings) → i.argument ≡ Pair s → NoneWrong text s)
+      × ((s : Strings) (e : Option ℕ) (f : Flags) → i.argument ≡ FlaggedPair s e f →
       (groups : Option ℕ) × HasGroups kind max_nodes text s groups × FirstWrong (wrong_in_replacement s.delimiter groups) text (s.middle + 1) s.to None)
-  escapes_accepted script means k i at = (λ s is. (sound_at script means k i (Transliterate s) at is).1, λ s e f is. sound_at script means k i (Substitute s e f) at is)
+  escapes_accepted script means k i at = (λ s is. (sound_at script means k i (Pair s) at is).1, λ s e f is. sound_at script means k i (FlaggedPair s e f) at is)
 
   pub repeated_byte : (f : ScriptFault) → Faulty text kind max_nodes f → f.reason ≡ RepeatedByte → By f.place RepeatedByte
   repeated_byte f bad is = told_of f RepeatedByte bad is (λ no. no)

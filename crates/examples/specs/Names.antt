@@ -2,12 +2,12 @@
 use Rattle.std.specs.Prelude.{◌≡◌, ◌≤◌, ◌<◌, ℕ, List, Some, slice_get, filter_map}
 use Rattle.sedscript.specs.declared.types.FileUse.{FileUse}
 use Rattle.sedscript.specs.declared.items.Item.{Item}
-use Rattle.sedscript.specs.Targets.{file_at, name_in}
+use Rattle.sedscript.specs.Targets.{file_in, name_in}
 
 -- the names of files that the items read, or write, one after the other. That of the standard output isn't a file's,
 -- where it is written to
 abbrev pub names_of : FileUse → List ℕ → List Item → List (List ℕ)
-names_of u text items = filter_map (λ i. file_at u text (name_in u i.function)) items
+names_of u text items = filter_map (λ i. file_in u (name_in u text i.verb i.argument)) items
 
 -- a name stands among these before another one does
 abbrev pub StandsBefore : List (List ℕ) → List ℕ → List ℕ → Type 0

@@ -11,15 +11,15 @@ ghost use Rattle.sedscript.specs.declared.types.Reason.TheVariants.{MissingText,
 ghost use Rattle.sedscript.specs.declared.types.FileUse.TheVariants.{Read, Write};
 ghost use Rattle.sedscript.specs.declared.items.Flags.{Flags};
 ghost use Rattle.sedscript.specs.declared.items.Strings.{Strings};
-ghost use Rattle.sedscript.specs.declared.items.Function.TheVariants.{Open, Close, Substitute, Transliterate};
+ghost use Rattle.sedscript.specs.declared.items.Argument.TheVariants.{FlaggedPair, Pair};
 ghost use Rattle.sedscript.specs.declared.types.TextUse.{TextUse};
-ghost use Rattle.sedscript.specs.declared.letters.Arguments.TheVariants.{TakesText};
+ghost use Rattle.sedscript.specs.declared.letters.Verb.TheVariants.{Close, Open, Text};
 ghost use Rattle.sedscript.specs.declared.transliteration.Char.{Char};
 ghost use Rattle.sedscript.specs.declared.items.Item.{Item};
 ghost use Rattle.sedscript.specs.Bytes.{past, bytes_between};
 ghost use Rattle.sedscript.specs.Between.{flags_from, no_flags};
 ghost use Rattle.sedscript.specs.Functions.{fault, name_from, text_from};
-ghost use Rattle.sedscript.specs.Letters.{function_of};
+ghost use Rattle.sedscript.specs.Letters.{argument_of};
 ghost use Rattle.sedscript.specs.declared.substitution.Piece.{Piece};
 ghost use Rattle.sedscript.specs.Strings.{pieces_of, replacement_fault, string_end, table_of, escaped_byte, chars_from, chars_of, bytes_of, is_among, string_fault};
 ghost use Rattle.sedscript.specs.Pieces.{GroupsWithin};
@@ -51,10 +51,10 @@ pub fn text_ends()
 /// a newline.
 pub fn text_missing()
     ensures { (script : List ℕ) (at : ℕ) (t : TextUse) →
-        ((f : ScriptFault) → function_of script (TakesText t) at ≡ Err f →
+        ((f : ScriptFault) → argument_of script (Text t) at ≡ Err f →
         (f.place ≡ at) × (f.reason ≡ MissingText) × HasNoText script (past Blank script (at + 1)))
         × (HasNoText script (past Blank script (at + 1)) →
-        function_of script (TakesText t) at ≡ fault MissingText at) }
+        argument_of script (Text t) at ≡ fault MissingText at) }
 {}
 
 /// A script that is refused for want of a text has an `a`, `i` or `c` at the fault's place, and no text stands after that
@@ -120,7 +120,7 @@ pub fn string_places()
 pub fn strings_accepted()
     ensures { (kind : Kind) (max_nodes : ℕ) (text : List ℕ) (script : Program)
         (means : Means text kind max_nodes script) (k : ℕ) (i : Item) (s : Strings) →
-        slice_get means.items k ≡ Some i → i.function ≡ Transliterate s →
+        slice_get means.items k ≡ Some i → i.argument ≡ Pair s →
         NoneTwice (bytes_of (chars_of text s.delimiter s.from s.middle))
         × (length (chars_of text s.delimiter s.from s.middle)
         ≡ length (chars_of text s.delimiter (s.middle + 1) s.to)) }
@@ -174,10 +174,10 @@ pub fn escape_fault()
 pub fn escapes_accepted()
     ensures { (kind : Kind) (max_nodes : ℕ) (text : List ℕ) (script : Program)
         (means : Means text kind max_nodes script) (k : ℕ) (i : Item) → slice_get means.items k ≡ Some i →
-        ((s : Strings) → i.function ≡ Transliterate s →
+        ((s : Strings) → i.argument ≡ Pair s →
         FirstWrong (wrong_in_string s.delimiter) text s.from s.middle None
         × FirstWrong (wrong_in_string s.delimiter) text (s.middle + 1) s.to None)
-        × ((s : Strings) (e : Option ℕ) (f : Flags) → i.function ≡ Substitute s e f →
+        × ((s : Strings) (e : Option ℕ) (f : Flags) → i.argument ≡ FlaggedPair s e f →
         (groups : Option ℕ) × HasGroups kind max_nodes text s groups
         × FirstWrong (wrong_in_replacement s.delimiter groups) text (s.middle + 1) s.to None) }
 {}
@@ -280,8 +280,8 @@ pub fn braces_match()
 /// A block ends at the brace that closes it: before the command after it stand those up to the opening brace, and those
 /// within.
 pub fn block_leads()
-    ensures { (before inner after : List Item) (i j : Item) → i.function ≡ Open → BracesMatch inner →
-        j.function ≡ Close → block_end before (inner ++ j ∷ after) ≡ Some (commands_in (before ++ i ∷ inner)) }
+    ensures { (before inner after : List Item) (i j : Item) → i.verb ≡ Open → BracesMatch inner →
+        j.verb ≡ Close → block_end before (inner ++ j ∷ after) ≡ Some (commands_in (before ++ i ∷ inner)) }
 {}
 
 /// A script that is refused for a brace is cut to its end, and the fault's place is the first closing brace that closes

@@ -13,13 +13,13 @@ use Rattle.sedscript.specs.Bytes.{past, belongs}
 use Rattle.sedscript.specs.Items.{item_at, item_from}
 use Rattle.sedscript.specs.Script.{Gives, CutScript, done, item, IsEnd}
 use Rattle.scripts.proofs.LongerText.{tail_of, get_drop, rest_on}
-use Rattle.scripts.proofs.LongerFunctions.{FunctionIn}
+use Rattle.scripts.proofs.LongerFunctions.{ArgumentIn}
 use Rattle.scripts.proofs.LongerReading.{move_item, item_on}
 
 -- what items name stands in a text of this length
 abbrev pub ItemsIn : ℕ → List Item → Type 0
 ItemsIn end [] = Unit {0}
-ItemsIn end (i ∷ is) = FunctionIn end i.function × ItemsIn end is
+ItemsIn end (i ∷ is) = ArgumentIn end i.argument × ItemsIn end is
 
 -- a cut of a text is one of a longer text
 pub cut_on : (before text : List ℕ) (more : Option (List ℕ)) (n : ℕ) (kind : Kind) (m count at to : ℕ) (is : List Item) (es : List WrittenExpression) → CutScript text kind m count at is es to → at ≤ length text →

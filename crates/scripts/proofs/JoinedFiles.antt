@@ -1,29 +1,31 @@
 -- The files of two texts with a newline between them, where no name is a file of both.
 use Rattle.std.proofs.Common.{◌≡◌, ℕ, zero, suc, ◌+◌, ◌≤◌, ◌||◌, cond, Bool, true, false, not, List, [], ◌∷◌, ◌++◌, length, map, filter, filter_map, Option, Some, None, is_some, option_map, unwrap_or, refl, sym, ap, ap₂, ◌∙◌, arith, if◌then◌else◌}
 use Rattle.std.specs.List.{list_any, cons_option, position_from}
-use Rattle.std.specs.Bool.{then_some}
 use Rattle.std.specs.Str.{bytes_eq}
 use Rattle.std.proofs.lemmas.List.Elements.{filter-append}
 use Rattle.std.proofs.lemmas.Slice.Eq.{bytes_eq-Decides}
 use Rattle.sedscript.specs.declared.types.FileUse.{FileUse}
 use Rattle.sedscript.specs.declared.types.FileUse.TheVariants.{Read, Write}
 use Rattle.sedscript.specs.declared.items.Item.{Item}
-use Rattle.sedscript.specs.declared.items.Function.{Function}
-use Rattle.sedscript.specs.declared.items.Function.TheVariants.{File, Substitute}
+use Rattle.sedscript.specs.declared.items.Argument.{Argument}
+use Rattle.sedscript.specs.declared.items.Argument.TheVariants.{FlaggedPair}
+use Rattle.sedscript.specs.declared.letters.Verb.{Verb}
+use Rattle.sedscript.specs.declared.letters.Verb.TheVariants.{File, Substitute}
 use Rattle.sedscript.specs.Bytes.{bytes_between}
-use Rattle.sedscript.specs.Targets.{is_standard_output, is_file, name_in, file_at, distinct, files_in, number_in}
+use Rattle.sedscript.specs.Targets.{written_in, is_standard_output, is_file, sink_name, name_in, file_in, distinct, files_in, number_in}
+use Rattle.sedscript.proofs.Bounds.{any_more, file_there}
 use Rattle.sedscript.proofs.FileTables.{any_distinct, any_number}
 use Rattle.scripts.specs.InTurn.{Before, sink_behind}
 use Rattle.scripts.specs.OneText.{apart}
 use Rattle.examples.proofs.ComputedEnds.{both}
 use Rattle.scripts.proofs.Truth.{neither, not_so}
 use Rattle.scripts.proofs.LongerStrings.{NextOn}
-use Rattle.scripts.proofs.LongerFlags.{move_span, FileIn}
-use Rattle.scripts.proofs.LongerFunctions.{move_function, FunctionIn}
+use Rattle.scripts.proofs.LongerFunctions.{move_argument, ArgumentIn}
 use Rattle.scripts.proofs.LongerReading.{move_item}
 use Rattle.scripts.proofs.JoinedCuts.{ItemsIn}
 use Rattle.scripts.proofs.JoinedFaults.{NoFile, NoFiles}
-use Rattle.scripts.proofs.JoinedItems.{FileOn, FilesOn, NumberOn, SinkOn}
+use Rattle.scripts.proofs.JoinedItems.{AllFollow, FlagOn, FilesOn, NameOn, NumberOn, SinkOn, sink_name_same, written_same}
+use Rattle.sedscript.proofs.Places.{Follows}
 
 -- ---- names, each once
 
@@ -125,7 +127,7 @@ position_least test least n (x ∷ xs) h = by_test (test x) (position_least test
 
 -- the names of files among the items
 abbrev pub file_names : FileUse → List ℕ → List Item → List (List ℕ)
-file_names u text is = filter_map (λ i. file_at u text (name_in u i.function)) is
+file_names u text is = filter_map (λ i. file_in u (name_in u text i.verb i.argument)) is
 
 cons_append : (o : Option (List ℕ)) (xs ys : List (List ℕ)) → cons_option o (xs ++ ys) ≡ cons_option o xs ++ ys
 cons_append None xs ys = refl
@@ -135,27 +137,19 @@ module _ (t whole : List ℕ) (base count : ℕ) (between : (from to : ℕ) → 
   abbrev moved : Item → Item
   moved = move_item base count
 
-  abbrev made : Function → Function
-  made = move_function base count
+  abbrev made : Argument → Argument
+  made = move_argument base count
 
-  at_same : (u : FileUse) (o : Option (ℕ × ℕ)) → FileIn (length t) o → file_at u whole (option_map (move_span base) o) ≡ file_at u t o
-  at_same u None h = refl
-  at_same u (Some x) h = ap (λ (bs : List ℕ). then_some (is_file u bs) bs) (between x.0 x.1 h.0 h.1)
-
-  name_same : (u : FileUse) (f : Function) → FunctionIn (length t) f → file_at u whole (name_in u (made f)) ≡ file_at u t (name_in u f)
-  name_same Read (File Read from to) h = at_same Read (Some (from, to)) h
-  name_same Write (File Read from to) h = refl
-  name_same Read (File Write from to) h = refl
-  name_same Write (File Write from to) h = at_same Write (Some (from, to)) h
-  name_same Read (Substitute s e f) h = refl
-  name_same Write (Substitute s e f) h = at_same Write f.file h.1
-  name_same Read other h = refl
-  name_same Write other h = refl
+  name_same : (u : FileUse) (verb : Verb) (a : Argument) → ArgumentIn (length t) a → name_in u whole verb (made a) ≡ name_in u t verb a
+  name_same Read (File Read) a h = ap (λ bs. Some bs) (written_same t whole base count between a h)
+  name_same Write (File Write) a h = ap (λ bs. Some bs) (written_same t whole base count between a h)
+  name_same Write verb (FlaggedPair s e f) h = sink_name_same t whole base count between f h.1
+  name_same u verb a h = refl
 
   pub names_there : (u : FileUse) (is rest : List Item) → ItemsIn (length t) is → file_names u whole (map moved is ++ rest) ≡ file_names u t is ++ file_names u whole rest
   names_there u [] rest h = refl
   names_there u (i ∷ is) rest h =
-      ap₂ (λ o xs. cons_option o xs) (name_same u i.function h.0) (names_there u is rest h.1) ∙ cons_append (file_at u t (name_in u i.function)) (file_names u t is) (file_names u whole rest)
+      ap₂ (λ o xs. cons_option o xs) (ap (file_in u) (name_same u i.verb i.argument h.0)) (names_there u is rest h.1) ∙ cons_append (file_in u (name_in u t i.verb i.argument)) (file_names u t is) (file_names u whole rest)
 
 -- how many files stand before, of those that are read and of those that are written
 abbrev pub files_of : FileUse → Before → ℕ
@@ -215,57 +209,53 @@ number_behind Write t whole all every b first name e long none h = by_test (is_s
 
 -- ---- the items' files
 
-any_more : (name : List ℕ) (o : Option (List ℕ)) (rest : List (List ℕ)) → list_any (bytes_eq name) rest ≡ true → list_any (bytes_eq name) (cons_option o rest) ≡ true
-any_more name None rest h = h
-any_more name (Some n) rest h = or_true (bytes_eq name n) (list_any (bytes_eq name) rest) h
-  where
-    or_true : (s t : Bool) → t ≡ true → (s || t) ≡ true
-    or_true true t e = refl
-    or_true false t e = e
-
-any_here : (u : FileUse) (text : List ℕ) (x : ℕ × ℕ) (rest : List (List ℕ)) → is_file u (bytes_between text x.0 x.1) ≡ true → list_any (bytes_eq (bytes_between text x.0 x.1)) (cons_option (file_at u text (Some x)) rest) ≡ true
-any_here u text x rest h =
-    let name : List ℕ = bytes_between text x.0 x.1 in
-    ap (λ (t : Bool). list_any (bytes_eq name) (cons_option (then_some t name) rest)) h ∙ ap (λ (t : Bool). t || list_any (bytes_eq name) rest) ((bytes_eq-Decides name name).1 refl)
-
 module _ (t : List ℕ) (all : List Item) (whole : List ℕ) (every : List Item) (b : Before) where
   -- each name among these has its number
   abbrev pub Numbers : List Item → Type 0
   Numbers is = (u : FileUse) (name : List ℕ) → (is_file u name ≡ true → list_any (bytes_eq name) (file_names u t is) ≡ true) → NumberOn t all whole every b u name
 
-  file_on : (f : Function) (rest : List (List ℕ) × List (List ℕ)) → ((u : FileUse) (name : List ℕ) → (is_file u name ≡ true → list_any (bytes_eq name) (cons_option (file_at u t (name_in u f)) (of_use u rest)) ≡ true) → NumberOn t all whole every b u name) → FileOn t all whole every b f
-  file_on (File Read from to) rest on = on Read (bytes_between t from to) (λ h. any_here Read t (from, to) rest.0 h)
-  file_on (File Write from to) rest on = on Write (bytes_between t from to) (λ h. any_here Write t (from, to) rest.1 h)
-  file_on (Substitute s e f) rest on = by_flag f.file (λ name h. on Write name h)
-    where
-      by_flag : (o : Option (ℕ × ℕ)) → ((name : List ℕ) → (is_file Write name ≡ true → list_any (bytes_eq name) (cons_option (file_at Write t o) rest.1) ≡ true) → NumberOn t all whole every b Write name) → SinkOn t all whole every b o
-      by_flag None on = tt
-      by_flag (Some x) on = on (bytes_between t x.0 x.1) (λ h. any_here Write t x rest.1 h)
-  file_on other rest on = tt
+  -- what is so of a name that a function has
+  abbrev Counted : List (List ℕ) × List (List ℕ) → Verb → Argument → Type 0
+  Counted rest verb a = (u : FileUse) (name : List ℕ) → (is_file u name ≡ true → list_any (bytes_eq name) (cons_option (file_in u (name_in u t verb a)) (of_use u rest)) ≡ true) → NumberOn t all whole every b u name
 
-  pub files_on : (is : List Item) → Numbers is → FilesOn t all whole every b is
-  files_on [] on = tt
-  files_on (i ∷ is) on = (
-    file_on i.function (file_names Read t is, file_names Write t is) (λ u name h. on u name (λ e. as_used u name (h e))),
-    files_on is (λ u name h. on u name (λ e. any_more name (file_at u t (name_in u i.function)) (file_names u t is) (h e))),
+  name_on : (verb : Verb) (a : Argument) (rest : List (List ℕ) × List (List ℕ)) → Counted rest verb a → NameOn t all whole every b verb a
+  name_on (File Read) a rest on = on Read (written_in t a) (λ h. file_there Read (written_in t a) rest.0 h)
+  name_on (File Write) a rest on = on Write (written_in t a) (λ h. file_there Write (written_in t a) rest.1 h)
+  name_on other a rest on = tt
+
+  flag_on : (verb : Verb) (a : Argument) (rest : List (List ℕ) × List (List ℕ)) → Follows verb a → Counted rest verb a → FlagOn t all whole every b a
+  flag_on Substitute (FlaggedPair s e f) rest follows on = by_flag (sink_name t f) (λ name h. on Write name h)
+    where
+      by_flag : (o : Option (List ℕ)) → ((name : List ℕ) → (is_file Write name ≡ true → list_any (bytes_eq name) (cons_option (file_in Write o) rest.1) ≡ true) → NumberOn t all whole every b Write name) → SinkOn t all whole every b o
+      by_flag None on = tt
+      by_flag (Some name) on = on name (λ h. file_there Write name rest.1 h)
+  flag_on other (FlaggedPair s e f) rest follows on = absurd follows
+  flag_on other a rest follows on = tt
+
+  pub files_on : (is : List Item) → AllFollow is → Numbers is → FilesOn t all whole every b is
+  files_on [] follow on = tt
+  files_on (i ∷ is) follow on = (
+    (name_on i.verb i.argument (file_names Read t is, file_names Write t is) here, flag_on i.verb i.argument (file_names Read t is, file_names Write t is) follow.0 here),
+    files_on is follow.1 (λ u name h. on u name (λ e. any_more name (file_in u (name_in u t i.verb i.argument)) (file_names u t is) (h e))),
   )
     where
-      as_used : (u : FileUse) (name : List ℕ) → list_any (bytes_eq name) (cons_option (file_at u t (name_in u i.function)) (of_use u (file_names Read t is, file_names Write t is))) ≡ true → list_any (bytes_eq name) (file_names u t (i ∷ is)) ≡ true
+      as_used : (u : FileUse) (name : List ℕ) → list_any (bytes_eq name) (cons_option (file_in u (name_in u t i.verb i.argument)) (of_use u (file_names Read t is, file_names Write t is))) ≡ true → list_any (bytes_eq name) (file_names u t (i ∷ is)) ≡ true
       as_used Read name h = h
       as_used Write name h = h
 
+      here : Counted (file_names Read t is, file_names Write t is) i.verb i.argument
+      here = λ u name h. on u name (λ e. as_used u name (h e))
+
 -- ---- scripts without files
 
-no_name : (u : FileUse) (text : List ℕ) (f : Function) → NoFile f → file_at u text (name_in u f) ≡ None
-no_name u text (File t from to) h = absurd h
-no_name Read text (Substitute s e f) h = refl
-no_name Write text (Substitute s e f) h = ap (file_at Write text) h
-no_name Read text other h = refl
-no_name Write text other h = refl
+no_name : (u : FileUse) (text : List ℕ) (verb : Verb) (a : Argument) → NoFile verb a → name_in u text verb a ≡ None
+no_name u text (File v) a h = absurd h
+no_name Write text verb (FlaggedPair s e f) h = ap (option_map (λ name. bytes_between text name.0 name.1)) h
+no_name u text verb a h = refl
 
 pub no_files : (u : FileUse) (text : List ℕ) (is : List Item) → NoFiles is → files_in u text is ≡ []
 no_files u text is h = ap distinct (none is h)
   where
     none : (is : List Item) → NoFiles is → file_names u text is ≡ []
     none [] h = refl
-    none (i ∷ is) h = ap₂ (λ o ns. cons_option o ns) (no_name u text i.function h.0) (none is h.1)
+    none (i ∷ is) h = ap₂ (λ o ns. cons_option o ns) (ap (file_in u) (no_name u text i.verb i.argument h.0)) (none is h.1)

@@ -1,6 +1,6 @@
 -- What two texts with a newline between them mean.
-use Rattle.std.proofs.Common.{bytes_eq, ◌≡◌, ℕ, suc, ◌+◌, ◌≤◌, ◌&&◌, ◌||◌, ◌==◌, ◌⊎◌, inl, inr, Bool, true, false, List, [], ◌∷◌, ◌++◌, length, map, Option, Some, None, refl, sym, ap, ap₂, subst, ◌∙◌, arith, if◌then◌else◌, option_map}
-use Rattle.std.specs.List.{cons_option, list_all, list_any}
+use Rattle.std.proofs.Common.{bytes_eq, ◌≡◌, ℕ, ◌+◌, ◌≤◌, ◌&&◌, ◌||◌, ◌==◌, ◌⊎◌, inl, inr, Bool, true, false, List, [], ◌∷◌, ◌++◌, length, map, Option, Some, None, refl, sym, ap, ap₂, subst, ◌∙◌, arith}
+use Rattle.std.specs.List.{list_all, list_any}
 use Rattle.std.specs.Prelude.{nat_lt, unwrap_or}
 use Rattle.std.proofs.lemmas.Bool.Decides.{eqb_tells, nat_tests}
 use Rattle.std.proofs.lemmas.List.{append-nil}
@@ -13,11 +13,12 @@ use Rattle.sedscript.specs.declared.types.Action.TheVariants as action
 use Rattle.sedscript.specs.declared.types.FileUse.{FileUse}
 use Rattle.sedscript.specs.declared.types.FileUse.TheVariants.{Read, Write}
 use Rattle.sedscript.specs.declared.items.Item.{Item}
-use Rattle.sedscript.specs.declared.items.Function.{Function}
-use Rattle.sedscript.specs.declared.items.Function.TheVariants.{Plain, Open, Close, Label, Branch, Text, File, Comment, Substitute, Transliterate}
+use Rattle.sedscript.specs.declared.items.Argument.{Argument}
+use Rattle.sedscript.specs.declared.letters.Verb.{Verb}
+use Rattle.sedscript.specs.declared.letters.Verb.TheVariants.{Label, Branch}
 use Rattle.sedscript.specs.Bytes.{bytes_between}
-use Rattle.sedscript.specs.Targets.{distinct, files_in, number_in, becomes_command, commands_in, is_label, label_in, target_fault_in, depth_after, target_fault_at}
-use Rattle.sedscript.specs.Script.{CutScript, IsEnd, Means, action_of, command_of, commands_of, texts_of, substitutions_of, tables_of, is_quiet}
+use Rattle.sedscript.specs.Targets.{distinct, files_in, number_in, written_in, commands_in, is_label, label_in, branch_in, target_fault_in, depth_after, target_fault_at}
+use Rattle.sedscript.specs.Script.{CutScript, IsEnd, Means, action_of, commands_of, texts_of, substitutions_of, tables_of, is_quiet}
 use Rattle.sedscript.specs.Program.{Program}
 use Rattle.scripts.specs.InTurn.{all_of, command_behind, substitution_behind, in_turn}
 use Rattle.scripts.specs.OneText.{leads_inside, EachLeadsInside, ShareNoFile, apart as apart_names, ShareNoLabel}
@@ -26,29 +27,11 @@ use Rattle.scripts.proofs.LongerReading.{move_item}
 use Rattle.scripts.proofs.NoneBefore.{same_file_number, none_before, same_commands, same_substitutions}
 use Rattle.scripts.proofs.JoinedCuts.{ItemsIn, same_text, joined_cut}
 use Rattle.scripts.proofs.LongerStrings.{NextOn}
-use Rattle.scripts.proofs.JoinedItems.{AllClose, texts_on, tables_on, substitutions_on, Stands, Reaches, commands_on, BranchOn, BranchesOn, FilesOn}
+use Rattle.scripts.proofs.JoinedItems.{all_follow, AllClose, texts_on, tables_on, substitutions_on, Stands, Reaches, commands_on, BranchOn, BranchesOn, FilesOn}
+use Rattle.sedscript.proofs.Bounds.{commands_length}
 use Rattle.sedscript.proofs.FileTables.{any_distinct}
 use Rattle.scripts.proofs.JoinedFiles.{Disjoint, disjoint, distinct_both, file_names, files_of, files_on, names_there, none_distinct, number_behind, number_front}
 use Rattle.scripts.proofs.JoinedFaults.{all_close, none_open, none_named, names, LabelIs, LabelsAre, faults_on, or_parts, parts_of, Passes, leads_somewhere, label_on, label_skip, commands_moved, names_on}
-
--- ---- counts
-
-commands_length : (text : List ℕ) (all before is : List Item) → length (commands_of text all before is) ≡ commands_in is
-commands_length text all before [] = refl
-commands_length text all before (i ∷ is) =
-    leaf i.function (commands_of text all (before ++ i ∷ []) is) (commands_length text all (before ++ i ∷ []) is)
-  where
-    leaf : (f : Function) (cs : List Command) → length cs ≡ commands_in is → length (cons_option (option_map (command_of i.addresses) (action_of text all before is f)) cs) ≡ (if becomes_command f then suc (commands_in is) else commands_in is)
-    leaf Close cs e = e
-    leaf (Label from to) cs e = e
-    leaf Comment cs e = e
-    leaf (Plain s) cs e = ap suc e
-    leaf Open cs e = ap suc e
-    leaf (Branch u from to) cs e = ap suc e
-    leaf (Text u from to) cs e = ap suc e
-    leaf (File u from to) cs e = ap suc e
-    leaf (Substitute s g f) cs e = ap suc e
-    leaf (Transliterate s) cs e = ap suc e
 
 -- ---- `#n`
 
@@ -73,15 +56,15 @@ not_less k n e h = let no : nat_lt k n ≡ false = grind (arith, nat_tests) in a
 
 labels_are : (Q : List ℕ → Type 0) (text : List ℕ) (is : List Item) → ((name : List ℕ) → list_any (names text name) is ≡ true → Q name) → LabelsAre Q text is
 labels_are Q text [] h = tt
-labels_are Q text (i ∷ is) h = (here i.function (λ name e. h name (ap (λ t. t || list_any (names text name) is) e)), labels_are Q text is (λ name e. h name (ap (λ t. names text name i || t) e ∙ or_true (names text name i))))
+labels_are Q text (i ∷ is) h = (here i.verb i.argument (λ name e. h name (ap (λ t. t || list_any (names text name) is) e)), labels_are Q text is (λ name e. h name (ap (λ t. names text name i || t) e ∙ or_true (names text name i))))
   where
     or_true : (t : Bool) → (t || true) ≡ true
     or_true true = refl
     or_true false = refl
 
-    here : (f : Function) → ((name : List ℕ) → is_label text name f ≡ true → Q name) → LabelIs Q text f
-    here (Label from to) h = h (bytes_between text from to) ((bytes_eq-Decides (bytes_between text from to) (bytes_between text from to)).1 refl)
-    here other h = tt
+    here : (verb : Verb) (a : Argument) → ((name : List ℕ) → is_label text name verb a ≡ true → Q name) → LabelIs Q text verb a
+    here Label a h = h (written_in text a) ((bytes_eq-Decides (written_in text a) (written_in text a)).1 refl)
+    here other a h = tt
 
 -- no name is a label in both texts, which have these items
 abbrev pub ShareNone : (a : List ℕ) (is : List Item) (b : List ℕ) (js : List Item) → Type 0
@@ -149,24 +132,22 @@ module _ (a b : List ℕ) (kind : Kind) (m : ℕ) (p q : Program) (h : Means a k
   pass_less : (u : BranchUse) (to : ℕ) → leads_inside p (action.Branch u to) ≡ true → to ≡ commands_in is → ⊥
   pass_less u to h e = let less : nat_lt to (length p.commands) ≡ true = h in not_less to (length p.commands) (e ∙ sym long) less
 
-  first_branch : (before after : List Item) (depth : ℕ) (place : ℕ) (f : Function) → target_fault_at a is before depth after place f ≡ None → Passes (leads_inside p) (action_of a is before after f) → BranchOn a is joined every 0 f
-  first_branch before after depth place (Branch u from to) e pass = by_end (leads_somewhere a is before depth after place u from to e)
+  first_branch : (before after : List Item) (depth : ℕ) (place : ℕ) (verb : Verb) (x : Argument) → target_fault_at a is before depth after place verb x ≡ None → Passes (leads_inside p) (action_of a is before after verb x) → BranchOn a is joined every 0 verb x
+  first_branch before after depth place (Branch u) x e pass =
+      let to = leads_somewhere a is before depth after place u x e in
+      (to.0, to.1, by_name (written_in a x) to.1 pass)
     where
-      by_end : ((from == to) ≡ true) ⊎ ((k : ℕ) × ((from == to) ≡ false) × (label_in a (bytes_between a from to) 0 is ≡ Some k)) → BranchOn a is joined every 0 (Branch u from to)
-      by_end (inl same) =
-          let goal : ℕ = if from == to then commands_in is else unwrap_or (label_in a (bytes_between a from to) 0 is) 0 in
-          absurd (pass_less u goal pass (ap (λ (t : Bool). if t then commands_in is else unwrap_or (label_in a (bytes_between a from to) 0 is) 0) same))
-      by_end (inr h) =
-          let name : List ℕ = bytes_between a from to in
-          inr (h.0, h.1, h.2, next_at 0 h.0 (label_in a name 0 is) (label_in joined name 0 every) (label_on a joined 0 0 0 first_there (λ name. Unit {0}) name 0 0 0 is behind cut.3 refl) h.2)
-  first_branch before after depth place other e pass = tt
+      by_name : {k : ℕ} (name : List ℕ) → branch_in a is name ≡ Some k → leads_inside p (action.Branch u (unwrap_or (branch_in a is name) 0)) ≡ true → branch_in joined every name ≡ Some (0 + k)
+      by_name [] e pass = absurd (pass_less u (commands_in is) pass refl)
+      by_name {k = k} (b ∷ bs) e pass = next_at 0 k (label_in a (b ∷ bs) 0 is) (label_in joined (b ∷ bs) 0 every) (label_on a joined 0 0 0 first_there (λ name. Unit {0}) (b ∷ bs) 0 0 0 is behind cut.3 refl) e
+  first_branch before after depth place other x e pass = tt
 
   first_branches : (before xs : List Item) (depth : ℕ) → target_fault_in a is before depth xs ≡ None → list_all (λ (c : Command). leads_inside p c.action) (commands_of a is before xs) ≡ true → BranchesOn a is joined every 0 xs
   first_branches before [] depth e pass = tt
   first_branches before (i ∷ xs) depth e pass =
-      let faults = or_parts (target_fault_at a is before depth xs i.place i.function) (target_fault_in a is (before ++ i ∷ []) (depth_after depth i.function) xs) e in
-      let parts = parts_of (leads_inside p) i.addresses (action_of a is before xs i.function) (commands_of a is (before ++ i ∷ []) xs) pass in
-      (first_branch before xs depth i.place i.function faults.0 parts.0, first_branches (before ++ i ∷ []) xs (depth_after depth i.function) faults.1 parts.1)
+      let faults = or_parts (target_fault_at a is before depth xs i.place i.verb i.argument) (target_fault_in a is (before ++ i ∷ []) (depth_after depth i.verb) xs) e in
+      let parts = parts_of (leads_inside p) i.addresses (action_of a is before xs i.verb i.argument) (commands_of a is (before ++ i ∷ []) xs) pass in
+      (first_branch before xs depth i.place i.verb i.argument faults.0 parts.0, first_branches (before ++ i ∷ []) xs (depth_after depth i.verb) faults.1 parts.1)
 
   first_long : commands_in (map (move_item 0 0) is) ≡ length p.commands
   first_long =
@@ -190,19 +171,21 @@ module _ (a b : List ℕ) (kind : Kind) (m : ℕ) (p q : Program) (h : Means a k
           ∙ next_at (length p.commands) k (label_in b name 0 js) (label_in joined name (0 + commands_in items) behind)
           (label_on b joined base count (length p.commands) second_there (λ name. Unit {0}) name (length p.commands) 0 (0 + commands_in items) js [] cut.4 (omega (arith, first_long))) e
 
-  second_branch : (before after : List Item) (depth place : ℕ) (f : Function) → target_fault_at b js before depth after place f ≡ None → BranchOn b js joined every (length p.commands) f
-  second_branch before after depth place (Branch u from to) e = by_end (leads_somewhere b js before depth after place u from to e)
+  second_branch : (before after : List Item) (depth place : ℕ) (verb : Verb) (x : Argument) → target_fault_at b js before depth after place verb x ≡ None → BranchOn b js joined every (length p.commands) verb x
+  second_branch before after depth place (Branch u) x e =
+      let to = leads_somewhere b js before depth after place u x e in
+      (to.0, to.1, by_name (written_in b x) to.1)
     where
-      by_end : ((from == to) ≡ true) ⊎ ((k : ℕ) × ((from == to) ≡ false) × (label_in b (bytes_between b from to) 0 js ≡ Some k)) → BranchOn b js joined every (length p.commands) (Branch u from to)
-      by_end (inl same) = inl (same, every_long)
-      by_end (inr h) = inr (h.0, h.1, h.2, label_there (bytes_between b from to) h.0 h.2)
-  second_branch before after depth place other e = tt
+      by_name : {k : ℕ} (name : List ℕ) → branch_in b js name ≡ Some k → branch_in joined every name ≡ Some (length p.commands + k)
+      by_name {k = k} [] e = let same : commands_in js ≡ k = cc in ap (λ n. Some n) every_long ∙ ap (λ n. Some (length p.commands + n)) same
+      by_name {k = k} (c ∷ cs) e = label_there (c ∷ cs) k e
+  second_branch before after depth place other x e = tt
 
   second_branches : (before xs : List Item) (depth : ℕ) → target_fault_in b js before depth xs ≡ None → BranchesOn b js joined every (length p.commands) xs
   second_branches before [] depth e = tt
   second_branches before (i ∷ xs) depth e =
-      let faults = or_parts (target_fault_at b js before depth xs i.place i.function) (target_fault_in b js (before ++ i ∷ []) (depth_after depth i.function) xs) e in
-      (second_branch before xs depth i.place i.function faults.0, second_branches (before ++ i ∷ []) xs (depth_after depth i.function) faults.1)
+      let faults = or_parts (target_fault_at b js before depth xs i.place i.verb i.argument) (target_fault_in b js (before ++ i ∷ []) (depth_after depth i.verb) xs) e in
+      (second_branch before xs depth i.place i.verb i.argument faults.0, second_branches (before ++ i ∷ []) xs (depth_after depth i.verb) faults.1)
 
   branches_p : BranchesOn a is joined every 0 is
   branches_p = first_branches [] is 0 h.judged.settled (subst (λ (cs : List Command). list_all (λ (c : Command). leads_inside p c.action) cs ≡ true) h.commands inside)
@@ -254,11 +237,11 @@ module _ (a b : List ℕ) (kind : Kind) (m : ℕ) (p q : Program) (h : Means a k
   files u = ap distinct (names_both u) ∙ distinct_both (file_names u a is) (file_names u b js) (none_shared u)
 
   files_p : FilesOn a is joined every none_before is
-  files_p = files_on a is joined every none_before is (λ u name among. number_front u a joined is every (files_in u b js) name (files u) (λ e. any_distinct name (file_names u a is) (among e)) ∙ sym (same_file_number u (number_in u a is name)))
+  files_p = files_on a is joined every none_before is (all_follow a kind m p h) (λ u name among. number_front u a joined is every (files_in u b js) name (files u) (λ e. any_distinct name (file_names u a is) (among e)) ∙ sym (same_file_number u (number_in u a is name)))
 
   files_q : FilesOn b js joined every (all_of p) js
   files_q =
-      files_on b js joined every (all_of p) js
+      files_on b js joined every (all_of p) js (all_follow b kind m q k)
       (λ u name among. number_behind u b joined js every (all_of p) (files_in u a is) name (files u) (counted u) (λ e. none_distinct name (file_names u a is) (not_first u name (among e))) (λ e. any_distinct name (file_names u b js) (among e)))
     where
       counted : (u : FileUse) → length (files_in u a is) ≡ files_of u (all_of p)

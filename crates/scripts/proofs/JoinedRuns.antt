@@ -26,6 +26,7 @@ use Rattle.scripts.proofs.Links.{OneMeaning, found_by, sends}
 use Rattle.scripts.proofs.Placing.{in_turn_law}
 use Rattle.sedscript.specs.declared.types.FileUse.TheVariants.{Read, Write}
 use Rattle.scripts.proofs.JoinedFaults.{NoFiles, no_files_all}
+use Rattle.scripts.proofs.JoinedItems.{all_follow}
 use Rattle.scripts.proofs.JoinedFiles.{no_files}
 use Rattle.scripts.proofs.JoinedMeans.{ShareNone, means_in_turn, share_none}
 use Rattle.scripts.proofs.JoinedParts.{ended_means, parts_are, share_still}
@@ -80,7 +81,7 @@ all_inside counts p only = passes_if_edits (leads_inside p) counts p p.commands 
 none_shared : (p q : Program) (text : List ℕ) (m : ℕ) (counts : Bool) → Means text Basic m q → EachOnlyEdits counts q → ShareNoFile p q
 none_shared p q text m counts k only =
     let all : list_all (λ (c : Command). edits q c.action) q.commands ≡ true = passes_if_edits (edits q) counts q q.commands (λ a e. e) only.each in
-    let none : NoFiles k.items = no_files_all q text k.items [] k.items ([], k.substitutions, refl) (subst (λ (cs : List Command). list_all (λ (c : Command). edits q c.action) cs ≡ true) k.commands all) in
+    let none : NoFiles k.items = no_files_all q text k.items [] k.items (all_follow text Basic m q k) ([], k.substitutions, refl) (subst (λ (cs : List Command). list_all (λ (c : Command). edits q c.action) cs ≡ true) k.commands all) in
     record {
       read = ap (apart p.rfiles) (k.rfiles ∙ no_files Read text k.items none);
       write = ap (apart p.wfiles) (k.wfiles ∙ no_files Write text k.items none);

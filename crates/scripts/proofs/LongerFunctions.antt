@@ -4,56 +4,48 @@ use Rattle.sedre.specs.Brackets.{delimiter_at}
 use Rattle.std.proofs.lemmas.Option.{slice_get_within}
 use Rattle.sedscript.specs.declared.bytes.Sort.TheVariants.{Blank, Name, Line}
 use Rattle.sedscript.specs.declared.types.ScriptFault.{ScriptFault}
-use Rattle.sedscript.specs.declared.types.Reason.TheVariants.{MissingLabel, OpenDelimiter, TrailingBytes}
-use Rattle.sedscript.specs.declared.types.TextUse.{TextUse}
-use Rattle.sedscript.specs.declared.types.FileUse.{FileUse}
-use Rattle.sedscript.specs.declared.types.BranchUse.{BranchUse}
+use Rattle.sedscript.specs.declared.types.Reason.{Reason}
+use Rattle.sedscript.specs.declared.types.Reason.TheVariants.{MissingLabel, MissingName, MissingText, OpenDelimiter, TrailingBytes}
 use Rattle.sedscript.specs.declared.items.Strings.{Strings}
-use Rattle.sedscript.specs.declared.items.Function.{Function}
-use Rattle.sedscript.specs.declared.items.Function.TheVariants.{Plain, Open, Close, Label, Branch, Text, File, Comment, Substitute, Transliterate}
-use Rattle.sedscript.specs.declared.letters.Arguments.{Arguments}
-use Rattle.sedscript.specs.declared.letters.Arguments.TheVariants.{Alone, OpensBlock, ClosesBlock, Remark, NamesLabel, GoesTo, TakesText, NamesFile, TakesStrings}
+use Rattle.sedscript.specs.declared.items.Argument.{Argument}
+use Rattle.sedscript.specs.declared.items.Argument.TheVariants.{Nothing, Between, Pair, FlaggedPair}
+use Rattle.sedscript.specs.declared.letters.Verb.{Verb}
+use Rattle.sedscript.specs.declared.letters.Verb.TheVariants.{Open, Comment, Label, Branch, Text, File, Transliterate}
 use Rattle.sedscript.specs.Bytes.{past, bytes_between}
 use Rattle.sedscript.specs.Strings.{string_end, replacement_fault}
-use Rattle.sedscript.specs.Functions.{fault, or_fault, ended, may_end, text_of, text_from, file_of, name_from, ◌>>=◌ as ◌then◌}
+use Rattle.sedscript.specs.Functions.{fault, or_fault, ended, may_end, text_from, name_from, spanned, ◌>>=◌ as ◌then◌}
 use Rattle.sedscript.specs.Between.{no_flags, flags_from, own_delimiter, strings_after, substitute_strings, transliterate_strings, flags_after}
-use Rattle.sedscript.specs.Letters.{label_of, branch_of, transliterate_at, substituted, function_of}
+use Rattle.sedscript.specs.Letters.{name_at, label_at, transliterate_at, substituted, argument_of}
 use Rattle.scripts.proofs.LongerText.{tail_of, past_low, past_high, near, past_on, between_on}
 use Rattle.scripts.proofs.LongerStrings.{FoundOn, delimiter_on, string_there}
 use Rattle.scripts.proofs.LongerFlags.{Same, same_if, same_then, same_unless, replacement_same, strings_same, SpanIn, SpanOn, same_test, move_flags, move_flagged, FileIn, FlagsIn, name_on, text_on, flags_on}
 
--- ---- functions, so much later, with so many expressions before them
+-- ---- what follows letters, so much later, with so many expressions before them
 
 abbrev pub move_strings : ℕ → Strings → Strings
 move_strings base s = record { delimiter = s.delimiter; from = base + s.from; middle = base + s.middle; to = base + s.to }
 
-abbrev pub move_function : (base count : ℕ) → Function → Function
-move_function base count (Label from to) = Label (base + from) (base + to)
-move_function base count (Branch u from to) = Branch u (base + from) (base + to)
-move_function base count (Text u from to) = Text u (base + from) (base + to)
-move_function base count (File u from to) = File u (base + from) (base + to)
-move_function base count (Substitute s e f) = Substitute (move_strings base s) (option_map (λ k. count + k) e) (move_flags base f)
-move_function base count (Transliterate s) = Transliterate (move_strings base s)
-move_function base count other = other
+abbrev pub move_argument : (base count : ℕ) → Argument → Argument
+move_argument base count Nothing = Nothing
+move_argument base count (Between from to) = Between (base + from) (base + to)
+move_argument base count (Pair s) = Pair (move_strings base s)
+move_argument base count (FlaggedPair s e f) = FlaggedPair (move_strings base s) (option_map (λ k. count + k) e) (move_flags base f)
 
-abbrev pub move_found : (base count : ℕ) → Function × ℕ → Function × ℕ
-move_found base count x = (move_function base count x.0, base + x.1)
+abbrev pub move_found : (base count : ℕ) → Argument × ℕ → Argument × ℕ
+move_found base count x = (move_argument base count x.0, base + x.1)
 
 -- strings and spans stand before an end
 abbrev pub StringsIn : ℕ → Strings → Type 0
 StringsIn end s = (s.from ≤ s.middle) × (s.middle < s.to) × (s.to < end)
 
-abbrev pub FunctionIn : ℕ → Function → Type 0
-FunctionIn end (Label from to) = SpanIn end (from, to)
-FunctionIn end (Branch u from to) = SpanIn end (from, to)
-FunctionIn end (Text u from to) = SpanIn end (from, to)
-FunctionIn end (File u from to) = SpanIn end (from, to)
-FunctionIn end (Substitute s e f) = StringsIn end s × FileIn end f.file
-FunctionIn end (Transliterate s) = StringsIn end s
-FunctionIn end other = Unit {0}
+abbrev pub ArgumentIn : ℕ → Argument → Type 0
+ArgumentIn end Nothing = Unit {0}
+ArgumentIn end (Between from to) = SpanIn end (from, to)
+ArgumentIn end (Pair s) = StringsIn end s
+ArgumentIn end (FlaggedPair s e f) = StringsIn end s × FileIn end f.file
 
-abbrev pub EndsIn : ℕ → Function × ℕ → Type 0
-EndsIn end x = FunctionIn end x.0 × (x.1 ≤ end)
+abbrev pub EndsIn : ℕ → Argument × ℕ → Type 0
+EndsIn end x = ArgumentIn end x.0 × (x.1 ≤ end)
 
 module _ (before text : List ℕ) (more : Option (List ℕ)) (count : ℕ) where
   abbrev whole : List ℕ
@@ -65,40 +57,33 @@ module _ (before text : List ℕ) (more : Option (List ℕ)) (count : ℕ) where
   abbrev end : ℕ
   end = length text
 
-  abbrev Moved : Result (Function × ℕ) ScriptFault → Result (Function × ℕ) ScriptFault → Type 0
+  abbrev Moved : Result (Argument × ℕ) ScriptFault → Result (Argument × ℕ) ScriptFault → Type 0
   Moved r z = Same (EndsIn end) (move_found base count) r z
 
-  ended_on : (f : Function) (at place : ℕ) → at ≤ end → place ≡ base + at → FunctionIn end f → Moved (ended text f at) (ended whole (move_function base count f) place)
+  ended_on : (f : Argument) (at place : ℕ) → at ≤ end → place ≡ base + at → ArgumentIn end f → Moved (ended text f at) (ended whole (move_argument base count f) place)
   ended_on f at place le e h =
       let after : past Blank whole place ≡ base + past Blank text at = ap (past Blank whole) e ∙ past_on before text more Blank at le refl in
       let low : past Blank text at ≤ end = past_high Blank text at le in
       let ends : may_end (slice_get whole (past Blank whole place)) ≡ may_end (slice_get text (past Blank text at)) = ap (λ (n : ℕ). may_end (slice_get whole n)) after ∙ near before text more may_end (past Blank text at) low refl in
-      subst (λ (t : Bool). Moved (ended text f at) (if t then Ok (move_function base count f, past Blank whole place) else fault TrailingBytes (past Blank whole place))) (sym ends)
-      (same_if (EndsIn end) (move_found base count) (may_end (slice_get text (past Blank text at))) _ _ _ _ (ap (λ n. Ok (move_function base count f, n)) after, (h, low)) tt)
+      subst (λ (t : Bool). Moved (ended text f at) (if t then Ok (move_argument base count f, past Blank whole place) else fault TrailingBytes (past Blank whole place))) (sym ends)
+      (same_if (EndsIn end) (move_found base count) (may_end (slice_get text (past Blank text at))) _ _ _ _ (ap (λ n. Ok (move_argument base count f, n)) after, (h, low)) tt)
 
-  text_of_on : (u : TextUse) (at place : ℕ) (x z : Option (ℕ × ℕ)) → SpanOn base end x z → Moved (text_of u at x) (text_of u place z)
-  text_of_on u at place None z h = tt
-  text_of_on u at place (Some x) z h = (ap (text_of u place) h.0, (h.1, h.1.1))
+  spanned_on : (reason : Reason) (at place : ℕ) (x z : Option (ℕ × ℕ)) → SpanOn base end x z → Moved (spanned reason at x) (spanned reason place z)
+  spanned_on reason at place None z h = tt
+  spanned_on reason at place (Some x) z h = (ap (spanned reason place) h.0, (h.1, h.1.1))
 
-  file_of_on : (u : FileUse) (at place : ℕ) (x z : Option (ℕ × ℕ)) → SpanOn base end x z → Moved (file_of u at x) (file_of u place z)
-  file_of_on u at place None z h = tt
-  file_of_on u at place (Some x) z h = (ap (file_of u place) h.0, (h.1, h.1.1))
-
-  branch_on : (u : BranchUse) (at place : ℕ) → at ≤ end → place ≡ base + at → Moved (branch_of text u at) (branch_of whole u place)
-  branch_on u at place le e =
+  label_name_on : (at place : ℕ) → at ≤ end → place ≡ base + at → Moved (name_at text at) (name_at whole place)
+  label_name_on at place le e =
       let after : past Name whole place ≡ base + past Name text at = ap (past Name whole) e ∙ past_on before text more Name at le refl in
       let high : past Name text at ≤ end = past_high Name text at le in
-      subst (λ (f : Function). Moved (branch_of text u at) (ended whole f (past Name whole place))) (ap₂ (Branch u) (sym e) (sym after))
-      (ended_on (Branch u at (past Name text at)) (past Name text at) (past Name whole place) high after (past_low Name text at, high))
+      subst (λ (f : Argument). Moved (name_at text at) (ended whole f (past Name whole place))) (ap₂ Between (sym e) (sym after))
+      (ended_on (Between at (past Name text at)) (past Name text at) (past Name whole place) high after (past_low Name text at, high))
 
-  label_on : (letter letter' at place : ℕ) → at ≤ end → place ≡ base + at → Moved (label_of text letter at) (label_of whole letter' place)
+  label_on : (letter letter' at place : ℕ) → at ≤ end → place ≡ base + at → Moved (label_at text letter at) (label_at whole letter' place)
   label_on letter letter' at place le e =
       let after : past Name whole place ≡ base + past Name text at = ap (past Name whole) e ∙ past_on before text more Name at le refl in
-      let high : past Name text at ≤ end = past_high Name text at le in
-      subst (λ (t : Bool). Moved (label_of text letter at) (if t then fault MissingLabel letter' else ended whole (Label place (past Name whole place)) (past Name whole place))) (sym (same_test at (past Name text at) place (past Name whole place) base e after))
-      (same_if (EndsIn end) (move_found base count) (past Name text at == at) _ _ _ _ tt
-      (subst (λ (f : Function). Moved (ended text (Label at (past Name text at)) (past Name text at)) (ended whole f (past Name whole place))) (ap₂ Label (sym e) (sym after))
-      (ended_on (Label at (past Name text at)) (past Name text at) (past Name whole place) high after (past_low Name text at, high))))
+      subst (λ (t : Bool). Moved (label_at text letter at) (if t then fault MissingLabel letter' else name_at whole place)) (sym (same_test at (past Name text at) place (past Name whole place) base e after))
+      (same_if (EndsIn end) (move_found base count) (past Name text at == at) _ _ _ _ tt (label_name_on at place le e))
 
   -- ---- strings
 
@@ -173,7 +158,7 @@ module _ (before text : List ℕ) (more : Option (List ℕ)) (count : ℕ) where
       same_then (StringsIn end) (move_strings base) (EndsIn end) (move_found base count) (transliterate_strings text (at + 1) (own_delimiter (slice_get text (at + 1)))) (transliterate_strings whole (place + 1) (own_delimiter (slice_get whole (place + 1)))) _ _
       (two_on (at + 1) (place + 1) (omega (arith, low)) (omega (arith, e)))
       (λ s h. same_unless (EndsIn end) (move_found base count) _ _ _ _ (strings_same text whole s.delimiter at s.from s.middle s.to place (base + s.from) (base + s.middle) (base + s.to) (first_string s h) (second_string s h))
-      (ended_on (Transliterate s) (s.to + 1) (base + s.to + 1) (omega (arith, h.2)) (omega arith) h))
+      (ended_on (Pair s) (s.to + 1) (base + s.to + 1) (omega (arith, h.2)) (omega arith) h))
 
   -- ---- `s`
 
@@ -193,33 +178,32 @@ module _ (before text : List ℕ) (more : Option (List ℕ)) (count : ℕ) where
       same_unless (EndsIn end) (move_found base count) _ _ _ _ (places ∙ ap (λ (bs : List ℕ). is_none (replacement_fault s.delimiter limit false (base + s.middle + 1) bs)) (sym (second_string s h)))
       (same_then (FlagsIn end) (move_flagged base) (EndsIn end) (move_found base count) (flags_after text s (not (is_some e))) (flags_after whole (move_strings base s) (not (is_some (option_map (λ k. count + k) e)))) _ _
       (subst (λ (t : Bool). Same (FlagsIn end) (move_flagged base) (flags_after text s (not (is_some e))) (flags_after whole (move_strings base s) (not t))) (sym (some_same e)) (flags_there s (not (is_some e)) h))
-      (λ x k. ended_on (Substitute s e x.0) x.1 (base + x.1) k.1 refl (h, k.0)))
+      (λ x k. ended_on (FlaggedPair s e x.0) x.1 (base + x.1) k.1 refl (h, k.0)))
 
   -- ---- the others
 
-  pub function_on : (shape : Arguments) (at place : ℕ) → at < end → place ≡ base + at → Moved (function_of text shape at) (function_of whole shape place)
-  function_on OpensBlock at place low e = let one : place + 1 ≡ base + (at + 1) = omega (arith, e) in (ap (λ n. Ok (Open, n)) one, (tt, omega (arith, low)))
-  function_on ClosesBlock at place low e = ended_on Close (at + 1) (place + 1) (omega (arith, low)) (omega (arith, e)) tt
-  function_on Remark at place low e =
+  pub argument_on : (verb : Verb) (at place : ℕ) → at < end → place ≡ base + at → Moved (argument_of text verb at) (argument_of whole verb place)
+  argument_on Open at place low e = let one : place + 1 ≡ base + (at + 1) = omega (arith, e) in (ap (λ n. Ok (Nothing, n)) one, (tt, omega (arith, low)))
+  argument_on Comment at place low e =
       let one : place + 1 ≡ base + (at + 1) = omega (arith, e) in
       let short : at + 1 ≤ end = omega (arith, low) in
-      (ap (λ n. Ok (Comment, n)) (ap (past Line whole) one ∙ past_on before text more Line (at + 1) short refl), (tt, past_high Line text (at + 1) short))
-  function_on NamesLabel at place low e =
+      (ap (λ n. Ok (Nothing, n)) (ap (past Line whole) one ∙ past_on before text more Line (at + 1) short refl), (tt, past_high Line text (at + 1) short))
+  argument_on Label at place low e =
       let one : place + 1 ≡ base + (at + 1) = omega (arith, e) in
       let short : at + 1 ≤ end = omega (arith, low) in
       label_on at place (past Blank text (at + 1)) (past Blank whole (place + 1)) (past_high Blank text (at + 1) short) (ap (past Blank whole) one ∙ past_on before text more Blank (at + 1) short refl)
-  function_on (GoesTo u) at place low e =
+  argument_on (Branch u) at place low e =
       let one : place + 1 ≡ base + (at + 1) = omega (arith, e) in
       let short : at + 1 ≤ end = omega (arith, low) in
-      branch_on u (past Blank text (at + 1)) (past Blank whole (place + 1)) (past_high Blank text (at + 1) short) (ap (past Blank whole) one ∙ past_on before text more Blank (at + 1) short refl)
-  function_on (TakesText u) at place low e =
+      label_name_on (past Blank text (at + 1)) (past Blank whole (place + 1)) (past_high Blank text (at + 1) short) (ap (past Blank whole) one ∙ past_on before text more Blank (at + 1) short refl)
+  argument_on (Text u) at place low e =
       let one : place + 1 ≡ base + (at + 1) = omega (arith, e) in
       let short : at + 1 ≤ end = omega (arith, low) in
-      text_of_on u at place _ _
+      spanned_on MissingText at place _ _
       (subst (λ (n : ℕ). SpanOn base end (text_from text (past Blank text (at + 1))) (text_from whole n)) (sym (ap (past Blank whole) one ∙ past_on before text more Blank (at + 1) short refl))
       (text_on before text more (past Blank text (at + 1)) (past_high Blank text (at + 1) short)))
-  function_on (NamesFile u) at place low e =
+  argument_on (File u) at place low e =
       let one : place + 1 ≡ base + (at + 1) = omega (arith, e) in
-      file_of_on u at place _ _ (subst (λ (n : ℕ). SpanOn base end (name_from text (at + 1)) (name_from whole n)) (sym one) (name_on before text more (at + 1) (omega (arith, low))))
-  function_on TakesStrings at place low e = transliterate_on at place low e
-  function_on (Alone s) at place low e = ended_on (Plain s) (at + 1) (place + 1) (omega (arith, low)) (omega (arith, e)) tt
+      spanned_on MissingName at place _ _ (subst (λ (n : ℕ). SpanOn base end (name_from text (at + 1)) (name_from whole n)) (sym one) (name_on before text more (at + 1) (omega (arith, low))))
+  argument_on Transliterate at place low e = transliterate_on at place low e
+  argument_on verb at place low e = ended_on Nothing (at + 1) (place + 1) (omega (arith, low)) (omega (arith, e)) tt

@@ -17,22 +17,22 @@ use Rattle.sedscript.specs.declared.items.Addresses.{Addresses}
 use Rattle.sedscript.specs.declared.items.Item.{Item}
 use Rattle.sedscript.specs.declared.items.ItemOrEnd.{ItemOrEnd}
 use Rattle.sedscript.specs.declared.items.ItemOrEnd.TheVariants.{Is, Ends}
-use Rattle.sedscript.specs.declared.items.Function.{Function}
-use Rattle.sedscript.specs.declared.items.Function.TheVariants.{Substitute}
+use Rattle.sedscript.specs.declared.items.Argument.{Argument}
+use Rattle.sedscript.specs.declared.items.Argument.TheVariants.{FlaggedPair}
 use Rattle.sedscript.specs.declared.letters.Verb.{Verb}
-use Rattle.sedscript.specs.declared.letters.Verb.TheVariants.{ReadsExpression, Reads}
+use Rattle.sedscript.specs.declared.letters.Verb.TheVariants.{Substitute}
 use Rattle.sedscript.specs.Functions.{ended, fault, ◌>>=◌ as ◌then◌}
 use Rattle.sedscript.specs.Bytes.{past, bytes_between, is_digit, is_byte, with_digits}
 use Rattle.sedscript.specs.Between.{own_delimiter, substitute_strings, unless_fault, flags_after, folds}
 use Rattle.sedscript.specs.Letters.{verb_of, most_addresses, allowed, substituted, flagged}
 use Rattle.sedscript.specs.Strings.{replacement_fault}
-use Rattle.sedscript.specs.Items.{Pattern, Reading, plainly, expression, ◌>>=◌, Addressed, Headed, found, with_addresses, line_of, folds_at, past_flag, match_at, own_match, address_of, address_at, with_second, second_at, after_first, addresses_at, with_bang, substitute_with, substitute_at, function_with, function_at, item_from, item_at, match_to, function_after, item_with, empty_match}
+use Rattle.sedscript.specs.Items.{Pattern, Reading, plainly, expression, ◌>>=◌, Addressed, Headed, found, with_addresses, line_of, folds_at, past_flag, match_at, own_match, address_of, address_at, with_second, second_at, after_first, addresses_at, with_bang, substitute_with, substitute_at, argument_with, function_at, item_from, item_at, match_to, function_after, item_with, empty_match}
 use Rattle.sedscript.specs.Script.{Gives, value, after_expression}
 use Rattle.sedscript.proofs.Coming.{gives_then}
 use Rattle.scripts.proofs.LongerText.{tail_of, past_low, past_high, near, there, past_on, past_separators, between_on}
 use Rattle.scripts.proofs.LongerStrings.{FoundOn, delimiter_on}
 use Rattle.scripts.proofs.LongerFlags.{Same, same_if, same_test, move_flagged, FlagsIn}
-use Rattle.scripts.proofs.LongerFunctions.{move_strings, move_function, move_found, StringsIn, FunctionIn, EndsIn, own_on, own_short, strings_on, first_string, flags_there, substituted_on, function_on}
+use Rattle.scripts.proofs.LongerFunctions.{move_strings, move_argument, move_found, StringsIn, ArgumentIn, EndsIn, own_on, own_short, strings_on, first_string, flags_there, substituted_on, argument_on}
 
 abbrev pub move_address : ℕ → Option Address → Option Address
 move_address count (Some (Match (Some k))) = Some (Match (Some (count + k)))
@@ -42,14 +42,14 @@ abbrev pub move_addresses : ℕ → Addresses → Addresses
 move_addresses count a = record { first = move_address count a.first; second = move_address count a.second; negate = a.negate }
 
 abbrev pub move_item : (base count : ℕ) → Item → Item
-move_item base count i = record { addresses = move_addresses count i.addresses; place = base + i.place; function = move_function base count i.function }
+move_item base count i = record { addresses = move_addresses count i.addresses; place = base + i.place; verb = i.verb; argument = move_argument base count i.argument }
 
 abbrev pub move_here : (base count : ℕ) → ItemOrEnd → ItemOrEnd
 move_here base count (Is i next) = Is (move_item base count i) (base + next)
 move_here base count Ends = Ends
 
 abbrev pub HereIn : ℕ → ItemOrEnd → Type 0
-HereIn end (Is i next) = FunctionIn end i.function × (next ≤ end)
+HereIn end (Is i next) = ArgumentIn end i.argument × (next ≤ end)
 HereIn end Ends = Unit {0}
 
 abbrev move_addressed : (base count : ℕ) → Addressed → Addressed
@@ -306,8 +306,8 @@ module _ (before text : List ℕ) (more : Option (List ℕ)) (n : ℕ) (kind : K
       by_test true false e f g low high = absurd cc
       by_test false true e f g low high = absurd cc
 
-  abbrev FunctionStays : Reading (Function × ℕ) → Reading (Function × ℕ) → Type 0
-  FunctionStays r z = Stays (EndsIn end) (move_found base n) r z
+  abbrev ArgumentStays : Reading (Argument × ℕ) → Reading (Argument × ℕ) → Type 0
+  ArgumentStays r z = Stays (EndsIn end) (move_found base n) r z
 
   -- what stands after a fault of the flags
   no_flags_read : (s : Strings) (count : ℕ) (limit : Option ℕ) (f : ScriptFault) → flags_after text s false ≡ Err f → (g : ScriptFault) × (substituted text s (Some count) limit ≡ Err g)
@@ -315,34 +315,34 @@ module _ (before text : List ℕ) (more : Option (List ℕ)) (n : ℕ) (kind : K
   no_flags_read s count limit f e = by_fault (replacement_fault s.delimiter limit false (s.middle + 1) (bytes_between text (s.middle + 1) s.to))
     where
       by_fault : (o : Option ScriptFault) → (g : ScriptFault) × (unless_fault o (flagged text s (Some count)) ≡ Err g)
-      by_fault None = (f, ap (λ (r : Result (Flags × ℕ) ScriptFault). ◌then◌ r (λ (x : Flags × ℕ). ended text (Substitute s (Some count) x.0) x.1)) e)
+      by_fault None = (f, ap (λ (r : Result (Flags × ℕ) ScriptFault). ◌then◌ r (λ (x : Flags × ℕ). ended text (FlaggedPair s (Some count) x.0) x.1)) e)
       by_fault (Some g) = (g, refl)
 
-  substitute_on : (count : ℕ) (s : Strings) → StringsIn end s → FunctionStays (substitute_with text count s) (substitute_with whole (n + count) (move_strings base s))
+  substitute_on : (count : ℕ) (s : Strings) → StringsIn end s → ArgumentStays (substitute_with text count s) (substitute_with whole (n + count) (move_strings base s))
   substitute_on count s h =
-      subst (λ (t : Bool). FunctionStays (substitute_with text count s) (if t then plainly (substituted whole (move_strings base s) None None) else expression
+      subst (λ (t : Bool). ArgumentStays (substitute_with text count s) (if t then plainly (substituted whole (move_strings base s) None None) else expression
       (record { from = base + s.from; to = base + s.middle; delimiter = s.delimiter; folded = folds (flags_after whole (move_strings base s) false) }) (λ groups. plainly (substituted whole (move_strings base s) (Some (n + count)) (Some groups)))))
       (sym (same_test s.from s.middle (base + s.from) (base + s.middle) base refl refl))
       (stays_if (EndsIn end) (move_found base n) (s.middle == s.from) _ _ _ _ (stays_plainly (EndsIn end) (move_found base n) _ _ (substituted_on before text more n s None None h))
       (by_flags (flags_after text s false) (flags_after whole (move_strings base s) false) refl (flags_there before text more n s false h)))
     where
       by_flags : (r z : Result (Flags × ℕ) ScriptFault) → flags_after text s false ≡ r → Same (FlagsIn end) (move_flagged base) r z →
-          FunctionStays (expression (record { from = s.from; to = s.middle; delimiter = s.delimiter; folded = folds r }) (λ groups. plainly (substituted text s (Some count) (Some groups))))
+          ArgumentStays (expression (record { from = s.from; to = s.middle; delimiter = s.delimiter; folded = folds r }) (λ groups. plainly (substituted text s (Some count) (Some groups))))
           (expression (record { from = base + s.from; to = base + s.middle; delimiter = s.delimiter; folded = folds z }) (λ groups. plainly (substituted whole (move_strings base s) (Some (n + count)) (Some groups))))
       by_flags (Ok x) z e same =
           stays_expression (EndsIn end) (move_found base n) s.from s.middle (base + s.from) (base + s.middle) s.delimiter x.0.folded (folds z) _ _ (ap folds same.0) (first_string before text more n s h)
           (λ groups. stays_plainly (EndsIn end) (move_found base n) _ _ (substituted_on before text more n s (Some count) (Some groups) h))
       by_flags (Err f) z e same = stays_nothing (EndsIn end) (move_found base n) _ (λ groups. substituted text s (Some count) (Some groups)) _ (λ groups. no_flags_read s count (Some groups) f e)
 
-  substitute_at_on : (count at : ℕ) → at < end → FunctionStays (substitute_at text count at) (substitute_at whole (n + count) (base + at))
+  substitute_at_on : (count at : ℕ) → at < end → ArgumentStays (substitute_at text count at) (substitute_at whole (n + count) (base + at))
   unfolding substitute_at
   substitute_at_on count at low =
       stays_then (StringsIn end) (move_strings base) (EndsIn end) (move_found base n) (plainly (substitute_strings text (at + 1) (own_delimiter (slice_get text (at + 1))))) (plainly (substitute_strings whole (base + at + 1) (own_delimiter (slice_get whole (base + at + 1))))) _ _
       (stays_plainly (StringsIn end) (move_strings base) _ _ (strings_on before text more n (at + 1) (base + at + 1) (omega (arith, low)) (omega arith))) (λ s h. substitute_on count s h)
 
-  function_with_on : (count at : ℕ) (verb : Verb) → at < end → FunctionStays (function_with text count verb at) (function_with whole (n + count) verb (base + at))
-  function_with_on count at ReadsExpression low = substitute_at_on count at low
-  function_with_on count at (Reads shape) low = stays_plainly (EndsIn end) (move_found base n) _ _ (function_on before text more n shape at (base + at) low refl)
+  argument_with_on : (count at : ℕ) (verb : Verb) → at < end → ArgumentStays (argument_with text count verb at) (argument_with whole (n + count) verb (base + at))
+  argument_with_on count at Substitute low = substitute_at_on count at low
+  argument_with_on count at verb low = stays_plainly (EndsIn end) (move_found base n) _ _ (argument_on before text more n verb at (base + at) low refl)
 
   abbrev Any : Verb → Type 0
   Any verb = Unit {0}
@@ -368,16 +368,16 @@ module _ (before text : List ℕ) (more : Option (List ℕ)) (n : ℕ) (kind : K
           subst (λ (o : Option ℕ). HereStays (item_with text count a at (Some letter)) (item_with whole (n + count) (move_addresses n a) (base + at) o)) (sym (there before text more at letter e))
           (stays_then Any (λ (verb : Verb). verb) (HereIn end) (move_here base n) (plainly (allowed a at (verb_of letter))) (plainly (allowed (move_addresses n a) (base + at) (verb_of letter))) _ _
           (stays_plainly Any (λ (verb : Verb). verb) _ _ (allowed_on a at (base + at) (verb_of letter)))
-          (λ verb h. stays_then (EndsIn end) (move_found base n) (HereIn end) (move_here base n) (function_with text count verb at) (function_with whole (n + count) verb (base + at)) _ _ (function_with_on count at verb low)
+          (λ verb h. stays_then (EndsIn end) (move_found base n) (HereIn end) (move_here base n) (argument_with text count verb at) (argument_with whole (n + count) verb (base + at)) _ _ (argument_with_on count at verb low)
           (λ x k. stays_plainly (HereIn end) (move_here base n) _ _ (refl, k))))
 
   pub item_on : (count at next : ℕ) (es : List WrittenExpression) (i : Item) → at ≤ end → Gives text kind m (item_at text count at) es (Is i next) →
-      Gives whole kind m (item_at whole (n + count) (base + at)) es (Is (move_item base n i) (base + next)) × FunctionIn end i.function × (next ≤ end)
+      Gives whole kind m (item_at whole (n + count) (base + at)) es (Is (move_item base n i) (base + next)) × ArgumentIn end i.argument × (next ≤ end)
   unfolding item_at
   item_on count at next es i le given = by_byte (slice_get text (past Separator text at)) refl given
     where
       by_byte : (o : Option ℕ) → slice_get text (past Separator text at) ≡ o → Gives text kind m (item_from text count (past Separator text at) o) es (Is i next) →
-          Gives whole kind m (item_from whole (n + count) (past Separator whole (base + at)) (slice_get whole (past Separator whole (base + at)))) es (Is (move_item base n i) (base + next)) × FunctionIn end i.function × (next ≤ end)
+          Gives whole kind m (item_from whole (n + count) (past Separator whole (base + at)) (slice_get whole (past Separator whole (base + at)))) es (Is (move_item base n i) (base + next)) × ArgumentIn end i.argument × (next ≤ end)
       by_byte None e g = let same : ◌≡◌ {A = ItemOrEnd} (Is i next) Ends = gives_value text kind m Ends (Is i next) es g in absurd cc
       by_byte (Some b) e g =
           let begins : past Separator whole (base + at) ≡ base + past Separator text at = past_separators before text more at b le e in

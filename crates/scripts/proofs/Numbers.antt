@@ -15,7 +15,8 @@ use Rattle.sedscript.specs.declared.bytes.Sort.{Sort}
 use Rattle.sedscript.specs.declared.types.Address.{Address}
 use Rattle.sedscript.specs.declared.items.ItemOrEnd.TheVariants.{Is}
 use Rattle.sedscript.specs.declared.items.Item.{Item}
-use Rattle.sedscript.specs.declared.items.Function.TheVariants.{Plain}
+use Rattle.sedscript.specs.declared.letters.Verb.TheVariants.{Plain}
+use Rattle.sedscript.specs.declared.items.Argument.TheVariants.{Nothing}
 use Rattle.sedscript.specs.declared.types.Simple.{Simple}
 use Rattle.sedscript.specs.declared.types.Simple.TheVariants.{Quit, Delete}
 use Rattle.sedscript.specs.Script.{IsEnd, Means, item, done, is_quiet, Gives, value}
@@ -23,7 +24,7 @@ use Rattle.sedscript.specs.Functions.{ended}
 use Rattle.sedscript.specs.Targets.{target_fault}
 use Rattle.sedre.specs.Tree.{WrittenExpression}
 use Rattle.sedre.specs.declared.types.Kind.TheVariants.{Basic}
-use Rattle.sedscript.specs.declared.items.Function.{Function}
+use Rattle.sedscript.specs.declared.items.Argument.{Argument}
 use Rattle.examples.proofs.ComputedScript.{program_of}
 use Rattle.sedscript.specs.declared.types.Action.TheVariants as action
 use Rattle.sedscript.specs.declared.types.Simple.TheVariants as simple
@@ -127,14 +128,14 @@ pub ends_there : (text : List ℕ) (at : ℕ) → drop at text ≡ [] → IsEnd 
 ends_there text at e = ap (slice_get text) (past_end Separator text at e) ∙ end_there text at e
 
 abbrev plain_item : Option Address → Option Address → ℕ → Simple → Item
-plain_item first second place s = record { addresses = record { first = first; second = second; negate = false }; place = place; function = Plain s }
+plain_item first second place s = record { addresses = record { first = first; second = second; negate = false }; place = place; verb = Plain s; argument = Nothing }
 
 -- `q` and `d` at the end of a text, after their addresses
 pub no_bang : (text : List ℕ) (at count b : ℕ) (first second : Option Address) → drop at text ≡ b ∷ [] → is_blank b ≡ false → (b == 33) ≡ false →
     with_bang text (record { addresses = addresses_of first second; at = at; count = count }) ≡ record { addresses = addresses_of first second; at = at; count = count }
 no_bang text at count b first second e f g = rw (past_none Blank text at b [] e f, byte_there text at b [] e, g) refl
 
-pub ends_command : (text : List ℕ) (at : ℕ) (f : Function) → drop at text ≡ [] → ended text f at ≡ Ok (f, at)
+pub ends_command : (text : List ℕ) (at : ℕ) (f : Argument) → drop at text ≡ [] → ended text f at ≡ Ok (f, at)
 ends_command text at f e = rw (past_end Blank text at e, end_there text at e) refl
 
 module _ (text : List ℕ) (at count : ℕ) (a : Address) where
@@ -143,14 +144,14 @@ module _ (text : List ℕ) (at count : ℕ) (a : Address) where
   quits e =
       ap (λ h. item_with text count h.addresses h.at (slice_get text h.at)) (no_bang text at count 113 (Some a) None e refl refl)
       ∙ ap (item_with text count (addresses_of (Some a) None) at) (byte_there text at 113 [] e)
-      ∙ ap (λ r. plainly r >>= λ found. plainly (Ok (item_of (addresses_of (Some a) None) at found))) (ends_command text (at + 1) (Plain Quit) (drop_on text at (113 ∷ []) [] e))
+      ∙ ap (λ r. plainly r >>= λ found. plainly (Ok (item_of (addresses_of (Some a) None) at (Plain Quit) found))) (ends_command text (at + 1) Nothing (drop_on text at (113 ∷ []) [] e))
 
   deletes : (b : Address) → drop at text ≡ 100 ∷ [] → function_after text (record { addresses = addresses_of (Some a) (Some b); at = at; count = count }) ≡ plainly (Ok (Is (plain_item (Some a) (Some b) at Delete) (at + 1)))
   unfolding function_at
   deletes b e =
       ap (λ h. item_with text count h.addresses h.at (slice_get text h.at)) (no_bang text at count 100 (Some a) (Some b) e refl refl)
       ∙ ap (item_with text count (addresses_of (Some a) (Some b)) at) (byte_there text at 100 [] e)
-      ∙ ap (λ r. plainly r >>= λ found. plainly (Ok (item_of (addresses_of (Some a) (Some b)) at found))) (ends_command text (at + 1) (Plain Delete) (drop_on text at (100 ∷ []) [] e))
+      ∙ ap (λ r. plainly r >>= λ found. plainly (Ok (item_of (addresses_of (Some a) (Some b)) at (Plain Delete) found))) (ends_command text (at + 1) Nothing (drop_on text at (100 ∷ []) [] e))
 
 digit_separates : (d : ℕ) → is_digit d ≡ true → belongs Separator d ≡ false
 digit_separates d h = grind (arith, nat_tests)

@@ -14,7 +14,8 @@ use Rattle.sedscript.specs.declared.types.Simple.TheVariants as simple
 use Rattle.sedscript.specs.declared.items.ItemOrEnd.{ItemOrEnd}
 use Rattle.sedscript.specs.declared.items.ItemOrEnd.TheVariants.{Is}
 use Rattle.sedscript.specs.declared.items.Item.{Item}
-use Rattle.sedscript.specs.declared.items.Function.TheVariants.{Plain}
+use Rattle.sedscript.specs.declared.letters.Verb.TheVariants.{Plain}
+use Rattle.sedscript.specs.declared.items.Argument.TheVariants.{Nothing}
 use Rattle.sedscript.specs.declared.types.Simple.{Simple}
 use Rattle.sedscript.specs.declared.types.Simple.TheVariants.{Print, Delete}
 use Rattle.sedscript.specs.Items.{found, address_at, addresses_at, addresses_of, after_first, with_addresses, match_at, with_bang, function_at, item_at, Pattern, Reading, plainly, expression, ◌>>=◌, function_after, item_with, item_of}
@@ -78,7 +79,7 @@ module _ (re : List ℕ) (e : Tree) (groups : ℕ) (is : IsSlashed re e groups) 
 
 -- `d` at the end of a text, after one address, and `!p`
 abbrev one_address : Bool → ℕ → Simple → Item
-one_address negate place s = record { addresses = record { first = Some (Match (Some 0)); second = None; negate = negate }; place = place; function = Plain s }
+one_address negate place s = record { addresses = record { first = Some (Match (Some 0)); second = None; negate = negate }; place = place; verb = Plain s; argument = Nothing }
 
 module _ (text : List ℕ) (at count : ℕ) where
   deletes_there : drop at text ≡ 100 ∷ [] → plainly (with_addresses (Some (Match (Some 0))) None at count) >>= function_after text ≡ plainly (Ok (Is (one_address false at Delete) (at + 1)))
@@ -86,7 +87,7 @@ module _ (text : List ℕ) (at count : ℕ) where
   deletes_there e =
       ap (λ h. item_with text count h.addresses h.at (slice_get text h.at)) (no_bang text at count 100 (Some (Match (Some 0))) None e refl refl)
       ∙ ap (item_with text count (addresses_of (Some (Match (Some 0))) None) at) (byte_there text at 100 [] e)
-      ∙ ap (λ r. plainly r >>= λ found. plainly (Ok (item_of (addresses_of (Some (Match (Some 0))) None) at found))) (ends_command text (at + 1) (Plain Delete) (drop_on text at (100 ∷ []) [] e))
+      ∙ ap (λ r. plainly r >>= λ found. plainly (Ok (item_of (addresses_of (Some (Match (Some 0))) None) at (Plain Delete) found))) (ends_command text (at + 1) Nothing (drop_on text at (100 ∷ []) [] e))
 
   bang_passed : drop at text ≡ 33 ∷ 112 ∷ [] → past Bang text at ≡ at + 1
   unfolding past
@@ -102,7 +103,7 @@ module _ (text : List ℕ) (at count : ℕ) where
       let there : drop (at + 1) text ≡ 112 ∷ [] = drop_on text at (33 ∷ []) (112 ∷ []) e in
       ap (λ h. item_with text count h.addresses h.at (slice_get text h.at)) (bang_there e)
       ∙ ap (item_with text count (record { first = Some (Match (Some 0)); second = None; negate = true }) (at + 1)) (byte_there text (at + 1) 112 [] there)
-      ∙ ap (λ r. plainly r >>= λ found. plainly (Ok (item_of (record { first = Some (Match (Some 0)); second = None; negate = true }) (at + 1) found))) (ends_command text (at + 1 + 1) (Plain Print) (drop_on text (at + 1) (112 ∷ []) [] there))
+      ∙ ap (λ r. plainly r >>= λ found. plainly (Ok (item_of (record { first = Some (Match (Some 0)); second = None; negate = true }) (at + 1) (Plain Print) found))) (ends_command text (at + 1 + 1) Nothing (drop_on text (at + 1) (112 ∷ []) [] there))
 
 -- a script of these commands with one expression
 abbrev pub with_expression : WrittenExpression → Program → Program

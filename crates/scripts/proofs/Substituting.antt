@@ -12,8 +12,9 @@ use Rattle.sedscript.specs.declared.items.Flags.{Flags}
 use Rattle.sedscript.specs.declared.items.ItemOrEnd.{ItemOrEnd}
 use Rattle.sedscript.specs.declared.items.Item.{Item}
 use Rattle.sedscript.specs.declared.items.Strings.{Strings}
-use Rattle.sedscript.specs.declared.items.Function.{Function}
-use Rattle.sedscript.specs.declared.items.Function.TheVariants.{Substitute}
+use Rattle.sedscript.specs.declared.items.Argument.{Argument}
+use Rattle.sedscript.specs.declared.items.Argument.TheVariants.{FlaggedPair}
+use Rattle.sedscript.specs.declared.letters.Verb.TheVariants.{Substitute}
 use Rattle.sedscript.specs.declared.substitution.Piece.{Piece}
 use Rattle.sedscript.specs.Items.{address_at, addresses_at, addresses_of, function_at, item_at, substitute_at, Reading, plainly, expression, ◌>>=◌, item_of}
 use Rattle.sedscript.specs.Between.{flags_after, unless_fault, flags_from, no_flags}
@@ -84,13 +85,13 @@ module _ (re : List ℕ) (e : Tree) (groups : ℕ) (is : IsSlashed re e groups) 
   re_is : bytes_between text 2 middle ≡ re
   re_is = let long : middle - 2 ≡ length re = omega arith in ap (λ k. take k (re ++ 47 ∷ (put ++ 47 ∷ 103 ∷ []))) long ∙ take-append_seam re (47 ∷ (put ++ 47 ∷ 103 ∷ []))
 
-  abbrev function : Function
-  function = Substitute strings (Some 0) global
+  abbrev argument : Argument
+  argument = FlaggedPair strings (Some 0) global
 
-  flagged_is : flagged text strings (Some 0) ≡ Ok (function, last + 1 + 1)
-  flagged_is = rw flags_are (ends_command text (last + 1 + 1) function no_more)
+  flagged_is : flagged text strings (Some 0) ≡ Ok (argument, last + 1 + 1)
+  flagged_is = rw flags_are (ends_command text (last + 1 + 1) argument no_more)
 
-  substituted_is : substituted text strings (Some 0) (Some groups) ≡ Ok (function, last + 1 + 1)
+  substituted_is : substituted text strings (Some 0) (Some groups) ≡ Ok (argument, last + 1 + 1)
   unfolding substituted
   substituted_is =
       ap (λ bs. unless_fault (replacement_fault 47 (Some groups) false (middle + 1) bs) (flagged text strings (Some 0))) text_is
@@ -100,8 +101,8 @@ module _ (re : List ℕ) (e : Tree) (groups : ℕ) (is : IsSlashed re e groups) 
   unfolding substitute_at delimiter_at
   substitute_is = rw (is.ends 2 (put ++ 47 ∷ 103 ∷ []), text_ends, not_here, flags_are) refl
 
-  abbrev with_item : Reading (Function × ℕ) → Reading ItemOrEnd
-  with_item r = r >>= λ found. plainly (Ok (item_of (addresses_of None None) 0 found))
+  abbrev with_item : Reading (Argument × ℕ) → Reading ItemOrEnd
+  with_item r = r >>= λ found. plainly (Ok (item_of (addresses_of None None) 0 Substitute found))
 
   item_is : item_at text 0 0 ≡ with_item (expression (pattern 2 middle) (λ groups. plainly (substituted text strings (Some 0) (Some groups))))
   unfolding item_at addresses_at address_at function_at
@@ -110,7 +111,7 @@ module _ (re : List ℕ) (e : Tree) (groups : ℕ) (is : IsSlashed re e groups) 
       (ap with_item substitute_is)
 
   abbrev whole_item : Item
-  whole_item = record { addresses = addresses_of None None; place = 0; function = function }
+  whole_item = record { addresses = addresses_of None None; place = 0; verb = Substitute; argument = argument }
 
   -- the script of one substitution
   abbrev pub substitutes : List Piece → Program

@@ -10,8 +10,9 @@ use Rattle.sedscript.specs.declared.types.Action.TheVariants as action
 use Rattle.sedscript.specs.declared.transliteration.Char.{Char}
 use Rattle.sedscript.specs.declared.items.ItemOrEnd.TheVariants.{Is}
 use Rattle.sedscript.specs.declared.items.Strings.{Strings}
-use Rattle.sedscript.specs.declared.items.Function.{Function}
-use Rattle.sedscript.specs.declared.items.Function.TheVariants.{Transliterate}
+use Rattle.sedscript.specs.declared.items.Argument.{Argument}
+use Rattle.sedscript.specs.declared.items.Argument.TheVariants.{Pair}
+use Rattle.sedscript.specs.declared.letters.Verb.TheVariants.{Transliterate}
 use Rattle.sedscript.specs.Items.{address_at, addresses_at, addresses_of, function_at, item_at, plainly, ◌>>=◌, item_of}
 use Rattle.sedscript.specs.Letters.{transliterate_at}
 use Rattle.sedscript.specs.Bytes.{bytes_between}
@@ -94,18 +95,18 @@ module _ (s1 s2 : List ℕ) (once : each_once [] s1 ≡ true) (long : length s1 
   faultless : strings_fault text 47 0 2 middle last ≡ None
   faultless = rw (one_is, two_is, string_faultless 47 s1 2, string_faultless 47 s2 (middle + 1), once_here, same_length) refl
 
-  abbrev function : Function
-  function = Transliterate strings
+  abbrev argument : Argument
+  argument = Pair strings
 
-  transliterate_is : transliterate_at text 0 ≡ Ok (function, last + 1)
+  transliterate_is : transliterate_at text 0 ≡ Ok (argument, last + 1)
   unfolding transliterate_at
-  transliterate_is = rw (first_ends, second_ends, faultless) (ends_command text (last + 1) function no_more)
+  transliterate_is = rw (first_ends, second_ends, faultless) (ends_command text (last + 1) argument no_more)
 
-  item_is : item_at text 0 0 ≡ plainly (Ok (Is (record { addresses = addresses_of None None; place = 0; function = function }) (last + 1)))
+  item_is : item_at text 0 0 ≡ plainly (Ok (Is (record { addresses = addresses_of None None; place = 0; verb = Transliterate; argument = argument }) (last + 1)))
   unfolding item_at addresses_at address_at function_at
   item_is =
       rw (past_none Separator text 0 121 (47 ∷ (one ++ 47 ∷ (two ++ 47 ∷ []))) refl refl, past_none Blank text 0 121 (47 ∷ (one ++ 47 ∷ (two ++ 47 ∷ []))) refl refl)
-      (ap (λ r. plainly r >>= λ found. plainly (Ok (item_of (addresses_of None None) 0 found))) transliterate_is)
+      (ap (λ r. plainly r >>= λ found. plainly (Ok (item_of (addresses_of None None) 0 Transliterate found))) transliterate_is)
 
   abbrev pub with_table : List ℕ → Program
   with_table table = record (of_commands (always (action.Transliterate 0) ∷ []) []) { tables = table ∷ [] }
@@ -114,5 +115,5 @@ module _ (s1 s2 : List ℕ) (once : each_once [] s1 ≡ true) (long : length s1 
   pub transliterate_means : Means text Basic 65536 (with_table (table_of s1 s2))
   transliterate_means =
       subst (λ table. Means text Basic 65536 (with_table table)) (ap₂ (λ a b. table_of (bytes_of (chars_from 47 false 2 a)) (bytes_of (chars_from 47 false (middle + 1) b))) one_is two_is ∙ ap₂ table_of read_one read_two)
-      (means_one text (record { addresses = addresses_of None None; place = 0; function = function }) [] (last + 1) (gives_plainly text _ _ item_is)
+      (means_one text (record { addresses = addresses_of None None; place = 0; verb = Transliterate; argument = argument }) [] (last + 1) (gives_plainly text _ _ item_is)
       (ends_there text (last + 1) no_more) refl (not_quiet 121 (47 ∷ (one ++ 47 ∷ (two ++ 47 ∷ []))) refl))

@@ -5,8 +5,7 @@ use Rattle.std.proofs.lemmas.List.{reverse-append, reverse-reverse}
 use Rattle.sedscript.proofs.Labels.{take_item, drop_item, counted_in, one_each}
 use Rattle.std.proofs.lemmas.Bool.Decides.{eqb_tells}
 use Rattle.sedscript.specs.declared.items.Item.{Item}
-use Rattle.sedscript.specs.declared.items.Function.{Function}
-use Rattle.sedscript.specs.declared.items.Function.TheVariants.{Open, Close}
+use Rattle.sedscript.specs.Types.{Verb, Open, Close}
 use Rattle.sedscript.specs.Targets.{counted, commands_in, is_open, is_close, close_in, depth_after, block_end, becomes_command}
 use Rattle.sedscript.specs.Tables.{unopened, unopened_by, opened, blocks_in, with_end, ends_in, EndIs}
 
@@ -17,7 +16,7 @@ after_first (u ∷ us) d = refl
 not_zero : (d : ℕ) → (suc d == 0) ≡ false
 not_zero d = elim (eqb_tells (suc d) 0) [ inl h ↦ absurd (omega (arith, h.1)) | inr h ↦ h.0 ]
 
-close_step : (f : Function) (d n : ℕ) (us : List ℕ) (c : ℕ → Option ℕ) → ((e : ℕ) → c e ≡ slice_get us e) →
+close_step : (f : Verb) (d n : ℕ) (us : List ℕ) (c : ℕ → Option ℕ) → ((e : ℕ) → c e ≡ slice_get us e) →
     (if is_close f && d == 0 then Some n else c (depth_after d f)) ≡ slice_get (unopened_by n f us) d
 close_step Close zero n us c h = refl
 close_step Close (suc d) n us c h = let e : suc d - 1 ≡ d = omega arith in rw e (rw (not_zero d) (h d))
@@ -27,13 +26,13 @@ close_step f d n us c h = h d
 -- a closing brace after so many inner ones is found in the list of those that close no block
 pub close_is : (d n : ℕ) (is : List Item) → close_in d n is ≡ slice_get (unopened n is) d
 close_is d n [] = refl
-close_is d n (i ∷ is) = close_step i.function d n (unopened (counted n i) is) (λ (e : ℕ). close_in e (counted n i) is) (λ e. close_is e (counted n i) is)
+close_is d n (i ∷ is) = close_step i.verb d n (unopened (counted n i) is) (λ (e : ℕ). close_in e (counted n i) is) (λ e. close_is e (counted n i) is)
 
 -- the stack one item further back
 pub unopened_step : (items : List Item) (k n next : ℕ) (i : Item) → slice_get items k ≡ Some i → n ≡ counted next i →
-    unopened_by next i.function (unopened n (drop (k + 1) items)) ≡ unopened next (drop k items)
+    unopened_by next i.verb (unopened n (drop (k + 1) items)) ≡ unopened next (drop k items)
 unopened_step items k n next i at e =
-    ap (λ (m : ℕ). unopened_by next i.function (unopened m (drop (k + 1) items))) e ∙ sym (ap (unopened next) (drop_item items k i at))
+    ap (λ (m : ℕ). unopened_by next i.verb (unopened m (drop (k + 1) items))) e ∙ sym (ap (unopened next) (drop_item items k i at))
 
 pub none_after : (items : List Item) (n : ℕ) → [] ≡ reverse (unopened n (drop (length items) items))
 none_after items n = let e : drop (length items) items ≡ [] = drop_of_length-le items (omega arith) in rw e refl
@@ -51,20 +50,20 @@ popped_top us old new n left (Some x) e f long cases =
     rw turned refl
 
 -- the end of one block more
-pub end_pushed : (us : List ℕ) (es old new : List (Option ℕ)) (f : Function) (end : Option ℕ) → f ≡ Open → end ≡ slice_get us 0 → old ≡ reverse es → new ≡ old ++ end ∷ [] →
+pub end_pushed : (us : List ℕ) (es old new : List (Option ℕ)) (f : Verb) (end : Option ℕ) → is_open f ≡ true → end ≡ slice_get us 0 → old ≡ reverse es → new ≡ old ++ end ∷ [] →
     new ≡ reverse (with_end f (slice_get us 0) es)
 end_pushed us es old new f end opens top are grown =
     rw opens (grown ∙ (ap (λ (z : List (Option ℕ)). z ++ end ∷ []) are ∙ (ap (λ (o : Option ℕ). reverse es ++ o ∷ []) top ∙ sym (reverse_onto es (slice_get us 0) []))))
 
 -- the table one item further back
 pub ends_step : (items : List Item) (k n next : ℕ) (i : Item) → slice_get items k ≡ Some i → n ≡ counted next i →
-    with_end i.function (slice_get (unopened n (drop (k + 1) items)) 0) (ends_in n (drop (k + 1) items)) ≡ ends_in next (drop k items)
+    with_end i.verb (slice_get (unopened n (drop (k + 1) items)) 0) (ends_in n (drop (k + 1) items)) ≡ ends_in next (drop k items)
 ends_step items k n next i at e =
-    ap (λ (o : Option ℕ). with_end i.function o (ends_in n (drop (k + 1) items))) (sym (close_is 0 n (drop (k + 1) items)))
-    ∙ (ap (λ (m : ℕ). with_end i.function (close_in 0 m (drop (k + 1) items)) (ends_in m (drop (k + 1) items))) e
+    ap (λ (o : Option ℕ). with_end i.verb o (ends_in n (drop (k + 1) items))) (sym (close_is 0 n (drop (k + 1) items)))
+    ∙ (ap (λ (m : ℕ). with_end i.verb (close_in 0 m (drop (k + 1) items)) (ends_in m (drop (k + 1) items))) e
     ∙ sym (ap (ends_in next) (drop_item items k i at)))
 
-open_first : (f : Function) (n : ℕ) (is : List Item) → f ≡ Open →
+open_first : (f : Verb) (n : ℕ) (is : List Item) → f ≡ Open →
     slice_get (with_end f (close_in 0 (if becomes_command f then suc n else n) is) (ends_in (if becomes_command f then suc n else n) is)) 0 ≡ Some (close_in 0 (suc n) is)
 open_first f n is e = rw e refl
 
@@ -73,18 +72,18 @@ skip_end true x es m = refl
 skip_end false x es m = refl
 
 -- what the table says of an item that opens a block
-end_after : (items : List Item) (k n : ℕ) (i : Item) → slice_get items k ≡ Some i → i.function ≡ Open →
+end_after : (items : List Item) (k n : ℕ) (i : Item) → slice_get items k ≡ Some i → i.verb ≡ Open →
     slice_get (ends_in n items) (blocks_in (take k items)) ≡ Some (close_in 0 (suc (n + commands_in (take k items))) (drop (suc k) items))
 end_after [] k n i at opens = let h : ◌≡◌ {A = Option Item} None (Some i) = at in cc
 end_after (j ∷ items) zero n i at opens =
     let same : j ≡ i = cc in
     let more : n ≡ n + 0 = omega arith in
-    open_first j.function n items (ap (λ (x : Item). x.function) same ∙ opens) ∙ ap (λ (m : ℕ). Some (close_in 0 (suc m) items)) more
+    open_first j.verb n items (ap (λ (x : Item). x.verb) same ∙ opens) ∙ ap (λ (m : ℕ). Some (close_in 0 (suc m) items)) more
 end_after (j ∷ items) (suc k) n i at opens =
-    skip_end (is_open j.function) (close_in 0 (counted n j) items) (ends_in (counted n j) items) (blocks_in (take k items))
+    skip_end (is_open j.verb) (close_in 0 (counted n j) items) (ends_in (counted n j) items) (blocks_in (take k items))
     ∙ (end_after items k (counted n j) i at opens ∙ ap (λ (m : ℕ). Some (close_in 0 (suc m) (drop (suc k) items))) (counted_in n j (take k items)))
 
-end_found : (items : List Item) (ends : List (Option ℕ)) (k : ℕ) (i : Item) → ends ≡ ends_in 0 items → slice_get items k ≡ Some i → i.function ≡ Open →
+end_found : (items : List Item) (ends : List (Option ℕ)) (k : ℕ) (i : Item) → ends ≡ ends_in 0 items → slice_get items k ≡ Some i → i.verb ≡ Open →
     slice_get ends (blocks_in (take k items)) ≡ Some (block_end (take k items) (drop (k + 1) items))
 end_found items ends k i are at opens =
     let one : suc k ≡ k + 1 = omega arith in
@@ -93,21 +92,21 @@ end_found items ends k i are at opens =
     ∙ (ap (λ (m : ℕ). Some (close_in 0 (suc m) (drop (suc k) items))) none
     ∙ ap (λ (m : ℕ). Some (close_in 0 (suc (commands_in (take k items))) (drop m items))) one))
 
-the_brace : (f : Function) → is_open f ≡ true → f ≡ Open
+the_brace : (f : Verb) → is_open f ≡ true → f ≡ Open
 the_brace Open e = refl
 the_brace f e = cc
 
 pub end_known : (items : List Item) (ends : List (Option ℕ)) (k blocks : ℕ) (i : Item) (end : Option ℕ) → ends ≡ ends_in 0 items → slice_get items k ≡ Some i →
-    blocks ≡ blocks_in (take k items) → end ≡ unwrap_or (slice_get ends blocks) None → EndIs (take k items) (drop (k + 1) items) i.function end
+    blocks ≡ blocks_in (take k items) → end ≡ unwrap_or (slice_get ends blocks) None → EndIs (take k items) (drop (k + 1) items) i.verb end
 end_known items ends k blocks i end are at counted read = λ opens.
-    read ∙ ap (λ (o : Option (Option ℕ)). unwrap_or o None) (ap (slice_get ends) counted ∙ end_found items ends k i are at (the_brace i.function opens))
+    read ∙ ap (λ (o : Option (Option ℕ)). unwrap_or o None) (ap (slice_get ends) counted ∙ end_found items ends k i are at (the_brace i.verb opens))
 
 -- how many blocks are opened up to an item
-blocks_snoc : (is : List Item) (i : Item) → blocks_in (is ++ i ∷ []) ≡ opened (blocks_in is) i.function
+blocks_snoc : (is : List Item) (i : Item) → blocks_in (is ++ i ∷ []) ≡ opened (blocks_in is) i.verb
 blocks_snoc [] i = refl
-blocks_snoc (j ∷ is) i = one_each (is_open j.function) (is_open i.function) (blocks_in (is ++ i ∷ [])) (blocks_in is) (blocks_snoc is i)
+blocks_snoc (j ∷ is) i = one_each (is_open j.verb) (is_open i.verb) (blocks_in (is ++ i ∷ [])) (blocks_in is) (blocks_snoc is i)
 
-pub blocks_step : (items : List Item) (k n next : ℕ) (i : Item) → slice_get items k ≡ Some i → n ≡ blocks_in (take k items) → next ≡ opened n i.function →
+pub blocks_step : (items : List Item) (k n next : ℕ) (i : Item) → slice_get items k ≡ Some i → n ≡ blocks_in (take k items) → next ≡ opened n i.verb →
     next ≡ blocks_in (take (k + 1) items)
 blocks_step items k n next i at e f =
-    f ∙ (ap (λ (m : ℕ). opened m i.function) e ∙ (sym (blocks_snoc (take k items) i) ∙ ap blocks_in (sym (take_item items k i at))))
+    f ∙ (ap (λ (m : ℕ). opened m i.verb) e ∙ (sym (blocks_snoc (take k items) i) ∙ ap blocks_in (sym (take_item items k i at))))

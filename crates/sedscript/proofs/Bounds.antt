@@ -12,23 +12,21 @@ use Rattle.sedscript.specs.declared.types.Action.{Action}
 use Rattle.sedscript.specs.declared.types.Command.{Command}
 use Rattle.sedscript.specs.declared.types.FileUse.{FileUse}
 use Rattle.sedscript.specs.declared.types.FileUse.TheVariants.{Read, Write}
-use Rattle.sedscript.specs.declared.items.Function.{Function}
-use Rattle.sedscript.specs.declared.items.Function.TheVariants.{Open, Close, Branch, File, Substitute, Transliterate}
+use Rattle.sedscript.specs.Types.{Verb, Open, Branch, File, Substitute, Transliterate, Argument, Pair, FlaggedPair}
 use Rattle.sedscript.specs.declared.items.Addresses.{Addresses}
 use Rattle.sedscript.specs.declared.items.Item.{Item}
 use Rattle.sedscript.specs.declared.items.ItemOrEnd.TheVariants.{Is}
-use Rattle.sedscript.specs.Bytes.{bytes_between}
 use Rattle.sedscript.specs.Functions.{◌>>=◌ as ◌then◌}
 use Rattle.sedscript.specs.Strings.{counterpart, table_of}
 use Rattle.sedscript.specs.Items.{item_at, Reading}
 use Rattle.sedscript.specs.Script.{Gives, value, after_expression, CutScript, done, item, text_in, texts_of, substitution_in, substitutions_of, table_in, tables_of, action_of, command_of, commands_of, Means}
-use Rattle.sedscript.specs.Targets.{becomes_command, counted, commands_in, label_in, is_label, close_in, is_close, depth_after, block_end, is_standard_output, is_file, name_in, file_at, files_in, number_in, sink_in}
+use Rattle.sedscript.specs.Targets.{becomes_command, counted, commands_in, label_in, is_label, close_in, is_close, depth_after, block_end, written_in, branch_in, is_standard_output, is_file, sink_name, name_in, file_in, files_in, number_in}
 use Rattle.sedscript.specs.Program.{Program}
 use Rattle.sedscript.specs.declared.substitution.Substitution.{Substitution}
 use Rattle.sedscript.specs.Ranges.{Sizes, sizes_of, SinkWithin, FileWithin, ActionWithin, CommandWithin, SubstitutionWithin, InRange}
 use Rattle.sedscript.proofs.Labels.{commands_snoc, counted_in}
 use Rattle.sedscript.proofs.FileTables.{any_distinct}
-use Rattle.sedscript.proofs.Places.{if_both, Each, AddressesWithin, FunctionWithin, ItemsWithin, cut_up_to}
+use Rattle.sedscript.proofs.Places.{if_both, Each, AddressesWithin, ArgumentWithin, Follows, ItemsWithin, cut_up_to}
 
 -- targets
 
@@ -43,13 +41,13 @@ at_most_or n (Some k) h = h
 close_bound : (depth n : ℕ) (is : List Item) → AtMost (n + commands_in is) (close_in depth n is)
 close_bound depth n [] = tt
 close_bound depth n (i ∷ is) =
-    if_both (AtMost (n + commands_in (i ∷ is))) (is_close i.function && depth == 0) (Some n) (close_in (depth_after depth i.function) (counted n i) is) (omega arith)
-    (subst (λ (m : ℕ). AtMost m (close_in (depth_after depth i.function) (counted n i) is)) (counted_in n i is) (close_bound (depth_after depth i.function) (counted n i) is))
+    if_both (AtMost (n + commands_in (i ∷ is))) (is_close i.verb && depth == 0) (Some n) (close_in (depth_after depth i.verb) (counted n i) is) (omega arith)
+    (subst (λ (m : ℕ). AtMost m (close_in (depth_after depth i.verb) (counted n i) is)) (counted_in n i is) (close_bound (depth_after depth i.verb) (counted n i) is))
 
 label_bound : (text name : List ℕ) (n : ℕ) (is : List Item) → AtMost (n + commands_in is) (label_in text name n is)
 label_bound text name n [] = tt
 label_bound text name n (i ∷ is) =
-    if_both (AtMost (n + commands_in (i ∷ is))) (is_label text name i.function) (Some n) (label_in text name (counted n i) is) (omega arith)
+    if_both (AtMost (n + commands_in (i ∷ is))) (is_label text name i.verb i.argument) (Some n) (label_in text name (counted n i) is) (omega arith)
     (subst (λ (m : ℕ). AtMost m (label_in text name (counted n i) is)) (counted_in n i is) (label_bound text name (counted n i) is))
 
 -- actions
@@ -58,42 +56,46 @@ abbrev MayAct : Sizes → Option Action → Type 0
 MayAct n None = Unit {0}
 MayAct n (Some a) = ActionWithin n a
 
--- the name that stands there, if one does, is among the sizes
-abbrev NameWithin : List ℕ → List Item → Sizes → FileUse → Option (ℕ × ℕ) → Type 0
+-- the name, if there is one, is among the sizes
+abbrev NameWithin : List ℕ → List Item → Sizes → FileUse → Option (List ℕ) → Type 0
 NameWithin text all n u None = Unit {0}
-NameWithin text all n u (Some name) = FileWithin n u (number_in u text all (bytes_between text name.0 name.1))
+NameWithin text all n u (Some name) = FileWithin n u (number_in u text all name)
 
 -- what a function names among all items is among the sizes
-abbrev FilesWithin : List ℕ → List Item → Sizes → Function → Type 0
-FilesWithin text all n f = (u : FileUse) → NameWithin text all n u (name_in u f)
+abbrev FilesWithin : List ℕ → List Item → Sizes → Verb → Argument → Type 0
+FilesWithin text all n verb a = (u : FileUse) → NameWithin text all n u (name_in u text verb a)
 
 abbrev AllFilesWithin : List ℕ → List Item → Sizes → List Item → Type 0
-AllFilesWithin text all n is = Each (λ i. FilesWithin text all n i.function) is
+AllFilesWithin text all n is = Each (λ i. FilesWithin text all n i.verb i.argument) is
 
-branch_bound : (n : ℕ) (same : Bool) (m : ℕ) (o : Option ℕ) → m ≤ n → AtMost n o → (if same then m else unwrap_or o 0) ≤ n
-branch_bound n true m o h g = h
-branch_bound n false m o h g = at_most_or n o g
+branch_bound : (text name : List ℕ) (all : List Item) → AtMost (commands_in all) (branch_in text all name)
+branch_bound text [] all = omega arith
+branch_bound text (b ∷ bs) all = subst (λ (m : ℕ). AtMost m (label_in text (b ∷ bs) 0 all)) (let e : 0 + commands_in all ≡ commands_in all = omega arith in e) (label_bound text (b ∷ bs) 0 all)
 
 -- the texts, substitutions and tables of the items before a function, of the function and of those after it come to all
 -- that there are
-abbrev Sums : List ℕ → List Item → Sizes → List Item → Function → List Item → Type 0
-Sums text all n before f after =
-    (length (texts_of text before) + length (cons_option (text_in text f) (texts_of text after)) ≡ n.texts)
-    × (length (substitutions_of text all before) + length (cons_option (substitution_in text all f) (substitutions_of text all after)) ≡ n.substitutions)
-    × (length (tables_of text before) + length (cons_option (table_in text f) (tables_of text after)) ≡ n.tables)
+abbrev Sums : List ℕ → List Item → Sizes → List Item → Verb → Argument → List Item → Type 0
+Sums text all n before verb a after =
+    (length (texts_of text before) + length (cons_option (text_in text verb a) (texts_of text after)) ≡ n.texts)
+    × (length (substitutions_of text all before) + length (cons_option (substitution_in text all a) (substitutions_of text all after)) ≡ n.substitutions)
+    × (length (tables_of text before) + length (cons_option (table_in text a) (tables_of text after)) ≡ n.tables)
 
-may_act : (text : List ℕ) (all before after : List Item) (n : Sizes) (f : Function) → FilesWithin text all n f → commands_in all ≡ n.commands →
-    commands_in before + (if becomes_command f then suc (commands_in after) else commands_in after) ≡ n.commands → Sums text all n before f after →
-    MayAct n (action_of text all before after f)
-may_act text all before after n Open files whole count long =
+may_act : (text : List ℕ) (all before after : List Item) (n : Sizes) (verb : Verb) (a : Argument) → Follows verb a → FilesWithin text all n verb a → commands_in all ≡ n.commands →
+    commands_in before + (if becomes_command verb then suc (commands_in after) else commands_in after) ≡ n.commands → Sums text all n before verb a after →
+    MayAct n (action_of text all before after verb a)
+may_act text all before after n Open a follows files whole count long =
     at_most_or n.commands (block_end before after)
     (subst (λ (m : ℕ). AtMost m (block_end before after)) (let e : suc (commands_in before) + commands_in after ≡ n.commands = omega (arith, count) in e) (close_bound 0 (suc (commands_in before)) after))
-may_act text all before after n (Branch u from to) files whole count long =
-    branch_bound n.commands (from == to) (commands_in all) (label_in text (bytes_between text from to) 0 all) (omega (arith, whole))
-    (subst (λ (m : ℕ). AtMost m (label_in text (bytes_between text from to) 0 all)) (let e : 0 + commands_in all ≡ n.commands = omega (arith, whole) in e) (label_bound text (bytes_between text from to) 0 all))
-may_act text all before after n (File Read from to) files whole count long = files Read
-may_act text all before after n (File Write from to) files whole count long = files Write
-may_act text all before after n other files whole count long = search arith
+may_act text all before after n (Branch u) a follows files whole count long =
+    at_most_or n.commands (branch_in text all (written_in text a))
+    (subst (λ (m : ℕ). AtMost m (branch_in text all (written_in text a))) whole (branch_bound text (written_in text a) all))
+may_act text all before after n (File Read) a follows files whole count long = files Read
+may_act text all before after n (File Write) a follows files whole count long = files Write
+may_act text all before after n Substitute (FlaggedPair s e f) follows files whole count long = omega (arith, long.1)
+may_act text all before after n Substitute a follows files whole count long = absurd follows
+may_act text all before after n Transliterate (Pair s) follows files whole count long = omega (arith, long.2)
+may_act text all before after n Transliterate a follows files whole count long = absurd follows
+may_act text all before after n verb a follows files whole count long = search arith
 
 -- commands
 
@@ -106,7 +108,7 @@ with_within : (n : Sizes) (a : Addresses) (o : Option Action) (cs : List Command
 with_within n a None cs h g k = k
 with_within n a (Some x) cs h g k = (record { first = h.0; second = h.1; action = g }, k)
 
-length_with : {A : Type 0} (o : Option A) (xs : List A) → length (cons_option o xs) ≡ length (cons_option o []) + length xs
+pub length_with : {A : Type 0} (o : Option A) (xs : List A) → length (cons_option o xs) ≡ length (cons_option o []) + length xs
 length_with None xs = omega arith
 length_with (Some x) xs = omega arith
 
@@ -128,25 +130,25 @@ commands_within : (text : List ℕ) (all before is : List Item) (n : Sizes) → 
     ItemsWithin n.expressions is → AllFilesWithin text all n is → Each (CommandWithin n) (commands_of text all before is)
 commands_within text all before [] n whole count long h files = tt
 commands_within text all before (i ∷ is) n whole count long h files =
-    with_within n i.addresses (action_of text all before is i.function) (commands_of text all (before ++ i ∷ []) is) h.0.0
-    (may_act text all before is n i.function files.0 whole count long)
+    with_within n i.addresses (action_of text all before is i.verb i.argument) (commands_of text all (before ++ i ∷ []) is) h.0.0
+    (may_act text all before is n i.verb i.argument h.0.2 files.0 whole count long)
     (commands_within text all (before ++ i ∷ []) is n whole
     (ap (λ (m : ℕ). m + commands_in is) (commands_snoc before i) ∙ (counted_in (commands_in before) i is ∙ count)) (
-      taken_on (λ (j : Item). text_in text j.function) before is i n.texts long.0,
-      taken_on (λ (j : Item). substitution_in text all j.function) before is i n.substitutions long.1,
-      taken_on (λ (j : Item). table_in text j.function) before is i n.tables long.2,
+      taken_on (λ (j : Item). text_in text j.verb j.argument) before is i n.texts long.0,
+      taken_on (λ (j : Item). substitution_in text all j.argument) before is i n.substitutions long.1,
+      taken_on (λ (j : Item). table_in text j.argument) before is i n.tables long.2,
     )
     h.1 files.1)
 
-leaf_length : (text : List ℕ) (all before after : List Item) (n : ℕ) (a : Addresses) (f : Function) (cs : List Command) → length cs ≡ n →
-    length (cons_option (option_map (command_of a) (action_of text all before after f)) cs) ≡ (if becomes_command f then suc n else n)
-leaf_length text all before after n a Close cs h = omega (arith, h)
-leaf_length text all before after n a other cs h = omega (arith, h)
+leaf_length : (text : List ℕ) (all before after : List Item) (n : ℕ) (a : Addresses) (verb : Verb) (follows : Argument) (cs : List Command) → length cs ≡ n →
+    length (cons_option (option_map (command_of a) (action_of text all before after verb follows)) cs) ≡ (if becomes_command verb then suc n else n)
+leaf_length text all before after n a Open follows cs h = omega (arith, h)
+leaf_length text all before after n a verb follows cs h = omega (arith, h)
 
-commands_length : (text : List ℕ) (all before is : List Item) → length (commands_of text all before is) ≡ commands_in is
+pub commands_length : (text : List ℕ) (all before is : List Item) → length (commands_of text all before is) ≡ commands_in is
 commands_length text all before [] = refl
 commands_length text all before (i ∷ is) =
-    leaf_length text all before is (commands_in is) i.addresses i.function (commands_of text all (before ++ i ∷ []) is) (commands_length text all (before ++ i ∷ []) is)
+    leaf_length text all before is (commands_in is) i.addresses i.verb i.argument (commands_of text all (before ++ i ∷ []) is) (commands_length text all (before ++ i ∷ []) is)
 
 -- expressions
 
@@ -173,16 +175,17 @@ from_none n m e = omega (arith, e)
 
 substitutions_within : (n : Sizes) (text : List ℕ) (all is : List Item) → ItemsWithin n.expressions is → AllFilesWithin text all n is → Each (SubstitutionWithin n) (substitutions_of text all is)
 substitutions_within n text all [] h files = tt
-substitutions_within n text all (i ∷ is) h files = by_function i.function h.0.1 files.0 (substitutions_within n text all is h.1 files.1)
+substitutions_within n text all (i ∷ is) h files = by_both i.verb i.argument h.0.1 h.0.2 files.0 (substitutions_within n text all is h.1 files.1)
   where
-    by_file : (o : Option (ℕ × ℕ)) → NameWithin text all n Write o → SinkWithin n.wfiles (sink_in text all o)
+    by_file : (o : Option (List ℕ)) → NameWithin text all n Write o → SinkWithin n.wfiles (option_map (number_in Write text all) o)
     by_file None v = tt
     by_file (Some name) v = v
 
-    by_function : (f : Function) → FunctionWithin n.expressions f → FilesWithin text all n f → Each (SubstitutionWithin n) (substitutions_of text all is) →
-        Each (SubstitutionWithin n) (cons_option (substitution_in text all f) (substitutions_of text all is))
-    by_function (Substitute s e f) w v rest = (record { expression = w.0; number = w.1; file = by_file f.file (v Write) }, rest)
-    by_function f w v rest = rest
+    by_both : (verb : Verb) (a : Argument) → ArgumentWithin n.expressions a → Follows verb a → FilesWithin text all n verb a → Each (SubstitutionWithin n) (substitutions_of text all is) →
+        Each (SubstitutionWithin n) (cons_option (substitution_in text all a) (substitutions_of text all is))
+    by_both (File u) (FlaggedPair s e f) w follows v rest = absurd follows
+    by_both verb (FlaggedPair s e f) w follows v rest = (record { expression = w.0; number = w.1; file = by_file (sink_name text f) (v Write) }, rest)
+    by_both verb a w follows v rest = rest
 
 table_whole : (source target : List ℕ) → length (table_of source target) ≡ 256
 unfolding table_of
@@ -190,16 +193,16 @@ table_whole source target = length-map-range_with_len (counterpart source target
 
 tables_whole : (text : List ℕ) (is : List Item) → Each (λ t. length t ≡ 256) (tables_of text is)
 tables_whole text [] = tt
-tables_whole text (i ∷ is) = by_function i.function (tables_whole text is)
+tables_whole text (i ∷ is) = by_argument i.argument (tables_whole text is)
   where
-    by_function : (f : Function) → Each (λ t. length t ≡ 256) (tables_of text is) → Each (λ t. length t ≡ 256) (cons_option (table_in text f) (tables_of text is))
-    by_function (Transliterate s) rest = (table_whole _ _, rest)
-    by_function f rest = rest
+    by_argument : (a : Argument) → Each (λ t. length t ≡ 256) (tables_of text is) → Each (λ t. length t ≡ 256) (cons_option (table_in text a) (tables_of text is))
+    by_argument (Pair s) rest = (table_whole _ _, rest)
+    by_argument a rest = rest
 
 -- files
 
 abbrev names_in : FileUse → List ℕ → List Item → List (List ℕ)
-names_in u text is = filter_map (λ i. file_at u text (name_in u i.function)) is
+names_in u text is = filter_map (λ i. file_in u (name_in u text i.verb i.argument)) is
 
 -- a number among so many that are counted from the first
 number_below : (name : List ℕ) (first : ℕ) (ns : List (List ℕ)) → list_any (bytes_eq name) ns ≡ true → unwrap_or (position_from (bytes_eq name) first ns) 0 < first + length ns
@@ -225,14 +228,13 @@ file_number Write text all n name r w h = by_output (is_standard_output name) re
 abbrev Among : FileUse → List ℕ → List Item → List (List ℕ) → Type 0
 Among u text all ns = (name : List ℕ) → list_any (bytes_eq name) ns ≡ true → list_any (bytes_eq name) (files_in u text all) ≡ true
 
--- a name that stands at these places
-file_there : (u : FileUse) (text : List ℕ) (span : ℕ × ℕ) (rest : List (List ℕ)) → is_file u (bytes_between text span.0 span.1) ≡ true → list_any (bytes_eq (bytes_between text span.0 span.1)) (cons_option (file_at u text (Some span)) rest) ≡ true
-file_there u text span rest h =
-    let name : List ℕ = bytes_between text span.0 span.1 in
+-- a file's name
+pub file_there : (u : FileUse) (name : List ℕ) (rest : List (List ℕ)) → is_file u name ≡ true → list_any (bytes_eq name) (cons_option (file_in u (Some name)) rest) ≡ true
+file_there u name rest h =
     ap (λ (b : Bool). list_any (bytes_eq name) (cons_option (then_some b name) rest)) h
     ∙ ap (λ (b : Bool). b || list_any (bytes_eq name) rest) ((bytes_eq-Decides name name).1 refl)
 
-any_more : (name : List ℕ) (o : Option (List ℕ)) (rest : List (List ℕ)) → list_any (bytes_eq name) rest ≡ true → list_any (bytes_eq name) (cons_option o rest) ≡ true
+pub any_more : (name : List ℕ) (o : Option (List ℕ)) (rest : List (List ℕ)) → list_any (bytes_eq name) rest ≡ true → list_any (bytes_eq name) (cons_option o rest) ≡ true
 any_more name None rest h = h
 any_more name (Some n) rest h = by_same (bytes_eq name n)
   where
@@ -244,15 +246,13 @@ files_within : (text : List ℕ) (all : List Item) (n : Sizes) (is : List Item) 
     ((u : FileUse) → Among u text all (names_in u text is)) → AllFilesWithin text all n is
 files_within text all n [] r w among = tt
 files_within text all n (i ∷ is) r w among = (
-  λ u. by_name u (name_in u i.function) (among u),
-  files_within text all n is r w (λ u name h. among u name (any_more name (file_at u text (name_in u i.function)) (names_in u text is) h)),
+  λ u. by_name u (name_in u text i.verb i.argument) (among u),
+  files_within text all n is r w (λ u name h. among u name (any_more name (file_in u (name_in u text i.verb i.argument)) (names_in u text is) h)),
 )
   where
-    by_name : (u : FileUse) (o : Option (ℕ × ℕ)) → Among u text all (cons_option (file_at u text o) (names_in u text is)) → NameWithin text all n u o
+    by_name : (u : FileUse) (o : Option (List ℕ)) → Among u text all (cons_option (file_in u o) (names_in u text is)) → NameWithin text all n u o
     by_name u None h = tt
-    by_name u (Some span) h =
-        let name : List ℕ = bytes_between text span.0 span.1 in
-        file_number u text all n name r w (λ e. h name (file_there u text span (names_in u text is) e))
+    by_name u (Some name) h = file_number u text all n name r w (λ e. h name (file_there u name (names_in u text is) e))
 
 -- what a text means is in range
 pub means_in_range : (text : List ℕ) (kind : Kind) (m : ℕ) (s : Program) → Means text kind m s → InRange s

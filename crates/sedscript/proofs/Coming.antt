@@ -20,18 +20,15 @@ use Rattle.sedscript.specs.declared.types.Address.TheVariants.{Last, Match}
 use Rattle.sedscript.specs.declared.items.ItemOrEnd.{ItemOrEnd}
 use Rattle.sedscript.specs.declared.items.ItemOrEnd.TheVariants.{Is, Ends}
 use Rattle.sedscript.specs.Bytes.{bytes_between, past, is_byte, is_digit, with_digits}
-use Rattle.sedscript.specs.Items.{Pattern, Reading, plainly, expression, ◌>>=◌, Addressed, found, addresses_of, with_addresses, with_second, folds_at, past_flag, match_at, own_match, addresses_at, after_first, second_at, address_at, address_of, line_of, item_at, item_from, substitute_with, substitute_at, function_with, function_at, match_to, function_after, item_with, item_of, empty_match}
+use Rattle.sedscript.specs.Items.{Pattern, Reading, plainly, expression, ◌>>=◌, Addressed, found, addresses_of, with_addresses, with_second, folds_at, past_flag, match_at, own_match, addresses_at, after_first, second_at, address_at, address_of, line_of, item_at, item_from, substitute_with, substitute_at, argument_with, function_at, match_to, function_after, item_with, item_of, empty_match}
 use Rattle.sedscript.specs.declared.items.Strings.{Strings}
-use Rattle.sedscript.specs.declared.items.Function.{Function}
 use Rattle.sedscript.specs.Between.{own_delimiter, substitute_strings, flags_after, folds}
-use Rattle.sedscript.specs.Letters.{function_of, substituted, verb_of, allowed}
-use Rattle.sedscript.specs.declared.letters.Verb.{Verb}
-use Rattle.sedscript.specs.declared.letters.Verb.TheVariants.{Reads}
-use Rattle.sedscript.specs.declared.letters.Arguments.{Arguments}
+use Rattle.sedscript.specs.Letters.{argument_of, substituted, verb_of, allowed}
+use Rattle.sedscript.specs.Types.{Verb, Substitute, Argument}
 use Rattle.sedscript.specs.declared.items.Addresses.{Addresses}
 use Rattle.sedscript.specs.Script.{IsRead, Gives, value, after_expression}
 use Rattle.sedscript.specs.FirstFault.{Fails, own, no_expression, later, in_script}
-use Rattle.sedscript.specs.Answers.{as_here, as_function, as_groups, as_addressed, as_headed, Comes, Agrees, IsAfter, IsHere, is_no_memory, fault_of}
+use Rattle.sedscript.specs.Answers.{as_here, as_argument, as_groups, as_addressed, as_headed, Comes, Agrees, IsAfter, IsHere, is_no_memory, fault_of}
 
 not_equal : (a b : ℕ) → a ≢ b → (a == b) ≡ false
 not_equal a b n = elim (eqb_tells a b) [ inl h ↦ absurd (n h.1) | inr h ↦ h.0 ]
@@ -229,9 +226,9 @@ after_here text at start next (Ok Ends) a b h = absurd h
 
 -- `s`
 
-pub functions_agree : (n : ℕ) (result r : Result (Function × ℕ) ScriptFault) → result ≡ r → Agrees as_function n result r
-functions_agree n (Ok x) r e = sym e
-functions_agree n (Err x) r e = sym e
+pub arguments_agree : (n : ℕ) (result r : Result (Argument × ℕ) ScriptFault) → result ≡ r → Agrees as_argument n result r
+arguments_agree n (Ok x) r e = sym e
+arguments_agree n (Err x) r e = sym e
 
 pub substitute_empty : (text : List ℕ) (count : ℕ) (s : Strings) → s.middle ≡ s.from → substitute_with text count s ≡ plainly (substituted text s None None)
 substitute_empty text count s e = if_true _ _ (s.middle == s.from) ((Decides-eqb s.middle s.from).1 e)
@@ -242,16 +239,16 @@ substitute_is text count s folded n f =
     subst (λ (b : Bool). substitute_with text count s ≡ (expression (record { from = s.from; to = s.middle; delimiter = s.delimiter; folded = b }) (λ (groups : ℕ). plainly (Ok groups)) >>= λ (groups : ℕ). plainly (substituted text s (Some count) (Some groups)))) (sym f)
     (if_false _ _ (s.middle == s.from) (not_equal s.middle s.from n))
 
-pub substitute_comes : (text : List ℕ) (kind : Kind) (m number groups : ℕ) (s : Strings) (folded : Bool) (old new : List WrittenExpression) (result : Result (Function × ℕ) ScriptFault) → s.middle ≢ s.from →
+pub substitute_comes : (text : List ℕ) (kind : Kind) (m number groups : ℕ) (s : Strings) (folded : Bool) (old new : List WrittenExpression) (result : Result (Argument × ℕ) ScriptFault) → s.middle ≢ s.from →
     folded ≡ folds (flags_after text s false) → number ≡ length old →
     Comes text kind m old new as_groups (Ok groups) (expression (record { from = s.from; to = s.middle; delimiter = s.delimiter; folded = folded }) (λ (groups : ℕ). plainly (Ok groups))) →
-    result ≡ substituted text s (Some number) (Some groups) → Comes text kind m old new as_function result (substitute_with text (length old) s)
+    result ≡ substituted text s (Some number) (Some groups) → Comes text kind m old new as_argument result (substitute_with text (length old) s)
 substitute_comes text kind m number groups s folded old new result n f same h is =
-    subst (λ (r : Reading (Function × ℕ)). Comes text kind m old new as_function result r) (sym (substitute_is text (length old) s folded n f))
+    subst (λ (r : Reading (Argument × ℕ)). Comes text kind m old new as_argument result r) (sym (substitute_is text (length old) s folded n f))
     (comes_then text kind m old new new (expression (record { from = s.from; to = s.middle; delimiter = s.delimiter; folded = folded }) (λ (groups : ℕ). plainly (Ok groups)))
-    (λ (groups : ℕ). plainly (substituted text s (Some (length old)) (Some groups))) groups as_function result h
-    (comes_plain text kind m new new as_function result (substituted text s (Some (length old)) (Some groups)) refl
-    (functions_agree (length new) result _ (is ∙ ap (λ (k : ℕ). substituted text s (Some k) (Some groups)) same))))
+    (λ (groups : ℕ). plainly (substituted text s (Some (length old)) (Some groups))) groups as_argument result h
+    (comes_plain text kind m new new as_argument result (substituted text s (Some (length old)) (Some groups)) refl
+    (arguments_agree (length new) result _ (is ∙ ap (λ (k : ℕ). substituted text s (Some k) (Some groups)) same))))
 
 pub substitute_fault : (text : List ℕ) (kind : Kind) (m count at : ℕ) (f : ScriptFault) → substitute_strings text (at + 1) (own_delimiter (slice_get text (at + 1))) ≡ Err f →
     Fails text kind m (substitute_at text count at) f ⊎ (f ≡ NO_MEMORY)
@@ -259,21 +256,21 @@ unfolding substitute_at
 substitute_fault text kind m count at f e =
     inl (subst (λ (r : Result Strings ScriptFault). Fails text kind m (plainly r >>= substitute_with text count) f) (sym e) own)
 
-pub substitute_goes : (text : List ℕ) (kind : Kind) (m : ℕ) (old new : List WrittenExpression) (at : ℕ) (s : Strings) (result : Result (Function × ℕ) ScriptFault) →
-    substitute_strings text (at + 1) (own_delimiter (slice_get text (at + 1))) ≡ Ok s → Comes text kind m old new as_function result (substitute_with text (length old) s) →
-    Comes text kind m old new as_function result (substitute_at text (length old) at)
+pub substitute_goes : (text : List ℕ) (kind : Kind) (m : ℕ) (old new : List WrittenExpression) (at : ℕ) (s : Strings) (result : Result (Argument × ℕ) ScriptFault) →
+    substitute_strings text (at + 1) (own_delimiter (slice_get text (at + 1))) ≡ Ok s → Comes text kind m old new as_argument result (substitute_with text (length old) s) →
+    Comes text kind m old new as_argument result (substitute_at text (length old) at)
 unfolding substitute_at
 substitute_goes text kind m old new at s result e h =
-    subst (λ (r : Result Strings ScriptFault). Comes text kind m old new as_function result (plainly r >>= substitute_with text (length old))) (sym e) h
+    subst (λ (r : Result Strings ScriptFault). Comes text kind m old new as_argument result (plainly r >>= substitute_with text (length old))) (sym e) h
 
 -- functions
 
--- a function without an expression
-pub function_comes : (text : List ℕ) (kind : Kind) (m at : ℕ) (old : List WrittenExpression) (verb : Verb) (arguments : Arguments) (result : Result (Function × ℕ) ScriptFault) → verb ≡ Reads arguments → result ≡ function_of text arguments at →
-    Comes text kind m old old as_function result (function_with text (length old) verb at)
-function_comes text kind m at old verb arguments result is e =
-    subst (λ (v : Verb). Comes text kind m old old as_function result (function_with text (length old) v at)) (sym is)
-    (comes_plain text kind m old old as_function result (function_of text arguments at) refl (functions_agree (length old) result (function_of text arguments at) e))
+-- what follows another letter
+pub argument_comes : (text : List ℕ) (kind : Kind) (m at : ℕ) (old : List WrittenExpression) (verb : Verb) (result : Result (Argument × ℕ) ScriptFault) → (verb ≡ Substitute → ⊥) → result ≡ argument_of text verb at →
+    Comes text kind m old old as_argument result (argument_with text (length old) verb at)
+argument_comes text kind m at old Substitute result other e = absurd (other refl)
+argument_comes text kind m at old verb result other e =
+    comes_plain text kind m old old as_argument result (argument_of text verb at) refl (arguments_agree (length old) result (argument_of text verb at) e)
 
 -- the item of a function whose letter may not stand there
 pub item_fault : (text : List ℕ) (kind : Kind) (m count letter at : ℕ) (a : Addresses) (f : ScriptFault) → slice_get text at ≡ Some letter → allowed a at (verb_of letter) ≡ Err f →
@@ -281,17 +278,17 @@ pub item_fault : (text : List ℕ) (kind : Kind) (m count letter at : ℕ) (a : 
 unfolding function_at
 item_fault text kind m count letter at a f there e =
     subst (λ (o : Option ℕ). Fails text kind m (item_with text count a at o) f ⊎ (f ≡ NO_MEMORY)) (sym there)
-    (inl (subst (λ (r : Result Verb ScriptFault). Fails text kind m (plainly r >>= λ (v : Verb). function_with text count v at >>= λ (found : Function × ℕ). plainly (Ok (item_of a at found))) f) (sym e) own))
+    (inl (subst (λ (r : Result Verb ScriptFault). Fails text kind m (plainly r >>= λ (v : Verb). argument_with text count v at >>= λ (found : Argument × ℕ). plainly (Ok (item_of a at v found))) f) (sym e) own))
 
 -- the item of a function that may stand there
 pub item_goes : (text : List ℕ) (kind : Kind) (m letter at : ℕ) (verb : Verb) (a : Addresses) (old new : List WrittenExpression) (result : Result ItemOrEnd ScriptFault) → slice_get text at ≡ Some letter →
     allowed a at (verb_of letter) ≡ Ok verb →
-    Comes text kind m old new as_here result (function_with text (length old) verb at >>= λ (found : Function × ℕ). plainly (Ok (item_of a at found))) →
+    Comes text kind m old new as_here result (argument_with text (length old) verb at >>= λ (found : Argument × ℕ). plainly (Ok (item_of a at verb found))) →
     Comes text kind m old new as_here result (function_at text (length old) a at)
 unfolding function_at
 item_goes text kind m letter at verb a old new result there e h =
     subst (λ (o : Option ℕ). Comes text kind m old new as_here result (item_with text (length old) a at o)) (sym there)
-    (subst (λ (r : Result Verb ScriptFault). Comes text kind m old new as_here result (plainly r >>= λ (v : Verb). function_with text (length old) v at >>= λ (found : Function × ℕ). plainly (Ok (item_of a at found)))) (sym e) h)
+    (subst (λ (r : Result Verb ScriptFault). Comes text kind m old new as_here result (plainly r >>= λ (v : Verb). argument_with text (length old) v at >>= λ (found : Argument × ℕ). plainly (Ok (item_of a at v found)))) (sym e) h)
 
 pub no_function : (text : List ℕ) (kind : Kind) (m count at : ℕ) (a : Addresses) → slice_get text at ≡ None →
     Fails text kind m (function_at text count a at) (record { place = at; reason = UnknownCommand }) ⊎ (◌≡◌ {A = ScriptFault} (record { place = at; reason = UnknownCommand }) NO_MEMORY)
@@ -299,9 +296,9 @@ unfolding function_at
 no_function text kind m count at a e =
     inl (subst (λ (o : Option ℕ). Fails text kind m (item_with text count a at o) (record { place = at; reason = UnknownCommand })) (sym e) own)
 
-pub item_comes : (text : List ℕ) (kind : Kind) (m at : ℕ) (verb : Verb) (a : Addresses) (old new : List WrittenExpression) (found : Function × ℕ) (h : ItemOrEnd) → h ≡ item_of a at found →
-    Comes text kind m old new as_function (Ok found) (function_with text (length old) verb at) →
-    Comes text kind m old new as_here (Ok h) (function_with text (length old) verb at >>= λ (found : Function × ℕ). plainly (Ok (item_of a at found)))
+pub item_comes : (text : List ℕ) (kind : Kind) (m at : ℕ) (verb : Verb) (a : Addresses) (old new : List WrittenExpression) (found : Argument × ℕ) (h : ItemOrEnd) → h ≡ item_of a at verb found →
+    Comes text kind m old new as_argument (Ok found) (argument_with text (length old) verb at) →
+    Comes text kind m old new as_here (Ok h) (argument_with text (length old) verb at >>= λ (found : Argument × ℕ). plainly (Ok (item_of a at verb found)))
 item_comes text kind m at verb a old new found h is k =
-    comes_then text kind m old new new (function_with text (length old) verb at) (λ (found : Function × ℕ). plainly (Ok (item_of a at found))) found as_here (Ok h) k
-    (comes_plain text kind m new new as_here (Ok h) (Ok (item_of a at found)) refl (ap (λ (x : ItemOrEnd). Ok x) (sym is)))
+    comes_then text kind m old new new (argument_with text (length old) verb at) (λ (found : Argument × ℕ). plainly (Ok (item_of a at verb found))) found as_here (Ok h) k
+    (comes_plain text kind m new new as_here (Ok h) (Ok (item_of a at verb found)) refl (ap (λ (x : ItemOrEnd). Ok x) (sym is)))

@@ -11,7 +11,7 @@ use Rattle.std.proofs.lemmas.List.Elements.{filter-append, filter_map-append}
 use Rattle.std.proofs.lemmas.Slice.Eq.{bytes_eq-Decides}
 use Rattle.sedscript.specs.declared.types.FileUse.{FileUse}
 use Rattle.sedscript.specs.declared.items.Item.{Item}
-use Rattle.sedscript.specs.Targets.{name_in, file_at, distinct, files_in}
+use Rattle.sedscript.specs.Targets.{name_in, file_in, distinct, files_in}
 use Rattle.sedscript.specs.Tables.{labelled, with_name, NumbersAre}
 use Rattle.sedscript.proofs.Labels.{take_item, label_added, none_of, option_or_if}
 
@@ -80,11 +80,11 @@ any_distinct x (y ∷ ys) h = by_same (λ h. any_distinct x ys h) (bytes_eq x y)
 
 -- the files of one item more
 pub files_step : (u : FileUse) (text : List ℕ) (items : List Item) (k : ℕ) (i : Item) → slice_get items k ≡ Some i →
-    files_in u text (take (k + 1) items) ≡ with_name (files_in u text (take k items)) (file_at u text (name_in u i.function))
+    files_in u text (take (k + 1) items) ≡ with_name (files_in u text (take k items)) (file_in u (name_in u text i.verb i.argument))
 files_step u text items k i at =
     ap (files_in u text) (take_item items k i at)
-    ∙ (ap distinct (filter_map-append (λ (i : Item). file_at u text (name_in u i.function)) (take k items) (i ∷ []))
-    ∙ distinct_more (filter_map (λ (i : Item). file_at u text (name_in u i.function)) (take k items)) (file_at u text (name_in u i.function)))
+    ∙ (ap distinct (filter_map-append (λ (i : Item). file_in u (name_in u text i.verb i.argument)) (take k items) (i ∷ []))
+    ∙ distinct_more (filter_map (λ (i : Item). file_in u (name_in u text i.verb i.argument)) (take k items)) (file_in u (name_in u text i.verb i.argument)))
 
 -- numbers
 

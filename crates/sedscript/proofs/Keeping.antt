@@ -5,14 +5,14 @@ use Rattle.std.proofs.lemmas.List.{map-append, get_or_append_left}
 use Rattle.std.proofs.lemmas.List.Elements.{All-head, All-tail, All-weaker}
 use Rattle.std.proofs.lemmas.Option.{unwrap_or-slice_get}
 use Rattle.sedscript.specs.declared.items.Addresses.{Addresses}
-use Rattle.sedscript.specs.declared.items.Function.{Function}
+use Rattle.sedscript.specs.declared.items.Argument.{Argument}
 use Rattle.sedscript.specs.declared.items.Item.{Item}
 use Rattle.sedscript.specs.declared.kept.PackedItem.{PackedItem}
 use Rattle.sedscript.specs.declared.kept.PackedAddresses.{PackedAddresses}
 use Rattle.sedscript.specs.declared.kept.PackedAddresses.TheVariants as g
-use Rattle.sedscript.specs.declared.kept.PackedFunction.{PackedFunction}
-use Rattle.sedscript.specs.declared.kept.PackedFunction.TheVariants as b
-use Rattle.sedscript.specs.Kept.{Longer, no_addresses, kept_addresses, kept_function, kept_item, kept_items, PacksAddresses, PacksFunction, PacksItem}
+use Rattle.sedscript.specs.declared.kept.PackedArgument.{PackedArgument}
+use Rattle.sedscript.specs.declared.kept.PackedArgument.TheVariants as b
+use Rattle.sedscript.specs.Kept.{Longer, no_addresses, kept_addresses, kept_argument, kept_item, kept_items, PacksAddresses, PacksArgument, PacksItem}
 
 listed : {A : Type 0} (xs ys : List A) (n : ℕ) (d : A) → Longer xs ys → n < length xs → unwrap_or (slice_get ys n) d ≡ unwrap_or (slice_get xs n) d
 listed xs ys n d more h =
@@ -22,31 +22,31 @@ same_addresses : (xs ys : List Addresses) (given : PackedAddresses) (n : ℕ) �
 same_addresses xs ys g.Listed n more h = listed xs ys n no_addresses more h
 same_addresses xs ys other n more h = refl
 
-same_function : (xs ys : List Function) (brief : PackedFunction) (from to : ℕ) → Longer xs ys → PacksFunction (length xs) brief from → kept_function ys brief from to ≡ kept_function xs brief from to
-same_function xs ys b.Listed from to more h = listed xs ys from _ more h
-same_function xs ys other from to more h = refl
+same_argument : (xs ys : List Argument) (brief : PackedArgument) (from to : ℕ) → Longer xs ys → PacksArgument (length xs) brief from → kept_argument ys brief from to ≡ kept_argument xs brief from to
+same_argument xs ys b.Listed from to more h = listed xs ys from _ more h
+same_argument xs ys other from to more h = refl
 
-same_item : (listed_addresses hs : List Addresses) (listed_functions ls : List Function) (k : PackedItem) → Longer listed_addresses hs → Longer listed_functions ls → PacksItem (length listed_addresses) (length listed_functions) k → kept_item hs ls k ≡ kept_item listed_addresses listed_functions k
-same_item listed_addresses hs listed_functions ls k a f is =
+same_item : (listed_addresses hs : List Addresses) (listed_arguments ls : List Argument) (k : PackedItem) → Longer listed_addresses hs → Longer listed_arguments ls → PacksItem (length listed_addresses) (length listed_arguments) k → kept_item hs ls k ≡ kept_item listed_addresses listed_arguments k
+same_item listed_addresses hs listed_arguments ls k a f is =
     let x = same_addresses listed_addresses hs k.given k.head a is.0 in
-    let y = same_function listed_functions ls k.function k.from k.to f is.1 in
-    ap (λ z. record { addresses = z; place = k.place; function = kept_function ls k.function k.from k.to }) x
-    ∙ ap (λ z. record { addresses = kept_addresses listed_addresses k.given k.head; place = k.place; function = z }) y
+    let y = same_argument listed_arguments ls k.argument k.from k.to f is.1 in
+    ap (λ z. record { addresses = z; place = k.place; verb = k.verb; argument = kept_argument ls k.argument k.from k.to }) x
+    ∙ ap (λ z. record { addresses = kept_addresses listed_addresses k.given k.head; place = k.place; verb = k.verb; argument = z }) y
 
-same_items : (listed_addresses hs : List Addresses) (listed_functions ls : List Function) (ks : List PackedItem) → Longer listed_addresses hs → Longer listed_functions ls → All (PacksItem (length listed_addresses) (length listed_functions)) ks →
-    kept_items hs ls ks ≡ kept_items listed_addresses listed_functions ks
-same_items listed_addresses hs listed_functions ls [] a f all = refl
-same_items listed_addresses hs listed_functions ls (k ∷ ks) a f all =
-    let one = same_item listed_addresses hs listed_functions ls k a f (All-head (PacksItem (length listed_addresses) (length listed_functions)) k ks all) in
-    let rest = same_items listed_addresses hs listed_functions ls ks a f (All-tail (PacksItem (length listed_addresses) (length listed_functions)) k ks all) in
-    ap (λ i. i ∷ kept_items hs ls ks) one ∙ ap (λ is. kept_item listed_addresses listed_functions k ∷ is) rest
+same_items : (listed_addresses hs : List Addresses) (listed_arguments ls : List Argument) (ks : List PackedItem) → Longer listed_addresses hs → Longer listed_arguments ls → All (PacksItem (length listed_addresses) (length listed_arguments)) ks →
+    kept_items hs ls ks ≡ kept_items listed_addresses listed_arguments ks
+same_items listed_addresses hs listed_arguments ls [] a f all = refl
+same_items listed_addresses hs listed_arguments ls (k ∷ ks) a f all =
+    let one = same_item listed_addresses hs listed_arguments ls k a f (All-head (PacksItem (length listed_addresses) (length listed_arguments)) k ks all) in
+    let rest = same_items listed_addresses hs listed_arguments ls ks a f (All-tail (PacksItem (length listed_addresses) (length listed_arguments)) k ks all) in
+    ap (λ i. i ∷ kept_items hs ls ks) one ∙ ap (λ is. kept_item listed_addresses listed_arguments k ∷ is) rest
 
 -- the items with one more
-pub items_more : (listed_addresses hs : List Addresses) (listed_functions ls : List Function) (ks ns : List PackedItem) (k : PackedItem) (i : Item) → Longer listed_addresses hs → Longer listed_functions ls →
-    All (PacksItem (length listed_addresses) (length listed_functions)) ks → ns ≡ ks ++ k ∷ [] → kept_item hs ls k ≡ i → kept_items hs ls ns ≡ kept_items listed_addresses listed_functions ks ++ i ∷ []
-items_more listed_addresses hs listed_functions ls ks ns k i a f all grown is =
+pub items_more : (listed_addresses hs : List Addresses) (listed_arguments ls : List Argument) (ks ns : List PackedItem) (k : PackedItem) (i : Item) → Longer listed_addresses hs → Longer listed_arguments ls →
+    All (PacksItem (length listed_addresses) (length listed_arguments)) ks → ns ≡ ks ++ k ∷ [] → kept_item hs ls k ≡ i → kept_items hs ls ns ≡ kept_items listed_addresses listed_arguments ks ++ i ∷ []
+items_more listed_addresses hs listed_arguments ls ks ns k i a f all grown is =
     ap (kept_items hs ls) grown ∙ (map-append (kept_item hs ls) ks (k ∷ [])
-    ∙ (ap (λ zs. zs ++ kept_item hs ls k ∷ []) (same_items listed_addresses hs listed_functions ls ks a f all) ∙ ap (λ j. kept_items listed_addresses listed_functions ks ++ j ∷ []) is))
+    ∙ (ap (λ zs. zs ++ kept_item hs ls k ∷ []) (same_items listed_addresses hs listed_arguments ls ks a f all) ∙ ap (λ j. kept_items listed_addresses listed_arguments ks ++ j ∷ []) is))
 
 longer_is : {A : Type 0} (xs ys : List A) → Longer xs ys → length xs ≤ length ys
 longer_is xs ys more = omega (arith, ap length more.1, length-append xs more.0)
@@ -55,12 +55,12 @@ more_given : (a b : ℕ) (given : PackedAddresses) (n : ℕ) → a ≤ b → Pac
 more_given a b g.Listed n le h = omega (arith, le, h)
 more_given a b other n le h = tt
 
-more_brief : (a c : ℕ) (brief : PackedFunction) (from : ℕ) → a ≤ c → PacksFunction a brief from → PacksFunction c brief from
-more_brief a c b.Listed from le h = omega (arith, le, h)
-more_brief a c other from le h = tt
+more_argument : (a c : ℕ) (brief : PackedArgument) (from : ℕ) → a ≤ c → PacksArgument a brief from → PacksArgument c brief from
+more_argument a c b.Listed from le h = omega (arith, le, h)
+more_argument a c other from le h = tt
 
 -- what is listed stands in the longer lists too
-pub all_kept : (listed_addresses hs : List Addresses) (listed_functions ls : List Function) (ks : List PackedItem) → Longer listed_addresses hs → Longer listed_functions ls → All (PacksItem (length listed_addresses) (length listed_functions)) ks → All (PacksItem (length hs) (length ls)) ks
-all_kept listed_addresses hs listed_functions ls ks a f all =
-    All-weaker (PacksItem (length listed_addresses) (length listed_functions)) (PacksItem (length hs) (length ls))
-    (λ k h. (more_given (length listed_addresses) (length hs) k.given k.head (longer_is listed_addresses hs a) h.0, more_brief (length listed_functions) (length ls) k.function k.from (longer_is listed_functions ls f) h.1)) ks all
+pub all_kept : (listed_addresses hs : List Addresses) (listed_arguments ls : List Argument) (ks : List PackedItem) → Longer listed_addresses hs → Longer listed_arguments ls → All (PacksItem (length listed_addresses) (length listed_arguments)) ks → All (PacksItem (length hs) (length ls)) ks
+all_kept listed_addresses hs listed_arguments ls ks a f all =
+    All-weaker (PacksItem (length listed_addresses) (length listed_arguments)) (PacksItem (length hs) (length ls))
+    (λ k h. (more_given (length listed_addresses) (length hs) k.given k.head (longer_is listed_addresses hs a) h.0, more_argument (length listed_arguments) (length ls) k.argument k.from (longer_is listed_arguments ls f) h.1)) ks all

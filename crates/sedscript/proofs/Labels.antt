@@ -12,7 +12,7 @@ use Rattle.std.proofs.lemmas.Bool.Decides.{eqb_tells, Decides-eqb}
 use Rattle.std.proofs.lemmas.Slice.Eq.{bytes_eq-Decides}
 use Rattle.sedscript.specs.declared.targets.FirstLabel.{FirstLabel}
 use Rattle.sedscript.specs.declared.items.Item.{Item}
-use Rattle.sedscript.specs.declared.items.Function.{Function}
+use Rattle.sedscript.specs.Types.{Verb, Argument}
 use Rattle.sedscript.specs.Targets.{is_label, counted, commands_in, label_in, becomes_command}
 use Rattle.sedscript.specs.Tables.{labelled, first_label, LabelsAre, is_earlier}
 
@@ -27,7 +27,7 @@ one_each false c x n e = e
 
 pub commands_snoc : (is : List Item) (i : Item) → commands_in (is ++ i ∷ []) ≡ counted (commands_in is) i
 commands_snoc [] i = refl
-commands_snoc (j ∷ is) i = one_each (becomes_command j.function) (becomes_command i.function) (commands_in (is ++ i ∷ [])) (commands_in is) (commands_snoc is i)
+commands_snoc (j ∷ is) i = one_each (becomes_command j.verb) (becomes_command i.verb) (commands_in (is ++ i ∷ [])) (commands_in is) (commands_snoc is i)
 
 -- one item more
 pub take_item : (items : List Item) (k : ℕ) (i : Item) → slice_get items k ≡ Some i → take (k + 1) items ≡ take k items ++ i ∷ []
@@ -46,7 +46,7 @@ counted_step items k n next i at e f =
     f ∙ (ap (λ (m : ℕ). counted m i) e ∙ (sym (commands_snoc (take k items) i) ∙ ap commands_in (sym (take_item items k i at))))
 
 counted_same : (i : Item) (m n : ℕ) → counted m i ≡ counted n i → m ≡ n
-counted_same i m n e = by_leaf (becomes_command i.function) e
+counted_same i m n e = by_leaf (becomes_command i.verb) e
   where
     by_leaf : (b : Bool) → (if b then suc m else m) ≡ (if b then suc n else n) → m ≡ n
     by_leaf true f = cc
@@ -59,7 +59,7 @@ counted_back items k n next i at e f =
     counted_same i next (commands_in (take k items)) (sym f ∙ (e ∙ (ap commands_in (take_item items k i at) ∙ commands_snoc (take k items) i)))
 
 -- an item that becomes a command is counted
-pub counted_some : (items : List Item) (k n : ℕ) (i : Item) → slice_get items k ≡ Some i → n ≡ commands_in (take (k + 1) items) → becomes_command i.function ≡ true → 1 ≤ n
+pub counted_some : (items : List Item) (k n : ℕ) (i : Item) → slice_get items k ≡ Some i → n ≡ commands_in (take (k + 1) items) → becomes_command i.verb ≡ true → 1 ≤ n
 counted_some items k n i at e l =
     let f : n ≡ counted (commands_in (take k items)) i = e ∙ (ap commands_in (take_item items k i at) ∙ commands_snoc (take k items) i) in
     let g : counted (commands_in (take k items)) i ≡ suc (commands_in (take k items)) = rw l refl in
@@ -67,7 +67,7 @@ counted_some items k n i at e l =
 
 -- the commands before and after
 pub counted_in : (n : ℕ) (i : Item) (is : List Item) → counted n i + commands_in is ≡ n + commands_in (i ∷ is)
-counted_in n i is = by_leaf (becomes_command i.function)
+counted_in n i is = by_leaf (becomes_command i.verb)
   where
     by_leaf : (b : Bool) → (if b then suc n else n) + commands_in is ≡ n + (if b then suc (commands_in is) else commands_in is)
     by_leaf true = omega arith
@@ -83,19 +83,19 @@ some_pair true k n a b e f = rw e (rw f refl)
 
 -- the first label of a name is that of the items before, or else that of one more item
 pub first_label_snoc : (text name : List ℕ) (k n a b : ℕ) (is : List Item) (i : Item) → a ≡ k + length is → b ≡ n + commands_in is →
-    first_label text name k n (is ++ i ∷ []) ≡ option_or (first_label text name k n is) (if is_label text name i.function then Some (record { item = a; number = b }) else None)
-first_label_snoc text name k n a b [] i e f = some_pair (is_label text name i.function) k n a b (e ∙ omega arith) (f ∙ omega arith)
+    first_label text name k n (is ++ i ∷ []) ≡ option_or (first_label text name k n is) (if is_label text name i.verb i.argument then Some (record { item = a; number = b }) else None)
+first_label_snoc text name k n a b [] i e f = some_pair (is_label text name i.verb i.argument) k n a b (e ∙ omega arith) (f ∙ omega arith)
 first_label_snoc text name k n a b (j ∷ is) i e f =
-    option_or_if (is_label text name j.function) (record { item = k; number = n }) (first_label text name (suc k) (counted n j) (is ++ i ∷ [])) (first_label text name (suc k) (counted n j) is)
-    (if is_label text name i.function then Some (record { item = a; number = b }) else None)
+    option_or_if (is_label text name j.verb j.argument) (record { item = k; number = n }) (first_label text name (suc k) (counted n j) (is ++ i ∷ [])) (first_label text name (suc k) (counted n j) is)
+    (if is_label text name i.verb i.argument then Some (record { item = a; number = b }) else None)
     (first_label_snoc text name (suc k) (counted n j) a b is i (e ∙ omega arith) (f ∙ sym (counted_in n j is)))
 
 pub labels_step : (text : List ℕ) (items : List Item) (k n : ℕ) (i : Item) (old new : Labels) → slice_get items k ≡ Some i → n ≡ commands_in (take k items) → LabelsAre text (take k items) old →
-    ((name : List ℕ) → labelled new name ≡ option_or (labelled old name) (if is_label text name i.function then Some (record { item = k; number = n }) else None)) →
+    ((name : List ℕ) → labelled new name ≡ option_or (labelled old name) (if is_label text name i.verb i.argument then Some (record { item = k; number = n }) else None)) →
     LabelsAre text (take (k + 1) items) new
 labels_step text items k n i old new at e are added = λ name.
     let h : k < length items = slice_get_within items k i at in
-    let last : Option FirstLabel = if is_label text name i.function then Some (record { item = k; number = n }) else None in
+    let last : Option FirstLabel = if is_label text name i.verb i.argument then Some (record { item = k; number = n }) else None in
     let long : length (take k items) ≡ k = length-take-le k items (omega (arith, h)) in
     added name ∙ (ap (λ (o : Option FirstLabel). option_or o last) (are name)
     ∙ (sym (first_label_snoc text name 0 0 k n (take k items) i (sym long ∙ omega arith) (e ∙ omega arith))
@@ -103,7 +103,7 @@ labels_step text items k n i old new at e are added = λ name.
 
 pub label_of_first : (text name : List ℕ) (k n : ℕ) (is : List Item) → label_in text name n is ≡ option_map (λ (l : FirstLabel). l.number) (first_label text name k n is)
 label_of_first text name k n [] = refl
-label_of_first text name k n (i ∷ is) = by_label (is_label text name i.function) (label_in text name (counted n i) is) (first_label text name (suc k) (counted n i) is) (label_of_first text name (suc k) (counted n i) is)
+label_of_first text name k n (i ∷ is) = by_label (is_label text name i.verb i.argument) (label_in text name (counted n i) is) (first_label text name (suc k) (counted n i) is) (label_of_first text name (suc k) (counted n i) is)
   where
     by_label : (b : Bool) (x : Option ℕ) (y : Option FirstLabel) → x ≡ option_map (λ (l : FirstLabel). l.number) y → (if b then Some n else x) ≡ option_map (λ (l : FirstLabel). l.number) (if b then Some (record { item = k; number = n }) else y)
     by_label true x y e = refl
@@ -113,16 +113,16 @@ eq_more : (j k : ℕ) → (j == j + suc k) ≡ false
 eq_more j k = elim (eqb_tells j (j + suc k)) [ inl h ↦ absurd (omega (arith, h.1)) | inr h ↦ h.0 ]
 
 -- whether an earlier item has the label is told by the index of the first that has it
-pub earlier_label : (text name : List ℕ) (k j n m t : ℕ) (is : List Item) (i : Item) → slice_get is k ≡ Some i → is_label text name i.function ≡ true → t ≡ j + k →
+pub earlier_label : (text name : List ℕ) (k j n m t : ℕ) (is : List Item) (i : Item) → slice_get is k ≡ Some i → is_label text name i.verb i.argument ≡ true → t ≡ j + k →
     is_earlier t (first_label text name j m is) ≡ is_some (label_in text name n (take k is))
 earlier_label text name k j n m t [] i e l f = let g : ◌≡◌ {A = Option Item} None (Some i) = e in cc
 earlier_label text name zero j n m t (x ∷ is) i e l f =
     let same : x ≡ i = cc in
-    let lx : is_label text name x.function ≡ true = ap (λ (y : Item). is_label text name y.function) same ∙ l in
+    let lx : is_label text name x.verb x.argument ≡ true = ap (λ (y : Item). is_label text name y.verb y.argument) same ∙ l in
     let tj : t ≡ j = f ∙ omega arith in
     rw lx (rw tj (rw ((Decides-eqb j j).1 refl) refl))
 earlier_label text name (suc k) j n m t (x ∷ is) i e l f =
-    by_label (is_label text name x.function) (first_label text name (suc j) (counted m x) is) (label_in text name (counted n x) (take k is))
+    by_label (is_label text name x.verb x.argument) (first_label text name (suc j) (counted m x) is) (label_in text name (counted n x) (take k is))
     (earlier_label text name k (suc j) (counted n x) (counted m x) t is i e l (f ∙ omega arith))
   where
     by_label : (b : Bool) (y : Option FirstLabel) (z : Option ℕ) → is_earlier t y ≡ is_some z →
@@ -149,10 +149,10 @@ pub none_of : {A : Type 0} (o : Option A) (b : Bool) → b ≡ is_some o → b �
 none_of None b e f = refl
 none_of (Some x) b e f = let g : true ≡ false = sym e ∙ f in cc
 
-pub label_inserted : (text bs : List ℕ) (k n : ℕ) (f : Function) (b : Bool) (old new : Labels) → ((name : List ℕ) → is_label text name f ≡ bytes_eq bs name) →
+pub label_inserted : (text bs : List ℕ) (k n : ℕ) (verb : Verb) (a : Argument) (b : Bool) (old new : Labels) → ((name : List ℕ) → is_label text name verb a ≡ bytes_eq bs name) →
     UpdatesBy (λ x y. slice_cmp nat_cmp x.now y.now) (λ x. slice_cmp nat_cmp bs x.now) old new (Some (record { item = k; number = n })) → b ≡ is_some (labelled old bs) → b ≡ false →
-    (name : List ℕ) → labelled new name ≡ option_or (labelled old name) (if is_label text name f then Some (record { item = k; number = n }) else None)
-label_inserted text bs k n f b old new is u found absent = λ name.
+    (name : List ℕ) → labelled new name ≡ option_or (labelled old name) (if is_label text name verb a then Some (record { item = k; number = n }) else None)
+label_inserted text bs k n verb a b old new is u found absent = λ name.
     label_added bs (record { item = k; number = n }) old new u (none_of (labelled old bs) b found absent) name
     ∙ ap (λ (c : Bool). option_or (labelled old name) (if c then Some (record { item = k; number = n }) else None)) (sym (is name))
 
@@ -161,5 +161,5 @@ pub label_found : (text name : List ℕ) (items : List Item) (m : Labels) (o : O
 label_found text name items m o are is = ap (option_map (λ (l : FirstLabel). l.number)) (is ∙ are name) ∙ sym (label_of_first text name 0 0 items)
 
 pub label_repeated : (text name : List ℕ) (items : List Item) (m : Labels) (o : Option FirstLabel) (k : ℕ) (i : Item) → LabelsAre text items m → o ≡ labelled m name →
-    slice_get items k ≡ Some i → is_label text name i.function ≡ true → is_earlier k o ≡ is_some (label_in text name 0 (take k items))
+    slice_get items k ≡ Some i → is_label text name i.verb i.argument ≡ true → is_earlier k o ≡ is_some (label_in text name 0 (take k items))
 label_repeated text name items m o k i are is e l = ap (is_earlier k) (is ∙ are name) ∙ earlier_label text name k 0 0 0 k items i e l (omega arith)

@@ -5,7 +5,8 @@ use Rattle.sedre.specs.Tree.{expression_tree}
 use Rattle.sedscript.specs.declared.items.Item.{Item}
 use Rattle.sedscript.specs.Script.{Means, commands_of, texts_of, substitutions_of, tables_of}
 use Rattle.sedscript.specs.Program.{Program}
-use Rattle.sedscript.specs.Targets.{read_files, written_files}
+use Rattle.sedscript.specs.Targets.{files_in}
+use Rattle.sedscript.specs.Types.{Read, Write}
 use Rattle.sedscript.proofs.Exclusive.{ReadsAsOne, cut_alike, cut_same}
 
 -- a text means one script only: of an expression this is its tree and its number of groups
@@ -18,8 +19,8 @@ one_meaning one text kind m s t h k =
       h.texts ∙ (ap (texts_of text) same ∙ sym k.texts),
       h.substitutions ∙ (ap (λ (is : List Item). substitutions_of text is is) same ∙ sym k.substitutions),
       h.tables ∙ (ap (tables_of text) same ∙ sym k.tables),
-      h.rfiles ∙ (ap (read_files text) same ∙ sym k.rfiles),
-      h.wfiles ∙ (ap (written_files text) same ∙ sym k.wfiles),
+      h.rfiles ∙ (ap (files_in Read text) same ∙ sym k.rfiles),
+      h.wfiles ∙ (ap (files_in Write text) same ∙ sym k.wfiles),
       h.quiet ∙ sym k.quiet,
       h.nodes ∙ sym k.nodes,
       (cut_alike expression_tree text kind m 0 0 h.to k.to h.items k.items s.expressions t.expressions (λ d e same_tree same_groups. same_tree) one h.judged.cut h.judged.ends k.judged.cut k.judged.ends).1,

@@ -16,20 +16,13 @@ use Rattle.sedscript.specs.declared.types.Reason.{Reason}
 use Rattle.sedscript.specs.declared.types.Reason.TheVariants.{LengthsDiffer}
 use Rattle.sedscript.specs.declared.types.Address.{Address}
 use Rattle.sedscript.specs.declared.types.Address.TheVariants.{Line as line, Match}
-use Rattle.sedscript.specs.declared.types.TextUse.{TextUse}
-use Rattle.sedscript.specs.declared.types.FileUse.{FileUse}
 use Rattle.sedscript.specs.declared.items.Flags.{Flags}
 use Rattle.sedscript.specs.declared.items.Strings.{Strings}
-use Rattle.sedscript.specs.declared.items.Function.{Function}
-use Rattle.sedscript.specs.declared.items.Function.TheVariants.{Open, Close, Label, Branch, Substitute}
+use Rattle.sedscript.specs.Types.{Verb, Open, Close, Comment, Label, Branch, Text, File, Substitute, Transliterate, Argument, Between, Pair, FlaggedPair}
 use Rattle.sedscript.specs.declared.items.Addresses.{Addresses}
 use Rattle.sedscript.specs.declared.items.Item.{Item}
 use Rattle.sedscript.specs.declared.items.ItemOrEnd.{ItemOrEnd}
 use Rattle.sedscript.specs.declared.items.ItemOrEnd.TheVariants.{Is, Ends}
-use Rattle.sedscript.specs.declared.letters.Verb.{Verb}
-use Rattle.sedscript.specs.declared.letters.Verb.TheVariants.{ReadsExpression, Reads}
-use Rattle.sedscript.specs.declared.letters.Arguments.{Arguments}
-use Rattle.sedscript.specs.declared.letters.Arguments.TheVariants.{OpensBlock, Remark, NamesLabel, GoesTo, TakesText, NamesFile, TakesStrings}
 use Rattle.sedscript.specs.declared.texts.Inside.{Inside}
 use Rattle.sedscript.specs.declared.texts.Inside.TheVariants.{InLine, Escape, Due}
 use Rattle.sedscript.specs.declared.transliteration.Char.{Char}
@@ -37,13 +30,13 @@ use Rattle.std.specs.List.{cons_option, prefix_len, take_while}
 use Rattle.std.proofs.lemmas.List.Sums.{prefix_len-le-length}
 use Rattle.sedscript.specs.Bytes.{past, belongs, bytes_between, is_digit, is_byte, with_digits}
 use Rattle.sedscript.specs.Strings.{escapes, string_end, Piece, group, escaped_piece, exceeds, piece_fault, replacement_fault, escaped_byte, char_of, chars_from, chars_of, string_fault, is_among, repeated_in, strings_fault, repeated_fault}
-use Rattle.sedscript.specs.Functions.{or_fault, ended, may_end, text_end, text_of, text_from, file_of, name_from, ◌>>=◌ as ◌then◌}
+use Rattle.sedscript.specs.Functions.{or_fault, ended, may_end, text_end, text_from, name_from, spanned, ◌>>=◌ as ◌then◌}
 use Rattle.sedscript.specs.Between.{no_flags, numbered, with_number, with_flag, flags_from, own_delimiter, strings_after, substitute_strings, transliterate_strings, unless_fault, flags_after, with_file, ends_flags}
-use Rattle.sedscript.specs.Items.{Reading, plainly, expression, ◌>>=◌, Addressed, Headed, with_addresses, line_of, folds_at, past_flag, match_at, own_match, address_of, address_at, with_second, second_at, after_first, addresses_at, with_bang, substitute_with, substitute_at, function_with, function_at, item_from, item_at, item_of, match_to, function_after, item_with}
-use Rattle.sedscript.specs.Letters.{verb_of, most_addresses, allowed, label_of, transliterate_at, substituted, function_of}
+use Rattle.sedscript.specs.Items.{Reading, plainly, expression, ◌>>=◌, Addressed, Headed, with_addresses, line_of, folds_at, past_flag, match_at, own_match, address_of, address_at, with_second, second_at, after_first, addresses_at, with_bang, substitute_with, substitute_at, argument_with, function_at, item_from, item_at, item_of, match_to, function_after, item_with}
+use Rattle.sedscript.specs.Letters.{verb_of, most_addresses, allowed, label_at, transliterate_at, substituted, argument_of}
 use Rattle.sedscript.specs.Script.{Gives, value, after_expression, CutScript, done, item}
 use Rattle.sedscript.specs.FirstFault.{Fails, own, no_expression, later, Faulty, early, afterwards}
-use Rattle.sedscript.specs.Targets.{fault_if, target_fault_at, target_fault_in, depth_after, block_end, label_in}
+use Rattle.sedscript.specs.Targets.{fault_if, target_fault_at, target_fault_in, depth_after, block_end, written_in, branch_in, label_in}
 use Rattle.sedscript.specs.Ranges.{IsOneOf, AddressWithin}
 
 -- what holds of both sides of a test holds of the one that it takes
@@ -263,24 +256,34 @@ transliterate_strings_read text place le = by_delimiter (own_delimiter (slice_ge
         strings_after_read text false d place (string_end false d false (place + 1) (drop (place + 1) text)) there
         (string_in false d false (place + 1) (length text) (drop (place + 1) text) (omega (arith, there, length-drop (place + 1) text)))
 
--- functions
+-- what follows letters
 
 -- the expression of an `s` is one of so many, and its number counts from 1
-abbrev pub FunctionWithin : ℕ → Function → Type 0
-FunctionWithin n (Substitute s e f) = IsOneOf n e × (1 ≤ unwrap_or f.number 1)
-FunctionWithin n f = Unit {0}
+abbrev pub ArgumentWithin : ℕ → Argument → Type 0
+ArgumentWithin n (FlaggedPair s e f) = IsOneOf n e × (1 ≤ unwrap_or f.number 1)
+ArgumentWithin n a = Unit {0}
 
--- a function is within so many expressions, and ends up to a place
-abbrev EndsUpTo : ℕ → ℕ → Function × ℕ → Type 0
-EndsUpTo n count found = FunctionWithin count found.0 × (found.1 ≤ n)
+-- an `s` has its strings and flags, a `y` its strings, and no other letter has these
+abbrev pub Follows : Verb → Argument → Type 0
+Follows Substitute (FlaggedPair s e f) = Unit {0}
+Follows Substitute a = ⊥
+Follows Transliterate (Pair s) = Unit {0}
+Follows Transliterate a = ⊥
+Follows verb (FlaggedPair s e f) = ⊥
+Follows verb (Pair s) = ⊥
+Follows verb a = Unit {0}
 
-ended_read : (text : List ℕ) (count : ℕ) (f : Function) (at : ℕ) → FunctionWithin count f → at ≤ length text → ReadUpTo (EndsUpTo (length text) count) (length text) (ended text f at)
-ended_read text count f at h le =
-    if_both (ReadUpTo (EndsUpTo (length text) count) (length text)) (may_end (slice_get text (past Blank text at))) _ _ (h, past_up_to Blank text at le) (past_up_to Blank text at le)
+-- what follows a letter is what that takes, within so many expressions, and ends up to a place
+abbrev EndsUpTo : ℕ → Verb → ℕ → Argument × ℕ → Type 0
+EndsUpTo n verb count found = Follows verb found.0 × ArgumentWithin count found.0 × (found.1 ≤ n)
 
-label_read : (text : List ℕ) (count place from : ℕ) → place ≤ length text → from ≤ length text → ReadUpTo (EndsUpTo (length text) count) (length text) (label_of text place from)
+ended_read : (text : List ℕ) (verb : Verb) (count : ℕ) (a : Argument) (at : ℕ) → Follows verb a → ArgumentWithin count a → at ≤ length text → ReadUpTo (EndsUpTo (length text) verb count) (length text) (ended text a at)
+ended_read text verb count a at f h le =
+    if_both (ReadUpTo (EndsUpTo (length text) verb count) (length text)) (may_end (slice_get text (past Blank text at))) _ _ (f, h, past_up_to Blank text at le) (past_up_to Blank text at le)
+
+label_read : (text : List ℕ) (count place from : ℕ) → place ≤ length text → from ≤ length text → ReadUpTo (EndsUpTo (length text) Label count) (length text) (label_at text place from)
 label_read text count place from low le =
-    if_both (ReadUpTo (EndsUpTo (length text) count) (length text)) (past Name text from == from) _ _ low (ended_read text count _ (past Name text from) tt (past_up_to Name text from le))
+    if_both (ReadUpTo (EndsUpTo (length text) Label count) (length text)) (past Name text from == from) _ _ low (ended_read text Label count _ (past Name text from) tt tt (past_up_to Name text from le))
 
 -- the span of a text or a name ends up to a place
 abbrev SpanUpTo : ℕ → Option (ℕ × ℕ) → Type 0
@@ -307,10 +310,6 @@ text_from_up_to text from le = by_form (is_byte 92 (slice_get text from) && is_b
     by_form false true e = tt
     by_form false false e = mapped_up_to from (length text) from (text_end InLine from (drop from text)) (text_in InLine from (suc (length text)) (drop from text) (omega (arith, le, length-drop from text)))
 
-text_read : (n count place : ℕ) (u : TextUse) (o : Option (ℕ × ℕ)) → place ≤ n → SpanUpTo n o → ReadUpTo (EndsUpTo n count) n (text_of u place o)
-text_read n count place u None le h = le
-text_read n count place u (Some span) le h = (tt, h)
-
 name_up_to : (text : List ℕ) (at : ℕ) → at ≤ length text → SpanUpTo (length text) (name_from text at)
 unfolding name_from
 name_up_to text at le = by_test (past Line text (past Blank text at) == past Blank text at)
@@ -319,36 +318,38 @@ name_up_to text at le = by_test (past Line text (past Blank text at) == past Bla
     by_test true = tt
     by_test false = past_up_to Line text (past Blank text at) (past_up_to Blank text at le)
 
-file_read : (n count place : ℕ) (u : FileUse) (o : Option (ℕ × ℕ)) → place ≤ n → SpanUpTo n o → ReadUpTo (EndsUpTo n count) n (file_of u place o)
-file_read n count place u None le h = le
-file_read n count place u (Some name) le h = (tt, h)
+spanned_read : (n : ℕ) (verb : Verb) (count place : ℕ) (reason : Reason) (o : Option (ℕ × ℕ)) → ((from to : ℕ) → Follows verb (Between from to)) → place ≤ n → SpanUpTo n o → ReadUpTo (EndsUpTo n verb count) n (spanned reason place o)
+spanned_read n verb count place reason None f le h = le
+spanned_read n verb count place reason (Some span) f le h = (f span.0 span.1, tt, h)
 
 allowed_read : (n : ℕ) (a : Addresses) (at : ℕ) (o : Option Verb) → at ≤ n → ReadUpTo Any n (allowed a at o)
 allowed_read n a at None le = le
 allowed_read n a at (Some verb) le =
     if_both (ReadUpTo Any n) (a.negate && most_addresses verb == 0) _ _ le (if_both (ReadUpTo Any n) (nat_lt (most_addresses verb) (option_len a.first + option_len a.second)) _ _ le tt)
 
-transliterate_read : (text : List ℕ) (count at : ℕ) → at < length text → ReadUpTo (EndsUpTo (length text) count) (length text) (transliterate_at text at)
+transliterate_read : (text : List ℕ) (count at : ℕ) → at < length text → ReadUpTo (EndsUpTo (length text) Transliterate count) (length text) (transliterate_at text at)
 unfolding transliterate_at
 transliterate_read text count at there =
-    read_then (StringsIn (length text)) (EndsUpTo (length text) count) (length text) (transliterate_strings text (at + 1) (own_delimiter (slice_get text (at + 1))))
+    read_then (StringsIn (length text)) (EndsUpTo (length text) Transliterate count) (length text) (transliterate_strings text (at + 1) (own_delimiter (slice_get text (at + 1))))
     _ (transliterate_strings_read text (at + 1) (omega (arith, there)))
-    (λ s h. unless_up_to (EndsUpTo (length text) count) (length text) (strings_fault text s.delimiter at s.from s.middle s.to) _
+    (λ s h. unless_up_to (EndsUpTo (length text) Transliterate count) (length text) (strings_fault text s.delimiter at s.from s.middle s.to) _
     (strings_up_to text s.delimiter at s.from s.middle s.to (length text) (omega (arith, there)) h.0 h.1 (omega (arith, h.2)))
-    (ended_read text count _ (s.to + 1) tt (omega (arith, h.2))))
+    (ended_read text Transliterate count _ (s.to + 1) tt tt (omega (arith, h.2))))
 
-function_read : (text : List ℕ) (count at : ℕ) (arguments : Arguments) → at < length text → ReadUpTo (EndsUpTo (length text) count) (length text) (function_of text arguments at)
-function_read text count at OpensBlock there = (tt, omega (arith, there))
-function_read text count at Remark there = (tt, past_up_to Line text (at + 1) (omega (arith, there)))
-function_read text count at NamesLabel there = label_read text count at (past Blank text (at + 1)) (omega (arith, there)) (past_up_to Blank text (at + 1) (omega (arith, there)))
-function_read text count at (GoesTo u) there =
-    ended_read text count _ (past Name text (past Blank text (at + 1))) tt
+argument_read : (text : List ℕ) (count at : ℕ) (verb : Verb) → (verb ≡ Substitute → ⊥) → at < length text → ReadUpTo (EndsUpTo (length text) verb count) (length text) (argument_of text verb at)
+argument_read text count at Open other there = (tt, tt, omega (arith, there))
+argument_read text count at Comment other there = (tt, tt, past_up_to Line text (at + 1) (omega (arith, there)))
+argument_read text count at Label other there = label_read text count at (past Blank text (at + 1)) (omega (arith, there)) (past_up_to Blank text (at + 1) (omega (arith, there)))
+argument_read text count at (Branch u) other there =
+    ended_read text (Branch u) count _ (past Name text (past Blank text (at + 1))) tt tt
     (past_up_to Name text (past Blank text (at + 1)) (past_up_to Blank text (at + 1) (omega (arith, there))))
-function_read text count at (TakesText t) there =
-    text_read (length text) count at t (text_from text (past Blank text (at + 1))) (omega (arith, there)) (text_from_up_to text (past Blank text (at + 1)) (past_up_to Blank text (at + 1) (omega (arith, there))))
-function_read text count at (NamesFile u) there = file_read (length text) count at u (name_from text (at + 1)) (omega (arith, there)) (name_up_to text (at + 1) (omega (arith, there)))
-function_read text count at TakesStrings there = transliterate_read text count at there
-function_read text count at other there = ended_read text count _ (at + 1) tt (omega (arith, there))
+argument_read text count at (Text t) other there =
+    spanned_read (length text) (Text t) count at _ (text_from text (past Blank text (at + 1))) (λ from to. tt) (omega (arith, there)) (text_from_up_to text (past Blank text (at + 1)) (past_up_to Blank text (at + 1) (omega (arith, there))))
+argument_read text count at (File u) other there =
+    spanned_read (length text) (File u) count at _ (name_from text (at + 1)) (λ from to. tt) (omega (arith, there)) (name_up_to text (at + 1) (omega (arith, there)))
+argument_read text count at Transliterate other there = transliterate_read text count at there
+argument_read text count at Substitute other there = absurd (other refl)
+argument_read text count at verb other there = ended_read text verb count _ (at + 1) tt tt (omega (arith, there))
 
 -- flags of `s`
 
@@ -391,14 +392,14 @@ flags_read text empty f zero at (b ∷ bs) h le =
     (flag_read (length text) empty f at b h (omega (arith, le)))
     (λ g w. flags_read text empty g zero (suc at) bs w (omega (arith, le))))))
 
-substituted_read : (text : List ℕ) (count : ℕ) (s : Strings) (e limit : Option ℕ) → IsOneOf count e → StringsIn (length text) s → ReadUpTo (EndsUpTo (length text) count) (length text) (substituted text s e limit)
+substituted_read : (text : List ℕ) (count : ℕ) (s : Strings) (e limit : Option ℕ) → IsOneOf count e → StringsIn (length text) s → ReadUpTo (EndsUpTo (length text) Substitute count) (length text) (substituted text s e limit)
 unfolding substituted
 substituted_read text count s e limit one h =
-    unless_up_to (EndsUpTo (length text) count) (length text) (replacement_fault s.delimiter limit false (s.middle + 1) (bytes_between text (s.middle + 1) s.to)) _
+    unless_up_to (EndsUpTo (length text) Substitute count) (length text) (replacement_fault s.delimiter limit false (s.middle + 1) (bytes_between text (s.middle + 1) s.to)) _
     (replacement_up_to (length text) s.delimiter limit false (s.middle + 1) (bytes_between text (s.middle + 1) s.to) (omega (arith, h.2, between_short text (s.middle + 1) s.to (omega (arith, h.1)))))
-    (read_then (FlagsUpTo (length text)) (EndsUpTo (length text) count) (length text) (flags_after text s (not (is_some e))) _
+    (read_then (FlagsUpTo (length text)) (EndsUpTo (length text) Substitute count) (length text) (flags_after text s (not (is_some e))) _
     (flags_read text (not (is_some e)) no_flags 0 (s.to + 1) (drop (s.to + 1) text) (omega arith) (omega (arith, h.2, length-drop (s.to + 1) text)))
-    (λ found g. ended_read text count _ found.1 (one, g.0) g.1))
+    (λ found g. ended_read text Substitute count _ found.1 tt (one, g.0) g.1))
 
 -- readings
 
@@ -542,31 +543,31 @@ bang_up_to text h n g le = by_bang (is_byte 33 (slice_get text (past Blank text 
 -- items
 
 abbrev pub ItemWithin : ℕ → Item → Type 0
-ItemWithin n i = AddressesWithin n i.addresses × FunctionWithin n i.function
+ItemWithin n i = AddressesWithin n i.addresses × ArgumentWithin n i.argument × Follows i.verb i.argument
 
 item_more : (m n : ℕ) (i : Item) → m ≤ n → ItemWithin m i → ItemWithin n i
-item_more m n i le h = (addresses_more m n i.addresses le h.0, by_function i.function h.1)
+item_more m n i le h = (addresses_more m n i.addresses le h.0, by_argument i.argument h.1, h.2)
   where
-    by_function : (f : Function) → FunctionWithin m f → FunctionWithin n f
-    by_function (Substitute s (Some k) f) g = (omega (arith, le, g.0), g.1)
-    by_function (Substitute s None f) g = g
-    by_function f g = tt
+    by_argument : (a : Argument) → ArgumentWithin m a → ArgumentWithin n a
+    by_argument (FlaggedPair s (Some k) f) g = (omega (arith, le, g.0), g.1)
+    by_argument (FlaggedPair s None f) g = g
+    by_argument a g = tt
 
 abbrev HereUpTo : ℕ → ℕ → ItemOrEnd → Type 0
 HereUpTo n count (Is i next) = ItemWithin count i × (i.place ≤ n) × (next ≤ n)
 HereUpTo n count Ends = Unit {0}
 
-substitute_read : (text : List ℕ) (count : ℕ) (s : Strings) → StringsIn (length text) s → ReadingUpTo (EndsUpTo (length text)) (length text) count (substitute_with text count s)
+substitute_read : (text : List ℕ) (count : ℕ) (s : Strings) → StringsIn (length text) s → ReadingUpTo (EndsUpTo (length text) Substitute) (length text) count (substitute_with text count s)
 substitute_read text count s h =
-    if_both (ReadingUpTo (EndsUpTo (length text)) (length text) count) (s.middle == s.from) _ _ (substituted_read text count s None None tt h)
+    if_both (ReadingUpTo (EndsUpTo (length text) Substitute) (length text) count) (s.middle == s.from) _ _ (substituted_read text count s None None tt h)
     (h.0, omega (arith, h.1, h.2), λ groups. substituted_read text (suc count) s (Some count) (Some groups) (omega arith) h)
 
-function_with_read : (text : List ℕ) (count at : ℕ) (verb : Verb) → at < length text → ReadingUpTo (EndsUpTo (length text)) (length text) count (function_with text count verb at)
+argument_with_read : (text : List ℕ) (count at : ℕ) (verb : Verb) → at < length text → ReadingUpTo (EndsUpTo (length text) verb) (length text) count (argument_with text count verb at)
 unfolding substitute_at
-function_with_read text count at ReadsExpression there =
-    reading_plain (StringsIn (length text)) (EndsUpTo (length text)) (length text) count (substitute_strings text (at + 1) (own_delimiter (slice_get text (at + 1)))) (substitute_with text count)
+argument_with_read text count at Substitute there =
+    reading_plain (StringsIn (length text)) (EndsUpTo (length text) Substitute) (length text) count (substitute_strings text (at + 1) (own_delimiter (slice_get text (at + 1)))) (substitute_with text count)
     (substitute_strings_read text (at + 1) (omega (arith, there))) (λ s h. substitute_read text count s h)
-function_with_read text count at (Reads arguments) there = function_read text count at arguments there
+argument_with_read text count at verb there = argument_read text count at verb (λ same. cc) there
 
 function_at_read : (text : List ℕ) (count : ℕ) (a : Addresses) (at : ℕ) → AddressesWithin count a → at ≤ length text → ReadingUpTo (HereUpTo (length text)) (length text) count (function_at text count a at)
 unfolding function_at
@@ -577,10 +578,10 @@ function_at_read text count a at within le = by_letter (slice_get text at) refl
     by_letter (Some letter) e =
         let there = inside text at letter e in
         reading_plain Any (HereUpTo (length text)) (length text) count (allowed a at (verb_of letter))
-        (λ (verb : Verb). function_with text count verb at >>= λ (found : Function × ℕ). plainly (Ok (item_of a at found)))
+        (λ (verb : Verb). argument_with text count verb at >>= λ (found : Argument × ℕ). plainly (Ok (item_of a at verb found)))
         (allowed_read (length text) a at (verb_of letter) le)
-        (λ verb h. reading_then (EndsUpTo (length text)) (HereUpTo (length text)) (length text) count (function_with text count verb at) (λ (found : Function × ℕ). plainly (Ok (item_of a at found)))
-        (function_with_read text count at verb there) (λ k found more g. ((addresses_more count k a more within, g.0), le, g.1)))
+        (λ verb h. reading_then (EndsUpTo (length text) verb) (HereUpTo (length text)) (length text) count (argument_with text count verb at) (λ (found : Argument × ℕ). plainly (Ok (item_of a at verb found)))
+        (argument_with_read text count at verb there) (λ k found more g. ((addresses_more count k a more within, g.1, g.0), le, g.2)))
 
 item_read : (text : List ℕ) (count at : ℕ) → at ≤ length text → ReadingUpTo (HereUpTo (length text)) (length text) count (item_at text count at)
 unfolding item_at
@@ -613,18 +614,17 @@ cut_up_to text kind m count at to n _ _ (item {next = next} {i = i} {is = is} es
     let more : count + length es ≤ n = omega (arith, e, length-append es fs) in
     (rest_of.0, (here.1, rest_of.1), (item_more (count + length es) n i more here.0, rest_of.2))
 
-target_at_up_to : (n : ℕ) (text : List ℕ) (all before : List Item) (depth : ℕ) (after : List Item) (place : ℕ) (f : Function) → place ≤ n → FaultUpTo n (target_fault_at text all before depth after place f)
-target_at_up_to n text all before depth after place Open le = fault_if_up_to n (is_none (block_end before after)) _ place le
-target_at_up_to n text all before depth after place Close le = fault_if_up_to n (depth == 0) _ place le
-target_at_up_to n text all before depth after place (Label from to) le = fault_if_up_to n (is_some (label_in text (bytes_between text from to) 0 before)) _ place le
-target_at_up_to n text all before depth after place (Branch u from to) le =
-    fault_if_up_to n (not (from == to) && is_none (label_in text (bytes_between text from to) 0 all)) _ place le
-target_at_up_to n text all before depth after place other le = tt
+target_at_up_to : (n : ℕ) (text : List ℕ) (all before : List Item) (depth : ℕ) (after : List Item) (place : ℕ) (verb : Verb) (a : Argument) → place ≤ n → FaultUpTo n (target_fault_at text all before depth after place verb a)
+target_at_up_to n text all before depth after place Open a le = fault_if_up_to n (is_none (block_end before after)) _ place le
+target_at_up_to n text all before depth after place Close a le = fault_if_up_to n (depth == 0) _ place le
+target_at_up_to n text all before depth after place Label a le = fault_if_up_to n (is_some (label_in text (written_in text a) 0 before)) _ place le
+target_at_up_to n text all before depth after place (Branch u) a le = fault_if_up_to n (is_none (branch_in text all (written_in text a))) _ place le
+target_at_up_to n text all before depth after place verb a le = tt
 
 target_up_to : (n : ℕ) (text : List ℕ) (all before : List Item) (depth : ℕ) (is : List Item) → ItemsUpTo n is → FaultUpTo n (target_fault_in text all before depth is)
 target_up_to n text all before depth [] h = tt
 target_up_to n text all before depth (i ∷ is) h =
-    fault_or n _ _ (target_at_up_to n text all before depth is i.place i.function h.0) (target_up_to n text all (before ++ i ∷ []) (depth_after depth i.function) is h.1)
+    fault_or n _ _ (target_at_up_to n text all before depth is i.place i.verb i.argument h.0) (target_up_to n text all (before ++ i ∷ []) (depth_after depth i.verb) is h.1)
 
 -- the first fault of a text is told in it or at its end
 pub fault_within : ExprFaultWithin → (text : List ℕ) (kind : Kind) (m : ℕ) (f : ScriptFault) → Faulty text kind m f → f.place ≤ length text

@@ -7,7 +7,7 @@ use Rattle.sedre.specs.declared.types.Reason.{Reason as ExprReason}
 use Rattle.sedre.specs.declared.types.Reason.TheVariants.{NoMemory}
 use Rattle.sedre.specs.declared.types.ExprFault.{ExprFault}
 use Rattle.sedre.specs.Tree.{WrittenExpression}
-use Rattle.sedscript.specs.Types.{ScriptFault, Address, Addresses, Item, Strings, Function, ItemOrEnd, Is, Ends, Flags}
+use Rattle.sedscript.specs.Types.{ScriptFault, Address, Addresses, Item, Strings, Argument, ItemOrEnd, Is, Ends, Flags}
 use Rattle.sedscript.specs.declared.types.TheConstants.{NO_MEMORY}
 use Rattle.sedscript.specs.declared.items.Source.{Source}
 use Rattle.sedscript.specs.declared.substitution.ReplacementPart.{ReplacementPart}
@@ -45,8 +45,8 @@ as_addressed x n = record { address = x.0; at = x.1; count = n }
 abbrev pub as_headed : Addresses × ℕ → ℕ → Headed
 as_headed x n = record { addresses = x.0; at = x.1; count = n }
 
-abbrev pub as_function : Function × ℕ → ℕ → Function × ℕ
-as_function x n = x
+abbrev pub as_argument : Argument × ℕ → ℕ → Argument × ℕ
+as_argument x n = x
 
 abbrev pub as_groups : ℕ → ℕ → ℕ
 as_groups groups n = groups

@@ -1,7 +1,7 @@
 -- What follows the letters of functions: texts and names, and the end of a command (XCU sed, "Editing Commands in sed").
 use Rattle.std.specs.Prelude.{ℕ, List, Option, Some, None, if◌then◌else◌, ◌==◌, ◌+◌, [], ◌∷◌, suc, drop, Bool, true, false, ◌&&◌, ◌||◌, slice_get, unwrap_or, Result, Ok, Err, option_map}
 use Rattle.std.specs.Option.{ok_or}
-use Rattle.sedscript.specs.Types.{ScriptFault, Reason, MissingText, MissingName, TrailingBytes, TextUse, FileUse, Function, Text, File, Inside, InLine, Escape, Due}
+use Rattle.sedscript.specs.Types.{ScriptFault, Reason, TrailingBytes, Argument, Between, Inside, InLine, Escape, Due}
 use Rattle.sedscript.specs.Bytes.{Blank, Line, past, is_byte}
 
 abbrev pub fault : {A : Type 0} → Reason → ℕ → Result A ScriptFault
@@ -22,10 +22,10 @@ abbrev pub may_end : Option ℕ → Bool
 may_end None = true
 may_end (Some b) = b == 10 || b == 59 || b == 125 || b == 35
 
--- the function and the end of its command, if only blanks stand between a place and that end
-abbrev pub ended : List ℕ → Function → ℕ → Result (Function × ℕ) ScriptFault
-ended text f at =
-    if may_end (slice_get text (past Blank text at)) then Ok (f, past Blank text at)
+-- what follows a letter and the end of its command, if only blanks stand between a place and that end
+abbrev pub ended : List ℕ → Argument → ℕ → Result (Argument × ℕ) ScriptFault
+ended text a at =
+    if may_end (slice_get text (past Blank text at)) then Ok (a, past Blank text at)
     else fault TrailingBytes (past Blank text at)
 
 -- whether a text ends before this byte: a newline that isn't escaped
@@ -53,16 +53,12 @@ text_from text from =
     else if unwrap_or (slice_get text from) 10 == 10 then None
     else option_map (λ to. (from, to)) (text_end InLine from (drop from text))
 
--- the function with this text, whose letter stands at a place, and the place after it
-abbrev pub text_of : TextUse → ℕ → Option (ℕ × ℕ) → Result (Function × ℕ) ScriptFault
-text_of t place found = or_fault found MissingText place >>= λ span. Ok (Text t span.0 span.1, span.1)
-
 -- where a file's name begins and ends, if it isn't empty: after blanks, if any, up to the newline, with all between (this project's own)
 unfoldable pub name_from : List ℕ → ℕ → Option (ℕ × ℕ)
 name_from text at =
     if past Line text (past Blank text at) == past Blank text at then None
     else Some (past Blank text at, past Line text (past Blank text at))
 
--- the function that reads or writes the file of this name, whose letter stands at a place, and the place after it
-abbrev pub file_of : FileUse → ℕ → Option (ℕ × ℕ) → Result (Function × ℕ) ScriptFault
-file_of u place found = or_fault found MissingName place >>= λ name. Ok (File u name.0 name.1, name.1)
+-- the text or the name that was found after the letter at a place, and the place after it, or else this fault
+abbrev pub spanned : Reason → ℕ → Option (ℕ × ℕ) → Result (Argument × ℕ) ScriptFault
+spanned reason place found = or_fault found reason place >>= λ span. Ok (Between span.0 span.1, span.1)

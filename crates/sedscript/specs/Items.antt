@@ -1,10 +1,10 @@
 -- The items of a script: addresses, and the functions after them (XCU sed, "Addresses in sed", "Extended Description").
 use Rattle.std.specs.Prelude.{ℕ, Bool, Result, Ok, Err, suc, ◌+◌, List, true, false, Option, Some, None, if◌then◌else◌, ◌==◌, slice_get}
-use Rattle.sedscript.specs.Types.{ScriptFault, BadAddress, OpenDelimiter, BadDelimiter, FlagOnEmpty, UnknownCommand, Address, Line, Last, Match, Addresses, Strings, Function, Verb, ReadsExpression, Reads, ItemOrEnd, Is, Ends}
+use Rattle.sedscript.specs.Types.{ScriptFault, BadAddress, OpenDelimiter, BadDelimiter, FlagOnEmpty, UnknownCommand, Address, Line, Last, Match, Addresses, Strings, Argument, Verb, Substitute, ItemOrEnd, Is, Ends}
 use Rattle.sedscript.specs.Bytes.{Blank, Bang, Digit, past, bytes_between, is_digit, with_digits, is_byte, Separator}
 use Rattle.sedscript.specs.Functions.{fault, or_fault}
 use Rattle.sedscript.specs.Between.{own_delimiter, substitute_strings, flags_after, folds}
-use Rattle.sedscript.specs.Letters.{verb_of, allowed, substituted, function_of}
+use Rattle.sedscript.specs.Letters.{verb_of, allowed, substituted, argument_of}
 use Rattle.sedre.specs.Brackets.{delimiter_at}
 
 -- a regular expression in a script: where it begins and ends, the delimiter there, and whether its flag `I` folds case (this project's own)
@@ -122,33 +122,33 @@ with_bang text h =
     then record h { addresses = record h.addresses { negate = true }; at = past Bang text (past Blank text h.at) }
     else record h { at = past Blank text h.at }
 
--- the command `s` with these strings, and its end. An empty expression has no number, and sets no limit to groups (this project's own)
-abbrev pub substitute_with : List ℕ → ℕ → Strings → Reading (Function × ℕ)
+-- these strings of an `s` with their flags, and its end. An empty expression has no number, and sets no limit to groups (this project's own)
+abbrev pub substitute_with : List ℕ → ℕ → Strings → Reading (Argument × ℕ)
 substitute_with text count s =
     if s.middle == s.from then plainly (substituted text s None None)
     else expression (record { from = s.from; to = s.middle; delimiter = s.delimiter; folded = folds (flags_after text s false) })
     (λ groups. plainly (substituted text s (Some count) (Some groups)))
 
--- the command `s` whose letter stands at a place, and its end
-unfoldable pub substitute_at : List ℕ → ℕ → ℕ → Reading (Function × ℕ)
+-- what follows the `s` at a place, and its end
+unfoldable pub substitute_at : List ℕ → ℕ → ℕ → Reading (Argument × ℕ)
 substitute_at text count at =
     plainly (substitute_strings text (at + 1) (own_delimiter (slice_get text (at + 1)))) >>= substitute_with text count
 
--- the function whose letter stands at a place and stands for this, and the place after it
-abbrev pub function_with : List ℕ → ℕ → Verb → ℕ → Reading (Function × ℕ)
-function_with text count ReadsExpression at = substitute_at text count at
-function_with text count (Reads arguments) at = plainly (function_of text arguments at)
+-- what follows the letter at a place, which stands for this, and the place after it
+abbrev pub argument_with : List ℕ → ℕ → Verb → ℕ → Reading (Argument × ℕ)
+argument_with text count Substitute at = substitute_at text count at
+argument_with text count verb at = plainly (argument_of text verb at)
 
--- an item with these addresses and the place of its letter, and the place after it
-abbrev pub item_of : Addresses → ℕ → Function × ℕ → ItemOrEnd
-item_of addresses place found = Is (record { addresses = addresses; place = place; function = found.0 }) found.1
+-- an item with these addresses, the place of its letter and what that stands for, and the place after it
+abbrev pub item_of : Addresses → ℕ → Verb → Argument × ℕ → ItemOrEnd
+item_of addresses place verb found = Is (record { addresses = addresses; place = place; verb = verb; argument = found.0 }) found.1
 
 -- the item of the function that is expected at a place, after these addresses, given the letter there, if there is one
 abbrev pub item_with : List ℕ → ℕ → Addresses → ℕ → Option ℕ → Reading ItemOrEnd
 item_with text count addresses at stands =
     plainly (or_fault stands UnknownCommand at) >>= λ letter.
     plainly (allowed addresses at (verb_of letter)) >>= λ verb.
-    function_with text count verb at >>= λ found. plainly (Ok (item_of addresses at found))
+    argument_with text count verb at >>= λ found. plainly (Ok (item_of addresses at verb found))
 
 unfoldable pub function_at : List ℕ → ℕ → Addresses → ℕ → Reading ItemOrEnd
 function_at text count addresses at = item_with text count addresses at (slice_get text at)

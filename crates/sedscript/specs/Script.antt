@@ -7,11 +7,11 @@ use Rattle.sedre.specs.Tree.{WrittenExpression, expression_tree}
 use Rattle.sedre.specs.Grammar.{ReadsAs, ExprFaulty}
 use Rattle.sedscript.specs.Bytes.{bytes_between, Separator, past}
 use Rattle.sedscript.specs.Items.{Pattern, Reading, plainly, expression, item_at}
-use Rattle.sedscript.specs.Types.{Action, Command, Flags, Strings, Function, Plain, Open, Branch, Text, File, Substitute, Transliterate, Addresses, Item, Is}
+use Rattle.sedscript.specs.Types.{Action, Command, Read, Write, Flags, Strings, Verb, Plain, Open, Branch, Text, File, Substitute, Transliterate, Argument, Pair, FlaggedPair, Addresses, Item, Is}
 use Rattle.sedscript.specs.declared.types.Action.TheVariants as action
 use Rattle.sedscript.specs.declared.substitution.Substitution.{Substitution}
 use Rattle.sedscript.specs.Strings.{pieces_of, chars_of, bytes_of, table_of}
-use Rattle.sedscript.specs.Targets.{read_files, written_files, number_in, sink_in, commands_in, label_in, block_end, target_fault}
+use Rattle.sedscript.specs.Targets.{files_in, written_in, sink_name, number_in, branch_in, block_end, target_fault}
 use Rattle.sedscript.specs.Program.{Program}
 
 -- the text with one part more, and a newline where the part doesn't end with one
@@ -50,13 +50,13 @@ unescaped_from escaped [] = []
 unescaped_from escaped (b ∷ bs) = if not escaped && b == 92 then unescaped_from true bs else b ∷ unescaped_from false bs
 
 -- the text of a function, if it is `a`, `i` or `c`
-abbrev pub text_in : List ℕ → Function → Option (List ℕ)
-text_in text (Text t from to) = Some (unescaped_from false (bytes_between text from to))
-text_in text f = None
+abbrev pub text_in : List ℕ → Verb → Argument → Option (List ℕ)
+text_in text (Text t) a = Some (unescaped_from false (written_in text a))
+text_in text verb a = None
 
 -- the texts of the items, in order
 abbrev pub texts_of : List ℕ → List Item → List (List ℕ)
-texts_of text items = filter_map (λ i. text_in text i.function) items
+texts_of text items = filter_map (λ i. text_in text i.verb i.argument) items
 
 -- the substitution of an `s` with these strings, expression and flags. Without a number it begins with the first occurrence
 abbrev pub substitution_of : List ℕ → List Item → Strings → Option ℕ → Flags → Substitution
@@ -66,43 +66,42 @@ substitution_of text all s e f = record {
   number = unwrap_or f.number 1;
   global = f.global;
   print = f.print;
-  file = sink_in text all f.file;
+  file = option_map (number_in Write text all) (sink_name text f);
 }
 
--- the substitution of a function among all items, if it is an `s`
-abbrev pub substitution_in : List ℕ → List Item → Function → Option Substitution
-substitution_in text all (Substitute s e f) = Some (substitution_of text all s e f)
-substitution_in text all f = None
+-- the substitution that follows a letter, if one does
+abbrev pub substitution_in : List ℕ → List Item → Argument → Option Substitution
+substitution_in text all (FlaggedPair s e f) = Some (substitution_of text all s e f)
+substitution_in text all a = None
 
 -- the substitutions of items among all items, in order
 abbrev pub substitutions_of : List ℕ → List Item → List Item → List Substitution
-substitutions_of text all items = filter_map (λ i. substitution_in text all i.function) items
+substitutions_of text all items = filter_map (λ i. substitution_in text all i.argument) items
 
 -- the table of a `y` whose strings stand there
 abbrev pub table_between : List ℕ → Strings → List ℕ
 table_between text s =
     table_of (bytes_of (chars_of text s.delimiter s.from s.middle)) (bytes_of (chars_of text s.delimiter (s.middle + 1) s.to))
 
--- the table of a function, if it is a `y`
-abbrev pub table_in : List ℕ → Function → Option (List ℕ)
-table_in text (Transliterate s) = Some (table_between text s)
-table_in text f = None
+-- the table that follows a letter, if one does
+abbrev pub table_in : List ℕ → Argument → Option (List ℕ)
+table_in text (Pair s) = Some (table_between text s)
+table_in text a = None
 
 -- the tables of the items, in order
 abbrev pub tables_of : List ℕ → List Item → List (List ℕ)
-tables_of text items = filter_map (λ i. table_in text i.function) items
+tables_of text items = filter_map (λ i. table_in text i.argument) items
 
 -- the action of a function, if it becomes a command. The number of a text, a substitution or a table is how many stand before it
-abbrev pub action_of : List ℕ → List Item → List Item → List Item → Function → Option Action
-action_of text all before after (Plain s) = Some (action.Plain s)
-action_of text all before after Open = Some (action.Block (unwrap_or (block_end before after) 0))
-action_of text all before after (Branch u from to) =
-    Some (action.Branch u (if from == to then commands_in all else unwrap_or (label_in text (bytes_between text from to) 0 all) 0))
-action_of text all before after (Text t from to) = Some (action.Text t (length (texts_of text before)))
-action_of text all before after (File u from to) = Some (action.File u (number_in u text all (bytes_between text from to)))
-action_of text all before after (Substitute s e f) = Some (action.Substitute (length (substitutions_of text all before)))
-action_of text all before after (Transliterate s) = Some (action.Transliterate (length (tables_of text before)))
-action_of text all before after f = None
+abbrev pub action_of : List ℕ → List Item → List Item → List Item → Verb → Argument → Option Action
+action_of text all before after (Plain s) a = Some (action.Plain s)
+action_of text all before after Open a = Some (action.Block (unwrap_or (block_end before after) 0))
+action_of text all before after (Branch u) a = Some (action.Branch u (unwrap_or (branch_in text all (written_in text a)) 0))
+action_of text all before after (Text t) a = Some (action.Text t (length (texts_of text before)))
+action_of text all before after (File u) a = Some (action.File u (number_in u text all (written_in text a)))
+action_of text all before after Substitute a = Some (action.Substitute (length (substitutions_of text all before)))
+action_of text all before after Transliterate a = Some (action.Transliterate (length (tables_of text before)))
+action_of text all before after verb a = None
 
 -- the command with these addresses and this action
 abbrev pub command_of : Addresses → Action → Command
@@ -112,7 +111,7 @@ command_of a does = record { first = a.first; second = a.second; negate = a.nega
 abbrev pub commands_of : List ℕ → List Item → List Item → List Item → List Command
 commands_of text all before [] = []
 commands_of text all before (i ∷ is) =
-    cons_option (option_map (command_of i.addresses) (action_of text all before is i.function)) (commands_of text all (before ++ i ∷ []) is)
+    cons_option (option_map (command_of i.addresses) (action_of text all before is i.verb i.argument)) (commands_of text all (before ++ i ∷ []) is)
 
 -- whether the first line of the whole text, whatever parts made it, is exactly `#n` (this project's own narrowing)
 abbrev pub is_quiet : List ℕ → Bool
@@ -136,7 +135,7 @@ pub record Means (text : List ℕ) (kind : Kind) (max_nodes : ℕ) (s : Program)
   pub texts : s.texts ≡ texts_of text items
   pub substitutions : s.substitutions ≡ substitutions_of text items items
   pub tables : s.tables ≡ tables_of text items
-  pub rfiles : s.rfiles ≡ read_files text items
-  pub wfiles : s.wfiles ≡ written_files text items
+  pub rfiles : s.rfiles ≡ files_in Read text items
+  pub wfiles : s.wfiles ≡ files_in Write text items
   pub quiet : s.quiet ≡ is_quiet text
   pub nodes : s.max_nodes ≡ max_nodes

@@ -10,15 +10,15 @@ use Rattle.std.specs.Str.{bytes_eq}
 use Rattle.sedscript.specs.declared.targets.FirstLabel.{FirstLabel}
 use Rattle.sedscript.specs.declared.files.Files.{Files}
 use Rattle.sedscript.specs.declared.files.NumberedFiles.{NumberedFiles}
-use Rattle.sedscript.specs.Types.{Item, Function}
-use Rattle.sedscript.specs.Targets.{read_files, written_files, is_label, counted, commands_in, is_open, is_close, close_in, block_end}
+use Rattle.sedscript.specs.Types.{Item, Verb, Read, Write}
+use Rattle.sedscript.specs.Targets.{files_in, is_label, counted, commands_in, is_open, is_close, close_in, block_end}
 
 -- the first item with a label of this name, and the number of the command after it, where the items begin with this
 -- index and so many commands before them
 abbrev pub first_label : List ℕ → List ℕ → ℕ → ℕ → List Item → Option FirstLabel
 first_label text name k n [] = None
 first_label text name k n (i ∷ is) =
-    if is_label text name i.function then Some (record { item = k; number = n })
+    if is_label text name i.verb i.argument then Some (record { item = k; number = n })
     else first_label text name (suc k) (counted n i) is
 
 -- whether the first item with a label is another one than that at an index; false where no item has the label
@@ -36,35 +36,35 @@ LabelsAre text items m = (name : List ℕ) → labelled m name ≡ first_label t
 
 -- where the closing braces from a function on lead that close no block opened there, in order, with `n` commands before
 -- the function, given where those after it lead
-abbrev pub unopened_by : ℕ → Function → List ℕ → List ℕ
-unopened_by n f ends = if is_close f then n ∷ ends else if is_open f then drop 1 ends else ends
+abbrev pub unopened_by : ℕ → Verb → List ℕ → List ℕ
+unopened_by n verb ends = if is_close verb then n ∷ ends else if is_open verb then drop 1 ends else ends
 
 -- where the closing braces of the items lead that close no block opened there, in order, with `n` commands before them
 abbrev pub unopened : ℕ → List Item → List ℕ
 unopened n [] = []
-unopened n (i ∷ is) = unopened_by n i.function (unopened (counted n i) is)
+unopened n (i ∷ is) = unopened_by n i.verb (unopened (counted n i) is)
 
 -- the number of blocks opened up to and including a function, given the number before it
-abbrev pub opened : ℕ → Function → ℕ
-opened n f = if is_open f then suc n else n
+abbrev pub opened : ℕ → Verb → ℕ
+opened n verb = if is_open verb then suc n else n
 
 -- how many blocks the items open
 abbrev pub blocks_in : List Item → ℕ
 blocks_in [] = 0
-blocks_in (i ∷ is) = opened (blocks_in is) i.function
+blocks_in (i ∷ is) = opened (blocks_in is) i.verb
 
 -- the ends of blocks, with that of the block that a function opens before them, if it opens one
-abbrev pub with_end : Function → Option ℕ → List (Option ℕ) → List (Option ℕ)
-with_end f end ends = if is_open f then end ∷ ends else ends
+abbrev pub with_end : Verb → Option ℕ → List (Option ℕ) → List (Option ℕ)
+with_end verb end ends = if is_open verb then end ∷ ends else ends
 
 -- the end of each block that the items open, in order, with so many commands before them
 abbrev pub ends_in : ℕ → List Item → List (Option ℕ)
 ends_in n [] = []
-ends_in n (i ∷ is) = with_end i.function (close_in 0 (counted n i) is) (ends_in (counted n i) is)
+ends_in n (i ∷ is) = with_end i.verb (close_in 0 (counted n i) is) (ends_in (counted n i) is)
 
 -- where a function between these items opens a block, that ends there
-abbrev pub EndIs : List Item → List Item → Function → Option ℕ → Type 0
-EndIs before after f end = is_open f ≡ true → end ≡ block_end before after
+abbrev pub EndIs : List Item → List Item → Verb → Option ℕ → Type 0
+EndIs before after verb end = is_open verb ≡ true → end ≡ block_end before after
 
 -- the names with one more, if it is new
 abbrev pub with_name : List (List ℕ) → Option (List ℕ) → List (List ℕ)
@@ -82,8 +82,8 @@ pub record AreNumbered (first : ℕ) (names : List (List ℕ)) (f : NumberedFile
 
 -- the files that the items name; 0 is the number of the standard output
 pub record FilesAre (text : List ℕ) (items : List Item) (f : Files) : Type 0 where
-  pub read : AreNumbered 0 (read_files text items) f.read
-  pub written : AreNumbered 1 (written_files text items) f.written
+  pub read : AreNumbered 0 (files_in Read text items) f.read
+  pub written : AreNumbered 1 (files_in Write text items) f.written
 
 -- the tables are those of all items
 pub record TargetsAre (text : List ℕ) (items : List Item) (labels : BTreeMap (Bor (List ℕ)) FirstLabel)

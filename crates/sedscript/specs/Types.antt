@@ -15,16 +15,14 @@ pub use Rattle.sedscript.specs.declared.types.FileUse.{FileUse}
 pub use Rattle.sedscript.specs.declared.types.FileUse.TheVariants.{Read, Write}
 pub use Rattle.sedscript.specs.declared.items.Addresses.{Addresses}
 pub use Rattle.sedscript.specs.declared.items.Flags.{Flags}
-pub use Rattle.sedscript.specs.declared.items.Function.{Function}
-pub use Rattle.sedscript.specs.declared.items.Function.TheVariants.{Branch, Close, Comment, File, Label, Open, Plain, Substitute, Text, Transliterate}
+pub use Rattle.sedscript.specs.declared.letters.Verb.{Verb}
+pub use Rattle.sedscript.specs.declared.letters.Verb.TheVariants.{Branch, Close, Comment, File, Label, Open, Plain, Substitute, Text, Transliterate}
+pub use Rattle.sedscript.specs.declared.items.Argument.{Argument}
+pub use Rattle.sedscript.specs.declared.items.Argument.TheVariants.{Between, FlaggedPair, Nothing, Pair}
 pub use Rattle.sedscript.specs.declared.items.ItemOrEnd.{ItemOrEnd}
 pub use Rattle.sedscript.specs.declared.items.ItemOrEnd.TheVariants.{Ends, Is}
 pub use Rattle.sedscript.specs.declared.items.Item.{Item}
 pub use Rattle.sedscript.specs.declared.items.Strings.{Strings}
-pub use Rattle.sedscript.specs.declared.letters.Verb.{Verb}
-pub use Rattle.sedscript.specs.declared.letters.Verb.TheVariants.{Reads, ReadsExpression}
-pub use Rattle.sedscript.specs.declared.letters.Arguments.{Arguments}
-pub use Rattle.sedscript.specs.declared.letters.Arguments.TheVariants.{Alone, ClosesBlock, GoesTo, NamesFile, NamesLabel, OpensBlock, Remark, TakesStrings, TakesText}
 pub use Rattle.sedscript.specs.declared.texts.Inside.{Inside}
 pub use Rattle.sedscript.specs.declared.texts.Inside.TheVariants.{Due, Escape, InLine}
 pub use Rattle.sedscript.specs.declared.substitution.Piece.{Piece}

@@ -7,20 +7,20 @@ ghost use Rattle.sedscript.specs.Parts.{OperandsAre};
 ghost use Rattle.sedscript.specs.Script.{action_of, command_of, commands_of, text_in, substitution_of, substitution_in, table_in, unescaped_from, is_quiet};
 ghost use Rattle.sedscript.specs.declared.items.Item.{Item};
 
-use crate::bytes::bytes_between;
 use crate::files::Files;
-use crate::items::{Flags, Function, Item, Strings};
+use crate::items::{Argument, Flags, Item, Strings};
 use crate::kept::Items;
+use crate::letters::Verb;
 use crate::replacement::parts_of;
 use crate::script::Operands;
 use crate::strings::second_of;
 use crate::substitution::{Replacement, Substitution};
-use crate::targets::{Targets, opened};
+use crate::targets::{Targets, opened, written_in};
 use crate::transliteration::table_between;
 use crate::types::{Action, Command};
 use std::alloc::{AllocError, Global};
 
-/// The action of a function; None where it doesn't become a command. The operands of the functions before it are `operands`,
+/// The action of an item; None where it doesn't become a command. The operands of the items before it are `operands`,
 /// and the block that it opens ends at `end`, if it opens one.
 fn action_of<'a>(
     text: &'a [u8],
@@ -28,35 +28,24 @@ fn action_of<'a>(
     files: &Files<'a>,
     operands: &Operands,
     end: Option<usize>,
-    function: Function,
+    item: Item,
 ) -> Option<Action>
     ensures { (all before after : List Item) →
         TargetsAre text.now all targets.now.labels targets.now.ends.items targets.now.commands →
         FilesAre text.now all files.now → OperandsAre text.now all before operands.now →
-        EndIs before after function end → result ≡ action_of text.now all before after function }
+        EndIs before after item.verb end → result ≡ action_of text.now all before after item.verb item.argument }
 {
-    match function {
-        Function::Plain(simple) => Some(Action::Plain(simple)),
-        Function::Open => Some(Action::Block(end.unwrap_or(0))),
-        Function::Branch(branch_use, from, to) => {
-            if from == to {
-                Some(Action::Branch(branch_use, targets.commands))
-            } else {
-                Some(Action::Branch(
-                    branch_use,
-                    targets.label(bytes_between(text, from, to)).unwrap_or(0),
-                ))
-            }
+    let written = written_in(text, item.argument);
+    match item.verb {
+        Verb::Plain(simple) => Some(Action::Plain(simple)),
+        Verb::Open => Some(Action::Block(end.unwrap_or(0))),
+        Verb::Branch(branch_use) => {
+            Some(Action::Branch(branch_use, targets.branch(written).unwrap_or(0)))
         }
-        Function::Text(text_use, _, _) => Some(Action::Text(text_use, operands.texts.len())),
-        Function::File(file_use, from, to) => {
-            Some(Action::File(
-                file_use,
-                files.number(file_use, bytes_between(text, from, to)),
-            ))
-        }
-        Function::Substitute(..) => Some(Action::Substitute(operands.substitutions.len())),
-        Function::Transliterate(_) => Some(Action::Transliterate(operands.tables.len())),
+        Verb::Text(text_use) => Some(Action::Text(text_use, operands.texts.len())),
+        Verb::File(file_use) => Some(Action::File(file_use, files.number(file_use, written))),
+        Verb::Substitute => Some(Action::Substitute(operands.substitutions.len())),
+        Verb::Transliterate => Some(Action::Transliterate(operands.tables.len())),
         _ => None,
     }
 }
@@ -119,38 +108,50 @@ fn substitution_of<'a>(
         number: flags.number.unwrap_or(1),
         global: flags.global,
         print: flags.print,
-        file: files.sink(text, flags.file),
+        file: files.sink(text, flags),
     })
 }
 
-/// Adds the text, the substitution or the table of a function, if it has one.
+/// Adds the text of an item, if it has one.
+fn add_text(
+    alloc: Global,
+    text: &[u8],
+    texts: &mut Vec<Vec<u8>>,
+    item: Item,
+) -> Result<(), AllocError>
+    ensures { OnOk result (map (λ t. t.items) texts.new.items
+        ≡ map (λ t. t.items) texts.old.items ++ cons_option (text_in text.now item.verb item.argument) []) }
+{
+    if let Verb::Text(_) = item.verb {
+        texts.push(unescaped(alloc, written_in(text, item.argument))?)?;
+    }
+    Ok(())
+}
+
+/// Adds the text, the substitution or the table of an item, if it has one.
 fn add_operand<'a>(
     alloc: Global,
     text: &'a [u8],
     files: &Files<'a>,
     operands: &mut Operands,
-    function: Function,
+    item: Item,
 ) -> Result<(), AllocError>
     ensures texts { OnOk result (map (λ t. t.items) operands.new.texts.items
-        ≡ map (λ t. t.items) operands.old.texts.items ++ cons_option (text_in text.now function) []) }
+        ≡ map (λ t. t.items) operands.old.texts.items ++ cons_option (text_in text.now item.verb item.argument) []) }
     ensures substitutions { OnOk result ((all : List Item) → FilesAre text.now all files.now →
         operands.new.substitutions.items
-        ≡ operands.old.substitutions.items ++ cons_option (substitution_in text.now all function) []) }
+        ≡ operands.old.substitutions.items ++ cons_option (substitution_in text.now all item.argument) []) }
     ensures tables { OnOk result (map (λ t. t.items) operands.new.tables.items
-        ≡ map (λ t. t.items) operands.old.tables.items ++ cons_option (table_in text.now function) []) }
+        ≡ map (λ t. t.items) operands.old.tables.items ++ cons_option (table_in text.now item.argument) []) }
 {
-    match function {
-        Function::Text(_, from, to) => {
-            operands
-                .texts
-                .push(unescaped(alloc, bytes_between(text, from, to))?)?;
-        }
-        Function::Substitute(strings, expression, flags) => {
+    add_text(alloc, text, &mut operands.texts, item)?;
+    match item.argument {
+        Argument::FlaggedPair(strings, expression, flags) => {
             operands.substitutions.push(substitution_of(
                 alloc, text, files, strings, expression, flags,
             )?)?;
         }
-        Function::Transliterate(strings) => {
+        Argument::Pair(strings) => {
             operands.tables.push(table_between(alloc, text, strings)?)?;
         }
         _ => {}
@@ -180,10 +181,10 @@ pub fn commands_of<'a>(
     'items: while k < items.len() {
         let item = items.get(k);
         let end = targets.block_end(blocks);
-        let action = action_of(text, targets, files, operands, end, item.function);
+        let action = action_of(text, targets, files, operands, end, item);
         add_command(&mut commands, item, action)?;
-        add_operand(alloc, text, files, operands, item.function)?;
-        blocks = opened(blocks, item.function);
+        add_operand(alloc, text, files, operands, item)?;
+        blocks = opened(blocks, item.verb);
         k += 1;
     }
     Ok(commands)

@@ -1,13 +1,16 @@
 //! The files that a script names: tables that are made once, so that no name is compared with all earlier ones.
 
-ghost use Rattle.std.specs.Prelude.{◌≡◌, ◌≤◌, ◌<◌, ◌+◌, ℕ, List, Some, length, unwrap_or, is_some, IfOk, OnOk};
-ghost use Rattle.sedscript.specs.Targets.{is_standard_output, is_file, name_in, file_at, files_in, number_in, sink_in};
+ghost use Rattle.std.specs.Prelude.{◌≡◌, ◌≤◌, ◌<◌, ◌+◌, ℕ, List, Some, length, unwrap_or, is_some, option_map, IfOk, OnOk};
+ghost use Rattle.sedscript.specs.Targets.{is_standard_output, is_file, sink_name, name_in, file_in, files_in, number_in};
 ghost use Rattle.sedscript.specs.Tables.{labelled, with_name, AreNumbered, FilesAre};
 ghost use Rattle.sedscript.specs.declared.items.Item.{Item};
+ghost use Rattle.sedscript.specs.declared.types.FileUse.TheVariants.{Write};
 
 use crate::bytes::bytes_between;
-use crate::items::Function;
+use crate::items::{Argument, Flags, Item};
 use crate::kept::Items;
+use crate::letters::Verb;
+use crate::targets::written_in;
 use crate::types::FileUse;
 use std::alloc::{AllocError, Global};
 use std::collections::BTreeMap;
@@ -50,14 +53,22 @@ fn is_file(file_use: FileUse, name: &[u8]) -> bool
     }
 }
 
-/// Where the name of the file that a function reads or writes, as `file_use` says, begins and ends, if it does so.
-fn name_in(file_use: FileUse, function: Function) -> Option<(usize, usize)>
-    ensures { result ≡ name_in file_use function }
+/// The name of the sink of an `s`, if it has one: that after its flag `w`.
+fn sink_name(text: &[u8], flags: Flags) -> Option<&[u8]>
+    ensures { option_map (λ n. n.now) result ≡ sink_name text.now flags }
 {
-    match (file_use, function) {
-        (FileUse::Read, Function::File(FileUse::Read, from, to)) => Some((from, to)),
-        (FileUse::Write, Function::File(FileUse::Write, from, to)) => Some((from, to)),
-        (FileUse::Write, Function::Substitute(_, _, flags)) => flags.file,
+    let (from, to) = flags.file?;
+    Some(bytes_between(text, from, to))
+}
+
+/// The name that a function reads or writes by, as `file_use` says, if it does so.
+fn name_in(file_use: FileUse, text: &[u8], item: Item) -> Option<&[u8]>
+    ensures { option_map (λ n. n.now) result ≡ name_in file_use text.now item.verb item.argument }
+{
+    match (file_use, item.verb, item.argument) {
+        (FileUse::Read, Verb::File(FileUse::Read), _) => Some(written_in(text, item.argument)),
+        (FileUse::Write, Verb::File(FileUse::Write), _) => Some(written_in(text, item.argument)),
+        (FileUse::Write, _, Argument::FlaggedPair(_, _, flags)) => sink_name(text, flags),
         _ => None,
     }
 }
@@ -92,24 +103,22 @@ fn add_name<'a>(
     }
 }
 
-/// Adds the name between two places, if it is a file's and new.
+/// Adds the name, if it is a file's and new.
 fn add_file<'a>(
     alloc: Global,
-    text: &'a [u8],
     files: &mut NumberedFiles<'a>,
     file_use: FileUse,
     first: usize,
-    found: Option<(usize, usize)>,
+    found: Option<&'a [u8]>,
 ) -> Result<(), AllocError>
     requires { first + length files.old.names.items < usize.MAX }
     ensures few { OnOk result (length files.new.names.items ≤ length files.old.names.items + 1) }
     ensures added { OnOk result ((ns : List (List ℕ)) → AreNumbered first ns files.old →
-        AreNumbered first (with_name ns (file_at file_use text.now found)) files.new) }
+        AreNumbered first (with_name ns (file_in file_use (option_map (λ n. n.now) found.entry))) files.new) }
 {
-    let Some((from, to)) = found else {
+    let Some(name) = found else {
         return Ok(());
     };
-    let name = bytes_between(text, from, to);
     if !is_file(file_use, name) {
         return Ok(());
     }
@@ -133,8 +142,8 @@ fn numbered<'a>(
     };
     let mut k = 0;
     'items: while k < items.len() {
-        let found = name_in(file_use, items.get(k).function);
-        add_file(alloc, text, &mut files, file_use, first, found)?;
+        let found = name_in(file_use, text, items.get(k));
+        add_file(alloc, &mut files, file_use, first, found)?;
         k += 1;
     }
     Ok(files)
@@ -175,11 +184,12 @@ impl<'a> Files<'a> {
         }
     }
 
-    /// The number of the sink of the name between two places, if there is one.
-    pub fn sink(&self, text: &'a [u8], name: Option<(usize, usize)>) -> Option<usize>
-        ensures { (items : List Item) → FilesAre text.now items self.now → result ≡ sink_in text.now items name }
+    /// The number of the sink of an `s`, if it has one.
+    pub fn sink(&self, text: &'a [u8], flags: Flags) -> Option<usize>
+        ensures { (items : List Item) → FilesAre text.now items self.now →
+            result ≡ option_map (number_in Write text.now items) (sink_name text.now flags) }
     {
-        let (from, to) = name?;
-        Some(self.number(FileUse::Write, bytes_between(text, from, to)))
+        let name = sink_name(text, flags)?;
+        Some(self.number(FileUse::Write, name))
     }
 }

@@ -1,13 +1,12 @@
 //! What follows the letters of functions: texts and names, and the end of a command.
 
-ghost use Rattle.std.specs.Prelude.{◌≡◌, ◌≤◌, ◌<◌, ◌+◌, length, IfOk, IfSome};
+ghost use Rattle.std.specs.Prelude.{◌≡◌, ◌≤◌, ◌<◌, length, IfOk, IfSome};
 ghost use Rattle.sedscript.specs.Bytes.{past};
-ghost use Rattle.sedscript.specs.Functions.{may_end, ended, text_of, text_from, name_from, file_of};
+ghost use Rattle.sedscript.specs.Functions.{may_end, ended, name_from, spanned};
 
 use crate::bytes::{Sort, byte_at, past};
-use crate::items::Function;
-use crate::texts::text_from;
-use crate::types::{FileUse, Reason, ScriptFault, TextUse};
+use crate::items::Argument;
+use crate::types::{Reason, ScriptFault};
 
 /// Whether a command may end before this byte; None is the end of the text.
 pub fn may_end(next: Option<u8>) -> bool
@@ -19,29 +18,17 @@ pub fn may_end(next: Option<u8>) -> bool
     }
 }
 
-/// The function and the end of its command, if only blanks stand between `at` and that end.
-pub fn ended(text: &[u8], function: Function, at: usize) -> Result<(Function, usize), ScriptFault>
+/// What follows a letter and the end of its command, if only blanks stand between `at` and that end.
+pub fn ended(text: &[u8], argument: Argument, at: usize) -> Result<(Argument, usize), ScriptFault>
     requires { at ≤ length text.now }
-    ensures is { result ≡ ended text.now function at }
+    ensures is { result ≡ ended text.now argument at }
     ensures within { IfOk result (λ found. (at ≤ found.1) × (found.1 ≤ length text.now)) }
 {
     let end = past(Sort::Blank, text, at);
     if may_end(byte_at(text, end)) {
-        Ok((function, end))
+        Ok((argument, end))
     } else {
         Err(Reason::TrailingBytes.at(end))
-    }
-}
-
-/// The function whose letter stands at `at`, with the text that follows, and the place after it.
-pub fn text_of(text: &[u8], text_use: TextUse, at: usize) -> Result<(Function, usize), ScriptFault>
-    requires { at < length text.now }
-    ensures is { result ≡ text_of text_use at (text_from text.now (past Sort.Blank text.now (at + 1))) }
-    ensures within { IfOk result (λ found. (at < found.1) × (found.1 ≤ length text.now)) }
-{
-    match text_from(text, past(Sort::Blank, text, at + 1)) {
-        None => Err(Reason::MissingText.at(at)),
-        Some((from, to)) => Ok((Function::Text(text_use, from, to), to)),
     }
 }
 
@@ -57,14 +44,16 @@ pub fn name_from(text: &[u8], at: usize) -> Option<(usize, usize)>
     if to == from { None } else { Some((from, to)) }
 }
 
-/// The function whose letter stands at `at`, with the name of its file that follows, and the place after it.
-pub fn file_of(text: &[u8], file_use: FileUse, at: usize) -> Result<(Function, usize), ScriptFault>
-    requires { at < length text.now }
-    ensures is { result ≡ file_of file_use at (name_from text.now (at + 1)) }
-    ensures within { IfOk result (λ found. (at < found.1) × (found.1 ≤ length text.now)) }
+/// The text or the name that was found after the letter at `place`, and the place after it; this fault where there is none.
+pub fn spanned(
+    reason: Reason,
+    place: usize,
+    found: Option<(usize, usize)>,
+) -> Result<(Argument, usize), ScriptFault>
+    ensures { result ≡ spanned reason place found }
 {
-    match name_from(text, at + 1) {
-        None => Err(Reason::MissingName.at(at)),
-        Some((from, to)) => Ok((Function::File(file_use, from, to), to)),
+    match found {
+        None => Err(reason.at(place)),
+        Some((from, to)) => Ok((Argument::Between(from, to), to)),
     }
 }

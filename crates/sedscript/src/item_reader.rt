@@ -1,26 +1,26 @@
 //! Reads the items of a script: functions with their addresses.
 
 ghost use Rattle.std.specs.Prelude.{◌≡◌, ◌≤◌, ◌<◌, length, IfOk};
-ghost use Rattle.sedscript.specs.Items.{substitute_at, function_with, function_at, item_at, item_of};
-ghost use Rattle.sedscript.specs.Answers.{as_function, as_here, ComesFrom, IsAfter, IsHere};
+ghost use Rattle.sedscript.specs.Items.{substitute_at, argument_with, function_at, item_at, item_of};
+ghost use Rattle.sedscript.specs.Answers.{as_argument, as_here, ComesFrom, IsAfter, IsHere};
 
 use crate::addresses::{addresses_at, with_bang};
 use crate::between::{folds, strings_at};
 use crate::bytes::{Sort, byte_at, past};
 use crate::expressions::expression_at;
-use crate::items::{Addresses, Function, Item, ItemOrEnd, Source};
-use crate::letters::{Verb, allowed, function_of, substituted};
+use crate::items::{Addresses, Argument, Item, ItemOrEnd, Source};
+use crate::letters::{Verb, allowed, argument_of, substituted};
 use crate::types::{Reason, ScriptFault};
 use sedre::Expr;
 
-/// The command `s` whose letter stands at `at`, and its end.
+/// What follows the `s` at `at`, and its end.
 fn substitute_at(
     source: &Source,
     exprs: &mut Vec<Expr>,
     at: usize,
-) -> Result<(Function, usize), ScriptFault>
+) -> Result<(Argument, usize), ScriptFault>
     requires { at < length source.now.text.now }
-    ensures comes { ComesFrom source.now exprs.old.items exprs.new.items as_function result
+    ensures comes { ComesFrom source.now exprs.old.items exprs.new.items as_argument result
         (substitute_at source.now.text.now (length exprs.old.items) at) }
     ensures within { IfOk result (λ found. (at < found.1) × (found.1 ≤ length source.now.text.now)) }
 {
@@ -40,33 +40,40 @@ fn substitute_at(
     substituted(source.text, strings, Some(number), Some(groups))
 }
 
-/// The function of this verb, whose letter stands at `at`, and the place after it.
-fn function_with(
+/// What follows the letter at `at`, which stands for this, and the place after it.
+fn argument_with(
     source: &Source,
     exprs: &mut Vec<Expr>,
     verb: Verb,
     at: usize,
-) -> Result<(Function, usize), ScriptFault>
+) -> Result<(Argument, usize), ScriptFault>
     requires { at < length source.now.text.now }
-    ensures comes { ComesFrom source.now exprs.old.items exprs.new.items as_function result
-        (function_with source.now.text.now (length exprs.old.items) verb at) }
+    ensures comes { ComesFrom source.now exprs.old.items exprs.new.items as_argument result
+        (argument_with source.now.text.now (length exprs.old.items) verb at) }
     ensures within { IfOk result (λ found. (at < found.1) × (found.1 ≤ length source.now.text.now)) }
 {
     match verb {
-        Verb::ReadsExpression => substitute_at(source, exprs, at),
-        Verb::Reads(arguments) => function_of(source.text, arguments, at),
+        Verb::Substitute => substitute_at(source, exprs, at),
+        _ => argument_of(source.text, verb, at),
     }
 }
 
 /// An item and the place after it.
-fn item_of(addresses: Addresses, place: usize, function: Function, next: usize) -> ItemOrEnd
-    ensures { result ≡ item_of addresses place (function, next) }
+fn item_of(
+    addresses: Addresses,
+    place: usize,
+    verb: Verb,
+    argument: Argument,
+    next: usize,
+) -> ItemOrEnd
+    ensures { result ≡ item_of addresses place verb (argument, next) }
 {
     ItemOrEnd::Is(
         Item {
             addresses,
             place,
-            function,
+            verb,
+            argument,
         },
         next,
     )
@@ -88,8 +95,8 @@ fn function_at(
         return Err(Reason::UnknownCommand.at(at));
     };
     let verb = allowed(addresses, letter, at)?;
-    let (function, next) = function_with(source, exprs, verb, at)?;
-    Ok(item_of(addresses, at, function, next))
+    let (argument, next) = argument_with(source, exprs, verb, at)?;
+    Ok(item_of(addresses, at, verb, argument, next))
 }
 
 /// The next item from a place on, or the end.

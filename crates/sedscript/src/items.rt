@@ -3,7 +3,8 @@
 
 ghost use Rattle.std.specs.Prelude.{◌≤◌};
 
-use crate::types::{Address, BranchUse, FileUse, Kind, Simple, TextUse};
+use crate::letters::Verb;
+use crate::types::{Address, Kind};
 use std::alloc::Global;
 
 /// A script's text, and how its regular expressions are read.
@@ -47,38 +48,27 @@ pub struct Strings {
     pub to: usize,
 }
 
-/// A function: its letter and what follows that.
+/// What follows a letter.
 #[derive(Clone, Copy)]
-pub enum Function {
-    /// A function of one letter, which nothing follows.
-    Plain(Simple),
-    /// `{`
-    Open,
-    /// `}`
-    Close,
-    /// `:` and a name.
-    Label(usize, usize),
-    /// `b` or `t` and a name, which is empty where there is none.
-    Branch(BranchUse, usize, usize),
-    /// `a`, `i` or `c` and a text as it is written.
-    Text(TextUse, usize, usize),
-    /// `r` or `w` and a name.
-    File(FileUse, usize, usize),
-    /// `s`: its regular expression and its replacement, the number of the expression in the script (none for the empty
-    /// one), and its flags.
-    Substitute(Strings, Option<usize>, Flags),
-    /// `y`
-    Transliterate(Strings),
-    /// `#`
-    Comment,
+pub enum Argument {
+    /// Nothing, or a comment.
+    Nothing,
+    /// A name, or a text as it is written, between these places.
+    Between(usize, usize),
+    /// The strings of `y`.
+    Pair(Strings),
+    /// The regular expression and the replacement of `s`, the number of the expression in the script (none for the empty
+    /// one), and the flags.
+    FlaggedPair(Strings, Option<usize>, Flags),
 }
 
-/// A function with its addresses, and the place of its letter.
+/// A function with its addresses: the place of its letter, what that stands for, and what follows it.
 #[derive(Clone, Copy)]
 pub struct Item {
     pub addresses: Addresses,
     pub place: usize,
-    pub function: Function,
+    pub verb: Verb,
+    pub argument: Argument,
 }
 
 /// What stands at a place: an item and the place after it, or the end.

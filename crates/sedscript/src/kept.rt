@@ -2,10 +2,11 @@
 //! each takes little room: what only a few of them need stands in lists of its own.
 
 ghost use Rattle.std.specs.Prelude.{◌≡◌, ◌<◌, ◌++◌, ◌∷◌, [], Some, length, slice_get, slice_index_or, IfOk, OnOk};
-ghost use Rattle.sedscript.specs.Kept.{kept_addresses, kept_function, kept_item, PacksAddresses, PacksFunction, PacksItem, Longer};
+ghost use Rattle.sedscript.specs.Kept.{kept_addresses, kept_argument, kept_item, PacksAddresses, PacksArgument, PacksItem, Longer};
 
-use crate::items::{Addresses, Function, Item};
-use crate::types::{Address, BranchUse, FileUse, Simple, TextUse};
+use crate::items::{Addresses, Argument, Item};
+use crate::letters::Verb;
+use crate::types::Address;
 use std::alloc::{AllocError, Global};
 use std::marker::Model;
 
@@ -22,18 +23,14 @@ pub enum PackedAddresses {
     Listed,
 }
 
-/// A function without its places.
+/// Which argument an item has.
 #[derive(Clone, Copy)]
-pub enum PackedFunction {
-    Plain(Simple),
-    Open,
-    Close,
-    Label,
-    Branch(BranchUse),
-    Text(TextUse),
-    File(FileUse),
-    Comment,
-    /// One of a list, at an index that is kept in the item, where other functions have two places or none.
+pub enum PackedArgument {
+    /// None.
+    Nothing,
+    /// Two places, which are kept in the item.
+    Between,
+    /// One of a list, at an index that is kept in the item.
     Listed,
 }
 
@@ -43,11 +40,12 @@ pub struct PackedItem {
     pub place: usize,
     /// The line's number or the index that `given` asks for.
     pub head: u64,
-    /// The first place or the index that `function` asks for.
+    /// The first place or the index that `argument` asks for.
     pub from: usize,
     pub to: usize,
     pub given: PackedAddresses,
-    pub function: PackedFunction,
+    pub verb: Verb,
+    pub argument: PackedArgument,
 }
 
 /// The addresses of a function that has none.
@@ -77,27 +75,21 @@ fn kept_addresses(listed_addresses: &[Addresses], given: PackedAddresses, head: 
     }
 }
 
-/// The function that an item keeps as `function`, `from` and `to`.
+/// The argument that an item keeps as `argument`, `from` and `to`.
 #[inline]
-fn kept_function(
-    listed_functions: &[Function],
-    function: PackedFunction,
+fn kept_argument(
+    listed_arguments: &[Argument],
+    argument: PackedArgument,
     from: usize,
     to: usize,
-) -> Function
-    requires { PacksFunction (length listed_functions.now) function from }
-    ensures { result ≡ kept_function listed_functions.now function from to }
+) -> Argument
+    requires { PacksArgument (length listed_arguments.now) argument from }
+    ensures { result ≡ kept_argument listed_arguments.now argument from to }
 {
-    match function {
-        PackedFunction::Plain(simple) => Function::Plain(simple),
-        PackedFunction::Open => Function::Open,
-        PackedFunction::Close => Function::Close,
-        PackedFunction::Label => Function::Label(from, to),
-        PackedFunction::Branch(branch_use) => Function::Branch(branch_use, from, to),
-        PackedFunction::Text(text_use) => Function::Text(text_use, from, to),
-        PackedFunction::File(file_use) => Function::File(file_use, from, to),
-        PackedFunction::Comment => Function::Comment,
-        PackedFunction::Listed => listed_functions[from],
+    match argument {
+        PackedArgument::Nothing => Argument::Nothing,
+        PackedArgument::Between => Argument::Between(from, to),
+        PackedArgument::Listed => listed_arguments[from],
     }
 }
 
@@ -122,32 +114,22 @@ fn keep_addresses(
     }
 }
 
-/// What an item keeps of its function. One with more than two places goes into the list.
-fn keep_function(
-    listed_functions: &mut Vec<Function>,
-    function: Function,
-) -> Result<(PackedFunction, usize, usize), AllocError>
-    ensures longer { Longer listed_functions.old.items listed_functions.new.items }
-    ensures kept { IfOk result (λ b. PacksFunction (length listed_functions.new.items) b.0 b.1
-        × (kept_function listed_functions.new.items b.0 b.1 b.2 ≡ function)) }
+/// What an item keeps of its argument. One with more than two places goes into the list.
+fn keep_argument(
+    listed_arguments: &mut Vec<Argument>,
+    argument: Argument,
+) -> Result<(PackedArgument, usize, usize), AllocError>
+    ensures longer { Longer listed_arguments.old.items listed_arguments.new.items }
+    ensures kept { IfOk result (λ b. PacksArgument (length listed_arguments.new.items) b.0 b.1
+        × (kept_argument listed_arguments.new.items b.0 b.1 b.2 ≡ argument)) }
 {
-    match function {
-        Function::Plain(simple) => Ok((PackedFunction::Plain(simple), 0, 0)),
-        Function::Open => Ok((PackedFunction::Open, 0, 0)),
-        Function::Close => Ok((PackedFunction::Close, 0, 0)),
-        Function::Label(from, to) => Ok((PackedFunction::Label, from, to)),
-        Function::Branch(branch_use, from, to) => Ok((
-            PackedFunction::Branch(branch_use),
-            from,
-            to,
-        )),
-        Function::Text(text_use, from, to) => Ok((PackedFunction::Text(text_use), from, to)),
-        Function::File(file_use, from, to) => Ok((PackedFunction::File(file_use), from, to)),
-        Function::Comment => Ok((PackedFunction::Comment, 0, 0)),
+    match argument {
+        Argument::Nothing => Ok((PackedArgument::Nothing, 0, 0)),
+        Argument::Between(from, to) => Ok((PackedArgument::Between, from, to)),
         _ => {
-            let at = listed_functions.len();
-            listed_functions.push(function)?;
-            Ok((PackedFunction::Listed, at, 0))
+            let at = listed_arguments.len();
+            listed_arguments.push(argument)?;
+            Ok((PackedArgument::Listed, at, 0))
         }
     }
 }
@@ -155,23 +137,24 @@ fn keep_function(
 /// The item in its compact form. What that has no room for goes into the lists.
 fn keep(
     listed_addresses: &mut Vec<Addresses>,
-    listed_functions: &mut Vec<Function>,
+    listed_arguments: &mut Vec<Argument>,
     item: Item,
 ) -> Result<PackedItem, AllocError>
     ensures listed_addresses { Longer listed_addresses.old.items listed_addresses.new.items }
-    ensures listed_functions { Longer listed_functions.old.items listed_functions.new.items }
-    ensures kept { IfOk result (λ k. PacksItem (length listed_addresses.new.items) (length listed_functions.new.items) k
-        × (kept_item listed_addresses.new.items listed_functions.new.items k ≡ item)) }
+    ensures listed_arguments { Longer listed_arguments.old.items listed_arguments.new.items }
+    ensures kept { IfOk result (λ k. PacksItem (length listed_addresses.new.items) (length listed_arguments.new.items) k
+        × (kept_item listed_addresses.new.items listed_arguments.new.items k ≡ item)) }
 {
     let (given, head) = keep_addresses(listed_addresses, item.addresses)?;
-    let (function, from, to) = keep_function(listed_functions, item.function)?;
+    let (argument, from, to) = keep_argument(listed_arguments, item.argument)?;
     Ok(PackedItem {
         place: item.place,
         head,
         from,
         to,
         given,
-        function,
+        verb: item.verb,
+        argument,
     })
 }
 
@@ -181,8 +164,8 @@ pub struct Items {
     kept: Vec<PackedItem>,
     /// The addresses of the items that have more than a line's number or `$`.
     listed_addresses: Vec<Addresses>,
-    /// The functions that have more than two places.
-    listed_functions: Vec<Function>,
+    /// The arguments that have more than two places.
+    listed_arguments: Vec<Argument>,
 }
 
 impl Model for Items {
@@ -193,9 +176,9 @@ impl Model for Items {
 
     ghost Value = { List Item };
 
-    ghost view = { λ s. kept_items s.listed_addresses.items s.listed_functions.items s.kept.items };
+    ghost view = { λ s. kept_items s.listed_addresses.items s.listed_arguments.items s.kept.items };
 
-    ghost invariant = { λ s. All (PacksItem (length s.listed_addresses.items) (length s.listed_functions.items)) s.kept.items };
+    ghost invariant = { λ s. All (PacksItem (length s.listed_addresses.items) (length s.listed_arguments.items)) s.kept.items };
 }
 
 impl Items {
@@ -206,7 +189,7 @@ impl Items {
         Items {
             kept: Vec::new(alloc),
             listed_addresses: Vec::new(alloc),
-            listed_functions: Vec::new(alloc),
+            listed_arguments: Vec::new(alloc),
         }
     }
 
@@ -228,7 +211,8 @@ impl Items {
         Item {
             addresses: kept_addresses(&self.listed_addresses, kept.given, kept.head),
             place: kept.place,
-            function: kept_function(&self.listed_functions, kept.function, kept.from, kept.to),
+            verb: kept.verb,
+            argument: kept_argument(&self.listed_arguments, kept.argument, kept.from, kept.to),
         }
     }
 
@@ -236,7 +220,7 @@ impl Items {
     pub fn push(&mut self, item: Item) -> Result<(), AllocError>
         ensures { OnOk result (self.new ≡ self.old ++ item ∷ []) }
     {
-        let kept = keep(&mut self.listed_addresses, &mut self.listed_functions, item)?;
+        let kept = keep(&mut self.listed_addresses, &mut self.listed_arguments, item)?;
         self.kept.push(kept)?;
         Ok(())
     }

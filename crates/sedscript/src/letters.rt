@@ -2,48 +2,42 @@
 
 ghost use Rattle.std.specs.Prelude.{◌≡◌, ◌≤◌, ◌<◌, length, IfOk};
 ghost use Rattle.std.specs.Option.{option_len};
-ghost use Rattle.sedscript.specs.Letters.{verb_of, most_addresses, allowed, label_of, transliterate_at, substituted, function_of};
+ghost use Rattle.sedscript.specs.Letters.{verb_of, most_addresses, allowed, name_at, label_at, transliterate_at, substituted, argument_of};
 ghost use Rattle.sedscript.specs.Answers.{AreStrings};
 
 use crate::between::strings_at;
 use crate::bytes::{Sort, past};
 use crate::flags::flags_at;
-use crate::functions::{ended, file_of, text_of};
-use crate::items::{Addresses, Function, Strings};
+use crate::functions::{ended, name_from, spanned};
+use crate::items::{Addresses, Argument, Strings};
 use crate::replacement::replacement_fault;
+use crate::texts::text_from;
 use crate::transliteration::strings_fault;
 use crate::types::{Address, BranchUse, FileUse, Reason, ScriptFault, Simple, TextUse};
 
 /// What a letter stands for.
 #[derive(Clone, Copy)]
 pub enum Verb {
-    /// `s`, which alone reads a regular expression.
-    ReadsExpression,
-    /// Each other function.
-    Reads(Arguments),
-}
-
-/// What follows a letter that is not `s`.
-#[derive(Clone, Copy)]
-pub enum Arguments {
-    /// Nothing.
-    Alone(Simple),
+    /// A function of one letter, which nothing follows.
+    Plain(Simple),
     /// `{`, and the next command may follow at once.
-    OpensBlock,
+    Open,
     /// `}`
-    ClosesBlock,
+    Close,
     /// `#` and the rest of the line.
-    Remark,
+    Comment,
     /// `:` and a name.
-    NamesLabel,
-    /// A label, or none.
-    GoesTo(BranchUse),
-    /// A text.
-    TakesText(TextUse),
-    /// A file's name.
-    NamesFile(FileUse),
-    /// `y` and two strings between delimiters.
-    TakesStrings,
+    Label,
+    /// `b` or `t` and a name, which is empty where there is none.
+    Branch(BranchUse),
+    /// `a`, `i` or `c` and a text.
+    Text(TextUse),
+    /// `r` or `w` and a name.
+    File(FileUse),
+    /// `s`, which alone reads a regular expression.
+    Substitute,
+    /// `y` and two strings.
+    Transliterate,
 }
 
 /// What a letter stands for; None where it stands for no function.
@@ -51,33 +45,33 @@ fn verb_of(letter: u8) -> Option<Verb>
     ensures { result ≡ verb_of letter }
 {
     match letter {
-        b'{' => Some(Verb::Reads(Arguments::OpensBlock)),
-        b'}' => Some(Verb::Reads(Arguments::ClosesBlock)),
-        b'#' => Some(Verb::Reads(Arguments::Remark)),
-        b':' => Some(Verb::Reads(Arguments::NamesLabel)),
-        b'b' => Some(Verb::Reads(Arguments::GoesTo(BranchUse::Always))),
-        b't' => Some(Verb::Reads(Arguments::GoesTo(BranchUse::IfReplaced))),
-        b'a' => Some(Verb::Reads(Arguments::TakesText(TextUse::Append))),
-        b'i' => Some(Verb::Reads(Arguments::TakesText(TextUse::Insert))),
-        b'c' => Some(Verb::Reads(Arguments::TakesText(TextUse::Change))),
-        b'r' => Some(Verb::Reads(Arguments::NamesFile(FileUse::Read))),
-        b'w' => Some(Verb::Reads(Arguments::NamesFile(FileUse::Write))),
-        b's' => Some(Verb::ReadsExpression),
-        b'y' => Some(Verb::Reads(Arguments::TakesStrings)),
-        b'=' => Some(Verb::Reads(Arguments::Alone(Simple::LineNumber))),
-        b'd' => Some(Verb::Reads(Arguments::Alone(Simple::Delete))),
-        b'D' => Some(Verb::Reads(Arguments::Alone(Simple::DeleteFirst))),
-        b'l' => Some(Verb::Reads(Arguments::Alone(Simple::List))),
-        b'n' => Some(Verb::Reads(Arguments::Alone(Simple::NextLine))),
-        b'N' => Some(Verb::Reads(Arguments::Alone(Simple::AppendNext))),
-        b'p' => Some(Verb::Reads(Arguments::Alone(Simple::Print))),
-        b'P' => Some(Verb::Reads(Arguments::Alone(Simple::PrintFirst))),
-        b'q' => Some(Verb::Reads(Arguments::Alone(Simple::Quit))),
-        b'g' => Some(Verb::Reads(Arguments::Alone(Simple::CopyHold))),
-        b'G' => Some(Verb::Reads(Arguments::Alone(Simple::AppendHold))),
-        b'h' => Some(Verb::Reads(Arguments::Alone(Simple::Hold))),
-        b'H' => Some(Verb::Reads(Arguments::Alone(Simple::HoldMore))),
-        b'x' => Some(Verb::Reads(Arguments::Alone(Simple::Exchange))),
+        b'{' => Some(Verb::Open),
+        b'}' => Some(Verb::Close),
+        b'#' => Some(Verb::Comment),
+        b':' => Some(Verb::Label),
+        b'b' => Some(Verb::Branch(BranchUse::Always)),
+        b't' => Some(Verb::Branch(BranchUse::IfReplaced)),
+        b'a' => Some(Verb::Text(TextUse::Append)),
+        b'i' => Some(Verb::Text(TextUse::Insert)),
+        b'c' => Some(Verb::Text(TextUse::Change)),
+        b'r' => Some(Verb::File(FileUse::Read)),
+        b'w' => Some(Verb::File(FileUse::Write)),
+        b's' => Some(Verb::Substitute),
+        b'y' => Some(Verb::Transliterate),
+        b'=' => Some(Verb::Plain(Simple::LineNumber)),
+        b'd' => Some(Verb::Plain(Simple::Delete)),
+        b'D' => Some(Verb::Plain(Simple::DeleteFirst)),
+        b'l' => Some(Verb::Plain(Simple::List)),
+        b'n' => Some(Verb::Plain(Simple::NextLine)),
+        b'N' => Some(Verb::Plain(Simple::AppendNext)),
+        b'p' => Some(Verb::Plain(Simple::Print)),
+        b'P' => Some(Verb::Plain(Simple::PrintFirst)),
+        b'q' => Some(Verb::Plain(Simple::Quit)),
+        b'g' => Some(Verb::Plain(Simple::CopyHold)),
+        b'G' => Some(Verb::Plain(Simple::AppendHold)),
+        b'h' => Some(Verb::Plain(Simple::Hold)),
+        b'H' => Some(Verb::Plain(Simple::HoldMore)),
+        b'x' => Some(Verb::Plain(Simple::Exchange)),
         _ => None,
     }
 }
@@ -87,8 +81,8 @@ fn most_addresses(verb: Verb) -> usize
     ensures { result ≡ most_addresses verb }
 {
     match verb {
-        Verb::Reads(Arguments::NamesLabel | Arguments::ClosesBlock | Arguments::Remark) => 0,
-        Verb::Reads(Arguments::Alone(Simple::Quit)) => 1,
+        Verb::Label | Verb::Close | Verb::Comment => 0,
+        Verb::Plain(Simple::Quit) => 1,
         _ => 2,
     }
 }
@@ -122,23 +116,32 @@ pub fn allowed(addresses: Addresses, letter: u8, at: usize) -> Result<Verb, Scri
     }
 }
 
-/// The label whose name begins at `from` and whose `:` stands at `place`, and its end.
-fn label_of(text: &[u8], place: usize, from: usize) -> Result<(Function, usize), ScriptFault>
+/// The name of a label that begins at `from`, which may be empty, and the end of its command.
+fn name_at(text: &[u8], from: usize) -> Result<(Argument, usize), ScriptFault>
     requires { from ≤ length text.now }
-    ensures is { result ≡ label_of text.now place from }
+    ensures is { result ≡ name_at text.now from }
     ensures within { IfOk result (λ found. (from ≤ found.1) × (found.1 ≤ length text.now)) }
 {
     let end = past(Sort::Name, text, from);
-    if end == from {
+    ended(text, Argument::Between(from, end), end)
+}
+
+/// The name of the label whose `:` stands at `place`, where that name begins at `from`, and the end of its command.
+fn label_at(text: &[u8], place: usize, from: usize) -> Result<(Argument, usize), ScriptFault>
+    requires { from ≤ length text.now }
+    ensures is { result ≡ label_at text.now place from }
+    ensures within { IfOk result (λ found. (from ≤ found.1) × (found.1 ≤ length text.now)) }
+{
+    if past(Sort::Name, text, from) == from {
         Err(Reason::MissingLabel.at(place))
     } else {
-        ended(text, Function::Label(from, end), end)
+        name_at(text, from)
     }
 }
 
-/// The command `y` whose letter stands at `at`, and its end.
+/// The strings of the command `y` whose letter stands at `at`, and its end.
 #[tactic(auto, unfolding(crate::specs::Letters::transliterate_at))]
-fn transliterate_at(text: &[u8], at: usize) -> Result<(Function, usize), ScriptFault>
+fn transliterate_at(text: &[u8], at: usize) -> Result<(Argument, usize), ScriptFault>
     requires { at < length text.now }
     ensures is { result ≡ transliterate_at text.now at }
     ensures within { IfOk result (λ found. (at < found.1) × (found.1 ≤ length text.now)) }
@@ -147,18 +150,18 @@ fn transliterate_at(text: &[u8], at: usize) -> Result<(Function, usize), ScriptF
     if let Some(fault) = strings_fault(text, strings, at) {
         return Err(fault);
     }
-    ended(text, Function::Transliterate(strings), strings.to + 1)
+    ended(text, Argument::Pair(strings), strings.to + 1)
 }
 
-/// The command `s` with these strings, and its end. Its regular expression has this number in the script; None stands
-/// for the empty one. The groups of the replacement have numbers up to `limit`, where there is one.
+/// These strings of an `s` with their flags, and its end. Its regular expression has this number in the script; None
+/// stands for the empty one. The groups of the replacement have numbers up to `limit`, where there is one.
 #[tactic(auto, unfolding(crate::specs::Letters::substituted))]
 pub fn substituted(
     text: &[u8],
     strings: Strings,
     expression: Option<usize>,
     limit: Option<usize>,
-) -> Result<(Function, usize), ScriptFault>
+) -> Result<(Argument, usize), ScriptFault>
     requires { AreStrings 0 (length text.now) strings }
     ensures is { result ≡ substituted text.now strings expression limit }
     ensures within { IfOk result (λ found. (strings.to < found.1) × (found.1 ≤ length text.now)) }
@@ -167,32 +170,29 @@ pub fn substituted(
         return Err(fault);
     }
     let (flags, end) = flags_at(text, expression.is_none(), strings.to + 1)?;
-    ended(text, Function::Substitute(strings, expression, flags), end)
+    ended(text, Argument::FlaggedPair(strings, expression, flags), end)
 }
 
-/// The function whose letter stands at `at` and takes these arguments, and the place after it.
-pub fn function_of(
-    text: &[u8],
-    arguments: Arguments,
-    at: usize,
-) -> Result<(Function, usize), ScriptFault>
+/// What follows the letter at `at`, which stands for this and isn't `s`, and the place after it.
+pub fn argument_of(text: &[u8], verb: Verb, at: usize) -> Result<(Argument, usize), ScriptFault>
     requires { at < length text.now }
-    ensures is { result ≡ function_of text.now arguments at }
+    ensures is { result ≡ argument_of text.now verb at }
     ensures within { IfOk result (λ found. (at < found.1) × (found.1 ≤ length text.now)) }
 {
-    match arguments {
-        Arguments::OpensBlock => Ok((Function::Open, at + 1)),
-        Arguments::ClosesBlock => ended(text, Function::Close, at + 1),
-        Arguments::Remark => Ok((Function::Comment, past(Sort::Line, text, at + 1))),
-        Arguments::NamesLabel => label_of(text, at, past(Sort::Blank, text, at + 1)),
-        Arguments::GoesTo(branch_use) => {
-            let from = past(Sort::Blank, text, at + 1);
-            let end = past(Sort::Name, text, from);
-            ended(text, Function::Branch(branch_use, from, end), end)
+    match verb {
+        Verb::Open => Ok((Argument::Nothing, at + 1)),
+        Verb::Comment => Ok((Argument::Nothing, past(Sort::Line, text, at + 1))),
+        Verb::Label => label_at(text, at, past(Sort::Blank, text, at + 1)),
+        Verb::Branch(_) => name_at(text, past(Sort::Blank, text, at + 1)),
+        Verb::Text(_) => {
+            spanned(
+                Reason::MissingText,
+                at,
+                text_from(text, past(Sort::Blank, text, at + 1)),
+            )
         }
-        Arguments::TakesText(text_use) => text_of(text, text_use, at),
-        Arguments::NamesFile(file_use) => file_of(text, file_use, at),
-        Arguments::TakesStrings => transliterate_at(text, at),
-        Arguments::Alone(simple) => ended(text, Function::Plain(simple), at + 1),
+        Verb::File(_) => spanned(Reason::MissingName, at, name_from(text, at + 1)),
+        Verb::Transliterate => transliterate_at(text, at),
+        _ => ended(text, Argument::Nothing, at + 1),
     }
 }

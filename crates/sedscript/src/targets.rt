@@ -3,13 +3,14 @@
 ghost use Rattle.std.specs.Prelude.{◌≡◌, ◌<◌, ◌≤◌, ◌+◌, ℕ, List, Option, Some, None, true, is_some, drop, take};
 ghost use Rattle.std.specs.Prelude.{slice_get, reverse, unwrap_or, if◌then◌else◌, IfOk, OnOk};
 ghost use Rattle.std.specs.Option.{option_or};
-ghost use Rattle.sedscript.specs.Targets.{counted, commands_in, is_label, label_in, depth_after, fault_if, target_fault_at, target_fault};
+ghost use Rattle.sedscript.specs.Targets.{written_in, counted, commands_in, is_label, label_in, branch_in, is_open, is_close, depth_after, fault_if, target_fault_at, target_fault};
 ghost use Rattle.sedscript.specs.declared.items.Item.{Item};
 ghost use Rattle.sedscript.specs.Tables.{TargetsAre, EndIs, ends_in, with_end, opened, unopened_by, labelled};
 
 use crate::bytes::bytes_between;
-use crate::items::{Function, Item};
+use crate::items::{Argument, Item};
 use crate::kept::Items;
+use crate::letters::Verb;
 use crate::types::{Reason, ScriptFault};
 use std::alloc::{AllocError, Global};
 use std::collections::BTreeMap;
@@ -23,14 +24,35 @@ pub struct FirstLabel {
     pub number: usize,
 }
 
-/// Whether a function becomes a command: all but `}`, `:` and `#` do.
-pub fn becomes_command(function: Function) -> bool
-    ensures { result ≡ Rattle.sedscript.specs.Targets.becomes_command function }
+/// The name or the text that follows a letter, as it is written; empty where none does.
+pub fn written_in(text: &[u8], argument: Argument) -> &[u8]
+    ensures { result.now ≡ written_in text.now argument }
 {
-    !matches!(
-        function,
-        Function::Close | Function::Label(..) | Function::Comment
-    )
+    match argument {
+        Argument::Between(from, to) => bytes_between(text, from, to),
+        _ => &[],
+    }
+}
+
+/// Whether a function becomes a command: all but `}`, `:` and `#` do.
+pub fn becomes_command(verb: Verb) -> bool
+    ensures { result ≡ Rattle.sedscript.specs.Targets.becomes_command verb }
+{
+    !matches!(verb, Verb::Close | Verb::Label | Verb::Comment)
+}
+
+/// Whether a function opens a block.
+fn is_open(verb: Verb) -> bool
+    ensures { result ≡ is_open verb }
+{
+    matches!(verb, Verb::Open)
+}
+
+/// Whether a function closes a block.
+fn is_close(verb: Verb) -> bool
+    ensures { result ≡ is_close verb }
+{
+    matches!(verb, Verb::Close)
 }
 
 /// The number of commands up to and including this item, where there are `n` before it.
@@ -39,35 +61,24 @@ pub fn counted(n: usize, item: Item) -> usize
     ensures is { result ≡ counted n item }
     ensures few { result ≤ n + 1 }
 {
-    if becomes_command(item.function) {
-        n + 1
-    } else {
-        n
-    }
+    if becomes_command(item.verb) { n + 1 } else { n }
 }
 
 /// The number of commands before this item, where there are `n` up to and including it.
 fn number_before(n: usize, item: Item) -> usize
-    requires { Rattle.sedscript.specs.Targets.becomes_command item.function ≡ true → 1 ≤ n }
+    requires { Rattle.sedscript.specs.Targets.becomes_command item.verb ≡ true → 1 ≤ n }
     ensures { n ≡ counted result item }
 {
-    if becomes_command(item.function) {
-        n - 1
-    } else {
-        n
-    }
+    if becomes_command(item.verb) { n - 1 } else { n }
 }
 
 /// The number of blocks opened up to and including this function, where there are `n` before it.
-pub fn opened(n: usize, function: Function) -> usize
+pub fn opened(n: usize, verb: Verb) -> usize
     requires { n < usize.MAX }
-    ensures is { result ≡ opened n function }
+    ensures is { result ≡ opened n verb }
     ensures few { result ≤ n + 1 }
 {
-    match function {
-        Function::Open => n + 1,
-        _ => n,
-    }
+    if is_open(verb) { n + 1 } else { n }
 }
 
 /// Passes a function on the way back: `n` commands stand before it, the stack `unopened` has where the closing braces lead
@@ -76,17 +87,17 @@ fn pass_back(
     ends: &mut Vec<Option<usize>>,
     unopened: &mut Vec<usize>,
     n: usize,
-    function: Function,
+    verb: Verb,
 ) -> Result<(), AllocError>
     ensures unopened { OnOk result ((us : List ℕ) → unopened.old.items ≡ reverse us →
-        unopened.new.items ≡ reverse (unopened_by n function us)) }
+        unopened.new.items ≡ reverse (unopened_by n verb us)) }
     ensures ends { OnOk result ((us : List ℕ) (es : List (Option ℕ)) → unopened.old.items ≡ reverse us →
-        ends.old.items ≡ reverse es → ends.new.items ≡ reverse (with_end function (slice_get us 0) es)) }
+        ends.old.items ≡ reverse es → ends.new.items ≡ reverse (with_end verb (slice_get us 0) es)) }
 {
-    match function {
-        Function::Open => ends.push(unopened.pop())?,
-        Function::Close => unopened.push(n)?,
-        _ => {}
+    if is_open(verb) {
+        ends.push(unopened.pop())?;
+    } else if is_close(verb) {
+        unopened.push(n)?;
     }
     Ok(())
 }
@@ -104,29 +115,29 @@ fn ends_of(alloc: Global, items: &Items, commands: usize) -> Result<Vec<Option<u
         k -= 1;
         let item = items.get(k);
         n = number_before(n, item);
-        pass_back(&mut ends, &mut unopened, n, item.function)?;
+        pass_back(&mut ends, &mut unopened, n, item.verb)?;
     }
     ends.reverse();
     Ok(ends)
 }
 
-/// Adds the label that a function is, if it is one and no earlier label has its name. The function stands at index `k`,
-/// after `n` commands.
+/// Adds the label that an item is, if it is one and no earlier label has its name. The item stands at index `k`, after
+/// `n` commands.
 fn add_label<'a>(
     labels: &mut BTreeMap<&'a [u8], FirstLabel>,
     text: &'a [u8],
-    function: Function,
+    item: Item,
     k: usize,
     n: usize,
 ) -> Result<(), AllocError>
     ensures { OnOk result ((name : List ℕ) → labelled labels.new name ≡
         option_or (labelled labels.old name)
-        (if is_label text.now name function then Some (record { item = k; number = n }) else None)) }
+        (if is_label text.now name item.verb item.argument then Some (record { item = k; number = n }) else None)) }
 {
-    let Function::Label(from, to) = function else {
+    let Verb::Label = item.verb else {
         return Ok(());
     };
-    let name = bytes_between(text, from, to);
+    let name = written_in(text, item.argument);
     if labels.contains_key(&name) {
         return Ok(());
     }
@@ -160,7 +171,7 @@ pub fn targets_of<'a>(
     let mut k = 0;
     'items: while k < items.len() {
         let item = items.get(k);
-        add_label(&mut labels, text, item.function, k, commands)?;
+        add_label(&mut labels, text, item, k, commands)?;
         commands = counted(commands, item);
         k += 1;
     }
@@ -181,7 +192,7 @@ impl<'a> Targets<'a> {
     }
 
     /// The number of the command after the first label of a name; None where no label has it.
-    pub fn label(&self, name: &'a [u8]) -> Option<usize>
+    fn label(&self, name: &'a [u8]) -> Option<usize>
         ensures { (text : List ℕ) (items : List Item) →
             TargetsAre text items self.now.labels self.now.ends.items self.now.commands →
             result ≡ label_in text name.now 0 items }
@@ -192,11 +203,23 @@ impl<'a> Targets<'a> {
         }
     }
 
+    /// Where a branch to this label leads: an empty one stands for the end of the script.
+    pub fn branch(&self, name: &'a [u8]) -> Option<usize>
+        ensures { (text : List ℕ) (items : List Item) →
+            TargetsAre text items self.now.labels self.now.ends.items self.now.commands →
+            result ≡ branch_in text items name.now }
+    {
+        match name {
+            [] => Some(self.commands),
+            _ => self.label(name),
+        }
+    }
+
     /// Whether an item before the one at index `k` is a label of this name, as that is.
-    pub fn is_repeated(&self, name: &'a [u8], k: usize) -> bool
+    fn is_repeated(&self, name: &'a [u8], k: usize) -> bool
         ensures { (text : List ℕ) (items : List Item) (i : Item) →
             TargetsAre text items self.now.labels self.now.ends.items self.now.commands →
-            slice_get items k ≡ Some i → is_label text name.now i.function ≡ true →
+            slice_get items k ≡ Some i → is_label text name.now i.verb i.argument ≡ true →
             result ≡ is_some (label_in text name.now 0 (take k items)) }
     {
         match self.first_label(name) {
@@ -233,22 +256,21 @@ fn target_fault_at<'a>(
 ) -> Option<ScriptFault>
     ensures { (items : List Item) →
         TargetsAre text.now items targets.now.labels targets.now.ends.items targets.now.commands →
-        slice_get items k ≡ Some item → EndIs (take k items) (drop (k + 1) items) item.function end →
-        result ≡ target_fault_at text.now items (take k items) depth (drop (k + 1) items) item.place item.function }
+        slice_get items k ≡ Some item → EndIs (take k items) (drop (k + 1) items) item.verb end →
+        result ≡ target_fault_at text.now items (take k items) depth (drop (k + 1) items) item.place item.verb item.argument }
 {
-    match item.function {
-        Function::Open => fault_if(end.is_none(), Reason::OpenBlock, item.place),
-        Function::Close => fault_if(depth == 0, Reason::StrayClose, item.place),
-        Function::Label(from, to) => {
+    let name = written_in(text, item.argument);
+    match item.verb {
+        Verb::Open => fault_if(end.is_none(), Reason::OpenBlock, item.place),
+        Verb::Close => fault_if(depth == 0, Reason::StrayClose, item.place),
+        Verb::Label => fault_if(
+            targets.is_repeated(name, k),
+            Reason::RepeatedLabel,
+            item.place,
+        ),
+        Verb::Branch(_) => {
             fault_if(
-                targets.is_repeated(bytes_between(text, from, to), k),
-                Reason::RepeatedLabel,
-                item.place,
-            )
-        }
-        Function::Branch(_, from, to) => {
-            fault_if(
-                from != to && targets.label(bytes_between(text, from, to)).is_none(),
+                targets.branch(name).is_none(),
                 Reason::UnknownLabel,
                 item.place,
             )
@@ -258,15 +280,17 @@ fn target_fault_at<'a>(
 }
 
 /// How many blocks are open after a function, where `depth` are open before it.
-fn depth_after(depth: usize, function: Function) -> usize
+fn depth_after(depth: usize, verb: Verb) -> usize
     requires { depth < usize.MAX }
-    ensures is { result ≡ depth_after depth function }
+    ensures is { result ≡ depth_after depth verb }
     ensures few { result ≤ depth + 1 }
 {
-    match function {
-        Function::Open => depth + 1,
-        Function::Close => depth.saturating_sub(1),
-        _ => depth,
+    if is_open(verb) {
+        depth + 1
+    } else if is_close(verb) {
+        depth.saturating_sub(1)
+    } else {
+        depth
     }
 }
 
@@ -284,8 +308,8 @@ pub fn target_fault<'a>(text: &'a [u8], items: &Items, targets: &Targets<'a>) ->
         if fault.is_some() {
             return fault;
         }
-        blocks = opened(blocks, item.function);
-        depth = depth_after(depth, item.function);
+        blocks = opened(blocks, item.verb);
+        depth = depth_after(depth, item.verb);
         k += 1;
     }
     None

@@ -1,5 +1,5 @@
-use Rattle.std.proofs.Common.{◌≡◌, ◌+◌, ◌∙◌, arith, subst, sym, ap, take, ℕ, List, Option}
-use Rattle.sedscript.specs.Targets.{files_in, file_at}
+use Rattle.std.proofs.Common.{◌≡◌, ◌+◌, ◌∙◌, arith, subst, sym, ap, take, ℕ, List, Option, option_map}
+use Rattle.sedscript.specs.Targets.{files_in, file_in}
 use Rattle.sedscript.specs.Tables.{with_name, AreNumbered}
 use Rattle.sedscript.proofs.FileTables.{files_step}
 use Rattle.sedscript.proofs.files.numbered.Goals as goal
@@ -7,9 +7,9 @@ use Rattle.sedscript.proofs.files.numbered.Goals as goal
 pub items-preserved : goal.items-preserved
 items-preserved c =
     let before : List (List ℕ) = files_in c.args.file_use c.args.text.now (take c.items.k c.args.items.now) in
-    let step : files_in c.args.file_use c.args.text.now (take (c.items.k + 1) c.args.items.now) ≡ with_name before (file_at c.args.file_use c.args.text.now c.name_in-found.result) =
+    let step : files_in c.args.file_use c.args.text.now (take (c.items.k + 1) c.args.items.now) ≡ with_name before (file_in c.args.file_use (option_map (λ n. n.now) c.name_in-found.result)) =
     files_step c.args.file_use c.args.text.now c.args.items.now c.items.k c.get.result c.get.ensures.is
-    ∙ ap (λ (o : Option (ℕ × ℕ)). with_name before (file_at c.args.file_use c.args.text.now o)) (sym c.name_in-found.ensures) in
+    ∙ ap (λ (o : Option (List ℕ)). with_name before (file_in c.args.file_use o)) (sym c.name_in-found.ensures) in
     record {
       within = omega arith;
       few = omega (arith, c.in_ok-add_file.ensures.few);
