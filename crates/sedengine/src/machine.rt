@@ -88,7 +88,7 @@ impl Machine {
         match Parts::new(alloc, &script, &limits) {
             Ok(parts) => Ok(Machine::of(script, limits, parts)),
             Err(refused) => {
-                drop(script);
+                script.close();
                 Err(refused)
             }
         }
