@@ -42,7 +42,7 @@ given_more key numbers of after of' count next byte k inside is small given set 
     (was.0, there ∙ number ∙ sym (given.kept (key b) (omega arith)), omega arith))
     (cases_eq b byte)
 
-sides : (c d : ℕ) (s t : Bool) → 2 * c + from_bool s ≡ 2 * d + from_bool t → (c ≡ d) × (s ≡ t)
+pub sides : (c d : ℕ) (s t : Bool) → 2 * c + from_bool s ≡ 2 * d + from_bool t → (c ≡ d) × (s ≡ t)
 sides c d true true e = (omega arith, refl)
 sides c d false false e = (omega arith, refl)
 sides c d true false e = absurd (omega arith)

@@ -1,6 +1,6 @@
 -- The groups that are told to be due, as the state of a decision; what nodes and regions cost.
 use Rattle.std.proofs.Common.{◌≡◌, ℕ, zero, suc, ◌+◌, ◌-◌, ◌*◌, ◌<◌, ◌≤◌, ◌↔◌, ◌&&◌, not, Bool, true, false, List, [], ◌∷◌, length, Option, None, Some, IsTrue, refl, sym, ap, ◌∙◌, subst, inl, inr, ⊎_elim, true≢false, arith, mul-le-mul_left}
-use Rattle.std.specs.Prelude.{IfSome, eqb, nat_lt, slice_get, slice_set, slice_index_or, replicate, vec_capacity}
+use Rattle.std.specs.Prelude.{IfSome, eqb, nat_lt, slice_get, slice_set, slice_index_or, vec_capacity}
 use Rattle.std.specs.Int.{bit_at}
 use Rattle.std.proofs.lemmas.Bool.{and_parts, and_from, cases_Bool, cases_lt, lt-ltb, le-ltb}
 use Rattle.std.proofs.lemmas.Option.{cond_some}
@@ -22,13 +22,13 @@ use Rattle.sedtext.proofs.NodeLemmas.{node_at}
 use Rattle.sedtext.proofs.ReachLemmas.{close_at}
 use Rattle.sedtext.proofs.SpanLemmas.{Matches-forward}
 use Rattle.sedpass.specs.Decide.{found, undecided, HasAll, flags_of, told_of, EndsRegion, IsAtEnd, IsDesk, HasDesk, IsSetAt, AreGroupTables, HasSpace, SameTables, KeepsDesk, part_cost, nodes_in, text_in, Blank, Stands}
-use Rattle.sedpass.specs.Groups.{reported, holds, has_group}
+use Rattle.sedpass.specs.Groups.{reported, holds}
 use Rattle.sedpass.specs.Kept.{AllMarked, IsKept, SameKept, SameSpace, ends_told, owed}
 use Rattle.sedpass.specs.Lengths.{AllLong}
 use Rattle.sedpass.specs.Prepared.{IsFacts, null_in, is_set, run_of}
 use Rattle.sedpass.specs.Regions.{CeasesAt, IsLastIn, NextCopy, ReachesEnd, IsRunOf, repeated, in_group}
 use Rattle.sedpass.specs.Table.{IsTable, SameShape, MayBegin}
-use Rattle.sedpass.specs.Walks.{settle, drop_groups, GroupStandsIn, NoneDue, IsStart}
+use Rattle.sedpass.specs.Walks.{settle, drop_groups, GroupStandsIn, NoneDue, IsStart, has_group}
 use Rattle.sedpass.specs.declared.group_set.GroupSet.{GroupSet}
 use Rattle.sedpass.specs.declared.groups.GroupRoom.{GroupRoom}
 use Rattle.sedpass.specs.declared.groups.GroupTables.{GroupTables}
@@ -44,9 +44,10 @@ use Rattle.sedpass.proofs.KeptLemmas.{kept_space, same_shape, space_same, space_
 use Rattle.sedpass.proofs.LeaveLemmas.{last_inside}
 use Rattle.sedpass.proofs.LengthLemmas.{all_long, copies_long, left_long, right_long}
 use Rattle.sedpass.proofs.MeetingLemmas.{run_stops, set_early, stops_at_copy, stops_at_cut}
-use Rattle.sedpass.proofs.OneGroupLemmas.{copy_spans, deed, drop_as, has_told, left, same_state, set_due, settle-due, settle-not}
+use Rattle.sedpass.proofs.OneGroupLemmas.{copy_spans, deed, drop_as, left, same_state, set_due, settle-due, settle-not}
 use Rattle.sedpass.proofs.OwedLemmas.{owed_small}
 use Rattle.sedpass.proofs.TurnLemmas.{opened}
+use Rattle.sedpass.proofs.TableLemmas.{same_all}
 
 -- an entry of the flags
 pub flags_at : (s : GroupSet) (k : ℕ) → slice_index_or (flags_of s) k false ≡ holds s k
@@ -69,7 +70,7 @@ none_due nodes x facts due spans is whole apart k has = elim (cases_Bool (holds 
 ]
   where
     facts_groups : holds due k ≡ true → holds facts.groups k ≡ true
-    facts_groups due_is = is.groups k ∙ and_from (reported k) (has_group (tree_at nodes x) k) (due_reported due k whole due_is) ((has_told (tree_at nodes x) k).1 has)
+    facts_groups due_is = is.groups k ∙ and_from (reported k) (has_group (tree_at nodes x) k) (due_reported due k whole due_is) has
 
 -- what a test denies
 pub not_met : (b : Bool) (P : Type 0) → b ≡ false → (IsTrue b ↔ P) → P → ⊥
@@ -119,7 +120,7 @@ all_told e root facts last is k low high has =
     let same : length e.nodes - 1 ≡ root = omega arith in
     is.groups k
     ∙ and_from (reported k) (has_group (tree_at e.nodes root) k) (and_from (nat_lt 0 k) (nat_lt k 10) (lt-ltb 0 k (omega arith)) (lt-ltb k 10 high))
-    ((has_told (tree_at e.nodes root) k).1 (subst (λ x. GroupStandsIn (tree_at e.nodes x) k) same has))
+    (subst (λ x. GroupStandsIn (tree_at e.nodes x) k) same has)
 
 pub starts_due : (e : Tree) (i j : ℕ) (due : GroupSet) → holds due 0 ≡ false → HasAll due e → IsStart e i j (told_of due (undecided i j))
 starts_due e i j due whole all = record {
@@ -138,14 +139,9 @@ found_set (Some t ∷ g) zero (Some u) = omega arith
 found_set (None ∷ g) (suc k) v = found_set g k v
 found_set (Some t ∷ g) (suc k) v = omega (arith, found_set g k v)
 
-none_there : (n k : ℕ) → slice_index_or {A = Option (ℕ × ℕ)} (replicate n None) k None ≡ None
-none_there zero k = refl
-none_there (suc n) zero = refl
-none_there (suc n) (suc k) = none_there n k
-
 pub starts_blank : (i j : ℕ) (due : GroupSet) → holds due 0 ≡ false → Blank (told_of due (undecided i j))
 starts_blank i j due whole zero is = absurd (true≢false (sym is ∙ whole))
-starts_blank i j due whole (suc k) is = none_there 9 k
+starts_blank i j due whole (suc k) is = same_all None 9 k
 
 -- Places.
 
@@ -336,9 +332,6 @@ pub may_begin : (s : Subject) (tables : GroupTables) (x : ℕ) → tables.inside
 may_begin s tables x one_end inside = (inside, λ all_starts. absurd (true≢false (sym all_starts ∙ one_end)))
 
 -- Looks at least.
-pub least_then : (s t u i k l : ℕ) → i ≤ k → k ≤ l → TakesAtLeast s t (k - i) → TakesAtLeast t u (2 * (l - k) + 1) → TakesAtLeast s u (l - i)
-unfolding TakesAtLeast
-least_then s t u i k l low high one two = omega (arith, low, high, one, two)
 
 pub least_no_byte : (s t i j : ℕ) → s ≤ t → j ≤ i → TakesAtLeast s t (j - i)
 unfolding TakesAtLeast

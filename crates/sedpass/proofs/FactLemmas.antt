@@ -26,7 +26,9 @@ use Rattle.sedpass.specs.Rows.{at_begin, at_end, InTree, IsNodeRange, AreNull}
 use Rattle.sedpass.specs.declared.nodes.Facts.{Facts}
 use Rattle.sedpass.specs.declared.nodes.Kind.{Kind}
 use Rattle.sedpass.proofs.LengthLemmas.{sum_parts, same_parts}
-use Rattle.sedpass.proofs.RowLemmas.{or_truth, and_truth, not_true, range_of, mirror_range}
+use Rattle.sedpass.proofs.RowLemmas.{not_true, range_of, mirror_range}
+use Rattle.sedtext.proofs.MatchingLemmas.{either-iff, both-iff}
+use Rattle.sedpass.proofs.GroupSetLemmas.{two_bits}
 
 -- null strings
 
@@ -38,36 +40,28 @@ module _ (w : List ℕ) (p : ℕ) (first last : Bool) (there : IsPlace w p first
   nullable_is begin = (λ h. (there.0.0 h, there.0.0 h), λ h. there.0.1 h.0)
   nullable_is end = (λ h. (there.1.0 h, there.1.0 h), λ h. there.1.1 h.0)
   nullable_is (seq a b) =
-      let both = and_truth (nullable first last a) (nullable first last b) (Matches a w p p) (Matches b w p p) (nullable_is a) (nullable_is b) in (
+      let both = both-iff (nullable first last a) (nullable first last b) (Matches a w p p) (Matches b w p p) (nullable_is a) (nullable_is b) in (
         λ h. (p, (both.0 h).0, (both.0 h).1),
         λ h. let low = Matches-forward a w p h.0 h.1 in
             let high = Matches-forward b w h.0 p h.2 in
             let e : h.0 ≡ p = omega arith in
             both.1 (subst (λ k. Matches a w p k) e h.1, subst (λ k. Matches b w k p) e h.2),
       )
-  nullable_is (alt a b) = or_truth (nullable first last a) (nullable first last b) (Matches a w p p) (Matches b w p p) (nullable_is a) (nullable_is b)
+  nullable_is (alt a b) = either-iff (nullable first last a) (nullable first last b) (Matches a w p p) (Matches b w p p) (nullable_is a) (nullable_is b)
   nullable_is (group k a) = nullable_is a
   nullable_is (star a f) = (λ h. no_copy, λ h. refl)
   nullable_is (opt a f) = (λ h. inl refl, λ h. refl)
 
 -- kinds by bits: those of both sets, and those of either
-bits_of : (a b : ℕ) → a < 2 → b < 2 → (eqb (min a b) 1 ≡ (eqb a 1 && eqb b 1)) × (eqb (max a b) 1 ≡ (eqb a 1 || eqb b 1))
-bits_of zero zero low low' = (refl, refl)
-bits_of zero (suc zero) low low' = (refl, refl)
-bits_of (suc zero) zero low low' = (refl, refl)
-bits_of (suc zero) (suc zero) low low' = (refl, refl)
-bits_of (suc (suc a)) b low low' = absurd (omega (arith, low))
-bits_of a (suc (suc b)) low low' = absurd (omega (arith, low'))
-
 pub null_both : (a b : ℕ) (first last : Bool) → null_at (bit_and a b) first last ≡ (null_at a first last && null_at b first last)
 null_both a b first last =
     let k = from_bool first + 2 * from_bool last in
-    ap (λ x. eqb x 1) (bit_at_and a b k) ∙ (bits_of (bit_at a k) (bit_at b k) (bit_at-lt a k) (bit_at-lt b k)).0
+    ap (λ x. eqb x 1) (bit_at_and a b k) ∙ two_bits (λ x y. eqb (min x y) 1 ≡ (eqb x 1 && eqb y 1)) refl refl refl refl (bit_at a k) (bit_at b k) (bit_at-lt a k) (bit_at-lt b k)
 
 pub null_either : (a b : ℕ) (first last : Bool) → null_at (bit_or a b) first last ≡ (null_at a first last || null_at b first last)
 null_either a b first last =
     let k = from_bool first + 2 * from_bool last in
-    ap (λ x. eqb x 1) (bit_at_or a b k) ∙ (bits_of (bit_at a k) (bit_at b k) (bit_at-lt a k) (bit_at-lt b k)).1
+    ap (λ x. eqb x 1) (bit_at_or a b k) ∙ two_bits (λ x y. eqb (max x y) 1 ≡ (eqb x 1 || eqb y 1)) refl refl refl refl (bit_at a k) (bit_at b k) (bit_at-lt a k) (bit_at-lt b k)
 
 and_swap : (a b : Bool) → (a && b) ≡ (b && a)
 and_swap true true = refl

@@ -15,7 +15,7 @@ abbrev of_bits : ℕ → GroupSet
 of_bits n = record { bits = n }
 
 -- what holds of each two bits
-two_bits : (P : ℕ → ℕ → Type 0) → P 0 0 → P 0 1 → P 1 0 → P 1 1 → (a b : ℕ) → a < 2 → b < 2 → P a b
+pub two_bits : (P : ℕ → ℕ → Type 0) → P 0 0 → P 0 1 → P 1 0 → P 1 1 → (a b : ℕ) → a < 2 → b < 2 → P a b
 two_bits P p q r s zero zero small small' = p
 two_bits P p q r s zero (suc zero) small small' = q
 two_bits P p q r s (suc zero) zero small small' = r

@@ -2,7 +2,7 @@
 use Rattle.std.proofs.Common.{inl, inr, ◌≡◌, ℕ, ◌+◌, ◌-◌, ◌*◌, ◌/◌, ◌^◌, ◌<◌, ◌≤◌, ◌↔◌, ◌⊎◌, ⊎_elim, length-set, mul-le-mul_left, mul-le-mul_right, Bool, true, false, zero, suc, List, [], ◌∷◌, length, Some, refl, sym, ap, ◌∙◌, subst, arith, true≢false, IsTrue}
 use Rattle.std.proofs.Math.Nat.{div-mul-le_self, lt-div-mul-add}
 use Rattle.std.proofs.Math.Bool.{beq}
-use Rattle.std.proofs.lemmas.List.{length-reverse}
+use Rattle.std.proofs.lemmas.List.{length-reverse, get_or_default}
 use Rattle.std.specs.Prelude.{not, reverse, slice_get, slice_index_or, slice_set, vec_capacity}
 use Rattle.std.proofs.lemmas.List.{get_or-set_same, get_or-set_other}
 use Rattle.sedre.specs.Arena.{IsArena}
@@ -13,7 +13,6 @@ use Rattle.sedtext.specs.Matching.{byte_is_in}
 use Rattle.sedtext.specs.declared.starts.Starts.{Starts}
 use Rattle.sedtext.specs.Reach.{At, IsStart, one_start, starts_to}
 use Rattle.sedtext.specs.Places.{IsPlace}
-use Rattle.sedtext.proofs.MarkLemmas.{default_same}
 use Rattle.sedtext.proofs.MirrorLemmas.{get-reverse}
 use Rattle.sedpass.specs.Regions.{IsLastIn, Opposite, ReachesEnd, Meets}
 use Rattle.sedpass.specs.Prepared.{null_in}
@@ -31,7 +30,6 @@ use Rattle.sedpass.specs.declared.nodes.Kind.{Kind}
 use Rattle.sedpass.proofs.FactLemmas.{null_tells}
 use Rattle.sedpass.proofs.LeaveLemmas.{last_inside, reaches_last}
 use Rattle.sedpass.proofs.RowLemmas.{behind_reaches, meet_rows, bits_agree, bits_here}
-use Rattle.sedre.specs.Steps.{TakesExactly, TakesAtLeast}
 
 -- the starts of the mirrored pass are the places where its matches end
 pub told_opposite : (all_starts : Bool) (n end : ℕ) → end ≤ n → Opposite n (starts_told all_starts n end) (ends_told all_starts n end)
@@ -205,11 +203,6 @@ passes_down p w t after k other place offset next byte edge old table adds root 
       at = subst (λ r. KeptAt p w after.way r other.region.end place (state_of m after s)) (sym root) (subst (λ e. KeptAt p w after.way k.region.root e place (state_of m after s)) (sym end) now);
       live = λ q from before. rw (root, end, states) (live q from before);
     }
-
--- so many looks, and then others
-pub least_then : (s a b k n m : ℕ) → TakesExactly s a k → TakesAtLeast a b n → k + n ≡ m → TakesAtLeast s b m
-unfolding TakesAtLeast TakesExactly
-least_then s a b k n m one after is = omega (arith, one, after, is)
 
 -- The rows at the ends of blocks.
 
@@ -397,7 +390,7 @@ added_few m t after adds none =
 pub kept_read : (p : Prepared) (w : List ℕ) (t : Table) (k : Kept) (q s : ℕ) → IsKept p w t k → q < k.region.to → s ≡ slice_index_or k.states.items q s → s ≡ slice_index_or k.states.items q 0
 kept_read p w t k q s kept before is =
     let inside : q < length k.states.items = (let h = kept.region.within in let g = kept.region.inside in let f = kept.region.long in omega (arith, h, g, f, before)) in
-    is ∙ default_same k.states.items q s 0 inside
+    is ∙ get_or_default k.states.items q s 0 inside
 
 -- whether a node is marked at a place whose state is in the table
 pub kept_mark : (p : Prepared) (w : List ℕ) (t : Table) (k : Kept) (x q s : ℕ) (mark : Bool) → IsKept p w t k → x < length p.arena.expr.nodes → k.region.from ≤ q → q < k.region.to → s ≡ slice_index_or k.states.items q s →
@@ -420,7 +413,7 @@ kept_row p w t k q s kept above before read =
     let is = kept_read p w t k q s kept before read in
     let live = (kept.live q above before).0 in
     let low : s < t.room = (let most = room.count in omega (arith, live, most, is)) in
-    (omega (arith, low, room.ends), (let all = room.end_marks s low in let marks = room.marks in omega (arith, all, marks)))
+    (omega (arith, low, room.rows.ends), (let all = room.rows.end_marks s low in let marks = room.marks in omega (arith, all, marks)))
 
 -- a mark that is as asked, and one that isn't
 pub as_asked : (A : Type 0) (mark asked : Bool) → beq mark asked ≡ true → (IsTrue mark ↔ A) → IsTrue asked ↔ A

@@ -1,6 +1,5 @@
 pub mod AheadLemmas
 pub mod ClassLemmas
-pub mod CountLemmas
 pub mod DecideLemmas
 pub mod ExpressionLemmas
 pub mod EmptyLemmas

@@ -7,8 +7,7 @@ use Rattle.sedtext.specs.Answer.{SpanAnswer}
 use Rattle.sedtext.specs.Following.{LiesOn}
 use Rattle.sedtext.specs.Matching.{found, unless_null_at}
 use Rattle.sedtext.proofs.MatchingLemmas.{found-iff, not_found-iff}
-use Rattle.sedpass.specs.Occurrences.{owed_behind}
-use Rattle.sedpass.specs.Search.{owed_after, owed_kept, owed_search, search_cost}
+use Rattle.sedpass.specs.Search.{owed_behind, owed_after, owed_kept, owed_search, search_cost}
 use Rattle.sedpass.specs.declared.search.Seeking.{Seeking}
 use Rattle.sedpass.proofs.OwedLemmas.{owed_falls}
 use Rattle.sedpass.proofs.SearchLemmas.{alone_square, search_long, unbegun}

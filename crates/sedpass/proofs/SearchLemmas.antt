@@ -5,7 +5,6 @@ use Rattle.sedre.specs.Arena.{IsArena}
 use Rattle.sedre.specs.Tree.{WrittenExpression, expression_tree, tree_at, Tree}
 use Rattle.std.specs.Prelude.{IfSome, if◌then◌else◌}
 use Rattle.sedre.specs.Steps.{TakesAtLeast}
-use Rattle.sedpass.proofs.CountLemmas.{least_both, least_fewer, least_none, least_since}
 use Rattle.sedtext.specs.Answer.{SpanAnswer}
 use Rattle.sedtext.specs.declared.starts.Starts.{Starts}
 use Rattle.sedtext.specs.Reach.{At, one_start, IsLongestFrom, starts_to}
@@ -26,6 +25,8 @@ use Rattle.sedpass.specs.declared.search.Trials.TheVariants.{Tired}
 use Rattle.sedpass.specs.declared.nodes.Prepared.{Prepared}
 use Rattle.sedpass.proofs.LeaveLemmas.{reaches_ends}
 use Rattle.sedpass.proofs.MeetingLemmas.{meets_whole}
+use Rattle.sedtext.proofs.CountLemmas.{least_less, least_none, least_both, least_since}
+use Rattle.sedpass.proofs.ForwardLemmas.{root_spans}
 
 -- where no place before begins a match, the longest one from there is the one sought
 pub found_at : (e : WrittenExpression) (w : List ℕ) (from i j : ℕ) → from ≤ i → NoneIn (expression_tree e) w from i → IsLongestFrom (expression_tree e) w i (Some j) → IsLeftmostLongest (expression_tree e) w from i j
@@ -49,21 +50,12 @@ module _ (p : Prepared) (w : List ℕ) (arena : IsArena p.arena.expr.nodes) wher
   abbrev pub all : Starts
   all = starts_to 0 (length w)
 
-  root_is : length p.arena.expr.nodes - 1 ≡ p.root
-  root_is = let last = p.is_prepared.last in omega arith
-
-  to_tree : (i k : ℕ) → At p.arena.expr.nodes w p.root i k → Matches (expression_tree p.arena.expr) w i k
-  to_tree i k span = subst (λ x. Matches (tree_at p.arena.expr.nodes x) w i k) (sym root_is) span
-
-  from_tree : (i k : ℕ) → Matches (expression_tree p.arena.expr) w i k → At p.arena.expr.nodes w p.root i k
-  from_tree i k span = subst (λ x. Matches (tree_at p.arena.expr.nodes x) w i k) root_is span
-
   -- the root is marked exactly where a match begins
   pub begins_at : (q : ℕ) → q ≤ length w → ReachesEnd p.arena.expr.nodes w p.root all p.root q ↔ ((k : ℕ) × Matches (expression_tree p.arena.expr) w q k)
   begins_at q low =
       let both = reaches_ends p.arena.expr.nodes w p.root p.root q all arena (all_of p.root refl) in (
-        λ h. let g = both.0 h in (g.0, to_tree q g.0 g.2),
-        λ h. let within = Matches-within (expression_tree p.arena.expr) w q h.0 low h.1 in both.1 (h.0, (omega arith, omega arith), from_tree q h.0 h.1),
+        λ h. let g = both.0 h in (g.0, (root_spans p w q g.0).0 g.2),
+        λ h. let within = Matches-within (expression_tree p.arena.expr) w q h.0 low h.1 in both.1 (h.0, (omega arith, omega arith), (root_spans p w q h.0).1 h.1),
       )
 
   -- so none begins where it isn't marked
@@ -80,7 +72,7 @@ module _ (p : Prepared) (w : List ℕ) (arena : IsArena p.arena.expr.nodes) wher
       let in_text = Matches-within (expression_tree p.arena.expr) w i k within span in
       let same : i ≡ length w = omega arith in
       let end : k ≡ length w = omega arith in
-      null (subst (λ v. At p.arena.expr.nodes w p.root v (length w)) same (subst (λ v. At p.arena.expr.nodes w p.root i v) end (from_tree i k span))))
+      null (subst (λ v. At p.arena.expr.nodes w p.root v (length w)) same (subst (λ v. At p.arena.expr.nodes w p.root i v) end ((root_spans p w i k).1 span))))
       (cases_lt i (length w))
 
   -- a pass from where one begins ceases to meet the kept one at its longest end
@@ -92,7 +84,7 @@ module _ (p : Prepared) (w : List ℕ) (arena : IsArena p.arena.expr.nodes) wher
       let most : (l : ℕ) → Matches (expression_tree p.arena.expr) w start l → l ≤ stop = λ l more. ⊎_elim
       (λ (later : stop < l).
       let in_text = Matches-within (expression_tree p.arena.expr) w start l low more in
-      absurd (ceases.2 ((meets_whole p.arena.expr.nodes w p.root stop (one_start start) all arena inside).1 (start, l, (omega arith, omega arith), on, later, from_tree start l more, (omega arith, omega arith)))))
+      absurd (ceases.2 ((meets_whole p.arena.expr.nodes w p.root stop (one_start start) all arena inside).1 (start, l, (omega arith, omega arith), on, later, (root_spans p w start l).1 more, (omega arith, omega arith)))))
       (λ (ge : l ≤ stop). ge)
       (cases_lt stop l) in
       let high = most k span in
@@ -101,7 +93,7 @@ module _ (p : Prepared) (w : List ℕ) (arena : IsArena p.arena.expr.nodes) wher
       let met = (meets_whole p.arena.expr.nodes w p.root (stop - 1) (one_start start) all arena inside).0 (ceases.1 (stop - 1) (omega arith) (omega arith)) in
       let first = met.2 in
       let same : met.0 ≡ start = omega arith in
-      let here : Matches (expression_tree p.arena.expr) w start met.1 = subst (λ v. Matches (expression_tree p.arena.expr) w v met.1) same (to_tree met.0 met.1 met.5) in
+      let here : Matches (expression_tree p.arena.expr) w start met.1 = subst (λ v. Matches (expression_tree p.arena.expr) w v met.1) same ((root_spans p w met.0 met.1).0 met.5) in
       let top = most met.1 here in
       let after = met.4 in
       let end : met.1 ≡ stop = omega arith in
@@ -153,7 +145,7 @@ pub begins_some : (p : Prepared) (w : List ℕ) (b : Bool) (r end start : ℕ) (
 begins_some p w b r end start begins arena all_starts root whole low found null is =
     ⊎_elim
     (λ (lt : start < end). begins_marked p w b r end start arena all_starts root low ((found lt).0 refl))
-    (λ (ge : end ≤ start). let at : start ≡ length w = omega arith in (start, to_tree p w arena start start ((null at).0 is)))
+    (λ (ge : end ≤ start). let at : start ≡ length w = omega arith in (start, (root_spans p w start start).0 ((null at).0 is)))
     (cases_lt start end)
 
 -- Costs.
@@ -319,15 +311,15 @@ pub record IsTrial (e : Tree) (w : List ℕ) (from start place : ℕ) (end : Opt
   pub longest : IsLongestFrom e w start end
 
 -- so it is where the first place is tried at which one can begin
-pub trial_is : (e : Tree) (w v : List ℕ) (begins : Begins) (from start place : ℕ) (end : Option ℕ) → v ≡ w → AllBegin e begins → NextStart begins w from (Some start) → start ≤ place → place ≤ length v →
-    IfSome end (λ j. j ≤ place) → IsLongestFrom e v start end → IsTrial e w from start place end
-trial_is e w v begins from start place end same all next passed within reached longest = record {
+pub trial_is : (e : Tree) (w : List ℕ) (begins : Begins) (from start place : ℕ) (end : Option ℕ) → AllBegin e begins → NextStart begins w from (Some start) → start ≤ place → place ≤ length w →
+    IfSome end (λ j. j ≤ place) → IsLongestFrom e w start end → IsTrial e w from start place end
+trial_is e w begins from start place end all next passed within reached longest = record {
   after = next.0;
   passed = passed;
-  within = subst (λ x. place ≤ length x) same within;
+  within = within;
   reached = reached;
   none = λ i k low high span. next.2 i low high (all w i k span);
-  longest = subst (λ x. IsLongestFrom e x start end) same longest;
+  longest = longest;
 }
 
 -- where none can begin any more none is found
@@ -441,12 +433,12 @@ looks_later from k s a b (Some f) before after = least_both s a b (k - from) (f.
 -- those up to the end alone
 pub looks_to_end : (from s a : ℕ) (r : Option (ℕ × ℕ)) → LooksFrom from s a r → IfSome r (λ f. TakesAtLeast s a (f.1 - from))
 looks_to_end from s a None looks = tt
-looks_to_end from s a (Some f) looks = least_fewer s a (f.1 + 1 - from) (f.1 - from) (omega arith) looks
+looks_to_end from s a (Some f) looks = least_less s a (f.1 + 1 - from) (f.1 - from) looks (omega arith)
 
 -- and those of a search that went on one byte further
 pub looks_past : (at s a b : ℕ) (r : Option (ℕ × ℕ)) → s ≤ a → LooksFrom (at + 1) a b r → IfSome r (λ f. TakesAtLeast s b (f.1 - at))
 looks_past at s a b None grows after = tt
-looks_past at s a b (Some f) grows after = least_since s a b (f.1 - at) grows (least_fewer a b (f.1 + 1 - (at + 1)) (f.1 - at) (omega arith) after)
+looks_past at s a b (Some f) grows after = least_since s a b (f.1 - at) grows (least_less a b (f.1 + 1 - (at + 1)) (f.1 - at) after (omega arith))
 
 -- What a search takes at most.
 

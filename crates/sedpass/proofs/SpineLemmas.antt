@@ -22,10 +22,10 @@ use Rattle.sedpass.specs.declared.groups.Then.TheVariants.{Done, One, Two}
 use Rattle.sedpass.specs.declared.groups.Told.{Told}
 use Rattle.sedpass.specs.declared.kept.Region.{Region}
 use Rattle.sedpass.specs.declared.kept.Subject.{Subject}
-use Rattle.sedpass.proofs.CountLemmas.{least_both, least_fewer, least_none}
 use Rattle.sedpass.proofs.DecideLemmas.{flags_at}
 use Rattle.sedpass.proofs.OneGroupLemmas.{wanted}
 use Rattle.sedpass.proofs.TurnLemmas.{left_turn}
+use Rattle.sedtext.proofs.CountLemmas.{least_less, least_none, least_both}
 
 -- Tasks that are done.
 
@@ -161,7 +161,7 @@ works_turn s here then rest old new r before after ready (inl (none, same, nothi
 works_turn s here then rest old new r before after ready (inr (node, begun, is, look, once, turned)) told counts =
     let cost = turned.cost in
     turn_works s here then rest old new (entered_at node) before after ready turned.turn (omega (arith, once.0, cost.0), omega (arith, once.1, cost.1))
-    (least_fewer before after 1 (entered_at node) (omega arith) (least_look before begun after 0 1 look cost.0 (omega arith))) told counts
+    (least_less before after 1 (entered_at node) (least_look before begun after 0 1 look cost.0 (omega arith)) (omega arith)) told counts
 
 pub turned_goes : (s : Subject) (here : Matched) (then : Then) (old new : State) (r : Region) (before after : ℕ) → Turned s here old new r then before after → GoesOn s r (next_of then)
 turned_goes s here then old new r before after (inl (none, same, nothing, still)) = rw nothing tt
@@ -179,7 +179,7 @@ walk_made s root i j d start now before after last works =
       run.1,
       subst (λ x. Walk (tree_at (nodes_in s) x) w i j (told_in start) (told_in now) run.1) same
           (subst (λ mid. Walk (tree_at (nodes_in s) root) w i j (told_in start) mid run.1) (sym run.4.0) run.3),
-      least_fewer before after works.n run.1 (omega (arith, run.5)) works.entered,
+      least_less before after works.n run.1 works.entered (omega (arith, run.5)),
     )
 
 -- it gives each group that is due the span that the report says

@@ -1,9 +1,10 @@
 -- A walk over a match, as nodes are entered one after another.
-use Rattle.std.proofs.Common.{ℕ, ◌≤◌, List, [], ◌∷◌, replicate, None, Some, refl, inl, ⊎_elim, arith}
+use Rattle.std.proofs.Common.{ℕ, ◌≤◌, List, [], ◌∷◌, replicate, None, Some, refl, sym, true≢false, inl, ⊎_elim, arith}
 use Rattle.sedre.specs.Steps.{TakesAtLeast}
 use Rattle.sedre.specs.Tree.{Tree, empty, set, begin, end, seq, alt, group, star, opt}
 use Rattle.sedtext.proofs.GroupLemmas.{NoGroups}
-use Rattle.sedpass.specs.Walks.{State, GroupStandsIn, NoneDue, Walk, EntersGroups}
+use Rattle.sedpass.specs.Walks.{State, GroupStandsIn, NoneDue, Walk, EntersGroups, has_group}
+use Rattle.std.proofs.lemmas.Bool.{or_cases}
 
 -- a walk passes by what has no group that is due
 pub passes_by : (e : Tree) (w : List ℕ) (i j : ℕ) (s : State) → NoneDue e s → Walk e w i j s s 0
@@ -20,12 +21,12 @@ enters_later e w i j a b c up enters =
     (enters.0, enters.1, record { last = looks.last; n = looks.n; walk = looks.walk; counts = let h = looks.counts in omega (arith, up, h) })
 
 groupless : (e : Tree) → NoGroups e → (k : ℕ) → GroupStandsIn e k → ⊥
-groupless (seq a b) none k has = ⊎_elim (λ (h : GroupStandsIn a k). groupless a none.0 k h) (λ (h : GroupStandsIn b k). groupless b none.1 k h) has
-groupless (alt a b) none k has = ⊎_elim (λ (h : GroupStandsIn a k). groupless a none.0 k h) (λ (h : GroupStandsIn b k). groupless b none.1 k h) has
+groupless (seq a b) none k has = ⊎_elim (groupless a none.0 k) (groupless b none.1 k) (or_cases (has_group a k) (has_group b k) has)
+groupless (alt a b) none k has = ⊎_elim (groupless a none.0 k) (groupless b none.1 k) (or_cases (has_group a k) (has_group b k) has)
 groupless (group n a) none k has = none
 groupless (star a first) none k has = groupless a none k has
 groupless (opt a first) none k has = groupless a none k has
-groupless other none k has = has
+groupless other none k has = true≢false (sym has)
 
 -- where an expression has no group nothing is entered
 pub enters_nothing : (e : Tree) (w : List ℕ) (i j s : ℕ) → NoGroups e → EntersGroups e w i j s s

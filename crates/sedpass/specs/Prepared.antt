@@ -6,11 +6,17 @@ use Rattle.sedre.specs.Tree.{Tree, set, begin, end, seq, alt, group, star, Writt
 use Rattle.sedre.specs.Sizes.{size}
 use Rattle.sedre.specs.declared.types.Node.{Node}
 use Rattle.sedre.specs.declared.types.Node.TheVariants.{Set}
-use Rattle.sedpass.specs.Groups.{reported, holds, has_group}
+use Rattle.sedpass.specs.Groups.{reported, holds}
 use Rattle.sedpass.specs.Lengths.{length_of}
 use Rattle.sedpass.specs.Rows.{SameBytes}
 use Rattle.sedpass.specs.declared.nodes.Facts.{Facts}
 use Rattle.sedpass.specs.declared.nodes.Kind.{Kind}
+use Rattle.sedpass.specs.Walks.{has_group}
+
+-- What a contract sees of an expression that was copied into room made once: the expression, and how many nodes there is room for.
+pub record Held : Type 0 where
+  pub expr : WrittenExpression
+  pub room : ℕ
 
 -- the expression matches the null string at a place that is the text's beginning, or isn't, and its end, or isn't
 abbrev pub nullable : Bool → Bool → Tree → Bool

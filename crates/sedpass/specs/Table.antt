@@ -1,6 +1,7 @@
 -- Private to the proofs: no contract that `sedmatch` makes public cites what stands here.
 -- A table of the passes of one way: its states, its cells, and the codes by which they name states.
 use Rattle.std.specs.Prelude.{◌≡◌, ℕ, ◌+◌, ◌*◌, ◌/◌, ◌^◌, ◌<◌, ◌≤◌, ◌↔◌, Bool, true, false, List, length, slice_index_or, Some, IsTrue, vec_capacity}
+use Rattle.std.specs.Int.{from_bool}
 use Rattle.sedre.specs.Arena.{IsExpr}
 use Rattle.sedre.specs.declared.types.Node.{Node}
 use Rattle.sedtext.specs.declared.starts.Starts.{Starts}
@@ -89,10 +90,7 @@ LeadsBy p t q k b = (byte : ℕ) (edge : Bool) → byte < 256 → IsColumn t.lay
 -- Beginnings.
 
 abbrev pub kind_number : Bool → Bool → ℕ
-kind_number false false = 0
-kind_number true false = 1
-kind_number false true = 2
-kind_number true true = 3
+kind_number begin end = from_bool begin + 2 * from_bool end
 
 -- where a beginning is noted; in a sweep it is always one of the whole expression
 abbrev pub beginning_at : Bool → ℕ → Kind → ℕ
@@ -108,18 +106,22 @@ MayBegin p way root = (root < length p.arena.expr.nodes) × (IsTrue way.all_star
 
 -- Tables.
 
+-- of each state that there is room for: its rows, with so many marks, its root, and what is told of it
+pub record HasRows (states marks : ℕ) (leaf_rows end_rows : List (List Bool)) (all_roots : List ℕ) (all_flags : List Flags) : Type 0 where
+  pub some : 2 ≤ states
+  pub few : states ≤ 65535
+  pub leaves : length leaf_rows ≡ states
+  pub ends : length end_rows ≡ states
+  pub leaf_marks : (q : ℕ) → q < states → length (row_of leaf_rows q) ≡ marks
+  pub end_marks : (q : ℕ) → q < states → length (row_of end_rows q) ≡ marks
+  pub roots : length all_roots ≡ states
+  pub flags : length all_flags ≡ states
+
 -- all that a table has is there
 pub record HasRoom (m : ℕ) (t : Table) : Type 0 where
   pub count : t.count ≤ t.room
-  pub some : 2 ≤ t.room
-  pub few : t.room ≤ 65535
   pub marks : m ≤ t.marks
-  pub leaves : length t.leaves ≡ t.room
-  pub ends : length t.ends ≡ t.room
-  pub leaf_marks : (q : ℕ) → q < t.room → length (row_of t.leaves q) ≡ t.marks
-  pub end_marks : (q : ℕ) → q < t.room → length (row_of t.ends q) ≡ t.marks
-  pub roots : length t.roots.items ≡ t.room
-  pub flags : length t.flags.items ≡ t.room
+  pub rows : HasRows t.room t.marks t.leaves t.ends t.roots.items t.flags.items
   pub cells : t.count * 2 ^ t.layout.shift ≤ length t.cells.items
   pub reserved : t.room * 2 ^ t.layout.shift ≤ t.reserved
   pub capacity : t.reserved ≤ vec_capacity t.cells
@@ -157,6 +159,13 @@ pub record IsAhead (p : Prepared) (t : Table) : Type 0 where
   pub table : IsTable p t
   pub forwards : t.way.mirrored ≡ false
   pub single : t.way.all_starts ≡ false
+  pub brief : t.way.keeps ≡ false
+
+-- one in which every place is a start
+pub record IsSweep (p : Prepared) (t : Table) : Type 0 where
+  pub table : IsTable p t
+  pub forwards : t.way.mirrored ≡ false
+  pub all_starts : IsTrue t.way.all_starts
   pub brief : t.way.keeps ≡ false
 
 -- a state was added at most, and those before stand as they were; or, in another epoch, all were forgotten before, as the table was full

@@ -61,13 +61,12 @@ fn try_all(
     ensures made { TrialsMade (expression_tree subject.entry.prepared.now.arena.expr) subject.entry.text.now (length subject.entry.prepared.now.arena.expr.nodes) from tried.old tried.new steps.old steps.new result }
 {
     let length = subject.text.len();
-    let bytes = subject.text.forwards();
     let mut start = from;
     while start <= length {
         let Some(first) = next_start(begins, subject.text, start, steps) else {
             return Trials::Nothing;
         };
-        let passed = ahead.run(subject.prepared, &bytes, first, work, steps);
+        let passed = ahead.run(subject.prepared, subject.text, first, work, steps);
         if let Some(end) = passed.end {
             *tried += passed.place.saturating_sub(end);
             return Trials::Hit(first, end);

@@ -2,10 +2,10 @@ use Rattle.std.proofs.Common.{◌-◌, ◌<◌, length, inl, inr, refl, arith}
 use Rattle.sedre.specs.declared.types.Node.TheVariants.{Star}
 use Rattle.sedtext.specs.Reach.{At}
 use Rattle.sedpass.specs.Decide.{nodes_in, text_in}
-use Rattle.sedpass.proofs.CountLemmas.{least_fewer, least_none}
-use Rattle.sedpass.proofs.DecideLemmas.{copy_fixed, copy_ceases, copy_pays, desk_ahead, desk_same, desk_then, ends_still, least_no_byte, least_then, owed_here, part_low}
+use Rattle.sedpass.proofs.DecideLemmas.{copy_fixed, copy_ceases, copy_pays, desk_ahead, desk_same, desk_then, ends_still, least_no_byte, owed_here, part_low}
 use Rattle.sedpass.proofs.MeetingLemmas.{copy_walk}
 use Rattle.sedpass.proofs.TurnLemmas.{opened, part_inside}
+use Rattle.sedtext.proofs.CountLemmas.{least_less, least_none, least_both}
 use Rattle.sedpass.proofs.groups.last_copy.Goals as goal
 
 pub has_empty_copy-taken-requires : goal.has_empty_copy-taken-requires
@@ -76,7 +76,7 @@ copies-preserved c =
         omega (arith, inv.cost.0, cut.ensures.cost.0),
         omega (arith, inv.cost.1, copy_pays (length (nodes_in s)) c.copies.steps cut.new.steps _ _ c.copies.end cut.result here.stop next.after next.within cut.ensures.cost.1),
       );
-      counts = least_then c.args.steps.now c.copies.steps cut.new.steps here.start c.copies.end cut.result inv.low (omega (arith, next.after)) inv.counts cut.ensures.counts;
+      counts = least_both c.args.steps.now c.copies.steps cut.new.steps _ _ _ inv.counts cut.ensures.counts (omega (arith, inv.low, next.after));
     }
 
 pub returns-clause-copy : goal.returns-clause-copy
@@ -91,4 +91,4 @@ returns-clause-cost c =
     (cost.0, omega (arith, cost.1, owed_is))
 
 pub returns-clause-counts : goal.returns-clause-counts
-returns-clause-counts c = λ is_open. least_fewer c.args.steps.now c.copies.steps (c.copies.end - c.args.here.start) (c.args.here.stop - c.args.here.start) (omega (arith, c.copies-test.false)) c.copies.invariant.counts
+returns-clause-counts c = λ is_open. least_less c.args.steps.now c.copies.steps (c.copies.end - c.args.here.start) (c.args.here.stop - c.args.here.start) c.copies.invariant.counts (omega (arith, c.copies-test.false))

@@ -1,7 +1,7 @@
 use Rattle.std.proofs.Common.{◌+◌, ◌-◌, ◌*◌, ◌≤◌, length, ap, ◌∙◌, arith}
-use Rattle.sedpass.proofs.CountLemmas.{least_both, least_up}
 use Rattle.sedpass.proofs.KeptLemmas.{same_shape}
 use Rattle.sedpass.proofs.SearchLemmas.{ahead_still, begins_some, kept_cost, kept_each, kept_found, kept_none, none_cost}
+use Rattle.sedtext.proofs.CountLemmas.{least_both, least_up}
 use Rattle.sedpass.proofs.search.next_kept.Goals as goal
 
 pub returns-then-not-begins_there-clause-next : goal.returns-then-not-begins_there-clause-next

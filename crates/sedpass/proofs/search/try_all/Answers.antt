@@ -3,16 +3,16 @@ use Rattle.sedre.specs.Tree.{expression_tree}
 use Rattle.std.specs.Prelude.{IfSome}
 use Rattle.sedtext.specs.Reach.{IsLongestFrom}
 use Rattle.sedtext.proofs.SpanLemmas.{Matches-forward, Matches-within}
-use Rattle.sedpass.proofs.CountLemmas.{least_none}
 use Rattle.sedpass.proofs.KeptLemmas.{same_shape}
 use Rattle.sedpass.proofs.SearchLemmas.{ahead_still, found_at, hit_paid, hit_room, none_further, none_later, none_more, none_on, looks_tried, trial_cost, trial_is}
+use Rattle.sedtext.proofs.CountLemmas.{least_none}
 use Rattle.sedpass.proofs.search.try_all.Goals as goal
 use Rattle.sedpass.proofs.search.try_all.Goals.{else-start-length-via-then-start-length+else-tried-length, else-start-length-via-else-start-length}
 
 pub run-passed-requires-clause-from : goal.run-passed-requires-clause-from
 run-passed-requires-clause-from c =
     let next = c.in-Some.ensures.next in
-    rw c.forwards-bytes.ensures next.1
+    next.1
 
 pub returns-in_default-clause-made : goal.returns-in_default-clause-made
 returns-in_default-clause-made c =
@@ -34,7 +34,7 @@ returns-in-Some-end-clause-made c =
     let run = c.run-passed.ensures in
     let place = c.run-passed.result.place in
     let i = c.loop-start.invariant in
-    let is = trial_is (expression_tree e) w c.forwards-bytes.result c.args.begins.now c.loop-start.start first c.run-passed.result.place c.run-passed.result.end c.forwards-bytes.ensures c.requires.begins c.in-Some.ensures.next run.after run.within run.reached
+    let is = trial_is (expression_tree e) w c.args.begins.now c.loop-start.start first c.run-passed.result.place c.run-passed.result.end c.requires.begins c.in-Some.ensures.next run.after run.within run.reached
     (run.longest i.ahead.single) in
     let end = c.in-Some-end.end in
     let last = c.args.subject.prepared.now.is_prepared.last in
@@ -64,7 +64,7 @@ returns-then-tried-length-clause-made c =
     let run = c.run-passed.ensures in
     let place = c.run-passed.result.place in
     let i = c.loop-start.invariant in
-    let is = trial_is (expression_tree e) w c.forwards-bytes.result c.args.begins.now c.loop-start.start first c.run-passed.result.place c.run-passed.result.end c.forwards-bytes.ensures c.requires.begins c.in-Some.ensures.next run.after run.within run.reached
+    let is = trial_is (expression_tree e) w c.args.begins.now c.loop-start.start first c.run-passed.result.place c.run-passed.result.end c.requires.begins c.in-Some.ensures.next run.after run.within run.reached
     (run.longest i.ahead.single) in
     let within = c.if-start-length.true in
     let len = c.len-length.ensures.is in
@@ -115,7 +115,7 @@ loop-start-preserved c =
     let first = c.in-Some.first in
     let run = c.run-passed.ensures in
     let i = c.loop-start.invariant in
-    let is = trial_is (expression_tree e) w c.forwards-bytes.result c.args.begins.now c.loop-start.start first c.run-passed.result.place c.run-passed.result.end c.forwards-bytes.ensures c.requires.begins c.in-Some.ensures.next run.after run.within run.reached
+    let is = trial_is (expression_tree e) w c.args.begins.now c.loop-start.start first c.run-passed.result.place c.run-passed.result.end c.requires.begins c.in-Some.ensures.next run.after run.within run.reached
     (run.longest i.ahead.single) in
     let none : c.run-passed.result.end ≡ None = cc in
     let next = c.in-Some.ensures.cost in

@@ -6,7 +6,7 @@ use Rattle.sedre.specs.Tree.{WrittenExpression}
 use Rattle.sedre.specs.Mirror.{seen}
 use Rattle.sedre.proofs.MirrorLemmas.{seen-arena, seen-node}
 use Rattle.sedtext.proofs.NodeLemmas.{parts_below}
-use Rattle.sedpass.specs.Held.{Held}
+use Rattle.sedpass.specs.Prepared.{Held}
 use Rattle.sedpass.proofs.arena.Arena.look.Goals as goal
 
 pub returns-clause-arena : goal.returns-clause-arena

@@ -6,10 +6,10 @@ use Rattle.sedpass.specs.Kept.{SameKept, ends_told, owed}
 use Rattle.sedpass.specs.Regions.{Meets}
 use Rattle.sedpass.specs.Table.{SameShape}
 use Rattle.sedpass.proofs.AheadLemmas.{follows_first, meet_end}
-use Rattle.sedpass.proofs.CountLemmas.{least_none, least_both, least_since}
 use Rattle.sedpass.proofs.KeptLemmas.{kept_same, same_kept, same_shape, told_as}
 use Rattle.sedpass.proofs.OwedLemmas.{owed_falls, cut_on, cut_at}
 use Rattle.sedpass.proofs.TableLemmas.{names_offset, names_state}
+use Rattle.sedtext.proofs.CountLemmas.{least_none, least_both, least_since}
 use Rattle.sedpass.proofs.kept.Kept.cut.Goals as goal
 
 pub loop-place-init : goal.loop-place-init

@@ -12,7 +12,7 @@ returns-clause-edges c b after before =
     let m = length c.args.subject.prepared.now.arena.expr.nodes in
     let region : IsRegion c.args.subject.prepared.now c.args.subject.text.now t k = c.requires.passes.region in
     let q = c.args.offset / 2 ^ t.layout.shift in
-    let some = region.table.room.some in
+    let some = region.table.room.rows.some in
     let at : c.args.place ≡ c.args.block * (t.room - 1) + (t.room - 1) = c.requires.right (let h = c.if-place-self.false in omega (arith, h)) in
     let there : 2 * c.args.block + 1 < length k.edges = region.room.blocks c.args.block (let h = c.requires.passes.within in let g = region.inside in omega arith) in
     edges_more c.args.subject.prepared.now c.args.subject.text.now t.way k.region.root k.region.end (t.room - 1) c.args.block k.edges c.store.new.self c.store-2.new.self c.load.new.marks c.load-2.new.marks (row_of t.leaves q) (row_of t.ends q)

@@ -1,7 +1,7 @@
 use Rattle.std.proofs.Common.{◌-◌, ◌*◌, ◌/◌, refl, ap, ◌∙◌, arith}
 use Rattle.sedpass.specs.Kept.{EdgesFrom}
-use Rattle.sedpass.proofs.CountLemmas.{least_none, least_both, least_since}
 use Rattle.sedpass.proofs.KeptLemmas.{block_cost, block_right, edges_same, kept_passed, make_cost, passes_first, same_kept, same_shape}
+use Rattle.sedtext.proofs.CountLemmas.{least_none, least_both, least_since}
 use Rattle.sedpass.proofs.kept.Kept.make.Goals as goal
 
 pub loop-place-init : goal.loop-place-init
@@ -27,7 +27,7 @@ loop-place-init c =
 pub keep_edge-requires-clause-right : goal.keep_edge-requires-clause-right
 keep_edge-requires-clause-right c before =
     let old = c.loop-place.invariant in
-    let some = old.passes.region.table.room.some in
+    let some = old.passes.region.table.room.rows.some in
     let on = c.loop-place-test.true in
     let is = old.end_is in
     let at = old.right (omega (arith, on)) (omega (arith, before, is)) in

@@ -3,9 +3,9 @@ use Rattle.std.specs.Prelude.{length, slice_index_or}
 use Rattle.std.proofs.lemmas.Bool.{eqb-true, eq-eqb}
 use Rattle.sedpass.specs.Kept.{Follows, Meet}
 use Rattle.sedpass.proofs.AheadLemmas.{follows_next, meet_on, meet_read, place_cost}
-use Rattle.sedpass.proofs.CountLemmas.{least_none, least_both, least_since, least_up}
-use Rattle.sedpass.proofs.KeptLemmas.{kept_row, least_then, same_shape}
+use Rattle.sedpass.proofs.KeptLemmas.{kept_row, same_shape}
 use Rattle.sedpass.proofs.TableLemmas.{names_offset, names_state}
+use Rattle.sedtext.proofs.CountLemmas.{least_none, least_both, least_since, least_up, least_counted}
 use Rattle.sedpass.proofs.kept.Kept.meet.Goals as goal
 
 pub loop-place-init : goal.loop-place-init
@@ -102,7 +102,7 @@ loop-place-preserved c =
       grows = (let h = old.grows in let g = c.meets.ensures.cost.0 in let f = c.byte-byte.ensures.cost.0 in let e = next.cost.0 in omega (arith, h, g, f, e));
       cost = place_cost m c.args.from place c.loop-place.steps c.args.steps.now c.meets.new.steps c.byte-byte.new.steps c.next-code.new.steps some old.cost (let h = c.meets.ensures.cost.1 in omega (arith, h, count)) c.byte-byte.ensures.cost.1 next.cost.1;
       counts = least_both _ c.loop-place.steps _ _ 2 _ old.counts
-          (least_since _ c.meets.new.steps _ _ c.meets.ensures.cost.0 (least_then _ c.byte-byte.new.steps _ 1 1 2 c.byte-byte.ensures.counts next.counts refl)) (let h = old.above in omega (arith, h));
+          (least_since _ c.meets.new.steps _ _ c.meets.ensures.cost.0 (least_both _ c.byte-byte.new.steps _ 1 1 2 (least_counted _ _ 1 1 c.byte-byte.ensures.counts (omega arith)) next.counts (omega arith))) (let h = old.above in omega (arith, h));
     }
 
 pub returns-clause-meets : goal.returns-clause-meets

@@ -11,7 +11,7 @@ returns-clause-cost c =
     let width = c.args.table.now.room - 1 in
     let place = c.args.place in
     let old = c.args.self.now.region in
-    let room = c.requires.kept.region.table.room.some in
+    let room = c.requires.kept.region.table.room.rows.some in
     let s = c.args.steps.now in
     elim c.if-place-self.branch [
       | then-place-self w ↦

@@ -3,15 +3,15 @@ use Rattle.std.specs.Prelude.{length}
 use Rattle.std.proofs.Math.Nat.{div-mul-le_self, lt-div-mul-add}
 use Rattle.sedre.specs.Steps.{TakesAtLeast}
 use Rattle.sedpass.specs.Kept.{EdgesFrom, again}
-use Rattle.sedpass.proofs.CountLemmas.{least_since}
 use Rattle.sedpass.proofs.KeptLemmas.{added_few, edges_same, kept_passed, same_shape}
 use Rattle.sedpass.proofs.OwedLemmas.{again_cost}
+use Rattle.sedtext.proofs.CountLemmas.{least_since}
 use Rattle.sedpass.proofs.kept.Kept.remake.Goals as goal
 
 pub edge_state-offset-requires-clause-edge : goal.edge_state-offset-requires-clause-edge
 edge_state-offset-requires-clause-edge c before =
     let width = c.args.table.now.room - 1 in
-    let some = c.requires.kept.region.table.room.some in
+    let some = c.requires.kept.region.table.room.rows.some in
     let after : c.args.place < c.args.place / width * width + width = lt-div-mul-add (omega (arith, some)) in
     let low = c.requires.low in
     let shape = c.empty.ensures.shape in
@@ -20,7 +20,7 @@ edge_state-offset-requires-clause-edge c before =
 pub pass-requires-clause-order : goal.pass-requires-clause-order
 pass-requires-clause-order c =
     let width = c.args.table.now.room - 1 in
-    let some = c.requires.kept.region.table.room.some in
+    let some = c.requires.kept.region.table.room.rows.some in
     let from : c.args.place / width * width ≤ c.args.place = div-mul-le_self c.args.place width in
     let to : c.args.place < c.args.place / width * width + width = lt-div-mul-add (omega (arith, some)) in
     let before = c.requires.place in
@@ -49,7 +49,7 @@ returns-clause-to c =
 pub returns-clause-cost : goal.returns-clause-cost
 returns-clause-cost c =
     let width = c.args.table.now.room - 1 in
-    let some = c.requires.kept.region.table.room.some in
+    let some = c.requires.kept.region.table.room.rows.some in
     let from : c.args.place / width * width ≤ c.args.place = div-mul-le_self c.args.place width in
     let after : c.args.place < c.args.place / width * width + width = lt-div-mul-add (omega (arith, some)) in
     let before = c.requires.place in

@@ -3,10 +3,10 @@ use Rattle.std.specs.Prelude.{length, not}
 use Rattle.sedre.specs.Steps.{TakesAtLeast}
 use Rattle.sedpass.specs.Kept.{AllMarked, SameKept, ends_told, owed}
 use Rattle.sedpass.specs.Table.{SameShape}
-use Rattle.sedpass.proofs.CountLemmas.{least_none, least_both, least_since}
 use Rattle.sedpass.proofs.KeptLemmas.{marked_then, same_kept, same_shape, told_as}
 use Rattle.sedpass.specs.Regions.{ReachesEnd}
 use Rattle.sedpass.proofs.OwedLemmas.{owed_falls, seek_at, seek_on}
+use Rattle.sedtext.proofs.CountLemmas.{least_none, least_both, least_since}
 use Rattle.sedpass.proofs.kept.Kept.seek.Goals as goal
 
 pub loop-place-init : goal.loop-place-init

@@ -2,8 +2,8 @@ use Rattle.std.proofs.Common.{◌↔◌, IsTrue, arith}
 use Rattle.std.specs.Prelude.{length, not}
 use Rattle.sedpass.specs.Kept.{ends_told}
 use Rattle.sedpass.specs.Regions.{ReachesEnd}
-use Rattle.sedpass.proofs.CountLemmas.{least_none, least_both, least_counted, least_up}
 use Rattle.sedpass.proofs.KeptLemmas.{as_asked, kept_mark, kept_row, marked_on, not_asked}
+use Rattle.sedtext.proofs.CountLemmas.{least_none, least_both, least_counted, least_up}
 use Rattle.sedpass.proofs.kept.Kept.seek_in.Goals as goal
 
 pub loop-place-init : goal.loop-place-init

@@ -3,8 +3,8 @@ use Rattle.std.specs.Prelude.{false}
 use Rattle.sedtext.specs.Reach.{At, one_start}
 use Rattle.sedpass.specs.Regions.{IsLastIn}
 use Rattle.sedpass.proofs.LeaveLemmas.{last_inside}
-use Rattle.sedpass.proofs.CountLemmas.{least_counted, least_since}
 use Rattle.sedpass.proofs.KeptLemmas.{kept_row, mark_spans, null_spans}
+use Rattle.sedtext.proofs.CountLemmas.{least_counted, least_since}
 use Rattle.sedpass.proofs.kept.Kept.spans.Goals as goal
 
 pub null_at-requires : goal.null_at-requires

@@ -1,12 +1,11 @@
 use Rattle.std.proofs.Common.{Bool, ◌+◌, length, refl, subst, arith}
 use Rattle.std.specs.Vec.{with_item}
 use Rattle.sedre.specs.Steps.{TakesAtLeast}
-use Rattle.sedtext.proofs.StepLemmas.{least_own}
 use Rattle.sedpass.specs.Rows.{nodes_of}
 use Rattle.sedpass.specs.Table.{AddsStates, IsNext, IsOffset, LeadsOn}
 use Rattle.sedpass.specs.declared.table.Table.{Table}
-use Rattle.sedpass.proofs.CountLemmas.{least_up}
 use Rattle.sedpass.proofs.TableLemmas.{adds_same, adds_then, cell_there, names_anywhere, names_leads, names_more, names_moved, note_cell, offset_more}
+use Rattle.sedtext.proofs.CountLemmas.{least_counted, least_up}
 use Rattle.sedpass.proofs.table.Table.fill.Goals as goal
 
 pub overflow_add-offset : goal.overflow_add-offset
@@ -67,11 +66,11 @@ returns-in-Some-clause-counts c =
     let m = length c.args.prepared.now.arena.expr.nodes in
     let stepped = c.step.ensures.cost in
     let interned = c.intern-next.ensures.cost in
-    least_up c.args.steps.now c.load.new.steps c.intern-next.new.steps m (subst (λ n. TakesAtLeast c.args.steps.now c.load.new.steps n) c.nodes.ensures.value (least_own c.args.steps.now c.load.new.steps c.nodes.result c.nodes.result (omega arith) c.load.ensures.counts)) (omega (arith, stepped, interned))
+    least_up c.args.steps.now c.load.new.steps c.intern-next.new.steps m (subst (λ n. TakesAtLeast c.args.steps.now c.load.new.steps n) c.nodes.ensures.value (least_counted c.args.steps.now c.load.new.steps c.nodes.result c.nodes.result c.load.ensures.counts (omega arith))) (omega (arith, stepped, interned))
 
 pub returns-else-self-epoch-clause-counts : goal.returns-else-self-epoch-clause-counts
 returns-else-self-epoch-clause-counts c =
     let m = length c.args.prepared.now.arena.expr.nodes in
     let stepped = c.step.ensures.cost in
     let interned = c.intern-next.ensures.cost in
-    least_up c.args.steps.now c.load.new.steps c.intern-next.new.steps m (subst (λ n. TakesAtLeast c.args.steps.now c.load.new.steps n) c.nodes.ensures.value (least_own c.args.steps.now c.load.new.steps c.nodes.result c.nodes.result (omega arith) c.load.ensures.counts)) (omega (arith, stepped, interned))
+    least_up c.args.steps.now c.load.new.steps c.intern-next.new.steps m (subst (λ n. TakesAtLeast c.args.steps.now c.load.new.steps n) c.nodes.ensures.value (least_counted c.args.steps.now c.load.new.steps c.nodes.result c.nodes.result c.load.ensures.counts (omega arith))) (omega (arith, stepped, interned))

@@ -4,9 +4,9 @@ use Rattle.sedpass.specs.Rows.{nodes_of}
 use Rattle.sedpass.specs.Table.{BeginsIn, Names}
 use Rattle.sedpass.specs.Forwards.{Arrives}
 use Rattle.sedpass.specs.declared.rows.Way.{Way}
-use Rattle.sedpass.proofs.CountLemmas.{least_both, least_fewer}
 use Rattle.sedpass.proofs.TableLemmas.{names_map}
 use Rattle.sedpass.proofs.ForwardLemmas.{arrives_first, end_below, none_before, pass_end, run_longest, run_found, run_passes}
+use Rattle.sedtext.proofs.CountLemmas.{least_less, least_both}
 use Rattle.sedpass.proofs.table.Table.run.Goals as goal
 
 pub loop-at-init : goal.loop-at-init
@@ -33,7 +33,7 @@ loop-at-init c =
       passes = c.arrive-at.ensures.passes (subst (λ (x : Way). x.keeps ≡ false) (sym way) c.requires.keeps) from (omega arith) c.requires.from names (none_before p S.way w from);
       grown = cost.0;
       cost = omega (arith, cost, ap (λ x. 40 * m * (x + 1)) here);
-      counts = least_fewer c.args.steps.now c.first-code.new.steps 1 (2 * (c.arrive-at.result.place - from) + 1) (omega (arith, here)) c.first-code.ensures.counts;
+      counts = least_less c.args.steps.now c.first-code.new.steps 1 (2 * (c.arrive-at.result.place - from) + 1) c.first-code.ensures.counts (omega (arith, here));
     }
 
 pub loop-at-preserved : goal.loop-at-preserved
