@@ -23,9 +23,9 @@ use Rattle.sedtext.proofs.ReachLemmas.{close_at}
 use Rattle.sedtext.proofs.SpanLemmas.{Matches-forward}
 use Rattle.sedpass.specs.Decide.{found, undecided, HasAll, flags_of, told_of, EndsRegion, IsAtEnd, IsDesk, HasDesk, IsSetAt, AreGroupTables, HasSpace, SameTables, KeepsDesk, part_cost, nodes_in, text_in, Blank, Stands}
 use Rattle.sedpass.specs.Groups.{reported, holds}
-use Rattle.sedpass.specs.Kept.{AllMarked, IsKept, SameKept, SameSpace, ends_told, owed}
+use Rattle.sedpass.specs.Kept.{AllMarked, IsKept, SameKept, SameSpace, ends_told, owed, KeepsRegion}
 use Rattle.sedpass.specs.Lengths.{AllLong}
-use Rattle.sedpass.specs.Prepared.{IsFacts, null_in, is_set, run_of}
+use Rattle.sedpass.specs.Prepared.{IsFacts, is_set, run_of}
 use Rattle.sedpass.specs.Regions.{CeasesAt, IsLastIn, NextCopy, ReachesEnd, IsRunOf, repeated, in_group}
 use Rattle.sedpass.specs.Table.{IsTable, SameShape, MayBegin}
 use Rattle.sedpass.specs.Walks.{settle, drop_groups, GroupStandsIn, NoneDue, IsStart, has_group}
@@ -37,10 +37,8 @@ use Rattle.sedpass.specs.declared.kept.Kept.{Kept}
 use Rattle.sedpass.specs.declared.kept.Region.{Region}
 use Rattle.sedpass.specs.declared.kept.Subject.{Subject}
 use Rattle.sedpass.specs.declared.nodes.Facts.{Facts}
-use Rattle.sedpass.specs.declared.nodes.Kind.{Kind}
 use Rattle.sedpass.specs.declared.table.Table.{Table}
-use Rattle.sedpass.proofs.FactLemmas.{null_tells}
-use Rattle.sedpass.proofs.KeptLemmas.{kept_space, same_shape, space_same, space_then}
+use Rattle.sedpass.proofs.KeptLemmas.{same_shape, space_same, space_then}
 use Rattle.sedpass.proofs.LeaveLemmas.{last_inside}
 use Rattle.sedpass.proofs.LengthLemmas.{all_long, copies_long, left_long, right_long}
 use Rattle.sedpass.proofs.MeetingLemmas.{run_stops, set_early, stops_at_copy, stops_at_cut}
@@ -48,6 +46,7 @@ use Rattle.sedpass.proofs.OneGroupLemmas.{copy_spans, deed, drop_as, left, same_
 use Rattle.sedpass.proofs.OwedLemmas.{owed_small}
 use Rattle.sedpass.proofs.TurnLemmas.{opened}
 use Rattle.sedpass.proofs.TableLemmas.{same_all}
+use Rattle.sedpass.proofs.ForwardLemmas.{ahead_still}
 
 -- an entry of the flags
 pub flags_at : (s : GroupSet) (k : ℕ) → slice_index_or (flags_of s) k false ≡ holds s k
@@ -159,13 +158,6 @@ null_cut s here a b stands same =
       right = subst (λ v. At nodes w b.index v here.stop) there parts.2;
       greatest = λ l left right. let on = Matches-forward (tree_at nodes b.index) w l here.stop right in omega arith;
     }
-
--- the null string is matched where it is told
-pub empty_told : (e : WrittenExpression) (w : List ℕ) (x p n : ℕ) (kind : Kind) (first result : Bool) → x < length e.nodes → first ≡ true → n ≡ length w →
-    (IsTrue kind.begin ↔ (p ≡ 0)) → (IsTrue kind.end ↔ (p ≡ n)) → result ≡ null_in e.nodes kind x → IsTrue result ↔ (IsTrue first × At e.nodes w x p p)
-empty_told e w x p n kind first result inside is_first same begins ends told =
-    let both = null_tells false e kind w p (begins, subst (λ v. IsTrue kind.end ↔ (p ≡ v)) same ends) x inside in
-    (λ h. (is_first, both.0 (sym told ∙ h)), λ h. told ∙ both.1 h.1)
 
 -- a length that is told
 long_at : (nodes : List Node) (w : List ℕ) (x c n : ℕ) (facts : Facts) → x ≡ c → IsFacts (tree_at nodes x) x facts → facts.length ≡ Some n → AllLong (At nodes w c) n
@@ -310,21 +302,12 @@ pub desk_then : (s : Subject) (a b c : GroupTables) (k l m : Kept) → KeepsDesk
 desk_then s a b c k l m one two = record { desk = two.desk; shape = tables_then a b c one.shape two.shape; space = space_then k l m one.space two.space }
 
 -- after passes of both tables
-pub desk_ahead : (s : Subject) (t : GroupTables) (inside ahead : Table) (old new : Kept) → IsDesk s t old → IsKept s.prepared.now s.text.now inside new → IsTable s.prepared.now ahead →
-    SameShape t.inside inside → SameShape t.ahead ahead → SameKept old new → KeepsDesk s t (record { ahead = ahead; inside = inside }) old new
-desk_ahead s t inside ahead old new desk region table same same' kept = record {
-  desk = record {
-    region = region;
-    one_end = ap (λ v. v.all_starts) same.0 ∙ desk.one_end;
-    ahead = record {
-      table = table;
-      forwards = ap (λ v. v.mirrored) same'.0 ∙ desk.ahead.forwards;
-      single = ap (λ v. v.all_starts) same'.0 ∙ desk.ahead.single;
-      brief = ap (λ v. v.keeps) same'.0 ∙ desk.ahead.brief;
-    };
-  };
-  shape = record { inside = same; ahead = same' };
-  space = kept_space old new kept;
+pub desk_ahead : (s : Subject) (t : GroupTables) (inside ahead : Table) (old new : Kept) → IsDesk s t old → KeepsRegion s.prepared.now s.text.now t.inside inside old new → IsTable s.prepared.now ahead → SameShape t.ahead ahead →
+    KeepsDesk s t (record { ahead = ahead; inside = inside }) old new
+desk_ahead s t inside ahead old new desk keeps table same = record {
+  desk = record { region = keeps.kept; one_end = ap (λ v. v.all_starts) keeps.shape.0 ∙ desk.one_end; ahead = ahead_still s.prepared.now t.ahead ahead desk.ahead table same };
+  shape = record { inside = keeps.shape; ahead = same };
+  space = keeps.same.space;
 }
 
 -- passes for any node may begin

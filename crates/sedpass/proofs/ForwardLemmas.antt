@@ -19,7 +19,7 @@ use Rattle.sedtext.proofs.SpanLemmas.{Matches-forward, Matches-within}
 use Rattle.sedtext.specs.Places.{IsPlace}
 use Rattle.sedpass.specs.Rows.{nodes_of, at_begin, at_end, RowOfPlace}
 use Rattle.sedpass.specs.Cells.{stops, code_of}
-use Rattle.sedpass.specs.Table.{State, state_of, IsTold, StateAt, LeadsOn, BeginsIn, Names, IsTable}
+use Rattle.sedpass.specs.Table.{State, state_of, IsTold, StateAt, LeadsOn, BeginsIn, Names, IsTable, IsAhead, SameShape}
 use Rattle.sedpass.specs.Forwards.{starts_of, LastBelow, IsEnd, Arrives, EndsBelow, PassIs}
 use Rattle.sedpass.specs.declared.cells.Flags.{Flags}
 use Rattle.sedpass.specs.declared.nodes.Kind.{Kind}
@@ -299,20 +299,30 @@ module _ (p : Prepared) (w : List ℕ) (from : ℕ) where
         passed = λ early. least_less s t (2 * (place - from) + 1) (j - from) looks (omega (arith, ended));
       }
 
--- of a pass forwards
-module _ (p : Prepared) (way u : Way) (w : List ℕ) (from : ℕ) (end : Option ℕ) (same : u ≡ way) (mirrored : way.mirrored ≡ false) (is : IsEnd u.all_starts (nodes_of u p.arena.expr) w p.root (starts_of u.all_starts from w) end) where
-  seen_end : IsEnd way.all_starts p.arena.expr.nodes w p.root (starts_of way.all_starts from w) end
-  seen_end = subst (λ b. IsEnd way.all_starts (seen b p.arena.expr).nodes w p.root (starts_of way.all_starts from w) end) mirrored
-      (subst (λ (x : Way). IsEnd x.all_starts (nodes_of x p.arena.expr) w p.root (starts_of x.all_starts from w) end) same is)
+-- of a pass forwards that is over, or came to the text's end
+module _ (p : Prepared) (way : Way) (t : Table) (w : List ℕ) (from : ℕ) (at : Passed) (same : t.way ≡ way) (mirrored : way.mirrored ≡ false) (low : from ≤ length w) (pass : PassIs p t w from at)
+    (done : (at.over ≡ true) ⊎ (length w ≤ at.place)) where
+  seen_end : IsEnd way.all_starts p.arena.expr.nodes w p.root (starts_of way.all_starts from w) at.end
+  seen_end = subst (λ b. IsEnd way.all_starts (seen b p.arena.expr).nodes w p.root (starts_of way.all_starts from w) at.end) mirrored
+      (subst (λ (x : Way). IsEnd x.all_starts (nodes_of x p.arena.expr) w p.root (starts_of x.all_starts from w) at.end) same (pass_end p t w from at low pass done))
 
-  pub run_longest : way.all_starts ≡ false → IsLongestFrom (expression_tree p.arena.expr) w from end
-  run_longest single = end_longest p w from end (subst (λ b. IsEnd b p.arena.expr.nodes w p.root (starts_of b from w) end) single seen_end)
+  pub run_longest : way.all_starts ≡ false → IsLongestFrom (expression_tree p.arena.expr) w from at.end
+  run_longest single = end_longest p w from at.end (subst (λ b. IsEnd b p.arena.expr.nodes w p.root (starts_of b from w) at.end) single seen_end)
 
-  pub run_found : from ≤ length w → IsTrue way.all_starts → IsTrue (is_some end) ↔ SomeFound (expression_tree p.arena.expr) w from
-  run_found low all_starts = end_found p w from low end (subst (λ b. IsEnd b p.arena.expr.nodes w p.root (starts_of b from w) end) all_starts seen_end)
+  pub run_found : IsTrue way.all_starts → IsTrue (is_some at.end) ↔ SomeFound (expression_tree p.arena.expr) w from
+  run_found all_starts = end_found p w from low at.end (subst (λ b. IsEnd b p.arena.expr.nodes w p.root (starts_of b from w) at.end) all_starts seen_end)
 
-  pub run_passes : (s t place : ℕ) → from ≤ length w → IfSome end (λ j. j ≤ place) → TakesAtLeast s t (2 * (place - from) + 1) → IfSome end (λ j. PassesOver (expression_tree p.arena.expr) w from s t)
-  run_passes s t place low ended looks = end_passes p w from way.all_starts s t place low end seen_end ended looks
+  pub run_passes : (s u : ℕ) → TakesAtLeast s u (2 * (at.place - from) + 1) → IfSome at.end (λ j. PassesOver (expression_tree p.arena.expr) w from s u)
+  run_passes s u looks = end_passes p w from way.all_starts s u at.place low at.end seen_end (end_below (nodes_of t.way p.arena.expr) w p.root (starts_of t.way.all_starts from w) at.place at.end pass.last) looks
+
+-- a table of passes ahead is one still
+pub ahead_still : (p : Prepared) (a b : Table) → IsAhead p a → IsTable p b → SameShape a b → IsAhead p b
+ahead_still p a b is table shape = record {
+  table = table;
+  forwards = ap (λ v. v.mirrored) shape.0 ∙ is.forwards;
+  single = ap (λ v. v.all_starts) shape.0 ∙ is.single;
+  brief = ap (λ v. v.keeps) shape.0 ∙ is.brief;
+}
 
 -- What is passed over.
 

@@ -15,10 +15,9 @@ use Rattle.sedtext.specs.Reach.{At, IsStart, one_start, starts_to}
 use Rattle.sedtext.specs.Places.{IsPlace}
 use Rattle.sedtext.proofs.MirrorLemmas.{get-reverse}
 use Rattle.sedpass.specs.Regions.{IsLastIn, Opposite, ReachesEnd, Meets}
-use Rattle.sedpass.specs.Prepared.{null_in}
 use Rattle.sedpass.specs.Rows.{bits, RowOfPlace, LeadsTo, IsFirstRow, SameBytes, at_begin, at_end}
 use Rattle.sedtext.specs.Words.{AgreeBelow, row_of}
-use Rattle.sedpass.specs.Kept.{starts_told, ends_told, ComesDown, RowKept, KeptAt, IsLive, KeptRoom, IsRegion, PassesDownTo, IsEdge, AllMarked, SameKept, SameSpace, EdgesFrom, IsKept}
+use Rattle.sedpass.specs.Kept.{starts_told, ends_told, ComesDown, RowKept, KeptAt, IsLive, KeptRoom, IsRegion, PassesDownTo, IsEdge, AllMarked, SameKept, SameSpace, EdgesFrom, IsKept, KeepsRegion}
 use Rattle.sedpass.specs.Table.{State, state_of, HasRow, LeadsOn, BeginsIn, IsTable, MayBegin, SameShape, AddsStates, IsOffset}
 use Rattle.sedpass.specs.declared.kept.Kept.{Kept}
 use Rattle.sedpass.specs.Rows.{nodes_of}
@@ -27,7 +26,6 @@ use Rattle.sedpass.specs.declared.nodes.Prepared.{Prepared}
 use Rattle.sedpass.specs.declared.rows.Way.{Way}
 use Rattle.sedpass.specs.declared.table.Table.{Table}
 use Rattle.sedpass.specs.declared.nodes.Kind.{Kind}
-use Rattle.sedpass.proofs.FactLemmas.{null_tells}
 use Rattle.sedpass.proofs.LeaveLemmas.{last_inside, reaches_last}
 use Rattle.sedpass.proofs.RowLemmas.{behind_reaches, meet_rows, bits_agree, bits_here}
 
@@ -164,46 +162,6 @@ region_kept p w t after k other shape table places long edges root end within re
   long = rw long region.long;
 }
 
--- the pass is at the next place
-pub passes_down : (p : Prepared) (w : List ℕ) (t after : Table) (k other : Kept) (place offset next byte : ℕ) (edge : Bool) →
-    PassesDownTo p w t k (place + 1) offset → IsTable p after → AddsStates (length p.arena.expr.nodes) t after →
-    other.region.root ≡ k.region.root → other.region.end ≡ k.region.end → other.edges ≡ k.edges →
-    vec_capacity other.states ≡ vec_capacity k.states → other.states.items ≡ slice_set k.states.items place (next / 2 ^ after.layout.shift) →
-    ((after.epoch ≡ t.epoch → ⊥) × (other.region.to ≡ place + 1)) ⊎ ((after.epoch ≡ t.epoch) × (other.region.to ≡ k.region.to)) →
-    IsOffset after next → slice_get w place ≡ Some byte → (IsTrue edge ↔ (place ≡ 0)) →
-    LeadsOn (nodes_of t.way p.arena.expr) t.way (state_of (length p.arena.expr.nodes) t (offset / 2 ^ t.layout.shift)) byte edge (state_of (length p.arena.expr.nodes) after (next / 2 ^ after.layout.shift)) →
-    PassesDownTo p w after other place next
-passes_down p w t after k other place offset next byte edge old table adds root end edges places states to there got last leads =
-    let m = length p.arena.expr.nodes in
-    let s = next / 2 ^ after.layout.shift in
-    let low : place < k.region.end = (let h = old.within in omega arith) in
-    let inside : place < length k.states.items = (let h = old.region.long in let g = old.region.inside in omega arith) in
-    let long : length other.states.items ≡ length k.states.items = ap (λ xs. length xs) states ∙ length-set k.states.items place s in
-    let at : KeptAt p w t.way k.region.root k.region.end place (state_of m after s) =
-    kept_down p w t.way k.region.root k.region.end place byte edge (state_of m t (offset / 2 ^ t.layout.shift)) (state_of m after s) low old.region.inside got last leads old.at in
-    let now : KeptAt p w after.way k.region.root k.region.end place (state_of m after s) = subst (λ v. KeptAt p w v k.region.root k.region.end place (state_of m after s)) (sym adds.shape.0) at in
-    let here : IsLive p w after k.region.root k.region.end (slice_set k.states.items place s) place = live_set p w after k.region.root k.region.end k.states.items place s inside there.0 now in
-    let live : (q : ℕ) → place ≤ q → q < other.region.to → IsLive p w after k.region.root k.region.end (slice_set k.states.items place s) q =
-    ⊎_elim
-    (λ (h : (after.epoch ≡ t.epoch → ⊥) × (other.region.to ≡ place + 1)). λ q from before. let e : q ≡ place = (let g = h.1 in omega arith) in subst (λ x. IsLive p w after k.region.root k.region.end (slice_set k.states.items place s) x) (sym e) here)
-    (λ (h : (after.epoch ≡ t.epoch) × (other.region.to ≡ k.region.to)). λ q from before.
-    ⊎_elim
-    (λ (lt : place < q). live_other p w after k.region.root k.region.end k.states.items place s q lt
-    (live_kept p w t after k.region.root k.region.end k.states.items q adds.shape.0 (adds.grows h.0).0 (adds.kept h.0) (old.live q (omega arith) (let g = h.1 in omega arith))))
-    (λ (ge : q ≤ place). let e : q ≡ place = omega arith in subst (λ x. IsLive p w after k.region.root k.region.end (slice_set k.states.items place s) x) (sym e) here)
-    (cases_lt place q))
-    to in
-    let above : place < other.region.to = ⊎_elim (λ (h : (after.epoch ≡ t.epoch → ⊥) × (other.region.to ≡ place + 1)). let g = h.1 in omega arith) (λ (h : (after.epoch ≡ t.epoch) × (other.region.to ≡ k.region.to)). let g = h.1 in let f = old.above in omega arith) to in
-    let within : other.region.to ≤ k.region.end = ⊎_elim (λ (h : (after.epoch ≡ t.epoch → ⊥) × (other.region.to ≡ place + 1)). let g = h.1 in omega arith) (λ (h : (after.epoch ≡ t.epoch) × (other.region.to ≡ k.region.to)). let g = h.1 in let f = old.region.within in omega arith) to in
-    record {
-      region = region_kept p w t after k other adds.shape table places long edges root end within old.region;
-      within = rw end (omega arith);
-      above = omega arith;
-      there = there;
-      at = subst (λ r. KeptAt p w after.way r other.region.end place (state_of m after s)) (sym root) (subst (λ e. KeptAt p w after.way k.region.root e place (state_of m after s)) (sym end) now);
-      live = λ q from before. rw (root, end, states) (live q from before);
-    }
-
 -- The rows at the ends of blocks.
 
 -- a row was kept by copies
@@ -242,19 +200,16 @@ edges_more p w way root end width block old mid new mark other leaf last some in
 pub down_cost : (c x place s t b : ℕ) → place ≡ x + 1 → t ≤ s + c → s + c * place ≤ b → t + c * x ≤ b
 down_cost c x place s t b e up most = let h : s + c * (x + 1) ≤ b = subst (λ v. s + c * v ≤ b) e most in omega (arith, h, up)
 
--- the same region, over two calls
-pub same_kept : (a b c : Kept) → SameKept a b → SameKept b c → SameKept a c
-same_kept a b c one two = record { root = two.root ∙ one.root; end = two.end ∙ one.end; places = two.places ∙ one.places; edges = two.edges ∙ one.edges; marks = λ q. two.marks q ∙ one.marks q }
-
--- the room, over two calls, and that of the same region
+-- the room, over two calls
 pub space_same : (k : Kept) → SameSpace k k
 space_same k = record { places = refl; edges = refl; marks = λ q. refl }
 
 pub space_then : (a b c : Kept) → SameSpace a b → SameSpace b c → SameSpace a c
 space_then a b c one two = record { places = two.places ∙ one.places; edges = two.edges ∙ one.edges; marks = λ q. two.marks q ∙ one.marks q }
 
-pub kept_space : (a b : Kept) → SameKept a b → SameSpace a b
-kept_space a b same = record { places = same.places; edges = same.edges; marks = same.marks }
+-- the same region, over two calls
+pub same_kept : (a b c : Kept) → SameKept a b → SameKept b c → SameKept a c
+same_kept a b c one two = record { root = two.root ∙ one.root; end = two.end ∙ one.end; space = space_then a b c one.space two.space }
 
 -- rows that are as long as they were, over two calls
 row_past : (rows : List (List Bool)) (q : ℕ) → length rows ≤ q → length (row_of rows q) ≡ 0
@@ -270,6 +225,15 @@ rows_long a b c one two first second q =
 pub same_shape : (a b c : Table) → SameShape a b → SameShape b c → SameShape a c
 same_shape a b c one two = (two.0 ∙ one.0, two.1 ∙ one.1, two.2 ∙ one.2, two.3 ∙ one.3, two.4 ∙ one.4)
 
+-- where the states and edges stayed
+pub same_by : (k other : Kept) → other.region.root ≡ k.region.root → other.region.end ≡ k.region.end → other.states ≡ k.states → other.edges ≡ k.edges → SameKept k other
+same_by k other root end states edges =
+    record { root = root; end = end; space = record { places = ap (λ v. vec_capacity v) states; edges = ap (λ rows. length rows) edges; marks = λ q. ap (λ rows. length (row_of rows q)) edges } }
+
+-- all of it, over two calls
+pub keeps_then : (p : Prepared) (w : List ℕ) (a b c : Table) (k l m : Kept) → KeepsRegion p w a b k l → KeepsRegion p w b c l m → KeepsRegion p w a c k m
+keeps_then p w a b c k l m one two = record { kept = two.kept; shape = same_shape a b c one.shape two.shape; same = same_kept k l m one.same two.same }
+
 -- a pass comes down by a place more
 pub comes_down : (p : Prepared) (w : List ℕ) (first t after : Table) (start k other : Kept) (place offset next byte : ℕ) (edge : Bool) →
     ComesDown p w first t start k (place + 1) offset → IsTable p after → AddsStates (length p.arena.expr.nodes) t after →
@@ -279,14 +243,44 @@ pub comes_down : (p : Prepared) (w : List ℕ) (first t after : Table) (start k 
     IsOffset after next → slice_get w place ≡ Some byte → (IsTrue edge ↔ (place ≡ 0)) →
     LeadsOn (nodes_of t.way p.arena.expr) t.way (state_of (length p.arena.expr.nodes) t (offset / 2 ^ t.layout.shift)) byte edge (state_of (length p.arena.expr.nodes) after (next / 2 ^ after.layout.shift)) →
     ComesDown p w first after start other place next
-comes_down p w first t after start k other place offset next byte edge down table adds root end low from edges places states to there got last leads = record {
-  passes = passes_down p w t after k other place offset next byte edge down.passes table adds root end edges places states to there got last leads;
-  shape = same_shape first t after down.shape adds.shape;
-  same = same_kept start k other down.same (record { root = root; end = end; places = places; edges = ap (λ rows. length rows) edges; marks = λ q. ap (λ rows. length (row_of rows q)) edges });
-  low = low ∙ down.low;
-  from = from ∙ down.from;
-  edges = edges ∙ down.edges;
-}
+comes_down p w first t after start k other place offset next byte edge down table adds root end low from edges places states to there got last leads =
+    let old = down.passes in
+    let m = length p.arena.expr.nodes in
+    let s = next / 2 ^ after.layout.shift in
+    let under : place < k.region.end = (let h = old.within in omega arith) in
+    let inside : place < length k.states.items = (let h = old.region.long in let g = old.region.inside in omega arith) in
+    let long : length other.states.items ≡ length k.states.items = ap (λ xs. length xs) states ∙ length-set k.states.items place s in
+    let at : KeptAt p w t.way k.region.root k.region.end place (state_of m after s) =
+    kept_down p w t.way k.region.root k.region.end place byte edge (state_of m t (offset / 2 ^ t.layout.shift)) (state_of m after s) under old.region.inside got last leads old.at in
+    let now : KeptAt p w after.way k.region.root k.region.end place (state_of m after s) = subst (λ v. KeptAt p w v k.region.root k.region.end place (state_of m after s)) (sym adds.shape.0) at in
+    let here : IsLive p w after k.region.root k.region.end (slice_set k.states.items place s) place = live_set p w after k.region.root k.region.end k.states.items place s inside there.0 now in
+    let live : (q : ℕ) → place ≤ q → q < other.region.to → IsLive p w after k.region.root k.region.end (slice_set k.states.items place s) q =
+    ⊎_elim
+    (λ (h : (after.epoch ≡ t.epoch → ⊥) × (other.region.to ≡ place + 1)). λ q from before. let e : q ≡ place = (let g = h.1 in omega arith) in subst (λ x. IsLive p w after k.region.root k.region.end (slice_set k.states.items place s) x) (sym e) here)
+    (λ (h : (after.epoch ≡ t.epoch) × (other.region.to ≡ k.region.to)). λ q from before.
+    ⊎_elim
+    (λ (lt : place < q). live_other p w after k.region.root k.region.end k.states.items place s q lt
+    (live_kept p w t after k.region.root k.region.end k.states.items q adds.shape.0 (adds.grows h.0).0 (adds.kept h.0) (old.live q (omega arith) (let g = h.1 in omega arith))))
+    (λ (ge : q ≤ place). let e : q ≡ place = omega arith in subst (λ x. IsLive p w after k.region.root k.region.end (slice_set k.states.items place s) x) (sym e) here)
+    (cases_lt place q))
+    to in
+    let above : place < other.region.to = ⊎_elim (λ (h : (after.epoch ≡ t.epoch → ⊥) × (other.region.to ≡ place + 1)). let g = h.1 in omega arith) (λ (h : (after.epoch ≡ t.epoch) × (other.region.to ≡ k.region.to)). let g = h.1 in let f = old.above in omega arith) to in
+    let within : other.region.to ≤ k.region.end = ⊎_elim (λ (h : (after.epoch ≡ t.epoch → ⊥) × (other.region.to ≡ place + 1)). let g = h.1 in omega arith) (λ (h : (after.epoch ≡ t.epoch) × (other.region.to ≡ k.region.to)). let g = h.1 in let f = old.region.within in omega arith) to in
+    record {
+      passes = record {
+        region = region_kept p w t after k other adds.shape table places long edges root end within old.region;
+        within = rw end (omega arith);
+        above = omega arith;
+        there = there;
+        at = subst (λ r. KeptAt p w after.way r other.region.end place (state_of m after s)) (sym root) (subst (λ e. KeptAt p w after.way k.region.root e place (state_of m after s)) (sym end) now);
+        live = λ q from before. rw (root, end, states) (live q from before);
+      };
+      shape = same_shape first t after down.shape adds.shape;
+      same = same_kept start k other down.same (record { root = root; end = end; space = record { places = places; edges = ap (λ rows. length rows) edges; marks = λ q. ap (λ rows. length (row_of rows q)) edges } });
+      low = low ∙ down.low;
+      from = from ∙ down.from;
+      edges = edges ∙ down.edges;
+    }
 
 -- Blocks.
 
@@ -436,13 +430,7 @@ pub marked_then : (nodes : List Node) (w : List ℕ) (r x : ℕ) (t : Starts) (a
 marked_then nodes w r x t asked from place to passed more q after before =
     ⊎_elim (λ (lt : q < place). passed q after lt) (λ (ge : place ≤ q). more q ge before) (cases_lt q place)
 
--- a node that is last in the region, at its end
-pub null_spans : (p : Prepared) (w : List ℕ) (kind : Kind) (x place : ℕ) (null : Bool) → x < length p.arena.expr.nodes → (IsTrue kind.begin ↔ (place ≡ 0)) → (IsTrue kind.end ↔ (place ≡ length w)) →
-    null ≡ null_in p.arena.expr.nodes kind x → IsTrue null ↔ At p.arena.expr.nodes w x place place
-null_spans p w kind x place null inside begins ends is =
-    subst (λ b. IsTrue b ↔ At p.arena.expr.nodes w x place place) (sym is) (null_tells false p.arena.expr kind w place (begins, ends) x inside)
-
--- and before it
+-- a node that is last in the region, before its end
 pub mark_spans : (p : Prepared) (w : List ℕ) (t : Table) (k : Kept) (x q s : ℕ) (mark : Bool) → IsKept p w t k → t.way.all_starts ≡ false → IsLastIn p.arena.expr.nodes k.region.root x → k.region.from ≤ q → q < k.region.to → s ≡ slice_index_or k.states.items q s →
     mark ≡ slice_index_or (row_of t.ends s) x false → IsTrue mark ↔ At p.arena.expr.nodes w x q k.region.end
 mark_spans p w t k x q s mark kept one last above before read is =
@@ -456,14 +444,15 @@ mark_spans p w t k x q s mark kept one last above before read is =
     (λ h. both.0 (same.0 h), λ h. same.1 (both.1 h))
 
 -- what is told of the region stays so over calls
-pub told_as : (P : ℕ → Starts → Type 0) (n : ℕ) (t after : Table) (k other : Kept) → SameShape t after → SameKept k other → P other.region.root (ends_told after.way.all_starts n other.region.end) → P k.region.root (ends_told t.way.all_starts n k.region.end)
-told_as P n t after k other shape same told =
-    subst (λ (v : Way). P k.region.root (ends_told v.all_starts n k.region.end)) shape.0
-    (subst (λ e. P k.region.root (ends_told after.way.all_starts n e)) same.end (subst (λ r. P r (ends_told after.way.all_starts n other.region.end)) same.root told))
+pub told_as : (P : ℕ → Starts → Type 0) (p : Prepared) (w : List ℕ) (t after : Table) (k other : Kept) → KeepsRegion p w t after k other → P other.region.root (ends_told after.way.all_starts (length w) other.region.end) →
+    P k.region.root (ends_told t.way.all_starts (length w) k.region.end)
+told_as P p w t after k other keeps told =
+    subst (λ (v : Way). P k.region.root (ends_told v.all_starts (length w) k.region.end)) keeps.shape.0
+    (subst (λ e. P k.region.root (ends_told after.way.all_starts (length w) e)) keeps.same.end (subst (λ r. P r (ends_told after.way.all_starts (length w) other.region.end)) keeps.same.root told))
 
 -- the same, where only the marks for its acts changed
-pub kept_same : (p : Prepared) (w : List ℕ) (t : Table) (k other : Kept) → other.region ≡ k.region → other.states ≡ k.states → other.edges ≡ k.edges → IsKept p w t k → IsKept p w t other
-kept_same p w t k other region states edges kept =
+pub keeps_same : (p : Prepared) (w : List ℕ) (t : Table) (k other : Kept) → other.region ≡ k.region → other.states ≡ k.states → other.edges ≡ k.edges → IsKept p w t k → KeepsRegion p w t t k other
+keeps_same p w t k other region states edges kept =
     let root = ap (λ r. r.root) region in
     let end = ap (λ r. r.end) region in
     let to = ap (λ r. r.to) region in
@@ -471,9 +460,13 @@ kept_same p w t k other region states edges kept =
     let from = ap (λ r. r.from) region in
     let shape : SameShape t t = (refl, refl, refl, refl, refl) in
     record {
-      region = region_kept p w t t k other shape kept.region.table (ap (λ v. vec_capacity v) states) (ap (λ v. length v.items) states) edges root end (rw to kept.region.within) kept.region;
-      low = (let h = kept.low in omega (arith, h, low, from));
-      from = (let h = kept.from in omega (arith, h, from, end));
-      live = λ q above before. rw (root, end, states) (kept.live q (omega (arith, from, above)) (omega (arith, to, before)));
-      edges = edges_same p w t t k other k.region.low other.region.low shape edges root end (omega (arith, low)) kept.edges;
+      kept = record {
+        region = region_kept p w t t k other shape kept.region.table (ap (λ v. vec_capacity v) states) (ap (λ v. length v.items) states) edges root end (rw to kept.region.within) kept.region;
+        low = (let h = kept.low in omega (arith, h, low, from));
+        from = (let h = kept.from in omega (arith, h, from, end));
+        live = λ q above before. rw (root, end, states) (kept.live q (omega (arith, from, above)) (omega (arith, to, before)));
+        edges = edges_same p w t t k other k.region.low other.region.low shape edges root end (omega (arith, low)) kept.edges;
+      };
+      shape = shape;
+      same = same_by k other root end states edges;
     }

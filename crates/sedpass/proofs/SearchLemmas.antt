@@ -104,9 +104,9 @@ module _ (p : Prepared) (w : List ℕ) (arena : IsArena p.arena.expr.nodes) wher
       (subst (Matches (expression_tree p.arena.expr) w start) end span, most))
       (cases_lt start stop)
 
--- the ends that a kept pass over all places tells of
-pub ends_all : (b : Bool) (n end : ℕ) → IsTrue b → ends_told b n end ≡ starts_to 0 n
-ends_all b n end is = ap (λ v. ends_told v n end) is
+-- what a kept pass over all places tells
+told_whole : (P : ℕ → Starts → Type 0) (p : Prepared) (n : ℕ) (b : Bool) (r end : ℕ) → IsTrue b → r ≡ p.root → P r (ends_told b n end) → P p.root (starts_to 0 n)
+told_whole P p n b r end all_starts root told = subst (λ v. P p.root (ends_told v n end)) all_starts (subst (λ v. P v (ends_told b n end)) root told)
 
 -- no match is found where the root is marked nowhere, nor null at the end
 pub kept_none : (p : Prepared) (w : List ℕ) (b : Bool) (r end from start : ℕ) (begins : Bool) → IsArena p.arena.expr.nodes → IsTrue b → r ≡ p.root → start ≤ length w →
@@ -114,9 +114,7 @@ pub kept_none : (p : Prepared) (w : List ℕ) (b : Bool) (r end from start : ℕ
     NotFound (expression_tree p.arena.expr) w from
 kept_none p w b r end from start begins arena all_starts root low none inside null is =
     let at : start ≡ length w = ⊎_elim (λ (lt : start < length w). absurd (true≢false (sym (inside lt) ∙ is))) (λ (ge : length w ≤ start). omega arith) (cases_lt start (length w)) in
-    let marked : AllMarked p.arena.expr.nodes w p.root (starts_to 0 (length w)) p.root false from start = subst (λ t. AllMarked p.arena.expr.nodes w p.root t p.root false from start) (ends_all b (length w) end all_starts)
-    (subst (λ v. AllMarked p.arena.expr.nodes w v (ends_told b (length w) end) p.root false from start) root none) in
-    let before = none_marked p w arena from start low marked in
+    let before = none_marked p w arena from start low (told_whole (λ v t. AllMarked p.arena.expr.nodes w v t p.root false from start) p (length w) b r end all_starts root none) in
     none_kept p w arena from (subst (NoneIn (expression_tree p.arena.expr) w from) at before)
     (λ span. absurd (true≢false (sym ((null at).1 (subst (λ v. At p.arena.expr.nodes w p.root v v) (sym at) span)) ∙ is)))
 
@@ -125,26 +123,17 @@ pub kept_found : (p : Prepared) (w : List ℕ) (b : Bool) (r end : ℕ) (b' : Bo
     AllMarked p.arena.expr.nodes w r (ends_told b (length w) end) p.root false from start → ((k : ℕ) × Matches (expression_tree p.arena.expr) w start k) →
     CeasesAt p.arena.expr.nodes w r' (ends_told b' (length w) end') p.root start stop → IsLeftmostLongest (expression_tree p.arena.expr) w from start stop
 kept_found p w b r end b' r' end' from start stop arena all_starts root all_starts' root' after low none begins ceases =
-    let marked : AllMarked p.arena.expr.nodes w p.root (starts_to 0 (length w)) p.root false from start = subst (λ t. AllMarked p.arena.expr.nodes w p.root t p.root false from start) (ends_all b (length w) end all_starts)
-    (subst (λ v. AllMarked p.arena.expr.nodes w v (ends_told b (length w) end) p.root false from start) root none) in
-    let met : CeasesAt p.arena.expr.nodes w p.root (starts_to 0 (length w)) p.root start stop = subst (λ t. CeasesAt p.arena.expr.nodes w p.root t p.root start stop) (ends_all b' (length w) end' all_starts')
-    (subst (λ v. CeasesAt p.arena.expr.nodes w v (ends_told b' (length w) end') p.root start stop) root' ceases) in
+    let marked = told_whole (λ v t. AllMarked p.arena.expr.nodes w v t p.root false from start) p (length w) b r end all_starts root none in
+    let met = told_whole (λ v t. CeasesAt p.arena.expr.nodes w v t p.root start stop) p (length w) b' r' end' all_starts' root' ceases in
     found_at p.arena.expr w from start stop after (none_marked p w arena from start low marked) (longest_kept p w arena start stop begins.0 low begins.1 met)
 
--- one begins where the root is marked before the end
-pub begins_marked : (p : Prepared) (w : List ℕ) (b : Bool) (r end start : ℕ) → IsArena p.arena.expr.nodes → IsTrue b → r ≡ p.root → start ≤ length w →
-    ReachesEnd p.arena.expr.nodes w r (ends_told b (length w) end) p.root start → (k : ℕ) × Matches (expression_tree p.arena.expr) w start k
-begins_marked p w b r end start arena all_starts root low reaches =
-    (begins_at p w arena start low).0 (subst (λ t. ReachesEnd p.arena.expr.nodes w p.root t p.root start) (ends_all b (length w) end all_starts)
-    (subst (λ v. ReachesEnd p.arena.expr.nodes w v (ends_told b (length w) end) p.root start) root reaches))
-
--- or, at the end, where it is null
+-- one begins where the root is marked before the end, or, at the end, where it is null
 pub begins_some : (p : Prepared) (w : List ℕ) (b : Bool) (r end start : ℕ) (begins : Bool) → IsArena p.arena.expr.nodes → IsTrue b → r ≡ p.root → end ≡ length w → start ≤ length w →
     (start < end → IsTrue true ↔ ReachesEnd p.arena.expr.nodes w r (ends_told b (length w) end) p.root start) → (start ≡ length w → IsTrue begins ↔ At p.arena.expr.nodes w p.root start start) → IsTrue begins →
     (k : ℕ) × Matches (expression_tree p.arena.expr) w start k
 begins_some p w b r end start begins arena all_starts root whole low found null is =
     ⊎_elim
-    (λ (lt : start < end). begins_marked p w b r end start arena all_starts root low ((found lt).0 refl))
+    (λ (lt : start < end). (begins_at p w arena start low).0 (told_whole (λ v t. ReachesEnd p.arena.expr.nodes w v t p.root start) p (length w) b r end all_starts root ((found lt).0 refl)))
     (λ (ge : end ≤ start). let at : start ≡ length w = omega arith in (start, (root_spans p w start start).0 ((null at).0 is)))
     (cases_lt start end)
 
@@ -171,55 +160,43 @@ none_cost m n from start s0 s1 s2 o0 o1 some low within seek null =
     let most = mul-le-mul_left d some in
     omega (arith, most, seek, null)
 
+-- the places that trials went over, as those that are left for them
+tried_left : (m n tried tried' s t a b : ℕ) → tried ≤ n → tried' ≤ 2 * n + 1 → t + (40 * m * tried + a) ≤ s + (40 * m * tried' + b) → t + (40 * m * (2 * n + 1 - tried') + a) ≤ s + (40 * m * (2 * n + 1 - tried) + b)
+tried_left m n tried tried' s t a b few few' pays =
+    let u = 2 * n + 1 - tried in
+    let v = 2 * n + 1 - tried' in
+    let e1 : tried + u ≡ 2 * n + 1 = omega arith in
+    let e2 : tried' + v ≡ 2 * n + 1 = omega arith in
+    let a1 : 40 * m * (tried + u) ≡ 40 * m * (2 * n + 1) = ap (λ x. 40 * m * x) e1 in
+    let a2 : 40 * m * (tried' + v) ≡ 40 * m * (2 * n + 1) = ap (λ x. 40 * m * x) e2 in
+    omega (arith, pays, a1, a2)
+
 -- a hit
 pub hit_cost : (m n from i j tried tried' s t : ℕ) → 1 ≤ m → from ≤ i → i ≤ j → j ≤ n → tried ≤ n → tried' ≤ 2 * n + 1 → t + (40 * m * tried + from) ≤ s + (40 * m * tried' + (i + 1 + 40 * m * (j + 1 - i))) →
     t + (40 * m * (2 * n + 1 - tried') + 142 * m * (n - j)) ≤ s + (40 * m * (2 * n + 1 - tried) + 142 * m * (n - from) + 42 * m)
 hit_cost m n from i j tried tried' s t some low on within few few' pays =
     let d1 = i - from in
     let d2 = j - i in
-    let d3 = n - j in
-    let u = 2 * n + 1 - tried in
-    let v = 2 * n + 1 - tried' in
-    let e1 : n - from ≡ d1 + d2 + d3 = omega arith in
+    let e1 : n - from ≡ d1 + d2 + (n - j) = omega arith in
     let e2 : j + 1 - i ≡ d2 + 1 = omega arith in
-    let e3 : tried + u ≡ 2 * n + 1 = omega arith in
-    let e4 : tried' + v ≡ 2 * n + 1 = omega arith in
-    let a1 : 142 * m * (n - from) ≡ 142 * m * (d1 + d2 + d3) = ap (λ x. 142 * m * x) e1 in
+    let a1 : 142 * m * (n - from) ≡ 142 * m * (d1 + d2 + (n - j)) = ap (λ x. 142 * m * x) e1 in
     let a2 : 40 * m * (j + 1 - i) ≡ 40 * m * (d2 + 1) = ap (λ x. 40 * m * x) e2 in
-    let a3 : 40 * m * (tried + u) ≡ 40 * m * (2 * n + 1) = ap (λ x. 40 * m * x) e3 in
-    let a4 : 40 * m * (tried' + v) ≡ 40 * m * (2 * n + 1) = ap (λ x. 40 * m * x) e4 in
-    let most = mul-le-mul_left d1 some in
-    omega (arith, most, a1, a2, a3, a4)
+    let left = tried_left m n tried tried' s t from (i + 1 + 40 * m * (j + 1 - i)) few few' pays in
+    omega (arith, left, mul-le-mul_left d1 some, a1, a2)
 
 -- no match
 pub nothing_cost : (m n from tried tried' s t : ℕ) → 1 ≤ m → from ≤ n → tried ≤ n → tried' ≤ 2 * n + 1 → t + (40 * m * tried + from) ≤ s + (40 * m * tried' + (n + 1)) →
     t + 0 ≤ s + (40 * m * (2 * n + 1 - tried) + 142 * m * (n - from) + 42 * m)
-nothing_cost m n from tried tried' s t some low few few' pays =
-    let d = n - from in
-    let u = 2 * n + 1 - tried in
-    let v = 2 * n + 1 - tried' in
-    let e3 : tried + u ≡ 2 * n + 1 = omega arith in
-    let e4 : tried' + v ≡ 2 * n + 1 = omega arith in
-    let a3 : 40 * m * (tried + u) ≡ 40 * m * (2 * n + 1) = ap (λ x. 40 * m * x) e3 in
-    let a4 : 40 * m * (tried' + v) ≡ 40 * m * (2 * n + 1) = ap (λ x. 40 * m * x) e4 in
-    let most = mul-le-mul_left d some in
-    omega (arith, most, a3, a4)
+nothing_cost m n from tried tried' s t some low few few' pays = omega (arith, tried_left m n tried tried' s t from (n + 1) few few' pays, mul-le-mul_left (n - from) some)
 
 -- a pass from the end is left to do after trials
 tired_cost : (m n from k tried tried' s t : ℕ) → 1 ≤ m → from < k → k ≤ n → tried ≤ n → tried' ≤ 2 * n + 1 → t + (40 * m * tried + from) ≤ s + (40 * m * tried' + k) →
     t + (40 * m * (2 * n + 1 - tried') + 142 * m * (n - k)) ≤ s + (40 * m * (2 * n + 1 - tried) + 142 * m * (n - from))
 tired_cost m n from k tried tried' s t some low within few few' pays =
     let d = k - from in
-    let u = 2 * n + 1 - tried in
-    let v = 2 * n + 1 - tried' in
-    let e1 : n - from ≡ d + (n - k) = omega arith in
-    let e3 : tried + u ≡ 2 * n + 1 = omega arith in
-    let e4 : tried' + v ≡ 2 * n + 1 = omega arith in
-    let a1 : 142 * m * (n - from) ≡ 142 * m * (d + (n - k)) = ap (λ x. 142 * m * x) e1 in
-    let a3 : 40 * m * (tried + u) ≡ 40 * m * (2 * n + 1) = ap (λ x. 40 * m * x) e3 in
-    let a4 : 40 * m * (tried' + v) ≡ 40 * m * (2 * n + 1) = ap (λ x. 40 * m * x) e4 in
-    let most = mul-le-mul_left d some in
-    omega (arith, most, a1, a3, a4)
+    let e : n - from ≡ d + (n - k) = omega arith in
+    let a : 142 * m * (n - from) ≡ 142 * m * (d + (n - k)) = ap (λ x. 142 * m * x) e in
+    omega (arith, tried_left m n tried tried' s t from k few few' pays, mul-le-mul_left d some, a)
 
 -- and of one search, whatever was found out before it
 few_tried : (m n x tried z : ℕ) → z ≤ max tried (n / 8) + x → 40 * m * z ≤ 40 * m * tried + 5 * (m * n) + 40 * m * x
@@ -332,15 +309,6 @@ pub looks_tried : (from start here place s a b c : ℕ) → TakesAtLeast s a (st
     TakesAtLeast s c n
 looks_tried from start here place s a b c before first pass n low =
     least_both s a c (start - from) (here - start + 2 * (place - here) + 1) n before (least_both a b c (here - start) (2 * (place - here) + 1) (here - start + 2 * (place - here) + 1) first pass (omega arith)) low
-
--- a table of passes ahead is one still
-pub ahead_still : (p : Prepared) (a b : Table) → IsAhead p a → IsTable p b → SameShape a b → IsAhead p b
-ahead_still p a b is table shape = record {
-  table = table;
-  forwards = ap (λ v. v.mirrored) shape.0 ∙ is.forwards;
-  single = ap (λ v. v.all_starts) shape.0 ∙ is.single;
-  brief = ap (λ v. v.keeps) shape.0 ∙ is.brief;
-}
 
 -- the match from a place on, where none begins before another
 pub later_answer : (e : Tree) (w : List ℕ) (from k : ℕ) (r : Option (ℕ × ℕ)) → from ≤ k → NoneIn e w from k → SpanAnswer e w k r → SpanAnswer e w from r

@@ -22,7 +22,7 @@ ghost use Rattle.sedpass.specs.declared.kept.Region.{Region};
 
 use crate::group_set::GroupSet;
 use crate::kept::{Kept, Subject};
-use crate::nodes::{Facts, Prepared, kind_of};
+use crate::nodes::{Facts, Prepared};
 use crate::rows::Way;
 use crate::table::Table;
 use sedre::{Node, NodeId, Steps};
@@ -208,10 +208,7 @@ fn has_empty_copy(
     ensures copy { IsTrue result ↔ (IsTrue first × At (nodes_in subject.entry) (text_in subject.entry) part place place) }
     ensures cost { Takes steps.old steps.new 1 }
 {
-    first
-        && subject
-            .prepared
-            .null_at(part, kind_of(place, subject.text.len()), steps)
+    first && subject.is_null(part, place, steps)
 }
 
 /// Where the last copy of a repetition begins, if it takes one.

@@ -14,7 +14,6 @@ ghost use Rattle.sedpass.specs.Kept.{IsKept, SameSpace};
 ghost use Rattle.sedpass.specs.Search.{IsNextMatch, LooksFrom, MaySearch, Searched, Serves, TablesStay, TrialsMade, owed_kept, owed_search, owed_after, search_cost};
 
 use crate::kept::{Kept, Subject};
-use crate::nodes::kind_of;
 use crate::rows::Work;
 use crate::table::Table;
 use sedre::Steps;
@@ -88,9 +87,7 @@ fn begins_there(subject: Subject, start: usize, steps: &mut Steps) -> bool
         At subject.entry.prepared.now.arena.expr.nodes subject.entry.text.now subject.entry.prepared.now.root start start }
     ensures cost { Takes steps.old steps.new 1 }
 {
-    let length = subject.text.len();
-    let prepared = subject.prepared;
-    start < length || prepared.null_at(prepared.root, kind_of(start, length), steps)
+    start < subject.text.len() || subject.is_null(subject.prepared.root, start, steps)
 }
 
 /// The match from a place on, by the pass from the text's end, which was begun.

@@ -64,10 +64,10 @@ copies-preserved c =
     let cut = c.cut-end in
     let ceases = rw c.index-part.ensures at cut.ensures.ceases in
     let next = copy_ceases s c.copies.tables c.copies.kept here c.args.a c.args.first c.copies.end cut.result (record { stands = c.requires.stands; ends = inv.ends; desk = inv.desk.desk }) inv.rest c.copies-test.true ceases in
-    let desk = desk_ahead s c.copies.tables cut.new.table cut.new.ahead c.copies.kept cut.new.self inv.desk.desk cut.ensures.kept cut.ensures.ahead cut.ensures.shape.0 cut.ensures.shape.1 cut.ensures.same in
+    let desk = desk_ahead s c.copies.tables cut.new.table cut.new.ahead c.copies.kept cut.new.self inv.desk.desk cut.ensures.keeps cut.ensures.ahead cut.ensures.shape in
     record {
       desk = desk_then s c.args.tables.now c.copies.tables _ c.args.kept.now c.copies.kept cut.new.self inv.desk desk;
-      ends = ends_still s c.copies.kept cut.new.self here cut.ensures.same inv.ends;
+      ends = ends_still s c.copies.kept cut.new.self here cut.ensures.keeps.same inv.ends;
       low = omega (arith, inv.low, next.after);
       within = next.within;
       rest = next.rest;

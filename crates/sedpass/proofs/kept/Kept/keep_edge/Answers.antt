@@ -27,7 +27,7 @@ pub returns-clause-same : goal.returns-clause-same
 returns-clause-same c =
     let one = c.store.ensures in
     let two = c.store-2.ensures in
-    record { root = refl; end = refl; places = refl; edges = two.len ∙ one.len; marks = rows_long c.args.self.now.edges c.store.new.self c.store-2.new.self one.len two.len one.lens two.lens }
+    record { root = refl; end = refl; space = record { places = refl; edges = two.len ∙ one.len; marks = rows_long c.args.self.now.edges c.store.new.self c.store-2.new.self one.len two.len one.lens two.lens } }
 
 pub returns-then-place-self-clause-edges : goal.returns-then-place-self-clause-edges
 returns-then-place-self-clause-edges c =

@@ -1,6 +1,6 @@
 use Rattle.std.proofs.Common.{◌-◌, ◌*◌, ◌/◌, refl, ap, ◌∙◌, arith}
 use Rattle.sedpass.specs.Kept.{EdgesFrom}
-use Rattle.sedpass.proofs.KeptLemmas.{block_cost, block_right, edges_same, kept_passed, make_cost, passes_first, same_kept, same_shape}
+use Rattle.sedpass.proofs.KeptLemmas.{block_cost, block_right, edges_same, kept_passed, make_cost, passes_first, same_kept, same_shape, same_by}
 use Rattle.sedtext.proofs.CountLemmas.{least_none, least_both, least_since}
 use Rattle.sedpass.proofs.kept.Kept.make.Goals as goal
 
@@ -17,7 +17,7 @@ loop-place-init c =
       edges = λ b above before. absurd (omega (arith, above, before, end_is));
       right = λ some before. absurd (omega arith);
       shape = (refl, refl, refl, refl, refl);
-      same = record { root = refl; end = refl; places = refl; edges = refl; marks = λ q. refl };
+      same = record { root = refl; end = refl; space = record { places = refl; edges = refl; marks = λ q. refl } };
       to = λ before. absurd (omega arith);
       grows = omega arith;
       cost = omega arith;
@@ -56,14 +56,20 @@ loop-place-preserved c =
       counts = least_both _ c.loop-place.steps _ _ (2 * (c.loop-place.place - least)) _ before.counts (least_since _ c.keep_edge.new.steps _ _ edge.cost.0 now.counts) (let h = before.below in omega (arith, h));
     }
 
-pub returns-clause-kept : goal.returns-clause-kept
-returns-clause-kept c =
+pub returns-clause-keeps : goal.returns-clause-keeps
+returns-clause-keeps c =
     let p = c.args.subject.prepared.now in
     let w = c.args.subject.text.now in
     let last = c.loop-place.invariant in
     let edges : EdgesFrom p w c.loop-place.table c.loop-place.self c.args.low =
     edges_same p w c.loop-place.table c.loop-place.table c.loop-place.self c.loop-place.self c.loop-place.place c.args.low (refl, refl, refl, refl, refl) refl refl refl (omega arith) last.edges in
-    kept_passed p w c.loop-place.table c.loop-place.self _ c.loop-place.place c.loop-place.offset last.passes edges (omega arith) (omega arith) refl refl refl refl refl
+    let first = c.edge_state-offset.ensures in
+    record {
+      kept = kept_passed p w c.loop-place.table c.loop-place.self _ c.loop-place.place c.loop-place.offset last.passes edges (omega arith) (omega arith) refl refl refl refl refl;
+      shape = same_shape c.args.table.now c.edge_state-offset.new.table c.loop-place.table first.adds.shape last.shape;
+      same = same_kept c.args.self.now c.loop-place.self _
+          (same_kept c.args.self.now _ c.loop-place.self (same_by c.args.self.now _ (ap (λ r. r.root) first.region) (ap (λ r. r.end) first.region) first.states first.edges) last.same) (same_by c.loop-place.self _ refl refl refl refl);
+    }
 
 pub returns-clause-cost : goal.returns-clause-cost
 returns-clause-cost c =

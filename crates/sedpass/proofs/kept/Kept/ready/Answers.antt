@@ -17,7 +17,7 @@ returns-clause-cost c =
       | then-place-self w ↦
           let now = w.make.ensures in
           owed_left m old place s w.make.new.steps _ w.make.new.self _ w.self-is w.steps-is
-          (owed_made m old w.make.new.self.region place s w.make.new.steps w.if-place-self.true c.requires.place now.low now.from now.to now.same.end now.cost.0 now.cost.1)
+          (owed_made m old w.make.new.self.region place s w.make.new.steps w.if-place-self.true c.requires.place now.low now.from now.to now.keeps.same.end now.cost.0 now.cost.1)
       | else-place-self+then-place-self-2 w ↦
           let out : (place < old.from) ⊎ (old.to ≤ place) = elim w.then-place-self-2.branch [
             | then-place-self-2-via-then-place-self-2 v ↦ inl v.if-place-self-2.true
@@ -27,7 +27,7 @@ returns-clause-cost c =
           let after : place < place / width * width + width = lt-div-mul-add (omega (arith, room)) in
           let to : place < w.remake.new.self.region.to = (let h = c.requires.place in let g = now.to in omega (arith, h, g, after)) in
           owed_left m old place s w.remake.new.steps _ w.remake.new.self _ w.self-is w.steps-is
-          (owed_again m old w.remake.new.self.region place s w.remake.new.steps w.if-place-self.false out now.low now.same.end now.from to now.cost)
+          (owed_again m old w.remake.new.self.region place s w.remake.new.steps w.if-place-self.false out now.low now.keeps.same.end now.from to now.cost)
       | else-place-self+else-place-self-2+else-self-place w ↦
           owed_left m old place s s _ c.args.self.now _ w.self-is w.steps-is (omega arith, omega arith)
     ]

@@ -5,7 +5,7 @@ use Rattle.sedpass.specs.Table.{BeginsIn, Names}
 use Rattle.sedpass.specs.Forwards.{Arrives}
 use Rattle.sedpass.specs.declared.rows.Way.{Way}
 use Rattle.sedpass.proofs.TableLemmas.{names_map}
-use Rattle.sedpass.proofs.ForwardLemmas.{arrives_first, end_below, none_before, pass_end, run_longest, run_found, run_passes}
+use Rattle.sedpass.proofs.ForwardLemmas.{arrives_first, end_below, none_before, run_longest, run_found, run_passes}
 use Rattle.sedtext.proofs.CountLemmas.{least_less, least_both}
 use Rattle.sedpass.proofs.table.Table.run.Goals as goal
 
@@ -56,45 +56,25 @@ loop-at-preserved c =
     }
 
 pub returns-else-at-len-clause-longest : goal.returns-else-at-len-clause-longest
-returns-else-at-len-clause-longest c single =
-    let i = c.loop-at.invariant in
-    run_longest c.args.prepared.now c.args.self.now.way c.loop-at.self.way c.args.text.now c.args.from c.loop-at.at.end i.shape.0 c.requires.forwards
-    (pass_end c.args.prepared.now c.loop-at.self c.args.text.now c.args.from c.loop-at.at c.requires.from i.passes (inr (omega (arith, c.if-at-len.false, c.len-in-loop-at.ensures.is)))) single
+returns-else-at-len-clause-longest c single = let i = c.loop-at.invariant in run_longest c.args.prepared.now c.args.self.now.way c.loop-at.self c.args.text.now c.args.from c.loop-at.at i.shape.0 c.requires.forwards c.requires.from i.passes (inr (omega (arith, c.if-at-len.false, c.len-in-loop-at.ensures.is))) single
 
 pub returns-else-at-len-clause-found : goal.returns-else-at-len-clause-found
-returns-else-at-len-clause-found c all_starts =
-    let i = c.loop-at.invariant in
-    run_found c.args.prepared.now c.args.self.now.way c.loop-at.self.way c.args.text.now c.args.from c.loop-at.at.end i.shape.0 c.requires.forwards
-    (pass_end c.args.prepared.now c.loop-at.self c.args.text.now c.args.from c.loop-at.at c.requires.from i.passes (inr (omega (arith, c.if-at-len.false, c.len-in-loop-at.ensures.is)))) c.requires.from all_starts
-
-pub returns-after-loop-at-clause-longest : goal.returns-after-loop-at-clause-longest
-returns-after-loop-at-clause-longest c single =
-    let i = c.loop-at.invariant in
-    run_longest c.args.prepared.now c.args.self.now.way c.loop-at.self.way c.args.text.now c.args.from c.loop-at.at.end i.shape.0 c.requires.forwards
-    (pass_end c.args.prepared.now c.loop-at.self c.args.text.now c.args.from c.loop-at.at c.requires.from i.passes (inl (not-false c.loop-at.at.over c.loop-at-test.false))) single
-
-pub returns-after-loop-at-clause-found : goal.returns-after-loop-at-clause-found
-returns-after-loop-at-clause-found c all_starts =
-    let i = c.loop-at.invariant in
-    run_found c.args.prepared.now c.args.self.now.way c.loop-at.self.way c.args.text.now c.args.from c.loop-at.at.end i.shape.0 c.requires.forwards
-    (pass_end c.args.prepared.now c.loop-at.self c.args.text.now c.args.from c.loop-at.at c.requires.from i.passes (inl (not-false c.loop-at.at.over c.loop-at-test.false))) c.requires.from all_starts
+returns-else-at-len-clause-found c all_starts = let i = c.loop-at.invariant in run_found c.args.prepared.now c.args.self.now.way c.loop-at.self c.args.text.now c.args.from c.loop-at.at i.shape.0 c.requires.forwards c.requires.from i.passes (inr (omega (arith, c.if-at-len.false, c.len-in-loop-at.ensures.is))) all_starts
 
 pub returns-else-at-len-clause-reached : goal.returns-else-at-len-clause-reached
 returns-else-at-len-clause-reached c = end_below _ _ _ _ c.loop-at.at.place c.loop-at.at.end c.loop-at.invariant.passes.last
 
+pub returns-else-at-len-clause-passes : goal.returns-else-at-len-clause-passes
+returns-else-at-len-clause-passes c = let i = c.loop-at.invariant in run_passes c.args.prepared.now c.args.self.now.way c.loop-at.self c.args.text.now c.args.from c.loop-at.at i.shape.0 c.requires.forwards c.requires.from i.passes (inr (omega (arith, c.if-at-len.false, c.len-in-loop-at.ensures.is))) c.args.steps.now c.loop-at.steps i.counts
+
+pub returns-after-loop-at-clause-longest : goal.returns-after-loop-at-clause-longest
+returns-after-loop-at-clause-longest c single = let i = c.loop-at.invariant in run_longest c.args.prepared.now c.args.self.now.way c.loop-at.self c.args.text.now c.args.from c.loop-at.at i.shape.0 c.requires.forwards c.requires.from i.passes (inl (not-false c.loop-at.at.over c.loop-at-test.false)) single
+
+pub returns-after-loop-at-clause-found : goal.returns-after-loop-at-clause-found
+returns-after-loop-at-clause-found c all_starts = let i = c.loop-at.invariant in run_found c.args.prepared.now c.args.self.now.way c.loop-at.self c.args.text.now c.args.from c.loop-at.at i.shape.0 c.requires.forwards c.requires.from i.passes (inl (not-false c.loop-at.at.over c.loop-at-test.false)) all_starts
+
 pub returns-after-loop-at-clause-reached : goal.returns-after-loop-at-clause-reached
 returns-after-loop-at-clause-reached c = end_below _ _ _ _ c.loop-at.at.place c.loop-at.at.end c.loop-at.invariant.passes.last
 
-pub returns-else-at-len-clause-passes : goal.returns-else-at-len-clause-passes
-returns-else-at-len-clause-passes c =
-    let i = c.loop-at.invariant in
-    run_passes c.args.prepared.now c.args.self.now.way c.loop-at.self.way c.args.text.now c.args.from c.loop-at.at.end i.shape.0 c.requires.forwards
-    (pass_end c.args.prepared.now c.loop-at.self c.args.text.now c.args.from c.loop-at.at c.requires.from i.passes (inr (omega (arith, c.if-at-len.false, c.len-in-loop-at.ensures.is))))
-    c.args.steps.now c.loop-at.steps c.loop-at.at.place c.requires.from (end_below _ _ _ _ c.loop-at.at.place c.loop-at.at.end i.passes.last) i.counts
-
 pub returns-after-loop-at-clause-passes : goal.returns-after-loop-at-clause-passes
-returns-after-loop-at-clause-passes c =
-    let i = c.loop-at.invariant in
-    run_passes c.args.prepared.now c.args.self.now.way c.loop-at.self.way c.args.text.now c.args.from c.loop-at.at.end i.shape.0 c.requires.forwards
-    (pass_end c.args.prepared.now c.loop-at.self c.args.text.now c.args.from c.loop-at.at c.requires.from i.passes (inl (not-false c.loop-at.at.over c.loop-at-test.false)))
-    c.args.steps.now c.loop-at.steps c.loop-at.at.place c.requires.from (end_below _ _ _ _ c.loop-at.at.place c.loop-at.at.end i.passes.last) i.counts
+returns-after-loop-at-clause-passes c = let i = c.loop-at.invariant in run_passes c.args.prepared.now c.args.self.now.way c.loop-at.self c.args.text.now c.args.from c.loop-at.at i.shape.0 c.requires.forwards c.requires.from i.passes (inl (not-false c.loop-at.at.over c.loop-at-test.false)) c.args.steps.now c.loop-at.steps i.counts
