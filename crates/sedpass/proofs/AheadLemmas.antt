@@ -17,21 +17,19 @@ use Rattle.sedpass.specs.declared.nodes.Prepared.{Prepared}
 use Rattle.sedpass.specs.declared.table.Table.{Table}
 use Rattle.sedpass.proofs.KeptLemmas.{kept_meets, kept_read}
 use Rattle.sedpass.proofs.MeetingLemmas.{meets_early}
+use Rattle.sedtext.proofs.MatchingLemmas.{both-iff}
 
 -- Where they meet.
 
-bit_in : (m : ℕ) (marks : List Bool) (c : ℕ) → c < m → IsTrue (slice_index_or marks c false) → IsTrue (bits m marks c)
-bit_in m marks c inside set = and_from (nat_lt c m) (slice_index_or marks c false) (lt-ltb c m inside) set
-
-bit_out : (m : ℕ) (marks : List Bool) (c : ℕ) → IsTrue (bits m marks c) → (c < m) × IsTrue (slice_index_or marks c false)
-bit_out m marks c set = let both = and_parts (nat_lt c m) (slice_index_or marks c false) set in (ltb-true c m both.0, both.1)
+bit_tells : (m : ℕ) (marks : List Bool) (c : ℕ) → IsTrue (bits m marks c) ↔ ((c < m) × IsTrue (slice_index_or marks c false))
+bit_tells m marks c = both-iff (nat_lt c m) (slice_index_or marks c false) (c < m) (IsTrue (slice_index_or marks c false)) (ltb-true c m, lt-ltb c m) (λ h. h, λ h. h)
 
 -- two rows tell whether they have a mark in common
 bits_meet : (m : ℕ) (front behind : List Bool) (met : Bool) → (IsTrue met ↔ ((c : ℕ) × (c < m) × IsTrue (slice_index_or front c false) × IsTrue (slice_index_or behind c false))) →
     IsTrue met ↔ ((c : ℕ) × IsTrue (bits m front c) × IsTrue (bits m behind c))
 bits_meet m front behind met tells = (
-  λ h. let there = tells.0 h in (there.0, bit_in m front there.0 there.1 there.2, bit_in m behind there.0 there.1 there.3),
-  λ h. let one = bit_out m front h.0 h.1 in let two = bit_out m behind h.0 h.2 in tells.1 (h.0, one.0, one.1, two.1),
+  λ h. let there = tells.0 h in (there.0, (bit_tells m front there.0).1 (there.1, there.2), (bit_tells m behind there.0).1 (there.1, there.3)),
+  λ h. let one = (bit_tells m front h.0).0 h.1 in tells.1 (h.0, one.0, one.1, ((bit_tells m behind h.0).0 h.2).1),
 )
 
 -- and so whether the passes meet at the place, as its state is read

@@ -71,10 +71,6 @@ none_due nodes x facts due spans is whole apart k has = elim (cases_Bool (holds 
     facts_groups : holds due k ≡ true → holds facts.groups k ≡ true
     facts_groups due_is = is.groups k ∙ and_from (reported k) (has_group (tree_at nodes x) k) (due_reported due k whole due_is) has
 
--- what a test denies
-pub not_met : (b : Bool) (P : Type 0) → b ≡ false → (IsTrue b ↔ P) → P → ⊥
-not_met b P is tells p = true≢false (sym (tells.1 p) ∙ is)
-
 -- what is due and is not taken is due still
 still_due : (b r x : Bool) (v : Option (ℕ × ℕ)) → (b ≡ true → r ≡ true) → (b && not (r && x)) ≡ left b (deed x v)
 still_due false r true v told = refl
@@ -313,12 +309,6 @@ desk_ahead s t inside ahead old new desk keeps table same = record {
 -- passes for any node may begin
 pub may_begin : (s : Subject) (tables : GroupTables) (x : ℕ) → tables.inside.way.all_starts ≡ false → x < length (nodes_in s) → MayBegin s.prepared.now tables.inside.way x
 may_begin s tables x one_end inside = (inside, λ all_starts. absurd (true≢false (sym all_starts ∙ one_end)))
-
--- Looks at least.
-
-pub least_no_byte : (s t i j : ℕ) → s ≤ t → j ≤ i → TakesAtLeast s t (j - i)
-unfolding TakesAtLeast
-least_no_byte s t i j up none = omega (arith, up, none)
 
 -- Costs.
 

@@ -97,9 +97,6 @@ null_anywhere true e kind same w p first last there c low =
 -- trees are ranges
 
 module _ (nodes : List Node) (groups : ℕ) (expr : IsExpr nodes groups) where
-  pub node_size : (x : ℕ) (node : Node) → slice_get nodes x ≡ Some node → size (tree_at nodes x) ≡ size (tree_of (tree_at nodes) node)
-  node_size x node is = ap size (tree_at-node nodes x node expr.arena is)
-
   abbrev pub RangesBelow : ℕ → Type 0
   RangesBelow n = (y low : ℕ) → y < n → low + size (tree_at nodes y) ≡ y + 1 → IsNodeRange nodes low y
 
@@ -144,7 +141,7 @@ module _ (nodes : List Node) (groups : ℕ) (expr : IsExpr nodes groups) where
       let here = node_at nodes y (omega arith) in
       let same : y ≡ n = omega arith in
       let before : RangesBelow y = subst RangesBelow (sym same) (ranges_below n (omega arith)) in
-      range_by y low here.0 here.1 (expr.ranges y here.0 here.1) before (omega (arith, long, node_size y here.0 here.1)))
+      range_by y low here.0 here.1 (expr.ranges y here.0 here.1) before (omega (arith, long, ap size (tree_at-node nodes y here.0 expr.arena here.1))))
       (cases_lt y n)
 
   -- the nodes in x are those from low to x

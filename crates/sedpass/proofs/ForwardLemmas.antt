@@ -89,23 +89,17 @@ pub low_code : (b : Bool) (o v : ℕ) → v ≡ code_of b o → v < 2147483648 �
 low_code true o v is low = refl
 low_code false o v is low = absurd (omega arith)
 
-no_end_by : (keeps all_starts ends dead : Bool) → keeps ≡ false → ((not keeps && (ends || (dead && not all_starts))) || (keeps && dead)) ≡ false → ends ≡ false
-no_end_by true all_starts ends dead e is = absurd (true≢false e)
-no_end_by false all_starts false dead e is = refl
-no_end_by false all_starts true dead e is = absurd (true≢false is)
+no_end : (keeps all_starts ends dead : Bool) → keeps ≡ false → ((not keeps && (ends || (dead && not all_starts))) || (keeps && dead)) ≡ false → ends ≡ false
+no_end true all_starts ends dead e is = absurd (true≢false e)
+no_end false all_starts false dead e is = refl
+no_end false all_starts true dead e is = absurd (true≢false is)
 
-swept_by : (keeps all_starts ends dead : Bool) → keeps ≡ false → IsTrue all_starts → ((not keeps && (ends || (dead && not all_starts))) || (keeps && dead)) ≡ true → IsTrue ends
-swept_by true all_starts ends dead e s is = absurd (true≢false e)
-swept_by false false ends dead e s is = absurd (true≢false (sym s))
-swept_by false true true dead e s is = refl
-swept_by false true false true e s is = absurd (true≢false (sym is))
-swept_by false true false false e s is = absurd (true≢false (sym is))
-
-no_end : (way : Way) (f : Flags) → way.keeps ≡ false → stops way f ≡ false → f.ends ≡ false
-no_end way f keeps is = no_end_by way.keeps way.all_starts f.ends f.dead keeps is
-
-swept_end : (way : Way) (f : Flags) → way.keeps ≡ false → IsTrue way.all_starts → stops way f ≡ true → IsTrue f.ends
-swept_end way f keeps all_starts is = swept_by way.keeps way.all_starts f.ends f.dead keeps all_starts is
+swept_end : (keeps all_starts ends dead : Bool) → keeps ≡ false → IsTrue all_starts → ((not keeps && (ends || (dead && not all_starts))) || (keeps && dead)) ≡ true → IsTrue ends
+swept_end true all_starts ends dead e s is = absurd (true≢false e)
+swept_end false false ends dead e s is = absurd (true≢false (sym s))
+swept_end false true true dead e s is = refl
+swept_end false true false true e s is = absurd (true≢false (sym is))
+swept_end false true false false e s is = absurd (true≢false (sym is))
 
 -- At a place: a code of its state.
 
@@ -161,7 +155,7 @@ module _ (p : Prepared) (t : Table) (w : List ℕ) (start place code o : ℕ) (e
     after = after;
     within = within;
     state = arrived;
-    last = no_end_here (no_end t.way here.flags keeps (plain_code (stops t.way here.flags) o code code_is (names_small p t table (Arrives p t.way w start place) code o n tells) high));
+    last = no_end_here (no_end t.way.keeps t.way.all_starts here.flags.ends here.flags.dead keeps (plain_code (stops t.way here.flags) o code code_is (names_small p t table (Arrives p t.way w start place) code o n tells) high));
     over = λ h. absurd (true≢false (sym h));
   }
 
@@ -183,7 +177,7 @@ module _ (p : Prepared) (t : Table) (w : List ℕ) (start place code o : ℕ) (e
         last = all;
         over = λ h. ⊎_elim
             (λ (all_starts : IsTrue t.way.all_starts).
-            let ended = swept_end t.way here.flags keeps all_starts stop in
+            let ended = swept_end t.way.keeps t.way.all_starts here.flags.ends here.flags.dead keeps all_starts stop in
             subst (IsEnd t.way.all_starts N w p.root S) (ends (same_ends ∙ ended)) (ends_here.0 ended, λ single. absurd (both_ways t.way.all_starts single all_starts)))
             (λ (d : (t.way.all_starts ≡ false) × IsTrue flags.dead). dead_end noted d.0 (sym (ap (λ (f : Flags). f.dead) same) ∙ d.1) all)
             (why h);

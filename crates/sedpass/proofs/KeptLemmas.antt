@@ -138,23 +138,19 @@ kept_down p w way root end q byte edge a b before within got last leads at =
 
 -- Going back by one byte.
 
--- the room is as it was
-pub room_kept : (m n : ℕ) (t after : Table) (k other : Kept) → SameShape t after → vec_capacity other.states ≡ vec_capacity k.states → other.edges ≡ k.edges → KeptRoom m n t k → KeptRoom m n after other
-room_kept m n t after k other shape places edges room = record {
-  mirrored = subst (λ (v : Way). IsTrue v.mirrored) (sym shape.0) room.mirrored;
-  keeps = subst (λ (v : Way). IsTrue v.keeps) (sym shape.0) room.keeps;
-  places = rw places room.places;
-  blocks = λ b low. rw edges (room.blocks b (subst (λ r. b * (r - 1) ≤ n) shape.1 low));
-  marks = λ q low. subst (λ (rows : List (List Bool)). m ≤ length (row_of rows q)) (sym edges) (room.marks q (subst (λ (rows : List (List Bool)). q < length rows) edges low));
-}
-
--- and so is the region
+-- the region is as it was
 pub region_kept : (p : Prepared) (w : List ℕ) (t after : Table) (k other : Kept) → SameShape t after → IsTable p after → vec_capacity other.states ≡ vec_capacity k.states →
     length other.states.items ≡ length k.states.items → other.edges ≡ k.edges →
     other.region.root ≡ k.region.root → other.region.end ≡ k.region.end → other.region.to ≤ k.region.end → IsRegion p w t k → IsRegion p w after other
 region_kept p w t after k other shape table places long edges root end within region = record {
   table = table;
-  room = room_kept (length p.arena.expr.nodes) (length w) t after k other shape places edges region.room;
+  room = record {
+    mirrored = subst (λ (v : Way). IsTrue v.mirrored) (sym shape.0) region.room.mirrored;
+    keeps = subst (λ (v : Way). IsTrue v.keeps) (sym shape.0) region.room.keeps;
+    places = rw places region.room.places;
+    blocks = λ b low. rw edges (region.room.blocks b (subst (λ r. b * (r - 1) ≤ length w) shape.1 low));
+    marks = λ q low. subst (λ (rows : List (List Bool)). length p.arena.expr.nodes ≤ length (row_of rows q)) (sym edges) (region.room.marks q (subst (λ (rows : List (List Bool)). q < length rows) edges low));
+  };
   root = subst (λ v. MayBegin p v other.region.root) (sym shape.0) (subst (λ r. MayBegin p t.way r) (sym root) region.root);
   whole = λ h. end ∙ region.whole (subst (λ (v : Way). IsTrue v.all_starts) shape.0 h);
   inside = rw end region.inside;

@@ -32,10 +32,6 @@ use Rattle.sedpass.proofs.ForwardLemmas.{root_spans}
 pub found_at : (e : WrittenExpression) (w : List ℕ) (from i j : ℕ) → from ≤ i → NoneIn (expression_tree e) w from i → IsLongestFrom (expression_tree e) w i (Some j) → IsLeftmostLongest (expression_tree e) w from i j
 found_at e w from i j after none longest = record { after = after; spans = longest.0; longest = longest.1; leftmost = λ h k low high. none h k low high }
 
--- and none is found where no place from there on begins one
-pub none_later : (e : WrittenExpression) (w : List ℕ) (from i : ℕ) → NoneIn (expression_tree e) w from i → length w < i → NotFound (expression_tree e) w from
-none_later e w from i none late = λ h k low high. none h k low (omega arith)
-
 -- where one place more begins none
 pub none_more : (e : WrittenExpression) (w : List ℕ) (from i : ℕ) → NoneIn (expression_tree e) w from i → IsLongestFrom (expression_tree e) w i None → NoneIn (expression_tree e) w from (i + 1)
 none_more e w from i none longest = λ h k low high span.

@@ -2,20 +2,20 @@ use Rattle.std.proofs.Common.{◌-◌, ◌<◌, length, inl, inr, refl, arith}
 use Rattle.sedre.specs.declared.types.Node.TheVariants.{Star}
 use Rattle.sedtext.specs.Reach.{At}
 use Rattle.sedpass.specs.Decide.{nodes_in, text_in}
-use Rattle.sedpass.proofs.DecideLemmas.{copy_fixed, copy_ceases, copy_pays, desk_ahead, desk_same, desk_then, ends_still, least_no_byte, owed_here, part_low}
+use Rattle.sedpass.proofs.DecideLemmas.{copy_fixed, copy_ceases, copy_pays, desk_ahead, desk_same, desk_then, ends_still, owed_here, part_low}
 use Rattle.sedpass.proofs.MeetingLemmas.{copy_walk}
 use Rattle.sedpass.proofs.TurnLemmas.{opened, part_inside}
-use Rattle.sedtext.proofs.CountLemmas.{least_less, least_none, least_both}
+use Rattle.sedtext.proofs.CountLemmas.{least_less, least_none, least_both, least_up}
 use Rattle.sedpass.proofs.groups.last_copy.Goals as goal
 
 pub has_empty_copy-taken-requires : goal.has_empty_copy-taken-requires
 has_empty_copy-taken-requires c = rw c.index-part.ensures (part_inside c.args.subject c.args.here (Star c.args.a c.args.first) c.requires.stands c.args.a.index refl)
 
 pub returns-then-taken-clause-counts : goal.returns-then-taken-clause-counts
-returns-then-taken-clause-counts c = λ is_open. least_no_byte c.args.steps.now c.has_empty_copy-taken.new.steps c.args.here.start c.args.here.stop c.has_empty_copy-taken.ensures.cost.0 (omega (arith, c.if-here.true))
+returns-then-taken-clause-counts c = λ is_open. least_up c.args.steps.now c.args.steps.now c.has_empty_copy-taken.new.steps _ (least_none c.args.steps.now _ (omega (arith, c.if-here.true))) c.has_empty_copy-taken.ensures.cost.0
 
 pub returns-else-taken-clause-counts : goal.returns-else-taken-clause-counts
-returns-else-taken-clause-counts c = λ is_open. least_no_byte c.args.steps.now c.has_empty_copy-taken.new.steps c.args.here.start c.args.here.stop c.has_empty_copy-taken.ensures.cost.0 (omega (arith, c.if-here.true))
+returns-else-taken-clause-counts c = λ is_open. least_up c.args.steps.now c.args.steps.now c.has_empty_copy-taken.new.steps _ (least_none c.args.steps.now _ (omega (arith, c.if-here.true))) c.has_empty_copy-taken.ensures.cost.0
 
 pub facts_at-requires : goal.facts_at-requires
 facts_at-requires c = rw c.index-part.ensures (part_inside c.args.subject c.args.here (Star c.args.a c.args.first) c.requires.stands c.args.a.index refl)

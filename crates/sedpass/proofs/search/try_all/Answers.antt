@@ -1,32 +1,17 @@
-use Rattle.std.proofs.Common.{◌≡◌, ◌+◌, ◌-◌, ◌*◌, ◌/◌, ◌≤◌, ℕ, max, length, Option, None, Some, refl, subst, arith}
+use Rattle.std.proofs.Common.{◌≡◌, ◌+◌, ◌-◌, ◌≤◌, ℕ, length, Option, None, Some, refl, subst, arith}
 use Rattle.sedre.specs.Tree.{expression_tree}
 use Rattle.std.specs.Prelude.{IfSome}
 use Rattle.sedtext.specs.Reach.{IsLongestFrom}
 use Rattle.sedtext.proofs.SpanLemmas.{Matches-forward, Matches-within}
 use Rattle.sedpass.proofs.KeptLemmas.{same_shape}
-use Rattle.sedpass.proofs.SearchLemmas.{IsTrial, found_at, hit_paid, hit_room, none_further, none_later, none_more, none_on, looks_tried, trial_cost, trial_is}
+use Rattle.sedpass.proofs.SearchLemmas.{found_at, hit_paid, hit_room, none_further, none_more, none_on, looks_tried, trial_cost, trial_is}
 use Rattle.sedtext.proofs.CountLemmas.{least_none}
 use Rattle.sedpass.proofs.ForwardLemmas.{ahead_still}
 use Rattle.sedpass.proofs.search.try_all.Goals as goal
-use Rattle.sedpass.proofs.search.try_all.Goals.{else-start-length-via-then-start-length+else-tried-length, else-start-length-via-else-start-length, After-run-passed}
+use Rattle.sedpass.proofs.search.try_all.Goals.{else-start-length-via-then-start-length+else-tried-length, else-start-length-via-else-start-length}
 
 pub run-passed-requires-clause-from : goal.run-passed-requires-clause-from
-run-passed-requires-clause-from c =
-    let next = c.in-Some.ensures.next in
-    next.1
-
--- what the trial tells, and what it cost
-trial : (c : After-run-passed) → IsTrial (expression_tree c.args.subject.prepared.now.arena.expr) c.args.subject.text.now c.loop-start.start c.in-Some.first c.run-passed.result.place c.run-passed.result.end
-trial c =
-    let run = c.run-passed.ensures in
-    trial_is _ c.args.subject.text.now c.args.begins.now c.loop-start.start c.in-Some.first c.run-passed.result.place c.run-passed.result.end c.requires.begins c.in-Some.ensures.next run.after run.within run.reached
-    (run.longest c.loop-start.invariant.ahead.single)
-
-paid_trial : (c : After-run-passed) → c.run-passed.new.steps + c.loop-start.start ≤ c.loop-start.steps + (c.in-Some.first + 1 + 40 * length c.args.subject.prepared.now.arena.expr.nodes * (c.run-passed.result.place + 1 - c.in-Some.first))
-paid_trial c = trial_cost _ c.loop-start.start c.in-Some.first c.run-passed.result.place c.loop-start.steps c.next_start.new.steps c.run-passed.new.steps (trial c).passed c.in-Some.ensures.cost.1 c.run-passed.ensures.cost.1
-
-few_tried : (c : After-run-passed) → c.loop-start.tried ≤ max c.args.tried.now (length c.args.subject.text.now / 8)
-few_tried c = c.loop-start.invariant.few (let h = c.loop-start-test.true in let g = c.len-length.ensures.is in omega (arith, h, g))
+run-passed-requires-clause-from c = c.in-Some.ensures.next.1
 
 pub returns-in_default-clause-made : goal.returns-in_default-clause-made
 returns-in_default-clause-made c =
@@ -48,16 +33,16 @@ returns-in-Some-end-clause-made c =
     let run = c.run-passed.ensures in
     let place = c.run-passed.result.place in
     let i = c.loop-start.invariant in
-    let here = (goal.at.returns-in-Some-end-clause-made c).After-run-passed in
-    let is = trial here in
+    let is = trial_is (expression_tree e) w c.args.begins.now c.loop-start.start first c.run-passed.result.place c.run-passed.result.end c.requires.begins c.in-Some.ensures.next run.after run.within run.reached
+    (run.longest i.ahead.single) in
     let end = c.in-Some-end.end in
     let last = c.args.subject.prepared.now.is_prepared.last in
     let long : IsLongestFrom (expression_tree e) w first (Some end) = subst (IsLongestFrom (expression_tree e) w first) c.in-Some-end.is is.longest in
     let reached : end ≤ place = subst (λ (o : Option ℕ). IfSome o (λ j. j ≤ place)) c.in-Some-end.is is.reached in
     let on = Matches-forward (expression_tree e) w first end long.0 in
     let within = Matches-within (expression_tree e) w first end (omega (arith, is.passed, is.within)) long.0 in
-    let few = few_tried here in
-    let paid = paid_trial here in
+    let few = i.few (let h = c.loop-start-test.true in let g = c.len-length.ensures.is in omega (arith, h, g)) in
+    let paid = trial_cost (length e.nodes) c.loop-start.start first place c.loop-start.steps c.next_start.new.steps c.run-passed.new.steps is.passed next.cost.1 run.cost.1 in
     record {
       answer = (found_at e w c.args.from first end (omega (arith, i.after, is.after)) (none_on e w c.args.from c.loop-start.start first i.none is.none) long, within);
       few = rw c.saturating_sub.ensures (hit_room c.loop-start.tried place end c.args.from first (length w) _ (omega (arith, i.after, is.after)) is.passed is.within on within few);
@@ -78,13 +63,13 @@ returns-then-tried-length-clause-made c =
     let run = c.run-passed.ensures in
     let place = c.run-passed.result.place in
     let i = c.loop-start.invariant in
-    let here = (goal.at.returns-then-tried-length-clause-made c).After-run-passed in
-    let is = trial here in
+    let is = trial_is (expression_tree e) w c.args.begins.now c.loop-start.start first c.run-passed.result.place c.run-passed.result.end c.requires.begins c.in-Some.ensures.next run.after run.within run.reached
+    (run.longest i.ahead.single) in
     let within = c.if-start-length.true in
     let len = c.len-length.ensures.is in
     let none : c.run-passed.result.end ≡ None = cc in
-    let few = few_tried here in
-    let paid = paid_trial here in
+    let few = i.few (let h = c.loop-start-test.true in let g = c.len-length.ensures.is in omega (arith, h, g)) in
+    let paid = trial_cost (length e.nodes) c.loop-start.start first place c.loop-start.steps c.next_start.new.steps c.run-passed.new.steps is.passed next.cost.1 run.cost.1 in
     record {
       answer = (
         omega (arith, i.after, is.after),
@@ -102,7 +87,7 @@ returns-clause-made c =
     let end = c.loop-start-test.false in
     let len = c.len-length.ensures.is in
     record {
-      answer = none_later c.args.subject.prepared.now.arena.expr c.args.subject.text.now c.args.from c.loop-start.start i.none (omega (arith, end, len));
+      answer = λ h k low high. i.none h k low (omega (arith, high, end, len));
       few = i.room;
       cost = (i.grows, omega (arith, i.cost, i.within));
       counts = tt;
@@ -129,12 +114,12 @@ loop-start-preserved c =
     let first = c.in-Some.first in
     let run = c.run-passed.ensures in
     let i = c.loop-start.invariant in
-    let here = (goal.at.loop-start-preserved c).After-run-passed in
-    let is = trial here in
+    let is = trial_is (expression_tree e) w c.args.begins.now c.loop-start.start first c.run-passed.result.place c.run-passed.result.end c.requires.begins c.in-Some.ensures.next run.after run.within run.reached
+    (run.longest i.ahead.single) in
     let none : c.run-passed.result.end ≡ None = cc in
     let next = c.in-Some.ensures.cost in
-    let few = few_tried here in
-    let paid = paid_trial here in
+    let few = i.few (let h = c.loop-start-test.true in let g = c.len-length.ensures.is in omega (arith, h, g)) in
+    let paid = trial_cost (length e.nodes) c.loop-start.start first c.run-passed.result.place c.loop-start.steps c.next_start.new.steps c.run-passed.new.steps is.passed next.1 run.cost.1 in
     record {
       ahead = ahead_still c.args.subject.prepared.now c.loop-start.ahead c.run-passed.new.self i.ahead run.table run.shape;
       ahead_shape = same_shape c.args.ahead.now c.loop-start.ahead c.run-passed.new.self i.ahead_shape run.shape;

@@ -114,13 +114,3 @@ returns-clause-meets c a i low start follows =
     let at : c.loop-place.place ≡ c.loop-place.self.region.to = (let h = old.below in let g = c.loop-place-test.false in omega (arith, h, g, to)) in
     let on = old.meets a i low start follows in
     (subst (λ y. Follows p w c.loop-place.ahead a i y c.loop-place.offset) at on.0, subst (λ y. Meet p w c.args.table.now c.args.self.now a i c.args.from y) at on.1, λ under met. absurd (omega (arith, under, to)))
-
-pub returns-then-not-meets-clause-keeps : goal.returns-then-not-meets-clause-keeps
-returns-then-not-meets-clause-keeps c =
-    let old = c.loop-place.invariant in
-    keeps_same _ _ c.args.table.now c.args.self.now c.loop-place.self old.region old.states old.edges c.requires.kept
-
-pub returns-clause-keeps : goal.returns-clause-keeps
-returns-clause-keeps c =
-    let old = c.loop-place.invariant in
-    keeps_same _ _ c.args.table.now c.args.self.now c.loop-place.self old.region old.states old.edges c.requires.kept

@@ -1,7 +1,6 @@
 use Rattle.std.proofs.Common.{◌≡◌, ◌+◌, ◌-◌, ◌*◌, ◌<◌, ◌≤◌}
 use Rattle.std.specs.Prelude.{length}
 use Rattle.sedre.specs.Steps.{TakesAtLeast}
-use Rattle.sedtext.specs.Costs.{CostsWithin}
 use Rattle.sedpass.specs.Kept.{ComesDown}
 use Rattle.sedpass.proofs.kept.Kept.pass.Given as goal
 
@@ -13,6 +12,7 @@ invariant-loop-place l = record {
   to : l.place < l.high → l.place < l.self.region.to;
   steady : l.initial.table.count + (l.high - l.low) ≤ l.initial.table.room →
       (l.self.region.to ≡ l.initial.self.region.to) × (l.table.count + (l.place - l.low) ≤ l.initial.table.room);
-  cost : CostsWithin l.initial.steps l.steps (35 * length l.subject.prepared.now.arena.expr.nodes * l.high) (35 * length l.subject.prepared.now.arena.expr.nodes * l.place);
+  grows : l.initial.steps ≤ l.steps;
+  cost : l.steps + 35 * length l.subject.prepared.now.arena.expr.nodes * l.place ≤ l.initial.steps + 35 * length l.subject.prepared.now.arena.expr.nodes * l.high;
   counts : TakesAtLeast l.initial.steps l.steps (2 * (l.high - l.place));
 }
