@@ -34,10 +34,6 @@ use Rattle.sedtext.proofs.CountLemmas.{least_less, least_since, least_both}
 
 -- The starts of a pass.
 
-first_start : (all_starts : Bool) (from : ℕ) (w : List ℕ) (i : ℕ) → IsStart (starts_of all_starts from w) i → from ≤ i
-first_start true from w i is = is.0
-first_start false from w i is = is.0
-
 last_start : (all_starts : Bool) (from : ℕ) (w : List ℕ) (i : ℕ) → from ≤ length w → IsStart (starts_of all_starts from w) i → i ≤ length w
 last_start true from w i within is = is.1
 last_start false from w i within is = let low = is.1 in omega arith
@@ -75,7 +71,7 @@ end_below nodes w r s n (Some j) last = let low = last.0 in omega arith
 -- nothing ends before a start
 pub none_before : (p : Prepared) (way : Way) (w : List ℕ) (from : ℕ) → EndsBelow p way w from from None
 none_before p way w from k low some =
-    let after = first_start way.all_starts from w some.0 some.1 in
+    let after = some.1.0 in
     let on = Matches-forward (tree_at (nodes_of way p.arena.expr) p.root) w some.0 k some.2 in
     omega arith
 
@@ -218,10 +214,6 @@ follows_on p t w start byte cell place mid next at inside pass is names arrive =
 
 -- The beginning of a pass.
 
-first_is : (all_starts : Bool) (from : ℕ) (w : List ℕ) → (starts_of all_starts from w).first ≡ from
-first_is true from w = refl
-first_is false from w = refl
-
 starts_order : (all_starts : Bool) (from : ℕ) (w : List ℕ) → from ≤ length w → (starts_of all_starts from w).first ≤ (starts_of all_starts from w).last
 starts_order true from w low = low
 starts_order false from w low = omega arith
@@ -230,12 +222,9 @@ pub arrives_first : (p : Prepared) (way : Way) (w : List ℕ) (from : ℕ) (kind
     BeginsIn (nodes_of way p.arena.expr) way p.root kind a → Arrives p way w from from a
 arrives_first p way w from kind a mirrored low begin end begins =
     let s = starts_of way.all_starts from w in
-    let first = first_is way.all_starts from w in
-    let place : IsPlace w s.first (at_begin way.mirrored kind) (at_end way.mirrored kind) =
-    subst (λ b. IsPlace w s.first (at_begin b kind) (at_end b kind)) (sym mirrored) (subst (λ x. IsPlace w x kind.begin kind.end) (sym first) (begin, end)) in (
+    let place : IsPlace w from (at_begin way.mirrored kind) (at_end way.mirrored kind) = subst (λ b. IsPlace w from (at_begin b kind) (at_end b kind)) (sym mirrored) (begin, end) in (
       begins.0,
-      subst (λ r. RowOfPlace (nodes_of way p.arena.expr) w r s way.keeps from a.entered a.ended) (sym begins.0)
-          (subst (λ x. RowOfPlace (nodes_of way p.arena.expr) w p.root s way.keeps x a.entered a.ended) first (begins.1 w s place (starts_order way.all_starts from w low))),
+      subst (λ r. RowOfPlace (nodes_of way p.arena.expr) w r s way.keeps from a.entered a.ended) (sym begins.0) (begins.1 w s place (starts_order way.all_starts from w low)),
     )
 
 -- The end of a pass.
@@ -282,7 +271,7 @@ module _ (p : Prepared) (w : List ℕ) (from : ℕ) where
   end_passes all_starts s t place low None is ended looks = tt
   end_passes all_starts s t place low (Some j) is ended looks =
       let some = is.0 in
-      let after = first_start all_starts from w some.0 some.1 in
+      let after = some.1.0 in
       record {
         start = some.0;
         end = j;

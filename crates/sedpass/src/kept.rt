@@ -155,14 +155,8 @@ impl Kept {
         for place in (low..high).rev() {
             let byte = subject.text.byte(place, steps);
             let epoch = table.epoch;
-            let code = table.next(
-                subject.prepared,
-                offset,
-                byte,
-                place == 0,
-                &mut self.work,
-                steps,
-            );
+            let edge = place == 0;
+            let code = table.next(subject.prepared, offset, byte, edge, &mut self.work, steps);
             offset = offset_of(code);
             self.states[place] = table.state_at(offset) as u16;
             if table.epoch != epoch {
@@ -232,20 +226,13 @@ impl Kept {
         ensures inside { place < self.old.region.end → Takes steps.old steps.new (20 * length subject.entry.prepared.now.arena.expr.nodes) }
         ensures counts { TakesAtLeast steps.old steps.new 1 }
     {
-        let root = self.region.root;
+        let (prepared, root) = (subject.prepared, self.region.root);
         if place == self.region.end {
             let kind = kind_of(place, subject.text.len());
-            let code = table.first(subject.prepared, root, kind, &mut self.work, steps);
+            let code = table.first(prepared, root, kind, &mut self.work, steps);
             return offset_of(code);
         }
-        let code = table.load(
-            subject.prepared,
-            root,
-            block,
-            &self.edges,
-            &mut self.work,
-            steps,
-        );
+        let code = table.load(prepared, root, block, &self.edges, &mut self.work, steps);
         offset_of(code)
     }
 
@@ -509,14 +496,8 @@ impl Kept {
                 return (place, offset);
             }
             let byte = subject.text.byte(place, steps);
-            let code = ahead.next(
-                subject.prepared,
-                offset,
-                byte,
-                place + 1 == length,
-                &mut self.work,
-                steps,
-            );
+            let edge = place + 1 == length;
+            let code = ahead.next(subject.prepared, offset, byte, edge, &mut self.work, steps);
             offset = offset_of(code);
         }
         (self.region.to, offset)

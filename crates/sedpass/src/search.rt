@@ -158,15 +158,8 @@ pub fn next_match(
 {
     let mut start = from;
     if !seeking.begun && seeking.tried <= subject.text.len() {
-        match try_all(
-            subject,
-            begins,
-            ahead,
-            from,
-            &mut seeking.kept.work,
-            &mut seeking.tried,
-            steps,
-        ) {
+        let (work, tried) = (&mut seeking.kept.work, &mut seeking.tried);
+        match try_all(subject, begins, ahead, from, work, tried, steps) {
             Trials::Hit(first, end) => return Some((first, end)),
             Trials::Nothing => return None,
             Trials::Tired(later) => start = later,

@@ -20,7 +20,7 @@ returns-in_default-clause-made c =
     record {
       answer = none_further (expression_tree c.args.subject.prepared.now.arena.expr) c.args.subject.text.now c.args.begins.now c.args.from c.loop-start.start c.requires.begins i.none next.next;
       few = i.room;
-      cost = (omega (arith, i.grows, next.cost), omega (arith, i.cost, next.cost));
+      cost = (omega (arith, i.cost.0, next.cost), omega (arith, i.cost.1, next.cost));
       counts = tt;
     }
 
@@ -47,9 +47,9 @@ returns-in-Some-end-clause-made c =
       answer = (found_at e w c.args.from first end (omega (arith, i.after, is.after)) (none_on e w c.args.from c.loop-start.start first i.none is.none) long, within);
       few = rw c.saturating_sub.ensures (hit_room c.loop-start.tried place end c.args.from first (length w) _ (omega (arith, i.after, is.after)) is.passed is.within on within few);
       cost = (
-        omega (arith, i.grows, next.cost, run.cost),
+        omega (arith, i.cost.0, next.cost, run.cost),
         rw c.saturating_sub.ensures (hit_paid (length e.nodes) c.args.from c.loop-start.start first place end c.loop-start.tried c.args.tried.now c.args.steps.now c.loop-start.steps c.run-passed.new.steps (omega (arith, last))
-            is.after on is.passed i.cost paid),
+            is.after on is.passed i.cost.1 paid),
       );
       counts = looks_tried c.args.from c.loop-start.start first c.run-passed.result.place c.args.steps.now c.loop-start.steps c.next_start.new.steps c.run-passed.new.steps i.counts c.in-Some.ensures.counts run.counts (end + 1 - c.args.from) (omega (arith, reached, is.after, is.passed));
     }
@@ -77,7 +77,7 @@ returns-then-tried-length-clause-made c =
         none_more e w c.args.from first (none_on e w c.args.from c.loop-start.start first i.none is.none) (subst (IsLongestFrom (expression_tree e) w first) none is.longest),
       );
       few = omega (arith, few, is.passed, is.within, i.after, is.after);
-      cost = (omega (arith, i.grows, next.cost, run.cost), omega (arith, i.cost, paid));
+      cost = (omega (arith, i.cost.0, next.cost, run.cost), omega (arith, i.cost.1, paid));
       counts = looks_tried c.args.from c.loop-start.start first c.run-passed.result.place c.args.steps.now c.loop-start.steps c.next_start.new.steps c.run-passed.new.steps i.counts c.in-Some.ensures.counts run.counts (first + 1 - c.args.from) (omega (arith, is.after));
     }
 
@@ -89,7 +89,7 @@ returns-clause-made c =
     record {
       answer = λ h k low high. i.none h k low (omega (arith, high, end, len));
       few = i.room;
-      cost = (i.grows, omega (arith, i.cost, i.within));
+      cost = (i.cost.0, omega (arith, i.cost.1, i.within));
       counts = tt;
     }
 
@@ -102,9 +102,8 @@ loop-start-init c = record {
   within = omega arith;
   few = λ h. omega arith;
   room = omega arith;
-  grows = omega arith;
   counts = least_none c.args.steps.now (c.args.from - c.args.from) (omega arith);
-  cost = omega arith;
+  cost = (omega arith, omega arith);
 }
 
 pub loop-start-preserved : goal.loop-start-preserved
@@ -131,7 +130,6 @@ loop-start-preserved c =
         | else-start-length-via-else-start-length w ↦ (let f = w.if-start-length.false in let g = c.len-length.ensures.is in absurd (omega (arith, f, g, h)))
       ];
       room = omega (arith, few, is.passed, is.within, i.after, is.after);
-      grows = omega (arith, i.grows, next, run.cost);
       counts = looks_tried c.args.from c.loop-start.start first c.run-passed.result.place c.args.steps.now c.loop-start.steps c.next_start.new.steps c.run-passed.new.steps i.counts c.in-Some.ensures.counts run.counts (first + 1 - c.args.from) (omega (arith, is.after));
-      cost = omega (arith, i.cost, paid);
+      cost = (omega (arith, i.cost.0, next, run.cost), omega (arith, i.cost.1, paid));
     }

@@ -53,8 +53,7 @@ loop-place-init c =
           c.kind_of-kind.ensures.begin (subst (λ n. IsTrue c.kind_of-kind.result.end ↔ (c.args.from ≡ n)) c.len.ensures.is c.kind_of-kind.ensures.end)
           (names_state p c.first-code.new.self first.codes.table _ _ _ first.codes.names c.offset_of-offset.ensures);
       meets = λ q after before. absurd (omega arith);
-      grows = omega arith;
-      cost = omega arith;
+      cost = (omega arith, omega arith);
       counts = least_none _ _ (omega arith);
     }
 
@@ -77,10 +76,12 @@ loop-place-preserved c =
       offset = meet.offset;
       follows = (meet.meets c.args.a c.args.from (low here) before.above before.follows).0;
       meets = meets here;
-      grows = (let h = before.grows in let g = ready.cost.0 in let f = meet.cost.0 in omega (arith, h, g, f));
-      cost = cut_on m (owed m c.args.self.now.region c.args.from) (owed m c.loop-place.self.region c.loop-place.place) (owed m c.ready-to.new.self.region c.loop-place.place) (owed m c.meet-reached.new.self.region reached)
-          c.loop-place.steps _ c.ready-to.new.steps c.meet-reached.new.steps c.args.from c.loop-place.place reached before.cost ready.cost.1 (meet.whole at).1
-          (subst (λ r. owed m r reached ≤ owed m c.ready-to.new.self.region c.loop-place.place) (sym meet.region) (owed_falls m c.ready-to.new.self.region c.loop-place.place reached (omega (arith, up))));
+      cost = (
+        (let h = before.cost.0 in let g = ready.cost.0 in let f = meet.cost.0 in omega (arith, h, g, f)),
+        cut_on m (owed m c.args.self.now.region c.args.from) (owed m c.loop-place.self.region c.loop-place.place) (owed m c.ready-to.new.self.region c.loop-place.place) (owed m c.meet-reached.new.self.region reached)
+          c.loop-place.steps _ c.ready-to.new.steps c.meet-reached.new.steps c.args.from c.loop-place.place reached before.cost.1 ready.cost.1 (meet.whole at).1
+          (subst (λ r. owed m r reached ≤ owed m c.ready-to.new.self.region c.loop-place.place) (sym meet.region) (owed_falls m c.ready-to.new.self.region c.loop-place.place reached (omega (arith, up)))),
+      );
       counts = counts here;
     }
 
@@ -111,9 +112,9 @@ returns-then-place-to-clause-cost c =
     let meet = c.meet-reached.ensures in
     let first = c.first-code.ensures.cost in
     let reached = c.meet-reached.result.0 in (
-      (let h = before.grows in let g = ready.cost.0 in let f = meet.cost.0 in let e = first.0 in omega (arith, h, g, f, e)),
+      (let h = before.cost.0 in let g = ready.cost.0 in let f = meet.cost.0 in let e = first.0 in omega (arith, h, g, f, e)),
       cut_at m (owed m c.args.self.now.region c.args.from) (owed m c.loop-place.self.region c.loop-place.place) (owed m c.ready-to.new.self.region c.loop-place.place) (owed m c.meet-reached.new.self.region reached)
-          c.loop-place.steps c.args.steps.now c.first-code.new.steps c.ready-to.new.steps c.meet-reached.new.steps c.args.from c.loop-place.place reached first.1 before.cost ready.cost.1 meet.cost.1
+          c.loop-place.steps c.args.steps.now c.first-code.new.steps c.ready-to.new.steps c.meet-reached.new.steps c.args.from c.loop-place.place reached first.1 before.cost.1 ready.cost.1 meet.cost.1
           (subst (λ r. owed m r reached ≤ owed m c.ready-to.new.self.region c.loop-place.place) (sym meet.region) (owed_falls m c.ready-to.new.self.region c.loop-place.place reached meet.after)),
     )
 

@@ -19,8 +19,7 @@ loop-place-init c =
       shape = (refl, refl, refl, refl, refl);
       same = record { root = refl; end = refl; space = record { places = refl; edges = refl; marks = λ q. refl } };
       to = λ before. absurd (omega arith);
-      grows = omega arith;
-      cost = omega arith;
+      cost = (omega arith, omega arith);
       counts = least_none _ _ (omega arith);
     }
 
@@ -51,8 +50,7 @@ loop-place-preserved c =
       shape = same_shape c.edge_state-offset.new.table c.loop-place.table c.pass-offset.new.table before.shape now.down.shape;
       same = same_kept _ c.keep_edge.new.self c.pass-offset.new.self (same_kept _ c.loop-place.self c.keep_edge.new.self before.same edge.same) now.down.same;
       to = λ below. now.to;
-      grows = (let h = before.grows in let g = edge.cost.0 in let f = now.cost.0 in omega (arith, h, g, f));
-      cost = (let h = before.cost in let g = block_cost _ least c.loop-place.place c.loop-place.steps c.keep_edge.new.steps c.pass-offset.new.steps (omega arith) edge.cost.1 now.cost.1 in omega (arith, h, g));
+      cost = ((let h = before.cost.0 in let g = edge.cost.0 in let f = now.cost.0 in omega (arith, h, g, f)), (let h = before.cost.1 in let g = block_cost _ least c.loop-place.place c.loop-place.steps c.keep_edge.new.steps c.pass-offset.new.steps (omega arith) edge.cost.1 now.cost.1 in omega (arith, h, g)));
       counts = least_both _ c.loop-place.steps _ _ (2 * (c.loop-place.place - least)) _ before.counts (least_since _ c.keep_edge.new.steps _ _ edge.cost.0 now.counts) (let h = before.below in omega (arith, h));
     }
 
@@ -75,8 +73,7 @@ pub returns-clause-cost : goal.returns-clause-cost
 returns-clause-cost c =
     let one = c.edge_state-offset.ensures.cost in
     let last = c.loop-place.invariant in
-    let grows = last.grows in
-    (omega (arith, one.0, grows), make_cost _ c.args.low (c.args.self.now.region.end - c.args.low) c.loop-place.place c.args.self.now.region.end _ c.edge_state-offset.new.steps _ (omega arith) (omega arith) one.1 last.cost)
+    (omega (arith, one.0, last.cost.0), make_cost _ c.args.low (c.args.self.now.region.end - c.args.low) c.loop-place.place c.args.self.now.region.end _ c.edge_state-offset.new.steps _ (omega arith) (omega arith) one.1 last.cost.1)
 
 pub returns-clause-counts : goal.returns-clause-counts
 returns-clause-counts c = least_both _ c.edge_state-offset.new.steps _ _ _ _ c.edge_state-offset.ensures.counts c.loop-place.invariant.counts (omega arith)

@@ -14,8 +14,7 @@ loop-place-init c = record {
   down = record { passes = c.requires.passes; shape = (refl, refl, refl, refl, refl); same = record { root = refl; end = refl; space = record { places = refl; edges = refl; marks = λ q. refl } }; low = refl; from = refl; edges = refl };
   to = λ h. absurd (omega arith);
   steady = λ h. (refl, h);
-  grows = omega arith;
-  cost = omega arith;
+  cost = (omega arith, omega arith);
   counts = least_none _ _ (omega arith);
 }
 
@@ -44,8 +43,7 @@ loop-place-preserved c =
           (names_state p after next.codes.table _ _ _ next.codes.names c.offset_of-offset.ensures);
       to = λ h. (let g = before.down.passes.above in omega (arith, g));
       steady = λ h. (let s = before.steady h in let up = (next.codes.adds.grows c.if-table-epoch.false).1 in (s.0, (let g = s.1 in omega (arith, g, up))));
-      grows = (let g = before.grows in let f = next.cost.0 in let h = c.byte-byte.ensures.cost.0 in omega (arith, g, f, h));
-      cost = down_cost (35 * length p.arena.expr.nodes) place c.loop-place.place c.loop-place.steps c.next-code.new.steps _ above (let f = next.cost.1 in let h = c.byte-byte.ensures.cost.1 in omega (arith, f, h, some)) before.cost;
+      cost = ((let g = before.cost.0 in let f = next.cost.0 in let h = c.byte-byte.ensures.cost.0 in omega (arith, g, f, h)), down_cost (35 * length p.arena.expr.nodes) place c.loop-place.place c.loop-place.steps c.next-code.new.steps _ above (let f = next.cost.1 in let h = c.byte-byte.ensures.cost.1 in omega (arith, f, h, some)) before.cost.1);
       counts = least_both _ _ _ _ 2 _ before.counts (least_both _ c.byte-byte.new.steps _ 1 1 2 (least_counted _ _ 1 1 c.byte-byte.ensures.counts (omega arith)) next.counts (omega arith)) (omega arith);
     }
 
@@ -68,7 +66,6 @@ loop-place-preserved-then-table-epoch c =
           (names_state p after next.codes.table _ _ _ next.codes.names c.offset_of-offset.ensures);
       to = λ h. omega arith;
       steady = λ h. (let s = before.steady h in let room = before.down.shape.1 in absurd (c.if-table-epoch.true (next.codes.adds.full (let g = s.1 in omega (arith, g, room)))));
-      grows = (let g = before.grows in let f = next.cost.0 in let h = c.byte-byte.ensures.cost.0 in omega (arith, g, f, h));
-      cost = down_cost (35 * length p.arena.expr.nodes) place c.loop-place.place c.loop-place.steps c.next-code.new.steps _ above (let f = next.cost.1 in let h = c.byte-byte.ensures.cost.1 in omega (arith, f, h, some)) before.cost;
+      cost = ((let g = before.cost.0 in let f = next.cost.0 in let h = c.byte-byte.ensures.cost.0 in omega (arith, g, f, h)), down_cost (35 * length p.arena.expr.nodes) place c.loop-place.place c.loop-place.steps c.next-code.new.steps _ above (let f = next.cost.1 in let h = c.byte-byte.ensures.cost.1 in omega (arith, f, h, some)) before.cost.1);
       counts = least_both _ _ _ _ 2 _ before.counts (least_both _ c.byte-byte.new.steps _ 1 1 2 (least_counted _ _ 1 1 c.byte-byte.ensures.counts (omega arith)) next.counts (omega arith)) (omega arith);
     }

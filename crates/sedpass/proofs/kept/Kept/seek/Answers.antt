@@ -36,8 +36,7 @@ loop-place-init c = record {
   below = c.requires.from;
   keeps = keeps_same _ _ c.args.table.now c.args.self.now c.args.self.now refl refl refl c.requires.kept;
   passed = λ q after before. absurd (omega arith);
-  grows = omega arith;
-  cost = omega arith;
+  cost = (omega arith, omega arith);
   counts = least_none _ _ (omega arith);
 }
 
@@ -58,10 +57,12 @@ loop-place-preserved c =
       below = (let h = ready.keeps.kept.region.within in omega (arith, h, is));
       keeps = keeps here;
       passed = subst (λ y. AllMarked nodes w c.args.self.now.region.root (ends_told c.args.table.now.way.all_starts (length w) c.args.self.now.region.end) c.args.x (not c.args.marked) c.args.from y) at (passed here);
-      grows = (let h = before.grows in let g = ready.cost.0 in let f = seek.cost.0 in omega (arith, h, g, f));
-      cost = seek_on (owed m c.args.self.now.region c.args.from) (owed m c.loop-place.self.region c.loop-place.place) (owed m c.ready-to.new.self.region c.loop-place.place)
+      cost = (
+        (let h = before.cost.0 in let g = ready.cost.0 in let f = seek.cost.0 in omega (arith, h, g, f)),
+        seek_on (owed m c.args.self.now.region c.args.from) (owed m c.loop-place.self.region c.loop-place.place) (owed m c.ready-to.new.self.region c.loop-place.place)
           (owed m c.ready-to.new.self.region c.ready-to.result) c.loop-place.steps c.args.steps.now c.ready-to.new.steps c.seek_in-found.new.steps c.args.from c.loop-place.place c.ready-to.result
-          before.cost ready.cost.1 (let h = seek.cost.1 in omega (arith, h, at)) (owed_falls m c.ready-to.new.self.region c.loop-place.place c.ready-to.result (omega (arith, up))) up;
+          before.cost.1 ready.cost.1 (let h = seek.cost.1 in omega (arith, h, at)) (owed_falls m c.ready-to.new.self.region c.loop-place.place c.ready-to.result (omega (arith, up))) up,
+      );
       counts = subst (λ y. TakesAtLeast c.args.steps.now c.seek_in-found.new.steps (y - c.args.from)) at (counts here);
     }
 
@@ -83,10 +84,10 @@ returns-then-found-to-clause-cost c =
     let ready = c.ready-to.ensures in
     let seek = c.seek_in-found.ensures in
     let found = c.seek_in-found.result in (
-      (let h = before.grows in let g = ready.cost.0 in let f = seek.cost.0 in omega (arith, h, g, f)),
+      (let h = before.cost.0 in let g = ready.cost.0 in let f = seek.cost.0 in omega (arith, h, g, f)),
       seek_at (owed m c.args.self.now.region c.args.from) (owed m c.loop-place.self.region c.loop-place.place) (owed m c.ready-to.new.self.region c.loop-place.place)
           (owed m c.ready-to.new.self.region found) c.loop-place.steps c.args.steps.now c.ready-to.new.steps c.seek_in-found.new.steps c.args.from c.loop-place.place found
-          before.cost ready.cost.1 seek.cost.1 (owed_falls m c.ready-to.new.self.region c.loop-place.place found seek.after) seek.after,
+          before.cost.1 ready.cost.1 seek.cost.1 (owed_falls m c.ready-to.new.self.region c.loop-place.place found seek.after) seek.after,
     )
 
 pub returns-then-found-to-clause-counts : goal.returns-then-found-to-clause-counts
