@@ -28,7 +28,7 @@ use Rattle.sedpass.specs.declared.rows.Work.{Work}
 use Rattle.sedpass.specs.declared.table.Table.{Table}
 use Rattle.sedpass.proofs.DecideLemmas.{has_desk, space_again}
 use Rattle.sedpass.proofs.TableLemmas.{roomy_fewer, roomy_still}
-use Rattle.sedpass.proofs.WalkLemmas.{enters_nothing}
+use Rattle.sedpass.proofs.OneGroupLemmas.{enters_nothing}
 use Rattle.sedmatch.specs.Passes.{AreOwn, IsDesk, IsRoomyWay, KeepsDesk, TellsGroups, TellsMatch, any_way, back_way}
 use Rattle.sedmatch.specs.declared.passes.OwnTables.{OwnTables}
 use Rattle.sedmatch.specs.declared.scratch.Desk.{Desk}

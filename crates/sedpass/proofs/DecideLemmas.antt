@@ -1,6 +1,5 @@
 -- The groups that are told to be due, as the state of a decision; what nodes and regions cost.
-use Rattle.std.proofs.Common.{◌≡◌, ℕ, zero, suc, ◌+◌, ◌-◌, ◌*◌, ◌<◌, ◌≤◌, ◌↔◌, ◌&&◌, not, Bool, true, false, List, [], ◌∷◌, length, Option, None, Some, IsTrue, refl, sym, ap, ◌∙◌, subst, inl, inr, ⊎_elim, true≢false, arith, mul-le-mul_left}
-use Rattle.std.specs.Prelude.{IfSome, eqb, nat_lt, slice_get, slice_set, slice_index_or, vec_capacity}
+use Rattle.std.proofs.Common.{◌≡◌, ℕ, zero, suc, ◌+◌, ◌-◌, ◌*◌, ◌<◌, ◌≤◌, ◌↔◌, ◌&&◌, not, Bool, true, false, List, [], ◌∷◌, length, Option, None, Some, IsTrue, refl, sym, ap, ◌∙◌, subst, inl, inr, ⊎_elim, true≢false, arith, mul-le-mul_left, IfSome, eqb, nat_lt, slice_get, slice_set, slice_index_or, vec_capacity}
 use Rattle.std.specs.Int.{bit_at}
 use Rattle.std.proofs.lemmas.Bool.{and_parts, and_from, cases_Bool, cases_lt, lt-ltb, le-ltb}
 use Rattle.std.proofs.lemmas.Option.{cond_some}
@@ -8,7 +7,7 @@ use Rattle.std.proofs.lemmas.List.{ext_get_or, length-set}
 use Rattle.std.proofs.Math.Nat.{mul-le-mul_right}
 use Rattle.sedre.specs.Tree.{Tree, WrittenExpression, tree_at, expression_tree}
 use Rattle.sedre.specs.Arena.{IsArena, IsExpr, IsPart, AreRanges}
-use Rattle.sedre.specs.Steps.{Takes, TakesAtLeast}
+use Rattle.sedre.specs.Steps.{Takes}
 use Rattle.sedre.specs.declared.types.Node.{Node}
 use Rattle.sedre.specs.declared.types.NodeId.{NodeId}
 use Rattle.sedre.specs.declared.types.Node.TheVariants.{Set, Seq, Group, Star}
@@ -22,10 +21,8 @@ use Rattle.sedtext.proofs.NodeLemmas.{node_at}
 use Rattle.sedtext.proofs.ReachLemmas.{close_at}
 use Rattle.sedtext.proofs.SpanLemmas.{Matches-forward}
 use Rattle.sedpass.specs.Decide.{found, undecided, HasAll, flags_of, told_of, EndsRegion, IsAtEnd, IsDesk, HasDesk, IsSetAt, AreGroupTables, HasSpace, SameTables, KeepsDesk, part_cost, nodes_in, text_in, Blank, Stands}
-use Rattle.sedpass.specs.Groups.{reported, holds}
-use Rattle.sedpass.specs.Kept.{AllMarked, IsKept, SameKept, SameSpace, ends_told, owed, KeepsRegion}
-use Rattle.sedpass.specs.Lengths.{AllLong}
-use Rattle.sedpass.specs.Prepared.{IsFacts, is_set, run_of}
+use Rattle.sedpass.specs.Kept.{AllMarked, SameKept, SameSpace, ends_told, owed, KeepsRegion}
+use Rattle.sedpass.specs.Prepared.{IsFacts, is_set, run_of, reported, holds, AllLong}
 use Rattle.sedpass.specs.Regions.{CeasesAt, IsLastIn, NextCopy, ReachesEnd, IsRunOf, repeated, in_group}
 use Rattle.sedpass.specs.Table.{IsTable, SameShape, MayBegin}
 use Rattle.sedpass.specs.Walks.{settle, drop_groups, GroupStandsIn, NoneDue, IsStart, has_group}
@@ -42,7 +39,7 @@ use Rattle.sedpass.proofs.KeptLemmas.{same_shape, space_same, space_then}
 use Rattle.sedpass.proofs.LeaveLemmas.{last_inside}
 use Rattle.sedpass.proofs.LengthLemmas.{all_long, copies_long, left_long, right_long}
 use Rattle.sedpass.proofs.MeetingLemmas.{run_stops, set_early, stops_at_copy, stops_at_cut}
-use Rattle.sedpass.proofs.OneGroupLemmas.{copy_spans, deed, drop_as, left, same_state, set_due, settle-due, settle-not}
+use Rattle.sedpass.proofs.OneGroupLemmas.{copy_spans, deed, drop_as, left, same_state, set_due, settle-due}
 use Rattle.sedpass.proofs.OwedLemmas.{owed_small}
 use Rattle.sedpass.proofs.TurnLemmas.{opened}
 use Rattle.sedpass.proofs.TableLemmas.{same_all}
@@ -93,10 +90,6 @@ settled old one new k v spans whole due alone without =
     (ext_get_or false (flags_of new) (slice_set (flags_of old) k false) (sym (length-set (flags_of old) k false)) (λ n _.
     flags_left old one new n (eqb k n) v whole (alone n) (without n) ∙ sym (set_due k n v (flags_of old)))) refl
     ∙ sym (settle-due k v (told_of old spans) (flags_at old k ∙ due))
-
--- one that isn't due is left
-pub unsettled : (due : GroupSet) (k : ℕ) (v : Option (ℕ × ℕ)) (spans : Groups) → holds due k ≡ false → told_of due spans ≡ settle k v (told_of due spans)
-unsettled due k v spans is = sym (settle-not k v (told_of due spans) (flags_at due k ∙ is))
 
 -- what is taken from what is due is not due before
 pub still_whole : (old other new : GroupSet) → holds old 0 ≡ false → ((n : ℕ) → holds new n ≡ (holds old n && not (holds other n))) → holds new 0 ≡ false
@@ -260,13 +253,9 @@ cut_runs s tables kept here a b leaf p at run a_set up passed found =
     let all = subst (λ t. AllMarked nodes w r t leaf true here.start p) there passed in
     let last = subst (λ t. p < kept.region.end → IsTrue false ↔ ReachesEnd nodes w r t leaf p) there found in
     let stop = at.ends.1 in
-    run_stops nodes w r here.stop here.node a b stands.arena at.ends.0 stands.is leaf a_set.0 run a_set.1 here.start p stands.there.at (
-      up,
-      λ q from to. (all q from to).0 refl,
-      λ reaches.
-          let early : p < here.stop = set_early nodes w r leaf p (one_start here.stop) a_set.0 stands.arena a_set.1 reaches in
-          true≢false (sym ((last (omega arith)).1 reaches)),
-    )
+    run_stops nodes w r here.stop here.node a b stands.arena at.ends.0 stands.is leaf a_set.0 run a_set.1 here.start p stands.there.at up (λ q from to. (all q from to).0 refl) (λ reaches.
+    let early : p < here.stop = set_early nodes w r leaf p (one_start here.stop) a_set.0 stands.arena a_set.1 reaches in
+    true≢false (sym ((last (omega arith)).1 reaches)))
 
 -- where a pass over the part of a repetition ceases to meet the kept one is the end of the next copy
 pub copy_ceases : (s : Subject) (tables : GroupTables) (kept : Kept) (here : Matched) (a : NodeId) (first : Bool) (i p : ℕ) → IsAtEnd s tables kept here (Star a first) →

@@ -1,8 +1,8 @@
 -- What becomes of one group of a match while all are decided from its end; so decided, they are those decided from the left.
-use Rattle.std.proofs.Common.{◌≡◌, ℕ, zero, suc, ◌<◌, ◌≤◌, ◌⊎◌, ◌↔◌, ◌||◌, Bool, true, false, List, [], ◌∷◌, length, Option, None, Some, IsTrue, refl, sym, ap, ◌∙◌, subst, inl, inr, ⊎_elim, true≢false, arith}
-use Rattle.std.specs.Prelude.{eqb, unwrap_or, slice_get, slice_set, slice_index_or, replicate}
+use Rattle.std.proofs.Common.{◌≡◌, ℕ, zero, suc, ◌<◌, ◌≤◌, ◌⊎◌, ◌||◌, Bool, true, false, List, [], ◌∷◌, length, Option, None, Some, refl, sym, ap, ◌∙◌, subst, inl, inr, ⊎_elim, true≢false, arith, replicate, eqb, slice_get, slice_set, slice_index_or}
+use Rattle.std.specs.Prelude.{unwrap_or}
 use Rattle.std.specs.Option.{option_or}
-use Rattle.std.proofs.lemmas.Bool.{cases_Bool, cases_lt, or_left, or_right}
+use Rattle.std.proofs.lemmas.Bool.{cases_Bool, cases_lt, or_left, or_right, or_cases}
 use Rattle.std.proofs.lemmas.Bool.Decides.{eqb_tells}
 use Rattle.std.proofs.lemmas.List.{ext_get_or, get_or-set_other, length-set}
 use Rattle.std.proofs.lemmas.Option.{slice_get_past, none-some, same_Some, unwrap_or-slice_get}
@@ -13,7 +13,9 @@ use Rattle.sedtext.specs.Caps.{Captures, LastCopy, only, then, IsReport}
 use Rattle.sedtext.specs.Spans.{Matches}
 use Rattle.sedtext.proofs.CapsLemmas.{Captures-unique}
 use Rattle.sedtext.proofs.MatchingLemmas.{groups_after-is}
-use Rattle.sedpass.specs.Walks.{State, is_due, settle, drop_groups, GroupStandsIn, PassedBy, Walk, IsStart, has_group}
+use Rattle.sedpass.specs.Walks.{State, is_due, settle, drop_groups, GroupStandsIn, PassedBy, Walk, IsStart, has_group, NoneDue, EntersGroups}
+use Rattle.sedre.specs.Steps.{TakesAtLeast}
+use Rattle.sedtext.proofs.GroupLemmas.{NoGroups}
 
 abbrev Span : Type 0
 Span = Option (ℕ × ℕ)
@@ -421,3 +423,37 @@ drop_as t s new blank same long tells =
     (ext_get_or false new.due (drop_groups t s).due (long ∙ sym (drop_takes t 0 s).long) (λ k _. tells k ∙ sym (drop_takes t k s).due))
     (same ∙ same_lists s.spans (drop_groups t s).spans (λ k. sym ((drop_takes t k s).span
     ∙ blank_put (is_due s k) (slice_get s.spans k) (has_group t k) (λ due. unwrap_or-slice_get s.spans k None ∙ blank k due))))
+
+-- A walk over a match, as nodes are entered one after another.
+
+-- a walk passes by what has no group that is due
+pub passes_by : (e : Tree) (w : List ℕ) (i j : ℕ) (s : State) → NoneDue e s → Walk e w i j s s 0
+passes_by empty w i j s none = (refl, refl)
+passes_by (set has) w i j s none = (refl, refl)
+passes_by begin w i j s none = (refl, refl)
+passes_by end w i j s none = (refl, refl)
+passes_by other w i j s none = inl (none, refl, refl)
+
+pub enters_later : (e : Tree) (w : List ℕ) (i j a b c : ℕ) → a ≤ b → EntersGroups e w i j b c → EntersGroups e w i j a c
+unfolding TakesAtLeast
+enters_later e w i j a b c up enters =
+    let looks = enters.2 in
+    (enters.0, enters.1, record { last = looks.last; n = looks.n; walk = looks.walk; counts = let h = looks.counts in omega (arith, up, h) })
+
+groupless : (e : Tree) → NoGroups e → (k : ℕ) → GroupStandsIn e k → ⊥
+groupless (seq a b) none k has = ⊎_elim (groupless a none.0 k) (groupless b none.1 k) (or_cases (has_group a k) (has_group b k) has)
+groupless (alt a b) none k has = ⊎_elim (groupless a none.0 k) (groupless b none.1 k) (or_cases (has_group a k) (has_group b k) has)
+groupless (group n a) none k has = none
+groupless (star a first) none k has = groupless a none k has
+groupless (opt a first) none k has = groupless a none k has
+groupless other none k has = true≢false (sym has)
+
+-- where an expression has no group nothing is entered
+pub enters_nothing : (e : Tree) (w : List ℕ) (i j s : ℕ) → NoGroups e → EntersGroups e w i j s s
+unfolding TakesAtLeast
+enters_nothing e w i j s none =
+    let start : State = record { due = []; spans = Some (i, j) ∷ replicate 9 None } in (
+      start,
+      record { whole = refl; each = λ k low high has. absurd (groupless e none k has); none = refl },
+      record { last = start; n = 0; walk = passes_by e w i j start (λ k has. absurd (groupless e none k has)); counts = omega arith },
+    )

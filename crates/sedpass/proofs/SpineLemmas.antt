@@ -1,7 +1,6 @@
 -- What holds while a spine is followed from node to node, and while tasks wait.
-use Rattle.std.proofs.Common.{◌≡◌, ℕ, zero, suc, true, false, true≢false, ◌+◌, ◌-◌, ◌*◌, ◌≤◌, List, [], ◌∷◌, ◌++◌, length, reverse, Option, None, Some, refl, sym, ap, ◌∙◌, subst, inl, inr, arith, mul-le-mul_left}
+use Rattle.std.proofs.Common.{◌≡◌, ℕ, zero, suc, true, false, true≢false, ◌+◌, ◌-◌, ◌*◌, ◌≤◌, List, [], ◌∷◌, ◌++◌, length, reverse, Option, None, Some, refl, sym, ap, ◌∙◌, subst, inl, inr, arith, mul-le-mul_left, slice_index_or}
 use Rattle.std.proofs.lemmas.List.{reverse-append}
-use Rattle.std.specs.Prelude.{slice_index_or}
 use Rattle.sedre.specs.Sizes.{size}
 use Rattle.sedre.specs.Tree.{Tree, tree_at, expression_tree}
 use Rattle.sedre.specs.Steps.{Takes, TakesExactly, TakesAtLeast}
@@ -11,7 +10,7 @@ use Rattle.sedtext.specs.Groups.{Groups}
 use Rattle.sedtext.specs.Spans.{Matches}
 use Rattle.sedtext.proofs.NodeLemmas.{size-pos}
 use Rattle.sedpass.specs.Decide.{told_of, told_in, found, GoesOn, IsTold, IsTurn, Turned, Works, undecided, next_of, part_cost, kind_cost, nodes_in, text_in, AreReady, AreShort, AreWithin, Runs, weights, looks, descents, tasks_of, entered_at}
-use Rattle.sedpass.specs.Groups.{holds}
+use Rattle.sedpass.specs.Prepared.{holds}
 use Rattle.sedpass.specs.Walks.{State, drop_groups, Walk}
 use Rattle.sedpass.specs.declared.group_set.GroupSet.{GroupSet}
 use Rattle.sedpass.specs.declared.groups.Matched.{Matched}

@@ -1,13 +1,11 @@
 -- Tables of states.
-use Rattle.std.proofs.Common.{◌≡◌, ◌≢◌, ℕ, zero, suc, ◌+◌, ◌*◌, ◌/◌, ◌%◌, ◌^◌, ◌<◌, ◌≤◌, ◌↔◌, Bool, true, false, ◌||◌, List, length, length-set, Option, Some, None, IsTrue, refl, sym, ap, ◌∙◌, subst, ⊎_elim, arith, mul-le-mul_left}
-use Rattle.std.proofs.lemmas.Nat.{same_from_place}
-use Rattle.std.specs.Prelude.{slice_index_or, slice_set, replicate}
+use Rattle.std.proofs.Common.{◌≡◌, ◌≢◌, ℕ, zero, suc, ◌+◌, ◌*◌, ◌/◌, ◌%◌, ◌^◌, ◌<◌, ◌≤◌, ◌↔◌, Bool, true, false, List, length, length-set, Option, Some, None, IsTrue, refl, sym, ap, ◌∙◌, subst, ⊎_elim, arith, mul-le-mul_left, slice_index_or, slice_set, replicate}
+use Rattle.std.proofs.lemmas.Nat.{same_from_place, shl-shr, shl_whole, shl_below}
 use Rattle.std.specs.Int.{from_bool}
 use Rattle.std.specs.Vec.{with_item}
 use Rattle.std.proofs.Math.Nat.{pow-le-pow_right}
 use Rattle.std.proofs.lemmas.Bool.{cases_eq}
 use Rattle.std.proofs.lemmas.List.{get_or-set_same, get_or-set_other, get_or_default}
-use Rattle.std.proofs.lemmas.Nat.{shl-shr, shl_whole, shl_below}
 use Rattle.sedre.specs.Arena.{IsExpr}
 use Rattle.sedre.specs.Tree.{WrittenExpression}
 use Rattle.sedre.specs.Mirror.{mirror_node, seen}
@@ -17,8 +15,7 @@ use Rattle.sedre.specs.declared.types.Node.TheVariants.{Set}
 use Rattle.sedtext.specs.Words.{AgreeBelow, row_of}
 use Rattle.sedpass.specs.Prepared.{SameNulls}
 use Rattle.sedpass.specs.Rows.{nodes_of, at_begin, at_end, bits, SameBytes, LeadsTo, IsFirstRow}
-use Rattle.sedpass.specs.Cells.{stops, code_of, ColumnAt, EdgeApart, EdgeFits, IsLayout, IsColumn}
-use Rattle.sedpass.specs.Table.{State, state_of, IsTold, HasRow, HasMarks, LeadsOn, BeginsIn, Names, IsNext, IsOffset, cell_of, LeadsBy, kind_number, beginning_at, beginning_of, MayBegin, HasRoom, IsRoomy, IsTable, SameRoom, SameShape, AddsStates, Codes}
+use Rattle.sedpass.specs.Table.{State, state_of, IsTold, HasRow, HasMarks, LeadsOn, BeginsIn, Names, IsNext, IsOffset, cell_of, LeadsBy, kind_number, beginning_at, beginning_of, MayBegin, HasRoom, IsRoomy, IsTable, SameRoom, SameShape, AddsStates, Codes, stops, code_of, ColumnAt, EdgeApart, EdgeFits, IsLayout, IsColumn}
 use Rattle.sedpass.specs.declared.cells.Flags.{Flags}
 use Rattle.sedpass.specs.declared.cells.Layout.{Layout}
 use Rattle.sedpass.specs.declared.nodes.Kind.{Kind}

@@ -1,10 +1,6 @@
-pub mod Cells
-pub mod Classes
 pub mod Decide
 pub mod Forwards
-pub mod Groups
 pub mod Kept
-pub mod Lengths
 pub mod Prepared
 pub mod Regions
 pub mod Rows

@@ -9,8 +9,7 @@ ghost use Rattle.sedre.specs.Packed.{PartsBelow};
 ghost use Rattle.sedre.specs.Steps.{Takes, TakesExactly, TakesAtLeast};
 ghost use Rattle.sedre.specs.Sizes.{size};
 ghost use Rattle.sedpass.specs.Walks.{has_group};
-ghost use Rattle.sedpass.specs.Lengths.{sum_of, same_of, length_of};
-ghost use Rattle.sedpass.specs.Prepared.{IsPrepared, IsFacts, AreFacts, IsShort, IsOfEachKind, is_set, run_of, null_at, null_in, nullable};
+ghost use Rattle.sedpass.specs.Prepared.{IsPrepared, IsFacts, AreFacts, IsShort, IsOfEachKind, is_set, run_of, null_at, null_in, nullable, sum_of, same_of, length_of};
 ghost use Rattle.sedpass.specs.Rows.{IsNodeRange};
 ghost use Rattle.sedpass.specs.declared.nodes.Facts.{Facts};
 

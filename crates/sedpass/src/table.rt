@@ -8,10 +8,9 @@ ghost use Rattle.sedtext.specs.Words.{row_of};
 ghost use Rattle.sedre.specs.Steps.{Takes, TakesAtLeast};
 ghost use Rattle.sedpass.specs.Rows.{nodes_of, bits};
 ghost use Rattle.sedre.specs.Arena.{IsExpr};
-ghost use Rattle.sedpass.specs.Cells.{IsLayout};
 ghost use Rattle.sedpass.specs.declared.nodes.Kind.{Kind};
 ghost use Rattle.sedpass.specs.declared.nodes.Prepared.{Prepared};
-ghost use Rattle.sedpass.specs.Table.{state_of, HasRow, HasMarks, BeginsIn, Names, IsNext, IsOffset, beginning_at, MayBegin, IsRoomy, IsTable, SameRoom, SameShape, Codes};
+ghost use Rattle.sedpass.specs.Table.{state_of, HasRow, HasMarks, BeginsIn, Names, IsNext, IsOffset, beginning_at, MayBegin, IsRoomy, IsTable, SameRoom, SameShape, Codes, IsLayout};
 
 use crate::cells::{Flags, Layout, code_of, empty_cells, stops};
 use crate::nodes::{Kind, Prepared};

@@ -31,13 +31,7 @@ fn width_of(
     ensures cost { Takes steps.old steps.new 1 }
 {
     match form_of(expr, index, steps) {
-        Form::Byte(other) => {
-            if other.same(set) {
-                Some(1)
-            } else {
-                None
-            }
-        }
+        Form::Byte(other) => { if other.same(set) { Some(1) } else { None } }
         Form::Both(first, second) => widths[first].checked_add(widths[second]),
         Form::Inner(part) => Some(widths[part]),
         _ => None,

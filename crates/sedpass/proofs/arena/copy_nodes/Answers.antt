@@ -1,5 +1,4 @@
-use Rattle.std.proofs.Common.{◌≡◌, Some, refl, ◌++◌, ◌∷◌, [], length, ap, sym, ◌∙◌, length-append, arith}
-use Rattle.std.specs.Prelude.{slice_get, take}
+use Rattle.std.proofs.Common.{◌≡◌, Some, refl, ◌++◌, ◌∷◌, [], length, ap, sym, ◌∙◌, length-append, arith, slice_get, take}
 use Rattle.std.proofs.lemmas.List.{take_more, take_all}
 use Rattle.std.proofs.lemmas.Option.{slice_get_within, get_or_from_slice_get}
 use Rattle.sedre.specs.Steps.{TakesAtLeast, TakesExactly}

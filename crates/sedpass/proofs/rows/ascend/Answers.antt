@@ -1,5 +1,4 @@
-use Rattle.std.proofs.Common.{◌≡◌, refl, Some, ap, ◌∙◌, arith, ◌&&◌}
-use Rattle.std.specs.Prelude.{slice_get, slice_index_or, false}
+use Rattle.std.proofs.Common.{◌≡◌, refl, Some, ap, ◌∙◌, arith, ◌&&◌, slice_get, slice_index_or, false}
 use Rattle.sedre.specs.Steps.{TakesAtLeast, TakesExactly}
 use Rattle.sedtext.specs.Matching.{byte_is_in}
 use Rattle.sedpass.specs.Prepared.{null_in}

@@ -1,5 +1,4 @@
-use Rattle.std.proofs.Common.{◌≡◌, ◌+◌, ◌-◌, Bool, Some, refl, ◌∙◌, arith, ℕ, length}
-use Rattle.std.specs.Prelude.{slice_get, slice_index_or, slice_set, false}
+use Rattle.std.proofs.Common.{◌≡◌, ◌+◌, ◌-◌, Bool, Some, refl, ◌∙◌, arith, ℕ, length, slice_get, slice_index_or, slice_set, false}
 use Rattle.sedre.specs.Steps.{TakesAtLeast, TakesExactly}
 use Rattle.sedre.proofs.MirrorLemmas.{seen-arena, seen-length}
 use Rattle.sedtext.specs.PartMarks.{enter_parts}

@@ -1,5 +1,4 @@
-use Rattle.std.proofs.Common.{◌+◌, Some, length, ◌∙◌, sym, arith, true≢false}
-use Rattle.std.specs.Prelude.{false}
+use Rattle.std.proofs.Common.{◌+◌, Some, length, ◌∙◌, sym, arith, true≢false, false}
 use Rattle.sedre.proofs.MirrorLemmas.{seen-length}
 use Rattle.sedtext.specs.Places.{IsPlace}
 use Rattle.sedpass.specs.Rows.{nodes_of, at_begin, at_end, TellTook}

@@ -1,14 +1,13 @@
-use Rattle.std.proofs.Common.{◌≡◌, ◌+◌, ◌-◌, ◌≤◌, ℕ, length, Option, None, Some, refl, subst, arith}
+use Rattle.std.proofs.Common.{◌≡◌, ◌+◌, ◌-◌, ◌≤◌, ℕ, length, Option, None, Some, refl, subst, arith, IfSome}
 use Rattle.sedre.specs.Tree.{expression_tree}
-use Rattle.std.specs.Prelude.{IfSome}
 use Rattle.sedtext.specs.Reach.{IsLongestFrom}
 use Rattle.sedtext.proofs.SpanLemmas.{Matches-forward, Matches-within}
 use Rattle.sedpass.proofs.KeptLemmas.{same_shape}
 use Rattle.sedpass.proofs.SearchLemmas.{found_at, hit_paid, hit_room, none_further, none_more, none_on, looks_tried, trial_cost, trial_is}
 use Rattle.sedtext.proofs.CountLemmas.{least_none}
 use Rattle.sedpass.proofs.ForwardLemmas.{ahead_still}
-use Rattle.sedpass.proofs.search.try_all.Goals as goal
 use Rattle.sedpass.proofs.search.try_all.Goals.{else-start-length-via-then-start-length+else-tried-length, else-start-length-via-else-start-length}
+use Rattle.sedpass.proofs.search.try_all.Goals as goal
 
 pub run-passed-requires-clause-from : goal.run-passed-requires-clause-from
 run-passed-requires-clause-from c = c.in-Some.ensures.next.1

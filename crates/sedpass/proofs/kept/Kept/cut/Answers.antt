@@ -1,12 +1,10 @@
-use Rattle.std.proofs.Common.{◌≡◌, ◌-◌, ◌*◌, ◌<◌, ◌≤◌, ◌↔◌, ⊎_elim, refl, sym, subst, IsTrue, arith}
-use Rattle.std.specs.Prelude.{length}
+use Rattle.std.proofs.Common.{◌≡◌, ◌-◌, ◌*◌, ◌<◌, ◌≤◌, ◌↔◌, ⊎_elim, refl, sym, subst, IsTrue, arith, length}
 use Rattle.std.proofs.lemmas.Bool.{cases_lt}
 use Rattle.sedre.specs.Steps.{TakesAtLeast}
 use Rattle.sedtext.specs.Reach.{one_start}
-use Rattle.sedpass.specs.Kept.{Follows, KeepsRegion, Meet, ends_told, owed}
+use Rattle.sedpass.specs.Kept.{KeepsRegion, Meet, ends_told, owed}
 use Rattle.sedpass.specs.Regions.{Meets}
-use Rattle.sedpass.proofs.AheadLemmas.{follows_first, meet_end}
-use Rattle.sedpass.proofs.KeptLemmas.{keeps_same, keeps_then, same_shape, told_as}
+use Rattle.sedpass.proofs.KeptLemmas.{keeps_same, keeps_then, same_shape, told_as, follows_first, meet_end}
 use Rattle.sedpass.proofs.OwedLemmas.{owed_falls, cut_on, cut_at}
 use Rattle.sedpass.proofs.TableLemmas.{names_offset, names_state}
 use Rattle.sedtext.proofs.CountLemmas.{least_none, least_both, least_since}
@@ -79,8 +77,8 @@ loop-place-preserved c =
       cost = (
         (let h = before.cost.0 in let g = ready.cost.0 in let f = meet.cost.0 in omega (arith, h, g, f)),
         cut_on m (owed m c.args.self.now.region c.args.from) (owed m c.loop-place.self.region c.loop-place.place) (owed m c.ready-to.new.self.region c.loop-place.place) (owed m c.meet-reached.new.self.region reached)
-          c.loop-place.steps _ c.ready-to.new.steps c.meet-reached.new.steps c.args.from c.loop-place.place reached before.cost.1 ready.cost.1 (meet.whole at).1
-          (subst (λ r. owed m r reached ≤ owed m c.ready-to.new.self.region c.loop-place.place) (sym meet.region) (owed_falls m c.ready-to.new.self.region c.loop-place.place reached (omega (arith, up)))),
+            c.loop-place.steps _ c.ready-to.new.steps c.meet-reached.new.steps c.args.from c.loop-place.place reached before.cost.1 ready.cost.1 (meet.whole at).1
+            (subst (λ r. owed m r reached ≤ owed m c.ready-to.new.self.region c.loop-place.place) (sym meet.region) (owed_falls m c.ready-to.new.self.region c.loop-place.place reached (omega (arith, up)))),
       );
       counts = counts here;
     }

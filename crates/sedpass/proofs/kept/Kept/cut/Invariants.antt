@@ -1,5 +1,4 @@
-use Rattle.std.proofs.Common.{◌+◌, ◌-◌, ◌*◌, ◌≤◌}
-use Rattle.std.specs.Prelude.{length}
+use Rattle.std.proofs.Common.{◌+◌, ◌-◌, ◌*◌, ◌≤◌, length}
 use Rattle.sedre.specs.Steps.{TakesAtLeast}
 use Rattle.sedpass.specs.Table.{IsOffset, IsTable, SameShape}
 use Rattle.sedpass.specs.Kept.{Follows, KeepsRegion, Meet, owed}

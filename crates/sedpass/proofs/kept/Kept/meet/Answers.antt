@@ -1,9 +1,7 @@
-use Rattle.std.proofs.Common.{rules, ◌≡◌, ◌+◌, ◌<◌, ◌≤◌, refl, sym, ap, ◌∙◌, subst, true≢false, arith}
-use Rattle.std.specs.Prelude.{length, slice_index_or}
+use Rattle.std.proofs.Common.{rules, ◌≡◌, ◌+◌, ◌<◌, ◌≤◌, refl, sym, ap, ◌∙◌, subst, true≢false, arith, length, slice_index_or}
 use Rattle.std.proofs.lemmas.Bool.{eqb-true, eq-eqb}
 use Rattle.sedpass.specs.Kept.{Follows, Meet}
-use Rattle.sedpass.proofs.AheadLemmas.{follows_next, meet_on, meet_read, place_cost}
-use Rattle.sedpass.proofs.KeptLemmas.{kept_row, same_shape, keeps_same}
+use Rattle.sedpass.proofs.KeptLemmas.{kept_row, same_shape, follows_next, meet_on, meet_read, place_cost}
 use Rattle.sedpass.proofs.TableLemmas.{names_offset, names_state}
 use Rattle.sedtext.proofs.CountLemmas.{least_none, least_both, least_since, least_up, least_counted}
 use Rattle.sedpass.proofs.kept.Kept.meet.Goals as goal

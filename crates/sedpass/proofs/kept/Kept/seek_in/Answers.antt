@@ -1,5 +1,4 @@
-use Rattle.std.proofs.Common.{◌↔◌, IsTrue, arith}
-use Rattle.std.specs.Prelude.{length, not}
+use Rattle.std.proofs.Common.{◌↔◌, IsTrue, arith, length, not}
 use Rattle.sedpass.specs.Kept.{ends_told}
 use Rattle.sedpass.specs.Regions.{ReachesEnd}
 use Rattle.sedpass.proofs.KeptLemmas.{as_asked, kept_mark, kept_row, marked_on, not_asked}

@@ -1,5 +1,4 @@
-use Rattle.std.proofs.Common.{◌+◌, ◌-◌, ◌≤◌}
-use Rattle.std.specs.Prelude.{length, not}
+use Rattle.std.proofs.Common.{◌-◌, ◌≤◌, length, not}
 use Rattle.sedre.specs.Steps.{TakesAtLeast}
 use Rattle.sedpass.specs.Kept.{AllMarked, ends_told}
 use Rattle.sedtext.specs.Costs.{CostsWithin}

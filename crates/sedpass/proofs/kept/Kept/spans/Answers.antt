@@ -1,5 +1,4 @@
-use Rattle.std.proofs.Common.{◌≡◌, ◌<◌, ◌↔◌, sym, ap, ◌∙◌, subst, IsTrue, arith}
-use Rattle.std.specs.Prelude.{false}
+use Rattle.std.proofs.Common.{◌≡◌, ◌<◌, ◌↔◌, sym, ap, ◌∙◌, subst, IsTrue, arith, false}
 use Rattle.sedtext.specs.Reach.{At, one_start}
 use Rattle.sedpass.specs.Regions.{IsLastIn}
 use Rattle.sedpass.proofs.LeaveLemmas.{last_inside}

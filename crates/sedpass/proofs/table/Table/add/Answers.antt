@@ -1,10 +1,8 @@
-use Rattle.std.proofs.Common.{rules, ◌≡◌, ℕ, ◌+◌, ◌*◌, ◌%◌, ◌^◌, ◌<◌, ◌∙◌, ◌↔◌, length, length-set, mul-le-mul_left, ◌≤◌, IsTrue, refl, sym, ap, subst, arith}
-use Rattle.std.specs.Prelude.{slice_index_or, false}
+use Rattle.std.proofs.Common.{rules, ◌≡◌, ℕ, ◌+◌, ◌*◌, ◌%◌, ◌^◌, ◌<◌, ◌∙◌, ◌↔◌, length, length-set, mul-le-mul_left, ◌≤◌, IsTrue, refl, sym, ap, subst, arith, slice_index_or, false}
 use Rattle.std.specs.Vec.{with_item}
 use Rattle.sedtext.specs.Words.{AgreeBelow, row_of}
-use Rattle.sedpass.specs.Cells.{stops, code_of}
 use Rattle.sedpass.specs.Rows.{bits}
-use Rattle.sedpass.specs.Table.{State, IsTold, HasRow, AddsStates, HasRoom, cell_of}
+use Rattle.sedpass.specs.Table.{State, IsTold, HasRow, AddsStates, HasRoom, cell_of, stops, code_of}
 use Rattle.sedpass.specs.declared.cells.Flags.{Flags}
 use Rattle.sedpass.specs.declared.table.Table.{Table}
 use Rattle.sedpass.proofs.RowLemmas.{bits_here}

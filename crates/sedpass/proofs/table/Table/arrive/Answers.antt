@@ -1,8 +1,6 @@
-use Rattle.std.proofs.Common.{◌*◌, ◌/◌, ◌^◌, ◌<◌, ◌∙◌, false, length, ap, inl, inr, arith}
-use Rattle.std.specs.Prelude.{slice_index_or}
+use Rattle.std.proofs.Common.{◌*◌, ◌/◌, ◌^◌, ◌<◌, ◌∙◌, false, length, ap, inl, inr, arith, slice_index_or}
 use Rattle.std.specs.Option.{option_or}
-use Rattle.sedpass.specs.Cells.{stops}
-use Rattle.sedpass.specs.Table.{state_of}
+use Rattle.sedpass.specs.Table.{state_of, stops}
 use Rattle.sedpass.proofs.TableLemmas.{code_some, names_offset}
 use Rattle.sedpass.proofs.ForwardLemmas.{arrive_plain, arrive_low}
 use Rattle.std.proofs.lemmas.List.{get_or_default}

@@ -1,4 +1,4 @@
-use Rattle.std.proofs.Common.{Bool, ℕ, ◌+◌, ◌<◌, length, refl, arith}
+use Rattle.std.proofs.Common.{Bool, ◌+◌, ◌<◌, length, refl, arith}
 use Rattle.std.specs.Vec.{with_item}
 use Rattle.sedre.specs.Steps.{TakesAtLeast}
 use Rattle.sedpass.specs.Rows.{nodes_of}

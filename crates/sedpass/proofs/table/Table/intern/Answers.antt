@@ -1,7 +1,6 @@
-use Rattle.std.proofs.Common.{◌*◌, ◌%◌, ◌^◌, ◌<◌, ◌∙◌, false, length, ap, subst, arith}
-use Rattle.std.specs.Prelude.{slice_index_or}
+use Rattle.std.proofs.Common.{◌*◌, ◌%◌, ◌^◌, ◌<◌, ◌∙◌, false, length, ap, subst, arith, slice_index_or}
 use Rattle.sedre.specs.Steps.{TakesAtLeast}
-use Rattle.sedpass.specs.Cells.{stops, code_of}
+use Rattle.sedpass.specs.Table.{stops, code_of}
 use Rattle.sedpass.proofs.TableLemmas.{adds_none, few_offset, shifted}
 use Rattle.std.proofs.lemmas.List.{get_or_default}
 use Rattle.sedtext.proofs.CountLemmas.{least_up}
