@@ -8,7 +8,6 @@ use Rattle.sedtext.specs.Costs.{CostsWithin}
 use Rattle.sedtext.specs.Answer.{SpanAnswer}
 use Rattle.sedtext.specs.Following.{EndsWithin, LiesOn, next_span}
 use Rattle.sedtext.specs.Matching.{found, unless_null_at}
-use Rattle.sedpass.specs.Occurrences.{owed_behind}
 use Rattle.sedpass.proofs.OccurrenceLemmas.{answer_found, passed_by, search_falls}
 use Rattle.sedmatch.specs.Direct.{IsDirect, end_or}
 use Rattle.sedmatch.specs.Occurrences.{Serves, ServesOn, owed, owed_after, owed_direct, owed_direct_after}
@@ -18,6 +17,7 @@ use Rattle.sedmatch.specs.declared.occurrences.Occurrences.{Occurrences}
 use Rattle.sedmatch.specs.declared.passes.Passes.{Passes}
 use Rattle.sedmatch.specs.declared.table_matcher.Engine.{Engine}
 use Rattle.sedmatch.specs.declared.table_matcher.Engine.TheVariants.{Direct}
+use Rattle.sedpass.specs.Search.{owed_behind}
 
 -- What the expression is.
 

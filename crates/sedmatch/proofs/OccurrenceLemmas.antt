@@ -14,22 +14,20 @@ use Rattle.sedtext.specs.Following.{LiesOn, Occurs, bytes_passed, next_span}
 use Rattle.sedtext.specs.Matching.{found}
 use Rattle.sedtext.specs.Words.{row_of}
 use Rattle.sedpass.specs.Kept.{KeptRoom, SameSpace}
-use Rattle.sedpass.specs.Occurrences.{SearchTakes, owed_behind}
-use Rattle.sedpass.specs.Search.{Searched, Serves as SearchServes, owed_after as owed_after_search, search_cost}
+use Rattle.sedpass.specs.Search.{Searched, Serves as SearchServes, owed_after as owed_after_search, search_cost, SearchTakes, owed_behind}
 use Rattle.sedpass.specs.Table.{IsRoomy, IsTable, SameRoom, SameShape}
 use Rattle.sedpass.specs.declared.search.Seeking.{Seeking}
 use Rattle.sedpass.specs.declared.kept.Kept.{Kept}
 use Rattle.sedpass.specs.declared.nodes.Prepared.{Prepared}
 use Rattle.sedpass.specs.declared.table.Table.{Table}
-use Rattle.sedpass.proofs.CountLemmas.{least_fewer, least_since}
-use Rattle.sedpass.proofs.ExpressionLemmas.{serves_for, table_for}
 use Rattle.sedpass.proofs.OccurrenceLemmas.{search_falls}
-use Rattle.sedpass.proofs.SearchLemmas.{search_long}
+use Rattle.sedpass.proofs.SearchLemmas.{search_long, serves_for, table_for}
 use Rattle.sedpass.proofs.TableLemmas.{roomy_fewer, roomy_still}
 use Rattle.sedmatch.proofs.PassLemmas.{blocks_enough, few_looks, kept_room}
 use Rattle.sedmatch.specs.declared.occurrences.Occurrences.{Occurrences}
 use Rattle.sedmatch.specs.Passes.{IsRoomyWay, back_way}
 use Rattle.sedmatch.specs.Occurrences.{HasTable, HaveOwn, IsBack, IsReady, RoomAt, RoomFor, Serves, ServesIn, ServesOn, TellsNext, owed, owed_after, owed_search}
+use Rattle.sedtext.proofs.CountLemmas.{least_less, least_since}
 
 -- Lists.
 
@@ -131,7 +129,7 @@ module _ (e : WrittenExpression) (old new : Occurrences) (keeps : KeepsTables e 
 module _ (p : Prepared) (w : List ℕ) (o : Occurrences) (at : RoomAt (length w) o.number p.arena.expr o) where
   -- an expression's own table has some states
   pub own_states : (t : Table) → slice_get o.own.items o.number ≡ Some (Some t) → (2 ≤ t.room) × (t.room ≤ 65535)
-  own_states t there = let table = (at.own t there).1 p refl in (table.room.some, table.room.few)
+  own_states t there = let table = (at.own t there).1 p refl in (table.room.rows.some, table.room.rows.few)
 
   -- its own is ready for the text, where its blocks are enough
   pub own_kept : (t : Table) → slice_get o.own.items o.number ≡ Some (Some t) → length w < length o.seeking.kept.edges / 2 * (t.room - 1) →
@@ -332,13 +330,13 @@ lies_first n (Some f) lies = (lies.1, lies.2, tt)
 looks_at_occurrence : (e : Tree) (w : List ℕ) (last : Option ℕ) (s t : ℕ) (r : Option (ℕ × ℕ)) → IfSome r (Occurs e w last) → IfSome r (λ f. TakesAtLeast s t (f.1 - unwrap_or last 0)) →
     IfSome r (λ f. TakesAtLeast s t (f.1 - f.0))
 looks_at_occurrence e w last s t None occurs looks = tt
-looks_at_occurrence e w None s t (Some f) occurs looks = least_fewer s t (f.1 - 0) (f.1 - f.0) (omega arith) looks
-looks_at_occurrence e w (Some q) s t (Some f) occurs looks = least_fewer s t (f.1 - q) (f.1 - f.0) (omega (arith, occurs.1.2.0)) looks
+looks_at_occurrence e w None s t (Some f) occurs looks = least_less s t (f.1 - 0) (f.1 - f.0) looks (omega arith)
+looks_at_occurrence e w (Some q) s t (Some f) occurs looks = least_less s t (f.1 - q) (f.1 - f.0) looks (omega (arith, occurs.1.2.0))
 
 pub looks_passed : (last : Option ℕ) (s t : ℕ) (r : Option (ℕ × ℕ)) → IfSome r (λ f. TakesAtLeast s t (f.1 - unwrap_or last 0)) → IfSome r (λ f. TakesAtLeast s t (bytes_passed last f))
 looks_passed last s t None looks = tt
-looks_passed None s t (Some f) looks = least_fewer s t (f.1 - 0) f.1 (omega arith) looks
-looks_passed (Some q) s t (Some f) looks = least_fewer s t (f.1 - q) (f.1 - (q + 1)) (omega arith) looks
+looks_passed None s t (Some f) looks = least_less s t (f.1 - 0) f.1 looks (omega arith)
+looks_passed (Some q) s t (Some f) looks = least_less s t (f.1 - q) (f.1 - (q + 1)) looks (omega arith)
 
 pub looks_since : (passed : ℕ × ℕ → ℕ) (s t u : ℕ) (r : Option (ℕ × ℕ)) → s ≤ t → IfSome r (λ f. TakesAtLeast t u (passed f)) → IfSome r (λ f. TakesAtLeast s u (passed f))
 looks_since passed s t u None grows looks = tt

@@ -6,7 +6,7 @@ use Rattle.sedre.specs.Steps.{StepsWithin, Takes, TakesAtLeast}
 use Rattle.sedre.specs.Tree.{Tree}
 use Rattle.sedtext.specs.Answer.{SpanAnswer}
 use Rattle.sedpass.specs.Search.{LooksFrom}
-use Rattle.sedpass.proofs.CountLemmas.{least_fewer, least_since}
+use Rattle.sedtext.proofs.CountLemmas.{least_less, least_since}
 
 -- What searches cost, with m nodes in a text of n bytes.
 
@@ -64,7 +64,7 @@ bare_cost m n s t u v ready sought same =
 -- a look for each byte of the match, which was sought by passes
 pub looks_at_span : (e : Tree) (w : List ℕ) (from s t : ℕ) (r : Option (ℕ × ℕ)) → SpanAnswer e w from r → LooksFrom from s t r → IfSome r (λ f. TakesAtLeast s t (f.1 - f.0))
 looks_at_span e w from s t None answer looks = tt
-looks_at_span e w from s t (Some f) answer looks = least_fewer s t (f.1 + 1 - from) (f.1 - f.0) (omega (arith, answer.0.after)) looks
+looks_at_span e w from s t (Some f) answer looks = least_less s t (f.1 + 1 - from) (f.1 - f.0) looks (omega (arith, answer.0.after))
 
 -- a look for each byte of the match
 pub counts_since : (r : Option (ℕ × ℕ)) (s t u : ℕ) → s ≤ t → IfSome r (λ f. TakesAtLeast t u (f.1 - f.0)) → IfSome r (λ f. TakesAtLeast s u (f.1 - f.0))

@@ -26,13 +26,13 @@ use Rattle.sedpass.specs.declared.kept.Subject.{Subject}
 use Rattle.sedpass.specs.declared.nodes.Prepared.{Prepared}
 use Rattle.sedpass.specs.declared.rows.Work.{Work}
 use Rattle.sedpass.specs.declared.table.Table.{Table}
-use Rattle.sedpass.proofs.CountLemmas.{passes_later}
 use Rattle.sedpass.proofs.DecideLemmas.{has_desk, space_again}
 use Rattle.sedpass.proofs.TableLemmas.{roomy_fewer, roomy_still}
-use Rattle.sedpass.proofs.WalkLemmas.{enters_nothing}
+use Rattle.sedpass.proofs.OneGroupLemmas.{enters_nothing}
 use Rattle.sedmatch.specs.Passes.{AreOwn, IsDesk, IsRoomyWay, KeepsDesk, TellsGroups, TellsMatch, any_way, back_way}
 use Rattle.sedmatch.specs.declared.passes.OwnTables.{OwnTables}
 use Rattle.sedmatch.specs.declared.scratch.Desk.{Desk}
+use Rattle.sedpass.proofs.ForwardLemmas.{passes_later}
 
 -- What is told of a text.
 
@@ -156,7 +156,7 @@ desk_enough d room is same some = blocks_enough d.max_text (d.shared.inside.room
 
 pub desk_keeps : (d : Desk) (p : Prepared) (back : Table) (m n : ℕ) → IsDesk d → IsTable p back → SameRoom d.back back → n ≤ d.max_text → m ≤ d.max_nodes → KeptRoom m n back d.room.kept
 desk_keeps d p back m n is table same short few =
-    let enough = desk_enough d back.room is (same.1 ∙ is.states) table.room.some in
+    let enough = desk_enough d back.room is (same.1 ∙ is.states) table.room.rows.some in
     let places = is.space.places in
     kept_room m n back d.room.kept (same.0 ∙ is.back.1) (omega (arith, places, short)) (omega (arith, enough, short)) (λ q low. let marks = is.space.marks q low in omega (arith, marks, few))
 
@@ -164,7 +164,7 @@ desk_keeps d p back m n is table same short few =
 pub shared_decides : (s : Subject) (fitted : GroupTables) (d : Desk) → AreGroupTables s.prepared.now fitted → SameRooms d.shared fitted → IsDesk d → length s.text.now ≤ d.max_text →
     length s.prepared.now.arena.expr.nodes ≤ d.max_nodes → HasDesk s fitted d.room.kept
 shared_decides s fitted d tables fit is short few =
-    let enough = desk_enough d fitted.inside.room is fit.inside.1 tables.inside.room.some in
+    let enough = desk_enough d fitted.inside.room is fit.inside.1 tables.inside.room.rows.some in
     own_decides s fitted d (length s.text.now) tables is short few refl (omega (arith, enough, short))
 
 -- the table goes the same way, and has as much room for expressions of at most m nodes

@@ -1,13 +1,12 @@
 -- How classes of bytes are found.
-use Rattle.std.proofs.Common.{◌≡◌, ℕ, ◌+◌, ◌*◌, ◌<◌, ◌≤◌, Bool, true, false, List, length, length-set, Some, IsTrue, refl, sym, ap, ◌∙◌, subst, ⊎_elim, arith}
-use Rattle.std.specs.Prelude.{slice_get, slice_index_or, slice_set}
+use Rattle.std.proofs.Common.{◌≡◌, ℕ, ◌+◌, ◌*◌, ◌<◌, ◌≤◌, Bool, true, false, List, length, length-set, Some, IsTrue, refl, sym, ap, ◌∙◌, subst, ⊎_elim, arith, slice_get, slice_index_or, slice_set}
 use Rattle.std.specs.Int.{from_bool}
 use Rattle.std.proofs.lemmas.List.{get_or-set_same, get_or-set_other}
 use Rattle.std.proofs.lemmas.Bool.{cases_eq}
 use Rattle.std.proofs.lemmas.Bool.Decides.{same_from_decides}
 use Rattle.std.proofs.lemmas.Option.{same_Some}
 use Rattle.sedre.specs.Sets.{has}
-use Rattle.sedpass.specs.Classes.{IsNumbering, IsGiven, IsFiner}
+use Rattle.sedpass.specs.Prepared.{IsNumbering, IsGiven, IsFiner}
 
 abbrev at : List ℕ → ℕ → ℕ
 at xs k = slice_index_or xs k 0
@@ -42,7 +41,7 @@ given_more key numbers of after of' count next byte k inside is small given set 
     (was.0, there ∙ number ∙ sym (given.kept (key b) (omega arith)), omega arith))
     (cases_eq b byte)
 
-sides : (c d : ℕ) (s t : Bool) → 2 * c + from_bool s ≡ 2 * d + from_bool t → (c ≡ d) × (s ≡ t)
+pub sides : (c d : ℕ) (s t : Bool) → 2 * c + from_bool s ≡ 2 * d + from_bool t → (c ≡ d) × (s ≡ t)
 sides c d true true e = (omega arith, refl)
 sides c d false false e = (omega arith, refl)
 sides c d true false e = absurd (omega arith)

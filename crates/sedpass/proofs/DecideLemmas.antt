@@ -1,6 +1,5 @@
 -- The groups that are told to be due, as the state of a decision; what nodes and regions cost.
-use Rattle.std.proofs.Common.{◌≡◌, ℕ, zero, suc, ◌+◌, ◌-◌, ◌*◌, ◌<◌, ◌≤◌, ◌↔◌, ◌&&◌, not, Bool, true, false, List, [], ◌∷◌, length, Option, None, Some, IsTrue, refl, sym, ap, ◌∙◌, subst, inl, inr, ⊎_elim, true≢false, arith, mul-le-mul_left}
-use Rattle.std.specs.Prelude.{IfSome, eqb, nat_lt, slice_get, slice_set, slice_index_or, replicate, vec_capacity}
+use Rattle.std.proofs.Common.{◌≡◌, ℕ, zero, suc, ◌+◌, ◌-◌, ◌*◌, ◌<◌, ◌≤◌, ◌↔◌, ◌&&◌, not, Bool, true, false, List, [], ◌∷◌, length, Option, None, Some, IsTrue, refl, sym, ap, ◌∙◌, subst, inl, inr, ⊎_elim, true≢false, arith, mul-le-mul_left, IfSome, eqb, nat_lt, slice_get, slice_set, slice_index_or, vec_capacity}
 use Rattle.std.specs.Int.{bit_at}
 use Rattle.std.proofs.lemmas.Bool.{and_parts, and_from, cases_Bool, cases_lt, lt-ltb, le-ltb}
 use Rattle.std.proofs.lemmas.Option.{cond_some}
@@ -8,7 +7,7 @@ use Rattle.std.proofs.lemmas.List.{ext_get_or, length-set}
 use Rattle.std.proofs.Math.Nat.{mul-le-mul_right}
 use Rattle.sedre.specs.Tree.{Tree, WrittenExpression, tree_at, expression_tree}
 use Rattle.sedre.specs.Arena.{IsArena, IsExpr, IsPart, AreRanges}
-use Rattle.sedre.specs.Steps.{Takes, TakesAtLeast}
+use Rattle.sedre.specs.Steps.{Takes}
 use Rattle.sedre.specs.declared.types.Node.{Node}
 use Rattle.sedre.specs.declared.types.NodeId.{NodeId}
 use Rattle.sedre.specs.declared.types.Node.TheVariants.{Set, Seq, Group, Star}
@@ -22,13 +21,11 @@ use Rattle.sedtext.proofs.NodeLemmas.{node_at}
 use Rattle.sedtext.proofs.ReachLemmas.{close_at}
 use Rattle.sedtext.proofs.SpanLemmas.{Matches-forward}
 use Rattle.sedpass.specs.Decide.{found, undecided, HasAll, flags_of, told_of, EndsRegion, IsAtEnd, IsDesk, HasDesk, IsSetAt, AreGroupTables, HasSpace, SameTables, KeepsDesk, part_cost, nodes_in, text_in, Blank, Stands}
-use Rattle.sedpass.specs.Groups.{reported, holds, has_group}
-use Rattle.sedpass.specs.Kept.{AllMarked, IsKept, SameKept, SameSpace, ends_told, owed}
-use Rattle.sedpass.specs.Lengths.{AllLong}
-use Rattle.sedpass.specs.Prepared.{IsFacts, null_in, is_set, run_of}
+use Rattle.sedpass.specs.Kept.{AllMarked, SameKept, SameSpace, ends_told, owed, KeepsRegion}
+use Rattle.sedpass.specs.Prepared.{IsFacts, is_set, run_of, reported, holds, AllLong}
 use Rattle.sedpass.specs.Regions.{CeasesAt, IsLastIn, NextCopy, ReachesEnd, IsRunOf, repeated, in_group}
 use Rattle.sedpass.specs.Table.{IsTable, SameShape, MayBegin}
-use Rattle.sedpass.specs.Walks.{settle, drop_groups, GroupStandsIn, NoneDue, IsStart}
+use Rattle.sedpass.specs.Walks.{settle, drop_groups, GroupStandsIn, NoneDue, IsStart, has_group}
 use Rattle.sedpass.specs.declared.group_set.GroupSet.{GroupSet}
 use Rattle.sedpass.specs.declared.groups.GroupRoom.{GroupRoom}
 use Rattle.sedpass.specs.declared.groups.GroupTables.{GroupTables}
@@ -37,16 +34,16 @@ use Rattle.sedpass.specs.declared.kept.Kept.{Kept}
 use Rattle.sedpass.specs.declared.kept.Region.{Region}
 use Rattle.sedpass.specs.declared.kept.Subject.{Subject}
 use Rattle.sedpass.specs.declared.nodes.Facts.{Facts}
-use Rattle.sedpass.specs.declared.nodes.Kind.{Kind}
 use Rattle.sedpass.specs.declared.table.Table.{Table}
-use Rattle.sedpass.proofs.FactLemmas.{null_tells}
-use Rattle.sedpass.proofs.KeptLemmas.{kept_space, same_shape, space_same, space_then}
+use Rattle.sedpass.proofs.KeptLemmas.{same_shape, space_same, space_then}
 use Rattle.sedpass.proofs.LeaveLemmas.{last_inside}
 use Rattle.sedpass.proofs.LengthLemmas.{all_long, copies_long, left_long, right_long}
 use Rattle.sedpass.proofs.MeetingLemmas.{run_stops, set_early, stops_at_copy, stops_at_cut}
-use Rattle.sedpass.proofs.OneGroupLemmas.{copy_spans, deed, drop_as, has_told, left, same_state, set_due, settle-due, settle-not}
+use Rattle.sedpass.proofs.OneGroupLemmas.{copy_spans, deed, drop_as, left, same_state, set_due, settle-due}
 use Rattle.sedpass.proofs.OwedLemmas.{owed_small}
 use Rattle.sedpass.proofs.TurnLemmas.{opened}
+use Rattle.sedpass.proofs.TableLemmas.{same_all}
+use Rattle.sedpass.proofs.ForwardLemmas.{ahead_still}
 
 -- an entry of the flags
 pub flags_at : (s : GroupSet) (k : ℕ) → slice_index_or (flags_of s) k false ≡ holds s k
@@ -69,11 +66,7 @@ none_due nodes x facts due spans is whole apart k has = elim (cases_Bool (holds 
 ]
   where
     facts_groups : holds due k ≡ true → holds facts.groups k ≡ true
-    facts_groups due_is = is.groups k ∙ and_from (reported k) (has_group (tree_at nodes x) k) (due_reported due k whole due_is) ((has_told (tree_at nodes x) k).1 has)
-
--- what a test denies
-pub not_met : (b : Bool) (P : Type 0) → b ≡ false → (IsTrue b ↔ P) → P → ⊥
-not_met b P is tells p = true≢false (sym (tells.1 p) ∙ is)
+    facts_groups due_is = is.groups k ∙ and_from (reported k) (has_group (tree_at nodes x) k) (due_reported due k whole due_is) has
 
 -- what is due and is not taken is due still
 still_due : (b r x : Bool) (v : Option (ℕ × ℕ)) → (b ≡ true → r ≡ true) → (b && not (r && x)) ≡ left b (deed x v)
@@ -98,10 +91,6 @@ settled old one new k v spans whole due alone without =
     flags_left old one new n (eqb k n) v whole (alone n) (without n) ∙ sym (set_due k n v (flags_of old)))) refl
     ∙ sym (settle-due k v (told_of old spans) (flags_at old k ∙ due))
 
--- one that isn't due is left
-pub unsettled : (due : GroupSet) (k : ℕ) (v : Option (ℕ × ℕ)) (spans : Groups) → holds due k ≡ false → told_of due spans ≡ settle k v (told_of due spans)
-unsettled due k v spans is = sym (settle-not k v (told_of due spans) (flags_at due k ∙ is))
-
 -- what is taken from what is due is not due before
 pub still_whole : (old other new : GroupSet) → holds old 0 ≡ false → ((n : ℕ) → holds new n ≡ (holds old n && not (holds other n))) → holds new 0 ≡ false
 still_whole old other new whole without = without 0 ∙ ap (λ b. b && not (holds other 0)) whole
@@ -119,7 +108,7 @@ all_told e root facts last is k low high has =
     let same : length e.nodes - 1 ≡ root = omega arith in
     is.groups k
     ∙ and_from (reported k) (has_group (tree_at e.nodes root) k) (and_from (nat_lt 0 k) (nat_lt k 10) (lt-ltb 0 k (omega arith)) (lt-ltb k 10 high))
-    ((has_told (tree_at e.nodes root) k).1 (subst (λ x. GroupStandsIn (tree_at e.nodes x) k) same has))
+    (subst (λ x. GroupStandsIn (tree_at e.nodes x) k) same has)
 
 pub starts_due : (e : Tree) (i j : ℕ) (due : GroupSet) → holds due 0 ≡ false → HasAll due e → IsStart e i j (told_of due (undecided i j))
 starts_due e i j due whole all = record {
@@ -138,14 +127,9 @@ found_set (Some t ∷ g) zero (Some u) = omega arith
 found_set (None ∷ g) (suc k) v = found_set g k v
 found_set (Some t ∷ g) (suc k) v = omega (arith, found_set g k v)
 
-none_there : (n k : ℕ) → slice_index_or {A = Option (ℕ × ℕ)} (replicate n None) k None ≡ None
-none_there zero k = refl
-none_there (suc n) zero = refl
-none_there (suc n) (suc k) = none_there n k
-
 pub starts_blank : (i j : ℕ) (due : GroupSet) → holds due 0 ≡ false → Blank (told_of due (undecided i j))
 starts_blank i j due whole zero is = absurd (true≢false (sym is ∙ whole))
-starts_blank i j due whole (suc k) is = none_there 9 k
+starts_blank i j due whole (suc k) is = same_all None 9 k
 
 -- Places.
 
@@ -163,13 +147,6 @@ null_cut s here a b stands same =
       right = subst (λ v. At nodes w b.index v here.stop) there parts.2;
       greatest = λ l left right. let on = Matches-forward (tree_at nodes b.index) w l here.stop right in omega arith;
     }
-
--- the null string is matched where it is told
-pub empty_told : (e : WrittenExpression) (w : List ℕ) (x p n : ℕ) (kind : Kind) (first result : Bool) → x < length e.nodes → first ≡ true → n ≡ length w →
-    (IsTrue kind.begin ↔ (p ≡ 0)) → (IsTrue kind.end ↔ (p ≡ n)) → result ≡ null_in e.nodes kind x → IsTrue result ↔ (IsTrue first × At e.nodes w x p p)
-empty_told e w x p n kind first result inside is_first same begins ends told =
-    let both = null_tells false e kind w p (begins, subst (λ v. IsTrue kind.end ↔ (p ≡ v)) same ends) x inside in
-    (λ h. (is_first, both.0 (sym told ∙ h)), λ h. told ∙ both.1 h.1)
 
 -- a length that is told
 long_at : (nodes : List Node) (w : List ℕ) (x c n : ℕ) (facts : Facts) → x ≡ c → IsFacts (tree_at nodes x) x facts → facts.length ≡ Some n → AllLong (At nodes w c) n
@@ -276,13 +253,9 @@ cut_runs s tables kept here a b leaf p at run a_set up passed found =
     let all = subst (λ t. AllMarked nodes w r t leaf true here.start p) there passed in
     let last = subst (λ t. p < kept.region.end → IsTrue false ↔ ReachesEnd nodes w r t leaf p) there found in
     let stop = at.ends.1 in
-    run_stops nodes w r here.stop here.node a b stands.arena at.ends.0 stands.is leaf a_set.0 run a_set.1 here.start p stands.there.at (
-      up,
-      λ q from to. (all q from to).0 refl,
-      λ reaches.
-          let early : p < here.stop = set_early nodes w r leaf p (one_start here.stop) a_set.0 stands.arena a_set.1 reaches in
-          true≢false (sym ((last (omega arith)).1 reaches)),
-    )
+    run_stops nodes w r here.stop here.node a b stands.arena at.ends.0 stands.is leaf a_set.0 run a_set.1 here.start p stands.there.at up (λ q from to. (all q from to).0 refl) (λ reaches.
+    let early : p < here.stop = set_early nodes w r leaf p (one_start here.stop) a_set.0 stands.arena a_set.1 reaches in
+    true≢false (sym ((last (omega arith)).1 reaches)))
 
 -- where a pass over the part of a repetition ceases to meet the kept one is the end of the next copy
 pub copy_ceases : (s : Subject) (tables : GroupTables) (kept : Kept) (here : Matched) (a : NodeId) (first : Bool) (i p : ℕ) → IsAtEnd s tables kept here (Star a first) →
@@ -314,35 +287,17 @@ pub desk_then : (s : Subject) (a b c : GroupTables) (k l m : Kept) → KeepsDesk
 desk_then s a b c k l m one two = record { desk = two.desk; shape = tables_then a b c one.shape two.shape; space = space_then k l m one.space two.space }
 
 -- after passes of both tables
-pub desk_ahead : (s : Subject) (t : GroupTables) (inside ahead : Table) (old new : Kept) → IsDesk s t old → IsKept s.prepared.now s.text.now inside new → IsTable s.prepared.now ahead →
-    SameShape t.inside inside → SameShape t.ahead ahead → SameKept old new → KeepsDesk s t (record { ahead = ahead; inside = inside }) old new
-desk_ahead s t inside ahead old new desk region table same same' kept = record {
-  desk = record {
-    region = region;
-    one_end = ap (λ v. v.all_starts) same.0 ∙ desk.one_end;
-    ahead = record {
-      table = table;
-      forwards = ap (λ v. v.mirrored) same'.0 ∙ desk.ahead.forwards;
-      single = ap (λ v. v.all_starts) same'.0 ∙ desk.ahead.single;
-      brief = ap (λ v. v.keeps) same'.0 ∙ desk.ahead.brief;
-    };
-  };
-  shape = record { inside = same; ahead = same' };
-  space = kept_space old new kept;
+pub desk_ahead : (s : Subject) (t : GroupTables) (inside ahead : Table) (old new : Kept) → IsDesk s t old → KeepsRegion s.prepared.now s.text.now t.inside inside old new → IsTable s.prepared.now ahead → SameShape t.ahead ahead →
+    KeepsDesk s t (record { ahead = ahead; inside = inside }) old new
+desk_ahead s t inside ahead old new desk keeps table same = record {
+  desk = record { region = keeps.kept; one_end = ap (λ v. v.all_starts) keeps.shape.0 ∙ desk.one_end; ahead = ahead_still s.prepared.now t.ahead ahead desk.ahead table same };
+  shape = record { inside = keeps.shape; ahead = same };
+  space = keeps.same.space;
 }
 
 -- passes for any node may begin
 pub may_begin : (s : Subject) (tables : GroupTables) (x : ℕ) → tables.inside.way.all_starts ≡ false → x < length (nodes_in s) → MayBegin s.prepared.now tables.inside.way x
 may_begin s tables x one_end inside = (inside, λ all_starts. absurd (true≢false (sym all_starts ∙ one_end)))
-
--- Looks at least.
-pub least_then : (s t u i k l : ℕ) → i ≤ k → k ≤ l → TakesAtLeast s t (k - i) → TakesAtLeast t u (2 * (l - k) + 1) → TakesAtLeast s u (l - i)
-unfolding TakesAtLeast
-least_then s t u i k l low high one two = omega (arith, low, high, one, two)
-
-pub least_no_byte : (s t i j : ℕ) → s ≤ t → j ≤ i → TakesAtLeast s t (j - i)
-unfolding TakesAtLeast
-least_no_byte s t i j up none = omega (arith, up, none)
 
 -- Costs.
 

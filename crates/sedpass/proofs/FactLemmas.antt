@@ -1,18 +1,17 @@
 -- What is told of each node once, and what it means for passes.
-use Rattle.std.proofs.Common.{◌≡◌, ℕ, zero, suc, ◌+◌, ◌*◌, ◌<◌, ◌≤◌, ◌⊎◌, ◌↔◌, Bool, true, false, ◌&&◌, List, [], ◌∷◌, ◌++◌, length, Option, Some, None, IsTrue, refl, sym, ap, ◌∙◌, subst, inl, inr, ⊎_elim, true≢false, arith, min, max, bit_and, bit_or, ◌||◌}
-use Rattle.std.specs.Prelude.{slice_get, eqb}
+use Rattle.std.proofs.Common.{◌≡◌, ℕ, zero, suc, ◌+◌, ◌*◌, ◌<◌, ◌≤◌, ◌⊎◌, ◌↔◌, Bool, true, false, ◌&&◌, List, [], ◌∷◌, ◌++◌, length, Option, Some, None, IsTrue, refl, sym, ap, ◌∙◌, subst, inl, inr, ⊎_elim, true≢false, arith, min, max, bit_and, bit_or, ◌||◌, slice_get, eqb}
 use Rattle.std.specs.Int.{bit_at, from_bool}
 use Rattle.std.specs.Option.{option_eq}
 use Rattle.std.proofs.lemmas.Nat.Bits.{bit_at_and, bit_at_or, bit_at-lt}
 use Rattle.std.proofs.lemmas.Bool.{cases_lt}
-use Rattle.std.proofs.lemmas.Option.{same_Some, slice_get_cases}
-use Rattle.sedre.specs.Tree.{Tree, empty, set, begin, end, seq, alt, group, star, opt, WrittenExpression, tree_of, tree_at}
+use Rattle.std.proofs.lemmas.Option.{same_Some, slice_get_cases, none-some}
+use Rattle.sedre.specs.Tree.{Tree, empty, set, begin, end, seq, alt, group, star, opt, WrittenExpression, tree_of, tree_at, tree_within}
 use Rattle.sedre.specs.Sizes.{size}
-use Rattle.sedre.specs.Arena.{IsArena, IsExpr, IsPart, FollowsParts}
+use Rattle.sedre.specs.Arena.{IsArena, IsExpr, IsPart, FollowsParts, HasTwoParts, GroupsWithin}
 use Rattle.sedre.specs.Mirror.{mirror, seen}
 use Rattle.sedre.specs.declared.types.Node.{Node}
 use Rattle.sedre.specs.declared.types.NodeId.{NodeId}
-use Rattle.sedre.specs.declared.types.Node.TheVariants.{Seq, Alt, Group, Star, Opt}
+use Rattle.sedre.specs.declared.types.Node.TheVariants.{Seq, Alt, Group, Star, Opt, Empty, Set}
 use Rattle.sedre.proofs.TreeLemmas.{tree_at-node}
 use Rattle.sedre.proofs.Written.{size_positive}
 use Rattle.sedre.proofs.MirrorLemmas.{tree_at-mirror, seen-length}
@@ -20,13 +19,14 @@ use Rattle.sedtext.specs.Spans.{Matches, no_copy}
 use Rattle.sedtext.specs.Places.{IsPlace}
 use Rattle.sedtext.proofs.SpanLemmas.{Matches-forward}
 use Rattle.sedtext.proofs.NodeLemmas.{node_at}
-use Rattle.sedpass.specs.Lengths.{length_of}
-use Rattle.sedpass.specs.Prepared.{nullable, null_in, null_at, is_set, IsFacts, AreFacts, IsOfEachKind, IsShort, SameNulls}
+use Rattle.sedpass.specs.Prepared.{nullable, null_in, null_at, is_set, IsFacts, AreFacts, IsOfEachKind, IsShort, SameNulls, length_of, AreClasses, HaveSets, IsPrepared}
 use Rattle.sedpass.specs.Rows.{at_begin, at_end, InTree, IsNodeRange, AreNull}
 use Rattle.sedpass.specs.declared.nodes.Facts.{Facts}
 use Rattle.sedpass.specs.declared.nodes.Kind.{Kind}
 use Rattle.sedpass.proofs.LengthLemmas.{sum_parts, same_parts}
-use Rattle.sedpass.proofs.RowLemmas.{or_truth, and_truth, not_true, range_of, mirror_range}
+use Rattle.sedpass.proofs.RowLemmas.{not_true, range_of, mirror_range}
+use Rattle.sedtext.proofs.MatchingLemmas.{either-iff, both-iff}
+use Rattle.sedpass.proofs.GroupSetLemmas.{two_bits}
 
 -- null strings
 
@@ -38,36 +38,28 @@ module _ (w : List ℕ) (p : ℕ) (first last : Bool) (there : IsPlace w p first
   nullable_is begin = (λ h. (there.0.0 h, there.0.0 h), λ h. there.0.1 h.0)
   nullable_is end = (λ h. (there.1.0 h, there.1.0 h), λ h. there.1.1 h.0)
   nullable_is (seq a b) =
-      let both = and_truth (nullable first last a) (nullable first last b) (Matches a w p p) (Matches b w p p) (nullable_is a) (nullable_is b) in (
+      let both = both-iff (nullable first last a) (nullable first last b) (Matches a w p p) (Matches b w p p) (nullable_is a) (nullable_is b) in (
         λ h. (p, (both.0 h).0, (both.0 h).1),
         λ h. let low = Matches-forward a w p h.0 h.1 in
             let high = Matches-forward b w h.0 p h.2 in
             let e : h.0 ≡ p = omega arith in
             both.1 (subst (λ k. Matches a w p k) e h.1, subst (λ k. Matches b w k p) e h.2),
       )
-  nullable_is (alt a b) = or_truth (nullable first last a) (nullable first last b) (Matches a w p p) (Matches b w p p) (nullable_is a) (nullable_is b)
+  nullable_is (alt a b) = either-iff (nullable first last a) (nullable first last b) (Matches a w p p) (Matches b w p p) (nullable_is a) (nullable_is b)
   nullable_is (group k a) = nullable_is a
   nullable_is (star a f) = (λ h. no_copy, λ h. refl)
   nullable_is (opt a f) = (λ h. inl refl, λ h. refl)
 
 -- kinds by bits: those of both sets, and those of either
-bits_of : (a b : ℕ) → a < 2 → b < 2 → (eqb (min a b) 1 ≡ (eqb a 1 && eqb b 1)) × (eqb (max a b) 1 ≡ (eqb a 1 || eqb b 1))
-bits_of zero zero low low' = (refl, refl)
-bits_of zero (suc zero) low low' = (refl, refl)
-bits_of (suc zero) zero low low' = (refl, refl)
-bits_of (suc zero) (suc zero) low low' = (refl, refl)
-bits_of (suc (suc a)) b low low' = absurd (omega (arith, low))
-bits_of a (suc (suc b)) low low' = absurd (omega (arith, low'))
-
 pub null_both : (a b : ℕ) (first last : Bool) → null_at (bit_and a b) first last ≡ (null_at a first last && null_at b first last)
 null_both a b first last =
     let k = from_bool first + 2 * from_bool last in
-    ap (λ x. eqb x 1) (bit_at_and a b k) ∙ (bits_of (bit_at a k) (bit_at b k) (bit_at-lt a k) (bit_at-lt b k)).0
+    ap (λ x. eqb x 1) (bit_at_and a b k) ∙ two_bits (λ x y. eqb (min x y) 1 ≡ (eqb x 1 && eqb y 1)) refl refl refl refl (bit_at a k) (bit_at b k) (bit_at-lt a k) (bit_at-lt b k)
 
 pub null_either : (a b : ℕ) (first last : Bool) → null_at (bit_or a b) first last ≡ (null_at a first last || null_at b first last)
 null_either a b first last =
     let k = from_bool first + 2 * from_bool last in
-    ap (λ x. eqb x 1) (bit_at_or a b k) ∙ (bits_of (bit_at a k) (bit_at b k) (bit_at-lt a k) (bit_at-lt b k)).1
+    ap (λ x. eqb x 1) (bit_at_or a b k) ∙ two_bits (λ x y. eqb (max x y) 1 ≡ (eqb x 1 || eqb y 1)) refl refl refl refl (bit_at a k) (bit_at b k) (bit_at-lt a k) (bit_at-lt b k)
 
 and_swap : (a b : Bool) → (a && b) ≡ (b && a)
 and_swap true true = refl
@@ -103,9 +95,6 @@ null_anywhere true e kind same w p first last there c low =
 -- trees are ranges
 
 module _ (nodes : List Node) (groups : ℕ) (expr : IsExpr nodes groups) where
-  pub node_size : (x : ℕ) (node : Node) → slice_get nodes x ≡ Some node → size (tree_at nodes x) ≡ size (tree_of (tree_at nodes) node)
-  node_size x node is = ap size (tree_at-node nodes x node expr.arena is)
-
   abbrev pub RangesBelow : ℕ → Type 0
   RangesBelow n = (y low : ℕ) → y < n → low + size (tree_at nodes y) ≡ y + 1 → IsNodeRange nodes low y
 
@@ -150,7 +139,7 @@ module _ (nodes : List Node) (groups : ℕ) (expr : IsExpr nodes groups) where
       let here = node_at nodes y (omega arith) in
       let same : y ≡ n = omega arith in
       let before : RangesBelow y = subst RangesBelow (sym same) (ranges_below n (omega arith)) in
-      range_by y low here.0 here.1 (expr.ranges y here.0 here.1) before (omega (arith, long, node_size y here.0 here.1)))
+      range_by y low here.0 here.1 (expr.ranges y here.0 here.1) before (omega (arith, long, ap size (tree_at-node nodes y here.0 expr.arena here.1))))
       (cases_lt y n)
 
   -- the nodes in x are those from low to x
@@ -217,3 +206,70 @@ told_anywhere nodes told all facts each x first last inside =
       | inl some ↦ let fact = facts x some.0 some.2 in sym (fact.null first last) ∙ each x some.0 some.2 first last ∙ fact.null false false
       | inr past ↦ let low = past.0 in absurd (omega arith)
     ]
+
+-- The expression of one node that matches the null string.
+
+-- its nodes
+abbrev pub empty_nodes : List Node
+empty_nodes = Empty ∷ []
+
+only : (x : ℕ) (node : Node) → slice_get empty_nodes x ≡ Some node → (0 ≡ x) × (Empty ≡ node)
+only zero node is = (refl, same_Some Empty node is)
+only (suc x) node is = absurd (none-some node is)
+
+no_parts : (x : ℕ) (node : Node) (c : ℕ) → slice_get empty_nodes x ≡ Some node → IsPart node c → ⊥
+no_parts x node c is part = subst (λ n. IsPart n c) (sym (only x node is).1) part
+
+empty_arena : IsArena empty_nodes
+empty_arena = record {
+  nonempty = omega arith;
+  below = λ x c node is part. absurd (no_parts x node c is part);
+  distinct = λ x node is. subst HasTwoParts (only x node is).1 tt;
+  once = λ x y c node other is there part also. absurd (no_parts x node c is part);
+  each = λ c less. absurd (omega (arith, less));
+}
+
+one_tree : tree_at empty_nodes 0 ≡ empty
+unfolding tree_at tree_within
+one_tree = refl
+
+one_node : size (tree_at empty_nodes 0) ≡ 1
+one_node = ap size one_tree
+
+sizes : (x : ℕ) → x < 1 → size (tree_at empty_nodes x) ≤ x + 1
+sizes zero less = omega (arith, one_node)
+sizes (suc x) less = absurd (omega (arith, less))
+
+numbers : GroupsWithin empty_nodes 0
+numbers x k a is = let same = (only x (Group k a) is).1 in absurd cc
+
+pub empty_expr : IsExpr empty_nodes 0
+empty_expr = record {
+  arena = empty_arena;
+  sizes = sizes;
+  ranges = λ x node is. subst (FollowsParts empty_nodes x) (only x node is).1 tt;
+  numbers = numbers;
+  whole = one_node;
+  few = omega arith;
+}
+
+facts_only : (told : Facts) → IsFacts empty 0 told → AreFacts empty_nodes (told ∷ [])
+facts_only told facts zero here is = rw (← same_Some told here is, one_tree) facts
+facts_only told facts (suc x) here is = absurd (none-some here is)
+
+nulls_only : SameNulls empty_nodes
+nulls_only zero first last inside = ap (nullable first last) one_tree ∙ sym (ap (nullable false false) one_tree)
+nulls_only (suc x) first last inside = absurd (omega (arith, inside))
+
+no_sets : HaveSets empty_nodes []
+no_sets x members is = let same = (only x (Set members) is).1 in absurd cc
+
+pub empty_prepared : (told : Facts) (of : List ℕ) (count : ℕ) → IsFacts empty 0 told → ((nodes : List Node) → HaveSets nodes [] → AreClasses nodes of count) →
+    IsPrepared (record { nodes = empty_nodes; groups = 0 }) 0 (told ∷ []) of count false
+empty_prepared told of count facts classes = record {
+  last = refl;
+  all = refl;
+  facts = facts_only told facts;
+  classes = classes empty_nodes no_sets;
+  anywhere = λ none. nulls_only;
+}

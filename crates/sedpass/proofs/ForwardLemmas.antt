@@ -1,12 +1,11 @@
 -- Passes for the whole expression.
-use Rattle.std.proofs.Common.{inl, inr, ◌≡◌, ℕ, ◌+◌, ◌-◌, ◌*◌, ◌/◌, ◌^◌, ◌<◌, ◌≤◌, ◌⊎◌, ◌↔◌, Bool, true, false, not, ◌&&◌, ◌||◌, List, length, Option, Some, None, IsTrue, refl, sym, ap, ◌∙◌, subst, ⊎_elim, true≢false, arith, mul-le-mul_left, min}
-use Rattle.std.specs.Prelude.{slice_get, is_some, IfSome}
+use Rattle.std.proofs.Common.{inl, inr, ◌≡◌, ℕ, ◌+◌, ◌-◌, ◌*◌, ◌/◌, ◌^◌, ◌<◌, ◌≤◌, ◌⊎◌, ◌↔◌, Bool, true, false, not, ◌&&◌, ◌||◌, List, length, Option, Some, None, IsTrue, refl, sym, ap, ◌∙◌, subst, ⊎_elim, true≢false, arith, mul-le-mul_left, min, slice_get, is_some, IfSome}
 use Rattle.std.specs.Bool.{then_some}
 use Rattle.std.specs.Option.{option_or}
 use Rattle.std.proofs.lemmas.Bool.{cases_lt, cases_Bool, both_ways}
 use Rattle.std.proofs.lemmas.Option.{slice_get_within}
 use Rattle.sedre.specs.Arena.{IsArena}
-use Rattle.sedre.specs.Tree.{WrittenExpression, expression_tree, tree_at}
+use Rattle.sedre.specs.Tree.{expression_tree, tree_at, Tree}
 use Rattle.sedre.specs.Mirror.{seen}
 use Rattle.sedre.specs.declared.types.Node.{Node}
 use Rattle.sedtext.specs.declared.starts.Starts.{Starts}
@@ -18,8 +17,7 @@ use Rattle.sedtext.specs.Spans.{Matches, SomeFound}
 use Rattle.sedtext.proofs.SpanLemmas.{Matches-forward, Matches-within}
 use Rattle.sedtext.specs.Places.{IsPlace}
 use Rattle.sedpass.specs.Rows.{nodes_of, at_begin, at_end, RowOfPlace}
-use Rattle.sedpass.specs.Cells.{stops, code_of}
-use Rattle.sedpass.specs.Table.{State, state_of, IsTold, StateAt, LeadsOn, BeginsIn, Names, IsTable}
+use Rattle.sedpass.specs.Table.{State, state_of, IsTold, StateAt, LeadsOn, BeginsIn, Names, IsTable, IsAhead, SameShape, stops, code_of}
 use Rattle.sedpass.specs.Forwards.{starts_of, LastBelow, IsEnd, Arrives, EndsBelow, PassIs}
 use Rattle.sedpass.specs.declared.cells.Flags.{Flags}
 use Rattle.sedpass.specs.declared.nodes.Kind.{Kind}
@@ -27,16 +25,12 @@ use Rattle.sedpass.specs.declared.nodes.Prepared.{Prepared}
 use Rattle.sedpass.specs.declared.rows.Way.{Way}
 use Rattle.sedpass.specs.declared.table.Table.{Table}
 use Rattle.sedpass.specs.declared.forwards.Passed.{Passed}
-use Rattle.sedpass.proofs.CountLemmas.{least_less}
 use Rattle.sedpass.proofs.RowLemmas.{dead, row_root, row_empty}
 use Rattle.sedpass.proofs.TableLemmas.{names_state, names_offset, names_code, names_small, names_map}
 use Rattle.sedre.proofs.MirrorLemmas.{seen-arena, seen-length}
+use Rattle.sedtext.proofs.CountLemmas.{least_less, least_since, least_both}
 
 -- The starts of a pass.
-
-first_start : (all_starts : Bool) (from : ℕ) (w : List ℕ) (i : ℕ) → IsStart (starts_of all_starts from w) i → from ≤ i
-first_start true from w i is = is.0
-first_start false from w i is = is.0
 
 last_start : (all_starts : Bool) (from : ℕ) (w : List ℕ) (i : ℕ) → from ≤ length w → IsStart (starts_of all_starts from w) i → i ≤ length w
 last_start true from w i within is = is.1
@@ -75,7 +69,7 @@ end_below nodes w r s n (Some j) last = let low = last.0 in omega arith
 -- nothing ends before a start
 pub none_before : (p : Prepared) (way : Way) (w : List ℕ) (from : ℕ) → EndsBelow p way w from from None
 none_before p way w from k low some =
-    let after = first_start way.all_starts from w some.0 some.1 in
+    let after = some.1.0 in
     let on = Matches-forward (tree_at (nodes_of way p.arena.expr) p.root) w some.0 k some.2 in
     omega arith
 
@@ -89,113 +83,86 @@ pub low_code : (b : Bool) (o v : ℕ) → v ≡ code_of b o → v < 2147483648 �
 low_code true o v is low = refl
 low_code false o v is low = absurd (omega arith)
 
-no_end_by : (keeps all_starts ends dead : Bool) → keeps ≡ false → ((not keeps && (ends || (dead && not all_starts))) || (keeps && dead)) ≡ false → ends ≡ false
-no_end_by true all_starts ends dead e is = absurd (true≢false e)
-no_end_by false all_starts false dead e is = refl
-no_end_by false all_starts true dead e is = absurd (true≢false is)
+no_end : (keeps all_starts ends dead : Bool) → keeps ≡ false → ((not keeps && (ends || (dead && not all_starts))) || (keeps && dead)) ≡ false → ends ≡ false
+no_end true all_starts ends dead e is = absurd (true≢false e)
+no_end false all_starts false dead e is = refl
+no_end false all_starts true dead e is = absurd (true≢false is)
 
-swept_by : (keeps all_starts ends dead : Bool) → keeps ≡ false → IsTrue all_starts → ((not keeps && (ends || (dead && not all_starts))) || (keeps && dead)) ≡ true → IsTrue ends
-swept_by true all_starts ends dead e s is = absurd (true≢false e)
-swept_by false false ends dead e s is = absurd (true≢false (sym s))
-swept_by false true true dead e s is = refl
-swept_by false true false true e s is = absurd (true≢false (sym is))
-swept_by false true false false e s is = absurd (true≢false (sym is))
+swept_end : (keeps all_starts ends dead : Bool) → keeps ≡ false → IsTrue all_starts → ((not keeps && (ends || (dead && not all_starts))) || (keeps && dead)) ≡ true → IsTrue ends
+swept_end true all_starts ends dead e s is = absurd (true≢false e)
+swept_end false false ends dead e s is = absurd (true≢false (sym s))
+swept_end false true true dead e s is = refl
+swept_end false true false true e s is = absurd (true≢false (sym is))
+swept_end false true false false e s is = absurd (true≢false (sym is))
 
-no_end : (way : Way) (f : Flags) → way.keeps ≡ false → stops way f ≡ false → f.ends ≡ false
-no_end way f keeps is = no_end_by way.keeps way.all_starts f.ends f.dead keeps is
+-- At a place: a code of its state.
 
-swept_end : (way : Way) (f : Flags) → way.keeps ≡ false → IsTrue way.all_starts → stops way f ≡ true → IsTrue f.ends
-swept_end way f keeps all_starts is = swept_by way.keeps way.all_starts f.ends f.dead keeps all_starts is
-
--- At a place.
-
-module _ (p : Prepared) (way : Way) (w : List ℕ) (start place : ℕ) (a : State) (keeps : way.keeps ≡ false) (arena : IsArena (nodes_of way p.arena.expr)) (inside : p.root < length (nodes_of way p.arena.expr))
-    (after : start ≤ place) (within : place ≤ length w) (told : IsTold a) (here : Arrives p way w start place a) where
-  abbrev N : List Node
-  N = nodes_of way p.arena.expr
-
-  abbrev S : Starts
-  S = starts_of way.all_starts start w
-
-  ends_here : IsTrue a.flags.ends ↔ SomeSpan N w p.root S place
-  ends_here =
-      let law = row_root N w a.root place S way.keeps a.entered a.ended arena here.1 in (
-        λ h. subst (λ r. SomeSpan N w r S place) here.0 (law.0 (sym told.0 ∙ h)),
-        λ h. told.0 ∙ law.1 (subst (λ r. SomeSpan N w r S place) (sym here.0) h),
-      )
-
-  pub plain_ends : (end : Option ℕ) → stops way a.flags ≡ false → EndsBelow p way w start place end → EndsBelow p way w start (place + 1) end
-  plain_ends end is = last_step N w p.root S place end (λ some. both_ways a.flags.ends (no_end way a.flags keeps is) (ends_here.1 some))
-
-  pub noted_ends : (ends : Bool) (end : Option ℕ) → ends ≡ a.flags.ends → EndsBelow p way w start place end → (IsTrue ends → EndsBelow p way w start (place + 1) (Some place)) × (ends ≡ false → EndsBelow p way w start (place + 1) end)
-  noted_ends ends end same last = (
-    λ h. last_here N w p.root S place (ends_here.0 (sym same ∙ h)),
-    λ h. last_step N w p.root S place end (λ some. both_ways ends h (same ∙ ends_here.1 some)) last,
-  )
-
-  -- where no leaf is entered no match goes on
-  pub dead_end : (end : Option ℕ) → way.all_starts ≡ false → IsTrue a.flags.dead → EndsBelow p way w start (place + 1) end → IsEnd way.all_starts N w p.root S end
-  dead_end end single is last =
-      let none = row_empty N w a.root place S way.keeps a.entered a.ended here.1 (told.1.0 is) in
-      all_below N w p.root S way.all_starts (place + 1) end
-      (λ k late some.
-      let one = subst (λ b. IsStart (starts_of b start w) some.0) single some.1 in
-      let low = one.1 in
-      dead N w a.root place some.0 k S arena (subst (λ r. r < length N) (sym here.0) inside) none some.1 (omega arith) (omega arith) (subst (λ r. At N w r some.0 k) (sym here.0) some.2))
-      last
-
-  -- a sweep stops where a match ends
-  pub swept : IsTrue way.all_starts → stops way a.flags ≡ true → IsEnd way.all_starts N w p.root S (Some place)
-  swept all_starts is = (ends_here.0 (swept_end way a.flags keeps all_starts is), λ single. absurd (both_ways way.all_starts single all_starts))
-
-  pub swept_ends : IsTrue way.all_starts → stops way a.flags ≡ true → IsTrue a.flags.ends
-  swept_ends all_starts is = swept_end way a.flags keeps all_starts is
-
--- a code of the state of a place
 module _ (p : Prepared) (t : Table) (w : List ℕ) (start place code o : ℕ) (end : Option ℕ) (table : IsTable p t) (keeps : t.way.keeps ≡ false) (after : start ≤ place) (within : place ≤ length w)
     (tells : (b : Bool) (u : ℕ) → u < 2147483647 → code ≡ code_of b u → o ≡ u) (n : Names (length p.arena.expr.nodes) t (Arrives p t.way w start place) code) (last : EndsBelow p t.way w start place end) where
-  abbrev q : ℕ
-  q = o / 2 ^ t.layout.shift
+  abbrev N : List Node
+  N = nodes_of t.way p.arena.expr
+
+  abbrev S : Starts
+  S = starts_of t.way.all_starts start w
 
   abbrev here : State
-  here = state_of (length p.arena.expr.nodes) t q
+  here = state_of (length p.arena.expr.nodes) t (o / 2 ^ t.layout.shift)
 
-  arena : IsArena (nodes_of t.way p.arena.expr)
+  arena : IsArena N
   arena = seen-arena t.way.mirrored p.arena.expr table.expr.arena
-
-  inside : p.root < length (nodes_of t.way p.arena.expr)
-  inside = (let root = p.is_prepared.last in omega (arith, root, seen-length t.way.mirrored p.arena.expr))
 
   arrived : Arrives p t.way w start place here
   arrived = names_state p t table (Arrives p t.way w start place) code o n tells
 
   is_told : IsTold here
-  is_told = table.told q (names_offset p t table (Arrives p t.way w start place) code o n tells).0
+  is_told = table.told (o / 2 ^ t.layout.shift) (names_offset p t table (Arrives p t.way w start place) code o n tells).0
 
   code_is : code ≡ code_of (stops t.way here.flags) o
   code_is = names_code p t table (Arrives p t.way w start place) code o n tells
+
+  ends_here : IsTrue here.flags.ends ↔ SomeSpan N w p.root S place
+  ends_here =
+      let law = row_root N w here.root place S t.way.keeps here.entered here.ended arena arrived.1 in (
+        λ h. subst (λ r. SomeSpan N w r S place) arrived.0 (law.0 (sym is_told.0 ∙ h)),
+        λ h. is_told.0 ∙ law.1 (subst (λ r. SomeSpan N w r S place) (sym arrived.0) h),
+      )
+
+  -- where the root doesn't end the last end is the one before
+  no_end_here : here.flags.ends ≡ false → EndsBelow p t.way w start (place + 1) end
+  no_end_here is = last_step N w p.root S place end (λ some. both_ways here.flags.ends is (ends_here.1 some)) last
+
+  -- where no leaf is entered no match goes on
+  dead_end : (noted : Option ℕ) → t.way.all_starts ≡ false → IsTrue here.flags.dead → EndsBelow p t.way w start (place + 1) noted → IsEnd t.way.all_starts N w p.root S noted
+  dead_end noted single is below =
+      let none = row_empty N w here.root place S t.way.keeps here.entered here.ended arrived.1 (is_told.1.0 is) in
+      let root = p.is_prepared.last in
+      let inside : p.root < length N = omega (arith, root, seen-length t.way.mirrored p.arena.expr) in
+      all_below N w p.root S t.way.all_starts (place + 1) noted
+      (λ k late some.
+      let one = subst (λ b. IsStart (starts_of b start w) some.0) single some.1 in
+      let low = one.1 in
+      dead N w here.root place some.0 k S arena (subst (λ r. r < length N) (sym arrived.0) inside) none some.1 (omega arith) (omega arith) (subst (λ r. At N w r some.0 k) (sym arrived.0) some.2))
+      below
 
   pub arrive_plain : 2147483648 ≤ code → PassIs p t w start (record { offset = o; place = place; end = end; over = false })
   arrive_plain high = record {
     after = after;
     within = within;
     state = arrived;
-    last = plain_ends p t.way w start place here keeps arena inside after within is_told arrived end
-        (plain_code (stops t.way here.flags) o code code_is (names_small p t table (Arrives p t.way w start place) code o n tells) high) last;
+    last = no_end_here (no_end t.way.keeps t.way.all_starts here.flags.ends here.flags.dead keeps (plain_code (stops t.way here.flags) o code code_is (names_small p t table (Arrives p t.way w start place) code o n tells) high));
     over = λ h. absurd (true≢false (sym h));
   }
 
   pub arrive_low : (flags : Flags) (noted : Option ℕ) (over : Bool) → code < 2147483648 → flags ≡ here.flags → noted ≡ option_or (then_some flags.ends place) end →
       (IsTrue over → IsTrue t.way.all_starts ⊎ ((t.way.all_starts ≡ false) × IsTrue flags.dead)) → PassIs p t w start (record { offset = o; place = place; end = noted; over = over })
   arrive_low flags noted over low same is_noted why =
-      let ends : IsTrue flags.ends → noted ≡ Some place = λ is. is_noted ∙ ap (λ b. option_or (then_some b place) end) is in
-      let none : flags.ends ≡ false → noted ≡ end = λ is. is_noted ∙ ap (λ b. option_or (then_some b place) end) is in
+      let same_ends = ap (λ (f : Flags). f.ends) same in
+      let ends : IsTrue flags.ends → Some place ≡ noted = λ is. sym (is_noted ∙ ap (λ b. option_or (then_some b place) end) is) in
       let stop : stops t.way here.flags ≡ true = low_code (stops t.way here.flags) o code code_is low in
-      let told_ends = noted_ends p t.way w start place here keeps arena inside after within is_told arrived flags.ends end (ap (λ (f : Flags). f.ends) same) last in
       let all : EndsBelow p t.way w start (place + 1) noted =
       ⊎_elim
-      (λ (is : flags.ends ≡ true). subst (λ x. EndsBelow p t.way w start (place + 1) x) (sym (ends is)) (told_ends.0 is))
-      (λ (is : flags.ends ≡ false). subst (λ x. EndsBelow p t.way w start (place + 1) x) (sym (none is)) (told_ends.1 is))
+      (λ (is : flags.ends ≡ true). subst (EndsBelow p t.way w start (place + 1)) (ends is) (last_here N w p.root S place (ends_here.0 (sym same_ends ∙ is))))
+      (λ (is : flags.ends ≡ false). subst (EndsBelow p t.way w start (place + 1)) (sym (is_noted ∙ ap (λ b. option_or (then_some b place) end) is)) (no_end_here (sym same_ends ∙ is)))
       (cases_Bool flags.ends) in
       record {
         after = after;
@@ -204,11 +171,9 @@ module _ (p : Prepared) (t : Table) (w : List ℕ) (start place code o : ℕ) (e
         last = all;
         over = λ h. ⊎_elim
             (λ (all_starts : IsTrue t.way.all_starts).
-            let end_is = ends (ap (λ (f : Flags). f.ends) same ∙ swept_ends p t.way w start place here keeps arena inside after within is_told arrived all_starts stop) in
-            subst (λ x. IsEnd t.way.all_starts (nodes_of t.way p.arena.expr) w p.root (starts_of t.way.all_starts start w) x) (sym end_is)
-            (swept p t.way w start place here keeps arena inside after within is_told arrived all_starts stop))
-            (λ (d : (t.way.all_starts ≡ false) × IsTrue flags.dead).
-            dead_end p t.way w start place here keeps arena inside after within is_told arrived noted d.0 (sym (ap (λ (f : Flags). f.dead) same) ∙ d.1) all)
+            let ended = swept_end t.way.keeps t.way.all_starts here.flags.ends here.flags.dead keeps all_starts stop in
+            subst (IsEnd t.way.all_starts N w p.root S) (ends (same_ends ∙ ended)) (ends_here.0 ended, λ single. absurd (both_ways t.way.all_starts single all_starts)))
+            (λ (d : (t.way.all_starts ≡ false) × IsTrue flags.dead). dead_end noted d.0 (sym (ap (λ (f : Flags). f.dead) same) ∙ d.1) all)
             (why h);
       }
 
@@ -247,10 +212,6 @@ follows_on p t w start byte cell place mid next at inside pass is names arrive =
 
 -- The beginning of a pass.
 
-first_is : (all_starts : Bool) (from : ℕ) (w : List ℕ) → (starts_of all_starts from w).first ≡ from
-first_is true from w = refl
-first_is false from w = refl
-
 starts_order : (all_starts : Bool) (from : ℕ) (w : List ℕ) → from ≤ length w → (starts_of all_starts from w).first ≤ (starts_of all_starts from w).last
 starts_order true from w low = low
 starts_order false from w low = omega arith
@@ -259,12 +220,9 @@ pub arrives_first : (p : Prepared) (way : Way) (w : List ℕ) (from : ℕ) (kind
     BeginsIn (nodes_of way p.arena.expr) way p.root kind a → Arrives p way w from from a
 arrives_first p way w from kind a mirrored low begin end begins =
     let s = starts_of way.all_starts from w in
-    let first = first_is way.all_starts from w in
-    let place : IsPlace w s.first (at_begin way.mirrored kind) (at_end way.mirrored kind) =
-    subst (λ b. IsPlace w s.first (at_begin b kind) (at_end b kind)) (sym mirrored) (subst (λ x. IsPlace w x kind.begin kind.end) (sym first) (begin, end)) in (
+    let place : IsPlace w from (at_begin way.mirrored kind) (at_end way.mirrored kind) = subst (λ b. IsPlace w from (at_begin b kind) (at_end b kind)) (sym mirrored) (begin, end) in (
       begins.0,
-      subst (λ r. RowOfPlace (nodes_of way p.arena.expr) w r s way.keeps from a.entered a.ended) (sym begins.0)
-          (subst (λ x. RowOfPlace (nodes_of way p.arena.expr) w p.root s way.keeps x a.entered a.ended) first (begins.1 w s place (starts_order way.all_starts from w low))),
+      subst (λ r. RowOfPlace (nodes_of way p.arena.expr) w r s way.keeps from a.entered a.ended) (sym begins.0) (begins.1 w s place (starts_order way.all_starts from w low)),
     )
 
 -- The end of a pass.
@@ -284,61 +242,87 @@ pass_end p t w start at low pass done =
     pass.last)
     done
 
-module _ (e : WrittenExpression) (r : ℕ) (w : List ℕ) (from : ℕ) (whole : r + 1 ≡ length e.nodes) where
-  whole_is : length e.nodes - 1 ≡ r
-  whole_is = omega arith
+-- the last node matches what the expression does
+pub root_spans : (p : Prepared) (w : List ℕ) (i k : ℕ) → At p.arena.expr.nodes w p.root i k ↔ Matches (expression_tree p.arena.expr) w i k
+root_spans p w i k =
+    let last : length p.arena.expr.nodes - 1 ≡ p.root = (let all = p.is_prepared.last in omega arith) in
+    (subst (λ x. Matches (tree_at p.arena.expr.nodes x) w i k) (sym last), subst (λ x. Matches (tree_at p.arena.expr.nodes x) w i k) last)
 
-  to_tree : (i k : ℕ) → At e.nodes w r i k → Matches (expression_tree e) w i k
-  to_tree i k span = subst (λ x. Matches (tree_at e.nodes x) w i k) (sym whole_is) span
-
-  from_tree : (i k : ℕ) → Matches (expression_tree e) w i k → At e.nodes w r i k
-  from_tree i k span = subst (λ x. Matches (tree_at e.nodes x) w i k) whole_is span
-
-  pub end_longest : (end : Option ℕ) → IsEnd false e.nodes w r (starts_of false from w) end → IsLongestFrom (expression_tree e) w from end
-  end_longest None none = λ k span. none k (from, (omega arith, omega arith), from_tree from k span)
+module _ (p : Prepared) (w : List ℕ) (from : ℕ) where
+  pub end_longest : (end : Option ℕ) → IsEnd false p.arena.expr.nodes w p.root (starts_of false from w) end → IsLongestFrom (expression_tree p.arena.expr) w from end
+  end_longest None none = λ k span. none k (from, (omega arith, omega arith), (root_spans p w from k).1 span)
   end_longest (Some j) is = (
     (let some = is.0 in
         let low = some.1.0 in
         let high = some.1.1 in
         let same : some.0 ≡ from = omega arith in
-        to_tree from j (subst (λ i. At e.nodes w r i j) same some.2)),
-    λ k span. is.1 refl k (from, (omega arith, omega arith), from_tree from k span),
+        (root_spans p w from j).0 (subst (λ i. At p.arena.expr.nodes w p.root i j) same some.2)),
+    λ k span. is.1 refl k (from, (omega arith, omega arith), (root_spans p w from k).1 span),
   )
 
-  pub end_found : from ≤ length w → (end : Option ℕ) → IsEnd true e.nodes w r (starts_of true from w) end → IsTrue (is_some end) ↔ SomeFound (expression_tree e) w from
-  end_found low None none = (λ h. absurd (true≢false (sym h)), λ some. absurd (none some.1 (some.0, (some.2, some.3), from_tree some.0 some.1 some.4)))
-  end_found low (Some j) is = (λ h. let some = is.0 in (some.0, j, some.1.0, some.1.1, to_tree some.0 j some.2), λ some. refl)
+  pub end_found : from ≤ length w → (end : Option ℕ) → IsEnd true p.arena.expr.nodes w p.root (starts_of true from w) end → IsTrue (is_some end) ↔ SomeFound (expression_tree p.arena.expr) w from
+  end_found low None none = (λ h. absurd (true≢false (sym h)), λ some. absurd (none some.1 (some.0, (some.2, some.3), (root_spans p w some.0 some.1).1 some.4)))
+  end_found low (Some j) is = (λ h. let some = is.0 in (some.0, j, some.1.0, some.1.1, (root_spans p w some.0 j).0 some.2), λ some. refl)
 
-  pub end_passes : (all_starts : Bool) (s t place : ℕ) → from ≤ length w → (end : Option ℕ) → IsEnd all_starts e.nodes w r (starts_of all_starts from w) end → IfSome end (λ j. j ≤ place) →
-      TakesAtLeast s t (2 * (place - from) + 1) → IfSome end (λ j. PassesOver (expression_tree e) w from s t)
+  pub end_passes : (all_starts : Bool) (s t place : ℕ) → from ≤ length w → (end : Option ℕ) → IsEnd all_starts p.arena.expr.nodes w p.root (starts_of all_starts from w) end → IfSome end (λ j. j ≤ place) →
+      TakesAtLeast s t (2 * (place - from) + 1) → IfSome end (λ j. PassesOver (expression_tree p.arena.expr) w from s t)
   end_passes all_starts s t place low None is ended looks = tt
   end_passes all_starts s t place low (Some j) is ended looks =
       let some = is.0 in
-      let after = first_start all_starts from w some.0 some.1 in
+      let after = some.1.0 in
       record {
         start = some.0;
         end = j;
         later = after;
-        within = Matches-within (tree_at e.nodes r) w some.0 j (last_start all_starts from w some.0 low some.1) some.2;
-        spans = to_tree some.0 j some.2;
+        within = Matches-within (tree_at p.arena.expr.nodes p.root) w some.0 j (last_start all_starts from w some.0 low some.1) some.2;
+        spans = (root_spans p w some.0 j).0 some.2;
         bytes = least_less s t (2 * (place - from) + 1) (j - some.0) looks (omega (arith, ended, after));
         passed = λ early. least_less s t (2 * (place - from) + 1) (j - from) looks (omega (arith, ended));
       }
 
--- of a pass forwards
-module _ (p : Prepared) (way u : Way) (w : List ℕ) (from : ℕ) (end : Option ℕ) (same : u ≡ way) (mirrored : way.mirrored ≡ false) (is : IsEnd u.all_starts (nodes_of u p.arena.expr) w p.root (starts_of u.all_starts from w) end) where
-  seen_end : IsEnd way.all_starts p.arena.expr.nodes w p.root (starts_of way.all_starts from w) end
-  seen_end = subst (λ b. IsEnd way.all_starts (seen b p.arena.expr).nodes w p.root (starts_of way.all_starts from w) end) mirrored
-      (subst (λ (x : Way). IsEnd x.all_starts (nodes_of x p.arena.expr) w p.root (starts_of x.all_starts from w) end) same is)
+-- of a pass forwards that is over, or came to the text's end
+module _ (p : Prepared) (way : Way) (t : Table) (w : List ℕ) (from : ℕ) (at : Passed) (same : t.way ≡ way) (mirrored : way.mirrored ≡ false) (low : from ≤ length w) (pass : PassIs p t w from at)
+    (done : (at.over ≡ true) ⊎ (length w ≤ at.place)) where
+  seen_end : IsEnd way.all_starts p.arena.expr.nodes w p.root (starts_of way.all_starts from w) at.end
+  seen_end = subst (λ b. IsEnd way.all_starts (seen b p.arena.expr).nodes w p.root (starts_of way.all_starts from w) at.end) mirrored
+      (subst (λ (x : Way). IsEnd x.all_starts (nodes_of x p.arena.expr) w p.root (starts_of x.all_starts from w) at.end) same (pass_end p t w from at low pass done))
 
-  pub run_longest : way.all_starts ≡ false → IsLongestFrom (expression_tree p.arena.expr) w from end
-  run_longest single = end_longest p.arena.expr p.root w from p.is_prepared.last end (subst (λ b. IsEnd b p.arena.expr.nodes w p.root (starts_of b from w) end) single seen_end)
+  pub run_longest : way.all_starts ≡ false → IsLongestFrom (expression_tree p.arena.expr) w from at.end
+  run_longest single = end_longest p w from at.end (subst (λ b. IsEnd b p.arena.expr.nodes w p.root (starts_of b from w) at.end) single seen_end)
 
-  pub run_found : from ≤ length w → IsTrue way.all_starts → IsTrue (is_some end) ↔ SomeFound (expression_tree p.arena.expr) w from
-  run_found low all_starts = end_found p.arena.expr p.root w from p.is_prepared.last low end (subst (λ b. IsEnd b p.arena.expr.nodes w p.root (starts_of b from w) end) all_starts seen_end)
+  pub run_found : IsTrue way.all_starts → IsTrue (is_some at.end) ↔ SomeFound (expression_tree p.arena.expr) w from
+  run_found all_starts = end_found p w from low at.end (subst (λ b. IsEnd b p.arena.expr.nodes w p.root (starts_of b from w) at.end) all_starts seen_end)
 
-  pub run_passes : (s t place : ℕ) → from ≤ length w → IfSome end (λ j. j ≤ place) → TakesAtLeast s t (2 * (place - from) + 1) → IfSome end (λ j. PassesOver (expression_tree p.arena.expr) w from s t)
-  run_passes s t place low ended looks = end_passes p.arena.expr p.root w from p.is_prepared.last way.all_starts s t place low end seen_end ended looks
+  pub run_passes : (s u : ℕ) → TakesAtLeast s u (2 * (at.place - from) + 1) → IfSome at.end (λ j. PassesOver (expression_tree p.arena.expr) w from s u)
+  run_passes s u looks = end_passes p w from way.all_starts s u at.place low at.end seen_end (end_below (nodes_of t.way p.arena.expr) w p.root (starts_of t.way.all_starts from w) at.place at.end pass.last) looks
+
+-- a table of passes ahead is one still
+pub ahead_still : (p : Prepared) (a b : Table) → IsAhead p a → IsTable p b → SameShape a b → IsAhead p b
+ahead_still p a b is table shape = record {
+  table = table;
+  forwards = ap (λ v. v.mirrored) shape.0 ∙ is.forwards;
+  single = ap (λ v. v.all_starts) shape.0 ∙ is.single;
+  brief = ap (λ v. v.keeps) shape.0 ∙ is.brief;
+}
+
+-- What is passed over.
+
+-- what passes over a match from a later place on does so from an earlier one, where the looks before went as far
+pub passes_later : (e : Tree) (w : List ℕ) (p q s t u : ℕ) → p ≤ q → s ≤ t → TakesAtLeast s t (q - p) → PassesOver e w q t u → PassesOver e w p s u
+passes_later e w p q s t u low grows looks over = record {
+  start = over.start;
+  end = over.end;
+  later = (let later = over.later in omega (arith, low, later));
+  within = over.within;
+  spans = over.spans;
+  bytes = least_since s t u (over.end - over.start) grows over.bytes;
+  passed = λ early. least_both s t u (q - p) (over.end - q) (over.end - p) looks (over.passed early) (omega (arith, low));
+}
+
+-- where a pass tells an end, it passed over a match
+pub passes_told : (e : Tree) (w : List ℕ) (p s t : ℕ) (end : Option ℕ) (told : Bool) → told ≡ is_some end → IfSome end (λ j. PassesOver e w p s t) → IsTrue told → PassesOver e w p s t
+passes_told e w p s t None told is over h = absurd (true≢false (sym h ∙ is))
+passes_told e w p s t (Some j) told is over h = over
 
 -- Costs.
 

@@ -1,6 +1,5 @@
 -- The bits of a set of groups.
-use Rattle.std.proofs.Common.{◌≡◌, ℕ, zero, suc, ◌-◌, ◌*◌, ◌%◌, ◌^◌, ◌<◌, ◌≤◌, Bool, true, false, ◌&&◌, ◌||◌, not, IsTrue, refl, sym, ap, ◌∙◌, ⊎_elim, true≢false, max, min, arith, bit_and, bit_or, w16}
-use Rattle.std.specs.Prelude.{eqb, nat_lt}
+use Rattle.std.proofs.Common.{◌≡◌, ℕ, zero, suc, ◌-◌, ◌*◌, ◌%◌, ◌^◌, ◌<◌, ◌≤◌, Bool, true, false, ◌&&◌, ◌||◌, not, IsTrue, refl, sym, ap, ◌∙◌, ⊎_elim, true≢false, max, min, arith, bit_and, bit_or, w16, eqb, nat_lt}
 use Rattle.std.specs.Int.{bit_at, trailing_zeros}
 use Rattle.std.proofs.Math.Bool.{and-false}
 use Rattle.std.proofs.Math.Pow.{pow_mono}
@@ -8,14 +7,14 @@ use Rattle.std.proofs.Math.Nat.{mod-eq_of_lt}
 use Rattle.std.proofs.lemmas.Nat.Bits.{bit_at_or, bit_at_and, bit_at_not, bit_at-lt, bit_at-zero, bit_at-pow_same, bit_at-pow_other, bit_at_above, bit_at_ones, bit_at-trailing_zeros}
 use Rattle.std.proofs.lemmas.Nat.{and_le_r}
 use Rattle.std.proofs.lemmas.Bool.{ne_eqb, and_parts, and_from, cases_lt, cases_eq, eqb-true, eq-eqb, lt-ltb, ltb-true}
-use Rattle.sedpass.specs.Groups.{reported, holds}
+use Rattle.sedpass.specs.Prepared.{reported, holds}
 use Rattle.sedpass.specs.declared.group_set.GroupSet.{GroupSet}
 
 abbrev of_bits : ℕ → GroupSet
 of_bits n = record { bits = n }
 
 -- what holds of each two bits
-two_bits : (P : ℕ → ℕ → Type 0) → P 0 0 → P 0 1 → P 1 0 → P 1 1 → (a b : ℕ) → a < 2 → b < 2 → P a b
+pub two_bits : (P : ℕ → ℕ → Type 0) → P 0 0 → P 0 1 → P 1 0 → P 1 1 → (a b : ℕ) → a < 2 → b < 2 → P a b
 two_bits P p q r s zero zero small small' = p
 two_bits P p q r s zero (suc zero) small small' = q
 two_bits P p q r s (suc zero) zero small small' = r

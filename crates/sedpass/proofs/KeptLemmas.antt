@@ -1,10 +1,8 @@
 -- What is kept of a pass backwards, and how it comes down by a place.
-use Rattle.std.proofs.Common.{inl, inr, ◌≡◌, ℕ, ◌+◌, ◌-◌, ◌*◌, ◌/◌, ◌^◌, ◌<◌, ◌≤◌, ◌↔◌, ◌⊎◌, ⊎_elim, length-set, mul-le-mul_left, mul-le-mul_right, Bool, true, false, zero, suc, List, [], ◌∷◌, length, Some, refl, sym, ap, ◌∙◌, subst, arith, true≢false, IsTrue}
+use Rattle.std.proofs.Common.{inl, inr, ◌≡◌, ℕ, ◌+◌, ◌-◌, ◌*◌, ◌/◌, ◌^◌, ◌<◌, ◌≤◌, ◌↔◌, ◌⊎◌, ⊎_elim, length-set, mul-le-mul_left, mul-le-mul_right, Bool, true, false, zero, suc, List, [], ◌∷◌, length, Some, refl, sym, ap, ◌∙◌, subst, arith, true≢false, IsTrue, not, reverse, slice_get, slice_index_or, slice_set, vec_capacity, nat_lt}
 use Rattle.std.proofs.Math.Nat.{div-mul-le_self, lt-div-mul-add}
 use Rattle.std.proofs.Math.Bool.{beq}
-use Rattle.std.proofs.lemmas.List.{length-reverse}
-use Rattle.std.specs.Prelude.{not, reverse, slice_get, slice_index_or, slice_set, vec_capacity}
-use Rattle.std.proofs.lemmas.List.{get_or-set_same, get_or-set_other}
+use Rattle.std.proofs.lemmas.List.{length-reverse, get_or_default, get_or-set_same, get_or-set_other}
 use Rattle.sedre.specs.Arena.{IsArena}
 use Rattle.sedre.specs.Tree.{WrittenExpression}
 use Rattle.sedre.specs.Mirror.{seen}
@@ -13,25 +11,22 @@ use Rattle.sedtext.specs.Matching.{byte_is_in}
 use Rattle.sedtext.specs.declared.starts.Starts.{Starts}
 use Rattle.sedtext.specs.Reach.{At, IsStart, one_start, starts_to}
 use Rattle.sedtext.specs.Places.{IsPlace}
-use Rattle.sedtext.proofs.MarkLemmas.{default_same}
 use Rattle.sedtext.proofs.MirrorLemmas.{get-reverse}
 use Rattle.sedpass.specs.Regions.{IsLastIn, Opposite, ReachesEnd, Meets}
-use Rattle.sedpass.specs.Prepared.{null_in}
-use Rattle.sedpass.specs.Rows.{bits, RowOfPlace, LeadsTo, IsFirstRow, SameBytes, at_begin, at_end}
+use Rattle.sedpass.specs.Rows.{bits, RowOfPlace, LeadsTo, IsFirstRow, SameBytes, at_begin, at_end, nodes_of}
 use Rattle.sedtext.specs.Words.{AgreeBelow, row_of}
-use Rattle.sedpass.specs.Kept.{starts_told, ends_told, ComesDown, RowKept, KeptAt, IsLive, KeptRoom, IsRegion, PassesDownTo, IsEdge, AllMarked, SameKept, SameSpace, EdgesFrom, IsKept}
+use Rattle.sedpass.specs.Kept.{starts_told, ends_told, ComesDown, RowKept, KeptAt, IsLive, IsRegion, PassesDownTo, IsEdge, AllMarked, SameKept, SameSpace, EdgesFrom, IsKept, KeepsRegion, Follows, Meet}
 use Rattle.sedpass.specs.Table.{State, state_of, HasRow, LeadsOn, BeginsIn, IsTable, MayBegin, SameShape, AddsStates, IsOffset}
 use Rattle.sedpass.specs.declared.kept.Kept.{Kept}
-use Rattle.sedpass.specs.Rows.{nodes_of}
-use Rattle.std.proofs.lemmas.Bool.{cases_eq, cases_lt}
+use Rattle.std.proofs.lemmas.Bool.{cases_eq, cases_lt, lt-ltb, ltb-true}
 use Rattle.sedpass.specs.declared.nodes.Prepared.{Prepared}
 use Rattle.sedpass.specs.declared.rows.Way.{Way}
 use Rattle.sedpass.specs.declared.table.Table.{Table}
 use Rattle.sedpass.specs.declared.nodes.Kind.{Kind}
-use Rattle.sedpass.proofs.FactLemmas.{null_tells}
 use Rattle.sedpass.proofs.LeaveLemmas.{last_inside, reaches_last}
 use Rattle.sedpass.proofs.RowLemmas.{behind_reaches, meet_rows, bits_agree, bits_here}
-use Rattle.sedre.specs.Steps.{TakesExactly, TakesAtLeast}
+use Rattle.sedpass.proofs.MeetingLemmas.{meets_early}
+use Rattle.sedtext.proofs.MatchingLemmas.{both-iff}
 
 -- the starts of the mirrored pass are the places where its matches end
 pub told_opposite : (all_starts : Bool) (n end : ℕ) → end ≤ n → Opposite n (starts_told all_starts n end) (ends_told all_starts n end)
@@ -142,74 +137,25 @@ kept_down p w way root end q byte edge a b before within got last leads at =
 
 -- Going back by one byte.
 
--- the room is as it was
-pub room_kept : (m n : ℕ) (t after : Table) (k other : Kept) → SameShape t after → vec_capacity other.states ≡ vec_capacity k.states → other.edges ≡ k.edges → KeptRoom m n t k → KeptRoom m n after other
-room_kept m n t after k other shape places edges room = record {
-  mirrored = subst (λ (v : Way). IsTrue v.mirrored) (sym shape.0) room.mirrored;
-  keeps = subst (λ (v : Way). IsTrue v.keeps) (sym shape.0) room.keeps;
-  places = rw places room.places;
-  blocks = λ b low. rw edges (room.blocks b (subst (λ r. b * (r - 1) ≤ n) shape.1 low));
-  marks = λ q low. subst (λ (rows : List (List Bool)). m ≤ length (row_of rows q)) (sym edges) (room.marks q (subst (λ (rows : List (List Bool)). q < length rows) edges low));
-}
-
--- and so is the region
+-- the region is as it was
 pub region_kept : (p : Prepared) (w : List ℕ) (t after : Table) (k other : Kept) → SameShape t after → IsTable p after → vec_capacity other.states ≡ vec_capacity k.states →
     length other.states.items ≡ length k.states.items → other.edges ≡ k.edges →
     other.region.root ≡ k.region.root → other.region.end ≡ k.region.end → other.region.to ≤ k.region.end → IsRegion p w t k → IsRegion p w after other
 region_kept p w t after k other shape table places long edges root end within region = record {
   table = table;
-  room = room_kept (length p.arena.expr.nodes) (length w) t after k other shape places edges region.room;
+  room = record {
+    mirrored = subst (λ (v : Way). IsTrue v.mirrored) (sym shape.0) region.room.mirrored;
+    keeps = subst (λ (v : Way). IsTrue v.keeps) (sym shape.0) region.room.keeps;
+    places = rw places region.room.places;
+    blocks = λ b low. rw edges (region.room.blocks b (subst (λ r. b * (r - 1) ≤ length w) shape.1 low));
+    marks = λ q low. subst (λ (rows : List (List Bool)). length p.arena.expr.nodes ≤ length (row_of rows q)) (sym edges) (region.room.marks q (subst (λ (rows : List (List Bool)). q < length rows) edges low));
+  };
   root = subst (λ v. MayBegin p v other.region.root) (sym shape.0) (subst (λ r. MayBegin p t.way r) (sym root) region.root);
   whole = λ h. end ∙ region.whole (subst (λ (v : Way). IsTrue v.all_starts) shape.0 h);
   inside = rw end region.inside;
   within = rw end within;
   long = rw long region.long;
 }
-
--- the pass is at the next place
-pub passes_down : (p : Prepared) (w : List ℕ) (t after : Table) (k other : Kept) (place offset next byte : ℕ) (edge : Bool) →
-    PassesDownTo p w t k (place + 1) offset → IsTable p after → AddsStates (length p.arena.expr.nodes) t after →
-    other.region.root ≡ k.region.root → other.region.end ≡ k.region.end → other.edges ≡ k.edges →
-    vec_capacity other.states ≡ vec_capacity k.states → other.states.items ≡ slice_set k.states.items place (next / 2 ^ after.layout.shift) →
-    ((after.epoch ≡ t.epoch → ⊥) × (other.region.to ≡ place + 1)) ⊎ ((after.epoch ≡ t.epoch) × (other.region.to ≡ k.region.to)) →
-    IsOffset after next → slice_get w place ≡ Some byte → (IsTrue edge ↔ (place ≡ 0)) →
-    LeadsOn (nodes_of t.way p.arena.expr) t.way (state_of (length p.arena.expr.nodes) t (offset / 2 ^ t.layout.shift)) byte edge (state_of (length p.arena.expr.nodes) after (next / 2 ^ after.layout.shift)) →
-    PassesDownTo p w after other place next
-passes_down p w t after k other place offset next byte edge old table adds root end edges places states to there got last leads =
-    let m = length p.arena.expr.nodes in
-    let s = next / 2 ^ after.layout.shift in
-    let low : place < k.region.end = (let h = old.within in omega arith) in
-    let inside : place < length k.states.items = (let h = old.region.long in let g = old.region.inside in omega arith) in
-    let long : length other.states.items ≡ length k.states.items = ap (λ xs. length xs) states ∙ length-set k.states.items place s in
-    let at : KeptAt p w t.way k.region.root k.region.end place (state_of m after s) =
-    kept_down p w t.way k.region.root k.region.end place byte edge (state_of m t (offset / 2 ^ t.layout.shift)) (state_of m after s) low old.region.inside got last leads old.at in
-    let now : KeptAt p w after.way k.region.root k.region.end place (state_of m after s) = subst (λ v. KeptAt p w v k.region.root k.region.end place (state_of m after s)) (sym adds.shape.0) at in
-    let here : IsLive p w after k.region.root k.region.end (slice_set k.states.items place s) place = live_set p w after k.region.root k.region.end k.states.items place s inside there.0 now in
-    let live : (q : ℕ) → place ≤ q → q < other.region.to → IsLive p w after k.region.root k.region.end (slice_set k.states.items place s) q =
-    ⊎_elim
-    (λ (h : (after.epoch ≡ t.epoch → ⊥) × (other.region.to ≡ place + 1)). λ q from before. let e : q ≡ place = (let g = h.1 in omega arith) in subst (λ x. IsLive p w after k.region.root k.region.end (slice_set k.states.items place s) x) (sym e) here)
-    (λ (h : (after.epoch ≡ t.epoch) × (other.region.to ≡ k.region.to)). λ q from before.
-    ⊎_elim
-    (λ (lt : place < q). live_other p w after k.region.root k.region.end k.states.items place s q lt
-    (live_kept p w t after k.region.root k.region.end k.states.items q adds.shape.0 (adds.grows h.0).0 (adds.kept h.0) (old.live q (omega arith) (let g = h.1 in omega arith))))
-    (λ (ge : q ≤ place). let e : q ≡ place = omega arith in subst (λ x. IsLive p w after k.region.root k.region.end (slice_set k.states.items place s) x) (sym e) here)
-    (cases_lt place q))
-    to in
-    let above : place < other.region.to = ⊎_elim (λ (h : (after.epoch ≡ t.epoch → ⊥) × (other.region.to ≡ place + 1)). let g = h.1 in omega arith) (λ (h : (after.epoch ≡ t.epoch) × (other.region.to ≡ k.region.to)). let g = h.1 in let f = old.above in omega arith) to in
-    let within : other.region.to ≤ k.region.end = ⊎_elim (λ (h : (after.epoch ≡ t.epoch → ⊥) × (other.region.to ≡ place + 1)). let g = h.1 in omega arith) (λ (h : (after.epoch ≡ t.epoch) × (other.region.to ≡ k.region.to)). let g = h.1 in let f = old.region.within in omega arith) to in
-    record {
-      region = region_kept p w t after k other adds.shape table places long edges root end within old.region;
-      within = rw end (omega arith);
-      above = omega arith;
-      there = there;
-      at = subst (λ r. KeptAt p w after.way r other.region.end place (state_of m after s)) (sym root) (subst (λ e. KeptAt p w after.way k.region.root e place (state_of m after s)) (sym end) now);
-      live = λ q from before. rw (root, end, states) (live q from before);
-    }
-
--- so many looks, and then others
-pub least_then : (s a b k n m : ℕ) → TakesExactly s a k → TakesAtLeast a b n → k + n ≡ m → TakesAtLeast s b m
-unfolding TakesAtLeast TakesExactly
-least_then s a b k n m one after is = omega (arith, one, after, is)
 
 -- The rows at the ends of blocks.
 
@@ -249,19 +195,16 @@ edges_more p w way root end width block old mid new mark other leaf last some in
 pub down_cost : (c x place s t b : ℕ) → place ≡ x + 1 → t ≤ s + c → s + c * place ≤ b → t + c * x ≤ b
 down_cost c x place s t b e up most = let h : s + c * (x + 1) ≤ b = subst (λ v. s + c * v ≤ b) e most in omega (arith, h, up)
 
--- the same region, over two calls
-pub same_kept : (a b c : Kept) → SameKept a b → SameKept b c → SameKept a c
-same_kept a b c one two = record { root = two.root ∙ one.root; end = two.end ∙ one.end; places = two.places ∙ one.places; edges = two.edges ∙ one.edges; marks = λ q. two.marks q ∙ one.marks q }
-
--- the room, over two calls, and that of the same region
+-- the room, over two calls
 pub space_same : (k : Kept) → SameSpace k k
 space_same k = record { places = refl; edges = refl; marks = λ q. refl }
 
 pub space_then : (a b c : Kept) → SameSpace a b → SameSpace b c → SameSpace a c
 space_then a b c one two = record { places = two.places ∙ one.places; edges = two.edges ∙ one.edges; marks = λ q. two.marks q ∙ one.marks q }
 
-pub kept_space : (a b : Kept) → SameKept a b → SameSpace a b
-kept_space a b same = record { places = same.places; edges = same.edges; marks = same.marks }
+-- the same region, over two calls
+pub same_kept : (a b c : Kept) → SameKept a b → SameKept b c → SameKept a c
+same_kept a b c one two = record { root = two.root ∙ one.root; end = two.end ∙ one.end; space = space_then a b c one.space two.space }
 
 -- rows that are as long as they were, over two calls
 row_past : (rows : List (List Bool)) (q : ℕ) → length rows ≤ q → length (row_of rows q) ≡ 0
@@ -277,6 +220,15 @@ rows_long a b c one two first second q =
 pub same_shape : (a b c : Table) → SameShape a b → SameShape b c → SameShape a c
 same_shape a b c one two = (two.0 ∙ one.0, two.1 ∙ one.1, two.2 ∙ one.2, two.3 ∙ one.3, two.4 ∙ one.4)
 
+-- where the states and edges stayed
+pub same_by : (k other : Kept) → other.region.root ≡ k.region.root → other.region.end ≡ k.region.end → other.states ≡ k.states → other.edges ≡ k.edges → SameKept k other
+same_by k other root end states edges =
+    record { root = root; end = end; space = record { places = ap (λ v. vec_capacity v) states; edges = ap (λ rows. length rows) edges; marks = λ q. ap (λ rows. length (row_of rows q)) edges } }
+
+-- all of it, over two calls
+pub keeps_then : (p : Prepared) (w : List ℕ) (a b c : Table) (k l m : Kept) → KeepsRegion p w a b k l → KeepsRegion p w b c l m → KeepsRegion p w a c k m
+keeps_then p w a b c k l m one two = record { kept = two.kept; shape = same_shape a b c one.shape two.shape; same = same_kept k l m one.same two.same }
+
 -- a pass comes down by a place more
 pub comes_down : (p : Prepared) (w : List ℕ) (first t after : Table) (start k other : Kept) (place offset next byte : ℕ) (edge : Bool) →
     ComesDown p w first t start k (place + 1) offset → IsTable p after → AddsStates (length p.arena.expr.nodes) t after →
@@ -286,14 +238,44 @@ pub comes_down : (p : Prepared) (w : List ℕ) (first t after : Table) (start k 
     IsOffset after next → slice_get w place ≡ Some byte → (IsTrue edge ↔ (place ≡ 0)) →
     LeadsOn (nodes_of t.way p.arena.expr) t.way (state_of (length p.arena.expr.nodes) t (offset / 2 ^ t.layout.shift)) byte edge (state_of (length p.arena.expr.nodes) after (next / 2 ^ after.layout.shift)) →
     ComesDown p w first after start other place next
-comes_down p w first t after start k other place offset next byte edge down table adds root end low from edges places states to there got last leads = record {
-  passes = passes_down p w t after k other place offset next byte edge down.passes table adds root end edges places states to there got last leads;
-  shape = same_shape first t after down.shape adds.shape;
-  same = same_kept start k other down.same (record { root = root; end = end; places = places; edges = ap (λ rows. length rows) edges; marks = λ q. ap (λ rows. length (row_of rows q)) edges });
-  low = low ∙ down.low;
-  from = from ∙ down.from;
-  edges = edges ∙ down.edges;
-}
+comes_down p w first t after start k other place offset next byte edge down table adds root end low from edges places states to there got last leads =
+    let old = down.passes in
+    let m = length p.arena.expr.nodes in
+    let s = next / 2 ^ after.layout.shift in
+    let under : place < k.region.end = (let h = old.within in omega arith) in
+    let inside : place < length k.states.items = (let h = old.region.long in let g = old.region.inside in omega arith) in
+    let long : length other.states.items ≡ length k.states.items = ap (λ xs. length xs) states ∙ length-set k.states.items place s in
+    let at : KeptAt p w t.way k.region.root k.region.end place (state_of m after s) =
+    kept_down p w t.way k.region.root k.region.end place byte edge (state_of m t (offset / 2 ^ t.layout.shift)) (state_of m after s) under old.region.inside got last leads old.at in
+    let now : KeptAt p w after.way k.region.root k.region.end place (state_of m after s) = subst (λ v. KeptAt p w v k.region.root k.region.end place (state_of m after s)) (sym adds.shape.0) at in
+    let here : IsLive p w after k.region.root k.region.end (slice_set k.states.items place s) place = live_set p w after k.region.root k.region.end k.states.items place s inside there.0 now in
+    let live : (q : ℕ) → place ≤ q → q < other.region.to → IsLive p w after k.region.root k.region.end (slice_set k.states.items place s) q =
+    ⊎_elim
+    (λ (h : (after.epoch ≡ t.epoch → ⊥) × (other.region.to ≡ place + 1)). λ q from before. let e : q ≡ place = (let g = h.1 in omega arith) in subst (λ x. IsLive p w after k.region.root k.region.end (slice_set k.states.items place s) x) (sym e) here)
+    (λ (h : (after.epoch ≡ t.epoch) × (other.region.to ≡ k.region.to)). λ q from before.
+    ⊎_elim
+    (λ (lt : place < q). live_other p w after k.region.root k.region.end k.states.items place s q lt
+    (live_kept p w t after k.region.root k.region.end k.states.items q adds.shape.0 (adds.grows h.0).0 (adds.kept h.0) (old.live q (omega arith) (let g = h.1 in omega arith))))
+    (λ (ge : q ≤ place). let e : q ≡ place = omega arith in subst (λ x. IsLive p w after k.region.root k.region.end (slice_set k.states.items place s) x) (sym e) here)
+    (cases_lt place q))
+    to in
+    let above : place < other.region.to = ⊎_elim (λ (h : (after.epoch ≡ t.epoch → ⊥) × (other.region.to ≡ place + 1)). let g = h.1 in omega arith) (λ (h : (after.epoch ≡ t.epoch) × (other.region.to ≡ k.region.to)). let g = h.1 in let f = old.above in omega arith) to in
+    let within : other.region.to ≤ k.region.end = ⊎_elim (λ (h : (after.epoch ≡ t.epoch → ⊥) × (other.region.to ≡ place + 1)). let g = h.1 in omega arith) (λ (h : (after.epoch ≡ t.epoch) × (other.region.to ≡ k.region.to)). let g = h.1 in let f = old.region.within in omega arith) to in
+    record {
+      passes = record {
+        region = region_kept p w t after k other adds.shape table places long edges root end within old.region;
+        within = rw end (omega arith);
+        above = omega arith;
+        there = there;
+        at = subst (λ r. KeptAt p w after.way r other.region.end place (state_of m after s)) (sym root) (subst (λ e. KeptAt p w after.way k.region.root e place (state_of m after s)) (sym end) now);
+        live = λ q from before. rw (root, end, states) (live q from before);
+      };
+      shape = same_shape first t after down.shape adds.shape;
+      same = same_kept start k other down.same (record { root = root; end = end; space = record { places = places; edges = ap (λ rows. length rows) edges; marks = λ q. ap (λ rows. length (row_of rows q)) edges } });
+      low = low ∙ down.low;
+      from = from ∙ down.from;
+      edges = edges ∙ down.edges;
+    }
 
 -- Blocks.
 
@@ -397,7 +379,7 @@ added_few m t after adds none =
 pub kept_read : (p : Prepared) (w : List ℕ) (t : Table) (k : Kept) (q s : ℕ) → IsKept p w t k → q < k.region.to → s ≡ slice_index_or k.states.items q s → s ≡ slice_index_or k.states.items q 0
 kept_read p w t k q s kept before is =
     let inside : q < length k.states.items = (let h = kept.region.within in let g = kept.region.inside in let f = kept.region.long in omega (arith, h, g, f, before)) in
-    is ∙ default_same k.states.items q s 0 inside
+    is ∙ get_or_default k.states.items q s 0 inside
 
 -- whether a node is marked at a place whose state is in the table
 pub kept_mark : (p : Prepared) (w : List ℕ) (t : Table) (k : Kept) (x q s : ℕ) (mark : Bool) → IsKept p w t k → x < length p.arena.expr.nodes → k.region.from ≤ q → q < k.region.to → s ≡ slice_index_or k.states.items q s →
@@ -420,7 +402,7 @@ kept_row p w t k q s kept above before read =
     let is = kept_read p w t k q s kept before read in
     let live = (kept.live q above before).0 in
     let low : s < t.room = (let most = room.count in omega (arith, live, most, is)) in
-    (omega (arith, low, room.ends), (let all = room.end_marks s low in let marks = room.marks in omega (arith, all, marks)))
+    (omega (arith, low, room.rows.ends), (let all = room.rows.end_marks s low in let marks = room.marks in omega (arith, all, marks)))
 
 -- a mark that is as asked, and one that isn't
 pub as_asked : (A : Type 0) (mark asked : Bool) → beq mark asked ≡ true → (IsTrue mark ↔ A) → IsTrue asked ↔ A
@@ -443,13 +425,7 @@ pub marked_then : (nodes : List Node) (w : List ℕ) (r x : ℕ) (t : Starts) (a
 marked_then nodes w r x t asked from place to passed more q after before =
     ⊎_elim (λ (lt : q < place). passed q after lt) (λ (ge : place ≤ q). more q ge before) (cases_lt q place)
 
--- a node that is last in the region, at its end
-pub null_spans : (p : Prepared) (w : List ℕ) (kind : Kind) (x place : ℕ) (null : Bool) → x < length p.arena.expr.nodes → (IsTrue kind.begin ↔ (place ≡ 0)) → (IsTrue kind.end ↔ (place ≡ length w)) →
-    null ≡ null_in p.arena.expr.nodes kind x → IsTrue null ↔ At p.arena.expr.nodes w x place place
-null_spans p w kind x place null inside begins ends is =
-    subst (λ b. IsTrue b ↔ At p.arena.expr.nodes w x place place) (sym is) (null_tells false p.arena.expr kind w place (begins, ends) x inside)
-
--- and before it
+-- a node that is last in the region, before its end
 pub mark_spans : (p : Prepared) (w : List ℕ) (t : Table) (k : Kept) (x q s : ℕ) (mark : Bool) → IsKept p w t k → t.way.all_starts ≡ false → IsLastIn p.arena.expr.nodes k.region.root x → k.region.from ≤ q → q < k.region.to → s ≡ slice_index_or k.states.items q s →
     mark ≡ slice_index_or (row_of t.ends s) x false → IsTrue mark ↔ At p.arena.expr.nodes w x q k.region.end
 mark_spans p w t k x q s mark kept one last above before read is =
@@ -463,14 +439,15 @@ mark_spans p w t k x q s mark kept one last above before read is =
     (λ h. both.0 (same.0 h), λ h. same.1 (both.1 h))
 
 -- what is told of the region stays so over calls
-pub told_as : (P : ℕ → Starts → Type 0) (n : ℕ) (t after : Table) (k other : Kept) → SameShape t after → SameKept k other → P other.region.root (ends_told after.way.all_starts n other.region.end) → P k.region.root (ends_told t.way.all_starts n k.region.end)
-told_as P n t after k other shape same told =
-    subst (λ (v : Way). P k.region.root (ends_told v.all_starts n k.region.end)) shape.0
-    (subst (λ e. P k.region.root (ends_told after.way.all_starts n e)) same.end (subst (λ r. P r (ends_told after.way.all_starts n other.region.end)) same.root told))
+pub told_as : (P : ℕ → Starts → Type 0) (p : Prepared) (w : List ℕ) (t after : Table) (k other : Kept) → KeepsRegion p w t after k other → P other.region.root (ends_told after.way.all_starts (length w) other.region.end) →
+    P k.region.root (ends_told t.way.all_starts (length w) k.region.end)
+told_as P p w t after k other keeps told =
+    subst (λ (v : Way). P k.region.root (ends_told v.all_starts (length w) k.region.end)) keeps.shape.0
+    (subst (λ e. P k.region.root (ends_told after.way.all_starts (length w) e)) keeps.same.end (subst (λ r. P r (ends_told after.way.all_starts (length w) other.region.end)) keeps.same.root told))
 
 -- the same, where only the marks for its acts changed
-pub kept_same : (p : Prepared) (w : List ℕ) (t : Table) (k other : Kept) → other.region ≡ k.region → other.states ≡ k.states → other.edges ≡ k.edges → IsKept p w t k → IsKept p w t other
-kept_same p w t k other region states edges kept =
+pub keeps_same : (p : Prepared) (w : List ℕ) (t : Table) (k other : Kept) → other.region ≡ k.region → other.states ≡ k.states → other.edges ≡ k.edges → IsKept p w t k → KeepsRegion p w t t k other
+keeps_same p w t k other region states edges kept =
     let root = ap (λ r. r.root) region in
     let end = ap (λ r. r.end) region in
     let to = ap (λ r. r.to) region in
@@ -478,9 +455,113 @@ kept_same p w t k other region states edges kept =
     let from = ap (λ r. r.from) region in
     let shape : SameShape t t = (refl, refl, refl, refl, refl) in
     record {
-      region = region_kept p w t t k other shape kept.region.table (ap (λ v. vec_capacity v) states) (ap (λ v. length v.items) states) edges root end (rw to kept.region.within) kept.region;
-      low = (let h = kept.low in omega (arith, h, low, from));
-      from = (let h = kept.from in omega (arith, h, from, end));
-      live = λ q above before. rw (root, end, states) (kept.live q (omega (arith, from, above)) (omega (arith, to, before)));
-      edges = edges_same p w t t k other k.region.low other.region.low shape edges root end (omega (arith, low)) kept.edges;
+      kept = record {
+        region = region_kept p w t t k other shape kept.region.table (ap (λ v. vec_capacity v) states) (ap (λ v. length v.items) states) edges root end (rw to kept.region.within) kept.region;
+        low = (let h = kept.low in omega (arith, h, low, from));
+        from = (let h = kept.from in omega (arith, h, from, end));
+        live = λ q above before. rw (root, end, states) (kept.live q (omega (arith, from, above)) (omega (arith, to, before)));
+        edges = edges_same p w t t k other k.region.low other.region.low shape edges root end (omega (arith, low)) kept.edges;
+      };
+      shape = shape;
+      same = same_by k other root end states edges;
     }
+
+-- A pass ahead beside the kept one.
+
+-- Where they meet.
+
+bit_tells : (m : ℕ) (marks : List Bool) (c : ℕ) → IsTrue (bits m marks c) ↔ ((c < m) × IsTrue (slice_index_or marks c false))
+bit_tells m marks c = both-iff (nat_lt c m) (slice_index_or marks c false) (c < m) (IsTrue (slice_index_or marks c false)) (ltb-true c m, lt-ltb c m) (λ h. h, λ h. h)
+
+-- two rows tell whether they have a mark in common
+bits_meet : (m : ℕ) (front behind : List Bool) (met : Bool) → (IsTrue met ↔ ((c : ℕ) × (c < m) × IsTrue (slice_index_or front c false) × IsTrue (slice_index_or behind c false))) →
+    IsTrue met ↔ ((c : ℕ) × IsTrue (bits m front c) × IsTrue (bits m behind c))
+bits_meet m front behind met tells = (
+  λ h. let there = tells.0 h in (there.0, (bit_tells m front there.0).1 (there.1, there.2), (bit_tells m behind there.0).1 (there.1, there.3)),
+  λ h. let one = (bit_tells m front h.0).0 h.1 in tells.1 (h.0, one.0, one.1, ((bit_tells m behind h.0).0 h.2).1),
+)
+
+-- and so whether the passes meet at the place, as its state is read
+pub meet_read : (p : Prepared) (w : List ℕ) (t ahead : Table) (k : Kept) (a i place offset n front_state s : ℕ) (met : Bool) → IsKept p w t k → k.region.from ≤ place → place < k.region.to → Follows p w ahead a i place offset →
+    n ≡ length p.arena.expr.nodes → front_state ≡ offset / 2 ^ ahead.layout.shift → s ≡ slice_index_or k.states.items place s →
+    (IsTrue met ↔ ((c : ℕ) × (c < n) × IsTrue (slice_index_or (row_of ahead.leaves front_state) c false) × IsTrue (slice_index_or (row_of t.ends s) c false))) →
+    IsTrue met ↔ Meets p.arena.expr.nodes w k.region.root (ends_told t.way.all_starts (length w) k.region.end) a (one_start i) place
+meet_read p w t ahead k a i place offset n front_state s met kept above before follows count front_is read tells =
+    let m = length p.arena.expr.nodes in
+    let region : IsRegion p w t k = kept.region in
+    let front = state_of m ahead (offset / 2 ^ ahead.layout.shift) in
+    let behind = state_of m t s in
+    let live : IsLive p w t k.region.root k.region.end k.states.items place = kept.live place above before in
+    let at : KeptAt p w t.way k.region.root k.region.end place behind = subst (λ v. KeptAt p w t.way k.region.root k.region.end place (state_of m t v)) (sym (kept_read p w t k place s kept before read)) live.1 in
+    let there : place ≤ length w = (let h = region.within in let g = region.inside in omega (arith, h, g, before)) in
+    let one : IsTrue met ↔ ((c : ℕ) × IsTrue (front.entered c) × IsTrue (behind.ended c)) = bits_meet m (row_of ahead.leaves (offset / 2 ^ ahead.layout.shift)) (row_of t.ends s) met
+    (subst (λ v. IsTrue met ↔ ((c : ℕ) × (c < m) × IsTrue (slice_index_or (row_of ahead.leaves v) c false) × IsTrue (slice_index_or (row_of t.ends s) c false))) front_is
+    (subst (λ v. IsTrue met ↔ ((c : ℕ) × (c < v) × IsTrue (slice_index_or (row_of ahead.leaves front_state) c false) × IsTrue (slice_index_or (row_of t.ends s) c false))) count tells)) in
+    let row : RowOfPlace p.arena.expr.nodes w a (one_start i) ahead.way.keeps place front.entered front.ended = subst (λ r. RowOfPlace p.arena.expr.nodes w r (one_start i) ahead.way.keeps place front.entered front.ended) follows.0 follows.1 in
+    let two = kept_meets p.arena.expr w t.way.mirrored t.way.all_starts t.way.keeps ahead.way.keeps k.region.root a i k.region.end place front.entered front.ended behind.entered behind.ended
+    region.table.expr.arena region.room.mirrored region.room.keeps there region.inside row at.1 in
+    (λ h. two.0 (one.0 h), λ h. one.1 (two.1 h))
+
+-- a place more
+pub meet_on : (p : Prepared) (w : List ℕ) (t : Table) (k : Kept) (a i from place : ℕ) → Meet p w t k a i from place → Meets p.arena.expr.nodes w k.region.root (ends_told t.way.all_starts (length w) k.region.end) a (one_start i) place →
+    Meet p w t k a i from (place + 1)
+meet_on p w t k a i from place met here q after before =
+    ⊎_elim (λ (lt : q < place). met q after lt)
+    (λ (ge : place ≤ q). let e : place ≡ q = omega arith in subst (λ y. Meets p.arena.expr.nodes w k.region.root (ends_told t.way.all_starts (length w) k.region.end) a (one_start i) y) e here) (cases_lt q place)
+
+-- nowhere at the region's end
+pub meet_end : (p : Prepared) (w : List ℕ) (t : Table) (k : Kept) (a i : ℕ) → IsKept p w t k → Meets p.arena.expr.nodes w k.region.root (ends_told t.way.all_starts (length w) k.region.end) a (one_start i) k.region.end → ⊥
+meet_end p w t k a i kept met =
+    let before : k.region.end < (ends_told t.way.all_starts (length w) k.region.end).last =
+    meets_early p.arena.expr.nodes w k.region.root a k.region.end (one_start i) (ends_told t.way.all_starts (length w) k.region.end) kept.region.table.expr.arena met in
+    last_told t.way.all_starts (length w) k.region.end kept.region.whole before
+  where
+    last_told : (all_starts : Bool) (n end : ℕ) → (IsTrue all_starts → end ≡ n) → end < (ends_told all_starts n end).last → ⊥
+    last_told true n end whole before = let e : end ≡ n = whole refl in omega arith
+    last_told false n end whole before = omega arith
+
+-- How the pass ahead goes on.
+
+next_row : (e : WrittenExpression) (w : List ℕ) (mirrored all_starts keeps edge : Bool) (a i place byte : ℕ) (entered ended after after_ended : ℕ → Bool) → mirrored ≡ false → all_starts ≡ false → i ≤ place → slice_get w place ≡ Some byte →
+    (IsTrue edge ↔ (place + 1 ≡ length w)) → LeadsTo (seen mirrored e).nodes a keeps entered ended (Some byte) edge all_starts after after_ended → RowOfPlace e.nodes w a (one_start i) keeps place entered ended →
+    RowOfPlace e.nodes w a (one_start i) keeps (place + 1) after after_ended
+next_row e w true all_starts keeps edge a i place byte entered ended after after_ended front one from got last leads row = absurd (true≢false front)
+next_row e w false true keeps edge a i place byte entered ended after after_ended front one from got last leads row = absurd (true≢false one)
+next_row e w false false keeps edge a i place byte entered ended after after_ended front one from got last leads row =
+    let bytes : SameBytes e.nodes (slice_get w place) (Some byte) = λ x members _. ap (λ b. byte_is_in b members) got in
+    leads w (one_start i) place bytes last (λ h. absurd (true≢false (sym h)), λ h. absurd (omega arith)) row
+
+pub follows_next : (p : Prepared) (w : List ℕ) (t after : Table) (a i place byte offset next : ℕ) (edge : Bool) → t.way.mirrored ≡ false → t.way.all_starts ≡ false → SameShape t after → i ≤ place → slice_get w place ≡ Some byte →
+    (IsTrue edge ↔ (place + 1 ≡ length w)) →
+    LeadsOn (nodes_of t.way p.arena.expr) t.way (state_of (length p.arena.expr.nodes) t (offset / 2 ^ t.layout.shift)) byte edge (state_of (length p.arena.expr.nodes) after (next / 2 ^ after.layout.shift)) →
+    Follows p w t a i place offset → Follows p w after a i (place + 1) next
+follows_next p w t after a i place byte offset next edge front one shape from got last leads follows =
+    let m = length p.arena.expr.nodes in
+    let old = state_of m t (offset / 2 ^ t.layout.shift) in
+    let new = state_of m after (next / 2 ^ after.layout.shift) in
+    let root : new.root ≡ old.root = leads.0 in
+    let row : RowOfPlace p.arena.expr.nodes w old.root (one_start i) t.way.keeps (place + 1) new.entered new.ended =
+    next_row p.arena.expr w t.way.mirrored t.way.all_starts t.way.keeps edge old.root i place byte old.entered old.ended new.entered new.ended front one from got last leads.1 follows.1 in (
+      root ∙ follows.0,
+      rw (root, (ap (λ v. v.keeps) shape.0)) row,
+    )
+
+first_row : (e : WrittenExpression) (w : List ℕ) (mirrored keeps : Bool) (a i : ℕ) (kind : Kind) (entered ended : ℕ → Bool) → mirrored ≡ false → (IsTrue kind.begin ↔ (i ≡ 0)) → (IsTrue kind.end ↔ (i ≡ length w)) →
+    IsFirstRow (seen mirrored e).nodes a keeps (at_begin mirrored kind) (at_end mirrored kind) entered ended → RowOfPlace e.nodes w a (one_start i) keeps i entered ended
+first_row e w true keeps a i kind entered ended front begins ends first = absurd (true≢false front)
+first_row e w false keeps a i kind entered ended front begins ends first = first w (one_start i) (begins, ends) (omega arith)
+
+pub follows_first : (p : Prepared) (w : List ℕ) (t after : Table) (a i offset : ℕ) (kind : Kind) → t.way.mirrored ≡ false → after.way ≡ t.way → (IsTrue kind.begin ↔ (i ≡ 0)) → (IsTrue kind.end ↔ (i ≡ length w)) →
+    BeginsIn (nodes_of t.way p.arena.expr) t.way a kind (state_of (length p.arena.expr.nodes) after (offset / 2 ^ after.layout.shift)) → Follows p w after a i i offset
+follows_first p w t after a i offset kind front way begins ends first =
+    let s = state_of (length p.arena.expr.nodes) after (offset / 2 ^ after.layout.shift) in
+    let row : RowOfPlace p.arena.expr.nodes w a (one_start i) t.way.keeps i s.entered s.ended = first_row p.arena.expr w t.way.mirrored t.way.keeps a i kind s.entered s.ended front begins ends first.1 in (
+      first.0,
+      rw (first.0, (ap (λ v. v.keeps) way)) row,
+    )
+
+-- What it costs.
+
+-- a place with its look at two rows, its byte, and its act
+pub place_cost : (m from place s a b c d : ℕ) → 1 ≤ m → s + 36 * m * from ≤ a + 36 * m * place → b ≤ s + m → c ≤ b + 1 → d ≤ c + 34 * m → d + 36 * m * from ≤ a + 36 * m * (place + 1)
+place_cost m from place s a b c d some before one two three = omega (arith, some, before, one, two, three)

@@ -1,6 +1,5 @@
 -- How a part is left, by what follows it in its node, and what a node is left to that nothing follows.
-use Rattle.std.proofs.Common.{◌≡◌, ℕ, ◌+◌, ◌-◌, ◌<◌, ◌≤◌, ◌⊎◌, ◌↔◌, true, List, length, reverse, Some, refl, sym, ap, ◌∙◌, subst, inl, inr, ⊎_elim, arith}
-use Rattle.std.specs.Prelude.{slice_get}
+use Rattle.std.proofs.Common.{◌≡◌, ℕ, ◌+◌, ◌-◌, ◌<◌, ◌≤◌, ◌⊎◌, ◌↔◌, true, List, length, reverse, Some, refl, sym, ap, ◌∙◌, subst, inl, inr, ⊎_elim, arith, slice_get}
 use Rattle.std.proofs.lemmas.Bool.{cases_lt}
 use Rattle.sedre.specs.Arena.{IsArena, IsPart, HasTwoParts}
 use Rattle.sedre.specs.Tree.{WrittenExpression, tree_at}
@@ -13,7 +12,7 @@ use Rattle.sedtext.specs.Spans.{no_copy}
 use Rattle.sedtext.specs.Reach.{At, BeginsWith, IsStart, one_start, Enters, at_root, with_whole, after_left, again, Ends}
 use Rattle.sedpass.specs.Regions.{EndsWith, Leaves, at_end, with_end, before_right, before_copies, ReachesEnd, EndsAt, Opposite, IsLastPart, IsLastIn, all_of, last_of}
 use Rattle.sedtext.proofs.SpanLemmas.{Matches-forward}
-use Rattle.sedtext.proofs.ReachLemmas.{close_at}
+use Rattle.sedtext.proofs.ReachLemmas.{close_at, same_node}
 use Rattle.sedtext.proofs.MirrorLemmas.{At-mirror}
 
 -- how the part c of the node at y is left at i
@@ -44,16 +43,10 @@ module _ (nodes : List Node) (w : List ℕ) (r : ℕ) (t : Starts) (arena : IsAr
   OutOf-with_end y c i (Opt a first) is ends l = l
   OutOf-with_end y c i other is ends l = ends
 
-  -- two nodes with one part are one
-  one_node : (y z c : ℕ) (node other : Node) → slice_get nodes y ≡ Some node → slice_get nodes z ≡ Some other → IsPart node c → IsPart other c → (y ≡ z) × (node ≡ other)
-  one_node y z c node other is is' part part' =
-      let e : y ≡ z = arena.once y z c node other is is' part part' in
-      (e, let k : slice_get nodes y ≡ slice_get nodes z = ap (slice_get nodes) e in cc)
-
   -- the same way out of another node with the part, which is this one
   moved : (y z c i : ℕ) (node other : Node) → slice_get nodes y ≡ Some node → slice_get nodes z ≡ Some other → IsPart node c → IsPart other c → OutOf nodes w r t z c i other → OutOf nodes w r t y c i node
   moved y z c i node other is is' part part' out =
-      let both = one_node z y c other node is' is part' part in
+      let both = same_node nodes arena z y c other node is' is part' part in
       subst (λ v. OutOf nodes w r t v c i node) both.0 (subst (λ n. OutOf nodes w r t z c i n) both.1 out)
 
   -- a part is left through its node alone

@@ -5,7 +5,7 @@ use Rattle.std.proofs.lemmas.Option.{cond_some}
 use Rattle.sedre.specs.Tree.{Tree, set, seq, alt, group, star, opt}
 use Rattle.sedtext.specs.Spans.{CopiesLead, no_copy, one_more, Matches}
 use Rattle.sedtext.specs.Caps.{LastCut, LastCopy, only, then}
-use Rattle.sedpass.specs.Lengths.{sum_of, same_of, length_of, AllLong}
+use Rattle.sedpass.specs.Prepared.{sum_of, same_of, length_of, AllLong}
 use Rattle.sedtext.proofs.SpanLemmas.{CopiesLead-forward}
 
 -- the parts of a length that is known

@@ -1,9 +1,5 @@
-pub mod AheadLemmas
 pub mod ClassLemmas
-pub mod CountLemmas
 pub mod DecideLemmas
-pub mod ExpressionLemmas
-pub mod EmptyLemmas
 pub mod FactLemmas
 pub mod ForwardLemmas
 pub mod GroupSetLemmas
@@ -19,4 +15,3 @@ pub mod SearchLemmas
 pub mod SpineLemmas
 pub mod TableLemmas
 pub mod TurnLemmas
-pub mod WalkLemmas

@@ -1,9 +1,8 @@
 -- Where a pass forwards over a part and a pass backwards over what it stands in meet, a match of the part goes on and the end is reached.
-use Rattle.std.proofs.Common.{◌≡◌, ℕ, zero, suc, ◌+◌, ◌-◌, ◌<◌, ◌≤◌, ◌⊎◌, ◌↔◌, Bool, List, length, Some, refl, sym, ◌∙◌, subst, inl, inr, ⊎_elim, arith}
-use Rattle.std.specs.Prelude.{slice_get}
+use Rattle.std.proofs.Common.{◌≡◌, ℕ, zero, suc, ◌+◌, ◌-◌, ◌<◌, ◌≤◌, ◌⊎◌, ◌↔◌, Bool, List, length, Some, refl, sym, ◌∙◌, subst, inl, inr, ⊎_elim, arith, slice_get}
 use Rattle.std.proofs.lemmas.Bool.{cases_lt}
 use Rattle.std.proofs.lemmas.Option.{slice_get_within}
-use Rattle.sedre.specs.Arena.{IsArena, IsPart}
+use Rattle.sedre.specs.Arena.{IsArena}
 use Rattle.sedre.specs.Tree.{tree_at}
 use Rattle.sedre.specs.declared.types.Node.{Node}
 use Rattle.sedre.specs.declared.types.NodeId.{NodeId}
@@ -13,9 +12,9 @@ use Rattle.sedtext.specs.Spans.{CopiesLead, no_copy, one_more}
 use Rattle.sedtext.specs.Caps.{LastCut, LastCopy, only, then}
 use Rattle.sedtext.specs.Nodes.{IsRepetitionOf}
 use Rattle.sedtext.specs.Reach.{At, BeginsWith, IsStart, one_start, Enters, at_root, with_whole, after_left, again}
-use Rattle.sedpass.specs.Regions.{Leaves, with_end, before_right, before_copies, ReachesEnd, IsLastIn, all_of, Meets, GoesOn, CeasesAt, RunsTo, NextCopy, IsRunOf, repeated, in_group}
+use Rattle.sedpass.specs.Regions.{Leaves, with_end, before_right, before_copies, ReachesEnd, IsLastIn, all_of, Meets, GoesOn, CeasesAt, NextCopy, IsRunOf, repeated, in_group}
 use Rattle.sedtext.proofs.SpanLemmas.{Matches-forward, CopiesLead-forward, CopiesLead-append}
-use Rattle.sedtext.proofs.ReachLemmas.{open_at, close_at, Enters-inside, star_copies}
+use Rattle.sedtext.proofs.ReachLemmas.{open_at, close_at, Enters-inside, star_copies, BeginsWith-part}
 use Rattle.sedtext.proofs.NodeLemmas.{node_at}
 use Rattle.sedtext.proofs.TimesLemmas.{CopiesLead-join}
 use Rattle.sedpass.proofs.LeaveLemmas.{OutOf, Leaves-part, Leaves-to, last_inside, last-leaves, Leaves-last}
@@ -37,10 +36,6 @@ CopiesLead-before R k q p on r rest =
 first_copy : (R : ℕ → ℕ → Type 0) (j i : ℕ) → CopiesLead R j i → i < j → (l : ℕ) × (i < l) × R i l × CopiesLead R j l
 first_copy R j i no_copy some = absurd (omega arith)
 first_copy R j i (one_more _ l lt r rest) some = (l, lt, r, rest)
-
-pub BeginsWith-part : (node : Node) (c : ℕ) → BeginsWith node c → IsPart node c
-BeginsWith-part (Seq a b) c h = inl h
-BeginsWith-part other c h = h
 
 module _ (nodes : List Node) (w : List ℕ) (r : ℕ) (t : Starts) (a : ℕ) (s : Starts) (arena : IsArena nodes) (within : a ≤ r) where
   -- the node with this part spans p to k, and is left there
@@ -384,7 +379,6 @@ module _ (nodes : List Node) (w : List ℕ) (r j x : ℕ) (a b : NodeId) (arena 
       )
 
   -- the greatest cut after a repetition of one set is the first place at which the set isn't marked
-  pub run_stops : (i p : ℕ) → At nodes w x i j → RunsTo nodes w r j c i p → LastCut (At nodes w a.index) (At nodes w b.index) i j p
-  run_stops i p at runs =
-      cut_at nodes w r j x a b arena last is i p (ReachesEnd nodes w r (one_start j) c) at runs.0
-      (λ q low up. run_decides i q low (λ l low' lt. runs.1 l low' (omega arith))) runs.1 runs.2
+  pub run_stops : (i p : ℕ) → At nodes w x i j → i ≤ p → ((q : ℕ) → i ≤ q → q < p → ReachesEnd nodes w r (one_start j) c q) → (ReachesEnd nodes w r (one_start j) c p → ⊥) → LastCut (At nodes w a.index) (At nodes w b.index) i j p
+  run_stops i p at up marked over =
+      cut_at nodes w r j x a b arena last is i p (ReachesEnd nodes w r (one_start j) c) at up (λ q low on. run_decides i q low (λ l low' lt. marked l low' (omega arith))) marked over

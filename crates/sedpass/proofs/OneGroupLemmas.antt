@@ -1,8 +1,8 @@
 -- What becomes of one group of a match while all are decided from its end; so decided, they are those decided from the left.
-use Rattle.std.proofs.Common.{◌≡◌, ℕ, zero, suc, ◌<◌, ◌≤◌, ◌⊎◌, ◌↔◌, ◌||◌, Bool, true, false, List, [], ◌∷◌, length, Option, None, Some, IsTrue, refl, sym, ap, ◌∙◌, subst, inl, inr, ⊎_elim, true≢false, arith}
-use Rattle.std.specs.Prelude.{eqb, unwrap_or, slice_get, slice_set, slice_index_or, replicate}
+use Rattle.std.proofs.Common.{◌≡◌, ℕ, zero, suc, ◌<◌, ◌≤◌, ◌⊎◌, ◌||◌, Bool, true, false, List, [], ◌∷◌, length, Option, None, Some, refl, sym, ap, ◌∙◌, subst, inl, inr, ⊎_elim, true≢false, arith, replicate, eqb, slice_get, slice_set, slice_index_or}
+use Rattle.std.specs.Prelude.{unwrap_or}
 use Rattle.std.specs.Option.{option_or}
-use Rattle.std.proofs.lemmas.Bool.{cases_Bool, cases_lt, eqb-true, eq-eqb}
+use Rattle.std.proofs.lemmas.Bool.{cases_Bool, cases_lt, or_left, or_right, or_cases}
 use Rattle.std.proofs.lemmas.Bool.Decides.{eqb_tells}
 use Rattle.std.proofs.lemmas.List.{ext_get_or, get_or-set_other, length-set}
 use Rattle.std.proofs.lemmas.Option.{slice_get_past, none-some, same_Some, unwrap_or-slice_get}
@@ -13,18 +13,9 @@ use Rattle.sedtext.specs.Caps.{Captures, LastCopy, only, then, IsReport}
 use Rattle.sedtext.specs.Spans.{Matches}
 use Rattle.sedtext.proofs.CapsLemmas.{Captures-unique}
 use Rattle.sedtext.proofs.MatchingLemmas.{groups_after-is}
-use Rattle.sedpass.proofs.RowLemmas.{not_true, or_truth}
-use Rattle.sedpass.specs.Groups.{has_group}
-use Rattle.sedpass.specs.Walks.{State, is_due, settle, drop_groups, GroupStandsIn, PassedBy, Walk, IsStart}
-
--- whether a group stands in the expression
-pub has_told : (t : Tree) (k : ℕ) → IsTrue (has_group t k) ↔ GroupStandsIn t k
-has_told (seq a b) k = or_truth (has_group a k) (has_group b k) (GroupStandsIn a k) (GroupStandsIn b k) (has_told a k) (has_told b k)
-has_told (alt a b) k = or_truth (has_group a k) (has_group b k) (GroupStandsIn a k) (GroupStandsIn b k) (has_told a k) (has_told b k)
-has_told (group n a) k = or_truth (eqb n k) (has_group a k) (n ≡ k) (GroupStandsIn a k) (eqb-true n k, eq-eqb n k) (has_told a k)
-has_told (star a first) k = has_told a k
-has_told (opt a first) k = has_told a k
-has_told other k = not_true ⊥ (λ h. h)
+use Rattle.sedpass.specs.Walks.{State, is_due, settle, drop_groups, GroupStandsIn, PassedBy, Walk, IsStart, has_group, NoneDue, EntersGroups}
+use Rattle.sedre.specs.Steps.{TakesAtLeast}
+use Rattle.sedtext.proofs.GroupLemmas.{NoGroups}
 
 abbrev Span : Type 0
 Span = Option (ℕ × ℕ)
@@ -241,7 +232,7 @@ lays-then k P g m h d e one two = record {
 lays-forget : (a : Tree) (k : ℕ) (g : Groups) → Lays k (GroupStandsIn a k) g (forget a g) (deed (has_group a k) None)
 lays-forget a k g = record {
   at = forget_at a k g;
-  none = elim (cases_Bool (has_group a k)) [ inl has ↦ inr ((has_told a k).0 has) | inr lacks ↦ inl (ap (λ b. deed b None) lacks) ];
+  none = elim (cases_Bool (has_group a k)) [ inl has ↦ inr has | inr lacks ↦ inl (ap (λ b. deed b None) lacks) ];
 }
 
 lays-within : (a : Tree) (k : ℕ) (g h : Groups) (d : Option Span) → Lays k (GroupStandsIn a k) (forget a g) h d → Lays k (GroupStandsIn a k) g h (within a k d)
@@ -260,8 +251,8 @@ lays-around n v a k g h d one =
     record {
       at = set_at n k v h ∙ ap (λ x. lay x (deed (eqb n k) v)) (one.at ∙ ap (λ x. lay x d) (forget_at (group n a) k g)) ∙ group_at (slice_get g k) d v (eqb n k) (has_group a k);
       none = both_none P (deed (eqb n k) v) _
-          (elim (eqb_tells n k) [ inl same ↦ inr (inl same.1) | inr other ↦ inl (ap (λ b. deed b v) other.0) ])
-          (none_in (GroupStandsIn a k) P _ (λ h. inr h) (both_none (GroupStandsIn a k) d _ one.none (lays-forget a k g).none));
+          (elim (eqb_tells n k) [ inl same ↦ inr (or_left (eqb n k) (has_group a k) same.0) | inr other ↦ inl (ap (λ b. deed b v) other.0) ])
+          (none_in (GroupStandsIn a k) P _ (or_right (eqb n k) (has_group a k)) (both_none (GroupStandsIn a k) d _ one.none (lays-forget a k g).none));
     }
 
 -- what becomes of the group in a match, its groups decided from the left
@@ -280,10 +271,10 @@ taken k other w i j g h c = None
 
 captured : (k : ℕ) (e : Tree) (w : List ℕ) (i j : ℕ) (g h : Groups) (c : Captures e w i j g h) → Lays k (GroupStandsIn e k) g h (taken k e w i j g h c)
 captured k (seq a b) w i j g h c =
-    lays-then k (GroupStandsIn (seq a b) k) g c.2.0 h _ _ (lays-wider k (GroupStandsIn a k) _ g c.2.0 _ (λ h. inl h) (captured k a w i c.0 g c.2.0 c.2.1))
-    (lays-wider k (GroupStandsIn b k) _ c.2.0 h _ (λ h. inr h) (captured k b w c.0 j c.2.0 h c.2.2))
-captured k (alt a b) w i j g h (inl c) = lays-wider k (GroupStandsIn a k) _ g h _ (λ h. inl h) (captured k a w i j g h c.1)
-captured k (alt a b) w i j g h (inr c) = lays-wider k (GroupStandsIn b k) _ g h _ (λ h. inr h) (captured k b w i j g h c.1)
+    lays-then k (GroupStandsIn (seq a b) k) g c.2.0 h _ _ (lays-wider k (GroupStandsIn a k) _ g c.2.0 _ (or_left (has_group a k) (has_group b k)) (captured k a w i c.0 g c.2.0 c.2.1))
+    (lays-wider k (GroupStandsIn b k) _ c.2.0 h _ (or_right (has_group a k) (has_group b k)) (captured k b w c.0 j c.2.0 h c.2.2))
+captured k (alt a b) w i j g h (inl c) = lays-wider k (GroupStandsIn a k) _ g h _ (or_left (has_group a k) (has_group b k)) (captured k a w i j g h c.1)
+captured k (alt a b) w i j g h (inr c) = lays-wider k (GroupStandsIn b k) _ g h _ (or_right (has_group a k) (has_group b k)) (captured k b w i j g h c.1)
 captured k (group n a) w i j g h c =
     subst (λ l. Lays k (GroupStandsIn (group n a) k) g l (taken k (group n a) w i j g h c)) (sym c.2) (lays-around n (Some (i, j)) a k g c.0 _ (captured k a w i j (forget (group n a) g) c.0 c.1))
 captured k (star a first) w i j g h (inl c) = lays-within a k g h _ (captured k a w c.1.0 j (forget a g) h c.1.2)
@@ -432,3 +423,37 @@ drop_as t s new blank same long tells =
     (ext_get_or false new.due (drop_groups t s).due (long ∙ sym (drop_takes t 0 s).long) (λ k _. tells k ∙ sym (drop_takes t k s).due))
     (same ∙ same_lists s.spans (drop_groups t s).spans (λ k. sym ((drop_takes t k s).span
     ∙ blank_put (is_due s k) (slice_get s.spans k) (has_group t k) (λ due. unwrap_or-slice_get s.spans k None ∙ blank k due))))
+
+-- A walk over a match, as nodes are entered one after another.
+
+-- a walk passes by what has no group that is due
+pub passes_by : (e : Tree) (w : List ℕ) (i j : ℕ) (s : State) → NoneDue e s → Walk e w i j s s 0
+passes_by empty w i j s none = (refl, refl)
+passes_by (set has) w i j s none = (refl, refl)
+passes_by begin w i j s none = (refl, refl)
+passes_by end w i j s none = (refl, refl)
+passes_by other w i j s none = inl (none, refl, refl)
+
+pub enters_later : (e : Tree) (w : List ℕ) (i j a b c : ℕ) → a ≤ b → EntersGroups e w i j b c → EntersGroups e w i j a c
+unfolding TakesAtLeast
+enters_later e w i j a b c up enters =
+    let looks = enters.2 in
+    (enters.0, enters.1, record { last = looks.last; n = looks.n; walk = looks.walk; counts = let h = looks.counts in omega (arith, up, h) })
+
+groupless : (e : Tree) → NoGroups e → (k : ℕ) → GroupStandsIn e k → ⊥
+groupless (seq a b) none k has = ⊎_elim (groupless a none.0 k) (groupless b none.1 k) (or_cases (has_group a k) (has_group b k) has)
+groupless (alt a b) none k has = ⊎_elim (groupless a none.0 k) (groupless b none.1 k) (or_cases (has_group a k) (has_group b k) has)
+groupless (group n a) none k has = none
+groupless (star a first) none k has = groupless a none k has
+groupless (opt a first) none k has = groupless a none k has
+groupless other none k has = true≢false (sym has)
+
+-- where an expression has no group nothing is entered
+pub enters_nothing : (e : Tree) (w : List ℕ) (i j s : ℕ) → NoGroups e → EntersGroups e w i j s s
+unfolding TakesAtLeast
+enters_nothing e w i j s none =
+    let start : State = record { due = []; spans = Some (i, j) ∷ replicate 9 None } in (
+      start,
+      record { whole = refl; each = λ k low high has. absurd (groupless e none k has); none = refl },
+      record { last = start; n = 0; walk = passes_by e w i j start (λ k has. absurd (groupless e none k has)); counts = omega arith },
+    )

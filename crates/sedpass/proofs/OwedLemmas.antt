@@ -1,6 +1,5 @@
 -- What looks into a kept pass may still cost.
-use Rattle.std.proofs.Common.{◌≡◌, ℕ, zero, suc, ◌+◌, ◌-◌, ◌*◌, ◌<◌, ◌≤◌, ◌⊎◌, ⊎_elim, ◌&&◌, refl, sym, ap, ◌∙◌, subst, arith, mul-le-mul_left}
-use Rattle.std.specs.Prelude.{cond}
+use Rattle.std.proofs.Common.{◌≡◌, ℕ, zero, suc, ◌+◌, ◌-◌, ◌*◌, ◌<◌, ◌≤◌, ◌⊎◌, ⊎_elim, ◌&&◌, refl, sym, ap, ◌∙◌, subst, arith, mul-le-mul_left, cond}
 use Rattle.std.proofs.lemmas.Bool.{cases_lt}
 use Rattle.std.proofs.lemmas.Bool.Decides.{nat_tests}
 use Rattle.std.proofs.Math.Dec.{leb, ltb}
@@ -144,16 +143,16 @@ owed_left m old place s t u k other same count paid =
     subst (λ x. CostsWithin s x (owed m old place) (owed m other.region place)) (sym count) (subst (λ x. CostsWithin s t (owed m old place) (owed m x.region place)) (sym same) paid)
 
 -- places are passed, or the search ends at one
-pub seek_on : (o a b e s s0 s1 s2 from place found : ℕ) → s + a + 2 * from ≤ s0 + o + 2 * place → s1 + b ≤ s + a → s2 + place ≤ s1 + (found + 1) → e ≤ b → place < found → s2 + e + 2 * from ≤ s0 + o + 2 * found
+pub seek_on : (o a b e s s0 s1 s2 from place found : ℕ) → s + (a + 2 * from) ≤ s0 + (o + 2 * place) → s1 + b ≤ s + a → s2 + place ≤ s1 + (found + 1) → e ≤ b → place < found → s2 + (e + 2 * from) ≤ s0 + (o + 2 * found)
 seek_on o a b e s s0 s1 s2 from place found before ready seek falls up = omega arith
 
-pub seek_at : (o a b e s s0 s1 s2 from place found : ℕ) → s + a + 2 * from ≤ s0 + o + 2 * place → s1 + b ≤ s + a → s2 + place ≤ s1 + (found + 1) → e ≤ b → place ≤ found → s2 + (e + 2 * from) ≤ s0 + (o + 2 * found + 2)
+pub seek_at : (o a b e s s0 s1 s2 from place found : ℕ) → s + (a + 2 * from) ≤ s0 + (o + 2 * place) → s1 + b ≤ s + a → s2 + place ≤ s1 + (found + 1) → e ≤ b → place ≤ found → s2 + (e + 2 * from) ≤ s0 + (o + 2 * found + 2)
 seek_at o a b e s s0 s1 s2 from place found before ready seek falls up = omega arith
 
 -- the same of a pass ahead
-pub cut_on : (m o a b e s s0 s1 s2 from place found : ℕ) → s + a + 36 * m * from ≤ s0 + o + 36 * m * place → s1 + b ≤ s + a → s2 + 36 * m * place ≤ s1 + 36 * m * found → e ≤ b → s2 + e + 36 * m * from ≤ s0 + o + 36 * m * found
+pub cut_on : (m o a b e s s0 s1 s2 from place found : ℕ) → s + (a + 36 * m * from) ≤ s0 + (o + 36 * m * place) → s1 + b ≤ s + a → s2 + 36 * m * place ≤ s1 + 36 * m * found → e ≤ b → s2 + (e + 36 * m * from) ≤ s0 + (o + 36 * m * found)
 cut_on m o a b e s s0 s1 s2 from place found before ready meet falls = omega (arith, before, ready, meet, falls)
 
-pub cut_at : (m o a b e s s0 first s1 s2 from place found : ℕ) → first ≤ s0 + 33 * m → s + a + 36 * m * from ≤ first + o + 36 * m * place → s1 + b ≤ s + a → s2 + 36 * m * place ≤ s1 + (36 * m * found + m) → e ≤ b →
+pub cut_at : (m o a b e s s0 first s1 s2 from place found : ℕ) → first ≤ s0 + 33 * m → s + (a + 36 * m * from) ≤ first + (o + 36 * m * place) → s1 + b ≤ s + a → s2 + 36 * m * place ≤ s1 + (36 * m * found + m) → e ≤ b →
     s2 + (e + 36 * m * from) ≤ s0 + (o + 36 * m * (found + 1))
 cut_at m o a b e s s0 first s1 s2 from place found begun before ready meet falls = omega (arith, begun, before, ready, meet, falls)

@@ -1,10 +1,9 @@
 -- How the marks at a place follow from what the leaves took, and what a row tells.
-use Rattle.std.proofs.Common.{length-set, ◌≡◌, ℕ, ◌+◌, ◌-◌, ◌*◌, ◌<◌, ◌≤◌, ◌⊎◌, ◌↔◌, Bool, List, length, Option, Some, None, IsTrue, refl, sym, ap, ◌∙◌, subst, inl, inr, ⊎_elim, true≢false, true, false, ◌&&◌, ◌||◌, arith}
-use Rattle.std.specs.Prelude.{slice_get, slice_index_or, slice_set, eqb, nat_lt, reverse}
+use Rattle.std.proofs.Common.{length-set, ◌≡◌, ℕ, ◌+◌, ◌-◌, ◌*◌, ◌<◌, ◌≤◌, ◌⊎◌, ◌↔◌, Bool, List, length, Option, Some, None, IsTrue, refl, sym, ap, ◌∙◌, subst, inl, inr, ⊎_elim, true≢false, true, false, ◌&&◌, ◌||◌, arith, slice_get, slice_index_or, slice_set, eqb, nat_lt, reverse}
 use Rattle.std.proofs.Math.Path.{fun_ext}
 use Rattle.std.proofs.lemmas.Option.{slice_get_within}
 use Rattle.std.proofs.lemmas.List.{get_or-set_same, get_or-set_other}
-use Rattle.std.proofs.lemmas.Bool.{and_parts, and_from, or_cases, or_left, or_right, cases_lt, cases_eq, eqb-true, eq-eqb, lt-ltb, le-ltb}
+use Rattle.std.proofs.lemmas.Bool.{and_parts, and_from, cases_lt, cases_eq, eqb-true, eq-eqb, lt-ltb, le-ltb}
 use Rattle.sedre.specs.Arena.{IsArena, IsPart}
 use Rattle.sedre.specs.Tree.{WrittenExpression, tree_at}
 use Rattle.sedre.specs.Mirror.{mirror_node, seen}
@@ -23,20 +22,12 @@ use Rattle.sedtext.specs.Reach.{At, IsStart, one_start, SomeSpan, BeginsWith, Ma
 use Rattle.sedpass.specs.Regions.{EndsAt, Opposite, ReachesEnd, Meets}
 use Rattle.sedpass.specs.Rows.{Took, SameBytes, NoneEntered, InTree, is_tree, part_of, IsNodeRange, TreeBelow, TreeFrom, AreNull, ended_by, enter_looks, bits, TellTook, RowOfPlace, LeafAt, EndKept, TellFrom, RowFrom, LeadsTo}
 use Rattle.sedtext.proofs.SpanLemmas.{Matches-forward, CopiesLead-append, CopiesLead-last}
-use Rattle.sedtext.proofs.ReachLemmas.{open_at, close_at, takes_some, FromNode, Enters-from, Enters-part, Enters-inside, Enters-root}
+use Rattle.sedtext.proofs.ReachLemmas.{open_at, close_at, takes_some, FromNode, Enters-from, Enters-part, Enters-inside, Enters-root, BeginsWith-part}
 use Rattle.sedpass.proofs.LeaveLemmas.{ends_at, reaches_mirror}
-use Rattle.sedpass.proofs.MeetingLemmas.{BeginsWith-part, meets_whole}
+use Rattle.sedpass.proofs.MeetingLemmas.{meets_whole}
+use Rattle.sedtext.proofs.MatchingLemmas.{both-iff, either-iff}
 
--- what marks tell, together
-pub or_truth : (a b : Bool) (A B : Type 0) → (IsTrue a ↔ A) → (IsTrue b ↔ B) → IsTrue (a || b) ↔ (A ⊎ B)
-or_truth a b A B l m = (
-  λ h. ⊎_elim (λ (x : a ≡ true). inl (l.0 x)) (λ (y : b ≡ true). inr (m.0 y)) (or_cases a b h),
-  λ h. ⊎_elim (λ (x : A). or_left a b (l.1 x)) (λ (y : B). or_right a b (m.1 y)) h,
-)
-
-pub and_truth : (a b : Bool) (A B : Type 0) → (IsTrue a ↔ A) → (IsTrue b ↔ B) → IsTrue (a && b) ↔ (A × B)
-and_truth a b A B l m = (λ h. let both = and_parts a b h in (l.0 both.0, m.0 both.1), λ h. and_from a b (l.1 h.0) (m.1 h.1))
-
+-- a mark that isn't set, of what doesn't hold
 pub not_true : (A : Type 0) → (A → ⊥) → IsTrue false ↔ A
 not_true A none = (λ h. absurd (true≢false (sym h)), λ a. absurd (none a))
 
@@ -92,8 +83,8 @@ module _ (nodes : List Node) (w : List ℕ) (r : ℕ) (s : Starts) (arena : IsAr
           λ h. let f = open_at nodes w x (Set m) arena is h.0 j h.3 in truth.1 (h.0, sym f.3, h.2, subst (λ o. IsTrue (byte_is_in o m)) (sym f.1) f.2),
         )
     ended_is (Seq a b) is takes nulls ends =
-        let truth = or_truth (ended b.index) (ended a.index && null b.index) (Ends nodes w r s b.index j) (Ends nodes w r s a.index j × At nodes w b.index j j) (ends b.index (inr refl))
-        (and_truth (ended a.index) (null b.index) (Ends nodes w r s a.index j) (At nodes w b.index j j) (ends a.index (inl refl)) (nulls b.index (inr refl))) in (
+        let truth = either-iff (ended b.index) (ended a.index && null b.index) (Ends nodes w r s b.index j) (Ends nodes w r s a.index j × At nodes w b.index j j) (ends b.index (inr refl))
+        (both-iff (ended a.index) (null b.index) (Ends nodes w r s a.index j) (At nodes w b.index j j) (ends a.index (inl refl)) (nulls b.index (inr refl))) in (
           λ h. ⊎_elim
               (λ (right : Ends nodes w r s b.index j).
               let from = after_seq x right.0 a b le is right.2 in
@@ -114,7 +105,7 @@ module _ (nodes : List Node) (w : List ℕ) (r : ℕ) (s : Starts) (arena : IsAr
               (cases_lt f.0 j)),
         )
     ended_is (Alt a b) is takes nulls ends =
-        let truth = or_truth (ended a.index) (ended b.index) (Ends nodes w r s a.index j) (Ends nodes w r s b.index j) (ends a.index (inl refl)) (ends b.index (inr refl)) in (
+        let truth = either-iff (ended a.index) (ended b.index) (Ends nodes w r s a.index j) (Ends nodes w r s b.index j) (ends a.index (inl refl)) (ends b.index (inr refl)) in (
           λ h. ⊎_elim
               (λ (l : Ends nodes w r s a.index j). up_with x j a.index (Alt a b) le is (inl refl) (λ i f. f) (λ i at. close_at nodes w x (Alt a b) arena is i j (inl at)) l)
               (λ (m : Ends nodes w r s b.index j). up_with x j b.index (Alt a b) le is (inr refl) (λ i f. f) (λ i at. close_at nodes w x (Alt a b) arena is i j (inr at)) m)
@@ -148,7 +139,7 @@ module _ (nodes : List Node) (w : List ℕ) (r : ℕ) (s : Starts) (arena : IsAr
     right_part : (a b : NodeId) → slice_get nodes x ≡ Some (Seq a b) → (null ended : Bool) → (IsTrue null ↔ At nodes w a.index p p) → (IsTrue ended ↔ Ends nodes w r s a.index p) →
         IsTrue (ended || (here && null)) ↔ Enters nodes w r s b.index p
     right_part a b is null ended nulls ends =
-        let truth = or_truth ended (here && null) (Ends nodes w r s a.index p) (Enters nodes w r s x p × At nodes w a.index p p) ends (and_truth here null (Enters nodes w r s x p) (At nodes w a.index p p) enters nulls) in (
+        let truth = either-iff ended (here && null) (Ends nodes w r s a.index p) (Enters nodes w r s x p × At nodes w a.index p p) ends (both-iff here null (Enters nodes w r s x p) (At nodes w a.index p p) enters nulls) in (
           λ h. elim (truth.0 h) [ inl end ↦ after_left x b.index end.0 p a b is refl (with_seq x end.0 a b le is end.2) end.3 | inr none ↦ after_left x b.index p p a b is refl none.0 none.1 ],
           λ h. let from = after_seq x p a b le is h in
               let on = Matches-forward (tree_at nodes a.index) w from.0 p from.2 in
@@ -162,7 +153,7 @@ module _ (nodes : List Node) (w : List ℕ) (r : ℕ) (s : Starts) (arena : IsAr
 
     copy_part : (a : NodeId) (first : Bool) → slice_get nodes x ≡ Some (Star a first) → (ended : Bool) → (IsTrue ended ↔ Ends nodes w r s a.index p) → IsTrue (here || ended) ↔ Enters nodes w r s a.index p
     copy_part a first is ended ends =
-        let truth = or_truth here ended (Enters nodes w r s x p) (Ends nodes w r s a.index p) enters ends in (
+        let truth = either-iff here ended (Enters nodes w r s x p) (Ends nodes w r s a.index p) enters ends in (
           λ h. elim (truth.0 h) [ inl begins ↦ with_whole x a.index p (Star a first) is refl begins | inr end ↦ let more = one_copy x p a first le is end in again x a.index more.0 p a first is refl more.2 more.3 ],
           λ h. let from = Enters-part nodes w r s arena x le a.index p (Star a first) is refl h in
               truth.1 (elim (last_copy x from.0 p a first is from.1 from.2) [ inl none ↦ inl (subst (λ k. Enters nodes w r s x k) none from.1) | inr end ↦ inr end ]),
@@ -357,11 +348,11 @@ module _ (nodes : List Node) (w : List ℕ) (r p : ℕ) (s : Starts) (keeps : Bo
         λ h. let same : node ≡ Set h.0 = (let at = h.1 in cc) in
             and_from (takes_any node) here (subst (λ n. IsTrue (takes_any n)) (sym same) refl) (enters.1 h.2),
       ) in
-      let asked : IsTrue (keeps || eqb x r) ↔ (IsTrue keeps ⊎ (x ≡ r)) = or_truth keeps (eqb x r) (IsTrue keeps) (x ≡ r) (λ h. h, λ h. h) (eqb-true x r, eq-eqb x r) in
+      let asked : IsTrue (keeps || eqb x r) ↔ (IsTrue keeps ⊎ (x ≡ r)) = either-iff keeps (eqb x r) (IsTrue keeps) (x ≡ r) (λ h. h, λ h. h) (eqb-true x r, eq-eqb x r) in
       let law = ends_at nodes w r x p s in
-      let truth = or_truth end (here && null) (Ends nodes w r s x p) (Enters nodes w r s x p × At nodes w x p p) ends (and_truth here null (Enters nodes w r s x p) (At nodes w x p p) enters nulls) in
+      let truth = either-iff end (here && null) (Ends nodes w r s x p) (Enters nodes w r s x p × At nodes w x p p) ends (both-iff here null (Enters nodes w r s x p) (At nodes w x p p) enters nulls) in
       let over : IsTrue (end || (here && null)) ↔ EndsAt nodes w r s x p = (λ h. law.1 (truth.0 h), λ h. truth.1 (law.0 h)) in
-      let kept = and_truth (keeps || eqb x r) (end || (here && null)) (IsTrue keeps ⊎ (x ≡ r)) (EndsAt nodes w r s x p) asked over in (
+      let kept = both-iff (keeps || eqb x r) (end || (here && null)) (IsTrue keeps ⊎ (x ≡ r)) (EndsAt nodes w r s x p) asked over in (
         tell_more entered after Leaf x (takes_any node && here) is_after leaf (λ c ne. (others c ne).0) row.0,
         tell_more ended after_ended Kept x ((keeps || eqb x r) && (end || (here && null))) is_ended kept (λ c ne. (others c ne).1) row.1,
       )

@@ -1,23 +1,21 @@
 -- What the pass from the text's end tells of matches of the whole expression, and what searches cost.
-use Rattle.std.proofs.Common.{inl, inr, ◌≡◌, ℕ, zero, suc, ◌+◌, ◌-◌, ◌*◌, ◌/◌, ◌<◌, ◌≤◌, ◌↔◌, Bool, true, false, max, List, length, Option, Some, None, IsTrue, refl, sym, ap, ◌∙◌, subst, ⊎_elim, true≢false, arith, mul-le-mul_left}
+use Rattle.std.proofs.Common.{inl, inr, ◌≡◌, ℕ, zero, suc, ◌+◌, ◌-◌, ◌*◌, ◌/◌, ◌<◌, ◌≤◌, ◌↔◌, Bool, true, false, max, List, length, Option, Some, None, IsTrue, refl, sym, ap, ◌∙◌, subst, ⊎_elim, true≢false, arith, mul-le-mul_left, IfSome, if◌then◌else◌}
 use Rattle.std.proofs.lemmas.Bool.{cases_lt}
 use Rattle.sedre.specs.Arena.{IsArena}
-use Rattle.sedre.specs.Tree.{WrittenExpression, expression_tree, tree_at, Tree}
-use Rattle.std.specs.Prelude.{IfSome, if◌then◌else◌}
+use Rattle.sedre.specs.Tree.{WrittenExpression, expression_tree, Tree}
 use Rattle.sedre.specs.Steps.{TakesAtLeast}
-use Rattle.sedpass.proofs.CountLemmas.{least_both, least_fewer, least_none, least_since}
 use Rattle.sedtext.specs.Answer.{SpanAnswer}
 use Rattle.sedtext.specs.declared.starts.Starts.{Starts}
 use Rattle.sedtext.specs.Reach.{At, one_start, IsLongestFrom, starts_to}
 use Rattle.sedtext.specs.Beginnings.{AllBegin, NextStart, NoneIn}
 use Rattle.sedtext.specs.declared.beginnings.Begins.{Begins}
-use Rattle.sedpass.specs.Table.{IsAhead, IsTable, SameShape}
+use Rattle.sedpass.specs.Table.{IsTable, SameShape, State, state_of, LeadsOn, Names, cell_of, MayBegin, IsColumn}
 use Rattle.sedpass.specs.declared.table.Table.{Table}
 use Rattle.sedtext.specs.Spans.{Matches, IsLeftmostLongest, NotFound}
 use Rattle.sedtext.proofs.SpanLemmas.{Matches-forward, Matches-within}
-use Rattle.sedpass.specs.Kept.{AllMarked, SameSpace, ends_told}
+use Rattle.sedpass.specs.Kept.{AllMarked, SameSpace, ends_told, IsKept, IsRegion}
 use Rattle.sedpass.specs.Regions.{CeasesAt, all_of, ReachesEnd}
-use Rattle.sedpass.specs.Search.{LooksFrom, TrialsMade, owed_after, owed_kept, owed_search, search_cost}
+use Rattle.sedpass.specs.Search.{LooksFrom, TrialsMade, owed_after, owed_kept, owed_search, search_cost, Serves}
 use Rattle.sedpass.specs.declared.kept.Region.{Region}
 use Rattle.sedpass.proofs.KeptLemmas.{space_same}
 use Rattle.sedpass.proofs.OwedLemmas.{owed_small}
@@ -26,14 +24,15 @@ use Rattle.sedpass.specs.declared.search.Trials.TheVariants.{Tired}
 use Rattle.sedpass.specs.declared.nodes.Prepared.{Prepared}
 use Rattle.sedpass.proofs.LeaveLemmas.{reaches_ends}
 use Rattle.sedpass.proofs.MeetingLemmas.{meets_whole}
+use Rattle.sedtext.proofs.CountLemmas.{least_less, least_none, least_both, least_since}
+use Rattle.sedpass.proofs.ForwardLemmas.{root_spans}
+use Rattle.sedpass.specs.Rows.{nodes_of}
+use Rattle.sedpass.specs.declared.kept.Kept.{Kept}
+use Rattle.sedpass.specs.declared.rows.Way.{Way}
 
 -- where no place before begins a match, the longest one from there is the one sought
 pub found_at : (e : WrittenExpression) (w : List ℕ) (from i j : ℕ) → from ≤ i → NoneIn (expression_tree e) w from i → IsLongestFrom (expression_tree e) w i (Some j) → IsLeftmostLongest (expression_tree e) w from i j
 found_at e w from i j after none longest = record { after = after; spans = longest.0; longest = longest.1; leftmost = λ h k low high. none h k low high }
-
--- and none is found where no place from there on begins one
-pub none_later : (e : WrittenExpression) (w : List ℕ) (from i : ℕ) → NoneIn (expression_tree e) w from i → length w < i → NotFound (expression_tree e) w from
-none_later e w from i none late = λ h k low high. none h k low (omega arith)
 
 -- where one place more begins none
 pub none_more : (e : WrittenExpression) (w : List ℕ) (from i : ℕ) → NoneIn (expression_tree e) w from i → IsLongestFrom (expression_tree e) w i None → NoneIn (expression_tree e) w from (i + 1)
@@ -49,21 +48,12 @@ module _ (p : Prepared) (w : List ℕ) (arena : IsArena p.arena.expr.nodes) wher
   abbrev pub all : Starts
   all = starts_to 0 (length w)
 
-  root_is : length p.arena.expr.nodes - 1 ≡ p.root
-  root_is = let last = p.is_prepared.last in omega arith
-
-  to_tree : (i k : ℕ) → At p.arena.expr.nodes w p.root i k → Matches (expression_tree p.arena.expr) w i k
-  to_tree i k span = subst (λ x. Matches (tree_at p.arena.expr.nodes x) w i k) (sym root_is) span
-
-  from_tree : (i k : ℕ) → Matches (expression_tree p.arena.expr) w i k → At p.arena.expr.nodes w p.root i k
-  from_tree i k span = subst (λ x. Matches (tree_at p.arena.expr.nodes x) w i k) root_is span
-
   -- the root is marked exactly where a match begins
   pub begins_at : (q : ℕ) → q ≤ length w → ReachesEnd p.arena.expr.nodes w p.root all p.root q ↔ ((k : ℕ) × Matches (expression_tree p.arena.expr) w q k)
   begins_at q low =
       let both = reaches_ends p.arena.expr.nodes w p.root p.root q all arena (all_of p.root refl) in (
-        λ h. let g = both.0 h in (g.0, to_tree q g.0 g.2),
-        λ h. let within = Matches-within (expression_tree p.arena.expr) w q h.0 low h.1 in both.1 (h.0, (omega arith, omega arith), from_tree q h.0 h.1),
+        λ h. let g = both.0 h in (g.0, (root_spans p w q g.0).0 g.2),
+        λ h. let within = Matches-within (expression_tree p.arena.expr) w q h.0 low h.1 in both.1 (h.0, (omega arith, omega arith), (root_spans p w q h.0).1 h.1),
       )
 
   -- so none begins where it isn't marked
@@ -80,7 +70,7 @@ module _ (p : Prepared) (w : List ℕ) (arena : IsArena p.arena.expr.nodes) wher
       let in_text = Matches-within (expression_tree p.arena.expr) w i k within span in
       let same : i ≡ length w = omega arith in
       let end : k ≡ length w = omega arith in
-      null (subst (λ v. At p.arena.expr.nodes w p.root v (length w)) same (subst (λ v. At p.arena.expr.nodes w p.root i v) end (from_tree i k span))))
+      null (subst (λ v. At p.arena.expr.nodes w p.root v (length w)) same (subst (λ v. At p.arena.expr.nodes w p.root i v) end ((root_spans p w i k).1 span))))
       (cases_lt i (length w))
 
   -- a pass from where one begins ceases to meet the kept one at its longest end
@@ -92,7 +82,7 @@ module _ (p : Prepared) (w : List ℕ) (arena : IsArena p.arena.expr.nodes) wher
       let most : (l : ℕ) → Matches (expression_tree p.arena.expr) w start l → l ≤ stop = λ l more. ⊎_elim
       (λ (later : stop < l).
       let in_text = Matches-within (expression_tree p.arena.expr) w start l low more in
-      absurd (ceases.2 ((meets_whole p.arena.expr.nodes w p.root stop (one_start start) all arena inside).1 (start, l, (omega arith, omega arith), on, later, from_tree start l more, (omega arith, omega arith)))))
+      absurd (ceases.2 ((meets_whole p.arena.expr.nodes w p.root stop (one_start start) all arena inside).1 (start, l, (omega arith, omega arith), on, later, (root_spans p w start l).1 more, (omega arith, omega arith)))))
       (λ (ge : l ≤ stop). ge)
       (cases_lt stop l) in
       let high = most k span in
@@ -101,7 +91,7 @@ module _ (p : Prepared) (w : List ℕ) (arena : IsArena p.arena.expr.nodes) wher
       let met = (meets_whole p.arena.expr.nodes w p.root (stop - 1) (one_start start) all arena inside).0 (ceases.1 (stop - 1) (omega arith) (omega arith)) in
       let first = met.2 in
       let same : met.0 ≡ start = omega arith in
-      let here : Matches (expression_tree p.arena.expr) w start met.1 = subst (λ v. Matches (expression_tree p.arena.expr) w v met.1) same (to_tree met.0 met.1 met.5) in
+      let here : Matches (expression_tree p.arena.expr) w start met.1 = subst (λ v. Matches (expression_tree p.arena.expr) w v met.1) same ((root_spans p w met.0 met.1).0 met.5) in
       let top = most met.1 here in
       let after = met.4 in
       let end : met.1 ≡ stop = omega arith in
@@ -112,9 +102,9 @@ module _ (p : Prepared) (w : List ℕ) (arena : IsArena p.arena.expr.nodes) wher
       (subst (Matches (expression_tree p.arena.expr) w start) end span, most))
       (cases_lt start stop)
 
--- the ends that a kept pass over all places tells of
-pub ends_all : (b : Bool) (n end : ℕ) → IsTrue b → ends_told b n end ≡ starts_to 0 n
-ends_all b n end is = ap (λ v. ends_told v n end) is
+-- what a kept pass over all places tells
+told_whole : (P : ℕ → Starts → Type 0) (p : Prepared) (n : ℕ) (b : Bool) (r end : ℕ) → IsTrue b → r ≡ p.root → P r (ends_told b n end) → P p.root (starts_to 0 n)
+told_whole P p n b r end all_starts root told = subst (λ v. P p.root (ends_told v n end)) all_starts (subst (λ v. P v (ends_told b n end)) root told)
 
 -- no match is found where the root is marked nowhere, nor null at the end
 pub kept_none : (p : Prepared) (w : List ℕ) (b : Bool) (r end from start : ℕ) (begins : Bool) → IsArena p.arena.expr.nodes → IsTrue b → r ≡ p.root → start ≤ length w →
@@ -122,9 +112,7 @@ pub kept_none : (p : Prepared) (w : List ℕ) (b : Bool) (r end from start : ℕ
     NotFound (expression_tree p.arena.expr) w from
 kept_none p w b r end from start begins arena all_starts root low none inside null is =
     let at : start ≡ length w = ⊎_elim (λ (lt : start < length w). absurd (true≢false (sym (inside lt) ∙ is))) (λ (ge : length w ≤ start). omega arith) (cases_lt start (length w)) in
-    let marked : AllMarked p.arena.expr.nodes w p.root (starts_to 0 (length w)) p.root false from start = subst (λ t. AllMarked p.arena.expr.nodes w p.root t p.root false from start) (ends_all b (length w) end all_starts)
-    (subst (λ v. AllMarked p.arena.expr.nodes w v (ends_told b (length w) end) p.root false from start) root none) in
-    let before = none_marked p w arena from start low marked in
+    let before = none_marked p w arena from start low (told_whole (λ v t. AllMarked p.arena.expr.nodes w v t p.root false from start) p (length w) b r end all_starts root none) in
     none_kept p w arena from (subst (NoneIn (expression_tree p.arena.expr) w from) at before)
     (λ span. absurd (true≢false (sym ((null at).1 (subst (λ v. At p.arena.expr.nodes w p.root v v) (sym at) span)) ∙ is)))
 
@@ -133,27 +121,18 @@ pub kept_found : (p : Prepared) (w : List ℕ) (b : Bool) (r end : ℕ) (b' : Bo
     AllMarked p.arena.expr.nodes w r (ends_told b (length w) end) p.root false from start → ((k : ℕ) × Matches (expression_tree p.arena.expr) w start k) →
     CeasesAt p.arena.expr.nodes w r' (ends_told b' (length w) end') p.root start stop → IsLeftmostLongest (expression_tree p.arena.expr) w from start stop
 kept_found p w b r end b' r' end' from start stop arena all_starts root all_starts' root' after low none begins ceases =
-    let marked : AllMarked p.arena.expr.nodes w p.root (starts_to 0 (length w)) p.root false from start = subst (λ t. AllMarked p.arena.expr.nodes w p.root t p.root false from start) (ends_all b (length w) end all_starts)
-    (subst (λ v. AllMarked p.arena.expr.nodes w v (ends_told b (length w) end) p.root false from start) root none) in
-    let met : CeasesAt p.arena.expr.nodes w p.root (starts_to 0 (length w)) p.root start stop = subst (λ t. CeasesAt p.arena.expr.nodes w p.root t p.root start stop) (ends_all b' (length w) end' all_starts')
-    (subst (λ v. CeasesAt p.arena.expr.nodes w v (ends_told b' (length w) end') p.root start stop) root' ceases) in
+    let marked = told_whole (λ v t. AllMarked p.arena.expr.nodes w v t p.root false from start) p (length w) b r end all_starts root none in
+    let met = told_whole (λ v t. CeasesAt p.arena.expr.nodes w v t p.root start stop) p (length w) b' r' end' all_starts' root' ceases in
     found_at p.arena.expr w from start stop after (none_marked p w arena from start low marked) (longest_kept p w arena start stop begins.0 low begins.1 met)
 
--- one begins where the root is marked before the end
-pub begins_marked : (p : Prepared) (w : List ℕ) (b : Bool) (r end start : ℕ) → IsArena p.arena.expr.nodes → IsTrue b → r ≡ p.root → start ≤ length w →
-    ReachesEnd p.arena.expr.nodes w r (ends_told b (length w) end) p.root start → (k : ℕ) × Matches (expression_tree p.arena.expr) w start k
-begins_marked p w b r end start arena all_starts root low reaches =
-    (begins_at p w arena start low).0 (subst (λ t. ReachesEnd p.arena.expr.nodes w p.root t p.root start) (ends_all b (length w) end all_starts)
-    (subst (λ v. ReachesEnd p.arena.expr.nodes w v (ends_told b (length w) end) p.root start) root reaches))
-
--- or, at the end, where it is null
+-- one begins where the root is marked before the end, or, at the end, where it is null
 pub begins_some : (p : Prepared) (w : List ℕ) (b : Bool) (r end start : ℕ) (begins : Bool) → IsArena p.arena.expr.nodes → IsTrue b → r ≡ p.root → end ≡ length w → start ≤ length w →
     (start < end → IsTrue true ↔ ReachesEnd p.arena.expr.nodes w r (ends_told b (length w) end) p.root start) → (start ≡ length w → IsTrue begins ↔ At p.arena.expr.nodes w p.root start start) → IsTrue begins →
     (k : ℕ) × Matches (expression_tree p.arena.expr) w start k
 begins_some p w b r end start begins arena all_starts root whole low found null is =
     ⊎_elim
-    (λ (lt : start < end). begins_marked p w b r end start arena all_starts root low ((found lt).0 refl))
-    (λ (ge : end ≤ start). let at : start ≡ length w = omega arith in (start, to_tree p w arena start start ((null at).0 is)))
+    (λ (lt : start < end). (begins_at p w arena start low).0 (told_whole (λ v t. ReachesEnd p.arena.expr.nodes w v t p.root start) p (length w) b r end all_starts root ((found lt).0 refl)))
+    (λ (ge : end ≤ start). let at : start ≡ length w = omega arith in (start, (root_spans p w start start).0 ((null at).0 is)))
     (cases_lt start end)
 
 -- Costs.
@@ -179,55 +158,43 @@ none_cost m n from start s0 s1 s2 o0 o1 some low within seek null =
     let most = mul-le-mul_left d some in
     omega (arith, most, seek, null)
 
+-- the places that trials went over, as those that are left for them
+tried_left : (m n tried tried' s t a b : ℕ) → tried ≤ n → tried' ≤ 2 * n + 1 → t + (40 * m * tried + a) ≤ s + (40 * m * tried' + b) → t + (40 * m * (2 * n + 1 - tried') + a) ≤ s + (40 * m * (2 * n + 1 - tried) + b)
+tried_left m n tried tried' s t a b few few' pays =
+    let u = 2 * n + 1 - tried in
+    let v = 2 * n + 1 - tried' in
+    let e1 : tried + u ≡ 2 * n + 1 = omega arith in
+    let e2 : tried' + v ≡ 2 * n + 1 = omega arith in
+    let a1 : 40 * m * (tried + u) ≡ 40 * m * (2 * n + 1) = ap (λ x. 40 * m * x) e1 in
+    let a2 : 40 * m * (tried' + v) ≡ 40 * m * (2 * n + 1) = ap (λ x. 40 * m * x) e2 in
+    omega (arith, pays, a1, a2)
+
 -- a hit
 pub hit_cost : (m n from i j tried tried' s t : ℕ) → 1 ≤ m → from ≤ i → i ≤ j → j ≤ n → tried ≤ n → tried' ≤ 2 * n + 1 → t + (40 * m * tried + from) ≤ s + (40 * m * tried' + (i + 1 + 40 * m * (j + 1 - i))) →
     t + (40 * m * (2 * n + 1 - tried') + 142 * m * (n - j)) ≤ s + (40 * m * (2 * n + 1 - tried) + 142 * m * (n - from) + 42 * m)
 hit_cost m n from i j tried tried' s t some low on within few few' pays =
     let d1 = i - from in
     let d2 = j - i in
-    let d3 = n - j in
-    let u = 2 * n + 1 - tried in
-    let v = 2 * n + 1 - tried' in
-    let e1 : n - from ≡ d1 + d2 + d3 = omega arith in
+    let e1 : n - from ≡ d1 + d2 + (n - j) = omega arith in
     let e2 : j + 1 - i ≡ d2 + 1 = omega arith in
-    let e3 : tried + u ≡ 2 * n + 1 = omega arith in
-    let e4 : tried' + v ≡ 2 * n + 1 = omega arith in
-    let a1 : 142 * m * (n - from) ≡ 142 * m * (d1 + d2 + d3) = ap (λ x. 142 * m * x) e1 in
+    let a1 : 142 * m * (n - from) ≡ 142 * m * (d1 + d2 + (n - j)) = ap (λ x. 142 * m * x) e1 in
     let a2 : 40 * m * (j + 1 - i) ≡ 40 * m * (d2 + 1) = ap (λ x. 40 * m * x) e2 in
-    let a3 : 40 * m * (tried + u) ≡ 40 * m * (2 * n + 1) = ap (λ x. 40 * m * x) e3 in
-    let a4 : 40 * m * (tried' + v) ≡ 40 * m * (2 * n + 1) = ap (λ x. 40 * m * x) e4 in
-    let most = mul-le-mul_left d1 some in
-    omega (arith, most, a1, a2, a3, a4)
+    let left = tried_left m n tried tried' s t from (i + 1 + 40 * m * (j + 1 - i)) few few' pays in
+    omega (arith, left, mul-le-mul_left d1 some, a1, a2)
 
 -- no match
 pub nothing_cost : (m n from tried tried' s t : ℕ) → 1 ≤ m → from ≤ n → tried ≤ n → tried' ≤ 2 * n + 1 → t + (40 * m * tried + from) ≤ s + (40 * m * tried' + (n + 1)) →
     t + 0 ≤ s + (40 * m * (2 * n + 1 - tried) + 142 * m * (n - from) + 42 * m)
-nothing_cost m n from tried tried' s t some low few few' pays =
-    let d = n - from in
-    let u = 2 * n + 1 - tried in
-    let v = 2 * n + 1 - tried' in
-    let e3 : tried + u ≡ 2 * n + 1 = omega arith in
-    let e4 : tried' + v ≡ 2 * n + 1 = omega arith in
-    let a3 : 40 * m * (tried + u) ≡ 40 * m * (2 * n + 1) = ap (λ x. 40 * m * x) e3 in
-    let a4 : 40 * m * (tried' + v) ≡ 40 * m * (2 * n + 1) = ap (λ x. 40 * m * x) e4 in
-    let most = mul-le-mul_left d some in
-    omega (arith, most, a3, a4)
+nothing_cost m n from tried tried' s t some low few few' pays = omega (arith, tried_left m n tried tried' s t from (n + 1) few few' pays, mul-le-mul_left (n - from) some)
 
 -- a pass from the end is left to do after trials
 tired_cost : (m n from k tried tried' s t : ℕ) → 1 ≤ m → from < k → k ≤ n → tried ≤ n → tried' ≤ 2 * n + 1 → t + (40 * m * tried + from) ≤ s + (40 * m * tried' + k) →
     t + (40 * m * (2 * n + 1 - tried') + 142 * m * (n - k)) ≤ s + (40 * m * (2 * n + 1 - tried) + 142 * m * (n - from))
 tired_cost m n from k tried tried' s t some low within few few' pays =
     let d = k - from in
-    let u = 2 * n + 1 - tried in
-    let v = 2 * n + 1 - tried' in
-    let e1 : n - from ≡ d + (n - k) = omega arith in
-    let e3 : tried + u ≡ 2 * n + 1 = omega arith in
-    let e4 : tried' + v ≡ 2 * n + 1 = omega arith in
-    let a1 : 142 * m * (n - from) ≡ 142 * m * (d + (n - k)) = ap (λ x. 142 * m * x) e1 in
-    let a3 : 40 * m * (tried + u) ≡ 40 * m * (2 * n + 1) = ap (λ x. 40 * m * x) e3 in
-    let a4 : 40 * m * (tried' + v) ≡ 40 * m * (2 * n + 1) = ap (λ x. 40 * m * x) e4 in
-    let most = mul-le-mul_left d some in
-    omega (arith, most, a1, a3, a4)
+    let e : n - from ≡ d + (n - k) = omega arith in
+    let a : 142 * m * (n - from) ≡ 142 * m * (d + (n - k)) = ap (λ x. 142 * m * x) e in
+    omega (arith, tried_left m n tried tried' s t from k few few' pays, mul-le-mul_left d some, a)
 
 -- and of one search, whatever was found out before it
 few_tried : (m n x tried z : ℕ) → z ≤ max tried (n / 8) + x → 40 * m * z ≤ 40 * m * tried + 5 * (m * n) + 40 * m * x
@@ -319,15 +286,15 @@ pub record IsTrial (e : Tree) (w : List ℕ) (from start place : ℕ) (end : Opt
   pub longest : IsLongestFrom e w start end
 
 -- so it is where the first place is tried at which one can begin
-pub trial_is : (e : Tree) (w v : List ℕ) (begins : Begins) (from start place : ℕ) (end : Option ℕ) → v ≡ w → AllBegin e begins → NextStart begins w from (Some start) → start ≤ place → place ≤ length v →
-    IfSome end (λ j. j ≤ place) → IsLongestFrom e v start end → IsTrial e w from start place end
-trial_is e w v begins from start place end same all next passed within reached longest = record {
+pub trial_is : (e : Tree) (w : List ℕ) (begins : Begins) (from start place : ℕ) (end : Option ℕ) → AllBegin e begins → NextStart begins w from (Some start) → start ≤ place → place ≤ length w →
+    IfSome end (λ j. j ≤ place) → IsLongestFrom e w start end → IsTrial e w from start place end
+trial_is e w begins from start place end all next passed within reached longest = record {
   after = next.0;
   passed = passed;
-  within = subst (λ x. place ≤ length x) same within;
+  within = within;
   reached = reached;
   none = λ i k low high span. next.2 i low high (all w i k span);
-  longest = subst (λ x. IsLongestFrom e x start end) same longest;
+  longest = longest;
 }
 
 -- where none can begin any more none is found
@@ -340,15 +307,6 @@ pub looks_tried : (from start here place s a b c : ℕ) → TakesAtLeast s a (st
     TakesAtLeast s c n
 looks_tried from start here place s a b c before first pass n low =
     least_both s a c (start - from) (here - start + 2 * (place - here) + 1) n before (least_both a b c (here - start) (2 * (place - here) + 1) (here - start + 2 * (place - here) + 1) first pass (omega arith)) low
-
--- a table of passes ahead is one still
-pub ahead_still : (p : Prepared) (a b : Table) → IsAhead p a → IsTable p b → SameShape a b → IsAhead p b
-ahead_still p a b is table shape = record {
-  table = table;
-  forwards = ap (λ v. v.mirrored) shape.0 ∙ is.forwards;
-  single = ap (λ v. v.all_starts) shape.0 ∙ is.single;
-  brief = ap (λ v. v.keeps) shape.0 ∙ is.brief;
-}
 
 -- the match from a place on, where none begins before another
 pub later_answer : (e : Tree) (w : List ℕ) (from k : ℕ) (r : Option (ℕ × ℕ)) → from ≤ k → NoneIn e w from k → SpanAnswer e w k r → SpanAnswer e w from r
@@ -441,12 +399,12 @@ looks_later from k s a b (Some f) before after = least_both s a b (k - from) (f.
 -- those up to the end alone
 pub looks_to_end : (from s a : ℕ) (r : Option (ℕ × ℕ)) → LooksFrom from s a r → IfSome r (λ f. TakesAtLeast s a (f.1 - from))
 looks_to_end from s a None looks = tt
-looks_to_end from s a (Some f) looks = least_fewer s a (f.1 + 1 - from) (f.1 - from) (omega arith) looks
+looks_to_end from s a (Some f) looks = least_less s a (f.1 + 1 - from) (f.1 - from) looks (omega arith)
 
 -- and those of a search that went on one byte further
 pub looks_past : (at s a b : ℕ) (r : Option (ℕ × ℕ)) → s ≤ a → LooksFrom (at + 1) a b r → IfSome r (λ f. TakesAtLeast s b (f.1 - at))
 looks_past at s a b None grows after = tt
-looks_past at s a b (Some f) grows after = least_since s a b (f.1 - at) grows (least_fewer a b (f.1 + 1 - (at + 1)) (f.1 - at) (omega arith) after)
+looks_past at s a b (Some f) grows after = least_since s a b (f.1 - at) grows (least_less a b (f.1 + 1 - (at + 1)) (f.1 - at) after (omega arith))
 
 -- What a search takes at most.
 
@@ -461,3 +419,56 @@ alone_square m n some =
     let a = mul-le-mul_left m inner in
     let b = mul-le-mul_left (m * (64 * (n + 1) * (n + 1))) some in
     omega (arith, a, b)
+
+-- What a table says, and what is kept of a pass, depends on the expression alone: made ready once more, it holds as before.
+
+abbrev LeadsIn : WrittenExpression → Table → ℕ → ℕ → State → Type 0
+LeadsIn e t n k b = (byte : ℕ) (edge : Bool) → byte < 256 → IsColumn t.layout byte edge k → LeadsOn (nodes_of t.way e) t.way (state_of (length e.nodes) t n) byte edge b
+
+-- passes may begin for the same nodes
+begins_for : (p q : Prepared) → p.arena.expr ≡ q.arena.expr → (way : Way) (root : ℕ) → MayBegin p way root → MayBegin q way root
+begins_for p q same way root may =
+    let old = p.is_prepared.last in
+    let new = q.is_prepared.last in
+    let nodes : length p.arena.expr.nodes ≡ length q.arena.expr.nodes = ap (λ (e : WrittenExpression). length e.nodes) same in
+    (omega (arith, may.0, nodes), λ all_starts. may.1 all_starts ∙ omega (arith, old, new, nodes))
+
+module _ (p q : Prepared) (same : p.arena.expr ≡ q.arena.expr) where
+  pub table_for : (t : Table) → IsTable p t → IsTable q t
+  table_for t table = record {
+    expr = rw (← same) table.expr;
+    room = rw (← same) table.room;
+    layout = rw (← same) table.layout;
+    roots = λ n low. rw (← same) (table.roots n low);
+    told = λ n low. rw (← same) (table.told n low);
+    filled = λ n k low column some. subst (λ (e : WrittenExpression). Names (length e.nodes) t (LeadsIn e t n k) (cell_of t n k)) same (table.filled n k low column some);
+    begun = λ root kind may now. rw (← same) (table.begun root kind (begins_for q p (sym same) t.way root may) now);
+  }
+
+  region_for : (w : List ℕ) (t : Table) (k : Kept) → IsRegion p w t k → IsRegion q w t k
+  region_for w t k region = record {
+    table = table_for t region.table;
+    room = rw (← same) region.room;
+    root = begins_for p q same t.way k.region.root region.root;
+    whole = region.whole;
+    inside = region.inside;
+    within = region.within;
+    long = region.long;
+  }
+
+  pub kept_for : (w : List ℕ) (t : Table) (k : Kept) → IsKept p w t k → IsKept q w t k
+  kept_for w t k kept = record {
+    region = region_for w t k kept.region;
+    low = kept.low;
+    from = kept.from;
+    live = λ place low high. rw (← same) (kept.live place low high);
+    edges = λ b after before. rw (← same) (kept.edges b after before);
+  }
+
+  pub serves_for : (w : List ℕ) (back : Table) (s : Seeking) → Serves p w back s → Serves q w back s
+  serves_for w back s serves = record {
+    table = table_for back serves.table;
+    room = rw (← same) serves.room;
+    all_starts = serves.all_starts;
+    kept = λ begun. kept_for w back s.kept (serves.kept begun);
+  }

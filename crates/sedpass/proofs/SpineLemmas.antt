@@ -1,7 +1,6 @@
 -- What holds while a spine is followed from node to node, and while tasks wait.
-use Rattle.std.proofs.Common.{◌≡◌, ℕ, zero, suc, true, false, true≢false, ◌+◌, ◌-◌, ◌*◌, ◌≤◌, List, [], ◌∷◌, ◌++◌, length, reverse, Option, None, Some, refl, sym, ap, ◌∙◌, subst, inl, inr, arith, mul-le-mul_left}
+use Rattle.std.proofs.Common.{◌≡◌, ℕ, zero, suc, true, false, true≢false, ◌+◌, ◌-◌, ◌*◌, ◌≤◌, List, [], ◌∷◌, ◌++◌, length, reverse, Option, None, Some, refl, sym, ap, ◌∙◌, subst, inl, inr, arith, mul-le-mul_left, slice_index_or}
 use Rattle.std.proofs.lemmas.List.{reverse-append}
-use Rattle.std.specs.Prelude.{slice_index_or}
 use Rattle.sedre.specs.Sizes.{size}
 use Rattle.sedre.specs.Tree.{Tree, tree_at, expression_tree}
 use Rattle.sedre.specs.Steps.{Takes, TakesExactly, TakesAtLeast}
@@ -11,7 +10,7 @@ use Rattle.sedtext.specs.Groups.{Groups}
 use Rattle.sedtext.specs.Spans.{Matches}
 use Rattle.sedtext.proofs.NodeLemmas.{size-pos}
 use Rattle.sedpass.specs.Decide.{told_of, told_in, found, GoesOn, IsTold, IsTurn, Turned, Works, undecided, next_of, part_cost, kind_cost, nodes_in, text_in, AreReady, AreShort, AreWithin, Runs, weights, looks, descents, tasks_of, entered_at}
-use Rattle.sedpass.specs.Groups.{holds}
+use Rattle.sedpass.specs.Prepared.{holds}
 use Rattle.sedpass.specs.Walks.{State, drop_groups, Walk}
 use Rattle.sedpass.specs.declared.group_set.GroupSet.{GroupSet}
 use Rattle.sedpass.specs.declared.groups.Matched.{Matched}
@@ -22,10 +21,10 @@ use Rattle.sedpass.specs.declared.groups.Then.TheVariants.{Done, One, Two}
 use Rattle.sedpass.specs.declared.groups.Told.{Told}
 use Rattle.sedpass.specs.declared.kept.Region.{Region}
 use Rattle.sedpass.specs.declared.kept.Subject.{Subject}
-use Rattle.sedpass.proofs.CountLemmas.{least_both, least_fewer, least_none}
 use Rattle.sedpass.proofs.DecideLemmas.{flags_at}
 use Rattle.sedpass.proofs.OneGroupLemmas.{wanted}
 use Rattle.sedpass.proofs.TurnLemmas.{left_turn}
+use Rattle.sedtext.proofs.CountLemmas.{least_less, least_none, least_both}
 
 -- Tasks that are done.
 
@@ -161,7 +160,7 @@ works_turn s here then rest old new r before after ready (inl (none, same, nothi
 works_turn s here then rest old new r before after ready (inr (node, begun, is, look, once, turned)) told counts =
     let cost = turned.cost in
     turn_works s here then rest old new (entered_at node) before after ready turned.turn (omega (arith, once.0, cost.0), omega (arith, once.1, cost.1))
-    (least_fewer before after 1 (entered_at node) (omega arith) (least_look before begun after 0 1 look cost.0 (omega arith))) told counts
+    (least_less before after 1 (entered_at node) (least_look before begun after 0 1 look cost.0 (omega arith)) (omega arith)) told counts
 
 pub turned_goes : (s : Subject) (here : Matched) (then : Then) (old new : State) (r : Region) (before after : ℕ) → Turned s here old new r then before after → GoesOn s r (next_of then)
 turned_goes s here then old new r before after (inl (none, same, nothing, still)) = rw nothing tt
@@ -179,7 +178,7 @@ walk_made s root i j d start now before after last works =
       run.1,
       subst (λ x. Walk (tree_at (nodes_in s) x) w i j (told_in start) (told_in now) run.1) same
           (subst (λ mid. Walk (tree_at (nodes_in s) root) w i j (told_in start) mid run.1) (sym run.4.0) run.3),
-      least_fewer before after works.n run.1 (omega (arith, run.5)) works.entered,
+      least_less before after works.n run.1 works.entered (omega (arith, run.5)),
     )
 
 -- it gives each group that is due the span that the report says

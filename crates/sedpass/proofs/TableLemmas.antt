@@ -1,12 +1,11 @@
 -- Tables of states.
-use Rattle.std.proofs.Common.{◌≡◌, ◌≢◌, ℕ, zero, suc, ◌+◌, ◌*◌, ◌/◌, ◌%◌, ◌^◌, ◌<◌, ◌≤◌, ◌↔◌, Bool, true, false, ◌||◌, List, length, length-set, Option, Some, None, IsTrue, refl, sym, ap, ◌∙◌, subst, ⊎_elim, arith, mul-le-mul_left}
-use Rattle.std.proofs.lemmas.Nat.{same_from_place}
-use Rattle.std.specs.Prelude.{slice_index_or, slice_set, eqb, replicate}
+use Rattle.std.proofs.Common.{◌≡◌, ◌≢◌, ℕ, zero, suc, ◌+◌, ◌*◌, ◌/◌, ◌%◌, ◌^◌, ◌<◌, ◌≤◌, ◌↔◌, Bool, true, false, List, length, length-set, Option, Some, None, IsTrue, refl, sym, ap, ◌∙◌, subst, ⊎_elim, arith, mul-le-mul_left, slice_index_or, slice_set, replicate}
+use Rattle.std.proofs.lemmas.Nat.{same_from_place, shl-shr, shl_whole, shl_below}
+use Rattle.std.specs.Int.{from_bool}
 use Rattle.std.specs.Vec.{with_item}
 use Rattle.std.proofs.Math.Nat.{pow-le-pow_right}
 use Rattle.std.proofs.lemmas.Bool.{cases_eq}
-use Rattle.std.proofs.lemmas.List.{get_or-set_same, get_or-set_other}
-use Rattle.std.proofs.lemmas.Nat.{shl-shr, shl_whole, shl_below}
+use Rattle.std.proofs.lemmas.List.{get_or-set_same, get_or-set_other, get_or_default}
 use Rattle.sedre.specs.Arena.{IsExpr}
 use Rattle.sedre.specs.Tree.{WrittenExpression}
 use Rattle.sedre.specs.Mirror.{mirror_node, seen}
@@ -16,19 +15,18 @@ use Rattle.sedre.specs.declared.types.Node.TheVariants.{Set}
 use Rattle.sedtext.specs.Words.{AgreeBelow, row_of}
 use Rattle.sedpass.specs.Prepared.{SameNulls}
 use Rattle.sedpass.specs.Rows.{nodes_of, at_begin, at_end, bits, SameBytes, LeadsTo, IsFirstRow}
-use Rattle.sedpass.specs.Cells.{stops, code_of, ColumnAt, EdgeApart, EdgeFits, IsLayout, IsColumn}
-use Rattle.sedpass.specs.Table.{State, state_of, IsTold, HasRow, HasMarks, LeadsOn, BeginsIn, Names, IsNext, IsOffset, cell_of, LeadsBy, kind_number, beginning_at, beginning_of, MayBegin, HasRoom, IsRoomy, IsTable, SameRoom, SameShape, AddsStates, Codes}
+use Rattle.sedpass.specs.Table.{State, state_of, IsTold, HasRow, HasMarks, LeadsOn, BeginsIn, Names, IsNext, IsOffset, cell_of, LeadsBy, kind_number, beginning_at, beginning_of, MayBegin, HasRoom, IsRoomy, IsTable, SameRoom, SameShape, AddsStates, Codes, stops, code_of, ColumnAt, EdgeApart, EdgeFits, IsLayout, IsColumn}
 use Rattle.sedpass.specs.declared.cells.Flags.{Flags}
 use Rattle.sedpass.specs.declared.cells.Layout.{Layout}
 use Rattle.sedpass.specs.declared.nodes.Kind.{Kind}
 use Rattle.sedpass.specs.declared.nodes.Prepared.{Prepared}
 use Rattle.sedpass.specs.declared.rows.Way.{Way}
 use Rattle.sedpass.specs.declared.rows.Work.{Work}
-use Rattle.sedtext.proofs.MarkLemmas.{default_same}
 use Rattle.sedpass.specs.declared.table.Beginning.{Beginning}
 use Rattle.sedpass.specs.declared.table.Table.{Table}
 use Rattle.sedpass.proofs.LeaveLemmas.{twice}
 use Rattle.sedpass.proofs.RowLemmas.{bits_agree, bits_clear, bits_here, class_row}
+use Rattle.sedpass.proofs.ClassLemmas.{bit_low, sides}
 
 -- Rows.
 
@@ -104,33 +102,15 @@ leads_same e way a b byte other edge same leads =
 
 -- Beginnings.
 
--- the number tells the kind
-abbrev begin_in : ℕ → Bool
-begin_in n = eqb n 1 || eqb n 3
-
-abbrev end_in : ℕ → Bool
-end_in n = eqb n 2 || eqb n 3
-
-begin_is : (a b : Bool) → begin_in (kind_number a b) ≡ a
-begin_is false false = refl
-begin_is true false = refl
-begin_is begin end = refl
-
-end_is : (a b : Bool) → end_in (kind_number a b) ≡ b
-end_is false false = refl
-end_is true false = refl
-end_is begin end = refl
-
 pub few_kinds : (a b : Bool) → kind_number a b < 4
-few_kinds false false = omega arith
-few_kinds true false = omega arith
-few_kinds begin end = omega arith
+few_kinds a b = omega (arith, bit_low a, bit_low b)
 
+-- the number tells the kind
 kind_same : (one other : Kind) → kind_number one.begin one.end ≡ kind_number other.begin other.end → one ≡ other
 kind_same one other e =
-    let b : one.begin ≡ other.begin = sym (begin_is one.begin one.end) ∙ ap begin_in e ∙ begin_is other.begin other.end in
-    let f : one.end ≡ other.end = sym (end_is one.begin one.end) ∙ ap end_in e ∙ end_is other.begin other.end in
-    ap (λ (x : Bool). let k : Kind = record { begin = x; end = one.end } in k) b ∙ ap (λ (x : Bool). let k : Kind = record { begin = other.begin; end = x } in k) f
+    let begin = sides (from_bool one.end) (from_bool other.end) one.begin other.begin (omega (arith, e)) in
+    let end = (sides 0 0 one.end other.end (omega (arith, begin.0))).1 in
+    ap (λ (x : Bool). let k : Kind = record { begin = x; end = one.end } in k) begin.1 ∙ ap (λ (x : Bool). let k : Kind = record { begin = other.begin; end = x } in k) end
 
 -- where another beginning is noted
 begin_apart : (all_starts : Bool) (root x other : ℕ) (kind kind' : Kind) → (IsTrue all_starts → x ≡ root) → (IsTrue all_starts → other ≡ root) → beginning_at all_starts x kind ≡ beginning_at all_starts other kind' → (x ≡ other) × (kind ≡ kind')
@@ -254,15 +234,8 @@ note_cell p t table offset k v byte edge there small column leads anywhere =
     let inside : offset + k < length t.cells.items = (let h = cell_inside size q k t.count t.layout.width (length t.cells.items) low narrow wide old.cells in omega (arith, h, is)) in
     let room : HasRoom m N = record {
       count = old.count;
-      some = old.some;
-      few = old.few;
       marks = old.marks;
-      leaves = old.leaves;
-      ends = old.ends;
-      leaf_marks = old.leaf_marks;
-      end_marks = old.end_marks;
-      roots = old.roots;
-      flags = old.flags;
+      rows = old.rows;
       cells = omega (arith, length-set t.cells.items (offset + k) v, old.cells);
       reserved = old.reserved;
       capacity = old.capacity;
@@ -317,15 +290,8 @@ note_beginning p t table root code kind may epoch begins =
     let inside : at < length t.beginnings.items = old.begins root kind (let low = may.0 in let most = old.marks in omega (arith, low, most)) in
     let room : HasRoom m N = record {
       count = old.count;
-      some = old.some;
-      few = old.few;
       marks = old.marks;
-      leaves = old.leaves;
-      ends = old.ends;
-      leaf_marks = old.leaf_marks;
-      end_marks = old.end_marks;
-      roots = old.roots;
-      flags = old.flags;
+      rows = old.rows;
       cells = old.cells;
       reserved = old.reserved;
       capacity = old.capacity;
@@ -376,15 +342,8 @@ emptied p t epoch expr room layout later =
     let past : (i : ℕ) → (beginning_of t i).epoch < epoch = λ i. later (beginning_of t i).epoch (room.past i) (room.early i) in
     let empty : HasRoom (length p.arena.expr.nodes) (record t { count = 0; epoch = epoch }) = record {
       count = omega arith;
-      some = room.some;
-      few = room.few;
       marks = room.marks;
-      leaves = room.leaves;
-      ends = room.ends;
-      leaf_marks = room.leaf_marks;
-      end_marks = room.end_marks;
-      roots = room.roots;
-      flags = room.flags;
+      rows = room.rows;
       cells = omega arith;
       reserved = room.reserved;
       capacity = room.capacity;
@@ -415,18 +374,18 @@ module _ (m : ℕ) (t t' : Table) (root : ℕ) (leaves ends : List Bool) (flags 
 
   pub state_added : state_of m t' t.count ≡ state root (bits m leaves) (bits m ends) flags
   state_added = state_same (slice_index_or t'.roots.items t.count 0) root (bits m (row_of t'.leaves t.count)) (bits m leaves) (bits m (row_of t'.ends t.count)) (bits m ends) (slice_index_or t'.flags.items t.count none) flags
-      (ap (λ l. slice_index_or l t.count 0) roots ∙ get_or-set_same t.roots.items t.count root 0 (omega (arith, room.roots)))
+      (ap (λ l. slice_index_or l t.count 0) roots ∙ get_or-set_same t.roots.items t.count root 0 (omega (arith, room.rows.roots)))
       (bits_agree m (row_of t'.leaves t.count) leaves new_leaves)
       (bits_agree m (row_of t'.ends t.count) ends new_ends)
-      (ap (λ l. slice_index_or l t.count none) all_flags ∙ get_or-set_same t.flags.items t.count flags none (omega (arith, room.flags)))
+      (ap (λ l. slice_index_or l t.count none) all_flags ∙ get_or-set_same t.flags.items t.count flags none (omega (arith, room.rows.flags)))
 
   state_kept : (q : ℕ) → q < t.count → state_of m t' q ≡ state_of m t q
   state_kept q low =
       let ne : q ≢ t.count = λ e. omega arith in
       state_same (slice_index_or t'.roots.items q 0) (slice_index_or t.roots.items q 0) (bits m (row_of t'.leaves q)) (bits m (row_of t.leaves q)) (bits m (row_of t'.ends q)) (bits m (row_of t.ends q)) (slice_index_or t'.flags.items q none) (slice_index_or t.flags.items q none)
       (ap (λ l. slice_index_or l q 0) roots ∙ get_or-set_other t.roots.items t.count q root 0 ne)
-      (ap (bits m) (other_leaves q (omega (arith, room.leaves)) ne))
-      (ap (bits m) (other_ends q (omega (arith, room.ends)) ne))
+      (ap (bits m) (other_leaves q (omega (arith, room.rows.leaves)) ne))
+      (ap (bits m) (other_ends q (omega (arith, room.rows.ends)) ne))
       (ap (λ l. slice_index_or l q none) all_flags ∙ get_or-set_other t.flags.items t.count q flags none ne)
 
   pub state_adds : AddsStates m t t'
@@ -446,8 +405,8 @@ module _ (p : Prepared) (t u : Table) (table : IsTable p t) (offset : ℕ) (ther
 
   same_root : root ≡ here.root
   same_root =
-      let inside : offset / 2 ^ t.layout.shift < length t.roots.items = omega (arith, there.0, table.room.count, table.room.roots) in
-      root_is ∙ ap (λ x. slice_index_or t.roots.items x root) at ∙ default_same t.roots.items (offset / 2 ^ t.layout.shift) root 0 inside
+      let inside : offset / 2 ^ t.layout.shift < length t.roots.items = omega (arith, there.0, table.room.count, table.room.rows.roots) in
+      root_is ∙ ap (λ x. slice_index_or t.roots.items x root) at ∙ get_or_default t.roots.items (offset / 2 ^ t.layout.shift) root 0 inside
 
   same_row : bits (length p.arena.expr.nodes) loaded ≡ here.entered
   same_row = bits_agree (length p.arena.expr.nodes) loaded (row_of t.leaves (offset / 2 ^ t.layout.shift))
@@ -490,7 +449,7 @@ module _ (p : Prepared) (t : Table) (table : IsTable p t) (P : State → Type 0)
   named = state_of (length p.arena.expr.nodes) t n.to
 
   small_offset : n.to * 2 ^ t.layout.shift < 2147483647
-  small_offset = few_offset n.to t.room t.layout.shift (let low = n.there in let most = table.room.count in omega arith) table.room.few table.layout.small
+  small_offset = few_offset n.to t.room t.layout.shift (let low = n.there in let most = table.room.count in omega arith) table.room.rows.few table.layout.small
 
   offset_is : o ≡ n.to * 2 ^ t.layout.shift
   offset_is = tells (stops t.way (state_of (length p.arena.expr.nodes) t n.to).flags) (n.to * 2 ^ t.layout.shift) small_offset n.code
@@ -532,14 +491,17 @@ module _ (p : Prepared) (t : Table) (table : IsTable p t) (offset byte k : ℕ) 
       (names_map (length p.arena.expr.nodes) t (LeadsBy p t q k) (LeadsOn (nodes_of t.way p.arena.expr) t.way (state_of (length p.arena.expr.nodes) t q) byte edge) (cell_of t q k) (λ b leads. leads byte edge small column)
       (table.filled q k at.0 column_inside (subst (λ x. 0 < x) same some)))
 
+-- a list of one element alone, and none beyond it
+pub same_all : {A : Type 0} → (d : A) (n k : ℕ) → slice_index_or (replicate n d) k d ≡ d
+same_all d zero k = refl
+same_all d (suc n) zero = refl
+same_all d (suc n) (suc k) = same_all d n k
+
 -- no beginning is noted at first
 pub none_noted : (items : List Beginning) (n : ℕ) → items ≡ replicate n (record { epoch = 0; code = 0 }) → (i : ℕ) → (slice_index_or items i (record { epoch = 0; code = 0 })).epoch ≡ 0
-none_noted items n is i = ap (λ (l : List Beginning). (slice_index_or l i (record { epoch = 0; code = 0 })).epoch) is ∙ same_all n i
-  where
-    same_all : (k j : ℕ) → (slice_index_or {A = Beginning} (replicate k (record { epoch = 0; code = 0 })) j (record { epoch = 0; code = 0 })).epoch ≡ 0
-    same_all zero j = refl
-    same_all (suc k) zero = refl
-    same_all (suc k) (suc j) = same_all k j
+none_noted items n is i =
+    let none : Beginning = record { epoch = 0; code = 0 } in
+    ap (λ (l : List Beginning). (slice_index_or l i none).epoch) is ∙ ap (λ (b : Beginning). b.epoch) (same_all none n i)
 
 -- Room for other expressions.
 
@@ -551,15 +513,8 @@ room_laid k m t layout room wide marks small =
     let all : t.room * 2 ^ layout.shift ≤ t.room * 2 ^ 8 = mul-le-mul_left t.room size in
     record {
       count = omega arith;
-      some = room.some;
-      few = room.few;
       marks = marks;
-      leaves = room.leaves;
-      ends = room.ends;
-      leaf_marks = room.leaf_marks;
-      end_marks = room.end_marks;
-      roots = room.roots;
-      flags = room.flags;
+      rows = room.rows;
       cells = omega arith;
       reserved = omega (arith, all, wide);
       capacity = room.capacity;

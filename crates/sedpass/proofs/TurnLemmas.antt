@@ -23,8 +23,7 @@ use Rattle.sedpass.specs.declared.groups.Task.TheVariants.{Apart, Forget}
 use Rattle.sedpass.specs.declared.groups.Then.TheVariants.{Done, One, Two}
 use Rattle.sedpass.specs.declared.kept.Region.{Region}
 use Rattle.sedpass.specs.declared.kept.Subject.{Subject}
-use Rattle.sedpass.proofs.OneGroupLemmas.{copy_spans, settle_takes, drop_takes, takes_blank}
-use Rattle.sedpass.proofs.WalkLemmas.{passes_by}
+use Rattle.sedpass.proofs.OneGroupLemmas.{copy_spans, settle_takes, drop_takes, takes_blank, passes_by}
 
 -- what is due has no span, before and after
 pub settle_blank : (k : ℕ) (v : Option (ℕ × ℕ)) (s : State) → Blank s → Blank (settle k v s)

@@ -14,9 +14,8 @@ use Rattle.sedtext.specs.Groups.{Groups}
 use Rattle.sedtext.specs.Nodes.{parts_of}
 use Rattle.sedtext.specs.Reach.{At}
 use Rattle.sedtext.specs.Words.{row_of}
-use Rattle.sedpass.specs.Groups.{holds}
+use Rattle.sedpass.specs.Prepared.{holds, length_of}
 use Rattle.sedpass.specs.Kept.{IsKept, KeptRoom, SameSpace}
-use Rattle.sedpass.specs.Lengths.{length_of}
 use Rattle.sedpass.specs.Regions.{IsLastIn}
 use Rattle.sedpass.specs.Table.{IsAhead, IsRoomy, IsTable, SameRoom, SameShape}
 use Rattle.sedpass.specs.Walks.{State, is_due, drop_groups, GroupStandsIn, NoneDue, Walk}

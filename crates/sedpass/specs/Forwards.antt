@@ -1,6 +1,6 @@
 -- Private to the proofs: no contract that `sedmatch` makes public cites what stands here.
 -- Passes for the whole expression in which the root's ends alone are kept.
-use Rattle.std.specs.Prelude.{◌≡◌, ℕ, ◌+◌, ◌/◌, ◌^◌, ◌<◌, ◌≤◌, Bool, true, false, List, length, Option, Some, None, IsTrue}
+use Rattle.std.specs.Prelude.{◌≡◌, ℕ, ◌+◌, ◌/◌, ◌^◌, ◌<◌, ◌≤◌, Bool, false, cond, List, length, Option, Some, None, IsTrue}
 use Rattle.sedre.specs.declared.types.Node.{Node}
 use Rattle.sedtext.specs.declared.starts.Starts.{Starts}
 use Rattle.sedtext.specs.Reach.{SomeSpan}
@@ -13,8 +13,7 @@ use Rattle.sedpass.specs.declared.forwards.Passed.{Passed}
 
 -- the starts of a pass from a place: this place, or in a sweep each from it on
 abbrev pub starts_of : Bool → ℕ → List ℕ → Starts
-starts_of true from w = record { first = from; last = length w }
-starts_of false from w = record { first = from; last = from }
+starts_of all_starts from w = record { first = from; last = cond all_starts (length w) from }
 
 -- the last place below n at which a match from one of the starts ends; None: none ends there
 abbrev pub LastBelow : List Node → List ℕ → ℕ → Starts → ℕ → Option ℕ → Type 0

@@ -97,9 +97,7 @@ pub record SameSpace (old new : Kept) : Type 0 where
 pub record SameKept (old new : Kept) : Type 0 where
   pub root : new.region.root ≡ old.region.root
   pub end : new.region.end ≡ old.region.end
-  pub places : vec_capacity new.states ≡ vec_capacity old.states
-  pub edges : length new.edges ≡ length old.edges
-  pub marks : (q : ℕ) → length (row_of new.edges q) ≡ length (row_of old.edges q)
+  pub space : SameSpace old new
 
 -- from a table and what was kept, a pass came down to the place: all is as it was but for the states, and the place before which they
 -- are in the table
@@ -118,6 +116,12 @@ pub record IsKept (p : Prepared) (w : List ℕ) (t : Table) (k : Kept) : Type 0 
   pub from : k.region.from ≤ k.region.end
   pub live : LiveFrom p w t k k.region.from
   pub edges : EdgesFrom p w t k k.region.low
+
+-- the region is kept again, in the same room, and in a table of the same shape
+pub record KeepsRegion (p : Prepared) (w : List ℕ) (t t' : Table) (k k' : Kept) : Type 0 where
+  pub kept : IsKept p w t' k'
+  pub shape : SameShape t t'
+  pub same : SameKept k k'
 
 -- What a pass ahead over a node a from the place i is beside it: in the state whose cells begin at the offset.
 abbrev pub Follows : Prepared → List ℕ → Table → ℕ → ℕ → ℕ → ℕ → Type 0

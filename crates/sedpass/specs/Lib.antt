@@ -1,13 +1,6 @@
-pub mod Cells
-pub mod Classes
 pub mod Decide
-pub mod Find
 pub mod Forwards
-pub mod Groups
-pub mod Held
 pub mod Kept
-pub mod Lengths
-pub mod Occurrences
 pub mod Prepared
 pub mod Regions
 pub mod Rows

@@ -1,16 +1,56 @@
 -- Private to the proofs: no contract that `sedmatch` makes public cites what stands here.
--- What is told of an expression once: facts of each node, and classes of bytes.
-use Rattle.std.specs.Prelude.{◌≡◌, ℕ, ◌+◌, ◌-◌, ◌*◌, ◌≤◌, ◌<◌, Bool, true, false, ◌&&◌, ◌||◌, eqb, List, length, slice_get, slice_index_or, cond, Option, Some, None, IfSome}
+-- What is told of an expression once: facts of each node, as its groups and how long its spans are, and classes of bytes.
+use Rattle.std.specs.Prelude.{◌≡◌, ℕ, ◌+◌, ◌-◌, ◌*◌, ◌≤◌, ◌<◌, Bool, true, false, ◌&&◌, ◌||◌, eqb, List, length, slice_get, slice_index_or, cond, Option, Some, None, IfSome, nat_lt, ◌⊎◌}
 use Rattle.std.specs.Int.{bit_at, from_bool}
-use Rattle.sedre.specs.Tree.{Tree, set, begin, end, seq, alt, group, star, WrittenExpression, tree_at}
+use Rattle.sedre.specs.Tree.{Tree, set, begin, end, seq, alt, group, star, WrittenExpression, tree_at, empty, opt}
 use Rattle.sedre.specs.Sizes.{size}
 use Rattle.sedre.specs.declared.types.Node.{Node}
 use Rattle.sedre.specs.declared.types.Node.TheVariants.{Set}
-use Rattle.sedpass.specs.Groups.{reported, holds, has_group}
-use Rattle.sedpass.specs.Lengths.{length_of}
 use Rattle.sedpass.specs.Rows.{SameBytes}
 use Rattle.sedpass.specs.declared.nodes.Facts.{Facts}
 use Rattle.sedpass.specs.declared.nodes.Kind.{Kind}
+use Rattle.sedpass.specs.Walks.{has_group}
+use Rattle.sedpass.specs.declared.group_set.GroupSet.{GroupSet}
+use Rattle.sedre.specs.Sets.{has}
+
+-- both lengths together, if both are known
+abbrev pub sum_of : Option ℕ → Option ℕ → Option ℕ
+sum_of (Some m) (Some n) = Some (m + n)
+sum_of first second = None
+
+-- the length, if both are known and alike
+abbrev pub same_of : Option ℕ → Option ℕ → Option ℕ
+same_of (Some m) (Some n) = cond (eqb m n) (Some m) None
+same_of first second = None
+
+-- the length of all spans of the expression, where one is known
+abbrev pub length_of : Tree → Option ℕ
+length_of empty = Some 0
+length_of (set members) = Some 1
+length_of begin = Some 0
+length_of end = Some 0
+length_of (seq a b) = sum_of (length_of a) (length_of b)
+length_of (alt a b) = same_of (length_of a) (length_of b)
+length_of (group k a) = length_of a
+length_of (star a first) = None
+length_of (opt a first) = None
+
+-- all that R leads to lies n places on
+abbrev pub AllLong : (ℕ → ℕ → Type 0) → ℕ → Type 0
+AllLong R n = (i j : ℕ) → R i j → j ≡ i + n
+
+-- group k is one of those that are reported
+abbrev pub reported : ℕ → Bool
+reported k = nat_lt 0 k && nat_lt k 10
+
+-- group k is in the set
+abbrev pub holds : GroupSet → ℕ → Bool
+holds groups k = nat_lt k 10 && eqb (bit_at groups.bits k) 1
+
+-- What a contract sees of an expression that was copied into room made once: the expression, and how many nodes there is room for.
+pub record Held : Type 0 where
+  pub expr : WrittenExpression
+  pub room : ℕ
 
 -- the expression matches the null string at a place that is the text's beginning, or isn't, and its end, or isn't
 abbrev pub nullable : Bool → Bool → Tree → Bool
@@ -87,3 +127,26 @@ pub record IsPrepared (e : WrittenExpression) (root : ℕ) (told : List Facts) (
   pub facts : AreFacts e.nodes told
   pub classes : AreClasses e.nodes of columns
   pub anywhere : anchors ≡ false → SameNulls e.nodes
+
+-- How classes of bytes are found: keys, and a number for each key that comes.
+
+-- each number below count is given once at most; a key without a number has 256
+pub record IsNumbering (numbers : List ℕ) (count : ℕ) : Type 0 where
+  pub known : (key : ℕ) → key < 512 → (slice_index_or numbers key 0 < count) ⊎ (slice_index_or numbers key 0 ≡ 256)
+  pub apart : (key other : ℕ) → key < 512 → other < 512 → slice_index_or numbers key 0 ≡ slice_index_or numbers other 0 → slice_index_or numbers key 0 < count → key ≡ other
+
+-- the key has a number, and the others have what they had
+pub record IsGiven (numbers : List ℕ) (key count : ℕ) (after : List ℕ) (next : ℕ) : Type 0 where
+  pub numbering : IsNumbering after next
+  pub here : slice_index_or after key 0 < next
+  pub grows : count ≤ next
+  pub few : next ≤ count + 1
+  pub kept : (k : ℕ) → slice_index_or numbers k 0 < count → slice_index_or after k 0 ≡ slice_index_or numbers k 0
+
+-- classes of which each lies in one old class, and within the set or outside it
+pub record IsFiner (old : List ℕ) (members : List Bool) (of : List ℕ) (count : ℕ) : Type 0 where
+  pub wide : length of ≡ 256
+  pub few : count ≤ 256
+  pub below : (byte : ℕ) → byte < 256 → slice_index_or of byte 0 < count
+  pub alike : (one other : ℕ) → one < 256 → other < 256 → slice_index_or of one 0 ≡ slice_index_or of other 0 →
+      (slice_index_or old one 0 ≡ slice_index_or old other 0) × (has members one ≡ has members other)

@@ -1,6 +1,7 @@
 -- Private to the proofs: no contract that `sedmatch` makes public cites what stands here.
 -- A table of the passes of one way: its states, its cells, and the codes by which they name states.
-use Rattle.std.specs.Prelude.{◌≡◌, ℕ, ◌+◌, ◌*◌, ◌/◌, ◌^◌, ◌<◌, ◌≤◌, ◌↔◌, Bool, true, false, List, length, slice_index_or, Some, IsTrue, vec_capacity}
+use Rattle.std.specs.Prelude.{◌≡◌, ℕ, ◌+◌, ◌*◌, ◌/◌, ◌^◌, ◌<◌, ◌≤◌, ◌↔◌, Bool, true, false, List, length, slice_index_or, Some, IsTrue, vec_capacity, ◌⊎◌, not, ◌&&◌, ◌||◌, Option, None}
+use Rattle.std.specs.Int.{from_bool}
 use Rattle.sedre.specs.Arena.{IsExpr}
 use Rattle.sedre.specs.declared.types.Node.{Node}
 use Rattle.sedtext.specs.declared.starts.Starts.{Starts}
@@ -12,9 +13,51 @@ use Rattle.sedpass.specs.declared.rows.Way.{Way}
 use Rattle.sedpass.specs.declared.rows.Work.{Work}
 use Rattle.sedpass.specs.declared.cells.Flags.{Flags}
 use Rattle.sedpass.specs.declared.cells.Layout.{Layout}
-use Rattle.sedpass.specs.Cells.{stops, code_of, IsLayout, IsColumn}
 use Rattle.sedpass.specs.declared.table.Beginning.{Beginning}
 use Rattle.sedpass.specs.declared.table.Table.{Table}
+use Rattle.sedpass.specs.Prepared.{AreAlike, SameNulls}
+
+-- Codes of states, and where the cells of a state stand.
+
+-- whether a pass stops to look at a state: its root ends, or no match that began goes on (where the ends are kept, only this)
+abbrev pub stops : Way → Flags → Bool
+stops way flags = (not way.keeps && (flags.ends || (flags.dead && not way.all_starts))) || (way.keeps && flags.dead)
+
+-- the number that names the state whose cells begin there: so those at which a pass stops are the low ones
+abbrev pub code_of : Bool → ℕ → ℕ
+code_of true offset = offset + 1
+code_of false offset = 2147483648 + offset
+
+-- the column of a class of bytes, at the text's edge or not
+abbrev pub ColumnAt : Option ℕ → ℕ → Bool → ℕ → Type 0
+ColumnAt edge class false k = k ≡ class
+ColumnAt None class true k = ⊥
+ColumnAt (Some first) class true k = k ≡ first + class
+
+-- the edge's columns are apart from the others
+abbrev pub EdgeApart : ℕ → Option ℕ → Type 0
+EdgeApart columns None = Unit {0}
+EdgeApart columns (Some first) = columns ≤ first
+
+-- and have room
+abbrev pub EdgeFits : ℕ → ℕ → Option ℕ → Type 0
+EdgeFits columns width None = Unit {0}
+EdgeFits columns width (Some first) = first + columns ≤ width
+
+-- the cells of a state are few for the nodes, and have room; bytes of one class are in the same sets, and the edge's columns are those of other
+-- places only where these are all of one kind
+pub record IsLayout (nodes : List Node) (layout : Layout) : Type 0 where
+  pub few : layout.width ≤ 2 * length nodes
+  pub columns : layout.columns ≤ layout.width
+  pub classes : AreAlike nodes layout.classes
+  pub edge : EdgeFits layout.columns layout.width layout.edge
+  pub apart : ((layout.edge ≡ Some 0) × SameNulls nodes) ⊎ EdgeApart layout.columns layout.edge
+  pub small : layout.shift ≤ 8
+  pub fits : layout.width ≤ 2 ^ layout.shift
+
+-- the column is the byte's
+abbrev pub IsColumn : Layout → ℕ → Bool → ℕ → Type 0
+IsColumn layout byte edge k = (slice_index_or layout.classes byte 0 < layout.columns) × ColumnAt layout.edge (slice_index_or layout.classes byte 0) edge k
 
 -- States.
 
@@ -89,10 +132,7 @@ LeadsBy p t q k b = (byte : ℕ) (edge : Bool) → byte < 256 → IsColumn t.lay
 -- Beginnings.
 
 abbrev pub kind_number : Bool → Bool → ℕ
-kind_number false false = 0
-kind_number true false = 1
-kind_number false true = 2
-kind_number true true = 3
+kind_number begin end = from_bool begin + 2 * from_bool end
 
 -- where a beginning is noted; in a sweep it is always one of the whole expression
 abbrev pub beginning_at : Bool → ℕ → Kind → ℕ
@@ -108,18 +148,22 @@ MayBegin p way root = (root < length p.arena.expr.nodes) × (IsTrue way.all_star
 
 -- Tables.
 
+-- of each state that there is room for: its rows, with so many marks, its root, and what is told of it
+pub record HasRows (states marks : ℕ) (leaf_rows end_rows : List (List Bool)) (all_roots : List ℕ) (all_flags : List Flags) : Type 0 where
+  pub some : 2 ≤ states
+  pub few : states ≤ 65535
+  pub leaves : length leaf_rows ≡ states
+  pub ends : length end_rows ≡ states
+  pub leaf_marks : (q : ℕ) → q < states → length (row_of leaf_rows q) ≡ marks
+  pub end_marks : (q : ℕ) → q < states → length (row_of end_rows q) ≡ marks
+  pub roots : length all_roots ≡ states
+  pub flags : length all_flags ≡ states
+
 -- all that a table has is there
 pub record HasRoom (m : ℕ) (t : Table) : Type 0 where
   pub count : t.count ≤ t.room
-  pub some : 2 ≤ t.room
-  pub few : t.room ≤ 65535
   pub marks : m ≤ t.marks
-  pub leaves : length t.leaves ≡ t.room
-  pub ends : length t.ends ≡ t.room
-  pub leaf_marks : (q : ℕ) → q < t.room → length (row_of t.leaves q) ≡ t.marks
-  pub end_marks : (q : ℕ) → q < t.room → length (row_of t.ends q) ≡ t.marks
-  pub roots : length t.roots.items ≡ t.room
-  pub flags : length t.flags.items ≡ t.room
+  pub rows : HasRows t.room t.marks t.leaves t.ends t.roots.items t.flags.items
   pub cells : t.count * 2 ^ t.layout.shift ≤ length t.cells.items
   pub reserved : t.room * 2 ^ t.layout.shift ≤ t.reserved
   pub capacity : t.reserved ≤ vec_capacity t.cells
@@ -157,6 +201,13 @@ pub record IsAhead (p : Prepared) (t : Table) : Type 0 where
   pub table : IsTable p t
   pub forwards : t.way.mirrored ≡ false
   pub single : t.way.all_starts ≡ false
+  pub brief : t.way.keeps ≡ false
+
+-- one in which every place is a start
+pub record IsSweep (p : Prepared) (t : Table) : Type 0 where
+  pub table : IsTable p t
+  pub forwards : t.way.mirrored ≡ false
+  pub all_starts : IsTrue t.way.all_starts
   pub brief : t.way.keeps ≡ false
 
 -- a state was added at most, and those before stand as they were; or, in another epoch, all were forgotten before, as the table was full

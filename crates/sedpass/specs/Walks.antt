@@ -1,5 +1,5 @@
 -- Which nodes of an expression are entered while the groups of a match are decided, from its end (this project's own).
-use Rattle.std.specs.Prelude.{◌≡◌, ℕ, ◌+◌, ◌<◌, ◌≤◌, ◌⊎◌, Bool, true, false, if◌then◌else◌, List, ◌∷◌, replicate, slice_set, slice_index_or, Option, Some, None, IsTrue}
+use Rattle.std.specs.Prelude.{◌≡◌, ℕ, ◌+◌, ◌<◌, ◌≤◌, ◌⊎◌, Bool, true, false, ◌||◌, eqb, if◌then◌else◌, List, ◌∷◌, replicate, slice_set, slice_index_or, Option, Some, None, IsTrue}
 use Rattle.sedre.specs.Steps.{TakesAtLeast}
 use Rattle.sedre.specs.Tree.{Tree, seq, alt, group, star, opt}
 use Rattle.sedtext.specs.Spans.{Matches}
@@ -29,13 +29,16 @@ drop_groups (opt a first) s = drop_groups a s
 drop_groups other s = s
 
 -- group k stands in the expression
+abbrev pub has_group : Tree → ℕ → Bool
+has_group (seq a b) k = has_group a k || has_group b k
+has_group (alt a b) k = has_group a k || has_group b k
+has_group (group n a) k = eqb n k || has_group a k
+has_group (star a first) k = has_group a k
+has_group (opt a first) k = has_group a k
+has_group other k = false
+
 abbrev pub GroupStandsIn : Tree → ℕ → Type 0
-GroupStandsIn (seq a b) k = GroupStandsIn a k ⊎ GroupStandsIn b k
-GroupStandsIn (alt a b) k = GroupStandsIn a k ⊎ GroupStandsIn b k
-GroupStandsIn (group n a) k = (n ≡ k) ⊎ GroupStandsIn a k
-GroupStandsIn (star a first) k = GroupStandsIn a k
-GroupStandsIn (opt a first) k = GroupStandsIn a k
-GroupStandsIn other k = ⊥
+GroupStandsIn e k = IsTrue (has_group e k)
 
 -- no group of the expression is due
 abbrev pub NoneDue : Tree → State → Type 0

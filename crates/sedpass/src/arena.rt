@@ -22,7 +22,7 @@ pub struct Arena {
 impl Model for Arena {
     ghost use Rattle.std.specs.Prelude.{vec_capacity};
     ghost use Rattle.sedre.specs.Arena.{IsExpr};
-    ghost use Rattle.sedpass.specs.Held.{Held};
+    ghost use Rattle.sedpass.specs.Prepared.{Held};
 
     ghost Value = { Held };
 
@@ -47,14 +47,6 @@ fn node_seen(node: Node, mirrored: bool) -> Node
     }
 }
 
-/// For proofs: what is read is an expression.
-#[inline(always)]
-fn is_expression(expr: &Expr)
-    ensures { IsExpr expr.now.nodes expr.now.groups }
-{
-    let _groups = expr.groups();
-}
-
 /// Copies the nodes of an expression, and finds out what is told of each. Counts a look for each.
 fn copy_nodes(expr: &Expr, nodes: &mut Vec<Node>, facts: &mut Vec<Facts>, steps: &mut Steps)
     requires nodes { length expr.now.nodes ≤ vec_capacity nodes.old }
@@ -67,7 +59,7 @@ fn copy_nodes(expr: &Expr, nodes: &mut Vec<Node>, facts: &mut Vec<Facts>, steps:
     ensures cost { Takes steps.old steps.new (length expr.now.nodes) }
     ensures counts { TakesAtLeast steps.old steps.new (length expr.now.nodes) }
 {
-    is_expression(expr);
+    let _groups = expr.groups();
     nodes.clear();
     facts.clear();
     for x in 0..expr.nodes() {
@@ -124,15 +116,7 @@ impl Arena {
         node_seen(self.nodes[x], mirrored)
     }
 
-    /// For proofs: the nodes are those of an expression.
-    #[inline(always)]
-    pub fn is_expression(&self)
-        ensures { IsExpr self.now.expr.nodes self.now.expr.groups }
-    {
-        let _groups = self.groups;
-    }
-
-    /// How many groups there are.
+    /// How many groups there are; for proofs, that the nodes are those of an expression.
     #[inline(always)]
     pub fn groups(&self) -> usize
         ensures value { result ≡ self.now.expr.groups }

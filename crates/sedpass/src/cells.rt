@@ -1,7 +1,7 @@
 //! How a table names its states by codes, and lays out their cells.
 ghost use Rattle.std.specs.Prelude.{◌≡◌, ℕ, Bool, ◌+◌, ◌*◌, ◌^◌, ◌<◌, ◌≤◌, length, slice_index_or, IfSome, vec_capacity};
 ghost use Rattle.sedre.specs.Steps.{TakesExactly, Takes};
-ghost use Rattle.sedpass.specs.Cells.{stops, code_of, IsLayout, IsColumn};
+ghost use Rattle.sedpass.specs.Table.{stops, code_of, IsLayout, IsColumn};
 
 use crate::nodes::Prepared;
 use crate::rows::Way;

@@ -5,8 +5,7 @@ ghost use Rattle.sedtext.specs.Following.{PassesOver};
 ghost use Rattle.sedtext.specs.Spans.{SomeFound};
 ghost use Rattle.sedre.specs.Tree.{expression_tree};
 ghost use Rattle.sedre.specs.Steps.{Takes};
-ghost use Rattle.sedpass.specs.Find.{IsSweep};
-ghost use Rattle.sedpass.specs.Table.{SameShape};
+ghost use Rattle.sedpass.specs.Table.{IsSweep, SameShape};
 
 use crate::kept::Subject;
 use crate::rows::Work;
@@ -32,11 +31,10 @@ pub fn is_match(
     ensures passes { IsTrue result → PassesOver (expression_tree subject.entry.prepared.now.arena.expr) subject.entry.text.now from steps.old steps.new }
     ensures cost { Takes steps.old steps.new (41 * length subject.entry.prepared.now.arena.expr.nodes * (length subject.entry.text.now + 1)) }
 {
-    let bytes = subject.text.forwards();
     match next_start(begins, subject.text, from, steps) {
         None => false,
         Some(start) => any
-            .run(subject.prepared, &bytes, start, work, steps)
+            .run(subject.prepared, subject.text, start, work, steps)
             .end
             .is_some(),
     }

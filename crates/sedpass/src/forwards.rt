@@ -15,7 +15,7 @@ use crate::nodes::{Prepared, kind_of};
 use crate::rows::Work;
 use crate::table::Table;
 use sedre::Steps;
-use sedtext::counted::{Bytes, Tally};
+use sedtext::counted::{Tally, Text};
 
 /// Where a pass is.
 #[derive(Clone, Copy)]
@@ -36,7 +36,7 @@ impl Table {
     fn arrive(
         &self,
         prepared: &Prepared,
-        text: &Bytes,
+        text: &Text,
         code: u32,
         place: usize,
         end: Option<usize>,
@@ -72,7 +72,7 @@ impl Table {
     fn follow(
         &self,
         prepared: &Prepared,
-        text: &Bytes,
+        text: &Text,
         from: Passed,
         to: usize,
         steps: &mut Steps,
@@ -112,7 +112,7 @@ impl Table {
     fn go_on(
         &mut self,
         prepared: &Prepared,
-        text: &Bytes,
+        text: &Text,
         from: Passed,
         work: &mut Work,
         steps: &mut Steps,
@@ -145,7 +145,7 @@ impl Table {
     pub fn run(
         &mut self,
         prepared: &Prepared,
-        text: &Bytes,
+        text: &Text,
         from: usize,
         work: &mut Work,
         steps: &mut Steps,

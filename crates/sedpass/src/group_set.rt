@@ -1,6 +1,6 @@
 //! Some of the groups 1 to 9.
 ghost use Rattle.std.specs.Prelude.{◌≡◌, ℕ, ◌<◌, ◌≤◌, ◌&&◌, ◌||◌, ◌↔◌, not, eqb, false, IsTrue};
-ghost use Rattle.sedpass.specs.Groups.{holds, reported};
+ghost use Rattle.sedpass.specs.Prepared.{holds, reported};
 
 /// Some of the groups 1 to 9: those that an expression reports. A group with a greater number is in no set.
 #[derive(Clone, Copy)]

@@ -12,9 +12,8 @@ ghost use Rattle.sedtext.specs.Groups.{Groups};
 ghost use Rattle.sedtext.specs.Places.{Ascending};
 ghost use Rattle.sedtext.specs.Reach.{At};
 ghost use Rattle.sedpass.specs.Decide.{found, undecided, HasAll, told_of, told_in, IsTold, EndsRegion, IsDesk, IsAtEnd, IsCopyFrom, NodeTurned, Turned, MayWork, Works, waiting, part_cost, HasNoKnownLength, next_of, IsSetAt, HasDesk, AreGroupTables, AreRoomy, HasSpace, SameRooms, SameTables, KeepsDesk, KeepsRoom, nodes_in, text_in, IsMatch, Stands, tasks_of};
-ghost use Rattle.sedpass.specs.Groups.{holds};
 ghost use Rattle.sedpass.specs.Kept.{SameKept, SameSpace};
-ghost use Rattle.sedpass.specs.Prepared.{IsFacts};
+ghost use Rattle.sedpass.specs.Prepared.{IsFacts, holds};
 ghost use Rattle.sedpass.specs.Regions.{IsRunOf};
 ghost use Rattle.sedpass.specs.Walks.{State, settle, drop_groups, LooksAtEntered};
 ghost use Rattle.sedpass.specs.declared.groups.Task.TheVariants.{Apart};
@@ -22,7 +21,7 @@ ghost use Rattle.sedpass.specs.declared.kept.Region.{Region};
 
 use crate::group_set::GroupSet;
 use crate::kept::{Kept, Subject};
-use crate::nodes::{Facts, Prepared, kind_of};
+use crate::nodes::{Facts, Prepared};
 use crate::rows::Way;
 use crate::table::Table;
 use sedre::{Node, NodeId, Steps};
@@ -168,7 +167,7 @@ fn facts_at(prepared: &Prepared, x: usize) -> Facts
     ensures facts { IsFacts (tree_at prepared.now.arena.expr.nodes x) x result }
     ensures run { IfSome result.run (λ c. IsRunOf prepared.now.arena.expr.nodes c x × IsSetAt prepared.now.arena.expr.nodes c) }
 {
-    prepared.arena.is_expression();
+    let _groups = prepared.arena.groups();
     prepared.facts[x]
 }
 
@@ -208,10 +207,7 @@ fn has_empty_copy(
     ensures copy { IsTrue result ↔ (IsTrue first × At (nodes_in subject.entry) (text_in subject.entry) part place place) }
     ensures cost { Takes steps.old steps.new 1 }
 {
-    first
-        && subject
-            .prepared
-            .null_at(part, kind_of(place, subject.text.len()), steps)
+    first && subject.is_null(part, place, steps)
 }
 
 /// Where the last copy of a repetition begins, if it takes one.
@@ -514,7 +510,7 @@ pub fn decide(
     ensures counts { TakesAtLeast steps.old steps.new (found result - 1) }
     ensures entered { LooksAtEntered (expression_tree subject.entry.prepared.now.arena.expr) (text_in subject.entry) start stop (told_of due (undecided start stop)) steps.old steps.new }
 {
-    subject.prepared.arena.is_expression();
+    let _groups = subject.prepared.arena.groups();
     let mut spans = [None; 10];
     spans[0] = Some((start, stop));
     let mut told = Told { due, spans };

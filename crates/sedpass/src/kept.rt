@@ -7,11 +7,11 @@ ghost use Rattle.std.specs.Prelude.{◌≡◌, ℕ, Bool, true, false, not, min,
 ghost use Rattle.sedtext.specs.Costs.{CostsWithin};
 ghost use Rattle.sedtext.specs.Reach.{At, one_start};
 ghost use Rattle.sedtext.specs.Words.{row_of};
-ghost use Rattle.sedre.specs.Steps.{Takes, TakesAtLeast};
+ghost use Rattle.sedre.specs.Steps.{Takes, TakesAtLeast, TakesExactly};
 ghost use Rattle.sedpass.specs.Regions.{CeasesAt, IsLastIn, Meets, ReachesEnd};
 ghost use Rattle.sedpass.specs.Rows.{nodes_of};
 ghost use Rattle.sedpass.specs.Table.{AddsStates, IsOffset, IsTable, MayBegin, SameShape, StateAt, state_of};
-ghost use Rattle.sedpass.specs.Kept.{AllMarked, ComesDown, EdgesFrom, Follows, IsEdge, IsKept, IsRegion, KeptAt, KeptRoom, Meet, PassesDownTo, SameKept, SameSpace, again, ends_told, owed};
+ghost use Rattle.sedpass.specs.Kept.{AllMarked, ComesDown, EdgesFrom, Follows, IsEdge, IsKept, IsRegion, KeepsRegion, KeptAt, KeptRoom, Meet, PassesDownTo, SameKept, SameSpace, again, ends_told, owed};
 
 use crate::cells::offset_of;
 use crate::nodes::{Prepared, kind_of};
@@ -28,6 +28,20 @@ pub struct Subject<'a> {
     pub prepared: &'a Prepared,
     /// The text.
     pub text: &'a Text<'a>,
+}
+
+impl<'a> Subject<'a> {
+    /// Whether a node matches the null string at a place. Counts one look.
+    #[inline(always)]
+    pub fn is_null(self, x: usize, place: usize, steps: &mut Steps) -> bool
+        requires inside { x < length self.prepared.now.arena.expr.nodes }
+        ensures null { IsTrue result ↔ At self.entry.prepared.now.arena.expr.nodes self.entry.text.now x place place }
+        ensures cost { Takes steps.old steps.new 1 }
+        ensures counts { TakesExactly steps.old steps.new 1 }
+    {
+        let kind = kind_of(place, self.text.len());
+        self.prepared.null_at(x, kind, steps)
+    }
 }
 
 /// The places from which a node is matched up to an end, and of which of them the states are known.
@@ -141,14 +155,8 @@ impl Kept {
         for place in (low..high).rev() {
             let byte = subject.text.byte(place, steps);
             let epoch = table.epoch;
-            let code = table.next(
-                subject.prepared,
-                offset,
-                byte,
-                place == 0,
-                &mut self.work,
-                steps,
-            );
+            let edge = place == 0;
+            let code = table.next(subject.prepared, offset, byte, edge, &mut self.work, steps);
             offset = offset_of(code);
             self.states[place] = table.state_at(offset) as u16;
             if table.epoch != epoch {
@@ -218,20 +226,13 @@ impl Kept {
         ensures inside { place < self.old.region.end → Takes steps.old steps.new (20 * length subject.entry.prepared.now.arena.expr.nodes) }
         ensures counts { TakesAtLeast steps.old steps.new 1 }
     {
-        let root = self.region.root;
+        let (prepared, root) = (subject.prepared, self.region.root);
         if place == self.region.end {
             let kind = kind_of(place, subject.text.len());
-            let code = table.first(subject.prepared, root, kind, &mut self.work, steps);
+            let code = table.first(prepared, root, kind, &mut self.work, steps);
             return offset_of(code);
         }
-        let code = table.load(
-            subject.prepared,
-            root,
-            block,
-            &self.edges,
-            &mut self.work,
-            steps,
-        );
+        let code = table.load(prepared, root, block, &self.edges, &mut self.work, steps);
         offset_of(code)
     }
 
@@ -240,9 +241,7 @@ impl Kept {
     fn make(&mut self, subject: Subject, table: &mut Table, low: usize, steps: &mut Steps)
         requires kept { IsKept subject.prepared.now subject.text.now table.old self.old }
         requires low { low < self.old.region.end }
-        ensures kept { IsKept subject.entry.prepared.now subject.entry.text.now table.new self.new }
-        ensures shape { SameShape table.old table.new }
-        ensures same { SameKept self.old self.new }
+        ensures keeps { KeepsRegion subject.entry.prepared.now subject.entry.text.now table.old table.new self.old self.new }
         ensures low { self.new.region.low ≡ low }
         ensures from { self.new.region.from ≡ low }
         ensures to { low < self.new.region.to }
@@ -272,9 +271,7 @@ impl Kept {
         requires kept { IsKept subject.prepared.now subject.text.now table.old self.old }
         requires low { self.old.region.low ≤ place }
         requires place { place < self.old.region.end }
-        ensures kept { IsKept subject.entry.prepared.now subject.entry.text.now table.new self.new }
-        ensures shape { SameShape table.old table.new }
-        ensures same { SameKept self.old self.new }
+        ensures keeps { KeepsRegion subject.entry.prepared.now subject.entry.text.now table.old table.new self.old self.new }
         ensures low { self.new.region.low ≡ self.old.region.low }
         ensures from { self.new.region.from ≡ place }
         ensures to { self.new.region.to ≡ min self.old.region.end (place / (table.old.room - 1) * (table.old.room - 1) + (table.old.room - 1)) }
@@ -304,9 +301,7 @@ impl Kept {
     ) -> usize
         requires kept { IsKept subject.prepared.now subject.text.now table.old self.old }
         requires place { place < self.old.region.end }
-        ensures kept { IsKept subject.entry.prepared.now subject.entry.text.now table.new self.new }
-        ensures shape { SameShape table.old table.new }
-        ensures same { SameKept self.old self.new }
+        ensures keeps { KeepsRegion subject.entry.prepared.now subject.entry.text.now table.old table.new self.old self.new }
         ensures from { self.new.region.from ≤ place }
         ensures to { (result ≡ self.new.region.to) × (place < result) }
         ensures cost { let m = length subject.entry.prepared.now.arena.expr.nodes in
@@ -333,17 +328,14 @@ impl Kept {
         requires all_starts { table.old.way.all_starts ≡ false }
         requires last { IsLastIn subject.prepared.now.arena.expr.nodes self.old.region.root x }
         requires place { place ≤ self.old.region.end }
-        ensures kept { IsKept subject.entry.prepared.now subject.entry.text.now table.new self.new }
-        ensures shape { SameShape table.old table.new }
-        ensures same { SameKept self.old self.new }
+        ensures keeps { KeepsRegion subject.entry.prepared.now subject.entry.text.now table.old table.new self.old self.new }
         ensures spans { IsTrue result ↔ At subject.entry.prepared.now.arena.expr.nodes subject.entry.text.now x place self.old.region.end }
         ensures cost { let m = length subject.entry.prepared.now.arena.expr.nodes in
             CostsWithin steps.old steps.new (owed m self.old.region place + 1) (owed m self.new.region place) }
         ensures counts { TakesAtLeast steps.old steps.new 1 }
     {
         if place == self.region.end {
-            let kind = kind_of(place, subject.text.len());
-            return subject.prepared.null_at(x, kind, steps);
+            return subject.is_null(x, place, steps);
         }
         self.ready(subject, table, place, steps);
         table.ends.get(self.states[place] as usize, x, steps)
@@ -363,9 +355,7 @@ impl Kept {
         requires kept { IsKept subject.prepared.now subject.text.now table.old self.old }
         requires x { x < length subject.prepared.now.arena.expr.nodes }
         requires from { from ≤ self.old.region.end }
-        ensures kept { IsKept subject.entry.prepared.now subject.entry.text.now table.new self.new }
-        ensures shape { SameShape table.old table.new }
-        ensures same { SameKept self.old self.new }
+        ensures keeps { KeepsRegion subject.entry.prepared.now subject.entry.text.now table.old table.new self.old self.new }
         ensures after { from ≤ result }
         ensures within { result ≤ self.old.region.end }
         ensures passed { AllMarked subject.entry.prepared.now.arena.expr.nodes subject.entry.text.now self.old.region.root
@@ -435,10 +425,9 @@ impl Kept {
         requires forwards { (ahead.old.way.mirrored ≡ false) × (ahead.old.way.all_starts ≡ false) }
         requires a { a ≤ self.old.region.root }
         requires from { from ≤ self.old.region.end }
-        ensures kept { IsKept subject.entry.prepared.now subject.entry.text.now table.new self.new }
+        ensures keeps { KeepsRegion subject.entry.prepared.now subject.entry.text.now table.old table.new self.old self.new }
         ensures ahead { IsTable subject.entry.prepared.now ahead.new }
-        ensures shape { SameShape table.old table.new × SameShape ahead.old ahead.new }
-        ensures same { SameKept self.old self.new }
+        ensures shape { SameShape ahead.old ahead.new }
         ensures within { result ≤ self.old.region.end }
         ensures ceases { CeasesAt subject.entry.prepared.now.arena.expr.nodes subject.entry.text.now self.old.region.root
             (ends_told table.old.way.all_starts (length subject.entry.text.now) self.old.region.end) a from result }
@@ -479,11 +468,10 @@ impl Kept {
         requires offset { IsOffset ahead.old offset }
         requires from { self.old.region.from ≤ from }
         requires to { from < self.old.region.to }
-        ensures kept { IsKept subject.entry.prepared.now subject.entry.text.now table.now self.new }
+        ensures keeps { KeepsRegion subject.entry.prepared.now subject.entry.text.now table.now table.now self.old self.new }
         ensures ahead { IsTable subject.entry.prepared.now ahead.new }
         ensures shape { SameShape ahead.old ahead.new }
         ensures region { self.new.region ≡ self.old.region }
-        ensures same { SameKept self.old self.new }
         ensures offset { IsOffset ahead.new result.1 }
         ensures after { from ≤ result.0 }
         ensures within { result.0 ≤ self.old.region.to }
@@ -508,14 +496,8 @@ impl Kept {
                 return (place, offset);
             }
             let byte = subject.text.byte(place, steps);
-            let code = ahead.next(
-                subject.prepared,
-                offset,
-                byte,
-                place + 1 == length,
-                &mut self.work,
-                steps,
-            );
+            let edge = place + 1 == length;
+            let code = ahead.next(subject.prepared, offset, byte, edge, &mut self.work, steps);
             offset = offset_of(code);
         }
         (self.region.to, offset)

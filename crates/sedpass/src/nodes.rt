@@ -8,9 +8,8 @@ ghost use Rattle.sedre.specs.Mirror.{seen};
 ghost use Rattle.sedre.specs.Packed.{PartsBelow};
 ghost use Rattle.sedre.specs.Steps.{Takes, TakesExactly, TakesAtLeast};
 ghost use Rattle.sedre.specs.Sizes.{size};
-ghost use Rattle.sedpass.specs.Groups.{has_group};
-ghost use Rattle.sedpass.specs.Lengths.{sum_of, same_of, length_of};
-ghost use Rattle.sedpass.specs.Prepared.{IsPrepared, IsFacts, AreFacts, IsShort, IsOfEachKind, is_set, run_of, null_at, null_in, nullable};
+ghost use Rattle.sedpass.specs.Walks.{has_group};
+ghost use Rattle.sedpass.specs.Prepared.{IsPrepared, IsFacts, AreFacts, IsShort, IsOfEachKind, is_set, run_of, null_at, null_in, nullable, sum_of, same_of, length_of};
 ghost use Rattle.sedpass.specs.Rows.{IsNodeRange};
 ghost use Rattle.sedpass.specs.declared.nodes.Facts.{Facts};
 
@@ -269,7 +268,7 @@ impl Prepared {
         ensures size { result + size (tree_at self.now.arena.expr.nodes x) ≡ x + 1 }
         ensures range { (mirrored : Bool) → IsNodeRange (seen mirrored self.now.arena.expr).nodes result x }
     {
-        self.arena.is_expression();
+        let _groups = self.arena.groups();
         self.facts[x].low
     }
 
@@ -292,7 +291,7 @@ impl Prepared {
         ensures few { length self.now.arena.expr.nodes ≤ 65536 }
         ensures expr { IsExpr self.now.arena.expr.nodes self.now.arena.expr.groups }
     {
-        self.arena.is_expression();
+        let _groups = self.arena.groups();
         self.root + 1
     }
 }

@@ -8,8 +8,7 @@ ghost use Rattle.sedtext.specs.Following.{LiesOn, next_span};
 ghost use Rattle.sedtext.specs.Matching.{found, unless_null_at};
 ghost use Rattle.sedre.specs.Tree.{expression_tree};
 ghost use Rattle.sedpass.specs.Kept.{KeptRoom};
-ghost use Rattle.sedpass.specs.Occurrences.{SearchTakes, owed_behind};
-ghost use Rattle.sedpass.specs.Search.{MaySearch, Searched, Serves, owed_after, owed_search};
+ghost use Rattle.sedpass.specs.Search.{MaySearch, SearchTakes, Searched, Serves, owed_after, owed_behind, owed_search};
 ghost use Rattle.sedpass.specs.Table.{IsTable};
 
 use crate::kept::Subject;

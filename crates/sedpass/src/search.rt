@@ -14,7 +14,6 @@ ghost use Rattle.sedpass.specs.Kept.{IsKept, SameSpace};
 ghost use Rattle.sedpass.specs.Search.{IsNextMatch, LooksFrom, MaySearch, Searched, Serves, TablesStay, TrialsMade, owed_kept, owed_search, owed_after, search_cost};
 
 use crate::kept::{Kept, Subject};
-use crate::nodes::kind_of;
 use crate::rows::Work;
 use crate::table::Table;
 use sedre::Steps;
@@ -61,13 +60,12 @@ fn try_all(
     ensures made { TrialsMade (expression_tree subject.entry.prepared.now.arena.expr) subject.entry.text.now (length subject.entry.prepared.now.arena.expr.nodes) from tried.old tried.new steps.old steps.new result }
 {
     let length = subject.text.len();
-    let bytes = subject.text.forwards();
     let mut start = from;
     while start <= length {
         let Some(first) = next_start(begins, subject.text, start, steps) else {
             return Trials::Nothing;
         };
-        let passed = ahead.run(subject.prepared, &bytes, first, work, steps);
+        let passed = ahead.run(subject.prepared, subject.text, first, work, steps);
         if let Some(end) = passed.end {
             *tried += passed.place.saturating_sub(end);
             return Trials::Hit(first, end);
@@ -89,9 +87,7 @@ fn begins_there(subject: Subject, start: usize, steps: &mut Steps) -> bool
         At subject.entry.prepared.now.arena.expr.nodes subject.entry.text.now subject.entry.prepared.now.root start start }
     ensures cost { Takes steps.old steps.new 1 }
 {
-    let length = subject.text.len();
-    let prepared = subject.prepared;
-    start < length || prepared.null_at(prepared.root, kind_of(start, length), steps)
+    start < subject.text.len() || subject.is_null(subject.prepared.root, start, steps)
 }
 
 /// The match from a place on, by the pass from the text's end, which was begun.
@@ -162,15 +158,8 @@ pub fn next_match(
 {
     let mut start = from;
     if !seeking.begun && seeking.tried <= subject.text.len() {
-        match try_all(
-            subject,
-            begins,
-            ahead,
-            from,
-            &mut seeking.kept.work,
-            &mut seeking.tried,
-            steps,
-        ) {
+        let (work, tried) = (&mut seeking.kept.work, &mut seeking.tried);
+        match try_all(subject, begins, ahead, from, work, tried, steps) {
             Trials::Hit(first, end) => return Some((first, end)),
             Trials::Nothing => return None,
             Trials::Tired(later) => start = later,

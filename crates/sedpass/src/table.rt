@@ -8,10 +8,9 @@ ghost use Rattle.sedtext.specs.Words.{row_of};
 ghost use Rattle.sedre.specs.Steps.{Takes, TakesAtLeast};
 ghost use Rattle.sedpass.specs.Rows.{nodes_of, bits};
 ghost use Rattle.sedre.specs.Arena.{IsExpr};
-ghost use Rattle.sedpass.specs.Cells.{IsLayout};
 ghost use Rattle.sedpass.specs.declared.nodes.Kind.{Kind};
 ghost use Rattle.sedpass.specs.declared.nodes.Prepared.{Prepared};
-ghost use Rattle.sedpass.specs.Table.{state_of, HasRow, HasMarks, BeginsIn, Names, IsNext, IsOffset, beginning_at, MayBegin, IsRoomy, IsTable, SameRoom, SameShape, Codes};
+ghost use Rattle.sedpass.specs.Table.{state_of, HasRow, HasMarks, BeginsIn, Names, IsNext, IsOffset, beginning_at, MayBegin, IsRoomy, IsTable, SameRoom, SameShape, Codes, IsLayout};
 
 use crate::cells::{Flags, Layout, code_of, empty_cells, stops};
 use crate::nodes::{Kind, Prepared};
@@ -29,14 +28,6 @@ const LAST_EPOCHS: u32 = u32::MAX - 1;
 pub struct Beginning {
     pub epoch: u32,
     pub code: u32,
-}
-
-/// For proofs: the number of some rows fits its type.
-#[inline(always)]
-fn count_fits(rows: &Rows)
-    ensures { length rows.now < 2 ^ 64 }
-{
-    let _count = rows.len();
 }
 
 /// A slot of the index: a state, and the low half of the epoch in which it was noted. A wrong slot costs a state, never an
@@ -185,7 +176,7 @@ impl Table {
         ensures table { IsTable prepared.now self.new }
         ensures room { SameRoom self.old self.new }
     {
-        prepared.arena.is_expression();
+        let _groups = prepared.arena.groups();
         self.layout = Layout::new(prepared);
         self.count = 0;
         self.epoch = next_epoch(self.epoch);
@@ -480,7 +471,7 @@ impl Table {
         ensures counts { TakesAtLeast steps.old steps.new (2 * length prepared.now.arena.expr.nodes) }
     {
         let nodes = prepared.nodes();
-        count_fits(edges);
+        let _count = edges.len();
         edges.load(2 * row, &mut work.leaves, nodes, steps);
         edges.load(2 * row + 1, &mut work.ends, nodes, steps);
         self.intern(prepared, root, work, steps)

@@ -50,3 +50,8 @@ least_ahead s t n p looks (Some k) low is few = least_counted s t looks (k + 20 
 pub least_later : (s a b p q : ℕ) (r : Option ℕ) → TakesAtLeast s a (q - p) → IfSome r (λ k. TakesAtLeast a b (k - q)) → IfSome r (λ k. TakesAtLeast s b (k - p))
 least_later s a b p q None before after = tt
 least_later s a b p q (Some k) before after = least_both s a b (q - p) (k - q) (k - p) before after (omega arith)
+
+-- the same number of looks, twice
+pub counted_twice : (s a t n x y : ℕ) → x ≡ n → y ≡ n → TakesExactly s a x → TakesExactly a t y → TakesExactly s t (2 * n)
+unfolding TakesExactly
+counted_twice s a t n x y first second one two = omega (arith, first, second, one, two)

@@ -6,14 +6,12 @@ pub mod MatchingLemmas
 pub mod FollowingLemmas
 pub mod RunLemmas
 pub mod BeginningLemmas
-pub mod StepLemmas
 pub mod SpanLemmas
 pub mod MirrorLemmas
 pub mod ReachLemmas
 pub mod FormLemmas
 pub mod WordLemmas
 pub mod BitLemmas
-pub mod MarkLemmas
 pub mod CountLemmas
 pub mod TimesLemmas
 pub mod NeededLemmas

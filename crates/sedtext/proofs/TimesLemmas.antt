@@ -8,9 +8,9 @@ use Rattle.sedtext.specs.Spans.{Matches, CopiesLead, no_copy, one_more}
 use Rattle.sedtext.specs.Runs.{Repeated, RunBegins}
 use Rattle.sedtext.specs.Beginnings.{CanBegin}
 use Rattle.sedtext.specs.declared.beginnings.Begins.TheVariants.{WithSet}
-use Rattle.sedtext.specs.Times.{SameBytes, HasTimes, AllTimes, AreWidths, FirstTimes}
+use Rattle.sedtext.specs.Times.{HasTimes, AllTimes, AreWidths, FirstTimes}
 use Rattle.sedtext.proofs.SpanLemmas.{Matches-within}
-use Rattle.sedtext.proofs.MarkLemmas.{default_same}
+use Rattle.std.proofs.lemmas.List.{get_or_default}
 use Rattle.sedtext.proofs.BeginningLemmas.{member_step}
 use Rattle.sedtext.specs.Forms.{HasForm, IsOfSet}
 use Rattle.sedtext.specs.declared.forms.Form.TheVariants.{Both, Inner}
@@ -75,13 +75,11 @@ run_stops members w p q before place byte has next low high is value missing cop
 )
 
 module _ (nodes : List Node) (x : ℕ) (members : List Bool) where
-  -- a set with these bytes
-  pub times_set : (other : List Bool) → IsOfSet nodes x other → SameBytes other members → AllTimes nodes x members 1
-  times_set other is same w bytes i j = (
-    (λ at. let s = (is w i j).0 at in repeated_one members w i j (s.0.0, s.0.1, (same s.0.0 (bytes i s.0.0 s.0.1)).0 s.0.2, s.1)),
-    (λ h.
-        let can = repeated_first members w j i (omega (arith, h.1)) h.0 in
-        (is w i j).1 ((can.0, can.1, (same can.0 (bytes i can.0 can.1)).1 can.2), h.1)),
+  -- the set itself
+  pub times_set : IsOfSet nodes x members → AllTimes nodes x members 1
+  times_set is w bytes i j = (
+    (λ at. let s = (is w i j).0 at in repeated_one members w i j (s.0.0, s.0.1, s.0.2, s.1)),
+    (λ h. (is w i j).1 (repeated_first members w j i (omega (arith, h.1)) h.0, h.1)),
   )
 
   -- a concatenation
@@ -111,7 +109,7 @@ module _ (nodes : List Node) (x : ℕ) (members : List Bool) where
 pub width_at : (nodes : List Node) (members : List Bool) (widths : List ℕ) (x count : ℕ) → AreWidths nodes members widths → x < length widths →
     count ≡ slice_index_or widths x count → AllTimes nodes x members count
 width_at nodes members widths x count are lt is =
-    subst (λ v. AllTimes nodes x members v) (sym (is ∙ default_same widths x count 0 lt)) (are x lt)
+    subst (λ v. AllTimes nodes x members v) (sym (is ∙ get_or_default widths x count 0 lt)) (are x lt)
 
 module _ (members : List Bool) (count : ℕ) (w : List ℕ) (from : ℕ) where
   -- no so many bytes begin before a run that begins among those

@@ -4,12 +4,11 @@ use Rattle.std.specs.Prelude.{eqb, slice_index_or, slice_set, replicate}
 use Rattle.std.specs.Int.{bit_at}
 use Rattle.sedre.specs.Words.{is_set}
 use Rattle.std.proofs.lemmas.Bool.{cases_eq, cases_lt}
-use Rattle.std.proofs.lemmas.List.{get_or-set_same, get_or-set_other, get_or-replicate, length-replicate, length-set, same_lists}
+use Rattle.std.proofs.lemmas.List.{get_or_default, get_or-set_same, get_or-set_other, get_or-replicate, length-replicate, length-set, same_lists}
 use Rattle.std.proofs.lemmas.List.FromFn.{get_or-map-range_with_len, length-map-range_with_len}
 use Rattle.std.proofs.lemmas.Nat.Bits.{bit_at-zero}
 use Rattle.sedtext.specs.declared.counted.rows.Rows.TheInside.{Inside}
 use Rattle.sedtext.specs.Words.{table, marks_of, row_at, rows_of, row_of}
-use Rattle.sedtext.proofs.MarkLemmas.{default_same}
 
 length-table : {X : Type 0} → (f : ℕ → X) (n : ℕ) → length (table f n) ≡ n
 unfolding table
@@ -23,7 +22,7 @@ table-get f n i d lt = get_or-map-range_with_len f 0 n i i d lt (omega arith)
 table-is : (f : ℕ → Bool) (n : ℕ) (xs : List Bool) → length xs ≡ n → ((k : ℕ) → k < n → f k ≡ slice_index_or xs k false) → table f n ≡ xs
 table-is f n xs long same =
     same_lists (table f n) xs (length-table f n ∙ sym long)
-    (λ k d lt. let low : k < n = omega (arith, length-table f n, lt) in table-get f n k d low ∙ same k low ∙ default_same xs k false d (omega (arith, long, low)))
+    (λ k d lt. let low : k < n = omega (arith, length-table f n, lt) in table-get f n k d low ∙ same k low ∙ get_or_default xs k false d (omega (arith, long, low)))
 
 table-set : (f g : ℕ → Bool) (n i : ℕ) (v : Bool) → i < n → g i ≡ v → ((k : ℕ) → k < n → k ≢ i → g k ≡ f k) → table g n ≡ slice_set (table f n) i v
 table-set f g n i v lt here other =

@@ -3,13 +3,8 @@
 use Rattle.std.specs.Prelude.{◌≡◌, ℕ, ◌+◌, ◌<◌, ◌≤◌, ◌↔◌, Bool, List, length, slice_index, Option, Some, None}
 use Rattle.sedre.specs.declared.types.Node.{Node}
 use Rattle.sedtext.specs.Reach.{At}
-use Rattle.sedtext.specs.Spans.{IsIn}
 use Rattle.sedtext.specs.Bytes.{AreBytes}
 use Rattle.sedtext.specs.Runs.{Repeated}
-
--- the sets have the same bytes
-abbrev pub SameBytes : List Bool → List Bool → Type 0
-SameBytes these those = (c : ℕ) → c < 256 → IsIn c these ↔ IsIn c those
 
 -- `count` bytes of the set lead from i to j
 abbrev pub HasTimes : List Bool → ℕ → List ℕ → ℕ → ℕ → Type 0

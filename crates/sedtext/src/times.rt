@@ -3,8 +3,8 @@
 //!
 //! The last of these bytes is looked at first. Where it isn't in the set, no match begins before it, and those before
 //! it aren't looked at: where such bytes are rare, most of a text is passed over unseen.
-ghost use Rattle.std.specs.Prelude.{◌≡◌, ◌+◌, ◌<◌, ◌≤◌, ◌-◌, length, IfOk, IfSome, IsTrue};
-ghost use Rattle.sedtext.specs.Times.{SameBytes, AllTimes, AreWidths, FirstTimes, passed_times};
+ghost use Rattle.std.specs.Prelude.{◌≡◌, ◌+◌, ◌<◌, ◌≤◌, ◌-◌, length, IfOk, IfSome};
+ghost use Rattle.sedtext.specs.Times.{AllTimes, AreWidths, FirstTimes, passed_times};
 ghost use Rattle.sedtext.specs.Costs.{CostsWithin};
 ghost use Rattle.sedre.specs.Steps.{Takes, TakesAtLeast};
 
@@ -14,18 +14,6 @@ use crate::counted::members::run_begin;
 use crate::forms::{Form, form_of, set_of};
 use sedre::{ByteSet, Expr, Steps};
 use std::alloc::{AllocError, Global};
-
-/// Whether the sets have the same bytes.
-fn same_bytes(these: &ByteSet, those: &ByteSet) -> bool
-    ensures { IsTrue result → SameBytes these.now those.now }
-{
-    for byte in 0..256usize {
-        if these.has(byte as u8) != those.has(byte as u8) {
-            return false;
-        }
-    }
-    true
-}
 
 /// How many bytes the spans of the node at the index have, if they are all strings of that many bytes of the set.
 /// `widths` has this number for each node before it.
@@ -43,13 +31,7 @@ fn width_of(
     ensures cost { Takes steps.old steps.new 1 }
 {
     match form_of(expr, index, steps) {
-        Form::Byte(other) => {
-            if same_bytes(&other, set) {
-                Some(1)
-            } else {
-                None
-            }
-        }
+        Form::Byte(other) => { if other.same(set) { Some(1) } else { None } }
         Form::Both(first, second) => widths[first].checked_add(widths[second]),
         Form::Inner(part) => Some(widths[part]),
         _ => None,

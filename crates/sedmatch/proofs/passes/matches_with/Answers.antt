@@ -3,8 +3,8 @@ use Rattle.sedre.specs.Tree.{expression_tree}
 use Rattle.sedtext.specs.Beginnings.{AllBegin}
 use Rattle.sedtext.specs.Following.{PassesOver}
 use Rattle.sedtext.specs.Reach.{IsLongestFrom}
-use Rattle.sedpass.proofs.CountLemmas.{passes_told}
 use Rattle.sedmatch.proofs.PassLemmas.{anchored_told}
+use Rattle.sedpass.proofs.ForwardLemmas.{passes_told}
 use Rattle.sedmatch.proofs.passes.matches_with.Goals as goal
 
 pub returns-in_default-clause-any : goal.returns-in_default-clause-any

@@ -3,9 +3,9 @@ use Rattle.sedre.specs.Tree.{expression_tree}
 use Rattle.sedtext.specs.Answer.{IsComputed}
 use Rattle.sedtext.proofs.MatchingLemmas.{found-iff, not_found-iff, report-iff}
 use Rattle.sedtext.proofs.PartLemmas.{report_lies}
-use Rattle.sedpass.proofs.CountLemmas.{least_since, least_up}
-use Rattle.sedpass.proofs.WalkLemmas.{enters_later}
+use Rattle.sedpass.proofs.OneGroupLemmas.{enters_later}
 use Rattle.sedmatch.proofs.OnceLemmas.{all_cost, bare_cost, if_none, none_cost, none_linear, one_less}
+use Rattle.sedtext.proofs.CountLemmas.{least_since, least_up}
 use Rattle.sedmatch.proofs.whole.find.Goals as goal
 
 pub returns-in_err-span-clause-computed : goal.returns-in_err-span-clause-computed

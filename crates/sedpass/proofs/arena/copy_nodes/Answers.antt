@@ -1,11 +1,10 @@
-use Rattle.std.proofs.Common.{◌≡◌, Some, refl, ◌++◌, ◌∷◌, [], length, ap, sym, ◌∙◌, length-append, arith}
-use Rattle.std.specs.Prelude.{slice_get, take}
+use Rattle.std.proofs.Common.{◌≡◌, Some, refl, ◌++◌, ◌∷◌, [], length, ap, sym, ◌∙◌, length-append, arith, slice_get, take}
 use Rattle.std.proofs.lemmas.List.{take_more, take_all}
 use Rattle.std.proofs.lemmas.Option.{slice_get_within, get_or_from_slice_get}
 use Rattle.sedre.specs.Steps.{TakesAtLeast, TakesExactly}
 use Rattle.sedtext.proofs.NodeLemmas.{parts_below}
-use Rattle.sedpass.proofs.CountLemmas.{least_none}
 use Rattle.sedpass.proofs.FactLemmas.{facts_more}
+use Rattle.sedtext.proofs.CountLemmas.{least_none}
 use Rattle.sedpass.proofs.arena.copy_nodes.Goals as goal
 
 pub loop-x-init : goal.loop-x-init
@@ -24,7 +23,7 @@ loop-x-init c =
 
 pub facts_of-next-requires : goal.facts_of-next-requires
 facts_of-next-requires c =
-    parts_below c.args.expr.now.nodes c.is_expression.ensures.arena c.loop-x.x c.look-node.result (ap (slice_get c.args.expr.now.nodes) (sym c.id.ensures) ∙ c.look-node.ensures.node) _ (omega arith)
+    parts_below c.args.expr.now.nodes c.groups-groups.ensures.expr.arena c.loop-x.x c.look-node.result (ap (slice_get c.args.expr.now.nodes) (sym c.id.ensures) ∙ c.look-node.ensures.node) _ (omega arith)
 
 pub loop-x-preserved : goal.loop-x-preserved
 unfolding TakesAtLeast TakesExactly
@@ -35,7 +34,7 @@ loop-x-preserved c =
     let node = c.look-node.result in
     let is = ap (slice_get e.nodes) (sym c.id.ensures) ∙ c.look-node.ensures.node in
     let items = c.push_reserved-in-loop-x.ensures.items in
-    let expr = c.is_expression.ensures in
+    let expr = c.groups-groups.ensures.expr in
     let here : slice_get e.nodes (length told) ≡ Some node = rw c.loop-x.invariant.all is in
     record {
       grows = omega arith;

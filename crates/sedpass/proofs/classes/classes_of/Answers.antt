@@ -1,5 +1,4 @@
-use Rattle.std.proofs.Common.{ℕ, ◌+◌, ◌<◌, true, false, length, refl, sym, ◌∙◌, true≢false, arith}
-use Rattle.std.specs.Prelude.{slice_set}
+use Rattle.std.proofs.Common.{ℕ, ◌+◌, ◌<◌, true, false, length, refl, sym, ◌∙◌, true≢false, arith, slice_set}
 use Rattle.std.proofs.lemmas.List.{get_or-replicate, get_or-set_same}
 use Rattle.std.proofs.lemmas.Option.{slice_get_read}
 use Rattle.sedpass.proofs.ClassLemmas.{alone_more, apart_more, parted_more}

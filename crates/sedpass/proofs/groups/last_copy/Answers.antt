@@ -2,20 +2,20 @@ use Rattle.std.proofs.Common.{◌-◌, ◌<◌, length, inl, inr, refl, arith}
 use Rattle.sedre.specs.declared.types.Node.TheVariants.{Star}
 use Rattle.sedtext.specs.Reach.{At}
 use Rattle.sedpass.specs.Decide.{nodes_in, text_in}
-use Rattle.sedpass.proofs.CountLemmas.{least_fewer, least_none}
-use Rattle.sedpass.proofs.DecideLemmas.{copy_fixed, copy_ceases, copy_pays, desk_ahead, desk_same, desk_then, ends_still, least_no_byte, least_then, owed_here, part_low}
+use Rattle.sedpass.proofs.DecideLemmas.{copy_fixed, copy_ceases, copy_pays, desk_ahead, desk_same, desk_then, ends_still, owed_here, part_low}
 use Rattle.sedpass.proofs.MeetingLemmas.{copy_walk}
 use Rattle.sedpass.proofs.TurnLemmas.{opened, part_inside}
+use Rattle.sedtext.proofs.CountLemmas.{least_less, least_none, least_both, least_up}
 use Rattle.sedpass.proofs.groups.last_copy.Goals as goal
 
 pub has_empty_copy-taken-requires : goal.has_empty_copy-taken-requires
 has_empty_copy-taken-requires c = rw c.index-part.ensures (part_inside c.args.subject c.args.here (Star c.args.a c.args.first) c.requires.stands c.args.a.index refl)
 
 pub returns-then-taken-clause-counts : goal.returns-then-taken-clause-counts
-returns-then-taken-clause-counts c = λ is_open. least_no_byte c.args.steps.now c.has_empty_copy-taken.new.steps c.args.here.start c.args.here.stop c.has_empty_copy-taken.ensures.cost.0 (omega (arith, c.if-here.true))
+returns-then-taken-clause-counts c = λ is_open. least_up c.args.steps.now c.args.steps.now c.has_empty_copy-taken.new.steps _ (least_none c.args.steps.now _ (omega (arith, c.if-here.true))) c.has_empty_copy-taken.ensures.cost.0
 
 pub returns-else-taken-clause-counts : goal.returns-else-taken-clause-counts
-returns-else-taken-clause-counts c = λ is_open. least_no_byte c.args.steps.now c.has_empty_copy-taken.new.steps c.args.here.start c.args.here.stop c.has_empty_copy-taken.ensures.cost.0 (omega (arith, c.if-here.true))
+returns-else-taken-clause-counts c = λ is_open. least_up c.args.steps.now c.args.steps.now c.has_empty_copy-taken.new.steps _ (least_none c.args.steps.now _ (omega (arith, c.if-here.true))) c.has_empty_copy-taken.ensures.cost.0
 
 pub facts_at-requires : goal.facts_at-requires
 facts_at-requires c = rw c.index-part.ensures (part_inside c.args.subject c.args.here (Star c.args.a c.args.first) c.requires.stands c.args.a.index refl)
@@ -64,10 +64,10 @@ copies-preserved c =
     let cut = c.cut-end in
     let ceases = rw c.index-part.ensures at cut.ensures.ceases in
     let next = copy_ceases s c.copies.tables c.copies.kept here c.args.a c.args.first c.copies.end cut.result (record { stands = c.requires.stands; ends = inv.ends; desk = inv.desk.desk }) inv.rest c.copies-test.true ceases in
-    let desk = desk_ahead s c.copies.tables cut.new.table cut.new.ahead c.copies.kept cut.new.self inv.desk.desk cut.ensures.kept cut.ensures.ahead cut.ensures.shape.0 cut.ensures.shape.1 cut.ensures.same in
+    let desk = desk_ahead s c.copies.tables cut.new.table cut.new.ahead c.copies.kept cut.new.self inv.desk.desk cut.ensures.keeps cut.ensures.ahead cut.ensures.shape in
     record {
       desk = desk_then s c.args.tables.now c.copies.tables _ c.args.kept.now c.copies.kept cut.new.self inv.desk desk;
-      ends = ends_still s c.copies.kept cut.new.self here cut.ensures.same inv.ends;
+      ends = ends_still s c.copies.kept cut.new.self here cut.ensures.keeps.same inv.ends;
       low = omega (arith, inv.low, next.after);
       within = next.within;
       rest = next.rest;
@@ -76,7 +76,7 @@ copies-preserved c =
         omega (arith, inv.cost.0, cut.ensures.cost.0),
         omega (arith, inv.cost.1, copy_pays (length (nodes_in s)) c.copies.steps cut.new.steps _ _ c.copies.end cut.result here.stop next.after next.within cut.ensures.cost.1),
       );
-      counts = least_then c.args.steps.now c.copies.steps cut.new.steps here.start c.copies.end cut.result inv.low (omega (arith, next.after)) inv.counts cut.ensures.counts;
+      counts = least_both c.args.steps.now c.copies.steps cut.new.steps _ _ _ inv.counts cut.ensures.counts (omega (arith, inv.low, next.after));
     }
 
 pub returns-clause-copy : goal.returns-clause-copy
@@ -91,4 +91,4 @@ returns-clause-cost c =
     (cost.0, omega (arith, cost.1, owed_is))
 
 pub returns-clause-counts : goal.returns-clause-counts
-returns-clause-counts c = λ is_open. least_fewer c.args.steps.now c.copies.steps (c.copies.end - c.args.here.start) (c.args.here.stop - c.args.here.start) (omega (arith, c.copies-test.false)) c.copies.invariant.counts
+returns-clause-counts c = λ is_open. least_less c.args.steps.now c.copies.steps (c.copies.end - c.args.here.start) (c.args.here.stop - c.args.here.start) c.copies.invariant.counts (omega (arith, c.copies-test.false))

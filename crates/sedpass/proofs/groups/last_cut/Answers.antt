@@ -2,9 +2,9 @@ use Rattle.std.proofs.Common.{◌+◌, ◌-◌, ◌*◌, ◌<◌, length, refl, 
 use Rattle.std.proofs.lemmas.Option.{slice_get_within}
 use Rattle.sedre.specs.declared.types.Node.TheVariants.{Seq}
 use Rattle.sedpass.specs.Decide.{nodes_in}
-use Rattle.sedpass.proofs.CountLemmas.{least_fewer, least_none}
 use Rattle.sedpass.proofs.DecideLemmas.{part_low, owed_here, run_paid, meet_paid, cut_ceases, cut_runs}
 use Rattle.sedpass.proofs.TurnLemmas.{part_inside}
+use Rattle.sedtext.proofs.CountLemmas.{least_less, least_none}
 use Rattle.sedpass.proofs.groups.last_cut.Goals as goal
 
 pub returns-in-Some-clause-counts : goal.returns-in-Some-clause-counts
@@ -54,4 +54,4 @@ returns-clause-cost c =
     )
 
 pub returns-clause-counts : goal.returns-clause-counts
-returns-clause-counts c = λ left right. least_fewer c.args.steps.now c.cut.new.steps (2 * (c.cut.result - c.args.here.start) + 1) (c.cut.result - c.args.here.start) (omega arith) c.cut.ensures.counts
+returns-clause-counts c = λ left right. least_less c.args.steps.now c.cut.new.steps (2 * (c.cut.result - c.args.here.start) + 1) (c.cut.result - c.args.here.start) c.cut.ensures.counts (omega arith)

@@ -1,7 +1,8 @@
 use Rattle.std.proofs.Common.{Some, sym, subst, ◌∙◌}
 use Rattle.sedpass.specs.Decide.{told_of, Blank}
 use Rattle.sedpass.proofs.TurnLemmas.{settle_blank}
-use Rattle.sedpass.proofs.DecideLemmas.{settled, unsettled, still_whole, found_set}
+use Rattle.sedpass.proofs.DecideLemmas.{settled, still_whole, found_set, flags_at}
+use Rattle.sedpass.proofs.OneGroupLemmas.{settle-not}
 use Rattle.sedpass.proofs.groups.settle_group.Goals as goal
 
 pub returns-then-has : goal.returns-then-has
@@ -18,4 +19,5 @@ returns-then-has c =
     }
 
 pub returns-else-has-clause-state : goal.returns-else-has-clause-state
-returns-else-has-clause-state c = unsettled c.args.told.now.due c.args.k (Some c.args.span) c.args.told.now.spans (sym c.has.ensures ∙ c.if-has.false)
+returns-else-has-clause-state c =
+    sym (settle-not c.args.k (Some c.args.span) (told_of c.args.told.now.due c.args.told.now.spans) (flags_at c.args.told.now.due c.args.k ∙ sym c.has.ensures ∙ c.if-has.false))

@@ -1,15 +1,16 @@
 use Rattle.std.proofs.Common.{inl, inr, refl, arith}
 use Rattle.sedpass.specs.Decide.{found, nodes_in}
-use Rattle.sedpass.proofs.CountLemmas.{least_none}
-use Rattle.sedpass.proofs.DecideLemmas.{none_due, not_met}
+use Rattle.sedpass.proofs.DecideLemmas.{none_due}
 use Rattle.sedpass.proofs.SpineLemmas.{least_look}
+use Rattle.sedtext.proofs.CountLemmas.{least_none}
+use Rattle.std.proofs.lemmas.Bool.{both_ways}
 use Rattle.sedpass.proofs.groups.turn.Goals as goal
 
 pub returns-then-not-meets-clause-turned : goal.returns-then-not-meets-clause-turned
 returns-then-not-meets-clause-turned c =
     let told = c.args.told.now in
     let none = none_due (nodes_in c.args.subject) c.args.here.node c.facts_at.result told.due told.spans c.facts_at.ensures.facts c.requires.told.whole
-    (λ k has due. not_met _ _ c.if-not-meets.true c.meets.ensures (k, has, due)) in
+    (λ k has due. both_ways _ c.if-not-meets.true (c.meets.ensures.1 (k, has, due))) in
     inl (none, refl, refl, refl)
 
 pub returns-then-not-meets-clause-counts : goal.returns-then-not-meets-clause-counts

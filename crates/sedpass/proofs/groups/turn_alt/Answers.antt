@@ -14,7 +14,7 @@ returns-then-spans-clause-turned c = λ state.
     let here = c.args.here in
     let look = c.spans-spans in
     let tells = rw (c.index-left.ensures, sym c.requires.ends.1) at look.ensures.spans in
-    let ends = ends_still c.args.subject c.args.kept.now look.new.self here look.ensures.same c.requires.ends in
+    let ends = ends_still c.args.subject c.args.kept.now look.new.self here look.ensures.keeps.same c.requires.ends in
     alt_turned c.args.subject here c.args.a c.args.b c.index-left.result state look.new.self.region c.args.steps.now look.new.steps c.requires.stands ends (inl (c.index-left.ensures, tells.0 c.if-spans.true))
     (look_paid c.args.subject c.args.kept.now.region here c.args.steps.now look.new.steps _ c.requires.ends look.ensures.cost) look.ensures.counts
 
@@ -23,7 +23,7 @@ returns-else-spans-clause-turned c = λ state.
     let here = c.args.here in
     let look = c.spans-spans in
     let tells = rw (c.index-left.ensures, sym c.requires.ends.1) at look.ensures.spans in
-    let ends = ends_still c.args.subject c.args.kept.now look.new.self here look.ensures.same c.requires.ends in
+    let ends = ends_still c.args.subject c.args.kept.now look.new.self here look.ensures.keeps.same c.requires.ends in
     alt_turned c.args.subject here c.args.a c.args.b c.index-node.result state look.new.self.region c.args.steps.now look.new.steps c.requires.stands ends
     (inr (c.index-node.ensures, λ at. both_ways _ c.if-spans.false (tells.1 at)))
     (look_paid c.args.subject c.args.kept.now.region here c.args.steps.now look.new.steps _ c.requires.ends look.ensures.cost) look.ensures.counts

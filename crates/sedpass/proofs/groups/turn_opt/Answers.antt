@@ -2,8 +2,8 @@ use Rattle.std.proofs.Common.{refl, sym, inl, inr, ◌∙◌, arith}
 use Rattle.std.proofs.lemmas.Bool.{both_ways, lt-ltb}
 use Rattle.sedre.specs.declared.types.Node.TheVariants.{Opt}
 use Rattle.sedpass.proofs.TurnLemmas.{part_inside, opt_turned, opt_done}
-use Rattle.sedpass.proofs.groups.turn_opt.Goals as goal
 use Rattle.sedpass.proofs.groups.turn_opt.Goals.{then-here, else-here}
+use Rattle.sedpass.proofs.groups.turn_opt.Goals as goal
 
 pub has_empty_copy-requires : goal.has_empty_copy-requires
 has_empty_copy-requires c = rw c.index-part.ensures (part_inside c.args.subject c.args.here (Opt c.args.a c.args.first) c.requires c.args.a.index refl)

@@ -1,5 +1,4 @@
-use Rattle.std.proofs.Common.{◌≡◌, ◌+◌, ◌-◌}
-use Rattle.std.specs.Prelude.{length, vec_capacity}
+use Rattle.std.proofs.Common.{◌≡◌, ◌+◌, ◌-◌, length, vec_capacity}
 use Rattle.sedpass.proofs.kept.extend_states.Given as goal
 
 abbrev pub invariant-loop-states : goal.invariant-loop-states

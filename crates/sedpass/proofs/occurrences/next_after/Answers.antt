@@ -1,5 +1,4 @@
-use Rattle.std.proofs.Common.{ℕ, ◌+◌, ◌<◌, ◌∙◌, true, false, Option, None, length, refl, arith}
-use Rattle.std.specs.Prelude.{nat_lt, if◌then◌else◌}
+use Rattle.std.proofs.Common.{ℕ, ◌+◌, ◌<◌, ◌∙◌, true, false, Option, None, length, refl, arith, nat_lt, if◌then◌else◌}
 use Rattle.sedre.specs.Tree.{expression_tree}
 use Rattle.sedtext.specs.Matching.{found}
 use Rattle.sedpass.specs.Search.{owed_search}

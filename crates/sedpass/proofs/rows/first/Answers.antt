@@ -1,8 +1,8 @@
 use Rattle.std.proofs.Common.{refl, arith}
 use Rattle.sedpass.specs.Rows.{nodes_of}
-use Rattle.sedpass.proofs.CountLemmas.{least_both}
 use Rattle.sedpass.proofs.FactLemmas.{null_tells}
 use Rattle.sedpass.proofs.RowLemmas.{first_bits}
+use Rattle.sedtext.proofs.CountLemmas.{least_both}
 use Rattle.sedpass.proofs.rows.first.Goals as goal
 
 pub returns-clause-first : goal.returns-clause-first

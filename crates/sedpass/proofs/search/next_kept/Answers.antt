@@ -1,7 +1,8 @@
 use Rattle.std.proofs.Common.{◌+◌, ◌-◌, ◌*◌, ◌≤◌, length, ap, ◌∙◌, arith}
-use Rattle.sedpass.proofs.CountLemmas.{least_both, least_up}
-use Rattle.sedpass.proofs.KeptLemmas.{same_shape}
-use Rattle.sedpass.proofs.SearchLemmas.{ahead_still, begins_some, kept_cost, kept_each, kept_found, kept_none, none_cost}
+use Rattle.sedpass.proofs.KeptLemmas.{keeps_then}
+use Rattle.sedpass.proofs.SearchLemmas.{begins_some, kept_cost, kept_each, kept_found, kept_none, none_cost}
+use Rattle.sedtext.proofs.CountLemmas.{least_both, least_up}
+use Rattle.sedpass.proofs.ForwardLemmas.{ahead_still}
 use Rattle.sedpass.proofs.search.next_kept.Goals as goal
 
 pub returns-then-not-begins_there-clause-next : goal.returns-then-not-begins_there-clause-next
@@ -11,7 +12,7 @@ returns-then-not-begins_there-clause-next c =
     let within = c.seek-start.ensures.within in
     let none = kept_none c.args.subject.prepared.now c.args.subject.text.now c.args.back.now.way.all_starts k.region.root k.region.end c.args.from c.seek-start.result c.begins_there.result
     region.table.expr.arena c.requires.all_starts (region.root.1 c.requires.all_starts) (omega (arith, within, region.inside)) c.seek-start.ensures.passed c.begins_there.ensures.inside c.begins_there.ensures.null (cc) in
-    record { kept = c.seek-start.ensures.kept; answer = (tt, none, tt); counts = tt }
+    record { kept = c.seek-start.ensures.keeps.kept; answer = (tt, none, tt); counts = tt }
 
 pub returns-clause-next : goal.returns-clause-next
 returns-clause-next c =
@@ -28,26 +29,25 @@ returns-clause-next c =
     let stop = c.cut-end.ensures.within in
     let seek = c.seek-start.ensures.cost in
     let null = c.begins_there.ensures.cost in
-    let before = c.seek-start.ensures.shape in
+    let before = c.seek-start.ensures.keeps.shape in
     let found = kept_found p w c.args.back.now.way.all_starts k.region.root k.region.end c.seek-start.new.table.way.all_starts c.seek-start.new.self.region.root c.seek-start.new.self.region.end c.args.from c.seek-start.result c.cut-end.result
-    region.table.expr.arena c.requires.all_starts root (ap (λ v. v.all_starts) before.0 ∙ c.requires.all_starts) (c.seek-start.ensures.same.root ∙ root) c.seek-start.ensures.after low c.seek-start.ensures.passed begins c.cut-end.ensures.ceases in
+    region.table.expr.arena c.requires.all_starts root (ap (λ v. v.all_starts) before.0 ∙ c.requires.all_starts) (c.seek-start.ensures.keeps.same.root ∙ root) c.seek-start.ensures.after low c.seek-start.ensures.passed begins c.cut-end.ensures.ceases in
     record {
-      kept = c.cut-end.ensures.kept;
-      answer = (found, tt, (on, omega (arith, stop, c.seek-start.ensures.same.end, region.inside)));
+      kept = c.cut-end.ensures.keeps.kept;
+      answer = (found, tt, (on, omega (arith, stop, c.seek-start.ensures.keeps.same.end, region.inside)));
       counts = least_both c.args.steps.now c.begins_there.new.steps c.cut-end.new.steps (c.seek-start.result - c.args.from) (2 * (c.cut-end.result - c.seek-start.result) + 1) (c.cut-end.result + 1 - c.args.from)
           (least_up c.args.steps.now c.seek-start.new.steps c.begins_there.new.steps (c.seek-start.result - c.args.from) c.seek-start.ensures.counts null.0) c.cut-end.ensures.counts (omega (arith, on));
     }
 
 pub returns-clause-tables : goal.returns-clause-tables
 returns-clause-tables c =
-    let ahead = c.cut-end.ensures.shape.1 in
-    let same = c.seek-start.ensures.same in
-    let then = c.cut-end.ensures.same in
+    let ahead = c.cut-end.ensures.shape in
+    let keeps = keeps_then _ _ c.args.back.now c.seek-start.new.table c.cut-end.new.table c.args.kept.now c.seek-start.new.self c.cut-end.new.self c.seek-start.ensures.keeps c.cut-end.ensures.keeps in
     record {
       ahead = ahead_still c.args.subject.prepared.now c.args.ahead.now c.cut-end.new.ahead c.requires.ahead c.cut-end.ensures.ahead ahead;
       ahead_shape = ahead;
-      back_shape = same_shape c.args.back.now c.seek-start.new.table c.cut-end.new.table c.seek-start.ensures.shape c.cut-end.ensures.shape.0;
-      space = record { places = then.places ∙ same.places; edges = then.edges ∙ same.edges; marks = λ q. then.marks q ∙ same.marks q };
+      back_shape = keeps.shape;
+      space = keeps.same.space;
     }
 
 pub returns-clause-cost : goal.returns-clause-cost
@@ -63,7 +63,7 @@ returns-clause-cost c =
     let cut = c.cut-end.ensures.cost in (
       omega (arith, seek, null, cut),
       kept_cost m n c.args.from c.seek-start.result c.cut-end.result c.args.steps.now c.seek-start.new.steps c.begins_there.new.steps c.cut-end.new.steps _ _ _ (omega (arith, last)) c.seek-start.ensures.after on
-          (omega (arith, stop, c.seek-start.ensures.same.end, region.inside)) seek.1 null.1 cut.1,
+          (omega (arith, stop, c.seek-start.ensures.keeps.same.end, region.inside)) seek.1 null.1 cut.1,
     )
 
 pub returns-then-not-begins_there-clause-cost : goal.returns-then-not-begins_there-clause-cost

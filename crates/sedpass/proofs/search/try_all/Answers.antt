@@ -1,18 +1,16 @@
-use Rattle.std.proofs.Common.{◌≡◌, ◌+◌, ◌-◌, ◌≤◌, ℕ, length, Option, None, Some, refl, subst, arith}
+use Rattle.std.proofs.Common.{◌≡◌, ◌+◌, ◌-◌, ◌≤◌, ℕ, length, Option, None, Some, refl, subst, arith, IfSome}
 use Rattle.sedre.specs.Tree.{expression_tree}
-use Rattle.std.specs.Prelude.{IfSome}
 use Rattle.sedtext.specs.Reach.{IsLongestFrom}
 use Rattle.sedtext.proofs.SpanLemmas.{Matches-forward, Matches-within}
-use Rattle.sedpass.proofs.CountLemmas.{least_none}
 use Rattle.sedpass.proofs.KeptLemmas.{same_shape}
-use Rattle.sedpass.proofs.SearchLemmas.{ahead_still, found_at, hit_paid, hit_room, none_further, none_later, none_more, none_on, looks_tried, trial_cost, trial_is}
-use Rattle.sedpass.proofs.search.try_all.Goals as goal
+use Rattle.sedpass.proofs.SearchLemmas.{found_at, hit_paid, hit_room, none_further, none_more, none_on, looks_tried, trial_cost, trial_is}
+use Rattle.sedtext.proofs.CountLemmas.{least_none}
+use Rattle.sedpass.proofs.ForwardLemmas.{ahead_still}
 use Rattle.sedpass.proofs.search.try_all.Goals.{else-start-length-via-then-start-length+else-tried-length, else-start-length-via-else-start-length}
+use Rattle.sedpass.proofs.search.try_all.Goals as goal
 
 pub run-passed-requires-clause-from : goal.run-passed-requires-clause-from
-run-passed-requires-clause-from c =
-    let next = c.in-Some.ensures.next in
-    rw c.forwards-bytes.ensures next.1
+run-passed-requires-clause-from c = c.in-Some.ensures.next.1
 
 pub returns-in_default-clause-made : goal.returns-in_default-clause-made
 returns-in_default-clause-made c =
@@ -21,7 +19,7 @@ returns-in_default-clause-made c =
     record {
       answer = none_further (expression_tree c.args.subject.prepared.now.arena.expr) c.args.subject.text.now c.args.begins.now c.args.from c.loop-start.start c.requires.begins i.none next.next;
       few = i.room;
-      cost = (omega (arith, i.grows, next.cost), omega (arith, i.cost, next.cost));
+      cost = (omega (arith, i.cost.0, next.cost), omega (arith, i.cost.1, next.cost));
       counts = tt;
     }
 
@@ -34,7 +32,7 @@ returns-in-Some-end-clause-made c =
     let run = c.run-passed.ensures in
     let place = c.run-passed.result.place in
     let i = c.loop-start.invariant in
-    let is = trial_is (expression_tree e) w c.forwards-bytes.result c.args.begins.now c.loop-start.start first c.run-passed.result.place c.run-passed.result.end c.forwards-bytes.ensures c.requires.begins c.in-Some.ensures.next run.after run.within run.reached
+    let is = trial_is (expression_tree e) w c.args.begins.now c.loop-start.start first c.run-passed.result.place c.run-passed.result.end c.requires.begins c.in-Some.ensures.next run.after run.within run.reached
     (run.longest i.ahead.single) in
     let end = c.in-Some-end.end in
     let last = c.args.subject.prepared.now.is_prepared.last in
@@ -48,9 +46,9 @@ returns-in-Some-end-clause-made c =
       answer = (found_at e w c.args.from first end (omega (arith, i.after, is.after)) (none_on e w c.args.from c.loop-start.start first i.none is.none) long, within);
       few = rw c.saturating_sub.ensures (hit_room c.loop-start.tried place end c.args.from first (length w) _ (omega (arith, i.after, is.after)) is.passed is.within on within few);
       cost = (
-        omega (arith, i.grows, next.cost, run.cost),
+        omega (arith, i.cost.0, next.cost, run.cost),
         rw c.saturating_sub.ensures (hit_paid (length e.nodes) c.args.from c.loop-start.start first place end c.loop-start.tried c.args.tried.now c.args.steps.now c.loop-start.steps c.run-passed.new.steps (omega (arith, last))
-            is.after on is.passed i.cost paid),
+            is.after on is.passed i.cost.1 paid),
       );
       counts = looks_tried c.args.from c.loop-start.start first c.run-passed.result.place c.args.steps.now c.loop-start.steps c.next_start.new.steps c.run-passed.new.steps i.counts c.in-Some.ensures.counts run.counts (end + 1 - c.args.from) (omega (arith, reached, is.after, is.passed));
     }
@@ -64,7 +62,7 @@ returns-then-tried-length-clause-made c =
     let run = c.run-passed.ensures in
     let place = c.run-passed.result.place in
     let i = c.loop-start.invariant in
-    let is = trial_is (expression_tree e) w c.forwards-bytes.result c.args.begins.now c.loop-start.start first c.run-passed.result.place c.run-passed.result.end c.forwards-bytes.ensures c.requires.begins c.in-Some.ensures.next run.after run.within run.reached
+    let is = trial_is (expression_tree e) w c.args.begins.now c.loop-start.start first c.run-passed.result.place c.run-passed.result.end c.requires.begins c.in-Some.ensures.next run.after run.within run.reached
     (run.longest i.ahead.single) in
     let within = c.if-start-length.true in
     let len = c.len-length.ensures.is in
@@ -78,7 +76,7 @@ returns-then-tried-length-clause-made c =
         none_more e w c.args.from first (none_on e w c.args.from c.loop-start.start first i.none is.none) (subst (IsLongestFrom (expression_tree e) w first) none is.longest),
       );
       few = omega (arith, few, is.passed, is.within, i.after, is.after);
-      cost = (omega (arith, i.grows, next.cost, run.cost), omega (arith, i.cost, paid));
+      cost = (omega (arith, i.cost.0, next.cost, run.cost), omega (arith, i.cost.1, paid));
       counts = looks_tried c.args.from c.loop-start.start first c.run-passed.result.place c.args.steps.now c.loop-start.steps c.next_start.new.steps c.run-passed.new.steps i.counts c.in-Some.ensures.counts run.counts (first + 1 - c.args.from) (omega (arith, is.after));
     }
 
@@ -88,9 +86,9 @@ returns-clause-made c =
     let end = c.loop-start-test.false in
     let len = c.len-length.ensures.is in
     record {
-      answer = none_later c.args.subject.prepared.now.arena.expr c.args.subject.text.now c.args.from c.loop-start.start i.none (omega (arith, end, len));
+      answer = λ h k low high. i.none h k low (omega (arith, high, end, len));
       few = i.room;
-      cost = (i.grows, omega (arith, i.cost, i.within));
+      cost = (i.cost.0, omega (arith, i.cost.1, i.within));
       counts = tt;
     }
 
@@ -103,9 +101,8 @@ loop-start-init c = record {
   within = omega arith;
   few = λ h. omega arith;
   room = omega arith;
-  grows = omega arith;
   counts = least_none c.args.steps.now (c.args.from - c.args.from) (omega arith);
-  cost = omega arith;
+  cost = (omega arith, omega arith);
 }
 
 pub loop-start-preserved : goal.loop-start-preserved
@@ -115,7 +112,7 @@ loop-start-preserved c =
     let first = c.in-Some.first in
     let run = c.run-passed.ensures in
     let i = c.loop-start.invariant in
-    let is = trial_is (expression_tree e) w c.forwards-bytes.result c.args.begins.now c.loop-start.start first c.run-passed.result.place c.run-passed.result.end c.forwards-bytes.ensures c.requires.begins c.in-Some.ensures.next run.after run.within run.reached
+    let is = trial_is (expression_tree e) w c.args.begins.now c.loop-start.start first c.run-passed.result.place c.run-passed.result.end c.requires.begins c.in-Some.ensures.next run.after run.within run.reached
     (run.longest i.ahead.single) in
     let none : c.run-passed.result.end ≡ None = cc in
     let next = c.in-Some.ensures.cost in
@@ -132,7 +129,6 @@ loop-start-preserved c =
         | else-start-length-via-else-start-length w ↦ (let f = w.if-start-length.false in let g = c.len-length.ensures.is in absurd (omega (arith, f, g, h)))
       ];
       room = omega (arith, few, is.passed, is.within, i.after, is.after);
-      grows = omega (arith, i.grows, next, run.cost);
       counts = looks_tried c.args.from c.loop-start.start first c.run-passed.result.place c.args.steps.now c.loop-start.steps c.next_start.new.steps c.run-passed.new.steps i.counts c.in-Some.ensures.counts run.counts (first + 1 - c.args.from) (omega (arith, is.after));
-      cost = omega (arith, i.cost, paid);
+      cost = (omega (arith, i.cost.0, next, run.cost), omega (arith, i.cost.1, paid));
     }

@@ -3,6 +3,7 @@ use Rattle.sedtext.specs.Beginnings.{NoneIn}
 use Rattle.sedre.specs.Tree.{expression_tree}
 use Rattle.sedre.specs.Steps.{TakesAtLeast}
 use Rattle.sedpass.specs.Table.{IsAhead, SameShape}
+use Rattle.sedtext.specs.Costs.{CostsWithin}
 use Rattle.sedpass.proofs.search.try_all.Given as goal
 
 abbrev pub invariant-loop-start : goal.invariant-loop-start
@@ -14,10 +15,8 @@ invariant-loop-start l = record {
   within : l.start ≤ length l.subject.text.now + 1;
   few : l.start ≤ length l.subject.text.now → l.tried ≤ max l.initial.tried (length l.subject.text.now / 8);
   room : l.tried ≤ max l.initial.tried (length l.subject.text.now / 8) + (length l.subject.text.now + 1 - l.from);
-  grows : l.initial.steps ≤ l.steps;
   counts : TakesAtLeast l.initial.steps l.steps (l.start - l.from);
-  cost : l.steps + (40 * length l.subject.prepared.now.arena.expr.nodes * l.initial.tried + l.from)
-      ≤ l.initial.steps + (40 * length l.subject.prepared.now.arena.expr.nodes * l.tried + l.start);
+  cost : CostsWithin l.initial.steps l.steps (40 * length l.subject.prepared.now.arena.expr.nodes * l.tried + l.start) (40 * length l.subject.prepared.now.arena.expr.nodes * l.initial.tried + l.from);
 }
 
 abbrev pub decreases-loop-start : goal.decreases-loop-start

@@ -1,10 +1,11 @@
-use Rattle.std.proofs.Common.{arith}
+use Rattle.std.proofs.Common.{subst, arith}
+use Rattle.sedtext.specs.Forms.{IsOfSet}
 use Rattle.sedtext.proofs.TimesLemmas.{times_set, times_group, width_at, if_sum}
 use Rattle.sedtext.proofs.times.width_of.Goals as goal
 
-pub returns-then-same_bytes-clause-width : goal.returns-then-same_bytes-clause-width
-returns-then-same_bytes-clause-width c =
-    times_set c.args.expr.now.nodes c.args.index c.args.set.now c.in-Byte.other c.in-Byte.ensures.form (c.same_bytes.ensures c.if-same_bytes.true)
+pub returns-then-same-clause-width : goal.returns-then-same-clause-width
+returns-then-same-clause-width c =
+    times_set c.args.expr.now.nodes c.args.index c.args.set.now (subst (IsOfSet c.args.expr.now.nodes c.args.index) (c.same.ensures.0 c.if-same.true) c.in-Byte.ensures.form)
 
 pub returns-in-Both-clause-width : goal.returns-in-Both-clause-width
 returns-in-Both-clause-width c =

@@ -1,4 +1,4 @@
-use Rattle.sedpass.proofs.EmptyLemmas.{empty_expr}
+use Rattle.sedpass.proofs.FactLemmas.{empty_expr}
 use Rattle.sedpass.proofs.arena.Arena.with_room.Goals as goal
 
 pub invariant_of-result : goal.invariant_of-result

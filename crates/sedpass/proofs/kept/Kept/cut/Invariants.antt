@@ -1,25 +1,21 @@
-use Rattle.std.proofs.Common.{◌+◌, ◌-◌, ◌*◌, ◌≤◌}
-use Rattle.std.specs.Prelude.{length}
+use Rattle.std.proofs.Common.{◌+◌, ◌-◌, ◌*◌, ◌≤◌, length}
 use Rattle.sedre.specs.Steps.{TakesAtLeast}
 use Rattle.sedpass.specs.Table.{IsOffset, IsTable, SameShape}
-use Rattle.sedpass.specs.Kept.{Follows, IsKept, Meet, SameKept, owed}
+use Rattle.sedpass.specs.Kept.{Follows, KeepsRegion, Meet, owed}
+use Rattle.sedtext.specs.Costs.{CostsWithin}
 use Rattle.sedpass.proofs.kept.Kept.cut.Given as goal
 
 abbrev pub invariant-loop-place : goal.invariant-loop-place
 invariant-loop-place l = record {
   above : l.from ≤ l.place;
   below : l.place ≤ l.self.region.end;
-  kept : IsKept l.subject.prepared.now l.subject.text.now l.table l.self;
+  keeps : KeepsRegion l.subject.prepared.now l.subject.text.now l.initial.table l.table l.fn.self l.self;
   ahead : IsTable l.subject.prepared.now l.ahead;
-  shape : SameShape l.initial.table l.table;
   ahead_shape : SameShape l.initial.ahead l.ahead;
-  same : SameKept l.initial.self l.self;
   offset : IsOffset l.ahead l.offset;
   follows : Follows l.subject.prepared.now l.subject.text.now l.ahead l.a l.from l.place l.offset;
   meets : Meet l.subject.prepared.now l.subject.text.now l.initial.table l.initial.self l.a l.from l.from l.place;
-  grows : l.initial.steps ≤ l.steps;
-  cost : l.steps + owed (length l.subject.prepared.now.arena.expr.nodes) l.self.region l.place + 36 * length l.subject.prepared.now.arena.expr.nodes * l.from
-      ≤ l.initial.steps + owed (length l.subject.prepared.now.arena.expr.nodes) l.initial.self.region l.from + 36 * length l.subject.prepared.now.arena.expr.nodes * l.place;
+  cost : CostsWithin l.initial.steps l.steps (owed (length l.subject.prepared.now.arena.expr.nodes) l.initial.self.region l.from + 36 * length l.subject.prepared.now.arena.expr.nodes * l.place) (owed (length l.subject.prepared.now.arena.expr.nodes) l.self.region l.place + 36 * length l.subject.prepared.now.arena.expr.nodes * l.from);
   counts : TakesAtLeast l.initial.steps l.steps (2 * (l.place - l.from));
 }
 

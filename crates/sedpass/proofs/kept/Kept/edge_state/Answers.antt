@@ -1,9 +1,8 @@
-use Rattle.std.proofs.Common.{◌≡◌, ◌*◌, ◌/◌, ◌^◌, ◌↔◌, subst, IsTrue, arith}
-use Rattle.std.specs.Prelude.{length}
+use Rattle.std.proofs.Common.{◌≡◌, ◌*◌, ◌/◌, ◌^◌, ◌↔◌, subst, IsTrue, arith, length}
 use Rattle.sedpass.specs.Table.{state_of}
-use Rattle.sedpass.proofs.CountLemmas.{least_fewer}
 use Rattle.sedpass.proofs.TableLemmas.{names_offset, names_state}
 use Rattle.sedpass.proofs.KeptLemmas.{first_at, load_at}
+use Rattle.sedtext.proofs.CountLemmas.{least_less}
 use Rattle.sedpass.proofs.kept.Kept.edge_state.Goals as goal
 
 pub returns-then-place-self-clause-there : goal.returns-then-place-self-clause-there
@@ -34,4 +33,4 @@ returns-clause-at c =
 pub returns-clause-counts : goal.returns-clause-counts
 returns-clause-counts c =
     let some = c.requires.region.table.expr.arena.nonempty in
-    least_fewer c.args.steps.now c.load-code.new.steps (2 * length c.args.subject.prepared.now.arena.expr.nodes) 1 (omega (arith, some)) c.load-code.ensures.counts
+    least_less c.args.steps.now c.load-code.new.steps (2 * length c.args.subject.prepared.now.arena.expr.nodes) 1 c.load-code.ensures.counts (omega (arith, some))

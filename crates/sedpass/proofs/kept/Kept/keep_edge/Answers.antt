@@ -1,5 +1,4 @@
-use Rattle.std.proofs.Common.{◌≡◌, ◌+◌, ◌-◌, ◌*◌, ◌/◌, ◌^◌, ◌<◌, refl, ◌∙◌, subst, arith}
-use Rattle.std.specs.Prelude.{length}
+use Rattle.std.proofs.Common.{◌≡◌, ◌+◌, ◌-◌, ◌*◌, ◌/◌, ◌^◌, ◌<◌, refl, ◌∙◌, subst, arith, length}
 use Rattle.sedtext.specs.Words.{AgreeBelow, row_of}
 use Rattle.sedpass.specs.Kept.{IsRegion}
 use Rattle.sedpass.proofs.KeptLemmas.{edges_more, edges_none, rows_long}
@@ -12,7 +11,7 @@ returns-clause-edges c b after before =
     let m = length c.args.subject.prepared.now.arena.expr.nodes in
     let region : IsRegion c.args.subject.prepared.now c.args.subject.text.now t k = c.requires.passes.region in
     let q = c.args.offset / 2 ^ t.layout.shift in
-    let some = region.table.room.some in
+    let some = region.table.room.rows.some in
     let at : c.args.place ≡ c.args.block * (t.room - 1) + (t.room - 1) = c.requires.right (let h = c.if-place-self.false in omega (arith, h)) in
     let there : 2 * c.args.block + 1 < length k.edges = region.room.blocks c.args.block (let h = c.requires.passes.within in let g = region.inside in omega arith) in
     edges_more c.args.subject.prepared.now c.args.subject.text.now t.way k.region.root k.region.end (t.room - 1) c.args.block k.edges c.store.new.self c.store-2.new.self c.load.new.marks c.load-2.new.marks (row_of t.leaves q) (row_of t.ends q)
@@ -27,7 +26,7 @@ pub returns-clause-same : goal.returns-clause-same
 returns-clause-same c =
     let one = c.store.ensures in
     let two = c.store-2.ensures in
-    record { root = refl; end = refl; places = refl; edges = two.len ∙ one.len; marks = rows_long c.args.self.now.edges c.store.new.self c.store-2.new.self one.len two.len one.lens two.lens }
+    record { root = refl; end = refl; space = record { places = refl; edges = two.len ∙ one.len; marks = rows_long c.args.self.now.edges c.store.new.self c.store-2.new.self one.len two.len one.lens two.lens } }
 
 pub returns-then-place-self-clause-edges : goal.returns-then-place-self-clause-edges
 returns-then-place-self-clause-edges c =

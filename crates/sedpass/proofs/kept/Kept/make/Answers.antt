@@ -1,7 +1,7 @@
 use Rattle.std.proofs.Common.{◌-◌, ◌*◌, ◌/◌, refl, ap, ◌∙◌, arith}
 use Rattle.sedpass.specs.Kept.{EdgesFrom}
-use Rattle.sedpass.proofs.CountLemmas.{least_none, least_both, least_since}
-use Rattle.sedpass.proofs.KeptLemmas.{block_cost, block_right, edges_same, kept_passed, make_cost, passes_first, same_kept, same_shape}
+use Rattle.sedpass.proofs.KeptLemmas.{block_cost, block_right, edges_same, kept_passed, make_cost, passes_first, same_kept, same_shape, same_by}
+use Rattle.sedtext.proofs.CountLemmas.{least_none, least_both, least_since}
 use Rattle.sedpass.proofs.kept.Kept.make.Goals as goal
 
 pub loop-place-init : goal.loop-place-init
@@ -17,17 +17,16 @@ loop-place-init c =
       edges = λ b above before. absurd (omega (arith, above, before, end_is));
       right = λ some before. absurd (omega arith);
       shape = (refl, refl, refl, refl, refl);
-      same = record { root = refl; end = refl; places = refl; edges = refl; marks = λ q. refl };
+      same = record { root = refl; end = refl; space = record { places = refl; edges = refl; marks = λ q. refl } };
       to = λ before. absurd (omega arith);
-      grows = omega arith;
-      cost = omega arith;
+      cost = (omega arith, omega arith);
       counts = least_none _ _ (omega arith);
     }
 
 pub keep_edge-requires-clause-right : goal.keep_edge-requires-clause-right
 keep_edge-requires-clause-right c before =
     let old = c.loop-place.invariant in
-    let some = old.passes.region.table.room.some in
+    let some = old.passes.region.table.room.rows.some in
     let on = c.loop-place-test.true in
     let is = old.end_is in
     let at = old.right (omega (arith, on)) (omega (arith, before, is)) in
@@ -51,26 +50,30 @@ loop-place-preserved c =
       shape = same_shape c.edge_state-offset.new.table c.loop-place.table c.pass-offset.new.table before.shape now.down.shape;
       same = same_kept _ c.keep_edge.new.self c.pass-offset.new.self (same_kept _ c.loop-place.self c.keep_edge.new.self before.same edge.same) now.down.same;
       to = λ below. now.to;
-      grows = (let h = before.grows in let g = edge.cost.0 in let f = now.cost.0 in omega (arith, h, g, f));
-      cost = (let h = before.cost in let g = block_cost _ least c.loop-place.place c.loop-place.steps c.keep_edge.new.steps c.pass-offset.new.steps (omega arith) edge.cost.1 now.cost.1 in omega (arith, h, g));
+      cost = ((let h = before.cost.0 in let g = edge.cost.0 in let f = now.cost.0 in omega (arith, h, g, f)), (let h = before.cost.1 in let g = block_cost _ least c.loop-place.place c.loop-place.steps c.keep_edge.new.steps c.pass-offset.new.steps (omega arith) edge.cost.1 now.cost.1 in omega (arith, h, g)));
       counts = least_both _ c.loop-place.steps _ _ (2 * (c.loop-place.place - least)) _ before.counts (least_since _ c.keep_edge.new.steps _ _ edge.cost.0 now.counts) (let h = before.below in omega (arith, h));
     }
 
-pub returns-clause-kept : goal.returns-clause-kept
-returns-clause-kept c =
+pub returns-clause-keeps : goal.returns-clause-keeps
+returns-clause-keeps c =
     let p = c.args.subject.prepared.now in
     let w = c.args.subject.text.now in
     let last = c.loop-place.invariant in
     let edges : EdgesFrom p w c.loop-place.table c.loop-place.self c.args.low =
     edges_same p w c.loop-place.table c.loop-place.table c.loop-place.self c.loop-place.self c.loop-place.place c.args.low (refl, refl, refl, refl, refl) refl refl refl (omega arith) last.edges in
-    kept_passed p w c.loop-place.table c.loop-place.self _ c.loop-place.place c.loop-place.offset last.passes edges (omega arith) (omega arith) refl refl refl refl refl
+    let first = c.edge_state-offset.ensures in
+    record {
+      kept = kept_passed p w c.loop-place.table c.loop-place.self _ c.loop-place.place c.loop-place.offset last.passes edges (omega arith) (omega arith) refl refl refl refl refl;
+      shape = same_shape c.args.table.now c.edge_state-offset.new.table c.loop-place.table first.adds.shape last.shape;
+      same = same_kept c.args.self.now c.loop-place.self _
+          (same_kept c.args.self.now _ c.loop-place.self (same_by c.args.self.now _ (ap (λ r. r.root) first.region) (ap (λ r. r.end) first.region) first.states first.edges) last.same) (same_by c.loop-place.self _ refl refl refl refl);
+    }
 
 pub returns-clause-cost : goal.returns-clause-cost
 returns-clause-cost c =
     let one = c.edge_state-offset.ensures.cost in
     let last = c.loop-place.invariant in
-    let grows = last.grows in
-    (omega (arith, one.0, grows), make_cost _ c.args.low (c.args.self.now.region.end - c.args.low) c.loop-place.place c.args.self.now.region.end _ c.edge_state-offset.new.steps _ (omega arith) (omega arith) one.1 last.cost)
+    (omega (arith, one.0, last.cost.0), make_cost _ c.args.low (c.args.self.now.region.end - c.args.low) c.loop-place.place c.args.self.now.region.end _ c.edge_state-offset.new.steps _ (omega arith) (omega arith) one.1 last.cost.1)
 
 pub returns-clause-counts : goal.returns-clause-counts
 returns-clause-counts c = least_both _ c.edge_state-offset.new.steps _ _ _ _ c.edge_state-offset.ensures.counts c.loop-place.invariant.counts (omega arith)

@@ -1,8 +1,8 @@
-use Rattle.std.proofs.Common.{◌≡◌, ℕ, ◌+◌, ◌-◌, ◌*◌, ◌<◌, ◌≤◌}
-use Rattle.std.specs.Prelude.{length}
+use Rattle.std.proofs.Common.{◌≡◌, ℕ, ◌-◌, ◌*◌, ◌<◌, ◌≤◌, length}
 use Rattle.sedre.specs.Steps.{TakesAtLeast}
 use Rattle.sedpass.specs.Table.{SameShape}
 use Rattle.sedpass.specs.Kept.{EdgesFrom, PassesDownTo, SameKept}
+use Rattle.sedtext.specs.Costs.{CostsWithin}
 use Rattle.sedpass.proofs.kept.Kept.make.Given as goal
 
 abbrev pub invariant-loop-place : goal.invariant-loop-place
@@ -16,8 +16,7 @@ invariant-loop-place l = record {
   shape : SameShape l.initial.table l.table;
   same : SameKept l.initial.self l.self;
   to : l.place < l.end → l.place < l.self.region.to;
-  grows : l.initial.steps ≤ l.steps;
-  cost : l.steps + 39 * length l.subject.prepared.now.arena.expr.nodes * l.place ≤ l.initial.steps + 39 * length l.subject.prepared.now.arena.expr.nodes * l.end;
+  cost : CostsWithin l.initial.steps l.steps (39 * length l.subject.prepared.now.arena.expr.nodes * l.end) (39 * length l.subject.prepared.now.arena.expr.nodes * l.place);
   counts : TakesAtLeast l.initial.steps l.steps (2 * (l.end - l.place));
 }
 

@@ -1,11 +1,9 @@
-use Rattle.std.proofs.Common.{rules, ◌≡◌, ◌+◌, ◌<◌, ◌≤◌, refl, sym, ap, ◌∙◌, subst, true≢false, arith}
-use Rattle.std.specs.Prelude.{length, slice_index_or}
+use Rattle.std.proofs.Common.{rules, ◌≡◌, ◌+◌, ◌<◌, ◌≤◌, refl, sym, ap, ◌∙◌, subst, true≢false, arith, length, slice_index_or}
 use Rattle.std.proofs.lemmas.Bool.{eqb-true, eq-eqb}
 use Rattle.sedpass.specs.Kept.{Follows, Meet}
-use Rattle.sedpass.proofs.AheadLemmas.{follows_next, meet_on, meet_read, place_cost}
-use Rattle.sedpass.proofs.CountLemmas.{least_none, least_both, least_since, least_up}
-use Rattle.sedpass.proofs.KeptLemmas.{kept_row, least_then, same_shape}
+use Rattle.sedpass.proofs.KeptLemmas.{kept_row, same_shape, follows_next, meet_on, meet_read, place_cost}
 use Rattle.sedpass.proofs.TableLemmas.{names_offset, names_state}
+use Rattle.sedtext.proofs.CountLemmas.{least_none, least_both, least_since, least_up, least_counted}
 use Rattle.sedpass.proofs.kept.Kept.meet.Goals as goal
 
 pub loop-place-init : goal.loop-place-init
@@ -19,8 +17,7 @@ loop-place-init c = record {
   shape = (refl, refl, refl, refl, refl);
   offset = c.requires.offset;
   meets = λ a i low start follows. (follows, λ q after before. absurd (omega (arith, after, before)));
-  grows = omega arith;
-  cost = omega arith;
+  cost = (omega arith, omega arith);
   counts = least_none _ _ (omega arith);
 }
 
@@ -99,10 +96,9 @@ loop-place-preserved c =
                 (names_state p c.next-code.new.self next.codes.table _ _ _ next.codes.names c.offset_of-offset.ensures) on.0,
             meet_on p w t k a i c.args.from place on.1 (tells.0 c.if-not-meets.false),
           );
-      grows = (let h = old.grows in let g = c.meets.ensures.cost.0 in let f = c.byte-byte.ensures.cost.0 in let e = next.cost.0 in omega (arith, h, g, f, e));
-      cost = place_cost m c.args.from place c.loop-place.steps c.args.steps.now c.meets.new.steps c.byte-byte.new.steps c.next-code.new.steps some old.cost (let h = c.meets.ensures.cost.1 in omega (arith, h, count)) c.byte-byte.ensures.cost.1 next.cost.1;
+      cost = ((let h = old.cost.0 in let g = c.meets.ensures.cost.0 in let f = c.byte-byte.ensures.cost.0 in let e = next.cost.0 in omega (arith, h, g, f, e)), place_cost m c.args.from place c.loop-place.steps c.args.steps.now c.meets.new.steps c.byte-byte.new.steps c.next-code.new.steps some old.cost.1 (let h = c.meets.ensures.cost.1 in omega (arith, h, count)) c.byte-byte.ensures.cost.1 next.cost.1);
       counts = least_both _ c.loop-place.steps _ _ 2 _ old.counts
-          (least_since _ c.meets.new.steps _ _ c.meets.ensures.cost.0 (least_then _ c.byte-byte.new.steps _ 1 1 2 c.byte-byte.ensures.counts next.counts refl)) (let h = old.above in omega (arith, h));
+          (least_since _ c.meets.new.steps _ _ c.meets.ensures.cost.0 (least_both _ c.byte-byte.new.steps _ 1 1 2 (least_counted _ _ 1 1 c.byte-byte.ensures.counts (omega arith)) next.counts (omega arith))) (let h = old.above in omega (arith, h));
     }
 
 pub returns-clause-meets : goal.returns-clause-meets

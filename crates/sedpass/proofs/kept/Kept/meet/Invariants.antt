@@ -1,8 +1,8 @@
-use Rattle.std.proofs.Common.{◌≡◌, ℕ, ◌+◌, ◌-◌, ◌*◌, ◌≤◌}
-use Rattle.std.specs.Prelude.{length}
+use Rattle.std.proofs.Common.{◌≡◌, ℕ, ◌-◌, ◌*◌, ◌≤◌, length}
 use Rattle.sedre.specs.Steps.{TakesAtLeast}
 use Rattle.sedpass.specs.Table.{IsOffset, IsTable, SameShape}
 use Rattle.sedpass.specs.Kept.{Follows, Meet}
+use Rattle.sedtext.specs.Costs.{CostsWithin}
 use Rattle.sedpass.proofs.kept.Kept.meet.Given as goal
 
 abbrev pub invariant-loop-place : goal.invariant-loop-place
@@ -17,7 +17,6 @@ invariant-loop-place l = record {
   offset : IsOffset l.ahead l.offset;
   meets : (a i : ℕ) → a ≤ l.initial.self.region.root → i ≤ l.from → Follows l.subject.prepared.now l.subject.text.now l.initial.ahead a i l.from l.initial.offset →
       Follows l.subject.prepared.now l.subject.text.now l.ahead a i l.place l.offset × Meet l.subject.prepared.now l.subject.text.now l.table l.initial.self a i l.from l.place;
-  grows : l.initial.steps ≤ l.steps;
-  cost : l.steps + 36 * length l.subject.prepared.now.arena.expr.nodes * l.from ≤ l.initial.steps + 36 * length l.subject.prepared.now.arena.expr.nodes * l.place;
+  cost : CostsWithin l.initial.steps l.steps (36 * length l.subject.prepared.now.arena.expr.nodes * l.place) (36 * length l.subject.prepared.now.arena.expr.nodes * l.from);
   counts : TakesAtLeast l.initial.steps l.steps (2 * (l.place - l.from));
 }

@@ -1,21 +1,19 @@
-use Rattle.std.proofs.Common.{◌≡◌, ◌+◌, ◌-◌, ◌*◌, inl, inr, refl, subst, arith}
-use Rattle.std.specs.Prelude.{length}
+use Rattle.std.proofs.Common.{◌≡◌, ◌+◌, ◌-◌, ◌*◌, inl, inr, refl, subst, arith, length}
 use Rattle.std.proofs.lemmas.Bool.{eqb-true, eq-eqb}
 use Rattle.sedpass.specs.Kept.{ComesDown}
-use Rattle.sedpass.proofs.CountLemmas.{least_none, least_both}
-use Rattle.sedpass.proofs.KeptLemmas.{comes_down, down_cost, least_then}
+use Rattle.sedpass.proofs.KeptLemmas.{comes_down, down_cost}
 use Rattle.sedpass.proofs.TableLemmas.{names_offset, names_state}
+use Rattle.sedtext.proofs.CountLemmas.{least_none, least_both, least_counted}
 use Rattle.sedpass.proofs.kept.Kept.pass.Goals as goal
 
 pub loop-place-init : goal.loop-place-init
 loop-place-init c = record {
   order = omega arith;
   below = omega arith;
-  down = record { passes = c.requires.passes; shape = (refl, refl, refl, refl, refl); same = record { root = refl; end = refl; places = refl; edges = refl; marks = λ q. refl }; low = refl; from = refl; edges = refl };
+  down = record { passes = c.requires.passes; shape = (refl, refl, refl, refl, refl); same = record { root = refl; end = refl; space = record { places = refl; edges = refl; marks = λ q. refl } }; low = refl; from = refl; edges = refl };
   to = λ h. absurd (omega arith);
   steady = λ h. (refl, h);
-  grows = omega arith;
-  cost = omega arith;
+  cost = (omega arith, omega arith);
   counts = least_none _ _ (omega arith);
 }
 
@@ -23,7 +21,7 @@ pub overflow_cast-state_at : goal.overflow_cast-state_at
 overflow_cast-state_at c =
     let codes = c.next-code.ensures.codes in
     let low = (names_offset c.args.subject.prepared.now c.next-code.new.self codes.table _ _ _ codes.names c.offset_of-offset.ensures).0 in
-    omega (arith, c.state_at.ensures, low, codes.table.room.count, codes.table.room.few)
+    omega (arith, c.state_at.ensures, low, codes.table.room.count, codes.table.room.rows.few)
 
 pub loop-place-preserved : goal.loop-place-preserved
 loop-place-preserved c =
@@ -44,9 +42,8 @@ loop-place-preserved c =
           (names_state p after next.codes.table _ _ _ next.codes.names c.offset_of-offset.ensures);
       to = λ h. (let g = before.down.passes.above in omega (arith, g));
       steady = λ h. (let s = before.steady h in let up = (next.codes.adds.grows c.if-table-epoch.false).1 in (s.0, (let g = s.1 in omega (arith, g, up))));
-      grows = (let g = before.grows in let f = next.cost.0 in let h = c.byte-byte.ensures.cost.0 in omega (arith, g, f, h));
-      cost = down_cost (35 * length p.arena.expr.nodes) place c.loop-place.place c.loop-place.steps c.next-code.new.steps _ above (let f = next.cost.1 in let h = c.byte-byte.ensures.cost.1 in omega (arith, f, h, some)) before.cost;
-      counts = least_both _ _ _ _ 2 _ before.counts (least_then _ c.byte-byte.new.steps _ 1 1 2 c.byte-byte.ensures.counts next.counts refl) (omega arith);
+      cost = ((let g = before.cost.0 in let f = next.cost.0 in let h = c.byte-byte.ensures.cost.0 in omega (arith, g, f, h)), down_cost (35 * length p.arena.expr.nodes) place c.loop-place.place c.loop-place.steps c.next-code.new.steps _ above (let f = next.cost.1 in let h = c.byte-byte.ensures.cost.1 in omega (arith, f, h, some)) before.cost.1);
+      counts = least_both _ _ _ _ 2 _ before.counts (least_both _ c.byte-byte.new.steps _ 1 1 2 (least_counted _ _ 1 1 c.byte-byte.ensures.counts (omega arith)) next.counts (omega arith)) (omega arith);
     }
 
 pub loop-place-preserved-then-table-epoch : goal.loop-place-preserved-then-table-epoch
@@ -68,7 +65,6 @@ loop-place-preserved-then-table-epoch c =
           (names_state p after next.codes.table _ _ _ next.codes.names c.offset_of-offset.ensures);
       to = λ h. omega arith;
       steady = λ h. (let s = before.steady h in let room = before.down.shape.1 in absurd (c.if-table-epoch.true (next.codes.adds.full (let g = s.1 in omega (arith, g, room)))));
-      grows = (let g = before.grows in let f = next.cost.0 in let h = c.byte-byte.ensures.cost.0 in omega (arith, g, f, h));
-      cost = down_cost (35 * length p.arena.expr.nodes) place c.loop-place.place c.loop-place.steps c.next-code.new.steps _ above (let f = next.cost.1 in let h = c.byte-byte.ensures.cost.1 in omega (arith, f, h, some)) before.cost;
-      counts = least_both _ _ _ _ 2 _ before.counts (least_then _ c.byte-byte.new.steps _ 1 1 2 c.byte-byte.ensures.counts next.counts refl) (omega arith);
+      cost = ((let g = before.cost.0 in let f = next.cost.0 in let h = c.byte-byte.ensures.cost.0 in omega (arith, g, f, h)), down_cost (35 * length p.arena.expr.nodes) place c.loop-place.place c.loop-place.steps c.next-code.new.steps _ above (let f = next.cost.1 in let h = c.byte-byte.ensures.cost.1 in omega (arith, f, h, some)) before.cost.1);
+      counts = least_both _ _ _ _ 2 _ before.counts (least_both _ c.byte-byte.new.steps _ 1 1 2 (least_counted _ _ 1 1 c.byte-byte.ensures.counts (omega arith)) next.counts (omega arith)) (omega arith);
     }

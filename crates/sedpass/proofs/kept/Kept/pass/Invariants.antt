@@ -1,7 +1,7 @@
-use Rattle.std.proofs.Common.{◌≡◌, ◌+◌, ◌-◌, ◌*◌, ◌<◌, ◌≤◌}
-use Rattle.std.specs.Prelude.{length}
+use Rattle.std.proofs.Common.{◌≡◌, ◌+◌, ◌-◌, ◌*◌, ◌<◌, ◌≤◌, length}
 use Rattle.sedre.specs.Steps.{TakesAtLeast}
 use Rattle.sedpass.specs.Kept.{ComesDown}
+use Rattle.sedtext.specs.Costs.{CostsWithin}
 use Rattle.sedpass.proofs.kept.Kept.pass.Given as goal
 
 abbrev pub invariant-loop-place : goal.invariant-loop-place
@@ -12,7 +12,6 @@ invariant-loop-place l = record {
   to : l.place < l.high → l.place < l.self.region.to;
   steady : l.initial.table.count + (l.high - l.low) ≤ l.initial.table.room →
       (l.self.region.to ≡ l.initial.self.region.to) × (l.table.count + (l.place - l.low) ≤ l.initial.table.room);
-  grows : l.initial.steps ≤ l.steps;
-  cost : l.steps + 35 * length l.subject.prepared.now.arena.expr.nodes * l.place ≤ l.initial.steps + 35 * length l.subject.prepared.now.arena.expr.nodes * l.high;
+  cost : CostsWithin l.initial.steps l.steps (35 * length l.subject.prepared.now.arena.expr.nodes * l.high) (35 * length l.subject.prepared.now.arena.expr.nodes * l.place);
   counts : TakesAtLeast l.initial.steps l.steps (2 * (l.high - l.place));
 }

@@ -1,17 +1,16 @@
-use Rattle.std.proofs.Common.{◌≡◌, ◌+◌, ◌-◌, ◌*◌, ◌/◌, ◌<◌, ◌≤◌, refl, sym, ap, ◌∙◌, subst, arith}
-use Rattle.std.specs.Prelude.{length}
+use Rattle.std.proofs.Common.{◌≡◌, ◌+◌, ◌-◌, ◌*◌, ◌/◌, ◌<◌, ◌≤◌, refl, sym, ap, ◌∙◌, subst, arith, length}
 use Rattle.std.proofs.Math.Nat.{div-mul-le_self, lt-div-mul-add}
 use Rattle.sedre.specs.Steps.{TakesAtLeast}
 use Rattle.sedpass.specs.Kept.{EdgesFrom, again}
-use Rattle.sedpass.proofs.CountLemmas.{least_since}
-use Rattle.sedpass.proofs.KeptLemmas.{added_few, edges_same, kept_passed, same_shape}
+use Rattle.sedpass.proofs.KeptLemmas.{added_few, edges_same, kept_passed, same_shape, same_by, same_kept}
 use Rattle.sedpass.proofs.OwedLemmas.{again_cost}
+use Rattle.sedtext.proofs.CountLemmas.{least_since}
 use Rattle.sedpass.proofs.kept.Kept.remake.Goals as goal
 
 pub edge_state-offset-requires-clause-edge : goal.edge_state-offset-requires-clause-edge
 edge_state-offset-requires-clause-edge c before =
     let width = c.args.table.now.room - 1 in
-    let some = c.requires.kept.region.table.room.some in
+    let some = c.requires.kept.region.table.room.rows.some in
     let after : c.args.place < c.args.place / width * width + width = lt-div-mul-add (omega (arith, some)) in
     let low = c.requires.low in
     let shape = c.empty.ensures.shape in
@@ -20,53 +19,59 @@ edge_state-offset-requires-clause-edge c before =
 pub pass-requires-clause-order : goal.pass-requires-clause-order
 pass-requires-clause-order c =
     let width = c.args.table.now.room - 1 in
-    let some = c.requires.kept.region.table.room.some in
+    let some = c.requires.kept.region.table.room.rows.some in
     let from : c.args.place / width * width ≤ c.args.place = div-mul-le_self c.args.place width in
     let to : c.args.place < c.args.place / width * width + width = lt-div-mul-add (omega (arith, some)) in
     let before = c.requires.place in
     omega (arith, from, to, before)
 
-pub returns-clause-kept : goal.returns-clause-kept
-returns-clause-kept c =
+pub returns-clause-keeps : goal.returns-clause-keeps
+returns-clause-keeps c =
     let p = c.args.subject.prepared.now in
     let w = c.args.subject.text.now in
     let now = c.pass.ensures in
     let old = c.edge_state-offset.ensures in
     let low = now.down.low ∙ ap (λ r. r.low) old.region in
+    let root = ap (λ r. r.root) old.region in
+    let end = ap (λ r. r.end) old.region in
+    let shape = same_shape c.args.table.now c.empty.new.self c.pass.new.table c.empty.ensures.shape (same_shape c.empty.new.self c.edge_state-offset.new.table c.pass.new.table old.adds.shape now.down.shape) in
     let edges : EdgesFrom p w c.pass.new.table c.pass.new.self c.pass.new.self.region.low =
-    edges_same p w c.args.table.now c.pass.new.table c.args.self.now c.pass.new.self c.args.self.now.region.low c.pass.new.self.region.low
-    (same_shape c.args.table.now c.empty.new.self c.pass.new.table c.empty.ensures.shape (same_shape c.empty.new.self c.edge_state-offset.new.table c.pass.new.table old.adds.shape now.down.shape)) (now.down.edges ∙ old.edges)
-    (now.down.same.root ∙ ap (λ r. r.root) old.region) (now.down.same.end ∙ ap (λ r. r.end) old.region) (omega (arith, low)) c.requires.kept.edges in
-    kept_passed p w c.pass.new.table c.pass.new.self c.pass.new.self c.args.place c.pass.result now.down.passes edges (let h = c.requires.low in omega (arith, low, h)) now.down.from refl refl refl refl refl
+    edges_same p w c.args.table.now c.pass.new.table c.args.self.now c.pass.new.self c.args.self.now.region.low c.pass.new.self.region.low shape (now.down.edges ∙ old.edges)
+    (now.down.same.root ∙ root) (now.down.same.end ∙ end) (omega (arith, low)) c.requires.kept.edges in
+    record {
+      kept = kept_passed p w c.pass.new.table c.pass.new.self c.pass.new.self c.args.place c.pass.result now.down.passes edges (let h = c.requires.low in omega (arith, low, h)) now.down.from refl refl refl refl refl;
+      shape = shape;
+      same = same_kept c.args.self.now _ c.pass.new.self (same_by c.args.self.now _ root end old.states old.edges) now.down.same;
+    }
 
-pub returns-clause-to : goal.returns-clause-to
-returns-clause-to c =
+-- the states are made again up to the end of the block
+to_end : (c : goal.After-pass) → c.pass.new.self.region.to ≡ c.min-to.result
+to_end c =
     let width = c.args.table.now.room - 1 in
     let from : c.args.place / width * width ≤ c.args.place = div-mul-le_self c.args.place width in
-    let to : c.pass.new.self.region.to ≡ c.min-to.result = c.pass.ensures.steady (let few = added_few _ _ _ c.edge_state-offset.ensures.adds c.empty.ensures.none in let room = same_shape c.args.table.now c.empty.new.self c.edge_state-offset.new.table c.empty.ensures.shape c.edge_state-offset.ensures.adds.shape in omega (arith, from, few, room.1)) in
-    omega (arith, to)
+    let few = added_few _ _ _ c.edge_state-offset.ensures.adds c.empty.ensures.none in
+    let room = same_shape c.args.table.now c.empty.new.self c.edge_state-offset.new.table c.empty.ensures.shape c.edge_state-offset.ensures.adds.shape in
+    c.pass.ensures.steady (omega (arith, from, few, room.1))
+
+pub returns-clause-to : goal.returns-clause-to
+returns-clause-to c = omega (arith, to_end c)
 
 pub returns-clause-cost : goal.returns-clause-cost
 returns-clause-cost c =
     let width = c.args.table.now.room - 1 in
-    let some = c.requires.kept.region.table.room.some in
-    let from : c.args.place / width * width ≤ c.args.place = div-mul-le_self c.args.place width in
+    let some = c.requires.kept.region.table.room.rows.some in
     let after : c.args.place < c.args.place / width * width + width = lt-div-mul-add (omega (arith, some)) in
     let before = c.requires.place in
     let one = c.edge_state-offset.ensures.cost in
     let two = c.pass.ensures.cost in
-    let to : c.pass.new.self.region.to ≡ c.min-to.result = c.pass.ensures.steady (let few = added_few _ _ _ c.edge_state-offset.ensures.adds c.empty.ensures.none in let room = same_shape c.args.table.now c.empty.new.self c.edge_state-offset.new.table c.empty.ensures.shape c.edge_state-offset.ensures.adds.shape in omega (arith, from, few, room.1)) in
     let m = length c.args.subject.prepared.now.arena.expr.nodes in
     let end = c.args.self.now.region.end in (
       omega (arith, one.0, two.0),
-      subst (λ v. c.pass.new.steps + again m (end - v) ≤ c.args.steps.now + again m (end - c.args.place)) (sym to)
+      subst (λ v. c.pass.new.steps + again m (end - v) ≤ c.args.steps.now + again m (end - c.args.place)) (sym (to_end c))
           (again_cost m c.args.place c.min-to.result end _ c.edge_state-offset.new.steps _ (omega (arith, after, before)) (omega arith) one.1 (λ lt. (c.edge_state-offset.ensures.inside lt).1) two.1),
     )
 
 pub returns-clause-counts : goal.returns-clause-counts
 returns-clause-counts c =
-    let width = c.args.table.now.room - 1 in
-    let from : c.args.place / width * width ≤ c.args.place = div-mul-le_self c.args.place width in
-    let to : c.pass.new.self.region.to ≡ c.min-to.result = c.pass.ensures.steady (let few = added_few _ _ _ c.edge_state-offset.ensures.adds c.empty.ensures.none in let room = same_shape c.args.table.now c.empty.new.self c.edge_state-offset.new.table c.empty.ensures.shape c.edge_state-offset.ensures.adds.shape in omega (arith, from, few, room.1)) in
-    subst (λ v. TakesAtLeast c.args.steps.now c.pass.new.steps (2 * (v - c.args.place))) (sym to)
+    subst (λ v. TakesAtLeast c.args.steps.now c.pass.new.steps (2 * (v - c.args.place))) (sym (to_end c))
     (least_since c.args.steps.now c.edge_state-offset.new.steps c.pass.new.steps (2 * (c.min-to.result - c.args.place)) c.edge_state-offset.ensures.cost.0 c.pass.ensures.counts)

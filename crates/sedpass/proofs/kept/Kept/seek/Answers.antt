@@ -1,24 +1,41 @@
-use Rattle.std.proofs.Common.{◌≡◌, ◌-◌, refl, subst, ◌↔◌, IsTrue, arith}
-use Rattle.std.specs.Prelude.{length, not}
+use Rattle.std.proofs.Common.{◌≡◌, ◌-◌, refl, subst, ◌↔◌, IsTrue, arith, length, not}
 use Rattle.sedre.specs.Steps.{TakesAtLeast}
-use Rattle.sedpass.specs.Kept.{AllMarked, SameKept, ends_told, owed}
-use Rattle.sedpass.specs.Table.{SameShape}
-use Rattle.sedpass.proofs.CountLemmas.{least_none, least_both, least_since}
-use Rattle.sedpass.proofs.KeptLemmas.{marked_then, same_kept, same_shape, told_as}
+use Rattle.sedpass.specs.Kept.{AllMarked, KeepsRegion, ends_told, owed}
+use Rattle.sedpass.proofs.KeptLemmas.{keeps_same, keeps_then, marked_then, told_as}
 use Rattle.sedpass.specs.Regions.{ReachesEnd}
 use Rattle.sedpass.proofs.OwedLemmas.{owed_falls, seek_at, seek_on}
+use Rattle.sedtext.proofs.CountLemmas.{least_none, least_both, least_since}
+use Rattle.sedpass.proofs.kept.Kept.seek.Goals.{After-seek_in-found}
 use Rattle.sedpass.proofs.kept.Kept.seek.Goals as goal
+
+-- the region is kept, over what was passed so far too
+keeps : (c : After-seek_in-found) → KeepsRegion c.args.subject.prepared.now c.args.subject.text.now c.args.table.now c.ready-to.new.table c.args.self.now c.ready-to.new.self
+keeps c = keeps_then _ _ c.args.table.now c.loop-place.table c.ready-to.new.table c.args.self.now c.loop-place.self c.ready-to.new.self c.loop-place.invariant.keeps c.ready-to.ensures.keeps
+
+-- and no place is marked as asked up to the one found
+passed : (c : After-seek_in-found) → AllMarked c.args.subject.prepared.now.arena.expr.nodes c.args.subject.text.now c.args.self.now.region.root
+    (ends_told c.args.table.now.way.all_starts (length c.args.subject.text.now) c.args.self.now.region.end) c.args.x (not c.args.marked) c.args.from c.seek_in-found.result
+passed c =
+    let nodes = c.args.subject.prepared.now.arena.expr.nodes in
+    let w = c.args.subject.text.now in
+    marked_then nodes w c.args.self.now.region.root c.args.x (ends_told c.args.table.now.way.all_starts (length w) c.args.self.now.region.end) (not c.args.marked) c.args.from c.loop-place.place c.seek_in-found.result
+    c.loop-place.invariant.passed
+    (told_as (λ r t. AllMarked nodes w r t c.args.x (not c.args.marked) c.loop-place.place c.seek_in-found.result) _ w c.args.table.now c.ready-to.new.table c.args.self.now c.ready-to.new.self (keeps c) c.seek_in-found.ensures.passed)
+
+counts : (c : After-seek_in-found) → TakesAtLeast c.args.steps.now c.seek_in-found.new.steps (c.seek_in-found.result - c.args.from)
+counts c =
+    let before = c.loop-place.invariant in
+    let after = c.seek_in-found.ensures.after in
+    least_both _ c.loop-place.steps _ _ (c.seek_in-found.result - c.loop-place.place) _ before.counts
+    (least_since _ c.ready-to.new.steps _ _ c.ready-to.ensures.cost.0 c.seek_in-found.ensures.counts) (omega (arith, before.above, after))
 
 pub loop-place-init : goal.loop-place-init
 loop-place-init c = record {
   above = omega arith;
   below = c.requires.from;
-  kept = c.requires.kept;
-  shape = (refl, refl, refl, refl, refl);
-  same = record { root = refl; end = refl; places = refl; edges = refl; marks = λ q. refl };
+  keeps = keeps_same _ _ c.args.table.now c.args.self.now c.args.self.now refl refl refl c.requires.kept;
   passed = λ q after before. absurd (omega arith);
-  grows = omega arith;
-  cost = omega arith;
+  cost = (omega arith, omega arith);
   counts = least_none _ _ (omega arith);
 }
 
@@ -33,47 +50,31 @@ loop-place-preserved c =
     let up = ready.to.1 in
     let is = ready.to.0 in
     let at : c.seek_in-found.result ≡ c.ready-to.result = (let h = seek.within in let g = c.if-found-to.false in omega (arith, h, g, is)) in
-    let shape : SameShape c.args.table.now c.ready-to.new.table = same_shape c.args.table.now c.loop-place.table c.ready-to.new.table before.shape ready.shape in
-    let same : SameKept c.args.self.now c.ready-to.new.self = same_kept c.args.self.now c.loop-place.self c.ready-to.new.self before.same ready.same in
-    let more : AllMarked nodes w c.args.self.now.region.root (ends_told c.args.table.now.way.all_starts (length w) c.args.self.now.region.end) c.args.x (not c.args.marked) c.loop-place.place c.ready-to.result =
-    told_as (λ r t. AllMarked nodes w r t c.args.x (not c.args.marked) c.loop-place.place c.ready-to.result) (length w) c.args.table.now c.ready-to.new.table c.args.self.now c.ready-to.new.self shape same
-    (subst (λ y. AllMarked nodes w c.ready-to.new.self.region.root (ends_told c.ready-to.new.table.way.all_starts (length w) c.ready-to.new.self.region.end) c.args.x (not c.args.marked) c.loop-place.place y) at seek.passed) in
+    let here = (goal.at.loop-place-preserved c).After-seek_in-found in
     record {
       above = (let h = before.above in omega (arith, h, up));
-      below = (let h = ready.kept.region.within in omega (arith, h, is));
-      kept = ready.kept;
-      shape = shape;
-      same = same;
-      passed = marked_then nodes w c.args.self.now.region.root c.args.x (ends_told c.args.table.now.way.all_starts (length w) c.args.self.now.region.end) (not c.args.marked) c.args.from c.loop-place.place c.ready-to.result before.passed more;
-      grows = (let h = before.grows in let g = ready.cost.0 in let f = seek.cost.0 in omega (arith, h, g, f));
-      cost = seek_on (owed m c.args.self.now.region c.args.from) (owed m c.loop-place.self.region c.loop-place.place) (owed m c.ready-to.new.self.region c.loop-place.place)
-          (owed m c.ready-to.new.self.region c.ready-to.result) c.loop-place.steps c.args.steps.now c.ready-to.new.steps c.seek_in-found.new.steps c.args.from c.loop-place.place c.ready-to.result
-          before.cost ready.cost.1 (let h = seek.cost.1 in omega (arith, h, at)) (owed_falls m c.ready-to.new.self.region c.loop-place.place c.ready-to.result (omega (arith, up))) up;
-      counts = least_both _ c.loop-place.steps _ _ (c.ready-to.result - c.loop-place.place) _ before.counts
-          (least_since _ c.ready-to.new.steps _ _ ready.cost.0 (subst (λ y. TakesAtLeast c.ready-to.new.steps c.seek_in-found.new.steps (y - c.loop-place.place)) at seek.counts)) (let h = before.above in omega (arith, h, up));
+      below = (let h = ready.keeps.kept.region.within in omega (arith, h, is));
+      keeps = keeps here;
+      passed = subst (λ y. AllMarked nodes w c.args.self.now.region.root (ends_told c.args.table.now.way.all_starts (length w) c.args.self.now.region.end) c.args.x (not c.args.marked) c.args.from y) at (passed here);
+      cost = (
+        (let h = before.cost.0 in let g = ready.cost.0 in let f = seek.cost.0 in omega (arith, h, g, f)),
+        seek_on (owed m c.args.self.now.region c.args.from) (owed m c.loop-place.self.region c.loop-place.place) (owed m c.ready-to.new.self.region c.loop-place.place)
+            (owed m c.ready-to.new.self.region c.ready-to.result) c.loop-place.steps c.args.steps.now c.ready-to.new.steps c.seek_in-found.new.steps c.args.from c.loop-place.place c.ready-to.result
+            before.cost.1 ready.cost.1 (let h = seek.cost.1 in omega (arith, h, at)) (owed_falls m c.ready-to.new.self.region c.loop-place.place c.ready-to.result (omega (arith, up))) up,
+      );
+      counts = subst (λ y. TakesAtLeast c.args.steps.now c.seek_in-found.new.steps (y - c.args.from)) at (counts here);
     }
 
 pub returns-then-found-to-clause-passed : goal.returns-then-found-to-clause-passed
-returns-then-found-to-clause-passed c =
-    let nodes = c.args.subject.prepared.now.arena.expr.nodes in
-    let w = c.args.subject.text.now in
-    let before = c.loop-place.invariant in
-    let ready = c.ready-to.ensures in
-    let found = c.seek_in-found.result in
-    marked_then nodes w c.args.self.now.region.root c.args.x (ends_told c.args.table.now.way.all_starts (length w) c.args.self.now.region.end) (not c.args.marked) c.args.from c.loop-place.place found before.passed
-    (told_as (λ r t. AllMarked nodes w r t c.args.x (not c.args.marked) c.loop-place.place found) (length w) c.args.table.now c.ready-to.new.table c.args.self.now c.ready-to.new.self
-    (same_shape c.args.table.now c.loop-place.table c.ready-to.new.table before.shape ready.shape) (same_kept c.args.self.now c.loop-place.self c.ready-to.new.self before.same ready.same) c.seek_in-found.ensures.passed)
+returns-then-found-to-clause-passed c = passed (goal.at.returns-then-found-to-clause-passed c).After-seek_in-found
 
 pub returns-then-found-to-clause-found : goal.returns-then-found-to-clause-found
 returns-then-found-to-clause-found c below =
     let nodes = c.args.subject.prepared.now.arena.expr.nodes in
     let w = c.args.subject.text.now in
-    let before = c.loop-place.invariant in
-    let ready = c.ready-to.ensures in
-    let found = c.seek_in-found.result in
-    told_as (λ r t. IsTrue c.args.marked ↔ ReachesEnd nodes w r t c.args.x found) (length w) c.args.table.now c.ready-to.new.table c.args.self.now c.ready-to.new.self
-    (same_shape c.args.table.now c.loop-place.table c.ready-to.new.table before.shape ready.shape) (same_kept c.args.self.now c.loop-place.self c.ready-to.new.self before.same ready.same)
-    (c.seek_in-found.ensures.found (let h = c.if-found-to.true in let g = ready.to.0 in omega (arith, h, g)))
+    let is = c.ready-to.ensures.to.0 in
+    told_as (λ r t. IsTrue c.args.marked ↔ ReachesEnd nodes w r t c.args.x c.seek_in-found.result) _ w c.args.table.now c.ready-to.new.table c.args.self.now c.ready-to.new.self
+    (keeps (goal.at.returns-then-found-to-clause-found c).After-seek_in-found) (c.seek_in-found.ensures.found (let h = c.if-found-to.true in omega (arith, h, is)))
 
 pub returns-then-found-to-clause-cost : goal.returns-then-found-to-clause-cost
 returns-then-found-to-clause-cost c =
@@ -82,13 +83,14 @@ returns-then-found-to-clause-cost c =
     let ready = c.ready-to.ensures in
     let seek = c.seek_in-found.ensures in
     let found = c.seek_in-found.result in (
-      (let h = before.grows in let g = ready.cost.0 in let f = seek.cost.0 in omega (arith, h, g, f)),
+      (let h = before.cost.0 in let g = ready.cost.0 in let f = seek.cost.0 in omega (arith, h, g, f)),
       seek_at (owed m c.args.self.now.region c.args.from) (owed m c.loop-place.self.region c.loop-place.place) (owed m c.ready-to.new.self.region c.loop-place.place)
           (owed m c.ready-to.new.self.region found) c.loop-place.steps c.args.steps.now c.ready-to.new.steps c.seek_in-found.new.steps c.args.from c.loop-place.place found
-          before.cost ready.cost.1 seek.cost.1 (owed_falls m c.ready-to.new.self.region c.loop-place.place found seek.after) seek.after,
+          before.cost.1 ready.cost.1 seek.cost.1 (owed_falls m c.ready-to.new.self.region c.loop-place.place found seek.after) seek.after,
     )
 
 pub returns-then-found-to-clause-counts : goal.returns-then-found-to-clause-counts
-returns-then-found-to-clause-counts c =
-    least_both _ c.loop-place.steps _ _ (c.seek_in-found.result - c.loop-place.place) _ c.loop-place.invariant.counts
-    (least_since _ c.ready-to.new.steps _ _ c.ready-to.ensures.cost.0 c.seek_in-found.ensures.counts) (let h = c.loop-place.invariant.above in let g = c.seek_in-found.ensures.after in omega (arith, h, g))
+returns-then-found-to-clause-counts c = counts (goal.at.returns-then-found-to-clause-counts c).After-seek_in-found
+
+pub returns-then-found-to-clause-keeps : goal.returns-then-found-to-clause-keeps
+returns-then-found-to-clause-keeps c = keeps (goal.at.returns-then-found-to-clause-keeps c).After-seek_in-found

@@ -1,22 +1,17 @@
-use Rattle.std.proofs.Common.{◌+◌, ◌-◌, ◌*◌, ◌≤◌}
-use Rattle.std.specs.Prelude.{length, not}
+use Rattle.std.proofs.Common.{◌+◌, ◌-◌, ◌*◌, ◌≤◌, length, not}
 use Rattle.sedre.specs.Steps.{TakesAtLeast}
-use Rattle.sedpass.specs.Table.{SameShape}
-use Rattle.sedpass.specs.Kept.{AllMarked, IsKept, SameKept, ends_told, owed}
+use Rattle.sedpass.specs.Kept.{AllMarked, KeepsRegion, ends_told, owed}
+use Rattle.sedtext.specs.Costs.{CostsWithin}
 use Rattle.sedpass.proofs.kept.Kept.seek.Given as goal
 
 abbrev pub invariant-loop-place : goal.invariant-loop-place
 invariant-loop-place l = record {
   above : l.from ≤ l.place;
   below : l.place ≤ l.self.region.end;
-  kept : IsKept l.subject.prepared.now l.subject.text.now l.table l.self;
-  shape : SameShape l.initial.table l.table;
-  same : SameKept l.initial.self l.self;
+  keeps : KeepsRegion l.subject.prepared.now l.subject.text.now l.initial.table l.table l.initial.self l.self;
   passed : AllMarked l.subject.prepared.now.arena.expr.nodes l.subject.text.now l.initial.self.region.root
       (ends_told l.initial.table.way.all_starts (length l.subject.text.now) l.initial.self.region.end) l.x (not l.marked) l.from l.place;
-  grows : l.initial.steps ≤ l.steps;
-  cost : l.steps + owed (length l.subject.prepared.now.arena.expr.nodes) l.self.region l.place + 2 * l.from
-      ≤ l.initial.steps + owed (length l.subject.prepared.now.arena.expr.nodes) l.initial.self.region l.from + 2 * l.place;
+  cost : CostsWithin l.initial.steps l.steps (owed (length l.subject.prepared.now.arena.expr.nodes) l.initial.self.region l.from + 2 * l.place) (owed (length l.subject.prepared.now.arena.expr.nodes) l.self.region l.place + 2 * l.from);
   counts : TakesAtLeast l.initial.steps l.steps (l.place - l.from);
 }
 

@@ -1,9 +1,8 @@
-use Rattle.std.proofs.Common.{◌↔◌, IsTrue, arith}
-use Rattle.std.specs.Prelude.{length, not}
+use Rattle.std.proofs.Common.{◌↔◌, IsTrue, arith, length, not}
 use Rattle.sedpass.specs.Kept.{ends_told}
 use Rattle.sedpass.specs.Regions.{ReachesEnd}
-use Rattle.sedpass.proofs.CountLemmas.{least_none, least_both, least_counted, least_up}
 use Rattle.sedpass.proofs.KeptLemmas.{as_asked, kept_mark, kept_row, marked_on, not_asked}
+use Rattle.sedtext.proofs.CountLemmas.{least_none, least_both, least_counted, least_up}
 use Rattle.sedpass.proofs.kept.Kept.seek_in.Goals as goal
 
 pub loop-place-init : goal.loop-place-init
@@ -11,8 +10,7 @@ loop-place-init c = record {
   above = omega arith;
   below = (let h = c.requires.to in omega (arith, h));
   passed = λ q after before. absurd (omega arith);
-  grows = omega arith;
-  cost = omega arith;
+  cost = (omega arith, omega arith);
   counts = least_none _ _ (omega arith);
 }
 
@@ -55,8 +53,7 @@ loop-place-preserved c =
       above = omega (arith, above);
       below = omega (arith, before);
       passed = marked_on p.arena.expr.nodes w k.region.root c.args.x (ends_told t.way.all_starts (length w) k.region.end) (not c.args.marked) c.args.from c.loop-place.place old.passed here;
-      grows = (let h = old.grows in let g = c.get.ensures.cost.0 in omega (arith, h, g));
-      cost = (let h = old.cost in let g = c.get.ensures.cost.1 in omega (arith, h, g));
+      cost = ((let h = old.cost.0 in let g = c.get.ensures.cost.0 in omega (arith, h, g)), (let h = old.cost.1 in let g = c.get.ensures.cost.1 in omega (arith, h, g)));
       counts = least_both _ _ _ _ 1 _ old.counts (least_counted _ _ 1 1 c.get.ensures.counts (omega arith)) (omega (arith, above));
     }
 

@@ -1,7 +1,7 @@
-use Rattle.std.proofs.Common.{◌+◌, ◌-◌, ◌≤◌}
-use Rattle.std.specs.Prelude.{length, not}
+use Rattle.std.proofs.Common.{◌-◌, ◌≤◌, length, not}
 use Rattle.sedre.specs.Steps.{TakesAtLeast}
 use Rattle.sedpass.specs.Kept.{AllMarked, ends_told}
+use Rattle.sedtext.specs.Costs.{CostsWithin}
 use Rattle.sedpass.proofs.kept.Kept.seek_in.Given as goal
 
 abbrev pub invariant-loop-place : goal.invariant-loop-place
@@ -10,7 +10,6 @@ invariant-loop-place l = record {
   below : l.place ≤ l.self.region.to;
   passed : AllMarked l.subject.prepared.now.arena.expr.nodes l.subject.text.now l.self.region.root
       (ends_told l.table.way.all_starts (length l.subject.text.now) l.self.region.end) l.x (not l.marked) l.from l.place;
-  grows : l.initial.steps ≤ l.steps;
-  cost : l.steps + l.from ≤ l.initial.steps + l.place;
+  cost : CostsWithin l.initial.steps l.steps l.place l.from;
   counts : TakesAtLeast l.initial.steps l.steps (l.place - l.from);
 }

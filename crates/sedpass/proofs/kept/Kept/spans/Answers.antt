@@ -1,37 +1,29 @@
-use Rattle.std.proofs.Common.{◌≡◌, ◌<◌, ◌↔◌, sym, ap, ◌∙◌, subst, IsTrue, arith}
-use Rattle.std.specs.Prelude.{false}
+use Rattle.std.proofs.Common.{◌≡◌, ◌<◌, ◌↔◌, sym, ap, ◌∙◌, subst, IsTrue, arith, false}
 use Rattle.sedtext.specs.Reach.{At, one_start}
 use Rattle.sedpass.specs.Regions.{IsLastIn}
 use Rattle.sedpass.proofs.LeaveLemmas.{last_inside}
-use Rattle.sedpass.proofs.CountLemmas.{least_counted, least_since}
-use Rattle.sedpass.proofs.KeptLemmas.{kept_row, mark_spans, null_spans}
+use Rattle.sedpass.proofs.KeptLemmas.{kept_row, mark_spans}
+use Rattle.sedtext.proofs.CountLemmas.{least_counted, least_since}
 use Rattle.sedpass.proofs.kept.Kept.spans.Goals as goal
 
-pub null_at-requires : goal.null_at-requires
-null_at-requires c =
+pub is_null-requires : goal.is_null-requires
+is_null-requires c =
     let root = c.requires.kept.region.root.0 in
     let up = last_inside c.args.subject.prepared.now.arena.expr.nodes c.args.subject.text.now c.args.self.now.region.root (one_start 0) c.requires.kept.region.table.expr.arena c.args.x c.requires.last in
     record { inside = omega (arith, root, up) }
 
 pub returns-then-place-self-clause-spans : goal.returns-then-place-self-clause-spans
 returns-then-place-self-clause-spans c =
-    let w = c.args.subject.text.now in
-    let nodes = c.args.subject.prepared.now.arena.expr.nodes in
-    let root = c.requires.kept.region.root.0 in
-    let up = last_inside nodes w c.args.self.now.region.root (one_start 0) c.requires.kept.region.table.expr.arena c.args.x c.requires.last in
-    let kind = c.kind_of-kind.result in
-    let null = null_spans c.args.subject.prepared.now w kind c.args.x c.args.place c.null_at.result (omega (arith, root, up)) c.kind_of-kind.ensures.begin
-    (subst (λ n. IsTrue kind.end ↔ (c.args.place ≡ n)) c.len.ensures.is c.kind_of-kind.ensures.end) c.null_at.ensures.null in
-    subst (λ e. IsTrue c.null_at.result ↔ At nodes w c.args.x c.args.place e) c.if-place-self.true null
+    subst (λ e. IsTrue c.is_null.result ↔ At c.args.subject.prepared.now.arena.expr.nodes c.args.subject.text.now c.args.x c.args.place e) c.if-place-self.true c.is_null.ensures.null
 
 pub returns-then-place-self-clause-counts : goal.returns-then-place-self-clause-counts
-returns-then-place-self-clause-counts c = least_counted _ _ 1 1 c.null_at.ensures.counts (omega arith)
+returns-then-place-self-clause-counts c = least_counted _ _ 1 1 c.is_null.ensures.counts (omega arith)
 
 pub get-requires : goal.get-requires
 get-requires c =
     let above = c.ready.ensures.from in
     let to = c.ready.ensures.to in
-    let row = kept_row c.args.subject.prepared.now c.args.subject.text.now c.ready.new.table c.ready.new.self c.args.place c.index.result.now c.ready.ensures.kept above (omega (arith, to.0, to.1)) c.index.ensures in
+    let row = kept_row c.args.subject.prepared.now c.args.subject.text.now c.ready.new.table c.ready.new.self c.args.place c.index.result.now c.ready.ensures.keeps.kept above (omega (arith, to.0, to.1)) c.index.ensures in
     let root = c.requires.kept.region.root.0 in
     let up = last_inside c.args.subject.prepared.now.arena.expr.nodes c.args.subject.text.now c.args.self.now.region.root (one_start 0) c.requires.kept.region.table.expr.arena c.args.x c.requires.last in
     record { row = row.0; inside = omega (arith, row.1, root, up) }
@@ -45,10 +37,10 @@ returns-clause-spans c =
     let above = c.ready.ensures.from in
     let to = c.ready.ensures.to in
     let before : c.args.place < k.region.to = omega (arith, to.0, to.1) in
-    let one : t.way.all_starts ≡ false = ap (λ v. v.all_starts) c.ready.ensures.shape.0 ∙ c.requires.all_starts in
-    let last : IsLastIn p.arena.expr.nodes k.region.root c.args.x = subst (λ r. IsLastIn p.arena.expr.nodes r c.args.x) (sym c.ready.ensures.same.root) c.requires.last in
-    subst (λ e. IsTrue c.get.result ↔ At p.arena.expr.nodes w c.args.x c.args.place e) c.ready.ensures.same.end
-    (mark_spans p w t k c.args.x c.args.place c.index.result.now c.get.result c.ready.ensures.kept one last above before c.index.ensures c.get.ensures.mark)
+    let one : t.way.all_starts ≡ false = ap (λ v. v.all_starts) c.ready.ensures.keeps.shape.0 ∙ c.requires.all_starts in
+    let last : IsLastIn p.arena.expr.nodes k.region.root c.args.x = subst (λ r. IsLastIn p.arena.expr.nodes r c.args.x) (sym c.ready.ensures.keeps.same.root) c.requires.last in
+    subst (λ e. IsTrue c.get.result ↔ At p.arena.expr.nodes w c.args.x c.args.place e) c.ready.ensures.keeps.same.end
+    (mark_spans p w t k c.args.x c.args.place c.index.result.now c.get.result c.ready.ensures.keeps.kept one last above before c.index.ensures c.get.ensures.mark)
 
 pub returns-clause-counts : goal.returns-clause-counts
 returns-clause-counts c = least_since _ c.ready.new.steps _ _ c.ready.ensures.cost.0 (least_counted _ _ 1 1 c.get.ensures.counts (omega arith))

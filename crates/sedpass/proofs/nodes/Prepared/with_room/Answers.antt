@@ -1,6 +1,6 @@
 use Rattle.std.proofs.Common.{refl, rules}
 use Rattle.sedre.specs.Tree.{empty}
-use Rattle.sedpass.proofs.EmptyLemmas.{empty_prepared}
+use Rattle.sedpass.proofs.FactLemmas.{empty_prepared}
 use Rattle.sedpass.proofs.nodes.Prepared.with_room.Goals as goal
 
 pub invariant_of-result : goal.invariant_of-result

@@ -1,10 +1,8 @@
-use Rattle.std.proofs.Common.{rules, ◌≡◌, ℕ, ◌+◌, ◌*◌, ◌%◌, ◌^◌, ◌<◌, ◌∙◌, ◌↔◌, length, length-set, mul-le-mul_left, ◌≤◌, IsTrue, refl, sym, ap, subst, arith}
-use Rattle.std.specs.Prelude.{slice_index_or, false}
+use Rattle.std.proofs.Common.{rules, ◌≡◌, ℕ, ◌+◌, ◌*◌, ◌%◌, ◌^◌, ◌<◌, ◌∙◌, ◌↔◌, length, length-set, mul-le-mul_left, ◌≤◌, IsTrue, refl, sym, ap, subst, arith, slice_index_or, false}
 use Rattle.std.specs.Vec.{with_item}
 use Rattle.sedtext.specs.Words.{AgreeBelow, row_of}
-use Rattle.sedpass.specs.Cells.{stops, code_of}
 use Rattle.sedpass.specs.Rows.{bits}
-use Rattle.sedpass.specs.Table.{State, IsTold, HasRow, AddsStates, HasRoom, cell_of}
+use Rattle.sedpass.specs.Table.{State, IsTold, HasRow, AddsStates, HasRoom, cell_of, stops, code_of}
 use Rattle.sedpass.specs.declared.cells.Flags.{Flags}
 use Rattle.sedpass.specs.declared.table.Table.{Table}
 use Rattle.sedpass.proofs.RowLemmas.{bits_here}
@@ -21,13 +19,13 @@ pub empty_cells-requires-clause-there : goal.empty_cells-requires-clause-there
 empty_cells-requires-clause-there c =
     let T = c.args.self.now in
     let t = c.requires.table in
-    omega (arith, shifted T.count T.room T.layout.shift c.requires.room t.room.few t.layout.small, t.room.cells)
+    omega (arith, shifted T.count T.room T.layout.shift c.requires.room t.room.rows.few t.layout.small, t.room.cells)
 
 pub empty_cells-requires-clause-room : goal.empty_cells-requires-clause-room
 empty_cells-requires-clause-room c =
     let T = c.args.self.now in
     let t = c.requires.table in
-    let place = shifted T.count T.room T.layout.shift c.requires.room t.room.few t.layout.small in
+    let place = shifted T.count T.room T.layout.shift c.requires.room t.room.rows.few t.layout.small in
     let up : T.count + 1 ≤ T.room = omega (arith, c.requires.room) in
     let all = mul-le-mul_left (2 ^ T.layout.shift) up in
     omega (arith, place, all, t.room.reserved, t.room.capacity, one_shifted T.layout.shift t.layout.small)
@@ -42,7 +40,7 @@ pub code_of-requires : goal.code_of-requires
 code_of-requires c =
     let T = c.args.self.now in
     let t = c.requires.table in
-    omega (arith, shifted T.count T.room T.layout.shift c.requires.room t.room.few t.layout.small, few_offset T.count T.room T.layout.shift c.requires.room t.room.few t.layout.small)
+    omega (arith, shifted T.count T.room T.layout.shift c.requires.room t.room.rows.few t.layout.small, few_offset T.count T.room T.layout.shift c.requires.room t.room.rows.few t.layout.small)
 
 pub returns : goal.returns
 returns c =
@@ -73,18 +71,20 @@ returns c =
     let ends : AgreeBelow m (row_of c.store-2.new.self T.count) E = subst (λ n. AgreeBelow n (row_of c.store-2.new.self T.count) E) nodes c.store-2.ensures.same in
     let adds : AddsStates m T N = state_adds m T N c.args.root L E flags c.requires.room t.room (refl, refl, refl, refl, refl) refl refl c.store.ensures.other leaves c.store-2.ensures.other ends refl refl in
     let added = state_added m T N c.args.root L E flags c.requires.room t.room (refl, refl, refl, refl, refl) refl refl c.store.ensures.other leaves c.store-2.ensures.other ends refl refl in
-    let place = shifted T.count T.room T.layout.shift c.requires.room t.room.few t.layout.small in
+    let place = shifted T.count T.room T.layout.shift c.requires.room t.room.rows.few t.layout.small in
     let room : HasRoom m N = record {
       count = omega (arith, c.requires.room);
-      some = t.room.some;
-      few = t.room.few;
       marks = t.room.marks;
-      leaves = c.store.ensures.len ∙ t.room.leaves;
-      ends = c.store-2.ensures.len ∙ t.room.ends;
-      leaf_marks = λ q lt. c.store.ensures.lens q (omega (arith, lt, t.room.leaves)) ∙ t.room.leaf_marks q lt;
-      end_marks = λ q lt. c.store-2.ensures.lens q (omega (arith, lt, t.room.ends)) ∙ t.room.end_marks q lt;
-      roots = length-set T.roots.items T.count c.args.root ∙ t.room.roots;
-      flags = length-set T.flags.items T.count flags ∙ t.room.flags;
+      rows = record {
+        some = t.room.rows.some;
+        few = t.room.rows.few;
+        leaves = c.store.ensures.len ∙ t.room.rows.leaves;
+        ends = c.store-2.ensures.len ∙ t.room.rows.ends;
+        leaf_marks = λ q lt. c.store.ensures.lens q (omega (arith, lt, t.room.rows.leaves)) ∙ t.room.rows.leaf_marks q lt;
+        end_marks = λ q lt. c.store-2.ensures.lens q (omega (arith, lt, t.room.rows.ends)) ∙ t.room.rows.end_marks q lt;
+        roots = length-set T.roots.items T.count c.args.root ∙ t.room.rows.roots;
+        flags = length-set T.flags.items T.count flags ∙ t.room.rows.flags;
+      };
       cells = omega (arith, place, c.empty_cells.ensures.long, one_shifted T.layout.shift t.layout.small);
       reserved = t.room.reserved;
       capacity = omega (arith, t.room.capacity, c.empty_cells.ensures.capacity);

@@ -1,11 +1,9 @@
-use Rattle.std.proofs.Common.{◌*◌, ◌/◌, ◌^◌, ◌<◌, ◌∙◌, false, length, ap, inl, inr, arith}
-use Rattle.std.specs.Prelude.{slice_index_or}
+use Rattle.std.proofs.Common.{◌*◌, ◌/◌, ◌^◌, ◌<◌, ◌∙◌, false, length, ap, inl, inr, arith, slice_index_or}
 use Rattle.std.specs.Option.{option_or}
-use Rattle.sedtext.proofs.MarkLemmas.{default_same}
-use Rattle.sedpass.specs.Cells.{stops}
-use Rattle.sedpass.specs.Table.{state_of}
+use Rattle.sedpass.specs.Table.{state_of, stops}
 use Rattle.sedpass.proofs.TableLemmas.{code_some, names_offset}
 use Rattle.sedpass.proofs.ForwardLemmas.{arrive_plain, arrive_low}
+use Rattle.std.proofs.lemmas.List.{get_or_default}
 use Rattle.sedpass.proofs.table.Table.arrive.Goals as goal
 
 pub offset_of-offset-requires : goal.offset_of-offset-requires
@@ -16,7 +14,7 @@ offset_of-offset-requires c =
 pub index-flags-requires : goal.index-flags-requires
 index-flags-requires c =
     let at = names_offset c.args.prepared.now c.args.self.now c.requires.table (λ a. Unit {0}) c.args.code c.offset_of-offset.result c.requires.code c.offset_of-offset.ensures in
-    omega (arith, at.0, c.state_at.ensures, c.requires.table.room.count, c.requires.table.room.flags)
+    omega (arith, at.0, c.state_at.ensures, c.requires.table.room.count, c.requires.table.room.rows.flags)
 
 pub returns-then-code-ge-PLAIN-clause-offset : goal.returns-then-code-ge-PLAIN-clause-offset
 returns-then-code-ge-PLAIN-clause-offset c = names_offset c.args.prepared.now c.args.self.now c.requires.table (λ a. Unit {0}) c.args.code c.offset_of-offset.result c.requires.code c.offset_of-offset.ensures
@@ -32,9 +30,9 @@ pub returns-then-self-clause-passes : goal.returns-then-self-clause-passes
 returns-then-self-clause-passes c keeps start after within names last =
     let T = c.args.self.now in
     let at = names_offset c.args.prepared.now T c.requires.table (λ a. Unit {0}) c.args.code c.offset_of-offset.result c.requires.code c.offset_of-offset.ensures in
-    let inside : c.offset_of-offset.result / 2 ^ T.layout.shift < length T.flags.items = omega (arith, at.0, c.requires.table.room.count, c.requires.table.room.flags) in
+    let inside : c.offset_of-offset.result / 2 ^ T.layout.shift < length T.flags.items = omega (arith, at.0, c.requires.table.room.count, c.requires.table.room.rows.flags) in
     let flags = c.index-flags.ensures ∙ ap (λ x. slice_index_or T.flags.items x c.index-flags.result.now) c.state_at.ensures
-    ∙ default_same T.flags.items (c.offset_of-offset.result / 2 ^ T.layout.shift) c.index-flags.result.now (record { ends = false; dead = false }) inside in
+    ∙ get_or_default T.flags.items (c.offset_of-offset.result / 2 ^ T.layout.shift) c.index-flags.result.now (record { ends = false; dead = false }) inside in
     arrive_low c.args.prepared.now T c.args.text.now start c.args.place c.args.code c.offset_of-offset.result c.args.end c.requires.table keeps after within c.offset_of-offset.ensures names last
     c.index-flags.result.now c.or.result T.way.all_starts c.if-code-ge-PLAIN.false flags (c.or.ensures ∙ ap (λ o. option_or o c.args.end) c.then_some.ensures) (λ h. inl h)
 
@@ -45,8 +43,8 @@ pub returns-else-self-clause-passes : goal.returns-else-self-clause-passes
 returns-else-self-clause-passes c keeps start after within names last =
     let T = c.args.self.now in
     let at = names_offset c.args.prepared.now T c.requires.table (λ a. Unit {0}) c.args.code c.offset_of-offset.result c.requires.code c.offset_of-offset.ensures in
-    let inside : c.offset_of-offset.result / 2 ^ T.layout.shift < length T.flags.items = omega (arith, at.0, c.requires.table.room.count, c.requires.table.room.flags) in
+    let inside : c.offset_of-offset.result / 2 ^ T.layout.shift < length T.flags.items = omega (arith, at.0, c.requires.table.room.count, c.requires.table.room.rows.flags) in
     let flags = c.index-flags.ensures ∙ ap (λ x. slice_index_or T.flags.items x c.index-flags.result.now) c.state_at.ensures
-    ∙ default_same T.flags.items (c.offset_of-offset.result / 2 ^ T.layout.shift) c.index-flags.result.now (record { ends = false; dead = false }) inside in
+    ∙ get_or_default T.flags.items (c.offset_of-offset.result / 2 ^ T.layout.shift) c.index-flags.result.now (record { ends = false; dead = false }) inside in
     arrive_low c.args.prepared.now T c.args.text.now start c.args.place c.args.code c.offset_of-offset.result c.args.end c.requires.table keeps after within c.offset_of-offset.ensures names last
     c.index-flags.result.now c.or.result c.index-flags.result.now.dead c.if-code-ge-PLAIN.false flags (c.or.ensures ∙ ap (λ o. option_or o c.args.end) c.then_some.ensures) (λ h. inr (c.if-self.false, h))

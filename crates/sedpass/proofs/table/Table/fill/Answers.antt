@@ -1,29 +1,38 @@
-use Rattle.std.proofs.Common.{Bool, ◌+◌, length, refl, subst, arith}
+use Rattle.std.proofs.Common.{Bool, ◌+◌, ◌<◌, length, refl, arith}
 use Rattle.std.specs.Vec.{with_item}
 use Rattle.sedre.specs.Steps.{TakesAtLeast}
-use Rattle.sedtext.proofs.StepLemmas.{least_own}
 use Rattle.sedpass.specs.Rows.{nodes_of}
-use Rattle.sedpass.specs.Table.{AddsStates, IsNext, IsOffset, LeadsOn}
+use Rattle.sedpass.specs.Table.{AddsStates, IsNext, IsOffset, LeadsOn, Names}
 use Rattle.sedpass.specs.declared.table.Table.{Table}
-use Rattle.sedpass.proofs.CountLemmas.{least_up}
 use Rattle.sedpass.proofs.TableLemmas.{adds_same, adds_then, cell_there, names_anywhere, names_leads, names_more, names_moved, note_cell, offset_more}
+use Rattle.sedtext.proofs.CountLemmas.{least_counted, least_up}
+use Rattle.sedpass.proofs.table.Table.fill.Goals.{After-intern-next, In-Some}
 use Rattle.sedpass.proofs.table.Table.fill.Goals as goal
 
-pub overflow_add-offset : goal.overflow_add-offset
-overflow_add-offset c =
+-- the next state is the one that the byte leads to
+leads : (c : After-intern-next) → Names (length c.args.prepared.now.arena.expr.nodes) c.intern-next.new.self (IsNext c.args.prepared.now c.args.self.now c.args.offset c.args.byte c.args.edge) c.intern-next.result
+leads c = names_leads c.args.prepared.now c.args.self.now c.intern-next.new.self c.requires.table c.args.offset c.requires.offset c.state_at-state.result c.nodes.result c.index-root.result.now c.args.byte c.intern-next.result
+    c.load.new.marks c.step.new.work c.state_at-state.ensures c.nodes.ensures.value c.index-root.ensures c.load.ensures.same c.intern-next.ensures.codes.names c.args.edge c.step.ensures.leads
+
+counts : (c : After-intern-next) → TakesAtLeast c.args.steps.now c.intern-next.new.steps (length c.args.prepared.now.arena.expr.nodes)
+counts c =
+    let stepped = c.step.ensures.cost in
+    let interned = c.intern-next.ensures.cost in
+    let nodes = c.nodes.ensures.value in
+    least_up c.args.steps.now c.load.new.steps c.intern-next.new.steps _ (least_counted c.args.steps.now c.load.new.steps c.nodes.result _ c.load.ensures.counts (omega (arith, nodes))) (omega (arith, stepped, interned))
+
+-- its cell is there
+there : (c : In-Some) → c.args.offset + c.in-Some.column < length c.intern-next.new.self.cells.items
+there c =
     let S = c.intern-next.new.self in
     let codes = c.intern-next.ensures.codes in
-    let at = offset_more c.args.prepared.now c.args.self.now S codes.adds c.if-self-epoch.true c.args.offset c.requires.offset in
-    let there = cell_there c.args.prepared.now S codes.table c.args.offset c.args.byte c.in-Some.column c.args.edge at c.in-Some.ensures in
-    omega (arith, there, S.cells.ok)
+    cell_there c.args.prepared.now S codes.table c.args.offset c.args.byte c.in-Some.column c.args.edge (offset_more c.args.prepared.now c.args.self.now S codes.adds c.if-self-epoch.true c.args.offset c.requires.offset) c.in-Some.ensures
+
+pub overflow_add-offset : goal.overflow_add-offset
+overflow_add-offset c = omega (arith, there (goal.at.overflow_add-offset c).In-Some, c.intern-next.new.self.cells.ok)
 
 pub index_mut-requires : goal.index_mut-requires
-index_mut-requires c =
-    let S = c.intern-next.new.self in
-    let codes = c.intern-next.ensures.codes in
-    let at = offset_more c.args.prepared.now c.args.self.now S codes.adds c.if-self-epoch.true c.args.offset c.requires.offset in
-    let there = cell_there c.args.prepared.now S codes.table c.args.offset c.args.byte c.in-Some.column c.args.edge at c.in-Some.ensures in
-    omega (arith, there, S.cells.ok)
+index_mut-requires c = omega (arith, there (goal.at.index_mut-requires c).In-Some, c.intern-next.new.self.cells.ok)
 
 pub returns-in-Some-clause-codes : goal.returns-in-Some-clause-codes
 returns-in-Some-clause-codes c =
@@ -40,38 +49,24 @@ returns-in-Some-clause-codes c =
     let N : Table = record S { cells = with_item S.cells (offset + column) next } in
     let same : AddsStates m S N = adds_same m S N (refl, refl, refl, refl, refl) refl refl (λ x. refl) in
     let at : IsOffset S offset = offset_more p T S codes.adds epoch offset c.requires.offset in
-    let leads = names_leads p T S c.requires.table offset c.requires.offset c.state_at-state.result c.nodes.result c.index-root.result.now byte next c.load.new.marks c.step.new.work c.state_at-state.ensures c.nodes.ensures.value
-    c.index-root.ensures c.load.ensures.same codes.names c.args.edge c.step.ensures.leads in
+    let here = leads (goal.at.returns-in-Some-clause-codes c).After-intern-next in
     record {
       table = note_cell p S codes.table offset column next byte c.args.edge at (omega arith) c.in-Some.ensures
-          (names_moved p T S codes.adds epoch (λ w a b. LeadsOn (nodes_of w p.arena.expr) w a byte c.args.edge b) offset next c.requires.offset.0 leads)
+          (names_moved p T S codes.adds epoch (λ w a b. LeadsOn (nodes_of w p.arena.expr) w a byte c.args.edge b) offset next c.requires.offset.0 here)
           (λ none. names_moved p T S codes.adds epoch (λ w a b. (end : Bool) → LeadsOn (nodes_of w p.arena.expr) w a byte end b) offset next c.requires.offset.0
           (names_anywhere p T S c.requires.table offset c.requires.offset c.state_at-state.result c.nodes.result c.index-root.result.now byte next c.load.new.marks c.step.new.work c.state_at-state.ensures c.nodes.ensures.value
           c.index-root.ensures c.load.ensures.same codes.names (c.step.ensures.anywhere none)));
       adds = adds_then m T S N codes.adds same refl refl;
-      names = names_more p S N same refl (IsNext p T offset byte c.args.edge) next leads;
+      names = names_more p S N same refl (IsNext p T offset byte c.args.edge) next here;
     }
 
 pub returns-else-self-epoch-clause-codes : goal.returns-else-self-epoch-clause-codes
 returns-else-self-epoch-clause-codes c =
     let codes = c.intern-next.ensures.codes in
-    record {
-      table = codes.table;
-      adds = codes.adds;
-      names = names_leads c.args.prepared.now c.args.self.now c.intern-next.new.self c.requires.table c.args.offset c.requires.offset c.state_at-state.result c.nodes.result c.index-root.result.now c.args.byte c.intern-next.result
-          c.load.new.marks c.step.new.work c.state_at-state.ensures c.nodes.ensures.value c.index-root.ensures c.load.ensures.same codes.names c.args.edge c.step.ensures.leads;
-    }
+    record { table = codes.table; adds = codes.adds; names = leads (goal.at.returns-else-self-epoch-clause-codes c).After-intern-next }
 
 pub returns-in-Some-clause-counts : goal.returns-in-Some-clause-counts
-returns-in-Some-clause-counts c =
-    let m = length c.args.prepared.now.arena.expr.nodes in
-    let stepped = c.step.ensures.cost in
-    let interned = c.intern-next.ensures.cost in
-    least_up c.args.steps.now c.load.new.steps c.intern-next.new.steps m (subst (λ n. TakesAtLeast c.args.steps.now c.load.new.steps n) c.nodes.ensures.value (least_own c.args.steps.now c.load.new.steps c.nodes.result c.nodes.result (omega arith) c.load.ensures.counts)) (omega (arith, stepped, interned))
+returns-in-Some-clause-counts c = counts (goal.at.returns-in-Some-clause-counts c).After-intern-next
 
 pub returns-else-self-epoch-clause-counts : goal.returns-else-self-epoch-clause-counts
-returns-else-self-epoch-clause-counts c =
-    let m = length c.args.prepared.now.arena.expr.nodes in
-    let stepped = c.step.ensures.cost in
-    let interned = c.intern-next.ensures.cost in
-    least_up c.args.steps.now c.load.new.steps c.intern-next.new.steps m (subst (λ n. TakesAtLeast c.args.steps.now c.load.new.steps n) c.nodes.ensures.value (least_own c.args.steps.now c.load.new.steps c.nodes.result c.nodes.result (omega arith) c.load.ensures.counts)) (omega (arith, stepped, interned))
+returns-else-self-epoch-clause-counts c = counts (goal.at.returns-else-self-epoch-clause-counts c).After-intern-next

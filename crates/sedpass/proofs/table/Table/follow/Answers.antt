@@ -1,10 +1,10 @@
 use Rattle.std.proofs.Common.{◌+◌, ◌-◌, ◌*◌, ◌≤◌, refl, sym, ap, subst, arith}
-use Rattle.sedtext.proofs.StepLemmas.{least_own, counted_twice}
 use Rattle.sedpass.specs.Forwards.{PassIs}
 use Rattle.sedpass.specs.declared.forwards.Passed.{Passed}
 use Rattle.sedpass.proofs.ForwardLemmas.{follows_on}
-use Rattle.sedpass.proofs.table.Table.follow.Goals as goal
+use Rattle.sedtext.proofs.CountLemmas.{least_counted, counted_twice}
 use Rattle.sedpass.proofs.table.Table.follow.Goals.{else-loop-place-test, then-loop-place-test+then-cell-eq0, then-loop-place-test+else-cell-eq0+then-at}
+use Rattle.sedpass.proofs.table.Table.follow.Goals as goal
 
 pub loop-place-preserved : goal.loop-place-preserved
 loop-place-preserved c = record {
@@ -41,5 +41,4 @@ returns-clause-counts c =
       | then-loop-place-test+then-cell-eq0 w ↦ omega (arith, ap (λ (x : Passed). x.place) w.at-is, w.bytes-is, w.tallied-byte.ensures.cost, place, bytes)
       | then-loop-place-test+else-cell-eq0+then-at w ↦ omega (arith, ap (λ (x : Passed). x.place) w.at-is, w.bytes-is, w.tallied-byte.ensures.cost, w.arrive-at.ensures.place, place, bytes)
     ] in
-    least_own c.args.steps.now c.add-2.new.self (2 * c.loop-place-test.bytes) (2 * (c.loop-place-test.at.place - c.args.from.place)) (omega (arith, few))
-    (counted_twice c.args.steps.now c.add.new.self c.add-2.new.self c.loop-place-test.bytes c.count.result c.count-2.result c.count.ensures c.count-2.ensures c.add.ensures.counts c.add-2.ensures.counts)
+    least_counted c.args.steps.now c.add-2.new.self (2 * c.loop-place-test.bytes) (2 * (c.loop-place-test.at.place - c.args.from.place)) (counted_twice c.args.steps.now c.add.new.self c.add-2.new.self c.loop-place-test.bytes c.count.result c.count-2.result c.count.ensures c.count-2.ensures c.add.ensures.counts c.add-2.ensures.counts) (omega (arith, few))

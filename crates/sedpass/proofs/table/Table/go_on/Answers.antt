@@ -1,13 +1,11 @@
-use Rattle.std.proofs.Common.{◌≡◌, ◌+◌, ◌-◌, ◌*◌, ◌/◌, ◌^◌, ◌≤◌, false, length, sym, subst, arith}
-use Rattle.std.specs.Prelude.{nat_eq}
+use Rattle.std.proofs.Common.{◌≡◌, ◌+◌, ◌-◌, ◌*◌, ◌/◌, ◌^◌, ◌≤◌, false, length, sym, subst, arith, nat_eq}
 use Rattle.std.proofs.lemmas.Bool.{eqb-true, eq-eqb}
-use Rattle.sedtext.proofs.StepLemmas.{least_own}
 use Rattle.sedpass.specs.Rows.{nodes_of}
 use Rattle.sedpass.specs.Table.{state_of, LeadsOn}
 use Rattle.sedpass.specs.declared.rows.Way.{Way}
-use Rattle.sedpass.proofs.CountLemmas.{least_both}
 use Rattle.sedpass.proofs.TableLemmas.{names_map}
 use Rattle.sedpass.proofs.ForwardLemmas.{goes_on, over_cost, fill_cost}
+use Rattle.sedtext.proofs.CountLemmas.{least_counted, least_both}
 use Rattle.sedpass.proofs.table.Table.go_on.Goals as goal
 
 pub arrive-requires-clause-code : goal.arrive-requires-clause-code
@@ -53,6 +51,6 @@ returns-clause-counts c =
     let from = c.args.from.place in
     let mid = c.follow-at.result.place in
     let s = c.args.steps.now in
-    let byte = least_own c.follow-at.new.steps c.byte-byte.new.steps 1 1 (omega arith) c.byte-byte.ensures.counts in
+    let byte = least_counted c.follow-at.new.steps c.byte-byte.new.steps 1 1 c.byte-byte.ensures.counts (omega arith) in
     let one = least_both s c.follow-at.new.steps c.byte-byte.new.steps (2 * (mid - from)) 1 (2 * (mid - from) + 1) c.follow-at.ensures.counts byte (omega arith) in
     least_both s c.byte-byte.new.steps c.next-code.new.steps (2 * (mid - from) + 1) 1 (2 * (c.arrive.result.place - from)) one c.next-code.ensures.counts (omega (arith, c.arrive.ensures.place, c.follow-at.ensures.after))

@@ -1,10 +1,9 @@
-use Rattle.std.proofs.Common.{◌*◌, ◌%◌, ◌^◌, ◌<◌, ◌∙◌, false, length, ap, subst, arith}
-use Rattle.std.specs.Prelude.{slice_index_or}
+use Rattle.std.proofs.Common.{◌*◌, ◌%◌, ◌^◌, ◌<◌, ◌∙◌, false, length, ap, subst, arith, slice_index_or}
 use Rattle.sedre.specs.Steps.{TakesAtLeast}
-use Rattle.sedtext.proofs.MarkLemmas.{default_same}
-use Rattle.sedpass.specs.Cells.{stops, code_of}
-use Rattle.sedpass.proofs.CountLemmas.{least_up}
+use Rattle.sedpass.specs.Table.{stops, code_of}
 use Rattle.sedpass.proofs.TableLemmas.{adds_none, few_offset, shifted}
+use Rattle.std.proofs.lemmas.List.{get_or_default}
+use Rattle.sedtext.proofs.CountLemmas.{least_up}
 use Rattle.sedpass.proofs.table.Table.intern.Goals as goal
 
 pub code_of-requires : goal.code_of-requires
@@ -14,7 +13,7 @@ code_of-requires c =
     let room = c.requires.table.room in
     let there : q < T.room = omega (arith, room.count, c.in-Some.ensures.there) in
     let small = c.requires.table.layout.small in
-    omega (arith, shifted q T.room T.layout.shift there room.few small, few_offset q T.room T.layout.shift there room.few small)
+    omega (arith, shifted q T.room T.layout.shift there room.rows.few small, few_offset q T.room T.layout.shift there room.rows.few small)
 
 pub returns-in-Some-clause-codes : goal.returns-in-Some-clause-codes
 returns-in-Some-clause-codes c =
@@ -22,8 +21,8 @@ returns-in-Some-clause-codes c =
     let q = c.in-Some.state in
     let room = c.requires.table.room in
     let there : q < T.room = omega (arith, room.count, c.in-Some.ensures.there) in
-    let inside : q < length T.flags.items = omega (arith, room.flags) in
-    let flags = c.index.ensures ∙ default_same T.flags.items q c.index.result.now (record { ends = false; dead = false }) inside in
+    let inside : q < length T.flags.items = omega (arith, room.rows.flags) in
+    let flags = c.index.ensures ∙ get_or_default T.flags.items q c.index.result.now (record { ends = false; dead = false }) inside in
     record {
       table = c.requires.table;
       adds = adds_none (length c.args.prepared.now.arena.expr.nodes) T;
@@ -32,7 +31,7 @@ returns-in-Some-clause-codes c =
         there = c.in-Some.ensures.there;
         code = c.code_of.ensures
             ∙ ap (λ b. code_of b (q * 2 ^ T.layout.shift % 2 ^ 64)) (c.stops.ensures ∙ ap (stops T.way) flags)
-            ∙ ap (λ o. code_of (stops T.way (slice_index_or T.flags.items q (record { ends = false; dead = false }))) o) (shifted q T.room T.layout.shift there room.few c.requires.table.layout.small);
+            ∙ ap (λ o. code_of (stops T.way (slice_index_or T.flags.items q (record { ends = false; dead = false }))) o) (shifted q T.room T.layout.shift there room.rows.few c.requires.table.layout.small);
         is = c.in-Some.ensures.has;
       };
     }

@@ -1,23 +1,23 @@
-use Rattle.std.proofs.Common.{◌+◌, ◌∙◌, arith}
-use Rattle.sedtext.proofs.MarkLemmas.{default_same}
+use Rattle.std.proofs.Common.{◌+◌, ◌<◌, ◌∙◌, length, arith}
 use Rattle.sedpass.proofs.TableLemmas.{cell_there, known_cell}
+use Rattle.std.proofs.lemmas.List.{get_or_default}
+use Rattle.sedpass.proofs.table.Table.known.Goals.{In-Some}
 use Rattle.sedpass.proofs.table.Table.known.Goals as goal
 
+-- the cell is there
+there : (c : In-Some) → c.args.offset + c.in-Some.column < length c.args.self.now.cells.items
+there c = cell_there c.args.prepared.now c.args.self.now c.requires.table c.args.offset c.args.byte c.in-Some.column c.args.edge c.requires.offset c.in-Some.ensures
+
 pub overflow_add-offset : goal.overflow_add-offset
-overflow_add-offset c =
-    let there = cell_there c.args.prepared.now c.args.self.now c.requires.table c.args.offset c.args.byte c.in-Some.column c.args.edge c.requires.offset c.in-Some.ensures in
-    omega (arith, there, c.args.self.now.cells.ok)
+overflow_add-offset c = omega (arith, there (goal.at.overflow_add-offset c).In-Some, c.args.self.now.cells.ok)
 
 pub index-requires : goal.index-requires
-index-requires c =
-    let there = cell_there c.args.prepared.now c.args.self.now c.requires.table c.args.offset c.args.byte c.in-Some.column c.args.edge c.requires.offset c.in-Some.ensures in
-    omega (arith, there, c.args.self.now.cells.ok)
+index-requires c = omega (arith, there (goal.at.index-requires c).In-Some, c.args.self.now.cells.ok)
 
 pub returns-in-Some : goal.returns-in-Some
 returns-in-Some c some =
-    let there = cell_there c.args.prepared.now c.args.self.now c.requires.table c.args.offset c.args.byte c.in-Some.column c.args.edge c.requires.offset c.in-Some.ensures in
     known_cell c.args.prepared.now c.args.self.now c.requires.table c.args.offset c.args.byte c.in-Some.column c.args.edge c.requires.offset c.in-Some.ensures c.index.result.now (omega arith)
-    (c.index.ensures ∙ default_same c.args.self.now.cells.items (c.args.offset + c.in-Some.column) c.index.result.now 0 there) some
+    (c.index.ensures ∙ get_or_default c.args.self.now.cells.items (c.args.offset + c.in-Some.column) c.index.result.now 0 (there (goal.at.returns-in-Some c).In-Some)) some
 
 pub returns-in-None : goal.returns-in-None
 returns-in-None c some = absurd (omega (arith, some))

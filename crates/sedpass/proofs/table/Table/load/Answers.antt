@@ -1,12 +1,11 @@
 use Rattle.std.proofs.Common.{◌+◌, ◌*◌, ◌∙◌, length, refl, subst, arith}
 use Rattle.sedre.specs.Steps.{TakesAtLeast}
 use Rattle.sedtext.specs.Words.{AgreeBelow, row_of}
-use Rattle.sedtext.proofs.StepLemmas.{least_own, counted_twice}
 use Rattle.sedpass.specs.Rows.{bits}
 use Rattle.sedpass.specs.Table.{HasRow}
-use Rattle.sedpass.proofs.CountLemmas.{least_up}
 use Rattle.sedpass.proofs.RowLemmas.{bits_agree}
 use Rattle.sedpass.proofs.TableLemmas.{codes_map}
+use Rattle.sedtext.proofs.CountLemmas.{least_counted, counted_twice, least_up}
 use Rattle.sedpass.proofs.table.Table.load.Goals as goal
 
 pub returns-clause-codes : goal.returns-clause-codes
@@ -24,5 +23,5 @@ pub returns-clause-counts : goal.returns-clause-counts
 returns-clause-counts c =
     let m = length c.args.prepared.now.arena.expr.nodes in
     let n = c.nodes-nodes.result in
-    let twice = least_own c.args.steps.now c.load-2.new.steps (2 * n) (2 * n) (omega arith) (counted_twice c.args.steps.now c.load.new.steps c.load-2.new.steps n n n refl refl c.load.ensures.counts c.load-2.ensures.counts) in
+    let twice = least_counted c.args.steps.now c.load-2.new.steps (2 * n) (2 * n) (counted_twice c.args.steps.now c.load.new.steps c.load-2.new.steps n n n refl refl c.load.ensures.counts c.load-2.ensures.counts) (omega arith) in
     least_up c.args.steps.now c.load-2.new.steps c.intern.new.steps (2 * m) (subst (λ x. TakesAtLeast c.args.steps.now c.load-2.new.steps (2 * x)) c.nodes-nodes.ensures.value twice) c.intern.ensures.cost.0

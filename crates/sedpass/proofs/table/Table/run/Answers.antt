@@ -4,9 +4,9 @@ use Rattle.sedpass.specs.Rows.{nodes_of}
 use Rattle.sedpass.specs.Table.{BeginsIn, Names}
 use Rattle.sedpass.specs.Forwards.{Arrives}
 use Rattle.sedpass.specs.declared.rows.Way.{Way}
-use Rattle.sedpass.proofs.CountLemmas.{least_both, least_fewer}
 use Rattle.sedpass.proofs.TableLemmas.{names_map}
-use Rattle.sedpass.proofs.ForwardLemmas.{arrives_first, end_below, none_before, pass_end, run_longest, run_found, run_passes}
+use Rattle.sedpass.proofs.ForwardLemmas.{arrives_first, end_below, none_before, run_longest, run_found, run_passes}
+use Rattle.sedtext.proofs.CountLemmas.{least_less, least_both}
 use Rattle.sedpass.proofs.table.Table.run.Goals as goal
 
 pub loop-at-init : goal.loop-at-init
@@ -31,9 +31,8 @@ loop-at-init c =
       shape = c.first-code.ensures.codes.adds.shape;
       offset = c.arrive-at.ensures.offset;
       passes = c.arrive-at.ensures.passes (subst (λ (x : Way). x.keeps ≡ false) (sym way) c.requires.keeps) from (omega arith) c.requires.from names (none_before p S.way w from);
-      grown = cost.0;
-      cost = omega (arith, cost, ap (λ x. 40 * m * (x + 1)) here);
-      counts = least_fewer c.args.steps.now c.first-code.new.steps 1 (2 * (c.arrive-at.result.place - from) + 1) (omega (arith, here)) c.first-code.ensures.counts;
+      cost = (cost.0, omega (arith, cost, ap (λ x. 40 * m * (x + 1)) here));
+      counts = least_less c.args.steps.now c.first-code.new.steps 1 (2 * (c.arrive-at.result.place - from) + 1) c.first-code.ensures.counts (omega (arith, here));
     }
 
 pub loop-at-preserved : goal.loop-at-preserved
@@ -42,7 +41,6 @@ loop-at-preserved c =
     let go = c.go_on-at.ensures in
     let after = i.passes.after in
     let before = i.cost in
-    let grown = i.grown in
     let cost = go.cost in
     let moved = go.after in
     record {
@@ -50,51 +48,30 @@ loop-at-preserved c =
       shape = (go.shape.0 ∙ i.shape.0, go.shape.1 ∙ i.shape.1, go.shape.2 ∙ i.shape.2, go.shape.3 ∙ i.shape.3, go.shape.4 ∙ i.shape.4);
       offset = go.offset;
       passes = go.passes (subst (λ (x : Way). x.keeps ≡ false) (sym i.shape.0) c.requires.keeps) c.args.from i.passes;
-      grown = omega (arith, grown, cost);
-      cost = omega (arith, before, cost);
+      cost = (omega (arith, before.0, cost), omega (arith, before.1, cost));
       counts = least_both c.args.steps.now c.loop-at.steps c.go_on-at.new.steps (2 * (c.loop-at.at.place - c.args.from) + 1) (2 * (c.go_on-at.result.place - c.loop-at.at.place)) (2 * (c.go_on-at.result.place - c.args.from) + 1) i.counts go.counts (omega (arith, after, moved));
     }
 
 pub returns-else-at-len-clause-longest : goal.returns-else-at-len-clause-longest
-returns-else-at-len-clause-longest c single =
-    let i = c.loop-at.invariant in
-    run_longest c.args.prepared.now c.args.self.now.way c.loop-at.self.way c.args.text.now c.args.from c.loop-at.at.end i.shape.0 c.requires.forwards
-    (pass_end c.args.prepared.now c.loop-at.self c.args.text.now c.args.from c.loop-at.at c.requires.from i.passes (inr (omega (arith, c.if-at-len.false, c.len-in-loop-at.ensures.is)))) single
+returns-else-at-len-clause-longest c single = let i = c.loop-at.invariant in run_longest c.args.prepared.now c.args.self.now.way c.loop-at.self c.args.text.now c.args.from c.loop-at.at i.shape.0 c.requires.forwards c.requires.from i.passes (inr (omega (arith, c.if-at-len.false, c.len-in-loop-at.ensures.is))) single
 
 pub returns-else-at-len-clause-found : goal.returns-else-at-len-clause-found
-returns-else-at-len-clause-found c all_starts =
-    let i = c.loop-at.invariant in
-    run_found c.args.prepared.now c.args.self.now.way c.loop-at.self.way c.args.text.now c.args.from c.loop-at.at.end i.shape.0 c.requires.forwards
-    (pass_end c.args.prepared.now c.loop-at.self c.args.text.now c.args.from c.loop-at.at c.requires.from i.passes (inr (omega (arith, c.if-at-len.false, c.len-in-loop-at.ensures.is)))) c.requires.from all_starts
-
-pub returns-after-loop-at-clause-longest : goal.returns-after-loop-at-clause-longest
-returns-after-loop-at-clause-longest c single =
-    let i = c.loop-at.invariant in
-    run_longest c.args.prepared.now c.args.self.now.way c.loop-at.self.way c.args.text.now c.args.from c.loop-at.at.end i.shape.0 c.requires.forwards
-    (pass_end c.args.prepared.now c.loop-at.self c.args.text.now c.args.from c.loop-at.at c.requires.from i.passes (inl (not-false c.loop-at.at.over c.loop-at-test.false))) single
-
-pub returns-after-loop-at-clause-found : goal.returns-after-loop-at-clause-found
-returns-after-loop-at-clause-found c all_starts =
-    let i = c.loop-at.invariant in
-    run_found c.args.prepared.now c.args.self.now.way c.loop-at.self.way c.args.text.now c.args.from c.loop-at.at.end i.shape.0 c.requires.forwards
-    (pass_end c.args.prepared.now c.loop-at.self c.args.text.now c.args.from c.loop-at.at c.requires.from i.passes (inl (not-false c.loop-at.at.over c.loop-at-test.false))) c.requires.from all_starts
+returns-else-at-len-clause-found c all_starts = let i = c.loop-at.invariant in run_found c.args.prepared.now c.args.self.now.way c.loop-at.self c.args.text.now c.args.from c.loop-at.at i.shape.0 c.requires.forwards c.requires.from i.passes (inr (omega (arith, c.if-at-len.false, c.len-in-loop-at.ensures.is))) all_starts
 
 pub returns-else-at-len-clause-reached : goal.returns-else-at-len-clause-reached
 returns-else-at-len-clause-reached c = end_below _ _ _ _ c.loop-at.at.place c.loop-at.at.end c.loop-at.invariant.passes.last
 
+pub returns-else-at-len-clause-passes : goal.returns-else-at-len-clause-passes
+returns-else-at-len-clause-passes c = let i = c.loop-at.invariant in run_passes c.args.prepared.now c.args.self.now.way c.loop-at.self c.args.text.now c.args.from c.loop-at.at i.shape.0 c.requires.forwards c.requires.from i.passes (inr (omega (arith, c.if-at-len.false, c.len-in-loop-at.ensures.is))) c.args.steps.now c.loop-at.steps i.counts
+
+pub returns-after-loop-at-clause-longest : goal.returns-after-loop-at-clause-longest
+returns-after-loop-at-clause-longest c single = let i = c.loop-at.invariant in run_longest c.args.prepared.now c.args.self.now.way c.loop-at.self c.args.text.now c.args.from c.loop-at.at i.shape.0 c.requires.forwards c.requires.from i.passes (inl (not-false c.loop-at.at.over c.loop-at-test.false)) single
+
+pub returns-after-loop-at-clause-found : goal.returns-after-loop-at-clause-found
+returns-after-loop-at-clause-found c all_starts = let i = c.loop-at.invariant in run_found c.args.prepared.now c.args.self.now.way c.loop-at.self c.args.text.now c.args.from c.loop-at.at i.shape.0 c.requires.forwards c.requires.from i.passes (inl (not-false c.loop-at.at.over c.loop-at-test.false)) all_starts
+
 pub returns-after-loop-at-clause-reached : goal.returns-after-loop-at-clause-reached
 returns-after-loop-at-clause-reached c = end_below _ _ _ _ c.loop-at.at.place c.loop-at.at.end c.loop-at.invariant.passes.last
 
-pub returns-else-at-len-clause-passes : goal.returns-else-at-len-clause-passes
-returns-else-at-len-clause-passes c =
-    let i = c.loop-at.invariant in
-    run_passes c.args.prepared.now c.args.self.now.way c.loop-at.self.way c.args.text.now c.args.from c.loop-at.at.end i.shape.0 c.requires.forwards
-    (pass_end c.args.prepared.now c.loop-at.self c.args.text.now c.args.from c.loop-at.at c.requires.from i.passes (inr (omega (arith, c.if-at-len.false, c.len-in-loop-at.ensures.is))))
-    c.args.steps.now c.loop-at.steps c.loop-at.at.place c.requires.from (end_below _ _ _ _ c.loop-at.at.place c.loop-at.at.end i.passes.last) i.counts
-
 pub returns-after-loop-at-clause-passes : goal.returns-after-loop-at-clause-passes
-returns-after-loop-at-clause-passes c =
-    let i = c.loop-at.invariant in
-    run_passes c.args.prepared.now c.args.self.now.way c.loop-at.self.way c.args.text.now c.args.from c.loop-at.at.end i.shape.0 c.requires.forwards
-    (pass_end c.args.prepared.now c.loop-at.self c.args.text.now c.args.from c.loop-at.at c.requires.from i.passes (inl (not-false c.loop-at.at.over c.loop-at-test.false)))
-    c.args.steps.now c.loop-at.steps c.loop-at.at.place c.requires.from (end_below _ _ _ _ c.loop-at.at.place c.loop-at.at.end i.passes.last) i.counts
+returns-after-loop-at-clause-passes c = let i = c.loop-at.invariant in run_passes c.args.prepared.now c.args.self.now.way c.loop-at.self c.args.text.now c.args.from c.loop-at.at i.shape.0 c.requires.forwards c.requires.from i.passes (inl (not-false c.loop-at.at.over c.loop-at-test.false)) c.args.steps.now c.loop-at.steps i.counts

@@ -1,7 +1,8 @@
-use Rattle.std.proofs.Common.{◌+◌, ◌-◌, ◌*◌, ◌≤◌, length}
+use Rattle.std.proofs.Common.{◌+◌, ◌-◌, ◌*◌, length}
 use Rattle.sedre.specs.Steps.{TakesAtLeast}
 use Rattle.sedpass.specs.Table.{IsTable, IsOffset, SameShape}
 use Rattle.sedpass.specs.Forwards.{PassIs}
+use Rattle.sedtext.specs.Costs.{CostsWithin}
 use Rattle.sedpass.proofs.table.Table.run.Given as goal
 
 abbrev pub invariant-loop-at : goal.invariant-loop-at
@@ -10,8 +11,7 @@ invariant-loop-at l = record {
   shape : SameShape l.fn.self l.self;
   offset : IsOffset l.self l.at.offset;
   passes : PassIs l.prepared l.self l.text l.from l.at;
-  grown : l.fn.steps ≤ l.steps;
-  cost : l.steps + 40 * length l.prepared.arena.expr.nodes * l.from ≤ l.fn.steps + 40 * length l.prepared.arena.expr.nodes * (l.at.place + 1);
+  cost : CostsWithin l.fn.steps l.steps (40 * length l.prepared.arena.expr.nodes * (l.at.place + 1)) (40 * length l.prepared.arena.expr.nodes * l.from);
   counts : TakesAtLeast l.fn.steps l.steps (2 * (l.at.place - l.from) + 1);
 }
 
