@@ -159,8 +159,7 @@ fn start_span(stretch: &Stretch, text: &Text, from: usize, steps: &mut Steps) ->
 }
 
 /// The longest stretch at the end of the text that begins at `from` or later.
-// As a part of a large function it would be slower by the byte.
-#[inline(never)]
+#[inline(always)]
 fn end_span(stretch: &Stretch, text: &Text, from: usize, steps: &mut Steps) -> Option<Span>
     requires from { from ≤ length text.now }
     ensures span { FirstStretch stretch.now AtEnd text.now from result }
@@ -210,9 +209,10 @@ fn either_span(stretch: &Stretch, text: &Text, from: usize, steps: &mut Steps) -
     }
 }
 
-/// The longest of the stretches that begin first from `from` on.
-#[inline(always)]
-pub fn stretch_span(stretch: &Stretch, text: &Text, from: usize, steps: &mut Steps) -> Option<Span>
+/// The longest of the stretches that begin first from `from` on, wherever they may stand.
+// As a part of its caller it would make the search for those that stand anywhere slower.
+#[inline(never)]
+fn placed_span(stretch: &Stretch, text: &Text, from: usize, steps: &mut Steps) -> Option<Span>
     requires from { from ≤ length text.now }
     ensures span { FirstStretch stretch.now stretch.now.place text.now from result }
     ensures cost { CostsWithin steps.old steps.new (4 * (end_or (length text.now) result + 1)) (4 * from) }
@@ -224,5 +224,19 @@ pub fn stretch_span(stretch: &Stretch, text: &Text, from: usize, steps: &mut Ste
         Place::AtEnd => end_span(stretch, text, from, steps),
         Place::Whole => whole_span(stretch, text, from, steps),
         Place::AtEitherEnd => either_span(stretch, text, from, steps),
+    }
+}
+
+/// The longest of the stretches that begin first from `from` on.
+#[inline(always)]
+pub fn stretch_span(stretch: &Stretch, text: &Text, from: usize, steps: &mut Steps) -> Option<Span>
+    requires from { from ≤ length text.now }
+    ensures span { FirstStretch stretch.now stretch.now.place text.now from result }
+    ensures cost { CostsWithin steps.old steps.new (4 * (end_or (length text.now) result + 1)) (4 * from) }
+    ensures counts { IfSome result (λ f. TakesAtLeast steps.old steps.new (bytes_sought stretch.now.place from f)) }
+{
+    match stretch.place {
+        Place::Anywhere => next_span(stretch, text, from, steps),
+        _ => placed_span(stretch, text, from, steps),
     }
 }
