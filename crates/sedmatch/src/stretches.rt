@@ -132,6 +132,9 @@ fn next_span(stretch: &Stretch, text: &Text, from: usize, steps: &mut Steps) -> 
     ensures cost { CostsWithin steps.old steps.new (end_or (length text.now) result + 1) from }
     ensures counts { IfSome result (λ f. TakesAtLeast steps.old steps.new (f.1 - from)) }
 {
+    if let First::Nothing = stretch.first {
+        return Some((from, rest_end(&stretch.rest, text, from, steps)));
+    }
     match stretch.first.find(text, from, steps) {
         None => None,
         Some(start) => {
@@ -210,7 +213,7 @@ fn either_span(stretch: &Stretch, text: &Text, from: usize, steps: &mut Steps) -
 }
 
 /// The longest of the stretches that begin first from `from` on, wherever they may stand.
-// As a part of its caller it would make the search for those that stand anywhere slower.
+// As a part of its caller it would make the search for those that stand anywhere, or at the beginning, slower.
 #[inline(never)]
 fn placed_span(stretch: &Stretch, text: &Text, from: usize, steps: &mut Steps) -> Option<Span>
     requires from { from ≤ length text.now }
@@ -237,6 +240,7 @@ pub fn stretch_span(stretch: &Stretch, text: &Text, from: usize, steps: &mut Ste
 {
     match stretch.place {
         Place::Anywhere => next_span(stretch, text, from, steps),
+        Place::AtStart => start_span(stretch, text, from, steps),
         _ => placed_span(stretch, text, from, steps),
     }
 }
