@@ -1,22 +1,25 @@
 -- Where in a text of many lines a line may have a match.
-use Rattle.std.proofs.Common.{◌≡◌, ℕ, ◌+◌, ◌-◌, ◌<◌, ◌≤◌, ◌⊎◌, ⊎_elim, Bool, List, ◌++◌, length, length-append, get_or, Option, Some, None, refl, sym, subst, ap, ◌∙◌, arith}
+use Rattle.std.proofs.Common.{◌≡◌, ℕ, ◌+◌, ◌-◌, ◌<◌, ◌≤◌, List, ◌++◌, length, length-append, get_or, Option, Some, None, refl, sym, subst, ap, ◌∙◌, arith}
 use Rattle.std.specs.Prelude.{slice_get, IfSome}
 use Rattle.std.proofs.lemmas.List.{get_or-append-add, get_or_append_left}
 use Rattle.std.proofs.lemmas.Option.{slice_get_within, slice_get-get_or, get_or_from_slice_get}
 use Rattle.memchr.specs.Find.{OccursAt}
-use Rattle.sedre.specs.Steps.{TakesExactly, TakesAtLeast}
+use Rattle.sedre.specs.Steps.{TakesAtLeast}
 use Rattle.sedre.specs.Tree.{Tree}
 use Rattle.sedtext.specs.Spans.{SomeFound}
-use Rattle.sedtext.specs.Bytes.{AreBytes, FirstFrom, looked_at}
+use Rattle.sedtext.specs.Bytes.{AreBytes, FirstFrom}
 use Rattle.sedtext.specs.Choice.{ChoiceAt, ChoiceSpans, FirstChoice}
-use Rattle.sedtext.specs.Needed.{FirstLiteral, IsNeeded, passed_to}
+use Rattle.sedtext.specs.Needed.{FirstLiteral, IsNeeded}
 use Rattle.sedtext.specs.declared.needed.RequiredLiteral.{RequiredLiteral}
-use Rattle.sedtext.proofs.CountLemmas.{least_counted, least_less}
-use Rattle.sedmatch.specs.Direct.{FirstWith, FormSpans, SpannedAs, StartsWith}
+use Rattle.sedtext.proofs.CountLemmas.{least_less}
 use Rattle.sedmatch.specs.Candidates.{IsBefore, NoMatchBefore}
-use Rattle.sedmatch.specs.declared.direct.First.{First}
+use Rattle.sedmatch.specs.Direct.{FormSpans, SpannedAs}
+use Rattle.sedmatch.specs.Stretches.{ComesFirst}
 use Rattle.sedmatch.specs.declared.direct.DirectForm.{DirectForm}
-use Rattle.sedmatch.specs.declared.direct.DirectForm.TheVariants.{ByteThenRunAtEnd, OneByte, ByteThenRun, Literal, Choice}
+use Rattle.sedmatch.specs.declared.direct.DirectForm.TheVariants.{Stretch as StretchForm, Literal, Choice}
+use Rattle.sedmatch.specs.declared.stretches.First.{First}
+use Rattle.sedmatch.specs.declared.stretches.First.TheVariants.{Nothing, Among, Member}
+use Rattle.sedmatch.specs.declared.stretches.Stretch.{Stretch}
 
 -- A part of a text.
 module _ (before line behind : List ℕ) where
@@ -45,8 +48,10 @@ module _ (before line behind : List ℕ) where
         ap (λ k. get_or whole k 0) place ∙ same_at (p + j) 0 (omega (arith, h.fits)) ∙ h.reads j less;
   }
 
-  starts_there : (first : First) (i : ℕ) → StartsWith first line i → StartsWith first whole (length before + i)
-  starts_there first i (c, is, comes) = (c, byte_there i c is, comes)
+  comes_there : (first : First) (i : ℕ) → ComesFirst first line i → ComesFirst first whole (length before + i)
+  comes_there Nothing i within = omega (arith, within, length_whole)
+  comes_there (Among few) i (c, is, comes) = (c, byte_there i c is, comes)
+  comes_there (Member set) i (c, is, comes) = (c, byte_there i c is, comes)
 
   choice_there : (words : List (List ℕ)) (i : ℕ) → ChoiceAt words line i → ChoiceAt words whole (length before + i)
   choice_there words i (literal, k, is, occurs) = (literal, k, is, occurs_there literal i occurs)
@@ -73,26 +78,11 @@ module _ (e : Tree) (w : List ℕ) (bytes : AreBytes w) (r : Option ℕ) where
   spans_there : (s : DirectForm) → SpannedAs e s → (before line behind : List ℕ) → w ≡ before ++ (line ++ behind) → (found : SomeFound e line 0) → FormSpans s line found.0 found.1
   spans_there s form before line behind is found = (form line (bytes_here before line behind (subst AreBytes is bytes)) found.0 found.1 found.3).0 found.4
 
-  with_before : (s : DirectForm) (first : First) → SpannedAs e s → ((v : List ℕ) (i j : ℕ) → i ≤ length v → FormSpans s v i j → (k : ℕ) × StartsWith first v k) → FirstWith first w 0 r → NoMatchBefore e w r
-  with_before s first form starts h = λ before line behind is ends found.
-      let at = starts line found.0 found.1 found.3 (spans_there s form before line behind is found) in
-      let less : at.0 < length line = slice_get_within line at.0 at.1.0 at.1.1 in
-      let there : StartsWith first w (length before + at.0) = subst (λ (w : List ℕ). StartsWith first w (length before + at.0)) (sym is) (starts_there before line behind first at.0 at.1) in
-      first_after (StartsWith first w) r (length before + at.0) (length before + length line) h there (omega (arith, less)) ends
-
-  pub byte_before : (s : DirectForm) (first : First) → (s ≡ OneByte first) ⊎ (((x : List Bool) × (s ≡ ByteThenRun first x)) ⊎ ((x : List Bool) × (s ≡ ByteThenRunAtEnd first x))) → FirstWith first w 0 r → SpannedAs e s → NoMatchBefore e w r
-  byte_before s first is h form = with_before s first form (λ v i j within spans. (i, begins v i j spans)) h
-    where
-      begins : (v : List ℕ) (i j : ℕ) → FormSpans s v i j → StartsWith first v i
-      begins v i j spans =
-          let of : (t : DirectForm) → s ≡ t → FormSpans t v i j = λ t same. subst (λ f. FormSpans f v i j) same spans in
-          ⊎_elim
-          (λ (one : s ≡ OneByte first). (of (OneByte first) one).0)
-          (λ (more : ((x : List Bool) × (s ≡ ByteThenRun first x)) ⊎ ((x : List Bool) × (s ≡ ByteThenRunAtEnd first x))). ⊎_elim
-          (λ (run : (x : List Bool) × (s ≡ ByteThenRun first x)). (of (ByteThenRun first run.0) run.1).0)
-          (λ (end : (x : List Bool) × (s ≡ ByteThenRunAtEnd first x)). (of (ByteThenRunAtEnd first end.0) end.1).0)
-          more)
-          is
+  pub stretch_before : (s : Stretch) → FirstFrom (ComesFirst s.first w) 0 r → SpannedAs e (StretchForm s) → NoMatchBefore e w r
+  stretch_before s h form = λ before line behind is ends found.
+      let spans = spans_there (StretchForm s) form before line behind is found in
+      let there : ComesFirst s.first w (length before + found.0) = subst (λ (w : List ℕ). ComesFirst s.first w (length before + found.0)) (sym is) (comes_there before line behind s.first found.0 spans.0) in
+      first_after (ComesFirst s.first w) r (length before + found.0) (length before + length line) h there (omega (arith, found.3)) ends
 
   pub literal_before : (literal : List ℕ) → FirstLiteral w literal 0 r → SpannedAs e (Literal literal) → NoMatchBefore e w r
   literal_before literal h form = λ before line behind is ends found.
@@ -106,16 +96,7 @@ module _ (e : Tree) (w : List ℕ) (bytes : AreBytes w) (r : Option ℕ) where
       let there : ChoiceAt words w (length before + found.0) = subst (λ (w : List ℕ). ChoiceAt words w (length before + found.0)) (sym is) (choice_there before line behind words found.0 (s.0, s.1, s.2, s.3)) in
       choice_after words w r (length before + found.0) (length before + length line) h there (omega (arith, found.3)) ends
 
--- What is counted up to the place.
-
-pub counts_byte : (n s t : ℕ) (r : Option ℕ) → TakesExactly s t (looked_at n 0 r) → IfSome r (λ k. TakesAtLeast s t k)
-counts_byte n s t None counted = tt
-counts_byte n s t (Some k) counted = least_counted s t (k + 1 - 0) k counted (omega arith)
-
-pub counts_literal : (n m s t : ℕ) (r : Option ℕ) → TakesExactly s t (passed_to n 0 m r) → IfSome r (λ k. TakesAtLeast s t k)
-counts_literal n m s t None counted = tt
-counts_literal n m s t (Some k) counted = least_counted s t (k + m - 0) k counted (omega arith)
-
+-- what is counted up to the place
 pub counts_choice : (literals : List (List ℕ)) (w : List ℕ) (s t : ℕ) (r : Option ℕ) → FirstChoice literals w 0 r → IfSome r (λ k. (j : ℕ) → ChoiceSpans literals w k j → TakesAtLeast s t (j - 0)) →
     IfSome r (λ k. TakesAtLeast s t k)
 counts_choice literals w s t None first looks = tt

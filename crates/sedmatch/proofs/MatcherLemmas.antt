@@ -9,7 +9,8 @@ use Rattle.sedtext.specs.Answer.{SpanAnswer}
 use Rattle.sedtext.specs.Following.{EndsWithin, LiesOn, next_span}
 use Rattle.sedtext.specs.Matching.{found, unless_null_at}
 use Rattle.sedpass.proofs.OccurrenceLemmas.{answer_found, passed_by, search_falls}
-use Rattle.sedmatch.specs.Direct.{IsDirect, end_or}
+use Rattle.sedmatch.specs.Direct.{IsDirect}
+use Rattle.sedmatch.specs.Stretches.{end_or}
 use Rattle.sedmatch.specs.Occurrences.{Serves, ServesOn, owed, owed_after, owed_direct, owed_direct_after}
 use Rattle.sedmatch.specs.Passes.{IsEngine, written_of}
 use Rattle.sedmatch.specs.declared.direct.DirectForm.{DirectForm}

@@ -7,7 +7,8 @@ pub use Rattle.sedtext.specs.SearchRoom
 pub use Rattle.sedtext.specs.Costs
 pub use Rattle.sedtext.specs.Following
 pub mod Direct
-pub mod EitherEnd
+pub mod Shapes
+pub mod Stretches
 pub mod Candidates
 pub mod Passes
 pub mod Occurrences

@@ -14,10 +14,11 @@
 #![tactic(auto)]
 
 mod direct;
-mod either_end;
 mod occurrences;
 mod passes;
 mod scratch;
+mod shapes;
+mod stretches;
 mod table_matcher;
 mod table_room;
 mod whole;

@@ -12,9 +12,10 @@ ghost use Rattle.sedtext.specs.Spans.{SomeFound, Matches};
 ghost use Rattle.sedmatch.specs.Candidates.{NoMatchBefore};
 ghost use Rattle.sedpass.specs.Decide.{found as spans_in};
 ghost use Rattle.sedpass.specs.Walks.{EntersGroups};
-ghost use Rattle.sedmatch.specs.Direct.{IsDirect, end_or, rate};
+ghost use Rattle.sedmatch.specs.Direct.{IsDirect, rate};
 ghost use Rattle.sedmatch.specs.Occurrences.{Serves, ServesOn, TellsNext, owed, owed_after, owed_direct, owed_direct_after};
 ghost use Rattle.sedmatch.specs.Passes.{ArePasses, IsDesk, KeepsDesk, KeepsPasses};
+ghost use Rattle.sedmatch.specs.Stretches.{end_or};
 
 use crate::Span;
 use crate::direct::{
@@ -186,6 +187,7 @@ impl TableMatcher {
     /// A place of a text of many lines before which no line has a match, each line taken as a text of its own; None where no
     /// line has one. It is told by what every match holds, a literal mostly. Where nothing of the kind is known, it is the
     /// first place.
+    #[tactic(auto, unfolding(sedre::specs::Steps::TakesAtLeast, sedre::specs::Steps::TakesExactly))]
     pub fn candidate(&self, text: &Text, steps: &mut Steps) -> Option<usize>
         ensures before { NoMatchBefore (expression_tree self.now) text.now result }
         ensures cost { Takes steps.old steps.new (25 * (length text.now + 1)) }

@@ -3,7 +3,7 @@ use Rattle.std.proofs.Common.{◌≡◌, ℕ, ◌↔◌, List, Some, refl, inl, 
 use Rattle.std.specs.Prelude.{slice_get}
 use Rattle.sedre.specs.Arena.{IsArena}
 use Rattle.sedre.specs.declared.types.Node.{Node}
-use Rattle.sedre.specs.declared.types.Node.TheVariants.{Set, Begin, Seq, Alt, Group, Star}
+use Rattle.sedre.specs.declared.types.Node.TheVariants.{Set, Begin, End, Seq, Alt, Group, Star}
 use Rattle.sedtext.specs.Forms.{HasForm, node_form}
 use Rattle.sedtext.specs.Reach.{At}
 use Rattle.sedtext.proofs.ReachLemmas.{NodeSpans, open_at, close_at}
@@ -18,6 +18,7 @@ module _ (nodes : List Node) (arena : IsArena nodes) (x : ℕ) where
     λ h. (at_node (Set s) is w i j).1 (h.0.0, h.0.1, h.0.2, h.1),
   )
   has_form Begin is = at_node Begin is
+  has_form End is = at_node End is
   has_form (Seq a b) is = (arena.below x a.index (Seq a b) is (inl refl), arena.below x b.index (Seq a b) is (inr refl), at_node (Seq a b) is)
   has_form (Alt a b) is = (arena.below x a.index (Alt a b) is (inl refl), arena.below x b.index (Alt a b) is (inr refl), at_node (Alt a b) is)
   has_form (Group k a) is = (arena.below x a.index (Group k a) is refl, at_node (Group k a) is)

@@ -1,19 +1,20 @@
 -- Private to the proofs: no contract that `sedmatch` makes public cites what stands here.
 -- What the spans of a node are made of.
-use Rattle.std.specs.Prelude.{◌≡◌, ℕ, ◌+◌, ◌<◌, ◌≤◌, ◌⊎◌, ◌↔◌, Bool, List}
+use Rattle.std.specs.Prelude.{◌≡◌, ℕ, ◌+◌, ◌<◌, ◌≤◌, ◌⊎◌, ◌↔◌, Bool, List, length}
 use Rattle.sedre.specs.declared.types.Node.{Node}
-use Rattle.sedre.specs.declared.types.Node.TheVariants.{Set, Begin, Seq, Alt, Group, Star}
+use Rattle.sedre.specs.declared.types.Node.TheVariants.{Set, Begin, End as EndNode, Seq, Alt, Group, Star}
 use Rattle.sedtext.specs.Spans.{CopiesLead}
 use Rattle.sedtext.specs.Reach.{At}
 use Rattle.sedtext.specs.Beginnings.{CanBegin, LeadsWith}
 use Rattle.sedtext.specs.declared.beginnings.Begins.TheVariants.{WithSet}
 use Rattle.sedtext.specs.declared.forms.Form.{Form}
-use Rattle.sedtext.specs.declared.forms.Form.TheVariants.{Byte, Start, Both, Either, Inner, Copies, Other}
+use Rattle.sedtext.specs.declared.forms.Form.TheVariants.{Byte, Start, End, Both, Either, Inner, Copies, Other}
 
 -- the form of a node
 abbrev pub node_form : Node → Form
 node_form (Set s) = Byte s
 node_form Begin = Start
+node_form EndNode = End
 node_form (Seq a b) = Both a.index b.index
 node_form (Alt a b) = Either a.index b.index
 node_form (Group k a) = Inner a.index
@@ -28,6 +29,7 @@ IsOfSet nodes x s = (w : List ℕ) (i j : ℕ) → At nodes w x i j ↔ (CanBegi
 abbrev pub HasForm : List Node → ℕ → Form → Type 0
 HasForm nodes x (Byte s) = IsOfSet nodes x s
 HasForm nodes x Start = (w : List ℕ) (i j : ℕ) → At nodes w x i j ↔ ((i ≡ 0) × (j ≡ 0))
+HasForm nodes x End = (w : List ℕ) (i j : ℕ) → At nodes w x i j ↔ ((i ≡ length w) × (j ≡ length w))
 HasForm nodes x (Both y z) = (y < x) × (z < x) × ((w : List ℕ) (i j : ℕ) → At nodes w x i j ↔ ((k : ℕ) × At nodes w y i k × At nodes w z k j))
 HasForm nodes x (Either y z) = (y < x) × (z < x) × ((w : List ℕ) (i j : ℕ) → At nodes w x i j ↔ (At nodes w y i j ⊎ At nodes w z i j))
 HasForm nodes x (Inner y) = (y < x) × ((w : List ℕ) (i j : ℕ) → At nodes w x i j ↔ At nodes w y i j)

@@ -12,6 +12,8 @@ pub enum Form {
     Byte(ByteSet),
     /// No byte, at the beginning of the text.
     Start,
+    /// No byte, at the end of the text.
+    End,
     /// A span of the first node, and one of the second after it.
     Both(usize, usize),
     /// A span of either node.
@@ -31,6 +33,7 @@ fn node_form(node: &Node) -> Form
     match node {
         Node::Set(set) => Form::Byte(*set),
         Node::Begin => Form::Start,
+        Node::End => Form::End,
         Node::Seq(a, b) => Form::Both(a.index(), b.index()),
         Node::Alt(a, b) => Form::Either(a.index(), b.index()),
         Node::Group(_, a) => Form::Inner(a.index()),

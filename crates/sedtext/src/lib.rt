@@ -15,7 +15,7 @@
 
 pub mod beginnings;
 pub mod counted;
-mod forms;
+pub mod forms;
 mod found;
 pub mod hints;
 mod laws;

@@ -14,4 +14,4 @@ returns-clause-counts c =
 
 pub returns-clause-passes : goal.returns-clause-passes
 returns-clause-passes c = λ e is early.
-    looks_from (expression_tree e) c.args.form.now c.args.text.now c.args.from c.args.steps.now c.form_span.new.steps c.form_span.result is.0 early c.form_span.ensures.span c.form_span.ensures.counts
+    looks_from (expression_tree e) c.args.form.now c.args.from c.args.steps.now c.form_span.new.steps c.form_span.result is.0 early c.form_span.ensures.counts

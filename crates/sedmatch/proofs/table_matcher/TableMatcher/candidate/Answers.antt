@@ -1,10 +1,9 @@
-use Rattle.std.proofs.Common.{ap, length, refl, subst, sym}
+use Rattle.std.proofs.Common.{ap, subst, sym}
 use Rattle.sedre.specs.Tree.{expression_tree}
 use Rattle.sedtext.specs.Needed.{IsNeeded}
-use Rattle.sedtext.proofs.CountLemmas.{least_none}
 use Rattle.sedmatch.specs.Passes.{ArePasses, IsEngine, written_of}
 use Rattle.sedmatch.specs.declared.passes.Passes.{Passes}
-use Rattle.sedmatch.proofs.CandidateLemmas.{counts_literal, needed_before}
+use Rattle.sedmatch.proofs.CandidateLemmas.{needed_before}
 use Rattle.sedmatch.proofs.MatcherLemmas.{passes_are}
 use Rattle.sedmatch.proofs.table_matcher.TableMatcher.candidate.Goals as goal
 
@@ -15,9 +14,3 @@ returns-in-Some-clause-before c =
     let is = passes_are c.self.inside.engine c.args.self.now c.deref.result.now _ c.self.view_is (ap written_of c.in-Passes.is) value in
     let are = subst (λ (x : Passes). ArePasses x.sought.prepared.arena.expr x) (sym value) (subst IsEngine c.in-Passes.is c.self.invariant) in
     rw is at (needed_before e c.in-Some.needed c.args.text.now c.find_literal.result (subst (IsNeeded e) c.in-Some.is are.0.hints.0) c.find_literal.ensures.first)
-
-pub returns-in-Some-clause-counts : goal.returns-in-Some-clause-counts
-returns-in-Some-clause-counts c = counts_literal (length c.args.text.now) _ c.args.steps.now c.find_literal.new.steps c.find_literal.result c.find_literal.ensures.counts
-
-pub returns-in-None-clause-counts : goal.returns-in-None-clause-counts
-returns-in-None-clause-counts c = least_none c.args.steps.now 0 refl

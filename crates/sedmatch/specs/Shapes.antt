@@ -1,0 +1,34 @@
+-- Private to the proofs: no contract that `sedmatch` makes public cites what stands here.
+-- Which nodes are a stem, and where it stands.
+use Rattle.std.specs.Prelude.{◌≡◌, ℕ, ◌+◌, ◌≤◌, ◌↔◌, Bool, List, length, Option, Some, None}
+use Rattle.sedre.specs.declared.types.Node.{Node}
+use Rattle.sedtext.specs.Beginnings.{CanBegin}
+use Rattle.sedtext.specs.Bytes.{AreBytes}
+use Rattle.sedtext.specs.declared.beginnings.Begins.TheVariants.{WithSet}
+use Rattle.sedtext.specs.Reach.{At}
+use Rattle.sedtext.specs.Runs.{Repeated}
+use Rattle.sedmatch.specs.Stretches.{ComesFirst, Follow, Stands, width}
+use Rattle.sedmatch.specs.declared.shapes.Stem.{Stem}
+use Rattle.sedmatch.specs.declared.stretches.First.{First}
+use Rattle.sedmatch.specs.declared.stretches.Place.{Place}
+
+-- a byte of the set leads from i to k; where there is no set, no byte does
+abbrev pub ByteLeads : Option (List Bool) → List ℕ → ℕ → ℕ → Type 0
+ByteLeads None w i k = k ≡ i
+ByteLeads (Some set) w i k = CanBegin (WithSet set) w i × (k ≡ i + 1)
+
+-- the stem leads from i to j: its byte, and those that follow
+abbrev pub StemLeads : Stem → List ℕ → ℕ → ℕ → Type 0
+StemLeads stem w i j = (k : ℕ) × ByteLeads stem.first w i k × Follow stem.rest w k j
+
+-- the spans of the node x are runs of the set that end with the text
+abbrev pub IsLastRun : List Node → ℕ → List Bool → Type 0
+IsLastRun nodes x members = (w : List ℕ) (i j : ℕ) → At nodes w x i j ↔ (Repeated members w i j × (j ≡ length w))
+
+-- the spans of the node x are those of the stem that stand at the place
+abbrev pub IsStem : List Node → ℕ → Stem → Place → Type 0
+IsStem nodes x stem place = (w : List ℕ) (i j : ℕ) → At nodes w x i j ↔ (StemLeads stem w i j × Stands place w i j)
+
+-- in a text of bytes, what comes first is a byte of the set, if there is one
+abbrev pub IsFirst : Option (List Bool) → First → Type 0
+IsFirst set first = (w : List ℕ) → AreBytes w → (i k : ℕ) → i ≤ length w → ByteLeads set w i k ↔ (ComesFirst first w i × (k ≡ i + width first))

@@ -1,0 +1,75 @@
+-- Private to the proofs: no contract that `sedmatch` makes public cites what stands here.
+-- A byte that comes first, or none, and bytes of a set that follow, or none, and where they stand.
+use Rattle.std.specs.Prelude.{◌≡◌, ℕ, ◌+◌, ◌-◌, ◌<◌, ◌≤◌, ◌⊎◌, Bool, List, length, Option, Some, None}
+use Rattle.sedtext.specs.Beginnings.{CanBegin}
+use Rattle.sedtext.specs.declared.beginnings.Begins.TheVariants.{WithSet}
+use Rattle.sedtext.specs.Bytes.{FirstFrom}
+use Rattle.sedtext.specs.Few.{FewAt}
+use Rattle.sedtext.specs.Runs.{Repeated}
+use Rattle.sedmatch.specs.declared.stretches.First.{First}
+use Rattle.sedmatch.specs.declared.stretches.First.TheVariants.{Nothing, Among, Member}
+use Rattle.sedmatch.specs.declared.stretches.Place.{Place}
+use Rattle.sedmatch.specs.declared.stretches.Place.TheVariants.{Anywhere, AtStart, AtEnd, Whole, AtEitherEnd}
+use Rattle.sedmatch.specs.declared.stretches.Stretch.{Stretch}
+
+-- what comes first stands at the place
+abbrev pub ComesFirst : First → List ℕ → ℕ → Type 0
+ComesFirst Nothing w i = i ≤ length w
+ComesFirst (Among few) w i = FewAt few w i
+ComesFirst (Member set) w i = CanBegin (WithSet set) w i
+
+-- how many bytes come first
+abbrev pub width : First → ℕ
+width Nothing = 0
+width other = 1
+
+-- the bytes from i up to j are such as follow
+abbrev pub Follow : Option (List Bool) → List ℕ → ℕ → ℕ → Type 0
+Follow None w i j = j ≡ i
+Follow (Some members) w i j = Repeated members w i j
+
+-- a span from i to j stands at the place of the text
+abbrev pub Stands : Place → List ℕ → ℕ → ℕ → Type 0
+Stands Anywhere w i j = Unit {0}
+Stands AtStart w i j = i ≡ 0
+Stands AtEnd w i j = j ≡ length w
+Stands Whole w i j = (i ≡ 0) × (j ≡ length w)
+Stands AtEitherEnd w i j = (i ≡ 0) ⊎ (j ≡ length w)
+
+-- the spans of a stretch that stand at the place
+abbrev pub StretchSpans : Stretch → Place → List ℕ → ℕ → ℕ → Type 0
+StretchSpans s place w i j = ComesFirst s.first w i × Follow s.rest w (i + width s.first) j × Stands place w i j
+
+-- the longest of the spans that begin first from p on, in a text of n bytes, if there is one
+abbrev pub FirstOf : (ℕ → ℕ → Type 0) → ℕ → ℕ → Option (ℕ × ℕ) → Type 0
+FirstOf Spans n p None = (i j : ℕ) → p ≤ i → i ≤ n → Spans i j → ⊥
+FirstOf Spans n p (Some f) =
+    (p ≤ f.0) × Spans f.0 f.1 × (f.1 ≤ n) × ((j : ℕ) → Spans f.0 j → j ≤ f.1) × ((i j : ℕ) → p ≤ i → i < f.0 → Spans i j → ⊥)
+
+-- the same of the spans of a stretch at the place
+abbrev pub FirstStretch : Stretch → Place → List ℕ → ℕ → Option (ℕ × ℕ) → Type 0
+FirstStretch s place w = FirstOf (StretchSpans s place w) (length w)
+
+-- the bytes that follow from i on end at j at the farthest
+abbrev pub FollowTo : Option (List Bool) → List ℕ → ℕ → ℕ → Type 0
+FollowTo rest w i j = (j ≤ length w) × Follow rest w i j × ((k : ℕ) → Follow rest w i k → k ≤ j)
+
+-- i is the first place from p on from which the text is of bytes that follow
+abbrev pub FollowFrom : Option (List Bool) → List ℕ → ℕ → ℕ → Type 0
+FollowFrom rest w p i = (p ≤ i) × (i ≤ length w) × Follow rest w i (length w) × ((h : ℕ) → p ≤ h → h < i → Follow rest w h (length w) → ⊥)
+
+-- a place after what comes first, or the end n of the text
+abbrev pub behind : First → ℕ → Option ℕ → ℕ
+behind first n None = n
+behind first n (Some k) = k + width first
+
+-- where the match found ends, or the end n of the text
+abbrev pub end_or : ℕ → Option (ℕ × ℕ) → ℕ
+end_or n None = n
+end_or n (Some f) = f.1
+
+-- How many bytes are looked at at least where a stretch is found from p on. At the end of the text it is sought back from there,
+-- and these are its own.
+abbrev pub bytes_sought : Place → ℕ → ℕ × ℕ → ℕ
+bytes_sought AtEnd p f = f.1 - f.0
+bytes_sought other p f = f.1 - p

@@ -1,0 +1,246 @@
+//! Stretches: a byte that comes first, or none, and bytes of a set that follow, any number of them, or none; anywhere in the text or
+//! at its ends. `x`, `x*`, `xx*`, each with anchors, `^x+|x+$`, and anchors alone are such.
+#![tactic(auto, unfolding(sedre::specs::Steps::TakesAtLeast, sedre::specs::Steps::TakesExactly))]
+
+ghost use Rattle.std.specs.Prelude.{◌≡◌, ℕ, ◌+◌, ◌-◌, ◌*◌, ◌≤◌, ◌↔◌, length, IfSome, IsTrue};
+ghost use Rattle.sedre.specs.Steps.{Takes, TakesAtLeast};
+ghost use Rattle.sedtext.specs.Bytes.{FirstFrom};
+ghost use Rattle.sedtext.specs.Costs.{CostsWithin};
+ghost use Rattle.sedmatch.specs.Stretches.{ComesFirst, FirstStretch, FollowFrom, FollowTo, behind, bytes_sought, end_or, width};
+ghost use Rattle.sedmatch.specs.declared.stretches.Place.TheVariants.{Anywhere, AtEitherEnd, AtEnd, AtStart, Whole};
+
+use crate::Span;
+use sedre::{ByteSet, Steps};
+use sedtext::counted::Text;
+use sedtext::counted::few::Few;
+use sedtext::counted::lookups::find_few;
+use sedtext::counted::members::{find_member, run_begin, run_end};
+
+/// What comes first, as it is sought.
+#[derive(Clone, Copy)]
+pub enum First {
+    /// No byte: what follows stands alone.
+    Nothing,
+    /// One of these few.
+    Among(Few),
+    /// One of this set.
+    Member(ByteSet),
+}
+
+/// Where a stretch stands.
+#[derive(Clone, Copy)]
+pub enum Place {
+    /// Anywhere.
+    Anywhere,
+    /// At the beginning of the text.
+    AtStart,
+    /// At the end of the text.
+    AtEnd,
+    /// From the beginning of the text to its end.
+    Whole,
+    /// At the beginning of the text, or at its end.
+    AtEitherEnd,
+}
+
+/// What comes first, what follows it, and where they stand.
+#[derive(Clone, Copy)]
+pub struct Stretch {
+    /// What comes first.
+    pub first: First,
+    /// The set whose bytes follow, if some do.
+    pub rest: Option<ByteSet>,
+    /// Where it stands.
+    pub place: Place,
+}
+
+impl First {
+    /// How many bytes it has.
+    #[inline(always)]
+    fn width(&self) -> usize
+        ensures { result ≡ width self.now }
+    {
+        match self {
+            First::Nothing => 0,
+            _ => 1,
+        }
+    }
+
+    /// The first place from `from` on at which it stands.
+    /// Counts a look for each byte from `from` to it, or to the end where there is none.
+    #[inline(always)]
+    pub fn find(&self, text: &Text, from: usize, steps: &mut Steps) -> Option<usize>
+        requires from { from ≤ length text.now }
+        ensures first { FirstFrom (ComesFirst self.now text.now) from result }
+        ensures cost { CostsWithin steps.old steps.new (behind self.now (length text.now) result) from }
+        ensures counts { IfSome result (λ k. TakesAtLeast steps.old steps.new (k + width self.now - from)) }
+    {
+        match self {
+            First::Nothing => Some(from),
+            First::Among(few) => find_few(text, few, from, steps),
+            First::Member(set) => find_member(text, set, from, steps),
+        }
+    }
+
+    /// Whether the text begins with it.
+    #[inline(always)]
+    fn begins(&self, text: &Text, steps: &mut Steps) -> bool
+        ensures begins { IsTrue result ↔ ComesFirst self.now text.now 0 }
+        ensures cost { Takes steps.old steps.new 1 }
+        ensures counts { IsTrue result → TakesAtLeast steps.old steps.new (width self.now) }
+    {
+        match self {
+            First::Nothing => true,
+            First::Among(few) => text.len() > 0 && few.has(text.byte(0, steps)),
+            First::Member(set) => text.len() > 0 && set.has(text.byte(0, steps)),
+        }
+    }
+}
+
+/// Where the bytes that follow from the place on end.
+#[inline(always)]
+fn rest_end(rest: &Option<ByteSet>, text: &Text, from: usize, steps: &mut Steps) -> usize
+    requires from { from ≤ length text.now }
+    ensures to { FollowTo rest.now text.now from result }
+    ensures cost { CostsWithin steps.old steps.new (result + 1) from }
+    ensures counts { TakesAtLeast steps.old steps.new (result - from) }
+{
+    match rest {
+        None => from,
+        Some(members) => run_end(text, members, from, steps),
+    }
+}
+
+/// The first place from `from` on after which the text is of bytes that follow.
+#[inline(always)]
+fn rest_begin(rest: &Option<ByteSet>, text: &Text, from: usize, steps: &mut Steps) -> usize
+    requires from { from ≤ length text.now }
+    ensures from { FollowFrom rest.now text.now from result }
+    ensures cost { CostsWithin steps.old steps.new (length text.now) from }
+    ensures counts { TakesAtLeast steps.old steps.new (length text.now - result) }
+{
+    match rest {
+        None => text.len(),
+        Some(members) => run_begin(text, members, from, text.len(), steps),
+    }
+}
+
+/// The stretch where it stands first from `from` on.
+#[inline(always)]
+fn next_span(stretch: &Stretch, text: &Text, from: usize, steps: &mut Steps) -> Option<Span>
+    requires from { from ≤ length text.now }
+    ensures span { FirstStretch stretch.now Anywhere text.now from result }
+    ensures cost { CostsWithin steps.old steps.new (end_or (length text.now) result + 1) from }
+    ensures counts { IfSome result (λ f. TakesAtLeast steps.old steps.new (f.1 - from)) }
+{
+    if let First::Nothing = stretch.first {
+        return Some((from, rest_end(&stretch.rest, text, from, steps)));
+    }
+    match stretch.first.find(text, from, steps) {
+        None => None,
+        Some(start) => {
+            let after = text.after(start, stretch.first.width());
+            Some((start, rest_end(&stretch.rest, text, after, steps)))
+        }
+    }
+}
+
+/// The stretch at the beginning of the text, if it is sought from there.
+#[inline(always)]
+fn start_span(stretch: &Stretch, text: &Text, from: usize, steps: &mut Steps) -> Option<Span>
+    requires from { from ≤ length text.now }
+    ensures span { FirstStretch stretch.now AtStart text.now from result }
+    ensures cost { Takes steps.old steps.new (end_or 0 result + 2) }
+    ensures counts { IfSome result (λ f. TakesAtLeast steps.old steps.new f.1) }
+{
+    if from > 0 || !stretch.first.begins(text, steps) {
+        return None;
+    }
+    Some((
+        0,
+        rest_end(&stretch.rest, text, stretch.first.width(), steps),
+    ))
+}
+
+/// The longest stretch at the end of the text that begins at `from` or later.
+#[inline(always)]
+fn end_span(stretch: &Stretch, text: &Text, from: usize, steps: &mut Steps) -> Option<Span>
+    requires from { from ≤ length text.now }
+    ensures span { FirstStretch stretch.now AtEnd text.now from result }
+    ensures cost { CostsWithin steps.old steps.new (2 * length text.now) (2 * from) }
+    ensures counts { IfSome result (λ f. TakesAtLeast steps.old steps.new (f.1 - f.0)) }
+{
+    let rest = rest_begin(&stretch.rest, text, from, steps);
+    let start = rest.saturating_sub(stretch.first.width()).max(from);
+    match stretch.first.find(text, start, steps) {
+        None => None,
+        Some(place) => Some((place, text.len())),
+    }
+}
+
+/// The whole text, if it is the stretch and sought from its beginning.
+#[inline(always)]
+fn whole_span(stretch: &Stretch, text: &Text, from: usize, steps: &mut Steps) -> Option<Span>
+    requires from { from ≤ length text.now }
+    ensures span { FirstStretch stretch.now Whole text.now from result }
+    ensures cost { CostsWithin steps.old steps.new (4 * (end_or (length text.now) result + 1)) (4 * from) }
+    ensures counts { IfSome result (λ f. TakesAtLeast steps.old steps.new f.1) }
+{
+    match start_span(stretch, text, from, steps) {
+        Some((start, end)) if end == text.len() => Some((start, end)),
+        _ => None,
+    }
+}
+
+/// The stretch at the beginning of the text, or else the one at its end.
+#[inline(always)]
+fn either_span(stretch: &Stretch, text: &Text, from: usize, steps: &mut Steps) -> Option<Span>
+    requires from { from ≤ length text.now }
+    ensures span { FirstStretch stretch.now AtEitherEnd text.now from result }
+    ensures cost { CostsWithin steps.old steps.new (4 * (end_or (length text.now) result + 1)) (4 * from) }
+    ensures counts { IfSome result (λ f. TakesAtLeast steps.old steps.new (f.1 - from)) }
+{
+    if let Some(span) = start_span(stretch, text, from, steps) {
+        return Some(span);
+    }
+    match end_span(stretch, text, from, steps) {
+        None => None,
+        Some((start, end)) => {
+            // The bytes before it count as looked at, since they are passed over.
+            steps.add(start - from);
+            Some((start, end))
+        }
+    }
+}
+
+/// The longest of the stretches that begin first from `from` on, wherever they may stand.
+// As a part of its caller it would make the search for those that stand anywhere, or at the beginning, slower.
+#[inline(never)]
+fn placed_span(stretch: &Stretch, text: &Text, from: usize, steps: &mut Steps) -> Option<Span>
+    requires from { from ≤ length text.now }
+    ensures span { FirstStretch stretch.now stretch.now.place text.now from result }
+    ensures cost { CostsWithin steps.old steps.new (4 * (end_or (length text.now) result + 1)) (4 * from) }
+    ensures counts { IfSome result (λ f. TakesAtLeast steps.old steps.new (bytes_sought stretch.now.place from f)) }
+{
+    match stretch.place {
+        Place::Anywhere => next_span(stretch, text, from, steps),
+        Place::AtStart => start_span(stretch, text, from, steps),
+        Place::AtEnd => end_span(stretch, text, from, steps),
+        Place::Whole => whole_span(stretch, text, from, steps),
+        Place::AtEitherEnd => either_span(stretch, text, from, steps),
+    }
+}
+
+/// The longest of the stretches that begin first from `from` on.
+#[inline(always)]
+pub fn stretch_span(stretch: &Stretch, text: &Text, from: usize, steps: &mut Steps) -> Option<Span>
+    requires from { from ≤ length text.now }
+    ensures span { FirstStretch stretch.now stretch.now.place text.now from result }
+    ensures cost { CostsWithin steps.old steps.new (4 * (end_or (length text.now) result + 1)) (4 * from) }
+    ensures counts { IfSome result (λ f. TakesAtLeast steps.old steps.new (bytes_sought stretch.now.place from f)) }
+{
+    match stretch.place {
+        Place::Anywhere => next_span(stretch, text, from, steps),
+        Place::AtStart => start_span(stretch, text, from, steps),
+        _ => placed_span(stretch, text, from, steps),
+    }
+}
