@@ -152,10 +152,7 @@ fn matches_with(
     let prepared = &sought.prepared;
     let subject = Subject { prepared, text };
     match &sought.begins {
-        Begins::AtStart => {
-            let bytes = text.forwards();
-            from == 0 && ahead.run(prepared, &bytes, 0, work, steps).end.is_some()
-        }
+        Begins::AtStart => { from == 0 && ahead.run(prepared, text, 0, work, steps).end.is_some() }
         _ => is_match(subject, &sought.begins, any, from, work, steps),
     }
 }

@@ -1,12 +1,9 @@
 -- Literals that the spans of an expression hold.
-use Rattle.std.proofs.Common.{◌≡◌, ℕ, ◌+◌, ◌-◌, ◌<◌, ◌≤◌, ◌⊎◌, List, length, take, drop, Option, Some, None, IsTrue, refl, sym, ap, ◌∙◌, subst, inl, inr, ⊎_elim, arith}
-use Rattle.std.specs.Prelude.{IfSome, slice_get, slice_index}
+use Rattle.std.proofs.Common.{◌≡◌, ℕ, ◌+◌, ◌-◌, ◌<◌, ◌≤◌, ◌⊎◌, List, length, take, drop, Option, Some, None, IsTrue, refl, sym, ap, ◌∙◌, subst, ⊎_elim, arith}
+use Rattle.std.specs.Prelude.{IfSome, slice_index}
 use Rattle.memchr.specs.Find.{OccursAt, Nowhere, NoneBefore as FirstOf}
 use Rattle.sedre.specs.Tree.{Tree, tree_at}
-use Rattle.sedre.specs.Arena.{IsArena}
 use Rattle.sedre.specs.declared.types.Node.{Node}
-use Rattle.sedre.specs.declared.types.NodeId.{NodeId}
-use Rattle.sedre.specs.declared.types.Node.TheVariants.{Seq}
 use Rattle.sedtext.specs.Spans.{NotFound}
 use Rattle.sedtext.specs.Reach.{At}
 use Rattle.sedtext.specs.Forms.{HasForm}
@@ -16,11 +13,6 @@ use Rattle.sedtext.specs.declared.needed.RequiredLiteral.{RequiredLiteral}
 use Rattle.sedtext.specs.declared.needed.Literal.{Literal}
 use Rattle.sedtext.proofs.FewLemmas.{length-rest, rest_at}
 use Rattle.sedtext.proofs.SpanLemmas.{Matches-forward, Matches-within}
-
-module _ (nodes : List Node) (arena : IsArena nodes) (x : ℕ) where
-  -- the parts of a concatenation stand before it
-  pub seq_below : (a b : NodeId) → slice_get nodes x ≡ Some (Seq a b) → (a.index < x) × (b.index < x)
-  seq_below a b is = (arena.below x a.index (Seq a b) is (inl refl), arena.below x b.index (Seq a b) is (inr refl))
 
 module _ (nodes : List Node) (x : ℕ) where
   -- the second part of a concatenation

@@ -34,9 +34,6 @@ pub struct Text<'a> {
     bytes: &'a [u8],
 }
 
-/// A text that a loop looks at which counts its looks in a tally.
-pub type Bytes<'a> = Text<'a>;
-
 impl<'a> Model for Text<'a> {
     ghost Value = { List ℕ };
 
@@ -67,13 +64,6 @@ impl<'a> Text<'a> {
     {
         let _len = self.len();
         place + count
-    }
-
-    /// The text again, for a loop that counts its looks in a tally.
-    pub fn forwards(&self) -> Bytes<'a>
-        ensures { result ≡ self.now }
-    {
-        Text { bytes: self.bytes }
     }
 
     /// The byte at a place. Counts one look.
