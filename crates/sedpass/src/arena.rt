@@ -47,6 +47,14 @@ fn node_seen(node: Node, mirrored: bool) -> Node
     }
 }
 
+/// For proofs: what is read is an expression.
+#[inline(always)]
+fn is_expression(expr: &Expr)
+    ensures { IsExpr expr.now.nodes expr.now.groups }
+{
+    let _groups = expr.groups();
+}
+
 /// Copies the nodes of an expression, and finds out what is told of each. Counts a look for each.
 fn copy_nodes(expr: &Expr, nodes: &mut Vec<Node>, facts: &mut Vec<Facts>, steps: &mut Steps)
     requires nodes { length expr.now.nodes ≤ vec_capacity nodes.old }
@@ -59,7 +67,7 @@ fn copy_nodes(expr: &Expr, nodes: &mut Vec<Node>, facts: &mut Vec<Facts>, steps:
     ensures cost { Takes steps.old steps.new (length expr.now.nodes) }
     ensures counts { TakesAtLeast steps.old steps.new (length expr.now.nodes) }
 {
-    let _groups = expr.groups();
+    is_expression(expr);
     nodes.clear();
     facts.clear();
     for x in 0..expr.nodes() {
@@ -116,7 +124,15 @@ impl Arena {
         node_seen(self.nodes[x], mirrored)
     }
 
-    /// How many groups there are; for proofs, that the nodes are those of an expression.
+    /// For proofs: the nodes are those of an expression.
+    #[inline(always)]
+    pub fn is_expression(&self)
+        ensures { IsExpr self.now.expr.nodes self.now.expr.groups }
+    {
+        let _groups = self.groups;
+    }
+
+    /// How many groups there are.
     #[inline(always)]
     pub fn groups(&self) -> usize
         ensures value { result ≡ self.now.expr.groups }

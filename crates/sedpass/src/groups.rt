@@ -167,7 +167,7 @@ fn facts_at(prepared: &Prepared, x: usize) -> Facts
     ensures facts { IsFacts (tree_at prepared.now.arena.expr.nodes x) x result }
     ensures run { IfSome result.run (λ c. IsRunOf prepared.now.arena.expr.nodes c x × IsSetAt prepared.now.arena.expr.nodes c) }
 {
-    let _groups = prepared.arena.groups();
+    prepared.arena.is_expression();
     prepared.facts[x]
 }
 
@@ -510,7 +510,7 @@ pub fn decide(
     ensures counts { TakesAtLeast steps.old steps.new (found result - 1) }
     ensures entered { LooksAtEntered (expression_tree subject.entry.prepared.now.arena.expr) (text_in subject.entry) start stop (told_of due (undecided start stop)) steps.old steps.new }
 {
-    let _groups = subject.prepared.arena.groups();
+    subject.prepared.arena.is_expression();
     let mut spans = [None; 10];
     spans[0] = Some((start, stop));
     let mut told = Told { due, spans };

@@ -268,7 +268,7 @@ impl Prepared {
         ensures size { result + size (tree_at self.now.arena.expr.nodes x) ≡ x + 1 }
         ensures range { (mirrored : Bool) → IsNodeRange (seen mirrored self.now.arena.expr).nodes result x }
     {
-        let _groups = self.arena.groups();
+        self.arena.is_expression();
         self.facts[x].low
     }
 
@@ -291,7 +291,7 @@ impl Prepared {
         ensures few { length self.now.arena.expr.nodes ≤ 65536 }
         ensures expr { IsExpr self.now.arena.expr.nodes self.now.arena.expr.groups }
     {
-        let _groups = self.arena.groups();
+        self.arena.is_expression();
         self.root + 1
     }
 }

@@ -30,6 +30,14 @@ pub struct Beginning {
     pub code: u32,
 }
 
+/// For proofs: the number of some rows fits its type.
+#[inline(always)]
+fn count_fits(rows: &Rows)
+    ensures { length rows.now < 2 ^ 64 }
+{
+    let _count = rows.len();
+}
+
 /// A slot of the index: a state, and the low half of the epoch in which it was noted. A wrong slot costs a state, never an
 /// answer, since rows are compared.
 #[derive(Clone, Copy)]
@@ -176,7 +184,7 @@ impl Table {
         ensures table { IsTable prepared.now self.new }
         ensures room { SameRoom self.old self.new }
     {
-        let _groups = prepared.arena.groups();
+        prepared.arena.is_expression();
         self.layout = Layout::new(prepared);
         self.count = 0;
         self.epoch = next_epoch(self.epoch);
@@ -471,7 +479,7 @@ impl Table {
         ensures counts { TakesAtLeast steps.old steps.new (2 * length prepared.now.arena.expr.nodes) }
     {
         let nodes = prepared.nodes();
-        let _count = edges.len();
+        count_fits(edges);
         edges.load(2 * row, &mut work.leaves, nodes, steps);
         edges.load(2 * row + 1, &mut work.ends, nodes, steps);
         self.intern(prepared, root, work, steps)

@@ -23,7 +23,7 @@ loop-x-init c =
 
 pub facts_of-next-requires : goal.facts_of-next-requires
 facts_of-next-requires c =
-    parts_below c.args.expr.now.nodes c.groups-groups.ensures.expr.arena c.loop-x.x c.look-node.result (ap (slice_get c.args.expr.now.nodes) (sym c.id.ensures) ∙ c.look-node.ensures.node) _ (omega arith)
+    parts_below c.args.expr.now.nodes c.is_expression.ensures.arena c.loop-x.x c.look-node.result (ap (slice_get c.args.expr.now.nodes) (sym c.id.ensures) ∙ c.look-node.ensures.node) _ (omega arith)
 
 pub loop-x-preserved : goal.loop-x-preserved
 unfolding TakesAtLeast TakesExactly
@@ -34,7 +34,7 @@ loop-x-preserved c =
     let node = c.look-node.result in
     let is = ap (slice_get e.nodes) (sym c.id.ensures) ∙ c.look-node.ensures.node in
     let items = c.push_reserved-in-loop-x.ensures.items in
-    let expr = c.groups-groups.ensures.expr in
+    let expr = c.is_expression.ensures in
     let here : slice_get e.nodes (length told) ≡ Some node = rw c.loop-x.invariant.all is in
     record {
       grows = omega arith;

@@ -69,7 +69,7 @@ returns c =
     let walk = walk_made s p.root i j 0 _ c.all.told c.args.steps.now c.all.steps p.is_prepared.last works in
     let root : p.root ≡ length e.nodes - 1 = omega (arith, p.is_prepared.last) in
     let at = subst (λ x. At e.nodes w x i j) root c.requires.spans in
-    let small : size (tree_at e.nodes p.root) ≤ length e.nodes = omega (arith, c.groups-groups.ensures.expr.sizes p.root (omega (arith, p.is_prepared.last))) in
+    let small : size (tree_at e.nodes p.root) ≤ length e.nodes = omega (arith, c.is_expression.ensures.sizes p.root (omega (arith, p.is_prepared.last))) in
     let spent = works.spent (j - i) (omega arith, tt) in
     record {
       report = λ all. walk_report (expression_tree e) w i j walk.0 start last (starts_due (expression_tree e) i j c.args.due c.requires.whole all) at walk.1;

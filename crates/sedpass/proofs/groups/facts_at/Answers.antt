@@ -8,4 +8,4 @@ returns-clause-run c =
     let e = c.args.prepared.now.arena.expr in
     let told = c.args.prepared.now.is_prepared in
     let here = slice_get_read c.args.prepared.now.facts.items (length e.nodes) c.args.x c.index.result.now (sym told.all) c.requires c.index.ensures in
-    run_told e.nodes e.groups c.args.x c.index.result.now c.index.result.now.run c.groups-groups.ensures.expr c.requires (told.facts c.args.x c.index.result.now here) refl
+    run_told e.nodes e.groups c.args.x c.index.result.now c.index.result.now.run c.is_expression.ensures c.requires (told.facts c.args.x c.index.result.now here) refl

@@ -9,4 +9,4 @@ returns-clause-range c mirrored =
     let told = c.args.self.now.is_prepared in
     let here = slice_get_read c.args.self.now.facts.items (length e.nodes) c.args.x c.index.result.now (sym told.all) c.requires.inside c.index.ensures in
     range_seen mirrored e c.index.result.now.low c.args.x
-    (range_is e.nodes e.groups c.groups-groups.ensures.expr c.args.x c.index.result.now.low c.requires.inside (told.facts c.args.x c.index.result.now here).low)
+    (range_is e.nodes e.groups c.is_expression.ensures c.args.x c.index.result.now.low c.requires.inside (told.facts c.args.x c.index.result.now here).low)
