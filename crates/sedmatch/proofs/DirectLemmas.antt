@@ -20,8 +20,8 @@ use Rattle.sedmatch.specs.Direct.{FirstSpan, FormSpans, HasForm, IsDirect, Spann
 use Rattle.sedmatch.specs.Stretches.{Stands, bytes_sought, end_or, width}
 use Rattle.sedmatch.specs.declared.direct.DirectForm.{DirectForm}
 use Rattle.sedmatch.specs.declared.direct.DirectForm.TheVariants.{Stretch, Times, Literal, Choice}
-use Rattle.sedmatch.specs.declared.stretches.Place.{Place}
-use Rattle.sedmatch.specs.declared.stretches.Place.TheVariants.{AtEnd}
+use Rattle.sedmatch.specs.declared.stretches.Anchoring.{Anchoring}
+use Rattle.sedmatch.specs.declared.stretches.Anchoring.TheVariants.{AtEnd}
 use Rattle.sedtext.proofs.CountLemmas.{least_less}
 use Rattle.sedtext.proofs.SpanLemmas.{Matches-forward}
 use Rattle.sedmatch.proofs.StretchLemmas.{follow_on}
@@ -70,12 +70,12 @@ span_lies form w p None none = tt
 span_lies form w p (Some f) span = (span.0, ends_on form w f.0 f.1 span.1, span.2)
 
 -- those of the match are looked at,
-sought_match : (place : Place) (p i j : ℕ) → p ≤ i → j - i ≤ bytes_sought place p (i, j)
+sought_match : (anchoring : Anchoring) (p i j : ℕ) → p ≤ i → j - i ≤ bytes_sought anchoring p (i, j)
 sought_match AtEnd p i j low = omega arith
 sought_match _ p i j low = omega (arith, low)
 
 looked_match : (form : DirectForm) (p i j : ℕ) → p ≤ i → j - i ≤ bytes_looked_at form p (i, j)
-looked_match (Stretch s) p i j low = sought_match s.place p i j low
+looked_match (Stretch s) p i j low = sought_match s.anchoring p i j low
 looked_match _ p i j low = omega (arith, low)
 
 pub looks_at_match : (form : DirectForm) (w : List ℕ) (p s t : ℕ) (r : Option (ℕ × ℕ)) → FirstSpan form w p r → IfSome r (λ f. TakesAtLeast s t (bytes_looked_at form p f)) →
@@ -84,7 +84,7 @@ looks_at_match form w p s t None span looks = tt
 looks_at_match form w p s t (Some (i, j)) span looks = least_less s t (bytes_looked_at form p (i, j)) (j - i) looks (looked_match form p i j span.0)
 
 -- and all from the place on from which it is sought, unless all matches end with the text
-sought_from : (place : Place) (p i j : ℕ) → (place ≡ AtEnd → ⊥) → j - p ≤ bytes_sought place p (i, j)
+sought_from : (anchoring : Anchoring) (p i j : ℕ) → (anchoring ≡ AtEnd → ⊥) → j - p ≤ bytes_sought anchoring p (i, j)
 sought_from AtEnd p i j early = absurd (early refl)
 sought_from _ p i j early = omega arith
 
@@ -92,7 +92,7 @@ looked_from : (e : Tree) (form : DirectForm) (p i j : ℕ) → SpannedAs e form 
 looked_from e (Stretch s) p i j is (v, bytes, h, k, early, spans) =
     let low = Matches-forward e v h k spans in
     let at = (is v bytes h k (omega (arith, low, early))).0 spans in
-    sought_from s.place p i j (λ last. let end : k ≡ length v = subst (λ z. Stands z v h k) last at.2 in omega (arith, early, end))
+    sought_from s.anchoring p i j (λ last. let end : k ≡ length v = subst (λ z. Stands z v h k) last at.2 in omega (arith, early, end))
 looked_from e _ p i j is early = omega arith
 
 pub looks_from : (e : Tree) (form : DirectForm) (p s t : ℕ) (r : Option (ℕ × ℕ)) → SpannedAs e form → CanEndEarly e → IfSome r (λ f. TakesAtLeast s t (bytes_looked_at form p f)) →

@@ -7,8 +7,8 @@ use Rattle.sedtext.specs.declared.forms.Form.TheVariants.{Start, End, Both}
 use Rattle.sedmatch.specs.Shapes.{IsStem, StemLeads}
 use Rattle.sedmatch.specs.Stretches.{Stands}
 use Rattle.sedmatch.specs.declared.shapes.Stem.{Stem}
-use Rattle.sedmatch.specs.declared.stretches.Place.{Place}
-use Rattle.sedmatch.specs.declared.stretches.Place.TheVariants.{Anywhere, AtEnd}
+use Rattle.sedmatch.specs.declared.stretches.Anchoring.{Anchoring}
+use Rattle.sedmatch.specs.declared.stretches.Anchoring.TheVariants.{Anywhere, AtEnd}
 
 module _ (nodes : List Node) (x y z : ℕ) (both : HasForm nodes x (Both y z)) (stem : Stem) where
   pub stem_before_end : HasForm nodes z End → IsStem nodes y stem Anywhere → IsStem nodes x stem AtEnd
@@ -20,8 +20,8 @@ module _ (nodes : List Node) (x y z : ℕ) (both : HasForm nodes x (Both y z)) (
     (λ s. (both.2 w i j).1 (j, (is w i j).1 (s.0, tt), (ends w j j).1 (s.1, s.1))),
   )
 
-  pub stem_after_start : (place to : Place) → HasForm nodes y Start → IsStem nodes z stem place → ((w : List ℕ) (i j : ℕ) → Stands to w i j ↔ ((i ≡ 0) × Stands place w i j)) → IsStem nodes x stem to
-  stem_after_start place to starts is stands w i j = (
+  pub stem_after_start : (anchoring to : Anchoring) → HasForm nodes y Start → IsStem nodes z stem anchoring → ((w : List ℕ) (i j : ℕ) → Stands to w i j ↔ ((i ≡ 0) × Stands anchoring w i j)) → IsStem nodes x stem to
+  stem_after_start anchoring to starts is stands w i j = (
     (λ at.
         let f = (both.2 w i j).0 at in
         let b = (starts w i f.0).0 f.1 in

@@ -11,7 +11,7 @@ use Rattle.sedtext.specs.declared.beginnings.Begins.TheVariants.{WithSet}
 use Rattle.sedmatch.specs.Stretches.{ComesFirst, FirstStretch, Follow, FollowFrom, StretchSpans, width}
 use Rattle.sedmatch.specs.declared.stretches.First.{First}
 use Rattle.sedmatch.specs.declared.stretches.First.TheVariants.{Nothing, Among, Member}
-use Rattle.sedmatch.specs.declared.stretches.Place.TheVariants.{AtEnd}
+use Rattle.sedmatch.specs.declared.stretches.Anchoring.TheVariants.{AtEnd}
 use Rattle.sedmatch.specs.declared.stretches.Stretch.{Stretch}
 use Rattle.sedtext.proofs.SpanLemmas.{CopiesLead-forward}
 use Rattle.sedtext.proofs.TimesLemmas.{repeated_cut}

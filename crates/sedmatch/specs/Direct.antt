@@ -13,7 +13,7 @@ use Rattle.sedmatch.specs.declared.direct.DirectForm.TheVariants.{Stretch, Times
 
 -- what matches from i to j
 abbrev pub FormSpans : DirectForm → List ℕ → ℕ → ℕ → Type 0
-FormSpans (Stretch s) w i j = StretchSpans s s.place w i j
+FormSpans (Stretch s) w i j = StretchSpans s s.anchoring w i j
 FormSpans (Times members count) w i j = HasTimes members count w i j
 FormSpans (Literal literal) w i j = WordSpans literal w i j
 FormSpans (Choice literals) w i j = ChoiceSpans literals w i j
@@ -24,7 +24,7 @@ SpannedAs e form = (w : List ℕ) → AreBytes w → (i j : ℕ) → i ≤ lengt
 
 -- how many bytes are looked at at least where such a match is found from p on
 abbrev pub bytes_looked_at : DirectForm → ℕ → ℕ × ℕ → ℕ
-bytes_looked_at (Stretch s) p f = bytes_sought s.place p f
+bytes_looked_at (Stretch s) p f = bytes_sought s.anchoring p f
 bytes_looked_at other p f = f.1 - p
 
 -- how many looks there are at most for each byte that is passed

@@ -10,7 +10,7 @@ use Rattle.sedtext.specs.Runs.{Repeated}
 use Rattle.sedmatch.specs.Stretches.{ComesFirst, Follow, Stands, width}
 use Rattle.sedmatch.specs.declared.shapes.Stem.{Stem}
 use Rattle.sedmatch.specs.declared.stretches.First.{First}
-use Rattle.sedmatch.specs.declared.stretches.Place.{Place}
+use Rattle.sedmatch.specs.declared.stretches.Anchoring.{Anchoring}
 
 -- a byte of the set leads from i to k; where there is no set, no byte does
 abbrev pub ByteLeads : Option (List Bool) → List ℕ → ℕ → ℕ → Type 0
@@ -25,9 +25,9 @@ StemLeads stem w i j = (k : ℕ) × ByteLeads stem.first w i k × Follow stem.re
 abbrev pub IsLastRun : List Node → ℕ → List Bool → Type 0
 IsLastRun nodes x members = (w : List ℕ) (i j : ℕ) → At nodes w x i j ↔ (Repeated members w i j × (j ≡ length w))
 
--- the spans of the node x are those of the stem that stand at the place
-abbrev pub IsStem : List Node → ℕ → Stem → Place → Type 0
-IsStem nodes x stem place = (w : List ℕ) (i j : ℕ) → At nodes w x i j ↔ (StemLeads stem w i j × Stands place w i j)
+-- the spans of the node x are those of the stem that is anchored so
+abbrev pub IsStem : List Node → ℕ → Stem → Anchoring → Type 0
+IsStem nodes x stem anchoring = (w : List ℕ) (i j : ℕ) → At nodes w x i j ↔ (StemLeads stem w i j × Stands anchoring w i j)
 
 -- in a text of bytes, what comes first is a byte of the set, if there is one
 abbrev pub IsFirst : Option (List Bool) → First → Type 0

@@ -6,9 +6,9 @@ ghost use Rattle.sedmatch.specs.Direct.{SpannedAs};
 ghost use Rattle.sedmatch.specs.Shapes.{IsFirst, IsLastRun, IsStem};
 ghost use Rattle.sedmatch.specs.Stretches.{Stands};
 ghost use Rattle.sedmatch.specs.declared.direct.DirectForm.TheVariants.{Stretch as StretchForm};
-ghost use Rattle.sedmatch.specs.declared.stretches.Place.TheVariants.{Anywhere, AtEnd, AtStart};
+ghost use Rattle.sedmatch.specs.declared.stretches.Anchoring.TheVariants.{Anywhere, AtEnd, AtStart};
 
-use crate::stretches::{First, Place, Stretch};
+use crate::stretches::{Anchoring, First, Stretch};
 use sedre::{ByteSet, Expr, Steps};
 use sedtext::counted::few::members_of;
 use sedtext::forms::{Form, form_of, set_of};
@@ -97,44 +97,44 @@ fn stem_before_end(expr: &Expr, index: usize, steps: &mut Steps) -> Option<Stem>
 }
 
 /// The stem whose spans those of the node are, before the end of the text or anywhere.
-fn stem_placed(expr: &Expr, index: usize, steps: &mut Steps) -> Option<(Stem, Place)>
+fn stem_anchored(expr: &Expr, index: usize, steps: &mut Steps) -> Option<(Stem, Anchoring)>
     requires inside { index < length expr.now.nodes }
     ensures stem { IfSome result (λ s. IsStem expr.now.nodes index s.0 s.1) }
     ensures cost { Takes steps.old steps.new 13 }
 {
     if let Some(stem) = stem_before_end(expr, index, steps) {
-        return Some((stem, Place::AtEnd));
+        return Some((stem, Anchoring::AtEnd));
     }
     let stem = stem_of(expr, index, steps)?;
-    Some((stem, Place::Anywhere))
+    Some((stem, Anchoring::Anywhere))
 }
 
 /// The same at the beginning of the text.
-fn at_start(place: Place) -> Place
-    ensures { (w : List ℕ) (i j : ℕ) → Stands result w i j ↔ ((i ≡ 0) × Stands place w i j) }
+fn at_start(anchoring: Anchoring) -> Anchoring
+    ensures { (w : List ℕ) (i j : ℕ) → Stands result w i j ↔ ((i ≡ 0) × Stands anchoring w i j) }
 {
-    match place {
-        Place::Anywhere | Place::AtStart | Place::AtEitherEnd => Place::AtStart,
-        Place::AtEnd | Place::Whole => Place::Whole,
+    match anchoring {
+        Anchoring::Anywhere | Anchoring::AtStart | Anchoring::AtEitherEnd => Anchoring::AtStart,
+        Anchoring::AtEnd | Anchoring::Whole => Anchoring::Whole,
     }
 }
 
 /// The stem whose spans those of the node are, and where it stands.
-fn one_stem(expr: &Expr, index: usize, steps: &mut Steps) -> Option<(Stem, Place)>
+fn one_stem(expr: &Expr, index: usize, steps: &mut Steps) -> Option<(Stem, Anchoring)>
     requires inside { index < length expr.now.nodes }
     ensures stem { IfSome result (λ s. IsStem expr.now.nodes index s.0 s.1) }
     ensures cost { Takes steps.old steps.new 15 }
 {
     match form_of(expr, index, steps) {
-        Form::Start => Some((NO_BYTE, Place::AtStart)),
+        Form::Start => Some((NO_BYTE, Anchoring::AtStart)),
         Form::Both(start, rest) => match form_of(expr, start, steps) {
             Form::Start => {
-                let (stem, place) = stem_placed(expr, rest, steps)?;
-                Some((stem, at_start(place)))
+                let (stem, anchoring) = stem_anchored(expr, rest, steps)?;
+                Some((stem, at_start(anchoring)))
             }
-            _ => stem_placed(expr, index, steps),
+            _ => stem_anchored(expr, index, steps),
         },
-        _ => stem_placed(expr, index, steps),
+        _ => stem_anchored(expr, index, steps),
     }
 }
 
@@ -157,7 +157,7 @@ fn either_stem(expr: &Expr, left: usize, right: usize, steps: &mut Steps) -> Opt
     ensures right { IfSome result (λ s. IsStem expr.now.nodes right s AtEnd) }
     ensures cost { Takes steps.old steps.new 23 }
 {
-    let (stem, Place::AtStart) = one_stem(expr, left, steps)? else {
+    let (stem, Anchoring::AtStart) = one_stem(expr, left, steps)? else {
         return None;
     };
     let other = stem_before_end(expr, right, steps)?;
@@ -182,7 +182,7 @@ fn first_of(set: &Option<ByteSet>) -> First
 }
 
 /// The stem whose spans those of the expression are, and where it stands.
-fn whole_stem(expr: &Expr, steps: &mut Steps) -> Option<(Stem, Place)>
+fn whole_stem(expr: &Expr, steps: &mut Steps) -> Option<(Stem, Anchoring)>
     ensures stem { IfSome result (λ s. IsStem expr.now.nodes (length expr.now.nodes - 1) s.0 s.1) }
     ensures cost { Takes steps.old steps.new 24 }
 {
@@ -190,7 +190,7 @@ fn whole_stem(expr: &Expr, steps: &mut Steps) -> Option<(Stem, Place)>
     match form_of(expr, root, steps) {
         Form::Either(left, right) => {
             let stem = either_stem(expr, left, right, steps)?;
-            Some((stem, Place::AtEitherEnd))
+            Some((stem, Anchoring::AtEitherEnd))
         }
         _ => one_stem(expr, root, steps),
     }
@@ -201,10 +201,10 @@ pub fn stretch_of(expr: &Expr, steps: &mut Steps) -> Option<Stretch>
     ensures spans { IfSome result (λ s. SpannedAs (expression_tree expr.now) (StretchForm s)) }
     ensures cost { Takes steps.old steps.new 24 }
 {
-    let (stem, place) = whole_stem(expr, steps)?;
+    let (stem, anchoring) = whole_stem(expr, steps)?;
     Some(Stretch {
         first: first_of(&stem.first),
         rest: stem.rest,
-        place,
+        anchoring,
     })
 }

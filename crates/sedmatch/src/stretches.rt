@@ -7,7 +7,7 @@ ghost use Rattle.sedre.specs.Steps.{Takes, TakesAtLeast};
 ghost use Rattle.sedtext.specs.Bytes.{FirstFrom};
 ghost use Rattle.sedtext.specs.Costs.{CostsWithin};
 ghost use Rattle.sedmatch.specs.Stretches.{ComesFirst, FirstStretch, FollowFrom, FollowTo, behind, bytes_sought, end_or, width};
-ghost use Rattle.sedmatch.specs.declared.stretches.Place.TheVariants.{Anywhere, AtEitherEnd, AtEnd, AtStart, Whole};
+ghost use Rattle.sedmatch.specs.declared.stretches.Anchoring.TheVariants.{Anywhere, AtEitherEnd, AtEnd, AtStart, Whole};
 
 use crate::Span;
 use sedre::{ByteSet, Steps};
@@ -27,9 +27,9 @@ pub enum First {
     Member(ByteSet),
 }
 
-/// Where a stretch stands.
+/// At which ends of the text a stretch is anchored.
 #[derive(Clone, Copy)]
-pub enum Place {
+pub enum Anchoring {
     /// Anywhere.
     Anywhere,
     /// At the beginning of the text.
@@ -49,8 +49,8 @@ pub struct Stretch {
     pub first: First,
     /// The set whose bytes follow, if some do.
     pub rest: Option<ByteSet>,
-    /// Where it stands.
-    pub place: Place,
+    /// At which ends of the text it stands.
+    pub anchoring: Anchoring,
 }
 
 impl First {
@@ -215,18 +215,18 @@ fn either_span(stretch: &Stretch, text: &Text, from: usize, steps: &mut Steps) -
 /// The longest of the stretches that begin first from `from` on, wherever they may stand.
 // As a part of its caller it would make the search for those that stand anywhere, or at the beginning, slower.
 #[inline(never)]
-fn placed_span(stretch: &Stretch, text: &Text, from: usize, steps: &mut Steps) -> Option<Span>
+fn anchored_span(stretch: &Stretch, text: &Text, from: usize, steps: &mut Steps) -> Option<Span>
     requires from { from ≤ length text.now }
-    ensures span { FirstStretch stretch.now stretch.now.place text.now from result }
+    ensures span { FirstStretch stretch.now stretch.now.anchoring text.now from result }
     ensures cost { CostsWithin steps.old steps.new (4 * (end_or (length text.now) result + 1)) (4 * from) }
-    ensures counts { IfSome result (λ f. TakesAtLeast steps.old steps.new (bytes_sought stretch.now.place from f)) }
+    ensures counts { IfSome result (λ f. TakesAtLeast steps.old steps.new (bytes_sought stretch.now.anchoring from f)) }
 {
-    match stretch.place {
-        Place::Anywhere => next_span(stretch, text, from, steps),
-        Place::AtStart => start_span(stretch, text, from, steps),
-        Place::AtEnd => end_span(stretch, text, from, steps),
-        Place::Whole => whole_span(stretch, text, from, steps),
-        Place::AtEitherEnd => either_span(stretch, text, from, steps),
+    match stretch.anchoring {
+        Anchoring::Anywhere => next_span(stretch, text, from, steps),
+        Anchoring::AtStart => start_span(stretch, text, from, steps),
+        Anchoring::AtEnd => end_span(stretch, text, from, steps),
+        Anchoring::Whole => whole_span(stretch, text, from, steps),
+        Anchoring::AtEitherEnd => either_span(stretch, text, from, steps),
     }
 }
 
@@ -234,13 +234,13 @@ fn placed_span(stretch: &Stretch, text: &Text, from: usize, steps: &mut Steps) -
 #[inline(always)]
 pub fn stretch_span(stretch: &Stretch, text: &Text, from: usize, steps: &mut Steps) -> Option<Span>
     requires from { from ≤ length text.now }
-    ensures span { FirstStretch stretch.now stretch.now.place text.now from result }
+    ensures span { FirstStretch stretch.now stretch.now.anchoring text.now from result }
     ensures cost { CostsWithin steps.old steps.new (4 * (end_or (length text.now) result + 1)) (4 * from) }
-    ensures counts { IfSome result (λ f. TakesAtLeast steps.old steps.new (bytes_sought stretch.now.place from f)) }
+    ensures counts { IfSome result (λ f. TakesAtLeast steps.old steps.new (bytes_sought stretch.now.anchoring from f)) }
 {
-    match stretch.place {
-        Place::Anywhere => next_span(stretch, text, from, steps),
-        Place::AtStart => start_span(stretch, text, from, steps),
-        _ => placed_span(stretch, text, from, steps),
+    match stretch.anchoring {
+        Anchoring::Anywhere => next_span(stretch, text, from, steps),
+        Anchoring::AtStart => start_span(stretch, text, from, steps),
+        _ => anchored_span(stretch, text, from, steps),
     }
 }
