@@ -1,12 +1,11 @@
 -- Expressions whose matches a look at the text tells.
-use Rattle.std.proofs.Common.{◌≡◌, ℕ, ◌+◌, ◌-◌, ◌*◌, ◌≤◌, ◌↔◌, Bool, true, false, List, length, Option, Some, None, Result, Ok, Err, IsTrue, refl, sym, subst, true≢false, arith, mul-le-mul_left}
-use Rattle.std.specs.Prelude.{IfOk, IfSome, is_some}
+use Rattle.std.proofs.Common.{◌≡◌, ℕ, ◌+◌, ◌-◌, ◌*◌, ◌≤◌, ◌↔◌, Bool, false, List, length, Option, Some, None, IsTrue, refl, sym, subst, true≢false, arith}
+use Rattle.std.specs.Prelude.{IfSome, is_some}
 use Rattle.sedre.specs.Tree.{Tree, WrittenExpression, expression_tree}
 use Rattle.sedre.specs.declared.types.Node.{Node}
 use Rattle.sedre.specs.Steps.{Takes, TakesAtLeast}
 use Rattle.sedtext.specs.Answer.{SpanAnswer}
 use Rattle.sedtext.specs.Bytes.{AreBytes}
-use Rattle.sedtext.specs.Choice.{ChoiceSpans, FirstChoice}
 use Rattle.sedtext.specs.Costs.{CostsWithin}
 use Rattle.sedtext.specs.Following.{CanEndEarly, PassesOver}
 use Rattle.sedtext.specs.Needed.{IsLiteral, GoesOnAs, FirstLiteral}
@@ -16,10 +15,10 @@ use Rattle.sedtext.specs.Spans.{SomeFound}
 use Rattle.sedtext.specs.Times.{FirstTimes}
 use Rattle.sedtext.specs.Word.{WordSpans, AllWord}
 use Rattle.sedtext.specs.declared.needed.Literal.{Literal as Bytes}
-use Rattle.sedmatch.specs.Direct.{FirstSpan, FormSpans, HasForm, IsDirect, SpannedAs, bytes_looked_at}
+use Rattle.sedmatch.specs.Direct.{FirstSpan, FormSpans, IsDirect, SpannedAs, bytes_looked_at}
 use Rattle.sedmatch.specs.Stretches.{Stands, bytes_sought, end_or, width}
 use Rattle.sedmatch.specs.declared.direct.DirectForm.{DirectForm}
-use Rattle.sedmatch.specs.declared.direct.DirectForm.TheVariants.{Stretch, Times, Literal, Choice}
+use Rattle.sedmatch.specs.declared.direct.DirectForm.TheVariants.{Stretch, Anchored, Times, Literal}
 use Rattle.sedmatch.specs.declared.stretches.Anchoring.{Anchoring}
 use Rattle.sedmatch.specs.declared.stretches.Anchoring.TheVariants.{AtEnd}
 use Rattle.sedtext.proofs.CountLemmas.{least_less}
@@ -38,13 +37,6 @@ all_word nodes x last l literal whole same is none w i j within =
       (λ h. (is w i j within).1 (h.0, subst (GoesOnAs nodes w (i + length l.bytes.items) j) (sym none) (sym h.1))),
     ))
 
--- with no groups the form is that of the expression
-pub is_direct : {E : Type 0} (e : WrittenExpression) (r : Result (Option DirectForm) E) → e.groups ≡ 0 → IfOk r (λ o. IfSome o (HasForm (expression_tree e) (14 * length e.nodes))) →
-    IfOk r (λ o. IfSome o (IsDirect e))
-is_direct e (Err x) none has = tt
-is_direct e (Ok None) none has = tt
-is_direct e (Ok (Some form)) none has = (has.0, none, has.1)
-
 -- where one of the longest begins and ends
 pub span_times : (members : List Bool) (count : ℕ) (w : List ℕ) (p i j : ℕ) → FirstTimes members count w p (Some i) → j ≡ i + count → FirstSpan (Times members count) w p (Some (i, j))
 span_times members count w p i j here is =
@@ -54,16 +46,12 @@ pub span_literal : (literal w : List ℕ) (p i j : ℕ) → FirstLiteral w liter
 span_literal literal w p i j here is =
     (here.0, (here.1, is), (let fits = here.1.fits in omega (arith, fits, is)), (λ k h. omega (arith, h.1, is)), λ h k low lt s. here.2 h low lt s.0)
 
-pub span_choice : (literals : List (List ℕ)) (w : List ℕ) (p i j : ℕ) → FirstChoice literals w p (Some i) → ChoiceSpans literals w i j → j ≤ length w → ((k : ℕ) → ChoiceSpans literals w i k → k ≤ j) →
-    FirstSpan (Choice literals) w p (Some (i, j))
-span_choice literals w p i j here spans within longest = (here.0, spans, within, longest, λ h k low lt s. here.3 h low lt (s.0, s.1, s.2, s.3))
-
 -- a match ends where it begins or after it
 ends_on : (form : DirectForm) (w : List ℕ) (i j : ℕ) → FormSpans form w i j → i ≤ j
 ends_on (Stretch t) w i j s = let on = follow_on t.rest w (i + width t.first) j s.1 in omega (arith, on)
 ends_on (Times members count) w i j s = omega (arith, s.1)
 ends_on (Literal literal) w i j s = omega (arith, s.1)
-ends_on (Choice literals) w i j s = let long = s.4 in omega (arith, long)
+ends_on (Anchored t ends) w i j s = let on = follow_on t.rest w (i + width t.first) j s.1 in omega (arith, on)
 
 pub span_lies : (form : DirectForm) (w : List ℕ) (p : ℕ) (r : Option (ℕ × ℕ)) → FirstSpan form w p r → IfSome r (λ f. (p ≤ f.0) × (f.0 ≤ f.1) × (f.1 ≤ length w))
 span_lies form w p None none = tt
@@ -75,7 +63,7 @@ sought_match AtEnd p i j low = omega arith
 sought_match _ p i j low = omega (arith, low)
 
 looked_match : (form : DirectForm) (p i j : ℕ) → p ≤ i → j - i ≤ bytes_looked_at form p (i, j)
-looked_match (Stretch s) p i j low = sought_match s.anchoring p i j low
+looked_match (Anchored s ends) p i j low = sought_match ends p i j low
 looked_match _ p i j low = omega (arith, low)
 
 pub looks_at_match : (form : DirectForm) (w : List ℕ) (p s t : ℕ) (r : Option (ℕ × ℕ)) → FirstSpan form w p r → IfSome r (λ f. TakesAtLeast s t (bytes_looked_at form p f)) →
@@ -89,10 +77,10 @@ sought_from AtEnd p i j early = absurd (early refl)
 sought_from _ p i j early = omega arith
 
 looked_from : (e : Tree) (form : DirectForm) (p i j : ℕ) → SpannedAs e form → CanEndEarly e → j - p ≤ bytes_looked_at form p (i, j)
-looked_from e (Stretch s) p i j is (v, bytes, h, k, early, spans) =
+looked_from e (Anchored s ends) p i j is (v, bytes, h, k, early, spans) =
     let low = Matches-forward e v h k spans in
     let at = (is v bytes h k (omega (arith, low, early))).0 spans in
-    sought_from s.anchoring p i j (λ last. let end : k ≡ length v = subst (λ z. Stands z v h k) last at.2 in omega (arith, early, end))
+    sought_from ends p i j (λ last. let end : k ≡ length v = subst (λ z. Stands (Some z) v h k) last at.2 in omega (arith, early, end))
 looked_from e _ p i j is early = omega arith
 
 pub looks_from : (e : Tree) (form : DirectForm) (p s t : ℕ) (r : Option (ℕ × ℕ)) → SpannedAs e form → CanEndEarly e → IfSome r (λ f. TakesAtLeast s t (bytes_looked_at form p f)) →
@@ -140,9 +128,6 @@ answer_passes e w p s t (Some f) answer bytes passed some = record {
 }
 
 -- and they go over the text once at most
-pub answer_cost : (k n p s t : ℕ) (r : Option (ℕ × ℕ)) → CostsWithin s t (k * (end_or n r + 1)) (k * p) → IfSome r (λ f. (p ≤ f.0) × (f.0 ≤ f.1) × (f.1 ≤ n)) → Takes s t (k * (n + 1))
-answer_cost k n p s t None pays lies = (pays.0, (let h = pays.1 in omega (arith, h)))
-answer_cost k n p s t (Some f) pays lies =
-    let on : f.1 + 1 ≤ n + 1 = (let h = lies.2 in omega (arith, h)) in
-    let more = mul-le-mul_left k on in
-    (pays.0, (let h = pays.1 in omega (arith, more, h)))
+pub answer_cost : (n p s t : ℕ) (r : Option (ℕ × ℕ)) → CostsWithin s t (4 * (end_or n r + 1)) (4 * p) → IfSome r (λ f. (p ≤ f.0) × (f.0 ≤ f.1) × (f.1 ≤ n)) → Takes s t (4 * (n + 1))
+answer_cost n p s t None pays lies = (pays.0, (let h = pays.1 in omega (arith, h)))
+answer_cost n p s t (Some f) pays lies = (pays.0, (let h = pays.1 in let on = lies.2 in omega (arith, h, on)))

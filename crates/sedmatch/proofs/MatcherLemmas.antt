@@ -1,8 +1,10 @@
 -- A matcher: that what it answers is of the expression that it seeks, and what it costs.
 use Rattle.std.proofs.Common.{◌≡◌, ◌∙◌, ℕ, zero, suc, ◌+◌, ◌-◌, ◌*◌, ◌<◌, ◌≤◌, Bool, true, false, List, length, Option, Some, None, IfSome, IsTrue, refl, sym, ap, subst, true≢false, arith, mul-le-mul_left, mul-add}
+use Rattle.std.proofs.Math.Nat.{mul-le-mul_right}
 use Rattle.std.specs.Prelude.{is_some, nat_lt, not, if◌then◌else◌}
 use Rattle.std.specs.Option.{unwrap_or}
 use Rattle.std.proofs.lemmas.Bool.Decides.{nat_tests}
+use Rattle.sedre.specs.Steps.{Takes}
 use Rattle.sedre.specs.Tree.{WrittenExpression, Tree}
 use Rattle.sedtext.specs.Costs.{CostsWithin}
 use Rattle.sedtext.specs.Answer.{SpanAnswer}
@@ -41,9 +43,6 @@ further n at r x on off = by (nat_lt at n) refl
     by true is = on (grind (arith, nat_tests))
     by false is = off (grind (arith, nat_tests))
 
-pub few_of : (m k r : ℕ) → r ≤ 14 * m → r * k ≤ 14 * m * k
-few_of m k r h = let a = mul-le-mul_left k h in omega (arith, a)
-
 pub none_of : (last : Option ℕ) (b : Bool) → is_some last ≡ not b → b ≡ true → last ≡ None
 none_of None b is yes' = refl
 none_of (Some q) b is yes' = absurd (true≢false (is ∙ ap not yes'))
@@ -69,39 +68,19 @@ next_by_null e w last at first r b b' is low answer passed same r_is =
     subst (λ v. r ≡ next_span (found e w) (length w) v) (sym is) (passed_by at first (found e w at) other r b b' (answer_found e w at first low answer) (passed other) same r_is)
 
 -- the first look answers
-pub look_paid : (m n r s t : ℕ) (last : Option ℕ) (at : ℕ) (f : Option (ℕ × ℕ)) → r ≤ 14 * m → at ≡ unwrap_or last 0 → at ≤ n → CostsWithin s t (r * (end_or n f + 1)) (r * at) → IfSome f (LiesOn n last) →
-    CostsWithin s t (owed_direct m n last) (owed_direct_after m n f)
-look_paid m n r s t None at None small is low pays lies =
-    let a = few_of m (n + 1) r small in (pays.0, (let h = pays.1 in omega (arith, a, h)))
-look_paid m n r s t None at (Some f) small is low pays lies =
-    let rest : n + 1 ≡ n + 1 - f.1 + f.1 = (let on = lies.1 in omega (arith, on)) in
-    let a = few_of m (f.1 + 1) r small in
-    let b : 28 * m * (n + 1) ≡ 28 * m * (n + 1 - f.1) + 28 * m * f.1 = ap (λ x. 28 * m * x) rest ∙ mul-add (28 * m) (n + 1 - f.1) f.1 in
-    (pays.0, (let h = pays.1 in omega (arith, a, b, h)))
-look_paid m n r s t (Some q) at None small is low pays lies =
-    let rest : n + 1 ≡ q + (n + 1 - q) = omega (arith, is, low) in
-    let a = few_of m (n + 1 - q) r small in
-    let b : r * (n + 1) ≡ r * q + r * (n + 1 - q) = ap (λ x. r * x) rest ∙ mul-add r q (n + 1 - q) in
-    let c : r * at ≡ r * q = ap (λ x. r * x) is in
-    (pays.0, (let h = pays.1 in omega (arith, a, b, c, h)))
-look_paid m n r s t (Some q) at (Some f) small is low pays lies =
-    let after = lies.2.1 in
-    let on = lies.1 in
-    let one : f.1 + 1 ≡ q + (f.1 + 1 - q) = omega (arith, after) in
-    let two : n + 1 - q ≡ n + 1 - f.1 + (f.1 - q) = omega (arith, after, on) in
-    let twice : f.1 + 1 - q ≤ 2 * (f.1 - q) = omega (arith, after) in
-    let a = few_of m (f.1 + 1 - q) r small in
-    let b : r * (f.1 + 1) ≡ r * q + r * (f.1 + 1 - q) = ap (λ x. r * x) one ∙ mul-add r q (f.1 + 1 - q) in
-    let c : r * at ≡ r * q = ap (λ x. r * x) is in
-    let d : 28 * m * (n + 1 - q) ≡ 28 * m * (n + 1 - f.1) + 28 * m * (f.1 - q) = ap (λ x. 28 * m * x) two ∙ mul-add (28 * m) (n + 1 - f.1) (f.1 - q) in
-    let e = mul-le-mul_left (14 * m) twice in
-    (pays.0, (let h = pays.1 in omega (arith, a, b, c, d, e, h)))
+pub look_paid : (n s t : ℕ) (last : Option ℕ) (at : ℕ) (f : Option (ℕ × ℕ)) → at ≡ unwrap_or last 0 → at ≤ n → CostsWithin s t (4 * (end_or n f + 1)) (4 * at) → IfSome f (LiesOn n last) →
+    CostsWithin s t (owed_direct n last) (owed_direct_after n f)
+look_paid n s t None at None is low pays lies = (pays.0, (let h = pays.1 in omega (arith, h)))
+look_paid n s t None at (Some f) is low pays lies = (pays.0, (let h = pays.1 in let on = lies.1 in omega (arith, on, h)))
+look_paid n s t (Some q) at None is low pays lies = (pays.0, (let h = pays.1 in omega (arith, is, low, h)))
+look_paid n s t (Some q) at (Some f) is low pays lies =
+    (pays.0, (let h = pays.1 in let after = lies.2.1 in let on = lies.1 in omega (arith, is, after, on, h)))
 
 -- or the second one, after the null string at a place
-pub looks_paid : (m n r s u t q : ℕ) (f : Option (ℕ × ℕ)) → r ≤ 14 * m → q ≤ n → CostsWithin s u (r * (q + 1)) (r * q) → CostsWithin u t (r * (end_or n f + 1)) (r * (q + 1)) → IfSome f (λ g. (q + 1 ≤ g.0) × (g.0 ≤ g.1) × (g.1 ≤ n)) →
-    CostsWithin s t (owed_direct m n (Some q)) (owed_direct_after m n f)
-looks_paid m n r s u t q f small low one two lies =
-    look_paid m n r s t (Some q) q f small refl low (omega (arith, one.0, two.0), (let h = one.1 in let k = two.1 in omega (arith, h, k))) (lies_past f lies)
+pub looks_paid : (n s u t q : ℕ) (f : Option (ℕ × ℕ)) → q ≤ n → CostsWithin s u (4 * (q + 1)) (4 * q) → CostsWithin u t (4 * (end_or n f + 1)) (4 * (q + 1)) → IfSome f (λ g. (q + 1 ≤ g.0) × (g.0 ≤ g.1) × (g.1 ≤ n)) →
+    CostsWithin s t (owed_direct n (Some q)) (owed_direct_after n f)
+looks_paid n s u t q f low one two lies =
+    look_paid n s t (Some q) q f refl low (omega (arith, one.0, two.0), (let h = one.1 in let k = two.1 in omega (arith, h, k))) (lies_past f lies)
   where
     lies_past : (f : Option (ℕ × ℕ)) → IfSome f (λ g. (q + 1 ≤ g.0) × (g.0 ≤ g.1) × (g.1 ≤ n)) → IfSome f (LiesOn n (Some q))
     lies_past None lies = tt
@@ -109,49 +88,55 @@ looks_paid m n r s u t q f small low one two lies =
 
 -- What a search costs, by either way.
 
-least : (m n q : ℕ) (o : Occurrences) (f s t : ℕ) → q ≤ f → f ≤ n → t + owed_direct m n (Some f) ≤ s + owed_direct m n (Some q) → t + owed_behind m n o.seeking f ≤ s + owed_behind m n o.seeking q
-least m n q o f s t up on pays =
+least : (m n q : ℕ) (o : Occurrences) (f s t : ℕ) → 1 ≤ m → q ≤ f → f ≤ n → t + owed_direct n (Some f) ≤ s + owed_direct n (Some q) → t + owed_behind m n o.seeking f ≤ s + owed_behind m n o.seeking q
+least m n q o f s t some up on pays =
     let rest : n + 1 - q ≡ n + 1 - f + (f - q) = omega (arith, up, on) in
-    let a : 28 * m * (n + 1 - q) ≡ 28 * m * (n + 1 - f) + 28 * m * (f - q) = ap (λ x. 28 * m * x) rest ∙ mul-add (28 * m) (n + 1 - f) (f - q) in
-    let b : 84 * m * (n + 1 - q) ≡ 84 * m * (n + 1 - f) + 84 * m * (f - q) = ap (λ x. 84 * m * x) rest ∙ mul-add (84 * m) (n + 1 - f) (f - q) in
+    let a : 84 * m * (n + 1 - q) ≡ 84 * m * (n + 1 - f) + 84 * m * (f - q) = ap (λ x. 84 * m * x) rest ∙ mul-add (84 * m) (n + 1 - f) (f - q) in
+    let b = mul-le-mul_right (f - q) some in
     let falls = search_falls m n o.seeking q f up in
-    omega (arith, a, b, falls, pays)
+    omega (arith, rest, a, b, falls, pays)
 
-pub direct_owed : (m n : ℕ) (last : Option ℕ) (o : Occurrences) (r : Option (ℕ × ℕ)) (s t : ℕ) → (last ≡ None → IsTrue o.is_fresh) → IfSome r (LiesOn n last) → CostsWithin s t (owed_direct m n last) (owed_direct_after m n r) →
+-- a node at least pays for them
+pub direct_owed : (m n : ℕ) (last : Option ℕ) (o : Occurrences) (r : Option (ℕ × ℕ)) (s t : ℕ) → 1 ≤ m → (last ≡ None → IsTrue o.is_fresh) → IfSome r (LiesOn n last) → CostsWithin s t (owed_direct n last) (owed_direct_after n r) →
     CostsWithin s t (owed m n last o) (owed_after m n r o)
-direct_owed m n last o r s t fresh lies pays = (pays.0, by o.is_fresh refl)
+direct_owed m n last o r s t some fresh lies pays = (pays.0, by o.is_fresh refl)
   where
-    open_to : (b : Bool) (q : ℕ) → o.is_fresh ≡ b → owed m n (Some q) o ≡ (if b then 372 * m * (n + 1) + owed_direct m n (Some q) else owed_behind m n o.seeking q)
-    open_to b q is = ap (λ (v : Bool). if v then 372 * m * (n + 1) + owed_direct m n (Some q) else owed_behind m n o.seeking q) is
+    open_to : (b : Bool) (q : ℕ) → o.is_fresh ≡ b → owed m n (Some q) o ≡ (if b then 372 * m * (n + 1) + owed_direct n (Some q) else owed_behind m n o.seeking q)
+    open_to b q is = ap (λ (v : Bool). if v then 372 * m * (n + 1) + owed_direct n (Some q) else owed_behind m n o.seeking q) is
 
-    to : (b : Bool) → o.is_fresh ≡ b → (last : Option ℕ) (r : Option (ℕ × ℕ)) → (last ≡ None → IsTrue o.is_fresh) → IfSome r (LiesOn n last) → t + owed_direct_after m n r ≤ s + owed_direct m n last → t + owed_after m n r o ≤ s + owed m n last o
-    to true is None None fresh lies h = omega (arith, h)
-    to true is None (Some f) fresh lies h = let a = open_to true f.1 is in omega (arith, a, h)
+    to : (b : Bool) → o.is_fresh ≡ b → (last : Option ℕ) (r : Option (ℕ × ℕ)) → (last ≡ None → IsTrue o.is_fresh) → IfSome r (LiesOn n last) → t + owed_direct_after n r ≤ s + owed_direct n last → t + owed_after m n r o ≤ s + owed m n last o
+    to true is None None fresh lies h = let all = mul-le-mul_right (n + 1) some in omega (arith, all, h)
+    to true is None (Some f) fresh lies h = let all = mul-le-mul_right (n + 1) some in let a = open_to true f.1 is in omega (arith, all, a, h)
     to true is (Some q) None fresh lies h = let a = open_to true q is in omega (arith, a, h)
     to true is (Some q) (Some f) fresh lies h = let a = open_to true q is in let b = open_to true f.1 is in omega (arith, a, b, h)
     to false is None r fresh lies h = absurd (true≢false (sym (fresh refl) ∙ is))
     to false is (Some q) None fresh lies h =
         let a = open_to false q is in
-        let b : 28 * m * (n + 1 - q) ≤ 84 * m * (n + 1 - q) = (let z : 0 ≤ m * (n + 1 - q) = omega arith in omega (arith, z)) in
+        let b = mul-le-mul_right (n + 1 - q) some in
         omega (arith, a, b, h)
     to false is (Some q) (Some f) fresh lies h =
         let a = open_to false q is in
         let b = open_to false f.1 is in
         let after = lies.2.1 in
-        let c = least m n q o f.1 s t (omega (arith, after)) lies.1 h in
+        let c = least m n q o f.1 s t some (omega (arith, after)) lies.1 h in
         omega (arith, a, b, c)
 
     by : (b : Bool) → o.is_fresh ≡ b → t + owed_after m n r o ≤ s + owed m n last o
     by b is = to b is last r fresh lies pays.1
 
-pub direct_once : (m n : ℕ) → 28 * m * (n + 1) ≤ 64 * m * m * (n + 1) * (n + 1)
-direct_once zero n = omega arith
-direct_once (suc m) n =
+one_call : (m n : ℕ) → 1 ≤ m → 12 * (n + 1) ≤ 64 * m * m * (n + 1) * (n + 1)
+one_call zero n some = omega (arith, some)
+one_call (suc m) n some =
     let one : 1 ≤ n + 1 = omega arith in
     let a = mul-le-mul_left (64 * suc m * suc m * (n + 1)) one in
     let b : 1 ≤ suc m = omega arith in
     let c = mul-le-mul_left (64 * suc m * (n + 1)) b in
     omega (arith, a, c)
+
+-- and one call by itself
+pub direct_once : (m n : ℕ) (last : Option ℕ) (r : Option (ℕ × ℕ)) (s t : ℕ) → 1 ≤ m → CostsWithin s t (owed_direct n last) (owed_direct_after n r) → Takes s t (64 * m * m * (n + 1) * (n + 1))
+direct_once m n None r s t some pays = (pays.0, (let h = pays.1 in let k = one_call m n some in omega (arith, h, k)))
+direct_once m n (Some q) r s t some pays = (pays.0, (let h = pays.1 in let k = one_call m n some in omega (arith, h, k)))
 
 -- what is kept serves on, where it was not looked at
 pub serves_same : (e : WrittenExpression) (w : List ℕ) (last : Option ℕ) (o : Occurrences) (r : Option (ℕ × ℕ)) → Serves e w last o → ServesOn e w r o o

@@ -170,7 +170,7 @@ module _ (p : Prepared) (w : List ℕ) (o : Occurrences) (at : RoomAt (length w)
 
 after_used : (m n : ℕ) (r : Option (ℕ × ℕ)) (new : Occurrences) → new.is_fresh ≡ false → owed_after m n r new ≡ owed_after_search (owed_behind m n new.seeking) r
 after_used m n None new used = refl
-after_used m n (Some f) new used = ap (λ (b : Bool). if b then 372 * m * (n + 1) + 28 * m * (n + 1 - f.1) else owed_behind m n new.seeking f.1) used
+after_used m n (Some f) new used = ap (λ (b : Bool). if b then 372 * m * (n + 1) + 8 * (n + 1 - f.1) else owed_behind m n new.seeking f.1) used
 
 behind_falls : (m n q : ℕ) (s : Seeking) → owed_behind m n s q ≤ owed_behind m n s 0
 behind_falls m n q s =
@@ -191,9 +191,9 @@ due_enough m n (Some q) old mid some fresh same begun = by old.is_fresh refl
     by true is =
         let least = begun is in
         let falls = behind_falls m n q mid.seeking in
-        subst (λ (b : Bool). owed_behind m n mid.seeking q ≤ (if b then 372 * m * (n + 1) + 28 * m * (n + 1 - q) else owed_behind m n old.seeking q)) (sym is) (omega (arith, least, falls))
+        subst (λ (b : Bool). owed_behind m n mid.seeking q ≤ (if b then 372 * m * (n + 1) + 8 * (n + 1 - q) else owed_behind m n old.seeking q)) (sym is) (omega (arith, least, falls))
     by false is =
-        subst (λ (b : Bool). owed_behind m n mid.seeking q ≤ (if b then 372 * m * (n + 1) + 28 * m * (n + 1 - q) else owed_behind m n old.seeking q)) (sym is)
+        subst (λ (b : Bool). owed_behind m n mid.seeking q ≤ (if b then 372 * m * (n + 1) + 8 * (n + 1 - q) else owed_behind m n old.seeking q)) (sym is)
         (subst (λ (x : Occurrences). owed_behind m n x.seeking q ≤ owed_behind m n old.seeking q) (sym (same is)) (omega arith))
 
 paid : (m n : ℕ) (last : Option ℕ) (old mid new : Occurrences) (r : Option (ℕ × ℕ)) (s t : ℕ) → 1 ≤ m → (last ≡ None → IsTrue old.is_fresh) → (old.is_fresh ≡ false → mid ≡ old) →

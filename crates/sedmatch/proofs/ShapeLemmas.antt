@@ -1,5 +1,5 @@
 -- What stands before the end of the text, and after its beginning.
-use Rattle.std.proofs.Common.{◌≡◌, ℕ, ◌↔◌, List, refl, sym, subst, ◌∙◌}
+use Rattle.std.proofs.Common.{◌≡◌, ℕ, ◌↔◌, List, Option, Some, None, sym, subst, ◌∙◌}
 use Rattle.sedre.specs.declared.types.Node.{Node}
 use Rattle.sedtext.specs.Forms.{HasForm}
 use Rattle.sedtext.specs.Reach.{At}
@@ -8,10 +8,10 @@ use Rattle.sedmatch.specs.Shapes.{IsStem, StemLeads}
 use Rattle.sedmatch.specs.Stretches.{Stands}
 use Rattle.sedmatch.specs.declared.shapes.Stem.{Stem}
 use Rattle.sedmatch.specs.declared.stretches.Anchoring.{Anchoring}
-use Rattle.sedmatch.specs.declared.stretches.Anchoring.TheVariants.{Anywhere, AtEnd}
+use Rattle.sedmatch.specs.declared.stretches.Anchoring.TheVariants.{AtEnd}
 
 module _ (nodes : List Node) (x y z : ℕ) (both : HasForm nodes x (Both y z)) (stem : Stem) where
-  pub stem_before_end : HasForm nodes z End → IsStem nodes y stem Anywhere → IsStem nodes x stem AtEnd
+  pub stem_before_end : HasForm nodes z End → IsStem nodes y stem None → IsStem nodes x stem (Some AtEnd)
   stem_before_end ends is w i j = (
     (λ at.
         let f = (both.2 w i j).0 at in
@@ -20,7 +20,7 @@ module _ (nodes : List Node) (x y z : ℕ) (both : HasForm nodes x (Both y z)) (
     (λ s. (both.2 w i j).1 (j, (is w i j).1 (s.0, tt), (ends w j j).1 (s.1, s.1))),
   )
 
-  pub stem_after_start : (anchoring to : Anchoring) → HasForm nodes y Start → IsStem nodes z stem anchoring → ((w : List ℕ) (i j : ℕ) → Stands to w i j ↔ ((i ≡ 0) × Stands anchoring w i j)) → IsStem nodes x stem to
+  pub stem_after_start : (anchoring : Option Anchoring) (to : Anchoring) → HasForm nodes y Start → IsStem nodes z stem anchoring → ((w : List ℕ) (i j : ℕ) → Stands (Some to) w i j ↔ ((i ≡ 0) × Stands anchoring w i j)) → IsStem nodes x stem (Some to)
   stem_after_start anchoring to starts is stands w i j = (
     (λ at.
         let f = (both.2 w i j).0 at in

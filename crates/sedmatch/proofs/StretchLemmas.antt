@@ -37,7 +37,7 @@ follow_cut (Some members) w i m j low high on = (repeated_cut members w m j i lo
 
 -- at the end of the text: what follows begins at b there, and what comes first is sought from as far before it as it is long
 module _ (s : Stretch) (w : List ℕ) (p b from : ℕ) (follow : FollowFrom s.rest w p b) (from_is : from ≡ max (b - width s.first) p) where
-  end_from : (i j : ℕ) → p ≤ i → StretchSpans s AtEnd w i j → from ≤ i
+  end_from : (i j : ℕ) → p ≤ i → StretchSpans s (Some AtEnd) w i j → from ≤ i
   end_from i j low is =
       let rest = subst (Follow s.rest w (i + width s.first)) is.2 is.1 in
       ⊎_elim
@@ -45,7 +45,7 @@ module _ (s : Stretch) (w : List ℕ) (p b from : ℕ) (follow : FollowFrom s.re
       (λ (le : b ≤ i + width s.first). omega (arith, le, low, from_is))
       (cases_lt (i + width s.first) b)
 
-  pub end_one : (i k : ℕ) → k ≡ length w → FirstFrom (ComesFirst s.first w) from (Some i) → FirstStretch s AtEnd w p (Some (i, k))
+  pub end_one : (i k : ℕ) → k ≡ length w → FirstFrom (ComesFirst s.first w) from (Some i) → FirstStretch s (Some AtEnd) w p (Some (i, k))
   end_one i k end here =
       let inside = comes_within s.first w i here.1 in
       let low = here.0 in

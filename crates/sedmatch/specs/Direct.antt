@@ -1,22 +1,21 @@
 -- Private to the proofs: no contract that `sedmatch` makes public cites what stands here.
 -- Expressions whose matches a look at the text tells.
-use Rattle.std.specs.Prelude.{◌≡◌, ℕ, ◌-◌, ◌*◌, ◌≤◌, ◌↔◌, List, length, Option}
+use Rattle.std.specs.Prelude.{◌≡◌, ℕ, ◌-◌, ◌≤◌, ◌↔◌, List, length, Option, Some, None}
 use Rattle.sedre.specs.Tree.{WrittenExpression, expression_tree, Tree}
 use Rattle.sedtext.specs.Bytes.{AreBytes}
-use Rattle.sedtext.specs.Choice.{ChoiceSpans}
 use Rattle.sedtext.specs.Spans.{Matches}
 use Rattle.sedtext.specs.Times.{HasTimes}
 use Rattle.sedtext.specs.Word.{WordSpans}
 use Rattle.sedmatch.specs.Stretches.{FirstOf, StretchSpans, bytes_sought}
 use Rattle.sedmatch.specs.declared.direct.DirectForm.{DirectForm}
-use Rattle.sedmatch.specs.declared.direct.DirectForm.TheVariants.{Stretch, Times, Literal, Choice}
+use Rattle.sedmatch.specs.declared.direct.DirectForm.TheVariants.{Stretch, Anchored, Times, Literal}
 
 -- what matches from i to j
 abbrev pub FormSpans : DirectForm → List ℕ → ℕ → ℕ → Type 0
-FormSpans (Stretch s) w i j = StretchSpans s s.anchoring w i j
+FormSpans (Stretch s) w i j = StretchSpans s None w i j
+FormSpans (Anchored s ends) w i j = StretchSpans s (Some ends) w i j
 FormSpans (Times members count) w i j = HasTimes members count w i j
 FormSpans (Literal literal) w i j = WordSpans literal w i j
-FormSpans (Choice literals) w i j = ChoiceSpans literals w i j
 
 -- the spans of the expression in a text of bytes are these
 abbrev pub SpannedAs : Tree → DirectForm → Type 0
@@ -24,21 +23,12 @@ SpannedAs e form = (w : List ℕ) → AreBytes w → (i j : ℕ) → i ≤ lengt
 
 -- how many bytes are looked at at least where such a match is found from p on
 abbrev pub bytes_looked_at : DirectForm → ℕ → ℕ × ℕ → ℕ
-bytes_looked_at (Stretch s) p f = bytes_sought s.anchoring p f
+bytes_looked_at (Anchored s ends) p f = bytes_sought ends p f
 bytes_looked_at other p f = f.1 - p
 
--- how many looks there are at most for each byte that is passed
-abbrev pub rate : DirectForm → ℕ
-rate (Choice literals) = 42
-rate other = 4
-
--- the spans of the expression are those of the form, for which there are so many looks at most for each byte that is passed
-abbrev pub HasForm : Tree → ℕ → DirectForm → Type 0
-HasForm e looks form = SpannedAs e form × (rate form ≤ looks)
-
--- the expression is of this form: its spans are those of the form, it has no groups, and its nodes pay for the looks
+-- the expression is of this form: its spans are those of the form, it has no groups, and it has a node
 abbrev pub IsDirect : WrittenExpression → DirectForm → Type 0
-IsDirect e form = SpannedAs (expression_tree e) form × (e.groups ≡ 0) × (rate form ≤ 14 * length e.nodes)
+IsDirect e form = SpannedAs (expression_tree e) form × (e.groups ≡ 0) × (1 ≤ length e.nodes)
 
 -- the longest of the matches that begin first from p on, if there is one
 abbrev pub FirstSpan : DirectForm → List ℕ → ℕ → Option (ℕ × ℕ) → Type 0

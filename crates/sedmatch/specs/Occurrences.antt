@@ -78,18 +78,18 @@ owed_search m n None s = owed_behind m n s 0 + 42 * m + 3 * n
 owed_search m n (Some q) s = owed_behind m n s q
 
 -- those that looks at the text may
-abbrev pub owed_direct : ℕ → ℕ → Option ℕ → ℕ
-owed_direct m n None = 28 * m * (n + 1) + 16 * m
-owed_direct m n (Some q) = 28 * m * (n + 1 - q)
+abbrev pub owed_direct : ℕ → Option ℕ → ℕ
+owed_direct n None = 8 * (n + 1) + 4
+owed_direct n (Some q) = 8 * (n + 1 - q)
 
 -- none after an answer that there is no occurrence
-abbrev pub owed_direct_after : ℕ → ℕ → Option (ℕ × ℕ) → ℕ
-owed_direct_after m n None = 0
-owed_direct_after m n (Some f) = owed_direct m n (Some f.1)
+abbrev pub owed_direct_after : ℕ → Option (ℕ × ℕ) → ℕ
+owed_direct_after n None = 0
+owed_direct_after n (Some f) = owed_direct n (Some f.1)
 
 -- and those that either may
 abbrev pub owed_from : ℕ → ℕ → ℕ → Occurrences → ℕ
-owed_from m n q o = if o.is_fresh then 372 * m * (n + 1) + owed_direct m n (Some q) else owed_behind m n o.seeking q
+owed_from m n q o = if o.is_fresh then 372 * m * (n + 1) + owed_direct n (Some q) else owed_behind m n o.seeking q
 
 abbrev pub owed : ℕ → ℕ → Option ℕ → Occurrences → ℕ
 owed m n None o = 416 * m * (n + 1)

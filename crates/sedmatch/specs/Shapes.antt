@@ -26,7 +26,7 @@ abbrev pub IsLastRun : List Node → ℕ → List Bool → Type 0
 IsLastRun nodes x members = (w : List ℕ) (i j : ℕ) → At nodes w x i j ↔ (Repeated members w i j × (j ≡ length w))
 
 -- the spans of the node x are those of the stem that is anchored so
-abbrev pub IsStem : List Node → ℕ → Stem → Anchoring → Type 0
+abbrev pub IsStem : List Node → ℕ → Stem → Option Anchoring → Type 0
 IsStem nodes x stem anchoring = (w : List ℕ) (i j : ℕ) → At nodes w x i j ↔ (StemLeads stem w i j × Stands anchoring w i j)
 
 -- in a text of bytes, what comes first is a byte of the set, if there is one

@@ -3,13 +3,12 @@
 use Rattle.std.specs.Prelude.{◌≡◌, ℕ, ◌+◌, ◌-◌, ◌<◌, ◌≤◌, ◌⊎◌, Bool, List, length, Option, Some, None}
 use Rattle.sedtext.specs.Beginnings.{CanBegin}
 use Rattle.sedtext.specs.declared.beginnings.Begins.TheVariants.{WithSet}
-use Rattle.sedtext.specs.Bytes.{FirstFrom}
 use Rattle.sedtext.specs.Few.{FewAt}
 use Rattle.sedtext.specs.Runs.{Repeated}
 use Rattle.sedmatch.specs.declared.stretches.First.{First}
 use Rattle.sedmatch.specs.declared.stretches.First.TheVariants.{Nothing, Among, Member}
 use Rattle.sedmatch.specs.declared.stretches.Anchoring.{Anchoring}
-use Rattle.sedmatch.specs.declared.stretches.Anchoring.TheVariants.{Anywhere, AtStart, AtEnd, Whole, AtEitherEnd}
+use Rattle.sedmatch.specs.declared.stretches.Anchoring.TheVariants.{AtStart, AtEnd, Whole, AtEitherEnd}
 use Rattle.sedmatch.specs.declared.stretches.Stretch.{Stretch}
 
 -- what comes first stands at the place
@@ -28,16 +27,16 @@ abbrev pub Follow : Option (List Bool) → List ℕ → ℕ → ℕ → Type 0
 Follow None w i j = j ≡ i
 Follow (Some members) w i j = Repeated members w i j
 
--- a span from i to j stands where it is anchored
-abbrev pub Stands : Anchoring → List ℕ → ℕ → ℕ → Type 0
-Stands Anywhere w i j = Unit {0}
-Stands AtStart w i j = i ≡ 0
-Stands AtEnd w i j = j ≡ length w
-Stands Whole w i j = (i ≡ 0) × (j ≡ length w)
-Stands AtEitherEnd w i j = (i ≡ 0) ⊎ (j ≡ length w)
+-- a span from i to j stands where it is anchored, if it is
+abbrev pub Stands : Option Anchoring → List ℕ → ℕ → ℕ → Type 0
+Stands None w i j = Unit {0}
+Stands (Some AtStart) w i j = i ≡ 0
+Stands (Some AtEnd) w i j = j ≡ length w
+Stands (Some Whole) w i j = (i ≡ 0) × (j ≡ length w)
+Stands (Some AtEitherEnd) w i j = (i ≡ 0) ⊎ (j ≡ length w)
 
 -- the spans of a stretch that is anchored so
-abbrev pub StretchSpans : Stretch → Anchoring → List ℕ → ℕ → ℕ → Type 0
+abbrev pub StretchSpans : Stretch → Option Anchoring → List ℕ → ℕ → ℕ → Type 0
 StretchSpans s anchoring w i j = ComesFirst s.first w i × Follow s.rest w (i + width s.first) j × Stands anchoring w i j
 
 -- the longest of the spans that begin first from p on, in a text of n bytes, if there is one
@@ -47,7 +46,7 @@ FirstOf Spans n p (Some f) =
     (p ≤ f.0) × Spans f.0 f.1 × (f.1 ≤ n) × ((j : ℕ) → Spans f.0 j → j ≤ f.1) × ((i j : ℕ) → p ≤ i → i < f.0 → Spans i j → ⊥)
 
 -- the same of the spans of a stretch that is anchored so
-abbrev pub FirstStretch : Stretch → Anchoring → List ℕ → ℕ → Option (ℕ × ℕ) → Type 0
+abbrev pub FirstStretch : Stretch → Option Anchoring → List ℕ → ℕ → Option (ℕ × ℕ) → Type 0
 FirstStretch s anchoring w = FirstOf (StretchSpans s anchoring w) (length w)
 
 -- the bytes that follow from i on end at j at the farthest
@@ -68,8 +67,8 @@ abbrev pub end_or : ℕ → Option (ℕ × ℕ) → ℕ
 end_or n None = n
 end_or n (Some f) = f.1
 
--- How many bytes are looked at at least where a stretch is found from p on. At the end of the text it is sought back from there,
--- and these are its own.
+-- How many bytes are looked at at least where an anchored stretch is found from p on. At the end of the text it is sought back from
+-- there, and these are its own.
 abbrev pub bytes_sought : Anchoring → ℕ → ℕ × ℕ → ℕ
 bytes_sought AtEnd p f = f.1 - f.0
 bytes_sought other p f = f.1 - p

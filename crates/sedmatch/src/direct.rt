@@ -1,5 +1,5 @@
 //! Direct forms: expressions whose matches a look at the text tells. A byte of a set, a run of such bytes, both, and anchors
-//! ([`crate::stretches`]), always as many bytes of a set, a literal, one of a few literals.
+//! ([`crate::stretches`]), always as many bytes of a set, a literal.
 //!
 //! Where such a match begins is told by its bytes, and where the longest ends by those that follow, so that nothing
 //! has to be found out of the expression in a search. What a search costs falls with the place from which it starts: all
@@ -15,17 +15,16 @@ ghost use Rattle.sedtext.specs.Costs.{CostsWithin};
 ghost use Rattle.sedtext.specs.Following.{CanEndEarly};
 ghost use Rattle.sedtext.specs.Word.{AllWord};
 ghost use Rattle.sedmatch.specs.Candidates.{NoMatchBefore};
-ghost use Rattle.sedmatch.specs.Direct.{FirstSpan, HasForm, IsDirect, bytes_looked_at, rate};
+ghost use Rattle.sedmatch.specs.Direct.{FirstSpan, IsDirect, SpannedAs, bytes_looked_at};
 ghost use Rattle.sedmatch.specs.Passes.{TellsMatch};
 ghost use Rattle.sedmatch.specs.Stretches.{end_or};
-ghost use Rattle.sedmatch.specs.declared.direct.DirectForm.TheVariants.{Times, Literal as LiteralForm, Choice as ChoiceForm};
+ghost use Rattle.sedmatch.specs.declared.direct.DirectForm.TheVariants.{Times, Literal as LiteralForm};
 
 use crate::Span;
 use crate::shapes::stretch_of;
-use crate::stretches::{Stretch, stretch_span};
+use crate::stretches::{Anchoring, Stretch, anchored_span, stretch_span};
 use memchr::memmem::Finder;
 use sedre::{ByteSet, Expr, Steps};
-use sedtext::counted::choice::{Choice, choice_of};
 use sedtext::counted::lookups::find_literal;
 use sedtext::counted::{Text, are_bytes};
 use sedtext::needed::{Literal, literal_from};
@@ -35,14 +34,14 @@ use std::alloc::{AllocError, Global};
 /// How the matches of an expression look.
 #[derive(Drop)]
 pub enum DirectForm {
-    /// A byte, bytes of a set that follow, or both, anywhere or at the ends of the text.
+    /// A byte, bytes of a set that follow, or both.
     Stretch(Stretch),
+    /// The same at the ends of the text.
+    Anchored(Stretch, Anchoring),
     /// As many bytes of the set as the number says.
     Times(ByteSet, usize),
     /// A literal of two bytes or more, as it is sought.
     Literal(Finder<'static>),
-    /// One of a few literals.
-    Choice(Choice),
 }
 
 /// The literal that every match is, where it has two bytes or more. A single byte is sought faster as one.
@@ -73,23 +72,20 @@ pub(crate) fn is_expression(expr: &Expr)
 
 /// How the matches of the expression look, if a look at the text tells them.
 fn form_of(alloc: Global, expr: &Expr, steps: &mut Steps) -> Result<Option<DirectForm>, AllocError>
-    ensures form { IfOk result (λ r. IfSome r (HasForm (expression_tree expr.now) (14 * length expr.now.nodes))) }
-    ensures cost { Takes steps.old steps.new 1572928 }
+    ensures form { IfOk result (λ r. IfSome r (SpannedAs (expression_tree expr.now))) }
+    ensures cost { Takes steps.old steps.new 196635 }
 {
     is_expression(expr);
-    if let Some(stretch) = stretch_of(expr, steps) {
-        return Ok(Some(DirectForm::Stretch(stretch)));
+    if let Some(form) = stretch_of(expr, steps) {
+        return Ok(Some(form));
     }
     if let Some(finder) = literal_of(alloc, expr, steps)? {
         return Ok(Some(DirectForm::Literal(finder)));
     }
-    if let Some((set, count)) = times_of(alloc, expr, steps)? {
-        return Ok(Some(DirectForm::Times(set, count)));
+    match times_of(alloc, expr, steps)? {
+        Some((set, count)) => Ok(Some(DirectForm::Times(set, count))),
+        None => Ok(None),
     }
-    if expr.nodes() < 3 {
-        return Ok(None);
-    }
-    Ok(choice_of(alloc, expr, steps)?.map(DirectForm::Choice))
 }
 
 /// The direct form of the expression, if it has one. It fails only where a request for memory was refused.
@@ -99,7 +95,7 @@ pub fn direct_form_of(
     steps: &mut Steps,
 ) -> Result<Option<DirectForm>, AllocError>
     ensures form { IfOk result (λ r. IfSome r (IsDirect expr.now)) }
-    ensures cost { Takes steps.old steps.new 1572928 }
+    ensures cost { Takes steps.old steps.new 196635 }
 {
     if expr.groups() > 0 {
         return Ok(None);
@@ -141,34 +137,20 @@ fn literal_span(finder: &Finder, text: &Text, from: usize, steps: &mut Steps) ->
     }
 }
 
-/// The longest of the literals that stand first from `from` on.
-#[inline(always)]
-fn choice_span(choice: &Choice, text: &Text, from: usize, steps: &mut Steps) -> Option<Span>
-    requires from { from ≤ length text.now }
-    ensures span { FirstSpan (ChoiceForm choice.now) text.now from result }
-    ensures cost { CostsWithin steps.old steps.new (42 * (end_or (length text.now) result + 1)) (42 * from) }
-    ensures counts { IfSome result (λ f. TakesAtLeast steps.old steps.new (f.1 - from)) }
-{
-    match choice.start(text, from, steps) {
-        None => None,
-        Some(start) => Some((start, choice.end(text, start, steps))),
-    }
-}
-
 /// The longest of the matches of this form that begin first from `from` on.
 // On short texts a call of its own costs as much as the search.
 #[inline(always)]
 fn form_span(form: &DirectForm, text: &Text, from: usize, steps: &mut Steps) -> Option<Span>
     requires from { from ≤ length text.now }
     ensures span { FirstSpan form.now text.now from result }
-    ensures cost { CostsWithin steps.old steps.new (rate form.now * (end_or (length text.now) result + 1)) (rate form.now * from) }
+    ensures cost { CostsWithin steps.old steps.new (4 * (end_or (length text.now) result + 1)) (4 * from) }
     ensures counts { IfSome result (λ f. TakesAtLeast steps.old steps.new (bytes_looked_at form.now from f)) }
 {
     match form {
         DirectForm::Stretch(stretch) => stretch_span(stretch, text, from, steps),
+        DirectForm::Anchored(stretch, ends) => anchored_span(stretch, *ends, text, from, steps),
         DirectForm::Times(set, count) => times_span(set, *count, text, from, steps),
         DirectForm::Literal(finder) => literal_span(finder, text, from, steps),
-        DirectForm::Choice(choice) => choice_span(choice, text, from, steps),
     }
 }
 
@@ -178,7 +160,7 @@ pub fn direct_span(form: &DirectForm, text: &Text, from: usize, steps: &mut Step
     requires from { from ≤ length text.now }
     ensures answer { (e : WrittenExpression) → IsDirect e form.now → SpanAnswer (expression_tree e) text.now from result }
     ensures lies { IfSome result (λ f. (from ≤ f.0) × (f.0 ≤ f.1) × (f.1 ≤ length text.now)) }
-    ensures cost { CostsWithin steps.old steps.new (rate form.now * (end_or (length text.now) result + 1)) (rate form.now * from) }
+    ensures cost { CostsWithin steps.old steps.new (4 * (end_or (length text.now) result + 1)) (4 * from) }
     ensures counts { IfSome result (λ f. TakesAtLeast steps.old steps.new (f.1 - f.0)) }
     ensures passes { (e : WrittenExpression) → IsDirect e form.now → CanEndEarly (expression_tree e) → IfSome result (λ f. TakesAtLeast steps.old steps.new (f.1 - from)) }
 {
@@ -204,8 +186,8 @@ pub fn direct_candidate(form: &DirectForm, text: &Text, steps: &mut Steps) -> Op
     are_bytes(text);
     match form {
         DirectForm::Stretch(stretch) => stretch.first.find(text, 0, steps),
+        DirectForm::Anchored(stretch, _) => stretch.first.find(text, 0, steps),
         DirectForm::Literal(finder) => find_literal(text, finder, 0, steps),
-        DirectForm::Choice(choice) => choice.start(text, 0, steps),
-        _ => Some(0),
+        DirectForm::Times(_, _) => Some(0),
     }
 }

@@ -1,14 +1,16 @@
 //! An expression that is searched by passes: what is found out of it once, its tables, and what they tell of a text.
-ghost use Rattle.std.specs.Prelude.{◌≡◌, ℕ, List, ◌+◌, ◌-◌, ◌*◌, ◌/◌, ◌<◌, ◌≤◌, ◌↔◌, [], length, vec_capacity, IfOk, IsTrue};
+ghost use Rattle.std.specs.Prelude.{◌≡◌, ℕ, List, ◌+◌, ◌-◌, ◌*◌, ◌/◌, ◌<◌, ◌≤◌, ◌↔◌, [], length, vec_capacity, IfOk, IfSome, IsTrue};
 ghost use Rattle.sedre.specs.Arena.{IsExpr};
-ghost use Rattle.sedre.specs.Tree.{WrittenExpression, expression_tree};
-ghost use Rattle.sedre.specs.Steps.{Takes};
+ghost use Rattle.sedre.specs.Tree.{Tree, WrittenExpression, expression_tree};
+ghost use Rattle.sedre.specs.Steps.{Takes, TakesAtLeast};
 ghost use Rattle.sedtext.specs.Beginnings.{AllBegin};
 ghost use Rattle.sedtext.specs.Following.{PassesOver};
+ghost use Rattle.sedtext.specs.Hints.{AreHints};
 ghost use Rattle.sedpass.specs.Table.{IsAhead, IsSweep, SameShape};
 ghost use Rattle.sedtext.specs.Spans.{SomeFound, Matches};
 ghost use Rattle.sedpass.specs.Decide.{HasDesk, SameTables};
 ghost use Rattle.sedpass.specs.Kept.{SameSpace};
+ghost use Rattle.sedmatch.specs.Candidates.{NoMatchBefore};
 ghost use Rattle.sedmatch.specs.Passes.{AreOwn, ArePasses, IsDesk, KeepsDesk, KeepsPasses, TellsGroups, TellsMatch};
 
 use crate::Span;
@@ -22,7 +24,8 @@ use sedpass::rows::{Way, Work};
 use sedpass::table::Table;
 use sedre::{Expr, Steps};
 use sedtext::beginnings::{Begins, how_begins};
-use sedtext::counted::Text;
+use sedtext::counted::lookups::find_literal;
+use sedtext::counted::{Text, are_bytes};
 use sedtext::hints::{Hints, find_hints};
 use std::alloc::{AllocError, Global};
 
@@ -124,6 +127,23 @@ impl Passes {
             Some(own) => size_of(self.sought.prepared.nodes(), own.any.room),
             None => 0,
         }
+    }
+}
+
+/// A place of the text before which no line has a match, or None where no line has one, as these tell.
+#[tactic(auto, unfolding(sedre::specs::Steps::TakesAtLeast, sedre::specs::Steps::TakesExactly))]
+pub fn candidate_by(hints: &Hints, text: &Text, steps: &mut Steps) -> Option<usize>
+    ensures before { (e : Tree) → AreHints e hints.now → NoMatchBefore e text.now result }
+    ensures cost { Takes steps.old steps.new (25 * (length text.now + 1)) }
+    ensures counts { IfSome result (λ k. TakesAtLeast steps.old steps.new k) }
+{
+    are_bytes(text);
+    if let Some(needed) = &hints.needed {
+        return find_literal(text, &needed.finder, 0, steps);
+    }
+    match &hints.rare {
+        None => Some(0),
+        Some(rare) => rare.find(text, 0, steps),
     }
 }
 

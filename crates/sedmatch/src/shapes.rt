@@ -1,13 +1,13 @@
 //! Which expressions are a stretch: a byte, a run of bytes, or both, anywhere or at the ends of the text.
-ghost use Rattle.std.specs.Prelude.{◌≡◌, ℕ, ◌-◌, ◌<◌, ◌↔◌, List, length, IfSome, IsTrue};
+ghost use Rattle.std.specs.Prelude.{◌≡◌, ℕ, ◌-◌, ◌<◌, ◌↔◌, List, length, IfSome, IsTrue, Some, None};
 ghost use Rattle.sedre.specs.Steps.{Takes};
 ghost use Rattle.sedre.specs.Tree.{expression_tree};
 ghost use Rattle.sedmatch.specs.Direct.{SpannedAs};
 ghost use Rattle.sedmatch.specs.Shapes.{IsFirst, IsLastRun, IsStem};
 ghost use Rattle.sedmatch.specs.Stretches.{Stands};
-ghost use Rattle.sedmatch.specs.declared.direct.DirectForm.TheVariants.{Stretch as StretchForm};
-ghost use Rattle.sedmatch.specs.declared.stretches.Anchoring.TheVariants.{Anywhere, AtEnd, AtStart};
+ghost use Rattle.sedmatch.specs.declared.stretches.Anchoring.TheVariants.{AtEnd, AtStart};
 
+use crate::direct::DirectForm;
 use crate::stretches::{Anchoring, First, Stretch};
 use sedre::{ByteSet, Expr, Steps};
 use sedtext::counted::few::members_of;
@@ -32,7 +32,7 @@ const NO_BYTE: Stem = Stem {
 /// The stem whose spans those of the node are.
 fn stem_of(expr: &Expr, index: usize, steps: &mut Steps) -> Option<Stem>
     requires inside { index < length expr.now.nodes }
-    ensures stem { IfSome result (λ s. IsStem expr.now.nodes index s Anywhere) }
+    ensures stem { IfSome result (λ s. IsStem expr.now.nodes index s None) }
     ensures cost { Takes steps.old steps.new 5 }
 {
     match form_of(expr, index, steps) {
@@ -76,7 +76,7 @@ fn last_run(expr: &Expr, index: usize, steps: &mut Steps) -> Option<ByteSet>
 /// The stem before the end of the text whose spans those of the node are.
 fn stem_before_end(expr: &Expr, index: usize, steps: &mut Steps) -> Option<Stem>
     requires inside { index < length expr.now.nodes }
-    ensures stem { IfSome result (λ s. IsStem expr.now.nodes index s AtEnd) }
+    ensures stem { IfSome result (λ s. IsStem expr.now.nodes index s (Some AtEnd)) }
     ensures cost { Takes steps.old steps.new 8 }
 {
     match form_of(expr, index, steps) {
@@ -97,40 +97,40 @@ fn stem_before_end(expr: &Expr, index: usize, steps: &mut Steps) -> Option<Stem>
 }
 
 /// The stem whose spans those of the node are, before the end of the text or anywhere.
-fn stem_anchored(expr: &Expr, index: usize, steps: &mut Steps) -> Option<(Stem, Anchoring)>
+fn stem_anchored(expr: &Expr, index: usize, steps: &mut Steps) -> Option<(Stem, Option<Anchoring>)>
     requires inside { index < length expr.now.nodes }
     ensures stem { IfSome result (λ s. IsStem expr.now.nodes index s.0 s.1) }
     ensures cost { Takes steps.old steps.new 13 }
 {
     if let Some(stem) = stem_before_end(expr, index, steps) {
-        return Some((stem, Anchoring::AtEnd));
+        return Some((stem, Some(Anchoring::AtEnd)));
     }
     let stem = stem_of(expr, index, steps)?;
-    Some((stem, Anchoring::Anywhere))
+    Some((stem, None))
 }
 
 /// The same at the beginning of the text.
-fn at_start(anchoring: Anchoring) -> Anchoring
-    ensures { (w : List ℕ) (i j : ℕ) → Stands result w i j ↔ ((i ≡ 0) × Stands anchoring w i j) }
+fn at_start(anchoring: Option<Anchoring>) -> Anchoring
+    ensures { (w : List ℕ) (i j : ℕ) → Stands (Some result) w i j ↔ ((i ≡ 0) × Stands anchoring w i j) }
 {
     match anchoring {
-        Anchoring::Anywhere | Anchoring::AtStart | Anchoring::AtEitherEnd => Anchoring::AtStart,
-        Anchoring::AtEnd | Anchoring::Whole => Anchoring::Whole,
+        None | Some(Anchoring::AtStart | Anchoring::AtEitherEnd) => Anchoring::AtStart,
+        Some(Anchoring::AtEnd | Anchoring::Whole) => Anchoring::Whole,
     }
 }
 
 /// The stem whose spans those of the node are, and where it stands.
-fn one_stem(expr: &Expr, index: usize, steps: &mut Steps) -> Option<(Stem, Anchoring)>
+fn one_stem(expr: &Expr, index: usize, steps: &mut Steps) -> Option<(Stem, Option<Anchoring>)>
     requires inside { index < length expr.now.nodes }
     ensures stem { IfSome result (λ s. IsStem expr.now.nodes index s.0 s.1) }
     ensures cost { Takes steps.old steps.new 15 }
 {
     match form_of(expr, index, steps) {
-        Form::Start => Some((NO_BYTE, Anchoring::AtStart)),
+        Form::Start => Some((NO_BYTE, Some(Anchoring::AtStart))),
         Form::Both(start, rest) => match form_of(expr, start, steps) {
             Form::Start => {
                 let (stem, anchoring) = stem_anchored(expr, rest, steps)?;
-                Some((stem, at_start(anchoring)))
+                Some((stem, Some(at_start(anchoring))))
             }
             _ => stem_anchored(expr, index, steps),
         },
@@ -153,11 +153,11 @@ fn same_set(set: &Option<ByteSet>, other: &Option<ByteSet>) -> bool
 fn either_stem(expr: &Expr, left: usize, right: usize, steps: &mut Steps) -> Option<Stem>
     requires left { left < length expr.now.nodes }
     requires right { right < length expr.now.nodes }
-    ensures left { IfSome result (λ s. IsStem expr.now.nodes left s AtStart) }
-    ensures right { IfSome result (λ s. IsStem expr.now.nodes right s AtEnd) }
+    ensures left { IfSome result (λ s. IsStem expr.now.nodes left s (Some AtStart)) }
+    ensures right { IfSome result (λ s. IsStem expr.now.nodes right s (Some AtEnd)) }
     ensures cost { Takes steps.old steps.new 23 }
 {
-    let (stem, Anchoring::AtStart) = one_stem(expr, left, steps)? else {
+    let (stem, Some(Anchoring::AtStart)) = one_stem(expr, left, steps)? else {
         return None;
     };
     let other = stem_before_end(expr, right, steps)?;
@@ -182,7 +182,7 @@ fn first_of(set: &Option<ByteSet>) -> First
 }
 
 /// The stem whose spans those of the expression are, and where it stands.
-fn whole_stem(expr: &Expr, steps: &mut Steps) -> Option<(Stem, Anchoring)>
+fn whole_stem(expr: &Expr, steps: &mut Steps) -> Option<(Stem, Option<Anchoring>)>
     ensures stem { IfSome result (λ s. IsStem expr.now.nodes (length expr.now.nodes - 1) s.0 s.1) }
     ensures cost { Takes steps.old steps.new 24 }
 {
@@ -190,21 +190,24 @@ fn whole_stem(expr: &Expr, steps: &mut Steps) -> Option<(Stem, Anchoring)>
     match form_of(expr, root, steps) {
         Form::Either(left, right) => {
             let stem = either_stem(expr, left, right, steps)?;
-            Some((stem, Anchoring::AtEitherEnd))
+            Some((stem, Some(Anchoring::AtEitherEnd)))
         }
         _ => one_stem(expr, root, steps),
     }
 }
 
-/// The stretch that the matches of the expression are, if they are one.
-pub fn stretch_of(expr: &Expr, steps: &mut Steps) -> Option<Stretch>
-    ensures spans { IfSome result (λ s. SpannedAs (expression_tree expr.now) (StretchForm s)) }
+/// The form of the expression, if its matches are a stretch.
+pub fn stretch_of(expr: &Expr, steps: &mut Steps) -> Option<DirectForm>
+    ensures spans { IfSome result (SpannedAs (expression_tree expr.now)) }
     ensures cost { Takes steps.old steps.new 24 }
 {
     let (stem, anchoring) = whole_stem(expr, steps)?;
-    Some(Stretch {
+    let stretch = Stretch {
         first: first_of(&stem.first),
         rest: stem.rest,
-        anchoring,
-    })
+    };
+    match anchoring {
+        None => Some(DirectForm::Stretch(stretch)),
+        Some(ends) => Some(DirectForm::Anchored(stretch, ends)),
+    }
 }

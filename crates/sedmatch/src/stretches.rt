@@ -2,12 +2,12 @@
 //! at its ends. `x`, `x*`, `xx*`, each with anchors, `^x+|x+$`, and anchors alone are such.
 #![tactic(auto, unfolding(sedre::specs::Steps::TakesAtLeast, sedre::specs::Steps::TakesExactly))]
 
-ghost use Rattle.std.specs.Prelude.{◌≡◌, ℕ, ◌+◌, ◌-◌, ◌*◌, ◌≤◌, ◌↔◌, length, IfSome, IsTrue};
+ghost use Rattle.std.specs.Prelude.{◌≡◌, ℕ, ◌+◌, ◌-◌, ◌*◌, ◌≤◌, ◌↔◌, length, IfSome, IsTrue, Some, None};
 ghost use Rattle.sedre.specs.Steps.{Takes, TakesAtLeast};
 ghost use Rattle.sedtext.specs.Bytes.{FirstFrom};
 ghost use Rattle.sedtext.specs.Costs.{CostsWithin};
 ghost use Rattle.sedmatch.specs.Stretches.{ComesFirst, FirstStretch, FollowFrom, FollowTo, behind, bytes_sought, end_or, width};
-ghost use Rattle.sedmatch.specs.declared.stretches.Anchoring.TheVariants.{Anywhere, AtEitherEnd, AtEnd, AtStart, Whole};
+ghost use Rattle.sedmatch.specs.declared.stretches.Anchoring.TheVariants.{AtEitherEnd, AtEnd, AtStart, Whole};
 
 use crate::Span;
 use sedre::{ByteSet, Steps};
@@ -30,8 +30,6 @@ pub enum First {
 /// At which ends of the text a stretch is anchored.
 #[derive(Clone, Copy)]
 pub enum Anchoring {
-    /// Anywhere.
-    Anywhere,
     /// At the beginning of the text.
     AtStart,
     /// At the end of the text.
@@ -42,15 +40,13 @@ pub enum Anchoring {
     AtEitherEnd,
 }
 
-/// What comes first, what follows it, and where they stand.
+/// What comes first, and what follows it.
 #[derive(Clone, Copy)]
 pub struct Stretch {
     /// What comes first.
     pub first: First,
     /// The set whose bytes follow, if some do.
     pub rest: Option<ByteSet>,
-    /// At which ends of the text it stands.
-    pub anchoring: Anchoring,
 }
 
 impl First {
@@ -124,17 +120,14 @@ fn rest_begin(rest: &Option<ByteSet>, text: &Text, from: usize, steps: &mut Step
     }
 }
 
-/// The stretch where it stands first from `from` on.
+/// The longest of the stretches that begin first from `from` on.
 #[inline(always)]
-fn next_span(stretch: &Stretch, text: &Text, from: usize, steps: &mut Steps) -> Option<Span>
+pub fn stretch_span(stretch: &Stretch, text: &Text, from: usize, steps: &mut Steps) -> Option<Span>
     requires from { from ≤ length text.now }
-    ensures span { FirstStretch stretch.now Anywhere text.now from result }
-    ensures cost { CostsWithin steps.old steps.new (end_or (length text.now) result + 1) from }
+    ensures span { FirstStretch stretch.now None text.now from result }
+    ensures cost { CostsWithin steps.old steps.new (4 * (end_or (length text.now) result + 1)) (4 * from) }
     ensures counts { IfSome result (λ f. TakesAtLeast steps.old steps.new (f.1 - from)) }
 {
-    if let First::Nothing = stretch.first {
-        return Some((from, rest_end(&stretch.rest, text, from, steps)));
-    }
     match stretch.first.find(text, from, steps) {
         None => None,
         Some(start) => {
@@ -148,7 +141,7 @@ fn next_span(stretch: &Stretch, text: &Text, from: usize, steps: &mut Steps) -> 
 #[inline(always)]
 fn start_span(stretch: &Stretch, text: &Text, from: usize, steps: &mut Steps) -> Option<Span>
     requires from { from ≤ length text.now }
-    ensures span { FirstStretch stretch.now AtStart text.now from result }
+    ensures span { FirstStretch stretch.now (Some AtStart) text.now from result }
     ensures cost { Takes steps.old steps.new (end_or 0 result + 2) }
     ensures counts { IfSome result (λ f. TakesAtLeast steps.old steps.new f.1) }
 {
@@ -165,7 +158,7 @@ fn start_span(stretch: &Stretch, text: &Text, from: usize, steps: &mut Steps) ->
 #[inline(always)]
 fn end_span(stretch: &Stretch, text: &Text, from: usize, steps: &mut Steps) -> Option<Span>
     requires from { from ≤ length text.now }
-    ensures span { FirstStretch stretch.now AtEnd text.now from result }
+    ensures span { FirstStretch stretch.now (Some AtEnd) text.now from result }
     ensures cost { CostsWithin steps.old steps.new (2 * length text.now) (2 * from) }
     ensures counts { IfSome result (λ f. TakesAtLeast steps.old steps.new (f.1 - f.0)) }
 {
@@ -181,7 +174,7 @@ fn end_span(stretch: &Stretch, text: &Text, from: usize, steps: &mut Steps) -> O
 #[inline(always)]
 fn whole_span(stretch: &Stretch, text: &Text, from: usize, steps: &mut Steps) -> Option<Span>
     requires from { from ≤ length text.now }
-    ensures span { FirstStretch stretch.now Whole text.now from result }
+    ensures span { FirstStretch stretch.now (Some Whole) text.now from result }
     ensures cost { CostsWithin steps.old steps.new (4 * (end_or (length text.now) result + 1)) (4 * from) }
     ensures counts { IfSome result (λ f. TakesAtLeast steps.old steps.new f.1) }
 {
@@ -195,7 +188,7 @@ fn whole_span(stretch: &Stretch, text: &Text, from: usize, steps: &mut Steps) ->
 #[inline(always)]
 fn either_span(stretch: &Stretch, text: &Text, from: usize, steps: &mut Steps) -> Option<Span>
     requires from { from ≤ length text.now }
-    ensures span { FirstStretch stretch.now AtEitherEnd text.now from result }
+    ensures span { FirstStretch stretch.now (Some AtEitherEnd) text.now from result }
     ensures cost { CostsWithin steps.old steps.new (4 * (end_or (length text.now) result + 1)) (4 * from) }
     ensures counts { IfSome result (λ f. TakesAtLeast steps.old steps.new (f.1 - from)) }
 {
@@ -212,35 +205,24 @@ fn either_span(stretch: &Stretch, text: &Text, from: usize, steps: &mut Steps) -
     }
 }
 
-/// The longest of the stretches that begin first from `from` on, wherever they may stand.
-// As a part of its caller it would make the search for those that stand anywhere, or at the beginning, slower.
-#[inline(never)]
-fn anchored_span(stretch: &Stretch, text: &Text, from: usize, steps: &mut Steps) -> Option<Span>
+/// The longest of the stretches at the ends of the text that begin first from `from` on.
+#[inline(always)]
+pub fn anchored_span(
+    stretch: &Stretch,
+    anchoring: Anchoring,
+    text: &Text,
+    from: usize,
+    steps: &mut Steps,
+) -> Option<Span>
     requires from { from ≤ length text.now }
-    ensures span { FirstStretch stretch.now stretch.now.anchoring text.now from result }
+    ensures span { FirstStretch stretch.now (Some anchoring) text.now from result }
     ensures cost { CostsWithin steps.old steps.new (4 * (end_or (length text.now) result + 1)) (4 * from) }
-    ensures counts { IfSome result (λ f. TakesAtLeast steps.old steps.new (bytes_sought stretch.now.anchoring from f)) }
+    ensures counts { IfSome result (λ f. TakesAtLeast steps.old steps.new (bytes_sought anchoring from f)) }
 {
-    match stretch.anchoring {
-        Anchoring::Anywhere => next_span(stretch, text, from, steps),
+    match anchoring {
         Anchoring::AtStart => start_span(stretch, text, from, steps),
         Anchoring::AtEnd => end_span(stretch, text, from, steps),
         Anchoring::Whole => whole_span(stretch, text, from, steps),
         Anchoring::AtEitherEnd => either_span(stretch, text, from, steps),
-    }
-}
-
-/// The longest of the stretches that begin first from `from` on.
-#[inline(always)]
-pub fn stretch_span(stretch: &Stretch, text: &Text, from: usize, steps: &mut Steps) -> Option<Span>
-    requires from { from ≤ length text.now }
-    ensures span { FirstStretch stretch.now stretch.now.anchoring text.now from result }
-    ensures cost { CostsWithin steps.old steps.new (4 * (end_or (length text.now) result + 1)) (4 * from) }
-    ensures counts { IfSome result (λ f. TakesAtLeast steps.old steps.new (bytes_sought stretch.now.anchoring from f)) }
-{
-    match stretch.anchoring {
-        Anchoring::Anywhere => next_span(stretch, text, from, steps),
-        Anchoring::AtStart => start_span(stretch, text, from, steps),
-        _ => anchored_span(stretch, text, from, steps),
     }
 }

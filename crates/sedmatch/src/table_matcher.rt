@@ -12,7 +12,7 @@ ghost use Rattle.sedtext.specs.Spans.{SomeFound, Matches};
 ghost use Rattle.sedmatch.specs.Candidates.{NoMatchBefore};
 ghost use Rattle.sedpass.specs.Decide.{found as spans_in};
 ghost use Rattle.sedpass.specs.Walks.{EntersGroups};
-ghost use Rattle.sedmatch.specs.Direct.{IsDirect, rate};
+ghost use Rattle.sedmatch.specs.Direct.{IsDirect};
 ghost use Rattle.sedmatch.specs.Occurrences.{Serves, ServesOn, TellsNext, owed, owed_after, owed_direct, owed_direct_after};
 ghost use Rattle.sedmatch.specs.Passes.{ArePasses, IsDesk, KeepsDesk, KeepsPasses};
 ghost use Rattle.sedmatch.specs.Stretches.{end_or};
@@ -22,14 +22,13 @@ use crate::direct::{
     DirectForm, direct_candidate, direct_form_of, direct_matches, direct_span, is_expression,
 };
 use crate::occurrences::{Occurrences, next_by};
-use crate::passes::{Passes, groups_by, matches_by, new_passes, whole_alone};
+use crate::passes::{Passes, candidate_by, groups_by, matches_by, new_passes, whole_alone};
 use crate::scratch::{Desk, Scratch};
 use crate::table_room::TableRoom;
 use sedpass::nodes::Prepared;
 use sedpass::occurrences::is_null_at;
 use sedre::{Expr, Steps};
 use sedtext::counted::Text;
-use sedtext::counted::lookups::find_literal;
 use std::alloc::{AllocError, Global};
 use std::marker::Model;
 
@@ -72,7 +71,7 @@ fn past_null(form: &DirectForm, text: &Text, at: usize, steps: &mut Steps) -> Op
     ensures next { (e : WrittenExpression) → IsDirect e form.now →
         result ≡ if nat_lt at (length text.now) then found (expression_tree e) text.now (at + 1) else None }
     ensures lies { IfSome result (λ f. (at + 1 ≤ f.0) × (f.0 ≤ f.1) × (f.1 ≤ length text.now)) }
-    ensures cost { CostsWithin steps.old steps.new (rate form.now * (end_or (length text.now) result + 1)) (rate form.now * (at + 1)) }
+    ensures cost { CostsWithin steps.old steps.new (4 * (end_or (length text.now) result + 1)) (4 * (at + 1)) }
     ensures counts { IfSome result (λ f. TakesAtLeast steps.old steps.new (f.1 - f.0)) }
     ensures passes { (e : WrittenExpression) → IsDirect e form.now → CanEndEarly (expression_tree e) → IfSome result (λ f. TakesAtLeast steps.old steps.new (f.1 - (at + 1))) }
 {
@@ -93,9 +92,7 @@ fn next_direct(
     requires last { EndsWithin (length text.now) last }
     ensures next { (e : WrittenExpression) → IsDirect e form.now → result ≡ next_span (found (expression_tree e) text.now) (length text.now) last }
     ensures lies { IfSome result (LiesOn (length text.now) last) }
-    ensures cost { (e : WrittenExpression) → IsDirect e form.now → let m = length e.nodes in let n = length text.now in
-        CostsWithin steps.old steps.new (owed_direct m n last) (owed_direct_after m n result) }
-    ensures once { (e : WrittenExpression) → IsDirect e form.now → Takes steps.old steps.new (28 * length e.nodes * (length text.now + 1)) }
+    ensures cost { CostsWithin steps.old steps.new (owed_direct (length text.now) last) (owed_direct_after (length text.now) result) }
     ensures counts { IfSome result (λ f. TakesAtLeast steps.old steps.new (f.1 - f.0)) }
     ensures passes { (e : WrittenExpression) → IsDirect e form.now → CanEndEarly (expression_tree e) → IfSome result (λ f. TakesAtLeast steps.old steps.new (bytes_passed last f)) }
 {
@@ -195,10 +192,7 @@ impl TableMatcher {
     {
         match &self.engine {
             Engine::Direct(_, form) => direct_candidate(form, text, steps),
-            Engine::Passes(passes) => match &passes.sought.hints.needed {
-                Some(needed) => find_literal(text, &needed.finder, 0, steps),
-                None => Some(0),
-            },
+            Engine::Passes(passes) => candidate_by(&passes.sought.hints, text, steps),
         }
     }
 

@@ -1,5 +1,5 @@
 -- How the spans of a node begin, by the part that stands first in it.
-use Rattle.std.proofs.Common.{◌≡◌, ℕ, ◌+◌, ◌<◌, ◌≤◌, Bool, false, List, Some, None, IsTrue, ◌∙◌, subst, ⊎_elim, arith, Option, mul-le-mul_left, ◌*◌}
+use Rattle.std.proofs.Common.{◌≡◌, ℕ, ◌+◌, ◌<◌, ◌≤◌, Bool, false, List, Some, None, IsTrue, ◌∙◌, subst, ⊎_elim, arith, Option}
 use Rattle.std.proofs.lemmas.Bool.{both_ways, cases_lt}
 use Rattle.sedtext.specs.declared.beginnings.Begins.TheVariants.{WithByte, WithSet}
 use Rattle.std.proofs.lemmas.Option.{slice_get_within}
@@ -22,12 +22,6 @@ member_step members w from place byte has is value not_in missed i low high can 
     let one : can.0 ≡ byte = cc in
     both_ways has not_in (value ∙ subst (λ b. IsTrue (slice_index_or members b false)) one can.2))
     (cases_lt i place)
-
--- the looks at the alternatives, of which there are at most four
-pub turns_cost : (m turn s0 s1 s : ℕ) → turn ≤ 4 → s1 ≤ s0 + 2 * m → s + 2 * m ≤ s1 + 2 * m * turn → s ≤ s0 + 8 * m
-turns_cost m turn s0 s1 s few first before =
-    let all = mul-le-mul_left (2 * m) few in
-    omega (arith, all)
 
 -- the first place that holds the byte with which every span begins
 pub starts_with_byte : (w : List ℕ) (byte p : ℕ) (r : Option ℕ) → FirstAt w byte p r → NextStart (WithByte byte) w p r

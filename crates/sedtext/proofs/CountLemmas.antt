@@ -41,11 +41,6 @@ pub least_looked : (s t n p looks : ℕ) (r : Option ℕ) → TakesExactly s t l
 least_looked s t n p looks None is few = tt
 least_looked s t n p looks (Some k) is few = least_counted s t looks (k - p) is (omega (arith, few))
 
--- where each of these looks is twenty
-pub least_ahead : (s t n p looks : ℕ) (r : Option ℕ) → IfSome r (λ k. p ≤ k) → TakesExactly s t looks → 20 * looked_at n p r ≤ looks → IfSome r (λ k. TakesAtLeast s t (k + 20 - p))
-least_ahead s t n p looks None low is few = tt
-least_ahead s t n p looks (Some k) low is few = least_counted s t looks (k + 20 - p) is (omega (arith, low, few))
-
 -- and one that is found from a later place q on
 pub least_later : (s a b p q : ℕ) (r : Option ℕ) → TakesAtLeast s a (q - p) → IfSome r (λ k. TakesAtLeast a b (k - q)) → IfSome r (λ k. TakesAtLeast s b (k - p))
 least_later s a b p q None before after = tt

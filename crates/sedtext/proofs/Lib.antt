@@ -15,8 +15,7 @@ pub mod BitLemmas
 pub mod CountLemmas
 pub mod TimesLemmas
 pub mod NeededLemmas
-pub mod ChoiceLemmas
-pub mod OpeningLemmas
 pub mod FewLemmas
+pub mod PrefixLemmas
 pub mod RareLemmas
 pub mod LaneLemmas

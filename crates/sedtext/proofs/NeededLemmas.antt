@@ -1,18 +1,61 @@
 -- Literals that the spans of an expression hold.
-use Rattle.std.proofs.Common.{◌≡◌, ℕ, ◌+◌, ◌-◌, ◌<◌, ◌≤◌, ◌⊎◌, List, length, take, drop, Option, Some, None, IsTrue, refl, sym, ap, ◌∙◌, subst, ⊎_elim, arith}
-use Rattle.std.specs.Prelude.{IfSome, slice_index}
+use Rattle.std.proofs.Common.{◌≡◌, ◌<◌, Bool, [], ◌∷◌, ◌++◌, refl, length-append, ℕ, ◌+◌, ◌-◌, ◌≤◌, ◌⊎◌, List, length, take, drop, Option, Some, None, IsTrue, sym, ap, ◌∙◌, subst, ⊎_elim, arith}
+use Rattle.std.specs.Prelude.{◌==◌, IfSome, slice_index}
+use Rattle.std.proofs.lemmas.Bool.{cases_lt}
+use Rattle.std.proofs.lemmas.List.{get_or_append_left, get_or_push}
+use Rattle.std.proofs.lemmas.Option.{slice_get_within, get_or_from_slice_get, slice_get-get_or}
 use Rattle.memchr.specs.Find.{OccursAt, Nowhere, NoneBefore as FirstOf}
 use Rattle.sedre.specs.Tree.{Tree, tree_at}
 use Rattle.sedre.specs.declared.types.Node.{Node}
-use Rattle.sedtext.specs.Spans.{NotFound}
+use Rattle.sedre.specs.Sets.{has, only}
+use Rattle.sedre.specs.WordLaws.{has-set_of}
+use Rattle.sedtext.proofs.MatchingLemmas.{equal-iff}
+use Rattle.sedtext.specs.Spans.{IsIn, NotFound}
 use Rattle.sedtext.specs.Reach.{At}
 use Rattle.sedtext.specs.Forms.{HasForm}
 use Rattle.sedtext.specs.declared.forms.Form.TheVariants.{Both}
-use Rattle.sedtext.specs.Needed.{IsLiteral, GoesOnAs, AllHold, AllEndWith, IsNeeded, FirstLiteral, Narrowed}
+use Rattle.sedtext.specs.Needed.{BeginsAs, IsLiteral, GoesOnAs, AllHold, AllEndWith, IsNeeded, FirstLiteral, Narrowed}
+use Rattle.sedtext.specs.Prefix.{LinksTo}
+use Rattle.sedtext.specs.declared.prefix.Link.TheVariants.{OneOf}
 use Rattle.sedtext.specs.declared.needed.RequiredLiteral.{RequiredLiteral}
 use Rattle.sedtext.specs.declared.needed.Literal.{Literal}
 use Rattle.sedtext.proofs.FewLemmas.{length-rest, rest_at}
 use Rattle.sedtext.proofs.SpanLemmas.{Matches-forward, Matches-within}
+
+-- one more byte of a literal
+pub one_longer : (nodes : List Node) (x y byte : ℕ) (bytes after : List ℕ) (s : List Bool) (rest : Option ℕ) → BeginsAs nodes x bytes (Some y) → LinksTo nodes y (OneOf s rest) →
+    ((c : ℕ) → IsIn c s → c ≡ byte) → s ≡ only byte → byte < 256 → after ≡ bytes ++ byte ∷ [] → BeginsAs nodes x after rest
+one_longer nodes x y byte bytes after s rest begins link sole only_one fits is w i j within =
+    let member : IsIn byte s = ap (λ v. has v byte) only_one ∙ has-set_of (λ c. c == byte) byte fits ∙ (equal-iff byte byte).1 refl in
+    let n = length bytes in
+    let long : length after ≡ n + 1 = ap length is ∙ length-append bytes (byte ∷ []) in
+    let next : i + length after ≡ i + n + 1 = omega (arith, long) in
+    let old : (k : ℕ) → k < n → slice_index after k ≡ slice_index bytes k = λ k lt. ap (λ l. slice_index l k) is ∙ get_or_append_left bytes (byte ∷ []) 0 k lt in
+    let new : slice_index after n ≡ byte = ap (λ l. slice_index l n) is ∙ get_or_push bytes byte 0 n refl in (
+      λ at.
+          let f = (begins w i j within).0 at in
+          let h = (link.1 w (i + n) j).0 f.1 in
+          let there : slice_index w (i + n) ≡ byte = get_or_from_slice_get w (i + n) h.0.0 0 h.0.1 ∙ sole h.0.0 h.0.2 in
+          let inside = slice_get_within w (i + n) h.0.0 h.0.1 in (
+            record {
+              fits = omega (arith, inside, long);
+              reads = λ k lt.
+                  ⊎_elim
+                  (λ (less : k < n). f.0.reads k less ∙ sym (old k less))
+                  (λ (last : n ≤ k). subst (λ v. slice_index w (i + v) ≡ slice_index after v) (let e : n ≡ k = omega (arith, lt, last, long) in e) (there ∙ sym new))
+                  (cases_lt k n);
+            },
+            subst (λ v. GoesOnAs nodes w v j rest) (sym next) h.1,
+          ),
+      λ h.
+          let fits = h.0.fits in
+          let inside : i + n < length w = omega (arith, fits, long) in
+          let there : slice_index w (i + n) ≡ byte = h.0.reads n (omega (arith, long)) ∙ new in
+          (begins w i j within).1 (
+            record { fits = omega (arith, inside); reads = λ k lt. h.0.reads k (omega (arith, lt, long)) ∙ old k lt },
+            (link.1 w (i + n) j).1 ((byte, slice_get-get_or w (i + n) 0 inside ∙ ap Some there, member), subst (λ v. GoesOnAs nodes w v j rest) next h.1),
+          ),
+    )
 
 module _ (nodes : List Node) (x : ℕ) where
   -- the second part of a concatenation

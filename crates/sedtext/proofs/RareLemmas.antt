@@ -2,17 +2,15 @@
 use Rattle.std.proofs.Common.{◌≡◌, ℕ, ◌+◌, ◌-◌, ◌*◌, ◌<◌, ◌≤◌, ◌↔◌, Bool, List, length, Option, Some, None, subst, ⊎_elim, arith}
 use Rattle.std.specs.Prelude.{IfSome}
 use Rattle.std.proofs.lemmas.Bool.{cases_lt}
-use Rattle.sedre.specs.Tree.{Tree, tree_at}
-use Rattle.sedre.specs.declared.types.Node.{Node}
+use Rattle.sedre.specs.Tree.{Tree}
 use Rattle.sedtext.specs.declared.counted.few.Few.{Few}
-use Rattle.sedtext.specs.declared.needed.Link.TheVariants.{OneOf, Last}
 use Rattle.sedtext.specs.declared.rare.Fixed.{Fixed}
 use Rattle.sedtext.specs.declared.rare.Rare.{Rare}
 use Rattle.sedtext.specs.Bytes.{looked_at, AreBytes, FirstFrom}
 use Rattle.sedtext.specs.Few.{HasFew, FewAt, FirstFew}
-use Rattle.sedtext.specs.Needed.{LinksTo, Narrowed}
-use Rattle.sedtext.specs.Rare.{StandsAt, RareAt, RareNowhere, AllStand, AllHave, AllRare}
-use Rattle.sedtext.specs.Reach.{At}
+use Rattle.sedtext.specs.Needed.{Narrowed}
+use Rattle.sedtext.specs.Rare.{StandsAt, RareAt, RareNowhere, AllStand, AllRare}
+use Rattle.sedtext.specs.Prefix.{AllHave}
 use Rattle.sedtext.specs.Beginnings.{NoneIn}
 use Rattle.sedtext.specs.Spans.{Matches, IsIn}
 use Rattle.sedtext.proofs.FewLemmas.{few_inside}
@@ -63,21 +61,6 @@ rare_paid n p q s0 s1 s2 (Some k) low within lies before more = omega (arith, li
 pub have_few : (e : Tree) (offset : ℕ) (s : List Bool) (few : Few) → AllHave e offset s → ((c : ℕ) → c < 256 → HasFew few c ↔ IsIn c s) → AllStand e (record { offset = offset; few = few })
 have_few e offset s few all same w bytes i j spans =
     let h = all w i j spans in (h.0, h.1, (same h.0 (bytes (i + offset) h.0 h.1)).1 h.2)
-
--- the spans of the node x go on as those of the node y so far after their beginning
-abbrev pub GoOnAs : List Node → ℕ → ℕ → ℕ → Type 0
-GoOnAs nodes x offset y = (w : List ℕ) (i j : ℕ) → At nodes w x i j → At nodes w y (i + offset) j
-
-module _ (nodes : List Node) (x : ℕ) where
-  module _ (offset y : ℕ) (on : GoOnAs nodes x offset y) where
-    pub on_set : (s : List Bool) (z : ℕ) → LinksTo nodes y (OneOf s z) → GoOnAs nodes x (offset + 1) z
-    on_set s z link w i j at = subst (λ v. At nodes w z v j) (let e : i + offset + 1 ≡ i + (offset + 1) = omega arith in e) ((link.1 w (i + offset) j).0 (on w i j at)).1
-
-    pub have_set : (s : List Bool) (z : ℕ) → LinksTo nodes y (OneOf s z) → AllHave (tree_at nodes x) offset s
-    have_set s z link w i j at = ((link.1 w (i + offset) j).0 (on w i j at)).0
-
-    pub have_last : (s : List Bool) → LinksTo nodes y (Last s) → AllHave (tree_at nodes x) offset s
-    have_last s link w i j at = ((link w (i + offset) j).0 (on w i j at)).0
 
 -- a text of bytes
 module _ (e : Tree) (w : List ℕ) (bytes : AreBytes w) (from p : ℕ) (r : Rare) (all : AllRare e (Some r)) (before : NoneIn e w from p) where

@@ -19,10 +19,6 @@ CanBegin (WithSet s) w i = (b : ℕ) × (slice_get w i ≡ Some b) × IsIn b s
 abbrev pub AllBegin : Tree → Begins → Type 0
 AllBegin e begins = (w : List ℕ) (i j : ℕ) → Matches e w i j → CanBegin begins w i
 
--- all spans of the node x begin so
-abbrev pub AllAt : List Node → ℕ → Begins → Type 0
-AllAt nodes x begins = (w : List ℕ) (i j : ℕ) → At nodes w x i j → CanBegin begins w i
-
 -- the first place from p on at which a span that begins so can begin
 abbrev pub NextStart : Begins → List ℕ → ℕ → Option ℕ → Type 0
 NextStart begins w p None = (i : ℕ) → p ≤ i → i ≤ length w → CanBegin begins w i → ⊥

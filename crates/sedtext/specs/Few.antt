@@ -12,13 +12,9 @@ HasFew (One a) c = c ≡ a
 HasFew (Two a b) c = (c ≡ a) ⊎ (c ≡ b)
 HasFew (Three a b d) c = (c ≡ a) ⊎ ((c ≡ b) ⊎ (c ≡ d))
 
--- of 32 lanes those are 0 that have the property
-abbrev pub ZerosWhere : (ℕ → Type 0) → List ℕ → Type 0
-ZerosWhere P zeros = (length zeros ≡ 32) × ((k : ℕ) → k < 32 → P k → slice_index zeros k ≡ 0)
-
 -- of 32 lanes those are 0 in which a byte with the property stands
 abbrev pub HasZeros : (ℕ → Type 0) → List ℕ → List ℕ → Type 0
-HasZeros P lanes zeros = ZerosWhere (λ k. P (slice_index lanes k)) zeros
+HasZeros P lanes zeros = (length zeros ≡ 32) × ((k : ℕ) → k < 32 → P (slice_index lanes k) → slice_index zeros k ≡ 0)
 
 -- one of the few stands at the place
 abbrev pub FewAt : Few → List ℕ → ℕ → Type 0

@@ -1,11 +1,11 @@
 -- Private to the proofs: no contract that `sedmatch` makes public cites what stands here.
 -- What the spans of a node are made of.
-use Rattle.std.specs.Prelude.{◌≡◌, ℕ, ◌+◌, ◌<◌, ◌≤◌, ◌⊎◌, ◌↔◌, Bool, List, length}
+use Rattle.std.specs.Prelude.{◌≡◌, ℕ, ◌+◌, ◌<◌, ◌⊎◌, ◌↔◌, Bool, List, length}
 use Rattle.sedre.specs.declared.types.Node.{Node}
 use Rattle.sedre.specs.declared.types.Node.TheVariants.{Set, Begin, End as EndNode, Seq, Alt, Group, Star}
 use Rattle.sedtext.specs.Spans.{CopiesLead}
 use Rattle.sedtext.specs.Reach.{At}
-use Rattle.sedtext.specs.Beginnings.{CanBegin, LeadsWith}
+use Rattle.sedtext.specs.Beginnings.{CanBegin}
 use Rattle.sedtext.specs.declared.beginnings.Begins.TheVariants.{WithSet}
 use Rattle.sedtext.specs.declared.forms.Form.{Form}
 use Rattle.sedtext.specs.declared.forms.Form.TheVariants.{Byte, Start, End, Both, Either, Inner, Copies, Other}
@@ -35,7 +35,3 @@ HasForm nodes x (Either y z) = (y < x) × (z < x) × ((w : List ℕ) (i j : ℕ)
 HasForm nodes x (Inner y) = (y < x) × ((w : List ℕ) (i j : ℕ) → At nodes w x i j ↔ At nodes w y i j)
 HasForm nodes x (Copies y) = (y < x) × ((w : List ℕ) (i j : ℕ) → At nodes w x i j ↔ CopiesLead (At nodes w y) j i)
 HasForm nodes x Other = Unit {0}
-
--- each span of the node x begins with one of a node of this form, which is x or stands before it
-abbrev pub IsLeftmost : List Node → ℕ → Form → Type 0
-IsLeftmost nodes x form = (y : ℕ) × HasForm nodes y form × (y ≤ x) × LeadsWith nodes x y

@@ -17,10 +17,9 @@ pub mod Forms
 pub mod Runs
 pub mod Following
 pub mod Needed
+pub mod Prefix
 pub mod Times
 pub mod Word
-pub mod Choice
-pub mod Openings
 pub mod Few
 pub mod Rare
 pub mod Hints

@@ -1,39 +1,28 @@
 -- Private to the proofs: no contract that `sedmatch` makes public cites what stands here.
 -- Literals that the spans of an expression hold.
-use Rattle.std.specs.Prelude.{◌≡◌, ℕ, ◌+◌, ◌-◌, ◌<◌, ◌≤◌, ◌↔◌, List, length, Option, Some, None, IsTrue}
+use Rattle.std.specs.Prelude.{◌≡◌, ℕ, ◌+◌, ◌-◌, ◌≤◌, ◌↔◌, List, length, Option, Some, None, IsTrue}
 use Rattle.memchr.specs.Find.{OccursAt}
 use Rattle.sedre.specs.Tree.{Tree}
 use Rattle.sedre.specs.declared.types.Node.{Node}
 use Rattle.sedtext.specs.Bytes.{FirstFrom}
 use Rattle.sedtext.specs.Spans.{Matches, NotFound}
 use Rattle.sedtext.specs.Reach.{At}
-use Rattle.sedtext.specs.Beginnings.{CanBegin, NoneIn}
-use Rattle.sedtext.specs.Forms.{IsOfSet}
-use Rattle.sedtext.specs.declared.beginnings.Begins.TheVariants.{WithSet}
-use Rattle.sedtext.specs.declared.needed.Link.{Link}
-use Rattle.sedtext.specs.declared.needed.Link.TheVariants.{OneOf, Last, Inner, Other}
+use Rattle.sedtext.specs.Beginnings.{NoneIn}
 use Rattle.sedtext.specs.declared.needed.Literal.{Literal}
 use Rattle.sedtext.specs.declared.needed.RequiredLiteral.{RequiredLiteral}
-
--- the spans of the node x are those that begin as the link says
-abbrev pub LinksTo : List Node → ℕ → Link → Type 0
-LinksTo nodes x (OneOf s y) = (y < x) × ((w : List ℕ) (i j : ℕ) → At nodes w x i j ↔ (CanBegin (WithSet s) w i × At nodes w y (i + 1) j))
-LinksTo nodes x (Last s) = IsOfSet nodes x s
-LinksTo nodes x (Inner y) = (y < x) × ((w : List ℕ) (i j : ℕ) → At nodes w x i j ↔ At nodes w y i j)
-LinksTo nodes x Other = Unit {0}
 
 -- the node y is spanned from i to j, or i is j if there is no such node
 abbrev pub GoesOnAs : List Node → List ℕ → ℕ → ℕ → Option ℕ → Type 0
 GoesOnAs nodes w i j None = i ≡ j
 GoesOnAs nodes w i j (Some y) = At nodes w y i j
 
--- the spans of the node x are those that begin with the bytes, and go on after them as those of the node y
-abbrev pub BeginsAs : List Node → ℕ → List ℕ → ℕ → Type 0
-BeginsAs nodes x bytes y = (w : List ℕ) (i j : ℕ) → i ≤ length w → At nodes w x i j ↔ (OccursAt w bytes i × At nodes w y (i + length bytes) j)
+-- the spans of the node x are those that begin with the bytes, and go on after them as those of the rest
+abbrev pub BeginsAs : List Node → ℕ → List ℕ → Option ℕ → Type 0
+BeginsAs nodes x bytes rest = (w : List ℕ) (i j : ℕ) → i ≤ length w → At nodes w x i j ↔ (OccursAt w bytes i × GoesOnAs nodes w (i + length bytes) j rest)
 
 -- the spans of the node x are those that begin with the literal, and go on after it as the spans of the rest
 abbrev pub IsLiteral : List Node → ℕ → Literal → Type 0
-IsLiteral nodes x l = (w : List ℕ) (i j : ℕ) → i ≤ length w → At nodes w x i j ↔ (OccursAt w l.bytes.items i × GoesOnAs nodes w (i + length l.bytes.items) j l.rest)
+IsLiteral nodes x l = BeginsAs nodes x l.bytes.items l.rest
 
 -- each span of the node x holds the literal
 abbrev pub AllHold : List Node → ℕ → List ℕ → Type 0

@@ -1,12 +1,10 @@
 -- Private to the proofs: no contract that `sedmatch` makes public cites what stands here.
 -- A few bytes, one of which stands at a fixed distance after the beginning of every match.
-use Rattle.std.specs.Prelude.{ℕ, ◌+◌, ◌<◌, ◌≤◌, Bool, List, Option, Some, None, IfSome}
+use Rattle.std.specs.Prelude.{ℕ, ◌+◌, ◌<◌, ◌≤◌, List, Option, Some, None, IfSome}
 use Rattle.sedre.specs.Tree.{Tree}
 use Rattle.sedtext.specs.Spans.{Matches}
 use Rattle.sedtext.specs.Few.{FewAt}
 use Rattle.sedtext.specs.Bytes.{AreBytes}
-use Rattle.sedtext.specs.Beginnings.{CanBegin}
-use Rattle.sedtext.specs.declared.beginnings.Begins.TheVariants.{WithSet}
 use Rattle.sedtext.specs.declared.rare.Fixed.{Fixed}
 use Rattle.sedtext.specs.declared.rare.Rare.{Rare}
 
@@ -29,10 +27,6 @@ RareNowhere r w p q = (h : ℕ) → p ≤ h → h < q → RareAt r w h → ⊥
 -- one of the bytes stands at the distance after the beginning of each span of the expression
 abbrev pub AllStand : Tree → Fixed → Type 0
 AllStand e f = (w : List ℕ) → AreBytes w → (i j : ℕ) → Matches e w i j → StandsAt f w i
-
--- a byte of the set stands `offset` bytes after the beginning of each span of the expression
-abbrev pub AllHave : Tree → ℕ → List Bool → Type 0
-AllHave e offset s = (w : List ℕ) (i j : ℕ) → Matches e w i j → CanBegin (WithSet s) w (i + offset)
 
 -- the rarest and the next rarest, if there are such, stand at their distances after the beginning of each span
 abbrev pub AllRare : Tree → Option Rare → Type 0

@@ -1,6 +1,6 @@
 //! What can be looked at only by calls that count.
 //!
-//! The bytes of a text without a count are seen here alone and in the modules below: in [`lookups`], [`members`] and [`choice`],
+//! The bytes of a text without a count are seen here alone and in the modules below: in [`lookups`] and [`members`],
 //! which count what they look at, and in what works for these on bare bytes. A text gives them out nowhere.
 ghost use Rattle.std.specs.Prelude.{◌≡◌, ℕ, Bool, false, List, ◌+◌, ◌^◌, ◌<◌, ◌≤◌, length};
 ghost use Rattle.std.specs.Prelude.{slice_index_or, slice_set, slice_get, Some, IfOk, replicate, eqb, ◌≢◌, ◌*◌, IsTrue, ◌↔◌};
@@ -12,12 +12,10 @@ ghost use Rattle.sedre.specs.Words.{is_set};
 ghost use Rattle.sedre.specs.Steps.{Takes, TakesExactly};
 
 mod apart;
-pub mod choice;
 pub mod few;
 pub mod lookups;
 pub mod members;
 mod node_marks;
-mod openings;
 mod rows;
 
 use few::Few;

@@ -2,13 +2,13 @@
 //! text itself, and which match of an expression of `sedre` is sought and what its groups are (XBD 9.1), as definitions and laws.
 //!
 //! A [`Text`], its bytes and [`Marks`] are looked at by calls that count one step for each look. They stand in [`counted`], with
-//! what is looked for in a text's bytes: bytes of a set, a few bytes, a literal, a choice of literals. No bytes of a text are
+//! what is looked for in a text's bytes: bytes of a set, a few bytes, a literal. No bytes of a text are
 //! seen without a count outside of that module and those below it.
 //!
 //! [`forms`] tells by one look what the spans of a node are made of, and what follows asks nodes by it alone. [`beginnings`] tells
 //! from which places a match can begin at all, [`repeats`] which set of bytes a node repeats. [`needed`],
 //! [`rare`], [`times`] and [`hints`] find out once what an expression tells of all its matches, by which places are passed over
-//! at which none begins. No search for a match of any expression stands here.
+//! at which none begins. How a match begins is followed by [`prefix`] alone, in alternatives too. No search for a match of any expression stands here.
 //!
 //! The public modules are for the two crates above; `sedmatch` passes on what a program calls, and decides what a matcher uses.
 #![tactic(auto)]
@@ -20,6 +20,7 @@ mod found;
 pub mod hints;
 mod laws;
 pub mod needed;
+mod prefix;
 pub mod rare;
 pub mod repeats;
 pub mod starts;

@@ -3,34 +3,21 @@
 //! A concatenation is followed from part to part, and single bytes that stand one after another in it are a literal.
 ghost use Rattle.std.specs.Prelude.{◌≡◌, ℕ, ◌-◌, ◌<◌, ◌≤◌, ◌⊎◌, length, IfOk, IfSome};
 ghost use Rattle.sedre.specs.Tree.{expression_tree, Tree};
-ghost use Rattle.sedtext.specs.Needed.{LinksTo, IsLiteral, AllHold, AllEndWith, IsNeeded, Narrowed};
-ghost use Rattle.sedtext.specs.Spans.{IsIn};
+ghost use Rattle.sedtext.specs.Needed.{IsLiteral, AllHold, AllEndWith, IsNeeded, Narrowed};
 ghost use Rattle.sedtext.specs.Nodes.{IsNode};
 ghost use Rattle.sedtext.specs.Costs.{CostsWithin};
 ghost use Rattle.sedre.specs.Steps.{Takes, TakesAtLeast};
 
 use crate::counted::Text;
 use crate::counted::lookups::find_literal;
-use crate::forms::{Form, form_of, set_of};
+use crate::forms::{Form, form_of};
+use crate::prefix::{Link, link_of};
 use memchr::memmem::Finder;
 use sedre::{ByteSet, Expr, Steps};
 use std::alloc::{AllocError, Global};
 
 /// The most bytes of a literal.
 const MAX_LITERAL: usize = 32;
-
-/// How the spans of a node begin.
-#[derive(Clone, Copy)]
-pub enum Link {
-    /// With a byte of this set, after which they go on as the spans of this node.
-    OneOf(ByteSet, usize),
-    /// They are of one byte of this set.
-    Last(ByteSet),
-    /// As the spans of this node.
-    Inner(usize),
-    /// That isn't known.
-    Other,
-}
 
 /// The bytes with which the spans of a node begin.
 #[derive(Drop)]
@@ -50,33 +37,6 @@ pub struct RequiredLiteral {
     pub is_prefix: bool,
 }
 
-/// How the spans of the node begin.
-pub fn link_of(expr: &Expr, index: usize, steps: &mut Steps) -> Link
-    requires inside { index < length expr.now.nodes }
-    ensures links { LinksTo expr.now.nodes index result }
-    ensures cost { Takes steps.old steps.new 2 }
-{
-    match form_of(expr, index, steps) {
-        Form::Both(first, next) => match set_of(expr, first, steps) {
-            Some(set) => Link::OneOf(set, next),
-            None => Link::Other,
-        },
-        Form::Inner(part) => Link::Inner(part),
-        Form::Byte(set) => Link::Last(set),
-        _ => Link::Other,
-    }
-}
-
-/// The only byte of the set, if it has no other.
-fn sole_of(set: &ByteSet) -> Option<u8>
-    ensures { IfSome result (λ byte. ((c : ℕ) → IsIn c set.now → c ≡ byte) × IsIn byte set.now) }
-{
-    match set.sole() {
-        Some(byte) if set.has(byte) => Some(byte),
-        _ => None,
-    }
-}
-
 /// The literal with which the spans of the node begin, and the node as whose spans they go on after it.
 pub fn literal_from(
     alloc: Global,
@@ -93,22 +53,18 @@ pub fn literal_from(
     let mut index = from;
     while bytes.len() < MAX_LITERAL {
         match link_of(expr, index, steps) {
-            Link::OneOf(set, next) => {
-                let Some(byte) = sole_of(&set) else {
+            Link::OneOf(set, rest) => {
+                let Some(byte) = set.sole() else {
                     break;
                 };
                 bytes.push(byte)?;
+                let Some(next) = rest else {
+                    return Ok(Literal { bytes, rest });
+                };
                 index = next;
             }
-            Link::Last(set) => {
-                let Some(byte) = sole_of(&set) else {
-                    break;
-                };
-                bytes.push(byte)?;
-                return Ok(Literal { bytes, rest: None });
-            }
             Link::Inner(part) => index = part,
-            Link::Other => break,
+            _ => break,
         }
     }
     Ok(Literal {

@@ -3,14 +3,15 @@
 ghost use Rattle.std.specs.Prelude.{◌+◌, ◌-◌, ◌*◌, ◌<◌, ◌≤◌, ◌↔◌, Some, length, IfSome, IsTrue};
 ghost use Rattle.sedre.specs.Tree.{expression_tree, Tree};
 ghost use Rattle.sedtext.specs.Bytes.{FirstFrom, looked_at};
-ghost use Rattle.sedtext.specs.Rare.{StandsAt, RareAt, RareNowhere, AllStand, AllHave, AllRare};
+ghost use Rattle.sedtext.specs.Rare.{StandsAt, RareAt, RareNowhere, AllStand, AllRare};
+ghost use Rattle.sedtext.specs.Prefix.{AllHave};
 ghost use Rattle.sedtext.specs.Costs.{CostsWithin};
 ghost use Rattle.sedre.specs.Steps.{Takes, TakesAtLeast};
 
 use crate::counted::Text;
 use crate::counted::few::{Few, members_of};
 use crate::counted::lookups::{find_few, pass_apart};
-use crate::needed::{Link, link_of};
+use crate::prefix::{is_anchored, set_at};
 use sedre::{ByteSet, Expr, Steps};
 
 /// How often bytes stand in a thousand that are sought one by one in less time than by vectors.
@@ -18,6 +19,9 @@ const RARE: usize = 21;
 
 /// How many bytes after its beginning a match is followed.
 const MAX_OFFSET: usize = 32;
+
+/// How many alternatives after the first are followed.
+const MORE_ALTERNATIVES: usize = 7;
 
 /// How often each letter stands in a thousand bytes of ordinary text, that is prose, logs and programs.
 const LETTERS: [u8; 26] = [
@@ -192,26 +196,21 @@ fn with_set(rare: Option<Rare>, offset: usize, set: &ByteSet) -> Option<Rare>
     }
 }
 
-/// The rarest bytes that stand at a fixed distance after the beginning of every match, if such bytes are found: a
-/// concatenation is followed as long as its parts are sets.
-pub fn rare_of(expr: &Expr, steps: &mut Steps) -> Option<Rare>
+/// The rarest bytes that stand at a fixed distance after the beginning of every match, if such bytes are found. None are
+/// sought where a match begins at one place alone.
+pub(crate) fn rare_of(expr: &Expr, steps: &mut Steps) -> Option<Rare>
     ensures rare { AllRare (expression_tree expr.now) result }
-    ensures cost { Takes steps.old steps.new 131074 }
+    ensures cost { Takes steps.old steps.new (513 * length expr.now.nodes) }
 {
     let mut rare = None;
-    let mut offset = 0usize;
-    let mut index = expr.root().index();
-    while offset < MAX_OFFSET {
-        match link_of(expr, index, steps) {
-            Link::OneOf(set, next) => {
-                rare = with_set(rare, offset, &set);
-                offset += 1;
-                index = next;
-            }
-            Link::Last(set) => return with_set(rare, offset, &set),
-            Link::Inner(part) => index = part,
-            Link::Other => return rare,
-        }
+    if is_anchored(expr, steps) {
+        return rare;
+    }
+    for offset in 0..MAX_OFFSET {
+        let Some(set) = set_at(expr, offset, MORE_ALTERNATIVES, steps) else {
+            return rare;
+        };
+        rare = with_set(rare, offset, &set);
     }
     rare
 }

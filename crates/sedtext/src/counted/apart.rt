@@ -6,11 +6,11 @@ use crate::rare::Fixed;
 use std::simd::prelude::*;
 
 /// How many lanes a vector has.
-pub(super) const LANES: usize = 32;
+const LANES: usize = 32;
 
 /// The 32 bytes from the place `at` on.
 #[inline(always)]
-pub(super) fn lanes_at(bytes: &[u8], at: usize) -> u8x32
+fn lanes_at(bytes: &[u8], at: usize) -> u8x32
     requires { at + 32 ≤ length bytes.now }
     ensures { (k : ℕ) → k < 32 → slice_index result k ≡ slice_index bytes.now (at + k) }
 {

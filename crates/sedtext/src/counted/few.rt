@@ -56,7 +56,7 @@ impl Few {
 
 /// Lanes that are 0 exactly where the byte stands.
 #[inline(always)]
-pub(super) fn byte_zeros(byte: u8, lanes: u8x32) -> u8x32
+fn byte_zeros(byte: u8, lanes: u8x32) -> u8x32
     ensures { HasZeros (λ c. c ≡ byte) lanes result }
 {
     lanes ^ u8x32::splat(byte)

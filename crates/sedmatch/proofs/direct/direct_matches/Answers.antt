@@ -1,8 +1,7 @@
 use Rattle.std.proofs.Common.{◌∙◌, ◌+◌, length, sym, arith}
 use Rattle.sedre.specs.Tree.{expression_tree}
-use Rattle.sedmatch.specs.Direct.{rate}
 use Rattle.sedmatch.proofs.DirectLemmas.{answer_cost, answer_passes, answer_some}
-use Rattle.sedmatch.proofs.MatcherLemmas.{few_of}
+use Rattle.std.proofs.Math.Nat.{mul-le-mul_right}
 use Rattle.sedmatch.proofs.direct.direct_matches.Goals as goal
 
 pub returns : goal.returns
@@ -12,8 +11,8 @@ returns c e is =
     let t = c.direct_span.new.steps in
     let r = c.direct_span.result in
     let done = c.direct_span.ensures in
-    let cost = answer_cost (rate c.args.form.now) (length w) c.args.from s t r done.cost done.lies in
-    let few = few_of (length e.nodes) (length w + 1) (rate c.args.form.now) is.2 in
+    let cost = answer_cost (length w) c.args.from s t r done.cost done.lies in
+    let few = mul-le-mul_right (length w + 1) is.2 in
     record {
       matches = rw c.is_some.ensures (answer_some (expression_tree e) w c.args.from r (done.answer e is));
       passes = λ h. answer_passes (expression_tree e) w c.args.from s t r (done.answer e is) done.counts (done.passes e is) (sym c.is_some.ensures ∙ h);

@@ -1,4 +1,4 @@
-use Rattle.std.proofs.Common.{◌+◌, ◌*◌, ◌<◌, ◌≤◌, length}
+use Rattle.std.proofs.Common.{Some, ◌+◌, ◌*◌, ◌<◌, ◌≤◌, length}
 use Rattle.sedtext.specs.Needed.{BeginsAs}
 use Rattle.sedtext.proofs.needed.literal_from.Given as goal
 
@@ -8,7 +8,7 @@ invariant-loop-steps l = record {
   below : l.index ≤ l.from;
   grows : l.initial.steps ≤ l.steps;
   cost : l.steps + 2 * l.index ≤ l.initial.steps + 2 * l.from;
-  begins : BeginsAs l.expr.nodes l.from l.bytes.items l.index;
+  begins : BeginsAs l.expr.nodes l.from l.bytes.items (Some l.index);
 }
 
 abbrev pub decreases-loop-steps : goal.decreases-loop-steps

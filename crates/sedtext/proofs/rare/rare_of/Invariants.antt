@@ -1,17 +1,11 @@
-use Rattle.std.proofs.Common.{◌+◌, ◌*◌, ◌-◌, ◌<◌, ◌≤◌, length}
-use Rattle.sedre.specs.Tree.{tree_at}
+use Rattle.std.proofs.Common.{◌+◌, ◌*◌, ◌≤◌, length}
+use Rattle.sedre.specs.Tree.{expression_tree}
 use Rattle.sedtext.specs.Rare.{AllRare}
-use Rattle.sedtext.proofs.RareLemmas.{GoOnAs}
 use Rattle.sedtext.proofs.rare.rare_of.Given as goal
 
 abbrev pub invariant-loop-offset : goal.invariant-loop-offset
 invariant-loop-offset l = record {
-  inside : l.index < length l.expr.nodes;
   grows : l.initial.steps ≤ l.steps;
-  cost : l.steps + 2 * l.index ≤ l.initial.steps + 2 * (length l.expr.nodes - 1);
-  goes : GoOnAs l.expr.nodes (length l.expr.nodes - 1) l.offset l.index;
-  rare : AllRare (tree_at l.expr.nodes (length l.expr.nodes - 1)) l.rare;
+  cost : l.steps ≤ l.initial.steps + 16 * length l.expr.nodes * l.offset;
+  rare : AllRare (expression_tree l.expr) l.rare;
 }
-
-abbrev pub decreases-loop-offset : goal.decreases-loop-offset
-decreases-loop-offset l = l.index

@@ -1,4 +1,4 @@
-use Rattle.std.proofs.Common.{length, ap, arith}
+use Rattle.std.proofs.Common.{length, ap}
 use Rattle.sedre.specs.Tree.{expression_tree}
 use Rattle.sedtext.proofs.FollowingLemmas.{if_occurs}
 use Rattle.sedmatch.specs.Occurrences.{TellsNext}
@@ -17,14 +17,12 @@ told c =
           let r = w.next_direct.result in
           let is = direct_is c.self.inside.engine e w.in-Direct.field-0 w.in-Direct.form c.self.view_is c.self.invariant w.in-Direct.is in
           let next = w.next_direct.ensures in
-          let once = next.once e is in
-          let most = direct_once (length e.nodes) (length c.args.text.now) in
           rw (w.result-is, w.occurrences-is, w.steps-is) record {
             next = next.next e is;
             occurs = if_occurs (expression_tree e) c.args.text.now c.args.last r c.requires.last (next.next e is) next.lies;
             serves = serves_same e c.args.text.now c.args.last c.args.occurrences.now r c.requires.serves;
-            cost = direct_owed (length e.nodes) (length c.args.text.now) c.args.last c.args.occurrences.now r s t c.requires.serves.fresh next.lies (next.cost e is);
-            once = (once.0, omega (arith, once.1, most));
+            cost = direct_owed (length e.nodes) (length c.args.text.now) c.args.last c.args.occurrences.now r s t is.2 c.requires.serves.fresh next.lies next.cost;
+            once = direct_once (length e.nodes) (length c.args.text.now) c.args.last r s t is.2 next.cost;
             counts = next.counts;
             passes = next.passes e is;
           }
