@@ -1,12 +1,9 @@
 -- How classes of bytes are found.
 use Rattle.std.proofs.Common.{◌≡◌, ℕ, ◌+◌, ◌*◌, ◌<◌, ◌≤◌, Bool, true, false, List, length, length-set, Some, IsTrue, refl, sym, ap, ◌∙◌, subst, ⊎_elim, arith, slice_get, slice_index_or, slice_set}
-use Rattle.std.specs.Int.{from_bool}
-use Rattle.std.proofs.lemmas.List.{get_or-set_same, get_or-set_other}
-use Rattle.std.proofs.lemmas.Bool.{cases_eq}
+use Rattle.sedpass.proofs.Words.{from_bool, get_or-set_same, get_or-set_other, cases_eq, same_Some}
 use Rattle.std.proofs.lemmas.Bool.Decides.{same_from_decides}
-use Rattle.std.proofs.lemmas.Option.{same_Some}
 use Rattle.sedre.specs.Sets.{has}
-use Rattle.sedpass.specs.Prepared.{IsNumbering, IsGiven, IsFiner}
+use Rattle.sedpass.specs.Classes.{IsNumbering, IsGiven, IsFiner}
 
 abbrev at : List ℕ → ℕ → ℕ
 at xs k = slice_index_or xs k 0

@@ -1,40 +1,14 @@
 -- The groups that are told to be due, as the state of a decision; what nodes and regions cost.
 use Rattle.std.proofs.Common.{◌≡◌, ℕ, zero, suc, ◌+◌, ◌-◌, ◌*◌, ◌<◌, ◌≤◌, ◌↔◌, ◌&&◌, not, Bool, true, false, List, [], ◌∷◌, length, Option, None, Some, IsTrue, refl, sym, ap, ◌∙◌, subst, inl, inr, ⊎_elim, true≢false, arith, mul-le-mul_left, IfSome, eqb, nat_lt, slice_get, slice_set, slice_index_or, vec_capacity}
-use Rattle.std.specs.Int.{bit_at}
-use Rattle.std.proofs.lemmas.Bool.{and_parts, and_from, cases_Bool, cases_lt, lt-ltb, le-ltb}
-use Rattle.std.proofs.lemmas.Option.{cond_some}
-use Rattle.std.proofs.lemmas.List.{ext_get_or, length-set}
-use Rattle.std.proofs.Math.Nat.{mul-le-mul_right}
-use Rattle.sedre.specs.Tree.{Tree, WrittenExpression, tree_at, expression_tree}
-use Rattle.sedre.specs.Arena.{IsArena, IsExpr, IsPart, AreRanges}
-use Rattle.sedre.specs.Steps.{Takes}
-use Rattle.sedre.specs.declared.types.Node.{Node}
-use Rattle.sedre.specs.declared.types.NodeId.{NodeId}
-use Rattle.sedre.specs.declared.types.Node.TheVariants.{Set, Seq, Group, Star}
-use Rattle.sedre.proofs.TreeLemmas.{tree_at-node}
-use Rattle.sedtext.specs.Caps.{LastCut, LastCopy}
-use Rattle.sedtext.specs.Costs.{CostsWithin}
-use Rattle.sedtext.specs.Groups.{Groups}
-use Rattle.sedtext.specs.Reach.{At, one_start}
-use Rattle.sedtext.specs.Spans.{CopiesLead}
-use Rattle.sedtext.proofs.NodeLemmas.{node_at}
-use Rattle.sedtext.proofs.ReachLemmas.{close_at}
-use Rattle.sedtext.proofs.SpanLemmas.{Matches-forward}
+use Rattle.sedpass.proofs.Words.{bit_at, and_parts, and_from, cases_Bool, cases_lt, lt-ltb, le-ltb, cond_some, ext_get_or, length-set, mul-le-mul_right, Tree, WrittenExpression, tree_at, expression_tree, IsArena, IsExpr, IsPart, AreRanges, Takes, Node, NodeId, Set, Seq, Group, Star, tree_at-node, LastCut, LastCopy, CostsWithin, Groups, At, one_start, CopiesLead, node_at, close_at, Matches-forward, GroupSet, Matched, Kept, Region, Subject, Facts, Table}
 use Rattle.sedpass.specs.Decide.{found, undecided, HasAll, flags_of, told_of, EndsRegion, IsAtEnd, IsDesk, HasDesk, IsSetAt, AreGroupTables, HasSpace, SameTables, KeepsDesk, part_cost, nodes_in, text_in, Blank, Stands}
 use Rattle.sedpass.specs.Kept.{AllMarked, SameKept, SameSpace, ends_told, owed, KeepsRegion}
 use Rattle.sedpass.specs.Prepared.{IsFacts, is_set, run_of, reported, holds, AllLong}
 use Rattle.sedpass.specs.Regions.{CeasesAt, IsLastIn, NextCopy, ReachesEnd, IsRunOf, repeated, in_group}
 use Rattle.sedpass.specs.Table.{IsTable, SameShape, MayBegin}
 use Rattle.sedpass.specs.Walks.{settle, drop_groups, GroupStandsIn, NoneDue, IsStart, has_group}
-use Rattle.sedpass.specs.declared.group_set.GroupSet.{GroupSet}
 use Rattle.sedpass.specs.declared.groups.GroupRoom.{GroupRoom}
 use Rattle.sedpass.specs.declared.groups.GroupTables.{GroupTables}
-use Rattle.sedpass.specs.declared.groups.Matched.{Matched}
-use Rattle.sedpass.specs.declared.kept.Kept.{Kept}
-use Rattle.sedpass.specs.declared.kept.Region.{Region}
-use Rattle.sedpass.specs.declared.kept.Subject.{Subject}
-use Rattle.sedpass.specs.declared.nodes.Facts.{Facts}
-use Rattle.sedpass.specs.declared.table.Table.{Table}
 use Rattle.sedpass.proofs.KeptLemmas.{same_shape, space_same, space_then}
 use Rattle.sedpass.proofs.LeaveLemmas.{last_inside}
 use Rattle.sedpass.proofs.LengthLemmas.{all_long, copies_long, left_long, right_long}

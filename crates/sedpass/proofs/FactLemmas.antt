@@ -1,31 +1,13 @@
 -- What is told of each node once, and what it means for passes.
 use Rattle.std.proofs.Common.{◌≡◌, ℕ, zero, suc, ◌+◌, ◌*◌, ◌<◌, ◌≤◌, ◌⊎◌, ◌↔◌, Bool, true, false, ◌&&◌, List, [], ◌∷◌, ◌++◌, length, Option, Some, None, IsTrue, refl, sym, ap, ◌∙◌, subst, inl, inr, ⊎_elim, true≢false, arith, min, max, bit_and, bit_or, ◌||◌, slice_get, eqb}
-use Rattle.std.specs.Int.{bit_at, from_bool}
-use Rattle.std.specs.Option.{option_eq}
-use Rattle.std.proofs.lemmas.Nat.Bits.{bit_at_and, bit_at_or, bit_at-lt}
-use Rattle.std.proofs.lemmas.Bool.{cases_lt}
-use Rattle.std.proofs.lemmas.Option.{same_Some, slice_get_cases, none-some}
+use Rattle.sedpass.proofs.Words.{bit_at, from_bool, option_eq, bit_at_and, bit_at_or, bit_at-lt, cases_lt, same_Some, slice_get_cases, none-some, size, IsArena, IsExpr, IsPart, FollowsParts, HasTwoParts, GroupsWithin, mirror, seen, Node, NodeId, Seq, Alt, Group, Star, Opt, Empty, Set, tree_at-node, tree_at-mirror, seen-length, Matches, no_copy, IsPlace, Matches-forward, node_at, Facts, Kind, either-iff, both-iff}
 use Rattle.sedre.specs.Tree.{Tree, empty, set, begin, end, seq, alt, group, star, opt, WrittenExpression, tree_of, tree_at, tree_within}
-use Rattle.sedre.specs.Sizes.{size}
-use Rattle.sedre.specs.Arena.{IsArena, IsExpr, IsPart, FollowsParts, HasTwoParts, GroupsWithin}
-use Rattle.sedre.specs.Mirror.{mirror, seen}
-use Rattle.sedre.specs.declared.types.Node.{Node}
-use Rattle.sedre.specs.declared.types.NodeId.{NodeId}
-use Rattle.sedre.specs.declared.types.Node.TheVariants.{Seq, Alt, Group, Star, Opt, Empty, Set}
-use Rattle.sedre.proofs.TreeLemmas.{tree_at-node}
 use Rattle.sedre.proofs.Written.{size_positive}
-use Rattle.sedre.proofs.MirrorLemmas.{tree_at-mirror, seen-length}
-use Rattle.sedtext.specs.Spans.{Matches, no_copy}
-use Rattle.sedtext.specs.Places.{IsPlace}
-use Rattle.sedtext.proofs.SpanLemmas.{Matches-forward}
-use Rattle.sedtext.proofs.NodeLemmas.{node_at}
-use Rattle.sedpass.specs.Prepared.{nullable, null_in, null_at, is_set, IsFacts, AreFacts, IsOfEachKind, IsShort, SameNulls, length_of, AreClasses, HaveSets, IsPrepared}
+use Rattle.sedpass.specs.Classes.{AreClasses, HaveSets}
+use Rattle.sedpass.specs.Prepared.{nullable, null_in, null_at, is_set, IsFacts, AreFacts, IsOfEachKind, IsShort, SameNulls, length_of, IsPrepared}
 use Rattle.sedpass.specs.Rows.{at_begin, at_end, InTree, IsNodeRange, AreNull}
-use Rattle.sedpass.specs.declared.nodes.Facts.{Facts}
-use Rattle.sedpass.specs.declared.nodes.Kind.{Kind}
 use Rattle.sedpass.proofs.LengthLemmas.{sum_parts, same_parts}
 use Rattle.sedpass.proofs.RowLemmas.{not_true, range_of, mirror_range}
-use Rattle.sedtext.proofs.MatchingLemmas.{either-iff, both-iff}
 use Rattle.sedpass.proofs.GroupSetLemmas.{two_bits}
 
 -- null strings

@@ -1,34 +1,12 @@
 -- Passes for the whole expression.
 use Rattle.std.proofs.Common.{inl, inr, ◌≡◌, ℕ, ◌+◌, ◌-◌, ◌*◌, ◌/◌, ◌^◌, ◌<◌, ◌≤◌, ◌⊎◌, ◌↔◌, Bool, true, false, not, ◌&&◌, ◌||◌, List, length, Option, Some, None, IsTrue, refl, sym, ap, ◌∙◌, subst, ⊎_elim, true≢false, arith, mul-le-mul_left, min, slice_get, is_some, IfSome}
 use Rattle.std.specs.Bool.{then_some}
-use Rattle.std.specs.Option.{option_or}
-use Rattle.std.proofs.lemmas.Bool.{cases_lt, cases_Bool, both_ways}
-use Rattle.std.proofs.lemmas.Option.{slice_get_within}
-use Rattle.sedre.specs.Arena.{IsArena}
-use Rattle.sedre.specs.Tree.{expression_tree, tree_at, Tree}
-use Rattle.sedre.specs.Mirror.{seen}
-use Rattle.sedre.specs.declared.types.Node.{Node}
-use Rattle.sedtext.specs.declared.starts.Starts.{Starts}
-use Rattle.sedre.specs.Steps.{TakesAtLeast}
-use Rattle.sedtext.specs.Following.{PassesOver}
-use Rattle.sedtext.specs.Matching.{byte_is_in}
-use Rattle.sedtext.specs.Reach.{At, IsStart, SomeSpan, IsLongestFrom}
-use Rattle.sedtext.specs.Spans.{Matches, SomeFound}
-use Rattle.sedtext.proofs.SpanLemmas.{Matches-forward, Matches-within}
-use Rattle.sedtext.specs.Places.{IsPlace}
+use Rattle.sedpass.proofs.Words.{option_or, cases_lt, cases_Bool, both_ways, slice_get_within, IsArena, expression_tree, tree_at, Tree, seen, Node, Starts, TakesAtLeast, PassesOver, byte_is_in, At, IsStart, SomeSpan, IsLongestFrom, Matches, SomeFound, Matches-forward, Matches-within, IsPlace, Flags, Kind, Prepared, Way, Table, Passed, seen-arena, seen-length, least_less, least_since, least_both}
 use Rattle.sedpass.specs.Rows.{nodes_of, at_begin, at_end, RowOfPlace}
-use Rattle.sedpass.specs.Table.{State, state_of, IsTold, StateAt, LeadsOn, BeginsIn, Names, IsTable, IsAhead, SameShape, stops, code_of}
+use Rattle.sedpass.specs.Table.{State, state_of, IsTold, StateAt, LeadsOn, BeginsIn, Names, IsTable, IsAhead, IsSweep, SameShape, stops, code_of}
 use Rattle.sedpass.specs.Forwards.{starts_of, LastBelow, IsEnd, Arrives, EndsBelow, PassIs}
-use Rattle.sedpass.specs.declared.cells.Flags.{Flags}
-use Rattle.sedpass.specs.declared.nodes.Kind.{Kind}
-use Rattle.sedpass.specs.declared.nodes.Prepared.{Prepared}
-use Rattle.sedpass.specs.declared.rows.Way.{Way}
-use Rattle.sedpass.specs.declared.table.Table.{Table}
-use Rattle.sedpass.specs.declared.forwards.Passed.{Passed}
 use Rattle.sedpass.proofs.RowLemmas.{dead, row_root, row_empty}
 use Rattle.sedpass.proofs.TableLemmas.{names_state, names_offset, names_code, names_small, names_map}
-use Rattle.sedre.proofs.MirrorLemmas.{seen-arena, seen-length}
-use Rattle.sedtext.proofs.CountLemmas.{least_less, least_since, least_both}
 
 -- The starts of a pass.
 
@@ -302,6 +280,15 @@ ahead_still p a b is table shape = record {
   table = table;
   forwards = ap (λ v. v.mirrored) shape.0 ∙ is.forwards;
   single = ap (λ v. v.all_starts) shape.0 ∙ is.single;
+  brief = ap (λ v. v.keeps) shape.0 ∙ is.brief;
+}
+
+-- and one of sweeps
+pub ahead_any : (p : Prepared) (a b : Table) → IsSweep p a → IsTable p b → SameShape a b → IsSweep p b
+ahead_any p a b is table shape = record {
+  table = table;
+  forwards = ap (λ v. v.mirrored) shape.0 ∙ is.forwards;
+  all_starts = ap (λ v. v.all_starts) shape.0 ∙ is.all_starts;
   brief = ap (λ v. v.keeps) shape.0 ∙ is.brief;
 }
 

@@ -1,32 +1,13 @@
 -- What is kept of a pass backwards, and how it comes down by a place.
 use Rattle.std.proofs.Common.{inl, inr, ◌≡◌, ℕ, ◌+◌, ◌-◌, ◌*◌, ◌/◌, ◌^◌, ◌<◌, ◌≤◌, ◌↔◌, ◌⊎◌, ⊎_elim, length-set, mul-le-mul_left, mul-le-mul_right, Bool, true, false, zero, suc, List, [], ◌∷◌, length, Some, refl, sym, ap, ◌∙◌, subst, arith, true≢false, IsTrue, not, reverse, slice_get, slice_index_or, slice_set, vec_capacity, nat_lt}
-use Rattle.std.proofs.Math.Nat.{div-mul-le_self, lt-div-mul-add}
-use Rattle.std.proofs.Math.Bool.{beq}
-use Rattle.std.proofs.lemmas.List.{length-reverse, get_or_default, get_or-set_same, get_or-set_other}
-use Rattle.sedre.specs.Arena.{IsArena}
-use Rattle.sedre.specs.Tree.{WrittenExpression}
-use Rattle.sedre.specs.Mirror.{seen}
-use Rattle.sedre.specs.declared.types.Node.{Node}
-use Rattle.sedtext.specs.Matching.{byte_is_in}
-use Rattle.sedtext.specs.declared.starts.Starts.{Starts}
-use Rattle.sedtext.specs.Reach.{At, IsStart, one_start, starts_to}
-use Rattle.sedtext.specs.Places.{IsPlace}
-use Rattle.sedtext.proofs.MirrorLemmas.{get-reverse}
+use Rattle.sedpass.proofs.Words.{div-mul-le_self, lt-div-mul-add, beq, length-reverse, get_or_default, get_or-set_same, get_or-set_other, IsArena, WrittenExpression, seen, Node, byte_is_in, Starts, At, IsStart, one_start, starts_to, IsPlace, get-reverse, AgreeBelow, row_of, Kept, cases_eq, cases_lt, lt-ltb, ltb-true, Prepared, Way, Work, Table, Kind, both-iff}
 use Rattle.sedpass.specs.Regions.{IsLastIn, Opposite, ReachesEnd, Meets}
 use Rattle.sedpass.specs.Rows.{bits, RowOfPlace, LeadsTo, IsFirstRow, SameBytes, at_begin, at_end, nodes_of}
-use Rattle.sedtext.specs.Words.{AgreeBelow, row_of}
 use Rattle.sedpass.specs.Kept.{starts_told, ends_told, ComesDown, RowKept, KeptAt, IsLive, IsRegion, PassesDownTo, IsEdge, AllMarked, SameKept, SameSpace, EdgesFrom, IsKept, KeepsRegion, Follows, Meet}
 use Rattle.sedpass.specs.Table.{State, state_of, HasRow, LeadsOn, BeginsIn, IsTable, MayBegin, SameShape, AddsStates, IsOffset}
-use Rattle.sedpass.specs.declared.kept.Kept.{Kept}
-use Rattle.std.proofs.lemmas.Bool.{cases_eq, cases_lt, lt-ltb, ltb-true}
-use Rattle.sedpass.specs.declared.nodes.Prepared.{Prepared}
-use Rattle.sedpass.specs.declared.rows.Way.{Way}
-use Rattle.sedpass.specs.declared.table.Table.{Table}
-use Rattle.sedpass.specs.declared.nodes.Kind.{Kind}
 use Rattle.sedpass.proofs.LeaveLemmas.{last_inside, reaches_last}
 use Rattle.sedpass.proofs.RowLemmas.{behind_reaches, meet_rows, bits_agree, bits_here}
 use Rattle.sedpass.proofs.MeetingLemmas.{meets_early}
-use Rattle.sedtext.proofs.MatchingLemmas.{both-iff}
 
 -- the starts of the mirrored pass are the places where its matches end
 pub told_opposite : (all_starts : Bool) (n end : ℕ) → end ≤ n → Opposite n (starts_told all_starts n end) (ends_told all_starts n end)
@@ -156,6 +137,34 @@ region_kept p w t after k other shape table places long edges root end within re
   within = rw end within;
   long = rw long region.long;
 }
+
+-- nor does it matter what stands in the rows that were kept
+pub passes_with : (p : Prepared) (w : List ℕ) (t : Table) (k : Kept) (edges : List (List Bool)) (work : Work) (place offset : ℕ) → length edges ≡ length k.edges → ((q : ℕ) → length (row_of edges q) ≡ length (row_of k.edges q)) →
+    PassesDownTo p w t k place offset → PassesDownTo p w t (record k { edges = edges; work = work }) place offset
+passes_with p w t k edges work place offset long rows passes =
+    let region = passes.region in
+    record {
+      region = record {
+        table = region.table;
+        room = record {
+          mirrored = region.room.mirrored;
+          keeps = region.room.keeps;
+          places = region.room.places;
+          blocks = λ b low. rw long (region.room.blocks b low);
+          marks = λ q low. rw (rows q) (region.room.marks q (omega (arith, low, long)));
+        };
+        root = region.root;
+        whole = region.whole;
+        inside = region.inside;
+        within = region.within;
+        long = region.long;
+      };
+      within = passes.within;
+      above = passes.above;
+      there = passes.there;
+      at = passes.at;
+      live = passes.live;
+    }
 
 -- The rows at the ends of blocks.
 

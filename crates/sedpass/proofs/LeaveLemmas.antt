@@ -1,19 +1,7 @@
 -- How a part is left, by what follows it in its node, and what a node is left to that nothing follows.
 use Rattle.std.proofs.Common.{◌≡◌, ℕ, ◌+◌, ◌-◌, ◌<◌, ◌≤◌, ◌⊎◌, ◌↔◌, true, List, length, reverse, Some, refl, sym, ap, ◌∙◌, subst, inl, inr, ⊎_elim, arith, slice_get}
-use Rattle.std.proofs.lemmas.Bool.{cases_lt}
-use Rattle.sedre.specs.Arena.{IsArena, IsPart, HasTwoParts}
-use Rattle.sedre.specs.Tree.{WrittenExpression, tree_at}
-use Rattle.sedre.specs.Mirror.{mirror_node, seen}
-use Rattle.sedre.proofs.MirrorLemmas.{seen-node, old_node}
-use Rattle.sedre.specs.declared.types.Node.{Node}
-use Rattle.sedre.specs.declared.types.Node.TheVariants.{Seq, Alt, Group, Star, Opt}
-use Rattle.sedtext.specs.declared.starts.Starts.{Starts}
-use Rattle.sedtext.specs.Spans.{no_copy}
-use Rattle.sedtext.specs.Reach.{At, BeginsWith, IsStart, one_start, Enters, at_root, with_whole, after_left, again, Ends}
+use Rattle.sedpass.proofs.Words.{cases_lt, IsArena, IsPart, HasTwoParts, WrittenExpression, tree_at, mirror_node, seen, seen-node, old_node, Node, Seq, Alt, Group, Star, Opt, Starts, no_copy, At, BeginsWith, IsStart, one_start, Enters, at_root, with_whole, after_left, again, Ends, Matches-forward, close_at, same_node, At-mirror}
 use Rattle.sedpass.specs.Regions.{EndsWith, Leaves, at_end, with_end, before_right, before_copies, ReachesEnd, EndsAt, Opposite, IsLastPart, IsLastIn, all_of, last_of}
-use Rattle.sedtext.proofs.SpanLemmas.{Matches-forward}
-use Rattle.sedtext.proofs.ReachLemmas.{close_at, same_node}
-use Rattle.sedtext.proofs.MirrorLemmas.{At-mirror}
 
 -- how the part c of the node at y is left at i
 abbrev pub OutOf : List Node → List ℕ → ℕ → Starts → ℕ → ℕ → ℕ → Node → Type 0

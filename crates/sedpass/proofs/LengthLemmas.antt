@@ -1,12 +1,7 @@
 -- Spans of one length, and the cuts and copies that it decides.
 use Rattle.std.proofs.Common.{◌≡◌, ℕ, ◌+◌, ◌-◌, ◌<◌, ◌≤◌, List, Option, Some, None, eqb, refl, sym, ap, ◌∙◌, subst, ⊎_elim, arith}
-use Rattle.std.proofs.lemmas.Bool.{cases_lt, eqb-true}
-use Rattle.std.proofs.lemmas.Option.{cond_some}
-use Rattle.sedre.specs.Tree.{Tree, set, seq, alt, group, star, opt}
-use Rattle.sedtext.specs.Spans.{CopiesLead, no_copy, one_more, Matches}
-use Rattle.sedtext.specs.Caps.{LastCut, LastCopy, only, then}
+use Rattle.sedpass.proofs.Words.{cases_lt, eqb-true, cond_some, Tree, set, seq, alt, group, star, opt, CopiesLead, no_copy, one_more, Matches, LastCut, LastCopy, only, then, CopiesLead-forward}
 use Rattle.sedpass.specs.Prepared.{sum_of, same_of, length_of, AllLong}
-use Rattle.sedtext.proofs.SpanLemmas.{CopiesLead-forward}
 
 -- the parts of a length that is known
 pub sum_parts : (first second : Option ℕ) (n : ℕ) → sum_of first second ≡ Some n → (m : ℕ) × (k : ℕ) × (first ≡ Some m) × (second ≡ Some k) × (n ≡ m + k)

@@ -15,3 +15,4 @@ pub mod SearchLemmas
 pub mod SpineLemmas
 pub mod TableLemmas
 pub mod TurnLemmas
+pub mod Words

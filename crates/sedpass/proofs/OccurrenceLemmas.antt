@@ -1,13 +1,8 @@
 -- What the searches for all occurrences in one text find, and what they cost together.
 use Rattle.std.proofs.Common.{◌≡◌, ℕ, zero, suc, ◌+◌, ◌-◌, ◌*◌, ◌<◌, ◌≤◌, Bool, true, false, List, length, Option, Some, None, IfSome, sym, ap, ◌∙◌, subst, arith, mul-le-mul_left, nat_lt, if◌then◌else◌}
 use Rattle.std.proofs.lemmas.Bool.Decides.{nat_tests}
-use Rattle.sedre.specs.Tree.{Tree}
-use Rattle.sedtext.specs.Answer.{SpanAnswer}
-use Rattle.sedtext.specs.Following.{LiesOn}
-use Rattle.sedtext.specs.Matching.{found, unless_null_at}
-use Rattle.sedtext.proofs.MatchingLemmas.{found-iff, not_found-iff}
+use Rattle.sedpass.proofs.Words.{Tree, SpanAnswer, LiesOn, found, unless_null_at, found-iff, not_found-iff, Seeking}
 use Rattle.sedpass.specs.Search.{owed_behind, owed_after, owed_kept, owed_search, search_cost}
-use Rattle.sedpass.specs.declared.search.Seeking.{Seeking}
 use Rattle.sedpass.proofs.OwedLemmas.{owed_falls}
 use Rattle.sedpass.proofs.SearchLemmas.{alone_square, search_long, unbegun}
 

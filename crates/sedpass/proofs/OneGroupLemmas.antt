@@ -1,18 +1,9 @@
 -- What becomes of one group of a match while all are decided from its end; so decided, they are those decided from the left.
 use Rattle.std.proofs.Common.{◌≡◌, ℕ, zero, suc, ◌<◌, ◌≤◌, ◌⊎◌, ◌||◌, Bool, true, false, List, [], ◌∷◌, length, Option, None, Some, refl, sym, ap, ◌∙◌, subst, inl, inr, ⊎_elim, true≢false, arith, replicate, eqb, slice_get, slice_set, slice_index_or}
 use Rattle.std.specs.Prelude.{unwrap_or}
-use Rattle.std.specs.Option.{option_or}
-use Rattle.std.proofs.lemmas.Bool.{cases_Bool, cases_lt, or_left, or_right, or_cases}
+use Rattle.sedpass.proofs.Words.{option_or, cases_Bool, cases_lt, or_left, or_right, or_cases, ext_get_or, get_or-set_other, length-set, slice_get_past, none-some, same_Some, unwrap_or-slice_get, Tree, empty, set, begin, end, seq, alt, group, star, opt, Groups, forget, no_groups, groups_after, Captures, LastCopy, only, then, IsReport, Matches, groups_after-is}
 use Rattle.std.proofs.lemmas.Bool.Decides.{eqb_tells}
-use Rattle.std.proofs.lemmas.List.{ext_get_or, get_or-set_other, length-set}
-use Rattle.std.proofs.lemmas.Option.{slice_get_past, none-some, same_Some, unwrap_or-slice_get}
-use Rattle.sedre.specs.Tree.{Tree, empty, set, begin, end, seq, alt, group, star, opt}
-use Rattle.sedtext.specs.Groups.{Groups, forget, no_groups}
-use Rattle.sedtext.specs.Matching.{groups_after}
-use Rattle.sedtext.specs.Caps.{Captures, LastCopy, only, then, IsReport}
-use Rattle.sedtext.specs.Spans.{Matches}
 use Rattle.sedtext.proofs.CapsLemmas.{Captures-unique}
-use Rattle.sedtext.proofs.MatchingLemmas.{groups_after-is}
 use Rattle.sedpass.specs.Walks.{State, is_due, settle, drop_groups, GroupStandsIn, PassedBy, Walk, IsStart, has_group, NoneDue, EntersGroups}
 use Rattle.sedre.specs.Steps.{TakesAtLeast}
 use Rattle.sedtext.proofs.GroupLemmas.{NoGroups}

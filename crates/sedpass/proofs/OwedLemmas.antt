@@ -1,12 +1,9 @@
 -- What looks into a kept pass may still cost.
 use Rattle.std.proofs.Common.{◌≡◌, ℕ, zero, suc, ◌+◌, ◌-◌, ◌*◌, ◌<◌, ◌≤◌, ◌⊎◌, ⊎_elim, ◌&&◌, refl, sym, ap, ◌∙◌, subst, arith, mul-le-mul_left, cond}
-use Rattle.std.proofs.lemmas.Bool.{cases_lt}
+use Rattle.sedpass.proofs.Words.{cases_lt, CostsWithin, Kept, Region}
 use Rattle.std.proofs.lemmas.Bool.Decides.{nat_tests}
 use Rattle.std.proofs.Math.Dec.{leb, ltb}
-use Rattle.sedtext.specs.Costs.{CostsWithin}
 use Rattle.sedpass.specs.Kept.{again, due_place, owed}
-use Rattle.sedpass.specs.declared.kept.Kept.{Kept}
-use Rattle.sedpass.specs.declared.kept.Region.{Region}
 
 lt_then : (a b u v : ℕ) → a < b → cond (ltb a b) u v ≡ u
 lt_then a b u v h = grind (arith, nat_tests)

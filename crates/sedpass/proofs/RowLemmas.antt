@@ -1,31 +1,12 @@
 -- How the marks at a place follow from what the leaves took, and what a row tells.
 use Rattle.std.proofs.Common.{length-set, ◌≡◌, ℕ, ◌+◌, ◌-◌, ◌*◌, ◌<◌, ◌≤◌, ◌⊎◌, ◌↔◌, Bool, List, length, Option, Some, None, IsTrue, refl, sym, ap, ◌∙◌, subst, inl, inr, ⊎_elim, true≢false, true, false, ◌&&◌, ◌||◌, arith, slice_get, slice_index_or, slice_set, eqb, nat_lt, reverse}
 use Rattle.std.proofs.Math.Path.{fun_ext}
-use Rattle.std.proofs.lemmas.Option.{slice_get_within}
-use Rattle.std.proofs.lemmas.List.{get_or-set_same, get_or-set_other}
-use Rattle.std.proofs.lemmas.Bool.{and_parts, and_from, cases_lt, cases_eq, eqb-true, eq-eqb, lt-ltb, le-ltb}
-use Rattle.sedre.specs.Arena.{IsArena, IsPart}
-use Rattle.sedre.specs.Tree.{WrittenExpression, tree_at}
-use Rattle.sedre.specs.Mirror.{mirror_node, seen}
+use Rattle.sedpass.proofs.Words.{slice_get_within, get_or-set_same, get_or-set_other, and_parts, and_from, cases_lt, cases_eq, eqb-true, eq-eqb, lt-ltb, le-ltb, IsArena, IsPart, WrittenExpression, tree_at, mirror_node, seen, seen-node, old_node, Node, NodeId, Empty, Set, Begin, End, Seq, Alt, Group, Star, Opt, Starts, CopiesLead, byte_is_in, enter_parts, takes_any, AgreeBelow, At, IsStart, one_start, SomeSpan, BeginsWith, Marked, Enters, at_root, with_whole, after_left, again, Ends, Matches-forward, CopiesLead-append, CopiesLead-last, open_at, close_at, takes_some, FromNode, Enters-from, Enters-part, Enters-inside, Enters-root, BeginsWith-part, both-iff, either-iff}
 use Rattle.sedre.specs.Packed.{PartsBelow}
-use Rattle.sedre.proofs.MirrorLemmas.{seen-node, old_node}
-use Rattle.sedre.specs.declared.types.Node.{Node}
-use Rattle.sedre.specs.declared.types.NodeId.{NodeId}
-use Rattle.sedre.specs.declared.types.Node.TheVariants.{Empty, Set, Begin, End, Seq, Alt, Group, Star, Opt}
-use Rattle.sedtext.specs.declared.starts.Starts.{Starts}
-use Rattle.sedtext.specs.Spans.{CopiesLead}
-use Rattle.sedtext.specs.Matching.{byte_is_in}
-use Rattle.sedtext.specs.PartMarks.{enter_parts}
-use Rattle.sedtext.specs.Places.{takes_any}
-use Rattle.sedtext.specs.Words.{AgreeBelow}
-use Rattle.sedtext.specs.Reach.{At, IsStart, one_start, SomeSpan, BeginsWith, Marked, Enters, at_root, with_whole, after_left, again, Ends}
 use Rattle.sedpass.specs.Regions.{EndsAt, Opposite, ReachesEnd, Meets}
 use Rattle.sedpass.specs.Rows.{Took, SameBytes, NoneEntered, InTree, is_tree, part_of, IsNodeRange, TreeBelow, TreeFrom, AreNull, ended_by, enter_looks, bits, TellTook, RowOfPlace, LeafAt, EndKept, TellFrom, RowFrom, LeadsTo}
-use Rattle.sedtext.proofs.SpanLemmas.{Matches-forward, CopiesLead-append, CopiesLead-last}
-use Rattle.sedtext.proofs.ReachLemmas.{open_at, close_at, takes_some, FromNode, Enters-from, Enters-part, Enters-inside, Enters-root, BeginsWith-part}
 use Rattle.sedpass.proofs.LeaveLemmas.{ends_at, reaches_mirror}
 use Rattle.sedpass.proofs.MeetingLemmas.{meets_whole}
-use Rattle.sedtext.proofs.MatchingLemmas.{both-iff, either-iff}
 
 -- a mark that isn't set, of what doesn't hold
 pub not_true : (A : Type 0) → (A → ⊥) → IsTrue false ↔ A

@@ -1,34 +1,18 @@
 -- What the pass from the text's end tells of matches of the whole expression, and what searches cost.
 use Rattle.std.proofs.Common.{inl, inr, ◌≡◌, ℕ, zero, suc, ◌+◌, ◌-◌, ◌*◌, ◌/◌, ◌<◌, ◌≤◌, ◌↔◌, Bool, true, false, max, List, length, Option, Some, None, IsTrue, refl, sym, ap, ◌∙◌, subst, ⊎_elim, true≢false, arith, mul-le-mul_left, IfSome, if◌then◌else◌}
-use Rattle.std.proofs.lemmas.Bool.{cases_lt}
-use Rattle.sedre.specs.Arena.{IsArena}
-use Rattle.sedre.specs.Tree.{WrittenExpression, expression_tree, Tree}
-use Rattle.sedre.specs.Steps.{TakesAtLeast}
-use Rattle.sedtext.specs.Answer.{SpanAnswer}
-use Rattle.sedtext.specs.declared.starts.Starts.{Starts}
-use Rattle.sedtext.specs.Reach.{At, one_start, IsLongestFrom, starts_to}
-use Rattle.sedtext.specs.Beginnings.{AllBegin, NextStart, NoneIn}
+use Rattle.sedpass.proofs.Words.{cases_lt, IsArena, WrittenExpression, expression_tree, Tree, TakesAtLeast, SpanAnswer, Starts, At, one_start, IsLongestFrom, starts_to, AllBegin, NextStart, NoneIn, Table, Matches, IsLeftmostLongest, NotFound, SomeFound, Matches-forward, Matches-within, Region, Seeking, Prepared, least_less, least_none, least_both, least_since, Kept, Work, Way}
 use Rattle.sedtext.specs.declared.beginnings.Begins.{Begins}
-use Rattle.sedpass.specs.Table.{IsTable, SameShape, State, state_of, LeadsOn, Names, cell_of, MayBegin, IsColumn}
-use Rattle.sedpass.specs.declared.table.Table.{Table}
-use Rattle.sedtext.specs.Spans.{Matches, IsLeftmostLongest, NotFound}
-use Rattle.sedtext.proofs.SpanLemmas.{Matches-forward, Matches-within}
+use Rattle.sedpass.specs.Table.{IsTable, SameShape, State, state_of, LeadsOn, Names, cell_of, MayBegin, IsColumn, IsAhead}
 use Rattle.sedpass.specs.Kept.{AllMarked, SameSpace, ends_told, IsKept, IsRegion}
 use Rattle.sedpass.specs.Regions.{CeasesAt, all_of, ReachesEnd}
-use Rattle.sedpass.specs.Search.{LooksFrom, TrialsMade, owed_after, owed_kept, owed_search, search_cost, Serves}
-use Rattle.sedpass.specs.declared.kept.Region.{Region}
-use Rattle.sedpass.proofs.KeptLemmas.{space_same}
+use Rattle.sedpass.specs.Search.{LooksFrom, TrialsMade, owed_after, owed_kept, owed_search, search_cost, Serves, MaySearch, Searched}
+use Rattle.sedpass.proofs.KeptLemmas.{space_same, keeps_same, same_shape, space_then}
 use Rattle.sedpass.proofs.OwedLemmas.{owed_small}
-use Rattle.sedpass.specs.declared.search.Seeking.{Seeking}
 use Rattle.sedpass.specs.declared.search.Trials.TheVariants.{Tired}
-use Rattle.sedpass.specs.declared.nodes.Prepared.{Prepared}
 use Rattle.sedpass.proofs.LeaveLemmas.{reaches_ends}
 use Rattle.sedpass.proofs.MeetingLemmas.{meets_whole}
-use Rattle.sedtext.proofs.CountLemmas.{least_less, least_none, least_both, least_since}
 use Rattle.sedpass.proofs.ForwardLemmas.{root_spans}
 use Rattle.sedpass.specs.Rows.{nodes_of}
-use Rattle.sedpass.specs.declared.kept.Kept.{Kept}
-use Rattle.sedpass.specs.declared.rows.Way.{Way}
 
 -- where no place before begins a match, the longest one from there is the one sought
 pub found_at : (e : WrittenExpression) (w : List ℕ) (from i j : ℕ) → from ≤ i → NoneIn (expression_tree e) w from i → IsLongestFrom (expression_tree e) w i (Some j) → IsLeftmostLongest (expression_tree e) w from i j
@@ -302,6 +286,20 @@ pub none_further : (e : Tree) (w : List ℕ) (begins : Begins) (from p : ℕ) �
 none_further e w begins from p all none next i k low high span =
     elim (cases_lt i p) [ inl before ↦ none i k low before span | inr at ↦ next i at high (all w i k span) ]
 
+-- the first place at which one can begin is as good as one before it
+pub some_from : (e : Tree) (w : List ℕ) (begins : Begins) (from start : ℕ) → AllBegin e begins → NextStart begins w from (Some start) → SomeFound e w start ↔ SomeFound e w from
+some_from e w begins from start all next = (
+  λ some. let low = some.2 in let up = next.0 in (some.0, some.1, omega arith, some.3, some.4),
+  λ some. (some.0, some.1, elim (cases_lt some.0 start) [ inl before ↦ absurd (next.2 some.0 some.2 before (all w some.0 some.1 some.4)) | inr at ↦ at ], some.3, some.4),
+)
+
+pub match_cost : (m n from start place s0 s1 s2 : ℕ) → 1 ≤ m → place ≤ n → s1 + from ≤ s0 + (start + 1) → s2 + 40 * m * start ≤ s1 + 40 * m * (place + 1) → s2 ≤ s0 + 41 * m * (n + 1)
+match_cost m n from start place s0 s1 s2 some low first pass =
+    let up : place + 1 ≤ n + 1 = omega arith in
+    let more = mul-le-mul_left start some in
+    let all = mul-le-mul_left (n + 1) some in
+    omega (arith, first, pass, more, all, mul-le-mul_left (40 * m) up)
+
 -- looks of trials, and of one more, up to a place
 pub looks_tried : (from start here place s a b c : ℕ) → TakesAtLeast s a (start - from) → TakesAtLeast a b (here - start) → TakesAtLeast b c (2 * (place - here) + 1) → (n : ℕ) → n ≤ start - from + (here - start + 2 * (place - here) + 1) →
     TakesAtLeast s c n
@@ -390,6 +388,35 @@ comes_tired p w a a' old mid from place before after shape space is is' few made
       each = λ t more. tired_each m n from place old.tried mid.tried before after t (omega (arith, last)) answer.0 answer.1 most made.cost.1 more;
       counts = made.counts;
     }
+
+-- a search by trials leaves all as it was but for the table ahead
+pub searched_by : (p : Prepared) (w : List ℕ) (first : Begins) (a a' b : Table) (s : Seeking) (work : Work) (tried : ℕ) → MaySearch p w first a b s → IsAhead p a' → SameShape a a' →
+    Searched p w a a' b b s (record s { kept = record s.kept { work = work }; tried = tried })
+searched_by p w first a a' b s work tried ready ahead shape =
+    record {
+      tables = record { ahead = ahead; ahead_shape = shape; back_shape = (refl, refl, refl, refl, refl); space = record { places = refl; edges = refl; marks = λ q. refl } };
+      serves = record {
+        table = ready.serves.table;
+        room = (let room = ready.serves.room in record { mirrored = room.mirrored; keeps = room.keeps; places = room.places; blocks = room.blocks; marks = room.marks });
+        all_starts = ready.serves.all_starts;
+        kept = λ begun. (keeps_same p w b s.kept (record s.kept { work = work }) refl refl refl (ready.serves.kept begun)).kept;
+      };
+    }
+
+-- another one may follow
+pub may_search : (p : Prepared) (w : List ℕ) (first : Begins) (a a' b b' : Table) (s s' : Seeking) → MaySearch p w first a b s → Searched p w a a' b b' s s' → MaySearch p w first a' b' s'
+may_search p w first a a' b b' s s' ready searched = record { begins = ready.begins; ahead = searched.tables.ahead; serves = searched.serves }
+
+pub searched_then : (p : Prepared) (w : List ℕ) (a1 a2 a3 b1 b2 b3 : Table) (s1 s2 s3 : Seeking) → Searched p w a1 a2 b1 b2 s1 s2 → Searched p w a2 a3 b2 b3 s2 s3 → Searched p w a1 a3 b1 b3 s1 s3
+searched_then p w a1 a2 a3 b1 b2 b3 s1 s2 s3 one two = record {
+  tables = record {
+    ahead = two.tables.ahead;
+    ahead_shape = same_shape a1 a2 a3 one.tables.ahead_shape two.tables.ahead_shape;
+    back_shape = same_shape b1 b2 b3 one.tables.back_shape two.tables.back_shape;
+    space = space_then s1.kept s2.kept s3.kept one.tables.space two.tables.space;
+  };
+  serves = two.serves;
+}
 
 -- looks up to a later place count too
 pub looks_later : (from k s a b : ℕ) (r : Option (ℕ × ℕ)) → TakesAtLeast s a (k - from) → LooksFrom k a b r → LooksFrom from s b r

@@ -1,30 +1,14 @@
 -- What holds while a spine is followed from node to node, and while tasks wait.
 use Rattle.std.proofs.Common.{◌≡◌, ℕ, zero, suc, true, false, true≢false, ◌+◌, ◌-◌, ◌*◌, ◌≤◌, List, [], ◌∷◌, ◌++◌, length, reverse, Option, None, Some, refl, sym, ap, ◌∙◌, subst, inl, inr, arith, mul-le-mul_left, slice_index_or}
-use Rattle.std.proofs.lemmas.List.{reverse-append}
-use Rattle.sedre.specs.Sizes.{size}
-use Rattle.sedre.specs.Tree.{Tree, tree_at, expression_tree}
+use Rattle.sedpass.proofs.Words.{reverse-append, size, Tree, tree_at, expression_tree, Node, IsReport, Groups, Matches, size-pos, GroupSet, Matched, Task, Apart, Forget, Done, One, Two, Told, Region, Subject, least_less, least_none, least_both}
 use Rattle.sedre.specs.Steps.{Takes, TakesExactly, TakesAtLeast}
-use Rattle.sedre.specs.declared.types.Node.{Node}
-use Rattle.sedtext.specs.Caps.{IsReport}
-use Rattle.sedtext.specs.Groups.{Groups}
-use Rattle.sedtext.specs.Spans.{Matches}
-use Rattle.sedtext.proofs.NodeLemmas.{size-pos}
 use Rattle.sedpass.specs.Decide.{told_of, told_in, found, GoesOn, IsTold, IsTurn, Turned, Works, undecided, next_of, part_cost, kind_cost, nodes_in, text_in, AreReady, AreShort, AreWithin, Runs, weights, looks, descents, tasks_of, entered_at}
 use Rattle.sedpass.specs.Prepared.{holds}
 use Rattle.sedpass.specs.Walks.{State, drop_groups, Walk}
-use Rattle.sedpass.specs.declared.group_set.GroupSet.{GroupSet}
-use Rattle.sedpass.specs.declared.groups.Matched.{Matched}
-use Rattle.sedpass.specs.declared.groups.Task.{Task}
-use Rattle.sedpass.specs.declared.groups.Task.TheVariants.{Apart, Forget}
 use Rattle.sedpass.specs.declared.groups.Then.{Then}
-use Rattle.sedpass.specs.declared.groups.Then.TheVariants.{Done, One, Two}
-use Rattle.sedpass.specs.declared.groups.Told.{Told}
-use Rattle.sedpass.specs.declared.kept.Region.{Region}
-use Rattle.sedpass.specs.declared.kept.Subject.{Subject}
 use Rattle.sedpass.proofs.DecideLemmas.{flags_at}
 use Rattle.sedpass.proofs.OneGroupLemmas.{wanted}
 use Rattle.sedpass.proofs.TurnLemmas.{left_turn}
-use Rattle.sedtext.proofs.CountLemmas.{least_less, least_none, least_both}
 
 -- Tasks that are done.
 

@@ -1,29 +1,10 @@
 -- Tables of states.
-use Rattle.std.proofs.Common.{◌≡◌, ◌≢◌, ℕ, zero, suc, ◌+◌, ◌*◌, ◌/◌, ◌%◌, ◌^◌, ◌<◌, ◌≤◌, ◌↔◌, Bool, true, false, List, length, length-set, Option, Some, None, IsTrue, refl, sym, ap, ◌∙◌, subst, ⊎_elim, arith, mul-le-mul_left, slice_index_or, slice_set, replicate}
-use Rattle.std.proofs.lemmas.Nat.{same_from_place, shl-shr, shl_whole, shl_below}
-use Rattle.std.specs.Int.{from_bool}
-use Rattle.std.specs.Vec.{with_item}
-use Rattle.std.proofs.Math.Nat.{pow-le-pow_right}
-use Rattle.std.proofs.lemmas.Bool.{cases_eq}
-use Rattle.std.proofs.lemmas.List.{get_or-set_same, get_or-set_other, get_or_default}
-use Rattle.sedre.specs.Arena.{IsExpr}
-use Rattle.sedre.specs.Tree.{WrittenExpression}
-use Rattle.sedre.specs.Mirror.{mirror_node, seen}
-use Rattle.sedre.proofs.MirrorLemmas.{old_node}
-use Rattle.sedre.specs.declared.types.Node.{Node}
-use Rattle.sedre.specs.declared.types.Node.TheVariants.{Set}
-use Rattle.sedtext.specs.Words.{AgreeBelow, row_of}
+use Rattle.std.proofs.Common.{Result, Ok, Err, IfOk, ◌≡◌, ◌≢◌, ℕ, zero, suc, ◌+◌, ◌*◌, ◌/◌, ◌%◌, ◌^◌, ◌<◌, ◌≤◌, ◌↔◌, Bool, true, false, List, length, length-set, Option, Some, None, IsTrue, refl, sym, ap, ◌∙◌, subst, ⊎_elim, arith, mul-le-mul_left, slice_index_or, slice_set, replicate}
+use Rattle.sedpass.proofs.Words.{same_from_place, shl-shr, shl_whole, shl_below, from_bool, with_item, pow-le-pow_right, cases_eq, get_or-set_same, get_or-set_other, get_or_default, IsExpr, WrittenExpression, mirror_node, seen, old_node, Node, Set, AgreeBelow, row_of, Flags, Kind, Prepared, Way, Work, Beginning, Table}
 use Rattle.sedpass.specs.Prepared.{SameNulls}
 use Rattle.sedpass.specs.Rows.{nodes_of, at_begin, at_end, bits, SameBytes, LeadsTo, IsFirstRow}
 use Rattle.sedpass.specs.Table.{State, state_of, IsTold, HasRow, HasMarks, LeadsOn, BeginsIn, Names, IsNext, IsOffset, cell_of, LeadsBy, kind_number, beginning_at, beginning_of, MayBegin, HasRoom, IsRoomy, IsTable, SameRoom, SameShape, AddsStates, Codes, stops, code_of, ColumnAt, EdgeApart, EdgeFits, IsLayout, IsColumn}
-use Rattle.sedpass.specs.declared.cells.Flags.{Flags}
 use Rattle.sedpass.specs.declared.cells.Layout.{Layout}
-use Rattle.sedpass.specs.declared.nodes.Kind.{Kind}
-use Rattle.sedpass.specs.declared.nodes.Prepared.{Prepared}
-use Rattle.sedpass.specs.declared.rows.Way.{Way}
-use Rattle.sedpass.specs.declared.rows.Work.{Work}
-use Rattle.sedpass.specs.declared.table.Beginning.{Beginning}
-use Rattle.sedpass.specs.declared.table.Table.{Table}
 use Rattle.sedpass.proofs.LeaveLemmas.{twice}
 use Rattle.sedpass.proofs.RowLemmas.{bits_agree, bits_clear, bits_here, class_row}
 use Rattle.sedpass.proofs.ClassLemmas.{bit_low, sides}
@@ -397,6 +378,13 @@ module _ (m : ℕ) (t t' : Table) (root : ℕ) (leaves ends : List Bool) (flags 
     forgot = λ ne. absurd (ne epoch);
   }
 
+-- the root of a state, as it is read
+pub root_read : (p : Prepared) (t : Table) → IsTable p t → (offset state root : ℕ) → IsOffset t offset → state ≡ offset / 2 ^ t.layout.shift → root ≡ slice_index_or t.roots.items state root →
+    root ≡ (state_of (length p.arena.expr.nodes) t (offset / 2 ^ t.layout.shift)).root
+root_read p t table offset state root there at is =
+    let inside : offset / 2 ^ t.layout.shift < length t.roots.items = omega (arith, there.0, table.room.count, table.room.rows.roots) in
+    is ∙ ap (λ x. slice_index_or t.roots.items x root) at ∙ get_or_default t.roots.items (offset / 2 ^ t.layout.shift) root 0 inside
+
 -- the next state, as it was added to the table or found there
 module _ (p : Prepared) (t u : Table) (table : IsTable p t) (offset : ℕ) (there : IsOffset t offset) (state n root byte v : ℕ) (loaded : List Bool) (work : Work) (at : state ≡ offset / 2 ^ t.layout.shift) (nodes : n ≡ length p.arena.expr.nodes)
     (root_is : root ≡ slice_index_or t.roots.items state root) (row : AgreeBelow n loaded (row_of t.leaves state)) (names : Names (length p.arena.expr.nodes) u (HasMarks p root work) v) where
@@ -404,9 +392,7 @@ module _ (p : Prepared) (t u : Table) (table : IsTable p t) (offset : ℕ) (ther
   here = state_of (length p.arena.expr.nodes) t (offset / 2 ^ t.layout.shift)
 
   same_root : root ≡ here.root
-  same_root =
-      let inside : offset / 2 ^ t.layout.shift < length t.roots.items = omega (arith, there.0, table.room.count, table.room.rows.roots) in
-      root_is ∙ ap (λ x. slice_index_or t.roots.items x root) at ∙ get_or_default t.roots.items (offset / 2 ^ t.layout.shift) root 0 inside
+  same_root = root_read p t table offset state root there at root_is
 
   same_row : bits (length p.arena.expr.nodes) loaded ≡ here.entered
   same_row = bits_agree (length p.arena.expr.nodes) loaded (row_of t.leaves (offset / 2 ^ t.layout.shift))
@@ -502,6 +488,11 @@ pub none_noted : (items : List Beginning) (n : ℕ) → items ≡ replicate n (r
 none_noted items n is i =
     let none : Beginning = record { epoch = 0; code = 0 } in
     ap (λ (l : List Beginning). (slice_index_or l i none).epoch) is ∙ ap (λ (b : Beginning). b.epoch) (same_all none n i)
+
+-- what holds of each table that was made so
+pub made_so : {E : Type 0} → (P Q : Table → Type 0) (r : Result Table E) → ((t : Table) → P t → Q t) → IfOk r P → IfOk r Q
+made_so P Q (Ok t) so made = so t made
+made_so P Q (Err e) so made = tt
 
 -- Room for other expressions.
 

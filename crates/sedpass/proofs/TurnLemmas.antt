@@ -1,28 +1,9 @@
 -- What comes in place of a node, by its kind.
 use Rattle.std.proofs.Common.{◌≡◌, ℕ, ◌+◌, ◌-◌, ◌<◌, ◌≤◌, ◌⊎◌, Bool, List, [], ◌∷◌, length, Option, None, Some, IsTrue, refl, sym, ap, ◌∙◌, subst, inl, inr, ⊎_elim, arith}
-use Rattle.sedre.specs.Tree.{Tree, tree_of, tree_at}
-use Rattle.sedre.specs.Sizes.{size}
-use Rattle.sedre.specs.Arena.{IsPart}
-use Rattle.sedre.specs.Steps.{Takes, TakesAtLeast}
-use Rattle.sedre.specs.declared.types.Node.{Node}
-use Rattle.sedre.specs.declared.types.NodeId.{NodeId}
-use Rattle.sedre.specs.declared.types.Node.TheVariants.{Empty, Set, Begin, End, Seq, Alt, Group, Star, Opt}
-use Rattle.sedre.proofs.TreeLemmas.{tree_at-node}
-use Rattle.sedtext.specs.Reach.{At}
-use Rattle.sedtext.specs.Caps.{LastCut}
-use Rattle.sedtext.specs.Nodes.{parts_of, total_size}
-use Rattle.sedtext.specs.Spans.{Matches}
-use Rattle.sedtext.proofs.ReachLemmas.{open_at}
-use Rattle.sedtext.proofs.SpanLemmas.{Matches-forward}
-use Rattle.sedtext.proofs.NodeLemmas.{size-parts, size-pos}
+use Rattle.sedpass.proofs.Words.{Tree, tree_of, tree_at, size, IsPart, Takes, TakesAtLeast, Node, NodeId, Empty, Set, Begin, End, Seq, Alt, Group, Star, Opt, tree_at-node, At, LastCut, parts_of, total_size, Matches, open_at, Matches-forward, size-parts, size-pos, Matched, Apart, Forget, Done, One, Two, Region, Subject}
 use Rattle.sedpass.specs.Decide.{EndsRegion, HasNoKnownLength, IsCopyFrom, LooksAt, NodeTurned, part_cost, nodes_in, text_in, Stands, IsTurn, Blank, entered_at}
 use Rattle.sedpass.specs.Regions.{all_of, last_of}
 use Rattle.sedpass.specs.Walks.{State, settle, drop_groups, NoneDue, Walk}
-use Rattle.sedpass.specs.declared.groups.Matched.{Matched}
-use Rattle.sedpass.specs.declared.groups.Task.TheVariants.{Apart, Forget}
-use Rattle.sedpass.specs.declared.groups.Then.TheVariants.{Done, One, Two}
-use Rattle.sedpass.specs.declared.kept.Region.{Region}
-use Rattle.sedpass.specs.declared.kept.Subject.{Subject}
 use Rattle.sedpass.proofs.OneGroupLemmas.{copy_spans, settle_takes, drop_takes, takes_blank, passes_by}
 
 -- what is due has no span, before and after
@@ -79,12 +60,15 @@ module _ (s : Subject) (here : Matched) (node : Node) (stands : Stands s here no
         fewer = omega (arith, long, size_is);
       }
 
--- nothing comes in place of a node without parts
-pub leaf_told : (node : Node) → (node ≡ Empty) ⊎ (((members : List Bool) × (node ≡ Set members)) ⊎ ((node ≡ Begin) ⊎ (node ≡ End))) → parts_of node ≡ []
-leaf_told node (inl is) = ap parts_of is
-leaf_told node (inr (inl (members, is))) = ap parts_of is
-leaf_told node (inr (inr (inl is))) = ap parts_of is
-leaf_told node (inr (inr (inr is))) = ap parts_of is
+-- a node of no other kind has no parts: nothing comes in its place
+pub leaf_told : (node : Node) → ((a b : NodeId) → node ≡ Seq a b → ⊥) → ((a b : NodeId) → node ≡ Alt a b → ⊥) → ((k : ℕ) (a : NodeId) → node ≡ Group k a → ⊥) → ((a : NodeId) (first : Bool) → node ≡ Star a first → ⊥) →
+    ((a : NodeId) (first : Bool) → node ≡ Opt a first → ⊥) → parts_of node ≡ []
+leaf_told (Seq a b) seq alt group star opt = absurd (seq a b refl)
+leaf_told (Alt a b) seq alt group star opt = absurd (alt a b refl)
+leaf_told (Group k a) seq alt group star opt = absurd (group k a refl)
+leaf_told (Star a first) seq alt group star opt = absurd (star a first refl)
+leaf_told (Opt a first) seq alt group star opt = absurd (opt a first refl)
+leaf_told other seq alt group star opt = refl
 
 pub leaf_turned : (s : Subject) (here : Matched) (node : Node) (state : State) (r : Region) (steps : ℕ) → Stands s here node → parts_of node ≡ [] → NodeTurned s here node state state r Done steps steps
 leaf_turned s here node state r steps stands leaf =

@@ -1,3 +1,4 @@
+pub mod Classes
 pub mod Decide
 pub mod Forwards
 pub mod Kept

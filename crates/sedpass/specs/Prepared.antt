@@ -1,17 +1,15 @@
 -- Private to the proofs: no contract that `sedmatch` makes public cites what stands here.
--- What is told of an expression once: facts of each node, as its groups and how long its spans are, and classes of bytes.
+-- What is told of an expression once: facts of each node, as its groups and how long its spans are.
 use Rattle.std.specs.Prelude.{◌≡◌, ℕ, ◌+◌, ◌-◌, ◌*◌, ◌≤◌, ◌<◌, Bool, true, false, ◌&&◌, ◌||◌, eqb, List, length, slice_get, slice_index_or, cond, Option, Some, None, IfSome, nat_lt, ◌⊎◌}
 use Rattle.std.specs.Int.{bit_at, from_bool}
 use Rattle.sedre.specs.Tree.{Tree, set, begin, end, seq, alt, group, star, WrittenExpression, tree_at, empty, opt}
 use Rattle.sedre.specs.Sizes.{size}
 use Rattle.sedre.specs.declared.types.Node.{Node}
-use Rattle.sedre.specs.declared.types.Node.TheVariants.{Set}
-use Rattle.sedpass.specs.Rows.{SameBytes}
+use Rattle.sedpass.specs.Classes.{AreClasses}
 use Rattle.sedpass.specs.declared.nodes.Facts.{Facts}
 use Rattle.sedpass.specs.declared.nodes.Kind.{Kind}
 use Rattle.sedpass.specs.Walks.{has_group}
 use Rattle.sedpass.specs.declared.group_set.GroupSet.{GroupSet}
-use Rattle.sedre.specs.Sets.{has}
 
 -- both lengths together, if both are known
 abbrev pub sum_of : Option ℕ → Option ℕ → Option ℕ
@@ -101,24 +99,9 @@ IsShort long = IfSome long (λ n. n ≤ 65536)
 abbrev pub IsOfEachKind : ℕ → Type 0
 IsOfEachKind null = (first last : Bool) → null_at null first last ≡ null_at null false false
 
--- each set of the nodes is among these
-abbrev pub HaveSets : List Node → List (List Bool) → Type 0
-HaveSets nodes sets = (x : ℕ) (members : List Bool) → slice_get nodes x ≡ Some (Set members) → (k : ℕ) × (slice_get sets k ≡ Some members)
-
--- bytes of one class are in the same sets
-abbrev pub AreAlike : List Node → List ℕ → Type 0
-AreAlike nodes classes = (one other : ℕ) → one < 256 → other < 256 → slice_index_or classes one 0 ≡ slice_index_or classes other 0 → SameBytes nodes (Some one) (Some other)
-
 -- each node matches the null string at places of each kind, or at none
 abbrev pub SameNulls : List Node → Type 0
 SameNulls nodes = (x : ℕ) (first last : Bool) → x < length nodes → nullable first last (tree_at nodes x) ≡ nullable false false (tree_at nodes x)
-
--- each byte has a class, of as many as there are columns
-pub record AreClasses (nodes : List Node) (classes : List ℕ) (columns : ℕ) : Type 0 where
-  pub some : 1 ≤ columns
-  pub few : columns ≤ 256
-  pub below : (byte : ℕ) → byte < 256 → slice_index_or classes byte 0 < columns
-  pub alike : AreAlike nodes classes
 
 -- what is told of an expression
 pub record IsPrepared (e : WrittenExpression) (root : ℕ) (told : List Facts) (of : List ℕ) (columns : ℕ) (anchors : Bool) : Type 0 where
@@ -127,26 +110,3 @@ pub record IsPrepared (e : WrittenExpression) (root : ℕ) (told : List Facts) (
   pub facts : AreFacts e.nodes told
   pub classes : AreClasses e.nodes of columns
   pub anywhere : anchors ≡ false → SameNulls e.nodes
-
--- How classes of bytes are found: keys, and a number for each key that comes.
-
--- each number below count is given once at most; a key without a number has 256
-pub record IsNumbering (numbers : List ℕ) (count : ℕ) : Type 0 where
-  pub known : (key : ℕ) → key < 512 → (slice_index_or numbers key 0 < count) ⊎ (slice_index_or numbers key 0 ≡ 256)
-  pub apart : (key other : ℕ) → key < 512 → other < 512 → slice_index_or numbers key 0 ≡ slice_index_or numbers other 0 → slice_index_or numbers key 0 < count → key ≡ other
-
--- the key has a number, and the others have what they had
-pub record IsGiven (numbers : List ℕ) (key count : ℕ) (after : List ℕ) (next : ℕ) : Type 0 where
-  pub numbering : IsNumbering after next
-  pub here : slice_index_or after key 0 < next
-  pub grows : count ≤ next
-  pub few : next ≤ count + 1
-  pub kept : (k : ℕ) → slice_index_or numbers k 0 < count → slice_index_or after k 0 ≡ slice_index_or numbers k 0
-
--- classes of which each lies in one old class, and within the set or outside it
-pub record IsFiner (old : List ℕ) (members : List Bool) (of : List ℕ) (count : ℕ) : Type 0 where
-  pub wide : length of ≡ 256
-  pub few : count ≤ 256
-  pub below : (byte : ℕ) → byte < 256 → slice_index_or of byte 0 < count
-  pub alike : (one other : ℕ) → one < 256 → other < 256 → slice_index_or of one 0 ≡ slice_index_or of other 0 →
-      (slice_index_or old one 0 ≡ slice_index_or old other 0) × (has members one ≡ has members other)

@@ -15,7 +15,8 @@ use Rattle.sedpass.specs.declared.cells.Flags.{Flags}
 use Rattle.sedpass.specs.declared.cells.Layout.{Layout}
 use Rattle.sedpass.specs.declared.table.Beginning.{Beginning}
 use Rattle.sedpass.specs.declared.table.Table.{Table}
-use Rattle.sedpass.specs.Prepared.{AreAlike, SameNulls}
+use Rattle.sedpass.specs.Classes.{AreAlike}
+use Rattle.sedpass.specs.Prepared.{SameNulls}
 
 -- Codes of states, and where the cells of a state stand.
 
@@ -187,6 +188,13 @@ pub record IsTable (p : Prepared) (t : Table) : Type 0 where
   pub filled : (q k : ℕ) → q < t.count → k < t.layout.width → 0 < cell_of t q k → Names (length p.arena.expr.nodes) t (LeadsBy p t q k) (cell_of t q k)
   pub begun : (root : ℕ) (kind : Kind) → MayBegin p t.way root → (beginning_of t (beginning_at t.way.all_starts root kind)).epoch ≡ t.epoch →
       Names (length p.arena.expr.nodes) t (BeginsIn (nodes_of t.way p.arena.expr) t.way root kind) (beginning_of t (beginning_at t.way.all_starts root kind)).code
+
+-- an empty table was made: one for the expression for which it is laid out, or, laid out as widely as there is, for any
+pub record IsMade (asked : Way) (states nodes : ℕ) (layout : Layout) (t : Table) : Type 0 where
+  pub way : t.way ≡ asked
+  pub room : t.room ≡ states
+  pub serves : (p : Prepared) → IsExpr p.arena.expr.nodes p.arena.expr.groups → IsLayout p.arena.expr.nodes layout → nodes ≡ length p.arena.expr.nodes → IsTable p t
+  pub roomy : layout.shift ≡ 8 → IsRoomy nodes t
 
 -- what never changes
 abbrev pub SameRoom : Table → Table → Type 0

@@ -37,7 +37,7 @@ has_group (star a first) k = has_group a k
 has_group (opt a first) k = has_group a k
 has_group other k = false
 
--- it does so
+-- group k stands there
 abbrev pub GroupStandsIn : Tree → ℕ → Type 0
 GroupStandsIn e k = IsTrue (has_group e k)
 

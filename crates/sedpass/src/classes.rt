@@ -1,7 +1,7 @@
 //! Classes of bytes: those that no set of an expression tells apart are in one.
 ghost use Rattle.sedre.specs.declared.types.Node.{Node};
 ghost use Rattle.std.specs.Prelude.{List, ◌<◌};
-ghost use Rattle.sedpass.specs.Prepared.{AreClasses, HaveSets, IsNumbering, IsGiven, IsFiner};
+ghost use Rattle.sedpass.specs.Classes.{AreClasses, HaveSets, IsNumbering, IsGiven, IsFiner};
 
 use sedre::ByteSet;
 

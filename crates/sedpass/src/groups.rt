@@ -155,8 +155,8 @@ impl GroupRoom {
         requires nodes { nodes ≤ 65536 }
         ensures { IfOk result (λ r. HasSpace max_text blocks nodes r) }
     {
-        let kept = Kept::new(alloc, max_text, blocks, nodes)?;
         let tasks = Vec::with_capacity(alloc, 2 * nodes)?;
+        let kept = Kept::new(alloc, max_text, blocks, nodes)?;
         Ok(GroupRoom { kept, tasks })
     }
 }
@@ -394,7 +394,6 @@ fn turn_node(
     ensures few { found told.new.spans ≤ found told.old.spans + 1 }
 {
     match node {
-        Node::Empty | Node::Set(_) | Node::Begin | Node::End => Then::Done,
         Node::Seq(a, b) => turn_seq(subject, tables, kept, here, *a, *b, steps),
         Node::Alt(a, b) => turn_alt(subject, tables, kept, here, *a, *b, steps),
         Node::Group(k, a) => {
@@ -404,6 +403,7 @@ fn turn_node(
         }
         Node::Star(a, first) => turn_star(subject, tables, kept, here, *a, *first, steps),
         Node::Opt(a, first) => turn_opt(subject, here, *a, *first, steps),
+        _ => Then::Done,
     }
 }
 

@@ -3,7 +3,7 @@
 //! The region is cut into blocks, and the table has room for one state more than a block has places. The row at each block's
 //! right end is kept too. Where the states of a block are gone, since the table was emptied after it was made, they are made again
 //! from the block's end down to the place that is looked at, so that looks from left to right make each place again once at most.
-ghost use Rattle.std.specs.Prelude.{◌≡◌, ℕ, Bool, true, false, not, min, ◌+◌, ◌-◌, ◌*◌, ◌/◌, ◌^◌, ◌<◌, ◌≤◌, ◌↔◌, length, slice_index_or, vec_capacity, IfOk, IsTrue};
+ghost use Rattle.std.specs.Prelude.{◌≡◌, ℕ, Bool, true, false, not, min, ◌+◌, ◌-◌, ◌*◌, ◌/◌, ◌^◌, ◌<◌, ◌≤◌, ◌⊎◌, ◌↔◌, length, slice_index_or, vec_capacity, IfOk, IsTrue};
 ghost use Rattle.sedtext.specs.Costs.{CostsWithin};
 ghost use Rattle.sedtext.specs.Reach.{At, one_start};
 ghost use Rattle.sedtext.specs.Words.{row_of};
@@ -84,6 +84,14 @@ fn extend_states(states: &mut Vec<u16>, text: usize)
     }
 }
 
+/// The place before which states are in the table, as one was made at a place: no further than there where the table was emptied.
+fn live_to(before: u32, after: u32, to: usize, place: usize) -> usize
+    requires { place < to }
+    ensures { ((after ≡ before → ⊥) × (result ≡ place + 1)) ⊎ ((after ≡ before) × (result ≡ to)) }
+{
+    if after == before { to } else { place + 1 }
+}
+
 impl Kept {
     /// Room for texts of at most `max_text` bytes, which are cut into at most `blocks` blocks, and expressions of `nodes` nodes.
     /// Fails only where a request for memory was refused.
@@ -159,9 +167,7 @@ impl Kept {
             let code = table.next(subject.prepared, offset, byte, edge, &mut self.work, steps);
             offset = offset_of(code);
             self.states[place] = table.state_at(offset) as u16;
-            if table.epoch != epoch {
-                self.region.to = place + 1;
-            }
+            self.region.to = live_to(epoch, table.epoch, self.region.to, place);
         }
         offset
     }

@@ -222,8 +222,8 @@ impl Prepared {
         ensures nodes { IfOk result (λ p. nodes ≤ p.arena.room) }
         ensures facts { IfOk result (λ p. nodes ≤ vec_capacity p.facts) }
     {
-        let arena = Arena::with_room(alloc, nodes)?;
         let mut facts = Vec::with_capacity(alloc, nodes)?;
+        let arena = Arena::with_room(alloc, nodes)?;
         facts.push_reserved(of_leaf(0, EVERYWHERE, 0));
         Ok(Prepared {
             arena,

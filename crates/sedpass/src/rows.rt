@@ -45,14 +45,22 @@ pub struct Work {
     pub ends: NodeMarks,
 }
 
+/// Two lists of marks.
+fn two_marks(alloc: Global) -> Result<(NodeMarks, NodeMarks), AllocError> {
+    let one = NodeMarks::new(alloc)?;
+    Ok((one, NodeMarks::new(alloc)?))
+}
+
 impl Work {
     /// Marks that acts work on. Fails only where a request for memory was refused.
     pub fn new(alloc: Global) -> Result<Work, AllocError> {
+        let (entered, ended) = two_marks(alloc)?;
+        let (leaves, ends) = two_marks(alloc)?;
         Ok(Work {
-            entered: NodeMarks::new(alloc)?,
-            ended: NodeMarks::new(alloc)?,
-            leaves: NodeMarks::new(alloc)?,
-            ends: NodeMarks::new(alloc)?,
+            entered,
+            ended,
+            leaves,
+            ends,
         })
     }
 }

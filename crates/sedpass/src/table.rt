@@ -10,7 +10,7 @@ ghost use Rattle.sedpass.specs.Rows.{nodes_of, bits};
 ghost use Rattle.sedre.specs.Arena.{IsExpr};
 ghost use Rattle.sedpass.specs.declared.nodes.Kind.{Kind};
 ghost use Rattle.sedpass.specs.declared.nodes.Prepared.{Prepared};
-ghost use Rattle.sedpass.specs.Table.{state_of, HasRow, HasMarks, BeginsIn, Names, IsNext, IsOffset, beginning_at, MayBegin, IsRoomy, IsTable, SameRoom, SameShape, Codes, IsLayout};
+ghost use Rattle.sedpass.specs.Table.{state_of, HasRow, HasMarks, BeginsIn, Names, IsNext, IsOffset, beginning_at, MayBegin, IsRoomy, IsTable, SameRoom, SameShape, Codes, IsMade};
 
 use crate::cells::{Flags, Layout, code_of, empty_cells, stops};
 use crate::nodes::{Kind, Prepared};
@@ -114,10 +114,7 @@ impl Table {
         requires nodes { 1 ≤ nodes }
         requires short { nodes ≤ 65536 }
         requires layout { layout.shift ≤ 8 }
-        ensures table { IfOk result (λ t. (p : Prepared) → IsExpr p.arena.expr.nodes p.arena.expr.groups → IsLayout p.arena.expr.nodes layout → nodes ≡ length p.arena.expr.nodes → IsTable p t) }
-        ensures roomy { layout.shift ≡ 8 → IfOk result (λ t. IsRoomy nodes t × (t.way ≡ way) × (t.room ≡ room)) }
-        ensures way { IfOk result (λ t. t.way ≡ way) }
-        ensures room { IfOk result (λ t. t.room ≡ room) }
+        ensures { IfOk result (IsMade way room nodes layout) }
     {
         let reserved = room << layout.shift;
         Ok(Table {
@@ -128,8 +125,6 @@ impl Table {
             layout,
             count: 0,
             epoch: 1,
-            leaves: Rows::new(alloc, room, nodes)?,
-            ends: Rows::new(alloc, room, nodes)?,
             roots: vec![in alloc; 0; room]?,
             flags: vec![in alloc; Flags {
                 ends: false,
@@ -142,6 +137,9 @@ impl Table {
                 way.all_starts,
                 nodes
             )]?,
+            // Last, since they are the dearest to let go of where a later request is refused.
+            leaves: Rows::new(alloc, room, nodes)?,
+            ends: Rows::new(alloc, room, nodes)?,
         })
     }
 

@@ -1,10 +1,7 @@
 use Rattle.std.proofs.Common.{◌≡◌, Some, refl, ◌++◌, ◌∷◌, [], length, ap, sym, ◌∙◌, length-append, arith, slice_get, take}
-use Rattle.std.proofs.lemmas.List.{take_more, take_all}
-use Rattle.std.proofs.lemmas.Option.{slice_get_within, get_or_from_slice_get}
+use Rattle.sedpass.proofs.Words.{take_more, take_all, slice_get_within, get_or_from_slice_get, parts_below, least_none}
 use Rattle.sedre.specs.Steps.{TakesAtLeast, TakesExactly}
-use Rattle.sedtext.proofs.NodeLemmas.{parts_below}
 use Rattle.sedpass.proofs.FactLemmas.{facts_more}
-use Rattle.sedtext.proofs.CountLemmas.{least_none}
 use Rattle.sedpass.proofs.arena.copy_nodes.Goals as goal
 
 pub loop-x-init : goal.loop-x-init

@@ -1,6 +1,5 @@
 use Rattle.std.proofs.Common.{ℕ, ◌+◌, ◌<◌, true, false, length, refl, sym, ◌∙◌, true≢false, arith, slice_set}
-use Rattle.std.proofs.lemmas.List.{get_or-replicate, get_or-set_same}
-use Rattle.std.proofs.lemmas.Option.{slice_get_read}
+use Rattle.sedpass.proofs.Words.{get_or-replicate, get_or-set_same, slice_get_read}
 use Rattle.sedpass.proofs.ClassLemmas.{alone_more, apart_more, parted_more}
 use Rattle.sedpass.proofs.classes.classes_of.Goals.{in-Some, in-Some-2, in_default}
 use Rattle.sedpass.proofs.classes.classes_of.Goals as goal

@@ -1,5 +1,5 @@
 use Rattle.std.proofs.Common.{◌≡◌, ◌≤◌, length}
-use Rattle.sedpass.specs.Prepared.{IsNumbering}
+use Rattle.sedpass.specs.Classes.{IsNumbering}
 use Rattle.sedpass.proofs.ClassLemmas.{AreGiven, key_of}
 use Rattle.sedpass.proofs.classes.split.Given as goal
 

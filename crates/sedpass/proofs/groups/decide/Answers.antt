@@ -1,12 +1,6 @@
 use Rattle.std.proofs.Common.{rules, ◌≡◌, ◌-◌, ◌≤◌, List, [], ◌∷◌, ◌++◌, length, reverse, ap, ◌∙◌, subst, arith}
-use Rattle.std.proofs.lemmas.List.{nil_from_length}
-use Rattle.sedre.specs.Sizes.{size}
-use Rattle.sedre.specs.Tree.{tree_at, expression_tree}
-use Rattle.sedtext.specs.Reach.{At}
+use Rattle.sedpass.proofs.Words.{nil_from_length, size, tree_at, expression_tree, At, Task, Apart, Told}
 use Rattle.sedpass.specs.Decide.{told_in, told_of, undecided, IsTold, nodes_in, text_in, IsMatch}
-use Rattle.sedpass.specs.declared.groups.Task.{Task}
-use Rattle.sedpass.specs.declared.groups.Task.TheVariants.{Apart}
-use Rattle.sedpass.specs.declared.groups.Told.{Told}
 use Rattle.sedpass.proofs.DecideLemmas.{starts_due, starts_blank, tables_same, tables_then}
 use Rattle.sedpass.proofs.KeptLemmas.{space_same, space_then}
 use Rattle.sedpass.proofs.OneGroupLemmas.{walk_report}
@@ -76,9 +70,9 @@ returns c =
       due = λ groups k report is. due_told (expression_tree e) w i j walk.0 k c.args.due last groups c.requires.whole at walk.1 report is;
       tasks = search rules;
       room = search rules;
-      desk = search rules;
-      shape = search rules;
-      space = search rules;
+      desk = c.all.invariant.keeps.desk;
+      shape = c.all.invariant.keeps.shape;
+      space = c.all.invariant.keeps.space;
       cost = (spent.1.0, all_paid c.args.steps.now c.all.steps (length e.nodes) (j - i) (size (tree_at e.nodes p.root)) small spent.1.1);
       counts = search rules;
       entered = record { last = last; n = walk.0; walk = walk.1; counts = walk.2 };

@@ -1,11 +1,9 @@
 use Rattle.std.proofs.Common.{◌-◌, ◌<◌, length, inl, inr, refl, arith}
-use Rattle.sedre.specs.declared.types.Node.TheVariants.{Star}
-use Rattle.sedtext.specs.Reach.{At}
+use Rattle.sedpass.proofs.Words.{Star, At, least_less, least_none, least_both, least_up}
 use Rattle.sedpass.specs.Decide.{nodes_in, text_in}
 use Rattle.sedpass.proofs.DecideLemmas.{copy_fixed, copy_ceases, copy_pays, desk_ahead, desk_same, desk_then, ends_still, owed_here, part_low}
 use Rattle.sedpass.proofs.MeetingLemmas.{copy_walk}
 use Rattle.sedpass.proofs.TurnLemmas.{opened, part_inside}
-use Rattle.sedtext.proofs.CountLemmas.{least_less, least_none, least_both, least_up}
 use Rattle.sedpass.proofs.groups.last_copy.Goals as goal
 
 pub has_empty_copy-taken-requires : goal.has_empty_copy-taken-requires

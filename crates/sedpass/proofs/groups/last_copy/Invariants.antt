@@ -1,9 +1,5 @@
 use Rattle.std.proofs.Common.{◌≡◌, ◌⊎◌, ◌+◌, ◌-◌, ◌*◌, ◌<◌, ◌≤◌, ℕ, length}
-use Rattle.sedtext.specs.Caps.{LastCopy}
-use Rattle.sedre.specs.Steps.{TakesAtLeast}
-use Rattle.sedtext.specs.Costs.{CostsWithin}
-use Rattle.sedtext.specs.Reach.{At}
-use Rattle.sedtext.specs.Spans.{CopiesLead}
+use Rattle.sedpass.proofs.Words.{LastCopy, TakesAtLeast, CostsWithin, At, CopiesLead}
 use Rattle.sedpass.specs.Kept.{owed}
 use Rattle.sedpass.specs.Decide.{EndsRegion, KeepsDesk, nodes_in, text_in}
 use Rattle.sedpass.proofs.groups.last_copy.Given as goal

@@ -1,10 +1,8 @@
 use Rattle.std.proofs.Common.{◌+◌, ◌-◌, ◌*◌, ◌<◌, length, refl, inl, arith}
-use Rattle.std.proofs.lemmas.Option.{slice_get_within}
-use Rattle.sedre.specs.declared.types.Node.TheVariants.{Seq}
+use Rattle.sedpass.proofs.Words.{slice_get_within, Seq, least_less, least_none}
 use Rattle.sedpass.specs.Decide.{nodes_in}
 use Rattle.sedpass.proofs.DecideLemmas.{part_low, owed_here, run_paid, meet_paid, cut_ceases, cut_runs}
 use Rattle.sedpass.proofs.TurnLemmas.{part_inside}
-use Rattle.sedtext.proofs.CountLemmas.{least_less, least_none}
 use Rattle.sedpass.proofs.groups.last_cut.Goals as goal
 
 pub returns-in-Some-clause-counts : goal.returns-in-Some-clause-counts

@@ -1,8 +1,7 @@
 use Rattle.std.proofs.Common.{◌≡◌, ◌∷◌, Some, length, reverse, sym, ap, subst, arith}
-use Rattle.std.proofs.lemmas.List.{length-reverse}
+use Rattle.sedpass.proofs.Words.{length-reverse, Apart}
 use Rattle.sedpass.specs.Decide.{AreReady, GoesOn, Works, nodes_in, text_in, waiting, weights}
 use Rattle.sedpass.specs.Regions.{all_of}
-use Rattle.sedpass.specs.declared.groups.Task.TheVariants.{Apart}
 use Rattle.sedpass.proofs.DecideLemmas.{desk_then, tables_same}
 use Rattle.sedpass.proofs.KeptLemmas.{space_same}
 use Rattle.sedpass.proofs.SpineLemmas.{done, done_once, no_more, turned_goes, works_none, works_then, works_turn}

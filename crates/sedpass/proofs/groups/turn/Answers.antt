@@ -2,8 +2,7 @@ use Rattle.std.proofs.Common.{inl, inr, refl, arith}
 use Rattle.sedpass.specs.Decide.{found, nodes_in}
 use Rattle.sedpass.proofs.DecideLemmas.{none_due}
 use Rattle.sedpass.proofs.SpineLemmas.{least_look}
-use Rattle.sedtext.proofs.CountLemmas.{least_none}
-use Rattle.std.proofs.lemmas.Bool.{both_ways}
+use Rattle.sedpass.proofs.Words.{least_none, both_ways}
 use Rattle.sedpass.proofs.groups.turn.Goals as goal
 
 pub returns-then-not-meets-clause-turned : goal.returns-then-not-meets-clause-turned

@@ -1,6 +1,5 @@
 use Rattle.std.proofs.Common.{refl, sym, inl, inr}
-use Rattle.std.proofs.lemmas.Bool.{both_ways}
-use Rattle.sedre.specs.declared.types.Node.TheVariants.{Alt}
+use Rattle.sedpass.proofs.Words.{both_ways, Alt}
 use Rattle.sedpass.specs.Regions.{last_of}
 use Rattle.sedpass.proofs.DecideLemmas.{ends_still, look_paid}
 use Rattle.sedpass.proofs.TurnLemmas.{alt_turned}

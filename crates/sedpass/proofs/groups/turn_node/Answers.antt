@@ -21,14 +21,7 @@ returns-in-Star-clause-turned c = rw c.in-Star.is (c.turn_star.ensures.turned _)
 pub returns-in-Opt-clause-turned : goal.returns-in-Opt-clause-turned
 returns-in-Opt-clause-turned c = rw c.in-Opt.is (c.turn_opt.ensures _ c.args.kept.now.region c.requires.at.ends)
 
-pub returns-in-Empty-clause-turned : goal.returns-in-Empty-clause-turned
-returns-in-Empty-clause-turned c = leaf_turned c.args.subject c.args.here c.args.node.now _ _ _ c.requires.at.stands (leaf_told _ c.in-Empty.is)
-
-pub returns-in-Empty-2-clause-turned : goal.returns-in-Empty-2-clause-turned
-returns-in-Empty-2-clause-turned c = leaf_turned c.args.subject c.args.here c.args.node.now _ _ _ c.requires.at.stands (leaf_told _ c.in-Empty.is)
-
-pub returns-in-Empty-3-clause-turned : goal.returns-in-Empty-3-clause-turned
-returns-in-Empty-3-clause-turned c = leaf_turned c.args.subject c.args.here c.args.node.now _ _ _ c.requires.at.stands (leaf_told _ c.in-Empty.is)
-
-pub returns-in-Empty-4-clause-turned : goal.returns-in-Empty-4-clause-turned
-returns-in-Empty-4-clause-turned c = leaf_turned c.args.subject c.args.here c.args.node.now _ _ _ c.requires.at.stands (leaf_told _ c.in-Empty.is)
+pub returns-in_default-clause-turned : goal.returns-in_default-clause-turned
+returns-in_default-clause-turned c =
+    let other = c.in_default in
+    leaf_turned c.args.subject c.args.here c.args.node.now _ _ _ c.requires.at.stands (leaf_told c.args.node.now other.not-Seq other.not-Alt other.not-Group other.not-Star other.not-Opt)

@@ -1,6 +1,5 @@
 use Rattle.std.proofs.Common.{refl, sym, inl, inr, ◌∙◌, arith}
-use Rattle.std.proofs.lemmas.Bool.{both_ways, lt-ltb}
-use Rattle.sedre.specs.declared.types.Node.TheVariants.{Opt}
+use Rattle.sedpass.proofs.Words.{both_ways, lt-ltb, Opt}
 use Rattle.sedpass.proofs.TurnLemmas.{part_inside, opt_turned, opt_done}
 use Rattle.sedpass.proofs.groups.turn_opt.Goals.{then-here, else-here}
 use Rattle.sedpass.proofs.groups.turn_opt.Goals as goal

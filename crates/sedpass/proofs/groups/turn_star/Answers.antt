@@ -3,12 +3,25 @@ use Rattle.sedre.specs.declared.types.Node.TheVariants.{Star}
 use Rattle.sedpass.specs.Decide.{IsCopyFrom}
 use Rattle.sedpass.proofs.DecideLemmas.{may_begin}
 use Rattle.sedpass.proofs.TurnLemmas.{part_inside, star_done, star_turned}
+use Rattle.sedpass.proofs.KeptLemmas.{space_then}
 use Rattle.sedpass.proofs.groups.turn_star.Goals as goal
 
 pub begin-requires-clause-root : goal.begin-requires-clause-root
 begin-requires-clause-root c =
     may_begin c.args.subject c.last_copy.new.tables c.index-node.result c.last_copy.ensures.desk.desk.one_end
     (rw c.index-node.ensures (part_inside c.args.subject c.args.here (Star c.args.a c.args.first) c.requires.stands c.args.a.index refl))
+
+pub begin-requires-clause-room : goal.begin-requires-clause-room
+begin-requires-clause-room c = c.last_copy.ensures.desk.desk.region.region.room
+
+pub returns-in-Some-clause-desk : goal.returns-in-Some-clause-desk
+returns-in-Some-clause-desk c =
+    let last = c.last_copy.ensures.desk in
+    record {
+      desk = record { region = c.begin.ensures.kept; one_end = last.desk.one_end; ahead = last.desk.ahead };
+      shape = last.shape;
+      space = space_then c.args.kept.now c.last_copy.new.kept c.begin.new.self last.space c.begin.ensures.space;
+    }
 
 pub returns-in-None-clause-turned : goal.returns-in-None-clause-turned
 returns-in-None-clause-turned c = λ state.

@@ -1,7 +1,5 @@
 use Rattle.std.proofs.Common.{◌≡◌, length, refl, ◌∙◌, ap, Some, arith, rules}
-use Rattle.std.proofs.lemmas.Option.{slice_get_within}
-use Rattle.sedre.specs.Tree.{tree_at, empty, set, begin, end}
-use Rattle.sedre.specs.declared.types.Node.TheVariants.{Seq, Alt, Group, Star, Opt}
+use Rattle.sedpass.proofs.Words.{slice_get_within, tree_at, empty, set, begin, end, Seq, Alt, Group, Star, Opt}
 use Rattle.sedpass.proofs.nodes.facts_of.Goals as goal
 
 pub returns-in-Empty : goal.returns-in-Empty

@@ -1,11 +1,10 @@
 use Rattle.std.proofs.Common.{◌≡◌, refl, Some, ap, ◌∙◌, arith, ◌&&◌, slice_get, slice_index_or, false}
 use Rattle.sedre.specs.Steps.{TakesAtLeast, TakesExactly}
-use Rattle.sedtext.specs.Matching.{byte_is_in}
+use Rattle.sedpass.proofs.Words.{byte_is_in, least_none}
 use Rattle.sedpass.specs.Prepared.{null_in}
 use Rattle.sedpass.specs.Rows.{nodes_of, InTree}
 use Rattle.sedpass.proofs.FactLemmas.{inside_seen}
 use Rattle.sedpass.proofs.RowLemmas.{up}
-use Rattle.sedtext.proofs.CountLemmas.{least_none}
 use Rattle.sedpass.proofs.rows.ascend.Goals as goal
 
 pub loop-x-init : goal.loop-x-init

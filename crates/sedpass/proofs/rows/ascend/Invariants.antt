@@ -1,7 +1,5 @@
 use Rattle.std.proofs.Common.{◌≡◌, ℕ, ◌+◌, ◌-◌, ◌*◌, ◌≤◌, List}
-use Rattle.sedre.specs.Steps.{TakesAtLeast}
-use Rattle.sedtext.specs.Reach.{Marked, Ends}
-use Rattle.sedtext.specs.declared.starts.Starts.{Starts}
+use Rattle.sedpass.proofs.Words.{TakesAtLeast, Marked, Ends, Starts}
 use Rattle.sedpass.specs.Prepared.{null_in}
 use Rattle.sedpass.specs.Rows.{nodes_of, AreNull, TellTook, TreeBelow}
 use Rattle.sedpass.proofs.rows.ascend.Given as goal

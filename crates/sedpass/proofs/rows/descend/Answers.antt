@@ -1,13 +1,10 @@
 use Rattle.std.proofs.Common.{◌≡◌, ◌+◌, ◌-◌, Bool, Some, refl, ◌∙◌, arith, ℕ, length, slice_get, slice_index_or, slice_set, false}
 use Rattle.sedre.specs.Steps.{TakesAtLeast, TakesExactly}
-use Rattle.sedre.proofs.MirrorLemmas.{seen-arena, seen-length}
-use Rattle.sedtext.specs.PartMarks.{enter_parts}
-use Rattle.sedtext.specs.Reach.{Marked, Enters, Ends}
+use Rattle.sedpass.proofs.Words.{seen-arena, seen-length, enter_parts, Marked, Enters, Ends, least_none}
 use Rattle.sedpass.specs.Prepared.{null_in}
 use Rattle.sedpass.specs.Rows.{nodes_of, bits, InTree, TreeFrom, RowFrom}
 use Rattle.sedpass.proofs.FactLemmas.{inside_seen}
 use Rattle.sedpass.proofs.RowLemmas.{down, down_root, enters_few, tree_told, row_none, row_step, row_done, bits_clear, bits_set, bits_other}
-use Rattle.sedtext.proofs.CountLemmas.{least_none}
 use Rattle.sedpass.proofs.rows.descend.Goals as goal
 
 pub loop-x-init : goal.loop-x-init

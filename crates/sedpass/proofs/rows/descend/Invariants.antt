@@ -1,7 +1,5 @@
 use Rattle.std.proofs.Common.{◌≡◌, ℕ, ◌↔◌, List, IsTrue, ◌+◌, ◌-◌, ◌*◌, ◌≤◌, length}
-use Rattle.sedre.specs.Steps.{TakesAtLeast}
-use Rattle.sedtext.specs.Reach.{Marked, IsStart, Ends, Enters}
-use Rattle.sedtext.specs.declared.starts.Starts.{Starts}
+use Rattle.sedpass.proofs.Words.{TakesAtLeast, Marked, IsStart, Ends, Enters, Starts}
 use Rattle.sedpass.specs.Prepared.{null_in}
 use Rattle.sedpass.specs.Rows.{nodes_of, AreNull, InTree, TreeFrom, RowFrom, bits}
 use Rattle.sedpass.proofs.rows.descend.Given as goal

@@ -1,10 +1,8 @@
 use Rattle.std.proofs.Common.{◌+◌, Some, length, ◌∙◌, sym, arith, true≢false, false}
-use Rattle.sedre.proofs.MirrorLemmas.{seen-length}
-use Rattle.sedtext.specs.Places.{IsPlace}
+use Rattle.sedpass.proofs.Words.{seen-length, IsPlace, least_both}
 use Rattle.sedpass.specs.Rows.{nodes_of, at_begin, at_end, TellTook}
 use Rattle.sedpass.proofs.FactLemmas.{null_tells, null_anywhere}
 use Rattle.sedpass.proofs.RowLemmas.{took_bits}
-use Rattle.sedtext.proofs.CountLemmas.{least_both}
 use Rattle.sedpass.proofs.rows.step.Goals as goal
 
 pub returns-clause-leads : goal.returns-clause-leads

@@ -1,4 +1,4 @@
-use Rattle.std.proofs.Common.{◌+◌, ◌-◌, ◌*◌, ◌≤◌, length, ap, ◌∙◌, arith}
+use Rattle.std.proofs.Common.{◌+◌, ◌-◌, ◌*◌, ◌≤◌, length, ap, ◌∙◌, arith, refl}
 use Rattle.sedpass.proofs.KeptLemmas.{keeps_then}
 use Rattle.sedpass.proofs.SearchLemmas.{begins_some, kept_cost, kept_each, kept_found, kept_none, none_cost}
 use Rattle.sedtext.proofs.CountLemmas.{least_both, least_up}
@@ -11,8 +11,13 @@ returns-then-not-begins_there-clause-next c =
     let region = c.requires.kept.region in
     let within = c.seek-start.ensures.within in
     let none = kept_none c.args.subject.prepared.now c.args.subject.text.now c.args.back.now.way.all_starts k.region.root k.region.end c.args.from c.seek-start.result c.begins_there.result
-    region.table.expr.arena c.requires.all_starts (region.root.1 c.requires.all_starts) (omega (arith, within, region.inside)) c.seek-start.ensures.passed c.begins_there.ensures.inside c.begins_there.ensures.null (cc) in
+    region.table.expr.arena c.requires.all_starts (region.root.1 c.requires.all_starts) (omega (arith, within, region.inside)) c.seek-start.ensures.passed c.begins_there.ensures.inside c.begins_there.ensures.null c.if-not-begins_there.true in
     record { kept = c.seek-start.ensures.keeps.kept; answer = (tt, none, tt); counts = tt }
+
+pub returns-then-not-begins_there-clause-tables : goal.returns-then-not-begins_there-clause-tables
+returns-then-not-begins_there-clause-tables c =
+    let keeps = c.seek-start.ensures.keeps in
+    record { ahead = c.requires.ahead; ahead_shape = (refl, refl, refl, refl, refl); back_shape = keeps.shape; space = keeps.same.space }
 
 pub returns-clause-next : goal.returns-clause-next
 returns-clause-next c =
@@ -24,7 +29,7 @@ returns-clause-next c =
     let low : c.seek-start.result ≤ length w = omega (arith, within, region.inside) in
     let root = region.root.1 c.requires.all_starts in
     let begins = begins_some p w c.args.back.now.way.all_starts k.region.root k.region.end c.seek-start.result c.begins_there.result region.table.expr.arena c.requires.all_starts root (region.whole c.requires.all_starts) low
-    c.seek-start.ensures.found c.begins_there.ensures.null (cc) in
+    c.seek-start.ensures.found c.begins_there.ensures.null c.if-not-begins_there.false in
     let on = c.cut-end.ensures.ceases.0 in
     let stop = c.cut-end.ensures.within in
     let seek = c.seek-start.ensures.cost in

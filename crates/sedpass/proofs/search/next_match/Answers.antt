@@ -1,10 +1,22 @@
 use Rattle.std.proofs.Common.{◌≡◌, ◌≤◌, false, length, ap, refl, ◌∙◌, arith}
-use Rattle.sedre.specs.Tree.{expression_tree}
-use Rattle.sedtext.proofs.SpanLemmas.{Matches-forward}
+use Rattle.sedpass.proofs.Words.{expression_tree, Matches-forward}
 use Rattle.sedpass.proofs.KeptLemmas.{same_shape, space_then}
-use Rattle.sedpass.proofs.SearchLemmas.{ComesTo, comes_at_once, comes_tired, hit_cost, hit_each, later_answer, looks_later, nothing_cost, nothing_each, pass_paid, unbegun}
-use Rattle.sedpass.proofs.search.next_match.Goals.{then-not-seeking+then-seeking-len+in-Tired, else-not-seeking}
+use Rattle.sedpass.proofs.SearchLemmas.{ComesTo, comes_at_once, comes_tired, hit_cost, hit_each, later_answer, looks_later, nothing_cost, nothing_each, pass_paid, unbegun, searched_by}
+use Rattle.sedpass.proofs.search.next_match.Goals.{After-try_all, then-not-seeking+then-seeking-len+in-Tired, else-not-seeking}
+use Rattle.sedpass.specs.Search.{Searched}
 use Rattle.sedpass.proofs.search.next_match.Goals as goal
+
+searched : (c : After-try_all) → Searched c.args.subject.prepared.now c.args.subject.text.now c.args.ahead.now c.try_all.new.ahead c.args.back.now c.args.back.now c.args.seeking.now
+    (record c.args.seeking.now { kept = record c.args.seeking.now.kept { work = c.try_all.new.work }; tried = c.try_all.new.tried })
+searched c =
+    searched_by c.args.subject.prepared.now c.args.subject.text.now c.args.begins.now c.args.ahead.now c.try_all.new.ahead c.args.back.now c.args.seeking.now c.try_all.new.work c.try_all.new.tried c.requires.ready
+    c.try_all.ensures.ahead c.try_all.ensures.ahead_shape
+
+pub returns-in-Hit-clause-searched : goal.returns-in-Hit-clause-searched
+returns-in-Hit-clause-searched c = searched (goal.at.returns-in-Hit-clause-searched c).After-try_all
+
+pub returns-in-Nothing-clause-searched : goal.returns-in-Nothing-clause-searched
+returns-in-Nothing-clause-searched c = searched (goal.at.returns-in-Nothing-clause-searched c).After-try_all
 
 pub returns-in-Hit-clause-answer : goal.returns-in-Hit-clause-answer
 returns-in-Hit-clause-answer c =
@@ -18,7 +30,7 @@ returns-in-Hit-clause-cost c =
     let last = c.args.subject.prepared.now.is_prepared.last in
     let answer = c.in-Hit.ensures.made.answer in
     let on = Matches-forward (expression_tree c.args.subject.prepared.now.arena.expr) c.args.subject.text.now c.in-Hit.first c.in-Hit.end answer.0.spans in
-    let begun : c.args.seeking.now.begun ≡ false = cc in
+    let begun : c.args.seeking.now.begun ≡ false = c.if-not-seeking.true in
     let few = c.in-Hit.ensures.made.few in
     let low : c.args.seeking.now.tried ≤ n = omega (arith, c.if-seeking-len.true, c.len.ensures.is) in
     let old = unbegun m n c.args.seeking.now c.args.from begun in
@@ -45,7 +57,7 @@ returns-in-Nothing-clause-cost c =
     let m = length c.args.subject.prepared.now.arena.expr.nodes in
     let n = length c.args.subject.text.now in
     let last = c.args.subject.prepared.now.is_prepared.last in
-    let begun : c.args.seeking.now.begun ≡ false = cc in
+    let begun : c.args.seeking.now.begun ≡ false = c.if-not-seeking.true in
     let few = c.in-Nothing.ensures.made.few in
     let low : c.args.seeking.now.tried ≤ n = omega (arith, c.if-seeking-len.true, c.len.ensures.is) in
     let old = unbegun m n c.args.seeking.now c.args.from begun in
@@ -66,7 +78,7 @@ comes : (c : goal.After-next_kept) → ComesTo c.args.subject.prepared.now c.arg
 comes c = elim c.if-not-seeking.branch [
   | then-not-seeking+then-seeking-len+in-Tired w ↦ rw (w.ahead-is, w.seeking-is, w.steps-is, w.start-is)
       (comes_tired c.args.subject.prepared.now c.args.subject.text.now c.args.ahead.now _ c.args.seeking.now _ c.args.from _ c.args.steps.now _ w.in-Tired.ensures.ahead_shape
-      (record { places = refl; edges = refl; marks = λ q. refl }) (cc) (cc) (omega (arith, w.if-seeking-len.true, w.len.ensures.is)) w.in-Tired.ensures.made)
+      (record { places = refl; edges = refl; marks = λ q. refl }) w.if-not-seeking.true w.if-not-seeking.true (omega (arith, w.if-seeking-len.true, w.len.ensures.is)) w.in-Tired.ensures.made)
   | else-not-seeking w ↦ rw (w.ahead-is, w.seeking-is, w.steps-is, w.start-is)
       (comes_at_once c.args.subject.prepared.now c.args.subject.text.now c.args.ahead.now c.args.seeking.now c.args.from c.args.steps.now c.requires.from)
 ]

@@ -1,10 +1,7 @@
 use Rattle.std.proofs.Common.{◌≡◌, ◌+◌, ◌-◌, ◌≤◌, ℕ, length, Option, None, Some, refl, subst, arith, IfSome}
-use Rattle.sedre.specs.Tree.{expression_tree}
-use Rattle.sedtext.specs.Reach.{IsLongestFrom}
-use Rattle.sedtext.proofs.SpanLemmas.{Matches-forward, Matches-within}
+use Rattle.sedpass.proofs.Words.{expression_tree, IsLongestFrom, Matches-forward, Matches-within, least_none}
 use Rattle.sedpass.proofs.KeptLemmas.{same_shape}
 use Rattle.sedpass.proofs.SearchLemmas.{found_at, hit_paid, hit_room, none_further, none_more, none_on, looks_tried, trial_cost, trial_is}
-use Rattle.sedtext.proofs.CountLemmas.{least_none}
 use Rattle.sedpass.proofs.ForwardLemmas.{ahead_still}
 use Rattle.sedpass.proofs.search.try_all.Goals.{else-start-length-via-then-start-length+else-tried-length, else-start-length-via-else-start-length}
 use Rattle.sedpass.proofs.search.try_all.Goals as goal
@@ -79,6 +76,12 @@ returns-then-tried-length-clause-made c =
       cost = (omega (arith, i.cost.0, next.cost, run.cost), omega (arith, i.cost.1, paid));
       counts = looks_tried c.args.from c.loop-start.start first c.run-passed.result.place c.args.steps.now c.loop-start.steps c.next_start.new.steps c.run-passed.new.steps i.counts c.in-Some.ensures.counts run.counts (first + 1 - c.args.from) (omega (arith, is.after));
     }
+
+pub returns-in-Some-end-clause-ahead : goal.returns-in-Some-end-clause-ahead
+returns-in-Some-end-clause-ahead c = ahead_still c.args.subject.prepared.now c.loop-start.ahead c.run-passed.new.self c.loop-start.invariant.ahead c.run-passed.ensures.table c.run-passed.ensures.shape
+
+pub returns-then-tried-length-clause-ahead : goal.returns-then-tried-length-clause-ahead
+returns-then-tried-length-clause-ahead c = ahead_still c.args.subject.prepared.now c.loop-start.ahead c.run-passed.new.self c.loop-start.invariant.ahead c.run-passed.ensures.table c.run-passed.ensures.shape
 
 pub returns-clause-made : goal.returns-clause-made
 returns-clause-made c =

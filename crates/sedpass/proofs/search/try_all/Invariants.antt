@@ -1,9 +1,6 @@
 use Rattle.std.proofs.Common.{◌+◌, ◌-◌, ◌*◌, ◌/◌, ◌≤◌, max, length}
-use Rattle.sedtext.specs.Beginnings.{NoneIn}
-use Rattle.sedre.specs.Tree.{expression_tree}
-use Rattle.sedre.specs.Steps.{TakesAtLeast}
+use Rattle.sedpass.proofs.Words.{NoneIn, expression_tree, TakesAtLeast, CostsWithin}
 use Rattle.sedpass.specs.Table.{IsAhead, SameShape}
-use Rattle.sedtext.specs.Costs.{CostsWithin}
 use Rattle.sedpass.proofs.search.try_all.Given as goal
 
 abbrev pub invariant-loop-start : goal.invariant-loop-start

@@ -1,10 +1,5 @@
 use Rattle.std.proofs.Common.{◌≡◌, ◌<◌, ◌≤◌, ◌∙◌, refl, ap, sym, Some, subst, arith, slice_get, length}
-use Rattle.std.proofs.lemmas.Option.{slice_get_read}
-use Rattle.sedre.specs.Arena.{IsArena}
-use Rattle.sedre.specs.Tree.{WrittenExpression}
-use Rattle.sedre.specs.Mirror.{seen}
-use Rattle.sedre.proofs.MirrorLemmas.{seen-arena, seen-node}
-use Rattle.sedtext.proofs.NodeLemmas.{parts_below}
+use Rattle.sedpass.proofs.Words.{slice_get_read, IsArena, WrittenExpression, seen, seen-arena, seen-node, parts_below}
 use Rattle.sedpass.specs.Prepared.{Held}
 use Rattle.sedpass.proofs.arena.Arena.look.Goals as goal
 

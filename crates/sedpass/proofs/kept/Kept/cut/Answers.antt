@@ -1,13 +1,10 @@
 use Rattle.std.proofs.Common.{◌≡◌, ◌-◌, ◌*◌, ◌<◌, ◌≤◌, ◌↔◌, ⊎_elim, refl, sym, subst, IsTrue, arith, length}
-use Rattle.std.proofs.lemmas.Bool.{cases_lt}
-use Rattle.sedre.specs.Steps.{TakesAtLeast}
-use Rattle.sedtext.specs.Reach.{one_start}
+use Rattle.sedpass.proofs.Words.{cases_lt, TakesAtLeast, one_start, least_none, least_both, least_since}
 use Rattle.sedpass.specs.Kept.{KeepsRegion, Meet, ends_told, owed}
 use Rattle.sedpass.specs.Regions.{Meets}
 use Rattle.sedpass.proofs.KeptLemmas.{keeps_same, keeps_then, same_shape, told_as, follows_first, meet_end}
 use Rattle.sedpass.proofs.OwedLemmas.{owed_falls, cut_on, cut_at}
 use Rattle.sedpass.proofs.TableLemmas.{names_offset, names_state}
-use Rattle.sedtext.proofs.CountLemmas.{least_none, least_both, least_since}
 use Rattle.sedpass.proofs.kept.Kept.cut.Goals.{After-meet-reached}
 use Rattle.sedpass.proofs.kept.Kept.cut.Goals as goal
 

@@ -1,8 +1,7 @@
 use Rattle.std.proofs.Common.{◌+◌, ◌-◌, ◌*◌, ◌≤◌, length}
-use Rattle.sedre.specs.Steps.{TakesAtLeast}
+use Rattle.sedpass.proofs.Words.{TakesAtLeast, CostsWithin}
 use Rattle.sedpass.specs.Table.{IsOffset, IsTable, SameShape}
 use Rattle.sedpass.specs.Kept.{Follows, KeepsRegion, Meet, owed}
-use Rattle.sedtext.specs.Costs.{CostsWithin}
 use Rattle.sedpass.proofs.kept.Kept.cut.Given as goal
 
 abbrev pub invariant-loop-place : goal.invariant-loop-place

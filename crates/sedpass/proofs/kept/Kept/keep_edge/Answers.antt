@@ -1,8 +1,23 @@
 use Rattle.std.proofs.Common.{◌≡◌, ◌+◌, ◌-◌, ◌*◌, ◌/◌, ◌^◌, ◌<◌, refl, ◌∙◌, subst, arith, length}
 use Rattle.sedtext.specs.Words.{AgreeBelow, row_of}
-use Rattle.sedpass.specs.Kept.{IsRegion}
-use Rattle.sedpass.proofs.KeptLemmas.{edges_more, edges_none, rows_long}
+use Rattle.sedpass.specs.Kept.{IsRegion, SameSpace}
+use Rattle.sedpass.proofs.KeptLemmas.{edges_more, edges_none, passes_with, rows_long}
 use Rattle.sedpass.proofs.kept.Kept.keep_edge.Goals as goal
+use Rattle.sedpass.proofs.kept.Kept.keep_edge.Goals.{After-store-2}
+
+same : (c : After-store-2) → SameSpace c.args.self.now (record c.args.self.now { edges = c.store-2.new.self })
+same c =
+    let one = c.store.ensures in
+    let two = c.store-2.ensures in
+    record { places = refl; edges = two.len ∙ one.len; marks = rows_long c.args.self.now.edges c.store.new.self c.store-2.new.self one.len two.len one.lens two.lens }
+
+pub returns-clause-passes : goal.returns-clause-passes
+returns-clause-passes c =
+    let space = same (goal.at.returns-clause-passes c).After-store-2 in
+    passes_with c.args.subject.prepared.now c.args.subject.text.now c.args.table.now c.args.self.now c.store-2.new.self _ c.args.place c.args.offset space.edges space.marks c.requires.passes
+
+pub returns-then-place-self-clause-passes : goal.returns-then-place-self-clause-passes
+returns-then-place-self-clause-passes c = c.requires.passes
 
 pub returns-clause-edges : goal.returns-clause-edges
 returns-clause-edges c b after before =
@@ -23,10 +38,7 @@ returns-clause-edges c b after before =
     (λ x low. region.room.blocks x (let g = region.inside in omega arith)) b after before
 
 pub returns-clause-same : goal.returns-clause-same
-returns-clause-same c =
-    let one = c.store.ensures in
-    let two = c.store-2.ensures in
-    record { root = refl; end = refl; space = record { places = refl; edges = two.len ∙ one.len; marks = rows_long c.args.self.now.edges c.store.new.self c.store-2.new.self one.len two.len one.lens two.lens } }
+returns-clause-same c = let space = same (goal.at.returns-clause-same c).After-store-2 in record { root = refl; end = refl; space = record { places = refl; edges = space.edges; marks = space.marks } }
 
 pub returns-then-place-self-clause-edges : goal.returns-then-place-self-clause-edges
 returns-then-place-self-clause-edges c =

@@ -23,6 +23,15 @@ loop-place-init c =
       counts = least_none _ _ (omega arith);
     }
 
+pub keep_edge-requires-clause-passes : goal.keep_edge-requires-clause-passes
+keep_edge-requires-clause-passes c = c.loop-place.invariant.passes
+
+pub keep_edge-requires-clause-edges : goal.keep_edge-requires-clause-edges
+keep_edge-requires-clause-edges c = c.loop-place.invariant.edges
+
+pub pass-offset-requires-clause-passes : goal.pass-offset-requires-clause-passes
+pass-offset-requires-clause-passes c = c.keep_edge.ensures.passes
+
 pub keep_edge-requires-clause-right : goal.keep_edge-requires-clause-right
 keep_edge-requires-clause-right c before =
     let old = c.loop-place.invariant in

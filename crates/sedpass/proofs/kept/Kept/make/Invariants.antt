@@ -1,8 +1,7 @@
 use Rattle.std.proofs.Common.{◌≡◌, ℕ, ◌-◌, ◌*◌, ◌<◌, ◌≤◌, length}
-use Rattle.sedre.specs.Steps.{TakesAtLeast}
+use Rattle.sedpass.proofs.Words.{TakesAtLeast, CostsWithin}
 use Rattle.sedpass.specs.Table.{SameShape}
 use Rattle.sedpass.specs.Kept.{EdgesFrom, PassesDownTo, SameKept}
-use Rattle.sedtext.specs.Costs.{CostsWithin}
 use Rattle.sedpass.proofs.kept.Kept.make.Given as goal
 
 abbrev pub invariant-loop-place : goal.invariant-loop-place

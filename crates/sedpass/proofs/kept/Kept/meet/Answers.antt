@@ -1,9 +1,9 @@
 use Rattle.std.proofs.Common.{rules, ◌≡◌, ◌+◌, ◌<◌, ◌≤◌, refl, sym, ap, ◌∙◌, subst, true≢false, arith, length, slice_index_or}
-use Rattle.std.proofs.lemmas.Bool.{eqb-true, eq-eqb}
+use Rattle.sedpass.proofs.Words.{eqb-true, eq-eqb, least_none, least_both, least_since, least_up, least_counted}
 use Rattle.sedpass.specs.Kept.{Follows, Meet}
-use Rattle.sedpass.proofs.KeptLemmas.{kept_row, same_shape, follows_next, meet_on, meet_read, place_cost}
+use Rattle.sedpass.proofs.KeptLemmas.{kept_row, same_shape, follows_next, meet_on, meet_read, place_cost, keeps_same}
 use Rattle.sedpass.proofs.TableLemmas.{names_offset, names_state}
-use Rattle.sedtext.proofs.CountLemmas.{least_none, least_both, least_since, least_up, least_counted}
+use Rattle.sedpass.proofs.kept.Kept.meet.Goals.{After-index}
 use Rattle.sedpass.proofs.kept.Kept.meet.Goals as goal
 
 pub loop-place-init : goal.loop-place-init
@@ -21,6 +21,15 @@ loop-place-init c = record {
   counts = least_none _ _ (omega arith);
 }
 
+-- the state of the place is in the table, and its number was read
+here : (c : After-index) → (c.args.self.now.region.from ≤ c.loop-place.place) × (c.loop-place.place < c.args.self.now.region.to) × (c.index.result.now ≡ slice_index_or c.args.self.now.states.items c.loop-place.place c.index.result.now)
+here c =
+    let old = c.loop-place.invariant in (
+      (let h = old.above in let g = c.requires.from in omega (arith, h, g)),
+      (let h = ap (λ r. r.to) old.region in let g = c.loop-place-test.true in omega (arith, h, g)),
+      subst (λ v. c.index.result.now ≡ slice_index_or v.items c.loop-place.place c.index.result.now) old.states c.index.ensures,
+    )
+
 pub meets-requires : goal.meets-requires
 meets-requires c =
     let p = c.args.subject.prepared.now in
@@ -29,10 +38,8 @@ meets-requires c =
     let k = c.args.self.now in
     let old = c.loop-place.invariant in
     let place = c.loop-place.place in
-    let above : k.region.from ≤ place = (let h = old.above in let g = c.requires.from in omega (arith, h, g)) in
-    let before : place < k.region.to = (let h = ap (λ r. r.to) old.region in let g = c.loop-place-test.true in omega (arith, h, g)) in
-    let read = subst (λ v. c.index.result.now ≡ slice_index_or v.items place c.index.result.now) old.states c.index.ensures in
-    let row = kept_row p w t k place c.index.result.now c.requires.kept above before read in
+    let there = here (goal.at.meets-requires c).After-index in
+    let row = kept_row p w t k place c.index.result.now c.requires.kept there.0 there.1 there.2 in
     let count = c.nodes-nodes.ensures.value in
     record {
       row = search rules;
@@ -40,6 +47,16 @@ meets-requires c =
       inside = search rules;
       there = omega (arith, row.1, count);
     }
+
+pub returns-then-not-meets-clause-keeps : goal.returns-then-not-meets-clause-keeps
+returns-then-not-meets-clause-keeps c =
+    let old = c.loop-place.invariant in
+    keeps_same c.args.subject.prepared.now c.args.subject.text.now c.args.table.now c.args.self.now c.loop-place.self old.region old.states old.edges c.requires.kept
+
+pub returns-clause-keeps : goal.returns-clause-keeps
+returns-clause-keeps c =
+    let old = c.loop-place.invariant in
+    keeps_same c.args.subject.prepared.now c.args.subject.text.now c.args.table.now c.args.self.now c.loop-place.self old.region old.states old.edges c.requires.kept
 
 pub returns-then-not-meets-clause-meets : goal.returns-then-not-meets-clause-meets
 returns-then-not-meets-clause-meets c a i low start follows =
@@ -49,12 +66,10 @@ returns-then-not-meets-clause-meets c a i low start follows =
     let k = c.args.self.now in
     let old = c.loop-place.invariant in
     let place = c.loop-place.place in
-    let above : k.region.from ≤ place = (let h = old.above in let g = c.requires.from in omega (arith, h, g)) in
-    let before : place < k.region.to = (let h = ap (λ r. r.to) old.region in let g = c.loop-place-test.true in omega (arith, h, g)) in
-    let read = subst (λ v. c.index.result.now ≡ slice_index_or v.items place c.index.result.now) old.states c.index.ensures in
+    let there = here (goal.at.returns-then-not-meets-clause-meets c).After-index in
     let on = old.meets a i low start follows in
-    let tells = meet_read p w t c.loop-place.ahead k a i place c.loop-place.offset c.nodes-nodes.result c.state_at.result c.index.result.now c.meets.result c.requires.kept above before on.0
-    c.nodes-nodes.ensures.value c.state_at.ensures read c.meets.ensures.meets in
+    let tells = meet_read p w t c.loop-place.ahead k a i place c.loop-place.offset c.nodes-nodes.result c.state_at.result c.index.result.now c.meets.result c.requires.kept there.0 there.1 on.0
+    c.nodes-nodes.ensures.value c.state_at.ensures there.2 c.meets.ensures.meets in
     (on.0, on.1, λ under met. true≢false (sym (tells.1 met) ∙ c.if-not-meets.true))
 
 pub returns-then-not-meets-clause-counts : goal.returns-then-not-meets-clause-counts
@@ -68,9 +83,7 @@ loop-place-preserved c =
     let k = c.args.self.now in
     let old = c.loop-place.invariant in
     let place = c.loop-place.place in
-    let above : k.region.from ≤ place = (let h = old.above in let g = c.requires.from in omega (arith, h, g)) in
-    let before : place < k.region.to = (let h = ap (λ r. r.to) old.region in let g = c.loop-place-test.true in omega (arith, h, g)) in
-    let read = subst (λ v. c.index.result.now ≡ slice_index_or v.items place c.index.result.now) old.states c.index.ensures in
+    let there = here (goal.at.loop-place-preserved c).After-index in
     let m = length p.arena.expr.nodes in
     let next = c.next-code.ensures in
     let some : 1 ≤ m = (let h = c.requires.kept.region.root.0 in omega (arith, h)) in
@@ -80,7 +93,7 @@ loop-place-preserved c =
     let one = ap (λ v. v.all_starts) old.shape.0 ∙ c.requires.forwards.1 in
     record {
       above = (let h = old.above in omega (arith, h));
-      below = (let h = ap (λ r. r.to) old.region in omega (arith, h, before));
+      below = (let h = ap (λ r. r.to) old.region in omega (arith, h, there.1));
       region = old.region;
       states = old.states;
       edges = old.edges;
@@ -89,8 +102,8 @@ loop-place-preserved c =
       offset = names_offset p c.next-code.new.self next.codes.table _ _ _ next.codes.names c.offset_of-offset.ensures;
       meets = λ a i low start follows.
           let on = old.meets a i low start follows in
-          let tells = meet_read p w t c.loop-place.ahead k a i place c.loop-place.offset c.nodes-nodes.result c.state_at.result c.index.result.now c.meets.result c.requires.kept above before on.0
-          c.nodes-nodes.ensures.value c.state_at.ensures read c.meets.ensures.meets in (
+          let tells = meet_read p w t c.loop-place.ahead k a i place c.loop-place.offset c.nodes-nodes.result c.state_at.result c.index.result.now c.meets.result c.requires.kept there.0 there.1 on.0
+          c.nodes-nodes.ensures.value c.state_at.ensures there.2 c.meets.ensures.meets in (
             follows_next p w c.loop-place.ahead c.next-code.new.self a i place c.byte-byte.result c.loop-place.offset c.offset_of-offset.result _ front one next.codes.adds.shape (let h = old.above in omega (arith, h, start)) c.byte-byte.ensures.byte
                 (λ h. eqb-true (place + 1) c.len-length.result h ∙ last, λ e. eq-eqb (place + 1) c.len-length.result (e ∙ sym last))
                 (names_state p c.next-code.new.self next.codes.table _ _ _ next.codes.names c.offset_of-offset.ensures) on.0,

@@ -1,7 +1,6 @@
 use Rattle.std.proofs.Common.{◌≡◌, ◌+◌, ◌-◌, ◌*◌, ◌<◌, ◌≤◌, length}
-use Rattle.sedre.specs.Steps.{TakesAtLeast}
+use Rattle.sedpass.proofs.Words.{TakesAtLeast, CostsWithin}
 use Rattle.sedpass.specs.Kept.{ComesDown}
-use Rattle.sedtext.specs.Costs.{CostsWithin}
 use Rattle.sedpass.proofs.kept.Kept.pass.Given as goal
 
 abbrev pub invariant-loop-place : goal.invariant-loop-place

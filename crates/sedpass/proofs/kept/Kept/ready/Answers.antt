@@ -1,8 +1,16 @@
-use Rattle.std.proofs.Common.{◌+◌, ◌-◌, ◌*◌, ◌/◌, ◌<◌, ◌≤◌, ◌⊎◌, inl, inr, arith, length}
+use Rattle.std.proofs.Common.{◌+◌, ◌-◌, ◌*◌, ◌/◌, ◌<◌, ◌≤◌, ◌⊎◌, inl, inr, arith, length, refl}
 use Rattle.std.proofs.Math.Nat.{lt-div-mul-add}
 use Rattle.sedpass.proofs.OwedLemmas.{owed_made, owed_again, owed_left}
 use Rattle.sedpass.proofs.kept.Kept.ready.Goals.{then-place-self, else-place-self+then-place-self-2, then-place-self-2-via-then-place-self-2, then-place-self-2-via-else-place-self-2+then-self-place, else-place-self+else-place-self-2+else-self-place}
+use Rattle.sedpass.proofs.KeptLemmas.{keeps_same}
 use Rattle.sedpass.proofs.kept.Kept.ready.Goals as goal
+
+pub returns-clause-keeps : goal.returns-clause-keeps
+returns-clause-keeps c = elim c.if-place-self.branch [
+  | then-place-self w ↦ rw (w.self-is, w.table-is) w.make.ensures.keeps
+  | else-place-self+then-place-self-2 w ↦ rw (w.self-is, w.table-is) w.remake.ensures.keeps
+  | else-place-self+else-place-self-2+else-self-place w ↦ rw (w.self-is, w.table-is) (keeps_same c.args.subject.prepared.now c.args.subject.text.now c.args.table.now c.args.self.now c.args.self.now refl refl refl c.requires.kept)
+]
 
 pub returns-clause-cost : goal.returns-clause-cost
 returns-clause-cost c =

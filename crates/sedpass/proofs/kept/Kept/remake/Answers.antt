@@ -1,10 +1,8 @@
 use Rattle.std.proofs.Common.{◌≡◌, ◌+◌, ◌-◌, ◌*◌, ◌/◌, ◌<◌, ◌≤◌, refl, sym, ap, ◌∙◌, subst, arith, length}
-use Rattle.std.proofs.Math.Nat.{div-mul-le_self, lt-div-mul-add}
-use Rattle.sedre.specs.Steps.{TakesAtLeast}
+use Rattle.sedpass.proofs.Words.{div-mul-le_self, lt-div-mul-add, TakesAtLeast, least_since}
 use Rattle.sedpass.specs.Kept.{EdgesFrom, again}
-use Rattle.sedpass.proofs.KeptLemmas.{added_few, edges_same, kept_passed, same_shape, same_by, same_kept}
+use Rattle.sedpass.proofs.KeptLemmas.{added_few, edges_same, kept_passed, passes_first, region_kept, same_by, same_kept, same_shape}
 use Rattle.sedpass.proofs.OwedLemmas.{again_cost}
-use Rattle.sedtext.proofs.CountLemmas.{least_since}
 use Rattle.sedpass.proofs.kept.Kept.remake.Goals as goal
 
 pub edge_state-offset-requires-clause-edge : goal.edge_state-offset-requires-clause-edge
@@ -15,6 +13,19 @@ edge_state-offset-requires-clause-edge c before =
     let low = c.requires.low in
     let shape = c.empty.ensures.shape in
     rw (shape.0, shape.1) (omega (arith, before), c.requires.kept.edges (c.args.place / width) (omega (arith, low, after)) (omega (arith, before)))
+
+pub edge_state-offset-requires-clause-region : goal.edge_state-offset-requires-clause-region
+edge_state-offset-requires-clause-region c =
+    let k = c.args.self.now in
+    let region = c.requires.kept.region in
+    region_kept c.args.subject.prepared.now c.args.subject.text.now c.args.table.now c.empty.new.self k k c.empty.ensures.shape c.empty.ensures.table refl refl refl refl refl region.within region
+
+pub pass-requires-clause-passes : goal.pass-requires-clause-passes
+pass-requires-clause-passes c =
+    let first = c.edge_state-offset.ensures in
+    passes_first c.args.subject.prepared.now c.args.subject.text.now c.args.table.now c.edge_state-offset.new.table c.args.self.now _ c.min-to.result c.edge_state-offset.result c.requires.kept.region
+    (same_shape c.args.table.now c.empty.new.self c.edge_state-offset.new.table c.empty.ensures.shape first.adds.shape) first.table first.states first.edges (ap (λ r. r.root) first.region) (ap (λ r. r.end) first.region) refl (omega arith)
+    first.there first.at
 
 pub pass-requires-clause-order : goal.pass-requires-clause-order
 pass-requires-clause-order c =

@@ -1,10 +1,9 @@
 use Rattle.std.proofs.Common.{◌≡◌, ◌-◌, refl, subst, ◌↔◌, IsTrue, arith, length, not}
-use Rattle.sedre.specs.Steps.{TakesAtLeast}
+use Rattle.sedpass.proofs.Words.{TakesAtLeast, least_none, least_both, least_since}
 use Rattle.sedpass.specs.Kept.{AllMarked, KeepsRegion, ends_told, owed}
 use Rattle.sedpass.proofs.KeptLemmas.{keeps_same, keeps_then, marked_then, told_as}
 use Rattle.sedpass.specs.Regions.{ReachesEnd}
 use Rattle.sedpass.proofs.OwedLemmas.{owed_falls, seek_at, seek_on}
-use Rattle.sedtext.proofs.CountLemmas.{least_none, least_both, least_since}
 use Rattle.sedpass.proofs.kept.Kept.seek.Goals.{After-seek_in-found}
 use Rattle.sedpass.proofs.kept.Kept.seek.Goals as goal
 

@@ -1,9 +1,8 @@
 use Rattle.std.proofs.Common.{◌≡◌, ◌<◌, ◌↔◌, sym, ap, ◌∙◌, subst, IsTrue, arith, false}
-use Rattle.sedtext.specs.Reach.{At, one_start}
+use Rattle.sedpass.proofs.Words.{At, one_start, least_counted, least_since}
 use Rattle.sedpass.specs.Regions.{IsLastIn}
 use Rattle.sedpass.proofs.LeaveLemmas.{last_inside}
 use Rattle.sedpass.proofs.KeptLemmas.{kept_row, mark_spans}
-use Rattle.sedtext.proofs.CountLemmas.{least_counted, least_since}
 use Rattle.sedpass.proofs.kept.Kept.spans.Goals as goal
 
 pub is_null-requires : goal.is_null-requires

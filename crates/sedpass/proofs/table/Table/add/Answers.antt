@@ -1,10 +1,7 @@
 use Rattle.std.proofs.Common.{rules, ◌≡◌, ℕ, ◌+◌, ◌*◌, ◌%◌, ◌^◌, ◌<◌, ◌∙◌, ◌↔◌, length, length-set, mul-le-mul_left, ◌≤◌, IsTrue, refl, sym, ap, subst, arith, slice_index_or, false}
-use Rattle.std.specs.Vec.{with_item}
-use Rattle.sedtext.specs.Words.{AgreeBelow, row_of}
+use Rattle.sedpass.proofs.Words.{with_item, AgreeBelow, row_of, Flags, Table}
 use Rattle.sedpass.specs.Rows.{bits}
 use Rattle.sedpass.specs.Table.{State, IsTold, HasRow, AddsStates, HasRoom, cell_of, stops, code_of}
-use Rattle.sedpass.specs.declared.cells.Flags.{Flags}
-use Rattle.sedpass.specs.declared.table.Table.{Table}
 use Rattle.sedpass.proofs.RowLemmas.{bits_here}
 use Rattle.sedpass.proofs.TableLemmas.{shifted, one_shifted, few_offset, cell_inside, bits_dead, state, state_added, state_adds, one_more}
 use Rattle.sedpass.proofs.table.Table.add.Goals as goal

@@ -1,9 +1,8 @@
 use Rattle.std.proofs.Common.{◌*◌, ◌/◌, ◌^◌, ◌<◌, ◌∙◌, false, length, ap, inl, inr, arith, slice_index_or}
-use Rattle.std.specs.Option.{option_or}
+use Rattle.sedpass.proofs.Words.{option_or, get_or_default}
 use Rattle.sedpass.specs.Table.{state_of, stops}
 use Rattle.sedpass.proofs.TableLemmas.{code_some, names_offset}
 use Rattle.sedpass.proofs.ForwardLemmas.{arrive_plain, arrive_low}
-use Rattle.std.proofs.lemmas.List.{get_or_default}
 use Rattle.sedpass.proofs.table.Table.arrive.Goals as goal
 
 pub offset_of-offset-requires : goal.offset_of-offset-requires

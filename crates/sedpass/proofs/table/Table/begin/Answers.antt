@@ -1,10 +1,7 @@
 use Rattle.std.proofs.Common.{length, refl, sym, subst}
-use Rattle.std.specs.Vec.{with_item}
+use Rattle.sedpass.proofs.Words.{with_item, Way, Beginning, Table}
 use Rattle.sedpass.specs.Rows.{nodes_of}
 use Rattle.sedpass.specs.Table.{AddsStates, BeginsIn, IsTable, MayBegin, Names}
-use Rattle.sedpass.specs.declared.rows.Way.{Way}
-use Rattle.sedpass.specs.declared.table.Beginning.{Beginning}
-use Rattle.sedpass.specs.declared.table.Table.{Table}
 use Rattle.sedpass.proofs.TableLemmas.{adds_same, adds_then, names_first, names_more, note_beginning}
 use Rattle.sedpass.proofs.table.Table.begin.Goals as goal
 

@@ -1,13 +1,29 @@
-use Rattle.std.proofs.Common.{Bool, ◌+◌, ◌<◌, length, refl, arith}
-use Rattle.std.specs.Vec.{with_item}
-use Rattle.sedre.specs.Steps.{TakesAtLeast}
+use Rattle.std.proofs.Common.{Bool, ◌+◌, ◌<◌, length, refl, arith, ◌*◌, ◌/◌, ◌^◌, ◌≡◌, ◌≤◌}
+use Rattle.sedpass.proofs.Words.{with_item, TakesAtLeast, Takes, Table, least_counted, least_up}
 use Rattle.sedpass.specs.Rows.{nodes_of}
 use Rattle.sedpass.specs.Table.{AddsStates, IsNext, IsOffset, LeadsOn, Names}
-use Rattle.sedpass.specs.declared.table.Table.{Table}
-use Rattle.sedpass.proofs.TableLemmas.{adds_same, adds_then, cell_there, names_anywhere, names_leads, names_more, names_moved, note_cell, offset_more}
-use Rattle.sedtext.proofs.CountLemmas.{least_counted, least_up}
+use Rattle.sedpass.proofs.TableLemmas.{adds_same, adds_then, cell_there, names_anywhere, names_leads, names_more, names_moved, note_cell, offset_more, root_read}
 use Rattle.sedpass.proofs.table.Table.fill.Goals.{After-intern-next, In-Some}
 use Rattle.sedpass.proofs.table.Table.fill.Goals as goal
+
+pub intern-next-requires-clause-root : goal.intern-next-requires-clause-root
+intern-next-requires-clause-root c =
+    let t = c.args.self.now in
+    let is = root_read c.args.prepared.now t c.requires.table c.args.offset c.state_at-state.result c.index-root.result.now c.requires.offset c.state_at-state.ensures c.index-root.ensures in
+    omega (arith, is, c.requires.table.roots (c.args.offset / 2 ^ t.layout.shift) c.requires.offset.0)
+
+cost : (c : After-intern-next) → Takes c.args.steps.now c.intern-next.new.steps (33 * length c.args.prepared.now.arena.expr.nodes)
+cost c =
+    let load = c.load.ensures.cost in
+    let step = c.step.ensures.cost in
+    let next = c.intern-next.ensures.cost in
+    (omega (arith, load.0, step.0, next.0), omega (arith, c.requires.table.expr.arena.nonempty, c.nodes.ensures.value, load.1, step.1, next.1))
+
+pub returns-in-Some-clause-cost : goal.returns-in-Some-clause-cost
+returns-in-Some-clause-cost c = cost (goal.at.returns-in-Some-clause-cost c).After-intern-next
+
+pub returns-else-self-epoch-clause-cost : goal.returns-else-self-epoch-clause-cost
+returns-else-self-epoch-clause-cost c = cost (goal.at.returns-else-self-epoch-clause-cost c).After-intern-next
 
 -- the next state is the one that the byte leads to
 leads : (c : After-intern-next) → Names (length c.args.prepared.now.arena.expr.nodes) c.intern-next.new.self (IsNext c.args.prepared.now c.args.self.now c.args.offset c.args.byte c.args.edge) c.intern-next.result

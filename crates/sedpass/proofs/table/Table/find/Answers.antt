@@ -1,7 +1,6 @@
 use Rattle.std.proofs.Common.{◌+◌, ◌*◌, ◌<◌, ◌≤◌, ◌∙◌, length, sym, subst, arith, mul-le-mul_left}
-use Rattle.sedtext.specs.Words.{AgreeBelow, row_of}
+use Rattle.sedpass.proofs.Words.{AgreeBelow, row_of, get_or_default}
 use Rattle.sedpass.proofs.RowLemmas.{bits_agree}
-use Rattle.std.proofs.lemmas.List.{get_or_default}
 use Rattle.sedpass.proofs.table.Table.find.Goals as goal
 
 pub returns-in-loop-at-clause-has : goal.returns-in-loop-at-clause-has

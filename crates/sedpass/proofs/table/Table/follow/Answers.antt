@@ -1,8 +1,7 @@
 use Rattle.std.proofs.Common.{◌+◌, ◌-◌, ◌*◌, ◌≤◌, refl, sym, ap, subst, arith}
 use Rattle.sedpass.specs.Forwards.{PassIs}
-use Rattle.sedpass.specs.declared.forwards.Passed.{Passed}
+use Rattle.sedpass.proofs.Words.{Passed, least_counted, counted_twice}
 use Rattle.sedpass.proofs.ForwardLemmas.{follows_on}
-use Rattle.sedtext.proofs.CountLemmas.{least_counted, counted_twice}
 use Rattle.sedpass.proofs.table.Table.follow.Goals.{else-loop-place-test, then-loop-place-test+then-cell-eq0, then-loop-place-test+else-cell-eq0+then-at}
 use Rattle.sedpass.proofs.table.Table.follow.Goals as goal
 

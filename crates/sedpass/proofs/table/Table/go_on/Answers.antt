@@ -1,11 +1,9 @@
 use Rattle.std.proofs.Common.{◌≡◌, ◌+◌, ◌-◌, ◌*◌, ◌/◌, ◌^◌, ◌≤◌, false, length, sym, subst, arith, nat_eq}
-use Rattle.std.proofs.lemmas.Bool.{eqb-true, eq-eqb}
+use Rattle.sedpass.proofs.Words.{eqb-true, eq-eqb, Way, least_counted, least_both}
 use Rattle.sedpass.specs.Rows.{nodes_of}
 use Rattle.sedpass.specs.Table.{state_of, LeadsOn}
-use Rattle.sedpass.specs.declared.rows.Way.{Way}
 use Rattle.sedpass.proofs.TableLemmas.{names_map}
 use Rattle.sedpass.proofs.ForwardLemmas.{goes_on, over_cost, fill_cost}
-use Rattle.sedtext.proofs.CountLemmas.{least_counted, least_both}
 use Rattle.sedpass.proofs.table.Table.go_on.Goals as goal
 
 pub arrive-requires-clause-code : goal.arrive-requires-clause-code

@@ -1,9 +1,7 @@
 use Rattle.std.proofs.Common.{◌*◌, ◌%◌, ◌^◌, ◌<◌, ◌∙◌, false, length, ap, subst, arith, slice_index_or}
-use Rattle.sedre.specs.Steps.{TakesAtLeast}
+use Rattle.sedpass.proofs.Words.{TakesAtLeast, get_or_default, least_up}
 use Rattle.sedpass.specs.Table.{stops, code_of}
 use Rattle.sedpass.proofs.TableLemmas.{adds_none, few_offset, shifted}
-use Rattle.std.proofs.lemmas.List.{get_or_default}
-use Rattle.sedtext.proofs.CountLemmas.{least_up}
 use Rattle.sedpass.proofs.table.Table.intern.Goals as goal
 
 pub code_of-requires : goal.code_of-requires

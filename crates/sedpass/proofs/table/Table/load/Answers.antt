@@ -1,11 +1,9 @@
 use Rattle.std.proofs.Common.{◌+◌, ◌*◌, ◌∙◌, length, refl, subst, arith}
-use Rattle.sedre.specs.Steps.{TakesAtLeast}
-use Rattle.sedtext.specs.Words.{AgreeBelow, row_of}
+use Rattle.sedpass.proofs.Words.{TakesAtLeast, AgreeBelow, row_of, least_counted, counted_twice, least_up}
 use Rattle.sedpass.specs.Rows.{bits}
 use Rattle.sedpass.specs.Table.{HasRow}
 use Rattle.sedpass.proofs.RowLemmas.{bits_agree}
 use Rattle.sedpass.proofs.TableLemmas.{codes_map}
-use Rattle.sedtext.proofs.CountLemmas.{least_counted, counted_twice, least_up}
 use Rattle.sedpass.proofs.table.Table.load.Goals as goal
 
 pub returns-clause-codes : goal.returns-clause-codes

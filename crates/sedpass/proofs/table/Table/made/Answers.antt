@@ -1,6 +1,5 @@
 use Rattle.std.proofs.Common.{◌≡◌, ◌*◌, ◌^◌, ◌≤◌, ◌%◌, length, refl, ap, subst, arith}
-use Rattle.std.proofs.lemmas.Nat.{shl_whole}
-use Rattle.sedpass.specs.declared.table.Table.{Table}
+use Rattle.sedpass.proofs.Words.{shl_whole, Table}
 use Rattle.sedpass.specs.Table.{HasRoom}
 use Rattle.sedpass.proofs.TableLemmas.{made_roomy, no_states, none_noted}
 use Rattle.sedpass.proofs.table.Table.made.Goals as goal
@@ -50,8 +49,8 @@ returns c =
       early = λ i. let zero = noted i in omega (arith, zero);
     } in
     record {
-      table = λ p expr laid nodes. no_states p T expr (subst (λ n. HasRoom n T) nodes has) laid refl (λ i. let zero = noted i in omega (arith, zero));
-      roomy = λ wide. (made_roomy c.args.nodes T has (omega (arith, shifted, ap (λ s. c.args.room * 2 ^ s) wide)), refl, refl);
       way = refl;
       room = refl;
+      serves = λ p expr laid nodes. no_states p T expr (subst (λ n. HasRoom n T) nodes has) laid refl (λ i. let zero = noted i in omega (arith, zero));
+      roomy = λ wide. made_roomy c.args.nodes T has (omega (arith, shifted, ap (λ s. c.args.room * 2 ^ s) wide));
     }

@@ -1,12 +1,10 @@
 use Rattle.std.proofs.Common.{◌≡◌, ◌+◌, ◌-◌, ◌*◌, ◌∙◌, false, length, sym, ap, subst, inl, inr, arith}
-use Rattle.std.proofs.lemmas.Bool.{not-false}
+use Rattle.sedpass.proofs.Words.{not-false, Way, least_less, least_both}
 use Rattle.sedpass.specs.Rows.{nodes_of}
 use Rattle.sedpass.specs.Table.{BeginsIn, Names}
 use Rattle.sedpass.specs.Forwards.{Arrives}
-use Rattle.sedpass.specs.declared.rows.Way.{Way}
 use Rattle.sedpass.proofs.TableLemmas.{names_map}
 use Rattle.sedpass.proofs.ForwardLemmas.{arrives_first, end_below, none_before, run_longest, run_found, run_passes}
-use Rattle.sedtext.proofs.CountLemmas.{least_less, least_both}
 use Rattle.sedpass.proofs.table.Table.run.Goals as goal
 
 pub loop-at-init : goal.loop-at-init

@@ -1,8 +1,7 @@
 use Rattle.std.proofs.Common.{◌+◌, ◌-◌, ◌*◌, length}
-use Rattle.sedre.specs.Steps.{TakesAtLeast}
+use Rattle.sedpass.proofs.Words.{TakesAtLeast, CostsWithin}
 use Rattle.sedpass.specs.Table.{IsTable, IsOffset, SameShape}
 use Rattle.sedpass.specs.Forwards.{PassIs}
-use Rattle.sedtext.specs.Costs.{CostsWithin}
 use Rattle.sedpass.proofs.table.Table.run.Given as goal
 
 abbrev pub invariant-loop-at : goal.invariant-loop-at

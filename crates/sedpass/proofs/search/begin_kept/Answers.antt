@@ -1,0 +1,22 @@
+use Rattle.std.proofs.Common.{◌-◌, ◌*◌, ◌≤◌, refl, subst, sym, length, arith}
+use Rattle.sedpass.specs.Kept.{owed}
+use Rattle.sedpass.proofs.KeptLemmas.{space_same}
+use Rattle.sedpass.proofs.SearchLemmas.{unbegun}
+use Rattle.sedpass.proofs.search.begin_kept.Goals as goal
+
+pub returns-then-not-seeking-clause-owed : goal.returns-then-not-seeking-clause-owed
+returns-then-not-seeking-clause-owed c place low =
+    let m = length c.args.subject.prepared.now.arena.expr.nodes in
+    let n = length c.args.subject.text.now in
+    let r = c.begin.new.self.region in
+    let owed_is : owed m r place ≤ 100 * m * (n - place) = rw c.len-length.ensures.is at (c.begin.ensures.owed place (rw c.len-length.ensures.is low)) in
+    omega (arith, owed_is, unbegun m n c.args.seeking.now place c.if-not-seeking.true)
+
+pub returns-else-not-seeking-clause-kept : goal.returns-else-not-seeking-clause-kept
+returns-else-not-seeking-clause-kept c = c.requires.kept c.if-not-seeking.false
+
+pub returns-else-not-seeking-clause-space : goal.returns-else-not-seeking-clause-space
+returns-else-not-seeking-clause-space c = space_same c.args.seeking.now.kept
+
+pub returns-else-not-seeking-clause-owed : goal.returns-else-not-seeking-clause-owed
+returns-else-not-seeking-clause-owed c place low = omega arith
