@@ -1,16 +1,35 @@
 -- How calls that follow one another leave what they were given.
-use Rattle.std.proofs.Common.{ℕ, List, Option, Result, Ok, refl}
+use Rattle.std.proofs.Common.{◌≡◌, ℕ, ◌+◌, ◌≤◌, ◌<◌, Bool, true, false, List, [], ◌∷◌, Option, Result, Ok, Err, refl, ap, arith}
 use Rattle.std.specs.Borrow.{GName}
 use Rattle.std.proofs.KnownBytes.{Keeps-refl, Keeps-trans}
 use Rattle.sedspace.specs.Stream.{Stream}
-use Rattle.sedengine.specs.Calls.{Delivers, ReadsLines}
+use Rattle.std.specs.Prelude.{OnOk}
+use Rattle.sedengine.specs.State.{Entry, do_at}
+use Rattle.sedengine.specs.Choose.{reached_with}
+use Rattle.sedengine.specs.Calls.{Delivers, NamesNone, Puts, ReadsLines}
 use Rattle.sedengine.specs.Meters.{SinkView}
 use Rattle.sedengine.specs.Run.{SameRun, RunState}
-use Rattle.sedengine.specs.Steps.{LeavesGiven, LeavesLines}
+use Rattle.sedengine.specs.Holding.{BecomesOrFull}
+use Rattle.sedengine.specs.Bringing.{brought}
+use Rattle.sedengine.specs.Inside.{run_of}
+use Rattle.sedengine.specs.Queueing.{QueuesOrFull, flushed, with_turns}
+use Rattle.sedengine.specs.Steps.{LeavesGiven, LeavesLines, costs, weight}
+use Rattle.sedspace.specs.declared.lines.Got.{Got}
+use Rattle.sedspace.specs.declared.lines.Got.TheVariants.{End, Line}
 use Rattle.sedengine.specs.declared.ends.Ended.{Ended}
-use Rattle.sedengine.proofs.Runs.{SameRun-then}
+use Rattle.sedengine.specs.declared.machine.Machine.TheInside.{Inside}
+use Rattle.sedengine.specs.declared.ends.Ended.TheVariants.{HoldFull, InputBroken, PatternFull, QueueFull}
+use Rattle.sedengine.proofs.Acts.{tested}
+use Rattle.sedengine.proofs.Holding.{holding}
+use Rattle.sedengine.proofs.Runs.{SameRun-then, same_seen}
 use Rattle.sedengine.proofs.Streams.{ReadsLines-none, ReadsLines-then, ReadsLines-unread}
-use Rattle.sedengine.proofs.Writing.{Delivers-none, Delivers-then}
+use Rattle.sedengine.proofs.Writing.{Delivers-none, Delivers-quiet, Delivers-then}
+
+-- a call that wrote names no source
+puts_unread : (old new : SinkView) (out : List (ℕ × ℕ)) (r : Result Unit Ended) → Puts old new out r → r ≡ Err InputBroken → ⊥
+puts_unread old new out (Ok u) h is = cc
+puts_unread old new out (Err InputBroken) h is = let named = h.3 in cc
+puts_unread old new out (Err other) h is = cc
 
 module _ {R O T : Type 0} {remaining : R → Option (List ℕ)} {failures : R → ℕ} {reference : R → List GName} {tally : O → SinkView} {count : O → ℕ} {text : T → ℕ → Option (List ℕ)} where
   pub leaves_none : {e : RunState} {l : Stream R} {o : O} {t : T} → LeavesLines remaining failures reference tally count text e e l l o o t t (Ok tt)
@@ -33,3 +52,112 @@ module _ {R O T : Type 0} {remaining : R → Option (List ℕ)} {failures : R �
   pub leaves_texts : {e e' : RunState} {l l' : Stream R} {o o' : O} {t : T} {r : Result Unit Ended} → ReadsLines remaining failures reference l l' r → Delivers tally count o o' r → SameRun e e' →
       LeavesLines remaining failures reference tally count text e e' l l' o o' t t r
   leaves_texts input output same = record { input = input; output = output; same = same; kept = λ j. Keeps-refl _ }
+
+-- Of calls that act without a line: how they leave what they were given.
+module _ {O T : Type 0} {tally : O → SinkView} {count : O → ℕ} {text : T → ℕ → Option (List ℕ)} where
+  -- one that writes nothing
+  pub leaves_quiet : {e e' : RunState} {o : O} {t : T} {r : Result Unit Ended} → NamesNone r → SameRun e e' → LeavesGiven tally count text e e' o o t t r
+  leaves_quiet h same = record { devices = record { output = Delivers-quiet _ _ _ _ h.output; input = h.input }; same = same; kept = λ j. Keeps-refl _ }
+
+  -- one that cannot fail
+  pub leaves_made : {e e' : RunState} {o : O} {t : T} → SameRun e e' → LeavesGiven tally count text e e' o o t t (Ok tt)
+  leaves_made same = leaves_quiet (record { output = tt; input = λ is. cc }) same
+
+  -- one that ends the run where it stands
+  pub leaves_stopped : {e : RunState} {o : O} {t : T} {end : Ended} → NamesNone {T = Unit {0}} (Err end) → LeavesGiven tally count text e e o o t t (Err end)
+  leaves_stopped h = leaves_quiet h (record { script = refl; limits = refl })
+
+  -- one that writes alone
+  pub leaves_written : (e : RunState) (o o' : O) (t : T) (out : List (ℕ × ℕ)) (r : Result Unit Ended) → Puts (tally o) (tally o') out r → Delivers tally count o o' r → LeavesGiven tally count text e e o o' t t r
+  leaves_written e o o' t out r put h = record { devices = record { output = h; input = puts_unread _ _ out r put }; same = record { script = refl; limits = refl }; kept = λ j. Keeps-refl _ }
+
+  -- a call on an engine of the same script and limits, made of the fields a
+  pub leaves_seen : (a : Inside) (e e1 : RunState) {e' : RunState} {o o' : O} {t t' : T} {r : Result Unit Ended} → run_of a ≡ e → e1.script ≡ a.script → e1.limits ≡ a.limits → LeavesGiven tally count text e1 e' o o' t t' r → LeavesGiven tally count text e e' o o' t t' r
+  leaves_seen a e e1 seen script limits h = record { devices = h.devices; same = SameRun-then (same_seen a e e1 seen script limits) h.same; kept = h.kept }
+
+  -- one that wrote before it
+  pub leaves_after : {e e' : RunState} {o1 o2 o3 : O} {t t' : T} {r : Result Unit Ended} → Delivers tally count o1 o2 (Ok tt) → LeavesGiven tally count text e e' o2 o3 t t' r → LeavesGiven tally count text e e' o1 o3 t t' r
+  leaves_after first h = record { devices = record { output = Delivers-then _ _ _ _ _ _ first h.devices.output; input = h.devices.input }; same = h.same; kept = h.kept }
+
+-- what an entry of the queue changes
+queued : (e e' : RunState) (entry : Entry) (r : Result Unit Ended) → QueuesOrFull e e' entry r → NamesNone r × SameRun e e' × (weight e' ≤ weight e + 8)
+queued e e' entry (Ok u) (same, room) = rw same (record { output = tt; input = λ is. cc }, record { script = refl; limits = refl }, omega arith)
+queued e e' entry (Err (QueueFull n)) (same, number, full) = rw same (record { output = tt; input = λ is. cc }, record { script = refl; limits = refl }, omega arith)
+queued e e' entry (Err other) h = absurd h
+
+-- what new contents of the spaces change
+grown : (e e' : RunState) (pattern hold : List ℕ) (r : Result Unit Ended) → BecomesOrFull e (holding e pattern hold) e' r → NamesNone r × SameRun e e' × (weight e' ≤ weight e + 8)
+grown e e' pattern hold (Ok u) (same, short, short') = rw same (record { output = tt; input = λ is. cc }, record { script = refl; limits = refl }, omega arith)
+grown e e' pattern hold (Err (PatternFull n)) (same, number, more) = rw same (record { output = tt; input = λ is. cc }, record { script = refl; limits = refl }, omega arith)
+grown e e' pattern hold (Err (HoldFull n)) (same, number, more) = rw same (record { output = tt; input = λ is. cc }, record { script = refl; limits = refl }, omega arith)
+grown e e' pattern hold (Err other) h = absurd h
+
+-- Commands that end in no line: how they leave what they were given, and what they weigh after.
+module _ {O T : Type 0} {tally : O → SinkView} {count : O → ℕ} {text : T → ℕ → Option (List ℕ)} {o : O} {t : T} where
+  pub leaves_queued : (e e' : RunState) (entry : Entry) (r : Result Unit Ended) → QueuesOrFull e e' entry r → LeavesGiven tally count text e e' o o t t r
+  leaves_queued e e' entry r h = let w = queued e e' entry r h in leaves_quiet w.0 w.1
+
+  pub leaves_grown : (e e' : RunState) (pattern hold : List ℕ) (r : Result Unit Ended) → BecomesOrFull e (holding e pattern hold) e' r → LeavesGiven tally count text e e' o o t t r
+  leaves_grown e e' pattern hold r h = let w = grown e e' pattern hold r h in leaves_quiet w.0 w.1
+
+pub falls_queued : (e e' : RunState) (entry : Entry) (r : Result Unit Ended) → QueuesOrFull e e' entry r → weight e' ≤ weight e + 8
+falls_queued e e' entry r h = (queued e e' entry r h).2
+
+pub falls_grown : (e e' : RunState) (pattern hold : List ℕ) (r : Result Unit Ended) → BecomesOrFull e (holding e pattern hold) e' r → weight e' ≤ weight e + 8
+falls_grown e e' pattern hold r h = (grown e e' pattern hold r h).2
+
+-- a command that goes on where it stands
+pub falls_none : {n : ℕ} → n ≤ n + 8
+falls_none = omega arith
+
+-- `t`
+pub falls_tested : (e : RunState) (target : ℕ) (b : Bool) → weight (tested e target b) ≤ weight e + 8
+falls_tested e target true = omega arith
+falls_tested e target false = omega arith
+
+-- a command was reached, which takes a turn, and acted
+pub falls_reached : (e e1 e2 : RunState) (k : ℕ) (ranges : List Bool) (used : Option ℕ) (r : Result Unit Ended) → e1 ≡ reached_with e k ranges used → e.state.tasks ≡ do_at k ∷ [] → e.state.turns < e.limits.turns → weight e2 ≤ weight e1 + 8 → OnOk r (weight e2 < weight e)
+falls_reached e e1 e2 k ranges used (Ok u) came at more h =
+    let was : costs e.state.tasks ≡ 2 = ap costs at in
+    let now : weight e2 ≤ weight (reached_with e k ranges used) + 8 = rw came at h in
+    omega arith
+falls_reached e e1 e2 k ranges used (Err end) came at more h = tt
+
+pub same_reached : (e e1 : RunState) (k : ℕ) (ranges : List Bool) (used : Option ℕ) → e1 ≡ reached_with e k ranges used → SameRun e e1
+same_reached e e1 k ranges used came = rw came (record { script = refl; limits = refl })
+
+-- an engine that weighs as much as the one that the fields a stand for
+pub falls_seen : (a : Inside) (e e1 e' : RunState) → run_of a ≡ e → weight e1 ≡ weight (run_of a) → weight e' ≤ weight e1 + 8 → weight e' ≤ weight e + 8
+falls_seen a e e1 e' seen same h = let was = ap weight seen in omega arith
+
+pub falls_kept : (a : Inside) (e e1 e' : RunState) → run_of a ≡ e → weight e1 ≡ weight (run_of a) → weight e' ≤ weight e1 → weight e' ≤ weight e
+falls_kept a e e1 e' seen same h = let was = ap weight seen in omega arith
+
+pub falls_more : {m n : ℕ} → n ≤ m → n ≤ m + 8
+falls_more h = omega arith
+
+pub falls_then : {k m n : ℕ} → m ≤ k → n ≤ m → n ≤ k + 8
+falls_then h i = omega arith
+
+-- turns were taken, and the queue was written
+pub falls_flushed : (e e' : RunState) (turns : ℕ) → e' ≡ flushed e turns → e.state.turns ≤ turns → weight e' ≤ weight e
+falls_flushed e e' turns is later = rw is (omega arith)
+
+pub same_flushed : (e e' : RunState) (turns : ℕ) → e' ≡ flushed e turns → SameRun e e'
+same_flushed e e' turns is = rw is (record { script = refl; limits = refl })
+
+-- turns were taken, and then the end came
+pub falls_turned : (e e' : RunState) (turns : ℕ) → e' ≡ with_turns e turns → e.state.turns ≤ turns → weight e' ≤ weight e
+falls_turned e e' turns is later = rw is (omega arith)
+
+pub same_turned : (e e' : RunState) (turns : ℕ) → e' ≡ with_turns e turns → SameRun e e'
+same_turned e e' turns is = rw is (record { script = refl; limits = refl })
+
+-- a line was brought, or there was none
+pub same_brought : (e e' : RunState) (got : Got) → e' ≡ brought e got → SameRun e e'
+same_brought e e' Line is = rw is (record { script = refl; limits = refl })
+same_brought e e' End is = rw is (record { script = refl; limits = refl })
+
+pub falls_brought : (e e' : RunState) (got : Got) → e' ≡ brought e got → weight e' ≤ weight e
+falls_brought e e' Line is = rw is (omega arith)
+falls_brought e e' End is = rw is (omega arith)

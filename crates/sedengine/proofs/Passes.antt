@@ -1,5 +1,5 @@
 -- Blocks of the lines ahead, passed over or broken off.
-use Rattle.std.proofs.Common.{◌≡◌, ℕ, suc, zero, ◌<◌, ◌+◌, ◌*◌, ◌-◌, ◌/◌, ◌≤◌, ◌⊎◌, inl, inr, cond, true, false, List, [], ◌∷◌, ◌++◌, length, length-append, length-take, length-take-le, length-drop, take, drop, take-take, take-append-drop, get_or, get_or-take, mul_comm, Contains, Option, Some, None, Result, Ok, Err, refl, subst, sym, ap, ap₂, ◌∙◌, arith, append_assoc, append-nil, mul-le-mul_left}
+use Rattle.std.proofs.Common.{◌≡◌, ℕ, suc, zero, ◌<◌, ◌+◌, ◌*◌, ◌-◌, ◌/◌, ◌≤◌, ◌⊎◌, inl, inr, cond, true, false, List, [], ◌∷◌, ◌++◌, length, length-append, length-take, length-take-le, length-drop, take, drop, take-take, take-append-drop, get_or, get_or-take, mul_comm, Contains, Option, Some, None, Result, Ok, Err, refl, subst, sym, ap, ap₂, ◌∙◌, arith, append_assoc, mul-le-mul_left}
 use Rattle.std.proofs.Math.Nat.{div-mul-le_self}
 use Rattle.std.proofs.Math.Seq.{get_or-append_seam, take-add, take-append_seam, take-length}
 use Rattle.std.proofs.lemmas.List.{drop-append-le, drop-drop, drop-take, drop_more, get_or-drop, get_or_append_left, take_more}

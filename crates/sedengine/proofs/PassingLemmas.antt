@@ -31,7 +31,7 @@ use Rattle.sedengine.specs.declared.idle.Need.TheVariants.{NoMatch, OtherNumber,
 use Rattle.sedengine.proofs.Writing.{slice_get-append_add}
 use Rattle.sedengine.specs.Passing.{need_of_address, need_of_substitution, need_of_action, need_of, behind_by, behind, place_at, need_at, judged_by, judged, IsIdleIn, judged_in, Meets, LeftAlone, AllLeftAlone, BlockLeftAlone, FindsAsItSearches, bytes_of, passed_out, passed, moves_of, line_due, Went, CanPass, MovesLedTo, StoppedPassing}
 use Rattle.sedengine.proofs.Gains.{to_sink-append}
-use Rattle.sedengine.proofs.Moves.{after-add, written-add, Within-add, move_at, within_none, after_none, written_none}
+use Rattle.sedengine.proofs.Moves.{after-add, written-add, Within-add, move_at, after_none}
 use Rattle.sedengine.specs.Choose.{performs, is_active}
 use Rattle.sedengine.specs.SubstituteCalls.{to_replace_in}
 use Rattle.sedengine.proofs.Occurrences.{with_rest}

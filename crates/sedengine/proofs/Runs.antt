@@ -8,10 +8,12 @@ use Rattle.sedengine.specs.Move.{after, written}
 use Rattle.sedengine.specs.Meters.{Sent, SinkView}
 use Rattle.sedengine.specs.Ends.{WithinLimits, Within, named_sink, size_of, LosesPartAfter}
 use Rattle.sedengine.specs.Held.{HoldsAt, SameLengths}
+use Rattle.sedengine.specs.Inside.{run_of}
 use Rattle.sedengine.specs.Run.{SameRun, RunState, run_setting, at_lines, lost, input_of, TakesLeft, Ending, Cycled, InOneCycle, starts_cycle}
 use Rattle.sedengine.specs.DevicesAfter.{more_at}
 use Rattle.sedengine.specs.Steps.{Ran, TakesLines, Halted, Steps}
 use Rattle.sedengine.specs.declared.ends.Ended.{Ended}
+use Rattle.sedengine.specs.declared.machine.Machine.TheInside.{Inside}
 use Rattle.sedengine.specs.declared.ends.Ended.TheVariants.{InputBroken}
 use Rattle.sedengine.proofs.Sending.{Sent-append, Sent-none}
 use Rattle.std.specs.Io.KnownBytes.{prepend_known}
@@ -50,6 +52,10 @@ Reached-none {R} remaining from l g e ls sinks known f = record {
 
 pub same_setting : (old new : RunState) (files : ℕ → List ℕ) → SameRun old new → run_setting new files ≡ run_setting old files
 same_setting old new files s = ap (λ p. setting_of p files) s.script
+
+-- the engine that fields with the same script and the same limits stand for
+pub same_seen : (a : Inside) (e e' : RunState) → run_of a ≡ e → e'.script ≡ a.script → e'.limits ≡ a.limits → SameRun e e'
+same_seen a e e' seen script limits = rw (← seen) (record { script = script; limits = limits })
 
 pub SameRun-then : {a b c : RunState} → SameRun a b → SameRun b c → SameRun a c
 SameRun-then s t = record { script = t.script ∙ s.script; limits = t.limits ∙ s.limits }

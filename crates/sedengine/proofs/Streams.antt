@@ -11,8 +11,10 @@ use Rattle.std.proofs.lemmas.List.{drop-drop, drop_all}
 use Rattle.std.proofs.lemmas.List.Elements.{All-drop}
 use Rattle.std.proofs.lemmas.List.Splits.{slice_split-cons_yes, slice_split-cons_no, length-slice_split}
 use Rattle.sedspace.specs.Lines.{lines, is_newline, without_empty_last, HasNoNewline, TakesAtMost}
-use Rattle.sedspace.specs.Stream.{Stream, left, lines_left, GivesLine, NoLineLeft, KeepsLines, LosesPart, TakesLine, TellsLast}
-use Rattle.sedengine.specs.Calls.{ReadsLines}
+use Rattle.sedspace.specs.Stream.{Stream, left, lines_left, FailsIfBroken, GivesLine, KeepsFault, NoLineLeft, KeepsLines, LosesPart, ReadsOn, TakesLine, TellsLast}
+use Rattle.sedspace.specs.declared.errors.LineFault.{LineFault}
+use Rattle.sedspace.specs.declared.errors.LineFault.TheVariants.{Broken, TooLong}
+use Rattle.sedengine.specs.Calls.{NamesNone, NoSinkFailed, ReadsAlone, ReadsLines}
 use Rattle.sedengine.specs.Run.{FailedSource}
 use Rattle.sedengine.specs.Ends.{LosesPartAfter, size_of}
 use Rattle.sedengine.specs.Steps.{TakesLines}
@@ -220,6 +222,17 @@ some_told (Some ms) ls last known told is =
 pub ReadsLines-told : {R T : Type 0} (remaining : R → Option (List ℕ)) (failures : R → ℕ) (reference : R → List GName) (a b : Stream R) (x : T) → ReadsLines remaining failures reference a b (Ok x) → ReadsLines {T = Unit} remaining failures reference a b (Ok tt)
 ReadsLines-told {R} {T} remaining failures reference a b x h = record { same_look = h.same_look; same_reference = h.same_reference; ahead = h.ahead; shrinks = h.shrinks; sound = h.sound; failed = h.failed; broken = λ is none. cc }
 
+pub ReadsLines-ended : {R T : Type 0} (remaining : R → Option (List ℕ)) (failures : R → ℕ) (reference : R → List GName) (a b : Stream R) (end : Ended) → ReadsLines {T = T} remaining failures reference a b (Err end) → ReadsLines {T = Unit} remaining failures reference a b (Err end)
+ReadsLines-ended {R} {T} remaining failures reference a b end h =
+    record { same_look = h.same_look; same_reference = h.same_reference; ahead = h.ahead; shrinks = h.shrinks; sound = tt; failed = h.failed; broken = λ is none. h.broken (let same : end ≡ InputBroken = cc in ap Err same) none }
+
+-- the same of a call that writes nothing
+pub ReadsAlone-told : {R T : Type 0} {remaining : R → Option (List ℕ)} {failures : R → ℕ} {reference : R → List GName} {a b : Stream R} (x : T) → ReadsAlone remaining failures reference a b (Ok x) → ReadsAlone {T = Unit} remaining failures reference a b (Ok tt)
+ReadsAlone-told x h = record { input = ReadsLines-told _ _ _ _ _ x h.input; output = tt }
+
+pub ReadsAlone-ended : {R T : Type 0} {remaining : R → Option (List ℕ)} {failures : R → ℕ} {reference : R → List GName} {a b : Stream R} (end : Ended) → ReadsAlone {T = T} remaining failures reference a b (Err end) → ReadsAlone {T = Unit} remaining failures reference a b (Err end)
+ReadsAlone-ended end h = record { input = ReadsLines-ended _ _ _ _ _ end h.input; output = h.output }
+
 -- where no byte is gone, no more than a part of a line is
 pub LosesPart-none : (old new : Option (List ℕ)) (n : ℕ) → TakesAtMost old new 0 → LosesPart old new n
 LosesPart-none None new n h = tt
@@ -267,3 +280,38 @@ pub LosesPartAfter-takes : (a b : Option (List ℕ)) (n m : ℕ) → LosesPartAf
 LosesPartAfter-takes None b n m h = tt
 LosesPartAfter-takes (Some xs) None n m h = absurd h
 LosesPartAfter-takes (Some xs) (Some ys) n m (gone, is, clear, most) = (gone, is, most)
+
+named_none : {T : Type 0} (n m : ℕ) (r : Result T Ended) → NamesNone r → m ≡ n → FailedSource n m r
+named_none {T} n m (Ok x) h same = same
+named_none {T} n m (Err InputBroken) h same = absurd (h.input refl)
+named_none {T} n m (Err other) h same = same
+
+sound_ok : {T : Type 0} (r : Result T Ended) (P Q : Type 0) → Q → OnOk r (P → Q)
+sound_ok {T} (Ok x) P Q q = λ p. q
+sound_ok {T} (Err end) P Q q = tt
+
+-- What a call for a line, or for whether one is left, does to the lines, where its answer is passed on as r.
+module _ {R T : Type 0} (A : Type 0) {remaining : R → Option (List ℕ)} {failures : R → ℕ} {reference : R → List GName} {old new : Stream R} (n : ℕ) where
+  reads : {r : Result T Ended} → ReadsOn reference old new → TakesAtMost (remaining old.source) (remaining new.source) n → OnOk r (old.fault ≡ None → new.fault ≡ None) →
+      (old.fault ≡ None → FailedSource (failures old.source) (failures new.source) r) → (r ≡ Err InputBroken → old.fault ≡ None → new.ahead ≡ []) → NoSinkFailed r → ReadsAlone remaining failures reference old new r
+  reads on taken sound failed broken output =
+      let ahead = on.0 in
+      let look = on.1 in
+      record { input = record { same_look = on.1; same_reference = on.2; ahead = omega arith; shrinks = (n, taken); sound = sound; failed = failed; broken = broken }; output = output }
+
+  -- it answered
+  pub reads_told : (x : A) (r : Result T Ended) → NamesNone r → ReadsOn reference old new → TakesAtMost (remaining old.source) (remaining new.source) n → KeepsFault {T = A} (Ok x) old new →
+      (old.fault ≡ None → FailsIfBroken {T = A} (Ok x) (failures old.source) (failures new.source)) → ReadsAlone remaining failures reference old new r
+  reads_told x r none on taken fault fails = reads on taken (sound_ok r _ _ fault.0) (λ sound. named_none _ _ r none (fails sound)) (λ is sound. absurd (none.input is)) none.output
+
+  -- the line was too long
+  pub reads_long : (f : LineFault) (end : Ended) → f ≡ TooLong → NamesNone {T = T} (Err end) → ReadsOn reference old new → TakesAtMost (remaining old.source) (remaining new.source) n →
+      (old.fault ≡ None → FailsIfBroken {T = A} (Err f) (failures old.source) (failures new.source)) → ReadsAlone {T = T} remaining failures reference old new (Err end)
+  reads_long f end long none on taken fails =
+      reads on taken tt (λ sound. named_none {T = T} _ _ (Err end) none (rw long at (fails sound))) (λ is sound. absurd (none.input is)) none.output
+
+  -- the source failed
+  pub reads_broken : (f : LineFault) → (f ≡ TooLong → old.fault ≡ None → ⊥) → ReadsOn reference old new → TakesAtMost (remaining old.source) (remaining new.source) n →
+      (old.fault ≡ None → FailsIfBroken {T = A} (Err f) (failures old.source) (failures new.source)) → (f ≡ Broken → old.fault ≡ None → new.ahead ≡ []) → ReadsAlone {T = T} remaining failures reference old new (Err InputBroken)
+  reads_broken Broken short on taken fails broken = reads on taken tt (λ sound. let rose = fails sound in omega arith) (λ is sound. broken refl sound) tt
+  reads_broken TooLong short on taken fails broken = reads on taken tt (λ sound. absurd (short refl sound)) (λ is sound. absurd (short refl sound)) tt

@@ -199,3 +199,30 @@ starting script l pattern hold queue ranges = record {
 pub opened : (seen script : Program) (l : Limits) (pattern hold queue : List ℕ) (ranges : List Bool) → seen ≡ script → pattern ≡ [] → hold ≡ [] → queue ≡ [] → ranges ≡ map (λ _. false) script.commands →
     starting seen l pattern hold queue ranges ≡ record { script = script; limits = l; state = start script.commands []; sent = []; ended = None }
 opened seen script l pattern hold queue ranges same none none' none'' idle = rw (same, none, none', none'', idle) refl
+
+-- the fields with another pattern space, at another place
+pub placed : (a : Inside) (pattern : Contents) (next_step : NextStep) → IsConsistent a → pattern.limit ≡ a.pattern.limit → length pattern.bytes ≤ a.limits.space → IsEmptied next_step pattern.bytes →
+    IsConsistent (record a { pattern = pattern; next_step = next_step })
+placed a pattern next_step i limit short empty = record {
+  pattern_limit = limit ∙ i.pattern_limit;
+  pattern = short;
+  empty = empty;
+  number = i.number;
+  turns = i.turns;
+  hold_limit = i.hold_limit;
+  hold = i.hold;
+  build_limit = i.build_limit;
+  build_within = i.build_within;
+  copy_limit = i.copy_limit;
+  queue_limit = i.queue_limit;
+  queue = i.queue;
+  queued = i.queued;
+  ranges = i.ranges;
+  used = i.used;
+  scratch_text = i.scratch_text;
+  scratch_nodes = i.scratch_nodes;
+  matchers = i.matchers;
+  seeking = i.seeking;
+  nodes = i.nodes;
+  idle = i.idle;
+}

@@ -66,3 +66,20 @@ pub all_took : (m n a b c : ℕ) (last : Option ℕ) (first : ℕ × ℕ) →
     Takes a c (172 * m * m * (n + 1))
 all_took m n a b c last first paid later =
     (omega (arith, paid.0, later.0), omega (arith, paid.1, later.1, owed_most m n last))
+
+-- what searches take, one after another
+pub searches_two : {a b c : ℕ} (x y z : ℕ) → CostsWithin a b x y → CostsWithin b c y z → Takes a c x
+searches_two x y z h i = (omega (arith, h, i), omega (arith, h, i))
+
+pub searches_three : {a b c d : ℕ} (x y z : ℕ) → CostsWithin a b x y → CostsWithin b c y z → Takes c d z → Takes a d x
+searches_three x y z h i j = (omega (arith, h, i, j), omega (arith, h, i, j))
+
+pub takes_none : {a b : ℕ} (n : ℕ) → b ≡ a → Takes a b n
+takes_none n is = (omega arith, omega arith)
+
+pub takes_few : {a b c : ℕ} (n : ℕ) → b ≡ a → Takes b c 0 → Takes a c n
+takes_few n is h = (omega (arith, h), omega (arith, h))
+
+-- what is owed at the end is less than what was
+pub takes_paid : {a b : ℕ} (k n : ℕ) → a ≤ b → b + k ≤ a + n → Takes a b n
+takes_paid k n grows paid = (grows, omega arith)

@@ -23,7 +23,8 @@ pub standing : (named used : Option ℕ) → option_or named used ≡ stands_for
 standing None used = refl
 standing (Some e) used = refl
 
-within_by : (n : ℕ) (named used : Option ℕ) (k : ℕ) → AddressWithin n (Some (Match named)) → IsOneOf n used → Some k ≡ option_or named used → k < n
+-- an expression that is named, or the one last used, is one of the script's
+pub within_by : (n : ℕ) (named used : Option ℕ) (k : ℕ) → AddressWithin n (Some (Match named)) → IsOneOf n used → Some k ≡ option_or named used → k < n
 within_by n (Some j) used k h one is = let same : k ≡ j = same_Some k j is in rw same h
 within_by n None (Some j) k h one is = let same : k ≡ j = same_Some k j is in rw same one
 within_by n None None k h one is = cc

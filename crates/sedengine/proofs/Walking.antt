@@ -1,7 +1,6 @@
 -- The commands that are reached on a line that none of them touches.
-use Rattle.std.proofs.Common.{◌≡◌, ℕ, suc, ◌<◌, ◌+◌, ◌≤◌, ◌⊎◌, inl, inr, zero, cond, get_or, Bool, true, false, List, [], ◌∷◌, length, Contains, Option, Some, None, subst, sym, ap, ◌∙◌, arith, add-one}
+use Rattle.std.proofs.Common.{◌≡◌, ℕ, suc, ◌<◌, ◌+◌, ◌≤◌, ◌⊎◌, inl, inr, zero, cond, get_or, Bool, true, false, List, [], ◌∷◌, length, Option, Some, None, subst, sym, ap, ◌∙◌, arith, add-one}
 use Rattle.std.specs.Prelude.{is_some, slice_get}
-use Rattle.std.specs.List.{All}
 use Rattle.std.specs.Option.{option_or, option_map}
 use Rattle.std.proofs.lemmas.Option.{same_Some, slice_get_past}
 use Rattle.sedscript.specs.declared.types.Address.{Address}
@@ -11,9 +10,7 @@ use Rattle.sedscript.specs.declared.types.Action.TheVariants.{Substitute}
 use Rattle.sedscript.specs.declared.types.Command.{Command}
 use Rattle.sedscript.specs.declared.substitution.Substitution.{Substitution}
 use Rattle.sedscript.specs.Ranges.{IsOneOf}
-use Rattle.sedengine.specs.State.{Setting}
-use Rattle.sedengine.specs.Move.{none_left}
-use Rattle.sedengine.specs.Passing.{Cleared, IsClear, NeedWithin, need_by, need_of, need_of_action, need_of_address, need_of_substitution, behind, behind_by, place_at, need_at, judged_by, judged, Walked, Notes, Describes, BlockLeftAlone}
+use Rattle.sedengine.specs.Passing.{Cleared, NeedWithin, need_by, need_of, need_of_action, need_of_address, need_of_substitution, behind, behind_by, place_at, need_at, judged_by, judged, Walked, Notes, Describes}
 use Rattle.sedengine.specs.declared.idle.Need.{Need}
 use Rattle.sedengine.specs.declared.idle.Need.TheVariants.{NoMatch, NotLast, OtherNumber}
 use Rattle.sedengine.specs.declared.idle.Idle.{Idle}

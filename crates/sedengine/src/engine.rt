@@ -69,13 +69,20 @@ impl Engine {
           ended = None;
         }) }
     {
-        let meter = Meter::new(alloc, limits.output(), script.wfiles().len() + 1)?;
-        let machine = Machine::open(alloc, script, limits)?;
-        Ok(Engine {
-            machine,
-            meter,
-            ended: None,
-        })
+        match Meter::new(alloc, limits.output(), script.wfiles().len() + 1) {
+            Ok(meter) => {
+                let machine = Machine::open(alloc, script, limits)?;
+                Ok(Engine {
+                    machine,
+                    meter,
+                    ended: None,
+                })
+            }
+            Err(refused) => {
+                script.close();
+                Err(refused)
+            }
+        }
     }
 
     /// Runs one cycle (XCU sed, "Extended Description"): reads the next line, runs the script over it, and writes the

@@ -25,11 +25,11 @@ type Groups = [Option<(usize, usize)>; 10];
 
 /// What a substitution replaces with, and the text in which it does.
 #[derive(Clone, Copy)]
-pub(crate) struct Replacing<'a> {
-    /// The substitution.
-    pub(crate) substitution: &'a Substitution,
-    /// The text.
-    pub(crate) text: &'a [u8],
+struct Replacing<'a> {
+    substitution: &'a Substitution,
+    text: &'a [u8],
+    // Whether the replacement has a group, so that groups are to be told.
+    wanted: bool,
 }
 
 /// What is told of the occurrences of substitutions, one after another, and what telling it took.
@@ -63,33 +63,33 @@ impl Findings {
 /// Its searches together take steps in proportion to the text. Groups are told within each occurrence that is replaced; their
 /// steps, counted by themselves, are in proportion to the text together too.
 pub(crate) fn build_text(
-    replacing: Replacing,
+    substitution: &Substitution,
+    text: &[u8],
     matcher: &mut TableMatcher,
     build: &mut Space,
     seeking: &mut Occurrences,
     scratch: &mut Scratch,
     findings: &mut Findings,
 ) -> Result<bool, Full>
-    requires fits { FitInto (length replacing.text.now) (length matcher.old.nodes) scratch.old }
-    requires short { length replacing.text.now ≤ build.old.limit }
-    requires number { 1 ≤ replacing.substitution.now.number }
-    requires serves { Serves matcher.old replacing.text.now None seeking.old }
-    ensures replaces { ReplacesThese replacing.entry.text.now replacing.entry.substitution.now.replacement
-        (to_replace replacing.entry.substitution.now.number replacing.entry.substitution.now.global
-        (occurrences (search_for matcher.old replacing.entry.text.now) (length replacing.entry.text.now)))
+    requires fits { FitInto (length text.now) (length matcher.old.nodes) scratch.old }
+    requires short { length text.now ≤ build.old.limit }
+    requires number { 1 ≤ substitution.now.number }
+    requires serves { Serves matcher.old text.now None seeking.old }
+    ensures replaces { ReplacesThese text.now substitution.now.replacement
+        (to_replace substitution.now.number substitution.now.global
+        (occurrences (search_for matcher.old text.now) (length text.now)))
         build.old.limit build.new.bytes result }
     ensures limit { build.new.limit ≡ build.old.limit }
     ensures same { SeeksAsBefore matcher.old matcher.new scratch.old scratch.new }
     ensures kept { KeepsRoom matcher.old seeking.old seeking.new }
-    ensures cost { Takes findings.old.steps findings.new.steps (416 * length matcher.old.nodes * (length replacing.entry.text.now + 1)) }
-    ensures group_cost { let m = length matcher.old.nodes in let n = length replacing.entry.text.now in
+    ensures cost { Takes findings.old.steps findings.new.steps (416 * length matcher.old.nodes * (length text.now + 1)) }
+    ensures group_cost { let m = length matcher.old.nodes in let n = length text.now in
         Takes findings.old.group_steps findings.new.group_steps (51 * m * m * (n + 1) * (n + 1)
-        * length (to_replace replacing.entry.substitution.now.number replacing.entry.substitution.now.global
-        (occurrences (search_for matcher.old replacing.entry.text.now) n))) }
-    ensures linear_group_cost { let m = length matcher.old.nodes in let n = length replacing.entry.text.now in
+        * length (to_replace substitution.now.number substitution.now.global
+        (occurrences (search_for matcher.old text.now) n))) }
+    ensures linear_group_cost { let m = length matcher.old.nodes in let n = length text.now in
         Takes findings.old.group_steps findings.new.group_steps (172 * m * m * (n + 1)) }
 {
-    let Replacing { substitution, text } = replacing;
     let skipped = substitution.number - 1;
     let Some(last) = end_of_skipped(matcher, text, skipped, seeking, scratch, findings) else {
         return Ok(false);
@@ -100,7 +100,19 @@ pub(crate) fn build_text(
         return Ok(false);
     };
     build.clear();
-    append_replaced(replacing, matcher, first, build, seeking, scratch, findings)?;
+    append_replaced(
+        Replacing {
+            substitution,
+            text,
+            wanted,
+        },
+        matcher,
+        first,
+        build,
+        seeking,
+        scratch,
+        findings,
+    )?;
     Ok(true)
 }
 
@@ -218,6 +230,7 @@ fn append_replaced(
     requires lies { LiesOn (length replacing.text.now) None first }
     requires groups { GroupsOf matcher.old replacing.text.now (has_group replacing.substitution.now.replacement) (Some first) findings.old.groups }
     requires serves { Serves matcher.old replacing.text.now (Some first.1) seeking.old }
+    requires wanted { replacing.wanted ≡ has_group replacing.substitution.now.replacement }
     ensures appends { Appends build.old build.new
         (replaced_from replacing.entry.text.now replacing.entry.substitution.now.replacement 0
         (pending matcher.old replacing.entry.text.now replacing.entry.substitution.now.global (Some first))) result }
@@ -231,9 +244,12 @@ fn append_replaced(
     ensures linear_group_cost { let m = length matcher.old.nodes in let n = length replacing.entry.text.now in
         Takes findings.old.group_steps findings.new.group_steps (owed_groups m n (Some first.1)) }
 {
-    let Replacing { substitution, text } = replacing;
+    let Replacing {
+        substitution,
+        text,
+        wanted,
+    } = replacing;
     let parts = substitution.replacement.parts();
-    let wanted = needs_groups(parts);
     let mut copied = 0;
     let mut occurrence = Some(first);
     'occurrences: while let Some(span) = occurrence {

@@ -14,7 +14,7 @@ use super::known::is_within;
 use crate::ends::Ended;
 use crate::meter::MeteredSinks;
 use crate::next_step::NextStep;
-use crate::substitute::{Replacing, build_text};
+use crate::substitute::build_text;
 use sedspace::Full;
 
 impl Machine {
@@ -65,10 +65,8 @@ impl Machine {
         self.used = Some(e);
         self.seeking.begin(e);
         let built = build_text(
-            Replacing {
-                substitution: self.script.substitution(k),
-                text: self.pattern.bytes(),
-            },
+            self.script.substitution(k),
+            self.pattern.bytes(),
             &mut self.matchers[e],
             &mut self.build,
             &mut self.seeking,

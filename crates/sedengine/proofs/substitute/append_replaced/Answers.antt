@@ -4,6 +4,7 @@ use Rattle.sedengine.specs.SubstituteParts.{GroupsOf, has_group}
 use Rattle.sedengine.proofs.Due.{appended, due_after, due_cut, due_full, due_next, due_rest}
 use Rattle.sedengine.proofs.Due.{groups_paid, lies_on, more_pending, none_pending}
 use Rattle.sedengine.proofs.Fitting.{keeps_trans}
+use Rattle.sedengine.proofs.Telling.{takes_paid}
 use Rattle.sedengine.proofs.substitute.append_replaced.Goals as goal
 
 pub put-requires-clause-groups_in : goal.put-requires-clause-groups_in
@@ -51,7 +52,6 @@ occurrences-preserved-then-substitution c =
     let due = due_after c.args.build.now l.build c.append.new.self c.put.new.build _ e w s.replacement _ s.global
     l.copied l.findings.groups l.occurrence span _ c.in-Some.is i.groups c.parts-parts.ensures.pieces (i.limit, i.made)
     c.in_ok-append.ensures.ok c.in_ok-put.ensures more in
-    let wanted = c.needs_groups-wanted.ensures ∙ ap has_group c.parts-parts.ensures.pieces in
     record {
       matcher = next.ensures.same.0 ∙ i.matcher;
       scratch = next.ensures.same.1 ∙ i.scratch;
@@ -63,7 +63,7 @@ occurrences-preserved-then-substitution c =
           let before = rw c.in-Some.is at i.cost in
           omega (arith, paid, before);
       groups_grow = omega (arith, i.groups_grow, next.ensures.group_cost.0);
-      group_cost = groups_paid _ _ _ _ e w s.global c.needs_groups-wanted.result l.occurrence span next.result c.in-Some.is more i.group_cost
+      group_cost = groups_paid _ _ _ _ e w s.global c.args.replacing.wanted l.occurrence span next.result c.in-Some.is more i.group_cost
           (rw i.matcher at next.ensures.group_cost.1);
       linear_group_cost =
           let paid = rw i.matcher at next.ensures.linear_group_cost.1 in
@@ -72,7 +72,7 @@ occurrences-preserved-then-substitution c =
       limit = due.0;
       copied = lies.2;
       lies = lies_on (length w) span.1 next.result next.ensures.next.1;
-      groups = subst (λ (b : Bool). GroupsOf e w b next.result next.new.findings.groups) wanted (rw i.matcher at next.ensures.groups);
+      groups = subst (λ (b : Bool). GroupsOf e w b next.result next.new.findings.groups) c.requires.wanted (rw i.matcher at next.ensures.groups);
       made = due.1;
     }
 
@@ -118,3 +118,48 @@ returns-clause-appends c =
     due_rest c.args.build.now l.build new _ c.args.matcher.now w s.replacement s.global l.copied l.occurrence
     c.append-2.result c.in_default.is (i.limit, i.made)
     (appended l.build new rest rest c.append-2.result refl a.ok a.full a.err)
+
+pub returns-in_err-append-clause-same : goal.returns-in_err-append-clause-same
+returns-in_err-append-clause-same c = let i = c.occurrences.invariant in (i.matcher, i.scratch)
+
+pub returns-in_err-append-clause-kept : goal.returns-in_err-append-clause-kept
+returns-in_err-append-clause-kept c = c.occurrences.invariant.kept
+
+pub returns-in_err-append-clause-cost : goal.returns-in_err-append-clause-cost
+returns-in_err-append-clause-cost c = let i = c.occurrences.invariant in takes_paid _ _ i.grows i.cost
+
+pub returns-in_err-append-clause-group_cost : goal.returns-in_err-append-clause-group_cost
+returns-in_err-append-clause-group_cost c = let i = c.occurrences.invariant in takes_paid _ _ i.groups_grow i.group_cost
+
+pub returns-in_err-append-clause-linear_group_cost : goal.returns-in_err-append-clause-linear_group_cost
+returns-in_err-append-clause-linear_group_cost c = let i = c.occurrences.invariant in takes_paid _ _ i.groups_grow i.linear_group_cost
+
+pub returns-in_err-put-clause-same : goal.returns-in_err-put-clause-same
+returns-in_err-put-clause-same c = let i = c.occurrences.invariant in (i.matcher, i.scratch)
+
+pub returns-in_err-put-clause-kept : goal.returns-in_err-put-clause-kept
+returns-in_err-put-clause-kept c = c.occurrences.invariant.kept
+
+pub returns-in_err-put-clause-cost : goal.returns-in_err-put-clause-cost
+returns-in_err-put-clause-cost c = let i = c.occurrences.invariant in takes_paid _ _ i.grows i.cost
+
+pub returns-in_err-put-clause-group_cost : goal.returns-in_err-put-clause-group_cost
+returns-in_err-put-clause-group_cost c = let i = c.occurrences.invariant in takes_paid _ _ i.groups_grow i.group_cost
+
+pub returns-in_err-put-clause-linear_group_cost : goal.returns-in_err-put-clause-linear_group_cost
+returns-in_err-put-clause-linear_group_cost c = let i = c.occurrences.invariant in takes_paid _ _ i.groups_grow i.linear_group_cost
+
+pub returns-clause-same : goal.returns-clause-same
+returns-clause-same c = let i = c.occurrences.invariant in (i.matcher, i.scratch)
+
+pub returns-clause-kept : goal.returns-clause-kept
+returns-clause-kept c = c.occurrences.invariant.kept
+
+pub returns-clause-cost : goal.returns-clause-cost
+returns-clause-cost c = let i = c.occurrences.invariant in takes_paid _ _ i.grows i.cost
+
+pub returns-clause-group_cost : goal.returns-clause-group_cost
+returns-clause-group_cost c = let i = c.occurrences.invariant in takes_paid _ _ i.groups_grow i.group_cost
+
+pub returns-clause-linear_group_cost : goal.returns-clause-linear_group_cost
+returns-clause-linear_group_cost c = let i = c.occurrences.invariant in takes_paid _ _ i.groups_grow i.linear_group_cost

@@ -20,3 +20,6 @@ returns-clause-output g c = λ fresh.
     let limit = ap (λ (e : RunState). e.limits.output) c.self.view_is in
     sinks_at_end _ _ _ _ g.O.Outputs.failures c.args.outputs.now c.run-end.new.outputs.outputs.now _ _ _ _ (search rules) out out.failed refl
     (ap (λ (f : Frame). f.most) out.same_frame ∙ c.self.invariant.0 ∙ limit)
+
+pub returns-clause-ended : goal.returns-clause-ended
+returns-clause-ended g c = refl

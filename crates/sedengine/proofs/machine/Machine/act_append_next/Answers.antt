@@ -1,4 +1,4 @@
-use Rattle.std.proofs.Common.{◌∷◌, true, false, Err, refl}
+use Rattle.std.proofs.Common.{◌∷◌, true, false, Ok, Err, refl}
 use Rattle.std.proofs.lemmas.Result.{err_from_is_err_and}
 use Rattle.sedscript.specs.declared.types.Action.TheVariants.{Plain}
 use Rattle.sedscript.specs.declared.types.Simple.TheVariants.{AppendNext}
@@ -8,6 +8,8 @@ use Rattle.sedengine.specs.Run.{at_lines, run_setting}
 use Rattle.sedengine.proofs.Streams.{lines_same}
 use Rattle.sedengine.proofs.Ending.{stopped_anyway}
 use Rattle.sedengine.proofs.NextLines.{flushed_steps, looked_moves, performs_then}
+use Rattle.sedengine.proofs.Leaving.{falls_flushed, falls_more, falls_then, falls_turned, leaves_texts, leaves_then, leaves_unread, same_flushed, same_turned}
+use Rattle.sedengine.proofs.Writing.{Delivers-quiet}
 use Rattle.sedengine.proofs.machine.Machine.act_append_next.Goals as goal
 
 pub returns-clause-acts : goal.returns-clause-acts
@@ -28,3 +30,25 @@ returns-in_err-flush-clause-acts g c = λ sound ls known files told.
     (looked_moves g.R.ByteSource.remaining c.args.lines.now c.args.lines.now ls e.limits (run_setting e files) (then_do (flush ∷ join ∷ e.state.tasks) (at_lines e ls)) c.flush.new.self _ _ (Err c.in_err-flush.field-0.0)
     (lines_same g.R.ByteSource.remaining c.args.lines.now ls known) refl
     (stopped_anyway _ _ _ c.flush.new.self ls (join ∷ e.state.tasks) _ _ c.in_err-flush.field-0.0 (c.in_err-flush.ensures.moves files told ls (join ∷ e.state.tasks)))))
+
+pub returns-clause-falls : goal.returns-clause-falls
+returns-clause-falls g c =
+    let w = c.in_ok-flush.ensures in
+    falls_then (falls_flushed c.args.self.now c.flush.new.self _ w.ok w.later) c.join.ensures.falls
+
+pub returns-clause-leaves : goal.returns-clause-leaves
+returns-clause-leaves g c =
+    let w = c.in_ok-flush.ensures in
+    let j = c.join.ensures in
+    leaves_then (leaves_unread {r = Ok tt} (record { devices = w.devices; same = same_flushed c.args.self.now c.flush.new.self _ w.ok; kept = w.kept })) (leaves_texts j.reads.input (Delivers-quiet _ _ _ _ j.reads.output) j.same)
+
+pub returns-in_err-flush-clause-falls : goal.returns-in_err-flush-clause-falls
+returns-in_err-flush-clause-falls g c =
+    let w = c.in_err-flush.ensures in
+    falls_more (falls_turned c.args.self.now c.flush.new.self _ w.err w.later)
+
+pub returns-in_err-flush-clause-leaves : goal.returns-in_err-flush-clause-leaves
+returns-in_err-flush-clause-leaves g c =
+    let w = c.in_err-flush.ensures in
+    let p = err_from_is_err_and c.from_residual.result c.from_residual.ensures.1 in
+    rw (p.1, p.2) (leaves_unread {r = Err c.in_err-flush.field-0.0} (record { devices = w.devices; same = same_turned c.args.self.now c.flush.new.self _ w.err; kept = w.kept }))

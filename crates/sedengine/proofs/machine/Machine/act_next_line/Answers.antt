@@ -1,13 +1,15 @@
-use Rattle.std.proofs.Common.{◌∷◌, true, Err, refl, rules}
+use Rattle.std.proofs.Common.{◌∷◌, true, Ok, Err, refl}
 use Rattle.std.proofs.lemmas.Result.{err_from_is_err_and}
 use Rattle.sedengine.specs.State.{print_pattern, flush, empty_pattern, fetch}
 use Rattle.sedengine.specs.Move.{then_do}
 use Rattle.sedengine.specs.Run.{at_lines, run_setting}
 use Rattle.sedengine.specs.Bringing.{next_line}
-use Rattle.sedengine.proofs.Streams.{ReadsLines-then, ReadsLines-told}
+use Rattle.sedengine.proofs.Streams.{ReadsAlone-ended, ReadsAlone-told, ReadsLines-then, ReadsLines-told, ReadsLines-unread}
 use Rattle.sedengine.proofs.Writing.{Delivers-then, Delivers-quiet}
 use Rattle.sedengine.proofs.Ending.{stopped_anyway}
 use Rattle.sedengine.proofs.NextLines.{flushed_steps, looked_moves, looked_then, next_broken, next_goes, next_stops, performs_then}
+use Rattle.sedengine.proofs.Leaving.{falls_flushed, falls_more, falls_none, falls_then, falls_turned, leaves_texts, same_flushed, same_turned}
+use Rattle.sedengine.proofs.Runs.{SameRun-then, same_seen}
 use Rattle.sedengine.proofs.machine.Machine.act_next_line.Goals as goal
 
 pub returns-then-branch-clause-acts : goal.returns-then-branch-clause-acts
@@ -32,7 +34,7 @@ pub returns-clause-leaves : goal.returns-clause-leaves
 returns-clause-leaves g c = record {
   input = ReadsLines-then _ _ _ _ _ _ _ (ReadsLines-told _ _ _ _ _ _ c.in_ok-is_last.ensures.reads.input) c.fetch.ensures.reads.input;
   output = Delivers-then _ _ _ _ _ _ c.in_ok-print_and_flush.ensures.devices.output (Delivers-quiet _ _ _ _ c.fetch.ensures.reads.output);
-  same = search rules;
+  same = SameRun-then (same_flushed c.args.self.now c.print_and_flush.new.self _ c.in_ok-print_and_flush.ensures.ok) c.fetch.ensures.same;
   kept = c.in_ok-print_and_flush.ensures.kept;
 }
 
@@ -54,3 +56,34 @@ returns-in_err-is_last-clause-acts g c = λ sound ls known files told.
     let e = c.args.self.now in
     let p = err_from_is_err_and c.from_residual.result c.from_residual.ensures.1 in
     rw (p.1, p.2) (next_broken g.R.ByteSource.remaining c.args.lines.now c.is_last.new.lines ls (run_setting e files) (next_line (at_lines e ls)) e (g.O.MeteredSinks.tally c.args.outputs.now) c.in_err-is_last.field-0.0 (w.left ls known) (w.last sound ls known))
+
+pub returns-clause-falls : goal.returns-clause-falls
+returns-clause-falls g c =
+    let w = c.in_ok-print_and_flush.ensures in
+    falls_then (falls_flushed c.args.self.now c.print_and_flush.new.self _ w.ok w.later) c.fetch.ensures.falls
+
+pub returns-in_err-print_and_flush-clause-falls : goal.returns-in_err-print_and_flush-clause-falls
+returns-in_err-print_and_flush-clause-falls g c =
+    let w = c.in_err-print_and_flush.ensures in
+    falls_more (falls_turned c.args.self.now c.print_and_flush.new.self _ w.err w.later)
+
+pub returns-in_err-print_and_flush-clause-leaves : goal.returns-in_err-print_and_flush-clause-leaves
+returns-in_err-print_and_flush-clause-leaves g c =
+    let w = c.in_err-print_and_flush.ensures in
+    let input = ReadsLines-told _ _ _ _ _ _ c.in_ok-is_last.ensures.reads.input in
+    let p = err_from_is_err_and c.from_residual-in_err-print_and_flush.result c.from_residual-in_err-print_and_flush.ensures.1 in
+    rw (p.1, p.2) (record { input = ReadsLines-then _ _ _ _ _ _ _ input (ReadsLines-unread _ _ _ _ _ w.devices.input); output = w.devices.output; same = same_turned c.args.self.now c.print_and_flush.new.self _ w.err; kept = w.kept })
+
+pub returns-in_err-is_last-clause-falls : goal.returns-in_err-is_last-clause-falls
+returns-in_err-is_last-clause-falls g c = falls_none
+
+pub returns-in_err-is_last-clause-leaves : goal.returns-in_err-is_last-clause-leaves
+returns-in_err-is_last-clause-leaves g c =
+    let w = ReadsAlone-ended c.in_err-is_last.field-0.0 c.in_err-is_last.ensures.reads in
+    let p = err_from_is_err_and c.from_residual.result c.from_residual.ensures.1 in
+    rw (p.1, p.2) (leaves_texts w.input (Delivers-quiet _ _ _ _ w.output) (record { script = refl; limits = refl }))
+
+pub returns-then-branch-clause-leaves : goal.returns-then-branch-clause-leaves
+returns-then-branch-clause-leaves g c =
+    let w = ReadsAlone-told c.in_ok-is_last.field-0 c.in_ok-is_last.ensures.reads in
+    leaves_texts w.input (Delivers-quiet _ _ _ (Ok tt) tt) (same_seen c.self.inside c.args.self.now _ c.self.view_is refl refl)

@@ -1,4 +1,4 @@
-use Rattle.std.proofs.Common.{◌∷◌, ◌++◌, ◌∙◌, ap}
+use Rattle.std.proofs.Common.{◌∷◌, ◌++◌, ◌∙◌, ap, refl}
 use Rattle.sedscript.specs.declared.types.Action.TheVariants.{Plain}
 use Rattle.std.specs.Prelude.{[], decimal}
 use Rattle.std.specs.List.{before_first}
@@ -11,6 +11,7 @@ use Rattle.sedengine.specs.Run.{RunState, at_lines, run_setting}
 use Rattle.sedengine.proofs.Acts.{acts_going, acts_writing, fills}
 use Rattle.sedengine.proofs.Holding.{acts_copying, acts_growing, acts_holding, acts_exchanging}
 use Rattle.sedengine.proofs.Ending.{puts_seen}
+use Rattle.sedengine.proofs.Leaving.{falls_grown, falls_none, leaves_grown, leaves_made, leaves_written}
 use Rattle.sedengine.proofs.machine.Machine.act_plain.Goals as goal
 
 pub returns-in-CopyHold-clause-acts : goal.returns-in-CopyHold-clause-acts
@@ -82,3 +83,72 @@ act_hold_more-requires g c = fills c.args.self.now.script c.args.k (Plain c.args
 
 pub act_exchange-requires-clause-holds : goal.act_exchange-requires-clause-holds
 act_exchange-requires-clause-holds g c = fills c.args.self.now.script c.args.k (Plain c.args.simple) c.requires.action (ap (λ s. holds (Plain s)) c.in-Exchange.is)
+
+pub returns-in-CopyHold-clause-falls : goal.returns-in-CopyHold-clause-falls
+returns-in-CopyHold-clause-falls g c = rw c.act_copy_hold.ensures falls_none
+
+pub returns-in-CopyHold-clause-leaves : goal.returns-in-CopyHold-clause-leaves
+returns-in-CopyHold-clause-leaves g c = rw c.act_copy_hold.ensures (leaves_made (record { script = refl; limits = refl }))
+
+pub returns-in-AppendHold-clause-falls : goal.returns-in-AppendHold-clause-falls
+returns-in-AppendHold-clause-falls g c = falls_grown _ _ _ _ _ c.act_append_hold.ensures
+
+pub returns-in-AppendHold-clause-leaves : goal.returns-in-AppendHold-clause-leaves
+returns-in-AppendHold-clause-leaves g c = leaves_grown _ _ _ _ _ c.act_append_hold.ensures
+
+pub returns-in-Hold-clause-falls : goal.returns-in-Hold-clause-falls
+returns-in-Hold-clause-falls g c = rw c.act_hold.ensures falls_none
+
+pub returns-in-Hold-clause-leaves : goal.returns-in-Hold-clause-leaves
+returns-in-Hold-clause-leaves g c = rw c.act_hold.ensures (leaves_made (record { script = refl; limits = refl }))
+
+pub returns-in-HoldMore-clause-falls : goal.returns-in-HoldMore-clause-falls
+returns-in-HoldMore-clause-falls g c = falls_grown _ _ _ _ _ c.act_hold_more.ensures
+
+pub returns-in-HoldMore-clause-leaves : goal.returns-in-HoldMore-clause-leaves
+returns-in-HoldMore-clause-leaves g c = leaves_grown _ _ _ _ _ c.act_hold_more.ensures
+
+pub returns-in-Exchange-clause-falls : goal.returns-in-Exchange-clause-falls
+returns-in-Exchange-clause-falls g c = rw c.act_exchange.ensures falls_none
+
+pub returns-in-Exchange-clause-leaves : goal.returns-in-Exchange-clause-leaves
+returns-in-Exchange-clause-leaves g c = rw c.act_exchange.ensures (leaves_made (record { script = refl; limits = refl }))
+
+pub returns-in-Quit-clause-leaves : goal.returns-in-Quit-clause-leaves
+returns-in-Quit-clause-leaves g c = rw c.act_quit.ensures (leaves_made (record { script = refl; limits = refl }))
+
+pub returns-in-Delete-clause-falls : goal.returns-in-Delete-clause-falls
+returns-in-Delete-clause-falls g c = c.act_delete.ensures.falls
+
+pub returns-in-Delete-clause-leaves : goal.returns-in-Delete-clause-leaves
+returns-in-Delete-clause-leaves g c = c.act_delete.ensures.leaves
+
+pub returns-in-DeleteFirst-clause-falls : goal.returns-in-DeleteFirst-clause-falls
+returns-in-DeleteFirst-clause-falls g c = c.act_delete_first.ensures.falls
+
+pub returns-in-DeleteFirst-clause-leaves : goal.returns-in-DeleteFirst-clause-leaves
+returns-in-DeleteFirst-clause-leaves g c = c.act_delete_first.ensures.leaves
+
+pub returns-in-LineNumber-clause-falls : goal.returns-in-LineNumber-clause-falls
+returns-in-LineNumber-clause-falls g c = falls_none
+
+pub returns-in-LineNumber-clause-leaves : goal.returns-in-LineNumber-clause-leaves
+returns-in-LineNumber-clause-leaves g c = leaves_written _ _ _ _ _ _ c.write_line.ensures.puts c.write_line.ensures.devices
+
+pub returns-in-List-clause-falls : goal.returns-in-List-clause-falls
+returns-in-List-clause-falls g c = falls_none
+
+pub returns-in-List-clause-leaves : goal.returns-in-List-clause-leaves
+returns-in-List-clause-leaves g c = leaves_written _ _ _ _ _ _ c.write_listing.ensures.puts c.write_listing.ensures.devices
+
+pub returns-in-Print-clause-falls : goal.returns-in-Print-clause-falls
+returns-in-Print-clause-falls g c = falls_none
+
+pub returns-in-Print-clause-leaves : goal.returns-in-Print-clause-leaves
+returns-in-Print-clause-leaves g c = leaves_written _ _ _ _ _ _ c.act_write.ensures.puts c.act_write.ensures.output
+
+pub returns-in-PrintFirst-clause-falls : goal.returns-in-PrintFirst-clause-falls
+returns-in-PrintFirst-clause-falls g c = falls_none
+
+pub returns-in-PrintFirst-clause-leaves : goal.returns-in-PrintFirst-clause-leaves
+returns-in-PrintFirst-clause-leaves g c = leaves_written _ _ _ _ _ _ c.write_all.ensures.puts c.write_all.ensures.devices

@@ -1,5 +1,7 @@
-use Rattle.std.proofs.Common.{◌∙◌, sym, ap, Ok, Err}
-use Rattle.sedengine.proofs.Streams.{last_told, some_told}
+use Rattle.std.proofs.Common.{Bool, ◌∙◌, refl, sym, ap, Ok, Err}
+use Rattle.sedspace.specs.declared.lines.Got.{Got}
+use Rattle.sedengine.proofs.Runs.{same_seen}
+use Rattle.sedengine.proofs.Streams.{last_told, reads_broken, reads_long, reads_told, some_told}
 use Rattle.sedengine.proofs.Tasks.{begins_last, begins_none, begins_takes, begins_stops, begins_spent, begins_broken, begins_failed}
 use Rattle.sedengine.proofs.machine.Machine.begin.Goals as goal
 
@@ -48,3 +50,59 @@ returns-in-Err-Broken-clause-steps g c = λ sound ls known files sinks.
     let w = c.in-Err-Broken.ensures in
     begins_broken g.R.ByteSource.remaining c.args.lines.now c.next_into.new.self c.self.inside _ c.self.view_is c.self.invariant c.requires ls known files sinks
     c.next_into.new.space w.err.0 (rw c.self.invariant.pattern_limit at w.err.1)
+
+pub returns-in-Ok-true-clause-reads : goal.returns-in-Ok-true-clause-reads
+returns-in-Ok-true-clause-reads g c =
+    let w = c.in-Ok-true.ensures in
+    reads_told _ _ c.in-Ok-true.field-0 _ (record { output = tt; input = λ is. cc }) w.reads w.taken w.fault w.failed
+
+pub returns-in-Ok-false-clause-reads : goal.returns-in-Ok-false-clause-reads
+returns-in-Ok-false-clause-reads g c =
+    let w = c.in-Ok-false.ensures in
+    reads_told _ _ c.in-Ok-false.field-0 _ (record { output = tt; input = λ is. cc }) w.reads w.taken w.fault w.failed
+
+pub returns-in-Ok-Line-clause-reads : goal.returns-in-Ok-Line-clause-reads
+returns-in-Ok-Line-clause-reads g c =
+    let w = c.in-Ok-Line.ensures in
+    reads_told _ _ c.in-Ok-Line.field-0 _ (record { output = tt; input = λ is. cc }) w.reads w.taken w.fault w.failed
+
+pub returns-in-Ok-End-clause-reads : goal.returns-in-Ok-End-clause-reads
+returns-in-Ok-End-clause-reads g c =
+    let w = c.in-Ok-End.ensures in
+    reads_told _ _ c.in-Ok-End.field-0 _ (record { output = tt; input = λ is. cc }) w.reads w.taken w.fault w.failed
+
+pub returns-in-Err-clause-reads : goal.returns-in-Err-clause-reads
+returns-in-Err-clause-reads g c =
+    let w = c.in-Err.ensures in
+    reads_broken Bool _ c.in-Err.field-0 (λ long none. let kept = w.too_long (ap Err long) in cc) w.reads w.taken w.failed (λ is. w.broken (ap Err is))
+
+pub returns-in-Err-TooLong-clause-reads : goal.returns-in-Err-TooLong-clause-reads
+returns-in-Err-TooLong-clause-reads g c =
+    let w = c.in-Err-TooLong.ensures in
+    reads_long Got _ c.in-Err-TooLong.field-0 _ c.in-Err-TooLong.field-0-is (record { output = tt; input = λ is. cc }) w.reads w.taken w.failed
+
+pub returns-in-Err-Broken-clause-reads : goal.returns-in-Err-Broken-clause-reads
+returns-in-Err-Broken-clause-reads g c =
+    let w = c.in-Err-Broken.ensures in
+    reads_broken Got _ c.in-Err-Broken.field-0 (λ long. let broken = c.in-Err-Broken.field-0-is in cc) w.reads w.taken w.failed (λ is sound. (w.broken (ap Err is) sound).0)
+
+pub returns-in-Ok-true-clause-same : goal.returns-in-Ok-true-clause-same
+returns-in-Ok-true-clause-same g c = same_seen c.self.inside c.args.self.now _ c.self.view_is refl refl
+
+pub returns-in-Ok-Line-clause-same : goal.returns-in-Ok-Line-clause-same
+returns-in-Ok-Line-clause-same g c = same_seen c.self.inside c.args.self.now _ c.self.view_is refl refl
+
+pub returns-in-Ok-End-clause-same : goal.returns-in-Ok-End-clause-same
+returns-in-Ok-End-clause-same g c = same_seen c.self.inside c.args.self.now _ c.self.view_is refl refl
+
+pub returns-in-Ok-false-clause-falls : goal.returns-in-Ok-false-clause-falls
+returns-in-Ok-false-clause-falls g c = tt
+
+pub returns-in-Err-clause-falls : goal.returns-in-Err-clause-falls
+returns-in-Err-clause-falls g c = tt
+
+pub returns-in-Err-TooLong-clause-falls : goal.returns-in-Err-TooLong-clause-falls
+returns-in-Err-TooLong-clause-falls g c = tt
+
+pub returns-in-Err-Broken-clause-falls : goal.returns-in-Err-Broken-clause-falls
+returns-in-Err-Broken-clause-falls g c = tt

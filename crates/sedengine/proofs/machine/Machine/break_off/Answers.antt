@@ -2,6 +2,8 @@ use Rattle.std.proofs.Common.{◌≡◌, ◌≤◌, ◌+◌, ◌-◌, List, ℕ,
 use Rattle.sedspace.specs.Spaces.{Contents}
 use Rattle.sedspace.specs.Stream.{AreWholeLines}
 use Rattle.sedengine.proofs.Passes.{breaks_off_seen, brought_is, newline_there, whole_through}
+use Rattle.sedengine.specs.declared.next_step.NextStep.TheVariants as p
+use Rattle.sedengine.proofs.Tasks.{placed}
 use Rattle.sedengine.proofs.machine.Machine.break_off.Goals as goal
 
 pub take_lines-requires-clause-within : goal.take_lines-requires-clause-within
@@ -39,3 +41,9 @@ returns g c =
     breaks_off_seen c.args.lines.now c.take_lines.new.self c.args.self.now _ ahead first n c.args.done c.args.bytes same start c.requires.done c.requires.within c.requires.whole
     (subst AreWholeLines (take-take first c.args.done ahead start) c.whole_lines-start.ensures.whole) c.whole_lines-start.ensures.rest c.line_length.ensures.clear c.line_length.ensures.ends c.take_lines.ensures.taken
     (brought_is c.self.inside c.args.self.now c.set.new.self c.len.result (take n (drop first ahead)) c.self.view_is line c.len.ensures)
+
+pub invariant_of-self : goal.invariant_of-self
+invariant_of-self g c =
+    let w = c.in-Ok.ensures in
+    let i = c.self.invariant in
+    placed c.self.inside c.set.new.self (p.Do c.len.result) i (ap (λ (s : Contents). s.limit) w.ok) (rw w.ok (rw i.pattern_limit at w.fits)) tt

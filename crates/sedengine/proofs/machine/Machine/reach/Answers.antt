@@ -1,10 +1,12 @@
-use Rattle.std.proofs.Common.{sym, ◌∙◌, arith, rules}
+use Rattle.std.proofs.Common.{Ok, refl, sym, ◌∙◌, arith}
 use Rattle.std.proofs.KnownBytes.{Keeps-refl}
 use Rattle.std.proofs.lemmas.Result.{err_from_is_err_and}
-use Rattle.sedengine.proofs.Writing.{Delivers-unwritten}
-use Rattle.sedengine.proofs.Streams.{ReadsLines-then, ReadsLines-told}
+use Rattle.sedengine.proofs.Leaving.{falls_reached, leaves_stopped, leaves_unread, same_reached}
+use Rattle.sedengine.proofs.Runs.{SameRun-then}
+use Rattle.sedengine.proofs.Writing.{Delivers-none, Delivers-unwritten}
+use Rattle.sedengine.proofs.Streams.{ReadsLines-ended, ReadsLines-then, ReadsLines-told}
 use Rattle.sedengine.proofs.Tasks.{steps_by_moves}
-use Rattle.sedengine.proofs.Acts.{steps_spent, reach_stopping, reach_acting, reach_passing}
+use Rattle.sedengine.proofs.Acts.{turn_left, steps_spent, reach_stopping, reach_acting, reach_passing}
 use Rattle.sedengine.proofs.machine.Machine.reach.Goals as goal
 
 pub returns-then-k-len-clause-steps : goal.returns-then-k-len-clause-steps
@@ -19,9 +21,9 @@ pub returns-in_err-choice-clause-leaves : goal.returns-in_err-choice-clause-leav
 returns-in_err-choice-clause-leaves g c =
     let p = err_from_is_err_and c.from_residual.result c.from_residual.ensures.1 in
     rw (p.1, p.2) (record {
-      input = search rules;
+      input = ReadsLines-ended _ _ _ _ _ _ c.in_err-choice.ensures.reads.input;
       output = Delivers-unwritten _ _ _ c.in_err-choice.field-0.0 c.in_err-choice.ensures.reads.output;
-      same = search rules;
+      same = rw c.in_err-choice.ensures.reaches (record { script = refl; limits = refl });
       kept = λ j. Keeps-refl _;
     })
 
@@ -52,6 +54,41 @@ pub returns-then-choice-clause-leaves : goal.returns-then-choice-clause-leaves
 returns-then-choice-clause-leaves g c = record {
   input = ReadsLines-then _ _ _ _ _ _ _ (ReadsLines-told _ _ _ _ _ _ c.in_ok-choice.ensures.reads.input) c.act.ensures.leaves.input;
   output = c.act.ensures.leaves.output;
-  same = search rules;
+  same = SameRun-then (same_reached c.args.self.now c.judge.new.self c.args.k _ _ c.in_ok-choice.ensures.reaches) c.act.ensures.leaves.same;
   kept = c.act.ensures.leaves.kept;
+}
+
+pub returns-then-k-len-clause-falls : goal.returns-then-k-len-clause-falls
+returns-then-k-len-clause-falls g c = c.finish.ensures.falls
+
+pub returns-then-k-len-clause-leaves : goal.returns-then-k-len-clause-leaves
+returns-then-k-len-clause-leaves g c = leaves_unread c.finish.ensures.leaves
+
+pub returns-then-self-turns-clause-falls : goal.returns-then-self-turns-clause-falls
+returns-then-self-turns-clause-falls g c = tt
+
+pub returns-then-self-turns-clause-leaves : goal.returns-then-self-turns-clause-leaves
+returns-then-self-turns-clause-leaves g c = leaves_unread (leaves_stopped (record { output = tt; input = λ is. cc }))
+
+pub returns-in_err-choice-clause-falls : goal.returns-in_err-choice-clause-falls
+returns-in_err-choice-clause-falls g c =
+    let p = err_from_is_err_and c.from_residual.result c.from_residual.ensures.1 in
+    rw p.1 tt
+
+pub returns-then-choice-clause-falls : goal.returns-then-choice-clause-falls
+returns-then-choice-clause-falls g c =
+    falls_reached c.args.self.now c.judge.new.self c.act.new.self c.args.k _ _ c.act.result c.in_ok-choice.ensures.reaches c.requires.at
+    (turn_left c.self.inside c.args.self.now c.self.view_is c.self.invariant (λ e. c.if-self-turns.false (e ∙ sym c.turns.ensures))) c.act.ensures.falls
+
+pub returns-else-choice-clause-falls : goal.returns-else-choice-clause-falls
+returns-else-choice-clause-falls g c =
+    falls_reached c.args.self.now c.judge.new.self c.pass.new.self c.args.k _ _ (Ok tt) c.in_ok-choice.ensures.reaches c.requires.at
+    (turn_left c.self.inside c.args.self.now c.self.view_is c.self.invariant (λ e. c.if-self-turns.false (e ∙ sym c.turns.ensures))) c.pass.ensures.falls
+
+pub returns-else-choice-clause-leaves : goal.returns-else-choice-clause-leaves
+returns-else-choice-clause-leaves g c = record {
+  input = ReadsLines-told _ _ _ _ _ _ c.in_ok-choice.ensures.reads.input;
+  output = Delivers-none _ _ _;
+  same = SameRun-then (same_reached c.args.self.now c.judge.new.self c.args.k _ _ c.in_ok-choice.ensures.reaches) c.pass.ensures.same;
+  kept = λ j. Keeps-refl _;
 }

@@ -1,4 +1,4 @@
-use Rattle.std.proofs.Common.{◌≡◌, ◌<◌, ◌∙◌, ℕ, List, Some, Ok, Err, length, ap, true, false, arith, get_or, rules}
+use Rattle.std.proofs.Common.{◌≡◌, ◌∙◌, ℕ, List, Some, Ok, Err, length, ap, true, false, arith, get_or, rules}
 use Rattle.std.proofs.lemmas.Grind.{elements}
 use Rattle.std.specs.Prelude.{slice_get}
 use Rattle.sedscript.specs.declared.substitution.Substitution.{Substitution}
@@ -10,20 +10,20 @@ use Rattle.sedengine.specs.SubstituteCalls.{ReplacesIn}
 use Rattle.sedmatch.proofs.RoomLemmas.{room_within}
 use Rattle.sedengine.proofs.Fitting.{fits_at, sought, sought_at}
 use Rattle.sedengine.proofs.SubstituteMoves.{makes_full, makes_none, makes_some, one_sought, replaced_is_run, room_kept, stands}
-use Rattle.sedengine.proofs.Tried.{matchers_kept, replaces_by}
+use Rattle.sedengine.proofs.Tried.{matchers_kept, replaces_by, within_by}
 use Rattle.sedengine.proofs.machine.Machine.replace_occurrences.Goals as goal
 
 pub index_mut-requires : goal.index_mut-requires
 index_mut-requires c =
     let a = c.self.inside in
-    let inside : c.in-Some.e < length c.self.inside.script.expressions = search rules in
+    let inside = within_by (length c.self.inside.script.expressions) c.substitution.result.now.expression c.self.inside.used c.in-Some.e c.substitution.ensures.within.expression c.self.invariant.used c.in-Some.ensures in
     let there = sought_at a.script.expressions a.limits.nodes a.matchers.items c.in-Some.e c.self.invariant.matchers inside in
     search (rules, there)
 
 pub build_text-built-requires-clause-fits : goal.build_text-built-requires-clause-fits
 build_text-built-requires-clause-fits c =
     let a = c.self.inside in
-    let inside : c.in-Some.e < length c.self.inside.script.expressions = search rules in
+    let inside = within_by (length c.self.inside.script.expressions) c.substitution.result.now.expression c.self.inside.used c.in-Some.e c.substitution.ensures.within.expression c.self.invariant.used c.in-Some.ensures in
     let there = sought_at a.script.expressions a.limits.nodes a.matchers.items c.in-Some.e c.self.invariant.matchers inside in
     let m = c.index_mut.result.now in
     let h = c.index_mut.ensures.value in
@@ -36,7 +36,7 @@ build_text-built-requires-clause-fits c =
 pub build_text-built-requires-clause-serves : goal.build_text-built-requires-clause-serves
 build_text-built-requires-clause-serves c =
     let a = c.self.inside in
-    let inside : c.in-Some.e < length c.self.inside.script.expressions = search rules in
+    let inside = within_by (length c.self.inside.script.expressions) c.substitution.result.now.expression c.self.inside.used c.in-Some.e c.substitution.ensures.within.expression c.self.invariant.used c.in-Some.ensures in
     let there = sought_at a.script.expressions a.limits.nodes a.matchers.items c.in-Some.e c.self.invariant.matchers inside in
     let m = c.index_mut.result.now in
     let h = c.index_mut.ensures.value in
@@ -49,7 +49,7 @@ build_text-built-requires-clause-serves c =
 pub invariant_of-self : goal.invariant_of-self
 invariant_of-self c =
     let a = c.self.inside in
-    let inside : c.in-Some.e < length c.self.inside.script.expressions = search rules in
+    let inside = within_by (length c.self.inside.script.expressions) c.substitution.result.now.expression c.self.inside.used c.in-Some.e c.substitution.ensures.within.expression c.self.invariant.used c.in-Some.ensures in
     let there = sought_at a.script.expressions a.limits.nodes a.matchers.items c.in-Some.e c.self.invariant.matchers inside in
     let m = c.index_mut.result.now in
     let h = c.index_mut.ensures.value in
@@ -62,7 +62,7 @@ invariant_of-self c =
 pub invariant_of-self-in-Ok-false : goal.invariant_of-self-in-Ok-false
 invariant_of-self-in-Ok-false c =
     let a = c.self.inside in
-    let inside : c.in-Some.e < length c.self.inside.script.expressions = search rules in
+    let inside = within_by (length c.self.inside.script.expressions) c.substitution.result.now.expression c.self.inside.used c.in-Some.e c.substitution.ensures.within.expression c.self.invariant.used c.in-Some.ensures in
     let there = sought_at a.script.expressions a.limits.nodes a.matchers.items c.in-Some.e c.self.invariant.matchers inside in
     let m = c.index_mut.result.now in
     let h = c.index_mut.ensures.value in
@@ -75,7 +75,7 @@ invariant_of-self-in-Ok-false c =
 pub invariant_of-self-in-Err : goal.invariant_of-self-in-Err
 invariant_of-self-in-Err c =
     let a = c.self.inside in
-    let inside : c.in-Some.e < length c.self.inside.script.expressions = search rules in
+    let inside = within_by (length c.self.inside.script.expressions) c.substitution.result.now.expression c.self.inside.used c.in-Some.e c.substitution.ensures.within.expression c.self.invariant.used c.in-Some.ensures in
     let there = sought_at a.script.expressions a.limits.nodes a.matchers.items c.in-Some.e c.self.invariant.matchers inside in
     let m = c.index_mut.result.now in
     let h = c.index_mut.ensures.value in
@@ -88,7 +88,7 @@ invariant_of-self-in-Err c =
 pub returns-in-Ok-true-clause-makes : goal.returns-in-Ok-true-clause-makes
 returns-in-Ok-true-clause-makes c = λ t is files ls.
     let a = c.self.inside in
-    let inside : c.in-Some.e < length c.self.inside.script.expressions = search rules in
+    let inside = within_by (length c.self.inside.script.expressions) c.substitution.result.now.expression c.self.inside.used c.in-Some.e c.substitution.ensures.within.expression c.self.invariant.used c.in-Some.ensures in
     let there = sought_at a.script.expressions a.limits.nodes a.matchers.items c.in-Some.e c.self.invariant.matchers inside in
     let m = c.index_mut.result.now in
     let h = c.index_mut.ensures.value in
@@ -102,7 +102,7 @@ returns-in-Ok-true-clause-makes c = λ t is files ls.
 pub returns-in-Ok-false-clause-makes : goal.returns-in-Ok-false-clause-makes
 returns-in-Ok-false-clause-makes c = λ t is files ls.
     let a = c.self.inside in
-    let inside : c.in-Some.e < length c.self.inside.script.expressions = search rules in
+    let inside = within_by (length c.self.inside.script.expressions) c.substitution.result.now.expression c.self.inside.used c.in-Some.e c.substitution.ensures.within.expression c.self.invariant.used c.in-Some.ensures in
     let there = sought_at a.script.expressions a.limits.nodes a.matchers.items c.in-Some.e c.self.invariant.matchers inside in
     let m = c.index_mut.result.now in
     let h = c.index_mut.ensures.value in
@@ -116,7 +116,7 @@ returns-in-Ok-false-clause-makes c = λ t is files ls.
 pub returns-in-Err-clause-makes : goal.returns-in-Err-clause-makes
 returns-in-Err-clause-makes c = λ t is files ls.
     let a = c.self.inside in
-    let inside : c.in-Some.e < length c.self.inside.script.expressions = search rules in
+    let inside = within_by (length c.self.inside.script.expressions) c.substitution.result.now.expression c.self.inside.used c.in-Some.e c.substitution.ensures.within.expression c.self.invariant.used c.in-Some.ensures in
     let there = sought_at a.script.expressions a.limits.nodes a.matchers.items c.in-Some.e c.self.invariant.matchers inside in
     let m = c.index_mut.result.now in
     let h = c.index_mut.ensures.value in
