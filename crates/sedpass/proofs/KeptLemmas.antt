@@ -168,6 +168,10 @@ passes_with p w t k edges work place offset long rows passes =
 
 -- The rows at the ends of blocks.
 
+-- those of a block that ends at the place are there
+pub block_there : (p : Prepared) (w : List ℕ) (t : Table) (k : Kept) (block place offset : ℕ) → PassesDownTo p w t k place offset → place ≡ block * (t.room - 1) + (t.room - 1) → 2 * block + 1 < length k.edges
+block_there p w t k block place offset passes at = let h = passes.within in let g = passes.region.inside in passes.region.room.blocks block (omega arith)
+
 -- a row was kept by copies
 row_copied : (m : ℕ) (row mark leaf : List Bool) → AgreeBelow m row mark → AgreeBelow m mark leaf → bits m row ≡ bits m leaf
 row_copied m row mark leaf one two = bits_agree m row mark one ∙ bits_agree m mark leaf two

@@ -1,5 +1,5 @@
 -- What comes in place of a node, by its kind.
-use Rattle.std.proofs.Common.{◌≡◌, ℕ, ◌+◌, ◌-◌, ◌<◌, ◌≤◌, ◌⊎◌, Bool, List, [], ◌∷◌, length, Option, None, Some, IsTrue, refl, sym, ap, ◌∙◌, subst, inl, inr, ⊎_elim, arith}
+use Rattle.std.proofs.Common.{◌≡◌, ℕ, ◌+◌, ◌-◌, ◌<◌, ◌≤◌, ◌⊎◌, Bool, [], ◌∷◌, length, Option, None, Some, IsTrue, refl, sym, ap, ◌∙◌, subst, inl, inr, ⊎_elim, arith}
 use Rattle.sedpass.proofs.Words.{Tree, tree_of, tree_at, size, IsPart, Takes, TakesAtLeast, Node, NodeId, Empty, Set, Begin, End, Seq, Alt, Group, Star, Opt, tree_at-node, At, LastCut, parts_of, total_size, Matches, open_at, Matches-forward, size-parts, size-pos, Matched, Apart, Forget, Done, One, Two, Region, Subject}
 use Rattle.sedpass.specs.Decide.{EndsRegion, HasNoKnownLength, IsCopyFrom, LooksAt, NodeTurned, part_cost, nodes_in, text_in, Stands, IsTurn, Blank, entered_at}
 use Rattle.sedpass.specs.Regions.{all_of, last_of}

@@ -1,6 +1,6 @@
 -- Private to the proofs: no contract that `sedmatch` makes public cites what stands here.
 -- What is told of an expression once: facts of each node, as its groups and how long its spans are.
-use Rattle.std.specs.Prelude.{◌≡◌, ℕ, ◌+◌, ◌-◌, ◌*◌, ◌≤◌, ◌<◌, Bool, true, false, ◌&&◌, ◌||◌, eqb, List, length, slice_get, slice_index_or, cond, Option, Some, None, IfSome, nat_lt, ◌⊎◌}
+use Rattle.std.specs.Prelude.{◌≡◌, ℕ, ◌+◌, ◌-◌, ◌*◌, ◌≤◌, ◌<◌, Bool, true, false, ◌&&◌, ◌||◌, eqb, List, length, slice_get, cond, Option, Some, None, IfSome, nat_lt}
 use Rattle.std.specs.Int.{bit_at, from_bool}
 use Rattle.sedre.specs.Tree.{Tree, set, begin, end, seq, alt, group, star, WrittenExpression, tree_at, empty, opt}
 use Rattle.sedre.specs.Sizes.{size}

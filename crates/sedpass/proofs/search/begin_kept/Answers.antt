@@ -1,4 +1,4 @@
-use Rattle.std.proofs.Common.{◌-◌, ◌*◌, ◌≤◌, refl, subst, sym, length, arith}
+use Rattle.std.proofs.Common.{◌-◌, ◌*◌, ◌≤◌, length, arith}
 use Rattle.sedpass.specs.Kept.{owed}
 use Rattle.sedpass.proofs.KeptLemmas.{space_same}
 use Rattle.sedpass.proofs.SearchLemmas.{unbegun}

@@ -1,7 +1,7 @@
-use Rattle.std.proofs.Common.{◌≡◌, ◌+◌, ◌-◌, ◌*◌, ◌/◌, ◌^◌, ◌<◌, refl, ◌∙◌, subst, arith, length}
+use Rattle.std.proofs.Common.{◌≡◌, ◌+◌, ◌-◌, ◌*◌, ◌/◌, ◌^◌, refl, ◌∙◌, subst, arith, length}
 use Rattle.sedtext.specs.Words.{AgreeBelow, row_of}
 use Rattle.sedpass.specs.Kept.{IsRegion, SameSpace}
-use Rattle.sedpass.proofs.KeptLemmas.{edges_more, edges_none, passes_with, rows_long}
+use Rattle.sedpass.proofs.KeptLemmas.{block_there, edges_more, edges_none, passes_with, rows_long}
 use Rattle.sedpass.proofs.kept.Kept.keep_edge.Goals as goal
 use Rattle.sedpass.proofs.kept.Kept.keep_edge.Goals.{After-store-2}
 
@@ -10,6 +10,58 @@ same c =
     let one = c.store.ensures in
     let two = c.store-2.ensures in
     record { places = refl; edges = two.len ∙ one.len; marks = rows_long c.args.self.now.edges c.store.new.self c.store-2.new.self one.len two.len one.lens two.lens }
+
+pub load-requires-clause-row : goal.load-requires-clause-row
+load-requires-clause-row c =
+    let room = c.requires.passes.region.table.room in
+    omega (arith, c.state_at-state.ensures, c.requires.passes.there.0, room.count, room.rows.leaves)
+
+pub load-requires-clause-inside : goal.load-requires-clause-inside
+load-requires-clause-inside c =
+    let room = c.requires.passes.region.table.room in
+    omega (arith, c.nodes-nodes.ensures.value, room.marks, room.rows.leaf_marks c.state_at-state.result (omega (arith, c.state_at-state.ensures, c.requires.passes.there.0, room.count)))
+
+pub load-requires-2-clause-row : goal.load-requires-2-clause-row
+load-requires-2-clause-row c =
+    let room = c.requires.passes.region.table.room in
+    omega (arith, c.state_at-state.ensures, c.requires.passes.there.0, room.count, room.rows.ends)
+
+pub load-requires-2-clause-inside : goal.load-requires-2-clause-inside
+load-requires-2-clause-inside c =
+    let room = c.requires.passes.region.table.room in
+    omega (arith, c.nodes-nodes.ensures.value, room.marks, room.rows.end_marks c.state_at-state.result (omega (arith, c.state_at-state.ensures, c.requires.passes.there.0, room.count)))
+
+pub store-requires-clause-row : goal.store-requires-clause-row
+store-requires-clause-row c =
+    let t = c.args.table.now in
+    let k = c.args.self.now in
+    let at : c.args.place ≡ c.args.block * (t.room - 1) + (t.room - 1) = c.requires.right (let h = c.if-place-self.false in omega (arith, h)) in
+    let there = block_there c.args.subject.prepared.now c.args.subject.text.now t k c.args.block c.args.place c.args.offset c.requires.passes at in
+    omega (arith, there)
+
+pub store-requires-clause-inside : goal.store-requires-clause-inside
+store-requires-clause-inside c =
+    let t = c.args.table.now in
+    let k = c.args.self.now in
+    let at : c.args.place ≡ c.args.block * (t.room - 1) + (t.room - 1) = c.requires.right (let h = c.if-place-self.false in omega (arith, h)) in
+    let there = block_there c.args.subject.prepared.now c.args.subject.text.now t k c.args.block c.args.place c.args.offset c.requires.passes at in
+    omega (arith, c.nodes-nodes.ensures.value, c.requires.passes.region.room.marks (2 * c.args.block) (omega (arith, there)))
+
+pub store-requires-2-clause-row : goal.store-requires-2-clause-row
+store-requires-2-clause-row c =
+    let t = c.args.table.now in
+    let k = c.args.self.now in
+    let at : c.args.place ≡ c.args.block * (t.room - 1) + (t.room - 1) = c.requires.right (let h = c.if-place-self.false in omega (arith, h)) in
+    let there = block_there c.args.subject.prepared.now c.args.subject.text.now t k c.args.block c.args.place c.args.offset c.requires.passes at in
+    omega (arith, there, c.store.ensures.len)
+
+pub store-requires-2-clause-inside : goal.store-requires-2-clause-inside
+store-requires-2-clause-inside c =
+    let t = c.args.table.now in
+    let k = c.args.self.now in
+    let at : c.args.place ≡ c.args.block * (t.room - 1) + (t.room - 1) = c.requires.right (let h = c.if-place-self.false in omega (arith, h)) in
+    let there = block_there c.args.subject.prepared.now c.args.subject.text.now t k c.args.block c.args.place c.args.offset c.requires.passes at in
+    omega (arith, c.nodes-nodes.ensures.value, c.store.ensures.lens (2 * c.args.block + 1) there, c.requires.passes.region.room.marks (2 * c.args.block + 1) there)
 
 pub returns-clause-passes : goal.returns-clause-passes
 returns-clause-passes c =
@@ -28,7 +80,7 @@ returns-clause-edges c b after before =
     let q = c.args.offset / 2 ^ t.layout.shift in
     let some = region.table.room.rows.some in
     let at : c.args.place ≡ c.args.block * (t.room - 1) + (t.room - 1) = c.requires.right (let h = c.if-place-self.false in omega (arith, h)) in
-    let there : 2 * c.args.block + 1 < length k.edges = region.room.blocks c.args.block (let h = c.requires.passes.within in let g = region.inside in omega arith) in
+    let there = block_there c.args.subject.prepared.now c.args.subject.text.now t k c.args.block c.args.place c.args.offset c.requires.passes at in
     edges_more c.args.subject.prepared.now c.args.subject.text.now t.way k.region.root k.region.end (t.room - 1) c.args.block k.edges c.store.new.self c.store-2.new.self c.load.new.marks c.load-2.new.marks (row_of t.leaves q) (row_of t.ends q)
     (omega arith) there c.store.ensures.len (subst (λ n. AgreeBelow n (row_of c.store.new.self (2 * c.args.block)) c.load.new.marks) c.nodes-nodes.ensures.value c.store.ensures.same)
     (subst (λ x. AgreeBelow m c.load.new.marks (row_of t.leaves x)) c.state_at-state.ensures (subst (λ n. AgreeBelow n c.load.new.marks (row_of t.leaves c.state_at-state.result)) c.nodes-nodes.ensures.value c.load.ensures.same))

@@ -1,4 +1,4 @@
-use Rattle.std.proofs.Common.{Bool, ◌+◌, ◌<◌, length, refl, arith, ◌*◌, ◌/◌, ◌^◌, ◌≡◌, ◌≤◌}
+use Rattle.std.proofs.Common.{Bool, ◌+◌, ◌<◌, length, refl, arith, ◌*◌, ◌/◌, ◌^◌}
 use Rattle.sedpass.proofs.Words.{with_item, TakesAtLeast, Takes, Table, least_counted, least_up}
 use Rattle.sedpass.specs.Rows.{nodes_of}
 use Rattle.sedpass.specs.Table.{AddsStates, IsNext, IsOffset, LeadsOn, Names}
