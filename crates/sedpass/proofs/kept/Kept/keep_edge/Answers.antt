@@ -1,15 +1,20 @@
-use Rattle.std.proofs.Common.{◌≡◌, ◌+◌, ◌-◌, ◌*◌, ◌/◌, ◌^◌, refl, ◌∙◌, subst, arith, length}
+use Rattle.std.proofs.Common.{◌≡◌, ◌<◌, ◌+◌, ◌-◌, ◌*◌, ◌/◌, ◌^◌, refl, ◌∙◌, subst, arith, length}
 use Rattle.sedtext.specs.Words.{AgreeBelow, row_of}
 use Rattle.sedpass.specs.Kept.{IsRegion, SameSpace}
 use Rattle.sedpass.proofs.KeptLemmas.{block_there, edges_more, edges_none, passes_with, rows_long}
 use Rattle.sedpass.proofs.kept.Kept.keep_edge.Goals as goal
-use Rattle.sedpass.proofs.kept.Kept.keep_edge.Goals.{After-store-2}
+use Rattle.sedpass.proofs.kept.Kept.keep_edge.Goals.{After-load-2, After-store-2}
 
 same : (c : After-store-2) → SameSpace c.args.self.now (record c.args.self.now { edges = c.store-2.new.self })
 same c =
     let one = c.store.ensures in
     let two = c.store-2.ensures in
     record { places = refl; edges = two.len ∙ one.len; marks = rows_long c.args.self.now.edges c.store.new.self c.store-2.new.self one.len two.len one.lens two.lens }
+
+-- the row is there
+its_row : (c : After-load-2) → 2 * c.args.block + 1 < length c.args.self.now.edges
+its_row c =
+    block_there c.args.subject.prepared.now c.args.subject.text.now c.args.table.now c.args.self.now c.args.block c.args.place c.args.offset c.requires.passes (c.requires.right (let h = c.if-place-self.false in omega (arith, h)))
 
 pub load-requires-clause-row : goal.load-requires-clause-row
 load-requires-clause-row c =
@@ -33,34 +38,22 @@ load-requires-2-clause-inside c =
 
 pub store-requires-clause-row : goal.store-requires-clause-row
 store-requires-clause-row c =
-    let t = c.args.table.now in
-    let k = c.args.self.now in
-    let at : c.args.place ≡ c.args.block * (t.room - 1) + (t.room - 1) = c.requires.right (let h = c.if-place-self.false in omega (arith, h)) in
-    let there = block_there c.args.subject.prepared.now c.args.subject.text.now t k c.args.block c.args.place c.args.offset c.requires.passes at in
+    let there = its_row (goal.at.store-requires-clause-row c).After-load-2 in
     omega (arith, there)
 
 pub store-requires-clause-inside : goal.store-requires-clause-inside
 store-requires-clause-inside c =
-    let t = c.args.table.now in
-    let k = c.args.self.now in
-    let at : c.args.place ≡ c.args.block * (t.room - 1) + (t.room - 1) = c.requires.right (let h = c.if-place-self.false in omega (arith, h)) in
-    let there = block_there c.args.subject.prepared.now c.args.subject.text.now t k c.args.block c.args.place c.args.offset c.requires.passes at in
+    let there = its_row (goal.at.store-requires-clause-inside c).After-load-2 in
     omega (arith, c.nodes-nodes.ensures.value, c.requires.passes.region.room.marks (2 * c.args.block) (omega (arith, there)))
 
 pub store-requires-2-clause-row : goal.store-requires-2-clause-row
 store-requires-2-clause-row c =
-    let t = c.args.table.now in
-    let k = c.args.self.now in
-    let at : c.args.place ≡ c.args.block * (t.room - 1) + (t.room - 1) = c.requires.right (let h = c.if-place-self.false in omega (arith, h)) in
-    let there = block_there c.args.subject.prepared.now c.args.subject.text.now t k c.args.block c.args.place c.args.offset c.requires.passes at in
+    let there = its_row (goal.at.store-requires-2-clause-row c).After-load-2 in
     omega (arith, there, c.store.ensures.len)
 
 pub store-requires-2-clause-inside : goal.store-requires-2-clause-inside
 store-requires-2-clause-inside c =
-    let t = c.args.table.now in
-    let k = c.args.self.now in
-    let at : c.args.place ≡ c.args.block * (t.room - 1) + (t.room - 1) = c.requires.right (let h = c.if-place-self.false in omega (arith, h)) in
-    let there = block_there c.args.subject.prepared.now c.args.subject.text.now t k c.args.block c.args.place c.args.offset c.requires.passes at in
+    let there = its_row (goal.at.store-requires-2-clause-inside c).After-load-2 in
     omega (arith, c.nodes-nodes.ensures.value, c.store.ensures.lens (2 * c.args.block + 1) there, c.requires.passes.region.room.marks (2 * c.args.block + 1) there)
 
 pub returns-clause-passes : goal.returns-clause-passes
