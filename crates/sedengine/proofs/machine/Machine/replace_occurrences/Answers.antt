@@ -1,5 +1,4 @@
 use Rattle.std.proofs.Common.{◌≡◌, ◌∙◌, ℕ, List, Some, Ok, Err, length, ap, true, false, arith, get_or, rules}
-use Rattle.std.proofs.lemmas.Grind.{elements}
 use Rattle.std.specs.Prelude.{slice_get}
 use Rattle.sedscript.specs.declared.substitution.Substitution.{Substitution}
 use Rattle.sedengine.specs.Steps.{reaches}
@@ -26,8 +25,7 @@ build_text-built-requires-clause-fits c =
     let inside = within_by (length c.self.inside.script.expressions) c.substitution.result.now.expression c.self.inside.used c.in-Some.e c.substitution.ensures.within.expression c.self.invariant.used c.in-Some.ensures in
     let there = sought_at a.script.expressions a.limits.nodes a.matchers.items c.in-Some.e c.self.invariant.matchers inside in
     let m = c.index_mut.result.now in
-    let h = c.index_mut.ensures.value in
-    let is_m : m ≡ get_or a.matchers.items c.in-Some.e m = grind (arith, elements) in
+    let is_m : m ≡ get_or a.matchers.items c.in-Some.e m = c.index_mut.ensures.value in
     let same = ap (λ (w : List ℕ). length w) c.bytes.ensures.value in
     let text = c.self.invariant.scratch_text (omega arith) in
     let short = c.self.invariant.pattern in
@@ -39,8 +37,7 @@ build_text-built-requires-clause-serves c =
     let inside = within_by (length c.self.inside.script.expressions) c.substitution.result.now.expression c.self.inside.used c.in-Some.e c.substitution.ensures.within.expression c.self.invariant.used c.in-Some.ensures in
     let there = sought_at a.script.expressions a.limits.nodes a.matchers.items c.in-Some.e c.self.invariant.matchers inside in
     let m = c.index_mut.result.now in
-    let h = c.index_mut.ensures.value in
-    let is_m : m ≡ get_or a.matchers.items c.in-Some.e m = grind (arith, elements) in
+    let is_m : m ≡ get_or a.matchers.items c.in-Some.e m = c.index_mut.ensures.value in
     let same = ap (λ (w : List ℕ). length w) c.bytes.ensures.value in
     let short = c.self.invariant.pattern in
     c.begin.ensures.serves c.bytes.result.now a.script.expressions m (one_sought a c.in-Some.e m c.self.invariant inside is_m)
@@ -52,8 +49,7 @@ invariant_of-self c =
     let inside = within_by (length c.self.inside.script.expressions) c.substitution.result.now.expression c.self.inside.used c.in-Some.e c.substitution.ensures.within.expression c.self.invariant.used c.in-Some.ensures in
     let there = sought_at a.script.expressions a.limits.nodes a.matchers.items c.in-Some.e c.self.invariant.matchers inside in
     let m = c.index_mut.result.now in
-    let h = c.index_mut.ensures.value in
-    let is_m : m ≡ get_or a.matchers.items c.in-Some.e m = grind (arith, elements) in
+    let is_m : m ≡ get_or a.matchers.items c.in-Some.e m = c.index_mut.ensures.value in
     let at = one_sought a c.in-Some.e m c.self.invariant inside is_m in
     replaced_is_run a _ _ _ _ _ _ c.in-Some.e true c.self.invariant
     (ap (λ (e : RunState). reaches e.state.tasks) c.self.view_is ∙ c.requires.at) inside (search rules) (search rules) (search rules) (search rules) (room_kept a c.in-Some.e m c.begin.new.self _ c.self.invariant at c.begin.ensures.room c.begin.ensures.number c.build_text-built.ensures.kept)
@@ -65,8 +61,7 @@ invariant_of-self-in-Ok-false c =
     let inside = within_by (length c.self.inside.script.expressions) c.substitution.result.now.expression c.self.inside.used c.in-Some.e c.substitution.ensures.within.expression c.self.invariant.used c.in-Some.ensures in
     let there = sought_at a.script.expressions a.limits.nodes a.matchers.items c.in-Some.e c.self.invariant.matchers inside in
     let m = c.index_mut.result.now in
-    let h = c.index_mut.ensures.value in
-    let is_m : m ≡ get_or a.matchers.items c.in-Some.e m = grind (arith, elements) in
+    let is_m : m ≡ get_or a.matchers.items c.in-Some.e m = c.index_mut.ensures.value in
     let at = one_sought a c.in-Some.e m c.self.invariant inside is_m in
     replaced_is_run a _ _ _ _ _ _ c.in-Some.e a.replaced c.self.invariant
     (ap (λ (e : RunState). reaches e.state.tasks) c.self.view_is ∙ c.requires.at) inside (search rules) (search rules) (search rules) (search rules) (room_kept a c.in-Some.e m c.begin.new.self _ c.self.invariant at c.begin.ensures.room c.begin.ensures.number c.build_text-built.ensures.kept)
@@ -78,8 +73,7 @@ invariant_of-self-in-Err c =
     let inside = within_by (length c.self.inside.script.expressions) c.substitution.result.now.expression c.self.inside.used c.in-Some.e c.substitution.ensures.within.expression c.self.invariant.used c.in-Some.ensures in
     let there = sought_at a.script.expressions a.limits.nodes a.matchers.items c.in-Some.e c.self.invariant.matchers inside in
     let m = c.index_mut.result.now in
-    let h = c.index_mut.ensures.value in
-    let is_m : m ≡ get_or a.matchers.items c.in-Some.e m = grind (arith, elements) in
+    let is_m : m ≡ get_or a.matchers.items c.in-Some.e m = c.index_mut.ensures.value in
     let at = one_sought a c.in-Some.e m c.self.invariant inside is_m in
     replaced_is_run a _ _ _ _ _ _ c.in-Some.e a.replaced c.self.invariant
     (ap (λ (e : RunState). reaches e.state.tasks) c.self.view_is ∙ c.requires.at) inside (search rules) (search rules) (search rules) (search rules) (room_kept a c.in-Some.e m c.begin.new.self _ c.self.invariant at c.begin.ensures.room c.begin.ensures.number c.build_text-built.ensures.kept)
@@ -91,8 +85,7 @@ returns-in-Ok-true-clause-makes c = λ t is files ls.
     let inside = within_by (length c.self.inside.script.expressions) c.substitution.result.now.expression c.self.inside.used c.in-Some.e c.substitution.ensures.within.expression c.self.invariant.used c.in-Some.ensures in
     let there = sought_at a.script.expressions a.limits.nodes a.matchers.items c.in-Some.e c.self.invariant.matchers inside in
     let m = c.index_mut.result.now in
-    let h = c.index_mut.ensures.value in
-    let is_m : m ≡ get_or a.matchers.items c.in-Some.e m = grind (arith, elements) in
+    let is_m : m ≡ get_or a.matchers.items c.in-Some.e m = c.index_mut.ensures.value in
     let st = stands a c.args.self.now c.args.k c.in-Some.e t c.substitution.result.now c.self.view_is is c.substitution.ensures.is c.in-Some.ensures in
     let es = sought a.script.expressions a.limits.nodes a.matchers.items c.self.invariant.matchers in
     let all = replaces_by a.matchers.items c.in-Some.e m c.bytes.result.now c.substitution-2.result.now a.build.limit c.build_text-built.new.build.bytes (Ok true) there is_m (rw c.in-Ok-true.field-0-test at c.in-Ok-true.ensures.replaces) in
@@ -105,8 +98,7 @@ returns-in-Ok-false-clause-makes c = λ t is files ls.
     let inside = within_by (length c.self.inside.script.expressions) c.substitution.result.now.expression c.self.inside.used c.in-Some.e c.substitution.ensures.within.expression c.self.invariant.used c.in-Some.ensures in
     let there = sought_at a.script.expressions a.limits.nodes a.matchers.items c.in-Some.e c.self.invariant.matchers inside in
     let m = c.index_mut.result.now in
-    let h = c.index_mut.ensures.value in
-    let is_m : m ≡ get_or a.matchers.items c.in-Some.e m = grind (arith, elements) in
+    let is_m : m ≡ get_or a.matchers.items c.in-Some.e m = c.index_mut.ensures.value in
     let st = stands a c.args.self.now c.args.k c.in-Some.e t c.substitution.result.now c.self.view_is is c.substitution.ensures.is c.in-Some.ensures in
     let es = sought a.script.expressions a.limits.nodes a.matchers.items c.self.invariant.matchers in
     let all = replaces_by a.matchers.items c.in-Some.e m c.bytes.result.now c.substitution-2.result.now a.build.limit c.build_text-built.new.build.bytes (Ok false) there is_m (rw c.in-Ok-false.field-0-test at c.in-Ok-false.ensures.replaces) in
@@ -119,8 +111,7 @@ returns-in-Err-clause-makes c = λ t is files ls.
     let inside = within_by (length c.self.inside.script.expressions) c.substitution.result.now.expression c.self.inside.used c.in-Some.e c.substitution.ensures.within.expression c.self.invariant.used c.in-Some.ensures in
     let there = sought_at a.script.expressions a.limits.nodes a.matchers.items c.in-Some.e c.self.invariant.matchers inside in
     let m = c.index_mut.result.now in
-    let h = c.index_mut.ensures.value in
-    let is_m : m ≡ get_or a.matchers.items c.in-Some.e m = grind (arith, elements) in
+    let is_m : m ≡ get_or a.matchers.items c.in-Some.e m = c.index_mut.ensures.value in
     let st = stands a c.args.self.now c.args.k c.in-Some.e t c.substitution.result.now c.self.view_is is c.substitution.ensures.is c.in-Some.ensures in
     let es = sought a.script.expressions a.limits.nodes a.matchers.items c.self.invariant.matchers in
     let all = replaces_by a.matchers.items c.in-Some.e m c.bytes.result.now c.substitution-2.result.now a.build.limit c.build_text-built.new.build.bytes (Err c.in-Err.field-0) there is_m c.in-Err.ensures.replaces in
