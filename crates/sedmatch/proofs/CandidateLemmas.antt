@@ -1,17 +1,19 @@
 -- Where in a text of many lines a line may have a match.
 use Rattle.std.proofs.Common.{◌≡◌, ℕ, ◌+◌, ◌<◌, ◌≤◌, List, ◌++◌, length, length-append, get_or, Option, Some, None, sym, subst, ap, ◌∙◌, arith}
-use Rattle.std.specs.Prelude.{slice_get, IfSome}
+use Rattle.std.specs.Prelude.{slice_get}
 use Rattle.std.proofs.lemmas.List.{get_or-append-add, get_or_append_left}
 use Rattle.std.proofs.lemmas.Option.{slice_get_within, slice_get-get_or, get_or_from_slice_get}
 use Rattle.memchr.specs.Find.{OccursAt}
 use Rattle.sedre.specs.Tree.{Tree}
 use Rattle.sedtext.specs.Spans.{Matches}
 use Rattle.sedtext.specs.Bytes.{AreBytes, FirstFrom}
-use Rattle.sedtext.specs.Rare.{AllRare, AllStand, RareAt, StandsAt}
+use Rattle.sedtext.specs.Beginnings.{AllBegin}
+use Rattle.sedtext.specs.Sieve.{NoneBefore, PassesSieve, StandsAt}
+use Rattle.sedtext.specs.declared.beginnings.Begins.TheVariants.{Before}
 use Rattle.sedtext.specs.Needed.{FirstLiteral, IsNeeded}
 use Rattle.sedtext.specs.declared.needed.RequiredLiteral.{RequiredLiteral}
-use Rattle.sedtext.specs.declared.rare.Fixed.{Fixed}
-use Rattle.sedtext.specs.declared.rare.Rare.{Rare}
+use Rattle.sedtext.specs.declared.counted.sieve.Fixed.{Fixed}
+use Rattle.sedtext.specs.declared.counted.sieve.Sieve.{Sieve}
 use Rattle.sedmatch.specs.Candidates.{IsBefore, NoMatchBefore}
 use Rattle.sedmatch.specs.Direct.{SpannedAs}
 use Rattle.sedmatch.specs.Stretches.{ComesFirst}
@@ -56,12 +58,8 @@ module _ (before line behind : List ℕ) where
   stands_there : (f : Fixed) (i : ℕ) → StandsAt f line i → StandsAt f whole (length before + i)
   stands_there f i (c, is, has) = (c, subst (λ k. slice_get whole k ≡ Some c) (omega arith) (byte_there (i + f.offset) c is), has)
 
-  rare_there : (rare : Rare) (i : ℕ) → RareAt rare line i → RareAt rare whole (length before + i)
-  rare_there rare i at = (stands_there rare.sought i at.0, held_there rare.held at.1)
-    where
-      held_there : (held : Option Fixed) → IfSome held (λ f. StandsAt f line i) → IfSome held (λ f. StandsAt f whole (length before + i))
-      held_there None at = tt
-      held_there (Some f) at = stands_there f i at
+  passes_there : (s : Sieve) (i : ℕ) → PassesSieve s line i → PassesSieve s whole (length before + i)
+  passes_there s i at = (stands_there s.first i at.0, stands_there s.second i at.1, stands_there s.third i at.2)
 
 -- nothing that P tells stands before its first place
 first_after : (P : ℕ → Type 0) (r : Option ℕ) (k end : ℕ) → FirstFrom P 0 r → P k → k ≤ end → IsBefore end r → ⊥
@@ -93,9 +91,12 @@ module _ (e : Tree) (w : List ℕ) (r : Option ℕ) (bytes : AreBytes w) where
   pub literal_before : (literal : List ℕ) → SpannedAs e (Literal literal) → FirstLiteral w literal 0 r → NoMatchBefore e w r
   literal_before literal form first = told_before (λ v. OccursAt v literal) (λ before line behind. occurs_there before line behind literal) (λ v within i j low at. ((form v within i j low).0 at).0) first
 
-  pub rare_before : (rare : Rare) → AllRare e (Some rare) → FirstFrom (RareAt rare w) 0 r → NoMatchBefore e w r
-  rare_before rare all first = told_before (RareAt rare) (λ before line behind. rare_there before line behind rare) (λ v within i j low at. (all.0 v within i j at, held_at v within i j at rare.held all.1)) first
-    where
-      held_at : (v : List ℕ) → AreBytes v → (i j : ℕ) → Matches e v i j → (held : Option Fixed) → IfSome held (AllStand e) → IfSome held (λ f. StandsAt f v i)
-      held_at v within i j at None all = tt
-      held_at v within i j at (Some f) all = all v within i j at
+-- bytes of the three sets of a sieve
+pub sieve_before : (e : Tree) (s : Sieve) (w : List ℕ) (r : Option ℕ) → AllBegin e (Before s) → NoneBefore (PassesSieve s w) 0 r → NoMatchBefore e w r
+sieve_before e s w r all none = λ before line behind is ends found.
+    let here = passes_there before line behind s found.0 (all line found.0 found.1 found.4) in
+    none_there r none (length before + found.0) (length before + length line) (subst (λ (v : List ℕ). PassesSieve s v (length before + found.0)) (sym is) here) (omega (arith, found.3)) ends
+  where
+    none_there : (r : Option ℕ) → NoneBefore (PassesSieve s w) 0 r → (k end : ℕ) → PassesSieve s w k → k ≤ end → IsBefore end r → ⊥
+    none_there None none k end at le ends = none k (omega arith) at
+    none_there (Some q) none k end at le ends = none.1 k (omega arith) (omega (arith, ends, le)) at

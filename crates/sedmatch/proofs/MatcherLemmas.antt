@@ -91,7 +91,7 @@ looks_paid n s u t q f low one two lies =
 least : (m n q : ℕ) (o : Occurrences) (f s t : ℕ) → 1 ≤ m → q ≤ f → f ≤ n → t + owed_direct n (Some f) ≤ s + owed_direct n (Some q) → t + owed_behind m n o.seeking f ≤ s + owed_behind m n o.seeking q
 least m n q o f s t some up on pays =
     let rest : n + 1 - q ≡ n + 1 - f + (f - q) = omega (arith, up, on) in
-    let a : 84 * m * (n + 1 - q) ≡ 84 * m * (n + 1 - f) + 84 * m * (f - q) = ap (λ x. 84 * m * x) rest ∙ mul-add (84 * m) (n + 1 - f) (f - q) in
+    let a : 86 * m * (n + 1 - q) ≡ 86 * m * (n + 1 - f) + 86 * m * (f - q) = ap (λ x. 86 * m * x) rest ∙ mul-add (86 * m) (n + 1 - f) (f - q) in
     let b = mul-le-mul_right (f - q) some in
     let falls = search_falls m n o.seeking q f up in
     omega (arith, rest, a, b, falls, pays)

@@ -176,11 +176,11 @@ behind_falls : (m n q : ℕ) (s : Seeking) → owed_behind m n s q ≤ owed_behi
 behind_falls m n q s =
     let a = search_falls m n s 0 q (omega arith) in
     let rest : n + 1 - q ≤ n + 1 - 0 = omega arith in
-    let b = mul-le-mul_left (84 * m) rest in
+    let b = mul-le-mul_left (86 * m) rest in
     omega (arith, a, b)
 
 due_enough : (m n : ℕ) (last : Option ℕ) (old mid : Occurrences) → 1 ≤ m → (last ≡ None → IsTrue old.is_fresh) → (old.is_fresh ≡ false → mid ≡ old) →
-    (IsTrue old.is_fresh → owed_behind m n mid.seeking 0 + 42 * m ≤ 306 * m * (n + 1)) → owed_search m n last mid.seeking ≤ owed m n last old
+    (IsTrue old.is_fresh → owed_behind m n mid.seeking 0 + 43 * m ≤ 308 * m * (n + 1)) → owed_search m n last mid.seeking ≤ owed m n last old
 due_enough m n None old mid some fresh same begun =
     let least = begun (fresh refl) in
     let looks = few_looks m n some in
@@ -197,7 +197,7 @@ due_enough m n (Some q) old mid some fresh same begun = by old.is_fresh refl
         (subst (λ (x : Occurrences). owed_behind m n x.seeking q ≤ owed_behind m n old.seeking q) (sym (same is)) (omega arith))
 
 paid : (m n : ℕ) (last : Option ℕ) (old mid new : Occurrences) (r : Option (ℕ × ℕ)) (s t : ℕ) → 1 ≤ m → (last ≡ None → IsTrue old.is_fresh) → (old.is_fresh ≡ false → mid ≡ old) →
-    (IsTrue old.is_fresh → owed_behind m n mid.seeking 0 + 42 * m ≤ 306 * m * (n + 1)) → new.is_fresh ≡ false →
+    (IsTrue old.is_fresh → owed_behind m n mid.seeking 0 + 43 * m ≤ 308 * m * (n + 1)) → new.is_fresh ≡ false →
     CostsWithin s t (owed_search m n last mid.seeking) (owed_after_search (owed_behind m n new.seeking) r) → CostsWithin s t (owed m n last old) (owed_after m n r new)
 paid m n last old mid new r s t some fresh same begun used pays =
     let due = due_enough m n last old mid some fresh same begun in
@@ -300,23 +300,22 @@ room_made text most width es o places edges marks some few roomy room own fit = 
 
 -- The first occurrence.
 
-pub first_paid : (m n start o o0 s a t : ℕ) (due : ℕ → ℕ) (r : Option (ℕ × ℕ)) → o ≤ o0 → a ≤ s + 3 * n → t + owed_after_search due r ≤ a + (o + 42 * m) →
-    t + owed_after_search (λ q. due q + 84 * m * (n + 1 - q)) r ≤ s + (o0 + 84 * m * (n + 1 - 0) + 42 * m + 3 * n)
+pub first_paid : (m n start o o0 s a t : ℕ) (due : ℕ → ℕ) (r : Option (ℕ × ℕ)) → o ≤ o0 → a ≤ s + n → t + owed_after_search due r ≤ a + (o + 43 * m) →
+    t + owed_after_search (λ q. due q + 86 * m * (n + 1 - q)) r ≤ s + (o0 + 86 * m * (n + 1 - 0) + 43 * m + n)
 first_paid m n start o o0 s a t due None less looks pays = omega (arith, less, looks, pays)
 first_paid m n start o o0 s a t due (Some f) less looks pays =
     let rest : n + 1 - f.1 ≤ n + 1 - 0 = omega arith in
-    let all = mul-le-mul_left (84 * m) rest in
+    let all = mul-le-mul_left (86 * m) rest in
     omega (arith, all, less, looks, pays)
 
-squared : (n : ℕ) → 195 * n + 48 ≤ 64 * (n + 1) * (n + 1)
+squared : (n : ℕ) → 193 * n + 48 ≤ 64 * (n + 1) * (n + 1)
 squared zero = omega arith
 squared (suc n) = omega arith
 
-pub first_square : (m n start s a t : ℕ) → 1 ≤ m → a ≤ s + 3 * n → t ≤ a + search_cost m n start → t ≤ s + 64 * m * m * (n + 1) * (n + 1)
+pub first_square : (m n start s a t : ℕ) → 1 ≤ m → a ≤ s + n → t ≤ a + search_cost m n start → t ≤ s + 64 * m * m * (n + 1) * (n + 1)
 first_square m n start s a t some looks each =
     let long = search_long m n start in
-    let few = few_looks m n some in
-    let less : 3 * n ≤ m * (3 * n) = (let h = mul-le-mul_left (3 * n) some in omega (arith, h)) in
+    let less : n ≤ m * n = (let h = mul-le-mul_left n some in omega (arith, h)) in
     let c = mul-le-mul_left m (squared n) in
     let d = mul-le-mul_left (m * (64 * (n + 1) * (n + 1))) some in
     omega (arith, looks, each, long, less, c, d)
@@ -344,7 +343,7 @@ looks_since passed s t u (Some f) grows looks = least_since s t u (passed f) gro
 
 -- what a search by passes tells
 pub tells : (e : WrittenExpression) (w : List ℕ) (last : Option ℕ) (old mid new : Occurrences) (r : Option (ℕ × ℕ)) (s t : ℕ) → 1 ≤ length e.nodes → Serves e w last old → IsReady e w old mid → IsReady e w mid new →
-    (old.is_fresh ≡ false → mid ≡ old) → (IsTrue old.is_fresh → owed_behind (length e.nodes) (length w) mid.seeking 0 + 42 * length e.nodes ≤ 306 * length e.nodes * (length w + 1)) → new.is_fresh ≡ false →
+    (old.is_fresh ≡ false → mid ≡ old) → (IsTrue old.is_fresh → owed_behind (length e.nodes) (length w) mid.seeking 0 + 43 * length e.nodes ≤ 308 * length e.nodes * (length w + 1)) → new.is_fresh ≡ false →
     r ≡ next_span (found (expression_tree e) w) (length w) last → IfSome r (Occurs (expression_tree e) w last) →
     CostsWithin s t (owed_search (length e.nodes) (length w) last mid.seeking) (owed_after_search (owed_behind (length e.nodes) (length w) new.seeking) r) →
     SearchTakes (length e.nodes) (length w) (unwrap_or last 0) s t r → TellsNext e w last old new s t r

@@ -40,8 +40,8 @@ pub few_looks : (m n : ℕ) → 1 ≤ m → 3 * n ≤ 3 * m * (n + 1)
 few_looks m n some = let h = mul-le-mul_left (n + 1) some in omega (arith, h)
 
 -- where none begins before a place, one begins from there on if one does from an earlier place on
-pub told_past : (e : WrittenExpression) (w : List ℕ) (from start s t u : ℕ) (told : Bool) → 1 ≤ length e.nodes → Narrowed (expression_tree e) w from (Some start) → CostsWithin s t (3 * length w) (3 * from) →
-    TakesAtLeast s t (start - from) → (IsTrue told ↔ SomeFound (expression_tree e) w start) → (IsTrue told → PassesOver (expression_tree e) w start t u) → Takes t u (41 * length e.nodes * (length w + 1)) →
+pub told_past : (e : WrittenExpression) (w : List ℕ) (from start s t u : ℕ) (told : Bool) → 1 ≤ length e.nodes → Narrowed (expression_tree e) w from (Some start) → CostsWithin s t (length w) from →
+    TakesAtLeast s t (start - from) → (IsTrue told ↔ SomeFound (expression_tree e) w start) → (IsTrue told → PassesOver (expression_tree e) w start t u) → Takes t u (43 * length e.nodes * (length w + 1)) →
     TellsMatch e w from s u told
 told_past e w from start s t u told some is looks counts tells over cost =
     let few = few_looks (length e.nodes) (length w) some in

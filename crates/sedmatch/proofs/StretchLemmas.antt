@@ -1,13 +1,10 @@
 -- Where a stretch stands first.
 use Rattle.std.proofs.Common.{◌≡◌, ℕ, max, ◌+◌, ◌-◌, ◌<◌, ◌≤◌, Bool, List, length, Option, Some, None, sym, subst, ⊎_elim, arith}
-use Rattle.std.specs.Prelude.{IfSome}
 use Rattle.std.proofs.lemmas.Bool.{cases_lt}
 use Rattle.std.proofs.lemmas.Option.{slice_get_within}
 use Rattle.sedre.specs.Tree.{set}
-use Rattle.sedtext.specs.Beginnings.{CanBegin, NextStart}
 use Rattle.sedtext.specs.Bytes.{FirstFrom}
 use Rattle.sedtext.specs.Spans.{Matches}
-use Rattle.sedtext.specs.declared.beginnings.Begins.TheVariants.{WithSet}
 use Rattle.sedmatch.specs.Stretches.{ComesFirst, FirstStretch, Follow, FollowFrom, StretchSpans, width}
 use Rattle.sedmatch.specs.declared.stretches.First.{First}
 use Rattle.sedmatch.specs.declared.stretches.First.TheVariants.{Nothing, Among, Member}
@@ -21,10 +18,6 @@ pub comes_within : (first : First) (w : List ℕ) (i : ℕ) → ComesFirst first
 comes_within Nothing w i comes = omega (arith, comes)
 comes_within (Among few) w i comes = let less = slice_get_within w i comes.0 comes.1 in omega (arith, less)
 comes_within (Member s) w i comes = let less = slice_get_within w i comes.0 comes.1 in omega (arith, less)
-
-pub first_member : (s : List Bool) (w : List ℕ) (p : ℕ) (r : Option ℕ) → NextStart (WithSet s) w p r → IfSome r (λ k. CanBegin (WithSet s) w k) → FirstFrom (ComesFirst (Member s) w) p r
-first_member s w p None none here = λ k low starts. none k low (let inside = slice_get_within w k starts.0 starts.1 in omega arith) starts
-first_member s w p (Some k) next here = (next.0, here, λ h low lt starts. next.2 h low lt starts)
 
 -- what follows goes forward, and can be cut
 pub follow_on : (rest : Option (List Bool)) (w : List ℕ) (i j : ℕ) → Follow rest w i j → i ≤ j

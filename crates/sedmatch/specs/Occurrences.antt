@@ -74,7 +74,7 @@ ServesOn e w r old new = KeepsRoom e old new × IfSome r (λ f. Serves e w (Some
 
 -- The steps that searches by passes may still take, with m nodes in a text of n bytes, after an occurrence that ended at the place.
 abbrev pub owed_search : ℕ → ℕ → Option ℕ → Seeking → ℕ
-owed_search m n None s = owed_behind m n s 0 + 42 * m + 3 * n
+owed_search m n None s = owed_behind m n s 0 + 43 * m + n
 owed_search m n (Some q) s = owed_behind m n s q
 
 -- those that looks at the text may

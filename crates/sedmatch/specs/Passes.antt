@@ -7,7 +7,7 @@ use Rattle.sedtext.specs.Beginnings.{AllBegin}
 use Rattle.sedtext.specs.Caps.{IsReport}
 use Rattle.sedtext.specs.Following.{PassesOver}
 use Rattle.sedtext.specs.Groups.{Groups}
-use Rattle.sedtext.specs.Hints.{AreHints}
+use Rattle.sedtext.specs.Needed.{IsNeeded}
 use Rattle.sedtext.specs.Spans.{SomeFound}
 use Rattle.sedpass.specs.Decide.{AreGroupTables, AreRoomy, HasSpace, found}
 use Rattle.sedpass.specs.Table.{IsRoomy, IsTable}
@@ -35,7 +35,7 @@ back_way = record { mirrored = true; all_starts = true; keeps = true }
 pub record IsSought (e : WrittenExpression) (s : Sought) : Type 0 where
   pub expr : s.prepared.arena.expr ≡ e
   pub begins : AllBegin (expression_tree e) s.begins
-  pub hints : AreHints (expression_tree e) s.hints
+  pub needed : IsNeeded (expression_tree e) s.needed
 
 -- the tables, where the expression has some of its own, are for it
 abbrev pub AreOwn : Prepared → Option OwnTables → Type 0

@@ -2,9 +2,7 @@
 -- Which nodes are a stem, and where it stands.
 use Rattle.std.specs.Prelude.{◌≡◌, ℕ, ◌+◌, ◌≤◌, ◌↔◌, Bool, List, length, Option, Some, None}
 use Rattle.sedre.specs.declared.types.Node.{Node}
-use Rattle.sedtext.specs.Beginnings.{CanBegin}
-use Rattle.sedtext.specs.Bytes.{AreBytes}
-use Rattle.sedtext.specs.declared.beginnings.Begins.TheVariants.{WithSet}
+use Rattle.sedtext.specs.Bytes.{MemberAt, AreBytes}
 use Rattle.sedtext.specs.Reach.{At}
 use Rattle.sedtext.specs.Runs.{Repeated}
 use Rattle.sedmatch.specs.Stretches.{ComesFirst, Follow, Stands, width}
@@ -15,7 +13,7 @@ use Rattle.sedmatch.specs.declared.stretches.Anchoring.{Anchoring}
 -- a byte of the set leads from i to k; where there is no set, no byte does
 abbrev pub ByteLeads : Option (List Bool) → List ℕ → ℕ → ℕ → Type 0
 ByteLeads None w i k = k ≡ i
-ByteLeads (Some set) w i k = CanBegin (WithSet set) w i × (k ≡ i + 1)
+ByteLeads (Some set) w i k = MemberAt set w i × (k ≡ i + 1)
 
 -- the stem leads from i to j: its byte, and those that follow
 abbrev pub StemLeads : Stem → List ℕ → ℕ → ℕ → Type 0

@@ -1,8 +1,7 @@
 -- Private to the proofs: no contract that `sedmatch` makes public cites what stands here.
 -- A byte that comes first, or none, and bytes of a set that follow, or none, and where they stand.
 use Rattle.std.specs.Prelude.{◌≡◌, ℕ, ◌+◌, ◌-◌, ◌<◌, ◌≤◌, ◌⊎◌, Bool, List, length, Option, Some, None}
-use Rattle.sedtext.specs.Beginnings.{CanBegin}
-use Rattle.sedtext.specs.declared.beginnings.Begins.TheVariants.{WithSet}
+use Rattle.sedtext.specs.Bytes.{MemberAt}
 use Rattle.sedtext.specs.Few.{FewAt}
 use Rattle.sedtext.specs.Runs.{Repeated}
 use Rattle.sedmatch.specs.declared.stretches.First.{First}
@@ -15,7 +14,7 @@ use Rattle.sedmatch.specs.declared.stretches.Stretch.{Stretch}
 abbrev pub ComesFirst : First → List ℕ → ℕ → Type 0
 ComesFirst Nothing w i = i ≤ length w
 ComesFirst (Among few) w i = FewAt few w i
-ComesFirst (Member set) w i = CanBegin (WithSet set) w i
+ComesFirst (Member set) w i = MemberAt set w i
 
 -- how many bytes come first
 abbrev pub width : First → ℕ

@@ -51,7 +51,7 @@ fn literal_of(
     steps: &mut Steps,
 ) -> Result<Option<Finder<'static>>, AllocError>
     ensures word { IfOk result (λ r. IfSome r (λ w. AllWord expr.now.nodes (length expr.now.nodes - 1) w)) }
-    ensures cost { Takes steps.old steps.new 131074 }
+    ensures cost { Takes steps.old steps.new 196611 }
 {
     let root = expr.root().index();
     let Literal { bytes, rest } = literal_from(alloc, expr, root, steps)?;
@@ -73,7 +73,7 @@ pub(crate) fn is_expression(expr: &Expr)
 /// How the matches of the expression look, if a look at the text tells them.
 fn form_of(alloc: Global, expr: &Expr, steps: &mut Steps) -> Result<Option<DirectForm>, AllocError>
     ensures form { IfOk result (λ r. IfSome r (SpannedAs (expression_tree expr.now))) }
-    ensures cost { Takes steps.old steps.new 196635 }
+    ensures cost { Takes steps.old steps.new 262172 }
 {
     is_expression(expr);
     if let Some(form) = stretch_of(expr, steps) {
@@ -95,7 +95,7 @@ pub fn direct_form_of(
     steps: &mut Steps,
 ) -> Result<Option<DirectForm>, AllocError>
     ensures form { IfOk result (λ r. IfSome r (IsDirect expr.now)) }
-    ensures cost { Takes steps.old steps.new 196635 }
+    ensures cost { Takes steps.old steps.new 262172 }
 {
     if expr.groups() > 0 {
         return Ok(None);

@@ -22,6 +22,7 @@ use sedpass::table::Table;
 use sedpass::width::width_for;
 use sedre::Steps;
 use sedtext::counted::Text;
+use sedtext::needed::skip_to_literal;
 use std::alloc::{AllocError, Global};
 
 /// How many expressions have a table of their own at most.
@@ -157,7 +158,7 @@ impl Occurrences {
         ensures used { self.new.is_fresh ≡ false }
         ensures same { self.old.is_fresh ≡ false → self.new ≡ self.old }
         ensures owed { let m = length prepared.now.arena.expr.nodes in let n = length text.now in
-            IsTrue self.old.is_fresh → owed_behind m n self.new.seeking 0 + 42 * m ≤ 306 * m * (n + 1) }
+            IsTrue self.old.is_fresh → owed_behind m n self.new.seeking 0 + 43 * m ≤ 308 * m * (n + 1) }
     {
         if !self.is_fresh {
             return;
@@ -201,7 +202,7 @@ fn next_with(
     let (prepared, begins) = (&sought.prepared, &sought.begins);
     let subject = Subject { prepared, text };
     match last {
-        None => match sought.hints.first_place(text, 0, steps) {
+        None => match skip_to_literal(&sought.needed, text, 0, steps) {
             None => None,
             Some(start) => next_match(subject, begins, ahead, back, seeking, start, steps),
         },

@@ -5,7 +5,7 @@ ghost use Rattle.sedre.specs.Tree.{Tree, WrittenExpression, expression_tree};
 ghost use Rattle.sedre.specs.Steps.{Takes, TakesAtLeast};
 ghost use Rattle.sedtext.specs.Beginnings.{AllBegin};
 ghost use Rattle.sedtext.specs.Following.{PassesOver};
-ghost use Rattle.sedtext.specs.Hints.{AreHints};
+ghost use Rattle.sedtext.specs.Needed.{IsNeeded};
 ghost use Rattle.sedpass.specs.Table.{IsAhead, IsSweep, SameShape};
 ghost use Rattle.sedtext.specs.Spans.{SomeFound, Matches};
 ghost use Rattle.sedpass.specs.Decide.{HasDesk, SameTables};
@@ -24,9 +24,9 @@ use sedpass::rows::{Way, Work};
 use sedpass::table::Table;
 use sedre::{Expr, Steps};
 use sedtext::beginnings::{Begins, how_begins};
-use sedtext::counted::lookups::find_literal;
-use sedtext::counted::{Text, are_bytes};
-use sedtext::hints::{Hints, find_hints};
+use sedtext::counted::Text;
+use sedtext::counted::lookups::{find_literal, sift};
+use sedtext::needed::{RequiredLiteral, find_needed, skip_to_literal};
 use std::alloc::{AllocError, Global};
 
 /// What is found out of an expression once.
@@ -36,8 +36,8 @@ pub struct Sought {
     pub prepared: Prepared,
     /// How its matches begin.
     pub begins: Begins,
-    /// What they hold.
-    pub hints: Hints,
+    /// A literal that they hold.
+    pub needed: Option<RequiredLiteral>,
 }
 
 /// The tables of one expression.
@@ -109,13 +109,13 @@ pub fn new_passes(
     ensures { IfOk result (ArePasses expr.now) }
 {
     let begins = how_begins(expr, steps);
-    let hints = find_hints(alloc, expr, steps)?;
+    let needed = find_needed(alloc, expr, steps)?;
     let prepared = Prepared::new(alloc, expr, steps)?;
     let own = own_tables(alloc, &prepared, room)?;
     let sought = Sought {
         prepared,
         begins,
-        hints,
+        needed,
     };
     Ok(Passes { sought, own })
 }
@@ -132,18 +132,17 @@ impl Passes {
 
 /// A place of the text before which no line has a match, or None where no line has one, as these tell.
 #[tactic(auto, unfolding(sedre::specs::Steps::TakesAtLeast, sedre::specs::Steps::TakesExactly))]
-pub fn candidate_by(hints: &Hints, text: &Text, steps: &mut Steps) -> Option<usize>
-    ensures before { (e : Tree) → AreHints e hints.now → NoMatchBefore e text.now result }
+pub fn candidate_by(sought: &Sought, text: &Text, steps: &mut Steps) -> Option<usize>
+    ensures before { (e : Tree) → IsNeeded e sought.now.needed → AllBegin e sought.now.begins → NoMatchBefore e text.now result }
     ensures cost { Takes steps.old steps.new (25 * (length text.now + 1)) }
     ensures counts { IfSome result (λ k. TakesAtLeast steps.old steps.new k) }
 {
-    are_bytes(text);
-    if let Some(needed) = &hints.needed {
+    if let Some(needed) = &sought.needed {
         return find_literal(text, &needed.finder, 0, steps);
     }
-    match &hints.rare {
-        None => Some(0),
-        Some(rare) => rare.find(text, 0, steps),
+    match &sought.begins {
+        Begins::Before(sieve) => sift(text, sieve, 0, steps),
+        _ => Some(0),
     }
 }
 
@@ -167,7 +166,7 @@ fn matches_with(
     ensures ahead_shape { SameShape ahead.old ahead.new }
     ensures matches { IsTrue result ↔ SomeFound (expression_tree sought.now.prepared.arena.expr) text.now from }
     ensures passes { IsTrue result → PassesOver (expression_tree sought.now.prepared.arena.expr) text.now from steps.old steps.new }
-    ensures cost { Takes steps.old steps.new (41 * length sought.now.prepared.arena.expr.nodes * (length text.now + 1)) }
+    ensures cost { Takes steps.old steps.new (43 * length sought.now.prepared.arena.expr.nodes * (length text.now + 1)) }
 {
     let prepared = &sought.prepared;
     let subject = Subject { prepared, text };
@@ -194,7 +193,7 @@ pub fn matches_by(
     ensures told { TellsMatch passes.old.sought.prepared.arena.expr text.now from steps.old steps.new result }
 {
     let sought = &passes.sought;
-    let Some(start) = sought.hints.first_place(text, from, steps) else {
+    let Some(start) = skip_to_literal(&sought.needed, text, from, steps) else {
         return false;
     };
     let work = &mut desk.room.kept.work;

@@ -192,7 +192,7 @@ impl TableMatcher {
     {
         match &self.engine {
             Engine::Direct(_, form) => direct_candidate(form, text, steps),
-            Engine::Passes(passes) => candidate_by(&passes.sought.hints, text, steps),
+            Engine::Passes(passes) => candidate_by(&passes.sought, text, steps),
         }
     }
 

@@ -1,18 +1,18 @@
 -- How the spans of a node begin, by the part that stands first in it.
 use Rattle.std.proofs.Common.{◌≡◌, ℕ, ◌+◌, ◌<◌, ◌≤◌, Bool, false, List, Some, None, IsTrue, ◌∙◌, subst, ⊎_elim, arith, Option}
 use Rattle.std.proofs.lemmas.Bool.{both_ways, cases_lt}
-use Rattle.sedtext.specs.declared.beginnings.Begins.TheVariants.{WithByte, WithSet}
 use Rattle.std.proofs.lemmas.Option.{slice_get_within}
 use Rattle.std.specs.Prelude.{slice_get, slice_index_or}
 use Rattle.sedre.specs.Sets.{has}
-use Rattle.sedtext.specs.Bytes.{FirstAt}
-use Rattle.sedtext.specs.Beginnings.{CanBegin, NextStart}
+use Rattle.sedtext.specs.Bytes.{FirstAt, FirstFrom, MemberAt}
+use Rattle.sedtext.specs.Beginnings.{NextStart}
+use Rattle.sedtext.specs.declared.beginnings.Begins.TheVariants.{WithByte, WithSet}
 
 -- one more byte that is not in the set
 pub member_step : (members : List Bool) (w : List ℕ) (from place byte : ℕ) (has : Bool) →
     slice_get w place ≡ Some byte → has ≡ slice_index_or members byte false → has ≡ false →
-    ((i : ℕ) → from ≤ i → i < place → CanBegin (WithSet members) w i → ⊥) →
-    (i : ℕ) → from ≤ i → i < place + 1 → CanBegin (WithSet members) w i → ⊥
+    ((i : ℕ) → from ≤ i → i < place → MemberAt members w i → ⊥) →
+    (i : ℕ) → from ≤ i → i < place + 1 → MemberAt members w i → ⊥
 member_step members w from place byte has is value not_in missed i low high can =
     ⊎_elim
     (λ (lt : i < place). missed i low lt can)
@@ -23,9 +23,12 @@ member_step members w from place byte has is value not_in missed i low high can 
     both_ways has not_in (value ∙ subst (λ b. IsTrue (slice_index_or members b false)) one can.2))
     (cases_lt i place)
 
--- the first place that holds the byte with which every span begins
-pub starts_with_byte : (w : List ℕ) (byte p : ℕ) (r : Option ℕ) → FirstAt w byte p r → NextStart (WithByte byte) w p r
-starts_with_byte w byte p None first = λ i low within begins. first i low begins
-starts_with_byte w byte p (Some k) first =
-    let inside = slice_get_within w k byte first.1 in
-    (first.0, omega (arith, inside), first.2)
+-- the first place at which one can begin so
+module _ (w : List ℕ) (p : ℕ) where
+  pub starts_with_byte : (byte : ℕ) (r : Option ℕ) → FirstAt w byte p r → NextStart (WithByte byte) w p r
+  starts_with_byte byte None first = λ i low within begins. first i low begins
+  starts_with_byte byte (Some k) first = let inside = slice_get_within w k byte first.1 in (first.0, omega (arith, inside), first.2)
+
+  pub starts_with_member : (s : List Bool) (r : Option ℕ) → FirstFrom (MemberAt s w) p r → NextStart (WithSet s) w p r
+  starts_with_member s None first = λ i low within begins. first i low begins
+  starts_with_member s (Some k) first = let inside = slice_get_within w k first.1.0 first.1.1 in (first.0, omega (arith, inside), first.2)

@@ -37,9 +37,9 @@ unfolding TakesExactly
 most_counted s t n is = omega (arith, is)
 
 -- a place that is found by looks at each byte from p on
-pub least_looked : (s t n p looks : ℕ) (r : Option ℕ) → TakesExactly s t looks → looked_at n p r ≤ looks → IfSome r (λ k. TakesAtLeast s t (k - p))
-least_looked s t n p looks None is few = tt
-least_looked s t n p looks (Some k) is few = least_counted s t looks (k - p) is (omega (arith, few))
+pub least_looked : (s t n p : ℕ) (r : Option ℕ) → TakesAtLeast s t (looked_at n p r) → IfSome r (λ k. TakesAtLeast s t (k - p))
+least_looked s t n p None are = tt
+least_looked s t n p (Some k) are = least_less s t (k + 1 - p) (k - p) are (omega arith)
 
 -- and one that is found from a later place q on
 pub least_later : (s a b p q : ℕ) (r : Option ℕ) → TakesAtLeast s a (q - p) → IfSome r (λ k. TakesAtLeast a b (k - q)) → IfSome r (λ k. TakesAtLeast s b (k - p))

@@ -17,5 +17,6 @@ pub mod TimesLemmas
 pub mod NeededLemmas
 pub mod FewLemmas
 pub mod PrefixLemmas
-pub mod RareLemmas
 pub mod LaneLemmas
+pub mod SieveLemmas
+pub mod NibbleLemmas

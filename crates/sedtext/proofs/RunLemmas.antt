@@ -7,20 +7,19 @@ use Rattle.sedre.specs.Tree.{set}
 use Rattle.sedre.specs.declared.types.Node.{Node}
 use Rattle.sedtext.specs.Spans.{Matches, CopiesLead, no_copy, one_more}
 use Rattle.sedtext.specs.Reach.{At}
-use Rattle.sedtext.specs.Beginnings.{CanBegin}
-use Rattle.sedtext.specs.declared.beginnings.Begins.TheVariants.{WithSet}
+use Rattle.sedtext.specs.Bytes.{MemberAt}
 use Rattle.sedtext.specs.Forms.{HasForm, IsOfSet}
 use Rattle.sedtext.specs.declared.forms.Form.TheVariants.{Copies}
 use Rattle.sedtext.specs.Runs.{Repeated, AllRepeat, IsRun}
 use Rattle.sedtext.proofs.SpanLemmas.{CopiesLead-forward, CopiesLead-append}
 
 -- copies end in the run
-pub in_run : (members : List Bool) (w : List ℕ) (k j i : ℕ) → i ≤ k → (CanBegin (WithSet members) w k → ⊥) → CopiesLead (Matches (set members) w) j i → j ≤ k
+pub in_run : (members : List Bool) (w : List ℕ) (k j i : ℕ) → i ≤ k → (MemberAt members w k → ⊥) → CopiesLead (Matches (set members) w) j i → j ≤ k
 in_run members w k j i low stop no_copy = low
 in_run members w k j i low stop (one_more _ l lt r rest) =
     ⊎_elim
     (λ (more : i < k). in_run members w k j l (omega arith) stop rest)
-    (λ (le : k ≤ i). let same : i ≡ k = omega arith in absurd (stop (subst (λ v. CanBegin (WithSet members) w v) same (r.0, r.1, r.2))))
+    (λ (le : k ≤ i). let same : i ≡ k = omega arith in absurd (stop (subst (λ v. MemberAt members w v) same (r.0, r.1, r.2))))
     (cases_lt i k)
 
 -- one more byte of the run
@@ -30,7 +29,7 @@ longer_run members w i place byte has is value holds copies =
     CopiesLead-append (Matches (set members) w) place i (place + 1) copies (omega arith) (byte, is, sym value ∙ holds, refl)
 
 -- no byte stands at the end of the text
-pub stops_behind : (members : List Bool) (w : List ℕ) (place : ℕ) → length w ≤ place → CanBegin (WithSet members) w place → ⊥
+pub stops_behind : (members : List Bool) (w : List ℕ) (place : ℕ) → length w ≤ place → MemberAt members w place → ⊥
 stops_behind members w place long can = let inside = slice_get_within w place can.0 can.1 in absurd (omega arith)
 
 -- a run goes forward

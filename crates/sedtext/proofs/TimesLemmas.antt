@@ -6,8 +6,7 @@ use Rattle.sedre.specs.Tree.{set, star}
 use Rattle.sedre.specs.declared.types.Node.{Node}
 use Rattle.sedtext.specs.Spans.{Matches, CopiesLead, no_copy, one_more}
 use Rattle.sedtext.specs.Runs.{Repeated, RunBegins}
-use Rattle.sedtext.specs.Beginnings.{CanBegin}
-use Rattle.sedtext.specs.declared.beginnings.Begins.TheVariants.{WithSet}
+use Rattle.sedtext.specs.Bytes.{MemberAt}
 use Rattle.sedtext.specs.Times.{HasTimes, AllTimes, AreWidths, FirstTimes}
 use Rattle.sedtext.proofs.SpanLemmas.{Matches-within}
 use Rattle.std.proofs.lemmas.List.{get_or_default}
@@ -36,16 +35,16 @@ module _ (members : List Bool) (w : List ℕ) where
       (cases_lt i m)
 
   -- the first of them is in the set
-  pub repeated_first : (j p : ℕ) → p < j → Repeated members w p j → CanBegin (WithSet members) w p
+  pub repeated_first : (j p : ℕ) → p < j → Repeated members w p j → MemberAt members w p
   repeated_first j p lt no_copy = absurd (omega arith)
   repeated_first j p lt (one_more _ l on r rest) = (r.0, r.1, r.2)
 
   -- and each other one
-  pub repeated_in : (i p j : ℕ) → i ≤ p → p < j → Repeated members w i j → CanBegin (WithSet members) w p
+  pub repeated_in : (i p j : ℕ) → i ≤ p → p < j → Repeated members w i j → MemberAt members w p
   repeated_in i p j low lt all = let cut = repeated_cut p j i low (omega arith) all in repeated_first j p lt cut.1
 
   -- one more of them before the others
-  pub repeated_before : (p j : ℕ) → CanBegin (WithSet members) w p → Repeated members w (p + 1) j → Repeated members w p j
+  pub repeated_before : (p j : ℕ) → MemberAt members w p → Repeated members w (p + 1) j → Repeated members w p j
   repeated_before p j can rest = one_more p (p + 1) (omega arith) (can.0, can.1, can.2, refl) rest
 
   -- they end in the text

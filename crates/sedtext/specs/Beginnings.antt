@@ -3,9 +3,11 @@
 use Rattle.std.specs.Prelude.{◌≡◌, ℕ, ◌+◌, ◌<◌, ◌≤◌, List, length, slice_get, Option, Some, None}
 use Rattle.sedre.specs.Tree.{Tree}
 use Rattle.sedre.specs.declared.types.Node.{Node}
-use Rattle.sedtext.specs.Spans.{Matches, IsIn}
+use Rattle.sedtext.specs.Spans.{Matches}
+use Rattle.sedtext.specs.Bytes.{MemberAt}
+use Rattle.sedtext.specs.Sieve.{PassesSieve}
 use Rattle.sedtext.specs.declared.beginnings.Begins.{Begins}
-use Rattle.sedtext.specs.declared.beginnings.Begins.TheVariants.{Anyhow, AtStart, WithByte, WithSet}
+use Rattle.sedtext.specs.declared.beginnings.Begins.TheVariants.{Anyhow, AtStart, WithByte, WithSet, Before}
 use Rattle.sedtext.specs.Reach.{At}
 
 -- a span that begins so can begin at the place
@@ -13,7 +15,8 @@ abbrev pub CanBegin : Begins → List ℕ → ℕ → Type 0
 CanBegin Anyhow w i = Unit {0}
 CanBegin AtStart w i = i ≡ 0
 CanBegin (WithByte b) w i = slice_get w i ≡ Some b
-CanBegin (WithSet s) w i = (b : ℕ) × (slice_get w i ≡ Some b) × IsIn b s
+CanBegin (WithSet s) w i = MemberAt s w i
+CanBegin (Before s) w i = PassesSieve s w i
 
 -- all spans of the expression begin so
 abbrev pub AllBegin : Tree → Begins → Type 0

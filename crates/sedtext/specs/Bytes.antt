@@ -1,5 +1,6 @@
 -- Where a text holds a byte.
-use Rattle.std.specs.Prelude.{◌≡◌, ℕ, ◌+◌, ◌-◌, ◌<◌, ◌≤◌, List, slice_get, Option, Some, None}
+use Rattle.std.specs.Prelude.{◌≡◌, ℕ, ◌+◌, ◌-◌, ◌<◌, ◌≤◌, Bool, List, slice_get, Option, Some, None}
+use Rattle.sedtext.specs.Spans.{IsIn}
 
 -- the first place from p on of which P holds, if there is one
 abbrev pub FirstFrom : (ℕ → Type 0) → ℕ → Option ℕ → Type 0
@@ -9,6 +10,10 @@ FirstFrom P p (Some k) = (p ≤ k) × P k × ((h : ℕ) → p ≤ h → h < k �
 -- the first place from p on that holds the byte, if there is one
 abbrev pub FirstAt : List ℕ → ℕ → ℕ → Option ℕ → Type 0
 FirstAt w byte = FirstFrom (λ k. slice_get w k ≡ Some byte)
+
+-- a byte of the set stands at the place
+abbrev pub MemberAt : List Bool → List ℕ → ℕ → Type 0
+MemberAt members w i = (byte : ℕ) × (slice_get w i ≡ Some byte) × IsIn byte members
 
 -- how many bytes are looked at from p to the place found, or to the end n of the text
 abbrev pub looked_at : ℕ → ℕ → Option ℕ → ℕ

@@ -5,8 +5,7 @@ use Rattle.sedre.specs.declared.types.Node.{Node}
 use Rattle.sedre.specs.declared.types.Node.TheVariants.{Set, Begin, End as EndNode, Seq, Alt, Group, Star}
 use Rattle.sedtext.specs.Spans.{CopiesLead}
 use Rattle.sedtext.specs.Reach.{At}
-use Rattle.sedtext.specs.Beginnings.{CanBegin}
-use Rattle.sedtext.specs.declared.beginnings.Begins.TheVariants.{WithSet}
+use Rattle.sedtext.specs.Bytes.{MemberAt}
 use Rattle.sedtext.specs.declared.forms.Form.{Form}
 use Rattle.sedtext.specs.declared.forms.Form.TheVariants.{Byte, Start, End, Both, Either, Inner, Copies, Other}
 
@@ -23,7 +22,7 @@ node_form other = Other
 
 -- the spans of the node x are of one byte of the set
 abbrev pub IsOfSet : List Node → ℕ → List Bool → Type 0
-IsOfSet nodes x s = (w : List ℕ) (i j : ℕ) → At nodes w x i j ↔ (CanBegin (WithSet s) w i × (j ≡ i + 1))
+IsOfSet nodes x s = (w : List ℕ) (i j : ℕ) → At nodes w x i j ↔ (MemberAt s w i × (j ≡ i + 1))
 
 -- the node x has the form: its spans are made as it says, of those of nodes before it
 abbrev pub HasForm : List Node → ℕ → Form → Type 0

@@ -21,5 +21,4 @@ pub mod Prefix
 pub mod Times
 pub mod Word
 pub mod Few
-pub mod Rare
-pub mod Hints
+pub mod Sieve

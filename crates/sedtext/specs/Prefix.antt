@@ -5,9 +5,9 @@ use Rattle.sedre.specs.Tree.{Tree}
 use Rattle.sedre.specs.declared.types.Node.{Node}
 use Rattle.sedtext.specs.Spans.{Matches}
 use Rattle.sedtext.specs.Reach.{At}
-use Rattle.sedtext.specs.Beginnings.{CanBegin, LeadsWith}
+use Rattle.sedtext.specs.Bytes.{MemberAt}
+use Rattle.sedtext.specs.Beginnings.{LeadsWith}
 use Rattle.sedtext.specs.Needed.{GoesOnAs}
-use Rattle.sedtext.specs.declared.beginnings.Begins.TheVariants.{WithSet}
 use Rattle.sedtext.specs.declared.prefix.Link.{Link}
 use Rattle.sedtext.specs.declared.prefix.Link.TheVariants.{OneOf, Inner, First, Either, Other}
 use Rattle.sedtext.specs.declared.prefix.Reached.{Reached}
@@ -15,7 +15,7 @@ use Rattle.sedtext.specs.declared.prefix.Reached.TheVariants.{OneOf as ByteOf, E
 
 -- the spans of the node x begin as the link says
 abbrev pub LinksTo : List Node → ℕ → Link → Type 0
-LinksTo nodes x (OneOf s rest) = IfSome rest (λ y. y < x) × ((w : List ℕ) (i j : ℕ) → At nodes w x i j ↔ (CanBegin (WithSet s) w i × GoesOnAs nodes w (i + 1) j rest))
+LinksTo nodes x (OneOf s rest) = IfSome rest (λ y. y < x) × ((w : List ℕ) (i j : ℕ) → At nodes w x i j ↔ (MemberAt s w i × GoesOnAs nodes w (i + 1) j rest))
 LinksTo nodes x (Inner y) = (y < x) × ((w : List ℕ) (i j : ℕ) → At nodes w x i j ↔ At nodes w y i j)
 LinksTo nodes x (First y) = (y < x) × LeadsWith nodes x y
 LinksTo nodes x (Either y z) = (y < x) × (z < x) × ((w : List ℕ) (i j : ℕ) → At nodes w x i j ↔ (At nodes w y i j ⊎ At nodes w z i j))
@@ -27,20 +27,20 @@ Ahead nodes w x ahead q = (p : ℕ) × (k : ℕ) × (p + ahead ≡ q) × At node
 
 -- this is reached `offset` bytes after the beginning of each span of the node x, by nodes before it
 abbrev pub AllReach : List Node → ℕ → ℕ → Reached → Type 0
-AllReach nodes x offset (ByteOf s) = (w : List ℕ) (q : ℕ) → Ahead nodes w x offset q → CanBegin (WithSet s) w q
+AllReach nodes x offset (ByteOf s) = (w : List ℕ) (q : ℕ) → Ahead nodes w x offset q → MemberAt s w q
 AllReach nodes x offset (OneOfTwo y z ahead) = (y < x) × (z < x) × ((w : List ℕ) (q : ℕ) → Ahead nodes w x offset q → Ahead nodes w y ahead q ⊎ Ahead nodes w z ahead q)
 AllReach nodes x offset Nothing = Unit {0}
 
 -- the looks that following the second node takes
 abbrev pub left_behind : Reached → ℕ
-left_behind (OneOfTwo y z ahead) = 2 * (z + 1)
+left_behind (OneOfTwo y z ahead) = 3 * (z + 1)
 left_behind other = 0
 
 -- a byte of the set, if there is one, stands at the place
 abbrev pub HasOne : Option (List Bool) → List ℕ → ℕ → Type 0
 HasOne None w q = ⊥
-HasOne (Some s) w q = CanBegin (WithSet s) w q
+HasOne (Some s) w q = MemberAt s w q
 
 -- a byte of the set stands `offset` bytes after the beginning of each span of the expression
 abbrev pub AllHave : Tree → ℕ → List Bool → Type 0
-AllHave e offset s = (w : List ℕ) (i j : ℕ) → Matches e w i j → CanBegin (WithSet s) w (i + offset)
+AllHave e offset s = (w : List ℕ) (i j : ℕ) → Matches e w i j → MemberAt s w (i + offset)

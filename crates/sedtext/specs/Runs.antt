@@ -5,8 +5,7 @@ use Rattle.sedre.specs.Tree.{set}
 use Rattle.sedre.specs.declared.types.Node.{Node}
 use Rattle.sedtext.specs.Spans.{Matches, CopiesLead}
 use Rattle.sedtext.specs.Reach.{At}
-use Rattle.sedtext.specs.Beginnings.{CanBegin}
-use Rattle.sedtext.specs.declared.beginnings.Begins.TheVariants.{WithSet}
+use Rattle.sedtext.specs.Bytes.{MemberAt}
 
 -- any number of bytes of the set lead from i to j
 abbrev pub Repeated : List Bool → List ℕ → ℕ → ℕ → Type 0
@@ -18,7 +17,7 @@ AllRepeat nodes x members = (w : List ℕ) (i j : ℕ) → At nodes w x i j ↔ 
 
 -- the bytes from place i up to k are in the set, and no more that follow
 abbrev pub IsRun : List Bool → List ℕ → ℕ → ℕ → Type 0
-IsRun members w i k = (k ≤ length w) × Repeated members w i k × (CanBegin (WithSet members) w k → ⊥)
+IsRun members w i k = (k ≤ length w) × Repeated members w i k × (MemberAt members w k → ⊥)
 
 -- of the places from p on, i is the first from which all bytes up to but not including q are in the set
 abbrev pub RunBegins : List Bool → List ℕ → ℕ → ℕ → ℕ → Type 0

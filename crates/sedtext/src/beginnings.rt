@@ -1,19 +1,36 @@
 //! From which places a match can begin at all, so that the others are passed over.
-ghost use Rattle.std.specs.Prelude.{ℕ, List, ◌-◌, ◌*◌, ◌≤◌, length, IfSome};
+ghost use Rattle.std.specs.Prelude.{ℕ, List, ◌-◌, ◌*◌, ◌≤◌, length, IfSome, Some};
 ghost use Rattle.sedre.specs.Arena.{IsArena};
-ghost use Rattle.sedre.specs.Tree.{expression_tree};
-ghost use Rattle.sedtext.specs.declared.beginnings.Begins.TheVariants.{WithSet};
-ghost use Rattle.sedtext.specs.Beginnings.{CanBegin, AllBegin, NextStart, skip_cost};
+ghost use Rattle.sedre.specs.Tree.{expression_tree, Tree};
+ghost use Rattle.sedtext.specs.Beginnings.{AllBegin, CanBegin, NextStart, skip_cost};
+ghost use Rattle.sedtext.specs.Bytes.{MemberAt};
 ghost use Rattle.sedtext.specs.Costs.{CostsWithin};
+ghost use Rattle.sedtext.specs.Prefix.{AllHave};
+ghost use Rattle.sedtext.specs.Sieve.{AllPass, AllStand};
 ghost use Rattle.sedre.specs.Steps.{Takes, TakesAtLeast};
 
 use crate::counted::Text;
+use crate::counted::lookups::sift;
 use crate::counted::members::find_member;
+use crate::counted::nibbles::Nibbles;
+use crate::counted::sieve::{Fixed, Sieve};
 use crate::prefix::{is_anchored, set_at};
 use sedre::{ByteSet, Expr, Steps};
 
+/// How often bytes stand in a thousand that aren't worth seeking.
+const FREQUENT: usize = 500;
+
+/// How many bytes after its beginning a match is followed.
+const MAX_OFFSET: usize = 32;
+
 /// How many alternatives after the first are followed.
-const MORE_ALTERNATIVES: usize = 3;
+const MORE_ALTERNATIVES: usize = 7;
+
+/// How often each letter stands in a thousand bytes of ordinary text, that is prose, logs and programs.
+const LETTERS: [u8; 26] = [
+    65, 12, 30, 33, 95, 18, 16, 30, 60, 2, 7, 35, 22, 60, 60, 22, 1, 55, 55, 70, 25, 8, 12, 3, 12,
+    1,
+];
 
 /// How every span of an expression begins.
 #[derive(Clone, Copy)]
@@ -26,11 +43,115 @@ pub enum Begins {
     WithByte(u8),
     /// With a byte of this set.
     WithSet(ByteSet),
+    /// So that bytes of three sets stand at their distances after it.
+    Before(Sieve),
+}
+
+/// How often the byte stands in a thousand bytes of ordinary text.
+fn weight(byte: u8) -> usize
+    ensures { result ≤ 255 }
+{
+    match byte {
+        b' ' => 150,
+        b'a'..=b'z' => LETTERS[(byte - b'a') as usize] as usize,
+        b'0'..=b'9' => 12,
+        b'A'..=b'Z' => 4,
+        b'!'..=b'~' => 6,
+        _ => 1,
+    }
+}
+
+/// How often bytes of the set stand in a thousand bytes of ordinary text.
+fn set_weight(set: &ByteSet) -> usize {
+    let mut total = 0usize;
+    for byte in 0..256usize {
+        if set.has(byte as u8) {
+            total = total.saturating_add(weight(byte as u8));
+        }
+    }
+    total
+}
+
+/// The three rarest of these and one more. Where there are fewer, the first stands in for them.
+fn with_fixed(sieve: Option<Sieve>, more: Fixed) -> Sieve
+    ensures { (e : Tree) → AllPass e sieve → AllStand e more → AllPass e (Some result) }
+{
+    let Some(
+        Sieve {
+            first,
+            second,
+            third,
+        },
+    ) = sieve
+    else {
+        let again = Fixed {
+            offset: more.offset,
+            set: more.set,
+            weight: usize::MAX,
+        };
+        return Sieve {
+            first: more,
+            second: again,
+            third: again,
+        };
+    };
+    if more.weight < first.weight {
+        Sieve {
+            first: more,
+            second: first,
+            third: second,
+        }
+    } else if more.weight < second.weight {
+        Sieve {
+            first,
+            second: more,
+            third: second,
+        }
+    } else if more.weight < third.weight {
+        Sieve {
+            first,
+            second,
+            third: more,
+        }
+    } else {
+        Sieve {
+            first,
+            second,
+            third,
+        }
+    }
+}
+
+/// The three rarest of these and of the set, one of whose bytes stands `offset` bytes after the beginning of every match.
+fn with_set(sieve: Option<Sieve>, offset: usize, set: &ByteSet) -> Sieve
+    ensures { (e : Tree) → AllPass e sieve → AllHave e offset set.now → AllPass e (Some result) }
+{
+    let more = Fixed {
+        offset,
+        set: Nibbles::of(set),
+        weight: set_weight(set),
+    };
+    with_fixed(sieve, more)
+}
+
+/// The three rarest sets of which a byte stands at a fixed distance after the beginning of every match, if there is such a set.
+fn rarest_of(expr: &Expr, steps: &mut Steps) -> Option<Sieve>
+    ensures pass { AllPass (expression_tree expr.now) result }
+    ensures cost { Takes steps.old steps.new (768 * length expr.now.nodes) }
+{
+    let mut sieve = None;
+    for offset in 0..MAX_OFFSET {
+        let Some(set) = set_at(expr, offset, MORE_ALTERNATIVES, steps) else {
+            return sieve;
+        };
+        sieve = Some(with_set(sieve, offset, &set));
+    }
+    sieve
 }
 
 /// What begins with a byte of the set.
 fn begins_with(set: ByteSet) -> Begins
-    ensures { (w : List ℕ) (i : ℕ) → CanBegin (WithSet set) w i → CanBegin result w i }
+    ensures { (w : List ℕ) (i : ℕ) → MemberAt set w i → CanBegin result w i }
 {
     match set.sole() {
         Some(byte) => Begins::WithByte(byte),
@@ -38,14 +159,19 @@ fn begins_with(set: ByteSet) -> Begins
     }
 }
 
-/// How every span of the expression begins, as far as the nodes tell that can come first in one.
+/// How every span of the expression begins, as far as the nodes tell that come first in one.
 pub fn how_begins(expr: &Expr, steps: &mut Steps) -> Begins
     ensures begins { AllBegin (expression_tree expr.now) result }
-    ensures cost { Takes steps.old steps.new (9 * length expr.now.nodes) }
+    ensures cost { Takes steps.old steps.new (793 * length expr.now.nodes) }
     ensures arena { IsArena expr.now.nodes }
 {
     if is_anchored(expr, steps) {
         return Begins::AtStart;
+    }
+    if let Some(sieve) = rarest_of(expr, steps) {
+        if sieve.first.weight <= FREQUENT && sieve.second.weight < usize::MAX {
+            return Begins::Before(sieve);
+        }
     }
     match set_at(expr, 0, MORE_ALTERNATIVES, steps) {
         Some(set) => begins_with(set),
@@ -53,11 +179,11 @@ pub fn how_begins(expr: &Expr, steps: &mut Steps) -> Begins
     }
 }
 
-/// The first place from `from` on at which a match can begin, as far as `begins` tells, if there is one.
+/// A place from `from` on before which no match begins, as far as `begins` tells, if one may begin there or later.
 pub fn next_start(begins: &Begins, text: &Text, from: usize, steps: &mut Steps) -> Option<usize>
     requires from { from ≤ length text.now }
     ensures next { NextStart begins.now text.now from result }
-    ensures cost { CostsWithin steps.old steps.new (skip_cost (length text.now) result) from }
+    ensures cost { CostsWithin steps.old steps.new (3 * skip_cost (length text.now) result) (3 * from) }
     ensures counts { IfSome result (λ k. TakesAtLeast steps.old steps.new (k - from)) }
 {
     match begins {
@@ -65,5 +191,6 @@ pub fn next_start(begins: &Begins, text: &Text, from: usize, steps: &mut Steps) 
         Begins::AtStart => if from == 0 { Some(0) } else { None },
         Begins::WithByte(byte) => text.find_byte(*byte, from, steps),
         Begins::WithSet(set) => find_member(text, set, from, steps),
+        Begins::Before(sieve) => sift(text, sieve, from, steps),
     }
 }

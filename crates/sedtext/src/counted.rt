@@ -11,12 +11,13 @@ ghost use Rattle.sedtext.specs.Words.{marks_of};
 ghost use Rattle.sedre.specs.Words.{is_set};
 ghost use Rattle.sedre.specs.Steps.{Takes, TakesExactly};
 
-mod apart;
 pub mod few;
 pub mod lookups;
 pub mod members;
+pub mod nibbles;
 mod node_marks;
 mod rows;
+pub mod sieve;
 
 use few::Few;
 use lookups::find_few;

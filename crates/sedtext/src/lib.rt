@@ -6,9 +6,9 @@
 //! seen without a count outside of that module and those below it.
 //!
 //! [`forms`] tells by one look what the spans of a node are made of, and what follows asks nodes by it alone. [`beginnings`] tells
-//! from which places a match can begin at all, [`repeats`] which set of bytes a node repeats. [`needed`],
-//! [`rare`], [`times`] and [`hints`] find out once what an expression tells of all its matches, by which places are passed over
-//! at which none begins. How a match begins is followed by [`prefix`] alone, in alternatives too. No search for a match of any expression stands here.
+//! from which places a match can begin at all, [`repeats`] which set of bytes a node repeats. [`needed`] and
+//! [`times`] find out once what an expression tells of all its matches. How a match begins is followed by [`prefix`] alone, in
+//! alternatives too. No search for a match of any expression stands here.
 //!
 //! The public modules are for the two crates above; `sedmatch` passes on what a program calls, and decides what a matcher uses.
 #![tactic(auto)]
@@ -17,11 +17,9 @@ pub mod beginnings;
 pub mod counted;
 pub mod forms;
 mod found;
-pub mod hints;
 mod laws;
 pub mod needed;
 mod prefix;
-pub mod rare;
 pub mod repeats;
 pub mod starts;
 pub mod times;

@@ -47,7 +47,7 @@ pub fn literal_from(
     requires inside { IsNode expr.now.nodes from }
     ensures literal { IfOk result (λ l. IsLiteral expr.now.nodes from l) }
     ensures up_to { IfOk result (λ l. IfSome l.rest (λ y. y ≤ from)) }
-    ensures cost { Takes steps.old steps.new 131074 }
+    ensures cost { Takes steps.old steps.new 196611 }
 {
     let mut bytes = Vec::new(alloc);
     let mut index = from;

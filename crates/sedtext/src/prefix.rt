@@ -4,12 +4,13 @@ ghost use Rattle.std.specs.Prelude.{◌≡◌, ℕ, List, ◌+◌, ◌*◌, ◌<
 ghost use Rattle.sedre.specs.Arena.{IsArena};
 ghost use Rattle.sedre.specs.Tree.{expression_tree};
 ghost use Rattle.sedre.specs.Steps.{Takes};
-ghost use Rattle.sedtext.specs.Beginnings.{AllBegin, CanBegin};
+ghost use Rattle.sedtext.specs.Bytes.{MemberAt};
+ghost use Rattle.sedtext.specs.Beginnings.{AllBegin};
 ghost use Rattle.sedtext.specs.Costs.{CostsWithin};
 ghost use Rattle.sedtext.specs.Prefix.{AllHave, AllReach, HasOne, LinksTo, left_behind};
-ghost use Rattle.sedtext.specs.declared.beginnings.Begins.TheVariants.{AtStart, WithSet};
+ghost use Rattle.sedtext.specs.declared.beginnings.Begins.TheVariants.{AtStart};
 
-use crate::forms::{Form, form_of};
+use crate::forms::{Form, form_of, set_of};
 use sedre::{ByteSet, Expr, Steps};
 
 /// How the spans of a node begin.
@@ -31,11 +32,15 @@ pub enum Link {
 pub fn link_of(expr: &Expr, index: usize, steps: &mut Steps) -> Link
     requires inside { index < length expr.now.nodes }
     ensures links { LinksTo expr.now.nodes index result }
-    ensures cost { Takes steps.old steps.new 2 }
+    ensures cost { Takes steps.old steps.new 3 }
 {
     match form_of(expr, index, steps) {
         Form::Both(first, next) => match form_of(expr, first, steps) {
             Form::Byte(set) => Link::OneOf(set, Some(next)),
+            Form::Inner(part) => match set_of(expr, part, steps) {
+                Some(set) => Link::OneOf(set, Some(next)),
+                None => Link::First(first),
+            },
             Form::Start => Link::First(next),
             _ => Link::First(first),
         },
@@ -61,7 +66,7 @@ enum Reached {
 fn follow(expr: &Expr, from: usize, offset: usize, steps: &mut Steps) -> Reached
     requires inside { from < length expr.now.nodes }
     ensures reached { AllReach expr.now.nodes from offset result }
-    ensures cost { CostsWithin steps.old steps.new (2 * (from + 1)) (left_behind result) }
+    ensures cost { CostsWithin steps.old steps.new (3 * (from + 1)) (left_behind result) }
 {
     let mut index = from;
     let mut ahead = offset;
@@ -87,8 +92,8 @@ fn follow(expr: &Expr, from: usize, offset: usize, steps: &mut Steps) -> Reached
 
 /// The members of the set, if there is one, and of one more.
 fn joined(members: Option<ByteSet>, more: &ByteSet) -> ByteSet
-    ensures members { (w : List ℕ) (q : ℕ) → HasOne members w q → CanBegin (WithSet result) w q }
-    ensures more { (w : List ℕ) (q : ℕ) → CanBegin (WithSet more.now) w q → CanBegin (WithSet result) w q }
+    ensures members { (w : List ℕ) (q : ℕ) → HasOne members w q → MemberAt result w q }
+    ensures more { (w : List ℕ) (q : ℕ) → MemberAt more.now w q → MemberAt result w q }
 {
     match members {
         Some(members) => members.union(more),
@@ -100,7 +105,7 @@ fn joined(members: Option<ByteSet>, more: &ByteSet) -> ByteSet
 /// alternatives after the first.
 pub fn set_at(expr: &Expr, offset: usize, more: usize, steps: &mut Steps) -> Option<ByteSet>
     ensures have { IfSome result (λ s. AllHave (expression_tree expr.now) offset s) }
-    ensures cost { Takes steps.old steps.new (2 * length expr.now.nodes * (more + 1)) }
+    ensures cost { Takes steps.old steps.new (3 * length expr.now.nodes * (more + 1)) }
 {
     let mut members = None;
     let mut rest = expr.root().index();

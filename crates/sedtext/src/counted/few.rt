@@ -1,11 +1,9 @@
 //! Up to three bytes, one of which is sought.
 ghost use Rattle.std.specs.Prelude.{◌≡◌, ℕ, ◌↔◌, ◌⊎◌, IfSome, IsTrue};
-ghost use Rattle.sedtext.specs.Few.{AreMembers, Gathered, HasFew, HasZeros, FirstFew};
-ghost use Rattle.sedtext.specs.declared.counted.few.Few.TheVariants.{Two, Three};
+ghost use Rattle.sedtext.specs.Few.{AreMembers, Gathered, HasFew, FirstFew};
 
 use memchr::{memchr, memchr2, memchr3};
 use sedre::ByteSet;
-use std::simd::prelude::*;
 
 /// Up to three bytes.
 #[derive(Clone, Copy)]
@@ -40,42 +38,6 @@ impl Few {
             Few::Three(first, second, third) => memchr3(*first, *second, *third, bytes),
         }
     }
-
-    /// Lanes that are 0 exactly where one of them stands.
-    #[inline(always)]
-    pub(super) fn zeros(&self, lanes: u8x32) -> u8x32
-        ensures { HasZeros (HasFew self.now) lanes result }
-    {
-        match self {
-            Few::One(first) => byte_zeros(*first, lanes),
-            Few::Two(first, second) => two_zeros(*first, *second, lanes),
-            Few::Three(first, second, third) => three_zeros(*first, *second, *third, lanes),
-        }
-    }
-}
-
-/// Lanes that are 0 exactly where the byte stands.
-#[inline(always)]
-fn byte_zeros(byte: u8, lanes: u8x32) -> u8x32
-    ensures { HasZeros (λ c. c ≡ byte) lanes result }
-{
-    lanes ^ u8x32::splat(byte)
-}
-
-/// Lanes that are 0 exactly where one of the two bytes stands.
-#[inline(always)]
-fn two_zeros(first: u8, second: u8, lanes: u8x32) -> u8x32
-    ensures { HasZeros (HasFew (Two first second)) lanes result }
-{
-    byte_zeros(first, lanes).simd_min(byte_zeros(second, lanes))
-}
-
-/// Lanes that are 0 exactly where one of the three bytes stands.
-#[inline(always)]
-fn three_zeros(first: u8, second: u8, third: u8, lanes: u8x32) -> u8x32
-    ensures { HasZeros (HasFew (Three first second third)) lanes result }
-{
-    byte_zeros(first, lanes).simd_min(two_zeros(second, third, lanes))
 }
 
 /// The bytes gathered before and one more, if they are still few.

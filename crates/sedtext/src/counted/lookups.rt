@@ -1,15 +1,14 @@
-//! Where few bytes and literals stand in a text, by calls that count.
-ghost use Rattle.std.specs.Prelude.{◌-◌, ◌*◌, ◌≤◌, length};
+//! Where few bytes, literals and bytes of three sets stand in a text, by calls that count.
+ghost use Rattle.std.specs.Prelude.{◌*◌, ◌≤◌, length, IfSome};
 ghost use Rattle.sedtext.specs.Bytes.{looked_at};
 ghost use Rattle.sedtext.specs.Few.{FirstFew};
 ghost use Rattle.sedtext.specs.Needed.{FirstLiteral, passed_to};
-ghost use Rattle.sedtext.specs.Rare.{ApartIn};
-ghost use Rattle.sedre.specs.Steps.{Takes, TakesExactly};
+ghost use Rattle.sedtext.specs.Sieve.{NoneBefore, PassesSieve};
+ghost use Rattle.sedre.specs.Steps.{Takes, TakesAtLeast, TakesExactly};
 
-use super::apart::apart_to;
 use super::few::Few;
+use super::sieve::Sieve;
 use super::{Text, uncounted};
-use crate::rare::Fixed;
 use memchr::memmem::Finder;
 use sedre::Steps;
 
@@ -58,24 +57,25 @@ pub fn find_literal(text: &Text, finder: &Finder, from: usize, steps: &mut Steps
     }
 }
 
-/// A place such that from `from` up to it `first` and `second` stand together nowhere, as far as whole vectors tell.
-/// Counts two looks for each place from `from` to that one.
-pub(crate) fn pass_apart(
-    text: &Text,
-    first: &Fixed,
-    second: &Fixed,
-    from: usize,
-    steps: &mut Steps,
-) -> usize
+/// A place from `from` on before which bytes of the sieve's three sets stand together after none, if they may stand after one.
+/// Counts three looks for each place from `from` to that one, or to the end where there is none.
+#[inline(always)]
+pub fn sift(text: &Text, sieve: &Sieve, from: usize, steps: &mut Steps) -> Option<usize>
     requires from { from ≤ length text.now }
-    ensures after { from ≤ result }
-    ensures within { result ≤ length text.now }
-    ensures apart { ApartIn first.now second.now text.now from result }
-    ensures cost { Takes steps.old steps.new (2 * (result - from)) }
-    ensures counts { TakesExactly steps.old steps.new (2 * (result - from)) }
+    ensures none { NoneBefore (PassesSieve sieve.now text.now) from result }
+    ensures inside { IfSome result (λ k. k ≤ length text.now) }
+    ensures cost { Takes steps.old steps.new (3 * looked_at (length text.now) from result) }
+    ensures counts { TakesAtLeast steps.old steps.new (looked_at (length text.now) from result) }
 {
     let bytes = uncounted(text);
-    let place = apart_to(bytes, first, second, from);
-    steps.add(2 * (place - from));
-    place
+    match sieve.find(bytes, from) {
+        None => {
+            steps.add((bytes.len() - from).saturating_mul(3));
+            None
+        }
+        Some(place) => {
+            steps.add((place - from + 1).saturating_mul(3));
+            Some(place)
+        }
+    }
 }

@@ -3,9 +3,7 @@
 ghost use Rattle.std.specs.Prelude.{◌≡◌, ◌+◌, ◌-◌, ◌<◌, ◌≤◌, length, min, slice_get, Some, IfSome};
 ghost use Rattle.sedtext.specs.Runs.{IsRun, RunBegins};
 ghost use Rattle.sedtext.specs.Matching.{byte_is_in};
-ghost use Rattle.sedtext.specs.Beginnings.{CanBegin, NextStart, skip_cost};
-ghost use Rattle.sedtext.specs.Bytes.{looked_at};
-ghost use Rattle.sedtext.specs.declared.beginnings.Begins.TheVariants.{WithSet};
+ghost use Rattle.sedtext.specs.Bytes.{FirstFrom, MemberAt, looked_at};
 ghost use Rattle.sedtext.specs.Costs.{CostsWithin};
 ghost use Rattle.sedre.specs.Steps.{Takes, TakesExactly};
 
@@ -36,9 +34,7 @@ fn byte_at(bytes: &[u8], i: usize) -> u8
 #[inline(never)]
 fn first_member(set: &ByteSet, bytes: &[u8], from: usize) -> Option<usize>
     requires { from ≤ length bytes.now }
-    ensures next { NextStart (WithSet set.now) bytes.now from result }
-    ensures here { IfSome result (λ k. CanBegin (WithSet set.now) bytes.now k) }
-    ensures inside { IfSome result (λ k. (from ≤ k) × (k < length bytes.now)) }
+    ensures first { FirstFrom (MemberAt set.now bytes.now) from result }
 {
     for place in from..bytes.len() {
         let byte = byte_at(bytes, place);
@@ -88,9 +84,8 @@ fn run_back(set: &ByteSet, bytes: &[u8], from: usize, to: usize) -> usize
 #[inline(always)]
 pub fn find_member(text: &Text, set: &ByteSet, from: usize, steps: &mut Steps) -> Option<usize>
     requires from { from ≤ length text.now }
-    ensures next { NextStart (WithSet set.now) text.now from result }
-    ensures here { IfSome result (λ k. CanBegin (WithSet set.now) text.now k) }
-    ensures cost { CostsWithin steps.old steps.new (skip_cost (length text.now) result) from }
+    ensures first { FirstFrom (MemberAt set.now text.now) from result }
+    ensures cost { Takes steps.old steps.new (looked_at (length text.now) from result) }
     ensures counts { TakesExactly steps.old steps.new (looked_at (length text.now) from result) }
 {
     let bytes = uncounted(text);

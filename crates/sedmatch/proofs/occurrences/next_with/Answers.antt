@@ -9,20 +9,20 @@ use Rattle.sedmatch.proofs.OccurrenceLemmas.{first_paid, first_square, lies_firs
 use Rattle.sedmatch.proofs.occurrences.next_with.Goals as goal
 
 pub next_match-requires-clause-from : goal.next_match-requires-clause-from
-next_match-requires-clause-from c = (c.in-Some-first_place.ensures.place (expression_tree c.args.sought.now.prepared.arena.expr) c.requires.sought.hints).1
+next_match-requires-clause-from c = (c.in-Some-skip_to_literal.ensures.narrowed (expression_tree c.args.sought.now.prepared.arena.expr) c.requires.sought.needed).1
 
-pub returns-in-None-first_place-clause-next : goal.returns-in-None-first_place-clause-next
-returns-in-None-first_place-clause-next c =
+pub returns-in-None-skip_to_literal-clause-next : goal.returns-in-None-skip_to_literal-clause-next
+returns-in-None-skip_to_literal-clause-next c =
     let e = expression_tree c.args.sought.now.prepared.arena.expr in
-    rw c.in-None.is (answer_found e c.args.text.now 0 None (omega arith) (tt, c.in-None-first_place.ensures.place e c.requires.sought.hints, tt))
+    rw c.in-None.is (answer_found e c.args.text.now 0 None (omega arith) (tt, c.in-None-skip_to_literal.ensures.narrowed e c.requires.sought.needed, tt))
 
-pub returns-in-None-first_place-clause-cost : goal.returns-in-None-first_place-clause-cost
-returns-in-None-first_place-clause-cost c = let looks = c.first_place.ensures.cost in rw c.in-None.is (looks.0, omega (arith, looks.1))
+pub returns-in-None-skip_to_literal-clause-cost : goal.returns-in-None-skip_to_literal-clause-cost
+returns-in-None-skip_to_literal-clause-cost c = let looks = c.skip_to_literal.ensures.cost in rw c.in-None.is (looks.0, omega (arith, looks.1))
 
-pub returns-in-None-first_place-clause-looks : goal.returns-in-None-first_place-clause-looks
-returns-in-None-first_place-clause-looks c =
-    let a = c.first_place.new.steps in
-    let looks = c.first_place.ensures.cost in
+pub returns-in-None-skip_to_literal-clause-looks : goal.returns-in-None-skip_to_literal-clause-looks
+returns-in-None-skip_to_literal-clause-looks c =
+    let a = c.skip_to_literal.new.steps in
+    let looks = c.skip_to_literal.ensures.cost in
     let last = c.args.sought.now.prepared.is_prepared.last in
     let square = first_square (length c.args.sought.now.prepared.arena.expr.nodes) (length c.args.text.now) 0 c.args.steps.now a a (omega (arith, last)) (omega (arith, looks.1)) (omega arith) in
     rw c.in-None.is record { once = (looks.0, square); counts = tt }
@@ -30,15 +30,15 @@ returns-in-None-first_place-clause-looks c =
 first : (c : goal.After-next_match) → SpanAnswer (expression_tree c.args.sought.now.prepared.arena.expr) c.args.text.now 0 c.next_match.result
 first c =
     let e = expression_tree c.args.sought.now.prepared.arena.expr in
-    let place = c.in-Some-first_place.ensures.place e c.requires.sought.hints in
-    later_answer e c.args.text.now 0 c.in-Some-first_place.start c.next_match.result place.0 place.2 c.next_match.ensures.answer
+    let place = c.in-Some-skip_to_literal.ensures.narrowed e c.requires.sought.needed in
+    later_answer e c.args.text.now 0 c.in-Some-skip_to_literal.start c.next_match.result place.0 place.2 c.next_match.ensures.answer
 
-pub returns-in-Some-first_place-clause-next : goal.returns-in-Some-first_place-clause-next
-returns-in-Some-first_place-clause-next c =
+pub returns-in-Some-skip_to_literal-clause-next : goal.returns-in-Some-skip_to_literal-clause-next
+returns-in-Some-skip_to_literal-clause-next c =
     rw c.in-None.is (answer_found (expression_tree c.args.sought.now.prepared.arena.expr) c.args.text.now 0 c.next_match.result (omega arith) (first c))
 
-pub returns-in-Some-first_place-clause-occurs : goal.returns-in-Some-first_place-clause-occurs
-returns-in-Some-first_place-clause-occurs c =
+pub returns-in-Some-skip_to_literal-clause-occurs : goal.returns-in-Some-skip_to_literal-clause-occurs
+returns-in-Some-skip_to_literal-clause-occurs c =
     let e = expression_tree c.args.sought.now.prepared.arena.expr in
     let w = c.args.text.now in
     let r = c.next_match.result in
@@ -50,32 +50,32 @@ returns-in-Some-clause-occurs c =
     let within = rw c.in-Some.is at c.requires.last in
     rw c.in-Some.is (if_occurs e c.args.text.now (Some c.in-Some.at) c.next_after.result within c.next_after.ensures.next c.next_after.ensures.lies)
 
-pub returns-in-Some-first_place-clause-cost : goal.returns-in-Some-first_place-clause-cost
-returns-in-Some-first_place-clause-cost c =
+pub returns-in-Some-skip_to_literal-clause-cost : goal.returns-in-Some-skip_to_literal-clause-cost
+returns-in-Some-skip_to_literal-clause-cost c =
     let m = length c.args.sought.now.prepared.arena.expr.nodes in
     let n = length c.args.text.now in
-    let start = c.in-Some-first_place.start in
-    let looks = c.first_place.ensures.cost in
+    let start = c.in-Some-skip_to_literal.start in
+    let looks = c.skip_to_literal.ensures.cost in
     let pays = c.next_match.ensures.cost in
     let less = search_falls m n c.args.seeking.now 0 start (omega arith) in
     rw c.in-None.is (
       omega (arith, looks.0, pays.0),
-      first_paid m n start (owed_search m n c.args.seeking.now start) (owed_search m n c.args.seeking.now 0) c.args.steps.now c.first_place.new.steps c.next_match.new.steps (owed_search m n c.next_match.new.seeking)
+      first_paid m n start (owed_search m n c.args.seeking.now start) (owed_search m n c.args.seeking.now 0) c.args.steps.now c.skip_to_literal.new.steps c.next_match.new.steps (owed_search m n c.next_match.new.seeking)
           c.next_match.result less (omega (arith, looks.1)) pays.1,
     )
 
-pub returns-in-Some-first_place-clause-looks : goal.returns-in-Some-first_place-clause-looks
-returns-in-Some-first_place-clause-looks c =
+pub returns-in-Some-skip_to_literal-clause-looks : goal.returns-in-Some-skip_to_literal-clause-looks
+returns-in-Some-skip_to_literal-clause-looks c =
     let s = c.args.steps.now in
-    let a = c.first_place.new.steps in
+    let a = c.skip_to_literal.new.steps in
     let t = c.next_match.new.steps in
-    let start = c.in-Some-first_place.start in
+    let start = c.in-Some-skip_to_literal.start in
     let last = c.args.sought.now.prepared.is_prepared.last in
-    let looks = c.first_place.ensures.cost in
+    let looks = c.skip_to_literal.ensures.cost in
     let each = c.next_match.ensures.each in
     rw c.in-None.is record {
       once = (omega (arith, looks.0, each.0), first_square (length c.args.sought.now.prepared.arena.expr.nodes) (length c.args.text.now) start s a t (omega (arith, last)) (omega (arith, looks.1)) each.1);
-      counts = looks_to_end 0 s t c.next_match.result (looks_later 0 start s a t c.next_match.result c.in-Some-first_place.ensures.counts c.next_match.ensures.counts);
+      counts = looks_to_end 0 s t c.next_match.result (looks_later 0 start s a t c.next_match.result c.in-Some-skip_to_literal.ensures.counts c.next_match.ensures.counts);
     }
 
 pub returns-in-Some-clause-looks : goal.returns-in-Some-clause-looks

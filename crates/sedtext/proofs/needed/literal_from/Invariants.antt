@@ -7,7 +7,7 @@ invariant-loop-steps l = record {
   inside : l.index < length l.expr.nodes;
   below : l.index ≤ l.from;
   grows : l.initial.steps ≤ l.steps;
-  cost : l.steps + 2 * l.index ≤ l.initial.steps + 2 * l.from;
+  cost : l.steps + 3 * l.index ≤ l.initial.steps + 3 * l.from;
   begins : BeginsAs l.expr.nodes l.from l.bytes.items (Some l.index);
 }
 

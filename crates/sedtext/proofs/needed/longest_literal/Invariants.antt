@@ -6,7 +6,7 @@ abbrev pub invariant-loop-bytes : goal.invariant-loop-bytes
 invariant-loop-bytes l = record {
   inside : l.index < length l.expr.nodes;
   grows : l.initial.steps ≤ l.steps;
-  cost : l.steps + 131075 * l.index ≤ l.initial.steps + 131075 * l.from;
+  cost : l.steps + 196612 * l.index ≤ l.initial.steps + 196612 * l.from;
   ends : AllEndWith l.expr.nodes l.from l.index;
   holds : AllHold l.expr.nodes l.from l.best.items;
 }

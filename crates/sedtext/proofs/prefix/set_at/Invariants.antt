@@ -6,6 +6,6 @@ abbrev pub invariant-loop-turn : goal.invariant-loop-turn
 invariant-loop-turn l = record {
   inside : l.rest < length l.expr.nodes;
   grows : l.initial.steps ≤ l.steps;
-  cost : l.steps + 2 * (l.rest + 1) ≤ l.initial.steps + 2 * length l.expr.nodes * (l._turn + 1);
+  cost : l.steps + 3 * (l.rest + 1) ≤ l.initial.steps + 3 * length l.expr.nodes * (l._turn + 1);
   left : (w : List ℕ) (q : ℕ) → Ahead l.expr.nodes w (length l.expr.nodes - 1) l.offset q → HasOne l.members w q ⊎ Ahead l.expr.nodes w l.rest l.ahead q;
 }

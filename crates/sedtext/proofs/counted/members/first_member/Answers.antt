@@ -9,7 +9,9 @@ loop-place-preserved c = record {
       c.byte_at-byte.ensures.byte c.has.ensures.is c.if-has.false c.loop-place.invariant.missed;
 }
 
-pub returns-clause-next : goal.returns-clause-next
-returns-clause-next c i from within can =
-    let inside = slice_get_within c.args.bytes.now i can.0 can.1 in
-    c.loop-place.invariant.missed i from (omega arith) can
+pub returns : goal.returns
+returns c = record {
+  first = λ i from can.
+      let inside = slice_get_within c.args.bytes.now i can.0 can.1 in
+      c.loop-place.invariant.missed i from (omega arith) can;
+}

@@ -1,0 +1,40 @@
+-- Members of a set that are marked, one byte after another.
+use Rattle.std.proofs.Common.{◌≡◌, ◌≢◌, ℕ, ◌+◌, ◌/◌, ◌%◌, ◌<◌, ◌≤◌, Bool, false, List, length, ap, subst, sym, ◌∙◌, ⊎_elim, true≢false, arith}
+use Rattle.std.specs.Prelude.{slice_index, slice_index_or, slice_set}
+use Rattle.std.specs.Int.{bit_at}
+use Rattle.std.proofs.lemmas.Bool.{cases_lt, cases_eq}
+use Rattle.std.proofs.lemmas.List.{get_or-set_same, get_or-set_other}
+use Rattle.sedtext.specs.Sieve.{IsMarked}
+use Rattle.sedtext.specs.Spans.{IsIn}
+
+-- the members among the first n bytes are marked
+abbrev pub AllMarked : List Bool → ℕ → List ℕ → Type 0
+AllMarked set n rows = (c : ℕ) → c < n → IsIn c set → IsMarked rows c
+
+module _ (set : List Bool) (rows : List ℕ) (byte : ℕ) where
+  -- one more byte, which is not in the set
+  pub marked_less : AllMarked set byte rows → slice_index_or set byte false ≡ false → AllMarked set (byte + 1) rows
+  marked_less before lacks c lt is =
+      ⊎_elim
+      (λ (less : c < byte). before c less is)
+      (λ (ge : byte ≤ c). absurd (true≢false (sym (subst (λ b. IsIn b set) (let e : c ≡ byte = omega arith in e) is) ∙ lacks)))
+      (cases_lt c byte)
+
+  -- and one which is: its bit is set in its row, and none is taken away
+  pub marked_more : (row : ℕ) → byte % 16 < length rows → ((i : ℕ) → bit_at (slice_index rows (byte % 16)) i ≡ 1 → bit_at row i ≡ 1) → bit_at row (byte / 16 % 8) ≡ 1 →
+      AllMarked set byte rows → AllMarked set (byte + 1) (slice_set rows (byte % 16) row)
+  marked_more row inside stay new before c lt is small =
+      ⊎_elim
+      (λ (less : c < byte).
+      let old = before c less is small in
+      ⊎_elim
+      (λ (same : c % 16 ≡ byte % 16).
+      ap (λ r. bit_at r (c / 16 % 8)) (ap (λ i. slice_index (slice_set rows (byte % 16) row) i) same ∙ get_or-set_same rows (byte % 16) row 0 inside)
+      ∙ stay (c / 16 % 8) (ap (λ i. bit_at (slice_index rows i) (c / 16 % 8)) (sym same) ∙ old))
+      (λ (apart : c % 16 ≢ byte % 16). ap (λ r. bit_at r (c / 16 % 8)) (get_or-set_other rows (byte % 16) (c % 16) row 0 apart) ∙ old)
+      (cases_eq (c % 16) (byte % 16)))
+      (λ (ge : byte ≤ c).
+      let e : c ≡ byte = omega arith in
+      ap (λ b. bit_at (slice_index (slice_set rows (byte % 16) row) (b % 16)) (b / 16 % 8)) e
+      ∙ ap (λ r. bit_at r (byte / 16 % 8)) (get_or-set_same rows (byte % 16) row 0 inside) ∙ new)
+      (cases_lt c byte)

@@ -1,0 +1,9 @@
+use Rattle.sedtext.specs.Sieve.{StandsAt}
+use Rattle.sedtext.proofs.SieveLemmas.{all_marked}
+use Rattle.sedtext.proofs.counted.sieve.Sieve.marks.Goals as goal
+
+pub returns : goal.returns
+returns c =
+    let s = c.args.self.now in
+    let w = c.args.bytes.now in
+    all_marked (StandsAt s.first w) (StandsAt s.second w) (StandsAt s.third w) c.args.place _ _ _ c.marks-first.ensures c.marks-second.ensures c.marks.ensures

@@ -1,0 +1,140 @@
+//! Three sets of bytes at fixed distances after a place: the places after which bytes of all three stand are told by vectors of
+//! 32 bytes.
+ghost use Rattle.std.specs.Prelude.{◌≡◌, ℕ, ◌+◌, ◌<◌, ◌≤◌, ◌^◌, length, slice_index, IfSome, IsTrue};
+ghost use Rattle.sedtext.specs.Sieve.{MarksPlaces, NoneBefore, StandsAt, PassesSieve};
+
+use super::nibbles::Nibbles;
+use std::simd::prelude::*;
+
+/// How many lanes a vector has.
+const LANES: usize = 32;
+
+/// A set of bytes, one of which stands at a distance after a place.
+#[derive(Clone, Copy)]
+pub struct Fixed {
+    /// The distance.
+    pub offset: usize,
+    /// The bytes.
+    pub set: Nibbles,
+    /// How often they stand in a thousand bytes of ordinary text.
+    pub weight: usize,
+}
+
+/// Three such sets, the rarest first.
+#[derive(Clone, Copy)]
+pub struct Sieve {
+    /// The rarest.
+    pub first: Fixed,
+    /// The next rarest.
+    pub second: Fixed,
+    /// The one after it.
+    pub third: Fixed,
+}
+
+/// The 32 bytes from the place `at` on.
+#[inline(always)]
+fn lanes_at(bytes: &[u8], at: usize) -> u8x32
+    requires { at + 32 ≤ length bytes.now }
+    ensures { (k : ℕ) → k < 32 → slice_index result k ≡ slice_index bytes.now (at + k) }
+{
+    u8x32::from_slice(&bytes[at..])
+}
+
+impl Fixed {
+    /// Whether one of them stands at the distance after the place.
+    fn stands(&self, bytes: &[u8], place: usize) -> bool
+        requires { place ≤ length bytes.now }
+        ensures { StandsAt self.now bytes.now place → IsTrue result }
+    {
+        self.offset < bytes.len() - place && self.set.has(bytes[place + self.offset])
+    }
+
+    /// Of the 32 places from one on those after which one of them stands, a bit each.
+    #[inline(always)]
+    fn marks(&self, bytes: &[u8], place: usize) -> u64
+        requires { place + self.now.offset + 32 ≤ length bytes.now }
+        ensures { MarksPlaces (StandsAt self.now bytes.now) place result }
+    {
+        self.set.marked(lanes_at(bytes, place + self.offset))
+    }
+}
+
+impl Sieve {
+    /// The greatest distance.
+    fn reach(&self) -> usize
+        ensures first { self.now.first.offset ≤ result }
+        ensures second { self.now.second.offset ≤ result }
+        ensures third { self.now.third.offset ≤ result }
+        ensures one { (n : ℕ) → self.now.first.offset < n → self.now.second.offset < n → self.now.third.offset < n → result < n }
+    {
+        self.first
+            .offset
+            .max(self.second.offset)
+            .max(self.third.offset)
+    }
+
+    /// Of the 32 places from one on those after which bytes of all three stand, a bit each.
+    #[inline(always)]
+    fn marks(&self, bytes: &[u8], place: usize) -> u64
+        requires first { place + self.now.first.offset + 32 ≤ length bytes.now }
+        requires second { place + self.now.second.offset + 32 ≤ length bytes.now }
+        requires third { place + self.now.third.offset + 32 ≤ length bytes.now }
+        ensures { MarksPlaces (PassesSieve self.now bytes.now) place result }
+    {
+        let (first, second) = (
+            self.first.marks(bytes, place),
+            self.second.marks(bytes, place),
+        );
+        first & second & self.third.marks(bytes, place)
+    }
+
+    /// Whether bytes of all three stand after the place.
+    fn passes(&self, bytes: &[u8], place: usize) -> bool
+        requires { place ≤ length bytes.now }
+        ensures { PassesSieve self.now bytes.now place → IsTrue result }
+    {
+        self.first.stands(bytes, place)
+            && self.second.stands(bytes, place)
+            && self.third.stands(bytes, place)
+    }
+
+    /// The first place from one on after which bytes of all three stand, byte by byte.
+    fn find_slowly(&self, bytes: &[u8], from: usize) -> Option<usize>
+        requires { from ≤ length bytes.now }
+        ensures none { NoneBefore (PassesSieve self.now bytes.now) from result }
+        ensures inside { IfSome result (λ k. k ≤ length bytes.now) }
+    {
+        for place in from..bytes.len() {
+            if self.passes(bytes, place) {
+                return Some(place);
+            }
+        }
+        None
+    }
+
+    /// A place from one on before which bytes of all three stand after none, if they may stand after one.
+    pub(super) fn find(&self, bytes: &[u8], from: usize) -> Option<usize>
+        requires { from ≤ length bytes.now }
+        ensures none { NoneBefore (PassesSieve self.now bytes.now) from result }
+        ensures inside { IfSome result (λ k. k ≤ length bytes.now) }
+    {
+        let reach = self.reach();
+        if reach >= bytes.len() || bytes.len() - reach < LANES {
+            return self.find_slowly(bytes, from);
+        }
+        let last = bytes.len() - reach - LANES;
+        let mut place = from;
+        while place < last {
+            let marks = self.marks(bytes, place);
+            if marks != 0 {
+                return Some(place + marks.trailing_zeros() as usize);
+            }
+            place += LANES;
+        }
+        let marks = self.marks(bytes, last);
+        if marks == 0 {
+            return None;
+        }
+        Some(place.max(last + marks.trailing_zeros() as usize))
+    }
+}
