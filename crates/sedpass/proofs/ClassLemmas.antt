@@ -32,10 +32,9 @@ given_more key numbers of after of' count next byte k inside is small given set 
     (λ (ne : b ≡ byte → ⊥).
     let there : at of' b ≡ at of b = ap (λ l. at l b) set ∙ get_or-set_other of byte b (at after k) 0 ne in
     let was = old b (omega arith) in
-    let number = was.1 in
     let low = was.2 in
     let grows = given.grows in
-    (was.0, there ∙ number ∙ sym (given.kept (key b) (omega arith)), omega arith))
+    (was.0, there ∙ was.1 ∙ sym (given.kept (key b) (omega arith)), omega arith))
     (cases_eq b byte)
 
 pub sides : (c d : ℕ) (s t : Bool) → 2 * c + from_bool s ≡ 2 * d + from_bool t → (c ≡ d) × (s ≡ t)

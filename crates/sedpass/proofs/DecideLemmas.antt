@@ -133,8 +133,7 @@ left_fixed s here a b x n facts stands same is told =
     let parts = opened s here (Seq a b) stands in
     let long = long_at (nodes_in s) (text_in s) x a.index n facts same is told in
     let on = Matches-forward (tree_at (nodes_in s) b.index) (text_in s) parts.0 here.stop parts.2 in
-    let fits = stands.there.fits in
-    (omega (arith, long here.start parts.0 parts.1, on, fits), left_long (At (nodes_in s) (text_in s) a.index) (At (nodes_in s) (text_in s) b.index) here.start here.stop n parts long)
+    (omega (arith, long here.start parts.0 parts.1, on, stands.there.fits), left_long (At (nodes_in s) (text_in s) a.index) (At (nodes_in s) (text_in s) b.index) here.start here.stop n parts long)
 
 pub right_fixed : (s : Subject) (here : Matched) (a b : NodeId) (x n : ℕ) (facts : Facts) → Stands s here (Seq a b) → x ≡ b.index → IsFacts (tree_at (nodes_in s) x) x facts → facts.length ≡ Some n →
     (n ≤ here.stop) × LastCut (At (nodes_in s) (text_in s) a.index) (At (nodes_in s) (text_in s) b.index) here.start here.stop (here.stop - n)
@@ -323,9 +322,8 @@ has_desk s t r text blocks nodes tables space short cut few = record {
     keeps = ap (λ v. v.keeps) tables.ways.inside;
     places = (let h = space.places in omega (arith, h, short));
     blocks = λ b low.
-        let edges = space.edges in
         ⊎_elim
-        (λ (lt : b < blocks). omega (arith, lt, edges))
+        (λ (lt : b < blocks). omega (arith, lt, space.edges))
         (λ (ge : blocks ≤ b). let h : blocks * (t.inside.room - 1) ≤ b * (t.inside.room - 1) = mul-le-mul_right (t.inside.room - 1) ge in absurd (omega (arith, h, low, cut)))
         (cases_lt b blocks);
     marks = λ q low. (let h = space.marks q low in omega (arith, h, few));

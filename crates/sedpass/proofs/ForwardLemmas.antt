@@ -113,8 +113,7 @@ module _ (p : Prepared) (t : Table) (w : List ℕ) (start place code o : ℕ) (e
   dead_end : (noted : Option ℕ) → t.way.all_starts ≡ false → IsTrue here.flags.dead → EndsBelow p t.way w start (place + 1) noted → IsEnd t.way.all_starts N w p.root S noted
   dead_end noted single is below =
       let none = row_empty N w here.root place S t.way.keeps here.entered here.ended arrived.1 (is_told.1.0 is) in
-      let root = p.is_prepared.last in
-      let inside : p.root < length N = omega (arith, root, seen-length t.way.mirrored p.arena.expr) in
+      let inside : p.root < length N = omega (arith, p.is_prepared.last, seen-length t.way.mirrored p.arena.expr) in
       all_below N w p.root S t.way.all_starts (place + 1) noted
       (λ k late some.
       let one = subst (λ b. IsStart (starts_of b start w) some.0) single some.1 in
@@ -211,9 +210,8 @@ pass_end p t w start at low pass done =
     ⊎_elim
     (λ (over : at.over ≡ true). pass.over over)
     (λ (last : length w ≤ at.place).
-    let s = starts_of t.way.all_starts start w in
     let nodes = nodes_of t.way p.arena.expr in
-    all_below nodes w p.root s t.way.all_starts (at.place + 1) at.end
+    all_below nodes w p.root (starts_of t.way.all_starts start w) t.way.all_starts (at.place + 1) at.end
     (λ k late some.
     let within = Matches-within (tree_at nodes p.root) w some.0 k (last_start t.way.all_starts start w some.0 low some.1) some.2 in
     omega arith)
@@ -316,15 +314,11 @@ passes_told e w p s t (Some j) told is over h = over
 pub over_cost : (m from place last s0 s1 : ℕ) → 1 ≤ m → from < place → s1 + 2 * from ≤ s0 + 2 * min (place + 1) last → s1 + 40 * m * from ≤ s0 + 40 * m * place
 over_cost m from place last s0 s1 some moved cost =
     let d = place - from in
-    let e : place ≡ from + d = omega arith in
-    let most = mul-le-mul_left d some in
-    let all : 40 * m * place ≡ 40 * m * (from + d) = ap (λ v. 40 * m * v) e in
-    omega (arith, most, all)
+    let all : 40 * m * place ≡ 40 * m * (from + d) = ap (λ v. 40 * m * v) (omega arith) in
+    omega (arith, mul-le-mul_left d some, all)
 
 pub fill_cost : (m from place last s0 s1 s2 s3 : ℕ) → 1 ≤ m → from ≤ place → s1 + 2 * from ≤ s0 + 2 * min (place + 1) last → s2 ≤ s1 + 1 → s3 ≤ s2 + 34 * m → s3 + 40 * m * from ≤ s0 + 40 * m * (place + 1)
 fill_cost m from place last s0 s1 s2 s3 some low cost byte act =
     let d = place - from in
-    let e : place ≡ from + d = omega arith in
-    let most = mul-le-mul_left d some in
-    let all : 40 * m * (place + 1) ≡ 40 * m * (from + d + 1) = ap (λ v. 40 * m * (v + 1)) e in
-    omega (arith, most, all)
+    let all : 40 * m * (place + 1) ≡ 40 * m * (from + d + 1) = ap (λ v. 40 * m * (v + 1)) (omega arith) in
+    omega (arith, mul-le-mul_left d some, all)

@@ -412,9 +412,7 @@ pub kept_row : (p : Prepared) (w : List ℕ) (t : Table) (k : Kept) (q s : ℕ) 
     (s < length t.ends) × (length p.arena.expr.nodes ≤ length (row_of t.ends s))
 kept_row p w t k q s kept above before read =
     let room = kept.region.table.room in
-    let is = kept_read p w t k q s kept before read in
-    let live = (kept.live q above before).0 in
-    let low : s < t.room = (let most = room.count in omega (arith, live, most, is)) in
+    let low : s < t.room = (let most = room.count in omega (arith, (kept.live q above before).0, most, kept_read p w t k q s kept before read)) in
     (omega (arith, low, room.rows.ends), (let all = room.rows.end_marks s low in let marks = room.marks in omega (arith, all, marks)))
 
 -- a mark that is as asked, and one that isn't
@@ -443,9 +441,8 @@ pub mark_spans : (p : Prepared) (w : List ℕ) (t : Table) (k : Kept) (x q s : �
     mark ≡ slice_index_or (row_of t.ends s) x false → IsTrue mark ↔ At p.arena.expr.nodes w x q k.region.end
 mark_spans p w t k x q s mark kept one last above before read is =
     let arena = kept.region.table.expr.arena in
-    let root = kept.region.root.0 in
     let up = last_inside p.arena.expr.nodes w k.region.root (one_start k.region.end) arena x last in
-    let tells : IsTrue mark ↔ ReachesEnd p.arena.expr.nodes w k.region.root (ends_told t.way.all_starts (length w) k.region.end) x q = kept_mark p w t k x q s mark kept (omega (arith, root, up)) above before read is in
+    let tells : IsTrue mark ↔ ReachesEnd p.arena.expr.nodes w k.region.root (ends_told t.way.all_starts (length w) k.region.end) x q = kept_mark p w t k x q s mark kept (omega (arith, kept.region.root.0, up)) above before read is in
     let same : IsTrue mark ↔ ReachesEnd p.arena.expr.nodes w k.region.root (one_start k.region.end) x q =
     subst (λ b. IsTrue mark ↔ ReachesEnd p.arena.expr.nodes w k.region.root (ends_told b (length w) k.region.end) x q) one tells in
     let both = reaches_last p.arena.expr.nodes w k.region.root k.region.end x q arena last in

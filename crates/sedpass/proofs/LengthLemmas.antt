@@ -14,8 +14,7 @@ same_parts None second n is = cc
 same_parts (Some m) None n is = cc
 same_parts (Some m) (Some k) n is =
     let same = cond_some (eqb m k) m n is in
-    let alike = eqb-true m k same.0 in
-    (ap (λ (v : ℕ). Some v) same.1, ap (λ (v : ℕ). Some v) (sym alike ∙ same.1))
+    (ap (λ (v : ℕ). Some v) same.1, ap (λ (v : ℕ). Some v) (sym (eqb-true m k same.0) ∙ same.1))
 
 pub all_long : (e : Tree) (w : List ℕ) (n : ℕ) → length_of e ≡ Some n → (i j : ℕ) → Matches e w i j → j ≡ i + n
 all_long (set members) w n is i j s = let one_long : 1 ≡ n = cc in let next = s.3 in omega arith

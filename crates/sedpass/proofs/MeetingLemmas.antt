@@ -44,10 +44,9 @@ module _ (nodes : List Node) (w : List ℕ) (r : ℕ) (t : Starts) (a : ℕ) (s 
       (q, omega arith, close_at nodes w y (Group g b) arena is p q (subst (λ v. At nodes w v p q) (sym begins) at), out)
   wider y x (Star b first) is begins p q at out =
       let on = Matches-forward (tree_at nodes y) w q out.0 out.2 in
-      let forward = Matches-forward (tree_at nodes x) w p q at in
       let copies = open_at nodes w y (Star b first) arena is q out.0 out.2 in
       let copy = subst (λ v. At nodes w v p q) (sym begins) at in
-      (out.0, on, close_at nodes w y (Star b first) arena is p out.0 (CopiesLead-before (At nodes w b.index) out.0 q p forward copy copies), out.1)
+      (out.0, on, close_at nodes w y (Star b first) arena is p out.0 (CopiesLead-before (At nodes w b.index) out.0 q p (Matches-forward (tree_at nodes x) w p q at) copy copies), out.1)
   wider y x (Opt b first) is begins p q at out =
       (q, omega arith, close_at nodes w y (Opt b first) arena is p q (inr (subst (λ v. At nodes w v p q) (sym begins) at)), out)
   wider y x other is begins p q at out = absurd begins
@@ -86,12 +85,11 @@ module _ (nodes : List Node) (w : List ℕ) (r : ℕ) (t : Starts) (a : ℕ) (s 
       let up = Enters-inside nodes w a s arena y i enters in
       let out = Leaves-part nodes w r t arena y (omega arith) x q (Star b first) is inner leaves in
       let before = Matches-forward (tree_at nodes y) w i p copied in
-      let forward = Matches-forward (tree_at nodes x) w p q at in
       let behind = Matches-forward (tree_at nodes y) w q out.0 out.2 in
       let head = open_at nodes w y (Star b first) arena is i p copied in
       let tail = open_at nodes w y (Star b first) arena is q out.0 out.2 in
       let copy = subst (λ v. At nodes w v p q) (sym inner) at in
-      let from_p = CopiesLead-before (At nodes w b.index) out.0 q p forward copy tail in
+      let from_p = CopiesLead-before (At nodes w b.index) out.0 q p (Matches-forward (tree_at nodes x) w p q at) copy tail in
       let whole = close_at nodes w y (Star b first) arena is i out.0 (CopiesLead-join (At nodes w b.index) out.0 p i head from_p) in
       let all = meets_on y i enters out.0 whole out.1 in
       let low = all.3 in
@@ -171,9 +169,8 @@ meets-goes_on nodes w r a p s t arena inside within = (
       let q = h.4.0 in
       let next = (open_at nodes w h.0 (Set h.1) arena h.2 p q h.4.1).3 in
       let all = meets_on nodes w r t a s arena within h.0 p h.3 q h.4.1 h.4.2 in
-      let low = all.3 in
       let high = all.4 in
-      (all.0, all.1, all.2, low, omega arith, all.5, all.6),
+      (all.0, all.1, all.2, all.3, omega arith, all.5, all.6),
   λ h.
       let node = node_at nodes a inside in
       passes nodes w r t a s arena within p (suc a) a node.0 node.1 (omega arith) h.0 h.1 (at_root a h.0 refl h.2) h.6 h.5 h.3 h.4,
@@ -303,8 +300,7 @@ pub copy_walk : (R : ℕ → ℕ → Type 0) (i j k c : ℕ) → NextCopy R i j 
 copy_walk R i j k c next (inl more) = then i k c next.after more.0 next.copy next.rest (λ l up copy rest. next.greatest l copy rest) more.1
 copy_walk R i j k c next (inr done) =
     let lt = next.after in
-    let end = done.0 in
-    subst (λ v. LastCopy R j i v) (sym done.1) (only i (omega arith) (subst (λ v. R i v) end next.copy))
+    subst (λ v. LastCopy R j i v) (sym done.1) (only i (omega arith) (subst (λ v. R i v) done.0 next.copy))
 
 -- a node that is marked at each place from i up to p, and takes a byte, spans that part copy after copy
 run_copies : (nodes : List Node) (w : List ℕ) (r c : ℕ) (t : Starts) (members : List Bool) → IsArena nodes → slice_get nodes c ≡ Some (Set members) →

@@ -45,9 +45,8 @@ pub search_falls : (m n : ℕ) (s : Seeking) (i k : ℕ) → i ≤ k → owed_se
 search_falls m n s i k up =
     let rest : n - k ≤ n - i = omega arith in
     let kept = owed_falls m s.kept.region i k up in
-    let passed = mul-le-mul_left (42 * m) rest in
     let tried = mul-le-mul_left (142 * m) rest in
-    by s.begun (omega (arith, kept, passed)) (omega (arith, tried))
+    by s.begun (omega (arith, kept, mul-le-mul_left (42 * m) rest)) (omega (arith, tried))
   where
     by : (b : Bool) → owed_kept m n s.kept.region k ≤ owed_kept m n s.kept.region i →
         40 * m * (2 * n + 1 - s.tried) + 142 * m * (n - k) ≤ 40 * m * (2 * n + 1 - s.tried) + 142 * m * (n - i) →
@@ -57,40 +56,34 @@ search_falls m n s i k up =
     by false kept tried = tried
 
 -- before the first search
-pub begun_owed : (m n : ℕ) (s : Seeking) → s.begun ≡ false → owed_behind m n s 0 + 42 * m ≤ 306 * m * (n + 1)
+pub begun_owed : (m n : ℕ) (s : Seeking) → s.begun ≡ false → owed_behind m n s 0 + 43 * m ≤ 308 * m * (n + 1)
 begun_owed m n s is =
-    let owed = unbegun m n s 0 is in
     let few : 2 * n + 1 - s.tried ≤ 2 * n + 1 = omega arith in
-    let tried = mul-le-mul_left (40 * m) few in
-    let e1 : n - 0 ≡ n = omega arith in
-    let e2 : n + 1 - 0 ≡ n + 1 = omega arith in
-    let a1 : 142 * m * (n - 0) ≡ 142 * m * n = ap (λ v. 142 * m * v) e1 in
-    let a2 : 84 * m * (n + 1 - 0) ≡ 84 * m * (n + 1) = ap (λ v. 84 * m * v) e2 in
-    omega (arith, owed, tried, a1, a2)
+    let a1 : 142 * m * (n - 0) ≡ 142 * m * n = ap (λ v. 142 * m * v) (omega arith) in
+    let a2 : 86 * m * (n + 1 - 0) ≡ 86 * m * (n + 1) = ap (λ v. 86 * m * v) (omega arith) in
+    omega (arith, unbegun m n s 0 is, mul-le-mul_left (40 * m) few, a1, a2)
 
 -- what is left is paid where the match ends behind the place
-rest_paid : (m n at end : ℕ) → at < end → end ≤ n → 84 * m * (n + 1 - end) + 84 * m ≤ 84 * m * (n + 1 - at)
+rest_paid : (m n at end : ℕ) → at < end → end ≤ n → 86 * m * (n + 1 - end) + 86 * m ≤ 86 * m * (n + 1 - at)
 rest_paid m n at end high within =
-    let x = n + 1 - end in
-    let more : x + 1 ≤ n + 1 - at = omega arith in
-    let all = mul-le-mul_left (84 * m) more in
-    omega (arith, all)
+    let more : (n + 1 - end) + 1 ≤ n + 1 - at = omega arith in
+    omega (arith, mul-le-mul_left (86 * m) more)
 
-pub behind_paid : (m n at o s t : ℕ) (due : ℕ → ℕ) (r : Option (ℕ × ℕ)) → at ≤ n → IfSome r (LiesOn n (Some at)) → t + owed_after due r ≤ s + (o + 84 * m) →
-    t + owed_after (λ q. due q + 84 * m * (n + 1 - q)) r ≤ s + (o + 84 * m * (n + 1 - at))
+pub behind_paid : (m n at o s t : ℕ) (due : ℕ → ℕ) (r : Option (ℕ × ℕ)) → at ≤ n → IfSome r (LiesOn n (Some at)) → t + owed_after due r ≤ s + (o + 86 * m) →
+    t + owed_after (λ q. due q + 86 * m * (n + 1 - q)) r ≤ s + (o + 86 * m * (n + 1 - at))
 behind_paid m n at o s t due None low lies pays =
     let more : 1 ≤ n + 1 - at = omega arith in
-    let all = mul-le-mul_left (84 * m) more in
+    let all = mul-le-mul_left (86 * m) more in
     omega (arith, all, pays)
 behind_paid m n at o s t due (Some f) low lies pays =
     let all = rest_paid m n at f.1 (let h = lies.2.1 in omega (arith, h)) lies.1 in
     omega (arith, all, pays)
 
 -- two searches, of which the first one found the null string at the place
-pub both_paid : (m at o a s u t : ℕ) (due due' : ℕ → ℕ) (first r : Option (ℕ × ℕ)) → first ≡ Some (at, at) → a ≤ due at → u + owed_after due first ≤ s + (o + 42 * m) → t + owed_after due' r ≤ u + (a + 42 * m) →
-    t + owed_after due' r ≤ s + (o + 84 * m)
+pub both_paid : (m at o a s u t : ℕ) (due due' : ℕ → ℕ) (first r : Option (ℕ × ℕ)) → first ≡ Some (at, at) → a ≤ due at → u + owed_after due first ≤ s + (o + 43 * m) → t + owed_after due' r ≤ u + (a + 43 * m) →
+    t + owed_after due' r ≤ s + (o + 86 * m)
 both_paid m at o a s u t due due' first r is falls one two =
-    let before : u + due at ≤ s + (o + 42 * m) = subst (λ x. u + owed_after due x ≤ s + (o + 42 * m)) is one in
+    let before : u + due at ≤ s + (o + 43 * m) = subst (λ x. u + owed_after due x ≤ s + (o + 43 * m)) is one in
     omega (arith, before, two, falls)
 
 -- One call.
@@ -98,15 +91,14 @@ both_paid m at o a s u t due due' first r is falls one two =
 pub one_square : (m n at : ℕ) → 1 ≤ m → search_cost m n at ≤ 64 * m * m * (n + 1) * (n + 1)
 one_square m n at some =
     let a = search_long m n at in
-    let b = alone_square m n some in
-    omega (arith, a, b)
+    omega (arith, a, alone_square m n some)
 
 twice : (k : ℕ) → 2 * k ≤ k * k + 1
 twice zero = omega arith
 twice (suc k) = omega arith
 
 both_inner : (k at : ℕ) → at ≤ k →
-    (5 * (k + 1) + 142 * (k + 1 - at) + 40 * (k + 1 - at - 1) + 42) + (5 * (k + 1) + 142 * (k + 1 - (at + 1)) + 40 * (k + 1 - (at + 1) - 1) + 42) ≤ 64 * (k + 2) * (k + 2)
+    (5 * (k + 1) + 142 * (k + 1 - at) + 40 * (k + 1 - at - 1) + 44) + (5 * (k + 1) + 142 * (k + 1 - (at + 1)) + 40 * (k + 1 - (at + 1) - 1) + 44) ≤ 64 * (k + 2) * (k + 2)
 both_inner k at low = let h = twice k in omega (arith, h)
 
 pub both_square : (m n at : ℕ) → 1 ≤ m → at < n → search_cost m n at + search_cost m n (at + 1) ≤ 64 * m * m * (n + 1) * (n + 1)

@@ -81,11 +81,9 @@ owed_small m r i =
     ⊎_elim
     (λ (il : i < r.low). let a = owed_below m r i il in omega (arith, a))
     (λ (il : r.low ≤ i).
-    let a = owed_above m r i il in
     let up : i ≤ due_place r i = live_above r.from r.to i in
-    let h = again_small m (r.end - due_place r i) in
     let g = mul-le-mul_left (100 * m) (rest_falls r.end i (due_place r i) up) in
-    omega (arith, a, h, g))
+    omega (arith, owed_above m r i il, again_small m (r.end - due_place r i), g))
     (cases_lt i r.low)
   where
     rest_falls : (end d k : ℕ) → d ≤ k → end - k ≤ end - d
@@ -95,17 +93,14 @@ pub owed_falls : (m : ℕ) (r : Region) (i k : ℕ) → i ≤ k → owed m r k �
 owed_falls m r i k up =
     ⊎_elim
     (λ (il : i < r.low).
-    let a = owed_below m r i il in
     let h = owed_small m r k in
     let less : r.end - k ≤ r.end - i = omega arith in
-    let g = mul-le-mul_left (100 * m) less in
-    omega (arith, a, h, g))
+    omega (arith, owed_below m r i il, h, mul-le-mul_left (100 * m) less))
     (λ (il : r.low ≤ i).
-    let a = owed_above m r i il in
     let b = owed_above m r k (omega arith) in
     let rest : due_place r i ≤ due_place r k = live_falls r.from r.to i k up in
     let h = again_falls m (r.end - due_place r k) (r.end - due_place r i) (omega (arith, rest)) in
-    omega (arith, a, b, h))
+    omega (arith, owed_above m r i il, b, h))
     (cases_lt i r.low)
 
 -- the region is made down to the place, which is in the table
@@ -115,24 +110,22 @@ made_cost m c d s t less cost = let h = again_few m c in let g = mul-le-mul_left
 pub owed_made : (m : ℕ) (old new : Region) (place s t : ℕ) → place < old.low → place < old.end → new.low ≡ place → new.from ≡ place → place < new.to → new.end ≡ old.end → s ≤ t →
     t ≤ s + (33 * m + 39 * m * (old.end - place)) → CostsWithin s t (owed m old place) (owed m new place)
 owed_made m old new place s t below before low from to end grows cost =
-    let a = owed_below m old place below in
     let b = owed_above m new place (omega (arith, low)) in
     let due : due_place new place ≡ new.to = live_place new.from new.to place (omega (arith, from)) to in
     let less : (new.end - due_place new place) + 1 ≤ old.end - place = omega (arith, due, end, to, before) in
     let h = made_cost m (new.end - due_place new place) (old.end - place) s t less cost in
-    (grows, omega (arith, a, b, h))
+    (grows, omega (arith, owed_below m old place below, b, h))
 
 -- the rest of the place's block is made again
 pub owed_again : (m : ℕ) (old new : Region) (place s t : ℕ) → old.low ≤ place → (place < old.from) ⊎ (old.to ≤ place) → new.low ≡ old.low → new.end ≡ old.end → new.from ≡ place → place < new.to →
     CostsWithin s t (again m (old.end - place)) (again m (old.end - new.to)) → CostsWithin s t (owed m old place) (owed m new place)
 owed_again m old new place s t above out low end from to paid =
-    let a = owed_above m old place above in
     let b = owed_above m new place (omega (arith, above, low)) in
     let was : due_place old place ≡ place = dead_place old.from old.to place out in
     let due : due_place new place ≡ new.to = live_place new.from new.to place (omega (arith, from)) to in
     let before : again m (old.end - due_place old place) ≡ again m (old.end - place) = ap (λ d. again m (old.end - d)) was in
     let after : again m (new.end - due_place new place) ≡ again m (old.end - new.to) = ap (λ d. again m (new.end - d)) due ∙ ap (λ d. again m (d - new.to)) end in
-    (paid.0, let h = paid.1 in omega (arith, a, b, before, after, h))
+    (paid.0, let h = paid.1 in omega (arith, owed_above m old place above, b, before, after, h))
 
 -- as a call left what is kept
 pub owed_left : (m : ℕ) (old : Region) (place s t u : ℕ) (k other : Kept) → other ≡ k → u ≡ t → CostsWithin s t (owed m old place) (owed m k.region place) → CostsWithin s u (owed m old place) (owed m other.region place)

@@ -59,8 +59,7 @@ module _ (nodes : List Node) (w : List ℕ) (r : ℕ) (s : Starts) (arena : IsAr
         let truth = takes m refl in (
           λ h. let here = truth.0 h in
               let taken = takes_some (slice_get w here.0) m here.3 in
-              let next = here.1 in
-              (here.0, omega arith, here.2, close_at nodes w x (Set m) arena is here.0 j (taken.0, taken.1, taken.2, sym next)),
+              (here.0, omega arith, here.2, close_at nodes w x (Set m) arena is here.0 j (taken.0, taken.1, taken.2, sym here.1)),
           λ h. let f = open_at nodes w x (Set m) arena is h.0 j h.3 in truth.1 (h.0, sym f.3, h.2, subst (λ o. IsTrue (byte_is_in o m)) (sym f.1) f.2),
         )
     ended_is (Seq a b) is takes nulls ends =
@@ -166,9 +165,8 @@ enters_tree nodes w r s x j (again y _ i _ a first is inner e at) = part_of y x 
 pub tree_told : (nodes : List Node) → IsArena nodes → (r x : ℕ) → InTree nodes r x → TreeFrom nodes r (x + 1) x
 tree_told nodes arena r x (is_tree _ e) = (is_tree x e, inl e)
 tree_told nodes arena r x (part_of y _ node is part up) =
-    let high = InTree-inside nodes arena r y up in
     let less = arena.below y x node is part in
-    (part_of y x node is part up, inr (y, node, omega arith, high, is, part))
+    (part_of y x node is part up, inr (y, node, omega arith, (InTree-inside nodes arena r y up), is, part))
 
 tree_step : (nodes : List Node) (r x : ℕ) (node : Node) → slice_get nodes x ≡ Some node → (c : ℕ) → TreeFrom nodes r x c → TreeFrom nodes r (x + 1) c ⊎ IsPart node c
 tree_step nodes r x node is c told = elim told.1 [

@@ -60,13 +60,12 @@ module _ (p : Prepared) (w : List ℕ) (arena : IsArena p.arena.expr.nodes) wher
   -- a pass from where one begins ceases to meet the kept one at its longest end
   pub longest_kept : (start stop k : ℕ) → start ≤ length w → Matches (expression_tree p.arena.expr) w start k → CeasesAt p.arena.expr.nodes w p.root all p.root start stop → IsLongestFrom (expression_tree p.arena.expr) w start (Some stop)
   longest_kept start stop k low span ceases =
-      let on = ceases.0 in
       let last = p.is_prepared.last in
       let inside : p.root < length p.arena.expr.nodes = omega arith in
       let most : (l : ℕ) → Matches (expression_tree p.arena.expr) w start l → l ≤ stop = λ l more. ⊎_elim
       (λ (later : stop < l).
       let in_text = Matches-within (expression_tree p.arena.expr) w start l low more in
-      absurd (ceases.2 ((meets_whole p.arena.expr.nodes w p.root stop (one_start start) all arena inside).1 (start, l, (omega arith, omega arith), on, later, (root_spans p w start l).1 more, (omega arith, omega arith)))))
+      absurd (ceases.2 ((meets_whole p.arena.expr.nodes w p.root stop (one_start start) all arena inside).1 (start, l, (omega arith, omega arith), ceases.0, later, (root_spans p w start l).1 more, (omega arith, omega arith)))))
       (λ (ge : l ≤ stop). ge)
       (cases_lt stop l) in
       let high = most k span in
@@ -126,59 +125,45 @@ pub kept_cost : (m n from start stop s0 s1 s2 s3 o0 o1 o2 : ℕ) → 1 ≤ m →
 kept_cost m n from start stop s0 s1 s2 s3 o0 o1 o2 some low on within seek null cut =
     let d1 = start - from in
     let d2 = stop - start in
-    let d3 = n - stop in
-    let e1 : start ≡ from + d1 = omega arith in
-    let e2 : stop ≡ from + d1 + d2 = omega arith in
-    let e3 : n - from ≡ d1 + d2 + d3 = omega arith in
-    let a1 : 36 * m * start ≡ 36 * m * (from + d1) = ap (λ v. 36 * m * v) e1 in
-    let a2 : 36 * m * (stop + 1) ≡ 36 * m * (from + d1 + d2 + 1) = ap (λ v. 36 * m * (v + 1)) e2 in
-    let a3 : 42 * m * (n - from) ≡ 42 * m * (d1 + d2 + d3) = ap (λ v. 42 * m * v) e3 in
-    let most = mul-le-mul_left d1 some in
-    omega (arith, most, a1, a2, a3)
+    let a1 : 36 * m * start ≡ 36 * m * (from + d1) = ap (λ v. 36 * m * v) (omega arith) in
+    let a2 : 36 * m * (stop + 1) ≡ 36 * m * (from + d1 + d2 + 1) = ap (λ v. 36 * m * (v + 1)) (omega arith) in
+    let a3 : 42 * m * (n - from) ≡ 42 * m * (d1 + d2 + (n - stop)) = ap (λ v. 42 * m * v) (omega arith) in
+    omega (arith, mul-le-mul_left d1 some, a1, a2, a3)
 
 pub none_cost : (m n from start s0 s1 s2 o0 o1 : ℕ) → 1 ≤ m → from ≤ start → start ≤ n → s1 + (o1 + 2 * from) ≤ s0 + (o0 + 2 * start + 2) → s2 ≤ s1 + 1 → s2 + 0 ≤ s0 + (o0 + 42 * m * (n - from) + 42 * m)
 none_cost m n from start s0 s1 s2 o0 o1 some low within seek null =
-    let d = n - from in
-    let most = mul-le-mul_left d some in
-    omega (arith, most, seek, null)
+    omega (arith, mul-le-mul_left (n - from) some, seek, null)
 
 -- the places that trials went over, as those that are left for them
 tried_left : (m n tried tried' s t a b : ℕ) → tried ≤ n → tried' ≤ 2 * n + 1 → t + (40 * m * tried + a) ≤ s + (40 * m * tried' + b) → t + (40 * m * (2 * n + 1 - tried') + a) ≤ s + (40 * m * (2 * n + 1 - tried) + b)
 tried_left m n tried tried' s t a b few few' pays =
-    let u = 2 * n + 1 - tried in
-    let v = 2 * n + 1 - tried' in
-    let e1 : tried + u ≡ 2 * n + 1 = omega arith in
-    let e2 : tried' + v ≡ 2 * n + 1 = omega arith in
-    let a1 : 40 * m * (tried + u) ≡ 40 * m * (2 * n + 1) = ap (λ x. 40 * m * x) e1 in
-    let a2 : 40 * m * (tried' + v) ≡ 40 * m * (2 * n + 1) = ap (λ x. 40 * m * x) e2 in
+    let a1 : 40 * m * (tried + (2 * n + 1 - tried)) ≡ 40 * m * (2 * n + 1) = ap (λ x. 40 * m * x) (omega arith) in
+    let a2 : 40 * m * (tried' + (2 * n + 1 - tried')) ≡ 40 * m * (2 * n + 1) = ap (λ x. 40 * m * x) (omega arith) in
     omega (arith, pays, a1, a2)
 
 -- a hit
-pub hit_cost : (m n from i j tried tried' s t : ℕ) → 1 ≤ m → from ≤ i → i ≤ j → j ≤ n → tried ≤ n → tried' ≤ 2 * n + 1 → t + (40 * m * tried + from) ≤ s + (40 * m * tried' + (i + 1 + 40 * m * (j + 1 - i))) →
-    t + (40 * m * (2 * n + 1 - tried') + 142 * m * (n - j)) ≤ s + (40 * m * (2 * n + 1 - tried) + 142 * m * (n - from) + 42 * m)
+pub hit_cost : (m n from i j tried tried' s t : ℕ) → 1 ≤ m → from ≤ i → i ≤ j → j ≤ n → tried ≤ n → tried' ≤ 2 * n + 1 → t + (40 * m * tried + 3 * from) ≤ s + (40 * m * tried' + (3 * (i + 1) + 40 * m * (j + 1 - i))) →
+    t + (40 * m * (2 * n + 1 - tried') + 142 * m * (n - j)) ≤ s + (40 * m * (2 * n + 1 - tried) + 142 * m * (n - from) + 43 * m)
 hit_cost m n from i j tried tried' s t some low on within few few' pays =
     let d1 = i - from in
     let d2 = j - i in
-    let e1 : n - from ≡ d1 + d2 + (n - j) = omega arith in
-    let e2 : j + 1 - i ≡ d2 + 1 = omega arith in
-    let a1 : 142 * m * (n - from) ≡ 142 * m * (d1 + d2 + (n - j)) = ap (λ x. 142 * m * x) e1 in
-    let a2 : 40 * m * (j + 1 - i) ≡ 40 * m * (d2 + 1) = ap (λ x. 40 * m * x) e2 in
-    let left = tried_left m n tried tried' s t from (i + 1 + 40 * m * (j + 1 - i)) few few' pays in
+    let a1 : 142 * m * (n - from) ≡ 142 * m * (d1 + d2 + (n - j)) = ap (λ x. 142 * m * x) (omega arith) in
+    let a2 : 40 * m * (j + 1 - i) ≡ 40 * m * (d2 + 1) = ap (λ x. 40 * m * x) (omega arith) in
+    let left = tried_left m n tried tried' s t (3 * from) (3 * (i + 1) + 40 * m * (j + 1 - i)) few few' pays in
     omega (arith, left, mul-le-mul_left d1 some, a1, a2)
 
 -- no match
-pub nothing_cost : (m n from tried tried' s t : ℕ) → 1 ≤ m → from ≤ n → tried ≤ n → tried' ≤ 2 * n + 1 → t + (40 * m * tried + from) ≤ s + (40 * m * tried' + (n + 1)) →
-    t + 0 ≤ s + (40 * m * (2 * n + 1 - tried) + 142 * m * (n - from) + 42 * m)
-nothing_cost m n from tried tried' s t some low few few' pays = omega (arith, tried_left m n tried tried' s t from (n + 1) few few' pays, mul-le-mul_left (n - from) some)
+pub nothing_cost : (m n from tried tried' s t : ℕ) → 1 ≤ m → from ≤ n → tried ≤ n → tried' ≤ 2 * n + 1 → t + (40 * m * tried + 3 * from) ≤ s + (40 * m * tried' + 3 * (n + 1)) →
+    t + 0 ≤ s + (40 * m * (2 * n + 1 - tried) + 142 * m * (n - from) + 43 * m)
+nothing_cost m n from tried tried' s t some low few few' pays = omega (arith, tried_left m n tried tried' s t (3 * from) (3 * (n + 1)) few few' pays, mul-le-mul_left (n - from) some)
 
 -- a pass from the end is left to do after trials
-tired_cost : (m n from k tried tried' s t : ℕ) → 1 ≤ m → from < k → k ≤ n → tried ≤ n → tried' ≤ 2 * n + 1 → t + (40 * m * tried + from) ≤ s + (40 * m * tried' + k) →
+tired_cost : (m n from k tried tried' s t : ℕ) → 1 ≤ m → from < k → k ≤ n → tried ≤ n → tried' ≤ 2 * n + 1 → t + (40 * m * tried + 3 * from) ≤ s + (40 * m * tried' + 3 * k) →
     t + (40 * m * (2 * n + 1 - tried') + 142 * m * (n - k)) ≤ s + (40 * m * (2 * n + 1 - tried) + 142 * m * (n - from))
 tired_cost m n from k tried tried' s t some low within few few' pays =
     let d = k - from in
-    let e : n - from ≡ d + (n - k) = omega arith in
-    let a : 142 * m * (n - from) ≡ 142 * m * (d + (n - k)) = ap (λ x. 142 * m * x) e in
-    omega (arith, tried_left m n tried tried' s t from k few few' pays, mul-le-mul_left d some, a)
+    let a : 142 * m * (n - from) ≡ 142 * m * (d + (n - k)) = ap (λ x. 142 * m * x) (omega arith) in
+    omega (arith, tried_left m n tried tried' s t (3 * from) (3 * k) few few' pays, mul-le-mul_left d some, a)
 
 -- and of one search, whatever was found out before it
 few_tried : (m n x tried z : ℕ) → z ≤ max tried (n / 8) + x → 40 * m * z ≤ 40 * m * tried + 5 * (m * n) + 40 * m * x
@@ -186,74 +171,57 @@ few_tried m n x tried z few =
     let q = n / 8 in
     let eight : 8 * q ≤ n = omega arith in
     let most : z ≤ tried + q + x = omega (arith, few) in
-    let a1 = mul-le-mul_left m most in
-    let a2 = mul-le-mul_left m eight in
-    omega (arith, a1, a2)
+    omega (arith, mul-le-mul_left m most, mul-le-mul_left m eight)
 
 pub hit_each : (m n from i j tried tried' s t : ℕ) → 1 ≤ m → from ≤ i → i ≤ j → j ≤ n → tried' + (j + 1 - i) ≤ max tried (n / 8) + (n + 1 - from) →
-    t + (40 * m * tried + from) ≤ s + (40 * m * tried' + (i + 1 + 40 * m * (j + 1 - i))) → t ≤ s + search_cost m n from
+    t + (40 * m * tried + 3 * from) ≤ s + (40 * m * tried' + (3 * (i + 1) + 40 * m * (j + 1 - i))) → t ≤ s + search_cost m n from
 hit_each m n from i j tried tried' s t some low on within few pays =
     let x = n - from in
-    let e : n + 1 - from ≡ x + 1 = omega arith in
-    let a : 40 * m * (n + 1 - from) ≡ 40 * m * (x + 1) = ap (λ v. 40 * m * v) e in
+    let a : 40 * m * (n + 1 - from) ≡ 40 * m * (x + 1) = ap (λ v. 40 * m * v) (omega arith) in
     let most = few_tried m n (n + 1 - from) tried (tried' + (j + 1 - i)) few in
-    let all = mul-le-mul_left x some in
-    omega (arith, most, all, a, pays)
+    omega (arith, most, mul-le-mul_left x some, a, pays)
 
-pub nothing_each : (m n from tried tried' s t : ℕ) → 1 ≤ m → from ≤ n → tried' ≤ max tried (n / 8) + (n + 1 - from) → t + (40 * m * tried + from) ≤ s + (40 * m * tried' + (n + 1)) → t ≤ s + search_cost m n from
+pub nothing_each : (m n from tried tried' s t : ℕ) → 1 ≤ m → from ≤ n → tried' ≤ max tried (n / 8) + (n + 1 - from) → t + (40 * m * tried + 3 * from) ≤ s + (40 * m * tried' + 3 * (n + 1)) → t ≤ s + search_cost m n from
 nothing_each m n from tried tried' s t some low few pays =
     let x = n - from in
-    let e : n + 1 - from ≡ x + 1 = omega arith in
-    let a : 40 * m * (n + 1 - from) ≡ 40 * m * (x + 1) = ap (λ v. 40 * m * v) e in
-    let most = few_tried m n (n + 1 - from) tried tried' few in
-    let all = mul-le-mul_left x some in
-    omega (arith, most, all, a, pays)
+    let a : 40 * m * (n + 1 - from) ≡ 40 * m * (x + 1) = ap (λ v. 40 * m * v) (omega arith) in
+    omega (arith, few_tried m n (n + 1 - from) tried tried' few, mul-le-mul_left x some, a, pays)
 
-tired_each : (m n from k tried tried' s t1 t2 : ℕ) → 1 ≤ m → from < k → k ≤ n → tried' ≤ max tried (n / 8) + (n + 1 - from) → t1 + (40 * m * tried + from) ≤ s + (40 * m * tried' + k) →
+tired_each : (m n from k tried tried' s t1 t2 : ℕ) → 1 ≤ m → from < k → k ≤ n → tried' ≤ max tried (n / 8) + (n + 1 - from) → t1 + (40 * m * tried + 3 * from) ≤ s + (40 * m * tried' + 3 * k) →
     t2 ≤ t1 + (142 * m * (n - k) + 42 * m) → t2 ≤ s + search_cost m n from
 tired_each m n from k tried tried' s t1 t2 some low within few pays more =
     let y = n - from - 1 in
     let d = k - from - 1 in
-    let e1 : n + 1 - from ≡ y + 2 = omega arith in
-    let e2 : n - k + d ≡ y = omega arith in
-    let e3 : n - from ≡ y + 1 = omega arith in
-    let a1 : 40 * m * (n + 1 - from) ≡ 40 * m * (y + 2) = ap (λ v. 40 * m * v) e1 in
-    let a2 : 142 * m * (n - k + d) ≡ 142 * m * y = ap (λ v. 142 * m * v) e2 in
-    let a3 : m * (n - from) ≡ m * (y + 1) = ap (λ v. m * v) e3 in
-    let most = few_tried m n (n + 1 - from) tried tried' few in
-    let all = mul-le-mul_left d some in
-    omega (arith, most, all, a1, a2, a3, pays, more)
+    let a1 : 40 * m * (n + 1 - from) ≡ 40 * m * (y + 2) = ap (λ v. 40 * m * v) (omega arith) in
+    let a2 : 142 * m * (n - k + d) ≡ 142 * m * y = ap (λ v. 142 * m * v) (omega arith) in
+    let a3 : m * (n - from) ≡ m * (y + 1) = ap (λ v. m * v) (omega arith) in
+    omega (arith, few_tried m n (n + 1 - from) tried tried' few, mul-le-mul_left d some, a1, a2, a3, pays, more)
 
 -- of one by a pass from the text's end alone
 pub kept_each : (m n : ℕ) (r : Region) (from s t after : ℕ) → r.end ≤ n → t + after ≤ s + (owed_kept m n r from + 42 * m) → t ≤ s + (142 * m * (n - from) + 42 * m)
 kept_each m n r from s t after inside pays =
-    let small = owed_small m r from in
     let less : r.end - from ≤ n - from = omega arith in
-    let all = mul-le-mul_left (100 * m) less in
-    omega (arith, small, all, pays)
+    omega (arith, owed_small m r from, mul-le-mul_left (100 * m) less, pays)
 
 -- of a search in a text, by its length
 pub search_long : (m n from : ℕ) → search_cost m n from ≤ m * (192 * n + 48)
 search_long m n from =
-    let inner : 5 * n + 142 * (n - from) + 40 * (n - from - 1) + 42 ≤ 192 * n + 48 = omega arith in
+    let inner : 5 * n + 142 * (n - from) + 40 * (n - from - 1) + 44 ≤ 192 * n + 48 = omega arith in
     mul-le-mul_left m inner
 
 -- a trial's places: those past its end, and those of the match
 pub hit_room : (tried place end from start n most : ℕ) → from ≤ start → start ≤ place → place ≤ n → start ≤ end → end ≤ n → tried ≤ most → tried + (place - end) + (end + 1 - start) ≤ most + (n + 1 - from)
 hit_room tried place end from start n most after low within on inside few = omega arith
 
-pub hit_paid : (m from start here place end tried old s0 s1 s2 : ℕ) → 1 ≤ m → start ≤ here → here ≤ end → here ≤ place → s1 + (40 * m * old + from) ≤ s0 + (40 * m * tried + start) →
-    s2 + start ≤ s1 + (here + 1 + 40 * m * (place + 1 - here)) → s2 + (40 * m * old + from) ≤ s0 + (40 * m * (tried + (place - end)) + (here + 1 + 40 * m * (end + 1 - here)))
+pub hit_paid : (m from start here place end tried old s0 s1 s2 : ℕ) → 1 ≤ m → start ≤ here → here ≤ end → here ≤ place → s1 + (40 * m * old + 3 * from) ≤ s0 + (40 * m * tried + 3 * start) →
+    s2 + 3 * start ≤ s1 + (3 * (here + 1) + 40 * m * (place + 1 - here)) → s2 + (40 * m * old + 3 * from) ≤ s0 + (40 * m * (tried + (place - end)) + (3 * (here + 1) + 40 * m * (end + 1 - here)))
 hit_paid m from start here place end tried old s0 s1 s2 some low on up paid trial =
-    let a = place + 1 - here in
-    let b = place - end in
     let c = end + 1 - here in
-    let few : a ≤ b + c = omega arith in
-    let most = mul-le-mul_left m few in
-    omega (arith, most, paid, trial)
+    let few : (place + 1 - here) ≤ (place - end) + c = omega arith in
+    omega (arith, mul-le-mul_left m few, paid, trial)
 
 -- a trial is paid: a search for where it begins, and a pass
-pub trial_cost : (m from start place s0 s1 s2 : ℕ) → start ≤ place → s1 + from ≤ s0 + (start + 1) → s2 + 40 * m * start ≤ s1 + 40 * m * (place + 1) → s2 + from ≤ s0 + (start + 1 + 40 * m * (place + 1 - start))
+pub trial_cost : (m from start place s0 s1 s2 : ℕ) → start ≤ place → s1 + 3 * from ≤ s0 + 3 * (start + 1) → s2 + 40 * m * start ≤ s1 + 40 * m * (place + 1) → s2 + 3 * from ≤ s0 + (3 * (start + 1) + 40 * m * (place + 1 - start))
 trial_cost m from start place s0 s1 s2 low first pass =
     let d = place + 1 - start in
     let is : place + 1 ≡ start + d = omega arith in
@@ -293,12 +261,10 @@ some_from e w begins from start all next = (
   λ some. (some.0, some.1, elim (cases_lt some.0 start) [ inl before ↦ absurd (next.2 some.0 some.2 before (all w some.0 some.1 some.4)) | inr at ↦ at ], some.3, some.4),
 )
 
-pub match_cost : (m n from start place s0 s1 s2 : ℕ) → 1 ≤ m → place ≤ n → s1 + from ≤ s0 + (start + 1) → s2 + 40 * m * start ≤ s1 + 40 * m * (place + 1) → s2 ≤ s0 + 41 * m * (n + 1)
+pub match_cost : (m n from start place s0 s1 s2 : ℕ) → 1 ≤ m → place ≤ n → s1 + 3 * from ≤ s0 + 3 * (start + 1) → s2 + 40 * m * start ≤ s1 + 40 * m * (place + 1) → s2 ≤ s0 + 43 * m * (n + 1)
 match_cost m n from start place s0 s1 s2 some low first pass =
     let up : place + 1 ≤ n + 1 = omega arith in
-    let more = mul-le-mul_left start some in
-    let all = mul-le-mul_left (n + 1) some in
-    omega (arith, first, pass, more, all, mul-le-mul_left (40 * m) up)
+    omega (arith, first, pass, mul-le-mul_left start some, mul-le-mul_left (n + 1) some, mul-le-mul_left (40 * m) up)
 
 -- looks of trials, and of one more, up to a place
 pub looks_tried : (from start here place s a b c : ℕ) → TakesAtLeast s a (start - from) → TakesAtLeast a b (here - start) → TakesAtLeast b c (2 * (place - here) + 1) → (n : ℕ) → n ≤ start - from + (here - start + 2 * (place - here) + 1) →
@@ -334,7 +300,7 @@ by_pass : (m n : ℕ) (s : Seeking) → IsTrue s.begun → owed_search m n s ≡
 by_pass m n s is = ap (λ b q. if b then owed_kept m n s.kept.region q else 40 * m * (2 * n + 1 - s.tried) + 142 * m * (n - q)) is
 
 pub pass_paid : (m n : ℕ) (mid begun new : Seeking) (start s t : ℕ) (r : Option (ℕ × ℕ)) → IsTrue begun.begun → IsTrue new.begun → owed_search m n begun start ≤ owed_search m n mid start →
-    t + owed_after (λ q. owed_kept m n new.kept.region q) r ≤ s + (owed_kept m n begun.kept.region start + 42 * m) → t + owed_after (owed_search m n new) r ≤ s + (owed_search m n mid start + 42 * m)
+    t + owed_after (λ q. owed_kept m n new.kept.region q) r ≤ s + (owed_kept m n begun.kept.region start + 42 * m) → t + owed_after (owed_search m n new) r ≤ s + (owed_search m n mid start + 43 * m)
 pass_paid m n mid begun new start s t r is is' falls pays =
     let old = ap (λ due. due start) (by_pass m n begun is) in
     rw (by_pass m n new is') (omega (arith, old, falls, pays))
@@ -374,8 +340,6 @@ comes_tired p w a a' old mid from place before after shape space is is' few made
     let last = p.is_prepared.last in
     let answer = made.answer in
     let most = made.few in
-    let was = unbegun m n old from is in
-    let now = unbegun m n mid place is' in
     let paid = tired_cost m n from place old.tried mid.tried before after (omega (arith, last)) answer.0 answer.1 few (omega (arith, most, few)) made.cost.1 in
     record {
       shape = shape;
@@ -384,7 +348,7 @@ comes_tired p w a a' old mid from place before after shape space is is' few made
       within = answer.1;
       none = answer.2;
       grows = made.cost.0;
-      cost = omega (arith, paid, was, now);
+      cost = omega (arith, paid, unbegun m n old from is, unbegun m n mid place is');
       each = λ t more. tired_each m n from place old.tried mid.tried before after t (omega (arith, last)) answer.0 answer.1 most made.cost.1 more;
       counts = made.counts;
     }
@@ -441,11 +405,9 @@ square (suc n) = let h = mul-le-mul_left (suc n) (let h : 1 ≤ suc n = omega ar
 
 pub alone_square : (m n : ℕ) → 1 ≤ m → m * (192 * n + 48) ≤ 64 * m * m * (n + 1) * (n + 1)
 alone_square m n some =
-    let sq = square n in
-    let inner : 192 * n + 48 ≤ 64 * (n + 1) * (n + 1) = omega (arith, sq) in
-    let a = mul-le-mul_left m inner in
+    let inner : 192 * n + 48 ≤ 64 * (n + 1) * (n + 1) = omega (arith, square n) in
     let b = mul-le-mul_left (m * (64 * (n + 1) * (n + 1))) some in
-    omega (arith, a, b)
+    omega (arith, mul-le-mul_left m inner, b)
 
 -- What a table says, and what is kept of a pass, depends on the expression alone: made ready once more, it holds as before.
 
@@ -455,10 +417,8 @@ LeadsIn e t n k b = (byte : ℕ) (edge : Bool) → byte < 256 → IsColumn t.lay
 -- passes may begin for the same nodes
 begins_for : (p q : Prepared) → p.arena.expr ≡ q.arena.expr → (way : Way) (root : ℕ) → MayBegin p way root → MayBegin q way root
 begins_for p q same way root may =
-    let old = p.is_prepared.last in
-    let new = q.is_prepared.last in
     let nodes : length p.arena.expr.nodes ≡ length q.arena.expr.nodes = ap (λ (e : WrittenExpression). length e.nodes) same in
-    (omega (arith, may.0, nodes), λ all_starts. may.1 all_starts ∙ omega (arith, old, new, nodes))
+    (omega (arith, may.0, nodes), λ all_starts. may.1 all_starts ∙ omega (arith, p.is_prepared.last, q.is_prepared.last, nodes))
 
 module _ (p q : Prepared) (same : p.arena.expr ≡ q.arena.expr) where
   pub table_for : (t : Table) → IsTable p t → IsTable q t

@@ -206,13 +206,11 @@ note_cell p t table offset k v byte edge there small column leads anywhere =
     let N : Table = record t { cells = with_item t.cells (offset + k) v } in
     let old = table.room in
     let size = 2 ^ t.layout.shift in
-    let wide = table.layout.fits in
     let q = offset / size in
-    let low = there.0 in
     let is = there.1 in
     let class = slice_index_or t.layout.classes byte 0 in
     let narrow : k < t.layout.width = column_below t.layout.columns t.layout.width class k edge t.layout.edge table.layout.columns table.layout.edge column.0 column.1 in
-    let inside : offset + k < length t.cells.items = (let h = cell_inside size q k t.count t.layout.width (length t.cells.items) low narrow wide old.cells in omega (arith, h, is)) in
+    let inside : offset + k < length t.cells.items = (let h = cell_inside size q k t.count t.layout.width (length t.cells.items) there.0 narrow table.layout.fits old.cells in omega (arith, h, is)) in
     let room : HasRoom m N = record {
       count = old.count;
       marks = old.marks;
@@ -430,6 +428,10 @@ pub code_some : (b : Bool) (o v : ℕ) → v ≡ code_of b o → 0 < v
 code_some true o v is = omega arith
 code_some false o v is = omega arith
 
+-- the code of a state is some number
+pub names_some : (p : Prepared) (t : Table) (P : State → Type 0) (v : ℕ) → Names (length p.arena.expr.nodes) t P v → 0 < v
+names_some p t P v n = code_some (stops t.way (state_of (length p.arena.expr.nodes) t n.to).flags) (n.to * 2 ^ t.layout.shift) v n.code
+
 module _ (p : Prepared) (t : Table) (table : IsTable p t) (P : State → Type 0) (v o : ℕ) (n : Names (length p.arena.expr.nodes) t P v) (tells : (b : Bool) (u : ℕ) → u < 2147483647 → v ≡ code_of b u → o ≡ u) where
   named : State
   named = state_of (length p.arena.expr.nodes) t n.to
@@ -464,10 +466,8 @@ module _ (p : Prepared) (t : Table) (table : IsTable p t) (offset byte k : ℕ) 
 
   pub cell_there : offset + k < length t.cells.items
   cell_there =
-      let low = at.0 in
-      let inside = cell_inside (2 ^ t.layout.shift) (offset / 2 ^ t.layout.shift) k t.count t.layout.width (length t.cells.items) low column_inside table.layout.fits table.room.cells in
-      let e = at.1 in
-      omega (arith, inside, e)
+      let inside = cell_inside (2 ^ t.layout.shift) (offset / 2 ^ t.layout.shift) k t.count t.layout.width (length t.cells.items) at.0 column_inside table.layout.fits table.room.cells in
+      omega (arith, inside, at.1)
 
   pub known_cell : (v : ℕ) → byte < 256 → v ≡ slice_index_or t.cells.items (offset + k) 0 → 0 < v → Names (length p.arena.expr.nodes) t (LeadsOn (nodes_of t.way p.arena.expr) t.way (state_of (length p.arena.expr.nodes) t (offset / 2 ^ t.layout.shift)) byte edge) v
   known_cell v small is some =
@@ -530,20 +530,14 @@ widest = record { classes = replicate 256 0; columns = 0; edge = None; width = 0
 pub roomy_still : (m : ℕ) (p : Prepared) (t t' : Table) → IsRoomy m t → SameRoom t t' → IsTable p t' → IsRoomy m t'
 roomy_still m p t t' roomy same table =
     let room = roomy widest (omega arith) in
-    let reserved = room.reserved in
-    let marks = room.marks in
-    let rooms = same.1 in
-    let all = same.3 in
-    let most = same.2 in
-    table_roomy m p t' table (omega (arith, reserved, rooms, all)) (omega (arith, marks, most))
+    table_roomy m p t' table (omega (arith, room.reserved, same.1, same.3)) (omega (arith, room.marks, same.2))
 
 -- and for fewer nodes
 pub roomy_fewer : (k m : ℕ) (t : Table) → k ≤ m → IsRoomy m t → IsRoomy k t
 roomy_fewer k m t few roomy layout small =
     let room = roomy layout small in
     let wide = (roomy widest (omega arith)).reserved in
-    let marks = room.marks in
-    room_laid m k (record t { layout = layout; count = 0 }) layout room (omega (arith, wide)) (omega (arith, few, marks)) small
+    room_laid m k (record t { layout = layout; count = 0 }) layout room (omega (arith, wide)) (omega (arith, few, room.marks)) small
 
 -- Steps from table to table.
 
@@ -558,10 +552,34 @@ adds_then m a b c one two epoch count = record {
 
 -- nothing happened
 pub adds_none : (m : ℕ) (t : Table) → AddsStates m t t
-adds_none m t = record {
-  shape = (refl, refl, refl, refl, refl);
-  grows = λ e. (omega arith, omega arith);
-  kept = λ e q low. refl;
-  full = λ room. refl;
-  forgot = λ ne. absurd (ne refl);
-}
+adds_none m t = adds_same m t t (refl, refl, refl, refl, refl) refl refl (λ q. refl)
+
+-- there is a place for a state, in the table or once it was emptied, and one that comes there is added to the table
+pub record HasPlace (p : Prepared) (t t' : Table) : Type 0 where
+  pub table : IsTable p t'
+  pub room : t'.count < t'.room
+  pub index : t'.index ≡ t.index
+  pub adds : (new : Table) → AddsStates (length p.arena.expr.nodes) t' new → AddsStates (length p.arena.expr.nodes) t new
+
+pub with_place : (p : Prepared) (t : Table) → IsTable p t → (t.count ≡ t.room → ⊥) → HasPlace p t t
+with_place p t table other = let count = table.room.count in record { table = table; room = omega (arith, count, other); index = refl; adds = λ new adds. adds }
+
+pub once_empty : (p : Prepared) (t t' : Table) → t.room ≤ t.count → IsTable p t' → t'.count ≡ 0 → (t'.epoch ≡ t.epoch → ⊥) → SameShape t t' → t'.index ≡ t.index → HasPlace p t t'
+once_empty p t t' full table none epoch shape index =
+    let some = table.room.rows.some in
+    record {
+      table = table;
+      room = omega (arith, none, some);
+      index = index;
+      adds = λ new adds.
+          let same = adds.full (omega (arith, none, some)) in
+          let other : new.epoch ≡ t.epoch → ⊥ = λ e. epoch (sym same ∙ e) in
+          let s = adds.shape in
+          record {
+            shape = (s.0 ∙ shape.0, s.1 ∙ shape.1, s.2 ∙ shape.2, s.3 ∙ shape.3, s.4 ∙ shape.4);
+            grows = λ e. absurd (other e);
+            kept = λ e. absurd (other e);
+            full = λ low. absurd (omega (arith, low, full));
+            forgot = λ _. omega (arith, (adds.grows same).1, none);
+          };
+    }

@@ -35,8 +35,7 @@ module _ (s : Subject) (here : Matched) (node : Node) (stands : Stands s here no
   pub part_inside : (c : ℕ) → IsPart node c → c < length (nodes_in s)
   part_inside c part =
       let below = stands.arena.below here.node c node stands.is part in
-      let inside = stands.there.inside in
-      omega (arith, below, inside)
+      omega (arith, below, stands.there.inside)
 
   long : size (tree_at (nodes_in s) here.node) ≡ 1 + total_size (nodes_in s) (parts_of node)
   long = size-parts (nodes_in s) stands.arena here.node node stands.is
@@ -220,9 +219,8 @@ opt_turned s here a first state r before after stands ends which cost = record {
         ⊎_elim (λ (e : here.start ≡ here.stop). absurd (omega arith)) (λ (r : At (nodes_in s) (text_in s) a.index here.start here.stop). r) (opened s here (Opt a first) stands) in
         inner_turn s here (Opt a first) stands a here.start state state refl refl (omega arith) stands.there.up at (λ mid m walk. inr (m, refl, inl (lt, mid, walk, refl)))
     by (inr (le, null)) =
-        let up = stands.there.up in
         let same : here.start ≡ here.stop = omega arith in
-        inner_turn s here (Opt a first) stands a here.start state state refl refl (omega arith) up (subst (At (nodes_in s) (text_in s) a.index here.start) same null.1)
+        inner_turn s here (Opt a first) stands a here.start state state refl refl (omega arith) stands.there.up (subst (At (nodes_in s) (text_in s) a.index here.start) same null.1)
         (λ mid m walk. inr (m, refl, inr (inl (same, null.0, null.1, mid, subst (λ v. Walk (tree_at (nodes_in s) a.index) (text_in s) here.start v state mid m) (sym same) walk, refl))))
 
 pub opt_done : (s : Subject) (here : Matched) (a : NodeId) (first : Bool) (state : State) (r : Region) (before after : ℕ) → Stands s here (Opt a first) → here.stop ≤ here.start →

@@ -70,9 +70,9 @@ pub record IsNextMatch (p : Prepared) (w : List ℕ) (from : ℕ) (back : Table)
 
 -- of trials, besides the place from which they are made and the places that are in no match
 abbrev pub trials_cost : ℕ → ℕ → Trials → ℕ
-trials_cost m n (Hit i j) = i + 1 + 40 * m * (j + 1 - i)
-trials_cost m n Nothing = n + 1
-trials_cost m n (Tired k) = k
+trials_cost m n (Hit i j) = 3 * (i + 1) + 40 * m * (j + 1 - i)
+trials_cost m n Nothing = 3 * (n + 1)
+trials_cost m n (Tired k) = 3 * k
 
 -- the places that are in no match, and those of the match found
 abbrev pub trials_room : ℕ → Trials → ℕ
@@ -83,13 +83,13 @@ trials_room tried other = tried
 pub record TrialsMade (e : Tree) (w : List ℕ) (m from tried tried' before after : ℕ) (r : Trials) : Type 0 where
   pub answer : TrialsAnswer e w from r
   pub few : trials_room tried' r ≤ max tried (length w / 8) + (length w + 1 - from)
-  pub cost : CostsWithin before after (40 * m * tried' + trials_cost m (length w) r) (40 * m * tried + from)
+  pub cost : CostsWithin before after (40 * m * tried' + trials_cost m (length w) r) (40 * m * tried + 3 * from)
   pub counts : LooksInTrials from before after r
 
 -- of one search from a place on, whatever was found out before it: by a pass from the text's end over the rest of the text, or by
 -- trials over that rest and an eighth of the text besides, and by such a pass after them, from a later place on
 abbrev pub search_cost : ℕ → ℕ → ℕ → ℕ
-search_cost m n from = m * (5 * n + 142 * (n - from) + 40 * (n - from - 1) + 42)
+search_cost m n from = m * (5 * n + 142 * (n - from) + 40 * (n - from - 1) + 44)
 
 -- the steps that searches from a place on may still take, over what one search takes besides: by the pass from the text's end,
 abbrev pub owed_kept : ℕ → ℕ → Region → ℕ → ℕ
@@ -110,7 +110,7 @@ owed_after due (Some f) = due f.1
 -- the steps that the searches after an occurrence that ended at the place may still take: two for each byte of the rest of the text,
 -- and two more
 abbrev pub owed_behind : ℕ → ℕ → Seeking → ℕ → ℕ
-owed_behind m n s place = owed_search m n s place + 84 * m * (n + 1 - place)
+owed_behind m n s place = owed_search m n s place + 86 * m * (n + 1 - place)
 
 -- the steps in which an occurrence is sought from a place on: in the square of the text's length at most, and one at least for each
 -- byte from that place on up to its end

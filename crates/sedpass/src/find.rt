@@ -29,7 +29,7 @@ pub fn is_match(
     ensures shape { SameShape any.old any.new }
     ensures matches { IsTrue result ↔ SomeFound (expression_tree subject.entry.prepared.now.arena.expr) subject.entry.text.now from }
     ensures passes { IsTrue result → PassesOver (expression_tree subject.entry.prepared.now.arena.expr) subject.entry.text.now from steps.old steps.new }
-    ensures cost { Takes steps.old steps.new (41 * length subject.entry.prepared.now.arena.expr.nodes * (length subject.entry.text.now + 1)) }
+    ensures cost { Takes steps.old steps.new (43 * length subject.entry.prepared.now.arena.expr.nodes * (length subject.entry.text.now + 1)) }
 {
     match next_start(begins, subject.text, from, steps) {
         None => false,

@@ -1,5 +1,5 @@
 //! Some of the groups 1 to 9.
-ghost use Rattle.std.specs.Prelude.{◌≡◌, ℕ, ◌<◌, ◌≤◌, ◌&&◌, ◌||◌, ◌↔◌, not, eqb, false, IsTrue};
+ghost use Rattle.std.specs.Prelude.{◌≡◌, ℕ, ◌<◌, ◌&&◌, ◌||◌, ◌↔◌, not, eqb, false, IsTrue};
 ghost use Rattle.sedpass.specs.Prepared.{holds, reported};
 
 /// Some of the groups 1 to 9: those that an expression reports. A group with a greater number is in no set.

@@ -3,14 +3,13 @@
 //! The region is cut into blocks, and the table has room for one state more than a block has places. The row at each block's
 //! right end is kept too. Where the states of a block are gone, since the table was emptied after it was made, they are made again
 //! from the block's end down to the place that is looked at, so that looks from left to right make each place again once at most.
-ghost use Rattle.std.specs.Prelude.{◌≡◌, ℕ, Bool, true, false, not, min, ◌+◌, ◌-◌, ◌*◌, ◌/◌, ◌^◌, ◌<◌, ◌≤◌, ◌⊎◌, ◌↔◌, length, slice_index_or, vec_capacity, IfOk, IsTrue};
+ghost use Rattle.std.specs.Prelude.{◌≡◌, ℕ, false, not, min, ◌+◌, ◌-◌, ◌*◌, ◌/◌, ◌^◌, ◌<◌, ◌≤◌, ◌↔◌, length, vec_capacity, IfOk, IsTrue};
 ghost use Rattle.sedtext.specs.Costs.{CostsWithin};
 ghost use Rattle.sedtext.specs.Reach.{At, one_start};
 ghost use Rattle.sedtext.specs.Words.{row_of};
 ghost use Rattle.sedre.specs.Steps.{Takes, TakesAtLeast, TakesExactly};
 ghost use Rattle.sedpass.specs.Regions.{CeasesAt, IsLastIn, Meets, ReachesEnd};
-ghost use Rattle.sedpass.specs.Rows.{nodes_of};
-ghost use Rattle.sedpass.specs.Table.{AddsStates, IsOffset, IsTable, MayBegin, SameShape, StateAt, state_of};
+ghost use Rattle.sedpass.specs.Table.{AddsStates, IsOffset, IsTable, MayBegin, SameShape, state_of};
 ghost use Rattle.sedpass.specs.Kept.{AllMarked, ComesDown, EdgesFrom, Follows, IsEdge, IsKept, IsRegion, KeepsRegion, KeptAt, KeptRoom, Meet, PassesDownTo, SameKept, SameSpace, again, ends_told, owed};
 
 use crate::cells::offset_of;
@@ -82,14 +81,6 @@ fn extend_states(states: &mut Vec<u16>, text: usize)
     while states.len() <= text {
         states.push_reserved(0);
     }
-}
-
-/// The place before which states are in the table, as one was made at a place: no further than there where the table was emptied.
-fn live_to(before: u32, after: u32, to: usize, place: usize) -> usize
-    requires { place < to }
-    ensures { ((after ≡ before → ⊥) × (result ≡ place + 1)) ⊎ ((after ≡ before) × (result ≡ to)) }
-{
-    if after == before { to } else { place + 1 }
 }
 
 impl Kept {
@@ -167,7 +158,9 @@ impl Kept {
             let code = table.next(subject.prepared, offset, byte, edge, &mut self.work, steps);
             offset = offset_of(code);
             self.states[place] = table.state_at(offset) as u16;
-            self.region.to = live_to(epoch, table.epoch, self.region.to, place);
+            if table.epoch != epoch {
+                self.region.to = place + 1;
+            }
         }
         offset
     }

@@ -2,13 +2,12 @@
 //!
 //! A search for each occurrence, and one more a byte further on where the null string directly after an occurrence is passed over.
 ghost use Rattle.std.specs.Prelude.{◌≡◌, ℕ, false, Option, Some, ◌+◌, ◌*◌, ◌<◌, ◌≤◌, length, if◌then◌else◌, IfSome, IsTrue};
-ghost use Rattle.sedtext.specs.Answer.{SpanAnswer};
 ghost use Rattle.sedtext.specs.Costs.{CostsWithin};
 ghost use Rattle.sedtext.specs.Following.{LiesOn, next_span};
 ghost use Rattle.sedtext.specs.Matching.{found, unless_null_at};
 ghost use Rattle.sedre.specs.Tree.{expression_tree};
 ghost use Rattle.sedpass.specs.Kept.{KeptRoom};
-ghost use Rattle.sedpass.specs.Search.{MaySearch, SearchTakes, Searched, Serves, owed_after, owed_behind, owed_search};
+ghost use Rattle.sedpass.specs.Search.{MaySearch, SearchTakes, Searched, Serves, owed_after, owed_behind};
 ghost use Rattle.sedpass.specs.Table.{IsTable};
 
 use crate::kept::Subject;
@@ -27,7 +26,7 @@ pub fn begin_text(subject: Subject, back: &Table, seeking: &mut Seeking)
     ensures tried { seeking.new.tried ≡ if seeking.old.begun then length subject.entry.text.now else 0 }
     ensures serves { Serves subject.entry.prepared.now subject.entry.text.now back.now seeking.new }
     ensures owed { let m = length subject.entry.prepared.now.arena.expr.nodes in let n = length subject.entry.text.now in
-        owed_behind m n seeking.new 0 + 42 * m ≤ 306 * m * (n + 1) }
+        owed_behind m n seeking.new 0 + 43 * m ≤ 308 * m * (n + 1) }
 {
     // what was left to a pass in the text before is left to it here after one trial
     seeking.tried = if seeking.begun { subject.text.len() } else { 0 };
@@ -49,7 +48,7 @@ pub fn is_null_at(span: Option<(usize, usize)>, at: usize) -> bool
 /// The next occurrence in a text after one that ended at `at`: the leftmost of the longest matches from there on, or one byte
 /// further where that is the null string at `at`.
 ///
-/// All searches in one text, from [`begin_text`] on, take at most 306 steps for each node and place together: that for the first
+/// All searches in one text, from [`begin_text`] on, take at most 308 steps for each node and place together: that for the first
 /// occurrence, by [`next_match`], and a call for each that follows. Conditions: `at` is where the occurrence before ended. After
 /// `None` begin anew.
 pub fn next_after(

@@ -85,7 +85,6 @@ fn ends_here(
 {
     let ended = &work.ended;
     match node {
-        Node::Empty | Node::Begin | Node::End => false,
         Node::Set(set) => work.leaves.get(x, steps) && takes_byte(set, byte),
         Node::Seq(a, b) => {
             ended.get(b.index(), steps)
@@ -93,6 +92,7 @@ fn ends_here(
         }
         Node::Alt(a, b) => ended.get(a.index(), steps) || ended.get(b.index(), steps),
         Node::Group(_, a) | Node::Star(a, _) | Node::Opt(a, _) => ended.get(a.index(), steps),
+        _ => false,
     }
 }
 
@@ -115,7 +115,6 @@ fn enter(
     let ended = &work.ended;
     let entered = &mut work.entered;
     match node {
-        Node::Empty | Node::Begin | Node::End | Node::Set(_) => {}
         Node::Seq(a, b) => {
             entered.set(a.index(), here, steps);
             let next = ended.get(a.index(), steps)
@@ -131,6 +130,7 @@ fn enter(
             let next = here || ended.get(a.index(), steps);
             entered.set(a.index(), next, steps);
         }
+        _ => {}
     }
 }
 

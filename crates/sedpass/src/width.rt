@@ -1,5 +1,5 @@
 //! How long the blocks of a kept pass are.
-ghost use Rattle.std.specs.Prelude.{ℕ, ◌+◌, ◌*◌, ◌/◌, ◌^◌, ◌<◌, ◌≤◌, ◌↔◌, IsTrue};
+ghost use Rattle.std.specs.Prelude.{◌+◌, ◌*◌, ◌/◌, ◌^◌, ◌<◌, ◌≤◌, ◌↔◌, IsTrue};
 
 /// Whether blocks of so many places are too narrow: for the text of a short one, tables of few states suffice, which take little
 /// memory; from 512 on there would be more than 32,768 blocks.

@@ -21,12 +21,35 @@ all-init c =
       works = rw begun (works_none s (first ∷ []) told c.args.steps.now blank (there, tt));
     }
 
+pub forget-requires : goal.forget-requires
+forget-requires c =
+    let works = rw (popped _ _ _ c.in-Some.ensures.items, c.in-Forget.is) at c.all.invariant.works in
+    record { inside = works.ready.0; told = works.told }
+
+pub spine-requires : goal.spine-requires
+spine-requires c =
+    let p = c.args.subject.prepared.now in
+    let keeps = c.all.invariant.keeps in
+    let works = rw (popped _ _ _ c.in-Some.ensures.items, c.in-Apart.is) at c.all.invariant.works in
+    record {
+      arena = c.is_expression.ensures.arena;
+      ready = works.ready;
+      enough = omega (arith, works.less, c.is_expression.ensures.sizes p.root (omega (arith, p.is_prepared.last)), p.is_prepared.last, c.requires.room, c.push_reserved.ensures.capacity, keeps.tasks, c.pop.ensures.capacity);
+      desk = keeps.desk;
+      is_told = works.told;
+    }
+
+pub all-smaller-in-Forget : goal.all-smaller-in-Forget
+all-smaller-in-Forget c = rw (popped _ _ _ c.in-Some.ensures.items, c.in-Forget.is) (omega arith)
+
+pub all-smaller : goal.all-smaller
+all-smaller c = rw (popped _ _ _ c.in-Some.ensures.items, c.in-Apart.is) (omega (arith, c.spine.ensures.works.less))
+
 pub all-preserved-in-Forget : goal.all-preserved-in-Forget
 all-preserved-in-Forget c =
     let inv = c.all.invariant in
-    let rest = reverse c.pop.new.self.items in
     let works = rw (popped _ _ _ c.in-Some.ensures.items, c.in-Forget.is) at inv.works in
-    let forgets = works_forget c.args.subject c.in-Forget.x rest c.all.told c.forget.new.told c.all.steps works.ready c.forget.ensures.told c.forget.ensures.state c.forget.ensures.spans in
+    let forgets = works_forget c.args.subject c.in-Forget.x (reverse c.pop.new.self.items) c.all.told c.forget.new.told c.all.steps works.ready c.forget.ensures.told c.forget.ensures.state c.forget.ensures.spans in
     record {
       keeps = record { desk = inv.keeps.desk; shape = inv.keeps.shape; space = inv.keeps.space; tasks = omega (arith, inv.keeps.tasks, c.pop.ensures.capacity) };
       works = works_then c.args.subject _ _ _ _ c.all.told c.forget.new.told 0 1 0 c.args.steps.now c.all.steps c.all.steps (omega arith) works forgets;
@@ -56,7 +79,6 @@ returns c =
     let w = text_in s in
     let i = c.args.start in
     let j = c.args.stop in
-    let start = told_of c.args.due (undecided i j) in
     let last = told_in c.all.told in
     let empty : reverse c.all.room.tasks.items ≡ [] = ap reverse (nil_from_length c.all.room.tasks.items (omega (arith, c.in_default.ensures.cases, c.all.room.tasks.ok))) in
     let works = rw empty at c.all.invariant.works in
@@ -66,7 +88,7 @@ returns c =
     let small : size (tree_at e.nodes p.root) ≤ length e.nodes = omega (arith, c.is_expression.ensures.sizes p.root (omega (arith, p.is_prepared.last))) in
     let spent = works.spent (j - i) (omega arith, tt) in
     record {
-      report = λ all. walk_report (expression_tree e) w i j walk.0 start last (starts_due (expression_tree e) i j c.args.due c.requires.whole all) at walk.1;
+      report = λ all. walk_report (expression_tree e) w i j walk.0 (told_of c.args.due (undecided i j)) last (starts_due (expression_tree e) i j c.args.due c.requires.whole all) at walk.1;
       due = λ groups k report is. due_told (expression_tree e) w i j walk.0 k c.args.due last groups c.requires.whole at walk.1 report is;
       tasks = search rules;
       room = search rules;

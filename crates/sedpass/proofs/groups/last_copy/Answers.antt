@@ -1,5 +1,5 @@
-use Rattle.std.proofs.Common.{◌-◌, ◌<◌, length, inl, inr, refl, arith}
-use Rattle.sedpass.proofs.Words.{Star, At, least_less, least_none, least_both, least_up}
+use Rattle.std.proofs.Common.{rules, ◌-◌, ◌<◌, length, inl, inr, refl, arith}
+use Rattle.sedpass.proofs.Words.{both_ways, Star, At, least_less, least_none, least_both, least_up}
 use Rattle.sedpass.specs.Decide.{nodes_in, text_in}
 use Rattle.sedpass.proofs.DecideLemmas.{copy_fixed, copy_ceases, copy_pays, desk_ahead, desk_same, desk_then, ends_still, owed_here, part_low}
 use Rattle.sedpass.proofs.MeetingLemmas.{copy_walk}
@@ -9,42 +9,69 @@ use Rattle.sedpass.proofs.groups.last_copy.Goals as goal
 pub has_empty_copy-taken-requires : goal.has_empty_copy-taken-requires
 has_empty_copy-taken-requires c = rw c.index-part.ensures (part_inside c.args.subject c.args.here (Star c.args.a c.args.first) c.requires.stands c.args.a.index refl)
 
-pub returns-then-taken-clause-counts : goal.returns-then-taken-clause-counts
-returns-then-taken-clause-counts c = λ is_open. least_up c.args.steps.now c.args.steps.now c.has_empty_copy-taken.new.steps _ (least_none c.args.steps.now _ (omega (arith, c.if-here.true))) c.has_empty_copy-taken.ensures.cost.0
+pub returns-then-taken : goal.returns-then-taken
+returns-then-taken c =
+    let look = c.has_empty_copy-taken.ensures in
+    let copy = rw c.index-part.ensures at look.copy in
+    record {
+      copy = inr (c.if-here.true, copy.0 c.if-taken.true, refl);
+      desk = desk_same c.args.subject c.args.tables.now c.args.kept.now c.requires.desk;
+      cost = (look.cost.0, omega (arith, look.cost.1));
+      counts = λ is_open. least_up c.args.steps.now c.args.steps.now c.has_empty_copy-taken.new.steps _ (least_none c.args.steps.now _ (omega (arith, c.if-here.true))) look.cost.0;
+    }
 
-pub returns-else-taken-clause-counts : goal.returns-else-taken-clause-counts
-returns-else-taken-clause-counts c = λ is_open. least_up c.args.steps.now c.args.steps.now c.has_empty_copy-taken.new.steps _ (least_none c.args.steps.now _ (omega (arith, c.if-here.true))) c.has_empty_copy-taken.ensures.cost.0
+pub returns-else-taken : goal.returns-else-taken
+returns-else-taken c =
+    let look = c.has_empty_copy-taken.ensures in
+    let copy = rw c.index-part.ensures at look.copy in
+    record {
+      copy = (c.if-here.true, λ both. both_ways _ c.if-taken.false (copy.1 both));
+      desk = desk_same c.args.subject c.args.tables.now c.args.kept.now c.requires.desk;
+      cost = (look.cost.0, omega (arith, look.cost.1));
+      counts = λ is_open. least_up c.args.steps.now c.args.steps.now c.has_empty_copy-taken.new.steps _ (least_none c.args.steps.now _ (omega (arith, c.if-here.true))) look.cost.0;
+    }
 
 pub facts_at-requires : goal.facts_at-requires
 facts_at-requires c = rw c.index-part.ensures (part_inside c.args.subject c.args.here (Star c.args.a c.args.first) c.requires.stands c.args.a.index refl)
 
 pub overflow_sub-result : goal.overflow_sub-result
 overflow_sub-result c =
-    let up = c.requires.stands.there.up in
-    omega (arith, (copy_fixed c.args.subject c.args.here c.args.a c.args.first _ c.in-Some.length _ c.requires.stands (omega (arith, up, c.if-here.false)) c.index-part.ensures c.facts_at.ensures.facts c.in-Some.is).0)
+    omega (arith, (copy_fixed c.args.subject c.args.here c.args.a c.args.first _ c.in-Some.length _ c.requires.stands (omega (arith, c.requires.stands.there.up, c.if-here.false)) c.index-part.ensures c.facts_at.ensures.facts c.in-Some.is).0)
 
-pub returns-in-Some-clause-copy : goal.returns-in-Some-clause-copy
-returns-in-Some-clause-copy c =
-    let up = c.requires.stands.there.up in
-    let some : c.args.here.start < c.args.here.stop = omega (arith, up, c.if-here.false) in
-    inl (some, (copy_fixed c.args.subject c.args.here c.args.a c.args.first _ c.in-Some.length _ c.requires.stands some c.index-part.ensures c.facts_at.ensures.facts c.in-Some.is).1)
+pub returns-in-Some : goal.returns-in-Some
+returns-in-Some c =
+    let some : c.args.here.start < c.args.here.stop = omega (arith, c.requires.stands.there.up, c.if-here.false) in
+    record {
+      copy = inl (some, (copy_fixed c.args.subject c.args.here c.args.a c.args.first _ c.in-Some.length _ c.requires.stands some c.index-part.ensures c.facts_at.ensures.facts c.in-Some.is).1);
+      desk = desk_same c.args.subject c.args.tables.now c.args.kept.now c.requires.desk;
+      cost = (omega arith, omega arith);
+      counts = search rules;
+    }
 
 pub copies-init : goal.copies-init
 copies-init c =
-    let up = c.requires.stands.there.up in
     record {
       desk = desk_same c.args.subject c.args.tables.now c.args.kept.now c.requires.desk;
       ends = c.requires.ends;
       low = omega arith;
-      within = up;
+      within = c.requires.stands.there.up;
       rest = opened c.args.subject c.args.here (Star c.args.a c.args.first) c.requires.stands;
       walk = λ k h. elim h [ inl w ↦ w.1 | inr w ↦ absurd (c.if-here.false w.0) ];
       cost = (omega arith, omega arith);
       counts = least_none c.args.steps.now (c.args.here.start - c.args.here.start) (omega arith);
     }
 
-pub cut-end-requires-clause-a : goal.cut-end-requires-clause-a
-cut-end-requires-clause-a c = rw c.index-part.ensures (part_low c.args.subject c.copies.kept.region c.args.here (Star c.args.a c.args.first) c.args.a.index c.requires.stands c.copies.invariant.ends refl)
+pub cut-end-requires : goal.cut-end-requires
+cut-end-requires c =
+    let inv = c.copies.invariant in
+    let desk = inv.desk.desk in
+    record {
+      kept = desk.region;
+      ahead = desk.ahead.table;
+      forwards = (desk.ahead.forwards, desk.ahead.single);
+      a = rw c.index-part.ensures (part_low c.args.subject c.copies.kept.region c.args.here (Star c.args.a c.args.first) c.args.a.index c.requires.stands inv.ends refl);
+      from = omega (arith, c.copies-test.true, inv.ends.1);
+    }
 
 pub copies-smaller : goal.copies-smaller
 copies-smaller c =
@@ -77,16 +104,13 @@ copies-preserved c =
       counts = least_both c.args.steps.now c.copies.steps cut.new.steps _ _ _ inv.counts cut.ensures.counts (omega (arith, inv.low, next.after));
     }
 
-pub returns-clause-copy : goal.returns-clause-copy
-returns-clause-copy c =
-    let up = c.requires.stands.there.up in
-    inl (omega (arith, up, c.if-here.false), c.copies.invariant.walk c.copies.copy (inr (omega (arith, c.copies-test.false, c.copies.invariant.within), refl)))
-
-pub returns-clause-cost : goal.returns-clause-cost
-returns-clause-cost c =
-    let cost = c.copies.invariant.cost in
+pub returns : goal.returns
+returns c =
+    let inv = c.copies.invariant in
     let owed_is = owed_here c.args.subject c.args.kept.now.region c.args.here c.requires.ends in
-    (cost.0, omega (arith, cost.1, owed_is))
-
-pub returns-clause-counts : goal.returns-clause-counts
-returns-clause-counts c = λ is_open. least_less c.args.steps.now c.copies.steps (c.copies.end - c.args.here.start) (c.args.here.stop - c.args.here.start) c.copies.invariant.counts (omega (arith, c.copies-test.false))
+    record {
+      copy = inl (omega (arith, c.requires.stands.there.up, c.if-here.false), inv.walk c.copies.copy (inr (omega (arith, c.copies-test.false, inv.within), refl)));
+      desk = inv.desk;
+      cost = (inv.cost.0, omega (arith, inv.cost.1, owed_is));
+      counts = λ is_open. least_less c.args.steps.now c.copies.steps (c.copies.end - c.args.here.start) (c.args.here.stop - c.args.here.start) inv.counts (omega (arith, c.copies-test.false));
+    }

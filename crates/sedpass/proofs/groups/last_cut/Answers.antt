@@ -1,55 +1,78 @@
 use Rattle.std.proofs.Common.{◌+◌, ◌-◌, ◌*◌, ◌<◌, length, refl, inl, arith}
 use Rattle.sedpass.proofs.Words.{slice_get_within, Seq, least_less, least_none}
 use Rattle.sedpass.specs.Decide.{nodes_in}
-use Rattle.sedpass.proofs.DecideLemmas.{part_low, owed_here, run_paid, meet_paid, cut_ceases, cut_runs}
+use Rattle.sedpass.proofs.DecideLemmas.{desk_ahead, desk_same, part_low, owed_here, run_paid, meet_paid, cut_ceases, cut_runs}
+use Rattle.sedpass.proofs.KeptLemmas.{space_same}
 use Rattle.sedpass.proofs.TurnLemmas.{part_inside}
 use Rattle.sedpass.proofs.groups.last_cut.Goals as goal
 
-pub returns-in-Some-clause-counts : goal.returns-in-Some-clause-counts
-returns-in-Some-clause-counts c = λ left right.
-    let same = rw c.in-Some.is at (c.fixed_cut.ensures.open left right) in
-    least_none c.args.steps.now (c.in-Some.cut - c.args.here.start) (omega (arith, same))
+pub fixed_cut-requires : goal.fixed_cut-requires
+fixed_cut-requires c = c.requires.stands
+
+pub returns-in-Some : goal.returns-in-Some
+returns-in-Some c = record {
+  cut = rw c.in-Some.is at c.fixed_cut.ensures.cut;
+  same = record { root = refl; end = refl; space = space_same c.args.kept.now };
+  desk = desk_same c.args.subject c.args.tables.now c.args.kept.now c.requires.desk;
+  cost = (omega arith, omega arith);
+  counts = λ left right.
+      let same = rw c.in-Some.is at (c.fixed_cut.ensures.open left right) in
+      least_none c.args.steps.now (c.in-Some.cut - c.args.here.start) (omega (arith, same));
+}
 
 pub facts_at-requires : goal.facts_at-requires
 facts_at-requires c = rw c.index-left.ensures (part_inside c.args.subject c.args.here (Seq c.args.a c.args.b) c.requires.stands c.args.a.index (inl refl))
 
-pub seek-requires-clause-x : goal.seek-requires-clause-x
-seek-requires-clause-x c =
+pub seek-requires : goal.seek-requires
+seek-requires c =
     let run = rw c.in-Some-run.is at c.facts_at.ensures.run in
-    slice_get_within (nodes_in c.args.subject) c.in-Some-run.leaf _ run.1.1
+    record { kept = c.requires.desk.region; x = slice_get_within (nodes_in c.args.subject) c.in-Some-run.leaf _ run.1.1; from = omega (arith, c.requires.stands.there.up, c.requires.ends.1) }
 
-pub returns-in-Some-run-clause-cut : goal.returns-in-Some-run-clause-cut
-returns-in-Some-run-clause-cut c =
-    let run = rw c.in-Some-run.is at c.facts_at.ensures.run in
-    let left = rw c.index-left.ensures at run.0 in
-    cut_runs c.args.subject c.args.tables.now c.args.kept.now c.args.here c.args.a c.args.b c.in-Some-run.leaf c.seek.result c.requires left run.1 c.seek.ensures.after c.seek.ensures.passed c.seek.ensures.found
-
-pub returns-in-Some-run-clause-cost : goal.returns-in-Some-run-clause-cost
-returns-in-Some-run-clause-cost c =
+pub returns-in-Some-run : goal.returns-in-Some-run
+returns-in-Some-run c =
     let here = c.args.here in
     let there = c.requires.stands.there in
-    let some : here.start < here.stop = omega (arith, there.up, c.fixed_cut.ensures.some c.in_default.is) in (
-      c.seek.ensures.cost.0,
-      run_paid (length (nodes_in c.args.subject)) c.args.steps.now c.seek.new.steps _ _ here.start c.seek.result (here.stop - here.start) (omega (arith, there.inside)) (omega (arith, some))
-          (omega (arith, some, c.seek.ensures.within, c.requires.ends.1)) (owed_here c.args.subject c.args.kept.now.region here c.requires.ends) c.seek.ensures.cost.1,
-    )
+    let seek = c.seek.ensures in
+    let run = rw c.in-Some-run.is at c.facts_at.ensures.run in
+    let left = rw c.index-left.ensures at run.0 in
+    let some : here.start < here.stop = omega (arith, there.up, c.fixed_cut.ensures.some c.in_default.is) in
+    record {
+      cut = cut_runs c.args.subject c.args.tables.now c.args.kept.now here c.args.a c.args.b c.in-Some-run.leaf c.seek.result c.requires left run.1 seek.after seek.passed seek.found;
+      same = seek.keeps.same;
+      desk = desk_ahead c.args.subject c.args.tables.now c.seek.new.table c.args.tables.now.ahead c.args.kept.now c.seek.new.self c.requires.desk seek.keeps c.requires.desk.ahead.table (refl, refl, refl, refl, refl);
+      cost = (
+        seek.cost.0,
+        run_paid (length (nodes_in c.args.subject)) c.args.steps.now c.seek.new.steps _ _ here.start c.seek.result (here.stop - here.start) (omega (arith, there.inside)) (omega (arith, some))
+            (omega (arith, some, seek.within, c.requires.ends.1)) (owed_here c.args.subject c.args.kept.now.region here c.requires.ends) seek.cost.1,
+      );
+      counts = λ left right. seek.counts;
+    }
 
-pub cut-requires-clause-a : goal.cut-requires-clause-a
-cut-requires-clause-a c = rw c.index-left.ensures (part_low c.args.subject c.args.kept.now.region c.args.here (Seq c.args.a c.args.b) c.args.a.index c.requires.stands c.requires.ends (inl refl))
+pub cut-requires : goal.cut-requires
+cut-requires c =
+    let desk = c.requires.desk in
+    record {
+      kept = desk.region;
+      ahead = desk.ahead.table;
+      forwards = (desk.ahead.forwards, desk.ahead.single);
+      a = rw c.index-left.ensures (part_low c.args.subject c.args.kept.now.region c.args.here (Seq c.args.a c.args.b) c.args.a.index c.requires.stands c.requires.ends (inl refl));
+      from = omega (arith, c.requires.stands.there.up, c.requires.ends.1);
+    }
 
-pub returns-clause-cut : goal.returns-clause-cut
-returns-clause-cut c =
-    let ceases = rw c.index-left.ensures at c.cut.ensures.ceases in
-    cut_ceases c.args.subject c.args.tables.now c.args.kept.now c.args.here c.args.a c.args.b c.cut.result c.requires ceases
-
-pub returns-clause-cost : goal.returns-clause-cost
-returns-clause-cost c =
+pub returns : goal.returns
+returns c =
     let here = c.args.here in
-    let some : here.start < here.stop = omega (arith, c.requires.stands.there.up, c.fixed_cut.ensures.some c.in_default.is) in (
-      c.cut.ensures.cost.0,
-      meet_paid (length (nodes_in c.args.subject)) c.args.steps.now c.cut.new.steps _ _ here.start c.cut.result (here.stop - here.start) (omega (arith, some))
-          (omega (arith, some, c.cut.ensures.within, c.requires.ends.1)) (owed_here c.args.subject c.args.kept.now.region here c.requires.ends) c.cut.ensures.cost.1,
-    )
-
-pub returns-clause-counts : goal.returns-clause-counts
-returns-clause-counts c = λ left right. least_less c.args.steps.now c.cut.new.steps (2 * (c.cut.result - c.args.here.start) + 1) (c.cut.result - c.args.here.start) c.cut.ensures.counts (omega arith)
+    let cut = c.cut.ensures in
+    let ceases = rw c.index-left.ensures at cut.ceases in
+    let some : here.start < here.stop = omega (arith, c.requires.stands.there.up, c.fixed_cut.ensures.some c.in_default.is) in
+    record {
+      cut = cut_ceases c.args.subject c.args.tables.now c.args.kept.now here c.args.a c.args.b c.cut.result c.requires ceases;
+      same = cut.keeps.same;
+      desk = desk_ahead c.args.subject c.args.tables.now c.cut.new.table c.cut.new.ahead c.args.kept.now c.cut.new.self c.requires.desk cut.keeps cut.ahead cut.shape;
+      cost = (
+        cut.cost.0,
+        meet_paid (length (nodes_in c.args.subject)) c.args.steps.now c.cut.new.steps _ _ here.start c.cut.result (here.stop - here.start) (omega (arith, some))
+            (omega (arith, some, cut.within, c.requires.ends.1)) (owed_here c.args.subject c.args.kept.now.region here c.requires.ends) cut.cost.1,
+      );
+      counts = λ left right. least_less c.args.steps.now c.cut.new.steps (2 * (c.cut.result - here.start) + 1) (c.cut.result - here.start) cut.counts (omega arith);
+    }

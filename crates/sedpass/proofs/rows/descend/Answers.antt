@@ -56,13 +56,11 @@ loop-x-preserved c =
           let old : Marked c.loop-x.work.entered (TreeFrom nodes r (x + 1)) (λ n. Enters nodes w r s n place) × RowFrom nodes w r s c.args.way.keeps place (x + 1) (bits m c.loop-x.work.leaves) (bits m c.loop-x.work.ends) =
           rw (← above) (c.loop-x.invariant.told w s place nulls ends begins) in
           let told : Marked c.loop-x.work.ended (InTree nodes r) (λ n. Ends nodes w r s n place) = rw c.loop-x.invariant.kept ends in
-          let mark = old.0 x (tree_told nodes arena r x there) in
-          let end = told x there in
           let none = nulls x (inside_seen c.args.way.mirrored e x (omega arith)) in (
             down nodes w r x place s arena (inside_seen c.args.way.mirrored e r c.requires.root) there null ended nulls told c.loop-x.work.entered (omega (arith, seen-length c.args.way.mirrored e)) old.0 node c.enter.new.work.entered is value,
             row_step nodes w r place s c.args.way.keeps x node c.get-here.result c.get-end.result c.null_at-null.result
                 (bits m c.loop-x.work.leaves) (bits m c.loop-x.work.ends) (bits m c.set-in-loop-x.new.self) (bits m c.set-in-loop-x-2.new.self) is
-                (rw here mark) (rw c.get-end.ensures.mark end) (rw c.null_at-null.ensures.null none)
+                (rw here (old.0 x (tree_told nodes arena r x there))) (rw c.get-end.ensures.mark (told x there)) (rw c.null_at-null.ensures.null none)
                 (bits_set m c.enter.new.work.leaves c.set-in-loop-x.new.self x c.leaf_bit-leaf.result (omega arith) (omega arith) c.set-in-loop-x.ensures.marks ∙ c.leaf_bit-leaf.ensures)
                 (bits_set m c.enter.new.work.ends c.set-in-loop-x-2.new.self x c.end_bit-kept.result (omega arith) (omega arith) c.set-in-loop-x-2.ensures.marks ∙ c.end_bit-kept.ensures)
                 (λ n ne. (

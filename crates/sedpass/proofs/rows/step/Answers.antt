@@ -10,10 +10,9 @@ returns-clause-leads c before w s p bytes is_end is_start row =
     let e = c.args.prepared.now.arena.expr in
     let way = c.args.way in
     let kind = c.edge_kind-kind.result in
-    let begin = c.edge_kind-kind.ensures.begin in
     let end = c.edge_kind-kind.ensures.end in
     let there : IsPlace w (p + 1) (at_begin way.mirrored kind) (at_end way.mirrored kind) =
-    ((λ h. absurd (true≢false (sym h ∙ begin)), λ none. absurd (omega arith)), (λ h. is_end.0 (sym end ∙ h), λ at. end ∙ is_end.1 at)) in
+    ((λ h. absurd (true≢false (sym h ∙ c.edge_kind-kind.ensures.begin)), λ none. absurd (omega arith)), (λ h. is_end.0 (sym end ∙ h), λ at. end ∙ is_end.1 at)) in
     let nulls = null_tells way.mirrored e kind w (p + 1) there in
     let told : TellTook (nodes_of way e) w c.args.root s (p + 1) (Some c.args.byte) c.args.work.now.leaves =
     took_bits (nodes_of way e) w c.args.root p s way.keeps (length e.nodes) c.args.work.now.leaves before (Some c.args.byte) (seen-length way.mirrored e) bytes row in

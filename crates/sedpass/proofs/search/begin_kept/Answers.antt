@@ -1,4 +1,4 @@
-use Rattle.std.proofs.Common.{◌-◌, ◌*◌, ◌≤◌, length, arith}
+use Rattle.std.proofs.Common.{rules, ◌-◌, ◌*◌, ◌≤◌, length, arith}
 use Rattle.sedpass.specs.Kept.{owed}
 use Rattle.sedpass.proofs.KeptLemmas.{space_same}
 use Rattle.sedpass.proofs.SearchLemmas.{unbegun}
@@ -8,15 +8,8 @@ pub returns-then-not-seeking-clause-owed : goal.returns-then-not-seeking-clause-
 returns-then-not-seeking-clause-owed c place low =
     let m = length c.args.subject.prepared.now.arena.expr.nodes in
     let n = length c.args.subject.text.now in
-    let r = c.begin.new.self.region in
-    let owed_is : owed m r place ≤ 100 * m * (n - place) = rw c.len-length.ensures.is at (c.begin.ensures.owed place (rw c.len-length.ensures.is low)) in
+    let owed_is : owed m c.begin.new.self.region place ≤ 100 * m * (n - place) = rw c.len-length.ensures.is at (c.begin.ensures.owed place (rw c.len-length.ensures.is low)) in
     omega (arith, owed_is, unbegun m n c.args.seeking.now place c.if-not-seeking.true)
 
-pub returns-else-not-seeking-clause-kept : goal.returns-else-not-seeking-clause-kept
-returns-else-not-seeking-clause-kept c = c.requires.kept c.if-not-seeking.false
-
-pub returns-else-not-seeking-clause-space : goal.returns-else-not-seeking-clause-space
-returns-else-not-seeking-clause-space c = space_same c.args.seeking.now.kept
-
-pub returns-else-not-seeking-clause-owed : goal.returns-else-not-seeking-clause-owed
-returns-else-not-seeking-clause-owed c place low = omega arith
+pub returns-else-not-seeking : goal.returns-else-not-seeking
+returns-else-not-seeking c = record { begun = search rules; kept = c.requires.kept (search rules); space = space_same c.args.seeking.now.kept; owed = λ place low. omega arith }

@@ -6,22 +6,35 @@ use Rattle.sedpass.proofs.ForwardLemmas.{ahead_still}
 use Rattle.sedpass.proofs.search.try_all.Goals.{else-start-length-via-then-start-length+else-tried-length, else-start-length-via-else-start-length}
 use Rattle.sedpass.proofs.search.try_all.Goals as goal
 
-pub run-passed-requires-clause-from : goal.run-passed-requires-clause-from
-run-passed-requires-clause-from c = c.in-Some.ensures.next.1
+pub next_start-requires : goal.next_start-requires
+next_start-requires c = record { from = omega (arith, c.loop-start-test.true, c.len-length.ensures.is) }
 
-pub returns-in_default-clause-made : goal.returns-in_default-clause-made
-returns-in_default-clause-made c =
+pub run-passed-requires : goal.run-passed-requires
+run-passed-requires c = let ahead = c.loop-start.invariant.ahead in record { table = ahead.table; forwards = ahead.forwards; keeps = ahead.brief; from = c.in-Some.ensures.next.1 }
+
+pub overflow_add-tried : goal.overflow_add-tried
+overflow_add-tried c = omega (arith, c.loop-start.invariant.room, c.saturating_sub.ensures, c.run-passed.ensures.within, c.requires.tried, c.len-length.ensures.short, c.len-length.ensures.is)
+
+pub overflow_add-tried-in-loop-start-2 : goal.overflow_add-tried-in-loop-start-2
+overflow_add-tried-in-loop-start-2 c = omega (arith, c.loop-start.invariant.room, c.run-passed.ensures.within, c.requires.tried, c.len-length.ensures.short, c.len-length.ensures.is)
+
+pub returns-in_default : goal.returns-in_default
+returns-in_default c =
     let next = c.in_default.ensures in
     let i = c.loop-start.invariant in
     record {
-      answer = none_further (expression_tree c.args.subject.prepared.now.arena.expr) c.args.subject.text.now c.args.begins.now c.args.from c.loop-start.start c.requires.begins i.none next.next;
-      few = i.room;
-      cost = (omega (arith, i.cost.0, next.cost), omega (arith, i.cost.1, next.cost));
-      counts = tt;
+      ahead = i.ahead;
+      ahead_shape = i.ahead_shape;
+      made = record {
+        answer = none_further (expression_tree c.args.subject.prepared.now.arena.expr) c.args.subject.text.now c.args.begins.now c.args.from c.loop-start.start c.requires.begins i.none next.next;
+        few = i.room;
+        cost = (omega (arith, i.cost.0, next.cost), omega (arith, i.cost.1, next.cost));
+        counts = tt;
+      };
     }
 
-pub returns-in-Some-end-clause-made : goal.returns-in-Some-end-clause-made
-returns-in-Some-end-clause-made c =
+pub returns-in-Some-end : goal.returns-in-Some-end
+returns-in-Some-end c =
     let e = c.args.subject.prepared.now.arena.expr in
     let w = c.args.subject.text.now in
     let first = c.in-Some.first in
@@ -32,7 +45,6 @@ returns-in-Some-end-clause-made c =
     let is = trial_is (expression_tree e) w c.args.begins.now c.loop-start.start first c.run-passed.result.place c.run-passed.result.end c.requires.begins c.in-Some.ensures.next run.after run.within run.reached
     (run.longest i.ahead.single) in
     let end = c.in-Some-end.end in
-    let last = c.args.subject.prepared.now.is_prepared.last in
     let long : IsLongestFrom (expression_tree e) w first (Some end) = subst (IsLongestFrom (expression_tree e) w first) c.in-Some-end.is is.longest in
     let reached : end ≤ place = subst (λ (o : Option ℕ). IfSome o (λ j. j ≤ place)) c.in-Some-end.is is.reached in
     let on = Matches-forward (expression_tree e) w first end long.0 in
@@ -40,59 +52,60 @@ returns-in-Some-end-clause-made c =
     let few = i.few (let h = c.loop-start-test.true in let g = c.len-length.ensures.is in omega (arith, h, g)) in
     let paid = trial_cost (length e.nodes) c.loop-start.start first place c.loop-start.steps c.next_start.new.steps c.run-passed.new.steps is.passed next.cost.1 run.cost.1 in
     record {
-      answer = (found_at e w c.args.from first end (omega (arith, i.after, is.after)) (none_on e w c.args.from c.loop-start.start first i.none is.none) long, within);
-      few = rw c.saturating_sub.ensures (hit_room c.loop-start.tried place end c.args.from first (length w) _ (omega (arith, i.after, is.after)) is.passed is.within on within few);
-      cost = (
-        omega (arith, i.cost.0, next.cost, run.cost),
-        rw c.saturating_sub.ensures (hit_paid (length e.nodes) c.args.from c.loop-start.start first place end c.loop-start.tried c.args.tried.now c.args.steps.now c.loop-start.steps c.run-passed.new.steps (omega (arith, last))
-            is.after on is.passed i.cost.1 paid),
-      );
-      counts = looks_tried c.args.from c.loop-start.start first c.run-passed.result.place c.args.steps.now c.loop-start.steps c.next_start.new.steps c.run-passed.new.steps i.counts c.in-Some.ensures.counts run.counts (end + 1 - c.args.from) (omega (arith, reached, is.after, is.passed));
+      ahead = ahead_still c.args.subject.prepared.now c.loop-start.ahead c.run-passed.new.self i.ahead run.table run.shape;
+      ahead_shape = same_shape c.args.ahead.now c.loop-start.ahead c.run-passed.new.self i.ahead_shape run.shape;
+      made = record {
+        answer = (found_at e w c.args.from first end (omega (arith, i.after, is.after)) (none_on e w c.args.from c.loop-start.start first i.none is.none) long, within);
+        few = rw c.saturating_sub.ensures (hit_room c.loop-start.tried place end c.args.from first (length w) _ (omega (arith, i.after, is.after)) is.passed is.within on within few);
+        cost = (
+          omega (arith, i.cost.0, next.cost, run.cost),
+          rw c.saturating_sub.ensures (hit_paid (length e.nodes) c.args.from c.loop-start.start first place end c.loop-start.tried c.args.tried.now c.args.steps.now c.loop-start.steps c.run-passed.new.steps (omega (arith, c.args.subject.prepared.now.is_prepared.last))
+              is.after on is.passed i.cost.1 paid),
+        );
+        counts = looks_tried c.args.from c.loop-start.start first c.run-passed.result.place c.args.steps.now c.loop-start.steps c.next_start.new.steps c.run-passed.new.steps i.counts c.in-Some.ensures.counts run.counts (end + 1 - c.args.from) (omega (arith, reached, is.after, is.passed));
+      };
     }
 
-pub returns-then-tried-length-clause-made : goal.returns-then-tried-length-clause-made
-returns-then-tried-length-clause-made c =
+pub returns-then-tried-length : goal.returns-then-tried-length
+returns-then-tried-length c =
     let e = c.args.subject.prepared.now.arena.expr in
     let w = c.args.subject.text.now in
     let first = c.in-Some.first in
     let next = c.in-Some.ensures in
     let run = c.run-passed.ensures in
-    let place = c.run-passed.result.place in
     let i = c.loop-start.invariant in
     let is = trial_is (expression_tree e) w c.args.begins.now c.loop-start.start first c.run-passed.result.place c.run-passed.result.end c.requires.begins c.in-Some.ensures.next run.after run.within run.reached
     (run.longest i.ahead.single) in
-    let within = c.if-start-length.true in
-    let len = c.len-length.ensures.is in
     let none : c.run-passed.result.end ≡ None = cc in
     let few = i.few (let h = c.loop-start-test.true in let g = c.len-length.ensures.is in omega (arith, h, g)) in
-    let paid = trial_cost (length e.nodes) c.loop-start.start first place c.loop-start.steps c.next_start.new.steps c.run-passed.new.steps is.passed next.cost.1 run.cost.1 in
+    let paid = trial_cost (length e.nodes) c.loop-start.start first c.run-passed.result.place c.loop-start.steps c.next_start.new.steps c.run-passed.new.steps is.passed next.cost.1 run.cost.1 in
     record {
-      answer = (
-        omega (arith, i.after, is.after),
-        omega (arith, within, len),
-        none_more e w c.args.from first (none_on e w c.args.from c.loop-start.start first i.none is.none) (subst (IsLongestFrom (expression_tree e) w first) none is.longest),
-      );
-      few = omega (arith, few, is.passed, is.within, i.after, is.after);
-      cost = (omega (arith, i.cost.0, next.cost, run.cost), omega (arith, i.cost.1, paid));
-      counts = looks_tried c.args.from c.loop-start.start first c.run-passed.result.place c.args.steps.now c.loop-start.steps c.next_start.new.steps c.run-passed.new.steps i.counts c.in-Some.ensures.counts run.counts (first + 1 - c.args.from) (omega (arith, is.after));
+      ahead = ahead_still c.args.subject.prepared.now c.loop-start.ahead c.run-passed.new.self i.ahead run.table run.shape;
+      ahead_shape = same_shape c.args.ahead.now c.loop-start.ahead c.run-passed.new.self i.ahead_shape run.shape;
+      made = record {
+        answer = (
+          omega (arith, i.after, is.after),
+          omega (arith, c.if-start-length.true, c.len-length.ensures.is),
+          none_more e w c.args.from first (none_on e w c.args.from c.loop-start.start first i.none is.none) (subst (IsLongestFrom (expression_tree e) w first) none is.longest),
+        );
+        few = omega (arith, few, is.passed, is.within, i.after, is.after);
+        cost = (omega (arith, i.cost.0, next.cost, run.cost), omega (arith, i.cost.1, paid));
+        counts = looks_tried c.args.from c.loop-start.start first c.run-passed.result.place c.args.steps.now c.loop-start.steps c.next_start.new.steps c.run-passed.new.steps i.counts c.in-Some.ensures.counts run.counts (first + 1 - c.args.from) (omega (arith, is.after));
+      };
     }
 
-pub returns-in-Some-end-clause-ahead : goal.returns-in-Some-end-clause-ahead
-returns-in-Some-end-clause-ahead c = ahead_still c.args.subject.prepared.now c.loop-start.ahead c.run-passed.new.self c.loop-start.invariant.ahead c.run-passed.ensures.table c.run-passed.ensures.shape
-
-pub returns-then-tried-length-clause-ahead : goal.returns-then-tried-length-clause-ahead
-returns-then-tried-length-clause-ahead c = ahead_still c.args.subject.prepared.now c.loop-start.ahead c.run-passed.new.self c.loop-start.invariant.ahead c.run-passed.ensures.table c.run-passed.ensures.shape
-
-pub returns-clause-made : goal.returns-clause-made
-returns-clause-made c =
+pub returns : goal.returns
+returns c =
     let i = c.loop-start.invariant in
-    let end = c.loop-start-test.false in
-    let len = c.len-length.ensures.is in
     record {
-      answer = λ h k low high. i.none h k low (omega (arith, high, end, len));
-      few = i.room;
-      cost = (i.cost.0, omega (arith, i.cost.1, i.within));
-      counts = tt;
+      ahead = i.ahead;
+      ahead_shape = i.ahead_shape;
+      made = record {
+        answer = λ h k low high. i.none h k low (omega (arith, high, c.loop-start-test.false, c.len-length.ensures.is));
+        few = i.room;
+        cost = (i.cost.0, omega (arith, i.cost.1, i.within));
+        counts = tt;
+      };
     }
 
 pub loop-start-init : goal.loop-start-init

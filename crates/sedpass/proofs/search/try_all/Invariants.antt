@@ -13,7 +13,7 @@ invariant-loop-start l = record {
   few : l.start ≤ length l.subject.text.now → l.tried ≤ max l.initial.tried (length l.subject.text.now / 8);
   room : l.tried ≤ max l.initial.tried (length l.subject.text.now / 8) + (length l.subject.text.now + 1 - l.from);
   counts : TakesAtLeast l.initial.steps l.steps (l.start - l.from);
-  cost : CostsWithin l.initial.steps l.steps (40 * length l.subject.prepared.now.arena.expr.nodes * l.tried + l.start) (40 * length l.subject.prepared.now.arena.expr.nodes * l.initial.tried + l.from);
+  cost : CostsWithin l.initial.steps l.steps (40 * length l.subject.prepared.now.arena.expr.nodes * l.tried + 3 * l.start) (40 * length l.subject.prepared.now.arena.expr.nodes * l.initial.tried + 3 * l.from);
 }
 
 abbrev pub decreases-loop-start : goal.decreases-loop-start

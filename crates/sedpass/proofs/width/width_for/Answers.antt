@@ -4,9 +4,8 @@ use Rattle.sedpass.proofs.width.width_for.Goals as goal
 
 pub loop-width-preserved : goal.loop-width-preserved
 loop-width-preserved c =
-    let least = c.loop-width.invariant.least in
     record {
-      least = omega (arith, least);
+      least = omega (arith, c.loop-width.invariant.least);
       most = omega arith;
       no_wider = λ some few. let narrow = (c.is_narrow.ensures.short (omega arith)).0 c.if-is_narrow.true in omega (arith, narrow);
       no_wider_long = λ long. let narrow = (c.is_narrow.ensures.long (omega arith)).0 c.if-is_narrow.true in omega (arith, narrow);

@@ -1,10 +1,10 @@
-use Rattle.std.proofs.Common.{◌≡◌, ◌-◌, ◌*◌, ◌<◌, ◌≤◌, ◌↔◌, ⊎_elim, refl, sym, subst, IsTrue, arith, length}
+use Rattle.std.proofs.Common.{◌≡◌, ◌-◌, ◌*◌, ◌<◌, ◌≤◌, ◌↔◌, ◌∙◌, ⊎_elim, refl, sym, ap, subst, true≢false, IsTrue, arith, length}
 use Rattle.sedpass.proofs.Words.{cases_lt, TakesAtLeast, one_start, least_none, least_both, least_since}
 use Rattle.sedpass.specs.Kept.{KeepsRegion, Meet, ends_told, owed}
 use Rattle.sedpass.specs.Regions.{Meets}
 use Rattle.sedpass.proofs.KeptLemmas.{keeps_same, keeps_then, same_shape, told_as, follows_first, meet_end}
 use Rattle.sedpass.proofs.OwedLemmas.{owed_falls, cut_on, cut_at}
-use Rattle.sedpass.proofs.TableLemmas.{names_offset, names_state}
+use Rattle.sedpass.proofs.TableLemmas.{names_some, names_offset, names_state}
 use Rattle.sedpass.proofs.kept.Kept.cut.Goals.{After-meet-reached}
 use Rattle.sedpass.proofs.kept.Kept.cut.Goals as goal
 
@@ -28,9 +28,8 @@ meets c q after under =
 counts : (c : After-meet-reached) → TakesAtLeast c.first-code.new.steps c.meet-reached.new.steps (2 * (c.meet-reached.result.0 - c.args.from))
 counts c =
     let before = c.loop-place.invariant in
-    let after = c.meet-reached.ensures.after in
     least_both _ c.loop-place.steps _ _ (2 * (c.meet-reached.result.0 - c.loop-place.place)) _ before.counts
-    (least_since _ c.ready-to.new.steps _ _ c.ready-to.ensures.cost.0 c.meet-reached.ensures.counts) (omega (arith, before.above, after))
+    (least_since _ c.ready-to.new.steps _ _ c.ready-to.ensures.cost.0 c.meet-reached.ensures.counts) (omega (arith, before.above, c.meet-reached.ensures.after))
 
 pub loop-place-init : goal.loop-place-init
 loop-place-init c =
@@ -51,6 +50,29 @@ loop-place-init c =
       cost = (omega arith, omega arith);
       counts = least_none _ _ (omega arith);
     }
+
+pub first-code-requires : goal.first-code-requires
+first-code-requires c = record { table = c.requires.ahead; root = (let a = c.requires.a in let root = c.requires.kept.region.root.0 in omega (arith, a, root), λ all. absurd (true≢false (sym all ∙ c.requires.forwards.1))) }
+
+pub ready-to-requires : goal.ready-to-requires
+ready-to-requires c = record { kept = c.loop-place.invariant.keeps.kept; place = c.loop-place-test.true }
+
+pub meet-reached-requires : goal.meet-reached-requires
+meet-reached-requires c =
+    let before = c.loop-place.invariant in
+    let ready = c.ready-to.ensures in
+    let first = c.first-code.ensures.codes.adds.shape.0 in
+    record {
+      kept = ready.keeps.kept;
+      ahead = before.ahead;
+      forwards = (ap (λ v. v.mirrored) (before.ahead_shape.0 ∙ first) ∙ c.requires.forwards.0, ap (λ v. v.all_starts) (before.ahead_shape.0 ∙ first) ∙ c.requires.forwards.1);
+      offset = before.offset;
+      from = ready.from;
+      to = (let is = ready.to.0 in let on = ready.to.1 in omega (arith, is, on));
+    }
+
+pub offset_of-offset-requires : goal.offset_of-offset-requires
+offset_of-offset-requires c = names_some c.args.subject.prepared.now c.first-code.new.self _ c.first-code.result c.first-code.ensures.codes.names
 
 pub loop-place-preserved : goal.loop-place-preserved
 loop-place-preserved c =
@@ -80,53 +102,56 @@ loop-place-preserved c =
       counts = counts here;
     }
 
-pub returns-then-place-to-clause-ceases : goal.returns-then-place-to-clause-ceases
-returns-then-place-to-clause-ceases c =
+pub returns-then-place-to : goal.returns-then-place-to
+returns-then-place-to c =
+    let m = length c.args.subject.prepared.now.arena.expr.nodes in
     let w = c.args.subject.text.now in
     let before = c.loop-place.invariant in
     let ready = c.ready-to.ensures in
     let meet = c.meet-reached.ensures in
+    let first = c.first-code.ensures in
     let reached = c.meet-reached.result.0 in
-    let here = (goal.at.returns-then-place-to-clause-ceases c).After-meet-reached in
-    let under : reached < c.ready-to.new.self.region.to = (let h = c.if-place-to.true in let g = ready.to.0 in omega (arith, h, g)) in (
-      (let h = before.above in let g = meet.after in omega (arith, h, g)),
-      meets here,
-      told_as (λ r t. Meets c.args.subject.prepared.now.arena.expr.nodes w r t c.args.a (one_start c.args.from) reached → ⊥) _ w c.args.table.now c.ready-to.new.table c.args.self.now c.ready-to.new.self (keeps here)
-          ((meet.meets c.args.a c.args.from (low here) before.above before.follows).2 under),
-    )
+    let here = (goal.at.returns-then-place-to c).After-meet-reached in
+    let under : reached < c.ready-to.new.self.region.to = (let h = c.if-place-to.true in let g = ready.to.0 in omega (arith, h, g)) in
+    let still = keeps here in
+    record {
+      keeps = keeps_then _ _ c.args.table.now c.ready-to.new.table c.ready-to.new.table c.args.self.now c.ready-to.new.self c.meet-reached.new.self still meet.keeps;
+      ahead = meet.ahead;
+      shape = same_shape c.args.ahead.now c.first-code.new.self c.meet-reached.new.ahead first.codes.adds.shape (same_shape c.first-code.new.self c.loop-place.ahead c.meet-reached.new.ahead before.ahead_shape meet.shape);
+      within = (let h = ready.keeps.kept.region.within in let g = still.same.end in omega (arith, under, h, g));
+      ceases = (
+        (let h = before.above in let g = meet.after in omega (arith, h, g)),
+        meets here,
+        told_as (λ r t. Meets c.args.subject.prepared.now.arena.expr.nodes w r t c.args.a (one_start c.args.from) reached → ⊥) _ w c.args.table.now c.ready-to.new.table c.args.self.now c.ready-to.new.self still
+            ((meet.meets c.args.a c.args.from (low here) before.above before.follows).2 under),
+      );
+      cost = (
+        (let h = before.cost.0 in let g = ready.cost.0 in let f = meet.cost.0 in let e = first.cost.0 in omega (arith, h, g, f, e)),
+        cut_at m (owed m c.args.self.now.region c.args.from) (owed m c.loop-place.self.region c.loop-place.place) (owed m c.ready-to.new.self.region c.loop-place.place) (owed m c.meet-reached.new.self.region reached)
+            c.loop-place.steps c.args.steps.now c.first-code.new.steps c.ready-to.new.steps c.meet-reached.new.steps c.args.from c.loop-place.place reached first.cost.1 before.cost.1 ready.cost.1 meet.cost.1
+            (subst (λ r. owed m r reached ≤ owed m c.ready-to.new.self.region c.loop-place.place) (sym meet.region) (owed_falls m c.ready-to.new.self.region c.loop-place.place reached meet.after)),
+      );
+      counts = least_both _ c.first-code.new.steps _ 1 _ _ first.counts (counts here) (omega arith);
+    }
 
-pub returns-then-place-to-clause-keeps : goal.returns-then-place-to-clause-keeps
-returns-then-place-to-clause-keeps c =
-    keeps_then _ _ c.args.table.now c.ready-to.new.table c.ready-to.new.table c.args.self.now c.ready-to.new.self c.meet-reached.new.self (keeps (goal.at.returns-then-place-to-clause-keeps c).After-meet-reached) c.meet-reached.ensures.keeps
-
-pub returns-then-place-to-clause-cost : goal.returns-then-place-to-clause-cost
-returns-then-place-to-clause-cost c =
-    let m = length c.args.subject.prepared.now.arena.expr.nodes in
-    let before = c.loop-place.invariant in
-    let ready = c.ready-to.ensures in
-    let meet = c.meet-reached.ensures in
-    let first = c.first-code.ensures.cost in
-    let reached = c.meet-reached.result.0 in (
-      (let h = before.cost.0 in let g = ready.cost.0 in let f = meet.cost.0 in let e = first.0 in omega (arith, h, g, f, e)),
-      cut_at m (owed m c.args.self.now.region c.args.from) (owed m c.loop-place.self.region c.loop-place.place) (owed m c.ready-to.new.self.region c.loop-place.place) (owed m c.meet-reached.new.self.region reached)
-          c.loop-place.steps c.args.steps.now c.first-code.new.steps c.ready-to.new.steps c.meet-reached.new.steps c.args.from c.loop-place.place reached first.1 before.cost.1 ready.cost.1 meet.cost.1
-          (subst (λ r. owed m r reached ≤ owed m c.ready-to.new.self.region c.loop-place.place) (sym meet.region) (owed_falls m c.ready-to.new.self.region c.loop-place.place reached meet.after)),
-    )
-
-pub returns-then-place-to-clause-counts : goal.returns-then-place-to-clause-counts
-returns-then-place-to-clause-counts c = least_both _ c.first-code.new.steps _ 1 _ _ c.first-code.ensures.counts (counts (goal.at.returns-then-place-to-clause-counts c).After-meet-reached) (omega arith)
-
-pub returns-clause-ceases : goal.returns-clause-ceases
-returns-clause-ceases c =
+pub returns : goal.returns
+returns c =
     let p = c.args.subject.prepared.now in
     let w = c.args.subject.text.now in
     let last = c.loop-place.invariant in
+    let first = c.first-code.ensures in
     let at : c.args.self.now.region.end ≡ c.loop-place.place = (let h = last.keeps.same.end in let g = last.below in let f = c.loop-place-test.false in omega (arith, h, g, f)) in
-    let end = meet_end p w c.args.table.now c.args.self.now c.args.a c.args.from c.requires.kept in (
-      last.above,
-      last.meets,
-      subst (λ y. Meets p.arena.expr.nodes w c.args.self.now.region.root (ends_told c.args.table.now.way.all_starts (length w) c.args.self.now.region.end) c.args.a (one_start c.args.from) y → ⊥) at end,
-    )
-
-pub returns-clause-counts : goal.returns-clause-counts
-returns-clause-counts c = least_both _ c.first-code.new.steps _ 1 _ _ c.first-code.ensures.counts c.loop-place.invariant.counts (omega arith)
+    let end = meet_end p w c.args.table.now c.args.self.now c.args.a c.args.from c.requires.kept in
+    record {
+      keeps = last.keeps;
+      ahead = last.ahead;
+      shape = same_shape c.args.ahead.now c.first-code.new.self c.loop-place.ahead first.codes.adds.shape last.ahead_shape;
+      within = omega (arith, at);
+      ceases = (
+        last.above,
+        last.meets,
+        subst (λ y. Meets p.arena.expr.nodes w c.args.self.now.region.root (ends_told c.args.table.now.way.all_starts (length w) c.args.self.now.region.end) c.args.a (one_start c.args.from) y → ⊥) at end,
+      );
+      cost = ((let h = last.cost.0 in let g = first.cost.0 in omega (arith, h, g)), (let h = last.cost.1 in let g = first.cost.1 in omega (arith, h, g)));
+      counts = least_both _ c.first-code.new.steps _ 1 _ _ first.counts last.counts (omega arith);
+    }

@@ -1,9 +1,9 @@
-use Rattle.std.proofs.Common.{◌≡◌, ◌<◌, ◌+◌, ◌-◌, ◌*◌, ◌/◌, ◌^◌, refl, ◌∙◌, subst, arith, length}
+use Rattle.std.proofs.Common.{◌≡◌, ◌<◌, ◌≤◌, ◌+◌, ◌-◌, ◌*◌, ◌/◌, ◌^◌, refl, ◌∙◌, subst, arith, length, mul-le-mul_left}
 use Rattle.sedtext.specs.Words.{AgreeBelow, row_of}
 use Rattle.sedpass.specs.Kept.{IsRegion, SameSpace}
-use Rattle.sedpass.proofs.KeptLemmas.{block_there, edges_more, edges_none, passes_with, rows_long}
+use Rattle.sedpass.proofs.KeptLemmas.{block_there, edges_more, edges_none, passes_with, rows_long, space_same}
 use Rattle.sedpass.proofs.kept.Kept.keep_edge.Goals as goal
-use Rattle.sedpass.proofs.kept.Kept.keep_edge.Goals.{After-load-2, After-store-2}
+use Rattle.sedpass.proofs.kept.Kept.keep_edge.Goals.{After-load-2, After-nodes-nodes, After-state_at-state, After-store-2}
 
 same : (c : After-store-2) → SameSpace c.args.self.now (record c.args.self.now { edges = c.store-2.new.self })
 same c =
@@ -16,56 +16,73 @@ its_row : (c : After-load-2) → 2 * c.args.block + 1 < length c.args.self.now.e
 its_row c =
     block_there c.args.subject.prepared.now c.args.subject.text.now c.args.table.now c.args.self.now c.args.block c.args.place c.args.offset c.requires.passes (c.requires.right (let h = c.if-place-self.false in omega (arith, h)))
 
-pub load-requires-clause-row : goal.load-requires-clause-row
-load-requires-clause-row c =
+-- the state and its marks are there
+state_there : (c : After-state_at-state) → c.state_at-state.result < c.args.table.now.room
+state_there c = omega (arith, c.state_at-state.ensures, c.requires.passes.there.0, c.requires.passes.region.table.room.count)
+
+pub state_at-state-requires : goal.state_at-state-requires
+state_at-state-requires c = c.requires.passes.region.table.layout.small
+
+pub load-requires : goal.load-requires
+load-requires c =
     let room = c.requires.passes.region.table.room in
-    omega (arith, c.state_at-state.ensures, c.requires.passes.there.0, room.count, room.rows.leaves)
+    let there = state_there (goal.at.load-requires c).After-state_at-state in
+    let nodes = c.nodes-nodes.ensures in
+    record { row = omega (arith, there, room.rows.leaves); inside = omega (arith, nodes.value, room.marks, room.rows.leaf_marks c.state_at-state.result there); there = omega (arith, nodes.value, nodes.few) }
 
-pub load-requires-clause-inside : goal.load-requires-clause-inside
-load-requires-clause-inside c =
+pub load-requires-2 : goal.load-requires-2
+load-requires-2 c =
     let room = c.requires.passes.region.table.room in
-    omega (arith, c.nodes-nodes.ensures.value, room.marks, room.rows.leaf_marks c.state_at-state.result (omega (arith, c.state_at-state.ensures, c.requires.passes.there.0, room.count)))
+    let there = state_there (goal.at.load-requires-2 c).After-state_at-state in
+    let nodes = c.nodes-nodes.ensures in
+    record { row = omega (arith, there, room.rows.ends); inside = omega (arith, nodes.value, room.marks, room.rows.end_marks c.state_at-state.result there); there = omega (arith, nodes.value, nodes.few) }
 
-pub load-requires-2-clause-row : goal.load-requires-2-clause-row
-load-requires-2-clause-row c =
-    let room = c.requires.passes.region.table.room in
-    omega (arith, c.state_at-state.ensures, c.requires.passes.there.0, room.count, room.rows.ends)
+-- and its number
+few : (c : After-nodes-nodes) → 2 * c.args.block + 1 < 2 ^ 64
+few c =
+    let region = c.requires.passes.region in
+    let at = c.requires.right (let h = c.if-place-self.false in omega (arith, h)) in
+    let up : 1 ≤ c.args.table.now.room - 1 = omega (arith, region.table.room.rows.some) in
+    omega (arith, mul-le-mul_left c.args.block up, at, c.requires.passes.within, region.inside, region.long, c.args.self.now.states.ok)
 
-pub load-requires-2-clause-inside : goal.load-requires-2-clause-inside
-load-requires-2-clause-inside c =
-    let room = c.requires.passes.region.table.room in
-    omega (arith, c.nodes-nodes.ensures.value, room.marks, room.rows.end_marks c.state_at-state.result (omega (arith, c.state_at-state.ensures, c.requires.passes.there.0, room.count)))
+pub overflow_mul-block : goal.overflow_mul-block
+overflow_mul-block c = omega (arith, few (goal.at.overflow_mul-block c).After-nodes-nodes)
 
-pub store-requires-clause-row : goal.store-requires-clause-row
-store-requires-clause-row c =
-    let there = its_row (goal.at.store-requires-clause-row c).After-load-2 in
-    omega (arith, there)
+pub overflow_mul-block-2 : goal.overflow_mul-block-2
+overflow_mul-block-2 c = omega (arith, few (goal.at.overflow_mul-block-2 c).After-nodes-nodes)
 
-pub store-requires-clause-inside : goal.store-requires-clause-inside
-store-requires-clause-inside c =
-    let there = its_row (goal.at.store-requires-clause-inside c).After-load-2 in
-    omega (arith, c.nodes-nodes.ensures.value, c.requires.passes.region.room.marks (2 * c.args.block) (omega (arith, there)))
+pub overflow_add-block : goal.overflow_add-block
+overflow_add-block c = omega (arith, few (goal.at.overflow_add-block c).After-nodes-nodes)
 
-pub store-requires-2-clause-row : goal.store-requires-2-clause-row
-store-requires-2-clause-row c =
-    let there = its_row (goal.at.store-requires-2-clause-row c).After-load-2 in
-    omega (arith, there, c.store.ensures.len)
+pub store-requires : goal.store-requires
+store-requires c =
+    let there = its_row (goal.at.store-requires c).After-load-2 in
+    let nodes = c.nodes-nodes.ensures in
+    record { row = omega (arith, there); inside = omega (arith, nodes.value, c.requires.passes.region.room.marks (2 * c.args.block) (omega (arith, there))); there = omega (arith, nodes.value, nodes.few) }
 
-pub store-requires-2-clause-inside : goal.store-requires-2-clause-inside
-store-requires-2-clause-inside c =
-    let there = its_row (goal.at.store-requires-2-clause-inside c).After-load-2 in
-    omega (arith, c.nodes-nodes.ensures.value, c.store.ensures.lens (2 * c.args.block + 1) there, c.requires.passes.region.room.marks (2 * c.args.block + 1) there)
+pub store-requires-2 : goal.store-requires-2
+store-requires-2 c =
+    let there = its_row (goal.at.store-requires-2 c).After-load-2 in
+    let nodes = c.nodes-nodes.ensures in
+    record {
+      row = omega (arith, there, c.store.ensures.len);
+      inside = omega (arith, nodes.value, c.store.ensures.lens (2 * c.args.block + 1) there, c.requires.passes.region.room.marks (2 * c.args.block + 1) there);
+      there = omega (arith, nodes.value, nodes.few);
+    }
 
-pub returns-clause-passes : goal.returns-clause-passes
-returns-clause-passes c =
-    let space = same (goal.at.returns-clause-passes c).After-store-2 in
-    passes_with c.args.subject.prepared.now c.args.subject.text.now c.args.table.now c.args.self.now c.store-2.new.self _ c.args.place c.args.offset space.edges space.marks c.requires.passes
+pub returns-then-place-self : goal.returns-then-place-self
+returns-then-place-self c =
+    record {
+      passes = c.requires.passes;
+      edges = edges_none c.args.subject.prepared.now c.args.subject.text.now c.args.table.now c.args.self.now c.args.block (omega (arith, c.requires.within, c.if-place-self.true));
+      same = record { root = refl; end = refl; space = space_same c.args.self.now };
+      region = refl;
+      cost = (omega arith, omega arith);
+    }
 
-pub returns-then-place-self-clause-passes : goal.returns-then-place-self-clause-passes
-returns-then-place-self-clause-passes c = c.requires.passes
-
-pub returns-clause-edges : goal.returns-clause-edges
-returns-clause-edges c b after before =
+pub returns : goal.returns
+returns c =
+    let space = same (goal.at.returns c).After-store-2 in
     let t = c.args.table.now in
     let k = c.args.self.now in
     let m = length c.args.subject.prepared.now.arena.expr.nodes in
@@ -74,17 +91,21 @@ returns-clause-edges c b after before =
     let some = region.table.room.rows.some in
     let at : c.args.place ≡ c.args.block * (t.room - 1) + (t.room - 1) = c.requires.right (let h = c.if-place-self.false in omega (arith, h)) in
     let there = block_there c.args.subject.prepared.now c.args.subject.text.now t k c.args.block c.args.place c.args.offset c.requires.passes at in
-    edges_more c.args.subject.prepared.now c.args.subject.text.now t.way k.region.root k.region.end (t.room - 1) c.args.block k.edges c.store.new.self c.store-2.new.self c.load.new.marks c.load-2.new.marks (row_of t.leaves q) (row_of t.ends q)
-    (omega arith) there c.store.ensures.len (subst (λ n. AgreeBelow n (row_of c.store.new.self (2 * c.args.block)) c.load.new.marks) c.nodes-nodes.ensures.value c.store.ensures.same)
-    (subst (λ x. AgreeBelow m c.load.new.marks (row_of t.leaves x)) c.state_at-state.ensures (subst (λ n. AgreeBelow n c.load.new.marks (row_of t.leaves c.state_at-state.result)) c.nodes-nodes.ensures.value c.load.ensures.same))
-    (λ x low ne. c.store.ensures.other x low ne) (subst (λ n. AgreeBelow n (row_of c.store-2.new.self (2 * c.args.block + 1)) c.load-2.new.marks) c.nodes-nodes.ensures.value c.store-2.ensures.same)
-    (subst (λ x. AgreeBelow m c.load-2.new.marks (row_of t.ends x)) c.state_at-state.ensures (subst (λ n. AgreeBelow n c.load-2.new.marks (row_of t.ends c.state_at-state.result)) c.nodes-nodes.ensures.value c.load-2.ensures.same))
-    (λ x low ne. c.store-2.ensures.other x low ne) (rw (← at) c.requires.passes.at.1) (rw (← at) c.requires.edges)
-    (λ x low. region.room.blocks x (let g = region.inside in omega arith)) b after before
-
-pub returns-clause-same : goal.returns-clause-same
-returns-clause-same c = let space = same (goal.at.returns-clause-same c).After-store-2 in record { root = refl; end = refl; space = record { places = refl; edges = space.edges; marks = space.marks } }
-
-pub returns-then-place-self-clause-edges : goal.returns-then-place-self-clause-edges
-returns-then-place-self-clause-edges c =
-    edges_none c.args.subject.prepared.now c.args.subject.text.now c.args.table.now c.args.self.now c.args.block (let h = c.requires.within in let g = c.if-place-self.true in omega (arith, h, g))
+    let one = c.load.ensures.cost in
+    let two = c.load-2.ensures.cost in
+    let three = c.store.ensures.cost in
+    let four = c.store-2.ensures.cost in
+    record {
+      passes = passes_with c.args.subject.prepared.now c.args.subject.text.now t k c.store-2.new.self _ c.args.place c.args.offset space.edges space.marks c.requires.passes;
+      edges = λ b after before.
+          edges_more c.args.subject.prepared.now c.args.subject.text.now t.way k.region.root k.region.end (t.room - 1) c.args.block k.edges c.store.new.self c.store-2.new.self c.load.new.marks c.load-2.new.marks (row_of t.leaves q) (row_of t.ends q)
+          (omega arith) there c.store.ensures.len (subst (λ n. AgreeBelow n (row_of c.store.new.self (2 * c.args.block)) c.load.new.marks) c.nodes-nodes.ensures.value c.store.ensures.same)
+          (subst (λ x. AgreeBelow m c.load.new.marks (row_of t.leaves x)) c.state_at-state.ensures (subst (λ n. AgreeBelow n c.load.new.marks (row_of t.leaves c.state_at-state.result)) c.nodes-nodes.ensures.value c.load.ensures.same))
+          (λ x low ne. c.store.ensures.other x low ne) (subst (λ n. AgreeBelow n (row_of c.store-2.new.self (2 * c.args.block + 1)) c.load-2.new.marks) c.nodes-nodes.ensures.value c.store-2.ensures.same)
+          (subst (λ x. AgreeBelow m c.load-2.new.marks (row_of t.ends x)) c.state_at-state.ensures (subst (λ n. AgreeBelow n c.load-2.new.marks (row_of t.ends c.state_at-state.result)) c.nodes-nodes.ensures.value c.load-2.ensures.same))
+          (λ x low ne. c.store-2.ensures.other x low ne) (rw (← at) c.requires.passes.at.1) (rw (← at) c.requires.edges)
+          (λ x low. region.room.blocks x (let g = region.inside in omega arith)) b after before;
+      same = record { root = refl; end = refl; space = record { places = refl; edges = space.edges; marks = space.marks } };
+      region = refl;
+      cost = (omega (arith, one.0, two.0, three.0, four.0), omega (arith, c.nodes-nodes.ensures.value, one.1, two.1, three.1, four.1));
+    }

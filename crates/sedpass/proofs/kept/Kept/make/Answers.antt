@@ -1,7 +1,7 @@
-use Rattle.std.proofs.Common.{◌-◌, ◌*◌, ◌/◌, refl, ap, ◌∙◌, arith}
+use Rattle.std.proofs.Common.{rules, ◌≡◌, ◌-◌, ◌*◌, ◌/◌, refl, ap, ◌∙◌, arith}
 use Rattle.sedpass.specs.Kept.{EdgesFrom}
 use Rattle.sedpass.proofs.KeptLemmas.{block_cost, block_right, edges_same, kept_passed, make_cost, passes_first, same_kept, same_shape, same_by}
-use Rattle.sedtext.proofs.CountLemmas.{least_none, least_both, least_since}
+use Rattle.sedpass.proofs.Words.{div-mul-le_self, least_none, least_both, least_since}
 use Rattle.sedpass.proofs.kept.Kept.make.Goals as goal
 
 pub loop-place-init : goal.loop-place-init
@@ -23,23 +23,32 @@ loop-place-init c =
       counts = least_none _ _ (omega arith);
     }
 
-pub keep_edge-requires-clause-passes : goal.keep_edge-requires-clause-passes
-keep_edge-requires-clause-passes c = c.loop-place.invariant.passes
+pub edge_state-offset-requires : goal.edge_state-offset-requires
+edge_state-offset-requires c = record { region = c.requires.kept.region; place = omega arith; edge = λ under. absurd (omega (arith, under)) }
 
-pub keep_edge-requires-clause-edges : goal.keep_edge-requires-clause-edges
-keep_edge-requires-clause-edges c = c.loop-place.invariant.edges
+pub pass-offset-requires : goal.pass-offset-requires
+pass-offset-requires c = record { passes = c.keep_edge.ensures.passes; order = omega (arith, div-mul-le_self (c.loop-place.place - 1) (c.loop-place.table.room - 1), c.loop-place-test.true) }
 
-pub pass-offset-requires-clause-passes : goal.pass-offset-requires-clause-passes
-pass-offset-requires-clause-passes c = c.keep_edge.ensures.passes
+pub overflow_mul-block : goal.overflow_mul-block
+overflow_mul-block c = omega (arith, div-mul-le_self (c.loop-place.place - 1) (c.loop-place.table.room - 1))
 
-pub keep_edge-requires-clause-right : goal.keep_edge-requires-clause-right
-keep_edge-requires-clause-right c before =
+pub keep_edge-requires : goal.keep_edge-requires
+keep_edge-requires c =
     let old = c.loop-place.invariant in
+    let width = c.loop-place.table.room - 1 in
     let some = old.passes.region.table.room.rows.some in
     let on = c.loop-place-test.true in
-    let is = old.end_is in
-    let at = old.right (omega (arith, on)) (omega (arith, before, is)) in
-    block_right c.loop-place.place (c.loop-place.table.room - 1) at.0 (omega (arith, some)) (omega (arith, on)) at.1
+    record {
+      passes = old.passes;
+      edges = old.edges;
+      right = λ before.
+          let at = old.right (omega (arith, on)) (omega (arith, before, old.end_is)) in
+          block_right c.loop-place.place width at.0 (omega (arith, some)) (omega (arith, on)) at.1;
+      within = search rules;
+    }
+
+pub loop-place-smaller : goal.loop-place-smaller
+loop-place-smaller c = omega (arith, div-mul-le_self (c.loop-place.place - 1) (c.loop-place.table.room - 1), c.loop-place-test.true)
 
 pub loop-place-preserved : goal.loop-place-preserved
 loop-place-preserved c =
@@ -63,8 +72,8 @@ loop-place-preserved c =
       counts = least_both _ c.loop-place.steps _ _ (2 * (c.loop-place.place - least)) _ before.counts (least_since _ c.keep_edge.new.steps _ _ edge.cost.0 now.counts) (let h = before.below in omega (arith, h));
     }
 
-pub returns-clause-keeps : goal.returns-clause-keeps
-returns-clause-keeps c =
+pub returns : goal.returns
+returns c =
     let p = c.args.subject.prepared.now in
     let w = c.args.subject.text.now in
     let last = c.loop-place.invariant in
@@ -72,17 +81,15 @@ returns-clause-keeps c =
     edges_same p w c.loop-place.table c.loop-place.table c.loop-place.self c.loop-place.self c.loop-place.place c.args.low (refl, refl, refl, refl, refl) refl refl refl (omega arith) last.edges in
     let first = c.edge_state-offset.ensures in
     record {
-      kept = kept_passed p w c.loop-place.table c.loop-place.self _ c.loop-place.place c.loop-place.offset last.passes edges (omega arith) (omega arith) refl refl refl refl refl;
-      shape = same_shape c.args.table.now c.edge_state-offset.new.table c.loop-place.table first.adds.shape last.shape;
-      same = same_kept c.args.self.now c.loop-place.self _
-          (same_kept c.args.self.now _ c.loop-place.self (same_by c.args.self.now _ (ap (λ r. r.root) first.region) (ap (λ r. r.end) first.region) first.states first.edges) last.same) (same_by c.loop-place.self _ refl refl refl refl);
+      keeps = record {
+        kept = kept_passed p w c.loop-place.table c.loop-place.self _ c.loop-place.place c.loop-place.offset last.passes edges (omega arith) (omega arith) refl refl refl refl refl;
+        shape = same_shape c.args.table.now c.edge_state-offset.new.table c.loop-place.table first.adds.shape last.shape;
+        same = same_kept c.args.self.now c.loop-place.self _
+            (same_kept c.args.self.now _ c.loop-place.self (same_by c.args.self.now _ (ap (λ r. r.root) first.region) (ap (λ r. r.end) first.region) first.states first.edges) last.same) (same_by c.loop-place.self _ refl refl refl refl);
+      };
+      low = refl;
+      from = refl;
+      to = (let end = ap (λ r. r.end) first.region in let at : c.loop-place.place ≡ c.args.low = omega arith in rw (← at) (last.to (omega (arith, at, c.requires.low, end))));
+      cost = (omega (arith, first.cost.0, last.cost.0), make_cost _ c.args.low (c.args.self.now.region.end - c.args.low) c.loop-place.place c.args.self.now.region.end _ c.edge_state-offset.new.steps _ (omega arith) (omega arith) first.cost.1 last.cost.1);
+      counts = least_both _ c.edge_state-offset.new.steps _ _ _ _ first.counts last.counts (omega arith);
     }
-
-pub returns-clause-cost : goal.returns-clause-cost
-returns-clause-cost c =
-    let one = c.edge_state-offset.ensures.cost in
-    let last = c.loop-place.invariant in
-    (omega (arith, one.0, last.cost.0), make_cost _ c.args.low (c.args.self.now.region.end - c.args.low) c.loop-place.place c.args.self.now.region.end _ c.edge_state-offset.new.steps _ (omega arith) (omega arith) one.1 last.cost.1)
-
-pub returns-clause-counts : goal.returns-clause-counts
-returns-clause-counts c = least_both _ c.edge_state-offset.new.steps _ _ _ _ c.edge_state-offset.ensures.counts c.loop-place.invariant.counts (omega arith)

@@ -1,8 +1,8 @@
-use Rattle.std.proofs.Common.{rules, ◌≡◌, ◌+◌, ◌<◌, ◌≤◌, refl, sym, ap, ◌∙◌, subst, true≢false, arith, length, slice_index_or}
-use Rattle.sedpass.proofs.Words.{eqb-true, eq-eqb, least_none, least_both, least_since, least_up, least_counted}
+use Rattle.std.proofs.Common.{rules, ◌≡◌, ◌+◌, ◌*◌, ◌<◌, ◌≤◌, refl, sym, ap, ◌∙◌, subst, true≢false, arith, length, slice_index_or}
+use Rattle.sedpass.proofs.Words.{CostsWithin, eqb-true, eq-eqb, least_none, least_both, least_since, least_up, least_counted}
 use Rattle.sedpass.specs.Kept.{Follows, Meet}
 use Rattle.sedpass.proofs.KeptLemmas.{kept_row, same_shape, follows_next, meet_on, meet_read, place_cost, keeps_same}
-use Rattle.sedpass.proofs.TableLemmas.{names_offset, names_state}
+use Rattle.sedpass.proofs.TableLemmas.{names_some, names_offset, names_state}
 use Rattle.sedpass.proofs.kept.Kept.meet.Goals.{After-index}
 use Rattle.sedpass.proofs.kept.Kept.meet.Goals as goal
 
@@ -21,6 +21,15 @@ loop-place-init c = record {
   counts = least_none _ _ (omega arith);
 }
 
+pub index-requires : goal.index-requires
+index-requires c =
+    let old = c.loop-place.invariant in
+    let region = c.requires.kept.region in
+    omega (arith, c.loop-place-test.true, ap (λ r. r.to) old.region, ap (λ v. length v.items) old.states, region.within, region.inside, region.long)
+
+pub state_at-requires : goal.state_at-requires
+state_at-requires c = c.loop-place.invariant.ahead.layout.small
+
 -- the state of the place is in the table, and its number was read
 here : (c : After-index) → (c.args.self.now.region.from ≤ c.loop-place.place) × (c.loop-place.place < c.args.self.now.region.to) × (c.index.result.now ≡ slice_index_or c.args.self.now.states.items c.loop-place.place c.index.result.now)
 here c =
@@ -32,48 +41,53 @@ here c =
 
 pub meets-requires : goal.meets-requires
 meets-requires c =
+    let old = c.loop-place.invariant in
+    let there = here (goal.at.meets-requires c).After-index in
+    let row = kept_row c.args.subject.prepared.now c.args.subject.text.now c.args.table.now c.args.self.now c.loop-place.place c.index.result.now c.requires.kept there.0 there.1 there.2 in
+    record { row = search rules; other_row = row.0; inside = search rules; there = omega (arith, row.1, c.nodes-nodes.ensures.value) }
+
+pub returns-then-not-meets : goal.returns-then-not-meets
+returns-then-not-meets c =
     let p = c.args.subject.prepared.now in
     let w = c.args.subject.text.now in
     let t = c.args.table.now in
     let k = c.args.self.now in
     let old = c.loop-place.invariant in
     let place = c.loop-place.place in
-    let there = here (goal.at.meets-requires c).After-index in
-    let row = kept_row p w t k place c.index.result.now c.requires.kept there.0 there.1 there.2 in
-    let count = c.nodes-nodes.ensures.value in
+    let there = here (goal.at.returns-then-not-meets c).After-index in
+    let looked = c.meets.ensures.cost in
+    let m = length p.arena.expr.nodes in
+    let cost : CostsWithin c.args.steps.now c.meets.new.steps (36 * m * place + m) (36 * m * c.args.from) =
+    (omega (arith, old.cost.0, looked.0), omega (arith, old.cost.1, looked.1, c.nodes-nodes.ensures.value)) in
     record {
-      row = search rules;
-      other_row = row.0;
-      inside = search rules;
-      there = omega (arith, row.1, count);
+      keeps = keeps_same p w t k c.loop-place.self old.region old.states old.edges c.requires.kept;
+      ahead = old.ahead;
+      shape = old.shape;
+      region = old.region;
+      offset = old.offset;
+      after = old.above;
+      within = omega (arith, there.1);
+      meets = λ a i low start follows.
+          let on = old.meets a i low start follows in
+          let tells = meet_read p w t c.loop-place.ahead k a i place c.loop-place.offset c.nodes-nodes.result c.state_at.result c.index.result.now c.meets.result c.requires.kept there.0 there.1 on.0
+          c.nodes-nodes.ensures.value c.state_at.ensures there.2 c.meets.ensures.meets in
+          (on.0, on.1, λ under met. true≢false (sym (tells.1 met) ∙ c.if-not-meets.true));
+      cost = cost;
+      whole = λ all. absurd (omega (arith, all, there.1));
+      counts = least_up _ c.loop-place.steps _ _ old.counts looked.0;
     }
 
-pub returns-then-not-meets-clause-keeps : goal.returns-then-not-meets-clause-keeps
-returns-then-not-meets-clause-keeps c =
-    let old = c.loop-place.invariant in
-    keeps_same c.args.subject.prepared.now c.args.subject.text.now c.args.table.now c.args.self.now c.loop-place.self old.region old.states old.edges c.requires.kept
+pub byte-byte-requires : goal.byte-byte-requires
+byte-byte-requires c =
+    let there = here (goal.at.byte-byte-requires c).After-index in
+    let region = c.requires.kept.region in
+    record { inside = omega (arith, there.1, region.within, region.inside) }
 
-pub returns-clause-keeps : goal.returns-clause-keeps
-returns-clause-keeps c =
-    let old = c.loop-place.invariant in
-    keeps_same c.args.subject.prepared.now c.args.subject.text.now c.args.table.now c.args.self.now c.loop-place.self old.region old.states old.edges c.requires.kept
+pub next-code-requires : goal.next-code-requires
+next-code-requires c = record { table = c.loop-place.invariant.ahead; offset = c.loop-place.invariant.offset }
 
-pub returns-then-not-meets-clause-meets : goal.returns-then-not-meets-clause-meets
-returns-then-not-meets-clause-meets c a i low start follows =
-    let p = c.args.subject.prepared.now in
-    let w = c.args.subject.text.now in
-    let t = c.args.table.now in
-    let k = c.args.self.now in
-    let old = c.loop-place.invariant in
-    let place = c.loop-place.place in
-    let there = here (goal.at.returns-then-not-meets-clause-meets c).After-index in
-    let on = old.meets a i low start follows in
-    let tells = meet_read p w t c.loop-place.ahead k a i place c.loop-place.offset c.nodes-nodes.result c.state_at.result c.index.result.now c.meets.result c.requires.kept there.0 there.1 on.0
-    c.nodes-nodes.ensures.value c.state_at.ensures there.2 c.meets.ensures.meets in
-    (on.0, on.1, λ under met. true≢false (sym (tells.1 met) ∙ c.if-not-meets.true))
-
-pub returns-then-not-meets-clause-counts : goal.returns-then-not-meets-clause-counts
-returns-then-not-meets-clause-counts c = least_up _ c.loop-place.steps _ _ c.loop-place.invariant.counts c.meets.ensures.cost.0
+pub offset_of-offset-requires : goal.offset_of-offset-requires
+offset_of-offset-requires c = names_some c.args.subject.prepared.now c.next-code.new.self _ c.next-code.result c.next-code.ensures.codes.names
 
 pub loop-place-preserved : goal.loop-place-preserved
 loop-place-preserved c =
@@ -114,12 +128,25 @@ loop-place-preserved c =
           (least_since _ c.meets.new.steps _ _ c.meets.ensures.cost.0 (least_both _ c.byte-byte.new.steps _ 1 1 2 (least_counted _ _ 1 1 c.byte-byte.ensures.counts (omega arith)) next.counts (omega arith))) (let h = old.above in omega (arith, h));
     }
 
-pub returns-clause-meets : goal.returns-clause-meets
-returns-clause-meets c a i low start follows =
+pub returns : goal.returns
+returns c =
     let p = c.args.subject.prepared.now in
     let w = c.args.subject.text.now in
     let old = c.loop-place.invariant in
     let to = ap (λ r. r.to) old.region in
     let at : c.loop-place.place ≡ c.loop-place.self.region.to = (let h = old.below in let g = c.loop-place-test.false in omega (arith, h, g, to)) in
-    let on = old.meets a i low start follows in
-    (subst (λ y. Follows p w c.loop-place.ahead a i y c.loop-place.offset) at on.0, subst (λ y. Meet p w c.args.table.now c.args.self.now a i c.args.from y) at on.1, λ under met. absurd (omega (arith, under, to)))
+    record {
+      keeps = keeps_same p w c.args.table.now c.args.self.now c.loop-place.self old.region old.states old.edges c.requires.kept;
+      ahead = old.ahead;
+      shape = old.shape;
+      region = old.region;
+      offset = old.offset;
+      after = omega (arith, at, old.above);
+      within = omega (arith, to);
+      meets = λ a i low start follows.
+          let on = old.meets a i low start follows in
+          (subst (λ y. Follows p w c.loop-place.ahead a i y c.loop-place.offset) at on.0, subst (λ y. Meet p w c.args.table.now c.args.self.now a i c.args.from y) at on.1, λ under met. absurd (omega (arith, under, to)));
+      cost = (old.cost.0, rw (← at) (omega (arith, old.cost.1)));
+      whole = λ _. rw (← at) old.cost;
+      counts = rw (← at) old.counts;
+    }

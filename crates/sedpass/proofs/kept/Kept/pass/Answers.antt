@@ -1,8 +1,8 @@
-use Rattle.std.proofs.Common.{◌≡◌, ◌∙◌, ◌+◌, ◌-◌, ◌*◌, inl, inr, refl, subst, arith, length}
+use Rattle.std.proofs.Common.{◌≡◌, ◌+◌, ◌-◌, ◌*◌, inl, inr, refl, subst, arith, length}
 use Rattle.sedpass.proofs.Words.{eqb-true, eq-eqb, least_none, least_both, least_counted}
 use Rattle.sedpass.specs.Kept.{ComesDown}
 use Rattle.sedpass.proofs.KeptLemmas.{comes_down, down_cost}
-use Rattle.sedpass.proofs.TableLemmas.{names_offset, names_state}
+use Rattle.sedpass.proofs.TableLemmas.{names_some, names_offset, names_state}
 use Rattle.sedpass.proofs.kept.Kept.pass.Goals as goal
 
 pub loop-place-init : goal.loop-place-init
@@ -22,17 +22,29 @@ overflow_cast-state_at c =
     let low = (names_offset c.args.subject.prepared.now c.next-code.new.self codes.table _ _ _ codes.names c.offset_of-offset.ensures).0 in
     omega (arith, c.state_at.ensures, low, codes.table.room.count, codes.table.room.rows.few)
 
-pub next-code-requires-clause-table : goal.next-code-requires-clause-table
-next-code-requires-clause-table c = c.loop-place.invariant.down.passes.region.table
+pub byte-byte-requires : goal.byte-byte-requires
+byte-byte-requires c = let passes = c.requires.passes in record { inside = omega (arith, c.loop-place.invariant.below, passes.within, passes.region.inside) }
 
-pub next-code-requires-clause-offset : goal.next-code-requires-clause-offset
-next-code-requires-clause-offset c = c.loop-place.invariant.down.passes.there
+pub offset_of-offset-requires : goal.offset_of-offset-requires
+offset_of-offset-requires c = names_some c.args.subject.prepared.now c.next-code.new.self _ c.next-code.result c.next-code.ensures.codes.names
 
-pub returns-clause-down : goal.returns-clause-down
-returns-clause-down c =
+pub state_at-requires : goal.state_at-requires
+state_at-requires c = c.next-code.ensures.codes.table.layout.small
+
+pub next-code-requires : goal.next-code-requires
+next-code-requires c = let passes = c.loop-place.invariant.down.passes in record { table = passes.region.table; offset = passes.there }
+
+pub returns : goal.returns
+returns c =
     let last = c.loop-place.invariant in
     let at : c.loop-place.place ≡ c.args.low = (let low = last.order in omega (arith, low, c.loop-place-test.false)) in
-    subst (λ x. ComesDown c.args.subject.prepared.now c.args.subject.text.now c.args.table.now c.loop-place.table c.args.self.now c.loop-place.self x c.loop-place.offset) at last.down
+    record {
+      down = subst (λ x. ComesDown c.args.subject.prepared.now c.args.subject.text.now c.args.table.now c.loop-place.table c.args.self.now c.loop-place.self x c.loop-place.offset) at last.down;
+      to = (let some = c.requires.order in let to = last.to (omega (arith, at, some)) in omega (arith, at, to));
+      steady = λ few. (last.steady few).0;
+      cost = rw (← at) last.cost;
+      counts = rw (← at) last.counts;
+    }
 
 pub loop-place-preserved : goal.loop-place-preserved
 loop-place-preserved c =
@@ -48,17 +60,34 @@ loop-place-preserved c =
       below = omega arith;
       down = comes_down p c.args.subject.text.now c.args.table.now c.loop-place.table after c.args.self.now c.loop-place.self _ place c.loop-place.offset c.offset_of-offset.result c.byte-byte.result _
           (subst (λ x. ComesDown p c.args.subject.text.now c.args.table.now c.loop-place.table c.args.self.now c.loop-place.self x c.loop-place.offset) above before.down)
-          next.codes.table next.codes.adds refl refl refl refl refl refl (rw (← c.state_at.ensures) refl) c.live_to-self.ensures
+          next.codes.table next.codes.adds refl refl refl refl refl refl (rw (← c.state_at.ensures) refl) (inr (c.if-table-epoch.false, refl))
           (names_offset p after next.codes.table _ _ _ next.codes.names c.offset_of-offset.ensures) c.byte-byte.ensures.byte (eqb-true place 0, eq-eqb place 0)
           (names_state p after next.codes.table _ _ _ next.codes.names c.offset_of-offset.ensures);
-      to = λ _. elim c.live_to-self.ensures [ inl h ↦ (let e = h.1 in omega arith) | inr h ↦ (let e = h.1 in let g = before.down.passes.above in omega arith) ];
-      steady = λ few.
-          let s = before.steady few in
-          let room = before.down.shape.1 in
-          elim c.live_to-self.ensures [
-            | inl h ↦ absurd (h.0 (next.codes.adds.full (let g = s.1 in omega (arith, g, room))))
-            | inr h ↦ (h.1 ∙ s.0, (let g = s.1 in let up = (next.codes.adds.grows h.0).1 in omega (arith, g, up)))
-          ];
+      to = λ h. (let g = before.down.passes.above in omega (arith, g));
+      steady = λ h. (let s = before.steady h in let up = (next.codes.adds.grows c.if-table-epoch.false).1 in (s.0, (let g = s.1 in omega (arith, g, up))));
+      cost = ((let g = before.cost.0 in let f = next.cost.0 in let h = c.byte-byte.ensures.cost.0 in omega (arith, g, f, h)), down_cost (35 * length p.arena.expr.nodes) place c.loop-place.place c.loop-place.steps c.next-code.new.steps _ above (let f = next.cost.1 in let h = c.byte-byte.ensures.cost.1 in omega (arith, f, h, some)) before.cost.1);
+      counts = least_both _ _ _ _ 2 _ before.counts (least_both _ c.byte-byte.new.steps _ 1 1 2 (least_counted _ _ 1 1 c.byte-byte.ensures.counts (omega arith)) next.counts (omega arith)) (omega arith);
+    }
+
+pub loop-place-preserved-then-table-epoch : goal.loop-place-preserved-then-table-epoch
+loop-place-preserved-then-table-epoch c =
+    let p = c.args.subject.prepared.now in
+    let before = c.loop-place.invariant in
+    let next = c.next-code.ensures in
+    let after = c.next-code.new.self in
+    let place = c.loop-place.place - 1 in
+    let above : c.loop-place.place ≡ place + 1 = omega arith in
+    let some = before.down.passes.region.root.0 in
+    record {
+      order = omega arith;
+      below = omega arith;
+      down = comes_down p c.args.subject.text.now c.args.table.now c.loop-place.table after c.args.self.now c.loop-place.self _ place c.loop-place.offset c.offset_of-offset.result c.byte-byte.result _
+          (subst (λ x. ComesDown p c.args.subject.text.now c.args.table.now c.loop-place.table c.args.self.now c.loop-place.self x c.loop-place.offset) above before.down)
+          next.codes.table next.codes.adds refl refl refl refl refl refl (rw (← c.state_at.ensures) refl) (inl (c.if-table-epoch.true, refl))
+          (names_offset p after next.codes.table _ _ _ next.codes.names c.offset_of-offset.ensures) c.byte-byte.ensures.byte (eqb-true place 0, eq-eqb place 0)
+          (names_state p after next.codes.table _ _ _ next.codes.names c.offset_of-offset.ensures);
+      to = λ h. omega arith;
+      steady = λ h. (let s = before.steady h in let room = before.down.shape.1 in absurd (c.if-table-epoch.true (next.codes.adds.full (let g = s.1 in omega (arith, g, room)))));
       cost = ((let g = before.cost.0 in let f = next.cost.0 in let h = c.byte-byte.ensures.cost.0 in omega (arith, g, f, h)), down_cost (35 * length p.arena.expr.nodes) place c.loop-place.place c.loop-place.steps c.next-code.new.steps _ above (let f = next.cost.1 in let h = c.byte-byte.ensures.cost.1 in omega (arith, f, h, some)) before.cost.1);
       counts = least_both _ _ _ _ 2 _ before.counts (least_both _ c.byte-byte.new.steps _ 1 1 2 (least_counted _ _ 1 1 c.byte-byte.ensures.counts (omega arith)) next.counts (omega arith)) (omega arith);
     }

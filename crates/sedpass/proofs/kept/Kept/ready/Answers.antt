@@ -18,7 +18,6 @@ returns-clause-cost c =
     let width = c.args.table.now.room - 1 in
     let place = c.args.place in
     let old = c.args.self.now.region in
-    let room = c.requires.kept.region.table.room.rows.some in
     let s = c.args.steps.now in
     elim c.if-place-self.branch [
       | then-place-self w ↦
@@ -31,7 +30,7 @@ returns-clause-cost c =
             | then-place-self-2-via-else-place-self-2+then-self-place v ↦ inr v.if-self-place.true
           ] in
           let now = w.remake.ensures in
-          let after : place < place / width * width + width = lt-div-mul-add (omega (arith, room)) in
+          let after : place < place / width * width + width = lt-div-mul-add (omega (arith, c.requires.kept.region.table.room.rows.some)) in
           let to : place < w.remake.new.self.region.to = (let h = c.requires.place in let g = now.to in omega (arith, h, g, after)) in
           owed_left m old place s w.remake.new.steps _ w.remake.new.self _ w.self-is w.steps-is
           (owed_again m old w.remake.new.self.region place s w.remake.new.steps w.if-place-self.false out now.low now.keeps.same.end now.from to now.cost)

@@ -5,54 +5,31 @@ use Rattle.sedpass.proofs.KeptLemmas.{added_few, edges_same, kept_passed, passes
 use Rattle.sedpass.proofs.OwedLemmas.{again_cost}
 use Rattle.sedpass.proofs.kept.Kept.remake.Goals as goal
 
-pub edge_state-offset-requires-clause-edge : goal.edge_state-offset-requires-clause-edge
-edge_state-offset-requires-clause-edge c before =
-    let width = c.args.table.now.room - 1 in
-    let some = c.requires.kept.region.table.room.rows.some in
-    let after : c.args.place < c.args.place / width * width + width = lt-div-mul-add (omega (arith, some)) in
-    let low = c.requires.low in
-    let shape = c.empty.ensures.shape in
-    rw (shape.0, shape.1) (omega (arith, before), c.requires.kept.edges (c.args.place / width) (omega (arith, low, after)) (omega (arith, before)))
-
-pub edge_state-offset-requires-clause-region : goal.edge_state-offset-requires-clause-region
-edge_state-offset-requires-clause-region c =
+pub edge_state-offset-requires : goal.edge_state-offset-requires
+edge_state-offset-requires c =
     let k = c.args.self.now in
     let region = c.requires.kept.region in
-    region_kept c.args.subject.prepared.now c.args.subject.text.now c.args.table.now c.empty.new.self k k c.empty.ensures.shape c.empty.ensures.table refl refl refl refl refl region.within region
-
-pub pass-requires-clause-passes : goal.pass-requires-clause-passes
-pass-requires-clause-passes c =
-    let first = c.edge_state-offset.ensures in
-    passes_first c.args.subject.prepared.now c.args.subject.text.now c.args.table.now c.edge_state-offset.new.table c.args.self.now _ c.min-to.result c.edge_state-offset.result c.requires.kept.region
-    (same_shape c.args.table.now c.empty.new.self c.edge_state-offset.new.table c.empty.ensures.shape first.adds.shape) first.table first.states first.edges (ap (λ r. r.root) first.region) (ap (λ r. r.end) first.region) refl (omega arith)
-    first.there first.at
-
-pub pass-requires-clause-order : goal.pass-requires-clause-order
-pass-requires-clause-order c =
     let width = c.args.table.now.room - 1 in
-    let some = c.requires.kept.region.table.room.rows.some in
-    let from : c.args.place / width * width ≤ c.args.place = div-mul-le_self c.args.place width in
-    let to : c.args.place < c.args.place / width * width + width = lt-div-mul-add (omega (arith, some)) in
-    let before = c.requires.place in
-    omega (arith, from, to, before)
-
-pub returns-clause-keeps : goal.returns-clause-keeps
-returns-clause-keeps c =
-    let p = c.args.subject.prepared.now in
-    let w = c.args.subject.text.now in
-    let now = c.pass.ensures in
-    let old = c.edge_state-offset.ensures in
-    let low = now.down.low ∙ ap (λ r. r.low) old.region in
-    let root = ap (λ r. r.root) old.region in
-    let end = ap (λ r. r.end) old.region in
-    let shape = same_shape c.args.table.now c.empty.new.self c.pass.new.table c.empty.ensures.shape (same_shape c.empty.new.self c.edge_state-offset.new.table c.pass.new.table old.adds.shape now.down.shape) in
-    let edges : EdgesFrom p w c.pass.new.table c.pass.new.self c.pass.new.self.region.low =
-    edges_same p w c.args.table.now c.pass.new.table c.args.self.now c.pass.new.self c.args.self.now.region.low c.pass.new.self.region.low shape (now.down.edges ∙ old.edges)
-    (now.down.same.root ∙ root) (now.down.same.end ∙ end) (omega (arith, low)) c.requires.kept.edges in
+    let after : c.args.place < c.args.place / width * width + width = lt-div-mul-add (omega (arith, region.table.room.rows.some)) in
+    let shape = c.empty.ensures.shape in
     record {
-      kept = kept_passed p w c.pass.new.table c.pass.new.self c.pass.new.self c.args.place c.pass.result now.down.passes edges (let h = c.requires.low in omega (arith, low, h)) now.down.from refl refl refl refl refl;
-      shape = shape;
-      same = same_kept c.args.self.now _ c.pass.new.self (same_by c.args.self.now _ root end old.states old.edges) now.down.same;
+      region = region_kept c.args.subject.prepared.now c.args.subject.text.now c.args.table.now c.empty.new.self k k shape c.empty.ensures.table refl refl refl refl refl region.within region;
+      place = omega arith;
+      edge = λ before. rw (shape.0, shape.1) (omega (arith, before), c.requires.kept.edges (c.args.place / width) (omega (arith, c.requires.low, after)) (omega (arith, before)));
+    }
+
+pub pass-requires : goal.pass-requires
+pass-requires c =
+    let first = c.edge_state-offset.ensures in
+    let width = c.args.table.now.room - 1 in
+    let from : c.args.place / width * width ≤ c.args.place = div-mul-le_self c.args.place width in
+    let to : c.args.place < c.args.place / width * width + width = lt-div-mul-add (omega (arith, c.requires.kept.region.table.room.rows.some)) in
+    record {
+      passes =
+          passes_first c.args.subject.prepared.now c.args.subject.text.now c.args.table.now c.edge_state-offset.new.table c.args.self.now _ c.min-to.result c.edge_state-offset.result c.requires.kept.region
+          (same_shape c.args.table.now c.empty.new.self c.edge_state-offset.new.table c.empty.ensures.shape first.adds.shape) first.table first.states first.edges (ap (λ r. r.root) first.region) (ap (λ r. r.end) first.region) refl (omega arith)
+          first.there first.at;
+      order = omega (arith, from, to, c.requires.place);
     }
 
 -- the states are made again up to the end of the block
@@ -64,25 +41,38 @@ to_end c =
     let room = same_shape c.args.table.now c.empty.new.self c.edge_state-offset.new.table c.empty.ensures.shape c.edge_state-offset.ensures.adds.shape in
     c.pass.ensures.steady (omega (arith, from, few, room.1))
 
-pub returns-clause-to : goal.returns-clause-to
-returns-clause-to c = omega (arith, to_end c)
-
-pub returns-clause-cost : goal.returns-clause-cost
-returns-clause-cost c =
+pub returns : goal.returns
+returns c =
+    let p = c.args.subject.prepared.now in
+    let w = c.args.subject.text.now in
+    let now = c.pass.ensures in
+    let old = c.edge_state-offset.ensures in
+    let low = now.down.low ∙ ap (λ r. r.low) old.region in
+    let root = ap (λ r. r.root) old.region in
+    let end = ap (λ r. r.end) old.region in
+    let shape = same_shape c.args.table.now c.empty.new.self c.pass.new.table c.empty.ensures.shape (same_shape c.empty.new.self c.edge_state-offset.new.table c.pass.new.table old.adds.shape now.down.shape) in
+    let edges : EdgesFrom p w c.pass.new.table c.pass.new.self c.pass.new.self.region.low =
+    edges_same p w c.args.table.now c.pass.new.table c.args.self.now c.pass.new.self c.args.self.now.region.low c.pass.new.self.region.low shape (now.down.edges ∙ old.edges)
+    (now.down.same.root ∙ root) (now.down.same.end ∙ end) (omega (arith, low)) c.requires.kept.edges in
+    let m = length p.arena.expr.nodes in
     let width = c.args.table.now.room - 1 in
-    let some = c.requires.kept.region.table.room.rows.some in
-    let after : c.args.place < c.args.place / width * width + width = lt-div-mul-add (omega (arith, some)) in
-    let before = c.requires.place in
-    let one = c.edge_state-offset.ensures.cost in
-    let two = c.pass.ensures.cost in
-    let m = length c.args.subject.prepared.now.arena.expr.nodes in
-    let end = c.args.self.now.region.end in (
-      omega (arith, one.0, two.0),
-      subst (λ v. c.pass.new.steps + again m (end - v) ≤ c.args.steps.now + again m (end - c.args.place)) (sym (to_end c))
-          (again_cost m c.args.place c.min-to.result end _ c.edge_state-offset.new.steps _ (omega (arith, after, before)) (omega arith) one.1 (λ lt. (c.edge_state-offset.ensures.inside lt).1) two.1),
-    )
-
-pub returns-clause-counts : goal.returns-clause-counts
-returns-clause-counts c =
-    subst (λ v. TakesAtLeast c.args.steps.now c.pass.new.steps (2 * (v - c.args.place))) (sym (to_end c))
-    (least_since c.args.steps.now c.edge_state-offset.new.steps c.pass.new.steps (2 * (c.min-to.result - c.args.place)) c.edge_state-offset.ensures.cost.0 c.pass.ensures.counts)
+    let after : c.args.place < c.args.place / width * width + width = lt-div-mul-add (omega (arith, c.requires.kept.region.table.room.rows.some)) in
+    let top = c.args.self.now.region.end in
+    let to = to_end c in
+    record {
+      keeps = record {
+        kept = kept_passed p w c.pass.new.table c.pass.new.self c.pass.new.self c.args.place c.pass.result now.down.passes edges (let h = c.requires.low in omega (arith, low, h)) now.down.from refl refl refl refl refl;
+        shape = shape;
+        same = same_kept c.args.self.now _ c.pass.new.self (same_by c.args.self.now _ root end old.states old.edges) now.down.same;
+      };
+      low = low;
+      from = now.down.from;
+      to = omega (arith, to);
+      cost = (
+        omega (arith, old.cost.0, now.cost.0),
+        subst (λ v. c.pass.new.steps + again m (top - v) ≤ c.args.steps.now + again m (top - c.args.place)) (sym to)
+            (again_cost m c.args.place c.min-to.result top _ c.edge_state-offset.new.steps _ (omega (arith, after, c.requires.place)) (omega arith) old.cost.1 (λ lt. (old.inside lt).1) now.cost.1),
+      );
+      counts = subst (λ v. TakesAtLeast c.args.steps.now c.pass.new.steps (2 * (v - c.args.place))) (sym to)
+          (least_since c.args.steps.now c.edge_state-offset.new.steps c.pass.new.steps (2 * (c.min-to.result - c.args.place)) old.cost.0 now.counts);
+    }

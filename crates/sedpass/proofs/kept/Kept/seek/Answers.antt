@@ -24,9 +24,8 @@ passed c =
 counts : (c : After-seek_in-found) → TakesAtLeast c.args.steps.now c.seek_in-found.new.steps (c.seek_in-found.result - c.args.from)
 counts c =
     let before = c.loop-place.invariant in
-    let after = c.seek_in-found.ensures.after in
     least_both _ c.loop-place.steps _ _ (c.seek_in-found.result - c.loop-place.place) _ before.counts
-    (least_since _ c.ready-to.new.steps _ _ c.ready-to.ensures.cost.0 c.seek_in-found.ensures.counts) (omega (arith, before.above, after))
+    (least_since _ c.ready-to.new.steps _ _ c.ready-to.ensures.cost.0 c.seek_in-found.ensures.counts) (omega (arith, before.above, c.seek_in-found.ensures.after))
 
 pub loop-place-init : goal.loop-place-init
 loop-place-init c = record {
@@ -64,32 +63,28 @@ loop-place-preserved c =
       counts = subst (λ y. TakesAtLeast c.args.steps.now c.seek_in-found.new.steps (y - c.args.from)) at (counts here);
     }
 
-pub returns-then-found-to-clause-passed : goal.returns-then-found-to-clause-passed
-returns-then-found-to-clause-passed c = passed (goal.at.returns-then-found-to-clause-passed c).After-seek_in-found
-
-pub returns-then-found-to-clause-found : goal.returns-then-found-to-clause-found
-returns-then-found-to-clause-found c below =
-    let nodes = c.args.subject.prepared.now.arena.expr.nodes in
+pub returns-then-found-to : goal.returns-then-found-to
+returns-then-found-to c =
     let w = c.args.subject.text.now in
-    let is = c.ready-to.ensures.to.0 in
-    told_as (λ r t. IsTrue c.args.marked ↔ ReachesEnd nodes w r t c.args.x c.seek_in-found.result) _ w c.args.table.now c.ready-to.new.table c.args.self.now c.ready-to.new.self
-    (keeps (goal.at.returns-then-found-to-clause-found c).After-seek_in-found) (c.seek_in-found.ensures.found (let h = c.if-found-to.true in omega (arith, h, is)))
-
-pub returns-then-found-to-clause-cost : goal.returns-then-found-to-clause-cost
-returns-then-found-to-clause-cost c =
     let m = length c.args.subject.prepared.now.arena.expr.nodes in
     let before = c.loop-place.invariant in
     let ready = c.ready-to.ensures in
     let seek = c.seek_in-found.ensures in
-    let found = c.seek_in-found.result in (
-      (let h = before.cost.0 in let g = ready.cost.0 in let f = seek.cost.0 in omega (arith, h, g, f)),
-      seek_at (owed m c.args.self.now.region c.args.from) (owed m c.loop-place.self.region c.loop-place.place) (owed m c.ready-to.new.self.region c.loop-place.place)
-          (owed m c.ready-to.new.self.region found) c.loop-place.steps c.args.steps.now c.ready-to.new.steps c.seek_in-found.new.steps c.args.from c.loop-place.place found
-          before.cost.1 ready.cost.1 seek.cost.1 (owed_falls m c.ready-to.new.self.region c.loop-place.place found seek.after) seek.after,
-    )
-
-pub returns-then-found-to-clause-counts : goal.returns-then-found-to-clause-counts
-returns-then-found-to-clause-counts c = counts (goal.at.returns-then-found-to-clause-counts c).After-seek_in-found
-
-pub returns-then-found-to-clause-keeps : goal.returns-then-found-to-clause-keeps
-returns-then-found-to-clause-keeps c = keeps (goal.at.returns-then-found-to-clause-keeps c).After-seek_in-found
+    let found = c.seek_in-found.result in
+    let here = (goal.at.returns-then-found-to c).After-seek_in-found in
+    let kept = keeps here in
+    record {
+      keeps = kept;
+      after = omega (arith, before.above, seek.after);
+      within = omega (arith, seek.within, ready.keeps.kept.region.within, kept.same.end);
+      passed = passed here;
+      found = λ below. told_as (λ r t. IsTrue c.args.marked ↔ ReachesEnd c.args.subject.prepared.now.arena.expr.nodes w r t c.args.x found) _ w c.args.table.now c.ready-to.new.table c.args.self.now c.ready-to.new.self
+          kept (seek.found (let h = c.if-found-to.true in omega (arith, h, ready.to.0)));
+      cost = (
+        (let h = before.cost.0 in let g = ready.cost.0 in let f = seek.cost.0 in omega (arith, h, g, f)),
+        seek_at (owed m c.args.self.now.region c.args.from) (owed m c.loop-place.self.region c.loop-place.place) (owed m c.ready-to.new.self.region c.loop-place.place)
+            (owed m c.ready-to.new.self.region found) c.loop-place.steps c.args.steps.now c.ready-to.new.steps c.seek_in-found.new.steps c.args.from c.loop-place.place found
+            before.cost.1 ready.cost.1 seek.cost.1 (owed_falls m c.ready-to.new.self.region c.loop-place.place found seek.after) seek.after,
+      );
+      counts = counts here;
+    }

@@ -16,11 +16,8 @@ loop-place-init c = record {
 
 pub get-requires : goal.get-requires
 get-requires c =
-    let above = c.loop-place.invariant.above in
-    let from = c.requires.from in
-    let row = kept_row c.args.subject.prepared.now c.args.subject.text.now c.args.table.now c.args.self.now c.loop-place.place c.index.result.now c.requires.kept (omega (arith, above, from)) c.loop-place-test.true c.index.ensures in
-    let x = c.requires.x in
-    record { row = row.0; inside = omega (arith, row.1, x) }
+    let row = kept_row c.args.subject.prepared.now c.args.subject.text.now c.args.table.now c.args.self.now c.loop-place.place c.index.result.now c.requires.kept (omega (arith, c.loop-place.invariant.above, c.requires.from)) c.loop-place-test.true c.index.ensures in
+    record { row = row.0; inside = omega (arith, row.1, c.requires.x) }
 
 pub returns-then-get-marked-clause-found : goal.returns-then-get-marked-clause-found
 returns-then-get-marked-clause-found c before =
@@ -28,10 +25,8 @@ returns-then-get-marked-clause-found c before =
     let w = c.args.subject.text.now in
     let t = c.args.table.now in
     let k = c.args.self.now in
-    let above = c.loop-place.invariant.above in
-    let from = c.requires.from in
     as_asked (ReachesEnd p.arena.expr.nodes w k.region.root (ends_told t.way.all_starts (length w) k.region.end) c.args.x c.loop-place.place) c.get.result c.args.marked c.if-get-marked.true
-    (kept_mark p w t k c.args.x c.loop-place.place c.index.result.now c.get.result c.requires.kept c.requires.x (omega (arith, above, from)) before c.index.ensures c.get.ensures.mark)
+    (kept_mark p w t k c.args.x c.loop-place.place c.index.result.now c.get.result c.requires.kept c.requires.x (omega (arith, c.loop-place.invariant.above, c.requires.from)) before c.index.ensures c.get.ensures.mark)
 
 pub returns-then-get-marked-clause-counts : goal.returns-then-get-marked-clause-counts
 returns-then-get-marked-clause-counts c = least_up _ c.loop-place.steps _ _ c.loop-place.invariant.counts c.get.ensures.cost.0
@@ -44,11 +39,10 @@ loop-place-preserved c =
     let k = c.args.self.now in
     let old = c.loop-place.invariant in
     let above = old.above in
-    let from = c.requires.from in
     let before = c.loop-place-test.true in
     let here : IsTrue (not c.args.marked) ↔ ReachesEnd p.arena.expr.nodes w k.region.root (ends_told t.way.all_starts (length w) k.region.end) c.args.x c.loop-place.place =
     not_asked (ReachesEnd p.arena.expr.nodes w k.region.root (ends_told t.way.all_starts (length w) k.region.end) c.args.x c.loop-place.place) c.get.result c.args.marked c.if-get-marked.false
-    (kept_mark p w t k c.args.x c.loop-place.place c.index.result.now c.get.result c.requires.kept c.requires.x (omega (arith, above, from)) before c.index.ensures c.get.ensures.mark) in
+    (kept_mark p w t k c.args.x c.loop-place.place c.index.result.now c.get.result c.requires.kept c.requires.x (omega (arith, above, c.requires.from)) before c.index.ensures c.get.ensures.mark) in
     record {
       above = omega (arith, above);
       below = omega (arith, before);
@@ -59,5 +53,4 @@ loop-place-preserved c =
 
 pub returns-clause-passed : goal.returns-clause-passed
 returns-clause-passed c q after before =
-    let h = c.loop-place-test.false in
-    c.loop-place.invariant.passed q after (omega (arith, before, h))
+    c.loop-place.invariant.passed q after (omega (arith, before, c.loop-place-test.false))

@@ -5,7 +5,6 @@ use Rattle.sedpass.proofs.nodes.Prepared.fit.Goals as goal
 pub invariant_of-self : goal.invariant_of-self
 invariant_of-self c =
     let e = c.args.expr.now in
-    let told = c.fill.new.facts.items in
     let all = c.fill.ensures.all in
     let root = c.index-self.ensures in
     let last = c.root.ensures.last in
@@ -15,6 +14,6 @@ invariant_of-self c =
         all = all;
         facts = c.fill.ensures.facts;
         classes = c.classes_of-self.ensures e.nodes c.sets.ensures;
-        anywhere = λ none. told_anywhere e.nodes told all c.fill.ensures.facts (c.has_anchor-self.ensures none);
+        anywhere = λ none. told_anywhere e.nodes c.fill.new.facts.items all c.fill.ensures.facts (c.has_anchor-self.ensures none);
       });
     }

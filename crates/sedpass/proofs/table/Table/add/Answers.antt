@@ -12,26 +12,41 @@ overflow_shl-offset c = omega (arith, c.requires.table.layout.small)
 pub overflow_shl-size : goal.overflow_shl-size
 overflow_shl-size c = omega (arith, c.requires.table.layout.small)
 
-pub empty_cells-requires-clause-there : goal.empty_cells-requires-clause-there
-empty_cells-requires-clause-there c =
-    let T = c.args.self.now in
-    let t = c.requires.table in
-    omega (arith, shifted T.count T.room T.layout.shift c.requires.room t.room.rows.few t.layout.small, t.room.cells)
+pub store-requires : goal.store-requires
+store-requires c =
+    let room = c.requires.table.room in
+    let nodes = c.nodes-nodes.ensures in
+    record { row = omega (arith, c.requires.room, room.rows.leaves); inside = omega (arith, nodes.value, room.marks, room.rows.leaf_marks c.args.self.now.count c.requires.room); there = omega (arith, nodes.value, nodes.few) }
 
-pub empty_cells-requires-clause-room : goal.empty_cells-requires-clause-room
-empty_cells-requires-clause-room c =
+pub store-requires-2 : goal.store-requires-2
+store-requires-2 c =
+    let room = c.requires.table.room in
+    let nodes = c.nodes-nodes.ensures in
+    record { row = omega (arith, c.requires.room, room.rows.ends); inside = omega (arith, nodes.value, room.marks, room.rows.end_marks c.args.self.now.count c.requires.room); there = omega (arith, nodes.value, nodes.few) }
+
+pub index_mut-requires : goal.index_mut-requires
+index_mut-requires c = omega (arith, c.requires.room, c.requires.table.room.rows.roots, c.args.self.now.roots.ok)
+
+pub index_mut-requires-2 : goal.index_mut-requires-2
+index_mut-requires-2 c = omega (arith, c.requires.room, c.requires.table.room.rows.flags, c.args.self.now.flags.ok)
+
+pub get-requires : goal.get-requires
+get-requires c = record { inside = omega (arith, c.requires.root, c.nodes-nodes.ensures.few) }
+
+pub is_clear-requires : goal.is_clear-requires
+is_clear-requires c = record { inside = omega (arith, c.nodes-nodes.ensures.value, c.nodes-nodes.ensures.few) }
+
+pub overflow_cast-state : goal.overflow_cast-state
+overflow_cast-state c = omega (arith, c.requires.room, c.requires.table.room.rows.few)
+
+pub empty_cells-requires : goal.empty_cells-requires
+empty_cells-requires c =
     let T = c.args.self.now in
     let t = c.requires.table in
     let place = shifted T.count T.room T.layout.shift c.requires.room t.room.rows.few t.layout.small in
     let up : T.count + 1 ≤ T.room = omega (arith, c.requires.room) in
-    let all = mul-le-mul_left (2 ^ T.layout.shift) up in
-    omega (arith, place, all, t.room.reserved, t.room.capacity, one_shifted T.layout.shift t.layout.small)
-
-pub empty_cells-requires-clause-fits : goal.empty_cells-requires-clause-fits
-empty_cells-requires-clause-fits c =
-    let T = c.args.self.now in
-    let t = c.requires.table in
-    omega (arith, t.layout.fits, one_shifted T.layout.shift t.layout.small)
+    let size = one_shifted T.layout.shift t.layout.small in
+    record { there = omega (arith, place, t.room.cells); room = omega (arith, place, mul-le-mul_left (2 ^ T.layout.shift) up, t.room.reserved, t.room.capacity, size); fits = omega (arith, t.layout.fits, size) }
 
 pub code_of-requires : goal.code_of-requires
 code_of-requires c =

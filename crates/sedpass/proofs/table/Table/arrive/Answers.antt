@@ -1,14 +1,11 @@
-use Rattle.std.proofs.Common.{◌*◌, ◌/◌, ◌^◌, ◌<◌, ◌∙◌, false, length, ap, inl, inr, arith, slice_index_or}
+use Rattle.std.proofs.Common.{◌/◌, ◌^◌, ◌<◌, ◌∙◌, false, length, ap, inl, inr, arith, slice_index_or}
 use Rattle.sedpass.proofs.Words.{option_or, get_or_default}
-use Rattle.sedpass.specs.Table.{state_of, stops}
-use Rattle.sedpass.proofs.TableLemmas.{code_some, names_offset}
+use Rattle.sedpass.proofs.TableLemmas.{names_offset, names_some}
 use Rattle.sedpass.proofs.ForwardLemmas.{arrive_plain, arrive_low}
 use Rattle.sedpass.proofs.table.Table.arrive.Goals as goal
 
 pub offset_of-offset-requires : goal.offset_of-offset-requires
-offset_of-offset-requires c =
-    let T = c.args.self.now in
-    code_some (stops T.way (state_of (length c.args.prepared.now.arena.expr.nodes) T c.requires.code.to).flags) (c.requires.code.to * 2 ^ T.layout.shift) c.args.code c.requires.code.code
+offset_of-offset-requires c = names_some c.args.prepared.now c.args.self.now _ c.args.code c.requires.code
 
 pub index-flags-requires : goal.index-flags-requires
 index-flags-requires c =

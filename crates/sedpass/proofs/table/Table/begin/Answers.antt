@@ -15,9 +15,8 @@ returns-then-self-lt-LAST_EPOCHS-clause-codes c =
     let code = c.intern-code.result in
     let root = c.args.root in
     let kind = c.args.kind in
-    let at = c.beginning_at-at.result in
     let fresh : Beginning = record { epoch = S.epoch; code = code } in
-    let N : Table = record S { beginnings = with_item S.beginnings at fresh } in
+    let N : Table = record S { beginnings = with_item S.beginnings c.beginning_at-at.result fresh } in
     let same : AddsStates m S N = adds_same m S N (refl, refl, refl, refl, refl) refl refl (λ x. refl) in
     let begins = names_first p S T.way root code kind c.first.new.work.leaves c.first.new.work.ends codes.names c.first.ensures.first in
     let begins_now : Names m S (BeginsIn (nodes_of S.way p.arena.expr) S.way root kind) code = subst (λ (w : Way). Names m S (BeginsIn (nodes_of w p.arena.expr) w root kind) code) (sym codes.adds.shape.0) begins in

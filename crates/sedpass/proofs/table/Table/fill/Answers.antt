@@ -3,14 +3,39 @@ use Rattle.sedpass.proofs.Words.{with_item, TakesAtLeast, Takes, Table, least_co
 use Rattle.sedpass.specs.Rows.{nodes_of}
 use Rattle.sedpass.specs.Table.{AddsStates, IsNext, IsOffset, LeadsOn, Names}
 use Rattle.sedpass.proofs.TableLemmas.{adds_same, adds_then, cell_there, names_anywhere, names_leads, names_more, names_moved, note_cell, offset_more, root_read}
-use Rattle.sedpass.proofs.table.Table.fill.Goals.{After-intern-next, In-Some}
+use Rattle.sedpass.proofs.table.Table.fill.Goals.{After-index-root, After-intern-next, In-Some}
 use Rattle.sedpass.proofs.table.Table.fill.Goals as goal
 
-pub intern-next-requires-clause-root : goal.intern-next-requires-clause-root
-intern-next-requires-clause-root c =
+pub state_at-state-requires : goal.state_at-state-requires
+state_at-state-requires c = c.requires.table.layout.small
+
+pub index-root-requires : goal.index-root-requires
+index-root-requires c =
+    let room = c.requires.table.room in
+    omega (arith, c.state_at-state.ensures, c.requires.offset.0, room.count, room.rows.roots)
+
+pub load-requires : goal.load-requires
+load-requires c =
+    let room = c.requires.table.room in
+    let there : c.state_at-state.result < c.args.self.now.room = omega (arith, c.state_at-state.ensures, c.requires.offset.0, room.count) in
+    record {
+      row = omega (arith, there, room.rows.leaves);
+      inside = omega (arith, c.nodes.ensures.value, room.marks, room.rows.leaf_marks c.state_at-state.result there);
+      there = omega (arith, c.nodes.ensures.value, c.nodes.ensures.few);
+    }
+
+-- the root is a node
+root_there : (c : After-index-root) → c.index-root.result.now < length c.args.prepared.now.arena.expr.nodes
+root_there c =
     let t = c.args.self.now in
     let is = root_read c.args.prepared.now t c.requires.table c.args.offset c.state_at-state.result c.index-root.result.now c.requires.offset c.state_at-state.ensures c.index-root.ensures in
     omega (arith, is, c.requires.table.roots (c.args.offset / 2 ^ t.layout.shift) c.requires.offset.0)
+
+pub step-requires : goal.step-requires
+step-requires c = record { root = root_there (goal.at.step-requires c).After-index-root }
+
+pub intern-next-requires : goal.intern-next-requires
+intern-next-requires c = record { table = c.requires.table; root = root_there (goal.at.intern-next-requires c).After-index-root }
 
 cost : (c : After-intern-next) → Takes c.args.steps.now c.intern-next.new.steps (33 * length c.args.prepared.now.arena.expr.nodes)
 cost c =
@@ -19,12 +44,6 @@ cost c =
     let next = c.intern-next.ensures.cost in
     (omega (arith, load.0, step.0, next.0), omega (arith, c.requires.table.expr.arena.nonempty, c.nodes.ensures.value, load.1, step.1, next.1))
 
-pub returns-in-Some-clause-cost : goal.returns-in-Some-clause-cost
-returns-in-Some-clause-cost c = cost (goal.at.returns-in-Some-clause-cost c).After-intern-next
-
-pub returns-else-self-epoch-clause-cost : goal.returns-else-self-epoch-clause-cost
-returns-else-self-epoch-clause-cost c = cost (goal.at.returns-else-self-epoch-clause-cost c).After-intern-next
-
 -- the next state is the one that the byte leads to
 leads : (c : After-intern-next) → Names (length c.args.prepared.now.arena.expr.nodes) c.intern-next.new.self (IsNext c.args.prepared.now c.args.self.now c.args.offset c.args.byte c.args.edge) c.intern-next.result
 leads c = names_leads c.args.prepared.now c.args.self.now c.intern-next.new.self c.requires.table c.args.offset c.requires.offset c.state_at-state.result c.nodes.result c.index-root.result.now c.args.byte c.intern-next.result
@@ -32,10 +51,7 @@ leads c = names_leads c.args.prepared.now c.args.self.now c.intern-next.new.self
 
 counts : (c : After-intern-next) → TakesAtLeast c.args.steps.now c.intern-next.new.steps (length c.args.prepared.now.arena.expr.nodes)
 counts c =
-    let stepped = c.step.ensures.cost in
-    let interned = c.intern-next.ensures.cost in
-    let nodes = c.nodes.ensures.value in
-    least_up c.args.steps.now c.load.new.steps c.intern-next.new.steps _ (least_counted c.args.steps.now c.load.new.steps c.nodes.result _ c.load.ensures.counts (omega (arith, nodes))) (omega (arith, stepped, interned))
+    least_up c.args.steps.now c.load.new.steps c.intern-next.new.steps _ (least_counted c.args.steps.now c.load.new.steps c.nodes.result _ c.load.ensures.counts (omega (arith, c.nodes.ensures.value))) (omega (arith, c.step.ensures.cost, c.intern-next.ensures.cost))
 
 -- its cell is there
 there : (c : In-Some) → c.args.offset + c.in-Some.column < length c.intern-next.new.self.cells.items
@@ -50,8 +66,8 @@ overflow_add-offset c = omega (arith, there (goal.at.overflow_add-offset c).In-S
 pub index_mut-requires : goal.index_mut-requires
 index_mut-requires c = omega (arith, there (goal.at.index_mut-requires c).In-Some, c.intern-next.new.self.cells.ok)
 
-pub returns-in-Some-clause-codes : goal.returns-in-Some-clause-codes
-returns-in-Some-clause-codes c =
+pub returns-in-Some : goal.returns-in-Some
+returns-in-Some c =
     let p = c.args.prepared.now in
     let m = length p.arena.expr.nodes in
     let T = c.args.self.now in
@@ -65,24 +81,24 @@ returns-in-Some-clause-codes c =
     let N : Table = record S { cells = with_item S.cells (offset + column) next } in
     let same : AddsStates m S N = adds_same m S N (refl, refl, refl, refl, refl) refl refl (λ x. refl) in
     let at : IsOffset S offset = offset_more p T S codes.adds epoch offset c.requires.offset in
-    let here = leads (goal.at.returns-in-Some-clause-codes c).After-intern-next in
+    let after = (goal.at.returns-in-Some c).After-intern-next in
+    let here = leads after in
     record {
-      table = note_cell p S codes.table offset column next byte c.args.edge at (omega arith) c.in-Some.ensures
-          (names_moved p T S codes.adds epoch (λ w a b. LeadsOn (nodes_of w p.arena.expr) w a byte c.args.edge b) offset next c.requires.offset.0 here)
-          (λ none. names_moved p T S codes.adds epoch (λ w a b. (end : Bool) → LeadsOn (nodes_of w p.arena.expr) w a byte end b) offset next c.requires.offset.0
-          (names_anywhere p T S c.requires.table offset c.requires.offset c.state_at-state.result c.nodes.result c.index-root.result.now byte next c.load.new.marks c.step.new.work c.state_at-state.ensures c.nodes.ensures.value
-          c.index-root.ensures c.load.ensures.same codes.names (c.step.ensures.anywhere none)));
-      adds = adds_then m T S N codes.adds same refl refl;
-      names = names_more p S N same refl (IsNext p T offset byte c.args.edge) next here;
+      codes = record {
+        table = note_cell p S codes.table offset column next byte c.args.edge at (omega arith) c.in-Some.ensures
+            (names_moved p T S codes.adds epoch (λ w a b. LeadsOn (nodes_of w p.arena.expr) w a byte c.args.edge b) offset next c.requires.offset.0 here)
+            (λ none. names_moved p T S codes.adds epoch (λ w a b. (end : Bool) → LeadsOn (nodes_of w p.arena.expr) w a byte end b) offset next c.requires.offset.0
+            (names_anywhere p T S c.requires.table offset c.requires.offset c.state_at-state.result c.nodes.result c.index-root.result.now byte next c.load.new.marks c.step.new.work c.state_at-state.ensures c.nodes.ensures.value
+            c.index-root.ensures c.load.ensures.same codes.names (c.step.ensures.anywhere none)));
+        adds = adds_then m T S N codes.adds same refl refl;
+        names = names_more p S N same refl (IsNext p T offset byte c.args.edge) next here;
+      };
+      cost = cost after;
+      counts = counts after;
     }
 
-pub returns-else-self-epoch-clause-codes : goal.returns-else-self-epoch-clause-codes
-returns-else-self-epoch-clause-codes c =
+pub returns-else-self-epoch : goal.returns-else-self-epoch
+returns-else-self-epoch c =
     let codes = c.intern-next.ensures.codes in
-    record { table = codes.table; adds = codes.adds; names = leads (goal.at.returns-else-self-epoch-clause-codes c).After-intern-next }
-
-pub returns-in-Some-clause-counts : goal.returns-in-Some-clause-counts
-returns-in-Some-clause-counts c = counts (goal.at.returns-in-Some-clause-counts c).After-intern-next
-
-pub returns-else-self-epoch-clause-counts : goal.returns-else-self-epoch-clause-counts
-returns-else-self-epoch-clause-counts c = counts (goal.at.returns-else-self-epoch-clause-counts c).After-intern-next
+    let after = (goal.at.returns-else-self-epoch c).After-intern-next in
+    record { codes = record { table = codes.table; adds = codes.adds; names = leads after }; cost = cost after; counts = counts after }

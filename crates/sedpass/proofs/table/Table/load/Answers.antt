@@ -19,7 +19,6 @@ returns-clause-codes c =
 
 pub returns-clause-counts : goal.returns-clause-counts
 returns-clause-counts c =
-    let m = length c.args.prepared.now.arena.expr.nodes in
     let n = c.nodes-nodes.result in
     let twice = least_counted c.args.steps.now c.load-2.new.steps (2 * n) (2 * n) (counted_twice c.args.steps.now c.load.new.steps c.load-2.new.steps n n n refl refl c.load.ensures.counts c.load-2.ensures.counts) (omega arith) in
-    least_up c.args.steps.now c.load-2.new.steps c.intern.new.steps (2 * m) (subst (λ x. TakesAtLeast c.args.steps.now c.load-2.new.steps (2 * x)) c.nodes-nodes.ensures.value twice) c.intern.ensures.cost.0
+    least_up c.args.steps.now c.load-2.new.steps c.intern.new.steps (2 * (length c.args.prepared.now.arena.expr.nodes)) (subst (λ x. TakesAtLeast c.args.steps.now c.load-2.new.steps (2 * x)) c.nodes-nodes.ensures.value twice) c.intern.ensures.cost.0

@@ -1,4 +1,4 @@
-use Rattle.std.proofs.Common.{◌≡◌, ◌+◌, ◌-◌, ◌*◌, ◌∙◌, false, length, sym, ap, subst, inl, inr, arith}
+use Rattle.std.proofs.Common.{rules, ◌≡◌, ◌+◌, ◌-◌, ◌*◌, ◌∙◌, false, length, refl, sym, ap, subst, inl, inr, arith}
 use Rattle.sedpass.proofs.Words.{not-false, Way, least_less, least_both}
 use Rattle.sedpass.specs.Rows.{nodes_of}
 use Rattle.sedpass.specs.Table.{BeginsIn, Names}
@@ -37,39 +37,59 @@ pub loop-at-preserved : goal.loop-at-preserved
 loop-at-preserved c =
     let i = c.loop-at.invariant in
     let go = c.go_on-at.ensures in
-    let after = i.passes.after in
     let before = i.cost in
     let cost = go.cost in
-    let moved = go.after in
     record {
       table = go.table;
       shape = (go.shape.0 ∙ i.shape.0, go.shape.1 ∙ i.shape.1, go.shape.2 ∙ i.shape.2, go.shape.3 ∙ i.shape.3, go.shape.4 ∙ i.shape.4);
       offset = go.offset;
       passes = go.passes (subst (λ (x : Way). x.keeps ≡ false) (sym i.shape.0) c.requires.keeps) c.args.from i.passes;
       cost = (omega (arith, before.0, cost), omega (arith, before.1, cost));
-      counts = least_both c.args.steps.now c.loop-at.steps c.go_on-at.new.steps (2 * (c.loop-at.at.place - c.args.from) + 1) (2 * (c.go_on-at.result.place - c.loop-at.at.place)) (2 * (c.go_on-at.result.place - c.args.from) + 1) i.counts go.counts (omega (arith, after, moved));
+      counts = least_both c.args.steps.now c.loop-at.steps c.go_on-at.new.steps (2 * (c.loop-at.at.place - c.args.from) + 1) (2 * (c.go_on-at.result.place - c.loop-at.at.place)) (2 * (c.go_on-at.result.place - c.args.from) + 1) i.counts go.counts (omega (arith, i.passes.after, go.after));
     }
 
-pub returns-else-at-len-clause-longest : goal.returns-else-at-len-clause-longest
-returns-else-at-len-clause-longest c single = let i = c.loop-at.invariant in run_longest c.args.prepared.now c.args.self.now.way c.loop-at.self c.args.text.now c.args.from c.loop-at.at i.shape.0 c.requires.forwards c.requires.from i.passes (inr (omega (arith, c.if-at-len.false, c.len-in-loop-at.ensures.is))) single
+pub first-code-requires : goal.first-code-requires
+first-code-requires c = record { table = c.requires.table; root = (omega (arith, c.args.prepared.now.is_prepared.last), λ _. refl) }
 
-pub returns-else-at-len-clause-found : goal.returns-else-at-len-clause-found
-returns-else-at-len-clause-found c all_starts = let i = c.loop-at.invariant in run_found c.args.prepared.now c.args.self.now.way c.loop-at.self c.args.text.now c.args.from c.loop-at.at i.shape.0 c.requires.forwards c.requires.from i.passes (inr (omega (arith, c.if-at-len.false, c.len-in-loop-at.ensures.is))) all_starts
+pub go_on-at-requires : goal.go_on-at-requires
+go_on-at-requires c = let i = c.loop-at.invariant in record { table = i.table; offset = i.offset; over = search rules; inside = omega (arith, c.if-at-len.true, c.len-in-loop-at.ensures.is) }
 
-pub returns-else-at-len-clause-reached : goal.returns-else-at-len-clause-reached
-returns-else-at-len-clause-reached c = end_below _ _ _ _ c.loop-at.at.place c.loop-at.at.end c.loop-at.invariant.passes.last
+pub returns-else-at-len : goal.returns-else-at-len
+returns-else-at-len c =
+    let p = c.args.prepared.now in
+    let w = c.args.text.now in
+    let i = c.loop-at.invariant in
+    let at = c.loop-at.at in
+    let way = c.args.self.now.way in
+    record {
+      table = i.table;
+      shape = i.shape;
+      after = i.passes.after;
+      within = i.passes.within;
+      reached = end_below _ _ _ _ at.place at.end i.passes.last;
+      longest = λ single. run_longest p way c.loop-at.self w c.args.from at i.shape.0 c.requires.forwards c.requires.from i.passes (inr (omega (arith, c.if-at-len.false, c.len-in-loop-at.ensures.is))) single;
+      found = λ all_starts. run_found p way c.loop-at.self w c.args.from at i.shape.0 c.requires.forwards c.requires.from i.passes (inr (omega (arith, c.if-at-len.false, c.len-in-loop-at.ensures.is))) all_starts;
+      passes = run_passes p way c.loop-at.self w c.args.from at i.shape.0 c.requires.forwards c.requires.from i.passes (inr (omega (arith, c.if-at-len.false, c.len-in-loop-at.ensures.is))) c.args.steps.now c.loop-at.steps i.counts;
+      cost = i.cost;
+      counts = i.counts;
+    }
 
-pub returns-else-at-len-clause-passes : goal.returns-else-at-len-clause-passes
-returns-else-at-len-clause-passes c = let i = c.loop-at.invariant in run_passes c.args.prepared.now c.args.self.now.way c.loop-at.self c.args.text.now c.args.from c.loop-at.at i.shape.0 c.requires.forwards c.requires.from i.passes (inr (omega (arith, c.if-at-len.false, c.len-in-loop-at.ensures.is))) c.args.steps.now c.loop-at.steps i.counts
-
-pub returns-after-loop-at-clause-longest : goal.returns-after-loop-at-clause-longest
-returns-after-loop-at-clause-longest c single = let i = c.loop-at.invariant in run_longest c.args.prepared.now c.args.self.now.way c.loop-at.self c.args.text.now c.args.from c.loop-at.at i.shape.0 c.requires.forwards c.requires.from i.passes (inl (not-false c.loop-at.at.over c.loop-at-test.false)) single
-
-pub returns-after-loop-at-clause-found : goal.returns-after-loop-at-clause-found
-returns-after-loop-at-clause-found c all_starts = let i = c.loop-at.invariant in run_found c.args.prepared.now c.args.self.now.way c.loop-at.self c.args.text.now c.args.from c.loop-at.at i.shape.0 c.requires.forwards c.requires.from i.passes (inl (not-false c.loop-at.at.over c.loop-at-test.false)) all_starts
-
-pub returns-after-loop-at-clause-reached : goal.returns-after-loop-at-clause-reached
-returns-after-loop-at-clause-reached c = end_below _ _ _ _ c.loop-at.at.place c.loop-at.at.end c.loop-at.invariant.passes.last
-
-pub returns-after-loop-at-clause-passes : goal.returns-after-loop-at-clause-passes
-returns-after-loop-at-clause-passes c = let i = c.loop-at.invariant in run_passes c.args.prepared.now c.args.self.now.way c.loop-at.self c.args.text.now c.args.from c.loop-at.at i.shape.0 c.requires.forwards c.requires.from i.passes (inl (not-false c.loop-at.at.over c.loop-at-test.false)) c.args.steps.now c.loop-at.steps i.counts
+pub returns-after-loop-at : goal.returns-after-loop-at
+returns-after-loop-at c =
+    let p = c.args.prepared.now in
+    let w = c.args.text.now in
+    let i = c.loop-at.invariant in
+    let at = c.loop-at.at in
+    let way = c.args.self.now.way in
+    record {
+      table = i.table;
+      shape = i.shape;
+      after = i.passes.after;
+      within = i.passes.within;
+      reached = end_below _ _ _ _ at.place at.end i.passes.last;
+      longest = λ single. run_longest p way c.loop-at.self w c.args.from at i.shape.0 c.requires.forwards c.requires.from i.passes (inl (not-false c.loop-at.at.over c.loop-at-test.false)) single;
+      found = λ all_starts. run_found p way c.loop-at.self w c.args.from at i.shape.0 c.requires.forwards c.requires.from i.passes (inl (not-false c.loop-at.at.over c.loop-at-test.false)) all_starts;
+      passes = run_passes p way c.loop-at.self w c.args.from at i.shape.0 c.requires.forwards c.requires.from i.passes (inl (not-false c.loop-at.at.over c.loop-at-test.false)) c.args.steps.now c.loop-at.steps i.counts;
+      cost = i.cost;
+      counts = i.counts;
+    }
