@@ -1,102 +1,53 @@
 -- What commands do are moves.
-use Rattle.std.proofs.Common.{◌≡◌, ℕ, ◌<◌, ◌≤◌, Bool, true, false, cond, List, [], ◌∷◌, ◌++◌, length, map, Option, Some, None, Result, Ok, Err, refl, subst, sym, ap, ◌∙◌, arith, length-append}
+use Rattle.std.proofs.Common.{◌≡◌, ℕ, ◌+◌, ◌<◌, Bool, true, false, cond, List, [], ◌∷◌, length, Option, Some, None, Result, Ok, Err, refl, subst, ap, ◌∙◌, arith}
+use Rattle.std.specs.Borrow.{GName}
 use Rattle.std.specs.Prelude.{slice_get, slice_set, option_and_then}
-use Rattle.std.proofs.lemmas.List.{length-map}
 use Rattle.sedscript.specs.Program.{Program}
 use Rattle.sedscript.specs.declared.types.Command.{Command}
 use Rattle.sedscript.specs.declared.types.Action.{Action}
 use Rattle.sedscript.specs.declared.types.Action.TheVariants.{Block}
 use Rattle.sedspace.specs.Stream.{Stream, left, lines_left}
 use Rattle.sedspace.specs.Lines.{TakesAtMost}
-use Rattle.sedengine.specs.State.{Limits, Entry, Task, do_at, State, Move, Setting}
+use Rattle.sedengine.specs.State.{Limits, do_at, State, Move, Setting}
 use Rattle.sedengine.specs.Select.{Selection, selects}
-use Rattle.sedengine.specs.Move.{next_move, reach, acts, passes, writing, quietly, then_do, none_left, in_table, writes_text_at}
+use Rattle.sedengine.specs.Move.{next_move, reach, acts, passes, none_left, writes_text_at}
 use Rattle.sedengine.specs.Ends.{WithinLimits, reads, asks_last, is_next}
 use Rattle.sedengine.specs.Meters.{SinkView}
-use Rattle.sedengine.specs.Calls.{Puts}
 use Rattle.sedengine.specs.Run.{RunState, at_lines, run_setting}
-use Rattle.sedengine.specs.Choose.{performs, Judges, as_selection, reached_with, current_in, is_active, names_last}
-use Rattle.sedengine.specs.Queueing.{queueing, QueuesOrFull, queued_more}
-use Rattle.sedengine.specs.Steps.{reaches, ReachesCommand, HasAction, Moves, MakesMove, PerformsSteps, Steps, TakesLines}
-use Rattle.sedengine.specs.Inside.{run_of, entry_by, entry_for, holds, CommandHolds, FillsHold, IsConsistent}
+use Rattle.sedengine.specs.Choose.{passed_over, performs, Judges, as_selection, reached_with, current_in, is_active, names_last}
+use Rattle.sedengine.specs.Steps.{ActsHere, ActsLines, reaches, ReachesCommand, HasAction, PerformsSteps, Ran, Steps, TakesLines}
+use Rattle.sedengine.specs.Inside.{run_of, entry_by, entry_for, holds, queues, CommandHolds, CommandQueues, FillsHold, IsConsistent}
 use Rattle.sedengine.specs.declared.machine.Machine.TheInside.{Inside}
 use Rattle.sedengine.specs.declared.select.Chosen.{Chosen}
 use Rattle.sedengine.specs.declared.ends.Ended.{Ended}
-use Rattle.sedengine.specs.declared.ends.Ended.TheVariants.{QueueFull, TurnsSpent, NoPrevious, InputBroken}
-use Rattle.sedengine.proofs.Streams.{LosesPart-none, LosesPartAfter-none, lines_same}
-use Rattle.sedengine.proofs.Moves.{move_at, ran_quietly, stopped_here, moves_writing}
+use Rattle.sedengine.specs.declared.ends.Ended.TheVariants.{TurnsSpent, NoPrevious, InputBroken}
+use Rattle.sedengine.proofs.Streams.{LosesPart-none, lines_same}
+use Rattle.sedengine.proofs.Leaving.{leaves_unread}
+use Rattle.sedengine.proofs.Moves.{move_at, ran_quietly}
 use Rattle.sedengine.proofs.NextLines.{looked_moves, looked_then, none_taken}
 use Rattle.sedengine.proofs.Choices.{or_left, or_right}
 use Rattle.sedengine.proofs.Tasks.{fits_of, halts_here, reach_spent, steps_by_moves}
 use Rattle.std.specs.Option.{option_map_or}
 
--- what a command that takes no line does leaves the lines
-pub acts_here : {R : Type 0} (remaining : R → Option (List ℕ)) (old : Stream R) (ls : List (List ℕ)) (l : Limits) (g : Setting) (o : Option Move) (asks : Bool) (e e' : RunState) (sinks sinks' : SinkView) (r : Result Unit Ended) → lines_left remaining old ≡ Some ls →
-    MakesMove l g o (at_lines e ls) (at_lines e' ls) sinks sinks' r → PerformsSteps remaining old old ls l g o asks (at_lines e ls) e' sinks sinks' r
-acts_here {R} remaining old ls l g o asks e e' sinks sinks' r known h = λ s c asked first. looked_moves remaining old old ls l g s e' sinks sinks' r (lines_same remaining old ls known) c.lines (h s c first)
+module _ {R O T : Type 0} {remaining : R → Option (List ℕ)} {failures : R → ℕ} {reference : R → List GName} {tally : O → SinkView} {count : O → ℕ} {text : T → ℕ → Option (List ℕ)} {e e' : RunState} {o o' : O} {t t' : T} {r : Result Unit Ended} where
+  -- what a command that takes no line does leaves the lines
+  pub acts_here : {made : Setting → State → Option Move} {l : Stream R} (asks : Bool) → ActsHere tally count text made e e' o o' t t' r → ActsLines remaining failures reference tally count text made asks e e' l l o o' t t' r
+  acts_here {made} {l} asks h = record {
+    acts = λ sound ls known files told s c asked first. looked_moves remaining l l ls e.limits (run_setting e files) s e' (tally o) (tally o') r (lines_same remaining l ls known) c.lines (h.acts files told ls s c first);
+    falls = h.falls;
+    leaves = leaves_unread h.leaves;
+  }
 
--- the engine that goes on with these tasks
-abbrev pub going : RunState → List Task → RunState
-going e ts = record e { state = record e.state { tasks = ts } }
+  -- what is known of a command by another name
+  pub lines_by : (made : Action → Setting → State → Option Move) {a b : Action} {l l' : Stream R} → a ≡ b →
+      ActsLines remaining failures reference tally count text (made b) (is_next b) e e' l l' o o' t t' r → ActsLines remaining failures reference tally count text (made a) (is_next a) e e' l l' o o' t t' r
+  lines_by made is h = rw is h
 
--- the engine after a `t` that goes to the target, or doesn't
-abbrev pub tested : RunState → ℕ → Bool → RunState
-tested e target goes = record e { state = cond goes (record e.state { tasks = do_at target ∷ []; replaced = false }) e.state }
-
--- the engine whose pattern space was replaced by a table
-abbrev pub translated : RunState → Option (List ℕ) → RunState
-translated e table = record e { state = record e.state { pattern = map (in_table table) e.state.pattern } }
-
--- A command of an engine within its limits.
-module _ (e : RunState) (ls : List (List ℕ)) (fits : WithinLimits e.limits (at_lines e ls)) (g : Setting) (old new : SinkView) (o : Option Move) where
-  -- one that writes alone
-  pub acts_writing : (out : List (ℕ × ℕ)) (r : Result Unit Ended) → o ≡ writing out (at_lines e ls) → Puts old new out r → MakesMove e.limits g o (at_lines e ls) (at_lines e ls) old new r
-  acts_writing out r is put = λ s c first. moves_writing e.limits g s (at_lines e ls) old new out r c.fits (first ∙ is) fits c.lines put
-
-  -- one that leads to another engine and writes nothing
-  pub acts_leading : (made e' : RunState) → e' ≡ made → WithinLimits e.limits (at_lines made ls) → o ≡ quietly (at_lines made ls) → MakesMove e.limits g o (at_lines e ls) (at_lines e' ls) old old (Ok tt)
-  acts_leading made e' same there is =
-      rw same (λ s c first. ran_quietly e.limits g s (at_lines made ls) old c.fits (first ∙ is) there)
-
-  -- one that does nothing
-  pub acts_nothing : o ≡ quietly (at_lines e ls) → MakesMove e.limits g o (at_lines e ls) (at_lines e ls) old old (Ok tt)
-  acts_nothing is = acts_leading e e refl fits is
-
-  -- one that goes on elsewhere
-  pub acts_going : (ts : List Task) (e' : RunState) → e' ≡ going e ts → o ≡ quietly (then_do ts (at_lines e ls)) → MakesMove e.limits g o (at_lines e ls) (at_lines e' ls) old old (Ok tt)
-  acts_going ts e' same is = acts_leading (going e ts) e' same (record { pattern = fits.pattern; hold = fits.hold; queue = fits.queue; turns = fits.turns }) is
-
-  -- `t`
-  pub acts_testing : (target : ℕ) (e' : RunState) → e' ≡ tested e target e.state.replaced → o ≡ quietly (cond e.state.replaced (then_do (do_at target ∷ []) (record (at_lines e ls) { replaced = false })) (at_lines e ls)) →
-      MakesMove e.limits g o (at_lines e ls) (at_lines e' ls) old old (Ok tt)
-  acts_testing target e' same is = leads e.state.replaced same is
-    where
-      leads : (b : Bool) → e' ≡ tested e target b → o ≡ quietly (cond b (then_do (do_at target ∷ []) (record (at_lines e ls) { replaced = false })) (at_lines e ls)) →
-          MakesMove e.limits g o (at_lines e ls) (at_lines e' ls) old old (Ok tt)
-      leads true same is = acts_leading (tested e target true) e' same (record { pattern = fits.pattern; hold = fits.hold; queue = fits.queue; turns = fits.turns }) is
-      leads false same is = acts_leading e e' same fits is
-
-  -- `y`
-  pub acts_translating : (table : Option (List ℕ)) (e' : RunState) → e' ≡ translated e table → o ≡ quietly (record (at_lines e ls) { pattern = map (in_table table) e.state.pattern }) →
-      MakesMove e.limits g o (at_lines e ls) (at_lines e' ls) old old (Ok tt)
-  acts_translating table e' same is =
-      let long : length (map (in_table table) e.state.pattern) ≡ length e.state.pattern = length-map e.state.pattern (in_table table) in
-      acts_leading (translated e table) e' same (record { pattern = rw long fits.pattern; hold = fits.hold; queue = fits.queue; turns = fits.turns }) is
-
-  -- `a` and `r`: an entry is put into the queue, or there is no room for it
-  pub acts_queueing : (entry : Entry) (e' : RunState) (r : Result Unit Ended) → o ≡ quietly (queueing entry (at_lines e ls)) → QueuesOrFull e e' entry r → MakesMove e.limits g o (at_lines e ls) (at_lines e' ls) old old r
-  acts_queueing entry e' (Ok u) is (same, room) =
-      let more : length (e.state.queue ++ entry ∷ []) ≤ e.limits.queue = omega (arith, length-append e.state.queue (entry ∷ [])) in
-      acts_leading (queued_more e entry) e' same (record { pattern = fits.pattern; hold = fits.hold; queue = more; turns = fits.turns }) is
-  acts_queueing entry e' (Err (QueueFull n)) is (same, number, full) =
-      let more : e.limits.queue < length (e.state.queue ++ entry ∷ []) = omega (arith, length-append e.state.queue (entry ∷ [])) in
-      rw same (λ s c first. stopped_here e.limits g s (at_lines e ls) old (QueueFull n) c.fits refl (number ∙ sym c.number, c.turn, (_, first ∙ is, more)) c.same c.lines)
-  acts_queueing entry e' (Err other) is h = absurd h
-
--- what no `{` does that doesn't apply
-pub passes_other : (s : State) (action : Action) → ((next : ℕ) → action ≡ Block next → ⊥) → passes s action ≡ quietly s
-passes_other s (Block next) h = absurd (h next refl)
-passes_other s other h = refl
+-- an engine passes over a command
+passes_on : (l : Limits) (g : Setting) (s : State) (e : RunState) (ls : List (List ℕ)) (action : Action) (sinks : SinkView) → WithinLimits l s → WithinLimits l (at_lines e ls) → next_move g s ≡ passes (at_lines e ls) action →
+    Ran l g s (at_lines (passed_over e action) ls) sinks sinks
+passes_on l g s e ls (Block next) sinks f f' first = ran_quietly l g s (at_lines (passed_over e (Block next)) ls) sinks f first (record { pattern = f'.pattern; hold = f'.hold; queue = f'.queue; turns = f'.turns })
+passes_on l g s e ls other sinks f f' first = ran_quietly l g s (at_lines e ls) sinks f first f'
 
 -- a turn is left
 pub turn_left : (a : Inside) (e : RunState) → run_of a ≡ e → IsConsistent a → (a.turns ≡ a.limits.turns → ⊥) → e.state.turns < e.limits.turns
@@ -104,6 +55,13 @@ turn_left a e seen i more =
     let most = i.turns in
     let less : a.turns < a.limits.turns = omega arith in
     rw (← seen) less
+
+-- where a command was reached there are fewer lines than turns
+pub reached_number : (a : Inside) (e e1 : RunState) (k : ℕ) (ranges : List Bool) (used : Option ℕ) → run_of a ≡ e → IsConsistent a → e1 ≡ reached_with e k ranges used → e1.state.number < e1.state.turns
+reached_number a e e1 k ranges used seen i came =
+    let low = i.number in
+    let fewer : a.number < a.turns + 1 = omega arith in
+    rw came (rw (← seen) fewer)
 
 -- the command of the script as it is seen
 pub command_seen : (a : Inside) (e : RunState) (k : ℕ) (c : Command) → run_of a ≡ e → slice_get a.script.commands k ≡ Some c → slice_get e.script.commands k ≡ Some c
@@ -151,10 +109,6 @@ module _ {R : Type 0} (remaining : R → Option (List ℕ)) (old new : Stream R)
     moves_as b chosen = reach_as (Some (as_selection choice used)) chose ∙
         ap (λ b. cond b (acts (run_setting e files) (at_lines (reached_with e k (slice_set e.state.ranges k choice.active) used) ls) (writes_text_at c choice.end) c.action) (passes (at_lines (reached_with e k (slice_set e.state.ranges k choice.active) used) ls) c.action)) chosen
 
-    acted : (sinks sinks' : SinkView) (r : Result Unit Ended) → Moves e.limits (run_setting e files) (at_lines e ls) (at_lines e2 ls) sinks sinks' r → Steps remaining old new ls e.limits (run_setting e files) e e2 sinks sinks' r
-    acted sinks sinks' (Ok u) h = (ls, taken, h)
-    acted sinks sinks' (Err end) h = record { rest = ls; stopped = h; lines = []; are = refl; bytes = LosesPartAfter-none _ _ _ (LosesPart-none _ _ _ bytes_stay) }
-
     -- the command is reached in the state in which it acts
     here_reaches : ReachesCommand e.limits (run_setting e files) (at_lines e ls) (at_lines (reached_with e k (slice_set e.state.ranges k choice.active) used) ls)
     here_reaches = record {
@@ -177,17 +131,26 @@ module _ {R : Type 0} (remaining : R → Option (List ℕ)) (old new : Stream R)
         looked_then remaining old new to ls e.limits (run_setting e files) (at_lines e ls) e2 sinks sinks' r taken (there (at_lines e ls) here_reaches (λ asks. ap (reads (run_setting e files)) t ∙ ap (λ o. option_map_or asks_last o false) (command_seen a e k c seen is) ∙ or_right (names_last c) (is_next c.action) asks) (moves_as true chosen))
 
     -- it doesn't
-    pub reach_passing : (sinks : SinkView) → choice.yes ≡ false →
-        MakesMove e1.limits (run_setting e1 files) (passes (at_lines e1 ls) c.action) (at_lines e1 ls) (at_lines e2 ls) sinks sinks (Ok tt) → Steps remaining old new ls e.limits (run_setting e files) e e2 sinks sinks (Ok tt)
-    reach_passing sinks passed h =
-        let Q : RunState → Type 0 = λ e1. MakesMove e1.limits (run_setting e1 files) (passes (at_lines e1 ls) c.action) (at_lines e1 ls) (at_lines e2 ls) sinks sinks (Ok tt) in
-        let there = subst Q came h in
-        acted sinks sinks (Ok tt) (there (at_lines e ls) here_reaches (moves_as false passed))
+    pub reach_passing : (sinks : SinkView) → choice.yes ≡ false → e2 ≡ passed_over e1 c.action → Steps remaining old new ls e.limits (run_setting e files) e e2 sinks sinks (Ok tt)
+    reach_passing sinks not_yes goes =
+        let now : RunState = reached_with e k (slice_set e.state.ranges k choice.active) used in
+        let less = turn_left a e seen i more in
+        let f = here in
+        rw (goes, came) (ls, taken, passes_on e.limits (run_setting e files) (at_lines e ls) now ls c.action sinks f (record { pattern = f.pattern; hold = f.hold; queue = f.queue; turns = omega arith }) (moves_as false not_yes))
 
 -- the entry of a command that has this action
 pub entry_is : (texts : List (List ℕ)) (o : Option Command) (action : Action) → HasAction o action → entry_by texts o ≡ entry_for texts action
 entry_is texts None action h = absurd h
 entry_is texts (Some c) action h = ap (entry_for texts) h
+
+-- a command that has this action puts an entry into the queue
+pub queues_action : (o : Option Command) (action : Action) → HasAction o action → queues action ≡ true → CommandQueues o
+queues_action None action h is = absurd h
+queues_action (Some c) action h is = ap queues h ∙ is
+
+-- there is a sink
+pub some_sink : {m n : ℕ} → m < n → 0 < n
+some_sink h = omega arith
 
 -- a command that has this action puts something into the hold space
 pub fills : (p : Program) (k : ℕ) (action : Action) → HasAction (slice_get p.commands k) action → holds action ≡ true → FillsHold p

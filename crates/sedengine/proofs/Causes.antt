@@ -5,7 +5,12 @@ use Rattle.std.specs.Prelude.{if◌then◌else◌, is_some, slice_get, slice_ind
 use Rattle.std.specs.Option.{option_and_then}
 use Rattle.std.specs.List.{list_any}
 use Rattle.sedspace.specs.Lines.{is_newline}
-use Rattle.sedengine.specs.Types.{Command, Action, Block, Branch, File, Plain, Substitute, Text, Change, DeleteFirst, NextLine, IfReplaced, Read, Substitution, Ended, Done, PatternFull, HoldFull, QueueFull, TurnsSpent, NoPrevious, InputBroken}
+use Rattle.sedengine.specs.Types.{Command, Action, Substitution, Ended, Done, PatternFull, HoldFull, QueueFull, TurnsSpent, NoPrevious, InputBroken}
+use Rattle.sedscript.specs.declared.types.Action.TheVariants.{Block, Branch, File, Plain, Substitute, Text}
+use Rattle.sedscript.specs.declared.types.TextUse.TheVariants.{Change}
+use Rattle.sedscript.specs.declared.types.BranchUse.TheVariants.{IfReplaced}
+use Rattle.sedscript.specs.declared.types.FileUse.TheVariants.{Read}
+use Rattle.sedscript.specs.declared.types.Simple.TheVariants as simple
 use Rattle.sedengine.specs.State.{Limits, Entry, text, file, Task, begin, do_at, flush, copy, fetch, join, State, Move, Setting}
 use Rattle.sedengine.specs.Select.{selects, stands_for}
 use Rattle.sedengine.specs.Substitute.{Occurrence, occurrences, to_replace}
@@ -45,8 +50,8 @@ substitutes_has g s (Some t) =
 acts_has : (g : Setting) (s : State) (w : Bool) (a : Action) → Has s.number s.turns (acts g s w a)
 acts_has g s w (Text Change k) = (refl, refl)
 acts_has g s w (Branch IfReplaced target) = either_state s.number s.turns _ _ s.replaced (refl, refl) (refl, refl)
-acts_has g s w (Plain DeleteFirst) = either_state s.number s.turns _ _ (list_any is_newline s.pattern) (refl, refl) (refl, refl)
-acts_has g s w (Plain NextLine) = either_state s.number s.turns _ _ (none_left s.lines) (refl, refl) (refl, refl)
+acts_has g s w (Plain simple.DeleteFirst) = either_state s.number s.turns _ _ (list_any is_newline s.pattern) (refl, refl) (refl, refl)
+acts_has g s w (Plain simple.NextLine) = either_state s.number s.turns _ _ (none_left s.lines) (refl, refl) (refl, refl)
 acts_has g s w (File Read k) = (refl, refl)
 acts_has g s w (Substitute k) = substitutes_has g s (slice_get g.substitutions k)
 acts_has g s w other = (refl, refl)

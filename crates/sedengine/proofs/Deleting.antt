@@ -1,5 +1,5 @@
 -- The pattern space is deleted, or its first line, and a cycle starts.
-use Rattle.std.proofs.Common.{◌≡◌, ℕ, zero, suc, Bool, true, false, cond, List, [], ◌∷◌, length, Option, Some, Result, Err, refl, subst, ap, ◌∙◌, arith}
+use Rattle.std.proofs.Common.{◌≡◌, ℕ, zero, suc, Bool, true, false, cond, List, [], ◌∷◌, ◌+◌, ◌≤◌, length, Option, Some, Result, Ok, Err, refl, subst, ap, ◌∙◌, arith}
 use Rattle.std.specs.Prelude.{slice_get, ◌||◌}
 use Rattle.std.specs.Option.{unwrap_or}
 use Rattle.std.specs.List.{Contains, after_first, list_any}
@@ -8,17 +8,18 @@ use Rattle.sedscript.specs.declared.types.Simple.TheVariants.{Delete, DeleteFirs
 use Rattle.sedscript.specs.declared.types.TextUse.TheVariants.{Change}
 use Rattle.sedspace.specs.Spaces.{Contents}
 use Rattle.sedspace.specs.Lines.{HasNoNewline, is_newline}
-use Rattle.sedengine.specs.State.{begin, rebegin, flush, State, Move}
+use Rattle.sedengine.specs.State.{begin, rebegin, flush, State, Move, Setting, TellsFiles}
 use Rattle.sedengine.specs.Move.{acts, line_to, quietly, then_do, writing}
 use Rattle.sedengine.specs.Ends.{WithinLimits}
 use Rattle.sedengine.specs.Meters.{Sent, SinkView}
-use Rattle.sedengine.specs.Calls.{Puts}
+use Rattle.sedengine.specs.Calls.{Delivers, Puts}
 use Rattle.sedengine.specs.Run.{RunState, at_lines, run_setting}
-use Rattle.sedengine.specs.Steps.{Moves, MakesMove}
+use Rattle.sedengine.specs.Steps.{ActsHere, LeavesGiven, Moves, MakesMove, weight}
 use Rattle.sedengine.specs.Inside.{run_of, tasks_of, IsConsistent}
 use Rattle.sedengine.specs.declared.machine.Machine.TheInside.{Inside}
 use Rattle.sedengine.specs.declared.next_step.NextStep.{NextStep}
 use Rattle.sedengine.specs.declared.ends.Ended.{Ended}
+use Rattle.sedengine.proofs.Leaving.{falls_seen, leaves_after, leaves_seen}
 use Rattle.sedengine.proofs.Moves.{moves_fits}
 use Rattle.sedengine.proofs.Tasks.{fits_of}
 use Rattle.sedengine.proofs.Ending.{acts_then, acts_stopping}
@@ -47,6 +48,18 @@ deletes a e e2 files ls o next_step c1 old mid new out r seen is gained h =
     let Q : RunState → Type 0 = λ e. o ≡ writing out (then_do (flush ∷ tasks_of next_step) (at_lines (with_pattern e c1.bytes) ls)) → MakesMove e.limits (run_setting e files) o (at_lines e ls) (at_lines e2 ls) old new r in
     let m : State = then_do (flush ∷ tasks_of next_step) (at_lines (run_of (record a { pattern = c1 })) ls) in
     subst Q seen (λ is. acts_then a.limits (run_setting (run_of a) files) o (at_lines (run_of a) ls) m (at_lines e2 ls) old mid new out r is (moves_fits a.limits (run_setting (run_of a) files) m (at_lines e2 ls) mid new r h) gained refl h) is
+
+-- The same with what the call that ends the cycle says of its weight, and of how it leaves what it was given.
+pub acts_deleting : {O T : Type 0} {tally : O → SinkView} {count : O → ℕ} {text : T → ℕ → Option (List ℕ)} {made : Setting → State → Option Move} {o o1 o2 : O} {t t2 : T} (a : Inside) (e e2 : RunState) (next_step : NextStep) (c1 : Contents) (out : List (ℕ × ℕ)) (r : Result Unit Ended) →
+    run_of a ≡ e → ((files : ℕ → List ℕ) (ls : List (List ℕ)) → made (run_setting e files) (at_lines e ls) ≡ writing out (then_do (flush ∷ tasks_of next_step) (at_lines (with_pattern e c1.bytes) ls))) →
+    Sent (tally o) (tally o1) out → Delivers tally count o o1 (Ok tt) →
+    ((files : ℕ → List ℕ) → TellsFiles (text t) files → (ls : List (List ℕ)) → Moves a.limits (run_setting (run_of a) files) (then_do (flush ∷ tasks_of next_step) (at_lines (run_of (record a { pattern = c1 })) ls)) (at_lines e2 ls) (tally o1) (tally o2) r) →
+    weight e2 ≤ weight (run_of (record a { pattern = c1 })) + 8 → LeavesGiven tally count text (run_of (record a { pattern = c1 })) e2 o1 o2 t t2 r → ActsHere tally count text made e e2 o o2 t t2 r
+acts_deleting a e e2 next_step c1 out r seen is gained first moves falls leaves = record {
+  acts = λ files told ls. deletes a e e2 files ls _ next_step c1 _ _ _ out r seen (is files ls) gained (moves files told ls);
+  falls = falls_seen a e (run_of (record a { pattern = c1 })) e2 seen refl falls;
+  leaves = leaves_seen a e (run_of (record a { pattern = c1 })) seen refl refl (leaves_after first leaves);
+}
 
 -- The text of `c` can't be written.
 pub change_stops : (a : Inside) (e : RunState) (files : ℕ → List ℕ) (ls : List (List ℕ)) (o : Option Move) (c1 : Contents) (old new : SinkView) (out : List (ℕ × ℕ)) (end : Ended) → run_of a ≡ e → IsConsistent a → c1.bytes ≡ [] →

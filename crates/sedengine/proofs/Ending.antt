@@ -164,6 +164,10 @@ weight_ended e e' next_step limits later tasks =
     let same = ap (λ (l : Limits). l.turns) limits in
     omega arith
 
+-- the engine goes on at this place
+pub falls_going : (a : Inside) (e : RunState) (next_step : NextStep) → run_of a ≡ e → weight (run_of (record a { next_step = next_step })) ≤ weight e + 8
+falls_going a e next_step seen = rw (← seen) (weight_ended (run_of a) (run_of (record a { next_step = next_step })) next_step refl (omega arith) refl)
+
 -- a command that queues is one of the engine's script
 pub queues_seen : (a : Inside) (e : RunState) (k : ℕ) → run_of a ≡ e → CommandQueues (slice_get e.script.commands k) → CommandQueues (slice_get a.script.commands k)
 queues_seen a e k seen h = rw (← seen) at h

@@ -1,32 +1,32 @@
 -- How calls that follow one another leave what they were given.
-use Rattle.std.proofs.Common.{◌≡◌, ℕ, ◌+◌, ◌≤◌, ◌<◌, Bool, true, false, List, [], ◌∷◌, Option, Result, Ok, Err, refl, ap, arith}
+use Rattle.std.proofs.Common.{◌≡◌, ℕ, ◌+◌, ◌≤◌, ◌<◌, Bool, List, [], ◌∷◌, Option, Result, Ok, Err, refl, ap, arith}
 use Rattle.std.specs.Borrow.{GName}
 use Rattle.std.proofs.KnownBytes.{Keeps-refl, Keeps-trans}
 use Rattle.sedspace.specs.Stream.{Stream}
 use Rattle.std.specs.Prelude.{OnOk}
-use Rattle.sedengine.specs.State.{Entry, do_at}
-use Rattle.sedengine.specs.Choose.{reached_with}
+use Rattle.sedengine.specs.State.{do_at, State}
+use Rattle.sedengine.specs.SubstituteCalls.{same_but_replaced}
+use Rattle.sedscript.specs.declared.types.Action.{Action}
+use Rattle.sedscript.specs.declared.types.Action.TheVariants.{Block}
+use Rattle.sedengine.specs.Choose.{passed_over, reached_with}
 use Rattle.sedengine.specs.Calls.{Delivers, NamesNone, Puts, ReadsLines}
 use Rattle.sedengine.specs.Meters.{SinkView}
 use Rattle.sedengine.specs.Run.{SameRun, RunState}
-use Rattle.sedengine.specs.Holding.{BecomesOrFull}
 use Rattle.sedengine.specs.Bringing.{brought}
 use Rattle.sedengine.specs.Inside.{run_of}
-use Rattle.sedengine.specs.Queueing.{QueuesOrFull, flushed, with_turns}
+use Rattle.sedengine.specs.Queueing.{flushed, with_turns}
 use Rattle.sedengine.specs.Steps.{LeavesGiven, LeavesLines, costs, weight}
 use Rattle.sedspace.specs.declared.lines.Got.{Got}
 use Rattle.sedspace.specs.declared.lines.Got.TheVariants.{End, Line}
 use Rattle.sedengine.specs.declared.ends.Ended.{Ended}
 use Rattle.sedengine.specs.declared.machine.Machine.TheInside.{Inside}
-use Rattle.sedengine.specs.declared.ends.Ended.TheVariants.{HoldFull, InputBroken, PatternFull, QueueFull}
-use Rattle.sedengine.proofs.Acts.{tested}
-use Rattle.sedengine.proofs.Holding.{holding}
+use Rattle.sedengine.specs.declared.ends.Ended.TheVariants.{InputBroken}
 use Rattle.sedengine.proofs.Runs.{SameRun-then, same_seen}
 use Rattle.sedengine.proofs.Streams.{ReadsLines-none, ReadsLines-then, ReadsLines-unread}
 use Rattle.sedengine.proofs.Writing.{Delivers-none, Delivers-quiet, Delivers-then}
 
 -- a call that wrote names no source
-puts_unread : (old new : SinkView) (out : List (ℕ × ℕ)) (r : Result Unit Ended) → Puts old new out r → r ≡ Err InputBroken → ⊥
+pub puts_unread : (old new : SinkView) (out : List (ℕ × ℕ)) (r : Result Unit Ended) → Puts old new out r → r ≡ Err InputBroken → ⊥
 puts_unread old new out (Ok u) h is = cc
 puts_unread old new out (Err InputBroken) h is = let named = h.3 in cc
 puts_unread old new out (Err other) h is = cc
@@ -59,10 +59,6 @@ module _ {O T : Type 0} {tally : O → SinkView} {count : O → ℕ} {text : T �
   pub leaves_quiet : {e e' : RunState} {o : O} {t : T} {r : Result Unit Ended} → NamesNone r → SameRun e e' → LeavesGiven tally count text e e' o o t t r
   leaves_quiet h same = record { devices = record { output = Delivers-quiet _ _ _ _ h.output; input = h.input }; same = same; kept = λ j. Keeps-refl _ }
 
-  -- one that cannot fail
-  pub leaves_made : {e e' : RunState} {o : O} {t : T} → SameRun e e' → LeavesGiven tally count text e e' o o t t (Ok tt)
-  leaves_made same = leaves_quiet (record { output = tt; input = λ is. cc }) same
-
   -- one that ends the run where it stands
   pub leaves_stopped : {e : RunState} {o : O} {t : T} {end : Ended} → NamesNone {T = Unit {0}} (Err end) → LeavesGiven tally count text e e o o t t (Err end)
   leaves_stopped h = leaves_quiet h (record { script = refl; limits = refl })
@@ -79,41 +75,9 @@ module _ {O T : Type 0} {tally : O → SinkView} {count : O → ℕ} {text : T �
   pub leaves_after : {e e' : RunState} {o1 o2 o3 : O} {t t' : T} {r : Result Unit Ended} → Delivers tally count o1 o2 (Ok tt) → LeavesGiven tally count text e e' o2 o3 t t' r → LeavesGiven tally count text e e' o1 o3 t t' r
   leaves_after first h = record { devices = record { output = Delivers-then _ _ _ _ _ _ first h.devices.output; input = h.devices.input }; same = h.same; kept = h.kept }
 
--- what an entry of the queue changes
-queued : (e e' : RunState) (entry : Entry) (r : Result Unit Ended) → QueuesOrFull e e' entry r → NamesNone r × SameRun e e' × (weight e' ≤ weight e + 8)
-queued e e' entry (Ok u) (same, room) = rw same (record { output = tt; input = λ is. cc }, record { script = refl; limits = refl }, omega arith)
-queued e e' entry (Err (QueueFull n)) (same, number, full) = rw same (record { output = tt; input = λ is. cc }, record { script = refl; limits = refl }, omega arith)
-queued e e' entry (Err other) h = absurd h
-
--- what new contents of the spaces change
-grown : (e e' : RunState) (pattern hold : List ℕ) (r : Result Unit Ended) → BecomesOrFull e (holding e pattern hold) e' r → NamesNone r × SameRun e e' × (weight e' ≤ weight e + 8)
-grown e e' pattern hold (Ok u) (same, short, short') = rw same (record { output = tt; input = λ is. cc }, record { script = refl; limits = refl }, omega arith)
-grown e e' pattern hold (Err (PatternFull n)) (same, number, more) = rw same (record { output = tt; input = λ is. cc }, record { script = refl; limits = refl }, omega arith)
-grown e e' pattern hold (Err (HoldFull n)) (same, number, more) = rw same (record { output = tt; input = λ is. cc }, record { script = refl; limits = refl }, omega arith)
-grown e e' pattern hold (Err other) h = absurd h
-
--- Commands that end in no line: how they leave what they were given, and what they weigh after.
-module _ {O T : Type 0} {tally : O → SinkView} {count : O → ℕ} {text : T → ℕ → Option (List ℕ)} {o : O} {t : T} where
-  pub leaves_queued : (e e' : RunState) (entry : Entry) (r : Result Unit Ended) → QueuesOrFull e e' entry r → LeavesGiven tally count text e e' o o t t r
-  leaves_queued e e' entry r h = let w = queued e e' entry r h in leaves_quiet w.0 w.1
-
-  pub leaves_grown : (e e' : RunState) (pattern hold : List ℕ) (r : Result Unit Ended) → BecomesOrFull e (holding e pattern hold) e' r → LeavesGiven tally count text e e' o o t t r
-  leaves_grown e e' pattern hold r h = let w = grown e e' pattern hold r h in leaves_quiet w.0 w.1
-
-pub falls_queued : (e e' : RunState) (entry : Entry) (r : Result Unit Ended) → QueuesOrFull e e' entry r → weight e' ≤ weight e + 8
-falls_queued e e' entry r h = (queued e e' entry r h).2
-
-pub falls_grown : (e e' : RunState) (pattern hold : List ℕ) (r : Result Unit Ended) → BecomesOrFull e (holding e pattern hold) e' r → weight e' ≤ weight e + 8
-falls_grown e e' pattern hold r h = (grown e e' pattern hold r h).2
-
 -- a command that goes on where it stands
 pub falls_none : {n : ℕ} → n ≤ n + 8
 falls_none = omega arith
-
--- `t`
-pub falls_tested : (e : RunState) (target : ℕ) (b : Bool) → weight (tested e target b) ≤ weight e + 8
-falls_tested e target true = omega arith
-falls_tested e target false = omega arith
 
 -- a command was reached, which takes a turn, and acted
 pub falls_reached : (e e1 e2 : RunState) (k : ℕ) (ranges : List Bool) (used : Option ℕ) (r : Result Unit Ended) → e1 ≡ reached_with e k ranges used → e.state.tasks ≡ do_at k ∷ [] → e.state.turns < e.limits.turns → weight e2 ≤ weight e1 + 8 → OnOk r (weight e2 < weight e)
@@ -125,6 +89,22 @@ falls_reached e e1 e2 k ranges used (Err end) came at more h = tt
 
 pub same_reached : (e e1 : RunState) (k : ℕ) (ranges : List Bool) (used : Option ℕ) → e1 ≡ reached_with e k ranges used → SameRun e e1
 same_reached e e1 k ranges used came = rw came (record { script = refl; limits = refl })
+
+-- a command was passed over
+pub falls_passed : (e e' : RunState) (action : Action) → e' ≡ passed_over e action → weight e' ≤ weight e + 8
+falls_passed e e' (Block next) is = rw is (omega arith)
+falls_passed e e' other is = rw is falls_none
+
+pub same_passed : (e e' : RunState) (action : Action) → e' ≡ passed_over e action → SameRun e e'
+same_passed e e' (Block next) is = rw is (record { script = refl; limits = refl })
+same_passed e e' other is = rw is (record { script = refl; limits = refl })
+
+-- a substitution replaced something, or nothing
+pub falls_replaced : (e e' : RunState) (s : State) → e' ≡ same_but_replaced e s → weight e' ≤ weight e
+falls_replaced e e' s is = rw is (omega arith)
+
+pub same_replaced : (e e' : RunState) (s : State) → e' ≡ same_but_replaced e s → SameRun e e'
+same_replaced e e' s is = rw is (record { script = refl; limits = refl })
 
 -- an engine that weighs as much as the one that the fields a stand for
 pub falls_seen : (a : Inside) (e e1 e' : RunState) → run_of a ≡ e → weight e1 ≡ weight (run_of a) → weight e' ≤ weight e1 + 8 → weight e' ≤ weight e + 8

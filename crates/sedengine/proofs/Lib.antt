@@ -25,7 +25,7 @@ pub mod Filling
 pub mod Tried
 pub mod Choices
 pub mod Acts
-pub mod Holding
+pub mod Acting
 pub mod Occurrences
 pub mod PieceLemmas
 pub mod Due

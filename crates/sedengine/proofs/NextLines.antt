@@ -1,8 +1,8 @@
 -- Further lines come within a cycle.
-use Rattle.std.proofs.Common.{◌≡◌, ℕ, ◌+◌, ◌<◌, ◌≤◌, Bool, true, false, List, [], ◌∷◌, ◌++◌, length, Option, Some, None, Result, Ok, Err, refl, subst, sym, ap, ◌∙◌, arith, length-append, append_assoc}
+use Rattle.std.proofs.Common.{◌≡◌, ℕ, ◌+◌, ◌<◌, ◌≤◌, Bool, true, false, List, [], ◌∷◌, ◌++◌, length, Option, Some, None, Result, Ok, Err, refl, subst, sym, ap, ◌∙◌, arith, length-append, append_assoc, ◌-◌}
 use Rattle.std.proofs.lemmas.Bool.{false≢true}
 use Rattle.sedspace.specs.Spaces.{Contents}
-use Rattle.sedspace.specs.Stream.{Stream, left, lines_left, GivesLine, LosesPart, NoLineLeft, TakesLine}
+use Rattle.sedspace.specs.Stream.{Stream, left, lines_left, FirstIsLonger, GivesLine, LosesPart, NoLineLeft, TakesLine}
 use Rattle.sedspace.specs.Lines.{TakesAtMost}
 use Rattle.sedspace.specs.declared.lines.Got.{Got}
 use Rattle.sedspace.specs.declared.lines.Got.TheVariants.{Line, End}
@@ -23,7 +23,7 @@ use Rattle.sedengine.specs.declared.machine.Machine.TheInside.{Inside}
 use Rattle.sedengine.proofs.Streams.{LosesPart-none, LosesPartAfter-none, LosesPartAfter-then, TakesLines-then, line_taken, lines_end}
 use Rattle.sedengine.specs.Queueing.{flushed}
 use Rattle.sedengine.proofs.Moves.{Moves-then, move_at, moves_fits, ran_fits, ran_quietly, stopped_here}
-use Rattle.sedengine.proofs.Tasks.{fits_of, fits_tasks, halts_here}
+use Rattle.sedengine.proofs.Tasks.{fits_of, fits_tasks, halts_here, longer}
 
 -- moves, and then a call that may take lines
 pub steps_then : {R : Type 0} (remaining : R → Option (List ℕ)) (o n : Stream R) (ls : List (List ℕ)) (l : Limits) (g : Setting) (s m : State) (e' : RunState) (old mid new : SinkView) (r : Result Unit Ended) →
@@ -171,6 +171,32 @@ brings_got {R} remaining old new ls number n s s' End known line fits end taken 
     let r = lines_end remaining old new n ls known taken none none' in
     (r.0, r.1, is)
 
+abbrev pub answered : Got → Result Got Ended
+answered got = Ok got
+
+-- what a call for a line, which answers got, leaves of a space
+module _ (s s' : Contents) (got : Got) (line : got ≡ Line → (l : List ℕ) × (s' ≡ record s { bytes = s.bytes ++ l })) (end : got ≡ End → s' ≡ s) where
+  pub got_limit : s'.limit ≡ s.limit
+  got_limit = by got refl
+    where
+      by : (g : Got) → got ≡ g → s'.limit ≡ s.limit
+      by Line is = ap (λ (c : Contents). c.limit) (line is).1
+      by End is = ap (λ (c : Contents). c.limit) (end is)
+
+  pub got_stays : (answered got ≡ Ok Line → ⊥) → s' ≡ s
+  got_stays other = by got refl
+    where
+      by : (g : Got) → got ≡ g → s' ≡ s
+      by Line is = absurd (other (ap answered is))
+      by End is = end is
+
+-- A line that is too long.
+pub brings_long : {R : Type 0} (remaining : R → Option (List ℕ)) (old new : Stream R) (ls : List (List ℕ)) (number : ℕ) (s s' : Contents) → lines_left remaining old ≡ Some ls → FirstIsLonger (lines_left remaining old) (s.limit - length s.bytes) →
+    (s' ≡ s) × LosesPart (left remaining old) (left remaining new) s.limit → Brings remaining old new ls s.bytes number s s' (Err (PatternFull number))
+brings_long {R} remaining old new ls number s s' known long stays =
+    let r = longer ls (subst (λ (o : Option (List (List ℕ))). FirstIsLonger o (s.limit - length s.bytes)) known long) in
+    (refl, (r.0, r.1, r.2, omega (arith, r.3, length-append s.bytes r.0)), stays.0, stays.1)
+
 -- Whether a line is left.
 pub none_is : (ls : List (List ℕ)) → none_left ls ≡ true → ls ≡ []
 none_is [] h = refl
@@ -238,9 +264,9 @@ next_broken {R} remaining o n ls g first e sinks other taken told = absurd told
 
 -- `n` where no line is left
 pub next_stops : {R : Type 0} (remaining : R → Option (List ℕ)) (o n : Stream R) (ls : List (List ℕ)) (files : ℕ → List ℕ) (a : Inside) (e : RunState) (sinks : SinkView) (last : Bool) → run_of a ≡ e → IsConsistent a → TakesLines remaining o n ls ls → last ≡ none_left ls → last ≡ true →
-    PerformsSteps remaining o n ls e.limits (run_setting e files) (next_line (at_lines e ls)) true (at_lines e ls) (run_of (record a { next_step = p.Quit })) sinks sinks (Ok tt)
+    PerformsSteps remaining o n ls e.limits (run_setting e files) (next_line (at_lines e ls)) true (at_lines e ls) (run_of (record a { next_step = p.WriteLast })) sinks sinks (Ok tt)
 next_stops {R} remaining o n ls files a e sinks last seen i taken told is =
     let e0 : RunState = run_of a in
     let now : State = then_do (print_pattern ∷ flush ∷ []) (at_lines e0 ls) in
-    rw (← seen) (λ s c asked first. looked_moves remaining o n ls a.limits (run_setting e0 files) s (run_of (record a { next_step = p.Quit })) sinks sinks (Ok tt) taken c.lines
+    rw (← seen) (λ s c asked first. looked_moves remaining o n ls a.limits (run_setting e0 files) s (run_of (record a { next_step = p.WriteLast })) sinks sinks (Ok tt) taken c.lines
     (ran_quietly a.limits (run_setting e0 files) s now sinks c.fits (first ∙ next_quits e0 e0 files ls last told is) (fits_tasks a.limits (at_lines e0 ls) (print_pattern ∷ flush ∷ []) (fits_of a ls i))))

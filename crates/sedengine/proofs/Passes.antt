@@ -23,7 +23,8 @@ use Rattle.sedengine.specs.Move.{newline, none_left, to_sink}
 use Rattle.sedengine.specs.Meters.{Sent, SinkView}
 use Rattle.sedengine.specs.Ends.{WithinLimits, named_sink}
 use Rattle.sedengine.specs.Calls.{ReadsLines}
-use Rattle.sedengine.specs.Run.{RunState, at_lines, run_setting, FailedSource}
+use Rattle.sedengine.specs.Steps.{weight}
+use Rattle.sedengine.specs.Run.{RunState, SameRun, at_lines, run_setting, FailedSource}
 use Rattle.sedengine.specs.Passing.{AllowsLines, BlockLeftAlone, BreaksOff, BreaksOffBy, ClearTo, IsClear, IsExtent, IsIdleOf, IsLineOf, PassesOver, RangesIdle, StepsPassing, WritesLines, bytes_of, counted_block, engine_after, judged, line_brought}
 use Rattle.sedengine.specs.Inside.{IsConsistent, entries_of, run_of}
 use Rattle.sedengine.specs.declared.block.Extent.{Extent}
@@ -432,3 +433,40 @@ reads_broken {R} remaining failures reference from to e e' done bytes end off na
     let x = off.0 in
     let size = ap length x.are in
     reads_ahead remaining failures reference from to x.rest (Err end) x.taken (omega (arith, size, length-append (take x.start from.ahead) (x.line ++ newline ∷ x.rest), length-append x.line (newline ∷ x.rest))) (no_input end names (Err end) refl)
+
+-- a block was counted
+pub counted_falls : (e e₁ e' : RunState) (b : IdleLines) → e' ≡ counted_block e₁ b → e₁ ≡ e → weight e' ≤ weight e
+counted_falls e e₁ e' b is same = rw (is, same) (omega arith)
+
+pub counted_same : (e e₁ e' : RunState) (b : IdleLines) → e' ≡ counted_block e₁ b → e₁ ≡ e → SameRun e e'
+counted_same e e₁ e' b is same = rw (is, same) (record { script = refl; limits = refl })
+
+pub brought_same : (e e₁ e' : RunState) (line : List ℕ) → e' ≡ line_brought e₁ line → e₁ ≡ e → SameRun e e'
+brought_same e e₁ e' line is same = rw (is, same) (record { script = refl; limits = refl })
+
+-- The places at which a line is cut out of what is ahead, which is known by another name.
+pub done_taken : (ahead all : List ℕ) (done bytes : ℕ) → ahead ≡ all → done < bytes → bytes ≤ length all → done ≡ length (take done ahead)
+done_taken ahead all done bytes same less within =
+    let size : length ahead ≡ length all = ap (λ (w : List ℕ). length w) same in
+    sym (length-take-le done ahead (omega arith))
+
+pub start_before : (ahead : List ℕ) (start done : ℕ) → start ≤ length (take done ahead) → start ≤ done
+start_before ahead start done low = omega (arith, length-take done ahead)
+
+pub start_low : (ahead : List ℕ) (start done bytes : ℕ) → start ≤ length (take done ahead) → done < bytes → start ≤ bytes
+start_low ahead start done bytes low less = let before = start_before ahead start done low in omega arith
+
+pub le_less : {a c : ℕ} (b : ℕ) → a ≤ b → b < c → a < c
+le_less b low less = omega arith
+
+pub within_seen : (ahead all : List ℕ) (n : ℕ) → ahead ≡ all → n ≤ length all → n ≤ length ahead
+within_seen ahead all n same within = let size : length ahead ≡ length all = ap (λ (w : List ℕ). length w) same in omega arith
+
+pub less_within : {a c : ℕ} (b : ℕ) → a < b → b ≤ c → a + 1 ≤ c
+less_within b less within = omega arith
+
+pub less_seen : (ahead all : List ℕ) (a b : ℕ) → ahead ≡ all → a < b → b ≤ length all → a < length ahead
+less_seen ahead all a b same less within = let size : length ahead ≡ length all = ap (λ (w : List ℕ). length w) same in omega arith
+
+pub add_less : (a b : ℕ) → (a + b) - a ≡ b
+add_less a b = omega arith

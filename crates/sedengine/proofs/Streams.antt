@@ -19,7 +19,7 @@ use Rattle.sedengine.specs.Run.{FailedSource}
 use Rattle.sedengine.specs.Ends.{LosesPartAfter, size_of}
 use Rattle.sedengine.specs.Steps.{TakesLines}
 use Rattle.sedengine.specs.declared.ends.Ended.{Ended}
-use Rattle.sedengine.specs.declared.ends.Ended.TheVariants.{InputBroken}
+use Rattle.sedengine.specs.declared.ends.Ended.TheVariants.{Done, InputBroken, PatternFull, TurnsSpent}
 
 -- there is no line only where there is no byte
 some_piece : (b : ℕ) (ps : List (List ℕ)) → 0 < length ps → without_empty_last (onto_first b ps) ≡ [] → ⊥
@@ -222,15 +222,15 @@ some_told (Some ms) ls last known told is =
 pub ReadsLines-told : {R T : Type 0} (remaining : R → Option (List ℕ)) (failures : R → ℕ) (reference : R → List GName) (a b : Stream R) (x : T) → ReadsLines remaining failures reference a b (Ok x) → ReadsLines {T = Unit} remaining failures reference a b (Ok tt)
 ReadsLines-told {R} {T} remaining failures reference a b x h = record { same_look = h.same_look; same_reference = h.same_reference; ahead = h.ahead; shrinks = h.shrinks; sound = h.sound; failed = h.failed; broken = λ is none. cc }
 
-pub ReadsLines-ended : {R T : Type 0} (remaining : R → Option (List ℕ)) (failures : R → ℕ) (reference : R → List GName) (a b : Stream R) (end : Ended) → ReadsLines {T = T} remaining failures reference a b (Err end) → ReadsLines {T = Unit} remaining failures reference a b (Err end)
-ReadsLines-ended {R} {T} remaining failures reference a b end h =
+pub ReadsLines-ended : {R T U : Type 0} (remaining : R → Option (List ℕ)) (failures : R → ℕ) (reference : R → List GName) (a b : Stream R) (end : Ended) → ReadsLines {T = T} remaining failures reference a b (Err end) → ReadsLines {T = U} remaining failures reference a b (Err end)
+ReadsLines-ended {R} {T} {U} remaining failures reference a b end h =
     record { same_look = h.same_look; same_reference = h.same_reference; ahead = h.ahead; shrinks = h.shrinks; sound = tt; failed = h.failed; broken = λ is none. h.broken (let same : end ≡ InputBroken = cc in ap Err same) none }
 
 -- the same of a call that writes nothing
 pub ReadsAlone-told : {R T : Type 0} {remaining : R → Option (List ℕ)} {failures : R → ℕ} {reference : R → List GName} {a b : Stream R} (x : T) → ReadsAlone remaining failures reference a b (Ok x) → ReadsAlone {T = Unit} remaining failures reference a b (Ok tt)
 ReadsAlone-told x h = record { input = ReadsLines-told _ _ _ _ _ x h.input; output = tt }
 
-pub ReadsAlone-ended : {R T : Type 0} {remaining : R → Option (List ℕ)} {failures : R → ℕ} {reference : R → List GName} {a b : Stream R} (end : Ended) → ReadsAlone {T = T} remaining failures reference a b (Err end) → ReadsAlone {T = Unit} remaining failures reference a b (Err end)
+pub ReadsAlone-ended : {R T U : Type 0} {remaining : R → Option (List ℕ)} {failures : R → ℕ} {reference : R → List GName} {a b : Stream R} (end : Ended) → ReadsAlone {T = T} remaining failures reference a b (Err end) → ReadsAlone {T = U} remaining failures reference a b (Err end)
 ReadsAlone-ended end h = record { input = ReadsLines-ended _ _ _ _ _ end h.input; output = h.output }
 
 -- where no byte is gone, no more than a part of a line is
@@ -289,6 +289,42 @@ named_none {T} n m (Err other) h same = same
 sound_ok : {T : Type 0} (r : Result T Ended) (P Q : Type 0) → Q → OnOk r (P → Q)
 sound_ok {T} (Ok x) P Q q = λ p. q
 sound_ok {T} (Err end) P Q q = tt
+
+-- answers that name no device
+pub names_ok : {T : Type 0} {x : T} → NamesNone {T = T} (Ok x)
+names_ok = record { output = tt; input = λ is. cc }
+
+pub names_spent : {T : Type 0} → NamesNone {T = T} (Err TurnsSpent)
+names_spent = record { output = tt; input = λ is. cc }
+
+pub names_done : {T : Type 0} → NamesNone {T = T} (Err Done)
+names_done = record { output = tt; input = λ is. cc }
+
+pub names_long : {T : Type 0} {n : ℕ} → NamesNone {T = T} (Err (PatternFull n))
+names_long = record { output = tt; input = λ is. cc }
+
+any_sound : {U : Type 0} (r : Result U Ended) (P : Type 0) → P → OnOk r P
+any_sound (Ok x) P p = p
+any_sound (Err end) P p = tt
+
+-- a call that was answered, and what is answered then, which names no device
+pub reads_on : {R T U : Type 0} {remaining : R → Option (List ℕ)} {failures : R → ℕ} {reference : R → List GName} {a b : Stream R} (x : T) (r : Result U Ended) → NamesNone r → ReadsAlone remaining failures reference a b (Ok x) → ReadsAlone {T = U} remaining failures reference a b r
+reads_on x r none h =
+    let i = h.input in
+    record {
+      input = record { same_look = i.same_look; same_reference = i.same_reference; ahead = i.ahead; shrinks = i.shrinks; sound = any_sound r _ i.sound; failed = λ sound. named_none _ _ r none (i.failed sound); broken = λ is sound. absurd (none.input is) };
+      output = none.output;
+    }
+
+abbrev pub faulted : (A : Type 0) → LineFault → Result A LineFault
+faulted A f = Err f
+
+-- a line that is too long was told before where that is kept, and no source that failed tells it
+pub kept_long : (A : Type 0) {f : LineFault} {o : Option LineFault} → (faulted A f ≡ faulted A TooLong → o ≡ Some TooLong) → f ≡ TooLong → o ≡ None → ⊥
+kept_long A kept long none = let some = kept (ap (faulted A) long) in cc
+
+pub broken_long : {f : LineFault} {P : Type 0} → f ≡ Broken → f ≡ TooLong → P → ⊥
+broken_long broken long = absurd (let same : Broken ≡ TooLong = sym broken ∙ long in cc)
 
 -- What a call for a line, or for whether one is left, does to the lines, where its answer is passed on as r.
 module _ {R T : Type 0} (A : Type 0) {remaining : R → Option (List ℕ)} {failures : R → ℕ} {reference : R → List GName} {old new : Stream R} (n : ℕ) where

@@ -4,7 +4,7 @@ use Rattle.std.specs.Prelude.{slice_get}
 use Rattle.std.specs.Option.{option_or, option_map_or}
 use Rattle.std.proofs.lemmas.Option.{same_Some}
 use Rattle.sedre.specs.Tree.{WrittenExpression}
-use Rattle.sedmatch.specs.SearchRoom.{SearchRoom}
+use Rattle.sedmatch.specs.SearchRoom.{FitInto, SearchRoom}
 use Rattle.sedmatch.specs.Occurrences.{KeepsRoom, RoomFor}
 use Rattle.sedmatch.specs.declared.occurrences.Occurrences.{Occurrences}
 use Rattle.sedscript.specs.declared.substitution.Substitution.{Substitution}
@@ -22,22 +22,18 @@ use Rattle.sedengine.specs.Run.{RunState, at_lines, run_setting}
 use Rattle.sedengine.specs.Steps.{Leads, reaches, line_at, ReachesCommand, Moves, MakesMove}
 use Rattle.sedengine.specs.SubstituteCalls.{written_by, Makes, ReplacesIn, same_but_replaced, to_replace_in}
 use Rattle.sedengine.specs.Fitting.{RoomToSeek}
-use Rattle.sedengine.specs.Inside.{run_of, tasks_of, IsConsistent, IsEmptied}
+use Rattle.sedengine.specs.Inside.{run_of, tasks_of, IsConsistent}
 use Rattle.sedengine.specs.declared.machine.Machine.TheInside.{Inside}
 use Rattle.sedengine.specs.declared.substitute.Findings.{Findings}
-use Rattle.sedengine.specs.declared.next_step.NextStep.{NextStep}
-use Rattle.sedengine.specs.declared.next_step.NextStep.TheVariants as p
 use Rattle.sedengine.specs.declared.ends.Ended.{Ended}
 use Rattle.sedengine.specs.declared.ends.Ended.TheVariants.{PatternFull, NoPrevious}
 use Rattle.sedengine.proofs.Writing.{Puts-append, Puts-left}
 use Rattle.sedengine.proofs.Moves.{moves_writing, ran_quietly, stopped_here}
-use Rattle.sedengine.proofs.Fitting.{sought, sought_at}
+use Rattle.sedmatch.proofs.RoomLemmas.{room_within}
+use Rattle.sedengine.specs.SubstituteParts.{ReplacesThese}
+use Rattle.sedengine.proofs.Fitting.{fits_at, sought, sought_at}
+use Rattle.sedengine.proofs.Tasks.{may_hold}
 use Rattle.sedengine.proofs.Tried.{matcher_at, standing}
-
--- Where a command is reached the pattern space needn't be empty.
-may_hold : (p : NextStep) (bytes : List ℕ) → reaches (tasks_of p) ≡ true → IsEmptied p bytes
-may_hold p.Begin bytes h = cc
-may_hold other bytes h = tt
 
 -- the fields of the engine after a substitution with the expression e
 pub replaced_is_run : (a : Inside) (pattern build : Contents) (scratch : SearchRoom) (seeking : Occurrences) (findings : Findings) (matchers : Vec WrittenExpression Global) (e : ℕ) (replaced : Bool) → IsConsistent a → reaches (tasks_of a.next_step) ≡ true → e < length a.script.expressions →
@@ -82,6 +78,60 @@ pub room_kept : (a : Inside) (e : ℕ) (m : WrittenExpression) (begun after : Oc
 room_kept a e m begun after i at room number kept some =
     kept.1 a.limits.space a.script.expressions (rw number at) (room a.limits.space a.script.expressions (i.seeking some))
 
+-- what a call made of a space: these bytes, or nothing, for want of a substitution or of room
+abbrev pub IsMade : Contents → Contents → ℕ → List ℕ → Result Bool Full → Type 0
+IsMade old new limit made (Ok true) = new ≡ record old { bytes = made }
+IsMade old new limit made (Ok false) = new ≡ old
+IsMade old new limit made (Err f) = limit ≡ old.limit
+
+made_in : (old new : Contents) (limit : ℕ) (made : List ℕ) (r : Result Bool Full) (u : Substitution) (ms : List Occurrence) → IsMade old new limit made r → ReplacesThese old.bytes u.replacement ms limit made r → ReplacesIn u ms old new r
+made_in old new limit made (Ok true) u ms becomes h = (h.0, becomes ∙ ap (λ (bytes : List ℕ). record old { bytes = bytes }) h.1)
+made_in old new limit made (Ok false) u ms becomes h = (h, becomes)
+made_in old new limit made (Err f) u ms becomes h = (h.0, rw becomes at h.1)
+
+-- there is a substitution
+pub some_substitution : (a : Inside) (e : RunState) (k : ℕ) → run_of a ≡ e → k < length e.script.substitutions → 0 < length a.script.substitutions
+some_substitution a e k seen h = let there = ap (λ (e : RunState). length e.script.substitutions) seen in omega arith
+
+-- spaces that were exchanged keep their limits
+pub limit_exchanged : (a : Inside) (pattern built : Contents) → IsConsistent a → 0 < length a.script.substitutions → pattern ≡ built → built.limit ≡ a.build.limit → pattern.limit ≡ a.pattern.limit
+limit_exchanged a pattern built i some is limit = ap (λ (c : Contents). c.limit) is ∙ limit ∙ i.build_limit some ∙ sym i.pattern_limit
+
+pub made_exchanged : (a : Inside) (pattern built : Contents) → IsConsistent a → 0 < length a.script.substitutions → pattern ≡ built → built.limit ≡ a.build.limit → pattern ≡ record a.pattern { bytes = built.bytes }
+made_exchanged a pattern built i some is limit = is ∙ ap (λ (n : ℕ). record built { limit = n }) (sym (ap (λ (c : Contents). c.limit) is) ∙ limit_exchanged a pattern built i some is limit)
+
+-- What is known of the fields of an engine that substitutes in what its pattern space holds, the bytes w, by the expression e.
+module _ (a : Inside) (i : IsConsistent a) (w : List ℕ) (same : w ≡ a.pattern.bytes) where
+  -- the room for the search
+  pub fits_scratch : (e : ℕ) (m : WrittenExpression) → e < length a.script.expressions → m ≡ get_or a.matchers.items e m → FitInto (length w) (length m.nodes) a.scratch
+  fits_scratch e m within is =
+      let long = ap (λ (xs : List ℕ). length xs) same in
+      let short = i.pattern in
+      let text = i.scratch_text (omega arith) in
+      (omega arith, fits_at a.scratch.nodes a.matchers.items e m (sought_at a.script.expressions a.limits.nodes a.matchers.items e i.matchers within) is i.scratch_nodes)
+
+  pub fits_build : 0 < length a.script.substitutions → length w ≤ a.build.limit
+  fits_build some =
+      let long = ap (λ (xs : List ℕ). length xs) same in
+      let short = i.pattern in
+      let room = i.build_limit some in
+      omega arith
+
+  pub fits_seeking : 0 < length a.script.substitutions → RoomFor (length w) a.script.expressions a.seeking
+  fits_seeking some =
+      let long = ap (λ (xs : List ℕ). length xs) same in
+      let short = i.pattern in
+      room_within (length w) a.limits.space a.script.expressions a.seeking (omega arith) (i.seeking some)
+
+  -- what was made of it
+  pub made_by : (ms : List WrittenExpression) (k e : ℕ) (t : Substitution) (new : Contents) (limit : ℕ) (made : List ℕ) (r : Result Bool Full) → slice_get a.script.substitutions k ≡ Some t → IsMade a.pattern new limit made r →
+      ReplacesThese w t.replacement (to_replace t.number t.global (occurrences (search_in ms e w) (length w))) limit made r →
+      (u : Substitution) → slice_get a.script.substitutions k ≡ Some u → ReplacesIn u (to_replace u.number u.global (occurrences (search_in ms e a.pattern.bytes) (length a.pattern.bytes))) a.pattern new r
+  made_by ms k e t new limit made r is becomes h u is' =
+      let Q : List ℕ → Type 0 = λ w. ReplacesThese w u.replacement (to_replace u.number u.global (occurrences (search_in ms e w) (length w))) limit made r in
+      let S : Substitution → Type 0 = λ t. ReplacesThese w t.replacement (to_replace t.number t.global (occurrences (search_in ms e w) (length w))) limit made r in
+      made_in a.pattern new limit made r u _ becomes (subst Q same (subst S (same_Some t u (sym is ∙ is')) h))
+
 -- a move whose pattern space has no room for what it makes
 leads_full : (s : State) (t : Substitution) (ms : List Occurrence) (space : ℕ) → 0 < length ms → space < length (replaced_from s.pattern t.replacement 0 ms) →
     Leads (replaces s t ms) (λ m. space < length m.next.pattern)
@@ -100,11 +150,11 @@ makes_full a r seen es same k e files ls t new now f limit is h =
     let more : a.limits.space < length (replaced_from a.pattern.bytes t.replacement 0 (to_replace_in (run_setting (run_of a) files) t e a.pattern.bytes)) = rw limit at made.1 in
     (leads_full (record (at_lines (run_of a) ls) { used = Some e }) t (to_replace_in (run_setting (run_of a) files) t e a.pattern.bytes) a.limits.space made.0 more, refl)) is
 
--- the expression that the substitution k stands for
-pub stands : (a : Inside) (r : RunState) (k e : ℕ) (t t' : Substitution) → run_of a ≡ r → slice_get r.script.substitutions k ≡ Some t → slice_get a.script.substitutions k ≡ Some t' → Some e ≡ option_or t'.expression a.used →
-    stands_for t.expression r.state.used ≡ Some e
-stands a r k e t t' seen is is' h =
-    let Q : RunState → Type 0 = λ r. slice_get r.script.substitutions k ≡ Some t → stands_for t.expression r.state.used ≡ Some e in
+-- the expression that the substitution k stands for, if any
+pub stands : (a : Inside) (r : RunState) (k : ℕ) (o : Option ℕ) (t t' : Substitution) → run_of a ≡ r → slice_get r.script.substitutions k ≡ Some t → slice_get a.script.substitutions k ≡ Some t' → o ≡ option_or t'.expression a.used →
+    stands_for t.expression r.state.used ≡ o
+stands a r k o t t' seen is is' h =
+    let Q : RunState → Type 0 = λ r. slice_get r.script.substitutions k ≡ Some t → stands_for t.expression r.state.used ≡ o in
     subst Q seen (λ is. let same : t' ≡ t = same_Some t' t (sym is' ∙ is) in sym (standing t.expression a.used) ∙ ap (λ (t : Substitution). option_or t.expression a.used) (sym same) ∙ sym h) is
 
 -- there is an element at each place

@@ -1,10 +1,11 @@
 -- What the engine does with its fields are moves.
-use Rattle.std.proofs.Common.{◌≡◌, ℕ, suc, zero, ◌<◌, ◌+◌, ◌-◌, ◌≤◌, Bool, true, false, List, [], ◌∷◌, ◌++◌, length, map, Option, Some, None, Result, Ok, Err, refl, subst, sym, ap, ◌∙◌, arith, not}
-use Rattle.std.specs.Prelude.{slice_get, is_some}
+use Rattle.std.proofs.Common.{◌≡◌, ℕ, suc, zero, ◌<◌, ◌+◌, ◌-◌, ◌≤◌, Bool, true, false, List, [], ◌∷◌, ◌++◌, length, map, Option, Some, None, Result, Ok, Err, refl, subst, sym, ap, ◌∙◌, arith, not, length-append}
+use Rattle.std.specs.Prelude.{slice_get, is_some, OnOk, OnErr}
 use Rattle.std.specs.Io.KnownBytes.{Keeps}
 use Rattle.std.proofs.lemmas.List.{length-map}
 use Rattle.sedscript.specs.Program.{Program}
 use Rattle.sedspace.specs.Spaces.{Contents}
+use Rattle.sedspace.specs.declared.errors.Full.{Full}
 use Rattle.sedspace.specs.Stream.{Stream, left, lines_left, TakesLine, GivesLine, NoLineLeft, FirstIsLonger, KeepsLines, LosesPart}
 use Rattle.sedspace.specs.Lines.{TakesAtMost}
 use Rattle.sedengine.specs.State.{Limits, Task, begin, do_at, State, Setting}
@@ -13,7 +14,7 @@ use Rattle.sedengine.specs.Ends.{WithinLimits, reads, named_sink}
 use Rattle.sedengine.specs.Held.{SameLengths}
 use Rattle.sedengine.specs.Meters.{SinkView}
 use Rattle.sedengine.specs.Run.{RunState, at_lines, run_setting, lost}
-use Rattle.sedengine.specs.Steps.{StopsTask, line_at, takes_turn, Ran, Moves, TakesLines, Halted, Steps}
+use Rattle.sedengine.specs.Steps.{costs, reaches, StopsTask, weight, line_at, takes_turn, Ran, Moves, TakesLines, Halted, Steps}
 use Rattle.sedengine.specs.Inside.{run_of, tasks_of, entries_of, IsConsistent, IsEmptied}
 use Rattle.sedengine.specs.declared.machine.Machine.TheInside.{Inside}
 use Rattle.sedengine.specs.declared.next_step.NextStep.{NextStep}
@@ -59,6 +60,11 @@ emptied_at other bytes t h = cc
 
 pub begins_empty : (a : Inside) (e : RunState) → run_of a ≡ e → IsConsistent a → e.state.tasks ≡ begin ∷ [] → e.state.pattern ≡ []
 begins_empty a e seen i at = rw (← seen) (emptied_at a.next_step a.pattern.bytes (rw (← seen) at at) i.empty)
+
+-- the line that is too long
+pub longer : {n : ℕ} (ls : List (List ℕ)) → FirstIsLonger (Some ls) n → (line : List ℕ) × (rest : List (List ℕ)) × (ls ≡ line ∷ rest) × (n < length line)
+longer [] h = absurd h
+longer (line ∷ rest) h = (line, rest, refl, h)
 
 -- The fields a of an engine that stands before a cycle; `sinks` are what sinks hold, of which none gains anything.
 module _ {R : Type 0} (remaining : R → Option (List ℕ)) (old new : Stream R) (a : Inside) (e : RunState) (seen : run_of a ≡ e) (i : IsConsistent a) (at : e.state.tasks ≡ begin ∷ [])
@@ -111,10 +117,6 @@ module _ {R : Type 0} (remaining : R → Option (List ℕ)) (old new : Stream R)
         ran_quietly a.limits (run_setting (run_of a) files) (at_lines (run_of a) ls) (at_lines (run_of (with pattern)) r.0) sinks (fits_of a ls i) (takes line r.0 pattern r.1 bytes t)
             (fits_at (with pattern) r.0 (omega arith) i.hold i.queue (omega arith)),
       ))
-
-  longer : {n : ℕ} (ls : List (List ℕ)) → FirstIsLonger (Some ls) n → (line : List ℕ) × (rest : List (List ℕ)) × (ls ≡ line ∷ rest) × (n < length line)
-  longer [] h = absurd h
-  longer (line ∷ rest) h = (line, rest, refl, h)
 
   pub begins_stops : (pattern : Contents) → pattern ≡ a.pattern → (a.turns ≡ a.limits.turns → ⊥) → FirstIsLonger (lines_left remaining old) (a.pattern.limit - length a.pattern.bytes) →
       LosesPart (left remaining old) (left remaining new) a.pattern.limit →
@@ -226,3 +228,94 @@ placed a pattern next_step i limit short empty = record {
   nodes = i.nodes;
   idle = i.idle;
 }
+
+-- Where a command is reached the pattern space needn't be empty.
+pub may_hold : (p : NextStep) (bytes : List ℕ) → reaches (tasks_of p) ≡ true → IsEmptied p bytes
+may_hold p.Begin bytes h = cc
+may_hold other bytes h = tt
+
+-- the fields with another pattern space, where a command is reached
+pub reached_placed : (a : Inside) (pattern : Contents) → IsConsistent a → reaches (tasks_of a.next_step) ≡ true → pattern.limit ≡ a.pattern.limit → length pattern.bytes ≤ a.limits.space → IsConsistent (record a { pattern = pattern })
+reached_placed a pattern i at limit short = placed a pattern a.next_step i limit short (may_hold a.next_step pattern.bytes at)
+
+-- the pattern space with a line more, or as it was
+pub appended_is_run : (a : Inside) (pattern : Contents) (bytes : List ℕ) (r : Result Unit Full) → IsConsistent a → reaches (tasks_of a.next_step) ≡ true → OnOk r (pattern ≡ record a.pattern { bytes = a.pattern.bytes ++ 10 ∷ bytes }) →
+    OnOk r (length a.pattern.bytes + 1 + length bytes ≤ a.pattern.limit) → OnErr r (pattern ≡ a.pattern) → IsConsistent (record a { pattern = pattern })
+appended_is_run a pattern bytes (Ok u) i at ok room err =
+    let limit = i.pattern_limit in
+    rw ok (reached_placed a (record a.pattern { bytes = a.pattern.bytes ++ 10 ∷ bytes }) i at refl (omega (arith, length-append a.pattern.bytes (10 ∷ bytes))))
+appended_is_run a pattern bytes (Err f) i at ok room err = rw err i
+
+emptied : (p : NextStep) → IsEmptied p []
+emptied p.Begin = refl
+emptied other = tt
+
+-- the pattern space was emptied
+pub cleared_is_run : (a : Inside) (pattern : Contents) → IsConsistent a → pattern ≡ record a.pattern { bytes = [] } → IsConsistent (record a { pattern = pattern })
+cleared_is_run a pattern i is = rw is (placed a (record a.pattern { bytes = [] }) a.next_step i refl (omega arith) (emptied a.next_step))
+
+-- the fields after the next line was brought, where a command is reached: `before` is the space before it
+pub brought_is_run : (a : Inside) (before pattern : Contents) → IsConsistent a → reaches (tasks_of a.next_step) ≡ true → before.limit ≡ a.pattern.limit → length before.bytes ≤ before.limit → pattern.limit ≡ before.limit →
+    (length before.bytes ≤ before.limit → length pattern.bytes ≤ pattern.limit) → IsConsistent (record a { pattern = pattern })
+brought_is_run a before pattern i at limit short limit' fits =
+    let within = fits short in
+    let most = i.pattern_limit in
+    reached_placed a pattern i at (limit' ∙ limit) (omega arith)
+
+-- the fields after a cycle has begun with a line
+pub begun_is_run : (a : Inside) (pattern : Contents) (line : List ℕ) → IsConsistent a → (a.turns ≡ a.limits.turns → ⊥) → pattern ≡ record a.pattern { bytes = a.pattern.bytes ++ line } → length pattern.bytes ≤ pattern.limit →
+    IsConsistent (record a { pattern = pattern; number = a.number + 1; turns = a.turns + 1; replaced = false; next_step = p.Do 0 })
+begun_is_run a pattern line i more is within =
+    let limit : pattern.limit ≡ a.pattern.limit = ap (λ (c : Contents). c.limit) is in
+    let most = i.pattern_limit in
+    let turns = i.turns in
+    let low = i.number in
+    let j = placed a pattern (p.Do 0) i limit (omega arith) tt in
+    record {
+      number = omega arith;
+      turns = omega arith;
+      pattern_limit = j.pattern_limit;
+      pattern = j.pattern;
+      hold_limit = i.hold_limit;
+      hold = i.hold;
+      build_limit = i.build_limit;
+      build_within = i.build_within;
+      copy_limit = i.copy_limit;
+      queue_limit = i.queue_limit;
+      queue = i.queue;
+      queued = i.queued;
+      empty = tt;
+      ranges = i.ranges;
+      used = i.used;
+      scratch_text = i.scratch_text;
+      scratch_nodes = i.scratch_nodes;
+      matchers = i.matchers;
+      seeking = i.seeking;
+      nodes = i.nodes;
+      idle = i.idle;
+    }
+
+-- a cycle was to begin, and began, or the run has ended
+pub begun_falls : (a : Inside) (e : RunState) (pattern : Contents) → run_of a ≡ e → IsConsistent a → e.state.tasks ≡ begin ∷ [] → (a.turns ≡ a.limits.turns → ⊥) →
+    weight (run_of (record a { pattern = pattern; number = a.number + 1; turns = a.turns + 1; replaced = false; next_step = p.Do 0 })) < weight e
+begun_falls a e pattern seen i at more =
+    let turns = i.turns in
+    let was : costs (tasks_of a.next_step) ≡ 1 = ap costs (rw (← seen) at at) in
+    let less : weight (run_of (record a { pattern = pattern; number = a.number + 1; turns = a.turns + 1; replaced = false; next_step = p.Do 0 })) < weight (run_of a) = omega arith in
+    rw (← seen) less
+
+pub ended_falls : (a : Inside) (e : RunState) (pattern : Contents) → run_of a ≡ e → e.state.tasks ≡ begin ∷ [] → weight (run_of (record a { pattern = pattern; next_step = p.Ended })) < weight e
+ended_falls a e pattern seen at =
+    let was : costs (tasks_of a.next_step) ≡ 1 = ap costs (rw (← seen) at at) in
+    let less : weight (run_of (record a { pattern = pattern; next_step = p.Ended })) < weight (run_of a) = omega arith in
+    rw (← seen) less
+
+empty_mapped : (p : NextStep) (bytes : List ℕ) (f : ℕ → ℕ) → IsEmptied p bytes → IsEmptied p (map f bytes)
+empty_mapped p.Begin bytes f h = rw h refl
+empty_mapped other bytes f h = tt
+
+-- each byte of the pattern space became another
+pub mapped_is_run : (a : Inside) (pattern : Contents) (f : ℕ → ℕ) → IsConsistent a → pattern ≡ record a.pattern { bytes = map f a.pattern.bytes } → IsConsistent (record a { pattern = pattern })
+mapped_is_run a pattern f i is =
+    let long : length (map f a.pattern.bytes) ≡ length a.pattern.bytes = length-map a.pattern.bytes f in
+    rw is (placed a (record a.pattern { bytes = map f a.pattern.bytes }) a.next_step i refl (rw long i.pattern) (empty_mapped a.next_step a.pattern.bytes f i.empty))

@@ -83,3 +83,18 @@ takes_few n is h = (omega (arith, h), omega (arith, h))
 -- what is owed at the end is less than what was
 pub takes_paid : {a b : ℕ} (k n : ℕ) → a ≤ b → b + k ≤ a + n → Takes a b n
 takes_paid k n grows paid = (grows, omega arith)
+
+pub searches_none : {s t : ℕ} (n : ℕ) → CostsWithin s t n 0 → Takes s t n
+searches_none n h = (h.0, omega (arith, h.1))
+
+pub le_same : {n : ℕ} → n ≤ n
+le_same = omega arith
+
+pub le_zero : {n : ℕ} → 0 ≤ n
+le_zero = omega arith
+
+pub le_added : {m n : ℕ} (k : ℕ) → m ≡ n + k → n ≤ m
+le_added k is = omega arith
+
+pub le_more : {m : ℕ} (n : ℕ) → m ≤ m + n
+le_more n = omega arith

@@ -3,7 +3,9 @@ use Rattle.std.specs.Prelude.{◌≡◌, ◌≢◌, ℕ, ◌+◌, ◌≤◌, Opt
 use Rattle.std.specs.Option.{option_map_or}
 use Rattle.std.specs.Io.KnownBytes.{Appends}
 use Rattle.sedspace.specs.Failures.{Rose}
-use Rattle.sedengine.specs.Types.{Ended, InputBroken, OutputBroken, OutputFull, Done, PatternFull, HoldFull, QueueFull, TurnsSpent, NoPrevious, Address, Last, Command, Action, Plain, NextLine}
+use Rattle.sedengine.specs.Types.{Ended, InputBroken, OutputBroken, OutputFull, Done, PatternFull, HoldFull, QueueFull, TurnsSpent, NoPrevious, Address, Last, Command, Action}
+use Rattle.sedscript.specs.declared.types.Action.TheVariants.{Plain}
+use Rattle.sedscript.specs.declared.types.Simple.TheVariants as simple
 use Rattle.sedengine.specs.State.{Limits, Task, begin, do_at, fetch, join, State, Move, Setting}
 use Rattle.sedengine.specs.Move.{next_move, after, written}
 use Rattle.sedspace.specs.Lines.{HasNoNewline}
@@ -52,7 +54,7 @@ is_dollar other = false
 
 -- whether it is the function `n`, which does one thing or another by whether a line is left
 abbrev pub is_next : Action → Bool
-is_next (Plain NextLine) = true
+is_next (Plain simple.NextLine) = true
 is_next other = false
 
 -- whether a command asks if a line is left

@@ -2,7 +2,11 @@
 -- The fields of the machine, and what they stand for.
 use Rattle.std.specs.Prelude.{◌≡◌, ℕ, ◌<◌, ◌≤◌, Bool, true, false, Option, Some, None, List, [], ◌∷◌, length, map, slice_get, IfSome}
 use Rattle.std.specs.Option.{unwrap_or}
-use Rattle.sedengine.specs.Types.{Command, Action, File, Plain, Text, Exchange, Hold, HoldMore, Append, Read}
+use Rattle.sedengine.specs.Types.{Command, Action}
+use Rattle.sedscript.specs.declared.types.Action.TheVariants.{File, Plain, Text}
+use Rattle.sedscript.specs.declared.types.TextUse.TheVariants.{Append}
+use Rattle.sedscript.specs.declared.types.FileUse.TheVariants.{Read}
+use Rattle.sedscript.specs.declared.types.Simple.TheVariants as simple
 use Rattle.sedscript.specs.Ranges.{IsOneOf}
 use Rattle.sedscript.specs.Program.{Program}
 use Rattle.sedengine.specs.State.{Entry, text, file, Task, begin, rebegin, do_at, print_pattern, flush}
@@ -18,13 +22,13 @@ abbrev pub tasks_of : NextStep → List Task
 tasks_of p.Begin = begin ∷ []
 tasks_of p.Rebegin = rebegin ∷ []
 tasks_of (p.Do k) = do_at k ∷ []
-tasks_of p.Quit = print_pattern ∷ flush ∷ []
+tasks_of p.WriteLast = print_pattern ∷ flush ∷ []
 tasks_of p.Ended = []
 
--- the entry that an action puts into the queue: `a` a text, `r` a file, and no other any
+-- the entry of an action that puts one into the queue: a text or a file
 abbrev pub entry_for : List (List ℕ) → Action → Entry
-entry_for texts (Text Append k) = text (unwrap_or (slice_get texts k) [])
-entry_for texts (File Read k) = file k
+entry_for texts (Text t k) = text (unwrap_or (slice_get texts k) [])
+entry_for texts (File u k) = file k
 entry_for texts other = text []
 
 abbrev pub entry_by : List (List ℕ) → Option Command → Entry
@@ -77,9 +81,9 @@ AllQueue p (i ∷ is) = CommandQueues (slice_get p.commands i) × AllQueue p is
 
 -- whether an action puts something into the hold space
 abbrev pub holds : Action → Bool
-holds (Plain Hold) = true
-holds (Plain HoldMore) = true
-holds (Plain Exchange) = true
+holds (Plain simple.Hold) = true
+holds (Plain simple.HoldMore) = true
+holds (Plain simple.Exchange) = true
 holds other = false
 
 abbrev pub CommandHolds : Option Command → Type 0

@@ -3,7 +3,12 @@ use Rattle.std.specs.Prelude.{ℕ, suc, zero, ◌+◌, Bool, true, false, ◌||�
 use Rattle.std.specs.Option.{option_map_or, unwrap_or}
 use Rattle.std.specs.List.{after_first, before_first, list_any}
 use Rattle.sedspace.specs.Lines.{is_newline}
-use Rattle.sedengine.specs.Types.{Command, Action, Block, Branch, File, Plain, Substitute, Text, Transliterate, AppendHold, AppendNext, CopyHold, Delete, DeleteFirst, Exchange, Hold, HoldMore, LineNumber, listing, NextLine, Print, PrintFirst, Quit, Append, Change, Insert, Always, IfReplaced, Read, Write, Substitution}
+use Rattle.sedengine.specs.Types.{Command, Action, Substitution}
+use Rattle.sedscript.specs.declared.types.Action.TheVariants.{Block, Branch, File, Plain, Substitute, Text, Transliterate}
+use Rattle.sedscript.specs.declared.types.TextUse.TheVariants.{Append, Change, Insert}
+use Rattle.sedscript.specs.declared.types.BranchUse.TheVariants.{Always, IfReplaced}
+use Rattle.sedscript.specs.declared.types.FileUse.TheVariants.{Read, Write}
+use Rattle.sedscript.specs.declared.types.Simple.TheVariants as simple
 use Rattle.sedengine.specs.Select.{◌>>=◌, Current, Selection, selects, stands_for}
 use Rattle.sedengine.specs.Listing.{listed}
 use Rattle.sedengine.specs.Substitute.{Occurrence, occurrences, to_replace, replaced_from}
@@ -97,46 +102,46 @@ acts g s writes_text (Text Change k) =
     writing (if writes_text then line_to 0 (unwrap_or (slice_get g.texts k) []) else [])
     (record s { pattern = []; tasks = flush ∷ begin ∷ [] })
 -- `d`: "Delete the pattern space and start the next cycle."
-acts g s writes_text (Plain Delete) = quietly (record s { pattern = []; tasks = flush ∷ begin ∷ [] })
+acts g s writes_text (Plain simple.Delete) = quietly (record s { pattern = []; tasks = flush ∷ begin ∷ [] })
 -- `D`: "If the pattern space contains no <newline>, start a normal new cycle as if the d command was issued. Otherwise,
 -- delete the initial segment of the pattern space through the first <newline> and start the next cycle with the resultant
 -- pattern space and without reading any new input."
-acts g s writes_text (Plain DeleteFirst) = quietly (
+acts g s writes_text (Plain simple.DeleteFirst) = quietly (
     if list_any is_newline s.pattern then record s { pattern = after_first is_newline s.pattern; tasks = flush ∷ rebegin ∷ [] }
     else record s { pattern = []; tasks = flush ∷ begin ∷ [] })
 -- `i`: "Write text to standard output."
 acts g s writes_text (Text Insert k) = writing (line_to 0 (unwrap_or (slice_get g.texts k) [])) s
 -- `g`: "Replace the contents of the pattern space by the contents of the hold space."
-acts g s writes_text (Plain CopyHold) = quietly (record s { pattern = s.hold })
+acts g s writes_text (Plain simple.CopyHold) = quietly (record s { pattern = s.hold })
 -- `G`: "Append to the pattern space a <newline> followed by the contents of the hold space."
-acts g s writes_text (Plain AppendHold) = quietly (record s { pattern = s.pattern ++ newline ∷ s.hold })
+acts g s writes_text (Plain simple.AppendHold) = quietly (record s { pattern = s.pattern ++ newline ∷ s.hold })
 -- `h`: "Replace the contents of the hold space with the contents of the pattern space."
-acts g s writes_text (Plain Hold) = quietly (record s { hold = s.pattern })
+acts g s writes_text (Plain simple.Hold) = quietly (record s { hold = s.pattern })
 -- `H`: "Append to the hold space a <newline> followed by the contents of the pattern space."
-acts g s writes_text (Plain HoldMore) = quietly (record s { hold = s.hold ++ newline ∷ s.pattern })
+acts g s writes_text (Plain simple.HoldMore) = quietly (record s { hold = s.hold ++ newline ∷ s.pattern })
 -- `x`: "Exchange the contents of the pattern and hold spaces."
-acts g s writes_text (Plain Exchange) = quietly (record s { pattern = s.hold; hold = s.pattern })
+acts g s writes_text (Plain simple.Exchange) = quietly (record s { pattern = s.hold; hold = s.pattern })
 -- `l`: "Write the pattern space to standard output in a visually unambiguous form."
-acts g s writes_text (Plain listing) = writing (to_sink 0 (listed s.pattern)) s
+acts g s writes_text (Plain simple.List) = writing (to_sink 0 (listed s.pattern)) s
 -- `n`: "Write the pattern space to standard output if the default output has not been suppressed, and replace the pattern
 -- space with the next line of input, less its terminating <newline>. If there is no next line of input, the n command verb
 -- shall branch to the end of the script and quit without starting a new cycle." There the pattern space is written once
 -- (this project's own).
-acts g s writes_text (Plain NextLine) = quietly (
+acts g s writes_text (Plain simple.NextLine) = quietly (
     if none_left s.lines then then_do (print_pattern ∷ flush ∷ []) s
     else then_do (print_pattern ∷ flush ∷ empty_pattern ∷ fetch ∷ s.tasks) s)
 -- `N`: "Append the next line of input, less its terminating <newline>, to the pattern space, using an embedded <newline>
 -- to separate the appended material from the original material." Where no line is left, `takes_line` ends the run: "quit
 -- without starting a new cycle or copying the pattern space to standard output".
-acts g s writes_text (Plain AppendNext) = quietly (then_do (flush ∷ join ∷ s.tasks) s)
+acts g s writes_text (Plain simple.AppendNext) = quietly (then_do (flush ∷ join ∷ s.tasks) s)
 -- `=`: writes the line number and a newline
-acts g s writes_text (Plain LineNumber) = writing (line_to 0 (decimal s.number)) s
+acts g s writes_text (Plain simple.LineNumber) = writing (line_to 0 (decimal s.number)) s
 -- `p`: "Write the pattern space to standard output."
-acts g s writes_text (Plain Print) = writing (line_to 0 s.pattern) s
+acts g s writes_text (Plain simple.Print) = writing (line_to 0 s.pattern) s
 -- `P`: "Write the pattern space, up to the first <newline>, to standard output."
-acts g s writes_text (Plain PrintFirst) = writing (line_to 0 (before_first is_newline s.pattern)) s
+acts g s writes_text (Plain simple.PrintFirst) = writing (line_to 0 (before_first is_newline s.pattern)) s
 -- `q`: "Branch to the end of the script and quit without starting a new cycle."
-acts g s writes_text (Plain Quit) = quietly (then_do (print_pattern ∷ flush ∷ []) s)
+acts g s writes_text (Plain simple.Quit) = quietly (then_do (print_pattern ∷ flush ∷ []) s)
 -- `r`: "Copy the contents of rfile to standard output as described previously": its entry waits in the queue
 acts g s writes_text (File Read k) = quietly (record s { queue = s.queue ++ file k ∷ [] })
 -- `s`: "Substitute the replacement string for instances of the BRE in the pattern space."

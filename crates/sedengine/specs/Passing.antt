@@ -4,7 +4,9 @@ use Rattle.std.specs.Prelude.{◌≡◌, ℕ, zero, suc, ◌+◌, ◌*◌, ◌<�
 use Rattle.std.specs.List.{All, Contains}
 use Rattle.std.specs.Option.{option_or, option_map}
 use Rattle.sedspace.specs.Stream.{Stream, left, AreWholeLines}
-use Rattle.sedengine.specs.Types.{Address, Line, Last, Match, Command, Action, Block, Branch, Substitute, Always, Substitution, Ended}
+use Rattle.sedengine.specs.Types.{Address, Line, Last, Match, Command, Action, Substitution, Ended}
+use Rattle.sedscript.specs.declared.types.Action.TheVariants.{Block, Branch, Substitute}
+use Rattle.sedscript.specs.declared.types.BranchUse.TheVariants.{Always}
 use Rattle.sedscript.specs.Ranges.{IsOneOf}
 use Rattle.sedscript.specs.Program.{Program}
 use Rattle.sedre.specs.Tree.{WrittenExpression}

@@ -1,16 +1,18 @@
 -- Private to the proofs: no contract of a public item cites what stands here.
 -- Moves of the engine, and what its calls promise one another.
-use Rattle.std.specs.Prelude.{◌≡◌, ℕ, true, ◌+◌, ◌*◌, ◌-◌, ◌<◌, Bool, false, Option, Some, None, Result, Ok, Err, List, [], ◌∷◌, ◌++◌, is_some, length, not, slice_get}
-use Rattle.std.specs.Option.{MatchOption, option_map_or}
+use Rattle.std.specs.Prelude.{◌≡◌, ℕ, true, ◌+◌, ◌*◌, ◌-◌, ◌<◌, ◌≤◌, Bool, false, Option, Some, None, Result, Ok, Err, OnOk, List, [], ◌∷◌, ◌++◌, is_some, length, not, slice_get}
+use Rattle.std.specs.Option.{ForSome, MatchOption, option_map_or}
 use Rattle.std.specs.Borrow.{GName}
 use Rattle.std.specs.Io.KnownBytes.{Keeps}
 use Rattle.sedspace.specs.Stream.{Stream, left, lines_left}
 use Rattle.sedspace.specs.Lines.{TakesAtMost}
-use Rattle.sedengine.specs.Types.{Command, Action, Plain, AppendNext, NextLine, Ended, Done, HoldFull, InputBroken, NoPrevious, PatternFull, QueueFull, TurnsSpent}
+use Rattle.sedengine.specs.Types.{Command, Action, Ended, Done, HoldFull, InputBroken, NoPrevious, PatternFull, QueueFull, TurnsSpent}
+use Rattle.sedscript.specs.declared.types.Action.TheVariants.{Plain}
+use Rattle.sedscript.specs.declared.types.Simple.TheVariants as simple
 use Rattle.sedengine.specs.State.{Limits, Task, begin, rebegin, do_at, print_pattern, empty_pattern, flush, copy, fetch, join, State, Move, Setting, TellsFiles}
 use Rattle.sedengine.specs.Meters.{Sent, SinkView}
 use Rattle.sedengine.specs.Calls.{Delivers, DeliversAlone, ReadsLines}
-use Rattle.sedengine.specs.Move.{acts, next_move, after, none_left, written}
+use Rattle.sedengine.specs.Move.{next_move, after, none_left, written}
 use Rattle.sedengine.specs.Ends.{WithinLimits, Within, Cause, named_sink, reads, LosesPartAfter, size_of, Whole, BrokenOff}
 use Rattle.sedengine.specs.Held.{HoldsAt, SameLengths}
 use Rattle.sedengine.specs.Run.{SameRun, RunState, InOneCycle, at_lines, lost, run_setting}
@@ -120,18 +122,9 @@ HasAction (Some c) action = c.action ≡ action
 
 -- whether a command takes a further line
 abbrev pub takes_further_line : Action → Bool
-takes_further_line (Plain NextLine) = true
-takes_further_line (Plain AppendNext) = true
+takes_further_line (Plain simple.NextLine) = true
+takes_further_line (Plain simple.AppendNext) = true
 takes_further_line other = false
-
--- What a call answers that does what a command does where it applies, if it takes no line, from the engine e on; w says whether
--- `c` writes its text.
-abbrev pub ActsHere : {T : Type 0} → (T → ℕ → Option (List ℕ)) → T → RunState → RunState → Bool → Action → SinkView → SinkView →
-    Result Unit Ended → Type 0
-ActsHere text texts e e' w action old new r =
-    (files : ℕ → List ℕ) → TellsFiles (text texts) files → (ls : List (List ℕ)) →
-    MakesMove e.limits (run_setting e files) (acts (run_setting e files) (at_lines e ls) w action) (at_lines e ls)
-    (at_lines e' ls) old new r
 
 -- Lines were taken, and no more bytes than theirs are gone.
 pub record TakesLines {R : Type 0} (remaining : R → Option (List ℕ)) (old new : Stream R)
@@ -198,3 +191,36 @@ pub record LeavesLines {R O T : Type 0} (remaining : R → Option (List ℕ)) (f
   pub output : Delivers tally count outputs outputs' result
   pub same : SameRun old new
   pub kept : (j : ℕ) → Keeps (text texts j) (text texts' j)
+
+-- What a call answers that does what a command does where it applies, if it takes no line: the move that `made` makes of a state.
+-- It leads to little more work without a turn.
+pub record ActsHere {O T : Type 0} (tally : O → SinkView) (count : O → ℕ) (text : T → ℕ → Option (List ℕ))
+    (made : Setting → State → Option Move) (old new : RunState) (outputs outputs' : O) (texts texts' : T)
+    (result : Result Unit Ended) : Type 0 where
+  pub acts : (files : ℕ → List ℕ) → TellsFiles (text texts) files → (ls : List (List ℕ)) →
+      MakesMove old.limits (run_setting old files) (made (run_setting old files) (at_lines old ls)) (at_lines old ls)
+      (at_lines new ls) (tally outputs) (tally outputs') result
+  pub falls : weight new ≤ weight old + 8
+  pub leaves : LeavesGiven tally count text old new outputs outputs' texts texts' result
+
+-- The same of a call that may take lines; `asks` says whether the command asks if a line is left.
+pub record ActsLines {R O T : Type 0} (remaining : R → Option (List ℕ)) (failures : R → ℕ) (reference : R → List GName)
+    (tally : O → SinkView) (count : O → ℕ) (text : T → ℕ → Option (List ℕ)) (made : Setting → State → Option Move)
+    (asks : Bool) (old new : RunState) (lines lines' : Stream R) (outputs outputs' : O) (texts texts' : T)
+    (result : Result Unit Ended) : Type 0 where
+  pub acts : lines.fault ≡ None → ForSome (lines_left remaining lines) (λ ls.
+      (files : ℕ → List ℕ) → TellsFiles (text texts) files →
+      PerformsSteps remaining lines lines' ls old.limits (run_setting old files) (made (run_setting old files) (at_lines old ls)) asks
+      (at_lines old ls) new (tally outputs) (tally outputs') result)
+  pub falls : weight new ≤ weight old + 8
+  pub leaves : LeavesLines remaining failures reference tally count text old new lines lines' outputs outputs' texts texts' result
+
+-- What a call answers that makes moves, and may take lines. Where the run goes on there is less to do.
+pub record Advances {R O T : Type 0} (remaining : R → Option (List ℕ)) (failures : R → ℕ) (reference : R → List GName)
+    (tally : O → SinkView) (count : O → ℕ) (text : T → ℕ → Option (List ℕ)) (old new : RunState)
+    (lines lines' : Stream R) (outputs outputs' : O) (texts texts' : T) (result : Result Unit Ended) : Type 0 where
+  pub steps : lines.fault ≡ None → ForSome (lines_left remaining lines) (λ ls.
+      (files : ℕ → List ℕ) → TellsFiles (text texts) files →
+      Steps remaining lines lines' ls old.limits (run_setting old files) old new (tally outputs) (tally outputs') result)
+  pub falls : OnOk result (weight new < weight old)
+  pub leaves : LeavesLines remaining failures reference tally count text old new lines lines' outputs outputs' texts texts' result

@@ -12,7 +12,7 @@ use crate::ends::Ended;
 use crate::limits::Limits;
 use crate::meter::MeteredSinks;
 use crate::write::write_line;
-use sedscript::{Action, FileUse, Script, TextUse};
+use sedscript::{Action, Script};
 use sedspace::{Queue, Space, Texts};
 
 /// Writes a file's bytes to the standard output as they are, a turn each, through the build space (XCU sed, the command
@@ -85,8 +85,8 @@ fn write_entry<O: MeteredSinks, T: Texts>(
     ensures kept { (j : ℕ) → Keeps (T.text texts.old j) (T.text texts.new j) }
 {
     match script.command(entry as usize).action {
-        Action::Text(TextUse::Append, text) => write_line(outputs, 0, script.text(text)),
-        Action::File(FileUse::Read, file) => copy_file(file, limits, turns, build, outputs, texts),
+        Action::Text(_, text) => write_line(outputs, 0, script.text(text)),
+        Action::File(_, file) => copy_file(file, limits, turns, build, outputs, texts),
         _ => unreachable!(),
     }
 }

@@ -1,10 +1,11 @@
 //! Lines that no command of a script touches: what the commands that are reached on such a line need of it, found out once.
 ghost use Rattle.std.specs.Prelude.{◌≡◌, ◌<◌, ◌≤◌, ◌+◌, ◌^◌, ◌⊎◌, IfOk, IfSome, OnOk, Some, ℕ, false, is_some, length, true};
 ghost use Rattle.sedscript.specs.declared.types.Address.TheVariants.{Line};
-ghost use Rattle.sedscript.specs.Ranges.{ActionWithin, AddressWithin, CommandWithin, sizes_of};
-ghost use Rattle.sedengine.specs.Passing.{IsClear, IsIdleOf, NeedWithin, Notes, RangesIdle, behind_by, need_at, need_of, need_of_action, need_of_address};
+ghost use Rattle.sedscript.specs.Ranges.{AddressWithin, CommandWithin};
+ghost use Rattle.sedengine.specs.Passing.{IsClear, IsIdleOf, NeedWithin, Notes, RangesIdle, need_at, need_of, need_of_address};
 
-use sedscript::{Action, Address, BranchUse, Command, Script};
+use crate::machine::commands::{behind, need_of_action};
+use sedscript::{Address, Command, Script};
 use std::alloc::{AllocError, Global};
 
 /// The most expressions that are judged on a line that no command touches: each is sought in every line.
@@ -54,25 +55,9 @@ fn need_of_address(address: Address) -> Option<Need>
     }
 }
 
-/// What an action needs to do nothing where it applies.
-fn need_of_action(script: &Script, action: Action) -> Option<Need>
-    requires { ActionWithin (sizes_of script.now) action }
-    ensures is { result ≡ need_of_action script.now.substitutions action }
-    ensures within { NeedWithin (length script.now.expressions) result }
-{
-    match action {
-        Action::Substitute(k) => match script.substitution(k).expression {
-            Some(e) => Some(Need::NoMatch(e)),
-            None => None,
-        },
-        Action::Block(_) | Action::Branch(..) => Some(Need::Nothing),
-        _ => None,
-    }
-}
-
 /// What a command needs, if that is known.
 fn need_of(script: &Script, command: &Command) -> Option<Need>
-    requires { CommandWithin (sizes_of script.now) command.now }
+    requires { CommandWithin script.now command.now }
     ensures is { result ≡ need_of script.now.substitutions (Some command.now) }
     ensures within { NeedWithin (length script.now.expressions) result }
 {
@@ -82,18 +67,6 @@ fn need_of(script: &Script, command: &Command) -> Option<Need>
     match command.first {
         Some(address) => need_of_address(address),
         None => need_of_action(script, command.action),
-    }
-}
-
-/// Where the script goes on behind command `k`, if that does nothing.
-fn behind(command: &Command, k: usize) -> usize
-    requires { k + 1 < 2 ^ 64 }
-    ensures { result ≡ behind_by command.now.first command.now.action k }
-{
-    match (command.first, command.action) {
-        (Some(_), Action::Block(next)) => next,
-        (None, Action::Branch(BranchUse::Always, target)) => target,
-        _ => k + 1,
     }
 }
 

@@ -5,7 +5,7 @@ ghost use Rattle.sedengine.specs.Held.{total_of, bound_of};
 ghost use Rattle.sedengine.specs.Parts.{AreParts};
 
 mod addresses;
-mod commands;
+pub(crate) mod commands;
 mod deleting;
 mod holding;
 mod known;

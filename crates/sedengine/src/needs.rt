@@ -1,19 +1,10 @@
 //! How much room a script needs in the spaces besides the pattern space.
 ghost use Rattle.std.specs.Prelude.{◌≡◌, ◌<◌, ◌≤◌, length};
-ghost use Rattle.sedengine.specs.Inside.{FillsHold, holds};
+ghost use Rattle.sedengine.specs.Inside.{FillsHold};
 
 use crate::limits::Limits;
-use sedscript::{Action, Script, Simple};
-
-/// Whether an action puts something into the hold space.
-fn is_holding(action: &Action) -> bool
-    ensures { result ≡ holds action.now }
-{
-    matches!(
-        action,
-        Action::Plain(Simple::Hold | Simple::HoldMore | Simple::Exchange)
-    )
-}
+use crate::machine::commands::is_holding;
+use sedscript::Script;
 
 /// How many bytes the hold space has room for: none where no command puts any into it.
 pub(crate) fn hold_room(script: &Script, limits: &Limits) -> usize

@@ -10,7 +10,7 @@ pub(crate) enum NextStep {
     /// The command of this number is reached, or the end of the script.
     Do(usize),
     /// The pattern space and the queue are written for the last time.
-    Quit,
+    WriteLast,
     /// Nothing: the run is over.
     Ended,
 }

@@ -5,8 +5,10 @@ use Rattle.std.proofs.lemmas.List.{reverse-append, reverse-reverse}
 use Rattle.sedscript.proofs.Labels.{take_item, drop_item, counted_in, one_each}
 use Rattle.std.proofs.lemmas.Bool.Decides.{eqb_tells}
 use Rattle.sedscript.specs.declared.items.Item.{Item}
-use Rattle.sedscript.specs.Types.{Verb, Open, Close}
-use Rattle.sedscript.specs.Targets.{counted, commands_in, is_open, is_close, close_in, depth_after, block_end, becomes_command}
+use Rattle.sedscript.specs.Types.{Verb}
+use Rattle.sedscript.specs.declared.letters.Verb.TheVariants.{Open, Close}
+use Rattle.sedscript.specs.Targets.{counted, commands_in, close_in, depth_after, block_end}
+use Rattle.sedscript.specs.Letters.{is_open, is_close, becomes_command}
 use Rattle.sedscript.specs.Tables.{unopened, unopened_by, opened, blocks_in, with_end, ends_in, EndIs}
 
 after_first : (us : List ℕ) (d : ℕ) → slice_get us (suc d) ≡ slice_get (drop 1 us) d

@@ -9,21 +9,24 @@ use Rattle.std.proofs.lemmas.List.FromFn.{length-map-range_with_len}
 use Rattle.sedre.specs.declared.types.Kind.{Kind}
 use Rattle.sedre.specs.Tree.{WrittenExpression}
 use Rattle.sedscript.specs.declared.types.Action.{Action}
+use Rattle.sedscript.specs.declared.types.Action.TheVariants as action
 use Rattle.sedscript.specs.declared.types.Command.{Command}
 use Rattle.sedscript.specs.declared.types.FileUse.{FileUse}
 use Rattle.sedscript.specs.declared.types.FileUse.TheVariants.{Read, Write}
-use Rattle.sedscript.specs.Types.{Verb, Open, Branch, File, Substitute, Transliterate, Argument, Pair, FlaggedPair}
+use Rattle.sedscript.specs.Types.{Verb, Argument, Pair, FlaggedPair}
+use Rattle.sedscript.specs.declared.letters.Verb.TheVariants.{Open, Branch, File, Substitute, Transliterate}
 use Rattle.sedscript.specs.declared.items.Addresses.{Addresses}
 use Rattle.sedscript.specs.declared.items.Item.{Item}
 use Rattle.sedscript.specs.declared.items.ItemOrEnd.TheVariants.{Is}
 use Rattle.sedscript.specs.Functions.{◌>>=◌ as ◌then◌}
 use Rattle.sedscript.specs.Strings.{counterpart, table_of}
 use Rattle.sedscript.specs.Items.{item_at, Reading}
-use Rattle.sedscript.specs.Script.{Gives, value, after_expression, CutScript, done, item, text_in, texts_of, substitution_in, substitutions_of, table_in, tables_of, action_of, command_of, commands_of, Means}
-use Rattle.sedscript.specs.Targets.{becomes_command, counted, commands_in, label_in, is_label, close_in, is_close, depth_after, block_end, written_in, branch_in, is_standard_output, is_file, sink_name, name_in, file_in, files_in, number_in}
+use Rattle.sedscript.specs.Script.{Gives, value, after_expression, CutScript, done, item, text_in, texts_of, substitution_in, substitutions_of, table_in, tables_of, action_of, command_of, commands_of, Means, ActionWithin}
+use Rattle.sedscript.specs.Targets.{counted, commands_in, label_in, is_label, close_in, depth_after, block_end, written_in, branch_in, is_standard_output, is_file, sink_name, name_in, file_in, files_in, number_in, FileWithin}
+use Rattle.sedscript.specs.Letters.{becomes_command, is_close}
 use Rattle.sedscript.specs.Program.{Program}
 use Rattle.sedscript.specs.declared.substitution.Substitution.{Substitution}
-use Rattle.sedscript.specs.Ranges.{Sizes, sizes_of, SinkWithin, FileWithin, ActionWithin, CommandWithin, SubstitutionWithin, InRange}
+use Rattle.sedscript.specs.Ranges.{SinkWithin, CommandWithin, SubstitutionWithin, InRange}
 use Rattle.sedscript.proofs.Labels.{commands_snoc, counted_in}
 use Rattle.sedscript.proofs.FileTables.{any_distinct}
 use Rattle.sedscript.proofs.Places.{if_both, Each, AddressesWithin, ArgumentWithin, Follows, ItemsWithin, cut_up_to}
@@ -52,20 +55,20 @@ label_bound text name n (i ∷ is) =
 
 -- actions
 
-abbrev MayAct : Sizes → Option Action → Type 0
+abbrev MayAct : Program → Option Action → Type 0
 MayAct n None = Unit {0}
 MayAct n (Some a) = ActionWithin n a
 
 -- the name, if there is one, is among the sizes
-abbrev NameWithin : List ℕ → List Item → Sizes → FileUse → Option (List ℕ) → Type 0
+abbrev NameWithin : List ℕ → List Item → Program → FileUse → Option (List ℕ) → Type 0
 NameWithin text all n u None = Unit {0}
 NameWithin text all n u (Some name) = FileWithin n u (number_in u text all name)
 
 -- what a function names among all items is among the sizes
-abbrev FilesWithin : List ℕ → List Item → Sizes → Verb → Argument → Type 0
+abbrev FilesWithin : List ℕ → List Item → Program → Verb → Argument → Type 0
 FilesWithin text all n verb a = (u : FileUse) → NameWithin text all n u (name_in u text verb a)
 
-abbrev AllFilesWithin : List ℕ → List Item → Sizes → List Item → Type 0
+abbrev AllFilesWithin : List ℕ → List Item → Program → List Item → Type 0
 AllFilesWithin text all n is = Each (λ i. FilesWithin text all n i.verb i.argument) is
 
 branch_bound : (text name : List ℕ) (all : List Item) → AtMost (commands_in all) (branch_in text all name)
@@ -74,20 +77,20 @@ branch_bound text (b ∷ bs) all = subst (λ (m : ℕ). AtMost m (label_in text 
 
 -- the texts, substitutions and tables of the items before a function, of the function and of those after it come to all
 -- that there are
-abbrev Sums : List ℕ → List Item → Sizes → List Item → Verb → Argument → List Item → Type 0
+abbrev Sums : List ℕ → List Item → Program → List Item → Verb → Argument → List Item → Type 0
 Sums text all n before verb a after =
-    (length (texts_of text before) + length (cons_option (text_in text verb a) (texts_of text after)) ≡ n.texts)
-    × (length (substitutions_of text all before) + length (cons_option (substitution_in text all a) (substitutions_of text all after)) ≡ n.substitutions)
-    × (length (tables_of text before) + length (cons_option (table_in text a) (tables_of text after)) ≡ n.tables)
+    (length (texts_of text before) + length (cons_option (text_in text verb a) (texts_of text after)) ≡ (length n.texts))
+    × (length (substitutions_of text all before) + length (cons_option (substitution_in text all a) (substitutions_of text all after)) ≡ (length n.substitutions))
+    × (length (tables_of text before) + length (cons_option (table_in text a) (tables_of text after)) ≡ (length n.tables))
 
-may_act : (text : List ℕ) (all before after : List Item) (n : Sizes) (verb : Verb) (a : Argument) → Follows verb a → FilesWithin text all n verb a → commands_in all ≡ n.commands →
-    commands_in before + (if becomes_command verb then suc (commands_in after) else commands_in after) ≡ n.commands → Sums text all n before verb a after →
+may_act : (text : List ℕ) (all before after : List Item) (n : Program) (verb : Verb) (a : Argument) → Follows verb a → FilesWithin text all n verb a → commands_in all ≡ length n.commands →
+    commands_in before + (if becomes_command verb then suc (commands_in after) else commands_in after) ≡ length n.commands → Sums text all n before verb a after →
     MayAct n (action_of text all before after verb a)
 may_act text all before after n Open a follows files whole count long =
-    at_most_or n.commands (block_end before after)
-    (subst (λ (m : ℕ). AtMost m (block_end before after)) (let e : suc (commands_in before) + commands_in after ≡ n.commands = omega (arith, count) in e) (close_bound 0 (suc (commands_in before)) after))
+    at_most_or (length n.commands) (block_end before after)
+    (subst (λ (m : ℕ). AtMost m (block_end before after)) (let e : suc (commands_in before) + commands_in after ≡ (length n.commands) = omega (arith, count) in e) (close_bound 0 (suc (commands_in before)) after))
 may_act text all before after n (Branch u) a follows files whole count long =
-    at_most_or n.commands (branch_in text all (written_in text a))
+    at_most_or (length n.commands) (branch_in text all (written_in text a))
     (subst (λ (m : ℕ). AtMost m (branch_in text all (written_in text a))) whole (branch_bound text (written_in text a) all))
 may_act text all before after n (File Read) a follows files whole count long = files Read
 may_act text all before after n (File Write) a follows files whole count long = files Write
@@ -104,7 +107,7 @@ each_at {A} P [] k x h g = let bad : ◌≡◌ {A = Option A} None (Some x) = g 
 each_at P (y ∷ xs) zero x h g = let same : y ≡ x = cc in subst P same h.0
 each_at P (y ∷ xs) (suc k) x h g = each_at P xs k x h.1 g
 
-with_within : (n : Sizes) (a : Addresses) (o : Option Action) (cs : List Command) → AddressesWithin n.expressions a → MayAct n o → Each (CommandWithin n) cs → Each (CommandWithin n) (cons_option (option_map (command_of a) o) cs)
+with_within : (n : Program) (a : Addresses) (o : Option Action) (cs : List Command) → AddressesWithin (length n.expressions) a → MayAct n o → Each (CommandWithin n) cs → Each (CommandWithin n) (cons_option (option_map (command_of a) o) cs)
 with_within n a None cs h g k = k
 with_within n a (Some x) cs h g k = (record { first = h.0; second = h.1; action = g }, k)
 
@@ -120,23 +123,23 @@ taken_on h before is i n e =
     omega (arith, long, length_with (h i) (filter_map h is), e)
 
 -- the texts, substitutions and tables of the items before these and of these come to all that there are
-abbrev AllSums : List ℕ → List Item → Sizes → List Item → List Item → Type 0
+abbrev AllSums : List ℕ → List Item → Program → List Item → List Item → Type 0
 AllSums text all n before is =
-    (length (texts_of text before) + length (texts_of text is) ≡ n.texts)
-    × (length (substitutions_of text all before) + length (substitutions_of text all is) ≡ n.substitutions)
-    × (length (tables_of text before) + length (tables_of text is) ≡ n.tables)
+    (length (texts_of text before) + length (texts_of text is) ≡ (length n.texts))
+    × (length (substitutions_of text all before) + length (substitutions_of text all is) ≡ (length n.substitutions))
+    × (length (tables_of text before) + length (tables_of text is) ≡ (length n.tables))
 
-commands_within : (text : List ℕ) (all before is : List Item) (n : Sizes) → commands_in all ≡ n.commands → commands_in before + commands_in is ≡ n.commands → AllSums text all n before is →
-    ItemsWithin n.expressions is → AllFilesWithin text all n is → Each (CommandWithin n) (commands_of text all before is)
+commands_within : (text : List ℕ) (all before is : List Item) (n : Program) → commands_in all ≡ length n.commands → commands_in before + commands_in is ≡ length n.commands → AllSums text all n before is →
+    ItemsWithin (length n.expressions) is → AllFilesWithin text all n is → Each (CommandWithin n) (commands_of text all before is)
 commands_within text all before [] n whole count long h files = tt
 commands_within text all before (i ∷ is) n whole count long h files =
     with_within n i.addresses (action_of text all before is i.verb i.argument) (commands_of text all (before ++ i ∷ []) is) h.0.0
     (may_act text all before is n i.verb i.argument h.0.2 files.0 whole count long)
     (commands_within text all (before ++ i ∷ []) is n whole
     (ap (λ (m : ℕ). m + commands_in is) (commands_snoc before i) ∙ (counted_in (commands_in before) i is ∙ count)) (
-      taken_on (λ (j : Item). text_in text j.verb j.argument) before is i n.texts long.0,
-      taken_on (λ (j : Item). substitution_in text all j.argument) before is i n.substitutions long.1,
-      taken_on (λ (j : Item). table_in text j.argument) before is i n.tables long.2,
+      taken_on (λ (j : Item). text_in text j.verb j.argument) before is i (length n.texts) long.0,
+      taken_on (λ (j : Item). substitution_in text all j.argument) before is i (length n.substitutions) long.1,
+      taken_on (λ (j : Item). table_in text j.argument) before is i (length n.tables) long.2,
     )
     h.1 files.1)
 
@@ -173,15 +176,15 @@ from_none n m e = omega (arith, e)
 
 -- substitutions and tables
 
-substitutions_within : (n : Sizes) (text : List ℕ) (all is : List Item) → ItemsWithin n.expressions is → AllFilesWithin text all n is → Each (SubstitutionWithin n) (substitutions_of text all is)
+substitutions_within : (n : Program) (text : List ℕ) (all is : List Item) → ItemsWithin (length n.expressions) is → AllFilesWithin text all n is → Each (SubstitutionWithin n) (substitutions_of text all is)
 substitutions_within n text all [] h files = tt
 substitutions_within n text all (i ∷ is) h files = by_both i.verb i.argument h.0.1 h.0.2 files.0 (substitutions_within n text all is h.1 files.1)
   where
-    by_file : (o : Option (List ℕ)) → NameWithin text all n Write o → SinkWithin n.wfiles (option_map (number_in Write text all) o)
+    by_file : (o : Option (List ℕ)) → NameWithin text all n Write o → SinkWithin (length n.wfiles) (option_map (number_in Write text all) o)
     by_file None v = tt
     by_file (Some name) v = v
 
-    by_both : (verb : Verb) (a : Argument) → ArgumentWithin n.expressions a → Follows verb a → FilesWithin text all n verb a → Each (SubstitutionWithin n) (substitutions_of text all is) →
+    by_both : (verb : Verb) (a : Argument) → ArgumentWithin (length n.expressions) a → Follows verb a → FilesWithin text all n verb a → Each (SubstitutionWithin n) (substitutions_of text all is) →
         Each (SubstitutionWithin n) (cons_option (substitution_in text all a) (substitutions_of text all is))
     by_both (File u) (FlaggedPair s e f) w follows v rest = absurd follows
     by_both verb (FlaggedPair s e f) w follows v rest = (record { expression = w.0; number = w.1; file = by_file (sink_name text f) (v Write) }, rest)
@@ -215,12 +218,12 @@ number_below name first (n ∷ ns) h = by_same (λ h. number_below name (first +
     by_same rest false h = omega (arith, rest h)
 
 -- a file that a function of the items names is one of those
-file_number : (u : FileUse) (text : List ℕ) (all : List Item) (n : Sizes) (name : List ℕ) → n.rfiles ≡ length (files_in Read text all) → n.wfiles ≡ length (files_in Write text all) →
+file_number : (u : FileUse) (text : List ℕ) (all : List Item) (n : Program) (name : List ℕ) → (length n.rfiles) ≡ length (files_in Read text all) → (length n.wfiles) ≡ length (files_in Write text all) →
     (is_file u name ≡ true → list_any (bytes_eq name) (files_in u text all) ≡ true) → FileWithin n u (number_in u text all name)
 file_number Read text all n name r w h = omega (arith, r, number_below name 0 (files_in Read text all) (h refl))
 file_number Write text all n name r w h = by_output (is_standard_output name) refl
   where
-    by_output : (b : Bool) → is_standard_output name ≡ b → (if b then 0 else unwrap_or (position_from (bytes_eq name) 1 (files_in Write text all)) 0) ≤ n.wfiles
+    by_output : (b : Bool) → is_standard_output name ≡ b → (if b then 0 else unwrap_or (position_from (bytes_eq name) 1 (files_in Write text all)) 0) ≤ (length n.wfiles)
     by_output true e = omega arith
     by_output false e = omega (arith, w, number_below name 1 (files_in Write text all) (h (ap not e)))
 
@@ -242,7 +245,7 @@ any_more name (Some n) rest h = by_same (bytes_eq name n)
     by_same true = refl
     by_same false = h
 
-files_within : (text : List ℕ) (all : List Item) (n : Sizes) (is : List Item) → n.rfiles ≡ length (files_in Read text all) → n.wfiles ≡ length (files_in Write text all) →
+files_within : (text : List ℕ) (all : List Item) (n : Program) (is : List Item) → (length n.rfiles) ≡ length (files_in Read text all) → (length n.wfiles) ≡ length (files_in Write text all) →
     ((u : FileUse) → Among u text all (names_in u text is)) → AllFilesWithin text all n is
 files_within text all n [] r w among = tt
 files_within text all n (i ∷ is) r w among = (
@@ -263,17 +266,31 @@ means_in_range text kind m s h =
     let texts : 0 + length (texts_of text is) ≡ length s.texts = from_none _ _ (ap (λ (xs : List (List ℕ)). length xs) h.texts) in
     let substitutions : 0 + length (substitutions_of text is is) ≡ length s.substitutions = from_none _ _ (ap (λ (xs : List Substitution). length xs) h.substitutions) in
     let tables : 0 + length (tables_of text is) ≡ length s.tables = from_none _ _ (ap (λ (xs : List (List ℕ)). length xs) h.tables) in
-    let files : AllFilesWithin text is (sizes_of s) is =
-    files_within text is (sizes_of s) is (ap (λ (xs : List (List ℕ)). length xs) h.rfiles) (ap (λ (xs : List (List ℕ)). length xs) h.wfiles)
+    let files : AllFilesWithin text is s is =
+    files_within text is s is (ap (λ (xs : List (List ℕ)). length xs) h.rfiles) (ap (λ (xs : List (List ℕ)). length xs) h.wfiles)
     (λ u name g. any_distinct name (names_in u text is) g) in
-    let all : Each (CommandWithin (sizes_of s)) s.commands =
-    subst (Each (CommandWithin (sizes_of s))) (sym h.commands)
-    (commands_within text is [] is (sizes_of s) (sym long) (omega (arith, long)) (texts, substitutions, tables)
+    let all : Each (CommandWithin s) s.commands =
+    subst (Each (CommandWithin s)) (sym h.commands)
+    (commands_within text is [] is s (sym long) (omega (arith, long)) (texts, substitutions, tables)
     items files) in
     let fit : AllFit m s.expressions = cut_fit text kind m 0 0 h.to is s.expressions h.judged.cut in
     record {
-      each = λ i x g. each_at (CommandWithin (sizes_of s)) s.commands i x all g;
+      each = λ i x g. each_at (CommandWithin s) s.commands i x all g;
       nodes = λ k e g. subst (λ (n : ℕ). length e.nodes ≤ n) (sym h.nodes) (each_at (λ e. length e.nodes ≤ m) s.expressions k e fit g);
-      substitutions = λ k x g. each_at (SubstitutionWithin (sizes_of s)) _ k x (substitutions_within (sizes_of s) text is is items files) (ap (λ ss. slice_get ss k) (sym h.substitutions) ∙ g);
+      substitutions = λ k x g. each_at (SubstitutionWithin s) _ k x (substitutions_within s text is is items files) (ap (λ ss. slice_get ss k) (sym h.substitutions) ∙ g);
       tables = λ k x g. each_at (λ t. length t ≡ 256) _ k x (tables_whole text is) (ap (λ ts. slice_get ts k) (sym h.tables) ∙ g);
     }
+
+-- quiet or not, a script is in range
+quiet_action : (p : Program) (a : Action) → ActionWithin p a → ActionWithin (record p { quiet = true }) a
+quiet_action p (action.File Read k) h = h
+quiet_action p (action.File Write k) h = h
+quiet_action p a h = h
+
+pub quiet_in_range : (p : Program) → InRange p → InRange (record p { quiet = true })
+quiet_in_range p range = record {
+  each = λ i c at. let h = range.each i c at in record { first = h.first; second = h.second; action = quiet_action p c.action h.action };
+  nodes = range.nodes;
+  substitutions = λ k s at. let h = range.substitutions k s at in record { expression = h.expression; number = h.number; file = h.file };
+  tables = range.tables;
+}

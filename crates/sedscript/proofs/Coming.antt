@@ -23,8 +23,8 @@ use Rattle.sedscript.specs.Bytes.{bytes_between, past, is_byte, is_digit, with_d
 use Rattle.sedscript.specs.Items.{Pattern, Reading, plainly, expression, ◌>>=◌, Addressed, found, addresses_of, with_addresses, with_second, folds_at, past_flag, match_at, own_match, addresses_at, after_first, second_at, address_at, address_of, line_of, item_at, item_from, substitute_with, substitute_at, argument_with, function_at, match_to, function_after, item_with, item_of, empty_match}
 use Rattle.sedscript.specs.declared.items.Strings.{Strings}
 use Rattle.sedscript.specs.Between.{own_delimiter, substitute_strings, flags_after, folds}
-use Rattle.sedscript.specs.Letters.{argument_of, substituted, verb_of, allowed}
-use Rattle.sedscript.specs.Types.{Verb, Substitute, Argument}
+use Rattle.sedscript.specs.Letters.{argument_of, reads_expression, substituted, verb_of, allowed}
+use Rattle.sedscript.specs.Types.{Verb, Argument}
 use Rattle.sedscript.specs.declared.items.Addresses.{Addresses}
 use Rattle.sedscript.specs.Script.{IsRead, Gives, value, after_expression}
 use Rattle.sedscript.specs.FirstFault.{Fails, own, no_expression, later, in_script}
@@ -266,11 +266,11 @@ substitute_goes text kind m old new at s result e h =
 -- functions
 
 -- what follows another letter
-pub argument_comes : (text : List ℕ) (kind : Kind) (m at : ℕ) (old : List WrittenExpression) (verb : Verb) (result : Result (Argument × ℕ) ScriptFault) → (verb ≡ Substitute → ⊥) → result ≡ argument_of text verb at →
+pub argument_comes : (text : List ℕ) (kind : Kind) (m at : ℕ) (old : List WrittenExpression) (verb : Verb) (result : Result (Argument × ℕ) ScriptFault) → reads_expression verb ≡ false → result ≡ argument_of text verb at →
     Comes text kind m old old as_argument result (argument_with text (length old) verb at)
-argument_comes text kind m at old Substitute result other e = absurd (other refl)
 argument_comes text kind m at old verb result other e =
-    comes_plain text kind m old old as_argument result (argument_of text verb at) refl (arguments_agree (length old) result (argument_of text verb at) e)
+    subst (λ (reads : Bool). Comes text kind m old old as_argument result (if reads then substitute_at text (length old) at else plainly (argument_of text verb at))) (sym other)
+    (comes_plain text kind m old old as_argument result (argument_of text verb at) refl (arguments_agree (length old) result (argument_of text verb at) e))
 
 -- the item of a function whose letter may not stand there
 pub item_fault : (text : List ℕ) (kind : Kind) (m count letter at : ℕ) (a : Addresses) (f : ScriptFault) → slice_get text at ≡ Some letter → allowed a at (verb_of letter) ≡ Err f →

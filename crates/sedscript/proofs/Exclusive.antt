@@ -11,10 +11,9 @@ use Rattle.sedscript.specs.declared.items.ItemOrEnd.TheVariants.{Is, Ends}
 use Rattle.sedscript.specs.declared.bytes.Sort.TheVariants.{Separator}
 use Rattle.sedscript.specs.Bytes.{past, bytes_between}
 use Rattle.sedscript.specs.Items.{Pattern, Reading, item_at, item_from}
-use Rattle.sedscript.specs.Script.{IsRead, Gives, value, after_expression, CutScript, done, item, IsEnd, Means, CutWithoutFault}
+use Rattle.sedscript.specs.Script.{IsRead, Gives, value, after_expression, CutScript, done, item, IsEnd, Means, CutWithoutFault, target_fault}
 use Rattle.sedscript.specs.FirstFault.{Fails, no_expression, later, Faulty, early, afterwards}
 use Rattle.sedscript.specs.Program.{Program}
-use Rattle.sedscript.specs.Targets.{target_fault}
 
 -- a text reads as one expression, with one number of groups
 abbrev pub ReadsAsOne : Type 0

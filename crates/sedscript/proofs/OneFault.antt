@@ -11,8 +11,7 @@ use Rattle.sedscript.specs.declared.items.ItemOrEnd.TheVariants.{Is}
 use Rattle.sedscript.specs.Bytes.{bytes_between}
 use Rattle.sedscript.specs.Items.{Reading, item_at}
 use Rattle.sedscript.specs.FirstFault.{Fails, own, no_expression, later, in_script, Faulty, early, afterwards}
-use Rattle.sedscript.specs.Script.{CutScript, done, item}
-use Rattle.sedscript.specs.Targets.{target_fault}
+use Rattle.sedscript.specs.Script.{CutScript, done, item, target_fault}
 use Rattle.sedscript.proofs.Exclusive.{ReadsAsOne, as_other, no_fails, same_rest, cut_no_fault, cut_same}
 
 -- an expression's text has one first fault at most

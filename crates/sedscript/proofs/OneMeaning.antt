@@ -6,7 +6,7 @@ use Rattle.sedscript.specs.declared.items.Item.{Item}
 use Rattle.sedscript.specs.Script.{Means, commands_of, texts_of, substitutions_of, tables_of}
 use Rattle.sedscript.specs.Program.{Program}
 use Rattle.sedscript.specs.Targets.{files_in}
-use Rattle.sedscript.specs.Types.{Read, Write}
+use Rattle.sedscript.specs.declared.types.FileUse.TheVariants.{Read, Write}
 use Rattle.sedscript.proofs.Exclusive.{ReadsAsOne, cut_alike, cut_same}
 
 -- a text means one script only: of an expression this is its tree and its number of groups

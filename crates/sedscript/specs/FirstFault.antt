@@ -6,9 +6,8 @@ use Rattle.sedre.specs.declared.types.ExprFault.{ExprFault}
 use Rattle.sedre.specs.Grammar.{ExprFaulty}
 use Rattle.sedscript.specs.Types.{ScriptFault, Item, Expression}
 use Rattle.sedscript.specs.Items.{item_at, Pattern, Reading, plainly, expression}
-use Rattle.sedscript.specs.Targets.{target_fault}
+use Rattle.sedscript.specs.Script.{target_fault, CutScript, IsEnd, IsRead}
 use Rattle.sedscript.specs.Bytes.{bytes_between}
-use Rattle.sedscript.specs.Script.{CutScript, IsEnd, IsRead}
 
 -- the fault of a script, where the regular expression that begins at a place has this fault
 abbrev pub in_script : ℕ → ExprFault → ScriptFault

@@ -1,5 +1,6 @@
 -- What follows the letters of functions: texts and names, and the end of a command (XCU sed, "Editing Commands in sed").
 use Rattle.std.specs.Prelude.{ℕ, List, Option, Some, None, if◌then◌else◌, ◌==◌, ◌+◌, [], ◌∷◌, suc, drop, Bool, true, false, ◌&&◌, ◌||◌, slice_get, unwrap_or, Result, Ok, Err, option_map}
+use Rattle.std.specs.Bool.{then_some}
 use Rattle.std.specs.Option.{ok_or}
 use Rattle.sedscript.specs.Types.{ScriptFault, Reason, TrailingBytes, Argument, Between, Inside, InLine, Escape, Due}
 use Rattle.sedscript.specs.Bytes.{Blank, Line, past, is_byte}
@@ -10,6 +11,10 @@ fault reason place = Err (record { place = place; reason = reason })
 -- what was found, or else this fault at a place
 abbrev pub or_fault : {A : Type 0} → Option A → Reason → ℕ → Result A ScriptFault
 or_fault found reason place = ok_or found (record { place = place; reason = reason })
+
+-- the fault at a place, where something is wrong
+abbrev pub fault_if : Bool → Reason → ℕ → Option ScriptFault
+fault_if wrong reason place = then_some wrong (record { place = place; reason = reason })
 
 -- what is read, and then what is read after it, or the first fault
 infixl 10 ◌>>=◌

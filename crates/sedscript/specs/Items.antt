@@ -1,10 +1,10 @@
 -- The items of a script: addresses, and the functions after them (XCU sed, "Addresses in sed", "Extended Description").
 use Rattle.std.specs.Prelude.{ℕ, Bool, Result, Ok, Err, suc, ◌+◌, List, true, false, Option, Some, None, if◌then◌else◌, ◌==◌, slice_get}
-use Rattle.sedscript.specs.Types.{ScriptFault, BadAddress, OpenDelimiter, BadDelimiter, FlagOnEmpty, UnknownCommand, Address, Line, Last, Match, Addresses, Strings, Argument, Verb, Substitute, ItemOrEnd, Is, Ends}
+use Rattle.sedscript.specs.Types.{ScriptFault, BadAddress, OpenDelimiter, BadDelimiter, FlagOnEmpty, UnknownCommand, Address, Line, Last, Match, Addresses, Strings, Argument, Verb, ItemOrEnd, Is, Ends}
 use Rattle.sedscript.specs.Bytes.{Blank, Bang, Digit, past, bytes_between, is_digit, with_digits, is_byte, Separator}
 use Rattle.sedscript.specs.Functions.{fault, or_fault}
 use Rattle.sedscript.specs.Between.{own_delimiter, substitute_strings, flags_after, folds}
-use Rattle.sedscript.specs.Letters.{verb_of, allowed, substituted, argument_of}
+use Rattle.sedscript.specs.Letters.{verb_of, allowed, reads_expression, substituted, argument_of}
 use Rattle.sedre.specs.Brackets.{delimiter_at}
 
 -- a regular expression in a script: where it begins and ends, the delimiter there, and whether its flag `I` folds case (this project's own)
@@ -136,8 +136,8 @@ substitute_at text count at =
 
 -- what follows the letter at a place, which stands for this, and the place after it
 abbrev pub argument_with : List ℕ → ℕ → Verb → ℕ → Reading (Argument × ℕ)
-argument_with text count Substitute at = substitute_at text count at
-argument_with text count verb at = plainly (argument_of text verb at)
+argument_with text count verb at =
+    if reads_expression verb then substitute_at text count at else plainly (argument_of text verb at)
 
 -- an item with these addresses, the place of its letter and what that stands for, and the place after it
 abbrev pub item_of : Addresses → ℕ → Verb → Argument × ℕ → ItemOrEnd

@@ -1,7 +1,12 @@
--- The letters of the functions: what each stands for, its addresses, and what follows it (XCU sed, "Editing Commands in sed").
-use Rattle.std.specs.Prelude.{ℕ, List, Option, Some, None, is_some, if◌then◌else◌, ◌==◌, ◌+◌, false, not, ◌&&◌, nat_lt, slice_get, Result, Ok}
+-- The letters of the functions: what each stands for, and what is asked of it (XCU sed, "Editing Commands in sed").
+use Rattle.std.specs.Prelude.{ℕ, List, Option, Some, None, is_some, Bool, true, if◌then◌else◌, ◌==◌, ◌+◌, false, not, ◌&&◌, nat_lt, slice_get, Result, Ok}
 use Rattle.std.specs.Option.{option_len}
-use Rattle.sedscript.specs.Types.{ScriptFault, UnknownCommand, TooManyAddresses, MissingLabel, MissingText, MissingName, Addresses, Strings, Verb, Plain, Open, Close, Comment, Label, Branch, Text, File, Substitute, Transliterate, Argument, Nothing, Between, Pair, FlaggedPair, Always, IfReplaced, Append, Insert, Change, Read, Write, AppendHold, AppendNext, CopyHold, Delete, DeleteFirst, Exchange, Hold, HoldMore, LineNumber, listing, NextLine, Print, PrintFirst, Quit}
+use Rattle.sedscript.specs.Types.{ScriptFault, UnknownCommand, TooManyAddresses, MissingLabel, MissingText, MissingName, Addresses, Strings, Verb, Argument, Nothing, Between, Pair, FlaggedPair}
+use Rattle.sedscript.specs.declared.letters.Verb.TheVariants.{Plain, Open, Close, Comment, Label, Branch, Text, File, Substitute, Transliterate}
+use Rattle.sedscript.specs.declared.types.Simple.TheVariants as simple
+use Rattle.sedscript.specs.declared.types.TextUse.TheVariants.{Append, Insert, Change}
+use Rattle.sedscript.specs.declared.types.BranchUse.TheVariants.{Always, IfReplaced}
+use Rattle.sedscript.specs.declared.types.FileUse.TheVariants.{Read, Write}
 use Rattle.sedscript.specs.Bytes.{Blank, Name, Line, past, bytes_between}
 use Rattle.sedscript.specs.Functions.{fault, or_fault, ◌>>=◌, ended, text_from, name_from, spanned}
 use Rattle.sedscript.specs.Strings.{replacement_fault, strings_fault}
@@ -23,20 +28,20 @@ verb_of letter =
     else if letter == 119 then Some (File Write)  -- w
     else if letter == 115 then Some Substitute  -- s
     else if letter == 121 then Some Transliterate  -- y
-    else if letter == 61 then Some (Plain LineNumber)  -- =
-    else if letter == 100 then Some (Plain Delete)  -- d
-    else if letter == 68 then Some (Plain DeleteFirst)  -- D
-    else if letter == 108 then Some (Plain listing)  -- l
-    else if letter == 110 then Some (Plain NextLine)  -- n
-    else if letter == 78 then Some (Plain AppendNext)  -- N
-    else if letter == 112 then Some (Plain Print)  -- p
-    else if letter == 80 then Some (Plain PrintFirst)  -- P
-    else if letter == 113 then Some (Plain Quit)  -- q
-    else if letter == 103 then Some (Plain CopyHold)  -- g
-    else if letter == 71 then Some (Plain AppendHold)  -- G
-    else if letter == 104 then Some (Plain Hold)  -- h
-    else if letter == 72 then Some (Plain HoldMore)  -- H
-    else if letter == 120 then Some (Plain Exchange)  -- x
+    else if letter == 61 then Some (Plain simple.LineNumber)  -- =
+    else if letter == 100 then Some (Plain simple.Delete)  -- d
+    else if letter == 68 then Some (Plain simple.DeleteFirst)  -- D
+    else if letter == 108 then Some (Plain simple.List)  -- l
+    else if letter == 110 then Some (Plain simple.NextLine)  -- n
+    else if letter == 78 then Some (Plain simple.AppendNext)  -- N
+    else if letter == 112 then Some (Plain simple.Print)  -- p
+    else if letter == 80 then Some (Plain simple.PrintFirst)  -- P
+    else if letter == 113 then Some (Plain simple.Quit)  -- q
+    else if letter == 103 then Some (Plain simple.CopyHold)  -- g
+    else if letter == 71 then Some (Plain simple.AppendHold)  -- G
+    else if letter == 104 then Some (Plain simple.Hold)  -- h
+    else if letter == 72 then Some (Plain simple.HoldMore)  -- H
+    else if letter == 120 then Some (Plain simple.Exchange)  -- x
     else None
 
 -- the most addresses of a function; that `a`, `i`, `r` and `=` take two is this project's own, POSIX gives them one
@@ -44,8 +49,28 @@ abbrev pub most_addresses : Verb → ℕ
 most_addresses Label = 0
 most_addresses Close = 0
 most_addresses Comment = 0
-most_addresses (Plain Quit) = 1
+most_addresses (Plain simple.Quit) = 1
 most_addresses verb = 2
+
+-- whether a function becomes a command: all but `}`, `:` and `#` do
+abbrev pub becomes_command : Verb → Bool
+becomes_command Close = false
+becomes_command Label = false
+becomes_command Comment = false
+becomes_command verb = true
+
+-- whether a function opens a block, whether it closes one, and whether it reads a regular expression
+abbrev pub is_open : Verb → Bool
+is_open Open = true
+is_open verb = false
+
+abbrev pub is_close : Verb → Bool
+is_close Close = true
+is_close verb = false
+
+abbrev pub reads_expression : Verb → Bool
+reads_expression Substitute = true
+reads_expression verb = false
 
 -- what the letter at a place stands for, if it may have these addresses; none takes no `!` (this project's own)
 abbrev pub allowed : Addresses → ℕ → Option Verb → Result Verb ScriptFault
@@ -79,7 +104,7 @@ substituted text s e limit =
     unless_fault (replacement_fault s.delimiter limit false (s.middle + 1) (bytes_between text (s.middle + 1) s.to))
     (flagged text s e)
 
--- what follows the letter at a place, which stands for this and isn't `s`, and the place after it
+-- what follows the letter at a place, which stands for this and reads no expression, and the place after it
 abbrev pub argument_of : List ℕ → Verb → ℕ → Result (Argument × ℕ) ScriptFault
 argument_of text Open at = Ok (Nothing, at + 1)
 argument_of text Comment at = Ok (Nothing, past Line text (at + 1))

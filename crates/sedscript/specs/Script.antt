@@ -1,17 +1,20 @@
 -- What a script means (XCU sed, "Extended Description"), and the text that its parts make (XCU sed, Options).
-use Rattle.std.specs.Prelude.{ℕ, if◌then◌else◌, List, [], ◌∷◌, ◌++◌, nat_eq, ◌≤◌, length, Some, Ok, ◌≡◌, ◌+◌, Bool, true, false, not, ◌&&◌, Option, None, ◌==◌, slice_get, unwrap_or, option_map, filter_map}
+use Rattle.std.specs.Prelude.{ℕ, if◌then◌else◌, List, [], ◌∷◌, ◌++◌, nat_eq, ◌<◌, ◌≤◌, length, is_none, is_some, Some, Ok, ◌≡◌, ◌+◌, Bool, true, false, not, ◌&&◌, Option, None, ◌==◌, slice_get, unwrap_or, option_map, filter_map}
 use Rattle.std.specs.List.{cons_option, ends_with}
+use Rattle.std.specs.Option.{option_or}
 use Rattle.sedre.specs.declared.types.Kind.{Kind}
 use Rattle.sedre.specs.declared.types.Reason.{Reason as ExprReason}
 use Rattle.sedre.specs.Tree.{WrittenExpression, expression_tree}
 use Rattle.sedre.specs.Grammar.{ReadsAs, ExprFaulty}
 use Rattle.sedscript.specs.Bytes.{bytes_between, Separator, past}
 use Rattle.sedscript.specs.Items.{Pattern, Reading, plainly, expression, item_at}
-use Rattle.sedscript.specs.Types.{Action, Command, Read, Write, Flags, Strings, Verb, Plain, Open, Branch, Text, File, Substitute, Transliterate, Argument, Pair, FlaggedPair, Addresses, Item, Is}
+use Rattle.sedscript.specs.Types.{ScriptFault, OpenBlock, StrayClose, RepeatedLabel, UnknownLabel, Action, Command, Flags, Strings, Verb, Argument, Pair, FlaggedPair, Addresses, Item, Is}
+use Rattle.sedscript.specs.declared.letters.Verb.TheVariants.{Plain, Open, Close, Label, Branch, Text, File, Substitute, Transliterate}
 use Rattle.sedscript.specs.declared.types.Action.TheVariants as action
 use Rattle.sedscript.specs.declared.substitution.Substitution.{Substitution}
 use Rattle.sedscript.specs.Strings.{pieces_of, chars_of, bytes_of, table_of}
-use Rattle.sedscript.specs.Targets.{files_in, written_in, sink_name, number_in, branch_in, block_end, target_fault}
+use Rattle.sedscript.specs.Targets.{read_files, written_files, written_in, sink_of, number_in, FileWithin, label_in, branch_in, depth_after, block_end}
+use Rattle.sedscript.specs.Functions.{fault_if}
 use Rattle.sedscript.specs.Program.{Program}
 
 -- the text with one part more, and a newline where the part doesn't end with one
@@ -66,7 +69,7 @@ substitution_of text all s e f = record {
   number = unwrap_or f.number 1;
   global = f.global;
   print = f.print;
-  file = option_map (number_in Write text all) (sink_name text f);
+  file = sink_of text all f;
 }
 
 -- the substitution that follows a letter, if one does
@@ -103,6 +106,36 @@ action_of text all before after Substitute a = Some (action.Substitute (length (
 action_of text all before after Transliterate a = Some (action.Transliterate (length (tables_of text before)))
 action_of text all before after verb a = None
 
+-- an action leads to a command or the end, and has one of the texts, files, substitutions or tables
+abbrev pub ActionWithin : Program → Action → Type 0
+ActionWithin p (action.Block to) = to ≤ length p.commands
+ActionWithin p (action.Branch u to) = to ≤ length p.commands
+ActionWithin p (action.Text t k) = k < length p.texts
+ActionWithin p (action.File u k) = FileWithin p u k
+ActionWithin p (action.Substitute k) = k < length p.substitutions
+ActionWithin p (action.Transliterate k) = k < length p.tables
+ActionWithin p other = Unit {0}
+
+-- the fault of a function at a place among all items, given those before it, which leave so many blocks open, and those after
+-- it. That a label may not stand twice is this project's own
+abbrev pub target_fault_at : List ℕ → List Item → List Item → ℕ → List Item → ℕ → Verb → Argument → Option ScriptFault
+target_fault_at text all before depth after place Open a = fault_if (is_none (block_end before after)) OpenBlock place
+target_fault_at text all before depth after place Close a = fault_if (depth == 0) StrayClose place
+target_fault_at text all before depth after place Label a = fault_if (is_some (label_in text (written_in text a) 0 before)) RepeatedLabel place
+target_fault_at text all before depth after place (Branch u) a = fault_if (is_none (branch_in text all (written_in text a))) UnknownLabel place
+target_fault_at text all before depth after place verb a = None
+
+-- the first fault of labels and blocks in the items after these, which leave so many blocks open
+abbrev pub target_fault_in : List ℕ → List Item → List Item → ℕ → List Item → Option ScriptFault
+target_fault_in text all before depth [] = None
+target_fault_in text all before depth (i ∷ is) =
+    option_or (target_fault_at text all before depth is i.place i.verb i.argument)
+    (target_fault_in text all (before ++ i ∷ []) (depth_after depth i.verb) is)
+
+-- the first fault of labels and blocks, judged once the whole text is cut (this project's own)
+abbrev pub target_fault : List ℕ → List Item → Option ScriptFault
+target_fault text items = target_fault_in text items [] 0 items
+
 -- the command with these addresses and this action
 abbrev pub command_of : Addresses → Action → Command
 command_of a does = record { first = a.first; second = a.second; negate = a.negate; action = does }
@@ -135,7 +168,7 @@ pub record Means (text : List ℕ) (kind : Kind) (max_nodes : ℕ) (s : Program)
   pub texts : s.texts ≡ texts_of text items
   pub substitutions : s.substitutions ≡ substitutions_of text items items
   pub tables : s.tables ≡ tables_of text items
-  pub rfiles : s.rfiles ≡ files_in Read text items
-  pub wfiles : s.wfiles ≡ files_in Write text items
+  pub rfiles : s.rfiles ≡ read_files text items
+  pub wfiles : s.wfiles ≡ written_files text items
   pub quiet : s.quiet ≡ is_quiet text
   pub nodes : s.max_nodes ≡ max_nodes

@@ -4,7 +4,7 @@ use Rattle.std.specs.List.{cons_option, list_any, range_with_len}
 use Rattle.std.specs.Option.{option_or}
 use Rattle.sedscript.specs.Types.{ScriptFault, BadEscape, GroupAbsent, LengthsDiffer, RepeatedByte}
 use Rattle.sedscript.specs.Bytes.{is_digit, bytes_between}
-use Rattle.sedscript.specs.Targets.{fault_if}
+use Rattle.sedscript.specs.Functions.{fault_if}
 pub use Rattle.sedre.specs.Items.{is_letter}
 pub use Rattle.sedscript.specs.Types.{Piece, literal, whole, group, Char}
 

@@ -10,8 +10,9 @@ use Rattle.std.specs.Str.{bytes_eq}
 use Rattle.sedscript.specs.declared.targets.FirstLabel.{FirstLabel}
 use Rattle.sedscript.specs.declared.files.Files.{Files}
 use Rattle.sedscript.specs.declared.files.NumberedFiles.{NumberedFiles}
-use Rattle.sedscript.specs.Types.{Item, Verb, Read, Write}
-use Rattle.sedscript.specs.Targets.{files_in, is_label, counted, commands_in, is_open, is_close, close_in, block_end}
+use Rattle.sedscript.specs.Types.{Item, Verb}
+use Rattle.sedscript.specs.Targets.{read_files, written_files, is_label, counted, commands_in, close_in, block_end}
+use Rattle.sedscript.specs.Letters.{is_open, is_close}
 
 -- the first item with a label of this name, and the number of the command after it, where the items begin with this
 -- index and so many commands before them
@@ -82,8 +83,8 @@ pub record AreNumbered (first : ℕ) (names : List (List ℕ)) (f : NumberedFile
 
 -- the files that the items name; 0 is the number of the standard output
 pub record FilesAre (text : List ℕ) (items : List Item) (f : Files) : Type 0 where
-  pub read : AreNumbered 0 (files_in Read text items) f.read
-  pub written : AreNumbered 1 (files_in Write text items) f.written
+  pub read : AreNumbered 0 (read_files text items) f.read
+  pub written : AreNumbered 1 (written_files text items) f.written
 
 -- the tables are those of all items
 pub record TargetsAre (text : List ℕ) (items : List Item) (labels : BTreeMap (Bor (List ℕ)) FirstLabel)

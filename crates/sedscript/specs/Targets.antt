@@ -1,11 +1,14 @@
--- Where names lead: files, labels and blocks, and what is wrong with the last two (XCU sed, "Editing Commands in sed").
-use Rattle.std.specs.Prelude.{ℕ, List, [], ◌∷◌, Bool, true, not, Option, Some, None, codes, filter, filter_map, option_map, option_and_then, if◌then◌else◌, unwrap_or, suc, ◌-◌, ◌++◌, false, ◌&&◌, is_none, is_some, ◌==◌}
+-- Where names lead: files, labels and blocks (XCU sed, "Editing Commands in sed").
+use Rattle.std.specs.Prelude.{ℕ, List, [], ◌∷◌, Bool, true, not, Option, Some, None, codes, filter, filter_map, option_map, option_and_then, if◌then◌else◌, unwrap_or, suc, ◌-◌, false, ◌&&◌, ◌==◌, ◌<◌, ◌≤◌, length}
 use Rattle.std.specs.List.{position_from}
 use Rattle.std.specs.Str.{bytes_eq}
 use Rattle.std.specs.Bool.{then_some}
-use Rattle.std.specs.Option.{option_or}
-use Rattle.sedscript.specs.Types.{FileUse, Read, Write, Item, Flags, ScriptFault, Reason, UnknownLabel, RepeatedLabel, OpenBlock, StrayClose, Verb, Open, Close, Comment, Label, Branch, File, Argument, Between, FlaggedPair}
+use Rattle.sedscript.specs.Types.{FileUse, Item, Flags, Verb, Argument, Between, FlaggedPair}
+use Rattle.sedscript.specs.declared.types.FileUse.TheVariants.{Read, Write}
+use Rattle.sedscript.specs.declared.letters.Verb.TheVariants.{Label, File}
 use Rattle.sedscript.specs.Bytes.{bytes_between}
+use Rattle.sedscript.specs.Letters.{becomes_command, is_open, is_close}
+use Rattle.sedscript.specs.Program.{Program}
 
 -- the name or the text that follows a letter, as it is written; empty where none does
 abbrev pub written_in : List ℕ → Argument → List ℕ
@@ -45,6 +48,13 @@ distinct (n ∷ ns) = n ∷ filter (λ m. not (bytes_eq n m)) (distinct ns)
 abbrev pub files_in : FileUse → List ℕ → List Item → List (List ℕ)
 files_in u text items = distinct (filter_map (λ i. file_in u (name_in u text i.verb i.argument)) items)
 
+-- the files that the items read, and those that they write
+abbrev pub read_files : List ℕ → List Item → List (List ℕ)
+read_files text items = files_in Read text items
+
+abbrev pub written_files : List ℕ → List Item → List (List ℕ)
+written_files text items = files_in Write text items
+
 -- the number of a name among the items' files: from 0 for those read, and from 1 for those written, since 0 is the standard output
 abbrev pub number_in : FileUse → List ℕ → List Item → List ℕ → ℕ
 number_in Read text items name = unwrap_or (position_from (bytes_eq name) 0 (files_in Read text items)) 0
@@ -52,12 +62,14 @@ number_in Write text items name =
     if is_standard_output name then 0
     else unwrap_or (position_from (bytes_eq name) 1 (files_in Write text items)) 0
 
--- whether a function becomes a command: all but `}`, `:` and `#` do
-abbrev pub becomes_command : Verb → Bool
-becomes_command Close = false
-becomes_command Label = false
-becomes_command Comment = false
-becomes_command verb = true
+-- the number of the sink of an `s`, if it has one
+abbrev pub sink_of : List ℕ → List Item → Flags → Option ℕ
+sink_of text items f = option_map (number_in Write text items) (sink_name text f)
+
+-- a file is one of so many that are read, and a sink is the standard output or one of so many files that are written
+abbrev pub FileWithin : Program → FileUse → ℕ → Type 0
+FileWithin p Read k = k < length p.rfiles
+FileWithin p Write sink = sink ≤ length p.wfiles
 
 -- the number of commands up to and including this item, given the number before it
 abbrev pub counted : ℕ → Item → ℕ
@@ -83,15 +95,6 @@ abbrev pub branch_in : List ℕ → List Item → List ℕ → Option ℕ
 branch_in text items [] = Some (commands_in items)
 branch_in text items name = label_in text name 0 items
 
--- whether a function opens a block, and whether it closes one
-abbrev pub is_open : Verb → Bool
-is_open Open = true
-is_open verb = false
-
-abbrev pub is_close : Verb → Bool
-is_close Close = true
-is_close verb = false
-
 -- how many blocks are open after a function, given how many are before it
 abbrev pub depth_after : ℕ → Verb → ℕ
 depth_after depth verb = if is_open verb then suc depth else if is_close verb then depth - 1 else depth
@@ -106,27 +109,3 @@ close_in depth n (i ∷ is) =
 -- the end of the block whose brace stands between these items
 abbrev pub block_end : List Item → List Item → Option ℕ
 block_end before after = close_in 0 (suc (commands_in before)) after
-
--- the fault at a place, where something is wrong
-abbrev pub fault_if : Bool → Reason → ℕ → Option ScriptFault
-fault_if wrong reason place = then_some wrong (record { place = place; reason = reason })
-
--- the fault of a function at a place among all items, given those before it, which leave so many blocks open, and those after
--- it. That a label may not stand twice is this project's own
-abbrev pub target_fault_at : List ℕ → List Item → List Item → ℕ → List Item → ℕ → Verb → Argument → Option ScriptFault
-target_fault_at text all before depth after place Open a = fault_if (is_none (block_end before after)) OpenBlock place
-target_fault_at text all before depth after place Close a = fault_if (depth == 0) StrayClose place
-target_fault_at text all before depth after place Label a = fault_if (is_some (label_in text (written_in text a) 0 before)) RepeatedLabel place
-target_fault_at text all before depth after place (Branch u) a = fault_if (is_none (branch_in text all (written_in text a))) UnknownLabel place
-target_fault_at text all before depth after place verb a = None
-
--- the first fault of labels and blocks in the items after these, which leave so many blocks open
-abbrev pub target_fault_in : List ℕ → List Item → List Item → ℕ → List Item → Option ScriptFault
-target_fault_in text all before depth [] = None
-target_fault_in text all before depth (i ∷ is) =
-    option_or (target_fault_at text all before depth is i.place i.verb i.argument)
-    (target_fault_in text all (before ++ i ∷ []) (depth_after depth i.verb) is)
-
--- the first fault of labels and blocks, judged once the whole text is cut (this project's own)
-abbrev pub target_fault : List ℕ → List Item → Option ScriptFault
-target_fault text items = target_fault_in text items [] 0 items

@@ -6,17 +6,10 @@ pub use Rattle.sedscript.specs.declared.types.Address.{Address}
 pub use Rattle.sedscript.specs.declared.types.Address.TheVariants.{Last, Line, Match}
 pub use Rattle.sedscript.specs.declared.types.Action.{Action}
 pub use Rattle.sedscript.specs.declared.types.Command.{Command}
-pub use Rattle.sedscript.specs.declared.types.Simple.TheVariants.{AppendHold, AppendNext, CopyHold, Delete, DeleteFirst, Exchange, Hold, HoldMore, LineNumber, List as listing, NextLine, Print, PrintFirst, Quit}
-pub use Rattle.sedscript.specs.declared.types.TextUse.{TextUse}
-pub use Rattle.sedscript.specs.declared.types.TextUse.TheVariants.{Append, Change, Insert}
-pub use Rattle.sedscript.specs.declared.types.BranchUse.{BranchUse}
-pub use Rattle.sedscript.specs.declared.types.BranchUse.TheVariants.{Always, IfReplaced}
 pub use Rattle.sedscript.specs.declared.types.FileUse.{FileUse}
-pub use Rattle.sedscript.specs.declared.types.FileUse.TheVariants.{Read, Write}
 pub use Rattle.sedscript.specs.declared.items.Addresses.{Addresses}
 pub use Rattle.sedscript.specs.declared.items.Flags.{Flags}
 pub use Rattle.sedscript.specs.declared.letters.Verb.{Verb}
-pub use Rattle.sedscript.specs.declared.letters.Verb.TheVariants.{Branch, Close, Comment, File, Label, Open, Plain, Substitute, Text, Transliterate}
 pub use Rattle.sedscript.specs.declared.items.Argument.{Argument}
 pub use Rattle.sedscript.specs.declared.items.Argument.TheVariants.{Between, FlaggedPair, Nothing, Pair}
 pub use Rattle.sedscript.specs.declared.items.ItemOrEnd.{ItemOrEnd}

@@ -1,13 +1,14 @@
-//! The commands that the items become, and what they name by numbers.
+//! The commands that the items become, what they name by numbers, and what is wrong with their labels and blocks.
 
-ghost use Rattle.std.specs.Prelude.{◌≡◌, ◌++◌, List, [], false, map, option_map, IfOk, OnOk};
+ghost use Rattle.std.specs.Prelude.{◌≡◌, ◌+◌, ◌++◌, List, [], Some, false, drop, take, slice_get, map, option_map, IfOk, OnOk};
 ghost use Rattle.std.specs.List.{cons_option};
 ghost use Rattle.sedscript.specs.Tables.{TargetsAre, FilesAre, EndIs};
 ghost use Rattle.sedscript.specs.Parts.{OperandsAre};
-ghost use Rattle.sedscript.specs.Script.{action_of, command_of, commands_of, text_in, substitution_of, substitution_in, table_in, unescaped_from, is_quiet};
+ghost use Rattle.sedscript.specs.Script.{target_fault_at, target_fault, action_of, command_of, commands_of, text_in, substitution_of, substitution_in, table_in, unescaped_from, is_quiet};
 ghost use Rattle.sedscript.specs.declared.items.Item.{Item};
 
 use crate::files::Files;
+use crate::functions::fault_if;
 use crate::items::{Argument, Flags, Item, Strings};
 use crate::kept::Items;
 use crate::letters::Verb;
@@ -15,9 +16,9 @@ use crate::replacement::parts_of;
 use crate::script::Operands;
 use crate::strings::second_of;
 use crate::substitution::{Replacement, Substitution};
-use crate::targets::{Targets, opened, written_in};
+use crate::targets::{Targets, depth_after, opened, written_in};
 use crate::transliteration::table_between;
-use crate::types::{Action, Command};
+use crate::types::{Action, Command, Reason, ScriptFault};
 use std::alloc::{AllocError, Global};
 
 /// The action of an item; None where it doesn't become a command. The operands of the items before it are `operands`,
@@ -48,6 +49,62 @@ fn action_of<'a>(
         Verb::Transliterate => Some(Action::Transliterate(operands.tables.len())),
         _ => None,
     }
+}
+
+/// What is wrong with the item at index `k`, if anything is. The block that it opens ends at `end`, if it opens one, and
+/// `depth` blocks are open before it.
+fn target_fault_at<'a>(
+    text: &'a [u8],
+    targets: &Targets<'a>,
+    end: Option<usize>,
+    depth: usize,
+    k: usize,
+    item: Item,
+) -> Option<ScriptFault>
+    ensures { (items : List Item) →
+        TargetsAre text.now items targets.now.labels targets.now.ends.items targets.now.commands →
+        slice_get items k ≡ Some item → EndIs (take k items) (drop (k + 1) items) item.verb end →
+        result ≡ target_fault_at text.now items (take k items) depth (drop (k + 1) items) item.place item.verb item.argument }
+{
+    let name = written_in(text, item.argument);
+    match item.verb {
+        Verb::Open => fault_if(end.is_none(), Reason::OpenBlock, item.place),
+        Verb::Close => fault_if(depth == 0, Reason::StrayClose, item.place),
+        Verb::Label => fault_if(
+            targets.is_repeated(name, k),
+            Reason::RepeatedLabel,
+            item.place,
+        ),
+        Verb::Branch(_) => {
+            fault_if(
+                targets.branch(name).is_none(),
+                Reason::UnknownLabel,
+                item.place,
+            )
+        }
+        _ => None,
+    }
+}
+
+/// The first fault of labels and blocks, if there is one.
+pub fn target_fault<'a>(text: &'a [u8], items: &Items, targets: &Targets<'a>) -> Option<ScriptFault>
+    requires targets { TargetsAre text.now items.now targets.now.labels targets.now.ends.items targets.now.commands }
+    ensures { result ≡ target_fault text.now items.now }
+{
+    let mut blocks = 0;
+    let mut depth: usize = 0;
+    let mut k = 0;
+    'items: while k < items.len() {
+        let item = items.get(k);
+        let fault = target_fault_at(text, targets, targets.block_end(blocks), depth, k, item);
+        if fault.is_some() {
+            return fault;
+        }
+        blocks = opened(blocks, item.verb);
+        depth = depth_after(depth, item.verb);
+        k += 1;
+    }
+    None
 }
 
 /// Adds the command that an item becomes, if it has an action.

@@ -1,10 +1,9 @@
 //! The files that a script names: tables that are made once, so that no name is compared with all earlier ones.
 
-ghost use Rattle.std.specs.Prelude.{◌≡◌, ◌≤◌, ◌<◌, ◌+◌, ℕ, List, Some, length, unwrap_or, is_some, option_map, IfOk, OnOk};
-ghost use Rattle.sedscript.specs.Targets.{is_standard_output, is_file, sink_name, name_in, file_in, files_in, number_in};
+ghost use Rattle.std.specs.Prelude.{◌≡◌, ◌≤◌, ◌<◌, ◌+◌, ℕ, List, length, unwrap_or, is_some, option_map, IfOk, OnOk};
+ghost use Rattle.sedscript.specs.Targets.{is_standard_output, is_file, sink_name, sink_of, name_in, file_in, files_in, number_in};
 ghost use Rattle.sedscript.specs.Tables.{labelled, with_name, AreNumbered, FilesAre};
 ghost use Rattle.sedscript.specs.declared.items.Item.{Item};
-ghost use Rattle.sedscript.specs.declared.types.FileUse.TheVariants.{Write};
 
 use crate::bytes::bytes_between;
 use crate::items::{Argument, Flags, Item};
@@ -73,6 +72,14 @@ fn name_in(file_use: FileUse, text: &[u8], item: Item) -> Option<&[u8]>
     }
 }
 
+/// The name of the file that a function reads or writes, as `file_use` says, if it does so.
+fn file_in(file_use: FileUse, text: &[u8], item: Item) -> Option<&[u8]>
+    ensures { option_map (λ n. n.now) result ≡ file_in file_use (name_in file_use text.now item.verb item.argument) }
+{
+    let name = name_in(file_use, text, item)?;
+    is_file(file_use, name).then_some(name)
+}
+
 /// Whether a name has a number.
 fn is_numbered<'a>(numbers: &BTreeMap<&'a [u8], usize>, name: &'a [u8]) -> bool
     ensures { result ≡ is_some (labelled numbers.now name.now) }
@@ -80,18 +87,21 @@ fn is_numbered<'a>(numbers: &BTreeMap<&'a [u8], usize>, name: &'a [u8]) -> bool
     numbers.contains_key(&name)
 }
 
-/// Adds a name with the next number, unless it has one. The first one has the number `first`.
+/// Adds a file's name, if there is one, with the next number, unless it has one. The first one has the number `first`.
 fn add_name<'a>(
     alloc: Global,
     files: &mut NumberedFiles<'a>,
     first: usize,
-    name: &'a [u8],
+    found: Option<&'a [u8]>,
 ) -> Result<(), AllocError>
     requires { first + length files.old.names.items < usize.MAX }
     ensures few { OnOk result (length files.new.names.items ≤ length files.old.names.items + 1) }
     ensures added { OnOk result ((ns : List (List ℕ)) → AreNumbered first ns files.old →
-        AreNumbered first (with_name ns (Some name.now)) files.new) }
+        AreNumbered first (with_name ns (option_map (λ n. n.now) found.entry)) files.new) }
 {
+    let Some(name) = found else {
+        return Ok(());
+    };
     if is_numbered(&files.numbers, name) {
         return Ok(());
     }
@@ -101,28 +111,6 @@ fn add_name<'a>(
         Ok(_) => Ok(()),
         Err(_) => Err(AllocError),
     }
-}
-
-/// Adds the name, if it is a file's and new.
-fn add_file<'a>(
-    alloc: Global,
-    files: &mut NumberedFiles<'a>,
-    file_use: FileUse,
-    first: usize,
-    found: Option<&'a [u8]>,
-) -> Result<(), AllocError>
-    requires { first + length files.old.names.items < usize.MAX }
-    ensures few { OnOk result (length files.new.names.items ≤ length files.old.names.items + 1) }
-    ensures added { OnOk result ((ns : List (List ℕ)) → AreNumbered first ns files.old →
-        AreNumbered first (with_name ns (file_in file_use (option_map (λ n. n.now) found.entry))) files.new) }
-{
-    let Some(name) = found else {
-        return Ok(());
-    };
-    if !is_file(file_use, name) {
-        return Ok(());
-    }
-    add_name(alloc, files, first, name)
 }
 
 /// The files that the items read, or write, with numbers from `first` on.
@@ -142,8 +130,8 @@ fn numbered<'a>(
     };
     let mut k = 0;
     'items: while k < items.len() {
-        let found = name_in(file_use, text, items.get(k));
-        add_file(alloc, &mut files, file_use, first, found)?;
+        let found = file_in(file_use, text, items.get(k));
+        add_name(alloc, &mut files, first, found)?;
         k += 1;
     }
     Ok(files)
@@ -187,7 +175,7 @@ impl<'a> Files<'a> {
     /// The number of the sink of an `s`, if it has one.
     pub fn sink(&self, text: &'a [u8], flags: Flags) -> Option<usize>
         ensures { (items : List Item) → FilesAre text.now items self.now →
-            result ≡ option_map (number_in Write text.now items) (sink_name text.now flags) }
+            result ≡ sink_of text.now items flags }
     {
         let name = sink_name(text, flags)?;
         Some(self.number(FileUse::Write, name))

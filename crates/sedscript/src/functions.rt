@@ -2,7 +2,7 @@
 
 ghost use Rattle.std.specs.Prelude.{◌≡◌, ◌≤◌, ◌<◌, length, IfOk, IfSome};
 ghost use Rattle.sedscript.specs.Bytes.{past};
-ghost use Rattle.sedscript.specs.Functions.{may_end, ended, name_from, spanned};
+ghost use Rattle.sedscript.specs.Functions.{fault_if, may_end, ended, name_from, spanned};
 
 use crate::bytes::{Sort, byte_at, past};
 use crate::items::Argument;
@@ -16,6 +16,13 @@ pub fn may_end(next: Option<u8>) -> bool
         None => true,
         Some(b) => b == b'\n' || b == b';' || b == b'}' || b == b'#',
     }
+}
+
+/// The fault at a place, if something is wrong.
+pub fn fault_if(wrong: bool, reason: Reason, place: usize) -> Option<ScriptFault>
+    ensures { result ≡ fault_if wrong reason place }
+{
+    wrong.then_some(reason.at(place))
 }
 
 /// What follows a letter and the end of its command, if only blanks stand between `at` and that end.

@@ -9,7 +9,7 @@ use crate::between::{folds, strings_at};
 use crate::bytes::{Sort, byte_at, past};
 use crate::expressions::expression_at;
 use crate::items::{Addresses, Argument, Item, ItemOrEnd, Source};
-use crate::letters::{Verb, allowed, argument_of, substituted};
+use crate::letters::{Verb, allowed, argument_of, reads_expression, substituted};
 use crate::types::{Reason, ScriptFault};
 use sedre::Expr;
 
@@ -52,9 +52,10 @@ fn argument_with(
         (argument_with source.now.text.now (length exprs.old.items) verb at) }
     ensures within { IfOk result (λ found. (at < found.1) × (found.1 ≤ length source.now.text.now)) }
 {
-    match verb {
-        Verb::Substitute => substitute_at(source, exprs, at),
-        _ => argument_of(source.text, verb, at),
+    if reads_expression(verb) {
+        substitute_at(source, exprs, at)
+    } else {
+        argument_of(source.text, verb, at)
     }
 }
 

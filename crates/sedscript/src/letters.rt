@@ -1,8 +1,8 @@
-//! The letters of the functions: what each stands for, the addresses that it takes, and what follows it.
+//! The letters of the functions: what each stands for, and what is asked of it.
 
 ghost use Rattle.std.specs.Prelude.{◌≡◌, ◌≤◌, ◌<◌, length, IfOk};
 ghost use Rattle.std.specs.Option.{option_len};
-ghost use Rattle.sedscript.specs.Letters.{verb_of, most_addresses, allowed, name_at, label_at, transliterate_at, substituted, argument_of};
+ghost use Rattle.sedscript.specs.Letters.{verb_of, most_addresses, becomes_command, is_open, is_close, reads_expression, allowed, name_at, label_at, transliterate_at, substituted, argument_of};
 ghost use Rattle.sedscript.specs.Answers.{AreStrings};
 
 use crate::between::strings_at;
@@ -85,6 +85,34 @@ fn most_addresses(verb: Verb) -> usize
         Verb::Plain(Simple::Quit) => 1,
         _ => 2,
     }
+}
+
+/// Whether a function becomes a command: all but `}`, `:` and `#` do.
+pub fn becomes_command(verb: Verb) -> bool
+    ensures { result ≡ becomes_command verb }
+{
+    !matches!(verb, Verb::Close | Verb::Label | Verb::Comment)
+}
+
+/// Whether a function opens a block.
+pub fn is_open(verb: Verb) -> bool
+    ensures { result ≡ is_open verb }
+{
+    matches!(verb, Verb::Open)
+}
+
+/// Whether a function closes a block.
+pub fn is_close(verb: Verb) -> bool
+    ensures { result ≡ is_close verb }
+{
+    matches!(verb, Verb::Close)
+}
+
+/// Whether a function reads a regular expression.
+pub fn reads_expression(verb: Verb) -> bool
+    ensures { result ≡ reads_expression verb }
+{
+    matches!(verb, Verb::Substitute)
 }
 
 /// 1 where there is an address, and 0 where there is none.
@@ -173,7 +201,7 @@ pub fn substituted(
     ended(text, Argument::FlaggedPair(strings, expression, flags), end)
 }
 
-/// What follows the letter at `at`, which stands for this and isn't `s`, and the place after it.
+/// What follows the letter at `at`, which stands for this and reads no expression, and the place after it.
 pub fn argument_of(text: &[u8], verb: Verb, at: usize) -> Result<(Argument, usize), ScriptFault>
     requires { at < length text.now }
     ensures is { result ≡ argument_of text.now verb at }

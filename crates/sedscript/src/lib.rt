@@ -23,13 +23,10 @@ mod substitution;
 mod targets;
 mod texts;
 mod transliteration;
-mod types;
+pub mod types;
 
 pub use reader::read;
 pub use script::Script;
 pub use script_text::add_part;
 pub use substitution::{Piece, Replacement, ReplacementPart, Substitution};
-pub use types::{
-    Action, Address, BranchUse, Command, ExprFault, FileUse, Kind, NO_MEMORY, Reason, ScriptFault,
-    Simple, TextUse,
-};
+pub use types::{Action, Address, Command, ExprFault, Kind, NO_MEMORY, Reason, ScriptFault};

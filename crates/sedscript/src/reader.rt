@@ -7,13 +7,13 @@ ghost use Rattle.sedscript.specs.Answers.{IsJudged};
 ghost use Rattle.sedscript.specs.Tables.{TargetsAre};
 ghost use Rattle.sedscript.specs.declared.types.ScriptFault.{ScriptFault};
 
-use crate::commands::{commands_of, is_quiet};
+use crate::commands::{commands_of, is_quiet, target_fault};
 use crate::files::{Files, files_of};
 use crate::item_reader::item_at;
 use crate::items::{ItemOrEnd, Source};
 use crate::kept::Items;
 use crate::script::{Named, Operands, Script};
-use crate::targets::{Targets, target_fault, targets_of};
+use crate::targets::{Targets, targets_of};
 use crate::types::{Kind, NO_MEMORY, ScriptFault};
 use sedre::Expr;
 use sedre::laws::{fault_within, reads_as_one};

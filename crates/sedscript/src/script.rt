@@ -54,7 +54,7 @@ impl Model for Script {
 
 impl Script {
     ghost use Rattle.sedscript.specs.Program.{Program};
-    ghost use Rattle.sedscript.specs.Ranges.{InRange, CommandWithin, SubstitutionWithin, sizes_of};
+    ghost use Rattle.sedscript.specs.Ranges.{InRange, CommandWithin, SubstitutionWithin};
     ghost use Rattle.sedscript.specs.Parts.{program_of};
 
     /// A script of these parts.
@@ -81,7 +81,7 @@ impl Script {
     pub fn command(&self, i: usize) -> &Command
         requires { i < length self.now.commands }
         ensures is { slice_get self.now.commands i ≡ Some result.now }
-        ensures within { CommandWithin (sizes_of self.now) result.now }
+        ensures within { CommandWithin self.now result.now }
     {
         &self.commands[i]
     }
@@ -121,7 +121,7 @@ impl Script {
     pub fn substitution(&self, k: usize) -> &Substitution
         requires { k < length self.now.substitutions }
         ensures is { slice_get self.now.substitutions k ≡ Some result.now }
-        ensures within { SubstitutionWithin (sizes_of self.now) result.now }
+        ensures within { SubstitutionWithin self.now result.now }
     {
         &self.named.operands.substitutions[k]
     }

@@ -1,17 +1,17 @@
-//! Where labels and blocks lead, by tables that are made once so that nothing is searched anew; and what is wrong with them.
+//! Where labels and blocks lead, by tables that are made once so that nothing is searched anew.
 
-ghost use Rattle.std.specs.Prelude.{◌≡◌, ◌<◌, ◌≤◌, ◌+◌, ℕ, List, Option, Some, None, true, is_some, drop, take};
+ghost use Rattle.std.specs.Prelude.{◌≡◌, ◌<◌, ◌≤◌, ◌+◌, ℕ, List, Option, Some, None, true, is_some, take};
 ghost use Rattle.std.specs.Prelude.{slice_get, reverse, unwrap_or, if◌then◌else◌, IfOk, OnOk};
 ghost use Rattle.std.specs.Option.{option_or};
-ghost use Rattle.sedscript.specs.Targets.{written_in, counted, commands_in, is_label, label_in, branch_in, is_open, is_close, depth_after, fault_if, target_fault_at, target_fault};
+ghost use Rattle.sedscript.specs.Targets.{written_in, counted, commands_in, is_label, label_in, branch_in, depth_after};
+ghost use Rattle.sedscript.specs.Letters.{becomes_command};
 ghost use Rattle.sedscript.specs.declared.items.Item.{Item};
-ghost use Rattle.sedscript.specs.Tables.{TargetsAre, EndIs, ends_in, with_end, opened, unopened_by, labelled};
+ghost use Rattle.sedscript.specs.Tables.{TargetsAre, ends_in, with_end, opened, unopened_by, labelled};
 
 use crate::bytes::bytes_between;
 use crate::items::{Argument, Item};
 use crate::kept::Items;
-use crate::letters::Verb;
-use crate::types::{Reason, ScriptFault};
+use crate::letters::{Verb, becomes_command, is_close, is_open};
 use std::alloc::{AllocError, Global};
 use std::collections::BTreeMap;
 
@@ -34,27 +34,6 @@ pub fn written_in(text: &[u8], argument: Argument) -> &[u8]
     }
 }
 
-/// Whether a function becomes a command: all but `}`, `:` and `#` do.
-pub fn becomes_command(verb: Verb) -> bool
-    ensures { result ≡ Rattle.sedscript.specs.Targets.becomes_command verb }
-{
-    !matches!(verb, Verb::Close | Verb::Label | Verb::Comment)
-}
-
-/// Whether a function opens a block.
-fn is_open(verb: Verb) -> bool
-    ensures { result ≡ is_open verb }
-{
-    matches!(verb, Verb::Open)
-}
-
-/// Whether a function closes a block.
-fn is_close(verb: Verb) -> bool
-    ensures { result ≡ is_close verb }
-{
-    matches!(verb, Verb::Close)
-}
-
 /// The number of commands up to and including this item, where there are `n` before it.
 pub fn counted(n: usize, item: Item) -> usize
     requires { n < usize.MAX }
@@ -66,7 +45,7 @@ pub fn counted(n: usize, item: Item) -> usize
 
 /// The number of commands before this item, where there are `n` up to and including it.
 fn number_before(n: usize, item: Item) -> usize
-    requires { Rattle.sedscript.specs.Targets.becomes_command item.verb ≡ true → 1 ≤ n }
+    requires { becomes_command item.verb ≡ true → 1 ≤ n }
     ensures { n ≡ counted result item }
 {
     if becomes_command(item.verb) { n - 1 } else { n }
@@ -216,7 +195,7 @@ impl<'a> Targets<'a> {
     }
 
     /// Whether an item before the one at index `k` is a label of this name, as that is.
-    fn is_repeated(&self, name: &'a [u8], k: usize) -> bool
+    pub fn is_repeated(&self, name: &'a [u8], k: usize) -> bool
         ensures { (text : List ℕ) (items : List Item) (i : Item) →
             TargetsAre text items self.now.labels self.now.ends.items self.now.commands →
             slice_get items k ≡ Some i → is_label text name.now i.verb i.argument ≡ true →
@@ -237,50 +216,8 @@ impl<'a> Targets<'a> {
     }
 }
 
-/// The fault at a place, if something is wrong.
-pub fn fault_if(wrong: bool, reason: Reason, place: usize) -> Option<ScriptFault>
-    ensures { result ≡ fault_if wrong reason place }
-{
-    wrong.then_some(reason.at(place))
-}
-
-/// What is wrong with the item at index `k`, if anything is. The block that it opens ends at `end`, if it opens one, and
-/// `depth` blocks are open before it.
-fn target_fault_at<'a>(
-    text: &'a [u8],
-    targets: &Targets<'a>,
-    end: Option<usize>,
-    depth: usize,
-    k: usize,
-    item: Item,
-) -> Option<ScriptFault>
-    ensures { (items : List Item) →
-        TargetsAre text.now items targets.now.labels targets.now.ends.items targets.now.commands →
-        slice_get items k ≡ Some item → EndIs (take k items) (drop (k + 1) items) item.verb end →
-        result ≡ target_fault_at text.now items (take k items) depth (drop (k + 1) items) item.place item.verb item.argument }
-{
-    let name = written_in(text, item.argument);
-    match item.verb {
-        Verb::Open => fault_if(end.is_none(), Reason::OpenBlock, item.place),
-        Verb::Close => fault_if(depth == 0, Reason::StrayClose, item.place),
-        Verb::Label => fault_if(
-            targets.is_repeated(name, k),
-            Reason::RepeatedLabel,
-            item.place,
-        ),
-        Verb::Branch(_) => {
-            fault_if(
-                targets.branch(name).is_none(),
-                Reason::UnknownLabel,
-                item.place,
-            )
-        }
-        _ => None,
-    }
-}
-
 /// How many blocks are open after a function, where `depth` are open before it.
-fn depth_after(depth: usize, verb: Verb) -> usize
+pub fn depth_after(depth: usize, verb: Verb) -> usize
     requires { depth < usize.MAX }
     ensures is { result ≡ depth_after depth verb }
     ensures few { result ≤ depth + 1 }
@@ -292,25 +229,4 @@ fn depth_after(depth: usize, verb: Verb) -> usize
     } else {
         depth
     }
-}
-
-/// The first fault of labels and blocks, if there is one.
-pub fn target_fault<'a>(text: &'a [u8], items: &Items, targets: &Targets<'a>) -> Option<ScriptFault>
-    requires targets { TargetsAre text.now items.now targets.now.labels targets.now.ends.items targets.now.commands }
-    ensures { result ≡ target_fault text.now items.now }
-{
-    let mut blocks = 0;
-    let mut depth: usize = 0;
-    let mut k = 0;
-    'items: while k < items.len() {
-        let item = items.get(k);
-        let fault = target_fault_at(text, targets, targets.block_end(blocks), depth, k, item);
-        if fault.is_some() {
-            return fault;
-        }
-        blocks = opened(blocks, item.verb);
-        depth = depth_after(depth, item.verb);
-        k += 1;
-    }
-    None
 }

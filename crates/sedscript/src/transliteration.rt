@@ -8,9 +8,9 @@ ghost use Rattle.sedscript.specs.Answers.{marks_of};
 ghost use Rattle.sedscript.specs.Script.{table_between};
 
 use crate::bytes::bytes_between;
+use crate::functions::fault_if;
 use crate::items::Strings;
 use crate::strings::{escapes, second_of};
-use crate::targets::fault_if;
 use crate::types::{Reason, ScriptFault};
 use std::alloc::{AllocError, Global};
 

@@ -4,7 +4,7 @@
 //! the one last used only where it was tried.
 ghost use Rattle.std.specs.Prelude.{◌≡◌, ◌<◌, false, Some, Err, OnErr, Bool, Option, length, slice_set};
 ghost use Rattle.std.specs.Option.{ForSome};
-ghost use Rattle.sedscript.specs.Ranges.{AddressWithin, CommandWithin, sizes_of};
+ghost use Rattle.sedscript.specs.Ranges.{AddressWithin, CommandWithin};
 ghost use Rattle.sedscript.specs.declared.types.Address.TheVariants.{Match};
 ghost use Rattle.sedspace.specs.Stream.{lines_left};
 ghost use Rattle.sedengine.specs.Select.{answer};
@@ -135,7 +135,7 @@ impl Machine {
         lines: &mut Lines<R>,
     ) -> Result<Chosen, Ended>
         requires there { k < length self.old.script.commands }
-        requires within { CommandWithin (sizes_of self.old.script) command.now }
+        requires within { CommandWithin self.old.script command.now }
         requires turn { self.old.state.turns < self.old.limits.turns }
         ensures judges { lines.old.fault ≡ None → ForSome (lines_left R.remaining lines.old) (λ ls.
             Judges (current_in self.old (none_left ls)) (is_active self.old.state k) command.now

@@ -1,25 +1,26 @@
 //! The commands (XCU sed, "Editing Commands in sed"): `act` and the calls that it passes commands on to have a case for each.
-ghost use Rattle.std.specs.Prelude.{◌≡◌, ◌<◌, ◌≤◌, ◌+◌, [], ◌∷◌, None, Ok, Err, OnOk, Bool, ℕ, List, true, false, length, slice_get};
-ghost use Rattle.std.specs.Option.{ForSome};
-ghost use Rattle.sedscript.specs.Ranges.{ActionWithin, sizes_of};
+ghost use Rattle.std.specs.Prelude.{◌≡◌, ◌<◌, ◌≤◌, ◌+◌, ◌^◌, [], ◌∷◌, Ok, Err, Bool, List, true, false, length, slice_get};
+ghost use Rattle.sedscript.specs.Script.{ActionWithin};
 ghost use Rattle.sedscript.specs.declared.types.Action.TheVariants.{Plain};
-ghost use Rattle.sedspace.specs.Stream.{lines_left};
-ghost use Rattle.sedengine.specs.State.{do_at, flush, print_pattern, TellsFiles};
-ghost use Rattle.sedengine.specs.Move.{acts, passes, line_to, writes_text_at};
+ghost use Rattle.sedengine.specs.State.{do_at, flush, print_pattern};
+ghost use Rattle.sedengine.specs.Move.{acts, line_to, writes_text_at};
 ghost use Rattle.sedengine.specs.Ends.{is_next};
-ghost use Rattle.sedengine.specs.Meters.{SinkView};
+ghost use Rattle.sedengine.specs.Inside.{holds};
+ghost use Rattle.sedengine.specs.Passing.{NeedWithin, behind_by, need_of_action};
 ghost use Rattle.sedengine.specs.Calls.{Delivers, Puts};
-ghost use Rattle.sedengine.specs.Run.{SameRun, at_lines, run_setting};
-ghost use Rattle.sedengine.specs.Steps.{reaches, ActsHere, HasAction, LeavesGiven, LeavesLines, MakesMove, PerformsSteps, Steps, takes_further_line, weight};
+ghost use Rattle.sedengine.specs.Choose.{passed_over};
+ghost use Rattle.sedengine.specs.Steps.{reaches, ActsHere, ActsLines, Advances, HasAction, takes_further_line};
 
 use super::Machine;
 use crate::ends::Ended;
+use crate::idle::Need;
 use crate::listing::write_listing;
 use crate::meter::MeteredSinks;
 use crate::next_step::NextStep;
 use crate::write::write_line;
 use itoa::Buffer;
-use sedscript::{Action, BranchUse, Command, FileUse, Simple, TextUse};
+use sedscript::types::{BranchUse, FileUse, Simple, TextUse};
+use sedscript::{Action, Command, Script};
 use sedspace::{ByteSource, Lines, Texts};
 
 /// Whether `c` writes its text: without a range, at a range's end, and with `!`.
@@ -27,6 +28,41 @@ fn writes_text(command: &Command, end: bool) -> bool
     ensures { result ≡ writes_text_at command.now end }
 {
     command.second.is_none() || end || command.negate
+}
+
+/// Whether an action puts something into the hold space.
+pub(crate) fn is_holding(action: &Action) -> bool
+    ensures { result ≡ holds action.now }
+{
+    matches!(
+        action,
+        Action::Plain(Simple::Hold | Simple::HoldMore | Simple::Exchange)
+    )
+}
+
+/// What an action needs to do nothing where it applies.
+pub(crate) fn need_of_action(script: &Script, action: Action) -> Option<Need>
+    requires { ActionWithin script.now action }
+    ensures is { result ≡ need_of_action script.now.substitutions action }
+    ensures within { NeedWithin (length script.now.expressions) result }
+{
+    match action {
+        Action::Substitute(k) => script.substitution(k).expression.map(Need::NoMatch),
+        Action::Block(_) | Action::Branch(..) => Some(Need::Nothing),
+        _ => None,
+    }
+}
+
+/// Where the script goes on behind command `k`, if that does nothing.
+pub(crate) fn behind(command: &Command, k: usize) -> usize
+    requires { k + 1 < 2 ^ 64 }
+    ensures { result ≡ behind_by command.now.first command.now.action k }
+{
+    match (command.first, command.action) {
+        (Some(_), Action::Block(next)) => next,
+        (None, Action::Branch(BranchUse::Always, target)) => target,
+        _ => k + 1,
+    }
 }
 
 impl Machine {
@@ -40,12 +76,7 @@ impl Machine {
     ) -> Result<(), Ended>
         requires at { self.old.state.tasks ≡ do_at k ∷ [] }
         requires sinks { length self.old.script.wfiles < O.count outputs.old }
-        ensures steps { lines.old.fault ≡ None → ForSome (lines_left R.remaining lines.old) (λ ls.
-            (files : ℕ → List ℕ) → TellsFiles (T.text texts.old) files →
-            Steps R.remaining lines.old lines.new ls self.old.limits (run_setting self.old files) self.old self.new
-            (O.tally outputs.old) (O.tally outputs.new) result) }
-        ensures falls { OnOk result (weight self.new < weight self.old) }
-        ensures leaves { LeavesLines R.remaining R.failures R.reference O.tally O.count T.text self.old self.new
+        ensures { Advances R.remaining R.failures R.reference O.tally O.count T.text self.old self.new
             lines.old lines.new outputs.old outputs.new texts.old texts.new result }
     {
         if k >= self.script.len() {
@@ -83,17 +114,11 @@ impl Machine {
     ) -> Result<(), Ended>
         requires at { reaches self.old.state.tasks ≡ true }
         requires number { self.old.state.number < self.old.state.turns }
-        requires within { ActionWithin (sizes_of self.old.script) action }
+        requires within { ActionWithin self.old.script action }
         requires action { HasAction (slice_get self.old.script.commands k) action }
         requires sinks { length self.old.script.wfiles < O.count outputs.old }
-        ensures acts { lines.old.fault ≡ None → ForSome (lines_left R.remaining lines.old) (λ ls.
-            (files : ℕ → List ℕ) → TellsFiles (T.text texts.old) files →
-            PerformsSteps R.remaining lines.old lines.new ls self.old.limits (run_setting self.old files)
-            (acts (run_setting self.old files) (at_lines self.old ls) writes_text action) (is_next action) (at_lines self.old ls) self.new
-            (O.tally outputs.old) (O.tally outputs.new) result) }
-        ensures falls { weight self.new ≤ weight self.old + 8 }
-        ensures leaves { LeavesLines R.remaining R.failures R.reference O.tally O.count T.text self.old self.new
-            lines.old lines.new outputs.old outputs.new texts.old texts.new result }
+        ensures { ActsLines R.remaining R.failures R.reference O.tally O.count T.text (λ g s. acts g s writes_text action) (is_next action)
+            self.old self.new lines.old lines.new outputs.old outputs.new texts.old texts.new result }
     {
         match action {
             Action::Plain(Simple::AppendNext) => self.act_append_next(lines, outputs, texts),
@@ -112,14 +137,12 @@ impl Machine {
         texts: &mut T,
     ) -> Result<(), Ended>
         requires at { reaches self.old.state.tasks ≡ true }
-        requires within { ActionWithin (sizes_of self.old.script) action }
+        requires within { ActionWithin self.old.script action }
         requires action { HasAction (slice_get self.old.script.commands k) action }
         requires here { takes_further_line action ≡ false }
         requires sinks { length self.old.script.wfiles < O.count outputs.old }
-        ensures acts { ActsHere T.text texts.old self.old self.new writes_text action (O.tally outputs.old)
-            (O.tally outputs.new) result }
-        ensures falls { weight self.new ≤ weight self.old + 8 }
-        ensures leaves { LeavesGiven O.tally O.count T.text self.old self.new outputs.old outputs.new texts.old texts.new result }
+        ensures { ActsHere O.tally O.count T.text (λ g s. acts g s writes_text action) self.old self.new
+            outputs.old outputs.new texts.old texts.new result }
     {
         self.is_within_limits();
         match action {
@@ -163,10 +186,8 @@ impl Machine {
         requires action { HasAction (slice_get self.old.script.commands k) (Plain simple) }
         requires here { takes_further_line (Plain simple) ≡ false }
         requires sink { 0 < O.count outputs.old }
-        ensures acts { (writes_text : Bool) → ActsHere T.text texts.old self.old self.new writes_text (Plain simple)
-            (O.tally outputs.old) (O.tally outputs.new) result }
-        ensures falls { weight self.new ≤ weight self.old + 8 }
-        ensures leaves { LeavesGiven O.tally O.count T.text self.old self.new outputs.old outputs.new texts.old texts.new result }
+        ensures { (writes_text : Bool) → ActsHere O.tally O.count T.text (λ g s. acts g s writes_text (Plain simple)) self.old self.new
+            outputs.old outputs.new texts.old texts.new result }
     {
         self.is_within_limits();
         match simple {
@@ -205,16 +226,12 @@ impl Machine {
     fn act_quit(&mut self)
         ensures { self.new ≡ record self.old { state = record self.old.state { tasks = print_pattern ∷ flush ∷ [] } } }
     {
-        self.next_step = NextStep::Quit;
+        self.next_step = NextStep::WriteLast;
     }
 
     /// Does what a command does where it doesn't apply: `{` passes over its block.
     fn pass(&mut self, action: Action)
-        ensures passes { (files : ℕ → List ℕ) (sinks : SinkView) (ls : List (List ℕ)) →
-            MakesMove self.old.limits (run_setting self.old files) (passes (at_lines self.old ls) action)
-            (at_lines self.old ls) (at_lines self.new ls) sinks sinks (Ok tt) }
-        ensures falls { weight self.new ≤ weight self.old + 8 }
-        ensures same { SameRun self.old self.new }
+        ensures { self.new ≡ passed_over self.old action }
     {
         if let Action::Block(next) = action {
             self.next_step = NextStep::Do(next);

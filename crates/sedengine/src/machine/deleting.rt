@@ -1,9 +1,10 @@
 //! The commands `c`, `d` and `D`: the pattern space is deleted, and a cycle starts (XCU sed, "Editing Commands in sed").
-ghost use Rattle.std.specs.Prelude.{◌<◌, ◌≤◌, ◌+◌, true, length};
+ghost use Rattle.std.specs.Prelude.{◌<◌, true, length};
 ghost use Rattle.sedscript.specs.declared.types.Action.TheVariants.{Plain, Text};
 ghost use Rattle.sedscript.specs.declared.types.Simple.TheVariants.{Delete, DeleteFirst};
 ghost use Rattle.sedscript.specs.declared.types.TextUse.TheVariants.{Change};
-ghost use Rattle.sedengine.specs.Steps.{ActsHere, LeavesGiven, weight};
+ghost use Rattle.sedengine.specs.Move.{acts};
+ghost use Rattle.sedengine.specs.Steps.{ActsHere};
 
 use super::Machine;
 use crate::ends::Ended;
@@ -24,10 +25,8 @@ impl Machine {
     ) -> Result<(), Ended>
         requires text { text < length self.old.script.texts }
         requires sink { 0 < O.count outputs.old }
-        ensures acts { ActsHere T.text texts.old self.old self.new writes_text (Text Change text) (O.tally outputs.old)
-            (O.tally outputs.new) result }
-        ensures falls { weight self.new ≤ weight self.old + 8 }
-        ensures leaves { LeavesGiven O.tally O.count T.text self.old self.new outputs.old outputs.new texts.old texts.new result }
+        ensures { ActsHere O.tally O.count T.text (λ g s. acts g s writes_text (Text Change text)) self.old self.new
+            outputs.old outputs.new texts.old texts.new result }
     {
         self.pattern.clear();
         if !writes_text {
@@ -44,10 +43,8 @@ impl Machine {
         texts: &mut T,
     ) -> Result<(), Ended>
         requires { 0 < O.count outputs.old }
-        ensures acts { ActsHere T.text texts.old self.old self.new true (Plain Delete) (O.tally outputs.old)
-            (O.tally outputs.new) result }
-        ensures falls { weight self.new ≤ weight self.old + 8 }
-        ensures leaves { LeavesGiven O.tally O.count T.text self.old self.new outputs.old outputs.new texts.old texts.new result }
+        ensures { ActsHere O.tally O.count T.text (λ g s. acts g s true (Plain Delete)) self.old self.new
+            outputs.old outputs.new texts.old texts.new result }
     {
         self.pattern.clear();
         self.end_cycle(NextStep::Begin, outputs, texts)
@@ -61,10 +58,8 @@ impl Machine {
         texts: &mut T,
     ) -> Result<(), Ended>
         requires { 0 < O.count outputs.old }
-        ensures acts { ActsHere T.text texts.old self.old self.new true (Plain DeleteFirst) (O.tally outputs.old)
-            (O.tally outputs.new) result }
-        ensures falls { weight self.new ≤ weight self.old + 8 }
-        ensures leaves { LeavesGiven O.tally O.count T.text self.old self.new outputs.old outputs.new texts.old texts.new result }
+        ensures { ActsHere O.tally O.count T.text (λ g s. acts g s true (Plain DeleteFirst)) self.old self.new
+            outputs.old outputs.new texts.old texts.new result }
     {
         if self.pattern.cut_line() {
             self.end_cycle(NextStep::Rebegin, outputs, texts)

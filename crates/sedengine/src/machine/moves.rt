@@ -1,11 +1,11 @@
 //! The moves one after another.
-ghost use Rattle.std.specs.Prelude.{◌≡◌, ◌<◌, None, Err, OnOk, ℕ, List, length};
+ghost use Rattle.std.specs.Prelude.{◌≡◌, ◌<◌, None, Err, ℕ, List, length};
 ghost use Rattle.std.specs.Option.{ForSome};
 ghost use Rattle.sedspace.specs.Stream.{lines_left};
 ghost use Rattle.sedengine.specs.Meters.{Sent};
 ghost use Rattle.sedengine.specs.Run.{Cycles, Ending, at_lines, run_setting, starts_cycle, outcome, input_of};
 ghost use Rattle.sedengine.specs.State.{TellsFiles};
-ghost use Rattle.sedengine.specs.Steps.{LeavesLines, Steps, weight};
+ghost use Rattle.sedengine.specs.Steps.{Advances, LeavesLines};
 
 use super::Machine;
 use crate::ends::{Ended, Progress};
@@ -22,19 +22,14 @@ impl Machine {
         texts: &mut T,
     ) -> Result<(), Ended>
         requires { length self.old.script.wfiles < O.count outputs.old }
-        ensures steps { lines.old.fault ≡ None → ForSome (lines_left R.remaining lines.old) (λ ls.
-            (files : ℕ → List ℕ) → TellsFiles (T.text texts.old) files →
-            Steps R.remaining lines.old lines.new ls self.old.limits (run_setting self.old files) self.old self.new
-            (O.tally outputs.old) (O.tally outputs.new) result) }
-        ensures falls { OnOk result (weight self.new < weight self.old) }
-        ensures leaves { LeavesLines R.remaining R.failures R.reference O.tally O.count T.text self.old self.new
+        ensures { Advances R.remaining R.failures R.reference O.tally O.count T.text self.old self.new
             lines.old lines.new outputs.old outputs.new texts.old texts.new result }
     {
         match self.next_step {
             NextStep::Begin => self.begin(lines),
             NextStep::Rebegin => self.rebegin(),
             NextStep::Do(k) => self.reach(k, lines, outputs, texts),
-            NextStep::Quit => self.quit(outputs, texts),
+            NextStep::WriteLast => self.quit(outputs, texts),
             NextStep::Ended => Err(Ended::Done),
         }
     }

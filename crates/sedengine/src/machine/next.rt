@@ -4,12 +4,12 @@ ghost use Rattle.std.specs.Option.{ForSome};
 ghost use Rattle.sedscript.specs.declared.types.Action.TheVariants.{Plain};
 ghost use Rattle.sedscript.specs.declared.types.Simple.TheVariants.{AppendNext};
 ghost use Rattle.sedspace.specs.Stream.{lines_left};
-ghost use Rattle.sedengine.specs.State.{empty_pattern, fetch, flush, join, TellsFiles};
+ghost use Rattle.sedengine.specs.State.{empty_pattern, fetch, join};
 ghost use Rattle.sedengine.specs.Move.{acts, newline, then_do};
 ghost use Rattle.sedengine.specs.Meters.{SinkView};
 ghost use Rattle.sedengine.specs.Calls.{ReadsAlone};
 ghost use Rattle.sedengine.specs.Run.{SameRun, at_lines, run_setting};
-ghost use Rattle.sedengine.specs.Steps.{reaches, LeavesLines, PerformsSteps, StepsFrom, weight};
+ghost use Rattle.sedengine.specs.Steps.{reaches, ActsLines, StepsFrom, weight};
 ghost use Rattle.sedengine.specs.Bringing.{Brings, brought, next_line};
 
 use super::Machine;
@@ -31,17 +31,11 @@ impl Machine {
         requires at { reaches self.old.state.tasks ≡ true }
         requires number { self.old.state.number < self.old.state.turns }
         requires sink { 0 < O.count outputs.old }
-        ensures acts { lines.old.fault ≡ None → ForSome (lines_left R.remaining lines.old) (λ ls.
-            (files : ℕ → List ℕ) → TellsFiles (T.text texts.old) files →
-            PerformsSteps R.remaining lines.old lines.new ls self.old.limits (run_setting self.old files)
-            (next_line (at_lines self.old ls)) true (at_lines self.old ls) self.new
-            (O.tally outputs.old) (O.tally outputs.new) result) }
-        ensures falls { weight self.new ≤ weight self.old + 8 }
-        ensures leaves { LeavesLines R.remaining R.failures R.reference O.tally O.count T.text self.old self.new
-            lines.old lines.new outputs.old outputs.new texts.old texts.new result }
+        ensures { ActsLines R.remaining R.failures R.reference O.tally O.count T.text (λ g s. next_line s) true
+            self.old self.new lines.old lines.new outputs.old outputs.new texts.old texts.new result }
     {
         if is_last(lines)? {
-            self.next_step = NextStep::Quit;
+            self.next_step = NextStep::WriteLast;
             return Ok(());
         }
         self.print_and_flush(outputs, texts)?;
@@ -95,14 +89,8 @@ impl Machine {
         requires at { reaches self.old.state.tasks ≡ true }
         requires number { self.old.state.number < self.old.state.turns }
         requires sink { 0 < O.count outputs.old }
-        ensures acts { lines.old.fault ≡ None → ForSome (lines_left R.remaining lines.old) (λ ls.
-            (files : ℕ → List ℕ) → TellsFiles (T.text texts.old) files →
-            PerformsSteps R.remaining lines.old lines.new ls self.old.limits (run_setting self.old files)
-            (acts (run_setting self.old files) (at_lines self.old ls) true (Plain AppendNext)) false (at_lines self.old ls) self.new
-            (O.tally outputs.old) (O.tally outputs.new) result) }
-        ensures falls { weight self.new ≤ weight self.old + 8 }
-        ensures leaves { LeavesLines R.remaining R.failures R.reference O.tally O.count T.text self.old self.new
-            lines.old lines.new outputs.old outputs.new texts.old texts.new result }
+        ensures { ActsLines R.remaining R.failures R.reference O.tally O.count T.text (λ g s. acts g s true (Plain AppendNext)) false
+            self.old self.new lines.old lines.new outputs.old outputs.new texts.old texts.new result }
     {
         self.flush(outputs, texts)?;
         self.join(lines)

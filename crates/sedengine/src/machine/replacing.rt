@@ -59,13 +59,14 @@ impl Machine {
         ensures fits { length self.new.state.pattern ≤ self.new.limits.space }
         ensures same { self.new ≡ same_but_replaced self.old self.new.state }
     {
-        let Some(e) = self.script.substitution(k).expression.or(self.used) else {
+        let substitution = self.script.substitution(k);
+        let Some(e) = substitution.expression.or(self.used) else {
             return Err(Ended::NoPrevious(self.number));
         };
         self.used = Some(e);
         self.seeking.begin(e);
         let built = build_text(
-            self.script.substitution(k),
+            substitution,
             self.pattern.bytes(),
             &mut self.matchers[e],
             &mut self.build,

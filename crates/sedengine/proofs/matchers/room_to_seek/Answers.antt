@@ -1,4 +1,5 @@
 use Rattle.sedmatch.specs.declared.occurrences.Occurrences.{Occurrences}
+use Rattle.sedengine.proofs.Telling.{le_zero}
 use Rattle.sedengine.proofs.Fitting.{ok_with, sought, sought_fit}
 use Rattle.sedengine.proofs.matchers.room_to_seek.Goals as goal
 
@@ -11,3 +12,12 @@ pub returns : goal.returns
 returns c =
     let same = sought c.args.script.now.expressions c.args.limits.now.nodes c.args.matchers.now.items c.requires.seek in
     ok_with c.new-2.result (λ (o : Occurrences) has some. has) (rw (c.space.ensures.value, c.deref-2.ensures.value, same) at c.new-2.ensures)
+
+pub new-requires-clause-text : goal.new-requires-clause-text
+new-requires-clause-text c = le_zero
+
+pub new-requires-clause-nodes : goal.new-requires-clause-nodes
+new-requires-clause-nodes c = c.most_nodes-most.ensures.few
+
+pub new-requires-2-clause-nodes : goal.new-requires-2-clause-nodes
+new-requires-2-clause-nodes c = c.most_nodes-most.ensures.few

@@ -1,42 +1,58 @@
-use Rattle.std.proofs.Common.{arith, ◌-◌, ◌∙◌, Bool, Err, ap, drop, length, refl, subst, sym, take}
+use Rattle.std.proofs.Common.{rules, arith, ◌-◌, ◌∙◌, Bool, Err, ap, drop, length, refl, subst, sym, take}
 use Rattle.std.specs.Prelude.{slice_range}
 use Rattle.sedengine.specs.SubstituteParts.{GroupsOf, has_group}
 use Rattle.sedengine.proofs.Due.{appended, due_after, due_cut, due_full, due_next, due_rest}
 use Rattle.sedengine.proofs.Due.{groups_paid, lies_on, more_pending, none_pending}
 use Rattle.sedengine.proofs.Fitting.{keeps_trans}
-use Rattle.sedengine.proofs.Telling.{takes_paid}
+use Rattle.sedengine.proofs.Telling.{le_same, le_zero, takes_paid}
 use Rattle.sedengine.proofs.substitute.append_replaced.Goals as goal
 
-pub put-requires-clause-groups_in : goal.put-requires-clause-groups_in
-put-requires-clause-groups_in c = λ some.
-    let told = rw c.in-Some.is at c.occurrences.invariant.groups in
-    (told (ap has_group (sym c.parts-parts.ensures.pieces) ∙ some)).1
+pub put-requires : goal.put-requires
+put-requires c = record {
+  within = search rules;
+  lies = let lies = rw c.in-Some.is at c.occurrences.invariant.lies in (lies.1, lies.2, tt);
+  groups_in = λ some.
+      let told = rw c.in-Some.is at c.occurrences.invariant.groups in
+      (told (ap has_group (sym c.parts-parts.ensures.pieces) ∙ some)).1;
+}
 
-pub returns-in_err-append-clause-appends : goal.returns-in_err-append-clause-appends
-returns-in_err-append-clause-appends c =
-    let l = c.occurrences in
-    let i = l.invariant in
-    let s = c.args.replacing.substitution.now in
-    let due = due_next c.args.build.now l.build _ c.args.matcher.now c.args.replacing.text.now s.replacement s.global l.copied
-    l.findings.groups l.occurrence c.in-Some.span c.in-Some.is i.groups (i.limit, i.made) in
-    let before = slice_range c.args.replacing.text.now l.copied c.in-Some.span.0 in
-    let a = c.in_err-append.ensures in
-    let f = c.in_err-append.field-0.0 in
-    let full = appended l.build c.append.new.self before before (Err f) refl a.ok a.full a.err in
-    due_full c.args.build.now l.build c.append.new.self _ before _ f c.from_residual.result
-    c.from_residual.ensures.0 due full
+pub returns-in_err-append : goal.returns-in_err-append
+returns-in_err-append c = record {
+  appends = let l = c.occurrences in
+      let i = l.invariant in
+      let s = c.args.replacing.substitution.now in
+      let due = due_next c.args.build.now l.build _ c.args.matcher.now c.args.replacing.text.now s.replacement s.global l.copied
+      l.findings.groups l.occurrence c.in-Some.span c.in-Some.is i.groups (i.limit, i.made) in
+      let before = slice_range c.args.replacing.text.now l.copied c.in-Some.span.0 in
+      let a = c.in_err-append.ensures in
+      let f = c.in_err-append.field-0.0 in
+      let full = appended l.build c.append.new.self before before (Err f) refl a.ok a.full a.err in
+      due_full c.args.build.now l.build c.append.new.self _ before _ f c.from_residual.result
+      c.from_residual.ensures.0 due full;
+  same = let i = c.occurrences.invariant in (i.matcher, i.scratch);
+  kept = c.occurrences.invariant.kept;
+  cost = let i = c.occurrences.invariant in takes_paid _ _ i.grows i.cost;
+  group_cost = let i = c.occurrences.invariant in takes_paid _ _ i.groups_grow i.group_cost;
+  linear_group_cost = let i = c.occurrences.invariant in takes_paid _ _ i.groups_grow i.linear_group_cost;
+}
 
-pub returns-in_err-put-clause-appends : goal.returns-in_err-put-clause-appends
-returns-in_err-put-clause-appends c =
-    let l = c.occurrences in
-    let i = l.invariant in
-    let s = c.args.replacing.substitution.now in
-    let cut = c.append.new.self in
-    let due = due_cut c.args.build.now l.build cut _ c.args.matcher.now c.args.replacing.text.now s.replacement _ s.global l.copied
-    l.findings.groups l.occurrence c.in-Some.span c.in-Some.is i.groups c.parts-parts.ensures.pieces (i.limit, i.made)
-    c.in_ok-append.ensures.ok in
-    due_full c.args.build.now cut c.put.new.build _ _ _ c.in_err-put.field-0.0 c.from_residual-in_err-put.result
-    c.from_residual-in_err-put.ensures.0 due c.in_err-put.ensures
+pub returns-in_err-put : goal.returns-in_err-put
+returns-in_err-put c = record {
+  appends = let l = c.occurrences in
+      let i = l.invariant in
+      let s = c.args.replacing.substitution.now in
+      let cut = c.append.new.self in
+      let due = due_cut c.args.build.now l.build cut _ c.args.matcher.now c.args.replacing.text.now s.replacement _ s.global l.copied
+      l.findings.groups l.occurrence c.in-Some.span c.in-Some.is i.groups c.parts-parts.ensures.pieces (i.limit, i.made)
+      c.in_ok-append.ensures.ok in
+      due_full c.args.build.now cut c.put.new.build _ _ _ c.in_err-put.field-0.0 c.from_residual-in_err-put.result
+      c.from_residual-in_err-put.ensures.0 due c.in_err-put.ensures;
+  same = let i = c.occurrences.invariant in (i.matcher, i.scratch);
+  kept = c.occurrences.invariant.kept;
+  cost = let i = c.occurrences.invariant in takes_paid _ _ i.grows i.cost;
+  group_cost = let i = c.occurrences.invariant in takes_paid _ _ i.groups_grow i.group_cost;
+  linear_group_cost = let i = c.occurrences.invariant in takes_paid _ _ i.groups_grow i.linear_group_cost;
+}
 
 pub occurrences-preserved-then-substitution : goal.occurrences-preserved-then-substitution
 occurrences-preserved-then-substitution c =
@@ -106,60 +122,48 @@ occurrences-preserved c =
       made = due.1;
     }
 
-pub returns-clause-appends : goal.returns-clause-appends
-returns-clause-appends c =
-    let l = c.occurrences in
-    let i = l.invariant in
-    let w = c.args.replacing.text.now in
-    let s = c.args.replacing.substitution.now in
-    let new = c.append-2.new.self in
-    let a = c.append-2.ensures in
-    let rest = take (length w - l.copied) (drop l.copied w) in
-    due_rest c.args.build.now l.build new _ c.args.matcher.now w s.replacement s.global l.copied l.occurrence
-    c.append-2.result c.in_default.is (i.limit, i.made)
-    (appended l.build new rest rest c.append-2.result refl a.ok a.full a.err)
+pub returns : goal.returns
+returns c = record {
+  appends = let l = c.occurrences in
+      let i = l.invariant in
+      let w = c.args.replacing.text.now in
+      let s = c.args.replacing.substitution.now in
+      let new = c.append-2.new.self in
+      let a = c.append-2.ensures in
+      let rest = take (length w - l.copied) (drop l.copied w) in
+      due_rest c.args.build.now l.build new _ c.args.matcher.now w s.replacement s.global l.copied l.occurrence
+      c.append-2.result c.in_default.is (i.limit, i.made)
+      (appended l.build new rest rest c.append-2.result refl a.ok a.full a.err);
+  same = let i = c.occurrences.invariant in (i.matcher, i.scratch);
+  kept = c.occurrences.invariant.kept;
+  cost = let i = c.occurrences.invariant in takes_paid _ _ i.grows i.cost;
+  group_cost = let i = c.occurrences.invariant in takes_paid _ _ i.groups_grow i.group_cost;
+  linear_group_cost = let i = c.occurrences.invariant in takes_paid _ _ i.groups_grow i.linear_group_cost;
+}
 
-pub returns-in_err-append-clause-same : goal.returns-in_err-append-clause-same
-returns-in_err-append-clause-same c = let i = c.occurrences.invariant in (i.matcher, i.scratch)
+pub occurrences-init : goal.occurrences-init
+occurrences-init c = record {
+  matcher = refl;
+  scratch = refl;
+  kept = (refl, λ text es at room. room);
+  serves = c.requires.serves;
+  grows = le_same;
+  cost = le_same;
+  groups_grow = le_same;
+  group_cost = le_same;
+  linear_group_cost = le_same;
+  limit = refl;
+  copied = le_zero;
+  lies = (le_zero, c.requires.lies.0, c.requires.lies.1);
+  groups = c.requires.groups;
+  made = refl;
+}
 
-pub returns-in_err-append-clause-kept : goal.returns-in_err-append-clause-kept
-returns-in_err-append-clause-kept c = c.occurrences.invariant.kept
-
-pub returns-in_err-append-clause-cost : goal.returns-in_err-append-clause-cost
-returns-in_err-append-clause-cost c = let i = c.occurrences.invariant in takes_paid _ _ i.grows i.cost
-
-pub returns-in_err-append-clause-group_cost : goal.returns-in_err-append-clause-group_cost
-returns-in_err-append-clause-group_cost c = let i = c.occurrences.invariant in takes_paid _ _ i.groups_grow i.group_cost
-
-pub returns-in_err-append-clause-linear_group_cost : goal.returns-in_err-append-clause-linear_group_cost
-returns-in_err-append-clause-linear_group_cost c = let i = c.occurrences.invariant in takes_paid _ _ i.groups_grow i.linear_group_cost
-
-pub returns-in_err-put-clause-same : goal.returns-in_err-put-clause-same
-returns-in_err-put-clause-same c = let i = c.occurrences.invariant in (i.matcher, i.scratch)
-
-pub returns-in_err-put-clause-kept : goal.returns-in_err-put-clause-kept
-returns-in_err-put-clause-kept c = c.occurrences.invariant.kept
-
-pub returns-in_err-put-clause-cost : goal.returns-in_err-put-clause-cost
-returns-in_err-put-clause-cost c = let i = c.occurrences.invariant in takes_paid _ _ i.grows i.cost
-
-pub returns-in_err-put-clause-group_cost : goal.returns-in_err-put-clause-group_cost
-returns-in_err-put-clause-group_cost c = let i = c.occurrences.invariant in takes_paid _ _ i.groups_grow i.group_cost
-
-pub returns-in_err-put-clause-linear_group_cost : goal.returns-in_err-put-clause-linear_group_cost
-returns-in_err-put-clause-linear_group_cost c = let i = c.occurrences.invariant in takes_paid _ _ i.groups_grow i.linear_group_cost
-
-pub returns-clause-same : goal.returns-clause-same
-returns-clause-same c = let i = c.occurrences.invariant in (i.matcher, i.scratch)
-
-pub returns-clause-kept : goal.returns-clause-kept
-returns-clause-kept c = c.occurrences.invariant.kept
-
-pub returns-clause-cost : goal.returns-clause-cost
-returns-clause-cost c = let i = c.occurrences.invariant in takes_paid _ _ i.grows i.cost
-
-pub returns-clause-group_cost : goal.returns-clause-group_cost
-returns-clause-group_cost c = let i = c.occurrences.invariant in takes_paid _ _ i.groups_grow i.group_cost
-
-pub returns-clause-linear_group_cost : goal.returns-clause-linear_group_cost
-returns-clause-linear_group_cost c = let i = c.occurrences.invariant in takes_paid _ _ i.groups_grow i.linear_group_cost
+pub next_occurrence-occurrence-requires : goal.next_occurrence-occurrence-requires
+next_occurrence-occurrence-requires c = record {
+  last = let i = c.occurrences.invariant in
+      let lies = rw c.in-Some.is at i.lies in
+      lies.2;
+  fits = let i = c.occurrences.invariant in rw (i.matcher, i.scratch) c.requires.fits;
+  serves = let i = c.occurrences.invariant in rw i.matcher (rw c.in-Some.is at i.serves);
+}

@@ -1,43 +1,52 @@
-use Rattle.std.proofs.Common.{◌∙◌, length, Some, arith}
-use Rattle.sedengine.proofs.Telling.{told_paid, untold_paid}
+use Rattle.std.proofs.Common.{rules, ◌∙◌, length, None, Some, arith, refl, sym}
+use Rattle.std.proofs.lemmas.Bool.{false≢true}
+use Rattle.sedengine.proofs.Telling.{takes_none, told_paid, untold_paid}
 use Rattle.sedengine.proofs.substitute.next_occurrence.Goals as goal
 
-pub returns-then-wanted-clause-linear_group_cost : goal.returns-then-wanted-clause-linear_group_cost
-returns-then-wanted-clause-linear_group_cost c =
-    told_paid (length c.args.matcher.now.nodes) (length c.args.text.now) _ _ c.args.last c.in_ok-span.span
-    (rw c.new.ensures at c.in_ok-span.ensures.occurs.1) (rw c.in_ok-span.ensures.same at c.tell_groups.ensures.linear_cost)
+pub returns-then-wanted : goal.returns-then-wanted
+returns-then-wanted c = record {
+  next = search rules;
+  groups = λ told. let w = c.tell_groups.ensures in (rw c.in_ok-span.ensures.same at w.groups, w.groups_in);
+  same = let w = c.tell_groups.ensures in (w.same ∙ c.in_ok-span.ensures.same, w.scratch ∙ c.in_ok-span.ensures.scratch);
+  serves = rw c.new.ensures at c.in_ok-span.ensures.serves;
+  cost = rw c.tell_groups.ensures.searches (rw c.new.ensures at c.in_ok-span.ensures.cost);
+  group_cost = rw c.if-wanted.true (rw c.in_ok-span.ensures.same at c.tell_groups.ensures.cost);
+  linear_group_cost = told_paid (length c.args.matcher.now.nodes) (length c.args.text.now) _ _ c.args.last c.in_ok-span.span
+      (rw c.new.ensures at c.in_ok-span.ensures.occurs.1) (rw c.in_ok-span.ensures.same at c.tell_groups.ensures.linear_cost);
+}
 
-pub returns-else-wanted-clause-linear_group_cost : goal.returns-else-wanted-clause-linear_group_cost
-returns-else-wanted-clause-linear_group_cost c =
-    untold_paid (length c.args.matcher.now.nodes) (length c.args.text.now) _ c.args.last (Some c.in_ok-span.span)
-    (rw c.new.ensures at c.in_ok-span.ensures.occurs.1)
+pub returns-else-wanted : goal.returns-else-wanted
+returns-else-wanted c = record {
+  next = search rules;
+  groups = λ told. absurd (false≢true (sym c.if-wanted.false ∙ told));
+  same = (c.in_ok-span.ensures.same, c.in_ok-span.ensures.scratch);
+  serves = rw c.new.ensures at c.in_ok-span.ensures.serves;
+  cost = rw c.new.ensures at c.in_ok-span.ensures.cost;
+  group_cost = rw c.if-wanted.false (omega arith, omega arith);
+  linear_group_cost = untold_paid (length c.args.matcher.now.nodes) (length c.args.text.now) _ c.args.last (Some c.in_ok-span.span)
+      (rw c.new.ensures at c.in_ok-span.ensures.occurs.1);
+}
 
-pub returns-then-wanted-clause-groups : goal.returns-then-wanted-clause-groups
-returns-then-wanted-clause-groups c = λ told. let w = c.tell_groups.ensures in (rw c.in_ok-span.ensures.same at w.groups, w.groups_in)
+pub next_occurrence-requires : goal.next_occurrence-requires
+next_occurrence-requires c = record {
+  last = rw c.new.ensures c.requires.last;
+  fits = rw c.new.ensures c.requires.fits;
+  serves = rw c.new.ensures c.requires.serves;
+}
 
-pub returns-then-wanted-clause-same : goal.returns-then-wanted-clause-same
-returns-then-wanted-clause-same c = let w = c.tell_groups.ensures in (w.same ∙ c.in_ok-span.ensures.same, w.scratch ∙ c.in_ok-span.ensures.scratch)
+pub tell_groups-requires-clause-text : goal.tell_groups-requires-clause-text
+tell_groups-requires-clause-text c = rw c.in_ok-span.ensures.scratch c.requires.fits.0
 
-pub returns-then-wanted-clause-serves : goal.returns-then-wanted-clause-serves
-returns-then-wanted-clause-serves c = rw c.new.ensures at c.in_ok-span.ensures.serves
+pub tell_groups-requires-clause-nodes : goal.tell_groups-requires-clause-nodes
+tell_groups-requires-clause-nodes c = rw (c.in_ok-span.ensures.scratch, c.in_ok-span.ensures.same) c.requires.fits.1
 
-pub returns-then-wanted-clause-cost : goal.returns-then-wanted-clause-cost
-returns-then-wanted-clause-cost c = rw c.tell_groups.ensures.searches (rw c.new.ensures at c.in_ok-span.ensures.cost)
-
-pub returns-then-wanted-clause-group_cost : goal.returns-then-wanted-clause-group_cost
-returns-then-wanted-clause-group_cost c = rw c.if-wanted.true (rw c.in_ok-span.ensures.same at c.tell_groups.ensures.cost)
-
-pub returns-else-wanted-clause-groups : goal.returns-else-wanted-clause-groups
-returns-else-wanted-clause-groups c = λ told. let untold = c.if-wanted.false in cc
-
-pub returns-else-wanted-clause-same : goal.returns-else-wanted-clause-same
-returns-else-wanted-clause-same c = (c.in_ok-span.ensures.same, c.in_ok-span.ensures.scratch)
-
-pub returns-else-wanted-clause-serves : goal.returns-else-wanted-clause-serves
-returns-else-wanted-clause-serves c = rw c.new.ensures at c.in_ok-span.ensures.serves
-
-pub returns-else-wanted-clause-cost : goal.returns-else-wanted-clause-cost
-returns-else-wanted-clause-cost c = rw c.new.ensures at c.in_ok-span.ensures.cost
-
-pub returns-else-wanted-clause-group_cost : goal.returns-else-wanted-clause-group_cost
-returns-else-wanted-clause-group_cost c = rw c.if-wanted.false (omega arith, omega arith)
+pub returns-in_err-span : goal.returns-in_err-span
+returns-in_err-span c = record {
+  next = search rules;
+  groups = rw c.from_residual.ensures tt;
+  same = (c.in_err-span.ensures.same, c.in_err-span.ensures.scratch);
+  serves = rw c.from_residual.ensures (c.in_err-span.ensures.serves.0, tt);
+  cost = rw c.from_residual.ensures (rw c.new.ensures at c.in_err-span.ensures.cost);
+  group_cost = rw c.from_residual.ensures (takes_none 0 refl);
+  linear_group_cost = rw c.from_residual.ensures (untold_paid (length c.args.matcher.now.nodes) (length c.args.text.now) c.args.findings.now.group_steps c.args.last None tt);
+}

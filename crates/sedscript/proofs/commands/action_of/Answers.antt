@@ -3,7 +3,7 @@ use Rattle.std.proofs.lemmas.List.{length-map}
 use Rattle.sedscript.specs.declared.types.Action.TheVariants.{Block, Text}
 use Rattle.sedscript.specs.Types.{Verb}
 use Rattle.sedscript.specs.Script.{action_of}
-use Rattle.sedscript.specs.Targets.{is_open}
+use Rattle.sedscript.specs.Letters.{is_open}
 use Rattle.sedscript.proofs.commands.action_of.Goals as goal
 
 pub returns-in-Open : goal.returns-in-Open

@@ -1,6 +1,8 @@
+use Rattle.std.proofs.Common.{sym, ◌∙◌}
 use Rattle.sedscript.proofs.Coming.{argument_comes}
 use Rattle.sedscript.proofs.item_reader.argument_with.Goals as goal
 
-pub returns-in_default-clause-comes : goal.returns-in_default-clause-comes
-returns-in_default-clause-comes c =
-    argument_comes c.args.source.now.text.now c.args.source.now.kind c.args.source.now.max_nodes c.args.at c.args.exprs.now.items c.args.verb c.argument_of.result c.in_default.not-Substitute c.argument_of.ensures.is
+pub returns-else-reads_expression-clause-comes : goal.returns-else-reads_expression-clause-comes
+returns-else-reads_expression-clause-comes c =
+    argument_comes c.args.source.now.text.now c.args.source.now.kind c.args.source.now.max_nodes c.args.at c.args.exprs.now.items c.args.verb c.argument_of.result
+    (sym c.reads_expression.ensures ∙ c.if-reads_expression.false) c.argument_of.ensures.is

@@ -1,39 +1,32 @@
-use Rattle.std.proofs.Common.{[], true, refl}
-use Rattle.sedscript.specs.declared.types.Action.TheVariants.{Plain}
-use Rattle.sedscript.specs.declared.types.Simple.TheVariants.{DeleteFirst}
-use Rattle.sedengine.specs.Run.{run_setting, at_lines}
-use Rattle.sedengine.specs.Move.{acts}
+use Rattle.std.proofs.Common.{[], refl}
+use Rattle.sedengine.specs.Inside.{run_of}
 use Rattle.sedengine.specs.declared.next_step.NextStep.TheVariants as p
 use Rattle.sedengine.proofs.Sending.{Sent-none}
-use Rattle.sedengine.proofs.Deleting.{cut_seen, deletes, uncut_performs}
-use Rattle.sedengine.specs.Inside.{run_of}
+use Rattle.sedengine.proofs.Writing.{Delivers-none}
+use Rattle.sedengine.proofs.Deleting.{acts_deleting, cut_seen, uncut_performs}
 use Rattle.sedengine.proofs.Leaving.{falls_seen, leaves_seen}
 use Rattle.sedengine.proofs.machine.Machine.act_delete_first.Goals as goal
 
-pub returns-then-cut_line-clause-acts : goal.returns-then-cut_line-clause-acts
-returns-then-cut_line-clause-acts g c = λ files told ls.
-    let e = c.args.self.now in
-    let old = g.O.MeteredSinks.tally c.args.outputs.now in
+pub returns-then-cut_line : goal.returns-then-cut_line
+returns-then-cut_line g c =
+    let w = c.end_cycle.ensures in
     let cut = c.cut_line.ensures.cut c.if-cut_line.true in
-    deletes c.self.inside e c.end_cycle.new.self files ls (acts (run_setting e files) (at_lines e ls) true (Plain DeleteFirst)) p.Rebegin c.cut_line.new.self old old (g.O.MeteredSinks.tally c.end_cycle.new.outputs) [] c.end_cycle.result c.self.view_is
-    (cut_seen c.self.inside e files ls c.cut_line.new.self c.self.view_is cut.0 cut.1) (Sent-none old) (c.end_cycle.ensures.moves files told ls)
+    acts_deleting c.self.inside c.args.self.now _ p.Rebegin c.cut_line.new.self [] _ c.self.view_is
+    (λ files ls. cut_seen c.self.inside c.args.self.now files ls c.cut_line.new.self c.self.view_is cut.0 cut.1) (Sent-none _) (Delivers-none _ _ _) w.moves w.falls w.leaves
 
-pub returns-else-cut_line-clause-acts : goal.returns-else-cut_line-clause-acts
-returns-else-cut_line-clause-acts g c = λ files told ls.
+pub returns-else-cut_line : goal.returns-else-cut_line
+returns-else-cut_line g c =
+    let w = c.act_delete.ensures in
     let whole = c.cut_line.ensures.whole c.if-cut_line.false in
-    uncut_performs c.self.inside c.args.self.now c.act_delete.new.self files ls c.cut_line.new.self _ _ c.act_delete.result c.self.view_is whole.0 whole.1 (c.act_delete.ensures.acts files told ls)
+    let e1 = run_of (record c.self.inside { pattern = c.cut_line.new.self }) in
+    record {
+      acts = λ files told ls. uncut_performs c.self.inside c.args.self.now c.act_delete.new.self files ls c.cut_line.new.self _ _ c.act_delete.result c.self.view_is whole.0 whole.1 (w.acts files told ls);
+      falls = falls_seen c.self.inside c.args.self.now e1 c.act_delete.new.self c.self.view_is refl w.falls;
+      leaves = leaves_seen c.self.inside c.args.self.now e1 c.self.view_is refl refl w.leaves;
+    }
 
 pub end_cycle-requires-clause-emptied : goal.end_cycle-requires-clause-emptied
 end_cycle-requires-clause-emptied g c = tt
 
-pub returns-then-cut_line-clause-falls : goal.returns-then-cut_line-clause-falls
-returns-then-cut_line-clause-falls g c = falls_seen c.self.inside c.args.self.now (run_of (record c.self.inside { pattern = c.cut_line.new.self })) c.end_cycle.new.self c.self.view_is refl c.end_cycle.ensures.falls
-
-pub returns-then-cut_line-clause-leaves : goal.returns-then-cut_line-clause-leaves
-returns-then-cut_line-clause-leaves g c = leaves_seen c.self.inside c.args.self.now (run_of (record c.self.inside { pattern = c.cut_line.new.self })) c.self.view_is refl refl c.end_cycle.ensures.leaves
-
-pub returns-else-cut_line-clause-falls : goal.returns-else-cut_line-clause-falls
-returns-else-cut_line-clause-falls g c = falls_seen c.self.inside c.args.self.now (run_of (record c.self.inside { pattern = c.cut_line.new.self })) c.act_delete.new.self c.self.view_is refl c.act_delete.ensures.falls
-
-pub returns-else-cut_line-clause-leaves : goal.returns-else-cut_line-clause-leaves
-returns-else-cut_line-clause-leaves g c = leaves_seen c.self.inside c.args.self.now (run_of (record c.self.inside { pattern = c.cut_line.new.self })) c.self.view_is refl refl c.act_delete.ensures.leaves
+pub invariant_of-self-else-cut_line : goal.invariant_of-self-else-cut_line
+invariant_of-self-else-cut_line g c = rw (c.cut_line.ensures.whole c.if-cut_line.false).1 c.self.invariant

@@ -1,120 +1,129 @@
-use Rattle.std.proofs.Common.{◌∷◌, ◌∙◌, ap, refl, sym}
+use Rattle.std.proofs.Common.{Bool, Option, ◌≡◌, ◌∷◌, ◌∙◌, ap, refl, sym, arith}
+use Rattle.std.proofs.KnownBytes.{Keeps-refl}
+use Rattle.sedscript.specs.declared.types.Action.{Action}
 use Rattle.sedscript.specs.declared.types.Action.TheVariants.{Branch, File, Text}
+use Rattle.sedscript.specs.declared.types.FileUse.TheVariants.{Read}
+use Rattle.sedscript.specs.declared.types.TextUse.TheVariants.{Append}
 use Rattle.std.specs.Prelude.{[], slice_get}
 use Rattle.std.specs.Option.{unwrap_or}
-use Rattle.sedengine.specs.State.{do_at}
-use Rattle.sedengine.specs.Inside.{entry_for}
-use Rattle.sedengine.specs.Move.{acts, line_to, quietly}
+use Rattle.sedengine.specs.State.{do_at, State, Move, Setting}
+use Rattle.sedengine.specs.Inside.{entry_for, queues}
+use Rattle.sedengine.specs.declared.next_step.NextStep.TheVariants as p
+use Rattle.sedengine.specs.Move.{acts, line_to, quietly, then_do}
 use Rattle.sedengine.specs.Queueing.{queueing}
-use Rattle.sedengine.specs.Run.{RunState, at_lines, run_setting}
-use Rattle.sedengine.proofs.Acts.{going, acts_going, acts_nothing, acts_queueing, acts_testing, acts_translating, acts_writing, entry_is}
+use Rattle.sedengine.specs.Run.{RunState, at_lines}
+use Rattle.sedengine.proofs.Acting.{acts_by, acts_going, acts_nothing, acts_queueing, acts_testing, acts_translating, acts_writing}
+use Rattle.sedengine.proofs.Acts.{entry_is, queues_action, some_sink}
+use Rattle.sedengine.proofs.Tasks.{placed}
 use Rattle.sedengine.proofs.Ending.{puts_seen}
-use Rattle.sedengine.proofs.Leaving.{falls_none, falls_queued, falls_tested, leaves_made, leaves_queued, leaves_written}
+use Rattle.sedengine.proofs.Leaving.{falls_more}
 use Rattle.sedengine.proofs.machine.Machine.act_here.Goals as goal
 
-pub returns-in-Plain-clause-acts : goal.returns-in-Plain-clause-acts
-returns-in-Plain-clause-acts g c = λ files told ls s reaches first.
-    c.act_plain.ensures.acts c.args.writes_text files told ls s reaches (first ∙ ap (acts (run_setting c.args.self.now files) (at_lines c.args.self.now ls) c.args.writes_text) c.in-Plain.is)
+abbrev here : Bool → Action → Setting → State → Option Move
+here writes_text action g s = acts g s writes_text action
 
-pub returns-in-Text-Insert-default-clause-acts : goal.returns-in-Text-Insert-default-clause-acts
-returns-in-Text-Insert-default-clause-acts g c = λ files told ls.
-    acts_writing c.args.self.now ls (c.is_within_limits.ensures ls) (run_setting c.args.self.now files) (g.O.MeteredSinks.tally c.args.outputs.now) (g.O.MeteredSinks.tally c.write_line.new.outputs) _ _ _
-    (ap (acts (run_setting c.args.self.now files) (at_lines c.args.self.now ls) c.args.writes_text) (c.in-Text-Insert-default.is ∙ ap (λ u. Text u c.in-Text-Insert-default.text) (rw c.in-Text-Insert-default.is at c.in-Text-Insert-default.field-0-is)))
-    (puts_seen c.self.inside c.args.self.now (λ (e : RunState). line_to 0 (unwrap_or (slice_get e.script.texts c.in-Text-Insert-default.text) [])) _ _ c.write_line.result c.self.view_is (rw c.text.ensures c.write_line.ensures.puts))
+pub returns-in-Plain : goal.returns-in-Plain
+returns-in-Plain g c = acts_by (here c.args.writes_text) c.in-Plain.is (c.act_plain.ensures c.args.writes_text)
 
-pub returns-in-Text-Change-default-clause-acts : goal.returns-in-Text-Change-default-clause-acts
-returns-in-Text-Change-default-clause-acts g c = λ files told ls s reaches first.
-    c.act_change.ensures.acts files told ls s reaches (first ∙ ap (acts (run_setting c.args.self.now files) (at_lines c.args.self.now ls) c.args.writes_text) (c.in-Text-Change-default.is ∙ ap (λ u. Text u c.in-Text-Change-default.text) (rw c.in-Text-Change-default.is at c.in-Text-Change-default.field-0-is)))
+pub returns-in-Text-Insert-default : goal.returns-in-Text-Insert-default
+returns-in-Text-Insert-default g c =
+    let w = c.in-Text-Insert-default in
+    acts_by (here c.args.writes_text) (w.is ∙ ap (λ u. Text u w.text) (rw w.is at w.field-0-is)) (acts_writing c.args.self.now c.is_within_limits.ensures _ _ _ (λ files ls. refl)
+    (puts_seen c.self.inside c.args.self.now (λ (e : RunState). line_to 0 (unwrap_or (slice_get e.script.texts w.text) [])) _ _ c.write_line.result c.self.view_is (rw c.text.ensures c.write_line.ensures.puts)) c.write_line.ensures.devices)
 
-pub returns-in-File-Write-default-clause-acts : goal.returns-in-File-Write-default-clause-acts
-returns-in-File-Write-default-clause-acts g c = λ files told ls.
-    acts_writing c.args.self.now ls (c.is_within_limits.ensures ls) (run_setting c.args.self.now files) (g.O.MeteredSinks.tally c.args.outputs.now) (g.O.MeteredSinks.tally c.act_write.new.outputs) _ _ _
-    (ap (acts (run_setting c.args.self.now files) (at_lines c.args.self.now ls) c.args.writes_text) (c.in-File-Write-default.is ∙ ap (λ u. File u c.in-File-Write-default.sink) (rw c.in-File-Write-default.is at c.in-File-Write-default.field-0-is))) c.act_write.ensures.puts
+pub returns-in-Text-Change-default : goal.returns-in-Text-Change-default
+returns-in-Text-Change-default g c =
+    let w = c.in-Text-Change-default in
+    acts_by (here c.args.writes_text) (w.is ∙ ap (λ u. Text u w.text) (rw w.is at w.field-0-is)) c.act_change.ensures
 
-pub returns-in-Block-clause-acts : goal.returns-in-Block-clause-acts
-returns-in-Block-clause-acts g c = λ files told ls.
-    acts_nothing c.args.self.now ls (c.is_within_limits.ensures ls) (run_setting c.args.self.now files) (g.O.MeteredSinks.tally c.args.outputs.now) (g.O.MeteredSinks.tally c.args.outputs.now) _
-    (ap (acts (run_setting c.args.self.now files) (at_lines c.args.self.now ls) c.args.writes_text) c.in-Block.is)
+pub returns-in-File-Write-default : goal.returns-in-File-Write-default
+returns-in-File-Write-default g c =
+    let w = c.in-File-Write-default in
+    acts_by (here c.args.writes_text) (w.is ∙ ap (λ u. File u w.sink) (rw w.is at w.field-0-is)) (acts_writing c.args.self.now c.is_within_limits.ensures _ _ _ (λ files ls. refl) c.act_write.ensures.puts c.act_write.ensures.output)
 
-pub returns-in-Branch-Always-default-clause-acts : goal.returns-in-Branch-Always-default-clause-acts
-returns-in-Branch-Always-default-clause-acts g c = λ files told ls.
-    acts_going c.args.self.now ls (c.is_within_limits.ensures ls) (run_setting c.args.self.now files) (g.O.MeteredSinks.tally c.args.outputs.now) (g.O.MeteredSinks.tally c.args.outputs.now) _
-    (do_at c.in-Branch-Always-default.target ∷ []) _ (ap (λ e. going e (do_at c.in-Branch-Always-default.target ∷ [])) c.self.view_is) (ap (acts (run_setting c.args.self.now files) (at_lines c.args.self.now ls) c.args.writes_text) (c.in-Branch-Always-default.is ∙ ap (λ u. Branch u c.in-Branch-Always-default.target) (rw c.in-Branch-Always-default.is at c.in-Branch-Always-default.field-0-is)))
+pub returns-in-Block : goal.returns-in-Block
+returns-in-Block g c = acts_by (here c.args.writes_text) c.in-Block.is (acts_nothing c.args.self.now c.is_within_limits.ensures (λ files ls. refl))
 
-pub returns-in-Branch-IfReplaced-default-clause-acts : goal.returns-in-Branch-IfReplaced-default-clause-acts
-returns-in-Branch-IfReplaced-default-clause-acts g c = λ files told ls.
-    acts_testing c.args.self.now ls (c.is_within_limits.ensures ls) (run_setting c.args.self.now files) (g.O.MeteredSinks.tally c.args.outputs.now) (g.O.MeteredSinks.tally c.args.outputs.now) _
-    c.in-Branch-IfReplaced-default.target c.act_test.new.self c.act_test.ensures (ap (acts (run_setting c.args.self.now files) (at_lines c.args.self.now ls) c.args.writes_text) (c.in-Branch-IfReplaced-default.is ∙ ap (λ u. Branch u c.in-Branch-IfReplaced-default.target) (rw c.in-Branch-IfReplaced-default.is at c.in-Branch-IfReplaced-default.field-0-is)))
+pub returns-in-Branch-Always-default : goal.returns-in-Branch-Always-default
+returns-in-Branch-Always-default g c =
+    let w = c.in-Branch-Always-default in
+    acts_by (here c.args.writes_text) (w.is ∙ ap (λ u. Branch u w.target) (rw w.is at w.field-0-is)) (acts_going c.args.self.now c.is_within_limits.ensures (do_at w.target ∷ []) _
+    (ap (λ (e : RunState). record e { state = then_do (do_at w.target ∷ []) e.state }) c.self.view_is) (omega arith) (λ files ls. refl))
 
-pub returns-in-Transliterate-clause-acts : goal.returns-in-Transliterate-clause-acts
-returns-in-Transliterate-clause-acts g c = λ files told ls.
-    acts_translating c.args.self.now ls (c.is_within_limits.ensures ls) (run_setting c.args.self.now files) (g.O.MeteredSinks.tally c.args.outputs.now) (g.O.MeteredSinks.tally c.args.outputs.now) _
-    (slice_get c.args.self.now.script.tables c.in-Transliterate.k) c.act_transliterate.new.self c.act_transliterate.ensures (ap (acts (run_setting c.args.self.now files) (at_lines c.args.self.now ls) c.args.writes_text) c.in-Transliterate.is)
+pub returns-in-Branch-IfReplaced-default : goal.returns-in-Branch-IfReplaced-default
+returns-in-Branch-IfReplaced-default g c =
+    let w = c.in-Branch-IfReplaced-default in
+    acts_by (here c.args.writes_text) (w.is ∙ ap (λ u. Branch u w.target) (rw w.is at w.field-0-is)) (acts_testing c.args.self.now c.is_within_limits.ensures w.target _ c.act_test.ensures (λ files ls. refl))
 
-pub returns-in-Text-Append-default-clause-acts : goal.returns-in-Text-Append-default-clause-acts
-returns-in-Text-Append-default-clause-acts g c = λ files told ls.
+pub returns-in-Transliterate : goal.returns-in-Transliterate
+returns-in-Transliterate g c =
+    acts_by (here c.args.writes_text) c.in-Transliterate.is (acts_translating c.args.self.now c.is_within_limits.ensures (slice_get c.args.self.now.script.tables c.in-Transliterate.k) _ c.act_transliterate.ensures (λ files ls. refl))
+
+pub returns-in-Text-Append-default : goal.returns-in-Text-Append-default
+returns-in-Text-Append-default g c =
     let e = c.args.self.now in
-    acts_queueing e ls (c.is_within_limits.ensures ls) (run_setting e files) (g.O.MeteredSinks.tally c.args.outputs.now) (g.O.MeteredSinks.tally c.args.outputs.now) _ _ c.act_queue.new.self c.act_queue.result
-    (ap (acts (run_setting e files) (at_lines e ls) c.args.writes_text) (c.in-Text-Append-default.is ∙ ap (λ u. Text u c.in-Text-Append-default.field-1) (rw c.in-Text-Append-default.is at c.in-Text-Append-default.field-0-is)) ∙ ap (λ entry. quietly (queueing entry (at_lines e ls))) (sym (entry_is e.script.texts (slice_get e.script.commands c.args.k) c.args.action c.requires.action ∙ ap (entry_for e.script.texts) (c.in-Text-Append-default.is ∙ ap (λ u. Text u c.in-Text-Append-default.field-1) (rw c.in-Text-Append-default.is at c.in-Text-Append-default.field-0-is)))))
-    c.act_queue.ensures
+    let w = c.in-Text-Append-default in
+    let is : c.args.action ≡ Text Append w.field-1 = w.is ∙ ap (λ u. Text u w.field-1) (rw w.is at w.field-0-is) in
+    acts_by (here c.args.writes_text) is (acts_queueing e c.is_within_limits.ensures _ _ _ c.act_queue.ensures
+    (λ files ls. ap (λ entry. quietly (queueing entry (at_lines e ls))) (sym (entry_is e.script.texts (slice_get e.script.commands c.args.k) c.args.action c.requires.action ∙ ap (entry_for e.script.texts) is))))
 
-pub returns-in-File-Read-default-clause-acts : goal.returns-in-File-Read-default-clause-acts
-returns-in-File-Read-default-clause-acts g c = λ files told ls.
+pub returns-in-File-Read-default : goal.returns-in-File-Read-default
+returns-in-File-Read-default g c =
     let e = c.args.self.now in
-    acts_queueing e ls (c.is_within_limits.ensures ls) (run_setting e files) (g.O.MeteredSinks.tally c.args.outputs.now) (g.O.MeteredSinks.tally c.args.outputs.now) _ _ c.act_queue-in-File-Read-default.new.self c.act_queue-in-File-Read-default.result
-    (ap (acts (run_setting e files) (at_lines e ls) c.args.writes_text) (c.in-File-Read-default.is ∙ ap (λ u. File u c.in-File-Read-default.field-1) (rw c.in-File-Read-default.is at c.in-File-Read-default.field-0-is)) ∙ ap (λ entry. quietly (queueing entry (at_lines e ls))) (sym (entry_is e.script.texts (slice_get e.script.commands c.args.k) c.args.action c.requires.action ∙ ap (entry_for e.script.texts) (c.in-File-Read-default.is ∙ ap (λ u. File u c.in-File-Read-default.field-1) (rw c.in-File-Read-default.is at c.in-File-Read-default.field-0-is)))))
-    c.act_queue-in-File-Read-default.ensures
+    let w = c.in-File-Read-default in
+    let is : c.args.action ≡ File Read w.field-1 = w.is ∙ ap (λ u. File u w.field-1) (rw w.is at w.field-0-is) in
+    acts_by (here c.args.writes_text) is (acts_queueing e c.is_within_limits.ensures _ _ _ c.act_queue-in-File-Read-default.ensures
+    (λ files ls. ap (λ entry. quietly (queueing entry (at_lines e ls))) (sym (entry_is e.script.texts (slice_get e.script.commands c.args.k) c.args.action c.requires.action ∙ ap (entry_for e.script.texts) is))))
 
-pub returns-in-Plain-clause-falls : goal.returns-in-Plain-clause-falls
-returns-in-Plain-clause-falls g c = c.act_plain.ensures.falls
+pub returns-in-Substitute : goal.returns-in-Substitute
+returns-in-Substitute g c =
+    let w = c.act_substitute.ensures in
+    acts_by (here c.args.writes_text) c.in-Substitute.is (record {
+      acts = λ files told ls. w.acts files ls;
+      falls = falls_more w.falls;
+      leaves = record { devices = w.devices; same = w.same; kept = λ j. Keeps-refl _ };
+    })
 
-pub returns-in-Plain-clause-leaves : goal.returns-in-Plain-clause-leaves
-returns-in-Plain-clause-leaves g c = c.act_plain.ensures.leaves
+pub act_plain-requires : goal.act_plain-requires
+act_plain-requires g c = record {
+  at = c.requires.at;
+  action = rw c.in-Plain.is at c.requires.action;
+  here = rw c.in-Plain.is at c.requires.here;
+  sink = some_sink c.requires.sinks;
+}
 
-pub returns-in-Text-Append-default-clause-falls : goal.returns-in-Text-Append-default-clause-falls
-returns-in-Text-Append-default-clause-falls g c = falls_queued _ _ _ _ c.act_queue.ensures
+pub act_queue-requires : goal.act_queue-requires
+act_queue-requires g c =
+    let w = c.in-Text-Append-default in
+    let is = w.is ∙ ap (λ u. Text u w.field-1) (rw w.is at w.field-0-is) in
+    queues_action _ c.args.action c.requires.action (ap queues is)
 
-pub returns-in-Text-Append-default-clause-leaves : goal.returns-in-Text-Append-default-clause-leaves
-returns-in-Text-Append-default-clause-leaves g c = leaves_queued _ _ _ _ c.act_queue.ensures
+pub act_queue-requires-in-File-Read-default : goal.act_queue-requires-in-File-Read-default
+act_queue-requires-in-File-Read-default g c =
+    let w = c.in-File-Read-default in
+    let is = w.is ∙ ap (λ u. File u w.field-1) (rw w.is at w.field-0-is) in
+    queues_action _ c.args.action c.requires.action (ap queues is)
 
-pub returns-in-File-Read-default-clause-falls : goal.returns-in-File-Read-default-clause-falls
-returns-in-File-Read-default-clause-falls g c = falls_queued _ _ _ _ c.act_queue-in-File-Read-default.ensures
+pub act_change-requires : goal.act_change-requires
+act_change-requires g c = record {
+  text = let w = c.in-Text-Change-default in
+      let is = w.is ∙ ap (λ u. Text u w.text) (rw w.is at w.field-0-is) in
+      rw is at c.requires.within;
+  sink = some_sink c.requires.sinks;
+}
 
-pub returns-in-File-Read-default-clause-leaves : goal.returns-in-File-Read-default-clause-leaves
-returns-in-File-Read-default-clause-leaves g c = leaves_queued _ _ _ _ c.act_queue-in-File-Read-default.ensures
+pub write_line-requires : goal.write_line-requires
+write_line-requires g c = some_sink c.requires.sinks
 
-pub returns-in-Text-Change-default-clause-falls : goal.returns-in-Text-Change-default-clause-falls
-returns-in-Text-Change-default-clause-falls g c = c.act_change.ensures.falls
+pub invariant_of-self : goal.invariant_of-self
+invariant_of-self g c = placed c.self.inside c.self.inside.pattern (p.Do c.in-Branch-Always-default.target) c.self.invariant refl c.self.invariant.pattern tt
 
-pub returns-in-Text-Change-default-clause-leaves : goal.returns-in-Text-Change-default-clause-leaves
-returns-in-Text-Change-default-clause-leaves g c = c.act_change.ensures.leaves
+pub act_substitute-requires : goal.act_substitute-requires
+act_substitute-requires g c = record {
+  at = c.requires.at;
+  number = rw c.in-Substitute.is at c.requires.within;
+  sinks = c.requires.sinks;
+}
 
-pub returns-in-Text-Insert-default-clause-falls : goal.returns-in-Text-Insert-default-clause-falls
-returns-in-Text-Insert-default-clause-falls g c = falls_none
-
-pub returns-in-Text-Insert-default-clause-leaves : goal.returns-in-Text-Insert-default-clause-leaves
-returns-in-Text-Insert-default-clause-leaves g c = leaves_written _ _ _ _ _ _ c.write_line.ensures.puts c.write_line.ensures.devices
-
-pub returns-in-File-Write-default-clause-falls : goal.returns-in-File-Write-default-clause-falls
-returns-in-File-Write-default-clause-falls g c = falls_none
-
-pub returns-in-File-Write-default-clause-leaves : goal.returns-in-File-Write-default-clause-leaves
-returns-in-File-Write-default-clause-leaves g c = leaves_written _ _ _ _ _ _ c.act_write.ensures.puts c.act_write.ensures.output
-
-pub returns-in-Branch-IfReplaced-default-clause-falls : goal.returns-in-Branch-IfReplaced-default-clause-falls
-returns-in-Branch-IfReplaced-default-clause-falls g c = rw c.act_test.ensures (falls_tested c.args.self.now c.in-Branch-IfReplaced-default.target c.args.self.now.state.replaced)
-
-pub returns-in-Branch-IfReplaced-default-clause-leaves : goal.returns-in-Branch-IfReplaced-default-clause-leaves
-returns-in-Branch-IfReplaced-default-clause-leaves g c = rw c.act_test.ensures (leaves_made (record { script = refl; limits = refl }))
-
-pub returns-in-Block-clause-falls : goal.returns-in-Block-clause-falls
-returns-in-Block-clause-falls g c = falls_none
-
-pub returns-in-Block-clause-leaves : goal.returns-in-Block-clause-leaves
-returns-in-Block-clause-leaves g c = leaves_made (record { script = refl; limits = refl })
-
-pub returns-in-Transliterate-clause-falls : goal.returns-in-Transliterate-clause-falls
-returns-in-Transliterate-clause-falls g c = rw c.act_transliterate.ensures falls_none
-
-pub returns-in-Transliterate-clause-leaves : goal.returns-in-Transliterate-clause-leaves
-returns-in-Transliterate-clause-leaves g c = rw c.act_transliterate.ensures (leaves_made (record { script = refl; limits = refl }))
+pub act_transliterate-requires : goal.act_transliterate-requires
+act_transliterate-requires g c = rw c.in-Transliterate.is at c.requires.within

@@ -15,39 +15,39 @@ moves-init g c = record {
       (Reached-none _ _ _ _ c.args.self.now ls _ known (c.is_within_limits.ensures ls), λ k some lt. absurd (omega arith));
 }
 
-pub returns-in-Err-clause-leaves : goal.returns-in-Err-clause-leaves
-returns-in-Err-clause-leaves g c = leaves_then c.moves.invariant.leaves c.in-Err.ensures.leaves
+pub returns-in-Err : goal.returns-in-Err
+returns-in-Err g c = record {
+  cycles = λ sound ls known files told.
+      let h = c.moves.invariant in
+      let reached = h.reached sound ls known files told in
+      let r = reached.0 in
+      let input = ReadsLines-then _ _ _ _ _ _ _ h.leaves.input c.in-Err.ensures.leaves.input in
+      let stop = c.in-Err.ensures.steps (h.leaves.input.sound sound) r.rest r.taken.known files (tells_on _ _ files told h.leaves.kept) in
+      let stopped = stop_on g.R.ByteSource.remaining c.args.lines.now c.moves.lines c.step.new.lines files c.args.self.now _ c.moves.self _ _ _ h.leaves.same r c.step.new.self c.in-Err.end stop input.shrinks input.ahead c.requires.look (λ is. input.broken (ap Err is) sound) in
+      let one = one_stop g.R.ByteSource.remaining c.args.lines.now c.moves.lines c.step.new.lines files c.args.self.now _ c.moves.self _ _ _ h.leaves.same r c.step.new.self c.in-Err.end stop reached.1 in
+      (stopped.0, stopped.1, record { ending = stopped.2; one = one });
+  leaves = leaves_then c.moves.invariant.leaves c.in-Err.ensures.leaves;
+}
 
-pub returns-in-Err-clause-cycles : goal.returns-in-Err-clause-cycles
-returns-in-Err-clause-cycles g c = λ sound ls known files told.
-    let h = c.moves.invariant in
-    let reached = h.reached sound ls known files told in
-    let r = reached.0 in
-    let input = ReadsLines-then _ _ _ _ _ _ _ h.leaves.input c.in-Err.ensures.leaves.input in
-    let stop = c.in-Err.ensures.steps (h.leaves.input.sound sound) r.rest r.taken.known files (tells_on _ _ files told h.leaves.kept) in
-    let stopped = stop_on g.R.ByteSource.remaining c.args.lines.now c.moves.lines c.step.new.lines files c.args.self.now _ c.moves.self _ _ _ h.leaves.same r c.step.new.self c.in-Err.end stop input.shrinks input.ahead c.requires.look (λ is. input.broken (ap Err is) sound) in
-    let one = one_stop g.R.ByteSource.remaining c.args.lines.now c.moves.lines c.step.new.lines files c.args.self.now _ c.moves.self _ _ _ h.leaves.same r c.step.new.self c.in-Err.end stop reached.1 in
-    (stopped.0, stopped.1, record { ending = stopped.2; one = one })
-
-pub returns-then-at_start-clause-leaves : goal.returns-then-at_start-clause-leaves
-returns-then-at_start-clause-leaves g c = leaves_then c.moves.invariant.leaves c.in_default.ensures.leaves
-
-pub returns-then-at_start-clause-cycles : goal.returns-then-at_start-clause-cycles
-returns-then-at_start-clause-cycles g c = λ sound ls known files told.
-    let h = c.moves.invariant in
-    let reached = h.reached sound ls known files told in
-    let r = reached.0 in
-    let input = ReadsLines-then _ _ _ _ _ _ _ h.leaves.input c.in_default.ensures.leaves.input in
-    let ran = c.in_default.ensures.steps (h.leaves.input.sound sound) r.rest r.taken.known files (tells_on _ _ files told h.leaves.kept) in
-    let next : Reached g.R.ByteSource.remaining c.args.lines.now c.step.new.lines _ (run_setting c.args.self.now files) (at_lines c.args.self.now ls) c.step.new.self _ _ =
-    step_on g.R.ByteSource.remaining c.args.lines.now c.moves.lines c.step.new.lines files c.args.self.now _ c.moves.self _ _ _ h.leaves.same r c.step.new.self ran in
-    let one = one_on g.R.ByteSource.remaining c.args.lines.now c.moves.lines c.step.new.lines files c.args.self.now _ c.moves.self _ _ _ h.leaves.same r c.step.new.self ran reached.1 in
-    let some = some_on g.R.ByteSource.remaining c.args.lines.now c.moves.lines c.step.new.lines files c.args.self.now _ c.moves.self _ _ _ h.leaves.same r c.step.new.self ran in (
-      _,
-      next.gained,
-      cycled g.R.ByteSource.remaining c.args.lines.now c.step.new.lines _ _ _ c.step.new.self _ _ next some one (sym c.at_start.ensures ∙ c.if-at_start.true)
-          input.shrinks input.ahead c.requires.look,
-    )
+pub returns-then-at_start : goal.returns-then-at_start
+returns-then-at_start g c = record {
+  cycles = λ sound ls known files told.
+      let h = c.moves.invariant in
+      let reached = h.reached sound ls known files told in
+      let r = reached.0 in
+      let input = ReadsLines-then _ _ _ _ _ _ _ h.leaves.input c.in_default.ensures.leaves.input in
+      let ran = c.in_default.ensures.steps (h.leaves.input.sound sound) r.rest r.taken.known files (tells_on _ _ files told h.leaves.kept) in
+      let next : Reached g.R.ByteSource.remaining c.args.lines.now c.step.new.lines _ (run_setting c.args.self.now files) (at_lines c.args.self.now ls) c.step.new.self _ _ =
+      step_on g.R.ByteSource.remaining c.args.lines.now c.moves.lines c.step.new.lines files c.args.self.now _ c.moves.self _ _ _ h.leaves.same r c.step.new.self ran in
+      let one = one_on g.R.ByteSource.remaining c.args.lines.now c.moves.lines c.step.new.lines files c.args.self.now _ c.moves.self _ _ _ h.leaves.same r c.step.new.self ran reached.1 in
+      let some = some_on g.R.ByteSource.remaining c.args.lines.now c.moves.lines c.step.new.lines files c.args.self.now _ c.moves.self _ _ _ h.leaves.same r c.step.new.self ran in (
+        _,
+        next.gained,
+        cycled g.R.ByteSource.remaining c.args.lines.now c.step.new.lines _ _ _ c.step.new.self _ _ next some one (sym c.at_start.ensures ∙ c.if-at_start.true)
+            input.shrinks input.ahead c.requires.look,
+      );
+  leaves = leaves_then c.moves.invariant.leaves c.in_default.ensures.leaves;
+}
 
 pub moves-preserved : goal.moves-preserved
 moves-preserved g c =

@@ -1,25 +1,42 @@
-use Rattle.std.proofs.Common.{◌≡◌, refl, ap, ◌∙◌}
+use Rattle.std.proofs.Common.{rules, ◌≡◌, refl, ap, ◌∙◌}
 use Rattle.std.proofs.lemmas.Result.{err_from_is_err_and}
 use Rattle.sedengine.specs.Run.{RunState}
 use Rattle.sedengine.specs.Move.{none_left}
 use Rattle.sedengine.specs.Choose.{current_in}
+use Rattle.sedengine.proofs.Streams.{lines_same, names_ok, reads_on, ReadsAlone-ended, ReadsLines-unread}
 use Rattle.sedengine.proofs.Choices.{judges_ok, judges_err, selects_by_number}
 use Rattle.sedengine.proofs.machine.Machine.judge.Goals as goal
 
-pub returns-in-Some-clause-judges : goal.returns-in-Some-clause-judges
-returns-in-Some-clause-judges g c = λ sound ls known.
-    let number : c.self.inside.number ≡ c.args.self.now.state.number = ap (λ (e : RunState). e.state.number) c.self.view_is in
-    let used : c.take_turn.new.self.state.used ≡ c.args.self.now.state.used = ap (λ (e : RunState). e.state.used) c.take_turn.ensures in
-    selects_by_number (current_in c.args.self.now (none_left ls)) c.is_active-active.result _ c.args.command.now c.in-Some.yes c.self.inside.number _ c.is_active-active.ensures number used c.in-Some.ensures
+pub returns-in-Some : goal.returns-in-Some
+returns-in-Some g c = record {
+  judges = λ sound ls known.
+      let number : c.self.inside.number ≡ c.args.self.now.state.number = ap (λ (e : RunState). e.state.number) c.self.view_is in
+      let used : c.take_turn.new.self.state.used ≡ c.args.self.now.state.used = ap (λ (e : RunState). e.state.used) c.take_turn.ensures in
+      selects_by_number (current_in c.args.self.now (none_left ls)) c.is_active-active.result _ c.args.command.now c.in-Some.yes c.self.inside.number _ c.is_active-active.ensures number used c.in-Some.ensures;
+  left = λ ls known. lines_same _ _ ls known;
+  reads = record { input = ReadsLines-unread _ _ _ _ _ names_ok.input; output = tt };
+  reaches = search rules;
+}
 
-pub returns-clause-judges : goal.returns-clause-judges
-returns-clause-judges g c = λ sound ls known.
-    let number : c.self-2.inside.number ≡ c.args.self.now.state.number = ap (λ (e : RunState). e.state.number) (c.self-2.view_is ∙ c.in_ok-matched.ensures.same) in
-    let used : c.take_turn-2.new.self.state.used ≡ c.decide.new.self.state.used = ap (λ (e : RunState). e.state.used) (c.take_turn-2.ensures) in
-    judges_ok (current_in c.args.self.now (none_left ls)) c.is_active-active.result _ c.args.command.now c.in_ok-matched.matched c.self-2.inside.number _ _ c.choose-choice.result c.is_active-active.ensures number used c.choose-choice.ensures
-    (c.in_ok-matched.ensures.answers sound ls known)
+pub returns : goal.returns
+returns g c = record {
+  judges = λ sound ls known.
+      let number : c.self-2.inside.number ≡ c.args.self.now.state.number = ap (λ (e : RunState). e.state.number) (c.self-2.view_is ∙ c.in_ok-matched.ensures.same) in
+      let used : c.take_turn-2.new.self.state.used ≡ c.decide.new.self.state.used = ap (λ (e : RunState). e.state.used) (c.take_turn-2.ensures) in
+      judges_ok (current_in c.args.self.now (none_left ls)) c.is_active-active.result _ c.args.command.now c.in_ok-matched.matched c.self-2.inside.number _ _ c.choose-choice.result c.is_active-active.ensures number used c.choose-choice.ensures
+      (c.in_ok-matched.ensures.answers sound ls known);
+  left = c.in_ok-matched.ensures.left;
+  reads = reads_on c.in_ok-matched.matched _ names_ok c.in_ok-matched.ensures.reads;
+  reaches = search rules;
+}
 
-pub returns-in_err-matched-clause-judges : goal.returns-in_err-matched-clause-judges
-returns-in_err-matched-clause-judges g c = λ sound ls known.
+pub returns-in_err-matched : goal.returns-in_err-matched
+returns-in_err-matched g c =
     let p = err_from_is_err_and c.from_residual.result c.from_residual.ensures.1 in
-    rw (p.1, p.2) (judges_err (current_in c.args.self.now (none_left ls)) c.is_active-active.result _ c.args.command.now c.args.self.now.state.number c.decide.new.self.state.used c.in_err-matched.field-0.0 c.is_active-active.ensures refl (c.in_err-matched.ensures.answers sound ls known))
+    record {
+      judges = λ sound ls known.
+          rw (p.1, p.2) (judges_err (current_in c.args.self.now (none_left ls)) c.is_active-active.result _ c.args.command.now c.args.self.now.state.number c.decide.new.self.state.used c.in_err-matched.field-0.0 c.is_active-active.ensures refl (c.in_err-matched.ensures.answers sound ls known));
+      left = c.in_err-matched.ensures.left;
+      reads = rw (p.1, p.2) (ReadsAlone-ended c.in_err-matched.field-0.0 c.in_err-matched.ensures.reads);
+      reaches = rw p.1 c.in_err-matched.ensures.err;
+    }

@@ -1,94 +1,87 @@
-use Rattle.std.proofs.Common.{Ok, refl, sym, ◌∙◌, arith}
+use Rattle.std.proofs.Common.{ap, Ok, refl, sym, ◌∙◌, arith}
 use Rattle.std.proofs.KnownBytes.{Keeps-refl}
 use Rattle.std.proofs.lemmas.Result.{err_from_is_err_and}
-use Rattle.sedengine.proofs.Leaving.{falls_reached, leaves_stopped, leaves_unread, same_reached}
+use Rattle.sedengine.specs.Run.{RunState}
+use Rattle.sedengine.specs.Steps.{reaches}
+use Rattle.sedengine.proofs.Leaving.{falls_passed, falls_reached, leaves_stopped, leaves_unread, same_passed, same_reached}
 use Rattle.sedengine.proofs.Runs.{SameRun-then}
 use Rattle.sedengine.proofs.Writing.{Delivers-none, Delivers-unwritten}
-use Rattle.sedengine.proofs.Streams.{ReadsLines-ended, ReadsLines-then, ReadsLines-told}
+use Rattle.sedengine.proofs.Streams.{names_spent, ReadsLines-ended, ReadsLines-then, ReadsLines-told}
 use Rattle.sedengine.proofs.Tasks.{steps_by_moves}
-use Rattle.sedengine.proofs.Acts.{turn_left, steps_spent, reach_stopping, reach_acting, reach_passing}
+use Rattle.sedengine.proofs.Acts.{reached_number, turn_left, steps_spent, reach_stopping, reach_acting, reach_passing}
 use Rattle.sedengine.proofs.machine.Machine.reach.Goals as goal
 
-pub returns-then-k-len-clause-steps : goal.returns-then-k-len-clause-steps
-returns-then-k-len-clause-steps g c = λ sound ls known files told.
-    steps_by_moves g.R.ByteSource.remaining c.args.lines.now ls _ _ c.args.self.now c.finish.new.self _ _ _ known (c.finish.ensures.moves files told ls)
-
-pub returns-then-self-turns-clause-steps : goal.returns-then-self-turns-clause-steps
-returns-then-self-turns-clause-steps g c = λ sound ls known files told.
-    steps_spent g.R.ByteSource.remaining c.args.lines.now c.self.inside c.args.self.now c.self.view_is c.self.invariant files ls known _ c.args.k c.requires.at (omega arith) (c.if-self-turns.true ∙ c.turns.ensures)
-
-pub returns-in_err-choice-clause-leaves : goal.returns-in_err-choice-clause-leaves
-returns-in_err-choice-clause-leaves g c =
-    let p = err_from_is_err_and c.from_residual.result c.from_residual.ensures.1 in
-    rw (p.1, p.2) (record {
-      input = ReadsLines-ended _ _ _ _ _ _ c.in_err-choice.ensures.reads.input;
-      output = Delivers-unwritten _ _ _ c.in_err-choice.field-0.0 c.in_err-choice.ensures.reads.output;
-      same = rw c.in_err-choice.ensures.reaches (record { script = refl; limits = refl });
-      kept = λ j. Keeps-refl _;
-    })
-
-pub returns-in_err-choice-clause-steps : goal.returns-in_err-choice-clause-steps
-returns-in_err-choice-clause-steps g c = λ sound ls known files told.
-    let p = err_from_is_err_and c.from_residual.result c.from_residual.ensures.1 in
-    rw (p.1, p.2) (reach_stopping g.R.ByteSource.remaining c.args.lines.now c.judge.new.lines c.self.inside c.args.self.now c.self.view_is c.self.invariant files ls c.args.k c.command.result.now
-    c.requires.at c.command.ensures.is (λ e. c.if-self-turns.false (e ∙ sym c.turns.ensures)) (c.in_err-choice.ensures.left ls known)
-    (g.O.MeteredSinks.tally c.args.outputs.now) c.judge.new.self.state.used c.in_err-choice.field-0.0 c.judge.new.self c.in_err-choice.ensures.reaches (c.in_err-choice.ensures.judges sound ls known))
-
-pub returns-then-choice-clause-steps : goal.returns-then-choice-clause-steps
-returns-then-choice-clause-steps g c = λ sound ls known files told.
-    let w = c.in_ok-choice.ensures in
-    let taken = w.left ls known in
-    reach_acting g.R.ByteSource.remaining c.args.lines.now c.judge.new.lines c.self.inside c.args.self.now c.self.view_is c.self.invariant files ls c.args.k c.command.result.now
-    c.requires.at c.command.ensures.is (λ e. c.if-self-turns.false (e ∙ sym c.turns.ensures)) taken
-    c.in_ok-choice.choice c.judge.new.self.state.used c.judge.new.self c.act.new.self (w.judges sound ls known) w.reaches
-    c.act.new.lines _ _ _ c.writes_text.result c.if-choice.true c.writes_text.ensures (c.act.ensures.acts (w.reads.input.sound sound) ls taken.known files told)
-
-pub returns-else-choice-clause-steps : goal.returns-else-choice-clause-steps
-returns-else-choice-clause-steps g c = λ sound ls known files told.
-    reach_passing g.R.ByteSource.remaining c.args.lines.now c.judge.new.lines c.self.inside c.args.self.now c.self.view_is c.self.invariant files ls c.args.k c.command.result.now
-    c.requires.at c.command.ensures.is (λ e. c.if-self-turns.false (e ∙ sym c.turns.ensures)) (c.in_ok-choice.ensures.left ls known)
-    c.in_ok-choice.choice c.judge.new.self.state.used c.judge.new.self c.pass.new.self (c.in_ok-choice.ensures.judges sound ls known) c.in_ok-choice.ensures.reaches
-    _ c.if-choice.false (c.pass.ensures.passes files _ ls)
-
-pub returns-then-choice-clause-leaves : goal.returns-then-choice-clause-leaves
-returns-then-choice-clause-leaves g c = record {
-  input = ReadsLines-then _ _ _ _ _ _ _ (ReadsLines-told _ _ _ _ _ _ c.in_ok-choice.ensures.reads.input) c.act.ensures.leaves.input;
-  output = c.act.ensures.leaves.output;
-  same = SameRun-then (same_reached c.args.self.now c.judge.new.self c.args.k _ _ c.in_ok-choice.ensures.reaches) c.act.ensures.leaves.same;
-  kept = c.act.ensures.leaves.kept;
+pub returns-then-k-len : goal.returns-then-k-len
+returns-then-k-len g c = record {
+  steps = λ sound ls known files told.
+      steps_by_moves g.R.ByteSource.remaining c.args.lines.now ls _ _ c.args.self.now c.finish.new.self _ _ _ known (c.finish.ensures.moves files told ls);
+  falls = c.finish.ensures.falls;
+  leaves = leaves_unread c.finish.ensures.leaves;
 }
 
-pub returns-then-k-len-clause-falls : goal.returns-then-k-len-clause-falls
-returns-then-k-len-clause-falls g c = c.finish.ensures.falls
-
-pub returns-then-k-len-clause-leaves : goal.returns-then-k-len-clause-leaves
-returns-then-k-len-clause-leaves g c = leaves_unread c.finish.ensures.leaves
-
-pub returns-then-self-turns-clause-falls : goal.returns-then-self-turns-clause-falls
-returns-then-self-turns-clause-falls g c = tt
-
-pub returns-then-self-turns-clause-leaves : goal.returns-then-self-turns-clause-leaves
-returns-then-self-turns-clause-leaves g c = leaves_unread (leaves_stopped (record { output = tt; input = λ is. cc }))
-
-pub returns-in_err-choice-clause-falls : goal.returns-in_err-choice-clause-falls
-returns-in_err-choice-clause-falls g c =
-    let p = err_from_is_err_and c.from_residual.result c.from_residual.ensures.1 in
-    rw p.1 tt
-
-pub returns-then-choice-clause-falls : goal.returns-then-choice-clause-falls
-returns-then-choice-clause-falls g c =
-    falls_reached c.args.self.now c.judge.new.self c.act.new.self c.args.k _ _ c.act.result c.in_ok-choice.ensures.reaches c.requires.at
-    (turn_left c.self.inside c.args.self.now c.self.view_is c.self.invariant (λ e. c.if-self-turns.false (e ∙ sym c.turns.ensures))) c.act.ensures.falls
-
-pub returns-else-choice-clause-falls : goal.returns-else-choice-clause-falls
-returns-else-choice-clause-falls g c =
-    falls_reached c.args.self.now c.judge.new.self c.pass.new.self c.args.k _ _ (Ok tt) c.in_ok-choice.ensures.reaches c.requires.at
-    (turn_left c.self.inside c.args.self.now c.self.view_is c.self.invariant (λ e. c.if-self-turns.false (e ∙ sym c.turns.ensures))) c.pass.ensures.falls
-
-pub returns-else-choice-clause-leaves : goal.returns-else-choice-clause-leaves
-returns-else-choice-clause-leaves g c = record {
-  input = ReadsLines-told _ _ _ _ _ _ c.in_ok-choice.ensures.reads.input;
-  output = Delivers-none _ _ _;
-  same = SameRun-then (same_reached c.args.self.now c.judge.new.self c.args.k _ _ c.in_ok-choice.ensures.reaches) c.pass.ensures.same;
-  kept = λ j. Keeps-refl _;
+pub returns-then-self-turns : goal.returns-then-self-turns
+returns-then-self-turns g c = record {
+  steps = λ sound ls known files told.
+      steps_spent g.R.ByteSource.remaining c.args.lines.now c.self.inside c.args.self.now c.self.view_is c.self.invariant files ls known _ c.args.k c.requires.at (omega arith) (c.if-self-turns.true ∙ c.turns.ensures);
+  falls = tt;
+  leaves = leaves_unread (leaves_stopped names_spent);
 }
+
+pub returns-in_err-choice : goal.returns-in_err-choice
+returns-in_err-choice g c =
+    let p = err_from_is_err_and c.from_residual.result c.from_residual.ensures.1 in
+    record {
+      steps = λ sound ls known files told.
+          rw (p.1, p.2) (reach_stopping g.R.ByteSource.remaining c.args.lines.now c.judge.new.lines c.self.inside c.args.self.now c.self.view_is c.self.invariant files ls c.args.k c.command.result.now
+          c.requires.at c.command.ensures.is (λ e. c.if-self-turns.false (e ∙ sym c.turns.ensures)) (c.in_err-choice.ensures.left ls known)
+          (g.O.MeteredSinks.tally c.args.outputs.now) c.judge.new.self.state.used c.in_err-choice.field-0.0 c.judge.new.self c.in_err-choice.ensures.reaches (c.in_err-choice.ensures.judges sound ls known));
+      falls = rw p.1 tt;
+      leaves = rw (p.1, p.2) (record {
+        input = ReadsLines-ended _ _ _ _ _ _ c.in_err-choice.ensures.reads.input;
+        output = Delivers-unwritten _ _ _ c.in_err-choice.field-0.0 c.in_err-choice.ensures.reads.output;
+        same = rw c.in_err-choice.ensures.reaches (record { script = refl; limits = refl });
+        kept = λ j. Keeps-refl _;
+      });
+    }
+
+pub returns-then-choice : goal.returns-then-choice
+returns-then-choice g c = record {
+  steps = λ sound ls known files told.
+      let w = c.in_ok-choice.ensures in
+      let taken = w.left ls known in
+      reach_acting g.R.ByteSource.remaining c.args.lines.now c.judge.new.lines c.self.inside c.args.self.now c.self.view_is c.self.invariant files ls c.args.k c.command.result.now
+      c.requires.at c.command.ensures.is (λ e. c.if-self-turns.false (e ∙ sym c.turns.ensures)) taken
+      c.in_ok-choice.choice c.judge.new.self.state.used c.judge.new.self c.act.new.self (w.judges sound ls known) w.reaches
+      c.act.new.lines _ _ _ c.writes_text.result c.if-choice.true c.writes_text.ensures (c.act.ensures.acts (w.reads.input.sound sound) ls taken.known files told);
+  falls = falls_reached c.args.self.now c.judge.new.self c.act.new.self c.args.k _ _ c.act.result c.in_ok-choice.ensures.reaches c.requires.at
+      (turn_left c.self.inside c.args.self.now c.self.view_is c.self.invariant (λ e. c.if-self-turns.false (e ∙ sym c.turns.ensures))) c.act.ensures.falls;
+  leaves = record {
+    input = ReadsLines-then _ _ _ _ _ _ _ (ReadsLines-told _ _ _ _ _ _ c.in_ok-choice.ensures.reads.input) c.act.ensures.leaves.input;
+    output = c.act.ensures.leaves.output;
+    same = SameRun-then (same_reached c.args.self.now c.judge.new.self c.args.k _ _ c.in_ok-choice.ensures.reaches) c.act.ensures.leaves.same;
+    kept = c.act.ensures.leaves.kept;
+  };
+}
+
+pub returns-else-choice : goal.returns-else-choice
+returns-else-choice g c = record {
+  steps = λ sound ls known files told.
+      reach_passing g.R.ByteSource.remaining c.args.lines.now c.judge.new.lines c.self.inside c.args.self.now c.self.view_is c.self.invariant files ls c.args.k c.command.result.now
+      c.requires.at c.command.ensures.is (λ e. c.if-self-turns.false (e ∙ sym c.turns.ensures)) (c.in_ok-choice.ensures.left ls known)
+      c.in_ok-choice.choice c.judge.new.self.state.used c.judge.new.self c.pass.new.self (c.in_ok-choice.ensures.judges sound ls known) c.in_ok-choice.ensures.reaches
+      _ c.if-choice.false c.pass.ensures;
+  falls = falls_reached c.args.self.now c.judge.new.self c.pass.new.self c.args.k _ _ (Ok tt) c.in_ok-choice.ensures.reaches c.requires.at
+      (turn_left c.self.inside c.args.self.now c.self.view_is c.self.invariant (λ e. c.if-self-turns.false (e ∙ sym c.turns.ensures))) (falls_passed c.judge.new.self c.pass.new.self c.command.result.now.action c.pass.ensures);
+  leaves = record {
+    input = ReadsLines-told _ _ _ _ _ _ c.in_ok-choice.ensures.reads.input;
+    output = Delivers-none _ _ _;
+    same = SameRun-then (same_reached c.args.self.now c.judge.new.self c.args.k _ _ c.in_ok-choice.ensures.reaches) (same_passed c.judge.new.self c.pass.new.self c.command.result.now.action c.pass.ensures);
+    kept = λ j. Keeps-refl _;
+  };
+}
+
+pub act-requires-clause-number : goal.act-requires-clause-number
+act-requires-clause-number g c = reached_number c.self.inside c.args.self.now c.judge.new.self c.args.k _ _ c.self.view_is c.self.invariant c.in_ok-choice.ensures.reaches
+
+pub act-requires-clause-at : goal.act-requires-clause-at
+act-requires-clause-at g c = ap (λ (e : RunState). reaches e.state.tasks) c.in_ok-choice.ensures.reaches

@@ -1,119 +1,137 @@
-use Rattle.std.proofs.Common.{◌≡◌, ◌∙◌, ℕ, List, Some, Ok, Err, length, ap, true, false, arith, get_or, rules}
-use Rattle.std.specs.Prelude.{slice_get}
-use Rattle.sedscript.specs.declared.substitution.Substitution.{Substitution}
+use Rattle.std.proofs.Common.{◌∙◌, Some, Ok, Err, ap, true, false, length, refl, rules, sym}
+use Rattle.sedspace.specs.Spaces.{Contents}
 use Rattle.sedengine.specs.Steps.{reaches}
 use Rattle.sedengine.specs.Run.{RunState, at_lines}
-use Rattle.sedengine.specs.State.{search_in}
-use Rattle.sedengine.specs.Substitute.{to_replace, occurrences}
-use Rattle.sedengine.specs.SubstituteCalls.{ReplacesIn}
-use Rattle.sedmatch.proofs.RoomLemmas.{room_within}
-use Rattle.sedengine.proofs.Fitting.{fits_at, sought, sought_at}
-use Rattle.sedengine.proofs.SubstituteMoves.{makes_full, makes_none, makes_some, one_sought, replaced_is_run, room_kept, stands}
+use Rattle.sedengine.proofs.Fitting.{sought, sought_at}
+use Rattle.sedengine.proofs.Streams.{names_long, names_ok}
+use Rattle.sedengine.proofs.SubstituteMoves.{fits_build, fits_scratch, fits_seeking, limit_exchanged, made_by, made_exchanged, makes_full, makes_none, makes_some, one_sought, replaced_is_run, room_kept, some_substitution, stands}
 use Rattle.sedengine.proofs.Tried.{matchers_kept, replaces_by, within_by}
 use Rattle.sedengine.proofs.machine.Machine.replace_occurrences.Goals as goal
+
+pub returns-in_default-clause-makes : goal.returns-in_default-clause-makes
+returns-in_default-clause-makes c = λ t is files ls.
+    (rw (stands c.self.inside c.args.self.now c.args.k c.or.result t c.substitution-substitution.result.now c.self.view_is is c.substitution-substitution.ensures.is c.or.ensures ∙ c.in_default.is) refl, ap (λ (e : RunState). e.state.number) c.self.view_is)
 
 pub index_mut-requires : goal.index_mut-requires
 index_mut-requires c =
     let a = c.self.inside in
-    let inside = within_by (length c.self.inside.script.expressions) c.substitution.result.now.expression c.self.inside.used c.in-Some.e c.substitution.ensures.within.expression c.self.invariant.used c.in-Some.ensures in
-    let there = sought_at a.script.expressions a.limits.nodes a.matchers.items c.in-Some.e c.self.invariant.matchers inside in
+    let i = c.self.invariant in
+    let inside = within_by (length a.script.expressions) c.substitution-substitution.result.now.expression a.used c.in-Some.e c.substitution-substitution.ensures.within.expression i.used c.in-Some.ensures in
+    let there = sought_at a.script.expressions a.limits.nodes a.matchers.items c.in-Some.e i.matchers inside in
     search (rules, there)
 
-pub build_text-built-requires-clause-fits : goal.build_text-built-requires-clause-fits
-build_text-built-requires-clause-fits c =
-    let a = c.self.inside in
-    let inside = within_by (length c.self.inside.script.expressions) c.substitution.result.now.expression c.self.inside.used c.in-Some.e c.substitution.ensures.within.expression c.self.invariant.used c.in-Some.ensures in
-    let there = sought_at a.script.expressions a.limits.nodes a.matchers.items c.in-Some.e c.self.invariant.matchers inside in
-    let m = c.index_mut.result.now in
-    let is_m : m ≡ get_or a.matchers.items c.in-Some.e m = c.index_mut.ensures.value in
-    let same = ap (λ (w : List ℕ). length w) c.bytes.ensures.value in
-    let text = c.self.invariant.scratch_text (omega arith) in
-    let short = c.self.invariant.pattern in
-    (omega (arith, same, text, short), fits_at a.scratch.nodes a.matchers.items c.in-Some.e m there is_m c.self.invariant.scratch_nodes)
-
-pub build_text-built-requires-clause-serves : goal.build_text-built-requires-clause-serves
-build_text-built-requires-clause-serves c =
-    let a = c.self.inside in
-    let inside = within_by (length c.self.inside.script.expressions) c.substitution.result.now.expression c.self.inside.used c.in-Some.e c.substitution.ensures.within.expression c.self.invariant.used c.in-Some.ensures in
-    let there = sought_at a.script.expressions a.limits.nodes a.matchers.items c.in-Some.e c.self.invariant.matchers inside in
-    let m = c.index_mut.result.now in
-    let is_m : m ≡ get_or a.matchers.items c.in-Some.e m = c.index_mut.ensures.value in
-    let same = ap (λ (w : List ℕ). length w) c.bytes.ensures.value in
-    let short = c.self.invariant.pattern in
-    c.begin.ensures.serves c.bytes.result.now a.script.expressions m (one_sought a c.in-Some.e m c.self.invariant inside is_m)
-    (room_within (length c.bytes.result.now) a.limits.space a.script.expressions a.seeking (omega (arith, same, short)) (c.self.invariant.seeking (search rules)))
+pub build_text-built-requires : goal.build_text-built-requires
+build_text-built-requires c = record {
+  fits = let a = c.self.inside in
+      let i = c.self.invariant in
+      let inside = within_by (length a.script.expressions) c.substitution-substitution.result.now.expression a.used c.in-Some.e c.substitution-substitution.ensures.within.expression i.used c.in-Some.ensures in
+      fits_scratch a i c.bytes.result.now c.bytes.ensures.value c.in-Some.e c.index_mut.result.now inside c.index_mut.ensures.value;
+  short = let a = c.self.inside in
+      let i = c.self.invariant in
+      let some = some_substitution a c.args.self.now c.args.k c.self.view_is c.requires.number in
+      fits_build a i c.bytes.result.now c.bytes.ensures.value some;
+  number = search rules;
+  serves = let a = c.self.inside in
+      let i = c.self.invariant in
+      let some = some_substitution a c.args.self.now c.args.k c.self.view_is c.requires.number in
+      let inside = within_by (length a.script.expressions) c.substitution-substitution.result.now.expression a.used c.in-Some.e c.substitution-substitution.ensures.within.expression i.used c.in-Some.ensures in
+      c.begin.ensures.serves c.bytes.result.now a.script.expressions c.index_mut.result.now (one_sought a c.in-Some.e c.index_mut.result.now i inside c.index_mut.ensures.value)
+      (fits_seeking a i c.bytes.result.now c.bytes.ensures.value some);
+}
 
 pub invariant_of-self : goal.invariant_of-self
 invariant_of-self c =
     let a = c.self.inside in
-    let inside = within_by (length c.self.inside.script.expressions) c.substitution.result.now.expression c.self.inside.used c.in-Some.e c.substitution.ensures.within.expression c.self.invariant.used c.in-Some.ensures in
-    let there = sought_at a.script.expressions a.limits.nodes a.matchers.items c.in-Some.e c.self.invariant.matchers inside in
+    let i = c.self.invariant in
+    let some = some_substitution a c.args.self.now c.args.k c.self.view_is c.requires.number in
+    let inside = within_by (length a.script.expressions) c.substitution-substitution.result.now.expression a.used c.in-Some.e c.substitution-substitution.ensures.within.expression i.used c.in-Some.ensures in
+    let w = c.build_text-built.ensures in
     let m = c.index_mut.result.now in
-    let is_m : m ≡ get_or a.matchers.items c.in-Some.e m = c.index_mut.ensures.value in
-    let at = one_sought a c.in-Some.e m c.self.invariant inside is_m in
-    replaced_is_run a _ _ _ _ _ _ c.in-Some.e true c.self.invariant
-    (ap (λ (e : RunState). reaches e.state.tasks) c.self.view_is ∙ c.requires.at) inside (search rules) (search rules) (search rules) (search rules) (room_kept a c.in-Some.e m c.begin.new.self _ c.self.invariant at c.begin.ensures.room c.begin.ensures.number c.build_text-built.ensures.kept)
-    (matchers_kept a.matchers.items c.in-Some.e m c.build_text-built.new.matcher is_m c.build_text-built.ensures.same.0)
+    replaced_is_run a _ _ _ _ _ _ c.in-Some.e true i (ap (λ (e : RunState). reaches e.state.tasks) c.self.view_is ∙ c.requires.at) inside
+    (limit_exchanged a c.swap.new.self c.build_text-built.new.build i some c.swap.ensures.here w.limit) (rw c.swap.ensures.here c.is_within.ensures)
+    (ap (λ (s : Contents). s.limit) c.swap.ensures.there ∙ i.pattern_limit ∙ sym (i.build_limit some)) w.same.1
+    (room_kept a c.in-Some.e m c.begin.new.self _ i (one_sought a c.in-Some.e m i inside c.index_mut.ensures.value) c.begin.ensures.room c.begin.ensures.number w.kept)
+    (matchers_kept a.matchers.items c.in-Some.e m c.build_text-built.new.matcher c.index_mut.ensures.value w.same.0)
 
 pub invariant_of-self-in-Ok-false : goal.invariant_of-self-in-Ok-false
 invariant_of-self-in-Ok-false c =
     let a = c.self.inside in
-    let inside = within_by (length c.self.inside.script.expressions) c.substitution.result.now.expression c.self.inside.used c.in-Some.e c.substitution.ensures.within.expression c.self.invariant.used c.in-Some.ensures in
-    let there = sought_at a.script.expressions a.limits.nodes a.matchers.items c.in-Some.e c.self.invariant.matchers inside in
+    let i = c.self.invariant in
+    let inside = within_by (length a.script.expressions) c.substitution-substitution.result.now.expression a.used c.in-Some.e c.substitution-substitution.ensures.within.expression i.used c.in-Some.ensures in
+    let w = c.build_text-built.ensures in
     let m = c.index_mut.result.now in
-    let is_m : m ≡ get_or a.matchers.items c.in-Some.e m = c.index_mut.ensures.value in
-    let at = one_sought a c.in-Some.e m c.self.invariant inside is_m in
-    replaced_is_run a _ _ _ _ _ _ c.in-Some.e a.replaced c.self.invariant
-    (ap (λ (e : RunState). reaches e.state.tasks) c.self.view_is ∙ c.requires.at) inside (search rules) (search rules) (search rules) (search rules) (room_kept a c.in-Some.e m c.begin.new.self _ c.self.invariant at c.begin.ensures.room c.begin.ensures.number c.build_text-built.ensures.kept)
-    (matchers_kept a.matchers.items c.in-Some.e m c.build_text-built.new.matcher is_m c.build_text-built.ensures.same.0)
+    replaced_is_run a _ _ _ _ _ _ c.in-Some.e a.replaced i (ap (λ (e : RunState). reaches e.state.tasks) c.self.view_is ∙ c.requires.at) inside
+    refl (rw i.pattern_limit i.pattern) w.limit w.same.1
+    (room_kept a c.in-Some.e m c.begin.new.self _ i (one_sought a c.in-Some.e m i inside c.index_mut.ensures.value) c.begin.ensures.room c.begin.ensures.number w.kept)
+    (matchers_kept a.matchers.items c.in-Some.e m c.build_text-built.new.matcher c.index_mut.ensures.value w.same.0)
 
 pub invariant_of-self-in-Err : goal.invariant_of-self-in-Err
 invariant_of-self-in-Err c =
     let a = c.self.inside in
-    let inside = within_by (length c.self.inside.script.expressions) c.substitution.result.now.expression c.self.inside.used c.in-Some.e c.substitution.ensures.within.expression c.self.invariant.used c.in-Some.ensures in
-    let there = sought_at a.script.expressions a.limits.nodes a.matchers.items c.in-Some.e c.self.invariant.matchers inside in
+    let i = c.self.invariant in
+    let inside = within_by (length a.script.expressions) c.substitution-substitution.result.now.expression a.used c.in-Some.e c.substitution-substitution.ensures.within.expression i.used c.in-Some.ensures in
+    let w = c.build_text-built.ensures in
     let m = c.index_mut.result.now in
-    let is_m : m ≡ get_or a.matchers.items c.in-Some.e m = c.index_mut.ensures.value in
-    let at = one_sought a c.in-Some.e m c.self.invariant inside is_m in
-    replaced_is_run a _ _ _ _ _ _ c.in-Some.e a.replaced c.self.invariant
-    (ap (λ (e : RunState). reaches e.state.tasks) c.self.view_is ∙ c.requires.at) inside (search rules) (search rules) (search rules) (search rules) (room_kept a c.in-Some.e m c.begin.new.self _ c.self.invariant at c.begin.ensures.room c.begin.ensures.number c.build_text-built.ensures.kept)
-    (matchers_kept a.matchers.items c.in-Some.e m c.build_text-built.new.matcher is_m c.build_text-built.ensures.same.0)
+    replaced_is_run a _ _ _ _ _ _ c.in-Some.e a.replaced i (ap (λ (e : RunState). reaches e.state.tasks) c.self.view_is ∙ c.requires.at) inside
+    refl (rw i.pattern_limit i.pattern) w.limit w.same.1
+    (room_kept a c.in-Some.e m c.begin.new.self _ i (one_sought a c.in-Some.e m i inside c.index_mut.ensures.value) c.begin.ensures.room c.begin.ensures.number w.kept)
+    (matchers_kept a.matchers.items c.in-Some.e m c.build_text-built.new.matcher c.index_mut.ensures.value w.same.0)
 
-pub returns-in-Ok-true-clause-makes : goal.returns-in-Ok-true-clause-makes
-returns-in-Ok-true-clause-makes c = λ t is files ls.
-    let a = c.self.inside in
-    let inside = within_by (length c.self.inside.script.expressions) c.substitution.result.now.expression c.self.inside.used c.in-Some.e c.substitution.ensures.within.expression c.self.invariant.used c.in-Some.ensures in
-    let there = sought_at a.script.expressions a.limits.nodes a.matchers.items c.in-Some.e c.self.invariant.matchers inside in
-    let m = c.index_mut.result.now in
-    let is_m : m ≡ get_or a.matchers.items c.in-Some.e m = c.index_mut.ensures.value in
-    let st = stands a c.args.self.now c.args.k c.in-Some.e t c.substitution.result.now c.self.view_is is c.substitution.ensures.is c.in-Some.ensures in
-    let es = sought a.script.expressions a.limits.nodes a.matchers.items c.self.invariant.matchers in
-    let all = replaces_by a.matchers.items c.in-Some.e m c.bytes.result.now c.substitution-2.result.now a.build.limit c.build_text-built.new.build.bytes (Ok true) there is_m (rw c.in-Ok-true.field-0-test at c.in-Ok-true.ensures.replaces) in
-    let made : (u : Substitution) → slice_get a.script.substitutions c.args.k ≡ Some u → ReplacesIn u (to_replace u.number u.global (occurrences (search_in a.matchers.items c.in-Some.e a.pattern.bytes) (length a.pattern.bytes))) a.pattern c.swap.new.self (Ok true) = search (rules, all) in
-    rw st (makes_some a c.args.self.now c.self.view_is a.matchers.items es c.args.k c.in-Some.e files ls t c.swap.new.self is made)
+pub returns-in-Ok-true : goal.returns-in-Ok-true
+returns-in-Ok-true c = record {
+  makes = λ t is files ls.
+      let a = c.self.inside in
+      let i = c.self.invariant in
+      let some = some_substitution a c.args.self.now c.args.k c.self.view_is c.requires.number in
+      let inside = within_by (length a.script.expressions) c.substitution-substitution.result.now.expression a.used c.in-Some.e c.substitution-substitution.ensures.within.expression i.used c.in-Some.ensures in
+      let there = sought_at a.script.expressions a.limits.nodes a.matchers.items c.in-Some.e i.matchers inside in
+      let u = c.substitution-substitution.result.now in
+      let all = replaces_by a.matchers.items c.in-Some.e c.index_mut.result.now c.bytes.result.now u a.build.limit c.build_text-built.new.build.bytes (Ok true) there c.index_mut.ensures.value (rw c.in-Ok-true.field-0-test at c.in-Ok-true.ensures.replaces) in
+      let made = made_by a i c.bytes.result.now c.bytes.ensures.value a.matchers.items c.args.k c.in-Some.e u c.swap.new.self a.build.limit c.build_text-built.new.build.bytes (Ok true) c.substitution-substitution.ensures.is (made_exchanged a c.swap.new.self c.build_text-built.new.build i some c.swap.ensures.here c.build_text-built.ensures.limit) all in
+      rw (stands a c.args.self.now c.args.k (Some c.in-Some.e) t c.substitution-substitution.result.now c.self.view_is is c.substitution-substitution.ensures.is c.in-Some.ensures)
+      (makes_some a c.args.self.now c.self.view_is a.matchers.items (sought a.script.expressions a.limits.nodes a.matchers.items i.matchers) c.args.k c.in-Some.e files ls t c.swap.new.self is made);
+  err = tt;
+  devices = names_ok;
+  fits = let a = c.self.inside in
+      let i = c.self.invariant in
+      let some = some_substitution a c.args.self.now c.args.k c.self.view_is c.requires.number in
+      rw c.swap.ensures.here (rw (c.build_text-built.ensures.limit, i.build_limit some) at c.is_within.ensures);
+  same = search rules;
+}
 
-pub returns-in-Ok-false-clause-makes : goal.returns-in-Ok-false-clause-makes
-returns-in-Ok-false-clause-makes c = λ t is files ls.
-    let a = c.self.inside in
-    let inside = within_by (length c.self.inside.script.expressions) c.substitution.result.now.expression c.self.inside.used c.in-Some.e c.substitution.ensures.within.expression c.self.invariant.used c.in-Some.ensures in
-    let there = sought_at a.script.expressions a.limits.nodes a.matchers.items c.in-Some.e c.self.invariant.matchers inside in
-    let m = c.index_mut.result.now in
-    let is_m : m ≡ get_or a.matchers.items c.in-Some.e m = c.index_mut.ensures.value in
-    let st = stands a c.args.self.now c.args.k c.in-Some.e t c.substitution.result.now c.self.view_is is c.substitution.ensures.is c.in-Some.ensures in
-    let es = sought a.script.expressions a.limits.nodes a.matchers.items c.self.invariant.matchers in
-    let all = replaces_by a.matchers.items c.in-Some.e m c.bytes.result.now c.substitution-2.result.now a.build.limit c.build_text-built.new.build.bytes (Ok false) there is_m (rw c.in-Ok-false.field-0-test at c.in-Ok-false.ensures.replaces) in
-    let made : (u : Substitution) → slice_get a.script.substitutions c.args.k ≡ Some u → ReplacesIn u (to_replace u.number u.global (occurrences (search_in a.matchers.items c.in-Some.e a.pattern.bytes) (length a.pattern.bytes))) a.pattern a.pattern (Ok false) = search (rules, all) in
-    rw st (makes_none a c.args.self.now c.self.view_is a.matchers.items es c.args.k c.in-Some.e files ls t a.pattern is made)
+pub returns-in-Ok-false : goal.returns-in-Ok-false
+returns-in-Ok-false c = record {
+  makes = λ t is files ls.
+      let a = c.self.inside in
+      let i = c.self.invariant in
+      let inside = within_by (length a.script.expressions) c.substitution-substitution.result.now.expression a.used c.in-Some.e c.substitution-substitution.ensures.within.expression i.used c.in-Some.ensures in
+      let there = sought_at a.script.expressions a.limits.nodes a.matchers.items c.in-Some.e i.matchers inside in
+      let u = c.substitution-substitution.result.now in
+      let all = replaces_by a.matchers.items c.in-Some.e c.index_mut.result.now c.bytes.result.now u a.build.limit c.build_text-built.new.build.bytes (Ok false) there c.index_mut.ensures.value (rw c.in-Ok-false.field-0-test at c.in-Ok-false.ensures.replaces) in
+      let made = made_by a i c.bytes.result.now c.bytes.ensures.value a.matchers.items c.args.k c.in-Some.e u a.pattern a.build.limit c.build_text-built.new.build.bytes (Ok false) c.substitution-substitution.ensures.is refl all in
+      rw (stands a c.args.self.now c.args.k (Some c.in-Some.e) t c.substitution-substitution.result.now c.self.view_is is c.substitution-substitution.ensures.is c.in-Some.ensures)
+      (makes_none a c.args.self.now c.self.view_is a.matchers.items (sought a.script.expressions a.limits.nodes a.matchers.items i.matchers) c.args.k c.in-Some.e files ls t a.pattern is made);
+  err = tt;
+  devices = names_ok;
+  fits = c.self.invariant.pattern;
+  same = search rules;
+}
 
-pub returns-in-Err-clause-makes : goal.returns-in-Err-clause-makes
-returns-in-Err-clause-makes c = λ t is files ls.
-    let a = c.self.inside in
-    let inside = within_by (length c.self.inside.script.expressions) c.substitution.result.now.expression c.self.inside.used c.in-Some.e c.substitution.ensures.within.expression c.self.invariant.used c.in-Some.ensures in
-    let there = sought_at a.script.expressions a.limits.nodes a.matchers.items c.in-Some.e c.self.invariant.matchers inside in
-    let m = c.index_mut.result.now in
-    let is_m : m ≡ get_or a.matchers.items c.in-Some.e m = c.index_mut.ensures.value in
-    let st = stands a c.args.self.now c.args.k c.in-Some.e t c.substitution.result.now c.self.view_is is c.substitution.ensures.is c.in-Some.ensures in
-    let es = sought a.script.expressions a.limits.nodes a.matchers.items c.self.invariant.matchers in
-    let all = replaces_by a.matchers.items c.in-Some.e m c.bytes.result.now c.substitution-2.result.now a.build.limit c.build_text-built.new.build.bytes (Err c.in-Err.field-0) there is_m c.in-Err.ensures.replaces in
-    let made : (u : Substitution) → slice_get a.script.substitutions c.args.k ≡ Some u → ReplacesIn u (to_replace u.number u.global (occurrences (search_in a.matchers.items c.in-Some.e a.pattern.bytes) (length a.pattern.bytes))) a.pattern a.pattern (Err c.in-Err.field-0) = search (rules, all) in
-    rw st (makes_full a c.args.self.now c.self.view_is a.matchers.items es c.args.k c.in-Some.e files ls t a.pattern (at_lines c.args.self.now ls) c.in-Err.field-0 c.self.invariant.pattern_limit is made)
+pub returns-in-Err : goal.returns-in-Err
+returns-in-Err c = record {
+  makes = λ t is files ls.
+      let a = c.self.inside in
+      let i = c.self.invariant in
+      let some = some_substitution a c.args.self.now c.args.k c.self.view_is c.requires.number in
+      let inside = within_by (length a.script.expressions) c.substitution-substitution.result.now.expression a.used c.in-Some.e c.substitution-substitution.ensures.within.expression i.used c.in-Some.ensures in
+      let there = sought_at a.script.expressions a.limits.nodes a.matchers.items c.in-Some.e i.matchers inside in
+      let u = c.substitution-substitution.result.now in
+      let all = replaces_by a.matchers.items c.in-Some.e c.index_mut.result.now c.bytes.result.now u a.build.limit c.build_text-built.new.build.bytes (Err c.in-Err.field-0) there c.index_mut.ensures.value c.in-Err.ensures.replaces in
+      let made = made_by a i c.bytes.result.now c.bytes.ensures.value a.matchers.items c.args.k c.in-Some.e u a.pattern a.build.limit c.build_text-built.new.build.bytes (Err c.in-Err.field-0) c.substitution-substitution.ensures.is (i.build_limit some ∙ sym i.pattern_limit) all in
+      rw (stands a c.args.self.now c.args.k (Some c.in-Some.e) t c.substitution-substitution.result.now c.self.view_is is c.substitution-substitution.ensures.is c.in-Some.ensures)
+      (makes_full a c.args.self.now c.self.view_is a.matchers.items (sought a.script.expressions a.limits.nodes a.matchers.items i.matchers) c.args.k c.in-Some.e files ls t a.pattern (at_lines c.args.self.now ls) c.in-Err.field-0 i.pattern_limit is made);
+  err = ap (λ (e : RunState). e.state.pattern) c.self.view_is;
+  devices = names_long;
+  fits = c.self.invariant.pattern;
+  same = search rules;
+}

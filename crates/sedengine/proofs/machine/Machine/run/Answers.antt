@@ -13,30 +13,29 @@ moves-init g c = record {
       Reached-none _ _ _ _ c.args.self.now ls _ known (c.is_within_limits.ensures ls);
 }
 
-pub returns-in-Err-clause-leaves : goal.returns-in-Err-clause-leaves
-returns-in-Err-clause-leaves g c = leaves_then c.moves.invariant.leaves (leaves_texts c.in-Err.ensures.input c.in-Err.ensures.output c.in-Err.ensures.same)
+pub returns-in-Err : goal.returns-in-Err
+returns-in-Err g c = record {
+  ends = λ sound ls known files told.
+      let h = c.moves.invariant in
+      let r = h.reached sound ls known files told in
+      let input = ReadsLines-then _ _ _ _ _ _ _ h.leaves.input c.in-Err.ensures.input in
+      pass_stop g.R.ByteSource.remaining c.args.lines.now c.moves.lines c.pass_over.new.lines files c.args.self.now _ c.moves.self _ _ _ h.leaves.same r c.pass_over.new.self c.in-Err.end
+      (c.in-Err.ensures.steps r.rest r.taken.known files) input.shrinks input.ahead c.requires.look (λ is. input.broken (ap Err is) sound);
+  leaves = leaves_then c.moves.invariant.leaves (leaves_texts c.in-Err.ensures.input c.in-Err.ensures.output c.in-Err.ensures.same);
+}
 
-pub returns-in-Err-clause-ends : goal.returns-in-Err-clause-ends
-returns-in-Err-clause-ends g c = λ sound ls known files told.
-    let h = c.moves.invariant in
-    let r = h.reached sound ls known files told in
-    let input = ReadsLines-then _ _ _ _ _ _ _ h.leaves.input c.in-Err.ensures.input in
-    pass_stop g.R.ByteSource.remaining c.args.lines.now c.moves.lines c.pass_over.new.lines files c.args.self.now _ c.moves.self _ _ _ h.leaves.same r c.pass_over.new.self c.in-Err.end
-    (c.in-Err.ensures.steps r.rest r.taken.known files) input.shrinks input.ahead c.requires.look (λ is. input.broken (ap Err is) sound)
-
-pub returns-in-Err-step-clause-leaves : goal.returns-in-Err-step-clause-leaves
-returns-in-Err-step-clause-leaves g c =
-    leaves_then (leaves_then c.moves.invariant.leaves (leaves_texts c.in_default.ensures.input c.in_default.ensures.output c.in_default.ensures.same)) c.in-Err-step.ensures.leaves
-
-pub returns-in-Err-step-clause-ends : goal.returns-in-Err-step-clause-ends
-returns-in-Err-step-clause-ends g c = λ sound ls known files told.
-    let h = c.moves.invariant in
-    let r = h.reached sound ls known files told in
-    let passed = ReadsLines-then _ _ _ _ _ _ _ h.leaves.input c.in_default.ensures.input in
-    let input = ReadsLines-then _ _ _ _ _ _ _ passed c.in-Err-step.ensures.leaves.input in
-    let there = pass_on g.R.ByteSource.remaining c.args.lines.now c.moves.lines c.pass_over.new.lines files c.args.self.now _ c.moves.self _ _ _ h.leaves.same r c.pass_over.new.self (c.in_default.ensures.steps r.rest r.taken.known files) in
-    stop_on g.R.ByteSource.remaining c.args.lines.now c.pass_over.new.lines c.step.new.lines files c.args.self.now _ c.pass_over.new.self _ _ _ (SameRun-then h.leaves.same c.in_default.ensures.same) there c.step.new.self c.in-Err-step.end
-    (c.in-Err-step.ensures.steps (passed.sound sound) there.rest there.taken.known files (tells_on _ _ files told h.leaves.kept)) input.shrinks input.ahead c.requires.look (λ is. input.broken (ap Err is) sound)
+pub returns-in-Err-step : goal.returns-in-Err-step
+returns-in-Err-step g c = record {
+  ends = λ sound ls known files told.
+      let h = c.moves.invariant in
+      let r = h.reached sound ls known files told in
+      let passed = ReadsLines-then _ _ _ _ _ _ _ h.leaves.input c.in_default.ensures.input in
+      let input = ReadsLines-then _ _ _ _ _ _ _ passed c.in-Err-step.ensures.leaves.input in
+      let there = pass_on g.R.ByteSource.remaining c.args.lines.now c.moves.lines c.pass_over.new.lines files c.args.self.now _ c.moves.self _ _ _ h.leaves.same r c.pass_over.new.self (c.in_default.ensures.steps r.rest r.taken.known files) in
+      stop_on g.R.ByteSource.remaining c.args.lines.now c.pass_over.new.lines c.step.new.lines files c.args.self.now _ c.pass_over.new.self _ _ _ (SameRun-then h.leaves.same c.in_default.ensures.same) there c.step.new.self c.in-Err-step.end
+      (c.in-Err-step.ensures.steps (passed.sound sound) there.rest there.taken.known files (tells_on _ _ files told h.leaves.kept)) input.shrinks input.ahead c.requires.look (λ is. input.broken (ap Err is) sound);
+  leaves = leaves_then (leaves_then c.moves.invariant.leaves (leaves_texts c.in_default.ensures.input c.in_default.ensures.output c.in_default.ensures.same)) c.in-Err-step.ensures.leaves;
+}
 
 pub moves-preserved : goal.moves-preserved
 moves-preserved g c =

@@ -10,10 +10,9 @@ lines_written : (old new : SinkView) (quiet : Bool) (bytes : List ℕ) (r : Resu
 lines_written old new quiet bytes (Ok u) loud h = rw loud h
 lines_written old new quiet bytes (Err cut) loud h = (loud, h)
 
-pub returns-clause-writes : goal.returns-clause-writes
-returns-clause-writes g c =
-    let loud : c.args.self.now.script.quiet ≡ false = search rules in
-    lines_written _ _ c.args.self.now.script.quiet c.args.bytes.now c.write_part.result loud c.write_part.ensures.writes
-
-pub returns-clause-output : goal.returns-clause-output
-returns-clause-output g c = c.write_part.ensures.devices
+pub returns : goal.returns
+returns g c = record {
+  writes = let loud : c.args.self.now.script.quiet ≡ false = search rules in
+      lines_written _ _ c.args.self.now.script.quiet c.args.bytes.now c.write_part.result loud c.write_part.ensures.writes;
+  output = c.write_part.ensures.devices;
+}

@@ -1,7 +1,7 @@
 use Rattle.std.proofs.Common.{◌≡◌, ◌∙◌, ◌<◌, ap, sym, subst, Some, length, slice_get}
 use Rattle.std.proofs.lemmas.Option.{slice_get-get_or}
 use Rattle.sedscript.specs.Program.{Program}
-use Rattle.sedscript.specs.Ranges.{CommandWithin, sizes_of}
+use Rattle.sedscript.specs.Ranges.{CommandWithin}
 use Rattle.sedscript.proofs.script.Script.command.Goals as goal
 
 pub returns-clause-is : goal.returns-clause-is
@@ -17,4 +17,4 @@ returns-clause-within c =
     slice_get-get_or c.self.inside.commands.items c.args.i c.index.result.now
     (subst (λ (p : Program). c.args.i < length p.commands) (sym c.self.view_is) c.requires)
     ∙ ap Some (sym c.index.ensures) in
-    subst (λ (p : Program). CommandWithin (sizes_of p) c.index.result.now) c.self.view_is (c.self.invariant.each c.args.i c.index.result.now there)
+    subst (λ (p : Program). CommandWithin p c.index.result.now) c.self.view_is (c.self.invariant.each c.args.i c.index.result.now there)

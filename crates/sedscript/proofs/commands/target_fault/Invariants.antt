@@ -1,7 +1,7 @@
 use Rattle.std.proofs.Common.{◌≡◌, ◌≤◌, ◌-◌, length, drop, take}
-use Rattle.sedscript.specs.Targets.{target_fault, target_fault_in}
+use Rattle.sedscript.specs.Script.{target_fault, target_fault_in}
 use Rattle.sedscript.specs.Tables.{blocks_in}
-use Rattle.sedscript.proofs.targets.target_fault.Given as goal
+use Rattle.sedscript.proofs.commands.target_fault.Given as goal
 
 abbrev pub invariant-items : goal.invariant-items
 invariant-items l = record {

@@ -1,9 +1,12 @@
 use Rattle.std.proofs.Common.{◌≡◌, ◌∙◌, ◌+◌, ℕ, List, Bool, true, Option, is_none, is_some, ap, sym, drop, take}
 use Rattle.std.proofs.lemmas.Slice.Eq.{bytes_eq-Decides}
 use Rattle.sedscript.specs.Types.{Verb, OpenBlock, RepeatedLabel}
-use Rattle.sedscript.specs.Targets.{written_in, target_fault_at, fault_if, is_open, is_label, label_in}
+use Rattle.sedscript.specs.Targets.{written_in, is_label, label_in}
+use Rattle.sedscript.specs.Script.{target_fault_at}
+use Rattle.sedscript.specs.Functions.{fault_if}
+use Rattle.sedscript.specs.Letters.{is_open}
 use Rattle.sedscript.proofs.TargetFaults.{missing}
-use Rattle.sedscript.proofs.targets.target_fault_at.Goals as goal
+use Rattle.sedscript.proofs.commands.target_fault_at.Goals as goal
 
 pub returns-in-Open : goal.returns-in-Open
 returns-in-Open c = λ items t at end.

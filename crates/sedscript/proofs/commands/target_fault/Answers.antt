@@ -1,7 +1,7 @@
 use Rattle.std.proofs.Common.{arith}
 use Rattle.sedscript.proofs.Blocks.{blocks_step, end_known}
 use Rattle.sedscript.proofs.TargetFaults.{target_fault_here, target_fault_step}
-use Rattle.sedscript.proofs.targets.target_fault.Goals as goal
+use Rattle.sedscript.proofs.commands.target_fault.Goals as goal
 
 pub returns-then-is_some : goal.returns-then-is_some
 returns-then-is_some c =
