@@ -9,8 +9,8 @@ use Rattle.clap.specs.Words.{Text, fault_of, matches_of}
 use Rattle.clap.specs.Walk.{bundle_met, walked as word_walked}
 use Rattle.clap.specs.Faults.{defaults_fault, flags_fault, walk_fault}
 use Rattle.clap.specs.declared.error.kind.ErrorKind.TheVariants.{DisplayHelp, InvalidValue, UnknownArgument}
-use Rattle.sededit.specs.CommandLine.{Asks, IsCommandLine, given_to, is_given, sed_command}
-use Rattle.sededit.specs.declared.asked.Part.{Part}
+use Rattle.sedfiles.specs.CommandLine.{Asks, IsCommandLine, given_to, is_given, sed_command}
+use Rattle.sedfiles.specs.declared.asked.Part.{Part}
 use Rattle.sedre.specs.Brackets.{delimiter_at}
 use Rattle.sedre.specs.Tree.{tree_at, tree_within}
 use Rattle.sedre.specs.Items.{item_at as expression_item_at}

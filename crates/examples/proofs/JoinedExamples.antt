@@ -1,6 +1,6 @@
 -- Files joined, computed.
 use Rattle.std.proofs.Common.{◌≡◌, [], ◌∷◌, refl}
-use Rattle.sededit.specs.Files.{joined}
+use Rattle.sedfiles.specs.Files.{joined}
 
 -- no file gives no byte
 joined_none : joined [] ≡ []

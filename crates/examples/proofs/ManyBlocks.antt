@@ -16,8 +16,9 @@ use Rattle.sedscript.specs.declared.items.ItemOrEnd.TheVariants.{Is}
 use Rattle.sedscript.specs.declared.items.Item.{Item}
 use Rattle.sedscript.specs.Items.{Headed, address_at, addresses_at, addresses_of, with_bang, function_at, item_at, Reading, plainly}
 use Rattle.sedscript.specs.Bytes.{past}
-use Rattle.sedscript.specs.Script.{Gives, value, CutScript, done, item, IsEnd, Means, commands_of, is_quiet, substitutions_of, tables_of, texts_of}
-use Rattle.sedscript.specs.Targets.{files_in, block_end, close_in, commands_in, becomes_command, target_fault_in}
+use Rattle.sedscript.specs.Script.{Gives, value, CutScript, done, item, IsEnd, Means, commands_of, is_quiet, substitutions_of, tables_of, texts_of, target_fault_in}
+use Rattle.sedscript.specs.Targets.{files_in, block_end, close_in, commands_in}
+use Rattle.sedscript.specs.Letters.{becomes_command}
 use Rattle.sedscript.specs.Functions.{may_end}
 use Rattle.sedscript.specs.Program.{Program}
 use Rattle.examples.proofs.ManyBracesExamples.{opening, openings, braces, stays, no_addresses, gives_opening}

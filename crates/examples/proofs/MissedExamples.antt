@@ -1,6 +1,6 @@
 -- Which input files count as missed.
 use Rattle.std.proofs.Common.{◌≡◌, true, false, [], ◌∷◌, Some, None, length, ap, arith, length-append, refl}
-use Rattle.sededit.specs.Opening.{NotesMissed}
+use Rattle.sedfiles.specs.Opening.{NotesMissed}
 
 -- The next of the files can't be opened: it is noted, and no byte comes of it.
 missed_file_noted : NotesMissed (Some (None ∷ [])) (Some []) (false ∷ []) (false ∷ true ∷ [])

@@ -5,8 +5,8 @@ use Rattle.std.specs.List.{list_all}
 use Rattle.std.proofs.StringFromBytes.{spelled}
 use Rattle.std.proofs.lemmas.Bool.{ltb-true}
 use Rattle.std.proofs.lemmas.Str.{IsUtf8-from_ascii}
-use Rattle.sededit.specs.declared.asked.Part.{Part}
-use Rattle.sededit.specs.declared.asked.Part.TheVariants.{File, Script}
+use Rattle.sedfiles.specs.declared.asked.Part.{Part}
+use Rattle.sedfiles.specs.declared.asked.Part.TheVariants.{File, Script}
 use Rattle.examples.proofs.ComputedEnds.{both}
 
 pub each_low : (bs : List ℕ) → list_all (λ b. nat_lt b 128) bs ≡ true → (i : ℕ) → get_or bs i 0 < 128

@@ -19,10 +19,10 @@ use Rattle.sedengine.specs.declared.ends.Ended.{Ended}
 use Rattle.sedengine.specs.declared.ends.Ended.TheVariants.{Done, NoPrevious, InputBroken, OutputBroken, OutputFull}
 use Rattle.examples.proofs.ComputedEnds.{all_fit, stops_after, stops_within, Stops}
 use Rattle.examples.proofs.ComputedRun.{course, ends_after, plain, quiet, no_files, Edits}
-use Rattle.sededit.specs.declared.asked.Part.{Part}
+use Rattle.sedfiles.specs.declared.asked.Part.{Part}
 use Rattle.sededit.specs.Editing.{nothing_before, start_over}
-use Rattle.sededit.specs.MemoryFiles.{File, file_of, files_of}
-use Rattle.sededit.specs.Files.{joined_files}
+use Rattle.sedfiles.specs.MemoryFiles.{File, file_of, files_of}
+use Rattle.sedfiles.specs.Files.{joined_files}
 use Rattle.sededit.specs.Program.{MakesText, Observed, SinkAtEnd, StopsEarly, or_standard}
 use Rattle.examples.proofs.LimitWords.{own}
 use Rattle.examples.proofs.PartWords.{file, text}

@@ -27,11 +27,11 @@ use Rattle.sedscript.specs.declared.letters.Verb.TheVariants.{Branch, Close, Com
 use Rattle.sedscript.specs.Bytes.{past, bytes_between, is_digit, is_byte, with_digits}
 use Rattle.sedscript.specs.Strings.{string_end, exceeds, replacement_fault, is_letter, chars_of, repeated_in, string_fault, strings_fault, repeated_fault}
 use Rattle.sedscript.specs.Items.{Reading, plainly, expression, ◌>>=◌, Addressed, line_of, folds_at, match_at, own_match, address_of, address_at, with_second, second_at, after_first, addresses_at, with_bang, substitute_with, substitute_at, argument_with, function_at, item_from, item_at, match_to, function_after, item_with, item_of}
-use Rattle.sedscript.specs.Functions.{or_fault, ended, may_end, text_from, name_from, spanned, ◌>>=◌ as ◌then◌}
+use Rattle.sedscript.specs.Functions.{or_fault, ended, may_end, text_from, name_from, spanned, ◌>>=◌ as ◌then◌, fault_if}
 use Rattle.sedscript.specs.Between.{no_flags, numbered, with_number, with_flag, flags_from, own_delimiter, strings_after, substitute_strings, transliterate_strings, unless_fault, flags_after, with_file, ends_flags, folds}
 use Rattle.sedscript.specs.Letters.{argument_of, allowed, verb_of, most_addresses, transliterate_at, substituted}
-use Rattle.sedscript.specs.Targets.{fault_if, written_in, branch_in, label_in, block_end, depth_after, target_fault_at, target_fault_in, target_fault}
-use Rattle.sedscript.specs.Script.{Gives, value, after_expression, IsRead, CutScript, done, item, Means, IsEnd}
+use Rattle.sedscript.specs.Targets.{written_in, branch_in, label_in, block_end, depth_after}
+use Rattle.sedscript.specs.Script.{target_fault_at, target_fault_in, target_fault, Gives, value, after_expression, IsRead, CutScript, done, item, Means, IsEnd}
 use Rattle.sedscript.specs.FirstFault.{Fails, Faulty, own, no_expression, later, early, afterwards}
 use Rattle.sedscript.specs.Program.{Program}
 use Rattle.examples.specs.Blocks.{IsStray, IsUnclosed}

@@ -16,7 +16,7 @@ use Rattle.sedscript.specs.Functions.{name_from, text_from}
 use Rattle.sedscript.specs.Strings.{table_of}
 use Rattle.sedspace.specs.Lines.{lines}
 use Rattle.sedengine.specs.Move.{next_move, to_sink}
-use Rattle.sededit.specs.Files.{joined}
+use Rattle.sedfiles.specs.Files.{joined}
 use Rattle.sedengine.specs.Select.{selects}
 use Rattle.sedengine.specs.Substitute.{occurrences_from}
 use Rattle.examples.proofs.ComputedRun.{course, ends_after, Writes, QuietlyWrites, Edits, plain, quiet, no_files}

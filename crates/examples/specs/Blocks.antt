@@ -3,7 +3,7 @@ use Rattle.std.specs.Prelude.{◌≡◌, ℕ, List, [], ◌∷◌, ◌++◌, fal
 use Rattle.sedscript.specs.declared.letters.Verb.{Verb}
 use Rattle.sedscript.specs.declared.letters.Verb.TheVariants.{Open, Close}
 use Rattle.sedscript.specs.declared.items.Item.{Item}
-use Rattle.sedscript.specs.Targets.{is_open, is_close}
+use Rattle.sedscript.specs.Letters.{is_open, is_close}
 
 -- each opening brace among the items has its closing one, and each closing one its opening one
 pub data BracesMatch : List Item → Type 0 where

@@ -6,10 +6,8 @@ use crate::report::Report;
 use crate::sheet::Sheet;
 use crate::table::Row;
 use sededit::script;
-use sedscript::{
-    Action, Address, BranchUse, Command, FileUse, ReplacementPart, Script, Simple, Substitution,
-    TextUse,
-};
+use sedscript::types::{BranchUse, FileUse, Simple, TextUse};
+use sedscript::{Action, Address, Command, ReplacementPart, Script, Substitution};
 
 /// The most nodes of an expression.
 const MOST_NODES: usize = 65536;

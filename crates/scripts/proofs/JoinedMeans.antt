@@ -17,8 +17,8 @@ use Rattle.sedscript.specs.declared.items.Argument.{Argument}
 use Rattle.sedscript.specs.declared.letters.Verb.{Verb}
 use Rattle.sedscript.specs.declared.letters.Verb.TheVariants.{Label, Branch}
 use Rattle.sedscript.specs.Bytes.{bytes_between}
-use Rattle.sedscript.specs.Targets.{distinct, files_in, number_in, written_in, commands_in, is_label, label_in, branch_in, target_fault_in, depth_after, target_fault_at}
-use Rattle.sedscript.specs.Script.{CutScript, IsEnd, Means, action_of, commands_of, texts_of, substitutions_of, tables_of, is_quiet}
+use Rattle.sedscript.specs.Targets.{distinct, files_in, number_in, written_in, commands_in, is_label, label_in, branch_in, depth_after}
+use Rattle.sedscript.specs.Script.{target_fault_in, target_fault_at, CutScript, IsEnd, Means, action_of, commands_of, texts_of, substitutions_of, tables_of, is_quiet}
 use Rattle.sedscript.specs.Program.{Program}
 use Rattle.scripts.specs.InTurn.{all_of, command_behind, substitution_behind, in_turn}
 use Rattle.scripts.specs.OneText.{leads_inside, EachLeadsInside, ShareNoFile, apart as apart_names, ShareNoLabel}

@@ -19,9 +19,8 @@ use Rattle.sedscript.specs.declared.letters.Verb.TheVariants.{Plain}
 use Rattle.sedscript.specs.declared.items.Argument.TheVariants.{Nothing}
 use Rattle.sedscript.specs.declared.types.Simple.{Simple}
 use Rattle.sedscript.specs.declared.types.Simple.TheVariants.{Quit, Delete}
-use Rattle.sedscript.specs.Script.{IsEnd, Means, item, done, is_quiet, Gives, value}
+use Rattle.sedscript.specs.Script.{IsEnd, Means, item, done, is_quiet, Gives, value, target_fault}
 use Rattle.sedscript.specs.Functions.{ended}
-use Rattle.sedscript.specs.Targets.{target_fault}
 use Rattle.sedre.specs.Tree.{WrittenExpression}
 use Rattle.sedre.specs.declared.types.Kind.TheVariants.{Basic}
 use Rattle.sedscript.specs.declared.items.Argument.{Argument}

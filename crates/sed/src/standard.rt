@@ -3,7 +3,7 @@
 ghost use Rattle.std.specs.Prelude.{◌≡◌, ◌-◌, ◌^◌, ◌⊎◌, map};
 ghost use Rattle.std.specs.String.{string_bytes};
 ghost use Rattle.sedengine.specs.LimitRanges.{limits_of};
-ghost use Rattle.sededit.specs.CommandLine.{IsCommandLine};
+ghost use Rattle.sedfiles.specs.CommandLine.{IsCommandLine};
 ghost use Rattle.sededit.specs.Program.{AsksHelp};
 
 use crate::closed::placeholders;

@@ -2,7 +2,7 @@
 use Rattle.std.proofs.Common.{◌≡◌, ◌∙◌, ℕ, List, [], ◌∷◌, Option, Some, None, string_bytes}
 use Rattle.std.proofs.KnownBytes.{Keeps-trans}
 use Rattle.sedscript.specs.Script.{with_part}
-use Rattle.sededit.specs.Files.{FilesAhead, KeepsFiles, OnlyReadsScripts, WholeFiles}
+use Rattle.sedfiles.specs.Files.{FilesAhead, KeepsFiles, OnlyReadsScripts, WholeFiles}
 use Rattle.sededit.specs.Types.{File, Part, Script}
 use Rattle.sededit.specs.Program.{MakesText}
 

@@ -8,14 +8,14 @@ use Rattle.sedengine.specs.DevicesAfter.{FailedSink, SinksAtEnd}
 use Rattle.sedengine.specs.Ends.{Gained, GainedWithin, SourceAtEnd, BreaksInLine}
 use Rattle.sededit.specs.Types.{Done, Ended, InputBroken, OutputBroken, OutputFull}
 use Rattle.sededit.specs.Editing.{BeginsOutput, IsOutput, nothing_before, start_over}
-use Rattle.sededit.specs.Files.{KeepsFiles}
-use Rattle.sededit.specs.Opening.{WereRefused}
-use Rattle.sededit.specs.AddedSinks.{FailsFlush}
+use Rattle.sedfiles.specs.Files.{KeepsFiles}
+use Rattle.sedfiles.specs.Opening.{WereRefused}
+use Rattle.sedfiles.specs.AddedSinks.{FailsFlush}
 use Rattle.sededit.specs.Ahead.{Edits}
 use Rattle.sededit.specs.RunStatus.{Finishes, Ran}
 use Rattle.sededit.specs.Program.{Observed, Run, SinkAtEnd, SinkFailed, StopsEarly, WhereTold}
 use Rattle.sededit.proofs.EditLemmas.{BeginsOutput-at, IsOutput-at}
-use Rattle.sededit.proofs.JoinLemmas.{all_joined}
+use Rattle.sedfiles.proofs.JoinLemmas.{all_joined}
 
 -- what sinks that held this and hold that have gained is so of the run's output
 abbrev Writes : (Setting → State → List (ℕ × ℕ) → Type 0) → Run → (old new : ℕ → Option (List ℕ)) → Type 0

@@ -9,9 +9,9 @@ use Rattle.sedengine.specs.Ends.{Gained, GainedWithin, SourceAtEnd, Cause, Break
 use Rattle.sedengine.specs.State.{Limits, Setting, State, TellsFiles, setting_of}
 use Rattle.sedengine.specs.Move.{to_sink}
 use Rattle.sededit.specs.Types.{Basic, DisplayHelp, Done, Ended, Extended, File, InputBroken, Kind, Line, OutputBroken, OutputFull, Part, Script}
-use Rattle.sededit.specs.CommandLine.{IsCommandLine, IsLine, sed_command}
+use Rattle.sedfiles.specs.CommandLine.{IsCommandLine, IsLine, sed_command}
 use Rattle.sededit.specs.Editing.{BeginsOutput, IsOutput, nothing_before, start_over}
-use Rattle.sededit.specs.Files.{FilesAhead, GivesWhole, WholeFiles, dash, joined_files}
+use Rattle.sedfiles.specs.Files.{FilesAhead, GivesWhole, WholeFiles, dash, joined_files}
 
 -- the kind of a script's expressions: extended with -E, basic without it (XCU sed, "Options")
 abbrev pub kind_with : Bool → Kind

@@ -6,10 +6,10 @@ pub use Rattle.sedre.specs.declared.types.Kind.{Kind}
 pub use Rattle.sedre.specs.declared.types.Kind.TheVariants.{Basic, Extended}
 pub use Rattle.sedengine.specs.declared.ends.Ended.{Ended}
 pub use Rattle.sedengine.specs.declared.ends.Ended.TheVariants.{Done, InputBroken, OutputBroken, OutputFull}
-pub use Rattle.sededit.specs.declared.asked.Line.{Line}
-pub use Rattle.sededit.specs.declared.asked.Part.{Part}
-pub use Rattle.sededit.specs.declared.asked.Part.TheVariants.{File, Script}
-pub use Rattle.sededit.specs.declared.asked.Refused.{Refused}
-pub use Rattle.sededit.specs.declared.asked.Refused.TheVariants.{NoMemory, Words}
-pub use Rattle.sededit.specs.declared.memory_inputs.Current.{Current}
-pub use Rattle.sededit.specs.declared.memory_inputs.Current.TheVariants.{Nothing, Number, Standard}
+pub use Rattle.sedfiles.specs.declared.asked.Line.{Line}
+pub use Rattle.sedfiles.specs.declared.asked.Part.{Part}
+pub use Rattle.sedfiles.specs.declared.asked.Part.TheVariants.{File, Script}
+pub use Rattle.sedfiles.specs.declared.asked.Refused.{Refused}
+pub use Rattle.sedfiles.specs.declared.asked.Refused.TheVariants.{NoMemory, Words}
+pub use Rattle.sedfiles.specs.declared.memory_inputs.Current.{Current}
+pub use Rattle.sedfiles.specs.declared.memory_inputs.Current.TheVariants.{Nothing, Number, Standard}

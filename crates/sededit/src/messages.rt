@@ -1,6 +1,6 @@
 //! What the program says on the standard error, a line each (this project's own words).
 
-use crate::help::USAGE;
+use sedfiles::help::USAGE;
 use sedengine::Ended;
 use sedscript::{Reason, ScriptFault};
 use std::io::{self, Write};

@@ -1,19 +1,15 @@
 //! The program, over devices that its caller gives.
 ghost use Rattle.std.specs.Prelude.{◌≡◌, ◌≢◌, ◌<◌, ◌⊎◌, ℕ, IfOk, length, map, true};
 ghost use Rattle.clap.specs.Words.{kind_of};
-ghost use Rattle.sededit.specs.Files.{StillGives, OnlyReadsScripts, Creates, CreatesFirst};
+ghost use Rattle.sedfiles.specs.Files.{StillGives, OnlyReadsScripts, Creates, CreatesFirst};
 ghost use Rattle.sedscript.specs.Program.{Program};
 ghost use Rattle.sededit.specs.Program.{AsksHelp, GivesScript, HelpMeans, Runs, StatusMeans, observe, run_of, texts_of};
 ghost use Rattle.sededit.specs.RunStatus.{Helps, Ran, Refuses};
 
-use crate::asked::{Line, Refused};
-use crate::command_line::line;
-use crate::inputs::Inputs;
 use crate::messages::{say_cannot_open, say_fault, say_no_script, say_refused};
-use crate::names::Names;
 use crate::reading::{NoScript, read_script};
 use crate::running::{MISSED, REFUSED, STOPPED, SUCCESS, Task, finish, out_of_memory, run};
-use crate::sinks::Sinks;
+use sedfiles::{Inputs, Line, Names, Refused, Sinks, line};
 use clap::error::ErrorKind;
 use sedengine::{Ended, Limits};
 use sedscript::Script;

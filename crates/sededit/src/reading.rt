@@ -1,12 +1,11 @@
 //! The script that a command line gives, read from its parts.
 ghost use Rattle.std.specs.Prelude.{◌≡◌, ◌≤◌, ◌∷◌, ℕ, List, [], IfOk};
 ghost use Rattle.sededit.specs.Program.{GivesScript, MakesText, kind_with};
-ghost use Rattle.sededit.specs.Files.{OnlyReadsScripts};
+ghost use Rattle.sedfiles.specs.Files.{OnlyReadsScripts};
 ghost use Rattle.sededit.specs.declared.reading.NoScript.TheVariants.{NoMemory};
 
-use crate::asked::{Line, Part};
-use crate::inputs::Inputs;
 use crate::script;
+use sedfiles::{Inputs, Line, Part};
 use sedscript::{Kind, Reason, Script, ScriptFault, add_part};
 use std::alloc::{AllocError, Global};
 

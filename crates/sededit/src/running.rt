@@ -1,16 +1,14 @@
 //! The run of a script over the files of a command line, and the status that it gives.
 ghost use Rattle.std.specs.Prelude.{◌≡◌, ◌<◌, ◌≤◌, ◌∷◌, ℕ, IfOk, OnErr, [], length, map};
 ghost use Rattle.std.specs.String.{string_bytes};
-ghost use Rattle.sededit.specs.Files.{StillGives, dash, joined_files};
-ghost use Rattle.sededit.specs.Opening.{WereRefused};
+ghost use Rattle.sedfiles.specs.Files.{StillGives, dash, joined_files};
+ghost use Rattle.sedfiles.specs.Opening.{WereRefused};
 ghost use Rattle.sededit.specs.Program.{observe, or_standard};
 ghost use Rattle.sededit.specs.RunStatus.{Finishes, Ran};
 
 use crate::editing::{Edited, edit_ahead};
-use crate::inputs::Inputs;
-use crate::joined::Joined;
 use crate::messages::{say_cannot_open, say_end, say_no_memory};
-use crate::sinks::Sinks;
+use sedfiles::{Inputs, Joined, Sinks};
 use sedengine::{Ended, Limits};
 use sedscript::Script;
 use sedspace::Texts;

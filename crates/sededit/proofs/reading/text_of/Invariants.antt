@@ -1,6 +1,6 @@
 use Rattle.std.proofs.Common.{ℕ, List, [], drop}
 use Rattle.sededit.specs.Program.{MakesText}
-use Rattle.sededit.specs.Files.{OnlyReadsScripts}
+use Rattle.sedfiles.specs.Files.{OnlyReadsScripts}
 use Rattle.sededit.proofs.reading.text_of.Given as goal
 
 -- what the parts left make of the text is what all parts make

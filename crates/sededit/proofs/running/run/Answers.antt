@@ -1,5 +1,5 @@
 use Rattle.std.proofs.Common.{refl, rules}
-use Rattle.sededit.proofs.JoinLemmas.{left-StillGives}
+use Rattle.sedfiles.proofs.JoinLemmas.{left-StillGives}
 use Rattle.sededit.proofs.RunLemmas.{Ran-as, Ran-finished}
 use Rattle.sededit.proofs.running.run.Goals as goal
 

@@ -1,5 +1,0 @@
-use Rattle.sededit.proofs.CommandLineLemmas.{refusal_of}
-use Rattle.sededit.proofs.command_line.line.Goals as goal
-
-pub returns-in-Err-clause-refused : goal.returns-in-Err-clause-refused
-returns-in-Err-clause-refused g c = refusal_of _ c.in-Err.error c.from.result c.in-Err.ensures.kinds c.from.ensures.0 c.from.ensures.1

@@ -1,7 +1,0 @@
-use Rattle.std.proofs.Common.{◌+◌, subst}
-use Rattle.sededit.specs.MemorySinks.{FlushesFirst, SinkFiles}
-use Rattle.sededit.proofs.memory_sinks.MemorySinksSinks.flush.Goals as goal
-
-pub returns-clause-told : goal.returns-clause-told
-returns-clause-told c =
-    subst (λ (s : SinkFiles). FlushesFirst s.outputs (s.created + 1) c.flush_first.result) c.self.view_is c.flush_first.ensures.told

@@ -1,0 +1,6 @@
+pub mod CommandLineLemmas
+pub mod JoinLemmas
+pub mod MemoryFinding
+pub mod PartsLemmas
+pub mod MemorySinkLemmas
+pub mod MemoryNameLemmas

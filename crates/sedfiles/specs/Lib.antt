@@ -1,0 +1,11 @@
+pub mod Types
+pub mod Opening
+pub mod MemoryFiles
+pub mod AddedSinks
+pub mod MemorySinks
+pub mod MemorySinkLaws
+pub mod CommandLine
+pub mod CommandLineParts
+pub mod Refusals
+pub mod Files
+pub mod Joining
