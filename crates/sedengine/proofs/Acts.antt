@@ -14,7 +14,8 @@ use Rattle.sedengine.specs.Move.{next_move, reach, acts, passes, none_left, writ
 use Rattle.sedengine.specs.Ends.{WithinLimits, reads, asks_last, is_next}
 use Rattle.sedengine.specs.Meters.{SinkView}
 use Rattle.sedengine.specs.Run.{RunState, at_lines, run_setting}
-use Rattle.sedengine.specs.Choose.{passed_over, performs, Judges, as_selection, reached_with, current_in, is_active, names_last}
+use Rattle.sedengine.specs.Passing.{passed_over}
+use Rattle.sedengine.specs.Choose.{performs, Judges, as_selection, reached_with, current_in, is_active, names_last}
 use Rattle.sedengine.specs.Steps.{ActsHere, ActsLines, reaches, ReachesCommand, HasAction, PerformsSteps, Ran, Steps, TakesLines}
 use Rattle.sedengine.specs.Inside.{run_of, entry_by, entry_for, holds, queues, CommandHolds, CommandQueues, FillsHold, IsConsistent}
 use Rattle.sedengine.specs.declared.machine.Machine.TheInside.{Inside}

@@ -8,7 +8,8 @@ use Rattle.sedengine.specs.State.{do_at, State}
 use Rattle.sedengine.specs.SubstituteCalls.{same_but_replaced}
 use Rattle.sedscript.specs.declared.types.Action.{Action}
 use Rattle.sedscript.specs.declared.types.Action.TheVariants.{Block}
-use Rattle.sedengine.specs.Choose.{passed_over, reached_with}
+use Rattle.sedengine.specs.Passing.{passed_over}
+use Rattle.sedengine.specs.Choose.{reached_with}
 use Rattle.sedengine.specs.Calls.{Delivers, NamesNone, Puts, ReadsLines}
 use Rattle.sedengine.specs.Meters.{SinkView}
 use Rattle.sedengine.specs.Run.{SameRun, RunState}

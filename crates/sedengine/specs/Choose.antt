@@ -1,8 +1,7 @@
 -- Private to the proofs: no contract of a public item cites what stands here.
 -- How addresses are judged: one address decides at a line, and the choice follows from whether it matches.
 use Rattle.std.specs.Prelude.{◌≡◌, ℕ, ◌+◌, Bool, true, false, not, Option, Some, None, List, [], ◌∷◌, nat_lt, nat_le, nat_eq, slice_index_or, slice_set, ◌||◌, Result, Ok, Err, if◌then◌else◌}
-use Rattle.sedengine.specs.Types.{Address, Line, Last, Match, Command, Action, Ended, NoPrevious, InputBroken}
-use Rattle.sedscript.specs.declared.types.Action.TheVariants.{Block}
+use Rattle.sedengine.specs.Types.{Address, Line, Last, Match, Command, Ended, NoPrevious, InputBroken}
 use Rattle.sedengine.specs.Select.{Current, AddressAnswer, Selection, answer, ends_at_once, selects}
 use Rattle.sedengine.specs.State.{do_at, Move, Setting, State, finds_in}
 use Rattle.sedengine.specs.Move.{acts, passes, reached, writes_text_at}
@@ -77,11 +76,6 @@ with_used e used = record e { state = record e.state { used = used } }
 abbrev pub performs : Setting → State → ℕ → Command → Selection → Option Move
 performs g s k c choice =
     if choice.yes then acts g (reached s k choice) (writes_text_at c choice.end) c.action else passes (reached s k choice) c.action
-
--- the engine that passes over a command: over the block of `{`
-abbrev pub passed_over : RunState → Action → RunState
-passed_over e (Block next) = record e { state = record e.state { tasks = do_at next ∷ [] } }
-passed_over e other = e
 
 -- What a call that judges one address answers, used being the expression last used after it.
 abbrev pub Answers : Current → Option AddressAnswer → Option ℕ → Bool → Result Bool Ended → Type 0

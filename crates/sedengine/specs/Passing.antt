@@ -53,6 +53,11 @@ abbrev pub need_of : List Substitution → Option Command → Option Need
 need_of ts None = None
 need_of ts (Some c) = if c.negate then None else need_by ts c.first c.action
 
+-- the engine that passes over a command: over the block of `{`
+abbrev pub passed_over : RunState → Action → RunState
+passed_over e (Block next) = record e { state = record e.state { tasks = do_at next ∷ [] } }
+passed_over e other = e
+
 -- where the script goes on behind command k, if that does nothing
 abbrev pub behind_by : Option Address → Action → ℕ → ℕ
 behind_by (Some first) (Block next) k = next

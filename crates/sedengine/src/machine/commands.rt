@@ -6,9 +6,8 @@ ghost use Rattle.sedengine.specs.State.{do_at, flush, print_pattern};
 ghost use Rattle.sedengine.specs.Move.{acts, line_to, writes_text_at};
 ghost use Rattle.sedengine.specs.Ends.{is_next};
 ghost use Rattle.sedengine.specs.Inside.{holds};
-ghost use Rattle.sedengine.specs.Passing.{NeedWithin, behind_by, need_of_action};
+ghost use Rattle.sedengine.specs.Passing.{NeedWithin, behind_by, need_of_action, passed_over};
 ghost use Rattle.sedengine.specs.Calls.{Delivers, Puts};
-ghost use Rattle.sedengine.specs.Choose.{passed_over};
 ghost use Rattle.sedengine.specs.Steps.{reaches, ActsHere, ActsLines, Advances, HasAction, takes_further_line};
 
 use super::Machine;
