@@ -11,4 +11,7 @@ mod running;
 pub use editing::{edit, script};
 pub use program::command;
 pub use reading::kind_with;
-pub use sedfiles::{Inputs, Joined, Line, MemoryFile, MemoryInputs, MemoryNames, MemorySinks, Names, Part, Refused, Sinks, line};
+pub use sedfiles::{
+    Inputs, Joined, Line, MemoryFile, MemoryInputs, MemoryNames, MemorySinks, Names, Part, Refused,
+    Sinks, line,
+};

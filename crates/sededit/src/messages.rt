@@ -1,7 +1,7 @@
 //! What the program says on the standard error, a line each (this project's own words).
 
-use sedfiles::help::USAGE;
 use sedengine::Ended;
+use sedfiles::help::USAGE;
 use sedscript::{Reason, ScriptFault};
 use std::io::{self, Write};
 

@@ -8,8 +8,8 @@ ghost use Rattle.sededit.specs.RunStatus.{Finishes, Ran};
 
 use crate::editing::{Edited, edit_ahead};
 use crate::messages::{say_cannot_open, say_end, say_no_memory};
-use sedfiles::{Inputs, Joined, Sinks};
 use sedengine::{Ended, Limits};
+use sedfiles::{Inputs, Joined, Sinks};
 use sedscript::Script;
 use sedspace::Texts;
 use std::alloc::{AllocError, Global};
