@@ -4,15 +4,7 @@
 //! caller gives. `main` gives it the standard streams and the files of the system.
 #![tactic(auto)]
 
-mod closed;
-mod devices;
-mod inputs;
-mod messages;
-mod names;
-mod output;
-mod sinks;
 mod standard;
-mod standard_input;
 
 pub use sededit::{Inputs, Joined, Line, Names, Part, Refused, Sinks, command, edit, line, script};
 use std::process::ExitCode;

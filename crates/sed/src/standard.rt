@@ -6,14 +6,9 @@ ghost use Rattle.sedengine.specs.LimitRanges.{limits_of};
 ghost use Rattle.sedfiles.specs.CommandLine.{IsCommandLine};
 ghost use Rattle.sededit.specs.Program.{AsksHelp};
 
-use crate::closed::placeholders;
-use crate::devices::Devices;
-use crate::inputs::FileInputs;
-use crate::messages::Messages;
-use crate::names::FileNames;
-use crate::sinks::FileSinks;
 use sededit::command;
 use sedengine::Limits;
+use sedsystem::{Devices, FileInputs, FileNames, FileSinks, Messages, placeholders};
 use std::env;
 use std::io::{self, ErrorKind, Write};
 

@@ -1,7 +1,9 @@
 -- The command line that `clap` is given.
-use Rattle.std.proofs.Common.{◌≡◌, ◌≢◌, ◌∙◌, inl, inr, List, [], Option, None, Some, Result, Ok, Err, IfOk, IfErr, true, refl, ap, map, unwrap_or, option_map}
+use Rattle.std.proofs.Common.{◌≡◌, ◌≢◌, ◌∙◌, inl, inr, List, [], Option, None, Some, Result, Ok, Err, IfOk, IfErr, false, true, refl, ap, ap₂, map, unwrap_or, option_map}
 use Rattle.std.specs.Borrow.{Bor}
-use Rattle.clap.specs.Words.{App, Text, found_of, matched_of, raw_values, is_simple, is_simple_and_free, kind_of, fault_of, matches_of, rows_of, takes, FailsBy, HasKind, HasMatchesOf}
+use Rattle.clap.specs.Words.{AddsArg, App, Rule, Text, app_of, found_of, matched_of, raw_values, is_simple, is_simple_and_free, kind_of, fault_of, matches_of, rows_of, rule_of, takes, with_rule, FailsBy, HasKind, HasMatchesOf}
+use Rattle.clap.specs.declared.builder.arg.Arg.{Arg}
+use Rattle.clap.specs.declared.builder.command.Command.{Command}
 use Rattle.clap.specs.declared.error.Error.{Error}
 use Rattle.clap.specs.declared.error.kind.ErrorKind.TheVariants.{OutOfMemory}
 use Rattle.clap.specs.declared.parser.matches.ArgMatches.{ArgMatches}
@@ -9,6 +11,12 @@ use Rattle.clap.proofs.WalkLemmas.{raw_values-rows}
 use Rattle.sedfiles.specs.CommandLine.{Asks, given_to, sed_command}
 use Rattle.sedfiles.specs.Refusals.{IsRefusal}
 use Rattle.sedfiles.specs.Types.{NoMemory, Part, Refused, Words}
+
+-- it has a rule more with each argument
+pub rule_added : {E : Type 0} (old : Command) (arg : Arg) (a : App) (rule : Rule) (r : Result Command E) → app_of old ≡ a → rule_of arg ≡ rule → arg.global ≡ false → IfOk r (AddsArg old arg) →
+    IfOk r (λ c. app_of c ≡ with_rule a rule)
+rule_added old arg a rule (Ok c) is same local h = h.shape local ∙ ap₂ with_rule is same
+rule_added old arg a rule (Err e) is same local h = tt
 
 -- its words are read one by one
 pub is_simple-sed_command : is_simple sed_command ≡ true

@@ -1,13 +1,13 @@
 -- Laws of files that are joined.
-use Rattle.std.proofs.Common.{String, unwrap_or, ◌⊎◌, inl, inr, if◌then◌else◌, drop, ◌≡◌, ℕ, zero, suc, ◌+◌, ◌-◌, ◌<◌, ◌≤◌, Bool, true, false, not, List, [], ◌∷◌, ◌++◌, length, map, take, get_or, Option, None, Some, refl, sym, ap, ◌∙◌, arith, eqb, append_assoc, length-append}
+use Rattle.std.proofs.Common.{IfSome, IsErr, Result, Ok, Err, String, append-nil, unwrap_or, ◌⊎◌, inl, inr, if◌then◌else◌, drop, ◌≡◌, ℕ, zero, suc, ◌+◌, ◌-◌, ◌<◌, ◌≤◌, Bool, true, false, not, List, [], ◌∷◌, ◌++◌, length, map, take, get_or, Option, None, Some, refl, sym, ap, ◌∙◌, arith, eqb, append_assoc, length-append}
 use Rattle.std.proofs.lemmas.List.{drop_more, take_more_set, map-append}
 use Rattle.std.proofs.Math.ListN.{get_or-map}
-use Rattle.std.proofs.KnownBytes.{Consumes-trans}
+use Rattle.std.proofs.KnownBytes.{Consumes-kept, Consumes-nil, Consumes-trans}
 use Rattle.std.specs.Prelude.{slice_set}
 use Rattle.std.specs.String.{string_bytes}
 use Rattle.std.specs.Option.{option_map, is_none}
 use Rattle.std.specs.Fmt.{option_append}
-use Rattle.std.specs.Io.KnownBytes.{Consumes, IsAtEnd}
+use Rattle.std.specs.Io.KnownBytes.{Consumes, IsAtEnd, Keeps, ReadConsumes}
 use Rattle.sedfiles.specs.Files.{FilesAhead, KeepsFiles, StillGives, due_after, joined, with_newline}
 use Rattle.sedfiles.specs.Joining.{Joining, left, left_of_current}
 use Rattle.sedfiles.specs.Opening.{Opens, NotesMissed, OnlyLastGives, OpensFirstFiles, OpensNext}
@@ -94,6 +94,20 @@ left_opened None answer c y o = tt
 left_opened (Some []) answer c y o = absurd o
 left_opened (Some (file ∷ files)) answer c y o = rw (o.1, o.2) refl
 
+left_at_end : (a : Option (List ℕ)) (x : Option (List (Option (List ℕ)))) → IsAtEnd a → IfSome x (λ files. files ≡ []) → IsAtEnd (option_append a (all_joined x))
+left_at_end None x end none = tt
+left_at_end (Some u) None end none = tt
+left_at_end (Some u) (Some files) end none = rw (end, none) refl
+
+keeps_unread : (a b : Option (List ℕ)) → Consumes a b [] → Keeps a b
+keeps_unread None b p = tt
+keeps_unread (Some x) None p = absurd p
+keeps_unread (Some x) (Some y) p = sym p
+
+fails_unread : {E : Type 0} (a b : Option (List ℕ)) (r : Result ℕ E) (buf : List ℕ) → IsErr r → Keeps a b → ReadConsumes a b r buf
+fails_unread a b (Ok n) buf failed k = cc
+fails_unread a b (Err e) buf failed k = k
+
 -- what is left of them is what their inputs have still to give
 pub left-StillGives : {I : Type 0} (current : I → Option (List ℕ)) (ahead : I → FilesAhead) (j : Joining I) (inputs : I) (more : Option (List ℕ)) →
     j.inputs ≡ inputs → more ≡ left current ahead j → StillGives current ahead inputs more
@@ -172,6 +186,14 @@ notes_opened (Some files) y z w left a b answer c h k p o =
     let o' : Opens (Some rest) answer c z = rw kept at o in
     notes_one files h.0 rest z a b answer c h.2 h.4 (all_give_none h.0 left h.5 h.6 p) o'
 
+notes_kept : (x y z : Option (List (Option (List ℕ)))) (a b : List Bool) → NotesMissed x y a b → KeepsFiles y z → NotesMissed x z a b
+notes_kept None y z a b h k = tt
+notes_kept (Some files) y z a b h k = let kept : KeepsFiles (Some h.1) z = rw h.3 at k in (h.0, h.1, h.2, kept, h.4, h.5)
+
+notes_none : (x : Option (List (Option (List ℕ)))) (left : Option (List ℕ)) (a : List Bool) → Notes x x left a a
+notes_none None left a = tt
+notes_none (Some files) left a = ([], files, refl, refl, sym (append-nil a), tt, tt)
+
 at_end : (a b : Option (List ℕ)) → Consumes a b [] → b ≡ Some [] → IsAtEnd a
 at_end None b p e = tt
 at_end (Some x) None p e = absurd p
@@ -225,3 +247,39 @@ module _ {I : Type 0} (current : I → Option (List ℕ)) (ahead : I → FilesAh
         notes = notes;
         waits = inr (waits_on old now mid p.waits c idle);
       }
+
+  -- nothing was done yet
+  pub passed_none : (j : Joining I) → Passed j j
+  passed_none j =
+      let notes = notes_none (ahead j.inputs j.names) (left_of_current current j) j.missed in
+      record { none = Consumes-nil _; opened = (([], refl, omega arith), notes_missed _ _ _ _ _ notes); notes = notes; waits = inl refl }
+
+  module _ (old now new : Joining I) (p : Passed old now) (r : Reads now new) where
+    names_kept : new.names ≡ now.names
+    names_kept = ap (λ j. j.names) r.rest
+
+    files_kept : KeepsFiles (ahead now.inputs now.names) (ahead new.inputs new.names)
+    files_kept = rw names_kept (r.kept now.names)
+
+    -- after files that gave no byte the file being read gave some
+    pub given_on : (bytes : List ℕ) → Consumes (left_of_current current now) (left_of_current current new) bytes → Consumes (left current ahead old) (left current ahead new) bytes
+    given_on bytes c = Consumes-trans _ _ _ [] bytes p.none (left_read _ _ _ _ bytes c files_kept)
+
+    -- or a read of it failed
+    pub failed_on : {E : Type 0} (result : Result ℕ E) (buf : List ℕ) → IsErr result → Keeps (left_of_current current now) (left_of_current current new) →
+        ReadConsumes (left current ahead old) (left current ahead new) result buf
+    failed_on result buf failed k = fails_unread _ _ result buf failed (keeps_unread _ _ (given_on [] (Consumes-kept _ _ _ [] (Consumes-nil _) k)))
+
+    -- or it had none left, and no file is left to open
+    pub spent_on : Consumes (left_of_current current now) (left_of_current current new) [] → IsAtEnd (left_of_current current new) → new.names ≡ [] →
+        ((inputs : I) → IfSome (ahead inputs []) (λ files. files ≡ [])) → Consumes (left current ahead old) (left current ahead new) [] × IsAtEnd (left current ahead new)
+    spent_on c end empty none = (given_on [] c, left_at_end _ _ end (rw empty (none new.inputs)))
+
+    pub opened_on : OpensFirstFiles ahead old new
+    opened_on =
+        let missed : new.missed ≡ now.missed = ap (λ j. j.missed) r.rest in
+        let first = p.opened.0.0 in
+        ((first, p.opened.0.1 ∙ ap (λ z. first ++ z) (sym names_kept), ap length missed ∙ p.opened.0.2), rw missed (notes_kept _ _ _ _ _ p.opened.1 files_kept))
+
+    pub waited_on : (new.names ≡ old.names) ⊎ IsAtEnd (left_of_current current old)
+    waited_on = elim p.waits [ inl same ↦ inl (names_kept ∙ ap (λ j. j.names) same) | inr end ↦ inr end ]

@@ -9,7 +9,7 @@ use Rattle.std.proofs.Math.Dec.{ltb}
 use Rattle.std.proofs.lemmas.List.{append-nil}
 use Rattle.std.proofs.lemmas.Bool.Decides.{eqb_tells}
 use Rattle.std.specs.Io.KnownBytes.{Appends}
-use Rattle.sedspace.specs.Memory.{Sink, Sinks, TakesBytes, sink_bytes, sink_failures}
+use Rattle.sedspace.specs.Memory.{Sink, HeldSinks, TakesBytes, sink_bytes, sink_failures}
 use Rattle.sedspace.specs.declared.errors.Broken.{Broken}
 use Rattle.sedfiles.specs.MemorySinks.{NextFails, SinkFiles, contents_of}
 
@@ -48,7 +48,7 @@ same_appended (Some xs) None bytes n is h = absurd h
 same_appended (Some xs) (Some ys) bytes n is h = ap Some (h ∙ ap (λ z. xs ++ z) (none_of_none n) ∙ append-nil xs)
 
 -- a write of no bytes leaves what sinks hold
-pub kept_by_none : (old new : Sinks) (sink n k : ℕ) → sink < length old.held → Appends (sink_bytes old sink) (sink_bytes new sink) (take n []) →
+pub kept_by_none : (old new : HeldSinks) (sink n k : ℕ) → sink < length old.held → Appends (sink_bytes old sink) (sink_bytes new sink) (take n []) →
     ((j : ℕ) → j ≢ sink → slice_get new.held j ≡ slice_get old.held j) → sink_bytes new k ≡ sink_bytes old k
 kept_by_none old new sink n k inside h others = by (eqb_tells k sink)
   where
@@ -57,7 +57,7 @@ kept_by_none old new sink n k inside h others = by (eqb_tells k sink)
     by (inr (e, there)) = ap (λ s. option_map (λ x. x.bytes) s) (others k there)
 
 -- and the numbers of failures, where it doesn't fail
-pub failures_kept : (old new : Sinks) (sink k : ℕ) → sink_failures new sink ≡ sink_failures old sink →
+pub failures_kept : (old new : HeldSinks) (sink k : ℕ) → sink_failures new sink ≡ sink_failures old sink →
     ((j : ℕ) → j ≢ sink → slice_get new.held j ≡ slice_get old.held j) → sink_failures new k ≡ sink_failures old k
 failures_kept old new sink k h others = by (eqb_tells k sink)
   where
@@ -71,7 +71,7 @@ sink_at (sink ∷ held) zero inside = (sink, refl)
 sink_at (sink ∷ held) (suc k) inside = sink_at held k (omega (arith, inside))
 
 -- A write of no bytes that passes was not told to fail.
-module _ (old new : Sinks) (k : ℕ) (inside : k < length old.held) (same : length new.held ≡ length old.held) where
+module _ (old new : HeldSinks) (k : ℕ) (inside : k < length old.held) (same : length new.held ≡ length old.held) where
   abbrev Takes : Result ℕ Broken → Type 0
   Takes r = IfSome (slice_get old.held k) (λ s. IfSome (slice_get new.held k) (λ t. TakesBytes s t old.most [] r))
 
@@ -82,10 +82,10 @@ module _ (old new : Sinks) (k : ℕ) (inside : k < length old.held) (same : leng
       taken.2 (fails ∙ sym (ap (λ (x : Sink). Some x.writes) taken.3))
 
 -- what wasn't written to is told to fail as before
-pub NextFails-same : (old new : Sinks) (k : ℕ) → slice_get new.held k ≡ slice_get old.held k → NextFails new k → NextFails old k
+pub NextFails-same : (old new : HeldSinks) (k : ℕ) → slice_get new.held k ≡ slice_get old.held k → NextFails new k → NextFails old k
 NextFails-same old new k same (s, at, fails) = (s, sym same ∙ at, fails)
 
-pub one_more_passed : (o : Sinks) (sink : ℕ) → ((j : ℕ) → j < sink → NextFails o j → ⊥) → (NextFails o sink → ⊥) → (k : ℕ) → k < sink + 1 → NextFails o k → ⊥
+pub one_more_passed : (o : HeldSinks) (sink : ℕ) → ((j : ℕ) → j < sink → NextFails o j → ⊥) → (NextFails o sink → ⊥) → (k : ℕ) → k < sink + 1 → NextFails o k → ⊥
 one_more_passed o sink before here k inside fails = by (ltb k sink) refl
   where
     by : (b : Bool) → ltb k sink ≡ b → ⊥

@@ -1,5 +1,5 @@
 -- The command line `sed [-n] [-E] [-e script].. [-f file].. [script] [file..]`, as `clap` reads it (XCU sed, Synopsis).
--- That options may stand after operands too is this project's own.
+-- That options may come after operands too is this project's own.
 use Rattle.std.specs.Prelude.{◌≡◌, ℕ, Bool, true, List, [], ◌∷◌, Option, Some, None, map, filter_map, codes, nat_lt, unwrap_or, string_bytes}
 use Rattle.clap.specs.Words.{App, Row, Rule, Text, all_of, count_of, fault_of, new_app, new_rule}
 use Rattle.sedfiles.specs.Types.{Append, ArgAction, Count, File, Line, Part, Script}
@@ -8,7 +8,7 @@ use Rattle.sedfiles.specs.Types.{Append, ArgAction, Count, File, Line, Part, Scr
 abbrev pub option_rule : Text → ℕ → ArgAction → Rule
 option_rule name letter action = record (new_rule name) { short = Some letter; action = Some action }
 
--- what may stand on a command line
+-- what a command line may have
 abbrev pub rules : List Rule
 rules =
     -- -n and -E, each of which may be given more than once

@@ -1,4 +1,4 @@
--- Private to the proofs: no contract of a public item cites what stands here.
+-- Private to the proofs: no contract of a public item cites what is here.
 -- The parts of a script as they are put into order.
 use Rattle.std.specs.Prelude.{◌⊎◌, ℕ, Bool, ◌&&◌, ◌||◌, not, List, [], ◌∷◌, drop, map, length, if◌then◌else◌, nat_lt, slice_get, unwrap_or, string_bytes}
 use Rattle.std.proofs.Common.{inl, inr}

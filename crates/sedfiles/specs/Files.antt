@@ -8,15 +8,15 @@ use Rattle.sedspace.specs.Lines.{is_newline}
 abbrev pub dash : List ℕ
 dash = 45 ∷ []
 
--- what the files of some names give, opened one after another, where that is told: None for one that can't be opened
+-- what the files of some names give, opened one after another, where that is known: None for one that can't be opened
 abbrev pub FilesAhead : Type 0
 FilesAhead = List (List ℕ) → Option (List (Option (List ℕ)))
 
--- what the file of a name gives, read whole, where that is told: None where it can't be read
+-- what the file of a name gives, read whole, where that is known: None where it can't be read
 abbrev pub WholeFiles : Type 0
 WholeFiles = List ℕ → Option (Option (List ℕ))
 
--- files that are told stay as they are
+-- files that are known stay as they are
 abbrev pub KeepsFiles : Option (List (Option (List ℕ))) → Option (List (Option (List ℕ))) → Type 0
 KeepsFiles old new = IfSome old (λ files. new ≡ Some files)
 

@@ -3,16 +3,16 @@ use Rattle.std.specs.Prelude.{◌≡◌, ◌<◌, ℕ, Bool, false, nat_lt, if�
 use Rattle.std.specs.Option.{option_map_or}
 use Rattle.std.specs.Str.{bytes_eq}
 use Rattle.sedspace.specs.FailureCounts.{raised}
-use Rattle.sedspace.specs.Memory.{Sink, Sinks, sink_bytes}
+use Rattle.sedspace.specs.Memory.{Sink, HeldSinks, sink_bytes}
 
 -- sinks over memory: all that there can be, the names of the files among them (all but the first) in their order, and how
 -- many of these were created
 pub record SinkFiles : Type 0 where
-  pub outputs : Sinks
+  pub outputs : HeldSinks
   pub names : List (List ℕ)
   pub created : ℕ
 
--- what a sink holds: a file that wasn't created yet holds nothing
+-- what a sink contains: a file that wasn't created yet contains nothing
 abbrev pub contents_of : SinkFiles → ℕ → Option (List ℕ)
 contents_of s k = if nat_lt s.created k then Some [] else sink_bytes s.outputs k
 
@@ -20,12 +20,12 @@ contents_of s k = if nat_lt s.created k then Some [] else sink_bytes s.outputs k
 abbrev pub is_next : SinkFiles → List ℕ → Bool
 is_next s name = option_map_or (λ next. bytes_eq next name) (slice_get s.names s.created) false
 
--- the next write to a sink is told to fail
-abbrev pub NextFails : Sinks → ℕ → Type 0
+-- the next write to a sink is set to fail
+abbrev pub NextFails : HeldSinks → ℕ → Type 0
 NextFails o k = (s : Sink) × (slice_get o.held k ≡ Some s) × (s.fails_at ≡ Some (raised s.writes))
 
--- A flush of the first sinks, so many, fails at the first of them whose next write is told to fail, and where none is it
+-- A flush of the first sinks, so many, fails at the first of them whose next write is set to fail, and where none is it
 -- doesn't fail.
-abbrev pub FlushesFirst : Sinks → ℕ → Result Unit ℕ → Type 0
+abbrev pub FlushesFirst : HeldSinks → ℕ → Result Unit ℕ → Type 0
 FlushesFirst o count (Ok u) = (k : ℕ) → k < count → NextFails o k → ⊥
 FlushesFirst o count (Err k) = (k < count) × NextFails o k × ((j : ℕ) → j < k → NextFails o j → ⊥)

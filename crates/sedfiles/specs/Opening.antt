@@ -6,7 +6,7 @@ use Rattle.sedspace.specs.Failures.{Rose}
 use Rattle.sedfiles.specs.Files.{FilesAhead}
 use Rattle.sedfiles.specs.Joining.{Joining}
 
--- An opening, where the file and those after it are told: whether it can be opened is answered, it is the one being
+-- An opening, where the file and those after it are known: whether it can be opened is answered, it is the one being
 -- read, and those after it are still ahead. One that can't be opened gives nothing.
 abbrev pub Opens : Option (List (Option (List ℕ))) → Bool → Option (List ℕ) → Option (List (Option (List ℕ))) → Type 0
 Opens None answer current ahead = ⊤
@@ -29,7 +29,7 @@ abbrev pub OnlyLastGives : List (Option (List ℕ)) → Type 0
 OnlyLastGives (file ∷ next ∷ files) = (unwrap_or file [] ≡ []) × OnlyLastGives (next ∷ files)
 OnlyLastGives files = ⊤
 
--- Where the files ahead are told, the first ones were opened, each but the last of these at its end: it is noted of each
+-- Where the files ahead are known, the first ones were opened, each but the last of these at its end: it is noted of each
 -- whether it was missed. A file that the run doesn't reach isn't opened, and doesn't count as missed (this
 -- project's own).
 abbrev pub NotesMissed : Option (List (Option (List ℕ))) → Option (List (Option (List ℕ))) → List Bool → List Bool → Type 0

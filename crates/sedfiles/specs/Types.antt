@@ -1,9 +1,6 @@
 -- The types of src/ that the definitions speak of.
 pub use Rattle.clap.specs.declared.builder.action.ArgAction.{ArgAction}
 pub use Rattle.clap.specs.declared.builder.action.ArgAction.TheVariants.{Append, Count}
-pub use Rattle.clap.specs.declared.error.kind.ErrorKind.TheVariants.{DisplayHelp}
-pub use Rattle.sedre.specs.declared.types.Kind.{Kind}
-pub use Rattle.sedre.specs.declared.types.Kind.TheVariants.{Basic, Extended}
 pub use Rattle.sedfiles.specs.declared.asked.Line.{Line}
 pub use Rattle.sedfiles.specs.declared.asked.Part.{Part}
 pub use Rattle.sedfiles.specs.declared.asked.Part.TheVariants.{File, Script}

@@ -25,7 +25,7 @@ pub struct Line {
 pub enum Part {
     /// The text of the part: a word of `-e`, or the first operand where there is neither `-e` nor `-f`.
     Script(String),
-    /// The name of the file that holds the part: a word of `-f`.
+    /// The name of the file that contains the part: a word of `-f`.
     File(String),
 }
 

@@ -3,7 +3,7 @@
 //! Options may be given more than once, in one word or several, before operands or after them; `--` ends the options;
 //! -h and --help ask for help.
 ghost use Rattle.std.specs.Prelude.{◌≡◌, Some, codes, false, true, map, IfOk, IfErr, OnOk};
-ghost use Rattle.clap.specs.Words.{FailsBy, app_of, fault_of, found_of, kind_of, matches_of, new_rule, rows_of, rule_of, takes};
+ghost use Rattle.clap.specs.Words.{FailsBy, app_of, fault_of, found_of, kind_of, matches_of, new_app, new_rule, rows_of, rule_of, takes, with_rule};
 ghost use Rattle.clap.specs.declared.builder.action.ArgAction.TheVariants.{Append, Count};
 ghost use Rattle.sedfiles.specs.CommandLine.{IsCommandLine, IsLine, option_rule, sed_command};
 ghost use Rattle.sedfiles.specs.Refusals.{IsRefusal};
@@ -35,7 +35,7 @@ pub fn line<S: AsStr>(alloc: Global, words: &[S]) -> Result<Line, Refused>
     }
 }
 
-/// The line that the matches tell.
+/// The line that the matches give.
 fn line_of(alloc: Global, matches: &ArgMatches<'_>) -> Result<Line, AllocError>
     ensures { IfOk result (IsLine (rows_of (found_of matches.now))) }
 {
@@ -57,7 +57,8 @@ fn line_of(alloc: Global, matches: &ArgMatches<'_>) -> Result<Line, AllocError>
     })
 }
 
-/// The matches that `clap` gives for the words.
+/// The matches that `clap` gives for the words. Apart from `line`, so that a fault in the words and a refused request are one
+/// error there.
 fn read<'a, S: AsStr>(alloc: Global, words: &'a [S]) -> Result<ArgMatches<'a>, clap::Error>
     ensures rows { IfOk result (λ m. rows_of (found_of m) ≡ matches_of sed_command (map S.text words.entry.now)) }
     ensures taken { IfErr result (λ e. takes sed_command (map S.text words.entry.now) ≡ true
@@ -67,25 +68,20 @@ fn read<'a, S: AsStr>(alloc: Global, words: &'a [S]) -> Result<ArgMatches<'a>, c
     command(alloc)?.try_get_matches_from(words)
 }
 
-/// An option that is counted.
-fn counted<'a>(alloc: Global, name: &'a str, letter: char, help: &'a str) -> Arg<'a>
-    ensures rule { rule_of result ≡ option_rule name.entry.now letter Count }
+/// An option, which may be given more than once.
+fn repeated<'a>(
+    alloc: Global,
+    name: &'a str,
+    letter: char,
+    action: ArgAction,
+    help: &'a str,
+) -> Arg<'a>
+    ensures rule { rule_of result ≡ option_rule name.entry.now letter action }
     ensures local { result.global ≡ false }
 {
     Arg::new(alloc, name)
         .short(letter)
-        .action(ArgAction::Count)
-        .help(help)
-}
-
-/// An option with a word, which may be given more than once.
-fn repeated<'a>(alloc: Global, name: &'a str, letter: char, help: &'a str) -> Arg<'a>
-    ensures rule { rule_of result ≡ option_rule name.entry.now letter Append }
-    ensures local { result.global ≡ false }
-{
-    Arg::new(alloc, name)
-        .short(letter)
-        .action(ArgAction::Append)
+        .action(action)
         .help(help)
 }
 
@@ -99,40 +95,66 @@ fn operands<'a>(alloc: Global) -> Arg<'a>
     )
 }
 
-/// What `clap` is to read.
-fn command<'a>(alloc: Global) -> Result<Command<'a>, clap::Error>
-    ensures shape { IfOk result (λ c. app_of c ≡ sed_command) }
-    ensures memory { IfErr result (λ e. kind_of e ≡ ErrorKind.OutOfMemory) }
+/// What `clap` is to read, without options and operands.
+fn described<'a>(alloc: Global) -> Command<'a>
+    ensures { app_of result
+        ≡ record (new_app (codes "sed")) { top = record (new_app (codes "sed")).top { no_binary_name = true } } }
 {
-    let command = Command::new(alloc, "sed")
+    Command::new(alloc, "sed")
         .no_binary_name(true)
         .about("Edits files line by line, and writes to the standard output")
         .override_usage(USAGE)
         .after_help(CODES)
-        .arg(counted(
+}
+
+/// Adds the options that are counted.
+fn with_flags<'a>(alloc: Global, command: Command<'a>) -> Result<Command<'a>, AllocError>
+    ensures { IfOk result (λ c. app_of c ≡ with_rule (with_rule (app_of command.entry)
+        (option_rule (codes "quiet") 110 Count)) (option_rule (codes "extended") 69 Count)) }
+{
+    command
+        .arg(repeated(
             alloc,
             "quiet",
             'n',
+            ArgAction::Count,
             "Write no pattern space unless the script asks for it",
         ))?
-        .arg(counted(
+        .arg(repeated(
             alloc,
             "extended",
             'E',
+            ArgAction::Count,
             "Read extended regular expressions in the script",
-        ))?
+        ))
+}
+
+/// Adds the options that give the script.
+fn with_scripts<'a>(alloc: Global, command: Command<'a>) -> Result<Command<'a>, AllocError>
+    ensures { IfOk result (λ c. app_of c ≡ with_rule (with_rule (app_of command.entry)
+        (option_rule (codes "expression") 101 Append)) (option_rule (codes "file") 102 Append)) }
+{
+    command
         .arg(repeated(
             alloc,
             "expression",
             'e',
+            ArgAction::Append,
             "Add these editing commands to the script",
         ))?
         .arg(repeated(
             alloc,
             "file",
             'f',
+            ArgAction::Append,
             "Add the editing commands in this file to the script",
-        ))?
-        .arg(operands(alloc))?;
-    Ok(command)
+        ))
+}
+
+/// What `clap` is to read.
+fn command<'a>(alloc: Global) -> Result<Command<'a>, AllocError>
+    ensures shape { IfOk result (λ c. app_of c ≡ sed_command) }
+{
+    let flagged = with_flags(alloc, described(alloc))?;
+    with_scripts(alloc, flagged)?.arg(operands(alloc))
 }

@@ -91,7 +91,7 @@ pub(crate) fn all_of<'a>(files: &'a [MemoryFile], standard: &'a [u8], current: C
 }
 
 /// Files in memory by name, and a standard input. A name that no file has can't be opened. The standard input gives its
-/// bytes when it is first opened, and none when it is opened again. One read can be told to fail.
+/// bytes when it is first opened, and none when it is opened again. One read can be set to fail.
 #[derive(Drop)]
 pub struct MemoryInputs {
     files: Vec<MemoryFile>,

@@ -12,7 +12,7 @@ use std::marker::Model;
 
 /// The standard output, and files that can be created: those of the names that `with_room` is given, each once and in that
 /// order, and no others. All have the same room, reserved at the start; a write to a sink that is full fails, as on a full
-/// device. A flush is one more write to each sink, of no bytes, so that it can be told to fail as a write can.
+/// device. A flush is one more write to each sink, of no bytes, so that it can be set to fail as a write can.
 #[derive(Drop)]
 pub struct MemorySinks {
     outputs: MemoryOutputs,
@@ -89,7 +89,7 @@ impl MemorySinks {
         }
     }
 
-    /// What the sink holds. A sink that hasn't been created holds nothing.
+    /// What the sink contains. A sink that hasn't been created contains nothing.
     pub fn bytes(&self, sink: usize) -> &[u8]
         ensures { Some result.now ≡ contents_of self.now sink }
     {
@@ -159,6 +159,7 @@ impl Sinks for MemorySinks {
         ensures told { FlushesFirst self.old.outputs (self.old.created + 1) result }
         ensures rest { self.new ≡ record self.old { outputs = self.new.outputs } }
     {
+        // The loop is over the outputs alone, so that the invariant is shown here and not in each round.
         flush_first(&mut self.outputs, self.created + 1)
     }
 }

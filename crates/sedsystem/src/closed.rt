@@ -7,8 +7,9 @@ use std::fs::File;
 use std::os::fd::AsRawFd;
 
 /// Files that keep the numbers of the standard streams that are closed. A read of the standard input still fails then, and
-/// so does a write to the standard output or the standard error.
-pub(crate) fn placeholders(rt: &HostRuntime) -> (Option<File>, Option<File>, Option<File>) {
+/// so does a write to the standard output or the standard error. They are asked for before any other file is opened, and
+/// held as long as the streams are used.
+pub fn placeholders(rt: &HostRuntime) -> (Option<File>, Option<File>, Option<File>) {
     // The lowest free number is given: where one wasn't a standard stream's, none of those is free.
     let first = placeholder(rt);
     let second = if first.is_some() {

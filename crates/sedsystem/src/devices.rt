@@ -17,15 +17,15 @@ const OUTPUT_ROOM: usize = 262144;
 /// How many bytes are gathered before they are written to a file.
 const FILE_ROOM: usize = 8192;
 
-/// The devices of the sinks, by number.
+/// The devices of the sinks, by number. `FileSinks` writes to them, and `FileInputs` and `FileNames` have them written out.
 #[derive(Drop)]
-pub(crate) struct Devices {
+pub struct Devices {
     all: RefCell<Vec<Gathered>>,
 }
 
 impl Devices {
-    /// The standard output alone, as sink 0.
-    pub(crate) fn new(rt: &HostRuntime, output: Stdout) -> io::Result<Devices> {
+    /// The standard output alone, as sink 0. An error is that there was no memory.
+    pub fn new(rt: &HostRuntime, output: Stdout) -> io::Result<Devices> {
         let alloc = rt.alloc();
         let metadata = fs::metadata(rt, "/dev/stdout").ok();
         let standard = Gathered::new(alloc, Device::Standard(output), metadata, OUTPUT_ROOM)?;

@@ -9,13 +9,13 @@ const MESSAGE_ROOM: usize = 8192;
 
 /// The standard error. What is written to it is gathered until it ends with a newline, as each message does.
 #[derive(Drop)]
-pub(crate) struct Messages {
+pub struct Messages {
     gathered: BufWriter<Stderr>,
 }
 
 impl Messages {
-    /// No message yet.
-    pub(crate) fn new(alloc: Global, errors: Stderr) -> io::Result<Messages> {
+    /// No message yet. An error is that there was no memory.
+    pub fn new(alloc: Global, errors: Stderr) -> io::Result<Messages> {
         Ok(Messages {
             gathered: BufWriter::with_capacity(alloc, MESSAGE_ROOM, errors)?,
         })

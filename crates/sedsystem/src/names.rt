@@ -2,7 +2,7 @@
 ghost use Rattle.std.specs.Prelude.{◌≡◌, ◌≤◌, [], None, length};
 
 use crate::devices::Devices;
-use sededit::Names;
+use sedfiles::Names;
 use sedspace::{ByteSource, FromReader, Texts};
 use std::alloc::AllocError;
 use std::fs::{self, File};
@@ -53,7 +53,7 @@ impl Reading {
 /// The files that the script reads. Each is opened where it is read from its start, and stays open to its end, so that a
 /// pipe is read on too. They don't tell their bytes.
 #[derive(Drop)]
-pub(crate) struct FileNames<'a> {
+pub struct FileNames<'a> {
     rt: &'a HostRuntime,
     devices: &'a Devices,
     names: Vec<Vec<u8>>,
@@ -71,7 +71,7 @@ impl<'a> Model for FileNames<'a> {
 impl<'a> FileNames<'a> {
     /// Files of which none is named. What the devices have gathered for files is written out before one is read, so that
     /// it may be one of those; and what they have gathered for all, where opening it or a read may wait.
-    pub(crate) fn new(rt: &'a HostRuntime, devices: &'a Devices) -> FileNames<'a>
+    pub fn new(rt: &'a HostRuntime, devices: &'a Devices) -> FileNames<'a>
         ensures { result ≡ [] }
     {
         FileNames {
@@ -90,10 +90,14 @@ impl<'a> FileNames<'a> {
         }
     }
 
+    // The name of the file of this number.
+    fn name_of(&self, number: usize) -> Option<&str> {
+        str::from_utf8(self.names.get(number)?.as_slice()).ok()
+    }
+
     // Opens the file of this number, to be read from the place on.
     fn opened(&self, number: usize, offset: u64) -> Option<Reading> {
-        let name = self.names.get(number)?;
-        let name = str::from_utf8(name.as_slice()).ok()?;
+        let name = self.name_of(number)?;
         let may_wait = !fs::metadata(self.rt, name).ok()?.is_file();
         self.devices.write_out(if may_wait { 0 } else { 1 });
         Reading::new(self.rt, name, number, offset, may_wait)

@@ -4,7 +4,7 @@ ghost use Rattle.std.specs.Io.{ReadsAtMost};
 
 use crate::devices::Devices;
 use crate::standard_input::StandardInput;
-use sededit::Inputs;
+use sedfiles::Inputs;
 use sedspace::{Broken, ByteSource, FromReader};
 use std::alloc::{AllocError, Global};
 use std::fs::{self, File, Metadata};
@@ -21,10 +21,10 @@ enum Current {
     File(File),
 }
 
-/// The inputs of the program. A file that is opened takes the place of the one before, which is closed first. They don't
+/// The standard input and the files of the system. A file that is opened takes the place of the one before, which is closed first. They don't
 /// tell their bytes.
 #[derive(Drop)]
-pub(crate) struct FileInputs<'a> {
+pub struct FileInputs<'a> {
     rt: &'a HostRuntime,
     devices: &'a Devices,
     current: Current,
@@ -50,10 +50,8 @@ fn is_file(metadata: &io::Result<Metadata>) -> bool {
 
 impl<'a> FileInputs<'a> {
     /// Inputs of which none is open. What the devices have gathered is written out before a read that may wait.
-    pub(crate) fn new(
-        rt: &'a HostRuntime,
-        devices: &'a Devices,
-    ) -> Result<FileInputs<'a>, AllocError> {
+    /// An error is that there was no memory.
+    pub fn new(rt: &'a HostRuntime, devices: &'a Devices) -> Result<FileInputs<'a>, AllocError> {
         Ok(FileInputs {
             rt,
             devices,
@@ -107,6 +105,22 @@ impl<'a> FileInputs<'a> {
         }
     }
 
+    // The file of this name, where it can be opened.
+    fn opened(&mut self, name: &str) -> Option<Current>
+        ensures failures { self.new.failures ≡ self.old.failures }
+        ensures refusals { self.new.refusals ≡ self.old.refusals }
+    {
+        if name == "-" {
+            let metadata = fs::metadata(self.rt, "/dev/stdin");
+            self.standard.set_file(is_file(&metadata));
+            return Some(self.unless_written(Current::Standard, metadata));
+        }
+        self.prepare_to_open(name);
+        let file = File::open(self.rt, name).ok()?;
+        let metadata = file.metadata();
+        Some(self.unless_written(Current::File(file), metadata))
+    }
+
     // Reads on in the current file.
     fn read_current(&mut self, buf: &mut [u8]) -> Result<usize, Broken>
         ensures bound { ReadsAtMost result buf.new }
@@ -144,20 +158,12 @@ impl<'a> Inputs for FileInputs<'a> {
     fn open(&mut self, name: &str) -> bool {
         self.current = Current::Nothing;
         self.may_wait = None;
-        if name == "-" {
-            let metadata = fs::metadata(self.rt, "/dev/stdin");
-            self.standard.set_file(is_file(&metadata));
-            self.current = self.unless_written(Current::Standard, metadata);
-            return true;
-        }
-        self.prepare_to_open(name);
-        match File::open(self.rt, name) {
-            Ok(file) => {
-                let metadata = file.metadata();
-                self.current = self.unless_written(Current::File(file), metadata);
+        match self.opened(name) {
+            Some(current) => {
+                self.current = current;
                 true
             }
-            Err(_) => {
+            None => {
                 self.refusals = self.refusals.saturating_add(1);
                 false
             }

@@ -3,16 +3,16 @@ ghost use Rattle.std.specs.Prelude.{◌≡◌, ◌<◌, [], ◌∷◌, None, len
 ghost use Rattle.sedspace.specs.FailureCounts.{raised};
 
 use crate::devices::Devices;
-use sededit::Sinks;
+use sedfiles::Sinks;
 use sedspace::{Broken, Outputs};
 use std::alloc::AllocError;
 use std::fs::File;
 use std::marker::Model;
 use std::str;
 
-/// The sinks of the program: the standard output, and the files that were created. They don't tell their bytes.
+/// The standard output, and the files that were created, by number. They don't tell their bytes.
 #[derive(Drop)]
-pub(crate) struct FileSinks<'a> {
+pub struct FileSinks<'a> {
     rt: &'a HostRuntime,
     devices: &'a Devices,
     failures: Vec<u64>,
@@ -29,11 +29,8 @@ impl<'a> Model for FileSinks<'a> {
 }
 
 impl<'a> FileSinks<'a> {
-    /// The standard output alone, which is the device of sink 0.
-    pub(crate) fn new(
-        rt: &'a HostRuntime,
-        devices: &'a Devices,
-    ) -> Result<FileSinks<'a>, AllocError>
+    /// The standard output alone, which is the device of sink 0. An error is that there was no memory.
+    pub fn new(rt: &'a HostRuntime, devices: &'a Devices) -> Result<FileSinks<'a>, AllocError>
         ensures { IfOk result (λ sinks. sinks ≡ (0 ∷ [], [])) }
     {
         Ok(FileSinks {
