@@ -3,8 +3,7 @@ use Rattle.std.proofs.Common.{◌≡◌, ℕ, suc, List, [], ◌∷◌, ◌++◌
 use Rattle.sedre.specs.declared.syntax.Item.{Item}
 use Rattle.sedre.specs.declared.syntax.Item.TheVariants.{Close, Bar, Repeat}
 use Rattle.sedre.specs.Tree.{Tree, group}
-use Rattle.sedre.specs.Sizes.{concatenation, alternation, repetition}
-use Rattle.sedre.specs.Grammar.{AreAlternatives, ArePieces, IsPiece, first, another, none, more, byte, begin_anchor, end_anchor, subexpression, repeated}
+use Rattle.sedre.specs.Grammar.{concatenation, alternation, repetition, AreAlternatives, ArePieces, IsPiece, first, another, none, more, byte, begin_anchor, end_anchor, subexpression, repeated}
 use Rattle.sedre.proofs.Machine.{run-append, with_last-append}
 use Rattle.sedre.specs.Stacks.{Level, Nesting, run}
 

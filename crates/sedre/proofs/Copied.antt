@@ -4,8 +4,7 @@ use Rattle.sedre.specs.declared.types.NodeId.{NodeId}
 use Rattle.sedre.specs.declared.types.Node.{Node}
 use Rattle.sedre.specs.declared.types.Node.TheVariants as node
 use Rattle.sedre.specs.Packed.{id, shifted}
-use Rattle.sedre.specs.Tree.{Tree, seq, alt, group, star, opt}
-use Rattle.sedre.specs.Sizes.{size}
+use Rattle.sedre.specs.Tree.{Tree, seq, alt, group, star, opt, size}
 use Rattle.sedre.specs.Stacks.{postorder}
 use Rattle.sedre.proofs.Written.{size_positive}
 

@@ -11,10 +11,9 @@ use Rattle.sedre.specs.declared.syntax.NextItem.TheVariants.{Is, Ends}
 use Rattle.sedre.specs.declared.syntax.Item.{Item}
 use Rattle.sedre.specs.declared.syntax.Item.TheVariants.{Byte, Open, Close, Bar, Repeat, AtBegin, AtEnd}
 use Rattle.sedre.specs.Items.{item_at}
-use Rattle.sedre.specs.Tree.{Tree, WrittenExpression, expression_tree}
-use Rattle.sedre.specs.Sizes.{size, depth}
+use Rattle.sedre.specs.Tree.{Tree, WrittenExpression, expression_tree, size}
+use Rattle.sedre.specs.Grammar.{depth, ReadsAs, FaultyWith}
 use Rattle.sedre.specs.Arena.{IsExpr}
-use Rattle.sedre.specs.Grammar.{ReadsAs, FaultyWith}
 use Rattle.sedre.specs.Stacks.{Nesting, CanTake, whole_level, Stored, postorder, written, part_of}
 use Rattle.sedre.specs.Finished.{GroupsNumbered, IsFinished, IsOverLimit}
 use Rattle.sedre.proofs.Written.{length-postorder}

@@ -6,10 +6,9 @@ use Rattle.sedre.specs.declared.types.Reason.{Reason}
 use Rattle.sedre.specs.declared.syntax.NextItem.TheVariants.{Is, Ends, Bad}
 use Rattle.sedre.specs.declared.syntax.Item.{Item}
 use Rattle.sedre.specs.declared.syntax.Item.TheVariants.{Byte, Open, Close, Bar, Repeat, AtBegin, AtEnd}
-use Rattle.sedre.specs.Tree.{Tree}
-use Rattle.sedre.specs.Sizes.{size, depth, concatenation, alternation}
+use Rattle.sedre.specs.Tree.{Tree, size}
+use Rattle.sedre.specs.Grammar.{depth, concatenation, alternation, AreAlternatives, ArePieces, IsPiece, first, another, none, more, byte, begin_anchor, end_anchor, subexpression, repeated, CutExpression, done, item, open_groups, ReadsAs, Row, bad, stray, unclosed, deep, large, FaultyWith}
 use Rattle.sedre.specs.Items.{item_at}
-use Rattle.sedre.specs.Grammar.{AreAlternatives, ArePieces, IsPiece, first, another, none, more, byte, begin_anchor, end_anchor, subexpression, repeated, CutExpression, done, item, open_groups, ReadsAs, Row, bad, stray, unclosed, deep, large, FaultyWith}
 use Rattle.sedre.specs.Stacks.{Nesting}
 use Rattle.sedre.proofs.Complete.{alternatives_read, at as state_at}
 

@@ -12,12 +12,11 @@ use Rattle.sedre.specs.declared.syntax.NextItem.{NextItem}
 use Rattle.sedre.specs.declared.syntax.NextItem.TheVariants.{Is, Ends, Bad}
 use Rattle.sedre.specs.declared.syntax.Item.{Item}
 use Rattle.sedre.specs.declared.syntax.Item.TheVariants.{Byte, Open, Close, Bar, Repeat, AtBegin, AtEnd}
-use Rattle.sedre.specs.Tree.{Tree}
-use Rattle.sedre.specs.Sizes.{size, depth, without_alternation, concatenation, alternation, copies, optional, further, repetition}
+use Rattle.sedre.specs.Tree.{Tree, size}
+use Rattle.sedre.specs.Grammar.{depth, without_alternation, concatenation, alternation, copies, optional, further, repetition, AreAlternatives, ArePieces, IsPiece, first, another, none, more, byte, begin_anchor, end_anchor, subexpression, repeated, CutExpression, done, item, open_groups, Row, bad, stray, unclosed, deep, large, FaultyWith}
 use Rattle.sedre.specs.Tree as t
 use Rattle.sedre.specs.Brackets.{ListedBytes, judged, list_at, listed, elements_from, begins}
-use Rattle.sedre.specs.Items.{symbol, item_at, item_for, list_item}
-use Rattle.sedre.specs.Grammar.{AreAlternatives, ArePieces, IsPiece, first, another, none, more, byte, begin_anchor, end_anchor, subexpression, repeated, CutExpression, done, item, open_groups, Row, bad, stray, unclosed, deep, large, FaultyWith}
+use Rattle.sedre.specs.Items.{front_symbol, item_at, item_for, list_item}
 
 -- ---- trees
 
@@ -223,10 +222,10 @@ module _ (kind : Kind) (f g : Bool) (delimiter : Option ℕ) (text : List ℕ) w
 
   here_alike : {before after : Option Item} (at : ℕ) → AlikeBefore before after → AlikeHere (item_at kind f delimiter text before at) (item_at kind g delimiter text after at)
   unfolding item_at
-  here_alike at nowhere = folded_for None at (symbol kind delimiter (drop at text))
-  here_alike at (there (one {i = i})) = folded_for (Some i) at (symbol kind delimiter (drop at text))
+  here_alike at nowhere = folded_for None at (front_symbol kind delimiter (drop at text))
+  here_alike at (there (one {i = i})) = folded_for (Some i) at (front_symbol kind delimiter (drop at text))
   here_alike at (there (bytes {m = m} {n = n})) =
-      let s = symbol kind delimiter (drop at text) in
+      let s = front_symbol kind delimiter (drop at text) in
       subst (λ (h : NextItem). AlikeHere (item_for kind f delimiter text (Some (Byte m)) at s) h) (after_byte m n at s) (folded_for (Some (Byte m)) at s)
 
   record CutAlike (before after : Option Item) (at : ℕ) (is : List Item) (to : ℕ) : Type 0 where

@@ -5,8 +5,7 @@ use Rattle.std.proofs.lemmas.Bool.Decides.{leb_tells}
 use Rattle.std.proofs.lemmas.Option.{slice_get_within}
 use Rattle.sedre.specs.declared.types.Node.{Node}
 use Rattle.sedre.specs.declared.types.Node.TheVariants as node
-use Rattle.sedre.specs.Tree.{Tree, empty, set, begin, end, seq, alt, group, star, opt, tree_of, tree_at}
-use Rattle.sedre.specs.Sizes.{size}
+use Rattle.sedre.specs.Tree.{Tree, empty, set, begin, end, seq, alt, group, star, opt, tree_of, tree_at, size}
 use Rattle.sedre.specs.Arena.{IsArena, FollowsParts, IsExpr}
 use Rattle.sedre.specs.Packed.{id}
 use Rattle.sedre.specs.Finished.{GroupsNumbered}

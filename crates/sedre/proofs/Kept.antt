@@ -7,8 +7,8 @@ use Rattle.std.proofs.lemmas.List.{take_all, take_at}
 use Rattle.sedre.specs.declared.types.Node.{Node}
 use Rattle.sedre.specs.declared.parts.TreeExtent.{TreeExtent}
 use Rattle.sedre.specs.Packed.{PartsBelow}
-use Rattle.sedre.specs.Tree.{Tree}
-use Rattle.sedre.specs.Sizes.{size, depth, without_alternation}
+use Rattle.sedre.specs.Tree.{Tree, size}
+use Rattle.sedre.specs.Grammar.{depth, without_alternation}
 use Rattle.sedre.specs.Stacks.{postorder, written, total, fitting, part_of, parts_of, last_end}
 use Rattle.sedre.proofs.Written.{length-written, written-append_0, total-append}
 

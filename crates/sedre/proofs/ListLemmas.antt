@@ -13,7 +13,7 @@ use Rattle.sedre.specs.declared.types.Reason.TheVariants.{UnknownClass}
 use Rattle.std.specs.Option.{option_map_or}
 use Rattle.sedre.specs.declared.types.ExprFault.{ExprFault}
 use Rattle.sedre.specs.declared.byte_set.ByteSet.{ByteSet}
-use Rattle.sedre.specs.Brackets.{content, form, form_of, of_one, element, elements, elements_from, is_dash, goes_on_as_range, single, range, both, listed, judged, begins, is_delimiter, ListedBytes, list_at, list_end}
+use Rattle.sedre.specs.Brackets.{content, form, form_of, of_one, front_element, elements, elements_from, is_dash, goes_on_as_range, single, range, both, listed, judged, begins, is_delimiter, ListedBytes, list_at, list_end}
 use Rattle.sedre.specs.ListReading.{is_range, located, members_at, elements_start, is_closing}
 
 -- the elements from a place on, and where the list ends
@@ -36,7 +36,7 @@ form_width : (c left : ℕ) (held : Option (List ℕ)) → 0 < left → 0 < (for
 form_width c left None some = some
 form_width c left (Some held) some = omega arith
 
-element_width : (d : Option ℕ) (b : ℕ) (bs : List ℕ) → 0 < (element d (b ∷ bs)).1
+element_width : (d : Option ℕ) (b : ℕ) (bs : List ℕ) → 0 < (front_element d (b ∷ bs)).1
 element_width d b [] = omega arith
 element_width d b (c ∷ rest) =
     width_of_choice (b == 92 && is_delimiter d c) (Delimiter c, 2)
@@ -55,15 +55,15 @@ abbrev pub OneMore : ℕ → Element → Elements → Elements
 OneMore place e rest = ((place, e) ∷ rest.0, rest.1)
 
 opened : (d : Option ℕ) (first : Bool) (place b : ℕ) (bs : List ℕ) → (b == 93 && not first) ≡ false →
-    elements d first 0 place (b ∷ bs) ≡ OneMore place (element d (b ∷ bs)).0 (elements d false 0 (place + (element d (b ∷ bs)).1) (drop (element d (b ∷ bs)).1 (b ∷ bs)))
+    elements d first 0 place (b ∷ bs) ≡ OneMore place (front_element d (b ∷ bs)).0 (elements d false 0 (place + (front_element d (b ∷ bs)).1) (drop (front_element d (b ∷ bs)).1 (b ∷ bs)))
 opened d first place b bs isnt =
-    let found : Element × ℕ = element d (b ∷ bs) in
+    let found : Element × ℕ = front_element d (b ∷ bs) in
     ap (λ (t : Bool). if t then ([], Some (place + 1)) else OneMore place found.0 (elements d false (found.1 - 1) (place + 1) bs)) isnt
     ∙ ap (OneMore place found.0) (skipped_element d place found.1 b bs (element_width d b bs))
 
 closed : (d : Option ℕ) (first : Bool) (place b : ℕ) (bs : List ℕ) → (b == 93 && not first) ≡ true → elements d first 0 place (b ∷ bs) ≡ ([], Some (place + 1))
 closed d first place b bs is =
-    let found : Element × ℕ = element d (b ∷ bs) in
+    let found : Element × ℕ = front_element d (b ∷ bs) in
     ap (λ (t : Bool). if t then ([], Some (place + 1)) else OneMore place found.0 (elements d false (found.1 - 1) (place + 1) bs)) is
 
 -- ---- a - with another element after it
@@ -95,7 +95,7 @@ form_dash c left None = refl
 form_dash c left (Some held) = form_of_dash c held
 
 -- no element but a - by itself is one
-element_dash : (d : Option ℕ) (b : ℕ) (bs : List ℕ) → (b == 45) ≡ false → is_dash (element d (b ∷ bs)).0 ≡ false
+element_dash : (d : Option ℕ) (b : ℕ) (bs : List ℕ) → (b == 45) ≡ false → is_dash (front_element d (b ∷ bs)).0 ≡ false
 element_dash d b [] isnt = isnt
 element_dash d b (c ∷ rest) isnt =
     dash_of_choice (b == 92 && is_delimiter d c) (Delimiter c, 2)
@@ -122,7 +122,7 @@ goes_on_as_range-other : (d : Option ℕ) (place b : ℕ) (bs : List ℕ) (t : B
 goes_on_as_range-other d place b bs true is isnt = ap (λ (all : Elements). goes_on_as_range all.0) (closed d false place b bs (ap (λ t. t && true) is))
 goes_on_as_range-other d place b bs false is isnt =
     ap (λ (all : Elements). goes_on_as_range all.0) (opened d false place b bs (ap (λ t. t && true) is))
-    ∙ no_dash (place, (element d (b ∷ bs)).0) (elements d false 0 (place + (element d (b ∷ bs)).1) (drop (element d (b ∷ bs)).1 (b ∷ bs))).0 (element_dash d b bs isnt)
+    ∙ no_dash (place, (front_element d (b ∷ bs)).0) (elements d false 0 (place + (front_element d (b ∷ bs)).1) (drop (front_element d (b ∷ bs)).1 (b ∷ bs))).0 (element_dash d b bs isnt)
 
 goes_on_as_range-last : (d : Option ℕ) (place b : ℕ) (t : Bool) → (b == 93) ≡ t → goes_on_as_range (elements d false 0 place (b ∷ [])).0 ≡ false
 goes_on_as_range-last d place b true is = ap (λ (all : Elements). goes_on_as_range all.0) (closed d false place b [] (ap (λ t. t && true) is))
@@ -180,15 +180,15 @@ joined d text folded negated at next set (Ok h) rest end is_rest is_end =
     ∙ ap (judged folded negated at (both (Ok (union set h)) (listed (elements d false 0 next (drop next text)).0))) is_end
 
 opened_front : (d : Option ℕ) (first : Bool) (place : ℕ) (bs : List ℕ) → 0 < length bs → (get_or bs 0 0 == 93 && not first) ≡ false →
-    elements d first 0 place bs ≡ OneMore place (element d bs).0 (elements d false 0 (place + (element d bs).1) (drop (element d bs).1 bs))
+    elements d first 0 place bs ≡ OneMore place (front_element d bs).0 (elements d false 0 (place + (front_element d bs).1) (drop (front_element d bs).1 bs))
 opened_front d first place [] some isnt = absurd (omega arith)
 opened_front d first place (b ∷ bs) some isnt = opened d first place b bs isnt
 
 opened_at : (d : Option ℕ) (first : Bool) (place : ℕ) (text : List ℕ) → place < length text → (get_or text place 0 == 93 && not first) ≡ false →
-    let found = element d (drop place text) in
+    let found = front_element d (drop place text) in
     elements d first 0 place (drop place text) ≡ OneMore place found.0 (elements d false 0 (place + found.1) (drop (place + found.1) text))
 opened_at d first place text inside isnt =
-    let found : Element × ℕ = element d (drop place text) in
+    let found : Element × ℕ = front_element d (drop place text) in
     let front : get_or (drop place text) 0 0 ≡ get_or text place 0 = get_or-drop place text 0 0 ∙ ap (λ k. get_or text k 0) (let e : place + 0 ≡ place = omega arith in e) in
     opened_front d first place (drop place text) (omega (arith, length-drop place text)) (ap (λ b. b == 93 && not first) front ∙ isnt)
     ∙ ap (λ l. OneMore place found.0 (elements d false 0 (place + found.1) l)) (drop-drop found.1 place text)
@@ -207,12 +207,12 @@ not_true false is = refl
 
 -- a - and a further element
 ranged_front : (d : Option ℕ) (place : ℕ) (bs : List ℕ) → is_range bs ≡ true →
-    let last = element d (drop 1 bs) in
+    let last = front_element d (drop 1 bs) in
     elements d false 0 place bs ≡ OneMore place (Plain 45) (OneMore (place + 1) last.0 (elements d false 0 (place + 1 + last.1) (drop last.1 (drop 1 bs))))
 ranged_front d place [] is = cc
 ranged_front d place (b ∷ []) is = cc
 ranged_front d place (b ∷ c ∷ rest) is =
-    let last : Element × ℕ = element d (c ∷ rest) in
+    let last : Element × ℕ = front_element d (c ∷ rest) in
     let dash : b ≡ 45 = eqb-true b 45 (and_first (b == 45) (not (c == 93)) is) in
     let goes : (c == 93) ≡ false = not_true (c == 93) (and_second (b == 45) (not (c == 93)) is) in
     ap (λ x. elements d false 0 place (x ∷ c ∷ rest)) dash
@@ -220,22 +220,22 @@ ranged_front d place (b ∷ c ∷ rest) is =
     ∙ ap (OneMore place (Plain 45)) (opened d false (place + 1) c rest (ap (λ t. t && true) goes))
 
 ranged_at : (d : Option ℕ) (place : ℕ) (text : List ℕ) → is_range (drop place text) ≡ true →
-    let last = element d (drop (place + 1) text) in
+    let last = front_element d (drop (place + 1) text) in
     elements d false 0 place (drop place text) ≡ OneMore place (Plain 45) (OneMore (place + 1) last.0 (elements d false 0 (place + 1 + last.1) (drop (place + 1 + last.1) text)))
 ranged_at d place text is =
     let tail : drop 1 (drop place text) ≡ drop (place + 1) text = drop-drop 1 place text in
-    let last : Element × ℕ = element d (drop (place + 1) text) in
+    let last : Element × ℕ = front_element d (drop (place + 1) text) in
     ranged_front d place (drop place text) is
-    ∙ ap (λ l. OneMore place (Plain 45) (OneMore (place + 1) (element d l).0 (elements d false 0 (place + 1 + (element d l).1) (drop (element d l).1 l)))) tail
+    ∙ ap (λ l. OneMore place (Plain 45) (OneMore (place + 1) (front_element d l).0 (elements d false 0 (place + 1 + (front_element d l).1) (drop (front_element d l).1 l)))) tail
     ∙ ap (λ l. OneMore place (Plain 45) (OneMore (place + 1) last.0 (elements d false 0 (place + 1 + last.1) l))) (drop-drop last.1 (place + 1) text)
 
 pub one_step : (d : Option ℕ) (text : List ℕ) (first folded negated : Bool) (at place : ℕ) (set : List Bool) → place < length text → (get_or text place 0 == 93 && not first) ≡ false →
     go_on folded negated at set (elements d first 0 place (drop place text)) ≡ after d text folded negated at set (members_at d text place)
 unfolding members_at
 one_step d text first folded negated at place set inside isnt =
-    let found : Element × ℕ = element d (drop place text) in
+    let found : Element × ℕ = front_element d (drop place text) in
     let next : ℕ = place + found.1 in
-    let last : Element × ℕ = element d (drop (next + 1) text) in
+    let last : Element × ℕ = front_element d (drop (next + 1) text) in
     let end : ℕ = next + 1 + last.1 in
     let more : Elements = elements d false 0 next (drop next text) in
     let rest : Elements = elements d false 0 end (drop end text) in
@@ -340,7 +340,7 @@ end_begun d text place start is_start =
     ∙ ap (λ t. (elements d t 0 start (drop start text)).1) (sym (eq-eqb start start refl))
 
 pub end_more : (d : Option ℕ) (text : List ℕ) (start place width : ℕ) (end : Option ℕ) → end ≡ (elements d (place == start) 0 place (drop place text)).1 →
-    place < length text → is_closing text start place ≡ false → width ≡ (element d (drop place text)).1 → start ≤ place → 0 < width →
+    place < length text → is_closing text start place ≡ false → width ≡ (front_element d (drop place text)).1 → start ≤ place → 0 < width →
     end ≡ (elements d (place + width == start) 0 (place + width) (drop (place + width) text)).1
 end_more d text start place width end so_far inside isnt is_width low some =
     so_far ∙ ap (λ (all : Elements). all.1) (opened_at d (place == start) place text inside isnt)

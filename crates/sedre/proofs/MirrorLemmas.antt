@@ -3,9 +3,8 @@ use Rattle.std.proofs.Common.{◌≡◌, ℕ, zero, suc, ◌+◌, ◌<◌, List,
 use Rattle.std.specs.Prelude.{slice_get, option_map}
 use Rattle.std.proofs.lemmas.Option.{slice_get-map}
 use Rattle.std.proofs.lemmas.List.{length-map}
-use Rattle.sedre.specs.Tree.{Tree, empty, seq, alt, group, star, opt, WrittenExpression, tree_of, tree_within, tree_at}
+use Rattle.sedre.specs.Tree.{Tree, empty, seq, alt, group, star, opt, WrittenExpression, tree_of, tree_within, tree_at, size}
 use Rattle.std.specs.Option.{option_map_or}
-use Rattle.sedre.specs.Sizes.{size}
 use Rattle.sedre.specs.Arena.{IsArena, IsPart, HasTwoParts}
 use Rattle.sedre.specs.Mirror.{mirror, mirror_node, node_seen, seen}
 use Rattle.sedre.specs.declared.types.Node.{Node}

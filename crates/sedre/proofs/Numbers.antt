@@ -2,8 +2,7 @@
 use Rattle.std.proofs.Common.{ℕ, zero, suc, ◌-◌, ◌≤◌, List, [], ◌∷◌, ◌++◌, Bool, false, Option, Some, None, arith, nat_eq}
 use Rattle.sedre.specs.declared.syntax.Item.{Item}
 use Rattle.sedre.specs.Tree.{Tree, seq, alt, group, star, opt}
-use Rattle.sedre.specs.Sizes.{concatenation, alternation, copies, optional, further, repetition}
-use Rattle.sedre.specs.Grammar.{AreAlternatives, ArePieces, IsPiece, first, another, none, more, subexpression, repeated}
+use Rattle.sedre.specs.Grammar.{concatenation, alternation, copies, optional, further, repetition, AreAlternatives, ArePieces, IsPiece, first, another, none, more, subexpression, repeated}
 use Rattle.sedre.specs.Finished.{GroupsNumbered}
 
 abbrev AllOf : ℕ → List Tree → Type 0

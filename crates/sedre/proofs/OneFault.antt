@@ -9,8 +9,7 @@ use Rattle.sedre.specs.declared.syntax.NextItem.TheVariants.{Is, Bad}
 use Rattle.sedre.specs.declared.syntax.Item.{Item}
 use Rattle.sedre.specs.declared.syntax.Item.TheVariants.{Close}
 use Rattle.sedre.specs.Tree.{Tree}
-use Rattle.sedre.specs.Sizes.{depth, alternation}
-use Rattle.sedre.specs.Grammar.{AreAlternatives, CutExpression, done, item, open_groups, Row, bad, stray, unclosed, deep, large, FaultyWith}
+use Rattle.sedre.specs.Grammar.{depth, alternation, AreAlternatives, CutExpression, done, item, open_groups, Row, bad, stray, unclosed, deep, large, FaultyWith}
 use Rattle.sedre.proofs.Exclusive.{one_reading, go_on, open-append}
 
 -- the place and the reason that both have

@@ -15,8 +15,8 @@ use Rattle.sedre.specs.declared.syntax.Item.{Item}
 use Rattle.sedre.specs.declared.syntax.Item.TheVariants.{AtBegin, AtEnd}
 use Rattle.sedre.specs.declared.syntax.NextItem.{NextItem}
 use Rattle.sedre.specs.declared.syntax.NextItem.TheVariants.{Is, Ends, Bad}
-use Rattle.sedre.specs.Brackets.{elements, element, elements_from, begins, is_dash, goes_on_as_range, ListedBytes, single, between_ends, range_to, range, both, listed, judged, list_at}
-use Rattle.sedre.specs.Items.{interval, symbol, is_first, is_repeatable, is_repeat, ends_alternative, repeats, interval_item, list_item, star_item, question_item, anchor_item, item_for, item_at}
+use Rattle.sedre.specs.Brackets.{elements, front_element, elements_from, begins, is_dash, goes_on_as_range, ListedBytes, single, between_ends, range_to, range, both, listed, judged, list_at}
+use Rattle.sedre.specs.Items.{front_interval, front_symbol, is_first, is_repeatable, is_repeat, ends_alternative, repeats, interval_item, list_item, star_item, question_item, anchor_item, item_for, item_at}
 use Rattle.sedre.specs.Grammar.{Row, bad, stray, FaultyWith}
 
 -- the elements of a list stand up to a place
@@ -33,7 +33,7 @@ elements_up_to delimiter n first skip place [] le = tt
 elements_up_to delimiter n first (suc skip) place (b ∷ bs) le = elements_up_to delimiter n first skip (place + 1) bs (omega (arith, le))
 elements_up_to delimiter n first zero place (b ∷ bs) le =
     up_to_if n (b == 93 && not first) _ _ tt
-    (omega (arith, le), elements_up_to delimiter n false ((element delimiter (b ∷ bs)).1 - 1) (place + 1) bs (omega (arith, le)))
+    (omega (arith, le), elements_up_to delimiter n false ((front_element delimiter (b ∷ bs)).1 - 1) (place + 1) bs (omega (arith, le)))
 
 from_up_to : (delimiter : Option ℕ) (n place : ℕ) (bs : List ℕ) → place + length bs ≤ n → StandUpTo n (elements_from delimiter place bs).0
 from_up_to delimiter n place [] le = tt
@@ -144,16 +144,16 @@ module _ (kind : Kind) (folded : Bool) (delimiter : Option ℕ) (text : List ℕ
   symbol_here before at (Some (Question, n)) inside = question_here (length text) at (at + n) kind (is_repeatable before) (is_repeat before) (omega (arith, inside))
   symbol_here before at (Some (Interval, n)) inside =
       repeats_here (length text) at (is_repeatable before) _ (omega (arith, inside))
-      (interval_here (length text) at (at + n) (interval kind delimiter (drop (at + n) text)) (omega (arith, inside)))
+      (interval_here (length text) at (at + n) (front_interval kind delimiter (drop (at + n) text)) (omega (arith, inside)))
   symbol_here before at (Some (BracketOpening, n)) inside = list_here (length text) at (list_at folded delimiter text at) (omega (arith, inside)) (list_told folded delimiter text at inside)
   symbol_here before at (Some (Caret, n)) inside = anchor_here (length text) at (at + n) kind (is_first before) 94 AtBegin (omega (arith, inside))
   symbol_here before at (Some (Dollar, n)) inside =
-      anchor_here (length text) at (at + n) kind (ends_alternative (symbol kind delimiter (drop (at + n) text))) 36 AtEnd (omega (arith, inside))
+      anchor_here (length text) at (at + n) kind (ends_alternative (front_symbol kind delimiter (drop (at + n) text))) 36 AtEnd (omega (arith, inside))
   symbol_here before at _ inside = omega (arith, inside)
 
-  rest_here : (before : Option Item) (at : ℕ) (bs : List ℕ) → drop at text ≡ bs → HereUpTo (length text) at (item_for kind folded delimiter text before at (symbol kind delimiter bs))
+  rest_here : (before : Option Item) (at : ℕ) (bs : List ℕ) → drop at text ≡ bs → HereUpTo (length text) at (item_for kind folded delimiter text before at (front_symbol kind delimiter bs))
   rest_here before at [] e = tt
-  rest_here before at (b ∷ bs) e = symbol_here before at (symbol kind delimiter (b ∷ bs)) (omega (arith, length-drop at text, ap length e))
+  rest_here before at (b ∷ bs) e = symbol_here before at (front_symbol kind delimiter (b ∷ bs)) (omega (arith, length-drop at text, ap length e))
 
   item_here : (before : Option Item) (at : ℕ) → HereUpTo (length text) at (item_at kind folded delimiter text before at)
   unfolding item_at

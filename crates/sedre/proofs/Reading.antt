@@ -7,10 +7,9 @@ use Rattle.sedre.specs.declared.types.Reason.TheVariants.{StrayClose, OpenGroup,
 use Rattle.sedre.specs.declared.syntax.NextItem.TheVariants.{Is, Ends, Bad}
 use Rattle.sedre.specs.declared.syntax.Item.{Item}
 use Rattle.sedre.specs.declared.syntax.Item.TheVariants.{Byte, Open, Close, Bar, Repeat, AtBegin, AtEnd}
-use Rattle.sedre.specs.Tree.{Tree, set}
-use Rattle.sedre.specs.Sizes.{size, depth, alternation, repetition}
+use Rattle.sedre.specs.Tree.{Tree, set, size}
+use Rattle.sedre.specs.Grammar.{depth, alternation, repetition, none, byte, begin_anchor, end_anchor, CutExpression, done, item, open_groups, ReadsAs, bad, stray, unclosed, deep, large, FaultyWith}
 use Rattle.sedre.specs.Items.{item_at, is_repeatable}
-use Rattle.sedre.specs.Grammar.{none, byte, begin_anchor, end_anchor, CutExpression, done, item, open_groups, ReadsAs, bad, stray, unclosed, deep, large, FaultyWith}
 use Rattle.sedre.specs.Stacks.{Level, Nesting, start, step, with_last, all_alternatives}
 use Rattle.sedre.proofs.Sound.{Stands, base, only as only_pieces, stands_piece, stands_bar, stands_repeat, stands_open, stands_close, stands_whole}
 use Rattle.sedre.proofs.Exclusive.{open-append, go_on}

@@ -3,7 +3,7 @@ use Rattle.std.proofs.Common.{◌≡◌, ℕ, zero, suc, ◌+◌, ◌-◌, ◌<�
 use Rattle.std.proofs.lemmas.Bool.Decides.{eqb_tells}
 use Rattle.sedre.specs.declared.stack.Stack.{Stack}
 use Rattle.sedre.specs.Tree.{Tree, seq, star, opt}
-use Rattle.sedre.specs.Sizes.{copies, optional, further}
+use Rattle.sedre.specs.Grammar.{copies, optional, further}
 use Rattle.sedre.specs.Stacks.{Stored}
 use Rattle.sedre.proofs.Stacked.{count_of}
 

@@ -16,7 +16,7 @@ use Rattle.sedre.specs.declared.syntax.Item.{Item}
 use Rattle.sedre.specs.declared.syntax.Item.TheVariants.{Repeat, AtBegin, AtEnd}
 use Rattle.sedre.specs.Stacks.{IsInterval}
 use Rattle.sedre.specs.Brackets.{begins, list_at}
-use Rattle.sedre.specs.Items.{symbol, numeral, closes, limit, after_least, interval, item_at, item_for, is_repeatable, is_repeat, is_first, ends_alternative, repeats, interval_item, list_item, star_item, question_item, anchor_item}
+use Rattle.sedre.specs.Items.{front_symbol, numeral, closes, limit, after_least, front_interval, item_at, item_for, is_repeatable, is_repeat, is_first, ends_alternative, repeats, interval_item, list_item, star_item, question_item, anchor_item}
 
 -- a repetition stands where one may, with bounds in order
 abbrev pub FineItem : Bool → Item → Type 0
@@ -54,8 +54,8 @@ fine_least kind delimiter front (Some (least, digits)) =
     by_test (closes kind delimiter (drop digits front)) _ _ (λ h. omega arith)
     (by_test (begins (drop digits front) 44) _ _ (λ h. fine_limit kind delimiter least digits (drop 1 (drop digits front)) (numeral (drop 1 (drop digits front)))) tt)
 
-fine_interval : (kind : Kind) (delimiter : Option ℕ) (front : List ℕ) → FineBounds (interval kind delimiter front)
-unfolding interval
+fine_interval : (kind : Kind) (delimiter : Option ℕ) (front : List ℕ) → FineBounds (front_interval kind delimiter front)
+unfolding front_interval
 fine_interval kind delimiter front = fine_least kind delimiter front (numeral front)
 
 fine_interval_item : (may : Bool) (o : Option Bounds) (at next : ℕ) → FineBounds o → Fine may (repeats may at (interval_item o at next))
@@ -93,15 +93,15 @@ fine_for : (kind : Kind) (folded : Bool) (delimiter : Option ℕ) (text : List �
 fine_for kind folded delimiter text before at (Some (Star, n)) = fine_star kind (is_repeatable before) at (at + n)
 fine_for kind folded delimiter text before at (Some (Plus, n)) = fine_plus (is_repeatable before) at (at + n)
 fine_for kind folded delimiter text before at (Some (Question, n)) = fine_question kind (is_repeatable before) (is_repeat before) at (at + n)
-fine_for kind folded delimiter text before at (Some (Interval, n)) = fine_interval_item (is_repeatable before) (interval kind delimiter (drop (at + n) text)) at (at + n) (fine_interval kind delimiter (drop (at + n) text))
+fine_for kind folded delimiter text before at (Some (Interval, n)) = fine_interval_item (is_repeatable before) (front_interval kind delimiter (drop (at + n) text)) at (at + n) (fine_interval kind delimiter (drop (at + n) text))
 fine_for kind folded delimiter text before at (Some (BracketOpening, n)) = fine_list (is_repeatable before) (list_at folded delimiter text at)
 fine_for kind folded delimiter text before at (Some (Caret, n)) = fine_anchor kind (is_repeatable before) (is_first before) 94 AtBegin (at + n) tt
-fine_for kind folded delimiter text before at (Some (Dollar, n)) = fine_anchor kind (is_repeatable before) (ends_alternative (symbol kind delimiter (drop (at + n) text))) 36 AtEnd (at + n) tt
+fine_for kind folded delimiter text before at (Some (Dollar, n)) = fine_anchor kind (is_repeatable before) (ends_alternative (front_symbol kind delimiter (drop (at + n) text))) 36 AtEnd (at + n) tt
 fine_for kind folded delimiter text before at _ = tt
 
 fine_at : (kind : Kind) (folded : Bool) (delimiter : Option ℕ) (text : List ℕ) (before : Option Item) (at : ℕ) → Fine (is_repeatable before) (item_at kind folded delimiter text before at)
 unfolding item_at
-fine_at kind folded delimiter text before at = fine_for kind folded delimiter text before at (symbol kind delimiter (drop at text))
+fine_at kind folded delimiter text before at = fine_for kind folded delimiter text before at (front_symbol kind delimiter (drop at text))
 
 pub repeat_follows : (kind : Kind) (folded : Bool) (delimiter : Option ℕ) (text : List ℕ) (before : Option Item) (at : ℕ) {least next : ℕ} {most : Option ℕ} →
     item_at kind folded delimiter text before at ≡ Is (Repeat least most) next → (is_repeatable before ≡ true) × IsInterval least most

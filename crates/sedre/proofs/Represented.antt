@@ -5,7 +5,7 @@ use Rattle.sedre.specs.declared.stack.Stack.{Stack}
 use Rattle.sedre.specs.declared.builder.Builder.{Builder}
 use Rattle.sedre.specs.declared.syntax.Item.TheVariants.{Open, Close, Bar, Repeat}
 use Rattle.sedre.specs.Tree.{Tree, group}
-use Rattle.sedre.specs.Sizes.{concatenation, alternation, repetition}
+use Rattle.sedre.specs.Grammar.{concatenation, alternation, repetition}
 use Rattle.sedre.specs.Stacks.{Level, Nesting, step, close, with_piece, with_last, whole_level, Stored, trees_in, mark_of, marks_of, Represents}
 use Rattle.sedre.proofs.Written.{snoc_last, split_last}
 use Rattle.sedre.proofs.Stacked.{count_of}

@@ -3,8 +3,7 @@ use Rattle.std.proofs.Common.{◌≢◌, ℕ, suc, List, [], ◌∷◌, ◌++◌
 use Rattle.sedre.specs.declared.syntax.Item.{Item}
 use Rattle.sedre.specs.declared.syntax.Item.TheVariants.{Open, Close, Bar, Repeat}
 use Rattle.sedre.specs.Tree.{Tree, group}
-use Rattle.sedre.specs.Sizes.{concatenation, alternation, repetition}
-use Rattle.sedre.specs.Grammar.{AreAlternatives, ArePieces, IsPiece, first, another, none, more, subexpression, repeated}
+use Rattle.sedre.specs.Grammar.{concatenation, alternation, repetition, AreAlternatives, ArePieces, IsPiece, first, another, none, more, subexpression, repeated}
 use Rattle.sedre.proofs.Machine.{with_last-append}
 use Rattle.sedre.specs.Stacks.{Level, with_last, with_piece, all_alternatives}
 

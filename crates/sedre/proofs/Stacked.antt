@@ -11,8 +11,8 @@ use Rattle.sedre.specs.declared.parts.Cover.TheVariants as cover
 use Rattle.sedre.specs.declared.stack.Stack.{Stack}
 use Rattle.sedre.specs.Covers.{cover_node}
 use Rattle.sedre.specs.Packed.{id, PartsBelow, shifted}
-use Rattle.sedre.specs.Tree.{Tree, empty, seq, alt}
-use Rattle.sedre.specs.Sizes.{size, depth, without_alternation, concatenation}
+use Rattle.sedre.specs.Tree.{Tree, empty, seq, alt, size}
+use Rattle.sedre.specs.Grammar.{depth, without_alternation, concatenation}
 use Rattle.sedre.specs.Stacks.{postorder, written, total, fitting, part_of, parts_of, last_end, IsLeaf, Puts, Stored, pair, chain, covered}
 use Rattle.sedre.proofs.Written.{size_positive, length-postorder, length-written, written-append_0, total-append, snoc_last, split_last}
 use Rattle.sedre.proofs.Copied.{postorder-shifted}

@@ -4,8 +4,7 @@ use Rattle.std.specs.Prelude.{slice_get}
 use Rattle.std.proofs.lemmas.Bool.Decides.{eqb_tells, leb_tells}
 use Rattle.sedre.specs.declared.types.Node.{Node}
 use Rattle.sedre.specs.declared.types.Node.TheVariants as node
-use Rattle.sedre.specs.Tree.{Tree, seq, alt, group, star, opt}
-use Rattle.sedre.specs.Sizes.{size}
+use Rattle.sedre.specs.Tree.{Tree, seq, alt, group, star, opt, size}
 use Rattle.sedre.specs.Arena.{IsPart, HasTwoParts, IsArena}
 use Rattle.sedre.specs.Packed.{id}
 use Rattle.sedre.specs.Stacks.{postorder}

@@ -2,8 +2,7 @@
 use Rattle.std.proofs.Common.{◌≡◌, ℕ, ◌+◌, ◌<◌, length, List, [], ◌∷◌, ◌++◌, refl, ap, ◌∙◌, sym, append_assoc, arith, length-append, Option, Some}
 use Rattle.std.specs.Option.{option_to_list}
 use Rattle.sedre.specs.declared.types.Node.{Node}
-use Rattle.sedre.specs.Tree.{Tree, empty, seq, alt, group, star, opt}
-use Rattle.sedre.specs.Sizes.{size}
+use Rattle.sedre.specs.Tree.{Tree, empty, seq, alt, group, star, opt, size}
 use Rattle.sedre.specs.Stacks.{postorder, written, total}
 
 pub size_positive : (t : Tree) → 0 < size t

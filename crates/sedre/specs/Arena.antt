@@ -1,10 +1,9 @@
--- What always holds of the nodes of an expression.
+-- What is always true of the nodes of an expression.
 use Rattle.std.specs.Prelude.{◌≡◌, ◌≢◌, ℕ, ◌+◌, ◌-◌, ◌<◌, ◌≤◌, ◌⊎◌, List, length, slice_get, Some}
-use Rattle.sedre.specs.Sizes.{size}
+use Rattle.sedre.specs.Tree.{size, tree_at}
 use Rattle.sedre.specs.declared.types.NodeId.{NodeId}
 use Rattle.sedre.specs.declared.types.Node.{Node}
 use Rattle.sedre.specs.declared.types.Node.TheVariants.{Seq, Alt, Group, Star, Opt}
-use Rattle.sedre.specs.Tree.{tree_at}
 
 -- c is a part of the node
 abbrev pub IsPart : Node → ℕ → Type 0
@@ -34,7 +33,7 @@ pub record IsArena (nodes : List Node) : Type 0 where
 abbrev pub SizesFit : List Node → Type 0
 SizesFit nodes = (x : ℕ) → x < length nodes → size (tree_at nodes x) ≤ x + 1
 
--- the parts of the node x stand directly before it, the left one's tree directly before the right one's
+-- the parts of the node x come directly before it, the left one's tree directly before the right one's
 abbrev pub FollowsParts : List Node → ℕ → Node → Type 0
 FollowsParts nodes x (Seq a b) = (a.index + size (tree_at nodes b.index) + 1 ≡ x) × (b.index + 1 ≡ x)
 FollowsParts nodes x (Alt a b) = (a.index + size (tree_at nodes b.index) + 1 ≡ x) × (b.index + 1 ≡ x)
@@ -51,7 +50,7 @@ AreRanges nodes = (x : ℕ) (node : Node) → slice_get nodes x ≡ Some node �
 abbrev pub GroupsWithin : List Node → ℕ → Type 0
 GroupsWithin nodes groups = (x k : ℕ) (a : NodeId) → slice_get nodes x ≡ Some (Group k a) → (1 ≤ k) × (k ≤ groups)
 
--- what always holds of an expression
+-- what is always true of an expression
 pub record IsExpr (nodes : List Node) (groups : ℕ) : Type 0 where
   pub arena : IsArena nodes
   pub sizes : SizesFit nodes

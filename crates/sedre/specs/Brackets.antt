@@ -10,23 +10,23 @@ abbrev pub is_delimiter : Option ℕ → ℕ → Bool
 is_delimiter None b = false
 is_delimiter (Some d) b = d == b
 
--- whether a byte stands at the front
+-- whether a byte is at the front
 abbrev pub begins : List ℕ → ℕ → Bool
 begins [] b = false
 begins (c ∷ rest) b = c == b
 
--- how many bytes stand before the first c with a ] after it
+-- how many bytes come before the first c with a ] after it
 abbrev pub before_closing : ℕ → List ℕ → Option ℕ
 before_closing c (x ∷ y ∷ rest) =
     if x == c && y == 93 then Some 0 else option_map (λ n. n + 1) (before_closing c (y ∷ rest))
 before_closing c left = None
 
--- what a form holds, after its opening: at least one byte, so that [.].] names ]; \ and the delimiter are two (this project's own)
+-- what a form has after its opening: at least one byte, so that [.].] names ]; \ and the delimiter are two (this project's own)
 abbrev pub content : ℕ → List ℕ → Option (List ℕ)
 content c [] = None
 content c (x ∷ rest) = option_map (λ n. x ∷ take n rest) (before_closing c rest)
 
--- [=x=] and [.x.] hold one byte: each collating element of the POSIX locale is one (XBD 7.3.2)
+-- [=x=] and [.x.] contain one byte: each collating element of the POSIX locale is one (XBD 7.3.2)
 abbrev pub of_one : List ℕ → (ℕ → Element) → Element
 of_one (x ∷ []) make = make x
 of_one held make = Wrong LongCollating
@@ -45,10 +45,10 @@ form c left (Some held) = (form_of c held, length held + 4)
 
 -- the element at the front of what is left of a list, and its bytes. A backslash and the delimiter are the delimiter as a
 -- literal (this project's own); any other byte loses its special meaning (XBD 9.3.5, 1)
-abbrev pub element : Option ℕ → List ℕ → Element × ℕ
-element delimiter [] = (Unclosed, 0)
-element delimiter (b ∷ []) = (Plain b, 1)
-element delimiter (b ∷ c ∷ rest) =
+abbrev pub front_element : Option ℕ → List ℕ → Element × ℕ
+front_element delimiter [] = (Unclosed, 0)
+front_element delimiter (b ∷ []) = (Plain b, 1)
+front_element delimiter (b ∷ c ∷ rest) =
     if b == 92 && is_delimiter delimiter c then (Delimiter c, 2)
     else if b == 91 && (c == 58 || c == 61 || c == 46) then form c (length rest + 2) (content c rest)
     else (Plain b, 1)
@@ -61,16 +61,16 @@ elements delimiter first (suc skip) place (b ∷ bs) = elements delimiter first 
 elements delimiter first zero place (b ∷ bs) =
     if b == 93 && not first then ([], Some (place + 1))
     else
-    let found = element delimiter (b ∷ bs) in
+    let found = front_element delimiter (b ∷ bs) in
     let rest = elements delimiter false (found.1 - 1) (place + 1) bs in
     ((place, found.0) ∷ rest.0, rest.1)
 
--- whether an element makes a range where another one stands before and after it (XBD 9.3.5, 7)
+-- whether an element makes a range where another one comes before and after it (XBD 9.3.5, 7)
 abbrev pub is_dash : Element → Bool
 is_dash (Plain b) = b == 45
 is_dash other = false
 
--- whether what stands after a range goes on as another one, as in a-c-e
+-- whether what comes after a range goes on as another one, as in a-c-e
 abbrev pub goes_on_as_range : List (ℕ × Element) → Bool
 goes_on_as_range (x ∷ y ∷ rest) = is_dash x.1
 goes_on_as_range left = false
@@ -82,7 +82,7 @@ ListedBytes = Result (List Bool) ExprFault
 abbrev pub fault : ℕ → Reason → ListedBytes
 fault place reason = Err (record { place = place; reason = reason })
 
--- an element by itself. One that isn't closed lists nothing: that the list is open tells of it
+-- an element by itself. One that isn't closed lists nothing: that the list is open shows it
 abbrev pub single : ℕ × Element → ListedBytes
 single (place, Plain b) = Ok (only b)
 single (place, Delimiter b) = Ok (only b)
@@ -117,7 +117,7 @@ range (place, Wrong reason) last on = fault place reason
 range (place, Unclosed) last on = Ok no_byte
 range (place, other) last on = range_to place (end_of other) last on
 
--- what stands first, then the rest
+-- what comes first, then the rest
 abbrev pub both : ListedBytes → ListedBytes → ListedBytes
 both (Err f) those = Err f
 both (Ok these) (Err f) = Err f
@@ -147,7 +147,7 @@ judged folded negated at (Err f) end = Err f
 judged folded negated at (Ok set) None = Err (record { place = at; reason = OpenBracket })
 judged folded negated at (Ok set) (Some next) = Ok (matched folded negated set, next)
 
--- the list of a text whose [ stands at a place: the bytes that it matches and the place after it, or its first fault
+-- the list of a text whose [ is at a place: the bytes that it matches and the place after it, or its first fault
 unfoldable pub list_at : (folded : Bool) → Option ℕ → (text : List ℕ) → (at : ℕ) → Result (ByteSet × ℕ) ExprFault
 list_at folded delimiter text at =
     let bytes = drop (at + 1) text in
@@ -158,7 +158,7 @@ list_at folded delimiter text at =
 unfoldable pub list_end : Option ℕ → (place : ℕ) → List ℕ → Option ℕ
 list_end delimiter place bytes = (elements_from delimiter place bytes).1
 
--- the place after what stands at a place: an escape, a bracket expression or a byte; None where the text ends before
+-- the place after what is at a place: an escape, a bracket expression or a byte; None where the text ends before
 abbrev pub next_place : (delimiter place : ℕ) → List ℕ → Option ℕ
 next_place d place [] = None
 next_place d place (b ∷ bs) =

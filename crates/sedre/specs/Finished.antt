@@ -1,9 +1,9 @@
--- Private to the proofs: no contract of a public item cites what stands here.
+-- Private to the proofs: no contract of a public item cites what is here.
 -- What the reader answers after an item, and at the end of a text.
 use Rattle.std.specs.Prelude.{◌≡◌, ◌≤◌, ◌<◌, ◌⊎◌, ℕ, length}
 use Rattle.sedre.specs.Types.{TooDeep, TooManyNodes, ExprFault, NextItem, Is, Ends, Bad}
-use Rattle.sedre.specs.Tree.{Tree, seq, alt, group, star, opt, WrittenExpression, expression_tree}
-use Rattle.sedre.specs.Sizes.{size, depth}
+use Rattle.sedre.specs.Tree.{Tree, seq, alt, group, star, opt, WrittenExpression, expression_tree, size}
+use Rattle.sedre.specs.Grammar.{depth}
 use Rattle.sedre.specs.Stacks.{Nesting, whole_level}
 
 -- each group of the tree has a number from 1 to the bound

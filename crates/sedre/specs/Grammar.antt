@@ -1,13 +1,57 @@
--- The grammar of expressions over items (XBD 9.5.2, 9.5.3): alternatives of pieces, which are atoms with their repetitions;
--- and the first fault of a text that is none.
-use Rattle.std.specs.Prelude.{◌≡◌, ℕ, zero, suc, List, [], ◌∷◌, ◌++◌, length, ◌<◌, ◌≤◌, Bool, false, Option, Some, None}
+-- The grammar of expressions over items (XBD 9.5.2, 9.5.3), what its parts are written out to, and the first fault of a text.
+use Rattle.std.specs.Prelude.{◌≡◌, ℕ, zero, suc, ◌-◌, ◌+◌, max, List, [], ◌∷◌, ◌++◌, length, ◌<◌, ◌≤◌, Bool, false, Option, Some, None, nat_eq}
 use Rattle.std.specs.List.{last_or}
 use Rattle.sedre.specs.Types.{Item, Byte, Open, Close, Bar, Repeat, AtBegin, AtEnd, Kind, Reason, StrayClose, OpenGroup, TooDeep, TooManyNodes, Is, Ends, Bad}
 use Rattle.sedre.specs.Items.{item_at}
-use Rattle.sedre.specs.Tree.{Tree, set, begin, end, group}
-use Rattle.sedre.specs.Sizes.{size, depth, concatenation, alternation, repetition}
+use Rattle.sedre.specs.Tree.{Tree, empty, set, begin, end, seq, alt, star, opt, group, size}
 
--- Groups are numbered by their openings from 1 (XBD 9.3.6): a fact holds from the count of openings before the items to that after.
+-- pieces one after the other (XBD 9.3.6, 9.4.6, 9.4.7); an empty text, group or alternative matches the null string (this project's own)
+abbrev pub concatenation : List Tree → Tree
+concatenation [] = empty
+concatenation (a ∷ []) = a
+concatenation (a ∷ b ∷ rest) = seq a (concatenation (b ∷ rest))
+
+-- alternatives
+abbrev pub alternation : List Tree → Tree
+alternation [] = empty
+alternation (a ∷ []) = a
+alternation (a ∷ b ∷ rest) = alt a (alternation (b ∷ rest))
+
+-- a number of copies, and what comes after them
+abbrev pub copies : ℕ → Tree → List Tree → List Tree
+copies zero e rest = rest
+copies (suc n) e rest = e ∷ copies n e rest
+
+-- up to one copy more than the number, each contained in the one before it
+abbrev pub optional : ℕ → Tree → Bool → Tree
+optional zero e first = opt e first
+optional (suc n) e first = opt (seq e (optional n e false)) first
+
+-- what may follow the copies that must come
+abbrev pub further : ℕ → Tree → Bool → List Tree
+further zero e first = []
+further (suc n) e first = optional n e first ∷ []
+
+-- a repetition: at least so many copies, and at most so many where there is a limit
+abbrev pub repetition : ℕ → Option ℕ → Tree → Tree
+repetition least None e = concatenation (copies least e (star e (nat_eq least 0) ∷ []))
+repetition least (Some most) e = concatenation (copies least e (further (most - least) e (nat_eq least 0)))
+
+-- the depth d of a tree, less the one that it adds if it is an alternation
+abbrev pub without_alternation : Tree → (d : ℕ) → ℕ
+without_alternation (alt a b) d = d - 1
+without_alternation other d = d
+
+-- how deep it nests: a group and a repetition add one, and an alternation one for all its alternatives (this project's own)
+abbrev pub depth : Tree → ℕ
+depth (seq a b) = max (depth a) (depth b)
+depth (alt a b) = 1 + max (depth a) (without_alternation b (depth b))
+depth (group k a) = 1 + depth a
+depth (star a first) = 1 + depth a
+depth (opt a first) = 1 + depth a
+depth other = 0
+
+-- Groups are numbered by their openings from 1 (XBD 9.3.6): a fact has the count of openings before the items and that after.
 mutual
   -- these items are these alternatives
   pub data AreAlternatives : ℕ → List Item → List Tree → ℕ → Type 0 where
@@ -88,7 +132,7 @@ pub data Row (kind : Kind) (folded : Bool) (delimiter : Option ℕ) (text : List
       depth (alternation bs) ≤ 600 → max_nodes < size (alternation bs) →
       Row kind folded delimiter text max_nodes is 0 to (length text) TooManyNodes
 
--- the first fault of the text: what stands before it is cut into items, and each closing there has its opening
+-- the first fault of the text: what comes before it is cut into items, and each closing there has its opening
 pub record FaultyWith (kind : Kind) (folded : Bool) (delimiter : Option ℕ) (text : List ℕ) (max_nodes place : ℕ)
     (reason : Reason) : Type 0 where
   pub items : List Item

@@ -1,7 +1,7 @@
 -- The symbols and items of a text outside bracket expressions: sets of bytes, anchors, groups, alternations, repetitions (XBD 9.3, 9.4).
 use Rattle.std.specs.Prelude.{ℕ, List, [], ◌∷◌, Bool, not, ◌||◌, Option, Some, None, if◌then◌else◌, ◌==◌, ◌+◌, ◌*◌, ◌-◌, drop, take, false, ◌&&◌, nat_lt, nat_le, true, Result, Ok, Err, option_and_then}
 use Rattle.std.specs.List.{prefix_len}
-use Rattle.sedre.specs.Sets.{between, is_upper, is_lower, is_digit, only, any_byte, matching}
+use Rattle.sedre.specs.Sets.{between, is_upper, is_lower, is_digit, only, any_but_zero, matching}
 use Rattle.sedre.specs.Brackets.{begins, is_delimiter, list_at}
 use Rattle.sedre.specs.Types.{Kind, Basic, Extended, LastBackslash, UnknownEscape, BackReference, BadInterval, NothingToRepeat, Symbol, Literal, AnyByte, Opening, Closing, Parting, Star, Plus, Question, Interval, IntervalEnd, BracketOpening, Caret, Dollar, Unknown, Reason, ExprFault, ByteSet, Bounds, Item, Byte, Open, Close, Bar, Repeat, AtBegin, AtEnd, NextItem, Is, Ends, Bad}
 
@@ -19,7 +19,7 @@ operator b other =
     else if b == 123 then Interval  -- {
     else other
 
--- the symbols that both kinds share, where no backslash stands before them; any other byte is a literal here
+-- the symbols that both kinds share, where no backslash comes before them; any other byte is a literal here
 abbrev pub alone_in_both : ℕ → Symbol
 alone_in_both b =
     if b == 42 then Star  -- *
@@ -29,7 +29,7 @@ alone_in_both b =
     else if b == 36 then Dollar  -- $
     else Literal b
 
--- a byte that no backslash stands before
+-- a byte with no backslash before it
 abbrev pub alone : Kind → ℕ → Symbol
 alone Basic b = alone_in_both b
 alone Extended b = operator b (alone_in_both b)
@@ -51,10 +51,10 @@ escaped Extended b = escaped_literal b
 
 -- the symbol at the front of what is left of a text, and its bytes; \ and the delimiter are the delimiter itself (XCU sed,
 -- "Regular Expressions in sed"). That \ at the end is refused, and the delimiter alone keeps its meaning, is this project's own
-abbrev pub symbol : Kind → Option ℕ → List ℕ → Option (Symbol × ℕ)
-symbol kind delimiter [] = None
-symbol kind delimiter (b ∷ []) = Some (if b == 92 then (Unknown LastBackslash, 1) else (alone kind b, 1))
-symbol kind delimiter (b ∷ c ∷ rest) = Some (
+abbrev pub front_symbol : Kind → Option ℕ → List ℕ → Option (Symbol × ℕ)
+front_symbol kind delimiter [] = None
+front_symbol kind delimiter (b ∷ []) = Some (if b == 92 then (Unknown LastBackslash, 1) else (alone kind b, 1))
+front_symbol kind delimiter (b ∷ c ∷ rest) = Some (
     if not (b == 92) then (alone kind b, 1)
     else if is_delimiter delimiter c then (Literal c, 2)
     else (escaped kind c, 2))
@@ -80,30 +80,30 @@ abbrev pub closing_width : Kind → ℕ
 closing_width Basic = 2
 closing_width Extended = 1
 
-abbrev pub bounds : ℕ → Option ℕ → ℕ → Option Bounds
-bounds least most width = Some (record { least = least; most = most; width = width })
+abbrev pub some_bounds : ℕ → Option ℕ → ℕ → Option Bounds
+some_bounds least most width = Some (record { least = least; most = most; width = width })
 
 -- after the comma: nothing, or a limit that is no less
 abbrev pub limit : Kind → Option ℕ → (least digits : ℕ) → List ℕ → Option (ℕ × ℕ) → Option Bounds
 limit kind delimiter least digits front None =
-    if closes kind delimiter front then bounds least None (digits + 1 + closing_width kind) else None
+    if closes kind delimiter front then some_bounds least None (digits + 1 + closing_width kind) else None
 limit kind delimiter least digits front (Some (most, more)) =
     if closes kind delimiter (drop more front) && nat_le least most
-    then bounds least (Some most) (digits + 1 + more + closing_width kind) else None
+    then some_bounds least (Some most) (digits + 1 + more + closing_width kind) else None
 
 -- after the first number
 abbrev pub after_least : Kind → Option ℕ → List ℕ → ℕ × ℕ → Option Bounds
 after_least kind delimiter front (least, digits) =
     let rest = drop digits front in
-    if closes kind delimiter rest then bounds least (Some least) (digits + closing_width kind)
+    if closes kind delimiter rest then some_bounds least (Some least) (digits + closing_width kind)
     else if begins rest 44 then limit kind delimiter least digits (drop 1 rest) (numeral (drop 1 rest))
     else None
 
--- the interval whose opening stands before what is left, and its bytes from there; it has a first number (this project's own)
-unfoldable pub interval : Kind → Option ℕ → List ℕ → Option Bounds
-interval kind delimiter front = option_and_then (after_least kind delimiter front) (numeral front)
+-- the interval whose opening comes before what is left, and its bytes from there; it has a first number (this project's own)
+unfoldable pub front_interval : Kind → Option ℕ → List ℕ → Option Bounds
+front_interval kind delimiter front = option_and_then (after_least kind delimiter front) (numeral front)
 
--- whether an item stands first: at the beginning, after an opening of a group or after an alternation symbol
+-- whether an item comes first: at the beginning, after an opening of a group or after an alternation symbol
 abbrev pub is_first : Option Item → Bool
 is_first None = true
 is_first (Some Open) = true
@@ -132,7 +132,7 @@ ends_alternative next = false
 abbrev pub fault : ℕ → Reason → NextItem
 fault place reason = Bad (record { place = place; reason = reason })
 
--- a repetition of what stands before, or else NothingToRepeat (but for a * that isn't after `$`, this project's own)
+-- a repetition of what comes before, or else NothingToRepeat (but for a * that isn't after `$`, this project's own)
 abbrev pub repeats : (may : Bool) → (at : ℕ) → NextItem → NextItem
 repeats may at repeat = if may then repeat else fault at NothingToRepeat
 
@@ -144,12 +144,12 @@ abbrev pub list_item : Result (ByteSet × ℕ) ExprFault → NextItem
 list_item (Ok (members, next)) = Is (Byte members) next
 list_item (Err f) = Bad f
 
--- * is a literal in a basic expression where nothing stands that it could repeat (XBD 9.3.3)
+-- * is a literal in a basic expression where there is nothing that it could repeat (XBD 9.3.3)
 abbrev pub star_item : Kind → (may : Bool) → (at next : ℕ) → NextItem
 star_item Basic may at next = if may then Is (Repeat 0 None) next else Is (Byte (only 42)) next
 star_item Extended may at next = repeats may at (Is (Repeat 0 None) next)
 
--- ? repeats what stands before it; directly after a repetition of an extended expression it is refused (this project's own)
+-- ? repeats what comes before it; directly after a repetition of an extended expression it is refused (this project's own)
 abbrev pub question_item : Kind → (may repeated : Bool) → (at next : ℕ) → NextItem
 question_item Basic may repeated at next = repeats may at (Is (Repeat 0 (Some 1)) next)
 question_item Extended may repeated at next = repeats (may && not repeated) at (Is (Repeat 0 (Some 1)) next)
@@ -161,11 +161,11 @@ anchor_item Basic false b anchor next = Is (Byte (only b)) next
 anchor_item kind stands b anchor next = Is anchor next
 
 -- what a symbol is, after an item. Where case is folded, a literal byte stands for both cases of its letter, and an interval's
--- closing that stands alone is refused (both this project's own)
+-- closing without an opening is refused (both this project's own)
 abbrev pub item_for : Kind → (folded : Bool) → Option ℕ → List ℕ → Option Item → (at : ℕ) → Option (Symbol × ℕ) → NextItem
 item_for kind folded delimiter text before at None = Ends
 item_for kind folded delimiter text before at (Some (Literal b, n)) = Is (Byte (matching folded (only b))) (at + n)
-item_for kind folded delimiter text before at (Some (AnyByte, n)) = Is (Byte any_byte) (at + n)
+item_for kind folded delimiter text before at (Some (AnyByte, n)) = Is (Byte any_but_zero) (at + n)
 item_for kind folded delimiter text before at (Some (Opening, n)) = Is Open (at + n)
 item_for kind folded delimiter text before at (Some (Closing, n)) = Is Close (at + n)
 item_for kind folded delimiter text before at (Some (Parting, n)) = Is Bar (at + n)
@@ -175,15 +175,15 @@ item_for kind folded delimiter text before at (Some (Plus, n)) =
 item_for kind folded delimiter text before at (Some (Question, n)) =
     question_item kind (is_repeatable before) (is_repeat before) at (at + n)
 item_for kind folded delimiter text before at (Some (Interval, n)) =
-    repeats (is_repeatable before) at (interval_item (interval kind delimiter (drop (at + n) text)) at (at + n))
+    repeats (is_repeatable before) at (interval_item (front_interval kind delimiter (drop (at + n) text)) at (at + n))
 item_for kind folded delimiter text before at (Some (IntervalEnd, n)) = fault at BadInterval
 item_for kind folded delimiter text before at (Some (BracketOpening, n)) = list_item (list_at folded delimiter text at)
 item_for kind folded delimiter text before at (Some (Caret, n)) = anchor_item kind (is_first before) 94 AtBegin (at + n)
 item_for kind folded delimiter text before at (Some (Dollar, n)) =
-    anchor_item kind (ends_alternative (symbol kind delimiter (drop (at + n) text))) 36 AtEnd (at + n)
+    anchor_item kind (ends_alternative (front_symbol kind delimiter (drop (at + n) text))) 36 AtEnd (at + n)
 item_for kind folded delimiter text before at (Some (Unknown reason, n)) = fault at reason
 
--- what stands at a place of a text after an item
+-- what is at a place of a text after an item
 unfoldable pub item_at : Kind → (folded : Bool) → Option ℕ → List ℕ → Option Item → (at : ℕ) → NextItem
 item_at kind folded delimiter text before at =
-    item_for kind folded delimiter text before at (symbol kind delimiter (drop at text))
+    item_for kind folded delimiter text before at (front_symbol kind delimiter (drop at text))

@@ -1,6 +1,5 @@
 pub mod Types
 pub mod Tree
-pub mod Sizes
 pub mod Arena
 pub mod Sets
 pub mod Words

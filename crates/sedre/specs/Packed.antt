@@ -1,4 +1,4 @@
--- Private to the proofs: no contract of a public item cites what stands here.
+-- Private to the proofs: no contract of a public item cites what is here.
 -- Nodes as numbers: what the table keeps of each, and the node that this stands for.
 use Rattle.std.specs.Prelude.{◌≡◌, ◌<◌, ◌≤◌, ℕ, ◌+◌, ◌-◌, List, [], ◌∷◌, ◌++◌, Bool, length, slice_get}
 use Rattle.std.specs.Prelude.{slice_index_or, Option, Some}
@@ -16,7 +16,7 @@ use Rattle.sedre.specs.declared.packed.Shape.TheVariants as shape
 abbrev pub id : ℕ → NodeId
 id n = record { index = n }
 
--- the node at the index x: its parts stand so many places before it
+-- the node at the index x: its parts are so many places before it
 abbrev pub node_of : List (List Bool) → ℕ → Shape → ℕ → ℕ → Node
 node_of sets x shape.Empty left right = node.Empty
 node_of sets x shape.Set left right = node.Set (slice_index_or sets left [])
@@ -36,7 +36,7 @@ abbrev pub nodes_from : List (List Bool) → ℕ → List Entry → List Node
 nodes_from sets x [] = []
 nodes_from sets x (e ∷ es) = node_at sets x e ∷ nodes_from sets (x + 1) es
 
--- a set's number is that of a set, and parts stand among the nodes
+-- a set's number is that of a set, and parts are among the nodes
 abbrev pub FitsShape : List (List Bool) → ℕ → Shape → ℕ → ℕ → Type 0
 FitsShape sets x shape.Empty left right = Unit {0}
 FitsShape sets x shape.Set left right = left < length sets
@@ -81,7 +81,7 @@ HasNumber sets number other = Unit {0}
 abbrev pub AddsSets : List (List Bool) → List (List Bool) → Type 0
 AddsSets old new = (more : List (List Bool)) × (new ≡ old ++ more)
 
--- the node's parts stand before the index x
+-- the node's parts come before the index x
 abbrev pub PartsBelow : ℕ → Node → Type 0
 PartsBelow x (node.Seq a b) = (a.index < x) × (b.index < x)
 PartsBelow x (node.Alt a b) = (a.index < x) × (b.index < x)

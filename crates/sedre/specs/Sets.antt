@@ -25,8 +25,8 @@ abbrev pub only : ℕ → List Bool
 only b = set_of (λ c. c == b)
 
 -- each byte but 0 (XBD 9.3.4; that 0 is left out: its NUL)
-abbrev pub any_byte : List Bool
-any_byte = set_of (λ c. not (c == 0))
+abbrev pub any_but_zero : List Bool
+any_but_zero = set_of (λ c. not (c == 0))
 
 -- the bytes of either set
 abbrev pub union : List Bool → List Bool → List Bool

@@ -1,5 +1,5 @@
--- Private to the proofs: no contract of a public item cites what stands here.
--- What the reader holds while it reads.
+-- Private to the proofs: no contract of a public item cites what is here.
+-- What the reader keeps while it reads.
 use Rattle.std.specs.Prelude.{◌≡◌, ◌≢◌, ℕ, suc, ◌+◌, ◌-◌, ◌<◌, ◌≤◌, min, take, length, List, [], ◌∷◌, ◌++◌, Bool, true}
 use Rattle.std.specs.Prelude.{false, nat_lt, if◌then◌else◌, Option, Some, None}
 use Rattle.sedre.specs.declared.types.Node.{Node}
@@ -12,8 +12,8 @@ use Rattle.sedre.specs.declared.parts.Cover.TheVariants as cover
 use Rattle.sedre.specs.declared.stack.Stack.{Stack}
 use Rattle.sedre.specs.declared.builder.Builder.{Builder}
 use Rattle.sedre.specs.Packed.{id, PartsBelow}
-use Rattle.sedre.specs.Tree.{Tree, empty, set, begin, end, seq, alt, group, star, opt}
-use Rattle.sedre.specs.Sizes.{size, depth, without_alternation, concatenation, alternation, repetition}
+use Rattle.sedre.specs.Tree.{Tree, empty, set, begin, end, seq, alt, group, star, opt, size}
+use Rattle.sedre.specs.Grammar.{depth, without_alternation, concatenation, alternation, repetition}
 
 -- the finished alternatives of an open group, and the pieces of the one that is read
 pub record Level : Type 0 where
@@ -129,7 +129,7 @@ last_end [] = 0
 last_end (p ∷ []) = p.end
 last_end (p ∷ q ∷ ps) = last_end (q ∷ ps)
 
--- the stack holds these trees: the nodes of those that fit, and of each its measures
+-- the stack contains these trees: the nodes of those that fit, and of each its measures
 pub record Stored (limit : ℕ) (s : Stack) (ts : List Tree) : Type 0 where
   pub limit_is : s.limit ≡ limit
   pub nodes_are : s.nodes ≡ written 0 (fitting limit 0 ts)
@@ -198,7 +198,7 @@ abbrev pub IsInterval : ℕ → Option ℕ → Type 0
 IsInterval least None = Unit {0}
 IsInterval least (Some most) = least ≤ most
 
--- the item may stand here
+-- the item may come here
 abbrev pub CanTake : Item → Nesting → Type 0
 CanTake Close s = s.below ≢ []
 CanTake (Repeat least most) s = (s.top.pieces ≢ []) × IsInterval least most

@@ -1,5 +1,5 @@
 -- Expressions written out as trees, and an expression as a list of nodes, each after its parts, with the tree that it is.
-use Rattle.std.specs.Prelude.{ℕ, List, Bool, zero, suc, slice_get, ◌-◌, length}
+use Rattle.std.specs.Prelude.{ℕ, List, Bool, zero, suc, ◌+◌, slice_get, ◌-◌, length}
 use Rattle.std.specs.Option.{option_map_or}
 use Rattle.sedre.specs.Types.{Node, Empty, Set, Begin, End, Seq, Alt, Group, Star, Opt}
 
@@ -11,9 +11,18 @@ pub data Tree : Type 0 where
   seq : Tree → Tree → Tree  -- one after the other
   alt : Tree → Tree → Tree  -- either
   group : ℕ → Tree → Tree  -- a group and its number
-  -- any number of copies, and at most one; the mark, this project's own, says that no copy stands before it
+  -- any number of copies, and at most one; the mark, this project's own, says that no copy comes before it
   star : Tree → Bool → Tree
   opt : Tree → Bool → Tree
+
+-- how many nodes it has
+abbrev pub size : Tree → ℕ
+size (seq a b) = 1 + size a + size b
+size (alt a b) = 1 + size a + size b
+size (group k a) = 1 + size a
+size (star a first) = 1 + size a
+size (opt a first) = 1 + size a
+size other = 1
 
 -- what a contract sees of an expression
 pub record WrittenExpression : Type 0 where

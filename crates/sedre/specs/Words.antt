@@ -1,4 +1,4 @@
--- Private to the proofs: no contract of a public item cites what stands here.
+-- Private to the proofs: no contract of a public item cites what is here.
 -- A set of bytes as four words of 64 bits: bit b % 64 of word b / 64 stands for the byte b.
 use Rattle.std.specs.Prelude.{ℕ, zero, suc, ◌+◌, ◌*◌, ◌/◌, ◌%◌, ◌^◌, ◌<◌, Bool, eqb, List, [], ◌∷◌, slice_index_or}
 use Rattle.std.specs.Prelude.{if◌then◌else◌}

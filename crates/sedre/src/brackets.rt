@@ -34,7 +34,7 @@ fn end_of(element: Element) -> Option<u8>
 }
 
 /// The bytes of a range with these ends, which begins at `place`; a fault there where one of them is missing, they
-/// stand in the wrong order, or the range `goes_on` with a further `-`.
+/// come in the wrong order, or the range `goes_on` with a further `-`.
 fn between_ends(
     place: usize,
     first: Option<u8>,
@@ -53,7 +53,7 @@ fn between_ends(
     }
 }
 
-/// The bytes of a range between two elements, which stand at `place` and `at`, or its first fault. It `goes_on` where a
+/// The bytes of a range between two elements, which are at `place` and `at`, or its first fault. It `goes_on` where a
 /// further `-` and an element follow.
 fn range(
     place: usize,
@@ -75,7 +75,7 @@ fn range(
     }
 }
 
-/// Whether `-` and a further element stand at `at`.
+/// Whether `-` and a further element are at `at`.
 fn is_range_at(text: &[u8], at: usize) -> bool
     requires { at ≤ length text.now }
     ensures is { result ≡ is_range (drop at text.now) }
@@ -103,7 +103,7 @@ fn members_at(delimiter: Option<u8>, text: &[u8], at: usize) -> Result<(ByteSet,
     Ok((range(at, first, next + 1, last, goes_on)?, end))
 }
 
-/// Whether the list whose `[` stands before a place is a non-matching one.
+/// Whether the list whose `[` is before a place is a non-matching one.
 fn is_negated(text: &[u8], at: usize) -> bool
     requires { at ≤ length text.now }
     ensures { result ≡ begins (drop at text.now) 94 }
@@ -144,7 +144,7 @@ fn matched(folded: bool, negated: bool, set: ByteSet) -> ByteSet
     }
 }
 
-/// The bytes that the bracket expression matches whose `[` stands at `at`, and the place after its `]`.
+/// The bytes that the bracket expression matches whose `[` is at `at`, and the place after its `]`.
 /// With a delimiter, a backslash and the delimiter are the delimiter as a literal. Where it is `folded`, each letter
 /// that is listed stands for both its cases, before `^` takes the other bytes.
 ///
@@ -182,7 +182,7 @@ pub fn list_at(
     })
 }
 
-/// The place after the bracket expression whose `[` stands at `at`, whatever it lists; None where it isn't closed.
+/// The place after the bracket expression whose `[` is at `at`, whatever it lists; None where it isn't closed.
 pub fn list_end(delimiter: Option<u8>, text: &[u8], at: usize) -> Option<usize>
     requires { at < length text.now }
     ensures is { result ≡ list_end delimiter (at + 1) (drop (at + 1) text.now) }

@@ -37,7 +37,8 @@ impl Builder {
         }
     }
 
-    /// Adds a piece without parts.
+    /// Adds a piece without parts. What the stack promises of its trees is here made a promise on the groups that are open,
+    /// once for the three items that are such pieces.
     fn leaf(&mut self, node: Node) -> Result<(), AllocError>
         ensures state { OnOk result ((limit : ℕ) (s : Nesting) (t : Tree) → IsLeaf node t → Represents limit self.old s →
             Represents limit self.new (record { opened = s.opened; top = with_piece t s.top; below = s.below })) }
@@ -88,7 +89,7 @@ impl Builder {
         Ok(())
     }
 
-    /// Repeats the last piece.
+    /// Repeats the last piece. Apart from `take`, which is a table of calls that all promise the same of their item.
     fn repeat(&mut self, least: u8, most: Option<u8>) -> Result<(), AllocError>
         requires some { 1 ≤ vec_len self.old.stack.parts }
         requires order { IsInterval least most }

@@ -1,8 +1,8 @@
-//! Sets of bytes, as a node of an expression holds them.
+//! Sets of bytes, as a node of an expression has them.
 ghost use Rattle.std.specs.Prelude.{◌≡◌, ◌≢◌, ◌||◌, ℕ, ◌<◌, ◌-◌, ◌+◌, ◌*◌, ◌/◌, ◌%◌, ◌↔◌, eqb, max, false, slice_get};
 ghost use Rattle.std.specs.Prelude.{slice_index_or, IfSome, MatchOption, IsTrue};
 ghost use Rattle.std.specs.Int.{bit_at};
-ghost use Rattle.sedre.specs.Sets.{set_of, has, only, any_byte, no_byte, between, union, complement, other_case, folded_set, matching, in_class};
+ghost use Rattle.sedre.specs.Sets.{set_of, has, only, any_but_zero, no_byte, between, union, complement, other_case, folded_set, matching, in_class};
 ghost use Rattle.sedre.specs.Words.{words_of};
 
 use crate::class::Class;
@@ -52,7 +52,7 @@ impl ByteSet {
 
     /// Each byte but 0, as `.` matches them (XBD 9.3.4).
     pub(crate) fn any() -> Self
-        ensures { result ≡ any_byte }
+        ensures { result ≡ any_but_zero }
     {
         ByteSet::only(0).complement()
     }

@@ -28,7 +28,7 @@ fn is(bytes: &[u8], word: &str) -> bool
 }
 
 impl Class {
-    /// The class of this name, which stands between `[:` and `:]`, if there is one.
+    /// The class of this name, which is between `[:` and `:]`, if there is one.
     pub fn named(name: &[u8]) -> Option<Class>
         ensures { result ≡ class_named name.now }
     {

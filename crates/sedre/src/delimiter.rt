@@ -1,4 +1,4 @@
-//! Where an expression ends that stands between delimiters (XCU sed, "Regular Expressions in sed").
+//! Where an expression between delimiters ends (XCU sed, "Regular Expressions in sed").
 ghost use Rattle.std.specs.Prelude.{◌≡◌, ◌≢◌, ◌<◌, ◌≤◌, ◌+◌, ◌==◌, length, drop, IfSome};
 ghost use Rattle.std.specs.List.{list_any};
 ghost use Rattle.sedre.specs.Brackets.{delimiter_at, next_place};
@@ -32,7 +32,7 @@ pub fn delimited(text: &[u8], at: usize, delimiter: u8) -> Option<usize>
     None
 }
 
-/// The place after what stands at `at`: an escape, a bracket expression or a byte; None where the text ends before
+/// The place after what is at `at`: an escape, a bracket expression or a byte; None where the text ends before
 /// that.
 fn next_place(text: &[u8], at: usize, delimiter: u8) -> Option<usize>
     requires { at < length text.now }
@@ -47,7 +47,7 @@ fn next_place(text: &[u8], at: usize, delimiter: u8) -> Option<usize>
     }
 }
 
-/// Whether a newline stands in the bytes.
+/// Whether a newline is in the bytes.
 fn has_newline(bytes: &[u8]) -> bool
     ensures { result ≡ list_any (λ b. b == 10) bytes.now }
 {

@@ -1,6 +1,6 @@
 //! The elements of a bracket expression (XBD 9.3.5).
 ghost use Rattle.std.specs.Prelude.{◌≡◌, ◌<◌, ◌≤◌, ◌+◌, ◌^◌, length, drop, IfSome};
-ghost use Rattle.sedre.specs.Brackets.{before_closing, content, form, form_of, element};
+ghost use Rattle.sedre.specs.Brackets.{before_closing, content, form, form_of, front_element};
 
 use crate::class::Class;
 use crate::types::Reason;
@@ -18,13 +18,13 @@ pub enum Element {
     Equivalent(u8),
     /// A collating symbol, `[.x.]`.
     Collating(u8),
-    /// A form that names no class, or that holds more than one byte.
+    /// A form that names no class, or that contains more than one byte.
     Wrong(Reason),
     /// A form that isn't closed. Nothing follows it.
     Unclosed,
 }
 
-/// How many bytes stand before the first `closing` that a `]` follows, if there is one.
+/// How many bytes come before the first `closing` that a `]` follows, if there is one.
 fn before_closing(closing: u8, bytes: &[u8]) -> Option<usize>
     ensures is { result ≡ before_closing closing bytes.now }
     ensures within { IfSome result (λ n. n + 1 < length bytes.now) }
@@ -39,7 +39,7 @@ fn before_closing(closing: u8, bytes: &[u8]) -> Option<usize>
     None
 }
 
-/// The element of a form of this kind, `:`, `=` or `.`, that holds these bytes.
+/// The element of a form of this kind, `:`, `=` or `.`, that contains these bytes.
 fn form_of(kind: u8, held: &[u8]) -> Element
     ensures { result ≡ form_of kind held.now }
 {
@@ -72,7 +72,7 @@ fn form(kind: u8, bytes: &[u8]) -> (Element, usize)
 /// The element of a list at `at`, and how many bytes it has.
 pub fn element_at(delimiter: Option<u8>, text: &[u8], at: usize) -> (Element, usize)
     requires { at < length text.now }
-    ensures is { result ≡ element delimiter (drop at text.now) }
+    ensures is { result ≡ front_element delimiter (drop at text.now) }
     ensures width { (0 < result.1) × (at + result.1 ≤ length text.now) }
 {
     match &text[at..] {

@@ -3,7 +3,7 @@ ghost use Rattle.std.specs.Prelude.{◌≡◌, ◌≤◌, ◌+◌, min, length, 
 ghost use Rattle.std.specs.List.{prefix_len};
 ghost use Rattle.std.specs.Bool.{OnTrue};
 ghost use Rattle.sedre.specs.Sets.{is_digit};
-ghost use Rattle.sedre.specs.Items.{decimal, numeral, closes, closing_width, limit, interval};
+ghost use Rattle.sedre.specs.Items.{decimal, numeral, closes, closing_width, limit, front_interval};
 ghost use Rattle.sedre.specs.Brackets.{begins};
 
 use crate::types::Kind;
@@ -16,7 +16,7 @@ pub struct Interval {
     pub width: usize,
 }
 
-/// How many digits stand at the front.
+/// How many digits are at the front.
 fn digits(front: &[u8]) -> usize
     ensures is { result ≡ prefix_len is_digit front.now }
     ensures within { result ≤ length front.now }
@@ -35,7 +35,7 @@ fn decimal(digits: &[u8]) -> u16
     value
 }
 
-/// The number at the front and how many digits it has, if one stands there that is at most 255.
+/// The number at the front and how many digits it has, if one is there that is at most 255.
 fn numeral(front: &[u8]) -> Option<(u8, usize)>
     ensures is { result ≡ numeral front.now }
     ensures within { IfSome result (λ found. found.1 ≤ length front.now) }
@@ -49,7 +49,7 @@ fn numeral(front: &[u8]) -> Option<(u8, usize)>
     }
 }
 
-/// Whether this byte stands at the front.
+/// Whether this byte is at the front.
 fn begins(front: &[u8], b: u8) -> bool
     ensures { result ≡ begins front.now b }
 {
@@ -112,10 +112,10 @@ fn limit(
     }
 }
 
-/// The interval whose opening stands before `front`, if it is one.
-#[tactic(auto, unfolding(crate::specs::Items::interval))]
+/// The interval whose opening comes before `front`, if it is one.
+#[tactic(auto, unfolding(crate::specs::Items::front_interval))]
 pub fn interval_at(kind: Kind, delimiter: Option<u8>, front: &[u8]) -> Option<Interval>
-    ensures is { result ≡ interval kind delimiter front.now }
+    ensures is { result ≡ front_interval kind delimiter front.now }
     ensures within { IfSome result (λ found. found.width ≤ length front.now) }
 {
     let (least, digits) = numeral(front)?;

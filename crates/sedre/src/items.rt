@@ -1,8 +1,8 @@
-//! Which items stand in a text.
+//! Which items are in a text.
 ghost use Rattle.std.specs.Prelude.{◌≡◌, ◌<◌, ◌≤◌, ◌+◌, length};
 ghost use Rattle.std.specs.Option.{ForSome};
 ghost use Rattle.sedre.specs.Sets.{only};
-ghost use Rattle.sedre.specs.Items.{symbol, interval, is_first, is_repeatable, is_repeat, ends_alternative, fault, repeats, interval_item, list_item, star_item, question_item, anchor_item, item_at};
+ghost use Rattle.sedre.specs.Items.{front_symbol, front_interval, is_first, is_repeatable, is_repeat, ends_alternative, fault, repeats, interval_item, list_item, star_item, question_item, anchor_item, item_at};
 ghost use Rattle.sedre.specs.Finished.{IsAfter};
 
 use crate::brackets::list_at;
@@ -12,7 +12,7 @@ use crate::symbols::symbol_at;
 use crate::syntax::{Item, NextItem, Symbol};
 use crate::types::{ExprFault, Kind, Reason};
 
-/// Whether an item after this one stands first in its alternative.
+/// Whether an item after this one comes first in its alternative.
 fn is_first(before: &Option<Item>) -> bool
     ensures { result ≡ is_first before.now }
 {
@@ -54,7 +54,7 @@ fn literal(b: u8, next: usize) -> NextItem
     NextItem::Is(Item::Byte(ByteSet::only(b)), next)
 }
 
-/// The repetition, if what stands before it may be repeated; otherwise a fault at `at`.
+/// The repetition, if what comes before it may be repeated; otherwise a fault at `at`.
 fn repeats(may: bool, at: usize, repeat: NextItem) -> NextItem
     ensures { result ≡ repeats may at repeat }
 {
@@ -65,7 +65,7 @@ fn repeats(may: bool, at: usize, repeat: NextItem) -> NextItem
     }
 }
 
-/// The item of a `*` at `at`, where what stands before it may be repeated or may not.
+/// The item of a `*` at `at`, where what comes before it may be repeated or may not.
 fn star_item(kind: Kind, may: bool, at: usize, next: usize) -> NextItem
     ensures { result ≡ star_item kind may at next }
 {
@@ -76,7 +76,7 @@ fn star_item(kind: Kind, may: bool, at: usize, next: usize) -> NextItem
     }
 }
 
-/// The item of a `?` or `\?` at `at`, where what stands before it may be repeated or may not, and is a repetition or
+/// The item of a `?` or `\?` at `at`, where what comes before it may be repeated or may not, and is a repetition or
 /// not.
 fn question_item(kind: Kind, may: bool, repeated: bool, at: usize, next: usize) -> NextItem
     ensures { result ≡ question_item kind may repeated at next }
@@ -119,7 +119,7 @@ fn anchor_item(kind: Kind, stands: bool, b: u8, anchor: Item, next: usize) -> Ne
     }
 }
 
-/// What stands at `at` after the item `before`, if one stands before it. Where the text is `folded`, letters match
+/// What is at `at` after the item `before`, if one comes before it. Where the text is `folded`, letters match
 /// without regard to case.
 #[tactic(auto, unfolding(crate::specs::Items::item_at))]
 pub fn item_at(

@@ -2,9 +2,8 @@
 ghost use Rattle.std.specs.Prelude.{◌≡◌, ◌≤◌, ℕ, List, length, Bool, Option};
 ghost use Rattle.sedre.specs.declared.types.Kind.{Kind};
 ghost use Rattle.sedre.specs.declared.types.Reason.{Reason};
-ghost use Rattle.sedre.specs.Tree.{Tree};
-ghost use Rattle.sedre.specs.Sizes.{size, depth};
-ghost use Rattle.sedre.specs.Grammar.{ReadsAs, ExprFaulty};
+ghost use Rattle.sedre.specs.Tree.{Tree, size};
+ghost use Rattle.sedre.specs.Grammar.{depth, ReadsAs, ExprFaulty};
 
 /// A text reads as one expression at most, with one number of groups, and as one at most where letters match without
 /// regard to case.
@@ -31,7 +30,7 @@ pub fn one_fault()
         (place ≡ more) × (reason ≡ other) }
 {}
 
-/// The first fault of a text is told in the text or at its end.
+/// The first fault of a text is in the text or at its end.
 pub fn fault_within()
     ensures { (kind : Kind) (delimiter : Option ℕ) (text : List ℕ) (max_nodes place : ℕ) (reason : Reason) →
         ExprFaulty kind delimiter text max_nodes place reason → place ≤ length text }

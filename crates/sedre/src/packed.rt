@@ -26,7 +26,7 @@ pub enum Shape {
     Opt(bool),
 }
 
-/// What is kept of a node: for a set its number, for a group its number, and for a part how many places it stands
+/// What is kept of a node: for a set its number, for a group its number, and for a part how many places it is
 /// before the node. So a copy of some nodes is a copy of their entries.
 #[derive(Clone, Copy)]
 pub struct Entry {
@@ -227,7 +227,7 @@ impl Packed {
         &self.sets
     }
 
-    /// The node at an index.
+    /// The node at an index. By the invariant its entry fits the sets, as `node_at` asks, so no caller shows that.
     pub fn get(&self, index: usize) -> Node
         requires { index < length self.now }
         ensures { slice_get self.now index ≡ Some result }
@@ -235,7 +235,8 @@ impl Packed {
         node_at(&self.sets, index, self.entries[index])
     }
 
-    /// Adds a node. It is kept as it is if its parts stand before it.
+    /// Adds a node. It is kept as it is if its parts come before it. `add` goes over the fields, so that the invariant is
+    /// shown here and not at each of its exits.
     pub fn push(&mut self, node: Node) -> Result<(), AllocError>
         ensures { OnOk result (PartsBelow (length self.old) node → self.new ≡ self.old ++ node ∷ []) }
     {

@@ -4,8 +4,7 @@ ghost use Rattle.std.specs.Prelude.{OnOk, IfOk, IfErr, vec_len};
 ghost use Rattle.std.specs.Bool.{OnTrue, OnFalse};
 ghost use Rattle.sedre.specs.declared.types.Reason.{Reason};
 ghost use Rattle.sedre.specs.Grammar.{ReadsAs, FaultyWith, ExprFaulty};
-ghost use Rattle.sedre.specs.Tree.{expression_tree};
-ghost use Rattle.sedre.specs.Sizes.{size};
+ghost use Rattle.sedre.specs.Tree.{size, expression_tree};
 ghost use Rattle.sedre.specs.Stacks.{Nesting, Represents, whole_level};
 ghost use Rattle.sedre.specs.Finished.{GroupsNumbered, IsFinished, IsOverLimit};
 

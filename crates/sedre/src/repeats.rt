@@ -7,7 +7,7 @@ use crate::stack::Stack;
 use crate::types::Node;
 use std::alloc::AllocError;
 
-/// Whether an optional copy that holds `held` others is the outermost of `count + 1`, in a repetition where it is
+/// Whether an optional copy that contains `held` others is the outermost of `count + 1`, in a repetition where it is
 /// `first`.
 fn is_first(first: bool, held: usize, count: usize) -> bool
     ensures { result ≡ (first && nat_eq held count) }
@@ -17,7 +17,7 @@ fn is_first(first: bool, held: usize, count: usize) -> bool
 
 impl Stack {
     ghost use Rattle.sedre.specs.Tree.{Tree};
-    ghost use Rattle.sedre.specs.Sizes.{copies, optional, repetition};
+    ghost use Rattle.sedre.specs.Grammar.{copies, optional, repetition};
     ghost use Rattle.sedre.specs.Stacks.{Stored, LastBecomes, IsInterval};
 
     /// Puts `count` copies of the last tree after it.
@@ -33,7 +33,7 @@ impl Stack {
         Ok(())
     }
 
-    /// Makes the last `count + 1` trees optional copies, each of which holds the next.
+    /// Makes the last `count + 1` trees optional copies, each of which contains the next.
     fn nest(&mut self, count: usize, first: bool) -> Result<(), AllocError>
         requires { count + 1 ≤ vec_len self.old.parts }
         ensures trees { OnOk result ((limit : ℕ) (ts : List Tree) (a : Tree) →

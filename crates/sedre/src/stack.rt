@@ -59,8 +59,8 @@ pub struct Stack {
 }
 
 impl Stack {
-    ghost use Rattle.sedre.specs.Tree.{Tree};
-    ghost use Rattle.sedre.specs.Sizes.{size, depth, concatenation};
+    ghost use Rattle.sedre.specs.Tree.{Tree, size};
+    ghost use Rattle.sedre.specs.Grammar.{depth, concatenation};
     ghost use Rattle.sedre.specs.Packed.{shifted};
     ghost use Rattle.sedre.specs.Stacks.{Stored, LastBecomes, JoinsTrees, IsLeaf, Puts, last_end, pair, chain, covered};
 

@@ -1,11 +1,11 @@
-//! Which symbols stand in a text.
+//! Which symbols are in a text.
 ghost use Rattle.std.specs.Prelude.{◌≡◌, ◌<◌, ◌≤◌, ◌+◌, ℕ, List, [], ◌∷◌, None, Some, length, drop, IfSome};
-ghost use Rattle.sedre.specs.Items.{operator, alone, alone_in_both, escaped, escaped_literal, symbol};
+ghost use Rattle.sedre.specs.Items.{operator, alone, alone_in_both, escaped, escaped_literal, front_symbol};
 
 use crate::syntax::Symbol;
 use crate::types::{Kind, Reason};
 
-/// An operator that stands without a backslash in an extended expression and after one in a basic one, else `other`.
+/// An operator that has no backslash in an extended expression and after one in a basic one, else `other`.
 fn operator(b: u8, other: Symbol) -> Symbol
     ensures { result ≡ operator b other }
 {
@@ -20,7 +20,7 @@ fn operator(b: u8, other: Symbol) -> Symbol
     }
 }
 
-/// The symbols that both kinds share, where no backslash stands before them; any other byte is a literal here.
+/// The symbols that both kinds share, where no backslash comes before them; any other byte is a literal here.
 fn alone_in_both(b: u8) -> Symbol
     ensures { result ≡ alone_in_both b }
 {
@@ -34,7 +34,7 @@ fn alone_in_both(b: u8) -> Symbol
     }
 }
 
-/// What a byte means that no backslash stands before.
+/// What a byte means with no backslash before it.
 fn alone(kind: Kind, b: u8) -> Symbol
     ensures { result ≡ alone kind b }
 {
@@ -72,7 +72,7 @@ fn escaped(kind: Kind, b: u8) -> Symbol
 
 /// The symbol of the last byte of a text.
 fn last(kind: Kind, b: u8) -> Symbol
-    ensures { symbol kind None (b ∷ []) ≡ Some (result, 1) }
+    ensures { front_symbol kind None (b ∷ []) ≡ Some (result, 1) }
 {
     if b == b'\\' {
         Symbol::Unknown(Reason::LastBackslash)
@@ -83,7 +83,7 @@ fn last(kind: Kind, b: u8) -> Symbol
 
 /// The symbol of the byte `b`, which `c` follows, and how many bytes it has.
 fn before(kind: Kind, delimiter: Option<u8>, b: u8, c: u8) -> (Symbol, usize)
-    ensures symbol { (rest : List ℕ) → symbol kind delimiter (b ∷ c ∷ rest) ≡ Some result }
+    ensures symbol { (rest : List ℕ) → front_symbol kind delimiter (b ∷ c ∷ rest) ≡ Some result }
     ensures width { (0 < result.1) × (result.1 ≤ 2) }
 {
     if b != b'\\' {
@@ -103,7 +103,7 @@ pub fn symbol_at(
     at: usize,
 ) -> Option<(Symbol, usize)>
     requires { at ≤ length text.now }
-    ensures symbol { result ≡ symbol kind delimiter (drop at text.now) }
+    ensures symbol { result ≡ front_symbol kind delimiter (drop at text.now) }
     ensures width { IfSome result (λ found. (0 < found.1) × (at + found.1 ≤ length text.now)) }
 {
     match &text[at..] {

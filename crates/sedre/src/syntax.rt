@@ -2,7 +2,7 @@
 use crate::byte_set::ByteSet;
 use crate::types::{ExprFault, Reason};
 
-/// What one or two bytes mean, wherever they stand.
+/// What one or two bytes mean, wherever they occur.
 #[derive(Clone, Copy)]
 pub enum Symbol {
     Literal(u8),
@@ -40,7 +40,7 @@ pub enum Item {
     AtEnd,
 }
 
-/// What stands at a place of a text.
+/// What is at a place of a text.
 #[derive(Clone, Copy)]
 pub enum NextItem {
     /// an item, and the place after it

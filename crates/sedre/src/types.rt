@@ -20,18 +20,18 @@ pub enum Reason {
     OpenBracket,
     /// E2: the name of a character class is unknown
     UnknownClass,
-    /// E3: more than one byte stands in `[.` or `[=`
+    /// E3: more than one byte is in `[.` or `[=`
     LongCollating,
     /// E4: a range is invalid: an end of it is no single byte, as a class or `[=a=]`, its last byte lies before its
     /// first, or it goes on as `a-c-e` does
     BadRange,
     /// E5: a group isn't closed
     OpenGroup,
-    /// E6: a closing stands where no group is open
+    /// E6: a closing comes where no group is open
     StrayClose,
     /// E7: an interval is malformed
     BadInterval,
-    /// E8: nothing stands before a repetition that it could repeat; with ERE also a `?` directly after a repetition
+    /// E8: nothing comes before a repetition that it could repeat; with ERE also a `?` directly after a repetition
     NothingToRepeat,
     /// E9: a backslash is the last byte
     LastBackslash,
@@ -139,7 +139,7 @@ pub enum Node {
     Alt(NodeId, NodeId),
     /// a group and its number, from 1
     Group(usize, NodeId),
-    /// any number of copies; the mark is true where no copy of its repetition stands before it
+    /// any number of copies; the mark is true where no copy of its repetition comes before it
     Star(NodeId, bool),
     /// at most one copy; the mark as for `Star`
     Opt(NodeId, bool),

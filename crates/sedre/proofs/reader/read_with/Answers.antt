@@ -5,7 +5,7 @@ use Rattle.sedre.specs.declared.syntax.Item.TheVariants.{Close}
 use Rattle.sedre.specs.declared.syntax.NextItem.{NextItem}
 use Rattle.sedre.specs.Items.{item_at}
 use Rattle.sedre.specs.Finished.{IsAfter}
-use Rattle.sedre.specs.Sizes.{size}
+use Rattle.sedre.specs.Tree.{size}
 use Rattle.sedre.specs.Stacks.{Nesting, start, step}
 use Rattle.sedre.proofs.Represented.{represents_count}
 use Rattle.sedre.proofs.Reading.{reading_start, reading_step, reading_bad, reading_stray, reading_unclosed, reading_whole}

@@ -1,5 +1,5 @@
 use Rattle.std.proofs.Common.{ℕ, ◌++◌, ◌∷◌, [], ◌≡◌, arith, subst}
-use Rattle.sedre.specs.Sizes.{copies}
+use Rattle.sedre.specs.Grammar.{copies}
 use Rattle.sedre.specs.Stacks.{Stored}
 use Rattle.sedre.proofs.Repeated.{copies_start, copies_step}
 use Rattle.sedre.proofs.stack.Stack.copies.Goals as goal

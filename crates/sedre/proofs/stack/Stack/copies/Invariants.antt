@@ -1,6 +1,6 @@
 use Rattle.std.proofs.Common.{ℕ, ◌≡◌, ◌+◌, ◌++◌, ◌∷◌, [], List, vec_len}
 use Rattle.sedre.specs.Tree.{Tree}
-use Rattle.sedre.specs.Sizes.{copies}
+use Rattle.sedre.specs.Grammar.{copies}
 use Rattle.sedre.specs.Stacks.{Stored}
 use Rattle.sedre.proofs.stack.Stack.copies.Given as goal
 

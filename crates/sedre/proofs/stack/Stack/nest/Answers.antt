@@ -1,6 +1,6 @@
 use Rattle.std.proofs.Common.{ℕ, ◌++◌, ◌-◌, ◌+◌, [], arith, false}
 use Rattle.sedre.specs.Tree.{seq}
-use Rattle.sedre.specs.Sizes.{copies, optional}
+use Rattle.sedre.specs.Grammar.{copies, optional}
 use Rattle.sedre.proofs.Repeated.{nest_start, nest_before, nest_step, nest_end}
 use Rattle.sedre.proofs.stack.Stack.nest.Goals as goal
 

@@ -1,6 +1,6 @@
 use Rattle.std.proofs.Common.{ℕ, ◌≡◌, ◌+◌, ◌-◌, ◌++◌, ◌∷◌, ◌&&◌, [], List, nat_eq, vec_len}
 use Rattle.sedre.specs.Tree.{Tree}
-use Rattle.sedre.specs.Sizes.{copies, optional}
+use Rattle.sedre.specs.Grammar.{copies, optional}
 use Rattle.sedre.specs.Stacks.{Stored}
 use Rattle.sedre.proofs.stack.Stack.nest.Given as goal
 

@@ -1,6 +1,6 @@
 use Rattle.std.proofs.Common.{◌++◌, [], arith, refl, nat_eq, ◌∷◌}
 use Rattle.sedre.specs.Tree.{star}
-use Rattle.sedre.specs.Sizes.{copies}
+use Rattle.sedre.specs.Grammar.{copies}
 use Rattle.sedre.proofs.Stacked.{on_ok_map}
 use Rattle.sedre.proofs.Repeated.{open_end, from_is}
 use Rattle.sedre.proofs.stack.Stack.repeat_from.Goals as goal

@@ -1,5 +1,5 @@
 use Rattle.std.proofs.Common.{◌++◌, ◌-◌, ◌+◌, [], arith, refl, nat_eq}
-use Rattle.sedre.specs.Sizes.{copies, further}
+use Rattle.sedre.specs.Grammar.{copies, further}
 use Rattle.sedre.proofs.Stacked.{on_ok_map}
 use Rattle.sedre.proofs.Repeated.{split_copies, within, from_is}
 use Rattle.sedre.proofs.stack.Stack.repeat_within.Goals as goal
