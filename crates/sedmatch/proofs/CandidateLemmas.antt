@@ -10,8 +10,8 @@ use Rattle.sedtext.specs.Bytes.{AreBytes, FirstFrom}
 use Rattle.sedtext.specs.Beginnings.{AllBegin}
 use Rattle.sedtext.specs.Sieve.{NoneBefore, PassesSieve, StandsAt}
 use Rattle.sedtext.specs.declared.beginnings.Begins.TheVariants.{Before}
-use Rattle.sedtext.specs.Needed.{FirstLiteral, IsNeeded}
-use Rattle.sedtext.specs.declared.needed.RequiredLiteral.{RequiredLiteral}
+use Rattle.sedtext.specs.Required.{FirstLiteral, IsRequired}
+use Rattle.sedtext.specs.declared.required.RequiredLiteral.{RequiredLiteral}
 use Rattle.sedtext.specs.declared.counted.sieve.Fixed.{Fixed}
 use Rattle.sedtext.specs.declared.counted.sieve.Sieve.{Sieve}
 use Rattle.sedmatch.specs.Candidates.{IsBefore, NoMatchBefore}
@@ -67,9 +67,9 @@ first_after P None k end h p le ends = h k (omega arith) p
 first_after P (Some q) k end h p le ends = h.2 k (omega arith) (omega (arith, ends, le)) p
 
 -- the literal that all matches hold
-pub needed_before : (e : Tree) (n : RequiredLiteral) (w : List ℕ) (r : Option ℕ) → IsNeeded e (Some n) → FirstLiteral w n.finder 0 r → NoMatchBefore e w r
-needed_before e n w r needed first = λ before line behind is ends found.
-    let held = needed line found.0 found.1 found.3 found.4 in
+pub required_before : (e : Tree) (n : RequiredLiteral) (w : List ℕ) (r : Option ℕ) → IsRequired e (Some n) → FirstLiteral w n.finder 0 r → NoMatchBefore e w r
+required_before e n w r required first = λ before line behind is ends found.
+    let held = required line found.0 found.1 found.3 found.4 in
     let occurs : OccursAt w n.finder (length before + held.0) = subst (λ (w : List ℕ). OccursAt w n.finder (length before + held.0)) (sym is) (occurs_there before line behind n.finder held.0 held.3) in
     first_after (OccursAt w n.finder) r (length before + held.0) (length before + length line) first occurs (omega (arith, held.3.fits)) ends
 

@@ -8,17 +8,16 @@ use Rattle.sedtext.specs.Answer.{SpanAnswer}
 use Rattle.sedtext.specs.Bytes.{AreBytes}
 use Rattle.sedtext.specs.Costs.{CostsWithin}
 use Rattle.sedtext.specs.Following.{CanEndEarly, PassesOver}
-use Rattle.sedtext.specs.Needed.{IsLiteral, GoesOnAs, FirstLiteral}
+use Rattle.sedtext.specs.Required.{IsLiteral, GoesOnAs, FirstLiteral}
 use Rattle.sedtext.specs.Reach.{At}
 use Rattle.sedtext.specs.Runs.{Repeated}
 use Rattle.sedtext.specs.Spans.{SomeFound}
-use Rattle.sedtext.specs.Times.{FirstTimes}
-use Rattle.sedtext.specs.Word.{WordSpans, AllWord}
-use Rattle.sedtext.specs.declared.needed.Literal.{Literal as Bytes}
-use Rattle.sedmatch.specs.Direct.{FirstSpan, FormSpans, IsDirect, SpannedAs, bytes_looked_at}
+use Rattle.sedtext.specs.FixedRuns.{FirstFixedRun}
+use Rattle.sedtext.specs.declared.required.Literal.{Literal as Bytes}
+use Rattle.sedmatch.specs.Direct.{LiteralSpans, AllLiteral, FirstSpan, FormSpans, IsDirect, SpannedAs, bytes_looked_at}
 use Rattle.sedmatch.specs.Stretches.{Stands, bytes_sought, end_or, width}
 use Rattle.sedmatch.specs.declared.direct.DirectForm.{DirectForm}
-use Rattle.sedmatch.specs.declared.direct.DirectForm.TheVariants.{Stretch, Anchored, Times, Literal}
+use Rattle.sedmatch.specs.declared.direct.DirectForm.TheVariants.{Stretch, Anchored, FixedRun, Literal}
 use Rattle.sedmatch.specs.declared.stretches.Anchoring.{Anchoring}
 use Rattle.sedmatch.specs.declared.stretches.Anchoring.TheVariants.{AtEnd}
 use Rattle.sedtext.proofs.CountLemmas.{least_less}
@@ -30,15 +29,15 @@ pub none_of : (r : Option ℕ) → is_some r ≡ false → r ≡ None
 none_of None missing = refl
 none_of (Some t) missing = absurd (true≢false missing)
 
-pub all_word : (nodes : List Node) (x last : ℕ) (l : Bytes) (literal : List ℕ) → last ≡ x → literal ≡ l.bytes.items → IsLiteral nodes x l → l.rest ≡ None → AllWord nodes last literal
-all_word nodes x last l literal whole same is none w i j within =
-    subst (λ v. At nodes w last i j ↔ WordSpans v w i j) (sym same) (subst (λ v. At nodes w v i j ↔ WordSpans l.bytes.items w i j) (sym whole) (
+pub all_literal : (nodes : List Node) (x last : ℕ) (l : Bytes) (literal : List ℕ) → last ≡ x → literal ≡ l.bytes.items → IsLiteral nodes x l → l.rest ≡ None → AllLiteral nodes last literal
+all_literal nodes x last l literal whole same is none w i j within =
+    subst (λ v. At nodes w last i j ↔ LiteralSpans v w i j) (sym same) (subst (λ v. At nodes w v i j ↔ LiteralSpans l.bytes.items w i j) (sym whole) (
       (λ at. let h = (is w i j within).0 at in (h.0, sym (subst (GoesOnAs nodes w (i + length l.bytes.items) j) none h.1))),
       (λ h. (is w i j within).1 (h.0, subst (GoesOnAs nodes w (i + length l.bytes.items) j) (sym none) (sym h.1))),
     ))
 
 -- where one of the longest begins and ends
-pub span_times : (members : List Bool) (count : ℕ) (w : List ℕ) (p i j : ℕ) → FirstTimes members count w p (Some i) → j ≡ i + count → FirstSpan (Times members count) w p (Some (i, j))
+pub span_times : (members : List Bool) (count : ℕ) (w : List ℕ) (p i j : ℕ) → FirstFixedRun members count w p (Some i) → j ≡ i + count → FirstSpan (FixedRun members count) w p (Some (i, j))
 span_times members count w p i j here is =
     (here.0, (subst (Repeated members w i) (sym is) here.2, is), omega (arith, is, here.1), (λ k h. omega (arith, h.1, is)), λ h k low lt s. here.3 h low lt (subst (Repeated members w h) s.1 s.0))
 
@@ -49,7 +48,7 @@ span_literal literal w p i j here is =
 -- a match ends where it begins or after it
 ends_on : (form : DirectForm) (w : List ℕ) (i j : ℕ) → FormSpans form w i j → i ≤ j
 ends_on (Stretch t) w i j s = let on = follow_on t.rest w (i + width t.first) j s.1 in omega (arith, on)
-ends_on (Times members count) w i j s = omega (arith, s.1)
+ends_on (FixedRun members count) w i j s = omega (arith, s.1)
 ends_on (Literal literal) w i j s = omega (arith, s.1)
 ends_on (Anchored t ends) w i j s = let on = follow_on t.rest w (i + width t.first) j s.1 in omega (arith, on)
 

@@ -9,7 +9,7 @@ use Rattle.sedre.specs.Tree.{WrittenExpression, Tree}
 use Rattle.sedtext.specs.Costs.{CostsWithin}
 use Rattle.sedtext.specs.Answer.{SpanAnswer}
 use Rattle.sedtext.specs.Following.{EndsWithin, LiesOn, next_span}
-use Rattle.sedtext.specs.Matching.{found, unless_null_at}
+use Rattle.sedtext.specs.Matching.{leftmost_longest, unless_null_at}
 use Rattle.sedpass.proofs.OccurrenceLemmas.{answer_found, passed_by, search_falls}
 use Rattle.sedmatch.specs.Direct.{IsDirect}
 use Rattle.sedmatch.specs.Stretches.{end_or}
@@ -56,16 +56,16 @@ within_at n None at is within = omega (arith, is)
 within_at n (Some q) at is within = omega (arith, is, within)
 
 -- the first occurrence, and one that is behind another or is moved on from the null string there
-pub first_next : (e : Tree) (w : List ℕ) (last : Option ℕ) (at : ℕ) (r : Option (ℕ × ℕ)) → last ≡ None → at ≡ unwrap_or last 0 → SpanAnswer e w at r → r ≡ next_span (found e w) (length w) last
+pub first_next : (e : Tree) (w : List ℕ) (last : Option ℕ) (at : ℕ) (r : Option (ℕ × ℕ)) → last ≡ None → at ≡ unwrap_or last 0 → SpanAnswer e w at r → r ≡ next_span (leftmost_longest e w) (length w) last
 first_next e w None at r is at_is answer = answer_found e w 0 r (omega arith) (subst (λ v. SpanAnswer e w v r) at_is answer)
 first_next e w (Some q) at r is at_is answer = absurd (let h : Some q ≡ None = is in cc)
 
 pub next_by_null : (e : Tree) (w : List ℕ) (last : Option ℕ) (at : ℕ) (first r : Option (ℕ × ℕ)) (b b' : Bool) → last ≡ Some at → at ≤ length w → SpanAnswer e w at first →
     ((other : Option (ℕ × ℕ)) → unless_null_at (λ (f : ℕ × ℕ). f) at first other ≡ (if b then other else first)) → b ≡ b' →
-    r ≡ (if b' then (if nat_lt at (length w) then found e w (at + 1) else None) else first) → r ≡ next_span (found e w) (length w) last
+    r ≡ (if b' then (if nat_lt at (length w) then leftmost_longest e w (at + 1) else None) else first) → r ≡ next_span (leftmost_longest e w) (length w) last
 next_by_null e w last at first r b b' is low answer passed same r_is =
-    let other : Option (ℕ × ℕ) = if nat_lt at (length w) then found e w (at + 1) else None in
-    subst (λ v. r ≡ next_span (found e w) (length w) v) (sym is) (passed_by at first (found e w at) other r b b' (answer_found e w at first low answer) (passed other) same r_is)
+    let other : Option (ℕ × ℕ) = if nat_lt at (length w) then leftmost_longest e w (at + 1) else None in
+    subst (λ v. r ≡ next_span (leftmost_longest e w) (length w) v) (sym is) (passed_by at first (leftmost_longest e w at) other r b b' (answer_found e w at first low answer) (passed other) same r_is)
 
 -- the first look answers
 pub look_paid : (n s t : ℕ) (last : Option ℕ) (at : ℕ) (f : Option (ℕ × ℕ)) → at ≡ unwrap_or last 0 → at ≤ n → CostsWithin s t (4 * (end_or n f + 1)) (4 * at) → IfSome f (LiesOn n last) →

@@ -11,7 +11,7 @@ use Rattle.sedre.specs.Tree.{WrittenExpression, expression_tree, Tree}
 use Rattle.sedtext.specs.Costs.{CostsWithin}
 use Rattle.sedre.specs.Steps.{TakesAtLeast}
 use Rattle.sedtext.specs.Following.{LiesOn, Occurs, bytes_passed, next_span}
-use Rattle.sedtext.specs.Matching.{found}
+use Rattle.sedtext.specs.Matching.{leftmost_longest}
 use Rattle.sedtext.specs.Words.{row_of}
 use Rattle.sedpass.specs.Kept.{KeptRoom, SameSpace}
 use Rattle.sedpass.specs.Search.{Searched, Serves as SearchServes, owed_after as owed_after_search, search_cost, SearchTakes, owed_behind}
@@ -344,7 +344,7 @@ looks_since passed s t u (Some f) grows looks = least_since s t u (passed f) gro
 -- what a search by passes tells
 pub tells : (e : WrittenExpression) (w : List ℕ) (last : Option ℕ) (old mid new : Occurrences) (r : Option (ℕ × ℕ)) (s t : ℕ) → 1 ≤ length e.nodes → Serves e w last old → IsReady e w old mid → IsReady e w mid new →
     (old.is_fresh ≡ false → mid ≡ old) → (IsTrue old.is_fresh → owed_behind (length e.nodes) (length w) mid.seeking 0 + 43 * length e.nodes ≤ 308 * length e.nodes * (length w + 1)) → new.is_fresh ≡ false →
-    r ≡ next_span (found (expression_tree e) w) (length w) last → IfSome r (Occurs (expression_tree e) w last) →
+    r ≡ next_span (leftmost_longest (expression_tree e) w) (length w) last → IfSome r (Occurs (expression_tree e) w last) →
     CostsWithin s t (owed_search (length e.nodes) (length w) last mid.seeking) (owed_after_search (owed_behind (length e.nodes) (length w) new.seeking) r) →
     SearchTakes (length e.nodes) (length w) (unwrap_or last 0) s t r → TellsNext e w last old new s t r
 tells e w last old mid new r s t some serves ready searched same owed used next occurs cost looks = record {

@@ -13,7 +13,7 @@ use Rattle.sedtext.specs.Following.{PassesOver}
 use Rattle.sedtext.specs.Groups.{no_groups}
 use Rattle.sedtext.specs.Spans.{SomeFound, Matches}
 use Rattle.sedtext.proofs.GroupLemmas.{Captures-none, no_groups_at}
-use Rattle.sedtext.specs.Needed.{Narrowed}
+use Rattle.sedtext.specs.Required.{Narrowed}
 use Rattle.sedtext.specs.Reach.{IsLongestFrom}
 use Rattle.sedpass.specs.Decide.{AreGroupTables, AreRoomy, HasDesk, HasSpace, SameRooms}
 use Rattle.sedpass.specs.Kept.{KeptRoom, SameSpace}

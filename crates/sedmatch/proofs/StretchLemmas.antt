@@ -11,7 +11,7 @@ use Rattle.sedmatch.specs.declared.stretches.First.TheVariants.{Nothing, Among, 
 use Rattle.sedmatch.specs.declared.stretches.Anchoring.TheVariants.{AtEnd}
 use Rattle.sedmatch.specs.declared.stretches.Stretch.{Stretch}
 use Rattle.sedtext.proofs.SpanLemmas.{CopiesLead-forward}
-use Rattle.sedtext.proofs.TimesLemmas.{repeated_cut}
+use Rattle.sedtext.proofs.FixedRunLemmas.{repeated_cut}
 
 -- what comes first ends in the text
 pub comes_within : (first : First) (w : List ℕ) (i : ℕ) → ComesFirst first w i → i + width first ≤ length w

@@ -1,21 +1,31 @@
--- Private to the proofs: no contract that `sedmatch` makes public cites what stands here.
--- Expressions whose matches a look at the text tells.
-use Rattle.std.specs.Prelude.{◌≡◌, ℕ, ◌-◌, ◌≤◌, ◌↔◌, List, length, Option, Some, None}
+-- Private to the proofs: no contract that `sedmatch` makes public cites what is here.
+-- Expressions whose matches a look at the text finds.
+use Rattle.std.specs.Prelude.{◌≡◌, ℕ, ◌+◌, ◌-◌, ◌≤◌, ◌↔◌, List, length, Option, Some, None}
+use Rattle.memchr.specs.Find.{OccursAt}
+use Rattle.sedre.specs.declared.types.Node.{Node}
 use Rattle.sedre.specs.Tree.{WrittenExpression, expression_tree, Tree}
 use Rattle.sedtext.specs.Bytes.{AreBytes}
 use Rattle.sedtext.specs.Spans.{Matches}
-use Rattle.sedtext.specs.Times.{HasTimes}
-use Rattle.sedtext.specs.Word.{WordSpans}
+use Rattle.sedtext.specs.Reach.{At}
+use Rattle.sedtext.specs.FixedRuns.{IsFixedRun}
 use Rattle.sedmatch.specs.Stretches.{FirstOf, StretchSpans, bytes_sought}
 use Rattle.sedmatch.specs.declared.direct.DirectForm.{DirectForm}
-use Rattle.sedmatch.specs.declared.direct.DirectForm.TheVariants.{Stretch, Anchored, Times, Literal}
+use Rattle.sedmatch.specs.declared.direct.DirectForm.TheVariants.{Stretch, Anchored, FixedRun, Literal}
+
+-- the literal leads from i to j
+abbrev pub LiteralSpans : List ℕ → List ℕ → ℕ → ℕ → Type 0
+LiteralSpans literal w i j = OccursAt w literal i × (j ≡ i + length literal)
+
+-- the spans of the node x are those of the literal
+abbrev pub AllLiteral : List Node → ℕ → List ℕ → Type 0
+AllLiteral nodes x literal = (w : List ℕ) (i j : ℕ) → i ≤ length w → At nodes w x i j ↔ LiteralSpans literal w i j
 
 -- what matches from i to j
 abbrev pub FormSpans : DirectForm → List ℕ → ℕ → ℕ → Type 0
 FormSpans (Stretch s) w i j = StretchSpans s None w i j
 FormSpans (Anchored s ends) w i j = StretchSpans s (Some ends) w i j
-FormSpans (Times members count) w i j = HasTimes members count w i j
-FormSpans (Literal literal) w i j = WordSpans literal w i j
+FormSpans (FixedRun members count) w i j = IsFixedRun members count w i j
+FormSpans (Literal literal) w i j = LiteralSpans literal w i j
 
 -- the spans of the expression in a text of bytes are these
 abbrev pub SpannedAs : Tree → DirectForm → Type 0

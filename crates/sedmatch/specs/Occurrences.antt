@@ -5,7 +5,7 @@ use Rattle.sedre.specs.Steps.{Takes, TakesAtLeast}
 use Rattle.sedre.specs.Tree.{WrittenExpression, expression_tree}
 use Rattle.sedtext.specs.Costs.{CostsWithin}
 use Rattle.sedtext.specs.Following.{CanEndEarly, Occurs, bytes_passed, next_span}
-use Rattle.sedtext.specs.Matching.{found}
+use Rattle.sedtext.specs.Matching.{leftmost_longest}
 use Rattle.sedpass.specs.Kept.{KeptRoom}
 use Rattle.sedpass.specs.Search.{Serves as SearchServes, owed_behind}
 use Rattle.sedpass.specs.Table.{IsRoomy, IsTable}
@@ -99,9 +99,9 @@ abbrev pub owed_after : ℕ → ℕ → Option (ℕ × ℕ) → Occurrences → 
 owed_after m n None o = 0
 owed_after m n (Some f) o = owed m n (Some f.1) o
 
--- what one call tells: the next occurrence after the last one; what is kept serves on, and pays for the steps
+-- what one call answers: the next occurrence after the last one; what is kept serves on, and pays for the steps
 pub record TellsNext (e : WrittenExpression) (w : List ℕ) (last : Option ℕ) (old new : Occurrences) (before after : ℕ) (r : Option (ℕ × ℕ)) : Type 0 where
-  pub next : r ≡ next_span (found (expression_tree e) w) (length w) last
+  pub next : r ≡ next_span (leftmost_longest (expression_tree e) w) (length w) last
   pub occurs : IfSome r (Occurs (expression_tree e) w last)
   pub serves : ServesOn e w r old new
   pub cost : CostsWithin before after (owed (length e.nodes) (length w) last old) (owed_after (length e.nodes) (length w) r new)

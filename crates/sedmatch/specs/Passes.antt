@@ -1,4 +1,4 @@
--- Private to the proofs: no contract of a public item cites what stands here.
+-- Private to the proofs: no contract of a public item cites what is here.
 -- An expression that is searched by passes, with its tables, and the room for passes.
 use Rattle.std.specs.Prelude.{◌≡◌, ℕ, ◌+◌, ◌-◌, ◌*◌, ◌/◌, ◌≤◌, ◌↔◌, Bool, true, false, List, length, vec_capacity, Option, Some, None, IsTrue}
 use Rattle.sedre.specs.Tree.{WrittenExpression, expression_tree}
@@ -7,7 +7,7 @@ use Rattle.sedtext.specs.Beginnings.{AllBegin}
 use Rattle.sedtext.specs.Caps.{IsReport}
 use Rattle.sedtext.specs.Following.{PassesOver}
 use Rattle.sedtext.specs.Groups.{Groups}
-use Rattle.sedtext.specs.Needed.{IsNeeded}
+use Rattle.sedtext.specs.Required.{IsRequired}
 use Rattle.sedtext.specs.Spans.{SomeFound}
 use Rattle.sedpass.specs.Decide.{AreGroupTables, AreRoomy, HasSpace, found}
 use Rattle.sedpass.specs.Table.{IsRoomy, IsTable}
@@ -35,7 +35,7 @@ back_way = record { mirrored = true; all_starts = true; keeps = true }
 pub record IsSought (e : WrittenExpression) (s : Sought) : Type 0 where
   pub expr : s.prepared.arena.expr ≡ e
   pub begins : AllBegin (expression_tree e) s.begins
-  pub needed : IsNeeded (expression_tree e) s.needed
+  pub required : IsRequired (expression_tree e) s.required
 
 -- the tables, where the expression has some of its own, are for it
 abbrev pub AreOwn : Prepared → Option OwnTables → Type 0
@@ -80,7 +80,7 @@ KeepsDesk old new = IsDesk new × (new.max_text ≡ old.max_text) × (new.max_no
 abbrev pub Prepares : ℕ → Prepared → Type 0
 Prepares m p = (m ≤ p.arena.room) × (m ≤ vec_capacity p.facts)
 
--- What one call tells of an expression in a text, in how many steps.
+-- What one call shows of an expression in a text, in how many steps.
 
 -- whether a match begins at the place or later
 pub record TellsMatch (e : WrittenExpression) (w : List ℕ) (from before after : ℕ) (told : Bool) : Type 0 where

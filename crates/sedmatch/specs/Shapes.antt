@@ -1,5 +1,5 @@
--- Private to the proofs: no contract that `sedmatch` makes public cites what stands here.
--- Which nodes are a stem, and where it stands.
+-- Private to the proofs: no contract that `sedmatch` makes public cites what is here.
+-- Which nodes are a stem, and where it is.
 use Rattle.std.specs.Prelude.{◌≡◌, ℕ, ◌+◌, ◌≤◌, ◌↔◌, Bool, List, length, Option, Some, None}
 use Rattle.sedre.specs.declared.types.Node.{Node}
 use Rattle.sedtext.specs.Bytes.{MemberAt, AreBytes}

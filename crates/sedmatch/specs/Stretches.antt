@@ -1,5 +1,5 @@
--- Private to the proofs: no contract that `sedmatch` makes public cites what stands here.
--- A byte that comes first, or none, and bytes of a set that follow, or none, and where they stand.
+-- Private to the proofs: no contract that `sedmatch` makes public cites what is here.
+-- A byte that comes first, or none, and bytes of a set that follow, or none, and where they are.
 use Rattle.std.specs.Prelude.{◌≡◌, ℕ, ◌+◌, ◌-◌, ◌<◌, ◌≤◌, ◌⊎◌, Bool, List, length, Option, Some, None}
 use Rattle.sedtext.specs.Bytes.{MemberAt}
 use Rattle.sedtext.specs.Few.{FewAt}
@@ -10,7 +10,7 @@ use Rattle.sedmatch.specs.declared.stretches.Anchoring.{Anchoring}
 use Rattle.sedmatch.specs.declared.stretches.Anchoring.TheVariants.{AtStart, AtEnd, Whole, AtEitherEnd}
 use Rattle.sedmatch.specs.declared.stretches.Stretch.{Stretch}
 
--- what comes first stands at the place
+-- what comes first is at the place
 abbrev pub ComesFirst : First → List ℕ → ℕ → Type 0
 ComesFirst Nothing w i = i ≤ length w
 ComesFirst (Among few) w i = FewAt few w i
@@ -26,7 +26,7 @@ abbrev pub Follow : Option (List Bool) → List ℕ → ℕ → ℕ → Type 0
 Follow None w i j = j ≡ i
 Follow (Some members) w i j = Repeated members w i j
 
--- a span from i to j stands where it is anchored, if it is
+-- a span from i to j is where it is anchored, if it is
 abbrev pub Stands : Option Anchoring → List ℕ → ℕ → ℕ → Type 0
 Stands None w i j = Unit {0}
 Stands (Some AtStart) w i j = i ≡ 0

@@ -1,7 +1,7 @@
-//! Direct forms: expressions whose matches a look at the text tells. A byte of a set, a run of such bytes, both, and anchors
+//! Direct forms: expressions whose matches a look at the text finds. A byte of a set, a run of such bytes, both, and anchors
 //! ([`crate::stretches`]), always as many bytes of a set, a literal.
 //!
-//! Where such a match begins is told by its bytes, and where the longest ends by those that follow, so that nothing
+//! Where such a match begins is decided by its bytes, and where the longest ends by those that follow, so that nothing
 //! has to be found out of the expression in a search. What a search costs falls with the place from which it starts: all
 //! matches of a text together cost no more than one pass over it.
 #![tactic(auto, unfolding(sedre::specs::Steps::TakesAtLeast, sedre::specs::Steps::TakesExactly))]
@@ -13,12 +13,11 @@ ghost use Rattle.sedre.specs.Steps.{Takes, TakesAtLeast};
 ghost use Rattle.sedtext.specs.Answer.{SpanAnswer};
 ghost use Rattle.sedtext.specs.Costs.{CostsWithin};
 ghost use Rattle.sedtext.specs.Following.{CanEndEarly};
-ghost use Rattle.sedtext.specs.Word.{AllWord};
 ghost use Rattle.sedmatch.specs.Candidates.{NoMatchBefore};
-ghost use Rattle.sedmatch.specs.Direct.{FirstSpan, IsDirect, SpannedAs, bytes_looked_at};
+ghost use Rattle.sedmatch.specs.Direct.{AllLiteral, FirstSpan, IsDirect, SpannedAs, bytes_looked_at};
 ghost use Rattle.sedmatch.specs.Passes.{TellsMatch};
 ghost use Rattle.sedmatch.specs.Stretches.{end_or};
-ghost use Rattle.sedmatch.specs.declared.direct.DirectForm.TheVariants.{Times, Literal as LiteralForm};
+ghost use Rattle.sedmatch.specs.declared.direct.DirectForm.TheVariants.{FixedRun, Literal as LiteralForm};
 
 use crate::Span;
 use crate::shapes::stretch_of;
@@ -27,11 +26,11 @@ use memchr::memmem::Finder;
 use sedre::{ByteSet, Expr, Steps};
 use sedtext::counted::lookups::find_literal;
 use sedtext::counted::{Text, are_bytes};
-use sedtext::needed::{Literal, literal_from};
-use sedtext::times::{find_times, times_of};
+use sedtext::fixed_runs::{find_fixed_run, fixed_run_of};
+use sedtext::required::{Literal, literal_from};
 use std::alloc::{AllocError, Global};
 
-/// How the matches of an expression look.
+/// The form of the matches of an expression.
 #[derive(Drop)]
 pub enum DirectForm {
     /// A byte, bytes of a set that follow, or both.
@@ -39,7 +38,7 @@ pub enum DirectForm {
     /// The same at the ends of the text.
     Anchored(Stretch, Anchoring),
     /// As many bytes of the set as the number says.
-    Times(ByteSet, usize),
+    FixedRun(ByteSet, usize),
     /// A literal of two bytes or more, as it is sought.
     Literal(Finder<'static>),
 }
@@ -50,7 +49,7 @@ fn literal_of(
     expr: &Expr,
     steps: &mut Steps,
 ) -> Result<Option<Finder<'static>>, AllocError>
-    ensures word { IfOk result (λ r. IfSome r (λ w. AllWord expr.now.nodes (length expr.now.nodes - 1) w)) }
+    ensures literal { IfOk result (λ r. IfSome r (λ w. AllLiteral expr.now.nodes (length expr.now.nodes - 1) w)) }
     ensures cost { Takes steps.old steps.new 196611 }
 {
     let root = expr.root().index();
@@ -70,7 +69,7 @@ pub(crate) fn is_expression(expr: &Expr)
     let (_groups, _nodes) = (expr.groups(), expr.nodes());
 }
 
-/// How the matches of the expression look, if a look at the text tells them.
+/// The form of the matches of the expression, if a look at the text finds them.
 fn form_of(alloc: Global, expr: &Expr, steps: &mut Steps) -> Result<Option<DirectForm>, AllocError>
     ensures form { IfOk result (λ r. IfSome r (SpannedAs (expression_tree expr.now))) }
     ensures cost { Takes steps.old steps.new 262172 }
@@ -82,8 +81,8 @@ fn form_of(alloc: Global, expr: &Expr, steps: &mut Steps) -> Result<Option<Direc
     if let Some(finder) = literal_of(alloc, expr, steps)? {
         return Ok(Some(DirectForm::Literal(finder)));
     }
-    match times_of(alloc, expr, steps)? {
-        Some((set, count)) => Ok(Some(DirectForm::Times(set, count))),
+    match fixed_run_of(alloc, expr, steps)? {
+        Some((set, count)) => Ok(Some(DirectForm::FixedRun(set, count))),
         None => Ok(None),
     }
 }
@@ -105,7 +104,7 @@ pub fn direct_form_of(
 
 /// The first bytes of the set from `from` on, as many as the number says.
 #[inline(always)]
-fn times_span(
+fn fixed_run_span(
     set: &ByteSet,
     count: usize,
     text: &Text,
@@ -113,17 +112,17 @@ fn times_span(
     steps: &mut Steps,
 ) -> Option<Span>
     requires from { from ≤ length text.now }
-    ensures span { FirstSpan (Times set.now count) text.now from result }
+    ensures span { FirstSpan (FixedRun set.now count) text.now from result }
     ensures cost { CostsWithin steps.old steps.new (4 * (end_or (length text.now) result + 1)) (4 * from) }
     ensures counts { IfSome result (λ f. TakesAtLeast steps.old steps.new (f.1 - from)) }
 {
-    match find_times(set, count, text, from, steps) {
+    match find_fixed_run(set, count, text, from, steps) {
         None => None,
         Some(start) => Some((start, text.after(start, count))),
     }
 }
 
-/// The literal where it stands first from `from` on.
+/// The literal where it first occurs from `from` on.
 #[inline(always)]
 fn literal_span(finder: &Finder, text: &Text, from: usize, steps: &mut Steps) -> Option<Span>
     requires from { from ≤ length text.now }
@@ -149,7 +148,7 @@ fn form_span(form: &DirectForm, text: &Text, from: usize, steps: &mut Steps) -> 
     match form {
         DirectForm::Stretch(stretch) => stretch_span(stretch, text, from, steps),
         DirectForm::Anchored(stretch, ends) => anchored_span(stretch, *ends, text, from, steps),
-        DirectForm::Times(set, count) => times_span(set, *count, text, from, steps),
+        DirectForm::FixedRun(set, count) => fixed_run_span(set, *count, text, from, steps),
         DirectForm::Literal(finder) => literal_span(finder, text, from, steps),
     }
 }
@@ -188,6 +187,6 @@ pub fn direct_candidate(form: &DirectForm, text: &Text, steps: &mut Steps) -> Op
         DirectForm::Stretch(stretch) => stretch.first.find(text, 0, steps),
         DirectForm::Anchored(stretch, _) => stretch.first.find(text, 0, steps),
         DirectForm::Literal(finder) => find_literal(text, finder, 0, steps),
-        DirectForm::Times(_, _) => Some(0),
+        DirectForm::FixedRun(_, _) => Some(0),
     }
 }

@@ -4,7 +4,7 @@ ghost use Rattle.std.specs.Option.{unwrap_or};
 ghost use Rattle.sedre.specs.Tree.{WrittenExpression, expression_tree};
 ghost use Rattle.sedtext.specs.Costs.{CostsWithin};
 ghost use Rattle.sedtext.specs.Following.{EndsWithin, Occurs, next_span};
-ghost use Rattle.sedtext.specs.Matching.{found};
+ghost use Rattle.sedtext.specs.Matching.{leftmost_longest};
 ghost use Rattle.sedpass.specs.Search.{MaySearch, Searched, owed_after as owed_after_search, SearchTakes, owed_behind};
 ghost use Rattle.sedpass.specs.Table.{IsAhead, SameShape};
 ghost use Rattle.sedpass.specs.declared.table.Table.{Table};
@@ -22,7 +22,7 @@ use sedpass::table::Table;
 use sedpass::width::width_for;
 use sedre::Steps;
 use sedtext::counted::Text;
-use sedtext::needed::skip_to_literal;
+use sedtext::required::skip_to_literal;
 use std::alloc::{AllocError, Global};
 
 /// How many expressions have a table of their own at most.
@@ -35,7 +35,7 @@ const OWN_STATES: usize = 513;
 ///
 /// A search that goes from each place where a match can begin may look far past the match that it finds, so that a search for each
 /// occurrence could cost steps in the square of the text's length. Where the searches in a text went over many places that are in no
-/// match, one pass from the text's end is made, of which the state of each place is kept: it tells where matches begin and how far one
+/// match, one pass from the text's end is made, of which the state of each place is kept: it shows where matches begin and how far one
 /// leads.
 ///
 /// All room is taken in [`Occurrences::new`]: two bytes for each byte of the longest text, which memory is touched only where such a
@@ -193,7 +193,7 @@ fn next_with(
     requires last { EndsWithin (length text.now) last }
     requires ready { MaySearch sought.now.prepared text.now sought.now.begins ahead.old back.old seeking.old }
     ensures searched { Searched sought.now.prepared text.now ahead.old ahead.new back.old back.new seeking.old seeking.new }
-    ensures next { result ≡ next_span (found (expression_tree sought.now.prepared.arena.expr) text.now) (length text.now) last }
+    ensures next { result ≡ next_span (leftmost_longest (expression_tree sought.now.prepared.arena.expr) text.now) (length text.now) last }
     ensures occurs { IfSome result (Occurs (expression_tree sought.now.prepared.arena.expr) text.now last) }
     ensures cost { let m = length sought.now.prepared.arena.expr.nodes in let n = length text.now in
         CostsWithin steps.old steps.new (owed_search m n last seeking.old) (owed_after_search (owed_behind m n seeking.new) result) }
@@ -202,7 +202,7 @@ fn next_with(
     let (prepared, begins) = (&sought.prepared, &sought.begins);
     let subject = Subject { prepared, text };
     match last {
-        None => match skip_to_literal(&sought.needed, text, 0, steps) {
+        None => match skip_to_literal(&sought.required, text, 0, steps) {
             None => None,
             Some(start) => next_match(subject, begins, ahead, back, seeking, start, steps),
         },

@@ -1,11 +1,11 @@
-//! An expression that is searched by passes: what is found out of it once, its tables, and what they tell of a text.
+//! An expression that is searched by passes: what is found out of it once, its tables, and what they show of a text.
 ghost use Rattle.std.specs.Prelude.{◌≡◌, ℕ, List, ◌+◌, ◌-◌, ◌*◌, ◌/◌, ◌<◌, ◌≤◌, ◌↔◌, [], length, vec_capacity, IfOk, IfSome, IsTrue};
 ghost use Rattle.sedre.specs.Arena.{IsExpr};
 ghost use Rattle.sedre.specs.Tree.{Tree, WrittenExpression, expression_tree};
 ghost use Rattle.sedre.specs.Steps.{Takes, TakesAtLeast};
 ghost use Rattle.sedtext.specs.Beginnings.{AllBegin};
 ghost use Rattle.sedtext.specs.Following.{PassesOver};
-ghost use Rattle.sedtext.specs.Needed.{IsNeeded};
+ghost use Rattle.sedtext.specs.Required.{IsRequired};
 ghost use Rattle.sedpass.specs.Table.{IsAhead, IsSweep, SameShape};
 ghost use Rattle.sedtext.specs.Spans.{SomeFound, Matches};
 ghost use Rattle.sedpass.specs.Decide.{HasDesk, SameTables};
@@ -17,7 +17,7 @@ use crate::Span;
 use crate::scratch::Desk;
 use crate::table_room::TableRoom;
 use sedpass::find::is_match;
-use sedpass::groups::{GroupRoom, GroupTables, Spans, all_groups, decide};
+use sedpass::groups::{GroupRoom, GroupSpans, GroupTables, all_groups, decide};
 use sedpass::kept::{Kept, Subject};
 use sedpass::nodes::Prepared;
 use sedpass::rows::{Way, Work};
@@ -26,7 +26,7 @@ use sedre::{Expr, Steps};
 use sedtext::beginnings::{Begins, how_begins};
 use sedtext::counted::Text;
 use sedtext::counted::lookups::{find_literal, sift};
-use sedtext::needed::{RequiredLiteral, find_needed, skip_to_literal};
+use sedtext::required::{RequiredLiteral, find_required, skip_to_literal};
 use std::alloc::{AllocError, Global};
 
 /// What is found out of an expression once.
@@ -36,8 +36,8 @@ pub struct Sought {
     pub prepared: Prepared,
     /// How its matches begin.
     pub begins: Begins,
-    /// A literal that they hold.
-    pub needed: Option<RequiredLiteral>,
+    /// A literal that they contain.
+    pub required: Option<RequiredLiteral>,
 }
 
 /// The tables of one expression.
@@ -109,13 +109,13 @@ pub fn new_passes(
     ensures { IfOk result (ArePasses expr.now) }
 {
     let begins = how_begins(expr, steps);
-    let needed = find_needed(alloc, expr, steps)?;
+    let required = find_required(alloc, expr, steps)?;
     let prepared = Prepared::new(alloc, expr, steps)?;
     let own = own_tables(alloc, &prepared, room)?;
     let sought = Sought {
         prepared,
         begins,
-        needed,
+        required,
     };
     Ok(Passes { sought, own })
 }
@@ -130,15 +130,15 @@ impl Passes {
     }
 }
 
-/// A place of the text before which no line has a match, or None where no line has one, as these tell.
+/// A place of the text before which no line has a match, or None where no line has one, as these show.
 #[tactic(auto, unfolding(sedre::specs::Steps::TakesAtLeast, sedre::specs::Steps::TakesExactly))]
 pub fn candidate_by(sought: &Sought, text: &Text, steps: &mut Steps) -> Option<usize>
-    ensures before { (e : Tree) → IsNeeded e sought.now.needed → AllBegin e sought.now.begins → NoMatchBefore e text.now result }
+    ensures before { (e : Tree) → IsRequired e sought.now.required → AllBegin e sought.now.begins → NoMatchBefore e text.now result }
     ensures cost { Takes steps.old steps.new (25 * (length text.now + 1)) }
     ensures counts { IfSome result (λ k. TakesAtLeast steps.old steps.new k) }
 {
-    if let Some(needed) = &sought.needed {
-        return find_literal(text, &needed.finder, 0, steps);
+    if let Some(required) = &sought.required {
+        return find_literal(text, &required.finder, 0, steps);
     }
     match &sought.begins {
         Begins::Before(sieve) => sift(text, sieve, 0, steps),
@@ -193,7 +193,7 @@ pub fn matches_by(
     ensures told { TellsMatch passes.old.sought.prepared.arena.expr text.now from steps.old steps.new result }
 {
     let sought = &passes.sought;
-    let Some(start) = skip_to_literal(&sought.needed, text, from, steps) else {
+    let Some(start) = skip_to_literal(&sought.required, text, from, steps) else {
         return false;
     };
     let work = &mut desk.room.kept.work;
@@ -208,7 +208,7 @@ pub fn matches_by(
 }
 
 /// The groups of a match of an expression without groups.
-pub fn whole_alone(span: Span) -> Spans
+pub fn whole_alone(span: Span) -> GroupSpans
     ensures { (e : WrittenExpression) (w : List ℕ) (s : ℕ) → IsExpr e.nodes e.groups → e.groups ≡ 0 → Matches (expression_tree e) w span.0 span.1 →
         TellsGroups e w span s s result }
 {
@@ -234,7 +234,7 @@ fn groups_with(
     span: Span,
     room: &mut GroupRoom,
     steps: &mut Steps,
-) -> Spans
+) -> GroupSpans
     requires order { span.0 ≤ span.1 }
     requires inside { span.1 ≤ length subject.text.now }
     requires spans { Matches (expression_tree subject.prepared.now.arena.expr) subject.text.now span.0 span.1 }
@@ -256,7 +256,7 @@ fn groups_with(
 }
 
 /// The same by the tables that serve all.
-pub fn shared_groups(subject: Subject, span: Span, desk: &mut Desk, steps: &mut Steps) -> Spans
+pub fn shared_groups(subject: Subject, span: Span, desk: &mut Desk, steps: &mut Steps) -> GroupSpans
     requires order { span.0 ≤ span.1 }
     requires inside { span.1 ≤ length subject.text.now }
     requires spans { Matches (expression_tree subject.prepared.now.arena.expr) subject.text.now span.0 span.1 }
@@ -277,7 +277,7 @@ pub fn groups_by(
     span: Span,
     desk: &mut Desk,
     steps: &mut Steps,
-) -> Spans
+) -> GroupSpans
     requires order { span.0 ≤ span.1 }
     requires inside { span.1 ≤ length text.now }
     requires spans { Matches (expression_tree passes.old.sought.prepared.arena.expr) text.now span.0 span.1 }

@@ -57,7 +57,7 @@ impl Scratch {
         ensures { IfOk result (λ s. (s.text ≡ max_text) × (s.nodes ≡ max_nodes)) }
     {
         let block = width_for(max_text);
-        // What was made is let go of by calls: where it stands it is proved field by field.
+        // What was made is let go of by calls: in place it is proved field by field.
         let room = GroupRoom::new(alloc, max_text, max_text / block + 1, max_nodes)?;
         let Ok(any) = Table::with_room(alloc, ANY, block + 1, max_nodes) else {
             drop(room);

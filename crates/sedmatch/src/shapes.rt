@@ -119,7 +119,7 @@ fn at_start(anchoring: Option<Anchoring>) -> Anchoring
     }
 }
 
-/// The stem whose spans those of the node are, and where it stands.
+/// The stem whose spans those of the node are, and where it is.
 fn one_stem(expr: &Expr, index: usize, steps: &mut Steps) -> Option<(Stem, Option<Anchoring>)>
     requires inside { index < length expr.now.nodes }
     ensures stem { IfSome result (λ s. IsStem expr.now.nodes index s.0 s.1) }
@@ -181,7 +181,7 @@ fn first_of(set: &Option<ByteSet>) -> First
     }
 }
 
-/// The stem whose spans those of the expression are, and where it stands.
+/// The stem whose spans those of the expression are, and where it is.
 fn whole_stem(expr: &Expr, steps: &mut Steps) -> Option<(Stem, Option<Anchoring>)>
     ensures stem { IfSome result (λ s. IsStem expr.now.nodes (length expr.now.nodes - 1) s.0 s.1) }
     ensures cost { Takes steps.old steps.new 24 }

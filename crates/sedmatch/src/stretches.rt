@@ -19,7 +19,7 @@ use sedtext::counted::members::{find_member, run_begin, run_end};
 /// What comes first, as it is sought.
 #[derive(Clone, Copy)]
 pub enum First {
-    /// No byte: what follows stands alone.
+    /// No byte: what follows is alone.
     Nothing,
     /// One of these few.
     Among(Few),
@@ -61,7 +61,7 @@ impl First {
         }
     }
 
-    /// The first place from `from` on at which it stands.
+    /// The first place from `from` on at which it is.
     /// Counts a look for each byte from `from` to it, or to the end where there is none.
     #[inline(always)]
     pub fn find(&self, text: &Text, from: usize, steps: &mut Steps) -> Option<usize>

@@ -4,7 +4,7 @@ ghost use Rattle.sedre.specs.Tree.{WrittenExpression, expression_tree};
 ghost use Rattle.sedre.specs.Steps.{Takes, TakesAtLeast};
 ghost use Rattle.sedtext.specs.Costs.{CostsWithin};
 ghost use Rattle.sedtext.specs.Following.{CanEndEarly, EndsWithin, LiesOn, Occurs, PassesOver, bytes_passed, next_span};
-ghost use Rattle.sedtext.specs.Matching.{found, report};
+ghost use Rattle.sedtext.specs.Matching.{leftmost_longest, report};
 ghost use Rattle.sedtext.specs.Answer.{SpanIn};
 ghost use Rattle.sedtext.specs.Groups.{span_of};
 ghost use Rattle.sedtext.specs.SearchRoom.{FitInto};
@@ -35,7 +35,7 @@ use std::marker::Model;
 /// How an expression is searched.
 #[derive(Drop)]
 pub enum Engine {
-    /// By a look at the text: the expression, and what its matches look like.
+    /// By a look at the text: the expression, and the form of its matches.
     Direct(Expr, DirectForm),
     /// By passes.
     Passes(Box<Passes>),
@@ -43,9 +43,9 @@ pub enum Engine {
 
 /// An expression that is sought many times: what was found out of it, and of texts, serves at all later texts.
 ///
-/// All room is taken in [`TableMatcher::new`]. An expression that a look at the text tells has no table, any other three, as far as the
-/// room that is given goes; their memory is touched as states of passes are found. Where an expression is used once, [`crate::find`]
-/// is the better choice: it needs no table.
+/// All room is taken in [`TableMatcher::new`]. An expression that a look at the text settles has no table, any other three, as far as
+/// the room that is given goes; their memory is touched as states of passes are found. Where an expression is used once,
+/// [`crate::find`] is the better choice: it needs no table.
 #[derive(Drop)]
 pub struct TableMatcher {
     engine: Engine,
@@ -69,7 +69,7 @@ impl Model for TableMatcher {
 fn past_null(form: &DirectForm, text: &Text, at: usize, steps: &mut Steps) -> Option<Span>
     requires at { at ≤ length text.now }
     ensures next { (e : WrittenExpression) → IsDirect e form.now →
-        result ≡ if nat_lt at (length text.now) then found (expression_tree e) text.now (at + 1) else None }
+        result ≡ if nat_lt at (length text.now) then leftmost_longest (expression_tree e) text.now (at + 1) else None }
     ensures lies { IfSome result (λ f. (at + 1 ≤ f.0) × (f.0 ≤ f.1) × (f.1 ≤ length text.now)) }
     ensures cost { CostsWithin steps.old steps.new (4 * (end_or (length text.now) result + 1)) (4 * (at + 1)) }
     ensures counts { IfSome result (λ f. TakesAtLeast steps.old steps.new (f.1 - f.0)) }
@@ -90,7 +90,7 @@ fn next_direct(
     steps: &mut Steps,
 ) -> Option<Span>
     requires last { EndsWithin (length text.now) last }
-    ensures next { (e : WrittenExpression) → IsDirect e form.now → result ≡ next_span (found (expression_tree e) text.now) (length text.now) last }
+    ensures next { (e : WrittenExpression) → IsDirect e form.now → result ≡ next_span (leftmost_longest (expression_tree e) text.now) (length text.now) last }
     ensures lies { IfSome result (LiesOn (length text.now) last) }
     ensures cost { CostsWithin steps.old steps.new (owed_direct (length text.now) last) (owed_direct_after (length text.now) result) }
     ensures counts { IfSome result (λ f. TakesAtLeast steps.old steps.new (f.1 - f.0)) }
@@ -134,7 +134,7 @@ fn next_by_passes(
 
 impl TableMatcher {
     /// The expression with empty tables, which take no more than the room that is given. Looks at the expression's nodes are
-    /// counted in `steps`; no text is searched, so no bound is told of them. Fails only where a request for memory was refused.
+    /// counted in `steps`; no text is searched, so no bound is given here. Fails only where a request for memory was refused.
     pub fn new(
         alloc: Global,
         expr: &Expr,
@@ -182,7 +182,7 @@ impl TableMatcher {
     }
 
     /// A place of a text of many lines before which no line has a match, each line taken as a text of its own; None where no
-    /// line has one. It is told by what every match holds, a literal mostly. Where nothing of the kind is known, it is the
+    /// line has one. It is found by what every match contains, a literal mostly. Where nothing of the kind is known, it is the
     /// first place.
     #[tactic(auto, unfolding(sedre::specs::Steps::TakesAtLeast, sedre::specs::Steps::TakesExactly))]
     pub fn candidate(&self, text: &Text, steps: &mut Steps) -> Option<usize>
@@ -209,7 +209,7 @@ impl TableMatcher {
         ensures same { self.new ≡ self.old }
         ensures scratch { scratch.new ≡ scratch.old }
         ensures matches { IsTrue result ↔ SomeFound (expression_tree self.old) text.now from }
-        ensures computed { result ≡ is_some (found (expression_tree self.old) text.now from) }
+        ensures computed { result ≡ is_some (leftmost_longest (expression_tree self.old) text.now from) }
         ensures passes { IsTrue result → PassesOver (expression_tree self.old) text.now from steps.old steps.new }
         ensures cost { Takes steps.old steps.new (64 * length self.old.nodes * (length text.now + 1)) }
     {
@@ -239,7 +239,7 @@ impl TableMatcher {
         requires serves { Serves self.old text.now last occurrences.old }
         ensures same { self.new ≡ self.old }
         ensures scratch { scratch.new ≡ scratch.old }
-        ensures next { result ≡ next_span (found (expression_tree self.old) text.now) (length text.now) last }
+        ensures next { result ≡ next_span (leftmost_longest (expression_tree self.old) text.now) (length text.now) last }
         ensures occurs { IfSome result (Occurs (expression_tree self.old) text.now last) }
         ensures serves { ServesOn self.old text.now result occurrences.old occurrences.new }
         ensures cost { let m = length self.old.nodes in let n = length text.now in

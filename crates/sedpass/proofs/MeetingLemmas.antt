@@ -2,7 +2,7 @@
 use Rattle.std.proofs.Common.{◌≡◌, ℕ, zero, suc, ◌+◌, ◌-◌, ◌<◌, ◌≤◌, ◌⊎◌, ◌↔◌, Bool, List, length, Some, refl, sym, ◌∙◌, subst, inl, inr, ⊎_elim, arith, slice_get}
 use Rattle.sedpass.proofs.Words.{cases_lt, slice_get_within, IsArena, tree_at, Node, NodeId, Empty, Set, Begin, End, Seq, Alt, Group, Star, Opt, Starts, CopiesLead, no_copy, one_more, LastCut, LastCopy, only, then, IsRepetitionOf, At, BeginsWith, IsStart, one_start, Enters, at_root, with_whole, after_left, again, Matches-forward, CopiesLead-forward, CopiesLead-append, open_at, close_at, Enters-inside, star_copies, BeginsWith-part, node_at}
 use Rattle.sedpass.specs.Regions.{Leaves, with_end, before_right, before_copies, ReachesEnd, IsLastIn, all_of, Meets, GoesOn, CeasesAt, NextCopy, IsRunOf, repeated, in_group}
-use Rattle.sedtext.proofs.TimesLemmas.{CopiesLead-join}
+use Rattle.sedtext.proofs.FixedRunLemmas.{CopiesLead-join}
 use Rattle.sedpass.proofs.LeaveLemmas.{OutOf, Leaves-part, Leaves-to, last_inside, last-leaves, Leaves-last}
 
 -- copies that pass j have one that passes it, and copies lead from its end to theirs

@@ -1,7 +1,7 @@
 -- What the searches for all occurrences in one text find, and what they cost together.
 use Rattle.std.proofs.Common.{◌≡◌, ℕ, zero, suc, ◌+◌, ◌-◌, ◌*◌, ◌<◌, ◌≤◌, Bool, true, false, List, length, Option, Some, None, IfSome, sym, ap, ◌∙◌, subst, arith, mul-le-mul_left, nat_lt, if◌then◌else◌}
 use Rattle.std.proofs.lemmas.Bool.Decides.{nat_tests}
-use Rattle.sedpass.proofs.Words.{Tree, SpanAnswer, LiesOn, found, unless_null_at, found-iff, not_found-iff, Seeking}
+use Rattle.sedpass.proofs.Words.{Tree, SpanAnswer, LiesOn, leftmost_longest, unless_null_at, found-iff, not_found-iff, Seeking}
 use Rattle.sedpass.specs.Search.{owed_behind, owed_after, owed_kept, owed_search, search_cost}
 use Rattle.sedpass.proofs.OwedLemmas.{owed_falls}
 use Rattle.sedpass.proofs.SearchLemmas.{alone_square, search_long, unbegun}
@@ -9,7 +9,7 @@ use Rattle.sedpass.proofs.SearchLemmas.{alone_square, search_long, unbegun}
 -- What is found.
 
 -- the answer of a search is the match that is computed
-pub answer_found : (e : Tree) (w : List ℕ) (from : ℕ) (r : Option (ℕ × ℕ)) → from ≤ length w → SpanAnswer e w from r → r ≡ found e w from
+pub answer_found : (e : Tree) (w : List ℕ) (from : ℕ) (r : Option (ℕ × ℕ)) → from ≤ length w → SpanAnswer e w from r → r ≡ leftmost_longest e w from
 answer_found e w from None low is = sym ((not_found-iff e w from low).1 is.1)
 answer_found e w from (Some f) low is = sym ((found-iff e w from f.0 f.1 low).1 is.0)
 

@@ -3,9 +3,8 @@ pub use Rattle.sedre.proofs.MirrorLemmas.{old_node, seen-arena, seen-length, see
 pub use Rattle.sedre.proofs.TreeLemmas.{tree_at-node}
 pub use Rattle.sedre.specs.Arena.{AreRanges, FollowsParts, GroupsWithin, HasTwoParts, IsArena, IsExpr, IsPart}
 pub use Rattle.sedre.specs.Mirror.{mirror, mirror_node, seen}
-pub use Rattle.sedre.specs.Sizes.{size}
+pub use Rattle.sedre.specs.Tree.{size, Tree, WrittenExpression, alt, begin, empty, end, expression_tree, group, opt, seq, set, star, tree_at, tree_of}
 pub use Rattle.sedre.specs.Steps.{Takes, TakesAtLeast}
-pub use Rattle.sedre.specs.Tree.{Tree, WrittenExpression, alt, begin, empty, end, expression_tree, group, opt, seq, set, star, tree_at, tree_of}
 pub use Rattle.sedre.specs.declared.types.Node.{Node}
 pub use Rattle.sedre.specs.declared.types.Node.TheVariants.{Alt, Begin, Empty, End, Group, Opt, Seq, Set, Star}
 pub use Rattle.sedre.specs.declared.types.NodeId.{NodeId}
@@ -21,7 +20,7 @@ pub use Rattle.sedtext.specs.Caps.{Captures, IsReport, LastCopy, LastCut, only, 
 pub use Rattle.sedtext.specs.Costs.{CostsWithin}
 pub use Rattle.sedtext.specs.Following.{LiesOn, PassesOver}
 pub use Rattle.sedtext.specs.Groups.{Groups, forget, no_groups}
-pub use Rattle.sedtext.specs.Matching.{byte_is_in, found, groups_after, unless_null_at}
+pub use Rattle.sedtext.specs.Matching.{byte_is_in, leftmost_longest, groups_after, unless_null_at}
 pub use Rattle.sedtext.specs.Nodes.{IsRepetitionOf, parts_of, total_size}
 pub use Rattle.sedtext.specs.PartMarks.{enter_parts}
 pub use Rattle.sedtext.specs.Places.{IsPlace, takes_any}

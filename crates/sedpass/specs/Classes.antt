@@ -1,4 +1,4 @@
--- Private to the proofs: no contract that `sedmatch` makes public cites what stands here.
+-- Private to the proofs: no contract that `sedmatch` makes public cites what is here.
 -- Classes of bytes: those of one class are in the same sets of an expression.
 use Rattle.std.specs.Prelude.{◌≡◌, ℕ, ◌+◌, ◌≤◌, ◌<◌, ◌⊎◌, List, Bool, slice_get, slice_index_or, Some, length}
 use Rattle.sedre.specs.Sets.{has}

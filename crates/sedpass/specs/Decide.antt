@@ -1,10 +1,9 @@
--- Private to the proofs: no contract that the engine sees cites what stands here.
--- What is told of a match's groups while they are decided from its end, what is left to do, and what that costs.
+-- Private to the proofs: no contract that the engine sees cites what is here.
+-- What is known of a match's groups while they are decided from its end, what is left to do, and what that costs.
 use Rattle.std.specs.Prelude.{◌≡◌, ℕ, ◌+◌, ◌-◌, ◌*◌, ◌<◌, ◌≤◌, ◌⊎◌, Bool, true, false, replicate, IsTrue, List, [], ◌∷◌, ◌++◌, reverse, length, min, slice_get, slice_index_or, vec_capacity, IfSome, Option, None, Some}
 use Rattle.sedre.specs.Arena.{IsArena}
-use Rattle.sedre.specs.Sizes.{size}
+use Rattle.sedre.specs.Tree.{size, tree_at, Tree}
 use Rattle.sedre.specs.Steps.{Takes, TakesExactly, TakesAtLeast}
-use Rattle.sedre.specs.Tree.{tree_at, Tree}
 use Rattle.sedre.specs.declared.types.Node.{Node}
 use Rattle.sedre.specs.declared.types.Node.TheVariants.{Set, Seq, Alt, Star}
 use Rattle.sedre.specs.declared.types.NodeId.{NodeId}
@@ -296,7 +295,7 @@ pub record MayWork (s : Subject) (tables : GroupTables) (room : GroupRoom) (told
   pub desk : HasDesk s tables room.kept
   pub is_told : IsTold told
 
--- The tasks are done as far as those left, which are ready, and of which d fewer can still come: what is told then, what it cost, where
+-- The tasks are done as far as those left, which are ready, and of which d fewer can still come: what is known then, its cost, where
 -- none matches more than so many bytes, and n nodes that were entered, each of which was looked at.
 pub record Works (s : Subject) (tasks : List Task) (old : Told) (rest : List Task) (new : Told) (d before after : ℕ) : Type 0 where
   pub told : IsTold new

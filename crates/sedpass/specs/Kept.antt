@@ -1,4 +1,4 @@
--- Private to the proofs: no contract that `sedmatch` makes public cites what stands here.
+-- Private to the proofs: no contract that `sedmatch` makes public cites what is here.
 -- What is kept of a pass backwards over a region, and what looks into it may cost.
 use Rattle.std.specs.Prelude.{◌≡◌, ℕ, zero, suc, ◌+◌, ◌-◌, ◌*◌, ◌/◌, ◌^◌, ◌<◌, ◌≤◌, ◌↔◌, nat_le, nat_lt, ◌&&◌, Bool, true, false, if◌then◌else◌, List, length, reverse, slice_index_or, IsTrue, vec_capacity}
 use Rattle.sedre.specs.declared.types.Node.{Node}
@@ -14,9 +14,9 @@ use Rattle.sedpass.specs.declared.table.Table.{Table}
 use Rattle.sedpass.specs.declared.kept.Region.{Region}
 use Rattle.sedpass.specs.declared.kept.Kept.{Kept}
 
--- What it tells.
+-- What it shows.
 
--- the places where matches end that a kept pass tells of: in a sweep all up to the end n of the text, else the region's end alone
+-- the places where matches end that a kept pass shows: in a sweep all up to the end n of the text, else the region's end alone
 abbrev pub ends_told : Bool → ℕ → ℕ → Starts
 ends_told true n end = starts_to 0 n
 ends_told false n end = one_start end
@@ -39,7 +39,7 @@ KeptAt p w way root end place a = (a.root ≡ root) × RowKept p w way root end 
 abbrev pub AllMarked : List Node → List ℕ → ℕ → Starts → ℕ → Bool → ℕ → ℕ → Type 0
 AllMarked nodes w r t x marked from to = (q : ℕ) → from ≤ q → q < to → IsTrue marked ↔ ReachesEnd nodes w r t x q
 
--- What holds of it.
+-- What is true of it.
 
 -- the number kept for a place is that of a state which is the place's
 abbrev pub IsLive : Prepared → List ℕ → Table → (root end : ℕ) → List ℕ → ℕ → Type 0

@@ -1,9 +1,8 @@
--- Private to the proofs: no contract that `sedmatch` makes public cites what stands here.
--- What is told of an expression once: facts of each node, as its groups and how long its spans are.
+-- Private to the proofs: no contract that `sedmatch` makes public cites what is here.
+-- What is found out once of an expression: facts of each node, as its groups and how long its spans are.
 use Rattle.std.specs.Prelude.{◌≡◌, ℕ, ◌+◌, ◌-◌, ◌*◌, ◌≤◌, ◌<◌, Bool, true, false, ◌&&◌, ◌||◌, eqb, List, length, slice_get, cond, Option, Some, None, IfSome, nat_lt}
 use Rattle.std.specs.Int.{bit_at, from_bool}
-use Rattle.sedre.specs.Tree.{Tree, set, begin, end, seq, alt, group, star, WrittenExpression, tree_at, empty, opt}
-use Rattle.sedre.specs.Sizes.{size}
+use Rattle.sedre.specs.Tree.{Tree, set, begin, end, seq, alt, group, star, WrittenExpression, tree_at, empty, opt, size}
 use Rattle.sedre.specs.declared.types.Node.{Node}
 use Rattle.sedpass.specs.Classes.{AreClasses}
 use Rattle.sedpass.specs.declared.nodes.Facts.{Facts}
@@ -64,7 +63,7 @@ nullable first last other = true
 abbrev pub null_in : List Node → Kind → ℕ → Bool
 null_in nodes kind x = nullable kind.begin kind.end (tree_at nodes x)
 
--- what is told of null strings at places of a kind: a bit for each
+-- what is known of null strings at places of a kind: a bit for each
 abbrev pub null_at : ℕ → Bool → Bool → Bool
 null_at kinds first last = eqb (bit_at kinds (from_bool first + 2 * from_bool last)) 1
 
@@ -79,7 +78,7 @@ run_of (group k a) x = run_of a (x - 1)
 run_of (star a first) x = cond (is_set a) (Some (x - 1)) None
 run_of other x = None
 
--- what is told of a node: the tree there, and its index
+-- what is known of a node: the tree there, and its index
 pub record IsFacts (t : Tree) (x : ℕ) (facts : Facts) : Type 0 where
   pub low : facts.low + size t ≡ x + 1
   pub null : (first last : Bool) → null_at facts.null first last ≡ nullable first last t
@@ -103,7 +102,7 @@ IsOfEachKind null = (first last : Bool) → null_at null first last ≡ null_at 
 abbrev pub SameNulls : List Node → Type 0
 SameNulls nodes = (x : ℕ) (first last : Bool) → x < length nodes → nullable first last (tree_at nodes x) ≡ nullable false false (tree_at nodes x)
 
--- what is told of an expression
+-- what is known of an expression
 pub record IsPrepared (e : WrittenExpression) (root : ℕ) (told : List Facts) (of : List ℕ) (columns : ℕ) (anchors : Bool) : Type 0 where
   pub last : root + 1 ≡ length e.nodes
   pub all : length told ≡ length e.nodes

@@ -1,5 +1,5 @@
--- Private to the proofs: no contract that `sedmatch` makes public cites what stands here.
--- What a row tells of a place, how the marks at a place follow from what the leaves took, and when one row leads to another.
+-- Private to the proofs: no contract that `sedmatch` makes public cites what is here.
+-- What a row shows of a place, how the marks at a place follow from what the leaves took, and when one row leads to another.
 use Rattle.std.specs.Prelude.{◌≡◌, ℕ, ◌+◌, ◌≤◌, ◌<◌, ◌⊎◌, ◌↔◌, Bool, true, false, ◌&&◌, ◌||◌, List, length, slice_get, slice_index_or, Option, Some, IsTrue, nat_lt}
 use Rattle.sedre.specs.Arena.{IsPart}
 use Rattle.sedre.specs.Tree.{WrittenExpression}
@@ -43,7 +43,7 @@ SameBytes nodes a b = (x : ℕ) (members : List Bool) → slice_get nodes x ≡ 
 abbrev pub NoneEntered : List Node → List ℕ → ℕ → Starts → ℕ → Type 0
 NoneEntered nodes w r s p = (c : ℕ) (members : List Bool) → slice_get nodes c ≡ Some (Set members) → Enters nodes w r s c p → ⊥
 
--- x is the node r or stands in it
+-- x is the node r or is in it
 pub data InTree (nodes : List Node) (r : ℕ) : ℕ → Type 0 where
   is_tree : (x : ℕ) → x ≡ r → InTree nodes r x
   part_of : (y c : ℕ) (node : Node) → slice_get nodes y ≡ Some node → IsPart node c → InTree nodes r y → InTree nodes r c
@@ -60,11 +60,11 @@ TreeBelow nodes r n c = InTree nodes r c × (c < n)
 abbrev pub TreeFrom : List Node → ℕ → ℕ → ℕ → Type 0
 TreeFrom nodes r y c = InTree nodes r c × PartFrom nodes r y c
 
--- null tells which nodes are null at the place
+-- null says which nodes are null at the place
 abbrev pub AreNull : List Node → List ℕ → ℕ → (ℕ → Bool) → Type 0
 AreNull nodes w p null = (c : ℕ) → c < length nodes → IsTrue (null c) ↔ At nodes w c p p
 
--- the marks tell, with the byte that came, which leaves in r took it
+-- the marks show, with the byte that came, which leaves in r took it
 abbrev pub TellTook : List Node → List ℕ → ℕ → Starts → ℕ → Option ℕ → List Bool → Type 0
 TellTook nodes w r s p byte marks = (c : ℕ) (members : List Bool) → InTree nodes r c → slice_get nodes c ≡ Some (Set members) →
     IsTrue (slice_index_or marks c false && byte_is_in byte members) ↔ Took nodes w r s p c members

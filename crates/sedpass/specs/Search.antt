@@ -1,4 +1,4 @@
--- Private to the proofs: no contract that `sedmatch` makes public cites what stands here.
+-- Private to the proofs: no contract that `sedmatch` makes public cites what is here.
 -- Searches in one text, from places that don't fall: what they find, and what they may cost.
 use Rattle.std.specs.Prelude.{ℕ, max, ◌+◌, ◌-◌, ◌*◌, ◌/◌, ◌<◌, ◌≤◌, if◌then◌else◌, List, length, Option, Some, None, IfSome, IsTrue}
 use Rattle.sedre.specs.Tree.{expression_tree, Tree}

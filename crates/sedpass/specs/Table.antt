@@ -1,4 +1,4 @@
--- Private to the proofs: no contract that `sedmatch` makes public cites what stands here.
+-- Private to the proofs: no contract that `sedmatch` makes public cites what is here.
 -- A table of the passes of one way: its states, its cells, and the codes by which they name states.
 use Rattle.std.specs.Prelude.{◌≡◌, ℕ, ◌+◌, ◌*◌, ◌/◌, ◌^◌, ◌<◌, ◌≤◌, ◌↔◌, Bool, true, false, List, length, slice_index_or, Some, IsTrue, vec_capacity, ◌⊎◌, not, ◌&&◌, ◌||◌, Option, None}
 use Rattle.std.specs.Int.{from_bool}
@@ -18,9 +18,9 @@ use Rattle.sedpass.specs.declared.table.Table.{Table}
 use Rattle.sedpass.specs.Classes.{AreAlike}
 use Rattle.sedpass.specs.Prepared.{SameNulls}
 
--- Codes of states, and where the cells of a state stand.
+-- Codes of states, and where the cells of a state are.
 
--- whether a pass stops to look at a state: its root ends, or no match that began goes on (where the ends are kept, only this)
+-- whether a pass stops at a state: its root ends, or no match that began goes on (where the ends are kept, only this)
 abbrev pub stops : Way → Flags → Bool
 stops way flags = (not way.keeps && (flags.ends || (flags.dead && not way.all_starts))) || (way.keeps && flags.dead)
 
@@ -62,7 +62,7 @@ IsColumn layout byte edge k = (slice_index_or layout.classes byte 0 < layout.col
 
 -- States.
 
--- the root of a pass, the row of a place in it, and what is told of the row
+-- the root of a pass, the row of a place in it, and what is known of the row
 pub record State : Type 0 where
   pub root : ℕ
   pub entered : ℕ → Bool
@@ -78,7 +78,7 @@ state_of m t q = record {
   flags = slice_index_or t.flags.items q (record { ends = false; dead = false });
 }
 
--- the flags tell whether the root ends, and whether no leaf is entered
+-- the flags show whether the root ends, and whether no leaf is entered
 abbrev pub IsTold : State → Type 0
 IsTold a = (a.flags.ends ≡ a.ended a.root) × (IsTrue a.flags.dead ↔ ((c : ℕ) → a.entered c ≡ false))
 
@@ -100,7 +100,7 @@ BeginsIn nodes way root kind a = (a.root ≡ root) × IsFirstRow nodes root way.
 
 -- Codes.
 
--- the number is the code of a state of the table of which P holds
+-- the number is the code of a state of the table of which P is true
 pub record Names (m : ℕ) (t : Table) (P : State → Type 0) (v : ℕ) : Type 0 where
   pub to : ℕ
   pub there : to < t.count
@@ -121,7 +121,7 @@ IsNext p t offset byte edge = LeadsOn (nodes_of t.way p.arena.expr) t.way (state
 
 -- Cells.
 
--- what stands in the cell of a state and a column
+-- what is in the cell of a state and a column
 abbrev pub cell_of : Table → ℕ → ℕ → ℕ
 cell_of t q k = slice_index_or t.cells.items (q * 2 ^ t.layout.shift + k) 0
 
@@ -149,7 +149,7 @@ MayBegin p way root = (root < length p.arena.expr.nodes) × (IsTrue way.all_star
 
 -- Tables.
 
--- of each state that there is room for: its rows, with so many marks, its root, and what is told of it
+-- of each state that there is room for: its rows, with so many marks, its root, and what is known of it
 pub record HasRows (states marks : ℕ) (leaf_rows end_rows : List (List Bool)) (all_roots : List ℕ) (all_flags : List Flags) : Type 0 where
   pub some : 2 ≤ states
   pub few : states ≤ 65535
@@ -218,7 +218,7 @@ pub record IsSweep (p : Prepared) (t : Table) : Type 0 where
   pub all_starts : IsTrue t.way.all_starts
   pub brief : t.way.keeps ≡ false
 
--- a state was added at most, and those before stand as they were; or, in another epoch, all were forgotten before, as the table was full
+-- a state was added at most, and those before stay as they were; or, in another epoch, all were forgotten before, as the table was full
 pub record AddsStates (m : ℕ) (old new : Table) : Type 0 where
   pub shape : SameShape old new
   pub grows : new.epoch ≡ old.epoch → (old.count ≤ new.count) × (new.count ≤ old.count + 1)
@@ -226,7 +226,7 @@ pub record AddsStates (m : ℕ) (old new : Table) : Type 0 where
   pub full : old.count < old.room → new.epoch ≡ old.epoch
   pub forgot : (new.epoch ≡ old.epoch → ⊥) → new.count ≤ 1
 
--- the new table is right, a state was added at most, and the number is the code of a state of which P holds
+-- the new table is right, a state was added at most, and the number is the code of a state of which P is true
 pub record Codes (p : Prepared) (old new : Table) (P : State → Type 0) (v : ℕ) : Type 0 where
   pub table : IsTable p new
   pub adds : AddsStates (length p.arena.expr.nodes) old new

@@ -28,7 +28,7 @@ drop_groups (star a first) s = drop_groups a s
 drop_groups (opt a first) s = drop_groups a s
 drop_groups other s = s
 
--- whether group k stands in the expression
+-- whether group k is in the expression
 abbrev pub has_group : Tree → ℕ → Bool
 has_group (seq a b) k = has_group a k || has_group b k
 has_group (alt a b) k = has_group a k || has_group b k
@@ -37,7 +37,7 @@ has_group (star a first) k = has_group a k
 has_group (opt a first) k = has_group a k
 has_group other k = false
 
--- group k stands there
+-- group k is there
 abbrev pub GroupStandsIn : Tree → ℕ → Type 0
 GroupStandsIn e k = IsTrue (has_group e k)
 

@@ -55,7 +55,7 @@ fn is_expression(expr: &Expr)
     let _groups = expr.groups();
 }
 
-/// Copies the nodes of an expression, and finds out what is told of each. Counts a look for each.
+/// Copies the nodes of an expression, and finds out the facts of each. Counts a look for each.
 fn copy_nodes(expr: &Expr, nodes: &mut Vec<Node>, facts: &mut Vec<Facts>, steps: &mut Steps)
     requires nodes { length expr.now.nodes ≤ vec_capacity nodes.old }
     requires facts { length expr.now.nodes ≤ vec_capacity facts.old }
@@ -93,7 +93,7 @@ impl Arena {
         })
     }
 
-    /// Copies an expression, and finds out what is told of its nodes. Counts a look for each.
+    /// Copies an expression, and finds out the facts of its nodes. Counts a look for each.
     pub fn fill(&mut self, expr: &Expr, facts: &mut Vec<Facts>, steps: &mut Steps)
         requires nodes { length expr.now.nodes ≤ self.old.room }
         requires facts { length expr.now.nodes ≤ vec_capacity facts.old }

@@ -7,7 +7,7 @@ use crate::nodes::Prepared;
 use crate::rows::Way;
 use sedre::Steps;
 
-/// The least code of a state at which no pass stops to look.
+/// The least code of a state at which no pass stops.
 pub const PLAIN: u32 = 2147483648;
 
 /// How many cells a state has at most for each node of the expression.
@@ -16,7 +16,7 @@ const CELLS_A_NODE: usize = 2;
 /// How many cells a state has at most.
 const MOST_CELLS: usize = 256;
 
-/// What is told of a state.
+/// What is known of a state.
 #[derive(Clone, Copy)]
 pub struct Flags {
     /// The root of its pass ends there.
@@ -40,7 +40,7 @@ pub struct Layout {
     pub shift: u32,
 }
 
-/// Whether a pass stops to look at a state.
+/// Whether a pass stops at a state.
 #[inline(always)]
 pub fn stops(way: Way, flags: Flags) -> bool
     ensures { result ≡ stops way flags }
@@ -144,7 +144,7 @@ impl Layout {
     }
 }
 
-/// Makes the `width` cells of a state empty, which stand from a place on, with room for `size`: what stands there goes, and empty
+/// Makes the `width` cells of a state empty, which begin at a place, with room for `size`: what is there goes, and empty
 /// ones are appended. Counts a look for each of the state's cells.
 pub fn empty_cells(cells: &mut Vec<u32>, from: usize, width: usize, size: usize, steps: &mut Steps)
     requires there { from ≤ length cells.old.items }

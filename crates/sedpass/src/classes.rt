@@ -1,4 +1,4 @@
-//! Classes of bytes: those that no set of an expression tells apart are in one.
+//! Classes of bytes: those that no set of an expression distinguishes are in one.
 ghost use Rattle.sedre.specs.declared.types.Node.{Node};
 ghost use Rattle.std.specs.Prelude.{List, ◌<◌};
 ghost use Rattle.sedpass.specs.Classes.{AreClasses, HaveSets, IsNumbering, IsGiven, IsFiner};

@@ -107,7 +107,7 @@ impl Table {
         at
     }
 
-    /// Goes on to the next place whose state the cells don't tell, or to where the pass needn't go on.
+    /// Goes on to the next place whose state the cells don't have, or to where the pass needn't go on.
     fn go_on(
         &mut self,
         prepared: &Prepared,
@@ -140,7 +140,7 @@ impl Table {
     }
 
     /// Passes from a place until no match that began there can end later; in a sweep, over all places from there on, until
-    /// some match ends. `end` of the result is the longest match, or tells whether there is one, wherever the pass stopped.
+    /// some match ends. `end` of the result is the longest match, or says whether there is one, wherever the pass stopped.
     pub fn run(
         &mut self,
         prepared: &Prepared,

@@ -1,7 +1,7 @@
-//! Which span each group of a match has, decided from the match's end: what is written first stands.
+//! Which span each group of a match has, decided from the match's end: what is written first stays.
 //!
 //! A spine goes from a node to what ends where the node does, in one region of the kept pass, and writes the groups that
-//! are due. What stands left of it waits as a task.
+//! are due. What lies left of it waits as a task.
 ghost use Rattle.std.specs.Prelude.{◌≡◌, ℕ, false, [], ◌∷◌, ◌++◌, reverse, ◌+◌, ◌-◌, ◌*◌, ◌^◌, ◌≤◌, ◌<◌, ◌↔◌, length, IsTrue, None, Some, IfOk, IfSome, slice_index_or, vec_len, vec_capacity};
 ghost use Rattle.sedre.specs.Arena.{IsArena};
 ghost use Rattle.sedre.specs.Tree.{tree_at, expression_tree};
@@ -28,7 +28,7 @@ use sedre::{Node, NodeId, Steps};
 use std::alloc::{AllocError, Global};
 
 /// The spans of the groups; entry 0 is the whole match.
-pub type Spans = [Option<(usize, usize)>; 10];
+pub type GroupSpans = [Option<(usize, usize)>; 10];
 
 /// A node, and the span that it matches.
 #[derive(Clone, Copy)]
@@ -70,13 +70,13 @@ pub struct GroupTables {
     pub inside: Table,
 }
 
-/// What is told of the groups so far.
+/// What is known of the groups so far.
 #[derive(Clone, Copy)]
 pub struct Told {
     /// The groups for which nothing was written yet.
     pub due: GroupSet,
     /// What was written.
-    pub spans: Spans,
+    pub spans: GroupSpans,
 }
 
 /// Room to decide groups in.
@@ -161,7 +161,7 @@ impl GroupRoom {
     }
 }
 
-/// What is told of a node.
+/// What is known of a node.
 fn facts_at(prepared: &Prepared, x: usize) -> Facts
     requires { x < length prepared.now.arena.expr.nodes }
     ensures facts { IsFacts (tree_at prepared.now.arena.expr.nodes x) x result }
@@ -491,7 +491,7 @@ pub fn decide(
     start: usize,
     stop: usize,
     steps: &mut Steps,
-) -> Spans
+) -> GroupSpans
     requires whole { holds due 0 ≡ false }
     requires order { Ascending start stop (length (text_in subject)) }
     requires spans { At (nodes_in subject) (text_in subject) subject.prepared.now.root start stop }

@@ -63,7 +63,7 @@ pub struct Region {
 pub struct Kept {
     /// The region.
     pub region: Region,
-    /// For each place the number of its state. There is room for one at each place of the longest text; how many stand
+    /// For each place the number of its state. There is room for one at each place of the longest text; how many are
     /// there grows as texts need them, so that memory is touched only then.
     pub states: Vec<u16>,
     /// For each block the row at its right end: the leaves entered, and then the nodes that end there.

@@ -1,10 +1,10 @@
-//! A matcher of one kind of pass. `sedmatch` searches by it for each expression that no look at the text tells, and decides groups
+//! A matcher of one kind of pass. `sedmatch` searches by it for expressions that no look at the text settles, and decides groups
 //! by it.
 //!
 //! One act goes from the row of a place and the next byte to that of the next place ([`rows`]), forwards or from the text's end.
 //! A table remembers what acts found out ([`table`], [`cells`]); a pass forwards for the whole expression is in [`forwards`]. Of a pass
 //! backwards over a region the states of all places are kept ([`kept`]); by looks into it the groups of a match are decided from its
-//! end ([`groups`]). Searches stand over these: [`search`], [`occurrences`] and [`find`].
+//! end ([`groups`]). Searches use these: [`search`], [`occurrences`] and [`find`].
 #![tactic(auto)]
 
 pub mod arena;

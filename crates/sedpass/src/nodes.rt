@@ -1,13 +1,12 @@
-//! An expression made ready for passes: what is told of each node once, and the classes of bytes.
+//! An expression made ready for passes: what is found out of each node once, and the classes of bytes.
 ghost use Rattle.std.specs.Prelude.{◌≡◌, ℕ, List, Bool, true, false, cond, ◌+◌, ◌<◌, ◌≤◌, ◌&&◌, ◌↔◌, length, vec_capacity, Some, None, slice_get, IfOk, IsTrue};
 ghost use Rattle.std.proofs.Props.{props};
 ghost use Rattle.sedre.specs.Arena.{IsExpr};
 ghost use Rattle.sedre.specs.declared.types.Node.{Node};
-ghost use Rattle.sedre.specs.Tree.{tree_at, tree_of, Tree, seq, alt, group, star, opt};
+ghost use Rattle.sedre.specs.Tree.{tree_at, tree_of, Tree, seq, alt, group, star, opt, size};
 ghost use Rattle.sedre.specs.Mirror.{seen};
 ghost use Rattle.sedre.specs.Packed.{PartsBelow};
 ghost use Rattle.sedre.specs.Steps.{Takes, TakesExactly, TakesAtLeast};
-ghost use Rattle.sedre.specs.Sizes.{size};
 ghost use Rattle.sedpass.specs.Walks.{has_group};
 ghost use Rattle.sedpass.specs.Prepared.{IsPrepared, IsFacts, AreFacts, IsShort, IsOfEachKind, is_set, run_of, null_at, null_in, nullable, sum_of, same_of, length_of};
 ghost use Rattle.sedpass.specs.Rows.{IsNodeRange};
@@ -54,7 +53,7 @@ fn has_kind(kinds: u8, kind: Kind) -> bool
     (kinds >> (u8::from(kind.begin) + 2 * u8::from(kind.end))) & 1 == 1
 }
 
-/// What is told of a node once.
+/// What is found out of a node once.
 #[derive(Clone, Copy)]
 pub struct Facts {
     /// The least index in its tree: the nodes of the tree are those from `low` to the node itself.
@@ -69,7 +68,7 @@ pub struct Facts {
     pub run: Option<usize>,
 }
 
-/// What is told of a node without parts.
+/// What is known of a node without parts.
 fn of_leaf(x: usize, null: u8, length: usize) -> Facts
     ensures { (t : Tree) → size t ≡ 1 → ((first last : Bool) → null_at null first last ≡ nullable first last t) → ((k : ℕ) → has_group t k ≡ false) →
         length_of t ≡ Some length → run_of t x ≡ None → IsFacts t x result }
@@ -97,7 +96,7 @@ fn same_of(left: Option<usize>, right: Option<usize>) -> Option<usize>
     if left == right { left } else { None }
 }
 
-/// What is told of a concatenation, from what is told of its parts.
+/// What is known of a concatenation, from what is known of its parts.
 fn of_seq(left: Facts, right: Facts) -> Facts
     ensures { (a b : Tree) (x y z : ℕ) → IsFacts a x left → IsFacts b y right → x + size b + 1 ≡ z → y + 1 ≡ z → size a + size b ≤ 65536 → IsFacts (seq a b) z result }
 {
@@ -110,7 +109,7 @@ fn of_seq(left: Facts, right: Facts) -> Facts
     }
 }
 
-/// What is told of an alternation, from what is told of its parts.
+/// What is known of an alternation, from what is known of its parts.
 fn of_alt(left: Facts, right: Facts) -> Facts
     ensures { (a b : Tree) (x y z : ℕ) → IsFacts a x left → IsFacts b y right → x + size b + 1 ≡ z → y + 1 ≡ z → IsFacts (alt a b) z result }
 {
@@ -123,7 +122,7 @@ fn of_alt(left: Facts, right: Facts) -> Facts
     }
 }
 
-/// What is told of a group, from what is told of its part.
+/// What is known of a group, from what is known of its part.
 fn of_group(k: usize, part: Facts) -> Facts
     ensures { (a : Tree) (x z : ℕ) → IsFacts a x part → x + 1 ≡ z → IsFacts (group k a) z result }
 {
@@ -145,7 +144,7 @@ fn set_at(part: NodeId, told: Facts) -> Option<usize>
     }
 }
 
-/// What is told of a repetition, or of a part that may be left out, from what is told of the part. `run` is the set that it repeats.
+/// What is known of a repetition, or of a part that may be left out, from that of the part. `run` is the part, if it is a set.
 fn of_many(part: Facts, run: Option<usize>) -> Facts
     ensures star { (a : Tree) (first : Bool) (x z : ℕ) → IsFacts a x part → x + 1 ≡ z → run ≡ cond (is_set a) (Some x) None → IsFacts (star a first) z result }
     ensures opt { (a : Tree) (first : Bool) (x z : ℕ) → IsFacts a x part → x + 1 ≡ z → run ≡ None → IsFacts (opt a first) z result }
@@ -158,7 +157,7 @@ fn of_many(part: Facts, run: Option<usize>) -> Facts
     }
 }
 
-/// What was told of a part.
+/// What was found out of a part.
 fn of_part(facts: &Vec<Facts>, part: NodeId) -> Facts
     requires { part.index < length facts.now.items }
     ensures { slice_get facts.now.items part.index ≡ Some result }
@@ -166,7 +165,7 @@ fn of_part(facts: &Vec<Facts>, part: NodeId) -> Facts
     facts[part.index()]
 }
 
-/// What is told of the next node, from what is told of those before it.
+/// What is known of the next node, from what is known of those before it.
 pub fn facts_of(node: &Node, facts: &Vec<Facts>) -> Facts
     requires { PartsBelow (length facts.now.items) node.now }
     ensures { (nodes : List Node) (groups : ℕ) → IsExpr nodes groups → AreFacts nodes facts.now.items → slice_get nodes (length facts.now.items) ≡ Some node.now →
@@ -205,7 +204,7 @@ pub struct Prepared {
     pub arena: Arena,
     /// Its last node, the whole of it.
     pub root: usize,
-    /// What is told of each node.
+    /// What is known of each node.
     pub facts: Vec<Facts>,
     /// Classes of bytes: those of one class are in the same sets.
     pub classes: Classes,

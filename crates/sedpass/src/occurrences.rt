@@ -4,7 +4,7 @@
 ghost use Rattle.std.specs.Prelude.{◌≡◌, ℕ, false, Option, Some, ◌+◌, ◌*◌, ◌<◌, ◌≤◌, length, if◌then◌else◌, IfSome, IsTrue};
 ghost use Rattle.sedtext.specs.Costs.{CostsWithin};
 ghost use Rattle.sedtext.specs.Following.{LiesOn, next_span};
-ghost use Rattle.sedtext.specs.Matching.{found, unless_null_at};
+ghost use Rattle.sedtext.specs.Matching.{leftmost_longest, unless_null_at};
 ghost use Rattle.sedre.specs.Tree.{expression_tree};
 ghost use Rattle.sedpass.specs.Kept.{KeptRoom};
 ghost use Rattle.sedpass.specs.Search.{MaySearch, SearchTakes, Searched, Serves, owed_after, owed_behind};
@@ -63,7 +63,7 @@ pub fn next_after(
     requires at { at ≤ length subject.text.now }
     requires ready { MaySearch subject.prepared.now subject.text.now begins.now ahead.old back.old seeking.old }
     ensures searched { Searched subject.entry.prepared.now subject.entry.text.now ahead.old ahead.new back.old back.new seeking.old seeking.new }
-    ensures next { result ≡ next_span (found (expression_tree subject.entry.prepared.now.arena.expr) subject.entry.text.now) (length subject.entry.text.now) (Some at) }
+    ensures next { result ≡ next_span (leftmost_longest (expression_tree subject.entry.prepared.now.arena.expr) subject.entry.text.now) (length subject.entry.text.now) (Some at) }
     ensures lies { IfSome result (LiesOn (length subject.entry.text.now) (Some at)) }
     ensures cost { let m = length subject.entry.prepared.now.arena.expr.nodes in let n = length subject.entry.text.now in
         CostsWithin steps.old steps.new (owed_behind m n seeking.old at) (owed_after (owed_behind m n seeking.new) result) }

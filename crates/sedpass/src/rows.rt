@@ -1,11 +1,10 @@
 //! The one act of the matcher: from the row of a place and the byte after it to the row of the next place.
 //!
-//! The row of a place tells which leaves are entered there, in a match from one of the pass's starts, and which nodes
+//! The row of a place shows which leaves are entered there, in a match from one of the pass's starts, and which nodes
 //! ended there. The leaves entered decide, with the byte, the next row.
 ghost use Rattle.std.specs.Prelude.{◌≡◌, ℕ, List, Bool, false, ◌+◌, ◌-◌, ◌*◌, ◌<◌, ◌≤◌, ◌↔◌, ◌&&◌, ◌||◌, length, Some, slice_index_or, IsTrue};
-ghost use Rattle.sedre.specs.Tree.{tree_at};
+ghost use Rattle.sedre.specs.Tree.{tree_at, size};
 ghost use Rattle.sedre.specs.Packed.{PartsBelow};
-ghost use Rattle.sedre.specs.Sizes.{size};
 ghost use Rattle.sedre.specs.Steps.{Takes, TakesAtLeast};
 ghost use Rattle.sedtext.specs.Matching.{byte_is_in};
 ghost use Rattle.sedtext.specs.PartMarks.{enter_parts};

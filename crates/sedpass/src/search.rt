@@ -1,7 +1,7 @@
 //! The search for the leftmost of the longest matches (XBD 9.1), in one text from places that don't fall.
 //!
 //! A trial is a pass from one place at which a match can begin. Where trials went over many places that are in no match, a pass
-//! from the text's end is kept for the rest of the text: it tells where matches begin, and how far one leads.
+//! from the text's end is kept for the rest of the text: it shows where matches begin, and how far one leads.
 ghost use Rattle.std.specs.Prelude.{◌≡◌, ℕ, ◌+◌, ◌-◌, ◌*◌, ◌/◌, ◌<◌, ◌≤◌, ◌↔◌, length, IsTrue};
 ghost use Rattle.sedtext.specs.Answer.{SpanAnswer};
 ghost use Rattle.sedtext.specs.Beginnings.{AllBegin};
@@ -79,7 +79,7 @@ fn try_all(
     Trials::Nothing
 }
 
-/// Whether a match begins at a place that the pass from the text's end told; of the end itself it tells nothing.
+/// Whether a match begins at a place that the pass from the text's end found; of the end itself it says nothing.
 fn begins_there(subject: Subject, start: usize, steps: &mut Steps) -> bool
     requires start { start ≤ length subject.text.now }
     ensures inside { start < length subject.entry.text.now → IsTrue result }

@@ -68,10 +68,10 @@ pub struct Table {
     pub ends: Rows,
     /// For each state the root of its pass.
     pub roots: Vec<usize>,
-    /// For each state what is told of it.
+    /// For each state what is known of it.
     pub flags: Vec<Flags>,
     /// For each state and column the code of the state that comes next, or 0 where it isn't known yet. There is room for all
-    /// states; the cells of a state stand there once it was added, so that memory is touched only then.
+    /// states; the cells of a state are there once it was added, so that memory is touched only then.
     pub cells: Vec<u32>,
     index: Vec<Slot>,
     /// For each root and kind of place where a pass begins.
@@ -354,7 +354,7 @@ impl Table {
         next
     }
 
-    /// What stands in the cell of a state and a byte; 0 where it isn't kept.
+    /// What is in the cell of a state and a byte; 0 where it isn't kept.
     #[inline(always)]
     pub fn known(&self, prepared: &Prepared, offset: usize, byte: u8, edge: bool) -> u32
         requires table { IsTable prepared.now self.now }
@@ -454,7 +454,7 @@ impl Table {
         self.begin(prepared, root, kind, work, steps)
     }
 
-    /// The code of the state with this root and a row that was kept: the leaves entered stand in the row `2 * row` of the
+    /// The code of the state with this root and a row that was kept: the leaves entered are in the row `2 * row` of the
     /// edges, and the nodes that end in the one after it.
     pub fn load(
         &mut self,

@@ -13,8 +13,8 @@ pub mod FormLemmas
 pub mod WordLemmas
 pub mod BitLemmas
 pub mod CountLemmas
-pub mod TimesLemmas
-pub mod NeededLemmas
+pub mod FixedRunLemmas
+pub mod RequiredLemmas
 pub mod FewLemmas
 pub mod PrefixLemmas
 pub mod LaneLemmas

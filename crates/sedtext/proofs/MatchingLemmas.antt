@@ -1,6 +1,6 @@
 -- The computed match is the one that the relations tell.
 use Rattle.std.proofs.Common.{◌≡◌, ℕ, zero, suc, ◌+◌, ◌-◌, ◌<◌, ◌≤◌, ◌⊎◌, ◌↔◌, Bool, true, false, ◌&&◌, ◌||◌, List, length, Option, Some, None, IsTrue, refl, sym, ap, ◌∙◌, subst, inl, inr, ⊎_elim, true≢false, arith}
-use Rattle.std.specs.Prelude.{cond, eqb, ltb, slice_get, slice_set, is_some, unwrap_or}
+use Rattle.std.specs.Prelude.{cond, eqb, ltb, slice_get, slice_set, is_some, unwrap_or, option_map}
 use Rattle.std.proofs.lemmas.Bool.{and_parts, and_from, or_cases, or_left, or_right, cases_lt, cases_eq, eqb-true, eq-eqb, ltb-true, lt-ltb, cases_Bool}
 use Rattle.std.proofs.lemmas.Bool.Decides.{same_from_decides}
 use Rattle.std.proofs.lemmas.Option.{slice_get_within, none-some}
@@ -9,7 +9,7 @@ use Rattle.sedtext.specs.Spans.{CopiesLead, no_copy, one_more, Matches, IsLeftmo
 use Rattle.sedtext.specs.Caps.{Captures, LastCut, LastCopy, only, then}
 use Rattle.sedtext.specs.Groups.{Groups, forget, no_groups}
 use Rattle.sedtext.specs.Reach.{IsLongestFrom}
-use Rattle.sedtext.specs.Matching.{any, greatest, copies, byte_is_in, spans, longest, first_of, found_from, found, cut, first_copy, last_start, groups_after, report}
+use Rattle.sedtext.specs.Matching.{any, greatest, copies, byte_is_in, spans, longest, found_from, leftmost_longest, cut, first_copy, last_start, groups_after, report}
 use Rattle.sedtext.specs.MatchingLaws.{SpansLaw, FoundLaw, NotFoundLaw, SomeFoundLaw, OneCapsLaw, CapsLaw, ReportLaw}
 use Rattle.sedtext.proofs.SpanLemmas.{CopiesLead-forward, Matches-forward, Matches-within}
 use Rattle.sedtext.proofs.ReachLemmas.{takes_some}
@@ -189,7 +189,7 @@ abbrev pub IsAnswer : Tree → List ℕ → ℕ → Option (ℕ × ℕ) → Type
 IsAnswer e w p None = NotFound e w p
 IsAnswer e w p (Some f) = IsLeftmostLongest e w p f.0 f.1
 
-answer-step : (e : Tree) (w : List ℕ) (p : ℕ) (best : Option ℕ) (rest : Option (ℕ × ℕ)) → IsLongestFrom e w p best → IsAnswer e w (p + 1) rest → IsAnswer e w p (first_of p best rest)
+answer-step : (e : Tree) (w : List ℕ) (p : ℕ) (best : Option ℕ) (rest : Option (ℕ × ℕ)) → IsLongestFrom e w p best → IsAnswer e w (p + 1) rest → IsAnswer e w p (unwrap_or (option_map (λ j. Some (p, j)) best) rest)
 answer-step e w p None None none later =
     λ i k from fits s. ⊎_elim (λ (h : i ≡ p). none k (subst (λ v. Matches e w v k) h s)) (λ (ne : i ≡ p → ⊥). later i k (omega arith) fits s) (cases_eq i p)
 answer-step e w p None (Some f) none later = record {
@@ -211,8 +211,8 @@ found_from-is e w zero p all = λ i k from fits s. omega arith
 found_from-is e w (suc n) p all =
     answer-step e w p (longest e w p) (found_from e w n (p + 1)) (longest-is e w p (omega arith)) (found_from-is e w n (p + 1) (omega arith))
 
-found-is : (e : Tree) (w : List ℕ) (p : ℕ) → p ≤ length w → IsAnswer e w p (found e w p)
-unfolding found
+found-is : (e : Tree) (w : List ℕ) (p : ℕ) → p ≤ length w → IsAnswer e w p (leftmost_longest e w p)
+unfolding leftmost_longest
 found-is e w p fits = found_from-is e w (length w + 1 - p) p (omega arith)
 
 -- what is spanned after the text is spanned at each place
@@ -274,7 +274,7 @@ found-iff-of e w p i j fits (Some g) some = (
 )
 
 pub found-iff : FoundLaw
-found-iff e w p i j fits = found-iff-of e w p i j fits (found e w p) (found-is e w p fits)
+found-iff e w p i j fits = found-iff-of e w p i j fits (leftmost_longest e w p) (found-is e w p fits)
 
 not_found-of : (e : Tree) (w : List ℕ) (p : ℕ) → p ≤ length w → (answer : Option (ℕ × ℕ)) → IsAnswer e w p answer → (answer ≡ None) ↔ NotFound e w p
 not_found-of e w p fits None none = (λ h. none, λ h. refl)
@@ -284,7 +284,7 @@ not_found-of e w p fits (Some g) some = (
 )
 
 pub not_found-iff : NotFoundLaw
-not_found-iff e w p fits = not_found-of e w p fits (found e w p) (found-is e w p fits)
+not_found-iff e w p fits = not_found-of e w p fits (leftmost_longest e w p) (found-is e w p fits)
 
 some_found-of : (e : Tree) (w : List ℕ) (p : ℕ) → p ≤ length w → (answer : Option (ℕ × ℕ)) → IsAnswer e w p answer → IsTrue (is_some answer) ↔ SomeFound e w p
 some_found-of e w p fits None none = (
@@ -297,14 +297,14 @@ some_found-of e w p fits (Some g) some = (
 )
 
 pub some_found-iff : SomeFoundLaw
-some_found-iff e w p fits = some_found-of e w p fits (found e w p) (found-is e w p fits)
+some_found-iff e w p fits = some_found-of e w p fits (leftmost_longest e w p) (found-is e w p fits)
 
 pub one_caps : OneCapsLaw
 one_caps = Captures-unique
 
-pub same_test : (t : Bool) (e : Tree) (w : List ℕ) (p : ℕ) → p ≤ length w → (IsTrue t ↔ SomeFound e w p) → t ≡ is_some (found e w p)
+pub same_test : (t : Bool) (e : Tree) (w : List ℕ) (p : ℕ) → p ≤ length w → (IsTrue t ↔ SomeFound e w p) → t ≡ is_some (leftmost_longest e w p)
 same_test t e w p fits tells =
-    same_from_decides t (is_some (found e w p)) tells (some_found-iff e w p fits)
+    same_from_decides t (is_some (leftmost_longest e w p)) tells (some_found-iff e w p fits)
 
 cut-of : (a b : ℕ → ℕ → Bool) (A B : ℕ → ℕ → Type 0) → ((i k : ℕ) → IsTrue (a i k) ↔ A i k) → ((i k : ℕ) → IsTrue (b i k) ↔ B i k) →
     (i j m : ℕ) → ((k : ℕ) → B k j → k ≤ j) → A i m → B m j →

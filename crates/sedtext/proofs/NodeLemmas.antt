@@ -2,9 +2,8 @@
 use Rattle.std.proofs.Common.{◌≡◌, ℕ, zero, suc, ◌+◌, ◌<◌, ◌≤◌, List, [], ◌∷◌, length, Some, refl, inl, inr, arith}
 use Rattle.std.specs.Prelude.{slice_get}
 use Rattle.sedre.specs.Arena.{IsArena}
-use Rattle.sedre.specs.Tree.{tree_at, Tree, empty}
+use Rattle.sedre.specs.Tree.{tree_at, Tree, empty, size}
 use Rattle.sedre.specs.Packed.{PartsBelow}
-use Rattle.sedre.specs.Sizes.{size}
 use Rattle.sedre.specs.declared.types.Node.{Node}
 use Rattle.sedre.specs.declared.types.Node.TheVariants.{Empty, Seq, Alt, Group, Star, Opt}
 use Rattle.sedre.proofs.TreeLemmas.{tree_at-node}

@@ -2,7 +2,7 @@
 use Rattle.std.proofs.Common.{◌≡◌, ℕ, ◌+◌, ◌-◌, ◌<◌, ◌⊎◌, Bool, List, Option, Some, subst, inl, inr, ⊎_elim, arith}
 use Rattle.sedre.specs.declared.types.Node.{Node}
 use Rattle.sedtext.specs.Bytes.{MemberAt}
-use Rattle.sedtext.specs.Needed.{GoesOnAs}
+use Rattle.sedtext.specs.Required.{GoesOnAs}
 use Rattle.sedtext.specs.Prefix.{Ahead, LinksTo, HasOne}
 use Rattle.sedtext.specs.declared.prefix.Link.TheVariants.{OneOf, Inner, First, Either}
 

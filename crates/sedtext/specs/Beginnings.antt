@@ -1,4 +1,4 @@
--- Private to the proofs: no contract that `sedmatch` makes public cites what stands here.
+-- Private to the proofs: no contract that `sedmatch` makes public cites what is here.
 -- From which places a match can begin.
 use Rattle.std.specs.Prelude.{◌≡◌, ℕ, ◌+◌, ◌<◌, ◌≤◌, List, length, slice_get, Option, Some, None}
 use Rattle.sedre.specs.Tree.{Tree}
@@ -22,7 +22,7 @@ CanBegin (Before s) w i = PassesSieve s w i
 abbrev pub AllBegin : Tree → Begins → Type 0
 AllBegin e begins = (w : List ℕ) (i j : ℕ) → Matches e w i j → CanBegin begins w i
 
--- the first place from p on at which a span that begins so can begin
+-- a place from p on before which no span that begins so can begin, or that none can from p on
 abbrev pub NextStart : Begins → List ℕ → ℕ → Option ℕ → Type 0
 NextStart begins w p None = (i : ℕ) → p ≤ i → i ≤ length w → CanBegin begins w i → ⊥
 NextStart begins w p (Some start) = (p ≤ start) × (start ≤ length w) × ((i : ℕ) → p ≤ i → i < start → CanBegin begins w i → ⊥)

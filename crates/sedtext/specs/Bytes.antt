@@ -1,17 +1,17 @@
--- Where a text holds a byte.
+-- Where a text has a byte.
 use Rattle.std.specs.Prelude.{◌≡◌, ℕ, ◌+◌, ◌-◌, ◌<◌, ◌≤◌, Bool, List, slice_get, Option, Some, None}
 use Rattle.sedtext.specs.Spans.{IsIn}
 
--- the first place from p on of which P holds, if there is one
+-- the first place from p on of which P is true, if there is one
 abbrev pub FirstFrom : (ℕ → Type 0) → ℕ → Option ℕ → Type 0
 FirstFrom P p None = (k : ℕ) → p ≤ k → P k → ⊥
 FirstFrom P p (Some k) = (p ≤ k) × P k × ((h : ℕ) → p ≤ h → h < k → P h → ⊥)
 
--- the first place from p on that holds the byte, if there is one
+-- the first place from p on that has the byte, if there is one
 abbrev pub FirstAt : List ℕ → ℕ → ℕ → Option ℕ → Type 0
 FirstAt w byte = FirstFrom (λ k. slice_get w k ≡ Some byte)
 
--- a byte of the set stands at the place
+-- a byte of the set is at the place
 abbrev pub MemberAt : List Bool → List ℕ → ℕ → Type 0
 MemberAt members w i = (byte : ℕ) × (slice_get w i ≡ Some byte) × IsIn byte members
 

@@ -1,6 +1,6 @@
--- Private to the proofs: no contract that `sedmatch` makes public cites what stands here.
+-- Private to the proofs: no contract that `sedmatch` makes public cites what is here.
 -- Up to three bytes, one of which is sought.
-use Rattle.std.specs.Prelude.{Bool, ◌≡◌, ◌⊎◌, ℕ, ◌<◌, ◌↔◌, List, length, slice_get, slice_index, Option, Some, None}
+use Rattle.std.specs.Prelude.{Bool, ◌≡◌, ◌⊎◌, ℕ, ◌<◌, ◌↔◌, List, slice_get, Option, Some, None}
 use Rattle.sedtext.specs.Bytes.{FirstFrom}
 use Rattle.sedtext.specs.Spans.{IsIn}
 use Rattle.sedtext.specs.declared.counted.few.Few.{Few}
@@ -12,15 +12,11 @@ HasFew (One a) c = c ≡ a
 HasFew (Two a b) c = (c ≡ a) ⊎ (c ≡ b)
 HasFew (Three a b d) c = (c ≡ a) ⊎ ((c ≡ b) ⊎ (c ≡ d))
 
--- of 32 lanes those are 0 in which a byte with the property stands
-abbrev pub HasZeros : (ℕ → Type 0) → List ℕ → List ℕ → Type 0
-HasZeros P lanes zeros = (length zeros ≡ 32) × ((k : ℕ) → k < 32 → P (slice_index lanes k) → slice_index zeros k ≡ 0)
-
--- one of the few stands at the place
+-- one of the few is at the place
 abbrev pub FewAt : Few → List ℕ → ℕ → Type 0
 FewAt few w i = (c : ℕ) × (slice_get w i ≡ Some c) × HasFew few c
 
--- the first place from p on at which one of the few stands, if there is one
+-- the first place from p on that has one of the few, if there is one
 abbrev pub FirstFew : Few → List ℕ → ℕ → Option ℕ → Type 0
 FirstFew few w = FirstFrom (FewAt few w)
 

@@ -1,4 +1,4 @@
--- Private to the proofs: no contract that `sedmatch` makes public cites what stands here.
+-- Private to the proofs: no contract that `sedmatch` makes public cites what is here.
 -- What the spans of a node are made of.
 use Rattle.std.specs.Prelude.{◌≡◌, ℕ, ◌+◌, ◌<◌, ◌⊎◌, ◌↔◌, Bool, List, length}
 use Rattle.sedre.specs.declared.types.Node.{Node}

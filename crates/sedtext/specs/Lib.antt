@@ -16,9 +16,8 @@ pub mod Beginnings
 pub mod Forms
 pub mod Runs
 pub mod Following
-pub mod Needed
+pub mod Required
 pub mod Prefix
-pub mod Times
-pub mod Word
+pub mod FixedRuns
 pub mod Few
 pub mod Sieve

@@ -1,5 +1,5 @@
--- What is matched, computed by trying all places. That it is what the relations tell, MatchingLaws says.
-use Rattle.std.specs.Prelude.{ℕ, zero, suc, ◌+◌, ◌-◌, Bool, false, ◌&&◌, ◌||◌, cond, eqb, ltb, List, length, slice_get, slice_index_or, slice_set, Option, Some, None, unwrap_or, nat_eq, nat_lt, if◌then◌else◌}
+-- What is matched, computed by trying all places. That it is what the relations determine, MatchingLaws says.
+use Rattle.std.specs.Prelude.{ℕ, zero, suc, ◌+◌, ◌-◌, Bool, false, ◌&&◌, ◌||◌, cond, eqb, ltb, List, length, slice_get, slice_index_or, slice_set, Option, Some, None, unwrap_or, option_map, nat_eq, nat_lt, if◌then◌else◌}
 use Rattle.sedre.specs.Tree.{Tree, empty, set, begin, end, seq, alt, group, star, opt}
 use Rattle.sedtext.specs.Groups.{Groups, forget, no_groups}
 
@@ -40,18 +40,14 @@ spans (opt a first) w i j = eqb i j || spans a w i j
 unfoldable pub longest : Tree → List ℕ → ℕ → Option ℕ
 longest e w i = greatest (spans e w i) (length w + 1)
 
-abbrev pub first_of : ℕ → Option ℕ → Option (ℕ × ℕ) → Option (ℕ × ℕ)
-first_of i None rest = rest
-first_of i (Some j) rest = Some (i, j)
-
 -- the match at the first of n places from p on that has one
 unfoldable pub found_from : Tree → List ℕ → ℕ → ℕ → Option (ℕ × ℕ)
 found_from e w zero p = None
-found_from e w (suc n) p = first_of p (longest e w p) (found_from e w n (p + 1))
+found_from e w (suc n) p = unwrap_or (option_map (λ j. Some (p, j)) (longest e w p)) (found_from e w n (p + 1))
 
 -- the leftmost-longest match from p on
-unfoldable pub found : Tree → List ℕ → ℕ → Option (ℕ × ℕ)
-found e w p = found_from e w (length w + 1 - p) p
+unfoldable pub leftmost_longest : Tree → List ℕ → ℕ → Option (ℕ × ℕ)
+leftmost_longest e w p = found_from e w (length w + 1 - p) p
 
 -- how far a goes when a and b lead from i to j
 unfoldable pub cut : (ℕ → ℕ → Bool) → (ℕ → ℕ → Bool) → ℕ → ℕ → ℕ
@@ -83,12 +79,12 @@ groups_after other w i j old = old
 unfoldable pub report : Tree → List ℕ → ℕ → ℕ → Groups
 report e w i j = slice_set (groups_after e w i j no_groups) 0 (Some (i, j))
 
--- The match of the null string at a place is passed over for another one. `span` tells where a match begins and ends.
+-- The match of the null string at a place is passed over for another one. `span` gives where a match begins and ends.
 abbrev pub unless_null_at : {M : Type 0} → (M → ℕ × ℕ) → ℕ → Option M → Option M → Option M
 unless_null_at span q None other = None
 unless_null_at span q (Some m) other = if nat_eq (span m).0 q && nat_eq (span m).1 q then other else Some m
 
--- The next match in a text of n bytes, after one that ended at a place, where there was one; `search` tells the match sought
+-- The next match in a text of n bytes, after one that ended at a place, where there was one; `search` gives the match sought
 -- from a place. Matches don't overlap, and a match of the null string directly after one is none (this project's own): then
 -- the search goes on one byte further, as long as that is no place after the end.
 abbrev pub next_match : {M : Type 0} → (M → ℕ × ℕ) → (ℕ → Option M) → ℕ → Option ℕ → Option M

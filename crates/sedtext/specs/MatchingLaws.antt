@@ -1,23 +1,23 @@
--- What is computed is what the relations tell.
+-- What is computed is what the relations determine.
 use Rattle.std.specs.Prelude.{ℕ, List, IsTrue, ◌↔◌, ◌≡◌, ◌≤◌, length, Some, None, is_some}
 use Rattle.sedre.specs.Tree.{Tree}
 use Rattle.sedtext.specs.Spans.{Matches, IsLeftmostLongest, NotFound, SomeFound}
 use Rattle.sedtext.specs.Caps.{Captures, IsReport}
 use Rattle.sedtext.specs.Groups.{Groups}
-use Rattle.sedtext.specs.Matching.{groups_after, found, report, spans}
+use Rattle.sedtext.specs.Matching.{groups_after, leftmost_longest, report, spans}
 
--- the computed match is the one that the relations tell
+-- the computed match is the one that the relations determine
 abbrev pub SpansLaw : Type 0
 SpansLaw = (e : Tree) (w : List ℕ) (i j : ℕ) → IsTrue (spans e w i j) ↔ Matches e w i j
 
 abbrev pub FoundLaw : Type 0
-FoundLaw = (e : Tree) (w : List ℕ) (p i j : ℕ) → p ≤ length w → (found e w p ≡ Some (i, j)) ↔ IsLeftmostLongest e w p i j
+FoundLaw = (e : Tree) (w : List ℕ) (p i j : ℕ) → p ≤ length w → (leftmost_longest e w p ≡ Some (i, j)) ↔ IsLeftmostLongest e w p i j
 
 abbrev pub NotFoundLaw : Type 0
-NotFoundLaw = (e : Tree) (w : List ℕ) (p : ℕ) → p ≤ length w → (found e w p ≡ None) ↔ NotFound e w p
+NotFoundLaw = (e : Tree) (w : List ℕ) (p : ℕ) → p ≤ length w → (leftmost_longest e w p ≡ None) ↔ NotFound e w p
 
 abbrev pub SomeFoundLaw : Type 0
-SomeFoundLaw = (e : Tree) (w : List ℕ) (p : ℕ) → p ≤ length w → IsTrue (is_some (found e w p)) ↔ SomeFound e w p
+SomeFoundLaw = (e : Tree) (w : List ℕ) (p : ℕ) → p ≤ length w → IsTrue (is_some (leftmost_longest e w p)) ↔ SomeFound e w p
 
 -- a match has one report of its groups alone
 abbrev pub OneCapsLaw : Type 0

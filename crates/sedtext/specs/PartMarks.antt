@@ -1,5 +1,5 @@
--- Private to the proofs: no contract that `sedmatch` makes public cites what stands here.
--- What a node tells of its parts at a place.
+-- Private to the proofs: no contract that `sedmatch` makes public cites what is here.
+-- What a node determines of its parts at a place.
 use Rattle.std.specs.Prelude.{ℕ, Bool, ◌&&◌, ◌||◌, List, slice_set}
 use Rattle.sedre.specs.declared.types.Node.{Node}
 use Rattle.sedre.specs.declared.types.Node.TheVariants.{Seq, Alt, Group, Star, Opt}

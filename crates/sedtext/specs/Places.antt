@@ -1,10 +1,10 @@
--- Private to the proofs: no contract that `sedmatch` makes public cites what stands here.
--- Places of a text as far as an expression tells them apart.
+-- Private to the proofs: no contract that `sedmatch` makes public cites what is here.
+-- Places of a text as far as an expression distinguishes them.
 use Rattle.std.specs.Prelude.{◌≡◌, ℕ, ◌≤◌, Bool, true, false, ◌↔◌, List, length, IsTrue}
 use Rattle.sedre.specs.declared.types.Node.{Node}
 use Rattle.sedre.specs.declared.types.Node.TheVariants.{Set}
 
--- the three places stand in this order
+-- the three places come in this order
 abbrev pub Ascending : ℕ → ℕ → ℕ → Type 0
 Ascending a b c = (a ≤ b) × (b ≤ c)
 

@@ -1,5 +1,5 @@
--- Private to the proofs: no contract that `sedmatch` makes public cites what stands here.
--- Which bytes stand at a fixed distance after the beginning of every span.
+-- Private to the proofs: no contract that `sedmatch` makes public cites what is here.
+-- Which bytes are at a fixed distance after the beginning of every span.
 use Rattle.std.specs.Prelude.{◌≡◌, ℕ, ◌+◌, ◌*◌, ◌<◌, ◌⊎◌, ◌↔◌, Bool, List, Option, Some, None, IfSome}
 use Rattle.sedre.specs.Tree.{Tree}
 use Rattle.sedre.specs.declared.types.Node.{Node}
@@ -7,7 +7,7 @@ use Rattle.sedtext.specs.Spans.{Matches}
 use Rattle.sedtext.specs.Reach.{At}
 use Rattle.sedtext.specs.Bytes.{MemberAt}
 use Rattle.sedtext.specs.Beginnings.{LeadsWith}
-use Rattle.sedtext.specs.Needed.{GoesOnAs}
+use Rattle.sedtext.specs.Required.{GoesOnAs}
 use Rattle.sedtext.specs.declared.prefix.Link.{Link}
 use Rattle.sedtext.specs.declared.prefix.Link.TheVariants.{OneOf, Inner, First, Either, Other}
 use Rattle.sedtext.specs.declared.prefix.Reached.{Reached}
@@ -36,11 +36,11 @@ abbrev pub left_behind : Reached → ℕ
 left_behind (OneOfTwo y z ahead) = 3 * (z + 1)
 left_behind other = 0
 
--- a byte of the set, if there is one, stands at the place
+-- a byte of the set, if there is one, is at the place
 abbrev pub HasOne : Option (List Bool) → List ℕ → ℕ → Type 0
 HasOne None w q = ⊥
 HasOne (Some s) w q = MemberAt s w q
 
--- a byte of the set stands `offset` bytes after the beginning of each span of the expression
+-- a byte of the set is `offset` bytes after the beginning of each span of the expression
 abbrev pub AllHave : Tree → ℕ → List Bool → Type 0
 AllHave e offset s = (w : List ℕ) (i j : ℕ) → Matches e w i j → MemberAt s w (i + offset)

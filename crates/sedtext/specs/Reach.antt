@@ -1,4 +1,4 @@
--- Private to the proofs: no contract that `sedmatch` makes public cites what stands here.
+-- Private to the proofs: no contract that `sedmatch` makes public cites what is here.
 -- At which places of a text the nodes of an expression can begin and end, in matches that begin at one of some starts.
 use Rattle.std.specs.Prelude.{◌≡◌, ℕ, ◌<◌, ◌≤◌, Bool, false, ◌⊎◌, ◌↔◌, List, slice_get, slice_index_or, Option, Some, None, IsTrue}
 use Rattle.sedre.specs.Tree.{Tree, tree_at}
@@ -45,7 +45,7 @@ Ends nodes w r s x j = (i : ℕ) × (i < j) × Enters nodes w r s x i × At node
 abbrev pub SomeSpan : List Node → List ℕ → ℕ → Starts → ℕ → Type 0
 SomeSpan nodes w r s j = (i : ℕ) × IsStart s i × At nodes w r i j
 
--- the marks tell, of each place that S has, whether P holds of it
+-- the marks show, of each place that S has, whether P is true of it
 abbrev pub Marked : List Bool → (ℕ → Type 0) → (ℕ → Type 0) → Type 0
 Marked marks S P = (c : ℕ) → S c → IsTrue (slice_index_or marks c false) ↔ P c
 

@@ -1,4 +1,4 @@
--- Private to the proofs: no contract that `sedmatch` makes public cites what stands here.
+-- Private to the proofs: no contract that `sedmatch` makes public cites what is here.
 -- Bytes of a set, any number of them one after another.
 use Rattle.std.specs.Prelude.{◌<◌, ℕ, ◌≤◌, ◌↔◌, Bool, List, length}
 use Rattle.sedre.specs.Tree.{set}

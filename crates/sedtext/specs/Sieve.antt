@@ -1,5 +1,5 @@
--- Private to the proofs: no contract that `sedmatch` makes public cites what stands here.
--- Sets of bytes that are told by the nibbles of a byte, and where bytes of three of them stand.
+-- Private to the proofs: no contract that `sedmatch` makes public cites what is here.
+-- Sets of bytes that are decided by the nibbles of a byte, and where bytes of three of them are.
 use Rattle.std.specs.Prelude.{◌≡◌, ℕ, ◌+◌, ◌/◌, ◌%◌, ◌^◌, ◌<◌, ◌≤◌, List, length, slice_get, slice_index, Option, Some, None}
 use Rattle.std.specs.Int.{bit_at}
 use Rattle.sedre.specs.Tree.{Tree}
@@ -11,32 +11,32 @@ use Rattle.sedtext.specs.declared.counted.sieve.Sieve.{Sieve}
 abbrev pub IsMarked : List ℕ → ℕ → Type 0
 IsMarked rows c = c < 256 → bit_at (slice_index rows (c % 16)) (c / 16 % 8) ≡ 1
 
--- a vector of 32 lanes holds these values
+-- a vector of 32 lanes has these values
 abbrev pub HasLanes : List ℕ → (ℕ → ℕ) → Type 0
 HasLanes v f = (length v ≡ 32) × ((k : ℕ) → k < 32 → slice_index v k ≡ f k)
 
--- a byte of the set stands at the distance after the place
+-- a byte of the set is at the distance after the place
 abbrev pub StandsAt : Fixed → List ℕ → ℕ → Type 0
 StandsAt f w i = (c : ℕ) × (slice_get w (i + f.offset) ≡ Some c) × IsMarked f.set.rows c
 
--- bytes of all three sets stand at their distances after the place
+-- bytes of all three sets are at their distances after the place
 abbrev pub PassesSieve : Sieve → List ℕ → ℕ → Type 0
 PassesSieve s w i = StandsAt s.first w i × StandsAt s.second w i × StandsAt s.third w i
 
--- of the 32 places from p on those of which P holds have their bit set
+-- of the 32 places from p on those of which P is true have their bit set
 abbrev pub MarksPlaces : (ℕ → Type 0) → ℕ → ℕ → Type 0
 MarksPlaces P p marks = (marks < 2 ^ 32) × ((k : ℕ) → k < 32 → P (p + k) → bit_at marks k ≡ 1)
 
--- a place from p on, and P holds of none from p on before it; or it holds of none from p on
+-- a place from p on, and P is true of none from p on before it; or it is true of none from p on
 abbrev pub NoneBefore : (ℕ → Type 0) → ℕ → Option ℕ → Type 0
 NoneBefore P p None = (i : ℕ) → p ≤ i → P i → ⊥
 NoneBefore P p (Some k) = (p ≤ k) × ((i : ℕ) → p ≤ i → i < k → P i → ⊥)
 
--- a byte of the set stands at the distance after the beginning of each span of the expression
+-- a byte of the set is at the distance after the beginning of each span of the expression
 abbrev pub AllStand : Tree → Fixed → Type 0
 AllStand e f = (w : List ℕ) (i j : ℕ) → Matches e w i j → StandsAt f w i
 
--- bytes of all three sets, if there are such, stand at their distances after the beginning of each span
+-- bytes of all three sets, if there are such, are at their distances after the beginning of each span
 abbrev pub AllPass : Tree → Option Sieve → Type 0
 AllPass e None = Unit {0}
 AllPass e (Some s) = AllStand e s.first × AllStand e s.second × AllStand e s.third

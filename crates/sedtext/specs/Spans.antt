@@ -17,14 +17,14 @@ abbrev pub Matches : Tree → List ℕ → ℕ → ℕ → Type 0
 Matches empty w i j = i ≡ j
 -- one byte of a set: an ordinary character, a special one after a backslash, a period, a bracket expression (XBD 9.3.2 to 9.3.5)
 Matches (set members) w i j = (byte : ℕ) × (slice_get w i ≡ Some byte) × IsIn byte members × (j ≡ i + 1)
--- the anchors hold at the beginning and at the end of the whole text alone (XBD 9.3.8)
+-- the anchors match at the beginning and at the end of the whole text alone (XBD 9.3.8)
 Matches begin w i j = (i ≡ 0) × (j ≡ 0)
 Matches end w i j = (i ≡ length w) × (j ≡ length w)
 -- a concatenation matches what its parts match one after another (XBD 9.3.6)
 Matches (seq a b) w i j = (k : ℕ) × Matches a w i k × Matches b w k j
 -- an alternation matches what one of its alternatives matches (XBD 9.4.7)
 Matches (alt a b) w i j = Matches a w i j ⊎ Matches b w i j
--- a group matches what stands in it (XBD 9.3.6)
+-- a group matches what is in it (XBD 9.3.6)
 Matches (group k a) w i j = Matches a w i j
 -- any number of copies, none among them (XBD 9.3.6)
 Matches (star a first) w i j = CopiesLead (Matches a w) j i

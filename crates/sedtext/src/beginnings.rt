@@ -17,7 +17,7 @@ use crate::counted::sieve::{Fixed, Sieve};
 use crate::prefix::{is_anchored, set_at};
 use sedre::{ByteSet, Expr, Steps};
 
-/// How often bytes stand in a thousand that aren't worth seeking.
+/// How often bytes occur in a thousand that aren't worth seeking.
 const FREQUENT: usize = 500;
 
 /// How many bytes after its beginning a match is followed.
@@ -26,7 +26,7 @@ const MAX_OFFSET: usize = 32;
 /// How many alternatives after the first are followed.
 const MORE_ALTERNATIVES: usize = 7;
 
-/// How often each letter stands in a thousand bytes of ordinary text, that is prose, logs and programs.
+/// How often each letter occurs in a thousand bytes of ordinary text, that is prose, logs and programs.
 const LETTERS: [u8; 26] = [
     65, 12, 30, 33, 95, 18, 16, 30, 60, 2, 7, 35, 22, 60, 60, 22, 1, 55, 55, 70, 25, 8, 12, 3, 12,
     1,
@@ -43,11 +43,11 @@ pub enum Begins {
     WithByte(u8),
     /// With a byte of this set.
     WithSet(ByteSet),
-    /// So that bytes of three sets stand at their distances after it.
+    /// So that bytes of three sets are at their distances after it.
     Before(Sieve),
 }
 
-/// How often the byte stands in a thousand bytes of ordinary text.
+/// How often the byte occurs in a thousand bytes of ordinary text.
 fn weight(byte: u8) -> usize
     ensures { result ≤ 255 }
 {
@@ -61,7 +61,7 @@ fn weight(byte: u8) -> usize
     }
 }
 
-/// How often bytes of the set stand in a thousand bytes of ordinary text.
+/// How often bytes of the set occur in a thousand bytes of ordinary text.
 fn set_weight(set: &ByteSet) -> usize {
     let mut total = 0usize;
     for byte in 0..256usize {
@@ -72,7 +72,7 @@ fn set_weight(set: &ByteSet) -> usize {
     total
 }
 
-/// The three rarest of these and one more. Where there are fewer, the first stands in for them.
+/// The three rarest of these and one more. Where there are fewer, the first is taken again.
 fn with_fixed(sieve: Option<Sieve>, more: Fixed) -> Sieve
     ensures { (e : Tree) → AllPass e sieve → AllStand e more → AllPass e (Some result) }
 {
@@ -122,7 +122,7 @@ fn with_fixed(sieve: Option<Sieve>, more: Fixed) -> Sieve
     }
 }
 
-/// The three rarest of these and of the set, one of whose bytes stands `offset` bytes after the beginning of every match.
+/// The three rarest of these and of the set, one of whose bytes is `offset` bytes after the beginning of every match.
 fn with_set(sieve: Option<Sieve>, offset: usize, set: &ByteSet) -> Sieve
     ensures { (e : Tree) → AllPass e sieve → AllHave e offset set.now → AllPass e (Some result) }
 {
@@ -134,7 +134,7 @@ fn with_set(sieve: Option<Sieve>, offset: usize, set: &ByteSet) -> Sieve
     with_fixed(sieve, more)
 }
 
-/// The three rarest sets of which a byte stands at a fixed distance after the beginning of every match, if there is such a set.
+/// The three rarest sets of which a byte is at a fixed distance after the beginning of every match, if there is such a set.
 fn rarest_of(expr: &Expr, steps: &mut Steps) -> Option<Sieve>
     ensures pass { AllPass (expression_tree expr.now) result }
     ensures cost { Takes steps.old steps.new (768 * length expr.now.nodes) }
@@ -159,7 +159,7 @@ fn begins_with(set: ByteSet) -> Begins
     }
 }
 
-/// How every span of the expression begins, as far as the nodes tell that come first in one.
+/// How every span of the expression begins, as far as the nodes show that come first in one.
 pub fn how_begins(expr: &Expr, steps: &mut Steps) -> Begins
     ensures begins { AllBegin (expression_tree expr.now) result }
     ensures cost { Takes steps.old steps.new (793 * length expr.now.nodes) }
@@ -179,7 +179,7 @@ pub fn how_begins(expr: &Expr, steps: &mut Steps) -> Begins
     }
 }
 
-/// A place from `from` on before which no match begins, as far as `begins` tells, if one may begin there or later.
+/// A place from `from` on before which no match begins, as far as `begins` shows, if one may begin there or later.
 pub fn next_start(begins: &Begins, text: &Text, from: usize, steps: &mut Steps) -> Option<usize>
     requires from { from ≤ length text.now }
     ensures next { NextStart begins.now text.now from result }

@@ -87,7 +87,7 @@ impl<'a> Text<'a> {
         self.bytes[i]
     }
 
-    /// The first place from `from` on that holds the byte.
+    /// The first place from `from` on that has the byte.
     /// Counts a look for each byte from `from` to that place, or to the end where there is none.
     pub fn find_byte(&self, value: u8, from: usize, steps: &mut Steps) -> Option<usize>
         requires from { from ≤ length self.now }
@@ -114,7 +114,7 @@ pub fn are_bytes(text: &Text)
     all_bytes(text.bytes)
 }
 
-/// For proofs: what a slice of bytes holds are bytes.
+/// For proofs: what a slice of bytes contains are bytes.
 fn all_bytes(bytes: &[u8])
     ensures { AreBytes bytes.now }
 {
@@ -158,7 +158,7 @@ impl Tally {
     }
 }
 
-/// A list of marks, each set or not. A word holds 64 of them.
+/// A list of marks, each set or not. A word contains 64 of them.
 #[derive(Drop)]
 pub struct Marks {
     words: Vec<u64>,

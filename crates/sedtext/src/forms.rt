@@ -1,4 +1,4 @@
-//! What the spans of a node are made of, told by the indices of its parts.
+//! What the spans of a node are made of, given by the indices of its parts.
 ghost use Rattle.std.specs.Prelude.{◌≡◌, ◌<◌, length, IfSome};
 ghost use Rattle.sedtext.specs.Forms.{HasForm, IsOfSet, node_form};
 ghost use Rattle.sedre.specs.Steps.{Takes};
@@ -22,7 +22,7 @@ pub enum Form {
     Inner(usize),
     /// Any number of spans of this node.
     Copies(usize),
-    /// That isn't told.
+    /// That isn't known.
     Other,
 }
 

@@ -1,4 +1,4 @@
-//! The computed match is the one that the relations tell.
+//! The computed match is the one that the relations determine.
 ghost use Rattle.sedtext.specs.MatchingLaws.{SpansLaw, FoundLaw, NotFoundLaw, SomeFoundLaw, OneCapsLaw, CapsLaw, ReportLaw};
 
 /// An expression spans a part of a text exactly where the computed test says so.

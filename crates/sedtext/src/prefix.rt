@@ -1,4 +1,4 @@
-//! Which bytes stand at a fixed distance after the beginning of every match: a concatenation is followed as long as its parts
+//! Which bytes are at a fixed distance after the beginning of every match: a concatenation is followed as long as its parts
 //! are sets, and the sets of alternatives are joined.
 ghost use Rattle.std.specs.Prelude.{◌≡◌, ℕ, List, ◌+◌, ◌*◌, ◌<◌, ◌≤◌, length, IfSome, IsTrue, Some};
 ghost use Rattle.sedre.specs.Arena.{IsArena};
@@ -101,7 +101,7 @@ fn joined(members: Option<ByteSet>, more: &ByteSet) -> ByteSet
     }
 }
 
-/// The set of the bytes that stand `offset` bytes after the beginning of a match, if it is found: of at most `more`
+/// The set of the bytes that are `offset` bytes after the beginning of a match, if it is found: of at most `more`
 /// alternatives after the first.
 pub fn set_at(expr: &Expr, offset: usize, more: usize, steps: &mut Steps) -> Option<ByteSet>
     ensures have { IfSome result (λ s. AllHave (expression_tree expr.now) offset s) }
@@ -130,7 +130,7 @@ pub fn set_at(expr: &Expr, offset: usize, more: usize, steps: &mut Steps) -> Opt
     Some(joined(members, &set))
 }
 
-/// Whether an anchor stands first in the expression, so that every match begins where the text does.
+/// Whether an anchor comes first in the expression, so that every match begins where the text does.
 pub fn is_anchored(expr: &Expr, steps: &mut Steps) -> bool
     ensures begins { IsTrue result → AllBegin (expression_tree expr.now) AtStart }
     ensures cost { Takes steps.old steps.new (length expr.now.nodes) }

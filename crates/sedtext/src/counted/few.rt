@@ -28,7 +28,7 @@ impl Few {
         }
     }
 
-    /// The first place at which one of them stands, if there is one.
+    /// The first place at which one of them is, if there is one.
     pub(super) fn find(&self, bytes: &[u8]) -> Option<usize>
         ensures { FirstFew self.now bytes.now 0 result }
     {

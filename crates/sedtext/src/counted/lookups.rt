@@ -1,8 +1,8 @@
-//! Where few bytes, literals and bytes of three sets stand in a text, by calls that count.
+//! Where few bytes, literals and bytes of three sets are in a text, by calls that count.
 ghost use Rattle.std.specs.Prelude.{◌*◌, ◌≤◌, length, IfSome};
 ghost use Rattle.sedtext.specs.Bytes.{looked_at};
 ghost use Rattle.sedtext.specs.Few.{FirstFew};
-ghost use Rattle.sedtext.specs.Needed.{FirstLiteral, passed_to};
+ghost use Rattle.sedtext.specs.Required.{FirstLiteral, passed_to};
 ghost use Rattle.sedtext.specs.Sieve.{NoneBefore, PassesSieve};
 ghost use Rattle.sedre.specs.Steps.{Takes, TakesAtLeast, TakesExactly};
 
@@ -12,7 +12,7 @@ use super::{Text, uncounted};
 use memchr::memmem::Finder;
 use sedre::Steps;
 
-/// The first place from `from` on at which one of the few bytes stands, if there is one.
+/// The first place from `from` on that has one of the few bytes, if there is one.
 /// Counts a look for each byte from `from` to that place, or to the end where there is none.
 #[inline(always)]
 pub fn find_few(text: &Text, few: &Few, from: usize, steps: &mut Steps) -> Option<usize>
@@ -35,7 +35,7 @@ pub fn find_few(text: &Text, few: &Few, from: usize, steps: &mut Steps) -> Optio
     }
 }
 
-/// The first place from `from` on at which the literal stands, if there is one.
+/// The first place from `from` on at which the literal begins, if there is one.
 /// Counts a look for each byte from `from` to the literal's end, or to the end where there is none.
 pub fn find_literal(text: &Text, finder: &Finder, from: usize, steps: &mut Steps) -> Option<usize>
     requires from { from ≤ length text.now }
@@ -57,7 +57,7 @@ pub fn find_literal(text: &Text, finder: &Finder, from: usize, steps: &mut Steps
     }
 }
 
-/// A place from `from` on before which bytes of the sieve's three sets stand together after none, if they may stand after one.
+/// A place from `from` on before which bytes of the sieve's three sets come together after none, if they may come after one.
 /// Counts three looks for each place from `from` to that one, or to the end where there is none.
 #[inline(always)]
 pub fn sift(text: &Text, sieve: &Sieve, from: usize, steps: &mut Steps) -> Option<usize>

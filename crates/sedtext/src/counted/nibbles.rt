@@ -1,4 +1,4 @@
-//! Sets of bytes that vectors tell, by the two nibbles of a byte.
+//! Sets of bytes that vectors decide, by the two nibbles of a byte.
 ghost use Rattle.std.specs.Prelude.{◌≡◌, ℕ, ◌/◌, ◌%◌, ◌<◌, ◌^◌, length, slice_index, IsTrue};
 ghost use Rattle.std.specs.Int.{bit_at};
 ghost use Rattle.sedtext.specs.Sieve.{HasLanes, IsMarked};
@@ -38,7 +38,7 @@ fn twice(table: &[u8; 16]) -> u8x32
     ])
 }
 
-/// What the table holds for each lane.
+/// What the table contains for each lane.
 #[inline(always)]
 fn look_up(table: &[u8; 16], lanes: u8x32) -> u8x32
     requires { (k : ℕ) → k < 32 → slice_index lanes k < 16 }

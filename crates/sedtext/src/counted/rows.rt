@@ -8,7 +8,7 @@ use sedre::Steps;
 use std::alloc::{AllocError, Global};
 use std::marker::Model;
 
-/// Rows of marks, all of them in one piece of memory. A word holds 64 marks of a row.
+/// Rows of marks, all of them in one piece of memory. A word contains 64 marks of a row.
 #[derive(Drop)]
 pub struct Rows {
     words: Vec<u64>,

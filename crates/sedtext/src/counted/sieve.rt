@@ -1,4 +1,4 @@
-//! Three sets of bytes at fixed distances after a place: the places after which bytes of all three stand are told by vectors of
+//! Three sets of bytes at fixed distances after a place: the places after which bytes of all three come are found by vectors of
 //! 32 bytes.
 ghost use Rattle.std.specs.Prelude.{◌≡◌, ℕ, ◌+◌, ◌<◌, ◌≤◌, ◌^◌, length, slice_index, IfSome, IsTrue};
 ghost use Rattle.sedtext.specs.Sieve.{MarksPlaces, NoneBefore, StandsAt, PassesSieve};
@@ -9,14 +9,14 @@ use std::simd::prelude::*;
 /// How many lanes a vector has.
 const LANES: usize = 32;
 
-/// A set of bytes, one of which stands at a distance after a place.
+/// A set of bytes, one of which is at a distance after a place.
 #[derive(Clone, Copy)]
 pub struct Fixed {
     /// The distance.
     pub offset: usize,
     /// The bytes.
     pub set: Nibbles,
-    /// How often they stand in a thousand bytes of ordinary text.
+    /// How often they occur in a thousand bytes of ordinary text.
     pub weight: usize,
 }
 
@@ -41,7 +41,7 @@ fn lanes_at(bytes: &[u8], at: usize) -> u8x32
 }
 
 impl Fixed {
-    /// Whether one of them stands at the distance after the place.
+    /// Whether one of them is at the distance after the place.
     fn stands(&self, bytes: &[u8], place: usize) -> bool
         requires { place ≤ length bytes.now }
         ensures { StandsAt self.now bytes.now place → IsTrue result }
@@ -49,7 +49,7 @@ impl Fixed {
         self.offset < bytes.len() - place && self.set.has(bytes[place + self.offset])
     }
 
-    /// Of the 32 places from one on those after which one of them stands, a bit each.
+    /// Of the 32 places from one on those after which one of them comes, a bit each.
     #[inline(always)]
     fn marks(&self, bytes: &[u8], place: usize) -> u64
         requires { place + self.now.offset + 32 ≤ length bytes.now }
@@ -73,7 +73,7 @@ impl Sieve {
             .max(self.third.offset)
     }
 
-    /// Of the 32 places from one on those after which bytes of all three stand, a bit each.
+    /// Of the 32 places from one on those after which bytes of all three come, a bit each.
     #[inline(always)]
     fn marks(&self, bytes: &[u8], place: usize) -> u64
         requires first { place + self.now.first.offset + 32 ≤ length bytes.now }
@@ -88,7 +88,7 @@ impl Sieve {
         first & second & self.third.marks(bytes, place)
     }
 
-    /// Whether bytes of all three stand after the place.
+    /// Whether bytes of all three come after the place.
     fn passes(&self, bytes: &[u8], place: usize) -> bool
         requires { place ≤ length bytes.now }
         ensures { PassesSieve self.now bytes.now place → IsTrue result }
@@ -98,7 +98,7 @@ impl Sieve {
             && self.third.stands(bytes, place)
     }
 
-    /// The first place from one on after which bytes of all three stand, byte by byte.
+    /// The first place from one on after which bytes of all three come, byte by byte.
     fn find_slowly(&self, bytes: &[u8], from: usize) -> Option<usize>
         requires { from ≤ length bytes.now }
         ensures none { NoneBefore (PassesSieve self.now bytes.now) from result }
@@ -112,7 +112,7 @@ impl Sieve {
         None
     }
 
-    /// A place from one on before which bytes of all three stand after none, if they may stand after one.
+    /// A place from one on before which bytes of all three come after none, if they may come after one.
     pub(super) fn find(&self, bytes: &[u8], from: usize) -> Option<usize>
         requires { from ≤ length bytes.now }
         ensures none { NoneBefore (PassesSieve self.now bytes.now) from result }

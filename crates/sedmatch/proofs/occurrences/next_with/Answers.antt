@@ -9,12 +9,12 @@ use Rattle.sedmatch.proofs.OccurrenceLemmas.{first_paid, first_square, lies_firs
 use Rattle.sedmatch.proofs.occurrences.next_with.Goals as goal
 
 pub next_match-requires-clause-from : goal.next_match-requires-clause-from
-next_match-requires-clause-from c = (c.in-Some-skip_to_literal.ensures.narrowed (expression_tree c.args.sought.now.prepared.arena.expr) c.requires.sought.needed).1
+next_match-requires-clause-from c = (c.in-Some-skip_to_literal.ensures.narrowed (expression_tree c.args.sought.now.prepared.arena.expr) c.requires.sought.required).1
 
 pub returns-in-None-skip_to_literal-clause-next : goal.returns-in-None-skip_to_literal-clause-next
 returns-in-None-skip_to_literal-clause-next c =
     let e = expression_tree c.args.sought.now.prepared.arena.expr in
-    rw c.in-None.is (answer_found e c.args.text.now 0 None (omega arith) (tt, c.in-None-skip_to_literal.ensures.narrowed e c.requires.sought.needed, tt))
+    rw c.in-None.is (answer_found e c.args.text.now 0 None (omega arith) (tt, c.in-None-skip_to_literal.ensures.narrowed e c.requires.sought.required, tt))
 
 pub returns-in-None-skip_to_literal-clause-cost : goal.returns-in-None-skip_to_literal-clause-cost
 returns-in-None-skip_to_literal-clause-cost c = let looks = c.skip_to_literal.ensures.cost in rw c.in-None.is (looks.0, omega (arith, looks.1))
@@ -30,7 +30,7 @@ returns-in-None-skip_to_literal-clause-looks c =
 first : (c : goal.After-next_match) → SpanAnswer (expression_tree c.args.sought.now.prepared.arena.expr) c.args.text.now 0 c.next_match.result
 first c =
     let e = expression_tree c.args.sought.now.prepared.arena.expr in
-    let place = c.in-Some-skip_to_literal.ensures.narrowed e c.requires.sought.needed in
+    let place = c.in-Some-skip_to_literal.ensures.narrowed e c.requires.sought.required in
     later_answer e c.args.text.now 0 c.in-Some-skip_to_literal.start c.next_match.result place.0 place.2 c.next_match.ensures.answer
 
 pub returns-in-Some-skip_to_literal-clause-next : goal.returns-in-Some-skip_to_literal-clause-next

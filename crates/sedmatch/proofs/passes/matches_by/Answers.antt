@@ -4,7 +4,7 @@ use Rattle.sedmatch.proofs.PassLemmas.{any_serves, desk_again, told_past, untouc
 use Rattle.sedmatch.proofs.passes.matches_by.Goals as goal
 
 pub matches_with-requires-clause-from : goal.matches_with-requires-clause-from
-matches_with-requires-clause-from c = (c.in-Some.ensures.narrowed (expression_tree c.args.passes.now.sought.prepared.arena.expr) c.requires.passes.0.needed).1
+matches_with-requires-clause-from c = (c.in-Some.ensures.narrowed (expression_tree c.args.passes.now.sought.prepared.arena.expr) c.requires.passes.0.required).1
 
 pub returns-in-Some-own-clause-told : goal.returns-in-Some-own-clause-told
 returns-in-Some-own-clause-told c =
@@ -13,13 +13,13 @@ returns-in-Some-own-clause-told c =
     let first = c.in-Some.ensures in
     let done = c.matches_with.ensures in
     told_past p.arena.expr c.args.text.now c.args.from c.in-Some.start c.args.steps.now c.skip_to_literal.new.steps c.matches_with.new.steps c.matches_with.result (omega (arith, last))
-    (first.narrowed (expression_tree p.arena.expr) c.requires.passes.0.needed) first.cost first.counts done.matches done.passes done.cost
+    (first.narrowed (expression_tree p.arena.expr) c.requires.passes.0.required) first.cost first.counts done.matches done.passes done.cost
 
 pub fit-requires : goal.fit-requires
 fit-requires c = record { roomy = any_serves (length c.args.passes.now.sought.prepared.arena.expr.nodes) c.args.desk.now c.requires.desk c.requires.few }
 
 pub matches_with-requires-2-clause-from : goal.matches_with-requires-2-clause-from
-matches_with-requires-2-clause-from c = (c.in-Some.ensures.narrowed (expression_tree c.args.passes.now.sought.prepared.arena.expr) c.requires.passes.0.needed).1
+matches_with-requires-2-clause-from c = (c.in-Some.ensures.narrowed (expression_tree c.args.passes.now.sought.prepared.arena.expr) c.requires.passes.0.required).1
 
 pub returns-clause-desk : goal.returns-clause-desk
 returns-clause-desk c =
@@ -39,4 +39,4 @@ returns-clause-told c =
     let first = c.in-Some.ensures in
     let done = c.matches_with-2.ensures in
     told_past p.arena.expr c.args.text.now c.args.from c.in-Some.start c.args.steps.now c.skip_to_literal.new.steps c.matches_with-2.new.steps c.matches_with-2.result (omega (arith, last))
-    (first.narrowed (expression_tree p.arena.expr) c.requires.passes.0.needed) first.cost first.counts done.matches done.passes done.cost
+    (first.narrowed (expression_tree p.arena.expr) c.requires.passes.0.required) first.cost first.counts done.matches done.passes done.cost

@@ -11,4 +11,4 @@ returns-in-Passes-clause-before c =
     let e = expression_tree c.deref.result.now.sought.prepared.arena.expr in
     let is = passes_are c.self.inside.engine c.args.self.now c.deref.result.now _ c.self.view_is (ap written_of c.in-Passes.is) value in
     let are = subst (λ (x : Passes). ArePasses x.sought.prepared.arena.expr x) (sym value) (subst IsEngine c.in-Passes.is c.self.invariant) in
-    rw is at (c.candidate_by.ensures.before e are.0.needed are.0.begins)
+    rw is at (c.candidate_by.ensures.before e are.0.required are.0.begins)

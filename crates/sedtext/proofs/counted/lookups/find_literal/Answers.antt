@@ -1,5 +1,5 @@
 use Rattle.std.proofs.Common.{refl}
-use Rattle.sedtext.proofs.NeededLemmas.{literal_none, literal_some}
+use Rattle.sedtext.proofs.RequiredLemmas.{literal_none, literal_some}
 use Rattle.sedtext.proofs.counted.lookups.find_literal.Goals as goal
 
 pub returns-in-None-clause-first : goal.returns-in-None-clause-first

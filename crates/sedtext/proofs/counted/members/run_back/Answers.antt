@@ -1,7 +1,7 @@
 use Rattle.std.proofs.Common.{◌-◌, arith}
 use Rattle.sedtext.specs.Spans.{no_copy}
-use Rattle.sedtext.proofs.TimesLemmas.{repeated_more}
-use Rattle.sedtext.proofs.TimesLemmas.{run_stops}
+use Rattle.sedtext.proofs.FixedRunLemmas.{repeated_more}
+use Rattle.sedtext.proofs.FixedRunLemmas.{run_stops}
 use Rattle.sedtext.proofs.counted.members.run_back.Goals as goal
 
 pub loop-place-init : goal.loop-place-init

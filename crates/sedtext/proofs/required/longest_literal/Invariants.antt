@@ -1,6 +1,6 @@
 use Rattle.std.proofs.Common.{◌+◌, ◌*◌, ◌<◌, ◌≤◌, length}
-use Rattle.sedtext.specs.Needed.{AllEndWith, AllHold}
-use Rattle.sedtext.proofs.needed.longest_literal.Given as goal
+use Rattle.sedtext.specs.Required.{AllEndWith, AllHold}
+use Rattle.sedtext.proofs.required.longest_literal.Given as goal
 
 abbrev pub invariant-loop-bytes : goal.invariant-loop-bytes
 invariant-loop-bytes l = record {

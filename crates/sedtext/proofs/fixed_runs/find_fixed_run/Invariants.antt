@@ -1,7 +1,7 @@
 use Rattle.std.proofs.Common.{ℕ, ◌+◌, ◌-◌, ◌<◌, ◌≤◌, length}
 use Rattle.sedre.specs.Steps.{TakesAtLeast}
 use Rattle.sedtext.specs.Runs.{Repeated}
-use Rattle.sedtext.proofs.times.find_times.Given as goal
+use Rattle.sedtext.proofs.fixed_runs.find_fixed_run.Given as goal
 
 abbrev pub invariant-loop-start : goal.invariant-loop-start
 invariant-loop-start l = record {

@@ -1,5 +1,5 @@
--- Private to the proofs: no contract that `sedmatch` makes public cites what stands here.
--- Literals that the spans of an expression hold.
+-- Private to the proofs: no contract that `sedmatch` makes public cites what is here.
+-- Literals that the spans of an expression contain.
 use Rattle.std.specs.Prelude.{◌≡◌, ℕ, ◌+◌, ◌-◌, ◌≤◌, ◌↔◌, List, length, Option, Some, None, IsTrue}
 use Rattle.memchr.specs.Find.{OccursAt}
 use Rattle.sedre.specs.Tree.{Tree}
@@ -8,8 +8,8 @@ use Rattle.sedtext.specs.Bytes.{FirstFrom}
 use Rattle.sedtext.specs.Spans.{Matches, NotFound}
 use Rattle.sedtext.specs.Reach.{At}
 use Rattle.sedtext.specs.Beginnings.{NoneIn}
-use Rattle.sedtext.specs.declared.needed.Literal.{Literal}
-use Rattle.sedtext.specs.declared.needed.RequiredLiteral.{RequiredLiteral}
+use Rattle.sedtext.specs.declared.required.Literal.{Literal}
+use Rattle.sedtext.specs.declared.required.RequiredLiteral.{RequiredLiteral}
 
 -- the node y is spanned from i to j, or i is j if there is no such node
 abbrev pub GoesOnAs : List Node → List ℕ → ℕ → ℕ → Option ℕ → Type 0
@@ -24,7 +24,7 @@ BeginsAs nodes x bytes rest = (w : List ℕ) (i j : ℕ) → i ≤ length w → 
 abbrev pub IsLiteral : List Node → ℕ → Literal → Type 0
 IsLiteral nodes x l = BeginsAs nodes x l.bytes.items l.rest
 
--- each span of the node x holds the literal
+-- where the node x has a span in a text, the literal occurs at its beginning or later
 abbrev pub AllHold : List Node → ℕ → List ℕ → Type 0
 AllHold nodes x literal = (w : List ℕ) (i j : ℕ) → i ≤ length w → At nodes w x i j → (k : ℕ) × (i ≤ k) × OccursAt w literal k
 
@@ -32,12 +32,12 @@ AllHold nodes x literal = (w : List ℕ) (i j : ℕ) → i ≤ length w → At n
 abbrev pub AllEndWith : List Node → ℕ → ℕ → Type 0
 AllEndWith nodes x y = (w : List ℕ) (i j : ℕ) → i ≤ length w → At nodes w x i j → (k : ℕ) × (i ≤ k) × (k ≤ length w) × At nodes w y k j
 
--- each span of the expression holds the literal, if there is one, and begins with it if it leads
-abbrev pub IsNeeded : Tree → Option RequiredLiteral → Type 0
-IsNeeded e None = Unit {0}
-IsNeeded e (Some n) = (w : List ℕ) (i j : ℕ) → i ≤ length w → Matches e w i j → (k : ℕ) × (i ≤ k) × (IsTrue n.is_prefix → k ≡ i) × OccursAt w n.finder k
+-- where the expression has a match, the literal, if there is one, occurs at its beginning or later; at it, if it is a prefix
+abbrev pub IsRequired : Tree → Option RequiredLiteral → Type 0
+IsRequired e None = Unit {0}
+IsRequired e (Some n) = (w : List ℕ) (i j : ℕ) → i ≤ length w → Matches e w i j → (k : ℕ) × (i ≤ k) × (IsTrue n.is_prefix → k ≡ i) × OccursAt w n.finder k
 
--- the first place from p on at which the literal stands, if there is one
+-- the first place from p on at which the literal begins, if there is one
 abbrev pub FirstLiteral : List ℕ → List ℕ → ℕ → Option ℕ → Type 0
 FirstLiteral w literal = FirstFrom (OccursAt w literal)
 

@@ -14,11 +14,11 @@ use Rattle.sedtext.specs.Spans.{IsIn, NotFound}
 use Rattle.sedtext.specs.Reach.{At}
 use Rattle.sedtext.specs.Forms.{HasForm}
 use Rattle.sedtext.specs.declared.forms.Form.TheVariants.{Both}
-use Rattle.sedtext.specs.Needed.{BeginsAs, IsLiteral, GoesOnAs, AllHold, AllEndWith, IsNeeded, FirstLiteral, Narrowed}
+use Rattle.sedtext.specs.Required.{BeginsAs, IsLiteral, GoesOnAs, AllHold, AllEndWith, IsRequired, FirstLiteral, Narrowed}
 use Rattle.sedtext.specs.Prefix.{LinksTo}
 use Rattle.sedtext.specs.declared.prefix.Link.TheVariants.{OneOf}
-use Rattle.sedtext.specs.declared.needed.RequiredLiteral.{RequiredLiteral}
-use Rattle.sedtext.specs.declared.needed.Literal.{Literal}
+use Rattle.sedtext.specs.declared.required.RequiredLiteral.{RequiredLiteral}
+use Rattle.sedtext.specs.declared.required.Literal.{Literal}
 use Rattle.sedtext.proofs.FewLemmas.{length-rest, rest_at}
 use Rattle.sedtext.proofs.SpanLemmas.{Matches-forward, Matches-within}
 
@@ -109,14 +109,14 @@ module _ (w rest : List ℕ) (p : ℕ) (from : p ≤ length w) (e : rest ≡ tak
   pub literal_some : (k : ℕ) → FirstOf (OccursAt rest literal) 0 (length rest + 1) k → OccursAt rest literal k → FirstLiteral w literal p (Some (p + k))
   literal_some k least here = (omega arith, from_rest k here, λ h low high is. least.before (h - p) (omega arith) (omega arith) (to_rest h low is))
 
-module _ (e : Tree) (w : List ℕ) (p : ℕ) (n : RequiredLiteral) (holds : IsNeeded e (Some n)) where
+module _ (e : Tree) (w : List ℕ) (p : ℕ) (n : RequiredLiteral) (holds : IsRequired e (Some n)) where
   -- a text without the literal has no match
-  pub needed_none : FirstLiteral w n.finder p None → NotFound e w p
-  needed_none none i k low within s = let h = holds w i k within s in none h.0 (omega (arith, h.1)) h.3
+  pub required_none : FirstLiteral w n.finder p None → NotFound e w p
+  required_none none i k low within s = let h = holds w i k within s in none h.0 (omega (arith, h.1)) h.3
 
   -- where each match begins with it, none begins before it
-  pub needed_first : (place : ℕ) → IsTrue n.is_prefix → FirstLiteral w n.finder p (Some place) → Narrowed e w p (Some place)
-  needed_first place is_prefix first =
+  pub required_first : (place : ℕ) → IsTrue n.is_prefix → FirstLiteral w n.finder p (Some place) → Narrowed e w p (Some place)
+  required_first place is_prefix first =
       let within : place ≤ length w = omega (arith, first.1.fits) in (
         first.0,
         within,

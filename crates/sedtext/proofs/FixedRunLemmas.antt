@@ -7,7 +7,7 @@ use Rattle.sedre.specs.declared.types.Node.{Node}
 use Rattle.sedtext.specs.Spans.{Matches, CopiesLead, no_copy, one_more}
 use Rattle.sedtext.specs.Runs.{Repeated, RunBegins}
 use Rattle.sedtext.specs.Bytes.{MemberAt}
-use Rattle.sedtext.specs.Times.{HasTimes, AllTimes, AreWidths, FirstTimes}
+use Rattle.sedtext.specs.FixedRuns.{IsFixedRun, AllFixedRuns, AreWidths, FirstFixedRun}
 use Rattle.sedtext.proofs.SpanLemmas.{Matches-within}
 use Rattle.std.proofs.lemmas.List.{get_or_default}
 use Rattle.sedtext.proofs.BeginningLemmas.{member_step}
@@ -52,7 +52,7 @@ module _ (members : List Bool) (w : List ℕ) where
   repeated_within i j within all = Matches-within (star (set members) false) w i j within all
 
   -- those of one byte
-  pub repeated_one : (i j : ℕ) → Matches (set members) w i j → HasTimes members 1 w i j
+  pub repeated_one : (i j : ℕ) → Matches (set members) w i j → IsFixedRun members 1 w i j
   repeated_one i j s = (one_more i j (omega (arith, s.3)) s no_copy, s.3)
 
 -- the same, where the byte was looked at
@@ -75,14 +75,14 @@ run_stops members w p q before place byte has next low high is value missing cop
 
 module _ (nodes : List Node) (x : ℕ) (members : List Bool) where
   -- the set itself
-  pub times_set : IsOfSet nodes x members → AllTimes nodes x members 1
+  pub times_set : IsOfSet nodes x members → AllFixedRuns nodes x members 1
   times_set is w bytes i j = (
     (λ at. let s = (is w i j).0 at in repeated_one members w i j (s.0.0, s.0.1, s.0.2, s.1)),
     (λ h. (is w i j).1 (repeated_first members w j i (omega (arith, h.1)) h.0, h.1)),
   )
 
   -- a concatenation
-  times_seq : (a b first second : ℕ) → HasForm nodes x (Both a b) → AllTimes nodes a members first → AllTimes nodes b members second → AllTimes nodes x members (first + second)
+  times_seq : (a b first second : ℕ) → HasForm nodes x (Both a b) → AllFixedRuns nodes a members first → AllFixedRuns nodes b members second → AllFixedRuns nodes x members (first + second)
   times_seq a b first second both left right w bytes i j = (
     (λ at.
         let f = (both.2 w i j).0 at in
@@ -95,20 +95,20 @@ module _ (nodes : List Node) (x : ℕ) (members : List Bool) where
   )
 
   -- whose sum is known
-  pub if_sum : (a b first second : ℕ) (sum : Option ℕ) (P : Type 0) → HasForm nodes x (Both a b) → AllTimes nodes a members first → AllTimes nodes b members second →
-      SomeIff sum P (first + second) → IfSome sum (λ s. AllTimes nodes x members s)
+  pub if_sum : (a b first second : ℕ) (sum : Option ℕ) (P : Type 0) → HasForm nodes x (Both a b) → AllFixedRuns nodes a members first → AllFixedRuns nodes b members second →
+      SomeIff sum P (first + second) → IfSome sum (λ s. AllFixedRuns nodes x members s)
   if_sum a b first second None P both left right added = tt
-  if_sum a b first second (Some sum) P both left right added = subst (λ v. AllTimes nodes x members v) (sym added.1) (times_seq a b first second both left right)
+  if_sum a b first second (Some sum) P both left right added = subst (λ v. AllFixedRuns nodes x members v) (sym added.1) (times_seq a b first second both left right)
 
   -- a group
-  pub times_group : (a count : ℕ) → HasForm nodes x (Inner a) → AllTimes nodes a members count → AllTimes nodes x members count
+  pub times_group : (a count : ℕ) → HasForm nodes x (Inner a) → AllFixedRuns nodes a members count → AllFixedRuns nodes x members count
   times_group a count group inner w bytes i j = (λ at. (inner w bytes i j).0 ((group.1 w i j).0 at), λ h. (group.1 w i j).1 ((inner w bytes i j).1 h))
 
 -- a width that is known
 pub width_at : (nodes : List Node) (members : List Bool) (widths : List ℕ) (x count : ℕ) → AreWidths nodes members widths → x < length widths →
-    count ≡ slice_index_or widths x count → AllTimes nodes x members count
+    count ≡ slice_index_or widths x count → AllFixedRuns nodes x members count
 width_at nodes members widths x count are lt is =
-    subst (λ v. AllTimes nodes x members v) (sym (is ∙ get_or_default widths x count 0 lt)) (are x lt)
+    subst (λ v. AllFixedRuns nodes x members v) (sym (is ∙ get_or_default widths x count 0 lt)) (are x lt)
 
 module _ (members : List Bool) (count : ℕ) (w : List ℕ) (from : ℕ) where
   -- no so many bytes begin before a run that begins among those
@@ -128,7 +128,7 @@ module _ (members : List Bool) (count : ℕ) (w : List ℕ) (from : ℕ) where
 
   -- nor where the text is too short
   pub times_none : (start : ℕ) → length w < start + count →
-      ((h : ℕ) → from ≤ h → h < start → Repeated members w h (h + count) → ⊥) → FirstTimes members count w from None
+      ((h : ℕ) → from ≤ h → h < start → Repeated members w h (h + count) → ⊥) → FirstFixedRun members count w from None
   times_none start short before h after within all =
       ⊎_elim
       (λ (less : h < start). before h after less all)
@@ -137,5 +137,5 @@ module _ (members : List Bool) (count : ℕ) (w : List ℕ) (from : ℕ) where
 
   -- here they do
   pub times_here : (start seen : ℕ) → from ≤ start → start + count ≤ length w → Repeated members w start seen → Repeated members w seen (start + count) →
-      ((h : ℕ) → from ≤ h → h < start → Repeated members w h (h + count) → ⊥) → FirstTimes members count w from (Some start)
+      ((h : ℕ) → from ≤ h → h < start → Repeated members w h (h + count) → ⊥) → FirstFixedRun members count w from (Some start)
   times_here start seen after within these those before = (after, within, CopiesLead-join (Matches (set members) w) (start + count) seen start these those, before)

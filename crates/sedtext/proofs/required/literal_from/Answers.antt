@@ -1,8 +1,8 @@
 use Rattle.std.proofs.Common.{◌<◌, subst, arith}
 use Rattle.std.specs.Prelude.{IfSome}
-use Rattle.sedtext.specs.Needed.{BeginsAs}
-use Rattle.sedtext.proofs.NeededLemmas.{one_longer}
-use Rattle.sedtext.proofs.needed.literal_from.Goals as goal
+use Rattle.sedtext.specs.Required.{BeginsAs}
+use Rattle.sedtext.proofs.RequiredLemmas.{one_longer}
+use Rattle.sedtext.proofs.required.literal_from.Goals as goal
 
 pub returns-in_default-rest-clause-literal : goal.returns-in_default-rest-clause-literal
 returns-in_default-rest-clause-literal c =

@@ -2,8 +2,8 @@ use Rattle.std.proofs.Common.{◌+◌, ◌-◌, ◌<◌, subst, arith}
 use Rattle.sedtext.specs.Runs.{Repeated}
 use Rattle.sedtext.specs.Spans.{no_copy}
 use Rattle.sedtext.proofs.CountLemmas.{least_none, least_both, least_counted, most_counted}
-use Rattle.sedtext.proofs.TimesLemmas.{times_missed, times_none, times_here}
-use Rattle.sedtext.proofs.times.find_times.Goals as goal
+use Rattle.sedtext.proofs.FixedRunLemmas.{times_missed, times_none, times_here}
+use Rattle.sedtext.proofs.fixed_runs.find_fixed_run.Goals as goal
 
 pub loop-start-init : goal.loop-start-init
 loop-start-init c = record {

@@ -1,7 +1,7 @@
 use Rattle.std.proofs.Common.{subst}
 use Rattle.sedtext.specs.Runs.{Repeated}
 use Rattle.sedmatch.proofs.DirectLemmas.{span_times}
-use Rattle.sedmatch.proofs.direct.times_span.Goals as goal
+use Rattle.sedmatch.proofs.direct.fixed_run_span.Goals as goal
 
 pub returns-in-None-clause-span : goal.returns-in-None-clause-span
 returns-in-None-clause-span c = λ i j low within s. c.in-None.ensures.first i low within (subst (Repeated c.args.set.now c.args.text.now i) s.1 s.0)

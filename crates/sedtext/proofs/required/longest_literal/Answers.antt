@@ -1,6 +1,6 @@
 use Rattle.std.proofs.Common.{◌≡◌, ◌≤◌, Some, arith}
-use Rattle.sedtext.proofs.NeededLemmas.{hold_longer, ends_behind, second_ends, up_to_some}
-use Rattle.sedtext.proofs.needed.longest_literal.Goals as goal
+use Rattle.sedtext.proofs.RequiredLemmas.{hold_longer, ends_behind, second_ends, up_to_some}
+use Rattle.sedtext.proofs.required.longest_literal.Goals as goal
 
 pub returns-in_default : goal.returns-in_default
 returns-in_default c = record {

@@ -1,6 +1,6 @@
 use Rattle.std.proofs.Common.{◌+◌, ◌-◌, ◌≤◌, length}
-use Rattle.sedtext.specs.Times.{AreWidths}
-use Rattle.sedtext.proofs.times.times_of.Given as goal
+use Rattle.sedtext.specs.FixedRuns.{AreWidths}
+use Rattle.sedtext.proofs.fixed_runs.fixed_run_of.Given as goal
 
 abbrev pub invariant-loop-widths : goal.invariant-loop-widths
 invariant-loop-widths l = record {

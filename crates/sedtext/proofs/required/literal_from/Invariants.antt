@@ -1,6 +1,6 @@
 use Rattle.std.proofs.Common.{Some, ◌+◌, ◌*◌, ◌<◌, ◌≤◌, length}
-use Rattle.sedtext.specs.Needed.{BeginsAs}
-use Rattle.sedtext.proofs.needed.literal_from.Given as goal
+use Rattle.sedtext.specs.Required.{BeginsAs}
+use Rattle.sedtext.proofs.required.literal_from.Given as goal
 
 abbrev pub invariant-loop-steps : goal.invariant-loop-steps
 invariant-loop-steps l = record {

@@ -1,9 +1,9 @@
-//! A literal that every match of an expression holds: a text without it has no match.
+//! A literal that every match of an expression contains: a text without it has no match.
 //!
-//! A concatenation is followed from part to part, and single bytes that stand one after another in it are a literal.
+//! A concatenation is followed from part to part, and single bytes that come one after another in it are a literal.
 ghost use Rattle.std.specs.Prelude.{◌≡◌, ℕ, ◌-◌, ◌<◌, ◌≤◌, ◌⊎◌, length, IfOk, IfSome};
 ghost use Rattle.sedre.specs.Tree.{expression_tree, Tree};
-ghost use Rattle.sedtext.specs.Needed.{IsLiteral, AllHold, AllEndWith, IsNeeded, Narrowed};
+ghost use Rattle.sedtext.specs.Required.{IsLiteral, AllHold, AllEndWith, IsRequired, Narrowed};
 ghost use Rattle.sedtext.specs.Nodes.{IsNode};
 ghost use Rattle.sedtext.specs.Costs.{CostsWithin};
 ghost use Rattle.sedre.specs.Steps.{Takes, TakesAtLeast};
@@ -28,7 +28,7 @@ pub struct Literal {
     pub rest: Option<usize>,
 }
 
-/// A literal that every match holds.
+/// A literal that every match contains.
 #[derive(Drop)]
 pub struct RequiredLiteral {
     /// A search for it.
@@ -84,7 +84,7 @@ fn longer(first: Vec<u8>, second: Vec<u8>) -> Vec<u8>
     }
 }
 
-/// The longest of the literals that the spans of the node hold one after another; empty where none is found.
+/// The longest of the literals that the spans of the node contain one after another; empty where none is found.
 fn longest_literal(
     alloc: Global,
     expr: &Expr,
@@ -118,14 +118,14 @@ fn search_for(alloc: Global, literal: &[u8], is_prefix: bool) -> Result<Required
     Ok(RequiredLiteral { finder, is_prefix })
 }
 
-/// A literal that every match of the expression holds, if one is found: one of two bytes or more with which all begin,
+/// A literal that every match of the expression contains, if one is found: one of two bytes or more with which all begin,
 /// or else the longest that is found.
-pub fn find_needed(
+pub fn find_required(
     alloc: Global,
     expr: &Expr,
     steps: &mut Steps,
 ) -> Result<Option<RequiredLiteral>, AllocError>
-    ensures needed { IfOk result (λ n. IsNeeded (expression_tree expr.now) n) }
+    ensures required { IfOk result (λ n. IsRequired (expression_tree expr.now) n) }
 {
     let root = expr.root().index();
     let first = literal_from(alloc, expr, root, steps)?;
@@ -139,25 +139,25 @@ pub fn find_needed(
     Ok(Some(search_for(alloc, &best, false)?))
 }
 
-/// The first place from `from` on at which a match can begin, if there is one, as far as the literal tells that each
-/// match holds.
+/// The first place from `from` on at which a match can begin, if there is one, as far as the literal shows that each
+/// match contains.
 pub fn skip_to_literal(
-    needed: &Option<RequiredLiteral>,
+    required: &Option<RequiredLiteral>,
     text: &Text,
     from: usize,
     steps: &mut Steps,
 ) -> Option<usize>
     requires from { from ≤ length text.now }
-    ensures narrowed { (e : Tree) → IsNeeded e needed.now → Narrowed e text.now from result }
+    ensures narrowed { (e : Tree) → IsRequired e required.now → Narrowed e text.now from result }
     ensures lies { IfSome result (λ q. (from ≤ q) × (q ≤ length text.now)) }
     ensures cost { CostsWithin steps.old steps.new (length text.now) from }
     ensures counts { IfSome result (λ q. TakesAtLeast steps.old steps.new (q - from)) }
 {
-    match needed {
+    match required {
         None => Some(from),
-        Some(needed) => {
-            let place = find_literal(text, &needed.finder, from, steps)?;
-            Some(if needed.is_prefix { place } else { from })
+        Some(required) => {
+            let place = find_literal(text, &required.finder, from, steps)?;
+            Some(if required.is_prefix { place } else { from })
         }
     }
 }

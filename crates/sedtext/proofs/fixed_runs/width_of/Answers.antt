@@ -1,7 +1,7 @@
 use Rattle.std.proofs.Common.{subst, arith}
 use Rattle.sedtext.specs.Forms.{IsOfSet}
-use Rattle.sedtext.proofs.TimesLemmas.{times_set, times_group, width_at, if_sum}
-use Rattle.sedtext.proofs.times.width_of.Goals as goal
+use Rattle.sedtext.proofs.FixedRunLemmas.{times_set, times_group, width_at, if_sum}
+use Rattle.sedtext.proofs.fixed_runs.width_of.Goals as goal
 
 pub returns-then-same-clause-width : goal.returns-then-same-clause-width
 returns-then-same-clause-width c =

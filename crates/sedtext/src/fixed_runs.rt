@@ -4,7 +4,7 @@
 //! The last of these bytes is looked at first. Where it isn't in the set, no match begins before it, and those before
 //! it aren't looked at: where such bytes are rare, most of a text is passed over unseen.
 ghost use Rattle.std.specs.Prelude.{◌≡◌, ◌+◌, ◌<◌, ◌≤◌, ◌-◌, length, IfOk, IfSome};
-ghost use Rattle.sedtext.specs.Times.{AllTimes, AreWidths, FirstTimes, passed_times};
+ghost use Rattle.sedtext.specs.FixedRuns.{AllFixedRuns, AreWidths, FirstFixedRun, passed_run};
 ghost use Rattle.sedtext.specs.Costs.{CostsWithin};
 ghost use Rattle.sedre.specs.Steps.{Takes, TakesAtLeast};
 
@@ -27,7 +27,7 @@ fn width_of(
     requires inside { index < length expr.now.nodes }
     requires before { length widths.now.items ≡ index }
     requires widths { AreWidths expr.now.nodes set.now widths.now.items }
-    ensures width { IfSome result (λ count. AllTimes expr.now.nodes index set.now count) }
+    ensures width { IfSome result (λ count. AllFixedRuns expr.now.nodes index set.now count) }
     ensures cost { Takes steps.old steps.new 1 }
 {
     match form_of(expr, index, steps) {
@@ -40,12 +40,12 @@ fn width_of(
 
 /// The set and the number such that the matches are all strings of that many bytes of the set, if there are such. Sets
 /// of few bytes are left out: these are sought faster one by one.
-pub fn times_of(
+pub fn fixed_run_of(
     alloc: Global,
     expr: &Expr,
     steps: &mut Steps,
 ) -> Result<Option<(ByteSet, usize)>, AllocError>
-    ensures times { IfOk result (λ r. IfSome r (λ t. AllTimes expr.now.nodes (length expr.now.nodes - 1) t.0 t.1)) }
+    ensures times { IfOk result (λ r. IfSome r (λ t. AllFixedRuns expr.now.nodes (length expr.now.nodes - 1) t.0 t.1)) }
     ensures cost { Takes steps.old steps.new 65537 }
 {
     let count = expr.nodes();
@@ -68,7 +68,7 @@ pub fn times_of(
 /// The first place from `from` on at which `count` bytes in a row begin that are in the set, if there is one.
 /// Counts a look for each byte from `from` to their end.
 #[inline(never)]
-pub fn find_times(
+pub fn find_fixed_run(
     set: &ByteSet,
     count: usize,
     text: &Text,
@@ -76,8 +76,8 @@ pub fn find_times(
     steps: &mut Steps,
 ) -> Option<usize>
     requires from { from ≤ length text.now }
-    ensures first { FirstTimes set.now count text.now from result }
-    ensures cost { CostsWithin steps.old steps.new (passed_times (length text.now) count result) from }
+    ensures first { FirstFixedRun set.now count text.now from result }
+    ensures cost { CostsWithin steps.old steps.new (passed_run (length text.now) count result) from }
     ensures counts { IfSome result (λ k. TakesAtLeast steps.old steps.new (k + count - from)) }
 {
     let mut start = from;
