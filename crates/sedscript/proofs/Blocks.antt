@@ -7,7 +7,7 @@ use Rattle.std.proofs.lemmas.Bool.Decides.{eqb_tells}
 use Rattle.sedscript.specs.declared.items.Item.{Item}
 use Rattle.sedscript.specs.Types.{Verb}
 use Rattle.sedscript.specs.declared.letters.Verb.TheVariants.{Open, Close}
-use Rattle.sedscript.specs.Targets.{counted, commands_in, close_in, depth_after, block_end}
+use Rattle.sedscript.specs.Script.{counted, commands_in, close_in, depth_after, block_end}
 use Rattle.sedscript.specs.Letters.{is_open, is_close, becomes_command}
 use Rattle.sedscript.specs.Tables.{unopened, unopened_by, opened, blocks_in, with_end, ends_in, EndIs}
 

@@ -18,11 +18,10 @@ use Rattle.sedscript.specs.declared.letters.Verb.TheVariants.{Open, Branch, File
 use Rattle.sedscript.specs.declared.items.Addresses.{Addresses}
 use Rattle.sedscript.specs.declared.items.Item.{Item}
 use Rattle.sedscript.specs.declared.items.ItemOrEnd.TheVariants.{Is}
-use Rattle.sedscript.specs.Functions.{◌>>=◌ as ◌then◌}
+use Rattle.sedscript.specs.Bytes.{◌>>=◌ as ◌then◌}
 use Rattle.sedscript.specs.Strings.{counterpart, table_of}
 use Rattle.sedscript.specs.Items.{item_at, Reading}
-use Rattle.sedscript.specs.Script.{Gives, value, after_expression, CutScript, done, item, text_in, texts_of, substitution_in, substitutions_of, table_in, tables_of, action_of, command_of, commands_of, Means, ActionWithin}
-use Rattle.sedscript.specs.Targets.{counted, commands_in, label_in, is_label, close_in, depth_after, block_end, written_in, branch_in, is_standard_output, is_file, sink_name, name_in, file_in, files_in, number_in, FileWithin}
+use Rattle.sedscript.specs.Script.{Gives, value, after_expression, CutScript, done, item, text_in, texts_of, substitution_in, substitutions_of, table_in, tables_of, action_of, command_of, commands_of, Means, ActionWithin, counted, commands_in, label_in, is_label, close_in, depth_after, block_end, written_in, branch_in, is_standard_output, is_file, sink_name, name_in, file_in, files_in, number_in}
 use Rattle.sedscript.specs.Letters.{becomes_command, is_close}
 use Rattle.sedscript.specs.Program.{Program}
 use Rattle.sedscript.specs.declared.substitution.Substitution.{Substitution}
@@ -62,7 +61,7 @@ MayAct n (Some a) = ActionWithin n a
 -- the name, if there is one, is among the sizes
 abbrev NameWithin : List ℕ → List Item → Program → FileUse → Option (List ℕ) → Type 0
 NameWithin text all n u None = Unit {0}
-NameWithin text all n u (Some name) = FileWithin n u (number_in u text all name)
+NameWithin text all n u (Some name) = ActionWithin n (action.File u (number_in u text all name))
 
 -- what a function names among all items is among the sizes
 abbrev FilesWithin : List ℕ → List Item → Program → Verb → Argument → Type 0
@@ -219,7 +218,7 @@ number_below name first (n ∷ ns) h = by_same (λ h. number_below name (first +
 
 -- a file that a function of the items names is one of those
 file_number : (u : FileUse) (text : List ℕ) (all : List Item) (n : Program) (name : List ℕ) → (length n.rfiles) ≡ length (files_in Read text all) → (length n.wfiles) ≡ length (files_in Write text all) →
-    (is_file u name ≡ true → list_any (bytes_eq name) (files_in u text all) ≡ true) → FileWithin n u (number_in u text all name)
+    (is_file u name ≡ true → list_any (bytes_eq name) (files_in u text all) ≡ true) → ActionWithin n (action.File u (number_in u text all name))
 file_number Read text all n name r w h = omega (arith, r, number_below name 0 (files_in Read text all) (h refl))
 file_number Write text all n name r w h = by_output (is_standard_output name) refl
   where

@@ -1,7 +1,8 @@
 -- The bytes of a string, from one place to the next.
 use Rattle.std.proofs.Common.{◌≡◌, ℕ, suc, ◌+◌, ◌-◌, ◌<◌, ◌==◌, option_map, List, [], ◌∷◌, length, get_or, drop, Option, Some, None, Bool, true, false, if◌then◌else◌, refl, sym, ap, ◌∙◌, arith, drop-cons}
 use Rattle.std.specs.List.{cons_option}
-use Rattle.sedscript.specs.Strings.{escapes, Char, escaped_byte, char_of, chars_from, chars_of, bytes_of, table_of, repeated_in, is_among}
+use Rattle.sedscript.specs.Strings.{escapes, escaped_byte, char_of, chars_from, chars_of, bytes_of, table_of, repeated_in, is_among}
+use Rattle.sedscript.specs.Types.{Char}
 use Rattle.sedscript.specs.declared.items.Strings.{Strings}
 use Rattle.sedscript.specs.Bytes.{bytes_between}
 use Rattle.sedscript.specs.Script.{table_between}

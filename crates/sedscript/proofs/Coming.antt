@@ -22,7 +22,7 @@ use Rattle.sedscript.specs.declared.items.ItemOrEnd.TheVariants.{Is, Ends}
 use Rattle.sedscript.specs.Bytes.{bytes_between, past, is_byte, is_digit, with_digits}
 use Rattle.sedscript.specs.Items.{Pattern, Reading, plainly, expression, ◌>>=◌, Addressed, found, addresses_of, with_addresses, with_second, folds_at, past_flag, match_at, own_match, addresses_at, after_first, second_at, address_at, address_of, line_of, item_at, item_from, substitute_with, substitute_at, argument_with, function_at, match_to, function_after, item_with, item_of, empty_match}
 use Rattle.sedscript.specs.declared.items.Strings.{Strings}
-use Rattle.sedscript.specs.Between.{own_delimiter, substitute_strings, flags_after, folds}
+use Rattle.sedscript.specs.Arguments.{own_delimiter, substitute_strings, flags_after, folds}
 use Rattle.sedscript.specs.Letters.{argument_of, reads_expression, substituted, verb_of, allowed}
 use Rattle.sedscript.specs.Types.{Verb, Argument}
 use Rattle.sedscript.specs.declared.items.Addresses.{Addresses}

@@ -11,7 +11,7 @@ use Rattle.std.proofs.lemmas.List.Elements.{filter-append, filter_map-append}
 use Rattle.std.proofs.lemmas.Slice.Eq.{bytes_eq-Decides}
 use Rattle.sedscript.specs.declared.types.FileUse.{FileUse}
 use Rattle.sedscript.specs.declared.items.Item.{Item}
-use Rattle.sedscript.specs.Targets.{name_in, file_in, distinct, files_in}
+use Rattle.sedscript.specs.Script.{name_in, file_in, distinct, files_in}
 use Rattle.sedscript.specs.Tables.{labelled, with_name, NumbersAre}
 use Rattle.sedscript.proofs.Labels.{take_item, label_added, none_of, option_or_if}
 

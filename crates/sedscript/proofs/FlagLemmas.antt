@@ -6,9 +6,8 @@ use Rattle.std.proofs.lemmas.List.Sums.{prefix_len-le-length}
 use Rattle.sedscript.specs.declared.bytes.Sort.TheVariants.{Blank, Digit, Line}
 use Rattle.sedscript.specs.declared.types.ScriptFault.{ScriptFault}
 use Rattle.sedscript.specs.declared.items.Flags.{Flags}
-use Rattle.sedscript.specs.Bytes.{is_digit, belongs, past, bytes_between}
-use Rattle.sedscript.specs.Functions.{name_from, ◌>>=◌}
-use Rattle.sedscript.specs.Between.{flags_from, with_number, ends_flags, with_file}
+use Rattle.sedscript.specs.Bytes.{is_digit, belongs, past, bytes_between, ◌>>=◌}
+use Rattle.sedscript.specs.Arguments.{name_from, flags_from, with_number, ends_flags, with_file}
 use Rattle.sedscript.specs.Answers.{with_rest}
 
 -- digits that were read are passed over

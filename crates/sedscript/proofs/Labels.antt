@@ -13,7 +13,7 @@ use Rattle.std.proofs.lemmas.Slice.Eq.{bytes_eq-Decides}
 use Rattle.sedscript.specs.declared.targets.FirstLabel.{FirstLabel}
 use Rattle.sedscript.specs.declared.items.Item.{Item}
 use Rattle.sedscript.specs.Types.{Verb, Argument}
-use Rattle.sedscript.specs.Targets.{is_label, counted, commands_in, label_in}
+use Rattle.sedscript.specs.Script.{is_label, counted, commands_in, label_in}
 use Rattle.sedscript.specs.Letters.{becomes_command}
 use Rattle.sedscript.specs.Tables.{labelled, first_label, LabelsAre, is_earlier}
 

@@ -3,7 +3,7 @@ pub mod FlagLemmas
 pub mod Chars
 pub mod Pieces
 pub mod ByteTables
-pub mod Keeping
+pub mod Packing
 pub mod Cuts
 pub mod Exclusive
 mod OneMeaning

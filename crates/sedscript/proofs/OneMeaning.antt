@@ -3,9 +3,8 @@ use Rattle.std.proofs.Common.{◌≡◌, ℕ, List, [], map, sym, ap, ◌∙◌}
 use Rattle.sedre.specs.declared.types.Kind.{Kind}
 use Rattle.sedre.specs.Tree.{expression_tree}
 use Rattle.sedscript.specs.declared.items.Item.{Item}
-use Rattle.sedscript.specs.Script.{Means, commands_of, texts_of, substitutions_of, tables_of}
+use Rattle.sedscript.specs.Script.{Means, commands_of, texts_of, substitutions_of, tables_of, files_in}
 use Rattle.sedscript.specs.Program.{Program}
-use Rattle.sedscript.specs.Targets.{files_in}
 use Rattle.sedscript.specs.declared.types.FileUse.TheVariants.{Read, Write}
 use Rattle.sedscript.proofs.Exclusive.{ReadsAsOne, cut_alike, cut_same}
 

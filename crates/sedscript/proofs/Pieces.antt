@@ -6,7 +6,8 @@ use Rattle.std.proofs.lemmas.Bool.Decides.{nat_tests}
 use Rattle.sedscript.specs.declared.substitution.ReplacementPart.{ReplacementPart}
 use Rattle.sedscript.specs.declared.substitution.ReplacementPart.TheVariants.{Literal, Whole, Group}
 use Rattle.sedscript.specs.Bytes.{is_digit}
-use Rattle.sedscript.specs.Strings.{escapes, Piece, literal, whole, group, escaped_piece, piece_of, pieces_from, pieces_of, is_letter}
+use Rattle.sedscript.specs.Strings.{escapes, escaped_piece, piece_of, pieces_from, pieces_of, is_letter}
+use Rattle.sedscript.specs.Types.{Piece, literal, whole, group}
 use Rattle.sedscript.specs.Pieces.{pieces_in, GroupsWithin}
 use Rattle.sedscript.specs.Answers.{pieces_with}
 

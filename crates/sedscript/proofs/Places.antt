@@ -18,7 +18,7 @@ use Rattle.sedscript.specs.declared.types.Address.{Address}
 use Rattle.sedscript.specs.declared.types.Address.TheVariants.{Line as line, Match}
 use Rattle.sedscript.specs.declared.items.Flags.{Flags}
 use Rattle.sedscript.specs.declared.items.Strings.{Strings}
-use Rattle.sedscript.specs.Types.{Verb, Argument, Between, Pair, FlaggedPair}
+use Rattle.sedscript.specs.Types.{Verb, Argument, Between, Pair, FlaggedPair, Piece, group}
 use Rattle.sedscript.specs.declared.letters.Verb.TheVariants.{Open, Close, Comment, Label, Branch, Text, File, Substitute, Transliterate}
 use Rattle.sedscript.specs.declared.items.Addresses.{Addresses}
 use Rattle.sedscript.specs.declared.items.Item.{Item}
@@ -29,15 +29,13 @@ use Rattle.sedscript.specs.declared.texts.Inside.TheVariants.{InLine, Escape, Du
 use Rattle.sedscript.specs.declared.transliteration.Char.{Char}
 use Rattle.std.specs.List.{cons_option, prefix_len, take_while}
 use Rattle.std.proofs.lemmas.List.Sums.{prefix_len-le-length}
-use Rattle.sedscript.specs.Bytes.{past, belongs, bytes_between, is_digit, is_byte, with_digits}
-use Rattle.sedscript.specs.Strings.{escapes, string_end, Piece, group, escaped_piece, exceeds, piece_fault, replacement_fault, escaped_byte, char_of, chars_from, chars_of, string_fault, is_among, repeated_in, strings_fault, repeated_fault}
-use Rattle.sedscript.specs.Functions.{or_fault, ended, may_end, text_end, text_from, name_from, spanned, ◌>>=◌ as ◌then◌, fault_if}
-use Rattle.sedscript.specs.Between.{no_flags, numbered, with_number, with_flag, flags_from, own_delimiter, strings_after, substitute_strings, transliterate_strings, unless_fault, flags_after, with_file, ends_flags}
+use Rattle.sedscript.specs.Bytes.{past, belongs, bytes_between, is_digit, is_byte, with_digits, or_fault, ◌>>=◌ as ◌then◌, fault_if}
+use Rattle.sedscript.specs.Strings.{escapes, string_end, escaped_piece, exceeds, piece_fault, replacement_fault, escaped_byte, char_of, chars_from, chars_of, string_fault, is_among, repeated_in, strings_fault, repeated_fault}
+use Rattle.sedscript.specs.Arguments.{to_command_end, may_end, text_end, text_from, name_from, spanned, no_flags, numbered, with_number, with_flag, flags_from, own_delimiter, strings_after, substitute_strings, transliterate_strings, unless_fault, flags_after, with_file, ends_flags}
 use Rattle.sedscript.specs.Items.{Reading, plainly, expression, ◌>>=◌, Addressed, Headed, with_addresses, line_of, folds_at, past_flag, match_at, own_match, address_of, address_at, with_second, second_at, after_first, addresses_at, with_bang, substitute_with, substitute_at, argument_with, function_at, item_from, item_at, item_of, match_to, function_after, item_with}
 use Rattle.sedscript.specs.Letters.{verb_of, most_addresses, allowed, label_at, transliterate_at, substituted, argument_of}
-use Rattle.sedscript.specs.Script.{Gives, value, after_expression, CutScript, done, item, target_fault_at, target_fault_in}
+use Rattle.sedscript.specs.Script.{Gives, value, after_expression, CutScript, done, item, target_fault_at, target_fault_in, depth_after, block_end, written_in, branch_in, label_in}
 use Rattle.sedscript.specs.FirstFault.{Fails, own, no_expression, later, Faulty, early, afterwards}
-use Rattle.sedscript.specs.Targets.{depth_after, block_end, written_in, branch_in, label_in}
 use Rattle.sedscript.specs.Ranges.{IsOneOf, AddressWithin}
 
 -- what holds of both sides of a test holds of the one that it takes
@@ -278,7 +276,7 @@ Follows verb a = Unit {0}
 abbrev EndsUpTo : ℕ → Verb → ℕ → Argument × ℕ → Type 0
 EndsUpTo n verb count found = Follows verb found.0 × ArgumentWithin count found.0 × (found.1 ≤ n)
 
-ended_read : (text : List ℕ) (verb : Verb) (count : ℕ) (a : Argument) (at : ℕ) → Follows verb a → ArgumentWithin count a → at ≤ length text → ReadUpTo (EndsUpTo (length text) verb count) (length text) (ended text a at)
+ended_read : (text : List ℕ) (verb : Verb) (count : ℕ) (a : Argument) (at : ℕ) → Follows verb a → ArgumentWithin count a → at ≤ length text → ReadUpTo (EndsUpTo (length text) verb count) (length text) (to_command_end text a at)
 ended_read text verb count a at f h le =
     if_both (ReadUpTo (EndsUpTo (length text) verb count) (length text)) (may_end (slice_get text (past Blank text at))) _ _ (f, h, past_up_to Blank text at le) (past_up_to Blank text at le)
 

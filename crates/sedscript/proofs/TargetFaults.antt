@@ -5,12 +5,11 @@ use Rattle.std.proofs.lemmas.List.Elements.{filter_map-append}
 use Rattle.std.specs.Option.{option_or}
 use Rattle.sedscript.specs.declared.types.ScriptFault.{ScriptFault}
 use Rattle.sedscript.specs.declared.types.Action.{Action}
-use Rattle.sedscript.specs.Script.{action_of, command_of, commands_of, text_in, substitution_in, table_in, target_fault_at, target_fault_in}
+use Rattle.sedscript.specs.Script.{action_of, command_of, commands_of, text_in, substitution_in, table_in, target_fault_at, target_fault_in, depth_after}
 use Rattle.sedscript.specs.Parts.{OperandsAre}
 use Rattle.sedscript.specs.declared.types.Command.{Command}
 use Rattle.sedscript.specs.declared.items.Item.{Item}
 use Rattle.sedscript.specs.declared.script.Operands.{Operands}
-use Rattle.sedscript.specs.Targets.{depth_after}
 use Rattle.sedscript.proofs.Labels.{none_of, take_item, drop_item}
 
 -- whether one is missing, as the test tells it

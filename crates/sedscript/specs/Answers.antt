@@ -1,4 +1,4 @@
--- Private to the proofs: no contract of a public item cites what stands here.
+-- Private to the proofs: no contract of a public item cites what is here.
 -- What the reader's functions answer, against the definitions.
 use Rattle.std.specs.Prelude.{◌≡◌, ◌≢◌, ◌<◌, ◌≤◌, ◌⊎◌, ℕ, List, ◌++◌, map, drop, length, Bool, true, false, Option, if◌then◌else◌, Result, Ok, Err}
 use Rattle.std.specs.List.{range_with_len}
@@ -7,13 +7,13 @@ use Rattle.sedre.specs.declared.types.Reason.{Reason as ExprReason}
 use Rattle.sedre.specs.declared.types.Reason.TheVariants.{NoMemory}
 use Rattle.sedre.specs.declared.types.ExprFault.{ExprFault}
 use Rattle.sedre.specs.Tree.{WrittenExpression}
-use Rattle.sedscript.specs.Types.{ScriptFault, Address, Addresses, Item, Strings, Argument, ItemOrEnd, Is, Ends, Flags}
+use Rattle.sedscript.specs.Types.{ScriptFault, Address, Addresses, Item, Strings, Argument, ItemOrEnd, Is, Ends, Flags, Piece, literal}
 use Rattle.sedscript.specs.declared.types.TheConstants.{NO_MEMORY}
 use Rattle.sedscript.specs.declared.items.Source.{Source}
 use Rattle.sedscript.specs.declared.substitution.ReplacementPart.{ReplacementPart}
-use Rattle.sedscript.specs.Functions.{◌>>=◌}
-use Rattle.sedscript.specs.Between.{flags_from}
-use Rattle.sedscript.specs.Strings.{Piece, literal, is_among}
+use Rattle.sedscript.specs.Bytes.{◌>>=◌}
+use Rattle.sedscript.specs.Arguments.{flags_from}
+use Rattle.sedscript.specs.Strings.{is_among}
 use Rattle.sedscript.specs.Pieces.{pieces_in}
 use Rattle.sedscript.specs.Items.{Reading, Addressed, Headed}
 use Rattle.sedscript.specs.Script.{Gives, IsEnd, CutWithoutFault}
@@ -33,7 +33,7 @@ abbrev pub ComesFrom : {X A : Type 0} → Source → List WrittenExpression → 
     Result X ScriptFault → Reading A → Type 0
 ComesFrom source old new view result r = Comes source.text.now source.kind source.max_nodes old new view result r
 
--- what a function answered is this value or fault, where so many expressions stand before the place after it
+-- what a function answered is this value or fault, where so many expressions come before the place after it
 abbrev pub Agrees : {X A : Type 0} → (X → ℕ → A) → ℕ → Result X ScriptFault → Result A ScriptFault → Type 0
 Agrees view count (Ok x) r = r ≡ Ok (view x count)
 Agrees view count (Err f) r = r ≡ Err f
@@ -54,7 +54,7 @@ as_groups groups n = groups
 abbrev pub as_here : ItemOrEnd → ℕ → ItemOrEnd
 as_here x n = x
 
--- the strings stand one after the other from a place on, within a text of so many bytes
+-- the strings come one after the other from a place on, within a text of so many bytes
 pub record AreStrings (at len : ℕ) (s : Strings) : Type 0 where
   pub delimiter : (s.delimiter ≢ 92) × (s.delimiter ≢ 10)
   pub from : at ≤ s.from
@@ -62,12 +62,12 @@ pub record AreStrings (at len : ℕ) (s : Strings) : Type 0 where
   pub to : s.middle < s.to
   pub inside : s.to < len
 
--- what was read stands between a place and the end
+-- what was read is between a place and the end
 abbrev pub IsAfter : ℕ → ℕ → ItemOrEnd → Type 0
 IsAfter at len (Is item next) = (at < next) × (next ≤ len)
 IsAfter at len Ends = ⊥
 
--- what stands at a place: an item that ends after it, or the end
+-- what is at a place: an item that ends after it, or the end
 abbrev pub IsHere : List ℕ → ℕ → ItemOrEnd → Type 0
 IsHere text at (Is item next) = (at < next) × (next ≤ length text)
 IsHere text at Ends = IsEnd text at
@@ -86,7 +86,7 @@ pub record IsJudged (text : List ℕ) (kind : Kind) (max_nodes : ℕ) (items : L
   pub to : ℕ
   pub judged : CutWithoutFault text kind max_nodes items expressions to
 
--- the flags with those that stand after the place up to which they were read
+-- the flags with those that come after the place up to which they were read
 abbrev pub with_rest : List ℕ → (empty : Bool) → Result (Flags × ℕ) ScriptFault → Result (Flags × ℕ) ScriptFault
 with_rest text empty read = read >>= λ found. flags_from text empty found.0 0 found.1 (drop found.1 text)
 

@@ -1,7 +1,9 @@
--- Places of a text, counted from 0.
-use Rattle.std.specs.Prelude.{ℕ, ◌+◌, ◌*◌, ◌-◌, ◌^◌, List, drop, take, Bool, false, not, ◌||◌, Option, Some, None, if◌then◌else◌, nat_lt, ◌==◌}
+-- Places of a text, counted from 0, and faults there.
+use Rattle.std.specs.Prelude.{ℕ, ◌+◌, ◌*◌, ◌-◌, ◌^◌, List, drop, take, Bool, false, not, ◌||◌, Option, Some, None, Result, Ok, Err, if◌then◌else◌, nat_lt, ◌==◌}
 use Rattle.std.specs.List.{fold, prefix_len}
-use Rattle.sedscript.specs.declared.bytes.Sort.{Sort}
+use Rattle.std.specs.Bool.{then_some}
+use Rattle.std.specs.Option.{ok_or}
+use Rattle.sedscript.specs.Types.{ScriptFault, Reason, Sort}
 pub use Rattle.sedscript.specs.declared.bytes.Sort.TheVariants.{Blank, Separator, Bang, Digit, Name, Line}
 pub use Rattle.sedre.specs.Sets.{is_digit}
 
@@ -9,7 +11,7 @@ pub use Rattle.sedre.specs.Sets.{is_digit}
 abbrev pub is_blank : ℕ → Bool
 is_blank b = b == 32 || b == 9
 
--- whether a byte is of the sort. Blanks, newlines and semicolons stand between commands (XCU sed, "Extended Description"). A
+-- whether a byte is of the sort. Blanks, newlines and semicolons come between commands (XCU sed, "Extended Description"). A
 -- label ends at a newline or a semicolon, and at a blank or a closing brace too (this project's own)
 abbrev pub belongs : Sort → ℕ → Bool
 belongs Blank b = is_blank b
@@ -40,3 +42,20 @@ with_digits n ds = fold with_digit n ds
 abbrev pub is_byte : ℕ → Option ℕ → Bool
 is_byte b None = false
 is_byte b (Some c) = c == b
+
+abbrev pub fault : {A : Type 0} → Reason → ℕ → Result A ScriptFault
+fault reason place = Err (record { place = place; reason = reason })
+
+-- what was found, or else this fault at a place
+abbrev pub or_fault : {A : Type 0} → Option A → Reason → ℕ → Result A ScriptFault
+or_fault found reason place = ok_or found (record { place = place; reason = reason })
+
+-- the fault at a place, where something is wrong
+abbrev pub fault_if : Bool → Reason → ℕ → Option ScriptFault
+fault_if wrong reason place = then_some wrong (record { place = place; reason = reason })
+
+-- what is read, and then what is read after it, or the first fault
+infixl 10 ◌>>=◌
+abbrev pub ◌>>=◌ : {A B : Type 0} → Result A ScriptFault → (A → Result B ScriptFault) → Result B ScriptFault
+(Ok x) >>= f = f x
+(Err e) >>= f = Err e

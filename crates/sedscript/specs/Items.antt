@@ -1,9 +1,8 @@
 -- The items of a script: addresses, and the functions after them (XCU sed, "Addresses in sed", "Extended Description").
 use Rattle.std.specs.Prelude.{ℕ, Bool, Result, Ok, Err, suc, ◌+◌, List, true, false, Option, Some, None, if◌then◌else◌, ◌==◌, slice_get}
 use Rattle.sedscript.specs.Types.{ScriptFault, BadAddress, OpenDelimiter, BadDelimiter, FlagOnEmpty, UnknownCommand, Address, Line, Last, Match, Addresses, Strings, Argument, Verb, ItemOrEnd, Is, Ends}
-use Rattle.sedscript.specs.Bytes.{Blank, Bang, Digit, past, bytes_between, is_digit, with_digits, is_byte, Separator}
-use Rattle.sedscript.specs.Functions.{fault, or_fault}
-use Rattle.sedscript.specs.Between.{own_delimiter, substitute_strings, flags_after, folds}
+use Rattle.sedscript.specs.Bytes.{Blank, Bang, Digit, past, bytes_between, is_digit, with_digits, is_byte, Separator, fault, or_fault}
+use Rattle.sedscript.specs.Arguments.{own_delimiter, substitute_strings, flags_after, folds}
 use Rattle.sedscript.specs.Letters.{verb_of, allowed, reads_expression, substituted, argument_of}
 use Rattle.sedre.specs.Brackets.{delimiter_at}
 
@@ -26,7 +25,7 @@ plainly (Ok x) >>= f = f x
 plainly (Err e) >>= f = plainly (Err e)
 expression p k >>= f = expression p (λ groups. k groups >>= f)
 
--- an address, if there is one, the place after it, and how many regular expressions stand before that place
+-- an address, if there is one, the place after it, and how many regular expressions come before that place
 pub record Addressed : Type 0 where
   pub address : Option Address
   pub at : ℕ
@@ -40,11 +39,11 @@ abbrev pub line_of : ℕ → ℕ → ℕ → Option ℕ → Result Addressed Scr
 line_of count from to (Some (suc n)) = found (Some (Line (suc n))) to count
 line_of count from to number = fault BadAddress from
 
--- whether the flag `I` stands at a place (this project's own)
+-- whether the flag `I` is at a place (this project's own)
 abbrev pub folds_at : List ℕ → ℕ → Bool
 folds_at text at = is_byte 73 (slice_get text at)
 
--- the place after the flag `I`, if that stands at a place; otherwise that place
+-- the place after the flag `I`, if that is at a place; otherwise that place
 abbrev pub past_flag : List ℕ → ℕ → ℕ
 past_flag text at = if folds_at text at then at + 1 else at
 
@@ -63,7 +62,7 @@ match_to text count delimiter place end = plainly (or_fault end OpenDelimiter pl
 unfoldable pub match_at : List ℕ → ℕ → ℕ → ℕ → Reading Addressed
 match_at text count delimiter place = match_to text count delimiter place (delimiter_at text (place + 1) delimiter)
 
--- the address of a regular expression whose own delimiter stands at a place, if it is one
+-- the address of a regular expression whose own delimiter is at a place, if it is one
 abbrev pub own_match : List ℕ → ℕ → ℕ → Option ℕ → Reading Addressed
 own_match text count place own = plainly (or_fault own BadDelimiter place) >>= λ d. match_at text count d place
 
@@ -77,11 +76,11 @@ address_of text count at (Some b) =
     else if b == 92 then own_match text count (at + 1) (own_delimiter (slice_get text (at + 1)))
     else plainly (found None at count)
 
--- the address at a place, if one stands there
+-- the address at a place, if one is there
 unfoldable pub address_at : List ℕ → ℕ → ℕ → Reading Addressed
 address_at text count at = address_of text count at (slice_get text at)
 
--- the addresses of a command, the place after them, and how many regular expressions stand before that place
+-- the addresses of a command, the place after them, and how many regular expressions come before that place
 pub record Headed : Type 0 where
   pub addresses : Addresses
   pub at : ℕ
@@ -99,7 +98,7 @@ abbrev pub with_second : Address → ℕ → Addressed → Option Address → Re
 with_second first place x None = fault BadAddress place
 with_second first place x (Some a) = with_addresses (Some first) (Some a) x.at x.count
 
--- both addresses, where the second one has to stand at a place
+-- both addresses, where the second one has to be at a place
 unfoldable pub second_at : List ℕ → ℕ → Address → ℕ → Reading Headed
 second_at text count first at = address_at text count at >>= λ x. plainly (with_second first at x x.address)
 
@@ -153,7 +152,7 @@ item_with text count addresses at stands =
 unfoldable pub function_at : List ℕ → ℕ → Addresses → ℕ → Reading ItemOrEnd
 function_at text count addresses at = item_with text count addresses at (slice_get text at)
 
--- the item of the function that is expected after these addresses; a `!` may stand between
+-- the item of the function that is expected after these addresses; a `!` may come between
 abbrev pub function_after : List ℕ → Headed → Reading ItemOrEnd
 function_after text h = function_at text h.count (with_bang text h).addresses (with_bang text h).at
 

@@ -7,10 +7,9 @@ use Rattle.sedscript.specs.declared.types.Simple.TheVariants as simple
 use Rattle.sedscript.specs.declared.types.TextUse.TheVariants.{Append, Insert, Change}
 use Rattle.sedscript.specs.declared.types.BranchUse.TheVariants.{Always, IfReplaced}
 use Rattle.sedscript.specs.declared.types.FileUse.TheVariants.{Read, Write}
-use Rattle.sedscript.specs.Bytes.{Blank, Name, Line, past, bytes_between}
-use Rattle.sedscript.specs.Functions.{fault, or_fault, ◌>>=◌, ended, text_from, name_from, spanned}
+use Rattle.sedscript.specs.Bytes.{Blank, Name, Line, past, bytes_between, fault, or_fault, ◌>>=◌}
+use Rattle.sedscript.specs.Arguments.{to_command_end, text_from, name_from, spanned, own_delimiter, transliterate_strings, unless_fault, flags_after}
 use Rattle.sedscript.specs.Strings.{replacement_fault, strings_fault}
-use Rattle.sedscript.specs.Between.{own_delimiter, transliterate_strings, unless_fault, flags_after}
 
 -- what a letter stands for, if it is a function's
 abbrev pub verb_of : ℕ → Option Verb
@@ -82,21 +81,21 @@ allowed addresses at stands = or_fault stands UnknownCommand at >>= λ verb.
 
 -- the name of a label that begins at a place, and the end of its command. An empty one stands for the end of the script
 abbrev pub name_at : List ℕ → ℕ → Result (Argument × ℕ) ScriptFault
-name_at text from = ended text (Between from (past Name text from)) (past Name text from)
+name_at text from = to_command_end text (Between from (past Name text from)) (past Name text from)
 
--- the same of a label whose `:` stands at a place: its name isn't empty
+-- the same of a label whose `:` is at a place: its name isn't empty
 abbrev pub label_at : List ℕ → ℕ → ℕ → Result (Argument × ℕ) ScriptFault
 label_at text place from = if past Name text from == from then fault MissingLabel place else name_at text from
 
--- the strings of the command `y` whose letter stands at a place, and its end
+-- the strings of the command `y` whose letter is at a place, and its end
 unfoldable pub transliterate_at : List ℕ → ℕ → Result (Argument × ℕ) ScriptFault
 transliterate_at text at =
     transliterate_strings text (at + 1) (own_delimiter (slice_get text (at + 1))) >>= λ s.
-    unless_fault (strings_fault text s.delimiter at s.from s.middle s.to) (ended text (Pair s) (s.to + 1))
+    unless_fault (strings_fault text s.delimiter at s.from s.middle s.to) (to_command_end text (Pair s) (s.to + 1))
 
 -- these strings of an `s` and the flags after them, and its end. Its expression has this number, None if it is empty
 abbrev pub flagged : List ℕ → Strings → Option ℕ → Result (Argument × ℕ) ScriptFault
-flagged text s e = flags_after text s (not (is_some e)) >>= λ found. ended text (FlaggedPair s e found.0) found.1
+flagged text s e = flags_after text s (not (is_some e)) >>= λ found. to_command_end text (FlaggedPair s e found.0) found.1
 
 -- the same, where the groups of its replacement have numbers up to the limit, if there is one
 unfoldable pub substituted : List ℕ → Strings → Option ℕ → Option ℕ → Result (Argument × ℕ) ScriptFault
@@ -113,4 +112,4 @@ argument_of text (Branch u) at = name_at text (past Blank text (at + 1))
 argument_of text (Text t) at = spanned MissingText at (text_from text (past Blank text (at + 1)))
 argument_of text (File u) at = spanned MissingName at (name_from text (at + 1))
 argument_of text Transliterate at = transliterate_at text at
-argument_of text verb at = ended text Nothing (at + 1)
+argument_of text verb at = to_command_end text Nothing (at + 1)

@@ -1,7 +1,6 @@
 use Rattle.std.specs.Prelude.{ℕ, List, Bool}
 use Rattle.sedre.specs.Tree.{WrittenExpression}
-use Rattle.sedscript.specs.Types.{Command}
-use Rattle.sedscript.specs.declared.substitution.Substitution.{Substitution}
+use Rattle.sedscript.specs.Types.{Command, Substitution}
 
 -- a script as its callers see it
 pub record Program : Type 0 where

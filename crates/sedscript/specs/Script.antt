@@ -1,20 +1,19 @@
--- What a script means (XCU sed, "Extended Description"), and the text that its parts make (XCU sed, Options).
-use Rattle.std.specs.Prelude.{ℕ, if◌then◌else◌, List, [], ◌∷◌, ◌++◌, nat_eq, ◌<◌, ◌≤◌, length, is_none, is_some, Some, Ok, ◌≡◌, ◌+◌, Bool, true, false, not, ◌&&◌, Option, None, ◌==◌, slice_get, unwrap_or, option_map, filter_map}
-use Rattle.std.specs.List.{cons_option, ends_with}
+-- What a script means (XCU sed, "Extended Description", "Editing Commands in sed"), and the text that its parts make (XCU sed, Options).
+use Rattle.std.specs.Prelude.{ℕ, suc, ◌+◌, ◌-◌, if◌then◌else◌, List, [], ◌∷◌, ◌++◌, nat_eq, ◌<◌, ◌≤◌, length, is_none, is_some, Some, Ok, ◌≡◌, Bool, true, false, not, ◌&&◌, Option, None, ◌==◌, codes, filter, filter_map, slice_get, unwrap_or, option_map, option_and_then}
+use Rattle.std.specs.List.{cons_option, ends_with, position_from, take_while}
 use Rattle.std.specs.Option.{option_or}
-use Rattle.sedre.specs.declared.types.Kind.{Kind}
-use Rattle.sedre.specs.declared.types.Reason.{Reason as ExprReason}
+use Rattle.std.specs.Str.{bytes_eq}
+use Rattle.std.specs.Bool.{then_some}
 use Rattle.sedre.specs.Tree.{WrittenExpression, expression_tree}
 use Rattle.sedre.specs.Grammar.{ReadsAs, ExprFaulty}
-use Rattle.sedscript.specs.Bytes.{bytes_between, Separator, past}
-use Rattle.sedscript.specs.Items.{Pattern, Reading, plainly, expression, item_at}
-use Rattle.sedscript.specs.Types.{ScriptFault, OpenBlock, StrayClose, RepeatedLabel, UnknownLabel, Action, Command, Flags, Strings, Verb, Argument, Pair, FlaggedPair, Addresses, Item, Is}
+use Rattle.sedscript.specs.Types.{Kind, ExprReason, ScriptFault, OpenBlock, StrayClose, RepeatedLabel, UnknownLabel, Action, Command, FileUse, Flags, Strings, Verb, Argument, Between, Pair, FlaggedPair, Addresses, Item, Is, Substitution}
 use Rattle.sedscript.specs.declared.letters.Verb.TheVariants.{Plain, Open, Close, Label, Branch, Text, File, Substitute, Transliterate}
 use Rattle.sedscript.specs.declared.types.Action.TheVariants as action
-use Rattle.sedscript.specs.declared.substitution.Substitution.{Substitution}
+use Rattle.sedscript.specs.declared.types.FileUse.TheVariants.{Read, Write}
+use Rattle.sedscript.specs.Bytes.{bytes_between, Separator, Line, belongs, past, fault_if}
 use Rattle.sedscript.specs.Strings.{pieces_of, chars_of, bytes_of, table_of}
-use Rattle.sedscript.specs.Targets.{read_files, written_files, written_in, sink_of, number_in, FileWithin, label_in, branch_in, depth_after, block_end}
-use Rattle.sedscript.specs.Functions.{fault_if}
+use Rattle.sedscript.specs.Letters.{becomes_command, is_open, is_close}
+use Rattle.sedscript.specs.Items.{Pattern, Reading, plainly, expression, item_at}
 use Rattle.sedscript.specs.Program.{Program}
 
 -- the text with one part more, and a newline where the part doesn't end with one
@@ -52,6 +51,101 @@ abbrev pub unescaped_from : Bool → List ℕ → List ℕ
 unescaped_from escaped [] = []
 unescaped_from escaped (b ∷ bs) = if not escaped && b == 92 then unescaped_from true bs else b ∷ unescaped_from false bs
 
+-- the name or the text that follows a letter, as it is written; empty where none does
+abbrev pub written_in : List ℕ → Argument → List ℕ
+written_in text (Between from to) = bytes_between text from to
+written_in text a = []
+
+-- whether a name stands for the standard output, where it is written to (this project's own)
+abbrev pub is_standard_output : List ℕ → Bool
+is_standard_output name = bytes_eq name (codes "/dev/stdout")
+
+-- whether a name is a file's: each but the standard output's where it is written (this project's own)
+abbrev pub is_file : FileUse → List ℕ → Bool
+is_file Read name = true
+is_file Write name = not (is_standard_output name)
+
+-- the name of the sink of an `s`, if it has one: that after its flag `w`
+abbrev pub sink_name : List ℕ → Flags → Option (List ℕ)
+sink_name text f = option_map (λ name. bytes_between text name.0 name.1) f.file
+
+-- the name that a function reads or writes by, if it does so
+abbrev pub name_in : FileUse → List ℕ → Verb → Argument → Option (List ℕ)
+name_in Read text (File Read) a = Some (written_in text a)
+name_in Write text (File Write) a = Some (written_in text a)
+name_in Write text verb (FlaggedPair s e f) = sink_name text f
+name_in u text verb a = None
+
+-- the name, if it is a file's
+abbrev pub file_in : FileUse → Option (List ℕ) → Option (List ℕ)
+file_in u name = option_and_then (λ n. then_some (is_file u n) n) name
+
+-- each name once, in the order in which they first occur
+abbrev pub distinct : List (List ℕ) → List (List ℕ)
+distinct [] = []
+distinct (n ∷ ns) = n ∷ filter (λ m. not (bytes_eq n m)) (distinct ns)
+
+-- the files that the items read, or write. Equal names are one file (this project's own)
+abbrev pub files_in : FileUse → List ℕ → List Item → List (List ℕ)
+files_in u text items = distinct (filter_map (λ i. file_in u (name_in u text i.verb i.argument)) items)
+
+-- the files that the items read, and those that they write
+abbrev pub read_files : List ℕ → List Item → List (List ℕ)
+read_files text items = files_in Read text items
+
+abbrev pub written_files : List ℕ → List Item → List (List ℕ)
+written_files text items = files_in Write text items
+
+-- the number of a name among the items' files: from 0 for those read, and from 1 for those written, since 0 is the standard output
+abbrev pub number_in : FileUse → List ℕ → List Item → List ℕ → ℕ
+number_in Read text items name = unwrap_or (position_from (bytes_eq name) 0 (files_in Read text items)) 0
+number_in Write text items name =
+    if is_standard_output name then 0
+    else unwrap_or (position_from (bytes_eq name) 1 (files_in Write text items)) 0
+
+-- the number of the sink of an `s`, if it has one
+abbrev pub sink_of : List ℕ → List Item → Flags → Option ℕ
+sink_of text items f = option_map (number_in Write text items) (sink_name text f)
+
+-- the number of commands up to and including this item, given the number before it
+abbrev pub counted : ℕ → Item → ℕ
+counted n i = if becomes_command i.verb then suc n else n
+
+-- how many commands the items become
+abbrev pub commands_in : List Item → ℕ
+commands_in [] = 0
+commands_in (i ∷ is) = if becomes_command i.verb then suc (commands_in is) else commands_in is
+
+-- whether the function is a label of this name
+abbrev pub is_label : List ℕ → List ℕ → Verb → Argument → Bool
+is_label text name Label a = bytes_eq (written_in text a) name
+is_label text name verb a = false
+
+-- the number of the command after the first label of this name, with so many commands before the items
+abbrev pub label_in : List ℕ → List ℕ → ℕ → List Item → Option ℕ
+label_in text name n [] = None
+label_in text name n (i ∷ is) = if is_label text name i.verb i.argument then Some n else label_in text name (counted n i) is
+
+-- where a branch to this label leads: an empty one stands for the end of the script
+abbrev pub branch_in : List ℕ → List Item → List ℕ → Option ℕ
+branch_in text items [] = Some (commands_in items)
+branch_in text items name = label_in text name 0 items
+
+-- how many blocks are open after a function, given how many are before it
+abbrev pub depth_after : ℕ → Verb → ℕ
+depth_after depth verb = if is_open verb then suc depth else if is_close verb then depth - 1 else depth
+
+-- the number of the command after the brace that closes a block, with so many inner blocks open and commands before the items
+abbrev pub close_in : ℕ → ℕ → List Item → Option ℕ
+close_in depth n [] = None
+close_in depth n (i ∷ is) =
+    if is_close i.verb && depth == 0 then Some n
+    else close_in (depth_after depth i.verb) (counted n i) is
+
+-- the end of the block whose brace is between these items
+abbrev pub block_end : List Item → List Item → Option ℕ
+block_end before after = close_in 0 (suc (commands_in before)) after
+
 -- the text of a function, if it is `a`, `i` or `c`
 abbrev pub text_in : List ℕ → Verb → Argument → Option (List ℕ)
 text_in text (Text t) a = Some (unescaped_from false (written_in text a))
@@ -81,7 +175,7 @@ substitution_in text all a = None
 abbrev pub substitutions_of : List ℕ → List Item → List Item → List Substitution
 substitutions_of text all items = filter_map (λ i. substitution_in text all i.argument) items
 
--- the table of a `y` whose strings stand there
+-- the table of a `y` whose strings are there
 abbrev pub table_between : List ℕ → Strings → List ℕ
 table_between text s =
     table_of (bytes_of (chars_of text s.delimiter s.from s.middle)) (bytes_of (chars_of text s.delimiter (s.middle + 1) s.to))
@@ -95,7 +189,7 @@ table_in text a = None
 abbrev pub tables_of : List ℕ → List Item → List (List ℕ)
 tables_of text items = filter_map (λ i. table_in text i.argument) items
 
--- the action of a function, if it becomes a command. The number of a text, a substitution or a table is how many stand before it
+-- the action of a function, if it becomes a command. The number of a text, a substitution or a table is how many come before it
 abbrev pub action_of : List ℕ → List Item → List Item → List Item → Verb → Argument → Option Action
 action_of text all before after (Plain s) a = Some (action.Plain s)
 action_of text all before after Open a = Some (action.Block (unwrap_or (block_end before after) 0))
@@ -106,18 +200,20 @@ action_of text all before after Substitute a = Some (action.Substitute (length (
 action_of text all before after Transliterate a = Some (action.Transliterate (length (tables_of text before)))
 action_of text all before after verb a = None
 
--- an action leads to a command or the end, and has one of the texts, files, substitutions or tables
+-- an action leads to a command or the end, and has one of the texts, files, substitutions or tables; a sink is the standard
+-- output or one of so many files that are written
 abbrev pub ActionWithin : Program → Action → Type 0
 ActionWithin p (action.Block to) = to ≤ length p.commands
 ActionWithin p (action.Branch u to) = to ≤ length p.commands
 ActionWithin p (action.Text t k) = k < length p.texts
-ActionWithin p (action.File u k) = FileWithin p u k
+ActionWithin p (action.File Read k) = k < length p.rfiles
+ActionWithin p (action.File Write sink) = sink ≤ length p.wfiles
 ActionWithin p (action.Substitute k) = k < length p.substitutions
 ActionWithin p (action.Transliterate k) = k < length p.tables
 ActionWithin p other = Unit {0}
 
 -- the fault of a function at a place among all items, given those before it, which leave so many blocks open, and those after
--- it. That a label may not stand twice is this project's own
+-- it. That a label may not occur twice is this project's own
 abbrev pub target_fault_at : List ℕ → List Item → List Item → ℕ → List Item → ℕ → Verb → Argument → Option ScriptFault
 target_fault_at text all before depth after place Open a = fault_if (is_none (block_end before after)) OpenBlock place
 target_fault_at text all before depth after place Close a = fault_if (depth == 0) StrayClose place
@@ -148,9 +244,7 @@ commands_of text all before (i ∷ is) =
 
 -- whether the first line of the whole text, whatever parts made it, is exactly `#n` (this project's own narrowing)
 abbrev pub is_quiet : List ℕ → Bool
-is_quiet (a ∷ b ∷ []) = a == 35 && b == 110
-is_quiet (a ∷ b ∷ c ∷ bs) = a == 35 && b == 110 && c == 10
-is_quiet other = false
+is_quiet text = bytes_eq (take_while (belongs Line) text) (codes "#n")
 
 -- the text is cut to its end into these items and expressions, and no label or block is wrong
 pub record CutWithoutFault (text : List ℕ) (kind : Kind) (max_nodes : ℕ) (items : List Item) (expressions : List WrittenExpression)

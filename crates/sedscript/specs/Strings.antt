@@ -2,18 +2,16 @@
 use Rattle.std.specs.Prelude.{ℕ, suc, List, [], ◌∷◌, Bool, false, not, ◌&&◌, Option, Some, None, if◌then◌else◌, ◌==◌, ◌-◌, map, true, nat_lt, ◌+◌, length, ◌||◌, is_none, option_map}
 use Rattle.std.specs.List.{cons_option, list_any, range_with_len}
 use Rattle.std.specs.Option.{option_or}
-use Rattle.sedscript.specs.Types.{ScriptFault, BadEscape, GroupAbsent, LengthsDiffer, RepeatedByte}
-use Rattle.sedscript.specs.Bytes.{is_digit, bytes_between}
-use Rattle.sedscript.specs.Functions.{fault_if}
+use Rattle.sedscript.specs.Types.{ScriptFault, BadEscape, GroupAbsent, LengthsDiffer, RepeatedByte, Piece, literal, whole, group, Char}
+use Rattle.sedscript.specs.Bytes.{is_digit, bytes_between, fault_if}
 pub use Rattle.sedre.specs.Items.{is_letter}
-pub use Rattle.sedscript.specs.Types.{Piece, literal, whole, group, Char}
 
 -- whether a byte is a backslash that escapes the next one, given whether it is escaped itself
 abbrev pub escapes : Bool → ℕ → Bool
 escapes escaped b = b == 92 && not escaped
 
 -- where a string between delimiters ends: at the first delimiter that isn't escaped, before any newline. An escaped newline may
--- stand in a replacement, which `breaks` lines there, but not in a string of `y` (this project's own)
+-- occur in a replacement, which `breaks` lines there, but not in a string of `y` (this project's own)
 abbrev pub string_end : (breaks : Bool) → ℕ → (escaped : Bool) → ℕ → List ℕ → Option ℕ
 string_end breaks delimiter escaped at [] = None
 string_end breaks delimiter escaped at (b ∷ bs) =
@@ -86,7 +84,7 @@ abbrev pub chars_from : ℕ → Bool → ℕ → List ℕ → List Char
 chars_from delimiter escaped at [] = []
 chars_from delimiter escaped at (b ∷ bs) = cons_option (char_of delimiter escaped at b) (chars_from delimiter (escapes escaped b) (suc at) bs)
 
--- the bytes of the string that stands between two places
+-- the bytes of the string between two places
 abbrev pub chars_of : List ℕ → ℕ → ℕ → ℕ → List Char
 chars_of text delimiter from to = chars_from delimiter false from (bytes_between text from to)
 
@@ -105,16 +103,16 @@ string_fault delimiter escaped at (b ∷ bs) =
 abbrev pub is_among : List ℕ → ℕ → Bool
 is_among bs b = list_any (λ x. x == b) bs
 
--- the place of the first byte that stands a second time, given those that stand before the string
+-- the place of the first byte that occurs a second time, given those before the string
 abbrev pub repeated_in : List ℕ → List Char → Option ℕ
 repeated_in before [] = None
 repeated_in before (c ∷ cs) = if is_among before c.byte then Some c.place else repeated_in (c.byte ∷ before) cs
 
--- the fault of a byte that stands a second time at a place, if one does
+-- the fault of a byte that occurs a second time at a place, if one does
 abbrev pub repeated_fault : Option ℕ → Option ScriptFault
 repeated_fault found = option_map (λ at. record { place = at; reason = RepeatedByte }) found
 
--- the first fault of the strings of a `y`, parted at `middle`. That no byte stands twice, and equal lengths: this project's own
+-- the first fault of the strings of a `y`, parted at `middle`. That no byte occurs twice, and equal lengths: this project's own
 abbrev pub strings_fault : List ℕ → ℕ → ℕ → ℕ → ℕ → ℕ → Option ScriptFault
 strings_fault text delimiter letter from middle to =
     option_or (string_fault delimiter false from (bytes_between text from middle))

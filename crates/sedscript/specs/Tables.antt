@@ -1,4 +1,4 @@
--- Private to the proofs: no contract of a public item cites what stands here.
+-- Private to the proofs: no contract of a public item cites what is here.
 -- The tables by which labels, blocks and files are found without searching anew.
 use Rattle.std.specs.Prelude.{◌≡◌, ℕ, suc, List, [], ◌∷◌, ◌++◌, drop, Bool, true, false, not, ◌==◌, Option, Some, None, if◌then◌else◌, map}
 use Rattle.std.specs.Borrow.{Bor}
@@ -11,7 +11,7 @@ use Rattle.sedscript.specs.declared.targets.FirstLabel.{FirstLabel}
 use Rattle.sedscript.specs.declared.files.Files.{Files}
 use Rattle.sedscript.specs.declared.files.NumberedFiles.{NumberedFiles}
 use Rattle.sedscript.specs.Types.{Item, Verb}
-use Rattle.sedscript.specs.Targets.{read_files, written_files, is_label, counted, commands_in, close_in, block_end}
+use Rattle.sedscript.specs.Script.{read_files, written_files, is_label, counted, commands_in, close_in, block_end}
 use Rattle.sedscript.specs.Letters.{is_open, is_close}
 
 -- the first item with a label of this name, and the number of the command after it, where the items begin with this

@@ -1,10 +1,10 @@
-//! Addresses and what stands before a function.
+//! Addresses and what comes before a function.
 
 ghost use Rattle.std.specs.Prelude.{◌≡◌, ◌≢◌, ◌≤◌, ◌<◌, ◌+◌, ℕ, Option, Some, length, slice_get, IfOk};
 ghost use Rattle.sedscript.specs.declared.types.Address.{Address};
 ghost use Rattle.sedscript.specs.Bytes.{bytes_between, with_digits};
 ghost use Rattle.sedscript.specs.Items.{folds_at, past_flag, match_at, own_match, address_at, after_first, second_at, addresses_at, with_bang, addresses_of, line_of, empty_match};
-ghost use Rattle.sedscript.specs.Between.{own_delimiter};
+ghost use Rattle.sedscript.specs.Arguments.{own_delimiter};
 ghost use Rattle.sedscript.specs.Answers.{as_addressed, as_headed, ComesFrom, Agrees};
 
 use crate::between::own_delimiter;
@@ -27,14 +27,14 @@ fn line_at(text: &[u8], from: usize, to: usize) -> Result<(Option<Address>, usiz
     }
 }
 
-/// Whether the flag `I` stands at a place.
+/// Whether the flag `I` is at a place.
 fn folds_at(text: &[u8], at: usize) -> bool
     ensures { result ≡ folds_at text.now at }
 {
     is_byte(b'I', byte_at(text, at))
 }
 
-/// The place after the flag `I`, if that stands at `at`; otherwise `at` itself.
+/// The place after the flag `I`, if that is at `at`; otherwise `at` itself.
 fn past_flag(text: &[u8], at: usize) -> usize
     requires { at ≤ length text.now }
     ensures is { result ≡ past_flag text.now at }
@@ -43,8 +43,8 @@ fn past_flag(text: &[u8], at: usize) -> usize
     if folds_at(text, at) { at + 1 } else { at }
 }
 
-/// The address of the empty regular expression, whose last delimiter stands before `at`, and the place after it.
-/// The flag `I` may not stand there.
+/// The address of the empty regular expression, whose last delimiter is before `at`, and the place after it.
+/// The flag `I` may not be there.
 fn empty_match(text: &[u8], at: usize) -> Result<(Option<Address>, usize), ScriptFault>
     ensures is { (count : ℕ) → Agrees as_addressed count result (empty_match text.now count at) }
     ensures at { IfOk result (λ found. found.1 ≡ at) }
@@ -87,7 +87,7 @@ fn match_at(
     ))
 }
 
-/// The address of the regular expression whose own delimiter stands at `place`, and the place after it.
+/// The address of the regular expression whose own delimiter is at `place`, and the place after it.
 fn own_match(
     source: &Source,
     exprs: &mut Vec<Expr>,
@@ -105,7 +105,7 @@ fn own_match(
     }
 }
 
-/// The address at a place, if one stands there, and the place after it.
+/// The address at a place, if one is there, and the place after it.
 #[tactic(auto, unfolding(crate::specs::Items::address_at))]
 fn address_at(
     source: &Source,
@@ -143,7 +143,7 @@ fn addresses_of(first: Option<Address>, second: Option<Address>) -> Addresses
     }
 }
 
-/// Both addresses and the place after them. The second one has to stand at `at`.
+/// Both addresses and the place after them. The second one has to be at `at`.
 fn second_at(
     source: &Source,
     exprs: &mut Vec<Expr>,

@@ -1,7 +1,7 @@
-//! What stands between delimiters after `s` and `y`.
+//! What is between delimiters after `s` and `y`.
 
 ghost use Rattle.std.specs.Prelude.{◌≡◌, ◌≢◌, ◌≤◌, ◌<◌, ◌+◌, false, Some, length, slice_get, if◌then◌else◌, IfOk, IfSome};
-ghost use Rattle.sedscript.specs.Between.{own_delimiter, strings_after, substitute_strings, transliterate_strings, flags_after, folds};
+ghost use Rattle.sedscript.specs.Arguments.{own_delimiter, strings_after, substitute_strings, transliterate_strings, flags_after, folds};
 ghost use Rattle.sedscript.specs.Answers.{AreStrings};
 
 use crate::bytes::byte_at;
@@ -25,7 +25,7 @@ pub fn own_delimiter(b: Option<u8>) -> Option<u8>
     }
 }
 
-/// The two strings after the delimiter at `place`. The first ends at `first`, where the next delimiter stands, if there
+/// The two strings after the delimiter at `place`. The first ends at `first`, where the next delimiter is, if there
 /// is one. Where it `breaks`, the second may have a newline after a backslash.
 fn strings_after(
     text: &[u8],
@@ -53,7 +53,7 @@ fn strings_after(
     }
 }
 
-/// The strings whose first delimiter stands at a place: a regular expression and a replacement, as `s` has them, where the
+/// The strings whose first delimiter is at a place: a regular expression and a replacement, as `s` has them, where the
 /// second `breaks`, or those of `y`.
 pub fn strings_at(text: &[u8], breaks: bool, place: usize) -> Result<Strings, ScriptFault>
     requires { place ≤ length text.now }
@@ -74,7 +74,7 @@ pub fn strings_at(text: &[u8], breaks: bool, place: usize) -> Result<Strings, Sc
 }
 
 /// Whether the flags of `s`, whose regular expression isn't empty, make letters match without regard to case. They
-/// stand after the expression but are looked at before it is read; its faults are told before theirs.
+/// come after the expression but are examined before it is read; its faults are reported before theirs.
 pub fn folds(text: &[u8], strings: Strings) -> bool
     requires { strings.to < length text.now }
     ensures { result ≡ folds (flags_after text.now strings false) }

@@ -8,7 +8,7 @@ ghost use Rattle.sedscript.specs.Bytes.{belongs, past, bytes_between, with_digit
 pub enum Sort {
     /// A space or a tab.
     Blank,
-    /// What may stand between commands: blanks, newlines and semicolons.
+    /// What may come between commands: blanks, newlines and semicolons.
     Separator,
     /// `!`, and the blanks around it.
     Bang,

@@ -1,14 +1,14 @@
 //! The files that a script names: tables that are made once, so that no name is compared with all earlier ones.
 
 ghost use Rattle.std.specs.Prelude.{◌≡◌, ◌≤◌, ◌<◌, ◌+◌, ℕ, List, length, unwrap_or, is_some, option_map, IfOk, OnOk};
-ghost use Rattle.sedscript.specs.Targets.{is_standard_output, is_file, sink_name, sink_of, name_in, file_in, files_in, number_in};
+ghost use Rattle.sedscript.specs.Script.{is_standard_output, is_file, sink_name, sink_of, name_in, file_in, files_in, number_in};
 ghost use Rattle.sedscript.specs.Tables.{labelled, with_name, AreNumbered, FilesAre};
 ghost use Rattle.sedscript.specs.declared.items.Item.{Item};
 
 use crate::bytes::bytes_between;
 use crate::items::{Argument, Flags, Item};
-use crate::kept::Items;
 use crate::letters::Verb;
+use crate::packed::Items;
 use crate::targets::written_in;
 use crate::types::FileUse;
 use std::alloc::{AllocError, Global};
@@ -17,7 +17,7 @@ use std::collections::BTreeMap;
 /// The files that a script reads, or writes.
 #[derive(Drop)]
 pub struct NumberedFiles<'a> {
-    /// Their names, each once, in the order in which they first stand in the text.
+    /// Their names, each once, in the order in which they first occur in the text.
     pub names: Vec<Vec<u8>>,
     /// The number of each.
     pub numbers: BTreeMap<&'a [u8], usize>,

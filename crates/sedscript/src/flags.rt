@@ -1,8 +1,7 @@
 //! The flags of `s`.
 
 ghost use Rattle.std.specs.Prelude.{◌≡◌, ◌≤◌, ◌<◌, ◌+◌, length, drop, false, slice_index, IfOk};
-ghost use Rattle.sedscript.specs.Between.{no_flags, with_number, with_flag, flags_from, ends_flags, with_file};
-ghost use Rattle.sedscript.specs.Functions.{name_from};
+ghost use Rattle.sedscript.specs.Arguments.{no_flags, with_number, with_flag, flags_from, ends_flags, with_file, name_from};
 ghost use Rattle.sedscript.specs.Answers.{with_rest};
 
 use crate::bytes::{Sort, bytes_between, is_blank, number_of, past};
@@ -17,7 +16,7 @@ fn ends_flags(b: u8) -> bool
     is_blank(b) || may_end(Some(b))
 }
 
-/// The flags with the number that these digits write, of which the first stands at `at`.
+/// The flags with the number that these digits write, of which the first is at `at`.
 fn with_number(flags: Flags, at: usize, digits: &[u8]) -> Result<Flags, ScriptFault>
     ensures { result ≡ with_number flags at digits.now }
 {

@@ -1,8 +1,8 @@
 //! What follows the letters of functions: texts and names, and the end of a command.
 
 ghost use Rattle.std.specs.Prelude.{◌≡◌, ◌≤◌, ◌<◌, length, IfOk, IfSome};
-ghost use Rattle.sedscript.specs.Bytes.{past};
-ghost use Rattle.sedscript.specs.Functions.{fault_if, may_end, ended, name_from, spanned};
+ghost use Rattle.sedscript.specs.Bytes.{past, fault_if};
+ghost use Rattle.sedscript.specs.Arguments.{may_end, to_command_end, name_from, spanned};
 
 use crate::bytes::{Sort, byte_at, past};
 use crate::items::Argument;
@@ -25,10 +25,14 @@ pub fn fault_if(wrong: bool, reason: Reason, place: usize) -> Option<ScriptFault
     wrong.then_some(reason.at(place))
 }
 
-/// What follows a letter and the end of its command, if only blanks stand between `at` and that end.
-pub fn ended(text: &[u8], argument: Argument, at: usize) -> Result<(Argument, usize), ScriptFault>
+/// What follows a letter and the end of its command, if only blanks come between `at` and that end.
+pub fn to_command_end(
+    text: &[u8],
+    argument: Argument,
+    at: usize,
+) -> Result<(Argument, usize), ScriptFault>
     requires { at ≤ length text.now }
-    ensures is { result ≡ ended text.now argument at }
+    ensures is { result ≡ to_command_end text.now argument at }
     ensures within { IfOk result (λ found. (at ≤ found.1) × (found.1 ≤ length text.now)) }
 {
     let end = past(Sort::Blank, text, at);
@@ -40,7 +44,7 @@ pub fn ended(text: &[u8], argument: Argument, at: usize) -> Result<(Argument, us
 }
 
 /// Where the file's name that is expected at `at`, after its letter, begins and ends; None where it is missing.
-#[tactic(auto, unfolding(crate::specs::Functions::name_from))]
+#[tactic(auto, unfolding(crate::specs::Arguments::name_from))]
 pub fn name_from(text: &[u8], at: usize) -> Option<(usize, usize)>
     requires { at ≤ length text.now }
     ensures is { result ≡ name_from text.now at }

@@ -39,7 +39,7 @@ pub struct Flags {
 }
 
 /// Two strings between delimiters, as `s` and `y` have them. The first begins at `from` and ends at `middle`, where a
-/// delimiter stands; the second begins after that and ends at `to`, where the last delimiter stands.
+/// delimiter is; the second begins after that and ends at `to`, where the last delimiter is.
 #[derive(Clone, Copy)]
 pub struct Strings {
     pub delimiter: u8,
@@ -71,7 +71,7 @@ pub struct Item {
     pub argument: Argument,
 }
 
-/// What stands at a place: an item and the place after it, or the end.
+/// What is at a place: an item and the place after it, or the end.
 #[derive(Clone, Copy)]
 pub enum ItemOrEnd {
     Is(Item, usize),

@@ -8,7 +8,7 @@ ghost use Rattle.sedscript.specs.Answers.{AreStrings};
 use crate::between::strings_at;
 use crate::bytes::{Sort, past};
 use crate::flags::flags_at;
-use crate::functions::{ended, name_from, spanned};
+use crate::functions::{name_from, spanned, to_command_end};
 use crate::items::{Addresses, Argument, Strings};
 use crate::replacement::replacement_fault;
 use crate::texts::text_from;
@@ -151,10 +151,10 @@ fn name_at(text: &[u8], from: usize) -> Result<(Argument, usize), ScriptFault>
     ensures within { IfOk result (λ found. (from ≤ found.1) × (found.1 ≤ length text.now)) }
 {
     let end = past(Sort::Name, text, from);
-    ended(text, Argument::Between(from, end), end)
+    to_command_end(text, Argument::Between(from, end), end)
 }
 
-/// The name of the label whose `:` stands at `place`, where that name begins at `from`, and the end of its command.
+/// The name of the label whose `:` is at `place`, where that name begins at `from`, and the end of its command.
 fn label_at(text: &[u8], place: usize, from: usize) -> Result<(Argument, usize), ScriptFault>
     requires { from ≤ length text.now }
     ensures is { result ≡ label_at text.now place from }
@@ -167,7 +167,7 @@ fn label_at(text: &[u8], place: usize, from: usize) -> Result<(Argument, usize),
     }
 }
 
-/// The strings of the command `y` whose letter stands at `at`, and its end.
+/// The strings of the command `y` whose letter is at `at`, and its end.
 #[tactic(auto, unfolding(crate::specs::Letters::transliterate_at))]
 fn transliterate_at(text: &[u8], at: usize) -> Result<(Argument, usize), ScriptFault>
     requires { at < length text.now }
@@ -178,7 +178,7 @@ fn transliterate_at(text: &[u8], at: usize) -> Result<(Argument, usize), ScriptF
     if let Some(fault) = strings_fault(text, strings, at) {
         return Err(fault);
     }
-    ended(text, Argument::Pair(strings), strings.to + 1)
+    to_command_end(text, Argument::Pair(strings), strings.to + 1)
 }
 
 /// These strings of an `s` with their flags, and its end. Its regular expression has this number in the script; None
@@ -198,7 +198,7 @@ pub fn substituted(
         return Err(fault);
     }
     let (flags, end) = flags_at(text, expression.is_none(), strings.to + 1)?;
-    ended(text, Argument::FlaggedPair(strings, expression, flags), end)
+    to_command_end(text, Argument::FlaggedPair(strings, expression, flags), end)
 }
 
 /// What follows the letter at `at`, which stands for this and reads no expression, and the place after it.
@@ -221,6 +221,6 @@ pub fn argument_of(text: &[u8], verb: Verb, at: usize) -> Result<(Argument, usiz
         }
         Verb::File(_) => spanned(Reason::MissingName, at, name_from(text, at + 1)),
         Verb::Transliterate => transliterate_at(text, at),
-        _ => ended(text, Argument::Nothing, at + 1),
+        _ => to_command_end(text, Argument::Nothing, at + 1),
     }
 }

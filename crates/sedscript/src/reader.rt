@@ -11,7 +11,7 @@ use crate::commands::{commands_of, is_quiet, target_fault};
 use crate::files::{Files, files_of};
 use crate::item_reader::item_at;
 use crate::items::{ItemOrEnd, Source};
-use crate::kept::Items;
+use crate::packed::Items;
 use crate::script::{Named, Operands, Script};
 use crate::targets::{Targets, targets_of};
 use crate::types::{Kind, NO_MEMORY, ScriptFault};
@@ -79,7 +79,7 @@ pub fn read(alloc: Global, text: &[u8], kind: Kind, max_nodes: usize) -> Result<
     ensures no_fault { OnOk result ((f : ScriptFault) → Faulty text.now kind max_nodes f → ⊥) }
     // A fault is the first one of the text, or there was no memory.
     ensures fault { IfErr result (λ f. Faulty text.now kind max_nodes f ⊎ (f ≡ NO_MEMORY)) }
-    // It is told in the text or at its end.
+    // It is in the text or at its end.
     ensures within { IfErr result (λ f. f.place ≤ length text.now) }
 {
     fault_within();

@@ -58,7 +58,7 @@ fn exceeds(limit: Option<usize>, k: usize) -> bool
     }
 }
 
-/// What is wrong with the escape of a byte, if anything is. Its backslash stands at `place`.
+/// What is wrong with the escape of a byte, if anything is. Its backslash is at `place`.
 fn escape_fault(delimiter: u8, limit: Option<usize>, place: usize, b: u8) -> Option<ScriptFault>
     ensures { result ≡ piece_fault limit place (escaped_piece delimiter b) }
 {
@@ -133,7 +133,7 @@ fn add_piece(
     }
 }
 
-/// The parts of a replacement without faults. Bytes that stand together are one part.
+/// The parts of a replacement without faults. Bytes that come together are one part.
 pub fn parts_of(
     alloc: Global,
     bytes: &[u8],

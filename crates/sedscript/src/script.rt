@@ -135,14 +135,14 @@ impl Script {
         &self.named.operands.tables[k]
     }
 
-    /// The names of the files that `r` reads: each once, in the order in which they first stand in the text.
+    /// The names of the files that `r` reads: each once, in the order in which they first occur in the text.
     pub fn rfiles(&self) -> &[Vec<u8>]
         ensures { map (λ n. n.items) result.now ≡ self.now.rfiles }
     {
         &self.named.rfiles
     }
 
-    /// The names of the files that `w` and the flag `w` write: each once, in the order in which they first stand in the
+    /// The names of the files that `w` and the flag `w` write: each once, in the order in which they first occur in the
     /// text. `/dev/stdout` isn't among them, since it is the standard output.
     pub fn wfiles(&self) -> &[Vec<u8>]
         ensures { map (λ n. n.items) result.now ≡ self.now.wfiles }

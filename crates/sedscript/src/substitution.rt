@@ -12,7 +12,7 @@ pub enum ReplacementPart {
     Literal(Vec<u8>),
     /// `&` (or `\0`): the matched text.
     Whole,
-    /// `\1` to `\9`: what this group of the match holds.
+    /// `\1` to `\9`: what this group of the match contains.
     Group(usize),
 }
 
@@ -23,7 +23,7 @@ pub enum Piece {
     Literal(u8),
     /// The matched text.
     Whole,
-    /// What this group of the match holds.
+    /// What this group of the match contains.
     Group(usize),
 }
 
@@ -35,7 +35,7 @@ pub struct Replacement {
 
 impl Model for Replacement {
     ghost use Rattle.std.specs.Prelude.{List};
-    ghost use Rattle.sedscript.specs.Strings.{Piece};
+    ghost use Rattle.sedscript.specs.declared.substitution.Piece.{Piece};
     ghost use Rattle.sedscript.specs.Pieces.{pieces_in, GroupsWithin};
 
     ghost Value = { List Piece };

@@ -3,15 +3,15 @@
 ghost use Rattle.std.specs.Prelude.{◌≡◌, ◌<◌, ◌≤◌, ◌+◌, ℕ, List, Option, Some, None, true, is_some, take};
 ghost use Rattle.std.specs.Prelude.{slice_get, reverse, unwrap_or, if◌then◌else◌, IfOk, OnOk};
 ghost use Rattle.std.specs.Option.{option_or};
-ghost use Rattle.sedscript.specs.Targets.{written_in, counted, commands_in, is_label, label_in, branch_in, depth_after};
+ghost use Rattle.sedscript.specs.Script.{written_in, counted, commands_in, is_label, label_in, branch_in, depth_after};
 ghost use Rattle.sedscript.specs.Letters.{becomes_command};
 ghost use Rattle.sedscript.specs.declared.items.Item.{Item};
 ghost use Rattle.sedscript.specs.Tables.{TargetsAre, ends_in, with_end, opened, unopened_by, labelled};
 
 use crate::bytes::bytes_between;
 use crate::items::{Argument, Item};
-use crate::kept::Items;
 use crate::letters::{Verb, becomes_command, is_close, is_open};
+use crate::packed::Items;
 use std::alloc::{AllocError, Global};
 use std::collections::BTreeMap;
 
@@ -60,8 +60,8 @@ pub fn opened(n: usize, verb: Verb) -> usize
     if is_open(verb) { n + 1 } else { n }
 }
 
-/// Passes a function on the way back: `n` commands stand before it, the stack `unopened` has where the closing braces lead
-/// that stand after it and close no block opened there, and `ends` has the ends of the blocks after it, the last one first.
+/// Passes a function on the way back: `n` commands come before it, the stack `unopened` has where the closing braces lead
+/// that come after it and close no block opened there, and `ends` has the ends of the blocks after it, the last one first.
 fn pass_back(
     ends: &mut Vec<Option<usize>>,
     unopened: &mut Vec<usize>,
@@ -100,7 +100,7 @@ fn ends_of(alloc: Global, items: &Items, commands: usize) -> Result<Vec<Option<u
     Ok(ends)
 }
 
-/// Adds the label that an item is, if it is one and no earlier label has its name. The item stands at index `k`, after
+/// Adds the label that an item is, if it is one and no earlier label has its name. The item is at index `k`, after
 /// `n` commands.
 fn add_label<'a>(
     labels: &mut BTreeMap<&'a [u8], FirstLabel>,

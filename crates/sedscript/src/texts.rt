@@ -1,11 +1,11 @@
 //! The texts of `a`, `i` and `c` as they are written.
 
 ghost use Rattle.std.specs.Prelude.{◌≡◌, ◌≤◌, ◌<◌, ◌+◌, length, drop, IfSome};
-ghost use Rattle.sedscript.specs.Functions.{text_end, stops, inside_after, text_from};
+ghost use Rattle.sedscript.specs.Arguments.{text_end, stops, inside_after, text_from};
 
 use crate::bytes::{byte_at, is_byte};
 
-/// Where the next byte of a text stands.
+/// Where the next byte of a text is.
 #[derive(Clone, Copy)]
 pub enum Inside {
     /// Within a line.
@@ -26,7 +26,7 @@ fn stops(inside: Inside, b: u8) -> bool
     }
 }
 
-/// Where the byte after this one stands.
+/// Where the byte after this one is.
 fn inside_after(inside: Inside, b: u8) -> Inside
     ensures { result ≡ inside_after inside b }
 {
@@ -67,7 +67,7 @@ fn text_end(text: &[u8], start: Inside, from: usize) -> Option<usize>
 
 /// Where the text that is expected at `from`, after the blanks that follow its letter, begins and ends; None where it is
 /// missing.
-#[tactic(auto, unfolding(crate::specs::Functions::text_from))]
+#[tactic(auto, unfolding(crate::specs::Arguments::text_from))]
 pub fn text_from(text: &[u8], from: usize) -> Option<(usize, usize)>
     requires { from ≤ length text.now }
     ensures is { result ≡ text_from text.now from }

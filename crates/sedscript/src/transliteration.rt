@@ -14,7 +14,7 @@ use crate::strings::{escapes, second_of};
 use crate::types::{Reason, ScriptFault};
 use std::alloc::{AllocError, Global};
 
-/// A byte of a string, and the place where it or its backslash stands.
+/// A byte of a string, and the place where it or its backslash is.
 #[derive(Clone, Copy)]
 pub struct Char {
     pub byte: u8,
@@ -73,7 +73,7 @@ fn string_fault(bytes: &[u8], delimiter: u8, from: usize) -> Option<ScriptFault>
     None
 }
 
-/// Notes a byte, and tells whether it was noted before.
+/// Notes a byte, and says whether it was noted before.
 fn note(seen: &mut [bool; 256], b: u8) -> bool
     ensures { (before : List ℕ) → seen.old ≡ marks_of before →
         (result ≡ is_among before b) × (seen.new ≡ marks_of (b ∷ before)) }
@@ -84,7 +84,7 @@ fn note(seen: &mut [bool; 256], b: u8) -> bool
     noted
 }
 
-/// The place of the first byte that stands a second time in the string that begins at `from`, if there is one.
+/// The place of the first byte that occurs a second time in the string that begins at `from`, if there is one.
 fn repeated(bytes: &[u8], delimiter: u8, from: usize) -> Option<usize>
     requires { from + length bytes.now ≤ usize.MAX }
     ensures { result ≡ repeated_in [] (chars_from delimiter false from bytes.now) }
@@ -124,7 +124,7 @@ fn count(bytes: &[u8], delimiter: u8, from: usize) -> usize
     count
 }
 
-/// The first fault of the strings of a `y` whose letter stands at `letter`, if they have one.
+/// The first fault of the strings of a `y` whose letter is at `letter`, if they have one.
 pub fn strings_fault(text: &[u8], strings: Strings, letter: usize) -> Option<ScriptFault>
     requires { (strings.from ≤ strings.middle) × (strings.middle < strings.to) × (strings.to ≤ length text.now) }
     ensures { result ≡ strings_fault text.now strings.delimiter letter strings.from strings.middle strings.to }
@@ -192,7 +192,7 @@ fn table_from(alloc: Global, string1: &[u8], string2: &[u8]) -> Result<Vec<u8>, 
     Ok(table)
 }
 
-/// The table of a `y`, whose strings stand in the text: what stands for each byte.
+/// The table of a `y`, whose strings are in the text: what stands for each byte.
 pub fn table_between(alloc: Global, text: &[u8], strings: Strings) -> Result<Vec<u8>, AllocError>
     ensures { IfOk result (λ v. v.items ≡ table_between text.now strings) }
 {

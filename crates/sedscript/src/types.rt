@@ -119,11 +119,11 @@ pub struct Command {
 /// Why a text isn't a script, S1 to S23.
 #[derive(Clone, Copy, Debug, PartialEq, Eq)]
 pub enum Reason {
-    /// S1: no function stands where one is expected.
+    /// S1: no function comes where one is expected.
     UnknownCommand,
     /// S2: the function has more addresses than it takes.
     TooManyAddresses,
-    /// S3: a line's number isn't from 1 to 2^64 - 1, or no second address stands after a comma.
+    /// S3: a line's number isn't from 1 to 2^64 - 1, or no second address comes after a comma.
     BadAddress,
     /// S4: a text is missing.
     MissingText,
@@ -133,7 +133,7 @@ pub enum Reason {
     BadDelimiter,
     /// S7: this byte isn't a flag of `s`.
     UnknownFlag,
-    /// S8: a flag of `s` stands a second time.
+    /// S8: a flag of `s` occurs a second time.
     RepeatedFlag,
     /// S9: a flag's number isn't from 1 to 2^64 - 1.
     BadNumber,
@@ -151,7 +151,7 @@ pub enum Reason {
     TrailingBytes,
     /// S16: the strings of `y` aren't of the same length.
     LengthsDiffer,
-    /// S17: a byte stands a second time in the first string of `y`.
+    /// S17: a byte occurs a second time in the first string of `y`.
     RepeatedByte,
     /// S18: this backslash and the byte after it stand for nothing.
     BadEscape,
@@ -163,7 +163,7 @@ pub enum Reason {
     Expression(ExprFault),
     /// S22: a request for memory was refused.
     NoMemory,
-    /// S23: the flag `I` stands after an empty regular expression.
+    /// S23: the flag `I` comes after an empty regular expression.
     FlagOnEmpty,
 }
 

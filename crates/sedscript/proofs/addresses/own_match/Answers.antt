@@ -1,5 +1,5 @@
 use Rattle.std.proofs.Common.{inl, sym, ap, ◌∙◌}
-use Rattle.sedscript.specs.Between.{own_delimiter}
+use Rattle.sedscript.specs.Arguments.{own_delimiter}
 use Rattle.sedscript.proofs.Coming.{own_none}
 use Rattle.sedscript.proofs.addresses.own_match.Goals as goal
 

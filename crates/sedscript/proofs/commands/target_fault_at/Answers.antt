@@ -1,9 +1,8 @@
 use Rattle.std.proofs.Common.{◌≡◌, ◌∙◌, ◌+◌, ℕ, List, Bool, true, Option, is_none, is_some, ap, sym, drop, take}
 use Rattle.std.proofs.lemmas.Slice.Eq.{bytes_eq-Decides}
 use Rattle.sedscript.specs.Types.{Verb, OpenBlock, RepeatedLabel}
-use Rattle.sedscript.specs.Targets.{written_in, is_label, label_in}
-use Rattle.sedscript.specs.Script.{target_fault_at}
-use Rattle.sedscript.specs.Functions.{fault_if}
+use Rattle.sedscript.specs.Script.{written_in, is_label, label_in, target_fault_at}
+use Rattle.sedscript.specs.Bytes.{fault_if}
 use Rattle.sedscript.specs.Letters.{is_open}
 use Rattle.sedscript.proofs.TargetFaults.{missing}
 use Rattle.sedscript.proofs.commands.target_fault_at.Goals as goal

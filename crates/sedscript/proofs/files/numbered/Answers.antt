@@ -1,5 +1,5 @@
 use Rattle.std.proofs.Common.{◌≡◌, ◌+◌, ◌∙◌, arith, subst, sym, ap, take, ℕ, List, option_map}
-use Rattle.sedscript.specs.Targets.{files_in}
+use Rattle.sedscript.specs.Script.{files_in}
 use Rattle.sedscript.specs.Tables.{with_name, AreNumbered}
 use Rattle.sedscript.proofs.FileTables.{files_step}
 use Rattle.sedscript.proofs.files.numbered.Goals as goal

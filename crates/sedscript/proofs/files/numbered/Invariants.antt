@@ -1,5 +1,5 @@
 use Rattle.std.proofs.Common.{◌≤◌, ◌-◌, length, take}
-use Rattle.sedscript.specs.Targets.{files_in}
+use Rattle.sedscript.specs.Script.{files_in}
 use Rattle.sedscript.specs.Tables.{AreNumbered}
 use Rattle.sedscript.proofs.files.numbered.Given as goal
 

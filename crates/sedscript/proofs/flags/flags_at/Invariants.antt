@@ -1,5 +1,5 @@
 use Rattle.std.proofs.Common.{◌≡◌, ◌≤◌, ◌-◌, length, drop}
-use Rattle.sedscript.specs.Between.{no_flags, flags_from}
+use Rattle.sedscript.specs.Arguments.{no_flags, flags_from}
 use Rattle.sedscript.proofs.flags.flags_at.Given as goal
 
 abbrev pub invariant-flags : goal.invariant-flags

@@ -1,6 +1,6 @@
 use Rattle.std.proofs.Common.{◌≡◌, ◌++◌, ◌∷◌, [], refl, sym, subst}
 use Rattle.sedscript.specs.declared.substitution.ReplacementPart.TheVariants.{Whole, Group}
-use Rattle.sedscript.specs.Strings.{Piece, whole, group}
+use Rattle.sedscript.specs.Types.{Piece, whole, group}
 use Rattle.sedscript.specs.Answers.{pieces_with}
 use Rattle.sedscript.proofs.Pieces.{part_added}
 use Rattle.sedscript.proofs.replacement.add_piece.Goals as goal

@@ -1,7 +1,7 @@
 use Rattle.std.proofs.Common.{◌∙◌, ℕ, List, ap, sym}
 use Rattle.std.specs.Str.{bytes_eq}
 use Rattle.sedscript.specs.Types.{Verb}
-use Rattle.sedscript.specs.Targets.{is_label}
+use Rattle.sedscript.specs.Script.{is_label}
 use Rattle.sedscript.proofs.Labels.{label_inserted}
 use Rattle.sedscript.proofs.targets.add_label.Goals as goal
 

@@ -1,6 +1,6 @@
 use Rattle.std.proofs.Common.{◌≡◌, ◌+◌, ◌-◌, ◌∙◌, ℕ, List, Option, take, drop, reverse, ap, arith}
 use Rattle.sedscript.specs.declared.items.Item.{Item}
-use Rattle.sedscript.specs.Targets.{commands_in}
+use Rattle.sedscript.specs.Script.{commands_in}
 use Rattle.sedscript.specs.Tables.{unopened, ends_in}
 use Rattle.sedscript.proofs.Labels.{counted_back, counted_some}
 use Rattle.sedscript.proofs.Blocks.{ends_step, unopened_step}

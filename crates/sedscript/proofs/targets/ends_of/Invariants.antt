@@ -1,5 +1,5 @@
 use Rattle.std.proofs.Common.{◌≡◌, ◌≤◌, length, take, drop, reverse}
-use Rattle.sedscript.specs.Targets.{commands_in}
+use Rattle.sedscript.specs.Script.{commands_in}
 use Rattle.sedscript.specs.Tables.{ends_in, unopened}
 use Rattle.sedscript.proofs.targets.ends_of.Given as goal
 

@@ -1,5 +1,5 @@
 use Rattle.std.proofs.Common.{◌≡◌, ◌≤◌, ◌-◌, length, take}
-use Rattle.sedscript.specs.Targets.{commands_in}
+use Rattle.sedscript.specs.Script.{commands_in}
 use Rattle.sedscript.specs.Tables.{LabelsAre}
 use Rattle.sedscript.proofs.targets.targets_of.Given as goal
 

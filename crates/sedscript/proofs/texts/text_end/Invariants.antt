@@ -1,5 +1,5 @@
 use Rattle.std.proofs.Common.{◌≡◌, ◌≤◌, ◌-◌, length, drop}
-use Rattle.sedscript.specs.Functions.{text_end}
+use Rattle.sedscript.specs.Arguments.{text_end}
 use Rattle.sedscript.proofs.texts.text_end.Given as goal
 
 abbrev pub invariant-bytes : goal.invariant-bytes

@@ -7,46 +7,46 @@ use Rattle.std.proofs.lemmas.Option.{unwrap_or-slice_get}
 use Rattle.sedscript.specs.declared.items.Addresses.{Addresses}
 use Rattle.sedscript.specs.declared.items.Argument.{Argument}
 use Rattle.sedscript.specs.declared.items.Item.{Item}
-use Rattle.sedscript.specs.declared.kept.PackedItem.{PackedItem}
-use Rattle.sedscript.specs.declared.kept.PackedAddresses.{PackedAddresses}
-use Rattle.sedscript.specs.declared.kept.PackedAddresses.TheVariants as g
-use Rattle.sedscript.specs.declared.kept.PackedArgument.{PackedArgument}
-use Rattle.sedscript.specs.declared.kept.PackedArgument.TheVariants as b
-use Rattle.sedscript.specs.Kept.{Longer, no_addresses, kept_addresses, kept_argument, kept_item, kept_items, PacksAddresses, PacksArgument, PacksItem}
+use Rattle.sedscript.specs.declared.packed.PackedItem.{PackedItem}
+use Rattle.sedscript.specs.declared.packed.PackedAddresses.{PackedAddresses}
+use Rattle.sedscript.specs.declared.packed.PackedAddresses.TheVariants as g
+use Rattle.sedscript.specs.declared.packed.PackedArgument.{PackedArgument}
+use Rattle.sedscript.specs.declared.packed.PackedArgument.TheVariants as b
+use Rattle.sedscript.specs.Packed.{Longer, no_addresses, unpacked_addresses, unpacked_argument, unpacked_item, unpacked_items, PacksAddresses, PacksArgument, PacksItem}
 
 listed : {A : Type 0} (xs ys : List A) (n : ℕ) (d : A) → Longer xs ys → n < length xs → unwrap_or (slice_get ys n) d ≡ unwrap_or (slice_get xs n) d
 listed xs ys n d more h =
     unwrap_or-slice_get ys n d ∙ (ap (λ zs. get_or zs n d) more.1 ∙ (get_or_append_left xs more.0 d n h ∙ sym (unwrap_or-slice_get xs n d)))
 
-same_addresses : (xs ys : List Addresses) (given : PackedAddresses) (n : ℕ) → Longer xs ys → PacksAddresses (length xs) given n → kept_addresses ys given n ≡ kept_addresses xs given n
+same_addresses : (xs ys : List Addresses) (given : PackedAddresses) (n : ℕ) → Longer xs ys → PacksAddresses (length xs) given n → unpacked_addresses ys given n ≡ unpacked_addresses xs given n
 same_addresses xs ys g.Listed n more h = listed xs ys n no_addresses more h
 same_addresses xs ys other n more h = refl
 
-same_argument : (xs ys : List Argument) (brief : PackedArgument) (from to : ℕ) → Longer xs ys → PacksArgument (length xs) brief from → kept_argument ys brief from to ≡ kept_argument xs brief from to
+same_argument : (xs ys : List Argument) (brief : PackedArgument) (from to : ℕ) → Longer xs ys → PacksArgument (length xs) brief from → unpacked_argument ys brief from to ≡ unpacked_argument xs brief from to
 same_argument xs ys b.Listed from to more h = listed xs ys from _ more h
 same_argument xs ys other from to more h = refl
 
-same_item : (listed_addresses hs : List Addresses) (listed_arguments ls : List Argument) (k : PackedItem) → Longer listed_addresses hs → Longer listed_arguments ls → PacksItem (length listed_addresses) (length listed_arguments) k → kept_item hs ls k ≡ kept_item listed_addresses listed_arguments k
+same_item : (listed_addresses hs : List Addresses) (listed_arguments ls : List Argument) (k : PackedItem) → Longer listed_addresses hs → Longer listed_arguments ls → PacksItem (length listed_addresses) (length listed_arguments) k → unpacked_item hs ls k ≡ unpacked_item listed_addresses listed_arguments k
 same_item listed_addresses hs listed_arguments ls k a f is =
     let x = same_addresses listed_addresses hs k.given k.head a is.0 in
     let y = same_argument listed_arguments ls k.argument k.from k.to f is.1 in
-    ap (λ z. record { addresses = z; place = k.place; verb = k.verb; argument = kept_argument ls k.argument k.from k.to }) x
-    ∙ ap (λ z. record { addresses = kept_addresses listed_addresses k.given k.head; place = k.place; verb = k.verb; argument = z }) y
+    ap (λ z. record { addresses = z; place = k.place; verb = k.verb; argument = unpacked_argument ls k.argument k.from k.to }) x
+    ∙ ap (λ z. record { addresses = unpacked_addresses listed_addresses k.given k.head; place = k.place; verb = k.verb; argument = z }) y
 
 same_items : (listed_addresses hs : List Addresses) (listed_arguments ls : List Argument) (ks : List PackedItem) → Longer listed_addresses hs → Longer listed_arguments ls → All (PacksItem (length listed_addresses) (length listed_arguments)) ks →
-    kept_items hs ls ks ≡ kept_items listed_addresses listed_arguments ks
+    unpacked_items hs ls ks ≡ unpacked_items listed_addresses listed_arguments ks
 same_items listed_addresses hs listed_arguments ls [] a f all = refl
 same_items listed_addresses hs listed_arguments ls (k ∷ ks) a f all =
     let one = same_item listed_addresses hs listed_arguments ls k a f (All-head (PacksItem (length listed_addresses) (length listed_arguments)) k ks all) in
     let rest = same_items listed_addresses hs listed_arguments ls ks a f (All-tail (PacksItem (length listed_addresses) (length listed_arguments)) k ks all) in
-    ap (λ i. i ∷ kept_items hs ls ks) one ∙ ap (λ is. kept_item listed_addresses listed_arguments k ∷ is) rest
+    ap (λ i. i ∷ unpacked_items hs ls ks) one ∙ ap (λ is. unpacked_item listed_addresses listed_arguments k ∷ is) rest
 
 -- the items with one more
 pub items_more : (listed_addresses hs : List Addresses) (listed_arguments ls : List Argument) (ks ns : List PackedItem) (k : PackedItem) (i : Item) → Longer listed_addresses hs → Longer listed_arguments ls →
-    All (PacksItem (length listed_addresses) (length listed_arguments)) ks → ns ≡ ks ++ k ∷ [] → kept_item hs ls k ≡ i → kept_items hs ls ns ≡ kept_items listed_addresses listed_arguments ks ++ i ∷ []
+    All (PacksItem (length listed_addresses) (length listed_arguments)) ks → ns ≡ ks ++ k ∷ [] → unpacked_item hs ls k ≡ i → unpacked_items hs ls ns ≡ unpacked_items listed_addresses listed_arguments ks ++ i ∷ []
 items_more listed_addresses hs listed_arguments ls ks ns k i a f all grown is =
-    ap (kept_items hs ls) grown ∙ (map-append (kept_item hs ls) ks (k ∷ [])
-    ∙ (ap (λ zs. zs ++ kept_item hs ls k ∷ []) (same_items listed_addresses hs listed_arguments ls ks a f all) ∙ ap (λ j. kept_items listed_addresses listed_arguments ks ++ j ∷ []) is))
+    ap (unpacked_items hs ls) grown ∙ (map-append (unpacked_item hs ls) ks (k ∷ [])
+    ∙ (ap (λ zs. zs ++ unpacked_item hs ls k ∷ []) (same_items listed_addresses hs listed_arguments ls ks a f all) ∙ ap (λ j. unpacked_items listed_addresses listed_arguments ks ++ j ∷ []) is))
 
 longer_is : {A : Type 0} (xs ys : List A) → Longer xs ys → length xs ≤ length ys
 longer_is xs ys more = omega (arith, ap length more.1, length-append xs more.0)

@@ -1,12 +1,57 @@
--- What stands between delimiters after `s` and `y`, and the flags of `s` (XCU sed, "Editing Commands in sed").
-use Rattle.std.specs.Prelude.{ℕ, zero, suc, ◌+◌, List, [], ◌∷◌, Bool, true, false, ◌||◌, Option, Some, None, is_some, if◌then◌else◌, ◌==◌, Result, Ok, Err, drop}
+-- What follows the letters of functions: texts, names, strings with their flags, and its end (XCU sed, "Editing Commands in sed").
+use Rattle.std.specs.Prelude.{ℕ, zero, suc, ◌+◌, List, [], ◌∷◌, Bool, true, false, ◌&&◌, ◌||◌, Option, Some, None, is_some, if◌then◌else◌, ◌==◌, Result, Ok, Err, drop, slice_get, unwrap_or, option_map}
 use Rattle.std.specs.List.{prefix_len, take_while}
 use Rattle.std.specs.Result.{result_unwrap_or}
-use Rattle.sedscript.specs.Types.{ScriptFault, UnknownFlag, RepeatedFlag, BadNumber, MissingName, FlagOnEmpty, Flags, OpenDelimiter, BadDelimiter, Strings}
-use Rattle.sedscript.specs.Bytes.{is_blank, is_digit, with_digits}
-use Rattle.sedscript.specs.Functions.{fault, or_fault, may_end, name_from, ◌>>=◌}
 use Rattle.sedre.specs.Brackets.{delimiter_at}
+use Rattle.sedscript.specs.Types.{ScriptFault, Reason, TrailingBytes, UnknownFlag, RepeatedFlag, BadNumber, MissingName, FlagOnEmpty, OpenDelimiter, BadDelimiter, Argument, Between, Flags, Strings, Inside, InLine, Escape, Due}
+use Rattle.sedscript.specs.Bytes.{Blank, Line, past, is_blank, is_byte, is_digit, with_digits, fault, or_fault, ◌>>=◌}
 use Rattle.sedscript.specs.Strings.{string_end}
+
+-- whether a command may end before this byte: a newline, `;` or no byte; `}` or `#` (these two, and a `;` after a `}`: this project's own)
+abbrev pub may_end : Option ℕ → Bool
+may_end None = true
+may_end (Some b) = b == 10 || b == 59 || b == 125 || b == 35
+
+-- what follows a letter and the end of its command, if only blanks come between a place and that end
+abbrev pub to_command_end : List ℕ → Argument → ℕ → Result (Argument × ℕ) ScriptFault
+to_command_end text a at =
+    if may_end (slice_get text (past Blank text at)) then Ok (a, past Blank text at)
+    else fault TrailingBytes (past Blank text at)
+
+-- whether a text ends before this byte: a newline that isn't escaped
+abbrev pub stops : Inside → ℕ → Bool
+stops Escape b = false
+stops how b = b == 10
+
+-- where the byte after this one is: within a line, after a backslash that escapes it, or where a further line is due
+abbrev pub inside_after : Inside → ℕ → Inside
+inside_after Escape b = if b == 10 then Due else InLine
+inside_after how b = if b == 92 then Escape else InLine
+
+-- where a text whose rest begins at a place ends, if no further line is due there (that this is a fault: this project's own)
+abbrev pub text_end : Inside → ℕ → List ℕ → Option ℕ
+text_end InLine at [] = Some at
+text_end how at [] = None
+text_end how at (b ∷ bs) = if stops how b then Some at else text_end (inside_after how b) (suc at) bs
+
+-- where the text of `a`, `i` or `c` that is due at a place, after its letter and blanks, begins and ends. Without a backslash
+-- and a newline before it it has one line and isn't empty; after these it may be (both this project's own)
+unfoldable pub text_from : List ℕ → ℕ → Option (ℕ × ℕ)
+text_from text from =
+    if is_byte 92 (slice_get text from) && is_byte 10 (slice_get text (from + 1))
+    then option_map (λ to. (from + 2, to)) (text_end Due (from + 2) (drop (from + 2) text))
+    else if unwrap_or (slice_get text from) 10 == 10 then None
+    else option_map (λ to. (from, to)) (text_end InLine from (drop from text))
+
+-- where a file's name begins and ends, if it isn't empty: after blanks, if any, up to the newline, with all between (this project's own)
+unfoldable pub name_from : List ℕ → ℕ → Option (ℕ × ℕ)
+name_from text at =
+    if past Line text (past Blank text at) == past Blank text at then None
+    else Some (past Blank text at, past Line text (past Blank text at))
+
+-- the text or the name that was found after the letter at a place, and the place after it, or else this fault
+abbrev pub spanned : Reason → ℕ → Option (ℕ × ℕ) → Result (Argument × ℕ) ScriptFault
+spanned reason place found = or_fault found reason place >>= λ span. Ok (Between span.0 span.1, span.1)
 
 abbrev pub no_flags : Flags
 no_flags = record { number = None; global = false; print = false; folded = false; file = None }
@@ -64,12 +109,12 @@ strings_after text breaks d place first =
     or_fault (string_end breaks d false (middle + 1) (drop (middle + 1) text)) OpenDelimiter middle >>= λ to.
     Ok (record { delimiter = d; from = place + 1; middle = middle; to = to })
 
--- the strings of `s`, whose delimiter stands at a place: a regular expression and a replacement
+-- the strings of `s`, whose delimiter is at a place: a regular expression and a replacement
 abbrev pub substitute_strings : List ℕ → ℕ → Option ℕ → Result Strings ScriptFault
 substitute_strings text place own =
     or_fault own BadDelimiter place >>= λ d. strings_after text true d place (delimiter_at text (place + 1) d)
 
--- the strings of `y`, whose delimiter stands at a place
+-- the strings of `y`, whose delimiter is at a place
 abbrev pub transliterate_strings : List ℕ → ℕ → Option ℕ → Result Strings ScriptFault
 transliterate_strings text place own =
     or_fault own BadDelimiter place >>= λ d.

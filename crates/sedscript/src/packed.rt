@@ -1,8 +1,8 @@
 //! The items of a script as they are kept until its commands are made of them. A script may have a great many, so
-//! each takes little room: what only a few of them need stands in lists of its own.
+//! each takes little room: what only a few of them need is in lists of its own.
 
 ghost use Rattle.std.specs.Prelude.{◌≡◌, ◌<◌, ◌++◌, ◌∷◌, [], Some, length, slice_get, slice_index_or, IfOk, OnOk};
-ghost use Rattle.sedscript.specs.Kept.{kept_addresses, kept_argument, kept_item, PacksAddresses, PacksArgument, PacksItem, Longer};
+ghost use Rattle.sedscript.specs.Packed.{unpacked_addresses, unpacked_argument, unpacked_item, PacksAddresses, PacksArgument, PacksItem, Longer};
 
 use crate::items::{Addresses, Argument, Item};
 use crate::letters::Verb;
@@ -57,9 +57,13 @@ const NO_ADDRESSES: Addresses = Addresses {
 
 /// The addresses that an item keeps as `given` and `head`.
 #[inline]
-fn kept_addresses(listed_addresses: &[Addresses], given: PackedAddresses, head: u64) -> Addresses
+fn unpacked_addresses(
+    listed_addresses: &[Addresses],
+    given: PackedAddresses,
+    head: u64,
+) -> Addresses
     requires { PacksAddresses (length listed_addresses.now) given head }
-    ensures { result ≡ kept_addresses listed_addresses.now given head }
+    ensures { result ≡ unpacked_addresses listed_addresses.now given head }
 {
     match given {
         PackedAddresses::Nothing => NO_ADDRESSES,
@@ -77,14 +81,14 @@ fn kept_addresses(listed_addresses: &[Addresses], given: PackedAddresses, head: 
 
 /// The argument that an item keeps as `argument`, `from` and `to`.
 #[inline]
-fn kept_argument(
+fn unpacked_argument(
     listed_arguments: &[Argument],
     argument: PackedArgument,
     from: usize,
     to: usize,
 ) -> Argument
     requires { PacksArgument (length listed_arguments.now) argument from }
-    ensures { result ≡ kept_argument listed_arguments.now argument from to }
+    ensures { result ≡ unpacked_argument listed_arguments.now argument from to }
 {
     match argument {
         PackedArgument::Nothing => Argument::Nothing,
@@ -100,7 +104,7 @@ fn keep_addresses(
 ) -> Result<(PackedAddresses, u64), AllocError>
     ensures longer { Longer listed_addresses.old.items listed_addresses.new.items }
     ensures kept { IfOk result (λ g. PacksAddresses (length listed_addresses.new.items) g.0 g.1
-        × (kept_addresses listed_addresses.new.items g.0 g.1 ≡ addresses)) }
+        × (unpacked_addresses listed_addresses.new.items g.0 g.1 ≡ addresses)) }
 {
     match (addresses.first, addresses.second, addresses.negate) {
         (None, None, false) => Ok((PackedAddresses::Nothing, 0)),
@@ -121,7 +125,7 @@ fn keep_argument(
 ) -> Result<(PackedArgument, usize, usize), AllocError>
     ensures longer { Longer listed_arguments.old.items listed_arguments.new.items }
     ensures kept { IfOk result (λ b. PacksArgument (length listed_arguments.new.items) b.0 b.1
-        × (kept_argument listed_arguments.new.items b.0 b.1 b.2 ≡ argument)) }
+        × (unpacked_argument listed_arguments.new.items b.0 b.1 b.2 ≡ argument)) }
 {
     match argument {
         Argument::Nothing => Ok((PackedArgument::Nothing, 0, 0)),
@@ -143,7 +147,7 @@ fn keep(
     ensures listed_addresses { Longer listed_addresses.old.items listed_addresses.new.items }
     ensures listed_arguments { Longer listed_arguments.old.items listed_arguments.new.items }
     ensures kept { IfOk result (λ k. PacksItem (length listed_addresses.new.items) (length listed_arguments.new.items) k
-        × (kept_item listed_addresses.new.items listed_arguments.new.items k ≡ item)) }
+        × (unpacked_item listed_addresses.new.items listed_arguments.new.items k ≡ item)) }
 {
     let (given, head) = keep_addresses(listed_addresses, item.addresses)?;
     let (argument, from, to) = keep_argument(listed_arguments, item.argument)?;
@@ -171,12 +175,12 @@ pub struct Items {
 impl Model for Items {
     ghost use Rattle.std.specs.Prelude.{List, length};
     ghost use Rattle.std.specs.List.{All};
-    ghost use Rattle.sedscript.specs.Kept.{kept_items, PacksItem};
+    ghost use Rattle.sedscript.specs.Packed.{unpacked_items, PacksItem};
     ghost use Rattle.sedscript.specs.declared.items.Item.{Item};
 
     ghost Value = { List Item };
 
-    ghost view = { λ s. kept_items s.listed_addresses.items s.listed_arguments.items s.kept.items };
+    ghost view = { λ s. unpacked_items s.listed_addresses.items s.listed_arguments.items s.kept.items };
 
     ghost invariant = { λ s. All (PacksItem (length s.listed_addresses.items) (length s.listed_arguments.items)) s.kept.items };
 }
@@ -209,10 +213,10 @@ impl Items {
     {
         let kept = self.kept[k];
         Item {
-            addresses: kept_addresses(&self.listed_addresses, kept.given, kept.head),
+            addresses: unpacked_addresses(&self.listed_addresses, kept.given, kept.head),
             place: kept.place,
             verb: kept.verb,
-            argument: kept_argument(&self.listed_arguments, kept.argument, kept.from, kept.to),
+            argument: unpacked_argument(&self.listed_arguments, kept.argument, kept.from, kept.to),
         }
     }
 

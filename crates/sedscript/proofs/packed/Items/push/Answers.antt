@@ -1,9 +1,9 @@
 use Rattle.std.proofs.Common.{◌++◌, ◌∷◌, [], ap, ◌∙◌, List, length}
 use Rattle.std.proofs.lemmas.List.Elements.{All-push, All-same}
 use Rattle.sedscript.specs.declared.items.Item.{Item}
-use Rattle.sedscript.specs.Kept.{PacksItem}
-use Rattle.sedscript.proofs.Keeping.{items_more, all_kept}
-use Rattle.sedscript.proofs.kept.Items.push.Goals as goal
+use Rattle.sedscript.specs.Packed.{PacksItem}
+use Rattle.sedscript.proofs.Packing.{items_more, all_kept}
+use Rattle.sedscript.proofs.packed.Items.push.Goals as goal
 
 pub invariant_of-self : goal.invariant_of-self
 invariant_of-self c = all_kept c.self.inside.listed_addresses.items c.keep.new.listed_addresses.items c.self.inside.listed_arguments.items c.keep.new.listed_arguments.items c.self.inside.kept.items c.keep.ensures.listed_addresses c.keep.ensures.listed_arguments c.self.invariant
