@@ -3,13 +3,14 @@ use Rattle.std.proofs.Common.{◌≡◌, ℕ, ◌+◌, ◌-◌, ◌<◌, ◌≤�
 use Rattle.std.proofs.Math.Seq.{take-append_seam}
 use Rattle.std.specs.List.{before_first}
 use Rattle.std.specs.Io.KnownBytes.{prepend_known, Consumes, IsAtEnd}
-use Rattle.sedspace.specs.Lines.{lines, is_newline, HasNoNewline, TakesAtMost}
+use Rattle.sedspace.specs.Lines.{lines, is_newline, HasNoNewline}
+use Rattle.sedspace.specs.Reading.{TakesAtMost}
+use Rattle.sedspace.specs.Stream.{Stream, left, lines_left, TakesLine, GivesLine, NoLineLeft, FirstIsLonger, SeesEnd, LosesPart, TellsLast}
 use Rattle.sedspace.specs.Spaces.{Contents}
 use Rattle.sedspace.specs.declared.lines.Got.{Got}
 use Rattle.sedspace.specs.declared.lines.Got.TheVariants.{Line, End}
 use Rattle.sedspace.specs.declared.errors.LineFault.{LineFault}
 use Rattle.sedspace.specs.declared.errors.LineFault.TheVariants.{Broken, TooLong}
-use Rattle.sedspace.specs.Stream.{Stream, left, lines_left, TakesLine, GivesLine, NoLineLeft, FirstIsLonger, SeesEnd, LosesPart, TellsLast}
 use Rattle.sedspace.specs.Gathering.{Gathers}
 use Rattle.sedspace.proofs.LineLemmas.{lines_at, lines_last, lines_nil, lines_none, lines_first, length-before_first-append}
 
@@ -172,14 +173,14 @@ module _ {R : Type 0} (remaining : R → Option (List ℕ)) (failures : R → �
   lost_gathered Broken h = loses_part _ _ h.1 _ h.3.left_is h.3.part_is (omega (arith, size_of before after h.1 h.3.space, limit_of before after h.1 h.3.space, h.4))
 
   -- how much is taken from the source
-  pub taken_gathered : (r : Result Got LineFault) → Gathers remaining failures old new before after r → length new.ahead ≤ new.look → TakesAtMost (remaining old.source) (remaining new.source) (old.look + (if is_ok r then length after.bytes - length before.bytes + 1 else before.limit))
+  pub taken_gathered : (r : Result Got LineFault) → Gathers remaining failures old new before after r → length new.ahead ≤ new.read_ahead → TakesAtMost (remaining old.source) (remaining new.source) (old.read_ahead + (if is_ok r then length after.bytes - length before.bytes + 1 else before.limit))
   taken_gathered (Ok Line) h ahead =
       ⊎_elim
-      (λ w. takes_at_most _ _ h.2 _ w.source_is (omega (arith, size_of before after h.1 w.space, w.count, w.look_is, ahead)))
-      (λ w. takes_at_most _ _ h.2 _ w.0.source_is (omega (arith, size_of before after h.1 w.0.space, w.0.count, w.0.look_is, ahead)))
+      (λ w. takes_at_most _ _ h.2 _ w.source_is (omega (arith, size_of before after h.1 w.space, w.count, w.read_ahead_is, ahead)))
+      (λ w. takes_at_most _ _ h.2 _ w.0.source_is (omega (arith, size_of before after h.1 w.0.space, w.0.count, w.0.read_ahead_is, ahead)))
       h.3
-  taken_gathered (Ok End) h ahead = takes_at_most _ _ h.1 _ h.2.source_is (omega (arith, h.2.count, h.2.look_is, ahead))
+  taken_gathered (Ok End) h ahead = takes_at_most _ _ h.1 _ h.2.source_is (omega (arith, h.2.count, h.2.read_ahead_is, ahead))
   taken_gathered (Err TooLong) h ahead =
-      takes_at_most _ _ h.2 _ h.3.source_is (omega (arith, size_of before after h.1 h.3.space, limit_of before after h.1 h.3.space, h.3.count, h.3.look_is, h.4, ahead))
+      takes_at_most _ _ h.2 _ h.3.source_is (omega (arith, size_of before after h.1 h.3.space, limit_of before after h.1 h.3.space, h.3.count, h.3.read_ahead_is, h.4, ahead))
   taken_gathered (Err Broken) h ahead =
-      takes_at_most _ _ h.2 _ h.3.source_is (omega (arith, size_of before after h.1 h.3.space, limit_of before after h.1 h.3.space, h.3.count, h.3.look_is, h.4, ahead))
+      takes_at_most _ _ h.2 _ h.3.source_is (omega (arith, size_of before after h.1 h.3.space, limit_of before after h.1 h.3.space, h.3.count, h.3.read_ahead_is, h.4, ahead))

@@ -29,7 +29,7 @@ module _ {R : Type 0} (remaining : R → Option (List ℕ)) where
         left_is = Consumes-nil (left remaining s);
         source_is = Consumes-nil (remaining s.source);
         count = omega arith;
-        look_is = refl;
+        read_ahead_is = refl;
         fault_is = refl;
         ended_is = λ e. (refl, e);
         whole_is = inr (refl, refl);
@@ -43,7 +43,7 @@ module _ {R : Type 0} (remaining : R → Option (List ℕ)) where
         left_is = Consumes-trans _ _ _ part s.ahead h.left_is (prepend-moved (remaining s.source) s.ahead s.ahead [] (sym (append-nil s.ahead)));
         source_is = h.source_is;
         count = omega (arith, length-append part s.ahead, h.count);
-        look_is = h.look_is;
+        read_ahead_is = h.read_ahead_is;
         fault_is = h.fault_is;
         ended_is = h.ended_is;
         whole_is = ⊎_elim inl (λ w. inr (w.0, w.1 ∙ sym (append-nil (part ++ s.ahead)))) h.whole_is;
@@ -72,7 +72,7 @@ module _ {R : Type 0} (remaining : R → Option (List ℕ)) where
         left_is = rw append_assoc both;
         source_is = h.source_is;
         count = omega (arith, length-append part line, h.count, len2);
-        look_is = h.look_is;
+        read_ahead_is = h.read_ahead_is;
         fault_is = h.fault_is;
         ended_is = h.ended_is;
         whole_is = ⊎_elim inl (λ w. inr w.0) h.whole_is;
@@ -88,8 +88,8 @@ module _ {R : Type 0} (remaining : R → Option (List ℕ)) where
       )
 
   -- more is read, or the end is found
-  pub Gathered-refilled : (s₀ s t : Stream R) (b₀ b : Contents) (part taken : List ℕ) → Gathered remaining s₀ s b₀ b part taken → s.ahead ≡ [] → Consumes (left remaining s) (left remaining t) [] → Consumes (remaining s.source) (remaining t.source) t.ahead → t.look ≡ s.look → t.fault ≡ s.fault → (s.ended ≡ true → t ≡ s) → Gathered remaining s₀ t b₀ b part (taken ++ t.ahead)
-  Gathered-refilled s₀ s t b₀ b part taken h empty same read look fault done =
+  pub Gathered-refilled : (s₀ s t : Stream R) (b₀ b : Contents) (part taken : List ℕ) → Gathered remaining s₀ s b₀ b part taken → s.ahead ≡ [] → Consumes (left remaining s) (left remaining t) [] → Consumes (remaining s.source) (remaining t.source) t.ahead → t.read_ahead ≡ s.read_ahead → t.fault ≡ s.fault → (s.ended ≡ true → t ≡ s) → Gathered remaining s₀ t b₀ b part (taken ++ t.ahead)
+  Gathered-refilled s₀ s t b₀ b part taken h empty same read read_ahead fault done =
       let both = Consumes-trans _ _ _ part [] h.left_is same in
       let none : length s.ahead ≡ 0 = ap length empty in
       record {
@@ -98,7 +98,7 @@ module _ {R : Type 0} (remaining : R → Option (List ℕ)) where
         left_is = rw append-nil at both;
         source_is = Consumes-trans _ _ _ taken t.ahead h.source_is read;
         count = omega (arith, length-append taken t.ahead, h.count, none);
-        look_is = look ∙ h.look_is;
+        read_ahead_is = read_ahead ∙ h.read_ahead_is;
         fault_is = fault ∙ h.fault_is;
         ended_is = λ e. let p = h.ended_is e in let q = done p.1 in (ap (λ (z : Stream R). z.source) q ∙ p.0, ap (λ (z : Stream R). z.ended) q ∙ p.1);
         whole_is = ⊎_elim inl (λ w. inl (subst HasNoNewline (sym (w.1 ∙ ap (λ z. part ++ z) empty ∙ append-nil part)) h.part_is)) h.whole_is;

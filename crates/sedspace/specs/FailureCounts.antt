@@ -5,7 +5,7 @@ use Rattle.std.specs.Prelude.{◌≡◌, ℕ, ◌+◌, ◌-◌, ◌^◌, min, ma
 abbrev pub raised : ℕ → ℕ
 raised n = max n (min (n + 1) (2 ^ 64 - 1))
 
--- the number rises by one, and stays where it stands at the largest
+-- the number rises by one, and stays where it is the largest
 abbrev pub Rises : ℕ → ℕ → Type 0
 Rises old new = new ≡ raised old
 

@@ -1,4 +1,4 @@
--- Numbers of failures, which stop at the largest 64-bit number: the number rose, or stands at the largest.
+-- Numbers of failures, which stop at the largest 64-bit number: the number rose, or is the largest.
 use Rattle.std.specs.Prelude.{ℕ, ◌+◌, ◌-◌, ◌^◌, ◌≤◌, min}
 
 abbrev pub Rose : ℕ → ℕ → Type 0

@@ -1,4 +1,4 @@
--- Private to the proofs: no contract of a public item cites what stands here.
+-- Private to the proofs: no contract of a public item cites what is here.
 -- How a line is gathered from several reads.
 use Rattle.std.specs.Prelude.{◌≡◌, ℕ, ◌+◌, ◌<◌, ◌≤◌, ◌⊎◌, true, List, [], ◌∷◌, ◌++◌, length, Option, Result, Ok, Err}
 use Rattle.std.specs.List.{before_first}
@@ -12,7 +12,7 @@ use Rattle.sedspace.specs.FailureCounts.{Rises}
 use Rattle.sedspace.specs.Lines.{is_newline, HasNoNewline}
 use Rattle.sedspace.specs.Stream.{Stream, left}
 
--- a part of a line was gathered: it stands in the space, and these bytes were taken from the source for it
+-- a part of a line was gathered: it is in the space, and these bytes were taken from the source for it
 pub record Gathered {R : Type 0} (remaining : R → Option (List ℕ)) (old new : Stream R) (before after : Contents)
     (part taken : List ℕ) : Type 0 where
   pub space : after ≡ record { bytes = before.bytes ++ part; limit = before.limit }
@@ -20,7 +20,7 @@ pub record Gathered {R : Type 0} (remaining : R → Option (List ℕ)) (old new 
   pub left_is : Consumes (left remaining old) (left remaining new) part
   pub source_is : Consumes (remaining old.source) (remaining new.source) taken
   pub count : length old.ahead + length taken ≡ length part + length new.ahead
-  pub look_is : new.look ≡ old.look
+  pub read_ahead_is : new.read_ahead ≡ old.read_ahead
   pub fault_is : new.fault ≡ old.fault
   pub ended_is : old.ended ≡ true → (new.source ≡ old.source) × (new.ended ≡ true)
   pub whole_is : HasNoNewline old.ahead ⊎ ((new.source ≡ old.source) × (old.ahead ≡ part ++ new.ahead))
@@ -33,7 +33,7 @@ pub record GatheredLine {R : Type 0} (remaining : R → Option (List ℕ)) (old 
   pub left_is : Consumes (left remaining old) (left remaining new) (line ++ 10 ∷ [])
   pub source_is : Consumes (remaining old.source) (remaining new.source) taken
   pub count : length old.ahead + length taken ≡ length line + 1 + length new.ahead
-  pub look_is : new.look ≡ old.look
+  pub read_ahead_is : new.read_ahead ≡ old.read_ahead
   pub fault_is : new.fault ≡ old.fault
   pub ended_is : old.ended ≡ true → (new.source ≡ old.source) × (new.ended ≡ true)
   pub whole_is : HasNoNewline old.ahead ⊎ (new.source ≡ old.source)

@@ -1,5 +1,5 @@
 -- The lines of a stream of bytes (XBD 3, Line and Incomplete Line), and how many of its bytes are gone.
-use Rattle.std.specs.Prelude.{◌≡◌, ℕ, ◌==◌, Bool, false, List, [], ◌∷◌, ◌++◌, ◌≤◌, length, Option, None, Some, ⊤}
+use Rattle.std.specs.Prelude.{◌≡◌, ℕ, ◌==◌, Bool, false, List, [], ◌∷◌}
 use Rattle.std.specs.List.{All, slice_split}
 
 -- the byte that ends a line (XBD 3, Newline Character)
@@ -20,9 +20,3 @@ lines bytes = without_empty_last (slice_split is_newline bytes)
 -- no byte is a newline
 abbrev pub HasNoNewline : List ℕ → Type 0
 HasNoNewline bytes = All (λ b. is_newline b ≡ false) bytes
-
--- known bytes lose at most n from the front
-abbrev pub TakesAtMost : Option (List ℕ) → Option (List ℕ) → ℕ → Type 0
-TakesAtMost None new n = ⊤
-TakesAtMost (Some xs) None n = ⊥
-TakesAtMost (Some xs) (Some ys) n = (taken : List ℕ) × (xs ≡ taken ++ ys) × (length taken ≤ n)

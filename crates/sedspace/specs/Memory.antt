@@ -31,7 +31,7 @@ pub record Sink : Type 0 where
   pub failures : ℕ
 
 -- sinks over memory, and the most bytes that a write takes
-pub record Sinks : Type 0 where
+pub record HeldSinks : Type 0 where
   pub held : List Sink
   pub most : ℕ
 
@@ -40,16 +40,16 @@ abbrev pub new_sink : ℕ → Bool → Sink
 new_sink room reserved =
     record { bytes = []; room = room; reserved = reserved; writes = 0; fails_at = None; failures = 0 }
 
--- what a sink holds
-abbrev pub sink_bytes : Sinks → ℕ → Option (List ℕ)
+-- what a sink contains
+abbrev pub sink_bytes : HeldSinks → ℕ → Option (List ℕ)
 sink_bytes o k = option_map (λ s. s.bytes) (slice_get o.held k)
 
 -- how often a sink failed
-abbrev pub sink_failures : Sinks → ℕ → ℕ
+abbrev pub sink_failures : HeldSinks → ℕ → ℕ
 sink_failures o k = unwrap_or (option_map (λ s. s.failures) (slice_get o.held k)) 0
 
 -- a write is counted, and takes as many bytes as are given, as may be taken at once, and as there is room for; it fails
--- where it is told to, and where none of some bytes has room; without reserved room it may be refused memory, too
+-- where it is set to, and where none of some bytes has room; without reserved room it may be refused memory, too
 abbrev pub TakesBytes : Sink → Sink → ℕ → List ℕ → Result ℕ Broken → Type 0
 TakesBytes old new most bytes (Ok n) =
     (n ≡ min (min (length bytes) most) old.room) × (0 < length bytes → 0 < n) × ¬ (old.fails_at ≡ Some new.writes)

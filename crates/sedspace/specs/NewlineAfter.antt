@@ -1,5 +1,5 @@
--- Private to the proofs: no contract of a public item cites what stands here.
--- How a space holds its bytes: in a list that may be longer, with a newline after them.
+-- Private to the proofs: no contract of a public item cites what is here.
+-- How a space keeps its bytes: in a list that may be longer, with a newline after them.
 use Rattle.std.specs.Prelude.{◌≡◌, ℕ, ◌-◌, ◌≤◌, List, Some, length, take, drop, slice_get}
 use Rattle.sedspace.specs.Lines.{HasNoNewline}
 
@@ -7,11 +7,11 @@ use Rattle.sedspace.specs.Lines.{HasNoNewline}
 abbrev pub between : ℕ → ℕ → List ℕ → List ℕ
 between front end held = drop front (take end held)
 
--- a newline stands at the end
+-- a newline is at the end
 abbrev pub EndsAt : ℕ → List ℕ → Type 0
 EndsAt end held = slice_get held end ≡ Some 10
 
--- the first so many bytes hold no newline, and neither do the last so many
+-- the first so many bytes contain no newline, and neither do the last so many
 pub record IsClear (first last : ℕ) (bytes : List ℕ) : Type 0 where
   pub first_within : first ≤ length bytes
   pub last_within : last ≤ length bytes

@@ -13,11 +13,11 @@ use Rattle.sedspace.specs.Lines.{lines, HasNoNewline}
 pub record Stream (R : Type 0) : Type 0 where
   pub source : R
   pub ahead : List ℕ
-  pub look : ℕ
+  pub read_ahead : ℕ
   pub ended : Bool
   pub fault : Option LineFault
 
--- the bytes still to come: those ahead, and then the source's, where it tells them
+-- the bytes still to come: those ahead, and then the source's, where these are known
 abbrev pub left : {R : Type 0} → (R → Option (List ℕ)) → Stream R → Option (List ℕ)
 left remaining s = prepend_known s.ahead (remaining s.source)
 
@@ -42,7 +42,7 @@ abbrev pub NoLineLeft : Option (List (List ℕ)) → Type 0
 NoLineLeft None = ⊤
 NoLineLeft (Some ls) = ls ≡ []
 
--- it tells whether no line is left
+-- it says whether no line is left
 abbrev pub TellsLast : Option (List (List ℕ)) → Bool → Type 0
 TellsLast None last = ⊤
 TellsLast (Some ls) last = IsTrue last ↔ (ls ≡ [])
@@ -60,7 +60,7 @@ TakesLine (Some xs) None line = ⊥
 TakesLine (Some xs) (Some ys) line =
     HasNoNewline line × ((xs ≡ line ++ 10 ∷ ys) ⊎ ((xs ≡ line) × (ys ≡ []) × (0 < length line)))
 
--- where known bytes hold no newline, the end was seen
+-- where known bytes contain no newline, the end was seen
 abbrev pub SeesEnd : Option (List ℕ) → Bool → Type 0
 SeesEnd None ended = ⊤
 SeesEnd (Some xs) ended = HasNoNewline xs → ended ≡ true
@@ -82,10 +82,10 @@ abbrev pub FailsIfBroken : {T : Type 0} → Result T LineFault → ℕ → ℕ �
 FailsIfBroken (Err Broken) old new = Rises old new
 FailsIfBroken other old new = new ≡ old
 
--- it reads from the same source as before, told by what no read changes, looks as far ahead, and no further
+-- it reads from the same source as before, known by what no read changes, reads as far ahead, and no further
 abbrev pub ReadsOn : {R T : Type 0} → (R → T) → Stream R → Stream R → Type 0
 ReadsOn reference old new =
-    (length new.ahead ≤ new.look) × (new.look ≡ old.look) × (reference new.source ≡ reference old.source)
+    (length new.ahead ≤ new.read_ahead) × (new.read_ahead ≡ old.read_ahead) × (reference new.source ≡ reference old.source)
 
 -- a fault that it answers is kept; one that was kept is answered again, and nothing changes
 abbrev pub KeepsFault : {R T : Type 0} → Result T LineFault → Stream R → Stream R → Type 0

@@ -1,7 +1,7 @@
 //! The lines of a source, read ahead by a fixed number of bytes.
 //!
 //! XCU sed reads its input a line at a time, each without its newline; a last line without one is a line too. What is
-//! read ahead stands in a buffer and begins at a front that moves: no byte that is left is moved, and the source is read
+//! read ahead is in a buffer and begins at a front that moves: no byte that is left is moved, and the source is read
 //! only when the buffer is used up. The first read asks for few bytes, and after each read that gave all that it asked for
 //! the next asks for twice as many. So of an input of which little is wanted, little is read, and the rest of the buffer's
 //! memory stays untouched.
@@ -33,7 +33,7 @@ pub enum Got {
 pub struct Room {
     // As long as the next read may be; more is reserved.
     buffer: Vec<u8>,
-    look: usize,
+    read_ahead: usize,
 }
 
 impl Model for Room {
@@ -41,28 +41,28 @@ impl Model for Room {
 
     ghost Value = { ℕ };
 
-    ghost view = { λ r. r.look };
+    ghost view = { λ r. r.read_ahead };
 
-    ghost invariant = { λ r. (0 < vec_len r.buffer) × (vec_len r.buffer ≤ r.look) × (r.look ≤ vec_capacity r.buffer) };
+    ghost invariant = { λ r. (0 < vec_len r.buffer) × (vec_len r.buffer ≤ r.read_ahead) × (r.read_ahead ≤ vec_capacity r.buffer) };
 }
 
 impl Room {
-    /// Reserves memory for `look` bytes, from 1 to 2^30. Little of it is touched before the reads ask for more.
-    pub fn new(alloc: Global, look: usize) -> Result<Room, AllocError>
-        requires positive { 0 < look }
-        requires bound { look ≤ 2 ^ 30 }
-        ensures { IfOk result (λ room. room ≡ look) }
+    /// Reserves memory for `read_ahead` bytes, from 1 to 2^30. Little of it is touched before the reads ask for more.
+    pub fn new(alloc: Global, read_ahead: usize) -> Result<Room, AllocError>
+        requires positive { 0 < read_ahead }
+        requires bound { read_ahead ≤ 2 ^ 30 }
+        ensures { IfOk result (λ room. room ≡ read_ahead) }
     {
-        let mut buffer = Vec::with_capacity(alloc, look)?;
-        buffer.resize(look.min(FIRST), 0)?;
-        Ok(Room { buffer, look })
+        let mut buffer = Vec::with_capacity(alloc, read_ahead)?;
+        buffer.resize(read_ahead.min(FIRST), 0)?;
+        Ok(Room { buffer, read_ahead })
     }
 }
 
-/// The lines of a source, which is read ahead by at most `look` bytes. Once made, it asks for no memory.
+/// The lines of a source, which is read ahead by at most `read_ahead` bytes. Once made, it asks for no memory.
 ///
-/// The first read asks for 4096 bytes, or for `look` where that is less. Each read that gives all that it asked for makes
-/// the next one ask for twice as many, up to `look`.
+/// The first read asks for 4096 bytes, or for `read_ahead` where that is less. Each read that gives all that it asked for makes
+/// the next one ask for twice as many, up to `read_ahead`.
 ///
 /// A fault is kept: each later call answers it again, without reading.
 #[derive(Drop)]
@@ -70,7 +70,7 @@ pub struct Lines<R: ByteSource> {
     from: R,
     // As long as the next read may be; more is reserved.
     buffer: Vec<u8>,
-    look: usize,
+    read_ahead: usize,
     front: usize,
     filled: usize,
     is_ended: bool,
@@ -87,45 +87,45 @@ impl<R: ByteSource> Model for Lines<R> {
     ghost view = { λ s. record {
       source = s.from;
       ahead = drop s.front (take s.filled s.buffer.items);
-      look = s.look;
+      read_ahead = s.read_ahead;
       ended = s.is_ended;
       fault = s.answered;
     } };
 
     ghost invariant = { λ s. (s.front ≤ s.filled) × (s.filled ≤ vec_len s.buffer) × (0 < vec_len s.buffer)
-        × (vec_len s.buffer ≤ s.look) × (s.look ≤ vec_capacity s.buffer)
+        × (vec_len s.buffer ≤ s.read_ahead) × (s.read_ahead ≤ vec_capacity s.buffer)
         × (IsTrue s.is_ended → IsAtEnd (R.remaining s.from)) };
 }
 
 impl<R: ByteSource> Lines<R> {
     ghost use Rattle.sedspace.specs.Stream.{Stream, left, lines_left, GivesLine, GivesLines, TakesLine, FirstIsLonger, NoLineLeft, SeesEnd, LosesPart, FailsIfBroken, TellsLast, KeepsLines, KeepsFault, ReadsForBytes, ReadsOn, RisesAtMost};
-    ghost use Rattle.sedspace.specs.Lines.{TakesAtMost};
+    ghost use Rattle.sedspace.specs.Reading.{TakesAtMost};
     ghost use Rattle.sedspace.specs.Gathering.{Gathers};
 
-    /// Makes the lines of the source, and reserves memory to read ahead by at most `look` bytes, from 1 to 2^30. Nothing
+    /// Makes the lines of the source, and reserves memory to read ahead by at most `read_ahead` bytes, from 1 to 2^30. Nothing
     /// is read yet. Where the memory is refused, the source is dropped: to keep it, make the `Room` first and call
     /// `over`.
-    pub fn new(alloc: Global, source: R, look: usize) -> Result<Lines<R>, AllocError>
+    pub fn new(alloc: Global, source: R, read_ahead: usize) -> Result<Lines<R>, AllocError>
     where
         R: Drop,
-        requires positive { 0 < look }
-        requires bound { look ≤ 2 ^ 30 }
+        requires positive { 0 < read_ahead }
+        requires bound { read_ahead ≤ 2 ^ 30 }
         ensures { IfOk result (λ s. s
-            ≡ record { source = source; ahead = []; look = look; ended = false; fault = None }) }
+            ≡ record { source = source; ahead = []; read_ahead = read_ahead; ended = false; fault = None }) }
     {
-        let room = Room::new(alloc, look)?;
+        let room = Room::new(alloc, read_ahead)?;
         Ok(Lines::over(source, room))
     }
 
     /// Makes the lines of the source, read ahead into this room. Nothing is read yet.
     pub fn over(source: R, room: Room) -> Lines<R>
-        ensures { result ≡ record { source = source; ahead = []; look = room; ended = false; fault = None } }
+        ensures { result ≡ record { source = source; ahead = []; read_ahead = room; ended = false; fault = None } }
     {
-        let Room { buffer, look } = room;
+        let Room { buffer, read_ahead } = room;
         Lines {
             from: source,
             buffer,
-            look,
+            read_ahead,
             front: 0,
             filled: 0,
             is_ended: false,
@@ -140,7 +140,7 @@ impl<R: ByteSource> Lines<R> {
         let Lines {
             from,
             buffer: _,
-            look: _,
+            read_ahead: _,
             front: _,
             filled: _,
             is_ended: _,
@@ -156,10 +156,10 @@ impl<R: ByteSource> Lines<R> {
         &self.from
     }
 
-    /// How many bytes have been read ahead and not given yet: never more than `look`.
+    /// How many bytes have been read ahead and not given yet: never more than `read_ahead`.
     pub fn ahead_len(&self) -> usize
         ensures value { result ≡ length self.now.ahead }
-        ensures bound { length self.now.ahead ≤ self.now.look }
+        ensures bound { length self.now.ahead ≤ self.now.read_ahead }
     {
         self.ahead().len()
     }
@@ -167,7 +167,7 @@ impl<R: ByteSource> Lines<R> {
     /// The bytes that have been read ahead and not given yet.
     pub fn ahead(&self) -> &[u8]
         ensures value { result.now ≡ self.now.ahead }
-        ensures bound { length self.now.ahead ≤ self.now.look }
+        ensures bound { length self.now.ahead ≤ self.now.read_ahead }
     {
         &self.buffer[self.front..self.filled]
     }
@@ -179,7 +179,7 @@ impl<R: ByteSource> Lines<R> {
         ensures taken { self.new ≡ record self.old { ahead = drop count self.old.ahead } }
         ensures lines { GivesLines (lines_left R.remaining self.old) (lines_left R.remaining self.new)
             (take count self.old.ahead) }
-        ensures bound { length self.new.ahead ≤ self.new.look }
+        ensures bound { length self.new.ahead ≤ self.new.read_ahead }
     {
         self.front += count;
     }
@@ -188,7 +188,7 @@ impl<R: ByteSource> Lines<R> {
     /// where a whole line has been read ahead, or its end was seen in an earlier call.
     ///
     /// Answers `TooLong` where the line doesn't fit into the space, and `Broken` where the source failed before the line's
-    /// end came. The space then holds what it held before, and each later call answers the same fault.
+    /// end came. The space then has what it had before, and each later call answers the same fault.
     pub fn next_into(&mut self, space: &mut Space) -> Result<Got, LineFault>
         ensures line { result ≡ Ok Got.Line → (line : List ℕ)
             × (space.new ≡ record space.old { bytes = space.old.bytes ++ line })
@@ -217,7 +217,7 @@ impl<R: ByteSource> Lines<R> {
         // How much is read, and when. A read that gives no byte is the last of the call.
         ensures reads { ReadsOn R.reference self.old self.new }
         ensures taken { TakesAtMost (R.remaining self.old.source) (R.remaining self.new.source)
-            (self.old.look
+            (self.old.read_ahead
             + (if is_ok result then length space.new.bytes - length space.old.bytes + 1 else space.old.limit)) }
         ensures once { ReadsForBytes R.remaining R.reads self.old.source self.new.source 1 }
         ensures whole_ahead { Contains self.old.ahead 10 → self.new.source ≡ self.old.source }
@@ -254,7 +254,7 @@ impl<R: ByteSource> Lines<R> {
 
         // How much is read, and when: once at most.
         ensures reads { ReadsOn R.reference self.old self.new }
-        ensures taken { TakesAtMost (R.remaining self.old.source) (R.remaining self.new.source) self.old.look }
+        ensures taken { TakesAtMost (R.remaining self.old.source) (R.remaining self.new.source) self.old.read_ahead }
         ensures once { RisesAtMost (R.reads self.old.source) (R.reads self.new.source) 1 }
         ensures bytes_ahead { 0 < length self.old.ahead → self.new ≡ self.old }
         ensures ended { self.old.ended ≡ true → self.new ≡ self.old }
@@ -291,7 +291,7 @@ impl<R: ByteSource> Lines<R> {
         if self.is_ended {
             return Ok(false);
         }
-        widen(&mut self.buffer, self.filled, self.look);
+        widen(&mut self.buffer, self.filled, self.read_ahead);
         self.front = 0;
         self.filled = 0;
         let count = self.from.read(self.buffer.as_mut_slice())?;
@@ -313,7 +313,7 @@ impl<R: ByteSource> Lines<R> {
             < length space.old.bytes + length (before_first is_newline self.old.ahead)) }
         ensures err { OnErr result ((space.new ≡ space.old) × (self.new ≡ self.old)) }
         ensures rest { self.new ≡ record self.old { ahead = self.new.ahead } }
-        ensures bound { length self.new.ahead ≤ self.new.look }
+        ensures bound { length self.new.ahead ≤ self.new.read_ahead }
     {
         let ahead = self.ahead();
         match newline_in(ahead) {
@@ -330,11 +330,11 @@ impl<R: ByteSource> Lines<R> {
         }
     }
 
-    // Gathers the next line in the space. After an error the space may hold a part of it.
+    // Gathers the next line in the space. After an error the space may contain a part of it.
     fn gather(&mut self, space: &mut Space) -> Result<Got, LineFault>
         ensures gathers { Gathers R.remaining R.failures self.old self.new space.old space.new result }
         ensures fits { OnOk result (length space.new.bytes ≤ space.new.limit) }
-        ensures bound { length self.new.ahead ≤ self.new.look }
+        ensures bound { length self.new.ahead ≤ self.new.read_ahead }
         ensures once { ReadsForBytes R.remaining R.reads self.old.source self.new.source 1 }
         ensures same_reference { R.reference self.new.source ≡ R.reference self.old.source }
     {
@@ -355,17 +355,17 @@ impl<R: ByteSource> Lines<R> {
     }
 }
 
-// Doubles the buffer's length, up to `look`, where the last read filled it. All of it is reserved.
-fn widen(buffer: &mut Vec<u8>, filled: usize, look: usize)
-    requires within { vec_len buffer.old ≤ look }
-    requires reserved { look ≤ vec_capacity buffer.old }
+// Doubles the buffer's length, up to `read_ahead`, where the last read filled it. All of it is reserved.
+fn widen(buffer: &mut Vec<u8>, filled: usize, read_ahead: usize)
+    requires within { vec_len buffer.old ≤ read_ahead }
+    requires reserved { read_ahead ≤ vec_capacity buffer.old }
     ensures longer { vec_len buffer.old ≤ vec_len buffer.new }
-    ensures bound { vec_len buffer.new ≤ look }
-    ensures capacity { look ≤ vec_capacity buffer.new }
+    ensures bound { vec_len buffer.new ≤ read_ahead }
+    ensures capacity { read_ahead ≤ vec_capacity buffer.new }
 {
     let len = buffer.len();
-    if filled == len && len < look {
-        match buffer.resize(len + len.min(look - len), 0) {
+    if filled == len && len < read_ahead {
+        match buffer.resize(len + len.min(read_ahead - len), 0) {
             Ok(()) => {}
             Err(_) => unreachable!(),
         }

@@ -6,13 +6,13 @@ ghost use Rattle.sedspace.specs.FailureCounts.{FailsAtErr};
 
 use super::Broken;
 
-/// Sinks that bytes are written to, numbered from 0. They may let contracts see what they hold; of sinks that don't,
+/// Sinks that bytes are written to, numbered from 0. They may let contracts see what they contain; of sinks that don't,
 /// clauses on it claim nothing.
 pub trait Outputs {
     /// How many sinks there are.
     ghost count: { Self → ℕ };
 
-    /// What a sink holds, where contracts may see it.
+    /// What a sink contains, where contracts may see it.
     ghost contents: { Self → ℕ → Option (List ℕ) };
 
     /// How often a sink failed. The count stops at 2^64 - 1.

@@ -34,7 +34,7 @@ impl Queue {
         Ok(Queue { held, most: limit })
     }
 
-    /// How many numbers it holds.
+    /// How many numbers it contains.
     pub fn len(&self) -> usize
         ensures value { result ≡ length self.now.items }
         ensures bound { result ≤ self.now.limit }
@@ -57,7 +57,7 @@ impl Queue {
         self.held.clear();
     }
 
-    /// Appends a number. Answers `Full`, and changes nothing, exactly where the queue holds as many as its limit.
+    /// Appends a number. Answers `Full`, and changes nothing, exactly where the queue contains as many as its limit.
     pub fn push(&mut self, entry: u64) -> Result<(), Full>
         ensures ok { OnOk result (self.new ≡ record self.old { items = self.old.items ++ entry ∷ [] }) }
         ensures fits { OnOk result (length self.old.items < self.old.limit) }

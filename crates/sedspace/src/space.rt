@@ -3,7 +3,7 @@
 //! The pattern space and the hold space of XCU sed are spaces. The contents begin at a front that moves, so that a line
 //! is cut off without moving what follows it, and a newline is kept after them, so that they can be written with their
 //! newline at once. What follows that newline is left over from longer contents, and is overwritten. A space remembers
-//! how many bytes at its beginning and at its end hold no newline, so that `N`, `P` and `D` don't search a line twice.
+//! how many bytes at its beginning and at its end contain no newline, so that `N`, `P` and `D` don't search a line twice.
 ghost use Rattle.std.specs.Prelude.{◌≡◌, ◌==◌, ◌+◌, ◌-◌, ◌<◌, ◌≤◌, [], ◌∷◌, ◌++◌, if◌then◌else◌, length, IfOk, OnOk, OnErr, IfSome, IsTrue, Contains, ℕ, false, map, nat_lt, position, take, slice_get, slice_index_or, vec_len, vec_capacity};
 ghost use Rattle.std.specs.List.{after_first, before_first};
 ghost use Rattle.std.specs.Io.KnownBytes.{Keeps};
@@ -25,10 +25,10 @@ const SHORT: usize = 128;
 pub struct Space {
     held: Vec<u8>,
     front: usize,
-    // Where the newline stands that follows the contents.
+    // Where the newline is that follows the contents.
     end: usize,
     most: usize,
-    // How many of the first bytes are known to hold no newline,
+    // How many of the first bytes are known to contain no newline,
     clear_first: usize,
     // and how many of the last.
     clear_last: usize,
@@ -75,7 +75,7 @@ impl Space {
         self.most
     }
 
-    /// How many bytes it holds.
+    /// How many bytes it contains.
     pub fn len(&self) -> usize
         ensures value { result ≡ length self.now.bytes }
         ensures bound { result ≤ self.now.limit }
@@ -83,14 +83,14 @@ impl Space {
         self.end - self.front
     }
 
-    /// Whether it holds no byte.
+    /// Whether it contains no byte.
     pub fn is_empty(&self) -> bool
         ensures { result ≡ (length self.now.bytes == 0) }
     {
         self.len() == 0
     }
 
-    /// The bytes that it holds.
+    /// The bytes that it contains.
     pub fn bytes(&self) -> &[u8]
         ensures value { result.now ≡ self.now.bytes }
         ensures bound { length self.now.bytes ≤ self.now.limit }
@@ -98,7 +98,7 @@ impl Space {
         &self.held[self.front..self.end]
     }
 
-    /// The bytes that it holds, followed by a newline, as a line is written.
+    /// The bytes that it contains, followed by a newline, as a line is written.
     pub fn line(&self) -> &[u8]
         ensures value { result.now ≡ self.now.bytes ++ 10 ∷ [] }
         ensures bound { length self.now.bytes ≤ self.now.limit }
@@ -124,7 +124,7 @@ impl Space {
     {
         let bytes = self.bytes();
         let first = self.clear_first;
-        // After `N` it stands there, and no search is needed.
+        // After `N` it is there, and no search is needed.
         if first < bytes.len() && bytes[first] == b'\n' {
             return Some(first);
         }
@@ -165,7 +165,7 @@ impl Space {
         self.append_first(bytes, bytes.len())
     }
 
-    /// Appends the first `count` bytes of the text. Where the text holds more than these, a short copy is faster.
+    /// Appends the first `count` bytes of the text. Where the text contains more than these, a short copy is faster.
     fn append_first(&mut self, text: &[u8], count: usize) -> Result<(), Full>
         requires { count ≤ length text.now }
         ensures ok { OnOk result (self.new ≡ record self.old { bytes = self.old.bytes ++ take count text.now }) }
@@ -176,7 +176,7 @@ impl Space {
         if self.most - self.len() < count {
             return Err(Full);
         }
-        // Before a match at a line's beginning, as after one at its end, stands nothing.
+        // Before a match at a line's beginning, as after one at its end, comes nothing.
         if count == 0 {
             return Ok(());
         }
@@ -187,7 +187,7 @@ impl Space {
         Ok(())
     }
 
-    /// Appends the first `count` bytes of a text, which hold no newline.
+    /// Appends the first `count` bytes of a text, which contain no newline.
     pub(crate) fn append_clear(&mut self, text: &[u8], count: usize) -> Result<(), Full>
         requires inside { count ≤ length text.now }
         requires clear { HasNoNewline (take count text.now) }
@@ -322,7 +322,7 @@ fn end_line(held: &mut Vec<u8>, end: usize)
     held[end] = b'\n';
 }
 
-// How many of the first bytes hold no newline, once `count` more without one are appended to `len` of them.
+// How many of the first bytes contain no newline, once `count` more without one are appended to `len` of them.
 fn clear_with(first: usize, len: usize, count: usize) -> usize
     requires { len + count ≤ usize.MAX }
     ensures { result ≡ if first == len then len + count else first }
@@ -330,7 +330,7 @@ fn clear_with(first: usize, len: usize, count: usize) -> usize
     if first == len { len + count } else { first }
 }
 
-// How many of the first bytes hold no newline, once only the last `rest` bytes are left; the last `last` hold none.
+// How many of the first bytes contain no newline, once only the last `rest` bytes are left; the last `last` contain none.
 fn clear_of_rest(last: usize, rest: usize) -> usize
     ensures { result ≡ if nat_lt last rest then 0 else rest }
 {
@@ -366,7 +366,7 @@ fn append_to(
     (front, put(held, end, text, count))
 }
 
-// Puts the first `count` bytes of the text after the first `end`, and the newline after them. Says where that stands.
+// Puts the first `count` bytes of the text after the first `end`, and the newline after them. Says where that is.
 fn put(held: &mut Vec<u8>, end: usize, text: &[u8], count: usize) -> usize
     requires inside { count ≤ length text.now }
     requires room { end + count < vec_len held.old }

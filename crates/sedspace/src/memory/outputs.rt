@@ -85,7 +85,7 @@ impl MemorySink {
     }
 }
 
-/// Sinks in memory, which keep what is written to them. They can be told to take only part of each write, and to fail
+/// Sinks in memory, which keep what is written to them. They can be set to take only part of each write, and to fail
 /// one write.
 #[derive(Drop)]
 pub struct MemoryOutputs {
@@ -95,9 +95,9 @@ pub struct MemoryOutputs {
 
 impl Model for MemoryOutputs {
     ghost use Rattle.std.specs.Prelude.{◌<◌};
-    ghost use Rattle.sedspace.specs.Memory.{Sinks};
+    ghost use Rattle.sedspace.specs.Memory.{HeldSinks};
 
-    ghost Value = { Sinks };
+    ghost Value = { HeldSinks };
 
     ghost view = { λ o. record { held = o.held.items; most = o.most } };
 
@@ -155,7 +155,7 @@ impl MemoryOutputs {
         target.fails_at = Some(write);
     }
 
-    /// What the sink holds.
+    /// What the sink contains.
     pub fn bytes(&self, sink: usize) -> &[u8]
         requires { sink < length self.now.held }
         ensures { Some result.now ≡ sink_bytes self.now sink }

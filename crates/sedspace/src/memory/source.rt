@@ -8,7 +8,7 @@ ghost use Rattle.sedspace.specs.Memory.{piece_end};
 use crate::{Broken, ByteSource};
 use std::marker::Model;
 
-/// Bytes in memory, read in pieces. One read can be told to fail.
+/// Bytes in memory, read in pieces. One read can be set to fail.
 #[derive(Drop)]
 pub struct MemorySource {
     bytes: Vec<u8>,

@@ -17,7 +17,7 @@ returns-in-Ok-clause-last g c =
 pub returns-in-Some-clause-reads : goal.returns-in-Some-clause-reads
 returns-in-Some-clause-reads g c =
     let s = c.self.inside in (
-      subst (λ z. length z.ahead ≤ z.look) c.self.view_is (ahead_within s.front s.filled _ s.buffer.items (omega arith)),
+      subst (λ z. length z.ahead ≤ z.read_ahead) c.self.view_is (ahead_within s.front s.filled _ s.buffer.items (omega arith)),
       search rules,
       search rules,
     )
