@@ -2,12 +2,13 @@
 use Rattle.std.proofs.Common.{◌≡◌, ℕ, ◌+◌, ◌<◌, Bool, true, false, cond, List, [], ◌∷◌, length, Option, Some, None, Result, Ok, Err, refl, subst, ap, ◌∙◌, arith}
 use Rattle.std.specs.Borrow.{GName}
 use Rattle.std.specs.Prelude.{slice_get, slice_set, option_and_then}
+use Rattle.std.proofs.lemmas.Option.{slice_get_within}
 use Rattle.sedscript.specs.Program.{Program}
 use Rattle.sedscript.specs.declared.types.Command.{Command}
 use Rattle.sedscript.specs.declared.types.Action.{Action}
 use Rattle.sedscript.specs.declared.types.Action.TheVariants.{Block}
 use Rattle.sedspace.specs.Stream.{Stream, left, lines_left}
-use Rattle.sedspace.specs.Lines.{TakesAtMost}
+use Rattle.sedspace.specs.Reading.{TakesAtMost}
 use Rattle.sedengine.specs.State.{Limits, do_at, State, Move, Setting}
 use Rattle.sedengine.specs.Select.{Selection, selects}
 use Rattle.sedengine.specs.Move.{next_move, reach, acts, passes, none_left, writes_text_at}
@@ -67,6 +68,12 @@ reached_number a e e1 k ranges used seen i came =
 -- the command of the script as it is seen
 pub command_seen : (a : Inside) (e : RunState) (k : ℕ) (c : Command) → run_of a ≡ e → slice_get a.script.commands k ≡ Some c → slice_get e.script.commands k ≡ Some c
 command_seen a e k c seen is = rw (← seen) is
+
+pub command_there : (a : Inside) (e : RunState) (k : ℕ) (c : Command) → run_of a ≡ e → slice_get a.script.commands k ≡ Some c → k < length e.script.commands
+command_there a e k c seen is = slice_get_within e.script.commands k c (command_seen a e k c seen is)
+
+pub action_there : (a : Inside) (e : RunState) (k : ℕ) (c : Command) → run_of a ≡ e → slice_get a.script.commands k ≡ Some c → HasAction (slice_get e.script.commands k) c.action
+action_there a e k c seen is = rw (command_seen a e k c seen is) refl
 
 -- no turn is left
 pub steps_spent : {R : Type 0} (remaining : R → Option (List ℕ)) (old : Stream R) (a : Inside) (e : RunState) (seen : run_of a ≡ e) (i : IsConsistent a) (files : ℕ → List ℕ) (ls : List (List ℕ)) → lines_left remaining old ≡ Some ls → (sinks : SinkView) (k : ℕ) →

@@ -11,7 +11,7 @@ use Rattle.std.proofs.Math.Seq.{take-append-add, take-length}
 use Rattle.std.proofs.lemmas.List.{drop-take}
 use Rattle.sedre.specs.Tree.{WrittenExpression, expression_tree}
 use Rattle.sedmatch.specs.Candidates.{IsBefore, NoMatchBefore}
-use Rattle.sedmatch.specs.Matching.{found}
+use Rattle.sedmatch.specs.Matching.{leftmost_longest}
 use Rattle.sedmatch.proofs.MatchingLemmas.{some_found-iff}
 use Rattle.sedspace.specs.Lines.{lines, is_newline}
 use Rattle.sedspace.specs.Stream.{AreWholeLines}
@@ -138,7 +138,7 @@ clear_more ms xs i d text end r inside within before one e (k, less, is) =
 -- what a matcher tells of lines
 pub none_found : (ms : List WrittenExpression) (e : ℕ) (m : WrittenExpression) (text : List ℕ) (r : Option ℕ) (end : ℕ) → slice_get ms e ≡ Some m → NoMatchBefore (expression_tree m) text r → ((k : ℕ) → k < end → IsBefore k r) → ClearTo ms e text end
 none_found ms e m text r end is none low = λ before line behind parts less.
-    ap (λ o. option_map_or (λ e. is_some (found (expression_tree e) line 0)) o false) is ∙ not_found (is_some (found (expression_tree m) line 0)) (λ yes. none before line (10 ∷ behind) parts (low (length before + length line) less) ((some_found-iff (expression_tree m) line 0 (omega arith)).0 yes))
+    ap (λ o. option_map_or (λ e. is_some (leftmost_longest (expression_tree e) line 0)) o false) is ∙ not_found (is_some (leftmost_longest (expression_tree m) line 0)) (λ yes. none before line (10 ∷ behind) parts (low (length before + length line) less) ((some_found-iff (expression_tree m) line 0 (omega arith)).0 yes))
   where
     not_found : (b : Bool) → (IsTrue b → ⊥) → b ≡ false
     not_found true h = absurd (h (search rules))

@@ -11,12 +11,12 @@ use Rattle.sedscript.specs.declared.types.TextUse.TheVariants.{Change}
 use Rattle.sedscript.specs.declared.types.BranchUse.TheVariants.{IfReplaced}
 use Rattle.sedscript.specs.declared.types.FileUse.TheVariants.{Read}
 use Rattle.sedscript.specs.declared.types.Simple.TheVariants as simple
-use Rattle.sedengine.specs.State.{Limits, Entry, text, file, Task, begin, do_at, flush, copy, fetch, join, State, Move, Setting}
+use Rattle.sedengine.specs.State.{Limits, Entry, text_entry, file_entry, Task, begin, do_at, flush, copy, fetch, join, State, Move, Setting}
 use Rattle.sedengine.specs.Select.{selects, stands_for}
 use Rattle.sedengine.specs.Substitute.{Occurrence, occurrences, to_replace}
 use Rattle.sedengine.specs.Move.{acts, begins, copies, current_of, first_task, flushes, next_move, none_left, passes, quietly, reach, reached, replaces, substitutes, takes_line, writes_text_at}
 use Rattle.sedengine.specs.Choose.{performs}
-use Rattle.sedengine.specs.Ends.{WithinLimits, IsCause}
+use Rattle.sedengine.specs.Ends.{WithinLimits, StopsAt}
 use Rattle.sedengine.specs.Steps.{StopsTask, line_at, reaches, takes_turn}
 
 -- a move, where there is one, to a state with this line number and so many turns
@@ -88,8 +88,8 @@ reach_goes g s k (Some c) = has_goes s (reach g s k (Some c)) (reach_has g s k c
 
 flushes_goes : (s : State) (rest : List Task) (queue : List Entry) → Goes false s.number s (flushes s rest queue)
 flushes_goes s rest [] = (refl, inl refl, inl refl)
-flushes_goes s rest (text bytes ∷ queue) = (refl, inl refl, inl refl)
-flushes_goes s rest (file k ∷ queue) = (refl, inl refl, inl refl)
+flushes_goes s rest (text_entry bytes ∷ queue) = (refl, inl refl, inl refl)
+flushes_goes s rest (file_entry k ∷ queue) = (refl, inl refl, inl refl)
 
 copies_goes : (s : State) (rest : List Task) (k o : ℕ) (b : Option ℕ) → Goes (is_some b) s.number s (copies s rest k o b)
 copies_goes s rest k o None = (refl, inl refl, inl refl)
@@ -151,7 +151,7 @@ other_same : {A B C : Type 0} → A ⊎ (B × C) → A ⊎ C
 other_same (inl x) = inl x
 other_same (inr x) = inr x.1
 
-pub cause_is : (l : Limits) (g : Setting) (s : State) (end : Ended) → WithinLimits l s → StopsTask l g s end → IsCause l g s end
+pub cause_is : (l : Limits) (g : Setting) (s : State) (end : Ended) → WithinLimits l s → StopsTask l g s end → StopsAt l g s end
 cause_is l g s Done f h = h
 cause_is l g s (PatternFull n) f (at, turn, (m, is, more)) =
     let h = move_goes g s m is in

@@ -4,7 +4,7 @@ use Rattle.std.specs.Prelude.{is_some, option_and_then, nat_le, nat_lt, nat_eq, 
 use Rattle.std.proofs.lemmas.Bool.Decides.{nat_tests}
 use Rattle.std.proofs.lemmas.Option.{same_Some, slice_get_read}
 use Rattle.sedre.specs.Tree.{WrittenExpression, expression_tree}
-use Rattle.sedmatch.specs.Matching.{found}
+use Rattle.sedmatch.specs.Matching.{leftmost_longest}
 use Rattle.sedscript.specs.declared.types.Address.{Address}
 use Rattle.sedscript.specs.declared.types.Address.TheVariants.{Line, Last, Match}
 use Rattle.sedscript.specs.declared.types.Command.{Command}
@@ -18,9 +18,9 @@ use Rattle.sedengine.specs.declared.select.Chosen.{Chosen}
 use Rattle.std.specs.Option.{option_map_or}
 
 -- whether there is a match, as the matcher's call answers it
-pub finds_as : (expressions : List WrittenExpression) (k : ℕ) (e : WrittenExpression) (v w : List ℕ) (b : Bool) → k < length expressions → e ≡ get_or expressions k e → v ≡ w → b ≡ is_some (found (expression_tree e) v 0) → b ≡ finds_in expressions k w
+pub finds_as : (expressions : List WrittenExpression) (k : ℕ) (e : WrittenExpression) (v w : List ℕ) (b : Bool) → k < length expressions → e ≡ get_or expressions k e → v ≡ w → b ≡ is_some (leftmost_longest (expression_tree e) v 0) → b ≡ finds_in expressions k w
 finds_as expressions k e v w b inside is same found_as =
-    found_as ∙ ap (λ (x : List ℕ). is_some (found (expression_tree e) x 0)) same ∙ ap (λ (o : Option WrittenExpression). option_map_or (λ e. is_some (found (expression_tree e) w 0)) o false) (sym (slice_get_read expressions (length expressions) k e refl inside is))
+    found_as ∙ ap (λ (x : List ℕ). is_some (leftmost_longest (expression_tree e) x 0)) same ∙ ap (λ (o : Option WrittenExpression). option_map_or (λ e. is_some (leftmost_longest (expression_tree e) w 0)) o false) (sym (slice_get_read expressions (length expressions) k e refl inside is))
 
 -- `!` turns the yes alone
 abbrev negated : Bool → Selection → Selection
@@ -127,3 +127,7 @@ pub selects_by_number : (c : Current) (a active : Bool) (command : Command) (app
 unfolding selects
 selects_by_number c a active command applies number used same_active same_number same_used h =
     rw (same_used, ← same_active) (straight c a command.first command.second command.negate applies (sym (rw same_number at h)))
+
+-- where no address decides the answer is yes
+pub none_decides : (c : Current) (o : Option Address) → None ≡ o → decides c o ≡ Some (record { yes = true; used = c.used })
+none_decides c o none = rw (← none) refl

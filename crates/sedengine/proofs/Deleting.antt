@@ -1,5 +1,5 @@
 -- The pattern space is deleted, or its first line, and a cycle starts.
-use Rattle.std.proofs.Common.{◌≡◌, ℕ, zero, suc, Bool, true, false, cond, List, [], ◌∷◌, ◌+◌, ◌≤◌, length, Option, Some, Result, Ok, Err, refl, subst, ap, ◌∙◌, arith}
+use Rattle.std.proofs.Common.{◌≡◌, ℕ, zero, suc, Bool, true, false, cond, List, [], ◌∷◌, ◌+◌, ◌≤◌, length, length-drop, drop, Option, Some, Result, Ok, Err, refl, subst, ap, ◌∙◌, arith}
 use Rattle.std.specs.Prelude.{slice_get, ◌||◌}
 use Rattle.std.specs.Option.{unwrap_or}
 use Rattle.std.specs.List.{Contains, after_first, list_any}
@@ -15,13 +15,14 @@ use Rattle.sedengine.specs.Meters.{Sent, SinkView}
 use Rattle.sedengine.specs.Calls.{Delivers, Puts}
 use Rattle.sedengine.specs.Run.{RunState, at_lines, run_setting}
 use Rattle.sedengine.specs.Steps.{ActsHere, LeavesGiven, Moves, MakesMove, weight}
-use Rattle.sedengine.specs.Inside.{run_of, tasks_of, IsConsistent}
+use Rattle.sedengine.specs.Inside.{run_of, tasks_of, IsConsistent, IsEmptied}
 use Rattle.sedengine.specs.declared.machine.Machine.TheInside.{Inside}
 use Rattle.sedengine.specs.declared.next_step.NextStep.{NextStep}
+use Rattle.sedengine.specs.declared.next_step.NextStep.TheVariants as p
 use Rattle.sedengine.specs.declared.ends.Ended.{Ended}
 use Rattle.sedengine.proofs.Leaving.{falls_seen, leaves_after, leaves_seen}
 use Rattle.sedengine.proofs.Moves.{moves_fits}
-use Rattle.sedengine.proofs.Tasks.{fits_of}
+use Rattle.sedengine.proofs.Tasks.{fits_of, placed}
 use Rattle.sedengine.proofs.Ending.{acts_then, acts_stopping}
 use Rattle.sedengine.proofs.NextLines.{with_pattern}
 
@@ -95,6 +96,21 @@ pub cut_seen : (a : Inside) (e : RunState) (files : ℕ → List ℕ) (ls : List
 cut_seen a e files ls c1 seen there is =
     let same : a.pattern.bytes ≡ e.state.pattern = ap (λ (e : RunState). e.state.pattern) seen in
     cut_is e files ls c1 (rw (← same) (newline_there a.pattern.bytes there)) (ap (λ (c : Contents). c.bytes) is ∙ ap (λ bytes. after_first is_newline bytes) same)
+
+drop_short : (k : ℕ) (bytes : List ℕ) → length (drop k bytes) ≤ length bytes
+drop_short k bytes = omega (arith, length-drop k bytes)
+
+cut_empties : (p : NextStep) (xs ys : List ℕ) → Contains xs 10 → IsEmptied p xs → IsEmptied p ys
+cut_empties p.Begin xs ys (k, lt, is) none = absurd (omega (arith, lt, ap length none))
+cut_empties other xs ys there h = tt
+
+-- the fields after the first line was cut off
+pub cut_is_run : (a : Inside) (pattern : Contents) → IsConsistent a → Contains a.pattern.bytes 10 → pattern ≡ record a.pattern { bytes = after_first is_newline a.pattern.bytes } → IsConsistent (record a { pattern = pattern })
+cut_is_run a pattern i there is =
+    let w : List ℕ = after_first is_newline a.pattern.bytes in
+    let short : length w ≤ length a.pattern.bytes = drop_short _ a.pattern.bytes in
+    let most = i.pattern in
+    rw is (placed a (record a.pattern { bytes = w }) a.next_step i refl (omega (arith, short, most)) (cut_empties a.next_step a.pattern.bytes w there i.empty))
 
 -- without a newline the space stays, and `D` is `d`
 pub uncut_performs : (a : Inside) (e e' : RunState) (files : ℕ → List ℕ) (ls : List (List ℕ)) (c1 : Contents) (sinks sinks' : SinkView) (r : Result Unit Ended) → run_of a ≡ e → HasNoNewline a.pattern.bytes → c1 ≡ a.pattern →

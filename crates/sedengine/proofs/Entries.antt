@@ -1,7 +1,7 @@
 -- Entries of the queue, written one after another.
 use Rattle.std.proofs.Common.{◌≡◌, ℕ, ◌+◌, ◌≤◌, false, List, [], ◌∷◌, length, Option, Some, None, Result, Ok, Err, refl, ap, ◌∙◌, arith}
 use Rattle.std.specs.Io.KnownBytes.{Keeps}
-use Rattle.sedengine.specs.State.{Limits, Entry, text, file, Task, flush, copy, State, Setting, TellsFiles}
+use Rattle.sedengine.specs.State.{Limits, Entry, text_entry, file_entry, Task, flush, copy, State, Setting, TellsFiles}
 use Rattle.sedengine.specs.Move.{next_move, after, written, flushes, line_to}
 use Rattle.sedengine.specs.Meters.{Sent, SinkView}
 use Rattle.sedengine.specs.Calls.{Puts}
@@ -45,7 +45,7 @@ module _ (l : Limits) (g : Setting) (s : State) (rest : List Task) (entry : Entr
   shorter = omega (arith, ap length queue)
 
   -- a text is written
-  pub text_written : (bytes : List ℕ) (now : State) (old new : SinkView) (turns : ℕ) (r : Result Unit Ended) → entry ≡ text bytes → turns ≡ s.turns → SameLengths s now → s.lines ≡ now.lines →
+  pub text_written : (bytes : List ℕ) (now : State) (old new : SinkView) (turns : ℕ) (r : Result Unit Ended) → entry ≡ text_entry bytes → turns ≡ s.turns → SameLengths s now → s.lines ≡ now.lines →
       Puts old new (line_to 0 bytes) r → MovesTo l g s (at_entries s later (flush ∷ rest) turns) now old new r
   text_written bytes now old new turns (Ok u) is same_turns same lines put =
       let next = at_entries s later (flush ∷ rest) s.turns in
@@ -56,7 +56,7 @@ module _ (l : Limits) (g : Setting) (s : State) (rest : List Task) (entry : Entr
       (same_later s now later rest s.turns same shorter) lines put
 
   -- a file is written, by a call from the state in which it stands first
-  pub file_written : (k : ℕ) (now : State) (old new : SinkView) (turns : ℕ) (r : Result Unit Ended) → entry ≡ file k → SameLengths s now →
+  pub file_written : (k : ℕ) (now : State) (old new : SinkView) (turns : ℕ) (r : Result Unit Ended) → entry ≡ file_entry k → SameLengths s now →
       (WithinLimits l (at_entries s later (copy k 0 ∷ flush ∷ rest) s.turns) → SameLengths (at_entries s later (copy k 0 ∷ flush ∷ rest) s.turns) now →
       MovesTo l g (at_entries s later (copy k 0 ∷ flush ∷ rest) s.turns) (at_entries s later (flush ∷ rest) turns) now old new r) →
       MovesTo l g s (at_entries s later (flush ∷ rest) turns) now old new r

@@ -1,5 +1,5 @@
 -- The expressions of a script, and their sizes.
-use Rattle.std.proofs.Common.{Result, Ok, Err, ⊎_elim, ◌≡◌, ℕ, ◌+◌, ◌<◌, ◌≤◌, List, [], ◌∷◌, ◌++◌, Some, length, take, get_or, sym, ap, subst, refl, ◌∙◌, arith}
+use Rattle.std.proofs.Common.{Result, Ok, Err, ⊎_elim, ◌≡◌, ℕ, ◌+◌, ◌<◌, ◌≤◌, List, [], ◌∷◌, ◌++◌, None, Some, length, take, get_or, sym, ap, subst, refl, ◌∙◌, arith}
 use Rattle.std.specs.Prelude.{slice_get, IfOk}
 use Rattle.std.proofs.lemmas.Bool.{cases_eq, cases_lt}
 use Rattle.std.proofs.Math.Seq.{take-length}
@@ -98,3 +98,6 @@ pub kept_on : (e e' e'' : WrittenExpression) (old skipped first new : Occurrence
     KeepsRoom e'' first new → KeepsRoom e old new
 kept_on e e' e'' old skipped first new same same' one two three =
     keeps_trans e old first new (keeps_trans e old skipped first one (rw same at two)) (rw (same', same) at three)
+
+pub none_absurd : {A : Type 0} {x : WrittenExpression} → None ≡ Some x → A
+none_absurd is = cc

@@ -6,7 +6,7 @@ use Rattle.std.proofs.lemmas.Grind.{common_steps}
 use Rattle.sedengine.specs.Move.{to_sink}
 use Rattle.sedengine.specs.Meters.{Sent, SinkView}
 use Rattle.sedengine.specs.Calls.{Puts}
-use Rattle.sedengine.specs.Listing.{item, listed, listed_from, most_listed}
+use Rattle.sedengine.specs.Listing.{listed_byte, listed, listed_from, most_listed}
 use Rattle.sedengine.specs.ListingParts.{Listing, ArePlain, Lists, WrittenInPart, plain, with_run}
 use Rattle.sedengine.specs.declared.ends.Ended.{Ended}
 use Rattle.sedengine.proofs.Sending.{Sent-append, Sent-none}
@@ -14,7 +14,7 @@ use Rattle.sedengine.proofs.Gains.{to_sink-append}
 use Rattle.sedengine.proofs.Writing.{Puts-left, Puts-append}
 
 -- a plain byte is its own item
-pub plain_is : (b : ℕ) → plain b ≡ true → item b ≡ b ∷ []
+pub plain_is : (b : ℕ) → plain b ≡ true → listed_byte b ≡ b ∷ []
 plain_is b h = grind (arith, nat_tests)
 
 ArePlain-append : (xs ys : List ℕ) → ArePlain xs → ArePlain ys → ArePlain (xs ++ ys)
@@ -41,7 +41,7 @@ no_fold column i rest h = grind (arith, nat_tests)
 run_from : (column : ℕ) (run rest : List ℕ) → ArePlain run → column + length run ≤ 69 → listed_from column (run ++ rest) ≡ run ++ listed_from (column + length run) rest
 run_from column [] rest p h = let e : column + 0 ≡ column = omega arith in rw e
 run_from column (b ∷ bs) rest p h =
-    let first : after_item column (bs ++ rest) (item b) ≡ after_item column (bs ++ rest) (b ∷ []) = ap (after_item column (bs ++ rest)) p.0 in
+    let first : after_item column (bs ++ rest) (listed_byte b) ≡ after_item column (bs ++ rest) (b ∷ []) = ap (after_item column (bs ++ rest)) p.0 in
     let here = no_fold column (b ∷ []) (bs ++ rest) (omega arith) in
     let more = run_from (column + 1) bs rest p.1 (omega arith) in
     let same : (column + 1) + length bs ≡ column + length (b ∷ bs) = omega arith in

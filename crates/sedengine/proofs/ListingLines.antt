@@ -6,7 +6,7 @@ use Rattle.std.proofs.lemmas.List.{length-append}
 use Rattle.std.proofs.lemmas.List.Elements.{All-nil, All-cons, All-append}
 use Rattle.std.proofs.lemmas.List.Splits.{slice_split_at}
 use Rattle.sedspace.specs.Lines.{is_newline, HasNoNewline}
-use Rattle.sedengine.specs.Listing.{escape, octal, item, listed, listed_from, most_listed}
+use Rattle.sedengine.specs.Listing.{backslashed, octal, listed_byte, listed, listed_from, most_listed}
 
 -- no newline, and short
 record Fine (i : List ℕ) : Type 0 where
@@ -26,7 +26,7 @@ joined xs ys p q = All-append (λ x. is_newline x ≡ false) xs ys p q
 fine_one : (a : ℕ) → is_newline a ≡ false → Fine (a ∷ [])
 fine_one a p = record { none = before a [] p nothing; short = omega arith }
 
-fine_escape : (a : ℕ) → is_newline a ≡ false → Fine (escape a)
+fine_escape : (a : ℕ) → is_newline a ≡ false → Fine (backslashed a)
 fine_escape a p = record { none = before 92 (a ∷ []) refl (before a [] p nothing); short = omega arith }
 
 no_digit : (n : ℕ) → is_newline (48 + n) ≡ false
@@ -50,7 +50,7 @@ printable : (b : ℕ) → is_newline b ≡ false → (t : Bool) → Fine (cond t
 printable b p true = fine_one b p
 printable b p false = fine_octal b
 
-fine : (b : ℕ) → Fine (item b)
+fine : (b : ℕ) → Fine (listed_byte b)
 fine b =
     by_test (b == 92) _ _ (fine_escape 92 refl) (λ _.
     by_test (b == 7) _ _ (fine_escape 97 refl) (λ _.
@@ -98,7 +98,7 @@ from_line [] line column same h p =
     let none = joined line (36 ∷ []) p (before 36 [] refl nothing) in
     subst AreShort whole (one_line (line ++ 36 ∷ []) [] none size (All-cons (λ l. length l ≤ 70) [] [] (omega arith) (All-nil (λ l. length l ≤ 70))))
 from_line (b ∷ bs) line column same h p =
-    next (nat_lt most_listed (column + length (item b))) line (item b) bs column refl same h p (fine b) (λ piece n. from_line bs piece n)
+    next (nat_lt most_listed (column + length (listed_byte b))) line (listed_byte b) bs column refl same h p (fine b) (λ piece n. from_line bs piece n)
 
 pub short_lines : (bytes : List ℕ) → All (λ line. length line ≤ 70) (slice_split is_newline (listed bytes))
 unfolding listed

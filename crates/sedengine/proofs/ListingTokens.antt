@@ -4,7 +4,7 @@ use Rattle.std.proofs.lemmas.Bool.Decides.{nat_tests}
 use Rattle.std.specs.List.{All, AllByRecursion}
 use Rattle.std.proofs.lemmas.List.{append_cancel_left}
 use Rattle.std.proofs.lemmas.List.Elements.{recursion_from_All}
-use Rattle.sedengine.specs.Listing.{item, listed, listed_from, most_listed}
+use Rattle.sedengine.specs.Listing.{listed_byte, listed, listed_from, most_listed}
 
 -- the byte of three digits
 abbrev of_digits : ℕ → List ℕ → ℕ
@@ -54,7 +54,7 @@ octal_reads d e f after h =
 plain_reads : (b x : ℕ) (rest : List ℕ) → (b == 92) ≡ false → (x == 10) ≡ false → token (b ∷ x ∷ rest) ≡ b
 plain_reads b x rest p q = simp (p, q)
 
-item_reads : (b x : ℕ) (rest : List ℕ) → b < 256 → (x == 10) ≡ false → token (item b ++ x ∷ rest) ≡ b
+item_reads : (b x : ℕ) (rest : List ℕ) → b < 256 → (x == 10) ≡ false → token (listed_byte b ++ x ∷ rest) ≡ b
 item_reads b x rest h q =
     let P : List ℕ → Type 0 = λ i. token (i ++ x ∷ rest) ≡ b in
     by_test P (b == 92) _ _ (is_test b 92) (λ p.
@@ -78,7 +78,7 @@ record Starts (l : List ℕ) : Type 0 where
 begins : (a : ℕ) (rest : List ℕ) → (a == 10) ≡ false → Starts (a ∷ rest)
 begins a rest p = record { first = a; rest = rest; is = refl; none = p }
 
-item_starts : (b : ℕ) (after : List ℕ) → Starts (item b ++ after)
+item_starts : (b : ℕ) (after : List ℕ) → Starts (listed_byte b ++ after)
 item_starts b after =
     let P : List ℕ → Type 0 = λ i. Starts (i ++ after) in
     by_test P (b == 92) _ _ (λ _. begins 92 _ refl) (λ _.
@@ -93,7 +93,7 @@ item_starts b after =
 
 -- what the definition makes of a byte, by whether it folds
 abbrev made : Bool → ℕ → ℕ → List ℕ → List ℕ
-made fold column b bs = cond fold (92 ∷ 10 ∷ item b ++ listed_from (length (item b)) bs) (item b ++ listed_from (column + length (item b)) bs)
+made fold column b bs = cond fold (92 ∷ 10 ∷ listed_byte b ++ listed_from (length (listed_byte b)) bs) (listed_byte b ++ listed_from (column + length (listed_byte b)) bs)
 
 made_starts : (fold : Bool) (column b : ℕ) (bs : List ℕ) → Starts (made fold column b bs)
 made_starts true column b bs = begins 92 _ refl
@@ -101,26 +101,26 @@ made_starts false column b bs = item_starts b _
 
 starts : (column : ℕ) (bs : List ℕ) → Starts (listed_from column bs)
 starts column [] = begins 36 _ refl
-starts column (b ∷ bs) = made_starts (nat_lt most_listed (column + length (item b))) column b bs
+starts column (b ∷ bs) = made_starts (nat_lt most_listed (column + length (listed_byte b))) column b bs
 
-after_reads : (b : ℕ) (after : List ℕ) → b < 256 → Starts after → token (item b ++ after) ≡ b
-after_reads b after h s = ap (λ l. token (item b ++ l)) s.is ∙ item_reads b s.first s.rest h s.none
+after_reads : (b : ℕ) (after : List ℕ) → b < 256 → Starts after → token (listed_byte b ++ after) ≡ b
+after_reads b after h s = ap (λ l. token (listed_byte b ++ l)) s.is ∙ item_reads b s.first s.rest h s.none
 
 made_reads : (fold : Bool) (column b : ℕ) (bs : List ℕ) → b < 256 → token (made fold column b bs) ≡ cond fold 256 b
 made_reads true column b bs h = refl
-made_reads false column b bs h = after_reads b _ h (starts (column + length (item b)) bs)
+made_reads false column b bs h = after_reads b _ h (starts (column + length (listed_byte b)) bs)
 
 -- an item, where what comes after it begins at the column `to`
 one_item : (to : ℕ → ℕ) (a b : ℕ) (xs ys : List ℕ) → a < 256 → b < 256 →
     ((n : ℕ) → listed_from n xs ≡ listed_from n ys → xs ≡ ys) →
-    item a ++ listed_from (to (length (item a))) xs ≡ item b ++ listed_from (to (length (item b))) ys → a ∷ xs ≡ b ∷ ys
+    listed_byte a ++ listed_from (to (length (listed_byte a))) xs ≡ listed_byte b ++ listed_from (to (length (listed_byte b))) ys → a ∷ xs ≡ b ∷ ys
 one_item to a b xs ys h k more e =
-    let first = after_reads a _ h (starts (to (length (item a))) xs) in
-    let second = after_reads b _ k (starts (to (length (item b))) ys) in
+    let first = after_reads a _ h (starts (to (length (listed_byte a))) xs) in
+    let second = after_reads b _ k (starts (to (length (listed_byte b))) ys) in
     let same : a ≡ b = sym first ∙ ap token e ∙ second in
-    let here : item a ++ listed_from (to (length (item a))) xs ≡ item a ++ listed_from (to (length (item a))) ys =
-    subst (λ z. item a ++ listed_from (to (length (item a))) xs ≡ item z ++ listed_from (to (length (item z))) ys) (sym same) e in
-    let rest = more (to (length (item a))) (append_cancel_left (item a) _ _ here) in
+    let here : listed_byte a ++ listed_from (to (length (listed_byte a))) xs ≡ listed_byte a ++ listed_from (to (length (listed_byte a))) ys =
+    subst (λ z. listed_byte a ++ listed_from (to (length (listed_byte a))) xs ≡ listed_byte z ++ listed_from (to (length (listed_byte z))) ys) (sym same) e in
+    let rest = more (to (length (listed_byte a))) (append_cancel_left (listed_byte a) _ _ here) in
     ap (λ z. z ∷ xs) same ∙ ap (λ l. b ∷ l) rest
 
 one_made : (s t : Bool) (column a b : ℕ) (xs ys : List ℕ) → a < 256 → b < 256 →
@@ -141,13 +141,13 @@ unique : (xs ys : List ℕ) (column : ℕ) → AllByRecursion (λ b. b < 256) xs
     listed_from column xs ≡ listed_from column ys → xs ≡ ys
 unique [] [] column h k e = refl
 unique [] (b ∷ ys) column h k e =
-    let fold = nat_lt most_listed (column + length (item b)) in
+    let fold = nat_lt most_listed (column + length (listed_byte b)) in
     absurd (not_end fold b k.0 (ap token e ∙ made_reads fold column b ys k.0))
 unique (a ∷ xs) [] column h k e =
-    let fold = nat_lt most_listed (column + length (item a)) in
+    let fold = nat_lt most_listed (column + length (listed_byte a)) in
     absurd (not_end fold a h.0 (sym (ap token e) ∙ made_reads fold column a xs h.0))
 unique (a ∷ xs) (b ∷ ys) column h k e =
-    one_made (nat_lt most_listed (column + length (item a))) (nat_lt most_listed (column + length (item b))) column a b xs ys h.0 k.0
+    one_made (nat_lt most_listed (column + length (listed_byte a))) (nat_lt most_listed (column + length (listed_byte b))) column a b xs ys h.0 k.0
     (λ n. unique xs ys n h.1 k.1) e
 
 pub one_text : (v w : List ℕ) → All (λ b. b < 256) v → All (λ b. b < 256) w → listed v ≡ listed w → v ≡ w

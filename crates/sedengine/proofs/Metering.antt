@@ -1,14 +1,16 @@
 -- What a metered call of the machine tells of the engine.
-use Rattle.std.proofs.Common.{◌≡◌, ℕ, suc, zero, ◌+◌, ◌≤◌, List, [], ◌∷◌, length, get_or, Option, Some, None, Result, Ok, Err, refl, subst, sym, ap, ◌∙◌, arith}
-use Rattle.std.specs.Prelude.{IfSome}
+use Rattle.std.proofs.Common.{◌≡◌, ℕ, suc, zero, ◌+◌, ◌<◌, ◌≤◌, min, List, [], ◌∷◌, length, get_or, Option, Some, None, Result, Ok, Err, refl, subst, sym, ap, ◌∙◌, arith}
+use Rattle.std.specs.Prelude.{IfSome, OnOk}
+use Rattle.sedscript.specs.Program.{Program}
+use Rattle.sedengine.specs.State.{Limits}
 use Rattle.std.specs.List.{All}
 use Rattle.sedengine.specs.Ends.{part, FillsSink, GainedWithin}
-use Rattle.sedengine.specs.DevicesAfter.{FailedSink, LimitIsSet, SinksAtEnd}
-use Rattle.sedengine.specs.Calls.{Delivers}
+use Rattle.sedengine.specs.DevicesAfter.{SinksAtEnd}
+use Rattle.sedengine.specs.Calls.{Delivers, FailedSink}
 use Rattle.sedengine.specs.Meters.{Frame, FullSink, InLimit, Meter, Sent, SinkView, counted}
-use Rattle.sedengine.specs.Run.{Cycles, Ending, Input, RunState, Sends, at_lines, outcome, run_setting}
+use Rattle.sedengine.specs.Run.{Cycles, Ending, Input, RunState, SameRun, Sends, at_lines, outcome, run_setting}
 use Rattle.sedengine.specs.declared.ends.Ended.{Ended}
-use Rattle.sedengine.specs.declared.ends.Ended.TheVariants.{OutputFull}
+use Rattle.sedengine.specs.declared.ends.Ended.TheVariants.{OutputBroken, OutputFull}
 use Rattle.sedengine.specs.declared.ends.Progress.{Progress}
 use Rattle.sedengine.specs.declared.ends.Progress.TheVariants as progress
 
@@ -36,17 +38,17 @@ module _ (sent sent' : List ℕ) (old new : ℕ → Option (List ℕ)) (f f' : �
   fills (Some m) (Err (OutputFull k)) same (n, is, told) h = let counts = h.counts k in sym same ∙ is ∙ sym told ∙ ap Some counts
   fills most (Err other) same full h = tt
 
--- a sink is full only where the meter has a limit
-limit_set : (most limit : Option ℕ) (t : SinkView) (r : Result Unit Ended) → t.frame.most ≡ most → most ≡ limit → FullSink t r → LimitIsSet limit r
-limit_set most limit t (Ok u) frame same full = tt
-limit_set most limit t (Err (OutputFull k)) frame same (n, is, told) = λ none. let never : Some n ≡ None = sym is ∙ frame ∙ same ∙ none in cc
-limit_set most limit t (Err other) frame same full = tt
-
 -- what a metered call says of the machine's sinks at its end it says of the engine's
 pub sinks_at_end : {S O : Type 0} (tally : S → SinkView) (count : S → ℕ) (s s' : S) (failures : O → ℕ → ℕ) (before after now : O) (most limit : Option ℕ) (r : Result Unit Ended) →
     now ≡ after → Delivers tally count s s' r → FailedSink (failures before) (failures after) r → (tally s').frame.most ≡ most → most ≡ limit → SinksAtEnd limit (failures before) (failures now) r
 sinks_at_end tally count s s' failures before after now most limit r is out failed frame same =
-    (rw (← is) at failed, limit_set most limit (tally s') r frame same out.full)
+    at_end r (rw (← is) at failed) out.full
+  where
+    at_end : (r : Result Unit Ended) → FailedSink (failures before) (failures now) r → FullSink (tally s') r → SinksAtEnd limit (failures before) (failures now) r
+    at_end (Ok u) failed full = failed
+    at_end (Err (OutputBroken k)) failed full = failed
+    at_end (Err (OutputFull k)) failed (n, is, told) = (λ none. let never : Some n ≡ None = sym is ∙ frame ∙ same ∙ none in cc, failed)
+    at_end (Err other) failed full = (tt, failed)
 
 -- what the machine's sinks have gained by the meter is what the engine's have
 pub sends : (e e' : RunState) (m m' : Meter) (old new : ℕ → Option (List ℕ)) (f f' : ℕ → ℕ) (a a' : Frame) (r : Result Unit Ended) (out : List (ℕ × ℕ)) → m.most ≡ e.limits.output → m'.most ≡ m.most → a'.most ≡ m'.most →
@@ -101,3 +103,27 @@ module _ {O : Type 0} (contents : O → ℕ → Option (List ℕ)) (m m' : RunSt
       let Q : RunState → Type 0 = λ e. Sends e (record m' { sent = meter'.sent; ended = ended' }) (contents before) (contents now) (Err end) out × Ending e.limits (run_setting e files) (at_lines e ls) out old new m'.state end in
       let both = subst Q seen (sends_all (Err end) full out sent, h) in
       (out, both.0, both.1)
+
+-- the sinks are enough for the machine's
+pub sink_counts : (m e : RunState) (sent now : List ℕ) (ended : Option Ended) (n : ℕ) → record m { sent = sent; ended = ended } ≡ e → length now ≡ length m.script.wfiles + 1 → length e.script.wfiles < n → length m.script.wfiles < min (length now) n
+sink_counts m e sent now ended n seen all less =
+    let same : length m.script.wfiles ≡ length e.script.wfiles = ap (λ (e : RunState). length e.script.wfiles) seen in
+    grind (arith, all, less, same)
+
+-- a meter that keeps its limit and its number of counts
+pub meter_fits : (m m' : RunState) (meter meter' : Meter) → SameRun m m' → meter'.most ≡ meter.most → length meter'.sent ≡ length meter.sent → (meter.most ≡ m.limits.output) × (length meter.sent ≡ length m.script.wfiles + 1) →
+    (meter'.most ≡ m'.limits.output) × (length meter'.sent ≡ length m'.script.wfiles + 1)
+meter_fits m m' meter meter' same most counts (limit, all) =
+    (most ∙ limit ∙ ap (λ (l : Limits). l.output) (sym same.limits), counts ∙ all ∙ ap (λ (p : Program). length p.wfiles + 1) (sym same.script))
+
+pub same_metered : (m m' e : RunState) (sent sent' : List ℕ) (ended ended' : Option Ended) → record m { sent = sent; ended = ended } ≡ e → SameRun m m' → SameRun e (record m' { sent = sent'; ended = ended' })
+same_metered m m' e sent sent' ended ended' seen same =
+    subst (λ (e : RunState). SameRun e (record m' { sent = sent'; ended = ended' })) seen (record { script = same.script; limits = same.limits })
+
+-- where a next cycle is due, what holds where the run goes on
+pub sound_more : {A : Type 0} (r : Progress) → OnOk (outcome r) A → r ≡ progress.More → A
+sound_more progress.More h is = h
+sound_more (progress.Ended end) h is = cc
+
+pub below_both : {k m n : ℕ} → k < min m n → (k < m) × (k < n)
+below_both h = (grind (arith, h), grind (arith, h))

@@ -5,7 +5,7 @@ use Rattle.sedengine.specs.State.{Limits, Task, State, Move, Setting}
 use Rattle.sedengine.specs.Move.{next_move, first_task, after, written, writing, quietly}
 use Rattle.sedengine.specs.Meters.{Sent, SinkView}
 use Rattle.sedengine.specs.Calls.{Puts}
-use Rattle.sedengine.specs.Ends.{WithinLimits, Within, Cause, BrokenOff, Whole, named_sink}
+use Rattle.sedengine.specs.Ends.{WithinLimits, Within, IsCause, BrokenOff, Whole, named_sink}
 use Rattle.sedengine.specs.Held.{HoldsAt, SameLengths}
 use Rattle.sedengine.specs.Run.{InOneCycle, starts_cycle}
 use Rattle.sedengine.specs.Steps.{StopsTask, Ran, Stopped, Moves, WholeOrBrokenOff, next_or_stay, writes_of}
@@ -107,7 +107,7 @@ WholeOrBrokenOff-add l g s out end t u (Some k) v h =
       wrote = rw (all, take-append-add, h.wrote) refl;
     }
 
-pub Cause-add : (l : Limits) (g : Setting) (s : State) (out : List (ℕ × ℕ)) (end : Ended) (t u : ℕ) → Within l g s t → Cause l g (after g s t) out end u → Cause l g s (written g s t ++ out) end (t + u)
+pub Cause-add : (l : Limits) (g : Setting) (s : State) (out : List (ℕ × ℕ)) (end : Ended) (t u : ℕ) → Within l g s t → IsCause l g (after g s t) out end u → IsCause l g s (written g s t ++ out) end (t + u)
 Cause-add l g s out end t u v h = WholeOrBrokenOff-add l g s out end t u (named_sink end) v h
 
 pub HoldsAt-add : (g : Setting) (s now : State) (t u : ℕ) (o : Option ℕ) → HoldsAt g (after g s t) u now o → HoldsAt g s (t + u) now o

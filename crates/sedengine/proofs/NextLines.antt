@@ -1,9 +1,11 @@
 -- Further lines come within a cycle.
-use Rattle.std.proofs.Common.{◌≡◌, ℕ, ◌+◌, ◌<◌, ◌≤◌, Bool, true, false, List, [], ◌∷◌, ◌++◌, length, Option, Some, None, Result, Ok, Err, refl, subst, sym, ap, ◌∙◌, arith, length-append, append_assoc, ◌-◌}
+use Rattle.std.proofs.Common.{◌≡◌, ℕ, ◌+◌, ◌<◌, ◌≤◌, Bool, true, false, List, [], ◌∷◌, ◌++◌, length, Option, Some, None, Result, Ok, Err, refl, subst, sym, ap, ◌∙◌, arith, length-append, append_assoc, ◌-◌, take}
+use Rattle.std.proofs.Math.Seq.{take-append_seam}
+use Rattle.std.specs.Borrow.{GName}
 use Rattle.std.proofs.lemmas.Bool.{false≢true}
 use Rattle.sedspace.specs.Spaces.{Contents}
 use Rattle.sedspace.specs.Stream.{Stream, left, lines_left, FirstIsLonger, GivesLine, LosesPart, NoLineLeft, TakesLine}
-use Rattle.sedspace.specs.Lines.{TakesAtMost}
+use Rattle.sedspace.specs.Reading.{TakesAtMost}
 use Rattle.sedspace.specs.declared.lines.Got.{Got}
 use Rattle.sedspace.specs.declared.lines.Got.TheVariants.{Line, End}
 use Rattle.sedengine.specs.State.{Limits, Task, print_pattern, flush, empty_pattern, fetch, join, State, Move, Setting}
@@ -13,7 +15,7 @@ use Rattle.sedengine.specs.Held.{SameLengths}
 use Rattle.sedengine.specs.Meters.{SinkView}
 use Rattle.sedengine.specs.Run.{RunState, at_lines, run_setting, starts_cycle, lost}
 use Rattle.sedengine.specs.Steps.{StopsTask, line_at, takes_turn, Moves, PerformsSteps, Ran, StepsFrom, TakesLines}
-use Rattle.sedengine.specs.Bringing.{Brings, brought, next_line}
+use Rattle.sedengine.specs.Bringing.{Brings, BringsLine, brought, next_line}
 use Rattle.sedengine.specs.Choose.{TellsLine}
 use Rattle.sedengine.specs.declared.next_step.NextStep.TheVariants as p
 use Rattle.sedengine.specs.declared.ends.Ended.{Ended}
@@ -174,6 +176,9 @@ brings_got {R} remaining old new ls number n s s' End known line fits end taken 
 abbrev pub answered : Got → Result Got Ended
 answered got = Ok got
 
+abbrev failed : Ended → Result Got Ended
+failed end = Err end
+
 -- what a call for a line, which answers got, leaves of a space
 module _ (s s' : Contents) (got : Got) (line : got ≡ Line → (l : List ℕ) × (s' ≡ record s { bytes = s.bytes ++ l })) (end : got ≡ End → s' ≡ s) where
   pub got_limit : s'.limit ≡ s.limit
@@ -227,6 +232,49 @@ pub brings_broken : {R : Type 0} (remaining : R → Option (List ℕ)) (old new 
     Brings remaining old new ls before number s s (Err end)
 brings_broken {R} remaining old new ls before number s InputBroken taken told = (refl, LosesPart-none _ _ _ (taken_none remaining old new ls taken))
 brings_broken {R} remaining old new ls before number s other taken told = absurd told
+
+pub no_line_at_end : answered End ≡ Ok Line → ⊥
+no_line_at_end is = cc
+
+pub no_line_stopped : (end : Ended) → failed end ≡ Ok Line → ⊥
+no_line_stopped end is = cc
+
+-- `N`: a line was sought for a space that a newline had been added to. Where none came that is cut off again.
+module _ {R : Type 0} (remaining : R → Option (List ℕ)) (failures : R → ℕ) (reference : R → List GName) (old new : Stream R) (number : ℕ) (s s1 s2 : Contents) (r : Result Got Ended) (added : s1 ≡ record s { bytes = s.bytes ++ newline ∷ [] }) (h : BringsLine remaining failures reference s1.bytes number s1 s2 old new r) where
+  brought_more : BringsLine remaining failures reference (s.bytes ++ newline ∷ []) number (record s { bytes = s.bytes ++ newline ∷ [] }) s2 old new r
+  brought_more = subst (λ (s1 : Contents). BringsLine remaining failures reference s1.bytes number s1 s2 old new r) added h
+
+  pub joins_line : r ≡ Ok Line → length s.bytes + 1 ≤ s.limit → BringsLine remaining failures reference (s.bytes ++ newline ∷ []) number s s2 old new r
+  joins_line is short = record {
+    brings = λ sound ls known. as_line ls r is (brought_more.brings sound ls known);
+    reads = h.reads;
+    limit = brought_more.limit;
+    fits = λ _. brought_more.fits (omega (arith, short, length-append s.bytes (newline ∷ [])));
+    stays = λ other. absurd (other is);
+  }
+    where
+      as_line : (ls : List (List ℕ)) (r : Result Got Ended) → r ≡ Ok Line → Brings remaining old new ls (s.bytes ++ newline ∷ []) number (record s { bytes = s.bytes ++ newline ∷ [] }) s2 r → Brings remaining old new ls (s.bytes ++ newline ∷ []) number s s2 r
+      as_line ls (Ok Line) is h = h
+      as_line ls (Ok End) is h = cc
+      as_line ls (Err end) is h = cc
+
+  pub joins_none : (s3 : Contents) (len : ℕ) → len ≡ length s.bytes → s3 ≡ record s2 { bytes = take len s2.bytes } → (r ≡ Ok Line → ⊥) → BringsLine remaining failures reference (s.bytes ++ newline ∷ []) number s s3 old new r
+  joins_none s3 len size cut other =
+      let back : s3 ≡ s = cut ∙ ap (λ (c : Contents). record c { bytes = take len c.bytes }) (brought_more.stays other) ∙ ap (λ n. record s { bytes = take n (s.bytes ++ newline ∷ []) }) size ∙ ap (λ w. record s { bytes = w }) (take-append_seam s.bytes (newline ∷ [])) in
+      rw back (record {
+        brings = λ sound ls known. as_none ls r other (brought_more.brings sound ls known);
+        reads = h.reads;
+        limit = refl;
+        fits = λ short. short;
+        stays = λ _. refl;
+      })
+    where
+      as_none : (ls : List (List ℕ)) (r : Result Got Ended) → (r ≡ Ok Line → ⊥) → Brings remaining old new ls (s.bytes ++ newline ∷ []) number (record s { bytes = s.bytes ++ newline ∷ [] }) s2 r → Brings remaining old new ls (s.bytes ++ newline ∷ []) number s s r
+      as_none ls (Ok Line) other h = absurd (other refl)
+      as_none ls (Ok End) other h = (h.0, h.1, refl)
+      as_none ls (Err (PatternFull n)) other h = (h.0, h.1, refl, h.3)
+      as_none ls (Err InputBroken) other h = (refl, h.1)
+      as_none ls (Err end) other h = absurd h
 
 -- `n`: by whether a line is left
 pub next_quits : (e e' : RunState) (files : ℕ → List ℕ) (ls : List (List ℕ)) (last : Bool) → last ≡ none_left ls → last ≡ true → next_line (at_lines e ls) ≡ quietly (then_do (print_pattern ∷ flush ∷ []) (at_lines e ls))

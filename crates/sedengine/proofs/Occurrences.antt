@@ -6,7 +6,7 @@ use Rattle.std.proofs.lemmas.List.{drop-drop}
 use Rattle.std.proofs.Math.Seq.{drop-nil}
 use Rattle.std.proofs.lemmas.Bool.Decides.{nat_tests}
 use Rattle.sedre.specs.Tree.{WrittenExpression, expression_tree}
-use Rattle.sedmatch.specs.Matching.{found, unless_null_at}
+use Rattle.sedmatch.specs.Matching.{leftmost_longest, unless_null_at}
 use Rattle.sedmatch.specs.Following.{EndsWithin, LiesOn}
 use Rattle.sedmatch.proofs.MatchingLemmas.{found-iff, IsLeftmostLongest-within}
 use Rattle.sedmatch.proofs.SpanLemmas.{Matches-forward, Matches-within}
@@ -16,7 +16,7 @@ use Rattle.sedengine.specs.SubstituteParts.{next_occurrence, Skips, occurrences_
 use Rattle.std.specs.Option.{option_map, option_map_or}
 
 -- a match lies in the text, after the place from which it is sought
-pub found_lies : (e : WrittenExpression) (w : List ℕ) (p i j : ℕ) → p ≤ length w → found (expression_tree e) w p ≡ Some (i, j) →
+pub found_lies : (e : WrittenExpression) (w : List ℕ) (p i j : ℕ) → p ≤ length w → leftmost_longest (expression_tree e) w p ≡ Some (i, j) →
     (p ≤ i) × (i ≤ j) × (j ≤ length w)
 found_lies e w p i j fits is =
     let f = (found-iff (expression_tree e) w p i j fits).0 is in
@@ -32,14 +32,14 @@ pub record Ordered (sought : ℕ → Option Occurrence) (n : ℕ) : Type 0 where
   pub lies : (p : ℕ) (m : Occurrence) → p ≤ n → sought p ≡ Some m → LiesFrom n p m
 
 match_lies : (e : WrittenExpression) (w : List ℕ) (p : ℕ) (r : Option (ℕ × ℕ)) (m : Occurrence) → p ≤ length w →
-    found (expression_tree e) w p ≡ r → option_map (occurrence_at_span e w) r ≡ Some m → LiesFrom (length w) p m
+    leftmost_longest (expression_tree e) w p ≡ r → option_map (occurrence_at_span e w) r ≡ Some m → LiesFrom (length w) p m
 match_lies e w p None m fits is at = let none : None ≡ Some m = at in cc
 match_lies e w p (Some span) m fits is at =
     let same : occurrence_at_span e w span ≡ m = cc in
     subst (LiesFrom (length w) p) same (found_lies e w p span.0 span.1 fits is)
 
 ordered : (e : WrittenExpression) (w : List ℕ) → Ordered (search_for e w) (length w)
-ordered e w = record { lies = λ p m fits is. match_lies e w p (found (expression_tree e) w p) m fits refl is }
+ordered e w = record { lies = λ p m fits is. match_lies e w p (leftmost_longest (expression_tree e) w p) m fits refl is }
 
 not_empty : (s e q : ℕ) → q ≤ s → s ≤ e → (nat_eq s q && nat_eq e q) ≡ false → q < e
 not_empty s e q from to test = grind (arith, nat_tests)

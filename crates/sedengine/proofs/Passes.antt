@@ -1,5 +1,5 @@
 -- Blocks of the lines ahead, passed over or broken off.
-use Rattle.std.proofs.Common.{◌≡◌, ℕ, suc, zero, ◌<◌, ◌+◌, ◌*◌, ◌-◌, ◌/◌, ◌≤◌, ◌⊎◌, inl, inr, cond, true, false, List, [], ◌∷◌, ◌++◌, length, length-append, length-take, length-take-le, length-drop, take, drop, take-take, take-append-drop, get_or, get_or-take, mul_comm, Contains, Option, Some, None, Result, Ok, Err, refl, subst, sym, ap, ap₂, ◌∙◌, arith, append_assoc, mul-le-mul_left}
+use Rattle.std.proofs.Common.{◌≡◌, ℕ, suc, zero, ◌<◌, ◌+◌, ◌*◌, ◌-◌, ◌/◌, ◌≤◌, ◌⊎◌, inl, inr, cond, true, false, List, [], ◌∷◌, ◌++◌, length, length-append, length-take, length-take-le, length-drop, take, drop, take-take, take-append-drop, get_or, get_or-take, mul_comm, Contains, Option, Some, None, Result, Ok, Err, refl, subst, sym, ap, ap₂, ◌∙◌, arith, append_assoc, mul-le-mul_left, Fits, Fits-le, w64}
 use Rattle.std.proofs.Math.Nat.{div-mul-le_self}
 use Rattle.std.proofs.Math.Seq.{get_or-append_seam, take-add, take-append_seam, take-length}
 use Rattle.std.proofs.lemmas.List.{drop-append-le, drop-drop, drop-take, drop_more, get_or-drop, get_or_append_left, take_more}
@@ -212,7 +212,7 @@ pub reads_ahead : {R : Type 0} (remaining : R → Option (List ℕ)) (failures :
     (r ≡ Err InputBroken → ⊥) → ReadsLines remaining failures reference from to r
 reads_ahead {R} remaining failures reference from to rest r is fewer sound =
     rw is (record {
-      same_look = refl;
+      same_read_ahead = refl;
       same_reference = refl;
       ahead = omega (arith, fewer);
       shrinks = (0, TakesAtMost-none _);
@@ -325,7 +325,7 @@ not_clear : (q : List ℕ) → HasNoNewline (q ++ 10 ∷ []) → ⊥
 not_clear q h = let here : is_newline (get_or (q ++ 10 ∷ []) (length q) 0) ≡ false = h (length q) 0 (omega (arith, length-append q (10 ∷ []))) in let at : get_or (q ++ 10 ∷ []) (length q) 0 ≡ 10 = get_or-append_seam q 10 [] 0 in let wrong : true ≡ false = ap is_newline (sym at) ∙ here in cc
 
 -- the first newline from a place on
-pub newline_there : (ahead : List ℕ) (start bytes n : ℕ) → start < bytes → bytes ≤ length ahead → AreWholeLines (take bytes ahead) → HasNoNewline (take n (take (bytes - start) (drop start ahead))) →
+newline_there : (ahead : List ℕ) (start bytes n : ℕ) → start < bytes → bytes ≤ length ahead → AreWholeLines (take bytes ahead) → HasNoNewline (take n (take (bytes - start) (drop start ahead))) →
     (n ≡ length (take (bytes - start) (drop start ahead))) ⊎ (slice_get (take (bytes - start) (drop start ahead)) n ≡ Some 10) → (start + n < bytes) × (get_or ahead (start + n) 0 ≡ 10)
 newline_there ahead start bytes n less within whole clear (inl all) =
     let q = slice_ends ahead start bytes less within whole in
@@ -453,14 +453,30 @@ done_taken ahead all done bytes same less within =
 pub start_before : (ahead : List ℕ) (start done : ℕ) → start ≤ length (take done ahead) → start ≤ done
 start_before ahead start done low = omega (arith, length-take done ahead)
 
+-- whole lines of the first bytes are whole lines
+pub whole_first : (ahead : List ℕ) (start done : ℕ) → start ≤ length (take done ahead) → AreWholeLines (take start (take done ahead)) → AreWholeLines (take start ahead)
+whole_first ahead start done low = subst AreWholeLines (take-take start done ahead (start_before ahead start done low))
+
 pub start_low : (ahead : List ℕ) (start done bytes : ℕ) → start ≤ length (take done ahead) → done < bytes → start ≤ bytes
 start_low ahead start done bytes low less = let before = start_before ahead start done low in omega arith
 
-pub le_less : {a c : ℕ} (b : ℕ) → a ≤ b → b < c → a < c
+le_less : {a c : ℕ} (b : ℕ) → a ≤ b → b < c → a < c
 le_less b low less = omega arith
 
-pub within_seen : (ahead all : List ℕ) (n : ℕ) → ahead ≡ all → n ≤ length all → n ≤ length ahead
+within_seen : (ahead all : List ℕ) (n : ℕ) → ahead ≡ all → n ≤ length all → n ≤ length ahead
 within_seen ahead all n same within = let size : length ahead ≡ length all = ap (λ (w : List ℕ). length w) same in omega arith
+
+-- the line that is cut out of the first bytes of what is ahead
+pub line_inside : (ahead all : List ℕ) (start done bytes n : ℕ) → ahead ≡ all → start ≤ length (take done ahead) → done < bytes → bytes ≤ length all → AreWholeLines (take bytes all) → HasNoNewline (take n (take (bytes - start) (drop start ahead))) →
+    (n ≡ length (take (bytes - start) (drop start ahead))) ⊎ (slice_get (take (bytes - start) (drop start ahead)) n ≡ Some 10) → (start + n < bytes) × (get_or ahead (start + n) 0 ≡ 10)
+line_inside ahead all start done bytes n same low less within whole =
+    newline_there ahead start bytes n (le_less done (start_before ahead start done low) less) (within_seen ahead all bytes same within) (subst (λ (w : List ℕ). AreWholeLines (take bytes w)) (sym same) whole)
+
+pub fits_within : (a b : ℕ) → a < b → Fits w64 b → Fits w64 a × Fits w64 (a + 1)
+fits_within a b less fits = (Fits-le (omega arith) fits, Fits-le (omega arith) fits)
+
+pub no_longer : (ahead : List ℕ) (start n bytes space limit : ℕ) → start + n < bytes → bytes ≤ space → limit ≡ space → limit < length (take ((start + n) - start) (drop start ahead)) → ⊥
+no_longer ahead start n bytes space limit less short is long = omega (arith, length-take ((start + n) - start) (drop start ahead))
 
 pub less_within : {a c : ℕ} (b : ℕ) → a < b → b ≤ c → a + 1 ≤ c
 less_within b less within = omega arith

@@ -9,7 +9,7 @@ use Rattle.std.proofs.lemmas.List.{set-get_or, take-append-le}
 use Rattle.std.proofs.lemmas.List.Elements.{All-cons, All-head, All-nil, All-tail}
 use Rattle.std.proofs.lemmas.Bool.Decides.{nat_tests}
 use Rattle.sedre.specs.Tree.{WrittenExpression, expression_tree}
-use Rattle.sedmatch.specs.Matching.{found}
+use Rattle.sedmatch.specs.Matching.{leftmost_longest}
 use Rattle.sedscript.specs.Program.{Program}
 use Rattle.sedscript.specs.declared.types.Address.{Address}
 use Rattle.sedscript.specs.declared.types.Address.TheVariants.{Line, Last, Match}
@@ -348,9 +348,9 @@ block_left_alone g c number (line ∷ lines) rest h = (
     alone Nothing asked = tt
 
 -- a script's own expressions are found as they are searched for
-none_searched : (o : Option WrittenExpression) (w : List ℕ) → option_map_or (λ e. is_some (found (expression_tree e) w 0)) o false ≡ false → option_and_then (λ e. search_for e w 0) o ≡ None
+none_searched : (o : Option WrittenExpression) (w : List ℕ) → option_map_or (λ e. is_some (leftmost_longest (expression_tree e) w 0)) o false ≡ false → option_and_then (λ e. search_for e w 0) o ≡ None
 none_searched None w h = refl
-none_searched (Some e) w h = none_at (found (expression_tree e) w 0) h
+none_searched (Some e) w h = none_at (leftmost_longest (expression_tree e) w 0) h
   where
     none_at : (o : Option (ℕ × ℕ)) → is_some o ≡ false → option_map (occurrence_at_span e w) o ≡ None
     none_at None h = refl

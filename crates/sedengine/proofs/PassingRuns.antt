@@ -5,7 +5,8 @@ use Rattle.std.proofs.lemmas.List.{take-append-le}
 use Rattle.std.specs.Prelude.{max}
 use Rattle.std.specs.List.{All}
 use Rattle.std.specs.Option.{option_map}
-use Rattle.sedspace.specs.Lines.{lines, TakesAtMost}
+use Rattle.sedspace.specs.Lines.{lines}
+use Rattle.sedspace.specs.Reading.{TakesAtMost}
 use Rattle.sedspace.specs.Stream.{Stream, left}
 use Rattle.sedengine.specs.State.{Limits, State, Setting}
 use Rattle.sedengine.specs.Move.{after, to_sink, written}
@@ -56,7 +57,7 @@ module _ {R : Type 0} (remaining : R → Option (List ℕ)) (from at to : Stream
 
   -- it ends
   abbrev pub pass_stop : (e' : RunState) (end : Ended) → StepsPassing remaining at to r.rest e.limits (run_setting e files) (at_lines e r.rest) e' mid new (Err end) →
-      (k : ℕ) × TakesAtMost (remaining from.source) (remaining to.source) k → length to.ahead ≤ max (length from.ahead) from.look → from.look ≡ a.limits.look → (end ≡ InputBroken → to.ahead ≡ []) →
+      (k : ℕ) × TakesAtMost (remaining from.source) (remaining to.source) k → length to.ahead ≤ max (length from.ahead) from.read_ahead → from.read_ahead ≡ a.limits.look → (end ≡ InputBroken → to.ahead ≡ []) →
       (out : List (ℕ × ℕ)) × Sent old new out × Ending a.limits (run_setting a files) s out (input_of remaining from) (input_of remaining to) e'.state end
   pass_stop e' end halted shrinks ahead look drained =
       let g : Setting = run_setting a files in

@@ -2,7 +2,7 @@
 use Rattle.std.proofs.Common.{subst, ◌≡◌, ℕ, ◌<◌, ◌+◌, ◌≤◌, inl, inr, true, List, ◌++◌, length, [], Option, Some, None, Ok, Err, refl, sym, ap, ◌∙◌, arith, append_assoc}
 use Rattle.std.specs.Prelude.{max}
 use Rattle.sedspace.specs.Stream.{Stream, left, lines_left}
-use Rattle.sedspace.specs.Lines.{TakesAtMost}
+use Rattle.sedspace.specs.Reading.{TakesAtMost}
 use Rattle.sedengine.specs.State.{Limits, State, Setting, setting_of}
 use Rattle.sedengine.specs.Move.{after, written}
 use Rattle.sedengine.specs.Meters.{Sent, SinkView}
@@ -104,7 +104,7 @@ module _ {R : Type 0} (remaining : R → Option (List ℕ)) (from at to : Stream
       }
 
   abbrev pub stop_on : (e' : RunState) (end : Ended) → Steps remaining at to r.rest e.limits (run_setting e files) e e' mid new (Err end) →
-      (k : ℕ) × TakesAtMost (remaining from.source) (remaining to.source) k → length to.ahead ≤ max (length from.ahead) from.look → from.look ≡ a.limits.look → (end ≡ InputBroken → to.ahead ≡ []) →
+      (k : ℕ) × TakesAtMost (remaining from.source) (remaining to.source) k → length to.ahead ≤ max (length from.ahead) from.read_ahead → from.read_ahead ≡ a.limits.look → (end ≡ InputBroken → to.ahead ≡ []) →
       (out : List (ℕ × ℕ)) × Sent old new out × Ending a.limits (run_setting a files) s out (input_of remaining from) (input_of remaining to) e'.state end
   stop_on e' end halted shrinks ahead look drained =
       let g : Setting = run_setting a files in
@@ -146,7 +146,7 @@ module _ {R : Type 0} (remaining : R → Option (List ℕ)) (from at to : Stream
 -- a cycle was made
 pub cycled : {R : Type 0} (remaining : R → Option (List ℕ)) (from to : Stream R) (l : Limits) (g : Setting) (s : State) (e : RunState) (old new : SinkView) →
     (r : Reached remaining from to l g s e old new) → 0 < r.t → InOneCycle g s r.t → starts_cycle e.state.tasks ≡ true →
-    (k : ℕ) × TakesAtMost (remaining from.source) (remaining to.source) k → length to.ahead ≤ max (length from.ahead) from.look → from.look ≡ l.look →
+    (k : ℕ) × TakesAtMost (remaining from.source) (remaining to.source) k → length to.ahead ≤ max (length from.ahead) from.read_ahead → from.read_ahead ≡ l.look →
     (rest : List (List ℕ)) × (lines_left remaining to ≡ Some rest) × Cycled l g s (written g s r.t) (input_of remaining from) (input_of remaining to) (at_lines e rest)
 cycled {R} remaining from to l g s e old new r some one starts shrinks ahead look =
     let are : s.lines ≡ r.taken.lines ++ (after g s r.t).lines = r.taken.are ∙ ap (λ x. r.taken.lines ++ x) (sym (ap (λ (x : State). x.lines) r.is)) in (

@@ -10,7 +10,8 @@ use Rattle.std.proofs.Math.Seq.{drop-append-add}
 use Rattle.std.proofs.lemmas.List.{drop-drop, drop_all}
 use Rattle.std.proofs.lemmas.List.Elements.{All-drop}
 use Rattle.std.proofs.lemmas.List.Splits.{slice_split-cons_yes, slice_split-cons_no, length-slice_split}
-use Rattle.sedspace.specs.Lines.{lines, is_newline, without_empty_last, HasNoNewline, TakesAtMost}
+use Rattle.sedspace.specs.Lines.{lines, is_newline, without_empty_last, HasNoNewline}
+use Rattle.sedspace.specs.Reading.{TakesAtMost}
 use Rattle.sedspace.specs.Stream.{Stream, left, lines_left, FailsIfBroken, GivesLine, KeepsFault, NoLineLeft, KeepsLines, LosesPart, ReadsOn, TakesLine, TellsLast}
 use Rattle.sedspace.specs.declared.errors.LineFault.{LineFault}
 use Rattle.sedspace.specs.declared.errors.LineFault.TheVariants.{Broken, TooLong}
@@ -142,9 +143,9 @@ pub ReadsLines-then : {R T : Type 0} (remaining : R → Option (List ℕ)) (fail
 ReadsLines-then {R} {T} remaining failures reference a b c r s t =
     let h = s.ahead in
     let i = t.ahead in
-    let look = s.same_look in
+    let look = s.same_read_ahead in
     record {
-      same_look = t.same_look ∙ s.same_look;
+      same_read_ahead = t.same_read_ahead ∙ s.same_read_ahead;
       same_reference = t.same_reference ∙ s.same_reference;
       ahead = omega arith;
       shrinks = shrinks-then _ _ _ s.shrinks t.shrinks;
@@ -155,7 +156,7 @@ ReadsLines-then {R} {T} remaining failures reference a b c r s t =
 
 pub ReadsLines-none : {R : Type 0} (remaining : R → Option (List ℕ)) (failures : R → ℕ) (reference : R → List GName) (a : Stream R) → ReadsLines {T = Unit} remaining failures reference a a (Ok tt)
 ReadsLines-none {R} remaining failures reference a = record {
-  same_look = refl;
+  same_read_ahead = refl;
   same_reference = refl;
   ahead = omega arith;
   shrinks = (0, TakesAtMost-none _);
@@ -172,7 +173,7 @@ unread {T} n (Err other) h = refl
 -- a call that reads nothing
 pub ReadsLines-unread : {R T : Type 0} (remaining : R → Option (List ℕ)) (failures : R → ℕ) (reference : R → List GName) (a : Stream R) (r : Result T Ended) → (r ≡ Err InputBroken → ⊥) → ReadsLines remaining failures reference a a r
 ReadsLines-unread {R} {T} remaining failures reference a r h = record {
-  same_look = refl;
+  same_read_ahead = refl;
   same_reference = refl;
   ahead = omega arith;
   shrinks = (0, TakesAtMost-none _);
@@ -220,11 +221,11 @@ some_told (Some ms) ls last known told is =
 
 -- a call that may read, whatever it told
 pub ReadsLines-told : {R T : Type 0} (remaining : R → Option (List ℕ)) (failures : R → ℕ) (reference : R → List GName) (a b : Stream R) (x : T) → ReadsLines remaining failures reference a b (Ok x) → ReadsLines {T = Unit} remaining failures reference a b (Ok tt)
-ReadsLines-told {R} {T} remaining failures reference a b x h = record { same_look = h.same_look; same_reference = h.same_reference; ahead = h.ahead; shrinks = h.shrinks; sound = h.sound; failed = h.failed; broken = λ is none. cc }
+ReadsLines-told {R} {T} remaining failures reference a b x h = record { same_read_ahead = h.same_read_ahead; same_reference = h.same_reference; ahead = h.ahead; shrinks = h.shrinks; sound = h.sound; failed = h.failed; broken = λ is none. cc }
 
 pub ReadsLines-ended : {R T U : Type 0} (remaining : R → Option (List ℕ)) (failures : R → ℕ) (reference : R → List GName) (a b : Stream R) (end : Ended) → ReadsLines {T = T} remaining failures reference a b (Err end) → ReadsLines {T = U} remaining failures reference a b (Err end)
 ReadsLines-ended {R} {T} {U} remaining failures reference a b end h =
-    record { same_look = h.same_look; same_reference = h.same_reference; ahead = h.ahead; shrinks = h.shrinks; sound = tt; failed = h.failed; broken = λ is none. h.broken (let same : end ≡ InputBroken = cc in ap Err same) none }
+    record { same_read_ahead = h.same_read_ahead; same_reference = h.same_reference; ahead = h.ahead; shrinks = h.shrinks; sound = tt; failed = h.failed; broken = λ is none. h.broken (let same : end ≡ InputBroken = cc in ap Err same) none }
 
 -- the same of a call that writes nothing
 pub ReadsAlone-told : {R T : Type 0} {remaining : R → Option (List ℕ)} {failures : R → ℕ} {reference : R → List GName} {a b : Stream R} (x : T) → ReadsAlone remaining failures reference a b (Ok x) → ReadsAlone {T = Unit} remaining failures reference a b (Ok tt)
@@ -312,7 +313,7 @@ pub reads_on : {R T U : Type 0} {remaining : R → Option (List ℕ)} {failures 
 reads_on x r none h =
     let i = h.input in
     record {
-      input = record { same_look = i.same_look; same_reference = i.same_reference; ahead = i.ahead; shrinks = i.shrinks; sound = any_sound r _ i.sound; failed = λ sound. named_none _ _ r none (i.failed sound); broken = λ is sound. absurd (none.input is) };
+      input = record { same_read_ahead = i.same_read_ahead; same_reference = i.same_reference; ahead = i.ahead; shrinks = i.shrinks; sound = any_sound r _ i.sound; failed = λ sound. named_none _ _ r none (i.failed sound); broken = λ is sound. absurd (none.input is) };
       output = none.output;
     }
 
@@ -333,7 +334,7 @@ module _ {R T : Type 0} (A : Type 0) {remaining : R → Option (List ℕ)} {fail
   reads on taken sound failed broken output =
       let ahead = on.0 in
       let look = on.1 in
-      record { input = record { same_look = on.1; same_reference = on.2; ahead = omega arith; shrinks = (n, taken); sound = sound; failed = failed; broken = broken }; output = output }
+      record { input = record { same_read_ahead = on.1; same_reference = on.2; ahead = omega arith; shrinks = (n, taken); sound = sound; failed = failed; broken = broken }; output = output }
 
   -- it answered
   pub reads_told : (x : A) (r : Result T Ended) → NamesNone r → ReadsOn reference old new → TakesAtMost (remaining old.source) (remaining new.source) n → KeepsFault {T = A} (Ok x) old new →

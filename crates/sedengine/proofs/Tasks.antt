@@ -4,18 +4,18 @@ use Rattle.std.specs.Prelude.{slice_get, is_some, OnOk, OnErr}
 use Rattle.std.specs.Io.KnownBytes.{Keeps}
 use Rattle.std.proofs.lemmas.List.{length-map}
 use Rattle.sedscript.specs.Program.{Program}
-use Rattle.sedspace.specs.Spaces.{Contents}
+use Rattle.sedspace.specs.Spaces.{Contents, Entries}
 use Rattle.sedspace.specs.declared.errors.Full.{Full}
 use Rattle.sedspace.specs.Stream.{Stream, left, lines_left, TakesLine, GivesLine, NoLineLeft, FirstIsLonger, KeepsLines, LosesPart}
-use Rattle.sedspace.specs.Lines.{TakesAtMost}
-use Rattle.sedengine.specs.State.{Limits, Task, begin, do_at, State, Setting}
+use Rattle.sedspace.specs.Reading.{TakesAtMost}
+use Rattle.sedengine.specs.State.{Limits, Task, begin, rebegin, do_at, State, Setting}
 use Rattle.sedengine.specs.Move.{next_move, start, quietly, then_do, none_left}
 use Rattle.sedengine.specs.Ends.{WithinLimits, reads, named_sink}
 use Rattle.sedengine.specs.Held.{SameLengths}
 use Rattle.sedengine.specs.Meters.{SinkView}
 use Rattle.sedengine.specs.Run.{RunState, at_lines, run_setting, lost}
 use Rattle.sedengine.specs.Steps.{costs, reaches, StopsTask, weight, line_at, takes_turn, Ran, Moves, TakesLines, Halted, Steps}
-use Rattle.sedengine.specs.Inside.{run_of, tasks_of, entries_of, IsConsistent, IsEmptied}
+use Rattle.sedengine.specs.Inside.{run_of, tasks_of, entries_of, AllQueue, IsConsistent, IsEmptied}
 use Rattle.sedengine.specs.declared.machine.Machine.TheInside.{Inside}
 use Rattle.sedengine.specs.declared.next_step.NextStep.{NextStep}
 use Rattle.sedengine.specs.declared.next_step.NextStep.TheVariants as p
@@ -202,23 +202,23 @@ pub opened : (seen script : Program) (l : Limits) (pattern hold queue : List ℕ
     starting seen l pattern hold queue ranges ≡ record { script = script; limits = l; state = start script.commands []; sent = []; ended = None }
 opened seen script l pattern hold queue ranges same none none' none'' idle = rw (same, none, none', none'', idle) refl
 
--- the fields with another pattern space, at another place
-pub placed : (a : Inside) (pattern : Contents) (next_step : NextStep) → IsConsistent a → pattern.limit ≡ a.pattern.limit → length pattern.bytes ≤ a.limits.space → IsEmptied next_step pattern.bytes →
-    IsConsistent (record a { pattern = pattern; next_step = next_step })
-placed a pattern next_step i limit short empty = record {
+-- the fields after moves that leave the hold space and the ranges
+moved : (a : Inside) (pattern build : Contents) (queue : Entries) (next_step : NextStep) (number turns : ℕ) (replaced : Bool) → IsConsistent a → number ≤ turns → turns ≤ a.limits.turns → pattern.limit ≡ a.pattern.limit → length pattern.bytes ≤ a.limits.space → build.limit ≡ a.build.limit →
+    queue.limit ≡ a.queue.limit → length queue.items ≤ a.limits.queue → AllQueue a.script queue.items → IsEmptied next_step pattern.bytes → IsConsistent (record a { pattern = pattern; build = build; queue = queue; next_step = next_step; number = number; turns = turns; replaced = replaced })
+moved a pattern build queue next_step number turns replaced i fewer most limit short same queue_limit few queued empty = record {
+  number = fewer;
+  turns = most;
   pattern_limit = limit ∙ i.pattern_limit;
   pattern = short;
-  empty = empty;
-  number = i.number;
-  turns = i.turns;
   hold_limit = i.hold_limit;
   hold = i.hold;
-  build_limit = i.build_limit;
-  build_within = i.build_within;
-  copy_limit = i.copy_limit;
-  queue_limit = i.queue_limit;
-  queue = i.queue;
-  queued = i.queued;
+  build_limit = λ some. same ∙ i.build_limit some;
+  build_within = rw same i.build_within;
+  copy_limit = λ some. same ∙ i.copy_limit some;
+  queue_limit = queue_limit ∙ i.queue_limit;
+  queue = few;
+  queued = queued;
+  empty = empty;
   ranges = i.ranges;
   used = i.used;
   scratch_text = i.scratch_text;
@@ -228,6 +228,11 @@ placed a pattern next_step i limit short empty = record {
   nodes = i.nodes;
   idle = i.idle;
 }
+
+-- with another pattern space, at another place
+pub placed : (a : Inside) (pattern : Contents) (next_step : NextStep) → IsConsistent a → pattern.limit ≡ a.pattern.limit → length pattern.bytes ≤ a.limits.space → IsEmptied next_step pattern.bytes →
+    IsConsistent (record a { pattern = pattern; next_step = next_step })
+placed a pattern next_step i limit short = moved a pattern a.build a.queue next_step a.number a.turns a.replaced i i.number i.turns limit short refl refl i.queue i.queued
 
 -- Where a command is reached the pattern space needn't be empty.
 pub may_hold : (p : NextStep) (bytes : List ℕ) → reaches (tasks_of p) ≡ true → IsEmptied p bytes
@@ -270,30 +275,7 @@ begun_is_run a pattern line i more is within =
     let most = i.pattern_limit in
     let turns = i.turns in
     let low = i.number in
-    let j = placed a pattern (p.Do 0) i limit (omega arith) tt in
-    record {
-      number = omega arith;
-      turns = omega arith;
-      pattern_limit = j.pattern_limit;
-      pattern = j.pattern;
-      hold_limit = i.hold_limit;
-      hold = i.hold;
-      build_limit = i.build_limit;
-      build_within = i.build_within;
-      copy_limit = i.copy_limit;
-      queue_limit = i.queue_limit;
-      queue = i.queue;
-      queued = i.queued;
-      empty = tt;
-      ranges = i.ranges;
-      used = i.used;
-      scratch_text = i.scratch_text;
-      scratch_nodes = i.scratch_nodes;
-      matchers = i.matchers;
-      seeking = i.seeking;
-      nodes = i.nodes;
-      idle = i.idle;
-    }
+    moved a pattern a.build a.queue (p.Do 0) (a.number + 1) (a.turns + 1) false i (omega arith) (omega arith) limit (omega arith) refl refl i.queue i.queued tt
 
 -- a cycle was to begin, and began, or the run has ended
 pub begun_falls : (a : Inside) (e : RunState) (pattern : Contents) → run_of a ≡ e → IsConsistent a → e.state.tasks ≡ begin ∷ [] → (a.turns ≡ a.limits.turns → ⊥) →
@@ -310,6 +292,13 @@ ended_falls a e pattern seen at =
     let less : weight (run_of (record a { pattern = pattern; next_step = p.Ended })) < weight (run_of a) = omega arith in
     rw (← seen) less
 
+pub rebegun_falls : (a : Inside) (e : RunState) → run_of a ≡ e → IsConsistent a → e.state.tasks ≡ rebegin ∷ [] → (a.turns ≡ a.limits.turns → ⊥) → weight (run_of (record a { turns = a.turns + 1; next_step = p.Do 0 })) < weight e
+rebegun_falls a e seen i at more =
+    let turns = i.turns in
+    let was : costs (tasks_of a.next_step) ≡ 1 = ap costs (rw (← seen) at at) in
+    let less : weight (run_of (record a { turns = a.turns + 1; next_step = p.Do 0 })) < weight (run_of a) = omega arith in
+    rw (← seen) less
+
 empty_mapped : (p : NextStep) (bytes : List ℕ) (f : ℕ → ℕ) → IsEmptied p bytes → IsEmptied p (map f bytes)
 empty_mapped p.Begin bytes f h = rw h refl
 empty_mapped other bytes f h = tt
@@ -319,3 +308,14 @@ pub mapped_is_run : (a : Inside) (pattern : Contents) (f : ℕ → ℕ) → IsCo
 mapped_is_run a pattern f i is =
     let long : length (map f a.pattern.bytes) ≡ length a.pattern.bytes = length-map a.pattern.bytes f in
     rw is (placed a (record a.pattern { bytes = map f a.pattern.bytes }) a.next_step i refl (rw long i.pattern) (empty_mapped a.next_step a.pattern.bytes f i.empty))
+
+-- The queue was written: turns were taken, and the build space holds what it held or a part of a file.
+pub stopped_flushing : (a : Inside) (build : Contents) (turns : ℕ) → IsConsistent a → build.limit ≡ a.build.limit → a.turns ≤ turns → turns ≤ a.limits.turns → IsConsistent (record a { build = build; turns = turns })
+stopped_flushing a build turns i same later most =
+    let low = i.number in
+    moved a a.pattern build a.queue a.next_step a.number turns a.replaced i (omega (arith, low, later)) most refl i.pattern same refl i.queue i.queued i.empty
+
+pub flushed_is_run : (a : Inside) (build : Contents) (queue : Entries) (turns : ℕ) → IsConsistent a → build.limit ≡ a.build.limit → a.turns ≤ turns → turns ≤ a.limits.turns → queue ≡ record a.queue { items = [] } → IsConsistent (record a { build = build; queue = queue; turns = turns })
+flushed_is_run a build queue turns i same later most is =
+    let low = i.number in
+    rw is (moved a a.pattern build (record a.queue { items = [] }) a.next_step a.number turns a.replaced i (omega (arith, low, later)) most refl i.pattern same refl (omega arith) tt i.empty)

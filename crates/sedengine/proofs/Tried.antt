@@ -1,5 +1,5 @@
 -- The expression that an address or a substitution tries.
-use Rattle.std.proofs.Common.{◌≡◌, ℕ, ◌<◌, Bool, List, length, get_or, Option, Some, None, Result, refl, sym, subst, ap, ◌∙◌}
+use Rattle.std.proofs.Common.{◌≡◌, ℕ, ◌<◌, ◌≤◌, Bool, List, length, get_or, Option, Some, None, Result, refl, sym, subst, ap, ◌∙◌, arith}
 use Rattle.std.specs.Prelude.{option_and_then}
 use Rattle.std.specs.Option.{option_or}
 use Rattle.std.proofs.lemmas.Option.{same_Some, slice_get_read}
@@ -62,3 +62,7 @@ matcher_at ms e m inside is = slice_get_read ms (length ms) e m refl inside is
 pub matchers_kept : (ms : List WrittenExpression) (e : ℕ) (m m' : WrittenExpression) → m ≡ get_or ms e m → m' ≡ m → slice_set ms e m' ≡ ms
 matchers_kept ms e m m' is same =
     rw (same ∙ is) (set-get_or ms e m)
+
+-- there is room to search the pattern space
+pub tried_short : (a : Inside) (k : ℕ) → IsConsistent a → k < length a.script.expressions → length a.pattern.bytes ≤ a.scratch.text
+tried_short a k i inside = let some : 0 < length a.script.expressions = omega (arith, inside) in rw (i.scratch_text some) i.pattern

@@ -5,11 +5,10 @@ use Rattle.std.proofs.lemmas.Option.{slice_get_within}
 use Rattle.std.proofs.Math.Seq.{take-append-add}
 use Rattle.std.proofs.Math.Nat.{suc-add}
 use Rattle.std.specs.Prelude.{slice_get}
-use Rattle.sedengine.specs.DevicesAfter.{FailedSink}
 use Rattle.sedengine.specs.Meters.{Sent, SinkView, FullSink}
 use Rattle.sedengine.specs.Move.{to_sink}
 use Rattle.sedengine.specs.Ends.{named_sink}
-use Rattle.sedengine.specs.Calls.{Puts, Delivers, NoSinkFailed}
+use Rattle.sedengine.specs.Calls.{Puts, Delivers, NoSinkFailed, FailedSink}
 use Rattle.sedengine.specs.declared.ends.Ended.{Ended}
 use Rattle.sedengine.specs.declared.ends.Ended.TheVariants.{OutputBroken, OutputFull}
 use Rattle.sedengine.proofs.Sending.{Sent-append}

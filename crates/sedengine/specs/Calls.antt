@@ -1,10 +1,10 @@
--- Private to the proofs: no contract of a public item cites what stands here.
+-- Private to the proofs: no contract of a public item cites what is here.
 -- What the engine's calls do to the devices that they are given.
-use Rattle.std.specs.Prelude.{◌≡◌, ℕ, ◌<◌, ◌≤◌, max, Option, Some, None, Result, Ok, Err, OnOk, List, [], length, take, slice_get}
+use Rattle.std.specs.Prelude.{◌≡◌, ◌≢◌, ℕ, ◌<◌, ◌≤◌, max, Option, Some, None, Result, Ok, Err, OnOk, List, [], length, take, slice_get}
 use Rattle.std.specs.Borrow.{GName}
 use Rattle.sedspace.specs.Stream.{Stream}
-use Rattle.sedspace.specs.Lines.{TakesAtMost}
-use Rattle.sedengine.specs.DevicesAfter.{FailedSink}
+use Rattle.sedspace.specs.Reading.{TakesAtMost}
+use Rattle.sedspace.specs.Failures.{Rose}
 use Rattle.sedengine.specs.Run.{FailedSource}
 use Rattle.sedengine.specs.Ends.{named_sink}
 use Rattle.sedengine.specs.Meters.{Sent, SinkView, FullSink}
@@ -29,7 +29,12 @@ abbrev pub end_of : Result Unit Cut → Result Unit Ended
 end_of (Ok u) = Ok tt
 end_of (Err cut) = Err cut.end
 
--- What a call that may write does to the sinks: only what they hold, their failures and the counts change; a sink has failed
+-- A sink that an answer names as broken has failed, and no other.
+abbrev pub FailedSink : (ℕ → ℕ) → (ℕ → ℕ) → Result Unit Ended → Type 0
+FailedSink old new (Err (OutputBroken k)) = Rose (old k) (new k) × ((j : ℕ) → j ≢ k → new j ≡ old j)
+FailedSink old new other = (k : ℕ) → new k ≡ old k
+
+-- What a call that may write does to the sinks: only what they contain, their failures and the counts change; a sink has failed
 -- only where the answer names it, and one that it names as full has gained exactly the limit.
 pub record Delivers {O : Type 0} (tally : O → SinkView) (count : O → ℕ) (old new : O) (result : Result Unit Ended) : Type 0 where
   pub same_count : count new ≡ count old
@@ -43,12 +48,12 @@ pub record DeliversAlone {O : Type 0} (tally : O → SinkView) (count : O → �
   pub output : Delivers tally count old new result
   pub input : result ≡ Err InputBroken → ⊥
 
--- What a call that may read does to the lines. What it says of faults holds for lines that answered no fault before.
+-- What a call that may read does to the lines. What it says of faults applies to lines that answered no fault before.
 pub record ReadsLines {R T : Type 0} (remaining : R → Option (List ℕ)) (failures : R → ℕ) (reference : R → List GName)
     (old new : Stream R) (result : Result T Ended) : Type 0 where
-  pub same_look : new.look ≡ old.look
+  pub same_read_ahead : new.read_ahead ≡ old.read_ahead
   pub same_reference : reference new.source ≡ reference old.source
-  pub ahead : length new.ahead ≤ max (length old.ahead) old.look
+  pub ahead : length new.ahead ≤ max (length old.ahead) old.read_ahead
   pub shrinks : (n : ℕ) × TakesAtMost (remaining old.source) (remaining new.source) n
   pub sound : OnOk result (old.fault ≡ None → new.fault ≡ None)
   pub failed : old.fault ≡ None → FailedSource (failures old.source) (failures new.source) result

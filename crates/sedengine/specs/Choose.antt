@@ -1,10 +1,15 @@
--- Private to the proofs: no contract of a public item cites what stands here.
+-- Private to the proofs: no contract of a public item cites what is here.
 -- How addresses are judged: one address decides at a line, and the choice follows from whether it matches.
-use Rattle.std.specs.Prelude.{◌≡◌, ℕ, ◌+◌, Bool, true, false, not, Option, Some, None, List, [], ◌∷◌, nat_lt, nat_le, nat_eq, slice_index_or, slice_set, ◌||◌, Result, Ok, Err, if◌then◌else◌}
+use Rattle.std.specs.Prelude.{◌≡◌, ℕ, ◌+◌, Bool, true, false, not, Option, Some, None, List, [], ◌∷◌, nat_lt, nat_le, nat_eq, slice_index_or, slice_set, ◌||◌, Result, Ok, Err, OnErr, if◌then◌else◌}
+use Rattle.std.specs.Option.{ForSome}
+use Rattle.std.specs.Borrow.{GName}
+use Rattle.sedspace.specs.Stream.{Stream, lines_left}
+use Rattle.sedengine.specs.Calls.{NamesNone, ReadsAlone}
 use Rattle.sedengine.specs.Types.{Address, Line, Last, Match, Command, Ended, NoPrevious, InputBroken}
 use Rattle.sedengine.specs.Select.{Current, AddressAnswer, Selection, answer, ends_at_once, selects}
 use Rattle.sedengine.specs.State.{do_at, Move, Setting, State, finds_in}
-use Rattle.sedengine.specs.Move.{acts, passes, reached, writes_text_at}
+use Rattle.sedengine.specs.Move.{acts, none_left, passes, reached, writes_text_at}
+use Rattle.sedengine.specs.Steps.{TakesLines}
 use Rattle.sedengine.specs.Ends.{is_dollar}
 use Rattle.sedengine.specs.Run.{RunState}
 use Rattle.sedengine.specs.declared.select.Chosen.{Chosen}
@@ -43,7 +48,7 @@ choice_by_match first second active number matched = record { yes = matched; end
 abbrev pub turned : Bool → Chosen → Chosen
 turned negate c = record c { yes = if negate then not c.yes else c.yes }
 
--- Whether a command applies, if it has no address or one that is a line number: the line number alone tells.
+-- Whether a command applies, if it has no address or one that is a line number: the line number alone decides.
 abbrev pub yes_by_number : Option Address → Option Address → Bool → ℕ → Option Bool
 yes_by_number None second negate number = Some (if negate then false else true)
 yes_by_number (Some (Line n)) None negate number = Some (if negate then not (nat_eq n number) else nat_eq n number)
@@ -120,3 +125,41 @@ abbrev pub TellsLine : Bool → Result Bool Ended → Type 0
 TellsLine last (Ok told) = told ≡ last
 TellsLine last (Err InputBroken) = Unit {0}
 TellsLine last (Err _) = ⊥
+
+-- What a call does that may read, but takes no line and writes nothing.
+pub record ReadsNoLine {R T : Type 0} (remaining : R → Option (List ℕ)) (failures : R → ℕ) (reference : R → List GName)
+    (old new : Stream R) (result : Result T Ended) : Type 0 where
+  pub left : ForSome (lines_left remaining old) (λ ls. TakesLines remaining old new ls ls)
+  pub alone : ReadsAlone remaining failures reference old new result
+
+-- What a call answers that asks whether the line given last was the last one.
+pub record AsksLast {R : Type 0} (remaining : R → Option (List ℕ)) (failures : R → ℕ) (reference : R → List GName)
+    (lines lines' : Stream R) (result : Result Bool Ended) : Type 0 where
+  pub last : lines.fault ≡ None → ForSome (lines_left remaining lines) (λ ls. TellsLine (none_left ls) result)
+  pub reads : ReadsNoLine remaining failures reference lines lines' result
+
+-- What a call answers that seeks an expression, or the one last used, in the pattern space. Where an end comes the engine stays.
+pub record SeeksMatch (named : Option ℕ) (old new : RunState) (result : Result Bool Ended) : Type 0 where
+  pub answers : (last : Bool) →
+      Answers (current_in old last) (answer (current_in old last) (Match named)) new.state.used false result
+  pub devices : NamesNone result
+  pub same : new ≡ with_used old new.state.used
+  pub err : OnErr result (new ≡ old)
+
+-- The same of one that judges the address that decides, if one does.
+pub record JudgesDeciding {R : Type 0} (remaining : R → Option (List ℕ)) (failures : R → ℕ) (reference : R → List GName)
+    (address : Option Address) (old new : RunState) (lines lines' : Stream R) (result : Result Bool Ended) : Type 0 where
+  pub answers : lines.fault ≡ None → ForSome (lines_left remaining lines) (λ ls.
+      Answers (current_in old (none_left ls)) (decides (current_in old (none_left ls)) address) new.state.used
+      (is_dollar address) result)
+  pub reads : ReadsNoLine remaining failures reference lines lines' result
+  pub same : new ≡ with_used old new.state.used
+  pub err : OnErr result (new ≡ old)
+
+-- What a call answers that judges all addresses of command k, and reaches it.
+pub record JudgesCommand {R : Type 0} (remaining : R → Option (List ℕ)) (failures : R → ℕ) (reference : R → List GName)
+    (k : ℕ) (command : Command) (old new : RunState) (lines lines' : Stream R) (result : Result Chosen Ended) : Type 0 where
+  pub judges : lines.fault ≡ None → ForSome (lines_left remaining lines) (λ ls.
+      Judges (current_in old (none_left ls)) (is_active old.state k) command new.state.used result)
+  pub reads : ReadsNoLine remaining failures reference lines lines' result
+  pub reaches : JudgesAddresses old new k result

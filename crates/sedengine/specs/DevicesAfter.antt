@@ -1,26 +1,21 @@
 -- What a run leaves of its devices: which sinks have failed, and how much of the input was taken (this project's own).
-use Rattle.std.specs.Prelude.{◌≡◌, ◌≢◌, ℕ, ◌+◌, Option, None, Result, Err, List, ◌++◌}
-use Rattle.sedspace.specs.Failures.{Rose}
-use Rattle.sedengine.specs.Types.{Ended, InputBroken, OutputBroken, OutputFull, PatternFull}
-use Rattle.sedspace.specs.Lines.{TakesAtMost}
+use Rattle.std.specs.Prelude.{◌≡◌, ◌≢◌, ℕ, ◌+◌, Option, Result, Ok, Err, List, ◌++◌}
+use Rattle.sedengine.specs.Types.{Ended, InputBroken, OutputBroken, PatternFull}
+use Rattle.sedspace.specs.Reading.{TakesAtMost}
 use Rattle.sedengine.specs.State.{State, Setting, Limits}
 use Rattle.sedengine.specs.Move.{after}
-use Rattle.sedengine.specs.Ends.{size_of}
+use Rattle.sedengine.specs.Ends.{size_of, SinkAtEnd}
 
--- there is a limit on what each sink gains, where an end names one as full
-abbrev pub LimitIsSet : Option ℕ → Result Unit Ended → Type 0
-LimitIsSet most (Err (OutputFull k)) = most ≢ None
-LimitIsSet most other = Unit {0}
+-- No other sink has failed than one that an end names as broken.
+abbrev pub OthersStay : (ℕ → ℕ) → (ℕ → ℕ) → Ended → Type 0
+OthersStay old new (OutputBroken k) = (j : ℕ) → j ≢ k → new j ≡ old j
+OthersStay old new other = (k : ℕ) → new k ≡ old k
 
--- A sink that an end names as broken has failed, and no other; where the run goes on, and at any other end, none has.
-abbrev pub FailedSink : (ℕ → ℕ) → (ℕ → ℕ) → Result Unit Ended → Type 0
-FailedSink old new (Err (OutputBroken k)) = Rose (old k) (new k) × ((j : ℕ) → j ≢ k → new j ≡ old j)
-FailedSink old new other = (k : ℕ) → new k ≡ old k
-
--- What an end says of the sinks, whether they tell their bytes or not: the one that it names as broken has failed, and no
--- other; and one is named as full only where there is a limit.
+-- What is so of the sinks, whether their bytes are known or not: none has failed where the run goes on, and at an end that which
+-- it names as broken alone; and one is named as full only where there is a limit.
 abbrev pub SinksAtEnd : Option ℕ → (ℕ → ℕ) → (ℕ → ℕ) → Result Unit Ended → Type 0
-SinksAtEnd most old new r = FailedSink old new r × LimitIsSet most r
+SinksAtEnd most old new (Ok u) = (k : ℕ) → new k ≡ old k
+SinksAtEnd most old new (Err end) = SinkAtEnd most old new end × OthersStay old new end
 
 -- There are as many sinks as before, and the files among them have the same names.
 abbrev pub SameSinks : {O : Type 0} → (O → ℕ) → (O → List (List ℕ)) → O → O → Type 0

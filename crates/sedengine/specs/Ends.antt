@@ -19,7 +19,7 @@ part k ((sink, byte) ∷ out) = if nat_eq sink k then byte ∷ part k out else p
 pub record Gained (old new : ℕ → Option (List ℕ)) (out : List (ℕ × ℕ)) : Type 0 where
   pub each : (k : ℕ) → Appends (old k) (new k) (part k out)
 
--- a sink that an end names as full has gained exactly the limit; `before` tells what each had gained already
+-- a sink that an end names as full has gained exactly the limit; `before` gives what each had gained already
 abbrev pub FillsSink : Option ℕ → (ℕ → ℕ) → List (ℕ × ℕ) → Result Unit Ended → Type 0
 FillsSink most before out (Err (OutputFull k)) = most ≡ Some (before k + length (part k out))
 FillsSink most before out other = Unit {0}
@@ -35,6 +35,12 @@ pub record GainedWithin (most : Option ℕ) (before : ℕ → ℕ) (old new : �
 abbrev pub SourceAtEnd : ℕ → ℕ → Ended → Type 0
 SourceAtEnd old new InputBroken = Rose old new
 SourceAtEnd old new other = new ≡ old
+
+-- A sink that an end names as broken has failed, and one is named as full only where there is a limit on the output.
+abbrev pub SinkAtEnd : Option ℕ → (ℕ → ℕ) → (ℕ → ℕ) → Ended → Type 0
+SinkAtEnd most old new (OutputBroken k) = Rose (old k) (new k)
+SinkAtEnd most old new (OutputFull k) = most ≢ None
+SinkAtEnd most old new other = Unit {0}
 
 -- a state within the limits
 pub record WithinLimits (l : Limits) (s : State) : Type 0 where
@@ -61,7 +67,7 @@ is_next other = false
 abbrev pub asks_last : Command → Bool
 asks_last c = is_dollar c.first || is_dollar c.second || is_next c.action
 
--- whether the first task may look at the input: it fetches a line, or reaches a command with an address `$` or an `n`
+-- whether the first task may read the input: it fetches a line, or reaches a command with an address `$` or an `n`
 abbrev pub reads : Setting → List Task → Bool
 reads g (begin ∷ rest) = true
 reads g (fetch ∷ rest) = true
@@ -80,22 +86,22 @@ named_sink (OutputFull k) = Some k
 named_sink other = None
 
 -- The cause of an end that names no sink, at the state where it comes; `BrokenOff` is that of a broken or a full output.
-abbrev pub IsCause : Limits → Setting → State → Ended → Type 0
-IsCause l g s Done = s.tasks ≡ []
-IsCause l g s (PatternFull n) = LeadsTo l g s n (λ now. l.space < length now.pattern)
-IsCause l g s (HoldFull n) = LeadsTo l g s n (λ now. l.space < length now.hold)
-IsCause l g s (QueueFull n) = LeadsTo l g s n (λ now. l.queue < length now.queue)
-IsCause l g s TurnsSpent =
+abbrev pub StopsAt : Limits → Setting → State → Ended → Type 0
+StopsAt l g s Done = s.tasks ≡ []
+StopsAt l g s (PatternFull n) = LeadsTo l g s n (λ now. l.space < length now.pattern)
+StopsAt l g s (HoldFull n) = LeadsTo l g s n (λ now. l.space < length now.hold)
+StopsAt l g s (QueueFull n) = LeadsTo l g s n (λ now. l.queue < length now.queue)
+StopsAt l g s TurnsSpent =
     (s.turns ≡ l.turns) × (s.tasks ≢ []) × ((m : Move) → next_move g s ≡ Some m → l.turns < m.next.turns)
-IsCause l g s (NoPrevious n) = (n ≡ s.number) × (s.turns < l.turns) × (s.tasks ≢ []) × (next_move g s ≡ None)
-IsCause l g s InputBroken = reads g s.tasks ≡ true
-IsCause l g s other = ⊥
+StopsAt l g s (NoPrevious n) = (n ≡ s.number) × (s.turns < l.turns) × (s.tasks ≢ []) × (next_move g s ≡ None)
+StopsAt l g s InputBroken = reads g s.tasks ≡ true
+StopsAt l g s other = ⊥
 
 -- The end comes after t moves, and the output is all that these moves write.
 pub record Whole (l : Limits) (g : Setting) (s : State) (out : List (ℕ × ℕ)) (end : Ended) (t : ℕ) : Type 0 where
   pub within : Within l g s t
   pub wrote : written g s t ≡ out
-  pub cause : IsCause l g (after g s t) end
+  pub cause : StopsAt l g (after g s t) end
 
 -- The end comes in the next move, and names sink k. The output is the first b of the bytes, and the next one is for it.
 pub record BrokenOff (l : Limits) (g : Setting) (s : State) (out : List (ℕ × ℕ)) (k : ℕ) (t : ℕ) : Type 0 where
@@ -107,15 +113,15 @@ pub record BrokenOff (l : Limits) (g : Setting) (s : State) (out : List (ℕ × 
   pub wrote : take b (written g s (suc t)) ≡ out
 
 -- The end has its cause after t moves from the state s, and `out` is the output till then: the bytes, each with its sink.
-abbrev pub Cause : Limits → Setting → State → List (ℕ × ℕ) → Ended → ℕ → Type 0
-Cause l g s out end t = MatchOption (named_sink end) (Whole l g s out end t) (λ k. BrokenOff l g s out k t)
+abbrev pub IsCause : Limits → Setting → State → List (ℕ × ℕ) → Ended → ℕ → Type 0
+IsCause l g s out end t = MatchOption (named_sink end) (Whole l g s out end t) (λ k. BrokenOff l g s out k t)
 
 -- the bytes of lines, a newline counted with each
 abbrev pub size_of : List (List ℕ) → ℕ
 size_of [] = 0
 size_of (line ∷ lines) = length line + 1 + size_of lines
 
--- known bytes lose at most n + m from the front, and of these what comes after the first n holds no newline
+-- known bytes lose at most n + m from the front, and of these what comes after the first n contains no newline
 abbrev pub LosesPartAfter : Option (List ℕ) → Option (List ℕ) → ℕ → ℕ → Type 0
 LosesPartAfter None new n m = ⊤
 LosesPartAfter (Some xs) None n m = ⊥

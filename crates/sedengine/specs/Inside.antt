@@ -1,4 +1,4 @@
--- Private to the proofs: no contract of a public item cites what stands here.
+-- Private to the proofs: no contract of a public item cites what is here.
 -- The fields of the machine, and what they stand for.
 use Rattle.std.specs.Prelude.{◌≡◌, ℕ, ◌<◌, ◌≤◌, Bool, true, false, Option, Some, None, List, [], ◌∷◌, length, map, slice_get, IfSome}
 use Rattle.std.specs.Option.{unwrap_or}
@@ -9,7 +9,7 @@ use Rattle.sedscript.specs.declared.types.FileUse.TheVariants.{Read}
 use Rattle.sedscript.specs.declared.types.Simple.TheVariants as simple
 use Rattle.sedscript.specs.Ranges.{IsOneOf}
 use Rattle.sedscript.specs.Program.{Program}
-use Rattle.sedengine.specs.State.{Entry, text, file, Task, begin, rebegin, do_at, print_pattern, flush}
+use Rattle.sedengine.specs.State.{Entry, text_entry, file_entry, Task, begin, rebegin, do_at, print_pattern, flush}
 use Rattle.sedengine.specs.Run.{RunState}
 use Rattle.sedengine.specs.Fitting.{AllFit, RoomToSeek, Seek}
 use Rattle.sedengine.specs.Passing.{IsIdleOf}
@@ -17,7 +17,7 @@ use Rattle.sedengine.specs.declared.next_step.NextStep.{NextStep}
 use Rattle.sedengine.specs.declared.next_step.NextStep.TheVariants as p
 use Rattle.sedengine.specs.declared.machine.Machine.TheInside.{Inside}
 
--- the tasks that a place stands for
+-- the tasks that a next step stands for
 abbrev pub tasks_of : NextStep → List Task
 tasks_of p.Begin = begin ∷ []
 tasks_of p.Rebegin = rebegin ∷ []
@@ -27,12 +27,12 @@ tasks_of p.Ended = []
 
 -- the entry of an action that puts one into the queue: a text or a file
 abbrev pub entry_for : List (List ℕ) → Action → Entry
-entry_for texts (Text t k) = text (unwrap_or (slice_get texts k) [])
-entry_for texts (File u k) = file k
-entry_for texts other = text []
+entry_for texts (Text t k) = text_entry (unwrap_or (slice_get texts k) [])
+entry_for texts (File u k) = file_entry k
+entry_for texts other = text_entry []
 
 abbrev pub entry_by : List (List ℕ) → Option Command → Entry
-entry_by texts None = text []
+entry_by texts None = text_entry []
 entry_by texts (Some c) = entry_for texts c.action
 
 -- the entries that commands of these numbers put into the queue

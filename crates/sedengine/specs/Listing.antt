@@ -2,24 +2,24 @@
 use Rattle.std.specs.Prelude.{ℕ, ◌+◌, ◌/◌, ◌%◌, List, [], ◌∷◌, ◌++◌, length, nat_lt, nat_le, ◌==◌, ◌&&◌, if◌then◌else◌}
 
 -- a backslash and a byte
-abbrev pub escape : ℕ → List ℕ
-escape b = 92 ∷ b ∷ []
+abbrev pub backslashed : ℕ → List ℕ
+backslashed b = 92 ∷ b ∷ []
 
 -- "one three-digit octal number (with a preceding <backslash>)"
 abbrev pub octal : ℕ → List ℕ
 octal b = 92 ∷ (48 + b / 64) ∷ (48 + b / 8 % 8) ∷ (48 + b % 8) ∷ []
 
 -- the escapes \\ \a \b \f \r \t \v of XBD 5, \n for a newline (this project's own), printable bytes as they are, others octal
-abbrev pub item : ℕ → List ℕ
-item b =
-    if b == 92 then escape 92
-    else if b == 7 then escape 97
-    else if b == 8 then escape 98
-    else if b == 12 then escape 102
-    else if b == 13 then escape 114
-    else if b == 9 then escape 116
-    else if b == 11 then escape 118
-    else if b == 10 then escape 110
+abbrev pub listed_byte : ℕ → List ℕ
+listed_byte b =
+    if b == 92 then backslashed 92
+    else if b == 7 then backslashed 97
+    else if b == 8 then backslashed 98
+    else if b == 12 then backslashed 102
+    else if b == 13 then backslashed 114
+    else if b == 9 then backslashed 116
+    else if b == 11 then backslashed 118
+    else if b == 10 then backslashed 110
     else if nat_le 32 b && nat_le b 126 then b ∷ []
     else octal b
 
@@ -33,9 +33,9 @@ most_listed = 69
 abbrev pub listed_from : ℕ → List ℕ → List ℕ
 listed_from column [] = 36 ∷ 10 ∷ []
 listed_from column (b ∷ bs) =
-    if nat_lt most_listed (column + length (item b))
-    then 92 ∷ 10 ∷ item b ++ listed_from (length (item b)) bs
-    else item b ++ listed_from (column + length (item b)) bs
+    if nat_lt most_listed (column + length (listed_byte b))
+    then 92 ∷ 10 ∷ listed_byte b ++ listed_from (length (listed_byte b)) bs
+    else listed_byte b ++ listed_from (column + length (listed_byte b)) bs
 
 -- the listing of a text
 unfoldable pub listed : List ℕ → List ℕ

@@ -1,9 +1,9 @@
--- Private to the proofs: no contract of a public item cites what stands here.
+-- Private to the proofs: no contract of a public item cites what is here.
 -- A listing in the making, and what the calls that make it promise one another.
 use Rattle.std.specs.Prelude.{◌≡◌, ℕ, ◌+◌, List, [], ◌∷◌, ◌++◌, Bool, length, nat_lt, nat_le, not, ◌==◌, ◌&&◌, if◌then◌else◌}
 use Rattle.sedengine.specs.Meters.{Sent, SinkView}
 use Rattle.sedengine.specs.Move.{to_sink}
-use Rattle.sedengine.specs.Listing.{item, listed, listed_from, most_listed}
+use Rattle.sedengine.specs.Listing.{listed_byte, listed, listed_from, most_listed}
 
 -- the bytes of a listing that are to be written, and how many bytes the current piece has
 pub record Listing : Type 0 where
@@ -17,7 +17,7 @@ plain b = nat_le 32 b && nat_le b 126 && not (b == 92)
 -- bytes that are listed as they are
 abbrev pub ArePlain : List ℕ → Type 0
 ArePlain [] = Unit {0}
-ArePlain (b ∷ bs) = (item b ≡ b ∷ []) × ArePlain bs
+ArePlain (b ∷ bs) = (listed_byte b ≡ b ∷ []) × ArePlain bs
 
 -- a listing goes on with bytes that need no fold
 abbrev pub with_run : Listing → List ℕ → Listing

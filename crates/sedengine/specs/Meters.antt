@@ -1,4 +1,4 @@
--- Private to the proofs: no contract of a public item cites what stands here.
+-- Private to the proofs: no contract of a public item cites what is here.
 -- The sinks as its calls write to them, each counted where a limit is set.
 use Rattle.std.specs.Prelude.{◌≡◌, ℕ, ◌+◌, ◌≤◌, Option, Some, None, Result, Err, List, length, get_or}
 use Rattle.std.specs.List.{All}
@@ -46,7 +46,7 @@ pub record Frame : Type 0 where
   pub names : List (List ℕ)
   pub references : GName × GName
 
--- the sinks: what each holds, where it tells, how often it failed, and how many bytes it has gained since the engine was
+-- the sinks: what each has, where that is known, how often it failed, and how many bytes it has gained since the engine was
 -- opened, where they are counted
 pub record SinkView : Type 0 where
   pub contents : ℕ → Option (List ℕ)

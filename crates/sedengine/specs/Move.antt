@@ -12,7 +12,7 @@ use Rattle.sedscript.specs.declared.types.Simple.TheVariants as simple
 use Rattle.sedengine.specs.Select.{◌>>=◌, Current, Selection, selects, stands_for}
 use Rattle.sedengine.specs.Listing.{listed}
 use Rattle.sedengine.specs.Substitute.{Occurrence, occurrences, to_replace, replaced_from}
-use Rattle.sedengine.specs.State.{Entry, text, file, Task, begin, rebegin, do_at, print_pattern, empty_pattern, flush, copy, fetch, join, State, Move, Setting}
+use Rattle.sedengine.specs.State.{Entry, text_entry, file_entry, Task, begin, rebegin, do_at, print_pattern, empty_pattern, flush, copy, fetch, join, State, Move, Setting}
 
 abbrev pub newline : ℕ
 newline = 10
@@ -49,8 +49,8 @@ begins s (line ∷ rest) = quietly (then_do (do_at 0 ∷ []) (record (with_line 
 -- the queue is written in the order in which its entries were made
 abbrev pub flushes : State → List Task → List Entry → Option Move
 flushes s rest [] = quietly (then_do rest s)
-flushes s rest (text bytes ∷ queue) = writing (line_to 0 bytes) (record s { queue = queue; tasks = flush ∷ rest })
-flushes s rest (file k ∷ queue) = quietly (record s { queue = queue; tasks = copy k 0 ∷ flush ∷ rest })
+flushes s rest (text_entry bytes ∷ queue) = writing (line_to 0 bytes) (record s { queue = queue; tasks = flush ∷ rest })
+flushes s rest (file_entry k ∷ queue) = quietly (record s { queue = queue; tasks = copy k 0 ∷ flush ∷ rest })
 
 -- A file's bytes, with no newline added; where it can't be read, or no further, those read till then (this project's own).
 abbrev pub copies : State → List Task → ℕ → ℕ → Option ℕ → Option Move
@@ -77,7 +77,7 @@ substitutes g s (Some t) = do
   e ← stands_for t.expression s.used
   replaces (record s { used = Some e }) t (to_replace t.number t.global (occurrences (g.search e s.pattern) (length s.pattern)))
 
--- the byte that stands in a table for a byte
+-- the byte that a table has for a byte
 abbrev pub in_table : Option (List ℕ) → ℕ → ℕ
 in_table table b = slice_index_or (unwrap_or table []) b b
 
@@ -92,7 +92,7 @@ abbrev pub acts : Setting → State → Bool → Action → Option Move
 -- `{`: "Execute a list of sed editing commands only when the pattern space is selected", so they come next
 acts g s writes_text (Block next) = quietly s
 -- `a`: "Write text to standard output as described previously": it waits in the queue
-acts g s writes_text (Text Append k) = quietly (record s { queue = s.queue ++ text (unwrap_or (slice_get g.texts k) []) ∷ [] })
+acts g s writes_text (Text Append k) = quietly (record s { queue = s.queue ++ text_entry (unwrap_or (slice_get g.texts k) []) ∷ [] })
 -- `b`: "Branch to the ':' command verb bearing the label"
 acts g s writes_text (Branch Always target) = quietly (then_do (do_at target ∷ []) s)
 -- `c`: "Delete the pattern space. With a 0 or 1 address or at the end of a 2-address range, place text on the output
@@ -143,7 +143,7 @@ acts g s writes_text (Plain simple.PrintFirst) = writing (line_to 0 (before_firs
 -- `q`: "Branch to the end of the script and quit without starting a new cycle."
 acts g s writes_text (Plain simple.Quit) = quietly (then_do (print_pattern ∷ flush ∷ []) s)
 -- `r`: "Copy the contents of rfile to standard output as described previously": its entry waits in the queue
-acts g s writes_text (File Read k) = quietly (record s { queue = s.queue ++ file k ∷ [] })
+acts g s writes_text (File Read k) = quietly (record s { queue = s.queue ++ file_entry k ∷ [] })
 -- `s`: "Substitute the replacement string for instances of the BRE in the pattern space."
 acts g s writes_text (Substitute k) = substitutes g s (slice_get g.substitutions k)
 -- `t`: "Branch to the ':' command verb bearing the label if any substitutions have been made since the most recent reading

@@ -1,9 +1,10 @@
--- Private to the proofs: no contract of a public item cites what stands here.
+-- Private to the proofs: no contract of a public item cites what is here.
 -- Lines that no command of a script touches.
-use Rattle.std.specs.Prelude.{◌≡◌, ℕ, zero, suc, ◌+◌, ◌*◌, ◌<◌, ◌≤◌, ◌⊎◌, Bool, true, false, Option, Some, None, Result, Ok, Err, List, [], ◌∷◌, ◌++◌, length, take, is_some, slice_get, slice_index_or, nat_eq, if◌then◌else◌}
+use Rattle.std.specs.Prelude.{◌≡◌, ℕ, zero, suc, ◌+◌, ◌*◌, ◌<◌, ◌≤◌, ◌⊎◌, Bool, true, false, Option, Some, None, Result, Ok, Err, OnOk, List, [], ◌∷◌, ◌++◌, length, take, is_some, slice_get, slice_index_or, nat_eq, if◌then◌else◌}
 use Rattle.std.specs.List.{All, Contains}
-use Rattle.std.specs.Option.{option_or, option_map}
-use Rattle.sedspace.specs.Stream.{Stream, left, AreWholeLines}
+use Rattle.std.specs.Option.{ForSome, option_or, option_map}
+use Rattle.std.specs.Borrow.{GName}
+use Rattle.sedspace.specs.Stream.{Stream, left, lines_left, AreWholeLines}
 use Rattle.sedengine.specs.Types.{Address, Line, Last, Match, Command, Action, Substitution, Ended}
 use Rattle.sedscript.specs.declared.types.Action.TheVariants.{Block, Branch, Substitute}
 use Rattle.sedscript.specs.declared.types.BranchUse.TheVariants.{Always}
@@ -13,13 +14,13 @@ use Rattle.sedre.specs.Tree.{WrittenExpression}
 use Rattle.sedspace.specs.Lines.{lines, HasNoNewline}
 use Rattle.sedengine.specs.State.{Limits, begin, do_at, State, Setting, finds_in}
 use Rattle.sedengine.specs.Move.{after, newline, none_left, to_sink, written}
-use Rattle.sedengine.specs.Calls.{WritesPart}
+use Rattle.sedengine.specs.Calls.{Delivers, ReadsLines, WritesPart}
 use Rattle.sedengine.specs.Meters.{Sent, SinkView}
 use Rattle.sedengine.specs.declared.meter.Cut.{Cut}
-use Rattle.sedengine.specs.Ends.{Cause, WithinLimits, Within, named_sink, LosesPartAfter, size_of}
+use Rattle.sedengine.specs.Ends.{IsCause, WithinLimits, Within, named_sink, LosesPartAfter, size_of}
 use Rattle.sedengine.specs.Held.{HoldsAt}
-use Rattle.sedengine.specs.Run.{RunState, at_lines, lost}
-use Rattle.sedengine.specs.Steps.{at_end, TakesLines}
+use Rattle.sedengine.specs.Run.{RunState, SameRun, at_lines, lost, run_setting}
+use Rattle.sedengine.specs.Steps.{at_end, TakesLines, weight}
 use Rattle.sedengine.specs.declared.idle.Need.{Need}
 use Rattle.sedengine.specs.declared.idle.Need.TheVariants.{NoMatch, OtherNumber, NotLast, Nothing}
 use Rattle.sedengine.specs.declared.idle.Idle.{Idle}
@@ -190,7 +191,7 @@ abbrev pub bytes_of : List (List ℕ) → List ℕ
 bytes_of [] = []
 bytes_of (line ∷ lines) = line ++ newline ∷ bytes_of lines
 
--- a line that stands in these bytes, with its newline
+-- a line that occurs in these bytes, with its newline
 pub record IsLineOf (line all : List ℕ) : Type 0 where
   pub before : List ℕ
   pub behind : List ℕ
@@ -257,7 +258,7 @@ pub record StoppedPassing (l : Limits) (g : Setting) (s now : State) (old new : 
   pub t : ℕ
   pub out : List (ℕ × ℕ)
   pub sinks : Sent old new out
-  pub cause : Cause l g s out end t
+  pub cause : IsCause l g s out end t
   pub holds : HoldsAt g s t now (named_sink end)
   pub lines : (after g s t).lines ≡ now.lines
 
@@ -276,6 +277,18 @@ abbrev pub StepsPassing : {R : Type 0} → (R → Option (List ℕ)) → Stream 
 StepsPassing remaining old new ls l g s e' sinks sinks' (Ok u) =
     (rest : List (List ℕ)) × TakesLines remaining old new ls rest × MovesLedTo l g s (at_lines e' rest) sinks sinks'
 StepsPassing remaining old new ls l g s e' sinks sinks' (Err end) = HaltedPassing remaining old new l g s e' sinks sinks' end
+
+-- What a call answers that passes over the first of the lines ahead, where no command touches them. There is no more to do then.
+pub record PassesLines {R O : Type 0} (remaining : R → Option (List ℕ)) (failures : R → ℕ) (reference : R → List GName)
+    (tally : O → SinkView) (count : O → ℕ) (old new : RunState) (lines lines' : Stream R) (outputs outputs' : O)
+    (result : Result Unit Ended) : Type 0 where
+  pub steps : ForSome (lines_left remaining lines) (λ ls. (files : ℕ → List ℕ) →
+      StepsPassing remaining lines lines' ls old.limits (run_setting old files) (at_lines old ls) new
+      (tally outputs) (tally outputs') result)
+  pub input : ReadsLines remaining failures reference lines lines' result
+  pub output : Delivers tally count outputs outputs' result
+  pub falls : OnOk result (weight new ≤ weight old)
+  pub same : SameRun old new
 
 -- the first lines of a block, at most so many
 pub record IsExtent (bytes : List ℕ) (most : ℕ) (x : Extent) : Type 0 where
@@ -345,7 +358,7 @@ pub record BreaksOff {R : Type 0} (old new : Stream R) (e e' : RunState) (done :
 abbrev pub BreaksOffBy : {R : Type 0} → Stream R → Stream R → RunState → RunState → ℕ → ℕ → Type 0
 BreaksOffBy old new e e' done bytes = (x : BreaksOff old new e e' done) × (x.start + length x.line < bytes)
 
--- So many lines may be passed over, if no command touches them for what they hold.
+-- So many lines may be passed over, if no command touches them for what they contain.
 pub record AllowsLines (e : RunState) (c most : ℕ) : Type 0 where
   pub none : e.state.queue ≡ []
   pub ranges : RangesIdle e.script.commands c e.state.ranges

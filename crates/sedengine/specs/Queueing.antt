@@ -1,8 +1,16 @@
--- Private to the proofs: no contract of a public item cites what stands here.
+-- Private to the proofs: no contract of a public item cites what is here.
 -- What the engine's calls for the queue promise one another.
-use Rattle.std.specs.Prelude.{◌≡◌, ℕ, ◌<◌, Result, Ok, Err, [], ◌∷◌, ◌++◌, length}
-use Rattle.sedengine.specs.State.{Entry, State}
-use Rattle.sedengine.specs.Run.{RunState}
+use Rattle.std.specs.Prelude.{◌≡◌, ℕ, ◌<◌, ◌≤◌, ◌+◌, Option, Result, Ok, Err, OnOk, OnErr, List, [], ◌∷◌, ◌++◌, length}
+use Rattle.std.specs.Io.KnownBytes.{Keeps}
+use Rattle.sedspace.specs.Spaces.{Contents}
+use Rattle.sedengine.specs.State.{Entry, Task, flush, State, TellsFiles}
+use Rattle.sedengine.specs.Meters.{SinkView}
+use Rattle.sedengine.specs.Move.{then_do}
+use Rattle.sedengine.specs.Calls.{DeliversAlone}
+use Rattle.sedengine.specs.Run.{RunState, at_lines, run_setting}
+use Rattle.sedengine.specs.Steps.{LeavesGiven, Moves, weight}
+use Rattle.sedengine.specs.Inside.{tasks_of}
+use Rattle.sedengine.specs.declared.next_step.NextStep.{NextStep}
 use Rattle.sedengine.specs.Types.{Ended, QueueFull}
 
 -- the state with a further entry in its queue
@@ -27,3 +35,36 @@ with_turns e turns = record e { state = record e.state { turns = turns } }
 -- the engine whose queue was written, after so many turns
 abbrev pub flushed : RunState → ℕ → RunState
 flushed e turns = record e { state = record e.state { queue = []; turns = turns } }
+
+-- How a call that writes the queue, or an entry of it, leaves what it was given, besides its moves. It takes turns, and no more
+-- than `most` are taken then.
+pub record LeavesFlushed {O T : Type 0} (tally : O → SinkView) (count : O → ℕ) (text : T → ℕ → Option (List ℕ))
+    (most turns turns' : ℕ) (build build' : Contents) (outputs outputs' : O) (texts texts' : T) (result : Result Unit Ended) :
+    Type 0 where
+  pub devices : DeliversAlone tally count outputs outputs' result
+  pub limit : build'.limit ≡ build.limit
+  pub later : turns ≤ turns'
+  pub within : turns' ≤ most
+  pub kept : (j : ℕ) → Keeps (text texts j) (text texts' j)
+
+-- What a call answers that does these tasks, of which the last writes the queue, whatever is to be done after them. It takes
+-- turns, empties the queue where the run goes on, and changes nothing else of the engine.
+pub record WritesQueue {O T : Type 0} (tally : O → SinkView) (count : O → ℕ) (text : T → ℕ → Option (List ℕ))
+    (tasks : List Task) (old new : RunState) (outputs outputs' : O) (texts texts' : T) (result : Result Unit Ended) : Type 0 where
+  pub moves : (files : ℕ → List ℕ) → TellsFiles (text texts) files → (ls : List (List ℕ)) (rest : List Task) →
+      Moves old.limits (run_setting old files) (then_do (tasks ++ rest) (at_lines old ls)) (then_do rest (at_lines new ls))
+      (tally outputs) (tally outputs') result
+  pub ok : OnOk result (new ≡ flushed old new.state.turns)
+  pub err : OnErr result (new ≡ with_turns old new.state.turns)
+  pub later : old.state.turns ≤ new.state.turns
+  pub devices : DeliversAlone tally count outputs outputs' result
+  pub kept : (j : ℕ) → Keeps (text texts j) (text texts' j)
+
+-- What a call answers that writes the queue and then goes on at this place. It leads to little more work without a turn.
+pub record EndsCycle {O T : Type 0} (tally : O → SinkView) (count : O → ℕ) (text : T → ℕ → Option (List ℕ))
+    (next_step : NextStep) (old new : RunState) (outputs outputs' : O) (texts texts' : T) (result : Result Unit Ended) : Type 0 where
+  pub moves : (files : ℕ → List ℕ) → TellsFiles (text texts) files → (ls : List (List ℕ)) →
+      Moves old.limits (run_setting old files) (then_do (flush ∷ tasks_of next_step) (at_lines old ls)) (at_lines new ls)
+      (tally outputs) (tally outputs') result
+  pub falls : weight new ≤ weight old + 8
+  pub leaves : LeavesGiven tally count text old new outputs outputs' texts texts' result

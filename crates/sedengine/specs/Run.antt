@@ -4,7 +4,7 @@ use Rattle.sedscript.specs.Program.{Program}
 use Rattle.sedspace.specs.Stream.{Stream, left}
 use Rattle.sedengine.specs.State.{Limits, Task, begin, rebegin, State, Setting, setting_of}
 use Rattle.sedengine.specs.Move.{after, written}
-use Rattle.sedengine.specs.Ends.{part, GainedWithin, SourceAtEnd, Within, Cause, named_sink, BreaksInLine, LosesPartAfter, size_of}
+use Rattle.sedengine.specs.Ends.{part, GainedWithin, SourceAtEnd, Within, IsCause, named_sink, BreaksInLine, LosesPartAfter, size_of}
 use Rattle.sedengine.specs.Held.{HoldsAt}
 use Rattle.sedengine.specs.Types.{Ended, PatternFull, InputBroken}
 use Rattle.sedengine.specs.declared.ends.Progress.{Progress}
@@ -48,7 +48,7 @@ pub record Input : Type 0 where
   pub source : Option (List ℕ)
   pub all : Option (List ℕ)
 
--- what is still to come by a reader of lines, where its source tells its bytes
+-- what is still to come by a reader of lines, where the bytes of its source are known
 abbrev pub input_of : {R : Type 0} → (R → Option (List ℕ)) → Stream R → Input
 input_of remaining lines = record { source = remaining lines.source; all = left remaining lines }
 
@@ -64,7 +64,7 @@ pub record TakesLeft (g : Setting) (s : State) (old new : Input) (lost more : �
 pub record Ending (l : Limits) (g : Setting) (s : State) (out : List (ℕ × ℕ)) (old new : Input) (now : State)
     (end : Ended) : Type 0 where
   pub t : ℕ
-  pub cause : Cause l g s out end t
+  pub cause : IsCause l g s out end t
   pub takes : TakesLeft g s old new (lost l end) (more_at l end) t
   pub broken : end ≡ InputBroken → BreaksInLine g s old.all new.source l.space t
   pub holds : HoldsAt g s t now (named_sink end)

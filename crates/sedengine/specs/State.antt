@@ -4,7 +4,7 @@ use Rattle.std.specs.Option.{option_and_then, option_map, option_map_or}
 use Rattle.sedengine.specs.Types.{Command, Substitution}
 use Rattle.sedengine.specs.Substitute.{Occurrence}
 use Rattle.sedre.specs.Tree.{WrittenExpression, expression_tree}
-use Rattle.sedmatch.specs.Matching.{found, report}
+use Rattle.sedmatch.specs.Matching.{leftmost_longest, report}
 use Rattle.sedscript.specs.Program.{Program}
 
 pub record Limits : Type 0 where
@@ -15,10 +15,10 @@ pub record Limits : Type 0 where
   pub nodes : ℕ  -- nodes of an expression
   pub output : Option ℕ  -- bytes that each sink gains, where that is limited
 
--- what the queue holds: a text, or the contents of a file by its number (the functions a and r)
+-- what the queue contains: a text, or the contents of a file by its number (the functions a and r)
 pub data Entry : Type 0 where
-  text : List ℕ → Entry
-  file : ℕ → Entry
+  text_entry : List ℕ → Entry
+  file_entry : ℕ → Entry
 
 -- what is to be done next
 pub data Task : Type 0 where
@@ -63,7 +63,7 @@ pub record Setting : Type 0 where
 
 -- whether the expression of a number has a match in a text (XBD 9.1)
 abbrev pub finds_in : List WrittenExpression → ℕ → List ℕ → Bool
-finds_in expressions k w = option_map_or (λ e. is_some (found (expression_tree e) w 0)) (slice_get expressions k) false
+finds_in expressions k w = option_map_or (λ e. is_some (leftmost_longest (expression_tree e) w 0)) (slice_get expressions k) false
 
 -- the match of an expression in a text, by its span, with its groups (XBD 9.1)
 abbrev pub occurrence_at_span : WrittenExpression → List ℕ → ℕ × ℕ → Occurrence
@@ -71,7 +71,7 @@ occurrence_at_span e w span = record { start = span.0; end = span.1; groups = re
 
 -- the leftmost-longest match of an expression that begins at a place or later
 abbrev pub search_for : WrittenExpression → List ℕ → ℕ → Option Occurrence
-search_for e w from = option_map (occurrence_at_span e w) (found (expression_tree e) w from)
+search_for e w from = option_map (occurrence_at_span e w) (leftmost_longest (expression_tree e) w from)
 
 -- the same of the expression of a number
 abbrev pub search_in : List WrittenExpression → ℕ → List ℕ → ℕ → Option Occurrence
@@ -89,6 +89,6 @@ setting_of p files = record {
   files = files;
 }
 
--- the texts tell these files
+-- the texts give these files
 abbrev pub TellsFiles : (ℕ → Option (List ℕ)) → (ℕ → List ℕ) → Type 0
 TellsFiles texts files = (k : ℕ) → texts k ≡ Some (files k)

@@ -1,21 +1,22 @@
--- Private to the proofs: no contract of a public item cites what stands here.
+-- Private to the proofs: no contract of a public item cites what is here.
 -- Moves of the engine, and what its calls promise one another.
 use Rattle.std.specs.Prelude.{◌≡◌, ℕ, true, ◌+◌, ◌*◌, ◌-◌, ◌<◌, ◌≤◌, Bool, false, Option, Some, None, Result, Ok, Err, OnOk, List, [], ◌∷◌, ◌++◌, is_some, length, not, slice_get}
 use Rattle.std.specs.Option.{ForSome, MatchOption, option_map_or}
 use Rattle.std.specs.Borrow.{GName}
 use Rattle.std.specs.Io.KnownBytes.{Keeps}
 use Rattle.sedspace.specs.Stream.{Stream, left, lines_left}
-use Rattle.sedspace.specs.Lines.{TakesAtMost}
+use Rattle.sedspace.specs.Reading.{TakesAtMost}
+use Rattle.sedengine.specs.declared.ends.Progress.{Progress}
 use Rattle.sedengine.specs.Types.{Command, Action, Ended, Done, HoldFull, InputBroken, NoPrevious, PatternFull, QueueFull, TurnsSpent}
 use Rattle.sedscript.specs.declared.types.Action.TheVariants.{Plain}
 use Rattle.sedscript.specs.declared.types.Simple.TheVariants as simple
 use Rattle.sedengine.specs.State.{Limits, Task, begin, rebegin, do_at, print_pattern, empty_pattern, flush, copy, fetch, join, State, Move, Setting, TellsFiles}
 use Rattle.sedengine.specs.Meters.{Sent, SinkView}
-use Rattle.sedengine.specs.Calls.{Delivers, DeliversAlone, ReadsLines}
+use Rattle.sedengine.specs.Calls.{Delivers, DeliversAlone, NamesNone, ReadsAlone, ReadsLines}
 use Rattle.sedengine.specs.Move.{next_move, after, none_left, written}
-use Rattle.sedengine.specs.Ends.{WithinLimits, Within, Cause, named_sink, reads, LosesPartAfter, size_of, Whole, BrokenOff}
+use Rattle.sedengine.specs.Ends.{WithinLimits, Within, IsCause, named_sink, reads, LosesPartAfter, size_of, Whole, BrokenOff}
 use Rattle.sedengine.specs.Held.{HoldsAt, SameLengths}
-use Rattle.sedengine.specs.Run.{SameRun, RunState, InOneCycle, at_lines, lost, run_setting}
+use Rattle.sedengine.specs.Run.{Cycles, Ending, SameRun, RunState, InOneCycle, at_lines, input_of, lost, outcome, run_setting}
 
 -- a state that has no move stays, and writes nothing
 abbrev pub next_or_stay : State → Option Move → State
@@ -86,7 +87,7 @@ pub record Stopped (l : Limits) (g : Setting) (s now : State) (old new : SinkVie
   pub t : ℕ
   pub out : List (ℕ × ℕ)
   pub sinks : Sent old new out
-  pub cause : Cause l g s out end t
+  pub cause : IsCause l g s out end t
   pub holds : HoldsAt g s t now (named_sink end)
   pub one : InOneCycle g s (t + 1)
   pub lines : (after g s t).lines ≡ now.lines
@@ -96,7 +97,7 @@ abbrev pub Moves : Limits → Setting → State → State → SinkView → SinkV
 Moves l g s now old new (Ok u) = Ran l g s now old new
 Moves l g s now old new (Err end) = Stopped l g s now old new end
 
--- The same where the moves lead to the state `there`, and an end is told of the state `now`.
+-- The same where the moves lead to the state `there`, and an end is reported of the state `now`.
 abbrev pub MovesTo : Limits → Setting → State → State → State → SinkView → SinkView → Result Unit Ended → Type 0
 MovesTo l g s there now old new (Ok u) = Ran l g s there old new
 MovesTo l g s there now old new (Err end) = Stopped l g s now old new end
@@ -203,6 +204,15 @@ pub record ActsHere {O T : Type 0} (tally : O → SinkView) (count : O → ℕ) 
   pub falls : weight new ≤ weight old + 8
   pub leaves : LeavesGiven tally count text old new outputs outputs' texts texts' result
 
+-- The same of a call that reads no text.
+pub record ActsAlone {O : Type 0} (tally : O → SinkView) (count : O → ℕ) (made : Setting → State → Option Move)
+    (old new : RunState) (outputs outputs' : O) (result : Result Unit Ended) : Type 0 where
+  pub acts : (files : ℕ → List ℕ) (ls : List (List ℕ)) → MakesMove old.limits (run_setting old files)
+      (made (run_setting old files) (at_lines old ls)) (at_lines old ls) (at_lines new ls) (tally outputs) (tally outputs') result
+  pub devices : DeliversAlone tally count outputs outputs' result
+  pub falls : weight new ≤ weight old
+  pub same : SameRun old new
+
 -- The same of a call that may take lines; `asks` says whether the command asks if a line is left.
 pub record ActsLines {R O T : Type 0} (remaining : R → Option (List ℕ)) (failures : R → ℕ) (reference : R → List GName)
     (tally : O → SinkView) (count : O → ℕ) (text : T → ℕ → Option (List ℕ)) (made : Setting → State → Option Move)
@@ -224,3 +234,48 @@ pub record Advances {R O T : Type 0} (remaining : R → Option (List ℕ)) (fail
       Steps remaining lines lines' ls old.limits (run_setting old files) old new (tally outputs) (tally outputs') result)
   pub falls : OnOk result (weight new < weight old)
   pub leaves : LeavesLines remaining failures reference tally count text old new lines lines' outputs outputs' texts texts' result
+
+-- The same of a call that takes no line.
+pub record AdvancesHere {O T : Type 0} (tally : O → SinkView) (count : O → ℕ) (text : T → ℕ → Option (List ℕ))
+    (old new : RunState) (outputs outputs' : O) (texts texts' : T) (result : Result Unit Ended) : Type 0 where
+  pub moves : (files : ℕ → List ℕ) → TellsFiles (text texts) files → (ls : List (List ℕ)) →
+      Moves old.limits (run_setting old files) (at_lines old ls) (at_lines new ls) (tally outputs) (tally outputs') result
+  pub falls : OnOk result (weight new < weight old)
+  pub leaves : LeavesGiven tally count text old new outputs outputs' texts texts' result
+
+-- The same of a call that may take lines, and writes nothing.
+pub record AdvancesReading {R : Type 0} (remaining : R → Option (List ℕ)) (failures : R → ℕ) (reference : R → List GName)
+    (old new : RunState) (lines lines' : Stream R) (result : Result Unit Ended) : Type 0 where
+  pub steps : lines.fault ≡ None → ForSome (lines_left remaining lines) (λ ls. (files : ℕ → List ℕ) (sinks : SinkView) →
+      Steps remaining lines lines' ls old.limits (run_setting old files) old new sinks sinks result)
+  pub reads : ReadsAlone remaining failures reference lines lines' result
+  pub falls : OnOk result (weight new < weight old)
+  pub same : SameRun old new
+
+-- The same of a call that is given no device.
+pub record AdvancesAlone (old new : RunState) (result : Result Unit Ended) : Type 0 where
+  pub moves : (files : ℕ → List ℕ) (ls : List (List ℕ)) (sinks : SinkView) →
+      Moves old.limits (run_setting old files) (at_lines old ls) (at_lines new ls) sinks sinks result
+  pub devices : NamesNone result
+  pub falls : OnOk result (weight new < weight old)
+  pub same : SameRun old new
+
+-- What a call answers that makes moves to the end of the run.
+pub record RunsToEnd {R O T : Type 0} (remaining : R → Option (List ℕ)) (failures : R → ℕ) (reference : R → List GName)
+    (tally : O → SinkView) (count : O → ℕ) (text : T → ℕ → Option (List ℕ)) (old new : RunState)
+    (lines lines' : Stream R) (outputs outputs' : O) (texts texts' : T) (end : Ended) : Type 0 where
+  pub ends : lines.fault ≡ None → ForSome (lines_left remaining lines) (λ ls.
+      (files : ℕ → List ℕ) → TellsFiles (text texts) files → (out : List (ℕ × ℕ)) × Sent (tally outputs) (tally outputs') out
+      × Ending old.limits (run_setting old files) (at_lines old ls) out
+      (input_of remaining lines) (input_of remaining lines') new.state end)
+  pub leaves : LeavesLines remaining failures reference tally count text old new lines lines' outputs outputs' texts texts' (Err end)
+
+-- What a call answers that makes moves to the end of a cycle.
+pub record RunsCycle {R O T : Type 0} (remaining : R → Option (List ℕ)) (failures : R → ℕ) (reference : R → List GName)
+    (tally : O → SinkView) (count : O → ℕ) (text : T → ℕ → Option (List ℕ)) (old new : RunState)
+    (lines lines' : Stream R) (outputs outputs' : O) (texts texts' : T) (progress : Progress) : Type 0 where
+  pub cycles : lines.fault ≡ None → ForSome (lines_left remaining lines) (λ ls.
+      (files : ℕ → List ℕ) → TellsFiles (text texts) files → (out : List (ℕ × ℕ)) × Sent (tally outputs) (tally outputs') out
+      × Cycles old.limits (run_setting old files) (at_lines old ls) out
+      (input_of remaining lines) (input_of remaining lines') new (lines_left remaining lines') progress)
+  pub leaves : LeavesLines remaining failures reference tally count text old new lines lines' outputs outputs' texts texts' (outcome progress)

@@ -11,7 +11,7 @@ pub record Occurrence : Type 0 where
   pub end : ℕ
   pub groups : Groups
 
--- at most so many occurrences in a text of n bytes, after one that ended at `last`; `search` tells the match from a place on
+-- at most so many occurrences in a text of n bytes, after one that ended at `last`; `search` gives the match from a place on
 unfoldable pub occurrences_from : (ℕ → Option Occurrence) → ℕ → ℕ → Option ℕ → List Occurrence
 occurrences_from search n zero last = []
 occurrences_from search n (suc most) last =

@@ -1,4 +1,4 @@
--- Private to the proofs: no contract of a public item cites what stands here.
+-- Private to the proofs: no contract of a public item cites what is here.
 -- What the engine's calls for a substitution promise one another.
 use Rattle.std.specs.Prelude.{◌≡◌, ℕ, ◌<◌, Bool, true, false, Option, None, Result, Ok, Err, List, [], ◌++◌, length, if◌then◌else◌}
 use Rattle.std.specs.Option.{option_map_or}

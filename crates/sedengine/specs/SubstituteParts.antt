@@ -1,11 +1,11 @@
--- Private to the proofs: no contract of a public item cites what stands here.
--- What the parts of a substitution tell.
+-- Private to the proofs: no contract of a public item cites what is here.
+-- What the parts of a substitution answer.
 use Rattle.std.specs.Prelude.{◌≡◌, ℕ, ◌+◌, ◌-◌, ◌*◌, ◌<◌, List, [], ◌∷◌, ◌++◌, length, drop, Bool, true, false}
 use Rattle.std.specs.Prelude.{Option, Some, None, option_map, IfSome, Result, Ok, Err, if◌then◌else◌}
 use Rattle.sedre.specs.Tree.{WrittenExpression, expression_tree}
 use Rattle.sedmatch.specs.Groups.{Groups, span_of}
-use Rattle.sedmatch.specs.Answer.{SpanIn}
 use Rattle.sedmatch.specs.Matching.{next_match, report}
+use Rattle.sedmatch.specs.Answer.{SpanIn}
 use Rattle.sedmatch.specs.Following.{EndsWithin, LiesOn}
 use Rattle.sedmatch.specs.Occurrences.{KeepsRoom, Serves, owed}
 use Rattle.sedmatch.specs.SearchRoom.{SearchRoom}
@@ -16,7 +16,7 @@ use Rattle.sedspace.specs.declared.errors.Full.{Full}
 use Rattle.sedengine.specs.Substitute.{Occurrence, occurrences_from, occurrences, replaced_from}
 use Rattle.sedengine.specs.State.{occurrence_at_span, search_for}
 
--- The next occurrence in a text of n bytes, after one that ended at a place, where there was one; `search` tells the match
+-- The next occurrence in a text of n bytes, after one that ended at a place, where there was one; `search` gives the match
 -- sought from a place.
 abbrev pub next_occurrence : (ℕ → Option Occurrence) → ℕ → Option ℕ → Option Occurrence
 next_occurrence search n last = next_match (λ m. (m.start, m.end)) search n last
@@ -89,27 +89,27 @@ abbrev pub owed_skipped : ℕ → ℕ → Option (Option ℕ) → Occurrences �
 owed_skipped m n None o = 0
 owed_skipped m n (Some last) o = owed m n last o
 
--- the most that telling the groups of the occurrence found takes, if they are wanted, where those of one take k
+-- the most that deciding the groups of the occurrence found takes, if they are wanted, where those of one take k
 abbrev pub told_cost : Option (ℕ × ℕ) → Bool → ℕ → ℕ
 told_cost None wanted k = 0
 told_cost (Some span) wanted k = if wanted then k else 0
 
--- what telling the groups of an occurrence takes for each place that it takes, with m nodes; a null match takes 2 m
+-- what deciding the groups of an occurrence takes for each place that it takes, with m nodes; a null match takes 2 m
 abbrev pub place_cost : ℕ → ℕ
 place_cost m = 172 * m * (m - 1) + 2 * m
 
--- The steps that telling groups may still take after an occurrence that ended at the place, if there is one, with m nodes in a
+-- The steps that deciding groups may still take after an occurrence that ended at the place, if there is one, with m nodes in a
 -- text of n bytes: each takes places that no other does, but for a null match at the beginning.
 abbrev pub owed_groups : ℕ → ℕ → Option ℕ → ℕ
 owed_groups m n None = place_cost m * n + 2 * m
 owed_groups m n (Some q) = place_cost m * (n - q)
 
--- the steps that telling groups may still take after an answer: none where there is no occurrence
+-- the steps that deciding groups may still take after an answer: none where there is no occurrence
 abbrev pub owed_groups_after : ℕ → ℕ → Option (ℕ × ℕ) → ℕ
 owed_groups_after m n None = 0
 owed_groups_after m n (Some span) = owed_groups m n (Some span.1)
 
--- the most that telling the groups of all occurrences but the first takes, where those of one take k
+-- the most that deciding the groups of all occurrences but the first takes, where those of one take k
 abbrev pub later_cost : ℕ → List Occurrence → ℕ
 later_cost k [] = 0
 later_cost k (m ∷ ms) = k * length ms

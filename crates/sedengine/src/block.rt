@@ -22,7 +22,7 @@ pub(crate) struct Extent {
     pub(crate) lines: u64,
 }
 
-/// How many newlines a few bytes hold.
+/// How many newlines a few bytes contain.
 #[inline(always)]
 fn count_few(bytes: &[u8]) -> u8
     requires { length bytes.now ≤ 224 }
@@ -37,7 +37,7 @@ fn count_few(bytes: &[u8]) -> u8
     count
 }
 
-/// How many newlines the bytes hold.
+/// How many newlines the bytes contain.
 fn count_lines(bytes: &[u8]) -> usize
     ensures { result ≡ count_by is_newline bytes.now }
 {

@@ -46,7 +46,7 @@ impl Model for Engine {
 /// For proofs: no more is read ahead than `look`.
 #[inline(always)]
 fn is_within_look<R: ByteSource>(lines: &Lines<R>)
-    ensures { length lines.now.ahead ≤ lines.now.look }
+    ensures { length lines.now.ahead ≤ lines.now.read_ahead }
 {
     let _len = lines.ahead_len();
 }
@@ -101,7 +101,7 @@ impl Engine {
         outputs: &mut O,
         texts: &mut T,
     ) -> Progress
-        requires look { lines.old.look ≡ self.old.limits.look }
+        requires look { lines.old.read_ahead ≡ self.old.limits.look }
         requires sinks { length self.old.script.wfiles < O.count outputs.old }
         // The moves of one cycle were made, or the end came with its cause; this is what the sinks gained, within the
         // limit, and what was taken from the source.
@@ -153,7 +153,7 @@ impl Engine {
         outputs: &mut O,
         texts: &mut T,
     ) -> Ended
-        requires look { lines.old.look ≡ self.old.limits.look }
+        requires look { lines.old.read_ahead ≡ self.old.limits.look }
         requires sinks { length self.old.script.wfiles < O.count outputs.old }
         // The end has its cause after some moves, from the engine's state and the lines left; the sinks have gained
         // what these moves write, within the limit, and this was taken from the source.
@@ -203,6 +203,7 @@ impl Engine {
         ensures queue { result.queue ≡ length self.now.state.queue }
         ensures bound { total_of result ≤ bound_of self.now.limits }
     {
+        // The spaces and the queue are the machine's, which is private to the crate.
         self.machine.held()
     }
 

@@ -1,11 +1,10 @@
 //! Writing the queue, and the files of it.
-ghost use Rattle.std.specs.Prelude.{◌≡◌, ◌<◌, ◌≤◌, [], ◌∷◌, ℕ, List, length, slice_get};
-ghost use Rattle.std.specs.Io.KnownBytes.{Keeps};
+ghost use Rattle.std.specs.Prelude.{◌≡◌, ◌<◌, ◌≤◌, [], ◌∷◌, List, length, slice_get};
 ghost use Rattle.sedengine.specs.State.{Entry, Task, copy, flush, State, Setting, TellsFiles};
-ghost use Rattle.sedengine.specs.Calls.{DeliversAlone};
 ghost use Rattle.sedengine.specs.Ends.{WithinLimits};
 ghost use Rattle.sedengine.specs.Held.{SameLengths};
 ghost use Rattle.sedengine.specs.Inside.{AllQueue, CommandQueues, entries_of, entry_by};
+ghost use Rattle.sedengine.specs.Queueing.{LeavesFlushed};
 ghost use Rattle.sedengine.specs.Steps.{MovesTo};
 
 use crate::ends::Ended;
@@ -33,11 +32,8 @@ fn copy_file<O: MeteredSinks, T: Texts>(
         SameLengths s now → s.lines ≡ now.lines →
         MovesTo limits.now g s (record s { tasks = rest; turns = turns.new }) now
         (O.tally outputs.old) (O.tally outputs.new) result }
-    ensures devices { DeliversAlone O.tally O.count outputs.old outputs.new result }
-    ensures limit { build.new.limit ≡ build.old.limit }
-    ensures later { turns.old ≤ turns.new }
-    ensures turns { turns.new ≤ limits.now.turns }
-    ensures kept { (j : ℕ) → Keeps (T.text texts.old j) (T.text texts.new j) }
+    ensures leaves { LeavesFlushed O.tally O.count T.text limits.now.turns turns.old turns.new build.old build.new
+        outputs.old outputs.new texts.old texts.new result }
 {
     let mut offset: u64 = 0;
     'pieces: loop {
@@ -78,11 +74,8 @@ fn write_entry<O: MeteredSinks, T: Texts>(
         WithinLimits limits.now s → SameLengths s now → s.lines ≡ now.lines →
         MovesTo limits.now g s (record s { queue = later; tasks = flush ∷ rest; turns = turns.new }) now
         (O.tally outputs.old) (O.tally outputs.new) result }
-    ensures devices { DeliversAlone O.tally O.count outputs.old outputs.new result }
-    ensures limit { build.new.limit ≡ build.old.limit }
-    ensures later { turns.old ≤ turns.new }
-    ensures turns { turns.new ≤ limits.now.turns }
-    ensures kept { (j : ℕ) → Keeps (T.text texts.old j) (T.text texts.new j) }
+    ensures leaves { LeavesFlushed O.tally O.count T.text limits.now.turns turns.old turns.new build.old build.new
+        outputs.old outputs.new texts.old texts.new result }
 {
     match script.command(entry as usize).action {
         Action::Text(_, text) => write_line(outputs, 0, script.text(text)),
@@ -111,11 +104,8 @@ pub(crate) fn flush_queue<O: MeteredSinks, T: Texts>(
         WithinLimits limits.now s →
         MovesTo limits.now g s (record s { queue = []; tasks = rest; turns = turns.new }) s
         (O.tally outputs.old) (O.tally outputs.new) result }
-    ensures devices { DeliversAlone O.tally O.count outputs.old outputs.new result }
-    ensures limit { build.new.limit ≡ build.old.limit }
-    ensures later { turns.old ≤ turns.new }
-    ensures turns { turns.new ≤ limits.now.turns }
-    ensures kept { (j : ℕ) → Keeps (T.text texts.old j) (T.text texts.new j) }
+    ensures leaves { LeavesFlushed O.tally O.count T.text limits.now.turns turns.old turns.new build.old build.new
+        outputs.old outputs.new texts.old texts.new result }
 {
     for index in 0..queue.len() {
         write_entry(

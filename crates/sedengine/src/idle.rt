@@ -130,7 +130,7 @@ fn clear_of(command: &Command, number: u64, most: u64) -> u64
     }
 }
 
-/// How many lines after the one of this number may be passed over at most, if no command touches them for what they hold: up
+/// How many lines after the one of this number may be passed over at most, if no command touches them for what they contain: up
 /// to one whose number is asked for. None where a range is active. `reached` commands are reached on such a line.
 pub(crate) fn clear_lines(
     script: &Script,

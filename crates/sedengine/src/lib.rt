@@ -1,7 +1,7 @@
 //! The engine of a stream editor: it runs the commands of a script over the lines of a stream, in bounded memory
 //! (POSIX.1-2024, XCU sed).
 //!
-//! What a run is to do stands in `specs/`: a state of the editor (`State`), the move that leads to the next state
+//! What a run is to do is in `specs/`: a state of the editor (`State`), the move that leads to the next state
 //! (`Move`, `Listing`, `Substitute`), which pattern spaces addresses select (`Select`), and what an end of a run means
 //! (`Ends`, `Held`, `Run`). The code makes these moves: `machine/tasks` starts and ends cycles, `machine/addresses` judges the
 //! addresses of a command, `machine/commands` acts, with a file beside it for each family: `deleting` for `c`, `d` and `D`,
@@ -13,7 +13,7 @@
 //! `Fitting`, `Holding`, `Inside`, `ListingParts`, `Meters`, `Parts`, `Passing`, `Queueing`, `Steps`,
 //! `SubstituteCalls` and `SubstituteParts` are private to this crate: what its calls promise one another.
 //!
-//! Where a new command goes is told in docs/ARCHITECTURE.md.
+//! docs/ARCHITECTURE.md says where a new command goes.
 #![tactic(auto)]
 
 mod block;

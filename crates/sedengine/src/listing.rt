@@ -1,6 +1,6 @@
 //! The command `l` (XCU sed, "Editing Commands in sed"): the listing of a text.
 ghost use Rattle.std.specs.Prelude.{◌≡◌, ◌+◌, ◌*◌, ◌<◌, ◌≤◌, [], ◌++◌, length, take};
-ghost use Rattle.sedengine.specs.Listing.{item, listed};
+ghost use Rattle.sedengine.specs.Listing.{listed_byte, listed};
 ghost use Rattle.sedengine.specs.ListingParts.{ArePlain, Lists, plain, with_item, with_run};
 ghost use Rattle.sedengine.specs.Move.{to_sink};
 ghost use Rattle.sedengine.specs.Calls.{Puts, Delivers};
@@ -121,7 +121,7 @@ impl Gathered {
     /// Lists a byte: by its escape, as it is, or by its octal number.
     fn list_byte(&mut self, byte: u8)
         requires { length self.old.bytes + 6 ≤ ROOM }
-        ensures { self.new ≡ with_item self.old (item byte) }
+        ensures { self.new ≡ with_item self.old (listed_byte byte) }
     {
         match byte {
             b'\\' => self.put_item(b"\\\\"),

@@ -74,7 +74,7 @@ impl Model for Machine {
 }
 
 impl Machine {
-    /// A machine that stands at the start of a run, with the spaces and all else that its run takes.
+    /// A machine at the start of a run, with the spaces and all else that its run takes.
     pub(crate) fn open(alloc: Global, script: Script, limits: Limits) -> Result<Machine, AllocError>
         requires { script.max_nodes ≤ limits.nodes }
         ensures { IfOk result (λ e. e ≡ record {
@@ -94,7 +94,8 @@ impl Machine {
         }
     }
 
-    /// The same machine of parts that were made for it.
+    /// The same machine of parts that were made for it. Apart from `open`, so that its invariant is proved where no request can
+    /// be refused.
     fn of(script: Script, limits: Limits, parts: Parts) -> Machine
         requires nodes { script.max_nodes ≤ limits.nodes }
         requires parts { AreParts script limits parts }

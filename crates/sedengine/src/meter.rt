@@ -91,7 +91,7 @@ pub(crate) trait MeteredSinks {
     /// How many sinks there are.
     ghost count: { Self → ℕ };
 
-    /// What they hold and have gained.
+    /// What they contain and have gained.
     ghost tally: { Self → SinkView };
 
     /// Appends all the bytes to this sink alone. At an `Err` it has gained those before one that was due when a write
@@ -101,7 +101,7 @@ pub(crate) trait MeteredSinks {
         ensures puts { Puts (tally self.old) (tally self.new) (to_sink sink bytes.now) result }
         ensures devices { Delivers tally count self.old self.new result };
 
-    /// The same, which tells at an `Err` how many bytes the sink has gained.
+    /// The same, which reports at an `Err` how many bytes the sink has gained.
     fn write_part(&mut self, sink: usize, bytes: &[u8]) -> Result<(), Cut>
         requires { sink < count self.old }
         ensures writes { WritesPart (tally self.old) (tally self.new) sink bytes.now result }
@@ -131,6 +131,7 @@ impl<'a, O: Outputs> MeteredSinks for Metered<'a, O> {
       };
     } };
 
+    // For callers that hand on the end alone, so that `?` or a tail call serves them.
     fn write_all(&mut self, sink: usize, bytes: &[u8]) -> Result<(), Ended> {
         match self.write_part(sink, bytes) {
             Ok(()) => Ok(()),

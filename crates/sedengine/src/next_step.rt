@@ -1,4 +1,4 @@
-//! Where the engine stands between its moves.
+//! Where the engine is between its moves.
 
 /// What is to be done next.
 #[derive(Clone, Copy)]

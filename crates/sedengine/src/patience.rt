@@ -6,19 +6,19 @@ const FEW: u64 = 4;
 /// The most cycles that are run before the next try.
 const LONGEST_WAIT: u32 = 1_000;
 
-/// The fewest bytes that a search looks at.
+/// The fewest bytes that a search examines.
 const LEAST_WINDOW: usize = 8_192;
 
 /// The most.
 const MOST_WINDOW: usize = 1 << 30;
 
-/// How many cycles are run before lines are tried again, and how far a search looks.
+/// How many cycles are run before lines are tried again, and how far a search goes.
 #[derive(Clone, Copy)]
 pub(crate) struct Patience {
     wait: u32,
     // How many cycles the last short block made the next one wait.
     last: u32,
-    /// How many bytes a search looks at.
+    /// How many bytes a search examines.
     pub(crate) window: usize,
 }
 
@@ -43,7 +43,7 @@ impl Patience {
     }
 
     /// Notes how much was passed over: after short blocks more and more cycles are run before the next try. Where several
-    /// expressions are sought, what lies behind the first hit was sought in vain, so the next search looks at a few times
+    /// expressions are sought, what lies behind the first hit was sought in vain, so the next search examines a few times
     /// as many bytes as were passed over.
     pub(crate) fn note(&mut self, lines: u64, bytes: usize) {
         if lines < FEW {

@@ -2,17 +2,10 @@
 //!
 //! Only the address that decides is judged: the source is asked for a further line by `$` alone, and an expression is
 //! the one last used only where it was tried.
-ghost use Rattle.std.specs.Prelude.{◌≡◌, ◌<◌, false, Some, Err, OnErr, Bool, Option, length, slice_set};
-ghost use Rattle.std.specs.Option.{ForSome};
+ghost use Rattle.std.specs.Prelude.{◌≡◌, ◌<◌, Some, length, slice_set};
 ghost use Rattle.sedscript.specs.Ranges.{AddressWithin, CommandWithin};
 ghost use Rattle.sedscript.specs.declared.types.Address.TheVariants.{Match};
-ghost use Rattle.sedspace.specs.Stream.{lines_left};
-ghost use Rattle.sedengine.specs.Select.{answer};
-ghost use Rattle.sedengine.specs.Move.{none_left};
-ghost use Rattle.sedengine.specs.Ends.{is_dollar};
-ghost use Rattle.sedengine.specs.Calls.{NamesNone, ReadsAlone};
-ghost use Rattle.sedengine.specs.Steps.{TakesLines};
-ghost use Rattle.sedengine.specs.Choose.{Answers, JudgesAddresses, Judges, TellsLine, reached_with, current_in, decides, deciding, with_used, is_active};
+ghost use Rattle.sedengine.specs.Choose.{AsksLast, JudgesCommand, JudgesDeciding, SeeksMatch, reached_with, deciding, is_active};
 
 use super::Machine;
 use crate::ends::Ended;
@@ -24,11 +17,7 @@ use sedspace::{ByteSource, Lines};
 /// Whether the line given last was the last one of the input. Only an address `$`, `n`, and an `N` that has no room ask
 /// this.
 pub(super) fn is_last<R: ByteSource>(lines: &mut Lines<R>) -> Result<bool, Ended>
-    ensures last { lines.old.fault ≡ None → ForSome (lines_left R.remaining lines.old) (λ ls.
-        TellsLine (none_left ls) result) }
-    ensures left { ForSome (lines_left R.remaining lines.old) (λ ls.
-        TakesLines R.remaining lines.old lines.new ls ls) }
-    ensures reads { ReadsAlone R.remaining R.failures R.reference lines.old lines.new result }
+    ensures { AsksLast R.remaining R.failures R.reference lines.old lines.new result }
 {
     match lines.is_last() {
         Ok(last) => Ok(last),
@@ -41,12 +30,7 @@ impl Machine {
     /// the one last used.
     fn finds(&mut self, named: Option<usize>) -> Result<bool, Ended>
         requires { AddressWithin (length self.old.script.expressions) (Some (Match named)) }
-        ensures answers { (last : Bool) →
-            Answers (current_in self.old last) (answer (current_in self.old last) (Match named))
-            self.new.state.used false result }
-        ensures devices { NamesNone result }
-        ensures same { self.new ≡ with_used self.old self.new.state.used }
-        ensures err { OnErr result (self.new ≡ self.old) }
+        ensures { SeeksMatch named self.old self.new result }
     {
         match named.or(self.used) {
             None => Err(Ended::NoPrevious(self.number)),
@@ -64,14 +48,8 @@ impl Machine {
         lines: &mut Lines<R>,
     ) -> Result<bool, Ended>
         requires { AddressWithin (length self.old.script.expressions) (Some address) }
-        ensures answers { lines.old.fault ≡ None → ForSome (lines_left R.remaining lines.old) (λ ls.
-            Answers (current_in self.old (none_left ls)) (answer (current_in self.old (none_left ls)) address)
-            self.new.state.used (is_dollar (Some address)) result) }
-        ensures left { ForSome (lines_left R.remaining lines.old) (λ ls.
-            TakesLines R.remaining lines.old lines.new ls ls) }
-        ensures reads { ReadsAlone R.remaining R.failures R.reference lines.old lines.new result }
-        ensures same { self.new ≡ with_used self.old self.new.state.used }
-        ensures err { OnErr result (self.new ≡ self.old) }
+        ensures { JudgesDeciding R.remaining R.failures R.reference (Some address) self.old self.new
+            lines.old lines.new result }
     {
         match address {
             Address::Line(line) => Ok(line == self.number),
@@ -89,17 +67,9 @@ impl Machine {
     ) -> Result<bool, Ended>
         requires first { AddressWithin (length self.old.script.expressions) command.now.first }
         requires second { AddressWithin (length self.old.script.expressions) command.now.second }
-        ensures answers { lines.old.fault ≡ None → ForSome (lines_left R.remaining lines.old) (λ ls.
-            Answers (current_in self.old (none_left ls))
-            (decides (current_in self.old (none_left ls))
-            (deciding command.now.first command.now.second active self.old.state.number))
-            self.new.state.used
-            (is_dollar (deciding command.now.first command.now.second active self.old.state.number)) result) }
-        ensures left { ForSome (lines_left R.remaining lines.old) (λ ls.
-            TakesLines R.remaining lines.old lines.new ls ls) }
-        ensures reads { ReadsAlone R.remaining R.failures R.reference lines.old lines.new result }
-        ensures same { self.new ≡ with_used self.old self.new.state.used }
-        ensures err { OnErr result (self.new ≡ self.old) }
+        ensures { JudgesDeciding R.remaining R.failures R.reference
+            (deciding command.now.first command.now.second active self.old.state.number) self.old self.new
+            lines.old lines.new result }
     {
         match deciding(command, active, self.number) {
             None => Ok(true),
@@ -137,13 +107,8 @@ impl Machine {
         requires there { k < length self.old.script.commands }
         requires within { CommandWithin self.old.script command.now }
         requires turn { self.old.state.turns < self.old.limits.turns }
-        ensures judges { lines.old.fault ≡ None → ForSome (lines_left R.remaining lines.old) (λ ls.
-            Judges (current_in self.old (none_left ls)) (is_active self.old.state k) command.now
-            self.new.state.used result) }
-        ensures left { ForSome (lines_left R.remaining lines.old) (λ ls.
-            TakesLines R.remaining lines.old lines.new ls ls) }
-        ensures reads { ReadsAlone R.remaining R.failures R.reference lines.old lines.new result }
-        ensures reaches { JudgesAddresses self.old self.new k result }
+        ensures { JudgesCommand R.remaining R.failures R.reference k command.now self.old self.new
+            lines.old lines.new result }
     {
         let active = self.is_active(k);
         if let Some(yes) = yes_by_number(command, self.number) {

@@ -1,11 +1,7 @@
 //! The moves one after another.
-ghost use Rattle.std.specs.Prelude.{◌≡◌, ◌<◌, None, Err, ℕ, List, length};
-ghost use Rattle.std.specs.Option.{ForSome};
-ghost use Rattle.sedspace.specs.Stream.{lines_left};
-ghost use Rattle.sedengine.specs.Meters.{Sent};
-ghost use Rattle.sedengine.specs.Run.{Cycles, Ending, at_lines, run_setting, starts_cycle, outcome, input_of};
-ghost use Rattle.sedengine.specs.State.{TellsFiles};
-ghost use Rattle.sedengine.specs.Steps.{Advances, LeavesLines};
+ghost use Rattle.std.specs.Prelude.{◌≡◌, ◌<◌, length};
+ghost use Rattle.sedengine.specs.Run.{starts_cycle};
+ghost use Rattle.sedengine.specs.Steps.{Advances, RunsCycle, RunsToEnd};
 
 use super::Machine;
 use crate::ends::{Ended, Progress};
@@ -42,14 +38,9 @@ impl Machine {
         texts: &mut T,
     ) -> Ended
         requires sinks { length self.old.script.wfiles < O.count outputs.old }
-        requires look { lines.old.look ≡ self.old.limits.look }
-        ensures ends { lines.old.fault ≡ None → ForSome (lines_left R.remaining lines.old) (λ ls.
-            (files : ℕ → List ℕ) → TellsFiles (T.text texts.old) files →
-            (out : List (ℕ × ℕ)) × Sent (O.tally outputs.old) (O.tally outputs.new) out
-            × Ending self.old.limits (run_setting self.old files) (at_lines self.old ls) out
-            (input_of R.remaining lines.old) (input_of R.remaining lines.new) self.new.state result) }
-        ensures leaves { LeavesLines R.remaining R.failures R.reference O.tally O.count T.text self.old self.new
-            lines.old lines.new outputs.old outputs.new texts.old texts.new (Err result) }
+        requires look { lines.old.read_ahead ≡ self.old.limits.look }
+        ensures { RunsToEnd R.remaining R.failures R.reference O.tally O.count T.text self.old self.new
+            lines.old lines.new outputs.old outputs.new texts.old texts.new result }
     {
         self.is_within_limits();
         'moves: loop {
@@ -77,15 +68,9 @@ impl Machine {
         texts: &mut T,
     ) -> Progress
         requires sinks { length self.old.script.wfiles < O.count outputs.old }
-        requires look { lines.old.look ≡ self.old.limits.look }
-        ensures cycles { lines.old.fault ≡ None → ForSome (lines_left R.remaining lines.old) (λ ls.
-            (files : ℕ → List ℕ) → TellsFiles (T.text texts.old) files →
-            (out : List (ℕ × ℕ)) × Sent (O.tally outputs.old) (O.tally outputs.new) out
-            × Cycles self.old.limits (run_setting self.old files) (at_lines self.old ls) out
-            (input_of R.remaining lines.old) (input_of R.remaining lines.new)
-            self.new (lines_left R.remaining lines.new) result) }
-        ensures leaves { LeavesLines R.remaining R.failures R.reference O.tally O.count T.text self.old self.new
-            lines.old lines.new outputs.old outputs.new texts.old texts.new (outcome result) }
+        requires look { lines.old.read_ahead ≡ self.old.limits.look }
+        ensures { RunsCycle R.remaining R.failures R.reference O.tally O.count T.text self.old self.new
+            lines.old lines.new outputs.old outputs.new texts.old texts.new result }
     {
         self.is_within_limits();
         'moves: loop {

@@ -1,16 +1,11 @@
 //! The commands `n` and `N`: further lines (XCU sed, "Editing Commands in sed").
-ghost use Rattle.std.specs.Prelude.{◌≡◌, ◌≢◌, ◌<◌, ◌≤◌, ◌+◌, [], ◌∷◌, ◌++◌, None, Ok, ℕ, List, true, false, length};
-ghost use Rattle.std.specs.Option.{ForSome};
+ghost use Rattle.std.specs.Prelude.{◌≡◌, ◌<◌, [], ◌∷◌, ◌++◌, true, false};
 ghost use Rattle.sedscript.specs.declared.types.Action.TheVariants.{Plain};
 ghost use Rattle.sedscript.specs.declared.types.Simple.TheVariants.{AppendNext};
-ghost use Rattle.sedspace.specs.Stream.{lines_left};
 ghost use Rattle.sedengine.specs.State.{empty_pattern, fetch, join};
-ghost use Rattle.sedengine.specs.Move.{acts, newline, then_do};
-ghost use Rattle.sedengine.specs.Meters.{SinkView};
-ghost use Rattle.sedengine.specs.Calls.{ReadsAlone};
-ghost use Rattle.sedengine.specs.Run.{SameRun, at_lines, run_setting};
-ghost use Rattle.sedengine.specs.Steps.{reaches, ActsLines, StepsFrom, weight};
-ghost use Rattle.sedengine.specs.Bringing.{Brings, brought, next_line};
+ghost use Rattle.sedengine.specs.Move.{acts, newline};
+ghost use Rattle.sedengine.specs.Steps.{reaches, ActsLines};
+ghost use Rattle.sedengine.specs.Bringing.{BringsLine, Fetches, brought, next_line};
 
 use super::Machine;
 use super::addresses::is_last;
@@ -46,14 +41,8 @@ impl Machine {
     fn fetch<R: ByteSource>(&mut self, lines: &mut Lines<R>) -> Result<(), Ended>
         requires at { reaches self.old.state.tasks ≡ true }
         requires number { self.old.state.number < self.old.state.turns }
-        ensures steps { lines.old.fault ≡ None → ForSome (lines_left R.remaining lines.old) (λ ls.
-            (files : ℕ → List ℕ) (sinks : SinkView) →
-            StepsFrom R.remaining lines.old lines.new ls self.old.limits (run_setting self.old files)
-            (then_do (empty_pattern ∷ fetch ∷ self.old.state.tasks) (at_lines self.old ls)) self.new
-            sinks sinks result) }
-        ensures reads { ReadsAlone R.remaining R.failures R.reference lines.old lines.new result }
-        ensures falls { weight self.new ≤ weight self.old }
-        ensures same { SameRun self.old self.new }
+        ensures { Fetches R.remaining R.failures R.reference (empty_pattern ∷ fetch ∷ []) self.old self.new
+            lines.old lines.new result }
     {
         self.turns_fit();
         self.pattern.clear();
@@ -100,14 +89,8 @@ impl Machine {
     fn join<R: ByteSource>(&mut self, lines: &mut Lines<R>) -> Result<(), Ended>
         requires at { reaches self.old.state.tasks ≡ true }
         requires number { self.old.state.number < self.old.state.turns }
-        ensures steps { lines.old.fault ≡ None → ForSome (lines_left R.remaining lines.old) (λ ls.
-            (files : ℕ → List ℕ) (sinks : SinkView) →
-            StepsFrom R.remaining lines.old lines.new ls self.old.limits (run_setting self.old files)
-            (then_do (join ∷ self.old.state.tasks) (at_lines self.old ls)) self.new
-            sinks sinks result) }
-        ensures reads { ReadsAlone R.remaining R.failures R.reference lines.old lines.new result }
-        ensures falls { weight self.new ≤ weight self.old }
-        ensures same { SameRun self.old self.new }
+        ensures { Fetches R.remaining R.failures R.reference (join ∷ []) self.old self.new
+            lines.old lines.new result }
     {
         self.turns_fit();
         let got = join_line(&mut self.pattern, lines, self.number + 1)?;
@@ -122,12 +105,8 @@ fn bring_line<R: ByteSource>(
     lines: &mut Lines<R>,
     number: u64,
 ) -> Result<Got, Ended>
-    ensures brings { lines.old.fault ≡ None → ForSome (lines_left R.remaining lines.old) (λ ls.
-        Brings R.remaining lines.old lines.new ls space.old.bytes number space.old space.new result) }
-    ensures reads { ReadsAlone R.remaining R.failures R.reference lines.old lines.new result }
-    ensures limit { space.new.limit ≡ space.old.limit }
-    ensures fits { length space.old.bytes ≤ space.old.limit → length space.new.bytes ≤ space.new.limit }
-    ensures stays { result ≢ Ok Got.Line → space.new ≡ space.old }
+    ensures { BringsLine R.remaining R.failures R.reference space.old.bytes number space.old space.new
+        lines.old lines.new result }
 {
     match lines.next_into(space) {
         Ok(got) => Ok(got),
@@ -142,11 +121,8 @@ fn join_line<R: ByteSource>(
     lines: &mut Lines<R>,
     number: u64,
 ) -> Result<Got, Ended>
-    ensures brings { lines.old.fault ≡ None → ForSome (lines_left R.remaining lines.old) (λ ls.
-        Brings R.remaining lines.old lines.new ls (space.old.bytes ++ newline ∷ []) number space.old space.new result) }
-    ensures reads { ReadsAlone R.remaining R.failures R.reference lines.old lines.new result }
-    ensures limit { space.new.limit ≡ space.old.limit }
-    ensures fits { length space.old.bytes ≤ space.old.limit → length space.new.bytes ≤ space.new.limit }
+    ensures { BringsLine R.remaining R.failures R.reference (space.old.bytes ++ newline ∷ []) number space.old space.new
+        lines.old lines.new result }
 {
     let len = space.len();
     if let Err(Full) = space.append(b"\n") {
@@ -155,9 +131,15 @@ fn join_line<R: ByteSource>(
         }
         return Err(Ended::PatternFull(number));
     }
-    let brought = bring_line(space, lines, number);
-    if !matches!(&brought, Ok(Got::Line)) {
-        space.truncate(len);
+    match bring_line(space, lines, number) {
+        Ok(Got::Line) => Ok(Got::Line),
+        Ok(Got::End) => {
+            space.truncate(len);
+            Ok(Got::End)
+        }
+        Err(end) => {
+            space.truncate(len);
+            Err(end)
+        }
     }
-    brought
 }

@@ -1,14 +1,10 @@
 //! Lines that no command touches are passed over, a block at a time.
-ghost use Rattle.std.specs.Prelude.{◌≡◌, ◌<◌, ◌≤◌, ◌+◌, ◌*◌, [], ◌∷◌, None, OnOk, IfSome, IsTrue, ℕ, List, is_some, length, take, true};
-ghost use Rattle.std.specs.Option.{ForSome};
+ghost use Rattle.std.specs.Prelude.{◌≡◌, ◌<◌, ◌≤◌, ◌+◌, ◌*◌, [], ◌∷◌, IfSome, IsTrue, ℕ, is_some, length, take, true};
 ghost use Rattle.sedscript.specs.Ranges.{IsOneOf};
 ghost use Rattle.sedspace.specs.Stream.{AreWholeLines};
-ghost use Rattle.sedspace.specs.Stream.{lines_left};
 ghost use Rattle.sedengine.specs.State.{begin};
-ghost use Rattle.sedengine.specs.Calls.{ReadsLines, Delivers, end_of};
-ghost use Rattle.sedengine.specs.Run.{SameRun, at_lines, run_setting};
-ghost use Rattle.sedengine.specs.Steps.{weight};
-ghost use Rattle.sedengine.specs.Passing.{AllowsLines, BreaksOffBy, PassesOver, StepsPassing, WritesLines, counted_block, need_at};
+ghost use Rattle.sedengine.specs.Calls.{Delivers, end_of};
+ghost use Rattle.sedengine.specs.Passing.{AllowsLines, BreaksOffBy, PassesLines, PassesOver, WritesLines, counted_block, need_at};
 
 use super::Machine;
 use crate::block::{clear_end, extent_of, line_length, lines_before};
@@ -143,13 +139,8 @@ impl Machine {
     ) -> Result<(), Ended>
         requires begins { self.old.state.tasks ≡ begin ∷ [] }
         requires sink { 0 < O.count outputs.old }
-        ensures steps { ForSome (lines_left R.remaining lines.old) (λ ls. (files : ℕ → List ℕ) →
-            StepsPassing R.remaining lines.old lines.new ls self.old.limits (run_setting self.old files)
-            (at_lines self.old ls) self.new (O.tally outputs.old) (O.tally outputs.new) result) }
-        ensures input { ReadsLines R.remaining R.failures R.reference lines.old lines.new result }
-        ensures output { Delivers O.tally O.count outputs.old outputs.new result }
-        ensures falls { OnOk result (weight self.new ≤ weight self.old) }
-        ensures same { SameRun self.old self.new }
+        ensures { PassesLines R.remaining R.failures R.reference O.tally O.count self.old self.new
+            lines.old lines.new outputs.old outputs.new result }
     {
         self.is_within_limits();
         self.is_emptied();
@@ -187,13 +178,8 @@ impl Machine {
         outputs: &mut O,
     ) -> Result<(), Ended>
         requires { 0 < O.count outputs.old }
-        ensures steps { ForSome (lines_left R.remaining lines.old) (λ ls. (files : ℕ → List ℕ) →
-            StepsPassing R.remaining lines.old lines.new ls self.old.limits (run_setting self.old files)
-            (at_lines self.old ls) self.new (O.tally outputs.old) (O.tally outputs.new) result) }
-        ensures input { ReadsLines R.remaining R.failures R.reference lines.old lines.new result }
-        ensures output { Delivers O.tally O.count outputs.old outputs.new result }
-        ensures falls { OnOk result (weight self.new ≤ weight self.old) }
-        ensures same { SameRun self.old self.new }
+        ensures { PassesLines R.remaining R.failures R.reference O.tally O.count self.old self.new
+            lines.old lines.new outputs.old outputs.new result }
     {
         self.is_within_limits();
         if self.may_pass() {

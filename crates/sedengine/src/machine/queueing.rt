@@ -1,13 +1,10 @@
 //! The queue: the commands `a` and `r`, and the places at which it is written (XCU sed, "Editing Commands in sed").
-ghost use Rattle.std.specs.Prelude.{◌≡◌, ◌<◌, ◌≤◌, ◌+◌, [], ◌∷◌, Ok, OnOk, OnErr, ℕ, List, slice_get, if◌then◌else◌};
-ghost use Rattle.std.specs.Io.KnownBytes.{Keeps};
-ghost use Rattle.sedengine.specs.State.{Task, flush, print_pattern, TellsFiles};
-ghost use Rattle.sedengine.specs.Move.{line_to, then_do};
+ghost use Rattle.std.specs.Prelude.{◌<◌, [], ◌∷◌, slice_get, if◌then◌else◌};
+ghost use Rattle.sedengine.specs.State.{flush, print_pattern};
+ghost use Rattle.sedengine.specs.Move.{line_to};
 ghost use Rattle.sedengine.specs.Calls.{Puts, DeliversAlone};
-ghost use Rattle.sedengine.specs.Run.{at_lines, run_setting};
-ghost use Rattle.sedengine.specs.Steps.{LeavesGiven, Moves, weight};
-ghost use Rattle.sedengine.specs.Inside.{IsEmptied, CommandQueues, entry_by, tasks_of};
-ghost use Rattle.sedengine.specs.Queueing.{QueuesOrFull, flushed, with_turns};
+ghost use Rattle.sedengine.specs.Inside.{IsEmptied, CommandQueues, entry_by};
+ghost use Rattle.sedengine.specs.Queueing.{EndsCycle, QueuesOrFull, WritesQueue};
 
 use super::Machine;
 use crate::ends::Ended;
@@ -37,15 +34,8 @@ impl Machine {
         texts: &mut T,
     ) -> Result<(), Ended>
         requires { 0 < O.count outputs.old }
-        ensures moves { (files : ℕ → List ℕ) → TellsFiles (T.text texts.old) files →
-            (ls : List (List ℕ)) (rest : List Task) →
-            Moves self.old.limits (run_setting self.old files) (then_do (flush ∷ rest) (at_lines self.old ls))
-            (then_do rest (at_lines self.new ls)) (O.tally outputs.old) (O.tally outputs.new) result }
-        ensures ok { OnOk result (self.new ≡ flushed self.old self.new.state.turns) }
-        ensures err { OnErr result (self.new ≡ with_turns self.old self.new.state.turns) }
-        ensures later { self.old.state.turns ≤ self.new.state.turns }
-        ensures devices { DeliversAlone O.tally O.count outputs.old outputs.new result }
-        ensures kept { (j : ℕ) → Keeps (T.text texts.old j) (T.text texts.new j) }
+        ensures { WritesQueue O.tally O.count T.text (flush ∷ []) self.old self.new
+            outputs.old outputs.new texts.old texts.new result }
     {
         flush_queue(
             &self.script,
@@ -68,21 +58,14 @@ impl Machine {
         texts: &mut T,
     ) -> Result<(), Ended>
         requires { 0 < O.count outputs.old }
-        ensures moves { (files : ℕ → List ℕ) → TellsFiles (T.text texts.old) files →
-            (ls : List (List ℕ)) (rest : List Task) →
-            Moves self.old.limits (run_setting self.old files) (then_do (print_pattern ∷ flush ∷ rest) (at_lines self.old ls))
-            (then_do rest (at_lines self.new ls)) (O.tally outputs.old) (O.tally outputs.new) result }
-        ensures ok { OnOk result (self.new ≡ flushed self.old self.new.state.turns) }
-        ensures err { OnErr result (self.new ≡ with_turns self.old self.new.state.turns) }
-        ensures later { self.old.state.turns ≤ self.new.state.turns }
-        ensures devices { DeliversAlone O.tally O.count outputs.old outputs.new result }
-        ensures kept { (j : ℕ) → Keeps (T.text texts.old j) (T.text texts.new j) }
+        ensures { WritesQueue O.tally O.count T.text (print_pattern ∷ flush ∷ []) self.old self.new
+            outputs.old outputs.new texts.old texts.new result }
     {
         print_by_default(&self.script, &self.pattern, outputs)?;
         self.flush(outputs, texts)
     }
 
-    /// Writes the queue, and starts the next cycle at this place.
+    /// Writes the queue, and starts the next cycle at this step.
     pub(super) fn end_cycle<O: MeteredSinks, T: Texts>(
         &mut self,
         next_step: NextStep,
@@ -91,11 +74,8 @@ impl Machine {
     ) -> Result<(), Ended>
         requires emptied { IsEmptied next_step self.old.state.pattern }
         requires sink { 0 < O.count outputs.old }
-        ensures moves { (files : ℕ → List ℕ) → TellsFiles (T.text texts.old) files → (ls : List (List ℕ)) →
-            Moves self.old.limits (run_setting self.old files) (then_do (flush ∷ tasks_of next_step) (at_lines self.old ls))
-            (at_lines self.new ls) (O.tally outputs.old) (O.tally outputs.new) result }
-        ensures falls { weight self.new ≤ weight self.old + 8 }
-        ensures leaves { LeavesGiven O.tally O.count T.text self.old self.new outputs.old outputs.new texts.old texts.new result }
+        ensures { EndsCycle O.tally O.count T.text next_step self.old self.new
+            outputs.old outputs.new texts.old texts.new result }
     {
         self.flush(outputs, texts)?;
         self.next_step = next_step;
@@ -103,7 +83,8 @@ impl Machine {
     }
 }
 
-/// Writes the pattern space, unless default output is suppressed.
+/// Writes the pattern space, unless default output is suppressed. Apart from `print_and_flush`, so that its proof needs no
+/// machine.
 fn print_by_default<O: MeteredSinks>(
     script: &Script,
     pattern: &Space,

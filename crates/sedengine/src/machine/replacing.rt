@@ -5,8 +5,8 @@ ghost use Rattle.sedscript.specs.declared.substitution.Substitution.{Substitutio
 ghost use Rattle.sedengine.specs.State.{do_at};
 ghost use Rattle.sedengine.specs.Move.{in_table, line_to, substitutes};
 ghost use Rattle.sedengine.specs.Calls.{DeliversAlone, NamesNone, Puts};
-ghost use Rattle.sedengine.specs.Run.{SameRun, at_lines, run_setting};
-ghost use Rattle.sedengine.specs.Steps.{reaches, MakesMove, weight};
+ghost use Rattle.sedengine.specs.Run.{at_lines, run_setting};
+ghost use Rattle.sedengine.specs.Steps.{reaches, ActsAlone};
 ghost use Rattle.sedengine.specs.SubstituteCalls.{written_by, Makes, same_but_replaced};
 
 use super::Machine;
@@ -28,14 +28,8 @@ impl Machine {
         requires at { reaches self.old.state.tasks ≡ true }
         requires number { k < length self.old.script.substitutions }
         requires sinks { length self.old.script.wfiles < O.count outputs.old }
-        ensures acts { (files : ℕ → List ℕ) (ls : List (List ℕ)) →
-            MakesMove self.old.limits (run_setting self.old files)
-            (substitutes (run_setting self.old files) (at_lines self.old ls) (slice_get self.old.script.substitutions k))
-            (at_lines self.old ls) (at_lines self.new ls)
-            (O.tally outputs.old) (O.tally outputs.new) result }
-        ensures devices { DeliversAlone O.tally O.count outputs.old outputs.new result }
-        ensures falls { weight self.new ≤ weight self.old }
-        ensures same { SameRun self.old self.new }
+        ensures { ActsAlone O.tally O.count (λ g s. substitutes g s (slice_get self.old.script.substitutions k))
+            self.old self.new outputs.old outputs.new result }
     {
         self.is_within_limits();
         if self.replace_occurrences(k)? {

@@ -1,12 +1,7 @@
 //! The start of a cycle, and its end.
-ghost use Rattle.std.specs.Prelude.{◌≡◌, ◌<◌, ◌≤◌, [], ◌∷◌, None, Err, OnOk, ℕ, List, length};
-ghost use Rattle.std.specs.Option.{ForSome};
-ghost use Rattle.sedspace.specs.Stream.{lines_left};
-ghost use Rattle.sedengine.specs.State.{begin, rebegin, do_at, print_pattern, flush, TellsFiles};
-ghost use Rattle.sedengine.specs.Meters.{SinkView};
-ghost use Rattle.sedengine.specs.Calls.{NamesNone, ReadsAlone};
-ghost use Rattle.sedengine.specs.Run.{SameRun, at_lines, run_setting};
-ghost use Rattle.sedengine.specs.Steps.{LeavesGiven, Moves, Steps, weight};
+ghost use Rattle.std.specs.Prelude.{◌≡◌, ◌<◌, ◌≤◌, [], ◌∷◌, length};
+ghost use Rattle.sedengine.specs.State.{begin, rebegin, do_at, print_pattern, flush};
+ghost use Rattle.sedengine.specs.Steps.{AdvancesAlone, AdvancesHere, AdvancesReading};
 
 use super::Machine;
 use crate::ends::Ended;
@@ -18,13 +13,7 @@ impl Machine {
     /// Starts a cycle with the next line.
     pub(super) fn begin<R: ByteSource>(&mut self, lines: &mut Lines<R>) -> Result<(), Ended>
         requires { self.old.state.tasks ≡ begin ∷ [] }
-        ensures steps { lines.old.fault ≡ None → ForSome (lines_left R.remaining lines.old) (λ ls.
-            (files : ℕ → List ℕ) (sinks : SinkView) →
-            Steps R.remaining lines.old lines.new ls self.old.limits (run_setting self.old files) self.old self.new
-            sinks sinks result) }
-        ensures reads { ReadsAlone R.remaining R.failures R.reference lines.old lines.new result }
-        ensures falls { OnOk result (weight self.new < weight self.old) }
-        ensures same { SameRun self.old self.new }
+        ensures { AdvancesReading R.remaining R.failures R.reference self.old self.new lines.old lines.new result }
     {
         if self.turns == self.limits.turns() {
             return match lines.is_last() {
@@ -56,12 +45,7 @@ impl Machine {
     /// Starts a cycle with the pattern space as it is.
     pub(super) fn rebegin(&mut self) -> Result<(), Ended>
         requires { self.old.state.tasks ≡ rebegin ∷ [] }
-        ensures moves { (files : ℕ → List ℕ) (ls : List (List ℕ)) (sinks : SinkView) →
-            Moves self.old.limits (run_setting self.old files) (at_lines self.old ls)
-            (at_lines self.new ls) sinks sinks result }
-        ensures devices { NamesNone result }
-        ensures falls { OnOk result (weight self.new < weight self.old) }
-        ensures same { SameRun self.old self.new }
+        ensures { AdvancesAlone self.old self.new result }
     {
         if self.turns == self.limits.turns() {
             return Err(Ended::TurnsSpent);
@@ -81,11 +65,7 @@ impl Machine {
         requires at { self.old.state.tasks ≡ do_at k ∷ [] }
         requires end { length self.old.script.commands ≤ k }
         requires sink { 0 < O.count outputs.old }
-        ensures moves { (files : ℕ → List ℕ) → TellsFiles (T.text texts.old) files → (ls : List (List ℕ)) →
-            Moves self.old.limits (run_setting self.old files) (at_lines self.old ls)
-            (at_lines self.new ls) (O.tally outputs.old) (O.tally outputs.new) result }
-        ensures falls { OnOk result (weight self.new < weight self.old) }
-        ensures leaves { LeavesGiven O.tally O.count T.text self.old self.new outputs.old outputs.new texts.old texts.new result }
+        ensures { AdvancesHere O.tally O.count T.text self.old self.new outputs.old outputs.new texts.old texts.new result }
     {
         self.print_and_flush(outputs, texts)?;
         self.pattern.clear();
@@ -101,11 +81,7 @@ impl Machine {
     ) -> Result<(), Ended>
         requires at { self.old.state.tasks ≡ print_pattern ∷ flush ∷ [] }
         requires sink { 0 < O.count outputs.old }
-        ensures moves { (files : ℕ → List ℕ) → TellsFiles (T.text texts.old) files → (ls : List (List ℕ)) →
-            Moves self.old.limits (run_setting self.old files) (at_lines self.old ls)
-            (at_lines self.new ls) (O.tally outputs.old) (O.tally outputs.new) result }
-        ensures falls { OnOk result (weight self.new < weight self.old) }
-        ensures leaves { LeavesGiven O.tally O.count T.text self.old self.new outputs.old outputs.new texts.old texts.new result }
+        ensures { AdvancesHere O.tally O.count T.text self.old self.new outputs.old outputs.new texts.old texts.new result }
     {
         self.print_and_flush(outputs, texts)?;
         self.next_step = NextStep::Ended;

@@ -7,6 +7,7 @@ use Rattle.sedengine.proofs.Writing.{Delivers-none, Delivers-then}
 use Rattle.sedengine.proofs.Moves.{same_self}
 use Rattle.sedengine.proofs.Queueing.{queued_at, entries_left, entries_none, entries_fewer}
 use Rattle.sedengine.proofs.Entries.{tells_on, at_entries, fits_later, same_later, reached_more, reached_last, flush_begun, flush_done}
+use Rattle.sedengine.proofs.Streams.{names_ok}
 use Rattle.sedengine.proofs.flushing.flush_queue.Goals as goal
 
 pub loop-index-init : goal.loop-index-init
@@ -46,11 +47,11 @@ loop-index-preserved g c =
     let h = c.loop-index.invariant in
     let e = c.in_ok-write_entry.ensures in
     record {
-      limit = e.limit ∙ h.limit;
-      later = omega (arith, e.later);
-      most = e.turns;
-      kept = λ j. Keeps-trans _ _ _ (h.kept j) (e.kept j);
-      output = Delivers-then g.O.MeteredSinks.tally g.O.MeteredSinks.count c.args.outputs.now c.loop-index.outputs c.write_entry.new.outputs (Ok tt) h.output e.devices.output;
+      limit = e.leaves.limit ∙ h.limit;
+      later = omega (arith, e.leaves.later);
+      most = e.leaves.within;
+      kept = λ j. Keeps-trans _ _ _ (h.kept j) (e.leaves.kept j);
+      output = Delivers-then g.O.MeteredSinks.tally g.O.MeteredSinks.count c.args.outputs.now c.loop-index.outputs c.write_entry.new.outputs (Ok tt) h.output e.leaves.devices.output;
       reached = λ setting writes_text s rest at queue turns fits.
           let later = entries_of script (drop c.loop-index.index items) in
           let m : State = at_entries s later (flush ∷ rest) c.loop-index.turns in
@@ -67,3 +68,27 @@ returns-clause-flushes g c = λ setting writes_text s rest at queue turns fits.
     let h = c.loop-index.invariant in
     flush_done c.args.limits.now setting s _ rest c.loop-index.turns _ _ fits h.most (entries_none c.args.script.now c.args.queue.now.items c.loop-index.index (omega arith))
     (h.reached setting writes_text s rest at queue turns fits)
+
+pub returns-clause-leaves : goal.returns-clause-leaves
+returns-clause-leaves g c =
+    let h = c.loop-index.invariant in
+    record { devices = record { output = h.output; input = names_ok.input }; limit = h.limit; later = h.later; within = h.most; kept = h.kept }
+
+pub returns-in_err-write_entry-clause-leaves : goal.returns-in_err-write_entry-clause-leaves
+returns-in_err-write_entry-clause-leaves g c =
+    let p = err_from_is_err_and c.from_residual.result c.from_residual.ensures.1 in
+    let h = c.loop-index.invariant in
+    let w = c.in_err-write_entry.ensures.leaves in
+    rw (p.1, p.2) (record {
+      devices = record {
+        output = Delivers-then g.O.MeteredSinks.tally g.O.MeteredSinks.count c.args.outputs.now c.loop-index.outputs c.write_entry.new.outputs (Err c.in_err-write_entry.field-0.0) h.output w.devices.output;
+        input = w.devices.input;
+      };
+      limit = w.limit ∙ h.limit;
+      later = omega (arith, h.later, w.later);
+      within = w.within;
+      kept = λ j. Keeps-trans _ _ _ (h.kept j) (w.kept j);
+    })
+
+pub write_entry-requires-clause-room : goal.write_entry-requires-clause-room
+write_entry-requires-clause-room g c = λ some. c.loop-index.invariant.limit ∙ c.requires.room some

@@ -1,6 +1,6 @@
 use Rattle.sedmatch.specs.declared.occurrences.Occurrences.{Occurrences}
 use Rattle.sedengine.proofs.Telling.{le_zero}
-use Rattle.sedengine.proofs.Fitting.{ok_with, sought, sought_fit}
+use Rattle.sedengine.proofs.Fitting.{none_absurd, ok_with, sought, sought_fit}
 use Rattle.sedengine.proofs.matchers.room_to_seek.Goals as goal
 
 pub most_nodes-most-requires-clause-fit : goal.most_nodes-most-requires-clause-fit
@@ -21,3 +21,21 @@ new-requires-clause-nodes c = c.most_nodes-most.ensures.few
 
 pub new-requires-2-clause-nodes : goal.new-requires-2-clause-nodes
 new-requires-2-clause-nodes c = c.most_nodes-most.ensures.few
+
+pub most_nodes-most-requires-clause-few : goal.most_nodes-most-requires-clause-few
+most_nodes-most-requires-clause-few c = c.nodes.ensures.most
+
+pub new-requires-clause-some_node : goal.new-requires-clause-some_node
+new-requires-clause-some_node c = c.most_nodes-most.ensures.some
+
+pub new-requires-clause-fit : goal.new-requires-clause-fit
+new-requires-clause-fit c = λ k e is. none_absurd is
+
+pub new-requires-2-clause-text : goal.new-requires-2-clause-text
+new-requires-2-clause-text c = c.space.ensures.most
+
+pub new-requires-2-clause-some_node : goal.new-requires-2-clause-some_node
+new-requires-2-clause-some_node c = c.most_nodes-most.ensures.some
+
+pub new-requires-2-clause-fit : goal.new-requires-2-clause-fit
+new-requires-2-clause-fit c = λ k e is. c.most_nodes-most.ensures.most k e (rw (c.deref-2.ensures.value, ← c.deref.ensures.value) at is)

@@ -27,3 +27,6 @@ pub returns-clause-puts : goal.returns-clause-puts
 returns-clause-puts g c =
     let whole = ended c.args.bytes.now c.copy_from_slice.new.self c.copy_from_slice.ensures.after (omega arith) in
     rw whole at c.write_all-2.ensures.puts
+
+pub returns-clause-devices : goal.returns-clause-devices
+returns-clause-devices g c = c.write_all-2.ensures.devices

@@ -1,7 +1,7 @@
 use Rattle.std.proofs.Common.{refl, ap, ◌∙◌, rules}
 use Rattle.sedengine.specs.Meters.{Frame}
 use Rattle.sedengine.specs.Run.{RunState}
-use Rattle.sedengine.proofs.Metering.{cycles_metered, sinks_at_end}
+use Rattle.sedengine.proofs.Metering.{cycles_metered, sinks_at_end, meter_fits, same_metered, sink_counts, sound_more}
 use Rattle.sedengine.proofs.engine.Engine.cycle.Goals as goal
 
 pub returns-clause-cycles : goal.returns-clause-cycles
@@ -20,3 +20,22 @@ returns-clause-output g c = λ fresh.
 
 pub returns-clause-ended : goal.returns-clause-ended
 returns-clause-ended g c = c.end-self-inside.ensures
+
+pub cycle-progress-requires-clause-sinks : goal.cycle-progress-requires-clause-sinks
+cycle-progress-requires-clause-sinks g c = sink_counts c.self.inside.machine c.args.self.now _ _ _ _ c.self.view_is c.self.invariant.1 c.requires.sinks
+
+pub invariant_of-self : goal.invariant_of-self
+invariant_of-self g c = let w = c.cycle-progress.ensures.leaves in
+    meter_fits c.self.inside.machine c.cycle-progress.new.self c.self.inside.meter c.cycle-progress.new.outputs.meter.now w.same (ap (λ (f : Frame). f.most) w.output.same_frame) (ap (λ (f : Frame). f.counts) w.output.same_frame) c.self.invariant
+
+pub returns-clause-same_run : goal.returns-clause-same_run
+returns-clause-same_run g c = same_metered c.self.inside.machine c.cycle-progress.new.self c.args.self.now _ _ _ _ c.self.view_is c.cycle-progress.ensures.leaves.same
+
+pub returns-clause-input : goal.returns-clause-input
+returns-clause-input g c = λ fresh. c.cycle-progress.ensures.leaves.input.failed
+
+pub returns-clause-sound : goal.returns-clause-sound
+returns-clause-sound g c = sound_more c.cycle-progress.result c.cycle-progress.ensures.leaves.input.sound
+
+pub returns-in-Some-clause-sound : goal.returns-in-Some-clause-sound
+returns-in-Some-clause-sound g c = λ more sound. sound

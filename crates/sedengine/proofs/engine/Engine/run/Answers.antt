@@ -1,7 +1,7 @@
 use Rattle.std.proofs.Common.{Some, refl, ap, ◌∙◌, rules}
 use Rattle.sedengine.specs.Meters.{Frame}
 use Rattle.sedengine.specs.Run.{RunState}
-use Rattle.sedengine.proofs.Metering.{ending_metered, sinks_at_end}
+use Rattle.sedengine.proofs.Metering.{ending_metered, sinks_at_end, meter_fits, same_metered, sink_counts}
 use Rattle.sedengine.proofs.engine.Engine.run.Goals as goal
 
 pub returns-clause-ends : goal.returns-clause-ends
@@ -23,3 +23,13 @@ returns-clause-output g c = λ fresh.
 
 pub returns-clause-ended : goal.returns-clause-ended
 returns-clause-ended g c = refl
+
+pub run-end-requires-clause-sinks : goal.run-end-requires-clause-sinks
+run-end-requires-clause-sinks g c = sink_counts c.self.inside.machine c.args.self.now _ _ _ _ c.self.view_is c.self.invariant.1 c.requires.sinks
+
+pub invariant_of-self : goal.invariant_of-self
+invariant_of-self g c = let w = c.run-end.ensures.leaves in
+    meter_fits c.self.inside.machine c.run-end.new.self c.self.inside.meter c.run-end.new.outputs.meter.now w.same (ap (λ (f : Frame). f.most) w.output.same_frame) (ap (λ (f : Frame). f.counts) w.output.same_frame) c.self.invariant
+
+pub returns-clause-same_run : goal.returns-clause-same_run
+returns-clause-same_run g c = same_metered c.self.inside.machine c.run-end.new.self c.args.self.now _ _ _ _ c.self.view_is c.run-end.ensures.leaves.same

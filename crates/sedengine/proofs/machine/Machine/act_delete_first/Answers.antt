@@ -3,7 +3,7 @@ use Rattle.sedengine.specs.Inside.{run_of}
 use Rattle.sedengine.specs.declared.next_step.NextStep.TheVariants as p
 use Rattle.sedengine.proofs.Sending.{Sent-none}
 use Rattle.sedengine.proofs.Writing.{Delivers-none}
-use Rattle.sedengine.proofs.Deleting.{acts_deleting, cut_seen, uncut_performs}
+use Rattle.sedengine.proofs.Deleting.{acts_deleting, cut_is_run, cut_seen, uncut_performs}
 use Rattle.sedengine.proofs.Leaving.{falls_seen, leaves_seen}
 use Rattle.sedengine.proofs.machine.Machine.act_delete_first.Goals as goal
 
@@ -30,3 +30,9 @@ end_cycle-requires-clause-emptied g c = tt
 
 pub invariant_of-self-else-cut_line : goal.invariant_of-self-else-cut_line
 invariant_of-self-else-cut_line g c = rw (c.cut_line.ensures.whole c.if-cut_line.false).1 c.self.invariant
+
+pub invariant_of-self : goal.invariant_of-self
+invariant_of-self g c = let cut = c.cut_line.ensures.cut c.if-cut_line.true in cut_is_run c.self.inside c.cut_line.new.self c.self.invariant cut.0 cut.1
+
+pub end_cycle-requires-clause-sink : goal.end_cycle-requires-clause-sink
+end_cycle-requires-clause-sink g c = c.requires

@@ -17,9 +17,9 @@ pub returns-then-branch : goal.returns-then-branch
 returns-then-branch g c = record {
   acts = λ sound ls known files told.
       let w = c.in_ok-is_last.ensures in
-      next_stops g.R.ByteSource.remaining c.args.lines.now c.is_last.new.lines ls files c.self.inside c.args.self.now (g.O.MeteredSinks.tally c.args.outputs.now) c.in_ok-is_last.field-0 c.self.view_is c.self.invariant (w.left ls known) (w.last sound ls known) c.if-branch.true;
+      next_stops g.R.ByteSource.remaining c.args.lines.now c.is_last.new.lines ls files c.self.inside c.args.self.now (g.O.MeteredSinks.tally c.args.outputs.now) c.in_ok-is_last.field-0 c.self.view_is c.self.invariant (w.reads.left ls known) (w.last sound ls known) c.if-branch.true;
   falls = falls_going c.self.inside c.args.self.now p.WriteLast c.self.view_is;
-  leaves = let w = ReadsAlone-told c.in_ok-is_last.field-0 c.in_ok-is_last.ensures.reads in
+  leaves = let w = ReadsAlone-told c.in_ok-is_last.field-0 c.in_ok-is_last.ensures.reads.alone in
       leaves_texts w.input (Delivers-quiet _ _ _ (Ok tt) tt) (same_seen c.self.inside c.args.self.now _ c.self.view_is refl refl);
 }
 
@@ -28,18 +28,18 @@ returns g c = record {
   acts = λ sound ls known files told.
       let w = c.in_ok-is_last.ensures in
       let e = c.args.self.now in
-      let taken = w.left ls known in
+      let taken = w.reads.left ls known in
       let due = then_do (print_pattern ∷ flush ∷ empty_pattern ∷ fetch ∷ e.state.tasks) (at_lines e ls) in
       performs_then g.R.ByteSource.remaining c.args.lines.now c.fetch.new.lines ls e.limits (run_setting e files) (next_line (at_lines e ls)) true (at_lines e ls) due c.fetch.new.self _ _ c.fetch.result
       (next_goes e e files ls c.in_ok-is_last.field-0 (w.last sound ls known) c.if-branch.false) refl refl
       (looked_then g.R.ByteSource.remaining c.args.lines.now c.is_last.new.lines c.fetch.new.lines ls e.limits (run_setting e files) _ c.fetch.new.self _ _ c.fetch.result taken
       (flushed_steps g.R.ByteSource.remaining c.is_last.new.lines c.fetch.new.lines ls files (λ ts. empty_pattern ∷ fetch ∷ ts) due e c.print_and_flush.new.self c.fetch.new.self
       c.print_and_flush.new.self.state.turns _ _ _ c.fetch.result c.in_ok-print_and_flush.ensures.ok refl refl
-      (c.in_ok-print_and_flush.ensures.moves files told ls (empty_pattern ∷ fetch ∷ e.state.tasks)) (c.fetch.ensures.steps (w.reads.input.sound sound) ls taken.known files (g.O.MeteredSinks.tally c.print_and_flush.new.outputs))));
+      (c.in_ok-print_and_flush.ensures.moves files told ls (empty_pattern ∷ fetch ∷ e.state.tasks)) (c.fetch.ensures.steps (w.reads.alone.input.sound sound) ls taken.known files (g.O.MeteredSinks.tally c.print_and_flush.new.outputs))));
   falls = let w = c.in_ok-print_and_flush.ensures in
       falls_then (falls_flushed c.args.self.now c.print_and_flush.new.self _ w.ok w.later) c.fetch.ensures.falls;
   leaves = record {
-    input = ReadsLines-then _ _ _ _ _ _ _ (ReadsLines-told _ _ _ _ _ _ c.in_ok-is_last.ensures.reads.input) c.fetch.ensures.reads.input;
+    input = ReadsLines-then _ _ _ _ _ _ _ (ReadsLines-told _ _ _ _ _ _ c.in_ok-is_last.ensures.reads.alone.input) c.fetch.ensures.reads.input;
     output = Delivers-then _ _ _ _ _ _ c.in_ok-print_and_flush.ensures.devices.output (Delivers-quiet _ _ _ _ c.fetch.ensures.reads.output);
     same = SameRun-then (same_flushed c.args.self.now c.print_and_flush.new.self _ c.in_ok-print_and_flush.ensures.ok) c.fetch.ensures.same;
     kept = c.in_ok-print_and_flush.ensures.kept;
@@ -57,12 +57,12 @@ returns-in_err-print_and_flush g c =
           let due = then_do (print_pattern ∷ flush ∷ empty_pattern ∷ fetch ∷ e.state.tasks) (at_lines e ls) in
           rw (q.1, q.2) (performs_then g.R.ByteSource.remaining c.args.lines.now c.is_last.new.lines ls e.limits (run_setting e files) (next_line (at_lines e ls)) true (at_lines e ls) due c.print_and_flush.new.self _ _ (Err end)
           (next_goes e e files ls c.in_ok-is_last.field-0 (w.last sound ls known) c.if-branch.false) refl refl
-          (looked_moves g.R.ByteSource.remaining c.args.lines.now c.is_last.new.lines ls e.limits (run_setting e files) due c.print_and_flush.new.self _ _ (Err end) (w.left ls known) refl
+          (looked_moves g.R.ByteSource.remaining c.args.lines.now c.is_last.new.lines ls e.limits (run_setting e files) due c.print_and_flush.new.self _ _ (Err end) (w.reads.left ls known) refl
           (stopped_anyway _ _ _ c.print_and_flush.new.self ls (empty_pattern ∷ fetch ∷ e.state.tasks) _ _ end (c.in_err-print_and_flush.ensures.moves files told ls (empty_pattern ∷ fetch ∷ e.state.tasks)))));
       falls = let w = c.in_err-print_and_flush.ensures in
           falls_more (falls_turned c.args.self.now c.print_and_flush.new.self _ w.err w.later);
       leaves = let w = c.in_err-print_and_flush.ensures in
-          let input = ReadsLines-told _ _ _ _ _ _ c.in_ok-is_last.ensures.reads.input in
+          let input = ReadsLines-told _ _ _ _ _ _ c.in_ok-is_last.ensures.reads.alone.input in
           rw (q.1, q.2) (record { input = ReadsLines-then _ _ _ _ _ _ _ input (ReadsLines-unread _ _ _ _ _ w.devices.input); output = w.devices.output; same = same_turned c.args.self.now c.print_and_flush.new.self _ w.err; kept = w.kept });
     }
 
@@ -73,8 +73,8 @@ returns-in_err-is_last g c =
       acts = λ sound ls known files told.
           let w = c.in_err-is_last.ensures in
           let e = c.args.self.now in
-          rw (q.1, q.2) (next_broken g.R.ByteSource.remaining c.args.lines.now c.is_last.new.lines ls (run_setting e files) (next_line (at_lines e ls)) e (g.O.MeteredSinks.tally c.args.outputs.now) c.in_err-is_last.field-0.0 (w.left ls known) (w.last sound ls known));
+          rw (q.1, q.2) (next_broken g.R.ByteSource.remaining c.args.lines.now c.is_last.new.lines ls (run_setting e files) (next_line (at_lines e ls)) e (g.O.MeteredSinks.tally c.args.outputs.now) c.in_err-is_last.field-0.0 (w.reads.left ls known) (w.last sound ls known));
       falls = falls_none;
-      leaves = let w = ReadsAlone-ended c.in_err-is_last.field-0.0 c.in_err-is_last.ensures.reads in
+      leaves = let w = ReadsAlone-ended c.in_err-is_last.field-0.0 c.in_err-is_last.ensures.reads.alone in
           rw (q.1, q.2) (leaves_texts w.input (Delivers-quiet _ _ _ _ w.output) (record { script = refl; limits = refl }));
     }

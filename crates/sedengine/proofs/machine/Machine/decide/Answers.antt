@@ -1,23 +1,23 @@
-use Rattle.std.proofs.Common.{rules, refl}
+use Rattle.std.proofs.Common.{rules, refl, ap, ◌∙◌}
+use Rattle.sedengine.proofs.Choices.{none_decides}
+use Rattle.sedengine.specs.Choose.{current_in, deciding}
+use Rattle.sedengine.specs.Move.{none_left}
+use Rattle.sedengine.specs.Run.{RunState}
 use Rattle.sedengine.proofs.Streams.{lines_same, names_ok, ReadsLines-unread}
 use Rattle.sedengine.proofs.machine.Machine.decide.Goals as goal
 
-pub returns-in-None-clause-left : goal.returns-in-None-clause-left
-returns-in-None-clause-left g c = λ ls known. lines_same _ _ ls known
-
-pub returns-in-None-clause-reads : goal.returns-in-None-clause-reads
-returns-in-None-clause-reads g c = record { input = ReadsLines-unread _ _ _ _ _ names_ok.input; output = tt }
-
-pub returns-in-None-clause-same : goal.returns-in-None-clause-same
-returns-in-None-clause-same g c = refl
-
-pub returns-in-None-clause-err : goal.returns-in-None-clause-err
-returns-in-None-clause-err g c = tt
+pub returns-in-None : goal.returns-in-None
+returns-in-None g c = record {
+  answers = λ sound ls known.
+      none_decides (current_in c.args.self.now (none_left ls)) _ (c.in-None.ensures ∙ ap (λ (e : RunState). deciding c.args.command.now.first c.args.command.now.second c.args.active e.state.number) c.self.view_is);
+  reads = record { left = λ ls known. lines_same _ _ ls known; alone = record { input = ReadsLines-unread _ _ _ _ _ names_ok.input; output = tt } };
+  same = refl;
+  err = tt;
+}
 
 pub returns-in-Some : goal.returns-in-Some
 returns-in-Some g c = record {
   answers = search rules;
-  left = c.matches.ensures.left;
   reads = c.matches.ensures.reads;
   same = c.matches.ensures.same;
   err = c.matches.ensures.err;

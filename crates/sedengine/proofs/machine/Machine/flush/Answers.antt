@@ -4,6 +4,7 @@ use Rattle.sedengine.specs.Run.{RunState, run_setting}
 use Rattle.sedengine.specs.Inside.{run_of}
 use Rattle.sedengine.specs.Queueing.{flushed, with_turns}
 use Rattle.sedengine.proofs.Ending.{flush_moves}
+use Rattle.sedengine.proofs.Tasks.{stopped_flushing, flushed_is_run}
 use Rattle.sedengine.proofs.machine.Machine.flush.Goals as goal
 
 pub returns : goal.returns
@@ -16,8 +17,8 @@ returns g c = record {
   ok = rw c.clear.ensures (ap (λ (e : RunState). flushed e c.flush_queue.new.turns) c.self.view_is);
   err = tt;
   later = search rules;
-  devices = c.in_ok-flush_queue.ensures.devices;
-  kept = c.in_ok-flush_queue.ensures.kept;
+  devices = c.in_ok-flush_queue.ensures.leaves.devices;
+  kept = c.in_ok-flush_queue.ensures.leaves.kept;
 }
 
 pub returns-in_err-flush_queue : goal.returns-in_err-flush_queue
@@ -34,6 +35,15 @@ returns-in_err-flush_queue g c = record {
       rw p.1 (ap (λ (e : RunState). with_turns e c.flush_queue.new.turns) c.self.view_is);
   later = search rules;
   devices = let p = err_from_is_err_and c.from_residual.result c.from_residual.ensures.1 in
-      rw (p.1, p.2) c.in_err-flush_queue.ensures.devices;
-  kept = c.in_err-flush_queue.ensures.kept;
+      rw (p.1, p.2) c.in_err-flush_queue.ensures.leaves.devices;
+  kept = c.in_err-flush_queue.ensures.leaves.kept;
 }
+
+pub flush_queue-requires : goal.flush_queue-requires
+flush_queue-requires g c = record { sink = c.requires; room = c.self.invariant.copy_limit; before = c.self.invariant.turns; queued = c.self.invariant.queued }
+
+pub invariant_of-self : goal.invariant_of-self
+invariant_of-self g c = stopped_flushing c.self.inside c.flush_queue.new.build c.flush_queue.new.turns c.self.invariant c.flush_queue.ensures.leaves.limit c.flush_queue.ensures.leaves.later c.flush_queue.ensures.leaves.within
+
+pub invariant_of-self-2 : goal.invariant_of-self-2
+invariant_of-self-2 g c = flushed_is_run c.self.inside c.flush_queue.new.build c.clear.new.self c.flush_queue.new.turns c.self.invariant c.flush_queue.ensures.leaves.limit c.flush_queue.ensures.leaves.later c.flush_queue.ensures.leaves.within c.clear.ensures

@@ -1,10 +1,22 @@
+use Rattle.std.proofs.Common.{refl}
 use Rattle.sedengine.proofs.Passes.{nothing_passed}
+use Rattle.sedengine.proofs.Streams.{ReadsLines-none}
+use Rattle.sedengine.proofs.Telling.{le_same}
+use Rattle.sedengine.proofs.Writing.{Delivers-none}
 use Rattle.sedengine.proofs.machine.Machine.pass_over.Goals as goal
 
-pub returns-then-may_pass-clause-steps : goal.returns-then-may_pass-clause-steps
-returns-then-may_pass-clause-steps g c = λ ls known files.
-    rw (← c.may_pass.ensures.same) (c.pass_ahead.ensures.steps ls known files)
+pub returns-then-may_pass : goal.returns-then-may_pass
+returns-then-may_pass g c = rw (← c.may_pass.ensures.same) c.pass_ahead.ensures
 
-pub returns-clause-steps : goal.returns-clause-steps
-returns-clause-steps g c = λ ls known files.
-    nothing_passed g.R.ByteSource.remaining c.args.lines.now ls c.args.self.now c.may_pass.new.self _ _ known (c.is_within_limits.ensures ls) c.may_pass.ensures.same
+pub returns : goal.returns
+returns g c = record {
+  steps = λ ls known files.
+      nothing_passed g.R.ByteSource.remaining c.args.lines.now ls c.args.self.now c.may_pass.new.self _ _ known (c.is_within_limits.ensures ls) c.may_pass.ensures.same;
+  input = ReadsLines-none _ _ _ _;
+  output = Delivers-none _ _ _;
+  falls = rw c.may_pass.ensures.same le_same;
+  same = rw c.may_pass.ensures.same (record { script = refl; limits = refl });
+}
+
+pub pass_ahead-requires : goal.pass_ahead-requires
+pass_ahead-requires g c = record { begins = rw c.may_pass.ensures.same (c.may_pass.ensures.begins c.if-may_pass.true); sink = c.requires }

@@ -1,4 +1,4 @@
-use Rattle.std.proofs.Common.{ap, Ok, refl, sym, ◌∙◌, arith}
+use Rattle.std.proofs.Common.{ap, Ok, refl, sym, ◌∙◌, arith, subst}
 use Rattle.std.proofs.KnownBytes.{Keeps-refl}
 use Rattle.std.proofs.lemmas.Result.{err_from_is_err_and}
 use Rattle.sedengine.specs.Run.{RunState}
@@ -8,7 +8,9 @@ use Rattle.sedengine.proofs.Runs.{SameRun-then}
 use Rattle.sedengine.proofs.Writing.{Delivers-none, Delivers-unwritten}
 use Rattle.sedengine.proofs.Streams.{names_spent, ReadsLines-ended, ReadsLines-then, ReadsLines-told}
 use Rattle.sedengine.proofs.Tasks.{steps_by_moves}
-use Rattle.sedengine.proofs.Acts.{reached_number, turn_left, steps_spent, reach_stopping, reach_acting, reach_passing}
+use Rattle.sedengine.proofs.Acts.{reached_number, turn_left, steps_spent, reach_stopping, reach_acting, reach_passing, some_sink, command_there, action_there}
+use Rattle.sedscript.specs.Ranges.{CommandWithin}
+use Rattle.sedscript.specs.Script.{ActionWithin}
 use Rattle.sedengine.proofs.machine.Machine.reach.Goals as goal
 
 pub returns-then-k-len : goal.returns-then-k-len
@@ -33,12 +35,12 @@ returns-in_err-choice g c =
     record {
       steps = λ sound ls known files told.
           rw (p.1, p.2) (reach_stopping g.R.ByteSource.remaining c.args.lines.now c.judge.new.lines c.self.inside c.args.self.now c.self.view_is c.self.invariant files ls c.args.k c.command.result.now
-          c.requires.at c.command.ensures.is (λ e. c.if-self-turns.false (e ∙ sym c.turns.ensures)) (c.in_err-choice.ensures.left ls known)
+          c.requires.at c.command.ensures.is (λ e. c.if-self-turns.false (e ∙ sym c.turns.ensures)) (c.in_err-choice.ensures.reads.left ls known)
           (g.O.MeteredSinks.tally c.args.outputs.now) c.judge.new.self.state.used c.in_err-choice.field-0.0 c.judge.new.self c.in_err-choice.ensures.reaches (c.in_err-choice.ensures.judges sound ls known));
       falls = rw p.1 tt;
       leaves = rw (p.1, p.2) (record {
-        input = ReadsLines-ended _ _ _ _ _ _ c.in_err-choice.ensures.reads.input;
-        output = Delivers-unwritten _ _ _ c.in_err-choice.field-0.0 c.in_err-choice.ensures.reads.output;
+        input = ReadsLines-ended _ _ _ _ _ _ c.in_err-choice.ensures.reads.alone.input;
+        output = Delivers-unwritten _ _ _ c.in_err-choice.field-0.0 c.in_err-choice.ensures.reads.alone.output;
         same = rw c.in_err-choice.ensures.reaches (record { script = refl; limits = refl });
         kept = λ j. Keeps-refl _;
       });
@@ -48,15 +50,15 @@ pub returns-then-choice : goal.returns-then-choice
 returns-then-choice g c = record {
   steps = λ sound ls known files told.
       let w = c.in_ok-choice.ensures in
-      let taken = w.left ls known in
+      let taken = w.reads.left ls known in
       reach_acting g.R.ByteSource.remaining c.args.lines.now c.judge.new.lines c.self.inside c.args.self.now c.self.view_is c.self.invariant files ls c.args.k c.command.result.now
       c.requires.at c.command.ensures.is (λ e. c.if-self-turns.false (e ∙ sym c.turns.ensures)) taken
       c.in_ok-choice.choice c.judge.new.self.state.used c.judge.new.self c.act.new.self (w.judges sound ls known) w.reaches
-      c.act.new.lines _ _ _ c.writes_text.result c.if-choice.true c.writes_text.ensures (c.act.ensures.acts (w.reads.input.sound sound) ls taken.known files told);
+      c.act.new.lines _ _ _ c.writes_text.result c.if-choice.true c.writes_text.ensures (c.act.ensures.acts (w.reads.alone.input.sound sound) ls taken.known files told);
   falls = falls_reached c.args.self.now c.judge.new.self c.act.new.self c.args.k _ _ c.act.result c.in_ok-choice.ensures.reaches c.requires.at
       (turn_left c.self.inside c.args.self.now c.self.view_is c.self.invariant (λ e. c.if-self-turns.false (e ∙ sym c.turns.ensures))) c.act.ensures.falls;
   leaves = record {
-    input = ReadsLines-then _ _ _ _ _ _ _ (ReadsLines-told _ _ _ _ _ _ c.in_ok-choice.ensures.reads.input) c.act.ensures.leaves.input;
+    input = ReadsLines-then _ _ _ _ _ _ _ (ReadsLines-told _ _ _ _ _ _ c.in_ok-choice.ensures.reads.alone.input) c.act.ensures.leaves.input;
     output = c.act.ensures.leaves.output;
     same = SameRun-then (same_reached c.args.self.now c.judge.new.self c.args.k _ _ c.in_ok-choice.ensures.reaches) c.act.ensures.leaves.same;
     kept = c.act.ensures.leaves.kept;
@@ -67,13 +69,13 @@ pub returns-else-choice : goal.returns-else-choice
 returns-else-choice g c = record {
   steps = λ sound ls known files told.
       reach_passing g.R.ByteSource.remaining c.args.lines.now c.judge.new.lines c.self.inside c.args.self.now c.self.view_is c.self.invariant files ls c.args.k c.command.result.now
-      c.requires.at c.command.ensures.is (λ e. c.if-self-turns.false (e ∙ sym c.turns.ensures)) (c.in_ok-choice.ensures.left ls known)
+      c.requires.at c.command.ensures.is (λ e. c.if-self-turns.false (e ∙ sym c.turns.ensures)) (c.in_ok-choice.ensures.reads.left ls known)
       c.in_ok-choice.choice c.judge.new.self.state.used c.judge.new.self c.pass.new.self (c.in_ok-choice.ensures.judges sound ls known) c.in_ok-choice.ensures.reaches
       _ c.if-choice.false c.pass.ensures;
   falls = falls_reached c.args.self.now c.judge.new.self c.pass.new.self c.args.k _ _ (Ok tt) c.in_ok-choice.ensures.reaches c.requires.at
       (turn_left c.self.inside c.args.self.now c.self.view_is c.self.invariant (λ e. c.if-self-turns.false (e ∙ sym c.turns.ensures))) (falls_passed c.judge.new.self c.pass.new.self c.command.result.now.action c.pass.ensures);
   leaves = record {
-    input = ReadsLines-told _ _ _ _ _ _ c.in_ok-choice.ensures.reads.input;
+    input = ReadsLines-told _ _ _ _ _ _ c.in_ok-choice.ensures.reads.alone.input;
     output = Delivers-none _ _ _;
     same = SameRun-then (same_reached c.args.self.now c.judge.new.self c.args.k _ _ c.in_ok-choice.ensures.reaches) (same_passed c.judge.new.self c.pass.new.self c.command.result.now.action c.pass.ensures);
     kept = λ j. Keeps-refl _;
@@ -85,3 +87,27 @@ act-requires-clause-number g c = reached_number c.self.inside c.args.self.now c.
 
 pub act-requires-clause-at : goal.act-requires-clause-at
 act-requires-clause-at g c = ap (λ (e : RunState). reaches e.state.tasks) c.in_ok-choice.ensures.reaches
+
+pub finish-requires-clause-at : goal.finish-requires-clause-at
+finish-requires-clause-at g c = c.requires.at
+
+pub finish-requires-clause-sink : goal.finish-requires-clause-sink
+finish-requires-clause-sink g c = some_sink c.requires.sinks
+
+pub judge-requires-clause-there : goal.judge-requires-clause-there
+judge-requires-clause-there g c = command_there c.self.inside c.args.self.now c.args.k c.command.result.now c.self.view_is c.command.ensures.is
+
+pub judge-requires-clause-within : goal.judge-requires-clause-within
+judge-requires-clause-within g c = subst (λ (e : RunState). CommandWithin e.script c.command.result.now) c.self.view_is c.command.ensures.within
+
+pub judge-requires-clause-turn : goal.judge-requires-clause-turn
+judge-requires-clause-turn g c = turn_left c.self.inside c.args.self.now c.self.view_is c.self.invariant (λ e. c.if-self-turns.false (e ∙ sym c.turns.ensures))
+
+pub act-requires-clause-within : goal.act-requires-clause-within
+act-requires-clause-within g c = rw c.in_ok-choice.ensures.reaches (subst (λ (e : RunState). ActionWithin e.script c.command.result.now.action) c.self.view_is c.command.ensures.within.action)
+
+pub act-requires-clause-action : goal.act-requires-clause-action
+act-requires-clause-action g c = rw c.in_ok-choice.ensures.reaches (action_there c.self.inside c.args.self.now c.args.k c.command.result.now c.self.view_is c.command.ensures.is)
+
+pub act-requires-clause-sinks : goal.act-requires-clause-sinks
+act-requires-clause-sinks g c = rw c.in_ok-choice.ensures.reaches c.requires.sinks

@@ -16,3 +16,6 @@ returns g c = record {
       lines_written _ _ c.args.self.now.script.quiet c.args.bytes.now c.write_part.result loud c.write_part.ensures.writes;
   output = c.write_part.ensures.devices;
 }
+
+pub write_part-requires : goal.write_part-requires
+write_part-requires g c = c.requires

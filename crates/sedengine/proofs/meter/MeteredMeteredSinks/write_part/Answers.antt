@@ -1,6 +1,7 @@
 use Rattle.std.proofs.Common.{◌≡◌, ◌<◌, ◌≤◌, length, take, refl, arith, take-take, length-take-le}
 use Rattle.std.proofs.Math.Seq.{take-length}
 use Rattle.sedengine.proofs.Sending.{Sent-one}
+use Rattle.sedengine.proofs.Metering.{below_both}
 use Rattle.sedengine.proofs.meter.MeteredMeteredSinks.write_part.Goals as goal
 
 pub returns-in-Err-clause-writes : goal.returns-in-Err-clause-writes
@@ -33,3 +34,15 @@ returns-clause-writes g c =
     let room = c.room-room.result in
     let all : room ≡ length bytes = omega (arith, c.room-room.ensures.most, c.if-room-bytes.false) in
     Sent-one _ _ c.args.sink bytes (rw (all, take-length) at w.appends) w.others (rw all at a.counts) a.others
+
+pub room-room-requires : goal.room-room-requires
+room-room-requires g c = (below_both c.requires).0
+
+pub write_all-requires : goal.write_all-requires
+write_all-requires g c = (below_both c.requires).1
+
+pub add-requires-clause-sink : goal.add-requires-clause-sink
+add-requires-clause-sink g c = (below_both c.requires).0
+
+pub add-requires-2-clause-sink : goal.add-requires-2-clause-sink
+add-requires-2-clause-sink g c = (below_both c.requires).0
