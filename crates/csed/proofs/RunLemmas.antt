@@ -3,7 +3,7 @@ use Rattle.std.proofs.Common.{◌≡◌, ◌≢◌, ◌≤◌, ◌+◌, ◌==◌
 use Rattle.sedscript.specs.Program.{Program}
 use Rattle.sedengine.specs.State.{Limits, Setting, State, setting_of}
 use Rattle.sedengine.specs.Move.{to_sink}
-use Rattle.sedengine.specs.Ends.{part, Gained, GainedWithin, SourceAtEnd, Cause}
+use Rattle.sedengine.specs.Ends.{part, Gained, GainedWithin, SourceAtEnd, IsCause}
 use Rattle.sedengine.specs.declared.ends.Ended.{Ended}
 use Rattle.sedengine.specs.declared.ends.Ended.TheVariants.{Done, PatternFull, HoldFull, QueueFull, TurnsSpent, NoPrevious, InputBroken, OutputBroken, OutputFull}
 use Rattle.sededit.specs.EditEnds.{EditEnds}
@@ -95,7 +95,7 @@ module _ (room : ℕ) (held held' : Option (List ℕ)) (bytes : List ℕ) (befor
         input = never_failed end source;
         output = output;
         t = h.t;
-        cause = subst (λ (w : List (ℕ × ℕ)). Cause l g s w end h.t) (all_written held held' bytes before after out sent.gained) h.cause;
+        cause = subst (λ (w : List (ℕ × ℕ)). IsCause l g s w end h.t) (all_written held held' bytes before after out sent.gained) h.cause;
         full = full_by l.output end out is sent;
       }
 

@@ -7,7 +7,7 @@ use Rattle.sedscript.specs.declared.types.ScriptFault.{ScriptFault}
 use Rattle.sedengine.specs.State.{Limits, Setting, State, setting_of}
 use Rattle.sedengine.specs.LimitRanges.{AreLimits, limits_of}
 use Rattle.sedengine.specs.Move.{to_sink}
-use Rattle.sedengine.specs.Ends.{Cause}
+use Rattle.sedengine.specs.Ends.{IsCause}
 use Rattle.sedengine.specs.declared.ends.Ended.{Ended}
 use Rattle.sedengine.specs.declared.ends.Ended.TheVariants.{Done, InputBroken, OutputBroken}
 use Rattle.sededit.specs.Editing.{BeginsOutput, IsOutput, start_over}
@@ -21,7 +21,7 @@ use Rattle.csed.specs.Reports.{cause_of, of_end, of_fault, of_files}
 abbrev pub has : ℕ → ℕ → Bool
 has flags flag = not (bit_and flags flag == 0)
 
--- the limits that are told
+-- the limits that are given
 abbrev pub limits_told : SedLimits → Limits
 limits_told l = limits_of l.space l.queue l.look l.turns l.nodes
 
@@ -76,16 +76,16 @@ pub record RunStops (l : Limits) (g : Setting) (s : State) (room : ℕ) (bytes :
   pub input : end ≢ InputBroken
   pub output : (k : ℕ) → end ≢ OutputBroken k
   pub t : ℕ
-  pub cause : Cause l g s (to_sink 0 bytes) end t
+  pub cause : IsCause l g s (to_sink 0 bytes) end t
   pub full : cause_of end ≡ 8 → length bytes ≡ room
 
--- The run of the text's script over the input stopped as `RunStops` says, under the limits told and with this room for the output.
+-- The run of the text's script over the input stopped as `RunStops` says, under the limits given, with this room for the output.
 abbrev pub StopsFor : List ℕ → Asked → List ℕ → ℕ → List ℕ → Ended → Type 0
 StopsFor text a input room bytes end =
     (p : Program) × GivesScript text a p
     × RunStops (record a.limits { output = Some room }) (setting_of p no_files) (start_over p input) room bytes end
 
--- A run stopped as `StopsFor` says, and the report tells its end.
+-- A run stopped as `StopsFor` says, and the report gives its end.
 abbrev pub IsStopped : List ℕ → Asked → List ℕ → ℕ → List ℕ → SedReport → Type 0
 IsStopped text a input room bytes report =
     (end : Ended) × StopsFor text a input room bytes end × (report ≡ of_end report.written end)

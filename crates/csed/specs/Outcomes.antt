@@ -1,5 +1,5 @@
--- Private to the proofs: no contract of a public item cites what stands here.
--- What calls come to, before it is told in numbers.
+-- Private to the proofs: no contract of a public item cites what is here.
+-- What calls come to, before it is reported in numbers.
 use Rattle.std.specs.Prelude.{◌≡◌, ℕ, ℤ, pos, List, Some, take, length}
 use Rattle.sedscript.specs.FirstFault.{Faulty}
 use Rattle.sedscript.specs.Program.{Program}
@@ -16,7 +16,7 @@ use Rattle.csed.specs.declared.outcome.Outcome.TheVariants.{Done, Faulty as HasF
 use Rattle.csed.specs.Reports.{empty_report, of_bytes, of_end, of_fault, of_files}
 use Rattle.csed.specs.Calls.{GivesScript, IsWhole, MayAsk, MayNotAsk, RunStops, StopsFor, WritesFiles, asked_by, no_files}
 
--- the status that tells it
+-- the status that gives it
 abbrev pub status_of : Outcome → ℤ
 status_of (Done n) = pos 0
 status_of (HasFault f) = pos 1
@@ -25,7 +25,7 @@ status_of BadLimits = pos 2
 status_of NoMemory = pos 3
 status_of (Stopped n end) = pos 4
 
--- the report that tells it
+-- the report that gives it
 abbrev pub report_of : Outcome → SedReport
 report_of (Done n) = of_bytes n
 report_of (HasFault f) = of_fault f

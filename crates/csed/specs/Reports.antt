@@ -1,4 +1,4 @@
--- The numbers by which a call tells what it came to (this project's own).
+-- The numbers by which a call reports what it came to (this project's own).
 use Rattle.std.specs.Prelude.{ℕ}
 use Rattle.sedre.specs.Reasons.{number}
 use Rattle.sedscript.specs.declared.types.Reason.{Reason}
@@ -34,7 +34,7 @@ abbrev pub expression_of : Reason → ℕ
 expression_of (Expression f) = number f.reason
 expression_of other = 0
 
--- nothing is told
+-- nothing is reported
 abbrev pub empty_report : SedReport
 empty_report = record { written = 0; place = 0; line = 0; fault = 0; expression = 0; cause = 0; spare = 0 }
 

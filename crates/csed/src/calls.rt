@@ -35,7 +35,7 @@ pub extern "C" fn sed_check(
     ensures done { result ≡ SED_DONE → (p : Program) × GivesScript script.now (asked_by flags limits.now) p }
     // The fault is the first one of the text, or a file is written.
     ensures refused { result ≡ SED_REFUSED → IsRefused script.now (asked_by flags limits.now) report.new }
-    // Nothing else is told.
+    // Nothing else is reported.
     ensures silent { result ≢ SED_REFUSED → report.new ≡ empty_report }
 {
     let outcome = check(alloc, script, flags, limits);
@@ -63,7 +63,7 @@ pub extern "C" fn sed_edit(
 ) -> i32
     ensures status { (result ≡ SED_DONE) ⊎ ((result ≡ SED_REFUSED) ⊎ ((result ≡ SED_BAD_LIMITS)
         ⊎ ((result ≡ SED_NO_MEMORY) ⊎ (result ≡ SED_STOPPED)))) }
-    // Only the first bytes of the output are written, and their number is told.
+    // Only the first bytes of the output are written, and their number is reported.
     ensures written { report.new.written ≤ length output.new }
     ensures rest { drop report.new.written output.new ≡ drop report.new.written output.old }
     ensures same_length { length output.new ≡ length output.old }
@@ -73,14 +73,14 @@ pub extern "C" fn sed_edit(
     // The bytes are all that the script writes over the input.
     ensures done { result ≡ SED_DONE → IsWhole script.now (asked_by flags limits.now) input.now
         (take report.new.written output.new) × (report.new ≡ of_bytes report.new.written) }
-    // The bytes are a beginning of it, and the cause that is told is true.
+    // The bytes are a beginning of it, and the cause that is reported is true.
     ensures beginning { result ≡ SED_STOPPED → IsBeginning script.now (asked_by flags limits.now) input.now
         (take report.new.written output.new) }
     ensures stopped { result ≡ SED_STOPPED → IsStopped script.now (asked_by flags limits.now) input.now
         (length output.old) (take report.new.written output.new) report.new }
     // The fault is the first one of the text, or a file is written; no byte is.
     ensures refused { result ≡ SED_REFUSED → IsRefused script.now (asked_by flags limits.now) report.new }
-    // Nothing is told, and no byte is written.
+    // Nothing is reported, and no byte is written.
     ensures silent { (result ≡ SED_BAD_LIMITS) ⊎ (result ≡ SED_NO_MEMORY) → report.new ≡ empty_report }
 {
     let outcome = edit_by(alloc, script, flags, input, output, limits);

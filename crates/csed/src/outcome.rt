@@ -1,4 +1,4 @@
-//! What calls are told, and what they tell.
+//! What calls come to, and what they report.
 ghost use Rattle.std.specs.Prelude.{◌≡◌};
 ghost use Rattle.csed.specs.Reports.{cause_of, expression_of, line_of};
 ghost use Rattle.csed.specs.Outcomes.{report_of, status_of};
@@ -30,7 +30,7 @@ pub const SED_FAULT_WRITES_FILES: u32 = 100;
 pub struct SedReport {
     /// How many bytes of the output were written.
     pub written: usize,
-    /// The place in the script at which its fault is told, counted from 0.
+    /// The place in the script at which its fault is reported, counted from 0.
     pub place: usize,
     /// The line at which a run stopped, where its cause names one.
     pub line: u64,
@@ -75,7 +75,7 @@ impl Outcome {
         }
     }
 
-    /// What is told of it besides.
+    /// What is reported of it besides.
     pub(crate) fn report(self) -> SedReport
         ensures { result ≡ report_of self }
     {

@@ -5,7 +5,7 @@ ghost use Rattle.sedspace.specs.Memory.{sink_bytes, sink_failures};
 use sedspace::{Broken, MemoryOutputs, Outputs};
 use std::alloc::{AllocError, Global};
 
-/// The one sink that there is, in memory. So no other ever holds a byte.
+/// The one sink that there is, in memory. So no other ever contains a byte.
 #[derive(Drop)]
 pub(crate) struct StandardOutput {
     sinks: MemoryOutputs,
@@ -21,7 +21,7 @@ impl StandardOutput {
         Ok(StandardOutput { sinks })
     }
 
-    /// What it holds.
+    /// What it contains.
     pub(crate) fn bytes(&self) -> &[u8]
         ensures { Some result.now ≡ sink_bytes self.now.sinks 0 }
     {

@@ -18,7 +18,7 @@ fn first_cycles<R: ByteSource, O: Outputs, T: Texts>(
     outputs: &mut O,
     texts: &mut T,
 ) -> Option<Ended>
-    requires look { lines.old.look ≡ engine.old.limits.look }
+    requires look { lines.old.read_ahead ≡ engine.old.limits.look }
     requires sinks { length engine.old.script.wfiles < O.count outputs.old }
 {
     for _cycle in 0..MOST_CYCLES {

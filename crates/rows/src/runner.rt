@@ -78,7 +78,7 @@ fn run_to_end(
     mut outputs: MemoryOutputs,
     mut texts: PiecedTexts,
 ) -> Outcome
-    requires look { lines.look ≡ engine.limits.look }
+    requires look { lines.read_ahead ≡ engine.limits.look }
     requires sinks { length engine.script.wfiles < length outputs.held }
 {
     let _progress = engine.cycle(&mut lines, &mut outputs, &mut texts);

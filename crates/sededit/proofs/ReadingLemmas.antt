@@ -1,6 +1,6 @@
 -- The text of a script, made part by part.
-use Rattle.std.proofs.Common.{◌≡◌, ◌∙◌, ℕ, List, [], ◌∷◌, Option, Some, None, string_bytes}
-use Rattle.std.proofs.KnownBytes.{Keeps-trans}
+use Rattle.std.proofs.Common.{◌≡◌, ◌∙◌, ℕ, List, [], ◌∷◌, Option, Some, None, refl, string_bytes}
+use Rattle.std.proofs.KnownBytes.{Keeps-refl, Keeps-trans}
 use Rattle.sedscript.specs.Script.{with_part}
 use Rattle.sedfiles.specs.Files.{FilesAhead, KeepsFiles, OnlyReadsScripts, WholeFiles}
 use Rattle.sededit.specs.Types.{File, Part, Script}
@@ -28,4 +28,19 @@ OnlyReads-then current ahead scripts refusals failures reference a b c h k = rec
   refused = k.refused ∙ h.refused;
   failed = k.failed ∙ h.failed;
   same_reference = k.same_reference ∙ h.same_reference;
+}
+
+files_kept : (a : Option (List (Option (List ℕ)))) → KeepsFiles a a
+files_kept None = tt
+files_kept (Some x) = refl
+
+pub OnlyReads-none : {I : Type 0} (current : I → Option (List ℕ)) (ahead : I → FilesAhead)
+    (scripts : I → WholeFiles) (refusals failures : I → ℕ) (reference : I → List ℕ) (a : I) → OnlyReadsScripts current ahead scripts refusals failures reference a a
+OnlyReads-none current ahead scripts refusals failures reference a = record {
+  same_current = Keeps-refl _;
+  same_ahead = λ names. files_kept _;
+  texts = λ name. refl;
+  refused = refl;
+  failed = refl;
+  same_reference = refl;
 }

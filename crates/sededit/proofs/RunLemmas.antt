@@ -4,8 +4,8 @@ use Rattle.std.specs.Option.{ForSome}
 use Rattle.sedspace.specs.Failures.{Rose}
 use Rattle.sedscript.specs.Program.{Program}
 use Rattle.sedengine.specs.State.{Limits, Setting, State, TellsFiles, setting_of}
-use Rattle.sedengine.specs.DevicesAfter.{FailedSink, SinksAtEnd}
-use Rattle.sedengine.specs.Ends.{Gained, GainedWithin, SourceAtEnd, BreaksInLine}
+use Rattle.sedengine.specs.DevicesAfter.{OthersStay, SinksAtEnd}
+use Rattle.sedengine.specs.Ends.{Gained, GainedWithin, SourceAtEnd, BreaksInLine, SinkAtEnd}
 use Rattle.sededit.specs.Types.{Done, Ended, InputBroken, OutputBroken, OutputFull}
 use Rattle.sededit.specs.Editing.{BeginsOutput, IsOutput, nothing_before, start_over}
 use Rattle.sedfiles.specs.Files.{KeepsFiles}
@@ -13,7 +13,7 @@ use Rattle.sedfiles.specs.Opening.{WereRefused}
 use Rattle.sedfiles.specs.AddedSinks.{FailsFlush}
 use Rattle.sededit.specs.Ahead.{Edits}
 use Rattle.sededit.specs.RunStatus.{Finishes, Ran}
-use Rattle.sededit.specs.Program.{Observed, Run, SinkAtEnd, SinkFailed, StopsEarly, WhereTold}
+use Rattle.sededit.specs.Program.{Observed, Run, SinkFailed, StopsEarly, WhereTold}
 use Rattle.sededit.proofs.EditLemmas.{BeginsOutput-at, IsOutput-at}
 use Rattle.sedfiles.proofs.JoinLemmas.{all_joined}
 
@@ -39,8 +39,8 @@ flush_rises (Err sink) old new failed k = failed.1 k
 -- what an end says of a sink it says after a flush too
 pub sink_flushed : (most : Option ℕ) (old mid new : ℕ → ℕ) (end : Ended) → SinksAtEnd most old mid (Err end) → ((k : ℕ) → mid k ≤ new k) →
     SinkAtEnd most old new end
-sink_flushed most old mid new (OutputBroken k) failed more = Rose-more _ _ _ failed.0.0 (more k)
-sink_flushed most old mid new (OutputFull k) failed more = failed.1
+sink_flushed most old mid new (OutputBroken k) failed more = Rose-more _ _ _ failed.0 (more k)
+sink_flushed most old mid new (OutputFull k) failed more = failed.0
 sink_flushed most old mid new _ failed more = tt
 
 -- the source has not failed in a run that came to the ordinary end
@@ -56,8 +56,8 @@ pub sink_failed-more : (old mid new : ℕ → ℕ) → ((k : ℕ) → mid k ≤ 
 sink_failed-more old mid new more (k, rose) = (k, Rose-more _ _ _ rose (more k))
 
 -- no sink has failed in a run that came to the ordinary end
-pub none_failed : (old new : ℕ → ℕ) (end : Ended) → end ≡ Done → FailedSink old new (Err end) → (k : ℕ) → new k ≡ old k
-none_failed old new end is failed = let all : FailedSink old new (Err Done) = rw is at failed in all
+pub none_failed : (old new : ℕ → ℕ) (end : Ended) → end ≡ Done → OthersStay old new end → (k : ℕ) → new k ≡ old k
+none_failed old new end is failed = let all : OthersStay old new Done = rw is at failed in all
 
 -- what a truth value says of refused openings
 pub none_refused : (b : Bool) (old new : ℕ) → b ≡ false → WereRefused b old new → new ≡ old
@@ -104,7 +104,7 @@ module _ (l : Limits) (p : Program) (input more : Option (List ℕ)) (texts c0 c
       stopped = λ four. absurd (cc);
       cause = λ four. absurd (cc);
     };
-    no_sink = λ _ k. kept k ∙ none_failed n0 n1 end done sinks.0 k;
+    no_sink = λ _ k. kept k ∙ none_failed n0 n1 end done sinks.1 k;
   }
   Ran-finished missed status (inl (done, kept, inr (some, is))) refused = record {
     is_one = inr (inl is);
@@ -114,7 +114,7 @@ module _ (l : Limits) (p : Program) (input more : Option (List ℕ)) (texts c0 c
       stopped = λ four. absurd (cc);
       cause = λ four. absurd (cc);
     };
-    no_sink = λ _ k. kept k ∙ none_failed n0 n1 end done sinks.0 k;
+    no_sink = λ _ k. kept k ∙ none_failed n0 n1 end done sinks.1 k;
   }
   Ran-finished missed status (inr (is, rose, why)) refused = record {
     is_one = inr (inr is);
@@ -124,7 +124,7 @@ module _ (l : Limits) (p : Program) (input more : Option (List ℕ)) (texts c0 c
       stopped = λ _. begun;
       cause = λ _. elim why [
         | inl early ↦ inl (stops early rose)
-        | inr flushed ↦ inr (whole flushed.0, sink_failed n0 n1 n2 (none_failed n0 n1 end flushed.0 sinks.0) flushed.1, source_kept i0 i1 end flushed.0 source)
+        | inr flushed ↦ inr (whole flushed.0, sink_failed n0 n1 n2 (none_failed n0 n1 end flushed.0 sinks.1) flushed.1, source_kept i0 i1 end flushed.0 source)
       ];
     };
     no_sink = λ other. absurd (other is);

@@ -1,5 +1,5 @@
--- Private to the proofs: no contract of a public item cites what stands here.
--- What an edit leaves ahead, as its caller tells the input where `q` ends the run.
+-- Private to the proofs: no contract of a public item cites what is here.
+-- What an edit leaves ahead, as its caller reports to the input where `q` ends the run.
 use Rattle.std.specs.Prelude.{◌≡◌, ℕ, Option, List, [], ◌++◌, Err, length}
 use Rattle.std.specs.Io.KnownBytes.{prepend_known}
 use Rattle.sedengine.specs.State.{Limits, State, Setting}
@@ -21,7 +21,7 @@ pub record LeavesAhead (l : Limits) (g : Setting) (s : State) (old new : Option 
   pub counts : count ≡ length ahead
   pub gone : LosesPartAfter old (prepend_known ahead new) (size_of lines) (lost l end)
 
--- An edit came to this end, and left so many bytes ahead: `sinks` and `sinks'` are what the sinks held before and after it, `old`
+-- An edit came to this end, and left so many bytes ahead: `sinks` and `sinks'` are what the sinks had before and after it, `old`
 -- and `new` what the source had still to give.
 pub record Edits (l : Limits) (g : Setting) (s : State) (old new : Option (List ℕ)) (sinks sinks' : ℕ → Option (List ℕ)) (count : ℕ)
     (end : Ended) : Type 0 where

@@ -1,7 +1,7 @@
 -- How an edit ends.
 use Rattle.std.specs.Prelude.{◌≡◌, ℕ, Option, List}
 use Rattle.sedengine.specs.State.{Limits, State, Setting}
-use Rattle.sedengine.specs.Ends.{Cause, BreaksInLine}
+use Rattle.sedengine.specs.Ends.{IsCause, BreaksInLine}
 use Rattle.sedengine.specs.DevicesAfter.{TakesInput, more_at}
 use Rattle.sededit.specs.Types.{Ended, InputBroken}
 
@@ -11,6 +11,6 @@ use Rattle.sededit.specs.Types.{Ended, InputBroken}
 pub record EditEnds (l : Limits) (g : Setting) (s : State) (out : List (ℕ × ℕ)) (old new : Option (List ℕ)) (end : Ended) :
     Type 0 where
   pub t : ℕ
-  pub cause : Cause l g s out end t
+  pub cause : IsCause l g s out end t
   pub takes : TakesInput g s old new (more_at l end) t
   pub broken : end ≡ InputBroken → BreaksInLine g s old new l.space t

@@ -1,14 +1,14 @@
 -- What the program does with the words of its command line (XCU sed, "Options", "Operands", "Exit Status").
-use Rattle.std.specs.Prelude.{◌≡◌, ◌≢◌, ◌⊎◌, ◌||◌, ℕ, Bool, false, if◌then◌else◌, List, [], ◌∷◌, map, Option, Some, None, Err, slice_get, string_bytes}
+use Rattle.std.specs.Prelude.{◌≡◌, ◌≢◌, ◌⊎◌, ◌||◌, ℕ, Bool, false, if◌then◌else◌, List, [], ◌∷◌, map, Option, Some, Err, slice_get, string_bytes}
 use Rattle.std.specs.Option.{ForSome, option_map_or}
 use Rattle.clap.specs.Words.{IsAmong, Text, fault_of, matches_of, takes}
 use Rattle.sedspace.specs.Failures.{Rose}
 use Rattle.sedscript.specs.Script.{Means, with_part}
 use Rattle.sedscript.specs.Program.{Program}
-use Rattle.sedengine.specs.Ends.{Gained, GainedWithin, SourceAtEnd, Cause, BreaksInLine}
+use Rattle.sedengine.specs.Ends.{Gained, GainedWithin, SourceAtEnd, SinkAtEnd, IsCause, BreaksInLine}
 use Rattle.sedengine.specs.State.{Limits, Setting, State, TellsFiles, setting_of}
 use Rattle.sedengine.specs.Move.{to_sink}
-use Rattle.sededit.specs.Types.{Basic, DisplayHelp, Done, Ended, Extended, File, InputBroken, Kind, Line, OutputBroken, OutputFull, Part, Script}
+use Rattle.sededit.specs.Types.{Basic, DisplayHelp, Done, Ended, Extended, File, InputBroken, Kind, Line, Part, Script}
 use Rattle.sedfiles.specs.CommandLine.{IsCommandLine, IsLine, sed_command}
 use Rattle.sededit.specs.Editing.{BeginsOutput, IsOutput, nothing_before, start_over}
 use Rattle.sedfiles.specs.Files.{FilesAhead, GivesWhole, WholeFiles, dash, joined_files}
@@ -17,8 +17,8 @@ use Rattle.sedfiles.specs.Files.{FilesAhead, GivesWhole, WholeFiles, dash, joine
 abbrev pub kind_with : Bool → Kind
 kind_with extended = if extended then Extended else Basic
 
--- The text that parts make after those before: texts of -e, and what files of -f hold, each ended by a newline (XCU sed, "Options").
--- A file that isn't told may hold any bytes; `-` names a file there like any other word (this project's own).
+-- The text that parts make after those before: texts of -e, and what files of -f give, each ended by a newline (XCU sed, "Options").
+-- A file that isn't known may contain any bytes; `-` names a file there like any other word (this project's own).
 abbrev pub MakesText : WholeFiles → List ℕ → List Part → List ℕ → Type 0
 MakesText files before [] whole = whole ≡ before
 MakesText files before (Script s ∷ parts) whole = MakesText files (with_part before (string_bytes s)) parts whole
@@ -36,18 +36,18 @@ abbrev pub or_standard : List (List ℕ) → List (List ℕ)
 or_standard [] = dash ∷ []
 or_standard names = names
 
--- the texts that a script reads: the files of its names, where they are told
+-- the texts that a script reads: the files of its names, where they are known
 abbrev pub texts_of : (List ℕ → Option (List ℕ)) → (ℕ → Option (List ℕ)) → Program → ℕ → Option (List ℕ)
 texts_of named others p k = option_map_or named (slice_get p.rfiles k) (others k)
 
--- what is told before a run of the files of -f, the inputs and those that a script reads, by name, and of texts without a name
+-- what is known before a run of the files of -f, the inputs and those that a script reads, by name, and of texts without a name
 pub record Told : Type 0 where
   pub scripts : WholeFiles
   pub inputs : FilesAhead
   pub named : List ℕ → Option (List ℕ)
   pub others : ℕ → Option (List ℕ)
 
--- a run: its script, and where they are told the bytes of the input and of the texts that the script reads
+-- a run: its script, and where they are known the bytes of the input and of the texts that the script reads
 pub record Run : Type 0 where
   pub script : Program
   pub input : Option (List ℕ)
@@ -67,7 +67,7 @@ Runs told nodes words P =
     IsCommandLine words × ((l : Line) × IsLine (matches_of sed_command words) l
     × ((p : Program) × GivesScript told.scripts l nodes p × P (run_of told l p)))
 
--- What is observed of devices: openings of files refused, failed reads of the input, and of each sink what it holds and its failures.
+-- What is observed of devices: openings of files refused, failed reads of the input, and of each sink what it has and its failures.
 pub record Observed : Type 0 where
   pub refusals : ℕ
   pub reads : ℕ
@@ -79,7 +79,7 @@ abbrev pub observe : {I O : Type 0} → (refusals reads : I → ℕ) → (O → 
 observe refusals reads contents failures inputs sinks =
     record { refusals = refusals inputs; reads = reads inputs; contents = contents sinks; failures = failures sinks }
 
--- where a run's input and texts are told, its setting and its start are as `P` says
+-- where a run's input and texts are known, its setting and its start are as `P` says
 abbrev pub WhereTold : Run → (Setting → State → Type 0) → Type 0
 WhereTold run P = ForSome run.input (λ bytes. (files : ℕ → List ℕ) → TellsFiles run.texts files →
     P (setting_of run.script files) (start_over run.script bytes))
@@ -92,22 +92,16 @@ Writes P run old new = WhereTold run (λ g s. (out : List (ℕ × ℕ)) × Gaine
 abbrev pub SinkFailed : (ℕ → ℕ) → (ℕ → ℕ) → Type 0
 SinkFailed old new = (k : ℕ) × Rose (old k) (new k)
 
--- A sink that an end names as broken has failed, and one is named as full only where there is a limit on the output.
-abbrev pub SinkAtEnd : Option ℕ → (ℕ → ℕ) → (ℕ → ℕ) → Ended → Type 0
-SinkAtEnd most old new (OutputBroken k) = Rose (old k) (new k)
-SinkAtEnd most old new (OutputFull k) = most ≢ None
-SinkAtEnd most old new other = Unit {0}
-
 -- The run came to another end than the ordinary one. The device that the end names has failed, and the input at no other end. Where
--- input and texts are told, the end has its cause, after some moves, with what the sinks gained as its output, within the limit.
--- No whole line is lost where the input failed; `rest` says what it has still to give.
+-- input and texts are known, the end has its cause, after some moves, with what the sinks gained as its output, within the
+-- limit. No whole line is lost where the input failed; `rest` says what it has still to give.
 abbrev pub StopsEarly : Limits → (old new : Observed) → (Option (List ℕ) → Type 0) → Run → Type 0
 StopsEarly limits old new rest run =
     (end : Ended) × (end ≢ Done)
     × (SourceAtEnd old.reads new.reads end × SinkAtEnd limits.output old.failures new.failures end)
     × WhereTold run (λ g s. (out : List (ℕ × ℕ))
     × GainedWithin limits.output nothing_before old.contents new.contents (Err end) out
-    × (t : ℕ) × Cause limits g s out end t
+    × (t : ℕ) × IsCause limits g s out end t
     × (end ≡ InputBroken → (more : Option (List ℕ)) × rest more × BreaksInLine g s run.input more limits.space t))
 
 -- What a run's exit status says (XCU sed, "Exit Status"; which number above 0: this project's own); `rest`: what the input has still to give.
@@ -126,7 +120,7 @@ pub record StatusMeans (limits : Limits) (old new : Observed) (rest : Option (Li
 abbrev pub AsksHelp : List Text → Type 0
 AsksHelp words = (takes sed_command words ≡ false) × IsAmong DisplayHelp (fault_of sed_command words)
 
--- What the exit status says where help was asked for, by what each sink held and how often it had failed: it is 0 or 4, a text
+-- What the exit status says where help was asked for, by what each sink had and how often it had failed: it is 0 or 4, a text
 -- was written, all of it for sink 0, and at 4 a sink has failed (this project's own). Which text help is, clap alone says.
 pub record HelpMeans (old new : ℕ → Option (List ℕ)) (failures_old failures_new : ℕ → ℕ) (status : ℕ) : Type 0 where
   pub either : (status ≡ 0) ⊎ (status ≡ 4)

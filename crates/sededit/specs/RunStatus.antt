@@ -1,4 +1,4 @@
--- Private to the proofs: no contract of a public item cites what stands here.
+-- Private to the proofs: no contract of a public item cites what is here.
 -- What a run of the program comes to, by its status, and what is so where there was none.
 use Rattle.std.specs.Prelude.{◌≡◌, ◌≢◌, ◌⊎◌, ◌≤◌, ℕ, Bool, true, false, Option, List}
 use Rattle.sedengine.specs.State.{Limits}
@@ -18,7 +18,7 @@ pub record Ran (limits : Limits) (old new : Observed) (rest : Option (List ℕ) 
   pub means : StatusMeans limits old new rest status run
   pub no_sink : status ≢ 4 → (k : ℕ) → new.failures k ≡ old.failures k
 
--- There was no run: the status is 1, the sinks hold what they held, of the inputs only scripts were read, and of the files that
+-- There was no run: the status is 1, the sinks have what they had, of the inputs only scripts were read, and of the files that
 -- the script writes the first ones were created, if any.
 pub record Refuses (old new : Observed) (status : ℕ) (Unread Created : Type 0) : Type 0 where
   pub is_refused : status ≡ 1

@@ -1,6 +1,4 @@
 -- The types of src/ that the definitions speak of.
-pub use Rattle.clap.specs.declared.builder.action.ArgAction.{ArgAction}
-pub use Rattle.clap.specs.declared.builder.action.ArgAction.TheVariants.{Append, Count}
 pub use Rattle.clap.specs.declared.error.kind.ErrorKind.TheVariants.{DisplayHelp}
 pub use Rattle.sedre.specs.declared.types.Kind.{Kind}
 pub use Rattle.sedre.specs.declared.types.Kind.TheVariants.{Basic, Extended}
@@ -9,7 +7,3 @@ pub use Rattle.sedengine.specs.declared.ends.Ended.TheVariants.{Done, InputBroke
 pub use Rattle.sedfiles.specs.declared.asked.Line.{Line}
 pub use Rattle.sedfiles.specs.declared.asked.Part.{Part}
 pub use Rattle.sedfiles.specs.declared.asked.Part.TheVariants.{File, Script}
-pub use Rattle.sedfiles.specs.declared.asked.Refused.{Refused}
-pub use Rattle.sedfiles.specs.declared.asked.Refused.TheVariants.{NoMemory, Words}
-pub use Rattle.sedfiles.specs.declared.memory_inputs.Current.{Current}
-pub use Rattle.sedfiles.specs.declared.memory_inputs.Current.TheVariants.{Nothing, Number, Standard}

@@ -33,9 +33,10 @@ pub fn script(alloc: Global, text: &[u8], kind: Kind, nodes: usize) -> Result<Sc
     ensures no_fault { OnOk result ((f : ScriptFault) → Faulty text.now kind nodes f → ⊥) }
     // A fault is the first one of the text, or there was no memory.
     ensures fault { IfErr result (λ f. Faulty text.now kind nodes f ⊎ (f ≡ NO_MEMORY)) }
-    // It is told in the text or at its end.
+    // It is in the text or at its end.
     ensures within { IfErr result (λ f. f.place ≤ length text.now) }
 {
+    // The reader of `sedscript`, named for what it reads, so that both calls of an edit are in this crate.
     sedscript::read(alloc, text, kind, nodes)
 }
 
@@ -46,7 +47,7 @@ pub fn script(alloc: Global, text: &[u8], kind: Kind, nodes: usize) -> Result<Sc
 /// the first of its `rfiles`. The script's expressions have at most `limits.nodes()` nodes, as where `script` read it with
 /// that number.
 ///
-/// What each sink gains stays within the limits, where the source tells contracts its bytes; what the engine holds does so
+/// What each sink gains stays within the limits, where the source's bytes are known; what the engine holds does so
 /// for any source, as `Engine::held` says. What was written is never taken back, however the run ends. `own_limits.rt` of the crate `hosts`
 /// is an example.
 ///
@@ -64,7 +65,7 @@ pub fn edit<R: ByteSource, O: Outputs, T: Texts>(
     requires nodes { script.max_nodes ≤ limits.nodes }
     // Each end has its cause, in whatever pieces the bytes came; no sink has gained more than the limit, where one is
     // set; and no more is read than the lines taken and what is read ahead. Where the source failed, what it gave after
-    // the last line taken holds no newline.
+    // the last line taken contains no newline.
     ensures ending { IfOk result (λ end. ForSome (R.remaining source.old) (λ bytes.
         (files : ℕ → List ℕ) → TellsFiles (T.text texts.old) files →
         (out : List (ℕ × ℕ))
@@ -80,7 +81,7 @@ pub fn edit<R: ByteSource, O: Outputs, T: Texts>(
         (files : ℕ → List ℕ) → TellsFiles (T.text texts.old) files →
         (out : List (ℕ × ℕ)) × Gained (O.contents outputs.old) (O.contents outputs.new) out
         × IsOutput (setting_of script files) (start_over script bytes) out) }
-    // A device that the end names has failed, whether it tells its bytes or not, and no other source or sink has; and a sink
+    // A device that the end names has failed, whether its bytes are known or not, and no other source or sink has; and a sink
     // is full only where the limits have one on the output.
     ensures input { IfOk result (SourceAtEnd (R.failures source.old) (R.failures source.new)) }
     ensures failed { IfOk result (λ end.
@@ -106,7 +107,7 @@ pub(crate) struct Edited {
     pub(crate) ahead: usize,
 }
 
-/// What `edit` does, as its contract says; besides it tells what was left ahead.
+/// What `edit` does, as its contract says; besides it reports what was left ahead.
 pub(crate) fn edit_ahead<R: ByteSource, O: Outputs, T: Texts>(
     alloc: Global,
     script: Script,
@@ -133,7 +134,10 @@ pub(crate) fn edit_ahead<R: ByteSource, O: Outputs, T: Texts>(
     ensures untouched { OnErr result ((source.new ≡ source.old) × (outputs.new ≡ outputs.old)
         × (texts.new ≡ texts.old)) }
 {
-    let room = Room::new(alloc, limits.look())?;
+    let Ok(room) = Room::new(alloc, limits.look()) else {
+        script.close();
+        return Err(AllocError);
+    };
     let mut engine = Engine::open(alloc, script, limits)?;
     let mut lines = Lines::over(&mut *source, room);
     let end = engine.run(&mut lines, outputs, texts);

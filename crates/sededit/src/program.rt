@@ -35,7 +35,7 @@ use std::string::ToString;
 /// * 2: the script ran over the whole input, but for files that couldn't be opened: `sed: cannot open NAME` for each
 /// * 4: the run stopped, as `sed: line 7: F1 PatternFull`, `sed: line 7: F2 HoldFull`,
 ///   `sed: line 7: F3 QueueFull`, `sed: F4 TurnsSpent`, `sed: line 7: F5 NoPrevious`, `sed: F6 InputBroken`,
-///   `sed: F7 OutputBroken 0` or, if the limits have one on the output, `sed: F8 OutputFull 0`. What was written stands.
+///   `sed: F7 OutputBroken 0` or, if the limits have one on the output, `sed: F8 OutputFull 0`. What was written stays.
 ///   Files that were missed are named before.
 pub fn command<S: AsStr, I: Inputs, O: Sinks, N: Names, E: Write>(
     alloc: Global,

@@ -86,7 +86,7 @@ fn cycles<R: ByteSource, O: Outputs, T: Texts>(
     texts: &mut T,
     held: &mut [u128; CYCLES],
 ) -> Option<Ended>
-    requires look { lines.old.look ≡ engine.old.limits.look }
+    requires look { lines.old.read_ahead ≡ engine.old.limits.look }
     requires sinks { length engine.old.script.wfiles < O.count outputs.old }
 {
     for cycle in 0..CYCLES {

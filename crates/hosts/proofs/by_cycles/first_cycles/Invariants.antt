@@ -2,4 +2,4 @@ use Rattle.std.proofs.Common.{◌≡◌, ◌<◌, length}
 use Rattle.hosts.proofs.by_cycles.first_cycles.Given as goal
 
 abbrev pub invariant-loop-cycle : goal.invariant-loop-cycle
-invariant-loop-cycle g l = (l.lines.look ≡ l.engine.limits.look) × (length l.engine.script.wfiles < g.O.Outputs.count l.outputs)
+invariant-loop-cycle g l = (l.lines.read_ahead ≡ l.engine.limits.look) × (length l.engine.script.wfiles < g.O.Outputs.count l.outputs)

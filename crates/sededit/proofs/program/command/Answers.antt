@@ -1,5 +1,6 @@
-use Rattle.std.proofs.Common.{inl, inr}
+use Rattle.std.proofs.Common.{ap, inl, inr, refl}
 use Rattle.sededit.proofs.ProgramLemmas.{not_refused, one_of_four}
+use Rattle.sededit.proofs.ReadingLemmas.{OnlyReads-none}
 use Rattle.sededit.proofs.program.command.Goals as goal
 
 pub returns-in-Ok-clause-status : goal.returns-in-Ok-clause-status
@@ -40,3 +41,30 @@ returns-in-Ok-clause-created g c = λ is. elim c.run_line.ensures [
   ]
   | inr ran ↦ absurd (not_refused _ ran.2.1.is_one is)
 ]
+
+pub returns-in-Err-NoMemory-clause-status : goal.returns-in-Err-NoMemory-clause-status
+returns-in-Err-NoMemory-clause-status g c = inr (inl c.out_of_memory.ensures)
+
+pub returns-in-Err-NoMemory-clause-means : goal.returns-in-Err-NoMemory-clause-means
+returns-in-Err-NoMemory-clause-means g c = λ runs. absurd (runs c.out_of_memory.ensures)
+
+pub returns-in-Err-NoMemory-clause-unread : goal.returns-in-Err-NoMemory-clause-unread
+returns-in-Err-NoMemory-clause-unread g c = λ _. OnlyReads-none g.I.Inputs.current g.I.Inputs.ahead g.I.Inputs.text g.I.Inputs.refusals g.I.Inputs.failures g.I.Inputs.reference c.args.inputs.now
+
+pub returns-in-Err-NoMemory-clause-created : goal.returns-in-Err-NoMemory-clause-created
+returns-in-Err-NoMemory-clause-created g c = λ _. inl refl
+
+pub returns-in-Err-Words-clause-status : goal.returns-in-Err-Words-clause-status
+returns-in-Err-Words-clause-status g c = elim c.answer_words.ensures [
+  | inl refused ↦ inr (inl refused.0)
+  | inr helps ↦ elim helps.1.means.either [ inl well ↦ inl well | inr ill ↦ inr (inr (inr ill)) ]
+]
+
+pub returns-in-Err-Words-clause-no_sink : goal.returns-in-Err-Words-clause-no_sink
+returns-in-Err-Words-clause-no_sink g c = λ goes_on k. elim c.answer_words.ensures [
+  | inl refused ↦ ap (λ sinks. g.O.Outputs.failures sinks k) refused.1
+  | inr helps ↦ helps.1.no_sink goes_on k
+]
+
+pub returns-in-Err-Words-clause-unread : goal.returns-in-Err-Words-clause-unread
+returns-in-Err-Words-clause-unread g c = λ _. OnlyReads-none g.I.Inputs.current g.I.Inputs.ahead g.I.Inputs.text g.I.Inputs.refusals g.I.Inputs.failures g.I.Inputs.reference c.args.inputs.now
